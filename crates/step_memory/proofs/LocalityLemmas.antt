@@ -1,0 +1,64 @@
+-- a step is local
+use Rattle.std.proofs.Common.{◌≡◌, ℕ, Bool, true, false, cond, Some, None, Ok, Err, refl, sym, ap, subst, ◌∙◌}
+use Rattle.std.specs.Prelude.{is_some}
+use Rattle.step_memory.specs.declared.access.Access.{Access}
+use Rattle.step_memory.specs.declared.access.Access.TheVariants.{Read, Write, TestAndSet, Clear, Nothing}
+use Rattle.step_memory.specs.declared.refusal.Refusal.TheVariants.{Finished}
+use Rattle.step_memory.specs.declared.participant.Participant.{Participant}
+use Rattle.step_memory.specs.Participant.{participant_of, with_participant, resumed}
+use Rattle.step_memory.specs.Steps.{ProgramSteps, MemorySteps, Spares, AgreeAt, answer_from}
+use Rattle.step_memory.specs.WorldState.{WorldState}
+use Rattle.step_memory.specs.World.{after_step, after_step_by, step_answer, step_answer_by, got_by}
+use Rattle.step_memory.specs.Locality.{IsLocal, LookAlike}
+use Rattle.step_memory.proofs.ParticipantLemmas.{participant_of-put, identity_of}
+use Rattle.step_memory.proofs.SetAtLemmas.{set_at-other}
+
+-- memories that agree at the register of an access answer it alike
+answer_alike : {R V : Type 0} (one other : R → V × Bool) (a : Access R V) → AgreeAt one other a → answer_from one a ≡ answer_from other a
+answer_alike one other (Read r) h = rw h refl
+answer_alike one other (Write r v) h = refl
+answer_alike one other (TestAndSet r) h = rw h refl
+answer_alike one other (Clear r) h = refl
+answer_alike one other Nothing h = refl
+
+module _ {P S R V O : Type 0} (program : ProgramSteps P R V O) (memory : MemorySteps S R V) where
+  -- what changes nothing is local
+  pub unchanged_local : (p : ℕ) (w : WorldState S P) → IsLocal program memory p w w
+  unchanged_local p w = record { most = refl; others = λ q n. refl; registers = λ v is r h. refl }
+
+  -- an accepted step is local
+  pub going_local : ((m : S) (a : Access R V) (r : R) → Spares a r → memory.register (memory.after m a) r ≡ memory.register m r) →
+      (w : WorldState S P) (p : ℕ) (v : Participant P) → participant_of p w.participants ≡ Some v →
+      IsLocal program memory p w (record { memory = memory.after w.memory (program.next v.program); most = w.most; participants = with_participant (resumed program v (got_by program memory w.memory v)) w.participants })
+  going_local spared w p v here =
+      let own : v.identity ≡ p = identity_of p w.participants v here in
+      record {
+        most = refl;
+        others = λ q n.
+            let new : Participant P = resumed program v (got_by program memory w.memory v) in
+            let there : is_some (participant_of v.identity w.participants) ≡ true = rw (own, here) refl in
+            participant_of-put w.participants new there q ∙ set_at-other (λ u. participant_of u w.participants) v.identity (Some new) q (λ e. n (e ∙ own));
+        registers = λ u is r h.
+            let same : v ≡ u = (let e : Some v ≡ Some u = sym here ∙ is in cc) in
+            spared w.memory (program.next v.program) r (subst (λ (x : Participant P). Spares (program.next x.program) r) (sym same) h);
+      }
+
+  -- any step is local
+  pub step_local : ((m : S) (a : Access R V) (r : R) → Spares a r → memory.register (memory.after m a) r ≡ memory.register m r) →
+      (w : WorldState S P) (p : ℕ) → IsLocal program memory p w (after_step program memory w p)
+  step_local spared w p = elim (participant_of p w.participants) as (λ o. participant_of p w.participants ≡ o → IsLocal program memory p w (after_step_by program memory w o)) [
+    | None ↦ λ _. unchanged_local p w
+    | Some v ↦ λ here. elim v.ended as (λ b. IsLocal program memory p w (cond b w (record { memory = memory.after w.memory (program.next v.program); most = w.most; participants = with_participant (resumed program v (got_by program memory w.memory v)) w.participants }))) [
+      | true ↦ unchanged_local p w
+      | false ↦ going_local spared w p v here
+    ]
+  ] refl
+
+  -- worlds that look alike to a participant answer its step alike
+  pub answers_alike : (p : ℕ) (one other : WorldState S P) → LookAlike program memory p one other → step_answer program memory one p ≡ step_answer program memory other p
+  answers_alike p one other alike = elim (participant_of p one.participants) as (λ o. participant_of p one.participants ≡ o → participant_of p other.participants ≡ o → step_answer_by program memory one.memory o ≡ step_answer_by program memory other.memory (participant_of p other.participants)) [
+    | None ↦ λ here there. rw there refl
+    | Some v ↦ λ here there.
+        let got : got_by program memory one.memory v ≡ got_by program memory other.memory v = answer_alike (memory.register one.memory) (memory.register other.memory) (program.next v.program) (alike.register v here) in
+        rw there (ap (λ x. cond v.ended (Err Finished) (Ok (program.note v.program x))) got)
+  ] refl (sym alike.participant)

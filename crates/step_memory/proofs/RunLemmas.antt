@@ -1,0 +1,17 @@
+-- runs, one call after another
+use Rattle.std.proofs.Common.{List, [], ◌∷◌, ◌++◌, sym, ap, subst, append_assoc}
+use Rattle.std.proofs.lemmas.List.{append-nil}
+use Rattle.step_memory.specs.Runs.{Run}
+
+module _ {S H : Type 0} (next : S → H → S) (Right : S → H → Type 0) where
+  -- a run goes on by one call
+  pub run_more : (s : S) (r : List H) (mid : S) (h : H) → Run next Right s r mid → Right mid h → Run next Right s (r ++ h ∷ []) (next mid h)
+  run_more s [] mid h e right = (subst (λ (x : S). Right x h) e right, ap (λ (x : S). next x h) e)
+  run_more s (k ∷ r) mid h e right = (e.0, run_more (next s k) r mid h e.1 right)
+
+  -- what each call keeps, and the calls so far, holds after every run
+  pub run_keeps : (Inv : S → List H → Type 0) → ((s : S) (past : List H) (h : H) → Inv s past → Right s h → Inv (next s h) (past ++ h ∷ [])) → (s : S) (past r : List H) (end : S) → Inv s past → Run next Right s r end → Inv end (past ++ r)
+  run_keeps Inv keeps s past [] end i e = subst (λ (x : S). Inv x (past ++ [])) (sym e) (subst (λ (xs : List H). Inv s xs) (sym (append-nil past)) i)
+  run_keeps Inv keeps s past (h ∷ r) end i e =
+      subst (λ (xs : List H). Inv end xs) (append_assoc past (h ∷ []) r)
+      (run_keeps Inv keeps (next s h) (past ++ h ∷ []) r end (keeps s past h i e.0) e.1)

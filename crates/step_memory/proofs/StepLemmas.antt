@@ -1,0 +1,50 @@
+-- a step by cases on who takes it
+use Rattle.std.proofs.Common.{◌≡◌, ◌≢◌, ℕ, true, false, Some, None, Ok, Err, ◌==◌, ◌<◌, ◌≤◌, length, arith}
+use Rattle.std.specs.Prelude.{nat_le, is_some}
+use Rattle.std.proofs.lemmas.Bool.Decides.{nat_tests}
+use Rattle.step_memory.specs.declared.refusal.Refusal.TheVariants.{AlreadyBegun, Full, NotBegun, Finished}
+use Rattle.step_memory.specs.declared.participant.Participant.{Participant}
+use Rattle.step_memory.specs.Steps.{ProgramSteps, MemorySteps}
+use Rattle.step_memory.specs.WorldState.{WorldState}
+use Rattle.step_memory.specs.Participant.{participant_of, with_participant, resumed}
+use Rattle.step_memory.specs.World.{begin_refusal, step_answer, after_step, may_refuse_step, got_by}
+
+module _ {P S R V O : Type 0} (program : ProgramSteps P R V O) (memory : MemorySteps S R V) where
+  pub absent_answer : (w : WorldState S P) (id : ℕ) → participant_of id w.participants ≡ None → step_answer program memory w id ≡ Err NotBegun
+  absent_answer w id h = rw h
+
+  pub absent_after : (w : WorldState S P) (id : ℕ) → participant_of id w.participants ≡ None → after_step program memory w id ≡ w
+  absent_after w id h = rw h
+
+  pub ended_answer : (w : WorldState S P) (id : ℕ) (p : Participant P) → participant_of id w.participants ≡ Some p → p.ended ≡ true → step_answer program memory w id ≡ Err Finished
+  ended_answer w id p h e = rw (h, e)
+
+  pub ended_after : (w : WorldState S P) (id : ℕ) (p : Participant P) → participant_of id w.participants ≡ Some p → p.ended ≡ true → after_step program memory w id ≡ w
+  ended_after w id p h e = rw (h, e)
+
+  pub going_answer : (w : WorldState S P) (id : ℕ) (p : Participant P) → participant_of id w.participants ≡ Some p → p.ended ≡ false → step_answer program memory w id ≡ Ok (program.note p.program (got_by program memory w.memory p))
+  going_answer w id p h e = rw (h, e)
+
+  pub going_after : (w : WorldState S P) (id : ℕ) (p : Participant P) → participant_of id w.participants ≡ Some p → p.ended ≡ false → after_step program memory w id ≡ record { memory = memory.after w.memory (program.next p.program); most = w.most; participants = with_participant (resumed program p (got_by program memory w.memory p)) w.participants }
+  going_after w id p h e = rw (h, e)
+
+  pub going_refused : (w : WorldState S P) (id : ℕ) (p : Participant P) → participant_of id w.participants ≡ Some p → p.ended ≡ false → may_refuse_step program memory w id ≡ memory.may_refuse w.memory (program.next p.program)
+  going_refused w id p h e = rw (h, e)
+
+eqb_false : (a b : ℕ) → a ≢ b → (a == b) ≡ false
+eqb_false a b h = grind (arith, nat_tests)
+
+le_true : (a b : ℕ) → a ≤ b → nat_le a b ≡ true
+le_true a b h = grind (arith, nat_tests)
+
+le_false : (a b : ℕ) → b < a → nat_le a b ≡ false
+le_false a b h = grind (arith, nat_tests)
+
+pub begun_refusal : {S P : Type 0} → (w : WorldState S P) (id : ℕ) → id ≢ 0 → is_some (participant_of id w.participants) ≡ true → begin_refusal w id ≡ Some AlreadyBegun
+begun_refusal w id z h = rw (eqb_false id 0 z, h)
+
+pub full_refusal : {S P : Type 0} → (w : WorldState S P) (id : ℕ) → id ≢ 0 → is_some (participant_of id w.participants) ≡ false → w.most ≤ length w.participants → begin_refusal w id ≡ Some Full
+full_refusal w id z h l = rw (eqb_false id 0 z, h, le_true w.most (length w.participants) l)
+
+pub no_refusal : {S P : Type 0} → (w : WorldState S P) (id : ℕ) → id ≢ 0 → is_some (participant_of id w.participants) ≡ false → length w.participants < w.most → begin_refusal w id ≡ None
+no_refusal w id z h l = rw (eqb_false id 0 z, h, le_false w.most (length w.participants) l)

@@ -1,0 +1,93 @@
+-- the calls of a world with their replies, and the machine that they run on
+use Rattle.std.specs.Prelude.{◌≡◌, ℕ, ◌+◌, ◌==◌, if◌then◌else◌, Bool, true, false, ◌⊎◌, List, [], ◌∷◌, Option, Some, None, Result, Ok, Err}
+use Rattle.step_memory.specs.declared.note.Note.{Note}
+use Rattle.step_memory.specs.declared.note.Note.TheVariants.{Quiet, Said, Ended}
+use Rattle.step_memory.specs.declared.refusal.Refusal.{Refusal}
+use Rattle.step_memory.specs.declared.refusal.Refusal.TheVariants.{NoMemory}
+use Rattle.step_memory.specs.Refusal.{refusal_number}
+use Rattle.step_memory.specs.Steps.{ProgramSteps, MemorySteps}
+use Rattle.step_memory.specs.WorldState.{WorldState}
+use Rattle.step_memory.specs.World.{begin_refusal, done_unless, after_begin, step_answer, after_step, may_refuse_step}
+use Rattle.step_memory.specs.Runs.{Run}
+
+-- a call with its reply, where an accepted step answers an X
+pub data Call (X : Type 0) : Type 0 where
+  Began : ℕ → Result (Unit {0}) Refusal → Call X
+  Stepped : ℕ → Result X Refusal → Call X
+
+abbrev pub begun_with : Result (Unit {0}) Refusal → ℕ
+begun_with (Ok done) = 1
+begun_with (Err refusal) = 0
+
+abbrev pub begun_by : {X : Type 0} → Call X → ℕ
+begun_by (Began q reply) = begun_with reply
+begun_by (Stepped q reply) = 0
+
+-- how many participants have begun
+abbrev pub begun_in : {X : Type 0} → List (Call X) → ℕ
+begun_in [] = 0
+begun_in (h ∷ r) = begun_by h + begun_in r
+
+abbrev pub counted : {X : Type 0} → ℕ → ℕ → Result X Refusal → ℕ
+counted p q (Ok said) = if q == p then 1 else 0
+counted p q (Err refusal) = 0
+
+abbrev pub steps_by : {X : Type 0} → ℕ → Call X → ℕ
+steps_by p (Began q reply) = 0
+steps_by p (Stepped q reply) = counted p q reply
+
+-- how many accepted steps p has made
+abbrev pub steps_of : {X : Type 0} → ℕ → List (Call X) → ℕ
+steps_of p [] = 0
+steps_of p (h ∷ r) = steps_by p h + steps_of p r
+
+abbrev pub ended_by : {O : Type 0} → ℕ → ℕ → Result (Option O) Refusal → Option O
+ended_by p q (Ok outcome) = if q == p then outcome else None
+ended_by p q (Err refusal) = None
+
+abbrev pub outcome_by : {O : Type 0} → ℕ → Call (Option O) → Option O
+outcome_by p (Began q reply) = None
+outcome_by p (Stepped q reply) = ended_by p q reply
+
+abbrev pub first_of : {O : Type 0} → Option O → Option O → Option O
+first_of None later = later
+first_of (Some outcome) later = Some outcome
+
+-- where a step answers the outcome of a program that ends with it: the outcome of p's program
+abbrev pub outcome_of : {O : Type 0} → ℕ → List (Call (Option O)) → Option O
+outcome_of p [] = None
+outcome_of p (h ∷ r) = first_of (outcome_by p h) (outcome_of p r)
+
+-- the outcome of a program that ends
+abbrev pub outcome_in : {O : Type 0} → Note O → Option O
+outcome_in Quiet = None
+outcome_in (Said said) = None
+outcome_in (Ended outcome) = Some outcome
+
+-- what a world answers where its program says this
+abbrev pub reply_of : {O X : Type 0} → (Note O → X) → Result (Note O) Refusal → Result X Refusal
+reply_of shown (Ok note) = Ok (shown note)
+reply_of shown (Err refusal) = Err refusal
+
+-- whether a growth was refused
+abbrev pub lacked_memory : {X : Type 0} → Result X Refusal → Bool
+lacked_memory (Ok said) = false
+lacked_memory (Err refusal) = refusal_number refusal == 12
+
+-- `shown` is what a world answers of a note, and `start` the program of an identity that begins
+module _ {P S R V O X : Type 0} (program : ProgramSteps P R V O) (memory : MemorySteps S R V) (shown : Note O → X) (start : ℕ → P) where
+  -- the world after a call. A step for which a growth was refused is still to come
+  abbrev pub next : WorldState S P → Call X → WorldState S P
+  next w (Began id reply) = after_begin w id (start id)
+  next w (Stepped id reply) = if lacked_memory reply then w else after_step program memory w id
+
+  -- the reply is the one that the call gets, or the refusal of a growth where there may be one
+  abbrev pub IsReply : WorldState S P → Call X → Type 0
+  IsReply w (Began id reply) = reply ≡ done_unless (begin_refusal w id)
+  IsReply w (Stepped id reply) =
+      (reply ≡ reply_of shown (step_answer program memory w id))
+      ⊎ ((reply ≡ Err NoMemory) × (may_refuse_step program memory w id ≡ true))
+
+  -- the world is after these calls with these replies, from a fresh world over this memory
+  abbrev pub IsAfter : S → WorldState S P → List (Call X) → Type 0
+  IsAfter first w r = Run next IsReply (record { memory = first; most = w.most; participants = [] }) r w

@@ -1,0 +1,13 @@
+pub mod Note
+pub mod Refusal
+pub mod Steps
+pub mod RegisterState
+pub mod Registers
+pub mod RegisterLaws
+pub mod Participant
+pub mod WorldState
+pub mod World
+pub mod Locality
+pub mod Runs
+pub mod SetAt
+pub mod Calls

@@ -1,0 +1,21 @@
+-- locality: a participant sees of the others what stands in the register that it reads, and leaves of the world what it
+-- does not write (this project's profile)
+use Rattle.std.specs.Prelude.{◌≡◌, ◌≢◌, ℕ, Some}
+use Rattle.step_memory.specs.declared.participant.Participant.{Participant}
+use Rattle.step_memory.specs.Participant.{participant_of}
+use Rattle.step_memory.specs.Steps.{ProgramSteps, MemorySteps, Spares, AgreeAt}
+use Rattle.step_memory.specs.WorldState.{WorldState}
+
+module _ {P S R V O : Type 0} (program : ProgramSteps P R V O) (memory : MemorySteps S R V) where
+  -- a step of p changes no other participant, and at most the register that p's own program names
+  pub record IsLocal (p : ℕ) (old new : WorldState S P) : Type 0 where
+    pub most : new.most ≡ old.most
+    pub others : (q : ℕ) → q ≢ p → participant_of q new.participants ≡ participant_of q old.participants
+    pub registers : (v : Participant P) → participant_of p old.participants ≡ Some v →
+        (r : R) → Spares (program.next v.program) r → memory.register new.memory r ≡ memory.register old.memory r
+
+  -- p stands alike in two worlds, and they have the same in the register that its program names
+  pub record LookAlike (p : ℕ) (one other : WorldState S P) : Type 0 where
+    pub participant : participant_of p one.participants ≡ participant_of p other.participants
+    pub register : (v : Participant P) → participant_of p one.participants ≡ Some v →
+        AgreeAt (memory.register one.memory) (memory.register other.memory) (program.next v.program)

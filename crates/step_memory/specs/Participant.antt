@@ -1,0 +1,33 @@
+-- participants, by their identities
+use Rattle.std.specs.Prelude.{ℕ, false, List, [], ◌∷◌, ◌+◌, Option, Some, None, ◌==◌, if◌then◌else◌, option_map}
+use Rattle.step_memory.specs.declared.access.Answer.{Answer}
+use Rattle.step_memory.specs.declared.participant.Participant.{Participant}
+use Rattle.step_memory.specs.Note.{ends}
+use Rattle.step_memory.specs.Steps.{ProgramSteps}
+
+-- a participant that has just begun
+abbrev pub beginner : {P : Type 0} → ℕ → P → Participant P
+beginner id program = record { identity = id; program = program; ended = false }
+
+-- the participant after this answer to its access
+abbrev pub resumed : {P R V O : Type 0} → ProgramSteps P R V O → Participant P → Answer V → Participant P
+resumed program p got = record { identity = p.identity; program = program.resumed p.program got; ended = ends (program.note p.program got) }
+
+-- the place of an identity among the participants
+abbrev pub index_of : {P : Type 0} → ℕ → List (Participant P) → Option ℕ
+index_of id [] = None
+index_of id (p ∷ ps) = if p.identity == id then Some 0 else option_map (λ k. k + 1) (index_of id ps)
+
+-- the participant of an identity
+abbrev pub participant_of : {P : Type 0} → ℕ → List (Participant P) → Option (Participant P)
+participant_of id [] = None
+participant_of id (p ∷ ps) = if p.identity == id then Some p else participant_of id ps
+
+-- the program of an identity
+abbrev pub program_of : {P : Type 0} → ℕ → List (Participant P) → Option P
+program_of id ps = option_map (λ p. p.program) (participant_of id ps)
+
+-- the participants, with this one in place of the one of its identity
+abbrev pub with_participant : {P : Type 0} → Participant P → List (Participant P) → List (Participant P)
+with_participant new [] = []
+with_participant new (p ∷ ps) = if p.identity == new.identity then new ∷ ps else p ∷ with_participant new ps

@@ -1,0 +1,144 @@
+//! Registers.
+
+ghost use Rattle.std.specs.Prelude.{◌≡◌, ℕ, OnOk, OnErr, IfOk, IsOk, true, false, replicate};
+ghost use Rattle.step_memory.specs.Steps.{MemorySteps, answer_from, Spares};
+ghost use Rattle.step_memory.specs.Registers.{memory_steps, register_of, answer_of, after_access};
+ghost use Rattle.step_memory.specs.declared.access.Access.{Access};
+ghost use Rattle.step_memory.specs.RegisterLaws.{others_kept};
+
+use crate::access::{Access, Answer};
+use crate::refusal::NoMemory;
+use std::alloc::Allocator;
+use std::marker::Model;
+
+/// Registers that are reached by one access at a time, each atomic. An access answers what stands in the register that
+/// it names.
+pub trait StepMemory {
+    /// What names a register.
+    type Reg;
+
+    /// What stands in a register.
+    type Value;
+
+    /// What stands in the registers, what an access leaves, and whether it may be refused.
+    ghost steps: { MemorySteps Self Self.Reg Self.Value };
+
+    /// One access. An error, where a growth was refused, leaves the memory as it was.
+    fn access(&mut self, a: Access<Self::Reg, Self::Value>) -> Result<Answer<Self::Value>, NoMemory>
+        ensures answer { IfOk result (λ got. got ≡ answer_from (steps.register self.old) a) }
+        ensures after { OnOk result (self.new ≡ steps.after self.old a) }
+        ensures refused { OnErr result (self.new ≡ self.old) }
+        ensures no_memory { OnErr result (steps.may_refuse self.old a ≡ true) };
+
+    /// An access changes no register but the one that it names.
+    ghost others: { (m : Self) (a : Access Self.Reg Self.Value) (r : Self.Reg) → Spares a r → steps.register (steps.after m a) r ≡ steps.register m r };
+}
+
+/// Registers of values and registers of bits, named by their numbers from 0 and all made at once, so that no access is
+/// refused. A register that is not there reads as never written, and what is written to it is lost.
+#[derive(Drop)]
+pub struct Memory<V, A: Allocator> {
+    first: V,
+    values: Vec<V, A>,
+    bits: Vec<bool, A>,
+}
+
+impl<V, A: Allocator> Model for Memory<V, A> {
+    ghost use Rattle.step_memory.specs.RegisterState.{Registers};
+
+    ghost Value = { Registers V };
+
+    ghost view = { λ m. record { first = m.first; values = m.values.items; bits = m.bits.items } };
+}
+
+/// So many copies of a value.
+fn filled<T: Copy, A: Allocator>(alloc: A, x: T, n: usize) -> Result<Vec<T, A>, NoMemory>
+    ensures { IfOk result (λ xs. xs.items ≡ replicate n x) }
+{
+    let Ok(mut xs) = Vec::with_capacity(alloc, n) else {
+        return Err(NoMemory);
+    };
+    for _i in 0..n {
+        xs.push_reserved(x);
+    }
+    Ok(xs)
+}
+
+impl<V: Copy, A: Allocator + Clone> Memory<V, A> {
+    /// So many registers of values, which hold `first`, and so many bits, which are clear. An error where the room for
+    /// them was refused.
+    pub fn new(alloc: A, first: V, values: usize, bits: usize) -> Result<Self, NoMemory>
+        ensures { IfOk result (λ m. m ≡ record { first = first; values = replicate values first; bits = replicate bits false }) }
+    {
+        let Ok(other) = alloc.clone() else {
+            return Err(NoMemory);
+        };
+        Ok(Memory {
+            first,
+            values: filled(alloc, first, values)?,
+            bits: filled(other, false, bits)?,
+        })
+    }
+}
+
+impl<V: Copy, A: Allocator> Memory<V, A> {
+    /// The value that stands in a register. This is no access: it is for what watches a world from outside.
+    pub fn value(&self, r: usize) -> V
+        ensures { result ≡ (register_of self.now r).0 }
+    {
+        if r < self.values.len() {
+            self.values[r]
+        } else {
+            self.first
+        }
+    }
+
+    /// The bit that stands in a register. This is no access: it is for what watches a world from outside.
+    pub fn bit(&self, r: usize) -> bool
+        ensures { result ≡ (register_of self.now r).1 }
+    {
+        r < self.bits.len() && self.bits[r]
+    }
+}
+
+impl<V: Copy, A: Allocator> StepMemory for Memory<V, A> {
+    type Reg = usize;
+
+    type Value = V;
+
+    ghost steps = { memory_steps };
+
+    fn access(&mut self, a: Access<usize, V>) -> Result<Answer<V>, NoMemory>
+        ensures answer { IfOk result (λ got. got ≡ answer_of self.old a) }
+        ensures after { OnOk result (self.new ≡ after_access self.old a) }
+        ensures sure { IsOk result }
+    {
+        Ok(match a {
+            Access::Read(r) => Answer::Value(self.value(r)),
+            Access::Write(r, v) => {
+                if r < self.values.len() {
+                    self.values[r] = v;
+                }
+                Answer::Done
+            }
+            Access::TestAndSet(r) => {
+                if r < self.bits.len() {
+                    let was = self.bits[r];
+                    self.bits[r] = true;
+                    Answer::WasSet(was)
+                } else {
+                    Answer::WasSet(false)
+                }
+            }
+            Access::Clear(r) => {
+                if r < self.bits.len() {
+                    self.bits[r] = false;
+                }
+                Answer::Done
+            }
+            Access::Nothing => Answer::Done,
+        })
+    }
+
+    ghost others = { others_kept };
+}

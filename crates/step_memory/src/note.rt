@@ -1,0 +1,24 @@
+//! What a program says of a step.
+
+ghost use Rattle.std.specs.Prelude.{◌≡◌};
+ghost use Rattle.step_memory.specs.Note.{ends};
+
+/// What a program says of the step that it took.
+#[derive(Clone, Copy, Debug, Drop, PartialEq, Eq)]
+pub enum Note<O> {
+    /// Nothing: the program goes on.
+    Quiet,
+    /// An output, after which the program goes on.
+    Said(O),
+    /// The last output: the program has ended.
+    Ended(O),
+}
+
+impl<O> Note<O> {
+    /// Whether the program has ended with this step.
+    pub fn ends(&self) -> bool
+        ensures { result ≡ ends self.now }
+    {
+        matches!(self, Note::Ended(_))
+    }
+}

@@ -1,0 +1,167 @@
+//! Participants that take steps on one memory.
+
+ghost use Rattle.std.specs.Prelude.{◌≡◌, ◌≢◌, ℕ, ◌<◌, ◌≤◌, [], ◌∷◌, ◌++◌, true, false, length, option_copied, IfOk, OnErr, OnOk, IsOk, Err, Option};
+ghost use Rattle.step_memory.specs.Participant.{index_of, program_of};
+ghost use Rattle.step_memory.specs.World.{begin_refusal, done_unless, after_begin, step_answer, after_step, may_refuse_step, set_answer, after_set};
+ghost use Rattle.step_memory.specs.WorldState.{WorldState};
+ghost use Rattle.step_memory.specs.Locality.{IsLocal, LookAlike};
+
+use crate::memory::StepMemory;
+use crate::note::Note;
+use crate::participant::Participant;
+use crate::program::StepProgram;
+use crate::refusal::{NoMemory, Refusal};
+use std::alloc::Allocator;
+use std::marker::Model;
+
+/// A memory, and the participants that take steps on it, each in its own program.
+#[derive(Drop)]
+pub struct World<P, S, A: Allocator> {
+    memory: S,
+    most: usize,
+    participants: Vec<Participant<P>, A>,
+}
+
+impl<P, S, A: Allocator> Model for World<P, S, A> {
+    ghost use Rattle.std.specs.Prelude.{◌≤◌, vec_capacity};
+    ghost use Rattle.step_memory.specs.WorldState.{WorldState};
+
+    ghost Value = { WorldState S P };
+
+    ghost view = { λ w. record { memory = w.memory; most = w.most; participants = w.participants.items } };
+
+    ghost invariant = { λ w. w.most ≤ vec_capacity w.participants };
+}
+
+/// Where the participant of an identity stands.
+fn find<P>(participants: &[Participant<P>], id: u64) -> Option<usize>
+    ensures answer { result ≡ index_of id participants.now }
+{
+    for (i, participant) in participants.iter().enumerate() {
+        if participant.identity == id {
+            return Some(i);
+        }
+    }
+    None
+}
+
+impl<
+    P: StepProgram + Drop,
+    S: StepMemory<Reg = P::Reg, Value = P::Value> + Drop,
+    A: Allocator,
+> World<P, S, A> {
+    /// A world of at most `most` participants, with room for them all. An error where that room was refused.
+    pub fn new(alloc: A, memory: S, most: usize) -> Result<Self, NoMemory>
+        ensures { IfOk result (λ w. w ≡ record { memory = memory; most = most; participants = [] }) }
+    {
+        match Vec::with_capacity(alloc, most) {
+            Ok(participants) => Ok(World {
+                memory,
+                most,
+                participants,
+            }),
+            Err(_) => Err(NoMemory),
+        }
+    }
+
+    /// Why an identity may not begin.
+    fn begin_refusal(&self, id: u64) -> Option<Refusal>
+        ensures { result ≡ begin_refusal self.now id }
+    {
+        if id == 0 {
+            Some(Refusal::ZeroIdentity)
+        } else if find(&self.participants, id).is_some() {
+            Some(Refusal::AlreadyBegun)
+        } else if self.most <= self.participants.len() {
+            Some(Refusal::Full)
+        } else {
+            None
+        }
+    }
+
+    /// Adds a participant, which stands at the beginning of its program. Refused where the identity is 0, then where it
+    /// has begun, then where the world is full.
+    pub fn begin(&mut self, id: u64, program: P) -> Result<(), Refusal>
+        ensures answer { result ≡ done_unless (begin_refusal self.old id) }
+        ensures after { self.new ≡ after_begin self.old id program }
+    {
+        if let Some(refusal) = self.begin_refusal(id) {
+            return Err(refusal);
+        }
+        self.participants.push_reserved(Participant {
+            identity: id,
+            program,
+            ended: false,
+        });
+        Ok(())
+    }
+
+    /// One step of a participant: the one access that its program names, whose answer its program takes. Refused where
+    /// the identity has not begun, then where its program has ended, then where the memory refused a growth: then the
+    /// same step may be asked again.
+    pub fn step(&mut self, id: u64) -> Result<Note<P::Output>, Refusal>
+        ensures answer { result ≢ Err Refusal.NoMemory → result ≡ step_answer P.steps S.steps self.old id }
+        ensures after { result ≢ Err Refusal.NoMemory → self.new ≡ after_step P.steps S.steps self.old id }
+        ensures refused { OnErr result (self.new ≡ self.old) }
+        ensures no_memory { result ≡ Err Refusal.NoMemory → may_refuse_step P.steps S.steps self.old id ≡ true }
+
+        // Nothing of the world changes but this participant and the register that it names.
+        ensures local { IsLocal P.steps S.steps id self.old self.new }
+
+        // In another world that looks alike to this participant the answer is the same.
+        ensures alike { result ≢ Err Refusal.NoMemory → (other : WorldState S P) → LookAlike P.steps S.steps id self.old other → result ≡ step_answer P.steps S.steps other id }
+    {
+        let Some(i) = find(&self.participants, id) else {
+            return Err(Refusal::NotBegun);
+        };
+        let participant = &self.participants[i];
+        if participant.ended {
+            return Err(Refusal::Finished);
+        }
+        let Ok(got) = self.memory.access(participant.program.next()) else {
+            return Err(Refusal::NoMemory);
+        };
+        Ok(self.participants[i].resume(got))
+    }
+
+    /// The program of a participant.
+    pub fn program(&self, id: u64) -> Option<&P>
+        ensures { option_copied result ≡ program_of id self.now.participants }
+    {
+        let Some(i) = find(&self.participants, id) else {
+            return None;
+        };
+        Some(&self.participants[i].program)
+    }
+
+    /// Puts another program in place of a participant's, with no access; the participant has then not ended. Refused
+    /// where the identity has not begun.
+    pub fn set(&mut self, id: u64, program: P) -> Result<(), Refusal>
+        ensures answer { result ≡ set_answer self.old id }
+        ensures after { self.new ≡ after_set self.old id program }
+    {
+        let Some(i) = find(&self.participants, id) else {
+            return Err(Refusal::NotBegun);
+        };
+        self.participants[i] = Participant {
+            identity: id,
+            program,
+            ended: false,
+        };
+        Ok(())
+    }
+
+    /// The memory, for what watches the world from outside.
+    pub fn memory(&self) -> &S
+        ensures { result.now ≡ self.now.memory }
+    {
+        &self.memory
+    }
+
+    /// The participants in the order of beginning.
+    pub fn participants(&self) -> &[Participant<P>]
+        ensures { result.now ≡ self.now.participants }
+    {
+        &self.participants
+    }
+}
