@@ -1,0 +1,3 @@
+pub mod DoorKept
+pub mod VisitorAccess
+pub mod SplitterTied

@@ -1,0 +1,280 @@
+-- what ties a splitter's world to the calls that it is after
+use Rattle.std.proofs.Common.{◌≡◌, ◌≢◌, ℕ, ◌+◌, ◌<◌, ◌≤◌, true, false, cond, ◌==◌, inl, inr, List, [], ◌∷◌, ◌++◌, length, Option, Some, None, Ok, Err, refl, sym, ap, subst, ◌∙◌, arith}
+use Rattle.std.specs.Prelude.{is_some, option_map, IsSome}
+use Rattle.std.proofs.Math.Path.{fun_ext}
+use Rattle.std.proofs.lemmas.Bool.Decides.{eqb_tells, Decides-eqb}
+use Rattle.step_memory.specs.declared.participant.Participant.{Participant}
+use Rattle.step_memory.specs.Note.{ends}
+use Rattle.step_memory.specs.Participant.{participant_of, program_of, with_participant, beginner}
+use Rattle.step_memory.specs.Registers.{answer_of, after_access, memory_steps}
+use Rattle.step_memory.specs.SetAt.{set_at}
+use Rattle.step_memory.specs.Calls.{Call, steps_of, steps_by, outcome_of, outcome_by, outcome_in}
+use Rattle.step_memory.specs.Calls.Call.{Began, Stepped}
+use Rattle.step_memory.proofs.SetAtLemmas.{set_at-same, set_at-other, set_at-cases}
+use Rattle.step_memory.proofs.ParticipantLemmas.{participant_of-push, participant_of-put}
+use Rattle.step_memory.proofs.WorldKeeps.{steps_of-push, outcome_of-push, first_of-none, IsLetIn, IsKept, world_keeps, moved, stepped}
+use Rattle.splitter.specs.declared.way.Way.{Way}
+use Rattle.splitter.specs.declared.way.Way.TheVariants.{Stop, Right, Down}
+use Rattle.splitter.specs.declared.stage.Stage.{Stage}
+use Rattle.splitter.specs.declared.stage.Stage.TheVariants.{Outside, WroteName, SawClear, WroteMark, Gone}
+use Rattle.splitter.specs.declared.visitor.Visitor.{Visitor}
+use Rattle.splitter.specs.Stage.{has_entered, is_gone, name_after, mark_after, stage_after}
+use Rattle.splitter.specs.Visitor.{visitor_steps, access_of, stage_by, note_at, note_after, word_of, IsAccessOf}
+use Rattle.splitter.specs.Door.{DoorIsLawful, IsSplitter}
+use Rattle.splitter.specs.Law.{KeepsSplitterLaw}
+use Rattle.splitter.specs.SplitterWorld.{SplitterState, After, fresh, visit_of, empty_door}
+use Rattle.splitter.proofs.DoorKept.{kept, law_of, lawful_new}
+use Rattle.splitter.proofs.VisitorAccess.{is_access_of}
+
+stage_in : Option (Visitor ℕ) → Stage
+stage_in None = Outside
+stage_in (Some v) = v.stage
+
+-- how far each identity has come
+stages : List (Participant (Visitor ℕ)) → ℕ → Stage
+stages ps p = stage_in (program_of p ps)
+
+way_at : Stage → Option Way
+way_at Outside = None
+way_at WroteName = None
+way_at SawClear = None
+way_at WroteMark = None
+way_at (Gone way) = Some way
+
+-- the accesses that a visit has made
+accesses : Stage → ℕ
+accesses Outside = 0
+accesses WroteName = 1
+accesses SawClear = 2
+accesses WroteMark = 3
+accesses (Gone Stop) = 4
+accesses (Gone Right) = 2
+accesses (Gone Down) = 4
+
+-- a visit of p to registers 0 and 1, which has ended where its stage says so
+record IsVisitOf (p : ℕ) (v : Participant (Visitor ℕ)) : Type 0 where
+  own : v.identity ≡ p
+  identity : v.program.identity ≡ p
+  name : v.program.name ≡ 0
+  mark : v.program.mark ≡ 1
+  ended : v.ended ≡ is_gone v.program.stage
+
+pub record IsTied (w : SplitterState) (r : List (Call (Option Way))) : Type 0 where
+  registers : length w.memory.values ≡ 2
+  visits : (p : ℕ) (v : Participant (Visitor ℕ)) → participant_of p w.participants ≡ Some v → IsVisitOf p v
+  door : DoorIsLawful (word_of w.memory 0) (word_of w.memory 1) (stages w.participants)
+  ways : (p : ℕ) → outcome_of p r ≡ way_at (stages w.participants p)
+  steps : (p : ℕ) → steps_of p r ≡ accesses (stages w.participants p)
+
+-- a call that is refused
+refused : (w : SplitterState) (r : List (Call (Option Way))) (h : Call (Option Way)) → ((p : ℕ) → steps_by p h ≡ 0) → ((p : ℕ) → outcome_by p h ≡ None) → IsTied w r → IsTied w (r ++ h ∷ [])
+refused w r h none quiet t = record {
+  registers = t.registers;
+  visits = t.visits;
+  door = t.door;
+  ways = λ p. outcome_of-push p r h ∙ rw (quiet p) (first_of-none (outcome_of p r)) ∙ t.ways p;
+  steps = λ p. omega (arith, steps_of-push p r h, none p, t.steps p);
+}
+
+-- one who begins stands outside, as before
+begun_kept : (w : SplitterState) (r : List (Call (Option Way))) (id : ℕ) → IsLetIn w id → IsTied w r → IsTied (record { memory = w.memory; most = w.most; participants = w.participants ++ beginner id (visit_of id) ∷ [] }) (r ++ Began id (Ok tt) ∷ [])
+unfolding stages stage_in
+begun_kept w r id in_ t =
+    let push = participant_of-push w.participants (beginner id (visit_of id)) in_.absent in
+    let same : stages (w.participants ++ beginner id (visit_of id) ∷ []) ≡ stages w.participants =
+    fun_ext (λ q. ap (λ o. stage_in (option_map (λ v. v.program) o)) (push q)
+    ∙ set_at-cases (λ z. participant_of z w.participants) id (Some (beginner id (visit_of id))) (λ o. stage_in (option_map (λ v. v.program) o) ≡ stages w.participants q) q
+    (λ e. rw (e, in_.absent) refl) (λ _. refl)) in
+    record {
+      registers = t.registers;
+      visits = λ p v h. set_at-cases (λ z. participant_of z w.participants) id (Some (beginner id (visit_of id))) (λ o. o ≡ Some v → IsVisitOf p v) p
+          (λ e k. let is : beginner id (visit_of id) ≡ v = cc in subst (λ (u : Participant (Visitor ℕ)). IsVisitOf p u) is (record { own = sym e; identity = sym e; name = refl; mark = refl; ended = refl }))
+          (λ _ k. t.visits p v k)
+          (sym (push p) ∙ h);
+      door = rw same t.door;
+      ways = λ p. outcome_of-push p r (Began id (Ok tt)) ∙ first_of-none (outcome_of p r) ∙ t.ways p ∙ ap (λ (f : ℕ → Stage). way_at (f p)) (sym same);
+      steps = λ p. let kept_stage : accesses (stages (w.participants ++ beginner id (visit_of id) ∷ []) p) ≡ accesses (stages w.participants p) = ap (λ (f : ℕ → Stage). accesses (f p)) same in
+          omega (arith, steps_of-push p r (Began id (Ok tt)), t.steps p, kept_stage);
+    }
+
+-- an access of a visit that has not ended is one more, and tells the way where it ends
+one_more : (p : ℕ) (s : Stage) (x y : ℕ) → is_gone s ≡ false → accesses (stage_after p s x y) ≡ accesses s + 1
+unfolding accesses
+one_more p Outside x y h = refl
+one_more p WroteName x y h = elim (y == 0) as (λ t. accesses (cond t SawClear (Gone Right)) ≡ 2) [ true ↦ refl | false ↦ refl ]
+one_more p SawClear x y h = refl
+one_more p WroteMark x y h = elim (x == p) as (λ t. accesses (cond t (Gone Stop) (Gone Down)) ≡ 4) [ true ↦ refl | false ↦ refl ]
+one_more p (Gone way) x y h = absurd (cc)
+
+way_told : (s : Stage) → outcome_in (note_at s) ≡ way_at s
+unfolding way_at
+way_told Outside = refl
+way_told WroteName = refl
+way_told SawClear = refl
+way_told WroteMark = refl
+way_told (Gone way) = refl
+
+end_told : (s : Stage) → ends (note_at s) ≡ is_gone s
+end_told Outside = refl
+end_told WroteName = refl
+end_told SawClear = refl
+end_told WroteMark = refl
+end_told (Gone way) = refl
+
+no_way_yet : (s : Stage) → is_gone s ≡ false → way_at s ≡ None
+unfolding way_at
+no_way_yet Outside h = refl
+no_way_yet WroteName h = refl
+no_way_yet SawClear h = refl
+no_way_yet WroteMark h = refl
+no_way_yet (Gone way) h = absurd (cc)
+
+-- a step that is accepted
+going_kept : (w : SplitterState) (r : List (Call (Option Way))) (id : ℕ) (v : Participant (Visitor ℕ)) → participant_of id w.participants ≡ Some v → v.ended ≡ false → IsTied w r →
+    IsTied (stepped visitor_steps memory_steps outcome_in visit_of w v) (r ++ Stepped id (Ok (outcome_in (note_after v.program (answer_of w.memory (access_of v.program))))) ∷ [])
+unfolding stages stage_in
+going_kept w r id v here goes t =
+    let visit = t.visits id v here in
+    let new : Participant (Visitor ℕ) = moved visitor_steps memory_steps outcome_in visit_of w.memory v in
+    let m' = after_access w.memory (access_of v.program) in
+    let access : IsAccessOf w.memory v.program = is_access_of w.memory v.program (λ e. absurd (let n = visit.name in let k = visit.mark in omega arith)) (rw (visit.name, t.registers) (omega arith)) (rw (visit.mark, t.registers) (omega arith)) in
+    let reached : stage_by v.program (answer_of w.memory (access_of v.program)) ≡ stage_after id v.program.stage (word_of w.memory 0) (word_of w.memory 1) = access.stage ∙ rw (visit.identity, visit.name, visit.mark) refl in
+    let on : is_gone v.program.stage ≡ false = sym visit.ended ∙ goes in
+    let stage_is : stages w.participants id ≡ v.program.stage = rw here refl in
+    let there : is_some (participant_of v.identity w.participants) ≡ true = rw (visit.own, here) refl in
+    let put : (q : ℕ) → participant_of q (with_participant new w.participants) ≡ set_at (λ u. participant_of u w.participants) id (Some new) q = (λ q. participant_of-put w.participants new there q ∙ rw visit.own refl) in
+    let after : Stage = stage_after id v.program.stage (word_of w.memory 0) (word_of w.memory 1) in
+    let all : stages (with_participant new w.participants) ≡ set_at (stages w.participants) id after =
+    fun_ext (λ q. ap (λ o. stage_in (option_map (λ u. u.program) o)) (put q)
+    ∙ elim (eqb_tells q id) [ inl e ↦ rw (e.0) reached | inr e ↦ rw (e.0) refl ]) in
+    let at_name : word_of m' 0 ≡ name_after id v.program.stage (word_of w.memory 0) =
+    ap (word_of m') (sym visit.name) ∙ access.name ∙ ap (λ i. name_after i v.program.stage (word_of w.memory v.program.name)) visit.identity ∙ ap (λ x. name_after id v.program.stage (word_of w.memory x)) visit.name in
+    let at_mark : word_of m' 1 ≡ mark_after v.program.stage (word_of w.memory 1) =
+    ap (word_of m') (sym visit.mark) ∙ access.mark ∙ ap (λ x. mark_after v.program.stage (word_of w.memory x)) visit.mark in
+    let call : Call (Option Way) = Stepped id (Ok (outcome_in (note_after v.program (answer_of w.memory (access_of v.program))))) in
+    let itself : (id == id) ≡ true = (Decides-eqb id id).1 refl in
+    let now : stages (with_participant new w.participants) id ≡ after = ap (λ (f : ℕ → Stage). f id) all ∙ set_at-same (stages w.participants) id after in
+    let others : (p : ℕ) → (id ≢ p) → stages (with_participant new w.participants) p ≡ stages w.participants p = (λ p n. ap (λ (f : ℕ → Stage). f p) all ∙ set_at-other (stages w.participants) id after p (λ h. n (sym h))) in
+    let own_way : outcome_of id (r ++ call ∷ []) ≡ way_at (stages (with_participant new w.participants) id) =
+    (let before : outcome_of id r ≡ None = t.ways id ∙ ap way_at stage_is ∙ no_way_yet v.program.stage on in
+    outcome_of-push id r call ∙ rw (before, itself) (way_told (stage_by v.program (answer_of w.memory (access_of v.program)))) ∙ ap way_at (reached ∙ sym now)) in
+    let own_steps : steps_of id (r ++ call ∷ []) ≡ accesses (stages (with_participant new w.participants) id) =
+    (let one : steps_by id call ≡ 1 = rw itself refl in
+    let before : accesses (stages w.participants id) ≡ accesses v.program.stage = ap accesses stage_is in
+    let more = one_more id v.program.stage (word_of w.memory 0) (word_of w.memory 1) on in
+    let reached_steps : accesses (stages (with_participant new w.participants) id) ≡ accesses after = ap accesses now in
+    let pushed = steps_of-push id r call in
+    let so_far = t.steps id in
+    omega arith) in
+    record {
+      registers = access.registers ∙ t.registers;
+      visits = λ p u h. set_at-cases (λ z. participant_of z w.participants) id (Some new) (λ o. o ≡ Some u → IsVisitOf p u) p
+          (λ e k. let is : new ≡ u = cc in subst (λ (x : Participant (Visitor ℕ)). IsVisitOf p x) is (record { own = visit.own ∙ sym e; identity = visit.identity ∙ sym e; name = visit.name; mark = visit.mark; ended = end_told new.program.stage }))
+          (λ _ k. t.visits p u k)
+          (sym (put p) ∙ h);
+      door = rw (all, at_name, at_mark) (kept (word_of w.memory 0) (word_of w.memory 1) (stages w.participants) id t.door v.program.stage stage_is);
+      ways = λ p. elim (eqb_tells id p) [
+        | inl e ↦ subst (λ (x : ℕ). outcome_of x (r ++ call ∷ []) ≡ way_at (stages (with_participant new w.participants) x)) e.1 own_way
+        | inr e ↦ outcome_of-push p r call ∙ rw e.0 (first_of-none (outcome_of p r)) ∙ t.ways p ∙ ap way_at (sym (others p e.1))
+      ];
+      steps = λ p. elim (eqb_tells id p) [
+        | inl e ↦ subst (λ (x : ℕ). steps_of x (r ++ call ∷ []) ≡ accesses (stages (with_participant new w.participants) x)) e.1 own_steps
+        | inr e ↦
+            let none : steps_by p call ≡ 0 = rw e.0 refl in
+            let same : accesses (stages (with_participant new w.participants) p) ≡ accesses (stages w.participants p) = ap accesses (others p e.1) in
+            omega (arith, steps_of-push p r call, t.steps p, none, same)
+      ];
+    }
+
+-- each call keeps the tie
+tie_kept : IsKept visitor_steps memory_steps outcome_in visit_of IsTied
+tie_kept = record {
+  refused_begin = λ w r id why t. refused w r (Began id (Err why)) (λ _. refl) (λ _. refl) t;
+  refused_step = λ w r id why t. refused w r (Stepped id (Err why)) (λ _. refl) (λ _. refl) t;
+  begun = begun_kept;
+  gone_on = going_kept;
+}
+
+-- a splitter that no one has entered
+tied_new : (most : ℕ) → IsTied (fresh most) []
+unfolding stages stage_in way_at accesses
+tied_new most = record {
+  registers = refl;
+  visits = λ p v h. absurd (cc);
+  door = lawful_new 0;
+  ways = λ p. refl;
+  steps = λ p. refl;
+}
+
+-- what the accesses of a visit tell
+entered_by : (s : Stage) → 0 < accesses s → has_entered s ≡ true
+unfolding accesses
+entered_by Outside h = absurd (omega arith)
+entered_by WroteName h = refl
+entered_by SawClear h = refl
+entered_by WroteMark h = refl
+entered_by (Gone way) h = refl
+
+some_access : (s : Stage) → has_entered s ≡ true → 0 < accesses s
+unfolding accesses
+some_access Outside h = absurd (cc)
+some_access WroteName h = omega arith
+some_access SawClear h = omega arith
+some_access WroteMark h = omega arith
+some_access (Gone Stop) h = omega arith
+some_access (Gone Right) h = omega arith
+some_access (Gone Down) h = omega arith
+
+few_accesses : (s : Stage) → accesses s ≤ 4
+unfolding accesses
+few_accesses Outside = omega arith
+few_accesses WroteName = omega arith
+few_accesses SawClear = omega arith
+few_accesses WroteMark = omega arith
+few_accesses (Gone Stop) = omega arith
+few_accesses (Gone Right) = omega arith
+few_accesses (Gone Down) = omega arith
+
+fourth_ends : (s : Stage) → accesses s ≡ 4 → IsSome (way_at s)
+unfolding accesses way_at
+fourth_ends Outside h = absurd (omega arith)
+fourth_ends WroteName h = absurd (omega arith)
+fourth_ends SawClear h = absurd (omega arith)
+fourth_ends WroteMark h = absurd (omega arith)
+fourth_ends (Gone way) h = refl
+
+gone_by : (s : Stage) (way : Way) → way_at s ≡ Some way → s ≡ Gone way
+unfolding way_at
+gone_by Outside way h = absurd (cc)
+gone_by WroteName way h = absurd (cc)
+gone_by SawClear way h = absurd (cc)
+gone_by WroteMark way h = absurd (cc)
+gone_by (Gone taken) way h = cc
+
+-- what each took, from the calls to the visits
+took : (w : SplitterState) (r : List (Call (Option Way))) → IsTied w r → (p : ℕ) (way : Way) → outcome_of p r ≡ Some way → stages w.participants p ≡ Gone way
+took w r t p way h = gone_by (stages w.participants p) way (sym (t.ways p) ∙ h)
+
+entered : (w : SplitterState) (r : List (Call (Option Way))) → IsTied w r → (p : ℕ) → 0 < steps_of p r → has_entered (stages w.participants p) ≡ true
+entered w r t p h = entered_by (stages w.participants p) (omega (arith, h, t.steps p))
+
+tied_law : (w : SplitterState) (r : List (Call (Option Way))) → IsTied w r → KeepsSplitterLaw r
+tied_law w r t =
+    let law : IsSplitter (stages w.participants) = law_of (word_of w.memory 0) (word_of w.memory 1) (stages w.participants) t.door in
+    record {
+      split = record {
+        one_stops = λ p q h k. law.one_stops p q (took w r t p Stop h) (took w r t q Stop k);
+        not_all_right = λ p h.
+            let other = law.not_all_right p (entered w r t p h) in
+            (other.0, omega (arith, some_access (stages w.participants other.0) other.1, t.steps other.0), λ right. other.2 (took w r t other.0 Right right));
+        not_all_down = λ p h.
+            let other = law.not_all_down p (entered w r t p h) in
+            (other.0, omega (arith, some_access (stages w.participants other.0) other.1, t.steps other.0), λ down. other.2 (took w r t other.0 Down down));
+      };
+      at_most_four = λ p. omega (arith, few_accesses (stages w.participants p), t.steps p);
+      fourth_ends = λ p h. rw (t.ways p) (fourth_ends (stages w.participants p) (sym (t.steps p) ∙ h));
+    }
+
+-- a world that is after these calls shows that they keep the law
+pub law_after : (w : SplitterState) (r : List (Call (Option Way))) → After w r → KeepsSplitterLaw r
+law_after w r a = tied_law w r (world_keeps visitor_steps memory_steps outcome_in visit_of IsTied tie_kept empty_door w r (tied_new w.most) a)

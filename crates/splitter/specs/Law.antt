@@ -1,0 +1,33 @@
+-- the law of the splitter (Moir and Anderson 1995), of the set that entered and of the way that each took
+use Rattle.std.specs.Prelude.{◌≡◌, ℕ, ◌<◌, ◌≤◌, List, Option, Some, IsSome}
+use Rattle.step_memory.specs.Calls.{Call, steps_of, outcome_of}
+use Rattle.splitter.specs.declared.way.Way.{Way}
+use Rattle.splitter.specs.declared.way.Way.TheVariants.{Stop, Right, Down}
+
+-- no two stopped
+abbrev pub AtMostOneStopped : (ℕ → Way → Type 0) → Type 0
+AtMostOneStopped Took = (p q : ℕ) → Took p Stop → Took q Stop → p ≡ q
+
+-- if anyone entered, one of those who entered did not take this way
+abbrev pub NotAllTook : Way → (ℕ → Type 0) → (ℕ → Way → Type 0) → Type 0
+NotAllTook way Entered Took = (p : ℕ) → Entered p → (q : ℕ) × Entered q × (¬ Took q way)
+
+-- at most one of those who entered stopped; not all of them went right, and not all of them went down
+pub record IsSplit (Entered : ℕ → Type 0) (Took : ℕ → Way → Type 0) : Type 0 where
+  pub one_stops : AtMostOneStopped Took
+  pub not_all_right : NotAllTook Right Entered Took
+  pub not_all_down : NotAllTook Down Entered Took
+
+-- p has entered: it has made an accepted step. Those in the middle of a visit are counted
+abbrev pub HasEntered : List (Call (Option Way)) → ℕ → Type 0
+HasEntered r p = 0 < steps_of p r
+
+-- p's visit ended by this way
+abbrev pub WentBy : List (Call (Option Way)) → ℕ → Way → Type 0
+WentBy r p way = outcome_of p r ≡ Some way
+
+-- the law over calls and replies: those who entered are split, and a visit ends at its fourth step or earlier
+pub record KeepsSplitterLaw (r : List (Call (Option Way))) : Type 0 where
+  pub split : IsSplit (HasEntered r) (WentBy r)
+  pub at_most_four : (p : ℕ) → steps_of p r ≤ 4
+  pub fourth_ends : (p : ℕ) → steps_of p r ≡ 4 → IsSome (outcome_of p r)

@@ -1,0 +1,5 @@
+pub mod Law
+pub mod Stage
+pub mod Door
+pub mod Visitor
+pub mod SplitterWorld

@@ -1,0 +1,18 @@
+//! How far a visit has come.
+
+use crate::way::Way;
+
+/// How far a visit to a splitter has come.
+#[derive(Clone, Copy, Debug, Drop, PartialEq, Eq)]
+pub enum Stage {
+    /// No access was made.
+    Outside,
+    /// Its identity is written into X.
+    WroteName,
+    /// It read Y as clear.
+    SawClear,
+    /// It has set Y.
+    WroteMark,
+    /// The visit has ended.
+    Gone(Way),
+}

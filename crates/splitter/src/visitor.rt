@@ -1,0 +1,95 @@
+//! One visit to a splitter.
+
+ghost use Rattle.std.specs.Prelude.{◌≡◌};
+ghost use Rattle.splitter.specs.Visitor.{visitor_at, visitor_steps, access_of, visitor_after, note_after};
+
+use crate::stage::Stage;
+use crate::way::Way;
+use step_memory::{Access, Answer, Note, StepProgram};
+
+/// What stands in Y once it is set; 0 stands there before.
+const SET: u64 = 1;
+
+/// A visit of one identity, which is not 0, to the splitter whose X is the register `name` and whose Y the register
+/// `mark`. X holds an identity and 0 at first, Y holds 0 while it is clear.
+///
+/// 1. Write the identity into X.
+/// 2. Read Y. Where it is set the visit ends to the right.
+/// 3. Set Y.
+/// 4. Read X. Where the identity stands there the visit stops, else it ends down.
+#[derive(Clone, Copy, Debug, Drop, PartialEq, Eq)]
+pub struct Visitor<R> {
+    pub identity: u64,
+    pub name: R,
+    pub mark: R,
+    pub stage: Stage,
+}
+
+impl<R: Copy> Visitor<R> {
+    /// A visit that has not begun.
+    pub fn new(identity: u64, name: R, mark: R) -> Visitor<R>
+        ensures { result ≡ visitor_at identity name mark }
+    {
+        Visitor {
+            identity,
+            name,
+            mark,
+            stage: Stage::Outside,
+        }
+    }
+}
+
+impl<R: Copy> StepProgram for Visitor<R> {
+    type Reg = R;
+
+    type Value = u64;
+
+    type Output = Way;
+
+    ghost steps = { visitor_steps };
+
+    fn next(&self) -> Access<R, u64>
+        ensures { result ≡ access_of self.now }
+    {
+        match self.stage {
+            Stage::Outside => Access::Write(self.name, self.identity),
+            Stage::WroteName => Access::Read(self.mark),
+            Stage::SawClear => Access::Write(self.mark, SET),
+            Stage::WroteMark => Access::Read(self.name),
+            Stage::Gone(_) => Access::Nothing,
+        }
+    }
+
+    fn resume(&mut self, got: Answer<u64>) -> Note<Way>
+        ensures after { self.new ≡ visitor_after self.old got }
+        ensures note { result ≡ note_after self.old got }
+    {
+        let found = match got {
+            Answer::Value(value) => value,
+            _ => 0,
+        };
+        self.stage = match self.stage {
+            Stage::Outside => Stage::WroteName,
+            Stage::WroteName => {
+                if found == 0 {
+                    Stage::SawClear
+                } else {
+                    Stage::Gone(Way::Right)
+                }
+            }
+            Stage::SawClear => Stage::WroteMark,
+            Stage::WroteMark => {
+                if found == self.identity {
+                    Stage::Gone(Way::Stop)
+                } else {
+                    Stage::Gone(Way::Down)
+                }
+            }
+            Stage::Gone(way) => Stage::Gone(way),
+        };
+        match self.stage {
+            Stage::Gone(way) => Note::Ended(way),
+            _ => Note::Quiet,
+        }
+    }
+}

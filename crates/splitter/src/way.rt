@@ -1,0 +1,12 @@
+//! Where a visit ends.
+
+/// Where a visit to a splitter ends (Moir and Anderson 1995).
+#[derive(Clone, Copy, Debug, Drop, PartialEq, Eq)]
+pub enum Way {
+    /// The visitor stops: at most one does.
+    Stop,
+    /// It found the mark set. Not all who enter go right.
+    Right,
+    /// It found another's name. Not all who enter go down.
+    Down,
+}

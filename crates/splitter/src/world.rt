@@ -1,0 +1,92 @@
+//! A world whose participants visit one splitter.
+
+ghost use Rattle.std.specs.Prelude.{◌≡◌, ◌≢◌, ℕ, ◌∷◌, [], ◌++◌, List, IfOk, IfErr, IsOk, Err, ◌≤◌, ◌<◌, ◌⊎◌, ◌↔◌, Option};
+ghost use Rattle.splitter.specs.declared.way.Way.{Way};
+ghost use Rattle.splitter.specs.Law.{KeepsSplitterLaw};
+ghost use Rattle.splitter.specs.SplitterWorld.{After, SplitterState, fresh, visit_of, step_reply, world_after_step};
+ghost use Rattle.splitter.specs.Visitor.{visitor_steps};
+ghost use Rattle.step_memory.specs.Calls.{Call};
+ghost use Rattle.step_memory.specs.Calls.Call.{Began, Stepped};
+ghost use Rattle.step_memory.specs.Locality.{IsLocal, LookAlike};
+ghost use Rattle.step_memory.specs.Registers.{memory_steps};
+ghost use Rattle.step_memory.specs.World.{after_begin, begin_refusal, done_unless};
+
+use crate::visitor::Visitor;
+use crate::way::Way;
+use std::alloc::Allocator;
+use std::marker::Model;
+use step_memory::{Memory, Note, Refusal, World};
+
+/// Participants that visit one splitter, each once.
+#[derive(Drop)]
+pub struct SplitterWorld<A: Allocator> {
+    world: World<Visitor<usize>, Memory<u64, A>, A>,
+}
+
+impl<A: Allocator> Model for SplitterWorld<A> {
+    ghost use Rattle.splitter.specs.SplitterWorld.{SplitterState};
+
+    ghost Value = { SplitterState };
+
+    ghost view = { λ w. w.world };
+}
+
+impl<A: Allocator + Clone> SplitterWorld<A> {
+    /// A splitter that no one has entered, for at most `most` participants, from 1 to 16; `OutOfRange` elsewhere. All
+    /// the memory that its calls want is taken here.
+    pub fn new(alloc: A, most: usize) -> Result<Self, Refusal>
+        ensures fresh { IfOk result (λ w. w ≡ fresh most) }
+        ensures after { IfOk result (λ w. After w []) }
+        ensures range { IsOk result → (1 ≤ most) × (most ≤ 16) }
+        ensures out_of_range { result ≡ Err Refusal.OutOfRange ↔ ((most < 1) ⊎ (16 < most)) }
+        ensures only { IfErr result (λ r. (r ≡ Refusal.NoMemory) ⊎ (r ≡ Refusal.OutOfRange)) }
+    {
+        if most < 1 || 16 < most {
+            return Err(Refusal::OutOfRange);
+        }
+        let Ok(other) = alloc.clone() else {
+            return Err(Refusal::NoMemory);
+        };
+        let Ok(memory) = Memory::new(other, 0, 2, 0) else {
+            return Err(Refusal::NoMemory);
+        };
+        match World::new(alloc, memory, most) {
+            Ok(world) => Ok(SplitterWorld { world }),
+            Err(_) => Err(Refusal::NoMemory),
+        }
+    }
+
+    /// A participant begins: its visit has made no access. Refused where the identity is 0, then where it has begun,
+    /// then where as many have begun as there may be.
+    pub fn begin(&mut self, id: u64) -> Result<(), Refusal>
+        ensures answer { result ≡ done_unless (begin_refusal self.old id) }
+        ensures state { self.new ≡ after_begin self.old id (visit_of id) }
+
+        // The law, over every list of calls and replies that the world may be after.
+        ensures after { (r : List (Call (Option Way))) → After self.old r → After self.new (r ++ Began id result ∷ []) }
+        ensures law { (r : List (Call (Option Way))) → After self.new r → KeepsSplitterLaw r }
+    {
+        self.world.begin(id, Visitor::new(id, 0, 1))
+    }
+
+    /// One step of a visit, which is one access; the way, once the visit ends. Refused where the identity has not
+    /// begun, then where its visit has ended.
+    pub fn step(&mut self, id: u64) -> Result<Option<Way>, Refusal>
+        ensures answer { result ≡ step_reply self.old id }
+        ensures state { self.new ≡ world_after_step self.old id }
+
+        // Nothing of the world changes but this visit and the register that it names, and in another world that looks
+        // alike to this visit the answer is the same.
+        ensures local { IsLocal visitor_steps memory_steps id self.old self.new }
+        ensures alike { (other : SplitterState) → LookAlike visitor_steps memory_steps id self.old other → result ≡ step_reply other id }
+
+        // The law, over every list of calls and replies that the world may be after.
+        ensures after { (r : List (Call (Option Way))) → After self.old r → After self.new (r ++ Stepped id result ∷ []) }
+        ensures law { (r : List (Call (Option Way))) → After self.new r → KeepsSplitterLaw r }
+    {
+        match self.world.step(id)? {
+            Note::Ended(way) => Ok(Some(way)),
+            _ => Ok(None),
+        }
+    }
+}
