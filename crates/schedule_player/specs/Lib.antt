@@ -1,0 +1,9 @@
+pub mod Ranges
+pub mod Bad
+pub mod Lines
+pub mod Meaning
+pub mod Replies
+pub mod Responses
+pub mod Summary
+pub mod Runs
+pub mod Played
