@@ -12,7 +12,7 @@ use Rattle.step_memory.specs.Calls.{Call, steps_of, steps_by, outcome_of, outcom
 use Rattle.step_memory.specs.Calls.Call.{Began, Stepped}
 use Rattle.step_memory.proofs.SetAtLemmas.{set_at-same, set_at-other, set_at-cases}
 use Rattle.step_memory.proofs.ParticipantLemmas.{participant_of-push, participant_of-put}
-use Rattle.step_memory.proofs.WorldKeeps.{steps_of-push, outcome_of-push, first_of-none, IsLetIn, IsKept, world_keeps, moved, stepped}
+use Rattle.step_memory.proofs.WorldKeeps.{steps_of-push, outcome_of-push, first_of-none, IsLetIn, IsKept, world_keeps, moved, stepped, after_began, after_stepped}
 use Rattle.splitter.specs.declared.way.Way.{Way}
 use Rattle.splitter.specs.declared.way.Way.TheVariants.{Stop, Right, Down}
 use Rattle.splitter.specs.declared.stage.Stage.{Stage}
@@ -22,7 +22,8 @@ use Rattle.splitter.specs.Stage.{has_entered, is_gone, name_after, mark_after, s
 use Rattle.splitter.specs.Visitor.{visitor_steps, access_of, stage_by, note_at, note_after, word_of, IsAccessOf}
 use Rattle.splitter.specs.Door.{DoorIsLawful, IsSplitter}
 use Rattle.splitter.specs.Law.{KeepsSplitterLaw}
-use Rattle.splitter.specs.SplitterWorld.{SplitterState, After, fresh, visit_of, empty_door}
+use Rattle.splitter.specs.SplitterWorld.{SplitterState, After, fresh, visit_of, empty_door, step_reply, world_after_step}
+use Rattle.step_memory.specs.World.{after_begin, begin_refusal, done_unless}
 use Rattle.splitter.proofs.DoorKept.{kept, law_of, lawful_new}
 use Rattle.splitter.proofs.VisitorAccess.{is_access_of}
 
@@ -278,3 +279,14 @@ tied_law w r t =
 -- a world that is after these calls shows that they keep the law
 pub law_after : (w : SplitterState) (r : List (Call (Option Way))) → After w r → KeepsSplitterLaw r
 law_after w r a = tied_law w r (world_keeps visitor_steps memory_steps outcome_in visit_of IsTied tie_kept empty_door w r (tied_new w.most) a)
+
+-- a splitter that no one has entered is after no call
+pub after_none : (most : ℕ) → After (fresh most) []
+after_none most = refl
+
+-- and each call goes on
+pub after_begun : (w : SplitterState) (r : List (Call (Option Way))) (id : ℕ) → After w r → After (after_begin w id (visit_of id)) (r ++ Began id (done_unless (begin_refusal w id)) ∷ [])
+after_begun w r id a = after_began visitor_steps memory_steps outcome_in visit_of empty_door w (after_begin w id (visit_of id)) r id (done_unless (begin_refusal w id)) refl refl a
+
+pub after_step_of : (w : SplitterState) (r : List (Call (Option Way))) (id : ℕ) → After w r → After (world_after_step w id) (r ++ Stepped id (step_reply w id) ∷ [])
+after_step_of w r id a = after_stepped visitor_steps memory_steps outcome_in visit_of empty_door w (world_after_step w id) r id (step_reply w id) refl refl a

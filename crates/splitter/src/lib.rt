@@ -30,4 +30,4 @@ pub use door::{law_of_one_access, law_of_one_door};
 pub use stage::Stage;
 pub use visitor::Visitor;
 pub use way::Way;
-pub use world::SplitterWorld;
+pub use world::{SplitterWorld, law_of_splitter_calls};

@@ -90,3 +90,12 @@ impl<A: Allocator + Clone> SplitterWorld<A> {
         }
     }
 }
+
+/// A law, which runs nothing: a splitter that no one has entered is after no call, each call takes a world after some
+/// calls to one after these and itself, and calls that a world may be after keep the law of the splitter.
+pub fn law_of_splitter_calls()
+    ensures fresh { (most : ℕ) → After (fresh most) [] }
+    ensures begun { (w : SplitterState) (r : List (Call (Option Way))) (id : ℕ) → After w r → After (after_begin w id (visit_of id)) (r ++ Began id (done_unless (begin_refusal w id)) ∷ []) }
+    ensures stepped { (w : SplitterState) (r : List (Call (Option Way))) (id : ℕ) → After w r → After (world_after_step w id) (r ++ Stepped id (step_reply w id) ∷ []) }
+    ensures law { (w : SplitterState) (r : List (Call (Option Way))) → After w r → KeepsSplitterLaw r }
+{}

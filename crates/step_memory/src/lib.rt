@@ -27,6 +27,9 @@ pub mod program;
 pub mod refusal;
 pub mod world;
 
+#[cfg(test)]
+mod tests;
+
 pub use access::{Access, Answer};
 pub use memory::{Memory, StepMemory};
 pub use note::Note;

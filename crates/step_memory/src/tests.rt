@@ -1,0 +1,138 @@
+//! Worlds run by hand.
+
+ghost use Rattle.std.specs.Prelude.{◌≡◌, IsErr};
+ghost use Rattle.step_memory.specs.declared.note.Note.TheVariants as note;
+
+use crate::{Access, Answer, Memory, NoMemory, Note, Refusal, StepMemory, StepProgram, World};
+use std::test::Fail;
+
+/// A program of one access, which ends with its answer.
+#[derive(Clone, Copy, Debug, Drop, PartialEq, Eq)]
+struct Once {
+    access: Access<usize, u64>,
+}
+
+impl StepProgram for Once {
+    type Reg = usize;
+
+    type Value = u64;
+
+    type Output = Answer<u64>;
+
+    ghost steps = { record { next = λ p. p.access; resumed = λ p got. p; note = λ p got. note.Ended got } };
+
+    fn next(&self) -> Access<usize, u64> {
+        self.access
+    }
+
+    fn resume(&mut self, got: Answer<u64>) -> Note<Answer<u64>>
+        ensures after { self.new ≡ self.old }
+        ensures note { result ≡ note.Ended got }
+    {
+        Note::Ended(got)
+    }
+}
+
+fn making(access: Access<usize, u64>) -> Once {
+    Once { access }
+}
+
+/// One step through the bounds of a world.
+fn stepped<P: StepProgram + Drop, S: StepMemory<Reg = P::Reg, Value = P::Value> + Drop>(
+    world: &mut World<P, S, std::alloc::Global>,
+    id: u64,
+) -> Result<Note<P::Output>, Refusal> {
+    world.step(id)
+}
+
+#[test]
+fn each_call_and_each_refusal(rt: HostRuntime) -> Result<(), Fail> {
+    let mut world = World::new(rt.alloc(), Memory::new(rt.alloc(), 3, 2, 2)?, 2)?;
+    assert_eq!(rt; world.begin(0, making(Access::Nothing)), Err(Refusal::ZeroIdentity));
+    assert_eq!(rt; world.begin(10, making(Access::Write(0, 7))), Ok(()));
+    assert_eq!(rt; world.begin(10, making(Access::Nothing)), Err(Refusal::AlreadyBegun));
+    assert_eq!(rt; world.begin(20, making(Access::Read(0))), Ok(()));
+    assert_eq!(rt; world.begin(30, making(Access::Nothing)), Err(Refusal::Full));
+    assert_eq!(rt; world.begin(0, making(Access::Nothing)), Err(Refusal::ZeroIdentity));
+    assert_eq!(rt; stepped(&mut world, 30), Err(Refusal::NotBegun));
+    assert_eq!(rt; world.memory().value(0), 3);
+    assert_eq!(rt; stepped(&mut world, 10), Ok(Note::Ended(Answer::Done)));
+    assert_eq!(rt; stepped(&mut world, 10), Err(Refusal::Finished));
+    assert_eq!(rt; stepped(&mut world, 20), Ok(Note::Ended(Answer::Value(7))));
+    assert_eq!(rt; world.set(30, making(Access::Nothing)), Err(Refusal::NotBegun));
+    for was in [false, true] {
+        assert_eq!(rt; world.set(10, making(Access::TestAndSet(1))), Ok(()));
+        assert_eq!(rt; stepped(&mut world, 10), Ok(Note::Ended(Answer::WasSet(was))));
+        assert!(rt; world.memory().bit(1));
+    }
+    assert_eq!(rt; world.set(10, making(Access::Clear(1))), Ok(()));
+    assert_eq!(rt; stepped(&mut world, 10), Ok(Note::Ended(Answer::Done)));
+    assert!(rt; !world.memory().bit(1));
+    assert!(rt; matches!(world.program(10), Some(program) if *program == making(Access::Clear(1))));
+    assert!(rt; world.program(30).is_none());
+    assert_eq!(rt; world.participants().len(), 2);
+    Ok(())
+}
+
+/// A memory that refuses each access.
+#[derive(Drop)]
+struct Refusing;
+
+impl StepMemory for Refusing {
+    type Reg = usize;
+
+    type Value = u64;
+
+    ghost use Rattle.std.specs.Prelude.{true, false};
+
+    ghost steps = { record { register = λ m r. (0, false); after = λ m a. m; may_refuse = λ m a. true } };
+
+    fn access(&mut self, _a: Access<usize, u64>) -> Result<Answer<u64>, NoMemory>
+        ensures always { IsErr result }
+        ensures kept { self.new ≡ self.old }
+    {
+        Err(NoMemory)
+    }
+
+    ghost use Rattle.std.proofs.Common.{refl};
+
+    ghost others = { λ m a r h. refl };
+}
+
+#[test]
+fn want_of_memory_may_be_asked_again(rt: HostRuntime) -> Result<(), Fail> {
+    let mut world = World::new(rt.alloc(), Refusing, 1)?;
+    assert_eq!(rt; world.begin(10, making(Access::Write(0, 7))), Ok(()));
+    for _ in 0..2 {
+        assert_eq!(rt; stepped(&mut world, 10), Err(Refusal::NoMemory));
+    }
+    Ok(())
+}
+
+#[test]
+fn refusals_have_numbers(rt: HostRuntime) -> Result<(), Fail> {
+    let refusals = [
+        Refusal::ZeroIdentity,
+        Refusal::AlreadyBegun,
+        Refusal::Full,
+        Refusal::NotBegun,
+        Refusal::Finished,
+        Refusal::Spent,
+        Refusal::Crowded,
+        Refusal::NotCompeting,
+        Refusal::AlreadyCompeting,
+        Refusal::Holding,
+        Refusal::NotHolding,
+        Refusal::NoMemory,
+        Refusal::HistoryFull,
+        Refusal::OutOfRange,
+    ];
+    let mut number = 1;
+    for refusal in refusals {
+        assert_eq!(rt; refusal.number(), number);
+        number = number.wrapping_add(1);
+    }
+    let text = format!(in rt.alloc(); "{}", Refusal::Crowded)?;
+    assert_eq!(rt; text.as_str(), "as many compete as there are numbers");
+    Ok(())
+}
