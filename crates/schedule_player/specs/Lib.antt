@@ -2,8 +2,15 @@ pub mod Ranges
 pub mod Bad
 pub mod Lines
 pub mod Meaning
+pub mod WordsLeft
 pub mod Replies
 pub mod Responses
+pub mod Tries
+pub mod Written
 pub mod Summary
+pub mod Counts
+pub mod HeldLine
+pub mod Progress
+pub mod Stands
 pub mod Runs
 pub mod Played

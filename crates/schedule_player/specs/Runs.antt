@@ -17,7 +17,8 @@ use Rattle.schedule_player.specs.declared.config.WorldKind.{WorldKind}
 use Rattle.schedule_player.specs.declared.config.WorldKind.TheVariants.{Splitter}
 use Rattle.schedule_player.specs.declared.reply.Reply.{Reply}
 use Rattle.schedule_player.specs.declared.reply.Reply.TheVariants as reply
-use Rattle.schedule_player.specs.Responses.{Responses, answers_to, answers_to_whole}
+use Rattle.schedule_player.specs.Lines.{lines, whole_lines}
+use Rattle.schedule_player.specs.Responses.{Responses, meanings, answers_to, answers_to_whole}
 
 -- the reply to `begin`
 abbrev pub begin_reply : Result (Unit {0}) Refusal → Reply
@@ -75,3 +76,10 @@ answers_in Splitter m bytes = answers_to splitter_responses Splitter (fresh m) b
 -- those to the lines that an LF ends
 abbrev pub whole_answers_in : WorldKind → ℕ → List ℕ → List (Result Reply Bad)
 whole_answers_in Splitter m bytes = answers_to_whole splitter_responses Splitter (fresh m) bytes
+
+-- the answers to the lines of an input, and those to the lines that an LF ends, are each given by one list of calls that
+-- keeps the law of the world
+abbrev pub IsLawfulPlay : WorldKind → ℕ → List ℕ → Type 0
+IsLawfulPlay Splitter m bytes =
+    IsSplitterRun (meanings Splitter (lines bytes)) (answers_in Splitter m bytes)
+    × IsSplitterRun (meanings Splitter (whole_lines bytes)) (whole_answers_in Splitter m bytes)

@@ -1,9 +1,8 @@
 -- the counts of a run
-use Rattle.std.specs.Prelude.{◌≡◌, ℕ, ◌+◌, List, [], ◌∷◌, length, Result, Ok, Err}
+use Rattle.std.specs.Prelude.{ℕ, ◌+◌, List, [], ◌∷◌, Result, Ok, Err}
 use Rattle.schedule_player.specs.declared.bad.Bad.{Bad}
 use Rattle.schedule_player.specs.declared.reply.Reply.{Reply}
 use Rattle.schedule_player.specs.declared.reply.Reply.TheVariants as reply
-use Rattle.schedule_player.specs.declared.summary.Summary.{Summary}
 
 abbrev pub one_if_accepted : Result Reply Bad → ℕ
 one_if_accepted (Ok reply.Ok) = 1
@@ -30,11 +29,3 @@ one_if_bad (Err bad) = 1
 abbrev pub total : (Result Reply Bad → ℕ) → List (Result Reply Bad) → ℕ
 total one [] = 0
 total one (a ∷ more) = one a + total one more
-
--- the summary counts these answers: a line is accepted, refused or bad
-pub record CountsAnswers (given : List (Result Reply Bad)) (s : Summary) : Type 0 where
-  pub lines : s.lines ≡ length given
-  pub accepted : s.accepted ≡ total one_if_accepted given
-  pub refused : s.refused ≡ total one_if_refused given
-  pub bad : s.bad ≡ total one_if_bad given
-  pub all : s.lines ≡ s.accepted + s.refused + s.bad

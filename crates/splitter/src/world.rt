@@ -99,3 +99,64 @@ pub fn law_of_splitter_calls()
     ensures stepped { (w : SplitterState) (r : List (Call (Option Way))) (id : ℕ) → After w r → After (world_after_step w id) (r ++ Stepped id (step_reply w id) ∷ []) }
     ensures law { (w : SplitterState) (r : List (Call (Option Way))) → After w r → KeepsSplitterLaw r }
 {}
+
+#[cfg(test)]
+mod tests {
+    use super::*;
+    use linked_list_allocator::LocalHeap;
+    use std::test::Fail;
+
+    #[test]
+    fn one_after_another(rt: HostRuntime) -> Result<(), Fail> {
+        let mut world = SplitterWorld::new(rt.alloc(), 2)?;
+        assert_eq!(rt; world.begin(10), Ok(()));
+        for _ in 0..3 {
+            assert_eq!(rt; world.step(10), Ok(None));
+        }
+        assert_eq!(rt; world.step(10), Ok(Some(Way::Stop)));
+        assert_eq!(rt; world.begin(20), Ok(()));
+        assert_eq!(rt; world.step(20), Ok(None));
+        assert_eq!(rt; world.step(20), Ok(Some(Way::Right)));
+        assert_eq!(rt; world.step(20), Err(Refusal::Finished));
+        assert_eq!(rt; world.begin(0), Err(Refusal::ZeroIdentity));
+        assert_eq!(rt; world.begin(20), Err(Refusal::AlreadyBegun));
+        assert_eq!(rt; world.begin(30), Err(Refusal::Full));
+        assert_eq!(rt; world.step(30), Err(Refusal::NotBegun));
+        Ok(())
+    }
+
+    #[test]
+    fn all_four_accesses_interleaved(rt: HostRuntime) -> Result<(), Fail> {
+        let mut world = SplitterWorld::new(rt.alloc(), 2)?;
+        assert_eq!(rt; world.begin(10), Ok(()));
+        assert_eq!(rt; world.begin(20), Ok(()));
+        for _ in 0..3 {
+            assert_eq!(rt; world.step(10), Ok(None));
+            assert_eq!(rt; world.step(20), Ok(None));
+        }
+        assert_eq!(rt; world.step(10), Ok(Some(Way::Down)));
+        assert_eq!(rt; world.step(20), Ok(Some(Way::Stop)));
+        Ok(())
+    }
+
+    #[test]
+    fn ranges_and_want_of_memory(rt: HostRuntime) -> Result<(), Fail> {
+        assert!(rt; matches!(SplitterWorld::new(rt.alloc(), 0), Err(Refusal::OutOfRange)));
+        assert!(rt; SplitterWorld::new(rt.alloc(), 16).is_ok());
+        assert!(rt; matches!(SplitterWorld::new(rt.alloc(), 17), Err(Refusal::OutOfRange)));
+        let mut refused = false;
+        let mut made = false;
+        for size in 0..200 {
+            let heap = LocalHeap::new(rt.alloc(), 8 * size)?;
+            match SplitterWorld::new(&heap, 16) {
+                Ok(_) => made = true,
+                Err(refusal) => {
+                    assert_eq!(rt; refusal, Refusal::NoMemory);
+                    refused = true;
+                }
+            }
+        }
+        assert!(rt; refused && made);
+        Ok(())
+    }
+}

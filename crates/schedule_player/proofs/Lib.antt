@@ -1,0 +1,10 @@
+pub mod HeldLineLemmas
+pub mod NumberLemmas
+pub mod TextLemmas
+pub mod WordLemmas
+pub mod WrittenLemmas
+pub mod ProgressLemmas
+pub mod StandsLemmas
+pub mod PlayedLemmas
+pub mod LawfulLemmas
+pub mod FaultLemmas

@@ -1,0 +1,306 @@
+//! Runs of commands over readers and writers in memory.
+
+use crate::{
+    Config, Event, Fault, MOST_READS, READ_BYTES, Reply, Respond, Summary, Tried, WorldKind, play,
+};
+use linked_list_allocator::LocalHeap;
+use splitter::SplitterWorld;
+use std::alloc::{Allocator, Global};
+use std::io;
+use std::io::{Read, Write};
+use std::test::Fail;
+
+/// Gives at most so many bytes a read, and fails at one call, counted from 1.
+#[derive(Drop)]
+struct Drip<'a> {
+    bytes: &'a [u8],
+    piece: usize,
+    calls: u64,
+    fails_at: u64,
+}
+
+impl Read for Drip<'_> {
+    fn read(&mut self, buf: &mut [u8]) -> io::Result<usize> {
+        self.calls = self.calls.saturating_add(1);
+        if self.calls == self.fails_at {
+            return Err(io::ErrorKind::Other.into());
+        }
+        let count = self.bytes.len().min(self.piece).min(buf.len());
+        let (given, left) = self.bytes.split_at(count);
+        buf[..count].copy_from_slice(given);
+        self.bytes = left;
+        Ok(count)
+    }
+}
+
+/// Takes at most so many bytes a write, and fails at one call, counted from 1, or takes nothing there.
+#[derive(Drop)]
+struct Cup {
+    taken: Vec<u8>,
+    piece: usize,
+    calls: u64,
+    fails_at: u64,
+    takes_nothing: bool,
+}
+
+impl Write for Cup {
+    fn write(&mut self, buf: &[u8]) -> io::Result<usize> {
+        self.calls = self.calls.saturating_add(1);
+        if self.calls == self.fails_at {
+            return if self.takes_nothing {
+                Ok(0)
+            } else {
+                Err(io::ErrorKind::Other.into())
+            };
+        }
+        let count = buf.len().min(self.piece);
+        self.taken.extend_from_slice(&buf[..count])?;
+        Ok(count)
+    }
+
+    fn flush(&mut self) -> io::Result<()> {
+        Ok(())
+    }
+}
+
+fn dripping(bytes: &[u8], piece: usize, fails_at: u64) -> Drip<'_> {
+    Drip {
+        bytes,
+        piece,
+        calls: 0,
+        fails_at,
+    }
+}
+
+fn cup_of(alloc: Global, piece: usize, fails_at: u64, takes_nothing: bool) -> Cup {
+    Cup {
+        taken: Vec::new(alloc),
+        piece,
+        calls: 0,
+        fails_at,
+        takes_nothing,
+    }
+}
+
+/// What a run answers, what was written, and how often the reader and the writer were called.
+#[derive(Drop)]
+struct Played {
+    outcome: Result<Summary, Fault>,
+    text: Vec<u8>,
+    reads: u64,
+    writes: u64,
+}
+
+fn play_by<A: Allocator + Clone>(alloc: A, reader: Drip<'_>, writer: Cup) -> Played {
+    let mut reader = Tried::new(reader);
+    let mut writer = Tried::new(writer);
+    let outcome = match Config::new(WorldKind::Splitter, 2, 4, 1000) {
+        Ok(config) => play(alloc, &mut reader, &mut writer, config),
+        Err(_) => Err(Fault::Memory),
+    };
+    let drip = reader.into_inner();
+    let cup = writer.into_inner();
+    Played {
+        outcome,
+        text: cup.taken,
+        reads: drip.calls,
+        writes: cup.calls,
+    }
+}
+
+const LINES: &[u8] =
+    b"\naaaaaaaaaaaaaaaaaaaaaaaaaaaaaaaaaaaaaaaaaaaaaaaaaaaaaaaaaaaaaaaaaaaaaaaaaaaaaaaaaaaaaaaaaaaaaaaaaaaa\naaaaaaaaaaaaaaaaaaaaaaaaaaaaaaaaaaaaaaaaaaaaaaaaaaaaaaaaaaaaaaaaaaaaaaaaaaaaaaaaaaaaaaaaaaaaaaaaaaaaa\nstep\nstep 07\nSTEP 1\nstep  1\nbegin 18446744073709551616\nstep 1\r\nstep 1";
+
+/// Inputs and the texts that they are answered by, with two participants.
+fn rows() -> [(&'static [u8], &'static [u8]); 6] {
+    [
+        (b"", b""),
+        (
+            b"begin 10\nstep 10\nstep 10\nstep 10\nstep 10\nbegin 20\nstep 20\nstep 20\nstep 20\n",
+            b"ok\nquiet\nquiet\nquiet\nstop\nok\nquiet\nright\nrefused 5\n",
+        ),
+        (
+            b"begin 10\nbegin 20\nstep 10\nstep 20\nstep 10\nstep 20\nstep 10\nstep 20\nstep 10\nstep 20\n",
+            b"ok\nok\nquiet\nquiet\nquiet\nquiet\nquiet\nquiet\ndown\nstop\n",
+        ),
+        (
+            b"enter 5\nstep 9\nbegin 0\nbegin 9\nquit\nbegin 8\n",
+            b"bad 3\nrefused 4\nrefused 1\nok\nok\n",
+        ),
+        (b"begin 7\nquit\nbegin 8", b"ok\nok\n"),
+        (
+            LINES,
+            b"bad 3\nbad 3\nbad 1\nbad 4\nbad 5\nbad 3\nbad 4\nbad 5\nbad 2\nrefused 4\n",
+        ),
+    ]
+}
+
+#[test]
+fn the_text_is_the_same_however_the_bytes_are_cut(rt: HostRuntime) -> Result<(), Fail> {
+    for (input, text) in rows() {
+        for piece in [1, 3, READ_BYTES] {
+            let p = play_by(
+                rt.alloc(),
+                dripping(input, piece, 0),
+                cup_of(rt.alloc(), piece, 0, false),
+            );
+            assert!(rt; p.outcome.is_ok());
+            assert_eq!(rt; p.text.as_slice(), text);
+        }
+    }
+    Ok(())
+}
+
+#[test]
+fn the_summary_counts_each_line(rt: HostRuntime) -> Result<(), Fail> {
+    let counts = [
+        (0, 0, 0, 0),
+        (9, 8, 1, 0),
+        (10, 10, 0, 0),
+        (5, 2, 2, 1),
+        (2, 2, 0, 0),
+        (10, 0, 1, 9),
+    ];
+    for ((input, _), (lines, accepted, refused, bad)) in rows().into_iter().zip(counts) {
+        let p = play_by(
+            rt.alloc(),
+            dripping(input, 7, 0),
+            cup_of(rt.alloc(), 7, 0, false),
+        );
+        let summary = p.outcome?;
+        assert_eq!(rt; summary.lines, lines);
+        assert_eq!(rt; summary.accepted, accepted);
+        assert_eq!(rt; summary.refused, refused);
+        assert_eq!(rt; summary.bad, bad);
+    }
+    Ok(())
+}
+
+#[test]
+fn each_read_fails_once(rt: HostRuntime) -> Result<(), Fail> {
+    for (input, text) in rows() {
+        let calls = play_by(
+            rt.alloc(),
+            dripping(input, 4, 0),
+            cup_of(rt.alloc(), 64, 0, false),
+        )
+        .reads;
+        for fails_at in 1..calls {
+            let p = play_by(
+                rt.alloc(),
+                dripping(input, 4, fails_at),
+                cup_of(rt.alloc(), 64, 0, false),
+            );
+            assert!(rt; matches!(p.outcome, Err(Fault::Read)));
+            assert!(rt; text.starts_with(p.text.as_slice()));
+            assert!(rt; p.text.is_empty() || p.text.ends_with(b"\n".as_slice()));
+        }
+    }
+    let p = play_by(
+        rt.alloc(),
+        dripping(b"begin 7\nstep 7".as_slice(), 64, 2),
+        cup_of(rt.alloc(), 64, 0, false),
+    );
+    assert!(rt; matches!(p.outcome, Err(Fault::Read)));
+    assert_eq!(rt; p.text.as_slice(), b"ok\n".as_slice());
+    Ok(())
+}
+
+#[test]
+fn each_write_fails_once(rt: HostRuntime) -> Result<(), Fail> {
+    for (input, text) in rows() {
+        let calls = play_by(
+            rt.alloc(),
+            dripping(input, 4, 0),
+            cup_of(rt.alloc(), 3, 0, false),
+        )
+        .writes;
+        for takes_nothing in [false, true] {
+            for fails_at in 1..calls {
+                let p = play_by(
+                    rt.alloc(),
+                    dripping(input, 4, 0),
+                    cup_of(rt.alloc(), 3, fails_at, takes_nothing),
+                );
+                assert!(rt; matches!(p.outcome, Err(Fault::Write)));
+                assert!(rt; text.starts_with(p.text.as_slice()) && p.text.len() < text.len());
+            }
+        }
+    }
+    Ok(())
+}
+
+#[test]
+fn each_growth_is_refused_once(rt: HostRuntime) -> Result<(), Fail> {
+    let mut refused = false;
+    let mut done = false;
+    for (input, text) in rows() {
+        for size in 0..70 {
+            let heap = LocalHeap::new(rt.alloc(), 2_048 * size + 16)?;
+            let p = play_by(
+                &heap,
+                dripping(input, 64, 0),
+                cup_of(rt.alloc(), 64, 0, false),
+            );
+            match p.outcome {
+                Ok(_) => {
+                    assert_eq!(rt; p.text.as_slice(), text);
+                    done = true;
+                }
+                Err(fault) => {
+                    assert_eq!(rt; fault, Fault::Memory);
+                    assert_eq!(rt; p.reads, 0);
+                    assert_eq!(rt; p.writes, 0);
+                    refused = true;
+                }
+            }
+        }
+    }
+    assert!(rt; refused && done);
+    Ok(())
+}
+
+#[test]
+fn a_line_of_a_million_bytes_is_bad(rt: HostRuntime) -> Result<(), Fail> {
+    let input = vec![in rt.alloc(); b'a'; 1_000_000]?;
+    let p = play_by(
+        rt.alloc(),
+        dripping(input.as_slice(), 1, 0),
+        cup_of(rt.alloc(), 64, 0, false),
+    );
+    assert!(rt; p.outcome.is_ok());
+    assert_eq!(rt; p.text.as_slice(), b"bad 1\n".as_slice());
+    Ok(())
+}
+
+/// One event through the bound.
+fn answered<D: Respond>(table: &mut D, event: Event) -> Reply {
+    table.respond(event)
+}
+
+#[test]
+fn a_world_answers_through_its_bound(rt: HostRuntime) -> Result<(), Fail> {
+    let mut world = SplitterWorld::new(rt.alloc(), 1)?;
+    assert_eq!(rt; answered(&mut world, Event::Begin(3)), Reply::Ok);
+    assert_eq!(rt; answered(&mut world, Event::Step(3)), Reply::Quiet);
+    assert!(rt; MOST_READS == 1 << 40);
+    Ok(())
+}
+
+#[test]
+fn configs_are_in_range(rt: HostRuntime) {
+    let kind = WorldKind::Splitter;
+    for (m, k, limit) in [(1, 1, 1), (16, 64, 1_000_000)] {
+        assert!(rt; Config::new(kind, m, k, limit).is_ok());
+    }
+    for (m, k, limit) in [
+        (0, 1, 1),
+        (17, 1, 1),
+        (1, 0, 1),
+        (1, 65, 1),
+        (1, 1, 0),
+        (1, 1, 1_000_001),
+    ] {
+        assert!(rt; Config::new(kind, m, k, limit).is_err());
+    }
+}
