@@ -1,0 +1,50 @@
+-- what clap's answer tells of the words
+use Rattle.std.proofs.Common.{ap, sym, ◌≡◌, ◌⊎◌, ◌||◌, ◌∙◌, inl, inr, ℕ, List, [], ◌∷◌, Bool, true, false, refl}
+use Rattle.std.specs.List.{list_any}
+use Rattle.clap.specs.Words.{IsAmong, Kinds}
+use Rattle.clap.specs.Faults.{is_simple_and_free}
+use Rattle.clap.specs.Simple.{is_simple}
+use Rattle.clap.specs.declared.error.kind.ErrorKind.{ErrorKind}
+use Rattle.clap.specs.declared.error.kind.ErrorKind.TheVariants.{OutOfMemory}
+use Rattle.clap.proofs.OnLiterals.{clap_on_literals}
+use Rattle.slotctl.specs.declared.asked.Ask.{Ask}
+use Rattle.slotctl.specs.declared.misuse.Misuse.{Misuse}
+use Rattle.slotctl.specs.declared.misuse.Misuse.TheVariants.{Help, Words, Memory}
+use Rattle.slotctl.specs.CommandLine.{slotctl_app}
+use Rattle.slotctl.specs.Asked.{AsksFor, IsMisuse, IsMisuseOf, IsRefusal, is_help, is_refusal}
+
+pub app_is_simple : is_simple slotctl_app ≡ true
+unfolding clap_on_literals
+app_is_simple = refl
+
+pub app_is_free : is_simple_and_free slotctl_app ≡ true
+unfolding clap_on_literals
+app_is_free = refl
+
+or_true : (b : Bool) → (b || true) ≡ true
+or_true true = refl
+or_true false = refl
+
+-- one of the kinds passes a test that this kind passes
+any_among : (test : ErrorKind → Bool) (k : ErrorKind) (ks : Kinds) → IsAmong k ks → test k ≡ true → list_any test ks ≡ true
+any_among test k [] among passes = elim among [ ]
+any_among test k (x ∷ xs) (inl same) passes = ap (λ b. b || list_any test xs) (ap test (sym same) ∙ passes)
+any_among test k (x ∷ xs) (inr among) passes = ap (λ b. test x || b) (any_among test k xs among passes) ∙ or_true (test x)
+
+-- an error of a kind that clap may give, or for want of memory, is told as a misuse of the words
+pub told : (words : List (List ℕ)) (kinds : Kinds) (k : ErrorKind) (u : Misuse) → (k ≡ OutOfMemory) ⊎ IsAmong k kinds → IsMisuseOf k u → IsMisuse words kinds u
+told words kinds k Memory of is = tt
+told words kinds k (Help text) (inl none) is =
+    let bad : false ≡ true = rw none at is in
+    cc
+told words kinds k (Help text) (inr among) is = any_among is_help k kinds among is
+told words kinds k (Words text) (inl none) is =
+    let bad : false ≡ true = rw none at is in
+    cc
+told words kinds k (Words text) (inr among) is = inl (any_among is_refusal k kinds among is)
+
+-- words that clap takes, and that ask for nothing, are refused
+pub refused : (words : List (List ℕ)) (kinds : Kinds) (u : Misuse) → IsRefusal u → kinds ≡ [] → ((a : Ask) → AsksFor words a → ⊥) → IsMisuse words kinds u
+refused words kinds Memory is none never = tt
+refused words kinds (Help text) is none never = elim is [ ]
+refused words kinds (Words text) is none never = inr (none, never)

@@ -1,0 +1,12 @@
+use Rattle.std.proofs.Common.{rules, ap, ap₂, codes, true, ◌≡◌, ◌∙◌}
+use Rattle.std.proofs.lemmas.Result.{IfOk-weaker}
+use Rattle.clap.specs.Words.{App, app_of, new_app, with_subcommand}
+use Rattle.clap.specs.Simple.{app_of_fields, on_top}
+use Rattle.slotctl.proofs.command_line.slotctl_command.Goals as goal
+
+pub returns : goal.returns
+returns c =
+    let about_is : app_of c.about.result ≡ new_app (codes "slotctl") = ap app_of_fields c.about.ensures ∙ c.new.ensures.app in
+    let required_is : app_of c.subcommand_required.result ≡ on_top (λ s. record s { subcommand_required = true }) (new_app (codes "slotctl")) =
+    ap app_of_fields c.subcommand_required.ensures ∙ ap (on_top (λ s. record s { subcommand_required = true })) about_is in
+    IfOk-weaker c.subcommand.result _ _ (λ r h. h.shape c.in_ok-play.ensures.local ∙ ap₂ with_subcommand required_is (ap (λ (a : App). a.top) c.in_ok-play.ensures.app)) c.subcommand.ensures

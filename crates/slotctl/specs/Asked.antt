@@ -1,0 +1,82 @@
+-- what words ask for
+use Rattle.std.specs.Prelude.{◌≡◌, ◌⊎◌, ◌&&◌, ℕ, Bool, true, false, not, ⊤, List, [], ◌∷◌, Option, Some, None, option_and_then, codes, if◌then◌else◌}
+use Rattle.std.specs.Prelude.{Result, Ok, Err}
+use Rattle.std.specs.Str.{bytes_eq}
+use Rattle.std.specs.Str.Parse.{IsNumeral, digits_value, without_leading_plus}
+use Rattle.std.specs.List.{list_any}
+use Rattle.clap.specs.Words.{Kinds, Row, first_of, one_of, subcommand_of}
+use Rattle.clap.specs.Faults.{fault_of}
+use Rattle.clap.specs.declared.error.kind.ErrorKind.{ErrorKind}
+use Rattle.clap.specs.declared.error.kind.ErrorKind.TheVariants.{DisplayHelp, DisplayHelpOnMissingArgumentOrSubcommand, OutOfMemory}
+use Rattle.schedule_player.specs.Ranges.{IsConfigRange}
+use Rattle.schedule_player.specs.declared.config.Config.{Config}
+use Rattle.schedule_player.specs.declared.config.WorldKind.{WorldKind}
+use Rattle.schedule_player.specs.declared.config.WorldKind.TheVariants.{Splitter}
+use Rattle.slotctl.specs.CommandLine.{slotctl_app}
+use Rattle.slotctl.specs.declared.asked.Ask.{Ask}
+use Rattle.slotctl.specs.declared.misuse.Misuse.{Misuse}
+use Rattle.slotctl.specs.declared.misuse.Misuse.TheVariants.{Help, Words, Memory}
+
+-- the world of a name
+abbrev pub world_named : List ℕ → Option WorldKind
+world_named name = if bytes_eq name (codes "splitter") then Some Splitter else None
+
+-- the text is decimal digits of this number, and a plus may stand first
+abbrev pub WritesNumber : List ℕ → ℕ → Type 0
+WritesNumber text n = IsNumeral 10 (without_leading_plus text) × (digits_value 10 (without_leading_plus text) ≡ n)
+
+-- an option's value among what clap matched is a text of this number
+abbrev pub HasNumber : List Row → List ℕ → ℕ → Type 0
+HasNumber rows id n = (text : List ℕ) × (one_of id rows ≡ Some text) × WritesNumber text n
+
+-- the config that the options of `play` give: the world's name and the number of participants as clap matched them, the
+-- defaults of what cannot be chosen, and each number in its range
+pub record IsConfigOf (rows : List Row) (c : Config) : Type 0 where
+  pub world : option_and_then world_named (first_of (codes "world") rows) ≡ Some c.world
+  pub m : HasNumber rows (codes "m") c.m
+  pub k : c.k ≡ 4
+  pub limit : c.limit ≡ 1000
+  pub range : IsConfigRange c.m c.k c.limit
+
+-- the subcommand that clap met, with what it matched there, asks for this
+abbrev pub IsAsked : Option (List ℕ × List Row) → Ask → Type 0
+IsAsked met a = (rows : List Row) × (met ≡ Some (codes "play", rows)) × IsConfigOf rows a.config
+
+-- the words ask for this: its options are those that clap matched in the words, or the defaults
+abbrev pub AsksFor : List (List ℕ) → Ask → Type 0
+AsksFor words a = IsAsked (subcommand_of slotctl_app words) a
+
+-- clap answers with help
+abbrev pub is_help : ErrorKind → Bool
+is_help DisplayHelp = true
+is_help DisplayHelpOnMissingArgumentOrSubcommand = true
+is_help _ = false
+
+-- clap refuses the words
+abbrev pub is_refusal : ErrorKind → Bool
+is_refusal OutOfMemory = false
+is_refusal kind = not (is_help kind)
+
+-- an error of this kind is told so
+abbrev pub IsMisuseOf : ErrorKind → Misuse → Type 0
+IsMisuseOf kind (Help text) = is_help kind ≡ true
+IsMisuseOf kind (Words text) = is_refusal kind ≡ true
+IsMisuseOf kind Memory = ⊤
+
+-- the words are refused, where memory is given
+abbrev pub IsRefusal : Misuse → Type 0
+IsRefusal (Help text) = ⊥
+IsRefusal (Words text) = ⊤
+IsRefusal Memory = ⊤
+
+-- the words are misused so, where clap answers with one of these kinds of error, or with none: they ask for help; or clap
+-- refuses them, or what it matched asks for nothing. Memory may be wanting at any words
+abbrev pub IsMisuse : List (List ℕ) → Kinds → Misuse → Type 0
+IsMisuse words kinds (Help text) = list_any is_help kinds ≡ true
+IsMisuse words kinds (Words text) = (list_any is_refusal kinds ≡ true) ⊎ ((kinds ≡ []) × ((a : Ask) → AsksFor words a → ⊥))
+IsMisuse words kinds Memory = ⊤
+
+-- what is answered to words, where clap answers with one of these kinds of error, or with none
+abbrev pub IsAnswer : List (List ℕ) → Kinds → Result Ask Misuse → Type 0
+IsAnswer words kinds (Ok a) = (kinds ≡ []) × AsksFor words a
+IsAnswer words kinds (Err u) = IsMisuse words kinds u

@@ -1,0 +1,12 @@
+-- the status of the program (this project's profile)
+use Rattle.std.specs.Prelude.{ℕ}
+use Rattle.slotctl.specs.declared.failure.Failure.{Failure}
+use Rattle.slotctl.specs.declared.failure.Failure.TheVariants as failure
+use Rattle.slotctl.specs.declared.misuse.Misuse.TheVariants.{Help, Words, Memory}
+
+-- 0 for help, 2 for words that are refused, and 3 for a fault or want of memory
+abbrev pub status_of : Failure → ℕ
+status_of (failure.Misuse (Help text)) = 0
+status_of (failure.Misuse (Words text)) = 2
+status_of (failure.Misuse Memory) = 3
+status_of (failure.Fault fault) = 3

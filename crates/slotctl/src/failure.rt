@@ -1,0 +1,33 @@
+//! Why the program did not do what it was asked.
+
+ghost use Rattle.std.specs.Prelude.{◌≡◌};
+ghost use Rattle.slotctl.specs.Statuses.{status_of};
+
+use crate::misuse::Misuse;
+use schedule_player::Fault;
+use thiserror::Error;
+
+/// Why the program did nothing, or did not come to its end. Its `Display` is the text for the user.
+#[derive(Debug, Drop, Error)]
+pub enum Failure {
+    /// The words of its command line ask for nothing that is done.
+    #[error("{0}")]
+    Misuse(#[from] Misuse),
+    /// A fault of the input, of the output or of memory.
+    #[error("slotctl: {0}\n")]
+    Fault(#[from] Fault),
+}
+
+impl Failure {
+    /// The status of the program: 0 for help, 2 for words that are refused, and 3 for a fault or want of memory.
+    pub fn status(&self) -> u8
+        ensures { result ≡ status_of self.now }
+    {
+        match self {
+            Failure::Misuse(Misuse::Help(_)) => 0,
+            Failure::Misuse(Misuse::Words(_)) => 2,
+            Failure::Misuse(Misuse::Memory) => 3,
+            Failure::Fault(_) => 3,
+        }
+    }
+}
