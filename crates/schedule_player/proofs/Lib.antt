@@ -1,6 +1,5 @@
 pub mod HeldLineLemmas
 pub mod NumberLemmas
-pub mod TextLemmas
 pub mod WordLemmas
 pub mod WrittenLemmas
 pub mod ProgressLemmas

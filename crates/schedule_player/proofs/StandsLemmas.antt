@@ -29,6 +29,7 @@ one_each (Ok reply.Quiet) = refl
 one_each (Ok reply.Stop) = refl
 one_each (Ok reply.Right) = refl
 one_each (Ok reply.Down) = refl
+one_each (Ok (reply.Place place)) = refl
 one_each (Ok (reply.Refused refusal)) = refl
 one_each (Err bad) = refl
 

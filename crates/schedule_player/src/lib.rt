@@ -1,4 +1,20 @@
 //! The command language, and runs of it: lines of text in, replies out.
+//!
+//! `play` reads the commands that a reader gives, a line each, has a world answer them, and writes the replies, a line
+//! each. Its theorem: for every reader and writer that tell their bytes, the text that the writer gains is the text of the
+//! answers to the lines of the input, whole, however the bytes were cut; and these answers are the replies of one list of
+//! calls that keeps the law of the world. What a read fault, a write fault and want of memory leave is said too.
+//!
+//! A caller:
+//!
+//! ```text
+//! let config = Config::new(WorldKind::Splitter, 2, 4, 1000)?;
+//! let mut reader = Tried::new(b"begin 10\nstep 10\n".as_slice());
+//! let mut writer = Tried::new(Vec::new(alloc));
+//! let summary = play(alloc, &mut reader, &mut writer, config)?;
+//! summary.accepted;                       // 2
+//! writer.into_inner();                    // ok, quiet
+//! ```
 #![tactic(auto)]
 
 pub mod bad;
@@ -6,6 +22,7 @@ pub mod command;
 pub mod config;
 pub mod event;
 pub mod fault;
+mod grid_table;
 pub mod line_buffer;
 pub mod parse;
 mod player;

@@ -15,6 +15,7 @@ use crate::sink::Sink;
 use crate::source::Source;
 use crate::summary::Summary;
 use splitter::SplitterWorld;
+use splitter_grid::GridWorld;
 use std::alloc::Allocator;
 
 /// The most bytes that are asked for in one read.
@@ -58,6 +59,10 @@ pub fn play<A: Allocator + Clone, R: Source, W: Sink>(
     };
     match config.world {
         WorldKind::Splitter => match SplitterWorld::new(other, config.m as usize) {
+            Ok(world) => play_on(alloc, world, config.world, reader, writer),
+            Err(_) => Err(Fault::Memory),
+        },
+        WorldKind::Grid => match GridWorld::new(other, config.m as usize) {
             Ok(world) => play_on(alloc, world, config.world, reader, writer),
             Err(_) => Err(Fault::Memory),
         },

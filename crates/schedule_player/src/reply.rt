@@ -1,5 +1,6 @@
 //! What is answered to a command.
 
+use splitter_grid::Place;
 use step_memory::Refusal;
 
 /// What is answered to a command.
@@ -15,6 +16,8 @@ pub enum Reply {
     Right,
     /// The visit ended: `down`.
     Down,
+    /// The walk ended at this place: `place P`.
+    Place(Place),
     /// Refused, with nothing changed: `refused N`.
     Refused(Refusal),
 }

@@ -5,6 +5,7 @@ use crate::{
 };
 use linked_list_allocator::LocalHeap;
 use splitter::SplitterWorld;
+use splitter_grid::GridWorld;
 use std::alloc::{Allocator, Global};
 use std::io;
 use std::io::{Read, Write};
@@ -92,9 +93,19 @@ struct Played {
 }
 
 fn play_by<A: Allocator + Clone>(alloc: A, reader: Drip<'_>, writer: Cup) -> Played {
+    play_in(WorldKind::Splitter, 2, alloc, reader, writer)
+}
+
+fn play_in<A: Allocator + Clone>(
+    world: WorldKind,
+    m: u64,
+    alloc: A,
+    reader: Drip<'_>,
+    writer: Cup,
+) -> Played {
     let mut reader = Tried::new(reader);
     let mut writer = Tried::new(writer);
-    let outcome = match Config::new(WorldKind::Splitter, 2, 4, 1000) {
+    let outcome = match Config::new(world, m, 4, 1000) {
         Ok(config) => play(alloc, &mut reader, &mut writer, config),
         Err(_) => Err(Fault::Memory),
     };
@@ -273,6 +284,40 @@ fn a_line_of_a_million_bytes_is_bad(rt: HostRuntime) -> Result<(), Fail> {
     Ok(())
 }
 
+/// Inputs in a grid for two participants, and the texts that they are answered by.
+fn grid_rows() -> [(u64, &'static [u8], &'static [u8]); 2] {
+    [
+        (
+            3,
+            b"begin 10\nbegin 20\nbegin 30\nstep 10\nstep 10\nstep 10\nstep 10\nstep 20\nstep 20\nstep 20\nstep 20\nstep 20\nstep 20\nstep 30\nstep 30\nstep 30\nstep 30\nstep 30\nstep 30\nstep 30\nstep 30\nstep 30\n",
+            b"ok\nok\nok\nquiet\nquiet\nquiet\nplace 0\nquiet\nquiet\nquiet\nquiet\nquiet\nplace 1\nquiet\nquiet\nquiet\nquiet\nquiet\nquiet\nquiet\nplace 3\nrefused 5\n",
+        ),
+        (
+            2,
+            b"begin 10\nbegin 20\nstep 10\nstep 10\nstep 10\nstep 20\nstep 20\nstep 20\nstep 20\nstep 20\nstep 20\nstep 10\nstep 10\nstep 10\nstep 10\nstep 10\n",
+            b"ok\nok\nquiet\nquiet\nquiet\nquiet\nquiet\nquiet\nquiet\nquiet\nplace 1\nquiet\nquiet\nquiet\nquiet\nplace 2\n",
+        ),
+    ]
+}
+
+#[test]
+fn walks_in_a_grid_end_at_places(rt: HostRuntime) -> Result<(), Fail> {
+    for (m, input, text) in grid_rows() {
+        for piece in [1, READ_BYTES] {
+            let p = play_in(
+                WorldKind::Grid,
+                m,
+                rt.alloc(),
+                dripping(input, piece, 0),
+                cup_of(rt.alloc(), piece, 0, false),
+            );
+            assert!(rt; p.outcome.is_ok());
+            assert_eq!(rt; p.text.as_slice(), text);
+        }
+    }
+    Ok(())
+}
+
 /// One event through the bound.
 fn answered<D: Respond>(table: &mut D, event: Event) -> Reply {
     table.respond(event)
@@ -281,6 +326,9 @@ fn answered<D: Respond>(table: &mut D, event: Event) -> Reply {
 #[test]
 fn a_world_answers_through_its_bound(rt: HostRuntime) -> Result<(), Fail> {
     let mut world = SplitterWorld::new(rt.alloc(), 1)?;
+    assert_eq!(rt; answered(&mut world, Event::Begin(3)), Reply::Ok);
+    assert_eq!(rt; answered(&mut world, Event::Step(3)), Reply::Quiet);
+    let mut world = GridWorld::new(rt.alloc(), 1)?;
     assert_eq!(rt; answered(&mut world, Event::Begin(3)), Reply::Ok);
     assert_eq!(rt; answered(&mut world, Event::Step(3)), Reply::Quiet);
     assert!(rt; MOST_READS == 1 << 40);

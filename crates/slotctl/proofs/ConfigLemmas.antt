@@ -1,5 +1,5 @@
 -- when no config has the matched options
-use Rattle.std.proofs.Common.{ap, sym, subst, rules, arith, ◌≡◌, ◌∙◌, ◌<◌, ◌≤◌, ◌^◌, ℕ, List, [], ◌∷◌, Option, Some, None, Result, Ok, Err, IfOk, IsOk, ◌↔◌, MatchOption, OkIff, option_map, codes, refl, true, false}
+use Rattle.std.proofs.Common.{ap, sym, subst, arith, ◌≡◌, ◌∙◌, ◌<◌, ◌^◌, ℕ, List, Option, Some, None, Result, Ok, Err, IfOk, IsOk, ◌↔◌, MatchOption, codes, refl, true, false}
 use Rattle.std.specs.Prelude.{option_and_then}
 use Rattle.std.specs.Str.Parse.{ParsesUnsigned, digits_value, without_leading_plus}
 use Rattle.clap.specs.Words.{ReadsOne, Row, first_of, one_of}
@@ -9,7 +9,7 @@ use Rattle.schedule_player.specs.Ranges.{IsConfigRange}
 use Rattle.step_memory.specs.declared.refusal.Refusal.{Refusal}
 use Rattle.schedule_player.specs.declared.config.Config.{Config}
 use Rattle.schedule_player.specs.declared.config.WorldKind.{WorldKind}
-use Rattle.slotctl.specs.Asked.{HasNumber, IsConfigOf, WritesNumber, world_named}
+use Rattle.slotctl.specs.Asked.{HasNumber, IsConfigOf, world_named}
 
 pub unless_some : {T : Type 0} (o : Option T) (P : Type 0) (Q : T → Type 0) → o ≡ None → P → MatchOption o P Q
 unless_some o P Q e p = subst (λ w. MatchOption w P Q) (sym e) p

@@ -1,17 +1,16 @@
 -- what words ask for
-use Rattle.std.specs.Prelude.{◌≡◌, ◌⊎◌, ◌&&◌, ℕ, Bool, true, false, not, ⊤, List, [], ◌∷◌, Option, Some, None, option_and_then, codes, if◌then◌else◌}
+use Rattle.std.specs.Prelude.{◌≡◌, ◌⊎◌, ℕ, Bool, true, false, not, ⊤, List, [], Option, Some, None, option_and_then, codes, if◌then◌else◌}
 use Rattle.std.specs.Prelude.{Result, Ok, Err}
 use Rattle.std.specs.Str.{bytes_eq}
 use Rattle.std.specs.Str.Parse.{IsNumeral, digits_value, without_leading_plus}
 use Rattle.std.specs.List.{list_any}
 use Rattle.clap.specs.Words.{Kinds, Row, first_of, one_of, subcommand_of}
-use Rattle.clap.specs.Faults.{fault_of}
 use Rattle.clap.specs.declared.error.kind.ErrorKind.{ErrorKind}
 use Rattle.clap.specs.declared.error.kind.ErrorKind.TheVariants.{DisplayHelp, DisplayHelpOnMissingArgumentOrSubcommand, OutOfMemory}
 use Rattle.schedule_player.specs.Ranges.{IsConfigRange}
 use Rattle.schedule_player.specs.declared.config.Config.{Config}
 use Rattle.schedule_player.specs.declared.config.WorldKind.{WorldKind}
-use Rattle.schedule_player.specs.declared.config.WorldKind.TheVariants.{Splitter}
+use Rattle.schedule_player.specs.declared.config.WorldKind.TheVariants.{Splitter, Grid}
 use Rattle.slotctl.specs.CommandLine.{slotctl_app}
 use Rattle.slotctl.specs.declared.asked.Ask.{Ask}
 use Rattle.slotctl.specs.declared.misuse.Misuse.{Misuse}
@@ -19,7 +18,10 @@ use Rattle.slotctl.specs.declared.misuse.Misuse.TheVariants.{Help, Words, Memory
 
 -- the world of a name
 abbrev pub world_named : List ℕ → Option WorldKind
-world_named name = if bytes_eq name (codes "splitter") then Some Splitter else None
+world_named name =
+    if bytes_eq name (codes "splitter") then Some Splitter
+    else if bytes_eq name (codes "grid") then Some Grid
+    else None
 
 -- the text is decimal digits of this number, and a plus may stand first
 abbrev pub WritesNumber : List ℕ → ℕ → Type 0

@@ -18,7 +18,7 @@ fn world_option<'a>(alloc: Global) -> Arg<'a>
         .action(ArgAction::Set)
         .required(true)
         .value_name("NAME")
-        .help("what is played: splitter")
+        .help("what is played: splitter or grid")
 }
 
 // `--m NUMBER`.

@@ -10,11 +10,10 @@ mod asked;
 mod command_line;
 mod failure;
 mod misuse;
-mod words;
-mod working;
-
 #[cfg(test)]
 mod tests;
+mod words;
+mod working;
 
 use failure::Failure;
 use misuse::Misuse;

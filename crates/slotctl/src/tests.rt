@@ -18,19 +18,45 @@ fn participants(alloc: Global, words: &[&str]) -> Result<u64, Misuse> {
 #[test]
 fn options_are_read(rt: HostRuntime) -> Result<(), Fail> {
     let alloc = rt.alloc();
-    assert_eq!(rt; participants(alloc, &["slotctl", "play", "--world", "splitter"])?, 4);
-    assert_eq!(rt; participants(alloc, &["slotctl", "play", "--m=2", "--world=splitter"])?, 2);
+    assert_eq!(rt;
+        participants(alloc, &["slotctl", "play", "--world", "splitter"])?,
+        4
+    );
+    assert_eq!(rt;
+        participants(alloc, &["slotctl", "play", "--m=2", "--world=splitter"])?,
+        2
+    );
     for (text, m) in [("1", 1), ("16", 16), ("+4", 4), ("04", 4)] {
-        assert_eq!(rt; participants(alloc, &["slotctl", "play", "--world", "splitter", "--m", text])?, m, "at {text}");
+        assert_eq!(rt;
+            participants(
+                alloc,
+                &["slotctl", "play", "--world", "splitter", "--m", text]
+            )?,
+            m,
+            "at {text}"
+        );
     }
     Ok(())
 }
 
 #[test]
 fn numbers_are_refused(rt: HostRuntime) {
-    for text in ["0", "17", "-1", "", " 4", "4 ", "four", "0x4", "18446744073709551617"] {
+    for text in [
+        "0",
+        "17",
+        "-1",
+        "",
+        " 4",
+        "4 ",
+        "four",
+        "0x4",
+        "18446744073709551617",
+    ] {
         let words = ["slotctl", "play", "--world", "splitter", "--m", text];
-        assert!(rt; matches!(ask(rt.alloc(), words.as_slice()), Err(Misuse::Words(_))), "at {text}");
+        assert!(rt;
+            matches!(ask(rt.alloc(), words.as_slice()), Err(Misuse::Words(_))),
+            "at {text}"
+        );
     }
 }
 
@@ -51,8 +77,22 @@ fn words_are_refused(rt: HostRuntime) {
     assert!(rt; is_refused(alloc, &["slotctl", "play", "--world"]));
     assert!(rt; is_refused(alloc, &["slotctl", "play", "--world", "ring"]));
     assert!(rt; is_refused(alloc, &["slotctl", "play", "--world", "Splitter"]));
-    assert!(rt; is_refused(alloc, &["slotctl", "play", "--world", "splitter", "--world", "splitter"]));
-    assert!(rt; is_refused(alloc, &["slotctl", "play", "--world", "splitter", "--m", "2", "--m", "2"]));
+    assert!(rt;
+        is_refused(
+            alloc,
+            &[
+                "slotctl", "play", "--world", "splitter", "--world", "splitter"
+            ]
+        )
+    );
+    assert!(rt;
+        is_refused(
+            alloc,
+            &[
+                "slotctl", "play", "--world", "splitter", "--m", "2", "--m", "2"
+            ]
+        )
+    );
     assert!(rt; is_refused(alloc, &["slotctl", "play", "--world", "splitter", "2"]));
     assert!(rt; is_refused(alloc, &["slotctl", "play", "--k", "2", "--help"]));
 }
@@ -71,8 +111,20 @@ fn help_is_shown(rt: HostRuntime) {
     assert!(rt; shows_usage(alloc, &["slotctl", "--help"], "Usage: slotctl <COMMAND>\n"));
     assert!(rt; shows_usage(alloc, &["slotctl", "-h"], "Usage: slotctl <COMMAND>\n"));
     assert!(rt; shows_usage(alloc, &["slotctl", "help"], "Usage: slotctl <COMMAND>\n"));
-    assert!(rt; shows_usage(alloc, &["slotctl", "play", "--help"], "Usage: slotctl play [OPTIONS] --world <NAME>\n"));
-    assert!(rt; shows_usage(alloc, &["slotctl", "play", "--m", "3", "--help"], "--m <NUMBER>"));
+    assert!(rt;
+        shows_usage(
+            alloc,
+            &["slotctl", "play", "--help"],
+            "Usage: slotctl play [OPTIONS] --world <NAME>\n"
+        )
+    );
+    assert!(rt;
+        shows_usage(
+            alloc,
+            &["slotctl", "play", "--m", "3", "--help"],
+            "--m <NUMBER>"
+        )
+    );
 }
 
 #[test]
@@ -96,7 +148,11 @@ fn failures_are_told(rt: HostRuntime) -> Result<(), Fail> {
 }
 
 // What is done for the words over this input, and what is written.
-fn done(alloc: Global, words: &[&str], input: &[u8]) -> Result<(Result<u8, Fault>, Vec<u8>), Misuse> {
+fn done(
+    alloc: Global,
+    words: &[&str],
+    input: &[u8],
+) -> Result<(Result<u8, Fault>, Vec<u8>), Misuse> {
     let asked = ask(alloc, words)?;
     let mut reader = Tried::new(input);
     let mut writer = Tried::new(Vec::new(alloc));
@@ -113,7 +169,10 @@ fn commands_are_played(rt: HostRuntime) -> Result<(), Fail> {
             b"begin 10\nbegin 20\nstep 10\nstep 20\nstep 10\nstep 20\nstep 10\nstep 20\nstep 10\nstep 20\n",
             b"ok\nok\nquiet\nquiet\nquiet\nquiet\nquiet\nquiet\ndown\nstop\n",
         ),
-        (b"enter 5\nstep 9\nbegin 0\nbegin 9\nquit\nbegin 8\n", b"bad 3\nrefused 4\nrefused 1\nok\nok\n"),
+        (
+            b"enter 5\nstep 9\nbegin 0\nbegin 9\nquit\nbegin 8\n",
+            b"bad 3\nrefused 4\nrefused 1\nok\nok\n",
+        ),
         (b"begin 7\nquit\nbegin 8", b"ok\nok\n"),
     ];
     for (input, text) in rows {
@@ -180,7 +239,10 @@ impl Write for Full {
 #[test]
 fn a_write_fault_ends_the_run(rt: HostRuntime) -> Result<(), Fail> {
     let alloc = rt.alloc();
-    let asked = ask(alloc, &["slotctl", "play", "--world", "splitter", "--m", "2"])?;
+    let asked = ask(
+        alloc,
+        &["slotctl", "play", "--world", "splitter", "--m", "2"],
+    )?;
     let mut reader = Tried::new(b"begin 7\nstep 7\n".as_slice());
     let mut writer = Tried::new(Full {
         taken: Vec::new(alloc),
@@ -188,6 +250,9 @@ fn a_write_fault_ends_the_run(rt: HostRuntime) -> Result<(), Fail> {
     });
     let outcome = work(alloc, asked, &mut reader, &mut writer);
     assert!(rt; matches!(outcome, Err(Fault::Write)));
-    assert_eq!(rt; writer.into_inner().taken.as_slice(), b"ok\nquie".as_slice());
+    assert_eq!(rt;
+        writer.into_inner().taken.as_slice(),
+        b"ok\nquie".as_slice()
+    );
     Ok(())
 }

@@ -29,6 +29,7 @@ fn world_named(name: &str) -> Option<WorldKind>
 {
     match name {
         "splitter" => Some(WorldKind::Splitter),
+        "grid" => Some(WorldKind::Grid),
         _ => None,
     }
 }
@@ -82,7 +83,8 @@ fn misuse_of(alloc: Global, error: &Error) -> Misuse
         return Misuse::Memory;
     };
     match kind {
-        ErrorKind::DisplayHelp | ErrorKind::DisplayHelpOnMissingArgumentOrSubcommand => Misuse::Help(text),
+        ErrorKind::DisplayHelp | ErrorKind::DisplayHelpOnMissingArgumentOrSubcommand =>
+            Misuse::Help(text),
         _ => Misuse::Words(text),
     }
 }
@@ -101,6 +103,9 @@ pub fn ask<S: AsStr>(alloc: Global, words: &[S]) -> Result<Ask, Misuse>
     };
     match asked(&matches) {
         Some(asked) => Ok(asked),
-        None => Err(refused(alloc, "error: no such world, or a number out of its range\n")),
+        None => Err(refused(
+            alloc,
+            "error: no such world, or a number out of its range\n",
+        )),
     }
 }

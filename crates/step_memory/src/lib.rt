@@ -25,10 +25,9 @@ pub mod note;
 pub mod participant;
 pub mod program;
 pub mod refusal;
-pub mod world;
-
 #[cfg(test)]
 mod tests;
+pub mod world;
 
 pub use access::{Access, Answer};
 pub use memory::{Memory, StepMemory};

@@ -48,21 +48,39 @@ fn stepped<P: StepProgram + Drop, S: StepMemory<Reg = P::Reg, Value = P::Value> 
 #[test]
 fn each_call_and_each_refusal(rt: HostRuntime) -> Result<(), Fail> {
     let mut world = World::new(rt.alloc(), Memory::new(rt.alloc(), 3, 2, 2)?, 2)?;
-    assert_eq!(rt; world.begin(0, making(Access::Nothing)), Err(Refusal::ZeroIdentity));
+    assert_eq!(rt;
+        world.begin(0, making(Access::Nothing)),
+        Err(Refusal::ZeroIdentity)
+    );
     assert_eq!(rt; world.begin(10, making(Access::Write(0, 7))), Ok(()));
-    assert_eq!(rt; world.begin(10, making(Access::Nothing)), Err(Refusal::AlreadyBegun));
+    assert_eq!(rt;
+        world.begin(10, making(Access::Nothing)),
+        Err(Refusal::AlreadyBegun)
+    );
     assert_eq!(rt; world.begin(20, making(Access::Read(0))), Ok(()));
-    assert_eq!(rt; world.begin(30, making(Access::Nothing)), Err(Refusal::Full));
-    assert_eq!(rt; world.begin(0, making(Access::Nothing)), Err(Refusal::ZeroIdentity));
+    assert_eq!(rt;
+        world.begin(30, making(Access::Nothing)),
+        Err(Refusal::Full)
+    );
+    assert_eq!(rt;
+        world.begin(0, making(Access::Nothing)),
+        Err(Refusal::ZeroIdentity)
+    );
     assert_eq!(rt; stepped(&mut world, 30), Err(Refusal::NotBegun));
     assert_eq!(rt; world.memory().value(0), 3);
     assert_eq!(rt; stepped(&mut world, 10), Ok(Note::Ended(Answer::Done)));
     assert_eq!(rt; stepped(&mut world, 10), Err(Refusal::Finished));
     assert_eq!(rt; stepped(&mut world, 20), Ok(Note::Ended(Answer::Value(7))));
-    assert_eq!(rt; world.set(30, making(Access::Nothing)), Err(Refusal::NotBegun));
+    assert_eq!(rt;
+        world.set(30, making(Access::Nothing)),
+        Err(Refusal::NotBegun)
+    );
     for was in [false, true] {
         assert_eq!(rt; world.set(10, making(Access::TestAndSet(1))), Ok(()));
-        assert_eq!(rt; stepped(&mut world, 10), Ok(Note::Ended(Answer::WasSet(was))));
+        assert_eq!(rt;
+            stepped(&mut world, 10),
+            Ok(Note::Ended(Answer::WasSet(was)))
+        );
         assert!(rt; world.memory().bit(1));
     }
     assert_eq!(rt; world.set(10, making(Access::Clear(1))), Ok(()));

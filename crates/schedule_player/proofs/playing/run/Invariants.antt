@@ -16,7 +16,7 @@ invariant-loop-reads g l = record {
   capacity : vec_capacity l.player.replies ≡ 65536;
   lines : l.player.summary.lines ≤ 65536 * l.reads;
   reads : g.R.Source.calls l.reader ≡ g.R.Source.calls l.fn.reader + l.reads;
-  writes : g.W.Sink.calls l.writer ≤ g.W.Sink.calls l.fn.writer + 2097152 * l.reads;
+  writes : g.W.Sink.calls l.writer ≤ g.W.Sink.calls l.fn.writer + 4194304 * l.reads;
   unfailed : g.R.Source.failed l.fn.reader ≤ g.R.Source.failed l.reader;
   failures : g.W.Sink.failed l.fn.writer ≤ g.W.Sink.failed l.writer;
 }

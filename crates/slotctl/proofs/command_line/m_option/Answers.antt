@@ -1,4 +1,4 @@
-use Rattle.std.proofs.Common.{rules, ap, codes, pos, ◌≡◌, ◌∷◌, [], ℤ, Some}
+use Rattle.std.proofs.Common.{rules, ap, codes, pos, ◌≡◌, ◌∷◌, [], Some}
 use Rattle.clap.specs.Words.{Rule}
 use Rattle.clap.specs.declared.builder.action.ArgAction.TheVariants.{Set}
 use Rattle.clap.specs.declared.builder.value_parser.ValueParser.TheVariants.{Unsigned}

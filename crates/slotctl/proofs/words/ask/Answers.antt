@@ -1,5 +1,5 @@
 use Rattle.std.proofs.Common.{map, subst, true, [], ◌≡◌}
-use Rattle.clap.specs.Words.{App, HasMatchesOf, kind_of, subcommand_of, subcommand_rows_of}
+use Rattle.clap.specs.Words.{App, HasMatchesOf, kind_of}
 use Rattle.clap.specs.Kinds.{HasKind}
 use Rattle.clap.specs.Faults.{fault_of, is_simple_and_free}
 use Rattle.slotctl.specs.declared.asked.Ask.{Ask}

@@ -1,7 +1,7 @@
-use Rattle.std.proofs.Common.{rules, ap, sym, codes, Some, None, option_map, ◌≡◌, ◌∙◌, ◌^◌, arith, IfOk, Result, Ok, Err, Option, is_some, is_ok}
+use Rattle.std.proofs.Common.{ap, sym, codes, Some, None, ◌≡◌, ◌∙◌}
 use Rattle.std.specs.Prelude.{option_and_then}
 use Rattle.std.specs.Str.Parse.{ExplainsUnsignedError, HasUnsignedDigitsIfOk, ParsesUnsigned}
-use Rattle.clap.specs.Words.{first_of, found_of, one_of, rows_of}
+use Rattle.clap.specs.Words.{first_of, found_of, rows_of}
 use Rattle.clap.proofs.WalkLemmas.{first_value-rows, one_text-rows}
 use Rattle.slotctl.specs.Asked.{world_named}
 use Rattle.slotctl.proofs.ConfigLemmas.{made, no_number, no_world, number_read, unless_some}

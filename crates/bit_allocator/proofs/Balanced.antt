@@ -1,0 +1,263 @@
+-- bits and competitors keep in balance: the argument for the last number
+use Rattle.std.proofs.Common.{◌≡◌, ◌≢◌, ℕ, ◌+◌, ◌-◌, ◌≤◌, ◌<◌, Bool, true, false, not, ◌==◌, nat_le, List, [], ◌∷◌, ◌++◌, Some, None, length, get_or, set, replicate, max, inl, inr, refl, sym, ap, subst, ◌∙◌, arith}
+use Rattle.std.specs.Prelude.{is_some}
+use Rattle.std.proofs.lemmas.List.{get_or-set_same, get_or-set_other, get_or-replicate, length-set, length-append}
+use Rattle.std.proofs.lemmas.Bool.Decides.{eqb_tells, leb_tells, Decides-eqb}
+use Rattle.bit_allocator.specs.declared.competitor.Competitor.{Competitor}
+use Rattle.bit_allocator.specs.declared.stay.Stay.{Stay}
+use Rattle.bit_allocator.specs.declared.stay.Stay.TheVariants.{Seeking, Settled}
+use Rattle.bit_allocator.specs.Stay.{held_at}
+use Rattle.bit_allocator.specs.Competitors.{identities, stay_of, with_stay, without, holds_at}
+use Rattle.bit_allocator.proofs.StayOfLemmas.{stay_of-push, stay_of-with_stay, stay_of-without, identities-with_stay, length-identities}
+use Rattle.bit_allocator.proofs.SetAtLemmas.{set_at-is}
+use Rattle.bit_allocator.proofs.Counts.{one, count, competitor, is_of, holds, seeks, reaches, number_of, count-push, count-with_stay, count-without, count-one, count-absent, count-length, length-filter, reaches-split}
+
+-- a search is within the bits, or at 1 where there are none; and what is held is within the pool
+abbrev pub IsPlaced : ℕ → Stay → Type 0
+IsPlaced size (Seeking next) = (1 ≤ next) × (next ≤ max 1 (size - 1))
+IsPlaced size (Settled number) = (1 ≤ number) × (number ≤ size)
+
+-- Each bit is set where its number is held, by one. Of those who hold number i or a larger one, or whose next probe is
+-- there, there are no more than numbers from i on: so whoever misses the last bit finds the last number free
+pub record IsBalanced (size : ℕ) (bits : List Bool) (cs : List Competitor) : Type 0 where
+  pub first : 1 ≤ size
+  pub last : size ≤ 64
+  pub room : length bits ≡ 65
+  pub held : (i : ℕ) → i < size → one (get_or bits i false) ≡ count (holds i) cs
+  pub crowd : length cs ≤ size
+  pub reach : (i : ℕ) → 1 ≤ i → i ≤ size → count (reaches i) cs + i ≤ size + 1
+  pub apart : (p : ℕ) → count (is_of p) cs ≤ 1
+  pub placed : (p : ℕ) (stay : Stay) → stay_of p cs ≡ Some stay → IsPlaced size stay
+
+pub balanced_fresh : (size : ℕ) → 1 ≤ size → size ≤ 64 → IsBalanced size (replicate 65 false) []
+balanced_fresh size first last = record {
+  first = first;
+  last = last;
+  room = refl;
+  held = λ i h. let lt : i < 65 = omega arith in ap one (get_or-replicate 65 i false false lt);
+  crowd = omega arith;
+  reach = λ i h k. omega arith;
+  apart = λ p. omega arith;
+  placed = λ p stay h. absurd (cc);
+}
+
+-- one more, at its first probe
+pub balanced_entered : (size : ℕ) (bits : List Bool) (cs : List Competitor) (id : ℕ) → IsBalanced size bits cs → stay_of id cs ≡ None → length cs < size → IsBalanced size bits (cs ++ competitor id (Seeking 1) ∷ [])
+balanced_entered size bits cs id b absent room =
+    let new : Competitor = competitor id (Seeking 1) in
+    record {
+      first = b.first;
+      last = b.last;
+      room = b.room;
+      held = λ i h. let pushed : count (holds i) (cs ++ new ∷ []) ≡ count (holds i) cs + 0 = count-push (holds i) cs new in omega (arith, b.held i h);
+      crowd = omega (arith, length-append cs (new ∷ []));
+      reach = λ i h k. elim (leb_tells i 1) [
+        | inl w ↦
+            let pushed : count (reaches i) (cs ++ new ∷ []) ≡ count (reaches i) cs + 1 = rw w.0 at (count-push (reaches i) cs new) in
+            omega (arith, count-length (reaches i) cs)
+        | inr w ↦
+            let pushed : count (reaches i) (cs ++ new ∷ []) ≡ count (reaches i) cs + 0 = rw w.0 at (count-push (reaches i) cs new) in
+            omega (arith, b.reach i h k)
+      ];
+      apart = λ p. elim (eqb_tells id p) [
+        | inl w ↦
+            let pushed : count (is_of p) (cs ++ new ∷ []) ≡ count (is_of p) cs + 1 = rw w.0 at (count-push (is_of p) cs new) in
+            let none : count (is_of p) cs ≡ 0 = count-absent cs p (rw w.1 at absent) in
+            omega arith
+        | inr w ↦
+            let pushed : count (is_of p) (cs ++ new ∷ []) ≡ count (is_of p) cs + 0 = rw w.0 at (count-push (is_of p) cs new) in
+            omega (arith, b.apart p)
+      ];
+      placed = λ p stay h. elim (set_at-is (λ v. stay_of v cs) id (Some (Seeking 1)) p (Some stay) (sym (stay_of-push cs new absent p) ∙ h)) [
+        | inl w ↦ let s : Seeking 1 ≡ stay = (let e = w.1 in cc) in subst (λ (x : Stay). IsPlaced size x) s (omega arith, omega arith)
+        | inr w ↦ b.placed p stay w.1
+      ];
+    }
+
+-- a probe of `next` that leaves this state
+pub record IsProbed (size : ℕ) (bits after : List Bool) (cs : List Competitor) (id next : ℕ) (new : Stay) : Type 0 where
+  pub here : stay_of id cs ≡ Some (Seeking next)
+  pub room : length after ≡ 65
+  pub held : (i : ℕ) → i < size → one (get_or after i false) ≡ one (get_or bits i false) + one (holds_at i (held_at new))
+  pub reach : (i : ℕ) → 1 ≤ i → i ≤ size → count (reaches i) cs + one (nat_le i (number_of new)) + i ≤ size + 1 + one (nat_le i next)
+  pub placed : IsPlaced size new
+
+pub balanced_probed : (size : ℕ) (bits after : List Bool) (cs : List Competitor) (id next : ℕ) (new : Stay) → IsBalanced size bits cs → IsProbed size bits after cs id next new → IsBalanced size after (with_stay id new cs)
+balanced_probed size bits after cs id next new b m = record {
+  first = b.first;
+  last = b.last;
+  room = m.room;
+  held = λ i h.
+      let moved : count (holds i) (with_stay id new cs) + 0 ≡ count (holds i) cs + one (holds_at i (held_at new)) = count-with_stay (holds i) cs id (Seeking next) new m.here in
+      omega (arith, b.held i h, m.held i h);
+  crowd =
+      let same : length (identities (with_stay id new cs)) ≡ length (identities cs) = ap length (identities-with_stay cs id new) in
+      omega (arith, length-identities cs, length-identities (with_stay id new cs), b.crowd);
+  reach = λ i h k.
+      let moved : count (reaches i) (with_stay id new cs) + one (nat_le i next) ≡ count (reaches i) cs + one (nat_le i (number_of new)) = count-with_stay (reaches i) cs id (Seeking next) new m.here in
+      omega (arith, m.reach i h k);
+  apart = λ p.
+      let moved : count (is_of p) (with_stay id new cs) + one (id == p) ≡ count (is_of p) cs + one (id == p) = count-with_stay (is_of p) cs id (Seeking next) new m.here in
+      omega (arith, b.apart p);
+  placed = λ p stay h.
+      let there : is_some (stay_of id cs) ≡ true = rw m.here refl in
+      elim (set_at-is (λ v. stay_of v cs) id (Some new) p (Some stay) (sym (stay_of-with_stay cs id new there p) ∙ h)) [
+        | inl w ↦ let s : new ≡ stay = (let e = w.1 in cc) in subst (λ (x : Stay). IsPlaced size x) s m.placed
+        | inr w ↦ b.placed p stay w.1
+      ];
+}
+
+-- nobody holds number i
+abbrev pub NobodyHolds : ℕ → List Competitor → Type 0
+NobodyHolds i cs = count (holds i) cs ≡ 0
+
+module _ (size : ℕ) (bits : List Bool) (cs : List Competitor) (id next : ℕ) (b : IsBalanced size bits cs) (here : stay_of id cs ≡ Some (Seeking next)) where
+  -- who seeks the number is counted
+  seeker : 1 ≤ count (seeks next) cs
+  seeker = let some : one (next == next) ≤ count (seeks next) cs = count-one (seeks next) cs id (Seeking next) here in rw ((Decides-eqb next next).1 refl) at some
+
+  -- the bit was clear: the number is free, and now held
+  pub free_clear : next < size → get_or bits next false ≡ false → NobodyHolds next cs
+  free_clear below clear = sym (rw clear at (b.held next below))
+
+  pub probed_clear : next < size → get_or bits next false ≡ false → IsProbed size bits (set bits next true) cs id next (Settled next)
+  probed_clear below clear =
+      let p : IsPlaced size (Seeking next) = b.placed id (Seeking next) here in
+      record {
+        here = here;
+        room = length-set bits next true ∙ b.room;
+        held = λ i h. elim (eqb_tells next i) [
+          | inl w ↦
+              let in_bits : next < length bits = omega (arith, b.room, b.last) in
+              rw (← w.1, get_or-set_same bits next true false in_bits, clear, (Decides-eqb next next).1 refl) refl
+          | inr w ↦
+              let other : i ≢ next = λ e. w.1 (sym e) in
+              rw (get_or-set_other bits next i true false other, w.0) (omega arith)
+        ];
+        reach = λ i h k. omega (arith, b.reach i h k);
+        placed = (p.0, omega arith);
+      }
+
+  -- the bit was set: those from the next number on are few
+  few : next < size → get_or bits next false ≡ true → count (reaches (next + 1)) cs + 1 + next ≤ size
+  few below was =
+      let p : IsPlaced size (Seeking next) = b.placed id (Seeking next) here in
+      let one_holds : 1 ≡ count (holds next) cs = rw was at (b.held next below) in
+      omega (arith, seeker, b.reach next p.0 (omega arith), reaches-split next cs)
+
+  set_again : get_or bits next false ≡ true → (i : ℕ) → i < size → next < size → get_or (set bits next true) i false ≡ get_or bits i false
+  set_again was i h below = elim (eqb_tells i next) [
+    | inl w ↦
+        let in_bits : next < length bits = omega (arith, b.room, b.last) in
+        rw (w.1, get_or-set_same bits next true false in_bits, was) refl
+    | inr w ↦ get_or-set_other bits next i true false w.1
+  ]
+
+  -- a further bit is probed next
+  pub probed_missed : next + 1 < size → get_or bits next false ≡ true → IsProbed size bits (set bits next true) cs id next (Seeking (next + 1))
+  probed_missed below was =
+      let lt : next < size = omega arith in
+      record {
+        here = here;
+        room = length-set bits next true ∙ b.room;
+        held = λ i h. rw (set_again was i h lt) (omega arith);
+        reach = λ i h k. elim (leb_tells i next) [
+          | inl w ↦ elim (leb_tells i (next + 1)) [
+            | inl v ↦ rw (w.0, v.0) (omega (arith, b.reach i h k))
+            | inr v ↦ absurd (omega arith)
+          ]
+          | inr w ↦ elim (leb_tells i (next + 1)) [
+            | inl v ↦
+                let e : i ≡ next + 1 = omega arith in
+                let f : count (reaches i) cs + 1 + next ≤ size = rw e (few lt was) in
+                rw (w.0, v.0) (omega arith)
+            | inr v ↦ rw (w.0, v.0) (omega (arith, b.reach i h k))
+          ]
+        ];
+        placed = (omega arith, omega arith);
+      }
+
+  -- no further bit is there: the last number is free
+  pub free_last : next < size → size ≤ next + 1 → get_or bits next false ≡ true → NobodyHolds size cs
+  free_last below end was =
+      let e : size ≡ next + 1 = omega arith in
+      let same : count (reaches size) cs ≡ count (reaches (next + 1)) cs = ap (λ (k : ℕ). count (reaches k) cs) e in
+      omega (arith, few below was, reaches-split size cs)
+
+  pub probed_last : next < size → size ≤ next + 1 → get_or bits next false ≡ true → IsProbed size bits (set bits next true) cs id next (Settled size)
+  probed_last below end was = record {
+    here = here;
+    room = length-set bits next true ∙ b.room;
+    held = λ i h. elim (eqb_tells size i) [
+      | inl w ↦ absurd (omega arith)
+      | inr w ↦ rw (set_again was i h below, w.0) (omega arith)
+    ];
+    reach = λ i h k. elim (leb_tells i next) [
+      | inl w ↦ elim (leb_tells i size) [
+        | inl v ↦ rw (w.0, v.0) (omega (arith, b.reach i h k))
+        | inr v ↦ absurd (omega arith)
+      ]
+      | inr w ↦ elim (leb_tells i size) [
+        | inl v ↦
+            let e : i ≡ next + 1 = omega arith in
+            let f : count (reaches i) cs + 1 + next ≤ size = rw e (few below was) in
+            rw (w.0, v.0) (omega arith)
+        | inr v ↦ absurd (omega arith)
+      ]
+    ];
+    placed = (b.first, omega arith);
+  }
+
+  -- there is no bit at all: the pool has one number, which is free
+  pub only : size ≤ next → (size ≡ 1) × (next ≡ 1)
+  only past = let p : IsPlaced size (Seeking next) = b.placed id (Seeking next) here in let top : next ≤ max 1 (size - 1) = p.1 in let low : 1 ≤ next = p.0 in let first : 1 ≤ size = b.first in (omega arith, omega arith)
+
+  pub free_only : size ≤ next → NobodyHolds size cs
+  free_only past =
+      let o = only past in
+      let same : next ≡ size = o.1 ∙ sym o.0 in
+      let s : 1 ≤ count (seeks size) cs = rw same at seeker in
+      omega (arith, b.reach size b.first (omega arith), reaches-split size cs)
+
+  pub probed_only : size ≤ next → IsProbed size bits bits cs id next (Settled size)
+  probed_only past =
+      let o = only past in
+      let same : next ≡ size = o.1 ∙ sym o.0 in
+      record {
+        here = here;
+        room = b.room;
+        held = λ i h. elim (eqb_tells size i) [
+          | inl w ↦ absurd (omega arith)
+          | inr w ↦ rw w.0 (omega arith)
+        ];
+        reach = λ i h k. rw same (omega (arith, b.reach i h k));
+        placed = (b.first, omega arith);
+      }
+
+-- the number is given back
+pub balanced_left : (size : ℕ) (bits after : List Bool) (cs : List Competitor) (id number : ℕ) → IsBalanced size bits cs → stay_of id cs ≡ Some (Settled number) → length after ≡ 65 →
+    (number < size → get_or after number false ≡ false) → ((i : ℕ) → i < size → i ≢ number → get_or after i false ≡ get_or bits i false) → IsBalanced size after (without id cs)
+balanced_left size bits after cs id number b here room clears spares = record {
+  first = b.first;
+  last = b.last;
+  room = room;
+  held = λ i h.
+      let fewer : count (holds i) (without id cs) + one (number == i) ≡ count (holds i) cs = count-without (holds i) cs id (Settled number) here (b.apart id) in
+      elim (eqb_tells number i) [
+        | inl w ↦
+            let fewer_one : count (holds i) (without id cs) + 1 ≡ count (holds i) cs = rw w.0 at fewer in
+            let clear : get_or after i false ≡ false = rw w.1 at (clears (omega arith)) in
+            let most : one (get_or bits i false) ≤ 1 = elim (get_or bits i false) as (λ x. one x ≤ 1) [ true ↦ omega arith | false ↦ omega arith ] in
+            rw clear (omega (arith, b.held i h))
+        | inr w ↦
+            let as_many : count (holds i) (without id cs) + 0 ≡ count (holds i) cs = rw w.0 at fewer in
+            rw (spares i h (λ e. w.1 (sym e))) (omega (arith, b.held i h))
+      ];
+  crowd = omega (arith, length-filter (λ c. not (c.identity == id)) cs, b.crowd);
+  reach = λ i h k. omega (arith, count-without (reaches i) cs id (Settled number) here (b.apart id), b.reach i h k);
+  apart = λ p. omega (arith, count-without (is_of p) cs id (Settled number) here (b.apart id), b.apart p);
+  placed = λ p stay h. elim (set_at-is (λ v. stay_of v cs) id None p (Some stay) (sym (stay_of-without cs id p) ∙ h)) [
+    | inl w ↦ absurd (let e = w.1 in cc)
+    | inr w ↦ b.placed p stay w.1
+  ];
+}

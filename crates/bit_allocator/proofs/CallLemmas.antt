@@ -1,0 +1,36 @@
+-- calls by cases on who makes them
+use Rattle.std.proofs.Common.{◌≡◌, ℕ, Option, Some, None, Ok, Err, refl}
+use Rattle.step_memory.specs.declared.refusal.Refusal.{Refusal}
+use Rattle.step_memory.specs.Registers.{after_access}
+use Rattle.bit_allocator.specs.declared.stay.Stay.{Stay}
+use Rattle.bit_allocator.specs.declared.stay.Stay.TheVariants.{Seeking, Settled}
+use Rattle.bit_allocator.specs.Stay.{probe_access, stay_probed, probe_reply}
+use Rattle.bit_allocator.specs.Competitors.{stay_of, with_stay}
+use Rattle.bit_allocator.specs.PoolState.{PoolState}
+use Rattle.bit_allocator.specs.Pool.{probe_answer, after_probe, got_by, number_answer, number_by, after_leave, after_leave_by}
+
+-- the probe of one who holds no number
+pub going_answer : (w : PoolState) (id : ℕ) (stay : Stay) → stay_of id w.competitors ≡ Some stay → ((n : ℕ) → stay ≡ Settled n → ⊥) → probe_answer w id ≡ Ok (probe_reply (stay_probed w.size stay (got_by w stay)))
+going_answer w id (Seeking next) here n = rw here refl
+going_answer w id (Settled number) here n = absurd (n number refl)
+
+pub going_after : (w : PoolState) (id : ℕ) (stay : Stay) → stay_of id w.competitors ≡ Some stay → ((n : ℕ) → stay ≡ Settled n → ⊥) →
+    after_probe w id ≡ record { size = w.size; bits = after_access w.bits (probe_access w.size stay); competitors = with_stay id (stay_probed w.size stay (got_by w stay)) w.competitors }
+going_after w id (Seeking next) here n = rw here refl
+going_after w id (Settled number) here n = absurd (n number refl)
+
+-- who holds a number stands so
+pub settled_by : (o : Option Stay) (n : ℕ) → number_by o ≡ Ok n → o ≡ Some (Settled n)
+settled_by None n h = absurd (cc)
+settled_by (Some (Seeking next)) n h = absurd (cc)
+settled_by (Some (Settled number)) n h = let e : number ≡ n = cc in rw e refl
+
+-- who holds none changes nothing by leaving
+pub unsettled_after : (w : PoolState) (id : ℕ) (why : Refusal) → Err why ≡ number_answer w id → w ≡ after_leave w id
+unsettled_after w id why h = elim (stay_of id w.competitors) as (λ o. Err why ≡ number_by o → w ≡ after_leave_by w id o) [
+  | None ↦ λ e. refl
+  | Some stay ↦ elim stay as (λ s. Err why ≡ number_by (Some s) → w ≡ after_leave_by w id (Some s)) [
+    | Seeking next ↦ λ e. refl
+    | Settled number ↦ λ e. absurd (cc)
+  ]
+] h

@@ -1,0 +1,149 @@
+-- how many competitors pass a test
+use Rattle.std.proofs.Common.{◌≡◌, ◌≢◌, ℕ, suc, ◌+◌, ◌≤◌, Bool, true, false, ◌==◌, nat_le, List, [], ◌∷◌, ◌++◌, Some, None, length, filter, cond, inl, inr, refl, sym, ap, ◌∙◌, arith}
+use Rattle.std.proofs.lemmas.Bool.Decides.{eqb_tells, leb_tells}
+use Rattle.bit_allocator.specs.declared.competitor.Competitor.{Competitor}
+use Rattle.bit_allocator.specs.declared.stay.Stay.{Stay}
+use Rattle.bit_allocator.specs.declared.stay.Stay.TheVariants.{Seeking, Settled}
+use Rattle.bit_allocator.specs.Stay.{held_at}
+use Rattle.bit_allocator.specs.Competitors.{stay_of, with_stay, without, holds_at}
+
+abbrev pub one : Bool → ℕ
+one true = 1
+one false = 0
+
+abbrev pub count : (Competitor → Bool) → List Competitor → ℕ
+count f [] = 0
+count f (c ∷ cs) = one (f c) + count f cs
+
+-- an identity that stands so
+abbrev pub competitor : ℕ → Stay → Competitor
+competitor id stay = record { identity = id; stay = stay }
+
+-- the test that an identity passes
+abbrev pub is_of : ℕ → Competitor → Bool
+is_of id c = c.identity == id
+
+module _ (f : Competitor → Bool) where
+  pub count-push : (cs : List Competitor) (new : Competitor) → count f (cs ++ new ∷ []) ≡ count f cs + one (f new)
+  count-push [] new = omega arith
+  count-push (c ∷ cs) new = omega (arith, count-push cs new)
+
+  -- the competitor that stands at the head
+  head_is : (c : Competitor) (cs : List Competitor) (id : ℕ) (stay : Stay) → c.identity ≡ id → Some c.stay ≡ Some stay → c ≡ competitor id stay
+  head_is c cs id stay e h = let s : c.stay ≡ stay = cc in ap (λ (i : ℕ). competitor i c.stay) e ∙ ap (λ (t : Stay). competitor id t) s
+
+  pub count-with_stay : (cs : List Competitor) (id : ℕ) (old new : Stay) → stay_of id cs ≡ Some old → count f (with_stay id new cs) + one (f (competitor id old)) ≡ count f cs + one (f (competitor id new))
+  count-with_stay [] id old new h = absurd (cc)
+  count-with_stay (c ∷ cs) id old new h = elim (eqb_tells c.identity id) [
+    | inl w ↦ let e : one (f c) ≡ one (f (competitor id old)) = ap (λ x. one (f x)) (head_is c cs id old w.1 (rw w.0 at h)) in rw w.0 (omega arith)
+    | inr w ↦ let i = count-with_stay cs id old new (rw w.0 at h) in rw w.0 (omega arith)
+  ]
+
+  -- some competitor that passes
+  pub count-one : (cs : List Competitor) (id : ℕ) (stay : Stay) → stay_of id cs ≡ Some stay → one (f (competitor id stay)) ≤ count f cs
+  count-one [] id stay h = absurd (cc)
+  count-one (c ∷ cs) id stay h = elim (eqb_tells c.identity id) [
+    | inl w ↦ let e : one (f c) ≡ one (f (competitor id stay)) = ap (λ x. one (f x)) (head_is c cs id stay w.1 (rw w.0 at h)) in omega arith
+    | inr w ↦ let i = count-one cs id stay (rw w.0 at h) in omega arith
+  ]
+
+  -- two that do
+  pub count-two : (cs : List Competitor) (p q : ℕ) (one_stay other : Stay) → p ≢ q → stay_of p cs ≡ Some one_stay → stay_of q cs ≡ Some other → one (f (competitor p one_stay)) + one (f (competitor q other)) ≤ count f cs
+  count-two [] p q s t n h k = absurd (cc)
+  count-two (c ∷ cs) p q s t n h k = elim (eqb_tells c.identity p) [
+    | inl w ↦ elim (eqb_tells c.identity q) [
+      | inl v ↦ absurd (n (sym w.1 ∙ v.1))
+      | inr v ↦
+          let e : one (f c) ≡ one (f (competitor p s)) = ap (λ x. one (f x)) (head_is c cs p s w.1 (rw w.0 at h)) in
+          let i = count-one cs q t (rw v.0 at k) in
+          omega arith
+    ]
+    | inr w ↦ elim (eqb_tells c.identity q) [
+      | inl v ↦
+          let e : one (f c) ≡ one (f (competitor q t)) = ap (λ x. one (f x)) (head_is c cs q t v.1 (rw v.0 at k)) in
+          let i = count-one cs p s (rw w.0 at h) in
+          omega arith
+      | inr v ↦ let i = count-two cs p q s t n (rw w.0 at h) (rw v.0 at k) in omega arith
+    ]
+  ]
+
+pub without-absent : (cs : List Competitor) (id : ℕ) → count (is_of id) cs ≡ 0 → without id cs ≡ cs
+without-absent [] id h = refl
+without-absent (c ∷ cs) id h = elim (eqb_tells c.identity id) [
+  | inl w ↦ absurd (let k : 1 + count (is_of id) cs ≡ 0 = rw w.0 at h in omega arith)
+  | inr w ↦ let k : 0 + count (is_of id) cs ≡ 0 = rw w.0 at h in rw w.0 (ap (λ xs. c ∷ xs) (without-absent cs id (omega arith)))
+]
+
+pub count-without : (f : Competitor → Bool) (cs : List Competitor) (id : ℕ) (stay : Stay) → stay_of id cs ≡ Some stay → count (is_of id) cs ≤ 1 → count f (without id cs) + one (f (competitor id stay)) ≡ count f cs
+count-without f [] id stay h a = absurd (cc)
+count-without f (c ∷ cs) id stay h a = elim (eqb_tells c.identity id) [
+  | inl w ↦
+      let e : one (f c) ≡ one (f (competitor id stay)) = ap (λ x. one (f x)) (head_is f c cs id stay w.1 (rw w.0 at h)) in
+      let k : 1 + count (is_of id) cs ≤ 1 = rw w.0 at a in
+      let rest : without id cs ≡ cs = without-absent cs id (omega arith) in
+      rw (w.0, rest) (omega arith)
+  | inr w ↦
+      let k : 0 + count (is_of id) cs ≤ 1 = rw w.0 at a in
+      let i = count-without f cs id stay (rw w.0 at h) (omega arith) in
+      rw w.0 (omega arith)
+]
+
+pub count-absent : (cs : List Competitor) (id : ℕ) → stay_of id cs ≡ None → count (is_of id) cs ≡ 0
+count-absent [] id h = refl
+count-absent (c ∷ cs) id h = elim (eqb_tells c.identity id) [
+  | inl w ↦ absurd (let k : Some c.stay ≡ None = rw w.0 at h in cc)
+  | inr w ↦ let i = count-absent cs id (rw w.0 at h) in rw w.0 (omega arith)
+]
+
+-- fewer pass a harder test
+pub count-less : (f g : Competitor → Bool) → ((c : Competitor) → one (f c) ≤ one (g c)) → (cs : List Competitor) → count f cs ≤ count g cs
+count-less f g less [] = omega arith
+count-less f g less (c ∷ cs) = omega (arith, less c, count-less f g less cs)
+
+pub count-length : (f : Competitor → Bool) (cs : List Competitor) → count f cs ≤ length cs
+count-length f [] = omega arith
+count-length f (c ∷ cs) = let i = count-length f cs in elim (f c) as (λ b. one b + count f cs ≤ suc (length cs)) [ true ↦ omega arith | false ↦ omega arith ]
+
+pub length-filter : (t : Competitor → Bool) (cs : List Competitor) → length (filter t cs) ≤ length cs
+length-filter t [] = omega arith
+length-filter t (c ∷ cs) = let i = length-filter t cs in elim (t c) as (λ b. length (cond b (c ∷ filter t cs) (filter t cs)) ≤ suc (length cs)) [ true ↦ omega arith | false ↦ omega arith ]
+
+-- the number that is held, or that the next probe is of
+abbrev pub number_of : Stay → ℕ
+number_of (Seeking next) = next
+number_of (Settled number) = number
+
+-- who holds number i; whose next probe is of i; and who holds i or a larger number, or has its next probe there
+abbrev pub holds : ℕ → Competitor → Bool
+holds i c = holds_at i (held_at c.stay)
+
+abbrev pub seeks_at : ℕ → Stay → Bool
+seeks_at i (Seeking next) = next == i
+seeks_at i (Settled number) = false
+
+abbrev pub seeks : ℕ → Competitor → Bool
+seeks i c = seeks_at i c.stay
+
+abbrev pub reaches : ℕ → Competitor → Bool
+reaches i c = nat_le i (number_of c.stay)
+
+le_split : (i n : ℕ) → one (nat_le i n) ≡ one (nat_le (i + 1) n) + one (n == i)
+le_split i n = elim (leb_tells i n) [
+  | inl w ↦ elim (leb_tells (i + 1) n) [
+    | inl v ↦ elim (eqb_tells n i) [ inl u ↦ absurd (omega arith) | inr u ↦ rw (w.0, v.0, u.0) refl ]
+    | inr v ↦ elim (eqb_tells n i) [ inl u ↦ rw (w.0, v.0, u.0) refl | inr u ↦ absurd (omega arith) ]
+  ]
+  | inr w ↦ elim (leb_tells (i + 1) n) [
+    | inl v ↦ absurd (omega arith)
+    | inr v ↦ elim (eqb_tells n i) [ inl u ↦ absurd (omega arith) | inr u ↦ rw (w.0, v.0, u.0) refl ]
+  ]
+]
+
+stay_split : (i : ℕ) (s : Stay) → one (nat_le i (number_of s)) ≡ one (nat_le (i + 1) (number_of s)) + one (holds_at i (held_at s)) + one (seeks_at i s)
+stay_split i (Seeking next) = omega (arith, le_split i next)
+stay_split i (Settled number) = omega (arith, le_split i number)
+
+-- who reaches i holds it, seeks it, or reaches the next
+pub reaches-split : (i : ℕ) (cs : List Competitor) → count (reaches i) cs ≡ count (reaches (i + 1)) cs + count (holds i) cs + count (seeks i) cs
+reaches-split i [] = refl
+reaches-split i (c ∷ cs) = omega (arith, stay_split i c.stay, reaches-split i cs)

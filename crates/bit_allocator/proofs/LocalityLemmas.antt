@@ -1,0 +1,89 @@
+-- the calls of a competitor are local
+use Rattle.std.proofs.Common.{◌≡◌, ℕ, Bool, true, Some, None, Ok, refl, sym, ap, subst, ◌∙◌}
+use Rattle.std.specs.Prelude.{is_some}
+use Rattle.step_memory.specs.declared.access.Access.{Access}
+use Rattle.step_memory.specs.declared.access.Access.TheVariants.{Read, Write, TestAndSet, Clear, Nothing}
+use Rattle.step_memory.specs.RegisterLaws.{others_kept}
+use Rattle.step_memory.specs.Registers.{register_of, answer_of, after_access}
+use Rattle.step_memory.specs.Steps.{Spares, AgreeAt, answer_from}
+use Rattle.bit_allocator.specs.declared.stay.Stay.{Stay}
+use Rattle.bit_allocator.specs.declared.stay.Stay.TheVariants.{Seeking, Settled}
+use Rattle.bit_allocator.specs.Stay.{probe_access, stay_probed, stay_found, probe_reply, leave_access}
+use Rattle.bit_allocator.specs.Competitors.{stay_of, with_stay}
+use Rattle.bit_allocator.specs.PoolState.{PoolState}
+use Rattle.bit_allocator.specs.Pool.{probe_answer, probe_answer_by, after_probe, after_probe_by, got_by, number_answer, number_by, after_leave, after_leave_by}
+use Rattle.bit_allocator.specs.Locality.{IsLocal, LookAlike, probe_steps, leave_steps}
+use Rattle.bit_allocator.proofs.SetAtLemmas.{set_at-same, set_at-other}
+use Rattle.bit_allocator.proofs.StayOfLemmas.{stay_of-with_stay, stay_of-without}
+
+-- registers that agree where an access goes answer it alike
+answer_alike : {R V : Type 0} (one other : R → V × Bool) (a : Access R V) → AgreeAt one other a → answer_from one a ≡ answer_from other a
+answer_alike one other (Read r) h = rw h refl
+answer_alike one other (Write r v) h = refl
+answer_alike one other (TestAndSet r) h = rw h refl
+answer_alike one other (Clear r) h = refl
+answer_alike one other Nothing h = refl
+
+module _ (id : ℕ) (w : PoolState) where
+  seeking_local : (next : ℕ) → stay_of id w.competitors ≡ Some (Seeking next) → IsLocal probe_steps id w (after_probe_by w id (Some (Seeking next))) (probe_answer_by w (Some (Seeking next)))
+  seeking_local next here =
+      let new : Stay = stay_probed w.size (Seeking next) (got_by w (Seeking next)) in
+      let there : is_some (stay_of id w.competitors) ≡ true = rw here refl in
+      let own : (stay : Stay) → stay_of id w.competitors ≡ Some stay → Seeking next ≡ stay = λ stay h. (let e : Some (Seeking next) ≡ Some stay = sym here ∙ h in cc) in
+      record {
+        access = λ stay h. subst (λ (x : Stay). after_access w.bits (probe_access w.size (Seeking next)) ≡ after_access w.bits (probe_access w.size x)) (own stay h) refl;
+        reply = λ stay h. subst (λ (x : Stay). probe_reply new ≡ probe_reply (stay_probed w.size x (answer_of w.bits (probe_access w.size x)))) (own stay h) refl;
+        own = λ stay h.
+            let put : stay_of id (with_stay id new w.competitors) ≡ Some new = stay_of-with_stay w.competitors id new there id ∙ set_at-same (λ v. stay_of v w.competitors) id (Some new) in
+            subst (λ (x : Stay). stay_of id (with_stay id new w.competitors) ≡ Some (stay_probed w.size x (answer_of w.bits (probe_access w.size x)))) (own stay h) put;
+        others = λ q n. stay_of-with_stay w.competitors id new there q ∙ set_at-other (λ v. stay_of v w.competitors) id (Some new) q n;
+        registers = λ stay h r spared. others_kept w.bits (probe_access w.size (Seeking next)) r (subst (λ (x : Stay). Spares (probe_access w.size x) r) (sym (own stay h)) spared);
+        size = refl;
+      }
+
+  pub probe_local : IsLocal probe_steps id w (after_probe w id) (probe_answer w id)
+  probe_local = elim (stay_of id w.competitors) as (λ e. stay_of id w.competitors ≡ e → IsLocal probe_steps id w (after_probe_by w id e) (probe_answer_by w e)) [
+    | None ↦ λ e. record { access = λ stay h. tt; reply = λ stay h. tt; own = λ stay h. tt; others = λ q n. refl; registers = λ stay h r spared. refl; size = refl }
+    | Some s ↦ elim s as (λ x. stay_of id w.competitors ≡ Some x → IsLocal probe_steps id w (after_probe_by w id (Some x)) (probe_answer_by w (Some x))) [
+      | Seeking next ↦ λ e. seeking_local next e
+      | Settled number ↦ λ e. record { access = λ stay h. tt; reply = λ stay h. tt; own = λ stay h. tt; others = λ q n. refl; registers = λ stay h r spared. refl; size = refl }
+    ]
+  ] refl
+
+  settled_local : (number : ℕ) → stay_of id w.competitors ≡ Some (Settled number) → IsLocal leave_steps id w (after_leave_by w id (Some (Settled number))) (number_by (Some (Settled number)))
+  settled_local number here =
+      let own : (stay : Stay) → stay_of id w.competitors ≡ Some stay → Settled number ≡ stay = λ stay h. (let e : Some (Settled number) ≡ Some stay = sym here ∙ h in cc) in
+      record {
+        access = λ stay h. subst (λ (x : Stay). after_access w.bits (leave_access w.size (Settled number)) ≡ after_access w.bits (leave_access w.size x)) (own stay h) refl;
+        reply = λ stay h. subst (λ (x : Stay). number ≡ leave_steps.reply w.size x (answer_of w.bits (leave_access w.size x))) (own stay h) refl;
+        own = λ stay h. stay_of-without w.competitors id id ∙ set_at-same (λ v. stay_of v w.competitors) id None;
+        others = λ q n. stay_of-without w.competitors id q ∙ set_at-other (λ v. stay_of v w.competitors) id None q n;
+        registers = λ stay h r spared. others_kept w.bits (leave_access w.size (Settled number)) r (subst (λ (x : Stay). Spares (leave_access w.size x) r) (sym (own stay h)) spared);
+        size = refl;
+      }
+
+  pub leave_local : IsLocal leave_steps id w (after_leave w id) (number_answer w id)
+  leave_local = elim (stay_of id w.competitors) as (λ e. stay_of id w.competitors ≡ e → IsLocal leave_steps id w (after_leave_by w id e) (number_by e)) [
+    | None ↦ λ e. record { access = λ stay h. tt; reply = λ stay h. tt; own = λ stay h. tt; others = λ q n. refl; registers = λ stay h r spared. refl; size = refl }
+    | Some s ↦ elim s as (λ x. stay_of id w.competitors ≡ Some x → IsLocal leave_steps id w (after_leave_by w id (Some x)) (number_by (Some x))) [
+      | Seeking next ↦ λ e. record { access = λ stay h. tt; reply = λ stay h. tt; own = λ stay h. tt; others = λ q n. refl; registers = λ stay h r spared. refl; size = refl }
+      | Settled number ↦ λ e. settled_local number e
+    ]
+  ] refl
+
+-- pools that look alike to a competitor answer it alike
+pub probe_alike : (id : ℕ) (one other : PoolState) → LookAlike probe_steps id one other → probe_answer one id ≡ probe_answer other id
+probe_alike id one other alike = elim (stay_of id one.competitors) as (λ e. stay_of id one.competitors ≡ e → stay_of id other.competitors ≡ e → probe_answer_by one e ≡ probe_answer other id) [
+  | None ↦ λ here there. rw there refl
+  | Some s ↦ elim s as (λ x. stay_of id one.competitors ≡ Some x → stay_of id other.competitors ≡ Some x → probe_answer_by one (Some x) ≡ probe_answer other id) [
+    | Seeking next ↦ λ here there.
+        let got : answer_of one.bits (probe_access one.size (Seeking next)) ≡ answer_of other.bits (probe_access one.size (Seeking next)) =
+        answer_alike (register_of one.bits) (register_of other.bits) (probe_access one.size (Seeking next)) (alike.bit (Seeking next) here) in
+        rw there (ap (λ x. Ok (probe_reply (stay_found one.size next x))) got
+        ∙ ap (λ (n : ℕ). Ok (probe_reply (stay_found n next (answer_of other.bits (probe_access n (Seeking next)))))) alike.size)
+    | Settled number ↦ λ here there. rw there refl
+  ]
+] refl (sym alike.stay)
+
+pub leave_alike : (id : ℕ) (one other : PoolState) → LookAlike leave_steps id one other → number_answer one id ≡ number_answer other id
+leave_alike id one other alike = ap number_by alike.stay

@@ -1,0 +1,278 @@
+-- each call of a pool keeps the law
+use Rattle.std.proofs.Common.{◌≡◌, ◌≢◌, ◌⊎◌, ℕ, suc, ◌+◌, ◌≤◌, ◌<◌, Bool, true, false, ◌==◌, List, [], ◌∷◌, ◌++◌, Some, None, Ok, Err, length, get_or, set, inl, inr, refl, sym, ap, subst, ◌∙◌, arith}
+use Rattle.std.specs.Prelude.{MatchOption}
+use Rattle.std.proofs.lemmas.Bool.Decides.{eqb_tells, leb_tells, Decides-eqb}
+use Rattle.std.proofs.lemmas.List.{get_or-set_same, get_or-set_other, length-set}
+use Rattle.step_memory.specs.declared.refusal.Refusal.TheVariants.{ZeroIdentity, Crowded, NotCompeting, AlreadyCompeting, Holding, NotHolding}
+use Rattle.step_memory.specs.Runs.{Run}
+use Rattle.step_memory.specs.World.{done_unless}
+use Rattle.step_memory.proofs.RunLemmas.{run_more, run_keeps}
+use Rattle.bit_allocator.specs.declared.competitor.Competitor.{Competitor}
+use Rattle.bit_allocator.specs.declared.probe.Probe.TheVariants.{Missed, Got}
+use Rattle.bit_allocator.specs.declared.stay.Stay.{Stay}
+use Rattle.bit_allocator.specs.declared.stay.Stay.TheVariants.{Seeking, Settled}
+use Rattle.bit_allocator.specs.Stay.{held_at}
+use Rattle.bit_allocator.specs.Competitors.{stay_of, held_in, holder_in, holds_at}
+use Rattle.bit_allocator.specs.PoolState.{PoolState}
+use Rattle.bit_allocator.specs.Pool.{fresh_pool, enter_refusal, enter_answer, entered_unless, after_enter, probe_answer, probe_answer_by, after_probe, after_probe_by, number_answer, number_by, after_leave, after_leave_by}
+use Rattle.bit_allocator.specs.Calls.{Call}
+use Rattle.bit_allocator.specs.Calls.Call.{Entered, Probed, Left}
+use Rattle.bit_allocator.specs.PoolObject.{PoolObject, fresh_object, no_entry, no_probe, number_in, IsFree, Answers, after, IsRun}
+use Rattle.bit_allocator.specs.Law.{KeepsPoolLaw}
+use Rattle.bit_allocator.specs.After.{After, next, IsReply}
+use Rattle.bit_allocator.proofs.StayOfLemmas.{length-identities}
+use Rattle.bit_allocator.proofs.Counts.{one, count, is_of, holds, count-one, count-two, reaches-split}
+use Rattle.bit_allocator.proofs.Balanced.{IsPlaced, IsBalanced, NobodyHolds, balanced_fresh, balanced_entered, balanced_probed, balanced_left, free_clear, probed_clear, probed_missed, free_last, probed_last, free_only, probed_only}
+use Rattle.bit_allocator.proofs.Tied.{IsTied, no_entry-is, number_in-is, no_probe-absent, no_probe-settled, no_probe-seeking, holder_competes, settled_at, unheld, tied_fresh, tied_entered, tied_missed, tied_got, tied_left}
+
+-- the pool after these calls, and the object that may have given the same replies
+pub record Stands (first : ℕ) (w : PoolState) (r : List Call) : Type 0 where
+  pub object : PoolObject
+  pub run : IsRun first r object
+  pub tied : IsTied w.size w.competitors object
+  pub balanced : IsBalanced w.size w.bits.bits w.competitors
+
+either : (b : Bool) → (b ≡ true) ⊎ (b ≡ false)
+either true = inl refl
+either false = inr refl
+
+record IsLetIn (w : PoolState) (id : ℕ) : Type 0 where
+  absent : stay_of id w.competitors ≡ None
+  room : length w.competitors < w.size
+
+let_in : (w : PoolState) (id : ℕ) → enter_refusal w id ≡ None → IsLetIn w id
+let_in w id h = elim (eqb_tells id 0) [
+  | inl z ↦ absurd (let k : Some ZeroIdentity ≡ None = rw z.0 at h in cc)
+  | inr z ↦
+      elim (stay_of id w.competitors) as (λ o. stay_of id w.competitors ≡ o → IsLetIn w id) [
+        | Some v ↦ λ e. absurd (let k : Some AlreadyCompeting ≡ None = rw (z.0, e) at h in cc)
+        | None ↦ λ e. elim (leb_tells w.size (length w.competitors)) [
+          | inl l ↦ absurd (let k : Some Crowded ≡ None = rw (z.0, e, l.0) at h in cc)
+          | inr l ↦ record { absent = e; room = l.1 }
+        ]
+      ] refl
+]
+
+module _ (first : ℕ) (w : PoolState) (r : List Call) (s : Stands first w r) where
+  -- the object goes on by a call
+  gone_on : (h : Call) → Answers s.object h → IsRun first (r ++ h ∷ []) (after s.object h)
+  gone_on h is = run_more after Answers (fresh_object first) r s.object h s.run is
+
+  enter_keeps : (id : ℕ) → Stands first (after_enter w id) (r ++ Entered id (enter_answer w id) ∷ [])
+  enter_keeps id = elim (enter_refusal w id) as (λ e. enter_refusal w id ≡ e → Stands first (entered_unless e w id) (r ++ Entered id (done_unless e) ∷ [])) [
+    | Some why ↦ λ e.
+        let n : no_entry s.object id ≡ Some why = no_entry-is w.size w.competitors s.object s.tied w refl refl id ∙ e in
+        record { object = s.object; run = gone_on (Entered id (Err why)) (rw n refl); tied = s.tied; balanced = s.balanced }
+    | None ↦ λ e.
+        let n : no_entry s.object id ≡ None = no_entry-is w.size w.competitors s.object s.tied w refl refl id ∙ e in
+        let l = let_in w id e in
+        record {
+          object = after s.object (Entered id (Ok tt));
+          run = gone_on (Entered id (Ok tt)) (rw n refl);
+          tied = tied_entered w.size w.competitors s.object id s.tied l.absent;
+          balanced = balanced_entered w.size w.bits.bits w.competitors id s.balanced l.absent l.room;
+        }
+  ] refl
+
+  -- a number that nobody holds
+  free : (n : ℕ) → 1 ≤ n → n ≤ w.size → NobodyHolds n w.competitors → IsFree s.object n
+  free n low high none = record { first = low; last = rw s.tied.size_is high; unheld = unheld w.size w.competitors s.object s.tied n none }
+
+  seeking_keeps : (id bit : ℕ) → stay_of id w.competitors ≡ Some (Seeking bit) → Stands first (after_probe_by w id (Some (Seeking bit))) (r ++ Probed id (probe_answer_by w (Some (Seeking bit))) ∷ [])
+  seeking_keeps id bit here =
+      let may : no_probe s.object id ≡ None = no_probe-seeking w.size w.competitors s.object s.tied id bit here in
+      let p : IsPlaced w.size (Seeking bit) = s.balanced.placed id (Seeking bit) here in
+      let low : 1 ≤ bit = p.0 in
+      elim (leb_tells (suc bit) w.size) [
+        | inl below ↦
+            let lt : bit < w.size = omega (arith, below.1) in
+            elim (either (get_or w.bits.bits bit false)) [
+              | inl was ↦ elim (leb_tells (suc (bit + 1)) w.size) [
+                | inl more ↦ rw (below.0, was, more.0) (record {
+                  object = after s.object (Probed id (Ok Missed));
+                  run = gone_on (Probed id (Ok Missed)) (may, λ e. omega (arith, more.1, e, s.tied.probes id bit here, s.tied.size_is));
+                  tied = tied_missed w.size w.competitors s.object id bit s.tied here;
+                  balanced = balanced_probed w.size w.bits.bits (set w.bits.bits bit true) w.competitors id bit (Seeking (bit + 1)) s.balanced (probed_missed w.size w.bits.bits w.competitors id bit s.balanced here (omega (arith, more.1)) was);
+                })
+                | inr end ↦
+                    let past : w.size ≤ bit + 1 = omega (arith, end.1) in
+                    rw (below.0, was, end.0) (record {
+                      object = after s.object (Probed id (Ok (Got w.size)));
+                      run = gone_on (Probed id (Ok (Got w.size))) (may, free w.size s.balanced.first (omega arith) (free_last w.size w.bits.bits w.competitors id bit s.balanced here lt past was));
+                      tied = tied_got w.size w.competitors s.object id bit s.tied here w.size;
+                      balanced = balanced_probed w.size w.bits.bits (set w.bits.bits bit true) w.competitors id bit (Settled w.size) s.balanced (probed_last w.size w.bits.bits w.competitors id bit s.balanced here lt past was);
+                    })
+              ]
+              | inr clear ↦ rw (below.0, clear) (record {
+                object = after s.object (Probed id (Ok (Got bit)));
+                run = gone_on (Probed id (Ok (Got bit))) (may, free bit low (omega arith) (free_clear w.size w.bits.bits w.competitors id bit s.balanced here lt clear));
+                tied = tied_got w.size w.competitors s.object id bit s.tied here bit;
+                balanced = balanced_probed w.size w.bits.bits (set w.bits.bits bit true) w.competitors id bit (Settled bit) s.balanced (probed_clear w.size w.bits.bits w.competitors id bit s.balanced here lt clear);
+              })
+            ]
+        | inr end ↦
+            let past : w.size ≤ bit = omega (arith, end.1) in
+            rw end.0 (record {
+              object = after s.object (Probed id (Ok (Got w.size)));
+              run = gone_on (Probed id (Ok (Got w.size))) (may, free w.size s.balanced.first (omega arith) (free_only w.size w.bits.bits w.competitors id bit s.balanced here past));
+              tied = tied_got w.size w.competitors s.object id bit s.tied here w.size;
+              balanced = balanced_probed w.size w.bits.bits w.bits.bits w.competitors id bit (Settled w.size) s.balanced (probed_only w.size w.bits.bits w.competitors id bit s.balanced here past);
+            })
+      ]
+
+  probe_keeps : (id : ℕ) → Stands first (after_probe w id) (r ++ Probed id (probe_answer w id) ∷ [])
+  probe_keeps id = elim (stay_of id w.competitors) as (λ e. stay_of id w.competitors ≡ e → Stands first (after_probe_by w id e) (r ++ Probed id (probe_answer_by w e) ∷ [])) [
+    | None ↦ λ e. record { object = s.object; run = gone_on (Probed id (Err NotCompeting)) (no_probe-absent w.size w.competitors s.object s.tied id e); tied = s.tied; balanced = s.balanced }
+    | Some stay ↦ elim stay as (λ x. stay_of id w.competitors ≡ Some x → Stands first (after_probe_by w id (Some x)) (r ++ Probed id (probe_answer_by w (Some x)) ∷ [])) [
+      | Seeking bit ↦ λ e. seeking_keeps id bit e
+      | Settled number ↦ λ e. record { object = s.object; run = gone_on (Probed id (Err Holding)) (no_probe-settled w.size w.competitors s.object s.tied id number e); tied = s.tied; balanced = s.balanced }
+    ]
+  ] refl
+
+  settled_keeps : (id number : ℕ) → stay_of id w.competitors ≡ Some (Settled number) → Stands first (after_leave_by w id (Some (Settled number))) (r ++ Left id (Ok number) ∷ [])
+  settled_keeps id number here =
+      let is : Ok number ≡ number_in s.object id = sym (number_in-is w.size w.competitors s.object s.tied id ∙ ap number_by here) in
+      elim (leb_tells (suc number) w.size) [
+        | inl below ↦
+            let in_bits : number < length w.bits.bits = omega (arith, below.1, s.balanced.room, s.balanced.last) in
+            rw below.0 (record {
+              object = after s.object (Left id (Ok number));
+              run = gone_on (Left id (Ok number)) is;
+              tied = tied_left w.size w.competitors s.object id s.tied;
+              balanced = balanced_left w.size w.bits.bits (set w.bits.bits number false) w.competitors id number s.balanced here (length-set w.bits.bits number false ∙ s.balanced.room)
+                  (λ _. get_or-set_same w.bits.bits number false false in_bits) (λ i h n. get_or-set_other w.bits.bits number i false false n);
+            })
+        | inr end ↦ rw end.0 (record {
+          object = after s.object (Left id (Ok number));
+          run = gone_on (Left id (Ok number)) is;
+          tied = tied_left w.size w.competitors s.object id s.tied;
+          balanced = balanced_left w.size w.bits.bits w.bits.bits w.competitors id number s.balanced here s.balanced.room (λ h. absurd (omega (arith, h, end.1))) (λ i h n. refl);
+        })
+      ]
+
+  leave_keeps : (id : ℕ) → Stands first (after_leave w id) (r ++ Left id (number_answer w id) ∷ [])
+  leave_keeps id = elim (stay_of id w.competitors) as (λ e. stay_of id w.competitors ≡ e → Stands first (after_leave_by w id e) (r ++ Left id (number_by e) ∷ [])) [
+    | None ↦ λ e. record { object = s.object; run = gone_on (Left id (Err NotCompeting)) (sym (number_in-is w.size w.competitors s.object s.tied id ∙ ap number_by e)); tied = s.tied; balanced = s.balanced }
+    | Some stay ↦ elim stay as (λ x. stay_of id w.competitors ≡ Some x → Stands first (after_leave_by w id (Some x)) (r ++ Left id (number_by (Some x)) ∷ [])) [
+      | Seeking next ↦ λ e. record { object = s.object; run = gone_on (Left id (Err NotHolding)) (sym (number_in-is w.size w.competitors s.object s.tied id ∙ ap number_by e)); tied = s.tied; balanced = s.balanced }
+      | Settled number ↦ λ e. settled_keeps id number e
+    ]
+  ] refl
+
+next_keeps : (first : ℕ) (w : PoolState) (r : List Call) (h : Call) → Stands first w r → IsReply w h → Stands first (next w h) (r ++ h ∷ [])
+next_keeps first w r (Entered id reply) s is = rw is (enter_keeps first w r s id)
+next_keeps first w r (Probed id reply) s is = rw is (probe_keeps first w r s id)
+next_keeps first w r (Left id reply) s is = rw is (leave_keeps first w r s id)
+
+-- so it is after any calls
+pub stands : (first : ℕ) (w : PoolState) (r : List Call) → After first w r → Stands first w r
+stands first w r a =
+    let fresh : Stands first (fresh_pool first) [] = record { object = fresh_object first; run = refl; tied = tied_fresh first; balanced = balanced_fresh first a.first a.last } in
+    run_keeps next IsReply (Stands first) (next_keeps first) (fresh_pool first) [] r w fresh a.run
+
+-- a number is held by one at most
+held_once : (size : ℕ) (bits : List Bool) (cs : List Competitor) → IsBalanced size bits cs → (n : ℕ) → n ≤ size → 1 ≤ n → count (holds n) cs ≤ 1
+held_once size bits cs b n high low = elim (leb_tells (suc n) size) [
+  | inl w ↦
+      let most : one (get_or bits n false) ≤ 1 = elim (get_or bits n false) as (λ x. one x ≤ 1) [ true ↦ omega arith | false ↦ omega arith ] in
+      let lt : n < size = omega (arith, w.1) in
+      omega (arith, b.held n lt)
+  | inr w ↦ omega (arith, w.1, b.reach n low high, reaches-split n cs)
+]
+
+-- the law
+pub law_after : (first : ℕ) (w : PoolState) (r : List Call) → After first w r → KeepsPoolLaw first r
+law_after first w r a =
+    let s = stands first w r a in
+    let placed : (p n : ℕ) → s.object.held p ≡ Some n → (stay_of p w.competitors ≡ Some (Settled n)) × (1 ≤ n) × (n ≤ w.size) =
+    λ p n h.
+    let k = settled_at w.competitors p n (sym (s.tied.held p) ∙ h) in
+    let l : IsPlaced w.size (Settled n) = s.balanced.placed p (Settled n) k in
+    (k, l.0, l.1)
+    in
+    record {
+      object = s.object;
+      run = s.run;
+      crowd = omega (arith, ap length s.tied.competing, length-identities w.competitors, s.tied.size_is, s.balanced.crowd);
+      by_competitors = holder_competes w.size w.competitors s.object s.tied;
+      in_range = λ p n h. let l = placed p n h in (l.1, rw s.tied.size_is l.2);
+      one_to_one = λ p q n h k. elim (eqb_tells p q) [
+        | inl v ↦ v.1
+        | inr v ↦ absurd (
+            let l = placed p n h in
+            let m = placed q n k in
+            let two : one (n == n) + one (n == n) ≤ count (holds n) w.competitors = count-two (holds n) w.competitors p q (Settled n) (Settled n) v.1 l.0 m.0 in
+            let both : 2 ≤ count (holds n) w.competitors = rw ((Decides-eqb n n).1 refl) at two in
+            omega (arith, held_once w.size w.bits.bits w.competitors s.balanced n l.2 l.1))
+      ];
+    }
+
+-- one more call
+pub after_call : (first : ℕ) (w new : PoolState) (r : List Call) (h : Call) → new ≡ next w h → IsReply w h → After first w r → After first new (r ++ h ∷ [])
+after_call first w new r h e is a = record { first = a.first; last = a.last; run = rw e (run_more next IsReply (fresh_pool first) r w h a.run is) }
+
+-- a new pool
+pub after_new : (first : ℕ) → 1 ≤ first → first ≤ 64 → After first (fresh_pool first) []
+after_new first low high = record { first = low; last = high; run = refl }
+
+run_end : {S H : Type 0} (step : S → H → S) (Right : S → H → Type 0) (s : S) (r : List H) (a b : S) → Run step Right s r a → Run step Right s r b → a ≡ b
+run_end step Right s [] a b x y = x ∙ sym y
+run_end step Right s (h ∷ r) a b x y = run_end step Right (step s h) r a b x.1 y.1
+
+-- what is seen of the object
+pub tied_after : (first : ℕ) (w : PoolState) (r : List Call) (o : PoolObject) → After first w r → IsRun first r o → IsTied w.size w.competitors o
+tied_after first w r o a is =
+    let s = stands first w r a in
+    let e : s.object ≡ o = run_end after Answers (fresh_object first) r s.object o s.run is in
+    subst (λ (x : PoolObject). IsTied w.size w.competitors x) e s.tied
+
+holds_is : (n : ℕ) (s : Stay) → holds_at n (held_at s) ≡ true → held_at s ≡ Some n
+holds_is n (Seeking next) h = absurd (cc)
+holds_is n (Settled number) h = ap Some ((Decides-eqb number n).0 h)
+
+-- who is found to hold a number holds it
+holder_holds : (cs : List Competitor) (n p : ℕ) → ((q : ℕ) → count (is_of q) cs ≤ 1) → holder_in n cs ≡ Some p → held_in p cs ≡ Some n
+holder_holds [] n p apart h = absurd (cc)
+holder_holds (c ∷ cs) n p apart h =
+    elim (either (holds n c)) [
+      | inl w ↦
+          let e : c.identity ≡ p = (let k : Some c.identity ≡ Some p = rw w at h in cc) in
+          rw (e, (Decides-eqb p p).1 refl) (holds_is n c.stay w)
+      | inr w ↦
+          let k : holder_in n cs ≡ Some p = rw w at h in
+          let i : held_in p cs ≡ Some n = holder_holds cs n p (λ q. omega (arith, apart q)) k in
+          elim (eqb_tells c.identity p) [
+            | inl v ↦ absurd (
+                let one_more : 1 + count (is_of p) cs ≤ 1 = rw v.0 at (apart p) in
+                let some : one (p == p) ≤ count (is_of p) cs = count-one (is_of p) cs p (Settled n) (settled_at cs p n i) in
+                let more : 1 ≤ count (is_of p) cs = rw ((Decides-eqb p p).1 refl) at some in
+                omega arith)
+            | inr v ↦ rw v.0 i
+          ]
+    ]
+
+-- where none is found nobody does
+holder_none : (cs : List Competitor) (n : ℕ) → holder_in n cs ≡ None → (q : ℕ) → held_in q cs ≢ Some n
+holder_none [] n h q k = absurd (cc)
+holder_none (c ∷ cs) n h q k =
+    elim (either (holds n c)) [
+      | inl w ↦ absurd (let e : Some c.identity ≡ None = rw w at h in cc)
+      | inr w ↦ elim (eqb_tells c.identity q) [
+        | inl v ↦ absurd (let e : held_at c.stay ≡ Some n = rw v.0 at k in let yes : holds_at n (Some n) ≡ false = ap (holds_at n) (sym e) ∙ w in let same : (n == n) ≡ true = (Decides-eqb n n).1 refl in cc)
+        | inr v ↦ holder_none cs n (rw w at h) q (rw v.0 at k)
+      ]
+    ]
+
+pub holder_after : (first : ℕ) (w : PoolState) (r : List Call) (o : PoolObject) → After first w r → IsRun first r o → (n : ℕ) →
+    MatchOption (holder_in n w.competitors) ((p : ℕ) → o.held p ≢ Some n) (λ p. o.held p ≡ Some n)
+holder_after first w r o a is n =
+    let t = tied_after first w r o a is in
+    let b = (stands first w r a).balanced in
+    elim (holder_in n w.competitors) as (λ h. holder_in n w.competitors ≡ h → MatchOption h ((p : ℕ) → o.held p ≢ Some n) (λ p. o.held p ≡ Some n)) [
+      | None ↦ λ h p k. holder_none w.competitors n h p (sym (t.held p) ∙ k)
+      | Some p ↦ λ h. t.held p ∙ holder_holds w.competitors n p b.apart h
+    ] refl
+
+-- what is answered of a number that is held is what the object says
+pub number_after : (first : ℕ) (w : PoolState) (r : List Call) (o : PoolObject) → After first w r → IsRun first r o → (p : ℕ) → number_answer w p ≡ number_in o p
+number_after first w r o a is p = sym (number_in-is w.size w.competitors o (tied_after first w r o a is) p)

@@ -1,0 +1,63 @@
+use Rattle.std.proofs.Common.{rules, ◌≡◌, Some, Ok, Err, not, ◌==◌, refl, sym, ap, arith}
+use Rattle.std.proofs.lemmas.Fn.{filter_same}
+use Rattle.std.proofs.lemmas.List.Elements.{All-filter}
+use Rattle.step_memory.specs.declared.refusal.Refusal.{Refusal}
+use Rattle.step_memory.specs.Registers.{after_access}
+use Rattle.bit_allocator.specs.declared.stay.Stay.TheVariants.{Settled}
+use Rattle.bit_allocator.specs.Stay.{IsWithin, leave_access}
+use Rattle.bit_allocator.specs.Competitors.{stay_of, without}
+use Rattle.bit_allocator.specs.Pool.{number_answer, after_leave}
+use Rattle.bit_allocator.specs.Calls.Call.{Left}
+use Rattle.bit_allocator.proofs.CallLemmas.{settled_by, unsettled_after}
+use Rattle.bit_allocator.proofs.LocalityLemmas.{leave_local}
+use Rattle.bit_allocator.proofs.PoolKeeps.{after_call, law_after}
+use Rattle.bit_allocator.proofs.pool.Pool.leave.Goals as goal
+use Rattle.bit_allocator.proofs.pool.Pool.leave.Goals.{After-retain}
+
+pub returns-in_err-number-clause-after : goal.returns-in_err-number-clause-after
+returns-in_err-number-clause-after g c = λ size r a.
+    let is : c.from_residual.result ≡ number_answer c.args.self.now c.args.id = search rules in
+    let why : Refusal = c.in_err-number.field-0.0 in
+    let held : Err why ≡ number_answer c.args.self.now c.args.id = c.in_err-number.ensures.answer in
+    let state : c.args.self.now ≡ after_leave c.args.self.now c.args.id = unsettled_after c.args.self.now c.args.id why held in
+    after_call size c.args.self.now c.args.self.now r (Left c.args.id c.from_residual.result) state is a
+
+pub returns-in_err-number-clause-law : goal.returns-in_err-number-clause-law
+returns-in_err-number-clause-law g c = λ size r a. law_after size _ r a
+
+-- what is left of the competitors
+left : (g : _) (c : After-retain g) → c.retain.new.self.items ≡ without c.args.id c.self.inside.competitors.items
+left g c = filter_same _ (λ x. not (x.identity == c.args.id)) _ (λ x b f' k. search rules) _ _ c.retain.ensures.filtered
+
+pub invariant_of-self : goal.invariant_of-self
+invariant_of-self g c = (
+  record {
+    first = c.self.invariant.0.first;
+    last = c.self.invariant.0.last;
+    stays = rw (left g (goal.at.invariant_of-self g c).After-retain) (All-filter (λ x. not (x.identity == c.args.id)) (λ x. IsWithin c.self.inside.size x.stay) c.self.inside.competitors.items c.self.invariant.0.stays);
+  },
+  omega (arith, c.self.invariant.1, c.retain.ensures.capacity),
+)
+
+pub returns-clause-state : goal.returns-clause-state
+returns-clause-state g c =
+    let here = left g (goal.at.returns-clause-state g c).After-retain in
+    let v : c.self.inside.competitors.items ≡ c.args.self.now.competitors = ap (λ w. w.competitors) c.self.view_is in
+    let z : c.self.inside.size ≡ c.args.self.now.size = ap (λ w. w.size) c.self.view_is in
+    let m : c.self.inside.bits ≡ c.args.self.now.bits = ap (λ w. w.bits) c.self.view_is in
+    let access : c.leave_access-access.result ≡ leave_access c.self.inside.size (Settled c.in_ok-number.number) = c.leave_access-access.ensures in
+    let bits : c.access.new.self ≡ after_access c.args.self.now.bits (leave_access c.args.self.now.size (Settled c.in_ok-number.number)) = rw (c.unwrap.ensures, access, m, z) at c.access.ensures.after in
+    let s : stay_of c.args.id c.args.self.now.competitors ≡ Some (Settled c.in_ok-number.number) = settled_by (stay_of c.args.id c.args.self.now.competitors) c.in_ok-number.number (sym c.in_ok-number.ensures.answer) in
+    rw s (rw (here, bits, z, v) refl)
+
+pub returns-clause-after : goal.returns-clause-after
+returns-clause-after g c = λ size r a.
+    after_call size c.args.self.now _ r (Left c.args.id (Ok c.in_ok-number.number)) (returns-clause-state g c) c.in_ok-number.ensures.answer a
+
+pub returns-clause-law : goal.returns-clause-law
+returns-clause-law g c = λ size r a. law_after size _ r a
+
+pub returns-clause-local : goal.returns-clause-local
+returns-clause-local g c =
+    let reply : Ok c.in_ok-number.number ≡ number_answer c.args.self.now c.args.id = c.in_ok-number.ensures.answer in
+    rw (returns-clause-state g c, reply) (leave_local c.args.id c.args.self.now)

@@ -1,0 +1,118 @@
+use Rattle.std.proofs.Common.{◌≡◌, Some, None, Ok, Err, get_or, refl, sym, ap, ◌∙◌, arith}
+use Rattle.step_memory.specs.declared.refusal.Refusal.TheVariants.{NotCompeting, Holding}
+use Rattle.bit_allocator.specs.Competitors.{index_of, stay_of}
+use Rattle.step_memory.specs.Registers.{after_access}
+use Rattle.bit_allocator.specs.Stay.{probe_access, stay_probed, probe_reply}
+use Rattle.bit_allocator.specs.Pool.{got_by}
+use Rattle.bit_allocator.proofs.CallLemmas.{going_answer, going_after}
+use Rattle.bit_allocator.specs.Calls.Call.{Probed}
+use Rattle.bit_allocator.proofs.Found.{Found, found, none-index_of, index_of-below}
+use Rattle.bit_allocator.proofs.LocalityLemmas.{probe_local, probe_alike}
+use Rattle.bit_allocator.proofs.PoolKeeps.{after_call, law_after}
+use Rattle.bit_allocator.proofs.pool.Pool.probe.Goals as goal
+use Rattle.bit_allocator.proofs.pool.Pool.probe.Goals.{In_default, After-index, After-probed-stay}
+
+absent : (g : _) (c : In_default g) → stay_of c.args.id c.args.self.now.competitors ≡ None
+absent g c =
+    let v : c.self.inside.competitors.items ≡ c.args.self.now.competitors = ap (λ w. w.competitors) c.self.view_is in
+    let n : None ≡ index_of c.args.id c.deref.result.now = c.in_default.ensures.answer in
+    let e : index_of c.args.id c.args.self.now.competitors ≡ None = cc in
+    none-index_of c.args.id c.args.self.now.competitors e
+
+pub returns-in_default-clause-answer : goal.returns-in_default-clause-answer
+returns-in_default-clause-answer g c = rw (absent g c) refl
+
+pub returns-in_default-clause-state : goal.returns-in_default-clause-state
+returns-in_default-clause-state g c = rw (absent g c) refl
+
+pub returns-in_default-clause-after : goal.returns-in_default-clause-after
+returns-in_default-clause-after g c = λ size r a.
+    after_call size c.args.self.now c.args.self.now r (Probed c.args.id (Err NotCompeting)) (returns-in_default-clause-state g c) (returns-in_default-clause-answer g c) a
+
+pub returns-in_default-clause-law : goal.returns-in_default-clause-law
+returns-in_default-clause-law g c = λ size r a. law_after size _ r a
+
+pub returns-in_default-clause-alike : goal.returns-in_default-clause-alike
+returns-in_default-clause-alike g c = λ other h. returns-in_default-clause-answer g c ∙ probe_alike c.args.id c.args.self.now other h
+
+pub index-requires : goal.index-requires
+index-requires g c =
+    let n : Some c.in-Some.i ≡ index_of c.args.id c.deref.result.now = c.in-Some.ensures.answer in
+    omega (arith, index_of-below c.args.id c.deref.result.now c.in-Some.i n, c.deref.ensures.len)
+
+pub index_mut-requires : goal.index_mut-requires
+index_mut-requires g c =
+    let n : Some c.in-Some.i ≡ index_of c.args.id c.deref.result.now = c.in-Some.ensures.answer in
+    omega (arith, index_of-below c.args.id c.deref.result.now c.in-Some.i n, c.deref.ensures.len)
+
+found_here : (g : _) (c : After-index g) → Found c.args.id c.args.self.now.competitors c.in-Some.i c.index.result.now
+found_here g c =
+    let v : c.self.inside.competitors.items ≡ c.args.self.now.competitors = ap (λ w. w.competitors) c.self.view_is in
+    let n : Some c.in-Some.i ≡ index_of c.args.id c.deref.result.now = c.in-Some.ensures.answer in
+    let e : Some c.in-Some.i ≡ index_of c.args.id c.args.self.now.competitors = cc in
+    let p : c.index.result.now ≡ get_or c.args.self.now.competitors c.in-Some.i c.index.result.now = rw (← v) c.index.ensures in
+    found c.args.id c.args.self.now.competitors c.in-Some.i c.index.result.now e p
+
+pub returns-in-Settled-clause-answer : goal.returns-in-Settled-clause-answer
+returns-in-Settled-clause-answer g c =
+    let f = found_here g (goal.at.returns-in-Settled-clause-answer g c).After-index in
+    rw (f.is, c.in-Settled.is) refl
+
+pub returns-in-Settled-clause-state : goal.returns-in-Settled-clause-state
+returns-in-Settled-clause-state g c =
+    let f = found_here g (goal.at.returns-in-Settled-clause-state g c).After-index in
+    rw (f.is, c.in-Settled.is) refl
+
+pub returns-in-Settled-clause-after : goal.returns-in-Settled-clause-after
+returns-in-Settled-clause-after g c = λ size r a.
+    after_call size c.args.self.now c.args.self.now r (Probed c.args.id (Err Holding)) (returns-in-Settled-clause-state g c) (returns-in-Settled-clause-answer g c) a
+
+pub returns-in-Settled-clause-law : goal.returns-in-Settled-clause-law
+returns-in-Settled-clause-law g c = λ size r a. law_after size _ r a
+
+pub returns-in-Settled-clause-alike : goal.returns-in-Settled-clause-alike
+returns-in-Settled-clause-alike g c = λ other h. returns-in-Settled-clause-answer g c ∙ probe_alike c.args.id c.args.self.now other h
+
+-- what the access answered and left
+record Going (g : _) (c : After-probed-stay g) : Type 0 where
+  bits : c.access.new.self ≡ after_access c.args.self.now.bits (probe_access c.args.self.now.size c.index.result.now.stay)
+  stay : c.probed-stay.result ≡ stay_probed c.args.self.now.size c.index.result.now.stay (got_by c.args.self.now c.index.result.now.stay)
+
+going : (g : _) (c : After-probed-stay g) → Going g c
+going g c =
+    let m : c.self.inside.bits ≡ c.args.self.now.bits = ap (λ w. w.bits) c.self.view_is in
+    let z : c.self.inside.size ≡ c.args.self.now.size = ap (λ w. w.size) c.self.view_is in
+    let access : c.probe_access.result ≡ probe_access c.self.inside.size c.index.result.now.stay = c.probe_access.ensures in
+    let got = rw (c.unwrap-got.ensures, access, m, z) at c.access.ensures.answer in
+    record {
+      bits = rw (c.unwrap-got.ensures, access, m, z) at c.access.ensures.after;
+      stay = rw (got, z) at c.probed-stay.ensures;
+    }
+
+pub returns-clause-answer : goal.returns-clause-answer
+returns-clause-answer g c =
+    let f = found_here g (goal.at.returns-clause-answer g c).After-index in
+    let w = going g (goal.at.returns-clause-answer g c).After-probed-stay in
+    ap Ok (c.probe_reply.ensures ∙ ap probe_reply w.stay)
+    ∙ sym (going_answer c.args.self.now c.args.id c.index.result.now.stay f.is c.in_default-stay.not-Settled)
+
+pub returns-clause-state : goal.returns-clause-state
+returns-clause-state g c =
+    let f = found_here g (goal.at.returns-clause-state g c).After-index in
+    let w = going g (goal.at.returns-clause-state g c).After-probed-stay in
+    let v : c.self.inside.competitors.items ≡ c.args.self.now.competitors = ap (λ w. w.competitors) c.self.view_is in
+    let z : c.self.inside.size ≡ c.args.self.now.size = ap (λ w. w.size) c.self.view_is in
+    rw (going_after c.args.self.now c.args.id c.index.result.now.stay f.is c.in_default-stay.not-Settled) (rw (f.put, w.bits, z, v, w.stay) refl)
+
+pub returns-clause-after : goal.returns-clause-after
+returns-clause-after g c = λ size r a.
+    after_call size c.args.self.now _ r (Probed c.args.id (Ok c.probe_reply.result)) (returns-clause-state g c) (returns-clause-answer g c) a
+
+pub returns-clause-law : goal.returns-clause-law
+returns-clause-law g c = λ size r a. law_after size _ r a
+
+pub returns-clause-alike : goal.returns-clause-alike
+returns-clause-alike g c = λ other h. returns-clause-answer g c ∙ probe_alike c.args.id c.args.self.now other h
+
+pub returns-clause-local : goal.returns-clause-local
+returns-clause-local g c = rw (returns-clause-state g c, returns-clause-answer g c) (probe_local c.args.id c.args.self.now)

@@ -1,0 +1,14 @@
+-- the law of the pool, over calls and their replies alone
+use Rattle.std.specs.Prelude.{◌≡◌, ℕ, ◌≤◌, List, length, Some, true}
+use Rattle.bit_allocator.specs.Calls.{Call}
+use Rattle.bit_allocator.specs.PoolObject.{PoolObject, IsRun, competes}
+
+-- the replies are those of the pool object, in order; no more compete than there are numbers, and what is held is one
+-- to one from those who compete into the numbers
+pub record KeepsPoolLaw (size : ℕ) (r : List Call) : Type 0 where
+  pub object : PoolObject
+  pub run : IsRun size r object
+  pub crowd : length object.competing ≤ object.size
+  pub by_competitors : (p n : ℕ) → object.held p ≡ Some n → competes object p ≡ true
+  pub in_range : (p n : ℕ) → object.held p ≡ Some n → (1 ≤ n) × (n ≤ object.size)
+  pub one_to_one : (p q n : ℕ) → object.held p ≡ Some n → object.held q ≡ Some n → p ≡ q

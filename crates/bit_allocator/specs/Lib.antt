@@ -1,0 +1,10 @@
+pub mod Stay
+pub mod Competitors
+pub mod PoolState
+pub mod Pool
+pub mod Locality
+pub mod Calls
+pub mod PoolObject
+pub mod Law
+pub mod After
+pub mod Sound

@@ -1,0 +1,55 @@
+-- locality: a competitor sees of the others what stands in the one bit that it reaches, and leaves of the pool nothing
+-- but that bit and its own state (this project's profile)
+use Rattle.std.specs.Prelude.{◌≡◌, ◌≢◌, ℕ, Option, Some, None, Result, IfOk, OnOk, unwrap_or}
+use Rattle.step_memory.specs.declared.access.Access.{Access}
+use Rattle.step_memory.specs.declared.access.Answer.{Answer}
+use Rattle.step_memory.specs.declared.refusal.Refusal.{Refusal}
+use Rattle.step_memory.specs.Registers.{register_of, answer_of, after_access}
+use Rattle.step_memory.specs.Steps.{Spares, AgreeAt}
+use Rattle.bit_allocator.specs.declared.probe.Probe.{Probe}
+use Rattle.bit_allocator.specs.declared.stay.Stay.{Stay}
+use Rattle.bit_allocator.specs.Stay.{probe_access, stay_probed, probe_reply, leave_access, held_at}
+use Rattle.bit_allocator.specs.Competitors.{stay_of}
+use Rattle.bit_allocator.specs.PoolState.{PoolState}
+
+-- a call of a competitor as functions of the size, of its own state, and of what its one access answers: the access,
+-- the reply, and the own state that is left (none: it competes no more)
+pub record OwnSteps (O : Type 0) : Type 0 where
+  pub access : ℕ → Stay → Access ℕ (Unit {0})
+  pub reply : ℕ → Stay → Answer (Unit {0}) → O
+  pub stay : ℕ → Stay → Answer (Unit {0}) → Option Stay
+
+abbrev pub probe_steps : OwnSteps Probe
+probe_steps = record {
+  access = probe_access;
+  reply = λ size stay got. probe_reply (stay_probed size stay got);
+  stay = λ size stay got. Some (stay_probed size stay got);
+}
+
+abbrev pub leave_steps : OwnSteps ℕ
+leave_steps = record {
+  access = leave_access;
+  reply = λ size stay got. unwrap_or (held_at stay) 0;
+  stay = λ size stay got. None;
+}
+
+module _ {O : Type 0} (steps : OwnSteps O) where
+  -- what the bits answer to the one access
+  abbrev pub got_in : PoolState → Stay → Answer (Unit {0})
+  got_in w stay = answer_of w.bits (steps.access w.size stay)
+
+  -- an accepted call of p makes the one access that p's own state names; its reply and p's new state are functions of
+  -- that state and the answer; nothing else changes
+  pub record IsLocal (p : ℕ) (old new : PoolState) (result : Result O Refusal) : Type 0 where
+    pub access : (stay : Stay) → stay_of p old.competitors ≡ Some stay → OnOk result (new.bits ≡ after_access old.bits (steps.access old.size stay))
+    pub reply : (stay : Stay) → stay_of p old.competitors ≡ Some stay → IfOk result (λ x. x ≡ steps.reply old.size stay (got_in old stay))
+    pub own : (stay : Stay) → stay_of p old.competitors ≡ Some stay → OnOk result (stay_of p new.competitors ≡ steps.stay old.size stay (got_in old stay))
+    pub others : (q : ℕ) → q ≢ p → stay_of q new.competitors ≡ stay_of q old.competitors
+    pub registers : (stay : Stay) → stay_of p old.competitors ≡ Some stay → (r : ℕ) → Spares (steps.access old.size stay) r → register_of new.bits r ≡ register_of old.bits r
+    pub size : new.size ≡ old.size
+
+  -- p stands alike in two pools of one size, and they have the same bit where p's own state names one
+  pub record LookAlike (p : ℕ) (one other : PoolState) : Type 0 where
+    pub size : one.size ≡ other.size
+    pub stay : stay_of p one.competitors ≡ stay_of p other.competitors
+    pub bit : (stay : Stay) → stay_of p one.competitors ≡ Some stay → AgreeAt (register_of one.bits) (register_of other.bits) (steps.access one.size stay)

@@ -1,0 +1,271 @@
+//! The pool.
+
+ghost use Rattle.std.specs.Prelude.{◌≡◌, ◌≤◌, ◌<◌, ◌⊎◌, ℕ, List, [], ◌∷◌, ◌++◌, IfOk, IfErr, IsOk, Err, MatchOption, Some, ◌≢◌};
+ghost use Rattle.bit_allocator.specs.Competitors.{index_of, holder_in, identities};
+ghost use Rattle.bit_allocator.specs.PoolState.{PoolState};
+ghost use Rattle.bit_allocator.specs.Pool.{fresh_pool, enter_refusal, enter_answer, after_enter, probe_answer, after_probe, number_answer, after_leave};
+ghost use Rattle.bit_allocator.specs.Locality.{IsLocal, LookAlike, probe_steps, leave_steps};
+ghost use Rattle.bit_allocator.specs.Calls.{Call};
+ghost use Rattle.bit_allocator.specs.Calls.Call.{Entered, Probed, Left};
+ghost use Rattle.bit_allocator.specs.PoolObject.{PoolObject, IsRun, number_in};
+ghost use Rattle.bit_allocator.specs.Law.{KeepsPoolLaw};
+ghost use Rattle.bit_allocator.specs.After.{After};
+
+use crate::competitor::Competitor;
+use crate::probe::Probe;
+use crate::stay::Stay;
+use std::alloc::Allocator;
+use std::marker::Model;
+use step_memory::{Memory, Refusal, StepMemory};
+
+/// The most numbers that a pool may have, and the most competitors.
+pub const MOST_NUMBERS: usize = 64;
+
+/// A pool of the numbers from 1 to its size. Each number below the size has a bit, which is set where it is held.
+#[derive(Drop)]
+pub struct Pool<A: Allocator> {
+    size: u8,
+    bits: Memory<(), A>,
+    competitors: Vec<Competitor, A>,
+}
+
+impl<A: Allocator> Model for Pool<A> {
+    ghost use Rattle.std.specs.Prelude.{◌≤◌, vec_capacity};
+    ghost use Rattle.bit_allocator.specs.PoolState.{PoolState};
+    ghost use Rattle.bit_allocator.specs.Sound.{IsSound};
+
+    ghost Value = { PoolState };
+
+    ghost view = { λ p. record { size = p.size; bits = p.bits; competitors = p.competitors.items } };
+
+    ghost invariant = { λ p. IsSound p.size p.competitors.items × (64 ≤ vec_capacity p.competitors) };
+}
+
+/// Where the competitor of an identity stands.
+fn find(competitors: &[Competitor], id: u64) -> Option<usize>
+    ensures answer { result ≡ index_of id competitors.now }
+{
+    for (i, competitor) in competitors.iter().enumerate() {
+        if competitor.identity == id {
+            return Some(i);
+        }
+    }
+    None
+}
+
+/// Who holds a number.
+fn holder(competitors: &[Competitor], number: u8) -> Option<u64>
+    ensures { result ≡ holder_in number competitors.now }
+{
+    for competitor in competitors {
+        if competitor.stay.holds(number) {
+            return Some(competitor.identity);
+        }
+    }
+    None
+}
+
+impl<A: Allocator + Clone> Pool<A> {
+    /// A pool of the numbers from 1 to `size`, which is from 1 to 64. All its room is taken here.
+    pub fn new(alloc: A, size: u64) -> Result<Self, Refusal>
+        ensures fresh { IfOk result (λ p. p ≡ fresh_pool size) }
+        ensures after { IfOk result (λ p. After size p []) }
+        ensures range { IsOk result → (1 ≤ size) × (size ≤ 64) }
+        ensures below { size ≡ 0 → result ≡ Err Refusal.OutOfRange }
+        ensures above { 64 < size → result ≡ Err Refusal.OutOfRange }
+        ensures out_of_range { result ≡ Err Refusal.OutOfRange → (1 ≤ size → 64 < size) }
+        ensures only { IfErr result (λ r. (r ≡ Refusal.NoMemory) ⊎ (r ≡ Refusal.OutOfRange)) }
+    {
+        if size < 1 || 64 < size {
+            return Err(Refusal::OutOfRange);
+        }
+        let Ok(other) = alloc.clone() else {
+            return Err(Refusal::NoMemory);
+        };
+        let Ok(bits) = Memory::new(other, (), 0, MOST_NUMBERS + 1) else {
+            return Err(Refusal::NoMemory);
+        };
+        match Vec::with_capacity(alloc, MOST_NUMBERS) {
+            Ok(competitors) => Ok(Pool {
+                size: size as u8,
+                bits,
+                competitors,
+            }),
+            Err(_) => Err(Refusal::NoMemory),
+        }
+    }
+}
+
+impl<A: Allocator> Pool<A> {
+    /// The size, which is the largest number.
+    pub fn size(&self) -> u64
+        ensures size { result ≡ self.now.size }
+        ensures range { (1 ≤ result) × (result ≤ 64) }
+    {
+        u64::from(self.size)
+    }
+
+    /// Those who compete, in the order of entering.
+    pub fn competitors(&self) -> &[Competitor]
+        ensures value { result.now ≡ self.now.competitors }
+        ensures law { (size : ℕ) (r : List Call) (o : PoolObject) → After size self.now r → IsRun size r o → identities result.now ≡ o.competing }
+    {
+        self.competitors.as_slice()
+    }
+
+    /// The number that an identity holds. Refused where the identity does not compete, then where it holds none.
+    pub fn number_of(&self, id: u64) -> Result<u8, Refusal>
+        ensures answer { result ≡ number_answer self.now id }
+        ensures range { IfOk result (λ n. (1 ≤ n) × (n ≤ self.now.size)) }
+        ensures law { (size : ℕ) (r : List Call) (o : PoolObject) → After size self.now r → IsRun size r o → result ≡ number_in o id }
+    {
+        let Some(i) = find(&self.competitors, id) else {
+            return Err(Refusal::NotCompeting);
+        };
+        match self.competitors[i].stay {
+            Stay::Seeking(_) => Err(Refusal::NotHolding),
+            Stay::Settled(number) => Ok(number),
+        }
+    }
+
+    /// Who holds a number.
+    pub fn holder_of(&self, number: u8) -> Option<u64>
+        ensures value { result ≡ holder_in number self.now.competitors }
+        ensures law { (size : ℕ) (r : List Call) (o : PoolObject) → After size self.now r → IsRun size r o → MatchOption result ((p : ℕ) → o.held p ≢ Some number) (λ p. o.held p ≡ Some number) }
+    {
+        holder(&self.competitors, number)
+    }
+
+    /// Why an identity may not enter.
+    fn enter_refusal(&self, id: u64) -> Option<Refusal>
+        ensures { result ≡ enter_refusal self.now id }
+    {
+        if id == 0 {
+            Some(Refusal::ZeroIdentity)
+        } else if find(&self.competitors, id).is_some() {
+            Some(Refusal::AlreadyCompeting)
+        } else if usize::from(self.size) <= self.competitors.len() {
+            Some(Refusal::Crowded)
+        } else {
+            None
+        }
+    }
+
+    /// An identity begins to compete, with no access. Refused where it is 0, then where it competes, then where as many
+    /// compete as there are numbers.
+    pub fn enter(&mut self, id: u64) -> Result<(), Refusal>
+        ensures answer { result ≡ enter_answer self.old id }
+        ensures state { self.new ≡ after_enter self.old id }
+        ensures after { (size : ℕ) (r : List Call) → After size self.old r → After size self.new (r ++ Entered id result ∷ []) }
+        ensures law { (size : ℕ) (r : List Call) → After size self.new r → KeepsPoolLaw size r }
+    {
+        if let Some(refusal) = self.enter_refusal(id) {
+            return Err(refusal);
+        }
+        self.competitors.push_reserved(Competitor {
+            identity: id,
+            stay: Stay::Seeking(1),
+        });
+        Ok(())
+    }
+
+    /// One probe, which is at most one access: the `i`-th of a stay tests and sets bit `i`. It gets the number `i` where
+    /// the bit was clear, and where it was set it gets the last number if there is no further bit. Refused where the
+    /// identity does not compete, then where it holds a number.
+    pub fn probe(&mut self, id: u64) -> Result<Probe, Refusal>
+        ensures answer { result ≡ probe_answer self.old id }
+        ensures state { self.new ≡ after_probe self.old id }
+        ensures after { (size : ℕ) (r : List Call) → After size self.old r → After size self.new (r ++ Probed id result ∷ []) }
+        ensures law { (size : ℕ) (r : List Call) → After size self.new r → KeepsPoolLaw size r }
+
+        // Nothing of the pool changes but this competitor and the bit that it names.
+        ensures local { IsLocal probe_steps id self.old self.new result }
+
+        // In another pool that looks alike to this competitor the answer is the same.
+        ensures alike { (other : PoolState) → LookAlike probe_steps id self.old other → result ≡ probe_answer other id }
+    {
+        let Some(i) = find(&self.competitors, id) else {
+            return Err(Refusal::NotCompeting);
+        };
+        let stay = self.competitors[i].stay;
+        if let Stay::Settled(_) = stay {
+            return Err(Refusal::Holding);
+        }
+        let got = self.bits.access(stay.probe_access(self.size)).unwrap();
+        let stay = stay.probed(self.size, got);
+        self.competitors[i] = Competitor { identity: id, stay };
+        Ok(stay.probe_reply())
+    }
+
+    /// Gives back the number that an identity holds, which competes no more: at most one access, which clears the
+    /// number's bit. Refused where the identity does not compete, then where it holds no number.
+    pub fn leave(&mut self, id: u64) -> Result<u8, Refusal>
+        ensures answer { result ≡ number_answer self.old id }
+        ensures state { self.new ≡ after_leave self.old id }
+        ensures after { (size : ℕ) (r : List Call) → After size self.old r → After size self.new (r ++ Left id result ∷ []) }
+        ensures law { (size : ℕ) (r : List Call) → After size self.new r → KeepsPoolLaw size r }
+
+        // Nothing of the pool changes but this competitor and the bit that it names.
+        ensures local { IsLocal leave_steps id self.old self.new result }
+
+        // In another pool that looks alike to this competitor the answer is the same.
+        ensures alike { (other : PoolState) → LookAlike leave_steps id self.old other → result ≡ number_answer other id }
+    {
+        let number = self.number_of(id)?;
+        let access = Stay::Settled(number).leave_access(self.size);
+        self.bits.access(access).unwrap();
+        self.competitors
+            .retain(|competitor| competitor.identity != id);
+        Ok(number)
+    }
+}
+
+#[cfg(test)]
+mod tests {
+    use super::*;
+    use std::test::Fail;
+
+    #[test]
+    fn sizes(rt: HostRuntime) {
+        for (size, taken) in [(0, false), (1, true), (64, true), (65, false)] {
+            let made = Pool::new(rt.alloc(), size);
+            assert_eq!(rt; made.is_ok(), taken, "at {size}");
+        }
+    }
+
+    #[test]
+    fn two_take_turns(rt: HostRuntime) -> Result<(), Fail> {
+        let mut pool = Pool::new(rt.alloc(), 2)?;
+        assert_eq!(rt; pool.size(), 2);
+        assert_eq!(rt; pool.enter(0), Err(Refusal::ZeroIdentity));
+        assert_eq!(rt; pool.enter(5), Ok(()));
+        assert_eq!(rt; pool.number_of(5), Err(Refusal::NotHolding));
+        assert_eq!(rt; pool.holder_of(1), None);
+        assert_eq!(rt; pool.probe(5), Ok(Probe::Got(1)));
+        assert_eq!(rt; pool.probe(5), Err(Refusal::Holding));
+        assert_eq!(rt; pool.enter(6), Ok(()));
+        assert_eq!(rt; pool.probe(6), Ok(Probe::Got(2)));
+        assert_eq!(rt; pool.enter(7), Err(Refusal::Crowded));
+        assert_eq!(rt; pool.number_of(6), Ok(2));
+        assert_eq!(rt; pool.holder_of(1), Some(5));
+        let seen = [
+            Competitor {
+                identity: 5,
+                stay: Stay::Settled(1),
+            },
+            Competitor {
+                identity: 6,
+                stay: Stay::Settled(2),
+            },
+        ];
+        assert_eq!(rt; pool.competitors(), seen.as_slice());
+        assert_eq!(rt; pool.leave(5), Ok(1));
+        assert_eq!(rt; pool.leave(5), Err(Refusal::NotCompeting));
+        assert_eq!(rt; pool.probe(7), Err(Refusal::NotCompeting));
+        assert_eq!(rt; pool.enter(7), Ok(()));
+        assert_eq!(rt; pool.leave(7), Err(Refusal::NotHolding));
+        assert_eq!(rt; pool.probe(7), Ok(Probe::Got(1)));
+        assert_eq!(rt; pool.leave(6), Ok(2));
+        Ok(())
+    }
+}

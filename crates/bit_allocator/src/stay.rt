@@ -1,0 +1,91 @@
+//! Where a competitor stands, from its entering to its leaving.
+
+ghost use Rattle.std.specs.Prelude.{◌≡◌};
+ghost use Rattle.bit_allocator.specs.Stay.{probe_access, stay_probed, probe_reply, leave_access, held_at};
+ghost use Rattle.bit_allocator.specs.Competitors.{holds_at};
+
+use crate::probe::Probe;
+use step_memory::{Access, Answer};
+
+/// The own state of a competitor. Its calls make the accesses that this state and the size of the pool name, and no
+/// others (Moir and Anderson 1995).
+#[derive(Clone, Copy, Debug, Drop, PartialEq, Eq)]
+pub enum Stay {
+    /// It holds no number, and its next probe is of this one: it missed all those below.
+    Seeking(u8),
+    /// It holds this number.
+    Settled(u8),
+}
+
+impl Stay {
+    /// The access of the next probe, in a pool of this size: the last number has no bit.
+    pub(crate) fn probe_access(self, size: u8) -> Access<usize, ()>
+        ensures { result ≡ probe_access size self }
+    {
+        match self {
+            Stay::Seeking(next) => {
+                if next < size {
+                    Access::TestAndSet(usize::from(next))
+                } else {
+                    Access::Nothing
+                }
+            }
+            Stay::Settled(_) => Access::Nothing,
+        }
+    }
+
+    /// The state after the next probe, whose access was answered so.
+    pub(crate) fn probed(self, size: u8, got: Answer<()>) -> Stay
+        ensures { result ≡ stay_probed size self got }
+    {
+        match (self, got) {
+            (Stay::Seeking(next), Answer::WasSet(true)) => {
+                if u16::from(next) + 1 < u16::from(size) {
+                    Stay::Seeking(next + 1)
+                } else {
+                    Stay::Settled(size)
+                }
+            }
+            (Stay::Seeking(next), Answer::WasSet(false)) => Stay::Settled(next),
+            (Stay::Seeking(_), Answer::Value(_)) => Stay::Settled(size),
+            (Stay::Seeking(_), Answer::Done) => Stay::Settled(size),
+            (Stay::Settled(number), _) => Stay::Settled(number),
+        }
+    }
+
+    /// What a probe answers that left this state.
+    pub(crate) fn probe_reply(self) -> Probe
+        ensures { result ≡ probe_reply self }
+    {
+        match self {
+            Stay::Seeking(_) => Probe::Missed,
+            Stay::Settled(number) => Probe::Got(number),
+        }
+    }
+
+    /// The access of leaving, in a pool of this size: the last number has no bit.
+    pub(crate) fn leave_access(self, size: u8) -> Access<usize, ()>
+        ensures { result ≡ leave_access size self }
+    {
+        match self {
+            Stay::Seeking(_) => Access::Nothing,
+            Stay::Settled(number) => {
+                if number < size {
+                    Access::Clear(usize::from(number))
+                } else {
+                    Access::Nothing
+                }
+            }
+        }
+    }
+
+    /// Whether this number is held.
+    pub(crate) fn holds(self, number: u8) -> bool
+        ensures { result ≡ holds_at number (held_at self) }
+    {
+        match self {
+            Stay::Seeking(_) => false,
+            Stay::Settled(held) => held == number,
+        }
+    }
+}

@@ -1,0 +1,6 @@
+pub mod Changed
+pub mod Views
+pub mod Accesses
+pub mod Dealing
+pub mod Meeting
+pub mod Visiting

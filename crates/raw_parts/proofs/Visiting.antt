@@ -1,0 +1,128 @@
+-- what the rule says of visits that ended under it
+use Rattle.std.proofs.Common.{◌≡◌, ◌≢◌, ℕ, ◌-◌, ◌<◌, ◌≤◌, inl, inr, ⊎_elim, true, false, sym, refl, ap, ◌∙◌, subst, arith, List, [], ◌∷◌}
+use mathlib.Core.Logic.{dite}
+use native.Mathlib.Decide.{ℕ_discrete}
+use Rattle.atomic_table.specs.Seated.{TableId}
+use Rattle.splitter.specs.declared.way.Way.{Way}
+use Rattle.splitter.specs.declared.way.Way.TheVariants.{Stop, Right, Down}
+use Rattle.splitter.specs.declared.stage.Stage.{Stage}
+use Rattle.splitter.specs.declared.stage.Stage.TheVariants.{Outside, WroteName, SawClear, WroteMark, Gone}
+use Rattle.splitter.specs.Law.{AtMostOneStopped, NotAllTook, IsSplit}
+use Rattle.splitter.specs.Door.{IsSplitter}
+use Rattle.splitter.specs.Stage.{has_entered, has_marked, went_right}
+use Rattle.splitter.proofs.DoorKept.{law_of}
+use Rattle.raw_parts.specs.declared.splitter_view.SplitterView.{SplitterView}
+use Rattle.raw_parts.specs.SplitterView.{name_of, visit_at, view_of, lone_view}
+use Rattle.raw_parts.specs.SplitterRule.{IsShown}
+use Rattle.raw_parts.specs.SplitterSteps.{IsUnderRule, EndsUnderRule, WentRightAfterAnother}
+use Rattle.raw_parts.specs.Seats.{SplitterId, EndedVisit, seats_in, IsEither, EitherTook}
+use Rattle.raw_parts.proofs.Accesses.{same_number}
+
+-- whoever set Y has begun
+marked_entered : (s : Stage) → has_marked s ≡ true → has_entered s ≡ true
+marked_entered Outside h = absurd (cc)
+marked_entered WroteName h = absurd (cc)
+marked_entered SawClear h = absurd (cc)
+marked_entered WroteMark h = refl
+marked_entered (Gone way) h = refl
+
+-- one that went neither right nor down stopped
+neither : (way : Way) → way ≢ Right → way ≢ Down → way ≡ Stop
+neither Stop r d = refl
+neither Right r d = absurd (r refl)
+neither Down r d = absurd (d refl)
+
+module _ (n k : ℕ) where
+  -- who went right did so where another had set Y
+  pub right_of_another : (way : Way) → EndsUnderRule n k way → way ≡ Right → WentRightAfterAnother n k
+  right_of_another way u is =
+      let ended : EndsUnderRule n k Right = subst (λ (w : Way). EndsUnderRule n k w) is u in
+      let h = ended.kept in
+      let mine : h.stage (name_of k) ≡ Gone Right = (h.shown ended.seat _ ended.there).0.0.stage_is in
+      let marker = h.lawful.door.marker (λ clear. let r : went_right (h.stage (name_of k)) ≡ true = rw mine refl in let no_right = h.lawful.door.none_right clear (name_of k) in cc) in
+      let seated = h.lawful.seated marker.0 (marked_entered (h.stage marker.0) marker.1) in
+      let other : ℕ = marker.0 - 1 in
+      let name_is : name_of other ≡ marker.0 = (let s = seated.0 in omega arith) in
+      record {
+        ended = ended;
+        other = other;
+        in_range = (let s = seated.0 in let t = seated.1 in omega arith);
+        another = λ e. let stage_is : h.stage marker.0 ≡ Gone Right = ap h.stage (sym name_is ∙ ap name_of e) ∙ mine in let unmarked : has_marked (h.stage marker.0) ≡ false = rw stage_is refl in let marked = marker.1 in cc;
+        marked = subst (λ (q : ℕ). has_marked (h.stage q) ≡ true) (sym name_is) marker.1;
+      }
+
+  -- the only seat stops
+  pub alone_stops : (way : Way) → n ≡ 1 → EndsUnderRule n k way → way ≡ Stop
+  alone_stops way one u =
+      let h = u.kept in
+      let shown : IsShown n h.seat_of h.stage u.seat (lone_view n k (Gone way)) (visit_at k (Gone way)) = (h.shown u.seat _ u.there).0.0 in
+      let law : IsSplitter h.stage = law_of h.x h.y h.stage h.lawful.door in
+      let entered : has_entered (h.stage (name_of k)) ≡ true = rw shown.stage_is refl in
+      let all : (w : Way) → NotAllTook w (λ p. has_entered (h.stage p) ≡ true) (λ p v. h.stage p ≡ Gone v) → way ≢ w =
+      (λ w not_all e.
+      let r = not_all (name_of k) entered in
+      let seated = h.lawful.seated r.0 r.1 in
+      let s = seated.0 in let t = seated.1 in let in_range = shown.in_range in
+      let same : r.0 ≡ name_of k = omega arith in
+      r.2 (ap h.stage same ∙ shown.stage_is ∙ ap Gone e)) in
+      neither way (all Right law.not_all_right) (all Down law.not_all_down)
+
+-- the badge of a seat that has entered has the view of that seat alone
+pub badge_view : (views : List SplitterView) (table : TableId) (number : ℕ) (way : Way) (e : EndedVisit) (s : SplitterId) (v : SplitterView)
+    → views ≡ lone_view (seats_in views) number (Gone way) ∷ []
+    → record { splitter = record { table = table; seats = seats_in views }; number = number; way = way } ≡ e
+    → e.splitter ≡ s
+    → views ≡ v ∷ []
+    → v ≡ lone_view s.seats e.number (Gone e.way)
+badge_view views table number way e s v one is of single =
+    let first : v ≡ lone_view (seats_in views) number (Gone way) = cc in
+    first ∙ ap (λ (x : EndedVisit). lone_view x.splitter.seats x.number (Gone x.way)) is ∙ ap (λ (x : SplitterId). lone_view x.seats e.number (Gone e.way)) of
+
+-- two visits that ended, under one rule
+module _ (n : ℕ) (a b : EndedVisit) (u : IsUnderRule (view_of n (visit_at a.number (Gone a.way) ∷ visit_at b.number (Gone b.way) ∷ []))) where
+  abbrev stage : ℕ → Stage
+  stage = u.kept.stage
+
+  law : IsSplitter stage
+  law = law_of u.kept.x u.kept.y stage u.kept.lawful.door
+
+  -- they are of two numbers
+  pub apart : a.number ≢ b.number
+  apart e = (u.kept.shown u.seat _ u.there).1.0.0 (sym e)
+
+  -- the stages say so of whoever took a way
+  gone : (p : ℕ) (way : Way) → EitherTook a b p way → stage (name_of p) ≡ Gone way
+  gone p way = ⊎_elim
+      (λ (t : (p ≡ a.number) × (way ≡ a.way)). ap (λ k. stage (name_of k)) t.0 ∙ (u.kept.shown u.seat _ u.there).0.0.stage_is ∙ ap Gone (sym t.1))
+      (λ (t : (p ≡ b.number) × (way ≡ b.way)). ap (λ k. stage (name_of k)) t.0 ∙ (u.kept.shown u.seat _ u.there).0.1.0.stage_is ∙ ap Gone (sym t.1))
+
+  -- they did not both stop
+  pub one_stops : AtMostOneStopped (EitherTook a b)
+  one_stops p q h k = same_number p q (law.one_stops (name_of p) (name_of q) (gone p Stop h) (gone q Stop k))
+
+  -- where there are two seats, whoever entered is one of the two
+  entrant : n ≡ 2 → (r : ℕ) → (0 < r) × (r ≤ n) → (q : ℕ) × IsEither a b q × (name_of q ≡ r)
+  entrant two r within =
+      let first = (u.kept.shown u.seat _ u.there).0.0.in_range in
+      let second = (u.kept.shown u.seat _ u.there).0.1.0.in_range in
+      let differ = apart in
+      let more = within.0 in
+      let most = within.1 in
+      dite (ℕ_discrete (name_of a.number) r) (λ e. (a.number, inl refl, e)) (λ ne. (b.number, inr refl, omega arith))
+
+  -- the two have entered
+  entered : (p : ℕ) → IsEither a b p → has_entered (stage (name_of p)) ≡ true
+  entered p = ⊎_elim
+      (λ e. let g = gone p a.way (inl (e, refl)) in rw g refl)
+      (λ e. let g = gone p b.way (inr (e, refl)) in rw g refl)
+
+  -- what not all took, these two did not both take
+  not_all : n ≡ 2 → (way : Way) → NotAllTook way (λ p. has_entered (stage p) ≡ true) (λ p w. stage p ≡ Gone w) → NotAllTook way (IsEither a b) (EitherTook a b)
+  not_all two way some p is =
+      let r = some (name_of p) (entered p is) in
+      let e = entrant two r.0 (u.kept.lawful.seated r.0 r.1) in
+      (e.0, e.1, λ took. r.2 (ap stage (sym e.2) ∙ gone e.0 way took))
+
+  -- so the two are split
+  pub split_of_two : n ≡ 2 → IsSplit (IsEither a b) (EitherTook a b)
+  split_of_two two = record { one_stops = one_stops; not_all_right = not_all two Right law.not_all_right; not_all_down = not_all two Down law.not_all_down }

@@ -1,0 +1,4 @@
+pub mod SplitterView
+pub mod SplitterRule
+pub mod SplitterSteps
+pub mod Seats

@@ -1,0 +1,69 @@
+-- The rule of a splitter over raw words: how its two words and the views of all its seats agree between any two steps.
+-- What agrees is what `DoorIsLawful` says of any splitter (Moir and Anderson 1995). At most one stopped, and then no other
+-- that is between its reading of Y and its end stands in X. Where Y is clear no one has set it and no one went right, else
+-- someone has set it. X names one who has not gone down, once anyone has begun. That the words of a table and the views
+-- of its seats keep this is this project's profile.
+use Rattle.std.specs.Prelude.{◌≡◌, ◌≢◌, ◌⊎◌, ℕ, ◌<◌, ◌≤◌, true, List, [], ◌∷◌}
+use mathlib.Core.Option.{some}
+use lib.ListN.{get_elem?}
+use Rattle.atomic_table.specs.Table.{State}
+use Rattle.splitter.specs.declared.stage.Stage.{Stage}
+use Rattle.splitter.specs.Stage.{has_entered}
+use Rattle.splitter.specs.Door.{DoorIsLawful}
+use Rattle.raw_parts.specs.declared.splitter_view.Visit.{Visit}
+use Rattle.raw_parts.specs.declared.splitter_view.SplitterView.{SplitterView}
+use Rattle.raw_parts.specs.SplitterView.{name_of}
+
+-- what stands in X and in Y agrees with how far the visit of each name has come
+pub record IsLawful (seats x y : ℕ) (stage : ℕ → Stage) : Type 0 where
+  pub door : DoorIsLawful x y stage
+  -- only the seats' names enter, so 0 does not
+  pub seated : (name : ℕ) → has_entered (stage name) ≡ true → (0 < name) × (name ≤ seats)
+  -- where X is not 0, it names one who has begun
+  pub begun : x ≢ 0 → has_entered (stage x) ≡ true
+
+-- what a view of a seat says of a visit is so
+pub record IsShown (seats : ℕ) (seat_of : ℕ → ℕ) (stage : ℕ → Stage) (seat : ℕ) (view : SplitterView) (v : Visit) : Type 0 where
+  pub seats_are : view.seats ≡ seats
+  pub in_range : v.number < seats
+  pub own : seat_of v.number ≡ seat
+  pub stage_is : stage (name_of v.number) ≡ v.stage
+
+-- a fact of each visit
+abbrev pub Each : (Visit → Type 0) → List Visit → Type 0
+Each P [] = Unit {0}
+Each P (v ∷ vs) = P v × Each P vs
+
+-- no number has two visits
+abbrev pub NoneTwice : List Visit → Type 0
+NoneTwice [] = Unit {0}
+NoneTwice (v ∷ vs) = Each (λ w. w.number ≢ v.number) vs × NoneTwice vs
+
+-- what a view says is so
+abbrev pub Shows : ℕ → (ℕ → ℕ) → (ℕ → Stage) → ℕ → SplitterView → Type 0
+Shows seats seat_of stage seat view = Each (IsShown seats seat_of stage seat view) view.visits × NoneTwice view.visits
+
+-- the visit of this number is one of these
+abbrev pub IsAmong : ℕ → List Visit → Type 0
+IsAmong number [] = ⊥
+IsAmong number (v ∷ vs) = (v.number ≡ number) ⊎ IsAmong number vs
+
+-- the visit of this number stands in the view of this seat
+abbrev pub IsHeld : List SplitterView → ℕ → ℕ → Type 0
+IsHeld views seat number = (v : SplitterView) × (get_elem? views seat ≡ some v) × IsAmong number v.visits
+
+-- The rule. The words are X and Y, and the visits are so far that they are lawful with these words; each visit is one
+-- seat's to make, stands in the view of that seat, and is as far as that view says. A view with no visit, as a join
+-- leaves it, says nothing
+pub record IsKept (seats : ℕ) (words : List ℕ) (views : List SplitterView) : Type 0 where
+  pub x : ℕ
+  pub y : ℕ
+  pub words_are : words ≡ x ∷ y ∷ []
+  pub stage : ℕ → Stage
+  pub lawful : IsLawful seats x y stage
+  pub seat_of : ℕ → ℕ
+  pub held : (number : ℕ) → number < seats → IsHeld views (seat_of number) number
+  pub shown : (seat : ℕ) (v : SplitterView) → get_elem? views seat ≡ some v → Shows seats seat_of stage seat v
+
+abbrev pub KeepsRule : {S : Type 0} → ℕ → State S SplitterView → Type 0
+KeepsRule seats s = IsKept seats s.words s.views

@@ -1,0 +1,29 @@
+-- what a seat of a splitter knows
+use Rattle.std.specs.Prelude.{ℕ, zero, suc, ◌+◌, ◌-◌, List, [], ◌∷◌}
+use Rattle.splitter.specs.declared.stage.Stage.{Stage}
+use Rattle.splitter.specs.declared.stage.Stage.TheVariants.{Outside}
+use Rattle.raw_parts.specs.declared.splitter_view.Visit.{Visit}
+use Rattle.raw_parts.specs.declared.splitter_view.SplitterView.{SplitterView}
+
+-- a seat's name, which it writes into X: its number plus one, for 0 in X says that no seat has begun
+abbrev pub name_of : ℕ → ℕ
+name_of number = number + 1
+
+abbrev pub visit_at : ℕ → Stage → Visit
+visit_at number stage = record { number = number; stage = stage }
+
+abbrev pub view_of : ℕ → List Visit → SplitterView
+view_of seats visits = record { seats = seats; visits = visits }
+
+-- the view of a seat with one visit
+abbrev pub lone_view : ℕ → ℕ → Stage → SplitterView
+lone_view seats number stage = view_of seats (visit_at number stage ∷ [])
+
+-- so many visits that have not begun, by rising number
+abbrev pub unbegun_from : ℕ → ℕ → List Visit
+unbegun_from number zero = []
+unbegun_from number (suc count) = visit_at number Outside ∷ unbegun_from (number + 1) count
+
+-- the view of the seat that the others are dealt from: the visits of a splitter's seats from this number on
+abbrev pub undealt_from : ℕ → ℕ → SplitterView
+undealt_from number seats = view_of seats (unbegun_from number (seats - number))

@@ -1,0 +1,205 @@
+//! The splitter.
+
+ghost use Rattle.std.specs.Prelude.{◌≡◌, ◌≢◌, ◌<◌, ◌≤◌, ◌+◌, [], ◌∷◌, ◌++◌, IfOk, IfErr, IsOk, Err, ◌⊎◌, ◌↔◌};
+ghost use Rattle.splitter.specs.Law.{AtMostOneStopped, IsSplit};
+ghost use Rattle.splitter.specs.declared.stage.Stage.TheVariants.{Outside, Gone};
+ghost use Rattle.splitter.specs.declared.way.Way.TheVariants.{Stop, Right};
+ghost use Rattle.raw_parts.specs.declared.splitter_view.Visit.{Visit};
+ghost use Rattle.raw_parts.specs.SplitterView.{view_of, lone_view, undealt_from};
+ghost use Rattle.raw_parts.specs.SplitterSteps.{IsUnderRule, EndsUnderRule, WentRightAfterAnother};
+ghost use Rattle.raw_parts.specs.Seats.{seat_of, first_seats, ended_by, IsEither, EitherTook};
+
+use crate::seats::{EnteredSeat, FreshSeat};
+use crate::splitter_steps::{Deal, Look, Part, ReadX, ReadY, Splitting, Unite, WriteX, WriteY};
+use crate::splitter_view::SplitterView;
+use atomic_table::{Badge, Seat, Table};
+use splitter::Way;
+use std::alloc::{AllocError, Allocator};
+use std::marker::Model;
+use std::mem;
+use step_memory::Refusal;
+
+/// The most seats of a splitter.
+const MOST_SEATS: u64 = 64;
+
+/// The word that holds the name of a seat that entered, at first 0.
+const X: usize = 0;
+
+/// The word that is set once a seat found it clear, at first 0.
+const Y: usize = 1;
+
+/// What stands in Y once it is set.
+const SET: u64 = 1;
+
+/// A splitter on two atomic words, for the seats that came with it.
+///
+/// A visit (Moir and Anderson 1995), each line one atomic access. A seat's name is its number plus one, since 0 in X says
+/// that no seat has begun.
+///
+/// 1. Write the seat's name into X.
+/// 2. Read Y. Where it is set the visit goes right.
+/// 3. Set Y.
+/// 4. Read X. Where the seat's name stands there the visit stops, else it goes down.
+#[derive(Drop)]
+pub struct RawSplitter<A: Allocator> {
+    // It has no slots, so what a slot holds says nothing.
+    table: Table<u8, SplitterView, u64, Splitting, A>,
+}
+
+impl<A: Allocator> Model for RawSplitter<A> {
+    ghost use Rattle.std.specs.Prelude.{◌≡◌};
+    ghost use Rattle.raw_parts.specs.Seats.{SplitterId};
+
+    ghost Value = { SplitterId };
+
+    ghost view = { λ s. record { table = s.table.shared.table_id; seats = s.table.shared.key } };
+
+    ghost invariant = { λ s. s.table.shared.table_id.words ≡ 2 };
+}
+
+impl<A: Allocator + Clone> RawSplitter<A> {
+    /// A splitter of `seats` seats, from 1 to 64, with the seats by rising number from 0. `OutOfRange` elsewhere, and
+    /// `NoMemory` only where its memory was refused.
+    pub fn new(alloc: A, seats: u64) -> Result<(RawSplitter<A>, Vec<FreshSeat, A>), Refusal>
+        ensures splitter { IfOk result (λ r. r.0.seats ≡ seats) }
+        ensures seats { IfOk result (λ r. r.1.items ≡ first_seats r.0 seats) }
+        ensures range { IsOk result → (1 ≤ seats) × (seats ≤ 64) }
+        ensures out_of_range { result ≡ Err Refusal.OutOfRange ↔ ((seats < 1) ⊎ (64 < seats)) }
+        ensures only { IfErr result (λ r. (r ≡ Refusal.NoMemory) ⊎ (r ≡ Refusal.OutOfRange)) }
+    {
+        if seats < 1 || MOST_SEATS < seats {
+            return Err(Refusal::OutOfRange);
+        }
+        let Ok(other) = alloc.clone() else {
+            return Err(Refusal::NoMemory);
+        };
+        let Ok((splitter, mut rest)) = RawSplitter::open(alloc, seats) else {
+            return Err(Refusal::NoMemory);
+        };
+        let Ok(mut dealt) = Vec::with_capacity(other, seats as usize) else {
+            return Err(Refusal::NoMemory);
+        };
+        for number in 0..seats {
+            dealt.push_reserved(splitter.deal(&mut rest, number));
+        }
+        Ok((splitter, dealt))
+    }
+}
+
+impl<A: Allocator> RawSplitter<A> {
+    /// A splitter of two seats, with the two. `NoMemory` where its memory was refused.
+    pub fn pair(alloc: A) -> Result<(RawSplitter<A>, FreshSeat, FreshSeat), Refusal>
+        ensures splitter { IfOk result (λ r. r.0.seats ≡ 2) }
+        ensures seats { IfOk result (λ r. (r.1 ≡ seat_of r.0 0) × (r.2 ≡ seat_of r.0 1)) }
+        ensures only { IfErr result (λ r. r ≡ Refusal.NoMemory) }
+    {
+        let Ok((splitter, mut rest)) = RawSplitter::open(alloc, 2) else {
+            return Err(Refusal::NoMemory);
+        };
+        let first = splitter.deal(&mut rest, 0);
+        let second = splitter.deal(&mut rest, 1);
+        Ok((splitter, first, second))
+    }
+
+    /// A splitter that no seat has entered, and the seat that all others are dealt from.
+    fn open(alloc: A, seats: u64) -> Result<(RawSplitter<A>, Seat<u8, SplitterView>), AllocError>
+        ensures splitter { IfOk result (λ r. r.0.seats ≡ seats) }
+        ensures rest { IfOk result (λ r. (r.1.table_id ≡ r.0.table) × (r.1.me ≡ (undealt_from 0 seats, []))) }
+    {
+        let (table, rest) = Table::of_words(alloc, &[0, 0], &seats)?;
+        Ok((RawSplitter { table }, rest))
+    }
+
+    /// The seat of the least number that is not yet dealt out.
+    fn deal(&self, rest: &mut Seat<u8, SplitterView>, number: u64) -> FreshSeat
+        requires ours { rest.old.table_id ≡ self.now.table }
+        requires undealt { rest.old.me ≡ (undealt_from number self.now.seats, []) }
+        requires range { (number < self.now.seats) × (number < 64) }
+        ensures ours { rest.new.table_id ≡ self.now.table }
+        ensures undealt { rest.new.me ≡ (undealt_from (number + 1) self.now.seats, []) }
+        ensures seat { result ≡ seat_of self.now number }
+    {
+        let seat = self.table.shared.split_seat::<Deal>(rest);
+        FreshSeat { number, seat }
+    }
+
+    /// Makes the visit of a seat, of at most four accesses whatever the other seats do, and tells the way that it ended.
+    /// It goes right only where another seat had set Y, and the only seat of a splitter stops. The seat is of this
+    /// splitter.
+    pub fn enter(&self, fresh: FreshSeat) -> (EnteredSeat, Way)
+        requires ours { fresh.splitter ≡ self.now }
+        ensures seat { result.0 ≡ ended_by fresh result.1 }
+
+        // The seat is under the rule of the splitter, with all others that enter.
+        ensures lawful { EndsUnderRule self.now.seats fresh.number result.1 }
+        ensures right { result.1 ≡ Right → WentRightAfterAnother self.now.seats fresh.number }
+        ensures alone { self.now.seats ≡ 1 → result.1 ≡ Stop }
+    {
+        let FreshSeat { number, mut seat } = fresh;
+        let way = self.visit(&mut seat, number);
+        let badge = seat.into_badge();
+        (EnteredSeat { number, way, badge }, way)
+    }
+
+    /// The accesses of a visit, in their order.
+    fn visit(&self, seat: &mut Seat<u8, SplitterView>, number: u64) -> Way
+        requires ours { seat.old.table_id ≡ self.now.table }
+        requires fresh { seat.old.me ≡ (lone_view self.now.seats number Outside, []) }
+        requires few { number < 64 }
+        ensures ours { seat.new.table_id ≡ self.now.table }
+        ensures ended { seat.new.me ≡ (lone_view self.now.seats number (Gone result), []) }
+        ensures lawful { EndsUnderRule self.now.seats number result }
+    {
+        let name = number + 1;
+        self.table.shared.store::<WriteX>(seat, X, name);
+        if self.table.shared.load::<ReadY>(seat, Y) != 0 {
+            return Way::Right;
+        }
+        self.table.shared.store::<WriteY>(seat, Y, SET);
+        if self.table.shared.load::<ReadX>(seat, X) == name {
+            Way::Stop
+        } else {
+            Way::Down
+        }
+    }
+
+    /// Two seats that have entered meet, and show that they keep the law: they did not both stop, and of a pair they went
+    /// neither both right nor both down. Both are of this splitter, and stay as they are.
+    pub fn meet(&self, one: &mut EnteredSeat, other: &mut EnteredSeat)
+        requires one { one.old.splitter ≡ self.now }
+        requires other { other.old.splitter ≡ self.now }
+        ensures one { one.new ≡ one.old }
+        ensures other { other.new ≡ other.old }
+        ensures apart { one.old.number ≢ other.old.number }
+        ensures one_stops { AtMostOneStopped (EitherTook one.old other.old) }
+
+        // Where the splitter has two seats, the two that met are all that entered.
+        ensures split { self.now.seats ≡ 2 → IsSplit (IsEither one.old other.old) (EitherTook one.old other.old) }
+    {
+        let left = mem::replace(&mut one.badge, Badge::blank()).into_seat::<u8>();
+        let right = mem::replace(&mut other.badge, Badge::blank()).into_seat::<u8>();
+        let (left, right) = self.look_together(left, right);
+        one.badge = left.into_badge();
+        other.badge = right.into_badge();
+    }
+
+    /// Two seats with a visit each become one, look at a word and part again: so both visits are under one rule.
+    fn look_together(
+        &self,
+        mut left: Seat<u8, SplitterView>,
+        right: Seat<u8, SplitterView>,
+    ) -> (Seat<u8, SplitterView>, Seat<u8, SplitterView>)
+        requires ours { (left.table_id ≡ self.now.table) × (right.table_id ≡ self.now.table) }
+        requires left { (v : Visit) × (left.me ≡ (view_of self.now.seats (v ∷ []), [])) }
+        requires right { (v : Visit) × (right.me ≡ (view_of self.now.seats (v ∷ []), [])) }
+        ensures ours { (result.0.table_id ≡ self.now.table) × (result.1.table_id ≡ self.now.table) }
+        ensures left { result.0.me ≡ left.me }
+        ensures right { result.1.me ≡ right.me }
+        ensures met { IsUnderRule (view_of self.now.seats (left.me.0.visits ++ right.me.0.visits)) }
+    {
+        self.table.shared.join_seat::<Unite>(&mut left, right);
+        self.table.shared.load::<Look>(&mut left, Y);
+        let right = self.table.shared.split_seat::<Part>(&mut left);
+        (left, right)
+    }
+}

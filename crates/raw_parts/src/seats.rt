@@ -1,0 +1,65 @@
+//! The seats of a splitter, before and after their visits.
+
+ghost use Rattle.std.specs.Prelude.{◌≡◌};
+
+use crate::splitter_view::SplitterView;
+use atomic_table::{Badge, Seat};
+use splitter::Way;
+use std::marker::Model;
+
+/// A seat that has not entered. To enter uses it up, so no seat enters twice.
+#[derive(Drop)]
+pub struct FreshSeat {
+    pub(crate) number: u64,
+    pub(crate) seat: Seat<u8, SplitterView>,
+}
+
+impl Model for FreshSeat {
+    ghost use Rattle.std.specs.Prelude.{◌≡◌, ◌<◌, []};
+    ghost use Rattle.splitter.specs.declared.stage.Stage.TheVariants.{Outside};
+    ghost use Rattle.raw_parts.specs.SplitterView.{lone_view};
+    ghost use Rattle.raw_parts.specs.Seats.{SeatId};
+
+    ghost Value = { SeatId };
+
+    ghost view = { λ f. record { splitter = record { table = f.seat.table_id; seats = f.seat.me.0.seats }; number = f.number } };
+
+    ghost invariant = { λ f. (f.number < 64) × (f.seat.me ≡ (lone_view f.seat.me.0.seats f.number Outside, [])) };
+}
+
+/// A seat that has entered, and the way that its visit ended.
+#[derive(Drop)]
+pub struct EnteredSeat {
+    pub(crate) number: u64,
+    pub(crate) way: Way,
+    pub(crate) badge: Badge<SplitterView>,
+}
+
+impl Model for EnteredSeat {
+    ghost use Rattle.std.specs.Prelude.{◌≡◌, [], ◌∷◌};
+    ghost use Rattle.splitter.specs.declared.stage.Stage.TheVariants.{Gone};
+    ghost use Rattle.raw_parts.specs.SplitterView.{lone_view};
+    ghost use Rattle.raw_parts.specs.Seats.{EndedVisit, seats_in};
+
+    ghost Value = { EndedVisit };
+
+    ghost view = { λ e. record { splitter = record { table = e.badge.table_id; seats = seats_in e.badge.views }; number = e.number; way = e.way } };
+
+    ghost invariant = { λ e. e.badge.views ≡ lone_view (seats_in e.badge.views) e.number (Gone e.way) ∷ [] };
+}
+
+impl EnteredSeat {
+    /// The seat's number, from 0.
+    pub fn number(&self) -> u64
+        ensures { result ≡ self.now.number }
+    {
+        self.number
+    }
+
+    /// The way that the visit ended.
+    pub fn way(&self) -> Way
+        ensures { result ≡ self.now.way }
+    {
+        self.way
+    }
+}

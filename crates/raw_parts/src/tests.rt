@@ -1,0 +1,135 @@
+ghost use Rattle.std.specs.Prelude.{◌≡◌};
+
+use crate::{EnteredSeat, RawSplitter};
+use linked_list_allocator::LocalHeap;
+use splitter::Way;
+use std::alloc::Global;
+use std::process::Abort;
+use std::test::Fail;
+use std::thread::{Threads, join};
+use step_memory::Refusal;
+
+#[test]
+fn one_alone_stops(rt: HostRuntime) -> Result<(), Fail> {
+    let (splitter, mut seats) = RawSplitter::new(rt.alloc(), 1)?;
+    let Some(seat) = seats.pop() else {
+        panic!(rt; "no seat");
+    };
+    let (entered, way) = splitter.enter(seat);
+    assert_eq!(rt;
+        (entered.number(), entered.way(), way),
+        (0, Way::Stop, Way::Stop)
+    );
+    Ok(())
+}
+
+#[test]
+fn the_first_of_a_pair_stops(rt: HostRuntime) -> Result<(), Fail> {
+    let (splitter, first, second) = RawSplitter::pair(rt.alloc())?;
+    let (mut one, first_way) = splitter.enter(first);
+    let (mut other, second_way) = splitter.enter(second);
+    splitter.meet(&mut one, &mut other);
+    assert_eq!(rt; (first_way, second_way), (Way::Stop, Way::Right));
+    assert_eq!(rt; (one.number(), one.way()), (0, Way::Stop));
+    assert_eq!(rt; (other.number(), other.way()), (1, Way::Right));
+    Ok(())
+}
+
+#[test]
+fn the_second_of_a_pair_stops_where_it_comes_first(rt: HostRuntime) -> Result<(), Fail> {
+    let (splitter, first, second) = RawSplitter::pair(rt.alloc())?;
+    let (mut other, second_way) = splitter.enter(second);
+    let (mut one, first_way) = splitter.enter(first);
+    splitter.meet(&mut one, &mut other);
+    assert_eq!(rt; (first_way, second_way), (Way::Right, Way::Stop));
+    Ok(())
+}
+
+#[test]
+fn the_first_of_three_stops(rt: HostRuntime) -> Result<(), Fail> {
+    let (splitter, mut seats) = RawSplitter::new(rt.alloc(), 3)?;
+    let (Some(third), Some(second), Some(first)) = (seats.pop(), seats.pop(), seats.pop()) else {
+        panic!(rt; "too few seats");
+    };
+    let (mut second, second_way) = splitter.enter(second);
+    let (mut first, first_way) = splitter.enter(first);
+    let (mut third, third_way) = splitter.enter(third);
+    splitter.meet(&mut first, &mut third);
+    splitter.meet(&mut second, &mut third);
+    assert_eq!(rt;
+        (first.number(), second.number(), third.number()),
+        (0, 1, 2)
+    );
+    assert_eq!(rt;
+        (first_way, second_way, third_way),
+        (Way::Right, Way::Stop, Way::Right)
+    );
+    Ok(())
+}
+
+#[test]
+fn one_to_sixty_four_seats(rt: HostRuntime) -> Result<(), Fail> {
+    for seats in [0, 65] {
+        let Err(refusal) = RawSplitter::new(rt.alloc(), seats) else {
+            panic!(rt; "accepted");
+        };
+        assert_eq!(rt; refusal, Refusal::OutOfRange);
+    }
+    let (_splitter, seats) = RawSplitter::new(rt.alloc(), 64)?;
+    assert_eq!(rt; seats.len(), 64);
+    Ok(())
+}
+
+/// The ways of two threads that enter the seats of a pair at once.
+fn race<R: Threads + Sync>(rt: &R, alloc: Global) -> Result<(Way, Way), Refusal> {
+    let (splitter, first, second) = RawSplitter::pair(alloc)?;
+    let shared = &splitter;
+    let ((mut one, first_way), (mut other, second_way)) = join(
+        rt,
+        move || -> (EnteredSeat, Way)
+            requires { first.splitter ≡ shared.now }
+            ensures { result.0.splitter ≡ shared.entry.now }
+        { shared.enter(first) },
+        move || -> (EnteredSeat, Way)
+            requires { second.splitter ≡ shared.now }
+            ensures { result.0.splitter ≡ shared.entry.now }
+        { shared.enter(second) },
+    );
+    splitter.meet(&mut one, &mut other);
+    Ok((first_way, second_way))
+}
+
+#[test]
+fn two_threads_are_split(rt: HostRuntime) -> Result<(), Fail> {
+    for _ in 0..1000 {
+        let (one, other) = race(&rt, rt.alloc())?;
+        assert!(rt; one != other, "both took one way");
+    }
+    Ok(())
+}
+
+#[test]
+fn each_want_of_memory_is_told(rt: HostRuntime) -> Result<(), Fail> {
+    // Heaps of rising size, so that each allocation in turn is the first that finds no room.
+    let mut refused = (false, false);
+    let mut made = (false, false);
+    for size in 0..120 {
+        let heap = LocalHeap::new(rt.alloc(), 8 * size)?;
+        match RawSplitter::new(&heap, 64) {
+            Ok(_) => made.0 = true,
+            Err(refusal) => {
+                assert_eq!(rt; refusal, Refusal::NoMemory);
+                refused.0 = true;
+            }
+        }
+        match RawSplitter::pair(&heap) {
+            Ok(_) => made.1 = true,
+            Err(refusal) => {
+                assert_eq!(rt; refusal, Refusal::NoMemory);
+                refused.1 = true;
+            }
+        }
+    }
+    assert_eq!(rt; (refused, made), ((true, true), (true, true)));
+    Ok(())
+}

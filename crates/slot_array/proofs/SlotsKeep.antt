@@ -1,0 +1,182 @@
+-- each call of slots keeps the law
+use Rattle.std.proofs.Common.{◌≡◌, ℕ, ◌-◌, List, [], ◌∷◌, ◌++◌, Ok, Err, Result, length, refl, sym, ap, subst, ◌∙◌}
+use Rattle.std.proofs.lemmas.List.{length-set}
+use Rattle.step_memory.specs.declared.refusal.Refusal.{Refusal}
+use Rattle.step_memory.specs.Runs.{Run}
+use Rattle.step_memory.proofs.RunLemmas.{run_more, run_keeps}
+use Rattle.bit_allocator.specs.PoolState.{PoolState}
+use Rattle.bit_allocator.specs.Pool.{fresh_pool, number_answer}
+use Rattle.bit_allocator.specs.declared.probe.Probe.TheVariants.{Missed, Got}
+use Rattle.bit_allocator.specs.Calls.{Call}
+use Rattle.bit_allocator.specs.Calls.Call.{Entered, Probed, Left}
+use Rattle.bit_allocator.specs.PoolObject.{PoolObject, fresh_object, Answers, after, number_in, IsRun}
+use Rattle.bit_allocator.specs.After.{After, next, IsReply}
+use Rattle.bit_allocator.proofs.PoolKeeps.{law_after, number_after}
+use Rattle.slot_array.specs.SlotsState.{SlotsState}
+use Rattle.slot_array.specs.SlotCalls.{SlotCall, pool_calls}
+use Rattle.slot_array.specs.SlotCalls.SlotCall.{Pooled, Stored, Fetched}
+use Rattle.slot_array.specs.Slots.{stored_reply, stored_in, IsFetched, after_put}
+use Rattle.slot_array.specs.SlotsObject.{SlotsObject, fresh_slots, SlotAnswers, slots_after, IsSlotsRun}
+use Rattle.slot_array.specs.Law.{KeepsSlotsLaw}
+use Rattle.slot_array.specs.After.{AfterSlots, slots_next, IsSlotReply}
+
+-- a run that is one call longer
+record Longer {S H : Type 0} (step : S → H → S) (Right : S → H → Type 0) (s : S) (r : List H) (h : H) (end : S) : Type 0 where
+  mid : S
+  run : Run step Right s r mid
+  right : Right mid h
+  last : end ≡ step mid h
+
+longer : {S H : Type 0} (step : S → H → S) (Right : S → H → Type 0) (s : S) (r : List H) (h : H) (end : S) → Run step Right s (r ++ h ∷ []) end → Longer step Right s r h end
+longer step Right s [] h end a = record { mid = s; run = refl; right = a.0; last = a.1 }
+longer step Right s (k ∷ r) h end a =
+    let l = longer step Right (step s k) r h end a.1 in
+    record { mid = l.mid; run = (a.0, l.run); right = l.right; last = l.last }
+
+run_end : {S H : Type 0} (step : S → H → S) (Right : S → H → Type 0) (s : S) (r : List H) (a b : S) → Run step Right s r a → Run step Right s r b → a ≡ b
+run_end step Right s [] a b x y = x ∙ sym y
+run_end step Right s (h ∷ r) a b x y = run_end step Right (step s h) r a b x.1 y.1
+
+-- the pool's part of one more call
+pool_calls-pooled : {T : Type 0} (r : List (SlotCall T)) (h : Call) → pool_calls (r ++ Pooled h ∷ []) ≡ pool_calls r ++ h ∷ []
+pool_calls-pooled [] h = refl
+pool_calls-pooled (Pooled k ∷ r) h = ap (λ xs. k ∷ xs) (pool_calls-pooled r h)
+pool_calls-pooled (Stored p v reply ∷ r) h = pool_calls-pooled r h
+pool_calls-pooled (Fetched p reply ∷ r) h = pool_calls-pooled r h
+
+pool_calls-stored : {T : Type 0} (r : List (SlotCall T)) (p : ℕ) (value : T) (reply : Result (Unit {0}) Refusal) → pool_calls (r ++ Stored p value reply ∷ []) ≡ pool_calls r
+pool_calls-stored [] p value reply = refl
+pool_calls-stored (Pooled k ∷ r) p value reply = ap (λ xs. k ∷ xs) (pool_calls-stored r p value reply)
+pool_calls-stored (Stored q v e ∷ r) p value reply = pool_calls-stored r p value reply
+pool_calls-stored (Fetched q e ∷ r) p value reply = pool_calls-stored r p value reply
+
+pool_calls-fetched : {T : Type 0} (r : List (SlotCall T)) (p : ℕ) (reply : Result T Refusal) → pool_calls (r ++ Fetched p reply ∷ []) ≡ pool_calls r
+pool_calls-fetched [] p reply = refl
+pool_calls-fetched (Pooled k ∷ r) p reply = ap (λ xs. k ∷ xs) (pool_calls-fetched r p reply)
+pool_calls-fetched (Stored q v e ∷ r) p reply = pool_calls-fetched r p reply
+pool_calls-fetched (Fetched q e ∷ r) p reply = pool_calls-fetched r p reply
+
+-- `put` keeps as many slots
+length-stored_in : {T : Type 0} (held : Result ℕ Refusal) (value : T) (values : List T) → length (stored_in held value values) ≡ length values
+length-stored_in (Ok number) value values = length-set values (number - 1) value
+length-stored_in (Err refusal) value values = refl
+
+-- the pool after its part of the calls, and the object that may have given the same replies
+record Stands {T : Type 0} (size : ℕ) (first : List T) (s : SlotsState T) (r : List (SlotCall T)) : Type 0 where
+  object : SlotsObject T
+  run : IsSlotsRun size first r object
+  pool : After size s.pool (pool_calls r)
+  pool_run : IsRun size (pool_calls r) object.pool
+  values : object.values ≡ s.values
+  many : length object.values ≡ size
+  size_is : object.pool.size ≡ size
+
+size_kept : (o : PoolObject) (h : Call) → (after o h).size ≡ o.size
+size_kept o (Entered p (Ok done)) = refl
+size_kept o (Entered p (Err refusal)) = refl
+size_kept o (Probed p (Ok Missed)) = refl
+size_kept o (Probed p (Ok (Got n))) = refl
+size_kept o (Probed p (Err refusal)) = refl
+size_kept o (Left p (Ok n)) = refl
+size_kept o (Left p (Err refusal)) = refl
+
+module _ {T : Type 0} (size : ℕ) (first : List T) (s : SlotsState T) (r : List (SlotCall T)) (t : Stands size first s r) where
+  -- the object goes on by a call
+  gone_on : (h : SlotCall T) → SlotAnswers t.object h → IsSlotsRun size first (r ++ h ∷ []) (slots_after t.object h)
+  gone_on h is = run_more slots_after SlotAnswers (fresh_slots size first) r t.object h t.run is
+
+  held_is : (p : ℕ) → number_answer s.pool p ≡ number_in t.object.pool p
+  held_is p = number_after size s.pool (pool_calls r) t.object.pool t.pool t.pool_run p
+
+  pooled_keeps : (h : Call) → IsReply s.pool h → Stands size first (record s { pool = next s.pool h }) (r ++ Pooled h ∷ [])
+  pooled_keeps h is =
+      let pool : After size (next s.pool h) (pool_calls r ++ h ∷ []) =
+      record { first = t.pool.first; last = t.pool.last; run = run_more next IsReply (fresh_pool size) (pool_calls r) s.pool h t.pool.run is } in
+      let law = law_after size (next s.pool h) (pool_calls r ++ h ∷ []) pool in
+      let l = longer after Answers (fresh_object size) (pool_calls r) h law.object law.run in
+      let same : l.mid ≡ t.object.pool = run_end after Answers (fresh_object size) (pool_calls r) l.mid t.object.pool l.run t.pool_run in
+      let right : Answers t.object.pool h = subst (λ (x : PoolObject). Answers x h) same l.right in
+      record {
+        object = slots_after t.object (Pooled h);
+        run = gone_on (Pooled h) right;
+        pool = subst (λ (xs : List Call). After size (next s.pool h) xs) (sym (pool_calls-pooled r h)) pool;
+        pool_run = subst (λ (xs : List Call). IsRun size xs (after t.object.pool h)) (sym (pool_calls-pooled r h)) (run_more after Answers (fresh_object size) (pool_calls r) t.object.pool h t.pool_run right);
+        values = t.values;
+        many = t.many;
+        size_is = size_kept t.object.pool h ∙ t.size_is;
+      }
+
+  stored_keeps : (p : ℕ) (value : T) (reply : Result (Unit {0}) Refusal) → reply ≡ stored_reply (number_answer s.pool p) → Stands size first (after_put s p value) (r ++ Stored p value reply ∷ [])
+  stored_keeps p value reply is =
+      let held = held_is p in
+      record {
+        object = slots_after t.object (Stored p value reply);
+        run = gone_on (Stored p value reply) (is ∙ ap stored_reply held);
+        pool = subst (λ (xs : List Call). After size s.pool xs) (sym (pool_calls-stored r p value reply)) t.pool;
+        pool_run = subst (λ (xs : List Call). IsRun size xs t.object.pool) (sym (pool_calls-stored r p value reply)) t.pool_run;
+        values = ap (λ (xs : List T). stored_in (number_in t.object.pool p) value xs) t.values ∙ ap (λ (k : Result ℕ Refusal). stored_in k value s.values) (sym held);
+        many = length-stored_in (number_in t.object.pool p) value t.object.values ∙ t.many;
+        size_is = t.size_is;
+      }
+
+  fetched_keeps : (p : ℕ) (reply : Result T Refusal) → IsFetched s.values (number_answer s.pool p) reply → Stands size first s (r ++ Fetched p reply ∷ [])
+  fetched_keeps p reply is =
+      let right : IsFetched t.object.values (number_in t.object.pool p) reply =
+      subst (λ (k : Result ℕ Refusal). IsFetched t.object.values k reply) (held_is p) (subst (λ (xs : List T). IsFetched xs (number_answer s.pool p) reply) (sym t.values) is) in
+      record {
+        object = t.object;
+        run = gone_on (Fetched p reply) right;
+        pool = subst (λ (xs : List Call). After size s.pool xs) (sym (pool_calls-fetched r p reply)) t.pool;
+        pool_run = subst (λ (xs : List Call). IsRun size xs t.object.pool) (sym (pool_calls-fetched r p reply)) t.pool_run;
+        values = t.values;
+        many = t.many;
+        size_is = t.size_is;
+      }
+
+next_keeps : {T : Type 0} (size : ℕ) (first : List T) (s : SlotsState T) (r : List (SlotCall T)) (h : SlotCall T) → Stands size first s r → IsSlotReply s h → Stands size first (slots_next s h) (r ++ h ∷ [])
+next_keeps size first s r (Pooled h) t is = pooled_keeps size first s r t h is
+next_keeps size first s r (Stored p value reply) t is = stored_keeps size first s r t p value reply is
+next_keeps size first s r (Fetched p reply) t is = fetched_keeps size first s r t p reply is
+
+-- so it is after any calls
+stands : {T : Type 0} (size : ℕ) (first : List T) (s : SlotsState T) (r : List (SlotCall T)) → AfterSlots size first s r → Stands size first s r
+stands {T} size first s r a =
+    let fresh : SlotsState T = record { pool = fresh_pool size; values = first } in
+    let begun : Stands size first fresh [] = record {
+      object = fresh_slots size first;
+      run = refl;
+      pool = record { first = a.first; last = a.last; run = refl };
+      pool_run = refl;
+      values = refl;
+      many = a.many;
+      size_is = refl;
+    } in
+    run_keeps slots_next IsSlotReply (Stands size first) (next_keeps size first) fresh [] r s begun a.run
+
+-- the law
+pub law_after_slots : {T : Type 0} (size : ℕ) (first : List T) (s : SlotsState T) (r : List (SlotCall T)) → AfterSlots size first s r → KeepsSlotsLaw size first r
+law_after_slots size first s r a =
+    let t = stands size first s r a in
+    record { object = t.object; run = t.run; pool = law_after size s.pool (pool_calls r) t.pool; slots = t.many ∙ sym t.size_is }
+
+-- the pool is after its part of the calls
+pub pool_after : {T : Type 0} (size : ℕ) (first : List T) (s : SlotsState T) (r : List (SlotCall T)) → AfterSlots size first s r → After size s.pool (pool_calls r)
+pool_after size first s r a = (stands size first s r a).pool
+
+-- one more call
+pub after_slots_call : {T : Type 0} (size : ℕ) (first : List T) (s new : SlotsState T) (r : List (SlotCall T)) (h : SlotCall T) → new ≡ slots_next s h → IsSlotReply s h → AfterSlots size first s r → AfterSlots size first new (r ++ h ∷ [])
+after_slots_call {T} size first s new r h e is a = record {
+  first = a.first;
+  last = a.last;
+  many = a.many;
+  run = subst (λ (x : SlotsState T). Run slots_next IsSlotReply (record { pool = fresh_pool size; values = first }) (r ++ h ∷ []) x) (sym e) (run_more slots_next IsSlotReply (record { pool = fresh_pool size; values = first }) r s h a.run is);
+}
+
+-- new slots
+pub after_slots_new : {T : Type 0} (size : ℕ) (pool : PoolState) (values : List T) → length values ≡ pool.size → After size pool [] → AfterSlots size values (record { pool = pool; values = values }) []
+after_slots_new {T} size pool values many a = record {
+  first = a.first;
+  last = a.last;
+  many = many ∙ ap (λ (w : PoolState). w.size) a.run;
+  run = ap (λ (w : PoolState). let s : SlotsState T = record { pool = w; values = values } in s) a.run;
+}

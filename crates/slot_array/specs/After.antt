@@ -1,0 +1,28 @@
+-- slots after a list of calls
+use Rattle.std.specs.Prelude.{◌≡◌, ℕ, ◌≤◌, List, length}
+use Rattle.step_memory.specs.Runs.{Run}
+use Rattle.bit_allocator.specs.After.{next, IsReply}
+use Rattle.bit_allocator.specs.Pool.{fresh_pool, number_answer}
+use Rattle.slot_array.specs.SlotsState.{SlotsState}
+use Rattle.slot_array.specs.SlotCalls.{SlotCall}
+use Rattle.slot_array.specs.SlotCalls.SlotCall.{Pooled, Stored, Fetched}
+use Rattle.slot_array.specs.Slots.{stored_reply, IsFetched, after_put}
+
+-- the slots after a call
+abbrev pub slots_next : {T : Type 0} → SlotsState T → SlotCall T → SlotsState T
+slots_next s (Pooled h) = record s { pool = next s.pool h }
+slots_next s (Stored id value reply) = after_put s id value
+slots_next s (Fetched id reply) = s
+
+-- the reply is the one that the call gets
+abbrev pub IsSlotReply : {T : Type 0} → SlotsState T → SlotCall T → Type 0
+IsSlotReply s (Pooled h) = IsReply s.pool h
+IsSlotReply s (Stored id value reply) = reply ≡ stored_reply (number_answer s.pool id)
+IsSlotReply s (Fetched id reply) = IsFetched s.values (number_answer s.pool id) reply
+
+-- slots that were made over a new pool of so many numbers, with these values, are after these calls with these replies
+pub record AfterSlots {T : Type 0} (size : ℕ) (values : List T) (s : SlotsState T) (r : List (SlotCall T)) : Type 0 where
+  pub first : 1 ≤ size
+  pub last : size ≤ 64
+  pub many : length values ≡ size
+  pub run : Run slots_next IsSlotReply (record { pool = fresh_pool size; values = values }) r s

@@ -1,0 +1,6 @@
+pub mod SlotsState
+pub mod SlotCalls
+pub mod Slots
+pub mod SlotsObject
+pub mod Law
+pub mod After

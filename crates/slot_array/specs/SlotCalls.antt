@@ -1,0 +1,17 @@
+-- the calls of slots with their replies
+use Rattle.std.specs.Prelude.{ℕ, List, [], ◌∷◌, Result}
+use Rattle.step_memory.specs.declared.refusal.Refusal.{Refusal}
+use Rattle.bit_allocator.specs.Calls.{Call}
+
+-- a call of the pool; a value put by an identity; and the value that an identity got
+pub data SlotCall (T : Type 0) : Type 0 where
+  Pooled : Call → SlotCall T
+  Stored : ℕ → T → Result (Unit {0}) Refusal → SlotCall T
+  Fetched : ℕ → Result T Refusal → SlotCall T
+
+-- the pool's part of a list of calls
+abbrev pub pool_calls : {T : Type 0} → List (SlotCall T) → List Call
+pool_calls [] = []
+pool_calls (Pooled h ∷ r) = h ∷ pool_calls r
+pool_calls (Stored p v reply ∷ r) = pool_calls r
+pool_calls (Fetched p reply ∷ r) = pool_calls r

@@ -1,0 +1,184 @@
+//! Slots over a pool.
+
+ghost use Rattle.std.specs.Prelude.{◌≡◌, ℕ, List, [], ◌∷◌, ◌++◌, ◌≤◌, IfOk, IsOk, vec_len, vec_capacity};
+ghost use Rattle.std.specs.Result.{result_map_both};
+ghost use Rattle.bit_allocator.specs.Calls.Call.{Entered, Probed, Left};
+ghost use Rattle.bit_allocator.specs.Pool.{enter_answer, after_enter, probe_answer, after_probe, number_answer, after_leave};
+ghost use Rattle.bit_allocator.specs.After.{After};
+ghost use Rattle.bit_allocator.specs.Locality.{IsLocal, LookAlike, probe_steps, leave_steps};
+ghost use Rattle.bit_allocator.specs.PoolState.{PoolState};
+ghost use Rattle.slot_array.specs.SlotCalls.{SlotCall, pool_calls};
+ghost use Rattle.slot_array.specs.SlotCalls.SlotCall.{Pooled, Stored, Fetched};
+ghost use Rattle.slot_array.specs.Slots.{stored_reply, IsFetched, after_put, ChangesOwnSlot};
+ghost use Rattle.slot_array.specs.Law.{KeepsSlotsLaw};
+ghost use Rattle.slot_array.specs.After.{AfterSlots};
+
+use bit_allocator::{MOST_NUMBERS, Pool, Probe};
+use std::alloc::Allocator;
+use std::marker::Model;
+use step_memory::{NoMemory, Refusal};
+
+/// A pool of numbers with a slot for each.
+#[derive(Drop)]
+pub struct Slots<T, A: Allocator> {
+    pool: Pool<A>,
+    values: Vec<T, A>,
+}
+
+impl<T, A: Allocator> Model for Slots<T, A> {
+    ghost use Rattle.std.specs.Prelude.{◌≡◌, ◌≤◌, vec_len, vec_capacity};
+    ghost use Rattle.slot_array.specs.SlotsState.{SlotsState};
+
+    ghost Value = { SlotsState T };
+
+    ghost view = { λ s. record { pool = s.pool; values = s.values.items } };
+
+    ghost invariant = { λ s. (vec_len s.values ≡ s.pool.size) × (64 ≤ vec_capacity s.values) };
+}
+
+impl<T: Drop, A: Allocator> Slots<T, A> {
+    /// Slots that hold these values, that of number 1 first: as many as the pool has numbers. Room for 64 is taken here,
+    /// where the values have less. An error where that room was refused.
+    pub fn new(pool: Pool<A>, values: Vec<T, A>) -> Result<Self, NoMemory>
+        requires { vec_len values ≡ pool.size }
+        ensures state { IfOk result (λ s. s ≡ record { pool = pool; values = values.items }) }
+        ensures after { IfOk result (λ s. (size : ℕ) → After size pool [] → AfterSlots size values.items s []) }
+        ensures room { 64 ≤ vec_capacity values → IsOk result }
+    {
+        let mut values = values;
+        let spare = MOST_NUMBERS - pool.size() as usize;
+        match values.reserve(spare) {
+            Ok(()) => Ok(Slots { pool, values }),
+            Err(_) => Err(NoMemory),
+        }
+    }
+
+    /// The pool.
+    pub fn pool(&self) -> &Pool<A>
+        ensures pool { result.now ≡ self.now.pool }
+        ensures after { (size : ℕ) (values : List T) (r : List (SlotCall T)) → AfterSlots size values self.now r → After size result.now (pool_calls r) }
+    {
+        &self.pool
+    }
+
+    /// An identity begins to compete, as in the pool.
+    pub fn enter(&mut self, id: u64) -> Result<(), Refusal>
+        ensures answer { result ≡ enter_answer self.old.pool id }
+        ensures state { self.new ≡ record self.old { pool = after_enter self.old.pool id } }
+        ensures after { (size : ℕ) (values : List T) (r : List (SlotCall T)) → AfterSlots size values self.old r → AfterSlots size values self.new (r ++ Pooled (Entered id result) ∷ []) }
+        ensures law { (size : ℕ) (values : List T) (r : List (SlotCall T)) → AfterSlots size values self.new r → KeepsSlotsLaw size values r }
+    {
+        self.pool.enter(id)
+    }
+
+    /// One probe, as in the pool.
+    pub fn probe(&mut self, id: u64) -> Result<Probe, Refusal>
+        ensures answer { result ≡ probe_answer self.old.pool id }
+        ensures state { self.new ≡ record self.old { pool = after_probe self.old.pool id } }
+        ensures after { (size : ℕ) (values : List T) (r : List (SlotCall T)) → AfterSlots size values self.old r → AfterSlots size values self.new (r ++ Pooled (Probed id result) ∷ []) }
+        ensures law { (size : ℕ) (values : List T) (r : List (SlotCall T)) → AfterSlots size values self.new r → KeepsSlotsLaw size values r }
+
+        // Nothing of the pool changes but this competitor and the bit that it names.
+        ensures local { IsLocal probe_steps id self.old.pool self.new.pool result }
+        ensures alike { (other : PoolState) → LookAlike probe_steps id self.old.pool other → result ≡ probe_answer other id }
+    {
+        self.pool.probe(id)
+    }
+
+    /// Gives back the number that an identity holds, as in the pool. The number's slot keeps its value.
+    pub fn leave(&mut self, id: u64) -> Result<u8, Refusal>
+        ensures answer { result ≡ number_answer self.old.pool id }
+        ensures state { self.new ≡ record self.old { pool = after_leave self.old.pool id } }
+        ensures after { (size : ℕ) (values : List T) (r : List (SlotCall T)) → AfterSlots size values self.old r → AfterSlots size values self.new (r ++ Pooled (Left id result) ∷ []) }
+        ensures law { (size : ℕ) (values : List T) (r : List (SlotCall T)) → AfterSlots size values self.new r → KeepsSlotsLaw size values r }
+
+        // Nothing of the pool changes but this competitor and the bit that it names.
+        ensures local { IsLocal leave_steps id self.old.pool self.new.pool result }
+        ensures alike { (other : PoolState) → LookAlike leave_steps id self.old.pool other → result ≡ number_answer other id }
+    {
+        self.pool.leave(id)
+    }
+
+    /// Puts a value into the slot of the number that an identity holds. Refused where the identity does not compete, then
+    /// where it holds no number.
+    pub fn put(&mut self, id: u64, value: T) -> Result<(), Refusal>
+        ensures answer { result ≡ stored_reply (number_answer self.old.pool id) }
+        ensures state { self.new ≡ after_put self.old id value }
+        ensures changes { ChangesOwnSlot id value self.old self.new }
+        ensures after { (size : ℕ) (values : List T) (r : List (SlotCall T)) → AfterSlots size values self.old r → AfterSlots size values self.new (r ++ Stored id value result ∷ []) }
+        ensures law { (size : ℕ) (values : List T) (r : List (SlotCall T)) → AfterSlots size values self.new r → KeepsSlotsLaw size values r }
+    {
+        let number = self.pool.number_of(id)?;
+        self.values[usize::from(number) - 1] = value;
+        Ok(())
+    }
+
+    /// The value in the slot of the number that an identity holds. Refused where the identity does not compete, then where
+    /// it holds no number.
+    pub fn get(&self, id: u64) -> Result<&T, Refusal>
+        ensures answer { IsFetched self.now.values (number_answer self.now.pool id) (result_map_both (λ value. value.now) (λ refusal. refusal) result) }
+        ensures after { (size : ℕ) (values : List T) (r : List (SlotCall T)) → AfterSlots size values self.now r → AfterSlots size values self.now (r ++ Fetched id (result_map_both (λ value. value.now) (λ refusal. refusal) result) ∷ []) }
+        ensures law { (size : ℕ) (values : List T) (r : List (SlotCall T)) → AfterSlots size values self.now r → KeepsSlotsLaw size values r }
+    {
+        let number = self.pool.number_of(id)?;
+        Ok(&self.values[usize::from(number) - 1])
+    }
+}
+
+#[cfg(test)]
+mod tests {
+    use super::*;
+    use std::test::Fail;
+
+    #[test]
+    fn one_number(rt: HostRuntime) -> Result<(), Fail> {
+        let pool = Pool::new(rt.alloc(), 1)?;
+        let mut slots = Slots::new(pool, vec![in rt.alloc(); 0u64; 1]?)?;
+        assert_eq!(rt; slots.enter(5), Ok(()));
+        assert_eq!(rt; slots.probe(5), Ok(Probe::Got(1)));
+        assert_eq!(rt; slots.enter(6), Err(Refusal::Crowded));
+        assert_eq!(rt; slots.enter(5), Err(Refusal::AlreadyCompeting));
+        assert_eq!(rt; slots.leave(5), Ok(1));
+        assert_eq!(rt; slots.enter(6), Ok(()));
+        Ok(())
+    }
+
+    #[test]
+    fn a_bit_freed_behind_a_prober(rt: HostRuntime) -> Result<(), Fail> {
+        let pool = Pool::new(rt.alloc(), 3)?;
+        let mut slots = Slots::new(pool, vec![in rt.alloc(); 0u64; 3]?)?;
+        assert_eq!(rt; slots.enter(5), Ok(()));
+        assert_eq!(rt; slots.probe(5), Ok(Probe::Got(1)));
+        assert_eq!(rt; slots.enter(6), Ok(()));
+        assert_eq!(rt; slots.probe(6), Ok(Probe::Missed));
+        assert_eq!(rt; slots.probe(6), Ok(Probe::Got(2)));
+        assert_eq!(rt; slots.enter(7), Ok(()));
+        assert_eq!(rt; slots.probe(7), Ok(Probe::Missed));
+        assert_eq!(rt; slots.leave(5), Ok(1));
+        assert_eq!(rt; slots.probe(7), Ok(Probe::Got(3)));
+        assert_eq!(rt; slots.enter(8), Ok(()));
+        assert_eq!(rt; slots.probe(8), Ok(Probe::Got(1)));
+        assert_eq!(rt; slots.enter(9), Err(Refusal::Crowded));
+        assert_eq!(rt; slots.pool().holder_of(3), Some(7));
+        Ok(())
+    }
+
+    #[test]
+    fn a_slot_keeps_its_value(rt: HostRuntime) -> Result<(), Fail> {
+        let pool = Pool::new(rt.alloc(), 2)?;
+        let mut slots = Slots::new(pool, vec![in rt.alloc(); 0u64; 2]?)?;
+        assert_eq!(rt; slots.enter(5), Ok(()));
+        assert_eq!(rt; slots.leave(5), Err(Refusal::NotHolding));
+        assert_eq!(rt; slots.probe(5), Ok(Probe::Got(1)));
+        assert_eq!(rt; slots.probe(5), Err(Refusal::Holding));
+        assert_eq!(rt; slots.put(5, 77), Ok(()));
+        assert_eq!(rt; slots.get(5).copied(), Ok(77));
+        assert_eq!(rt; slots.leave(5), Ok(1));
+        assert_eq!(rt; slots.get(5).copied(), Err(Refusal::NotCompeting));
+        assert_eq!(rt; slots.enter(6), Ok(()));
+        assert_eq!(rt; slots.get(6).copied(), Err(Refusal::NotHolding));
+        assert_eq!(rt; slots.probe(6), Ok(Probe::Got(1)));
+        assert_eq!(rt; slots.get(6).copied(), Ok(77));
+        Ok(())
+    }
+}

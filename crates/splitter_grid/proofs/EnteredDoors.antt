@@ -1,0 +1,142 @@
+-- a name stands in X of just the doors that were entered
+use Rattle.std.proofs.Common.{◌≡◌, ◌≢◌, ℕ, ◌+◌, ◌*◌, true, false, cond, ◌⊎◌, inl, inr, List, [], ◌∷◌, ◌++◌, length, Option, Some, None, Ok, Err, Result, refl, sym, ap, subst, ◌∙◌}
+use Rattle.std.specs.Prelude.{◌↔◌}
+use Rattle.std.proofs.lemmas.Bool.Decides.{eqb_tells}
+use Rattle.step_memory.specs.declared.participant.Participant.{Participant}
+use Rattle.step_memory.specs.declared.refusal.Refusal.{Refusal}
+use Rattle.step_memory.specs.declared.refusal.Refusal.TheVariants.{NotBegun, Finished}
+use Rattle.step_memory.specs.Participant.{participant_of}
+use Rattle.step_memory.specs.RegisterState.{Registers}
+use Rattle.step_memory.specs.Registers.{answer_of, after_access, memory_steps}
+use Rattle.step_memory.specs.SetAt.{set_at}
+use Rattle.step_memory.specs.World.{begin_refusal, begun_unless, after_begin, after_step_by, step_answer_by, may_refuse_by}
+use Rattle.step_memory.specs.Calls.{Call, next, IsReply, outcome_in, reply_of, lacked_memory}
+use Rattle.step_memory.specs.Calls.Call.{Began, Stepped}
+use Rattle.step_memory.specs.Runs.{Run}
+use Rattle.step_memory.proofs.WorldKeeps.{stepped}
+use Rattle.splitter.specs.declared.stage.Stage.{Stage}
+use Rattle.splitter.specs.declared.stage.Stage.TheVariants.{Outside, WroteName, SawClear, WroteMark, Gone}
+use Rattle.splitter.specs.Stage.{has_entered, name_after}
+use Rattle.splitter_grid.specs.declared.walker.Walker.{Walker}
+use Rattle.splitter_grid.specs.Door.{number_of}
+use Rattle.splitter_grid.specs.Walk.{walk_of, walker_steps, walker_note, next_access}
+use Rattle.splitter_grid.specs.Consistent.{name_in, IsConsistent}
+use Rattle.splitter_grid.specs.GridWorld.{GridState, After, fresh, empty_doors}
+use Rattle.splitter_grid.specs.Entered.{Enters, EntersFrom, WasEntered}
+use Rattle.splitter_grid.proofs.Diagonals.{bool_cases}
+use Rattle.splitter_grid.proofs.ConsistentKept.{names, registers_in, get_or-replicate_same}
+use Rattle.splitter_grid.proofs.GridTied.{IsTied, tied_after, walkers, after_next}
+
+module _ (most b : ℕ) (m : Registers ℕ) (walker : ℕ → Option Walker) (c : IsConsistent most b m walker) where
+  -- where anyone has entered, a name stands
+  entered_named : (k p : ℕ) → has_entered (c.agree.stage k p) ≡ true → name_in m k ≢ 0
+  entered_named k p h none = absurd (
+      let first : has_entered (c.agree.stage k (name_in m k)) ≡ true = (c.agree.doors k).named p h in
+      let zero : has_entered (c.agree.stage k 0) ≡ true = subst (λ (i : ℕ). has_entered (c.agree.stage k i) ≡ true) none first in
+      let outside : c.agree.stage k 0 ≡ Outside = c.agree.absent 0 c.agree.nobody k in
+      let never : has_entered Outside ≡ true = rw outside at zero in cc)
+
+  not_nobody : (p : ℕ) (u : Walker) → walker p ≡ Some u → p ≢ 0
+  not_nobody p u is e = absurd (let k : Some u ≡ None = sym is ∙ ap walker e ∙ c.agree.nobody in cc)
+
+  -- after an access of p a name stands at its door
+  names_door : (p : ℕ) (u : Walker) → walker p ≡ Some u → (s : Stage) → u.visitor.stage ≡ s → name_after p s (name_in m (number_of u.door)) ≢ 0
+  names_door p u is Outside e = not_nobody p u is
+  names_door p u is WroteName e = entered_named (number_of u.door) p (ap has_entered ((c.agree.walks p u is).here ∙ e))
+  names_door p u is SawClear e = entered_named (number_of u.door) p (ap has_entered ((c.agree.walks p u is).here ∙ e))
+  names_door p u is WroteMark e = entered_named (number_of u.door) p (ap has_entered ((c.agree.walks p u is).here ∙ e))
+  names_door p u is (Gone way) e = entered_named (number_of u.door) p (ap has_entered ((c.agree.walks p u is).here ∙ e))
+
+  names_are : (p : ℕ) (u : Walker) → walker p ≡ Some u → name_in (after_access m (next_access u)) ≡ set_at (name_in m) (number_of u.door) (name_after p u.visitor.stage (name_in m (number_of u.door)))
+  names_are p u is = let walk = c.agree.walks p u is in names m p u walk.identity walk.name walk.mark (registers_in most b m walker c p u is)
+
+  -- an access of p gives its door a name, and changes no other's
+  pub access_names : (p : ℕ) (u : Walker) → walker p ≡ Some u → (k : ℕ) → (name_in (after_access m (next_access u)) k ≢ 0) ↔ ((number_of u.door ≡ k) ⊎ (name_in m k ≢ 0))
+  access_names p u is k =
+      let now : name_in (after_access m (next_access u)) k ≡ set_at (name_in m) (number_of u.door) (name_after p u.visitor.stage (name_in m (number_of u.door))) k = ap (λ (f : ℕ → ℕ). f k) (names_are p u is) in
+      elim (eqb_tells k (number_of u.door)) [
+        | inl e ↦
+            let there : name_in (after_access m (next_access u)) k ≡ name_after p u.visitor.stage (name_in m (number_of u.door)) = now ∙ rw e.0 refl in
+            (λ _. inl (sym e.1), λ _ none. names_door p u is u.visitor.stage refl (sym there ∙ none))
+        | inr e ↦
+            let there : name_in (after_access m (next_access u)) k ≡ name_in m k = now ∙ rw e.0 refl in
+            (λ some. inr (λ none. some (there ∙ none)), λ o. elim o [ inl at ↦ absurd (e.1 (sym at)) | inr some ↦ λ none. some (sym there ∙ none) ])
+      ]
+
+abbrev next_of : GridState → Call (Option ℕ) → GridState
+next_of w h = next walker_steps memory_steps outcome_in walk_of w h
+
+abbrev IsReplyOf : GridState → Call (Option ℕ) → Type 0
+IsReplyOf w h = IsReply walker_steps memory_steps outcome_in walk_of w h
+
+-- after a call a name stands where one stood, and at the door that it enters
+abbrev NamedBy : GridState → GridState → Call (Option ℕ) → ℕ → Type 0
+NamedBy w new h k = (name_in new.memory k ≢ 0) ↔ (Enters w h k ⊎ (name_in w.memory k ≢ 0))
+
+-- one that enters no door
+quiet_call : (w new : GridState) (h : Call (Option ℕ)) (k : ℕ) → new.memory ≡ w.memory → (Enters w h k → ⊥) → NamedBy w new h k
+quiet_call w new h k same none =
+    let names_same : name_in new.memory k ≡ name_in w.memory k = ap (λ m. name_in m k) same in
+    (λ some. inr (λ zero. some (names_same ∙ zero)), λ o. elim o [ inl at ↦ absurd (none at) | inr some ↦ λ zero. some (sym names_same ∙ zero) ])
+
+memory_begun : (w : GridState) (id : ℕ) → (after_begin w id (walk_of id)).memory ≡ w.memory
+memory_begun w id = elim (begin_refusal w id) as (λ o. (begun_unless o w id (walk_of id)).memory ≡ w.memory) [ None ↦ refl | Some why ↦ refl ]
+
+module _ (w : GridState) (past : List (Call (Option ℕ))) (t : IsTied w past) where
+  going_call : (id : ℕ) (v : Participant Walker) → participant_of id w.participants ≡ Some v → (outcome : Option ℕ) (k : ℕ) → NamedBy w (stepped walker_steps memory_steps outcome_in walk_of w v) (Stepped id (Ok outcome)) k
+  going_call id v here outcome k =
+      let is : walkers w.participants id ≡ Some v.program = rw here refl in
+      let change = access_names w.most (length w.participants) w.memory (walkers w.participants) t.consistent id v.program is k in (
+        λ some. elim (change.0 some) [ inl at ↦ inl (v.program, is, at) | inr stood ↦ inr stood ],
+        λ o. elim o [
+          | inl e ↦ change.1 (inl (let own : v.program ≡ e.0 = (let both : Some v.program ≡ Some e.0 = sym is ∙ e.1 in cc) in ap (λ (u : Walker). number_of u.door) own ∙ e.2))
+          | inr stood ↦ change.1 (inr stood)
+        ],
+      )
+
+  abbrev replied : Option (Participant Walker) → Result (Option ℕ) Refusal
+  replied o = reply_of outcome_in (step_answer_by walker_steps memory_steps w.memory o)
+
+  abbrev StepNames : ℕ → ℕ → Option (Participant Walker) → Type 0
+  StepNames id k o = NamedBy w (cond (lacked_memory (replied o)) w (after_step_by walker_steps memory_steps w o)) (Stepped id (replied o)) k
+
+  step_call : (id : ℕ) (k : ℕ) → StepNames id k (participant_of id w.participants)
+  step_call id k =
+      elim (participant_of id w.participants) as (λ o. participant_of id w.participants ≡ o → StepNames id k o) [
+        | None ↦ λ _. quiet_call w w (Stepped id (Err NotBegun)) k refl (λ never. never)
+        | Some v ↦ λ here. elim (bool_cases v.ended) [
+          | inl e ↦ rw e (quiet_call w w (Stepped id (Err Finished)) k refl (λ never. never))
+          | inr e ↦ rw e (going_call id v here (outcome_in (walker_note v.program (answer_of w.memory (next_access v.program)))) k)
+        ]
+      ] refl
+
+  -- no access to the doors is refused for want of memory
+  never_lacks : (id : ℕ) → may_refuse_by walker_steps memory_steps w.memory (participant_of id w.participants) ≡ false
+  never_lacks id = elim (participant_of id w.participants) as (λ o. may_refuse_by walker_steps memory_steps w.memory o ≡ false) [ None ↦ refl | Some v ↦ elim v.ended as (λ b. cond b false false ≡ false) [ true ↦ refl | false ↦ refl ] ]
+
+  one_call : (h : Call (Option ℕ)) → IsReplyOf w h → (k : ℕ) → NamedBy w (next_of w h) h k
+  one_call (Began id reply) is k = quiet_call w (next_of w (Began id reply)) (Began id reply) k (memory_begun w id) (λ never. never)
+  one_call (Stepped id reply) (inl is) k = subst (λ (x : Result (Option ℕ) Refusal). NamedBy w (next_of w (Stepped id x)) (Stepped id x) k) (sym is) (step_call id k)
+  one_call (Stepped id reply) (inr is) k = absurd (let yes_may : false ≡ true = sym (never_lacks id) ∙ is.1 in cc)
+
+-- over a run of calls
+names_over : (w : GridState) (past r : List (Call (Option ℕ))) (end : GridState) → After w past → Run next_of IsReplyOf w r end → (k : ℕ) → (name_in end.memory k ≢ 0) ↔ (EntersFrom w r k ⊎ (name_in w.memory k ≢ 0))
+names_over w past [] end a e k =
+    let same : name_in end.memory k ≡ name_in w.memory k = ap (λ x. name_in x.memory k) e in
+    (λ some. inr (λ zero. some (same ∙ zero)), λ o. elim o [ inl never ↦ absurd (never) | inr some ↦ λ zero. some (sym same ∙ zero) ])
+names_over w past (h ∷ r) end a e k =
+    let first = one_call w past (tied_after w past a) h e.0 k in
+    let rest = names_over (next_of w h) (past ++ h ∷ []) r end (after_next w past h e.0 a) e.1 k in (
+      λ some. elim (rest.0 some) [ inl later ↦ inl (inr later) | inr named ↦ elim (first.0 named) [ inl now ↦ inl (inl now) | inr before ↦ inr before ] ],
+      λ o. elim o [
+        | inl over ↦ elim over [ inl now ↦ rest.1 (inr (first.1 (inl now))) | inr later ↦ rest.1 (inl later) ]
+        | inr before ↦ rest.1 (inr (first.1 (inr before)))
+      ],
+    )
+
+-- a name stands in X of just the doors that were entered
+pub named_entered : (w : GridState) (r : List (Call (Option ℕ))) → After w r → (k : ℕ) → (name_in w.memory k ≢ 0) ↔ WasEntered w.most r k
+named_entered w r a k =
+    let over = names_over (fresh w.most) [] r w (a.0, refl) a.1 k in
+    let unnamed : name_in (empty_doors w.most) k ≡ 0 = get_or-replicate_same (w.most * (w.most + 1)) (2 * k) 0 in
+    (λ some. elim (over.0 some) [ inl yes_entered ↦ yes_entered | inr named ↦ absurd (named unnamed) ], λ yes_entered. over.1 (inl yes_entered))

@@ -1,0 +1,227 @@
+-- what ties a grid's world to the calls that it is after
+use Rattle.std.proofs.Common.{◌≡◌, ◌≢◌, ℕ, suc, ◌≤◌, true, false, cond, ◌==◌, inl, inr, List, [], ◌∷◌, ◌++◌, length, Option, Some, None, Ok, Err, refl, sym, ap, subst, ◌∙◌, arith, length-append}
+use Rattle.std.specs.Prelude.{is_some, option_map}
+use Rattle.std.proofs.Math.Path.{fun_ext}
+use Rattle.std.proofs.lemmas.Bool.Decides.{eqb_tells}
+use Rattle.step_memory.specs.declared.access.Answer.{Answer}
+use Rattle.step_memory.specs.declared.participant.Participant.{Participant}
+use Rattle.step_memory.specs.Note.{ends}
+use Rattle.step_memory.specs.Participant.{participant_of, program_of, with_participant, beginner}
+use Rattle.step_memory.specs.Registers.{answer_of, memory_steps}
+use Rattle.step_memory.specs.SetAt.{set_at}
+use Rattle.step_memory.specs.World.{after_begin, begin_refusal, done_unless}
+use Rattle.step_memory.specs.Calls.{Call, next, IsReply, steps_of, steps_by, outcome_of, outcome_by, outcome_in, begun_in, begun_by, IsAfter}
+use Rattle.step_memory.specs.Calls.Call.{Began, Stepped}
+use Rattle.step_memory.proofs.SetAtLemmas.{set_at-same, set_at-other, set_at-cases}
+use Rattle.step_memory.proofs.ParticipantLemmas.{participant_of-push, participant_of-put}
+use Rattle.step_memory.proofs.WorldKeeps.{steps_of-push, begun_in-push, outcome_of-push, first_of-none, IsLetIn, IsKept, world_keeps, after_call, after_stepped, most_kept, moved, stepped}
+use Rattle.splitter.specs.declared.way.Way.TheVariants.{Stop, Right, Down}
+use Rattle.splitter.specs.declared.stage.Stage.{Stage}
+use Rattle.splitter.specs.declared.stage.Stage.TheVariants.{Outside, WroteName, SawClear, WroteMark, Gone}
+use Rattle.splitter.specs.Visitor.{stage_by}
+use Rattle.splitter_grid.specs.declared.walker.Walker.{Walker}
+use Rattle.splitter_grid.specs.Door.{number_of}
+use Rattle.splitter_grid.specs.Walk.{walk_of, walker_steps, walked_to, walker_after, walker_note, next_access, note_at_door, place_of, place_by, accesses_of, accesses_by}
+use Rattle.splitter_grid.specs.Consistent.{IsConsistent, IsGrid}
+use Rattle.splitter_grid.specs.GridWorld.{GridState, After, fresh, empty_doors, place_in, step_reply, world_after_step}
+use Rattle.splitter_grid.specs.Law.{KeepsGridLaw}
+use Rattle.splitter_grid.proofs.ConsistentKept.{consistent_new, begun, gone_on}
+use Rattle.splitter_grid.proofs.GridLaw.{grid_law, nearer}
+
+-- the walk of each identity
+abbrev pub walkers : List (Participant Walker) → ℕ → Option Walker
+walkers ps p = program_of p ps
+
+-- a participant has its identity, and has ended where its walk has a place
+pub record IsNamed (p : ℕ) (v : Participant Walker) : Type 0 where
+  pub own : v.identity ≡ p
+  pub ended : v.ended ≡ is_some (place_of v.program)
+
+pub record IsTied (w : GridState) (r : List (Call (Option ℕ))) : Type 0 where
+  pub consistent : IsConsistent w.most (length w.participants) w.memory (walkers w.participants)
+  pub begun_is : begun_in r ≡ length w.participants
+  pub named : (p : ℕ) (v : Participant Walker) → participant_of p w.participants ≡ Some v → IsNamed p v
+  pub outcomes : (p : ℕ) → outcome_of p r ≡ place_by (walkers w.participants p)
+  pub steps : (p : ℕ) → steps_of p r ≤ accesses_by (walkers w.participants p)
+
+-- a call that is refused
+refused : (w : GridState) (r : List (Call (Option ℕ))) (h : Call (Option ℕ)) → ((p : ℕ) → steps_by p h ≡ 0) → ((p : ℕ) → outcome_by p h ≡ None) → begun_by h ≡ 0 → IsTied w r → IsTied w (r ++ h ∷ [])
+refused w r h none quiet nobody t = record {
+  consistent = t.consistent;
+  begun_is = omega (arith, begun_in-push r h, nobody, t.begun_is);
+  named = t.named;
+  outcomes = λ p. outcome_of-push p r h ∙ rw (quiet p) (first_of-none (outcome_of p r)) ∙ t.outcomes p;
+  steps = λ p. omega (arith, steps_of-push p r h, none p, t.steps p);
+}
+
+set_at-map : {X Y : Type 0} (g : X → Y) (f : ℕ → X) (p : ℕ) (s : X) (q : ℕ) → g (set_at f p s q) ≡ set_at (λ u. g (f u)) p (g s) q
+set_at-map g f p s q = elim (q == p) as (λ b. g (cond b s (f q)) ≡ cond b (g s) (g (f q))) [ true ↦ refl | false ↦ refl ]
+
+length-with_participant : (new : Participant Walker) (ps : List (Participant Walker)) → length (with_participant new ps) ≡ length ps
+length-with_participant new [] = refl
+length-with_participant new (p ∷ ps) = elim (p.identity == new.identity) as (λ b. length (cond b (new ∷ ps) (p ∷ with_participant new ps)) ≡ suc (length ps)) [ true ↦ refl | false ↦ ap suc (length-with_participant new ps) ]
+
+-- what is said alike of one who has not begun and of one who has just begun
+same_in : {X : Type 0} (say : Option Walker → X) (walker : ℕ → Option Walker) (id : ℕ) (new : Walker) (p : ℕ) → walker id ≡ None → say None ≡ say (Some new) → say (walker p) ≡ say (set_at walker id (Some new) p)
+same_in say walker id new p absent same = set_at-cases walker id (Some new) (λ o. say (walker p) ≡ say o) p (λ e. ap say (ap walker e ∙ absent) ∙ same) (λ _. refl)
+
+-- one who begins
+begun_kept : (w : GridState) (r : List (Call (Option ℕ))) (id : ℕ) → IsLetIn w id → IsTied w r → IsTied (record { memory = w.memory; most = w.most; participants = w.participants ++ beginner id (walk_of id) ∷ [] }) (r ++ Began id (Ok tt) ∷ [])
+begun_kept w r id in_ t =
+    let all = w.participants ++ beginner id (walk_of id) ∷ [] in
+    let push = participant_of-push w.participants (beginner id (walk_of id)) in_.absent in
+    let longer : length all ≡ suc (length w.participants) = omega (arith, length-append w.participants (beginner id (walk_of id) ∷ [])) in
+    let walks : walkers all ≡ set_at (walkers w.participants) id (Some (walk_of id)) =
+    fun_ext (λ q. ap (option_map (λ v. v.program)) (push q) ∙ set_at-map (option_map (λ v. v.program)) (λ u. participant_of u w.participants) id (Some (beginner id (walk_of id))) q) in
+    let absent : walkers w.participants id ≡ None = rw in_.absent refl in
+    let same_place : (p : ℕ) → place_by (walkers w.participants p) ≡ place_by (walkers all p) = (λ p. same_in place_by (walkers w.participants) id (walk_of id) p absent refl ∙ ap (λ (f : ℕ → Option Walker). place_by (f p)) (sym walks)) in
+    let same_accesses : (p : ℕ) → accesses_by (walkers w.participants p) ≡ accesses_by (walkers all p) = (λ p. same_in accesses_by (walkers w.participants) id (walk_of id) p absent refl ∙ ap (λ (f : ℕ → Option Walker). accesses_by (f p)) (sym walks)) in
+    record {
+      consistent = rw (longer, walks) (begun w.most (length w.participants) w.memory (walkers w.participants) t.consistent id in_.not_zero absent in_.room);
+      begun_is = omega (arith, begun_in-push r (Began id (Ok tt)), t.begun_is, longer);
+      named = λ p v h. set_at-cases (λ z. participant_of z w.participants) id (Some (beginner id (walk_of id))) (λ o. o ≡ Some v → IsNamed p v) p
+          (λ e k. let is : beginner id (walk_of id) ≡ v = cc in subst (λ (u : Participant Walker). IsNamed p u) is (record { own = sym e; ended = refl }))
+          (λ _ k. t.named p v k)
+          (sym (push p) ∙ h);
+      outcomes = λ p. outcome_of-push p r (Began id (Ok tt)) ∙ first_of-none (outcome_of p r) ∙ t.outcomes p ∙ same_place p;
+      steps = λ p. omega (arith, steps_of-push p r (Began id (Ok tt)), t.steps p, same_accesses p);
+    }
+
+-- what a walk says is its place, and that it has ended
+place_told : (u : Walker) (s : Stage) → outcome_in (note_at_door (number_of u.door) s) ≡ place_of (walked_to u s)
+place_told u Outside = refl
+place_told u WroteName = refl
+place_told u SawClear = refl
+place_told u WroteMark = refl
+place_told u (Gone Stop) = refl
+place_told u (Gone Right) = refl
+place_told u (Gone Down) = refl
+
+end_told : (u : Walker) (s : Stage) → ends (note_at_door (number_of u.door) s) ≡ is_some (place_of (walked_to u s))
+end_told u Outside = refl
+end_told u WroteName = refl
+end_told u SawClear = refl
+end_told u WroteMark = refl
+end_told u (Gone Stop) = refl
+end_told u (Gone Right) = refl
+end_told u (Gone Down) = refl
+
+no_place : (o : Option ℕ) → is_some o ≡ false → o ≡ None
+no_place None h = refl
+no_place (Some k) h = absurd (cc)
+
+-- a step that is accepted
+going_kept : (w : GridState) (r : List (Call (Option ℕ))) (id : ℕ) (v : Participant Walker) → participant_of id w.participants ≡ Some v → v.ended ≡ false → IsTied w r →
+    IsTied (stepped walker_steps memory_steps outcome_in walk_of w v) (r ++ Stepped id (Ok (outcome_in (walker_note v.program (answer_of w.memory (next_access v.program))))) ∷ [])
+going_kept w r id v here goes t =
+    let named = t.named id v here in
+    let is : walkers w.participants id ≡ Some v.program = rw here refl in
+    let on : place_of v.program ≡ None = no_place (place_of v.program) (sym named.ended ∙ goes) in
+    let got : Answer ℕ = answer_of w.memory (next_access v.program) in
+    let walk : Walker = walker_after v.program got in
+    let new : Participant Walker = moved walker_steps memory_steps outcome_in walk_of w.memory v in
+    let call : Call (Option ℕ) = Stepped id (Ok (outcome_in (walker_note v.program got))) in
+    let there : is_some (participant_of v.identity w.participants) ≡ true = rw (named.own, here) refl in
+    let put : (q : ℕ) → participant_of q (with_participant new w.participants) ≡ set_at (λ u. participant_of u w.participants) id (Some new) q = (λ q. participant_of-put w.participants new there q ∙ rw named.own refl) in
+    let walks : walkers (with_participant new w.participants) ≡ set_at (walkers w.participants) id (Some walk) = fun_ext (λ q. ap (option_map (λ x. x.program)) (put q) ∙ set_at-map (option_map (λ x. x.program)) (λ u. participant_of u w.participants) id (Some new) q) in
+    let many : length (with_participant new w.participants) ≡ length w.participants = length-with_participant new w.participants in
+    let own : walkers (with_participant new w.participants) id ≡ Some walk = ap (λ (f : ℕ → Option Walker). f id) walks ∙ set_at-same (walkers w.participants) id (Some walk) in
+    let others : (p : ℕ) → id ≢ p → walkers (with_participant new w.participants) p ≡ walkers w.participants p = (λ p n. ap (λ (f : ℕ → Option Walker). f p) walks ∙ set_at-other (walkers w.participants) id (Some walk) p (λ h. n (sym h))) in
+    let itself : (id == id) ≡ true = elim (eqb_tells id id) [ inl e ↦ e.0 | inr e ↦ absurd (e.1 refl) ] in
+    let own_place : outcome_of id (r ++ call ∷ []) ≡ place_by (walkers (with_participant new w.participants) id) =
+    (let before : outcome_of id r ≡ None = t.outcomes id ∙ ap place_by is ∙ on in
+    outcome_of-push id r call ∙ rw (before, itself) (place_told v.program (stage_by v.program.visitor got)) ∙ ap place_by (sym own)) in
+    let own_steps : steps_of id (r ++ call ∷ []) ≤ accesses_by (walkers (with_participant new w.participants) id) =
+    (let one : steps_by id call ≡ 1 = rw itself refl in
+    let more = nearer w.most (length w.participants) w.memory (walkers w.participants) t.consistent id v.program is on got in
+    let before : accesses_by (walkers w.participants id) ≡ accesses_of v.program = ap accesses_by is in
+    let now : accesses_by (walkers (with_participant new w.participants) id) ≡ accesses_of walk = ap accesses_by own in
+    let so_far = t.steps id in
+    let pushed = steps_of-push id r call in
+    omega arith) in
+    record {
+      consistent = rw (many, walks) (gone_on w.most (length w.participants) w.memory (walkers w.participants) t.consistent id v.program is);
+      begun_is = omega (arith, begun_in-push r call, t.begun_is, many);
+      named = λ p u h. set_at-cases (λ z. participant_of z w.participants) id (Some new) (λ o. o ≡ Some u → IsNamed p u) p
+          (λ e k. let same : new ≡ u = cc in subst (λ (x : Participant Walker). IsNamed p x) same (record { own = named.own ∙ sym e; ended = end_told v.program (stage_by v.program.visitor got) }))
+          (λ _ k. t.named p u k)
+          (sym (put p) ∙ h);
+      outcomes = λ p. elim (eqb_tells id p) [
+        | inl e ↦ subst (λ (x : ℕ). outcome_of x (r ++ call ∷ []) ≡ place_by (walkers (with_participant new w.participants) x)) e.1 own_place
+        | inr e ↦ outcome_of-push p r call ∙ rw e.0 (first_of-none (outcome_of p r)) ∙ t.outcomes p ∙ ap place_by (sym (others p e.1))
+      ];
+      steps = λ p. elim (eqb_tells id p) [
+        | inl e ↦ subst (λ (x : ℕ). steps_of x (r ++ call ∷ []) ≤ accesses_by (walkers (with_participant new w.participants) x)) e.1 own_steps
+        | inr e ↦
+            let none : steps_by p call ≡ 0 = rw e.0 refl in
+            let same : accesses_by (walkers (with_participant new w.participants) p) ≡ accesses_by (walkers w.participants p) = ap accesses_by (others p e.1) in
+            omega (arith, steps_of-push p r call, t.steps p, none, same)
+      ];
+    }
+
+-- each call keeps the tie
+tie_kept : IsKept walker_steps memory_steps outcome_in walk_of IsTied
+tie_kept = record {
+  refused_begin = λ w r id why t. refused w r (Began id (Err why)) (λ _. refl) (λ _. refl) refl t;
+  refused_step = λ w r id why t. refused w r (Stepped id (Err why)) (λ _. refl) (λ _. refl) refl t;
+  begun = begun_kept;
+  gone_on = going_kept;
+}
+
+-- a grid that no one has entered
+tied_new : (most : ℕ) → most ≤ 16 → IsTied (fresh most) []
+tied_new most few = record {
+  consistent = consistent_new most few;
+  begun_is = refl;
+  named = λ p v h. absurd (cc);
+  outcomes = λ p. refl;
+  steps = λ p. omega arith;
+}
+
+-- a world that is after these calls is tied to them
+pub tied_after : (w : GridState) (r : List (Call (Option ℕ))) → After w r → IsTied w r
+tied_after w r a = world_keeps walker_steps memory_steps outcome_in walk_of IsTied tie_kept (empty_doors w.most) w r (tied_new w.most a.0) a.1
+
+-- the steps of one are at most the accesses that its walk may have made, so the law of the walks is that of the calls
+tied_law : (w : GridState) (r : List (Call (Option ℕ))) → IsTied w r → KeepsGridLaw r
+tied_law w r t =
+    let law : IsGrid (length w.participants) w.memory (walkers w.participants) = grid_law w.most (length w.participants) w.memory (walkers w.participants) t.consistent in
+    record {
+      distinct = λ p q place h k. law.distinct p q place (sym (t.outcomes p) ∙ h) (sym (t.outcomes q) ∙ k);
+      within = λ p place h. rw t.begun_is (law.within p place (sym (t.outcomes p) ∙ h));
+      at_most = λ p. omega (arith, t.steps p, law.at_most p, t.begun_is);
+      last_places = λ p some all. rw (t.outcomes p) (law.last_places p (omega (arith, t.steps p, some)) (omega (arith, t.steps p, law.at_most p, t.begun_is, all)));
+    }
+
+-- a world that is after these calls shows that they keep the law
+pub law_after : (w : GridState) (r : List (Call (Option ℕ))) → After w r → KeepsGridLaw r
+law_after w r a = tied_law w r (tied_after w r a)
+
+-- the place at which a walk has ended is the one that was answered
+pub place_after : (w : GridState) (r : List (Call (Option ℕ))) → After w r → (p : ℕ) → place_in w p ≡ outcome_of p r
+place_after w r a p = sym ((tied_after w r a).outcomes p)
+
+-- the law of the doors
+pub grid_after : (w : GridState) (r : List (Call (Option ℕ))) → After w r → IsGrid (begun_in r) w.memory (walkers w.participants)
+grid_after w r a =
+    let t = tied_after w r a in
+    rw t.begun_is (grid_law w.most (length w.participants) w.memory (walkers w.participants) t.consistent)
+
+-- a grid that no one has entered is after no call
+pub after_none : (most : ℕ) → most ≤ 16 → After (fresh most) []
+after_none most few = (few, refl)
+
+-- and each call goes on: the most participants stay the same
+after_with : (w new : GridState) (r : List (Call (Option ℕ))) (h : Call (Option ℕ)) → After w r → new.most ≡ w.most → IsAfter walker_steps memory_steps outcome_in walk_of (empty_doors w.most) new (r ++ h ∷ []) → After new (r ++ h ∷ [])
+after_with w new r h a same is = subst (λ (x : ℕ). (x ≤ 16) × IsAfter walker_steps memory_steps outcome_in walk_of (empty_doors x) new (r ++ h ∷ [])) (sym same) (a.0, is)
+
+pub after_next : (w : GridState) (r : List (Call (Option ℕ))) (h : Call (Option ℕ)) → IsReply walker_steps memory_steps outcome_in walk_of w h → After w r → After (next walker_steps memory_steps outcome_in walk_of w h) (r ++ h ∷ [])
+after_next w r h is a = after_with w (next walker_steps memory_steps outcome_in walk_of w h) r h a (most_kept walker_steps memory_steps outcome_in walk_of w h) (after_call walker_steps memory_steps outcome_in walk_of (empty_doors w.most) w (next walker_steps memory_steps outcome_in walk_of w h) r h refl is a.1)
+
+pub after_begun : (w : GridState) (r : List (Call (Option ℕ))) (id : ℕ) → After w r → After (after_begin w id (walk_of id)) (r ++ Began id (done_unless (begin_refusal w id)) ∷ [])
+after_begun w r id a = after_next w r (Began id (done_unless (begin_refusal w id))) refl a
+
+pub after_step_of : (w : GridState) (r : List (Call (Option ℕ))) (id : ℕ) → After w r → After (world_after_step w id) (r ++ Stepped id (step_reply w id) ∷ [])
+after_step_of w r id a = after_with w (world_after_step w id) r (Stepped id (step_reply w id)) a
+    (most_kept walker_steps memory_steps outcome_in walk_of w (Stepped id (Ok None)))
+    (after_stepped walker_steps memory_steps outcome_in walk_of (empty_doors w.most) w (world_after_step w id) r id (step_reply w id) refl refl a.1)

@@ -1,0 +1,9 @@
+pub mod Numbers
+pub mod Diagonals
+pub mod Counting
+pub mod DepthBound
+pub mod AgreeKept
+pub mod ConsistentKept
+pub mod GridLaw
+pub mod GridTied
+pub mod EnteredDoors

@@ -1,0 +1,7 @@
+use Rattle.std.proofs.Common.{◌≡◌, ◌≤◌}
+use Rattle.splitter_grid.specs.Consistent.{was_entered}
+use Rattle.splitter_grid.specs.Count.{count_to}
+use Rattle.splitter_grid.proofs.world.GridWorld.doors_entered.Given as goal
+
+abbrev pub invariant-loop-k : goal.invariant-loop-k
+invariant-loop-k g l = record { counted : l.entered ≡ count_to (was_entered l.memory) l.k; few : l.entered ≤ l.k }

@@ -1,0 +1,91 @@
+-- a walk from door to door
+use Rattle.std.specs.Prelude.{ℕ, ◌+◌, ◌*◌, Option, Some, None}
+use Rattle.step_memory.specs.declared.access.Access.{Access}
+use Rattle.step_memory.specs.declared.access.Answer.{Answer}
+use Rattle.step_memory.specs.declared.note.Note.{Note}
+use Rattle.step_memory.specs.declared.note.Note.TheVariants.{Quiet, Ended}
+use Rattle.step_memory.specs.Steps.{ProgramSteps}
+use Rattle.splitter.specs.declared.way.Way.TheVariants.{Stop, Right, Down}
+use Rattle.splitter.specs.declared.stage.Stage.{Stage}
+use Rattle.splitter.specs.declared.stage.Stage.TheVariants.{Outside, WroteName, SawClear, WroteMark, Gone}
+use Rattle.splitter.specs.Visitor.{access_of, visitor_at, stage_by}
+use Rattle.splitter_grid.specs.declared.door.Door.{Door}
+use Rattle.splitter_grid.specs.declared.walker.Walker.{Walker}
+use Rattle.splitter_grid.specs.Door.{number_of, right_of, down_of, corner}
+
+-- a walk that stands before a door: door k has registers 2k and 2k + 1
+abbrev pub walker_at : ℕ → Door → Walker
+walker_at id door = record { visitor = visitor_at id (2 * number_of door) (2 * number_of door + 1); door = door }
+
+-- a walk that begins
+abbrev pub walk_of : ℕ → Walker
+walk_of id = walker_at id corner
+
+-- the access of the next step: that of the visit
+abbrev pub next_access : Walker → Access ℕ ℕ
+next_access u = access_of u.visitor
+
+abbrev pub visit_on : Walker → Stage → Walker
+visit_on u s = record u { visitor = record u.visitor { stage = s } }
+
+-- the walk whose visit has come this far: from a visit that ends right or down it stands before the next door
+abbrev pub walked_to : Walker → Stage → Walker
+walked_to u Outside = visit_on u Outside
+walked_to u WroteName = visit_on u WroteName
+walked_to u SawClear = visit_on u SawClear
+walked_to u WroteMark = visit_on u WroteMark
+walked_to u (Gone Stop) = visit_on u (Gone Stop)
+walked_to u (Gone Right) = walker_at u.visitor.identity (right_of u.door)
+walked_to u (Gone Down) = walker_at u.visitor.identity (down_of u.door)
+
+-- the walk after an answer
+abbrev pub walker_after : Walker → Answer ℕ → Walker
+walker_after u got = walked_to u (stage_by u.visitor got)
+
+-- what a walk says where its visit has come this far
+abbrev pub note_at_door : ℕ → Stage → Note ℕ
+note_at_door k Outside = Quiet
+note_at_door k WroteName = Quiet
+note_at_door k SawClear = Quiet
+note_at_door k WroteMark = Quiet
+note_at_door k (Gone Stop) = Ended k
+note_at_door k (Gone Right) = Quiet
+note_at_door k (Gone Down) = Quiet
+
+abbrev pub walker_note : Walker → Answer ℕ → Note ℕ
+walker_note u got = note_at_door (number_of u.door) (stage_by u.visitor got)
+
+abbrev pub walker_steps : ProgramSteps Walker ℕ ℕ ℕ
+walker_steps = record { next = next_access; resumed = walker_after; note = walker_note }
+
+abbrev pub place_at_door : ℕ → Stage → Option ℕ
+place_at_door k Outside = None
+place_at_door k WroteName = None
+place_at_door k SawClear = None
+place_at_door k WroteMark = None
+place_at_door k (Gone Stop) = Some k
+place_at_door k (Gone Right) = None
+place_at_door k (Gone Down) = None
+
+-- the place at which a walk has ended
+abbrev pub place_of : Walker → Option ℕ
+place_of u = place_at_door (number_of u.door) u.visitor.stage
+
+abbrev pub place_by : Option Walker → Option ℕ
+place_by None = None
+place_by (Some u) = place_of u
+
+abbrev pub accesses_at : Stage → ℕ
+accesses_at Outside = 0
+accesses_at WroteName = 1
+accesses_at SawClear = 2
+accesses_at WroteMark = 3
+accesses_at (Gone way) = 4
+
+-- the most accesses that a walk which stands here has made: four at each door that it passed, and those at its door
+abbrev pub accesses_of : Walker → ℕ
+accesses_of u = 4 * u.door.depth + accesses_at u.visitor.stage
+
+abbrev pub accesses_by : Option Walker → ℕ
+accesses_by None = 0
+accesses_by (Some u) = accesses_of u

@@ -1,0 +1,25 @@
+//! What holds of a grid, whoever walks through it: stated over its registers and the walks alone.
+
+ghost use Rattle.std.specs.Prelude.{◌≡◌, ◌≢◌, ℕ, ◌+◌, ◌≤◌, ◌<◌, length, Option, Some, None};
+ghost use Rattle.splitter.specs.Visitor.{word_of};
+ghost use Rattle.splitter_grid.specs.Consistent.{IsConsistent, IsGrid};
+ghost use Rattle.splitter_grid.specs.GridWorld.{empty_doors};
+ghost use Rattle.splitter_grid.specs.Walk.{walk_of, next_access, walker_after, accesses_of, place_of};
+ghost use Rattle.splitter_grid.specs.declared.walker.Walker.{Walker};
+ghost use Rattle.step_memory.specs.RegisterState.{Registers};
+ghost use Rattle.step_memory.specs.Registers.{answer_of, after_access};
+ghost use Rattle.step_memory.specs.SetAt.{set_at};
+ghost use Rattle.step_memory.specs.declared.access.Answer.{Answer};
+
+/// A law, which runs nothing: the doors of a grid that no one has entered are consistent with no walks; one who begins,
+/// each access of a walk, and whatever leaves the doors' registers as they are keep doors and walks consistent; and
+/// where they are, they keep the law of the grid. An access of a walk that has no place yet brings it nearer to one.
+/// Structures over the places of a grid stand on this.
+pub fn law_of_doors_and_walks()
+    ensures fresh { (most : ℕ) → most ≤ 16 → IsConsistent most 0 (empty_doors most) (λ p. None) }
+    ensures begun { (most b : ℕ) (m : Registers ℕ) (walker : ℕ → Option Walker) (p : ℕ) → IsConsistent most b m walker → p ≢ 0 → walker p ≡ None → b < most → IsConsistent most (b + 1) m (set_at walker p (Some (walk_of p))) }
+    ensures gone_on { (most b : ℕ) (m : Registers ℕ) (walker : ℕ → Option Walker) (p : ℕ) (u : Walker) → IsConsistent most b m walker → walker p ≡ Some u → IsConsistent most b (after_access m (next_access u)) (set_at walker p (Some (walker_after u (answer_of m (next_access u))))) }
+    ensures elsewhere { (most b : ℕ) (m other : Registers ℕ) (walker : ℕ → Option Walker) → IsConsistent most b m walker → length other.values ≡ length m.values → ((r : ℕ) → word_of other r ≡ word_of m r) → IsConsistent most b other walker }
+    ensures law { (most b : ℕ) (m : Registers ℕ) (walker : ℕ → Option Walker) → IsConsistent most b m walker → IsGrid b m walker }
+    ensures nearer { (most b : ℕ) (m : Registers ℕ) (walker : ℕ → Option Walker) (p : ℕ) (u : Walker) (got : Answer ℕ) → IsConsistent most b m walker → walker p ≡ Some u → place_of u ≡ None → accesses_of u + 1 ≤ accesses_of (walker_after u got) }
+{}

@@ -1,0 +1,74 @@
+//! A walk from door to door.
+
+ghost use Rattle.std.specs.Prelude.{◌≡◌};
+ghost use Rattle.splitter_grid.specs.Walk.{walker_at, walker_steps, next_access, walker_after, walker_note, place_of};
+
+use crate::door::{Door, Place};
+use splitter::{Stage, Visitor, Way};
+use step_memory::{Access, Answer, Note, StepProgram};
+
+/// A walk of one identity, which is not 0, through a grid of splitters: the door before which it stands, and its visit
+/// there. A visit that ends to the right or down ends before the next door, of which the next step makes the first
+/// access; one that stops ends the walk (Moir and Anderson 1995).
+#[derive(Clone, Copy, Debug, Drop, PartialEq, Eq)]
+pub struct Walker {
+    pub visitor: Visitor<usize>,
+    pub door: Door,
+}
+
+impl Walker {
+    /// A walk that stands before a door.
+    pub fn new(identity: u64, door: Door) -> Walker
+        ensures { result ≡ walker_at identity door }
+    {
+        Walker {
+            visitor: Visitor::new(identity, door.name(), door.mark()),
+            door,
+        }
+    }
+
+    /// The place at which the walk has ended, where it has.
+    pub fn place(&self) -> Option<Place>
+        ensures { result ≡ place_of self.now }
+    {
+        match self.visitor.stage {
+            Stage::Gone(Way::Stop) => Some(Place::from(self.door.number())),
+            Stage::Gone(Way::Right) | Stage::Gone(Way::Down) => None,
+            Stage::Outside | Stage::WroteName | Stage::SawClear | Stage::WroteMark => None,
+        }
+    }
+}
+
+impl StepProgram for Walker {
+    type Reg = usize;
+
+    type Value = u64;
+
+    type Output = Place;
+
+    ghost steps = { walker_steps };
+
+    fn next(&self) -> Access<usize, u64>
+        ensures { result ≡ next_access self.now }
+    {
+        self.visitor.next()
+    }
+
+    fn resume(&mut self, got: Answer<u64>) -> Note<Place>
+        ensures after { self.new ≡ walker_after self.old got }
+        ensures note { result ≡ walker_note self.old got }
+    {
+        match self.visitor.resume(got) {
+            Note::Ended(Way::Stop) => Note::Ended(Place::from(self.door.number())),
+            Note::Ended(Way::Right) => {
+                *self = Walker::new(self.visitor.identity, self.door.right());
+                Note::Quiet
+            }
+            Note::Ended(Way::Down) => {
+                *self = Walker::new(self.visitor.identity, self.door.down());
+                Note::Quiet
+            }
+            Note::Said(_) | Note::Quiet => Note::Quiet,
+        }
+    }
+}

@@ -1,0 +1,144 @@
+//! A world whose participants walk through one grid.
+
+ghost use Rattle.std.specs.Prelude.{◌≡◌, ◌≢◌, ℕ, ◌+◌, ◌*◌, ◌∷◌, [], ◌++◌, List, IfOk, IfErr, IsOk, Err, ◌≤◌, ◌<◌, ◌⊎◌, ◌↔◌, Option};
+ghost use Rattle.splitter_grid.specs.Consistent.{name_in};
+ghost use Rattle.splitter_grid.specs.Door.{IsDoorWithin};
+ghost use Rattle.splitter_grid.specs.Entered.{WasEntered};
+ghost use Rattle.splitter_grid.specs.GridWorld.{After, GridState, fresh, step_reply, world_after_step, place_in, entered_count};
+ghost use Rattle.splitter_grid.specs.Law.{KeepsGridLaw};
+ghost use Rattle.splitter_grid.specs.Walk.{walk_of, walker_steps};
+ghost use Rattle.step_memory.specs.Calls.{Call, outcome_of, begun_in};
+ghost use Rattle.step_memory.specs.Calls.Call.{Began, Stepped};
+ghost use Rattle.step_memory.specs.Locality.{IsLocal, LookAlike};
+ghost use Rattle.step_memory.specs.Registers.{memory_steps};
+ghost use Rattle.step_memory.specs.World.{after_begin, begin_refusal, done_unless};
+
+use crate::door::{Door, Place};
+use crate::walker::Walker;
+use std::alloc::Allocator;
+use std::marker::Model;
+use step_memory::{Memory, Note, Refusal, World};
+
+/// Participants that walk through one grid, each to a place of its own.
+#[derive(Drop)]
+pub struct GridWorld<A: Allocator> {
+    world: World<Walker, Memory<u64, A>, A>,
+    doors: usize,
+}
+
+impl<A: Allocator> Model for GridWorld<A> {
+    ghost use Rattle.std.specs.Prelude.{◌≡◌, ◌≤◌};
+    ghost use Rattle.splitter_grid.specs.GridWorld.{GridState, doors_for};
+
+    ghost Value = { GridState };
+
+    ghost view = { λ w. w.world };
+
+    ghost invariant = { λ w. (w.world.most ≤ 16) × (w.doors ≡ doors_for w.world.most) };
+}
+
+impl<A: Allocator + Clone> GridWorld<A> {
+    /// A grid that no one has entered, for at most `most` participants, from 1 to 16; `OutOfRange` elsewhere. All the
+    /// memory that its calls want is taken here.
+    pub fn new(alloc: A, most: usize) -> Result<Self, Refusal>
+        ensures fresh { IfOk result (λ w. w ≡ fresh most) }
+        ensures after { IfOk result (λ w. After w []) }
+        ensures range { IsOk result → (1 ≤ most) × (most ≤ 16) }
+        ensures out_of_range { result ≡ Err Refusal.OutOfRange ↔ ((most < 1) ⊎ (16 < most)) }
+        ensures only { IfErr result (λ r. (r ≡ Refusal.NoMemory) ⊎ (r ≡ Refusal.OutOfRange)) }
+    {
+        if most < 1 || 16 < most {
+            return Err(Refusal::OutOfRange);
+        }
+        let Ok(other) = alloc.clone() else {
+            return Err(Refusal::NoMemory);
+        };
+        let registers = most * (most + 1);
+        let Ok(memory) = Memory::new(other, 0, registers, 0) else {
+            return Err(Refusal::NoMemory);
+        };
+        match World::new(alloc, memory, most) {
+            Ok(world) => Ok(GridWorld {
+                world,
+                doors: registers / 2,
+            }),
+            Err(_) => Err(Refusal::NoMemory),
+        }
+    }
+
+    /// A participant begins: it stands before the door in the corner and has made no access. Refused where the identity
+    /// is 0, then where it has begun, then where as many have begun as there may be.
+    pub fn begin(&mut self, id: u64) -> Result<(), Refusal>
+        ensures answer { result ≡ done_unless (begin_refusal self.old id) }
+        ensures state { self.new ≡ after_begin self.old id (walk_of id) }
+
+        // The law, over every list of calls and replies that the world may be after.
+        ensures after { (r : List (Call (Option ℕ))) → After self.old r → After self.new (r ++ Began id result ∷ []) }
+        ensures law { (r : List (Call (Option ℕ))) → After self.new r → KeepsGridLaw r }
+    {
+        self.world.begin(id, Walker::new(id, Door::corner()))
+    }
+
+    /// One step of a walk, which is one access; the place, once the walk ends. Refused where the identity has not begun,
+    /// then where its walk has ended.
+    pub fn step(&mut self, id: u64) -> Result<Option<Place>, Refusal>
+        ensures answer { result ≡ step_reply self.old id }
+        ensures state { self.new ≡ world_after_step self.old id }
+
+        // Nothing of the world changes but this walk and the register that it names, and in another world that looks
+        // alike to this walk the answer is the same.
+        ensures local { IsLocal walker_steps memory_steps id self.old self.new }
+        ensures alike { (other : GridState) → LookAlike walker_steps memory_steps id self.old other → result ≡ step_reply other id }
+
+        // The law, over every list of calls and replies that the world may be after.
+        ensures after { (r : List (Call (Option ℕ))) → After self.old r → After self.new (r ++ Stepped id result ∷ []) }
+        ensures law { (r : List (Call (Option ℕ))) → After self.new r → KeepsGridLaw r }
+    {
+        match self.world.step(id)? {
+            Note::Ended(place) => Ok(Some(place)),
+            _ => Ok(None),
+        }
+    }
+
+    /// The place of a participant, once its walk has ended: the one that was answered.
+    pub fn place_of(&self, id: u64) -> Option<Place>
+        ensures value { result ≡ place_in self.now id }
+        ensures answered { (r : List (Call (Option ℕ))) → After self.now r → result ≡ outcome_of id r }
+    {
+        let Some(walker) = self.world.program(id) else {
+            return None;
+        };
+        walker.place()
+    }
+
+    /// How many doors were entered: those at which anyone has made an access. It makes none itself.
+    pub fn doors_entered(&self) -> u64
+        ensures count { result ≡ entered_count self.now }
+
+        // The law, over every list of calls and replies that the world may be after: the doors counted are those that
+        // were entered, and all of them lie on the first diagonals, as many as participants have begun.
+        ensures entered { (r : List (Call (Option ℕ))) → After self.now r → (k : ℕ) → (name_in self.now.memory k ≢ 0) ↔ WasEntered self.now.most r k }
+        ensures within { (r : List (Call (Option ℕ))) → After self.now r → (k : ℕ) → WasEntered self.now.most r k → IsDoorWithin (begun_in r) k }
+        ensures few { (r : List (Call (Option ℕ))) → After self.now r → 2 * result ≤ begun_in r * (begun_in r + 1) }
+    {
+        let memory = self.world.memory();
+        let mut entered = 0;
+        for k in 0..self.doors {
+            if memory.value(2 * k) != 0 {
+                entered += 1;
+            }
+        }
+        entered
+    }
+}
+
+/// A law, which runs nothing: a grid that no one has entered is after no call, each call takes a world after some calls
+/// to one after these and itself, and calls that a world may be after keep the law of the grid. The places that were
+/// answered are those at which walks have ended.
+pub fn law_of_grid_calls()
+    ensures fresh { (most : ℕ) → most ≤ 16 → After (fresh most) [] }
+    ensures begun { (w : GridState) (r : List (Call (Option ℕ))) (id : ℕ) → After w r → After (after_begin w id (walk_of id)) (r ++ Began id (done_unless (begin_refusal w id)) ∷ []) }
+    ensures stepped { (w : GridState) (r : List (Call (Option ℕ))) (id : ℕ) → After w r → After (world_after_step w id) (r ++ Stepped id (step_reply w id) ∷ []) }
+    ensures law { (w : GridState) (r : List (Call (Option ℕ))) → After w r → KeepsGridLaw r }
+    ensures places { (w : GridState) (r : List (Call (Option ℕ))) (id : ℕ) → After w r → place_in w id ≡ outcome_of id r }
+{}
