@@ -1,0 +1,9 @@
+pub mod ViewLemmas
+pub mod SightingLemmas
+pub mod SnapWorldLemmas
+pub mod Counting
+pub mod Histories
+pub mod Collecting
+pub mod Reading
+pub mod Tied
+pub mod Following

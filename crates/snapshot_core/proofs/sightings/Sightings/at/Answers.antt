@@ -1,0 +1,32 @@
+use Rattle.std.proofs.Common.{◌≡◌, ◌<◌, Some, None, take, sym, ◌∙◌, arith, rules}
+use Rattle.std.proofs.lemmas.List.{get_or-take, length-take-le}
+use Rattle.snapshot_core.specs.Sightings.{index_of}
+use Rattle.snapshot_core.proofs.SightingLemmas.{IsNotedAt, noted_at, not_noted}
+use Rattle.snapshot_core.proofs.sightings.Sightings.at.Goals as goal
+use Rattle.snapshot_core.proofs.sightings.Sightings.at.Goals.{In-Some}
+
+found : (c : In-Some) → IsNotedAt c.args.place (take c.self.inside.len c.self.inside.entries) c.in-Some.i
+found c =
+    let e : index_of c.args.place (take c.self.inside.len c.self.inside.entries) ≡ Some c.in-Some.i = sym c.in-Some.ensures in
+    noted_at c.args.place (take c.self.inside.len c.self.inside.entries) c.in-Some.i e
+
+below : (c : In-Some) → c.in-Some.i < c.self.inside.len
+below c =
+    let h = (found c).inside in
+    omega (arith, h, length-take-le c.self.inside.len c.self.inside.entries (omega arith))
+
+pub bounds-self-inside-i : goal.bounds-self-inside-i
+bounds-self-inside-i c = let h = below (goal.at.bounds-self-inside-i c).In-Some in omega arith
+
+pub returns-in-Some : goal.returns-in-Some
+returns-in-Some c =
+    let known = (goal.at.returns-in-Some c).In-Some in
+    rw (← c.self.view_is) (sym (get_or-take c.self.inside.len c.self.inside.entries c.in-Some.i _ (below known)) ∙ (found known).is _)
+
+pub returns-in-None : goal.returns-in-None
+returns-in-None c =
+    let e : index_of c.args.place (take c.self.inside.len c.self.inside.entries) ≡ None = sym c.in-None.ensures in
+    rw (← c.self.view_is) (sym (not_noted c.args.place (take c.self.inside.len c.self.inside.entries) e).is)
+
+pub offset_bounds-self-inside-i : goal.offset_bounds-self-inside-i
+offset_bounds-self-inside-i c = let h = below (goal.at.offset_bounds-self-inside-i c).In-Some in search rules

@@ -1,0 +1,11 @@
+pub mod View
+pub mod ViewInside
+pub mod Sightings
+pub mod Walks
+pub mod Scan
+pub mod Client
+pub mod Fixed
+pub mod FixedLaws
+pub mod SnapWorld
+pub mod SnapCalls
+pub mod Snapshot

@@ -1,0 +1,221 @@
+//! A participant of a snapshot object.
+
+ghost use Rattle.std.specs.Prelude.{◌≡◌, ◌<◌, ◌↔◌, IsTrue, ◌≢◌};
+ghost use Rattle.snapshot_core.specs.Client.{view_told, is_idle, client_at, client_steps, updating, scanning, next_access, client_after, client_note, scan_resumed, scan_note, placing_resumed, placing_note};
+
+use crate::places::{Place, PlaceWalker};
+use crate::record::Record;
+use crate::scan::Scan;
+use crate::view::View;
+use crate::walk::SegmentWalk;
+use step_memory::{Access, Answer, Note, StepProgram};
+
+/// What a step of a snapshot object tells.
+#[derive(Clone, Copy, Debug, Drop)]
+pub enum SnapReply {
+    /// Nothing.
+    Quiet,
+    /// The participant has reached this place.
+    Placed(Place),
+    /// The update has taken effect.
+    Written,
+    /// The scan has ended with this view.
+    View(View),
+}
+
+impl SnapReply {
+    /// The view with which a scan has ended.
+    pub fn view(&self) -> Option<View>
+        ensures { result ≡ view_told self.now }
+    {
+        match self {
+            SnapReply::Quiet => None,
+            SnapReply::Placed(_) => None,
+            SnapReply::Written => None,
+            SnapReply::View(view) => Some(*view),
+        }
+    }
+}
+
+/// What a participant has still to do.
+#[derive(Clone, Copy, Debug, Drop)]
+pub enum Pending {
+    /// Nothing.
+    Nothing,
+    /// To reach its place.
+    Placing,
+    /// To scan.
+    Scan,
+    /// To scan, and then to write this value.
+    Update(u64),
+    /// To write this value with the view that was scanned.
+    Write(u64, View),
+}
+
+/// A participant: its way to its place, what it has still to do, and how many updates it was asked for.
+#[derive(Debug, Drop)]
+pub struct Client<U, K> {
+    pub identity: u64,
+    pub walker: U,
+    /// A walk from its beginning, which each collect takes.
+    pub walk: K,
+    pub updates: u32,
+    pub pending: Pending,
+    /// The scan under way, where there is one.
+    pub scan: Scan<K>,
+}
+
+impl<U: PlaceWalker + Copy, K: SegmentWalk<Reg = U::Reg, Value = U::Value> + Copy> Client<U, K>
+where
+    U::Value: Drop,
+{
+    /// A participant that begins, on this way to its place.
+    pub fn new(identity: u64, walker: U, walk: K) -> Self
+        ensures { result ≡ client_at U.place_of identity walker walk }
+    {
+        Client {
+            identity,
+            walker,
+            walk,
+            updates: 0,
+            pending: if walker.place().is_some() {
+                Pending::Nothing
+            } else {
+                Pending::Placing
+            },
+            scan: Scan::new(walk),
+        }
+    }
+
+    /// Whether there is nothing to do.
+    pub fn is_idle(&self) -> bool
+        ensures { result ≡ is_idle self.now.pending }
+    {
+        matches!(self.pending, Pending::Nothing)
+    }
+
+    /// This participant, asked to scan.
+    pub fn scanning(&self) -> Self
+        ensures { result ≡ scanning self.now }
+    {
+        Client {
+            identity: self.identity,
+            walker: self.walker,
+            walk: self.walk,
+            updates: self.updates,
+            pending: Pending::Scan,
+            scan: Scan::new(self.walk),
+        }
+    }
+
+    /// This participant, asked to update its segment with a value.
+    pub fn updating(&self, value: u64) -> Self
+        requires { self.now.updates < 1000000 }
+        ensures { result ≡ updating self.now value }
+    {
+        Client {
+            identity: self.identity,
+            walker: self.walker,
+            walk: self.walk,
+            updates: self.updates + 1,
+            pending: Pending::Update(value),
+            scan: Scan::new(self.walk),
+        }
+    }
+
+    /// Takes the answer to an access on the way to the place.
+    fn resume_placing(&mut self, got: Answer<U::Value>) -> Note<SnapReply>
+        ensures after { self.new ≡ placing_resumed U.steps self.old got }
+        ensures note { result ≡ placing_note U.steps self.old got }
+    {
+        match self.walker.resume(got) {
+            Note::Ended(place) => {
+                self.pending = Pending::Nothing;
+                Note::Said(SnapReply::Placed(place))
+            }
+            Note::Said(_) => Note::Quiet,
+            Note::Quiet => Note::Quiet,
+        }
+    }
+
+    /// Takes the answer to a read of a scan.
+    fn resume_scan(&mut self, got: &U::Value, updates_with: Option<u64>) -> Note<SnapReply>
+        ensures after { self.new ≡ scan_resumed K.walks self.old got.now updates_with }
+        ensures note { result ≡ scan_note K.walks self.old got.now updates_with }
+    {
+        let Some(view) = self.scan.resume(got, self.walk) else {
+            return Note::Quiet;
+        };
+        match updates_with {
+            Some(value) => {
+                self.pending = Pending::Write(value, view);
+                Note::Quiet
+            }
+            None => {
+                self.pending = Pending::Nothing;
+                Note::Said(SnapReply::View(view))
+            }
+        }
+    }
+}
+
+impl<U: PlaceWalker + Copy, K: SegmentWalk<Reg = U::Reg, Value = U::Value> + Copy> StepProgram
+    for Client<U, K>
+where
+    U::Value: Drop,
+{
+    type Reg = U::Reg;
+
+    type Value = U::Value;
+
+    type Output = SnapReply;
+
+    ghost steps = { client_steps U.steps U.place_of K.walks };
+
+    fn next(&self) -> Access<U::Reg, U::Value>
+        ensures { result ≡ next_access U.steps U.place_of K.walks self.now }
+    {
+        match self.pending {
+            Pending::Nothing => Access::Nothing,
+            Pending::Placing => self.walker.next(),
+            Pending::Scan => Access::Read(self.scan.walk.next()),
+            Pending::Update(_) => Access::Read(self.scan.walk.next()),
+            Pending::Write(value, view) => match self.walker.place() {
+                Some(place) => Access::Write(
+                    K::segment(place),
+                    K::stored(Some(Record {
+                        identity: self.identity,
+                        value,
+                        number: self.updates,
+                        view,
+                    })),
+                ),
+                None => Access::Nothing,
+            },
+        }
+    }
+
+    fn resume(&mut self, got: Answer<U::Value>) -> Note<SnapReply>
+        ensures after { self.new ≡ client_after U.steps K.walks self.old got }
+        ensures note { result ≡ client_note U.steps K.walks self.old got }
+    {
+        match self.pending {
+            Pending::Nothing => Note::Quiet,
+            Pending::Placing => self.resume_placing(got),
+            Pending::Scan => match got {
+                Answer::Value(value) => self.resume_scan(&value, None),
+                Answer::WasSet(_) => Note::Quiet,
+                Answer::Done => Note::Quiet,
+            },
+            Pending::Update(new_value) => match got {
+                Answer::Value(value) => self.resume_scan(&value, Some(new_value)),
+                Answer::WasSet(_) => Note::Quiet,
+                Answer::Done => Note::Quiet,
+            },
+            Pending::Write(_, _) => {
+                self.pending = Pending::Nothing;
+                Note::Said(SnapReply::Written)
+            }
+        }
+    }
+}

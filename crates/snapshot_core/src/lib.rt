@@ -1,0 +1,56 @@
+//! A snapshot object whose updates help scans: the unbounded single-writer snapshot of Afek et al. 1993 (Atomic snapshots
+//! of shared memory), taken step by step over places that participants get.
+//!
+//! Each participant has a place, and at it a *segment* that it alone writes. An *update* is a scan and then one write of
+//! the value, with a sequence number and the view that was scanned. A *scan* collects the segments, one read a step, until
+//! a collect shows no change since the one before; or until it sees a segment change for the second time, whose record
+//! then holds a view that was scanned within this scan. Which registers a collect reads, and in which order, is the
+//! business of the *places* (`Places`): what it reads next may depend on what it read.
+//!
+//! The law, over every list of calls with their replies: *moments* are the maps from identity to value, the empty one
+//! first and a new one for each write. A view that a scan shows is a moment, at or after the one that was the last at the
+//! scan's first read, and no later than its last read. Over m segments a scan takes at most m(m + 1) steps whatever the
+//! others do, each a read, and an update takes one step more, its write. A step makes one access, which the participant's
+//! own state names. (Counting steps, the sequence numbers' beginning at 1 and the limit of updates are this project's
+//! profile.)
+//!
+//! A caller, over three segments in a row:
+//!
+//! ```text
+//! let mut world = SnapWorld::new(alloc, Fixed::new(alloc, 3)?)?;
+//! world.begin(10)?;
+//! world.begin(20)?;
+//! world.update(10, 5)?;
+//! while !matches!(world.step(10)?, SnapReply::Written) {}
+//! world.scan(20)?;
+//! let view = loop {
+//!     if let Some(view) = world.step(20)?.view() {
+//!         break view;                // 10:5
+//!     }
+//! };
+//! ```
+#![tactic(auto)]
+
+pub mod client;
+pub mod fixed;
+pub mod law;
+pub mod places;
+pub mod record;
+pub mod scan;
+pub mod sightings;
+#[cfg(test)]
+mod tests;
+pub mod view;
+pub mod walk;
+pub mod world;
+
+pub use client::{Client, Pending, SnapReply};
+pub use fixed::{Fixed, FixedWalk, FixedWalker};
+pub use law::snapshot_law;
+pub use places::{Place, PlaceWalker, Places};
+pub use record::{Record, Segment};
+pub use scan::Scan;
+pub use sightings::{Sighting, Sightings};
+pub use view::View;
+pub use walk::SegmentWalk;
+pub use world::SnapWorld;

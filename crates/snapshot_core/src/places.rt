@@ -1,0 +1,50 @@
+//! What gives participants places.
+
+ghost use Rattle.std.specs.Prelude.{◌≡◌, ℕ, Option};
+
+use crate::walk::SegmentWalk;
+use step_memory::{StepMemory, StepProgram};
+
+/// A place. Each participant has a place of its own, and a segment there that it alone writes.
+pub type Place = u128;
+
+/// A way to a place.
+pub trait PlaceWalker: StepProgram<Output = Place> {
+    /// The place that was reached.
+    ghost place_of: { Self → Option ℕ };
+
+    /// The place, once it is reached.
+    fn place(&self) -> Option<Place>
+        ensures { result ≡ place_of self.now };
+}
+
+/// A memory of segments, each at a place, in which every participant gets a place of its own, and of whatever registers
+/// the way to a place needs.
+pub trait Places: StepMemory {
+    /// A participant's way to its place.
+    type Walker: PlaceWalker<Reg = Self::Reg, Value = Self::Value, Output = Place>;
+
+    /// A walk over all segments that may be in use.
+    type Walk: SegmentWalk<Reg = Self::Reg, Value = Self::Value>;
+
+    /// The most participants.
+    ghost most_of: { Self → ℕ };
+
+    /// The way of one who begins after so many others.
+    ghost walker_from: { ℕ → ℕ → Self.Walker };
+
+    /// A walk from its beginning.
+    ghost walk_from: { Self → Self.Walk };
+
+    /// The most participants.
+    fn most(&self) -> usize
+        ensures { result ≡ most_of self.now };
+
+    /// The way of one who begins after so many others.
+    fn walker(&self, begun: usize, identity: u64) -> Self::Walker
+        ensures { result ≡ walker_from begun identity };
+
+    /// A walk from its beginning.
+    fn walk(&self) -> Self::Walk
+        ensures { result ≡ walk_from self.now };
+}

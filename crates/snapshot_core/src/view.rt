@@ -1,0 +1,127 @@
+//! What a scan shows.
+
+ghost use Rattle.std.specs.Prelude.{◌≡◌, ◌<◌, ◌≤◌, ◌+◌, ◌↔◌, [], length, take, drop, IsTrue, false, if◌then◌else◌};
+ghost use Rattle.snapshot_core.specs.View.{value_of, inserted, IsRising};
+
+use std::marker::Model;
+
+/// A list of pairs of an identity and its value, by strictly rising identity: at most 64, in the value itself, so that
+/// it takes no memory. Contracts see the list.
+#[derive(Clone, Copy, Debug, Drop)]
+pub struct View {
+    pairs: [(u64, u64); 64],
+    len: usize,
+}
+
+impl Model for View {
+    ghost use Rattle.std.specs.Prelude.{List, ℕ};
+
+    ghost Value = { List (ℕ × ℕ) };
+
+    ghost use Rattle.std.specs.Prelude.{◌-◌, ◌++◌, length, take, replicate};
+    ghost use Rattle.snapshot_core.specs.ViewInside.{IsWellKept, given_back};
+
+    ghost view = { λ v. take v.len v.pairs };
+
+    ghost invariant = { λ v. IsWellKept v.pairs v.len };
+
+    ghost inverse = { λ xs. record { pairs = xs ++ replicate (64 - length xs) (0, 0); len = length xs } };
+
+    ghost inverse_ok = { λ v h i. record { pairs = (given_back v.pairs v.len h).0 i; len = (given_back v.pairs v.len h).1 i } };
+}
+
+/// Puts a pair into the first `len` pairs, in order; a pair of its identity is replaced. Tells whether there is one more.
+fn put_in(pairs: &mut [(u64, u64)], len: usize, pair: (u64, u64)) -> bool
+    requires room { len < length pairs.old }
+    requires rising { IsRising (take len pairs.old) }
+    ensures pairs { take (len + (if result then 1 else 0)) pairs.new ≡ inserted (take len pairs.old) pair }
+    ensures rest { drop (len + 1) pairs.new ≡ drop (len + 1) pairs.old }
+    ensures same { result ≡ false → drop len pairs.new ≡ drop len pairs.old }
+{
+    let mut carried = pair;
+    for i in 0..len {
+        let here = pairs[i];
+        if carried.0 <= here.0 {
+            pairs[i] = carried;
+            if carried.0 == here.0 {
+                return false;
+            }
+            carried = here;
+        }
+    }
+    pairs[len] = carried;
+    true
+}
+
+/// The value of an identity.
+fn find_in(pairs: &[(u64, u64)], identity: u64) -> Option<u64>
+    ensures { result ≡ value_of identity pairs.now }
+{
+    for pair in pairs {
+        if pair.0 == identity {
+            return Some(pair.1);
+        }
+    }
+    None
+}
+
+impl View {
+    /// How many pairs there is room for.
+    pub const ROOM: usize = 64;
+
+    /// No pair.
+    pub fn new() -> Self
+        ensures { result ≡ [] }
+    {
+        View {
+            pairs: [(0, 0); 64],
+            len: 0,
+        }
+    }
+
+    /// How many pairs there are.
+    pub fn len(&self) -> usize
+        ensures { result ≡ length self.now }
+    {
+        self.pairs().len()
+    }
+
+    /// Whether there is no pair.
+    pub fn is_empty(&self) -> bool
+        ensures { IsTrue result ↔ (self.now ≡ []) }
+    {
+        self.len == 0
+    }
+
+    /// Whether there is no room for another pair.
+    pub fn is_full(&self) -> bool
+        ensures { IsTrue result ↔ (64 ≤ length self.now) }
+    {
+        64 <= self.len
+    }
+
+    /// The pairs, by rising identity.
+    pub fn pairs(&self) -> &[(u64, u64)]
+        ensures pairs { result.now ≡ self.now }
+        ensures rising { IsRising self.now }
+    {
+        &self.pairs[..self.len]
+    }
+
+    /// The value of an identity.
+    pub fn get(&self, identity: u64) -> Option<u64>
+        ensures { result ≡ value_of identity self.now }
+    {
+        find_in(self.pairs(), identity)
+    }
+
+    /// Gives an identity this value. Its pair is replaced where it has one.
+    pub fn insert(&mut self, identity: u64, value: u64)
+        requires { length self.old < 64 }
+        ensures { self.new ≡ inserted self.old (identity, value) }
+    {
+        if put_in(&mut self.pairs, self.len, (identity, value)) {
+            self.len += 1;
+        }
+    }
+}

@@ -1,0 +1,142 @@
+//! A snapshot object, taken step by step.
+
+ghost use Rattle.std.specs.Prelude.{◌≡◌, ◌≢◌, ℕ, [], ◌∷◌, ◌++◌, List, IfOk, OnErr, Err, true, option_and_then};
+ghost use Rattle.step_memory.specs.Locality.{IsLocal};
+ghost use Rattle.snapshot_core.specs.Client.{client_steps};
+ghost use Rattle.step_memory.specs.Participant.{program_of};
+ghost use Rattle.step_memory.specs.World.{begin_refusal, done_unless};
+ghost use Rattle.snapshot_core.specs.SnapWorld.{after_snap_begin, scan_refusal, update_refusal, after_scan, after_update, snap_answer, after_snap_step, may_lack_memory};
+ghost use Rattle.snapshot_core.specs.SnapCalls.{SnapCall, IsAfter};
+ghost use Rattle.snapshot_core.specs.SnapCalls.SnapCall.{Began, Updated, Scanned, Stepped};
+
+use crate::client::{Client, SnapReply};
+use crate::places::{Place, PlaceWalker, Places};
+use std::alloc::Allocator;
+use std::marker::Model;
+use step_memory::{Note, Refusal, World};
+
+/// Participants that update and scan, over places.
+#[derive(Drop)]
+pub struct SnapWorld<W: Places, A: Allocator> {
+    world: World<Client<W::Walker, W::Walk>, W, A>,
+}
+
+impl<W: Places, A: Allocator> Model for SnapWorld<W, A> {
+    ghost use Rattle.step_memory.specs.WorldState.{WorldState};
+    ghost use Rattle.snapshot_core.specs.declared.client.Client.{Client};
+
+    ghost Value = { WorldState W (Client W.Walker W.Walk) };
+
+    ghost view = { λ w. w.world };
+}
+
+impl<W: Places + Drop, A: Allocator> SnapWorld<W, A>
+where
+    W::Walker: Copy,
+    W::Walk: Copy,
+    W::Value: Drop,
+{
+    /// A snapshot object over these places, in which nobody has begun. Refused where the room for the participants was
+    /// refused.
+    pub fn new(alloc: A, places: W) -> Result<Self, Refusal>
+        ensures fresh { IfOk result (λ w. w ≡ record { memory = places; most = W.most_of places; participants = [] }) }
+        ensures after { IfOk result (λ w. IsAfter W.Walker.steps W.Walker.place_of W.Walk.walks W.steps W.walker_from W.walk_from places w []) }
+        ensures no_memory { OnErr result (result ≡ Err Refusal.NoMemory) }
+    {
+        let most = places.most();
+        Ok(SnapWorld {
+            world: World::new(alloc, places, most)?,
+        })
+    }
+
+    /// A participant begins. Refused where the identity is 0, then where it has begun, then where the object is full.
+    pub fn begin(&mut self, id: u64) -> Result<(), Refusal>
+        ensures answer { result ≡ done_unless (begin_refusal self.old id) }
+        ensures state { self.new ≡ after_snap_begin W.Walker.place_of W.walker_from W.walk_from self.old id }
+        ensures after { (first : W) (r : List SnapCall) → IsAfter W.Walker.steps W.Walker.place_of W.Walk.walks W.steps W.walker_from W.walk_from first self.old r → IsAfter W.Walker.steps W.Walker.place_of W.Walk.walks W.steps W.walker_from W.walk_from first self.new (r ++ Began id result ∷ []) }
+    {
+        let begun = self.world.participants().len();
+        let places = self.world.memory();
+        let client = Client::new(id, places.walker(begun, id), places.walk());
+        self.world.begin(id, client)
+    }
+
+    /// Asks for an update with this value, which the next steps make. Refused where the identity has not begun, then where
+    /// something of it is pending, then where it was asked for 1,000,000 updates.
+    pub fn update(&mut self, id: u64, value: u64) -> Result<(), Refusal>
+        ensures answer { result ≡ done_unless (update_refusal self.old id) }
+        ensures state { self.new ≡ after_update self.old id value }
+        ensures after { (first : W) (r : List SnapCall) → IsAfter W.Walker.steps W.Walker.place_of W.Walk.walks W.steps W.walker_from W.walk_from first self.old r → IsAfter W.Walker.steps W.Walker.place_of W.Walk.walks W.steps W.walker_from W.walk_from first self.new (r ++ Updated id value result ∷ []) }
+    {
+        let Some(client) = self.world.program(id) else {
+            return Err(Refusal::NotBegun);
+        };
+        if !client.is_idle() {
+            return Err(Refusal::AlreadyBegun);
+        }
+        if 1_000_000 <= client.updates {
+            return Err(Refusal::Spent);
+        }
+        let client = client.updating(value);
+        self.world.set(id, client)
+    }
+
+    /// Asks for a scan, which the next steps make. Refused where the identity has not begun, then where something of it is
+    /// pending.
+    pub fn scan(&mut self, id: u64) -> Result<(), Refusal>
+        ensures answer { result ≡ done_unless (scan_refusal self.old id) }
+        ensures state { self.new ≡ after_scan self.old id }
+        ensures after { (first : W) (r : List SnapCall) → IsAfter W.Walker.steps W.Walker.place_of W.Walk.walks W.steps W.walker_from W.walk_from first self.old r → IsAfter W.Walker.steps W.Walker.place_of W.Walk.walks W.steps W.walker_from W.walk_from first self.new (r ++ Scanned id result ∷ []) }
+    {
+        let Some(client) = self.world.program(id) else {
+            return Err(Refusal::NotBegun);
+        };
+        if !client.is_idle() {
+            return Err(Refusal::AlreadyBegun);
+        }
+        let client = client.scanning();
+        self.world.set(id, client)
+    }
+
+    /// One step of a participant: one access. Refused where the identity has not begun, then where nothing of it is
+    /// pending, then where the memory refused a growth: then the same step may be asked again.
+    pub fn step(&mut self, id: u64) -> Result<SnapReply, Refusal>
+        ensures answer { result ≢ Err Refusal.NoMemory → result ≡ snap_answer W.Walker.steps W.Walker.place_of W.Walk.walks W.steps self.old id }
+        ensures state { result ≢ Err Refusal.NoMemory → self.new ≡ after_snap_step W.Walker.steps W.Walker.place_of W.Walk.walks W.steps self.old id }
+        ensures refused { OnErr result (self.new ≡ self.old) }
+        ensures no_memory { result ≡ Err Refusal.NoMemory → may_lack_memory W.Walker.steps W.Walker.place_of W.Walk.walks W.steps self.old id ≡ true }
+        ensures after { (first : W) (r : List SnapCall) → IsAfter W.Walker.steps W.Walker.place_of W.Walk.walks W.steps W.walker_from W.walk_from first self.old r → IsAfter W.Walker.steps W.Walker.place_of W.Walk.walks W.steps W.walker_from W.walk_from first self.new (r ++ Stepped id result ∷ []) }
+
+        // Nothing of the object changes but this participant and the register that it names.
+        ensures local { IsLocal (client_steps W.Walker.steps W.Walker.place_of W.Walk.walks) W.steps id self.old self.new }
+    {
+        let Some(client) = self.world.program(id) else {
+            return Err(Refusal::NotBegun);
+        };
+        if client.is_idle() {
+            return Err(Refusal::Finished);
+        }
+        match self.world.step(id)? {
+            Note::Quiet => Ok(SnapReply::Quiet),
+            Note::Said(reply) => Ok(reply),
+            Note::Ended(reply) => Ok(reply),
+        }
+    }
+
+    /// The place of a participant, once it has one.
+    pub fn place_of(&self, id: u64) -> Option<Place>
+        ensures { result ≡ option_and_then (λ c. W.Walker.place_of c.walker) (program_of id self.now.participants) }
+    {
+        let Some(client) = self.world.program(id) else {
+            return None;
+        };
+        client.walker.place()
+    }
+
+    /// The places and their segments, for what watches from outside.
+    pub fn places(&self) -> &W
+        ensures { result.now ≡ self.now.memory }
+    {
+        self.world.memory()
+    }
+}
