@@ -7,7 +7,8 @@ use Rattle.splitter.specs.declared.stage.Stage.TheVariants.{Outside, WroteName, 
 use Rattle.splitter.specs.Stage.{has_entered, has_marked, is_between, has_stopped, went_right, went_down, name_after, mark_after, stage_after}
 use Rattle.splitter.specs.Door.{DoorIsLawful, IsSplitter}
 use Rattle.step_memory.specs.SetAt.{set_at}
-use Rattle.step_memory.proofs.SetAtLemmas.{set_at-same, set_at-other, set_at-cases, set_at-as_is, passed_before, passes_still, passes_too, fails_still}
+use Rattle.step_memory.proofs.SetAtLemmas.{set_at-same, set_at-other, set_at-cases, set_at-as_is}
+use Rattle.splitter.proofs.Changed.{passed_before, passes_still, passes_too, fails_still}
 
 marked_not_right : (s : Stage) → has_marked s ≡ true → (has_entered s ≡ true) × (went_right s ≡ false)
 marked_not_right Outside h = absurd (cc)

@@ -1,3 +1,4 @@
+pub mod Changed
 pub mod DoorKept
 pub mod VisitorAccess
 pub mod SplitterTied

@@ -144,10 +144,12 @@ mod tests {
         assert!(rt; matches!(SplitterWorld::new(rt.alloc(), 0), Err(Refusal::OutOfRange)));
         assert!(rt; SplitterWorld::new(rt.alloc(), 16).is_ok());
         assert!(rt; matches!(SplitterWorld::new(rt.alloc(), 17), Err(Refusal::OutOfRange)));
+        // A heap gives a growth at least 16 bytes, so here each in turn is the first that finds no room.
         let mut refused = false;
         let mut made = false;
-        for size in 0..200 {
-            let heap = LocalHeap::new(rt.alloc(), 8 * size)?;
+        for blocks in 0..100 {
+            let heap = LocalHeap::new(rt.alloc(), 1_600)?;
+            let others = Vec::<u8, &LocalHeap>::with_capacity(&heap, 1_600 - 16 * blocks)?;
             match SplitterWorld::new(&heap, 16) {
                 Ok(_) => made = true,
                 Err(refusal) => {
@@ -155,6 +157,7 @@ mod tests {
                     refused = true;
                 }
             }
+            drop(others);
         }
         assert!(rt; refused && made);
         Ok(())

@@ -3,9 +3,6 @@
 ghost use Rattle.std.specs.Prelude.{◌≡◌, ◌+◌, ◌*◌};
 ghost use Rattle.splitter_grid.specs.Door.{corner, number_of, right_of, down_of};
 
-/// A place: the number of the door at which a walk has stopped.
-pub type Place = u128;
-
 /// A door of the grid. Its row is its depth less its column, so the depth is the sum of row and column: how many doors
 /// a walk has passed before it. The column is at most the depth.
 #[derive(Clone, Copy, Debug, Drop, PartialEq, Eq)]

@@ -30,7 +30,7 @@ mod tests;
 pub mod walker;
 pub mod world;
 
-pub use door::{Door, Place};
+pub use door::Door;
 pub use law::law_of_doors_and_walks;
 pub use walker::Walker;
 pub use world::{GridWorld, law_of_grid_calls};

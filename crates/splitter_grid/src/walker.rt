@@ -3,9 +3,9 @@
 ghost use Rattle.std.specs.Prelude.{◌≡◌};
 ghost use Rattle.splitter_grid.specs.Walk.{walker_at, walker_steps, next_access, walker_after, walker_note, place_of};
 
-use crate::door::{Door, Place};
+use crate::door::Door;
 use splitter::{Stage, Visitor, Way};
-use step_memory::{Access, Answer, Note, StepProgram};
+use step_memory::{Access, Answer, Note, Place, StepProgram};
 
 /// A walk of one identity, which is not 0, through a grid of splitters: the door before which it stands, and its visit
 /// there. A visit that ends to the right or down ends before the next door, of which the next step makes the first

@@ -13,11 +13,11 @@ ghost use Rattle.step_memory.specs.Locality.{IsLocal, LookAlike};
 ghost use Rattle.step_memory.specs.Registers.{memory_steps};
 ghost use Rattle.step_memory.specs.World.{after_begin, begin_refusal, done_unless};
 
-use crate::door::{Door, Place};
+use crate::door::Door;
 use crate::walker::Walker;
 use std::alloc::Allocator;
 use std::marker::Model;
-use step_memory::{Memory, Note, Refusal, World};
+use step_memory::{Memory, Note, Place, Refusal, World};
 
 /// Participants that walk through one grid, each to a place of its own.
 #[derive(Drop)]

@@ -5,3 +5,4 @@ pub mod StepLemmas
 pub mod LocalityLemmas
 pub mod RunLemmas
 pub mod WorldKeeps
+pub mod ViewLemmas

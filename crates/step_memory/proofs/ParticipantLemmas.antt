@@ -1,5 +1,5 @@
 -- who has begun, after a call
-use Rattle.std.proofs.Common.{◌≡◌, ℕ, true, false, ◌==◌, List, [], ◌∷◌, ◌++◌, Some, None, inl, inr, refl, sym, ap, ◌∙◌}
+use Rattle.std.proofs.Common.{◌≡◌, ℕ, suc, cond, length, true, false, ◌==◌, List, [], ◌∷◌, ◌++◌, Some, None, inl, inr, refl, sym, ap, ◌∙◌}
 use Rattle.std.specs.Prelude.{is_some}
 use Rattle.std.proofs.lemmas.Bool.Decides.{eqb_tells, Decides-eqb}
 use Rattle.step_memory.specs.declared.participant.Participant.{Participant}
@@ -53,3 +53,7 @@ identity_of id (p ∷ ps) v h =
       | inl w ↦ let own : Some p ≡ Some v = rw w.0 at h in let same : p ≡ v = cc in ap (λ u. u.identity) (sym same) ∙ w.1
       | inr w ↦ identity_of id ps v (rw w.0 at h)
     ]
+
+pub length-with_participant : {P : Type 0} (ps : List (Participant P)) (new : Participant P) → length (with_participant new ps) ≡ length ps
+length-with_participant [] new = refl
+length-with_participant (p ∷ ps) new = elim (p.identity == new.identity) as (λ b. length (cond b (new ∷ ps) (p ∷ with_participant new ps)) ≡ length (p ∷ ps)) [ true ↦ refl | false ↦ ap suc (length-with_participant ps new) ]

@@ -1,13 +1,16 @@
 -- a step by cases on who takes it
-use Rattle.std.proofs.Common.{◌≡◌, ◌≢◌, ℕ, true, false, Some, None, Ok, Err, ◌==◌, ◌<◌, ◌≤◌, length, arith}
+use Rattle.std.proofs.Common.{◌≡◌, ◌≢◌, ℕ, true, false, ◌⊎◌, inl, inr, refl, Some, None, Result, Ok, Err, ◌==◌, ◌<◌, ◌≤◌, length, arith}
 use Rattle.std.specs.Prelude.{nat_le, is_some}
 use Rattle.std.proofs.lemmas.Bool.Decides.{nat_tests}
-use Rattle.step_memory.specs.declared.refusal.Refusal.TheVariants.{AlreadyBegun, Full, NotBegun, Finished}
+use Rattle.step_memory.specs.declared.note.Note.{Note}
+use Rattle.step_memory.specs.declared.refusal.Refusal.{Refusal}
+use Rattle.step_memory.specs.declared.refusal.Refusal.TheVariants.{ZeroIdentity, AlreadyBegun, Full, NotBegun, Finished, Spent, Crowded, NotCompeting, AlreadyCompeting, Holding, NotHolding, NoMemory, HistoryFull, OutOfRange}
+use Rattle.step_memory.specs.Calls.{lacked_memory, reply_of}
 use Rattle.step_memory.specs.declared.participant.Participant.{Participant}
 use Rattle.step_memory.specs.Steps.{ProgramSteps, MemorySteps}
 use Rattle.step_memory.specs.WorldState.{WorldState}
 use Rattle.step_memory.specs.Participant.{participant_of, with_participant, resumed}
-use Rattle.step_memory.specs.World.{begin_refusal, step_answer, after_step, may_refuse_step, got_by}
+use Rattle.step_memory.specs.World.{begin_refusal, step_answer, step_answer_by, after_step, after_step_by, may_refuse_step, got_by}
 
 module _ {P S R V O : Type 0} (program : ProgramSteps P R V O) (memory : MemorySteps S R V) where
   pub absent_answer : (w : WorldState S P) (id : ℕ) → participant_of id w.participants ≡ None → step_answer program memory w id ≡ Err NotBegun
@@ -30,6 +33,34 @@ module _ {P S R V O : Type 0} (program : ProgramSteps P R V O) (memory : MemoryS
 
   pub going_refused : (w : WorldState S P) (id : ℕ) (p : Participant P) → participant_of id w.participants ≡ Some p → p.ended ≡ false → may_refuse_step program memory w id ≡ memory.may_refuse w.memory (program.next p.program)
   going_refused w id p h e = rw (h, e)
+
+  pub most_stepped : (w : WorldState S P) (id : ℕ) → (after_step program memory w id).most ≡ w.most
+  most_stepped w id =
+      elim (participant_of id w.participants) as (λ o. (after_step_by program memory w o).most ≡ w.most)
+      [ None ↦ refl | Some v ↦ elim v.ended as (λ b. (after_step_by program memory w (Some (record { identity = v.identity; program = v.program; ended = b }))).most ≡ w.most) [ true ↦ refl | false ↦ refl ] ]
+
+  pub lacks_none : {X : Type 0} (shown : Note O → X) (w : WorldState S P) (id : ℕ) → lacked_memory (reply_of shown (step_answer program memory w id)) ≡ false
+  lacks_none shown w id =
+      elim (participant_of id w.participants) as (λ o. lacked_memory (reply_of shown (step_answer_by program memory w.memory o)) ≡ false)
+      [ None ↦ refl | Some v ↦ elim v.ended as (λ b. lacked_memory (reply_of shown (step_answer_by program memory w.memory (Some (record { identity = v.identity; program = v.program; ended = b })))) ≡ false) [ true ↦ refl | false ↦ refl ] ]
+
+-- a reply is the refusal of a growth, or it is not
+pub lacks_or_not : {X : Type 0} (reply : Result X Refusal) → (reply ≡ Err NoMemory) ⊎ (reply ≢ Err NoMemory)
+lacks_or_not (Ok x) = inr (λ h. absurd (cc))
+lacks_or_not (Err NoMemory) = inl refl
+lacks_or_not (Err ZeroIdentity) = inr (λ h. absurd (cc))
+lacks_or_not (Err AlreadyBegun) = inr (λ h. absurd (cc))
+lacks_or_not (Err Full) = inr (λ h. absurd (cc))
+lacks_or_not (Err NotBegun) = inr (λ h. absurd (cc))
+lacks_or_not (Err Finished) = inr (λ h. absurd (cc))
+lacks_or_not (Err Spent) = inr (λ h. absurd (cc))
+lacks_or_not (Err Crowded) = inr (λ h. absurd (cc))
+lacks_or_not (Err NotCompeting) = inr (λ h. absurd (cc))
+lacks_or_not (Err AlreadyCompeting) = inr (λ h. absurd (cc))
+lacks_or_not (Err Holding) = inr (λ h. absurd (cc))
+lacks_or_not (Err NotHolding) = inr (λ h. absurd (cc))
+lacks_or_not (Err HistoryFull) = inr (λ h. absurd (cc))
+lacks_or_not (Err OutOfRange) = inr (λ h. absurd (cc))
 
 eqb_false : (a b : ℕ) → a ≢ b → (a == b) ≡ false
 eqb_false a b h = grind (arith, nat_tests)

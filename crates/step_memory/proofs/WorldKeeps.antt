@@ -12,6 +12,7 @@ use Rattle.step_memory.specs.World.{begin_refusal, begun_unless, done_unless, af
 use Rattle.step_memory.specs.Calls.{Call, next, IsReply, IsAfter, steps_of, steps_by, outcome_of, outcome_by, first_of, begun_in, begun_by, reply_of, lacked_memory}
 use Rattle.step_memory.specs.Calls.Call.{Began, Stepped}
 use Rattle.step_memory.proofs.RunLemmas.{run_more, run_keeps}
+use Rattle.step_memory.proofs.StepLemmas.{most_stepped, lacks_none}
 
 -- lists of calls, one more at the end
 pub steps_of-push : {X : Type 0} (p : ℕ) (r : List (Call X)) (h : Call X) → steps_of p (r ++ h ∷ []) ≡ steps_of p r + steps_by p h
@@ -40,7 +41,7 @@ pub record IsLetIn {S P : Type 0} (w : WorldState S P) (id : ℕ) : Type 0 where
   pub absent : participant_of id w.participants ≡ None
   pub room : length w.participants < w.most
 
-let_in : {S P : Type 0} (w : WorldState S P) (id : ℕ) → begin_refusal w id ≡ None → IsLetIn w id
+pub let_in : {S P : Type 0} (w : WorldState S P) (id : ℕ) → begin_refusal w id ≡ None → IsLetIn w id
 let_in w id h = elim (eqb_tells id 0) [
   | inl z ↦ absurd (let k : Some ZeroIdentity ≡ None = rw z.0 at h in cc)
   | inr z ↦
@@ -97,14 +98,9 @@ module _ {P S R V O X : Type 0} (program : ProgramSteps P R V O) (memory : Memor
     pub world_keeps : (first : S) (w : WorldState S P) (r : List (Call X)) → Holds (record { memory = first; most = w.most; participants = [] }) [] → IsAfter program memory shown start first w r → Holds w r
     world_keeps first w r t a = run_keeps (next program memory shown start) (IsReply program memory shown start) Holds next_keeps (record { memory = first; most = w.most; participants = [] }) [] r w t a
 
-  most_stepped : (w : WorldState S P) (id : ℕ) → (after_step program memory w id).most ≡ w.most
-  most_stepped w id =
-      elim (participant_of id w.participants) as (λ o. (after_step_by program memory w o).most ≡ w.most)
-      [ None ↦ refl | Some v ↦ elim v.ended as (λ b. (cond b w (stepped w v)).most ≡ w.most) [ true ↦ refl | false ↦ refl ] ]
-
   pub most_kept : (w : WorldState S P) (h : Call X) → (next program memory shown start w h).most ≡ w.most
   most_kept w (Began id reply) = elim (begin_refusal w id) as (λ o. (begun_unless o w id (start id)).most ≡ w.most) [ Some why ↦ refl | None ↦ refl ]
-  most_kept w (Stepped id reply) = elim (lacked_memory reply) as (λ b. (cond b w (after_step program memory w id)).most ≡ w.most) [ true ↦ refl | false ↦ most_stepped w id ]
+  most_kept w (Stepped id reply) = elim (lacked_memory reply) as (λ b. (cond b w (after_step program memory w id)).most ≡ w.most) [ true ↦ refl | false ↦ most_stepped program memory w id ]
 
   -- one more call
   pub after_call : (first : S) (w new : WorldState S P) (r : List (Call X)) (h : Call X) → new ≡ next program memory shown start w h → IsReply program memory shown start w h → IsAfter program memory shown start first w r → IsAfter program memory shown start first new (r ++ h ∷ [])
@@ -114,13 +110,8 @@ module _ {P S R V O X : Type 0} (program : ProgramSteps P R V O) (memory : Memor
   pub after_began : (first : S) (w new : WorldState S P) (r : List (Call X)) (id : ℕ) (reply : Result (Unit {0}) Refusal) → new ≡ after_begin w id (start id) → reply ≡ done_unless (begin_refusal w id) → IsAfter program memory shown start first w r → IsAfter program memory shown start first new (r ++ Began id reply ∷ [])
   after_began first w new r id reply e is a = after_call first w new r (Began id reply) e is a
 
-  lacks_none : (w : WorldState S P) (id : ℕ) → lacked_memory (reply_of shown (step_answer program memory w id)) ≡ false
-  lacks_none w id =
-      elim (participant_of id w.participants) as (λ o. lacked_memory (reply_of shown (step_answer_by program memory w.memory o)) ≡ false)
-      [ None ↦ refl | Some v ↦ elim v.ended as (λ b. lacked_memory (reply_of shown (cond b (Err Finished) (Ok (program.note v.program (got_by program memory w.memory v))))) ≡ false) [ true ↦ refl | false ↦ refl ] ]
-
   -- one more step for which no growth was refused
   pub after_stepped : (first : S) (w new : WorldState S P) (r : List (Call X)) (id : ℕ) (reply : Result X Refusal) → new ≡ after_step program memory w id → reply ≡ reply_of shown (step_answer program memory w id) → IsAfter program memory shown start first w r → IsAfter program memory shown start first new (r ++ Stepped id reply ∷ [])
   after_stepped first w new r id reply e is a =
-      let goes : lacked_memory reply ≡ false = ap lacked_memory is ∙ lacks_none w id in
+      let goes : lacked_memory reply ≡ false = ap lacked_memory is ∙ lacks_none program memory shown w id in
       after_call first w new r (Stepped id reply) (e ∙ rw goes refl) (inl is) a

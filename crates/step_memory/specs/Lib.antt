@@ -11,3 +11,6 @@ pub mod Locality
 pub mod Runs
 pub mod SetAt
 pub mod Calls
+pub mod View
+pub mod ViewInside
+pub mod WorldCode

@@ -20,19 +20,30 @@
 #![tactic(auto)]
 
 pub mod access;
+pub mod laws;
 pub mod memory;
 pub mod note;
 pub mod participant;
+pub mod place;
 pub mod program;
+pub mod record;
 pub mod refusal;
 #[cfg(test)]
 mod tests;
+pub mod view;
 pub mod world;
 
 pub use access::{Access, Answer};
+pub use laws::{
+    law_of_beginners, law_of_call_counts, law_of_one_place, law_of_participants, law_of_replies,
+    law_of_steps, law_of_views, law_of_worlds,
+};
 pub use memory::{Memory, StepMemory};
 pub use note::Note;
 pub use participant::Participant;
+pub use place::Place;
 pub use program::StepProgram;
+pub use record::{Record, Segment};
 pub use refusal::{NoMemory, Refusal};
+pub use view::View;
 pub use world::World;

@@ -4,6 +4,7 @@ ghost use Rattle.std.specs.Prelude.{◌≡◌};
 ghost use Rattle.step_memory.specs.Refusal.{refusal_number};
 ghost use Rattle.step_memory.specs.declared.refusal.Refusal.TheVariants as refused;
 
+use std::alloc::AllocError;
 use std::error::Error;
 use std::fmt;
 
@@ -80,6 +81,14 @@ impl From<NoMemory> for Refusal {
     ghost from_gives = { λ _ refusal. refusal ≡ refused.NoMemory };
 
     fn from(_refused: NoMemory) -> Refusal {
+        Refusal::NoMemory
+    }
+}
+
+impl From<AllocError> for Refusal {
+    ghost from_gives = { λ _ refusal. refusal ≡ refused.NoMemory };
+
+    fn from(_refused: AllocError) -> Refusal {
         Refusal::NoMemory
     }
 }

@@ -3,7 +3,12 @@
 ghost use Rattle.std.specs.Prelude.{◌≡◌, IsErr};
 ghost use Rattle.step_memory.specs.declared.note.Note.TheVariants as note;
 
-use crate::{Access, Answer, Memory, NoMemory, Note, Refusal, StepMemory, StepProgram, World};
+use crate::{
+    Access, Answer, Memory, NoMemory, Note, Refusal, StepMemory, StepProgram, View, World,
+    law_of_call_counts, law_of_one_place, law_of_participants, law_of_replies, law_of_steps,
+    law_of_views, law_of_worlds,
+};
+use std::alloc::AllocError;
 use std::test::Fail;
 
 /// A program of one access, which ends with its answer.
@@ -153,4 +158,37 @@ fn refusals_have_numbers(rt: HostRuntime) -> Result<(), Fail> {
     let text = format!(in rt.alloc(); "{}", Refusal::Crowded)?;
     assert_eq!(rt; text.as_str(), "as many compete as there are numbers");
     Ok(())
+}
+
+#[test]
+fn views_are_kept_in_order(rt: HostRuntime) -> Result<(), Fail> {
+    let mut view = View::new();
+    assert!(rt; view.is_empty());
+    view.insert(20, 2);
+    view.insert(10, 1);
+    view.insert(30, 3);
+    view.insert(20, 5);
+    assert_eq!(rt; view.pairs(), [(10, 1), (20, 5), (30, 3)].as_slice());
+    assert_eq!(rt; view.len(), 3);
+    assert_eq!(rt; view.get(20), Some(5));
+    assert_eq!(rt; view.get(25), None);
+    assert!(rt; !view.is_full());
+    Ok(())
+}
+
+#[test]
+fn laws_are_called() {
+    law_of_one_place::<u64>();
+    law_of_participants::<Once>();
+    law_of_call_counts::<u64>();
+    law_of_steps::<Once, u64, usize, u64, u64, u64>();
+    law_of_replies::<u64>();
+    law_of_worlds::<Once, u64, usize, u64, u64, u64>();
+    law_of_views();
+}
+
+#[test]
+fn a_refused_growth_is_a_refusal(rt: HostRuntime) {
+    assert_eq!(rt; Refusal::from(AllocError), Refusal::NoMemory);
+    assert_eq!(rt; Refusal::from(NoMemory), Refusal::NoMemory);
 }

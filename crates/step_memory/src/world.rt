@@ -151,6 +151,13 @@ impl<
         Ok(())
     }
 
+    /// The most participants.
+    pub fn most(&self) -> usize
+        ensures { result ≡ self.now.most }
+    {
+        self.most
+    }
+
     /// The memory, for what watches the world from outside.
     pub fn memory(&self) -> &S
         ensures { result.now ≡ self.now.memory }

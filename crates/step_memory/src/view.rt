@@ -1,7 +1,7 @@
 //! What a scan shows.
 
 ghost use Rattle.std.specs.Prelude.{◌≡◌, ◌<◌, ◌≤◌, ◌+◌, ◌↔◌, [], length, take, drop, IsTrue, false, if◌then◌else◌};
-ghost use Rattle.snapshot_core.specs.View.{value_of, inserted, IsRising};
+ghost use Rattle.step_memory.specs.View.{value_of, inserted, IsRising};
 
 use std::marker::Model;
 
@@ -19,7 +19,7 @@ impl Model for View {
     ghost Value = { List (ℕ × ℕ) };
 
     ghost use Rattle.std.specs.Prelude.{◌-◌, ◌++◌, length, take, replicate};
-    ghost use Rattle.snapshot_core.specs.ViewInside.{IsWellKept, given_back};
+    ghost use Rattle.step_memory.specs.ViewInside.{IsWellKept, given_back};
 
     ghost view = { λ v. take v.len v.pairs };
 

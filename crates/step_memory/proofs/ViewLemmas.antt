@@ -1,0 +1,159 @@
+-- lists of pairs by rising identity
+use Rattle.std.proofs.Common.{◌≡◌, ℕ, zero, suc, ◌+◌, ◌-◌, ◌<◌, ◌≤◌, ◌==◌, true, false, cond, List, [], ◌∷◌, ◌++◌, Some, ◌⊎◌, inl, inr, length, get_or, set, take, drop, replicate, refl, sym, ap, subst, ◌∙◌, arith, add-one, append_assoc}
+use Rattle.std.specs.Prelude.{nat_lt, if◌then◌else◌}
+use Rattle.std.proofs.Math.Seq.{drop-cons}
+use Rattle.std.proofs.lemmas.List.{take_more_set, take_more, length-take-le, drop-set-lt, get_or-take, drop-replicate}
+use Rattle.std.proofs.lemmas.Bool.Decides.{nat_tests, eqb_tells, leb_tells}
+use Rattle.step_memory.specs.View.{IsAbove, IsRising, value_of, inserted}
+
+ltb_true : (a b : ℕ) → a < b → nat_lt a b ≡ true
+ltb_true a b h = grind (arith, nat_tests)
+
+ltb_false : (a b : ℕ) → b ≤ a → nat_lt a b ≡ false
+ltb_false a b h = grind (arith, nat_tests)
+
+ltb_tells : (a b : ℕ) → ((nat_lt a b ≡ true) × (a < b)) ⊎ ((nat_lt a b ≡ false) × (b ≤ a))
+ltb_tells a b = elim (leb_tells b a) [ inl w ↦ inr (ltb_false a b w.1, w.1) | inr w ↦ inl (ltb_true a b w.1, w.1) ]
+
+-- the rest of what rises rises
+pub IsRising-drop : (i : ℕ) (xs : List (ℕ × ℕ)) → IsRising xs → IsRising (drop i xs)
+IsRising-drop zero xs h = h
+IsRising-drop (suc i) [] h = h
+IsRising-drop (suc i) (x ∷ xs) h = IsRising-drop i xs h.1
+
+-- what stands below all of the others comes first
+pub inserted-below : (x : ℕ × ℕ) (xs : List (ℕ × ℕ)) → IsAbove x.0 xs → inserted xs x ≡ x ∷ xs
+inserted-below x [] h = refl
+inserted-below x (y ∷ ys) h = rw (ltb_true x.0 y.0 h) refl
+
+IsAbove-inserted : (n : ℕ) (xs : List (ℕ × ℕ)) (new : ℕ × ℕ) → IsAbove n xs → n < new.0 → IsAbove n (inserted xs new)
+IsAbove-inserted n [] new h l = l
+IsAbove-inserted n (x ∷ xs) new h l =
+    elim (nat_lt new.0 x.0) as (λ b. IsAbove n (cond b (new ∷ x ∷ xs) (cond (x.0 == new.0) (new ∷ xs) (x ∷ inserted xs new)))) [
+      | true ↦ l
+      | false ↦ elim (x.0 == new.0) as (λ b. IsAbove n (cond b (new ∷ xs) (x ∷ inserted xs new))) [ true ↦ l | false ↦ h ]
+    ]
+
+-- pairs that rise still rise with one more
+pub IsRising-inserted : (xs : List (ℕ × ℕ)) (new : ℕ × ℕ) → IsRising xs → IsRising (inserted xs new)
+IsRising-inserted [] new h = (tt, tt)
+IsRising-inserted (x ∷ xs) new h =
+    elim (ltb_tells new.0 x.0) [
+      | inl w ↦ rw w.0 (w.1, h)
+      | inr w ↦ elim (eqb_tells x.0 new.0) [
+        | inl v ↦ rw (w.0, v.0) (subst (λ (n : ℕ). IsAbove n xs) v.1 h.0, h.1)
+        | inr v ↦ rw (w.0, v.0) (IsAbove-inserted x.0 xs new h.0 (let k = v.1 in let l = w.1 in omega arith), IsRising-inserted xs new h.1)
+      ]
+    ]
+
+-- what is found after an insertion
+pub value_of-inserted : (q : ℕ) (xs : List (ℕ × ℕ)) (new : ℕ × ℕ) → value_of q (inserted xs new) ≡ (if new.0 == q then Some new.1 else value_of q xs)
+value_of-inserted q [] new = refl
+value_of-inserted q (x ∷ xs) new =
+    elim (nat_lt new.0 x.0) as (λ b. value_of q (cond b (new ∷ x ∷ xs) (cond (x.0 == new.0) (new ∷ xs) (x ∷ inserted xs new))) ≡ cond (new.0 == q) (Some new.1) (cond (x.0 == q) (Some x.1) (value_of q xs))) [
+      | true ↦ refl
+      | false ↦ elim (eqb_tells x.0 new.0) [
+        | inl v ↦ rw (v.0, v.1) (elim (new.0 == q) as (λ b. cond b (Some new.1) (value_of q xs) ≡ cond b (Some new.1) (cond b (Some x.1) (value_of q xs))) [ true ↦ refl | false ↦ refl ])
+        | inr v ↦ rw v.0 (elim (eqb_tells x.0 q) [
+          | inl u ↦ let other : (new.0 == q) ≡ false = (elim (eqb_tells new.0 q) [ inl t ↦ absurd (v.1 (u.1 ∙ sym t.1)) | inr t ↦ t.0 ]) in rw (u.0, other) refl
+          | inr u ↦ rw u.0 (value_of-inserted q xs new)
+        ])
+      ]
+    ]
+
+pub length-inserted : (xs : List (ℕ × ℕ)) (new : ℕ × ℕ) → length (inserted xs new) ≤ length xs + 1
+length-inserted [] new = omega arith
+length-inserted (x ∷ xs) new =
+    let i = length-inserted xs new in
+    elim (nat_lt new.0 x.0) as (λ b. length (cond b (new ∷ x ∷ xs) (cond (x.0 == new.0) (new ∷ xs) (x ∷ inserted xs new))) ≤ suc (length xs) + 1) [
+      | true ↦ omega arith
+      | false ↦ elim (x.0 == new.0) as (λ b. length (cond b (new ∷ xs) (x ∷ inserted xs new)) ≤ suc (length xs) + 1) [ true ↦ omega arith | false ↦ omega (arith, i) ]
+    ]
+
+-- a loop that puts a pair in: now is what stands after i pairs, old what stood before
+module _ (now old : List (ℕ × ℕ)) (len i : ℕ) (carried new : ℕ × ℕ) (inside : i < len) (room : len < length old) (same : length now ≡ length old)
+    (done : take i now ++ inserted (drop i (take len old)) carried ≡ inserted (take len old) new) (rest : drop i now ≡ drop i old) where
+  abbrev pub here : ℕ × ℕ
+  here = get_or now i (0, 0)
+
+  all : length (take len old) ≡ len
+  all = length-take-le len old (omega arith)
+
+  at_i : drop i (take len old) ≡ here ∷ drop (i + 1) (take len old)
+  at_i =
+      let a = all in
+      let cut : drop i (take len old) ≡ get_or (take len old) i (0, 0) ∷ drop (suc i) (take len old) = drop-cons (take len old) i (0, 0) (omega arith) in
+      let one : drop i now ≡ here ∷ drop (suc i) now = drop-cons now i (0, 0) (omega arith) in
+      let other : drop i old ≡ get_or old i (0, 0) ∷ drop (suc i) old = drop-cons old i (0, 0) (omega arith) in
+      let both : here ∷ drop (suc i) now ≡ get_or old i (0, 0) ∷ drop (suc i) old = sym one ∙ rest ∙ other in
+      let value : here ≡ get_or old i (0, 0) = cc in
+      cut ∙ rw (get_or-take len old i (0, 0) inside, value, add-one i) refl
+
+  rest_next : drop (i + 1) now ≡ drop (i + 1) old
+  rest_next =
+      let one : drop i now ≡ here ∷ drop (suc i) now = drop-cons now i (0, 0) (omega arith) in
+      let other : drop i old ≡ get_or old i (0, 0) ∷ drop (suc i) old = drop-cons old i (0, 0) (omega arith) in
+      let both : here ∷ drop (suc i) now ≡ get_or old i (0, 0) ∷ drop (suc i) old = sym one ∙ rest ∙ other in
+      let tails : drop (suc i) now ≡ drop (suc i) old = cc in
+      rw add-one tails
+
+  rising_next : IsRising (take len old) → IsAbove here.0 (drop (i + 1) (take len old))
+  rising_next h = let r : IsRising (here ∷ drop (i + 1) (take len old)) = rw at_i at (IsRising-drop i (take len old) h) in r.0
+
+  -- a pair of the same identity is replaced
+  pub put_equal : carried.0 ≡ here.0 → take (i + 1) (set now i carried) ++ drop (i + 1) (take len old) ≡ inserted (take len old) new
+  put_equal e =
+      let not_below : nat_lt carried.0 here.0 ≡ false = ltb_false carried.0 here.0 (omega arith) in
+      let equal : (here.0 == carried.0) ≡ true = grind (arith, nat_tests) in
+      let there : inserted (drop i (take len old)) carried ≡ carried ∷ drop (i + 1) (take len old) = rw (at_i, not_below, equal) refl in
+      rw (take_more_set now i carried (omega arith), append_assoc) (rw there at done)
+
+  -- one that is below goes here, and this one is carried on
+  pub put_below : IsRising (take len old) → carried.0 < here.0 → take (i + 1) (set now i carried) ++ inserted (drop (i + 1) (take len old)) here ≡ inserted (take len old) new
+  put_below h l =
+      let below : nat_lt carried.0 here.0 ≡ true = ltb_true carried.0 here.0 l in
+      let there : inserted (drop i (take len old)) carried ≡ carried ∷ here ∷ drop (i + 1) (take len old) = rw (at_i, below) refl in
+      rw (take_more_set now i carried (omega arith), append_assoc, inserted-below here (drop (i + 1) (take len old)) (rising_next h)) (rw there at done)
+
+  -- one that is above is carried on
+  pub put_above : here.0 < carried.0 → take (i + 1) now ++ inserted (drop (i + 1) (take len old)) carried ≡ inserted (take len old) new
+  put_above l =
+      let not_below : nat_lt carried.0 here.0 ≡ false = ltb_false carried.0 here.0 (omega arith) in
+      let not_equal : (here.0 == carried.0) ≡ false = grind (arith, nat_tests) in
+      let there : inserted (drop i (take len old)) carried ≡ here ∷ inserted (drop (i + 1) (take len old)) carried = rw (at_i, not_below, not_equal) refl in
+      rw (take_more now i (0, 0) (let r = room in omega arith), append_assoc) (rw there at done)
+
+  pub rest_set : drop (i + 1) (set now i carried) ≡ drop (i + 1) old
+  rest_set = drop-set-lt (i + 1) now i carried (omega arith) ∙ rest_next
+
+  pub rest_kept : drop (i + 1) now ≡ drop (i + 1) old
+  rest_kept = rest_next
+
+one_less : (n : ℕ) → 64 - n - 1 ≡ 64 - (n + 1)
+one_less n = omega arith
+
+-- after one more pair there is one zero less
+pub zeros_next : (pairs : List (ℕ × ℕ)) (len : ℕ) → len < length pairs → drop len pairs ≡ replicate (64 - len) (0, 0) → drop (len + 1) pairs ≡ replicate (64 - (len + 1)) (0, 0)
+zeros_next pairs len l h =
+    let one : drop len pairs ≡ get_or pairs len (0, 0) ∷ drop (suc len) pairs = drop-cons pairs len (0, 0) l in
+    let tail : drop 1 (drop len pairs) ≡ drop (suc len) pairs = ap (drop 1) one in
+    let fewer : drop 1 (replicate (64 - len) (0, 0)) ≡ replicate (64 - len - 1) (0, 0) = drop-replicate 1 (64 - len) (0, 0) in
+    rw (add-one len) (sym tail ∙ ap (drop 1) h ∙ fewer ∙ ap (λ n. replicate n (0, 0)) (one_less len ∙ rw (add-one len) refl))
+
+-- lists that are equal from k on are equal further on
+pub drop_further : {X : Type 0} (k n : ℕ) (xs ys : List X) → length xs ≡ length ys → k ≤ n → drop k xs ≡ drop k ys → drop n xs ≡ drop n ys
+drop_further zero n xs ys l h e = ap (drop n) e
+drop_further (suc k) zero xs ys l h e = absurd (omega arith)
+drop_further (suc k) (suc n) [] [] l h e = refl
+drop_further (suc k) (suc n) [] (y ∷ ys) l h e = absurd (omega arith)
+drop_further (suc k) (suc n) (x ∷ xs) [] l h e = absurd (omega arith)
+drop_further (suc k) (suc n) (x ∷ xs) (y ∷ ys) l h e = drop_further k n xs ys (omega arith) (omega arith) e
+
+-- the beginning of a list that is equal to another from k on
+pub take_cut : {X : Type 0} (k n : ℕ) (xs ys : List X) → length xs ≡ length ys → k ≤ n → drop k xs ≡ drop k ys → take n xs ≡ take k xs ++ drop k (take n ys)
+take_cut zero n xs ys l h e = ap (take n) e
+take_cut (suc k) zero xs ys l h e = absurd (omega arith)
+take_cut (suc k) (suc n) [] [] l h e = refl
+take_cut (suc k) (suc n) [] (y ∷ ys) l h e = absurd (omega arith)
+take_cut (suc k) (suc n) (x ∷ xs) [] l h e = absurd (omega arith)
+take_cut (suc k) (suc n) (x ∷ xs) (y ∷ ys) l h e = ap (λ zs. x ∷ zs) (take_cut k n xs ys (omega arith) (omega arith) e)
