@@ -84,6 +84,3 @@ probe_alike id one other alike = elim (stay_of id one.competitors) as (λ e. sta
     | Settled number ↦ λ here there. rw there refl
   ]
 ] refl (sym alike.stay)
-
-pub leave_alike : (id : ℕ) (one other : PoolState) → LookAlike leave_steps id one other → number_answer one id ≡ number_answer other id
-leave_alike id one other alike = ap number_by alike.stay

@@ -211,10 +211,6 @@ law_after first w r a =
 pub after_call : (first : ℕ) (w new : PoolState) (r : List Call) (h : Call) → new ≡ next w h → IsReply w h → After first w r → After first new (r ++ h ∷ [])
 after_call first w new r h e is a = record { first = a.first; last = a.last; run = rw e (run_more next IsReply (fresh_pool first) r w h a.run is) }
 
--- a new pool
-pub after_new : (first : ℕ) → 1 ≤ first → first ≤ 64 → After first (fresh_pool first) []
-after_new first low high = record { first = low; last = high; run = refl }
-
 run_end : {S H : Type 0} (step : S → H → S) (Right : S → H → Type 0) (s : S) (r : List H) (a b : S) → Run step Right s r a → Run step Right s r b → a ≡ b
 run_end step Right s [] a b x y = x ∙ sym y
 run_end step Right s (h ∷ r) a b x y = run_end step Right (step s h) r a b x.1 y.1

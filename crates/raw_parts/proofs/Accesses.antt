@@ -15,7 +15,7 @@ use Rattle.raw_parts.specs.declared.splitter_view.SplitterView.{SplitterView}
 use Rattle.raw_parts.specs.SplitterView.{name_of, visit_at, lone_view}
 use Rattle.raw_parts.specs.SplitterRule.{IsLawful, IsShown, Each, IsAmong, Shows, IsKept, KeepsRule}
 use Rattle.raw_parts.specs.SplitterSteps.{IsUnderRule, MovesOn, moved_on}
-use Rattle.raw_parts.proofs.Changed.{changed_cases, changed_here, changed_elsewhere}
+use Rattle.step_memory.proofs.SetAtLemmas.{set_at-cases, set_at-same, set_at-other}
 use Rattle.raw_parts.proofs.Views.{each_set, there_still, at_after}
 
 -- a fact of each visit from another
@@ -42,11 +42,11 @@ entered_after p (Gone way) x y = refl
 module _ (seats x y p : ℕ) (stage : ℕ → Stage) (h : IsLawful seats x y stage) (within : (0 < p) × (p ≤ seats)) where
   -- whoever stands in X has begun still
   begun_still : (s : Stage) → x ≢ 0 → has_entered (set_at stage p (stage_after p s x y) x) ≡ true
-  begun_still s ne = changed_cases stage p (stage_after p s x y) (λ v. has_entered v ≡ true) x (λ _. entered_after p s x y) (λ _. h.begun ne)
+  begun_still s ne = set_at-cases stage p (stage_after p s x y) (λ v. has_entered v ≡ true) x (λ _. entered_after p s x y) (λ _. h.begun ne)
 
   -- whoever stands in X after the access has begun
   begun_after : (s : Stage) → name_after p s x ≢ 0 → has_entered (set_at stage p (stage_after p s x y) (name_after p s x)) ≡ true
-  begun_after Outside ne = rw (changed_here stage p WroteName)
+  begun_after Outside ne = rw (set_at-same stage p WroteName)
   begun_after WroteName ne = begun_still WroteName ne
   begun_after SawClear ne = begun_still SawClear ne
   begun_after WroteMark ne = begun_still WroteMark ne
@@ -56,7 +56,7 @@ module _ (seats x y p : ℕ) (stage : ℕ → Stage) (h : IsLawful seats x y sta
   lawful_after : (s : Stage) → stage p ≡ s → IsLawful seats (name_after p s x) (mark_after s y) (set_at stage p (stage_after p s x y))
   lawful_after s is = record {
     door = kept x y stage p h.door s is;
-    seated = λ q. changed_cases stage p (stage_after p s x y) (λ v. has_entered v ≡ true → (0 < q) × (q ≤ seats)) q
+    seated = λ q. set_at-cases stage p (stage_after p s x y) (λ v. has_entered v ≡ true → (0 < q) × (q ≤ seats)) q
         (λ e _. subst (λ (j : ℕ). (0 < j) × (j ≤ seats)) (sym e) within) (λ _ entered. h.seated q entered);
     begun = begun_after s;
   }
@@ -81,14 +81,14 @@ module _ (n m k seat : ℕ) (a : Stage) where
         seat_of = h.seat_of;
         held = λ number lt. at_after (Has number) views seat (lone_view m k a) (lone_view m k b) e (λ among. among) (h.seat_of number) (h.held number lt);
         shown = each_set (Shows n h.seat_of (set_at h.stage name b)) views seat (lone_view m k b)
-            ((record { seats_are = mine.seats_are; in_range = mine.in_range; own = mine.own; stage_is = changed_here h.stage name b }, tt), (tt, tt))
+            ((record { seats_are = mine.seats_are; in_range = mine.in_range; own = mine.own; stage_is = set_at-same h.stage name b }, tt), (tt, tt))
             (λ j u other f. let s = h.shown j u f in (
               each_map (IsShown n h.seat_of h.stage j u) (IsShown n h.seat_of (set_at h.stage name b) j u)
                   (λ t x. record {
                     seats_are = x.seats_are;
                     in_range = x.in_range;
                     own = x.own;
-                    stage_is = changed_elsewhere h.stage name b (name_of t.number) (λ g. other (sym x.own ∙ ap h.seat_of (same_number t.number k g) ∙ mine.own)) ∙ x.stage_is;
+                    stage_is = set_at-other h.stage name b (name_of t.number) (λ g. other (sym x.own ∙ ap h.seat_of (same_number t.number k g) ∙ mine.own)) ∙ x.stage_is;
                   }) u.visits s.0,
               s.1,
             ));

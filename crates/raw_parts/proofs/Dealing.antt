@@ -13,7 +13,7 @@ use Rattle.raw_parts.specs.declared.splitter_view.Visit.{Visit}
 use Rattle.raw_parts.specs.declared.splitter_view.SplitterView.{SplitterView}
 use Rattle.raw_parts.specs.SplitterView.{visit_at, view_of, unbegun_from, undealt_from}
 use Rattle.raw_parts.specs.SplitterRule.{IsShown, Each, NoneTwice, IsAmong, Shows, KeepsRule}
-use Rattle.raw_parts.proofs.Changed.{changed_cases, changed_here, changed_elsewhere}
+use Rattle.step_memory.proofs.SetAtLemmas.{set_at-cases, set_at-same, set_at-other}
 use Rattle.raw_parts.proofs.Views.{each_set, each_pushed, HoldsAt, at_after, at_longer_list, at_its_end}
 use Rattle.raw_parts.proofs.Accesses.{each_map, Has}
 
@@ -70,7 +70,7 @@ opens S n = record {
 
 -- a visit that another seat makes is shown where only k changes its seat
 pub elsewhere : (n k new seat : ℕ) (seat_of : ℕ → ℕ) (stage : ℕ → Stage) (u : SplitterView) (v : Visit) → v.number ≢ k → IsShown n seat_of stage seat u v → IsShown n (set_at seat_of k new) stage seat u v
-elsewhere n k new seat seat_of stage u v ne x = record { seats_are = x.seats_are; in_range = x.in_range; own = changed_elsewhere seat_of k new v.number ne ∙ x.own; stage_is = x.stage_is }
+elsewhere n k new seat seat_of stage u v ne x = record { seats_are = x.seats_are; in_range = x.in_range; own = set_at-other seat_of k new v.number ne ∙ x.own; stage_is = x.stage_is }
 
 -- and so is the whole view of a seat that k does not leave
 pub shows_elsewhere : (n k new seat : ℕ) (seat_of : ℕ → ℕ) (stage : ℕ → Stage) (u : SplitterView) → seat_of k ≢ seat → Shows n seat_of stage seat u → Shows n (set_at seat_of k new) stage seat u
@@ -96,13 +96,13 @@ module _ {S : Type 0} (n seat m k : ℕ) (a : Stage) (rest : List Visit) where
       let seat_of : ℕ → ℕ = set_at h.seat_of k new in
       let kept_left : Shows n seat_of h.stage seat left = (
         each_both (IsShown n h.seat_of h.stage seat (view_of m (visit_at k a ∷ rest))) (λ t. t.number ≢ k) (IsShown n seat_of h.stage seat left)
-            (λ t x ne. record { seats_are = x.seats_are; in_range = x.in_range; own = changed_elsewhere h.seat_of k new t.number ne ∙ x.own; stage_is = x.stage_is })
+            (λ t x ne. record { seats_are = x.seats_are; in_range = x.in_range; own = set_at-other h.seat_of k new t.number ne ∙ x.own; stage_is = x.stage_is })
             rest old.0.1 old.1.0,
         old.1.1,
       ) in
       let moved = old.0.0 in
       let kept_right : Shows n seat_of h.stage new right = (
-        (record { seats_are = moved.seats_are; in_range = moved.in_range; own = changed_here h.seat_of k new; stage_is = moved.stage_is }, tt),
+        (record { seats_are = moved.seats_are; in_range = moved.in_range; own = set_at-same h.seat_of k new; stage_is = moved.stage_is }, tt),
         (tt, tt),
       ) in
       record {
@@ -112,7 +112,7 @@ module _ {S : Type 0} (n seat m k : ℕ) (a : Stage) (rest : List Visit) where
         stage = h.stage;
         lawful = h.lawful;
         seat_of = seat_of;
-        held = λ number lt. changed_cases h.seat_of k new (HoldsAt (Has number) (set s.views seat left ++ right ∷ [])) number
+        held = λ number lt. set_at-cases h.seat_of k new (HoldsAt (Has number) (set s.views seat left ++ right ∷ [])) number
             (λ same. at_its_end (Has number) (set s.views seat left) right (inl (sym same)))
             (λ other. at_longer_list (Has number) (set s.views seat left) right (h.seat_of number)
             (at_after (Has number) s.views seat (view_of m (visit_at k a ∷ rest)) left e (⊎_elim (λ same. absurd (other (sym same))) (λ among. among)) (h.seat_of number) (h.held number lt)));

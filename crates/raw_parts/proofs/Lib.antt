@@ -1,4 +1,3 @@
-pub mod Changed
 pub mod Views
 pub mod Accesses
 pub mod Dealing

@@ -11,7 +11,7 @@ use Rattle.raw_parts.specs.declared.splitter_view.SplitterView.{SplitterView}
 use Rattle.raw_parts.specs.SplitterView.{view_of}
 use Rattle.raw_parts.specs.SplitterRule.{IsShown, Shows, IsKept, KeepsRule}
 use Rattle.raw_parts.specs.SplitterSteps.{Looks}
-use Rattle.raw_parts.proofs.Changed.{changed_cases, changed_here}
+use Rattle.step_memory.proofs.SetAtLemmas.{set_at-cases, set_at-same}
 use Rattle.raw_parts.proofs.Views.{each_set, each_pushed, there_still, HoldsAt, at_after, at_longer_list, at_its_end}
 use Rattle.raw_parts.proofs.Accesses.{under_rule, Has}
 use Rattle.raw_parts.proofs.Dealing.{elsewhere, shows_elsewhere}
@@ -36,7 +36,7 @@ module _ {S : Type 0} (n m seat : ℕ) (a b : Visit) where
       let united : Shows n seat_of h.stage seat (double m a b) = (
         (
           record { seats_are = mine.seats_are; in_range = mine.in_range; own = stays.own; stage_is = mine.stage_is },
-          (record { seats_are = mine.seats_are; in_range = theirs.in_range; own = changed_here h.seat_of b.number seat; stage_is = theirs.stage_is }, tt),
+          (record { seats_are = mine.seats_are; in_range = theirs.in_range; own = set_at-same h.seat_of b.number seat; stage_is = theirs.stage_is }, tt),
         ),
         ((differ, tt), (tt, tt)),
       ) in
@@ -50,7 +50,7 @@ module _ {S : Type 0} (n m seat : ℕ) (a b : Visit) where
         stage = h.stage;
         lawful = h.lawful;
         seat_of = seat_of;
-        held = λ number lt. changed_cases h.seat_of b.number seat (HoldsAt (Has number) (set (set s.views seat (double m a b)) other (view_of 0 []))) number
+        held = λ number lt. set_at-cases h.seat_of b.number seat (HoldsAt (Has number) (set (set s.views seat (double m a b)) other (view_of 0 []))) number
             (λ same. (double m a b, set_else (set s.views seat (double m a b)) other seat (view_of 0 []) (λ z. apart (sym z)) ∙ there_still s.views seat (single m a) e (double m a b), inr (inl (sym same))))
             (λ away. at_after (Has number) (set s.views seat (double m a b)) other (single m b) (view_of 0 []) e'
             (⊎_elim (λ same. absurd (away (sym same))) (λ none. none)) (h.seat_of number)
@@ -80,7 +80,7 @@ module _ {S : Type 0} (n m seat : ℕ) (a b : Visit) where
         (tt, tt),
       ) in
       let kept_two : Shows n seat_of h.stage new (single m b) = (
-        (record { seats_are = theirs.seats_are; in_range = theirs.in_range; own = changed_here h.seat_of b.number new; stage_is = theirs.stage_is }, tt),
+        (record { seats_are = theirs.seats_are; in_range = theirs.in_range; own = set_at-same h.seat_of b.number new; stage_is = theirs.stage_is }, tt),
         (tt, tt),
       ) in
       record {
@@ -90,7 +90,7 @@ module _ {S : Type 0} (n m seat : ℕ) (a b : Visit) where
         stage = h.stage;
         lawful = h.lawful;
         seat_of = seat_of;
-        held = λ number lt. changed_cases h.seat_of b.number new (HoldsAt (Has number) (set s.views seat (single m a) ++ single m b ∷ [])) number
+        held = λ number lt. set_at-cases h.seat_of b.number new (HoldsAt (Has number) (set s.views seat (single m a) ++ single m b ∷ [])) number
             (λ same. at_its_end (Has number) (set s.views seat (single m a)) (single m b) (inl (sym same)))
             (λ away. at_longer_list (Has number) (set s.views seat (single m a)) (single m b) (h.seat_of number)
             (at_after (Has number) s.views seat (double m a b) (single m a) e

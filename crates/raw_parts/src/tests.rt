@@ -110,11 +110,12 @@ fn two_threads_are_split(rt: HostRuntime) -> Result<(), Fail> {
 
 #[test]
 fn each_want_of_memory_is_told(rt: HostRuntime) -> Result<(), Fail> {
-    // Heaps of rising size, so that each allocation in turn is the first that finds no room.
+    // A heap gives a growth at least 16 bytes, so each in turn is the first that finds no room.
     let mut refused = (false, false);
     let mut made = (false, false);
-    for size in 0..120 {
-        let heap = LocalHeap::new(rt.alloc(), 8 * size)?;
+    for blocks in 0..80 {
+        let heap = LocalHeap::new(rt.alloc(), 1_280)?;
+        let others = Vec::<u8, &LocalHeap>::with_capacity(&heap, 1_280 - 16 * blocks)?;
         match RawSplitter::new(&heap, 64) {
             Ok(_) => made.0 = true,
             Err(refusal) => {
@@ -129,6 +130,7 @@ fn each_want_of_memory_is_told(rt: HostRuntime) -> Result<(), Fail> {
                 refused.1 = true;
             }
         }
+        drop(others);
     }
     assert_eq!(rt; (refused, made), ((true, true), (true, true)));
     Ok(())

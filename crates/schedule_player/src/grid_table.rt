@@ -17,15 +17,8 @@ impl<A: Allocator + Clone> Respond for GridWorld<A> {
         ensures after { self.new ≡ grid_after self.old event }
     {
         match event {
-            Event::Begin(id) => match self.begin(id) {
-                Ok(()) => Reply::Ok,
-                Err(refusal) => Reply::Refused(refusal),
-            },
-            Event::Step(id) => match self.step(id) {
-                Ok(None) => Reply::Quiet,
-                Ok(Some(place)) => Reply::Place(place),
-                Err(refusal) => Reply::Refused(refusal),
-            },
+            Event::Begin(id) => Reply::of_begin(self.begin(id)),
+            Event::Step(id) => Reply::of_walk(self.step(id)),
         }
     }
 }

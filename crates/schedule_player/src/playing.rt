@@ -6,6 +6,7 @@ ghost use Rattle.schedule_player.specs.Progress.{Progress, start_of};
 ghost use Rattle.schedule_player.specs.Responses.{answers_to, answers_to_whole};
 ghost use Rattle.schedule_player.specs.Runs.{answers_in, whole_answers_in, IsLawfulPlay};
 ghost use Rattle.schedule_player.specs.Stands.{Stands};
+ghost use Rattle.schedule_player.specs.declared.player.TheConstants.{HELD_REPLIES};
 
 use crate::config::{Config, WorldKind};
 use crate::fault::Fault;
@@ -110,7 +111,7 @@ fn run<D: Respond + Drop, A: Allocator, R: Source, W: Sink>(
     writer: &mut W,
 ) -> Result<(), Fault>
     requires chunk { length chunk.old ≡ READ_BYTES }
-    requires fresh { (player.old.replies.items ≡ []) × (player.old.summary.lines ≡ 0) × (vec_capacity player.old.replies ≡ 65536) }
+    requires fresh { (player.old.replies.items ≡ []) × (player.old.summary.lines ≡ 0) × (vec_capacity player.old.replies ≡ HELD_REPLIES) }
     requires reads { R.calls reader.old < 2 ^ 64 }
     requires writes { W.calls writer.old < 2 ^ 64 }
     ensures ok { OnOk result ((t : D) (before : Option (List ℕ)) → Stands player.old.table player.old.line [] player.old.summary player.old.over (start_of t) before (W.contents writer.old) → PlayedAll (answers_to D.responses player.old.world t) (R.remaining reader.old) before (W.contents writer.new) player.new.summary) }

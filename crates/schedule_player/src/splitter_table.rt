@@ -6,7 +6,7 @@ ghost use Rattle.schedule_player.specs.Runs.{splitter_responses, splitter_reply,
 use crate::event::Event;
 use crate::reply::Reply;
 use crate::respond::Respond;
-use splitter::{SplitterWorld, Way};
+use splitter::SplitterWorld;
 use std::alloc::Allocator;
 
 impl<A: Allocator + Clone> Respond for SplitterWorld<A> {
@@ -17,17 +17,8 @@ impl<A: Allocator + Clone> Respond for SplitterWorld<A> {
         ensures after { self.new ≡ splitter_after self.old event }
     {
         match event {
-            Event::Begin(id) => match self.begin(id) {
-                Ok(()) => Reply::Ok,
-                Err(refusal) => Reply::Refused(refusal),
-            },
-            Event::Step(id) => match self.step(id) {
-                Ok(None) => Reply::Quiet,
-                Ok(Some(Way::Stop)) => Reply::Stop,
-                Ok(Some(Way::Right)) => Reply::Right,
-                Ok(Some(Way::Down)) => Reply::Down,
-                Err(refusal) => Reply::Refused(refusal),
-            },
+            Event::Begin(id) => Reply::of_begin(self.begin(id)),
+            Event::Step(id) => Reply::of_visit(self.step(id)),
         }
     }
 }

@@ -1,7 +1,9 @@
 //! Runs of commands over readers and writers in memory.
 
+use crate::player::HELD_REPLIES;
 use crate::{
-    Config, Event, Fault, MOST_READS, READ_BYTES, Reply, Respond, Summary, Tried, WorldKind, play,
+    Config, Event, Fault, LineBuffer, MOST_READS, READ_BYTES, Reply, Respond, Summary, Tried,
+    WorldKind, play,
 };
 use linked_list_allocator::LocalHeap;
 use splitter::SplitterWorld;
@@ -10,6 +12,7 @@ use std::alloc::{Allocator, Global};
 use std::io;
 use std::io::{Read, Write};
 use std::test::Fail;
+use step_memory::Memory;
 
 /// Gives at most so many bytes a read, and fails at one call, counted from 1.
 #[derive(Drop)]
@@ -241,33 +244,84 @@ fn each_write_fails_once(rt: HostRuntime) -> Result<(), Fail> {
     Ok(())
 }
 
+/// The bytes of a heap that a run takes its memory from, where growths are refused. It is a multiple of 16.
+const HEAP: usize = 262_144;
+
+/// The bytes of a heap that are taken after each growth of a run, in the order of the growths: the registers of its world,
+/// the participants, the bytes of one read, the line and the replies. A heap gives each growth 16 bytes at least.
+fn taken_after_growths(
+    alloc: Global,
+    world: WorldKind,
+    m: u64,
+    registers: usize,
+) -> Result<[usize; 5], Fail> {
+    let heap = LocalHeap::new(alloc, HEAP)?;
+    let memory = Memory::new(&heap, 0u64, registers, 0)?;
+    let first = heap.used();
+    drop(memory);
+    let splitter = match world {
+        WorldKind::Splitter => Some(SplitterWorld::new(&heap, m as usize)?),
+        WorldKind::Grid => None,
+    };
+    let grid = match world {
+        WorldKind::Splitter => None,
+        WorldKind::Grid => Some(GridWorld::new(&heap, m as usize)?),
+    };
+    let second = heap.used();
+    let chunk = Vec::from_elem(&heap, 0u8, READ_BYTES)?;
+    let third = heap.used();
+    let line = LineBuffer::new(&heap)?;
+    let fourth = heap.used();
+    let replies = Vec::<u8, &LocalHeap>::with_capacity(&heap, HELD_REPLIES)?;
+    let fifth = heap.used();
+    drop((splitter, grid, chunk, line, replies));
+    Ok([first, second, third, fourth, fifth])
+}
+
+/// A run with so many bytes of a heap left to take, a multiple of 16.
+fn play_in_the_last(
+    left: usize,
+    alloc: Global,
+    world: WorldKind,
+    m: u64,
+    input: &[u8],
+) -> Result<Played, Fail> {
+    let heap = LocalHeap::new(alloc, HEAP)?;
+    let others = Vec::<u8, &LocalHeap>::with_capacity(&heap, HEAP.saturating_sub(left))?;
+    let played = play_in(
+        world,
+        m,
+        &heap,
+        dripping(input, 64, 0),
+        cup_of(alloc, 64, 0, false),
+    );
+    drop(others);
+    Ok(played)
+}
+
 #[test]
-fn each_growth_is_refused_once(rt: HostRuntime) -> Result<(), Fail> {
-    let mut refused = false;
-    let mut done = false;
-    for (input, text) in rows() {
-        for size in 0..70 {
-            let heap = LocalHeap::new(rt.alloc(), 2_048 * size + 16)?;
-            let p = play_by(
-                &heap,
-                dripping(input, 64, 0),
-                cup_of(rt.alloc(), 64, 0, false),
-            );
-            match p.outcome {
-                Ok(_) => {
-                    assert_eq!(rt; p.text.as_slice(), text);
-                    done = true;
-                }
-                Err(fault) => {
-                    assert_eq!(rt; fault, Fault::Memory);
-                    assert_eq!(rt; p.reads, 0);
-                    assert_eq!(rt; p.writes, 0);
-                    refused = true;
-                }
+fn each_growth_is_refused_in_turn(rt: HostRuntime) -> Result<(), Fail> {
+    let input = b"begin 7\nquit\n".as_slice();
+    for (world, m, registers) in [
+        (WorldKind::Splitter, 2, 2),
+        (WorldKind::Splitter, 16, 2),
+        (WorldKind::Grid, 2, 6),
+        (WorldKind::Grid, 16, 272),
+    ] {
+        let mut fits = 0;
+        for taken in taken_after_growths(rt.alloc(), world, m, registers)? {
+            assert!(rt; fits < taken, "at {taken} bytes");
+            for left in [fits, taken.saturating_sub(16)] {
+                let p = play_in_the_last(left, rt.alloc(), world, m, input)?;
+                assert_eq!(rt; p.outcome.err(), Some(Fault::Memory), "at {left} bytes");
+                assert_eq!(rt; (p.reads, p.writes), (0, 0), "at {left} bytes");
             }
+            fits = taken;
         }
+        let p = play_in_the_last(fits, rt.alloc(), world, m, input)?;
+        assert!(rt; p.outcome.is_ok(), "at {fits} bytes");
+        assert_eq!(rt; p.text.as_slice(), b"ok\nok\n".as_slice());
     }
-    assert!(rt; refused && done);
     Ok(())
 }
 

@@ -4,7 +4,6 @@ use Rattle.std.proofs.lemmas.List.{length-set}
 use Rattle.step_memory.specs.declared.refusal.Refusal.{Refusal}
 use Rattle.step_memory.specs.Runs.{Run}
 use Rattle.step_memory.proofs.RunLemmas.{run_more, run_keeps}
-use Rattle.bit_allocator.specs.PoolState.{PoolState}
 use Rattle.bit_allocator.specs.Pool.{fresh_pool, number_answer}
 use Rattle.bit_allocator.specs.declared.probe.Probe.TheVariants.{Missed, Got}
 use Rattle.bit_allocator.specs.Calls.{Call}
@@ -170,13 +169,4 @@ after_slots_call {T} size first s new r h e is a = record {
   last = a.last;
   many = a.many;
   run = subst (λ (x : SlotsState T). Run slots_next IsSlotReply (record { pool = fresh_pool size; values = first }) (r ++ h ∷ []) x) (sym e) (run_more slots_next IsSlotReply (record { pool = fresh_pool size; values = first }) r s h a.run is);
-}
-
--- new slots
-pub after_slots_new : {T : Type 0} (size : ℕ) (pool : PoolState) (values : List T) → length values ≡ pool.size → After size pool [] → AfterSlots size values (record { pool = pool; values = values }) []
-after_slots_new {T} size pool values many a = record {
-  first = a.first;
-  last = a.last;
-  many = many ∙ ap (λ (w : PoolState). w.size) a.run;
-  run = ap (λ (w : PoolState). let s : SlotsState T = record { pool = w; values = values } in s) a.run;
 }

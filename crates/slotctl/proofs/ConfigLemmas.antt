@@ -14,9 +14,6 @@ use Rattle.slotctl.specs.Asked.{HasNumber, IsConfigOf, world_named}
 pub unless_some : {T : Type 0} (o : Option T) (P : Type 0) (Q : T → Type 0) → o ≡ None → P → MatchOption o P Q
 unless_some o P Q e p = subst (λ w. MatchOption w P Q) (sym e) p
 
-pub where_some : {T : Type 0} (o : Option T) (P : Type 0) (Q : T → Type 0) (x : T) → o ≡ Some x → Q x → MatchOption o P Q
-where_some o P Q x e q = subst (λ w. MatchOption w P Q) (sym e) q
-
 -- no world has the matched name
 pub no_world : (rows : List Row) → option_and_then world_named (first_of (codes "world") rows) ≡ None → (c : Config) → IsConfigOf rows c → ⊥
 no_world rows e c h =

@@ -3,6 +3,7 @@
 ghost use Rattle.std.specs.Prelude.{◌≡◌, ◌+◌, ◌<◌, ◌^◌, ◌⊎◌, Err, IfOk};
 ghost use Rattle.schedule_player.specs.Played.{PlayedAll, PlayedPart, PlayedWhatCame};
 ghost use Rattle.schedule_player.specs.Runs.{answers_in, whole_answers_in};
+ghost use Rattle.schedule_player.specs.declared.playing.TheConstants.{MOST_READS};
 ghost use Rattle.schedule_player.specs.declared.summary.Summary.{Summary};
 
 use crate::asked::Ask;
@@ -24,7 +25,7 @@ pub fn work<R: Source, W: Sink, A: Allocator + Clone + Drop>(
     requires writes { W.calls writer.old < 2 ^ 64 }
     ensures status { IfOk result (λ status. status ≡ 0) }
     ensures ok { IfOk result (λ _. (summary : Summary) × PlayedAll (answers_in ask.config.world ask.config.m) (R.remaining reader.old) (W.contents writer.old) (W.contents writer.new) summary) }
-    ensures read_fault { result ≡ Err Fault.Read → (R.failed reader.old < R.failed reader.new) ⊎ (R.calls reader.new ≡ R.calls reader.old + 2 ^ 40) }
+    ensures read_fault { result ≡ Err Fault.Read → (R.failed reader.old < R.failed reader.new) ⊎ (R.calls reader.new ≡ R.calls reader.old + MOST_READS) }
     ensures read_came { result ≡ Err Fault.Read → PlayedWhatCame (whole_answers_in ask.config.world ask.config.m) (R.remaining reader.old) (R.remaining reader.new) (W.contents writer.old) (W.contents writer.new) }
     ensures write_fault { result ≡ Err Fault.Write → W.failed writer.old < W.failed writer.new }
     ensures write_part { result ≡ Err Fault.Write → PlayedPart (answers_in ask.config.world ask.config.m) (R.remaining reader.old) (W.contents writer.old) (W.contents writer.new) }

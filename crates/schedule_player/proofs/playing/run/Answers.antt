@@ -1,5 +1,6 @@
 use Rattle.std.proofs.Common.{◌≡◌, true, ◌∙◌, ◌≤◌, ◌++◌, inl, ap, arith, take, length, List, [], ℕ, Option}
 use Rattle.std.proofs.lemmas.Result.{on_ok_weaker}
+use Rattle.schedule_player.specs.declared.playing.TheConstants.{READ_BYTES}
 use Rattle.schedule_player.specs.Progress.{start_of, after_bytes}
 use Rattle.schedule_player.proofs.ProgressLemmas.{after_bytes-append}
 use Rattle.schedule_player.proofs.PlayedLemmas.{consumes_more, consumes_none, consumes_kept, played_what_came, played_to_end, played_to_quit, played_part, played_part_at_end}
@@ -89,7 +90,7 @@ pub loop-reads-preserved : goal.loop-reads-preserved
 loop-reads-preserved g c =
     let inv = c.loop-reads.invariant in
     let read : List ℕ = take c.in-Ok.count c.read_once.new.buf in
-    let few : c.in-Ok.count ≤ 65536 = omega (arith, c.in-Ok.ensures.bound.0, c.read_once.auto.buf, c.loop-reads.auto.chunk, c.requires.chunk) in
+    let few : c.in-Ok.count ≤ READ_BYTES = omega (arith, c.in-Ok.ensures.bound.0, c.read_once.auto.buf, c.loop-reads.auto.chunk, c.requires.chunk) in
     let short : c.in-Ok.count ≡ length read = c.in-Ok.ensures.bound.1 in
     record {
       bytes = inv.bytes ++ read;

@@ -1,5 +1,8 @@
 use Rattle.std.proofs.Common.{◌≡◌, ◌+◌, ◌*◌, ◌≤◌, ℕ, List, [], Option, vec_capacity}
 use Rattle.std.specs.Io.KnownBytes.{Consumes}
+use Rattle.schedule_player.specs.declared.player.TheConstants.{HELD_REPLIES}
+use Rattle.schedule_player.specs.declared.playing.TheConstants.{READ_BYTES}
+use Rattle.schedule_player.specs.declared.print.TheConstants.{REPLY_ROOM}
 use Rattle.schedule_player.specs.Progress.{start_of, after_bytes}
 use Rattle.schedule_player.specs.Stands.{Stands}
 use Rattle.schedule_player.proofs.playing.run.Given as goal
@@ -13,10 +16,10 @@ invariant-loop-reads g l = record {
       Stands l.player.table l.player.line [] l.player.summary l.player.over (after_bytes g.D.Respond.responses l.fn.player.world (start_of t) bytes) before (g.W.Write.contents l.writer);
   empty : l.player.replies.items ≡ [];
   world : l.player.world ≡ l.fn.player.world;
-  capacity : vec_capacity l.player.replies ≡ 65536;
-  lines : l.player.summary.lines ≤ 65536 * l.reads;
+  capacity : vec_capacity l.player.replies ≡ HELD_REPLIES;
+  lines : l.player.summary.lines ≤ READ_BYTES * l.reads;
   reads : g.R.Source.calls l.reader ≡ g.R.Source.calls l.fn.reader + l.reads;
-  writes : g.W.Sink.calls l.writer ≤ g.W.Sink.calls l.fn.writer + 4194304 * l.reads;
+  writes : g.W.Sink.calls l.writer ≤ g.W.Sink.calls l.fn.writer + REPLY_ROOM * READ_BYTES * l.reads;
   unfailed : g.R.Source.failed l.fn.reader ≤ g.R.Source.failed l.reader;
   failures : g.W.Sink.failed l.fn.writer ≤ g.W.Sink.failed l.writer;
 }
