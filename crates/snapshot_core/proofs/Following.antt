@@ -1,398 +1,574 @@
--- each call of a snapshot object over segments in a row is one of the object of the law
-use Rattle.std.proofs.Common.{◌≡◌, ℕ, zero, suc, ◌+◌, ◌*◌, ◌<◌, ◌≤◌, ◌==◌, Bool, true, false, cond, ◌⊎◌, List, [], ◌∷◌, ◌++◌, length, get_or, set, replicate, Option, Some, None, Result, Ok, Err, inl, inr, refl, sym, ap, subst, ◌∙◌, arith}
-use Rattle.std.specs.Prelude.{option_map, nat_lt}
-use Rattle.std.proofs.lemmas.Bool.Decides.{eqb_tells, leb_tells}
+-- each call of a snapshot object over any places is one of the object of the law
+use Rattle.std.proofs.Common.{◌≡◌, ◌≢◌, ℕ, zero, suc, ◌+◌, ◌*◌, ◌<◌, ◌≤◌, ◌==◌, true, false, cond, ◌⊎◌, List, [], ◌∷◌, ◌++◌, length, Option, Some, None, Result, Ok, Err, inl, inr, refl, sym, ap, subst, ◌∙◌, arith, length-append}
+use Rattle.std.specs.Prelude.{option_map, option_and_then, nat_lt, Contains}
+use Rattle.std.proofs.lemmas.List.Elements.{Contains-append_cases}
+use Rattle.std.proofs.lemmas.Bool.{cases_Bool}
+use Rattle.std.proofs.lemmas.Bool.Decides.{eqb_tells}
+use Rattle.step_memory.specs.SetAt.{set_at}
+use Rattle.step_memory.proofs.SetAtLemmas.{set_at-same, set_at-other}
+use Rattle.step_memory.proofs.ParticipantLemmas.{participant_of-push, length-with_participant}
+use Rattle.step_memory.specs.declared.note.Note.{Note}
+use Rattle.step_memory.specs.declared.note.Note.TheVariants.{Quiet, Said, Ended}
+use Rattle.step_memory.specs.declared.access.Access.TheVariants.{Read}
+use Rattle.step_memory.specs.declared.access.Answer.{Answer}
 use Rattle.step_memory.specs.declared.refusal.Refusal.{Refusal}
-use Rattle.step_memory.specs.declared.refusal.Refusal.TheVariants.{ZeroIdentity, AlreadyBegun, Full, NotBegun, Finished, Spent}
+use Rattle.step_memory.specs.declared.refusal.Refusal.TheVariants.{AlreadyBegun, NotBegun, Finished, Spent}
 use Rattle.step_memory.specs.declared.participant.Participant.{Participant}
 use Rattle.step_memory.specs.Note.{ends}
-use Rattle.step_memory.specs.Steps.{answer_from}
+use Rattle.step_memory.specs.Steps.{ProgramSteps, MemorySteps, answer_from}
 use Rattle.step_memory.specs.Participant.{participant_of, program_of, with_participant, beginner}
-use Rattle.step_memory.specs.World.{begin_refusal, begun_unless, done_unless, may_refuse_by}
+use Rattle.step_memory.specs.World.{begin_refusal, begun_unless, done_unless}
 use Rattle.step_memory.specs.Calls.{lacked_memory, reply_of}
 use Rattle.step_memory.specs.Runs.{Run}
 use Rattle.step_memory.proofs.StepLemmas.{going_answer, going_after}
 use Rattle.step_memory.proofs.RunLemmas.{run_more, run_keeps}
-use Rattle.snapshot_core.specs.declared.record.Record.{Record}
+use Rattle.step_memory.proofs.WorldKeeps.{let_in}
 use Rattle.snapshot_core.specs.declared.scan.Scan.{Scan}
+use Rattle.snapshot_core.specs.declared.client.Client.{Client}
 use Rattle.snapshot_core.specs.declared.client.Pending.{Pending}
-use Rattle.snapshot_core.specs.declared.client.Pending.TheVariants.{Nothing, Placing, Scan as Scans, Update, Write as Writing}
+use Rattle.snapshot_core.specs.declared.client.Pending.TheVariants.{Nothing, Placing as Places, Scan as Scans, Update, Write as Writing}
 use Rattle.snapshot_core.specs.declared.client.SnapReply.{SnapReply}
-use Rattle.snapshot_core.specs.declared.fixed.FixedWalk.{FixedWalk}
+use Rattle.snapshot_core.specs.declared.client.SnapReply.TheVariants.{Quiet as Silent, Placed, Written, View as Viewed}
 use Rattle.snapshot_core.specs.Scan.{scan_from, scan_after, scan_view}
-use Rattle.snapshot_core.specs.Client.{client_steps, is_idle, scanning, updating, record_of, with_pending, pending_after, note_after, access_for, after_for, note_for, next_access}
-use Rattle.snapshot_core.specs.Fixed.{IsOwnAccess, register_of, after_access, fixed_steps, walker_steps, fixed_walks, fixed_place, fixed_walker, fixed_walk}
-use Rattle.snapshot_core.specs.SnapWorld.{beginner_at, scan_refusal, update_refusal, scan_refusal_by, update_refusal_by, asked, after_scan, after_update, told, snap_answer, after_snap_step, may_lack_memory}
+use Rattle.snapshot_core.specs.Client.{client_steps, first_pending, is_idle, scanning, updating, record_of, with_pending, is_placed, placed_note, pending_after, note_after, access_for, after_for, note_for}
+use Rattle.snapshot_core.specs.SnapWorld.{SnapState, place_in, beginner_at, scan_refusal, update_refusal, scan_refusal_by, update_refusal_by, asked, after_scan, after_update, told, snap_answer, after_snap_step}
 use Rattle.snapshot_core.specs.SnapCalls.{SnapCall, next, IsReply, IsAfter}
 use Rattle.snapshot_core.specs.SnapCalls.SnapCall.{Began, Updated, Scanned, Stepped}
-use Rattle.snapshot_core.specs.Snapshot.{SnapObject, new_object, since_of, with_task, with_moment, observed, Allows, KeepsSnapshotLaw}
-use Rattle.snapshot_core.specs.Snapshot.Task.{Idle, Scanning, Updating}
+use Rattle.snapshot_core.specs.Walks.{WalkSteps}
+use Rattle.snapshot_core.specs.Places.{PlaceTies, PlacesLaws, BoundsScans, KeepsWalks, HasGoneOn, value_for}
+use Rattle.snapshot_core.specs.Snapshot.{SnapObject, SnapBounds, new_object, since_of, with_task, observed, Allows, KeepsSnapshotLaw}
+use Rattle.snapshot_core.specs.Snapshot.Task.{Idle, Placing, Scanning, Updating}
 use Rattle.snapshot_core.proofs.SnapWorldLemmas.{absent_state, absent_answer, idle_state, idle_answer, busy_state, busy_answer, most_kept}
+use Rattle.snapshot_core.proofs.KnownPlaces.{KnownPlaces}
 use Rattle.snapshot_core.proofs.Histories.{number, IsHelp}
-use Rattle.snapshot_core.proofs.Collecting.{collecting_new, steps_bound}
-use Rattle.snapshot_core.proofs.Reading.{GoesOn, walk_over, Shown, Outcome, reads}
-use Rattle.snapshot_core.proofs.Tied.{place_now, FixedClient, FixedState, IsScanning, IsAtTask, IsDoing, IsTied, world_with, tied_new, tied_with, tied_written, tied_joined}
-
-bool_cases : (b : Bool) → (b ≡ true) ⊎ (b ≡ false)
-bool_cases true = inl refl
-bool_cases false = inr refl
-
-get_or-beyond : (xs : List (Option Record)) (x : ℕ) → length xs ≤ x → get_or xs x None ≡ None
-get_or-beyond [] x l = refl
-get_or-beyond (y ∷ ys) zero l = absurd (omega arith)
-get_or-beyond (y ∷ ys) (suc x) l = get_or-beyond ys x (omega arith)
-
--- the machine over segments in a row
-abbrev pub fixed_next : FixedState → SnapCall → FixedState
-fixed_next = next walker_steps fixed_place fixed_walks fixed_steps fixed_walker fixed_walk
-
-abbrev pub IsFixedReply : FixedState → SnapCall → Type 0
-IsFixedReply = IsReply walker_steps fixed_place fixed_walks fixed_steps fixed_walker fixed_walk
+use Rattle.snapshot_core.proofs.Collecting.{collecting_new}
+use Rattle.snapshot_core.proofs.Reading.{GoesOn, Shown, Outcome, starts_ahead, begins, steps_bound, reads}
+use Rattle.snapshot_core.proofs.Tied.{Era, way_now, ways_of, place_by, IsScanning, IsAtTask, IsDoing, IsTied, era_now, reached_now, roll_now, put_there, world_with, tied_new}
+use Rattle.snapshot_core.proofs.Going.{tied_with, tied_written, tied_joined, free, nothing_yet, era_joined}
 
 idle_is_nothing : (pending : Pending) → is_idle pending ≡ true → pending ≡ Nothing
 idle_is_nothing Nothing h = refl
-idle_is_nothing Placing h = absurd (cc)
+idle_is_nothing Places h = absurd (cc)
 idle_is_nothing Scans h = absurd (cc)
 idle_is_nothing (Update new_value) h = absurd (cc)
 idle_is_nothing (Writing new_value view) h = absurd (cc)
 
--- who is let in has not begun, and there is room
-pub record IsLetIn (w : FixedState) (id : ℕ) : Type 0 where
-  pub absent : participant_of id w.participants ≡ None
-  pub room : length w.participants < w.most
+-- steps to a place, and those of a scan that keep the bound
+abbrev pub bounds_with : {S R V U K : Type 0} → KnownPlaces S R V U K → (ℕ → ℕ) → SnapBounds
+bounds_with t scans = record { placing = t.ties.placing; scanning = scans }
 
-let_in : (w : FixedState) (id : ℕ) → begin_refusal w id ≡ None → IsLetIn w id
-let_in w id h = elim (eqb_tells id 0) [
-  | inl z ↦ absurd (let k : Some ZeroIdentity ≡ None = rw z.0 at h in cc)
-  | inr z ↦
-      elim (participant_of id w.participants) as (λ o. participant_of id w.participants ≡ o → IsLetIn w id) [
-        | Some v ↦ λ e. absurd (let k : Some AlreadyBegun ≡ None = rw (z.0, e) at h in cc)
-        | None ↦ λ e. elim (leb_tells w.most (length w.participants)) [
-          | inl l ↦ absurd (let k : Some Full ≡ None = rw (z.0, e, l.0) at h in cc)
-          | inr l ↦ record { absent = e; room = l.1 }
-        ]
-      ] refl
-]
+module _ {S R V U K : Type 0} (t : KnownPlaces S R V U K) (w : SnapState S U K) (o : SnapObject) (i : IsTied t w o) (id : ℕ) where
+  -- one begins
+  begun_follows : begin_refusal w id ≡ None → IsTied t (record { memory = w.memory; most = w.most; participants = w.participants ++ beginner id (beginner_at t.place_of t.walker_from t.walk_from w id) ∷ [] }) (observed o (Began id (Ok tt)))
+  begun_follows e =
+      let goes_in = let_in w id e in
+      let b = length w.participants in
+      let c : Client U K = beginner_at t.place_of t.walker_from t.walk_from w id in
+      let absent_way : ways_of w.participants id ≡ None = ap way_now goes_in.absent in
+      let absent : i.place id ≡ None = i.placed id ∙ ap (place_by t.place_of) absent_way in
+      let room : b < t.most_of w.memory = (let m = i.most in let l = goes_in.room in omega arith) in
+      let consistent : t.ties.IsConsistent w.memory (b + 1) (set_at (ways_of w.participants) id (Some c.walker)) = t.laws.begun w.memory b (ways_of w.participants) id i.consistent goes_in.not_zero absent_way room in
+      let up : b ≤ b + 1 = omega arith in
+      let same : (j : ℕ) → j < b → set_at i.who b id j ≡ i.who j = λ j l. set_at-other i.who b id j (omega arith) in
+      let last_one : (j : ℕ) × (j < b + 1) × (set_at i.who b id j ≡ id) = (b, omega arith, set_at-same i.who b id) in
+      let still : KeepsWalks t.most_of t.walk_from t.ties w.memory w.memory = record { most = refl; beginning = refl; ahead = λ k x a. a; read = λ k j a. a } in
+      tied_joined t w o i id c w.memory (b + 1) (set_at i.who b id) absent up (t.laws.rising (t.most_of w.memory) b) same last_one consistent (λ x. refl) still
+      (w.participants ++ beginner id c ∷ []) (participant_of-push w.participants (beginner id c) goes_in.absent) (length-append w.participants (beginner id c ∷ []))
+      (observed o (Began id (Ok tt))) (let k = i.counted in omega arith) refl refl
+      (λ q n. (set_at-other o.task id Placing q n, set_at-other o.steps id 0 q n, set_at-other o.since id 0 q n))
+      (λ q x k. inl k)
+      (rw (set_at-same o.task id Placing, set_at-same o.steps id 0, set_at-same o.since id 0) (record {
+        identity = refl;
+        walk = refl;
+        at = elim (t.place_of c.walker) as (λ z. t.place_of c.walker ≡ z → IsAtTask t (era_joined t w o i id c w.memory (b + 1) (set_at i.who b id) absent up (t.laws.rising (t.most_of w.memory) b) same last_one consistent (λ x. refl) still) Placing 0 0 c z (first_pending z)) [
+          | None ↦ λ k. (refl, refl, omega arith)
+          | Some x ↦ λ k. sym (ap number (nothing_yet t w o i id c w.memory (b + 1) (set_at i.who b id) absent up (t.laws.rising (t.most_of w.memory) b) same last_one consistent (λ x. refl) still x o.last k (omega arith)))
+        ] refl;
+      }))
 
-begin_follows : (w : FixedState) (o : SnapObject) (t : IsTied w o) (id : ℕ) → IsTied (begun_unless (begin_refusal w id) w id (beginner_at fixed_place fixed_walker fixed_walk w id)) o
-begin_follows w o t id = elim (begin_refusal w id) as (λ r. begin_refusal w id ≡ r → IsTied (begun_unless r w id (beginner_at fixed_place fixed_walker fixed_walk w id)) o) [
-  | Some why ↦ λ _. t
-  | None ↦ λ e.
-      let in_ = let_in w id e in
-      let ready : IsTied (record { memory = w.memory; most = w.most; participants = w.participants ++ beginner id (record { identity = id; walker = record { place = length w.participants }; walk = walk_over w.most; updates = 0; pending = Nothing; scan = scan_from (walk_over w.most) }) ∷ [] }) o = tied_joined w o t id in_.absent in_.room in
-      subst (λ (n : ℕ). IsTied (record { memory = w.memory; most = w.most; participants = w.participants ++ beginner id (record { identity = id; walker = record { place = length w.participants }; walk = walk_over n; updates = 0; pending = Nothing; scan = scan_from (walk_over n) }) ∷ [] }) o) (sym t.segments) ready
-] refl
+  begin_follows : IsTied t (begun_unless (begin_refusal w id) w id (beginner_at t.place_of t.walker_from t.walk_from w id)) (observed o (Began id (done_unless (begin_refusal w id))))
+  begin_follows = elim (begin_refusal w id) as (λ r. begin_refusal w id ≡ r → IsTied t (begun_unless r w id (beginner_at t.place_of t.walker_from t.walk_from w id)) (observed o (Began id (done_unless r)))) [
+    | Some why ↦ λ _. i
+    | None ↦ λ e. begun_follows e
+  ] refl
 
-module _ (w : FixedState) (o : SnapObject) (t : IsTied w o) (id : ℕ) where
   -- who has nothing to do is asked for something
-  module _ (v : Participant FixedClient) (there : participant_of id w.participants ≡ Some v) (idle : is_idle v.program.pending ≡ true) where
-    idle_now : (o.task id ≡ Idle) × (v.program.updates ≡ number (t.past o.last v.program.walker.place))
-    idle_now =
-        let k = t.clients id v there in
-        let nothing = idle_is_nothing v.program.pending idle in
-        subst (λ (z : Pending). IsAtTask w.most o.last t.past o.moment t.place (o.task id) (o.steps id) (o.since id) v.program z) nothing k.at
+  module _ (v : Participant (Client U K)) (there : participant_of id w.participants ≡ Some v) (idle : is_idle v.program.pending ≡ true) where
+    idle_now : IsAtTask t (era_now t w o i) (o.task id) (o.steps id) (o.since id) v.program (t.place_of v.program.walker) Nothing
+    idle_now = subst (λ (z : Pending). IsAtTask t (era_now t w o i) (o.task id) (o.steps id) (o.since id) v.program (t.place_of v.program.walker) z) (idle_is_nothing v.program.pending idle) (i.clients id v there).at
 
-    asked_to_scan : IsTied (world_with w w.memory id (scanning v.program)) (with_task o id Scanning 0 0)
+    asked_to_scan : IsTied t (world_with w w.memory id (scanning v.program)) (with_task o id Scanning 0 0)
     asked_to_scan =
-        let k = t.clients id v there in
-        tied_with w o t id v there (scanning v.program) refl Scanning 0 0 (record {
+        let k = i.clients id v there in
+        tied_with t w o i id v there (scanning v.program) refl Scanning 0 0 (record {
           identity = k.identity;
           walk = k.walk;
-          own = k.own;
-          at = (refl, idle_now.1, inl (refl, ap scan_from k.walk));
+          at = elim (t.place_of v.program.walker) as (λ z. IsAtTask t (era_now t w o i) (o.task id) (o.steps id) (o.since id) v.program z Nothing → IsAtTask t (era_now t w o i) Scanning 0 0 (scanning v.program) z Scans) [
+            | None ↦ λ h. absurd h
+            | Some own ↦ λ h. (refl, h, inl (refl, ap scan_from k.walk))
+          ] idle_now;
         })
 
-    asked_to_update : (new_value : ℕ) → IsTied (world_with w w.memory id (updating v.program new_value)) (with_task o id (Updating new_value) 0 0)
+    asked_to_update : (new_value : ℕ) → IsTied t (world_with w w.memory id (updating v.program new_value)) (with_task o id (Updating new_value) 0 0)
     asked_to_update new_value =
-        let k = t.clients id v there in
-        tied_with w o t id v there (updating v.program new_value) refl (Updating new_value) 0 0 (record {
+        let k = i.clients id v there in
+        tied_with t w o i id v there (updating v.program new_value) refl (Updating new_value) 0 0 (record {
           identity = k.identity;
           walk = k.walk;
-          own = k.own;
-          at = (refl, ap (λ (n : ℕ). n + 1) idle_now.1, inl (refl, ap scan_from k.walk));
+          at = elim (t.place_of v.program.walker) as (λ z. IsAtTask t (era_now t w o i) (o.task id) (o.steps id) (o.since id) v.program z Nothing → IsAtTask t (era_now t w o i) (Updating new_value) 0 0 (updating v.program new_value) z (Update new_value)) [
+            | None ↦ λ h. absurd h
+            | Some own ↦ λ h. (refl, ap (λ (n : ℕ). n + 1) h, inl (refl, ap scan_from k.walk))
+          ] idle_now;
         })
 
-  scan_follows : IsTied (after_scan w id) (observed o (Scanned id (done_unless (scan_refusal w id))))
-  scan_follows = elim (participant_of id w.participants) as (λ z. participant_of id w.participants ≡ z → IsTied (asked w id scanning (option_map (λ u. u.program) z) (scan_refusal_by (option_map (λ u. u.program) z))) (observed o (Scanned id (done_unless (scan_refusal_by (option_map (λ u. u.program) z)))))) [
-    | None ↦ λ _. t
-    | Some v ↦ λ there. elim (is_idle v.program.pending) as (λ b. is_idle v.program.pending ≡ b → IsTied (asked w id scanning (Some v.program) (cond b None (Some AlreadyBegun))) (observed o (Scanned id (done_unless (cond b None (Some AlreadyBegun)))))) [
+  scan_follows : IsTied t (after_scan w id) (observed o (Scanned id (done_unless (scan_refusal w id))))
+  scan_follows = elim (participant_of id w.participants) as (λ z. participant_of id w.participants ≡ z → IsTied t (asked w id scanning (option_map (λ u. u.program) z) (scan_refusal_by (option_map (λ u. u.program) z))) (observed o (Scanned id (done_unless (scan_refusal_by (option_map (λ u. u.program) z)))))) [
+    | None ↦ λ _. i
+    | Some v ↦ λ there. elim (is_idle v.program.pending) as (λ b. is_idle v.program.pending ≡ b → IsTied t (asked w id scanning (Some v.program) (cond b None (Some AlreadyBegun))) (observed o (Scanned id (done_unless (cond b None (Some AlreadyBegun)))))) [
       | true ↦ λ idle. asked_to_scan v there idle
-      | false ↦ λ _. t
+      | false ↦ λ _. i
     ] refl
   ] refl
 
-  update_follows : (new_value : ℕ) → IsTied (after_update w id new_value) (observed o (Updated id new_value (done_unless (update_refusal w id))))
-  update_follows new_value = elim (participant_of id w.participants) as (λ z. participant_of id w.participants ≡ z → IsTied (asked w id (λ c. updating c new_value) (option_map (λ u. u.program) z) (update_refusal_by (option_map (λ u. u.program) z))) (observed o (Updated id new_value (done_unless (update_refusal_by (option_map (λ u. u.program) z)))))) [
-    | None ↦ λ _. t
-    | Some v ↦ λ there. elim (is_idle v.program.pending) as (λ b. is_idle v.program.pending ≡ b → IsTied (asked w id (λ c. updating c new_value) (Some v.program) (cond b (cond (nat_lt v.program.updates 1000000) None (Some Spent)) (Some AlreadyBegun))) (observed o (Updated id new_value (done_unless (cond b (cond (nat_lt v.program.updates 1000000) None (Some Spent)) (Some AlreadyBegun)))))) [
-      | true ↦ λ idle. elim (nat_lt v.program.updates 1000000) as (λ b. IsTied (asked w id (λ c. updating c new_value) (Some v.program) (cond b None (Some Spent))) (observed o (Updated id new_value (done_unless (cond b None (Some Spent)))))) [
+  update_follows : (new_value : ℕ) → IsTied t (after_update w id new_value) (observed o (Updated id new_value (done_unless (update_refusal w id))))
+  update_follows new_value = elim (participant_of id w.participants) as (λ z. participant_of id w.participants ≡ z → IsTied t (asked w id (λ c. updating c new_value) (option_map (λ u. u.program) z) (update_refusal_by (option_map (λ u. u.program) z))) (observed o (Updated id new_value (done_unless (update_refusal_by (option_map (λ u. u.program) z)))))) [
+    | None ↦ λ _. i
+    | Some v ↦ λ there. elim (is_idle v.program.pending) as (λ b. is_idle v.program.pending ≡ b → IsTied t (asked w id (λ c. updating c new_value) (Some v.program) (cond b (cond (nat_lt v.program.updates 1000000) None (Some Spent)) (Some AlreadyBegun))) (observed o (Updated id new_value (done_unless (cond b (cond (nat_lt v.program.updates 1000000) None (Some Spent)) (Some AlreadyBegun)))))) [
+      | true ↦ λ idle. elim (nat_lt v.program.updates 1000000) as (λ b. IsTied t (asked w id (λ c. updating c new_value) (Some v.program) (cond b None (Some Spent))) (observed o (Updated id new_value (done_unless (cond b None (Some Spent)))))) [
         | true ↦ asked_to_update v there idle new_value
-        | false ↦ t
+        | false ↦ i
       ]
-      | false ↦ λ _. t
+      | false ↦ λ _. i
     ] refl
   ] refl
 
-  -- what a step of p's program does to the world, and what it tells
-  abbrev Follows : Participant FixedClient → Pending → Type 0
-  Follows v z =
-      Allows w.most o (Stepped id (Ok (told (note_for walker_steps fixed_walks v.program z (answer_from (register_of w.memory) (access_for walker_steps fixed_place fixed_walks v.program z))))))
-      × IsTied (record {
-        memory = after_access w.memory (access_for walker_steps fixed_place fixed_walks v.program z);
-        most = w.most;
-        participants = with_participant (record {
-          identity = v.identity;
-          program = after_for walker_steps fixed_walks v.program z (answer_from (register_of w.memory) (access_for walker_steps fixed_place fixed_walks v.program z));
-          ended = ends (note_for walker_steps fixed_walks v.program z (answer_from (register_of w.memory) (access_for walker_steps fixed_place fixed_walks v.program z)));
-        }) w.participants;
-      }) (observed o (Stepped id (Ok (told (note_for walker_steps fixed_walks v.program z (answer_from (register_of w.memory) (access_for walker_steps fixed_place fixed_walks v.program z)))))))
+  module _ (scans : ℕ → ℕ) (fits : BoundsScans t.ties w.most scans) where
+    many : length w.participants ≤ t.most_of w.memory
+    many = (t.laws.few w.memory (length w.participants) (ways_of w.participants) i.consistent).0
 
-  module _ (v : Participant FixedClient) (there : participant_of id w.participants ≡ Some v) where
-    abbrev own : ℕ
-    own = v.program.walker.place
+    few : length w.participants ≤ 64
+    few = let k = (t.laws.few w.memory (length w.participants) (ways_of w.participants) i.consistent).1 in let m = many in omega arith
 
-    doing : IsDoing w.most o.last t.past o.moment t.place (o.task id) (o.steps id) (o.since id) id v.program
-    doing = t.clients id v there
+    whole : (length w.participants + 1) * t.ties.reads (t.most_of w.memory) (length w.participants) ≤ scans o.begun
+    whole = rw (i.counted, ← i.most) (fits (length w.participants) (let k = i.most in let m = many in omega arith))
 
-    outside : (x : ℕ) → w.most ≤ x → t.past o.last x ≡ None
-    outside x l = t.present x ∙ get_or-beyond w.memory x (let s = t.segments in omega arith)
+    -- what a step of p's program answers, and leaves
+    module _ (v : Participant (Client U K)) (there : participant_of id w.participants ≡ Some v) where
+      abbrev got : Pending → Answer V
+      got z = answer_from (t.memory.register w.memory) (access_for t.walker t.place_of t.walks v.program z)
 
-    -- a scan that was asked for is under way since its first step
-    under_way : IsScanning w.most o.last t.past t.place own (o.since id) (o.steps id) v.program.scan → GoesOn w.most o.last t.past t.place own (since_of o id) (o.steps id) v.program.scan
-    under_way (inl k) =
-        let none : (o.steps id == 0) ≡ true = rw k.0 refl in
-        rw (none, k.1, k.0) (record { most = refl; inside = (let i = doing.own in omega arith); collecting = collecting_new w.most o.last t.past t.place own t.small doing.own })
-    under_way (inr k) =
-        let some : (o.steps id == 0) ≡ false = (elim (eqb_tells (o.steps id) 0) [ inl e ↦ absurd (let z = e.1 in let l = k.0 in omega arith) | inr e ↦ e.0 ]) in
-        rw some k.1
+      abbrev Follows : Pending → Type 0
+      Follows z =
+          Allows (bounds_with t scans) o (Stepped id (Ok (told (note_for t.walker t.walks v.program z (got z)))))
+          × IsTied t (record {
+            memory = t.memory.after w.memory (access_for t.walker t.place_of t.walks v.program z);
+            most = w.most;
+            participants = with_participant (record {
+              identity = v.identity;
+              program = after_for t.walker t.walks v.program z (got z);
+              ended = ends (note_for t.walker t.walks v.program z (got z));
+            }) w.participants;
+          }) (observed o (Stepped id (Ok (told (note_for t.walker t.walks v.program z (got z))))))
 
-    abbrev got : Option Record
-    got = get_or w.memory v.program.scan.walk.at None
+      doing : IsDoing t (era_now t w o i) (o.task id) (o.steps id) (o.since id) id v.program
+      doing = i.clients id v there
 
-    -- the read and what comes of it
-    module _ (s : IsScanning w.most o.last t.past t.place own (o.since id) (o.steps id) v.program.scan) where
-      goes : GoesOn w.most o.last t.past t.place own (since_of o id) (o.steps id) v.program.scan
-      goes = under_way s
+      way : ways_of w.participants id ≡ Some v.program.walker
+      way = ap way_now there
 
-      outcome : Outcome w.most o.last t.past o.moment t.place own (since_of o id) (o.steps id + 1) (scan_after fixed_walks v.program.scan got v.program.walk) (scan_view fixed_walks v.program.scan got)
-      outcome = rw doing.walk (reads w.most o.last t.past o.moment t.place t.history outside own (since_of o id) (o.steps id + 1) v.program.scan goes.most goes.inside (o.steps id) refl goes.collecting got (sym (t.present v.program.scan.walk.at)))
+      -- p's program after a step, under its identity
+      own_name : v.identity ≡ id
+      own_name = (i.named id v there).0
 
-      bound : o.steps id + 1 ≤ w.most * (w.most + 1)
-      bound =
-          let b = steps_bound w.most o.last t.past o.moment t.place t.history outside own (since_of o id) (o.steps id) v.program.scan.walk.at v.program.scan.is_first v.program.scan.differs v.program.scan.sightings v.program.scan.view goes.collecting in
-          let i = goes.inside in
-          omega arith
+      -- the place of p is this
+      module _ (own : ℕ) (at : t.place_of v.program.walker ≡ Some own) where
+        mine : i.place id ≡ Some own
+        mine = i.placed id ∙ ap (place_by t.place_of) way ∙ at
 
-      still : (s' : Scan FixedWalk) → GoesOn w.most o.last t.past t.place own (since_of o id) (o.steps id + 1) s' → o.steps id + 1 < w.most * (w.most + 1)
-      still s' g =
-          let b = steps_bound w.most o.last t.past o.moment t.place t.history outside own (since_of o id) (o.steps id + 1) s'.walk.at s'.is_first s'.differs s'.sightings s'.view g.collecting in
-          let i = g.inside in
-          omega arith
+        -- a scan that was asked for is under way since its first step
+        under_way : IsScanning t (era_now t w o i) own (o.since id) (o.steps id) v.program.scan → GoesOn t w.memory (length w.participants) o.last i.past i.place i.who own (since_of o id) (o.steps id) v.program.scan
+        under_way (inl k) =
+            let none : (o.steps id == 0) ≡ true = rw k.0 refl in
+            rw (none, k.1, k.0) (record {
+              collects = 0;
+              reads = 0;
+              walk = begins t w.memory (ways_of w.participants) (length w.participants) o.last i.past o.moment i.place i.who i.consistent i.history (roll_now t w o i) i.present (reached_now t w o i) own o.last id mine;
+              count = omega arith;
+              collecting = collecting_new (length w.participants) o.last i.past i.place i.who own (t.ties.IsAhead w.memory (t.walk_from w.memory)) (t.ties.IsUpcoming (t.walk_from w.memory)) (starts_ahead t w.memory (ways_of w.participants) (length w.participants) o.last i.past o.moment i.place i.who i.consistent i.history (roll_now t w o i) i.present (reached_now t w o i));
+            })
+        under_way (inr k) =
+            let some : (o.steps id == 0) ≡ false = (elim (eqb_tells (o.steps id) 0) [ inl e ↦ absurd (let z = e.1 in let l = k.0 in omega arith) | inr e ↦ e.0 ]) in
+            rw some k.1
 
-      goes_further : (s' : Scan FixedWalk) → GoesOn w.most o.last t.past t.place own (since_of o id) (o.steps id + 1) s' → IsScanning w.most o.last t.past t.place own (since_of o id) (o.steps id + 1) s'
-      goes_further s' g = inr (omega arith, g)
+        abbrev value : V
+        value = value_for t.walks t.memory w.memory v.program.scan.walk
 
-      -- the view is of a moment after p's own last write
-      helps : (view : List (ℕ × ℕ)) → v.program.updates ≡ number (t.past o.last own) + 1 → Shown o.last (since_of o id) o.moment view → IsHelp o.last t.past o.moment own v.program.updates view
-      helps view up shown =
-          let kept = goes.collecting.own_kept in
-          let low = t.history.grows own (since_of o id) shown.0 shown.1 shown.2 in
-          let high = t.history.grows own shown.0 o.last shown.2 (omega arith) in
-          record { index = shown.0; inside = shown.2; count = omega arith; is = shown.3 }
+        -- the read and what comes of it
+        module _ (s : IsScanning t (era_now t w o i) own (o.since id) (o.steps id) v.program.scan) where
+          goes : GoesOn t w.memory (length w.participants) o.last i.past i.place i.who own (since_of o id) (o.steps id) v.program.scan
+          goes = under_way s
 
-    -- p's program after a step, under its identity
-    own_name : v.identity ≡ id
-    own_name = (t.named id v there).0
+          outcome : Outcome t w.memory (length w.participants) o.last i.past o.moment i.place i.who own (since_of o id) (o.steps id + 1) (scan_after t.walks v.program.scan value v.program.walk) (scan_view t.walks v.program.scan value)
+          outcome = rw doing.walk (reads t w.memory (ways_of w.participants) (length w.participants) o.last i.past o.moment i.place i.who i.consistent i.history (roll_now t w o i) i.present (reached_now t w o i) own (since_of o id) id mine v.program.scan goes.reads goes.collects (o.steps id) goes.walk goes.count few goes.collecting)
 
-    scan_step : v.program.pending ≡ Scans → Follows v Scans
-    scan_step pending =
-        let k : IsAtTask w.most o.last t.past o.moment t.place (o.task id) (o.steps id) (o.since id) v.program Scans = rw pending at doing.at in
-        let task = k.0 in
-        elim (scan_view fixed_walks v.program.scan got) as (λ s. Outcome w.most o.last t.past o.moment t.place own (since_of o id) (o.steps id + 1) (scan_after fixed_walks v.program.scan got v.program.walk) s →
-        Allows w.most o (Stepped id (Ok (told (note_after s None))))
-        × IsTied (record {
-          memory = w.memory;
-          most = w.most;
-          participants = with_participant (record {
-            identity = v.identity;
-            program = record v.program { scan = scan_after fixed_walks v.program.scan got v.program.walk; pending = pending_after s None v.program.pending };
-            ended = ends (note_after s None);
-          }) w.participants;
-        }) (observed o (Stepped id (Ok (told (note_after s None)))))) [
-          | None ↦ λ g. (
-            rw task (still k.2 (scan_after fixed_walks v.program.scan got v.program.walk) g),
-            rw (own_name, pending) (tied_with w o t id v there (record v.program { scan = scan_after fixed_walks v.program.scan got v.program.walk; pending = Scans }) refl (o.task id) (o.steps id + 1) (since_of o id) (record {
-              identity = doing.identity;
-              walk = doing.walk;
-              own = doing.own;
-              at = (task, k.1, goes_further k.2 (scan_after fixed_walks v.program.scan got v.program.walk) g);
-            })),
-          )
-          | Some view ↦ λ shown. (
-            (task, rw task (bound k.2), record { index = shown.0; no_earlier = shown.1; no_later = shown.2; is = shown.3 }),
-            rw own_name (tied_with w o t id v there (record v.program { scan = scan_after fixed_walks v.program.scan got v.program.walk; pending = Nothing }) refl Idle (o.steps id + 1) (since_of o id) (record {
-              identity = doing.identity;
-              walk = doing.walk;
-              own = doing.own;
-              at = (refl, k.1);
-            })),
-          )
-        ] (outcome k.2)
+          bound_after : (steps : ℕ) (s' : Scan K) → GoesOn t w.memory (length w.participants) o.last i.past i.place i.who own (since_of o id) steps s' → steps + 1 ≤ (length w.participants + 1) * t.ties.reads (t.most_of w.memory) (length w.participants)
+          bound_after = steps_bound t w.memory (ways_of w.participants) (length w.participants) o.last i.past o.moment i.place i.who i.consistent i.history (roll_now t w o i) i.present (reached_now t w o i) own (since_of o id) id mine
 
-    update_step : (new_value : ℕ) → v.program.pending ≡ Update new_value → Follows v (Update new_value)
-    update_step new_value pending =
-        let k : IsAtTask w.most o.last t.past o.moment t.place (o.task id) (o.steps id) (o.since id) v.program (Update new_value) = rw pending at doing.at in
-        let task = k.0 in
-        elim (scan_view fixed_walks v.program.scan got) as (λ s. Outcome w.most o.last t.past o.moment t.place own (since_of o id) (o.steps id + 1) (scan_after fixed_walks v.program.scan got v.program.walk) s →
-        Allows w.most o (Stepped id (Ok (told (note_after s (Some new_value)))))
-        × IsTied (record {
-          memory = w.memory;
-          most = w.most;
-          participants = with_participant (record {
-            identity = v.identity;
-            program = record v.program { scan = scan_after fixed_walks v.program.scan got v.program.walk; pending = pending_after s (Some new_value) v.program.pending };
-            ended = ends (note_after s (Some new_value));
-          }) w.participants;
-        }) (observed o (Stepped id (Ok (told (note_after s (Some new_value))))))) [
-          | None ↦ λ g. (
-            rw task (let b = bound k.2 in omega arith),
-            rw (own_name, pending) (tied_with w o t id v there (record v.program { scan = scan_after fixed_walks v.program.scan got v.program.walk; pending = Update new_value }) refl (o.task id) (o.steps id + 1) (since_of o id) (record {
-              identity = doing.identity;
-              walk = doing.walk;
-              own = doing.own;
-              at = (task, k.1, goes_further k.2 (scan_after fixed_walks v.program.scan got v.program.walk) g);
-            })),
-          )
-          | Some view ↦ λ shown. (
-            rw task (let b = bound k.2 in omega arith),
-            rw own_name (tied_with w o t id v there (record v.program { scan = scan_after fixed_walks v.program.scan got v.program.walk; pending = Writing new_value view }) refl (o.task id) (o.steps id + 1) (since_of o id) (record {
-              identity = doing.identity;
-              walk = doing.walk;
-              own = doing.own;
-              at = (task, k.1, helps k.2 view k.1 shown, bound k.2);
-            })),
-          )
-        ] (outcome k.2)
+          bound : o.steps id + 1 ≤ scans o.begun
+          bound = let k = bound_after (o.steps id) v.program.scan goes in let all = whole in omega arith
 
-    write_step : (new_value : ℕ) (view : List (ℕ × ℕ)) → v.program.pending ≡ Writing new_value view → Follows v (Writing new_value view)
-    write_step new_value view pending =
-        let k : IsAtTask w.most o.last t.past o.moment t.place (o.task id) (o.steps id) (o.since id) v.program (Writing new_value view) = rw pending at doing.at in
-        let task = k.0 in
-        let many = k.3 in
-        let written : IsTied (world_with w (set w.memory own (Some (record_of v.program new_value view))) id (with_pending v.program Nothing)) (with_moment (with_task o id Idle (o.steps id + 1) (since_of o id)) id (Some new_value)) =
-        tied_written w o t id v there (with_pending v.program Nothing) refl own refl (record_of v.program new_value view) doing.identity (sym k.1) k.2 doing.own (o.steps id + 1) (since_of o id) doing.identity doing.walk refl refl in
-        ((rw task tt, rw task (omega arith)), rw (own_name, task) written)
+          still : (s' : Scan K) → GoesOn t w.memory (length w.participants) o.last i.past i.place i.who own (since_of o id) (o.steps id + 1) s' → o.steps id + 1 < scans o.begun
+          still s' g = let k = bound_after (o.steps id + 1) s' g in let all = whole in omega arith
 
-    step_follows : (z : Pending) → v.program.pending ≡ z → is_idle z ≡ false → Follows v z
-    step_follows Nothing pending busy = absurd (cc)
-    step_follows Placing pending busy = let k : ⊥ = rw pending at doing.at in absurd k
-    step_follows Scans pending busy = scan_step pending
-    step_follows (Update new_value) pending busy = update_step new_value pending
-    step_follows (Writing new_value view) pending busy = write_step new_value view pending
+          goes_further : (s' : Scan K) → GoesOn t w.memory (length w.participants) o.last i.past i.place i.who own (since_of o id) (o.steps id + 1) s' → IsScanning t (era_now t w o i) own (since_of o id) (o.steps id + 1) s'
+          goes_further s' g = inr (omega arith, g)
 
-  abbrev answer : Result SnapReply Refusal
-  answer = snap_answer walker_steps fixed_place fixed_walks fixed_steps w id
+          -- the view is of a moment after p's own last write
+          helps : (view : List (ℕ × ℕ)) → v.program.updates ≡ number (i.past o.last own) + 1 → Shown o.last (since_of o id) o.moment view → IsHelp o.last i.past o.moment own v.program.updates view
+          helps view up shown =
+              let kept = goes.collecting.own_kept in
+              let low = i.history.grows own (since_of o id) shown.0 shown.1 shown.2 in
+              let high = i.history.grows own shown.0 o.last shown.2 (omega arith) in
+              record { index = shown.0; inside = shown.2; count = omega arith; is = shown.3 }
 
-  abbrev after : FixedState
-  after = after_snap_step walker_steps fixed_place fixed_walks fixed_steps w id
+        -- a read changes no memory
+        looked : (ps : List (Participant (Client U K))) (o' : SnapObject) → IsTied t (record { memory = w.memory; most = w.most; participants = ps }) o' → IsTied t (record { memory = t.memory.after w.memory (Read (t.walks.next v.program.scan.walk)); most = w.most; participants = ps }) o'
+        looked ps o' k = subst (λ (m : S). IsTied t (record { memory = m; most = w.most; participants = ps }) o') (sym (t.laws.looked w.memory (t.walks.next v.program.scan.walk))) k
 
-  by_answer : (reply : Result SnapReply Refusal) (w' : FixedState) → answer ≡ reply → after ≡ w' → Allows w.most o (Stepped id reply) × IsTied (cond (lacked_memory reply) w w') (observed o (Stepped id reply)) →
-      Allows w.most o (Stepped id answer) × IsTied (cond (lacked_memory answer) w after) (observed o (Stepped id answer))
-  by_answer reply w' ea eb k =
-      subst (λ (x : Result SnapReply Refusal). Allows w.most o (Stepped id x) × IsTied (cond (lacked_memory x) w after) (observed o (Stepped id x))) (sym ea)
-      (subst (λ (y : FixedState). Allows w.most o (Stepped id reply) × IsTied (cond (lacked_memory reply) w y) (observed o (Stepped id reply))) (sym eb) k)
+        scan_step : v.program.pending ≡ Scans → IsAtTask t (era_now t w o i) (o.task id) (o.steps id) (o.since id) v.program (Some own) Scans → Follows Scans
+        scan_step pending k =
+            let task = k.0 in
+            elim (scan_view t.walks v.program.scan value) as (λ s. Outcome t w.memory (length w.participants) o.last i.past o.moment i.place i.who own (since_of o id) (o.steps id + 1) (scan_after t.walks v.program.scan value v.program.walk) s →
+            Allows (bounds_with t scans) o (Stepped id (Ok (told (note_after s None))))
+            × IsTied t (record {
+              memory = t.memory.after w.memory (Read (t.walks.next v.program.scan.walk));
+              most = w.most;
+              participants = with_participant (record {
+                identity = v.identity;
+                program = record v.program { scan = scan_after t.walks v.program.scan value v.program.walk; pending = pending_after s None v.program.pending };
+                ended = ends (note_after s None);
+              }) w.participants;
+            }) (observed o (Stepped id (Ok (told (note_after s None)))))) [
+              | None ↦ λ g. (
+                rw task (still k.2 (scan_after t.walks v.program.scan value v.program.walk) g),
+                looked _ _ (rw (own_name, pending) (tied_with t w o i id v there (record v.program { scan = scan_after t.walks v.program.scan value v.program.walk; pending = Scans }) refl (o.task id) (o.steps id + 1) (since_of o id) (record {
+                  identity = doing.identity;
+                  walk = doing.walk;
+                  at = rw at (task, k.1, goes_further k.2 (scan_after t.walks v.program.scan value v.program.walk) g);
+                }))),
+              )
+              | Some view ↦ λ shown. (
+                (task, rw task (bound k.2), record { index = shown.0; no_earlier = shown.1; no_later = shown.2; is = shown.3 }),
+                looked _ _ (rw own_name (tied_with t w o i id v there (record v.program { scan = scan_after t.walks v.program.scan value v.program.walk; pending = Nothing }) refl Idle (o.steps id + 1) (since_of o id) (record {
+                  identity = doing.identity;
+                  walk = doing.walk;
+                  at = rw at k.1;
+                }))),
+              )
+            ] (outcome k.2)
 
-  pub stepped_follows : Allows w.most o (Stepped id answer) × IsTied (cond (lacked_memory answer) w after) (observed o (Stepped id answer))
-  stepped_follows = elim (participant_of id w.participants) as (λ z. participant_of id w.participants ≡ z → Allows w.most o (Stepped id answer) × IsTied (cond (lacked_memory answer) w after) (observed o (Stepped id answer))) [
-    | None ↦ λ e.
-        let none : None ≡ program_of id w.participants = sym (ap (option_map (λ u. u.program)) e) in
-        by_answer (Err NotBegun) w
-        (sym (absent_answer walker_steps fixed_place fixed_walks fixed_steps fixed_walker fixed_walk w id none))
-        (sym (absent_state walker_steps fixed_place fixed_walks fixed_steps fixed_walker fixed_walk w id none)) (tt, t)
-    | Some v ↦ λ e.
-        let some : Some v.program ≡ program_of id w.participants = sym (ap (option_map (λ u. u.program)) e) in
-        elim (bool_cases (is_idle v.program.pending)) [
-          | inl idle ↦ by_answer (Err Finished) w
-              (sym (idle_answer walker_steps fixed_place fixed_walks fixed_steps fixed_walker fixed_walk w id v.program some idle))
-              (sym (idle_state walker_steps fixed_place fixed_walks fixed_steps fixed_walker fixed_walk w id v.program some idle)) (tt, t)
-          | inr busy ↦
-              let on : v.ended ≡ false = (t.named id v e).1 in
-              let ea : answer ≡ Ok (told (note_for walker_steps fixed_walks v.program v.program.pending (answer_from (register_of w.memory) (access_for walker_steps fixed_place fixed_walks v.program v.program.pending)))) =
-              busy_answer walker_steps fixed_place fixed_walks fixed_steps fixed_walker fixed_walk w id v.program some busy ∙ ap (reply_of told) (going_answer (client_steps walker_steps fixed_place fixed_walks) fixed_steps w id v e on) in
-              let eb : after ≡ record {
-                memory = after_access w.memory (access_for walker_steps fixed_place fixed_walks v.program v.program.pending);
-                most = w.most;
-                participants = with_participant (record {
-                  identity = v.identity;
-                  program = after_for walker_steps fixed_walks v.program v.program.pending (answer_from (register_of w.memory) (access_for walker_steps fixed_place fixed_walks v.program v.program.pending));
-                  ended = ends (note_for walker_steps fixed_walks v.program v.program.pending (answer_from (register_of w.memory) (access_for walker_steps fixed_place fixed_walks v.program v.program.pending)));
-                }) w.participants;
-              } = busy_state walker_steps fixed_place fixed_walks fixed_steps fixed_walker fixed_walk w id v.program some busy ∙ going_after (client_steps walker_steps fixed_place fixed_walks) fixed_steps w id v e on in
-              by_answer _ _ ea eb (step_follows v e v.program.pending refl busy)
-        ]
-  ] refl
+        update_step : (new_value : ℕ) → v.program.pending ≡ Update new_value → IsAtTask t (era_now t w o i) (o.task id) (o.steps id) (o.since id) v.program (Some own) (Update new_value) → Follows (Update new_value)
+        update_step new_value pending k =
+            let task = k.0 in
+            elim (scan_view t.walks v.program.scan value) as (λ s. Outcome t w.memory (length w.participants) o.last i.past o.moment i.place i.who own (since_of o id) (o.steps id + 1) (scan_after t.walks v.program.scan value v.program.walk) s →
+            Allows (bounds_with t scans) o (Stepped id (Ok (told (note_after s (Some new_value)))))
+            × IsTied t (record {
+              memory = t.memory.after w.memory (Read (t.walks.next v.program.scan.walk));
+              most = w.most;
+              participants = with_participant (record {
+                identity = v.identity;
+                program = record v.program { scan = scan_after t.walks v.program.scan value v.program.walk; pending = pending_after s (Some new_value) v.program.pending };
+                ended = ends (note_after s (Some new_value));
+              }) w.participants;
+            }) (observed o (Stepped id (Ok (told (note_after s (Some new_value))))))) [
+              | None ↦ λ g. (
+                rw task (let b = bound k.2 in omega arith),
+                looked _ _ (rw (own_name, pending) (tied_with t w o i id v there (record v.program { scan = scan_after t.walks v.program.scan value v.program.walk; pending = Update new_value }) refl (o.task id) (o.steps id + 1) (since_of o id) (record {
+                  identity = doing.identity;
+                  walk = doing.walk;
+                  at = rw at (task, k.1, goes_further k.2 (scan_after t.walks v.program.scan value v.program.walk) g);
+                }))),
+              )
+              | Some view ↦ λ shown. (
+                rw task (let b = bound k.2 in omega arith),
+                looked _ _ (rw own_name (tied_with t w o i id v there (record v.program { scan = scan_after t.walks v.program.scan value v.program.walk; pending = Writing new_value view }) refl (o.task id) (o.steps id + 1) (since_of o id) (record {
+                  identity = doing.identity;
+                  walk = doing.walk;
+                  at = rw at (task, k.1, helps k.2 view k.1 shown, bound_after k.2 (o.steps id) v.program.scan (goes k.2));
+                }))),
+              )
+            ] (outcome k.2)
 
--- a call is one of the object, and the tie holds after it
-follows : (w : FixedState) (o : SnapObject) → IsTied w o → (h : SnapCall) → IsFixedReply w h → Allows w.most o h × IsTied (fixed_next w h) (observed o h)
-follows w o t (Began id reply) is = (tt, begin_follows w o t id)
-follows w o t (Updated id new_value reply) is = (tt, rw is (update_follows w o t id new_value))
-follows w o t (Scanned id reply) is = (tt, rw is (scan_follows w o t id))
-follows w o t (Stepped id reply) (inl is) = rw is (stepped_follows w o t id)
-follows w o t (Stepped id reply) (inr is) = rw is.0 (tt, t)
+        write_step : (new_value : ℕ) (view : List (ℕ × ℕ)) → v.program.pending ≡ Writing new_value view → IsAtTask t (era_now t w o i) (o.task id) (o.steps id) (o.since id) v.program (Some own) (Writing new_value view) → Follows (Writing new_value view)
+        write_step new_value view pending k =
+            let task = k.0 in
+            let few_steps = k.3 in
+            let all = whole in
+            rw at ((rw task tt, rw task (omega arith)), rw (own_name, task) (tied_written t w o i id v there (with_pending v.program Nothing) refl own at (record_of v.program new_value view) doing.identity (sym k.1) k.2 (o.steps id + 1) (since_of o id) doing.identity doing.walk refl refl))
 
--- what holds after every run
-record Holds (m : ℕ) (w : FixedState) (r : List SnapCall) : Type 0 where
-  object : SnapObject
-  run : Run observed (Allows m) new_object r object
-  tied : IsTied w object
-  most : w.most ≡ m
+      -- p is on its way
+      module _ (at : t.place_of v.program.walker ≡ None) (pending : v.program.pending ≡ Places) (k : IsAtTask t (era_now t w o i) (o.task id) (o.steps id) (o.since id) v.program None Places) where
+        abbrev u : U
+        u = v.program.walker
 
-holds_on : (m : ℕ) (w : FixedState) (r : List SnapCall) (h : SnapCall) → Holds m w r → IsFixedReply w h → Holds m (fixed_next w h) (r ++ h ∷ [])
-holds_on m w r h k is =
-    let f = follows w k.object k.tied h is in
-    record {
-      object = observed k.object h;
-      run = run_more observed (Allows m) new_object r k.object h k.run (subst (λ (n : ℕ). Allows n k.object h) k.most f.0);
-      tied = f.1;
-      most = most_kept walker_steps fixed_place fixed_walks fixed_steps fixed_walker fixed_walk w h ∙ k.most;
-    }
+        abbrev answer_now : Answer V
+        answer_now = answer_from (t.memory.register w.memory) (t.walker.next u)
 
-holds_after : (w : FixedState) (r : List SnapCall) → w.most ≤ 16 → IsAfter walker_steps fixed_place fixed_walks fixed_steps fixed_walker fixed_walk (replicate w.most None) w r → Holds w.most w r
-holds_after w r small a =
-    let start : Holds w.most (record { memory = replicate w.most None; most = w.most; participants = [] }) [] = record { object = new_object; run = refl; tied = tied_new w.most small; most = refl } in
-    run_keeps fixed_next IsFixedReply (Holds w.most) (holds_on w.most) (record { memory = replicate w.most None; most = w.most; participants = [] }) [] r w start a
+        abbrev later : S
+        later = t.memory.after w.memory (t.walker.next u)
 
--- the law, after every run from empty segments
-pub law_holds : (w : FixedState) (r : List SnapCall) → w.most ≤ 16 → IsAfter walker_steps fixed_place fixed_walks fixed_steps fixed_walker fixed_walk (replicate w.most None) w r → KeepsSnapshotLaw w.most r
-law_holds w r small a = let k = holds_after w r small a in (k.object, k.run)
+        absent_place : i.place id ≡ None
+        absent_place = i.placed id ∙ ap (place_by t.place_of) way ∙ at
 
-place_of_program : (w : FixedState) (o : SnapObject) (t : IsTied w o) (p : ℕ) (c : FixedClient) → program_of p w.participants ≡ Some c → t.place p ≡ Some c.walker.place
-place_of_program w o t p c h = elim (participant_of p w.participants) as (λ z. participant_of p w.participants ≡ z → option_map (λ u. u.program) z ≡ Some c → t.place p ≡ Some c.walker.place) [
-  | None ↦ λ e k. absurd (cc)
-  | Some v ↦ λ e k. let same : v.program ≡ c = cc in t.placed p ∙ ap place_now e ∙ ap (λ (b : FixedClient). Some b.walker.place) same
-] refl h
+        gone : HasGoneOn t.walker t.place_of t.walks t.memory t.most_of t.walk_from t.ties w.memory later (length w.participants) (ways_of w.participants) id u answer_now
+        gone = t.laws.gone_on w.memory (length w.participants) (ways_of w.participants) i.consistent id u way at
 
--- places are distinct
-pub places_distinct : (w : FixedState) (r : List SnapCall) → w.most ≤ 16 → IsAfter walker_steps fixed_place fixed_walks fixed_steps fixed_walker fixed_walk (replicate w.most None) w r →
-    (p q : ℕ) (c d : FixedClient) → program_of p w.participants ≡ Some c → program_of q w.participants ≡ Some d → c.walker.place ≡ d.walker.place → p ≡ q
-places_distinct w r small a p q c d here there same =
-    let k = holds_after w r small a in
-    k.tied.history.distinct p q d.walker.place (place_of_program w k.object k.tied p c here ∙ ap Some same) (place_of_program w k.object k.tied q d there)
+        up : length w.participants ≤ length w.participants
+        up = omega arith
 
-own_access_for : (c : FixedClient) (z : Pending) → IsOwnAccess c.walker.place (access_for walker_steps fixed_place fixed_walks c z)
-own_access_for c Nothing = tt
-own_access_for c Placing = tt
-own_access_for c Scans = tt
-own_access_for c (Update new_value) = tt
-own_access_for c (Writing new_value view) = refl
+        more : t.ties.reads (t.most_of w.memory) (length w.participants) ≤ t.ties.reads (t.most_of w.memory) (length w.participants)
+        more = omega arith
 
--- one access a step: a read, or a write of the own segment
-pub own_access : (c : FixedClient) → IsOwnAccess c.walker.place (next_access walker_steps fixed_place fixed_walks c)
-own_access c = own_access_for c c.pending
+        steps_before : o.steps id + 1 ≤ t.ties.accesses_of (t.walker.resumed u answer_now)
+        steps_before = let few_steps = k.2 in let on = gone.nearer in omega arith
 
--- no step wants memory
-pub memory_is_ample : (w : FixedState) (id : ℕ) → may_lack_memory walker_steps fixed_place fixed_walks fixed_steps w id ≡ false
-memory_is_ample w id = elim (participant_of id w.participants) as (λ z. may_refuse_by (client_steps walker_steps fixed_place fixed_walks) fixed_steps w.memory z ≡ false) [
-  | None ↦ refl
-  | Some v ↦ elim v.ended as (λ b. cond b false false ≡ false) [ true ↦ refl | false ↦ refl ]
-]
+        -- p after its access, with this still to do
+        abbrev walked : Pending → Client U K
+        walked z = record v.program { walker = t.walker.resumed u answer_now; pending = z }
+
+        abbrev era_walked : Era S
+        era_walked = record { memory = later; begun = length w.participants; last = o.last; past = i.past; moment = o.moment; place = set_at i.place id (t.place_of (t.walker.resumed u answer_now)); who = i.who }
+
+        went : (z : Pending) (o' : SnapObject) → o'.begun ≡ o.begun → o'.last ≡ o.last → o'.moment ≡ o.moment → ((q : ℕ) → q ≢ id → (o'.task q ≡ o.task q) × (o'.steps q ≡ o.steps q) × (o'.since q ≡ o.since q)) →
+            ((q x : ℕ) → o'.place q ≡ Some x → (o.place q ≡ Some x) ⊎ ((q ≡ id) × (t.place_of (t.walker.resumed u answer_now) ≡ Some x))) →
+            IsDoing t era_walked (o'.task id) (o'.steps id) (o'.since id) id (walked z) → IsTied t (world_with w later id (walked z)) o'
+        went z o' begun last moment others told_place does =
+            tied_joined t w o i id (walked z) later (length w.participants) i.who absent_place up more (λ j l. refl) (i.listed id u way) gone.consistent gone.segments gone.kept
+            (with_participant (record { identity = id; program = walked z; ended = false }) w.participants) (put_there w.participants id v (walked z) there)
+            (length-with_participant w.participants (record { identity = id; program = walked z; ended = false })) o' (begun ∙ i.counted) last moment others told_place does
+
+        nothing_stood : (x : ℕ) → t.place_of (t.walker.resumed u answer_now) ≡ Some x → i.past o.last x ≡ None
+        nothing_stood x e = nothing_yet t w o i id (walked Nothing) later (length w.participants) i.who absent_place up more (λ j l. refl) (i.listed id u way) gone.consistent gone.segments gone.kept x o.last e (omega arith)
+
+        -- no one has told the place that p has reached
+        is_free : (x : ℕ) → t.place_of (t.walker.resumed u answer_now) ≡ Some x → (q : ℕ) → o.place q ≢ Some x
+        is_free x e q h = free t w o i id (walked Nothing) later (length w.participants) i.who absent_place up more (λ j l. refl) (i.listed id u way) gone.consistent gone.segments gone.kept q x (i.told q x h) e
+
+        -- and p has told none
+        is_first : o.place id ≡ None
+        is_first = elim (o.place id) as (λ z. o.place id ≡ z → z ≡ None) [
+          | None ↦ λ _. refl
+          | Some x ↦ λ h. absurd (let two : None ≡ Some x = sym absent_place ∙ i.told id x h in cc)
+        ] refl
+
+        -- the way goes on
+        stays : t.place_of (t.walker.resumed u answer_now) ≡ None → (o.steps id + 1 < t.ties.placing o.begun) × IsTied t (world_with w later id (walked Places)) (observed o (Stepped id (Ok Silent)))
+        stays none =
+            let left = t.laws.unplaced later (length w.participants) (set_at (ways_of w.participants) id (Some (t.walker.resumed u answer_now))) gone.consistent id (t.walker.resumed u answer_now) (set_at-same (ways_of w.participants) id (Some (t.walker.resumed u answer_now))) none in
+            let before = steps_before in (
+              rw i.counted (omega arith),
+              went Places (observed o (Stepped id (Ok Silent))) refl refl refl
+                  (λ q n. (set_at-other o.task id (o.task id) q n, set_at-other o.steps id (o.steps id + 1) q n, set_at-other o.since id (since_of o id) q n))
+                  (λ q x h. inl h)
+                  (rw (set_at-same o.task id (o.task id), set_at-same o.steps id (o.steps id + 1), set_at-same o.since id (since_of o id)) (record {
+                    identity = doing.identity;
+                    walk = doing.walk ∙ sym gone.kept.beginning;
+                    at = rw none (k.0, k.1, before);
+                  })),
+            )
+
+        -- the way has reached a place
+        arrives : (x : ℕ) → t.place_of (t.walker.resumed u answer_now) ≡ Some x →
+            Allows (bounds_with t scans) o (Stepped id (Ok (Placed x))) × IsTied t (world_with w later id (walked Nothing)) (observed o (Stepped id (Ok (Placed x))))
+        arrives x e =
+            let left = t.laws.unplaced w.memory (length w.participants) (ways_of w.participants) i.consistent id u way at in
+            let few_steps = k.2 in
+            let task = k.0 in (
+              (task, rw (task, i.counted) (omega arith), record { first = is_first; free = is_free x e }),
+              went Nothing (observed o (Stepped id (Ok (Placed x)))) refl refl refl
+                  (λ q n. (set_at-other o.task id Idle q n, set_at-other o.steps id (o.steps id + 1) q n, set_at-other o.since id (since_of o id) q n))
+                  (λ q y h. elim (eqb_tells q id) [
+                    | inl g ↦ inr (g.1, let two : Some x ≡ Some y = rw g.0 at h in e ∙ two)
+                    | inr g ↦ inl (rw g.0 at h)
+                  ])
+                  (rw (set_at-same o.task id Idle, set_at-same o.steps id (o.steps id + 1), set_at-same o.since id (since_of o id)) (record {
+                    identity = doing.identity;
+                    walk = doing.walk ∙ sym gone.kept.beginning;
+                    at = rw e (k.1 ∙ sym (ap number (nothing_stood x e)));
+                  })),
+            )
+
+        -- without the note that it has ended, a way has no place
+        no_place : (n : Note ℕ) → t.walker.note u answer_now ≡ n → ((x : ℕ) → n ≢ Ended x) → t.place_of (t.walker.resumed u answer_now) ≡ None
+        no_place n e never = elim (t.place_of (t.walker.resumed u answer_now)) as (λ z. t.place_of (t.walker.resumed u answer_now) ≡ z → z ≡ None) [
+          | None ↦ λ _. refl
+          | Some x ↦ λ h. absurd (never x (sym e ∙ (gone.ended x).1 h))
+        ] refl
+
+        place_by_note : (n : Note ℕ) → t.walker.note u answer_now ≡ n →
+            Allows (bounds_with t scans) o (Stepped id (Ok (told (placed_note t.walker n))))
+            × IsTied t (record {
+              memory = later;
+              most = w.most;
+              participants = with_participant (record {
+                identity = v.identity;
+                program = walked (cond (is_placed t.walker n) Nothing v.program.pending);
+                ended = ends (placed_note t.walker n);
+              }) w.participants;
+            }) (observed o (Stepped id (Ok (told (placed_note t.walker n)))))
+        place_by_note Quiet e = let s = stays (no_place Quiet e (λ x h. absurd (cc))) in (rw k.0 s.0, rw (own_name, pending) s.1)
+        place_by_note (Said y) e = let s = stays (no_place (Said y) e (λ x h. absurd (cc))) in (rw k.0 s.0, rw (own_name, pending) s.1)
+        place_by_note (Ended x) e = let s = arrives x ((gone.ended x).0 e) in (s.0, rw own_name s.1)
+
+        place_step : Follows Places
+        place_step = place_by_note (t.walker.note u answer_now) refl
+
+      step_by : (at : Option ℕ) → t.place_of v.program.walker ≡ at → (z : Pending) → v.program.pending ≡ z → is_idle z ≡ false → IsAtTask t (era_now t w o i) (o.task id) (o.steps id) (o.since id) v.program at z → Follows z
+      step_by None at Nothing pending busy k = absurd k
+      step_by None at Places pending busy k = place_step at pending k
+      step_by None at Scans pending busy k = absurd k
+      step_by None at (Update new_value) pending busy k = absurd k
+      step_by None at (Writing new_value view) pending busy k = absurd k
+      step_by (Some own) at Nothing pending busy k = absurd (cc)
+      step_by (Some own) at Places pending busy k = absurd k
+      step_by (Some own) at Scans pending busy k = scan_step own at pending k
+      step_by (Some own) at (Update new_value) pending busy k = update_step own at new_value pending k
+      step_by (Some own) at (Writing new_value view) pending busy k = write_step own at new_value view pending k
+
+      step_follows : (z : Pending) → v.program.pending ≡ z → is_idle z ≡ false → Follows z
+      step_follows z pending busy = step_by (t.place_of v.program.walker) refl z pending busy (rw pending at doing.at)
+
+    abbrev answer : Result SnapReply Refusal
+    answer = snap_answer t.walker t.place_of t.walks t.memory w id
+
+    abbrev after : SnapState S U K
+    after = after_snap_step t.walker t.place_of t.walks t.memory w id
+
+    by_answer : (reply : Result SnapReply Refusal) (w' : SnapState S U K) → answer ≡ reply → after ≡ w' → Allows (bounds_with t scans) o (Stepped id reply) × IsTied t (cond (lacked_memory reply) w w') (observed o (Stepped id reply)) →
+        Allows (bounds_with t scans) o (Stepped id answer) × IsTied t (cond (lacked_memory answer) w after) (observed o (Stepped id answer))
+    by_answer reply w' ea eb k =
+        subst (λ (x : Result SnapReply Refusal). Allows (bounds_with t scans) o (Stepped id x) × IsTied t (cond (lacked_memory x) w after) (observed o (Stepped id x))) (sym ea)
+        (subst (λ (y : SnapState S U K). Allows (bounds_with t scans) o (Stepped id reply) × IsTied t (cond (lacked_memory reply) w y) (observed o (Stepped id reply))) (sym eb) k)
+
+    pub stepped_follows : Allows (bounds_with t scans) o (Stepped id answer) × IsTied t (cond (lacked_memory answer) w after) (observed o (Stepped id answer))
+    stepped_follows = elim (participant_of id w.participants) as (λ z. participant_of id w.participants ≡ z → Allows (bounds_with t scans) o (Stepped id answer) × IsTied t (cond (lacked_memory answer) w after) (observed o (Stepped id answer))) [
+      | None ↦ λ e.
+          let none : None ≡ program_of id w.participants = sym (ap (option_map (λ u. u.program)) e) in
+          by_answer (Err NotBegun) w
+          (sym (absent_answer t.walker t.place_of t.walks t.memory t.walker_from t.walk_from w id none))
+          (sym (absent_state t.walker t.place_of t.walks t.memory t.walker_from t.walk_from w id none)) (tt, i)
+      | Some v ↦ λ e.
+          let some : Some v.program ≡ program_of id w.participants = sym (ap (option_map (λ u. u.program)) e) in
+          elim (cases_Bool (is_idle v.program.pending)) [
+            | inl idle ↦ by_answer (Err Finished) w
+                (sym (idle_answer t.walker t.place_of t.walks t.memory t.walker_from t.walk_from w id v.program some idle))
+                (sym (idle_state t.walker t.place_of t.walks t.memory t.walker_from t.walk_from w id v.program some idle)) (tt, i)
+            | inr busy ↦
+                let on : v.ended ≡ false = (i.named id v e).1 in
+                let ea : answer ≡ Ok (told (note_for t.walker t.walks v.program v.program.pending (got v e v.program.pending))) =
+                busy_answer t.walker t.place_of t.walks t.memory t.walker_from t.walk_from w id v.program some busy ∙ ap (reply_of told) (going_answer (client_steps t.walker t.place_of t.walks) t.memory w id v e on) in
+                let eb : after ≡ record {
+                  memory = t.memory.after w.memory (access_for t.walker t.place_of t.walks v.program v.program.pending);
+                  most = w.most;
+                  participants = with_participant (record {
+                    identity = v.identity;
+                    program = after_for t.walker t.walks v.program v.program.pending (got v e v.program.pending);
+                    ended = ends (note_for t.walker t.walks v.program v.program.pending (got v e v.program.pending));
+                  }) w.participants;
+                } = busy_state t.walker t.place_of t.walks t.memory t.walker_from t.walk_from w id v.program some busy ∙ going_after (client_steps t.walker t.place_of t.walks) t.memory w id v e on in
+                by_answer _ _ ea eb (step_follows v e v.program.pending refl busy)
+          ]
+    ] refl
+
+module _ {S R V U K : Type 0} (t : KnownPlaces S R V U K) (scans : ℕ → ℕ) where
+  -- the machine over these places
+  abbrev pub next_of : SnapState S U K → SnapCall → SnapState S U K
+  next_of = next t.walker t.place_of t.walks t.memory t.walker_from t.walk_from
+
+  abbrev pub IsReplyOf : SnapState S U K → SnapCall → Type 0
+  IsReplyOf = IsReply t.walker t.place_of t.walks t.memory t.walker_from t.walk_from
+
+  -- a call is one of the object, and the tie holds after it
+  follows : (w : SnapState S U K) (o : SnapObject) → IsTied t w o → BoundsScans t.ties w.most scans → (h : SnapCall) → IsReplyOf w h → Allows (bounds_with t scans) o h × IsTied t (next_of w h) (observed o h)
+  follows w o i fits (Began id reply) is = (tt, rw is (begin_follows t w o i id))
+  follows w o i fits (Updated id new_value reply) is = (tt, rw is (update_follows t w o i id new_value))
+  follows w o i fits (Scanned id reply) is = (tt, rw is (scan_follows t w o i id))
+  follows w o i fits (Stepped id reply) (inl is) = rw is (stepped_follows t w o i id scans fits)
+  follows w o i fits (Stepped id reply) (inr is) = rw is.0 (tt, i)
+
+  -- who has told its place keeps it
+  place_stays : (o : SnapObject) (h : SnapCall) (p x : ℕ) → Allows (bounds_with t scans) o h → o.place p ≡ Some x → (observed o h).place p ≡ Some x
+  place_stays o (Began q (Ok done)) p x k e = e
+  place_stays o (Began q (Err why)) p x k e = e
+  place_stays o (Updated q new_value (Ok done)) p x k e = e
+  place_stays o (Updated q new_value (Err why)) p x k e = e
+  place_stays o (Scanned q (Ok done)) p x k e = e
+  place_stays o (Scanned q (Err why)) p x k e = e
+  place_stays o (Stepped q (Ok Silent)) p x k e = e
+  place_stays o (Stepped q (Ok (Placed y))) p x k e = elim (eqb_tells p q) [
+    | inl u ↦ absurd (let two : None ≡ Some x = sym k.2.first ∙ ap o.place (sym u.1) ∙ e in cc)
+    | inr u ↦ rw u.0 e
+  ]
+  place_stays o (Stepped q (Ok Written)) p x k e = e
+  place_stays o (Stepped q (Ok (Viewed view))) p x k e = e
+  place_stays o (Stepped q (Err why)) p x k e = e
+
+  -- a call that is all of a list
+  only_call : (h g : SnapCall) → Contains (h ∷ []) g → h ≡ g
+  only_call h g (zero, l, e) = e
+  only_call h g (suc n, l, e) = absurd (omega arith)
+
+  told_now : (o : SnapObject) (h : SnapCall) (p x : ℕ) → h ≡ Stepped p (Ok (Placed x)) → (observed o h).place p ≡ Some x
+  told_now o h p x e = rw e (set_at-same o.place p (Some x))
+
+  -- what holds after every run
+  pub record Holds (most : ℕ) (w : SnapState S U K) (r : List SnapCall) : Type 0 where
+    pub object : SnapObject
+    pub run : Run observed (Allows (bounds_with t scans)) new_object r object
+    pub tied : IsTied t w object
+    pub same_most : w.most ≡ most
+    pub answered : (p x : ℕ) → Contains r (Stepped p (Ok (Placed x))) → object.place p ≡ Some x
+
+  holds_on : (most : ℕ) → BoundsScans t.ties most scans → (w : SnapState S U K) (r : List SnapCall) (h : SnapCall) → Holds most w r → IsReplyOf w h → Holds most (next_of w h) (r ++ h ∷ [])
+  holds_on most fits w r h k is =
+      let f = follows w k.object k.tied (rw k.same_most fits) h is in
+      record {
+        object = observed k.object h;
+        run = run_more observed (Allows (bounds_with t scans)) new_object r k.object h k.run f.0;
+        tied = f.1;
+        same_most = most_kept t.walker t.place_of t.walks t.memory t.walker_from t.walk_from w h ∙ k.same_most;
+        answered = λ p x c. elim (Contains-append_cases r (h ∷ []) (Stepped p (Ok (Placed x))) c) [
+          | inl old ↦ place_stays k.object h p x f.0 (k.answered p x old)
+          | inr now ↦ told_now k.object h p x (only_call h (Stepped p (Ok (Placed x))) now)
+        ];
+      }
+
+  pub holds_after : (first : S) → t.ties.IsNew first → BoundsScans t.ties (t.most_of first) scans → (w : SnapState S U K) (r : List SnapCall) → IsAfter t.walker t.place_of t.walks t.memory t.walker_from t.walk_from t.most_of first w r → Holds (t.most_of first) w r
+  holds_after first new fits w r a =
+      let start : Holds (t.most_of first) (record { memory = first; most = t.most_of first; participants = [] }) [] = record { object = new_object; run = refl; tied = tied_new t first new; same_most = refl; answered = λ p x c. absurd (let l = c.1 in omega arith) } in
+      run_keeps next_of IsReplyOf (Holds (t.most_of first)) (holds_on (t.most_of first) fits) (record { memory = first; most = t.most_of first; participants = [] }) [] r w start a
+
+  -- the place of a participant is that of its way
+  place_is : (w : SnapState S U K) (o : SnapObject) (i : IsTied t w o) (p : ℕ) → place_in t.place_of w p ≡ i.place p
+  place_is w o i p = elim (participant_of p w.participants) as (λ z. option_and_then (λ c. t.place_of c.walker) (option_map (λ v. v.program) z) ≡ place_by t.place_of (way_now z)) [ None ↦ refl | Some v ↦ refl ] ∙ sym (i.placed p)
+
+-- the laws of a snapshot object over any places in which nothing was written at first
+module _ {S R V U K : Type 0} (walker : ProgramSteps U R V ℕ) (place_of : U → Option ℕ) (walks : WalkSteps K R V) (memory : MemorySteps S R V) (walker_from : ℕ → ℕ → U) (walk_from : S → K) (most_of : S → ℕ) (ties : PlaceTies S U K) (laws : PlacesLaws walker place_of walks memory most_of walker_from walk_from ties) where
+  abbrev known : KnownPlaces S R V U K
+  known = record { walker = walker; place_of = place_of; walks = walks; memory = memory; most_of = most_of; walker_from = walker_from; walk_from = walk_from; ties = ties; laws = laws }
+
+  abbrev all_reads : S → ℕ → ℕ
+  all_reads first b = (b + 1) * ties.reads (most_of first) b
+
+  pub law_holds : (w : SnapState S U K) (first : S) (r : List SnapCall) (scans : ℕ → ℕ) → ties.IsNew first → BoundsScans ties (most_of first) scans → IsAfter walker place_of walks memory walker_from walk_from most_of first w r → KeepsSnapshotLaw (record { placing = ties.placing; scanning = scans }) r
+  law_holds w first r scans new fits a = let k = holds_after known scans first new fits w r a in (k.object, k.run)
+
+  pub distinct_holds : (w : SnapState S U K) (id : ℕ) (first : S) (r : List SnapCall) → ties.IsNew first → IsAfter walker place_of walks memory walker_from walk_from most_of first w r → (x : ℕ) → place_in place_of w id ≡ Some x → (other : ℕ) → place_in place_of w other ≡ Some x → other ≡ id
+  distinct_holds w id first r new a x mine other theirs =
+      let k = holds_after known (all_reads first) first new (λ b l. omega arith) w r a in
+      k.tied.history.distinct other id x (sym (place_is known (all_reads first) w k.object k.tied other) ∙ theirs) (sym (place_is known (all_reads first) w k.object k.tied id) ∙ mine)
+
+  pub told_holds : (w : SnapState S U K) (id : ℕ) (first : S) (r : List SnapCall) → ties.IsNew first → IsAfter walker place_of walks memory walker_from walk_from most_of first w r → (x : ℕ) → Contains r (Stepped id (Ok (Placed x))) → place_in place_of w id ≡ Some x
+  told_holds w id first r new a x c =
+      let k = holds_after known (all_reads first) first new (λ b l. omega arith) w r a in
+      place_is known (all_reads first) w k.object k.tied id ∙ k.tied.told id x (k.answered id x c)

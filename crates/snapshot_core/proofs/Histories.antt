@@ -3,7 +3,7 @@ use Rattle.std.proofs.Common.{◌≡◌, ◌≢◌, ℕ, ◌+◌, ◌≤◌, Lis
 use Rattle.std.proofs.lemmas.Bool.Decides.{eqb_tells}
 use Rattle.step_memory.specs.SetAt.{set_at}
 use Rattle.step_memory.proofs.SetAtLemmas.{set_at-same, set_at-other}
-use Rattle.snapshot_core.specs.declared.record.Record.{Record}
+use Rattle.step_memory.specs.declared.record.Record.{Record}
 use Rattle.snapshot_core.specs.Snapshot.{IsMoment}
 
 -- how often a segment that holds this was written
@@ -190,3 +190,49 @@ module _ (last : ℕ) (past : ℕ → ℕ → Option Record) (moment : ℕ → �
   -- the history goes on
   pub history_more : IsHistory (last + 1) past' moment' place
   history_more = record { grows = grows'; same = same'; helps = helps'; owned = owned'; shows = shows'; distinct = h.distinct }
+
+-- p has reached a place that no one has, or none yet
+module _ (last : ℕ) (past : ℕ → ℕ → Option Record) (moment : ℕ → ℕ → Option ℕ) (place : ℕ → Option ℕ) (h : IsHistory last past moment place) (p : ℕ) (new : Option ℕ) (absent : place p ≡ None) (free : (q x : ℕ) → place q ≡ Some x → new ≡ Some x → ⊥) where
+  -- nothing stood there
+  pub nothing_there : (x i : ℕ) → new ≡ Some x → i ≤ last → past i x ≡ None
+  nothing_there x i e l = elim (past i x) as (λ o. past i x ≡ o → o ≡ None) [
+    | None ↦ λ _. refl
+    | Some r ↦ λ k. absurd (free r.identity x (h.owned x i r l k) e)
+  ] refl
+
+  place_other : (q : ℕ) → q ≢ p → set_at place p new q ≡ place q
+  place_other q n = set_at-other place p new q n
+
+  value_same : (i q : ℕ) → i ≤ last → value_in (past i) (place q) ≡ value_in (past i) (set_at place p new q)
+  value_same i q l = elim (eqb_tells q p) [
+    | inl e ↦ rw e.0 (ap (value_in (past i)) (ap place e.1 ∙ absent) ∙ elim new as (λ o. new ≡ o → None ≡ value_in (past i) o) [ None ↦ λ _. refl | Some x ↦ λ k. sym (ap value (nothing_there x i k l)) ] refl)
+    | inr e ↦ rw e.0 refl
+  ]
+
+  place_kept : (q x : ℕ) → place q ≡ Some x → set_at place p new q ≡ Some x
+  place_kept q x e = elim (eqb_tells q p) [
+    | inl u ↦ absurd (let k : None ≡ Some x = sym absent ∙ ap place (sym u.1) ∙ e in cc)
+    | inr u ↦ rw u.0 e
+  ]
+
+  distinct_joined : (q u x : ℕ) → set_at place p new q ≡ Some x → set_at place p new u ≡ Some x → q ≡ u
+  distinct_joined q u x e g = elim (eqb_tells q p) [
+    | inl a ↦ elim (eqb_tells u p) [
+      | inl k ↦ a.1 ∙ sym k.1
+      | inr k ↦ absurd (free u x (rw k.0 at g) (rw a.0 at e))
+    ]
+    | inr a ↦ elim (eqb_tells u p) [
+      | inl k ↦ absurd (free q x (rw a.0 at e) (rw k.0 at g))
+      | inr k ↦ h.distinct q u x (rw a.0 at e) (rw k.0 at g)
+    ]
+  ]
+
+  pub history_joined : IsHistory last past moment (set_at place p new)
+  history_joined = record {
+    grows = h.grows;
+    same = h.same;
+    helps = h.helps;
+    owned = λ x i r k e. place_kept r.identity x (h.owned x i r k e);
+    shows = λ i q k. h.shows i q k ∙ value_same i q k;
+    distinct = distinct_joined;
+  }

@@ -1,9 +1,11 @@
-pub mod ViewLemmas
 pub mod SightingLemmas
 pub mod SnapWorldLemmas
 pub mod Counting
 pub mod Histories
 pub mod Collecting
+pub mod KnownPlaces
 pub mod Reading
 pub mod Tied
+pub mod Going
 pub mod Following
+pub mod FixedLaw

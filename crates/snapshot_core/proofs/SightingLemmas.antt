@@ -132,6 +132,9 @@ length-with-unknown new (s ∷ ss) h = elim (eqb_tells s.place new.place) [
   | inr e ↦ let rest : is_known ss new.place ≡ false = sym (known_there (index_of new.place ss)) ∙ (rw e.0 at h) in rw e.0 (let i = length-with-unknown new ss rest in omega arith)
 ]
 
+pub noted-known : (new : Sighting) (ss : List Sighting) → is_known ss new.place ≡ true → noted new ss ≡ with_sighting new ss
+noted-known new ss h = rw h refl
+
 pub noted-room : (new : Sighting) (ss : List Sighting) → length ss < 64 → noted new ss ≡ with_sighting new ss
 noted-room new ss l =
     let room : nat_lt (length ss) 64 ≡ true = grind arith in

@@ -8,6 +8,8 @@ use Rattle.step_memory.specs.Participant.{participant_of, program_of, with_parti
 use Rattle.step_memory.specs.Steps.{ProgramSteps, MemorySteps}
 use Rattle.step_memory.specs.World.{begin_refusal, begun_unless, done_unless, set_answer, set_answer_by, after_set, step_answer, step_answer_by, after_step, after_step_by, got_by}
 use Rattle.step_memory.specs.Calls.{lacked_memory, reply_of}
+use Rattle.std.proofs.lemmas.Bool.{lt-ltb, le-ltb}
+use Rattle.step_memory.proofs.StepLemmas.{most_stepped, lacks_none, lacks_or_not}
 use Rattle.step_memory.proofs.RunLemmas.{run_more}
 use Rattle.snapshot_core.specs.declared.client.Client.{Client}
 use Rattle.snapshot_core.specs.declared.client.SnapReply.{SnapReply}
@@ -16,30 +18,6 @@ use Rattle.snapshot_core.specs.Client.{is_idle, scanning, updating, client_steps
 use Rattle.snapshot_core.specs.SnapWorld.{SnapState, beginner_at, scan_refusal, update_refusal, asked, after_scan, after_update, told, snap_answer, snap_answer_by, after_snap_step, after_snap_by, may_lack_memory}
 use Rattle.snapshot_core.specs.SnapCalls.{SnapCall, next, IsReply, IsAfter}
 use Rattle.snapshot_core.specs.SnapCalls.SnapCall.{Began, Updated, Scanned, Stepped}
-
-ltb_true : (a b : ℕ) → a < b → nat_lt a b ≡ true
-ltb_true a b h = grind (arith, nat_tests)
-
-ltb_false : (a b : ℕ) → b ≤ a → nat_lt a b ≡ false
-ltb_false a b h = grind (arith, nat_tests)
-
--- a reply is the refusal of a growth, or it is not
-lacks : {X : Type 0} (reply : Result X Refusal) → (reply ≡ Err NoMemory) ⊎ (reply ≢ Err NoMemory)
-lacks (Ok x) = inr (λ h. absurd (cc))
-lacks (Err NoMemory) = inl refl
-lacks (Err ZeroIdentity) = inr (λ h. absurd (cc))
-lacks (Err AlreadyBegun) = inr (λ h. absurd (cc))
-lacks (Err Full) = inr (λ h. absurd (cc))
-lacks (Err NotBegun) = inr (λ h. absurd (cc))
-lacks (Err Finished) = inr (λ h. absurd (cc))
-lacks (Err Spent) = inr (λ h. absurd (cc))
-lacks (Err Crowded) = inr (λ h. absurd (cc))
-lacks (Err NotCompeting) = inr (λ h. absurd (cc))
-lacks (Err AlreadyCompeting) = inr (λ h. absurd (cc))
-lacks (Err Holding) = inr (λ h. absurd (cc))
-lacks (Err NotHolding) = inr (λ h. absurd (cc))
-lacks (Err HistoryFull) = inr (λ h. absurd (cc))
-lacks (Err OutOfRange) = inr (λ h. absurd (cc))
 
 -- what a call answers and leaves, where it is refused for this reason or for none
 pub record Goes {S U K : Type 0} (w : SnapState S U K) (refusal : Option Refusal) (after : SnapState S U K) (why : Option Refusal) (new : SnapState S U K) : Type 0 where
@@ -63,10 +41,10 @@ module _ {S U K : Type 0} (w : SnapState S U K) (id : ℕ) where
   update_busy value c h busy = let e = sym h in record { answer = rw (e, busy) refl; state = rw (e, busy) refl }
 
   pub update_spent : (value : ℕ) (c : Client U K) → Some c ≡ program_of id w.participants → is_idle c.pending ≡ true → 1000000 ≤ c.updates → Goes w (update_refusal w id) (after_update w id value) (Some Spent) w
-  update_spent value c h idle many = let e = sym h in let spent = ltb_false c.updates 1000000 many in record { answer = rw (e, idle, spent) refl; state = rw (e, idle, spent) refl }
+  update_spent value c h idle many = let e = sym h in let spent = le-ltb c.updates 1000000 many in record { answer = rw (e, idle, spent) refl; state = rw (e, idle, spent) refl }
 
   pub update_goes : (value : ℕ) (c : Client U K) → Some c ≡ program_of id w.participants → is_idle c.pending ≡ true → c.updates < 1000000 → Goes w (update_refusal w id) (after_update w id value) None (after_set w id (updating c value))
-  update_goes value c h idle few = let e = sym h in let fresh = ltb_true c.updates 1000000 few in record { answer = rw (e, idle, fresh) refl; state = rw (e, idle, fresh) refl }
+  update_goes value c h idle few = let e = sym h in let fresh = lt-ltb c.updates 1000000 few in record { answer = rw (e, idle, fresh) refl; state = rw (e, idle, fresh) refl }
 
   -- who has begun is set
   pub set_goes : (c : Client U K) → Some c ≡ program_of id w.participants → set_answer w id ≡ Ok tt
@@ -80,14 +58,9 @@ module _ {S R V U K : Type 0} (walker : ProgramSteps U R V ℕ) (place_of : U �
   most_asked w id asking (Some c) None = refl
   most_asked w id asking (Some c) (Some why) = refl
 
-  most_stepped : (w : SnapState S U K) (id : ℕ) → (after_step (client_steps walker place_of walks) memory w id).most ≡ w.most
-  most_stepped w id =
-      elim (participant_of id w.participants) as (λ o. (after_step_by (client_steps walker place_of walks) memory w o).most ≡ w.most)
-      [ None ↦ refl | Some v ↦ elim v.ended as (λ b. (cond b w (record { memory = memory.after w.memory ((client_steps walker place_of walks).next v.program); most = w.most; participants = with_participant (resumed (client_steps walker place_of walks) v (got_by (client_steps walker place_of walks) memory w.memory v)) w.participants })).most ≡ w.most) [ true ↦ refl | false ↦ refl ] ]
-
   most_snap : (w : SnapState S U K) (id : ℕ) (o : Option (Client U K)) → (after_snap_by walker place_of walks memory w id o).most ≡ w.most
   most_snap w id None = refl
-  most_snap w id (Some c) = elim (is_idle c.pending) as (λ b. (cond b w (after_step (client_steps walker place_of walks) memory w id)).most ≡ w.most) [ true ↦ refl | false ↦ most_stepped w id ]
+  most_snap w id (Some c) = elim (is_idle c.pending) as (λ b. (cond b w (after_step (client_steps walker place_of walks) memory w id)).most ≡ w.most) [ true ↦ refl | false ↦ most_stepped (client_steps walker place_of walks) memory w id ]
 
   pub most_kept : (w : SnapState S U K) (h : SnapCall) → (next walker place_of walks memory walker_from walk_from w h).most ≡ w.most
   most_kept w (Began id reply) = elim (begin_refusal w id) as (λ o. (begun_unless o w id (beginner_at place_of walker_from walk_from w id)).most ≡ w.most) [ None ↦ refl | Some why ↦ refl ]
@@ -96,38 +69,33 @@ module _ {S R V U K : Type 0} (walker : ProgramSteps U R V ℕ) (place_of : U �
   most_kept w (Stepped id reply) = elim (lacked_memory reply) as (λ b. (cond b w (after_snap_step walker place_of walks memory w id)).most ≡ w.most) [ true ↦ refl | false ↦ most_snap w id (program_of id w.participants) ]
 
   -- one more call
-  pub after_call : (first : S) (w new : SnapState S U K) (r : List SnapCall) (h : SnapCall) → new ≡ next walker place_of walks memory walker_from walk_from w h → IsReply walker place_of walks memory walker_from walk_from w h →
-      IsAfter walker place_of walks memory walker_from walk_from first w r → IsAfter walker place_of walks memory walker_from walk_from first new (r ++ h ∷ [])
-  after_call first w new r h e is a =
-      rw (e, most_kept w h) (run_more (next walker place_of walks memory walker_from walk_from) (IsReply walker place_of walks memory walker_from walk_from) (record { memory = first; most = w.most; participants = [] }) r w h a is)
+  pub after_call : (most_of : S → ℕ) (first : S) (w new : SnapState S U K) (r : List SnapCall) (h : SnapCall) → new ≡ next walker place_of walks memory walker_from walk_from w h → IsReply walker place_of walks memory walker_from walk_from w h →
+      IsAfter walker place_of walks memory walker_from walk_from most_of first w r → IsAfter walker place_of walks memory walker_from walk_from most_of first new (r ++ h ∷ [])
+  after_call most_of first w new r h e is a =
+      rw e (run_more (next walker place_of walks memory walker_from walk_from) (IsReply walker place_of walks memory walker_from walk_from) (record { memory = first; most = most_of first; participants = [] }) r w h a is)
 
-  lacks_none_by : (w : SnapState S U K) (id : ℕ) → lacked_memory (reply_of told (step_answer (client_steps walker place_of walks) memory w id)) ≡ false
-  lacks_none_by w id =
-      elim (participant_of id w.participants) as (λ o. lacked_memory (reply_of told (step_answer_by (client_steps walker place_of walks) memory w.memory o)) ≡ false)
-      [ None ↦ refl | Some v ↦ elim v.ended as (λ b. lacked_memory (reply_of told (cond b (Err Finished) (Ok ((client_steps walker place_of walks).note v.program (got_by (client_steps walker place_of walks) memory w.memory v))))) ≡ false) [ true ↦ refl | false ↦ refl ] ]
-
-  lacks_none : (w : SnapState S U K) (id : ℕ) (o : Option (Client U K)) → lacked_memory (snap_answer_by walker place_of walks memory w id o) ≡ false
-  lacks_none w id None = refl
-  lacks_none w id (Some c) = elim (is_idle c.pending) as (λ b. lacked_memory (cond b (Err Finished) (reply_of told (step_answer (client_steps walker place_of walks) memory w id))) ≡ false) [ true ↦ refl | false ↦ lacks_none_by w id ]
+  snap_lacks_none : (w : SnapState S U K) (id : ℕ) (o : Option (Client U K)) → lacked_memory (snap_answer_by walker place_of walks memory w id o) ≡ false
+  snap_lacks_none w id None = refl
+  snap_lacks_none w id (Some c) = elim (is_idle c.pending) as (λ b. lacked_memory (cond b (Err Finished) (reply_of told (step_answer (client_steps walker place_of walks) memory w id))) ≡ false) [ true ↦ refl | false ↦ lacks_none (client_steps walker place_of walks) memory told w id ]
 
   -- one more step for which no growth was refused
-  pub after_stepped : (first : S) (w new : SnapState S U K) (r : List SnapCall) (id : ℕ) (reply : Result SnapReply Refusal) → new ≡ after_snap_step walker place_of walks memory w id → reply ≡ snap_answer walker place_of walks memory w id →
-      IsAfter walker place_of walks memory walker_from walk_from first w r → IsAfter walker place_of walks memory walker_from walk_from first new (r ++ Stepped id reply ∷ [])
-  after_stepped first w new r id reply e is a =
-      let goes : lacked_memory reply ≡ false = ap lacked_memory is ∙ lacks_none w id (program_of id w.participants) in
-      after_call first w new r (Stepped id reply) (e ∙ rw goes refl) (inl is) a
+  pub after_stepped : (most_of : S → ℕ) (first : S) (w new : SnapState S U K) (r : List SnapCall) (id : ℕ) (reply : Result SnapReply Refusal) → new ≡ after_snap_step walker place_of walks memory w id → reply ≡ snap_answer walker place_of walks memory w id →
+      IsAfter walker place_of walks memory walker_from walk_from most_of first w r → IsAfter walker place_of walks memory walker_from walk_from most_of first new (r ++ Stepped id reply ∷ [])
+  after_stepped most_of first w new r id reply e is a =
+      let goes : lacked_memory reply ≡ false = ap lacked_memory is ∙ snap_lacks_none w id (program_of id w.participants) in
+      after_call most_of first w new r (Stepped id reply) (e ∙ rw goes refl) (inl is) a
 
   -- one more step
-  pub after_step_call : (first : S) (w new : SnapState S U K) (r : List SnapCall) (id : ℕ) (reply : Result SnapReply Refusal) →
+  pub after_step_call : (most_of : S → ℕ) (first : S) (w new : SnapState S U K) (r : List SnapCall) (id : ℕ) (reply : Result SnapReply Refusal) →
       (reply ≢ Err NoMemory → new ≡ after_snap_step walker place_of walks memory w id) → (reply ≢ Err NoMemory → reply ≡ snap_answer walker place_of walks memory w id) →
       (reply ≡ Err NoMemory → (new ≡ w) × (may_lack_memory walker place_of walks memory w id ≡ true)) →
-      IsAfter walker place_of walks memory walker_from walk_from first w r → IsAfter walker place_of walks memory walker_from walk_from first new (r ++ Stepped id reply ∷ [])
-  after_step_call first w new r id reply e is lack a = elim (lacks reply) [
-    | inr goes ↦ after_stepped first w new r id reply (e goes) (is goes) a
+      IsAfter walker place_of walks memory walker_from walk_from most_of first w r → IsAfter walker place_of walks memory walker_from walk_from most_of first new (r ++ Stepped id reply ∷ [])
+  after_step_call most_of first w new r id reply e is lack a = elim (lacks_or_not reply) [
+    | inr goes ↦ after_stepped most_of first w new r id reply (e goes) (is goes) a
     | inl h ↦
         let refused = lack h in
         let lacked : lacked_memory reply ≡ true = rw h refl in
-        after_call first w new r (Stepped id reply) (refused.0 ∙ rw lacked refl) (inr (h, refused.1)) a
+        after_call most_of first w new r (Stepped id reply) (refused.0 ∙ rw lacked refl) (inr (h, refused.1)) a
   ]
 
   pub absent_state : (w : SnapState S U K) (id : ℕ) → None ≡ program_of id w.participants → w ≡ after_snap_step walker place_of walks memory w id

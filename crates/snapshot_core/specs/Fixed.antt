@@ -1,10 +1,10 @@
 -- segments in a row, by their places from 0
-use Rattle.std.specs.Prelude.{◌≡◌, ℕ, ◌+◌, nat_lt, nat_le, if◌then◌else◌, Bool, false, List, length, Option, Some, None, slice_index_or, slice_set}
+use Rattle.std.specs.Prelude.{ℕ, ◌+◌, nat_lt, nat_le, if◌then◌else◌, Bool, false, List, length, Option, Some, None, slice_index_or, slice_set}
 use Rattle.step_memory.specs.declared.access.Access.{Access}
 use Rattle.step_memory.specs.declared.access.Access.TheVariants.{Read, Write, TestAndSet, Clear, Nothing}
 use Rattle.step_memory.specs.declared.note.Note.TheVariants.{Quiet}
 use Rattle.step_memory.specs.Steps.{MemorySteps, ProgramSteps}
-use Rattle.snapshot_core.specs.declared.record.Record.{Record}
+use Rattle.step_memory.specs.declared.record.Record.{Record}
 use Rattle.snapshot_core.specs.declared.fixed.FixedWalker.{FixedWalker}
 use Rattle.snapshot_core.specs.declared.fixed.FixedWalk.{FixedWalk}
 use Rattle.snapshot_core.specs.Walks.{WalkSteps}
@@ -50,11 +50,3 @@ fixed_walker begun id = record { place = begun }
 
 abbrev pub fixed_walk : List (Option Record) → FixedWalk
 fixed_walk segments = record { at = 0; most = length segments }
-
--- an access of one who has this place: a read, or a write of its own segment
-abbrev pub IsOwnAccess : ℕ → Access ℕ (Option Record) → Type 0
-IsOwnAccess place (Read x) = Unit {0}
-IsOwnAccess place (Write x new) = x ≡ place
-IsOwnAccess place (TestAndSet x) = ⊥
-IsOwnAccess place (Clear x) = ⊥
-IsOwnAccess place Nothing = Unit {0}

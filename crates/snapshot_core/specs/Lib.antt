@@ -1,10 +1,10 @@
-pub mod View
-pub mod ViewInside
 pub mod Sightings
 pub mod Walks
+pub mod Places
 pub mod Scan
 pub mod Client
 pub mod Fixed
+pub mod FixedTies
 pub mod FixedLaws
 pub mod SnapWorld
 pub mod SnapCalls

@@ -1,9 +1,9 @@
 -- what a scan makes of what it reads
 use Rattle.std.specs.Prelude.{ℕ, Bool, true, false, not, ◌&&◌, ◌||◌, ◌==◌, nat_le, if◌then◌else◌, List, [], length, map, Option, Some, None}
-use Rattle.snapshot_core.specs.declared.record.Record.{Record}
+use Rattle.step_memory.specs.declared.record.Record.{Record}
 use Rattle.snapshot_core.specs.declared.sightings.Sighting.{Sighting}
 use Rattle.snapshot_core.specs.declared.scan.Scan.{Scan}
-use Rattle.snapshot_core.specs.View.{inserted}
+use Rattle.step_memory.specs.View.{inserted}
 use Rattle.snapshot_core.specs.Sightings.{sighting_of, noted, carried_over}
 use Rattle.snapshot_core.specs.Walks.{WalkSteps}
 

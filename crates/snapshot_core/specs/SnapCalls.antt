@@ -35,5 +35,5 @@ module _ {S R V U K : Type 0} (walker : ProgramSteps U R V ℕ) (place_of : U �
       ⊎ ((reply ≡ Err NoMemory) × (may_lack_memory walker place_of walks memory w id ≡ true))
 
   -- the object is after these calls with these replies, from a fresh one over this memory
-  abbrev pub IsAfter : S → SnapState S U K → List SnapCall → Type 0
-  IsAfter first w r = Run next IsReply (record { memory = first; most = w.most; participants = [] }) r w
+  abbrev pub IsAfter : (S → ℕ) → S → SnapState S U K → List SnapCall → Type 0
+  IsAfter most_of first w r = Run next IsReply (record { memory = first; most = most_of first; participants = [] }) r w

@@ -1,5 +1,5 @@
 -- what the calls of a snapshot object answer and leave
-use Rattle.std.specs.Prelude.{ℕ, Bool, nat_lt, if◌then◌else◌, length, Option, Some, None, Result, Err}
+use Rattle.std.specs.Prelude.{ℕ, Bool, nat_lt, if◌then◌else◌, length, Option, Some, None, option_and_then, Result, Err}
 use Rattle.step_memory.specs.declared.note.Note.{Note}
 use Rattle.step_memory.specs.declared.note.Note.TheVariants.{Quiet, Said, Ended}
 use Rattle.step_memory.specs.declared.refusal.Refusal.{Refusal}
@@ -18,6 +18,10 @@ use Rattle.snapshot_core.specs.Client.{client_at, client_steps, is_idle, scannin
 -- a memory of type S, and participants on ways U whose scans take walks K
 abbrev pub SnapState : Type 0 → Type 0 → Type 0 → Type 0
 SnapState S U K = WorldState S (Client U K)
+
+-- the place of an identity, once it has one
+abbrev pub place_in : {S U K : Type 0} → (U → Option ℕ) → SnapState S U K → ℕ → Option ℕ
+place_in place_of w id = option_and_then (λ c. place_of c.walker) (program_of id w.participants)
 
 -- one who begins after so many others, on this memory
 abbrev pub beginner_at : {S U K : Type 0} → (U → Option ℕ) → (ℕ → ℕ → U) → (S → K) → SnapState S U K → ℕ → Client U K

@@ -1,6 +1,6 @@
 -- what a walk over segments reads, and what comes of it
 use Rattle.std.specs.Prelude.{ℕ, Bool, Option}
-use Rattle.snapshot_core.specs.declared.record.Record.{Record}
+use Rattle.step_memory.specs.declared.record.Record.{Record}
 
 -- a walk of type K over registers R that hold values V
 pub record WalkSteps (K R V : Type 0) : Type 0 where

@@ -3,12 +3,10 @@
 ghost use Rattle.std.specs.Prelude.{◌≡◌, ◌<◌, ◌↔◌, IsTrue, ◌≢◌};
 ghost use Rattle.snapshot_core.specs.Client.{view_told, is_idle, client_at, client_steps, updating, scanning, next_access, client_after, client_note, scan_resumed, scan_note, placing_resumed, placing_note};
 
-use crate::places::{Place, PlaceWalker};
-use crate::record::Record;
+use crate::places::PlaceWalker;
 use crate::scan::Scan;
-use crate::view::View;
 use crate::walk::SegmentWalk;
-use step_memory::{Access, Answer, Note, StepProgram};
+use step_memory::{Access, Answer, Note, Place, Record, StepProgram, View};
 
 /// What a step of a snapshot object tells.
 #[derive(Clone, Copy, Debug, Drop)]

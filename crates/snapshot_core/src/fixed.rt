@@ -4,14 +4,16 @@ ghost use Rattle.std.specs.Prelude.{◌≡◌, ◌<◌, ◌≤◌, ℕ, OnOk, On
 ghost use Rattle.step_memory.specs.declared.access.Access.{Access};
 ghost use Rattle.step_memory.specs.Steps.{answer_from};
 ghost use Rattle.snapshot_core.specs.Fixed.{fixed_steps, register_of, after_access, walker_steps, fixed_walks, fixed_place, fixed_walker, fixed_walk};
-ghost use Rattle.snapshot_core.specs.FixedLaws.{others_kept};
+ghost use Rattle.snapshot_core.specs.FixedTies.{fixed_ties};
+ghost use Rattle.snapshot_core.specs.FixedLaws.{others_kept, fixed_laws};
 
-use crate::places::{Place, PlaceWalker, Places};
-use crate::record::Segment;
+use crate::places::{PlaceWalker, Places};
 use crate::walk::SegmentWalk;
 use std::alloc::Allocator;
 use std::marker::Model;
-use step_memory::{Access, Answer, NoMemory, Note, Refusal, StepMemory, StepProgram};
+use step_memory::{
+    Access, Answer, NoMemory, Note, Place, Refusal, Segment, StepMemory, StepProgram,
+};
 
 /// Segments in a row, as many as there may be participants. Whoever is the j-th to begin has the place j - 1, at once and
 /// without an access.
@@ -22,7 +24,7 @@ pub struct Fixed<A: Allocator> {
 
 impl<A: Allocator> Model for Fixed<A> {
     ghost use Rattle.std.specs.Prelude.{List, Option};
-    ghost use Rattle.snapshot_core.specs.declared.record.Record.{Record};
+    ghost use Rattle.step_memory.specs.declared.record.Record.{Record};
 
     ghost Value = { List (Option Record) };
 
@@ -182,6 +184,8 @@ impl<A: Allocator> Places for Fixed<A> {
 
     ghost walk_from = { fixed_walk };
 
+    ghost ties = { fixed_ties };
+
     fn most(&self) -> usize {
         self.segments.len()
     }
@@ -198,4 +202,6 @@ impl<A: Allocator> Places for Fixed<A> {
             most: self.segments.len() as u128,
         }
     }
+
+    ghost laws = { fixed_laws };
 }

@@ -9,10 +9,13 @@
 //!
 //! The law, over every list of calls with their replies: *moments* are the maps from identity to value, the empty one
 //! first and a new one for each write. A view that a scan shows is a moment, at or after the one that was the last at the
-//! scan's first read, and no later than its last read. Over m segments a scan takes at most m(m + 1) steps whatever the
-//! others do, each a read, and an update takes one step more, its write. A step makes one access, which the participant's
-//! own state names. (Counting steps, the sequence numbers' beginning at 1 and the limit of updates are this project's
-//! profile.)
+//! scan's first read, and no later than its last read. Where b have begun, of whom walks over the segments make at most r
+//! reads, a scan takes at most (b + 1)r steps whatever the others do, each a read, and an update takes one step more, its
+//! write. A step makes one access, which the participant's own state names. (Counting steps, the sequence numbers'
+//! beginning at 1 and the limit of updates are this project's profile.)
+//!
+//! What places promise stands in `specs/Places.antt`, and each implementor of `Places` proves it. `Fixed` is one: segments
+//! in a row.
 //!
 //! A caller, over three segments in a row:
 //!
@@ -35,22 +38,18 @@ pub mod client;
 pub mod fixed;
 pub mod law;
 pub mod places;
-pub mod record;
 pub mod scan;
 pub mod sightings;
 #[cfg(test)]
 mod tests;
-pub mod view;
 pub mod walk;
 pub mod world;
 
 pub use client::{Client, Pending, SnapReply};
 pub use fixed::{Fixed, FixedWalk, FixedWalker};
-pub use law::snapshot_law;
-pub use places::{Place, PlaceWalker, Places};
-pub use record::{Record, Segment};
+pub use law::{law_of_snapshot_calls, snapshot_law};
+pub use places::{PlaceWalker, Places};
 pub use scan::Scan;
 pub use sightings::{Sighting, Sightings};
-pub use view::View;
 pub use walk::SegmentWalk;
 pub use world::SnapWorld;

@@ -1,12 +1,10 @@
 //! What gives participants places.
 
 ghost use Rattle.std.specs.Prelude.{◌≡◌, ℕ, Option};
+ghost use Rattle.snapshot_core.specs.Places.{PlaceTies, PlacesLaws};
 
 use crate::walk::SegmentWalk;
-use step_memory::{StepMemory, StepProgram};
-
-/// A place. Each participant has a place of its own, and a segment there that it alone writes.
-pub type Place = u128;
+use step_memory::{Place, StepMemory, StepProgram};
 
 /// A way to a place.
 pub trait PlaceWalker: StepProgram<Output = Place> {
@@ -36,6 +34,9 @@ pub trait Places: StepMemory {
     /// A walk from its beginning.
     ghost walk_from: { Self → Self.Walk };
 
+    /// What ties the memory to the ways and the walks, and how many accesses and reads these make.
+    ghost ties: { PlaceTies Self Self.Walker Self.Walk };
+
     /// The most participants.
     fn most(&self) -> usize
         ensures { result ≡ most_of self.now };
@@ -47,4 +48,7 @@ pub trait Places: StepMemory {
     /// A walk from its beginning.
     fn walk(&self) -> Self::Walk
         ensures { result ≡ walk_from self.now };
+
+    /// Places are distinct, a way comes to its place, and a walk meets each segment that was written before it began.
+    ghost laws: { PlacesLaws Self.Walker.steps Self.Walker.place_of Self.Walk.walks Self.steps most_of walker_from walk_from ties };
 }

@@ -3,11 +3,9 @@
 ghost use Rattle.std.specs.Prelude.{◌≡◌};
 ghost use Rattle.snapshot_core.specs.Scan.{scan_from, met, met_view, ended_collect, ended_view, scan_after, scan_view};
 
-use crate::places::Place;
-use crate::record::Record;
 use crate::sightings::{Sighting, Sightings};
-use crate::view::View;
 use crate::walk::SegmentWalk;
+use step_memory::{Place, Record, View};
 
 /// A scan under way, of the form of the unbounded snapshot of Afek et al. 1993: collects follow each other until one
 /// shows no change, whose values are then a moment; or until a segment is seen to change for the second time, whose
@@ -40,7 +38,9 @@ impl<K: SegmentWalk + Copy> Scan<K> {
         }
     }
 
-    /// Meets a segment that was written. The view in its record, where this shows that it changed twice.
+    /// Meets a segment that was written. The view in its record, where this shows that it changed twice. (To compare each
+    /// segment as it is met tells what a comparison of all numbers at the collect's end would, in which one that was not
+    /// reached counts as 0: a segment that one collect met was written before the next began, and a walk meets it again.)
     fn meet(&mut self, place: Place, found: &Record) -> Option<View>
         ensures after { self.new ≡ met self.old place found.now }
         ensures view { result ≡ met_view self.old place found.now }

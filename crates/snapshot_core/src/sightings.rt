@@ -3,8 +3,8 @@
 ghost use Rattle.std.specs.Prelude.{◌≡◌, ◌≤◌, [], map, length};
 ghost use Rattle.snapshot_core.specs.Sightings.{sighting_of, index_of, noted, carried_over};
 
-use crate::places::Place;
 use std::marker::Model;
+use step_memory::Place;
 
 /// What a scan knows of the segment at a place: its sequence number in the collect before and in the present one (0 where
 /// it was empty or not reached), and whether it was seen to change.

@@ -1,8 +1,8 @@
-use crate::{Fixed, Places, SnapReply, SnapWorld, View, snapshot_law};
+use crate::{Fixed, Places, SnapReply, SnapWorld, snapshot_law};
 use std::alloc::Global;
 use std::process::Abort;
 use std::test::Fail;
-use step_memory::Refusal;
+use step_memory::{Refusal, View};
 
 /// Two participants, which have begun, over two segments.
 fn two(alloc: Global) -> Result<SnapWorld<Fixed<Global>, Global>, Refusal> {
@@ -110,22 +110,6 @@ fn refusals(rt: HostRuntime) -> Result<(), Fail> {
     assert!(rt; matches!(world.step(30), Err(Refusal::NotBegun)));
     assert!(rt; matches!(world.step(10), Err(Refusal::Finished)));
     assert_eq!(rt; world.place_of(20), Some(1));
-    Ok(())
-}
-
-#[test]
-fn views_are_kept_in_order(rt: HostRuntime) -> Result<(), Fail> {
-    let mut view = View::new();
-    assert!(rt; view.is_empty());
-    view.insert(20, 2);
-    view.insert(10, 1);
-    view.insert(30, 3);
-    view.insert(20, 5);
-    assert_eq!(rt; view.pairs(), [(10, 1), (20, 5), (30, 3)].as_slice());
-    assert_eq!(rt; view.len(), 3);
-    assert_eq!(rt; view.get(20), Some(5));
-    assert_eq!(rt; view.get(25), None);
-    assert!(rt; !view.is_full());
     Ok(())
 }
 

@@ -3,8 +3,7 @@
 ghost use Rattle.std.specs.Prelude.{◌≡◌};
 ghost use Rattle.snapshot_core.specs.Walks.{WalkSteps};
 
-use crate::places::Place;
-use crate::record::Segment;
+use step_memory::{Place, Segment};
 
 /// A walk over all segments that may be in use, one read after another. Which register it reads next may depend on what
 /// it read. Not every read has to be of a segment.

@@ -1,19 +1,21 @@
 //! A snapshot object, taken step by step.
 
-ghost use Rattle.std.specs.Prelude.{◌≡◌, ◌≢◌, ℕ, [], ◌∷◌, ◌++◌, List, IfOk, OnErr, Err, true, option_and_then};
-ghost use Rattle.step_memory.specs.Locality.{IsLocal};
-ghost use Rattle.snapshot_core.specs.Client.{client_steps};
+ghost use Rattle.std.specs.Prelude.{◌≡◌, ◌≢◌, ℕ, [], ◌∷◌, ◌++◌, List, IfOk, OnErr, Err, true, Some, Ok, Contains};
+ghost use Rattle.step_memory.specs.Locality.{IsLocal, LookAlike};
+ghost use Rattle.snapshot_core.specs.Client.{client_steps, next_access, IsOwnAccess};
+ghost use Rattle.snapshot_core.specs.Places.{BoundsScans};
+ghost use Rattle.snapshot_core.specs.Snapshot.{KeepsSnapshotLaw};
 ghost use Rattle.step_memory.specs.Participant.{program_of};
 ghost use Rattle.step_memory.specs.World.{begin_refusal, done_unless};
-ghost use Rattle.snapshot_core.specs.SnapWorld.{after_snap_begin, scan_refusal, update_refusal, after_scan, after_update, snap_answer, after_snap_step, may_lack_memory};
+ghost use Rattle.snapshot_core.specs.SnapWorld.{SnapState, place_in, after_snap_begin, scan_refusal, update_refusal, after_scan, after_update, snap_answer, after_snap_step, may_lack_memory};
 ghost use Rattle.snapshot_core.specs.SnapCalls.{SnapCall, IsAfter};
 ghost use Rattle.snapshot_core.specs.SnapCalls.SnapCall.{Began, Updated, Scanned, Stepped};
 
 use crate::client::{Client, SnapReply};
-use crate::places::{Place, PlaceWalker, Places};
+use crate::places::{PlaceWalker, Places};
 use std::alloc::Allocator;
 use std::marker::Model;
-use step_memory::{Note, Refusal, World};
+use step_memory::{Note, Place, Refusal, World};
 
 /// Participants that update and scan, over places.
 #[derive(Drop)]
@@ -40,7 +42,8 @@ where
     /// refused.
     pub fn new(alloc: A, places: W) -> Result<Self, Refusal>
         ensures fresh { IfOk result (λ w. w ≡ record { memory = places; most = W.most_of places; participants = [] }) }
-        ensures after { IfOk result (λ w. IsAfter W.Walker.steps W.Walker.place_of W.Walk.walks W.steps W.walker_from W.walk_from places w []) }
+        ensures after { IfOk result (λ w. IsAfter W.Walker.steps W.Walker.place_of W.Walk.walks W.steps W.walker_from W.walk_from W.most_of places w []) }
+        ensures law { IfOk result (λ w. (first : W) (r : List SnapCall) (scanning : ℕ → ℕ) → W.ties.IsNew first → BoundsScans W.ties (W.most_of first) scanning → IsAfter W.Walker.steps W.Walker.place_of W.Walk.walks W.steps W.walker_from W.walk_from W.most_of first w r → KeepsSnapshotLaw (record { placing = W.ties.placing; scanning = scanning }) r) }
         ensures no_memory { OnErr result (result ≡ Err Refusal.NoMemory) }
     {
         let most = places.most();
@@ -53,7 +56,8 @@ where
     pub fn begin(&mut self, id: u64) -> Result<(), Refusal>
         ensures answer { result ≡ done_unless (begin_refusal self.old id) }
         ensures state { self.new ≡ after_snap_begin W.Walker.place_of W.walker_from W.walk_from self.old id }
-        ensures after { (first : W) (r : List SnapCall) → IsAfter W.Walker.steps W.Walker.place_of W.Walk.walks W.steps W.walker_from W.walk_from first self.old r → IsAfter W.Walker.steps W.Walker.place_of W.Walk.walks W.steps W.walker_from W.walk_from first self.new (r ++ Began id result ∷ []) }
+        ensures after { (first : W) (r : List SnapCall) → IsAfter W.Walker.steps W.Walker.place_of W.Walk.walks W.steps W.walker_from W.walk_from W.most_of first self.old r → IsAfter W.Walker.steps W.Walker.place_of W.Walk.walks W.steps W.walker_from W.walk_from W.most_of first self.new (r ++ Began id result ∷ []) }
+        ensures law { (first : W) (r : List SnapCall) (scanning : ℕ → ℕ) → W.ties.IsNew first → BoundsScans W.ties (W.most_of first) scanning → IsAfter W.Walker.steps W.Walker.place_of W.Walk.walks W.steps W.walker_from W.walk_from W.most_of first self.new r → KeepsSnapshotLaw (record { placing = W.ties.placing; scanning = scanning }) r }
     {
         let begun = self.world.participants().len();
         let places = self.world.memory();
@@ -66,7 +70,8 @@ where
     pub fn update(&mut self, id: u64, value: u64) -> Result<(), Refusal>
         ensures answer { result ≡ done_unless (update_refusal self.old id) }
         ensures state { self.new ≡ after_update self.old id value }
-        ensures after { (first : W) (r : List SnapCall) → IsAfter W.Walker.steps W.Walker.place_of W.Walk.walks W.steps W.walker_from W.walk_from first self.old r → IsAfter W.Walker.steps W.Walker.place_of W.Walk.walks W.steps W.walker_from W.walk_from first self.new (r ++ Updated id value result ∷ []) }
+        ensures after { (first : W) (r : List SnapCall) → IsAfter W.Walker.steps W.Walker.place_of W.Walk.walks W.steps W.walker_from W.walk_from W.most_of first self.old r → IsAfter W.Walker.steps W.Walker.place_of W.Walk.walks W.steps W.walker_from W.walk_from W.most_of first self.new (r ++ Updated id value result ∷ []) }
+        ensures law { (first : W) (r : List SnapCall) (scanning : ℕ → ℕ) → W.ties.IsNew first → BoundsScans W.ties (W.most_of first) scanning → IsAfter W.Walker.steps W.Walker.place_of W.Walk.walks W.steps W.walker_from W.walk_from W.most_of first self.new r → KeepsSnapshotLaw (record { placing = W.ties.placing; scanning = scanning }) r }
     {
         let Some(client) = self.world.program(id) else {
             return Err(Refusal::NotBegun);
@@ -86,7 +91,8 @@ where
     pub fn scan(&mut self, id: u64) -> Result<(), Refusal>
         ensures answer { result ≡ done_unless (scan_refusal self.old id) }
         ensures state { self.new ≡ after_scan self.old id }
-        ensures after { (first : W) (r : List SnapCall) → IsAfter W.Walker.steps W.Walker.place_of W.Walk.walks W.steps W.walker_from W.walk_from first self.old r → IsAfter W.Walker.steps W.Walker.place_of W.Walk.walks W.steps W.walker_from W.walk_from first self.new (r ++ Scanned id result ∷ []) }
+        ensures after { (first : W) (r : List SnapCall) → IsAfter W.Walker.steps W.Walker.place_of W.Walk.walks W.steps W.walker_from W.walk_from W.most_of first self.old r → IsAfter W.Walker.steps W.Walker.place_of W.Walk.walks W.steps W.walker_from W.walk_from W.most_of first self.new (r ++ Scanned id result ∷ []) }
+        ensures law { (first : W) (r : List SnapCall) (scanning : ℕ → ℕ) → W.ties.IsNew first → BoundsScans W.ties (W.most_of first) scanning → IsAfter W.Walker.steps W.Walker.place_of W.Walk.walks W.steps W.walker_from W.walk_from W.most_of first self.new r → KeepsSnapshotLaw (record { placing = W.ties.placing; scanning = scanning }) r }
     {
         let Some(client) = self.world.program(id) else {
             return Err(Refusal::NotBegun);
@@ -105,10 +111,15 @@ where
         ensures state { result ≢ Err Refusal.NoMemory → self.new ≡ after_snap_step W.Walker.steps W.Walker.place_of W.Walk.walks W.steps self.old id }
         ensures refused { OnErr result (self.new ≡ self.old) }
         ensures no_memory { result ≡ Err Refusal.NoMemory → may_lack_memory W.Walker.steps W.Walker.place_of W.Walk.walks W.steps self.old id ≡ true }
-        ensures after { (first : W) (r : List SnapCall) → IsAfter W.Walker.steps W.Walker.place_of W.Walk.walks W.steps W.walker_from W.walk_from first self.old r → IsAfter W.Walker.steps W.Walker.place_of W.Walk.walks W.steps W.walker_from W.walk_from first self.new (r ++ Stepped id result ∷ []) }
+        ensures after { (first : W) (r : List SnapCall) → IsAfter W.Walker.steps W.Walker.place_of W.Walk.walks W.steps W.walker_from W.walk_from W.most_of first self.old r → IsAfter W.Walker.steps W.Walker.place_of W.Walk.walks W.steps W.walker_from W.walk_from W.most_of first self.new (r ++ Stepped id result ∷ []) }
+        ensures law { (first : W) (r : List SnapCall) (scanning : ℕ → ℕ) → W.ties.IsNew first → BoundsScans W.ties (W.most_of first) scanning → IsAfter W.Walker.steps W.Walker.place_of W.Walk.walks W.steps W.walker_from W.walk_from W.most_of first self.new r → KeepsSnapshotLaw (record { placing = W.ties.placing; scanning = scanning }) r }
 
-        // Nothing of the object changes but this participant and the register that it names.
+        // Nothing of the object changes but this participant and the register that it names, and in another one that
+        // looks alike to this participant the answer is the same. The access is one on the way to its place, a read, or
+        // the write of its own segment.
         ensures local { IsLocal (client_steps W.Walker.steps W.Walker.place_of W.Walk.walks) W.steps id self.old self.new }
+        ensures alike { result ≢ Err Refusal.NoMemory → (other : SnapState W W.Walker W.Walk) → LookAlike (client_steps W.Walker.steps W.Walker.place_of W.Walk.walks) W.steps id self.old other → result ≡ snap_answer W.Walker.steps W.Walker.place_of W.Walk.walks W.steps other id }
+        ensures own { (c : Client W.Walker W.Walk) → program_of id self.old.participants ≡ Some c → IsOwnAccess W.Walker.steps W.Walker.place_of W.Walk.walks c (next_access W.Walker.steps W.Walker.place_of W.Walk.walks c) }
     {
         let Some(client) = self.world.program(id) else {
             return Err(Refusal::NotBegun);
@@ -125,7 +136,11 @@ where
 
     /// The place of a participant, once it has one.
     pub fn place_of(&self, id: u64) -> Option<Place>
-        ensures { result ≡ option_and_then (λ c. W.Walker.place_of c.walker) (program_of id self.now.participants) }
+        ensures value { result ≡ place_in W.Walker.place_of self.now id }
+
+        // No one else has it, and where a step has told a place, it is that one.
+        ensures distinct { (first : W) (r : List SnapCall) → W.ties.IsNew first → IsAfter W.Walker.steps W.Walker.place_of W.Walk.walks W.steps W.walker_from W.walk_from W.most_of first self.now r → (place : ℕ) → result ≡ Some place → (other : ℕ) → place_in W.Walker.place_of self.now other ≡ Some place → other ≡ id }
+        ensures told { (first : W) (r : List SnapCall) → W.ties.IsNew first → IsAfter W.Walker.steps W.Walker.place_of W.Walk.walks W.steps W.walker_from W.walk_from W.most_of first self.now r → (place : ℕ) → Contains r (Stepped id (Ok (SnapReply.Placed place))) → result ≡ Some place }
     {
         let Some(client) = self.world.program(id) else {
             return None;

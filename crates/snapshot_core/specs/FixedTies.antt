@@ -1,0 +1,37 @@
+-- what ties segments in a row to places and walks
+use Rattle.std.specs.Prelude.{◌≡◌, ℕ, ◌<◌, ◌≤◌, List, length, Option, Some, None, slice_index_or}
+use Rattle.step_memory.specs.declared.record.Record.{Record}
+use Rattle.snapshot_core.specs.declared.fixed.FixedWalker.{FixedWalker}
+use Rattle.snapshot_core.specs.declared.fixed.FixedWalk.{FixedWalk}
+use Rattle.snapshot_core.specs.Places.{PlaceTies}
+
+-- at most 16 segments, and all of them are empty
+pub record IsEmptyRow (segments : List (Option Record)) : Type 0 where
+  pub few : length segments ≤ 16
+  pub empty : (x : ℕ) → slice_index_or segments x None ≡ None
+
+-- so many have begun, no more than there are segments. Their places are the first ones, each of another
+pub record IsRowFor (segments : List (Option Record)) (b : ℕ) (ways : ℕ → Option FixedWalker) : Type 0 where
+  pub few : length segments ≤ 16
+  pub room : b ≤ length segments
+  pub inside : (p : ℕ) (u : FixedWalker) → ways p ≡ Some u → u.place < b
+  pub distinct : (p q : ℕ) (u v : FixedWalker) → ways p ≡ Some u → ways q ≡ Some v → u.place ≡ v.place → p ≡ q
+
+-- a walk by rising place has passed the first j of the segments, and goes on
+pub record IsWalkAt (segments : List (Option Record)) (k : FixedWalk) (j : ℕ) : Type 0 where
+  pub most : k.most ≡ length segments
+  pub at : k.at ≡ j
+  pub inside : j < length segments
+
+-- who has begun has its place, and a walk reads each segment once
+abbrev pub fixed_ties : PlaceTies (List (Option Record)) FixedWalker FixedWalk
+fixed_ties = record {
+  IsNew = IsEmptyRow;
+  IsConsistent = IsRowFor;
+  placing = λ b. 0;
+  reads = λ most b. most;
+  accesses_of = λ w. 0;
+  IsUpcoming = λ k x. k.at ≤ x;
+  IsAhead = λ segments k x. (k.most ≡ length segments) × (k.at ≤ x) × (x < k.most);
+  HasRead = IsWalkAt;
+}
