@@ -1,0 +1,352 @@
+-- what each access of a walk, and each beginning, keeps of the nodes and the walks of a tree
+use Rattle.std.proofs.Common.{◌≡◌, ◌≢◌, ℕ, zero, suc, ◌+◌, ◌*◌, ◌<◌, ◌≤◌, Bool, true, false, ◌⊎◌, inl, inr, [], ◌∷◌, Option, Some, None, refl, sym, ap, subst, ◌∙◌, arith}
+use Rattle.std.proofs.lemmas.Bool.Decides.{eqb_tells}
+use Rattle.step_memory.specs.SetAt.{set_at}
+use Rattle.step_memory.proofs.SetAtLemmas.{set_at-same, set_at-other, set_at-cases}
+use Rattle.splitter.specs.declared.way.Way.TheVariants.{Stop, Right, Down}
+use Rattle.splitter.specs.declared.stage.Stage.{Stage}
+use Rattle.splitter.specs.declared.stage.Stage.TheVariants.{Outside, WroteName, SawClear, WroteMark, Gone}
+use Rattle.splitter.specs.Stage.{has_entered, went_right, went_down, name_after, mark_after, stage_after}
+use Rattle.splitter.specs.Door.{DoorIsLawful}
+use Rattle.splitter.proofs.DoorKept.{kept, lawful_new}
+use Rattle.splitter_tree.specs.declared.walker.Walker.{Walker}
+use Rattle.splitter_tree.specs.Walk.{walker_at, walk_of, visit_on}
+use Rattle.splitter_tree.specs.Consistent.{IsWalkOf, NodesAgree}
+use Rattle.splitter_tree.proofs.VisitsKept.{with_visit, with_visit-node, with_visit-other_node, with_visit-own, with_visit-other, with_comer, with_comer-has, with_comer-keeps, with_comer-cases}
+
+pub right_entered : (s : Stage) → went_right s ≡ true → has_entered s ≡ true
+right_entered Outside h = absurd (cc)
+right_entered WroteName h = absurd (cc)
+right_entered SawClear h = absurd (cc)
+right_entered WroteMark h = absurd (cc)
+right_entered (Gone Stop) h = absurd (cc)
+right_entered (Gone Right) h = refl
+right_entered (Gone Down) h = absurd (cc)
+
+pub down_entered : (s : Stage) → went_down s ≡ true → has_entered s ≡ true
+down_entered Outside h = absurd (cc)
+down_entered WroteName h = absurd (cc)
+down_entered SawClear h = absurd (cc)
+down_entered WroteMark h = absurd (cc)
+down_entered (Gone Stop) h = absurd (cc)
+down_entered (Gone Right) h = absurd (cc)
+down_entered (Gone Down) h = refl
+
+module _ (b : ℕ) (mark name taken : ℕ → ℕ) (walker : ℕ → Option Walker) (g : NodesAgree b mark name taken walker) (p : ℕ) (v : Walker) (is : walker p ≡ Some v) where
+  abbrev at : ℕ
+  at = v.place
+
+  positive : 1 ≤ v.place
+  positive = g.node v.place p (g.walks p v is).arrived
+
+  -- p writes the mark of its node
+  abbrev marked_on : Walker
+  marked_on = record v { is_marking = false }
+
+  abbrev mark' : ℕ → ℕ
+  mark' = set_at mark at 1
+
+  mark_still : (k : ℕ) → mark k ≡ 1 → mark' k ≡ 1
+  mark_still k h = set_at-cases mark at 1 (λ m. m ≡ 1) k (λ _. refl) (λ _. h)
+
+  walks_marked : (q : ℕ) (u : Walker) → set_at walker p (Some marked_on) q ≡ Some u → IsWalkOf mark' g.stage g.came q u
+  walks_marked q u = set_at-cases walker p (Some marked_on) (λ o. o ≡ Some u → IsWalkOf mark' g.stage g.came q u) q
+      (λ e h. let own : marked_on ≡ u = cc in subst (λ (w : Walker). IsWalkOf mark' g.stage g.came q w) own (rw e (let old = g.walks p v is in record {
+        identity = old.identity;
+        name = old.name;
+        taken = old.taken;
+        here = old.here;
+        arrived = old.arrived;
+        marking = λ h. absurd (cc);
+        marked = λ _. set_at-same mark at 1;
+        not_right = old.not_right;
+        not_down = old.not_down;
+        below = old.below;
+      })))
+      (λ n h. let old = g.walks q u h in record {
+        identity = old.identity;
+        name = old.name;
+        taken = old.taken;
+        here = old.here;
+        arrived = old.arrived;
+        marking = old.marking;
+        marked = λ m. mark_still u.place (old.marked m);
+        not_right = old.not_right;
+        not_down = old.not_down;
+        below = old.below;
+      })
+
+  not_nobody : 0 ≢ p
+  not_nobody e = absurd (let k : Some v ≡ None = sym is ∙ ap walker (sym e) ∙ g.nobody in cc)
+
+  pub marked_node : NodesAgree b mark' name taken (set_at walker p (Some marked_on))
+  marked_node = record {
+    stage = g.stage;
+    came = g.came;
+    identities = g.identities;
+    many = g.many;
+    nobody = set_at-other walker p (Some marked_on) 0 not_nobody ∙ g.nobody;
+    walks = walks_marked;
+    absent = λ q. set_at-cases walker p (Some marked_on) (λ o. o ≡ None → (k : ℕ) → g.stage k q ≡ Outside) q (λ _ h. absurd (cc)) (λ _ h. g.absent q h);
+    doors = g.doors;
+    entered = g.entered;
+    listed = g.listed;
+    node = g.node;
+    came_down = g.came_down;
+    came_right = g.came_right;
+    marked = λ k q h. mark_still k (g.marked k q h);
+    marker = λ k. set_at-cases mark at 1 (λ m. m ≢ 0 → (q : ℕ) × (g.came k q ≡ true)) k (λ e _. (p, rw e (g.walks p v is).arrived)) (λ _ h. g.marker k h);
+  }
+
+  -- p takes an access of its visit
+  module _ (visits : v.is_marking ≡ false) where
+    abbrev after : Stage
+    after = stage_after p v.visitor.stage (name at) (taken at)
+
+    abbrev stage' : ℕ → ℕ → Stage
+    stage' = with_visit g.stage at p after
+
+    abbrev name' : ℕ → ℕ
+    name' = set_at name at (name_after p v.visitor.stage (name at))
+
+    abbrev taken' : ℕ → ℕ
+    taken' = set_at taken at (mark_after v.visitor.stage (taken at))
+
+    doors_after : (j : ℕ) → DoorIsLawful (name' j) (taken' j) (stage' j)
+    doors_after j = elim (eqb_tells j at) [
+      | inl e ↦ subst (λ (i : ℕ). DoorIsLawful (name' i) (taken' i) (stage' i)) (sym e.1)
+          (rw (set_at-same name at (name_after p v.visitor.stage (name at)), set_at-same taken at (mark_after v.visitor.stage (taken at)), with_visit-node g.stage at p after)
+          (kept (name at) (taken at) (g.stage at) p (g.doors at) v.visitor.stage (g.walks p v is).here))
+      | inr e ↦ rw (set_at-other name at (name_after p v.visitor.stage (name at)) j e.1, set_at-other taken at (mark_after v.visitor.stage (taken at)) j e.1, with_visit-other_node g.stage at p after j e.1) (g.doors j)
+    ]
+
+    -- the stage of q's visit to node j is as before, or these are p and its node
+    stage_cases : (j q : ℕ) → ((j ≡ at) × (q ≡ p)) ⊎ (stage' j q ≡ g.stage j q)
+    stage_cases j q = elim (eqb_tells q p) [
+      | inr n ↦ inr (with_visit-other g.stage at p after j q n.1)
+      | inl e ↦ elim (eqb_tells j at) [
+        | inr n ↦ inr (ap (λ (w : ℕ → Stage). w q) (with_visit-other_node g.stage at p after j n.1))
+        | inl k ↦ inl (k.1, e.1)
+      ]
+    ]
+
+    -- p goes on as v', at this node
+    module _ (v' : Walker) (walk : IsWalkOf mark stage' (with_comer g.came v'.place p) p v') (positive' : 1 ≤ v'.place)
+        (down : (k : ℕ) → 1 ≤ k → 2 * k ≡ v'.place → went_down (stage' k p) ≡ true)
+        (right : (k : ℕ) → 1 ≤ k → 2 * k + 1 ≡ v'.place → went_right (stage' k p) ≡ true) where
+      abbrev walker' : ℕ → Option Walker
+      walker' = set_at walker p (Some v')
+
+      abbrev came' : ℕ → ℕ → Bool
+      came' = with_comer g.came v'.place p
+
+      still : (j q : ℕ) → g.came j q ≡ true → came' j q ≡ true
+      still = with_comer-keeps g.came v'.place p
+
+      cases : (j q : ℕ) → came' j q ≡ true → ((j ≡ v'.place) × (q ≡ p)) ⊎ (g.came j q ≡ true)
+      cases = with_comer-cases g.came v'.place p
+
+      walks_after : (q : ℕ) (u : Walker) → walker' q ≡ Some u → IsWalkOf mark stage' came' q u
+      walks_after q u = set_at-cases walker p (Some v') (λ o. o ≡ Some u → IsWalkOf mark stage' came' q u) q
+          (λ e h. let own : v' ≡ u = cc in subst (λ (w : Walker). IsWalkOf mark stage' came' q w) own (rw e walk))
+          (λ n h. let old = g.walks q u h in record {
+            identity = old.identity;
+            name = old.name;
+            taken = old.taken;
+            here = with_visit-other g.stage at p after u.place q n ∙ old.here;
+            arrived = still u.place q old.arrived;
+            marking = old.marking;
+            marked = old.marked;
+            not_right = old.not_right;
+            not_down = old.not_down;
+            below = λ k m. with_visit-other g.stage at p after k q n ∙ old.below k m;
+          })
+
+      entered_after : (k q : ℕ) → has_entered (stage' k q) ≡ true → came' k q ≡ true
+      entered_after k q h = elim (stage_cases k q) [
+        | inl e ↦ still k q (rw (e.0, e.1) (g.walks p v is).arrived)
+        | inr e ↦ still k q (g.entered k q (ap has_entered (sym e) ∙ h))
+      ]
+
+      marked_after : (k q : ℕ) → has_entered (stage' k q) ≡ true → mark k ≡ 1
+      marked_after k q h = elim (stage_cases k q) [
+        | inl e ↦ rw e.0 ((g.walks p v is).marked visits)
+        | inr e ↦ g.marked k q (ap has_entered (sym e) ∙ h)
+      ]
+
+      down_after : (k q : ℕ) → 1 ≤ k → came' (2 * k) q ≡ true → went_down (stage' k q) ≡ true
+      down_after k q l h = elim (cases (2 * k) q h) [
+        | inl e ↦ rw e.1 (down k l e.0)
+        | inr old ↦ elim (stage_cases k q) [
+          | inr e ↦ ap went_down e ∙ g.came_down k q l old
+          | inl e ↦ absurd (
+              let was : went_down (g.stage at p) ≡ true = subst (λ (i : ℕ). went_down (g.stage at i) ≡ true) e.1 (subst (λ (i : ℕ). went_down (g.stage i q) ≡ true) e.0 (g.came_down k q l old)) in
+              let not : went_down (g.stage at p) ≡ false = ap went_down (g.walks p v is).here ∙ (g.walks p v is).not_down in
+              cc)
+        ]
+      ]
+
+      right_after : (k q : ℕ) → 1 ≤ k → came' (2 * k + 1) q ≡ true → went_right (stage' k q) ≡ true
+      right_after k q l h = elim (cases (2 * k + 1) q h) [
+        | inl e ↦ rw e.1 (right k l e.0)
+        | inr old ↦ elim (stage_cases k q) [
+          | inr e ↦ ap went_right e ∙ g.came_right k q l old
+          | inl e ↦ absurd (
+              let was : went_right (g.stage at p) ≡ true = subst (λ (i : ℕ). went_right (g.stage at i) ≡ true) e.1 (subst (λ (i : ℕ). went_right (g.stage i q) ≡ true) e.0 (g.came_right k q l old)) in
+              let not : went_right (g.stage at p) ≡ false = ap went_right (g.walks p v is).here ∙ (g.walks p v is).not_right in
+              cc)
+        ]
+      ]
+
+      stepped : NodesAgree b mark name' taken' walker'
+      stepped = record {
+        stage = stage';
+        came = came';
+        identities = g.identities;
+        many = g.many;
+        nobody = set_at-other walker p (Some v') 0 not_nobody ∙ g.nobody;
+        walks = walks_after;
+        absent = λ q. set_at-cases walker p (Some v') (λ o. o ≡ None → (k : ℕ) → stage' k q ≡ Outside) q (λ _ h. absurd (cc)) (λ n h k. with_visit-other g.stage at p after k q n ∙ g.absent q h k);
+        doors = doors_after;
+        entered = entered_after;
+        listed = λ k q h. elim (cases k q h) [
+          | inl e ↦ let old = g.listed at p (g.walks p v is).arrived in (old.0, old.1, old.2 ∙ sym e.1)
+          | inr old ↦ g.listed k q old
+        ];
+        node = λ k q h. elim (cases k q h) [ inl e ↦ rw e.0 positive' | inr old ↦ g.node k q old ];
+        came_down = down_after;
+        came_right = right_after;
+        marked = marked_after;
+        marker = λ k h. let old = g.marker k h in (old.0, still k old.0 old.1);
+      }
+
+    -- a visit that goes on, or stops
+    abbrev staying : Walker
+    staying = visit_on v after
+
+    -- who came to a child left its parent before, so the parent is another node than p's
+    stage_above : (k j : ℕ) → at ≡ j → k < j → stage' k p ≡ g.stage k p
+    stage_above k j e l = ap (λ (w : ℕ → Stage). w p) (with_visit-other_node g.stage at p after k (λ h. absurd (omega arith)))
+
+    pub stayed : went_right after ≡ false → went_down after ≡ false → NodesAgree b mark name' taken' (set_at walker p (Some staying))
+    stayed r d =
+        let old = g.walks p v is in
+        stepped staying
+        (record {
+          identity = old.identity;
+          name = old.name;
+          taken = old.taken;
+          here = with_visit-own g.stage at p after;
+          arrived = with_comer-has g.came v.place p;
+          marking = λ h. absurd (cc);
+          marked = old.marked;
+          not_right = r;
+          not_down = d;
+          below = λ k l. ap (λ (w : ℕ → Stage). w p) (with_visit-other_node g.stage at p after k (λ h. absurd (omega arith))) ∙ old.below k l;
+        })
+        positive
+        (λ k l e. ap went_down (stage_above k (2 * k) (sym e) (omega arith)) ∙ g.came_down k p l (subst (λ (i : ℕ). g.came i p ≡ true) (sym e) old.arrived))
+        (λ k l e. ap went_right (stage_above k (2 * k + 1) (sym e) (omega arith)) ∙ g.came_right k p l (subst (λ (i : ℕ). g.came i p ≡ true) (sym e) old.arrived))
+
+    -- a visit that leads on, to a child
+    module _ (child : ℕ) (larger : at < child)
+        (down : (k : ℕ) → 1 ≤ k → 2 * k ≡ child → went_down (stage' k p) ≡ true)
+        (right : (k : ℕ) → 1 ≤ k → 2 * k + 1 ≡ child → went_right (stage' k p) ≡ true) where
+      below_child : (k : ℕ) → at < k → stage' k p ≡ Outside
+      below_child k l = ap (λ (w : ℕ → Stage). w p) (with_visit-other_node g.stage at p after k (λ h. absurd (omega arith))) ∙ (g.walks p v is).below k l
+
+      pub moved_on : NodesAgree b mark name' taken' (set_at walker p (Some (walker_at p child)))
+      moved_on = stepped (walker_at p child)
+          (record {
+            identity = refl;
+            name = refl;
+            taken = refl;
+            here = below_child child larger;
+            arrived = with_comer-has g.came child p;
+            marking = λ _. refl;
+            marked = λ h. absurd (cc);
+            not_right = refl;
+            not_down = refl;
+            below = λ k l. below_child k (omega arith);
+          })
+          (omega arith) down right
+
+    own_stage : (k : ℕ) → k ≡ at → stage' k p ≡ after
+    own_stage k e = ap (λ (i : ℕ). stage' i p) e ∙ with_visit-own g.stage at p after
+
+    pub moved_down : went_down after ≡ true → NodesAgree b mark name' taken' (set_at walker p (Some (walker_at p (2 * v.place))))
+    moved_down d = let above = positive in moved_on (2 * v.place) (omega arith)
+        (λ k l e. ap went_down (own_stage k (omega arith)) ∙ d)
+        (λ k l e. absurd (omega arith))
+
+    pub moved_right : went_right after ≡ true → NodesAgree b mark name' taken' (set_at walker p (Some (walker_at p (2 * v.place + 1))))
+    moved_right r = let above = positive in moved_on (2 * v.place + 1) (omega arith)
+        (λ k l e. absurd (omega arith))
+        (λ k l e. ap went_right (own_stage k (omega arith)) ∙ r)
+
+-- one more participant, before the root
+pub joined : (b : ℕ) (mark name taken : ℕ → ℕ) (walker : ℕ → Option Walker) → NodesAgree b mark name taken walker → (p : ℕ) → p ≢ 0 → walker p ≡ None → NodesAgree (suc b) mark name taken (set_at walker p (Some (walk_of p)))
+joined b mark name taken walker g p some absent = record {
+  stage = g.stage;
+  came = with_comer g.came 1 p;
+  identities = p ∷ g.identities;
+  many = ap suc g.many;
+  nobody = set_at-other walker p (Some (walk_of p)) 0 (λ e. some (sym e)) ∙ g.nobody;
+  walks = λ q u. set_at-cases walker p (Some (walk_of p)) (λ o. o ≡ Some u → IsWalkOf mark g.stage (with_comer g.came 1 p) q u) q
+      (λ e h. let own : walk_of p ≡ u = cc in subst (λ (w : Walker). IsWalkOf mark g.stage (with_comer g.came 1 p) q w) own (rw e (record {
+        identity = refl;
+        name = refl;
+        taken = refl;
+        here = g.absent p absent 1;
+        arrived = with_comer-has g.came 1 p;
+        marking = λ _. refl;
+        marked = λ never. absurd (cc);
+        not_right = refl;
+        not_down = refl;
+        below = λ k _. g.absent p absent k;
+      })))
+      (λ _ h. let old = g.walks q u h in record {
+        identity = old.identity;
+        name = old.name;
+        taken = old.taken;
+        here = old.here;
+        arrived = with_comer-keeps g.came 1 p u.place q old.arrived;
+        marking = old.marking;
+        marked = old.marked;
+        not_right = old.not_right;
+        not_down = old.not_down;
+        below = old.below;
+      });
+  absent = λ q. set_at-cases walker p (Some (walk_of p)) (λ o. o ≡ None → (k : ℕ) → g.stage k q ≡ Outside) q (λ _ h. absurd (cc)) (λ _ h. g.absent q h);
+  doors = g.doors;
+  entered = λ k q h. with_comer-keeps g.came 1 p k q (g.entered k q h);
+  listed = λ k q h. elim (with_comer-cases g.came 1 p k q h) [
+    | inl e ↦ (zero, omega arith, sym e.1)
+    | inr old ↦ let at = g.listed k q old in (suc at.0, (let l = at.1 in omega arith), at.2)
+  ];
+  node = λ k q h. elim (with_comer-cases g.came 1 p k q h) [ inl e ↦ rw e.0 (omega arith) | inr old ↦ g.node k q old ];
+  came_down = λ k q l h. elim (with_comer-cases g.came 1 p (2 * k) q h) [ inl e ↦ absurd (let x = e.0 in omega arith) | inr old ↦ g.came_down k q l old ];
+  came_right = λ k q l h. elim (with_comer-cases g.came 1 p (2 * k + 1) q h) [ inl e ↦ absurd (let x = e.0 in omega arith) | inr old ↦ g.came_right k q l old ];
+  marked = g.marked;
+  marker = λ k h. let old = g.marker k h in (old.0, with_comer-keeps g.came 1 p k old.0 old.1);
+}
+
+-- a tree of no nodes
+pub agree_new : (mark name taken : ℕ → ℕ) → ((k : ℕ) → mark k ≡ 0) → ((k : ℕ) → taken k ≡ 0) → NodesAgree 0 mark name taken (λ p. None)
+agree_new mark name taken unmarked clear = record {
+  stage = λ k p. Outside;
+  came = λ k p. false;
+  identities = [];
+  many = refl;
+  nobody = refl;
+  walks = λ p u h. absurd (cc);
+  absent = λ p h k. refl;
+  doors = λ k. rw (clear k) (lawful_new (name k));
+  entered = λ k p h. absurd (cc);
+  listed = λ k p h. absurd (cc);
+  node = λ k p h. absurd (cc);
+  came_down = λ k p l h. absurd (cc);
+  came_right = λ k p l h. absurd (cc);
+  marked = λ k p h. absurd (cc);
+  marker = λ k some. absurd (some (unmarked k));
+}

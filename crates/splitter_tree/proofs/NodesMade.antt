@@ -1,0 +1,108 @@
+-- just the nodes are marked that were made
+use Rattle.std.proofs.Common.{◌≡◌, ℕ, ◌≤◌, true, false, cond, ◌⊎◌, inl, inr, List, [], ◌∷◌, ◌++◌, length, Option, Some, None, Ok, Err, Result, refl, sym, ap, subst, ◌∙◌}
+use Rattle.std.specs.Prelude.{◌↔◌}
+use Rattle.step_memory.specs.declared.access.Access.{Access}
+use Rattle.step_memory.specs.declared.refusal.Refusal.{Refusal}
+use Rattle.step_memory.specs.declared.refusal.Refusal.TheVariants.{NoMemory}
+use Rattle.step_memory.specs.Runs.{Run}
+use Rattle.step_memory.specs.Steps.{MemorySteps}
+use Rattle.step_memory.specs.World.{begin_refusal, begun_unless}
+use Rattle.step_memory.specs.Calls.{lacked_memory}
+use Rattle.splitter_tree.specs.declared.register.TreeRegister.{TreeRegister}
+use Rattle.splitter_tree.specs.declared.register.TreeRegister.TheVariants.{Mark, Name, Taken}
+use Rattle.splitter_tree.specs.declared.register.TreeValue.{TreeValue}
+use Rattle.splitter_tree.specs.declared.walker.Walker.{Walker}
+use Rattle.splitter_tree.specs.TreeMemory.{mark_at, IsTreeMemory, IsEmptyTree}
+use Rattle.splitter_tree.specs.Walk.{next_access, place_of}
+use Rattle.splitter_tree.specs.Client.{client_of, client_access, write_at, record_of, storing}
+use Rattle.splitter_tree.specs.TreeWorld.{TreeState, place_answer, after_placing, after_store, after_collect_begin, after_collecting}
+use Rattle.splitter_tree.specs.TreeCalls.{TreeCall, next, IsReply, IsAfter}
+use Rattle.splitter_tree.specs.TreeCalls.TreeCall.{Began, Stepped, Stored, CollectBegan, CollectStepped}
+use Rattle.splitter_tree.specs.PlacesLaw.{walkers}
+use Rattle.splitter_tree.specs.Made.{Marks, MarksFrom, WasMade}
+use Rattle.splitter_tree.proofs.ConsistentKept.{marks}
+use Rattle.splitter_tree.proofs.CallCases.{step_cases, store_cases, collect_begin_cases, collect_step_cases}
+use Rattle.splitter_tree.proofs.PlacesTied.{IsTied, all_go, call_kept, tied_new, words_spared, write_spares, reads_only, placing_access}
+
+module _ {S : Type 0} (memory : MemorySteps S TreeRegister TreeValue) (tree : IsTreeMemory memory) where
+  -- after a call a node is marked that was, and the one that the call marks
+  abbrev MarkedBy : TreeState S → TreeState S → TreeCall → ℕ → Type 0
+  MarkedBy w new h k = (mark_at memory new.memory k ≡ 1) ↔ (Marks memory w h k ⊎ (mark_at memory w.memory k ≡ 1))
+
+  -- a call that marks no node
+  quiet_call : (w new : TreeState S) (h : TreeCall) (k : ℕ) → mark_at memory new.memory ≡ mark_at memory w.memory → (Marks memory w h k → ⊥) → MarkedBy w new h k
+  quiet_call w new h k same none =
+      let now : mark_at memory new.memory k ≡ mark_at memory w.memory k = ap (λ (f : ℕ → ℕ). f k) same in
+      (λ some. inr (sym now ∙ some), λ o. elim o [ inl at ↦ absurd (none at) | inr some ↦ now ∙ some ])
+
+  same_marks : (w new : TreeState S) → new ≡ w → mark_at memory new.memory ≡ mark_at memory w.memory
+  same_marks w new e = ap (λ (x : TreeState S). mark_at memory x.memory) e
+
+  memory_begun : (w : TreeState S) (id : ℕ) → mark_at memory (next memory w (Began id (Ok tt))).memory ≡ mark_at memory w.memory
+  memory_begun w id = elim (begin_refusal w id) as (λ o. mark_at memory (begun_unless o w id (client_of id)).memory ≡ mark_at memory w.memory) [ None ↦ refl | Some why ↦ refl ]
+
+  module _ (w : TreeState S) (past : List TreeCall) (t : IsTied memory tree w past) where
+    step_call : (id : ℕ) (k : ℕ) → MarkedBy w (next memory w (Stepped id (place_answer memory w id))) (Stepped id (place_answer memory w id)) k
+    step_call id k = elim (step_cases memory w id (all_go memory tree w past t)) [
+      | inl x ↦
+          let reply : Result (Option ℕ) Refusal = Err x.why in
+          subst (λ (y : Result (Option ℕ) Refusal). MarkedBy w (cond (lacked_memory y) w (after_placing memory w id)) (Stepped id y) k) (sym x.answered)
+          (quiet_call w (cond (lacked_memory reply) w (after_placing memory w id)) (Stepped id reply) k
+          (elim (lacked_memory reply) as (λ b. mark_at memory (cond b w (after_placing memory w id)).memory ≡ mark_at memory w.memory) [ true ↦ refl | false ↦ same_marks w (after_placing memory w id) x.same ]) (λ never. never))
+      | inr x ↦
+          let u : Walker = x.who.program.walker in
+          let is : walkers w.participants id ≡ Some u = rw x.here refl in
+          let change = marks memory w.most (length w.participants) w.memory (walkers w.participants) t.consistent tree id u is k in
+          let now : mark_at memory (after_placing memory w id).memory k ≡ mark_at memory (memory.after w.memory (next_access u)) k =
+          ap (λ (y : TreeState S). mark_at memory y.memory k) x.after ∙ ap (λ (a : Access TreeRegister TreeValue). mark_at memory (memory.after w.memory a) k) (placing_access x.who.program x.who.program.task x.placing) in
+          subst (λ (y : Result (Option ℕ) Refusal). MarkedBy w (cond (lacked_memory y) w (after_placing memory w id)) (Stepped id y) k) (sym x.answered) (
+            λ some. elim (change.0 (sym now ∙ some)) [ inl at ↦ inl (u, is, at.0, at.1) | inr stood ↦ inr stood ],
+            λ o. elim o [
+              | inl e ↦
+                  let own : u ≡ e.0 = (let both : Some u ≡ Some e.0 = sym is ∙ e.1 in cc) in
+                  now ∙ change.1 (inl (ap (λ (v : Walker). v.is_marking) own ∙ e.2, ap (λ (v : Walker). v.place) own ∙ e.3))
+              | inr stood ↦ now ∙ change.1 (inr stood)
+            ],
+          )
+    ]
+
+    one_call : (h : TreeCall) → IsReply memory w h → (k : ℕ) → MarkedBy w (next memory w h) h k
+    one_call (Began id reply) is k = quiet_call w (next memory w (Began id reply)) (Began id reply) k (memory_begun w id) (λ never. never)
+    one_call (Stepped id reply) (inl is) k = subst (λ (y : Result (Option ℕ) Refusal). MarkedBy w (next memory w (Stepped id y)) (Stepped id y) k) (sym is) (step_call id k)
+    one_call (Stepped id reply) (inr is) k = rw is.0 (quiet_call w w (Stepped id (Err NoMemory)) k refl (λ never. never))
+    one_call (Stored id value reply) is k = quiet_call w (after_store memory w id value) (Stored id value reply) k
+        (elim (store_cases memory w id value) [
+          | inl x ↦ same_marks w (after_store memory w id value) x.same
+          | inr x ↦
+              let spares = write_spares memory tree (place_of x.who.program.walker) (record_of (storing x.who.program value) value) in
+              ap (λ (y : TreeState S). mark_at memory y.memory) x.after ∙ (words_spared memory tree w.memory (write_at (place_of x.who.program.walker) (record_of (storing x.who.program value) value)) spares.0 spares.1 spares.2).0
+        ]) (λ never. never)
+    one_call (CollectBegan id reply) is k = quiet_call w (after_collect_begin w id) (CollectBegan id reply) k
+        (elim (collect_begin_cases memory w id) [ inl x ↦ same_marks w (after_collect_begin w id) x.same | inr x ↦ ap (λ (y : TreeState S). mark_at memory y.memory) x.after ]) (λ never. never)
+    one_call (CollectStepped id reply) is k = quiet_call w (after_collecting memory w id) (CollectStepped id reply) k
+        (elim (collect_step_cases memory w id (all_go memory tree w past t)) [
+          | inl x ↦ same_marks w (after_collecting memory w id) x.same
+          | inr x ↦
+              let spares = reads_only x.who.program x.who.program.task x.collects in
+              ap (λ (y : TreeState S). mark_at memory y.memory) x.after ∙ (words_spared memory tree w.memory (client_access x.who.program) (λ j. spares (Mark j)) (λ j. spares (Name j)) (λ j. spares (Taken j))).0
+        ]) (λ never. never)
+
+  -- over a run of calls
+  marks_over : (w : TreeState S) (past r : List TreeCall) (end : TreeState S) → IsTied memory tree w past → Run (next memory) (IsReply memory) w r end → (k : ℕ) → (mark_at memory end.memory k ≡ 1) ↔ (MarksFrom memory w r k ⊎ (mark_at memory w.memory k ≡ 1))
+  marks_over w past [] end t e k =
+      let same : mark_at memory end.memory k ≡ mark_at memory w.memory k = ap (λ (x : TreeState S). mark_at memory x.memory k) e in
+      (λ some. inr (sym same ∙ some), λ o. elim o [ inl never ↦ absurd (never) | inr some ↦ same ∙ some ])
+  marks_over w past (h ∷ r) end t e k =
+      let first = one_call w past t h e.0 k in
+      let rest = marks_over (next memory w h) (past ++ h ∷ []) r end (call_kept memory tree w past h t e.0) e.1 k in (
+        λ some. elim (rest.0 some) [ inl later ↦ inl (inr later) | inr stood ↦ elim (first.0 stood) [ inl now ↦ inl (inl now) | inr before ↦ inr before ] ],
+        λ o. elim o [
+          | inl over ↦ elim over [ inl now ↦ rest.1 (inr (first.1 (inl now))) | inr later ↦ rest.1 (inl later) ]
+          | inr before ↦ rest.1 (inr (first.1 (inr before)))
+        ],
+      )
+
+  pub marked_made : (first : S) (w : TreeState S) (r : List TreeCall) → IsEmptyTree memory first → w.most ≤ 64 → IsAfter memory first w r → (k : ℕ) → (mark_at memory w.memory k ≡ 1) ↔ WasMade memory first w.most r k
+  marked_made first w r empty few a k =
+      let over = marks_over (record { memory = first; most = w.most; participants = [] }) [] r w (tied_new memory tree first w.most empty few) a k in
+      (λ some. elim (over.0 some) [ inl was ↦ was | inr stood ↦ absurd (let none = empty.unmarked k in let both : 0 ≡ 1 = sym none ∙ stood in cc) ], λ was. over.1 (inl was))

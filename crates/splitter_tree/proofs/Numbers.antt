@@ -1,0 +1,30 @@
+-- the children whose numbers fit
+use Rattle.std.proofs.Common.{◌≡◌, ℕ, suc, arith, ◌*◌, ◌<◌, ◌≤◌, ◌^◌, Option, Some, refl, inl, inr}
+use Rattle.std.proofs.Math.Nat.{pow-le-pow_right}
+use Rattle.std.proofs.lemmas.Bool.Decides.{leb_tells}
+use Rattle.splitter_tree.specs.CollectWalk.{numbers, child_or}
+
+less_not : (a b : ℕ) → a < b → b < suc a → ⊥
+less_not a b h k = omega arith
+
+below_two : (k n m : ℕ) → k < n → n ≤ m → k < m
+below_two k n m h l = omega arith
+
+two_some : 0 < 2
+two_some = omega arith
+
+up : (b : ℕ) → b ≤ 64 → b ≤ 128
+up b h = omega arith
+
+pub child_fits : (p : ℕ) (other : Option ℕ) → p * 2 < 2 ^ 128 → child_or p other ≡ Some (p * 2)
+unfolding numbers
+child_fits p other h = elim (leb_tells (suc (p * 2)) (2 ^ 128)) [ inl e ↦ rw e.0 refl | inr e ↦ absurd (less_not (p * 2) (2 ^ 128) h e.1) ]
+
+pub child_too_far : (p : ℕ) (other : Option ℕ) → (p * 2 < 2 ^ 128 → ⊥) → child_or p other ≡ other
+unfolding numbers
+child_too_far p other h = elim (leb_tells (suc (p * 2)) (2 ^ 128)) [ inl e ↦ absurd (h e.1) | inr e ↦ rw e.0 refl ]
+
+-- the numbers of nodes of small depth fit
+pub small_fits : (b k : ℕ) → b ≤ 64 → k < 2 ^ b → k < numbers
+unfolding numbers
+small_fits b k few h = below_two k (2 ^ b) (2 ^ 128) h (pow-le-pow_right two_some (up b few))

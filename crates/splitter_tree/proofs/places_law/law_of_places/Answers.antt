@@ -1,0 +1,22 @@
+use Rattle.std.proofs.Common.{sym}
+use Rattle.splitter_tree.proofs.PlacesTied.{tied_after, tree_of_tied, law_of_tied}
+use Rattle.splitter_tree.proofs.NodesMade.{marked_made}
+use Rattle.splitter_tree.proofs.places_law.law_of_places.Goals as goal
+
+pub returns-clause-law : goal.returns-clause-law
+returns-clause-law g c = λ memory first w r tree empty few after. law_of_tied memory tree w r (tied_after memory tree first w r empty few after)
+
+pub returns-clause-consistent : goal.returns-clause-consistent
+returns-clause-consistent g c = λ memory first w r tree empty few after. (tied_after memory tree first w r empty few after).consistent
+
+pub returns-clause-tree : goal.returns-clause-tree
+returns-clause-tree g c = λ memory first w r tree empty few after. tree_of_tied memory tree w r (tied_after memory tree first w r empty few after)
+
+pub returns-clause-places : goal.returns-clause-places
+returns-clause-places g c = λ memory first w r p tree empty few after. sym ((tied_after memory tree first w r empty few after).outcomes p)
+
+pub returns-clause-on_the_way : goal.returns-clause-on_the_way
+returns-clause-on_the_way g c = λ memory first w r p v tree empty few after here. ((tied_after memory tree first w r empty few after).clients p v here).task
+
+pub returns-clause-made : goal.returns-clause-made
+returns-clause-made g c = λ memory first w r k tree empty few after. marked_made memory tree first w r empty few after k

@@ -1,0 +1,68 @@
+-- what a memory does that holds a growing tree of doors, told by what stands in each node's registers
+use Rattle.std.specs.Prelude.{◌≡◌, ℕ, ◌/◌, ◌⊎◌, true, Option, None}
+use Rattle.step_memory.specs.declared.access.Access.{Access}
+use Rattle.step_memory.specs.declared.access.Access.TheVariants.{Write}
+use Rattle.step_memory.specs.declared.record.Record.{Record}
+use Rattle.step_memory.specs.Steps.{MemorySteps, Spares}
+use Rattle.splitter_tree.specs.declared.register.TreeRegister.{TreeRegister}
+use Rattle.splitter_tree.specs.declared.register.TreeRegister.TheVariants.{Mark, Name, Taken, Contents}
+use Rattle.splitter_tree.specs.declared.register.TreeValue.{TreeValue}
+use Rattle.splitter_tree.specs.declared.register.TreeValue.TheVariants.{Word, Contents as Held}
+
+-- the word in a value, 0 where it is a segment
+abbrev pub word_in : TreeValue → ℕ
+word_in (Word word) = word
+word_in (Held segment) = 0
+
+-- the segment in a value, empty where it is a word
+abbrev pub segment_in : TreeValue → Option Record
+segment_in (Word word) = None
+segment_in (Held segment) = segment
+
+module _ {S : Type 0} (memory : MemorySteps S TreeRegister TreeValue) where
+  -- what stands in the mark of node k: 1 where anyone has come to it
+  abbrev pub mark_at : S → ℕ → ℕ
+  mark_at s k = word_in (memory.register s (Mark k)).0
+
+  -- what stands in X of node k
+  abbrev pub name_at : S → ℕ → ℕ
+  name_at s k = word_in (memory.register s (Name k)).0
+
+  -- what stands in Y of node k
+  abbrev pub taken_at : S → ℕ → ℕ
+  taken_at s k = word_in (memory.register s (Taken k)).0
+
+  -- what stands in the segment of node k
+  abbrev pub segment_at : S → ℕ → Option Record
+  segment_at s k = segment_in (memory.register s (Contents k)).0
+
+  -- a value that is written into this register stands in it afterwards
+  abbrev pub Takes : S → TreeRegister → TreeValue → Type 0
+  Takes s r v = (memory.register (memory.after s (Write r v)) r).0 ≡ v
+
+  -- node k may be marked: it is the root, or its parent is marked
+  abbrev pub IsWithinReach : S → ℕ → Type 0
+  IsWithinReach s k = (k ≡ 1) ⊎ (mark_at s (k / 2) ≡ 1)
+
+  -- marks, X and Y hold words, and a mark 0 or 1; segments hold segments. An access changes no register but the one that
+  -- it names. A node within reach can be marked, and what is written to a node that is marked stands there. A growth may
+  -- be refused only where a node is marked that was not
+  pub record IsTreeMemory : Type 0 where
+    pub marks : (s : S) (k : ℕ) → (memory.register s (Mark k)).0 ≡ Word (mark_at s k)
+    pub names : (s : S) (k : ℕ) → (memory.register s (Name k)).0 ≡ Word (name_at s k)
+    pub takens : (s : S) (k : ℕ) → (memory.register s (Taken k)).0 ≡ Word (taken_at s k)
+    pub segments : (s : S) (k : ℕ) → (memory.register s (Contents k)).0 ≡ Held (segment_at s k)
+    pub mark_is_bit : (s : S) (k : ℕ) → (mark_at s k ≡ 0) ⊎ (mark_at s k ≡ 1)
+    pub others : (s : S) (a : Access TreeRegister TreeValue) (r : TreeRegister) → Spares a r → memory.register (memory.after s a) r ≡ memory.register s r
+    pub takes_mark : (s : S) (k : ℕ) → IsWithinReach s k → Takes s (Mark k) (Word 1)
+    pub takes_name : (s : S) (k identity : ℕ) → mark_at s k ≡ 1 → Takes s (Name k) (Word identity)
+    pub takes_taken : (s : S) (k : ℕ) → mark_at s k ≡ 1 → Takes s (Taken k) (Word 1)
+    pub takes_segment : (s : S) (k : ℕ) (segment : Option Record) → mark_at s k ≡ 1 → Takes s (Contents k) (Held segment)
+    pub refuses : (s : S) (a : Access TreeRegister TreeValue) → memory.may_refuse s a ≡ true → (k : ℕ) × (v : TreeValue) × (a ≡ Write (Mark k) v) × (mark_at s k ≡ 0)
+
+  -- a tree of no nodes
+  pub record IsEmptyTree (s : S) : Type 0 where
+    pub unmarked : (k : ℕ) → mark_at s k ≡ 0
+    pub unnamed : (k : ℕ) → name_at s k ≡ 0
+    pub not_taken : (k : ℕ) → taken_at s k ≡ 0
+    pub nothing_held : (k : ℕ) → segment_at s k ≡ None

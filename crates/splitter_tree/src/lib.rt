@@ -1,0 +1,62 @@
+//! A tree of splitters that grows one node at a time, in which each participant gets a place of its own, stores a value
+//! there, and collects what all have stored.
+//!
+//! The nodes are splitters (Moir and Anderson 1995). A walk begins at the root, node 1. Who stops at a node has it as its
+//! place; who goes down goes on to node 2p, who goes right to node 2p + 1. Before a walk visits a node's splitter it
+//! writes the node's mark, and that access makes the node where it is not there. So the tree is as large as the crowd that
+//! walked down it, whatever the identities are: where `b` participants have begun, at most `2b - 1` nodes were made, none
+//! deeper than `b - 1`, places are distinct, and a place comes within the first `5b` steps of a walk. A node that cannot be
+//! made for want of memory is asked for again by the same step.
+//!
+//! A *collect* reads, from the root on, a node's mark, and where it is set the node's segment and then what lies below,
+//! left before right. What it shows of each identity is a value that was its last stored one at some moment of the
+//! collect, and it shows each who had stored before it began. It takes at most `6b - 2` steps. (Mark, order and counts are
+//! this project's profile.)
+//!
+//! A caller:
+//!
+//! ```text
+//! let mut world = TreeWorld::new(alloc, 2)?;
+//! world.begin(10)?;
+//! for _ in 0..4 {
+//!     world.step(10)?;                               // None: the walk goes on
+//! }
+//! world.step(10)?;                                   // Some(1): 10 stops at the root
+//! world.store(10, 5)?;
+//! world.collect_begin(10)?;
+//! for _ in 0..3 {
+//!     world.collect_step(10)?;                       // None: mark 1, segment 1 and mark 2 are read
+//! }
+//! world.collect_step(10)?;                           // Some(10:5): mark 3 is not set
+//! ```
+#![tactic(auto)]
+
+pub mod client;
+pub mod collect;
+pub mod collect_law;
+pub mod collect_walk;
+pub mod door;
+pub mod law;
+pub mod node;
+pub mod places_law;
+pub mod register;
+#[cfg(test)]
+mod tests;
+pub mod tree;
+#[cfg(test)]
+mod tree_tests;
+pub mod walker;
+pub mod world;
+
+pub use client::{Client, Task, TreeReply};
+pub use collect::Collect;
+pub use collect_law::{law_of_collect_calls, law_of_collects};
+pub use collect_walk::CollectWalk;
+pub use door::Door;
+pub use law::law_of_nodes_and_walks;
+pub use node::{Link, Node};
+pub use places_law::law_of_places;
+pub use register::{TreeRegister, TreeValue};
+pub use tree::{Tree, law_of_tree_memory};
+pub use walker::Walker;
+pub use world::TreeWorld;

@@ -1,0 +1,162 @@
+//! Nodes, and what lies below them.
+
+ghost use Rattle.std.specs.Prelude.{◌≡◌, ◌<◌, ◌/◌, ◌^◌, ℕ, OnOk, OnErr, IfOk, true, option_copied, Some, None};
+ghost use Rattle.std.specs.FinMap as map;
+ghost use Rattle.step_memory.specs.SetAt.{set_at};
+ghost use Rattle.splitter_tree.specs.Nodes.{door_below, doors_of, grown, is_lacking, is_right};
+ghost use Rattle.splitter_tree.specs.TreeSteps.{number_in, written, fresh_door, after_write, makes_node};
+
+use crate::door::Door;
+use crate::register::{TreeRegister, TreeValue};
+use std::alloc::Allocator;
+use step_memory::{NoMemory, Place};
+
+/// A node, where it is there.
+pub type Link<A> = Option<Box<Node<A>, A>>;
+
+/// A node of the tree: what it holds, and its children. Their numbers follow from the way to them.
+#[derive(Drop)]
+pub struct Node<A: Allocator> {
+    pub door: Door,
+    /// Where down leads to: the node with twice the number of this one.
+    pub left: Link<A>,
+    /// Where right leads to: the node with one more than that.
+    pub right: Link<A>,
+}
+
+/// Whether the way to a place goes right from a node that lies so many levels above it.
+fn goes_right(place: Place, depth: u32) -> bool
+    requires above { 0 < depth }
+    requires within { depth < 128 }
+    ensures { result ≡ is_right place depth }
+{
+    (place >> (depth - 1)) % 2 == 1
+}
+
+/// What a node holds that lies so many levels below a link, where it is there.
+fn find_below<A: Allocator>(link: &Link<A>, place: Place, depth: u32) -> Option<&Door>
+    requires within { depth < 128 }
+    requires number { 0 < place / 2 ^ depth }
+    ensures { option_copied result ≡ door_below (place / 2 ^ depth) link.now place }
+{
+    let Some(node) = link else {
+        return None;
+    };
+    if depth == 0 {
+        Some(&node.door)
+    } else if goes_right(place, depth) {
+        find_below(&node.right, place, depth - 1)
+    } else {
+        find_below(&node.left, place, depth - 1)
+    }
+}
+
+/// Writes into a register of a node that lies so many levels below a link, where it is there.
+fn write_below<A: Allocator>(
+    link: &mut Link<A>,
+    depth: u32,
+    register: TreeRegister,
+    value: &TreeValue,
+)
+    requires within { depth < 128 }
+    requires number { 0 < number_in register / 2 ^ depth }
+    ensures { (q : ℕ) → door_below (number_in register / 2 ^ depth) link.new q ≡ set_at (door_below (number_in register / 2 ^ depth) link.old) (number_in register) (written register value.now (door_below (number_in register / 2 ^ depth) link.old (number_in register))) q }
+{
+    let Some(node) = link else {
+        return;
+    };
+    if depth == 0 {
+        node.door.write(register, *value);
+    } else if goes_right(register.node(), depth) {
+        write_below(&mut node.right, depth - 1, register, value);
+    } else {
+        write_below(&mut node.left, depth - 1, register, value);
+    }
+}
+
+/// A node that has just been made, with no children.
+fn leaf<A: Allocator + Clone>(alloc: &A) -> Result<Box<Node<A>, A>, NoMemory>
+    ensures { IfOk result (λ b. (p q : ℕ) → door_below p (Some b) q ≡ set_at (λ _. None) p (Some fresh_door) q) }
+{
+    let Ok(other) = alloc.clone() else {
+        return Err(NoMemory);
+    };
+    let node = Node {
+        door: Door::new(),
+        left: None,
+        right: None,
+    };
+    match Box::new(other, node) {
+        Ok(node) => Ok(node),
+        Err(_) => Err(NoMemory),
+    }
+}
+
+/// Makes the node that lies so many levels below a link, where it is not there and its parent is, if it has one below the
+/// link. An error where the node would be made and room for it was refused; nothing has changed then.
+fn grow_below<A: Allocator + Clone>(
+    link: &mut Link<A>,
+    alloc: &A,
+    place: Place,
+    depth: u32,
+) -> Result<(), NoMemory>
+    requires within { depth < 128 }
+    requires number { 0 < place / 2 ^ depth }
+    ensures grown { OnOk result ((q : ℕ) → door_below (place / 2 ^ depth) link.new q ≡ set_at (door_below (place / 2 ^ depth) link.old) place (grown (door_below (place / 2 ^ depth) link.old) place depth) q) }
+    ensures refused { OnErr result (link.new ≡ link.old) }
+    ensures no_memory { OnErr result (is_lacking (door_below (place / 2 ^ depth) link.old) place depth ≡ true) }
+{
+    match link {
+        None => {
+            if depth == 0 {
+                *link = Some(leaf(alloc)?);
+            }
+            Ok(())
+        }
+        Some(node) => {
+            if depth == 0 {
+                Ok(())
+            } else if goes_right(place, depth) {
+                grow_below(&mut node.right, alloc, place, depth - 1)
+            } else {
+                grow_below(&mut node.left, alloc, place, depth - 1)
+            }
+        }
+    }
+}
+
+/// What the node with this number holds, where it is there, in a tree with this root.
+pub(crate) fn find_from<A: Allocator>(root: &Link<A>, place: Place) -> Option<&Door>
+    ensures { option_copied result ≡ map.get (doors_of root.now) place }
+{
+    if place == 0 {
+        None
+    } else {
+        find_below(root, place, place.ilog2())
+    }
+}
+
+/// Writes into a register of a tree with this root, and makes the node whose mark it sets, where it is not there and can be
+/// made. An error where room for it was refused; nothing has changed then.
+pub(crate) fn write_from<A: Allocator + Clone>(
+    root: &mut Link<A>,
+    alloc: &A,
+    register: TreeRegister,
+    value: TreeValue,
+) -> Result<(), NoMemory>
+    ensures after { OnOk result (doors_of root.new ≡ after_write (doors_of root.old) register value) }
+    ensures refused { OnErr result (root.new ≡ root.old) }
+    ensures no_memory { OnErr result (makes_node (doors_of root.old) register value ≡ true) }
+{
+    let place = register.node();
+    if place == 0 {
+        return Ok(());
+    }
+    let depth = place.ilog2();
+    if register.is_set_by(&value) {
+        grow_below(root, alloc, place, depth)
+    } else {
+        write_below(root, depth, register, &value);
+        Ok(())
+    }
+}

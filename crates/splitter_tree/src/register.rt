@@ -1,0 +1,58 @@
+//! What the registers of a tree are called, and what stands in them.
+
+ghost use Rattle.std.specs.Prelude.{◌≡◌};
+ghost use Rattle.splitter_tree.specs.TreeSteps.{number_in, sets_mark};
+
+use step_memory::{Place, Segment};
+
+/// A register of the node with this number. The root has number 1; the children of node p are 2p, which down leads to,
+/// and 2p + 1, to the right.
+#[derive(Clone, Copy, Debug, Drop, PartialEq, Eq)]
+pub enum TreeRegister {
+    /// Whether anyone has come to the node: 1, and 0 before. A walk writes it before it visits the node's splitter.
+    Mark(Place),
+    /// X of the node's splitter: an identity, and 0 at first.
+    Name(Place),
+    /// Y of the node's splitter: 1 once it is set, and 0 before.
+    Taken(Place),
+    /// The segment of the participant whose place the node is.
+    Contents(Place),
+}
+
+/// What stands in a register of a tree.
+#[derive(Clone, Copy, Debug, Drop)]
+pub enum TreeValue {
+    /// What stands in a mark, in X or in Y.
+    Word(u64),
+    /// What stands in a segment.
+    Contents(Segment),
+}
+
+impl TreeRegister {
+    /// The number of the node whose register it is.
+    pub fn node(self) -> Place
+        ensures { result ≡ number_in self }
+    {
+        match self {
+            TreeRegister::Mark(place) => place,
+            TreeRegister::Name(place) => place,
+            TreeRegister::Taken(place) => place,
+            TreeRegister::Contents(place) => place,
+        }
+    }
+
+    /// Whether it is a mark, and this value sets it.
+    pub fn is_set_by(self, value: &TreeValue) -> bool
+        ensures { result ≡ sets_mark self value.now }
+    {
+        match self {
+            TreeRegister::Mark(_) => match value {
+                TreeValue::Word(word) => *word == 1,
+                TreeValue::Contents(_) => false,
+            },
+            TreeRegister::Name(_) => false,
+            TreeRegister::Taken(_) => false,
+            TreeRegister::Contents(_) => false,
+        }
+    }
+}

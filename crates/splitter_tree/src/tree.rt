@@ -1,0 +1,106 @@
+//! A tree of nodes as a memory.
+
+ghost use Rattle.std.specs.Prelude.{◌≡◌, OnOk, OnErr, IfOk, true, option_copied};
+ghost use Rattle.std.specs.FinMap as map;
+ghost use Rattle.splitter_tree.specs.TreeSteps.{tree_steps, empty_tree, value_in, answer_of, after_access, may_refuse, number_in};
+ghost use Rattle.splitter_tree.specs.TreeLaws.{others_kept};
+ghost use Rattle.splitter_tree.specs.TreeMemory.{IsTreeMemory, IsEmptyTree};
+ghost use Rattle.step_memory.specs.declared.access.Access.{Access};
+
+use crate::door::Door;
+use crate::node::{Link, find_from, write_from};
+use crate::register::{TreeRegister, TreeValue};
+use std::alloc::Allocator;
+use std::marker::Model;
+use step_memory::{Access, Answer, NoMemory, Place, StepMemory};
+
+/// Nodes, under an allocator of which each takes its room when it is made. Contracts see the nodes that are there by
+/// their numbers.
+#[derive(Drop)]
+pub struct Tree<A: Allocator> {
+    root: Link<A>,
+    alloc: A,
+}
+
+impl<A: Allocator> Model for Tree<A> {
+    ghost use Rattle.std.specs.Coded.{coded_ℕ};
+    ghost use Rattle.std.specs.FinMap as map;
+    ghost use Rattle.splitter_tree.specs.contracts.door.Door as door;
+    ghost use Rattle.splitter_tree.specs.TreeSteps.{Doors};
+
+    ghost Value = { Doors };
+
+    ghost coded = { map.code coded_ℕ door.the_row.coded };
+
+    ghost use Rattle.splitter_tree.specs.Nodes.{doors_of};
+
+    ghost view = { λ t. doors_of t.root };
+}
+
+impl<A: Allocator> Tree<A> {
+    /// A tree of no node.
+    pub fn new(alloc: A) -> Tree<A>
+        ensures { result ≡ empty_tree }
+    {
+        Tree { root: None, alloc }
+    }
+
+    /// What the node with this number holds, where it is there. This is no access: it is for what watches a tree from
+    /// outside.
+    pub fn door_at(&self, place: Place) -> Option<&Door>
+        ensures { option_copied result ≡ map.get self.now place }
+    {
+        find_from(&self.root, place)
+    }
+
+    /// What stands in a register.
+    fn read(&self, register: TreeRegister) -> TreeValue
+        ensures { result ≡ value_in register (map.get self.now (number_in register)) }
+    {
+        match self.door_at(register.node()) {
+            Some(door) => door.read(register),
+            None => match register {
+                TreeRegister::Mark(_) => TreeValue::Word(0),
+                TreeRegister::Name(_) => TreeValue::Word(0),
+                TreeRegister::Taken(_) => TreeValue::Word(0),
+                TreeRegister::Contents(_) => TreeValue::Contents(None),
+            },
+        }
+    }
+}
+
+impl<A: Allocator + Clone> StepMemory for Tree<A> {
+    type Reg = TreeRegister;
+
+    type Value = TreeValue;
+
+    ghost steps = { tree_steps };
+
+    fn access(&mut self, a: Access<TreeRegister, TreeValue>) -> Result<Answer<TreeValue>, NoMemory>
+        ensures answer { IfOk result (λ got. got ≡ answer_of self.old a) }
+        ensures after { OnOk result (self.new ≡ after_access self.old a) }
+        ensures refused { OnErr result (self.new ≡ self.old) }
+        ensures no_memory { OnErr result (may_refuse self.old a ≡ true) }
+    {
+        Ok(match a {
+            Access::Read(register) => Answer::Value(self.read(register)),
+            Access::Write(register, value) => {
+                write_from(&mut self.root, &self.alloc, register, value)?;
+                Answer::Done
+            }
+            Access::TestAndSet(_) => Answer::WasSet(false),
+            Access::Clear(_) => Answer::Done,
+            Access::Nothing => Answer::Done,
+        })
+    }
+
+    ghost others = { others_kept };
+}
+
+/// A law, which runs nothing: a tree is a memory in which a node is within reach once its parent is marked, a node that is
+/// marked keeps what is written to it, and only what marks a node may be refused; and a new tree has no node. Walks and
+/// collects stand on this.
+pub fn law_of_tree_memory()
+    ensures memory { IsTreeMemory tree_steps }
+    ensures empty { IsEmptyTree tree_steps empty_tree }
+{}

@@ -1,0 +1,142 @@
+//! A walk from node to node.
+
+ghost use Rattle.std.specs.Prelude.{◌≡◌};
+ghost use Rattle.splitter_tree.specs.Walk.{left_child, right_child, in_words, told, walker_at, walk_of, walker_steps, next_access, walker_after, walker_note, place_of};
+
+use crate::register::{TreeRegister, TreeValue};
+use splitter::{Stage, Visitor, Way};
+use step_memory::{Access, Answer, Note, Place, StepProgram};
+
+/// The node at which every walk begins.
+const ROOT: Place = 1;
+
+/// What stands in the mark of a node once anyone has come to it; 0 stands there before.
+const MARKED: u64 = 1;
+
+/// The node that down leads to. No tree is as deep as the numbers of places go.
+fn left_child(place: Place) -> Place
+    ensures { result ≡ left_child place }
+{
+    place.saturating_mul(2)
+}
+
+/// The node that right leads to.
+fn right_child(place: Place) -> Place
+    ensures { result ≡ right_child place }
+{
+    left_child(place).saturating_add(1)
+}
+
+/// The same access, where registers may hold segments too.
+fn in_words(access: Access<TreeRegister, u64>) -> Access<TreeRegister, TreeValue>
+    ensures { result ≡ in_words access }
+{
+    match access {
+        Access::Read(register) => Access::Read(register),
+        Access::Write(register, word) => Access::Write(register, TreeValue::Word(word)),
+        Access::TestAndSet(register) => Access::TestAndSet(register),
+        Access::Clear(register) => Access::Clear(register),
+        Access::Nothing => Access::Nothing,
+    }
+}
+
+/// What a visit learns from an answer.
+fn told(got: Answer<TreeValue>) -> Answer<u64>
+    ensures { result ≡ told got }
+{
+    match got {
+        Answer::Value(TreeValue::Word(word)) => Answer::Value(word),
+        Answer::Value(TreeValue::Contents(_)) => Answer::Done,
+        Answer::WasSet(was) => Answer::WasSet(was),
+        Answer::Done => Answer::Done,
+    }
+}
+
+/// A walk of one identity, which is not 0, down a tree of splitters from its root: the node before which it stands, and
+/// its visit there. First it writes the node's mark, by which a node that is not there is made; then it visits the
+/// node's splitter. A visit that ends down ends before the left child, one that ends right before the right child, of
+/// which the next step marks the one reached; one that stops ends the walk, and the node is its place.
+#[derive(Clone, Copy, Debug, Drop, PartialEq, Eq)]
+pub struct Walker {
+    pub visitor: Visitor<TreeRegister>,
+    pub place: Place,
+    /// Whether the next access is that to the mark.
+    pub is_marking: bool,
+}
+
+impl Walker {
+    /// A walk that begins: it stands before the root and has made no access.
+    pub fn new(identity: u64) -> Walker
+        ensures { result ≡ walk_of identity }
+    {
+        Walker::before(identity, ROOT)
+    }
+
+    /// A walk that stands before a node.
+    fn before(identity: u64, place: Place) -> Walker
+        ensures { result ≡ walker_at identity place }
+    {
+        Walker {
+            visitor: Visitor::new(
+                identity,
+                TreeRegister::Name(place),
+                TreeRegister::Taken(place),
+            ),
+            place,
+            is_marking: true,
+        }
+    }
+
+    /// The place at which the walk has ended, where it has.
+    pub fn place(&self) -> Option<Place>
+        ensures { result ≡ place_of self.now }
+    {
+        match self.visitor.stage {
+            Stage::Gone(Way::Stop) => Some(self.place),
+            Stage::Gone(Way::Right) | Stage::Gone(Way::Down) => None,
+            Stage::Outside | Stage::WroteName | Stage::SawClear | Stage::WroteMark => None,
+        }
+    }
+}
+
+impl StepProgram for Walker {
+    type Reg = TreeRegister;
+
+    type Value = TreeValue;
+
+    type Output = Place;
+
+    ghost steps = { walker_steps };
+
+    fn next(&self) -> Access<TreeRegister, TreeValue>
+        ensures { result ≡ next_access self.now }
+    {
+        if self.is_marking {
+            Access::Write(TreeRegister::Mark(self.place), TreeValue::Word(MARKED))
+        } else {
+            in_words(self.visitor.next())
+        }
+    }
+
+    fn resume(&mut self, got: Answer<TreeValue>) -> Note<Place>
+        ensures after { self.new ≡ walker_after self.old got }
+        ensures note { result ≡ walker_note self.old got }
+    {
+        if self.is_marking {
+            self.is_marking = false;
+            return Note::Quiet;
+        }
+        match self.visitor.resume(told(got)) {
+            Note::Ended(Way::Stop) => Note::Ended(self.place),
+            Note::Ended(Way::Right) => {
+                *self = Walker::before(self.visitor.identity, right_child(self.place));
+                Note::Quiet
+            }
+            Note::Ended(Way::Down) => {
+                *self = Walker::before(self.visitor.identity, left_child(self.place));
+                Note::Quiet
+            }
+            Note::Said(_) | Note::Quiet => Note::Quiet,
+        }
+    }
+}

@@ -1,0 +1,184 @@
+//! A world whose participants walk down one tree, store values at their places, and collect them.
+
+ghost use Rattle.std.specs.Prelude.{◌≡◌, ◌≢◌, ℕ, [], ◌∷◌, ◌++◌, List, IfOk, IfErr, IsOk, Err, OnErr, true, ◌≤◌, ◌<◌, ◌⊎◌, ◌↔◌, option_and_then};
+ghost use Rattle.splitter_tree.specs.Client.{client_steps};
+ghost use Rattle.splitter_tree.specs.TreeCalls.{TreeCall};
+ghost use Rattle.splitter_tree.specs.TreeCalls.TreeCall.{Began, Stepped, Stored, CollectBegan, CollectStepped};
+ghost use Rattle.splitter_tree.specs.TreeSteps.{tree_steps, empty_tree};
+ghost use Rattle.splitter_tree.specs.TreeWorld.{after_tree_begin, asking_refusal, place_answer, after_placing, may_lack_memory, after_store, after_collect_begin, view_answer, after_collecting};
+ghost use Rattle.splitter_tree.specs.CollectLaw.{KeepsCollectLaw};
+ghost use Rattle.splitter_tree.specs.Consistent.{IsTree};
+ghost use Rattle.splitter_tree.specs.PlacesLaw.{KeepsPlacesLaw, way_calls, walkers};
+ghost use Rattle.splitter_tree.specs.Run.{After};
+ghost use Rattle.splitter_tree.specs.Walk.{place_of};
+ghost use Rattle.step_memory.specs.Calls.{begun_in};
+ghost use Rattle.step_memory.specs.Locality.{IsLocal, LookAlike};
+ghost use Rattle.step_memory.specs.Participant.{program_of};
+ghost use Rattle.step_memory.specs.World.{begin_refusal, done_unless};
+
+use crate::client::{Client, place_told, view_told};
+use crate::tree::Tree;
+use std::alloc::Allocator;
+use std::marker::Model;
+use step_memory::{Place, Refusal, View, World};
+
+/// Participants that walk down one tree, each to a place of its own, store values there, and collect what all have
+/// stored. Nodes are made one at a time, as walks come to them.
+#[derive(Drop)]
+pub struct TreeWorld<A: Allocator> {
+    world: World<Client, Tree<A>, A>,
+}
+
+impl<A: Allocator> Model for TreeWorld<A> {
+    ghost use Rattle.splitter_tree.specs.Run.{TreeWorldState};
+    ghost use Rattle.splitter_tree.specs.contracts.client.Client as client;
+    ghost use Rattle.splitter_tree.specs.contracts.door.Door as door;
+    ghost use Rattle.std.specs.Coded.{coded_ℕ};
+    ghost use Rattle.std.specs.FinMap as map;
+    ghost use Rattle.step_memory.specs.WorldCode.{world_code};
+
+    ghost Value = { TreeWorldState };
+
+    ghost coded = { world_code (map.code coded_ℕ door.the_row.coded) client.the_row.coded };
+
+    ghost view = { λ w. w.world };
+}
+
+impl<A: Allocator + Clone> TreeWorld<A> {
+    /// A tree of no nodes, for at most `most` participants, from 1 to 16; `OutOfRange` elsewhere. The room for the
+    /// participants is taken here, that for a node when a walk comes to it first.
+    pub fn new(alloc: A, most: usize) -> Result<Self, Refusal>
+        ensures fresh { IfOk result (λ w. w ≡ record { memory = empty_tree; most = most; participants = [] }) }
+        ensures after { IfOk result (λ w. After w []) }
+        ensures range { IsOk result → (1 ≤ most) × (most ≤ 16) }
+        ensures out_of_range { result ≡ Err Refusal.OutOfRange ↔ ((most < 1) ⊎ (16 < most)) }
+        ensures only { IfErr result (λ r. (r ≡ Refusal.NoMemory) ⊎ (r ≡ Refusal.OutOfRange)) }
+    {
+        if most < 1 || 16 < most {
+            return Err(Refusal::OutOfRange);
+        }
+        let Ok(other) = alloc.clone() else {
+            return Err(Refusal::NoMemory);
+        };
+        match World::new(alloc, Tree::new(other), most) {
+            Ok(world) => Ok(TreeWorld { world }),
+            Err(_) => Err(Refusal::NoMemory),
+        }
+    }
+
+    /// A participant begins: its walk has made no access. Refused where the identity is 0, then where it has begun, then
+    /// where as many have begun as there may be.
+    pub fn begin(&mut self, id: u64) -> Result<(), Refusal>
+        ensures answer { result ≡ done_unless (begin_refusal self.old id) }
+        ensures state { self.new ≡ after_tree_begin self.old id }
+        ensures after { (r : List TreeCall) → After self.old r → After self.new (r ++ Began id result ∷ []) }
+
+        // The law of the places, over every list of calls and replies that the world may be after.
+        ensures places { (r : List TreeCall) → After self.new r → KeepsPlacesLaw r }
+        ensures nodes { (r : List TreeCall) → After self.new r → IsTree tree_steps (begun_in (way_calls r)) self.new.memory (walkers self.new.participants) }
+    {
+        self.world.begin(id, Client::new(id))
+    }
+
+    /// One step on the way to a place, which is one access; the place, once it is reached. Refused where the identity
+    /// has not begun, then where it has its place. Refused too where the access makes a node and its growth was refused:
+    /// nothing has then changed, and the same step may be asked again.
+    pub fn step(&mut self, id: u64) -> Result<Option<Place>, Refusal>
+        ensures answer { result ≢ Err Refusal.NoMemory → result ≡ place_answer tree_steps self.old id }
+        ensures state { result ≢ Err Refusal.NoMemory → self.new ≡ after_placing tree_steps self.old id }
+        ensures refused { OnErr result (self.new ≡ self.old) }
+        ensures no_memory { result ≡ Err Refusal.NoMemory → may_lack_memory tree_steps self.old id ≡ true }
+        ensures after { (r : List TreeCall) → After self.old r → After self.new (r ++ Stepped id result ∷ []) }
+        ensures places { (r : List TreeCall) → After self.new r → KeepsPlacesLaw r }
+        ensures nodes { (r : List TreeCall) → After self.new r → IsTree tree_steps (begun_in (way_calls r)) self.new.memory (walkers self.new.participants) }
+
+        // Nothing of the world changes but this participant and the register that it names, and in another world that
+        // looks alike to this participant the answer is the same.
+        ensures local { IsLocal client_steps tree_steps id self.old self.new }
+    {
+        let Some(client) = self.world.program(id) else {
+            return Err(Refusal::NotBegun);
+        };
+        if !client.is_placing() {
+            return Err(Refusal::Finished);
+        }
+        let note = self.world.step(id)?;
+        Ok(place_told(&note))
+    }
+
+    /// Stores a value at one's place, by one write. Refused where the identity has not begun, then where it has no place
+    /// yet or a collect of it is under way.
+    pub fn store(&mut self, id: u64, value: u64) -> Result<(), Refusal>
+        ensures answer { result ≡ done_unless (asking_refusal self.old id) }
+        ensures state { self.new ≡ after_store tree_steps self.old id value }
+        ensures after { (r : List TreeCall) → After self.old r → After self.new (r ++ Stored id value result ∷ []) }
+
+        // The law of collects, over every list of calls and replies that the world may be after.
+        ensures collects { (r : List TreeCall) → After self.new r → KeepsCollectLaw r }
+    {
+        let Some(client) = self.world.program(id) else {
+            return Err(Refusal::NotBegun);
+        };
+        if !client.is_idle() {
+            return Err(Refusal::AlreadyBegun);
+        }
+        let client = client.storing(value);
+        self.world.set(id, client)?;
+        self.world.step(id)?;
+        Ok(())
+    }
+
+    /// Begins a collect, which the next calls of `collect_step` make; this call makes no access. Refused where the
+    /// identity has not begun, then where it has no place yet or a collect of it is under way.
+    pub fn collect_begin(&mut self, id: u64) -> Result<(), Refusal>
+        ensures answer { result ≡ done_unless (asking_refusal self.old id) }
+        ensures state { self.new ≡ after_collect_begin self.old id }
+        ensures after { (r : List TreeCall) → After self.old r → After self.new (r ++ CollectBegan id result ∷ []) }
+        ensures collects { (r : List TreeCall) → After self.new r → KeepsCollectLaw r }
+    {
+        let Some(client) = self.world.program(id) else {
+            return Err(Refusal::NotBegun);
+        };
+        if !client.is_idle() {
+            return Err(Refusal::AlreadyBegun);
+        }
+        let client = client.collecting();
+        self.world.set(id, client)
+    }
+
+    /// One step of a collect, which is one read; the view, once it ends: what was stored at each place that it met.
+    /// Refused where the identity has not begun, then where no collect of it is under way.
+    pub fn collect_step(&mut self, id: u64) -> Result<Option<View>, Refusal>
+        ensures answer { result ≡ view_answer tree_steps self.old id }
+        ensures state { self.new ≡ after_collecting tree_steps self.old id }
+        ensures after { (r : List TreeCall) → After self.old r → After self.new (r ++ CollectStepped id result ∷ []) }
+        ensures collects { (r : List TreeCall) → After self.new r → KeepsCollectLaw r }
+        ensures local { IsLocal client_steps tree_steps id self.old self.new }
+    {
+        let Some(client) = self.world.program(id) else {
+            return Err(Refusal::NotBegun);
+        };
+        if !client.is_collecting() {
+            return Err(Refusal::Finished);
+        }
+        let note = self.world.step(id)?;
+        Ok(view_told(&note))
+    }
+
+    /// The place of a participant, once it has one.
+    pub fn place_of(&self, id: u64) -> Option<Place>
+        ensures { result ≡ option_and_then (λ c. place_of c.walker) (program_of id self.now.participants) }
+    {
+        let Some(client) = self.world.program(id) else {
+            return None;
+        };
+        client.walker.place()
+    }
+
+    /// The tree, for what watches from outside.
+    pub fn tree(&self) -> &Tree<A>
+        ensures { result.now ≡ self.now.memory }
+    {
+        self.world.memory()
+    }
+}
