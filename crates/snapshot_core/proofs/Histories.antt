@@ -200,9 +200,6 @@ module _ (last : ℕ) (past : ℕ → ℕ → Option Record) (moment : ℕ → �
     | Some r ↦ λ k. absurd (free r.identity x (h.owned x i r l k) e)
   ] refl
 
-  place_other : (q : ℕ) → q ≢ p → set_at place p new q ≡ place q
-  place_other q n = set_at-other place p new q n
-
   value_same : (i q : ℕ) → i ≤ last → value_in (past i) (place q) ≡ value_in (past i) (set_at place p new q)
   value_same i q l = elim (eqb_tells q p) [
     | inl e ↦ rw e.0 (ap (value_in (past i)) (ap place e.1 ∙ absent) ∙ elim new as (λ o. new ≡ o → None ≡ value_in (past i) o) [ None ↦ λ _. refl | Some x ↦ λ k. sym (ap value (nothing_there x i k l)) ] refl)

@@ -4,7 +4,7 @@ ghost use Rattle.std.specs.Prelude.{◌≡◌, ◌<◌, ◌≤◌, ℕ, OnOk, On
 ghost use Rattle.step_memory.specs.declared.access.Access.{Access};
 ghost use Rattle.step_memory.specs.Steps.{answer_from};
 ghost use Rattle.snapshot_core.specs.Fixed.{fixed_steps, register_of, after_access, walker_steps, fixed_walks, fixed_place, fixed_walker, fixed_walk};
-ghost use Rattle.snapshot_core.specs.FixedTies.{fixed_ties};
+ghost use Rattle.snapshot_core.specs.FixedTies.{IsEmptyRow, fixed_ties};
 ghost use Rattle.snapshot_core.specs.FixedLaws.{others_kept, fixed_laws};
 
 use crate::places::{PlaceWalker, Places};
@@ -36,6 +36,7 @@ impl<A: Allocator> Fixed<A> {
     /// them was refused.
     pub fn new(alloc: A, most: usize) -> Result<Self, Refusal>
         ensures empty { IfOk result (λ s. s ≡ replicate most None) }
+        ensures fresh { IfOk result IsEmptyRow }
         ensures too_few { most < 1 → result ≡ Err Refusal.OutOfRange }
         ensures too_many { 16 < most → result ≡ Err Refusal.OutOfRange }
         ensures in_range { 1 ≤ most → most ≤ 16 → IfErr result (λ why. why ≡ Refusal.NoMemory) }

@@ -1,4 +1,4 @@
-use crate::{Fixed, Places, SnapReply, SnapWorld, snapshot_law};
+use crate::{Fixed, Places, SnapReply, SnapWorld, law_of_snapshot_calls, snapshot_law};
 use std::alloc::Global;
 use std::process::Abort;
 use std::test::Fail;
@@ -157,5 +157,6 @@ fn alone_over_any_places(rt: HostRuntime) -> Result<(), Fail> {
     assert_eq!(rt; segment.number, 1);
     assert_eq!(rt; world.places().most(), 16);
     snapshot_law(&world);
+    law_of_snapshot_calls::<Fixed<Global>>();
     Ok(())
 }
