@@ -28,9 +28,3 @@ climbed_is p = climb_enough p (suc p) p (omega arith) (omega arith) ∙ ap (λ x
 
 pub climbed_up : (p : ℕ) → p % 2 ≡ 1 → 1 < p → climbed p ≡ climbed (p / 2)
 climbed_up p odd more = climbed_is p ∙ elim (climbs_tells p) [ inl e ↦ rw e.0 refl | inr e ↦ elim e.1 [ inl l ↦ absurd (omega arith) | inr l ↦ absurd (omega (arith, l.0)) ] ]
-
-pub climbed_here : (p : ℕ) → p % 2 ≡ 0 → climbed p ≡ p
-climbed_here p even = climbed_is p ∙ elim (climbs_tells p) [ inl e ↦ absurd (omega (arith, e.1)) | inr e ↦ rw e.0 refl ]
-
-pub climbed_top : (p : ℕ) → p ≤ 1 → climbed p ≡ p
-climbed_top p few = climbed_is p ∙ elim (climbs_tells p) [ inl e ↦ absurd (omega (arith, e.2)) | inr e ↦ rw e.0 refl ]

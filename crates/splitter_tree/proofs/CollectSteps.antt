@@ -1,8 +1,7 @@
 -- each call of a tree's world keeps the tie, and is one that the law of collects allows
-use Rattle.std.proofs.Common.{◌≡◌, ◌≢◌, ℕ, suc, ◌+◌, ◌-◌, ◌*◌, ◌<◌, ◌≤◌, ◌==◌, Bool, true, false, cond, List, [], ◌∷◌, ◌++◌, length, length-append, Option, Some, None, Result, Ok, Err, inl, inr, refl, sym, ap, subst, ◌∙◌, arith}
+use Rattle.std.proofs.Common.{◌≡◌, ℕ, suc, ◌+◌, ◌-◌, ◌*◌, ◌<◌, ◌≤◌, ◌==◌, Bool, true, false, cond, List, [], ◌∷◌, ◌++◌, length, length-append, Option, Some, None, Result, Ok, Err, inl, inr, refl, sym, ap, subst, ◌∙◌, arith}
 use Rattle.std.specs.Prelude.{is_some, not}
 use Rattle.std.proofs.Math.Path.{fun_ext}
-use Rattle.std.proofs.lemmas.Bool.Decides.{eqb_tells, leb_tells}
 use Rattle.step_memory.specs.SetAt.{set_at}
 use Rattle.step_memory.specs.Runs.{Run}
 use Rattle.step_memory.specs.Note.{ends}
@@ -13,44 +12,40 @@ use Rattle.step_memory.specs.Participant.{participant_of, program_of, with_parti
 use Rattle.step_memory.specs.declared.access.Access.TheVariants.{Read, Write}
 use Rattle.step_memory.specs.declared.access.Answer.{Answer}
 use Rattle.step_memory.specs.declared.access.Answer.TheVariants.{Value}
-use Rattle.step_memory.specs.declared.note.Note.{Note}
-use Rattle.step_memory.specs.declared.note.Note.TheVariants.{Quiet, Said, Ended}
 use Rattle.step_memory.specs.declared.participant.Participant.{Participant}
 use Rattle.step_memory.specs.declared.record.Record.{Record}
 use Rattle.step_memory.specs.declared.refusal.Refusal.{Refusal}
-use Rattle.step_memory.specs.declared.refusal.Refusal.TheVariants.{ZeroIdentity, AlreadyBegun, Full, NotBegun, Finished}
+use Rattle.step_memory.specs.declared.refusal.Refusal.TheVariants.{AlreadyBegun, NotBegun, Finished}
 use Rattle.step_memory.proofs.ParticipantLemmas.{participant_of-push, participant_of-put, length-with_participant}
 use Rattle.step_memory.proofs.SetAtLemmas.{set_at-same, set_at-other}
 use Rattle.step_memory.proofs.StepLemmas.{going_answer, going_after}
-use Rattle.splitter.specs.declared.stage.Stage.{Stage}
-use Rattle.splitter.specs.declared.stage.Stage.TheVariants.{Outside, WroteName, SawClear, WroteMark, Gone}
-use Rattle.splitter.specs.declared.way.Way.TheVariants.{Stop, Right, Down}
-use Rattle.splitter.specs.Visitor.{stage_by}
 use Rattle.splitter_tree.specs.declared.register.TreeRegister.{TreeRegister}
 use Rattle.splitter_tree.specs.declared.register.TreeRegister.TheVariants.{Contents}
 use Rattle.splitter_tree.specs.declared.register.TreeValue.{TreeValue}
 use Rattle.splitter_tree.specs.declared.register.TreeValue.TheVariants.{Contents as Held}
-use Rattle.splitter_tree.specs.declared.walker.Walker.{Walker}
 use Rattle.splitter_tree.specs.declared.collect.Collect.{Collect}
 use Rattle.splitter_tree.specs.declared.client.Client.{Client}
 use Rattle.splitter_tree.specs.declared.client.Task.{Task}
 use Rattle.splitter_tree.specs.declared.client.Task.TheVariants.{Placing, Nothing, Storing, Collecting}
 use Rattle.splitter_tree.specs.TreeMemory.{IsTreeMemory, IsEmptyTree, segment_in}
-use Rattle.splitter_tree.specs.Walk.{next_access, walker_after, walker_note, walked_to, note_at_node, place_of, told}
+use Rattle.splitter_tree.specs.Walk.{next_access, walker_after, walker_note, place_of}
 use Rattle.splitter_tree.specs.Collect.{collect_reads, first_collect, collect_after, collect_view, view_with}
 use Rattle.splitter_tree.specs.CollectWalk.{walk_is_over}
-use Rattle.splitter_tree.specs.Client.{client_of, client_steps, client_access, client_after, client_note, is_placing, is_idle, is_collecting, is_placed, placed_note, storing, collecting, record_of, write_at, collected_note, task_after, view_told}
+use Rattle.splitter_tree.specs.Client.{client_of, client_steps, client_access, client_after, client_note, is_placing, is_idle, is_collecting, is_placed, storing, collecting, record_of, write_at, collected_note, task_after, view_told}
 use Rattle.splitter_tree.specs.TreeWorld.{TreeState, asking_refusal, after_placing, after_store, after_collect_begin, view_answer, after_collecting}
 use Rattle.splitter_tree.specs.TreeCalls.{TreeCall, next, IsReply, IsAfter}
 use Rattle.splitter_tree.specs.TreeCalls.TreeCall.{Began, Stepped, Stored, CollectBegan, CollectStepped}
 use Rattle.splitter_tree.specs.CollectLaw.{CollectObject, new_object, one_begun, with_moment, collect_begun, collect_stepped, goes_on, observed, ShowsValues, most_steps, AllowsStep, Allows, KeepsCollectLaw}
 use Rattle.splitter_tree.specs.Ahead.{marked_in}
 use Rattle.splitter_tree.specs.Count.{count_to}
+use Rattle.splitter_tree.proofs.Counting.{count_none}
 use Rattle.splitter_tree.proofs.TreeCallLemmas.{Goes, absent_place, placed_place, going_place, absent_view, idle_view, going_view, absent_store, busy_store, going_store, collect_absent, collect_busy, collect_goes}
-use Rattle.splitter_tree.proofs.ReadCount.{count_none, reads_few, nodes_few}
+use Rattle.splitter_tree.proofs.ReadCount.{reads_few, nodes_few}
 use Rattle.splitter_tree.proofs.ConsistentKept.{consistent_new}
 use Rattle.splitter_tree.proofs.UnderWay.{UnderWay, under_way_at_first, read_still, read_stored, read_rising, under_way_read, TellsOf}
-use Rattle.splitter_tree.proofs.CollectTied.{Person, walker_in, place_in, collect_of, collect_in, IsNamed, Agrees, path_of, few_marked, few_placed, got_by, tells, tasked, stored_kept, placing_kept, begun_kept}
+use Rattle.splitter_tree.specs.PlacesLaw.{walker_in}
+use Rattle.splitter_tree.proofs.PlacesTied.{IsClientOf, let_in, end_is_told, placed_goes, collected_goes, no_place, task_told}
+use Rattle.splitter_tree.proofs.CollectTied.{Person, place_in, collect_of, collect_in, Agrees, path_of, few_marked, few_placed, got_by, tells, tasked, stored_kept, placing_kept, begun_kept}
 
 -- what a task is, by its tests
 placing_is : (k : Task) → is_placing k ≡ true → k ≡ Placing
@@ -71,30 +66,6 @@ collecting_is Nothing h = absurd (cc)
 collecting_is (Storing value) h = absurd (cc)
 collecting_is (Collecting c) h = (c, refl)
 
--- a walk that ends says so, and has a place then
-place_at_end : (u : Walker) (s : Stage) → is_placed (note_at_node u.place s) ≡ is_some (place_of (walked_to u s))
-place_at_end u Outside = refl
-place_at_end u WroteName = refl
-place_at_end u SawClear = refl
-place_at_end u WroteMark = refl
-place_at_end u (Gone Stop) = refl
-place_at_end u (Gone Right) = refl
-place_at_end u (Gone Down) = refl
-
-place_with_note : (u : Walker) (got : Answer TreeValue) → place_of u ≡ None → is_placed (walker_note u got) ≡ is_some (place_of (walker_after u got))
-place_with_note u got off =
-    let s : Stage = stage_by u.visitor (told got) in
-    elim u.is_marking as (λ x. is_placed (cond x Quiet (note_at_node u.place s)) ≡ is_some (place_of (cond x (record u { is_marking = false }) (walked_to u s)))) [ true ↦ sym (ap is_some off) | false ↦ place_at_end u s ]
-
-never_ends : (n : Note ℕ) → ends (placed_note n) ≡ false
-never_ends Quiet = refl
-never_ends (Said place) = refl
-never_ends (Ended place) = refl
-
-is_none : {X : Type 0} (o : Option X) → true ≡ not (is_some o) → o ≡ None
-is_none None h = refl
-is_none (Some x) h = absurd (cc)
-
 has_some : {X : Type 0} (o : Option X) → false ≡ not (is_some o) → (x : X) × (o ≡ Some x)
 has_some None h = absurd (cc)
 has_some (Some x) h = (x, refl)
@@ -103,35 +74,12 @@ shown_is : (shown : Option (List (ℕ × ℕ))) → view_told (collected_note sh
 shown_is None = refl
 shown_is (Some view) = refl
 
-shown_ends : (shown : Option (List (ℕ × ℕ))) → ends (collected_note shown) ≡ false
-shown_ends None = refl
-shown_ends (Some view) = refl
-
 someone : {P : Type 0} (id : ℕ) (ps : List (Participant P)) (v : Participant P) → participant_of id ps ≡ Some v → 1 ≤ length ps
 someone id [] v h = absurd (cc)
 someone id (p ∷ ps) v h = omega arith
 
 set_twice : {X : Type 0} (f : ℕ → X) (p : ℕ) (x y : X) (q : ℕ) → set_at (set_at f p x) p y q ≡ set_at f p y q
 set_twice f p x y q = elim (q == p) as (λ t. cond t y (cond t x (f q)) ≡ cond t y (f q)) [ true ↦ refl | false ↦ refl ]
-
--- who is let in is not zero and has not begun, and there is room
-record IsLetIn {S : Type 0} (w : TreeState S) (id : ℕ) : Type 0 where
-  some : id ≢ 0
-  absent : participant_of id w.participants ≡ None
-  room : length w.participants < w.most
-
-let_in : {S : Type 0} (w : TreeState S) (id : ℕ) → begin_refusal w id ≡ None → IsLetIn w id
-let_in w id h = elim (eqb_tells id 0) [
-  | inl z ↦ absurd (let k : Some ZeroIdentity ≡ None = rw z.0 at h in cc)
-  | inr z ↦
-      elim (participant_of id w.participants) as (λ o. participant_of id w.participants ≡ o → IsLetIn w id) [
-        | Some v ↦ λ e. absurd (let k : Some AlreadyBegun ≡ None = rw (z.0, e) at h in cc)
-        | None ↦ λ e. elim (leb_tells w.most (length w.participants)) [
-          | inl l ↦ absurd (let k : Some Full ≡ None = rw (z.0, e, l.0) at h in cc)
-          | inr l ↦ record { some = z.1; absent = e; room = l.1 }
-        ]
-      ] refl
-]
 
 module _ {S : Type 0} (memory : MemorySteps S TreeRegister TreeValue) (tree : IsTreeMemory memory) where
   -- who has begun
@@ -166,7 +114,7 @@ module _ {S : Type 0} (memory : MemorySteps S TreeRegister TreeValue) (tree : Is
             let after : TreeState S = record { memory = w.memory; most = w.most; participants = w.participants ++ new ∷ [] } in (
               tt,
               tied_as after (suc (length w.participants)) (set_at (persons w) id (Some new)) (one_begun o) (omega (arith, length-append w.participants (new ∷ []))) (participant_of-push w.participants new l.absent)
-                  (begun_kept memory tree w.most (length w.participants) w.memory (persons w) o t id l.some l.absent l.room new (record { identity = refl; ended = refl; placing = refl }) refl refl),
+                  (begun_kept memory tree w.most (length w.participants) w.memory (persons w) o t id l.not_zero l.absent l.room new (record { own = refl; goes = refl; task = refl }) refl refl),
             )
       ] refl)
 
@@ -181,22 +129,22 @@ module _ {S : Type 0} (memory : MemorySteps S TreeRegister TreeValue) (tree : Is
           | false ↦ λ f. subst (λ (x : TreeState S). Tied x o) (placed_place memory w id v.program h f).1 t
           | true ↦ λ f.
               let k : v.program.task ≡ Placing = placing_is v.program.task f in
-              let off : place_of v.program.walker ≡ None = is_none (place_of v.program.walker) (sym f ∙ n.placing) in
+              let off : place_of v.program.walker ≡ None = no_place (place_of v.program.walker) (sym n.task ∙ f) in
               let got : Answer TreeValue = answer_from (memory.register w.memory) (next_access v.program.walker) in
               let new : Participant Client = resumed client_steps v got in
               let after : TreeState S = record { memory = memory.after w.memory (next_access v.program.walker); most = w.most; participants = with_participant new w.participants } in
               let access : client_access v.program ≡ next_access v.program.walker = rw k refl in
-              let is : after_placing memory w id ≡ after = (going_place memory w id v.program h f).1 ∙ going_after client_steps memory w id v e n.ended ∙ rw access refl in
-              let named : IsNamed id new = record {
-                identity = n.identity;
-                ended = rw k (never_ends (walker_note v.program.walker got));
-                placing = rw k (let note = place_with_note v.program.walker got off in elim (is_placed (walker_note v.program.walker got)) as (λ x. x ≡ is_some (place_of (walker_after v.program.walker got)) → is_placing (cond x Nothing Placing) ≡ not (is_some (place_of (walker_after v.program.walker got)))) [ true ↦ λ y. ap not y | false ↦ λ y. ap not y ] note);
+              let is : after_placing memory w id ≡ after = (going_place memory w id v.program h f).1 ∙ going_after client_steps memory w id v e n.goes ∙ rw access refl in
+              let named : IsClientOf id new = record {
+                own = n.own;
+                goes = rw k (placed_goes (walker_note v.program.walker got));
+                task = rw k (task_told (is_placed (walker_note v.program.walker got)) Placing refl ∙ ap not (end_is_told v.program.walker got off));
               } in
               let idle : collect_of new.program.task ≡ None = rw k (elim (is_placed (walker_note v.program.walker got)) as (λ x. collect_of (cond x Nothing Placing) ≡ None) [ true ↦ refl | false ↦ refl ]) in
               let was_idle : collect_of v.program.task ≡ None = rw k refl in
               let walks : new.program.walker ≡ walker_after v.program.walker got = rw k refl in
               subst (λ (x : TreeState S). Tied x o) (sym is)
-              (tied_as after (length w.participants) (set_at (persons w) id (Some new)) o (length-with_participant w.participants new) (put_is w id v new e n.identity)
+              (tied_as after (length w.participants) (set_at (persons w) id (Some new)) o (length-with_participant w.participants new) (put_is w id v new e n.own)
               (placing_kept memory tree w.most (length w.participants) w.memory (persons w) o t id v e new named idle was_idle off walks))
         ] refl
   ] refl
@@ -209,7 +157,7 @@ module _ {S : Type 0} (memory : MemorySteps S TreeRegister TreeValue) (tree : Is
       Tied (after_step client_steps memory (after_set w id (storing v.program value)) id) (with_moment o id value)
   stored_goes w o id value v t e k =
       let n = t.named id v e in
-      let place = has_some (place_of v.program.walker) (rw k at n.placing) in
+      let place = has_some (place_of v.program.walker) (rw k at n.task) in
       let r : Record = record_of v.program value in
       let asked : Participant Client = beginner id (storing v.program value) in
       let before : TreeState S = after_set w id (storing v.program value) in
@@ -224,7 +172,7 @@ module _ {S : Type 0} (memory : MemorySteps S TreeRegister TreeValue) (tree : Is
       let own : place_in (persons w id) ≡ Some place.0 = ap place_in e ∙ place.1 in
       let by : r.identity ≡ id = (t.consistent.agree.walks id v.program.walker (ap walker_in e)).identity in
       let was_idle : collect_in (persons w id) ≡ None = rw (e, k) refl in
-      let named : IsNamed id new = record { identity = refl; ended = refl; placing = rw k at n.placing } in
+      let named : IsClientOf id new = record { own = refl; goes = refl; task = rw k at n.task } in
       subst (λ (x : TreeState S). Tied x (with_moment o id value)) (sym is)
       (tied_as after (length w.participants) (set_at (persons w) id (Some new)) (with_moment o id value) (length-with_participant before.participants new ∙ length-with_participant w.participants asked) puts
       (stored_kept memory tree w.most (length w.participants) w.memory (persons w) o t id v e new named refl place.0 own r by refl was_idle))
@@ -258,7 +206,7 @@ module _ {S : Type 0} (memory : MemorySteps S TreeRegister TreeValue) (tree : Is
   collect_goes_on w o id v t e k =
       let n = t.named id v e in
       let new : Participant Client = beginner id (collecting v.program) in
-      let named : IsNamed id new = record { identity = refl; ended = refl; placing = rw k at n.placing } in
+      let named : IsClientOf id new = record { own = refl; goes = refl; task = rw k at n.task } in
       let first = under_way_at_first (marked_in memory w.memory) (λ q. place_in (persons w q)) o.moment o.last (path_of memory tree w.most (length w.participants) w.memory (persons w) o t) in
       tied_as (after_set w id (collecting v.program)) (length w.participants) (set_at (persons w) id (Some new)) (collect_begun o id) (length-with_participant w.participants new) (put_is w id v new e refl)
       (tasked memory tree w.most (length w.participants) w.memory (persons w) o t id v e new named refl w.memory (λ r. refl) (set_at o.collects id true) (set_at o.since id o.last) (set_at o.steps id 0) (λ q. refl)
@@ -355,13 +303,13 @@ module _ {S : Type 0} (memory : MemorySteps S TreeRegister TreeValue) (tree : Is
     placed_still None = refl
     placed_still (Some view) = refl
 
-    stepped_named : IsNamed id stepped
+    stepped_named : IsClientOf id stepped
     stepped_named =
         let n = t.named id v e in
         record {
-          identity = n.identity;
-          ended = ap ends note_is ∙ shown_ends (collect_view c got);
-          placing = ap (λ (x : Client). is_placing x.task) program_is ∙ placed_still (collect_view c got) ∙ (rw k at n.placing) ∙ ap (λ (x : Client). not (is_some (place_of x.walker))) (sym program_is);
+          own = n.own;
+          goes = ap ends note_is ∙ collected_goes (collect_view c got);
+          task = ap (λ (x : Client). is_placing x.task) program_is ∙ placed_still (collect_view c got) ∙ (rw k at n.task) ∙ ap (λ (x : Client). not (is_some (place_of x.walker))) (sym program_is);
         }
 
     -- the tie after the step
@@ -369,7 +317,7 @@ module _ {S : Type 0} (memory : MemorySteps S TreeRegister TreeValue) (tree : Is
         ((d : Collect) → collect_of (task_after (collect_after c got) shown) ≡ Some d → UnderWay (marked_in memory w.memory) place_now o.moment o.last (o.since id) (o.steps id + 1) d) → Tied after (collect_stepped o id shown)
     tied_then shown is going own =
         let task : stepped.program.task ≡ task_after (collect_after c got) shown = ap (λ (x : Client). x.task) program_is ∙ ap (task_after (collect_after c got)) is in
-        tied_as after (length w.participants) (set_at (persons w) id (Some stepped)) (collect_stepped o id shown) (length-with_participant w.participants stepped) (put_is w id v stepped e (t.named id v e).identity)
+        tied_as after (length w.participants) (set_at (persons w) id (Some stepped)) (collect_stepped o id shown) (length-with_participant w.participants stepped) (put_is w id v stepped e (t.named id v e).own)
         (tasked memory tree w.most (length w.participants) w.memory (persons w) o t id v e stepped stepped_named (ap (λ (x : Client). x.walker) program_is) read_on (λ r. tree.others w.memory (Read (collect_reads c)) r tt)
         (set_at o.collects id (goes_on shown)) o.since (set_at o.steps id (o.steps id + 1)) (λ q. ap (λ (x : Bool). set_at o.collects id x q) (going ∙ ap (λ (x : Task). is_some (collect_of x)) (sym task)))
         (λ q other. (refl, set_at-other o.steps id (o.steps id + 1) q other))
@@ -391,9 +339,9 @@ module _ {S : Type 0} (memory : MemorySteps S TreeRegister TreeValue) (tree : Is
         let n = t.named id v e in
         let h : Some v.program ≡ program_of id w.participants = rw e refl in
         let g = going_view memory w id v.program h f in
-        let told_note : step_answer client_steps memory w id ≡ Ok (collected_note (collect_view c got)) = going_answer client_steps memory w id v e n.ended ∙ rw access (ap Ok note_is) in
+        let told_note : step_answer client_steps memory w id ≡ Ok (collected_note (collect_view c got)) = going_answer client_steps memory w id v e n.goes ∙ rw access (ap Ok note_is) in
         let shown : reply ≡ Ok (collect_view c got) = is ∙ g.0 ∙ ap (reply_of view_told) told_note ∙ ap Ok (shown_is (collect_view c got)) in
-        let state : after_collecting memory w id ≡ after = g.1 ∙ going_after client_steps memory w id v e n.ended ∙ rw access refl in
+        let state : after_collecting memory w id ≡ after = g.1 ∙ going_after client_steps memory w id v e n.goes ∙ rw access refl in
         let collects : o.collects id ≡ true = t.collecting id ∙ rw (e, k) refl in
         let both = collecting_goes (collect_view c got) refl (over_is (walk_is_over c.walk got) (view_with c.view (segment_in got))) refl in
         rw shown ((collects, both.0), subst (λ (x : TreeState S). Tied x (collect_stepped o id (collect_view c got))) (sym state) both.1)

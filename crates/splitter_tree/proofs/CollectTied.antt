@@ -1,8 +1,8 @@
 -- what ties a tree, its participants and their collects to the object of the law of collects
 use Rattle.std.proofs.Common.{◌≡◌, ◌≢◌, ℕ, suc, ◌+◌, ◌-◌, ◌*◌, ◌<◌, ◌≤◌, ◌==◌, Bool, true, false, cond, Option, Some, None, inl, inr, refl, sym, ap, subst, ◌∙◌, arith}
-use Rattle.std.specs.Prelude.{is_some, IsSome, not}
+use Rattle.std.specs.Prelude.{is_some, IsSome}
 use Rattle.std.proofs.Math.Path.{fun_ext}
-use Rattle.std.proofs.lemmas.Bool.Decides.{eqb_tells, leb_tells, Decides-eqb}
+use Rattle.std.proofs.lemmas.Bool.Decides.{eqb_tells, leb_tells}
 use Rattle.step_memory.specs.SetAt.{set_at}
 use Rattle.step_memory.specs.Steps.{MemorySteps, answer_from}
 use Rattle.step_memory.specs.declared.access.Access.TheVariants.{Write}
@@ -18,30 +18,27 @@ use Rattle.splitter_tree.specs.declared.collect.Collect.{Collect}
 use Rattle.splitter_tree.specs.declared.client.Client.{Client}
 use Rattle.splitter_tree.specs.declared.client.Task.{Task}
 use Rattle.splitter_tree.specs.declared.client.Task.TheVariants.{Placing, Nothing, Storing, Collecting}
-use Rattle.splitter_tree.specs.TreeMemory.{IsTreeMemory, mark_at, segment_at, segment_in, word_in}
+use Rattle.splitter_tree.specs.TreeMemory.{IsTreeMemory, segment_at, segment_in, word_in}
 use Rattle.splitter_tree.specs.Walk.{walk_of, next_access, walker_after, place_of, place_by}
-use Rattle.splitter_tree.specs.Client.{is_placing}
-use Rattle.splitter_tree.specs.Consistent.{IsConsistent, IsTree, was_made}
+use Rattle.splitter_tree.specs.Consistent.{IsConsistent, IsTree}
 use Rattle.splitter_tree.specs.Count.{count_to}
 use Rattle.splitter_tree.specs.CollectWalk.{place_read}
 use Rattle.splitter_tree.specs.Collect.{collect_reads}
 use Rattle.splitter_tree.specs.Ahead.{marked_in, HasGrown, IsPathMarked}
+use Rattle.splitter_tree.specs.PlacesLaw.{walker_in}
 use Rattle.splitter_tree.specs.CollectLaw.{CollectObject, with_moment, one_begun}
-use Rattle.splitter_tree.proofs.Numbers.{small_fits}
+use Rattle.splitter_tree.proofs.Counting.{count_le, count_set}
 use Rattle.splitter_tree.proofs.WalkLemmas.{place_from}
-use Rattle.splitter_tree.proofs.ReadCount.{count_le}
-use Rattle.splitter_tree.proofs.UnderWay.{UnderWay, under_way_later, TellsOf, count_set}
-use Rattle.splitter_tree.proofs.ConsistentKept.{begun, gone_on, elsewhere, segments, marks}
+use Rattle.splitter_tree.proofs.UnderWay.{UnderWay, under_way_later, TellsOf}
+use Rattle.splitter_tree.proofs.ConsistentKept.{begun, gone_on, elsewhere, segments}
 use Rattle.splitter_tree.proofs.TreeLaw.{tree_law}
+use Rattle.splitter_tree.proofs.PlacesAhead.{path_marked, marked_few, marks_grow}
+use Rattle.splitter_tree.proofs.PlacesTied.{IsClientOf}
 
 abbrev pub Person : Type 0
 Person = Option (Participant Client)
 
--- the walk of who has begun
-abbrev pub walker_in : Person → Option Walker
-walker_in None = None
-walker_in (Some v) = Some v.program.walker
-
+-- its place, once it has one
 abbrev pub place_in : Person → Option ℕ
 place_in person = place_by (walker_in person)
 
@@ -56,19 +53,13 @@ abbrev pub collect_in : Person → Option Collect
 collect_in None = None
 collect_in (Some v) = collect_of v.program.task
 
--- a participant has its identity, has not ended, and is on its way exactly as long as it has no place
-pub record IsNamed (p : ℕ) (v : Participant Client) : Type 0 where
-  pub identity : v.identity ≡ p
-  pub ended : v.ended ≡ false
-  pub placing : is_placing v.program.task ≡ not (is_some (place_of v.program.walker))
-
 -- of at most `most` participants b have begun, who they are, and what the memory holds agree with the object: each
 -- segment holds what its owner stored last, and each collect under way has come so far
 pub record Agrees {S : Type 0} (memory : MemorySteps S TreeRegister TreeValue) (most b : ℕ) (s : S) (person : ℕ → Person) (o : CollectObject) : Type 0 where
   pub consistent : IsConsistent memory most b s (λ q. walker_in (person q))
   pub many : o.begun ≡ b
   pub few : (n : ℕ) → count_to (λ q. is_some (person q)) n ≤ b
-  pub named : (q : ℕ) (v : Participant Client) → person q ≡ Some v → IsNamed q v
+  pub named : (q : ℕ) (v : Participant Client) → person q ≡ Some v → IsClientOf q v
   pub collecting : (q : ℕ) → o.collects q ≡ is_some (collect_in (person q))
   pub owned : (k : ℕ) (r : Record) → segment_at memory s k ≡ Some r → (place_in (person r.identity) ≡ Some k) × (o.moment o.last r.identity ≡ Some r.value)
   pub held : (q k : ℕ) → place_in (person q) ≡ Some k → IsSome (o.moment o.last q) → (r : Record) × (segment_at memory s k ≡ Some r) × (r.identity ≡ q)
@@ -79,12 +70,6 @@ pub record Agrees {S : Type 0} (memory : MemorySteps S TreeRegister TreeValue) (
 some_is : {X : Type 0} (o : Option X) → IsSome o → (x : X) × (o ≡ Some x)
 some_is None h = absurd (cc)
 some_is (Some x) h = (x, refl)
-
-marked_is : {S : Type 0} (memory : MemorySteps S TreeRegister TreeValue) (s : S) (k : ℕ) → mark_at memory s k ≡ 1 → marked_in memory s k ≡ true
-marked_is memory s k h = (Decides-eqb (mark_at memory s k) 1).1 h
-
-mark_is : {S : Type 0} (memory : MemorySteps S TreeRegister TreeValue) (s : S) (k : ℕ) → marked_in memory s k ≡ true → mark_at memory s k ≡ 1
-mark_is memory s k h = (Decides-eqb (mark_at memory s k) 1).0 h
 
 -- what is said of each person
 abbrev pub said : {X : Type 0} → (Person → X) → (ℕ → Person) → ℕ → X
@@ -105,25 +90,12 @@ module _ {S : Type 0} (memory : MemorySteps S TreeRegister TreeValue) (tree : Is
   law : IsTree memory b s (λ q. walker_in (person q))
   law = tree_law memory most b s (λ q. walker_in (person q)) t.consistent
 
-  -- every node from the root down to a place is marked
-  pub path : (q k : ℕ) → place q ≡ Some k → IsPathMarked (marked_in memory s) k
-  path q k h =
-      let within = law.within q k h in
-      let few : b ≤ 64 = (let f = t.consistent.few in let r = t.consistent.room in omega arith) in
-      record {
-        node = within.node;
-        fits = small_fits b k few within.within;
-        path = λ p node under. marked_is memory s p (law.ancestors k p (law.placed q k h) under node);
-      }
-
   pub path_of : (q : ℕ) → IsSome (o.moment o.last q) → (k : ℕ) × (place q ≡ Some k) × IsPathMarked (marked_in memory s) k
-  path_of q some = let h = some_is (place q) (t.placed q some) in (h.0, h.1, path q h.0 h.1)
+  path_of q some = let h = some_is (place q) (t.placed q some) in (h.0, h.1, path_marked memory most b s (λ u. walker_in (person u)) t.consistent q h.0 h.1)
 
   -- few nodes are marked, and few have places
   pub few_marked : (n : ℕ) → count_to (marked_in memory s) n ≤ 2 * b - 1
-  few_marked n =
-      let le : count_to (marked_in memory s) n ≤ count_to (was_made memory s) n = count_le (marked_in memory s) (was_made memory s) (λ k h. let one : mark_at memory s k ≡ 1 = mark_is memory s k h in rw one refl) n in
-      omega (arith, le, law.few_made n)
+  few_marked = marked_few memory most b s (λ q. walker_in (person q)) t.consistent
 
   pub few_placed : (n : ℕ) → count_to (λ q. is_some (place q)) n ≤ 64
   few_placed n =
@@ -156,7 +128,7 @@ module _ {S : Type 0} (memory : MemorySteps S TreeRegister TreeValue) (tree : Is
   }
 
   -- one who asks for something, stores, or whose collect goes on keeps its place
-  module _ (p : ℕ) (v : Participant Client) (here : person p ≡ Some v) (new : Participant Client) (named : IsNamed p new) (walks : new.program.walker ≡ v.program.walker) where
+  module _ (p : ℕ) (v : Participant Client) (here : person p ≡ Some v) (new : Participant Client) (named : IsClientOf p new) (walks : new.program.walker ≡ v.program.walker) where
     abbrev now : ℕ → Person
     now = set_at person p (Some new)
 
@@ -169,12 +141,12 @@ module _ {S : Type 0} (memory : MemorySteps S TreeRegister TreeValue) (tree : Is
     begun_same : said (λ x. is_some x) now ≡ said (λ x. is_some x) person
     begun_same = same_said (λ x. is_some x) person p (Some new) (sym (ap is_some here))
 
-    named_now : (q : ℕ) (u : Participant Client) → now q ≡ Some u → IsNamed q u
+    named_now : (q : ℕ) (u : Participant Client) → now q ≡ Some u → IsClientOf q u
     named_now q u h = elim (eqb_tells q p) [
       | inl e ↦
           let own : Some new ≡ Some u = rw e.0 at h in
           let is : new ≡ u = cc in
-          subst (λ (x : Participant Client). IsNamed q x) is (subst (λ (i : ℕ). IsNamed i new) (sym e.1) named)
+          subst (λ (x : Participant Client). IsClientOf q x) is (subst (λ (i : ℕ). IsClientOf i new) (sym e.1) named)
       | inr e ↦ t.named q u (rw e.0 at h)
     ]
 
@@ -312,7 +284,7 @@ module _ {S : Type 0} (memory : MemorySteps S TreeRegister TreeValue) (tree : Is
       }
 
   -- one on its way makes an access
-  module _ (p : ℕ) (v : Participant Client) (here : person p ≡ Some v) (new : Participant Client) (named : IsNamed p new) (idle : collect_of new.program.task ≡ None) (was_idle : collect_of v.program.task ≡ None) (off : place_of v.program.walker ≡ None) where
+  module _ (p : ℕ) (v : Participant Client) (here : person p ≡ Some v) (new : Participant Client) (named : IsClientOf p new) (idle : collect_of new.program.task ≡ None) (was_idle : collect_of v.program.task ≡ None) (off : place_of v.program.walker ≡ None) where
     abbrev u : Walker
     u = v.program.walker
 
@@ -338,7 +310,7 @@ module _ {S : Type 0} (memory : MemorySteps S TreeRegister TreeValue) (tree : Is
     segment_kept k = segments memory most b s (λ q. walker_in (person q)) t.consistent tree p u walk_is k
 
     grown : HasGrown (marked_in memory s) (marked_in memory gone)
-    grown k h = marked_is memory gone k ((marks memory most b s (λ q. walker_in (person q)) t.consistent tree p u walk_is k).1 (inr (mark_is memory s k h)))
+    grown = marks_grow memory most b s (λ q. walker_in (person q)) t.consistent tree p u walk_is
 
     -- who has stored is another, and has its place
     stored_other : (q : ℕ) → IsSome (o.moment o.last q) → q ≢ p
@@ -353,7 +325,7 @@ module _ {S : Type 0} (memory : MemorySteps S TreeRegister TreeValue) (tree : Is
         | inl e ↦
             let own : Some new ≡ Some x = rw e.0 at h in
             let is : new ≡ x = cc in
-            subst (λ (y : Participant Client). IsNamed q y) is (subst (λ (i : ℕ). IsNamed i new) (sym e.1) named)
+            subst (λ (y : Participant Client). IsClientOf q y) is (subst (λ (i : ℕ). IsClientOf i new) (sym e.1) named)
         | inr e ↦ t.named q x (rw e.0 at h)
       ];
       collecting = λ q. elim (eqb_tells q p) [
@@ -377,7 +349,7 @@ module _ {S : Type 0} (memory : MemorySteps S TreeRegister TreeValue) (tree : Is
     }
 
   -- one who begins
-  module _ (p : ℕ) (some : p ≢ 0) (absent : person p ≡ None) (room : b < most) (new : Participant Client) (named : IsNamed p new) (idle : collect_of new.program.task ≡ None) (walks : new.program.walker ≡ walk_of p) where
+  module _ (p : ℕ) (some : p ≢ 0) (absent : person p ≡ None) (room : b < most) (new : Participant Client) (named : IsClientOf p new) (idle : collect_of new.program.task ≡ None) (walks : new.program.walker ≡ walk_of p) where
     abbrev joined : ℕ → Person
     joined = set_at person p (Some new)
 
@@ -393,7 +365,7 @@ module _ {S : Type 0} (memory : MemorySteps S TreeRegister TreeValue) (tree : Is
         | inl e ↦
             let own : Some new ≡ Some x = rw e.0 at h in
             let is : new ≡ x = cc in
-            subst (λ (y : Participant Client). IsNamed q y) is (subst (λ (i : ℕ). IsNamed i new) (sym e.1) named)
+            subst (λ (y : Participant Client). IsClientOf q y) is (subst (λ (i : ℕ). IsClientOf i new) (sym e.1) named)
         | inr e ↦ t.named q x (rw e.0 at h)
       ];
       collecting = λ q. elim (eqb_tells q p) [

@@ -1,15 +1,20 @@
 -- a tree's world that is after some calls keeps the laws
-use Rattle.std.proofs.Common.{◌≤◌, ℕ, List, arith}
+use Rattle.std.proofs.Common.{◌≡◌, ◌≤◌, ℕ, List, Option, Some, None, refl, sym, ◌∙◌, arith}
+use Rattle.std.specs.Prelude.{option_map, option_and_then}
 use Rattle.splitter_tree.specs.CollectLaw.{KeepsCollectLaw}
 use Rattle.splitter_tree.specs.Consistent.{IsTree}
-use Rattle.splitter_tree.specs.PlacesLaw.{KeepsPlacesLaw, way_calls, walkers}
+use Rattle.splitter_tree.specs.PlacesLaw.{KeepsPlacesLaw, way_calls, walkers, walker_in}
 use Rattle.splitter_tree.specs.Run.{After, TreeWorldState}
 use Rattle.splitter_tree.specs.TreeCalls.{TreeCall}
 use Rattle.splitter_tree.specs.TreeSteps.{tree_steps, empty_tree}
 use Rattle.splitter_tree.proofs.CollectSteps.{collect_law}
 use Rattle.splitter_tree.proofs.PlacesTied.{IsTied, tied_after, tree_of_tied, law_of_tied}
 use Rattle.splitter_tree.proofs.TreeMemoryLemmas.{tree_memory, tree_empty}
-use Rattle.step_memory.specs.Calls.{begun_in}
+use Rattle.splitter_tree.specs.Walk.{place_of, place_by}
+use Rattle.splitter_tree.specs.declared.client.Client.{Client}
+use Rattle.step_memory.specs.Calls.{begun_in, outcome_of}
+use Rattle.step_memory.specs.Participant.{participant_of, program_of}
+use Rattle.step_memory.specs.declared.participant.Participant.{Participant}
 
 below_64 : (n : ℕ) → n ≤ 16 → n ≤ 64
 below_64 n h = omega arith
@@ -25,3 +30,11 @@ nodes_after w r a = tree_of_tied tree_steps tree_memory w r (tied w r a)
 
 pub collects_after : (w : TreeWorldState) (r : List TreeCall) → After w r → KeepsCollectLaw r
 collects_after w r a = collect_law tree_steps tree_memory empty_tree w r (below_64 w.most a.0) tree_empty a.1
+
+place_by_walk : (o : Option (Participant Client)) → option_and_then (λ c. place_of c.walker) (option_map (λ p. p.program) o) ≡ place_by (walker_in o)
+place_by_walk None = refl
+place_by_walk (Some p) = refl
+
+-- the place of a participant is the one that was answered
+pub answered_after : (w : TreeWorldState) (r : List TreeCall) (id : ℕ) → After w r → option_and_then (λ c. place_of c.walker) (program_of id w.participants) ≡ outcome_of id (way_calls r)
+answered_after w r id a = place_by_walk (participant_of id w.participants) ∙ sym ((tied w r a).outcomes id)

@@ -3,6 +3,7 @@ pub mod Climbing
 pub mod OrderLemmas
 pub mod OpenLemmas
 pub mod WalkLemmas
+pub mod Counting
 pub mod ReadCount
 pub mod Ways
 pub mod Below
@@ -17,6 +18,7 @@ pub mod TreeMemoryLemmas
 pub mod WalkerLemmas
 pub mod CallCases
 pub mod PlacesTied
+pub mod PlacesAhead
 pub mod UnderWay
 pub mod CollectTied
 pub mod CollectSteps
@@ -24,4 +26,5 @@ pub mod NodesMade
 pub mod TreeCallLemmas
 pub mod AfterLemmas
 pub mod StoreLemmas
+pub mod LocalStore
 pub mod LawsAfter

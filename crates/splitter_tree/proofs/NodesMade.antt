@@ -7,7 +7,7 @@ use Rattle.step_memory.specs.declared.refusal.Refusal.TheVariants.{NoMemory}
 use Rattle.step_memory.specs.Runs.{Run}
 use Rattle.step_memory.specs.Steps.{MemorySteps}
 use Rattle.step_memory.specs.World.{begin_refusal, begun_unless}
-use Rattle.step_memory.specs.Calls.{lacked_memory}
+use Rattle.step_memory.specs.Calls.{lacked_memory, begun_in}
 use Rattle.splitter_tree.specs.declared.register.TreeRegister.{TreeRegister}
 use Rattle.splitter_tree.specs.declared.register.TreeRegister.TheVariants.{Mark, Name, Taken}
 use Rattle.splitter_tree.specs.declared.register.TreeValue.{TreeValue}
@@ -18,11 +18,12 @@ use Rattle.splitter_tree.specs.Client.{client_of, client_access, write_at, recor
 use Rattle.splitter_tree.specs.TreeWorld.{TreeState, place_answer, after_placing, after_store, after_collect_begin, after_collecting}
 use Rattle.splitter_tree.specs.TreeCalls.{TreeCall, next, IsReply, IsAfter}
 use Rattle.splitter_tree.specs.TreeCalls.TreeCall.{Began, Stepped, Stored, CollectBegan, CollectStepped}
-use Rattle.splitter_tree.specs.PlacesLaw.{walkers}
+use Rattle.splitter_tree.specs.Depth.{IsNodeWithin}
+use Rattle.splitter_tree.specs.PlacesLaw.{way_calls, walkers}
 use Rattle.splitter_tree.specs.Made.{Marks, MarksFrom, WasMade}
 use Rattle.splitter_tree.proofs.ConsistentKept.{marks}
 use Rattle.splitter_tree.proofs.CallCases.{step_cases, store_cases, collect_begin_cases, collect_step_cases}
-use Rattle.splitter_tree.proofs.PlacesTied.{IsTied, all_go, call_kept, tied_new, words_spared, write_spares, reads_only, placing_access}
+use Rattle.splitter_tree.proofs.PlacesTied.{IsTied, all_go, call_kept, tied_new, tied_after, tree_of_tied, words_spared, write_spares, reads_only, placing_access}
 
 module _ {S : Type 0} (memory : MemorySteps S TreeRegister TreeValue) (tree : IsTreeMemory memory) where
   -- after a call a node is marked that was, and the one that the call marks
@@ -106,3 +107,9 @@ module _ {S : Type 0} (memory : MemorySteps S TreeRegister TreeValue) (tree : Is
   marked_made first w r empty few a k =
       let over = marks_over (record { memory = first; most = w.most; participants = [] }) [] r w (tied_new memory tree first w.most empty few) a k in
       (λ some. elim (over.0 some) [ inl was ↦ was | inr stood ↦ absurd (let none = empty.unmarked k in let both : 0 ≡ 1 = sym none ∙ stood in cc) ], λ was. over.1 (inl was))
+
+  -- of these, all lie at depths below the number of those who have begun
+  pub made_within : (first : S) (w : TreeState S) (r : List TreeCall) → IsEmptyTree memory first → w.most ≤ 64 → IsAfter memory first w r → (k : ℕ) → WasMade memory first w.most r k → IsNodeWithin (begun_in (way_calls r)) k
+  made_within first w r empty few a k was =
+      let set : mark_at memory w.memory k ≡ 1 = (marked_made first w r empty few a k).1 was in
+      (tree_of_tied memory tree w r (tied_after memory tree first w r empty few a)).made k (λ e. absurd (let both : 0 ≡ 1 = sym e ∙ set in cc))

@@ -1,8 +1,9 @@
 -- what ties the places of a tree's world to the calls that it is after
-use Rattle.std.proofs.Common.{◌≡◌, ◌≢◌, ℕ, suc, ◌<◌, ◌≤◌, Bool, true, false, cond, not, ◌==◌, inl, inr, List, [], ◌∷◌, ◌++◌, length, Option, Some, None, Result, Ok, Err, refl, sym, ap, subst, ◌∙◌, arith, length-append}
+use Rattle.std.proofs.Common.{◌≡◌, ◌≢◌, ℕ, suc, ◌≤◌, Bool, true, false, cond, not, ◌==◌, inl, inr, List, [], ◌∷◌, ◌++◌, length, Option, Some, None, Result, Ok, Err, refl, sym, ap, subst, ◌∙◌, arith, length-append}
 use Rattle.std.specs.Prelude.{is_some}
 use Rattle.std.proofs.Math.Path.{fun_ext}
-use Rattle.std.proofs.lemmas.Bool.Decides.{eqb_tells, leb_tells}
+use Rattle.std.proofs.lemmas.Bool.Decides.{eqb_tells}
+use Rattle.std.proofs.lemmas.List.{append-nil}
 use Rattle.step_memory.specs.declared.access.Access.{Access}
 use Rattle.step_memory.specs.declared.access.Answer.{Answer}
 use Rattle.step_memory.specs.declared.access.Answer.TheVariants.{Value, WasSet, Done}
@@ -11,7 +12,7 @@ use Rattle.step_memory.specs.declared.note.Note.TheVariants.{Quiet, Said, Ended}
 use Rattle.step_memory.specs.declared.participant.Participant.{Participant}
 use Rattle.step_memory.specs.declared.record.Record.{Record}
 use Rattle.step_memory.specs.declared.refusal.Refusal.{Refusal}
-use Rattle.step_memory.specs.declared.refusal.Refusal.TheVariants.{ZeroIdentity, AlreadyBegun, Full, NoMemory}
+use Rattle.step_memory.specs.declared.refusal.Refusal.TheVariants.{NoMemory}
 use Rattle.step_memory.specs.Note.{ends}
 use Rattle.step_memory.specs.Participant.{participant_of, with_participant, beginner, resumed}
 use Rattle.step_memory.specs.Steps.{MemorySteps, Spares, answer_from}
@@ -22,7 +23,8 @@ use Rattle.step_memory.specs.Calls.Call.{Began, Stepped}
 use Rattle.step_memory.proofs.RunLemmas.{run_keeps}
 use Rattle.step_memory.proofs.SetAtLemmas.{set_at-same, set_at-other, set_at-cases}
 use Rattle.step_memory.proofs.ParticipantLemmas.{participant_of-push, participant_of-put, length-with_participant}
-use Rattle.step_memory.proofs.WorldKeeps.{steps_of-push, begun_in-push, outcome_of-push, first_of-none}
+use Rattle.step_memory.proofs.WorldKeeps.{steps_of-push, begun_in-push, outcome_of-push, first_of-none, IsLetIn}
+pub use Rattle.step_memory.proofs.WorldKeeps.{let_in}
 use Rattle.splitter.specs.declared.way.Way.TheVariants.{Stop, Right, Down}
 use Rattle.splitter.specs.declared.stage.Stage.{Stage}
 use Rattle.splitter.specs.declared.stage.Stage.TheVariants.{Outside, WroteName, SawClear, WroteMark, Gone}
@@ -66,13 +68,9 @@ way_calls-more (Stored id value reply ∷ r) h = way_calls-more r h
 way_calls-more (CollectBegan id reply ∷ r) h = way_calls-more r h
 way_calls-more (CollectStepped id reply ∷ r) h = way_calls-more r h
 
-append_none : {X : Type 0} (xs : List X) → xs ++ [] ≡ xs
-append_none [] = refl
-append_none (x ∷ xs) = ap (λ ys. x ∷ ys) (append_none xs)
-
 -- a call that is no part of the way leaves it
 no_way : (r : List TreeCall) (h : TreeCall) → way_calls (h ∷ []) ≡ [] → way_calls (r ++ h ∷ []) ≡ way_calls r
-no_way r h none = way_calls-more r h ∙ ap (λ c. way_calls r ++ c) none ∙ append_none (way_calls r)
+no_way r h none = way_calls-more r h ∙ ap (λ c. way_calls r ++ c) none ∙ append-nil (way_calls r)
 
 set_at-map : {X Y : Type 0} (g : X → Y) (f : ℕ → X) (p : ℕ) (s : X) (q : ℕ) → g (set_at f p s q) ≡ set_at (λ u. g (f u)) p (g s) q
 set_at-map g f p s q = elim (q == p) as (λ b. g (cond b s (f q)) ≡ cond b (g s) (g (f q))) [ true ↦ refl | false ↦ refl ]
@@ -80,25 +78,6 @@ set_at-map g f p s q = elim (q == p) as (λ b. g (cond b s (f q)) ≡ cond b (g 
 -- what is said alike of one who has not begun and of one who has just begun
 same_in : {X : Type 0} (say : Option Walker → X) (walker : ℕ → Option Walker) (id : ℕ) (new : Walker) (p : ℕ) → walker id ≡ None → say None ≡ say (Some new) → say (walker p) ≡ say (set_at walker id (Some new) p)
 same_in say walker id new p absent same = set_at-cases walker id (Some new) (λ o. say (walker p) ≡ say o) p (λ e. ap say (ap walker e ∙ absent) ∙ same) (λ _. refl)
-
--- who is let in is not zero and has not begun, and there is room
-record IsLetIn {S : Type 0} (w : TreeState S) (id : ℕ) : Type 0 where
-  not_zero : id ≢ 0
-  absent : participant_of id w.participants ≡ None
-  room : length w.participants < w.most
-
-let_in : {S : Type 0} (w : TreeState S) (id : ℕ) → begin_refusal w id ≡ None → IsLetIn w id
-let_in w id h = elim (eqb_tells id 0) [
-  | inl z ↦ absurd (let k : Some ZeroIdentity ≡ None = rw z.0 at h in cc)
-  | inr z ↦
-      elim (participant_of id w.participants) as (λ o. participant_of id w.participants ≡ o → IsLetIn w id) [
-        | Some v ↦ λ e. absurd (let k : Some AlreadyBegun ≡ None = rw (z.0, e) at h in cc)
-        | None ↦ λ e. elim (leb_tells w.most (length w.participants)) [
-          | inl l ↦ absurd (let k : Some Full ≡ None = rw (z.0, e, l.0) at h in cc)
-          | inr l ↦ record { not_zero = z.1; absent = e; room = l.1 }
-        ]
-      ] refl
-]
 
 -- what one does who is on its way
 pub placing_access : (c : Client) (t : Task) → is_placing t ≡ true → access_for c t ≡ next_access c.walker
@@ -129,7 +108,7 @@ collected_task : (collect : Collect) (o : Option (List (ℕ × ℕ))) → is_pla
 collected_task collect None = refl
 collected_task collect (Some view) = refl
 
-collected_goes : (o : Option (List (ℕ × ℕ))) → ends (collected_note o) ≡ false
+pub collected_goes : (o : Option (List (ℕ × ℕ))) → ends (collected_note o) ≡ false
 collected_goes None = refl
 collected_goes (Some view) = refl
 
@@ -178,22 +157,22 @@ place_is_told u got on = elim (bool_cases u.is_marking) [
   | inr m ↦ ap (λ n. place_told (placed_note n)) (visit_note u got m) ∙ stage_place u (stage_by u.visitor (told got)) ∙ sym (ap place_of (visit_after u got m))
 ]
 
-end_is_told : (u : Walker) (got : Answer TreeValue) → place_of u ≡ None → is_placed (walker_note u got) ≡ is_some (place_of (walker_after u got))
+pub end_is_told : (u : Walker) (got : Answer TreeValue) → place_of u ≡ None → is_placed (walker_note u got) ≡ is_some (place_of (walker_after u got))
 end_is_told u got on = elim (bool_cases u.is_marking) [
   | inl m ↦ ap is_placed (marking_note u got m) ∙ sym (ap is_some (ap place_of (marking_after u got m) ∙ on))
   | inr m ↦ ap is_placed (visit_note u got m) ∙ stage_placed u (stage_by u.visitor (told got)) ∙ sym (ap is_some (ap place_of (visit_after u got m)))
 ]
 
-placed_goes : (n : Note ℕ) → ends (placed_note n) ≡ false
+pub placed_goes : (n : Note ℕ) → ends (placed_note n) ≡ false
 placed_goes Quiet = refl
 placed_goes (Said place) = refl
 placed_goes (Ended place) = refl
 
-task_told : (b : Bool) (t : Task) → is_placing t ≡ true → is_placing (cond b Nothing t) ≡ not b
+pub task_told : (b : Bool) (t : Task) → is_placing t ≡ true → is_placing (cond b Nothing t) ≡ not b
 task_told true t h = refl
 task_told false t h = h
 
-no_place : (o : Option ℕ) → not (is_some o) ≡ true → o ≡ None
+pub no_place : (o : Option ℕ) → not (is_some o) ≡ true → o ≡ None
 no_place None h = refl
 no_place (Some k) h = absurd (cc)
 

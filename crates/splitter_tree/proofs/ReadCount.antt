@@ -1,51 +1,17 @@
 -- how many reads a walk makes
-use Rattle.std.proofs.Common.{◌≡◌, ℕ, zero, suc, ◌+◌, ◌*◌, ◌<◌, ◌≤◌, Bool, true, false, cond, Some, inl, inr, refl, sym, ap, subst, ◌∙◌, arith}
+use Rattle.std.proofs.Common.{◌≡◌, ℕ, suc, ◌+◌, ◌*◌, ◌≤◌, Bool, true, false, cond, Some, inl, inr, refl, sym, ap, subst, ◌∙◌, arith}
 use Rattle.std.proofs.lemmas.Bool.Decides.{eqb_tells}
 use Rattle.step_memory.specs.SetAt.{set_at}
 use Rattle.splitter_tree.specs.declared.register.TreeValue.{TreeValue}
 use Rattle.splitter_tree.specs.declared.collect_walk.CollectWalk.{CollectWalk}
-use Rattle.splitter_tree.specs.CollectWalk.{first_walk, walk_at, node_after, finds_mark, walk_resumed, walk_is_over}
+use Rattle.splitter_tree.specs.CollectWalk.{first_walk, place_read, walk_at, node_after, finds_mark, walk_resumed, walk_is_over}
 use Rattle.splitter_tree.specs.Count.{count_to}
-use Rattle.splitter_tree.specs.NodeOrder.{IsRightOf, IsFrom}
-use Rattle.splitter_tree.specs.Ahead.{Sees, HasGrown, HasRead, open_at}
+use Rattle.splitter_tree.specs.NodeOrder.{IsUnder, IsRightOf, IsFrom}
+use Rattle.splitter_tree.specs.Ahead.{Sees, HasGrown, HasRead, IsUpcoming, open_at}
+use Rattle.splitter_tree.proofs.Counting.{count_none, count_le, count_more}
 use Rattle.splitter_tree.proofs.OrderLemmas.{under_itself, follows, left_from, not_from_left, not_right_of_itself}
 use Rattle.splitter_tree.proofs.OpenLemmas.{open_child, open_after}
-use Rattle.splitter_tree.proofs.WalkLemmas.{goes, after_is_node}
-
--- nothing passes where nothing passes
-pub count_none : (n : ℕ) → count_to (λ k. false) n ≡ 0
-count_none zero = refl
-count_none (suc n) = omega (arith, count_none n)
-
--- what passes more lets pass as many
-pub count_le : (f g : ℕ → Bool) → HasGrown f g → (n : ℕ) → count_to f n ≤ count_to g n
-count_le f g more zero = omega arith
-count_le f g more (suc n) =
-    let rest : count_to f n ≤ count_to g n = count_le f g more n in
-    elim (f n) as (λ b. f n ≡ b → count_to f n + cond b 1 0 ≤ count_to g n + cond (g n) 1 0) [
-      | true ↦ λ e. rw (more n e) (omega arith)
-      | false ↦ λ e. elim (g n) as (λ b. count_to f n + 0 ≤ count_to g n + cond b 1 0) [ true ↦ omega arith | false ↦ omega arith ]
-    ] refl
-
--- one number more that passes
-pub count_below : (f : ℕ → Bool) (p n : ℕ) → n ≤ p → count_to (set_at f p true) n ≡ count_to f n
-count_below f p zero h = refl
-count_below f p (suc n) h = elim (eqb_tells n p) [
-  | inl e ↦ absurd (omega (arith, e.1))
-  | inr e ↦ rw e.0 (ap (λ x. x + cond (f n) 1 0) (count_below f p n (omega arith)))
-]
-
-pub count_more : (f : ℕ → Bool) (p n : ℕ) → f p ≡ false → p < n → count_to (set_at f p true) n ≡ count_to f n + 1
-count_more f p zero none h = absurd (omega arith)
-count_more f p (suc n) none h = elim (eqb_tells n p) [
-  | inl e ↦
-      let rest : count_to (set_at f p true) n ≡ count_to f n = count_below f p n (omega (arith, e.1)) in
-      let was : f n ≡ false = ap f e.1 ∙ none in
-      rw (e.0, was) (omega (arith, rest))
-  | inr e ↦
-      let rest : count_to (set_at f p true) n ≡ count_to f n + 1 = count_more f p n none (omega (arith, e.1)) in
-      rw e.0 (omega (arith, rest))
-]
+use Rattle.splitter_tree.proofs.WalkLemmas.{place_from, goes, after_is_node}
 
 -- a walk that has read nothing
 pub read_at_first : (marked : ℕ → Bool) → HasRead marked first_walk 0 0
@@ -153,6 +119,10 @@ read_resumed marked w got nodes reads sees r = goes w got (λ finds over next. o
       ];
   ends = λ why e never. absurd (cc);
 })
+
+-- the segment that is read now was not read before
+pub read_here : (marked : ℕ → Bool) (w : CollectWalk) (nodes reads q : ℕ) → HasRead marked w nodes reads → place_read w ≡ Some q → IsUpcoming w q
+read_here marked w nodes reads q r h = record { goes_on = r.goes_on; is = inl (subst (λ (x : ℕ). IsUnder w.at x) (place_from w q h).1 (under_itself w.at)) }
 
 -- so the reads are few
 pub reads_few : (marked : ℕ → Bool) (w : CollectWalk) (nodes reads : ℕ) → HasRead marked w nodes reads → reads + 1 ≤ 3 * nodes + 1

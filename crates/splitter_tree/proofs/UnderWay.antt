@@ -1,11 +1,9 @@
 -- a collect under way
-use Rattle.std.proofs.Common.{◌≡◌, ℕ, suc, ◌+◌, ◌<◌, ◌≤◌, ◌==◌, Bool, true, false, cond, List, [], ◌∷◌, length, Option, Some, None, ◌⊎◌, inl, inr, refl, sym, ap, subst, ◌∙◌, arith}
+use Rattle.std.proofs.Common.{◌≡◌, ℕ, suc, ◌+◌, ◌<◌, ◌≤◌, ◌==◌, Bool, true, false, cond, List, length, Option, Some, None, ◌⊎◌, inl, inr, refl, sym, ap, subst, ◌∙◌, arith}
 use Rattle.std.specs.Prelude.{is_some, IsSome}
 use Rattle.std.proofs.lemmas.Bool.Decides.{eqb_tells, leb_tells, Decides-eqb}
 use Rattle.step_memory.specs.SetAt.{set_at}
 use Rattle.step_memory.specs.View.{IsRising, value_of, inserted}
-use Rattle.step_memory.specs.declared.participant.Participant.{Participant}
-use Rattle.step_memory.specs.Participant.{participant_of}
 use Rattle.step_memory.specs.declared.record.Record.{Record}
 use Rattle.step_memory.proofs.ViewLemmas.{IsRising-inserted, value_of-inserted, length-inserted}
 use Rattle.splitter_tree.specs.declared.register.TreeValue.{TreeValue}
@@ -17,9 +15,10 @@ use Rattle.splitter_tree.specs.Collect.{first_collect, view_with, collect_after}
 use Rattle.splitter_tree.specs.Count.{count_to}
 use Rattle.splitter_tree.specs.NodeOrder.{IsUnder}
 use Rattle.splitter_tree.specs.Ahead.{Sees, HasGrown, HasRead, IsPathMarked, IsUpcoming, IsAhead}
+use Rattle.splitter_tree.proofs.Counting.{count_le, count_more}
 use Rattle.splitter_tree.proofs.OrderLemmas.{under_itself}
 use Rattle.splitter_tree.proofs.WalkLemmas.{ahead_at_first, ahead_kept, ahead_resumed, upcoming_before, read_once, place_from}
-use Rattle.splitter_tree.proofs.ReadCount.{read_at_first, read_kept, read_resumed, count_none, count_le, count_below, count_more}
+use Rattle.splitter_tree.proofs.ReadCount.{read_at_first, read_kept, read_resumed}
 
 -- what a collect, since a moment and after so many steps, has come to. The places, the marks and the moments are those
 -- of now. Of each identity that has a pair it is known that its place lies behind
@@ -73,34 +72,6 @@ under_way_later marked later place place' moment moment' last last' since steps 
   counted = u.counted;
   behind = λ q h. let b = u.behind q h in (b.0, places q b.0 b.1, b.2);
 }
-
--- no more numbers of identities than participants
-pub count_set : (f : ℕ → Bool) (p n : ℕ) → count_to (set_at f p true) n ≤ count_to f n + 1
-count_set f p n = elim (f p) as (λ b. f p ≡ b → count_to (set_at f p true) n ≤ count_to f n + 1) [
-  | true ↦ λ e. let le : count_to (set_at f p true) n ≤ count_to f n = count_le (set_at f p true) f (λ k h. elim (eqb_tells k p) [ inl t ↦ ap f t.1 ∙ e | inr t ↦ rw t.0 at h ]) n in omega arith
-  | false ↦ λ e. elim (leb_tells (suc p) n) [
-    | inl l ↦ let more = count_more f p n e l.1 in omega arith
-    | inr l ↦ let le : count_to (set_at f p true) n ≤ count_to f n = (let same = count_below f p n (omega (arith, l.1)) in omega arith) in omega arith
-  ]
-] refl
-
--- who has begun
-abbrev pub is_begun : {P : Type 0} → List (Participant P) → ℕ → Bool
-is_begun participants q = is_some (participant_of q participants)
-
-pub begun_few : {P : Type 0} (participants : List (Participant P)) (n : ℕ) → count_to (is_begun participants) n ≤ length participants
-begun_few [] n = let none = count_none n in omega arith
-begun_few (p ∷ ps) n =
-    let rest = begun_few ps n in
-    let one = count_set (is_begun ps) p.identity n in
-    let le : count_to (is_begun (p ∷ ps)) n ≤ count_to (set_at (is_begun ps) p.identity true) n =
-    count_le (is_begun (p ∷ ps)) (set_at (is_begun ps) p.identity true) (λ q h. elim (eqb_tells q p.identity) [
-      | inl t ↦ rw t.0 refl
-      | inr t ↦
-          let other : (p.identity == q) ≡ false = (elim (eqb_tells p.identity q) [ inl s ↦ absurd (t.1 (sym s.1)) | inr s ↦ s.0 ]) in
-          rw t.0 (rw other at h)
-    ]) n in
-    omega arith
 
 -- a view with what a segment holds
 record Gathered (view more : List (ℕ × ℕ)) (found : Option Record) : Type 0 where

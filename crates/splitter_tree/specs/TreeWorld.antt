@@ -1,15 +1,17 @@
 -- what the calls of a tree's world answer and leave
-use Rattle.std.specs.Prelude.{ℕ, Bool, if◌then◌else◌, List, Option, Some, None, Result, Err}
+use Rattle.std.specs.Prelude.{◌≡◌, ◌≢◌, option_and_then, ℕ, Bool, if◌then◌else◌, List, Option, Some, None, Result, Err}
 use Rattle.step_memory.specs.declared.refusal.Refusal.{Refusal}
 use Rattle.step_memory.specs.declared.refusal.Refusal.TheVariants.{AlreadyBegun, NotBegun, Finished}
-use Rattle.step_memory.specs.Participant.{program_of}
+use Rattle.step_memory.specs.Participant.{participant_of, program_of}
 use Rattle.step_memory.specs.Steps.{MemorySteps}
 use Rattle.step_memory.specs.WorldState.{WorldState}
 use Rattle.step_memory.specs.World.{after_begin, after_set, step_answer, after_step, may_refuse_step}
 use Rattle.step_memory.specs.Calls.{reply_of}
 use Rattle.splitter_tree.specs.declared.register.TreeRegister.{TreeRegister}
+use Rattle.splitter_tree.specs.declared.register.TreeRegister.TheVariants.{Contents}
 use Rattle.splitter_tree.specs.declared.register.TreeValue.{TreeValue}
 use Rattle.splitter_tree.specs.declared.client.Client.{Client}
+use Rattle.splitter_tree.specs.Walk.{place_of}
 use Rattle.splitter_tree.specs.Client.{client_of, client_steps, is_placing, is_idle, is_collecting, storing, collecting, place_told, view_told}
 
 -- a memory of type S, the most participants, and the participants
@@ -78,3 +80,9 @@ module _ {S : Type 0} (memory : MemorySteps S TreeRegister TreeValue) where
 
   abbrev pub after_collecting : TreeState S → ℕ → TreeState S
   after_collecting w id = after_collecting_by w id (program_of id w.participants)
+
+  -- nothing of the world changes but participant p and the segment at its place
+  pub record IsLocalStore (p : ℕ) (old new : TreeState S) : Type 0 where
+    pub most : new.most ≡ old.most
+    pub others : (q : ℕ) → q ≢ p → participant_of q new.participants ≡ participant_of q old.participants
+    pub registers : (r : TreeRegister) → ((place : ℕ) → option_and_then (λ c. place_of c.walker) (program_of p old.participants) ≡ Some place → r ≢ Contents place) → memory.register new.memory r ≡ memory.register old.memory r

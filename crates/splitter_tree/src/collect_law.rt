@@ -1,19 +1,25 @@
 //! What holds of walks over the nodes of a tree whose marks are never taken back: stated over the marks and the walks
 //! alone.
 
-ghost use Rattle.std.specs.Prelude.{◌≡◌, ℕ, ◌+◌, ◌*◌, ◌≤◌, ◌⊎◌, Bool, true, false, if◌then◌else◌, List, Some};
-ghost use Rattle.splitter_tree.specs.Ahead.{HasGrown, HasRead, IsAhead, IsPathMarked, IsUpcoming, Sees};
+ghost use Rattle.std.specs.Prelude.{◌≡◌, ℕ, ◌+◌, ◌-◌, ◌*◌, ◌≤◌, ◌⊎◌, Bool, true, false, if◌then◌else◌, List, Option, Some};
+ghost use Rattle.splitter_tree.specs.Ahead.{HasGrown, HasRead, marked_in, found_by, IsAhead, IsPathMarked, IsUpcoming, Sees};
 ghost use Rattle.splitter_tree.specs.CollectLaw.{KeepsCollectLaw};
 ghost use Rattle.splitter_tree.specs.CollectWalk.{first_walk, register_read, place_read, finds_mark, walk_resumed, walk_is_over};
+ghost use Rattle.splitter_tree.specs.Consistent.{IsConsistent};
 ghost use Rattle.splitter_tree.specs.Count.{count_to};
 ghost use Rattle.splitter_tree.specs.TreeCalls.{TreeCall, IsAfter};
 ghost use Rattle.splitter_tree.specs.TreeMemory.{IsTreeMemory, IsEmptyTree};
 ghost use Rattle.splitter_tree.specs.TreeWorld.{TreeState};
+ghost use Rattle.splitter_tree.specs.Walk.{next_access, place_by};
 ghost use Rattle.splitter_tree.specs.declared.collect_walk.CollectWalk.{CollectWalk};
 ghost use Rattle.splitter_tree.specs.declared.register.TreeRegister.{TreeRegister};
 ghost use Rattle.splitter_tree.specs.declared.register.TreeRegister.TheVariants.{Contents};
 ghost use Rattle.splitter_tree.specs.declared.register.TreeValue.{TreeValue};
+ghost use Rattle.splitter_tree.specs.declared.register.TreeValue.TheVariants.{Contents as Held};
+ghost use Rattle.splitter_tree.specs.declared.walker.Walker.{Walker};
 ghost use Rattle.step_memory.specs.Steps.{MemorySteps};
+ghost use Rattle.step_memory.specs.declared.access.Access.TheVariants.{Write};
+ghost use Rattle.step_memory.specs.declared.record.Record.{Record};
 
 /// A law, which runs nothing. A walk surely reads the segment of every node whose path from the root was marked when it
 /// began, and reads no segment twice. Of a walk that has found `nodes` nodes marked, the reads are at most three times
@@ -27,12 +33,25 @@ pub fn law_of_collects()
     ensures upcoming { (w : CollectWalk) (got : TreeValue) (q : ℕ) → IsUpcoming (walk_resumed w got) q → IsUpcoming w q }
     ensures once { (w : CollectWalk) (got : TreeValue) (q : ℕ) → place_read w ≡ Some q → IsUpcoming (walk_resumed w got) q → ⊥ }
 
+    ensures here { (marked : ℕ → Bool) (w : CollectWalk) (nodes reads q : ℕ) → HasRead marked w nodes reads → place_read w ≡ Some q → IsUpcoming w q }
+
     // The reads.
     ensures none_read { (marked : ℕ → Bool) → HasRead marked first_walk 0 0 }
     ensures reads_kept { (marked later : ℕ → Bool) (w : CollectWalk) (nodes reads : ℕ) → HasGrown marked later → HasRead marked w nodes reads → HasRead later w nodes reads }
     ensures one_read { (marked : ℕ → Bool) (w : CollectWalk) (got : TreeValue) (nodes reads : ℕ) → Sees marked w got → HasRead marked w nodes reads → walk_is_over w got ≡ false → HasRead marked (walk_resumed w got) (nodes + (if finds_mark w got then 1 else 0)) (reads + 1) }
     ensures few_reads { (marked : ℕ → Bool) (w : CollectWalk) (nodes reads : ℕ) → HasRead marked w nodes reads → reads + 1 ≤ 3 * nodes + 1 }
     ensures few_nodes { (marked : ℕ → Bool) (w : CollectWalk) (nodes reads most : ℕ) → HasRead marked w nodes reads → ((n : ℕ) → count_to marked n ≤ most) → nodes ≤ most }
+{}
+
+/// A law, which runs nothing: where the nodes of a tree and the walks to places in it are consistent, each place is ahead
+/// of a collect's walk that begins, and where b have begun such a walk makes at most 6b - 2 reads. Walks to places and
+/// writes of segments take no mark back.
+pub fn law_of_collects_at_places<S>()
+    ensures ahead { (memory : MemorySteps S TreeRegister TreeValue) (most b : ℕ) (s : S) (walker : ℕ → Option Walker) (p k : ℕ) → IsConsistent memory most b s walker → place_by (walker p) ≡ Some k → IsAhead (marked_in memory s) first_walk k }
+    ensures sees { (memory : MemorySteps S TreeRegister TreeValue) (s : S) (w : CollectWalk) → Sees (marked_in memory s) w (found_by memory s w) }
+    ensures few { (memory : MemorySteps S TreeRegister TreeValue) (most b : ℕ) (s : S) (walker : ℕ → Option Walker) (w : CollectWalk) (nodes reads : ℕ) → IsConsistent memory most b s walker → HasRead (marked_in memory s) w nodes reads → reads + 1 ≤ 3 * (2 * b - 1) + 1 }
+    ensures gone_on { (memory : MemorySteps S TreeRegister TreeValue) (most b : ℕ) (s : S) (walker : ℕ → Option Walker) (p : ℕ) (u : Walker) → IsTreeMemory memory → IsConsistent memory most b s walker → walker p ≡ Some u → HasGrown (marked_in memory s) (marked_in memory (memory.after s (next_access u))) }
+    ensures written { (memory : MemorySteps S TreeRegister TreeValue) (s : S) (k : ℕ) (segment : Option Record) → IsTreeMemory memory → HasGrown (marked_in memory s) (marked_in memory (memory.after s (Write (Contents k) (Held segment)))) }
 {}
 
 /// A law, which runs nothing: over any memory that is a tree, the calls that its world may be after, with their replies,

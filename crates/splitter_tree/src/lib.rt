@@ -50,7 +50,7 @@ pub mod world;
 
 pub use client::{Client, Task, TreeReply};
 pub use collect::Collect;
-pub use collect_law::{law_of_collect_calls, law_of_collects};
+pub use collect_law::{law_of_collect_calls, law_of_collects, law_of_collects_at_places};
 pub use collect_walk::CollectWalk;
 pub use door::Door;
 pub use law::law_of_nodes_and_walks;

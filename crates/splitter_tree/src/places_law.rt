@@ -3,6 +3,7 @@
 ghost use Rattle.std.specs.Prelude.{◌≡◌, ℕ, ◌≤◌, ◌↔◌, not, is_some, length, List, Option, Some};
 ghost use Rattle.splitter_tree.specs.Client.{is_placing};
 ghost use Rattle.splitter_tree.specs.Consistent.{IsConsistent, IsTree};
+ghost use Rattle.splitter_tree.specs.Depth.{IsNodeWithin};
 ghost use Rattle.splitter_tree.specs.Made.{WasMade};
 ghost use Rattle.splitter_tree.specs.PlacesLaw.{way_calls, KeepsPlacesLaw, walkers};
 ghost use Rattle.splitter_tree.specs.TreeCalls.{TreeCall, IsAfter};
@@ -19,7 +20,8 @@ ghost use Rattle.step_memory.specs.declared.participant.Participant.{Participant
 
 /// A law, which runs nothing, of every world of a tree of no nodes after any calls: the calls keep the law of the places;
 /// nodes and walks are consistent, so the law of the tree holds of them; the places that were answered are those at which
-/// walks have ended; a participant is on its way just while it has no place; and just the nodes are marked that were made.
+/// walks have ended; a participant is on its way just while it has no place; and just the nodes are marked that were made, all of depths
+/// below the number of those who have begun.
 pub fn law_of_places<S>()
     ensures law { (memory : MemorySteps S TreeRegister TreeValue) (first : S) (w : TreeState S) (r : List TreeCall) → IsTreeMemory memory → IsEmptyTree memory first → w.most ≤ 64 → IsAfter memory first w r → KeepsPlacesLaw r }
     ensures consistent { (memory : MemorySteps S TreeRegister TreeValue) (first : S) (w : TreeState S) (r : List TreeCall) → IsTreeMemory memory → IsEmptyTree memory first → w.most ≤ 64 → IsAfter memory first w r → IsConsistent memory w.most (length w.participants) w.memory (walkers w.participants) }
@@ -27,4 +29,5 @@ pub fn law_of_places<S>()
     ensures places { (memory : MemorySteps S TreeRegister TreeValue) (first : S) (w : TreeState S) (r : List TreeCall) (p : ℕ) → IsTreeMemory memory → IsEmptyTree memory first → w.most ≤ 64 → IsAfter memory first w r → place_by (walkers w.participants p) ≡ outcome_of p (way_calls r) }
     ensures on_the_way { (memory : MemorySteps S TreeRegister TreeValue) (first : S) (w : TreeState S) (r : List TreeCall) (p : ℕ) (v : Participant Client) → IsTreeMemory memory → IsEmptyTree memory first → w.most ≤ 64 → IsAfter memory first w r → participant_of p w.participants ≡ Some v → is_placing v.program.task ≡ not (is_some (place_of v.program.walker)) }
     ensures made { (memory : MemorySteps S TreeRegister TreeValue) (first : S) (w : TreeState S) (r : List TreeCall) (k : ℕ) → IsTreeMemory memory → IsEmptyTree memory first → w.most ≤ 64 → IsAfter memory first w r → (mark_at memory w.memory k ≡ 1) ↔ WasMade memory first w.most r k }
+    ensures made_within { (memory : MemorySteps S TreeRegister TreeValue) (first : S) (w : TreeState S) (r : List TreeCall) (k : ℕ) → IsTreeMemory memory → IsEmptyTree memory first → w.most ≤ 64 → IsAfter memory first w r → WasMade memory first w.most r k → IsNodeWithin (begun_in (way_calls r)) k }
 {}

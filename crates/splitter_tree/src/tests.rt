@@ -1,10 +1,14 @@
 //! Worked examples: walks, stores and collects of one to three participants, refusals, and want of memory.
 
 use crate::world::TreeWorld;
+use crate::{
+    Client, TreeRegister, TreeValue, Walker, law_of_collect_calls, law_of_collects,
+    law_of_collects_at_places, law_of_nodes_and_walks, law_of_places, law_of_tree_memory,
+};
 use linked_list_allocator::LocalHeap;
 use std::alloc::Allocator;
 use std::test::Fail;
-use step_memory::Refusal;
+use step_memory::{Access, Answer, Note, Refusal, StepProgram};
 
 /// So many steps that answer nothing, and one that gives the place.
 fn walks_to<A: Allocator + Clone>(
@@ -134,4 +138,53 @@ fn a_node_that_was_refused_is_made_later(rt: HostRuntime) -> Result<(), Fail> {
     assert!(rt; world.tree().door_at(3).is_some());
     assert!(rt; walks_to(&mut world, 20, 3, 3));
     Ok(())
+}
+
+/// Takes a step of any program.
+fn take<P: StepProgram>(program: &mut P, got: Answer<P::Value>) -> Note<P::Output> {
+    program.resume(got)
+}
+
+#[test]
+fn a_walk_as_a_program(rt: HostRuntime) {
+    let mut walker = Walker::new(9);
+    let mut client = Client::new(9);
+    assert!(rt;
+        matches!(
+            walker.next(),
+            Access::Write(TreeRegister::Mark(1), TreeValue::Word(1))
+        )
+    );
+    assert_eq!(rt; take(&mut walker, Answer::Done), Note::Quiet);
+    assert!(rt; matches!(take(&mut client, Answer::Done), Note::Quiet));
+    assert!(rt;
+        matches!(
+            walker.next(),
+            Access::Write(TreeRegister::Name(1), TreeValue::Word(9))
+        )
+    );
+    assert_eq!(rt; take(&mut walker, Answer::Done), Note::Quiet);
+    assert!(rt; matches!(walker.next(), Access::Read(TreeRegister::Taken(1))));
+    assert_eq!(rt;
+        take(&mut walker, Answer::Value(TreeValue::Word(1))),
+        Note::Quiet
+    );
+    assert!(rt;
+        matches!(
+            walker.next(),
+            Access::Write(TreeRegister::Mark(3), TreeValue::Word(1))
+        )
+    );
+    assert_eq!(rt; walker.place(), None);
+    assert!(rt; client.is_placing());
+}
+
+#[test]
+fn laws_are_called() {
+    law_of_tree_memory();
+    law_of_nodes_and_walks::<u64>();
+    law_of_places::<u64>();
+    law_of_collects();
+    law_of_collects_at_places::<u64>();
+    law_of_collect_calls::<u64>();
 }

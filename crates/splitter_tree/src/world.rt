@@ -5,13 +5,13 @@ ghost use Rattle.splitter_tree.specs.Client.{client_steps};
 ghost use Rattle.splitter_tree.specs.TreeCalls.{TreeCall};
 ghost use Rattle.splitter_tree.specs.TreeCalls.TreeCall.{Began, Stepped, Stored, CollectBegan, CollectStepped};
 ghost use Rattle.splitter_tree.specs.TreeSteps.{tree_steps, empty_tree};
-ghost use Rattle.splitter_tree.specs.TreeWorld.{after_tree_begin, asking_refusal, place_answer, after_placing, may_lack_memory, after_store, after_collect_begin, view_answer, after_collecting};
+ghost use Rattle.splitter_tree.specs.TreeWorld.{after_tree_begin, asking_refusal, place_answer, after_placing, may_lack_memory, after_store, after_collect_begin, view_answer, after_collecting, IsLocalStore};
 ghost use Rattle.splitter_tree.specs.CollectLaw.{KeepsCollectLaw};
 ghost use Rattle.splitter_tree.specs.Consistent.{IsTree};
 ghost use Rattle.splitter_tree.specs.PlacesLaw.{KeepsPlacesLaw, way_calls, walkers};
-ghost use Rattle.splitter_tree.specs.Run.{After};
+ghost use Rattle.splitter_tree.specs.Run.{After, TreeWorldState};
 ghost use Rattle.splitter_tree.specs.Walk.{place_of};
-ghost use Rattle.step_memory.specs.Calls.{begun_in};
+ghost use Rattle.step_memory.specs.Calls.{begun_in, outcome_of};
 ghost use Rattle.step_memory.specs.Locality.{IsLocal, LookAlike};
 ghost use Rattle.step_memory.specs.Participant.{program_of};
 ghost use Rattle.step_memory.specs.World.{begin_refusal, done_unless};
@@ -95,6 +95,7 @@ impl<A: Allocator + Clone> TreeWorld<A> {
         // Nothing of the world changes but this participant and the register that it names, and in another world that
         // looks alike to this participant the answer is the same.
         ensures local { IsLocal client_steps tree_steps id self.old self.new }
+        ensures alike { result ≢ Err Refusal.NoMemory → (other : TreeWorldState) → LookAlike client_steps tree_steps id self.old other → result ≡ place_answer tree_steps other id }
     {
         let Some(client) = self.world.program(id) else {
             return Err(Refusal::NotBegun);
@@ -115,6 +116,9 @@ impl<A: Allocator + Clone> TreeWorld<A> {
 
         // The law of collects, over every list of calls and replies that the world may be after.
         ensures collects { (r : List TreeCall) → After self.new r → KeepsCollectLaw r }
+
+        // Nothing of the world changes but this participant and the segment at its place.
+        ensures local { IsLocalStore tree_steps id self.old self.new }
     {
         let Some(client) = self.world.program(id) else {
             return Err(Refusal::NotBegun);
@@ -154,6 +158,7 @@ impl<A: Allocator + Clone> TreeWorld<A> {
         ensures after { (r : List TreeCall) → After self.old r → After self.new (r ++ CollectStepped id result ∷ []) }
         ensures collects { (r : List TreeCall) → After self.new r → KeepsCollectLaw r }
         ensures local { IsLocal client_steps tree_steps id self.old self.new }
+        ensures alike { (other : TreeWorldState) → LookAlike client_steps tree_steps id self.old other → result ≡ view_answer tree_steps other id }
     {
         let Some(client) = self.world.program(id) else {
             return Err(Refusal::NotBegun);
@@ -165,9 +170,10 @@ impl<A: Allocator + Clone> TreeWorld<A> {
         Ok(view_told(&note))
     }
 
-    /// The place of a participant, once it has one.
+    /// The place of a participant, once it has one: the one that was answered.
     pub fn place_of(&self, id: u64) -> Option<Place>
-        ensures { result ≡ option_and_then (λ c. place_of c.walker) (program_of id self.now.participants) }
+        ensures value { result ≡ option_and_then (λ c. place_of c.walker) (program_of id self.now.participants) }
+        ensures answered { (r : List TreeCall) → After self.now r → result ≡ outcome_of id (way_calls r) }
     {
         let Some(client) = self.world.program(id) else {
             return None;

@@ -1,5 +1,5 @@
 use Rattle.splitter_tree.proofs.WalkLemmas.{ahead_at_first, ahead_kept, ahead_resumed, register_is, upcoming_before, read_once}
-use Rattle.splitter_tree.proofs.ReadCount.{read_at_first, read_kept, read_resumed, reads_few, nodes_few}
+use Rattle.splitter_tree.proofs.ReadCount.{read_at_first, read_here, read_kept, read_resumed, reads_few, nodes_few}
 use Rattle.splitter_tree.proofs.collect_law.law_of_collects.Goals as goal
 
 pub returns-clause-first : goal.returns-clause-first
@@ -19,6 +19,9 @@ returns-clause-upcoming c = upcoming_before
 
 pub returns-clause-once : goal.returns-clause-once
 returns-clause-once c = read_once
+
+pub returns-clause-here : goal.returns-clause-here
+returns-clause-here c = read_here
 
 pub returns-clause-none_read : goal.returns-clause-none_read
 returns-clause-none_read c = read_at_first

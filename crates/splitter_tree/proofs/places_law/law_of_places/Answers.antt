@@ -1,6 +1,6 @@
 use Rattle.std.proofs.Common.{sym}
 use Rattle.splitter_tree.proofs.PlacesTied.{tied_after, tree_of_tied, law_of_tied}
-use Rattle.splitter_tree.proofs.NodesMade.{marked_made}
+use Rattle.splitter_tree.proofs.NodesMade.{marked_made, made_within}
 use Rattle.splitter_tree.proofs.places_law.law_of_places.Goals as goal
 
 pub returns-clause-law : goal.returns-clause-law
@@ -20,3 +20,6 @@ returns-clause-on_the_way g c = λ memory first w r p v tree empty few after her
 
 pub returns-clause-made : goal.returns-clause-made
 returns-clause-made g c = λ memory first w r k tree empty few after. marked_made memory tree first w r empty few after k
+
+pub returns-clause-made_within : goal.returns-clause-made_within
+returns-clause-made_within g c = λ memory first w r k tree empty few after was. made_within memory tree first w r empty few after k was

@@ -6,6 +6,7 @@ use Rattle.splitter_tree.specs.Client.{client_steps, is_idle, storing}
 use Rattle.splitter_tree.specs.TreeSteps.{tree_steps}
 use Rattle.splitter_tree.proofs.AfterLemmas.{after_store_call}
 use Rattle.splitter_tree.proofs.TreeCallLemmas.{absent_store, busy_store, going_store}
+use Rattle.splitter_tree.proofs.LocalStore.{local_store}
 use Rattle.splitter_tree.proofs.StoreLemmas.{store_goes_well}
 use Rattle.splitter_tree.proofs.LawsAfter.{collects_after}
 use Rattle.splitter_tree.proofs.world.TreeWorld.store.Goals as goal
@@ -61,3 +62,12 @@ returns-in_err-step-clause-collects g c = λ r a. collects_after c.step.new.self
 
 pub returns-clause-collects : goal.returns-clause-collects
 returns-clause-collects g c = λ r a. collects_after c.step.new.self r a
+
+pub returns-in_err-step-clause-local : goal.returns-in_err-step-clause-local
+returns-in_err-step-clause-local g c = absurd (no_error g c)
+
+pub returns-clause-local : goal.returns-clause-local
+returns-clause-local g c =
+    let some : Some c.in-Some.client.now ≡ program_of c.args.id c.args.self.now.participants = rw (← c.self.view_is) c.in-Some.ensures in
+    let asked : c.set.new.self ≡ after_set c.args.self.now c.args.id (storing c.in-Some.client.now c.args.value) = rw (c.storing-client.ensures, c.self.view_is) at c.set.ensures.after in
+    local_store tree_steps c.args.self.now c.set.new.self c.step.new.self c.args.id c.args.value c.in-Some.client.now some asked c.step.ensures.local

@@ -1,0 +1,75 @@
+-- what the law of the places gives to walks of collects
+use Rattle.std.proofs.Common.{◌≡◌, ℕ, ◌+◌, ◌-◌, ◌*◌, ◌≤◌, ◌==◌, true, Option, Some, inr, refl, ap, ◌∙◌, arith}
+use Rattle.std.proofs.lemmas.Bool.Decides.{Decides-eqb}
+use Rattle.step_memory.specs.Steps.{MemorySteps}
+use Rattle.step_memory.specs.declared.access.Access.TheVariants.{Write}
+use Rattle.step_memory.specs.declared.record.Record.{Record}
+use Rattle.splitter_tree.specs.declared.register.TreeRegister.{TreeRegister}
+use Rattle.splitter_tree.specs.declared.register.TreeRegister.TheVariants.{Mark, Contents}
+use Rattle.splitter_tree.specs.declared.register.TreeValue.{TreeValue}
+use Rattle.splitter_tree.specs.declared.register.TreeValue.TheVariants.{Contents as Held}
+use Rattle.splitter_tree.specs.declared.walker.Walker.{Walker}
+use Rattle.splitter_tree.specs.declared.collect_walk.CollectWalk.{CollectWalk}
+use Rattle.splitter_tree.specs.TreeMemory.{IsTreeMemory, mark_at, word_in}
+use Rattle.splitter_tree.specs.Walk.{next_access, place_by}
+use Rattle.splitter_tree.specs.Consistent.{IsConsistent, IsTree, was_made}
+use Rattle.splitter_tree.specs.Count.{count_to}
+use Rattle.splitter_tree.specs.CollectWalk.{first_walk}
+use Rattle.splitter_tree.specs.Ahead.{marked_in, found_by, Sees, HasGrown, HasRead, IsPathMarked, IsAhead}
+use Rattle.splitter_tree.proofs.Counting.{count_le}
+use Rattle.splitter_tree.proofs.Numbers.{small_fits}
+use Rattle.splitter_tree.proofs.WalkLemmas.{ahead_at_first}
+use Rattle.splitter_tree.proofs.ReadCount.{reads_few, nodes_few}
+use Rattle.splitter_tree.proofs.ConsistentKept.{marks}
+use Rattle.splitter_tree.proofs.TreeLaw.{tree_law}
+
+module _ {S : Type 0} (memory : MemorySteps S TreeRegister TreeValue) where
+  marked_is : (s : S) (k : ℕ) → mark_at memory s k ≡ 1 → marked_in memory s k ≡ true
+  marked_is s k h = (Decides-eqb (mark_at memory s k) 1).1 h
+
+  mark_is : (s : S) (k : ℕ) → marked_in memory s k ≡ true → mark_at memory s k ≡ 1
+  mark_is s k h = (Decides-eqb (mark_at memory s k) 1).0 h
+
+  -- what a walk reads in a mark is whether its node is marked
+  pub sees : (s : S) (w : CollectWalk) → Sees (marked_in memory s) w (found_by memory s w)
+  sees s w = λ e. rw e refl
+
+  -- the write of a segment takes no mark back
+  pub marks_spared : (s : S) (k : ℕ) (segment : Option Record) → IsTreeMemory memory → HasGrown (marked_in memory s) (marked_in memory (memory.after s (Write (Contents k) (Held segment))))
+  marks_spared s k segment tree = λ j h. ap (λ x. word_in x.0 == 1) (tree.others s (Write (Contents k) (Held segment)) (Mark j) (λ e. absurd (cc))) ∙ h
+
+  module _ (most b : ℕ) (s : S) (walker : ℕ → Option Walker) (c : IsConsistent memory most b s walker) where
+    law : IsTree memory b s walker
+    law = tree_law memory most b s walker c
+
+    -- every node from the root down to a place is marked
+    pub path_marked : (p k : ℕ) → place_by (walker p) ≡ Some k → IsPathMarked (marked_in memory s) k
+    path_marked p k h =
+        let within = law.within p k h in
+        let few : b ≤ 64 = (let f = c.few in let r = c.room in omega arith) in
+        record {
+          node = within.node;
+          fits = small_fits b k few within.within;
+          path = λ j node under. marked_is s j (law.ancestors k j (law.placed p k h) under node);
+        }
+
+    -- so each place is ahead of a walk that begins
+    pub place_ahead : (p k : ℕ) → place_by (walker p) ≡ Some k → IsAhead (marked_in memory s) first_walk k
+    place_ahead p k h = ahead_at_first (marked_in memory s) k (path_marked p k h)
+
+    -- few nodes are marked
+    pub marked_few : (n : ℕ) → count_to (marked_in memory s) n ≤ 2 * b - 1
+    marked_few n =
+        let le : count_to (marked_in memory s) n ≤ count_to (was_made memory s) n = count_le (marked_in memory s) (was_made memory s) (λ k h. let one : mark_at memory s k ≡ 1 = mark_is s k h in rw one refl) n in
+        omega (arith, le, law.few_made n)
+
+    -- and so are the reads
+    pub walk_few : (w : CollectWalk) (nodes reads : ℕ) → HasRead (marked_in memory s) w nodes reads → reads + 1 ≤ 3 * (2 * b - 1) + 1
+    walk_few w nodes reads r =
+        let some = nodes_few (marked_in memory s) w nodes reads (2 * b - 1) r marked_few in
+        let few = reads_few (marked_in memory s) w nodes reads r in
+        omega (arith, some, few)
+
+    -- a walk to a place takes no mark back
+    pub marks_grow : IsTreeMemory memory → (p : ℕ) (u : Walker) → walker p ≡ Some u → HasGrown (marked_in memory s) (marked_in memory (memory.after s (next_access u)))
+    marks_grow tree p u is = λ k h. marked_is (memory.after s (next_access u)) k ((marks memory most b s walker c tree p u is k).1 (inr (mark_is s k h)))
