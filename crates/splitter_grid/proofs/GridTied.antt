@@ -13,7 +13,7 @@ use Rattle.step_memory.specs.World.{after_begin, begin_refusal, done_unless}
 use Rattle.step_memory.specs.Calls.{Call, next, IsReply, steps_of, steps_by, outcome_of, outcome_by, outcome_in, begun_in, begun_by, IsAfter}
 use Rattle.step_memory.specs.Calls.Call.{Began, Stepped}
 use Rattle.step_memory.proofs.SetAtLemmas.{set_at-same, set_at-other, set_at-cases}
-use Rattle.step_memory.proofs.ParticipantLemmas.{participant_of-push, participant_of-put}
+use Rattle.step_memory.proofs.ParticipantLemmas.{participant_of-push, participant_of-put, length-with_participant}
 use Rattle.step_memory.proofs.WorldKeeps.{steps_of-push, begun_in-push, outcome_of-push, first_of-none, IsLetIn, IsKept, world_keeps, after_call, after_stepped, most_kept, moved, stepped}
 use Rattle.splitter.specs.declared.way.Way.TheVariants.{Stop, Right, Down}
 use Rattle.splitter.specs.declared.stage.Stage.{Stage}
@@ -56,10 +56,6 @@ refused w r h none quiet nobody t = record {
 
 set_at-map : {X Y : Type 0} (g : X → Y) (f : ℕ → X) (p : ℕ) (s : X) (q : ℕ) → g (set_at f p s q) ≡ set_at (λ u. g (f u)) p (g s) q
 set_at-map g f p s q = elim (q == p) as (λ b. g (cond b s (f q)) ≡ cond b (g s) (g (f q))) [ true ↦ refl | false ↦ refl ]
-
-length-with_participant : (new : Participant Walker) (ps : List (Participant Walker)) → length (with_participant new ps) ≡ length ps
-length-with_participant new [] = refl
-length-with_participant new (p ∷ ps) = elim (p.identity == new.identity) as (λ b. length (cond b (new ∷ ps) (p ∷ with_participant new ps)) ≡ suc (length ps)) [ true ↦ refl | false ↦ ap suc (length-with_participant new ps) ]
 
 -- what is said alike of one who has not begun and of one who has just begun
 same_in : {X : Type 0} (say : Option Walker → X) (walker : ℕ → Option Walker) (id : ℕ) (new : Walker) (p : ℕ) → walker id ≡ None → say None ≡ say (Some new) → say (walker p) ≡ say (set_at walker id (Some new) p)
@@ -124,7 +120,7 @@ going_kept w r id v here goes t =
     let there : is_some (participant_of v.identity w.participants) ≡ true = rw (named.own, here) refl in
     let put : (q : ℕ) → participant_of q (with_participant new w.participants) ≡ set_at (λ u. participant_of u w.participants) id (Some new) q = (λ q. participant_of-put w.participants new there q ∙ rw named.own refl) in
     let walks : walkers (with_participant new w.participants) ≡ set_at (walkers w.participants) id (Some walk) = fun_ext (λ q. ap (option_map (λ x. x.program)) (put q) ∙ set_at-map (option_map (λ x. x.program)) (λ u. participant_of u w.participants) id (Some new) q) in
-    let many : length (with_participant new w.participants) ≡ length w.participants = length-with_participant new w.participants in
+    let many : length (with_participant new w.participants) ≡ length w.participants = length-with_participant w.participants new in
     let own : walkers (with_participant new w.participants) id ≡ Some walk = ap (λ (f : ℕ → Option Walker). f id) walks ∙ set_at-same (walkers w.participants) id (Some walk) in
     let others : (p : ℕ) → id ≢ p → walkers (with_participant new w.participants) p ≡ walkers w.participants p = (λ p n. ap (λ (f : ℕ → Option Walker). f p) walks ∙ set_at-other (walkers w.participants) id (Some walk) p (λ h. n (sym h))) in
     let itself : (id == id) ≡ true = elim (eqb_tells id id) [ inl e ↦ e.0 | inr e ↦ absurd (e.1 refl) ] in

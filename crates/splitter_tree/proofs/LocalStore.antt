@@ -27,9 +27,6 @@ stands None c h = absurd (cc)
 stands (Some p) c h = refl
 
 module _ {S : Type 0} (memory : MemorySteps S TreeRegister TreeValue) where
-  pub unchanged_store : (id : ℕ) (w : TreeState S) → IsLocalStore memory id w w
-  unchanged_store id w = record { most = refl; others = λ q n. refl; registers = λ r h. refl }
-
   pub local_store : (w v new : TreeState S) (id value : ℕ) (c : Client) → Some c ≡ program_of id w.participants → v ≡ after_set w id (storing c value) → IsLocal client_steps memory id v new → IsLocalStore memory id w new
   local_store w v new id value c some e local = record {
     most = local.most ∙ ap (λ u. u.most) e;

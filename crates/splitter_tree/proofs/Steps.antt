@@ -10,7 +10,7 @@ use Rattle.splitter_tree.specs.declared.node.Node.{Node, out-Node, roll-Node}
 use Rattle.splitter_tree.specs.Nodes.{entries_in, door_below, is_right, is_lacking, grown}
 use Rattle.splitter_tree.specs.TreeSteps.{fresh_door}
 use Rattle.splitter_tree.proofs.Ways.{IsFrom, way_right, way_left, on_way, parent_on_way}
-use Rattle.splitter_tree.proofs.Below.{found, parts, out_parts, roll_parts, roll_out, at_node, at_left, at_right, set_node, set_left, set_right}
+use Rattle.splitter_tree.proofs.Below.{found, parts, out_parts, roll_parts, roll_out, at_node, at_left, at_right, set_left, set_right}
 
 pub on_ok : {X E : Type 0} {P Q : Type 0} (r : Result X E) → (P → Q) → OnOk r P → OnOk r Q
 on_ok (Ok x) f h = f h
@@ -79,16 +79,6 @@ module _ (A : Type 0) (link : Option (Box (Node A) A)) (node : Box (Node A) A) (
     found_itself =
         ap (λ (p : ℕ). door_below p link place) (let e : place / 2 ^ 0 ≡ place = omega arith in e)
         ∙ by_parts place place ∙ at_node place door left right
-
-    pub put_itself : (x : Door) (q : ℕ) → door_below (place / 2 ^ 0) (Some (with_value node (roll-Node A record { door = x; left = (out-Node A m).left; right = (out-Node A m).right }))) q ≡ set_at (door_below (place / 2 ^ 0) link) place (Some x) q
-    unfolding door left right
-    put_itself x q =
-        let e : place / 2 ^ 0 ≡ place = omega arith in
-        ap (λ (p : ℕ). door_below p (Some (with_value node (roll-Node A record { door = x; left = left; right = right }))) q) e
-        ∙ ap (found q) (roll_parts A place x left right)
-        ∙ set_node place door left right x q
-        ∙ set_by_parts place place (Some x) q
-        ∙ ap (λ (p : ℕ). set_at (door_below p link) place (Some x) q) (sym e)
 
     -- it is there, so that nothing is made
     pub kept_itself : (depth : ℕ) → depth ≡ 0 → (q : ℕ) → door_below (place / 2 ^ depth) (Some node) q ≡ set_at (door_below (place / 2 ^ depth) link) place (grown (door_below (place / 2 ^ depth) link) place depth) q

@@ -20,8 +20,8 @@ ghost use Rattle.step_memory.specs.declared.participant.Participant.{Participant
 
 /// A law, which runs nothing, of every world of a tree of no nodes after any calls: the calls keep the law of the places;
 /// nodes and walks are consistent, so the law of the tree holds of them; the places that were answered are those at which
-/// walks have ended; a participant is on its way just while it has no place; and just the nodes are marked that were made, all of depths
-/// below the number of those who have begun.
+/// walks have ended; a participant is on its way just while it has no place; and just the nodes are marked that were made,
+/// all of depths below the number of those who have begun.
 pub fn law_of_places<S>()
     ensures law { (memory : MemorySteps S TreeRegister TreeValue) (first : S) (w : TreeState S) (r : List TreeCall) → IsTreeMemory memory → IsEmptyTree memory first → w.most ≤ 64 → IsAfter memory first w r → KeepsPlacesLaw r }
     ensures consistent { (memory : MemorySteps S TreeRegister TreeValue) (first : S) (w : TreeState S) (r : List TreeCall) → IsTreeMemory memory → IsEmptyTree memory first → w.most ≤ 64 → IsAfter memory first w r → IsConsistent memory w.most (length w.participants) w.memory (walkers w.participants) }
