@@ -1,19 +1,23 @@
 //! What holds of a grid, whoever walks through it: stated over its registers and the walks alone.
 
-ghost use Rattle.std.specs.Prelude.{◌≡◌, ◌≢◌, ℕ, ◌+◌, ◌≤◌, ◌<◌, length, Option, Some, None};
+ghost use Rattle.std.specs.Prelude.{◌≡◌, ◌≢◌, ◌↔◌, ℕ, ◌+◌, ◌*◌, ◌/◌, ◌≤◌, ◌<◌, length, Option, Some, None};
 ghost use Rattle.splitter.specs.Visitor.{word_of};
 ghost use Rattle.splitter_grid.specs.Consistent.{IsConsistent, IsGrid};
+ghost use Rattle.splitter_grid.specs.Door.{IsDoorWithin};
 ghost use Rattle.splitter_grid.specs.GridWorld.{empty_doors};
-ghost use Rattle.splitter_grid.specs.Walk.{walk_of, next_access, walker_after, accesses_of, place_of};
+ghost use Rattle.splitter_grid.specs.Walk.{walk_of, next_access, walker_after, walker_note, accesses_of, place_of};
 ghost use Rattle.splitter_grid.specs.declared.walker.Walker.{Walker};
 ghost use Rattle.step_memory.specs.RegisterState.{Registers};
 ghost use Rattle.step_memory.specs.Registers.{answer_of, after_access};
 ghost use Rattle.step_memory.specs.SetAt.{set_at};
 ghost use Rattle.step_memory.specs.declared.access.Answer.{Answer};
+ghost use Rattle.step_memory.specs.declared.note.Note.TheVariants.{Ended};
 
 /// A law, which runs nothing: the doors of a grid that no one has entered are consistent with no walks; one who begins,
 /// each access of a walk, and whatever leaves the doors' registers as they are keep doors and walks consistent; and
-/// where they are, they keep the law of the grid. An access of a walk that has no place yet brings it nearer to one.
+/// where they are, they keep the law of the grid. Where b have begun, a walk that has no place yet has made fewer than 4b
+/// accesses; each brings it nearer to a place, and says that it has ended just where it reaches it. A door on the first b
+/// diagonals has one of the lowest b(b + 1)/2 numbers.
 /// Structures over the places of a grid stand on this.
 pub fn law_of_doors_and_walks()
     ensures fresh { (most : ℕ) → most ≤ 16 → IsConsistent most 0 (empty_doors most) (λ p. None) }
@@ -22,4 +26,8 @@ pub fn law_of_doors_and_walks()
     ensures elsewhere { (most b : ℕ) (m other : Registers ℕ) (walker : ℕ → Option Walker) → IsConsistent most b m walker → length other.values ≡ length m.values → ((r : ℕ) → word_of other r ≡ word_of m r) → IsConsistent most b other walker }
     ensures law { (most b : ℕ) (m : Registers ℕ) (walker : ℕ → Option Walker) → IsConsistent most b m walker → IsGrid b m walker }
     ensures nearer { (most b : ℕ) (m : Registers ℕ) (walker : ℕ → Option Walker) (p : ℕ) (u : Walker) (got : Answer ℕ) → IsConsistent most b m walker → walker p ≡ Some u → place_of u ≡ None → accesses_of u + 1 ≤ accesses_of (walker_after u got) }
+    ensures unplaced { (most b : ℕ) (m : Registers ℕ) (walker : ℕ → Option Walker) (p : ℕ) (u : Walker) → IsConsistent most b m walker → walker p ≡ Some u → place_of u ≡ None → accesses_of u + 1 ≤ 4 * b }
+    ensures some { (most b : ℕ) (m : Registers ℕ) (walker : ℕ → Option Walker) (p : ℕ) (u : Walker) → IsConsistent most b m walker → walker p ≡ Some u → 1 ≤ b }
+    ensures ended { (u : Walker) (got : Answer ℕ) (x : ℕ) → (walker_note u got ≡ Ended x) ↔ (place_of (walker_after u got) ≡ Some x) }
+    ensures low { (b k : ℕ) → IsDoorWithin b k → k < b * (b + 1) / 2 }
 {}
