@@ -104,6 +104,7 @@ impl View {
     pub fn pairs(&self) -> &[(u64, u64)]
         ensures pairs { result.now ≡ self.now }
         ensures rising { IsRising self.now }
+        ensures few { length self.now ≤ 64 }
     {
         &self.pairs[..self.len]
     }

@@ -1,0 +1,119 @@
+-- each call of a renaming world keeps it tied to the object of its law
+use Rattle.std.proofs.Common.{Bool, ◌≡◌, ℕ, ◌+◌, true, false, Option, Some, None, Result, Ok, Err, inl, inr, refl, sym, ap, subst, ◌∙◌}
+use Rattle.std.specs.Prelude.{is_some, option_map}
+use Rattle.step_memory.specs.declared.participant.Participant.{Participant}
+use Rattle.step_memory.specs.declared.refusal.Refusal.{Refusal}
+use Rattle.step_memory.specs.declared.refusal.Refusal.TheVariants.{NotBegun, Finished, Spent as IsSpent, NoMemory}
+use Rattle.step_memory.specs.Participant.{participant_of, program_of}
+use Rattle.step_memory.specs.Calls.{Call, lacked_memory}
+use Rattle.step_memory.specs.Calls.Call.{Stepped}
+use Rattle.step_memory.specs.Steps.{ProgramSteps, MemorySteps}
+use Rattle.snapshot_core.specs.Walks.{WalkSteps}
+use Rattle.snapshot_core.specs.SnapWorld.{SnapState, after_snap_step, may_lack_memory}
+use Rattle.snapshot_core.specs.SnapCalls.{SnapCall, next as snap_next, IsReply as IsSnapReply}
+use Rattle.snapshot_core.specs.Snapshot.{SnapObject, SnapBounds, observed, Allows as SnapAllows}
+use Rattle.rename_core.specs.declared.reply.Reply.{Reply}
+use Rattle.rename_core.specs.declared.round.Round.{Round}
+use Rattle.rename_core.specs.declared.round.Stage.{Stage}
+use Rattle.rename_core.specs.declared.round.Stage.TheVariants.{Placing, Proposing, Looking, Settled, Over}
+use Rattle.rename_core.specs.Round.{stage_refusal, followed}
+use Rattle.rename_core.specs.RenameState.{RenameState}
+use Rattle.rename_core.specs.PlaceSteps.{PlaceSteps}
+use Rattle.rename_core.specs.Pace.{Pace, InTime, paced}
+use Rattle.rename_core.specs.RenameCalls.{next, IsReply}
+use Rattle.rename_core.specs.RenameWorld.{after_follow, rename_answer, after_rename_step, step_refusal, may_lack}
+use Rattle.rename_core.specs.RenameObject.{RenameTerms, RenameObject, no_step, Allows, after}
+use Rattle.rename_core.proofs.Clients.{HasStepped, has_stepped}
+use Rattle.rename_core.proofs.Tied.{IsAtStage, IsTied}
+use Rattle.rename_core.proofs.Stepping.{HasGone, placing_gone, proposing_gone, looking_gone}
+
+module _ {S R V U K : Type 0} (W : PlaceSteps S R V U K) (terms : RenameTerms) (bounds : SnapBounds)
+    (Tie : SnapState S U K → SnapObject → Type 0)
+    (tie_goes : (w : SnapState S U K) (o : SnapObject) (h : SnapCall) → Tie w o → IsSnapReply W.walker W.place_of W.walks W.memory W.walker_from W.walk_from w h → Tie (snap_next W.walker W.place_of W.walks W.memory W.walker_from W.walk_from w h) (observed o h) × SnapAllows bounds o h) where
+  -- the object may give this reply, it comes in time, and all go on together
+  pub record Goes (w : RenameState S U K) (o : RenameObject) (t : Pace) (h : Call Reply) : Type 0 where
+    pub allowed : Allows terms o h
+    pub timed : InTime bounds t h
+    pub tied : IsTied terms Tie (next W w h) (after o h) (paced bounds t h)
+
+  module _ (w : RenameState S U K) (o : RenameObject) (t : Pace) (i : IsTied terms Tie w o t) (p : ℕ) where
+    abbrev Answered : Type 0
+    Answered = Goes w o t (Stepped p (rename_answer W w p))
+
+    conclude : (reply : Result Reply Refusal) (new : RenameState S U K) → rename_answer W w p ≡ reply → lacked_memory reply ≡ false → after_rename_step W w p ≡ new →
+        Allows terms o (Stepped p reply) → InTime bounds t (Stepped p reply) → IsTied terms Tie new (after o (Stepped p reply)) (paced bounds t (Stepped p reply)) → Answered
+    conclude reply new answer lacks state allowed timed tied =
+        let go : Goes w o t (Stepped p reply) = record { allowed = allowed; timed = timed; tied = rw lacks (subst (λ (x : RenameState S U K). IsTied terms Tie x (after o (Stepped p reply)) (paced bounds t (Stepped p reply))) (sym state) tied) } in
+        subst (λ (x : Result Reply Refusal). Goes w o t (Stepped p x)) (sym answer) go
+
+    absent_step : participant_of p w.rounds ≡ None → no_step o p ≡ Some NotBegun
+    absent_step h = let b : o.begun p ≡ false = i.begun p ∙ ap is_some h in rw b refl
+
+    absent_goes : participant_of p w.rounds ≡ None → Answered
+    absent_goes h = conclude (Err NotBegun) w (rw h refl) refl (rw h refl) (inl (absent_step h)) tt i
+
+    module _ (v : Participant Round) (here : participant_of p w.rounds ≡ Some v) where
+      begun_is : o.begun p ≡ true
+      begun_is = i.begun p ∙ ap is_some here
+
+      named_step : is_some (o.name p) ≡ true → no_step o p ≡ Some Finished
+      named_step h = rw (begun_is, h) refl
+
+      spent_step : o.name p ≡ None → o.spent p ≡ true → no_step o p ≡ Some IsSpent
+      spent_step h k = rw (begun_is, h, k) refl
+
+      open_step : o.name p ≡ None → o.spent p ≡ false → no_step o p ≡ None
+      open_step h k = rw (begun_is, h, k) refl
+
+      program_is : program_of p w.rounds ≡ Some v.program
+      program_is = ap (option_map (λ u. u.program)) here
+
+      refused_goes : (why : Refusal) → lacked_memory {X = Reply} (Err why) ≡ false → stage_refusal v.program.stage ≡ Some why → no_step o p ≡ Some why → Answered
+      refused_goes why lacks closed due = conclude (Err why) w (rw (program_is, closed) refl) lacks (rw (program_is, closed) refl) (inl due) tt i
+
+      open_goes : (n : ℕ) → (k : HasStepped W.walker W.place_of W.walks W.memory w.snap p n) → stage_refusal v.program.stage ≡ None → no_step o p ≡ None → HasGone W terms bounds Tie tie_goes w o t i p v here (followed v.program p k.reply w.limit) → Answered
+      open_goes n k unclosed none gone =
+          conclude (Ok (followed v.program p k.reply w.limit).reply) (after_follow W w p (followed v.program p k.reply w.limit))
+          (rw (program_is, unclosed, k.answer) refl) refl (rw (program_is, unclosed, k.answer) refl) (none, gone.allowed) gone.timed gone.tied
+
+      stage_goes : (stage : Stage) → v.program.stage ≡ stage → IsAtStage terms o t i.object w.snap p v.program stage → Answered
+      stage_goes Placing e h =
+          let k = has_stepped W.walker W.place_of W.walks W.memory w.snap p 0 h.stands in
+          open_goes 0 k (ap stage_refusal e) (open_step h.going.unnamed h.going.left) (placing_gone W terms bounds Tie tie_goes w o t i p v here h e k)
+      stage_goes (Proposing number) e h =
+          let k = has_stepped W.walker W.place_of W.walks W.memory w.snap p (v.program.count + 1) h.stands in
+          open_goes (v.program.count + 1) k (ap stage_refusal e) (open_step h.going.unnamed h.going.left) (proposing_gone W terms bounds Tie tie_goes w o t i p v here number h e k)
+      stage_goes Looking e h =
+          let k = has_stepped W.walker W.place_of W.walks W.memory w.snap p v.program.count h.stands in
+          open_goes v.program.count k (ap stage_refusal e) (open_step h.going.unnamed h.going.left) (looking_gone W terms bounds Tie tie_goes w o t i p v here h e k)
+      stage_goes Settled e h = refused_goes Finished refl (ap stage_refusal e) (named_step (ap is_some h.1))
+      stage_goes Over e h = refused_goes IsSpent refl (ap stage_refusal e) (spent_step h.0 h.1)
+
+      there_goes : Answered
+      there_goes = stage_goes v.program.stage refl (i.stages p v here)
+
+      open_none : (stage : Stage) → IsAtStage terms o t i.object w.snap p v.program stage → stage_refusal stage ≡ None → no_step o p ≡ None
+      open_none Placing h none = open_step h.going.unnamed h.going.left
+      open_none (Proposing number) h none = open_step h.going.unnamed h.going.left
+      open_none Looking h none = open_step h.going.unnamed h.going.left
+      open_none Settled h none = absurd (cc)
+      open_none Over h none = absurd (cc)
+
+    answered : Answered
+    answered = elim (participant_of p w.rounds) as (λ z. participant_of p w.rounds ≡ z → Answered) [
+      | None ↦ λ h. absent_goes h
+      | Some v ↦ λ h. there_goes v h
+    ] refl
+
+    -- a step for which a growth was refused
+    no_step_none : step_refusal w p ≡ None → no_step o p ≡ None
+    no_step_none none = elim (participant_of p w.rounds) as (λ z. participant_of p w.rounds ≡ z → no_step o p ≡ None) [
+      | None ↦ λ h. absurd (let k : Some NotBegun ≡ None = rw h at none in cc)
+      | Some v ↦ λ h. open_none v h v.program.stage (i.stages p v h) (rw h at none)
+    ] refl
+
+    pub step_goes : ((s : RenameState S U K) (q : ℕ) → may_lack W s q ≡ true → terms.grows ≡ true) → (reply : Result Reply Refusal) → IsReply W w (Stepped p reply) → Goes w o t (Stepped p reply)
+    step_goes grows reply (inl e) = subst (λ (x : Result Reply Refusal). Goes w o t (Stepped p x)) (sym e) answered
+    step_goes grows reply (inr e) =
+        let refused : Goes w o t (Stepped p (Err NoMemory)) = record { allowed = inr (no_step_none e.1, refl, grows w p e.2); timed = tt; tied = i } in
+        subst (λ (x : Result Reply Refusal). Goes w o t (Stepped p x)) (sym e.0) refused

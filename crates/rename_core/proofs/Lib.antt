@@ -1,0 +1,15 @@
+pub mod Numbers
+pub mod Views
+pub mod Participants
+pub mod Standing
+pub mod Clients
+pub mod Snapping
+pub mod Tied
+pub mod Stepping
+pub mod Keeping
+pub mod Beginning
+pub mod StepCases
+pub mod Sizes
+pub mod Names
+pub mod NamedPlaces
+pub mod AfterCalls

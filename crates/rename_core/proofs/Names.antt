@@ -1,0 +1,166 @@
+-- every renaming world keeps the law of renaming
+use Rattle.std.proofs.Common.{None, is_some, ◌≡◌, ℕ, ◌+◌, ◌*◌, ◌≤◌, ◌==◌, Bool, true, List, [], ◌∷◌, ◌++◌, Option, Some, inl, inr, refl, sym, ap, ◌∙◌, arith}
+use Rattle.std.specs.Prelude.{option_map}
+use Rattle.std.proofs.lemmas.Bool.Decides.{eqb_tells, leb_tells}
+use Rattle.step_memory.specs.Calls.{Call}
+use Rattle.step_memory.specs.Calls.Call.{Began, Stepped}
+use Rattle.step_memory.specs.declared.participant.Participant.{Participant}
+use Rattle.step_memory.specs.Participant.{participant_of}
+use Rattle.step_memory.specs.Runs.{Run}
+use Rattle.step_memory.proofs.RunLemmas.{run_more, run_keeps}
+use Rattle.snapshot_core.specs.Places.{PlacesLaws, BoundsScans}
+use Rattle.snapshot_core.specs.SnapWorld.{SnapState}
+use Rattle.snapshot_core.specs.SnapCalls.{SnapCall, next as snap_next, IsReply as IsSnapReply}
+use Rattle.snapshot_core.specs.Snapshot.{SnapObject, SnapBounds, observed, Allows as SnapAllows, new_object as new_snap}
+use Rattle.rename_core.specs.Config.{is_tree}
+use Rattle.rename_core.specs.declared.config.WorldKind.{WorldKind}
+use Rattle.rename_core.specs.declared.reply.Reply.{Reply}
+use Rattle.rename_core.specs.declared.round.Round.{Round}
+use Rattle.rename_core.specs.declared.round.Stage.{Stage}
+use Rattle.rename_core.specs.declared.round.Stage.TheVariants.{Placing, Proposing, Looking, Settled, Over}
+use Rattle.rename_core.specs.Law.{KeepsRenameLaw}
+use Rattle.rename_core.specs.Pace.{Pace, InTime, new_pace, paced, IsPaced}
+use Rattle.rename_core.specs.PlaceSteps.{PlaceSteps}
+use Rattle.rename_core.specs.RenameCalls.{next, IsReply, IsAfter, terms_of}
+use Rattle.rename_core.specs.RenameObject.{RenameTerms, RenameObject, new_object, IsRecent, Allows, after, IsRun}
+use Rattle.rename_core.specs.RenameState.{RenameState}
+use Rattle.rename_core.specs.RenameWorld.{name_in, name_by, fresh_world, may_lack}
+use Rattle.rename_core.specs.Round.{name_at}
+use Rattle.rename_core.proofs.Beginning.{begin_goes}
+use Rattle.rename_core.proofs.Keeping.{Goes, step_goes}
+use Rattle.rename_core.proofs.Sizes.{most_after}
+use Rattle.rename_core.proofs.Snapping.{run_ends, AreAfter, after_none, after_more}
+use Rattle.rename_core.proofs.Standing.{IsStanding, standing_fresh, same_in, name_small}
+use Rattle.rename_core.proofs.Tied.{IsAtStage, IsTied}
+
+-- no two have one name
+pub distinct_names : (o : RenameObject) → IsStanding o → (p q n : ℕ) → o.name p ≡ Some n → o.name q ≡ Some n → p ≡ q
+distinct_names o h p q n mine theirs = elim (eqb_tells p q) [
+  | inl e ↦ e.1
+  | inr e ↦
+      let a = h.held p n mine in
+      let b = h.held q n theirs in
+      absurd (elim (leb_tells (o.since q) a.index) [
+        | inl l ↦
+            let here : IsRecent o q a.index = record { no_earlier = l.1; no_later = a.recent.no_later } in
+            a.sole.alone q (λ k. e.1 (sym k)) (same_in o h q a.index b.index b.some here b.recent ∙ b.sole.own)
+        | inr l ↦
+            let c = a.recent.no_earlier in
+            let d = b.recent.no_earlier in
+            let f = l.1 in
+            let there : IsRecent o p b.index = record { no_earlier = omega arith; no_later = b.recent.no_later } in
+            b.sole.alone p e.1 (same_in o h p b.index a.index a.some there a.recent ∙ a.sole.own)
+      ])
+]
+
+-- what is assumed of places that names are given over, whose scans take no more steps than this
+pub record MayBeNamed {S R V U K : Type 0} (W : PlaceSteps S R V U K) (grows : Bool) (most : ℕ) (scanning : ℕ → ℕ) : Type 0 where
+  pub laws : PlacesLaws W.walker W.place_of W.walks W.memory W.most_of W.walker_from W.walk_from W.ties
+  pub fits : BoundsScans W.ties most scanning
+  pub may_grow : (s : RenameState S U K) (p : ℕ) → may_lack W s p ≡ true → grows ≡ true
+  pub at_once : (b q : ℕ) → is_some (W.place_of (W.walker_from b q)) ≡ (W.ties.placing 1 == 0)
+
+module _ {S R V U K : Type 0} (W : PlaceSteps S R V U K) (terms : RenameTerms) (scanning : ℕ → ℕ) (named : MayBeNamed W terms.grows terms.most scanning)
+    (first : S) (new : W.ties.IsNew first) (most : W.most_of first ≡ terms.most) (low : 1 ≤ terms.limit) (high : terms.limit ≤ 1000000) where
+  abbrev bounds : SnapBounds
+  bounds = record { placing = W.ties.placing; scanning = scanning }
+
+  abbrev Tie : SnapState S U K → SnapObject → Type 0
+  Tie w o = AreAfter W.walker W.place_of W.walks W.memory W.walker_from W.walk_from W.most_of W.ties named.laws bounds first w o
+
+  pub tie_goes : (w : SnapState S U K) (o : SnapObject) (h : SnapCall) → Tie w o → IsSnapReply W.walker W.place_of W.walks W.memory W.walker_from W.walk_from w h → Tie (snap_next W.walker W.place_of W.walks W.memory W.walker_from W.walk_from w h) (observed o h) × SnapAllows bounds o h
+  tie_goes w o h k is = after_more W.walker W.place_of W.walks W.memory W.walker_from W.walk_from W.most_of W.ties named.laws first scanning new (rw most named.fits) w o h k is
+
+  abbrev Tied : RenameState S U K → RenameObject → Pace → Type 0
+  Tied = IsTied terms Tie
+
+  abbrev fresh : RenameState S U K
+  fresh = fresh_world first (W.most_of first) terms.limit
+
+  -- the object and the pace of the law are tied to the world
+  pub record Holds (w : RenameState S U K) (r : List (Call Reply)) : Type 0 where
+    pub object : RenameObject
+    pub run : IsRun terms r object
+    pub paces : IsPaced bounds r
+    pub tied : Tied w object paces.0
+
+  fresh_tied : Tied fresh new_object new_pace
+  fresh_tied = record {
+    object = new_snap;
+    tie = after_none W.walker W.place_of W.walks W.memory W.walker_from W.walk_from W.most_of W.ties named.laws bounds first;
+    as_many = refl;
+    limit = refl;
+    low = low;
+    high = high;
+    most = sym most;
+    many = refl;
+    counted = refl;
+    distinct = tt;
+    begun = λ p. refl;
+    joined = λ p. refl;
+    last = refl;
+    moment = refl;
+    place = refl;
+    standing = standing_fresh new_object (λ p. refl) (λ p. refl) (λ i p. refl) (λ p. refl);
+    absent = λ p h. (refl, refl, refl);
+    counts = λ p v h. absurd (cc);
+    stages = λ p v h. absurd (cc);
+  }
+
+  goes : (w : RenameState S U K) (o : RenameObject) (t : Pace) → Tied w o t → (h : Call Reply) → IsReply W w h → Goes W terms bounds Tie tie_goes w o t h
+  goes w o t i (Began p reply) is = begin_goes W terms bounds Tie tie_goes w o t i p named.at_once reply is
+  goes w o t i (Stepped p reply) is = step_goes W terms bounds Tie tie_goes w o t i p named.may_grow reply is
+
+  keeps : (w : RenameState S U K) (r : List (Call Reply)) (h : Call Reply) → Holds w r → IsReply W w h → Holds (next W w h) (r ++ h ∷ [])
+  keeps w r h k is =
+      let g = goes w k.object k.paces.0 k.tied h is in
+      record {
+        object = after k.object h;
+        run = run_more after (Allows terms) new_object r k.object h k.run g.allowed;
+        paces = (paced bounds k.paces.0 h, run_more (paced bounds) (InTime bounds) new_pace r k.paces.0 h k.paces.1 g.timed);
+        tied = g.tied;
+      }
+
+  pub holds : (w : RenameState S U K) (r : List (Call Reply)) → Run (next W) (IsReply W) fresh r w → Holds w r
+  holds w r a = run_keeps (next W) (IsReply W) Holds keeps fresh [] r w (record { object = new_object; run = refl; paces = (new_pace, refl); tied = fresh_tied }) a
+
+  pub law_held : (w : RenameState S U K) (r : List (Call Reply)) → Run (next W) (IsReply W) fresh r w → KeepsRenameLaw terms bounds r
+  law_held w r a =
+      let k = holds w r a in
+      record {
+        object = k.object;
+        run = k.run;
+        one_to_one = distinct_names k.object k.tied.standing;
+        in_range = λ p n e. let h = k.tied.standing.held p n e in name_small k.object k.tied.standing p n h.index h.recent.no_later h.sole;
+        paced = k.paces;
+      }
+
+  name_at_stage : (w : RenameState S U K) (o : RenameObject) (t : Pace) (i : Tied w o t) (p : ℕ) (r : Round) (stage : Stage) → IsAtStage terms o t i.object w.snap p r stage → name_at stage r.proposal ≡ o.name p
+  name_at_stage w o t i p r Placing h = sym h.going.unnamed
+  name_at_stage w o t i p r (Proposing number) h = sym h.going.unnamed
+  name_at_stage w o t i p r Looking h = sym h.going.unnamed
+  name_at_stage w o t i p r Settled h = sym h.1
+  name_at_stage w o t i p r Over h = sym h.0
+
+  -- the name of an identity is its name in the object
+  pub name_held : (w : RenameState S U K) (r : List (Call Reply)) → Run (next W) (IsReply W) fresh r w → (o : RenameObject) → IsRun terms r o → (p : ℕ) → name_in w p ≡ o.name p
+  name_held w r a o run p =
+      let k = holds w r a in
+      let same : k.object ≡ o = run_ends after (Allows terms) new_object r k.object o k.run run in
+      let now : name_in w p ≡ k.object.name p = (elim (participant_of p w.rounds) as (λ z. participant_of p w.rounds ≡ z → name_by (option_map (λ u. u.program) z) ≡ k.object.name p) [
+        | None ↦ λ h. sym (k.tied.absent p h).1
+        | Some v ↦ λ h. name_at_stage w k.object k.paces.0 k.tied p v.program v.program.stage (k.tied.stages p v h)
+      ]) refl in
+      now ∙ ap (λ (x : RenameObject). x.name p) same
+
+-- every world after some calls keeps the law
+module _ {S R V U K : Type 0} (W : PlaceSteps S R V U K) (kind : WorldKind) (scanning : ℕ → ℕ) (w : RenameState S U K) (named : MayBeNamed W (is_tree kind) w.snap.most scanning) (r : List (Call Reply)) (a : IsAfter W w r) where
+  -- the world has room for as many as its places have
+  most_is : W.most_of a.first ≡ w.snap.most
+  most_is = sym (most_after W (fresh_world a.first (W.most_of a.first) w.limit) r w a.run)
+
+  pub rename_law : KeepsRenameLaw (terms_of W kind w) (record { placing = W.ties.placing; scanning = scanning }) r
+  rename_law = law_held W (terms_of W kind w) scanning named a.first a.new most_is a.low a.high w r a.run
+
+  pub name_law : (o : RenameObject) → IsRun (terms_of W kind w) r o → (p : ℕ) → name_in w p ≡ o.name p
+  name_law = name_held W (terms_of W kind w) scanning named a.first a.new most_is a.low a.high w r a.run

@@ -1,0 +1,212 @@
+-- what stands in the moments of a renaming object, and that names are distinct
+use Rattle.std.proofs.Common.{Bool, ◌≡◌, ◌≢◌, ℕ, ◌+◌, ◌-◌, ◌*◌, ◌≤◌, true, List, Option, Some, None, inl, inr, refl, sym, ap, ◌∙◌, arith}
+use Rattle.std.proofs.lemmas.Bool.Decides.{eqb_tells, leb_tells}
+use Rattle.step_memory.specs.SetAt.{set_at}
+use Rattle.step_memory.proofs.SetAtLemmas.{set_at-same, set_at-other}
+use Rattle.rename_core.specs.RenameObject.{RenameTerms, RenameObject, IsSole, IsRecent, MayPropose, ShowsSole, after_step}
+use Rattle.rename_core.specs.declared.reply.Reply.TheVariants.{Proposed}
+
+-- p has the name n: it is p's last proposal, and in some moment since then no other proposed it
+pub record IsHeld (o : RenameObject) (p n : ℕ) : Type 0 where
+  pub begun : o.begun p ≡ true
+  pub some : 1 ≤ o.count p
+  pub index : ℕ
+  pub recent : IsRecent o p index
+  pub sole : IsSole (o.moment index) p n
+
+-- from its last proposal on each proposes the same; who has proposed nothing is in no moment; and proposals are small
+pub record IsStanding (o : RenameObject) : Type 0 where
+  pub past : (p : ℕ) → o.since p ≤ o.last
+  pub same : (p i : ℕ) → 1 ≤ o.count p → IsRecent o p i → o.moment i p ≡ o.moment o.last p
+  pub absent : (p i : ℕ) → o.count p ≡ 0 → i ≤ o.last → o.moment i p ≡ None
+  pub begun : (p i n : ℕ) → i ≤ o.last → o.moment i p ≡ Some n → o.begun p ≡ true
+  pub small : (p i n : ℕ) → i ≤ o.last → o.moment i p ≡ Some n → (1 ≤ n) × (n ≤ 2 * o.many - 1)
+  pub held : (p n : ℕ) → o.name p ≡ Some n → IsHeld o p n
+
+module _ (o : RenameObject) (h : IsStanding o) where
+  -- two recent moments show one proposal
+  pub same_in : (p i j : ℕ) → 1 ≤ o.count p → IsRecent o p i → IsRecent o p j → o.moment i p ≡ o.moment j p
+  same_in p i j c a b = h.same p i c a ∙ sym (h.same p j c b)
+
+  -- who proposes n alone in a moment since its last proposal may have it as its name: no one else has it
+  pub nobody_has : (p n : ℕ) (view : List (ℕ × ℕ)) → o.name p ≡ None → 1 ≤ o.count p → ShowsSole o p n view → (q : ℕ) → o.name q ≢ Some n
+  nobody_has p n view none some k q named =
+      let other : p ≢ q = λ e. (let both : None ≡ Some n = sym none ∙ ap o.name e ∙ named in cc) in
+      let his = h.held q n named in
+      elim (leb_tells (o.since q) k.index) [
+        | inl e ↦
+            let here : IsRecent o q k.index = record { no_earlier = e.1; no_later = k.recent.no_later } in
+            let stands : o.moment k.index q ≡ Some n = same_in q k.index his.index his.some here his.recent ∙ his.sole.own in
+            k.sole.alone q (λ f. other (sym f)) stands
+        | inr e ↦
+            let a = k.recent.no_earlier in
+            let b = his.recent.no_earlier in
+            let c = his.recent.no_later in
+            let l = e.1 in
+            let there : IsRecent o p his.index = record { no_earlier = omega arith; no_later = c } in
+            let stands : o.moment his.index p ≡ Some n = same_in p his.index k.index some there k.recent ∙ k.sole.own in
+            his.sole.alone p other stands
+      ]
+
+  -- a name is small
+  pub name_small : (p n i : ℕ) → i ≤ o.last → IsSole (o.moment i) p n → (1 ≤ n) × (n ≤ 2 * o.many - 1)
+  name_small p n i l k = h.small p i n l k.own
+
+-- nobody has begun
+pub standing_fresh : (o : RenameObject) → ((p : ℕ) → o.since p ≡ 0) → ((p : ℕ) → o.count p ≡ 0) → ((i p : ℕ) → o.moment i p ≡ None) → ((p : ℕ) → o.name p ≡ None) → IsStanding o
+standing_fresh o since count moment name = record {
+  past = λ p. rw (since p) (omega arith);
+  same = λ p i c r. moment i p ∙ sym (moment o.last p);
+  absent = λ p i c l. moment i p;
+  begun = λ p i n l e. absurd (let no : None ≡ Some n = sym (moment i p) ∙ e in cc);
+  small = λ p i n l e. absurd (let no : None ≡ Some n = sym (moment i p) ∙ e in cc);
+  held = λ p n e. absurd (let no : None ≡ Some n = sym (name p) ∙ e in cc);
+}
+
+-- places, and who is spent, do not matter
+pub standing_elsewhere : (o : RenameObject) (place : ℕ → Option ℕ) (spent : ℕ → Bool) → IsStanding o → IsStanding (record o { place = place; spent = spent })
+standing_elsewhere o place spent h = record {
+  past = h.past;
+  same = λ q j c r. h.same q j c (record { no_earlier = r.no_earlier; no_later = r.no_later });
+  absent = h.absent;
+  begun = h.begun;
+  small = h.small;
+  held = λ q m e. let k = h.held q m e in record { begun = k.begun; some = k.some; index = k.index; recent = record { no_earlier = k.recent.no_earlier; no_later = k.recent.no_later }; sole = k.sole };
+}
+
+-- one more begins
+pub standing_begun : (o : RenameObject) (p : ℕ) → IsStanding o → IsStanding (record o { begun = set_at o.begun p true; many = o.many + 1 })
+standing_begun o p h =
+    let more : (q : ℕ) → o.begun q ≡ true → set_at o.begun p true q ≡ true = λ q e. (elim (eqb_tells q p) [ inl w ↦ rw w.0 refl | inr w ↦ rw w.0 e ]) in
+    record {
+      past = h.past;
+      same = λ q i c r. h.same q i c (record { no_earlier = r.no_earlier; no_later = r.no_later });
+      absent = h.absent;
+      begun = λ q i n l e. more q (h.begun q i n l e);
+      small = λ q i n l e. let k = h.small q i n l e in (k.0, (let a = k.1 in omega arith));
+      held = λ q n e. let k = h.held q n e in record { begun = more q k.begun; some = k.some; index = k.index; recent = record { no_earlier = k.recent.no_earlier; no_later = k.recent.no_later }; sole = k.sole };
+    }
+
+-- one has a name
+pub standing_named : (o : RenameObject) (p n i : ℕ) → IsStanding o → o.begun p ≡ true → 1 ≤ o.count p → IsRecent o p i → IsSole (o.moment i) p n → IsStanding (record o { name = set_at o.name p (Some n) })
+standing_named o p n i h begun some recent sole =
+    record {
+      past = h.past;
+      same = λ q j c r. h.same q j c (record { no_earlier = r.no_earlier; no_later = r.no_later });
+      absent = h.absent;
+      begun = h.begun;
+      small = h.small;
+      held = λ q m e. elim (eqb_tells q p) [
+        | inl w ↦
+            let k : Some n ≡ Some m = rw w.0 at e in
+            let is : n ≡ m = cc in
+            rw (w.1, ← is) (record { begun = begun; some = some; index = i; recent = record { no_earlier = recent.no_earlier; no_later = recent.no_later }; sole = sole })
+        | inr w ↦ let k = h.held q m (rw w.0 at e) in record { begun = k.begun; some = k.some; index = k.index; recent = record { no_earlier = k.recent.no_earlier; no_later = k.recent.no_later }; sole = k.sole }
+      ];
+    }
+
+-- one who has no name proposes
+module _ (terms : RenameTerms) (o : RenameObject) (p s : ℕ) (h : IsStanding o) (unnamed : o.name p ≡ None) (begun : o.begun p ≡ true) (may : MayPropose terms o p s) where
+  abbrev next : RenameObject
+  next = after_step o p (Proposed s)
+
+  old_moment : (i : ℕ) → i ≤ o.last → next.moment i ≡ o.moment i
+  old_moment i l = set_at-other o.moment (o.last + 1) (set_at (o.moment o.last) p (Some s)) i (omega arith)
+
+  new_moment : next.moment (o.last + 1) ≡ set_at (o.moment o.last) p (Some s)
+  new_moment = set_at-same o.moment (o.last + 1) (set_at (o.moment o.last) p (Some s))
+
+  new_own : next.moment (o.last + 1) p ≡ Some s
+  new_own = ap (λ (f : ℕ → Option ℕ). f p) new_moment ∙ set_at-same (o.moment o.last) p (Some s)
+
+  new_other : (q : ℕ) → q ≢ p → next.moment (o.last + 1) q ≡ o.moment o.last q
+  new_other q n = ap (λ (f : ℕ → Option ℕ). f q) new_moment ∙ set_at-other (o.moment o.last) p (Some s) q n
+
+  since_own : next.since p ≡ o.last + 1
+  since_own = set_at-same o.since p (o.last + 1)
+
+  since_other : (q : ℕ) → q ≢ p → next.since q ≡ o.since q
+  since_other q n = set_at-other o.since p (o.last + 1) q n
+
+  count_other : (q : ℕ) → q ≢ p → next.count q ≡ o.count q
+  count_other q n = set_at-other o.count p (o.count p + 1) q n
+
+  count_own : next.count p ≡ o.count p + 1
+  count_own = set_at-same o.count p (o.count p + 1)
+
+  -- in a moment stands what stood in an old one, or p's new proposal
+  is_old : (i : ℕ) → i ≤ o.last + 1 → i ≢ o.last + 1 → i ≤ o.last
+  is_old i l n = omega arith
+
+  past' : (q : ℕ) → next.since q ≤ o.last + 1
+  past' q = elim (eqb_tells q p) [
+    | inl w ↦ rw w.0 (omega arith)
+    | inr w ↦ let k = since_other q w.1 in let l = h.past q in omega arith
+  ]
+
+  same' : (q i : ℕ) → 1 ≤ next.count q → IsRecent next q i → next.moment i q ≡ next.moment (o.last + 1) q
+  same' q i c r = elim (eqb_tells i (o.last + 1)) [
+    | inl e ↦ ap (λ (n : ℕ). next.moment n q) e.1
+    | inr e ↦
+        let l : i ≤ o.last = is_old i r.no_later e.1 in
+        elim (eqb_tells q p) [
+          | inl w ↦ absurd (let a : next.since q ≡ o.last + 1 = ap next.since w.1 ∙ since_own in let b = r.no_earlier in omega arith)
+          | inr w ↦
+              let a = since_other q w.1 in
+              let b = count_other q w.1 in
+              let d = r.no_earlier in
+              ap (λ (f : ℕ → Option ℕ). f q) (old_moment i l) ∙ h.same q i (omega arith) (record { no_earlier = omega arith; no_later = l }) ∙ sym (new_other q w.1)
+        ]
+  ]
+
+  absent' : (q i : ℕ) → next.count q ≡ 0 → i ≤ o.last + 1 → next.moment i q ≡ None
+  absent' q i c l = elim (eqb_tells q p) [
+    | inl w ↦ absurd (let a : next.count q ≡ o.count p + 1 = ap next.count w.1 ∙ count_own in omega arith)
+    | inr w ↦
+        let b = count_other q w.1 in
+        elim (eqb_tells i (o.last + 1)) [
+          | inl e ↦ ap (λ (n : ℕ). next.moment n q) e.1 ∙ new_other q w.1 ∙ h.absent q o.last (omega arith) (omega arith)
+          | inr e ↦ let m = is_old i l e.1 in ap (λ (f : ℕ → Option ℕ). f q) (old_moment i m) ∙ h.absent q i (omega arith) m
+        ]
+  ]
+
+  stands : (T : ℕ → ℕ → Type 0) → T p s → ((q i n : ℕ) → i ≤ o.last → o.moment i q ≡ Some n → T q n) → (q i n : ℕ) → i ≤ o.last + 1 → next.moment i q ≡ Some n → T q n
+  stands T own old q i n l e = elim (eqb_tells i (o.last + 1)) [
+    | inr f ↦ let m = is_old i l f.1 in old q i n m (sym (ap (λ (g : ℕ → Option ℕ). g q) (old_moment i m)) ∙ e)
+    | inl f ↦
+        let now : next.moment (o.last + 1) q ≡ Some n = ap (λ (m : ℕ). next.moment m q) (sym f.1) ∙ e in
+        elim (eqb_tells q p) [
+          | inl w ↦
+              let k : Some s ≡ Some n = sym new_own ∙ ap (next.moment (o.last + 1)) (sym w.1) ∙ now in
+              let is : s ≡ n = cc in
+              rw (w.1, ← is) own
+          | inr w ↦ old q o.last n (omega arith) (sym (new_other q w.1) ∙ now)
+        ]
+  ]
+
+  held' : (q n : ℕ) → o.name q ≡ Some n → IsHeld next q n
+  held' q n e =
+      let k = h.held q n e in
+      let other : q ≢ p = λ w. (let no : None ≡ Some n = sym unnamed ∙ ap o.name (sym w) ∙ e in cc) in
+      let c = count_other q other in
+      let some = k.some in
+      let a = since_other q other in
+      let b = k.recent.no_earlier in
+      let d = k.recent.no_later in
+      record {
+        begun = k.begun;
+        some = omega arith;
+        index = k.index;
+        recent = record { no_earlier = omega arith; no_later = omega arith };
+        sole = rw (old_moment k.index d) k.sole;
+      }
+
+  pub standing_proposed : IsStanding next
+  standing_proposed = record {
+    past = past';
+    same = same';
+    absent = absent';
+    begun = stands (λ q n. o.begun q ≡ true) begun h.begun;
+    small = stands (λ q n. (1 ≤ n) × (n ≤ 2 * o.many - 1)) (may.positive, may.small) h.small;
+    held = held';
+  }

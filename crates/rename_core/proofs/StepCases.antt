@@ -1,0 +1,88 @@
+-- a step of a renaming world by cases on who takes it
+use Rattle.std.proofs.Common.{◌≡◌, ℕ, ◌+◌, [], ◌∷◌, ◌++◌, length, Option, Some, None, Ok, Err, refl, sym, ap, ◌∙◌}
+use Rattle.std.specs.Prelude.{option_map}
+use Rattle.step_memory.specs.declared.participant.Participant.{Participant}
+use Rattle.step_memory.specs.declared.refusal.Refusal.{Refusal}
+use Rattle.step_memory.specs.declared.refusal.Refusal.TheVariants.{NotBegun}
+use Rattle.step_memory.specs.Participant.{participant_of, program_of, beginner}
+use Rattle.step_memory.specs.World.{begin_refusal, done_unless}
+use Rattle.std.proofs.lemmas.List.{length-append}
+use Rattle.step_memory.specs.Steps.{ProgramSteps, MemorySteps}
+use Rattle.snapshot_core.specs.Walks.{WalkSteps}
+use Rattle.snapshot_core.specs.declared.client.SnapReply.{SnapReply}
+use Rattle.snapshot_core.specs.SnapWorld.{SnapState, snap_answer, after_snap_step, after_snap_begin, beginner_at}
+use Rattle.rename_core.specs.declared.round.Round.{Round}
+use Rattle.rename_core.specs.Round.{name_at, stage_refusal, followed}
+use Rattle.rename_core.specs.RenameState.{RenameState}
+use Rattle.rename_core.specs.PlaceSteps.{PlaceSteps}
+use Rattle.rename_core.specs.RenameWorld.{name_in, after_wish, snap_step, snap_told, after_follow, begun_snap, rename_answer, after_rename_step, step_refusal}
+use Rattle.rename_core.specs.declared.round.Wish.{Wish}
+use Rattle.rename_core.specs.declared.round.Wish.TheVariants.{Nothing, Update, Scan}
+use Rattle.rename_core.proofs.Clients.{IsAsLarge, scan_large, update_large, snap_large}
+
+pub wish_large : {S U K : Type 0} (w : SnapState S U K) (p : ℕ) (wish : Wish) → IsAsLarge w (after_wish w p wish)
+wish_large w p Nothing = record { most = refl; many = refl }
+wish_large w p (Update value) = update_large w p value
+wish_large w p Scan = scan_large w p
+
+pub was_begun : (why : Option Refusal) (done : Unit {0}) → Ok done ≡ done_unless why → why ≡ None
+was_begun None done h = refl
+was_begun (Some why) done h = absurd (cc)
+
+-- one more takes part after an accepted `begin`
+pub record IsOneMore {S U K : Type 0} (w new : SnapState S U K) : Type 0 where
+  pub most : new.most ≡ w.most
+  pub many : length new.participants ≡ length w.participants + 1
+
+pub begun_large : {S R V U K : Type 0} (W : PlaceSteps S R V U K) (w : RenameState S U K) (p : ℕ) (wish : Wish) → begin_refusal w.snap p ≡ None → IsOneMore w.snap (after_wish (begun_snap W w p) p wish)
+begun_large W w p wish goes =
+    let b = wish_large (begun_snap W w p) p wish in
+    let most : (begun_snap W w p).most ≡ w.snap.most = rw goes refl in
+    let new = beginner p (beginner_at W.place_of W.walker_from W.walk_from w.snap p) in
+    let all : (begun_snap W w p).participants ≡ w.snap.participants ++ new ∷ [] = rw goes refl in
+    record { most = b.most ∙ most; many = b.many ∙ ap length all ∙ length-append w.snap.participants (new ∷ []) }
+
+module _ {S R V U K : Type 0} (W : PlaceSteps S R V U K) (w : RenameState S U K) (p : ℕ) where
+  pub absent_answer : participant_of p w.rounds ≡ None → Err NotBegun ≡ rename_answer W w p
+  absent_answer h = rw h refl
+
+  pub absent_state : participant_of p w.rounds ≡ None → w ≡ after_rename_step W w p
+  absent_state h = rw h refl
+
+  module _ (v : Participant Round) (here : participant_of p w.rounds ≡ Some v) where
+    there : program_of p w.rounds ≡ Some v.program
+    there = ap (option_map (λ u. u.program)) here
+
+    pub closed_answer : (why : Refusal) → stage_refusal v.program.stage ≡ Some why → Err why ≡ rename_answer W w p
+    closed_answer why e = rw (there, e) refl
+
+    pub closed_state : (why : Refusal) → stage_refusal v.program.stage ≡ Some why → w ≡ after_rename_step W w p
+    closed_state why e = rw (there, e) refl
+
+    pub open_refusal : stage_refusal v.program.stage ≡ None → step_refusal w p ≡ None
+    open_refusal e = rw there e
+
+    pub refused_answer : (why : Refusal) → stage_refusal v.program.stage ≡ None → Err why ≡ snap_told W w p → Err why ≡ rename_answer W w p
+    refused_answer why e k = let a = sym k in rw (there, e, a) refl
+
+    pub refused_state : (why : Refusal) → stage_refusal v.program.stage ≡ None → Err why ≡ snap_told W w p → w ≡ after_rename_step W w p
+    refused_state why e k = let a = sym k in rw (there, e, a) refl
+
+    pub told_answer : (reply : SnapReply) → stage_refusal v.program.stage ≡ None → Ok reply ≡ snap_told W w p → Ok (followed v.program p reply w.limit).reply ≡ rename_answer W w p
+    told_answer reply e k = let a = sym k in rw (there, e, a) refl
+
+    pub told_state : (reply : SnapReply) → stage_refusal v.program.stage ≡ None → Ok reply ≡ snap_told W w p → after_follow W w p (followed v.program p reply w.limit) ≡ after_rename_step W w p
+    told_state reply e k = let a = sym k in rw (there, e, a) refl
+
+  -- as many take part after the step and what is asked for after it
+  pub step_large : (wish : Wish) → IsAsLarge w.snap (after_wish (snap_step W w p) p wish)
+  step_large wish =
+      let a = snap_large W.walker W.place_of W.walks W.memory w.snap p in
+      let b = wish_large (snap_step W w p) p wish in
+      record { most = b.most ∙ a.most; many = b.many ∙ a.many }
+
+pub no_name : {S U K : Type 0} (w : RenameState S U K) (p : ℕ) → participant_of p w.rounds ≡ None → None ≡ name_in w p
+no_name w p h = rw h refl
+
+pub own_name : {S U K : Type 0} (w : RenameState S U K) (p : ℕ) (v : Participant Round) → participant_of p w.rounds ≡ Some v → name_at v.program.stage v.program.proposal ≡ name_in w p
+own_name w p v h = rw h refl

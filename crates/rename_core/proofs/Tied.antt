@@ -1,0 +1,199 @@
+-- a renaming world with the object and the pace of its law
+use Rattle.std.proofs.Common.{◌≡◌, ◌≢◌, ℕ, suc, zero, ◌+◌, ◌-◌, ◌*◌, ◌<◌, ◌≤◌, Bool, true, false, length, Option, Some, None, inl, inr, refl, sym, ap, ◌∙◌, arith}
+use Rattle.std.specs.Prelude.{is_some}
+use Rattle.std.proofs.lemmas.Bool.Decides.{eqb_tells}
+use Rattle.step_memory.specs.SetAt.{set_at}
+use Rattle.step_memory.proofs.SetAtLemmas.{set_at-same, set_at-other}
+use Rattle.step_memory.specs.declared.participant.Participant.{Participant}
+use Rattle.step_memory.specs.Participant.{participant_of, with_participant, beginner}
+use Rattle.step_memory.proofs.ParticipantLemmas.{participant_of-put, length-with_participant}
+use Rattle.snapshot_core.specs.SnapWorld.{SnapState}
+use Rattle.snapshot_core.specs.Snapshot.{SnapObject, since_of}
+use Rattle.snapshot_core.specs.Snapshot.Task.{Placing as ToPlace, Scanning as ToScan, Updating as ToUpdate}
+use Rattle.rename_core.specs.declared.round.Round.{Round}
+use Rattle.rename_core.specs.declared.round.Stage.{Stage}
+use Rattle.rename_core.specs.declared.round.Stage.TheVariants.{Placing, Proposing, Looking, Settled, Over}
+use Rattle.rename_core.specs.Pace.{Pace}
+use Rattle.rename_core.specs.Pace.Phase.{ToPlace as ToGo, ToPropose, ToLook}
+use Rattle.rename_core.specs.RenameObject.{RenameTerms, RenameObject}
+use Rattle.rename_core.specs.RenameState.{RenameState}
+use Rattle.rename_core.specs.RenameWorld.{world_with}
+use Rattle.rename_core.specs.Round.{standing_by}
+use Rattle.rename_core.proofs.Clients.{StandsAt, IsAsLarge}
+use Rattle.rename_core.proofs.Participants.{AreDistinct, distinct_put}
+use Rattle.rename_core.proofs.Standing.{IsStanding}
+
+-- p has neither a name nor used up its rounds
+pub record IsGoing (o : RenameObject) (p : ℕ) : Type 0 where
+  pub unnamed : o.name p ≡ None
+  pub left : o.spent p ≡ false
+
+-- the round says how many proposals p has made, and which stands in the last moment
+pub record IsCounted (o : RenameObject) (p : ℕ) (r : Round) : Type 0 where
+  pub count : o.count p ≡ r.count
+  pub now : o.moment o.last p ≡ standing_by r
+
+pub record IsPlacing {S U K : Type 0} (o : RenameObject) (t : Pace) (s : SnapObject) (w : SnapState S U K) (p : ℕ) (r : Round) : Type 0 where
+  pub going : IsGoing o p
+  pub none : r.count ≡ 0
+  pub task : s.task p ≡ ToPlace
+  pub stands : StandsAt w p false 0
+  pub phase : t.phase p ≡ ToGo
+  pub pace : t.steps p ≡ s.steps p
+
+pub record IsProposing {S U K : Type 0} (terms : RenameTerms) (o : RenameObject) (t : Pace) (s : SnapObject) (w : SnapState S U K) (p n : ℕ) (r : Round) : Type 0 where
+  pub going : IsGoing o p
+  pub rounds : r.count < terms.limit
+  pub positive : 1 ≤ n
+  pub small : n ≤ 2 * o.many - 1
+  pub task : s.task p ≡ ToUpdate n
+  pub stands : StandsAt w p false (r.count + 1)
+  pub phase : t.phase p ≡ ToPropose
+  pub pace : t.steps p ≡ s.steps p
+
+pub record IsLooking {S U K : Type 0} (terms : RenameTerms) (o : RenameObject) (t : Pace) (s : SnapObject) (w : SnapState S U K) (p : ℕ) (r : Round) : Type 0 where
+  pub going : IsGoing o p
+  pub some : 1 ≤ r.count
+  pub rounds : r.count ≤ terms.limit
+  pub task : s.task p ≡ ToScan
+  pub later : o.since p ≤ since_of s p
+  pub stands : StandsAt w p false r.count
+  pub phase : t.phase p ≡ ToLook
+  pub pace : t.steps p ≡ s.steps p
+
+-- where a participant stands in its round agrees with the objects
+abbrev pub IsAtStage : {S U K : Type 0} → RenameTerms → RenameObject → Pace → SnapObject → SnapState S U K → ℕ → Round → Stage → Type 0
+IsAtStage terms o t s w p r Placing = IsPlacing o t s w p r
+IsAtStage terms o t s w p r (Proposing n) = IsProposing terms o t s w p n r
+IsAtStage terms o t s w p r Looking = IsLooking terms o t s w p r
+IsAtStage terms o t s w p r Settled = (1 ≤ r.count) × (o.name p ≡ Some r.proposal)
+IsAtStage terms o t s w p r Over = (o.name p ≡ None) × (o.spent p ≡ true)
+
+-- what q finds when another has gone on
+pub record Carries {S U K : Type 0} (o o' : RenameObject) (t t' : Pace) (s s' : SnapObject) (w w' : SnapState S U K) (q : ℕ) : Type 0 where
+  pub name : o'.name q ≡ o.name q
+  pub spent : o'.spent q ≡ o.spent q
+  pub count : o'.count q ≡ o.count q
+  pub since : o'.since q ≡ o.since q
+  pub many : o.many ≤ o'.many
+  pub now : o'.moment o'.last q ≡ o.moment o.last q
+  pub task : s'.task q ≡ s.task q
+  pub later : since_of s q ≤ since_of s' q
+  pub who : participant_of q w'.participants ≡ participant_of q w.participants
+  pub phase : t'.phase q ≡ t.phase q
+  pub pace : t'.steps q ≡ t.steps q
+  pub snap_pace : s'.steps q ≡ s.steps q
+
+module _ {S U K : Type 0} (terms : RenameTerms) (o o' : RenameObject) (t t' : Pace) (s s' : SnapObject) (w w' : SnapState S U K) (q : ℕ) (k : Carries o o' t t' s s' w w' q) where
+  stands_on : (idle : Bool) (n : ℕ) → StandsAt w q idle n → StandsAt w' q idle n
+  stands_on idle n h = record { who = h.who; is = k.who ∙ h.is; goes = h.goes; idle_is = h.idle_is; updates_is = h.updates_is }
+
+  going_on : IsGoing o q → IsGoing o' q
+  going_on h = record { unnamed = k.name ∙ h.unnamed; left = k.spent ∙ h.left }
+
+  pub counted_on : (r : Round) → IsCounted o q r → IsCounted o' q r
+  counted_on r h = record { count = k.count ∙ h.count; now = k.now ∙ h.now }
+
+  pub stage_on : (r : Round) (stage : Stage) → IsAtStage terms o t s w q r stage → IsAtStage terms o' t' s' w' q r stage
+  stage_on r Placing h = record { going = going_on h.going; none = h.none; task = k.task ∙ h.task; stands = stands_on false 0 h.stands; phase = k.phase ∙ h.phase; pace = k.pace ∙ h.pace ∙ sym k.snap_pace }
+  stage_on r (Proposing n) h = record { going = going_on h.going; rounds = h.rounds; positive = h.positive; small = (let a = h.small in let b = k.many in omega arith); task = k.task ∙ h.task; stands = stands_on false (r.count + 1) h.stands; phase = k.phase ∙ h.phase; pace = k.pace ∙ h.pace ∙ sym k.snap_pace }
+  stage_on r Looking h = record { going = going_on h.going; some = h.some; rounds = h.rounds; task = k.task ∙ h.task; later = (let a = h.later in let b = k.later in let c = k.since in omega arith); stands = stands_on false r.count h.stands; phase = k.phase ∙ h.phase; pace = k.pace ∙ h.pace ∙ sym k.snap_pace }
+  stage_on r Settled h = (h.0, k.name ∙ h.1)
+  stage_on r Over h = (k.name ∙ h.0, k.spent ∙ h.1)
+
+pub record IsTied {S U K : Type 0} (terms : RenameTerms) (Tie : SnapState S U K → SnapObject → Type 0) (w : RenameState S U K) (o : RenameObject) (t : Pace) : Type 0 where
+  pub object : SnapObject
+  pub tie : Tie w.snap object
+  pub as_many : t.begun ≡ object.begun
+  pub limit : terms.limit ≡ w.limit
+  pub low : 1 ≤ w.limit
+  pub high : w.limit ≤ 1000000
+  pub most : terms.most ≡ w.snap.most
+  pub many : o.many ≡ length w.rounds
+  pub counted : length w.rounds ≡ length w.snap.participants
+  pub distinct : AreDistinct w.rounds
+  pub begun : (p : ℕ) → o.begun p ≡ is_some (participant_of p w.rounds)
+  pub joined : (p : ℕ) → is_some (participant_of p w.snap.participants) ≡ is_some (participant_of p w.rounds)
+  pub last : o.last ≡ object.last
+  pub moment : o.moment ≡ object.moment
+  pub place : o.place ≡ object.place
+  pub standing : IsStanding o
+  pub absent : (p : ℕ) → participant_of p w.rounds ≡ None → (o.count p ≡ 0) × (o.name p ≡ None) × (o.spent p ≡ false)
+  pub counts : (p : ℕ) (v : Participant Round) → participant_of p w.rounds ≡ Some v → IsCounted o p v.program
+  pub stages : (p : ℕ) (v : Participant Round) → participant_of p w.rounds ≡ Some v → IsAtStage terms o t object w.snap p v.program v.program.stage
+
+module _ {S U K : Type 0} (terms : RenameTerms) (Tie : SnapState S U K → SnapObject → Type 0) (w : RenameState S U K) (o : RenameObject) (t : Pace) (i : IsTied terms Tie w o t) (p : ℕ) (v : Participant Round) (here : participant_of p w.rounds ≡ Some v) where
+  -- what a step of p owes
+  pub record IsNext (snap : SnapState S U K) (r : Round) (o' : RenameObject) (t' : Pace) (s' : SnapObject) : Type 0 where
+    pub tie : Tie snap s'
+    pub as_many : t'.begun ≡ t.begun
+    pub snap_many : s'.begun ≡ i.object.begun
+    pub many : o'.many ≡ o.many
+    pub begun : o'.begun ≡ o.begun
+    pub large : IsAsLarge w.snap snap
+    pub there : is_some (participant_of p snap.participants) ≡ true
+    pub last : o'.last ≡ s'.last
+    pub moment : o'.moment ≡ s'.moment
+    pub place : o'.place ≡ s'.place
+    pub standing : IsStanding o'
+    pub carries : (q : ℕ) → q ≢ p → Carries o o' t t' i.object s' w.snap snap q
+    pub count : IsCounted o' p r
+    pub own : IsAtStage terms o' t' s' snap p r r.stage
+
+  module _ (snap : SnapState S U K) (r : Round) (o' : RenameObject) (t' : Pace) (s' : SnapObject) (k : IsNext snap r o' t' s') where
+    put : (q : ℕ) → participant_of q (with_participant (beginner p r) w.rounds) ≡ set_at (λ u. participant_of u w.rounds) p (Some (beginner p r)) q
+    put q = participant_of-put w.rounds (beginner p r) (rw here refl) q
+
+    put_same : participant_of p (with_participant (beginner p r) w.rounds) ≡ Some (beginner p r)
+    put_same = put p ∙ set_at-same (λ u. participant_of u w.rounds) p (Some (beginner p r))
+
+    put_other : (q : ℕ) → q ≢ p → participant_of q (with_participant (beginner p r) w.rounds) ≡ participant_of q w.rounds
+    put_other q n = put q ∙ set_at-other (λ u. participant_of u w.rounds) p (Some (beginner p r)) q n
+
+    -- who takes part is the same
+    put_there : (q : ℕ) → is_some (participant_of q (with_participant (beginner p r) w.rounds)) ≡ is_some (participant_of q w.rounds)
+    put_there q = elim (eqb_tells q p) [
+      | inl e ↦ rw e.1 (ap is_some put_same ∙ sym (ap is_some here))
+      | inr e ↦ ap is_some (put_other q e.1)
+    ]
+
+    -- who is found as p is p with its new round
+    put_is : (q : ℕ) (u : Participant Round) → q ≡ p → participant_of q (with_participant (beginner p r) w.rounds) ≡ Some u → beginner p r ≡ u
+    put_is q u e h =
+        let is : Some (beginner p r) ≡ Some u = sym put_same ∙ ap (λ (x : ℕ). participant_of x (with_participant (beginner p r) w.rounds)) (sym e) ∙ h in
+        cc
+
+    pub tied_next : IsTied terms Tie (world_with w snap p r) o' t'
+    tied_next = record {
+      object = s';
+      tie = k.tie;
+      as_many = k.as_many ∙ i.as_many ∙ sym k.snap_many;
+      limit = i.limit;
+      low = i.low;
+      high = i.high;
+      most = i.most ∙ sym k.large.most;
+      many = k.many ∙ i.many ∙ sym (length-with_participant w.rounds (beginner p r));
+      counted = length-with_participant w.rounds (beginner p r) ∙ i.counted ∙ sym k.large.many;
+      distinct = distinct_put w.rounds (beginner p r) i.distinct;
+      begun = λ q. ap (λ (f : ℕ → Bool). f q) k.begun ∙ i.begun q ∙ sym (put_there q);
+      joined = λ q. elim (eqb_tells q p) [
+        | inl e ↦ rw e.1 (k.there ∙ sym (ap is_some put_same))
+        | inr e ↦ ap is_some (k.carries q e.1).who ∙ i.joined q ∙ sym (put_there q)
+      ];
+      last = k.last;
+      moment = k.moment;
+      place = k.place;
+      standing = k.standing;
+      absent = λ q h. elim (eqb_tells q p) [
+        | inl e ↦ absurd (let no : Some (beginner p r) ≡ None = sym put_same ∙ ap (λ (x : ℕ). participant_of x (with_participant (beginner p r) w.rounds)) (sym e.1) ∙ h in cc)
+        | inr e ↦ let c = k.carries q e.1 in let a = i.absent q (sym (put_other q e.1) ∙ h) in (c.count ∙ a.0, c.name ∙ a.1, c.spent ∙ a.2)
+      ];
+      counts = λ q u h. elim (eqb_tells q p) [
+        | inl e ↦ let same = put_is q u e.1 h in rw (e.1, ← same) k.count
+        | inr e ↦ counted_on terms o o' t t' i.object s' w.snap snap q (k.carries q e.1) u.program (i.counts q u (sym (put_other q e.1) ∙ h))
+      ];
+      stages = λ q u h. elim (eqb_tells q p) [
+        | inl e ↦ let same = put_is q u e.1 h in rw (e.1, ← same) k.own
+        | inr e ↦ stage_on terms o o' t t' i.object s' w.snap snap q (k.carries q e.1) u.program u.program.stage (i.stages q u (sym (put_other q e.1) ∙ h))
+      ];
+    }

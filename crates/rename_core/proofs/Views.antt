@@ -1,0 +1,88 @@
+-- what is read off a view
+use Rattle.std.proofs.Common.{◌≡◌, ◌≢◌, ℕ, ◌+◌, ◌<◌, ◌≤◌, ◌==◌, true, false, cond, List, [], ◌∷◌, length, Some, inl, inr, refl, sym, ap, ◌∙◌, arith}
+use Rattle.std.specs.Prelude.{is_some}
+use Rattle.std.proofs.lemmas.Bool.Decides.{eqb_tells}
+use Rattle.step_memory.specs.View.{IsRising, value_of}
+use Rattle.step_memory.specs.declared.participant.Participant.{Participant}
+use Rattle.step_memory.specs.Participant.{participant_of}
+use Rattle.rename_core.specs.Proposals.{is_taken}
+
+-- who is found behind a pair is above it
+pub above : (x : ℕ × ℕ) (xs : List (ℕ × ℕ)) (q n : ℕ) → IsRising (x ∷ xs) → value_of q xs ≡ Some n → x.0 < q
+above x [] q n h e = absurd (cc)
+above x (y ∷ ys) q n h e = elim (eqb_tells y.0 q) [
+  | inl w ↦ let a = h.0 in let b = w.1 in omega arith
+  | inr w ↦ let a = h.0 in let i = above y ys q n h.1 (rw w.0 at e) in omega arith
+]
+
+later : (id : ℕ) (x : ℕ × ℕ) (xs : List (ℕ × ℕ)) (n : ℕ) → IsRising (x ∷ xs) → (q : ℕ) × (q ≢ id) × (value_of q xs ≡ Some n) → (q : ℕ) × (q ≢ id) × (value_of q (x ∷ xs) ≡ Some n)
+later id x xs n h k =
+    let up = above x xs k.0 n h k.2 in
+    let no : (x.0 == k.0) ≡ false = (elim (eqb_tells x.0 k.0) [ inl u ↦ absurd (let e = u.1 in omega arith) | inr u ↦ u.0 ]) in
+    (k.0, k.1, rw no k.2)
+
+-- another proposes n: it is found in the view
+pub taken_by : (id : ℕ) (view : List (ℕ × ℕ)) (n : ℕ) → IsRising view → is_taken id view n ≡ true → (q : ℕ) × (q ≢ id) × (value_of q view ≡ Some n)
+taken_by id [] n h e = absurd (cc)
+taken_by id (x ∷ xs) n h e = elim (eqb_tells x.0 id) [
+  | inl w ↦ later id x xs n h (taken_by id xs n h.1 (rw w.0 at e))
+  | inr w ↦ elim (eqb_tells x.1 n) [
+    | inl v ↦ (x.0, w.1, let same : (x.0 == x.0) ≡ true = (elim (eqb_tells x.0 x.0) [ inl u ↦ u.0 | inr u ↦ absurd (u.1 refl) ]) in rw (same, v.1) refl)
+    | inr v ↦ later id x xs n h (taken_by id xs n h.1 (rw (w.0, v.0) at e))
+  ]
+]
+
+-- no other proposes n: who is found with n is oneself
+pub taken_not : (id : ℕ) (view : List (ℕ × ℕ)) (n : ℕ) → is_taken id view n ≡ false → (q : ℕ) → q ≢ id → value_of q view ≢ Some n
+taken_not id [] n h q other e = absurd (cc)
+taken_not id (x ∷ xs) n h q other e = elim (eqb_tells x.0 id) [
+  | inl w ↦ elim (eqb_tells x.0 q) [
+    | inl u ↦ other (sym u.1 ∙ w.1)
+    | inr u ↦ taken_not id xs n (rw w.0 at h) q other (rw u.0 at e)
+  ]
+  | inr w ↦ elim (eqb_tells x.1 n) [
+    | inl v ↦ absurd (let k : true ≡ false = rw (w.0, v.0) at h in cc)
+    | inr v ↦ elim (eqb_tells x.0 q) [
+      | inl u ↦ absurd (let k : Some x.1 ≡ Some n = rw u.0 at e in let same : x.1 ≡ n = cc in v.1 same)
+      | inr u ↦ taken_not id xs n (rw (w.0, v.0) at h) q other (rw u.0 at e)
+    ]
+  ]
+]
+
+-- the participants without the first of an identity
+abbrev removed : {P : Type 0} → ℕ → List (Participant P) → List (Participant P)
+removed q [] = []
+removed q (p ∷ ps) = cond (p.identity == q) ps (p ∷ removed q ps)
+
+removed_one : {P : Type 0} (q : ℕ) (ps : List (Participant P)) → is_some (participant_of q ps) ≡ true → length (removed q ps) + 1 ≡ length ps
+removed_one q [] h = absurd (cc)
+removed_one q (p ∷ ps) h = elim (eqb_tells p.identity q) [
+  | inl w ↦ rw w.0 (omega arith)
+  | inr w ↦ let i = removed_one q ps (rw w.0 at h) in rw w.0 (omega arith)
+]
+
+removed_other : {P : Type 0} (q o : ℕ) (ps : List (Participant P)) → o ≢ q → participant_of o (removed q ps) ≡ participant_of o ps
+removed_other q o [] n = refl
+removed_other q o (p ∷ ps) n = elim (eqb_tells p.identity q) [
+  | inl w ↦ elim (eqb_tells p.identity o) [
+    | inl v ↦ absurd (n (sym v.1 ∙ w.1))
+    | inr v ↦ rw (w.0, v.0) refl
+  ]
+  | inr w ↦ elim (eqb_tells p.identity o) [
+    | inl v ↦ rw (w.0, v.0) refl
+    | inr v ↦ let i = removed_other q o ps n in rw (w.0, v.0) i
+  ]
+]
+
+-- a view of those who have begun has no more pairs than have begun
+pub view_small : {P : Type 0} (view : List (ℕ × ℕ)) (ps : List (Participant P)) → IsRising view → ((q n : ℕ) → value_of q view ≡ Some n → is_some (participant_of q ps) ≡ true) → length view ≤ length ps
+view_small [] ps h there = omega arith
+view_small (x ∷ xs) ps h there =
+    let own : (x.0 == x.0) ≡ true = (elim (eqb_tells x.0 x.0) [ inl u ↦ u.0 | inr u ↦ absurd (u.1 refl) ]) in
+    let one = removed_one x.0 ps (there x.0 x.1 (rw own refl)) in
+    let i = view_small xs (removed x.0 ps) h.1 (λ q n e.
+    let up = above x xs q n h e in
+    let other : q ≢ x.0 = λ k. absurd (omega arith) in
+    let no : (x.0 == q) ≡ false = (elim (eqb_tells x.0 q) [ inl u ↦ absurd (other (sym u.1)) | inr u ↦ u.0 ]) in
+    ap is_some (removed_other x.0 q ps other) ∙ there q n (rw no e)) in
+    omega arith

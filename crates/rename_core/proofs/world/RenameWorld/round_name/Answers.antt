@@ -1,0 +1,27 @@
+use Rattle.std.proofs.Common.{rules, ◌≡◌, ◌<◌, ℕ, Some, None, get_or, length, refl, sym, ap, ◌∙◌, arith}
+use Rattle.step_memory.specs.Participant.{index_of, participant_of}
+use Rattle.step_memory.proofs.Found.{Found, found, none-index_of, index_of-below}
+use Rattle.rename_core.specs.Round.{name_at}
+use Rattle.rename_core.proofs.StepCases.{no_name, own_name}
+use Rattle.rename_core.proofs.world.RenameWorld.round_name.Goals as goal
+
+pub returns-in_default : goal.returns-in_default
+returns-in_default g c =
+    let v : c.self.inside.rounds.items ≡ c.args.self.now.rounds = ap (λ w. w.rounds) c.self.view_is in
+    let n : None ≡ index_of c.args.id c.deref.result.now = c.in_default.ensures in
+    let e : index_of c.args.id c.args.self.now.rounds ≡ None = cc in
+    no_name c.args.self.now c.args.id (none-index_of c.args.id c.args.self.now.rounds e)
+
+pub index-requires : goal.index-requires
+index-requires g c =
+    let n : Some c.in-Some.i ≡ index_of c.args.id c.deref.result.now = c.in-Some.ensures in
+    omega (arith, index_of-below c.args.id c.deref.result.now c.in-Some.i n, c.deref.ensures.len)
+
+pub returns : goal.returns
+returns g c =
+    let v : c.self.inside.rounds.items ≡ c.args.self.now.rounds = ap (λ w. w.rounds) c.self.view_is in
+    let n : Some c.in-Some.i ≡ index_of c.args.id c.deref.result.now = c.in-Some.ensures in
+    let e : Some c.in-Some.i ≡ index_of c.args.id c.args.self.now.rounds = cc in
+    let p : c.index.result.now ≡ get_or c.args.self.now.rounds c.in-Some.i c.index.result.now = rw (← v) c.index.ensures in
+    let f = found c.args.id c.args.self.now.rounds c.in-Some.i c.index.result.now e p in
+    c.name.ensures ∙ own_name c.args.self.now c.args.id c.index.result.now f.is

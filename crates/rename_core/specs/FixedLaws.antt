@@ -1,0 +1,21 @@
+-- over segments in a row no step wants memory
+use Rattle.std.proofs.Common.{◌≡◌, ℕ, true, false, List, Option, Some, None, refl, sym, ◌∙◌}
+use Rattle.step_memory.specs.declared.record.Record.{Record}
+use Rattle.step_memory.specs.Participant.{participant_of}
+use Rattle.step_memory.specs.World.{may_refuse_by}
+use Rattle.snapshot_core.specs.declared.fixed.FixedWalker.{FixedWalker}
+use Rattle.snapshot_core.specs.declared.fixed.FixedWalk.{FixedWalk}
+use Rattle.snapshot_core.specs.Client.{client_steps}
+use Rattle.snapshot_core.specs.Fixed.{fixed_steps, walker_steps, fixed_walks, fixed_place}
+use Rattle.snapshot_core.specs.SnapWorld.{SnapState, may_lack_memory}
+use Rattle.rename_core.specs.Config.{is_tree}
+use Rattle.rename_core.specs.declared.config.WorldKind.TheVariants.{Rename}
+
+ample : (s : SnapState (List (Option Record)) FixedWalker FixedWalk) (p : ℕ) → may_lack_memory walker_steps fixed_place fixed_walks fixed_steps s p ≡ false
+ample s p = elim (participant_of p s.participants) as (λ z. may_refuse_by (client_steps walker_steps fixed_place fixed_walks) fixed_steps s.memory z ≡ false) [
+  | None ↦ refl
+  | Some v ↦ elim v.ended as (λ b. may_refuse_by (client_steps walker_steps fixed_place fixed_walks) fixed_steps s.memory (Some (record { identity = v.identity; program = v.program; ended = b })) ≡ false) [ true ↦ refl | false ↦ refl ]
+]
+
+pub fixed_ample : (s : SnapState (List (Option Record)) FixedWalker FixedWalk) (p : ℕ) → may_lack_memory walker_steps fixed_place fixed_walks fixed_steps s p ≡ true → is_tree Rename ≡ true
+fixed_ample s p h = sym (ample s p) ∙ h

@@ -1,0 +1,16 @@
+-- the law of renaming, over calls and their replies alone
+use Rattle.std.specs.Prelude.{◌≡◌, ℕ, ◌-◌, ◌*◌, ◌≤◌, List, Some}
+use Rattle.step_memory.specs.Calls.{Call}
+use Rattle.snapshot_core.specs.Snapshot.{SnapBounds}
+use Rattle.rename_core.specs.declared.reply.Reply.{Reply}
+use Rattle.rename_core.specs.RenameObject.{RenameTerms, RenameObject, IsRun}
+use Rattle.rename_core.specs.Pace.{IsPaced}
+
+-- The replies are those of the renaming object, in order. No two have one name, and where b have begun, each name is from
+-- 1 to 2b - 1. One identity's replies come in their order, and in time
+pub record KeepsRenameLaw (terms : RenameTerms) (bounds : SnapBounds) (r : List (Call Reply)) : Type 0 where
+  pub object : RenameObject
+  pub run : IsRun terms r object
+  pub one_to_one : (p q n : ℕ) → object.name p ≡ Some n → object.name q ≡ Some n → p ≡ q
+  pub in_range : (p n : ℕ) → object.name p ≡ Some n → (1 ≤ n) × (n ≤ 2 * object.many - 1)
+  pub paced : IsPaced bounds r

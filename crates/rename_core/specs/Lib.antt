@@ -1,0 +1,12 @@
+pub mod Proposals
+pub mod RenameObject
+pub mod Pace
+pub mod Law
+pub mod Ranges
+pub mod Config
+pub mod Round
+pub mod RenameState
+pub mod PlaceSteps
+pub mod RenameWorld
+pub mod RenameCalls
+pub mod FixedLaws

@@ -1,0 +1,79 @@
+-- in which order one identity's replies come, and how many steps lie between them (this project's profile)
+use Rattle.std.specs.Prelude.{◌≡◌, ℕ, ◌+◌, ◌<◌, ◌≤◌, ◌==◌, if◌then◌else◌, List, Ok, Err}
+use Rattle.step_memory.specs.SetAt.{set_at}
+use Rattle.step_memory.specs.Runs.{Run}
+use Rattle.step_memory.specs.Calls.{Call}
+use Rattle.step_memory.specs.Calls.Call.{Began, Stepped}
+use Rattle.snapshot_core.specs.Snapshot.{SnapBounds}
+use Rattle.rename_core.specs.declared.reply.Reply.{Reply}
+use Rattle.rename_core.specs.declared.reply.Reply.TheVariants.{Quiet, Placed, Proposed, Saw, Named, Spent}
+
+-- what an identity does next: it goes to its place, proposes, or looks at what the others propose; or it has ended
+pub data Phase : Type 0 where
+  ToPlace : Phase
+  ToPropose : Phase
+  ToLook : Phase
+  AtEnd : Phase
+
+-- how many have begun; what each identity does next, and how many steps it has made of it
+pub record Pace : Type 0 where
+  pub begun : ℕ
+  pub phase : ℕ → Phase
+  pub steps : ℕ → ℕ
+
+abbrev pub new_pace : Pace
+new_pace = record { begun = 0; phase = λ p. AtEnd; steps = λ p. 0 }
+
+-- who needs no step to its place proposes at once
+abbrev pub first_phase : SnapBounds → Phase
+first_phase bounds = if bounds.placing 1 == 0 then ToPropose else ToPlace
+
+-- the most steps of what is done next, where so many have begun. Whoever proposes makes one step more than a scan, the
+-- one that writes its proposal
+abbrev pub most_steps : SnapBounds → ℕ → Phase → ℕ
+most_steps bounds begun ToPlace = bounds.placing begun
+most_steps bounds begun ToPropose = bounds.scanning begun + 1
+most_steps bounds begun ToLook = bounds.scanning begun
+most_steps bounds begun AtEnd = 0
+
+-- p does this, and the step is within its bound
+pub record IsStepOf (bounds : SnapBounds) (t : Pace) (p : ℕ) (phase : Phase) : Type 0 where
+  pub is : t.phase p ≡ phase
+  pub within : t.steps p + 1 ≤ most_steps bounds t.begun phase
+
+-- the reply ends what p does next. Where it goes on, steps are left: so nobody goes on for ever
+abbrev pub IsInTime : SnapBounds → Pace → ℕ → Reply → Type 0
+IsInTime bounds t p Quiet = t.steps p + 1 < most_steps bounds t.begun (t.phase p)
+IsInTime bounds t p (Placed place) = IsStepOf bounds t p ToPlace
+IsInTime bounds t p (Proposed n) = IsStepOf bounds t p ToPropose
+IsInTime bounds t p (Saw view) = IsStepOf bounds t p ToLook
+IsInTime bounds t p (Named n view) = IsStepOf bounds t p ToLook
+IsInTime bounds t p Spent = IsStepOf bounds t p ToLook
+
+abbrev pub InTime : SnapBounds → Pace → Call Reply → Type 0
+InTime bounds t (Began p reply) = Unit {0}
+InTime bounds t (Stepped p (Ok reply)) = IsInTime bounds t p reply
+InTime bounds t (Stepped p (Err why)) = Unit {0}
+
+-- p does this next, and has made no step of it
+abbrev pub turned : Pace → ℕ → Phase → Pace
+turned t p phase = record t { phase = set_at t.phase p phase; steps = set_at t.steps p 0 }
+
+abbrev pub paced_step : Pace → ℕ → Reply → Pace
+paced_step t p Quiet = record t { steps = set_at t.steps p (t.steps p + 1) }
+paced_step t p (Placed place) = turned t p ToPropose
+paced_step t p (Proposed n) = turned t p ToLook
+paced_step t p (Saw view) = turned t p ToPropose
+paced_step t p (Named n view) = turned t p AtEnd
+paced_step t p Spent = turned t p AtEnd
+
+abbrev pub paced : SnapBounds → Pace → Call Reply → Pace
+paced bounds t (Began p (Ok done)) = record (turned t p (first_phase bounds)) { begun = t.begun + 1 }
+paced bounds t (Began p (Err why)) = t
+paced bounds t (Stepped p (Ok reply)) = paced_step t p reply
+paced bounds t (Stepped p (Err why)) = t
+
+-- each identity is placed; then it proposes and looks by turns, until it is named or spent; and each of these within its
+-- bound. Quiet and refusals aside, it answers nothing else
+abbrev pub IsPaced : SnapBounds → List (Call Reply) → Type 0
+IsPaced bounds r = (t : Pace) × Run (paced bounds) (InTime bounds) new_pace r t

@@ -1,0 +1,54 @@
+-- the calls of a renaming world with their replies, the machine that they run on, and what is said of it after them
+use Rattle.std.specs.Prelude.{◌≡◌, ℕ, ◌+◌, ◌*◌, ◌≤◌, true, if◌then◌else◌, ◌⊎◌, List, [], ◌∷◌, ◌++◌, None, Err}
+use Rattle.step_memory.specs.declared.refusal.Refusal.TheVariants.{NoMemory}
+use Rattle.step_memory.specs.World.{begin_refusal, done_unless}
+use Rattle.step_memory.specs.Calls.{Call, lacked_memory}
+use Rattle.step_memory.specs.Calls.Call.{Began, Stepped}
+use Rattle.step_memory.specs.Runs.{Run}
+use Rattle.snapshot_core.specs.Snapshot.{SnapBounds}
+use Rattle.rename_core.specs.declared.config.WorldKind.{WorldKind}
+use Rattle.rename_core.specs.declared.reply.Reply.{Reply}
+use Rattle.rename_core.specs.Config.{is_tree}
+use Rattle.rename_core.specs.Law.{KeepsRenameLaw}
+use Rattle.rename_core.specs.PlaceSteps.{PlaceSteps}
+use Rattle.rename_core.specs.RenameObject.{RenameTerms}
+use Rattle.rename_core.specs.RenameState.{RenameState}
+use Rattle.rename_core.specs.RenameWorld.{step_refusal, fresh_world, after_rename_begin, rename_answer, after_rename_step, may_lack}
+
+module _ {S R V U K : Type 0} (W : PlaceSteps S R V U K) where
+  -- the world after a call. A step for which a growth was refused is still to come
+  abbrev pub next : RenameState S U K → Call Reply → RenameState S U K
+  next w (Began id reply) = after_rename_begin W w id
+  next w (Stepped id reply) = if lacked_memory reply then w else after_rename_step W w id
+
+  -- the reply is the one that the call gets, or the refusal of a growth where there may be one and nothing else is due
+  abbrev pub IsReply : RenameState S U K → Call Reply → Type 0
+  IsReply w (Began id reply) = reply ≡ done_unless (begin_refusal w.snap id)
+  IsReply w (Stepped id reply) =
+      (reply ≡ rename_answer W w id)
+      ⊎ ((reply ≡ Err NoMemory) × (step_refusal w id ≡ None) × (may_lack W w id ≡ true))
+
+  -- the world is after these calls with these replies, from a fresh one over places in which nothing was written. Its
+  -- round limit is in its range
+  pub record IsAfter (w : RenameState S U K) (r : List (Call Reply)) : Type 0 where
+    pub first : S
+    pub new : W.ties.IsNew first
+    pub low : 1 ≤ w.limit
+    pub high : w.limit ≤ 1000000
+    pub run : Run next IsReply (fresh_world first (W.most_of first) w.limit) r w
+
+  -- every list of calls that leads to the old world leads with this call to the new one
+  abbrev pub LeadsOn : RenameState S U K → RenameState S U K → Call Reply → Type 0
+  LeadsOn old new call = (r : List (Call Reply)) → IsAfter old r → IsAfter new (r ++ call ∷ [])
+
+  -- the law's numbers: the most participants and the round limit, and whether a step may lack memory
+  abbrev pub terms_of : WorldKind → RenameState S U K → RenameTerms
+  terms_of kind w = record { most = w.snap.most; limit = w.limit; grows = is_tree kind }
+
+  -- where b have begun, of whom walks over the segments make so many reads, a scan makes at most b + 1 collects
+  abbrev pub bounds_of : RenameState S U K → SnapBounds
+  bounds_of w = record { placing = W.ties.placing; scanning = λ b. (b + 1) * W.ties.reads w.snap.most b }
+
+  -- every list of calls that leads to this world keeps the law, where the places serve that kind of world
+  abbrev pub IsLawful : WorldKind → RenameState S U K → Type 0
+  IsLawful kind w = (r : List (Call Reply)) → IsAfter w r → KeepsRenameLaw (terms_of kind w) (bounds_of w) r

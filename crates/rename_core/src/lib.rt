@@ -1,0 +1,16 @@
+//! Adaptive renaming by rounds of proposals over a snapshot object.
+#![tactic(auto)]
+
+pub mod config;
+pub mod places;
+pub mod proposal;
+pub mod reply;
+pub mod round;
+pub mod world;
+
+pub use config::{Config, WorldKind};
+pub use places::RenamePlaces;
+pub use proposal::next_proposal;
+pub use reply::Reply;
+pub use round::{Follow, Round, Stage, Wish};
+pub use world::RenameWorld;

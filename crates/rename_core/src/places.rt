@@ -1,0 +1,53 @@
+//! Places over which names are given.
+
+ghost use Rattle.std.specs.Prelude.{◌≡◌, ◌≤◌, ℕ, ◌==◌, is_some, true, IfOk, IfErr, refl};
+ghost use Rattle.rename_core.specs.Config.{is_tree};
+ghost use Rattle.rename_core.specs.FixedLaws.{fixed_ample};
+ghost use Rattle.rename_core.specs.declared.config.WorldKind.{WorldKind};
+ghost use Rattle.rename_core.specs.declared.config.WorldKind.TheVariants as kind;
+ghost use Rattle.snapshot_core.specs.SnapWorld.{SnapState, may_lack_memory};
+
+use crate::config::WorldKind;
+use snapshot_core::{Fixed, Places};
+use std::alloc::Allocator;
+use step_memory::Refusal;
+
+/// Places over which names are given: which world they serve, and how they are made.
+pub trait RenamePlaces<A: Allocator>: Places {
+    /// The world that they serve.
+    ghost world: { WorldKind };
+
+    /// The world that they serve.
+    fn world() -> WorldKind
+        ensures { result ≡ world };
+
+    /// Places for so many participants, in which nothing was written. Refused where the room for them was.
+    fn empty(alloc: A, most: usize) -> Result<Self, Refusal>
+        requires some { 1 ≤ most }
+        requires few { most ≤ 16 }
+        ensures fresh { IfOk result (λ s. Self.ties.IsNew s) }
+        ensures most { IfOk result (λ s. Self.most_of s ≡ most) }
+        ensures no_memory { IfErr result (λ why. why ≡ Refusal.NoMemory) };
+
+    /// Who begins has a place at once just where no step is needed to one.
+    ghost at_once: { (b q : ℕ) → is_some (Self.Walker.place_of (Self.walker_from b q)) ≡ (Self.ties.placing 1 == 0) };
+
+    /// Only over a tree may a step want memory.
+    ghost may_grow: { (s : SnapState Self Self.Walker Self.Walk) (p : ℕ) → may_lack_memory Self.Walker.steps Self.Walker.place_of Self.Walk.walks Self.steps s p ≡ true → is_tree world ≡ true };
+}
+
+impl<A: Allocator> RenamePlaces<A> for Fixed<A> {
+    ghost world = { kind.Rename };
+
+    fn world() -> WorldKind {
+        WorldKind::Rename
+    }
+
+    fn empty(alloc: A, most: usize) -> Result<Self, Refusal> {
+        Fixed::new(alloc, most)
+    }
+
+    ghost at_once = { λ b q. refl };
+
+    ghost may_grow = { fixed_ample };
+}

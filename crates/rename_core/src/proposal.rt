@@ -1,0 +1,53 @@
+//! Which number is proposed next.
+
+ghost use Rattle.std.specs.Prelude.{◌≡◌, ◌≤◌, ◌+◌, ℕ, Option, Some, length};
+ghost use Rattle.step_memory.specs.View.{value_of};
+ghost use Rattle.rename_core.specs.Proposals.{is_taken, rank, nth_free, next_proposal};
+
+use step_memory::View;
+
+/// Whether another identity proposes this number, by these pairs.
+fn is_taken_in(pairs: &[(u64, u64)], id: u64, number: u64) -> bool
+    ensures { result ≡ is_taken id pairs.now number }
+{
+    pairs.iter().any(|pair| pair.0 != id && pair.1 == number)
+}
+
+/// How many identities are not above this one.
+fn rank(pairs: &[(u64, u64)], id: u64) -> usize
+    ensures { result ≡ rank id pairs.now }
+{
+    pairs.iter().filter(|pair| pair.0 <= id).count()
+}
+
+/// The `rank`-th positive number that no other identity proposes.
+fn nth_free(pairs: &[(u64, u64)], id: u64, rank: usize) -> u64
+    requires few { length pairs.now ≤ 64 }
+    requires low { rank ≤ 64 }
+    ensures { result ≡ nth_free id pairs.now rank }
+{
+    let mut left = rank;
+    let mut at: u64 = 0;
+    while 0 < left {
+        at += 1;
+        if !is_taken_in(pairs, id, at) {
+            left -= 1;
+        }
+    }
+    at
+}
+
+/// Whether another identity proposes this number in a view.
+pub fn is_taken(view: &View, id: u64, number: u64) -> bool
+    ensures { result ≡ is_taken id view.now number }
+{
+    is_taken_in(view.pairs(), id, number)
+}
+
+/// What an identity proposes after a view: the r-th positive number that no other proposes in it, where r is its rank.
+pub fn next_proposal(view: &View, id: u64) -> u64
+    ensures { result ≡ next_proposal id view.now }
+{
+    let pairs = view.pairs();
+    nth_free(pairs, id, rank(pairs, id))
+}

@@ -1,0 +1,191 @@
+//! A renaming world, taken step by step.
+
+ghost use Rattle.std.specs.Prelude.{◌≡◌, ◌≢◌, ℕ, [], ◌∷◌, ◌++◌, List, IfOk, IfErr, OnErr, Err, true, false, None, ◌⊎◌, ◌↔◌};
+ghost use Rattle.step_memory.specs.Participant.{index_of};
+ghost use Rattle.step_memory.specs.World.{begin_refusal, done_unless};
+ghost use Rattle.step_memory.specs.Calls.{Call};
+ghost use Rattle.step_memory.specs.Calls.Call.{Began, Stepped};
+ghost use Rattle.rename_core.specs.Config.{is_played_over};
+ghost use Rattle.rename_core.specs.RenameCalls.{IsAfter, LeadsOn, IsLawful, terms_of};
+ghost use Rattle.rename_core.specs.RenameObject.{RenameObject, IsRun};
+ghost use Rattle.rename_core.specs.RenameWorld.{after_wish, name_in, step_refusal, fresh_world, after_rename_begin, rename_answer, after_rename_step, may_lack};
+ghost use Rattle.rename_core.specs.declared.reply.Reply.{Reply};
+
+use crate::config::Config;
+use crate::places::RenamePlaces;
+use crate::reply::Reply;
+use crate::round::{Round, Stage, Wish};
+use snapshot_core::SnapWorld;
+use std::alloc::Allocator;
+use std::marker::Model;
+use step_memory::{Participant, Refusal};
+
+/// Participants that get names by rounds of proposals, over places.
+#[derive(Drop)]
+pub struct RenameWorld<W: RenamePlaces<A>, A: Allocator> {
+    snap: SnapWorld<W, A>,
+    rounds: Vec<Participant<Round>, A>,
+    limit: u64,
+}
+
+impl<W: RenamePlaces<A>, A: Allocator> Model for RenameWorld<W, A> {
+    ghost use Rattle.std.specs.Prelude.{◌≤◌, ◌≡◌, vec_capacity, length};
+    ghost use Rattle.rename_core.specs.RenameState.{RenameState};
+
+    ghost Value = { RenameState W W.Walker W.Walk };
+
+    ghost view = { λ w. record { snap = w.snap; rounds = w.rounds.items; limit = w.limit } };
+
+    ghost invariant = { λ w. (w.snap.most ≤ vec_capacity w.rounds) × (length w.rounds.items ≡ length w.snap.participants) };
+}
+
+/// Where the round of an identity stands.
+fn find(rounds: &[Participant<Round>], id: u64) -> Option<usize>
+    ensures { result ≡ index_of id rounds.now }
+{
+    for (i, participant) in rounds.iter().enumerate() {
+        if participant.identity == id {
+            return Some(i);
+        }
+    }
+    None
+}
+
+/// Asks the snapshot object for what a round wants, with no access. It is never refused, since nothing of the identity is
+/// pending then.
+fn ask<W: RenamePlaces<A> + Drop, A: Allocator>(snap: &mut SnapWorld<W, A>, id: u64, wish: Wish)
+where
+    W::Walker: Copy,
+    W::Walk: Copy,
+    W::Value: Drop,
+    ensures { snap.new ≡ after_wish snap.old id wish }
+{
+    let _asked = match wish {
+        Wish::Nothing => Ok(()),
+        Wish::Update(number) => snap.update(id, number),
+        Wish::Scan => snap.scan(id),
+    };
+}
+
+impl<W: RenamePlaces<A> + Drop, A: Allocator> RenameWorld<W, A>
+where
+    W::Walker: Copy,
+    W::Walk: Copy,
+    W::Value: Drop,
+{
+    /// A step, and what follows it.
+    fn take_step(&mut self, id: u64) -> Result<Reply, Refusal>
+        ensures answer { result ≢ Err Refusal.NoMemory → result ≡ rename_answer (record { walker = W.Walker.steps; place_of = W.Walker.place_of; walks = W.Walk.walks; memory = W.steps; most_of = W.most_of; walker_from = W.walker_from; walk_from = W.walk_from; ties = W.ties }) self.old id }
+        ensures state { result ≢ Err Refusal.NoMemory → self.new ≡ after_rename_step (record { walker = W.Walker.steps; place_of = W.Walker.place_of; walks = W.Walk.walks; memory = W.steps; most_of = W.most_of; walker_from = W.walker_from; walk_from = W.walk_from; ties = W.ties }) self.old id }
+        ensures refused { OnErr result (self.new ≡ self.old) }
+        ensures no_memory { result ≡ Err Refusal.NoMemory → (step_refusal self.old id ≡ None) × (may_lack (record { walker = W.Walker.steps; place_of = W.Walker.place_of; walks = W.Walk.walks; memory = W.steps; most_of = W.most_of; walker_from = W.walker_from; walk_from = W.walk_from; ties = W.ties }) self.old id ≡ true) }
+    {
+        let Some(i) = find(&self.rounds, id) else {
+            return Err(Refusal::NotBegun);
+        };
+        let round = self.rounds[i].program;
+        if let Some(refusal) = round.stage.refusal() {
+            return Err(refusal);
+        }
+        let follow = round.followed(id, self.snap.step(id)?, self.limit);
+        ask(&mut self.snap, id, follow.wish);
+        self.rounds[i] = Participant {
+            identity: id,
+            program: follow.round,
+            ended: false,
+        };
+        Ok(follow.reply)
+    }
+
+    /// One step of a participant: one access, and what follows it. Refused where the identity has not begun, then where it
+    /// has a name, or is spent, then where the memory refused a growth: then the same step may be asked again.
+    pub fn step(&mut self, id: u64) -> Result<Reply, Refusal>
+        ensures answer { result ≢ Err Refusal.NoMemory → result ≡ rename_answer (record { walker = W.Walker.steps; place_of = W.Walker.place_of; walks = W.Walk.walks; memory = W.steps; most_of = W.most_of; walker_from = W.walker_from; walk_from = W.walk_from; ties = W.ties }) self.old id }
+        ensures state { result ≢ Err Refusal.NoMemory → self.new ≡ after_rename_step (record { walker = W.Walker.steps; place_of = W.Walker.place_of; walks = W.Walk.walks; memory = W.steps; most_of = W.most_of; walker_from = W.walker_from; walk_from = W.walk_from; ties = W.ties }) self.old id }
+        ensures refused { OnErr result (self.new ≡ self.old) }
+        ensures no_memory { result ≡ Err Refusal.NoMemory → (step_refusal self.old id ≡ None) × (may_lack (record { walker = W.Walker.steps; place_of = W.Walker.place_of; walks = W.Walk.walks; memory = W.steps; most_of = W.most_of; walker_from = W.walker_from; walk_from = W.walk_from; ties = W.ties }) self.old id ≡ true) }
+
+        // The law, over every list of calls and replies that the world may be after.
+        ensures after { LeadsOn (record { walker = W.Walker.steps; place_of = W.Walker.place_of; walks = W.Walk.walks; memory = W.steps; most_of = W.most_of; walker_from = W.walker_from; walk_from = W.walk_from; ties = W.ties }) self.old self.new (Stepped id result) }
+        ensures law { IsLawful (record { walker = W.Walker.steps; place_of = W.Walker.place_of; walks = W.Walk.walks; memory = W.steps; most_of = W.most_of; walker_from = W.walker_from; walk_from = W.walk_from; ties = W.ties }) W.world self.new }
+    {
+        self.take_step(id)
+    }
+
+    /// The name that the round of an identity has ended with.
+    fn round_name(&self, id: u64) -> Option<u64>
+        ensures { result ≡ name_in self.now id }
+    {
+        let Some(i) = find(&self.rounds, id) else {
+            return None;
+        };
+        self.rounds[i].program.name()
+    }
+
+    /// The name of a participant, once it has one.
+    pub fn name_of(&self, id: u64) -> Option<u64>
+        ensures value { result ≡ name_in self.now id }
+
+        // It is the name that the replies have given to the identity.
+        ensures law { (r : List (Call Reply)) → IsAfter (record { walker = W.Walker.steps; place_of = W.Walker.place_of; walks = W.Walk.walks; memory = W.steps; most_of = W.most_of; walker_from = W.walker_from; walk_from = W.walk_from; ties = W.ties }) self.now r → (o : RenameObject) → IsRun (terms_of (record { walker = W.Walker.steps; place_of = W.Walker.place_of; walks = W.Walk.walks; memory = W.steps; most_of = W.most_of; walker_from = W.walker_from; walk_from = W.walk_from; ties = W.ties }) W.world self.now) r o → result ≡ o.name id }
+    {
+        self.round_name(id)
+    }
+
+    /// A participant begins, and asks at once for what it can do.
+    fn take_begin(&mut self, id: u64) -> Result<(), Refusal>
+        ensures answer { result ≡ done_unless (begin_refusal self.old.snap id) }
+        ensures state { self.new ≡ after_rename_begin (record { walker = W.Walker.steps; place_of = W.Walker.place_of; walks = W.Walk.walks; memory = W.steps; most_of = W.most_of; walker_from = W.walker_from; walk_from = W.walk_from; ties = W.ties }) self.old id }
+    {
+        self.snap.begin(id)?;
+        let placed = self.snap.place_of(id).is_some();
+        ask(&mut self.snap, id, Wish::first(placed));
+        self.rounds.push_reserved(Participant {
+            identity: id,
+            program: Round::first(placed),
+            ended: false,
+        });
+        Ok(())
+    }
+
+    /// A participant begins. Refused where the identity is 0, then where it has begun, then where as many have begun as
+    /// there may be. It makes no access.
+    pub fn begin(&mut self, id: u64) -> Result<(), Refusal>
+        ensures answer { result ≡ done_unless (begin_refusal self.old.snap id) }
+        ensures state { self.new ≡ after_rename_begin (record { walker = W.Walker.steps; place_of = W.Walker.place_of; walks = W.Walk.walks; memory = W.steps; most_of = W.most_of; walker_from = W.walker_from; walk_from = W.walk_from; ties = W.ties }) self.old id }
+
+        // The law, over every list of calls and replies that the world may be after.
+        ensures after { LeadsOn (record { walker = W.Walker.steps; place_of = W.Walker.place_of; walks = W.Walk.walks; memory = W.steps; most_of = W.most_of; walker_from = W.walker_from; walk_from = W.walk_from; ties = W.ties }) self.old self.new (Began id result) }
+        ensures law { IsLawful (record { walker = W.Walker.steps; place_of = W.Walker.place_of; walks = W.Walk.walks; memory = W.steps; most_of = W.most_of; walker_from = W.walker_from; walk_from = W.walk_from; ties = W.ties }) W.world self.new }
+    {
+        self.take_begin(id)
+    }
+}
+
+impl<W: RenamePlaces<A> + Drop, A: Allocator + Clone> RenameWorld<W, A>
+where
+    W::Walker: Copy,
+    W::Walk: Copy,
+    W::Value: Drop,
+{
+    /// A world in which nobody has begun. Refused where names are not given in the config's world, or not over these
+    /// places: where just one of them is a tree; then where the room for the participants was refused.
+    pub fn new(alloc: A, config: Config) -> Result<Self, Refusal>
+        ensures fresh { IfOk result (λ w. (first : W) × (W.ties.IsNew first) × (W.most_of first ≡ config.m) × (w ≡ fresh_world first config.m config.limit)) }
+        ensures out_of_range { result ≡ Err Refusal.OutOfRange ↔ (is_played_over config.world W.world ≡ false) }
+        ensures only { IfErr result (λ why. (why ≡ Refusal.NoMemory) ⊎ (why ≡ Refusal.OutOfRange)) }
+        ensures after { IfOk result (λ w. IsAfter (record { walker = W.Walker.steps; place_of = W.Walker.place_of; walks = W.Walk.walks; memory = W.steps; most_of = W.most_of; walker_from = W.walker_from; walk_from = W.walk_from; ties = W.ties }) w []) }
+        ensures law { IfOk result (λ w. IsLawful (record { walker = W.Walker.steps; place_of = W.Walker.place_of; walks = W.Walk.walks; memory = W.steps; most_of = W.most_of; walker_from = W.walker_from; walk_from = W.walk_from; ties = W.ties }) W.world w) }
+    {
+        if !config.world.is_played_over(W::world()) {
+            return Err(Refusal::OutOfRange);
+        }
+        let most = config.m as usize;
+        let places = W::empty(alloc.clone()?, most)?;
+        Ok(RenameWorld {
+            snap: SnapWorld::new(alloc.clone()?, places)?,
+            rounds: Vec::with_capacity(alloc, most)?,
+            limit: config.limit,
+        })
+    }
+}
