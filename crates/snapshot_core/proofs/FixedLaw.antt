@@ -5,8 +5,7 @@ use Rattle.std.proofs.Math.ListN.{length-replicate}
 use Rattle.step_memory.specs.declared.record.Record.{Record}
 use Rattle.snapshot_core.specs.declared.fixed.FixedWalker.{FixedWalker}
 use Rattle.snapshot_core.specs.declared.fixed.FixedWalk.{FixedWalk}
-use Rattle.snapshot_core.specs.Fixed.{fixed_steps, walker_steps, fixed_walks, fixed_place, fixed_walker, fixed_walk}
-use Rattle.snapshot_core.specs.FixedTies.{IsEmptyRow, fixed_ties}
+use Rattle.snapshot_core.specs.FixedTies.{IsEmptyRow, fixed_places}
 use Rattle.snapshot_core.specs.FixedLaws.{fixed_laws}
 use Rattle.snapshot_core.specs.Places.{BoundsScans}
 use Rattle.snapshot_core.specs.SnapWorld.{SnapState}
@@ -14,7 +13,7 @@ use Rattle.snapshot_core.specs.SnapCalls.{SnapCall, IsAfter}
 use Rattle.snapshot_core.specs.Snapshot.{KeepsSnapshotLaw}
 use Rattle.snapshot_core.proofs.Following.{law_holds}
 
-empty_at : (m x : ℕ) → get_or (replicate m None) x None ≡ (let nothing : Option Record = None in nothing)
+pub empty_at : (m x : ℕ) → get_or (replicate m None) x None ≡ (let nothing : Option Record = None in nothing)
 empty_at zero x = refl
 empty_at (suc m) zero = refl
 empty_at (suc m) (suc x) = empty_at m x
@@ -22,13 +21,13 @@ empty_at (suc m) (suc x) = empty_at m x
 empty_row : (m : ℕ) → m ≤ 16 → IsEmptyRow (replicate m None)
 empty_row m few = record { few = rw (length-replicate m (let nothing : Option Record = None in nothing)) few; empty = empty_at m }
 
-fits_row : (m : ℕ) → BoundsScans fixed_ties m (λ b. m * (m + 1))
-fits_row m b l =
+fits_row : (m : ℕ) → BoundsScans fixed_places m (λ b. m * (m + 1))
+fits_row m b some l =
     let up : b + 1 ≤ m + 1 = omega arith in
     let product = mul-le-mul_right m up in
     omega arith
 
-pub fixed_law : (w : SnapState (List (Option Record)) FixedWalker FixedWalk) (r : List SnapCall) → w.most ≤ 16 → IsAfter walker_steps fixed_place fixed_walks fixed_steps fixed_walker fixed_walk length (replicate w.most None) w r →
+pub fixed_law : (w : SnapState (List (Option Record)) FixedWalker FixedWalk) (r : List SnapCall) → w.most ≤ 16 → IsAfter fixed_places (replicate w.most None) w r →
     KeepsSnapshotLaw (record { placing = λ b. 0; scanning = λ b. w.most * (w.most + 1) }) r
 fixed_law w r few a =
-    law_holds walker_steps fixed_place fixed_walks fixed_steps fixed_walker fixed_walk length fixed_ties fixed_laws w (replicate w.most None) r (λ b. w.most * (w.most + 1)) (empty_row w.most few) (rw (length-replicate w.most (let nothing : Option Record = None in nothing)) (fits_row w.most)) a
+    law_holds fixed_places fixed_laws w (replicate w.most None) r (λ b. w.most * (w.most + 1)) (empty_row w.most few) (rw (length-replicate w.most (let nothing : Option Record = None in nothing)) (fits_row w.most)) a

@@ -6,10 +6,10 @@ use Rattle.std.proofs.lemmas.Bool.{cases_Bool}
 use Rattle.std.proofs.lemmas.Bool.Decides.{eqb_tells}
 use Rattle.step_memory.specs.SetAt.{set_at}
 use Rattle.step_memory.proofs.SetAtLemmas.{set_at-same, set_at-other}
-use Rattle.step_memory.proofs.ParticipantLemmas.{participant_of-push, length-with_participant}
+use Rattle.step_memory.proofs.ParticipantLemmas.{participant_of-push, length-with_participant, some_begun}
 use Rattle.step_memory.specs.declared.note.Note.{Note}
 use Rattle.step_memory.specs.declared.note.Note.TheVariants.{Quiet, Said, Ended}
-use Rattle.step_memory.specs.declared.access.Access.TheVariants.{Read}
+use Rattle.step_memory.specs.declared.access.Access.TheVariants.{Read, Write}
 use Rattle.step_memory.specs.declared.access.Answer.{Answer}
 use Rattle.step_memory.specs.declared.refusal.Refusal.{Refusal}
 use Rattle.step_memory.specs.declared.refusal.Refusal.TheVariants.{AlreadyBegun, NotBegun, Finished, Spent}
@@ -17,7 +17,7 @@ use Rattle.step_memory.specs.declared.participant.Participant.{Participant}
 use Rattle.step_memory.specs.Note.{ends}
 use Rattle.step_memory.specs.Steps.{ProgramSteps, MemorySteps, answer_from}
 use Rattle.step_memory.specs.Participant.{participant_of, program_of, with_participant, beginner}
-use Rattle.step_memory.specs.World.{begin_refusal, begun_unless, done_unless}
+use Rattle.step_memory.specs.World.{begin_refusal, begun_unless, done_unless, may_refuse_by}
 use Rattle.step_memory.specs.Calls.{lacked_memory, reply_of}
 use Rattle.step_memory.specs.Runs.{Run}
 use Rattle.step_memory.proofs.StepLemmas.{going_answer, going_after}
@@ -30,20 +30,20 @@ use Rattle.snapshot_core.specs.declared.client.Pending.TheVariants.{Nothing, Pla
 use Rattle.snapshot_core.specs.declared.client.SnapReply.{SnapReply}
 use Rattle.snapshot_core.specs.declared.client.SnapReply.TheVariants.{Quiet as Silent, Placed, Written, View as Viewed}
 use Rattle.snapshot_core.specs.Scan.{scan_from, scan_after, scan_view}
-use Rattle.snapshot_core.specs.Client.{client_steps, first_pending, is_idle, scanning, updating, record_of, with_pending, is_placed, placed_note, pending_after, note_after, access_for, after_for, note_for}
-use Rattle.snapshot_core.specs.SnapWorld.{SnapState, place_in, beginner_at, scan_refusal, update_refusal, scan_refusal_by, update_refusal_by, asked, after_scan, after_update, told, snap_answer, after_snap_step}
+use Rattle.snapshot_core.specs.Client.{first_pending, is_idle, scanning, updating, record_of, with_pending, is_placed, placed_note, pending_after, note_after, access_for, after_for, note_for}
+use Rattle.snapshot_core.specs.SnapWorld.{SnapState, place_in, beginner_at, scan_refusal, update_refusal, scan_refusal_by, update_refusal_by, asked, after_scan, after_update, told, clients_over, snap_answer, after_snap_step, may_lack_memory, way_now, ways_of}
 use Rattle.snapshot_core.specs.SnapCalls.{SnapCall, next, IsReply, IsAfter}
 use Rattle.snapshot_core.specs.SnapCalls.SnapCall.{Began, Updated, Scanned, Stepped}
 use Rattle.snapshot_core.specs.Walks.{WalkSteps}
-use Rattle.snapshot_core.specs.Places.{PlaceTies, PlacesLaws, BoundsScans, KeepsWalks, HasGoneOn, value_for}
-use Rattle.snapshot_core.specs.Snapshot.{SnapObject, SnapBounds, new_object, since_of, with_task, observed, Allows, KeepsSnapshotLaw}
+use Rattle.snapshot_core.specs.Places.{KnownPlaces, PlacesLaws, BoundsScans, KeepsWalks, HasGoneOn, value_for}
+use Rattle.snapshot_core.specs.Snapshot.{SnapObject, SnapBounds, new_object, since_of, with_task, observed, Allows, IsLawful}
 use Rattle.snapshot_core.specs.Snapshot.Task.{Idle, Placing, Scanning, Updating}
 use Rattle.snapshot_core.proofs.SnapWorldLemmas.{absent_state, absent_answer, idle_state, idle_answer, busy_state, busy_answer, most_kept}
-use Rattle.snapshot_core.proofs.KnownPlaces.{KnownPlaces}
+use Rattle.snapshot_core.proofs.LawfulPlaces.{LawfulPlaces}
 use Rattle.snapshot_core.proofs.Histories.{number, IsHelp}
 use Rattle.snapshot_core.proofs.Collecting.{collecting_new}
 use Rattle.snapshot_core.proofs.Reading.{GoesOn, Shown, Outcome, starts_ahead, begins, steps_bound, reads}
-use Rattle.snapshot_core.proofs.Tied.{Era, way_now, ways_of, place_by, IsScanning, IsAtTask, IsDoing, IsTied, era_now, reached_now, roll_now, put_there, world_with, tied_new}
+use Rattle.snapshot_core.proofs.Tied.{Era, place_by, IsScanning, IsAtTask, IsDoing, IsTied, era_now, reached_now, roll_now, put_there, world_with, tied_new}
 use Rattle.snapshot_core.proofs.Going.{tied_with, tied_written, tied_joined, free, nothing_yet, era_joined}
 
 idle_is_nothing : (pending : Pending) → is_idle pending ≡ true → pending ≡ Nothing
@@ -54,25 +54,25 @@ idle_is_nothing (Update new_value) h = absurd (cc)
 idle_is_nothing (Writing new_value view) h = absurd (cc)
 
 -- steps to a place, and those of a scan that keep the bound
-abbrev pub bounds_with : {S R V U K : Type 0} → KnownPlaces S R V U K → (ℕ → ℕ) → SnapBounds
-bounds_with t scans = record { placing = t.ties.placing; scanning = scans }
+abbrev pub bounds_with : {S R V U K : Type 0} → LawfulPlaces S R V U K → (ℕ → ℕ) → SnapBounds
+bounds_with t scans = record { placing = t.known.ties.placing; scanning = scans }
 
-module _ {S R V U K : Type 0} (t : KnownPlaces S R V U K) (w : SnapState S U K) (o : SnapObject) (i : IsTied t w o) (id : ℕ) where
+module _ {S R V U K : Type 0} (t : LawfulPlaces S R V U K) (w : SnapState S U K) (o : SnapObject) (i : IsTied t w o) (id : ℕ) where
   -- one begins
-  begun_follows : begin_refusal w id ≡ None → IsTied t (record { memory = w.memory; most = w.most; participants = w.participants ++ beginner id (beginner_at t.place_of t.walker_from t.walk_from w id) ∷ [] }) (observed o (Began id (Ok tt)))
+  begun_follows : begin_refusal w id ≡ None → IsTied t (record { memory = w.memory; most = w.most; participants = w.participants ++ beginner id (beginner_at t.known w id) ∷ [] }) (observed o (Began id (Ok tt)))
   begun_follows e =
       let goes_in = let_in w id e in
       let b = length w.participants in
-      let c : Client U K = beginner_at t.place_of t.walker_from t.walk_from w id in
+      let c : Client U K = beginner_at t.known w id in
       let absent_way : ways_of w.participants id ≡ None = ap way_now goes_in.absent in
-      let absent : i.place id ≡ None = i.placed id ∙ ap (place_by t.place_of) absent_way in
-      let room : b < t.most_of w.memory = (let m = i.most in let l = goes_in.room in omega arith) in
-      let consistent : t.ties.IsConsistent w.memory (b + 1) (set_at (ways_of w.participants) id (Some c.walker)) = t.laws.begun w.memory b (ways_of w.participants) id i.consistent goes_in.not_zero absent_way room in
+      let absent : i.place id ≡ None = i.placed id ∙ ap (place_by t.known.place_of) absent_way in
+      let room : b < t.known.most_of w.memory = (let m = i.most in let l = goes_in.room in omega arith) in
+      let consistent : t.known.ties.IsConsistent w.memory (b + 1) (set_at (ways_of w.participants) id (Some c.walker)) = t.laws.begun w.memory b (ways_of w.participants) id i.consistent goes_in.not_zero absent_way room in
       let up : b ≤ b + 1 = omega arith in
       let same : (j : ℕ) → j < b → set_at i.who b id j ≡ i.who j = λ j l. set_at-other i.who b id j (omega arith) in
       let last_one : (j : ℕ) × (j < b + 1) × (set_at i.who b id j ≡ id) = (b, omega arith, set_at-same i.who b id) in
-      let still : KeepsWalks t.most_of t.walk_from t.ties w.memory w.memory = record { most = refl; beginning = refl; ahead = λ k x a. a; read = λ k j a. a } in
-      tied_joined t w o i id c w.memory (b + 1) (set_at i.who b id) absent up (t.laws.rising (t.most_of w.memory) b) same last_one consistent (λ x. refl) still
+      let still : KeepsWalks t.known w.memory w.memory = record { most = refl; beginning = refl; ahead = λ k x a. a; read = λ k j a. a } in
+      tied_joined t w o i id c w.memory (b + 1) (set_at i.who b id) absent up (t.laws.rising (t.known.most_of w.memory) b) same last_one consistent (λ x. refl) still
       (w.participants ++ beginner id c ∷ []) (participant_of-push w.participants (beginner id c) goes_in.absent) (length-append w.participants (beginner id c ∷ []))
       (observed o (Began id (Ok tt))) (let k = i.counted in omega arith) refl refl
       (λ q n. (set_at-other o.task id Placing q n, set_at-other o.steps id 0 q n, set_at-other o.since id 0 q n))
@@ -80,22 +80,22 @@ module _ {S R V U K : Type 0} (t : KnownPlaces S R V U K) (w : SnapState S U K) 
       (rw (set_at-same o.task id Placing, set_at-same o.steps id 0, set_at-same o.since id 0) (record {
         identity = refl;
         walk = refl;
-        at = elim (t.place_of c.walker) as (λ z. t.place_of c.walker ≡ z → IsAtTask t (era_joined t w o i id c w.memory (b + 1) (set_at i.who b id) absent up (t.laws.rising (t.most_of w.memory) b) same last_one consistent (λ x. refl) still) Placing 0 0 c z (first_pending z)) [
+        at = elim (t.known.place_of c.walker) as (λ z. t.known.place_of c.walker ≡ z → IsAtTask t (era_joined t w o i id c w.memory (b + 1) (set_at i.who b id) absent up (t.laws.rising (t.known.most_of w.memory) b) same last_one consistent (λ x. refl) still) Placing 0 0 c z (first_pending z)) [
           | None ↦ λ k. (refl, refl, omega arith)
-          | Some x ↦ λ k. sym (ap number (nothing_yet t w o i id c w.memory (b + 1) (set_at i.who b id) absent up (t.laws.rising (t.most_of w.memory) b) same last_one consistent (λ x. refl) still x o.last k (omega arith)))
+          | Some x ↦ λ k. sym (ap number (nothing_yet t w o i id c w.memory (b + 1) (set_at i.who b id) absent up (t.laws.rising (t.known.most_of w.memory) b) same last_one consistent (λ x. refl) still x o.last k (omega arith)))
         ] refl;
       }))
 
-  begin_follows : IsTied t (begun_unless (begin_refusal w id) w id (beginner_at t.place_of t.walker_from t.walk_from w id)) (observed o (Began id (done_unless (begin_refusal w id))))
-  begin_follows = elim (begin_refusal w id) as (λ r. begin_refusal w id ≡ r → IsTied t (begun_unless r w id (beginner_at t.place_of t.walker_from t.walk_from w id)) (observed o (Began id (done_unless r)))) [
+  begin_follows : IsTied t (begun_unless (begin_refusal w id) w id (beginner_at t.known w id)) (observed o (Began id (done_unless (begin_refusal w id))))
+  begin_follows = elim (begin_refusal w id) as (λ r. begin_refusal w id ≡ r → IsTied t (begun_unless r w id (beginner_at t.known w id)) (observed o (Began id (done_unless r)))) [
     | Some why ↦ λ _. i
     | None ↦ λ e. begun_follows e
   ] refl
 
   -- who has nothing to do is asked for something
   module _ (v : Participant (Client U K)) (there : participant_of id w.participants ≡ Some v) (idle : is_idle v.program.pending ≡ true) where
-    idle_now : IsAtTask t (era_now t w o i) (o.task id) (o.steps id) (o.since id) v.program (t.place_of v.program.walker) Nothing
-    idle_now = subst (λ (z : Pending). IsAtTask t (era_now t w o i) (o.task id) (o.steps id) (o.since id) v.program (t.place_of v.program.walker) z) (idle_is_nothing v.program.pending idle) (i.clients id v there).at
+    idle_now : IsAtTask t (era_now t w o i) (o.task id) (o.steps id) (o.since id) v.program (t.known.place_of v.program.walker) Nothing
+    idle_now = subst (λ (z : Pending). IsAtTask t (era_now t w o i) (o.task id) (o.steps id) (o.since id) v.program (t.known.place_of v.program.walker) z) (idle_is_nothing v.program.pending idle) (i.clients id v there).at
 
     asked_to_scan : IsTied t (world_with w w.memory id (scanning v.program)) (with_task o id Scanning 0 0)
     asked_to_scan =
@@ -103,7 +103,7 @@ module _ {S R V U K : Type 0} (t : KnownPlaces S R V U K) (w : SnapState S U K) 
         tied_with t w o i id v there (scanning v.program) refl Scanning 0 0 (record {
           identity = k.identity;
           walk = k.walk;
-          at = elim (t.place_of v.program.walker) as (λ z. IsAtTask t (era_now t w o i) (o.task id) (o.steps id) (o.since id) v.program z Nothing → IsAtTask t (era_now t w o i) Scanning 0 0 (scanning v.program) z Scans) [
+          at = elim (t.known.place_of v.program.walker) as (λ z. IsAtTask t (era_now t w o i) (o.task id) (o.steps id) (o.since id) v.program z Nothing → IsAtTask t (era_now t w o i) Scanning 0 0 (scanning v.program) z Scans) [
             | None ↦ λ h. absurd h
             | Some own ↦ λ h. (refl, h, inl (refl, ap scan_from k.walk))
           ] idle_now;
@@ -115,7 +115,7 @@ module _ {S R V U K : Type 0} (t : KnownPlaces S R V U K) (w : SnapState S U K) 
         tied_with t w o i id v there (updating v.program new_value) refl (Updating new_value) 0 0 (record {
           identity = k.identity;
           walk = k.walk;
-          at = elim (t.place_of v.program.walker) as (λ z. IsAtTask t (era_now t w o i) (o.task id) (o.steps id) (o.since id) v.program z Nothing → IsAtTask t (era_now t w o i) (Updating new_value) 0 0 (updating v.program new_value) z (Update new_value)) [
+          at = elim (t.known.place_of v.program.walker) as (λ z. IsAtTask t (era_now t w o i) (o.task id) (o.steps id) (o.since id) v.program z Nothing → IsAtTask t (era_now t w o i) (Updating new_value) 0 0 (updating v.program new_value) z (Update new_value)) [
             | None ↦ λ h. absurd h
             | Some own ↦ λ h. (refl, ap (λ (n : ℕ). n + 1) h, inl (refl, ap scan_from k.walk))
           ] idle_now;
@@ -142,33 +142,33 @@ module _ {S R V U K : Type 0} (t : KnownPlaces S R V U K) (w : SnapState S U K) 
     ] refl
   ] refl
 
-  module _ (scans : ℕ → ℕ) (fits : BoundsScans t.ties w.most scans) where
-    many : length w.participants ≤ t.most_of w.memory
+  module _ (scans : ℕ → ℕ) (fits : BoundsScans t.known w.most scans) where
+    many : length w.participants ≤ t.known.most_of w.memory
     many = (t.laws.few w.memory (length w.participants) (ways_of w.participants) i.consistent).0
 
     few : length w.participants ≤ 64
     few = let k = (t.laws.few w.memory (length w.participants) (ways_of w.participants) i.consistent).1 in let m = many in omega arith
 
-    whole : (length w.participants + 1) * t.ties.reads (t.most_of w.memory) (length w.participants) ≤ scans o.begun
-    whole = rw (i.counted, ← i.most) (fits (length w.participants) (let k = i.most in let m = many in omega arith))
-
     -- what a step of p's program answers, and leaves
     module _ (v : Participant (Client U K)) (there : participant_of id w.participants ≡ Some v) where
+      whole : (length w.participants + 1) * t.known.ties.reads (t.known.most_of w.memory) (length w.participants) ≤ scans o.begun
+      whole = rw (i.counted, ← i.most) (fits (length w.participants) (let begun = some_begun id w.participants v there in omega arith) (let k = i.most in let m = many in omega arith))
+
       abbrev got : Pending → Answer V
-      got z = answer_from (t.memory.register w.memory) (access_for t.walker t.place_of t.walks v.program z)
+      got z = answer_from (t.known.memory.register w.memory) (access_for t.known.walker t.known.place_of t.known.walks v.program z)
 
       abbrev Follows : Pending → Type 0
       Follows z =
-          Allows (bounds_with t scans) o (Stepped id (Ok (told (note_for t.walker t.walks v.program z (got z)))))
+          Allows (bounds_with t scans) o (Stepped id (Ok (told (note_for t.known.walker t.known.walks v.program z (got z)))))
           × IsTied t (record {
-            memory = t.memory.after w.memory (access_for t.walker t.place_of t.walks v.program z);
+            memory = t.known.memory.after w.memory (access_for t.known.walker t.known.place_of t.known.walks v.program z);
             most = w.most;
             participants = with_participant (record {
               identity = v.identity;
-              program = after_for t.walker t.walks v.program z (got z);
-              ended = ends (note_for t.walker t.walks v.program z (got z));
+              program = after_for t.known.walker t.known.walks v.program z (got z);
+              ended = ends (note_for t.known.walker t.known.walks v.program z (got z));
             }) w.participants;
-          }) (observed o (Stepped id (Ok (told (note_for t.walker t.walks v.program z (got z))))))
+          }) (observed o (Stepped id (Ok (told (note_for t.known.walker t.known.walks v.program z (got z))))))
 
       doing : IsDoing t (era_now t w o i) (o.task id) (o.steps id) (o.since id) id v.program
       doing = i.clients id v there
@@ -181,9 +181,9 @@ module _ {S R V U K : Type 0} (t : KnownPlaces S R V U K) (w : SnapState S U K) 
       own_name = (i.named id v there).0
 
       -- the place of p is this
-      module _ (own : ℕ) (at : t.place_of v.program.walker ≡ Some own) where
+      module _ (own : ℕ) (at : t.known.place_of v.program.walker ≡ Some own) where
         mine : i.place id ≡ Some own
-        mine = i.placed id ∙ ap (place_by t.place_of) way ∙ at
+        mine = i.placed id ∙ ap (place_by t.known.place_of) way ∙ at
 
         -- a scan that was asked for is under way since its first step
         under_way : IsScanning t (era_now t w o i) own (o.since id) (o.steps id) v.program.scan → GoesOn t w.memory (length w.participants) o.last i.past i.place i.who own (since_of o id) (o.steps id) v.program.scan
@@ -194,24 +194,24 @@ module _ {S R V U K : Type 0} (t : KnownPlaces S R V U K) (w : SnapState S U K) 
               reads = 0;
               walk = begins t w.memory (ways_of w.participants) (length w.participants) o.last i.past o.moment i.place i.who i.consistent i.history (roll_now t w o i) i.present (reached_now t w o i) own o.last id mine;
               count = omega arith;
-              collecting = collecting_new (length w.participants) o.last i.past i.place i.who own (t.ties.IsAhead w.memory (t.walk_from w.memory)) (t.ties.IsUpcoming (t.walk_from w.memory)) (starts_ahead t w.memory (ways_of w.participants) (length w.participants) o.last i.past o.moment i.place i.who i.consistent i.history (roll_now t w o i) i.present (reached_now t w o i));
+              collecting = collecting_new (length w.participants) o.last i.past i.place i.who own (t.known.ties.IsAhead w.memory (t.known.walk_from w.memory)) (t.known.ties.IsUpcoming (t.known.walk_from w.memory)) (starts_ahead t w.memory (ways_of w.participants) (length w.participants) o.last i.past o.moment i.place i.who i.consistent i.history (roll_now t w o i) i.present (reached_now t w o i));
             })
         under_way (inr k) =
             let some : (o.steps id == 0) ≡ false = (elim (eqb_tells (o.steps id) 0) [ inl e ↦ absurd (let z = e.1 in let l = k.0 in omega arith) | inr e ↦ e.0 ]) in
             rw some k.1
 
         abbrev value : V
-        value = value_for t.walks t.memory w.memory v.program.scan.walk
+        value = value_for t.known w.memory v.program.scan.walk
 
         -- the read and what comes of it
         module _ (s : IsScanning t (era_now t w o i) own (o.since id) (o.steps id) v.program.scan) where
           goes : GoesOn t w.memory (length w.participants) o.last i.past i.place i.who own (since_of o id) (o.steps id) v.program.scan
           goes = under_way s
 
-          outcome : Outcome t w.memory (length w.participants) o.last i.past o.moment i.place i.who own (since_of o id) (o.steps id + 1) (scan_after t.walks v.program.scan value v.program.walk) (scan_view t.walks v.program.scan value)
+          outcome : Outcome t w.memory (length w.participants) o.last i.past o.moment i.place i.who own (since_of o id) (o.steps id + 1) (scan_after t.known.walks v.program.scan value v.program.walk) (scan_view t.known.walks v.program.scan value)
           outcome = rw doing.walk (reads t w.memory (ways_of w.participants) (length w.participants) o.last i.past o.moment i.place i.who i.consistent i.history (roll_now t w o i) i.present (reached_now t w o i) own (since_of o id) id mine v.program.scan goes.reads goes.collects (o.steps id) goes.walk goes.count few goes.collecting)
 
-          bound_after : (steps : ℕ) (s' : Scan K) → GoesOn t w.memory (length w.participants) o.last i.past i.place i.who own (since_of o id) steps s' → steps + 1 ≤ (length w.participants + 1) * t.ties.reads (t.most_of w.memory) (length w.participants)
+          bound_after : (steps : ℕ) (s' : Scan K) → GoesOn t w.memory (length w.participants) o.last i.past i.place i.who own (since_of o id) steps s' → steps + 1 ≤ (length w.participants + 1) * t.known.ties.reads (t.known.most_of w.memory) (length w.participants)
           bound_after = steps_bound t w.memory (ways_of w.participants) (length w.participants) o.last i.past o.moment i.place i.who i.consistent i.history (roll_now t w o i) i.present (reached_now t w o i) own (since_of o id) id mine
 
           bound : o.steps id + 1 ≤ scans o.begun
@@ -232,34 +232,34 @@ module _ {S R V U K : Type 0} (t : KnownPlaces S R V U K) (w : SnapState S U K) 
               record { index = shown.0; inside = shown.2; count = omega arith; is = shown.3 }
 
         -- a read changes no memory
-        looked : (ps : List (Participant (Client U K))) (o' : SnapObject) → IsTied t (record { memory = w.memory; most = w.most; participants = ps }) o' → IsTied t (record { memory = t.memory.after w.memory (Read (t.walks.next v.program.scan.walk)); most = w.most; participants = ps }) o'
-        looked ps o' k = subst (λ (m : S). IsTied t (record { memory = m; most = w.most; participants = ps }) o') (sym (t.laws.looked w.memory (t.walks.next v.program.scan.walk))) k
+        looked : (ps : List (Participant (Client U K))) (o' : SnapObject) → IsTied t (record { memory = w.memory; most = w.most; participants = ps }) o' → IsTied t (record { memory = t.known.memory.after w.memory (Read (t.known.walks.next v.program.scan.walk)); most = w.most; participants = ps }) o'
+        looked ps o' k = subst (λ (m : S). IsTied t (record { memory = m; most = w.most; participants = ps }) o') (sym (t.laws.looked w.memory (t.known.walks.next v.program.scan.walk))) k
 
         scan_step : v.program.pending ≡ Scans → IsAtTask t (era_now t w o i) (o.task id) (o.steps id) (o.since id) v.program (Some own) Scans → Follows Scans
         scan_step pending k =
             let task = k.0 in
-            elim (scan_view t.walks v.program.scan value) as (λ s. Outcome t w.memory (length w.participants) o.last i.past o.moment i.place i.who own (since_of o id) (o.steps id + 1) (scan_after t.walks v.program.scan value v.program.walk) s →
+            elim (scan_view t.known.walks v.program.scan value) as (λ s. Outcome t w.memory (length w.participants) o.last i.past o.moment i.place i.who own (since_of o id) (o.steps id + 1) (scan_after t.known.walks v.program.scan value v.program.walk) s →
             Allows (bounds_with t scans) o (Stepped id (Ok (told (note_after s None))))
             × IsTied t (record {
-              memory = t.memory.after w.memory (Read (t.walks.next v.program.scan.walk));
+              memory = t.known.memory.after w.memory (Read (t.known.walks.next v.program.scan.walk));
               most = w.most;
               participants = with_participant (record {
                 identity = v.identity;
-                program = record v.program { scan = scan_after t.walks v.program.scan value v.program.walk; pending = pending_after s None v.program.pending };
+                program = record v.program { scan = scan_after t.known.walks v.program.scan value v.program.walk; pending = pending_after s None v.program.pending };
                 ended = ends (note_after s None);
               }) w.participants;
             }) (observed o (Stepped id (Ok (told (note_after s None)))))) [
               | None ↦ λ g. (
-                rw task (still k.2 (scan_after t.walks v.program.scan value v.program.walk) g),
-                looked _ _ (rw (own_name, pending) (tied_with t w o i id v there (record v.program { scan = scan_after t.walks v.program.scan value v.program.walk; pending = Scans }) refl (o.task id) (o.steps id + 1) (since_of o id) (record {
+                rw task (still k.2 (scan_after t.known.walks v.program.scan value v.program.walk) g),
+                looked _ _ (rw (own_name, pending) (tied_with t w o i id v there (record v.program { scan = scan_after t.known.walks v.program.scan value v.program.walk; pending = Scans }) refl (o.task id) (o.steps id + 1) (since_of o id) (record {
                   identity = doing.identity;
                   walk = doing.walk;
-                  at = rw at (task, k.1, goes_further k.2 (scan_after t.walks v.program.scan value v.program.walk) g);
+                  at = rw at (task, k.1, goes_further k.2 (scan_after t.known.walks v.program.scan value v.program.walk) g);
                 }))),
               )
               | Some view ↦ λ shown. (
                 (task, rw task (bound k.2), record { index = shown.0; no_earlier = shown.1; no_later = shown.2; is = shown.3 }),
-                looked _ _ (rw own_name (tied_with t w o i id v there (record v.program { scan = scan_after t.walks v.program.scan value v.program.walk; pending = Nothing }) refl Idle (o.steps id + 1) (since_of o id) (record {
+                looked _ _ (rw own_name (tied_with t w o i id v there (record v.program { scan = scan_after t.known.walks v.program.scan value v.program.walk; pending = Nothing }) refl Idle (o.steps id + 1) (since_of o id) (record {
                   identity = doing.identity;
                   walk = doing.walk;
                   at = rw at k.1;
@@ -270,28 +270,28 @@ module _ {S R V U K : Type 0} (t : KnownPlaces S R V U K) (w : SnapState S U K) 
         update_step : (new_value : ℕ) → v.program.pending ≡ Update new_value → IsAtTask t (era_now t w o i) (o.task id) (o.steps id) (o.since id) v.program (Some own) (Update new_value) → Follows (Update new_value)
         update_step new_value pending k =
             let task = k.0 in
-            elim (scan_view t.walks v.program.scan value) as (λ s. Outcome t w.memory (length w.participants) o.last i.past o.moment i.place i.who own (since_of o id) (o.steps id + 1) (scan_after t.walks v.program.scan value v.program.walk) s →
+            elim (scan_view t.known.walks v.program.scan value) as (λ s. Outcome t w.memory (length w.participants) o.last i.past o.moment i.place i.who own (since_of o id) (o.steps id + 1) (scan_after t.known.walks v.program.scan value v.program.walk) s →
             Allows (bounds_with t scans) o (Stepped id (Ok (told (note_after s (Some new_value)))))
             × IsTied t (record {
-              memory = t.memory.after w.memory (Read (t.walks.next v.program.scan.walk));
+              memory = t.known.memory.after w.memory (Read (t.known.walks.next v.program.scan.walk));
               most = w.most;
               participants = with_participant (record {
                 identity = v.identity;
-                program = record v.program { scan = scan_after t.walks v.program.scan value v.program.walk; pending = pending_after s (Some new_value) v.program.pending };
+                program = record v.program { scan = scan_after t.known.walks v.program.scan value v.program.walk; pending = pending_after s (Some new_value) v.program.pending };
                 ended = ends (note_after s (Some new_value));
               }) w.participants;
             }) (observed o (Stepped id (Ok (told (note_after s (Some new_value))))))) [
               | None ↦ λ g. (
                 rw task (let b = bound k.2 in omega arith),
-                looked _ _ (rw (own_name, pending) (tied_with t w o i id v there (record v.program { scan = scan_after t.walks v.program.scan value v.program.walk; pending = Update new_value }) refl (o.task id) (o.steps id + 1) (since_of o id) (record {
+                looked _ _ (rw (own_name, pending) (tied_with t w o i id v there (record v.program { scan = scan_after t.known.walks v.program.scan value v.program.walk; pending = Update new_value }) refl (o.task id) (o.steps id + 1) (since_of o id) (record {
                   identity = doing.identity;
                   walk = doing.walk;
-                  at = rw at (task, k.1, goes_further k.2 (scan_after t.walks v.program.scan value v.program.walk) g);
+                  at = rw at (task, k.1, goes_further k.2 (scan_after t.known.walks v.program.scan value v.program.walk) g);
                 }))),
               )
               | Some view ↦ λ shown. (
                 rw task (let b = bound k.2 in omega arith),
-                looked _ _ (rw own_name (tied_with t w o i id v there (record v.program { scan = scan_after t.walks v.program.scan value v.program.walk; pending = Writing new_value view }) refl (o.task id) (o.steps id + 1) (since_of o id) (record {
+                looked _ _ (rw own_name (tied_with t w o i id v there (record v.program { scan = scan_after t.known.walks v.program.scan value v.program.walk; pending = Writing new_value view }) refl (o.task id) (o.steps id + 1) (since_of o id) (record {
                   identity = doing.identity;
                   walk = doing.walk;
                   at = rw at (task, k.1, helps k.2 view k.1 shown, bound_after k.2 (o.steps id) v.program.scan (goes k.2));
@@ -307,51 +307,51 @@ module _ {S R V U K : Type 0} (t : KnownPlaces S R V U K) (w : SnapState S U K) 
             rw at ((rw task tt, rw task (omega arith)), rw (own_name, task) (tied_written t w o i id v there (with_pending v.program Nothing) refl own at (record_of v.program new_value view) doing.identity (sym k.1) k.2 (o.steps id + 1) (since_of o id) doing.identity doing.walk refl refl))
 
       -- p is on its way
-      module _ (at : t.place_of v.program.walker ≡ None) (pending : v.program.pending ≡ Places) (k : IsAtTask t (era_now t w o i) (o.task id) (o.steps id) (o.since id) v.program None Places) where
+      module _ (at : t.known.place_of v.program.walker ≡ None) (pending : v.program.pending ≡ Places) (k : IsAtTask t (era_now t w o i) (o.task id) (o.steps id) (o.since id) v.program None Places) where
         abbrev u : U
         u = v.program.walker
 
         abbrev answer_now : Answer V
-        answer_now = answer_from (t.memory.register w.memory) (t.walker.next u)
+        answer_now = answer_from (t.known.memory.register w.memory) (t.known.walker.next u)
 
         abbrev later : S
-        later = t.memory.after w.memory (t.walker.next u)
+        later = t.known.memory.after w.memory (t.known.walker.next u)
 
         absent_place : i.place id ≡ None
-        absent_place = i.placed id ∙ ap (place_by t.place_of) way ∙ at
+        absent_place = i.placed id ∙ ap (place_by t.known.place_of) way ∙ at
 
-        gone : HasGoneOn t.walker t.place_of t.walks t.memory t.most_of t.walk_from t.ties w.memory later (length w.participants) (ways_of w.participants) id u answer_now
+        gone : HasGoneOn t.known w.memory later (length w.participants) (ways_of w.participants) id u answer_now
         gone = t.laws.gone_on w.memory (length w.participants) (ways_of w.participants) i.consistent id u way at
 
         up : length w.participants ≤ length w.participants
         up = omega arith
 
-        more : t.ties.reads (t.most_of w.memory) (length w.participants) ≤ t.ties.reads (t.most_of w.memory) (length w.participants)
+        more : t.known.ties.reads (t.known.most_of w.memory) (length w.participants) ≤ t.known.ties.reads (t.known.most_of w.memory) (length w.participants)
         more = omega arith
 
-        steps_before : o.steps id + 1 ≤ t.ties.accesses_of (t.walker.resumed u answer_now)
+        steps_before : o.steps id + 1 ≤ t.known.ties.accesses_of (t.known.walker.resumed u answer_now)
         steps_before = let few_steps = k.2 in let on = gone.nearer in omega arith
 
         -- p after its access, with this still to do
         abbrev walked : Pending → Client U K
-        walked z = record v.program { walker = t.walker.resumed u answer_now; pending = z }
+        walked z = record v.program { walker = t.known.walker.resumed u answer_now; pending = z }
 
         abbrev era_walked : Era S
-        era_walked = record { memory = later; begun = length w.participants; last = o.last; past = i.past; moment = o.moment; place = set_at i.place id (t.place_of (t.walker.resumed u answer_now)); who = i.who }
+        era_walked = record { memory = later; begun = length w.participants; last = o.last; past = i.past; moment = o.moment; place = set_at i.place id (t.known.place_of (t.known.walker.resumed u answer_now)); who = i.who }
 
         went : (z : Pending) (o' : SnapObject) → o'.begun ≡ o.begun → o'.last ≡ o.last → o'.moment ≡ o.moment → ((q : ℕ) → q ≢ id → (o'.task q ≡ o.task q) × (o'.steps q ≡ o.steps q) × (o'.since q ≡ o.since q)) →
-            ((q x : ℕ) → o'.place q ≡ Some x → (o.place q ≡ Some x) ⊎ ((q ≡ id) × (t.place_of (t.walker.resumed u answer_now) ≡ Some x))) →
+            ((q x : ℕ) → o'.place q ≡ Some x → (o.place q ≡ Some x) ⊎ ((q ≡ id) × (t.known.place_of (t.known.walker.resumed u answer_now) ≡ Some x))) →
             IsDoing t era_walked (o'.task id) (o'.steps id) (o'.since id) id (walked z) → IsTied t (world_with w later id (walked z)) o'
         went z o' begun last moment others told_place does =
             tied_joined t w o i id (walked z) later (length w.participants) i.who absent_place up more (λ j l. refl) (i.listed id u way) gone.consistent gone.segments gone.kept
             (with_participant (record { identity = id; program = walked z; ended = false }) w.participants) (put_there w.participants id v (walked z) there)
             (length-with_participant w.participants (record { identity = id; program = walked z; ended = false })) o' (begun ∙ i.counted) last moment others told_place does
 
-        nothing_stood : (x : ℕ) → t.place_of (t.walker.resumed u answer_now) ≡ Some x → i.past o.last x ≡ None
+        nothing_stood : (x : ℕ) → t.known.place_of (t.known.walker.resumed u answer_now) ≡ Some x → i.past o.last x ≡ None
         nothing_stood x e = nothing_yet t w o i id (walked Nothing) later (length w.participants) i.who absent_place up more (λ j l. refl) (i.listed id u way) gone.consistent gone.segments gone.kept x o.last e (omega arith)
 
         -- no one has told the place that p has reached
-        is_free : (x : ℕ) → t.place_of (t.walker.resumed u answer_now) ≡ Some x → (q : ℕ) → o.place q ≢ Some x
+        is_free : (x : ℕ) → t.known.place_of (t.known.walker.resumed u answer_now) ≡ Some x → (q : ℕ) → o.place q ≢ Some x
         is_free x e q h = free t w o i id (walked Nothing) later (length w.participants) i.who absent_place up more (λ j l. refl) (i.listed id u way) gone.consistent gone.segments gone.kept q x (i.told q x h) e
 
         -- and p has told none
@@ -362,9 +362,9 @@ module _ {S R V U K : Type 0} (t : KnownPlaces S R V U K) (w : SnapState S U K) 
         ] refl
 
         -- the way goes on
-        stays : t.place_of (t.walker.resumed u answer_now) ≡ None → (o.steps id + 1 < t.ties.placing o.begun) × IsTied t (world_with w later id (walked Places)) (observed o (Stepped id (Ok Silent)))
+        stays : t.known.place_of (t.known.walker.resumed u answer_now) ≡ None → (o.steps id + 1 < t.known.ties.placing o.begun) × IsTied t (world_with w later id (walked Places)) (observed o (Stepped id (Ok Silent)))
         stays none =
-            let left = t.laws.unplaced later (length w.participants) (set_at (ways_of w.participants) id (Some (t.walker.resumed u answer_now))) gone.consistent id (t.walker.resumed u answer_now) (set_at-same (ways_of w.participants) id (Some (t.walker.resumed u answer_now))) none in
+            let left = t.laws.unplaced later (length w.participants) (set_at (ways_of w.participants) id (Some (t.known.walker.resumed u answer_now))) gone.consistent id (t.known.walker.resumed u answer_now) (set_at-same (ways_of w.participants) id (Some (t.known.walker.resumed u answer_now))) none in
             let before = steps_before in (
               rw i.counted (omega arith),
               went Places (observed o (Stepped id (Ok Silent))) refl refl refl
@@ -378,7 +378,7 @@ module _ {S R V U K : Type 0} (t : KnownPlaces S R V U K) (w : SnapState S U K) 
             )
 
         -- the way has reached a place
-        arrives : (x : ℕ) → t.place_of (t.walker.resumed u answer_now) ≡ Some x →
+        arrives : (x : ℕ) → t.known.place_of (t.known.walker.resumed u answer_now) ≡ Some x →
             Allows (bounds_with t scans) o (Stepped id (Ok (Placed x))) × IsTied t (world_with w later id (walked Nothing)) (observed o (Stepped id (Ok (Placed x))))
         arrives x e =
             let left = t.laws.unplaced w.memory (length w.participants) (ways_of w.participants) i.consistent id u way at in
@@ -399,31 +399,31 @@ module _ {S R V U K : Type 0} (t : KnownPlaces S R V U K) (w : SnapState S U K) 
             )
 
         -- without the note that it has ended, a way has no place
-        no_place : (n : Note ℕ) → t.walker.note u answer_now ≡ n → ((x : ℕ) → n ≢ Ended x) → t.place_of (t.walker.resumed u answer_now) ≡ None
-        no_place n e never = elim (t.place_of (t.walker.resumed u answer_now)) as (λ z. t.place_of (t.walker.resumed u answer_now) ≡ z → z ≡ None) [
+        no_place : (n : Note ℕ) → t.known.walker.note u answer_now ≡ n → ((x : ℕ) → n ≢ Ended x) → t.known.place_of (t.known.walker.resumed u answer_now) ≡ None
+        no_place n e never = elim (t.known.place_of (t.known.walker.resumed u answer_now)) as (λ z. t.known.place_of (t.known.walker.resumed u answer_now) ≡ z → z ≡ None) [
           | None ↦ λ _. refl
           | Some x ↦ λ h. absurd (never x (sym e ∙ (gone.ended x).1 h))
         ] refl
 
-        place_by_note : (n : Note ℕ) → t.walker.note u answer_now ≡ n →
-            Allows (bounds_with t scans) o (Stepped id (Ok (told (placed_note t.walker n))))
+        place_by_note : (n : Note ℕ) → t.known.walker.note u answer_now ≡ n →
+            Allows (bounds_with t scans) o (Stepped id (Ok (told (placed_note t.known.walker n))))
             × IsTied t (record {
               memory = later;
               most = w.most;
               participants = with_participant (record {
                 identity = v.identity;
-                program = walked (cond (is_placed t.walker n) Nothing v.program.pending);
-                ended = ends (placed_note t.walker n);
+                program = walked (cond (is_placed t.known.walker n) Nothing v.program.pending);
+                ended = ends (placed_note t.known.walker n);
               }) w.participants;
-            }) (observed o (Stepped id (Ok (told (placed_note t.walker n)))))
+            }) (observed o (Stepped id (Ok (told (placed_note t.known.walker n)))))
         place_by_note Quiet e = let s = stays (no_place Quiet e (λ x h. absurd (cc))) in (rw k.0 s.0, rw (own_name, pending) s.1)
         place_by_note (Said y) e = let s = stays (no_place (Said y) e (λ x h. absurd (cc))) in (rw k.0 s.0, rw (own_name, pending) s.1)
         place_by_note (Ended x) e = let s = arrives x ((gone.ended x).0 e) in (s.0, rw own_name s.1)
 
         place_step : Follows Places
-        place_step = place_by_note (t.walker.note u answer_now) refl
+        place_step = place_by_note (t.known.walker.note u answer_now) refl
 
-      step_by : (at : Option ℕ) → t.place_of v.program.walker ≡ at → (z : Pending) → v.program.pending ≡ z → is_idle z ≡ false → IsAtTask t (era_now t w o i) (o.task id) (o.steps id) (o.since id) v.program at z → Follows z
+      step_by : (at : Option ℕ) → t.known.place_of v.program.walker ≡ at → (z : Pending) → v.program.pending ≡ z → is_idle z ≡ false → IsAtTask t (era_now t w o i) (o.task id) (o.steps id) (o.since id) v.program at z → Follows z
       step_by None at Nothing pending busy k = absurd k
       step_by None at Places pending busy k = place_step at pending k
       step_by None at Scans pending busy k = absurd k
@@ -436,13 +436,13 @@ module _ {S R V U K : Type 0} (t : KnownPlaces S R V U K) (w : SnapState S U K) 
       step_by (Some own) at (Writing new_value view) pending busy k = write_step own at new_value view pending k
 
       step_follows : (z : Pending) → v.program.pending ≡ z → is_idle z ≡ false → Follows z
-      step_follows z pending busy = step_by (t.place_of v.program.walker) refl z pending busy (rw pending at doing.at)
+      step_follows z pending busy = step_by (t.known.place_of v.program.walker) refl z pending busy (rw pending at doing.at)
 
     abbrev answer : Result SnapReply Refusal
-    answer = snap_answer t.walker t.place_of t.walks t.memory w id
+    answer = snap_answer t.known w id
 
     abbrev after : SnapState S U K
-    after = after_snap_step t.walker t.place_of t.walks t.memory w id
+    after = after_snap_step t.known w id
 
     by_answer : (reply : Result SnapReply Refusal) (w' : SnapState S U K) → answer ≡ reply → after ≡ w' → Allows (bounds_with t scans) o (Stepped id reply) × IsTied t (cond (lacked_memory reply) w w') (observed o (Stepped id reply)) →
         Allows (bounds_with t scans) o (Stepped id answer) × IsTied t (cond (lacked_memory answer) w after) (observed o (Stepped id answer))
@@ -455,46 +455,74 @@ module _ {S R V U K : Type 0} (t : KnownPlaces S R V U K) (w : SnapState S U K) 
       | None ↦ λ e.
           let none : None ≡ program_of id w.participants = sym (ap (option_map (λ u. u.program)) e) in
           by_answer (Err NotBegun) w
-          (sym (absent_answer t.walker t.place_of t.walks t.memory t.walker_from t.walk_from w id none))
-          (sym (absent_state t.walker t.place_of t.walks t.memory t.walker_from t.walk_from w id none)) (tt, i)
+          (sym (absent_answer t.known w id none))
+          (sym (absent_state t.known w id none)) (λ h. absurd (cc), i)
       | Some v ↦ λ e.
           let some : Some v.program ≡ program_of id w.participants = sym (ap (option_map (λ u. u.program)) e) in
           elim (cases_Bool (is_idle v.program.pending)) [
             | inl idle ↦ by_answer (Err Finished) w
-                (sym (idle_answer t.walker t.place_of t.walks t.memory t.walker_from t.walk_from w id v.program some idle))
-                (sym (idle_state t.walker t.place_of t.walks t.memory t.walker_from t.walk_from w id v.program some idle)) (tt, i)
+                (sym (idle_answer t.known w id v.program some idle))
+                (sym (idle_state t.known w id v.program some idle)) (λ h. absurd (cc), i)
             | inr busy ↦
                 let on : v.ended ≡ false = (i.named id v e).1 in
-                let ea : answer ≡ Ok (told (note_for t.walker t.walks v.program v.program.pending (got v e v.program.pending))) =
-                busy_answer t.walker t.place_of t.walks t.memory t.walker_from t.walk_from w id v.program some busy ∙ ap (reply_of told) (going_answer (client_steps t.walker t.place_of t.walks) t.memory w id v e on) in
+                let ea : answer ≡ Ok (told (note_for t.known.walker t.known.walks v.program v.program.pending (got v e v.program.pending))) =
+                busy_answer t.known w id v.program some busy ∙ ap (reply_of told) (going_answer (clients_over t.known) t.known.memory w id v e on) in
                 let eb : after ≡ record {
-                  memory = t.memory.after w.memory (access_for t.walker t.place_of t.walks v.program v.program.pending);
+                  memory = t.known.memory.after w.memory (access_for t.known.walker t.known.place_of t.known.walks v.program v.program.pending);
                   most = w.most;
                   participants = with_participant (record {
                     identity = v.identity;
-                    program = after_for t.walker t.walks v.program v.program.pending (got v e v.program.pending);
-                    ended = ends (note_for t.walker t.walks v.program v.program.pending (got v e v.program.pending));
+                    program = after_for t.known.walker t.known.walks v.program v.program.pending (got v e v.program.pending);
+                    ended = ends (note_for t.known.walker t.known.walks v.program v.program.pending (got v e v.program.pending));
                   }) w.participants;
-                } = busy_state t.walker t.place_of t.walks t.memory t.walker_from t.walk_from w id v.program some busy ∙ going_after (client_steps t.walker t.place_of t.walks) t.memory w id v e on in
+                } = busy_state t.known w id v.program some busy ∙ going_after (clients_over t.known) t.known.memory w id v e on in
                 by_answer _ _ ea eb (step_follows v e v.program.pending refl busy)
           ]
     ] refl
 
-module _ {S R V U K : Type 0} (t : KnownPlaces S R V U K) (scans : ℕ → ℕ) where
+-- only one who is on its way to a place may lack memory
+module _ {S R V U K : Type 0} (t : LawfulPlaces S R V U K) (w : SnapState S U K) (o : SnapObject) (i : IsTied t w o) (id : ℕ) where
+  module _ (v : Participant (Client U K)) (there : participant_of id w.participants ≡ Some v) where
+    abbrev Lacks : Pending → Type 0
+    Lacks z = t.known.memory.may_refuse w.memory (access_for t.known.walker t.known.place_of t.known.walks v.program z) ≡ true
+
+    lacks_at : (at : Option ℕ) → t.known.place_of v.program.walker ≡ at → (z : Pending) → IsAtTask t (era_now t w o i) (o.task id) (o.steps id) (o.since id) v.program at z → Lacks z → o.task id ≡ Placing
+    lacks_at None at Nothing k h = absurd k
+    lacks_at None at Places k h = k.0
+    lacks_at None at Scans k h = absurd k
+    lacks_at None at (Update new_value) k h = absurd k
+    lacks_at None at (Writing new_value view) k h = absurd k
+    lacks_at (Some own) at Nothing k h = absurd (let sure = t.laws.sure_nothing w.memory in cc)
+    lacks_at (Some own) at Places k h = absurd k
+    lacks_at (Some own) at Scans k h = absurd (let sure = t.laws.sure_reads w.memory (t.known.walks.next v.program.scan.walk) in cc)
+    lacks_at (Some own) at (Update new_value) k h = absurd (let sure = t.laws.sure_reads w.memory (t.known.walks.next v.program.scan.walk) in cc)
+    lacks_at (Some own) at (Writing new_value view) k h =
+        let may : t.known.memory.may_refuse w.memory (Write (t.known.walks.segment own) (t.known.walks.stored (Some (record_of v.program new_value view)))) ≡ true = rw at at h in
+        absurd (let sure = t.laws.sure_writes w.memory own (Some (record_of v.program new_value view)) in cc)
+
+  lacks_on_way : may_lack_memory t.known w id ≡ true → o.task id ≡ Placing
+  lacks_on_way = elim (participant_of id w.participants) as (λ z. participant_of id w.participants ≡ z → may_refuse_by (clients_over t.known) t.known.memory w.memory z ≡ true → o.task id ≡ Placing) [
+    | None ↦ λ e h. absurd (cc)
+    | Some v ↦ λ e h.
+        let on : v.ended ≡ false = (i.named id v e).1 in
+        lacks_at v e (t.known.place_of v.program.walker) refl v.program.pending (i.clients id v e).at (rw on at h)
+  ] refl
+
+module _ {S R V U K : Type 0} (t : LawfulPlaces S R V U K) (scans : ℕ → ℕ) where
   -- the machine over these places
   abbrev pub next_of : SnapState S U K → SnapCall → SnapState S U K
-  next_of = next t.walker t.place_of t.walks t.memory t.walker_from t.walk_from
+  next_of = next t.known
 
   abbrev pub IsReplyOf : SnapState S U K → SnapCall → Type 0
-  IsReplyOf = IsReply t.walker t.place_of t.walks t.memory t.walker_from t.walk_from
+  IsReplyOf = IsReply t.known
 
   -- a call is one of the object, and the tie holds after it
-  follows : (w : SnapState S U K) (o : SnapObject) → IsTied t w o → BoundsScans t.ties w.most scans → (h : SnapCall) → IsReplyOf w h → Allows (bounds_with t scans) o h × IsTied t (next_of w h) (observed o h)
+  follows : (w : SnapState S U K) (o : SnapObject) → IsTied t w o → BoundsScans t.known w.most scans → (h : SnapCall) → IsReplyOf w h → Allows (bounds_with t scans) o h × IsTied t (next_of w h) (observed o h)
   follows w o i fits (Began id reply) is = (tt, rw is (begin_follows t w o i id))
   follows w o i fits (Updated id new_value reply) is = (tt, rw is (update_follows t w o i id new_value))
   follows w o i fits (Scanned id reply) is = (tt, rw is (scan_follows t w o i id))
   follows w o i fits (Stepped id reply) (inl is) = rw is (stepped_follows t w o i id scans fits)
-  follows w o i fits (Stepped id reply) (inr is) = rw is.0 (tt, i)
+  follows w o i fits (Stepped id reply) (inr is) = rw is.0 (λ h. lacks_on_way t w o i id is.1, i)
 
   -- who has told its place keeps it
   place_stays : (o : SnapObject) (h : SnapCall) (p x : ℕ) → Allows (bounds_with t scans) o h → o.place p ≡ Some x → (observed o h).place p ≡ Some x
@@ -529,46 +557,54 @@ module _ {S R V U K : Type 0} (t : KnownPlaces S R V U K) (scans : ℕ → ℕ) 
     pub same_most : w.most ≡ most
     pub answered : (p x : ℕ) → Contains r (Stepped p (Ok (Placed x))) → object.place p ≡ Some x
 
-  holds_on : (most : ℕ) → BoundsScans t.ties most scans → (w : SnapState S U K) (r : List SnapCall) (h : SnapCall) → Holds most w r → IsReplyOf w h → Holds most (next_of w h) (r ++ h ∷ [])
+  holds_on : (most : ℕ) → BoundsScans t.known most scans → (w : SnapState S U K) (r : List SnapCall) (h : SnapCall) → Holds most w r → IsReplyOf w h → Holds most (next_of w h) (r ++ h ∷ [])
   holds_on most fits w r h k is =
       let f = follows w k.object k.tied (rw k.same_most fits) h is in
       record {
         object = observed k.object h;
         run = run_more observed (Allows (bounds_with t scans)) new_object r k.object h k.run f.0;
         tied = f.1;
-        same_most = most_kept t.walker t.place_of t.walks t.memory t.walker_from t.walk_from w h ∙ k.same_most;
+        same_most = most_kept t.known w h ∙ k.same_most;
         answered = λ p x c. elim (Contains-append_cases r (h ∷ []) (Stepped p (Ok (Placed x))) c) [
           | inl old ↦ place_stays k.object h p x f.0 (k.answered p x old)
           | inr now ↦ told_now k.object h p x (only_call h (Stepped p (Ok (Placed x))) now)
         ];
       }
 
-  pub holds_after : (first : S) → t.ties.IsNew first → BoundsScans t.ties (t.most_of first) scans → (w : SnapState S U K) (r : List SnapCall) → IsAfter t.walker t.place_of t.walks t.memory t.walker_from t.walk_from t.most_of first w r → Holds (t.most_of first) w r
+  pub holds_after : (first : S) → t.known.ties.IsNew first → BoundsScans t.known (t.known.most_of first) scans → (w : SnapState S U K) (r : List SnapCall) → IsAfter t.known first w r → Holds (t.known.most_of first) w r
   holds_after first new fits w r a =
-      let start : Holds (t.most_of first) (record { memory = first; most = t.most_of first; participants = [] }) [] = record { object = new_object; run = refl; tied = tied_new t first new; same_most = refl; answered = λ p x c. absurd (let l = c.1 in omega arith) } in
-      run_keeps next_of IsReplyOf (Holds (t.most_of first)) (holds_on (t.most_of first) fits) (record { memory = first; most = t.most_of first; participants = [] }) [] r w start a
+      let start : Holds (t.known.most_of first) (record { memory = first; most = t.known.most_of first; participants = [] }) [] = record { object = new_object; run = refl; tied = tied_new t first new; same_most = refl; answered = λ p x c. absurd (let l = c.1 in omega arith) } in
+      run_keeps next_of IsReplyOf (Holds (t.known.most_of first)) (holds_on (t.known.most_of first) fits) (record { memory = first; most = t.known.most_of first; participants = [] }) [] r w start a
 
   -- the place of a participant is that of its way
-  place_is : (w : SnapState S U K) (o : SnapObject) (i : IsTied t w o) (p : ℕ) → place_in t.place_of w p ≡ i.place p
-  place_is w o i p = elim (participant_of p w.participants) as (λ z. option_and_then (λ c. t.place_of c.walker) (option_map (λ v. v.program) z) ≡ place_by t.place_of (way_now z)) [ None ↦ refl | Some v ↦ refl ] ∙ sym (i.placed p)
+  place_is : (w : SnapState S U K) (o : SnapObject) (i : IsTied t w o) (p : ℕ) → place_in t.known w p ≡ i.place p
+  place_is w o i p = elim (participant_of p w.participants) as (λ z. option_and_then (λ c. t.known.place_of c.walker) (option_map (λ v. v.program) z) ≡ place_by t.known.place_of (way_now z)) [ None ↦ refl | Some v ↦ refl ] ∙ sym (i.placed p)
 
 -- the laws of a snapshot object over any places in which nothing was written at first
-module _ {S R V U K : Type 0} (walker : ProgramSteps U R V ℕ) (place_of : U → Option ℕ) (walks : WalkSteps K R V) (memory : MemorySteps S R V) (walker_from : ℕ → ℕ → U) (walk_from : S → K) (most_of : S → ℕ) (ties : PlaceTies S U K) (laws : PlacesLaws walker place_of walks memory most_of walker_from walk_from ties) where
-  abbrev known : KnownPlaces S R V U K
-  known = record { walker = walker; place_of = place_of; walks = walks; memory = memory; most_of = most_of; walker_from = walker_from; walk_from = walk_from; ties = ties; laws = laws }
+module _ {S R V U K : Type 0} (known : KnownPlaces S R V U K) (laws : PlacesLaws known) where
+  abbrev lawful : LawfulPlaces S R V U K
+  lawful = record { known = known; laws = laws }
 
   abbrev all_reads : S → ℕ → ℕ
-  all_reads first b = (b + 1) * ties.reads (most_of first) b
+  all_reads first b = (b + 1) * known.ties.reads (known.most_of first) b
 
-  pub law_holds : (w : SnapState S U K) (first : S) (r : List SnapCall) (scans : ℕ → ℕ) → ties.IsNew first → BoundsScans ties (most_of first) scans → IsAfter walker place_of walks memory walker_from walk_from most_of first w r → KeepsSnapshotLaw (record { placing = ties.placing; scanning = scans }) r
-  law_holds w first r scans new fits a = let k = holds_after known scans first new fits w r a in (k.object, k.run)
+  -- after every list of calls
+  after_all : (w : SnapState S U K) (first : S) (r : List SnapCall) → known.ties.IsNew first → IsAfter known first w r → Holds lawful (all_reads first) (known.most_of first) w r
+  after_all w first r new a = holds_after lawful (all_reads first) first new (λ b some l. omega arith) w r a
 
-  pub distinct_holds : (w : SnapState S U K) (id : ℕ) (first : S) (r : List SnapCall) → ties.IsNew first → IsAfter walker place_of walks memory walker_from walk_from most_of first w r → (x : ℕ) → place_in place_of w id ≡ Some x → (other : ℕ) → place_in place_of w other ≡ Some x → other ≡ id
+  pub law_holds : (w : SnapState S U K) → IsLawful known w
+  law_holds w first r scans new fits a = let k = holds_after lawful scans first new fits w r a in (k.object, k.run)
+
+  pub distinct_holds : (w : SnapState S U K) (id : ℕ) (first : S) (r : List SnapCall) → known.ties.IsNew first → IsAfter known first w r → (x : ℕ) → place_in known w id ≡ Some x → (other : ℕ) → place_in known w other ≡ Some x → other ≡ id
   distinct_holds w id first r new a x mine other theirs =
-      let k = holds_after known (all_reads first) first new (λ b l. omega arith) w r a in
-      k.tied.history.distinct other id x (sym (place_is known (all_reads first) w k.object k.tied other) ∙ theirs) (sym (place_is known (all_reads first) w k.object k.tied id) ∙ mine)
+      let k = after_all w first r new a in
+      k.tied.history.distinct other id x (sym (place_is lawful (all_reads first) w k.object k.tied other) ∙ theirs) (sym (place_is lawful (all_reads first) w k.object k.tied id) ∙ mine)
 
-  pub told_holds : (w : SnapState S U K) (id : ℕ) (first : S) (r : List SnapCall) → ties.IsNew first → IsAfter walker place_of walks memory walker_from walk_from most_of first w r → (x : ℕ) → Contains r (Stepped id (Ok (Placed x))) → place_in place_of w id ≡ Some x
+  pub told_holds : (w : SnapState S U K) (id : ℕ) (first : S) (r : List SnapCall) → known.ties.IsNew first → IsAfter known first w r → (x : ℕ) → Contains r (Stepped id (Ok (Placed x))) → place_in known w id ≡ Some x
   told_holds w id first r new a x c =
-      let k = holds_after known (all_reads first) first new (λ b l. omega arith) w r a in
-      place_is known (all_reads first) w k.object k.tied id ∙ k.tied.told id x (k.answered id x c)
+      let k = after_all w first r new a in
+      place_is lawful (all_reads first) w k.object k.tied id ∙ k.tied.told id x (k.answered id x c)
+
+  -- the memory agrees with those who have begun
+  pub consistent_holds : (w : SnapState S U K) (first : S) (r : List SnapCall) → known.ties.IsNew first → IsAfter known first w r → known.ties.IsConsistent w.memory (length w.participants) (ways_of w.participants)
+  consistent_holds w first r new a = let k = after_all w first r new a in k.tied.consistent

@@ -3,9 +3,10 @@ pub mod SnapWorldLemmas
 pub mod Counting
 pub mod Histories
 pub mod Collecting
-pub mod KnownPlaces
+pub mod LawfulPlaces
 pub mod Reading
 pub mod Tied
 pub mod Going
 pub mod Following
+pub mod SureSteps
 pub mod FixedLaw

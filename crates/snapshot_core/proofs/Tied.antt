@@ -1,5 +1,5 @@
 -- what ties a snapshot object over any places to the object of its law
-use Rattle.std.proofs.Common.{◌≡◌, ◌≢◌, ℕ, suc, ◌+◌, ◌*◌, ◌<◌, ◌≤◌, ◌==◌, true, false, cond, ◌⊎◌, List, [], ◌∷◌, length, Option, Some, None, inl, inr, refl, sym, ap, subst, ◌∙◌, arith}
+use Rattle.std.proofs.Common.{◌≡◌, ◌≢◌, ℕ, ◌+◌, ◌*◌, ◌<◌, ◌≤◌, false, ◌⊎◌, List, [], length, Option, Some, None, inl, inr, refl, sym, ap, subst, ◌∙◌, arith}
 use Rattle.std.proofs.Math.Path.{fun_ext}
 use Rattle.std.proofs.lemmas.Bool.Decides.{eqb_tells}
 use Rattle.step_memory.specs.SetAt.{set_at}
@@ -13,23 +13,14 @@ use Rattle.snapshot_core.specs.declared.client.Client.{Client}
 use Rattle.snapshot_core.specs.declared.client.Pending.{Pending}
 use Rattle.snapshot_core.specs.declared.client.Pending.TheVariants.{Nothing, Placing as Places, Scan as Scans, Update, Write as Writing}
 use Rattle.snapshot_core.specs.Scan.{scan_from}
-use Rattle.snapshot_core.specs.SnapWorld.{SnapState}
+use Rattle.snapshot_core.specs.SnapWorld.{SnapState, way_now, ways_of}
 use Rattle.snapshot_core.specs.Places.{segment_in}
 use Rattle.snapshot_core.specs.Snapshot.{Task, SnapObject, new_object}
 use Rattle.snapshot_core.specs.Snapshot.Task.{Placing, Scanning, Updating}
-use Rattle.snapshot_core.proofs.KnownPlaces.{KnownPlaces}
+use Rattle.snapshot_core.proofs.LawfulPlaces.{LawfulPlaces}
 use Rattle.snapshot_core.proofs.Histories.{number, IsHelp, IsHistory}
 use Rattle.snapshot_core.proofs.Collecting.{IsRoll}
 use Rattle.snapshot_core.proofs.Reading.{GoesOn, HasReached}
-
--- the way of a participant
-abbrev pub way_now : {U K : Type 0} → Option (Participant (Client U K)) → Option U
-way_now None = None
-way_now (Some v) = Some v.program.walker
-
--- the ways of those who have begun
-abbrev pub ways_of : {U K : Type 0} → List (Participant (Client U K)) → ℕ → Option U
-ways_of ps p = way_now (participant_of p ps)
 
 -- the place that a way has reached
 abbrev pub place_by : {U : Type 0} → (U → Option ℕ) → Option U → Option ℕ
@@ -47,20 +38,20 @@ pub record Era (S : Type 0) : Type 0 where
   pub place : ℕ → Option ℕ
   pub who : ℕ → ℕ
 
-abbrev pub most_reads : {S R V U K : Type 0} → KnownPlaces S R V U K → Era S → ℕ
-most_reads t e = t.ties.reads (t.most_of e.memory) e.begun
+abbrev pub most_reads : {S R V U K : Type 0} → LawfulPlaces S R V U K → Era S → ℕ
+most_reads t e = t.known.ties.reads (t.known.most_of e.memory) e.begun
 
-abbrev pub IsGoing : {S R V U K : Type 0} → KnownPlaces S R V U K → Era S → ℕ → ℕ → ℕ → Scan K → Type 0
+abbrev pub IsGoing : {S R V U K : Type 0} → LawfulPlaces S R V U K → Era S → ℕ → ℕ → ℕ → Scan K → Type 0
 IsGoing t e own since steps s = GoesOn t e.memory e.begun e.last e.past e.place e.who own since steps s
 
 -- a scan has made so many steps since a moment: it has read nothing, or goes on
-abbrev pub IsScanning : {S R V U K : Type 0} → KnownPlaces S R V U K → Era S → ℕ → ℕ → ℕ → Scan K → Type 0
-IsScanning t e own since steps s = ((steps ≡ 0) × (s ≡ scan_from (t.walk_from e.memory))) ⊎ ((0 < steps) × IsGoing t e own since steps s)
+abbrev pub IsScanning : {S R V U K : Type 0} → LawfulPlaces S R V U K → Era S → ℕ → ℕ → ℕ → Scan K → Type 0
+IsScanning t e own since steps s = ((steps ≡ 0) × (s ≡ scan_from (t.known.walk_from e.memory))) ⊎ ((0 < steps) × IsGoing t e own since steps s)
 
 -- what a participant still has to do agrees with what it was asked for. Who has no place is on its way
-abbrev pub IsAtTask : {S R V U K : Type 0} → KnownPlaces S R V U K → Era S → Task → ℕ → ℕ → Client U K → Option ℕ → Pending → Type 0
+abbrev pub IsAtTask : {S R V U K : Type 0} → LawfulPlaces S R V U K → Era S → Task → ℕ → ℕ → Client U K → Option ℕ → Pending → Type 0
 IsAtTask t e task steps since c None Nothing = ⊥
-IsAtTask t e task steps since c None Places = (task ≡ Placing) × (c.updates ≡ 0) × (steps ≤ t.ties.accesses_of c.walker)
+IsAtTask t e task steps since c None Places = (task ≡ Placing) × (c.updates ≡ 0) × (steps ≤ t.known.ties.accesses_of c.walker)
 IsAtTask t e task steps since c None Scans = ⊥
 IsAtTask t e task steps since c None (Update new_value) = ⊥
 IsAtTask t e task steps since c None (Writing new_value view) = ⊥
@@ -73,20 +64,20 @@ IsAtTask t e task steps since c (Some own) (Update new_value) =
 IsAtTask t e task steps since c (Some own) (Writing new_value view) =
     (task ≡ Updating new_value) × (c.updates ≡ number (e.past e.last own) + 1) × IsHelp e.last e.past e.moment own c.updates view × (steps ≤ (e.begun + 1) * most_reads t e)
 
-pub record IsDoing {S R V U K : Type 0} (t : KnownPlaces S R V U K) (e : Era S) (task : Task) (steps since p : ℕ) (c : Client U K) : Type 0 where
+pub record IsDoing {S R V U K : Type 0} (t : LawfulPlaces S R V U K) (e : Era S) (task : Task) (steps since p : ℕ) (c : Client U K) : Type 0 where
   pub identity : c.identity ≡ p
-  pub walk : c.walk ≡ t.walk_from e.memory
-  pub at : IsAtTask t e task steps since c (t.place_of c.walker) c.pending
+  pub walk : c.walk ≡ t.known.walk_from e.memory
+  pub at : IsAtTask t e task steps since c (t.known.place_of c.walker) c.pending
 
 -- what one who has this place finds when others have gone on
-pub record CarriesOn {S R V U K : Type 0} (t : KnownPlaces S R V U K) (e f : Era S) (own : ℕ) : Type 0 where
-  pub beginning : t.walk_from f.memory ≡ t.walk_from e.memory
+pub record CarriesOn {S R V U K : Type 0} (t : LawfulPlaces S R V U K) (e f : Era S) (own : ℕ) : Type 0 where
+  pub beginning : t.known.walk_from f.memory ≡ t.known.walk_from e.memory
   pub bound : (e.begun + 1) * most_reads t e ≤ (f.begun + 1) * most_reads t f
   pub mine : f.past f.last own ≡ e.past e.last own
   pub scans : (since steps : ℕ) (s : Scan K) → IsGoing t e own since steps s → IsGoing t f own since steps s
   pub helps : (n : ℕ) (view : List (ℕ × ℕ)) → IsHelp e.last e.past e.moment own n view → IsHelp f.last f.past f.moment own n view
 
-module _ {S R V U K : Type 0} (t : KnownPlaces S R V U K) (e f : Era S) where
+module _ {S R V U K : Type 0} (t : LawfulPlaces S R V U K) (e f : Era S) where
   scanning_on : (own since steps : ℕ) (s : Scan K) → CarriesOn t e f own → IsScanning t e own since steps s → IsScanning t f own since steps s
   scanning_on own since steps s k (inl i) = inl (i.0, i.1 ∙ ap scan_from (sym k.beginning))
   scanning_on own since steps s k (inr i) = inr (i.0, k.scans since steps s i.1)
@@ -107,28 +98,28 @@ module _ {S R V U K : Type 0} (t : KnownPlaces S R V U K) (e f : Era S) where
       (i.0, i.1 ∙ ap (λ (z : Option Record). number z + 1) (sym (k own refl).mine), (k own refl).helps c.updates view i.2, omega arith)
 
   -- another goes on as it did
-  pub doing_on : (task : Task) (steps since q : ℕ) (c : Client U K) → t.walk_from f.memory ≡ t.walk_from e.memory → ((own : ℕ) → t.place_of c.walker ≡ Some own → CarriesOn t e f own) → IsDoing t e task steps since q c → IsDoing t f task steps since q c
-  doing_on task steps since q c same k i = record { identity = i.identity; walk = i.walk ∙ sym same; at = at_task_on task steps since c (t.place_of c.walker) c.pending k i.at }
+  pub doing_on : (task : Task) (steps since q : ℕ) (c : Client U K) → t.known.walk_from f.memory ≡ t.known.walk_from e.memory → ((own : ℕ) → t.known.place_of c.walker ≡ Some own → CarriesOn t e f own) → IsDoing t e task steps since q c → IsDoing t f task steps since q c
+  doing_on task steps since q c same k i = record { identity = i.identity; walk = i.walk ∙ sym same; at = at_task_on task steps since c (t.known.place_of c.walker) c.pending k i.at }
 
 -- the object and the world, with the past
-pub record IsTied {S R V U K : Type 0} (t : KnownPlaces S R V U K) (w : SnapState S U K) (o : SnapObject) : Type 0 where
-  pub most : w.most ≡ t.most_of w.memory
+pub record IsTied {S R V U K : Type 0} (t : LawfulPlaces S R V U K) (w : SnapState S U K) (o : SnapObject) : Type 0 where
+  pub most : w.most ≡ t.known.most_of w.memory
   pub counted : o.begun ≡ length w.participants
   pub named : (p : ℕ) (v : Participant (Client U K)) → participant_of p w.participants ≡ Some v → (v.identity ≡ p) × (v.ended ≡ false)
-  pub consistent : t.ties.IsConsistent w.memory (length w.participants) (ways_of w.participants)
+  pub consistent : t.known.ties.IsConsistent w.memory (length w.participants) (ways_of w.participants)
   pub past : ℕ → ℕ → Option Record
   pub place : ℕ → Option ℕ
   pub who : ℕ → ℕ
   pub listed : (p : ℕ) (u : U) → ways_of w.participants p ≡ Some u → (i : ℕ) × (i < length w.participants) × (who i ≡ p)
-  pub placed : (p : ℕ) → place p ≡ place_by t.place_of (ways_of w.participants p)
+  pub placed : (p : ℕ) → place p ≡ place_by t.known.place_of (ways_of w.participants p)
   pub history : IsHistory o.last past o.moment place
-  pub present : (x : ℕ) → past o.last x ≡ segment_in t.walks t.memory w.memory x
+  pub present : (x : ℕ) → past o.last x ≡ segment_in t.known w.memory x
   pub told : (p x : ℕ) → o.place p ≡ Some x → place p ≡ Some x
   pub clients : (p : ℕ) (v : Participant (Client U K)) → participant_of p w.participants ≡ Some v →
       IsDoing t (record { memory = w.memory; begun = length w.participants; last = o.last; past = past; moment = o.moment; place = place; who = who }) (o.task p) (o.steps p) (o.since p) p v.program
 
 -- a new object over places in which nothing was written
-pub tied_new : {S R V U K : Type 0} (t : KnownPlaces S R V U K) (first : S) → t.ties.IsNew first → IsTied t (record { memory = first; most = t.most_of first; participants = [] }) new_object
+pub tied_new : {S R V U K : Type 0} (t : LawfulPlaces S R V U K) (first : S) → t.known.ties.IsNew first → IsTied t (record { memory = first; most = t.known.most_of first; participants = [] }) new_object
 tied_new t first new = record {
   most = refl;
   counted = refl;
@@ -152,13 +143,13 @@ tied_new t first new = record {
   clients = λ p v h. absurd (cc);
 }
 
-module _ {S R V U K : Type 0} (t : KnownPlaces S R V U K) (w : SnapState S U K) (o : SnapObject) (i : IsTied t w o) where
+module _ {S R V U K : Type 0} (t : LawfulPlaces S R V U K) (w : SnapState S U K) (o : SnapObject) (i : IsTied t w o) where
   abbrev pub era_now : Era S
   era_now = record { memory = w.memory; begun = length w.participants; last = o.last; past = i.past; moment = o.moment; place = i.place; who = i.who }
 
   -- who has a place has begun, and is on the way that has reached it
-  pub reached_now : HasReached t.place_of (ways_of w.participants) i.place
-  reached_now p x e = elim (ways_of w.participants p) as (λ z. place_by t.place_of z ≡ Some x → (u : U) × (z ≡ Some u) × (t.place_of u ≡ Some x)) [
+  pub reached_now : HasReached t.known.place_of (ways_of w.participants) i.place
+  reached_now p x e = elim (ways_of w.participants p) as (λ z. place_by t.known.place_of z ≡ Some x → (u : U) × (z ≡ Some u) × (t.known.place_of u ≡ Some x)) [
     | None ↦ λ k. absurd (cc)
     | Some u ↦ λ k. (u, refl, k)
   ] (sym (i.placed p) ∙ e)
@@ -196,18 +187,18 @@ module _ {S R V U K : Type 0} (t : KnownPlaces S R V U K) (w : SnapState S U K) 
       -- what a step of p owes
       pub record IsNext : Type 0 where
         pub others : (q : ℕ) → q ≢ p → (o'.task q ≡ o.task q) × (o'.steps q ≡ o.steps q) × (o'.since q ≡ o.since q)
-        pub most : t.most_of memory ≡ t.most_of w.memory
+        pub most : t.known.most_of memory ≡ t.known.most_of w.memory
         pub many : length ps ≡ n
         pub counted : o'.begun ≡ n
-        pub consistent : t.ties.IsConsistent memory n (set_at (ways_of w.participants) p (Some c.walker))
+        pub consistent : t.known.ties.IsConsistent memory n (set_at (ways_of w.participants) p (Some c.walker))
         pub listed : (q : ℕ) (u : U) → set_at (ways_of w.participants) p (Some c.walker) q ≡ Some u → (j : ℕ) × (j < n) × (who j ≡ q)
-        pub placed : (q : ℕ) → place q ≡ place_by t.place_of (set_at (ways_of w.participants) p (Some c.walker) q)
+        pub placed : (q : ℕ) → place q ≡ place_by t.known.place_of (set_at (ways_of w.participants) p (Some c.walker) q)
         pub history : IsHistory o'.last past o'.moment place
-        pub present : (x : ℕ) → past o'.last x ≡ segment_in t.walks t.memory memory x
+        pub present : (x : ℕ) → past o'.last x ≡ segment_in t.known memory x
         pub told : (q x : ℕ) → o'.place q ≡ Some x → place q ≡ Some x
-        pub beginning : t.walk_from memory ≡ t.walk_from w.memory
+        pub beginning : t.known.walk_from memory ≡ t.known.walk_from w.memory
         pub doing : IsDoing t era_next (o'.task p) (o'.steps p) (o'.since p) p c
-        pub carries : (q own : ℕ) (u : U) → q ≢ p → ways_of w.participants q ≡ Some u → t.place_of u ≡ Some own → CarriesOn t era_now era_next own
+        pub carries : (q own : ℕ) (u : U) → q ≢ p → ways_of w.participants q ≡ Some u → t.known.place_of u ≡ Some own → CarriesOn t era_now era_next own
 
       pub tied_next : IsNext → IsTied t (record { memory = memory; most = w.most; participants = ps }) o'
       tied_next k =
@@ -221,7 +212,7 @@ module _ {S R V U K : Type 0} (t : KnownPlaces S R V U K) (w : SnapState S U K) 
             place = place;
             who = who;
             listed = λ q u h. rw k.many (k.listed q u (sym (ap (λ (g : ℕ → Option U). g q) same) ∙ h));
-            placed = λ q. k.placed q ∙ ap (λ (g : ℕ → Option U). place_by t.place_of (g q)) (sym same);
+            placed = λ q. k.placed q ∙ ap (λ (g : ℕ → Option U). place_by t.known.place_of (g q)) (sym same);
             history = k.history;
             present = k.present;
             told = k.told;

@@ -10,8 +10,8 @@ use Rattle.step_memory.specs.Steps.{Spares}
 use Rattle.step_memory.specs.declared.record.Record.{Record}
 use Rattle.snapshot_core.specs.declared.fixed.FixedWalker.{FixedWalker}
 use Rattle.snapshot_core.specs.declared.fixed.FixedWalk.{FixedWalk}
-use Rattle.snapshot_core.specs.Fixed.{register_of, after_access, fixed_steps, walker_steps, next_place, fixed_walks, fixed_place, fixed_walker, fixed_walk}
-use Rattle.snapshot_core.specs.FixedTies.{IsRowFor, IsWalkAt, fixed_ties}
+use Rattle.snapshot_core.specs.Fixed.{register_of, after_access, next_place, fixed_place, fixed_walker}
+use Rattle.snapshot_core.specs.FixedTies.{IsRowFor, IsWalkAt, fixed_places}
 use Rattle.snapshot_core.specs.Places.{KeepsWalks, HasWritten, ReadsOn, PlacesLaws}
 
 -- an access changes no segment but the one that it names
@@ -54,7 +54,7 @@ row_joined s b ways p c absent more = record {
 }
 
 -- a row of the same length
-keeps_walks : (s new : List (Option Record)) → length new ≡ length s → KeepsWalks length fixed_walk fixed_ties s new
+keeps_walks : (s new : List (Option Record)) → length new ≡ length s → KeepsWalks fixed_places s new
 keeps_walks s new e = record {
   most = e;
   beginning = ap (λ (n : ℕ). record { at = 0; most = n }) e;
@@ -63,7 +63,7 @@ keeps_walks s new e = record {
 }
 
 row_written : (s : List (Option Record)) (b : ℕ) (ways : ℕ → Option FixedWalker) → IsRowFor s b ways → (p x : ℕ) (u : FixedWalker) → ways p ≡ Some u → fixed_place u ≡ Some x → (r : Record) →
-    HasWritten walker_steps fixed_place fixed_walks fixed_steps length fixed_walk fixed_ties s (set s x (Some r)) b ways x r
+    HasWritten fixed_places s (set s x (Some r)) b ways x r
 row_written s b ways c p x u here at r =
     let place : u.place ≡ x = cc in
     let inside = c.inside p u here in
@@ -76,7 +76,7 @@ row_written s b ways c p x u here at r =
       kept = keeps_walks s (set s x (Some r)) many;
     }
 
-row_reads : (s : List (Option Record)) (k : FixedWalk) (j : ℕ) → IsWalkAt s k j → ReadsOn walker_steps fixed_place fixed_walks fixed_steps length fixed_walk fixed_ties s k
+row_reads : (s : List (Option Record)) (k : FixedWalk) (j : ℕ) → IsWalkAt s k j → ReadsOn fixed_places s k
 row_reads s k j h =
     let at = h.at in
     let most = h.most in
@@ -101,7 +101,7 @@ row_reads s k j h =
       };
     }
 
-pub fixed_laws : PlacesLaws walker_steps fixed_place fixed_walks fixed_steps length fixed_walker fixed_walk fixed_ties
+pub fixed_laws : PlacesLaws fixed_places
 fixed_laws = record {
   few = λ s b ways c. (c.room, let few = c.few in omega arith);
   fresh = λ s new. record { few = new.few; room = omega arith; inside = λ p u h. absurd (cc); distinct = λ p q u v h. absurd (cc) };
@@ -120,4 +120,8 @@ fixed_laws = record {
       );
   goes = λ s b ways c k j h. (let i = h.inside in omega arith, row_reads s k j h);
   rising = λ most b. omega arith;
+  plain = λ u. tt;
+  sure_nothing = λ s. refl;
+  sure_reads = λ s r. refl;
+  sure_writes = λ s x segment. refl;
 }

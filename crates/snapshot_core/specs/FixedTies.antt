@@ -3,7 +3,8 @@ use Rattle.std.specs.Prelude.{◌≡◌, ℕ, ◌<◌, ◌≤◌, List, length, 
 use Rattle.step_memory.specs.declared.record.Record.{Record}
 use Rattle.snapshot_core.specs.declared.fixed.FixedWalker.{FixedWalker}
 use Rattle.snapshot_core.specs.declared.fixed.FixedWalk.{FixedWalk}
-use Rattle.snapshot_core.specs.Places.{PlaceTies}
+use Rattle.snapshot_core.specs.Fixed.{fixed_steps, walker_steps, fixed_walks, fixed_place, fixed_walker, fixed_walk}
+use Rattle.snapshot_core.specs.Places.{PlaceTies, KnownPlaces, places_by}
 
 -- at most 16 segments, and all of them are empty
 pub record IsEmptyRow (segments : List (Option Record)) : Type 0 where
@@ -35,3 +36,7 @@ fixed_ties = record {
   IsAhead = λ segments k x. (k.most ≡ length segments) × (k.at ≤ x) × (x < k.most);
   HasRead = IsWalkAt;
 }
+
+-- segments in a row, as places
+abbrev pub fixed_places : KnownPlaces (List (Option Record)) ℕ (Option Record) FixedWalker FixedWalk
+fixed_places = places_by walker_steps fixed_place fixed_walks fixed_steps length fixed_walker fixed_walk fixed_ties

@@ -1,7 +1,8 @@
 -- what places promise: of the ways to them, and of walks over their segments
 use Rattle.std.specs.Prelude.{◌≡◌, ◌≢◌, ◌↔◌, ℕ, ◌+◌, ◌*◌, ◌<◌, ◌≤◌, false, Option, Some, None}
 use Rattle.step_memory.specs.SetAt.{set_at}
-use Rattle.step_memory.specs.declared.access.Access.TheVariants.{Read, Write}
+use Rattle.step_memory.specs.declared.access.Access.{Access}
+use Rattle.step_memory.specs.declared.access.Access.TheVariants.{Read, Write, TestAndSet, Clear, Nothing}
 use Rattle.step_memory.specs.declared.access.Answer.{Answer}
 use Rattle.step_memory.specs.declared.note.Note.TheVariants.{Ended}
 use Rattle.step_memory.specs.Steps.{ProgramSteps, MemorySteps, answer_from}
@@ -27,81 +28,114 @@ pub record PlaceTies (S U K : Type 0) : Type 1 where
   -- over this memory a walk has made so many reads and goes on
   pub HasRead : S → K → ℕ → Type 0
 
-module _ {S R V K : Type 0} (walks : WalkSteps K R V) (memory : MemorySteps S R V) where
+-- places: what gives them does, step by step, in one record
+pub record KnownPlaces (S R V U K : Type 0) : Type 1 where
+  -- a way to a place, and the place that it has reached
+  pub walker : ProgramSteps U R V ℕ
+  pub place_of : U → Option ℕ
+  -- a walk over the segments that may be in use
+  pub walks : WalkSteps K R V
+  pub memory : MemorySteps S R V
+  -- the most participants
+  pub most_of : S → ℕ
+  -- the way of one who begins after so many others under this identity
+  pub walker_from : ℕ → ℕ → U
+  -- a walk from its beginning
+  pub walk_from : S → K
+  pub ties : PlaceTies S U K
+
+-- the record of these parts
+abbrev pub places_by : {S R V U K : Type 0} → ProgramSteps U R V ℕ → (U → Option ℕ) → WalkSteps K R V → MemorySteps S R V → (S → ℕ) → (ℕ → ℕ → U) → (S → K) → PlaceTies S U K → KnownPlaces S R V U K
+places_by walker place_of walks memory most_of walker_from walk_from ties = record { walker = walker; place_of = place_of; walks = walks; memory = memory; most_of = most_of; walker_from = walker_from; walk_from = walk_from; ties = ties }
+
+-- a read, a write or nothing
+abbrev pub IsPlain : {R V : Type 0} → Access R V → Type 0
+IsPlain (Read r) = Unit {0}
+IsPlain (Write r v) = Unit {0}
+IsPlain (TestAndSet r) = ⊥
+IsPlain (Clear r) = ⊥
+IsPlain Nothing = Unit {0}
+
+module _ {S R V U K : Type 0} (t : KnownPlaces S R V U K) where
   -- what stands in the segment at a place
   abbrev pub segment_in : S → ℕ → Option Record
-  segment_in s x = walks.content (memory.register s (walks.segment x)).0
+  segment_in s x = t.walks.content (t.memory.register s (t.walks.segment x)).0
 
   -- what a walk reads next
   abbrev pub value_for : S → K → V
-  value_for s k = (memory.register s (walks.next k)).0
+  value_for s k = (t.memory.register s (t.walks.next k)).0
 
-module _ {S U K : Type 0} (most_of : S → ℕ) (walk_from : S → K) (ties : PlaceTies S U K) where
   -- a memory has become another one, over which walks go on as they would have
   pub record KeepsWalks (s new : S) : Type 0 where
-    pub most : most_of new ≡ most_of s
-    pub beginning : walk_from new ≡ walk_from s
-    pub ahead : (k : K) (x : ℕ) → ties.IsAhead s k x → ties.IsAhead new k x
-    pub read : (k : K) (j : ℕ) → ties.HasRead s k j → ties.HasRead new k j
+    pub most : t.most_of new ≡ t.most_of s
+    pub beginning : t.walk_from new ≡ t.walk_from s
+    pub ahead : (k : K) (x : ℕ) → t.ties.IsAhead s k x → t.ties.IsAhead new k x
+    pub read : (k : K) (j : ℕ) → t.ties.HasRead s k j → t.ties.HasRead new k j
 
-module _ {S R V U K : Type 0} (walker : ProgramSteps U R V ℕ) (place_of : U → Option ℕ) (walks : WalkSteps K R V) (memory : MemorySteps S R V) (most_of : S → ℕ) (walk_from : S → K) (ties : PlaceTies S U K) where
+module _ {S R V U K : Type 0} (t : KnownPlaces S R V U K) where
   -- one who had no place has made its next access, and this is the memory after it: no segment has changed. The way is
   -- ended where it has reached a place
   pub record HasGoneOn (s new : S) (b : ℕ) (ways : ℕ → Option U) (p : ℕ) (u : U) (got : Answer V) : Type 0 where
-    pub consistent : ties.IsConsistent new b (set_at ways p (Some (walker.resumed u got)))
-    pub segments : (x : ℕ) → segment_in walks memory new x ≡ segment_in walks memory s x
-    pub nearer : ties.accesses_of u + 1 ≤ ties.accesses_of (walker.resumed u got)
-    pub ended : (x : ℕ) → (walker.note u got ≡ Ended x) ↔ (place_of (walker.resumed u got) ≡ Some x)
-    pub kept : KeepsWalks most_of walk_from ties s new
+    pub consistent : t.ties.IsConsistent new b (set_at ways p (Some (t.walker.resumed u got)))
+    pub segments : (x : ℕ) → segment_in t new x ≡ segment_in t s x
+    pub nearer : t.ties.accesses_of u + 1 ≤ t.ties.accesses_of (t.walker.resumed u got)
+    pub ended : (x : ℕ) → (t.walker.note u got ≡ Ended x) ↔ (t.place_of (t.walker.resumed u got) ≡ Some x)
+    pub kept : KeepsWalks t s new
 
   -- the segment at this place was written: no other has changed
   pub record HasWritten (s new : S) (b : ℕ) (ways : ℕ → Option U) (x : ℕ) (r : Record) : Type 0 where
-    pub consistent : ties.IsConsistent new b ways
-    pub own : segment_in walks memory new x ≡ Some r
-    pub others : (y : ℕ) → y ≢ x → segment_in walks memory new y ≡ segment_in walks memory s y
-    pub kept : KeepsWalks most_of walk_from ties s new
+    pub consistent : t.ties.IsConsistent new b ways
+    pub own : segment_in t new x ≡ Some r
+    pub others : (y : ℕ) → y ≢ x → segment_in t new y ≡ segment_in t s y
+    pub kept : KeepsWalks t s new
 
   -- the next read of a walk. Where it stands at a place it reads the segment there, and will not read it again. What is
   -- ahead stays ahead, and a walk is not over while anything is
   pub record ReadsOn (s : S) (k : K) : Type 0 where
-    pub here : (x : ℕ) → walks.place k ≡ Some x → (walks.next k ≡ walks.segment x) × ties.IsUpcoming k x
-    pub once : (x : ℕ) → walks.place k ≡ Some x → ties.IsUpcoming (walks.resumed k (value_for walks memory s k)) x → ⊥
-    pub upcoming : (x : ℕ) → ties.IsUpcoming (walks.resumed k (value_for walks memory s k)) x → ties.IsUpcoming k x
-    pub ahead : (x : ℕ) → ties.IsAhead s k x → walks.place k ≢ Some x →
-        ties.IsAhead s (walks.resumed k (value_for walks memory s k)) x × (walks.is_over k (value_for walks memory s k) ≡ false)
-    pub counted : (j : ℕ) → ties.HasRead s k j → walks.is_over k (value_for walks memory s k) ≡ false → ties.HasRead s (walks.resumed k (value_for walks memory s k)) (j + 1)
+    pub here : (x : ℕ) → t.walks.place k ≡ Some x → (t.walks.next k ≡ t.walks.segment x) × t.ties.IsUpcoming k x
+    pub once : (x : ℕ) → t.walks.place k ≡ Some x → t.ties.IsUpcoming (t.walks.resumed k (value_for t s k)) x → ⊥
+    pub upcoming : (x : ℕ) → t.ties.IsUpcoming (t.walks.resumed k (value_for t s k)) x → t.ties.IsUpcoming k x
+    pub ahead : (x : ℕ) → t.ties.IsAhead s k x → t.walks.place k ≢ Some x →
+        t.ties.IsAhead s (t.walks.resumed k (value_for t s k)) x × (t.walks.is_over k (value_for t s k) ≡ false)
+    pub counted : (j : ℕ) → t.ties.HasRead s k j → t.walks.is_over k (value_for t s k) ≡ false → t.ties.HasRead s (t.walks.resumed k (value_for t s k)) (j + 1)
 
-module _ {S R V U K : Type 0} (walker : ProgramSteps U R V ℕ) (place_of : U → Option ℕ) (walks : WalkSteps K R V) (memory : MemorySteps S R V) (most_of : S → ℕ) (walker_from : ℕ → ℕ → U) (walk_from : S → K) (ties : PlaceTies S U K) where
+module _ {S R V U K : Type 0} (t : KnownPlaces S R V U K) where
   -- the laws of places
   pub record PlacesLaws : Type 0 where
-    pub few : (s : S) (b : ℕ) (ways : ℕ → Option U) → ties.IsConsistent s b ways → (b ≤ most_of s) × (most_of s ≤ 64)
-    pub fresh : (s : S) → ties.IsNew s → ties.IsConsistent s 0 (λ p. None)
-    pub empty : (s : S) → ties.IsNew s → (x : ℕ) → segment_in walks memory s x ≡ None
-    pub begun : (s : S) (b : ℕ) (ways : ℕ → Option U) (p : ℕ) → ties.IsConsistent s b ways → p ≢ 0 → ways p ≡ None → b < most_of s →
-        ties.IsConsistent s (b + 1) (set_at ways p (Some (walker_from b p)))
+    pub few : (s : S) (b : ℕ) (ways : ℕ → Option U) → t.ties.IsConsistent s b ways → (b ≤ t.most_of s) × (t.most_of s ≤ 64)
+    pub fresh : (s : S) → t.ties.IsNew s → t.ties.IsConsistent s 0 (λ p. None)
+    pub empty : (s : S) → t.ties.IsNew s → (x : ℕ) → segment_in t s x ≡ None
+    pub begun : (s : S) (b : ℕ) (ways : ℕ → Option U) (p : ℕ) → t.ties.IsConsistent s b ways → p ≢ 0 → ways p ≡ None → b < t.most_of s →
+        t.ties.IsConsistent s (b + 1) (set_at ways p (Some (t.walker_from b p)))
     -- no two have one place
-    pub distinct : (s : S) (b : ℕ) (ways : ℕ → Option U) → ties.IsConsistent s b ways →
-        (p q x : ℕ) (u v : U) → ways p ≡ Some u → ways q ≡ Some v → place_of u ≡ Some x → place_of v ≡ Some x → p ≡ q
+    pub distinct : (s : S) (b : ℕ) (ways : ℕ → Option U) → t.ties.IsConsistent s b ways →
+        (p q x : ℕ) (u v : U) → ways p ≡ Some u → ways q ≡ Some v → t.place_of u ≡ Some x → t.place_of v ≡ Some x → p ≡ q
     -- who has no place has accesses left
-    pub unplaced : (s : S) (b : ℕ) (ways : ℕ → Option U) → ties.IsConsistent s b ways →
-        (p : ℕ) (u : U) → ways p ≡ Some u → place_of u ≡ None → ties.accesses_of u + 1 ≤ ties.placing b
-    pub gone_on : (s : S) (b : ℕ) (ways : ℕ → Option U) → ties.IsConsistent s b ways →
-        (p : ℕ) (u : U) → ways p ≡ Some u → place_of u ≡ None →
-        HasGoneOn walker place_of walks memory most_of walk_from ties s (memory.after s (walker.next u)) b ways p u (answer_from (memory.register s) (walker.next u))
-    pub written : (s : S) (b : ℕ) (ways : ℕ → Option U) → ties.IsConsistent s b ways →
-        (p x : ℕ) (u : U) → ways p ≡ Some u → place_of u ≡ Some x → (r : Record) →
-        HasWritten walker place_of walks memory most_of walk_from ties s (memory.after s (Write (walks.segment x) (walks.stored (Some r)))) b ways x r
+    pub unplaced : (s : S) (b : ℕ) (ways : ℕ → Option U) → t.ties.IsConsistent s b ways →
+        (p : ℕ) (u : U) → ways p ≡ Some u → t.place_of u ≡ None → t.ties.accesses_of u + 1 ≤ t.ties.placing b
+    pub gone_on : (s : S) (b : ℕ) (ways : ℕ → Option U) → t.ties.IsConsistent s b ways →
+        (p : ℕ) (u : U) → ways p ≡ Some u → t.place_of u ≡ None →
+        HasGoneOn t s (t.memory.after s (t.walker.next u)) b ways p u (answer_from (t.memory.register s) (t.walker.next u))
+    pub written : (s : S) (b : ℕ) (ways : ℕ → Option U) → t.ties.IsConsistent s b ways →
+        (p x : ℕ) (u : U) → ways p ≡ Some u → t.place_of u ≡ Some x → (r : Record) →
+        HasWritten t s (t.memory.after s (Write (t.walks.segment x) (t.walks.stored (Some r)))) b ways x r
     -- a read changes nothing
-    pub looked : (s : S) (r : R) → memory.after s (Read r) ≡ s
+    pub looked : (s : S) (r : R) → t.memory.after s (Read r) ≡ s
     -- from its beginning a walk has made no read, and the segment of each who has a place is ahead
-    pub starts : (s : S) (b : ℕ) (ways : ℕ → Option U) → ties.IsConsistent s b ways →
+    pub starts : (s : S) (b : ℕ) (ways : ℕ → Option U) → t.ties.IsConsistent s b ways →
         (p : ℕ) (u : U) → ways p ≡ Some u →
-        ties.HasRead s (walk_from s) 0 × ((x : ℕ) → place_of u ≡ Some x → ties.IsAhead s (walk_from s) x)
-    pub goes : (s : S) (b : ℕ) (ways : ℕ → Option U) → ties.IsConsistent s b ways →
-        (k : K) (j : ℕ) → ties.HasRead s k j → (j + 1 ≤ ties.reads (most_of s) b) × ReadsOn walker place_of walks memory most_of walk_from ties s k
-    pub rising : (most b : ℕ) → ties.reads most b ≤ ties.reads most (b + 1)
+        t.ties.HasRead s (t.walk_from s) 0 × ((x : ℕ) → t.place_of u ≡ Some x → t.ties.IsAhead s (t.walk_from s) x)
+    pub goes : (s : S) (b : ℕ) (ways : ℕ → Option U) → t.ties.IsConsistent s b ways →
+        (k : K) (j : ℕ) → t.ties.HasRead s k j → (j + 1 ≤ t.ties.reads (t.most_of s) b) × ReadsOn t s k
+    pub rising : (most b : ℕ) → t.ties.reads most b ≤ t.ties.reads most (b + 1)
+    -- an access on the way to a place is a read, a write or none
+    pub plain : (u : U) → IsPlain (t.walker.next u)
+    -- and only such an access may want memory: no read does, nor the write of a segment, nor an access that is none
+    pub sure_nothing : (s : S) → t.memory.may_refuse s Nothing ≡ false
+    pub sure_reads : (s : S) (r : R) → t.memory.may_refuse s (Read r) ≡ false
+    pub sure_writes : (s : S) (x : ℕ) (segment : Option Record) → t.memory.may_refuse s (Write (t.walks.segment x) (t.walks.stored segment)) ≡ false
 
--- at most this many steps of a scan, where b have begun: as many collects as there may be, each of as many reads as a
--- walk may make
-abbrev pub BoundsScans : {S U K : Type 0} → PlaceTies S U K → ℕ → (ℕ → ℕ) → Type 0
-BoundsScans ties most scanning = (b : ℕ) → b ≤ most → (b + 1) * ties.reads most b ≤ scanning b
+-- at most this many steps of a scan, where b have begun and b is not 0: as many collects as there may be, each of as many
+-- reads as a walk may make
+abbrev pub BoundsScans : {S R V U K : Type 0} → KnownPlaces S R V U K → ℕ → (ℕ → ℕ) → Type 0
+BoundsScans t most scanning = (b : ℕ) → 1 ≤ b → b ≤ most → (b + 1) * t.ties.reads most b ≤ scanning b

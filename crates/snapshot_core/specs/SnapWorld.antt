@@ -1,34 +1,44 @@
 -- what the calls of a snapshot object answer and leave
-use Rattle.std.specs.Prelude.{ℕ, Bool, nat_lt, if◌then◌else◌, length, Option, Some, None, option_and_then, Result, Err}
+use Rattle.std.specs.Prelude.{ℕ, Bool, nat_lt, if◌then◌else◌, length, List, Option, Some, None, option_and_then, Result, Err}
 use Rattle.step_memory.specs.declared.note.Note.{Note}
 use Rattle.step_memory.specs.declared.note.Note.TheVariants.{Quiet, Said, Ended}
 use Rattle.step_memory.specs.declared.refusal.Refusal.{Refusal}
 use Rattle.step_memory.specs.declared.refusal.Refusal.TheVariants.{AlreadyBegun, NotBegun, Finished, Spent}
-use Rattle.step_memory.specs.Participant.{program_of}
-use Rattle.step_memory.specs.Steps.{ProgramSteps, MemorySteps}
+use Rattle.step_memory.specs.declared.participant.Participant.{Participant}
+use Rattle.step_memory.specs.Participant.{participant_of, program_of}
+use Rattle.step_memory.specs.Steps.{ProgramSteps}
 use Rattle.step_memory.specs.WorldState.{WorldState}
 use Rattle.step_memory.specs.World.{after_begin, after_set, step_answer, after_step, may_refuse_step}
 use Rattle.step_memory.specs.Calls.{reply_of}
 use Rattle.snapshot_core.specs.declared.client.Client.{Client}
 use Rattle.snapshot_core.specs.declared.client.SnapReply.{SnapReply}
 use Rattle.snapshot_core.specs.declared.client.SnapReply.TheVariants.{Quiet as Silent}
-use Rattle.snapshot_core.specs.Walks.{WalkSteps}
-use Rattle.snapshot_core.specs.Client.{client_at, client_steps, is_idle, scanning, updating}
+use Rattle.snapshot_core.specs.Places.{KnownPlaces}
+use Rattle.snapshot_core.specs.Client.{client_at, client_steps, next_access, IsOwnAccess, is_idle, scanning, updating}
 
 -- a memory of type S, and participants on ways U whose scans take walks K
 abbrev pub SnapState : Type 0 → Type 0 → Type 0 → Type 0
 SnapState S U K = WorldState S (Client U K)
 
 -- the place of an identity, once it has one
-abbrev pub place_in : {S U K : Type 0} → (U → Option ℕ) → SnapState S U K → ℕ → Option ℕ
-place_in place_of w id = option_and_then (λ c. place_of c.walker) (program_of id w.participants)
+abbrev pub place_in : {S R V U K : Type 0} → KnownPlaces S R V U K → SnapState S U K → ℕ → Option ℕ
+place_in t w id = option_and_then (λ c. t.place_of c.walker) (program_of id w.participants)
+
+-- the way of a participant
+abbrev pub way_now : {U K : Type 0} → Option (Participant (Client U K)) → Option U
+way_now None = None
+way_now (Some v) = Some v.program.walker
+
+-- the ways of those who have begun
+abbrev pub ways_of : {U K : Type 0} → List (Participant (Client U K)) → ℕ → Option U
+ways_of ps p = way_now (participant_of p ps)
 
 -- one who begins after so many others, on this memory
-abbrev pub beginner_at : {S U K : Type 0} → (U → Option ℕ) → (ℕ → ℕ → U) → (S → K) → SnapState S U K → ℕ → Client U K
-beginner_at place_of walker_from walk_from w id = client_at place_of id (walker_from (length w.participants) id) (walk_from w.memory)
+abbrev pub beginner_at : {S R V U K : Type 0} → KnownPlaces S R V U K → SnapState S U K → ℕ → Client U K
+beginner_at t w id = client_at t.place_of id (t.walker_from (length w.participants) id) (t.walk_from w.memory)
 
-abbrev pub after_snap_begin : {S U K : Type 0} → (U → Option ℕ) → (ℕ → ℕ → U) → (S → K) → SnapState S U K → ℕ → SnapState S U K
-after_snap_begin place_of walker_from walk_from w id = after_begin w id (beginner_at place_of walker_from walk_from w id)
+abbrev pub after_snap_begin : {S R V U K : Type 0} → KnownPlaces S R V U K → SnapState S U K → ℕ → SnapState S U K
+after_snap_begin t w id = after_begin w id (beginner_at t w id)
 
 -- why `scan` is refused
 abbrev pub scan_refusal_by : {U K : Type 0} → Option (Client U K) → Option Refusal
@@ -67,14 +77,18 @@ told Quiet = Silent
 told (Said reply) = reply
 told (Ended reply) = reply
 
-module _ {S R V U K : Type 0} (walker : ProgramSteps U R V ℕ) (place_of : U → Option ℕ) (walks : WalkSteps K R V) (memory : MemorySteps S R V) where
+module _ {S R V U K : Type 0} (t : KnownPlaces S R V U K) where
+  -- the participants' programs
+  abbrev pub clients_over : ProgramSteps (Client U K) R V SnapReply
+  clients_over = client_steps t.walker t.place_of t.walks
+
   abbrev pub snap_answer_by : SnapState S U K → ℕ → Option (Client U K) → Result SnapReply Refusal
   snap_answer_by w id None = Err NotBegun
-  snap_answer_by w id (Some c) = if is_idle c.pending then Err Finished else reply_of told (step_answer (client_steps walker place_of walks) memory w id)
+  snap_answer_by w id (Some c) = if is_idle c.pending then Err Finished else reply_of told (step_answer clients_over t.memory w id)
 
   abbrev pub after_snap_by : SnapState S U K → ℕ → Option (Client U K) → SnapState S U K
   after_snap_by w id None = w
-  after_snap_by w id (Some c) = if is_idle c.pending then w else after_step (client_steps walker place_of walks) memory w id
+  after_snap_by w id (Some c) = if is_idle c.pending then w else after_step clients_over t.memory w id
 
   -- what a step answers where no growth is refused
   abbrev pub snap_answer : SnapState S U K → ℕ → Result SnapReply Refusal
@@ -86,4 +100,8 @@ module _ {S R V U K : Type 0} (walker : ProgramSteps U R V ℕ) (place_of : U �
 
   -- whether that step may be refused for want of memory
   abbrev pub may_lack_memory : SnapState S U K → ℕ → Bool
-  may_lack_memory w id = may_refuse_step (client_steps walker place_of walks) memory w id
+  may_lack_memory w id = may_refuse_step clients_over t.memory w id
+
+  -- the next access of a participant is one on its way, a read, or the write of its own segment
+  abbrev pub MakesOwnAccess : Client U K → Type 0
+  MakesOwnAccess c = IsOwnAccess t.walker t.place_of t.walks c (next_access t.walker t.place_of t.walks c)

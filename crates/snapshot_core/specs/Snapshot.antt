@@ -3,11 +3,14 @@
 -- bounded, is this project's profile
 use Rattle.std.specs.Prelude.{◌≡◌, ◌≢◌, ℕ, ◌+◌, ◌<◌, ◌≤◌, ◌==◌, if◌then◌else◌, List, Option, Some, None, Ok, Err}
 use Rattle.step_memory.specs.SetAt.{set_at}
+use Rattle.step_memory.specs.declared.refusal.Refusal.TheVariants.{NoMemory}
 use Rattle.step_memory.specs.Runs.{Run}
 use Rattle.snapshot_core.specs.declared.client.SnapReply.{SnapReply}
 use Rattle.snapshot_core.specs.declared.client.SnapReply.TheVariants.{Quiet, Placed, Written, View as Viewed}
 use Rattle.step_memory.specs.View.{IsRising, value_of}
-use Rattle.snapshot_core.specs.SnapCalls.{SnapCall}
+use Rattle.snapshot_core.specs.Places.{KnownPlaces, BoundsScans}
+use Rattle.snapshot_core.specs.SnapWorld.{SnapState}
+use Rattle.snapshot_core.specs.SnapCalls.{SnapCall, IsAfter}
 use Rattle.snapshot_core.specs.SnapCalls.SnapCall.{Began, Updated, Scanned, Stepped}
 
 -- what an identity has begun, or was asked for, and has not done yet
@@ -135,8 +138,14 @@ Allows bounds o (Began p reply) = Unit {0}
 Allows bounds o (Updated p value reply) = Unit {0}
 Allows bounds o (Scanned p reply) = Unit {0}
 Allows bounds o (Stepped p (Ok reply)) = AllowsStep bounds o p reply
-Allows bounds o (Stepped p (Err why)) = Unit {0}
+Allows bounds o (Stepped p (Err why)) = why ≡ NoMemory → o.task p ≡ Placing
 
 -- these calls, with these replies, are those of a snapshot object whose steps keep these bounds
 abbrev pub KeepsSnapshotLaw : SnapBounds → List SnapCall → Type 0
 KeepsSnapshotLaw bounds r = (o : SnapObject) × Run observed (Allows bounds) new_object r o
+
+-- every list of calls that leads to this object, from places in which nothing was written, keeps the law: where a bound on
+-- scans leaves room for as many collects as there may be
+abbrev pub IsLawful : {S R V U K : Type 0} → KnownPlaces S R V U K → SnapState S U K → Type 0
+IsLawful {S} t w = (first : S) (r : List SnapCall) (scanning : ℕ → ℕ) → t.ties.IsNew first → BoundsScans t (t.most_of first) scanning → IsAfter t first w r →
+    KeepsSnapshotLaw (record { placing = t.ties.placing; scanning = scanning }) r

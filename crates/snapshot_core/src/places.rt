@@ -1,7 +1,7 @@
 //! What gives participants places.
 
 ghost use Rattle.std.specs.Prelude.{◌≡◌, ℕ, Option};
-ghost use Rattle.snapshot_core.specs.Places.{PlaceTies, PlacesLaws};
+ghost use Rattle.snapshot_core.specs.Places.{PlaceTies, KnownPlaces, places_by, PlacesLaws};
 
 use crate::walk::SegmentWalk;
 use step_memory::{Place, StepMemory, StepProgram};
@@ -50,5 +50,15 @@ pub trait Places: StepMemory {
         ensures { result ≡ walk_from self.now };
 
     /// Places are distinct, a way comes to its place, and a walk meets each segment that was written before it began.
-    ghost laws: { PlacesLaws Self.Walker.steps Self.Walker.place_of Self.Walk.walks Self.steps most_of walker_from walk_from ties };
+    ghost laws: { PlacesLaws (places_by Self.Walker.steps Self.Walker.place_of Self.Walk.walks Self.steps most_of walker_from walk_from ties) };
+}
+
+/// Places with all that contracts say of them in one record, `⟦<W as Known>⟧.places`. Every `Places` is one.
+pub trait Known: Places {
+    /// What the walkers, the walks and the memory do, and what ties them.
+    ghost places: { KnownPlaces Self Self.Reg Self.Value Self.Walker Self.Walk };
+}
+
+impl<W: Places> Known for W {
+    ghost places = { places_by W.Walker.steps W.Walker.place_of W.Walk.walks W.steps W.most_of W.walker_from W.walk_from W.ties };
 }

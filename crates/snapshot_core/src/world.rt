@@ -1,18 +1,17 @@
 //! A snapshot object, taken step by step.
 
-ghost use Rattle.std.specs.Prelude.{◌≡◌, ◌≢◌, ℕ, [], ◌∷◌, ◌++◌, List, IfOk, OnErr, Err, true, Some, Ok, Contains};
+ghost use Rattle.std.specs.Prelude.{◌≡◌, ◌≢◌, ℕ, [], List, IfOk, OnErr, Err, true, Some, Ok, Contains};
 ghost use Rattle.step_memory.specs.Locality.{IsLocal, LookAlike};
-ghost use Rattle.snapshot_core.specs.Client.{client_steps, next_access, IsOwnAccess};
-ghost use Rattle.snapshot_core.specs.Places.{BoundsScans};
-ghost use Rattle.snapshot_core.specs.Snapshot.{KeepsSnapshotLaw};
 ghost use Rattle.step_memory.specs.Participant.{program_of};
 ghost use Rattle.step_memory.specs.World.{begin_refusal, done_unless};
-ghost use Rattle.snapshot_core.specs.SnapWorld.{SnapState, place_in, after_snap_begin, scan_refusal, update_refusal, after_scan, after_update, snap_answer, after_snap_step, may_lack_memory};
-ghost use Rattle.snapshot_core.specs.SnapCalls.{SnapCall, IsAfter};
+ghost use Rattle.snapshot_core.specs.declared.client.Pending.TheVariants.{Placing};
+ghost use Rattle.snapshot_core.specs.Snapshot.{IsLawful};
+ghost use Rattle.snapshot_core.specs.SnapWorld.{SnapState, place_in, after_snap_begin, scan_refusal, update_refusal, after_scan, after_update, clients_over, snap_answer, after_snap_step, may_lack_memory, MakesOwnAccess};
+ghost use Rattle.snapshot_core.specs.SnapCalls.{SnapCall, fresh_over, IsAfter, LeadsOn};
 ghost use Rattle.snapshot_core.specs.SnapCalls.SnapCall.{Began, Updated, Scanned, Stepped};
 
 use crate::client::{Client, SnapReply};
-use crate::places::{PlaceWalker, Places};
+use crate::places::{Known, PlaceWalker, Places};
 use std::alloc::Allocator;
 use std::marker::Model;
 use step_memory::{Note, Place, Refusal, World};
@@ -41,9 +40,9 @@ where
     /// A snapshot object over these places, in which nobody has begun. Refused where the room for the participants was
     /// refused.
     pub fn new(alloc: A, places: W) -> Result<Self, Refusal>
-        ensures fresh { IfOk result (λ w. w ≡ record { memory = places; most = W.most_of places; participants = [] }) }
-        ensures after { IfOk result (λ w. IsAfter W.Walker.steps W.Walker.place_of W.Walk.walks W.steps W.walker_from W.walk_from W.most_of places w []) }
-        ensures law { IfOk result (λ w. (first : W) (r : List SnapCall) (scanning : ℕ → ℕ) → W.ties.IsNew first → BoundsScans W.ties (W.most_of first) scanning → IsAfter W.Walker.steps W.Walker.place_of W.Walk.walks W.steps W.walker_from W.walk_from W.most_of first w r → KeepsSnapshotLaw (record { placing = W.ties.placing; scanning = scanning }) r) }
+        ensures fresh { IfOk result (λ w. w ≡ fresh_over ⟦<W as Known>⟧.places places) }
+        ensures after { IfOk result (λ w. IsAfter ⟦<W as Known>⟧.places places w []) }
+        ensures law { IfOk result (λ w. IsLawful ⟦<W as Known>⟧.places w) }
         ensures no_memory { OnErr result (result ≡ Err Refusal.NoMemory) }
     {
         let most = places.most();
@@ -55,9 +54,9 @@ where
     /// A participant begins. Refused where the identity is 0, then where it has begun, then where the object is full.
     pub fn begin(&mut self, id: u64) -> Result<(), Refusal>
         ensures answer { result ≡ done_unless (begin_refusal self.old id) }
-        ensures state { self.new ≡ after_snap_begin W.Walker.place_of W.walker_from W.walk_from self.old id }
-        ensures after { (first : W) (r : List SnapCall) → IsAfter W.Walker.steps W.Walker.place_of W.Walk.walks W.steps W.walker_from W.walk_from W.most_of first self.old r → IsAfter W.Walker.steps W.Walker.place_of W.Walk.walks W.steps W.walker_from W.walk_from W.most_of first self.new (r ++ Began id result ∷ []) }
-        ensures law { (first : W) (r : List SnapCall) (scanning : ℕ → ℕ) → W.ties.IsNew first → BoundsScans W.ties (W.most_of first) scanning → IsAfter W.Walker.steps W.Walker.place_of W.Walk.walks W.steps W.walker_from W.walk_from W.most_of first self.new r → KeepsSnapshotLaw (record { placing = W.ties.placing; scanning = scanning }) r }
+        ensures state { self.new ≡ after_snap_begin ⟦<W as Known>⟧.places self.old id }
+        ensures after { LeadsOn ⟦<W as Known>⟧.places self.old self.new (Began id result) }
+        ensures law { IsLawful ⟦<W as Known>⟧.places self.new }
     {
         let begun = self.world.participants().len();
         let places = self.world.memory();
@@ -70,8 +69,8 @@ where
     pub fn update(&mut self, id: u64, value: u64) -> Result<(), Refusal>
         ensures answer { result ≡ done_unless (update_refusal self.old id) }
         ensures state { self.new ≡ after_update self.old id value }
-        ensures after { (first : W) (r : List SnapCall) → IsAfter W.Walker.steps W.Walker.place_of W.Walk.walks W.steps W.walker_from W.walk_from W.most_of first self.old r → IsAfter W.Walker.steps W.Walker.place_of W.Walk.walks W.steps W.walker_from W.walk_from W.most_of first self.new (r ++ Updated id value result ∷ []) }
-        ensures law { (first : W) (r : List SnapCall) (scanning : ℕ → ℕ) → W.ties.IsNew first → BoundsScans W.ties (W.most_of first) scanning → IsAfter W.Walker.steps W.Walker.place_of W.Walk.walks W.steps W.walker_from W.walk_from W.most_of first self.new r → KeepsSnapshotLaw (record { placing = W.ties.placing; scanning = scanning }) r }
+        ensures after { LeadsOn ⟦<W as Known>⟧.places self.old self.new (Updated id value result) }
+        ensures law { IsLawful ⟦<W as Known>⟧.places self.new }
     {
         let Some(client) = self.world.program(id) else {
             return Err(Refusal::NotBegun);
@@ -91,8 +90,8 @@ where
     pub fn scan(&mut self, id: u64) -> Result<(), Refusal>
         ensures answer { result ≡ done_unless (scan_refusal self.old id) }
         ensures state { self.new ≡ after_scan self.old id }
-        ensures after { (first : W) (r : List SnapCall) → IsAfter W.Walker.steps W.Walker.place_of W.Walk.walks W.steps W.walker_from W.walk_from W.most_of first self.old r → IsAfter W.Walker.steps W.Walker.place_of W.Walk.walks W.steps W.walker_from W.walk_from W.most_of first self.new (r ++ Scanned id result ∷ []) }
-        ensures law { (first : W) (r : List SnapCall) (scanning : ℕ → ℕ) → W.ties.IsNew first → BoundsScans W.ties (W.most_of first) scanning → IsAfter W.Walker.steps W.Walker.place_of W.Walk.walks W.steps W.walker_from W.walk_from W.most_of first self.new r → KeepsSnapshotLaw (record { placing = W.ties.placing; scanning = scanning }) r }
+        ensures after { LeadsOn ⟦<W as Known>⟧.places self.old self.new (Scanned id result) }
+        ensures law { IsLawful ⟦<W as Known>⟧.places self.new }
     {
         let Some(client) = self.world.program(id) else {
             return Err(Refusal::NotBegun);
@@ -107,19 +106,20 @@ where
     /// One step of a participant: one access. Refused where the identity has not begun, then where nothing of it is
     /// pending, then where the memory refused a growth: then the same step may be asked again.
     pub fn step(&mut self, id: u64) -> Result<SnapReply, Refusal>
-        ensures answer { result ≢ Err Refusal.NoMemory → result ≡ snap_answer W.Walker.steps W.Walker.place_of W.Walk.walks W.steps self.old id }
-        ensures state { result ≢ Err Refusal.NoMemory → self.new ≡ after_snap_step W.Walker.steps W.Walker.place_of W.Walk.walks W.steps self.old id }
+        ensures answer { result ≢ Err Refusal.NoMemory → result ≡ snap_answer ⟦<W as Known>⟧.places self.old id }
+        ensures state { result ≢ Err Refusal.NoMemory → self.new ≡ after_snap_step ⟦<W as Known>⟧.places self.old id }
         ensures refused { OnErr result (self.new ≡ self.old) }
-        ensures no_memory { result ≡ Err Refusal.NoMemory → may_lack_memory W.Walker.steps W.Walker.place_of W.Walk.walks W.steps self.old id ≡ true }
-        ensures after { (first : W) (r : List SnapCall) → IsAfter W.Walker.steps W.Walker.place_of W.Walk.walks W.steps W.walker_from W.walk_from W.most_of first self.old r → IsAfter W.Walker.steps W.Walker.place_of W.Walk.walks W.steps W.walker_from W.walk_from W.most_of first self.new (r ++ Stepped id result ∷ []) }
-        ensures law { (first : W) (r : List SnapCall) (scanning : ℕ → ℕ) → W.ties.IsNew first → BoundsScans W.ties (W.most_of first) scanning → IsAfter W.Walker.steps W.Walker.place_of W.Walk.walks W.steps W.walker_from W.walk_from W.most_of first self.new r → KeepsSnapshotLaw (record { placing = W.ties.placing; scanning = scanning }) r }
+        ensures ample { (c : Client W.Walker W.Walk) → program_of id self.old.participants ≡ Some c → c.pending ≢ Placing → result ≢ Err Refusal.NoMemory }
+        ensures no_memory { result ≡ Err Refusal.NoMemory → may_lack_memory ⟦<W as Known>⟧.places self.old id ≡ true }
+        ensures after { LeadsOn ⟦<W as Known>⟧.places self.old self.new (Stepped id result) }
+        ensures law { IsLawful ⟦<W as Known>⟧.places self.new }
 
         // Nothing of the object changes but this participant and the register that it names, and in another one that
         // looks alike to this participant the answer is the same. The access is one on the way to its place, a read, or
         // the write of its own segment.
-        ensures local { IsLocal (client_steps W.Walker.steps W.Walker.place_of W.Walk.walks) W.steps id self.old self.new }
-        ensures alike { result ≢ Err Refusal.NoMemory → (other : SnapState W W.Walker W.Walk) → LookAlike (client_steps W.Walker.steps W.Walker.place_of W.Walk.walks) W.steps id self.old other → result ≡ snap_answer W.Walker.steps W.Walker.place_of W.Walk.walks W.steps other id }
-        ensures own { (c : Client W.Walker W.Walk) → program_of id self.old.participants ≡ Some c → IsOwnAccess W.Walker.steps W.Walker.place_of W.Walk.walks c (next_access W.Walker.steps W.Walker.place_of W.Walk.walks c) }
+        ensures local { IsLocal (clients_over ⟦<W as Known>⟧.places) W.steps id self.old self.new }
+        ensures alike { result ≢ Err Refusal.NoMemory → (other : SnapState W W.Walker W.Walk) → LookAlike (clients_over ⟦<W as Known>⟧.places) W.steps id self.old other → result ≡ snap_answer ⟦<W as Known>⟧.places other id }
+        ensures own { (c : Client W.Walker W.Walk) → program_of id self.old.participants ≡ Some c → MakesOwnAccess ⟦<W as Known>⟧.places c }
     {
         let Some(client) = self.world.program(id) else {
             return Err(Refusal::NotBegun);
@@ -136,11 +136,11 @@ where
 
     /// The place of a participant, once it has one.
     pub fn place_of(&self, id: u64) -> Option<Place>
-        ensures value { result ≡ place_in W.Walker.place_of self.now id }
+        ensures value { result ≡ place_in ⟦<W as Known>⟧.places self.now id }
 
         // No one else has it, and where a step has told a place, it is that one.
-        ensures distinct { (first : W) (r : List SnapCall) → W.ties.IsNew first → IsAfter W.Walker.steps W.Walker.place_of W.Walk.walks W.steps W.walker_from W.walk_from W.most_of first self.now r → (place : ℕ) → result ≡ Some place → (other : ℕ) → place_in W.Walker.place_of self.now other ≡ Some place → other ≡ id }
-        ensures told { (first : W) (r : List SnapCall) → W.ties.IsNew first → IsAfter W.Walker.steps W.Walker.place_of W.Walk.walks W.steps W.walker_from W.walk_from W.most_of first self.now r → (place : ℕ) → Contains r (Stepped id (Ok (SnapReply.Placed place))) → result ≡ Some place }
+        ensures distinct { (first : W) (r : List SnapCall) → W.ties.IsNew first → IsAfter ⟦<W as Known>⟧.places first self.now r → (place : ℕ) → result ≡ Some place → (other : ℕ) → place_in ⟦<W as Known>⟧.places self.now other ≡ Some place → other ≡ id }
+        ensures told { (first : W) (r : List SnapCall) → W.ties.IsNew first → IsAfter ⟦<W as Known>⟧.places first self.now r → (place : ℕ) → Contains r (Stepped id (Ok (SnapReply.Placed place))) → result ≡ Some place }
     {
         let Some(client) = self.world.program(id) else {
             return None;

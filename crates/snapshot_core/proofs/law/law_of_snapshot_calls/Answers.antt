@@ -1,19 +1,26 @@
-use Rattle.std.proofs.Common.{[]}
-use Rattle.step_memory.proofs.RunLemmas.{run_more}
-use Rattle.snapshot_core.specs.SnapCalls.{next, IsReply}
-use Rattle.snapshot_core.proofs.Following.{law_holds, distinct_holds}
+use Rattle.std.proofs.Common.{refl}
+use Rattle.snapshot_core.specs.SnapCalls.{next}
+use Rattle.snapshot_core.proofs.SnapWorldLemmas.{after_call}
+use Rattle.snapshot_core.proofs.Following.{law_holds, distinct_holds, consistent_holds}
+use Rattle.snapshot_core.proofs.SureSteps.{sure_step}
+use Rattle.snapshot_core.specs.Places.{KnownPlaces, places_by}
+use Rattle.snapshot_core.proofs.law.law_of_snapshot_calls.Given.{Over}
 use Rattle.snapshot_core.proofs.law.law_of_snapshot_calls.Goals as goal
 
+abbrev known : (g : Over) → KnownPlaces g.row.W.Denot g.row.W-Reg.Denot g.row.W-Value.Denot g.row.W-Walker.Denot g.row.W-Walk.Denot
+known g = places_by g.W.Walker.StepProgram.steps g.W.Walker.PlaceWalker.place_of g.W.Walk.SegmentWalk.walks g.W.StepMemory.steps g.W.Places.most_of g.W.Places.walker_from g.W.Places.walk_from g.W.Places.ties
+
 pub returns-clause-call : goal.returns-clause-call
-returns-clause-call g c = λ first w r h a is.
-    run_more (next g.W.Walker.StepProgram.steps g.W.Walker.PlaceWalker.place_of g.W.Walk.SegmentWalk.walks g.W.StepMemory.steps g.W.Places.walker_from g.W.Places.walk_from)
-    (IsReply g.W.Walker.StepProgram.steps g.W.Walker.PlaceWalker.place_of g.W.Walk.SegmentWalk.walks g.W.StepMemory.steps g.W.Places.walker_from g.W.Places.walk_from)
-    (record { memory = first; most = g.W.Places.most_of first; participants = [] }) r w h a is
+returns-clause-call g c = λ w h is. after_call (known g) w (next (known g) w h) h refl is
 
 pub returns-clause-law : goal.returns-clause-law
-returns-clause-law g c = λ first w r scanning new fits a.
-    law_holds g.W.Walker.StepProgram.steps g.W.Walker.PlaceWalker.place_of g.W.Walk.SegmentWalk.walks g.W.StepMemory.steps g.W.Places.walker_from g.W.Places.walk_from g.W.Places.most_of g.W.Places.ties g.met.W.Places.laws w first r scanning new fits a
+returns-clause-law g c = law_holds (known g) g.met.W.Places.laws
 
 pub returns-clause-distinct : goal.returns-clause-distinct
-returns-clause-distinct g c = λ first w r new a p q x here there.
-    distinct_holds g.W.Walker.StepProgram.steps g.W.Walker.PlaceWalker.place_of g.W.Walk.SegmentWalk.walks g.W.StepMemory.steps g.W.Places.walker_from g.W.Places.walk_from g.W.Places.most_of g.W.Places.ties g.met.W.Places.laws w p first r new a x here q there
+returns-clause-distinct g c = λ first w r new a p q x here there. distinct_holds (known g) g.met.W.Places.laws w p first r new a x here q there
+
+pub returns-clause-consistent : goal.returns-clause-consistent
+returns-clause-consistent g c = λ first w r new a. consistent_holds (known g) g.met.W.Places.laws w first r new a
+
+pub returns-clause-sure : goal.returns-clause-sure
+returns-clause-sure g c = sure_step (known g) g.met.W.Places.laws

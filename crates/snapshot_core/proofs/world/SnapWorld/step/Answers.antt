@@ -6,44 +6,49 @@ use Rattle.snapshot_core.specs.SnapWorld.{snap_answer, after_snap_step, may_lack
 use Rattle.snapshot_core.specs.SnapCalls.SnapCall.{Stepped}
 use Rattle.snapshot_core.proofs.SnapWorldLemmas.{after_call, after_step_call, absent_state, absent_answer, idle_state, idle_answer}
 use Rattle.snapshot_core.proofs.Following.{law_holds}
+use Rattle.snapshot_core.specs.Places.{KnownPlaces, places_by}
+use Rattle.snapshot_core.proofs.world.SnapWorld.step.Given.{Over}
 use Rattle.snapshot_core.proofs.world.SnapWorld.step.Goals as goal
 
+abbrev known : (g : Over) → KnownPlaces g.row.W.Denot g.row.W-Reg.Denot g.row.W-Value.Denot g.row.W-Walker.Denot g.row.W-Walk.Denot
+known g = places_by g.W.Walker.StepProgram.steps g.W.Walker.PlaceWalker.place_of g.W.Walk.SegmentWalk.walks g.W.StepMemory.steps g.W.Places.most_of g.W.Places.walker_from g.W.Places.walk_from g.W.Places.ties
+
 pub returns-in_default-clause-after : goal.returns-in_default-clause-after
-returns-in_default-clause-after g c = λ first r a.
+returns-in_default-clause-after g c =
     let none : None ≡ program_of c.args.id c.args.self.now.participants = rw (← c.self.view_is) c.in_default.ensures in
-    after_call g.W.Walker.StepProgram.steps g.W.Walker.PlaceWalker.place_of g.W.Walk.SegmentWalk.walks g.W.StepMemory.steps g.W.Places.walker_from g.W.Places.walk_from g.W.Places.most_of first c.args.self.now c.args.self.now r (Stepped c.args.id (Err NotBegun))
-    (absent_state g.W.Walker.StepProgram.steps g.W.Walker.PlaceWalker.place_of g.W.Walk.SegmentWalk.walks g.W.StepMemory.steps g.W.Places.walker_from g.W.Places.walk_from c.args.self.now c.args.id none) (inl (absent_answer g.W.Walker.StepProgram.steps g.W.Walker.PlaceWalker.place_of g.W.Walk.SegmentWalk.walks g.W.StepMemory.steps g.W.Places.walker_from g.W.Places.walk_from c.args.self.now c.args.id none)) a
+    after_call (known g) c.args.self.now c.args.self.now (Stepped c.args.id (Err NotBegun))
+    (absent_state (known g) c.args.self.now c.args.id none) (inl (absent_answer (known g) c.args.self.now c.args.id none))
 
 pub returns-then-is_idle-clause-after : goal.returns-then-is_idle-clause-after
-returns-then-is_idle-clause-after g c = λ first r a.
+returns-then-is_idle-clause-after g c =
     let some : Some c.in-Some.client.now ≡ program_of c.args.id c.args.self.now.participants = rw (← c.self.view_is) c.in-Some.ensures in
     let idle : is_idle c.in-Some.client.now.pending ≡ true = sym c.is_idle.ensures ∙ c.if-is_idle.true in
-    after_call g.W.Walker.StepProgram.steps g.W.Walker.PlaceWalker.place_of g.W.Walk.SegmentWalk.walks g.W.StepMemory.steps g.W.Places.walker_from g.W.Places.walk_from g.W.Places.most_of first c.args.self.now c.args.self.now r (Stepped c.args.id (Err Finished))
-    (idle_state g.W.Walker.StepProgram.steps g.W.Walker.PlaceWalker.place_of g.W.Walk.SegmentWalk.walks g.W.StepMemory.steps g.W.Places.walker_from g.W.Places.walk_from c.args.self.now c.args.id c.in-Some.client.now some idle) (inl (idle_answer g.W.Walker.StepProgram.steps g.W.Walker.PlaceWalker.place_of g.W.Walk.SegmentWalk.walks g.W.StepMemory.steps g.W.Places.walker_from g.W.Places.walk_from c.args.self.now c.args.id c.in-Some.client.now some idle)) a
+    after_call (known g) c.args.self.now c.args.self.now (Stepped c.args.id (Err Finished))
+    (idle_state (known g) c.args.self.now c.args.id c.in-Some.client.now some idle) (inl (idle_answer (known g) c.args.self.now c.args.id c.in-Some.client.now some idle))
 
 pub returns-in_err-step-clause-after : goal.returns-in_err-step-clause-after
-returns-in_err-step-clause-after g c = λ first r a.
-    let state : c.from_residual.result ≢ Err NoMemory → c.step.new.self ≡ after_snap_step g.W.Walker.StepProgram.steps g.W.Walker.PlaceWalker.place_of g.W.Walk.SegmentWalk.walks g.W.StepMemory.steps c.args.self.now c.args.id = search rules in
-    let reply : c.from_residual.result ≢ Err NoMemory → c.from_residual.result ≡ snap_answer g.W.Walker.StepProgram.steps g.W.Walker.PlaceWalker.place_of g.W.Walk.SegmentWalk.walks g.W.StepMemory.steps c.args.self.now c.args.id = search rules in
+returns-in_err-step-clause-after g c =
+    let state : c.from_residual.result ≢ Err NoMemory → c.step.new.self ≡ after_snap_step (known g) c.args.self.now c.args.id = search rules in
+    let reply : c.from_residual.result ≢ Err NoMemory → c.from_residual.result ≡ snap_answer (known g) c.args.self.now c.args.id = search rules in
     let kept : c.step.new.self ≡ c.args.self.now = search rules in
-    let lacks : c.from_residual.result ≡ Err NoMemory → may_lack_memory g.W.Walker.StepProgram.steps g.W.Walker.PlaceWalker.place_of g.W.Walk.SegmentWalk.walks g.W.StepMemory.steps c.args.self.now c.args.id ≡ true = search rules in
-    after_step_call g.W.Walker.StepProgram.steps g.W.Walker.PlaceWalker.place_of g.W.Walk.SegmentWalk.walks g.W.StepMemory.steps g.W.Places.walker_from g.W.Places.walk_from g.W.Places.most_of first c.args.self.now c.step.new.self r c.args.id c.from_residual.result state reply (λ h. (kept, lacks h)) a
+    let lacks : c.from_residual.result ≡ Err NoMemory → may_lack_memory (known g) c.args.self.now c.args.id ≡ true = search rules in
+    after_step_call (known g) c.args.self.now c.step.new.self c.args.id c.from_residual.result state reply (λ h. (kept, lacks h))
 
 pub returns-clause-after : goal.returns-clause-after
-returns-clause-after g c = λ first r a.
-    let state : c.match-branch-2.result ≢ Err NoMemory → c.step.new.self ≡ after_snap_step g.W.Walker.StepProgram.steps g.W.Walker.PlaceWalker.place_of g.W.Walk.SegmentWalk.walks g.W.StepMemory.steps c.args.self.now c.args.id = search rules in
-    let reply : c.match-branch-2.result ≢ Err NoMemory → c.match-branch-2.result ≡ snap_answer g.W.Walker.StepProgram.steps g.W.Walker.PlaceWalker.place_of g.W.Walk.SegmentWalk.walks g.W.StepMemory.steps c.args.self.now c.args.id = search rules in
+returns-clause-after g c =
+    let state : c.match-branch-2.result ≢ Err NoMemory → c.step.new.self ≡ after_snap_step (known g) c.args.self.now c.args.id = search rules in
+    let reply : c.match-branch-2.result ≢ Err NoMemory → c.match-branch-2.result ≡ snap_answer (known g) c.args.self.now c.args.id = search rules in
     let goes : c.match-branch-2.result ≢ Err NoMemory = search rules in
-    after_step_call g.W.Walker.StepProgram.steps g.W.Walker.PlaceWalker.place_of g.W.Walk.SegmentWalk.walks g.W.StepMemory.steps g.W.Places.walker_from g.W.Places.walk_from g.W.Places.most_of first c.args.self.now c.step.new.self r c.args.id c.match-branch-2.result state reply (λ h. absurd (goes h)) a
+    after_step_call (known g) c.args.self.now c.step.new.self c.args.id c.match-branch-2.result state reply (λ h. absurd (goes h))
 
 pub returns-in_default-clause-law : goal.returns-in_default-clause-law
-returns-in_default-clause-law g c = law_holds g.W.Walker.StepProgram.steps g.W.Walker.PlaceWalker.place_of g.W.Walk.SegmentWalk.walks g.W.StepMemory.steps g.W.Places.walker_from g.W.Places.walk_from g.W.Places.most_of g.W.Places.ties g.met.W.Places.laws c.args.self.now
+returns-in_default-clause-law g c = law_holds (known g) g.met.W.Places.laws c.args.self.now
 
 pub returns-then-is_idle-clause-law : goal.returns-then-is_idle-clause-law
-returns-then-is_idle-clause-law g c = law_holds g.W.Walker.StepProgram.steps g.W.Walker.PlaceWalker.place_of g.W.Walk.SegmentWalk.walks g.W.StepMemory.steps g.W.Places.walker_from g.W.Places.walk_from g.W.Places.most_of g.W.Places.ties g.met.W.Places.laws c.args.self.now
+returns-then-is_idle-clause-law g c = law_holds (known g) g.met.W.Places.laws c.args.self.now
 
 pub returns-in_err-step-clause-law : goal.returns-in_err-step-clause-law
-returns-in_err-step-clause-law g c = law_holds g.W.Walker.StepProgram.steps g.W.Walker.PlaceWalker.place_of g.W.Walk.SegmentWalk.walks g.W.StepMemory.steps g.W.Places.walker_from g.W.Places.walk_from g.W.Places.most_of g.W.Places.ties g.met.W.Places.laws c.step.new.self
+returns-in_err-step-clause-law g c = law_holds (known g) g.met.W.Places.laws c.step.new.self
 
 pub returns-clause-law : goal.returns-clause-law
-returns-clause-law g c = law_holds g.W.Walker.StepProgram.steps g.W.Walker.PlaceWalker.place_of g.W.Walk.SegmentWalk.walks g.W.StepMemory.steps g.W.Places.walker_from g.W.Places.walk_from g.W.Places.most_of g.W.Places.ties g.met.W.Places.laws c.step.new.self
+returns-clause-law g c = law_holds (known g) g.met.W.Places.laws c.step.new.self

@@ -1,0 +1,38 @@
+-- the law of a snapshot object over a grid with segments
+use Rattle.std.proofs.Common.{ℕ, ◌+◌, ◌*◌, ◌≤◌, List, Option, None, refl, arith}
+use Rattle.std.proofs.Math.Nat.{mul-le-mul_right}
+use Rattle.std.proofs.Math.ListN.{length-replicate}
+use Rattle.step_memory.specs.declared.record.Record.{Record}
+use Rattle.snapshot_places.specs.declared.grid_walker.GridWalker.{GridWalker}
+use Rattle.snapshot_places.specs.declared.grid_walk.GridWalk.{GridWalk}
+use Rattle.snapshot_places.specs.GridState.{GridState}
+use Rattle.snapshot_places.specs.Grid.{segments_for, fresh_grid}
+use Rattle.snapshot_places.specs.GridTies.{IsEmptyGrid, grid_places}
+use Rattle.snapshot_places.specs.GridLaws.{grid_laws}
+use Rattle.snapshot_core.specs.Places.{BoundsScans}
+use Rattle.snapshot_core.specs.SnapWorld.{SnapState}
+use Rattle.snapshot_core.specs.SnapCalls.{SnapCall, IsAfter}
+use Rattle.snapshot_core.specs.Snapshot.{KeepsSnapshotLaw}
+use Rattle.snapshot_core.proofs.FixedLaw.{empty_at}
+use Rattle.snapshot_core.proofs.Following.{law_holds}
+
+pub empty_grid : (m : ℕ) → m ≤ 16 → IsEmptyGrid (fresh_grid m)
+empty_grid m few = record { few = few; doors = refl; segments = length-replicate (segments_for m) (let nothing : Option Record = None in nothing); empty = empty_at (segments_for m) }
+
+-- there are no more participants than segments
+few_in : (m b : ℕ) → 1 ≤ b → b ≤ m → b ≤ segments_for m
+few_in m b some l =
+    let one : 1 ≤ m = omega arith in
+    let square = mul-le-mul_right m one in
+    omega arith
+
+fits_grid : (m : ℕ) → BoundsScans grid_places m (λ b. segments_for m * (segments_for m + 1))
+fits_grid m b some l =
+    let up : b + 1 ≤ segments_for m + 1 = (let few = few_in m b some l in omega arith) in
+    let product = mul-le-mul_right (segments_for m) up in
+    omega arith
+
+pub grid_law : (w : SnapState GridState GridWalker GridWalk) (r : List SnapCall) → w.most ≤ 16 → IsAfter grid_places (fresh_grid w.most) w r →
+    KeepsSnapshotLaw (record { placing = λ b. 4 * b; scanning = λ b. segments_for w.most * (segments_for w.most + 1) }) r
+grid_law w r few a =
+    law_holds grid_places grid_laws w (fresh_grid w.most) r (λ b. segments_for w.most * (segments_for w.most + 1)) (empty_grid w.most few) (fits_grid w.most) a

@@ -1,0 +1,2 @@
+pub mod GridLaw
+pub mod TreeLaw

@@ -1,0 +1,155 @@
+//! A grid of doors, with a segment at each.
+
+ghost use Rattle.std.specs.Prelude.{◌≡◌, ◌<◌, ◌≤◌, ℕ, OnOk, OnErr, IfOk, IfErr, Err, IsOk, Some, None, slice_index_or};
+ghost use Rattle.step_memory.specs.declared.access.Access.{Access};
+ghost use Rattle.step_memory.specs.Steps.{answer_from};
+ghost use Rattle.snapshot_places.specs.Grid.{fresh_grid, register_of, after_access, grid_steps, grid_walker, most_in, grid_walk};
+ghost use Rattle.snapshot_places.specs.GridTies.{IsEmptyGrid, grid_ties};
+ghost use Rattle.snapshot_places.specs.GridLaws.{others_kept, grid_laws};
+
+use crate::grid_register::{GridRegister, GridValue};
+use crate::grid_walk::GridWalk;
+use crate::grid_walker::GridWalker;
+use snapshot_core::{PlaceWalker, Places, SegmentWalk};
+use splitter_grid::{Door, Walker};
+use std::alloc::Allocator;
+use std::marker::Model;
+use step_memory::{Access, Answer, Memory, NoMemory, Place, Refusal, Segment, StepMemory};
+
+/// The doors of a grid, and a segment for each.
+#[derive(Drop)]
+pub struct Grid<A: Allocator> {
+    doors: Memory<u64, A>,
+    segments: Vec<Segment, A>,
+    most: usize,
+}
+
+impl<A: Allocator> Model for Grid<A> {
+    ghost use Rattle.snapshot_places.specs.GridState.{GridState};
+
+    ghost Value = { GridState };
+
+    ghost view = { λ g. record { doors = g.doors; segments = g.segments.items; most = g.most } };
+}
+
+impl<A: Allocator + Clone> Grid<A> {
+    /// A grid that no one has entered, for so many participants, from 1 to 16, with empty segments. Refused where they are
+    /// too many or none, then where the room for them was refused.
+    pub fn new(alloc: A, most: usize) -> Result<Self, Refusal>
+        ensures empty { IfOk result (λ g. g ≡ fresh_grid most) }
+        ensures fresh { IfOk result IsEmptyGrid }
+        ensures too_few { most < 1 → result ≡ Err Refusal.OutOfRange }
+        ensures too_many { 16 < most → result ≡ Err Refusal.OutOfRange }
+        ensures in_range { 1 ≤ most → most ≤ 16 → IfErr result (λ why. why ≡ Refusal.NoMemory) }
+    {
+        if most < 1 || 16 < most {
+            return Err(Refusal::OutOfRange);
+        }
+        let Ok(other) = alloc.clone() else {
+            return Err(Refusal::NoMemory);
+        };
+        let registers = most * (most + 1);
+        let Ok(doors) = Memory::new(other, 0, registers, 0) else {
+            return Err(Refusal::NoMemory);
+        };
+        let many = registers / 2;
+        let Ok(mut segments) = Vec::with_capacity(alloc, many) else {
+            return Err(Refusal::NoMemory);
+        };
+        for _i in 0..many {
+            segments.push_reserved(None);
+        }
+        Ok(Grid {
+            doors,
+            segments,
+            most,
+        })
+    }
+}
+
+impl<A: Allocator> Grid<A> {
+    /// The segment at a place, for what watches from outside. It is empty where there is none.
+    pub fn segment_at(&self, place: Place) -> Segment
+        ensures { result ≡ slice_index_or self.now.segments place None }
+    {
+        if place < self.segments.len() as u128 {
+            self.segments[place as usize]
+        } else {
+            None
+        }
+    }
+}
+
+impl<A: Allocator> StepMemory for Grid<A> {
+    type Reg = GridRegister;
+
+    type Value = GridValue;
+
+    ghost steps = { grid_steps };
+
+    fn access(&mut self, a: Access<GridRegister, GridValue>) -> Result<Answer<GridValue>, NoMemory>
+        ensures answer { IfOk result (λ got. got ≡ answer_from (register_of self.old) a) }
+        ensures after { OnOk result (self.new ≡ after_access self.old a) }
+        ensures sure { IsOk result }
+    {
+        Ok(match a {
+            Access::Read(GridRegister::Door(r)) => {
+                Answer::Value(GridValue::Word(self.doors.value(r)))
+            }
+            Access::Read(GridRegister::Segment(place)) => {
+                Answer::Value(GridValue::Contents(self.segment_at(place)))
+            }
+            Access::Write(GridRegister::Door(r), GridValue::Word(word)) => {
+                let _ = self.doors.access(Access::Write(r, word));
+                Answer::Done
+            }
+            Access::Write(GridRegister::Segment(place), GridValue::Contents(segment)) => {
+                if place < self.segments.len() as u128 {
+                    let at = place as usize;
+                    self.segments[at] = segment;
+                }
+                Answer::Done
+            }
+            Access::Write(GridRegister::Door(_), GridValue::Contents(_)) => Answer::Done,
+            Access::Write(GridRegister::Segment(_), GridValue::Word(_)) => Answer::Done,
+            Access::TestAndSet(_) => Answer::WasSet(false),
+            Access::Clear(_) => Answer::Done,
+            Access::Nothing => Answer::Done,
+        })
+    }
+
+    ghost others = { others_kept };
+}
+
+impl<A: Allocator> Places for Grid<A> {
+    type Walker = GridWalker;
+
+    type Walk = GridWalk;
+
+    ghost most_of = { most_in };
+
+    ghost walker_from = { grid_walker };
+
+    ghost walk_from = { grid_walk };
+
+    ghost ties = { grid_ties };
+
+    fn most(&self) -> usize {
+        self.most
+    }
+
+    fn walker(&self, _begun: usize, identity: u64) -> GridWalker {
+        GridWalker {
+            walker: Walker::new(identity, Door::corner()),
+        }
+    }
+
+    fn walk(&self) -> GridWalk {
+        GridWalk {
+            at: 0,
+            most: self.segments.len() as u128,
+        }
+    }
+
+    ghost laws = { grid_laws };
+}

@@ -1,0 +1,53 @@
+//! A walk over the segments of a grid.
+
+ghost use Rattle.std.specs.Prelude.{◌≡◌, ◌<◌, ◌≤◌};
+ghost use Rattle.snapshot_places.specs.Grid.{grid_walks};
+
+use crate::grid_register::{GridRegister, GridValue};
+use snapshot_core::SegmentWalk;
+use step_memory::{Place, Segment};
+
+/// A walk over the segments of a grid, by rising place: the next place, and how many segments there are.
+#[derive(Clone, Copy, Debug, Drop, PartialEq, Eq)]
+pub struct GridWalk {
+    pub at: Place,
+    pub most: Place,
+}
+
+impl SegmentWalk for GridWalk {
+    type Reg = GridRegister;
+
+    type Value = GridValue;
+
+    ghost walks = { grid_walks };
+
+    fn next(&self) -> GridRegister {
+        GridRegister::Segment(self.at)
+    }
+
+    fn place(&self) -> Option<Place> {
+        Some(self.at)
+    }
+
+    fn resume(&mut self, _got: &GridValue) -> bool {
+        if self.at < self.most {
+            self.at += 1;
+        }
+        self.most <= self.at
+    }
+
+    fn segment(place: Place) -> GridRegister {
+        GridRegister::Segment(place)
+    }
+
+    fn stored(segment: Segment) -> GridValue {
+        GridValue::Contents(segment)
+    }
+
+    fn content(value: &GridValue) -> Segment {
+        match value {
+            GridValue::Word(_) => None,
+            GridValue::Contents(segment) => *segment,
+        }
+    }
+}

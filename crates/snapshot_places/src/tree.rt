@@ -1,0 +1,107 @@
+//! Places in a tree that grows.
+
+ghost use Rattle.std.specs.Prelude.{◌≡◌, ◌≤◌, ◌<◌, OnOk, OnErr, IfOk, IsOk, Err, true};
+ghost use Rattle.step_memory.specs.declared.access.Access.{Access};
+ghost use Rattle.step_memory.specs.Steps.{answer_from};
+ghost use Rattle.snapshot_places.specs.Tree.{new_tree, register_in, tree_after, tree_refuses, tree_places_steps, tree_most, tree_walker, tree_walk};
+ghost use Rattle.snapshot_places.specs.TreeTies.{IsNewTree, tree_ties};
+ghost use Rattle.snapshot_places.specs.TreeLaws.{tree_others_kept, tree_laws};
+
+use crate::tree_walk::TreeWalk;
+use crate::tree_walker::TreeWalker;
+use snapshot_core::{PlaceWalker, Places, SegmentWalk};
+use splitter_tree::{CollectWalk, Tree, TreeRegister, TreeValue, Walker};
+use std::alloc::Allocator;
+use std::marker::Model;
+use step_memory::{Access, Answer, NoMemory, Refusal, StepMemory};
+
+/// A tree of splitters with a segment at each node. Nodes are made one at a time, as ways come to them. Whoever begins
+/// walks down from the root, and the node at which it stops is its place.
+#[derive(Drop)]
+pub struct TreePlaces<A: Allocator> {
+    tree: Tree<A>,
+    most: usize,
+}
+
+impl<A: Allocator> Model for TreePlaces<A> {
+    ghost use Rattle.std.specs.Coded.{coded_ℕ};
+    ghost use Rattle.std.specs.FinMap as map;
+    ghost use Rattle.splitter_tree.specs.contracts.door.Door as door;
+    ghost use Rattle.snapshot_places.specs.Tree.{TreeState, tree_code};
+
+    ghost Value = { TreeState };
+
+    ghost coded = { tree_code (map.code coded_ℕ door.the_row.coded) };
+
+    ghost view = { λ t. record { nodes = t.tree; most = t.most } };
+}
+
+impl<A: Allocator> TreePlaces<A> {
+    /// A tree of no node, for so many participants, from 1 to 16; `OutOfRange` elsewhere. It takes no memory yet.
+    pub fn new(alloc: A, most: usize) -> Result<Self, Refusal>
+        ensures empty { IfOk result (λ t. t ≡ new_tree most) }
+        ensures fresh { IfOk result IsNewTree }
+        ensures too_few { most < 1 → result ≡ Err Refusal.OutOfRange }
+        ensures too_many { 16 < most → result ≡ Err Refusal.OutOfRange }
+        ensures in_range { 1 ≤ most → most ≤ 16 → IsOk result }
+    {
+        if most < 1 || 16 < most {
+            return Err(Refusal::OutOfRange);
+        }
+        Ok(TreePlaces {
+            tree: Tree::new(alloc),
+            most,
+        })
+    }
+}
+
+impl<A: Allocator + Clone> StepMemory for TreePlaces<A> {
+    type Reg = TreeRegister;
+
+    type Value = TreeValue;
+
+    ghost steps = { tree_places_steps };
+
+    fn access(&mut self, a: Access<TreeRegister, TreeValue>) -> Result<Answer<TreeValue>, NoMemory>
+        ensures answer { IfOk result (λ got. got ≡ answer_from (register_in self.old) a) }
+        ensures after { OnOk result (self.new ≡ tree_after self.old a) }
+        ensures refused { OnErr result (self.new ≡ self.old) }
+        ensures no_memory { OnErr result (tree_refuses self.old a ≡ true) }
+    {
+        self.tree.access(a)
+    }
+
+    ghost others = { tree_others_kept };
+}
+
+impl<A: Allocator + Clone> Places for TreePlaces<A> {
+    type Walker = TreeWalker;
+
+    type Walk = TreeWalk;
+
+    ghost most_of = { tree_most };
+
+    ghost walker_from = { tree_walker };
+
+    ghost walk_from = { tree_walk };
+
+    ghost ties = { tree_ties };
+
+    fn most(&self) -> usize {
+        self.most
+    }
+
+    fn walker(&self, _begun: usize, identity: u64) -> TreeWalker {
+        TreeWalker {
+            walker: Walker::new(identity),
+        }
+    }
+
+    fn walk(&self) -> TreeWalk {
+        TreeWalk {
+            walk: CollectWalk::new(),
+        }
+    }
+
+    ghost laws = { tree_laws };
+}

@@ -1,0 +1,46 @@
+//! A walk over the segments of a tree.
+
+ghost use Rattle.snapshot_places.specs.Tree.{tree_walks};
+
+use snapshot_core::SegmentWalk;
+use splitter_tree::{CollectWalk, TreeRegister, TreeValue};
+use step_memory::{Place, Segment};
+
+/// A walk over the nodes that were made, each before its left subtree and that before its right one: it reads the mark of a
+/// node, and where that is set the node's segment and what lies below.
+#[derive(Clone, Copy, Debug, Drop, PartialEq, Eq)]
+pub struct TreeWalk {
+    pub walk: CollectWalk,
+}
+
+impl SegmentWalk for TreeWalk {
+    type Reg = TreeRegister;
+
+    type Value = TreeValue;
+
+    ghost walks = { tree_walks };
+
+    fn next(&self) -> TreeRegister {
+        self.walk.next()
+    }
+
+    fn place(&self) -> Option<Place> {
+        self.walk.place()
+    }
+
+    fn resume(&mut self, got: &TreeValue) -> bool {
+        self.walk.resume(got)
+    }
+
+    fn segment(place: Place) -> TreeRegister {
+        TreeRegister::Contents(place)
+    }
+
+    fn stored(segment: Segment) -> TreeValue {
+        TreeValue::Contents(segment)
+    }
+
+    fn content(value: &TreeValue) -> Segment {
+        CollectWalk::content(value)
+    }
+}
