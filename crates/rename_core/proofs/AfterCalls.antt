@@ -4,16 +4,14 @@ use Rattle.step_memory.specs.declared.refusal.Refusal.{Refusal}
 use Rattle.step_memory.specs.declared.refusal.Refusal.TheVariants.{ZeroIdentity, AlreadyBegun, Full, NotBegun, Finished, Spent, Crowded, NotCompeting, AlreadyCompeting, Holding, NotHolding, NoMemory, HistoryFull, OutOfRange}
 use Rattle.step_memory.specs.Calls.{Call, lacked_memory}
 use Rattle.step_memory.specs.Calls.Call.{Began, Stepped}
-use Rattle.step_memory.specs.Steps.{ProgramSteps, MemorySteps}
 use Rattle.step_memory.specs.World.{begin_refusal, done_unless}
 use Rattle.step_memory.specs.Runs.{Run}
 use Rattle.step_memory.proofs.RunLemmas.{run_more}
 use Rattle.step_memory.proofs.StepLemmas.{lacks_or_not}
-use Rattle.snapshot_core.specs.Walks.{WalkSteps}
 use Rattle.snapshot_core.specs.SnapWorld.{may_lack_memory}
 use Rattle.rename_core.specs.declared.reply.Reply.{Reply}
 use Rattle.rename_core.specs.RenameState.{RenameState}
-use Rattle.rename_core.specs.PlaceSteps.{PlaceSteps}
+use Rattle.snapshot_core.specs.Places.{KnownPlaces}
 use Rattle.rename_core.specs.RenameCalls.{next, IsReply, IsAfter, LeadsOn}
 use Rattle.rename_core.proofs.Sizes.{next_limit}
 use Rattle.rename_core.specs.RenameWorld.{rename_answer, after_rename_step, after_rename_begin, step_refusal, fresh_world, may_lack}
@@ -35,7 +33,7 @@ lacks_false (Err NoMemory) n = absurd (n refl)
 lacks_false (Err HistoryFull) n = refl
 lacks_false (Err OutOfRange) n = refl
 
-module _ {S R V U K : Type 0} (W : PlaceSteps S R V U K) (w new : RenameState S U K) where
+module _ {S R V U K : Type 0} (W : KnownPlaces S R V U K) (w new : RenameState S U K) where
   leads_on : (h : Call Reply) → new ≡ next W w h → IsReply W w h → LeadsOn W w new h
   leads_on h e is =
       let limit : (next W w h).limit ≡ w.limit = next_limit W w h in

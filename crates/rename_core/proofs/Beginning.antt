@@ -9,11 +9,9 @@ use Rattle.step_memory.specs.declared.participant.Participant.{Participant}
 use Rattle.step_memory.specs.declared.refusal.Refusal.{Refusal}
 use Rattle.step_memory.specs.Participant.{participant_of, beginner}
 use Rattle.step_memory.specs.Calls.Call.{Began}
-use Rattle.step_memory.specs.Steps.{ProgramSteps, MemorySteps}
 use Rattle.step_memory.specs.World.{begin_refusal, done_unless}
 use Rattle.step_memory.proofs.ParticipantLemmas.{participant_of-push}
 use Rattle.step_memory.proofs.WorldKeeps.{IsLetIn, let_in}
-use Rattle.snapshot_core.specs.Walks.{WalkSteps}
 use Rattle.snapshot_core.specs.declared.client.Client.{Client}
 use Rattle.snapshot_core.specs.Client.{is_idle, first_pending}
 use Rattle.snapshot_core.specs.SnapWorld.{SnapState, beginner_at, after_update}
@@ -24,7 +22,7 @@ use Rattle.snapshot_core.specs.Snapshot.Task.{Placing as ToPlace, Updating as To
 use Rattle.rename_core.specs.declared.round.Round.{Round}
 use Rattle.rename_core.specs.Round.{first_round, first_wish}
 use Rattle.rename_core.specs.RenameState.{RenameState}
-use Rattle.rename_core.specs.PlaceSteps.{PlaceSteps}
+use Rattle.snapshot_core.specs.Places.{KnownPlaces}
 use Rattle.rename_core.specs.Pace.{Pace, paced, first_phase}
 use Rattle.rename_core.specs.Pace.Phase.{ToPlace as ToGo, ToPropose}
 use Rattle.rename_core.specs.RenameWorld.{after_wish, begun_snap, has_place, begun_unless}
@@ -40,9 +38,9 @@ idle_first : (x : Option ℕ) → is_idle (first_pending x) ≡ is_some x
 idle_first None = refl
 idle_first (Some x) = refl
 
-module _ {S R V U K : Type 0} (W : PlaceSteps S R V U K) (terms : RenameTerms) (bounds : SnapBounds)
+module _ {S R V U K : Type 0} (W : KnownPlaces S R V U K) (terms : RenameTerms) (bounds : SnapBounds)
     (Tie : SnapState S U K → SnapObject → Type 0)
-    (tie_goes : (w : SnapState S U K) (o : SnapObject) (h : SnapCall) → Tie w o → IsSnapReply W.walker W.place_of W.walks W.memory W.walker_from W.walk_from w h → Tie (snap_next W.walker W.place_of W.walks W.memory W.walker_from W.walk_from w h) (observed o h) × SnapAllows bounds o h)
+    (tie_goes : (w : SnapState S U K) (o : SnapObject) (h : SnapCall) → Tie w o → IsSnapReply W w h → Tie (snap_next W w h) (observed o h) × SnapAllows bounds o h)
     (w : RenameState S U K) (o : RenameObject) (t : Pace) (i : IsTied terms Tie w o t) (p : ℕ) (at_once : (b q : ℕ) → is_some (W.place_of (W.walker_from b q)) ≡ (bounds.placing 1 == 0)) where
   begin_is : no_begin terms o p ≡ begin_refusal w.snap p
   begin_is =
@@ -55,7 +53,7 @@ module _ {S R V U K : Type 0} (W : PlaceSteps S R V U K) (terms : RenameTerms) (
     s = i.object
 
     abbrev client : Client U K
-    client = beginner_at W.place_of W.walker_from W.walk_from w.snap p
+    client = beginner_at W w.snap p
 
     abbrev snap1 : SnapState S U K
     snap1 = begun_snap W w p
@@ -143,6 +141,7 @@ module _ {S R V U K : Type 0} (W : PlaceSteps S R V U K) (terms : RenameTerms) (
 
       carries : (q : ℕ) → q ≢ p → Carries o o' t t' s u w.snap snap q
       carries q n = record {
+        place = refl;
         name = refl;
         spent = refl;
         count = refl;
@@ -195,7 +194,7 @@ module _ {S R V U K : Type 0} (W : PlaceSteps S R V U K) (terms : RenameTerms) (
         ];
       }
 
-    unborn : (o.count p ≡ 0) × (o.name p ≡ None) × (o.spent p ≡ false)
+    unborn : (o.count p ≡ 0) × (o.name p ≡ None) × (o.spent p ≡ false) × (o.place p ≡ None)
     unborn = i.absent p new_round
 
     -- who begins has proposed nothing
@@ -224,6 +223,7 @@ module _ {S R V U K : Type 0} (W : PlaceSteps S R V U K) (terms : RenameTerms) (
       own = record {
         going = record { unnamed = unborn.1; left = unborn.2 };
         none = refl;
+        unplaced = unborn.3;
         task = set_at-same s.task p ToPlace;
         stands = subst (λ (b : Bool). StandsAt snap1 p b 0) e stands1;
         phase = set_at-same t.phase p (first_phase bounds) ∙ phase_is false e;

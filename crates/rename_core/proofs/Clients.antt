@@ -21,10 +21,10 @@ use Rattle.snapshot_core.specs.declared.client.Pending.{Pending}
 use Rattle.snapshot_core.specs.declared.client.Pending.TheVariants.{Nothing, Placing, Scan, Update, Write as Writing}
 use Rattle.snapshot_core.specs.declared.client.SnapReply.{SnapReply}
 use Rattle.snapshot_core.specs.declared.client.SnapReply.TheVariants.{Quiet as Silent, Placed, Written, View as Viewed}
-use Rattle.snapshot_core.specs.Walks.{WalkSteps}
-use Rattle.snapshot_core.specs.Client.{is_idle, client_steps, client_after, client_note, after_for, note_for, is_placed, placed_note, pending_after, note_after, updating, scanning}
+use Rattle.snapshot_core.specs.Places.{KnownPlaces}
+use Rattle.snapshot_core.specs.Client.{is_idle, client_after, client_note, after_for, note_for, is_placed, placed_note, pending_after, note_after, updating, scanning}
 use Rattle.snapshot_core.specs.Scan.{scan_view}
-use Rattle.snapshot_core.specs.SnapWorld.{SnapState, asked, after_scan, after_update, scan_refusal, update_refusal, snap_answer, after_snap_step, after_snap_by, told}
+use Rattle.snapshot_core.specs.SnapWorld.{SnapState, clients_over, asked, after_scan, after_update, scan_refusal, update_refusal, snap_answer, after_snap_step, after_snap_by, told}
 
 abbrev pub is_silent : SnapReply → Bool
 is_silent Silent = true
@@ -101,19 +101,19 @@ module _ {S U K : Type 0} (w : SnapState S U K) (p : ℕ) where
   pub update_large : (value : ℕ) → IsAsLarge w (after_update w p value)
   update_large value = asked_large (λ c. updating c value) (program_of p w.participants) (update_refusal w p)
 
-module _ {S R V U K : Type 0} (walker : ProgramSteps U R V ℕ) (place_of : U → Option ℕ) (walks : WalkSteps K R V) (memory : MemorySteps S R V) where
-  step_large_by : (w : SnapState S U K) (o : Option (Participant (Client U K))) → IsAsLarge w (after_step_by (client_steps walker place_of walks) memory w o)
+module _ {S R V U K : Type 0} (W : KnownPlaces S R V U K) where
+  step_large_by : (w : SnapState S U K) (o : Option (Participant (Client U K))) → IsAsLarge w (after_step_by (clients_over W) W.memory w o)
   step_large_by w None = record { most = refl; many = refl }
-  step_large_by w (Some v) = elim v.ended as (λ b. IsAsLarge w (after_step_by (client_steps walker place_of walks) memory w (Some (record { identity = v.identity; program = v.program; ended = b })))) [
+  step_large_by w (Some v) = elim v.ended as (λ b. IsAsLarge w (after_step_by (clients_over W) W.memory w (Some (record { identity = v.identity; program = v.program; ended = b })))) [
     | true ↦ record { most = refl; many = refl }
-    | false ↦ record { most = refl; many = length-with_participant w.participants (resumed (client_steps walker place_of walks) v (got_by (client_steps walker place_of walks) memory w.memory v)) }
+    | false ↦ record { most = refl; many = length-with_participant w.participants (resumed (clients_over W) v (got_by (clients_over W) W.memory w.memory v)) }
   ]
 
-  snap_large_by : (w : SnapState S U K) (p : ℕ) (o : Option (Client U K)) → IsAsLarge w (after_snap_by walker place_of walks memory w p o)
+  snap_large_by : (w : SnapState S U K) (p : ℕ) (o : Option (Client U K)) → IsAsLarge w (after_snap_by W w p o)
   snap_large_by w p None = record { most = refl; many = refl }
-  snap_large_by w p (Some c) = elim (is_idle c.pending) as (λ b. IsAsLarge w (cond b w (after_step (client_steps walker place_of walks) memory w p))) [ true ↦ record { most = refl; many = refl } | false ↦ step_large_by w (participant_of p w.participants) ]
+  snap_large_by w p (Some c) = elim (is_idle c.pending) as (λ b. IsAsLarge w (cond b w (after_step (clients_over W) W.memory w p))) [ true ↦ record { most = refl; many = refl } | false ↦ step_large_by w (participant_of p w.participants) ]
 
-  pub snap_large : (w : SnapState S U K) (p : ℕ) → IsAsLarge w (after_snap_step walker place_of walks memory w p)
+  pub snap_large : (w : SnapState S U K) (p : ℕ) → IsAsLarge w (after_snap_step W w p)
   snap_large w p = snap_large_by w p (program_of p w.participants)
 
   -- what a participant that has something to do does with an answer
@@ -122,7 +122,7 @@ module _ {S R V U K : Type 0} (walker : ProgramSteps U R V ℕ) (place_of : U �
     pub idle : is_idle after.pending ≡ not (is_silent (told note))
     pub updates : after.updates ≡ c.updates
 
-  placed_moves : (c : Client U K) (got : Answer V) → c.pending ≡ Placing → (n : Note ℕ) → Moves c (record c { walker = walker.resumed c.walker got; pending = cond (is_placed walker n) Nothing c.pending }) (placed_note walker n)
+  placed_moves : (c : Client U K) (got : Answer V) → c.pending ≡ Placing → (n : Note ℕ) → Moves c (record c { walker = W.walker.resumed c.walker got; pending = cond (is_placed W.walker n) Nothing c.pending }) (placed_note W.walker n)
   placed_moves c got e Quiet = record { goes = refl; idle = ap is_idle e; updates = refl }
   placed_moves c got e (Said place) = record { goes = refl; idle = ap is_idle e; updates = refl }
   placed_moves c got e (Ended place) = record { goes = refl; idle = refl; updates = refl }
@@ -132,13 +132,13 @@ module _ {S R V U K : Type 0} (walker : ProgramSteps U R V ℕ) (place_of : U �
   viewed_moves c after e u None (Some view) h = record { goes = refl; idle = ap is_idle h; updates = u }
   viewed_moves c after e u (Some value) (Some view) h = record { goes = refl; idle = ap is_idle h; updates = u }
 
-  moves_for : (c : Client U K) (got : Answer V) (pending : Pending) → c.pending ≡ pending → is_idle pending ≡ false → Moves c (after_for walker walks c pending got) (note_for walker walks c pending got)
+  moves_for : (c : Client U K) (got : Answer V) (pending : Pending) → c.pending ≡ pending → is_idle pending ≡ false → Moves c (after_for W.walker W.walks c pending got) (note_for W.walker W.walks c pending got)
   moves_for c got Nothing e busy = absurd (cc)
-  moves_for c got Placing e busy = placed_moves c got e (walker.note c.walker got)
-  moves_for c (Value got) Scan e busy = viewed_moves c (after_for walker walks c Scan (Value got)) (ap is_idle e) refl None (scan_view walks c.scan got) refl
+  moves_for c got Placing e busy = placed_moves c got e (W.walker.note c.walker got)
+  moves_for c (Value got) Scan e busy = viewed_moves c (after_for W.walker W.walks c Scan (Value got)) (ap is_idle e) refl None (scan_view W.walks c.scan got) refl
   moves_for c (WasSet was) Scan e busy = record { goes = refl; idle = ap is_idle e; updates = refl }
   moves_for c Done Scan e busy = record { goes = refl; idle = ap is_idle e; updates = refl }
-  moves_for c (Value got) (Update value) e busy = viewed_moves c (after_for walker walks c (Update value) (Value got)) (ap is_idle e) refl (Some value) (scan_view walks c.scan got) refl
+  moves_for c (Value got) (Update value) e busy = viewed_moves c (after_for W.walker W.walks c (Update value) (Value got)) (ap is_idle e) refl (Some value) (scan_view W.walks c.scan got) refl
   moves_for c (WasSet was) (Update value) e busy = record { goes = refl; idle = ap is_idle e; updates = refl }
   moves_for c Done (Update value) e busy = record { goes = refl; idle = ap is_idle e; updates = refl }
   moves_for c got (Writing value view) e busy = record { goes = refl; idle = refl; updates = refl }
@@ -146,25 +146,25 @@ module _ {S R V U K : Type 0} (walker : ProgramSteps U R V ℕ) (place_of : U �
   -- a step of one who has something to do
   pub record HasStepped (w : SnapState S U K) (p n : ℕ) : Type 0 where
     pub reply : SnapReply
-    pub answer : snap_answer walker place_of walks memory w p ≡ Ok reply
-    pub stands : StandsAt (after_snap_step walker place_of walks memory w p) p (not (is_silent reply)) n
-    pub others : (q : ℕ) → q ≢ p → participant_of q (after_snap_step walker place_of walks memory w p).participants ≡ participant_of q w.participants
+    pub answer : snap_answer W w p ≡ Ok reply
+    pub stands : StandsAt (after_snap_step W w p) p (not (is_silent reply)) n
+    pub others : (q : ℕ) → q ≢ p → participant_of q (after_snap_step W w p).participants ≡ participant_of q w.participants
 
   pub has_stepped : (w : SnapState S U K) (p n : ℕ) → StandsAt w p false n → HasStepped w p n
   has_stepped w p n h =
-      let steps : ProgramSteps (Client U K) R V SnapReply = client_steps walker place_of walks in
+      let steps : ProgramSteps (Client U K) R V SnapReply = clients_over W in
       let there = program_there w p false n h in
-      let got : Answer V = got_by steps memory w.memory h.who in
-      let m : Moves h.who.program (client_after walker walks h.who.program got) (client_note walker walks h.who.program got) = moves_for h.who.program got h.who.program.pending refl h.idle_is in
+      let got : Answer V = got_by steps W.memory w.memory h.who in
+      let m : Moves h.who.program (client_after W.walker W.walks h.who.program got) (client_note W.walker W.walks h.who.program got) = moves_for h.who.program got h.who.program.pending refl h.idle_is in
       let new : Participant (Client U K) = resumed steps h.who got in
       let own : new.identity ≡ p = identity_of p w.participants h.who h.is in
-      let goes : after_snap_step walker place_of walks memory w p ≡ record { memory = memory.after w.memory (steps.next h.who.program); most = w.most; participants = with_participant new w.participants } =
-      rw (there, h.idle_is) (going_after steps memory w p h.who h.is h.goes) in
+      let goes : after_snap_step W w p ≡ record { memory = W.memory.after w.memory (steps.next h.who.program); most = w.most; participants = with_participant new w.participants } =
+      rw (there, h.idle_is) (going_after steps W.memory w p h.who h.is h.goes) in
       let put : (q : ℕ) → participant_of q (with_participant new w.participants) ≡ set_at (λ v. participant_of v w.participants) p (Some new) q =
       λ q. participant_of-put w.participants new (rw (own, h.is) refl) q ∙ ap (λ (x : ℕ). set_at (λ v. participant_of v w.participants) x (Some new) q) own in
       record {
-        reply = told (client_note walker walks h.who.program got);
-        answer = rw (there, h.idle_is, going_answer steps memory w p h.who h.is h.goes) refl;
+        reply = told (client_note W.walker W.walks h.who.program got);
+        answer = rw (there, h.idle_is, going_answer steps W.memory w p h.who h.is h.goes) refl;
         stands = rw goes (record { who = new; is = put p ∙ set_at-same (λ v. participant_of v w.participants) p (Some new); goes = m.goes; idle_is = m.idle; updates_is = m.updates ∙ h.updates_is });
         others = λ q other. rw goes (put q ∙ set_at-other (λ v. participant_of v w.participants) p (Some new) q other);
       }

@@ -7,10 +7,10 @@ use Rattle.step_memory.specs.declared.refusal.Refusal.TheVariants.{NotBegun, Fin
 use Rattle.step_memory.specs.Participant.{participant_of, program_of}
 use Rattle.step_memory.specs.Calls.{Call, lacked_memory}
 use Rattle.step_memory.specs.Calls.Call.{Stepped}
-use Rattle.step_memory.specs.Steps.{ProgramSteps, MemorySteps}
-use Rattle.snapshot_core.specs.Walks.{WalkSteps}
 use Rattle.snapshot_core.specs.SnapWorld.{SnapState, after_snap_step, may_lack_memory}
 use Rattle.snapshot_core.specs.SnapCalls.{SnapCall, next as snap_next, IsReply as IsSnapReply}
+use Rattle.snapshot_core.specs.SnapCalls.SnapCall.{Stepped as SnapStepped}
+use Rattle.snapshot_core.specs.Snapshot.Task.{Placing as ToPlace, Scanning as ToScan, Updating as ToUpdate}
 use Rattle.snapshot_core.specs.Snapshot.{SnapObject, SnapBounds, observed, Allows as SnapAllows}
 use Rattle.rename_core.specs.declared.reply.Reply.{Reply}
 use Rattle.rename_core.specs.declared.round.Round.{Round}
@@ -18,7 +18,7 @@ use Rattle.rename_core.specs.declared.round.Stage.{Stage}
 use Rattle.rename_core.specs.declared.round.Stage.TheVariants.{Placing, Proposing, Looking, Settled, Over}
 use Rattle.rename_core.specs.Round.{stage_refusal, followed}
 use Rattle.rename_core.specs.RenameState.{RenameState}
-use Rattle.rename_core.specs.PlaceSteps.{PlaceSteps}
+use Rattle.snapshot_core.specs.Places.{KnownPlaces}
 use Rattle.rename_core.specs.Pace.{Pace, InTime, paced}
 use Rattle.rename_core.specs.RenameCalls.{next, IsReply}
 use Rattle.rename_core.specs.RenameWorld.{after_follow, rename_answer, after_rename_step, step_refusal, may_lack}
@@ -27,9 +27,9 @@ use Rattle.rename_core.proofs.Clients.{HasStepped, has_stepped}
 use Rattle.rename_core.proofs.Tied.{IsAtStage, IsTied}
 use Rattle.rename_core.proofs.Stepping.{HasGone, placing_gone, proposing_gone, looking_gone}
 
-module _ {S R V U K : Type 0} (W : PlaceSteps S R V U K) (terms : RenameTerms) (bounds : SnapBounds)
+module _ {S R V U K : Type 0} (W : KnownPlaces S R V U K) (terms : RenameTerms) (bounds : SnapBounds)
     (Tie : SnapState S U K → SnapObject → Type 0)
-    (tie_goes : (w : SnapState S U K) (o : SnapObject) (h : SnapCall) → Tie w o → IsSnapReply W.walker W.place_of W.walks W.memory W.walker_from W.walk_from w h → Tie (snap_next W.walker W.place_of W.walks W.memory W.walker_from W.walk_from w h) (observed o h) × SnapAllows bounds o h) where
+    (tie_goes : (w : SnapState S U K) (o : SnapObject) (h : SnapCall) → Tie w o → IsSnapReply W w h → Tie (snap_next W w h) (observed o h) × SnapAllows bounds o h) where
   -- the object may give this reply, it comes in time, and all go on together
   pub record Goes (w : RenameState S U K) (o : RenameObject) (t : Pace) (h : Call Reply) : Type 0 where
     pub allowed : Allows terms o h
@@ -71,20 +71,20 @@ module _ {S R V U K : Type 0} (W : PlaceSteps S R V U K) (terms : RenameTerms) (
       refused_goes : (why : Refusal) → lacked_memory {X = Reply} (Err why) ≡ false → stage_refusal v.program.stage ≡ Some why → no_step o p ≡ Some why → Answered
       refused_goes why lacks closed due = conclude (Err why) w (rw (program_is, closed) refl) lacks (rw (program_is, closed) refl) (inl due) tt i
 
-      open_goes : (n : ℕ) → (k : HasStepped W.walker W.place_of W.walks W.memory w.snap p n) → stage_refusal v.program.stage ≡ None → no_step o p ≡ None → HasGone W terms bounds Tie tie_goes w o t i p v here (followed v.program p k.reply w.limit) → Answered
+      open_goes : (n : ℕ) → (k : HasStepped W w.snap p n) → stage_refusal v.program.stage ≡ None → no_step o p ≡ None → HasGone W terms bounds Tie tie_goes w o t i p v here (followed v.program p k.reply w.limit) → Answered
       open_goes n k unclosed none gone =
           conclude (Ok (followed v.program p k.reply w.limit).reply) (after_follow W w p (followed v.program p k.reply w.limit))
           (rw (program_is, unclosed, k.answer) refl) refl (rw (program_is, unclosed, k.answer) refl) (none, gone.allowed) gone.timed gone.tied
 
       stage_goes : (stage : Stage) → v.program.stage ≡ stage → IsAtStage terms o t i.object w.snap p v.program stage → Answered
       stage_goes Placing e h =
-          let k = has_stepped W.walker W.place_of W.walks W.memory w.snap p 0 h.stands in
+          let k = has_stepped W w.snap p 0 h.stands in
           open_goes 0 k (ap stage_refusal e) (open_step h.going.unnamed h.going.left) (placing_gone W terms bounds Tie tie_goes w o t i p v here h e k)
       stage_goes (Proposing number) e h =
-          let k = has_stepped W.walker W.place_of W.walks W.memory w.snap p (v.program.count + 1) h.stands in
+          let k = has_stepped W w.snap p (v.program.count + 1) h.stands in
           open_goes (v.program.count + 1) k (ap stage_refusal e) (open_step h.going.unnamed h.going.left) (proposing_gone W terms bounds Tie tie_goes w o t i p v here number h e k)
       stage_goes Looking e h =
-          let k = has_stepped W.walker W.place_of W.walks W.memory w.snap p v.program.count h.stands in
+          let k = has_stepped W w.snap p v.program.count h.stands in
           open_goes v.program.count k (ap stage_refusal e) (open_step h.going.unnamed h.going.left) (looking_gone W terms bounds Tie tie_goes w o t i p v here h e k)
       stage_goes Settled e h = refused_goes Finished refl (ap stage_refusal e) (named_step (ap is_some h.1))
       stage_goes Over e h = refused_goes IsSpent refl (ap stage_refusal e) (spent_step h.0 h.1)
@@ -92,28 +92,31 @@ module _ {S R V U K : Type 0} (W : PlaceSteps S R V U K) (terms : RenameTerms) (
       there_goes : Answered
       there_goes = stage_goes v.program.stage refl (i.stages p v here)
 
-      open_none : (stage : Stage) → IsAtStage terms o t i.object w.snap p v.program stage → stage_refusal stage ≡ None → no_step o p ≡ None
-      open_none Placing h none = open_step h.going.unnamed h.going.left
-      open_none (Proposing number) h none = open_step h.going.unnamed h.going.left
-      open_none Looking h none = open_step h.going.unnamed h.going.left
-      open_none Settled h none = absurd (cc)
-      open_none Over h none = absurd (cc)
-
     answered : Answered
     answered = elim (participant_of p w.rounds) as (λ z. participant_of p w.rounds ≡ z → Answered) [
       | None ↦ λ h. absent_goes h
       | Some v ↦ λ h. there_goes v h
     ] refl
 
-    -- a step for which a growth was refused
-    no_step_none : step_refusal w p ≡ None → no_step o p ≡ None
-    no_step_none none = elim (participant_of p w.rounds) as (λ z. participant_of p w.rounds ≡ z → no_step o p ≡ None) [
+    -- a step for which a growth was refused: only one who has no place yet makes such a step
+    module _ (v : Participant Round) (here : participant_of p w.rounds ≡ Some v) where
+      stage_lacks : (stage : Stage) → IsAtStage terms o t i.object w.snap p v.program stage → stage_refusal stage ≡ None → i.object.task p ≡ ToPlace → (no_step o p ≡ None) × (o.place p ≡ None)
+      stage_lacks Placing h none e = (open_step v here h.going.unnamed h.going.left, h.unplaced)
+      stage_lacks (Proposing number) h none e = absurd (let no : ToUpdate number ≡ ToPlace = sym h.task ∙ e in cc)
+      stage_lacks Looking h none e = absurd (let no : ToScan ≡ ToPlace = sym h.task ∙ e in cc)
+      stage_lacks Settled h none e = absurd (cc)
+      stage_lacks Over h none e = absurd (cc)
+
+    lacks : step_refusal w p ≡ None → i.object.task p ≡ ToPlace → (no_step o p ≡ None) × (o.place p ≡ None)
+    lacks none e = elim (participant_of p w.rounds) as (λ z. participant_of p w.rounds ≡ z → (no_step o p ≡ None) × (o.place p ≡ None)) [
       | None ↦ λ h. absurd (let k : Some NotBegun ≡ None = rw h at none in cc)
-      | Some v ↦ λ h. open_none v h v.program.stage (i.stages p v h) (rw h at none)
+      | Some v ↦ λ h. stage_lacks v h v.program.stage (i.stages p v h) (rw h at none) e
     ] refl
 
     pub step_goes : ((s : RenameState S U K) (q : ℕ) → may_lack W s q ≡ true → terms.grows ≡ true) → (reply : Result Reply Refusal) → IsReply W w (Stepped p reply) → Goes w o t (Stepped p reply)
     step_goes grows reply (inl e) = subst (λ (x : Result Reply Refusal). Goes w o t (Stepped p x)) (sym e) answered
     step_goes grows reply (inr e) =
-        let refused : Goes w o t (Stepped p (Err NoMemory)) = record { allowed = inr (no_step_none e.1, refl, grows w p e.2); timed = tt; tied = i } in
+        let on_way = (tie_goes w.snap i.object (SnapStepped p (Err NoMemory)) i.tie (inr (refl, e.2))).1 refl in
+        let k = lacks e.1 on_way in
+        let refused : Goes w o t (Stepped p (Err NoMemory)) = record { allowed = inr (record { is = refl; grows = grows w p e.2; none_due = k.0; unplaced = k.1 }); timed = tt; tied = i } in
         subst (λ (x : Result Reply Refusal). Goes w o t (Stepped p x)) (sym e.0) refused

@@ -3,7 +3,7 @@ use Rattle.std.proofs.Common.{◌≡◌, ℕ, ◌+◌, ◌*◌, ◌==◌, true, 
 use Rattle.std.specs.Prelude.{is_some}
 use Rattle.snapshot_core.specs.Places.{PlacesLaws}
 use Rattle.snapshot_core.specs.SnapWorld.{SnapState, may_lack_memory}
-use Rattle.rename_core.specs.PlaceSteps.{PlaceSteps}
+use Rattle.snapshot_core.specs.Places.{KnownPlaces}
 use Rattle.rename_core.specs.Config.{is_tree}
 use Rattle.rename_core.specs.declared.config.WorldKind.{WorldKind}
 use Rattle.rename_core.specs.declared.reply.Reply.{Reply}
@@ -14,12 +14,12 @@ use Rattle.rename_core.specs.RenameWorld.{name_in}
 use Rattle.step_memory.specs.Calls.{Call}
 use Rattle.rename_core.proofs.Names.{MayBeNamed, rename_law, name_law}
 
-module _ {S R V U K : Type 0} (W : PlaceSteps S R V U K) (laws : PlacesLaws W.walker W.place_of W.walks W.memory W.most_of W.walker_from W.walk_from W.ties) (kind : WorldKind)
-    (may_grow : (s : SnapState S U K) (p : ℕ) → may_lack_memory W.walker W.place_of W.walks W.memory s p ≡ true → is_tree kind ≡ true)
+module _ {S R V U K : Type 0} (W : KnownPlaces S R V U K) (laws : PlacesLaws W) (kind : WorldKind)
+    (may_grow : (s : SnapState S U K) (p : ℕ) → may_lack_memory W s p ≡ true → is_tree kind ≡ true)
     (at_once : (b q : ℕ) → is_some (W.place_of (W.walker_from b q)) ≡ (W.ties.placing 1 == 0)) where
   -- as many collects as have begun and one more, of as many reads as there may be
   by_collects : (most : ℕ) → MayBeNamed W (is_tree kind) most (λ b. (b + 1) * W.ties.reads most b)
-  by_collects most = record { laws = laws; fits = λ b l. omega arith; may_grow = λ s p h. may_grow s.snap p h; at_once = at_once }
+  by_collects most = record { laws = laws; fits = λ b some l. omega arith; may_grow = λ s p h. may_grow s.snap p h; at_once = at_once }
 
   pub is_lawful : (w : RenameState S U K) → IsLawful W kind w
   is_lawful w r a = rename_law W kind (λ b. (b + 1) * W.ties.reads w.snap.most b) w (by_collects w.snap.most) r a

@@ -20,7 +20,7 @@ use Rattle.rename_core.specs.declared.round.Stage.{Stage}
 use Rattle.rename_core.specs.declared.round.Stage.TheVariants.{Placing, Proposing, Looking, Settled, Over}
 use Rattle.rename_core.specs.Law.{KeepsRenameLaw}
 use Rattle.rename_core.specs.Pace.{Pace, InTime, new_pace, paced, IsPaced}
-use Rattle.rename_core.specs.PlaceSteps.{PlaceSteps}
+use Rattle.snapshot_core.specs.Places.{KnownPlaces}
 use Rattle.rename_core.specs.RenameCalls.{next, IsReply, IsAfter, terms_of}
 use Rattle.rename_core.specs.RenameObject.{RenameTerms, RenameObject, new_object, IsRecent, Allows, after, IsRun}
 use Rattle.rename_core.specs.RenameState.{RenameState}
@@ -54,22 +54,22 @@ distinct_names o h p q n mine theirs = elim (eqb_tells p q) [
 ]
 
 -- what is assumed of places that names are given over, whose scans take no more steps than this
-pub record MayBeNamed {S R V U K : Type 0} (W : PlaceSteps S R V U K) (grows : Bool) (most : ℕ) (scanning : ℕ → ℕ) : Type 0 where
-  pub laws : PlacesLaws W.walker W.place_of W.walks W.memory W.most_of W.walker_from W.walk_from W.ties
-  pub fits : BoundsScans W.ties most scanning
+pub record MayBeNamed {S R V U K : Type 0} (W : KnownPlaces S R V U K) (grows : Bool) (most : ℕ) (scanning : ℕ → ℕ) : Type 0 where
+  pub laws : PlacesLaws W
+  pub fits : BoundsScans W most scanning
   pub may_grow : (s : RenameState S U K) (p : ℕ) → may_lack W s p ≡ true → grows ≡ true
   pub at_once : (b q : ℕ) → is_some (W.place_of (W.walker_from b q)) ≡ (W.ties.placing 1 == 0)
 
-module _ {S R V U K : Type 0} (W : PlaceSteps S R V U K) (terms : RenameTerms) (scanning : ℕ → ℕ) (named : MayBeNamed W terms.grows terms.most scanning)
+module _ {S R V U K : Type 0} (W : KnownPlaces S R V U K) (terms : RenameTerms) (scanning : ℕ → ℕ) (named : MayBeNamed W terms.grows terms.most scanning)
     (first : S) (new : W.ties.IsNew first) (most : W.most_of first ≡ terms.most) (low : 1 ≤ terms.limit) (high : terms.limit ≤ 1000000) where
   abbrev bounds : SnapBounds
   bounds = record { placing = W.ties.placing; scanning = scanning }
 
   abbrev Tie : SnapState S U K → SnapObject → Type 0
-  Tie w o = AreAfter W.walker W.place_of W.walks W.memory W.walker_from W.walk_from W.most_of W.ties named.laws bounds first w o
+  Tie w o = AreAfter W named.laws bounds first w o
 
-  pub tie_goes : (w : SnapState S U K) (o : SnapObject) (h : SnapCall) → Tie w o → IsSnapReply W.walker W.place_of W.walks W.memory W.walker_from W.walk_from w h → Tie (snap_next W.walker W.place_of W.walks W.memory W.walker_from W.walk_from w h) (observed o h) × SnapAllows bounds o h
-  tie_goes w o h k is = after_more W.walker W.place_of W.walks W.memory W.walker_from W.walk_from W.most_of W.ties named.laws first scanning new (rw most named.fits) w o h k is
+  pub tie_goes : (w : SnapState S U K) (o : SnapObject) (h : SnapCall) → Tie w o → IsSnapReply W w h → Tie (snap_next W w h) (observed o h) × SnapAllows bounds o h
+  tie_goes w o h k is = after_more W named.laws first scanning new (rw most named.fits) w o h k is
 
   abbrev Tied : RenameState S U K → RenameObject → Pace → Type 0
   Tied = IsTied terms Tie
@@ -87,7 +87,7 @@ module _ {S R V U K : Type 0} (W : PlaceSteps S R V U K) (terms : RenameTerms) (
   fresh_tied : Tied fresh new_object new_pace
   fresh_tied = record {
     object = new_snap;
-    tie = after_none W.walker W.place_of W.walks W.memory W.walker_from W.walk_from W.most_of W.ties named.laws bounds first;
+    tie = after_none W named.laws bounds first;
     as_many = refl;
     limit = refl;
     low = low;
@@ -102,7 +102,7 @@ module _ {S R V U K : Type 0} (W : PlaceSteps S R V U K) (terms : RenameTerms) (
     moment = refl;
     place = refl;
     standing = standing_fresh new_object (λ p. refl) (λ p. refl) (λ i p. refl) (λ p. refl);
-    absent = λ p h. (refl, refl, refl);
+    absent = λ p h. (refl, refl, refl, refl);
     counts = λ p v h. absurd (cc);
     stages = λ p v h. absurd (cc);
   }
@@ -154,7 +154,7 @@ module _ {S R V U K : Type 0} (W : PlaceSteps S R V U K) (terms : RenameTerms) (
       now ∙ ap (λ (x : RenameObject). x.name p) same
 
 -- every world after some calls keeps the law
-module _ {S R V U K : Type 0} (W : PlaceSteps S R V U K) (kind : WorldKind) (scanning : ℕ → ℕ) (w : RenameState S U K) (named : MayBeNamed W (is_tree kind) w.snap.most scanning) (r : List (Call Reply)) (a : IsAfter W w r) where
+module _ {S R V U K : Type 0} (W : KnownPlaces S R V U K) (kind : WorldKind) (scanning : ℕ → ℕ) (w : RenameState S U K) (named : MayBeNamed W (is_tree kind) w.snap.most scanning) (r : List (Call Reply)) (a : IsAfter W w r) where
   -- the world has room for as many as its places have
   most_is : W.most_of a.first ≡ w.snap.most
   most_is = sym (most_after W (fresh_world a.first (W.most_of a.first) w.limit) r w a.run)

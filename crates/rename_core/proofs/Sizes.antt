@@ -9,14 +9,14 @@ use Rattle.step_memory.specs.World.{begin_refusal}
 use Rattle.snapshot_core.specs.declared.client.SnapReply.{SnapReply}
 use Rattle.rename_core.specs.declared.reply.Reply.{Reply}
 use Rattle.rename_core.specs.declared.round.Round.{Round}
-use Rattle.rename_core.specs.PlaceSteps.{PlaceSteps}
+use Rattle.snapshot_core.specs.Places.{KnownPlaces}
 use Rattle.rename_core.specs.RenameCalls.{next, IsReply}
 use Rattle.rename_core.specs.RenameState.{RenameState}
 use Rattle.rename_core.specs.RenameWorld.{begun_unless, has_place, after_told, after_open, after_by, after_rename_step, snap_told}
 use Rattle.rename_core.specs.Round.{stage_refusal, followed, first_wish}
 use Rattle.rename_core.proofs.StepCases.{begun_large, step_large}
 
-module _ {S R V U K : Type 0} (W : PlaceSteps S R V U K) (w : RenameState S U K) (p : ℕ) where
+module _ {S R V U K : Type 0} (W : KnownPlaces S R V U K) (w : RenameState S U K) (p : ℕ) where
   told_most : (r : Round) (told : Result SnapReply Refusal) → (after_told W w p r told).snap.most ≡ w.snap.most
   told_most r (Ok reply) = (step_large W w p (followed r p reply w.limit).wish).most
   told_most r (Err why) = refl
@@ -49,7 +49,7 @@ module _ {S R V U K : Type 0} (W : PlaceSteps S R V U K) (w : RenameState S U K)
   begun_limit None = refl
   begun_limit (Some why) = refl
 
-module _ {S R V U K : Type 0} (W : PlaceSteps S R V U K) where
+module _ {S R V U K : Type 0} (W : KnownPlaces S R V U K) where
   next_most : (w : RenameState S U K) (h : Call Reply) → (next W w h).snap.most ≡ w.snap.most
   next_most w (Began p reply) = begun_most W w p (begin_refusal w.snap p) refl
   next_most w (Stepped p reply) = elim (lacked_memory reply) as (λ b. (cond b w (after_rename_step W w p)).snap.most ≡ w.snap.most) [ true ↦ refl | false ↦ by_most W w p (program_of p w.rounds) ]

@@ -1,12 +1,10 @@
 -- a snapshot object and the object of its law after the same calls
 use Rattle.std.proofs.Common.{◌≡◌, ℕ, List, [], ◌∷◌, ◌++◌, Option, refl, sym, subst, ◌∙◌}
 use Rattle.step_memory.specs.Runs.{Run}
-use Rattle.step_memory.specs.Steps.{ProgramSteps, MemorySteps}
 use Rattle.step_memory.proofs.RunLemmas.{run_more}
-use Rattle.snapshot_core.specs.Walks.{WalkSteps}
-use Rattle.snapshot_core.specs.Places.{PlaceTies, PlacesLaws, BoundsScans}
+use Rattle.snapshot_core.specs.Places.{KnownPlaces, PlacesLaws, BoundsScans}
 use Rattle.snapshot_core.specs.SnapWorld.{SnapState}
-use Rattle.snapshot_core.specs.SnapCalls.{SnapCall, next, IsReply, IsAfter}
+use Rattle.snapshot_core.specs.SnapCalls.{SnapCall, fresh_over, next, IsReply, IsAfter}
 use Rattle.snapshot_core.specs.Snapshot.{SnapObject, SnapBounds, new_object, observed, Allows, KeepsSnapshotLaw}
 use Rattle.snapshot_core.proofs.Following.{law_holds}
 
@@ -27,25 +25,25 @@ module _ {S H : Type 0} (next : S → H → S) (Right : S → H → Type 0) wher
   run_last s [] h end k = record { mid = s; run = refl; right = k.0; goes = k.1 }
   run_last s (x ∷ r) h end k = let i = run_last (next s x) r h end k.1 in record { mid = i.mid; run = (k.0, i.run); right = i.right; goes = i.goes }
 
-module _ {S R V U K : Type 0} (walker : ProgramSteps U R V ℕ) (place_of : U → Option ℕ) (walks : WalkSteps K R V) (memory : MemorySteps S R V) (walker_from : ℕ → ℕ → U) (walk_from : S → K) (most_of : S → ℕ) (ties : PlaceTies S U K) (laws : PlacesLaws walker place_of walks memory most_of walker_from walk_from ties) where
+module _ {S R V U K : Type 0} (W : KnownPlaces S R V U K) (laws : PlacesLaws W) where
   -- both are after the same calls
   pub record AreAfter (bounds : SnapBounds) (first : S) (w : SnapState S U K) (o : SnapObject) : Type 0 where
     pub calls : List SnapCall
-    pub world : IsAfter walker place_of walks memory walker_from walk_from most_of first w calls
+    pub world : IsAfter W first w calls
     pub object : Run observed (Allows bounds) new_object calls o
 
-  pub after_none : (bounds : SnapBounds) (first : S) → AreAfter bounds first (record { memory = first; most = most_of first; participants = [] }) new_object
+  pub after_none : (bounds : SnapBounds) (first : S) → AreAfter bounds first (fresh_over W first) new_object
   after_none bounds first = record { calls = []; world = refl; object = refl }
 
   -- one more call: the object allows it
-  pub after_more : (first : S) (scanning : ℕ → ℕ) → ties.IsNew first → BoundsScans ties (most_of first) scanning → (w : SnapState S U K) (o : SnapObject) (h : SnapCall) →
-      AreAfter (record { placing = ties.placing; scanning = scanning }) first w o → IsReply walker place_of walks memory walker_from walk_from w h →
-      AreAfter (record { placing = ties.placing; scanning = scanning }) first (next walker place_of walks memory walker_from walk_from w h) (observed o h) × Allows (record { placing = ties.placing; scanning = scanning }) o h
+  pub after_more : (first : S) (scanning : ℕ → ℕ) → W.ties.IsNew first → BoundsScans W (W.most_of first) scanning → (w : SnapState S U K) (o : SnapObject) (h : SnapCall) →
+      AreAfter (record { placing = W.ties.placing; scanning = scanning }) first w o → IsReply W w h →
+      AreAfter (record { placing = W.ties.placing; scanning = scanning }) first (next W w h) (observed o h) × Allows (record { placing = W.ties.placing; scanning = scanning }) o h
   after_more first scanning new fits w o h k is =
-      let bounds : SnapBounds = record { placing = ties.placing; scanning = scanning } in
-      let more : IsAfter walker place_of walks memory walker_from walk_from most_of first (next walker place_of walks memory walker_from walk_from w h) (k.calls ++ h ∷ []) =
-      run_more (next walker place_of walks memory walker_from walk_from) (IsReply walker place_of walks memory walker_from walk_from) (record { memory = first; most = most_of first; participants = [] }) k.calls w h k.world is in
-      let law : KeepsSnapshotLaw bounds (k.calls ++ h ∷ []) = law_holds walker place_of walks memory walker_from walk_from most_of ties laws (next walker place_of walks memory walker_from walk_from w h) first (k.calls ++ h ∷ []) scanning new fits more in
+      let bounds : SnapBounds = record { placing = W.ties.placing; scanning = scanning } in
+      let more : IsAfter W first (next W w h) (k.calls ++ h ∷ []) =
+      run_more (next W) (IsReply W) (fresh_over W first) k.calls w h k.world is in
+      let law : KeepsSnapshotLaw bounds (k.calls ++ h ∷ []) = law_holds W laws (next W w h) first (k.calls ++ h ∷ []) scanning new fits more in
       let l : LastCall observed (Allows bounds) new_object k.calls h law.0 = run_last observed (Allows bounds) new_object k.calls h law.0 law.1 in
       let same : l.mid ≡ o = run_ends observed (Allows bounds) new_object k.calls l.mid o l.run k.object in
       let right : Allows bounds o h = subst (λ (x : SnapObject). Allows bounds x h) same l.right in

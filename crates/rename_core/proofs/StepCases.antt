@@ -7,14 +7,12 @@ use Rattle.step_memory.specs.declared.refusal.Refusal.TheVariants.{NotBegun}
 use Rattle.step_memory.specs.Participant.{participant_of, program_of, beginner}
 use Rattle.step_memory.specs.World.{begin_refusal, done_unless}
 use Rattle.std.proofs.lemmas.List.{length-append}
-use Rattle.step_memory.specs.Steps.{ProgramSteps, MemorySteps}
-use Rattle.snapshot_core.specs.Walks.{WalkSteps}
 use Rattle.snapshot_core.specs.declared.client.SnapReply.{SnapReply}
 use Rattle.snapshot_core.specs.SnapWorld.{SnapState, snap_answer, after_snap_step, after_snap_begin, beginner_at}
 use Rattle.rename_core.specs.declared.round.Round.{Round}
 use Rattle.rename_core.specs.Round.{name_at, stage_refusal, followed}
 use Rattle.rename_core.specs.RenameState.{RenameState}
-use Rattle.rename_core.specs.PlaceSteps.{PlaceSteps}
+use Rattle.snapshot_core.specs.Places.{KnownPlaces}
 use Rattle.rename_core.specs.RenameWorld.{name_in, after_wish, snap_step, snap_told, after_follow, begun_snap, rename_answer, after_rename_step, step_refusal}
 use Rattle.rename_core.specs.declared.round.Wish.{Wish}
 use Rattle.rename_core.specs.declared.round.Wish.TheVariants.{Nothing, Update, Scan}
@@ -34,15 +32,15 @@ pub record IsOneMore {S U K : Type 0} (w new : SnapState S U K) : Type 0 where
   pub most : new.most ≡ w.most
   pub many : length new.participants ≡ length w.participants + 1
 
-pub begun_large : {S R V U K : Type 0} (W : PlaceSteps S R V U K) (w : RenameState S U K) (p : ℕ) (wish : Wish) → begin_refusal w.snap p ≡ None → IsOneMore w.snap (after_wish (begun_snap W w p) p wish)
+pub begun_large : {S R V U K : Type 0} (W : KnownPlaces S R V U K) (w : RenameState S U K) (p : ℕ) (wish : Wish) → begin_refusal w.snap p ≡ None → IsOneMore w.snap (after_wish (begun_snap W w p) p wish)
 begun_large W w p wish goes =
     let b = wish_large (begun_snap W w p) p wish in
     let most : (begun_snap W w p).most ≡ w.snap.most = rw goes refl in
-    let new = beginner p (beginner_at W.place_of W.walker_from W.walk_from w.snap p) in
+    let new = beginner p (beginner_at W w.snap p) in
     let all : (begun_snap W w p).participants ≡ w.snap.participants ++ new ∷ [] = rw goes refl in
     record { most = b.most ∙ most; many = b.many ∙ ap length all ∙ length-append w.snap.participants (new ∷ []) }
 
-module _ {S R V U K : Type 0} (W : PlaceSteps S R V U K) (w : RenameState S U K) (p : ℕ) where
+module _ {S R V U K : Type 0} (W : KnownPlaces S R V U K) (w : RenameState S U K) (p : ℕ) where
   pub absent_answer : participant_of p w.rounds ≡ None → Err NotBegun ≡ rename_answer W w p
   absent_answer h = rw h refl
 
@@ -77,7 +75,7 @@ module _ {S R V U K : Type 0} (W : PlaceSteps S R V U K) (w : RenameState S U K)
   -- as many take part after the step and what is asked for after it
   pub step_large : (wish : Wish) → IsAsLarge w.snap (after_wish (snap_step W w p) p wish)
   step_large wish =
-      let a = snap_large W.walker W.place_of W.walks W.memory w.snap p in
+      let a = snap_large W w.snap p in
       let b = wish_large (snap_step W w p) p wish in
       record { most = b.most ∙ a.most; many = b.many ∙ a.many }
 

@@ -8,10 +8,8 @@ use Rattle.step_memory.specs.View.{value_of}
 use Rattle.step_memory.proofs.SetAtLemmas.{set_at-same, set_at-other}
 use Rattle.step_memory.specs.declared.participant.Participant.{Participant}
 use Rattle.step_memory.specs.Participant.{participant_of}
-use Rattle.step_memory.specs.Steps.{ProgramSteps, MemorySteps}
 use Rattle.step_memory.specs.World.{done_unless}
-use Rattle.snapshot_core.specs.Walks.{WalkSteps}
-use Rattle.rename_core.specs.PlaceSteps.{PlaceSteps}
+use Rattle.snapshot_core.specs.Places.{KnownPlaces}
 use Rattle.snapshot_core.specs.declared.client.SnapReply.{SnapReply}
 use Rattle.snapshot_core.specs.declared.client.SnapReply.TheVariants.{Quiet as Silent, Placed as HasPlace, Written, View as Viewed}
 use Rattle.snapshot_core.specs.SnapWorld.{SnapState, after_scan, after_update, snap_answer, after_snap_step}
@@ -56,9 +54,9 @@ both_large a b c h k = record { most = k.most ∙ h.most; many = k.many ∙ h.ma
 pub standing_made : (count proposal : ℕ) (stage : Stage) → 1 ≤ count → standing_by (record { count = count; proposal = proposal; stage = stage }) ≡ Some proposal
 standing_made count proposal stage some = elim (eqb_tells count 0) [ inl e ↦ absurd (let no = e.1 in omega arith) | inr e ↦ rw e.0 refl ]
 
-module _ {S R V U K : Type 0} (W : PlaceSteps S R V U K) (terms : RenameTerms) (bounds : SnapBounds)
+module _ {S R V U K : Type 0} (W : KnownPlaces S R V U K) (terms : RenameTerms) (bounds : SnapBounds)
     (Tie : SnapState S U K → SnapObject → Type 0)
-    (tie_goes : (w : SnapState S U K) (o : SnapObject) (h : SnapCall) → Tie w o → IsSnapReply W.walker W.place_of W.walks W.memory W.walker_from W.walk_from w h → Tie (snap_next W.walker W.place_of W.walks W.memory W.walker_from W.walk_from w h) (observed o h) × SnapAllows bounds o h)
+    (tie_goes : (w : SnapState S U K) (o : SnapObject) (h : SnapCall) → Tie w o → IsSnapReply W w h → Tie (snap_next W w h) (observed o h) × SnapAllows bounds o h)
     (w : RenameState S U K) (o : RenameObject) (t : Pace) (i : IsTied terms Tie w o t) (p : ℕ) (v : Participant Round) (here : participant_of p w.rounds ≡ Some v) where
   abbrev snap' : SnapState S U K
   snap' = snap_step W w p
@@ -93,7 +91,7 @@ module _ {S R V U K : Type 0} (W : PlaceSteps S R V U K) (terms : RenameTerms) (
     tie_stepped = tie_goes w.snap s (SnapStepped p (Ok reply)) i.tie (inl (sym answer))
 
     large : IsAsLarge w.snap snap'
-    large = snap_large W.walker W.place_of W.walks W.memory w.snap p
+    large = snap_large W w.snap p
 
     there : is_some (participant_of p snap'.participants) ≡ true
     there = ap is_some stands.is
@@ -120,8 +118,9 @@ module _ {S R V U K : Type 0} (W : PlaceSteps S R V U K) (terms : RenameTerms) (
       pub last : s.last ≤ u.last
       pub who : (q : ℕ) → q ≢ p → participant_of q snap.participants ≡ participant_of q w.snap.participants
 
-    spared_carries : Spared → o.many ≤ o'.many → (q : ℕ) → q ≢ p → o'.name q ≡ o.name q → o'.spent q ≡ o.spent q → o'.count q ≡ o.count q → o'.since q ≡ o.since q → o'.moment o'.last q ≡ o.moment o.last q → t'.phase q ≡ t.phase q → t'.steps q ≡ t.steps q → Carries o o' t t' s u w.snap snap q
-    spared_carries k many q n name spent count since now phase pace = record {
+    spared_carries : Spared → o.many ≤ o'.many → (q : ℕ) → q ≢ p → o'.place q ≡ o.place q → o'.name q ≡ o.name q → o'.spent q ≡ o.spent q → o'.count q ≡ o.count q → o'.since q ≡ o.since q → o'.moment o'.last q ≡ o.moment o.last q → t'.phase q ≡ t.phase q → t'.steps q ≡ t.steps q → Carries o o' t t' s u w.snap snap q
+    spared_carries k many q n place name spent count since now phase pace = record {
+      place = place;
       name = name;
       spent = spent;
       count = count;
@@ -178,7 +177,7 @@ module _ {S R V U K : Type 0} (W : PlaceSteps S R V U K) (terms : RenameTerms) (
           since = λ q n. set_at-other s.since p (since_of s p) q n;
           last = omega arith;
           who = others;
-        }) (omega arith) q n refl refl refl refl refl refl (set_at-other t.steps p (t.steps p + 1) q n);
+        }) (omega arith) q n refl refl refl refl refl refl refl (set_at-other t.steps p (t.steps p + 1) q n);
         count = counted;
         own = own;
       });
@@ -199,7 +198,7 @@ module _ {S R V U K : Type 0} (W : PlaceSteps S R V U K) (terms : RenameTerms) (
     update_who q k = update_others snap' p n stands value few q k ∙ others q k
 
     update_size : IsAsLarge w.snap update_w
-    update_size = both_large w.snap snap' update_w (snap_large W.walker W.place_of W.walks W.memory w.snap p) (update_large snap' p value)
+    update_size = both_large w.snap snap' update_w (snap_large W w.snap p) (update_large snap' p value)
 
     update_there : is_some (participant_of p update_w.participants) ≡ true
     update_there = ap is_some (update_stands snap' p n stands value few).is
@@ -251,7 +250,7 @@ module _ {S R V U K : Type 0} (W : PlaceSteps S R V U K) (terms : RenameTerms) (
               since = λ q n. set_at-other (set_at s.since p (since_of s p)) p 0 q n ∙ set_at-other s.since p (since_of s p) q n;
               last = omega arith;
               who = update_who (HasPlace x) 0 1 answer stands others placed_few;
-            }) (omega arith) q n refl refl refl refl refl (set_at-other t.phase p ToPropose q n) (set_at-other t.steps p 0 q n);
+            }) (omega arith) q n (set_at-other o.place p (Some x) q n) refl refl refl refl refl (set_at-other t.phase p ToPropose q n) (set_at-other t.steps p 0 q n);
             count = record { count = counted.count; now = counted.now };
             own = record {
               going = record { unnamed = h.going.unnamed; left = h.going.left };
@@ -323,7 +322,7 @@ module _ {S R V U K : Type 0} (W : PlaceSteps S R V U K) (terms : RenameTerms) (
         snap_many = refl;
         many = refl;
         begun = refl;
-        large = both_large w.snap snap' written_w (snap_large W.walker W.place_of W.walks W.memory w.snap p) (scan_large snap' p);
+        large = both_large w.snap snap' written_w (snap_large W w.snap p) (scan_large snap' p);
         there = ap is_some (scan_stands snap' p (r.count + 1) stands).is;
         last = ap (λ (m : ℕ). m + 1) i.last;
         moment = written_moment;
@@ -335,7 +334,7 @@ module _ {S R V U K : Type 0} (W : PlaceSteps S R V U K) (terms : RenameTerms) (
           since = λ q n. set_at-other (set_at s.since p (since_of s p)) p 0 q n ∙ set_at-other s.since p (since_of s p) q n;
           last = omega arith;
           who = λ q n. scan_others snap' p (r.count + 1) stands q n ∙ others q n;
-        }) (omega arith) q n refl refl (set_at-other o.count p (o.count p + 1) q n) (set_at-other o.since p (o.last + 1) q n) (ap (λ (f : ℕ → Option ℕ). f q) written_now ∙ set_at-other (o.moment o.last) p (Some number) q n) (set_at-other t.phase p ToLook q n) (set_at-other t.steps p 0 q n);
+        }) (omega arith) q n refl refl refl (set_at-other o.count p (o.count p + 1) q n) (set_at-other o.since p (o.last + 1) q n) (ap (λ (f : ℕ → Option ℕ). f q) written_now ∙ set_at-other (o.moment o.last) p (Some number) q n) (set_at-other t.phase p ToLook q n) (set_at-other t.steps p 0 q n);
         count = written_count;
         own = record {
           going = record { unnamed = h.going.unnamed; left = h.going.left };
@@ -428,13 +427,13 @@ module _ {S R V U K : Type 0} (W : PlaceSteps S R V U K) (terms : RenameTerms) (
           snap_many = refl;
           many = refl;
           begun = refl;
-          large = snap_large W.walker W.place_of W.walks W.memory w.snap p;
+          large = snap_large W w.snap p;
           there = ap is_some stands.is;
           last = i.last;
           moment = i.moment;
           place = i.place;
           standing = standing_named o p r.proposal shows.index i.standing begun_is some recent sole;
-          carries = λ q n. spared_carries viewed_s snap' named_o ended_t (viewed_spared named_o ended_t) (omega arith) q n (set_at-other o.name p (Some r.proposal) q n) refl refl refl refl (set_at-other t.phase p AtEnd q n) (set_at-other t.steps p 0 q n);
+          carries = λ q n. spared_carries viewed_s snap' named_o ended_t (viewed_spared named_o ended_t) (omega arith) q n refl (set_at-other o.name p (Some r.proposal) q n) refl refl refl refl (set_at-other t.phase p AtEnd q n) (set_at-other t.steps p 0 q n);
           count = record { count = counted.count; now = counted.now };
           own = (h.some, set_at-same o.name p (Some r.proposal));
         });
@@ -455,13 +454,13 @@ module _ {S R V U K : Type 0} (W : PlaceSteps S R V U K) (terms : RenameTerms) (
           snap_many = refl;
           many = refl;
           begun = refl;
-          large = snap_large W.walker W.place_of W.walks W.memory w.snap p;
+          large = snap_large W w.snap p;
           there = ap is_some stands.is;
           last = i.last;
           moment = i.moment;
           place = i.place;
           standing = standing_elsewhere o o.place (set_at o.spent p true) i.standing;
-          carries = λ q n. spared_carries viewed_s snap' spent_o ended_t (viewed_spared spent_o ended_t) (omega arith) q n refl (set_at-other o.spent p true q n) refl refl refl (set_at-other t.phase p AtEnd q n) (set_at-other t.steps p 0 q n);
+          carries = λ q n. spared_carries viewed_s snap' spent_o ended_t (viewed_spared spent_o ended_t) (omega arith) q n refl refl (set_at-other o.spent p true q n) refl refl refl (set_at-other t.phase p AtEnd q n) (set_at-other t.steps p 0 q n);
           count = record { count = counted.count; now = counted.now };
           own = (h.going.unnamed, set_at-same o.spent p true);
         });
@@ -515,7 +514,7 @@ module _ {S R V U K : Type 0} (W : PlaceSteps S R V U K) (terms : RenameTerms) (
             since = λ q n. set_at-other (set_at s.since p (since_of s p)) p 0 q n ∙ set_at-other s.since p (since_of s p) q n;
             last = omega arith;
             who = update_who (Viewed view) r.count number answer stands others few_updates;
-          }) (omega arith) q n refl refl refl refl refl (set_at-other t.phase p ToPropose q n) (set_at-other t.steps p 0 q n);
+          }) (omega arith) q n refl refl refl refl refl refl (set_at-other t.phase p ToPropose q n) (set_at-other t.steps p 0 q n);
           count = record { count = counted.count; now = counted.now };
           own = record {
             going = h.going;
@@ -551,15 +550,15 @@ module _ {S R V U K : Type 0} (W : PlaceSteps S R V U K) (terms : RenameTerms) (
   abbrev Others : Type 0
   Others = (q : ℕ) → q ≢ p → participant_of q snap'.participants ≡ participant_of q w.snap.participants
 
-  pub placing_gone : IsPlacing o t s w.snap p r → r.stage ≡ Placing → (k : HasStepped W.walker W.place_of W.walks W.memory w.snap p 0) → HasGone (followed r p k.reply w.limit)
+  pub placing_gone : IsPlacing o t s w.snap p r → r.stage ≡ Placing → (k : HasStepped W w.snap p 0) → HasGone (followed r p k.reply w.limit)
   placing_gone h stage k = gone k.reply k.answer k.stands k.others where
     gone : (reply : SnapReply) → snap_told W w p ≡ Ok reply → StandsAt snap' p (not (is_silent reply)) 0 → Others → HasGone (followed r p reply w.limit)
-    gone Silent answer stands others = quiet_gone 0 answer stands others (goes_on ToGo ToPlace h.phase h.task h.pace refl (tie_stepped Silent 0 answer stands others).1) (subst AtQuiet (sym stage) (record { going = h.going; none = h.none; task = quiet_task 0 answer stands others ∙ h.task; stands = stands; phase = h.phase; pace = quiet_pace h.pace }))
+    gone Silent answer stands others = quiet_gone 0 answer stands others (goes_on ToGo ToPlace h.phase h.task h.pace refl (tie_stepped Silent 0 answer stands others).1) (subst AtQuiet (sym stage) (record { going = h.going; none = h.none; unplaced = h.unplaced; task = quiet_task 0 answer stands others ∙ h.task; stands = stands; phase = h.phase; pace = quiet_pace h.pace }))
     gone (HasPlace x) answer stands others = placed_gone x answer stands others h
     gone Written answer stands others = absurd (rw h.task at (tie_stepped Written 0 answer stands others).1.0)
     gone (Viewed view) answer stands others = absurd (let e : ToPlace ≡ ToScan = sym h.task ∙ (tie_stepped (Viewed view) 0 answer stands others).1.0 in cc)
 
-  pub proposing_gone : (number : ℕ) → IsProposing terms o t s w.snap p number r → r.stage ≡ Proposing number → (k : HasStepped W.walker W.place_of W.walks W.memory w.snap p (r.count + 1)) → HasGone (followed r p k.reply w.limit)
+  pub proposing_gone : (number : ℕ) → IsProposing terms o t s w.snap p number r → r.stage ≡ Proposing number → (k : HasStepped W w.snap p (r.count + 1)) → HasGone (followed r p k.reply w.limit)
   proposing_gone number h stage k = gone k.reply k.answer k.stands k.others where
     gone : (reply : SnapReply) → snap_told W w p ≡ Ok reply → StandsAt snap' p (not (is_silent reply)) (r.count + 1) → Others → HasGone (followed r p reply w.limit)
     gone Silent answer stands others = quiet_gone (r.count + 1) answer stands others (goes_on ToPropose (ToUpdate number) h.phase h.task h.pace refl (tie_stepped Silent (r.count + 1) answer stands others).1) (subst AtQuiet (sym stage) (record { going = h.going; rounds = h.rounds; positive = h.positive; small = h.small; task = quiet_task (r.count + 1) answer stands others ∙ h.task; stands = stands; phase = h.phase; pace = quiet_pace h.pace }))
@@ -567,7 +566,7 @@ module _ {S R V U K : Type 0} (W : PlaceSteps S R V U K) (terms : RenameTerms) (
     gone Written answer stands others = written_gone number answer stands others h stage
     gone (Viewed view) answer stands others = absurd (let e : ToUpdate number ≡ ToScan = sym h.task ∙ (tie_stepped (Viewed view) (r.count + 1) answer stands others).1.0 in cc)
 
-  pub looking_gone : IsLooking terms o t s w.snap p r → r.stage ≡ Looking → (k : HasStepped W.walker W.place_of W.walks W.memory w.snap p r.count) → HasGone (followed r p k.reply w.limit)
+  pub looking_gone : IsLooking terms o t s w.snap p r → r.stage ≡ Looking → (k : HasStepped W w.snap p r.count) → HasGone (followed r p k.reply w.limit)
   looking_gone h stage k = gone k.reply k.answer k.stands k.others where
     gone : (reply : SnapReply) → snap_told W w p ≡ Ok reply → StandsAt snap' p (not (is_silent reply)) r.count → Others → HasGone (followed r p reply w.limit)
     gone Silent answer stands others = quiet_gone r.count answer stands others (goes_on ToLook ToScan h.phase h.task h.pace refl (tie_stepped Silent r.count answer stands others).1) (subst AtQuiet (sym stage) (record { going = h.going; some = h.some; rounds = h.rounds; task = quiet_task r.count answer stands others ∙ h.task; later = (let a = h.later in let b = quiet_since r.count answer stands others in omega arith); stands = stands; phase = h.phase; pace = quiet_pace h.pace }))

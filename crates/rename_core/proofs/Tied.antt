@@ -36,6 +36,7 @@ pub record IsCounted (o : RenameObject) (p : ℕ) (r : Round) : Type 0 where
 pub record IsPlacing {S U K : Type 0} (o : RenameObject) (t : Pace) (s : SnapObject) (w : SnapState S U K) (p : ℕ) (r : Round) : Type 0 where
   pub going : IsGoing o p
   pub none : r.count ≡ 0
+  pub unplaced : o.place p ≡ None
   pub task : s.task p ≡ ToPlace
   pub stands : StandsAt w p false 0
   pub phase : t.phase p ≡ ToGo
@@ -71,6 +72,7 @@ IsAtStage terms o t s w p r Over = (o.name p ≡ None) × (o.spent p ≡ true)
 
 -- what q finds when another has gone on
 pub record Carries {S U K : Type 0} (o o' : RenameObject) (t t' : Pace) (s s' : SnapObject) (w w' : SnapState S U K) (q : ℕ) : Type 0 where
+  pub place : o'.place q ≡ o.place q
   pub name : o'.name q ≡ o.name q
   pub spent : o'.spent q ≡ o.spent q
   pub count : o'.count q ≡ o.count q
@@ -95,7 +97,7 @@ module _ {S U K : Type 0} (terms : RenameTerms) (o o' : RenameObject) (t t' : Pa
   counted_on r h = record { count = k.count ∙ h.count; now = k.now ∙ h.now }
 
   pub stage_on : (r : Round) (stage : Stage) → IsAtStage terms o t s w q r stage → IsAtStage terms o' t' s' w' q r stage
-  stage_on r Placing h = record { going = going_on h.going; none = h.none; task = k.task ∙ h.task; stands = stands_on false 0 h.stands; phase = k.phase ∙ h.phase; pace = k.pace ∙ h.pace ∙ sym k.snap_pace }
+  stage_on r Placing h = record { going = going_on h.going; none = h.none; unplaced = k.place ∙ h.unplaced; task = k.task ∙ h.task; stands = stands_on false 0 h.stands; phase = k.phase ∙ h.phase; pace = k.pace ∙ h.pace ∙ sym k.snap_pace }
   stage_on r (Proposing n) h = record { going = going_on h.going; rounds = h.rounds; positive = h.positive; small = (let a = h.small in let b = k.many in omega arith); task = k.task ∙ h.task; stands = stands_on false (r.count + 1) h.stands; phase = k.phase ∙ h.phase; pace = k.pace ∙ h.pace ∙ sym k.snap_pace }
   stage_on r Looking h = record { going = going_on h.going; some = h.some; rounds = h.rounds; task = k.task ∙ h.task; later = (let a = h.later in let b = k.later in let c = k.since in omega arith); stands = stands_on false r.count h.stands; phase = k.phase ∙ h.phase; pace = k.pace ∙ h.pace ∙ sym k.snap_pace }
   stage_on r Settled h = (h.0, k.name ∙ h.1)
@@ -118,7 +120,7 @@ pub record IsTied {S U K : Type 0} (terms : RenameTerms) (Tie : SnapState S U K 
   pub moment : o.moment ≡ object.moment
   pub place : o.place ≡ object.place
   pub standing : IsStanding o
-  pub absent : (p : ℕ) → participant_of p w.rounds ≡ None → (o.count p ≡ 0) × (o.name p ≡ None) × (o.spent p ≡ false)
+  pub absent : (p : ℕ) → participant_of p w.rounds ≡ None → (o.count p ≡ 0) × (o.name p ≡ None) × (o.spent p ≡ false) × (o.place p ≡ None)
   pub counts : (p : ℕ) (v : Participant Round) → participant_of p w.rounds ≡ Some v → IsCounted o p v.program
   pub stages : (p : ℕ) (v : Participant Round) → participant_of p w.rounds ≡ Some v → IsAtStage terms o t object w.snap p v.program v.program.stage
 
@@ -186,7 +188,7 @@ module _ {S U K : Type 0} (terms : RenameTerms) (Tie : SnapState S U K → SnapO
       standing = k.standing;
       absent = λ q h. elim (eqb_tells q p) [
         | inl e ↦ absurd (let no : Some (beginner p r) ≡ None = sym put_same ∙ ap (λ (x : ℕ). participant_of x (with_participant (beginner p r) w.rounds)) (sym e.1) ∙ h in cc)
-        | inr e ↦ let c = k.carries q e.1 in let a = i.absent q (sym (put_other q e.1) ∙ h) in (c.count ∙ a.0, c.name ∙ a.1, c.spent ∙ a.2)
+        | inr e ↦ let c = k.carries q e.1 in let a = i.absent q (sym (put_other q e.1) ∙ h) in (c.count ∙ a.0, c.name ∙ a.1, c.spent ∙ a.2, c.place ∙ a.3)
       ];
       counts = λ q u h. elim (eqb_tells q p) [
         | inl e ↦ let same = put_is q u e.1 h in rw (e.1, ← same) k.count

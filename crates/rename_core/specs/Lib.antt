@@ -6,7 +6,6 @@ pub mod Ranges
 pub mod Config
 pub mod Round
 pub mod RenameState
-pub mod PlaceSteps
 pub mod RenameWorld
 pub mod RenameCalls
 pub mod FixedLaws

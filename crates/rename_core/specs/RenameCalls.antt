@@ -10,12 +10,12 @@ use Rattle.rename_core.specs.declared.config.WorldKind.{WorldKind}
 use Rattle.rename_core.specs.declared.reply.Reply.{Reply}
 use Rattle.rename_core.specs.Config.{is_tree}
 use Rattle.rename_core.specs.Law.{KeepsRenameLaw}
-use Rattle.rename_core.specs.PlaceSteps.{PlaceSteps}
+use Rattle.snapshot_core.specs.Places.{KnownPlaces}
 use Rattle.rename_core.specs.RenameObject.{RenameTerms}
 use Rattle.rename_core.specs.RenameState.{RenameState}
 use Rattle.rename_core.specs.RenameWorld.{step_refusal, fresh_world, after_rename_begin, rename_answer, after_rename_step, may_lack}
 
-module _ {S R V U K : Type 0} (W : PlaceSteps S R V U K) where
+module _ {S R V U K : Type 0} (W : KnownPlaces S R V U K) where
   -- the world after a call. A step for which a growth was refused is still to come
   abbrev pub next : RenameState S U K → Call Reply → RenameState S U K
   next w (Began id reply) = after_rename_begin W w id

@@ -128,11 +128,18 @@ AllowsStep terms o p (Saw view) = (1 ≤ o.count p) × (o.count p < terms.limit)
 AllowsStep terms o p (Named n view) = (1 ≤ o.count p) × ShowsSole o p n view × IsFreeName o n
 AllowsStep terms o p Spent = (o.count p ≡ terms.limit) × HasConflict o p
 
--- the reply is one that the object may give to the call. A growth is refused only where nothing else is due
+-- a growth may be refused where nothing else is due, to one who has no place yet
+pub record MayLack (terms : RenameTerms) (o : RenameObject) (p : ℕ) (why : Refusal) : Type 0 where
+  pub is : why ≡ NoMemory
+  pub grows : terms.grows ≡ true
+  pub none_due : no_step o p ≡ None
+  pub unplaced : o.place p ≡ None
+
+-- the reply is one that the object may give to the call
 abbrev pub Allows : RenameTerms → RenameObject → Call Reply → Type 0
 Allows terms o (Began p reply) = reply ≡ done_unless (no_begin terms o p)
 Allows terms o (Stepped p (Ok reply)) = (no_step o p ≡ None) × AllowsStep terms o p reply
-Allows terms o (Stepped p (Err why)) = (no_step o p ≡ Some why) ⊎ ((no_step o p ≡ None) × (why ≡ NoMemory) × (terms.grows ≡ true))
+Allows terms o (Stepped p (Err why)) = (no_step o p ≡ Some why) ⊎ MayLack terms o p why
 
 -- the object after an accepted step. A proposal makes a new moment: the last one, with it
 abbrev pub after_step : RenameObject → ℕ → Reply → RenameObject

@@ -12,7 +12,7 @@ use Rattle.rename_core.specs.declared.round.Follow.{Follow}
 use Rattle.rename_core.specs.declared.round.Round.{Round}
 use Rattle.rename_core.specs.declared.round.Wish.{Wish}
 use Rattle.rename_core.specs.declared.round.Wish.TheVariants.{Nothing, Update, Scan}
-use Rattle.rename_core.specs.PlaceSteps.{PlaceSteps}
+use Rattle.snapshot_core.specs.Places.{KnownPlaces}
 use Rattle.rename_core.specs.RenameState.{RenameState}
 use Rattle.rename_core.specs.Round.{stage_refusal, name_at, followed, first_round, first_wish}
 
@@ -47,13 +47,13 @@ module _ {S U K : Type 0} where
   abbrev pub world_with : RenameState S U K → SnapState S U K → ℕ → Round → RenameState S U K
   world_with w snap p r = record { snap = snap; rounds = with_participant (beginner p r) w.rounds; limit = w.limit }
 
-module _ {S R V U K : Type 0} (W : PlaceSteps S R V U K) where
+module _ {S R V U K : Type 0} (W : KnownPlaces S R V U K) where
   abbrev pub begun_snap : RenameState S U K → ℕ → SnapState S U K
-  begun_snap w id = after_snap_begin W.place_of W.walker_from W.walk_from w.snap id
+  begun_snap w id = after_snap_begin W w.snap id
 
   -- who has begun has a place at once
   abbrev pub has_place : RenameState S U K → ℕ → Bool
-  has_place w id = is_some (place_in W.place_of (begun_snap w id) id)
+  has_place w id = is_some (place_in W (begun_snap w id) id)
 
   abbrev pub begun_unless : Option Refusal → RenameState S U K → ℕ → RenameState S U K
   begun_unless None w id = record {
@@ -68,10 +68,10 @@ module _ {S R V U K : Type 0} (W : PlaceSteps S R V U K) where
   after_rename_begin w id = begun_unless (begin_refusal w.snap id) w id
 
   abbrev pub snap_step : RenameState S U K → ℕ → SnapState S U K
-  snap_step w id = after_snap_step W.walker W.place_of W.walks W.memory w.snap id
+  snap_step w id = after_snap_step W w.snap id
 
   abbrev pub snap_told : RenameState S U K → ℕ → Result SnapReply Refusal
-  snap_told w id = snap_answer W.walker W.place_of W.walks W.memory w.snap id
+  snap_told w id = snap_answer W w.snap id
 
   abbrev pub answer_told : RenameState S U K → ℕ → Round → Result SnapReply Refusal → Result Reply Refusal
   answer_told w id r (Ok reply) = Ok (followed r id reply w.limit).reply
@@ -110,4 +110,4 @@ module _ {S R V U K : Type 0} (W : PlaceSteps S R V U K) where
 
   -- whether that step may be refused for want of memory
   abbrev pub may_lack : RenameState S U K → ℕ → Bool
-  may_lack w id = may_lack_memory W.walker W.place_of W.walks W.memory w.snap id
+  may_lack w id = may_lack_memory W w.snap id

@@ -8,7 +8,7 @@ ghost use Rattle.rename_core.specs.declared.config.WorldKind.TheVariants as kind
 ghost use Rattle.snapshot_core.specs.SnapWorld.{SnapState, may_lack_memory};
 
 use crate::config::WorldKind;
-use snapshot_core::{Fixed, Places};
+use snapshot_core::{Fixed, Known, Places};
 use std::alloc::Allocator;
 use step_memory::Refusal;
 
@@ -33,7 +33,7 @@ pub trait RenamePlaces<A: Allocator>: Places {
     ghost at_once: { (b q : ℕ) → is_some (Self.Walker.place_of (Self.walker_from b q)) ≡ (Self.ties.placing 1 == 0) };
 
     /// Only over a tree may a step want memory.
-    ghost may_grow: { (s : SnapState Self Self.Walker Self.Walk) (p : ℕ) → may_lack_memory Self.Walker.steps Self.Walker.place_of Self.Walk.walks Self.steps s p ≡ true → is_tree world ≡ true };
+    ghost may_grow: { (s : SnapState Self Self.Walker Self.Walk) (p : ℕ) → may_lack_memory ⟦<Self as Known>⟧.places s p ≡ true → is_tree world ≡ true };
 }
 
 impl<A: Allocator> RenamePlaces<A> for Fixed<A> {

@@ -15,7 +15,7 @@ use crate::config::Config;
 use crate::places::RenamePlaces;
 use crate::reply::Reply;
 use crate::round::{Round, Stage, Wish};
-use snapshot_core::SnapWorld;
+use snapshot_core::{Known, SnapWorld};
 use std::alloc::Allocator;
 use std::marker::Model;
 use step_memory::{Participant, Refusal};
@@ -75,10 +75,10 @@ where
 {
     /// A step, and what follows it.
     fn take_step(&mut self, id: u64) -> Result<Reply, Refusal>
-        ensures answer { result ≢ Err Refusal.NoMemory → result ≡ rename_answer (record { walker = W.Walker.steps; place_of = W.Walker.place_of; walks = W.Walk.walks; memory = W.steps; most_of = W.most_of; walker_from = W.walker_from; walk_from = W.walk_from; ties = W.ties }) self.old id }
-        ensures state { result ≢ Err Refusal.NoMemory → self.new ≡ after_rename_step (record { walker = W.Walker.steps; place_of = W.Walker.place_of; walks = W.Walk.walks; memory = W.steps; most_of = W.most_of; walker_from = W.walker_from; walk_from = W.walk_from; ties = W.ties }) self.old id }
+        ensures answer { result ≢ Err Refusal.NoMemory → result ≡ rename_answer ⟦<W as Known>⟧.places self.old id }
+        ensures state { result ≢ Err Refusal.NoMemory → self.new ≡ after_rename_step ⟦<W as Known>⟧.places self.old id }
         ensures refused { OnErr result (self.new ≡ self.old) }
-        ensures no_memory { result ≡ Err Refusal.NoMemory → (step_refusal self.old id ≡ None) × (may_lack (record { walker = W.Walker.steps; place_of = W.Walker.place_of; walks = W.Walk.walks; memory = W.steps; most_of = W.most_of; walker_from = W.walker_from; walk_from = W.walk_from; ties = W.ties }) self.old id ≡ true) }
+        ensures no_memory { result ≡ Err Refusal.NoMemory → (step_refusal self.old id ≡ None) × (may_lack ⟦<W as Known>⟧.places self.old id ≡ true) }
     {
         let Some(i) = find(&self.rounds, id) else {
             return Err(Refusal::NotBegun);
@@ -100,14 +100,14 @@ where
     /// One step of a participant: one access, and what follows it. Refused where the identity has not begun, then where it
     /// has a name, or is spent, then where the memory refused a growth: then the same step may be asked again.
     pub fn step(&mut self, id: u64) -> Result<Reply, Refusal>
-        ensures answer { result ≢ Err Refusal.NoMemory → result ≡ rename_answer (record { walker = W.Walker.steps; place_of = W.Walker.place_of; walks = W.Walk.walks; memory = W.steps; most_of = W.most_of; walker_from = W.walker_from; walk_from = W.walk_from; ties = W.ties }) self.old id }
-        ensures state { result ≢ Err Refusal.NoMemory → self.new ≡ after_rename_step (record { walker = W.Walker.steps; place_of = W.Walker.place_of; walks = W.Walk.walks; memory = W.steps; most_of = W.most_of; walker_from = W.walker_from; walk_from = W.walk_from; ties = W.ties }) self.old id }
+        ensures answer { result ≢ Err Refusal.NoMemory → result ≡ rename_answer ⟦<W as Known>⟧.places self.old id }
+        ensures state { result ≢ Err Refusal.NoMemory → self.new ≡ after_rename_step ⟦<W as Known>⟧.places self.old id }
         ensures refused { OnErr result (self.new ≡ self.old) }
-        ensures no_memory { result ≡ Err Refusal.NoMemory → (step_refusal self.old id ≡ None) × (may_lack (record { walker = W.Walker.steps; place_of = W.Walker.place_of; walks = W.Walk.walks; memory = W.steps; most_of = W.most_of; walker_from = W.walker_from; walk_from = W.walk_from; ties = W.ties }) self.old id ≡ true) }
+        ensures no_memory { result ≡ Err Refusal.NoMemory → (step_refusal self.old id ≡ None) × (may_lack ⟦<W as Known>⟧.places self.old id ≡ true) }
 
         // The law, over every list of calls and replies that the world may be after.
-        ensures after { LeadsOn (record { walker = W.Walker.steps; place_of = W.Walker.place_of; walks = W.Walk.walks; memory = W.steps; most_of = W.most_of; walker_from = W.walker_from; walk_from = W.walk_from; ties = W.ties }) self.old self.new (Stepped id result) }
-        ensures law { IsLawful (record { walker = W.Walker.steps; place_of = W.Walker.place_of; walks = W.Walk.walks; memory = W.steps; most_of = W.most_of; walker_from = W.walker_from; walk_from = W.walk_from; ties = W.ties }) W.world self.new }
+        ensures after { LeadsOn ⟦<W as Known>⟧.places self.old self.new (Stepped id result) }
+        ensures law { IsLawful ⟦<W as Known>⟧.places W.world self.new }
     {
         self.take_step(id)
     }
@@ -127,7 +127,7 @@ where
         ensures value { result ≡ name_in self.now id }
 
         // It is the name that the replies have given to the identity.
-        ensures law { (r : List (Call Reply)) → IsAfter (record { walker = W.Walker.steps; place_of = W.Walker.place_of; walks = W.Walk.walks; memory = W.steps; most_of = W.most_of; walker_from = W.walker_from; walk_from = W.walk_from; ties = W.ties }) self.now r → (o : RenameObject) → IsRun (terms_of (record { walker = W.Walker.steps; place_of = W.Walker.place_of; walks = W.Walk.walks; memory = W.steps; most_of = W.most_of; walker_from = W.walker_from; walk_from = W.walk_from; ties = W.ties }) W.world self.now) r o → result ≡ o.name id }
+        ensures law { (r : List (Call Reply)) → IsAfter ⟦<W as Known>⟧.places self.now r → (o : RenameObject) → IsRun (terms_of ⟦<W as Known>⟧.places W.world self.now) r o → result ≡ o.name id }
     {
         self.round_name(id)
     }
@@ -135,7 +135,7 @@ where
     /// A participant begins, and asks at once for what it can do.
     fn take_begin(&mut self, id: u64) -> Result<(), Refusal>
         ensures answer { result ≡ done_unless (begin_refusal self.old.snap id) }
-        ensures state { self.new ≡ after_rename_begin (record { walker = W.Walker.steps; place_of = W.Walker.place_of; walks = W.Walk.walks; memory = W.steps; most_of = W.most_of; walker_from = W.walker_from; walk_from = W.walk_from; ties = W.ties }) self.old id }
+        ensures state { self.new ≡ after_rename_begin ⟦<W as Known>⟧.places self.old id }
     {
         self.snap.begin(id)?;
         let placed = self.snap.place_of(id).is_some();
@@ -152,11 +152,11 @@ where
     /// there may be. It makes no access.
     pub fn begin(&mut self, id: u64) -> Result<(), Refusal>
         ensures answer { result ≡ done_unless (begin_refusal self.old.snap id) }
-        ensures state { self.new ≡ after_rename_begin (record { walker = W.Walker.steps; place_of = W.Walker.place_of; walks = W.Walk.walks; memory = W.steps; most_of = W.most_of; walker_from = W.walker_from; walk_from = W.walk_from; ties = W.ties }) self.old id }
+        ensures state { self.new ≡ after_rename_begin ⟦<W as Known>⟧.places self.old id }
 
         // The law, over every list of calls and replies that the world may be after.
-        ensures after { LeadsOn (record { walker = W.Walker.steps; place_of = W.Walker.place_of; walks = W.Walk.walks; memory = W.steps; most_of = W.most_of; walker_from = W.walker_from; walk_from = W.walk_from; ties = W.ties }) self.old self.new (Began id result) }
-        ensures law { IsLawful (record { walker = W.Walker.steps; place_of = W.Walker.place_of; walks = W.Walk.walks; memory = W.steps; most_of = W.most_of; walker_from = W.walker_from; walk_from = W.walk_from; ties = W.ties }) W.world self.new }
+        ensures after { LeadsOn ⟦<W as Known>⟧.places self.old self.new (Began id result) }
+        ensures law { IsLawful ⟦<W as Known>⟧.places W.world self.new }
     {
         self.take_begin(id)
     }
@@ -174,8 +174,8 @@ where
         ensures fresh { IfOk result (λ w. (first : W) × (W.ties.IsNew first) × (W.most_of first ≡ config.m) × (w ≡ fresh_world first config.m config.limit)) }
         ensures out_of_range { result ≡ Err Refusal.OutOfRange ↔ (is_played_over config.world W.world ≡ false) }
         ensures only { IfErr result (λ why. (why ≡ Refusal.NoMemory) ⊎ (why ≡ Refusal.OutOfRange)) }
-        ensures after { IfOk result (λ w. IsAfter (record { walker = W.Walker.steps; place_of = W.Walker.place_of; walks = W.Walk.walks; memory = W.steps; most_of = W.most_of; walker_from = W.walker_from; walk_from = W.walk_from; ties = W.ties }) w []) }
-        ensures law { IfOk result (λ w. IsLawful (record { walker = W.Walker.steps; place_of = W.Walker.place_of; walks = W.Walk.walks; memory = W.steps; most_of = W.most_of; walker_from = W.walker_from; walk_from = W.walk_from; ties = W.ties }) W.world w) }
+        ensures after { IfOk result (λ w. IsAfter ⟦<W as Known>⟧.places w []) }
+        ensures law { IfOk result (λ w. IsLawful ⟦<W as Known>⟧.places W.world w) }
     {
         if !config.world.is_played_over(W::world()) {
             return Err(Refusal::OutOfRange);

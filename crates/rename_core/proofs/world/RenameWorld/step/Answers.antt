@@ -2,13 +2,18 @@ use Rattle.std.proofs.Common.{rules, ◌≡◌, Err}
 use Rattle.step_memory.specs.declared.refusal.Refusal.TheVariants.{NoMemory}
 use Rattle.rename_core.proofs.AfterCalls.{step_leads_on}
 use Rattle.rename_core.proofs.NamedPlaces.{is_lawful}
+use Rattle.snapshot_core.specs.Places.{KnownPlaces, places_by}
+use Rattle.rename_core.proofs.world.RenameWorld.step.Given.{Over}
 use Rattle.rename_core.proofs.world.RenameWorld.step.Goals as goal
+
+abbrev pub known : (g : Over) → KnownPlaces g.row.W.Denot g.row.W-Reg.Denot g.row.W-Value.Denot g.row.W-Walker.Denot g.row.W-Walk.Denot
+known g = places_by g.W.Walker.StepProgram.steps g.W.Walker.PlaceWalker.place_of g.W.Walk.SegmentWalk.walks g.W.StepMemory.steps g.W.Places.most_of g.W.Places.walker_from g.W.Places.walk_from g.W.Places.ties
 
 pub returns-clause-after : goal.returns-clause-after
 returns-clause-after g c =
     let kept : c.take_step.result ≡ Err NoMemory → c.take_step.new.self ≡ c.args.self.now = λ e. search rules in
-    step_leads_on (record { walker = g.W.Walker.StepProgram.steps; place_of = g.W.Walker.PlaceWalker.place_of; walks = g.W.Walk.SegmentWalk.walks; memory = g.W.StepMemory.steps; most_of = g.W.Places.most_of; walker_from = g.W.Places.walker_from; walk_from = g.W.Places.walk_from; ties = g.W.Places.ties }) c.args.self.now c.take_step.new.self c.args.id c.take_step.result
+    step_leads_on (known g) c.args.self.now c.take_step.new.self c.args.id c.take_step.result
     c.take_step.ensures.state c.take_step.ensures.answer (λ e. let m = c.take_step.ensures.no_memory e in (kept e, m.0, m.1))
 
 pub returns-clause-law : goal.returns-clause-law
-returns-clause-law g c = is_lawful (record { walker = g.W.Walker.StepProgram.steps; place_of = g.W.Walker.PlaceWalker.place_of; walks = g.W.Walk.SegmentWalk.walks; memory = g.W.StepMemory.steps; most_of = g.W.Places.most_of; walker_from = g.W.Places.walker_from; walk_from = g.W.Places.walk_from; ties = g.W.Places.ties }) g.met.W.Places.laws g.W.RenamePlaces.world g.met.W.RenamePlaces.may_grow g.met.W.RenamePlaces.at_once c.take_step.new.self
+returns-clause-law g c = is_lawful (known g) g.met.W.Places.laws g.W.RenamePlaces.world g.met.W.RenamePlaces.may_grow g.met.W.RenamePlaces.at_once c.take_step.new.self

@@ -6,14 +6,19 @@ use Rattle.step_memory.specs.World.{begin_refusal}
 use Rattle.snapshot_core.specs.SnapWorld.{after_snap_begin}
 use Rattle.rename_core.specs.RenameWorld.{after_wish}
 use Rattle.rename_core.proofs.StepCases.{was_begun, begun_large}
+use Rattle.snapshot_core.specs.Places.{KnownPlaces, places_by}
+use Rattle.rename_core.proofs.world.RenameWorld.take_begin.Given.{Over}
 use Rattle.rename_core.proofs.world.RenameWorld.take_begin.Goals as goal
+
+abbrev pub known : (g : Over) → KnownPlaces g.row.W.Denot g.row.W-Reg.Denot g.row.W-Value.Denot g.row.W-Walker.Denot g.row.W-Walk.Denot
+known g = places_by g.W.Walker.StepProgram.steps g.W.Walker.PlaceWalker.place_of g.W.Walk.SegmentWalk.walks g.W.StepMemory.steps g.W.Places.most_of g.W.Places.walker_from g.W.Places.walk_from g.W.Places.ties
 
 pub invariant_of-self-2 : goal.invariant_of-self-2
 invariant_of-self-2 g c =
     let goes : begin_refusal c.self.inside.snap c.args.id ≡ None = was_begun (begin_refusal c.self.inside.snap c.args.id) c.in_ok-begin.field-0 c.in_ok-begin.ensures.answer in
-    let state : c.begin.new.self ≡ after_snap_begin g.W.Walker.PlaceWalker.place_of g.W.Places.walker_from g.W.Places.walk_from c.self.inside.snap c.args.id = c.in_ok-begin.ensures.state in
-    let asked : c.ask.new.snap ≡ after_wish (after_snap_begin g.W.Walker.PlaceWalker.place_of g.W.Places.walker_from g.W.Places.walk_from c.self.inside.snap c.args.id) c.args.id c.first.result = rw (← state) c.ask.ensures in
-    let l = begun_large (record { walker = g.W.Walker.StepProgram.steps; place_of = g.W.Walker.PlaceWalker.place_of; walks = g.W.Walk.SegmentWalk.walks; memory = g.W.StepMemory.steps; most_of = g.W.Places.most_of; walker_from = g.W.Places.walker_from; walk_from = g.W.Places.walk_from; ties = g.W.Places.ties }) (record { snap = c.self.inside.snap; rounds = c.self.inside.rounds.items; limit = c.self.inside.limit }) c.args.id c.first.result goes in
+    let state : c.begin.new.self ≡ after_snap_begin (known g) c.self.inside.snap c.args.id = c.in_ok-begin.ensures.state in
+    let asked : c.ask.new.snap ≡ after_wish (after_snap_begin (known g) c.self.inside.snap c.args.id) c.args.id c.first.result = rw (← state) c.ask.ensures in
+    let l = begun_large (known g) (record { snap = c.self.inside.snap; rounds = c.self.inside.rounds.items; limit = c.self.inside.limit }) c.args.id c.first.result goes in
     let most = l.most in
     let many = l.many in
     let old = c.self.invariant in
