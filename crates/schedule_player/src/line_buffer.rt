@@ -74,7 +74,8 @@ impl<A: Allocator> LineBuffer<A> {
 
     /// What the whole line means: see `parse_line`.
     pub fn meaning(&self, world: WorldKind) -> Result<Command, Bad>
-        ensures { (line : List ℕ) → self.now ≡ held line → result ≡ meaning world line }
+        ensures held { (line : List ℕ) → self.now ≡ held line → result ≡ meaning world line }
+        ensures some { (line : List ℕ) × (result ≡ meaning world line) }
     {
         if self.too_long {
             return Err(Bad::TooLong);

@@ -1,5 +1,7 @@
 //! Runs of commands over readers and writers in memory.
 
+ghost use Rattle.std.specs.Prelude.{◌≡◌, true};
+
 use crate::player::HELD_REPLIES;
 use crate::{
     Config, Event, Fault, LineBuffer, MOST_READS, READ_BYTES, Reply, Respond, Summary, Tried,
@@ -96,10 +98,10 @@ struct Played {
 }
 
 fn play_by<A: Allocator + Clone>(alloc: A, reader: Drip<'_>, writer: Cup) -> Played {
-    play_in(WorldKind::Splitter, 2, alloc, reader, writer)
+    played_in(WorldKind::Splitter, 2, alloc, reader, writer)
 }
 
-fn play_in<A: Allocator + Clone>(
+fn played_in<A: Allocator + Clone>(
     world: WorldKind,
     m: u64,
     alloc: A,
@@ -288,7 +290,7 @@ fn play_in_the_last(
 ) -> Result<Played, Fail> {
     let heap = LocalHeap::new(alloc, HEAP)?;
     let others = Vec::<u8, &LocalHeap>::with_capacity(&heap, HEAP.saturating_sub(left))?;
-    let played = play_in(
+    let played = played_in(
         world,
         m,
         &heap,
@@ -358,7 +360,7 @@ fn grid_rows() -> [(u64, &'static [u8], &'static [u8]); 2] {
 fn walks_in_a_grid_end_at_places(rt: HostRuntime) -> Result<(), Fail> {
     for (m, input, text) in grid_rows() {
         for piece in [1, READ_BYTES] {
-            let p = play_in(
+            let p = played_in(
                 WorldKind::Grid,
                 m,
                 rt.alloc(),
@@ -373,8 +375,10 @@ fn walks_in_a_grid_end_at_places(rt: HostRuntime) -> Result<(), Fail> {
 }
 
 /// One event through the bound.
-fn answered<D: Respond>(table: &mut D, event: Event) -> Reply {
-    table.respond(event)
+fn answered<D: Respond<()>>(world: &mut D, event: Event) -> Reply
+    requires { D.knows event ≡ true }
+{
+    world.respond(&(), event)
 }
 
 #[test]
