@@ -1,5 +1,5 @@
 -- runs under the rules keep the laws
-use Rattle.std.proofs.Common.{◌≡◌, ◌≢◌, ℕ, ◌≤◌, true, false, inl, inr, List, [], ◌∷◌, ◌++◌, map, Ok, Err, Result, refl, sym, ap, subst, ◌∙◌, append_assoc}
+use Rattle.std.proofs.Common.{◌≡◌, ◌≢◌, ℕ, ◌≤◌, Bool, true, false, inl, inr, List, [], ◌∷◌, ◌++◌, map, Ok, Err, Result, refl, sym, ap, subst, ◌∙◌, append_assoc}
 use Rattle.std.proofs.lemmas.List.{append-nil}
 use Rattle.step_memory.specs.declared.refusal.Refusal.{Refusal}
 use Rattle.step_memory.specs.declared.refusal.Refusal.TheVariants as refusal
@@ -26,6 +26,10 @@ pub one_by_rules : {T : Type 0} (rules : Rules T) (w u v : T) (e : Event) (a b :
 one_by_rules rules w u v e a b (inl x) (inl y) na nb = (x.0 ∙ sym y.0, x.1 ∙ sym y.1)
 one_by_rules rules w u v e a b (inl x) (inr y) na nb = absurd (nb y.0)
 one_by_rules rules w u v e a b (inr x) y na nb = absurd (na x.0)
+
+-- and there is one reply to each event
+pub answers_by : {T : Type 0} (rules : Rules T) (knows : Event → Bool) (w : T) (e : Event) → knows e ≡ true → (r : Reply) × (u : T) × may_by rules w e r u
+answers_by rules knows w e known = (rules.reply w e, rules.after w e, inl (refl, refl))
 
 module _ {T X : Type 0} (shown : X → Reply) (rules : Rules T) (never : (w : T) (e : Event) → rules.grows w e ≡ false)
     (begin_answer : T → ℕ → Result (Unit {0}) Refusal) (step_answer : T → ℕ → Result X Refusal)

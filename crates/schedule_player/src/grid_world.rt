@@ -3,7 +3,7 @@
 ghost use Rattle.std.specs.Prelude.{◌≡◌, true};
 ghost use Rattle.schedule_player.specs.declared.config.WorldKind.TheVariants as kind;
 ghost use Rattle.schedule_player.specs.Worlds.{grid_rules, may_by, IsGridRun, grid_fresh};
-ghost use Rattle.schedule_player.specs.WorldLaws.{grid_lawful, one_by_rules, one_grid_fresh};
+ghost use Rattle.schedule_player.specs.WorldLaws.{grid_lawful, one_by_rules, answers_by, one_grid_fresh};
 
 use crate::config::{Config, WorldKind};
 use crate::event::Event;
@@ -11,12 +11,14 @@ use crate::reply::Reply;
 use crate::respond::{Respond, World};
 use splitter_grid::GridWorld;
 use std::alloc::Allocator;
-use step_memory::NoMemory;
+use step_memory::Refusal;
 
 impl<A: Allocator + Clone, R> Respond<R> for GridWorld<A> {
     ghost knows = { λ e. true };
 
     ghost may = { may_by grid_rules };
+
+    ghost answers = { answers_by grid_rules (λ e. true) };
 
     fn respond(&mut self, _rt: &R, event: Event) -> Reply {
         match event {
@@ -35,11 +37,8 @@ impl<A: Allocator + Clone, R> World<A, R> for GridWorld<A> {
 
     ghost IsRunIn = { IsGridRun };
 
-    fn open(alloc: A, config: Config) -> Result<Self, NoMemory> {
-        match GridWorld::new(alloc, config.m as usize) {
-            Ok(world) => Ok(world),
-            Err(_) => Err(NoMemory),
-        }
+    fn open(alloc: A, config: Config) -> Result<Self, Refusal> {
+        GridWorld::new(alloc, config.m as usize)
     }
 
     ghost use Rattle.std.proofs.Common.{refl};

@@ -173,7 +173,7 @@ impl<A: Allocator> Player<A> {
         ensures empty { OnOk result (self.new.replies ≡ []) }
         ensures only { IfErr result (λ fault. fault ≡ Fault.Write) }
         ensures failed { OnErr result (W.failed writer.old < W.failed writer.new) }
-        ensures failures { W.failed writer.old ≤ W.failed writer.new }
+        ensures unfailed { OnOk result (W.failed writer.new ≡ W.failed writer.old) }
         ensures part { OnErr result (HasPartOf (W.contents writer.old) (W.contents writer.new) self.old.replies) }
         ensures kept { (self.new.kind ≡ self.old.kind) × (self.new.summary ≡ self.old.summary) }
         ensures calls { W.calls writer.new ≤ W.calls writer.old + length self.old.replies }
@@ -190,7 +190,7 @@ impl<A: Allocator> Player<A> {
         ensures room { OnOk result (length self.new.replies + REPLY_ROOM ≤ HELD_REPLIES) }
         ensures only { IfErr result (λ fault. fault ≡ Fault.Write) }
         ensures failed { OnErr result (W.failed writer.old < W.failed writer.new) }
-        ensures failures { W.failed writer.old ≤ W.failed writer.new }
+        ensures unfailed { OnOk result (W.failed writer.new ≡ W.failed writer.old) }
         ensures part { OnErr result (HasPartOf (W.contents writer.old) (W.contents writer.new) self.old.replies) }
         ensures kept { (self.new.kind ≡ self.old.kind) × (self.new.summary ≡ self.old.summary) }
         ensures calls { W.calls writer.new ≤ W.calls writer.old + length self.old.replies }
@@ -217,7 +217,7 @@ impl<A: Allocator> Player<A> {
         ensures empty { OnOk result (self.new.replies ≡ []) }
         ensures only { IfErr result (λ fault. fault ≡ Fault.Write) }
         ensures failed { OnErr result (W.failed writer.old < W.failed writer.new) }
-        ensures failures { W.failed writer.old ≤ W.failed writer.new }
+        ensures unfailed { OnOk result (W.failed writer.new ≡ W.failed writer.old) }
         ensures part { OnErr result ((start : D) (p : Progress) (before : Option (List ℕ)) → Stands D.may start world.old self.old p before (W.contents writer.old) → StandsPart D.may start world.new (after_bytes self.old.kind p chunk.now) before (W.contents writer.new)) }
         ensures kept { self.new.kind ≡ self.old.kind }
         ensures counted { self.new.summary.lines ≤ self.old.summary.lines + length chunk.now }
@@ -245,7 +245,7 @@ impl<A: Allocator> Player<A> {
         ensures empty { OnOk result (self.new.replies ≡ []) }
         ensures only { IfErr result (λ fault. fault ≡ Fault.Write) }
         ensures failed { OnErr result (W.failed writer.old < W.failed writer.new) }
-        ensures failures { W.failed writer.old ≤ W.failed writer.new }
+        ensures unfailed { OnOk result (W.failed writer.new ≡ W.failed writer.old) }
         ensures part { OnErr result ((start : D) (p : Progress) (before : Option (List ℕ)) → Stands D.may start world.old self.old p before (W.contents writer.old) → StandsPart D.may start world.new (after_end self.old.kind p) before (W.contents writer.new)) }
     {
         self.end_line(rt, world);

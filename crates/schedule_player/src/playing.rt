@@ -1,12 +1,13 @@
 //! Runs of a world, from a reader to a writer.
 
-ghost use Rattle.std.specs.Prelude.{◌≡◌, ℕ, ◌+◌, ◌^◌, ◌<◌, List, [], length, Option};
+ghost use Rattle.std.specs.Prelude.{◌≡◌, ◌≢◌, Err, ℕ, ◌+◌, ◌^◌, ◌<◌, List, [], length, Option};
 ghost use Rattle.schedule_player.specs.IsRun.{IsRun};
 ghost use Rattle.schedule_player.specs.Knows.{Knows};
+ghost use Rattle.schedule_player.specs.Lines.{IsCutInto, whole_lines, rest_of};
 ghost use Rattle.schedule_player.specs.OneTalk.{IsOneTalk};
-ghost use Rattle.schedule_player.specs.Played.{IsPlayed};
+ghost use Rattle.schedule_player.specs.Played.{IsPlayed, reading, writing};
 ghost use Rattle.schedule_player.specs.Progress.{at_start};
-ghost use Rattle.schedule_player.specs.Runs.{IsRunTo, CouldRun, IsRunOf, IsDetermined};
+ghost use Rattle.schedule_player.specs.Runs.{IsRunTo, CanRun, CouldRun, IsRunOf, IsDetermined};
 ghost use Rattle.schedule_player.specs.Stands.{IsFresh};
 ghost use Rattle.schedule_player.specs.declared.config.Config.{Config};
 
@@ -44,7 +45,7 @@ pub fn play<A: Allocator + Clone, R: Source, W: Sink>(
 ) -> Result<Summary, Fault>
     requires reads { R.calls reader.old < 2 ^ 64 }
     requires writes { W.calls writer.old < 2 ^ 64 }
-    ensures { IsPlayed (IsRun config) config.world (record { remaining = R.remaining; calls = R.calls; failed = R.failed }) (record { contents = W.contents; failed = W.failed }) MOST_READS reader.old reader.new writer.old writer.new result }
+    ensures { IsPlayed (IsRun config) (IsRun config) config.world (reading R.remaining R.calls R.failed) (writing W.contents W.failed) reader.old reader.new writer.old writer.new result }
 {
     match config.world {
         WorldKind::Splitter => play_in::<SplitterWorld<A>, (), A, R, W>(
@@ -68,7 +69,7 @@ pub fn play_in<D: World<A, H> + Drop, H, A: Allocator + Clone, R: Source, W: Sin
 ) -> Result<Summary, Fault>
     requires reads { R.calls reader.old < 2 ^ 64 }
     requires writes { W.calls writer.old < 2 ^ 64 }
-    ensures { IsPlayed (IsRunOf (D.IsRunIn config) (D.fresh config) D.may) D.KIND (record { remaining = R.remaining; calls = R.calls; failed = R.failed }) (record { contents = W.contents; failed = W.failed }) MOST_READS reader.old reader.new writer.old writer.new result }
+    ensures { IsPlayed (IsRunOf (D.IsRunIn config) (D.fresh config) D.may) (IsRunOf (D.IsRunIn config) (D.fresh config) D.may) D.KIND (reading R.remaining R.calls R.failed) (writing W.contents W.failed) reader.old reader.new writer.old writer.new result }
 {
     let Ok(other) = alloc.clone() else {
         return Err(Fault::Memory);
@@ -91,7 +92,8 @@ pub fn play_on<H, D: Respond<H>, A: Allocator + Clone, R: Source, W: Sink>(
     requires knows { Knows D.knows kind }
     requires reads { R.calls reader.old < 2 ^ 64 }
     requires writes { W.calls writer.old < 2 ^ 64 }
-    ensures { IsPlayed (IsRunTo D.may world.old world.new) kind (record { remaining = R.remaining; calls = R.calls; failed = R.failed }) (record { contents = W.contents; failed = W.failed }) MOST_READS reader.old reader.new writer.old writer.new result }
+    ensures played { IsPlayed (IsRunTo D.may world.old world.new) (CanRun D.may world.old) kind (reading R.remaining R.calls R.failed) (writing W.contents W.failed) reader.old reader.new writer.old writer.new result }
+    ensures unchanged { result ≡ Err Fault.Memory → world.new ≡ world.old }
 {
     let Ok(other) = alloc.clone() else {
         return Err(Fault::Memory);
@@ -119,7 +121,8 @@ fn run<H, D: Respond<H>, A: Allocator, R: Source, W: Sink>(
     requires fresh { IsFresh player.old.kind player.old }
     requires reads { R.calls reader.old < 2 ^ 64 }
     requires writes { W.calls writer.old < 2 ^ 64 }
-    ensures { IsPlayed (IsRunTo D.may world.old world.new) player.old.kind (record { remaining = R.remaining; calls = R.calls; failed = R.failed }) (record { contents = W.contents; failed = W.failed }) MOST_READS reader.old reader.new writer.old writer.new result }
+    ensures played { IsPlayed (IsRunTo D.may world.old world.new) (CanRun D.may world.old) player.old.kind (reading R.remaining R.calls R.failed) (writing W.contents W.failed) reader.old reader.new writer.old writer.new result }
+    ensures never { result ≢ Err Fault.Memory }
 {
     for reads in 0..MOST_READS {
         let count = match reader.read_once(chunk) {
@@ -149,4 +152,12 @@ pub fn law_of_play<A: Allocator + Clone>()
 {
     law_of_world::<SplitterWorld<A>, A, ()>();
     law_of_world::<GridWorld<A>, A, ()>();
+}
+
+/// A law, which runs nothing: bytes are cut into their whole lines and a rest, each line with its LF, no line with an LF in
+/// it; and into no others.
+pub fn law_of_lines()
+    ensures cut { (bytes : List ℕ) → IsCutInto bytes (whole_lines bytes) (rest_of bytes) }
+    ensures once { (bytes : List ℕ) (ls : List (List ℕ)) (rest : List ℕ) → IsCutInto bytes ls rest → (ls ≡ whole_lines bytes) × (rest ≡ rest_of bytes) }
+{
 }

@@ -1,6 +1,6 @@
 //! What answers events.
 
-ghost use Rattle.std.specs.Prelude.{◌≡◌, ◌≢◌, ℕ, List, Bool, true, IfOk, Ok};
+ghost use Rattle.std.specs.Prelude.{◌≡◌, ◌≢◌, ℕ, List, Bool, true, IfOk, IfErr, Ok};
 ghost use Rattle.step_memory.specs.declared.refusal.Refusal.TheVariants as refusal;
 ghost use Rattle.schedule_player.specs.declared.event.Event.{Event};
 ghost use Rattle.schedule_player.specs.declared.reply.Reply.{Reply};
@@ -15,7 +15,7 @@ ghost use Rattle.schedule_player.specs.Runs.{Runs};
 use crate::config::{Config, WorldKind};
 use crate::event::Event;
 use crate::reply::Reply;
-use step_memory::NoMemory;
+use step_memory::Refusal;
 
 /// What answers events one by one, under rules.
 pub trait Respond<R> {
@@ -24,6 +24,9 @@ pub trait Respond<R> {
 
     /// Whether it may answer an event so, and what is left then.
     ghost may: { Self → Event → Reply → Self → Type 0 };
+
+    /// It may answer each event that it knows.
+    ghost answers: { (w : Self) (e : Event) → knows e ≡ true → (r : Reply) × (u : Self) × may w e r u };
 
     /// Takes one event and answers it.
     fn respond(&mut self, rt: &R, event: Event) -> Reply
@@ -44,9 +47,11 @@ pub trait World<A, R>: Respond<R> {
     /// The law: whether exchanges are a run of a config.
     ghost IsRunIn: { Config → List Exchange → Type 0 };
 
-    /// A fresh one; all the memory that it wants before its first event is taken here.
-    fn open(alloc: A, config: Config) -> Result<Self, NoMemory>
-        ensures { IfOk result (λ w. fresh config w) };
+    /// A fresh one; all the memory that it wants before its first event is taken here. A config is in its range, so want of
+    /// memory is the only refusal.
+    fn open(alloc: A, config: Config) -> Result<Self, Refusal>
+        ensures fresh { IfOk result (λ w. fresh config w) }
+        ensures only { IfErr result (λ r. r ≡ Refusal.NoMemory) };
 
     /// It knows the events that lines of its kind mean.
     ghost meant: { (line : List ℕ) (e : Event) → meaning KIND line ≡ Ok (command.Event e) → Self.knows e ≡ true };

@@ -3,7 +3,7 @@
 ghost use Rattle.std.specs.Prelude.{◌≡◌, true};
 ghost use Rattle.schedule_player.specs.declared.config.WorldKind.TheVariants as kind;
 ghost use Rattle.schedule_player.specs.Worlds.{splitter_rules, may_by, IsSplitterRun, splitter_fresh};
-ghost use Rattle.schedule_player.specs.WorldLaws.{splitter_lawful, one_by_rules, one_splitter_fresh};
+ghost use Rattle.schedule_player.specs.WorldLaws.{splitter_lawful, one_by_rules, answers_by, one_splitter_fresh};
 
 use crate::config::{Config, WorldKind};
 use crate::event::Event;
@@ -11,12 +11,14 @@ use crate::reply::Reply;
 use crate::respond::{Respond, World};
 use splitter::SplitterWorld;
 use std::alloc::Allocator;
-use step_memory::NoMemory;
+use step_memory::Refusal;
 
 impl<A: Allocator + Clone, R> Respond<R> for SplitterWorld<A> {
     ghost knows = { λ e. true };
 
     ghost may = { may_by splitter_rules };
+
+    ghost answers = { answers_by splitter_rules (λ e. true) };
 
     fn respond(&mut self, _rt: &R, event: Event) -> Reply {
         match event {
@@ -35,11 +37,8 @@ impl<A: Allocator + Clone, R> World<A, R> for SplitterWorld<A> {
 
     ghost IsRunIn = { IsSplitterRun };
 
-    fn open(alloc: A, config: Config) -> Result<Self, NoMemory> {
-        match SplitterWorld::new(alloc, config.m as usize) {
-            Ok(world) => Ok(world),
-            Err(_) => Err(NoMemory),
-        }
+    fn open(alloc: A, config: Config) -> Result<Self, Refusal> {
+        SplitterWorld::new(alloc, config.m as usize)
     }
 
     ghost use Rattle.std.proofs.Common.{refl};

@@ -2,9 +2,8 @@
 
 ghost use Rattle.std.specs.Prelude.{◌≡◌, ◌<◌, ◌^◌, Result};
 ghost use Rattle.schedule_player.specs.IsRun.{IsRun};
-ghost use Rattle.schedule_player.specs.Played.{IsPlayed};
+ghost use Rattle.schedule_player.specs.Played.{IsPlayed, reading, writing};
 ghost use Rattle.schedule_player.specs.declared.fault.Fault.{Fault};
-ghost use Rattle.schedule_player.specs.declared.playing.TheConstants.{MOST_READS};
 ghost use Rattle.schedule_player.specs.declared.summary.Summary.{Summary};
 ghost use Rattle.slotctl.specs.Statuses.{status_after};
 
@@ -25,7 +24,7 @@ pub fn work<R: Source, W: Sink, A: Allocator + Clone + Drop>(
 ) -> Result<u8, Fault>
     requires reads { R.calls reader.old < 2 ^ 64 }
     requires writes { W.calls writer.old < 2 ^ 64 }
-    ensures { (played : Result Summary Fault) × (result ≡ status_after played) × IsPlayed (IsRun ask.config) ask.config.world (record { remaining = R.remaining; calls = R.calls; failed = R.failed }) (record { contents = W.contents; failed = W.failed }) MOST_READS reader.old reader.new writer.old writer.new played }
+    ensures { (played : Result Summary Fault) × (result ≡ status_after played) × IsPlayed (IsRun ask.config) (IsRun ask.config) ask.config.world (reading R.remaining R.calls R.failed) (writing W.contents W.failed) reader.old reader.new writer.old writer.new played }
 {
     match play(alloc, reader, writer, ask.config) {
         Ok(_) => Ok(0),
