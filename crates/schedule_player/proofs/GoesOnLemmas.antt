@@ -58,7 +58,8 @@ module _ {T : Type 0} (may : T → Event → Reply → T → Type 0) (kind : Wor
       (us : List Turn) × (map asked (ts ++ us) ≡ asked_by kind ls) × CanRun may start (exchanges (ts ++ us))
   goes_on start w ls ts others all run =
       let all_known = subst (AllKnown knows) all (known_lines knows kind known ls) in
-      let on = rest w others (known_rest knows (map asked ts) others all_known) in
-      (on.0,
-       map-append asked ts on.0 ∙ ap (λ (l : List (Result Command Bad)). map asked ts ++ l) on.2 ∙ sym all,
-       (on.1, subst (λ (r : List Exchange). Runs may start r on.1) (sym (exchanges-append ts on.0)) (runs-append may start w on.1 (exchanges ts) (exchanges on.0) run on.3)))
+      let on = rest w others (known_rest knows (map asked ts) others all_known) in (
+        on.0,
+        map-append asked ts on.0 ∙ ap (λ (l : List (Result Command Bad)). map asked ts ++ l) on.2 ∙ sym all,
+        (on.1, subst (λ (r : List Exchange). Runs may start r on.1) (sym (exchanges-append ts on.0)) (runs-append may start w on.1 (exchanges ts) (exchanges on.0) run on.3)),
+      )

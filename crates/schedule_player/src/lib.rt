@@ -37,6 +37,8 @@ mod splitter_world;
 pub mod summary;
 #[cfg(test)]
 mod tests;
+#[cfg(test)]
+mod toys;
 pub mod tried;
 pub mod turn;
 
@@ -48,7 +50,9 @@ pub use exchange::Exchange;
 pub use fault::Fault;
 pub use line_buffer::LineBuffer;
 pub use parse::parse_line;
-pub use playing::{MOST_READS, READ_BYTES, law_of_lines, law_of_play, law_of_world, play, play_in, play_on};
+pub use playing::{
+    MOST_READS, READ_BYTES, law_of_lines, law_of_play, law_of_world, play, play_in, play_on,
+};
 pub use print::{REPLY_ROOM, print_bad, print_reply};
 pub use reply::Reply;
 pub use respond::{Respond, World};

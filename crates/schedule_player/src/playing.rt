@@ -159,5 +159,4 @@ pub fn law_of_play<A: Allocator + Clone>()
 pub fn law_of_lines()
     ensures cut { (bytes : List ℕ) → IsCutInto bytes (whole_lines bytes) (rest_of bytes) }
     ensures once { (bytes : List ℕ) (ls : List (List ℕ)) (rest : List ℕ) → IsCutInto bytes ls rest → (ls ≡ whole_lines bytes) × (rest ≡ rest_of bytes) }
-{
-}
+{}

@@ -3,9 +3,10 @@
 ghost use Rattle.std.specs.Prelude.{◌≡◌, true};
 
 use crate::player::HELD_REPLIES;
+use crate::toys::{Coin, Shelf};
 use crate::{
     Config, Event, Fault, LineBuffer, MOST_READS, READ_BYTES, Reply, Respond, Summary, Tried,
-    WorldKind, play,
+    WorldKind, law_of_lines, law_of_play, law_of_world, play, play_in, play_on,
 };
 use linked_list_allocator::LocalHeap;
 use splitter::SplitterWorld;
@@ -409,4 +410,75 @@ fn configs_are_in_range(rt: HostRuntime) {
     ] {
         assert!(rt; Config::new(kind, m, k, limit).is_err());
     }
+}
+
+#[test]
+fn a_world_that_refuses_growths_takes_the_event_when_asked_again(
+    rt: HostRuntime,
+) -> Result<(), Fail> {
+    let config = Config::new(WorldKind::Splitter, 4, 4, 1000)?;
+    let mut reader = Tried::new(
+        b"begin 1\nbegin 2\nbegin 3\nbegin 3\nstep 9\nstep 9\nquit\n".as_slice(),
+    );
+    let mut writer = Tried::new(Vec::new(rt.alloc()));
+    let summary = play_in::<Shelf, (), Global, _, _>(
+        rt.alloc(),
+        &(),
+        &mut reader,
+        &mut writer,
+        config,
+    )?;
+    assert_eq!(rt;
+        writer.into_inner().as_slice(),
+        b"ok\nok\nrefused 12\nok\nok\nrefused 12\nok\n".as_slice()
+    );
+    assert_eq!(rt; (summary.accepted, summary.refused), (5, 2));
+    law_of_world::<Shelf, Global, ()>();
+    Ok(())
+}
+
+#[test]
+fn a_world_whose_replies_vary_is_played_and_left_where_the_replies_went_out(
+    rt: HostRuntime,
+) -> Result<(), Fail> {
+    for (fails_at, stops, text) in [
+        (0, true, b"right\nstop\nright\n".as_slice()),
+        (3, false, b"right\nstop\n"),
+    ] {
+        let mut coin = Coin { stops: false };
+        let mut reader = Tried::new(dripping(b"begin 1\nstep 1\nstep 1\n", 8, fails_at));
+        let mut writer = Tried::new(Vec::new(rt.alloc()));
+        let outcome = play_on(
+            rt.alloc(),
+            &(),
+            &mut coin,
+            WorldKind::Splitter,
+            &mut reader,
+            &mut writer,
+        );
+        assert_eq!(rt; outcome.is_ok(), fails_at == 0);
+        assert_eq!(rt; writer.into_inner().as_slice(), text);
+        assert_eq!(rt; coin.stops, stops);
+    }
+    Ok(())
+}
+
+#[test]
+fn reads_and_writes_are_few(rt: HostRuntime) {
+    let input = b"begin 7\nstep 7\nstep 7\nstep 7\nstep 7\nquit\nbegin 8\n".as_slice();
+    for (piece, reads, writes) in [(READ_BYTES, 1, 1), (8, 6, 6), (1, 41, 6)] {
+        let p = play_by(
+            rt.alloc(),
+            dripping(input, piece, 0),
+            cup_of(rt.alloc(), READ_BYTES, 0, false),
+        );
+        assert!(rt; p.outcome.is_ok());
+        assert_eq!(rt; (p.reads, p.writes), (reads, writes), "at {piece} bytes");
+    }
+}
+
+#[test]
+fn laws_are_called() {
+    law_of_lines();
+    law_of_play::<Global>();
 }
