@@ -8,8 +8,8 @@ use Rattle.schedule_player.specs.declared.config.WorldKind.{WorldKind}
 use Rattle.schedule_player.specs.declared.event.Event.{Event}
 use Rattle.schedule_player.specs.declared.exchange.Exchange.{Exchange}
 use Rattle.schedule_player.specs.declared.reply.Reply.{Reply}
-use Rattle.schedule_player.specs.declared.turn.Turn.{Turn}
-use Rattle.schedule_player.specs.declared.turn.Turn.TheVariants.{Answered, Ended, Misread}
+use Rattle.schedule_player.specs.Turns.{Turn}
+use Rattle.schedule_player.specs.Turns.Turn.{Answered, Ended, Misread}
 use Rattle.schedule_player.specs.Asked.{until_quit, asked_by}
 use Rattle.schedule_player.specs.Knows.{Knows}
 use Rattle.schedule_player.specs.Meaning.{meaning}

@@ -12,6 +12,8 @@ pub mod Written
 pub mod Summary
 pub mod Counts
 pub mod HeldLine
+pub mod Quick
+pub mod Digits
 pub mod Progress
 pub mod PlayerState
 pub mod Runs

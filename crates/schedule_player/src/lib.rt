@@ -29,6 +29,8 @@ pub mod parse;
 pub mod player;
 pub mod playing;
 pub mod print;
+mod quick;
+pub mod replies;
 pub mod reply;
 pub mod respond;
 pub mod sink;
@@ -40,7 +42,6 @@ mod tests;
 #[cfg(test)]
 mod toys;
 pub mod tried;
-pub mod turn;
 
 pub use bad::Bad;
 pub use command::Command;
@@ -54,10 +55,10 @@ pub use playing::{
     MOST_READS, READ_BYTES, law_of_lines, law_of_play, law_of_world, play, play_in, play_on,
 };
 pub use print::{REPLY_ROOM, print_bad, print_reply};
+pub use replies::{HELD_REPLIES, Replies};
 pub use reply::Reply;
 pub use respond::{Respond, World};
 pub use sink::Sink;
 pub use source::Source;
 pub use summary::Summary;
 pub use tried::Tried;
-pub use turn::Turn;

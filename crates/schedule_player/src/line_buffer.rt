@@ -57,6 +57,15 @@ impl<A: Allocator> LineBuffer<A> {
         }
     }
 
+    /// Some bytes more of the line.
+    pub fn extend(&mut self, bytes: &[u8])
+        ensures { (line : List ℕ) → self.old ≡ held line → self.new ≡ held (line ++ bytes.now) }
+    {
+        for byte in bytes {
+            self.push(*byte);
+        }
+    }
+
     /// Begins the next line.
     pub fn clear(&mut self)
         ensures { self.new ≡ held [] }

@@ -1,36 +1,30 @@
 //! A run under way: bytes in, replies out.
 
-ghost use Rattle.std.specs.Prelude.{◌≡◌, ℕ, ◌+◌, ◌*◌, ◌^◌, ◌<◌, ◌≤◌, ◌++◌, List, [], length, Option, IfOk, IfErr, OnOk, OnErr, false, vec_len, vec_capacity};
+ghost use Rattle.std.specs.Prelude.{◌≡◌, ℕ, ◌+◌, ◌*◌, ◌^◌, ◌<◌, ◌≤◌, ◌++◌, List, [], length, take, Option, Ok, Err, IfOk, IfErr, OnOk, OnErr, false};
 ghost use Rattle.schedule_player.specs.HeldLine.{held};
-ghost use Rattle.schedule_player.specs.Meaning.{meaning};
-ghost use Rattle.schedule_player.specs.Knows.{Knows};
-ghost use Rattle.schedule_player.specs.Progress.{Progress, after_line, after_byte, after_bytes, after_end};
-ghost use Rattle.schedule_player.specs.Replies.{answer_text};
-ghost use Rattle.schedule_player.specs.Stands.{Stands, StandsPart, IsTurnOf, IsFresh, IsSent};
-ghost use Rattle.schedule_player.specs.Summary.{one_if_accepted, one_if_refused, one_if_bad};
+ghost use Rattle.schedule_player.specs.Knows.{Knows, KnowsMeant};
+ghost use Rattle.schedule_player.specs.Progress.{Progress, after_meaning, after_line, after_bytes, after_end};
+ghost use Rattle.schedule_player.specs.Stands.{Stands, StandsPart, IsHeld, IsFresh, IsSent};
 ghost use Rattle.schedule_player.specs.Written.{HasPartOf};
-ghost use Rattle.schedule_player.specs.Turns.{asked, answer_of};
-ghost use Rattle.schedule_player.specs.declared.player.TheConstants.{HELD_REPLIES};
+ghost use Rattle.schedule_player.specs.declared.replies.TheConstants.{HELD_REPLIES};
 ghost use Rattle.schedule_player.specs.declared.print.TheConstants.{REPLY_ROOM};
 
 use crate::bad::Bad;
 use crate::command::Command;
 use crate::config::WorldKind;
-use crate::exchange::Exchange;
 use crate::fault::Fault;
 use crate::line_buffer::LineBuffer;
 use crate::print::{REPLY_ROOM, print_bad, print_reply};
+use crate::quick::quick_command;
+use crate::replies::{HELD_REPLIES, Replies};
 use crate::reply::Reply;
 use crate::respond::Respond;
 use crate::sink::{Sink, put_all};
 use crate::summary::Summary;
-use crate::turn::Turn;
+use memchr::memchr;
 use std::alloc::Allocator;
 use std::marker::Model;
 use step_memory::NoMemory;
-
-/// How many bytes of replies are held before they are written.
-pub const HELD_REPLIES: usize = 65_536;
 
 /// What ends a line.
 const LF: u8 = 10;
@@ -41,21 +35,17 @@ const LF: u8 = 10;
 pub struct Player<A: Allocator> {
     kind: WorldKind,
     line: LineBuffer<A>,
-    replies: Vec<u8, A>,
+    replies: Replies<A>,
     summary: Summary,
     over: bool,
 }
 
 impl<A: Allocator> Model for Player<A> {
-    ghost use Rattle.std.specs.Prelude.{◌≡◌, vec_capacity};
-    ghost use Rattle.schedule_player.specs.declared.player.TheConstants.{HELD_REPLIES};
     ghost use Rattle.schedule_player.specs.PlayerState.{PlayerState};
 
     ghost Value = { PlayerState };
 
-    ghost view = { λ p. record { kind = p.kind; line = p.line; replies = p.replies.items; summary = p.summary; over = p.over } };
-
-    ghost invariant = { λ p. vec_capacity p.replies ≡ HELD_REPLIES };
+    ghost view = { λ p. record { kind = p.kind; line = p.line; replies = p.replies; summary = p.summary; over = p.over } };
 }
 
 impl<A: Allocator + Clone> Player<A> {
@@ -67,9 +57,7 @@ impl<A: Allocator + Clone> Player<A> {
             return Err(NoMemory);
         };
         let line = LineBuffer::new(other)?;
-        let Ok(replies) = Vec::with_capacity(alloc, HELD_REPLIES) else {
-            return Err(NoMemory);
-        };
+        let replies = Replies::new(alloc)?;
         Ok(Player {
             kind,
             line,
@@ -95,44 +83,54 @@ impl<A: Allocator> Player<A> {
         self.over
     }
 
-    /// Answers the line so far, which is whole. `quit` ends the run.
-    fn answer<R, D: Respond<R>>(&mut self, rt: &R, world: &mut D) -> Turn
-        requires { Knows D.knows self.old.kind }
-        ensures asked { (line : List ℕ) → self.old.line ≡ held line → asked result ≡ meaning self.old.kind line }
-        ensures turn { IsTurnOf D.may world.old self.old result world.new self.new }
+    /// Counts a reply and holds its text.
+    #[inline(always)]
+    fn hold(&mut self, reply: &Reply)
+        requires room { length self.old.replies + REPLY_ROOM ≤ HELD_REPLIES }
+        requires count { self.old.summary.lines + 1 < 2 ^ 64 }
+        ensures held { IsHeld self.old (Ok reply.now) self.new }
+        ensures longer { length self.new.replies ≤ length self.old.replies + REPLY_ROOM }
     {
-        let meaning = self.line.meaning(self.kind);
-        self.line.clear();
+        print_reply(reply, &mut self.replies);
+        self.summary.count_reply(reply);
+    }
+
+    /// Counts a bad line and holds the text of its answer.
+    fn hold_bad(&mut self, bad: Bad)
+        requires room { length self.old.replies + REPLY_ROOM ≤ HELD_REPLIES }
+        requires count { self.old.summary.lines + 1 < 2 ^ 64 }
+        ensures held { IsHeld self.old (Err bad) self.new }
+        ensures longer { length self.new.replies ≤ length self.old.replies + REPLY_ROOM }
+    {
+        print_bad(bad, &mut self.replies);
+        self.summary.count_bad(bad);
+    }
+
+    /// Answers what a line means, counts the answer and holds its text. `quit` ends the run.
+    #[inline(always)]
+    fn answer<R, D: Respond<R>>(&mut self, rt: &R, world: &mut D, meaning: Result<Command, Bad>)
+        requires knows { KnowsMeant D.knows meaning }
+        requires room { length self.old.replies + REPLY_ROOM ≤ HELD_REPLIES }
+        requires count { self.old.summary.lines + 1 < 2 ^ 64 }
+        ensures stands { (start : D) (p : Progress) (before now : Option (List ℕ)) → Stands D.may start world.old self.old p before now → p.over ≡ false → p.line ≡ [] → Stands D.may start world.new self.new (after_meaning p meaning) before now }
+        ensures kept { self.new.kind ≡ self.old.kind }
+        ensures longer { length self.new.replies ≤ length self.old.replies + REPLY_ROOM }
+        ensures counted { self.new.summary.lines ≡ self.old.summary.lines + 1 }
+    {
         match meaning {
-            Err(bad) => Turn::Misread(bad),
             Ok(Command::Event(event)) => {
                 let reply = world.respond(rt, event);
-                Turn::Answered(Exchange { event, reply })
+                self.hold(&reply);
             }
             Ok(Command::Quit) => {
                 self.over = true;
-                Turn::Ended
+                self.hold(&Reply::Ok);
             }
+            Err(bad) => self.hold_bad(bad),
         }
     }
 
-    /// Counts a turn and holds its text.
-    fn hold(&mut self, turn: Turn)
-        requires room { length self.old.replies + REPLY_ROOM ≤ HELD_REPLIES }
-        requires count { self.old.summary.lines + 1 < 2 ^ 64 }
-        ensures held { self.new ≡ record self.old { replies = self.old.replies ++ answer_text (answer_of turn); summary = self.new.summary } }
-        ensures longer { length self.new.replies ≤ length self.old.replies + REPLY_ROOM }
-        ensures lines { self.new.summary.lines ≡ self.old.summary.lines + 1 }
-        ensures accepted { self.new.summary.accepted ≡ self.old.summary.accepted + one_if_accepted (answer_of turn) }
-        ensures refused { self.new.summary.refused ≡ self.old.summary.refused + one_if_refused (answer_of turn) }
-        ensures bad { self.new.summary.bad ≡ self.old.summary.bad + one_if_bad (answer_of turn) }
-    {
-        let answer = turn.answer();
-        print_answer(answer, &mut self.replies);
-        self.summary.count(answer);
-    }
-
-    /// Answers the line so far, which is whole, counts the answer and holds its text.
+    /// Answers the line so far, which is whole, and begins the next.
     fn answer_line<R, D: Respond<R>>(&mut self, rt: &R, world: &mut D)
         requires knows { Knows D.knows self.old.kind }
         requires room { length self.old.replies + REPLY_ROOM ≤ HELD_REPLIES }
@@ -142,27 +140,60 @@ impl<A: Allocator> Player<A> {
         ensures longer { length self.new.replies ≤ length self.old.replies + REPLY_ROOM }
         ensures counted { self.new.summary.lines ≡ self.old.summary.lines + 1 }
     {
-        let turn = self.answer(rt, world);
-        self.hold(turn);
+        let meaning = self.line.meaning(self.kind);
+        self.line.clear();
+        self.answer(rt, world, meaning);
     }
 
-    /// Takes one byte. After `quit` nothing is acted on.
-    fn take<R, D: Respond<R>>(&mut self, rt: &R, world: &mut D, byte: u8)
+    /// Takes the first line of these bytes with its LF, or all of them where none ends, and says how many bytes it took.
+    /// After `quit` nothing is acted on.
+    #[inline(never)]
+    fn take<R, D: Respond<R>>(&mut self, rt: &R, world: &mut D, bytes: &[u8]) -> usize
         requires knows { Knows D.knows self.old.kind }
         requires room { length self.old.replies + REPLY_ROOM ≤ HELD_REPLIES }
         requires count { self.old.summary.lines + 1 < 2 ^ 64 }
-        ensures stands { (start : D) (p : Progress) (before now : Option (List ℕ)) → Stands D.may start world.old self.old p before now → Stands D.may start world.new self.new (after_byte self.old.kind p byte) before now }
+        requires some { 0 < length bytes.now }
+        ensures taken { (0 < result) × (result ≤ length bytes.now) }
+        ensures stands { (start : D) (p : Progress) (before now : Option (List ℕ)) → Stands D.may start world.old self.old p before now → Stands D.may start world.new self.new (after_bytes self.old.kind p (take result bytes.now)) before now }
         ensures kept { self.new.kind ≡ self.old.kind }
         ensures longer { length self.new.replies ≤ length self.old.replies + REPLY_ROOM }
         ensures counted { self.new.summary.lines ≤ self.old.summary.lines + 1 }
     {
         if self.over {
-            return;
+            return bytes.len();
         }
-        if byte == LF {
-            self.answer_line(rt, world);
-        } else {
-            self.line.push(byte);
+        if self.line.is_empty() {
+            if let Some((command, end)) = quick_command(bytes, self.kind) {
+                self.answer(rt, world, Ok(command));
+                return end + 1;
+            }
+        }
+        self.take_slowly(rt, world, bytes)
+    }
+
+    /// As `take`, where the run goes on, for any line.
+    #[inline(never)]
+    fn take_slowly<R, D: Respond<R>>(&mut self, rt: &R, world: &mut D, bytes: &[u8]) -> usize
+        requires knows { Knows D.knows self.old.kind }
+        requires room { length self.old.replies + REPLY_ROOM ≤ HELD_REPLIES }
+        requires count { self.old.summary.lines + 1 < 2 ^ 64 }
+        requires some { 0 < length bytes.now }
+        ensures taken { (0 < result) × (result ≤ length bytes.now) }
+        ensures stands { (start : D) (p : Progress) (before now : Option (List ℕ)) → Stands D.may start world.old self.old p before now → p.over ≡ false → Stands D.may start world.new self.new (after_bytes self.old.kind p (take result bytes.now)) before now }
+        ensures kept { self.new.kind ≡ self.old.kind }
+        ensures longer { length self.new.replies ≤ length self.old.replies + REPLY_ROOM }
+        ensures counted { self.new.summary.lines ≤ self.old.summary.lines + 1 }
+    {
+        match memchr(LF, bytes) {
+            Some(end) => {
+                self.line.extend(&bytes[..end]);
+                self.answer_line(rt, world);
+                end + 1
+            }
+            None => {
+                self.line.extend(bytes);
+                bytes.len()
+            }
         }
     }
 
@@ -178,7 +209,7 @@ impl<A: Allocator> Player<A> {
         ensures kept { (self.new.kind ≡ self.old.kind) × (self.new.summary ≡ self.old.summary) }
         ensures calls { W.calls writer.new ≤ W.calls writer.old + length self.old.replies }
     {
-        put_all(writer, &self.replies)?;
+        put_all(writer, self.replies.as_slice())?;
         self.replies.clear();
         Ok(())
     }
@@ -223,9 +254,10 @@ impl<A: Allocator> Player<A> {
         ensures counted { self.new.summary.lines ≤ self.old.summary.lines + length chunk.now }
         ensures calls { W.calls writer.new ≤ W.calls writer.old + length self.old.replies + REPLY_ROOM * length chunk.now }
     {
-        for byte in chunk {
+        let mut at = 0;
+        while at < chunk.len() {
             self.make_room(writer)?;
-            self.take(rt, world, *byte);
+            at += self.take(rt, world, &chunk[at..]);
         }
         self.send(writer)
     }
@@ -263,18 +295,5 @@ impl<A: Allocator> Player<A> {
         if !self.over && !self.line.is_empty() {
             self.answer_line(rt, world);
         }
-    }
-}
-
-/// Appends the text of an answer, for which there is room.
-fn print_answer<A: Allocator>(answer: Result<Reply, Bad>, out: &mut Vec<u8, A>)
-    requires room { vec_len out.old + REPLY_ROOM ≤ vec_capacity out.old }
-    ensures text { out.new.items ≡ out.old.items ++ answer_text answer }
-    ensures longer { vec_len out.new ≤ vec_len out.old + REPLY_ROOM }
-    ensures capacity { vec_capacity out.new ≡ vec_capacity out.old }
-{
-    match answer {
-        Ok(reply) => print_reply(reply, out),
-        Err(bad) => print_bad(bad, out),
     }
 }

@@ -2,7 +2,7 @@
 
 ghost use Rattle.std.specs.Prelude.{◌≡◌, true};
 
-use crate::player::HELD_REPLIES;
+use crate::replies::HELD_REPLIES;
 use crate::toys::{Coin, Shelf};
 use crate::{
     Config, Event, Fault, LineBuffer, MOST_READS, READ_BYTES, Reply, Respond, Summary, Tried,
