@@ -21,34 +21,43 @@ pub mod bad;
 pub mod command;
 pub mod config;
 pub mod event;
+pub mod exchange;
 pub mod fault;
-mod grid_table;
+mod grid_world;
 pub mod line_buffer;
 pub mod parse;
-mod player;
+pub mod player;
 pub mod playing;
 pub mod print;
+mod quick;
+pub mod replies;
 pub mod reply;
 pub mod respond;
 pub mod sink;
 pub mod source;
-mod splitter_table;
+mod splitter_world;
 pub mod summary;
 #[cfg(test)]
 mod tests;
+#[cfg(test)]
+mod toys;
 pub mod tried;
 
 pub use bad::Bad;
 pub use command::Command;
 pub use config::{Config, WorldKind};
 pub use event::Event;
+pub use exchange::Exchange;
 pub use fault::Fault;
 pub use line_buffer::LineBuffer;
 pub use parse::parse_line;
-pub use playing::{MOST_READS, READ_BYTES, play};
+pub use playing::{
+    MOST_READS, READ_BYTES, law_of_lines, law_of_play, law_of_world, play, play_in, play_on,
+};
 pub use print::{REPLY_ROOM, print_bad, print_reply};
+pub use replies::{HELD_REPLIES, Replies};
 pub use reply::Reply;
-pub use respond::Respond;
+pub use respond::{Respond, World};
 pub use sink::Sink;
 pub use source::Source;
 pub use summary::Summary;

@@ -57,6 +57,15 @@ impl<A: Allocator> LineBuffer<A> {
         }
     }
 
+    /// Some bytes more of the line.
+    pub fn extend(&mut self, bytes: &[u8])
+        ensures { (line : List ℕ) → self.old ≡ held line → self.new ≡ held (line ++ bytes.now) }
+    {
+        for byte in bytes {
+            self.push(*byte);
+        }
+    }
+
     /// Begins the next line.
     pub fn clear(&mut self)
         ensures { self.new ≡ held [] }
@@ -74,7 +83,8 @@ impl<A: Allocator> LineBuffer<A> {
 
     /// What the whole line means: see `parse_line`.
     pub fn meaning(&self, world: WorldKind) -> Result<Command, Bad>
-        ensures { (line : List ℕ) → self.now ≡ held line → result ≡ meaning world line }
+        ensures held { (line : List ℕ) → self.now ≡ held line → result ≡ meaning world line }
+        ensures some { (line : List ℕ) × (result ≡ meaning world line) }
     {
         if self.too_long {
             return Err(Bad::TooLong);

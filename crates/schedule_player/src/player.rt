@@ -1,11 +1,13 @@
 //! A run under way: bytes in, replies out.
 
-ghost use Rattle.std.specs.Prelude.{◌≡◌, ℕ, ◌+◌, ◌*◌, ◌^◌, ◌<◌, ◌≤◌, ◌++◌, List, [], length, Option, IfOk, IfErr, OnOk, OnErr, false, vec_len, vec_capacity};
+ghost use Rattle.std.specs.Prelude.{◌≡◌, ℕ, ◌+◌, ◌*◌, ◌^◌, ◌<◌, ◌≤◌, ◌++◌, List, [], length, take, Option, Ok, Err, IfOk, IfErr, OnOk, OnErr, false};
 ghost use Rattle.schedule_player.specs.HeldLine.{held};
-ghost use Rattle.schedule_player.specs.Progress.{Progress, start_of, after_line, after_byte, after_bytes, after_end};
-ghost use Rattle.schedule_player.specs.Replies.{answer_text, text_of};
-ghost use Rattle.schedule_player.specs.Stands.{Stands, IsAnswerTo};
+ghost use Rattle.schedule_player.specs.Knows.{Knows, KnowsMeant};
+ghost use Rattle.schedule_player.specs.Progress.{Progress, after_meaning, after_line, after_bytes, after_end};
+ghost use Rattle.schedule_player.specs.Stands.{Stands, StandsPart, IsHeld, IsFresh, IsSent};
 ghost use Rattle.schedule_player.specs.Written.{HasPartOf};
+ghost use Rattle.schedule_player.specs.declared.replies.TheConstants.{HELD_REPLIES};
+ghost use Rattle.schedule_player.specs.declared.print.TheConstants.{REPLY_ROOM};
 
 use crate::bad::Bad;
 use crate::command::Command;
@@ -13,15 +15,16 @@ use crate::config::WorldKind;
 use crate::fault::Fault;
 use crate::line_buffer::LineBuffer;
 use crate::print::{REPLY_ROOM, print_bad, print_reply};
+use crate::quick::quick_command;
+use crate::replies::{HELD_REPLIES, Replies};
 use crate::reply::Reply;
 use crate::respond::Respond;
 use crate::sink::{Sink, put_all};
 use crate::summary::Summary;
+use memchr::memchr;
 use std::alloc::Allocator;
+use std::marker::Model;
 use step_memory::NoMemory;
-
-/// How many bytes of replies are held before they are written.
-pub const HELD_REPLIES: usize = 65_536;
 
 /// What ends a line.
 const LF: u8 = 10;
@@ -29,32 +32,34 @@ const LF: u8 = 10;
 /// A run under way: what answers events, the line so far, the replies that are not written yet, the counts, and
 /// whether `quit` was answered.
 #[derive(Drop)]
-pub struct Player<D, A: Allocator> {
-    table: D,
-    world: WorldKind,
+pub struct Player<A: Allocator> {
+    kind: WorldKind,
     line: LineBuffer<A>,
-    replies: Vec<u8, A>,
+    replies: Replies<A>,
     summary: Summary,
     over: bool,
 }
 
-impl<D: Respond + Drop, A: Allocator + Clone> Player<D, A> {
+impl<A: Allocator> Model for Player<A> {
+    ghost use Rattle.schedule_player.specs.PlayerState.{PlayerState};
+
+    ghost Value = { PlayerState };
+
+    ghost view = { λ p. record { kind = p.kind; line = p.line; replies = p.replies; summary = p.summary; over = p.over } };
+}
+
+impl<A: Allocator + Clone> Player<A> {
     /// A run that has read nothing. All the memory that it wants is taken here.
-    pub fn new(alloc: A, table: D, world: WorldKind) -> Result<Player<D, A>, NoMemory>
-        ensures stands { IfOk result (λ player. (before : Option (List ℕ)) → Stands player.table player.line player.replies.items player.summary player.over (start_of table) before before) }
-        ensures empty { IfOk result (λ player. (player.replies.items ≡ []) × (player.summary.lines ≡ 0) × (player.world ≡ world)) }
-        ensures room { IfOk result (λ player. vec_capacity player.replies ≡ HELD_REPLIES) }
+    pub fn new(alloc: A, kind: WorldKind) -> Result<Player<A>, NoMemory>
+        ensures { IfOk result (λ player. IsFresh kind player) }
     {
         let Ok(other) = alloc.clone() else {
             return Err(NoMemory);
         };
         let line = LineBuffer::new(other)?;
-        let Ok(replies) = Vec::with_capacity(alloc, HELD_REPLIES) else {
-            return Err(NoMemory);
-        };
+        let replies = Replies::new(alloc)?;
         Ok(Player {
-            table,
-            world,
+            kind,
             line,
             replies,
             summary: Summary::new(),
@@ -63,7 +68,7 @@ impl<D: Respond + Drop, A: Allocator + Clone> Player<D, A> {
     }
 }
 
-impl<D: Respond + Drop, A: Allocator> Player<D, A> {
+impl<A: Allocator> Player<A> {
     /// The counts so far.
     pub fn summary(&self) -> Summary
         ensures { result ≡ self.now.summary }
@@ -78,91 +83,149 @@ impl<D: Respond + Drop, A: Allocator> Player<D, A> {
         self.over
     }
 
-    /// Answers the line so far, which is whole. `quit` ends the run.
-    fn answer(&mut self) -> Result<Reply, Bad>
-        ensures answered { (p : Progress D) → self.old.line ≡ held p.line → self.old.table ≡ p.table → self.old.over ≡ false → IsAnswerTo D.responses self.old.world p self.new.table self.new.over result }
-        ensures line { self.new.line ≡ held [] }
-        ensures kept { (self.new.world ≡ self.old.world) × (self.new.replies ≡ self.old.replies) × (self.new.summary ≡ self.old.summary) }
+    /// Counts a reply and holds its text.
+    #[inline(always)]
+    fn hold(&mut self, reply: &Reply)
+        requires room { length self.old.replies + REPLY_ROOM ≤ HELD_REPLIES }
+        requires count { self.old.summary.lines + 1 < 2 ^ 64 }
+        ensures held { IsHeld self.old (Ok reply.now) self.new }
+        ensures longer { length self.new.replies ≤ length self.old.replies + REPLY_ROOM }
     {
-        let answer = match self.line.meaning(self.world) {
-            Err(bad) => Err(bad),
-            Ok(Command::Event(event)) => Ok(self.table.respond(event)),
-            Ok(Command::Quit) => {
-                self.over = true;
-                Ok(Reply::Ok)
-            }
-        };
-        self.line.clear();
-        answer
+        print_reply(reply, &mut self.replies);
+        self.summary.count_reply(reply);
     }
 
-    /// Answers the line so far, which is whole, counts the answer and holds its text.
-    fn answer_line(&mut self)
-        requires room { vec_len self.old.replies + REPLY_ROOM ≤ vec_capacity self.old.replies }
+    /// Counts a bad line and holds the text of its answer.
+    fn hold_bad(&mut self, bad: Bad)
+        requires room { length self.old.replies + REPLY_ROOM ≤ HELD_REPLIES }
         requires count { self.old.summary.lines + 1 < 2 ^ 64 }
-        ensures stands { (p : Progress D) (before now : Option (List ℕ)) → Stands self.old.table self.old.line self.old.replies.items self.old.summary self.old.over p before now → p.over ≡ false → Stands self.new.table self.new.line self.new.replies.items self.new.summary self.new.over (after_line D.responses self.old.world p) before now }
-        ensures kept { self.new.world ≡ self.old.world }
-        ensures capacity { vec_capacity self.new.replies ≡ vec_capacity self.old.replies }
-        ensures longer { vec_len self.new.replies ≤ vec_len self.old.replies + REPLY_ROOM }
+        ensures held { IsHeld self.old (Err bad) self.new }
+        ensures longer { length self.new.replies ≤ length self.old.replies + REPLY_ROOM }
+    {
+        print_bad(bad, &mut self.replies);
+        self.summary.count_bad(bad);
+    }
+
+    /// Answers what a line means, counts the answer and holds its text. `quit` ends the run.
+    #[inline(always)]
+    fn answer<R, D: Respond<R>>(&mut self, rt: &R, world: &mut D, meaning: Result<Command, Bad>)
+        requires knows { KnowsMeant D.knows meaning }
+        requires room { length self.old.replies + REPLY_ROOM ≤ HELD_REPLIES }
+        requires count { self.old.summary.lines + 1 < 2 ^ 64 }
+        ensures stands { (start : D) (p : Progress) (before now : Option (List ℕ)) → Stands D.may start world.old self.old p before now → p.over ≡ false → p.line ≡ [] → Stands D.may start world.new self.new (after_meaning p meaning) before now }
+        ensures kept { self.new.kind ≡ self.old.kind }
+        ensures longer { length self.new.replies ≤ length self.old.replies + REPLY_ROOM }
         ensures counted { self.new.summary.lines ≡ self.old.summary.lines + 1 }
     {
-        let answer = self.answer();
-        print_answer(answer, &mut self.replies);
-        self.summary.count(answer);
+        match meaning {
+            Ok(Command::Event(event)) => {
+                let reply = world.respond(rt, event);
+                self.hold(&reply);
+            }
+            Ok(Command::Quit) => {
+                self.over = true;
+                self.hold(&Reply::Ok);
+            }
+            Err(bad) => self.hold_bad(bad),
+        }
     }
 
-    /// Takes one byte. After `quit` nothing is acted on.
-    fn take(&mut self, byte: u8)
-        requires room { vec_len self.old.replies + REPLY_ROOM ≤ vec_capacity self.old.replies }
+    /// Answers the line so far, which is whole, and begins the next.
+    fn answer_line<R, D: Respond<R>>(&mut self, rt: &R, world: &mut D)
+        requires knows { Knows D.knows self.old.kind }
+        requires room { length self.old.replies + REPLY_ROOM ≤ HELD_REPLIES }
         requires count { self.old.summary.lines + 1 < 2 ^ 64 }
-        ensures stands { (p : Progress D) (before now : Option (List ℕ)) → Stands self.old.table self.old.line self.old.replies.items self.old.summary self.old.over p before now → Stands self.new.table self.new.line self.new.replies.items self.new.summary self.new.over (after_byte D.responses self.old.world p byte) before now }
-        ensures kept { self.new.world ≡ self.old.world }
-        ensures capacity { vec_capacity self.new.replies ≡ vec_capacity self.old.replies }
-        ensures longer { vec_len self.new.replies ≤ vec_len self.old.replies + REPLY_ROOM }
+        ensures stands { (start : D) (p : Progress) (before now : Option (List ℕ)) → Stands D.may start world.old self.old p before now → p.over ≡ false → Stands D.may start world.new self.new (after_line self.old.kind p) before now }
+        ensures kept { self.new.kind ≡ self.old.kind }
+        ensures longer { length self.new.replies ≤ length self.old.replies + REPLY_ROOM }
+        ensures counted { self.new.summary.lines ≡ self.old.summary.lines + 1 }
+    {
+        let meaning = self.line.meaning(self.kind);
+        self.line.clear();
+        self.answer(rt, world, meaning);
+    }
+
+    /// Takes the first line of these bytes with its LF, or all of them where none ends, and says how many bytes it took.
+    /// After `quit` nothing is acted on.
+    #[inline(never)]
+    fn take<R, D: Respond<R>>(&mut self, rt: &R, world: &mut D, bytes: &[u8]) -> usize
+        requires knows { Knows D.knows self.old.kind }
+        requires room { length self.old.replies + REPLY_ROOM ≤ HELD_REPLIES }
+        requires count { self.old.summary.lines + 1 < 2 ^ 64 }
+        requires some { 0 < length bytes.now }
+        ensures taken { (0 < result) × (result ≤ length bytes.now) }
+        ensures stands { (start : D) (p : Progress) (before now : Option (List ℕ)) → Stands D.may start world.old self.old p before now → Stands D.may start world.new self.new (after_bytes self.old.kind p (take result bytes.now)) before now }
+        ensures kept { self.new.kind ≡ self.old.kind }
+        ensures longer { length self.new.replies ≤ length self.old.replies + REPLY_ROOM }
         ensures counted { self.new.summary.lines ≤ self.old.summary.lines + 1 }
     {
         if self.over {
-            return;
+            return bytes.len();
         }
-        if byte == LF {
-            self.answer_line();
-        } else {
-            self.line.push(byte);
+        if self.line.is_empty() {
+            if let Some((command, end)) = quick_command(bytes, self.kind) {
+                self.answer(rt, world, Ok(command));
+                return end + 1;
+            }
+        }
+        self.take_slowly(rt, world, bytes)
+    }
+
+    /// As `take`, where the run goes on, for any line.
+    #[inline(never)]
+    fn take_slowly<R, D: Respond<R>>(&mut self, rt: &R, world: &mut D, bytes: &[u8]) -> usize
+        requires knows { Knows D.knows self.old.kind }
+        requires room { length self.old.replies + REPLY_ROOM ≤ HELD_REPLIES }
+        requires count { self.old.summary.lines + 1 < 2 ^ 64 }
+        requires some { 0 < length bytes.now }
+        ensures taken { (0 < result) × (result ≤ length bytes.now) }
+        ensures stands { (start : D) (p : Progress) (before now : Option (List ℕ)) → Stands D.may start world.old self.old p before now → p.over ≡ false → Stands D.may start world.new self.new (after_bytes self.old.kind p (take result bytes.now)) before now }
+        ensures kept { self.new.kind ≡ self.old.kind }
+        ensures longer { length self.new.replies ≤ length self.old.replies + REPLY_ROOM }
+        ensures counted { self.new.summary.lines ≤ self.old.summary.lines + 1 }
+    {
+        match memchr(LF, bytes) {
+            Some(end) => {
+                self.line.extend(&bytes[..end]);
+                self.answer_line(rt, world);
+                end + 1
+            }
+            None => {
+                self.line.extend(bytes);
+                bytes.len()
+            }
         }
     }
 
     /// Writes the replies that are held.
     fn send<W: Sink>(&mut self, writer: &mut W) -> Result<(), Fault>
-        requires calls { W.calls writer.old + vec_len self.old.replies ≤ 2 ^ 100 }
-        ensures ok { OnOk result ((p : Progress D) (before : Option (List ℕ)) → Stands self.old.table self.old.line self.old.replies.items self.old.summary self.old.over p before (W.contents writer.old) → Stands self.new.table self.new.line [] self.new.summary self.new.over p before (W.contents writer.new)) }
-        ensures empty { OnOk result (self.new.replies.items ≡ []) }
+        requires calls { W.calls writer.old + length self.old.replies ≤ 2 ^ 100 }
+        ensures ok { OnOk result (IsSent self.old (W.contents writer.old) self.new (W.contents writer.new)) }
+        ensures empty { OnOk result (self.new.replies ≡ []) }
         ensures only { IfErr result (λ fault. fault ≡ Fault.Write) }
         ensures failed { OnErr result (W.failed writer.old < W.failed writer.new) }
-        ensures failures { W.failed writer.old ≤ W.failed writer.new }
-        ensures part { OnErr result ((p : Progress D) (before : Option (List ℕ)) → Stands self.old.table self.old.line self.old.replies.items self.old.summary self.old.over p before (W.contents writer.old) → HasPartOf before (W.contents writer.new) (text_of p.given)) }
-        ensures kept { (self.new.world ≡ self.old.world) × (self.new.summary ≡ self.old.summary) × (self.new.over ≡ self.old.over) }
-        ensures capacity { vec_capacity self.new.replies ≡ vec_capacity self.old.replies }
-        ensures calls { W.calls writer.new ≤ W.calls writer.old + vec_len self.old.replies }
+        ensures unfailed { OnOk result (W.failed writer.new ≡ W.failed writer.old) }
+        ensures part { OnErr result (HasPartOf (W.contents writer.old) (W.contents writer.new) self.old.replies) }
+        ensures kept { (self.new.kind ≡ self.old.kind) × (self.new.summary ≡ self.old.summary) }
+        ensures calls { W.calls writer.new ≤ W.calls writer.old + length self.old.replies }
     {
-        put_all(writer, &self.replies)?;
+        put_all(writer, self.replies.as_slice())?;
         self.replies.clear();
         Ok(())
     }
 
     /// Makes room for one more reply: where there is too little, the replies that are held are written.
     fn make_room<W: Sink>(&mut self, writer: &mut W) -> Result<(), Fault>
-        requires capacity { vec_capacity self.old.replies ≡ HELD_REPLIES }
-        requires calls { W.calls writer.old + vec_len self.old.replies ≤ 2 ^ 100 }
-        ensures ok { OnOk result ((p : Progress D) (before : Option (List ℕ)) → Stands self.old.table self.old.line self.old.replies.items self.old.summary self.old.over p before (W.contents writer.old) → Stands self.new.table self.new.line self.new.replies.items self.new.summary self.new.over p before (W.contents writer.new)) }
-        ensures room { OnOk result (vec_len self.new.replies + REPLY_ROOM ≤ HELD_REPLIES) }
+        requires calls { W.calls writer.old + length self.old.replies ≤ 2 ^ 100 }
+        ensures ok { OnOk result (IsSent self.old (W.contents writer.old) self.new (W.contents writer.new)) }
+        ensures room { OnOk result (length self.new.replies + REPLY_ROOM ≤ HELD_REPLIES) }
         ensures only { IfErr result (λ fault. fault ≡ Fault.Write) }
         ensures failed { OnErr result (W.failed writer.old < W.failed writer.new) }
-        ensures failures { W.failed writer.old ≤ W.failed writer.new }
-        ensures part { OnErr result ((p : Progress D) (before : Option (List ℕ)) → Stands self.old.table self.old.line self.old.replies.items self.old.summary self.old.over p before (W.contents writer.old) → HasPartOf before (W.contents writer.new) (text_of p.given)) }
-        ensures kept { (self.new.world ≡ self.old.world) × (self.new.summary ≡ self.old.summary) }
-        ensures capacity { vec_capacity self.new.replies ≡ vec_capacity self.old.replies }
-        ensures calls { W.calls writer.new ≤ W.calls writer.old + vec_len self.old.replies }
-        ensures calls_left { OnOk result (W.calls writer.new + vec_len self.new.replies ≤ W.calls writer.old + vec_len self.old.replies) }
+        ensures unfailed { OnOk result (W.failed writer.new ≡ W.failed writer.old) }
+        ensures part { OnErr result (HasPartOf (W.contents writer.old) (W.contents writer.new) self.old.replies) }
+        ensures kept { (self.new.kind ≡ self.old.kind) × (self.new.summary ≡ self.old.summary) }
+        ensures calls { W.calls writer.new ≤ W.calls writer.old + length self.old.replies }
+        ensures calls_left { OnOk result (W.calls writer.new + length self.new.replies ≤ W.calls writer.old + length self.old.replies) }
     {
         if self.replies.len() <= HELD_REPLIES - REPLY_ROOM {
             return Ok(());
@@ -171,65 +234,66 @@ impl<D: Respond + Drop, A: Allocator> Player<D, A> {
     }
 
     /// Takes bytes that were read, and writes their replies.
-    pub fn feed<W: Sink>(&mut self, chunk: &[u8], writer: &mut W) -> Result<(), Fault>
-        requires room { vec_capacity self.old.replies ≡ HELD_REPLIES }
+    pub fn feed<R, D: Respond<R>, W: Sink>(
+        &mut self,
+        rt: &R,
+        world: &mut D,
+        chunk: &[u8],
+        writer: &mut W,
+    ) -> Result<(), Fault>
+        requires knows { Knows D.knows self.old.kind }
         requires count { self.old.summary.lines + length chunk.now < 2 ^ 64 }
-        requires calls { W.calls writer.old + vec_len self.old.replies + REPLY_ROOM * length chunk.now ≤ 2 ^ 100 }
-        ensures ok { OnOk result ((p : Progress D) (before : Option (List ℕ)) → Stands self.old.table self.old.line self.old.replies.items self.old.summary self.old.over p before (W.contents writer.old) → Stands self.new.table self.new.line [] self.new.summary self.new.over (after_bytes D.responses self.old.world p chunk.now) before (W.contents writer.new)) }
-        ensures empty { OnOk result (self.new.replies.items ≡ []) }
+        requires calls { W.calls writer.old + length self.old.replies + REPLY_ROOM * length chunk.now ≤ 2 ^ 100 }
+        ensures ok { OnOk result ((start : D) (p : Progress) (before : Option (List ℕ)) → Stands D.may start world.old self.old p before (W.contents writer.old) → Stands D.may start world.new self.new (after_bytes self.old.kind p chunk.now) before (W.contents writer.new)) }
+        ensures empty { OnOk result (self.new.replies ≡ []) }
         ensures only { IfErr result (λ fault. fault ≡ Fault.Write) }
         ensures failed { OnErr result (W.failed writer.old < W.failed writer.new) }
-        ensures failures { W.failed writer.old ≤ W.failed writer.new }
-        ensures part { OnErr result ((p : Progress D) (before : Option (List ℕ)) → Stands self.old.table self.old.line self.old.replies.items self.old.summary self.old.over p before (W.contents writer.old) → HasPartOf before (W.contents writer.new) (text_of (after_bytes D.responses self.old.world p chunk.now).given)) }
-        ensures kept { self.new.world ≡ self.old.world }
+        ensures unfailed { OnOk result (W.failed writer.new ≡ W.failed writer.old) }
+        ensures part { OnErr result ((start : D) (p : Progress) (before : Option (List ℕ)) → Stands D.may start world.old self.old p before (W.contents writer.old) → StandsPart D.may start world.new (after_bytes self.old.kind p chunk.now) before (W.contents writer.new)) }
+        ensures kept { self.new.kind ≡ self.old.kind }
         ensures counted { self.new.summary.lines ≤ self.old.summary.lines + length chunk.now }
-        ensures capacity { vec_capacity self.new.replies ≡ vec_capacity self.old.replies }
-        ensures calls { W.calls writer.new ≤ W.calls writer.old + vec_len self.old.replies + REPLY_ROOM * length chunk.now }
+        ensures calls { W.calls writer.new ≤ W.calls writer.old + length self.old.replies + REPLY_ROOM * length chunk.now }
     {
-        for byte in chunk {
+        let mut at = 0;
+        while at < chunk.len() {
             self.make_room(writer)?;
-            self.take(*byte);
+            at += self.take(rt, world, &chunk[at..]);
         }
         self.send(writer)
     }
 
     /// Takes the end of the input, where what stands with no LF is a line too, and writes the last reply.
-    pub fn finish<W: Sink>(&mut self, writer: &mut W) -> Result<(), Fault>
-        requires room { vec_len self.old.replies + REPLY_ROOM ≤ vec_capacity self.old.replies }
+    pub fn finish<R, D: Respond<R>, W: Sink>(
+        &mut self,
+        rt: &R,
+        world: &mut D,
+        writer: &mut W,
+    ) -> Result<(), Fault>
+        requires knows { Knows D.knows self.old.kind }
+        requires room { length self.old.replies + REPLY_ROOM ≤ HELD_REPLIES }
         requires count { self.old.summary.lines + 1 < 2 ^ 64 }
-        requires calls { W.calls writer.old + vec_len self.old.replies + REPLY_ROOM ≤ 2 ^ 100 }
-        ensures ok { OnOk result ((p : Progress D) (before : Option (List ℕ)) → Stands self.old.table self.old.line self.old.replies.items self.old.summary self.old.over p before (W.contents writer.old) → Stands self.new.table self.new.line [] self.new.summary self.new.over (after_end D.responses self.old.world p) before (W.contents writer.new)) }
+        requires calls { W.calls writer.old + length self.old.replies + REPLY_ROOM ≤ 2 ^ 100 }
+        ensures ok { OnOk result ((start : D) (p : Progress) (before : Option (List ℕ)) → Stands D.may start world.old self.old p before (W.contents writer.old) → Stands D.may start world.new self.new (after_end self.old.kind p) before (W.contents writer.new)) }
+        ensures empty { OnOk result (self.new.replies ≡ []) }
         ensures only { IfErr result (λ fault. fault ≡ Fault.Write) }
         ensures failed { OnErr result (W.failed writer.old < W.failed writer.new) }
-        ensures failures { W.failed writer.old ≤ W.failed writer.new }
-        ensures part { OnErr result ((p : Progress D) (before : Option (List ℕ)) → Stands self.old.table self.old.line self.old.replies.items self.old.summary self.old.over p before (W.contents writer.old) → HasPartOf before (W.contents writer.new) (text_of (after_end D.responses self.old.world p).given)) }
+        ensures unfailed { OnOk result (W.failed writer.new ≡ W.failed writer.old) }
+        ensures part { OnErr result ((start : D) (p : Progress) (before : Option (List ℕ)) → Stands D.may start world.old self.old p before (W.contents writer.old) → StandsPart D.may start world.new (after_end self.old.kind p) before (W.contents writer.new)) }
     {
-        self.end_line();
+        self.end_line(rt, world);
         self.send(writer)
     }
 
     /// Answers what stands before the end of the input with no LF, if it is not empty.
-    fn end_line(&mut self)
-        requires room { vec_len self.old.replies + REPLY_ROOM ≤ vec_capacity self.old.replies }
+    fn end_line<R, D: Respond<R>>(&mut self, rt: &R, world: &mut D)
+        requires knows { Knows D.knows self.old.kind }
+        requires room { length self.old.replies + REPLY_ROOM ≤ HELD_REPLIES }
         requires count { self.old.summary.lines + 1 < 2 ^ 64 }
-        ensures stands { (p : Progress D) (before now : Option (List ℕ)) → Stands self.old.table self.old.line self.old.replies.items self.old.summary self.old.over p before now → Stands self.new.table self.new.line self.new.replies.items self.new.summary self.new.over (after_end D.responses self.old.world p) before now }
-        ensures longer { vec_len self.new.replies ≤ vec_len self.old.replies + REPLY_ROOM }
+        ensures stands { (start : D) (p : Progress) (before now : Option (List ℕ)) → Stands D.may start world.old self.old p before now → Stands D.may start world.new self.new (after_end self.old.kind p) before now }
+        ensures longer { length self.new.replies ≤ length self.old.replies + REPLY_ROOM }
     {
         if !self.over && !self.line.is_empty() {
-            self.answer_line();
+            self.answer_line(rt, world);
         }
-    }
-}
-
-/// Appends the text of an answer, for which there is room.
-fn print_answer<A: Allocator>(answer: Result<Reply, Bad>, out: &mut Vec<u8, A>)
-    requires room { vec_len out.old + REPLY_ROOM ≤ vec_capacity out.old }
-    ensures text { out.new.items ≡ out.old.items ++ answer_text answer }
-    ensures longer { vec_len out.new ≤ vec_len out.old + REPLY_ROOM }
-    ensures capacity { vec_capacity out.new ≡ vec_capacity out.old }
-{
-    match answer {
-        Ok(reply) => print_reply(reply, out),
-        Err(bad) => print_bad(bad, out),
     }
 }

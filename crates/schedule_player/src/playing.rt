@@ -1,17 +1,20 @@
 //! Runs of a world, from a reader to a writer.
 
-ghost use Rattle.std.specs.Prelude.{◌≡◌, ℕ, ◌+◌, ◌*◌, ◌^◌, ◌<◌, ◌≤◌, ◌⊎◌, List, [], length, Option, Err, IfOk, IfErr, OnOk, vec_capacity};
-ghost use Rattle.schedule_player.specs.Played.{PlayedAll, PlayedWhatCame, PlayedPart};
-ghost use Rattle.schedule_player.specs.Progress.{Progress, start_of};
-ghost use Rattle.schedule_player.specs.Responses.{answers_to, answers_to_whole};
-ghost use Rattle.schedule_player.specs.Runs.{answers_in, whole_answers_in, IsLawfulPlay};
-ghost use Rattle.schedule_player.specs.Stands.{Stands};
-ghost use Rattle.schedule_player.specs.declared.player.TheConstants.{HELD_REPLIES};
+ghost use Rattle.std.specs.Prelude.{◌≡◌, ◌≢◌, Err, ℕ, ◌+◌, ◌^◌, ◌<◌, List, [], length, Option};
+ghost use Rattle.schedule_player.specs.IsRun.{IsRun};
+ghost use Rattle.schedule_player.specs.Knows.{Knows};
+ghost use Rattle.schedule_player.specs.Lines.{IsCutInto, whole_lines, rest_of};
+ghost use Rattle.schedule_player.specs.OneTalk.{IsOneTalk};
+ghost use Rattle.schedule_player.specs.Played.{IsPlayed, reading, writing};
+ghost use Rattle.schedule_player.specs.Progress.{at_start};
+ghost use Rattle.schedule_player.specs.Runs.{IsRunTo, CanRun, CouldRun, IsRunOf, IsDetermined};
+ghost use Rattle.schedule_player.specs.Stands.{IsFresh};
+ghost use Rattle.schedule_player.specs.declared.config.Config.{Config};
 
 use crate::config::{Config, WorldKind};
 use crate::fault::Fault;
 use crate::player::Player;
-use crate::respond::Respond;
+use crate::respond::{Respond, World};
 use crate::sink::Sink;
 use crate::source::Source;
 use crate::summary::Summary;
@@ -28,7 +31,8 @@ pub const MOST_READS: u64 = 1_099_511_627_776;
 /// Plays the commands that a reader gives, line by line, and writes the replies, one a line.
 ///
 /// The run ends at the end of the input or at `quit`, and then the text of all answers is written. The replies to what one
-/// read gave are written before the next read. All memory is taken before the first read.
+/// read gave are written before the next read. All memory is taken before the first read, but for what a world takes to
+/// answer an event.
 ///
 /// `Fault::Memory` where it was refused, with nothing read and nothing written; `Fault::Read` where the reader failed or
 /// was read 2^40 times, with the answers to all whole lines written and a cut line not run; `Fault::Write` where the
@@ -41,52 +45,55 @@ pub fn play<A: Allocator + Clone, R: Source, W: Sink>(
 ) -> Result<Summary, Fault>
     requires reads { R.calls reader.old < 2 ^ 64 }
     requires writes { W.calls writer.old < 2 ^ 64 }
+    ensures { IsPlayed (IsRun config) (IsRun config) config.world (reading R.remaining R.calls R.failed) (writing W.contents W.failed) reader.old reader.new writer.old writer.new result }
+{
+    match config.world {
+        WorldKind::Splitter => play_in::<SplitterWorld<A>, (), A, R, W>(
+            alloc,
+            &(),
+            reader,
+            writer,
+            config,
+        ),
+        WorldKind::Grid => play_in::<GridWorld<A>, (), A, R, W>(alloc, &(), reader, writer, config),
+    }
+}
 
-    // The text is the texts of the answers to the lines of the input, whole, and the summary counts them.
-    ensures ok { IfOk result (λ summary. PlayedAll (answers_in config.world config.m) (R.remaining reader.old) (W.contents writer.old) (W.contents writer.new) summary) }
-
-    // The answers to any input are the replies of one list of calls, which keeps the law of the world.
-    ensures lawful { (bytes : List ℕ) → IsLawfulPlay config.world config.m bytes }
-
-    ensures read_fault { result ≡ Err Fault.Read → (R.failed reader.old < R.failed reader.new) ⊎ (R.calls reader.new ≡ R.calls reader.old + MOST_READS) }
-    ensures read_came { result ≡ Err Fault.Read → PlayedWhatCame (whole_answers_in config.world config.m) (R.remaining reader.old) (R.remaining reader.new) (W.contents writer.old) (W.contents writer.new) }
-    ensures write_fault { result ≡ Err Fault.Write → W.failed writer.old < W.failed writer.new }
-    ensures write_part { result ≡ Err Fault.Write → PlayedPart (answers_in config.world config.m) (R.remaining reader.old) (W.contents writer.old) (W.contents writer.new) }
-    ensures memory { result ≡ Err Fault.Memory → (reader.new ≡ reader.old) × (writer.new ≡ writer.old) }
-    ensures reads { R.calls reader.new ≤ R.calls reader.old + MOST_READS }
+/// Plays on a fresh world of this type, as `play`.
+pub fn play_in<D: World<A, H> + Drop, H, A: Allocator + Clone, R: Source, W: Sink>(
+    alloc: A,
+    rt: &H,
+    reader: &mut R,
+    writer: &mut W,
+    config: Config,
+) -> Result<Summary, Fault>
+    requires reads { R.calls reader.old < 2 ^ 64 }
+    requires writes { W.calls writer.old < 2 ^ 64 }
+    ensures { IsPlayed (IsRunOf (D.IsRunIn config) (D.fresh config) D.may) (IsRunOf (D.IsRunIn config) (D.fresh config) D.may) D.KIND (reading R.remaining R.calls R.failed) (writing W.contents W.failed) reader.old reader.new writer.old writer.new result }
 {
     let Ok(other) = alloc.clone() else {
         return Err(Fault::Memory);
     };
-    match config.world {
-        WorldKind::Splitter => match SplitterWorld::new(other, config.m as usize) {
-            Ok(world) => play_on(alloc, world, config.world, reader, writer),
-            Err(_) => Err(Fault::Memory),
-        },
-        WorldKind::Grid => match GridWorld::new(other, config.m as usize) {
-            Ok(world) => play_on(alloc, world, config.world, reader, writer),
-            Err(_) => Err(Fault::Memory),
-        },
+    match D::open(other, config) {
+        Ok(mut world) => play_on(alloc, rt, &mut world, D::KIND, reader, writer),
+        Err(_) => Err(Fault::Memory),
     }
 }
 
-/// Plays on this table, which answers the events.
-fn play_on<D: Respond + Drop, A: Allocator + Clone, R: Source, W: Sink>(
+/// Plays on what answers events, as `play`, where it knows each event that lines of this kind mean.
+pub fn play_on<H, D: Respond<H>, A: Allocator + Clone, R: Source, W: Sink>(
     alloc: A,
-    table: D,
-    world: WorldKind,
+    rt: &H,
+    world: &mut D,
+    kind: WorldKind,
     reader: &mut R,
     writer: &mut W,
 ) -> Result<Summary, Fault>
+    requires knows { Knows D.knows kind }
     requires reads { R.calls reader.old < 2 ^ 64 }
     requires writes { W.calls writer.old < 2 ^ 64 }
-    ensures ok { IfOk result (λ summary. PlayedAll (answers_to D.responses world table) (R.remaining reader.old) (W.contents writer.old) (W.contents writer.new) summary) }
-    ensures read_fault { result ≡ Err Fault.Read → (R.failed reader.old < R.failed reader.new) ⊎ (R.calls reader.new ≡ R.calls reader.old + MOST_READS) }
-    ensures read_came { result ≡ Err Fault.Read → PlayedWhatCame (answers_to_whole D.responses world table) (R.remaining reader.old) (R.remaining reader.new) (W.contents writer.old) (W.contents writer.new) }
-    ensures write_fault { result ≡ Err Fault.Write → W.failed writer.old < W.failed writer.new }
-    ensures write_part { result ≡ Err Fault.Write → PlayedPart (answers_to D.responses world table) (R.remaining reader.old) (W.contents writer.old) (W.contents writer.new) }
-    ensures memory { result ≡ Err Fault.Memory → (reader.new ≡ reader.old) × (writer.new ≡ writer.old) }
-    ensures reads { R.calls reader.new ≤ R.calls reader.old + MOST_READS }
+    ensures played { IsPlayed (IsRunTo D.may world.old world.new) (CanRun D.may world.old) kind (reading R.remaining R.calls R.failed) (writing W.contents W.failed) reader.old reader.new writer.old writer.new result }
+    ensures unchanged { result ≡ Err Fault.Memory → world.new ≡ world.old }
 {
     let Ok(other) = alloc.clone() else {
         return Err(Fault::Memory);
@@ -94,33 +101,28 @@ fn play_on<D: Respond + Drop, A: Allocator + Clone, R: Source, W: Sink>(
     let Ok(mut chunk) = Vec::from_elem(other, 0, READ_BYTES) else {
         return Err(Fault::Memory);
     };
-    let Ok(mut player) = Player::new(alloc, table, world) else {
+    let Ok(mut player) = Player::new(alloc, kind) else {
         return Err(Fault::Memory);
     };
-    match run(&mut player, &mut chunk, reader, writer) {
-        Ok(()) => Ok(player.summary()),
-        Err(fault) => Err(fault),
-    }
+    run(rt, world, &mut player, &mut chunk, reader, writer)
 }
 
 /// Reads to the end of the input or to `quit`, and writes the replies after each read.
-fn run<D: Respond + Drop, A: Allocator, R: Source, W: Sink>(
-    player: &mut Player<D, A>,
+fn run<H, D: Respond<H>, A: Allocator, R: Source, W: Sink>(
+    rt: &H,
+    world: &mut D,
+    player: &mut Player<A>,
     chunk: &mut [u8],
     reader: &mut R,
     writer: &mut W,
-) -> Result<(), Fault>
+) -> Result<Summary, Fault>
+    requires knows { Knows D.knows player.old.kind }
     requires chunk { length chunk.old ≡ READ_BYTES }
-    requires fresh { (player.old.replies.items ≡ []) × (player.old.summary.lines ≡ 0) × (vec_capacity player.old.replies ≡ HELD_REPLIES) }
+    requires fresh { IsFresh player.old.kind player.old }
     requires reads { R.calls reader.old < 2 ^ 64 }
     requires writes { W.calls writer.old < 2 ^ 64 }
-    ensures ok { OnOk result ((t : D) (before : Option (List ℕ)) → Stands player.old.table player.old.line [] player.old.summary player.old.over (start_of t) before (W.contents writer.old) → PlayedAll (answers_to D.responses player.old.world t) (R.remaining reader.old) before (W.contents writer.new) player.new.summary) }
-    ensures only { IfErr result (λ fault. (fault ≡ Fault.Read) ⊎ (fault ≡ Fault.Write)) }
-    ensures read_fault { result ≡ Err Fault.Read → (R.failed reader.old < R.failed reader.new) ⊎ (R.calls reader.new ≡ R.calls reader.old + MOST_READS) }
-    ensures read_came { result ≡ Err Fault.Read → (t : D) (before : Option (List ℕ)) → Stands player.old.table player.old.line [] player.old.summary player.old.over (start_of t) before (W.contents writer.old) → PlayedWhatCame (answers_to_whole D.responses player.old.world t) (R.remaining reader.old) (R.remaining reader.new) before (W.contents writer.new) }
-    ensures write_fault { result ≡ Err Fault.Write → W.failed writer.old < W.failed writer.new }
-    ensures write_part { result ≡ Err Fault.Write → (t : D) (before : Option (List ℕ)) → Stands player.old.table player.old.line [] player.old.summary player.old.over (start_of t) before (W.contents writer.old) → PlayedPart (answers_to D.responses player.old.world t) (R.remaining reader.old) before (W.contents writer.new) }
-    ensures reads { R.calls reader.new ≤ R.calls reader.old + MOST_READS }
+    ensures played { IsPlayed (IsRunTo D.may world.old world.new) (CanRun D.may world.old) player.old.kind (reading R.remaining R.calls R.failed) (writing W.contents W.failed) reader.old reader.new writer.old writer.new result }
+    ensures never { result ≢ Err Fault.Memory }
 {
     for reads in 0..MOST_READS {
         let count = match reader.read_once(chunk) {
@@ -128,12 +130,33 @@ fn run<D: Respond + Drop, A: Allocator, R: Source, W: Sink>(
             Err(_) => return Err(Fault::Read),
         };
         if count == 0 {
-            return player.finish(writer);
+            player.finish(rt, world, writer)?;
+            return Ok(player.summary());
         }
-        player.feed(&chunk[..count], writer)?;
+        player.feed(rt, world, &chunk[..count], writer)?;
         if player.is_over() {
-            return Ok(());
+            return Ok(player.summary());
         }
     }
     Err(Fault::Read)
 }
+
+/// Runs of one world are determined by their events where no growth is refused.
+pub fn law_of_world<D: World<A, H>, A, H>()
+    ensures { (config : Config) → IsDetermined (CouldRun (D.fresh config) D.may) }
+{}
+
+/// So what is said to the lines of an input is a function of them, where no growth is refused.
+pub fn law_of_play<A: Allocator + Clone>()
+    ensures { (config : Config) → IsOneTalk (IsRun config) }
+{
+    law_of_world::<SplitterWorld<A>, A, ()>();
+    law_of_world::<GridWorld<A>, A, ()>();
+}
+
+/// A law, which runs nothing: bytes are cut into their whole lines and a rest, each line with its LF, no line with an LF in
+/// it; and into no others.
+pub fn law_of_lines()
+    ensures cut { (bytes : List ℕ) → IsCutInto bytes (whole_lines bytes) (rest_of bytes) }
+    ensures once { (bytes : List ℕ) (ls : List (List ℕ)) (rest : List ℕ) → IsCutInto bytes ls rest → (ls ≡ whole_lines bytes) × (rest ≡ rest_of bytes) }
+{}

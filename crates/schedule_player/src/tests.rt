@@ -1,9 +1,12 @@
 //! Runs of commands over readers and writers in memory.
 
-use crate::player::HELD_REPLIES;
+ghost use Rattle.std.specs.Prelude.{◌≡◌, true};
+
+use crate::replies::HELD_REPLIES;
+use crate::toys::{Coin, Shelf};
 use crate::{
     Config, Event, Fault, LineBuffer, MOST_READS, READ_BYTES, Reply, Respond, Summary, Tried,
-    WorldKind, play,
+    WorldKind, law_of_lines, law_of_play, law_of_world, play, play_in, play_on,
 };
 use linked_list_allocator::LocalHeap;
 use splitter::SplitterWorld;
@@ -96,10 +99,10 @@ struct Played {
 }
 
 fn play_by<A: Allocator + Clone>(alloc: A, reader: Drip<'_>, writer: Cup) -> Played {
-    play_in(WorldKind::Splitter, 2, alloc, reader, writer)
+    played_in(WorldKind::Splitter, 2, alloc, reader, writer)
 }
 
-fn play_in<A: Allocator + Clone>(
+fn played_in<A: Allocator + Clone>(
     world: WorldKind,
     m: u64,
     alloc: A,
@@ -288,7 +291,7 @@ fn play_in_the_last(
 ) -> Result<Played, Fail> {
     let heap = LocalHeap::new(alloc, HEAP)?;
     let others = Vec::<u8, &LocalHeap>::with_capacity(&heap, HEAP.saturating_sub(left))?;
-    let played = play_in(
+    let played = played_in(
         world,
         m,
         &heap,
@@ -358,7 +361,7 @@ fn grid_rows() -> [(u64, &'static [u8], &'static [u8]); 2] {
 fn walks_in_a_grid_end_at_places(rt: HostRuntime) -> Result<(), Fail> {
     for (m, input, text) in grid_rows() {
         for piece in [1, READ_BYTES] {
-            let p = play_in(
+            let p = played_in(
                 WorldKind::Grid,
                 m,
                 rt.alloc(),
@@ -373,8 +376,10 @@ fn walks_in_a_grid_end_at_places(rt: HostRuntime) -> Result<(), Fail> {
 }
 
 /// One event through the bound.
-fn answered<D: Respond>(table: &mut D, event: Event) -> Reply {
-    table.respond(event)
+fn answered<D: Respond<()>>(world: &mut D, event: Event) -> Reply
+    requires { D.knows event ≡ true }
+{
+    world.respond(&(), event)
 }
 
 #[test]
@@ -405,4 +410,75 @@ fn configs_are_in_range(rt: HostRuntime) {
     ] {
         assert!(rt; Config::new(kind, m, k, limit).is_err());
     }
+}
+
+#[test]
+fn a_world_that_refuses_growths_takes_the_event_when_asked_again(
+    rt: HostRuntime,
+) -> Result<(), Fail> {
+    let config = Config::new(WorldKind::Splitter, 4, 4, 1000)?;
+    let mut reader = Tried::new(
+        b"begin 1\nbegin 2\nbegin 3\nbegin 3\nstep 9\nstep 9\nquit\n".as_slice(),
+    );
+    let mut writer = Tried::new(Vec::new(rt.alloc()));
+    let summary = play_in::<Shelf, (), Global, _, _>(
+        rt.alloc(),
+        &(),
+        &mut reader,
+        &mut writer,
+        config,
+    )?;
+    assert_eq!(rt;
+        writer.into_inner().as_slice(),
+        b"ok\nok\nrefused 12\nok\nok\nrefused 12\nok\n".as_slice()
+    );
+    assert_eq!(rt; (summary.accepted, summary.refused), (5, 2));
+    law_of_world::<Shelf, Global, ()>();
+    Ok(())
+}
+
+#[test]
+fn a_world_whose_replies_vary_is_played_and_left_where_the_replies_went_out(
+    rt: HostRuntime,
+) -> Result<(), Fail> {
+    for (fails_at, stops, text) in [
+        (0, true, b"right\nstop\nright\n".as_slice()),
+        (3, false, b"right\nstop\n"),
+    ] {
+        let mut coin = Coin { stops: false };
+        let mut reader = Tried::new(dripping(b"begin 1\nstep 1\nstep 1\n", 8, fails_at));
+        let mut writer = Tried::new(Vec::new(rt.alloc()));
+        let outcome = play_on(
+            rt.alloc(),
+            &(),
+            &mut coin,
+            WorldKind::Splitter,
+            &mut reader,
+            &mut writer,
+        );
+        assert_eq!(rt; outcome.is_ok(), fails_at == 0);
+        assert_eq!(rt; writer.into_inner().as_slice(), text);
+        assert_eq!(rt; coin.stops, stops);
+    }
+    Ok(())
+}
+
+#[test]
+fn reads_and_writes_are_few(rt: HostRuntime) {
+    let input = b"begin 7\nstep 7\nstep 7\nstep 7\nstep 7\nquit\nbegin 8\n".as_slice();
+    for (piece, reads, writes) in [(READ_BYTES, 1, 1), (8, 6, 6), (1, 41, 6)] {
+        let p = play_by(
+            rt.alloc(),
+            dripping(input, piece, 0),
+            cup_of(rt.alloc(), READ_BYTES, 0, false),
+        );
+        assert!(rt; p.outcome.is_ok());
+        assert_eq!(rt; (p.reads, p.writes), (reads, writes), "at {piece} bytes");
+    }
+}
+
+#[test]
+fn laws_are_called() {
+    law_of_lines();
+    law_of_play::<Global>();
 }

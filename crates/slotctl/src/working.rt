@@ -1,10 +1,11 @@
 //! What the program does, over any reader and writer.
 
-ghost use Rattle.std.specs.Prelude.{◌≡◌, ◌+◌, ◌<◌, ◌^◌, ◌⊎◌, Err, IfOk};
-ghost use Rattle.schedule_player.specs.Played.{PlayedAll, PlayedPart, PlayedWhatCame};
-ghost use Rattle.schedule_player.specs.Runs.{answers_in, whole_answers_in};
-ghost use Rattle.schedule_player.specs.declared.playing.TheConstants.{MOST_READS};
+ghost use Rattle.std.specs.Prelude.{◌≡◌, ◌<◌, ◌^◌, Result};
+ghost use Rattle.schedule_player.specs.IsRun.{IsRun};
+ghost use Rattle.schedule_player.specs.Played.{IsPlayed, reading, writing};
+ghost use Rattle.schedule_player.specs.declared.fault.Fault.{Fault};
 ghost use Rattle.schedule_player.specs.declared.summary.Summary.{Summary};
+ghost use Rattle.slotctl.specs.Statuses.{status_after};
 
 use crate::asked::Ask;
 use schedule_player::{Fault, Sink, Source, play};
@@ -23,14 +24,10 @@ pub fn work<R: Source, W: Sink, A: Allocator + Clone + Drop>(
 ) -> Result<u8, Fault>
     requires reads { R.calls reader.old < 2 ^ 64 }
     requires writes { W.calls writer.old < 2 ^ 64 }
-    ensures status { IfOk result (λ status. status ≡ 0) }
-    ensures ok { IfOk result (λ _. (summary : Summary) × PlayedAll (answers_in ask.config.world ask.config.m) (R.remaining reader.old) (W.contents writer.old) (W.contents writer.new) summary) }
-    ensures read_fault { result ≡ Err Fault.Read → (R.failed reader.old < R.failed reader.new) ⊎ (R.calls reader.new ≡ R.calls reader.old + MOST_READS) }
-    ensures read_came { result ≡ Err Fault.Read → PlayedWhatCame (whole_answers_in ask.config.world ask.config.m) (R.remaining reader.old) (R.remaining reader.new) (W.contents writer.old) (W.contents writer.new) }
-    ensures write_fault { result ≡ Err Fault.Write → W.failed writer.old < W.failed writer.new }
-    ensures write_part { result ≡ Err Fault.Write → PlayedPart (answers_in ask.config.world ask.config.m) (R.remaining reader.old) (W.contents writer.old) (W.contents writer.new) }
-    ensures memory { result ≡ Err Fault.Memory → (reader.new ≡ reader.old) × (writer.new ≡ writer.old) }
+    ensures { (played : Result Summary Fault) × (result ≡ status_after played) × IsPlayed (IsRun ask.config) (IsRun ask.config) ask.config.world (reading R.remaining R.calls R.failed) (writing W.contents W.failed) reader.old reader.new writer.old writer.new played }
 {
-    play(alloc, reader, writer, ask.config)?;
-    Ok(0)
+    match play(alloc, reader, writer, ask.config) {
+        Ok(_) => Ok(0),
+        Err(fault) => Err(fault),
+    }
 }
