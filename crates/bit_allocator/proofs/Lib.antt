@@ -5,5 +5,7 @@ pub mod Counts
 pub mod Balanced
 pub mod Tied
 pub mod PoolKeeps
+pub mod Seeking
+pub mod Acquiring
 pub mod LocalityLemmas
 pub mod CallLemmas

@@ -36,11 +36,12 @@ either : (b : Bool) → (b ≡ true) ⊎ (b ≡ false)
 either true = inl refl
 either false = inr refl
 
-record IsLetIn (w : PoolState) (id : ℕ) : Type 0 where
-  absent : stay_of id w.competitors ≡ None
-  room : length w.competitors < w.size
+-- who is let in does not compete, and there is room
+pub record IsLetIn (w : PoolState) (id : ℕ) : Type 0 where
+  pub absent : stay_of id w.competitors ≡ None
+  pub room : length w.competitors < w.size
 
-let_in : (w : PoolState) (id : ℕ) → enter_refusal w id ≡ None → IsLetIn w id
+pub let_in : (w : PoolState) (id : ℕ) → enter_refusal w id ≡ None → IsLetIn w id
 let_in w id h = elim (eqb_tells id 0) [
   | inl z ↦ absurd (let k : Some ZeroIdentity ≡ None = rw z.0 at h in cc)
   | inr z ↦

@@ -7,4 +7,5 @@ pub mod Calls
 pub mod PoolObject
 pub mod Law
 pub mod After
+pub mod Acquired
 pub mod Sound

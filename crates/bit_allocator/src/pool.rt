@@ -10,13 +10,14 @@ ghost use Rattle.bit_allocator.specs.Calls.Call.{Entered, Probed, Left};
 ghost use Rattle.bit_allocator.specs.PoolObject.{PoolObject, IsRun, number_in};
 ghost use Rattle.bit_allocator.specs.Law.{KeepsPoolLaw};
 ghost use Rattle.bit_allocator.specs.After.{After};
+ghost use Rattle.bit_allocator.specs.Acquired.{IsAcquired, LeadsByStay, was_clear, Gets};
 
 use crate::competitor::Competitor;
 use crate::probe::Probe;
 use crate::stay::Stay;
 use std::alloc::Allocator;
 use std::marker::Model;
-use step_memory::{Memory, Refusal, StepMemory};
+use step_memory::{Access, Answer, Memory, Refusal, StepMemory};
 
 /// The most numbers that a pool may have, and the most competitors.
 pub const MOST_NUMBERS: usize = 64;
@@ -63,6 +64,28 @@ fn holder(competitors: &[Competitor], number: u8) -> Option<u64>
         }
     }
     None
+}
+
+/// Whether a bit was clear that was tested and set with this answer.
+fn was_clear(got: Answer<()>) -> bool
+    ensures { result ≡ was_clear got }
+{
+    matches!(got, Answer::WasSet(false))
+}
+
+/// The number that probes of the bits from the first on get.
+fn seek<A: Allocator>(bits: &mut Memory<(), A>, size: u8) -> u8
+    requires { 1 ≤ size }
+    ensures probes { Gets size 1 bits.old result bits.new }
+    ensures range { (1 ≤ result) × (result ≤ size) }
+{
+    for bit in 1..size {
+        let got = bits.access(Access::TestAndSet(usize::from(bit))).unwrap();
+        if was_clear(got) {
+            return bit;
+        }
+    }
+    size
 }
 
 impl<A: Allocator + Clone> Pool<A> {
@@ -197,6 +220,26 @@ impl<A: Allocator> Pool<A> {
         Ok(stay.probe_reply())
     }
 
+    /// A whole stay at once: an identity begins to compete and probes until it gets a number, at the probe numbered
+    /// max(1, size - 1) or earlier. Refused, with nothing changed, where `enter` is. It looks for the identity once.
+    pub fn acquire(&mut self, id: u64) -> Result<u8, Refusal>
+        ensures acquired { IfOk result (λ n. IsAcquired self.old id n self.new) }
+        ensures refused { IfErr result (λ why. (enter_answer self.old id ≡ Err why) × (self.new ≡ self.old)) }
+        ensures range { IfOk result (λ n. (1 ≤ n) × (n ≤ self.new.size)) }
+        ensures after { LeadsByStay id self.old self.new result }
+        ensures law { (size : ℕ) (r : List Call) → After size self.new r → KeepsPoolLaw size r }
+    {
+        if let Some(refusal) = self.enter_refusal(id) {
+            return Err(refusal);
+        }
+        let number = seek(&mut self.bits, self.size);
+        self.competitors.push_reserved(Competitor {
+            identity: id,
+            stay: Stay::Settled(number),
+        });
+        Ok(number)
+    }
+
     /// Gives back the number that an identity holds, which competes no more: at most one access, which clears the
     /// number's bit. Refused where the identity does not compete, then where it holds no number.
     pub fn leave(&mut self, id: u64) -> Result<u8, Refusal>
@@ -231,6 +274,25 @@ mod tests {
             let made = Pool::new(rt.alloc(), size);
             assert_eq!(rt; made.is_ok(), taken, "at {size}");
         }
+    }
+
+    #[test]
+    fn whole_stays(rt: HostRuntime) -> Result<(), Fail> {
+        let mut pool = Pool::new(rt.alloc(), 3)?;
+        assert_eq!(rt; pool.acquire(0), Err(Refusal::ZeroIdentity));
+        for (id, number) in [(5, 1), (6, 2), (7, 3)] {
+            assert_eq!(rt; pool.acquire(id), Ok(number));
+            assert_eq!(rt; pool.acquire(id), Err(Refusal::AlreadyCompeting));
+            assert_eq!(rt; pool.holder_of(number), Some(id));
+        }
+        assert_eq!(rt; pool.acquire(8), Err(Refusal::Crowded));
+        assert_eq!(rt; pool.leave(6), Ok(2));
+        assert_eq!(rt; pool.acquire(8), Ok(2));
+        assert_eq!(rt; pool.probe(8), Err(Refusal::Holding));
+        let mut lone = Pool::new(rt.alloc(), 1)?;
+        assert_eq!(rt; lone.acquire(9), Ok(1));
+        assert_eq!(rt; lone.acquire(5), Err(Refusal::Crowded));
+        Ok(())
     }
 
     #[test]

@@ -3,3 +3,4 @@ pub mod Accesses
 pub mod Dealing
 pub mod Meeting
 pub mod Visiting
+pub mod Claims

@@ -1,4 +1,7 @@
-//! Parts over raw atomic words, in which no call waits: a splitter whose visitors are threads.
+//! Parts over raw atomic words, in which no call waits: a splitter whose visitors are threads, and a name board on which
+//! threads post their names and look others' up.
+//!
+//! # The splitter
 //!
 //! A splitter stands on two words of one table, X and Y. Each of its seats makes one visit, of at most four atomic
 //! accesses, and then stops, goes right or goes down (Moir and Anderson 1995). Whoever holds a seat makes the accesses:
@@ -19,16 +22,45 @@
 //! splitter.meet(&mut one, &mut other);
 //! // the two did not both stop, both go right or both go down
 //! ```
+//!
+//! # The board
+//!
+//! A board has a word for each name: 0, or the identity that was first posted there, which never changes. Who was named
+//! posts its name, by one compare-exchange; who has to know whether a name is somebody's looks, by one load. Either gets a
+//! grant: that the word holds this identity, for good. So a name is checked by whoever was told of it, without a lock.
+//!
+//! The law: each grant finds its word equal to its identity, which is not 0. So two grants that meet have two names where
+//! their identities differ, and the words at the end hold the grant with which the board is closed. What is not promised:
+//! that a post or a look gives a grant, but that it gives no other than was asked for; anything of `owner`.
+//!
+//! A caller:
+//!
+//! ```text
+//! let (board, mut seat) = Board::new(alloc, 3)?;
+//! let mut other = board.reader(&mut seat);        // a seat for another thread
+//! let one = board.post(&mut seat, 1, 10);         // a grant: name 1 is 10's
+//! board.post(&mut other, 1, 20);                  // none
+//! let two = board.confirm(&mut other, 1, 10);     // the same grant again
+//! ```
 #![tactic(auto)]
 
+pub mod board;
+pub mod board_seats;
+pub mod board_steps;
+pub mod board_view;
 pub mod raw_splitter;
 pub mod seats;
 pub mod splitter_steps;
 pub mod splitter_view;
 
+pub use board::Board;
+pub use board_seats::{Grant, ReaderSeat};
+pub use board_steps::law_of_the_board;
 pub use raw_splitter::RawSplitter;
 pub use seats::{EnteredSeat, FreshSeat};
 pub use splitter_steps::law_of_the_rule;
 
+#[cfg(test)]
+mod board_tests;
 #[cfg(test)]
 mod tests;

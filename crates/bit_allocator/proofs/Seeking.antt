@@ -1,0 +1,58 @@
+-- probes of the bits, one after the other, until one gets a number
+use Rattle.std.proofs.Common.{◌≡◌, ℕ, suc, ◌+◌, ◌<◌, ◌≤◌, ◌⊎◌, Bool, true, false, not, inl, inr, refl, get_or, arith}
+use Rattle.std.proofs.lemmas.Bool.Decides.{leb_tells}
+use Rattle.step_memory.specs.RegisterState.{Registers}
+use Rattle.step_memory.specs.declared.access.Access.TheVariants.{TestAndSet}
+use Rattle.step_memory.specs.Registers.{after_access}
+use Rattle.bit_allocator.specs.Acquired.{Gets}
+
+-- the probes so far missed the bits below this one. What probes from here on get, all of them get; and past the last bit
+-- they have got the last number
+pub record Missed (size : ℕ) (first : Registers (Unit {0})) (bit : ℕ) (now : Registers (Unit {0})) : Type 0 where
+  pub onward : (bit < size) ⊎ (size ≤ bit) × (bit ≡ 1) → (n : ℕ) (new : Registers (Unit {0})) → Gets size bit now n new → Gets size 1 first n new
+  pub past : size ≤ bit → 1 < bit → Gets size 1 first size now
+
+pub missed_none : (size : ℕ) (first : Registers (Unit {0})) → Missed size first 1 first
+missed_none size first = record { onward = λ h n new gets. gets; past = λ h more. absurd (omega arith) }
+
+module _ (size : ℕ) (first : Registers (Unit {0})) (bit : ℕ) (now : Registers (Unit {0})) (m : Missed size first bit now) where
+  -- where the bit is clear the probe gets its number
+  pub got_bit : bit < size → get_or now.bits bit false ≡ false → Gets size 1 first bit (after_access now (TestAndSet bit))
+  got_bit below clear = elim (leb_tells (suc bit) size) [
+    | inl l ↦ m.onward (inl below) bit (after_access now (TestAndSet bit)) (record { misses = 0; after = rw (l.0, clear) (refl, refl) })
+    | inr l ↦ absurd (let k = l.1 in omega arith)
+  ]
+
+  -- where it is set the next one is probed, if there is one
+  pub missed_bit : 1 ≤ bit → bit < size → get_or now.bits bit false ≡ true → Missed size first (bit + 1) (after_access now (TestAndSet bit))
+  missed_bit low below was = elim (leb_tells (suc bit) size) [
+    | inl l ↦ record {
+      onward = λ h n new gets. elim (leb_tells (suc (bit + 1)) size) [
+        | inl k ↦ m.onward (inl below) n new (record { misses = suc gets.misses; after = rw (l.0, was, k.0) (refl, gets.after) })
+        | inr k ↦ elim h [ inl more ↦ absurd (let e = k.1 in omega arith) | inr one ↦ absurd (let e = one.1 in omega arith) ]
+      ];
+      past = λ end more. elim (leb_tells (suc (bit + 1)) size) [
+        | inl k ↦ absurd (let e = k.1 in omega arith)
+        | inr k ↦ m.onward (inl below) size (after_access now (TestAndSet bit)) (record { misses = 0; after = rw (l.0, was, k.0) (refl, refl) })
+      ];
+    }
+    | inr l ↦ absurd (let k = l.1 in omega arith)
+  ]
+
+  -- past the last bit the last number is left
+  pub got_last : 1 ≤ bit → size ≤ bit → Gets size 1 first size now
+  got_last low end = elim (leb_tells 2 bit) [
+    | inl l ↦ m.past end (omega (arith, l.1))
+    | inr l ↦ elim (leb_tells (suc bit) size) [
+      | inl k ↦ absurd (let e = k.1 in omega arith)
+      | inr k ↦ m.onward (inr (end, omega (arith, l.1))) size now (record { misses = 0; after = rw k.0 (refl, refl) })
+    ]
+  ]
+
+pub not_set : (b : Bool) → true ≡ not b → b ≡ false
+not_set true h = absurd (cc)
+not_set false h = refl
+
+pub set_then : (b : Bool) → false ≡ not b → b ≡ true
+set_then true h = refl
+set_then false h = absurd (cc)

@@ -1,0 +1,37 @@
+-- The rule of a name board over raw words: each claim in the view of any seat finds its word equal to its identity, and no
+-- identity is 0. So a word that is claimed never changes, and two claims of one word are of one identity (this project's
+-- profile).
+use Rattle.std.specs.Prelude.{◌≡◌, ◌≢◌, ◌⊎◌, ℕ, List, [], ◌∷◌, length}
+use mathlib.Core.Option.{some}
+use lib.ListN.{get_elem?}
+use Rattle.atomic_table.specs.Table.{State}
+use Rattle.raw_parts.specs.declared.board_view.Claim.{Claim}
+use Rattle.raw_parts.specs.declared.board_view.BoardView.{BoardView}
+
+-- the word of this claim holds its identity, which is not 0
+abbrev pub IsSo : List ℕ → Claim → Type 0
+IsSo words c = (get_elem? words c.word ≡ some c.identity) × (c.identity ≢ 0)
+
+-- this claim is one of these
+abbrev pub IsClaimed : Claim → List Claim → Type 0
+IsClaimed c [] = ⊥
+IsClaimed c (d ∷ ds) = (c ≡ d) ⊎ IsClaimed c ds
+
+abbrev pub AreSo : List ℕ → List Claim → Type 0
+AreSo words [] = Unit {0}
+AreSo words (c ∷ cs) = IsSo words c × AreSo words cs
+
+-- The rule, of a board of so many words
+pub record KeepsBoard (count : ℕ) (words : List ℕ) (views : List BoardView) : Type 0 where
+  pub as_many : length words ≡ count
+  pub claimed : (seat : ℕ) (v : BoardView) → get_elem? views seat ≡ some v → AreSo words v.claims
+
+abbrev pub KeepsBoardRule : {S : Type 0} → ℕ → State S BoardView → Type 0
+KeepsBoardRule count s = KeepsBoard count s.words s.views
+
+-- some seat has this claim
+pub record IsGranted (views : List BoardView) (c : Claim) : Type 0 where
+  pub seat : ℕ
+  pub view : BoardView
+  pub there : get_elem? views seat ≡ some view
+  pub claimed : IsClaimed c view.claims

@@ -1,0 +1,259 @@
+//! The name board.
+
+ghost use Rattle.std.specs.Prelude.{[], ◌≡◌, ◌≢◌, ◌<◌, ◌≤◌, ◌+◌, ◌-◌, ◌⊎◌, ◌↔◌, ℕ, Err, IfErr, IfOk, IfSome, IfNone, IsOk, vec_len, slice_index};
+ghost use lib.ListN.{get_elem?};
+ghost use Rattle.std.specs.Mem.Slots.{slots_items, slots_len, IsFull};
+ghost use Rattle.raw_parts.specs.BoardView.{lone_claim};
+ghost use Rattle.raw_parts.specs.Boards.{GrantId, grant_of};
+
+use crate::board_seats::{Grant, ReaderSeat};
+use crate::board_steps::{Boarding, Find, Hand, LookOn, Part, Post, Unite};
+use crate::board_view::BoardView;
+use atomic_table::{Badge, Closed, Seat, Table};
+use std::alloc::{AllocError, Allocator};
+use std::marker::Model;
+use std::mem;
+use step_memory::Refusal;
+
+/// The most names of a board, as many as 64 participants may get.
+const MOST_NAMES: u64 = 127;
+
+/// A word for each of the names from 1 on: 0, or the identity that was first posted there, which never changes.
+///
+/// Whoever holds a seat of the board may post and look names up at once with all others: no call waits.
+#[derive(Drop)]
+pub struct Board<A: Allocator> {
+    alloc: A,
+    // It has no slots, so what a slot holds says nothing.
+    table: Table<u8, BoardView, u64, Boarding, A>,
+}
+
+impl<A: Allocator> Model for Board<A> {
+    ghost use Rattle.std.specs.Prelude.{[], ◌≡◌, ◌<◌, ◌≤◌};
+    ghost use Rattle.atomic_table.specs.Seated.{TableId};
+
+    ghost Value = { TableId };
+
+    ghost view = { λ b. b.table.shared.table_id };
+
+    ghost invariant = { λ b. (0 < b.table.shared.table_id.words) × (b.table.shared.table_id.words ≤ 127) × (b.table.shared.key ≡ b.table.shared.table_id.words) × (b.table.shared.table_id.slots ≡ 0) };
+}
+
+impl<A: Allocator + Clone> Board<A> {
+    /// A board of `names` names, from 1 to 127, with a seat. `OutOfRange` elsewhere, and `NoMemory` only where its memory
+    /// was refused.
+    pub fn new(alloc: A, names: u64) -> Result<(Board<A>, ReaderSeat), Refusal>
+        ensures board { IfOk result (λ r. r.0.words ≡ names) }
+        ensures seat { IfOk result (λ r. r.1 ≡ r.0) }
+        ensures range { IsOk result → (1 ≤ names) × (names ≤ 127) }
+        ensures out_of_range { result ≡ Err Refusal.OutOfRange ↔ ((names < 1) ⊎ (127 < names)) }
+        ensures only { IfErr result (λ r. (r ≡ Refusal.NoMemory) ⊎ (r ≡ Refusal.OutOfRange)) }
+    {
+        if names < 1 || MOST_NAMES < names {
+            return Err(Refusal::OutOfRange);
+        }
+        match Board::open(alloc, names) {
+            Ok(opened) => Ok(opened),
+            Err(AllocError) => Err(Refusal::NoMemory),
+        }
+    }
+
+    /// A board on which nothing was posted, with a seat.
+    fn open(alloc: A, names: u64) -> Result<(Board<A>, ReaderSeat), AllocError>
+        requires { (1 ≤ names) × (names ≤ 127) }
+        ensures board { IfOk result (λ r. r.0.words ≡ names) }
+        ensures seat { IfOk result (λ r. r.1 ≡ r.0) }
+    {
+        let words = Vec::from_elem(alloc.clone()?, 0u64, names as usize)?;
+        let (table, seat) = Table::of_words(alloc.clone()?, words.as_slice(), &names)?;
+        Ok((Board { alloc, table }, ReaderSeat { seat }))
+    }
+}
+
+impl<A: Allocator> Board<A> {
+    /// How many names there are.
+    pub fn names(&self) -> u64
+        ensures count { result ≡ self.now.words }
+        ensures range { (1 ≤ result) × (result ≤ 127) }
+    {
+        self.table.word_count() as u64
+    }
+
+    /// The word of a name: names begin at 1, words at 0.
+    fn word_of(&self, name: u64) -> Option<u64>
+        ensures word { IfSome result (λ word. (word + 1 ≡ name) × (word < self.now.words)) }
+        ensures none { IfNone result ((name ≡ 0) ⊎ (self.now.words < name)) }
+    {
+        if name < 1 || self.names() < name {
+            None
+        } else {
+            Some(name - 1)
+        }
+    }
+
+    /// A further seat, split off one of this board.
+    pub fn reader(&self, seat: &mut ReaderSeat) -> ReaderSeat
+        requires { seat.old ≡ self.now }
+        ensures seat { seat.new ≡ self.now }
+        ensures new { result ≡ self.now }
+    {
+        let ReaderSeat { seat } = seat;
+        ReaderSeat {
+            seat: self.table.shared.split_seat::<Hand>(seat),
+        }
+    }
+
+    /// Posts an identity at a name: one compare-exchange, from 0 to the identity. The grant of just these where the word
+    /// was 0 or held the identity. None where it holds another, where the identity is 0, and where there is no such name.
+    /// The seat is of this board.
+    pub fn post(&self, seat: &mut ReaderSeat, name: u64, identity: u64) -> Option<Grant>
+        requires { seat.old ≡ self.now }
+        ensures seat { seat.new ≡ self.now }
+        ensures grant { IfSome result (λ g. g ≡ grant_of self.now name identity) }
+        ensures range { IfSome result (λ g. (1 ≤ name) × (name ≤ self.now.words) × (identity ≢ 0)) }
+    {
+        if identity == 0 {
+            return None;
+        }
+        let word = self.word_of(name)?;
+        let ReaderSeat { seat } = seat;
+        let found = self
+            .table
+            .shared
+            .compare_exchange::<Post>(seat, word as usize, 0, identity);
+        if found != 0 && found != identity {
+            return None;
+        }
+        let given = self.table.shared.split_seat::<Hand>(seat);
+        Some(Grant {
+            word,
+            identity,
+            badge: given.into_badge(),
+        })
+    }
+
+    /// Looks a name up: one load. The grant of just these where the word holds the identity. None where it does not, where
+    /// the identity is 0, and where there is no such name. The seat is of this board.
+    pub fn confirm(&self, seat: &mut ReaderSeat, name: u64, identity: u64) -> Option<Grant>
+        requires { seat.old ≡ self.now }
+        ensures seat { seat.new ≡ self.now }
+        ensures grant { IfSome result (λ g. g ≡ grant_of self.now name identity) }
+        ensures range { IfSome result (λ g. (1 ≤ name) × (name ≤ self.now.words) × (identity ≢ 0)) }
+    {
+        if identity == 0 {
+            return None;
+        }
+        let word = self.word_of(name)?;
+        let ReaderSeat { seat } = seat;
+        let found = self.table.shared.load::<Find>(seat, word as usize);
+        if found == 0 {
+            return None;
+        }
+        let given = self.table.shared.split_seat::<Hand>(seat);
+        if found != identity {
+            return None;
+        }
+        Some(Grant {
+            word,
+            identity,
+            badge: given.into_badge(),
+        })
+    }
+
+    /// Who stands at a name as one load finds it; none where nobody does, and where there is no such name. It has no seat,
+    /// so nothing is promised of it.
+    pub fn owner(&self, name: u64) -> Option<u64>
+        ensures { IfSome result (λ id. (id ≢ 0) × (1 ≤ name) × (name ≤ self.now.words)) }
+    {
+        match self.table.shared.peek(self.word_of(name)? as usize) {
+            0 => None,
+            identity => Some(identity),
+        }
+    }
+
+    /// Two grants meet, and show that they agree: those of two identities are of two names, and those of one name are of
+    /// one identity. Both are of this board, and stay as they are.
+    pub fn meet(&self, one: &mut Grant, other: &mut Grant)
+        requires one { one.old.board ≡ self.now }
+        requires other { other.old.board ≡ self.now }
+        ensures one { one.new ≡ one.old }
+        ensures other { other.new ≡ other.old }
+        ensures apart { one.old.identity ≢ other.old.identity → one.old.name ≢ other.old.name }
+        ensures same { one.old.name ≡ other.old.name → one.old.identity ≡ other.old.identity }
+    {
+        let left = mem::replace(&mut one.badge, Badge::blank()).into_seat::<u8>();
+        let right = mem::replace(&mut other.badge, Badge::blank()).into_seat::<u8>();
+        let (left, right) = self.look_together(
+            left,
+            right,
+            (one.word, one.identity),
+            (other.word, other.identity),
+        );
+        one.badge = left.into_badge();
+        other.badge = right.into_badge();
+    }
+
+    /// Two seats with a claim each become one, look at a word and part again: so both claims stand in the same words.
+    fn look_together(
+        &self,
+        mut left: Seat<u8, BoardView>,
+        right: Seat<u8, BoardView>,
+        _one: (u64, u64),
+        _other: (u64, u64),
+    ) -> (Seat<u8, BoardView>, Seat<u8, BoardView>)
+        requires ours { (left.table_id ≡ self.now) × (right.table_id ≡ self.now) }
+        requires left { left.me ≡ (lone_claim _one.0 _one.1, []) }
+        requires right { right.me ≡ (lone_claim _other.0 _other.1, []) }
+        ensures ours { (result.0.table_id ≡ self.now) × (result.1.table_id ≡ self.now) }
+        ensures left { result.0.me ≡ left.me }
+        ensures right { result.1.me ≡ right.me }
+        ensures met { _one.0 ≡ _other.0 → _one.1 ≡ _other.1 }
+    {
+        self.table.shared.join_seat::<Unite>(&mut left, right);
+        self.table.shared.load::<LookOn>(&mut left, 0);
+        let right = self.table.shared.split_seat::<Part>(&mut left);
+        (left, right)
+    }
+
+    /// Ends the board, and tells its words by rising name, among them the grant's. The grant is of this board. Where room
+    /// for the words is refused, `NoMemory`, and the board is spent.
+    pub fn close(self, grant: Grant) -> Result<Vec<u64, A>, Refusal>
+        requires { grant.board ≡ self }
+        ensures count { IfOk result (λ v. vec_len v ≡ self.words) }
+        ensures grant { IfOk result (λ v. slice_index v.items (grant.name - 1) ≡ grant.identity) }
+        ensures range { (1 ≤ grant.name) × (grant.name ≤ self.words) }
+        ensures only { IfErr result (λ r. r ≡ Refusal.NoMemory) }
+    {
+        let Board { alloc, table } = self;
+        let Grant {
+            word: _,
+            identity: _,
+            badge,
+        } = grant;
+        let count = table.word_count();
+        let closed = table.close_with(badge.into_seat::<u8>());
+        let words = read_out(alloc, &closed, count);
+        closed.free();
+        match words {
+            Ok(words) => Ok(words),
+            Err(AllocError) => Err(Refusal::NoMemory),
+        }
+    }
+}
+
+/// The words of a table that is closed, in their order.
+fn read_out<A: Allocator, B: Allocator>(
+    alloc: B,
+    closed: &Closed<u8, A>,
+    count: usize,
+) -> Result<Vec<u64, B>, AllocError>
+    requires { (count ≡ slots_len closed.now.words) × IsFull closed.now.words }
+    ensures count { IfOk result (λ v. vec_len v ≡ count) }
+    ensures words { IfOk result (λ v. (i : ℕ) → i < count → get_elem? v.items i ≡ get_elem? (slots_items closed.now.words) i) }
+{
+    let mut words = Vec::with_capacity(alloc, count)?;
+    for i in 0..count {
+        words.push_reserved(closed.word(i));
+    }
+    Ok(words)
+}

@@ -1,0 +1,63 @@
+//! The seats of a name board: readers and grants.
+
+ghost use Rattle.std.specs.Prelude.{◌≡◌, ◌≢◌, ◌≤◌};
+
+use crate::board_view::BoardView;
+use atomic_table::{Badge, Seat};
+use std::marker::Model;
+
+/// A seat that claims nothing. With it a thread posts and confirms.
+#[derive(Drop)]
+pub struct ReaderSeat {
+    pub(crate) seat: Seat<u8, BoardView>,
+}
+
+impl Model for ReaderSeat {
+    ghost use Rattle.std.specs.Prelude.{◌≡◌, []};
+    ghost use Rattle.atomic_table.specs.Seated.{TableId};
+    ghost use Rattle.raw_parts.specs.BoardView.{no_claim};
+
+    ghost Value = { TableId };
+
+    ghost view = { λ r. r.seat.table_id };
+
+    ghost invariant = { λ r. r.seat.me ≡ (no_claim, []) };
+}
+
+/// That a name is this identity's, for good: the name's word holds the identity, and will.
+#[derive(Drop)]
+pub struct Grant {
+    pub(crate) word: u64,
+    pub(crate) identity: u64,
+    pub(crate) badge: Badge<BoardView>,
+}
+
+impl Model for Grant {
+    ghost use Rattle.std.specs.Prelude.{◌≡◌, ◌≢◌, ◌<◌, suc, [], ◌∷◌};
+    ghost use Rattle.raw_parts.specs.BoardView.{lone_claim};
+    ghost use Rattle.raw_parts.specs.Boards.{GrantId, grant_of};
+
+    ghost Value = { GrantId };
+
+    ghost view = { λ g. grant_of g.badge.table_id (suc g.word) g.identity };
+
+    ghost invariant = { λ g. (g.badge.views ≡ lone_claim g.word g.identity ∷ []) × (g.word < 127) × (g.identity ≢ 0) };
+}
+
+impl Grant {
+    /// The name, from 1.
+    pub fn name(&self) -> u64
+        ensures name { result ≡ self.now.name }
+        ensures range { (1 ≤ result) × (result ≤ 127) }
+    {
+        self.word + 1
+    }
+
+    /// Whose name it is, which is not 0.
+    pub fn identity(&self) -> u64
+        ensures identity { result ≡ self.now.identity }
+        ensures some { result ≢ 0 }
+    {
+        self.identity
+    }
+}

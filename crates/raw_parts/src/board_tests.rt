@@ -1,0 +1,152 @@
+ghost use Rattle.std.specs.Prelude.{◌≡◌, IfSome};
+
+use crate::{Board, Grant, ReaderSeat};
+use linked_list_allocator::LocalHeap;
+use std::alloc::Global;
+use std::process::Abort;
+use std::test::Fail;
+use std::thread::{Threads, join};
+use step_memory::Refusal;
+
+/// Whose name it is, by a grant, if there is one.
+fn granted(grant: &Option<Grant>) -> Option<(u64, u64)> {
+    grant.as_ref().map(|grant| (grant.name(), grant.identity()))
+}
+
+#[test]
+fn one_to_127_names(rt: HostRuntime) -> Result<(), Fail> {
+    for names in [0, 128] {
+        let Err(refusal) = Board::new(rt.alloc(), names) else {
+            panic!(rt; "accepted");
+        };
+        assert_eq!(rt; refusal, Refusal::OutOfRange);
+    }
+    for names in 1..=127 {
+        let (board, mut seat) = Board::new(rt.alloc(), names)?;
+        assert_eq!(rt; board.names(), names);
+        let first = board.post(&mut seat, 1, 5);
+        assert_eq!(rt; granted(&first), Some((1, 5)));
+        assert_eq!(rt; granted(&board.post(&mut seat, names + 1, 7)), None);
+        let last = board.post(&mut seat, names, 7);
+        assert_eq!(rt;
+            granted(&last),
+            if names == 1 { None } else { Some((names, 7)) }
+        );
+    }
+    Ok(())
+}
+
+/// Two names on a board of three, posted, confirmed and closed.
+#[test]
+fn two_post_their_names(rt: HostRuntime) -> Result<(), Fail> {
+    let (board, mut seat) = Board::new(rt.alloc(), 3)?;
+    let mut second = board.reader(&mut seat);
+    let mut third = board.reader(&mut second);
+    let Some(mut one) = board.post(&mut seat, 1, 10) else {
+        panic!(rt; "1 was free");
+    };
+    assert_eq!(rt; granted(&board.post(&mut second, 1, 20)), None);
+    let Some(mut two) = board.post(&mut second, 3, 20) else {
+        panic!(rt; "3 was free");
+    };
+    assert_eq!(rt; granted(&board.post(&mut second, 3, 20)), Some((3, 20)));
+    assert_eq!(rt; granted(&board.confirm(&mut third, 3, 20)), Some((3, 20)));
+    // Held by another, free, past the last, the least that is no name, and nobody's.
+    assert_eq!(rt; granted(&board.confirm(&mut third, 1, 20)), None);
+    assert_eq!(rt; granted(&board.confirm(&mut third, 2, 10)), None);
+    assert_eq!(rt; granted(&board.confirm(&mut third, 9, 10)), None);
+    assert_eq!(rt; granted(&board.confirm(&mut third, 0, 10)), None);
+    assert_eq!(rt; granted(&board.confirm(&mut third, 2, 0)), None);
+    assert_eq!(rt; granted(&board.post(&mut third, 0, 10)), None);
+    assert_eq!(rt; granted(&board.post(&mut third, 4, 10)), None);
+    assert_eq!(rt; granted(&board.post(&mut third, 2, 0)), None);
+    board.meet(&mut one, &mut two);
+    assert_eq!(rt;
+        ((one.name(), one.identity()), (two.name(), two.identity())),
+        ((1, 10), (3, 20))
+    );
+    assert_eq!(rt;
+        (
+            board.owner(3),
+            board.owner(2),
+            board.owner(0),
+            board.owner(4)
+        ),
+        (Some(20), None, None, None)
+    );
+    let words = board.close(one)?;
+    assert_eq!(rt; words.as_slice(), [10, 0, 20].as_slice());
+    Ok(())
+}
+
+/// Two threads post at one name at once: one of them gets it, and both are told so.
+fn race<R: Threads + Sync>(rt: &R, alloc: Global) -> Result<(Option<u64>, Option<u64>), Refusal> {
+    let (board, mut one) = Board::new(alloc, 1)?;
+    let mut other = board.reader(&mut one);
+    let shared = &board;
+    let (first, second) = join(
+        rt,
+        move || -> Option<Grant>
+            requires { one ≡ shared.now }
+            ensures { IfSome result (λ g. g.board ≡ shared.entry.now) }
+        { shared.post(&mut one, 1, 10) },
+        move || -> Option<Grant>
+            requires { other ≡ shared.now }
+            ensures { IfSome result (λ g. g.board ≡ shared.entry.now) }
+        { shared.post(&mut other, 1, 20) },
+    );
+    Ok((
+        first.map(|grant| grant.identity()),
+        second.map(|grant| grant.identity()),
+    ))
+}
+
+#[test]
+fn one_of_two_threads_gets_the_name(rt: HostRuntime) -> Result<(), Fail> {
+    for _ in 0..1000 {
+        let told = race(&rt, rt.alloc())?;
+        assert!(rt;
+            matches!(told, (Some(10), None) | (None, Some(20))),
+            "{told:?}"
+        );
+    }
+    Ok(())
+}
+
+#[test]
+fn each_want_of_memory_is_told(rt: HostRuntime) -> Result<(), Fail> {
+    let mut refused = false;
+    let mut spent = false;
+    let mut made = false;
+    for blocks in 0..80 {
+        let heap = LocalHeap::new(rt.alloc(), 1_280)?;
+        let others = Vec::<u8, &LocalHeap>::with_capacity(&heap, 1_280 - 16 * blocks)?;
+        match Board::new(&heap, 16) {
+            Ok((board, mut seat)) => {
+                let Some(grant) = board.post(&mut seat, 16, 5) else {
+                    panic!(rt; "16 was free");
+                };
+                // This takes the room that a board wants while it is made.
+                let rest = Vec::<u8, &LocalHeap>::with_capacity(&heap, 128);
+                match board.close(grant) {
+                    Ok(words) => {
+                        assert_eq!(rt; words.as_slice().last(), Some(&5));
+                        made = true;
+                    }
+                    Err(refusal) => {
+                        assert_eq!(rt; refusal, Refusal::NoMemory);
+                        spent = true;
+                    }
+                }
+                drop(rest);
+            }
+            Err(refusal) => {
+                assert_eq!(rt; refusal, Refusal::NoMemory);
+                refused = true;
+            }
+        }
+        drop(others);
+    }
+    assert_eq!(rt; (refused, spent, made), (true, true, true));
+    Ok(())
+}
