@@ -1,22 +1,25 @@
 -- each call of a world is refused exactly where the calls before it make it due
-use Rattle.std.proofs.Common.{◌≡◌, ◌==◌, ◌&&◌, ◌||◌, ℕ, Bool, true, false, cond, List, [], ◌∷◌, ◌++◌, length, Option, Some, None, Ok, Err, ◌⊎◌, inl, inr, refl, sym, ap, subst, ◌∙◌, arith, add-zero}
-use Rattle.std.specs.Prelude.{is_some}
-use Rattle.std.proofs.lemmas.Bool.Decides.{eqb_tells, Decides-eqb}
+use Rattle.std.proofs.Common.{◌≤◌, append_assoc, ◌≡◌, ◌≢◌, ◌==◌, ◌&&◌, ◌||◌, ℕ, Bool, true, false, cond, List, [], ◌∷◌, ◌++◌, length, Option, Some, None, Ok, Err, ◌⊎◌, inl, inr, refl, sym, ap, subst, ◌∙◌, arith, add-zero}
+use Rattle.std.specs.Prelude.{is_some, nat_le}
+use Rattle.std.proofs.lemmas.Bool.Decides.{eqb_tells, leb_tells, Decides-eqb}
 use Rattle.std.proofs.lemmas.List.{length-append}
 use Rattle.step_memory.specs.declared.note.Note.{Note}
+use Rattle.step_memory.specs.declared.note.Note.TheVariants.{Quiet, Said, Ended}
+use Rattle.step_memory.specs.declared.refusal.Refusal.{Refusal}
 use Rattle.step_memory.specs.declared.refusal.Refusal.TheVariants.{NotBegun, Finished, NoMemory}
 use Rattle.step_memory.specs.declared.access.Access.{Access}
 use Rattle.step_memory.specs.declared.participant.Participant.{Participant}
 use Rattle.step_memory.specs.Note.{ends}
 use Rattle.step_memory.specs.Steps.{ProgramSteps, MemorySteps}
 use Rattle.step_memory.specs.WorldState.{WorldState}
+use Rattle.step_memory.specs.Registers.{memory_steps}
 use Rattle.step_memory.specs.SetAt.{set_at}
 use Rattle.step_memory.specs.Participant.{participant_of, with_participant, beginner}
 use Rattle.step_memory.specs.World.{begin_refusal, begun_unless, done_unless, after_step, after_step_by, step_answer, step_answer_by, may_refuse_by, may_refuse_step, got_by}
-use Rattle.step_memory.specs.Calls.{Call, next, IsReply, IsAfter, begun_in, begun_by, outcome_of, outcome_by, first_of, reply_of, lacked_memory}
+use Rattle.step_memory.specs.Calls.{Call, next, IsReply, IsAfter, begun_in, begun_by, outcome_of, outcome_by, first_of, outcome_in, reply_of, lacked_memory}
 use Rattle.step_memory.specs.Calls.Call.{Began, Stepped}
 use Rattle.step_memory.specs.Runs.{Run}
-use Rattle.step_memory.specs.Due.{begins, has_begun, ends_by, has_ended, begin_due, step_due, IsRefusedAsDue, RefusesAsDue, EndsOnce}
+use Rattle.step_memory.specs.Due.{begins, has_begun, ends_by, has_ended, begin_due, step_due, IsRefusedAsDue, RefusesAsDue, EndsOnce, TellsTheEnd, GrowsOnly}
 use Rattle.step_memory.proofs.SetAtLemmas.{set_at-cases}
 use Rattle.step_memory.proofs.ParticipantLemmas.{participant_of-push, participant_of-put, length-with_participant, identity_of}
 use Rattle.step_memory.proofs.RunLemmas.{run_keeps}
@@ -247,3 +250,35 @@ module _ {P S R V O X : Type 0} (program : ProgramSteps P R V O) (memory : Memor
 
   pub many_begun : (first : S) (w : WorldState S P) (r : List (Call X)) → IsAfter program memory shown start first w r → begun_in r ≡ length w.participants
   many_begun first w r a = world_keeps program memory shown start HasAsMany many_kept first w r refl a
+
+-- what is answered where a program ends with its outcome tells the end
+pub outcomes_tell : {O : Type 0} → TellsTheEnd {O = O} outcome_in is_some
+outcomes_tell Quiet = refl
+outcomes_tell (Said said) = refl
+outcomes_tell (Ended outcome) = refl
+
+-- registers that are all made at once refuse no growth
+pub never_grows : {V : Type 0} → GrowsOnly (memory_steps {V = V}) false
+never_grows m a h = h
+
+-- lists that keep no law: one that tells the end of a program twice, and one that refuses whoever comes first
+has_ended-append : {X : Type 0} (last : X → Bool) (p : ℕ) (r t : List (Call X)) → has_ended last p (r ++ t) ≡ (has_ended last p r || has_ended last p t)
+has_ended-append last p [] t = refl
+has_ended-append last p (k ∷ r) t = ap (λ b. ends_by last p k || b) (has_ended-append last p r t) ∙ or_assoc (ends_by last p k) (has_ended last p r) (has_ended last p t)
+
+pub no_second_end : {X : Type 0} (last : X → Bool) (p : ℕ) (a b : X) (before between rest : List (Call X)) → last a ≡ true → EndsOnce last (before ++ Stepped p (Ok a) ∷ (between ++ Stepped p (Ok b) ∷ rest)) → ⊥
+no_second_end last p a b before between rest h once =
+    let itself : (p == p) ≡ true = (Decides-eqb p p).1 refl in
+    let first : Call _ = Stepped p (Ok a) in
+    let ended : has_ended last p (before ++ first ∷ between) ≡ true = has_ended-append last p before (first ∷ between) ∙ rw (itself, h) (or_true (has_ended last p before)) in
+    let not_ended : has_ended last p (before ++ first ∷ between) ≡ false = once (before ++ first ∷ between) p b rest (sym (append_assoc before (first ∷ between) (Stepped p (Ok b) ∷ rest))) in
+    let never : true ≡ false = sym ended ∙ not_ended in
+    cc
+
+pub not_first_refused : {X : Type 0} (last : X → Bool) (most : ℕ) (grows : Bool) (p : ℕ) (why : Refusal) (rest : List (Call X)) → 1 ≤ most → p ≢ 0 → RefusesAsDue last most grows (Began p (Err why) ∷ rest) → ⊥
+not_first_refused last most grows p why rest room some due =
+    let is = due [] (Began p (Err why)) rest refl in
+    let nonzero : (p == 0) ≡ false = (elim (eqb_tells p 0) [ inl e ↦ absurd (some e.1) | inr e ↦ e.0 ]) in
+    let free : nat_le most 0 ≡ false = (elim (leb_tells most 0) [ inl l ↦ absurd (let k = l.1 in omega arith) | inr l ↦ l.0 ]) in
+    let never : Err why ≡ Ok tt = rw (nonzero, free) at is in
+    cc
