@@ -5,4 +5,5 @@ pub mod StepLemmas
 pub mod LocalityLemmas
 pub mod RunLemmas
 pub mod WorldKeeps
+pub mod DueLemmas
 pub mod ViewLemmas

@@ -11,6 +11,9 @@ pub mod Locality
 pub mod Runs
 pub mod SetAt
 pub mod Calls
+pub mod Due
+pub mod Replay
 pub mod View
 pub mod ViewInside
+pub mod ViewEq
 pub mod WorldCode

@@ -5,8 +5,8 @@ ghost use Rattle.step_memory.specs.declared.note.Note.TheVariants as note;
 
 use crate::{
     Access, Answer, Memory, NoMemory, Note, Refusal, StepMemory, StepProgram, View, World,
-    law_of_beginners, law_of_call_counts, law_of_one_place, law_of_participants, law_of_replies,
-    law_of_steps, law_of_views, law_of_worlds,
+    law_of_beginners, law_of_call_counts, law_of_locality, law_of_one_place, law_of_participants,
+    law_of_refusals, law_of_replies, law_of_runs, law_of_steps, law_of_views, law_of_worlds,
 };
 use std::alloc::AllocError;
 use std::test::Fail;
@@ -185,6 +185,9 @@ fn laws_are_called() {
     law_of_steps::<Once, u64, usize, u64, u64, u64>();
     law_of_replies::<u64>();
     law_of_worlds::<Once, u64, usize, u64, u64, u64>();
+    law_of_locality::<Once, u64, usize, u64, u64>();
+    law_of_runs::<Once, u64, usize, u64, u64, u64>();
+    law_of_refusals::<Once, u64, usize, u64, u64, u64>();
     law_of_views();
 }
 
