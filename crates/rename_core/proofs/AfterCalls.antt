@@ -34,7 +34,7 @@ lacks_false (Err HistoryFull) n = refl
 lacks_false (Err OutOfRange) n = refl
 
 module _ {S R V U K : Type 0} (W : KnownPlaces S R V U K) (w new : RenameState S U K) where
-  leads_on : (h : Call Reply) → new ≡ next W w h → IsReply W w h → LeadsOn W w new h
+  pub leads_on : (h : Call Reply) → new ≡ next W w h → IsReply W w h → LeadsOn W w new h
   leads_on h e is =
       let limit : (next W w h).limit ≡ w.limit = next_limit W w h in
       let goes : LeadsOn W w (next W w h) h = λ r a. record {

@@ -50,7 +50,7 @@ module _ {S R V U K : Type 0} (W : KnownPlaces S R V U K) (w : RenameState S U K
   begun_limit (Some why) = refl
 
 module _ {S R V U K : Type 0} (W : KnownPlaces S R V U K) where
-  next_most : (w : RenameState S U K) (h : Call Reply) → (next W w h).snap.most ≡ w.snap.most
+  pub next_most : (w : RenameState S U K) (h : Call Reply) → (next W w h).snap.most ≡ w.snap.most
   next_most w (Began p reply) = begun_most W w p (begin_refusal w.snap p) refl
   next_most w (Stepped p reply) = elim (lacked_memory reply) as (λ b. (cond b w (after_rename_step W w p)).snap.most ≡ w.snap.most) [ true ↦ refl | false ↦ by_most W w p (program_of p w.rounds) ]
 

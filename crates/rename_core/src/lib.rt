@@ -1,6 +1,7 @@
 //! Adaptive renaming by rounds of proposals over a snapshot object.
 #![tactic(auto)]
 
+pub mod calls_law;
 pub mod config;
 pub mod places;
 pub mod proposal;
@@ -8,6 +9,7 @@ pub mod reply;
 pub mod round;
 pub mod world;
 
+pub use calls_law::law_of_renaming_calls;
 pub use config::{Config, WorldKind};
 pub use places::RenamePlaces;
 pub use proposal::next_proposal;

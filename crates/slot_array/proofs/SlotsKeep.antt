@@ -1,5 +1,7 @@
 -- each call of slots keeps the law
-use Rattle.std.proofs.Common.{◌≡◌, ℕ, ◌-◌, List, [], ◌∷◌, ◌++◌, Ok, Err, Result, length, refl, sym, ap, subst, ◌∙◌}
+use Rattle.std.proofs.Common.{◌≡◌, ℕ, zero, suc, ◌+◌, ◌-◌, ◌<◌, true, false, not, cond, List, [], ◌∷◌, ◌++◌, Some, None, Ok, Err, Result, length, refl, sym, ap, subst, ◌∙◌, arith}
+use Rattle.std.specs.Prelude.{slice_get, ok_or}
+use Rattle.step_memory.specs.declared.refusal.Refusal.TheVariants.{NotCompeting, NotHolding}
 use Rattle.std.proofs.lemmas.List.{length-set}
 use Rattle.step_memory.specs.declared.refusal.Refusal.{Refusal}
 use Rattle.step_memory.specs.Runs.{Run}
@@ -8,13 +10,13 @@ use Rattle.bit_allocator.specs.Pool.{fresh_pool, number_answer}
 use Rattle.bit_allocator.specs.declared.probe.Probe.TheVariants.{Missed, Got}
 use Rattle.bit_allocator.specs.Calls.{Call}
 use Rattle.bit_allocator.specs.Calls.Call.{Entered, Probed, Left}
-use Rattle.bit_allocator.specs.PoolObject.{PoolObject, fresh_object, Answers, after, number_in, IsRun}
+use Rattle.bit_allocator.specs.PoolObject.{PoolObject, competes, fresh_object, Answers, after, number_in, IsRun}
 use Rattle.bit_allocator.specs.After.{After, next, IsReply}
 use Rattle.bit_allocator.proofs.PoolKeeps.{law_after, number_after}
 use Rattle.slot_array.specs.SlotsState.{SlotsState}
 use Rattle.slot_array.specs.SlotCalls.{SlotCall, pool_calls}
 use Rattle.slot_array.specs.SlotCalls.SlotCall.{Pooled, Stored, Fetched}
-use Rattle.slot_array.specs.Slots.{stored_reply, stored_in, IsFetched, after_put}
+use Rattle.slot_array.specs.Slots.{slot, stored_reply, stored_in, IsFetched, after_put}
 use Rattle.slot_array.specs.SlotsObject.{SlotsObject, fresh_slots, SlotAnswers, slots_after, IsSlotsRun}
 use Rattle.slot_array.specs.Law.{KeepsSlotsLaw}
 use Rattle.slot_array.specs.After.{AfterSlots, slots_next, IsSlotReply}
@@ -170,3 +172,27 @@ after_slots_call {T} size first s new r h e is a = record {
   many = a.many;
   run = subst (λ (x : SlotsState T). Run slots_next IsSlotReply (record { pool = fresh_pool size; values = first }) (r ++ h ∷ []) x) (sym e) (run_more slots_next IsSlotReply (record { pool = fresh_pool size; values = first }) r s h a.run is);
 }
+
+-- a list has something at each place below its length
+something_at : {T : Type 0} (xs : List T) (i : ℕ) → i < length xs → (v : T) × (slice_get xs i ≡ Some v)
+something_at [] i below = absurd (omega arith)
+something_at (x ∷ xs) zero below = (x, refl)
+something_at (x ∷ xs) (suc i) below = something_at xs i (omega arith)
+
+held_of : (o : PoolObject) (p n : ℕ) → number_in o p ≡ Ok n → o.held p ≡ Some n
+held_of o p n h = elim (competes o p) as (λ b. cond (not b) (Err NotCompeting) (ok_or (o.held p) NotHolding) ≡ Ok n → o.held p ≡ Some n) [
+  | true ↦ λ k. elim (o.held p) as (λ q. ok_or q NotHolding ≡ Ok n → q ≡ Some n) [ None ↦ λ j. absurd (cc) | Some m ↦ λ j. (let e : m ≡ n = cc in ap Some e) ] k
+  | false ↦ λ k. absurd (cc)
+] h
+
+-- a number that is held has a slot
+pub slot_there : {T : Type 0} (size : ℕ) (first : List T) (s : SlotsState T) (r : List (SlotCall T)) (id n : ℕ) → AfterSlots size first s r → number_answer s.pool id ≡ Ok n → (v : T) × (slot n s.values ≡ Some v)
+slot_there size first s r id n a holds =
+    let t = stands size first s r a in
+    let law = law_after size s.pool (pool_calls r) t.pool in
+    let held : law.object.held id ≡ Some n = held_of law.object id n (sym (number_after size s.pool (pool_calls r) law.object t.pool law.run id) ∙ holds) in
+    let range = law.in_range id n held in
+    let same : law.object ≡ t.object.pool = run_end after Answers (fresh_object size) (pool_calls r) law.object t.object.pool law.run t.pool_run in
+    let sized : law.object.size ≡ size = ap (λ (o : PoolObject). o.size) same ∙ t.size_is in
+    let many : length s.values ≡ size = sym (ap length t.values) ∙ t.many in
+    something_at s.values (n - 1) (omega arith)

@@ -1,0 +1,148 @@
+-- a desk goes on, event by event, and keeps the laws of its parts
+use Rattle.std.proofs.Common.{◌≡◌, ◌≢◌, ℕ, zero, suc, ◌-◌, true, false, inl, inr, ◌⊎◌, List, [], ◌∷◌, ◌++◌, map, replicate, Option, Some, None, Result, Ok, Err, refl, sym, ap, subst, ◌∙◌}
+use Rattle.std.specs.Prelude.{slice_get, slice_index}
+use Rattle.step_memory.specs.declared.refusal.Refusal.{Refusal}
+use Rattle.step_memory.specs.declared.refusal.Refusal.TheVariants as refusal
+use Rattle.step_memory.specs.Calls.{Call}
+use Rattle.step_memory.specs.Calls.Call.{Began, Stepped}
+use Rattle.step_memory.specs.World.{begin_refusal, done_unless}
+use Rattle.snapshot_core.specs.Places.{KnownPlaces}
+use Rattle.rename_core.specs.declared.reply.Reply.{Reply as StepReply}
+use Rattle.rename_core.specs.RenameCalls.{next, IsReply, IsAfter, IsLawful}
+use Rattle.rename_core.specs.RenameState.{RenameState}
+use Rattle.rename_core.specs.Config.{is_tree}
+use Rattle.rename_core.specs.Law.{KeepsRenameLaw}
+use Rattle.rename_core.specs.declared.config.WorldKind.{WorldKind}
+use Rattle.rename_core.specs.RenameWorld.{rename_answer, step_refusal, may_lack}
+use Rattle.rename_core.proofs.AfterCalls.{leads_on}
+use Rattle.rename_core.proofs.Sizes.{next_limit, next_most}
+use Rattle.bit_allocator.specs.Pool.{enter_answer, probe_answer, number_answer}
+use Rattle.bit_allocator.specs.Calls.Call.{Entered, Probed, Left}
+use Rattle.slot_array.specs.SlotsState.{SlotsState}
+use Rattle.slot_array.specs.SlotCalls.{SlotCall}
+use Rattle.slot_array.specs.SlotCalls.SlotCall.{Pooled, Stored, Fetched}
+use Rattle.slot_array.specs.Slots.{slot, stored_reply, IsFetched}
+use Rattle.slot_array.specs.After.{AfterSlots, slots_next, IsSlotReply}
+use Rattle.slot_array.proofs.SlotsKeep.{after_slots_call, slot_there, law_after_slots}
+use Rattle.desk.specs.declared.event.Event.{Event}
+use Rattle.desk.specs.declared.event.Event.TheVariants.{Begin, Step, Enter, Probe, Leave, Put, Get}
+use Rattle.desk.specs.declared.exchange.Exchange.{Exchange}
+use Rattle.desk.specs.declared.reply.Reply.{Reply}
+use Rattle.desk.specs.declared.reply.Reply.TheVariants as reply
+use Rattle.desk.specs.DeskState.{DeskState}
+use Rattle.desk.specs.DeskRun.{IsDeskRun, desk_terms, desk_bounds}
+use Rattle.desk.specs.DeskCalls.{DeskCall, rename_calls, slot_calls, exchange, exchange_of, AfterDesk, LeadsBy}
+use Rattle.desk.specs.DeskCalls.DeskCall.{Renamed, Slotted}
+use Rattle.desk.specs.DeskRules.{fetched, call_for, desk_next, desk_reply, desk_after, desk_grows, grows_by, DeskMay}
+
+-- one more call of renaming
+rename_calls-renamed : (calls : List DeskCall) (h : Call StepReply) → rename_calls (calls ++ Renamed h ∷ []) ≡ rename_calls calls ++ h ∷ []
+rename_calls-renamed [] h = refl
+rename_calls-renamed (Renamed k ∷ calls) h = ap (λ xs. k ∷ xs) (rename_calls-renamed calls h)
+rename_calls-renamed (Slotted k ∷ calls) h = rename_calls-renamed calls h
+
+slot_calls-renamed : (calls : List DeskCall) (h : Call StepReply) → slot_calls (calls ++ Renamed h ∷ []) ≡ slot_calls calls
+slot_calls-renamed [] h = refl
+slot_calls-renamed (Renamed k ∷ calls) h = slot_calls-renamed calls h
+slot_calls-renamed (Slotted k ∷ calls) h = ap (λ xs. k ∷ xs) (slot_calls-renamed calls h)
+
+-- one more call of the slots
+rename_calls-slotted : (calls : List DeskCall) (h : SlotCall ℕ) → rename_calls (calls ++ Slotted h ∷ []) ≡ rename_calls calls
+rename_calls-slotted [] h = refl
+rename_calls-slotted (Renamed k ∷ calls) h = ap (λ xs. k ∷ xs) (rename_calls-slotted calls h)
+rename_calls-slotted (Slotted k ∷ calls) h = rename_calls-slotted calls h
+
+slot_calls-slotted : (calls : List DeskCall) (h : SlotCall ℕ) → slot_calls (calls ++ Slotted h ∷ []) ≡ slot_calls calls ++ h ∷ []
+slot_calls-slotted [] h = refl
+slot_calls-slotted (Renamed k ∷ calls) h = slot_calls-slotted calls h
+slot_calls-slotted (Slotted k ∷ calls) h = ap (λ xs. k ∷ xs) (slot_calls-slotted calls h)
+
+-- what is found at a place is what stands there
+index_of-get : (xs : List ℕ) (i v : ℕ) → slice_get xs i ≡ Some v → slice_index xs i ≡ v
+index_of-get [] i v h = absurd (cc)
+index_of-get (x ∷ xs) zero v h = cc
+index_of-get (x ∷ xs) (suc i) v h = index_of-get xs i v h
+
+module _ {S R V U K : Type 0} (W : KnownPlaces S R V U K) (most limit size : ℕ) (w : DeskState S U K) (calls : List DeskCall) (a : AfterDesk W most limit size w calls) where
+  renamed_after : (h : Call StepReply) → IsReply W w.names h → AfterDesk W most limit size (desk_next W w (Renamed h)) (calls ++ Renamed h ∷ [])
+  renamed_after h is = record {
+    names = subst (λ (xs : List (Call StepReply)). IsAfter W (next W w.names h) xs) (sym (rename_calls-renamed calls h)) (leads_on W w.names (next W w.names h) h refl is (rename_calls calls) a.names);
+    slots = subst (λ (xs : List (SlotCall ℕ)). AfterSlots size (replicate size 0) w.slots xs) (sym (slot_calls-renamed calls h)) a.slots;
+    most_is = next_most W w.names h ∙ a.most_is;
+    limit_is = next_limit W w.names h ∙ a.limit_is;
+  }
+
+  slotted_after : (h : SlotCall ℕ) → IsSlotReply w.slots h → AfterDesk W most limit size (desk_next W w (Slotted h)) (calls ++ Slotted h ∷ [])
+  slotted_after h is = record {
+    names = subst (λ (xs : List (Call StepReply)). IsAfter W w.names xs) (sym (rename_calls-slotted calls h)) a.names;
+    slots = subst (λ (xs : List (SlotCall ℕ)). AfterSlots size (replicate size 0) (slots_next w.slots h) xs) (sym (slot_calls-slotted calls h))
+        (after_slots_call size (replicate size 0) w.slots (slots_next w.slots h) (slot_calls calls) h refl is a.slots);
+    most_is = a.most_is;
+    limit_is = a.limit_is;
+  }
+
+  -- what a holder gets stands in its slot
+  fetched_is : (p : ℕ) (held : Result ℕ Refusal) → number_answer w.slots.pool p ≡ held → IsFetched w.slots.values held (fetched w.slots.values held)
+  fetched_is p (Ok n) holds =
+      let there = slot_there size (replicate size 0) w.slots (slot_calls calls) p n a.slots holds in
+      there.1 ∙ ap Some (sym (index_of-get w.slots.values (n - 1) there.0 there.1))
+  fetched_is p (Err why) holds = refl
+
+  -- the call that an event is leads on
+  call_after : (e : Event) → AfterDesk W most limit size (desk_after W w e) (calls ++ call_for W w e ∷ [])
+  call_after (Begin p) = renamed_after (Began p (done_unless (begin_refusal w.names.snap p))) refl
+  call_after (Step p) = renamed_after (Stepped p (rename_answer W w.names p)) (inl refl)
+  call_after (Enter p) = slotted_after (Pooled (Entered p (enter_answer w.slots.pool p))) refl
+  call_after (Probe p) = slotted_after (Pooled (Probed p (probe_answer w.slots.pool p))) refl
+  call_after (Leave p) = slotted_after (Pooled (Left p (number_answer w.slots.pool p))) refl
+  call_after (Put p value) = slotted_after (Stored p value (stored_reply (number_answer w.slots.pool p))) refl
+  call_after (Get p) = slotted_after (Fetched p (fetched w.slots.values (number_answer w.slots.pool p))) (fetched_is p (number_answer w.slots.pool p) refl)
+
+  -- and is of that event
+  call_spelled : (e : Event) → exchange_of (call_for W w e) ≡ exchange e (desk_reply W w e)
+  call_spelled (Begin p) = refl
+  call_spelled (Step p) = refl
+  call_spelled (Enter p) = refl
+  call_spelled (Probe p) = refl
+  call_spelled (Leave p) = refl
+  call_spelled (Put p value) = refl
+  call_spelled (Get p) = refl
+
+  -- a step for which a growth was refused is a call too
+  lacking : (p : ℕ) → desk_grows W w (Step p) ≡ true → AfterDesk W most limit size w (calls ++ Renamed (Stepped p (Err refusal.NoMemory)) ∷ [])
+  lacking p h = elim (step_refusal w.names p) as (λ o. step_refusal w.names p ≡ o → grows_by o (may_lack W w.names p) ≡ true → AfterDesk W most limit size w (calls ++ Renamed (Stepped p (Err refusal.NoMemory)) ∷ [])) [
+    | None ↦ λ none may. renamed_after (Stepped p (Err refusal.NoMemory)) (inr (refl, none, may))
+    | Some why ↦ λ some may. absurd (cc)
+  ] refl h
+
+  lack_leads : (e : Event) → desk_grows W w e ≡ true → LeadsBy W most limit size calls e (reply.Refused refusal.NoMemory) w
+  lack_leads (Begin p) h = absurd (cc)
+  lack_leads (Step p) h = record { call = Renamed (Stepped p (Err refusal.NoMemory)); spelled = refl; after = lacking p h }
+  lack_leads (Enter p) h = absurd (cc)
+  lack_leads (Probe p) h = absurd (cc)
+  lack_leads (Leave p) h = absurd (cc)
+  lack_leads (Put p value) h = absurd (cc)
+  lack_leads (Get p) h = absurd (cc)
+
+  -- so calls lead on by whatever a desk may answer
+  pub goes_on : (e : Event) (r : Reply) (u : DeskState S U K) → DeskMay W w e r u → LeadsBy W most limit size calls e r u
+  goes_on e r u (inl m) = record {
+    call = call_for W w e;
+    spelled = call_spelled e ∙ ap (λ (x : Reply). exchange e x) (sym m.0);
+    after = subst (λ (x : DeskState S U K). AfterDesk W most limit size x (calls ++ call_for W w e ∷ [])) (sym m.1) (call_after e);
+  }
+  goes_on e r u (inr m) =
+      subst (λ (x : DeskState S U K). LeadsBy W most limit size calls e r x) (sym m.1)
+      (subst (λ (x : Reply). LeadsBy W most limit size calls e x w) (sym m.0) (lack_leads e m.2))
+
+-- the exchanges of a desk's calls are a run
+pub is_run : {S R V U K : Type 0} (W : KnownPlaces S R V U K) (kind : WorldKind) (most limit size : ℕ) (w : DeskState S U K) (calls : List DeskCall) → IsLawful W kind w.names → AfterDesk W most limit size w calls →
+    IsDeskRun (desk_terms most limit (is_tree kind)) (desk_bounds W.ties.placing (W.ties.reads most)) size (map exchange_of calls)
+is_run W kind most limit size w calls lawful a = record {
+  calls = calls;
+  spelled = refl;
+  names = subst (λ (m : ℕ). KeepsRenameLaw (desk_terms m limit (is_tree kind)) (desk_bounds W.ties.placing (W.ties.reads m)) (rename_calls calls)) a.most_is
+      (subst (λ (l : ℕ). KeepsRenameLaw (desk_terms w.names.snap.most l (is_tree kind)) (desk_bounds W.ties.placing (W.ties.reads w.names.snap.most)) (rename_calls calls)) a.limit_is
+      (lawful (rename_calls calls) a.names));
+  slots = law_after_slots size (replicate size 0) w.slots (slot_calls calls) a.slots;
+}

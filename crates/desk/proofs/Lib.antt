@@ -1,0 +1,2 @@
+pub mod DeskKeeps
+pub mod NamesGiven

@@ -1,0 +1,11 @@
+use Rattle.desk.proofs.NamesGiven.{one_each, never_two, small_names}
+use Rattle.desk.proofs.laws.law_of_names.Goals as goal
+
+pub returns-clause-one_each : goal.returns-clause-one_each
+returns-clause-one_each c = one_each
+
+pub returns-clause-never_two : goal.returns-clause-never_two
+returns-clause-never_two c = never_two
+
+pub returns-clause-small : goal.returns-clause-small
+returns-clause-small c = small_names

@@ -1,0 +1,64 @@
+-- a renaming world and slots over a pool, side by side: their calls, and the exchanges that these are
+use Rattle.std.specs.Prelude.{◌≡◌, ℕ, List, [], ◌∷◌, ◌++◌, replicate, Result, Ok, Err}
+use Rattle.step_memory.specs.declared.refusal.Refusal.{Refusal}
+use Rattle.step_memory.specs.Calls.{Call}
+use Rattle.step_memory.specs.Calls.Call.{Began, Stepped}
+use Rattle.snapshot_core.specs.Places.{KnownPlaces}
+use Rattle.rename_core.specs.declared.reply.Reply.{Reply as StepReply}
+use Rattle.rename_core.specs.RenameCalls.{IsAfter}
+use Rattle.rename_core.specs.RenameState.{RenameState}
+use Rattle.bit_allocator.specs.Calls.Call.{Entered, Probed, Left}
+use Rattle.slot_array.specs.SlotsState.{SlotsState}
+use Rattle.slot_array.specs.SlotCalls.{SlotCall}
+use Rattle.slot_array.specs.SlotCalls.SlotCall.{Pooled, Stored, Fetched}
+use Rattle.slot_array.specs.After.{AfterSlots}
+use Rattle.desk.specs.declared.event.Event.{Event}
+use Rattle.desk.specs.declared.event.Event.TheVariants as event
+use Rattle.desk.specs.declared.exchange.Exchange.{Exchange}
+use Rattle.desk.specs.declared.reply.Reply.{Reply}
+use Rattle.desk.specs.Replies.{done_reply, step_reply, probe_reply, left_reply, value_reply}
+use Rattle.desk.specs.DeskState.{DeskState}
+
+-- a call of the renaming world, or of the slots, with its reply
+pub data DeskCall : Type 0 where
+  Renamed : Call StepReply → DeskCall
+  Slotted : SlotCall ℕ → DeskCall
+
+-- the calls of the renaming world among them
+abbrev pub rename_calls : List DeskCall → List (Call StepReply)
+rename_calls [] = []
+rename_calls (Renamed h ∷ calls) = h ∷ rename_calls calls
+rename_calls (Slotted h ∷ calls) = rename_calls calls
+
+-- and those of the slots
+abbrev pub slot_calls : List DeskCall → List (SlotCall ℕ)
+slot_calls [] = []
+slot_calls (Renamed h ∷ calls) = slot_calls calls
+slot_calls (Slotted h ∷ calls) = h ∷ slot_calls calls
+
+abbrev pub exchange : Event → Reply → Exchange
+exchange e r = record { event = e; reply = r }
+
+-- the exchange that a call is
+abbrev pub exchange_of : DeskCall → Exchange
+exchange_of (Renamed (Began p answer)) = exchange (event.Begin p) (done_reply answer)
+exchange_of (Renamed (Stepped p answer)) = exchange (event.Step p) (step_reply answer)
+exchange_of (Slotted (Pooled (Entered p answer))) = exchange (event.Enter p) (done_reply answer)
+exchange_of (Slotted (Pooled (Probed p answer))) = exchange (event.Probe p) (probe_reply answer)
+exchange_of (Slotted (Pooled (Left p answer))) = exchange (event.Leave p) (left_reply answer)
+exchange_of (Slotted (Stored p value answer)) = exchange (event.Put p value) (done_reply answer)
+exchange_of (Slotted (Fetched p answer)) = exchange (event.Get p) (value_reply answer)
+
+-- the desk is after these calls, for so many participants, rounds and numbers: its renaming world is after those of
+-- renaming, and its slots, at first 0, after theirs
+pub record AfterDesk {S R V U K : Type 0} (W : KnownPlaces S R V U K) (most limit size : ℕ) (w : DeskState S U K) (calls : List DeskCall) : Type 0 where
+  pub names : IsAfter W w.names (rename_calls calls)
+  pub slots : AfterSlots size (replicate size 0) w.slots (slot_calls calls)
+  pub most_is : w.names.snap.most ≡ most
+  pub limit_is : w.names.limit ≡ limit
+
+-- calls lead on by one that is this exchange
+pub record LeadsBy {S R V U K : Type 0} (W : KnownPlaces S R V U K) (most limit size : ℕ) (calls : List DeskCall) (e : Event) (r : Reply) (new : DeskState S U K) : Type 0 where
+  pub call : DeskCall
+  pub spelled : exchange_of call ≡ exchange e r
+  pub after : AfterDesk W most limit size new (calls ++ call ∷ [])

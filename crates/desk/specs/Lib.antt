@@ -1,0 +1,6 @@
+pub mod Replies
+pub mod DeskState
+pub mod DeskCalls
+pub mod DeskRun
+pub mod DeskRules
+pub mod Names

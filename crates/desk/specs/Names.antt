@@ -1,0 +1,35 @@
+-- who was named, by exchanges alone
+use Rattle.std.specs.Prelude.{◌≡◌, ◌≢◌, ℕ, ◌+◌, ◌-◌, ◌*◌, ◌≤◌, ◌⊎◌, List, [], ◌∷◌, Option, Some, None}
+use Rattle.desk.specs.declared.event.Event.{Event}
+use Rattle.desk.specs.declared.event.Event.TheVariants as event
+use Rattle.desk.specs.declared.event.Event.TheVariants.{Begin}
+use Rattle.desk.specs.declared.exchange.Exchange.{Exchange}
+use Rattle.desk.specs.declared.reply.Reply.{Reply}
+use Rattle.desk.specs.declared.reply.Reply.TheVariants as reply
+use Rattle.desk.specs.declared.reply.Reply.TheVariants.{Ok}
+use Rattle.desk.specs.DeskCalls.{exchange}
+
+-- a step of p was answered that p has the name n
+pub record IsNaming (p n : ℕ) (x : Exchange) : Type 0 where
+  pub view : List (ℕ × ℕ)
+  pub is : x ≡ exchange (event.Step p) (reply.Named n view)
+
+-- among these exchanges p was named n
+abbrev pub WasNamed : ℕ → ℕ → List Exchange → Type 0
+WasNamed p n [] = ⊥
+WasNamed p n (x ∷ r) = IsNaming p n x ⊎ WasNamed p n r
+
+-- one more, where this is an accepted `begin`
+abbrev pub begun_more : Event → Reply → ℕ → ℕ
+begun_more (Begin p) Ok b = b + 1
+begun_more e r b = b
+
+-- how many have begun
+abbrev pub begun_in : List Exchange → ℕ
+begun_in [] = 0
+begun_in (x ∷ r) = begun_more x.event x.reply (begun_in r)
+
+-- who has the name n, or that no one has
+abbrev pub IsOwnerIn : List Exchange → ℕ → Option ℕ → Type 0
+IsOwnerIn r n None = (p : ℕ) → WasNamed p n r → ⊥
+IsOwnerIn r n (Some p) = WasNamed p n r

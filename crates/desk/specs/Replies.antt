@@ -1,0 +1,42 @@
+-- what outcomes are answered as
+use Rattle.std.specs.Prelude.{ℕ, Result, Ok, Err}
+use Rattle.step_memory.specs.declared.refusal.Refusal.{Refusal}
+use Rattle.bit_allocator.specs.declared.probe.Probe.{Probe}
+use Rattle.bit_allocator.specs.declared.probe.Probe.TheVariants as probe
+use Rattle.rename_core.specs.declared.reply.Reply.{Reply as StepReply}
+use Rattle.rename_core.specs.declared.reply.Reply.TheVariants as step
+use Rattle.desk.specs.declared.reply.Reply.{Reply}
+use Rattle.desk.specs.declared.reply.Reply.TheVariants as reply
+
+abbrev pub done_reply : Result (Unit {0}) Refusal → Reply
+done_reply (Ok done) = reply.Ok
+done_reply (Err refusal) = reply.Refused refusal
+
+-- what an accepted step of renaming is shown as
+abbrev pub shown_step : StepReply → Reply
+shown_step step.Quiet = reply.Quiet
+shown_step (step.Placed place) = reply.Place place
+shown_step (step.Proposed number) = reply.Proposed number
+shown_step (step.Saw view) = reply.Saw view
+shown_step (step.Named name view) = reply.Named name view
+shown_step step.Spent = reply.Spent
+
+abbrev pub step_reply : Result StepReply Refusal → Reply
+step_reply (Ok said) = shown_step said
+step_reply (Err refusal) = reply.Refused refusal
+
+abbrev pub shown_probe : Probe → Reply
+shown_probe probe.Missed = reply.Missed
+shown_probe (probe.Got number) = reply.Got number
+
+abbrev pub probe_reply : Result Probe Refusal → Reply
+probe_reply (Ok said) = shown_probe said
+probe_reply (Err refusal) = reply.Refused refusal
+
+abbrev pub left_reply : Result ℕ Refusal → Reply
+left_reply (Ok number) = reply.Left number
+left_reply (Err refusal) = reply.Refused refusal
+
+abbrev pub value_reply : Result ℕ Refusal → Reply
+value_reply (Ok value) = reply.Value value
+value_reply (Err refusal) = reply.Refused refusal

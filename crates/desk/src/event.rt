@@ -1,0 +1,21 @@
+//! What a participant does.
+
+/// One event: what one participant does, with at most one access to one register. The identity is as it was written,
+/// 0 included.
+#[derive(Clone, Copy, Debug, Drop, PartialEq, Eq)]
+pub enum Event {
+    /// The participant begins.
+    Begin(u64),
+    /// The participant takes its next step.
+    Step(u64),
+    /// The participant begins to compete for the pool.
+    Enter(u64),
+    /// The competitor probes the next bit.
+    Probe(u64),
+    /// The competitor gives its number back and competes no more.
+    Leave(u64),
+    /// The holder of a number puts a value into its slot.
+    Put(u64, u64),
+    /// The holder of a number gets the value in its slot.
+    Get(u64),
+}
