@@ -10,6 +10,7 @@ pub mod Keeping
 pub mod Beginning
 pub mod StepCases
 pub mod Sizes
+pub mod Shown
 pub mod Names
 pub mod NamedPlaces
 pub mod AfterCalls
