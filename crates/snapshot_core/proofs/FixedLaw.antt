@@ -1,5 +1,5 @@
 -- the law of a snapshot object over segments in a row
-use Rattle.std.proofs.Common.{◌≡◌, ℕ, zero, suc, ◌+◌, ◌*◌, ◌≤◌, List, length, get_or, replicate, Option, None, refl, arith}
+use Rattle.std.proofs.Common.{◌≡◌, ℕ, zero, suc, ◌+◌, ◌*◌, ◌≤◌, List, length, get_or, replicate, Option, None, refl, subst, arith}
 use Rattle.std.proofs.Math.Nat.{mul-le-mul_right}
 use Rattle.std.proofs.Math.ListN.{length-replicate}
 use Rattle.step_memory.specs.declared.record.Record.{Record}
@@ -28,6 +28,8 @@ fits_row m b some l =
     omega arith
 
 pub fixed_law : (w : SnapState (List (Option Record)) FixedWalker FixedWalk) (r : List SnapCall) → w.most ≤ 16 → IsAfter fixed_places (replicate w.most None) w r →
-    KeepsSnapshotLaw (record { placing = λ b. 0; scanning = λ b. w.most * (w.most + 1) }) r
+    KeepsSnapshotLaw (record { most = w.most; placing = λ b. 0; scanning = λ b. w.most * (w.most + 1) }) r
 fixed_law w r few a =
-    law_holds fixed_places fixed_laws w (replicate w.most None) r (λ b. w.most * (w.most + 1)) (empty_row w.most few) (rw (length-replicate w.most (let nothing : Option Record = None in nothing)) (fits_row w.most)) a
+    let many : length (replicate w.most (let nothing : Option Record = None in nothing)) ≡ w.most = length-replicate w.most (let nothing : Option Record = None in nothing) in
+    subst (λ (m : ℕ). KeepsSnapshotLaw (record { most = m; placing = λ b. 0; scanning = λ b. w.most * (w.most + 1) }) r) many
+    (law_holds fixed_places fixed_laws w (replicate w.most None) r (λ b. w.most * (w.most + 1)) (empty_row w.most few) (rw many (fits_row w.most)) a)
