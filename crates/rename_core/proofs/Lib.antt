@@ -2,7 +2,7 @@ pub mod Numbers
 pub mod Views
 pub mod Participants
 pub mod Standing
-pub mod Clients
+pub mod Large
 pub mod Snapping
 pub mod Tied
 pub mod Stepping

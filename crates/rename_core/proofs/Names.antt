@@ -1,5 +1,5 @@
 -- every renaming world keeps the law of renaming
-use Rattle.std.proofs.Common.{None, is_some, ◌≡◌, ℕ, ◌+◌, ◌*◌, ◌≤◌, ◌==◌, Bool, true, List, [], ◌∷◌, ◌++◌, Option, Some, inl, inr, refl, sym, ap, ◌∙◌, arith}
+use Rattle.std.proofs.Common.{None, is_some, ◌≡◌, ℕ, ◌+◌, ◌*◌, ◌≤◌, ◌==◌, Bool, true, List, [], ◌∷◌, ◌++◌, Option, Some, inl, inr, refl, sym, ap, subst, ◌∙◌, arith}
 use Rattle.std.specs.Prelude.{option_map, option_and_then}
 use Rattle.std.proofs.lemmas.Bool.Decides.{eqb_tells, leb_tells}
 use Rattle.step_memory.specs.Calls.{Call}
@@ -11,7 +11,7 @@ use Rattle.step_memory.proofs.RunLemmas.{run_more, run_keeps}
 use Rattle.snapshot_core.specs.Places.{PlacesLaws, BoundsScans}
 use Rattle.snapshot_core.specs.SnapWorld.{SnapState}
 use Rattle.snapshot_core.specs.SnapCalls.{SnapCall, next as snap_next, IsReply as IsSnapReply}
-use Rattle.snapshot_core.specs.Snapshot.{IsMoment, SnapObject, SnapBounds, observed, Allows as SnapAllows, new_object as new_snap}
+use Rattle.snapshot_core.specs.Snapshot.{IsMoment, SnapObject, SnapBounds, bounds_over, observed, Allows as SnapAllows, new_object as new_snap}
 use Rattle.rename_core.specs.Config.{is_tree}
 use Rattle.rename_core.specs.declared.config.WorldKind.{WorldKind}
 use Rattle.rename_core.specs.declared.reply.Reply.{Reply}
@@ -64,7 +64,7 @@ pub record MayBeNamed {S R V U K : Type 0} (W : KnownPlaces S R V U K) (grows : 
 module _ {S R V U K : Type 0} (W : KnownPlaces S R V U K) (terms : RenameTerms) (scanning : ℕ → ℕ) (named : MayBeNamed W terms.grows terms.most scanning)
     (first : S) (new : W.ties.IsNew first) (most : W.most_of first ≡ terms.most) (low : 1 ≤ terms.limit) (high : terms.limit ≤ 1000000) where
   abbrev bounds : SnapBounds
-  bounds = record { placing = W.ties.placing; scanning = scanning }
+  bounds = bounds_over W first scanning
 
   abbrev Tie : SnapState S U K → SnapObject → Type 0
   Tie w o = AreAfter W named.laws bounds first w o
@@ -89,6 +89,7 @@ module _ {S R V U K : Type 0} (W : KnownPlaces S R V U K) (terms : RenameTerms) 
   fresh_tied = record {
     object = new_snap;
     tie = after_none W named.laws bounds first;
+    same_many = refl;
     as_many = refl;
     limit = refl;
     low = low;
@@ -185,8 +186,8 @@ module _ {S R V U K : Type 0} (W : KnownPlaces S R V U K) (kind : WorldKind) (sc
   most_is : W.most_of a.first ≡ w.snap.most
   most_is = sym (most_after W (fresh_world a.first (W.most_of a.first) w.limit) r w a.run)
 
-  pub rename_law : KeepsRenameLaw (terms_of W kind w) (record { placing = W.ties.placing; scanning = scanning }) r
-  rename_law = law_held W (terms_of W kind w) scanning named a.first a.new most_is a.low a.high w r a.run
+  pub rename_law : KeepsRenameLaw (terms_of W kind w) (record { most = w.snap.most; placing = W.ties.placing; scanning = scanning }) r
+  rename_law = subst (λ (m : ℕ). KeepsRenameLaw (terms_of W kind w) (record { most = m; placing = W.ties.placing; scanning = scanning }) r) most_is (law_held W (terms_of W kind w) scanning named a.first a.new most_is a.low a.high w r a.run)
 
   pub name_law : (o : RenameObject) → IsRun (terms_of W kind w) r o → (p : ℕ) → name_in w p ≡ o.name p
   name_law = name_held W (terms_of W kind w) scanning named a.first a.new most_is a.low a.high w r a.run

@@ -47,7 +47,7 @@ module _ {S R V U K : Type 0} (W : KnownPlaces S R V U K) where
 
   -- where b have begun, of whom walks over the segments make so many reads, a scan makes at most b + 1 collects
   abbrev pub bounds_of : RenameState S U K → SnapBounds
-  bounds_of w = record { placing = W.ties.placing; scanning = λ b. (b + 1) * W.ties.reads w.snap.most b }
+  bounds_of w = record { most = w.snap.most; placing = W.ties.placing; scanning = λ b. (b + 1) * W.ties.reads w.snap.most b }
 
   -- every list of calls that leads to this world keeps the law, where the places serve that kind of world
   abbrev pub IsLawful : WorldKind → RenameState S U K → Type 0
