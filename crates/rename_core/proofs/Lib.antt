@@ -14,3 +14,4 @@ pub mod Shown
 pub mod Names
 pub mod NamedPlaces
 pub mod AfterCalls
+pub mod LocalSteps

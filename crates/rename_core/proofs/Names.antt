@@ -9,7 +9,10 @@ use Rattle.step_memory.specs.Participant.{participant_of}
 use Rattle.step_memory.specs.Runs.{Run}
 use Rattle.step_memory.proofs.RunLemmas.{run_more, run_keeps}
 use Rattle.snapshot_core.specs.Places.{PlacesLaws, BoundsScans}
-use Rattle.snapshot_core.specs.SnapWorld.{SnapState}
+use Rattle.snapshot_core.specs.declared.client.Client.{Client}
+use Rattle.snapshot_core.specs.SnapWorld.{SnapState, IsAccessFor}
+use Rattle.snapshot_core.proofs.Following.{own_access_holds}
+use Rattle.rename_core.specs.Locality.{client_of, access_of}
 use Rattle.snapshot_core.specs.SnapCalls.{SnapCall, next as snap_next, IsReply as IsSnapReply}
 use Rattle.snapshot_core.specs.Snapshot.{IsMoment, SnapObject, SnapBounds, bounds_over, observed, Allows as SnapAllows, new_object as new_snap}
 use Rattle.rename_core.specs.Config.{is_tree}
@@ -180,6 +183,10 @@ module _ {S R V U K : Type 0} (W : KnownPlaces S R V U K) (terms : RenameTerms) 
         values = λ q. shown_is q w.rounds k.tied.distinct ∙ shown_at w k.object k.paces.0 k.tied q ∙ ap (λ (x : RenameObject). x.moment x.last q) same;
       }
 
+  -- its accesses are those of the snapshot object
+  pub own_held : (w : RenameState S U K) (r : List (Call Reply)) → Run (next W) (IsReply W) fresh r w → (p : ℕ) (c : Client U K) → client_of p w ≡ Some c → IsAccessFor W c c.pending (access_of W c)
+  own_held w r a p c h = let k = holds w r a in own_access_holds W named.laws w.snap p first k.tied.tie.calls new k.tied.tie.world c h
+
 -- every world after some calls keeps the law
 module _ {S R V U K : Type 0} (W : KnownPlaces S R V U K) (kind : WorldKind) (scanning : ℕ → ℕ) (w : RenameState S U K) (named : MayBeNamed W (is_tree kind) w.snap.most scanning) (r : List (Call Reply)) (a : IsAfter W w r) where
   -- the world has room for as many as its places have
@@ -197,3 +204,6 @@ module _ {S R V U K : Type 0} (W : KnownPlaces S R V U K) (kind : WorldKind) (sc
 
   pub shown_law : (o : RenameObject) → IsRun (terms_of W kind w) r o → IsMoment (shown_by [] w.rounds) (o.moment o.last)
   shown_law = shown_held W (terms_of W kind w) scanning named a.first a.new most_is a.low a.high w r a.run
+
+  pub own_law : (p : ℕ) (c : Client U K) → client_of p w ≡ Some c → IsAccessFor W c c.pending (access_of W c)
+  own_law = own_held W (terms_of W kind w) scanning named a.first a.new most_is a.low a.high w r a.run

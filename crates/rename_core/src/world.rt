@@ -6,7 +6,8 @@ ghost use Rattle.step_memory.specs.World.{begin_refusal, done_unless};
 ghost use Rattle.step_memory.specs.Calls.{Call};
 ghost use Rattle.step_memory.specs.Calls.Call.{Began, Stepped};
 ghost use Rattle.rename_core.specs.Config.{is_played_over};
-ghost use Rattle.rename_core.specs.RenameCalls.{IsAfter, LeadsOn, IsLawful, terms_of};
+ghost use Rattle.rename_core.specs.Locality.{IsLocal};
+ghost use Rattle.rename_core.specs.RenameCalls.{IsAfter, LeadsOn, IsLawful, MakesOwnAccess, terms_of};
 ghost use Rattle.rename_core.specs.RenameObject.{RenameObject, IsRun, IsOwner};
 ghost use Rattle.rename_core.specs.Round.{standing_by};
 ghost use Rattle.rename_core.specs.RenameWorld.{after_wish, name_in, owner_by, shown_with, shown_by, step_refusal, fresh_world, after_rename_begin, rename_answer, after_rename_step, may_lack};
@@ -120,6 +121,12 @@ where
         // The law, over every list of calls and replies that the world may be after.
         ensures after { LeadsOn ⟦<W as Known>⟧.places self.old self.new (Stepped id result) }
         ensures law { IsLawful ⟦<W as Known>⟧.places W.world self.new }
+
+        // Reply and own state are functions of the own state and the access's answer, and nothing else changes. After every
+        // list of calls the access is one for what the participant does: on its way to a place a read, a write or none, in
+        // a scan a read, at the end of an update the write of its own segment.
+        ensures local { IsLocal ⟦<W as Known>⟧.places id self.old self.new result }
+        ensures own { MakesOwnAccess ⟦<W as Known>⟧.places self.old id }
     {
         self.take_step(id)
     }
