@@ -1,5 +1,5 @@
 -- what the calls of a snapshot object do to who takes part in it
-use Rattle.std.proofs.Common.{◌≡◌, ◌≢◌, ℕ, ◌+◌, ◌<◌, ◌≤◌, Bool, true, false, not, cond, List, ◌++◌, ◌∷◌, [], length, Option, Some, None, Ok, Err, refl, sym, ap, ◌∙◌, arith, length-append}
+use Rattle.std.proofs.Common.{◌≡◌, ◌≢◌, ℕ, ◌+◌, ◌<◌, ◌≤◌, Bool, true, false, not, cond, List, ◌++◌, ◌∷◌, [], length, Option, Some, None, refl, sym, ap, ◌∙◌, arith, length-append}
 use Rattle.std.specs.Prelude.{nat_lt, option_map, is_some}
 use Rattle.std.proofs.lemmas.Bool.{lt-ltb, le-ltb}
 use Rattle.step_memory.specs.declared.access.Answer.{Answer}
@@ -7,7 +7,7 @@ use Rattle.step_memory.specs.declared.access.Answer.TheVariants.{Value, WasSet, 
 use Rattle.step_memory.specs.declared.participant.Participant.{Participant}
 use Rattle.step_memory.specs.declared.note.Note.{Note}
 use Rattle.step_memory.specs.declared.note.Note.TheVariants.{Quiet, Said, Ended}
-use Rattle.step_memory.specs.declared.refusal.Refusal.TheVariants.{AlreadyBegun, Finished, Spent}
+use Rattle.step_memory.specs.declared.refusal.Refusal.TheVariants.{Spent}
 use Rattle.step_memory.specs.Note.{ends}
 use Rattle.step_memory.specs.Participant.{participant_of, program_of, with_participant, beginner, resumed}
 use Rattle.step_memory.specs.SetAt.{set_at}
@@ -24,7 +24,7 @@ use Rattle.snapshot_core.specs.Client.{is_idle, first_pending, client_after, cli
 use Rattle.snapshot_core.specs.Places.{KnownPlaces}
 use Rattle.snapshot_core.specs.Scan.{scan_view}
 use Rattle.snapshot_core.specs.SnapWorld.{SnapState, beginner_at, after_snap_begin, after_scan, after_update, scan_refusal, update_refusal, clients_over, snap_answer, after_snap_step, told}
-use Rattle.snapshot_core.specs.Standing.{is_quiet, StandsAt, ComesTo, GoesOn, HasBegun, IsRefusedMore}
+use Rattle.snapshot_core.specs.Standing.{is_quiet, StandsAt, ComesTo, HasBegun, GoesSoIdle, GoesSoBusy}
 
 module _ {S U K : Type 0} (w : SnapState S U K) (p : ℕ) where
   -- who takes part is in the list
@@ -64,10 +64,6 @@ module _ {S U K : Type 0} (w : SnapState S U K) (p : ℕ) where
     pub update_spent : 1000000 ≤ n → update_refusal w p ≡ Some Spent
     update_spent l = let spent : nat_lt h.who.program.updates 1000000 ≡ false = le-ltb h.who.program.updates 1000000 (let e = h.updates_is in omega arith) in rw (program_there true n h, h.idle_is, spent) refl
 
-  -- one who has something pending is asked for nothing more
-  pub busy_refused : (n : ℕ) → StandsAt w p false n → IsRefusedMore w p
-  busy_refused n h = record { scan = rw (program_there false n h, h.idle_is) refl; update = rw (program_there false n h, h.idle_is) refl }
-
 module _ {S R V U K : Type 0} (t : KnownPlaces S R V U K) where
   idle_first : (o : Option ℕ) → is_idle (first_pending o) ≡ is_some o
   idle_first None = refl
@@ -84,8 +80,18 @@ module _ {S R V U K : Type 0} (t : KnownPlaces S R V U K) where
         many = rw e (length-append w.participants (beginner p c ∷ []));
       }
 
-  pub idle_answered : (w : SnapState S U K) (p n : ℕ) → StandsAt w p true n → snap_answer t w p ≡ Err Finished
-  idle_answered w p n h = rw (program_there w p true n h, h.idle_is) refl
+  -- what one who has nothing pending is answered
+  pub goes_idle : (w : SnapState S U K) (p : ℕ) → GoesSoIdle t w p
+  goes_idle w p n h =
+      let scanned = scan_goes w p n h in
+      record {
+        scan = scanned.0;
+        scans = scanned.1;
+        update = λ l. (update_goes w p n h 0 l).0;
+        more = λ l value. (update_goes w p n h value l).1;
+        spent = update_spent w p n h;
+        finished = rw (program_there w p true n h, h.idle_is) refl;
+      }
 
   -- what a participant that has something pending makes of an answer
   record Moves (c : Client U K) (after : Client U K) (note : Note SnapReply) : Type 0 where
@@ -114,19 +120,21 @@ module _ {S R V U K : Type 0} (t : KnownPlaces S R V U K) where
   moves_for c Done (Update value) e busy = record { goes = refl; idle = ap is_idle e; updates = refl }
   moves_for c got (Writing value view) e busy = record { goes = refl; idle = refl; updates = refl }
 
-  -- a step of one who has something pending
-  pub goes_on : (w : SnapState S U K) (p n : ℕ) → StandsAt w p false n → GoesOn t w p n
-  goes_on w p n h =
+  -- what one who has something pending is answered
+  pub goes_busy : (w : SnapState S U K) (p : ℕ) → GoesSoBusy t w p
+  goes_busy w p n h =
       let there = program_there w p false n h in
       let got : Answer V = got_by (clients_over t) t.memory w.memory h.who in
       let m : Moves h.who.program (client_after t.walker t.walks h.who.program got) (client_note t.walker t.walks h.who.program got) = moves_for h.who.program got h.who.program.pending refl h.idle_is in
       let new : Participant (Client U K) = resumed (clients_over t) h.who got in
       let own : new.identity ≡ p = identity_of p w.participants h.who h.is in
       let goes : after_snap_step t w p ≡ record { memory = t.memory.after w.memory ((clients_over t).next h.who.program); most = w.most; participants = with_participant new w.participants } =
-          rw (there, h.idle_is) (going_after (clients_over t) t.memory w p h.who h.is h.goes) in
+      rw (there, h.idle_is) (going_after (clients_over t) t.memory w p h.who h.is h.goes) in
       let put_new : (q : ℕ) → participant_of q (with_participant new w.participants) ≡ set_at (λ v. participant_of v w.participants) p (Some new) q =
-          λ q. participant_of-put w.participants new (rw (own, h.is) refl) q ∙ ap (λ (x : ℕ). set_at (λ v. participant_of v w.participants) x (Some new) q) own in
+      λ q. participant_of-put w.participants new (rw (own, h.is) refl) q ∙ ap (λ (x : ℕ). set_at (λ v. participant_of v w.participants) x (Some new) q) own in
       record {
+        scan = rw (there, h.idle_is) refl;
+        update = rw (there, h.idle_is) refl;
         reply = told (client_note t.walker t.walks h.who.program got);
         answer = rw (there, h.idle_is, going_answer (clients_over t) t.memory w p h.who h.is h.goes) refl;
         comes = rw goes (record {

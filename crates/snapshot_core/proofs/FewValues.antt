@@ -25,9 +25,9 @@ module _ (who : ℕ → ℕ) (b : ℕ) where
       let it = there x.0 x.1 (rw own refl) in
       let same = it.2 in
       let before = found_in xs h.1 (λ q n e.
-          let up = above x xs q n h e in
-          let no : (x.0 == q) ≡ false = (elim (eqb_tells x.0 q) [ inl u ↦ absurd (let k = u.1 in omega arith) | inr u ↦ u.0 ]) in
-          there q n (rw no e)) in
+      let up = above x xs q n h e in
+      let no : (x.0 == q) ≡ false = (elim (eqb_tells x.0 q) [ inl u ↦ absurd (let k = u.1 in omega arith) | inr u ↦ u.0 ]) in
+      there q n (rw no e)) in
       let absent : is_some (value_of (who it.0) xs) ≡ false = (elim (value_of (who it.0) xs) as (λ o. value_of (who it.0) xs ≡ o → is_some o ≡ false) [
         | None ↦ λ _. refl
         | Some n ↦ λ e. absurd (let up = above x xs (who it.0) n h e in omega arith)

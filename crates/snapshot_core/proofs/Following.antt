@@ -32,7 +32,7 @@ use Rattle.snapshot_core.specs.declared.client.SnapReply.TheVariants.{Quiet as S
 use Rattle.snapshot_core.specs.Scan.{scan_from, scan_after, scan_view}
 use Rattle.snapshot_core.specs.Client.{first_pending, is_idle, scanning, updating, record_of, with_pending, is_placed, placed_note, pending_after, note_after, access_for, after_for, note_for}
 use Rattle.snapshot_core.specs.SnapWorld.{SnapState, place_in, beginner_at, scan_refusal, update_refusal, scan_refusal_by, update_refusal_by, asked, after_scan, after_update, told, clients_over, snap_answer, after_snap_step, may_lack_memory, way_now, ways_of}
-use Rattle.snapshot_core.specs.SnapCalls.{SnapCall, next, IsReply, IsAfter, MakesOwnAccess, BeginsTheSame}
+use Rattle.snapshot_core.specs.SnapCalls.{SnapCall, next, IsReply, IsAfter, MakesOwnAccess, BeginsTheSame, HasDistinctPlaces, IsConsistentAfter, KeepsTold}
 use Rattle.snapshot_core.specs.SnapCalls.SnapCall.{Began, Updated, Scanned, Stepped}
 use Rattle.snapshot_core.specs.Walks.{WalkSteps}
 use Rattle.snapshot_core.specs.Places.{KnownPlaces, PlacesLaws, BeginsAlike, BoundsScans, KeepsWalks, HasGoneOn, value_for}
@@ -578,20 +578,20 @@ module _ {S R V U K : Type 0} (known : KnownPlaces S R V U K) (laws : PlacesLaws
   after_all w first r new a = holds_after lawful (all_reads first) first new (λ b some l. omega arith) w r a
 
   pub law_holds : (w : SnapState S U K) → IsLawful known w
-  law_holds w first r scans new fits a = let k = holds_after lawful scans first new fits w r a in (k.object, k.run)
+  law_holds w first scans new fits r a = let k = holds_after lawful scans first new fits w r a in (k.object, k.run)
 
-  pub distinct_holds : (w : SnapState S U K) (id : ℕ) (first : S) (r : List SnapCall) → known.ties.IsNew first → IsAfter known first w r → (x : ℕ) → place_in known w id ≡ Some x → (other : ℕ) → place_in known w other ≡ Some x → other ≡ id
-  distinct_holds w id first r new a x mine other theirs =
+  pub all_distinct : (w : SnapState S U K) → HasDistinctPlaces known w
+  all_distinct w first r new a p q x mine theirs =
       let k = after_all w first r new a in
-      k.tied.history.distinct other id x (sym (place_is lawful (all_reads first) w k.object k.tied other) ∙ theirs) (sym (place_is lawful (all_reads first) w k.object k.tied id) ∙ mine)
+      k.tied.history.distinct q p x (sym (place_is lawful (all_reads first) w k.object k.tied q) ∙ theirs) (sym (place_is lawful (all_reads first) w k.object k.tied p) ∙ mine)
 
-  pub told_holds : (w : SnapState S U K) (id : ℕ) (first : S) (r : List SnapCall) → known.ties.IsNew first → IsAfter known first w r → (x : ℕ) → Contains r (Stepped id (Ok (Placed x))) → place_in known w id ≡ Some x
-  told_holds w id first r new a x c =
+  pub told_holds : (w : SnapState S U K) (p : ℕ) → KeepsTold known w p
+  told_holds w p first r new a x c =
       let k = after_all w first r new a in
-      place_is lawful (all_reads first) w k.object k.tied id ∙ k.tied.told id x (k.answered id x c)
+      place_is lawful (all_reads first) w k.object k.tied p ∙ k.tied.told p x (k.answered p x c)
 
   -- the memory agrees with those who have begun
-  pub consistent_holds : (w : SnapState S U K) (first : S) (r : List SnapCall) → known.ties.IsNew first → IsAfter known first w r → known.ties.IsConsistent w.memory (length w.participants) (ways_of w.participants)
+  pub consistent_holds : (w : SnapState S U K) → IsConsistentAfter known w
   consistent_holds w first r new a = let k = after_all w first r new a in k.tied.consistent
 
   pub own_access_holds : (w : SnapState S U K) (p : ℕ) → MakesOwnAccess known w p

@@ -8,6 +8,7 @@ use Rattle.step_memory.specs.declared.refusal.Refusal.{Refusal}
 use Rattle.step_memory.specs.declared.refusal.Refusal.TheVariants.{AlreadyBegun, NotBegun, Finished, Spent}
 use Rattle.step_memory.specs.declared.participant.Participant.{Participant}
 use Rattle.step_memory.specs.Participant.{participant_of, program_of}
+use Rattle.step_memory.specs.Locality.{LookAlike}
 use Rattle.step_memory.specs.Steps.{ProgramSteps}
 use Rattle.step_memory.specs.WorldState.{WorldState}
 use Rattle.step_memory.specs.World.{after_begin, after_set, step_answer, after_step, may_refuse_step}
@@ -122,3 +123,7 @@ module _ {S R V U K : Type 0} (t : KnownPlaces S R V U K) where
   -- of p's steps only one on its way to its place may be refused for want of memory
   abbrev pub LacksOnWay : SnapState S U K → ℕ → Type 0
   LacksOnWay w p = may_lack_memory w p ≡ true → IsOnWay w p
+
+  -- in each object that looks alike to p the answer is the same
+  abbrev pub AnswersAlike : SnapState S U K → ℕ → Result SnapReply Refusal → Type 0
+  AnswersAlike w p reply = (other : SnapState S U K) → LookAlike clients_over t.memory p w other → reply ≡ snap_answer other p

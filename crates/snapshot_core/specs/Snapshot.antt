@@ -1,7 +1,7 @@
 -- the law of the snapshot object (Afek et al. 1993), over its calls with their replies alone: what a scan shows stood in
 -- the object at one moment within the scan; and a scan ends whatever the others do. That steps are counted, and so
 -- bounded, is this project's profile
-use Rattle.std.specs.Prelude.{◌≡◌, ◌≢◌, ◌⊎◌, ℕ, ◌+◌, ◌<◌, ◌≤◌, ◌==◌, nat_lt, nat_le, if◌then◌else◌, Bool, true, false, List, length, Option, Some, None, Ok, Err}
+use Rattle.std.specs.Prelude.{◌≡◌, ◌≢◌, ◌⊎◌, ℕ, ◌+◌, ◌<◌, ◌≤◌, ◌==◌, nat_lt, nat_le, if◌then◌else◌, Bool, true, false, List, ◌++◌, length, Option, Some, None, Ok, Err}
 use Rattle.step_memory.specs.SetAt.{set_at}
 use Rattle.step_memory.specs.declared.refusal.Refusal.{Refusal}
 use Rattle.step_memory.specs.declared.refusal.Refusal.TheVariants.{ZeroIdentity, AlreadyBegun, Full, NotBegun, Finished, Spent, NoMemory}
@@ -197,6 +197,10 @@ Allows bounds o (Stepped p (Err why)) = (step_due bounds o p ≡ Some why) ⊎ L
 abbrev pub KeepsSnapshotLaw : SnapBounds → List SnapCall → Type 0
 KeepsSnapshotLaw bounds r = (o : SnapObject) × Run observed (Allows bounds) new_object r o
 
+-- every list of calls that leads to this object from a fresh one over this memory keeps the law within these bounds
+abbrev pub IsLawfulFrom : {S R V U K : Type 0} → KnownPlaces S R V U K → S → SnapBounds → SnapState S U K → Type 0
+IsLawfulFrom t first bounds w = (r : List SnapCall) → IsAfter t first w r → KeepsSnapshotLaw bounds r
+
 -- the bounds over these places, with this one on scans
 abbrev pub bounds_over : {S R V U K : Type 0} → KnownPlaces S R V U K → S → (ℕ → ℕ) → SnapBounds
 bounds_over t first scanning = record { most = t.most_of first; placing = t.ties.placing; scanning = scanning }
@@ -204,5 +208,8 @@ bounds_over t first scanning = record { most = t.most_of first; placing = t.ties
 -- every list of calls that leads to this object, from places in which nothing was written, keeps the law: where a bound on
 -- scans leaves room for as many collects as there may be
 abbrev pub IsLawful : {S R V U K : Type 0} → KnownPlaces S R V U K → SnapState S U K → Type 0
-IsLawful {S} t w = (first : S) (r : List SnapCall) (scanning : ℕ → ℕ) → t.ties.IsNew first → BoundsScans t (t.most_of first) scanning → IsAfter t first w r →
-    KeepsSnapshotLaw (bounds_over t first scanning) r
+IsLawful {S} t w = (first : S) (scanning : ℕ → ℕ) → t.ties.IsNew first → BoundsScans t (t.most_of first) scanning → IsLawfulFrom t first (bounds_over t first scanning) w
+
+-- every front of a list that keeps the law within these bounds keeps it
+abbrev pub HoldsOfFronts : SnapBounds → Type 0
+HoldsOfFronts bounds = (r more : List SnapCall) → KeepsSnapshotLaw bounds (r ++ more) → KeepsSnapshotLaw bounds r

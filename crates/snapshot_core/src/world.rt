@@ -1,12 +1,11 @@
 //! A snapshot object, taken step by step.
 
-ghost use Rattle.std.specs.Prelude.{◌≡◌, ◌≢◌, ℕ, [], List, IfOk, OnErr, Err, true, Some, Ok, Contains};
-ghost use Rattle.step_memory.specs.Locality.{IsLocal, LookAlike};
-ghost use Rattle.step_memory.specs.Participant.{program_of};
+ghost use Rattle.std.specs.Prelude.{◌≡◌, ◌≢◌, [], IfOk, OnErr, Err, true};
+ghost use Rattle.step_memory.specs.Locality.{IsLocal};
 ghost use Rattle.step_memory.specs.World.{begin_refusal, done_unless};
 ghost use Rattle.snapshot_core.specs.Snapshot.{IsLawful};
-ghost use Rattle.snapshot_core.specs.SnapWorld.{SnapState, place_in, after_snap_begin, scan_refusal, update_refusal, after_scan, after_update, clients_over, snap_answer, after_snap_step, may_lack_memory, IsOnWay};
-ghost use Rattle.snapshot_core.specs.SnapCalls.{SnapCall, fresh_over, IsAfter, LeadsOn, MakesOwnAccess};
+ghost use Rattle.snapshot_core.specs.SnapWorld.{place_in, after_snap_begin, scan_refusal, update_refusal, after_scan, after_update, clients_over, snap_answer, after_snap_step, may_lack_memory, IsOnWay, AnswersAlike};
+ghost use Rattle.snapshot_core.specs.SnapCalls.{fresh_over, IsAfter, LeadsOn, MakesOwnAccess, HasDistinctPlaces, KeepsTold};
 ghost use Rattle.snapshot_core.specs.SnapCalls.SnapCall.{Began, Updated, Scanned, Stepped};
 
 use crate::client::{Client, SnapReply};
@@ -117,7 +116,7 @@ where
         // looks alike to this participant the answer is the same. The access is one for what it has to do: on its way to
         // its place a read, a write or none, in a scan a read, at the end of an update the write of its own segment.
         ensures local { IsLocal (clients_over ⟦<W as Known>⟧.places) W.steps id self.old self.new }
-        ensures alike { result ≢ Err Refusal.NoMemory → (other : SnapState W W.Walker W.Walk) → LookAlike (clients_over ⟦<W as Known>⟧.places) W.steps id self.old other → result ≡ snap_answer ⟦<W as Known>⟧.places other id }
+        ensures alike { result ≢ Err Refusal.NoMemory → AnswersAlike ⟦<W as Known>⟧.places self.old id result }
         ensures own { MakesOwnAccess ⟦<W as Known>⟧.places self.old id }
     {
         let Some(client) = self.world.program(id) else {
@@ -137,9 +136,9 @@ where
     pub fn place_of(&self, id: u64) -> Option<Place>
         ensures value { result ≡ place_in ⟦<W as Known>⟧.places self.now id }
 
-        // No one else has it, and where a step has told a place, it is that one.
-        ensures distinct { (first : W) (r : List SnapCall) → W.ties.IsNew first → IsAfter ⟦<W as Known>⟧.places first self.now r → (place : ℕ) → result ≡ Some place → (other : ℕ) → place_in ⟦<W as Known>⟧.places self.now other ≡ Some place → other ≡ id }
-        ensures told { (first : W) (r : List SnapCall) → W.ties.IsNew first → IsAfter ⟦<W as Known>⟧.places first self.now r → (place : ℕ) → Contains r (Stepped id (Ok (SnapReply.Placed place))) → result ≡ Some place }
+        // No two have one place, and where a step has told a place, it is that one.
+        ensures distinct { HasDistinctPlaces ⟦<W as Known>⟧.places self.now }
+        ensures told { KeepsTold ⟦<W as Known>⟧.places self.now id }
     {
         let Some(client) = self.world.program(id) else {
             return None;

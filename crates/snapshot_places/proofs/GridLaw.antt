@@ -1,5 +1,5 @@
 -- the law of a snapshot object over a grid with segments
-use Rattle.std.proofs.Common.{◌≡◌, ℕ, ◌+◌, ◌*◌, ◌≤◌, List, length, Option, None, refl, sym, ap, ◌∙◌, arith}
+use Rattle.std.proofs.Common.{◌≡◌, ℕ, ◌+◌, ◌*◌, ◌≤◌, length, Option, None, refl, sym, ap, ◌∙◌, arith}
 use Rattle.std.proofs.Math.Nat.{mul-le-mul_right}
 use Rattle.std.proofs.Math.ListN.{length-replicate}
 use Rattle.step_memory.specs.declared.record.Record.{Record}
@@ -12,10 +12,9 @@ use Rattle.snapshot_places.specs.Bounds.{grid_bounds}
 use Rattle.snapshot_places.specs.GridLaws.{grid_laws}
 use Rattle.snapshot_core.specs.Places.{BeginsAlike, BoundsScans}
 use Rattle.snapshot_core.specs.SnapWorld.{SnapState}
-use Rattle.snapshot_core.specs.SnapCalls.{SnapCall, IsAfter, HasDistinctPlaces}
-use Rattle.snapshot_core.specs.Snapshot.{KeepsSnapshotLaw}
+use Rattle.snapshot_core.specs.Snapshot.{IsLawfulFrom}
 use Rattle.snapshot_core.proofs.FixedLaw.{empty_at}
-use Rattle.snapshot_core.proofs.Following.{law_holds, distinct_holds}
+use Rattle.snapshot_core.proofs.Following.{law_holds}
 
 pub empty_grid : (m : ℕ) → m ≤ 16 → IsEmptyGrid (fresh_grid m)
 empty_grid m few = record { few = few; doors = refl; segments = length-replicate (segments_for m) (let nothing : Option Record = None in nothing); empty = empty_at (segments_for m) }
@@ -33,11 +32,8 @@ fits_grid m b some l =
     let product = mul-le-mul_right (segments_for m) up in
     omega arith
 
-pub grid_law : (w : SnapState GridState GridWalker GridWalk) (r : List SnapCall) → w.most ≤ 16 → IsAfter grid_places (fresh_grid w.most) w r → KeepsSnapshotLaw (grid_bounds w.most) r
-grid_law w r few a = law_holds grid_places grid_laws w (fresh_grid w.most) r (λ b. segments_for w.most * (segments_for w.most + 1)) (empty_grid w.most few) (fits_grid w.most) a
-
-pub grid_distinct : (w : SnapState GridState GridWalker GridWalk) → HasDistinctPlaces grid_places w
-grid_distinct w first r new a p q x here there = distinct_holds grid_places grid_laws w p first r new a x here q there
+pub grid_law : (w : SnapState GridState GridWalker GridWalk) → w.most ≤ 16 → IsLawfulFrom grid_places (fresh_grid w.most) (grid_bounds w.most) w
+grid_law w few = law_holds grid_places grid_laws w (fresh_grid w.most) (λ b. segments_for w.most * (segments_for w.most + 1)) (empty_grid w.most few) (fits_grid w.most)
 
 -- every way begins at the corner, and every walk over as many segments as the size asks for
 pub grid_alike : BeginsAlike grid_places

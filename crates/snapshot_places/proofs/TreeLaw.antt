@@ -1,10 +1,10 @@
 -- the law of a snapshot object over a tree
-use Rattle.std.proofs.Common.{◌≡◌, ℕ, ◌+◌, ◌-◌, ◌*◌, ◌≤◌, true, false, cond, List, length, Some, None, refl, sym, ap, ◌∙◌, arith}
+use Rattle.std.proofs.Common.{◌≡◌, ℕ, ◌+◌, ◌-◌, ◌*◌, ◌≤◌, true, false, cond, length, Some, None, refl, sym, ap, ◌∙◌, arith}
 use Rattle.std.specs.Prelude.{option_map}
 use Rattle.step_memory.specs.Participant.{participant_of}
 use Rattle.step_memory.specs.World.{may_refuse_by}
 use Rattle.splitter_tree.specs.TreeSteps.{tree_steps}
-use Rattle.splitter_tree.specs.Consistent.{IsConsistent, IsTree}
+use Rattle.splitter_tree.specs.Consistent.{IsConsistent}
 use Rattle.splitter_tree.specs.Walk.{next_access}
 use Rattle.splitter_tree.proofs.ConsistentKept.{refused}
 use Rattle.splitter_tree.proofs.TreeLaw.{tree_law as law_of_tree}
@@ -15,14 +15,13 @@ use Rattle.snapshot_places.specs.Tree.{TreeState, new_tree, tree_places_steps}
 use Rattle.snapshot_places.specs.TreeTies.{IsNewTree, walks_of, tree_places}
 use Rattle.snapshot_places.specs.TreeLaws.{tree_laws}
 use Rattle.snapshot_places.specs.Bounds.{tree_bounds}
-use Rattle.snapshot_places.specs.Made.{MakesNode}
+use Rattle.snapshot_places.specs.Made.{MakesNode, IsFromNewTree, KeepsTree, LacksAtNode}
 use Rattle.snapshot_core.specs.declared.client.Client.{Client}
 use Rattle.snapshot_core.specs.declared.client.Pending.TheVariants.{Placing}
 use Rattle.snapshot_core.specs.Places.{BeginsAlike, BoundsScans}
-use Rattle.snapshot_core.specs.SnapWorld.{SnapState, clients_over, ways_of, may_lack_memory}
-use Rattle.snapshot_core.specs.SnapCalls.{SnapCall, IsAfter, HasDistinctPlaces}
-use Rattle.snapshot_core.specs.Snapshot.{KeepsSnapshotLaw}
-use Rattle.snapshot_core.proofs.Following.{law_holds, distinct_holds, consistent_holds}
+use Rattle.snapshot_core.specs.SnapWorld.{SnapState, clients_over, ways_of}
+use Rattle.snapshot_core.specs.Snapshot.{IsLawfulFrom}
+use Rattle.snapshot_core.proofs.Following.{law_holds, consistent_holds}
 use Rattle.snapshot_core.proofs.SureSteps.{lacks_on_way}
 
 is_new : (most : ℕ) → most ≤ 64 → IsNewTree (new_tree most)
@@ -34,26 +33,24 @@ fits_tree most b some l =
     let all : (b + 1) * (3 * (2 * b - 1) + 1) ≡ (b + 1) * (6 * b - 2) = ap (λ n. (b + 1) * n) same in
     omega arith
 
-pub tree_distinct : (w : SnapState TreeState TreeWalker TreeWalk) → HasDistinctPlaces tree_places w
-tree_distinct w first r new a p q x here there = distinct_holds tree_places tree_laws w p first r new a x here q there
-
 -- every way begins before the root, and so does every walk
 pub tree_alike : BeginsAlike tree_places
 tree_alike = record { way = λ b c p. refl; walk = λ t other b c ways others i k size. refl }
 
-module _ (w : SnapState TreeState TreeWalker TreeWalk) (most : ℕ) (r : List SnapCall) (few : most ≤ 64) (a : IsAfter tree_places (new_tree most) w r) where
-  pub tree_law : KeepsSnapshotLaw (tree_bounds most) r
-  tree_law = law_holds tree_places tree_laws w (new_tree most) r (λ b. (b + 1) * (6 * b - 2)) (is_new most few) (fits_tree most) a
+module _ (w : SnapState TreeState TreeWalker TreeWalk) where
+  pub tree_law : w.most ≤ 64 → IsLawfulFrom tree_places (new_tree w.most) (tree_bounds w.most) w
+  tree_law few = law_holds tree_places tree_laws w (new_tree w.most) (λ b. (b + 1) * (6 * b - 2)) (is_new w.most few) (fits_tree w.most)
 
+module _ (w : SnapState TreeState TreeWalker TreeWalk) (new : IsFromNewTree w) where
   consistent : IsConsistent tree_steps w.memory.most (length w.participants) w.memory.nodes (walks_of (ways_of w.participants))
-  consistent = consistent_holds tree_places tree_laws w (new_tree most) r (is_new most few) a
+  consistent = consistent_holds tree_places tree_laws w (new_tree w.most) new.1 (is_new w.most new.0) new.2
 
   -- the tree's law holds of the nodes and the walks
-  pub tree_nodes : IsTree tree_steps (length w.participants) w.memory.nodes (walks_of (ways_of w.participants))
+  pub tree_nodes : KeepsTree w
   tree_nodes = law_of_tree tree_steps w.memory.most (length w.participants) w.memory.nodes (walks_of (ways_of w.participants)) consistent
 
   -- only a step that makes a node may want memory
-  pub tree_makes : (p : ℕ) → may_lack_memory tree_places w p ≡ true → MakesNode w p
+  pub tree_makes : (p : ℕ) → LacksAtNode w p
   tree_makes p may = elim (participant_of p w.participants) as (λ z. participant_of p w.participants ≡ z → may_refuse_by (clients_over tree_places) tree_places_steps w.memory z ≡ true → MakesNode w p) [
     | None ↦ λ e h. absurd (cc)
     | Some v ↦ λ e h. elim v.ended as (λ b. cond b false (tree_places_steps.may_refuse w.memory ((clients_over tree_places).next v.program)) ≡ true → MakesNode w p) [

@@ -1,18 +1,16 @@
 //! Laws of the snapshot object over a grid and over a tree, which run nothing.
 
-ghost use Rattle.std.specs.Prelude.{◌≡◌, ◌≤◌, ℕ, List, length, true, false};
+ghost use Rattle.std.specs.Prelude.{◌≡◌, ◌≤◌, ℕ, false};
 ghost use Rattle.snapshot_core.specs.Places.{BeginsAlike};
-ghost use Rattle.snapshot_core.specs.SnapCalls.{SnapCall, IsAfter, HasDistinctPlaces};
-ghost use Rattle.snapshot_core.specs.Snapshot.{KeepsSnapshotLaw};
-ghost use Rattle.snapshot_core.specs.SnapWorld.{may_lack_memory, LacksOnWay, ways_of};
+ghost use Rattle.snapshot_core.specs.SnapCalls.{HasDistinctPlaces};
+ghost use Rattle.snapshot_core.specs.Snapshot.{IsLawfulFrom};
+ghost use Rattle.snapshot_core.specs.SnapWorld.{may_lack_memory, LacksOnWay};
 ghost use Rattle.snapshot_places.specs.Bounds.{grid_bounds, tree_bounds};
 ghost use Rattle.snapshot_places.specs.Grid.{fresh_grid};
 ghost use Rattle.snapshot_places.specs.GridTies.{grid_places};
-ghost use Rattle.snapshot_places.specs.Made.{MakesNode};
+ghost use Rattle.snapshot_places.specs.Made.{IsFromNewTree, KeepsTree, LacksAtNode};
 ghost use Rattle.snapshot_places.specs.Tree.{new_tree};
-ghost use Rattle.snapshot_places.specs.TreeTies.{walks_of, tree_places};
-ghost use Rattle.splitter_tree.specs.Consistent.{IsTree};
-ghost use Rattle.splitter_tree.specs.TreeSteps.{tree_steps};
+ghost use Rattle.snapshot_places.specs.TreeTies.{tree_places};
 
 use crate::grid::Grid;
 use crate::tree::TreePlaces;
@@ -24,7 +22,7 @@ use std::alloc::Allocator;
 /// begun, a place comes within 4b steps, and over G segments a scan takes at most G(G + 1) steps and an update one more.
 /// No step wants memory, and all who begin under one identity are alike.
 pub fn grid_snapshot_law<A: Allocator>(world: &SnapWorld<Grid<A>, A>)
-    ensures law { (r : List SnapCall) → world.now.most ≤ 16 → IsAfter grid_places (fresh_grid world.now.most) world.now r → KeepsSnapshotLaw (grid_bounds world.now.most) r }
+    ensures law { world.now.most ≤ 16 → IsLawfulFrom grid_places (fresh_grid world.now.most) (grid_bounds world.now.most) world.now }
     ensures distinct { HasDistinctPlaces grid_places world.now }
     ensures ample { (id : ℕ) → may_lack_memory grid_places world.now id ≡ false }
     ensures alike { BeginsAlike grid_places }
@@ -37,11 +35,11 @@ pub fn grid_snapshot_law<A: Allocator>(world: &SnapWorld<Grid<A>, A>)
 /// steps, a scan takes at most (b + 1)(6b - 2) steps and an update one more. No two have one place, and at most 2b - 1
 /// nodes were made. Only a step that makes a node may want memory, and all who begin under one identity are alike.
 pub fn tree_snapshot_law<A: Allocator + Clone>(world: &SnapWorld<TreePlaces<A>, A>)
-    ensures law { (r : List SnapCall) → world.now.most ≤ 64 → IsAfter tree_places (new_tree world.now.most) world.now r → KeepsSnapshotLaw (tree_bounds world.now.most) r }
+    ensures law { world.now.most ≤ 64 → IsLawfulFrom tree_places (new_tree world.now.most) (tree_bounds world.now.most) world.now }
     ensures distinct { HasDistinctPlaces tree_places world.now }
-    ensures nodes { (r : List SnapCall) → world.now.most ≤ 64 → IsAfter tree_places (new_tree world.now.most) world.now r → IsTree tree_steps (length world.now.participants) world.now.memory.nodes (walks_of (ways_of world.now.participants)) }
+    ensures nodes { IsFromNewTree world.now → KeepsTree world.now }
     ensures ample { (id : ℕ) → LacksOnWay tree_places world.now id }
-    ensures makes { (r : List SnapCall) (id : ℕ) → world.now.most ≤ 64 → IsAfter tree_places (new_tree world.now.most) world.now r → may_lack_memory tree_places world.now id ≡ true → MakesNode world.now id }
+    ensures makes { (id : ℕ) → IsFromNewTree world.now → LacksAtNode world.now id }
     ensures alike { BeginsAlike tree_places }
 {
     let _world = world;

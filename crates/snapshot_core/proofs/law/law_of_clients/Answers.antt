@@ -1,4 +1,4 @@
-use Rattle.snapshot_core.proofs.Clients.{scan_goes, update_goes, update_spent, busy_refused, has_begun, idle_answered, goes_on}
+use Rattle.snapshot_core.proofs.Clients.{has_begun, goes_idle, goes_busy}
 use Rattle.snapshot_core.specs.Places.{KnownPlaces, places_by}
 use Rattle.snapshot_core.proofs.law.law_of_clients.Given.{Over}
 use Rattle.snapshot_core.proofs.law.law_of_clients.Goals as goal
@@ -9,20 +9,8 @@ known g = places_by g.W.Walker.StepProgram.steps g.W.Walker.PlaceWalker.place_of
 pub returns-clause-begun : goal.returns-clause-begun
 returns-clause-begun g c = has_begun (known g)
 
-pub returns-clause-scans : goal.returns-clause-scans
-returns-clause-scans g c = λ w p n h. scan_goes w p n h
-
-pub returns-clause-updates : goal.returns-clause-updates
-returns-clause-updates g c = λ w p n value h l. update_goes w p n h value l
-
-pub returns-clause-spent : goal.returns-clause-spent
-returns-clause-spent g c = λ w p n h l. update_spent w p n h l
-
 pub returns-clause-idle : goal.returns-clause-idle
-returns-clause-idle g c = idle_answered (known g)
+returns-clause-idle g c = goes_idle (known g)
 
 pub returns-clause-busy : goal.returns-clause-busy
-returns-clause-busy g c = λ w p n h. busy_refused w p n h
-
-pub returns-clause-steps : goal.returns-clause-steps
-returns-clause-steps g c = goes_on (known g)
+returns-clause-busy g c = goes_busy (known g)
