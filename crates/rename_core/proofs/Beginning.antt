@@ -29,7 +29,7 @@ use Rattle.rename_core.specs.RenameWorld.{after_wish, begun_snap, has_place, beg
 use Rattle.rename_core.specs.RenameObject.{RenameTerms, RenameObject, no_begin, after}
 use Rattle.rename_core.proofs.Standing.{standing_begun}
 use Rattle.snapshot_core.specs.Standing.{StandsAt}
-use Rattle.snapshot_core.proofs.Clients.{has_begun, update_goes}
+use Rattle.snapshot_core.proofs.Clients.{has_begun, goes_idle}
 use Rattle.rename_core.proofs.Large.{update_large}
 use Rattle.rename_core.proofs.Tied.{IsAtStage, IsCounted, IsTied, Carries, counted_on, stage_on}
 use Rattle.rename_core.proofs.Participants.{distinct_push}
@@ -247,11 +247,11 @@ module _ {S R V U K : Type 0} (W : KnownPlaces S R V U K) (terms : RenameTerms) 
 
       proposes : HasJoined snap2 (first_round true) (with_update (asked_for s1 p (ToUpdate 1)) p)
       proposes = record {
-        tie = (tie_goes snap1 s1 (Updated p 1 (Ok tt)) tie1 (sym (ap done_unless (update_goes snap1 p 0 stands2 1 few).0))).0;
+        tie = (tie_goes snap1 s1 (Updated p 1 (Ok tt)) tie1 (sym (ap done_unless ((goes_idle W snap1 p 0 stands2).update few)))).0;
         most = (update_large snap1 p 1).most ∙ snap1_most;
         many = (update_large snap1 p 1).many ∙ snap1_many;
-        there = ap is_some (update_goes snap1 p 0 stands2 1 few).1.stands.is;
-        who = λ q n. (update_goes snap1 p 0 stands2 1 few).1.others q n ∙ other_there q n;
+        there = ap is_some ((goes_idle W snap1 p 0 stands2).more few 1).stands.is;
+        who = λ q n. ((goes_idle W snap1 p 0 stands2).more few 1).others q n ∙ other_there q n;
         last = refl;
         as_many = refl;
         moment = refl;
@@ -266,7 +266,7 @@ module _ {S R V U K : Type 0} (W : KnownPlaces S R V U K) (terms : RenameTerms) 
           positive = omega arith;
           small = omega arith;
           task = set_at-same (set_at s.task p ToPlace) p (ToUpdate 1);
-          stands = (update_goes snap1 p 0 stands2 1 few).1.stands;
+          stands = ((goes_idle W snap1 p 0 stands2).more few 1).stands;
           phase = set_at-same t.phase p (first_phase bounds) ∙ phase_is true e;
           pace = set_at-same t.steps p 0 ∙ sym (set_at-same (set_at s.steps p 0) p 0);
         };

@@ -23,8 +23,8 @@ use Rattle.rename_core.specs.Pace.{Pace, InTime, paced}
 use Rattle.rename_core.specs.RenameCalls.{next, IsReply}
 use Rattle.rename_core.specs.RenameWorld.{after_follow, rename_answer, after_rename_step, step_refusal, may_lack}
 use Rattle.rename_core.specs.RenameObject.{RenameTerms, RenameObject, no_step, Allows, after}
-use Rattle.snapshot_core.specs.Standing.{GoesOn}
-use Rattle.snapshot_core.proofs.Clients.{goes_on}
+use Rattle.snapshot_core.specs.Standing.{GoesBusy}
+use Rattle.snapshot_core.proofs.Clients.{goes_busy}
 use Rattle.rename_core.proofs.Tied.{IsAtStage, IsTied}
 use Rattle.rename_core.proofs.Stepping.{HasGone, placing_gone, proposing_gone, looking_gone}
 
@@ -79,20 +79,20 @@ module _ {S R V U K : Type 0} (W : KnownPlaces S R V U K) (terms : RenameTerms) 
       refused_goes : (why : Refusal) → lacked_memory {X = Reply} (Err why) ≡ false → stage_refusal v.program.stage ≡ Some why → no_step o p ≡ Some why → Answered
       refused_goes why lacks closed due = conclude (Err why) w (rw (program_is, closed) refl) lacks (rw (program_is, closed) refl) (inl due) tt i
 
-      open_goes : (n : ℕ) → (k : GoesOn W w.snap p n) → stage_refusal v.program.stage ≡ None → no_step o p ≡ None → HasGone W terms bounds Tie tie_goes w o t i p v here (followed v.program p k.reply w.limit) → Answered
+      open_goes : (n : ℕ) → (k : GoesBusy W w.snap p n) → stage_refusal v.program.stage ≡ None → no_step o p ≡ None → HasGone W terms bounds Tie tie_goes w o t i p v here (followed v.program p k.reply w.limit) → Answered
       open_goes n k unclosed none gone =
           conclude (Ok (followed v.program p k.reply w.limit).reply) (after_follow W w p (followed v.program p k.reply w.limit))
           (rw (program_is, unclosed, k.answer) refl) refl (rw (program_is, unclosed, k.answer) refl) (none, gone.allowed) gone.timed gone.tied
 
       stage_goes : (stage : Stage) → v.program.stage ≡ stage → IsAtStage terms o t i.object w.snap p v.program stage → Answered
       stage_goes Placing e h =
-          let k = goes_on W w.snap p 0 h.stands in
+          let k = goes_busy W w.snap p 0 h.stands in
           open_goes 0 k (ap stage_refusal e) (open_step h.going.unnamed h.going.left) (placing_gone W terms bounds Tie tie_goes w o t i p v here h e k)
       stage_goes (Proposing number) e h =
-          let k = goes_on W w.snap p (v.program.count + 1) h.stands in
+          let k = goes_busy W w.snap p (v.program.count + 1) h.stands in
           open_goes (v.program.count + 1) k (ap stage_refusal e) (open_step h.going.unnamed h.going.left) (proposing_gone W terms bounds Tie tie_goes w o t i p v here number h e k)
       stage_goes Looking e h =
-          let k = goes_on W w.snap p v.program.count h.stands in
+          let k = goes_busy W w.snap p v.program.count h.stands in
           open_goes v.program.count k (ap stage_refusal e) (open_step h.going.unnamed h.going.left) (looking_gone W terms bounds Tie tie_goes w o t i p v here h e k)
       stage_goes Settled e h = refused_goes Finished refl (ap stage_refusal e) (named_step (ap is_some h.1))
       stage_goes Over e h = refused_goes IsSpent refl (ap stage_refusal e) (spent_step h.0 h.1)

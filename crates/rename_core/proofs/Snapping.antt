@@ -42,7 +42,7 @@ module _ {S R V U K : Type 0} (W : KnownPlaces S R V U K) (laws : PlacesLaws W) 
   after_more first scanning new fits w o h k is =
       let bounds : SnapBounds = bounds_over W first scanning in
       let more : IsAfter W first (next W w h) (k.calls ++ h ∷ []) = run_more (next W) (IsReply W) (fresh_over W first) k.calls w h k.world is in
-      let law : KeepsSnapshotLaw bounds (k.calls ++ h ∷ []) = law_holds W laws (next W w h) first (k.calls ++ h ∷ []) scanning new fits more in
+      let law : KeepsSnapshotLaw bounds (k.calls ++ h ∷ []) = law_holds W laws (next W w h) first scanning new fits (k.calls ++ h ∷ []) more in
       let l : LastCall observed (Allows bounds) new_object k.calls h law.0 = run_last observed (Allows bounds) new_object k.calls h law.0 law.1 in
       let same : l.mid ≡ o = run_ends observed (Allows bounds) new_object k.calls l.mid o l.run k.object in
       let right : Allows bounds o h = subst (λ (x : SnapObject). Allows bounds x h) same l.right in
