@@ -17,7 +17,7 @@ use Rattle.snapshot_core.specs.Client.{is_idle, first_pending}
 use Rattle.snapshot_core.specs.SnapWorld.{SnapState, beginner_at, after_update}
 use Rattle.snapshot_core.specs.SnapCalls.{SnapCall, next as snap_next, IsReply as IsSnapReply}
 use Rattle.snapshot_core.specs.SnapCalls.SnapCall.{Began as SnapBegan, Updated}
-use Rattle.snapshot_core.specs.Snapshot.{SnapObject, SnapBounds, observed, Allows as SnapAllows, asked_for}
+use Rattle.snapshot_core.specs.Snapshot.{SnapObject, SnapBounds, observed, Allows as SnapAllows, asked_for, with_update}
 use Rattle.snapshot_core.specs.Snapshot.Task.{Placing as ToPlace, Updating as ToUpdate}
 use Rattle.rename_core.specs.declared.round.Round.{Round}
 use Rattle.rename_core.specs.Round.{first_round, first_wish}
@@ -28,7 +28,9 @@ use Rattle.rename_core.specs.Pace.Phase.{ToPlace as ToGo, ToPropose}
 use Rattle.rename_core.specs.RenameWorld.{after_wish, begun_snap, has_place, begun_unless}
 use Rattle.rename_core.specs.RenameObject.{RenameTerms, RenameObject, no_begin, after}
 use Rattle.rename_core.proofs.Standing.{standing_begun}
-use Rattle.rename_core.proofs.Clients.{StandsAt, update_large, update_stands, update_goes, update_others}
+use Rattle.snapshot_core.specs.Standing.{StandsAt}
+use Rattle.snapshot_core.proofs.Clients.{has_begun, goes_idle}
+use Rattle.rename_core.proofs.Large.{update_large}
 use Rattle.rename_core.proofs.Tied.{IsAtStage, IsCounted, IsTied, Carries, counted_on, stage_on}
 use Rattle.rename_core.proofs.Participants.{distinct_push}
 use Rattle.rename_core.proofs.Stepping.{since_kept}
@@ -161,6 +163,7 @@ module _ {S R V U K : Type 0} (W : KnownPlaces S R V U K) (terms : RenameTerms) 
         object = u;
         tie = k.tie;
         as_many = ap (λ (n : ℕ). n + 1) i.as_many ∙ sym k.as_many;
+        same_many = ap (λ (n : ℕ). n + 1) i.same_many;
         limit = i.limit;
         low = i.low;
         high = i.high;
@@ -242,13 +245,13 @@ module _ {S R V U K : Type 0} (W : KnownPlaces S R V U K) (terms : RenameTerms) 
       abbrev snap2 : SnapState S U K
       snap2 = after_update snap1 p 1
 
-      proposes : HasJoined snap2 (first_round true) (asked_for s1 p (ToUpdate 1))
+      proposes : HasJoined snap2 (first_round true) (with_update (asked_for s1 p (ToUpdate 1)) p)
       proposes = record {
-        tie = (tie_goes snap1 s1 (Updated p 1 (Ok tt)) tie1 (sym (ap done_unless (update_goes snap1 p 0 stands2 few)))).0;
+        tie = (tie_goes snap1 s1 (Updated p 1 (Ok tt)) tie1 (sym (ap done_unless ((goes_idle W snap1 p 0 stands2).update few)))).0;
         most = (update_large snap1 p 1).most ∙ snap1_most;
         many = (update_large snap1 p 1).many ∙ snap1_many;
-        there = ap is_some (update_stands snap1 p 0 stands2 1 few).is;
-        who = λ q n. update_others snap1 p 0 stands2 1 few q n ∙ other_there q n;
+        there = ap is_some ((goes_idle W snap1 p 0 stands2).more few 1).stands.is;
+        who = λ q n. ((goes_idle W snap1 p 0 stands2).more few 1).others q n ∙ other_there q n;
         last = refl;
         as_many = refl;
         moment = refl;
@@ -263,7 +266,7 @@ module _ {S R V U K : Type 0} (W : KnownPlaces S R V U K) (terms : RenameTerms) 
           positive = omega arith;
           small = omega arith;
           task = set_at-same (set_at s.task p ToPlace) p (ToUpdate 1);
-          stands = update_stands snap1 p 0 stands2 1 few;
+          stands = ((goes_idle W snap1 p 0 stands2).more few 1).stands;
           phase = set_at-same t.phase p (first_phase bounds) ∙ phase_is true e;
           pace = set_at-same t.steps p 0 ∙ sym (set_at-same (set_at s.steps p 0) p 0);
         };
@@ -273,7 +276,7 @@ module _ {S R V U K : Type 0} (W : KnownPlaces S R V U K) (terms : RenameTerms) 
     joined_goes =
         let P : Bool → Type 0 = λ b. IsTied terms Tie (record { snap = after_wish snap1 p (first_wish b); rounds = w.rounds ++ beginner p (first_round b) ∷ []; limit = w.limit }) o' t' in
         elim (has_place W w p) as (λ b. has_place W w p ≡ b → P b) [
-          | true ↦ λ e. tied_joined (snap2 e) (first_round true) (asked_for s1 p (ToUpdate 1)) (proposes e)
+          | true ↦ λ e. tied_joined (snap2 e) (first_round true) (with_update (asked_for s1 p (ToUpdate 1)) p) (proposes e)
           | false ↦ λ e. tied_joined snap1 (first_round false) s1 (walks_on e)
         ] refl
 

@@ -1,5 +1,5 @@
 -- each call of a renaming world keeps it tied to the object of its law
-use Rattle.std.proofs.Common.{Bool, ◌≡◌, ℕ, ◌+◌, true, false, Option, Some, None, Result, Ok, Err, inl, inr, refl, sym, ap, subst, ◌∙◌}
+use Rattle.std.proofs.Common.{◌≢◌, cond, Bool, ◌≡◌, ℕ, ◌+◌, true, false, Option, Some, None, Result, Ok, Err, inl, inr, refl, sym, ap, subst, ◌∙◌}
 use Rattle.std.specs.Prelude.{is_some, option_map}
 use Rattle.step_memory.specs.declared.participant.Participant.{Participant}
 use Rattle.step_memory.specs.declared.refusal.Refusal.{Refusal}
@@ -11,7 +11,7 @@ use Rattle.snapshot_core.specs.SnapWorld.{SnapState, after_snap_step, may_lack_m
 use Rattle.snapshot_core.specs.SnapCalls.{SnapCall, next as snap_next, IsReply as IsSnapReply}
 use Rattle.snapshot_core.specs.SnapCalls.SnapCall.{Stepped as SnapStepped}
 use Rattle.snapshot_core.specs.Snapshot.Task.{Placing as ToPlace, Scanning as ToScan, Updating as ToUpdate}
-use Rattle.snapshot_core.specs.Snapshot.{SnapObject, SnapBounds, observed, Allows as SnapAllows}
+use Rattle.snapshot_core.specs.Snapshot.{SnapObject, SnapBounds, observed, has_begun, has_nothing_pending, step_due, Allows as SnapAllows}
 use Rattle.rename_core.specs.declared.reply.Reply.{Reply}
 use Rattle.rename_core.specs.declared.round.Round.{Round}
 use Rattle.rename_core.specs.declared.round.Stage.{Stage}
@@ -23,9 +23,17 @@ use Rattle.rename_core.specs.Pace.{Pace, InTime, paced}
 use Rattle.rename_core.specs.RenameCalls.{next, IsReply}
 use Rattle.rename_core.specs.RenameWorld.{after_follow, rename_answer, after_rename_step, step_refusal, may_lack}
 use Rattle.rename_core.specs.RenameObject.{RenameTerms, RenameObject, no_step, Allows, after}
-use Rattle.rename_core.proofs.Clients.{HasStepped, has_stepped}
+use Rattle.snapshot_core.specs.Standing.{GoesBusy}
+use Rattle.snapshot_core.proofs.Clients.{goes_busy}
 use Rattle.rename_core.proofs.Tied.{IsAtStage, IsTied}
 use Rattle.rename_core.proofs.Stepping.{HasGone, placing_gone, proposing_gone, looking_gone}
+
+-- want of memory is never due
+not_due : (bounds : SnapBounds) (s : SnapObject) (p : ℕ) → step_due bounds s p ≢ Some NoMemory
+not_due bounds s p e = elim (has_begun (s.task p)) as (λ a. cond a (cond (has_nothing_pending bounds s p) (Some Finished) None) (Some NotBegun) ≢ Some NoMemory) [
+  | false ↦ λ f. absurd (cc)
+  | true ↦ elim (has_nothing_pending bounds s p) as (λ b. cond b (Some Finished) None ≢ Some NoMemory) [ true ↦ λ f. absurd (cc) | false ↦ λ f. absurd (cc) ]
+] e
 
 module _ {S R V U K : Type 0} (W : KnownPlaces S R V U K) (terms : RenameTerms) (bounds : SnapBounds)
     (Tie : SnapState S U K → SnapObject → Type 0)
@@ -71,20 +79,20 @@ module _ {S R V U K : Type 0} (W : KnownPlaces S R V U K) (terms : RenameTerms) 
       refused_goes : (why : Refusal) → lacked_memory {X = Reply} (Err why) ≡ false → stage_refusal v.program.stage ≡ Some why → no_step o p ≡ Some why → Answered
       refused_goes why lacks closed due = conclude (Err why) w (rw (program_is, closed) refl) lacks (rw (program_is, closed) refl) (inl due) tt i
 
-      open_goes : (n : ℕ) → (k : HasStepped W w.snap p n) → stage_refusal v.program.stage ≡ None → no_step o p ≡ None → HasGone W terms bounds Tie tie_goes w o t i p v here (followed v.program p k.reply w.limit) → Answered
+      open_goes : (n : ℕ) → (k : GoesBusy W w.snap p n) → stage_refusal v.program.stage ≡ None → no_step o p ≡ None → HasGone W terms bounds Tie tie_goes w o t i p v here (followed v.program p k.reply w.limit) → Answered
       open_goes n k unclosed none gone =
           conclude (Ok (followed v.program p k.reply w.limit).reply) (after_follow W w p (followed v.program p k.reply w.limit))
           (rw (program_is, unclosed, k.answer) refl) refl (rw (program_is, unclosed, k.answer) refl) (none, gone.allowed) gone.timed gone.tied
 
       stage_goes : (stage : Stage) → v.program.stage ≡ stage → IsAtStage terms o t i.object w.snap p v.program stage → Answered
       stage_goes Placing e h =
-          let k = has_stepped W w.snap p 0 h.stands in
+          let k = goes_busy W w.snap p 0 h.stands in
           open_goes 0 k (ap stage_refusal e) (open_step h.going.unnamed h.going.left) (placing_gone W terms bounds Tie tie_goes w o t i p v here h e k)
       stage_goes (Proposing number) e h =
-          let k = has_stepped W w.snap p (v.program.count + 1) h.stands in
+          let k = goes_busy W w.snap p (v.program.count + 1) h.stands in
           open_goes (v.program.count + 1) k (ap stage_refusal e) (open_step h.going.unnamed h.going.left) (proposing_gone W terms bounds Tie tie_goes w o t i p v here number h e k)
       stage_goes Looking e h =
-          let k = has_stepped W w.snap p v.program.count h.stands in
+          let k = goes_busy W w.snap p v.program.count h.stands in
           open_goes v.program.count k (ap stage_refusal e) (open_step h.going.unnamed h.going.left) (looking_gone W terms bounds Tie tie_goes w o t i p v here h e k)
       stage_goes Settled e h = refused_goes Finished refl (ap stage_refusal e) (named_step (ap is_some h.1))
       stage_goes Over e h = refused_goes IsSpent refl (ap stage_refusal e) (spent_step h.0 h.1)
@@ -113,10 +121,14 @@ module _ {S R V U K : Type 0} (W : KnownPlaces S R V U K) (terms : RenameTerms) 
       | Some v ↦ λ h. stage_lacks v h v.program.stage (i.stages p v h) (rw h at none) e
     ] refl
 
+    way_of : (s : SnapObject) → SnapAllows bounds s (SnapStepped p (Err NoMemory)) → s.task p ≡ ToPlace
+    way_of s (inl due) = absurd (not_due bounds s p due)
+    way_of s (inr lacks) = lacks.2
+
     pub step_goes : ((s : RenameState S U K) (q : ℕ) → may_lack W s q ≡ true → terms.grows ≡ true) → (reply : Result Reply Refusal) → IsReply W w (Stepped p reply) → Goes w o t (Stepped p reply)
     step_goes grows reply (inl e) = subst (λ (x : Result Reply Refusal). Goes w o t (Stepped p x)) (sym e) answered
     step_goes grows reply (inr e) =
-        let on_way = (tie_goes w.snap i.object (SnapStepped p (Err NoMemory)) i.tie (inr (refl, e.2))).1 refl in
+        let on_way = way_of i.object (tie_goes w.snap i.object (SnapStepped p (Err NoMemory)) i.tie (inr (refl, e.2))).1 in
         let k = lacks e.1 on_way in
         let refused : Goes w o t (Stepped p (Err NoMemory)) = record { allowed = inr (record { is = refl; grows = grows w p e.2; none_due = k.0; unplaced = k.1 }); timed = tt; tied = i } in
         subst (λ (x : Result Reply Refusal). Goes w o t (Stepped p x)) (sym e.0) refused

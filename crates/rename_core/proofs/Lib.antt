@@ -2,7 +2,7 @@ pub mod Numbers
 pub mod Views
 pub mod Participants
 pub mod Standing
-pub mod Clients
+pub mod Large
 pub mod Snapping
 pub mod Tied
 pub mod Stepping
@@ -10,6 +10,8 @@ pub mod Keeping
 pub mod Beginning
 pub mod StepCases
 pub mod Sizes
+pub mod Shown
 pub mod Names
 pub mod NamedPlaces
 pub mod AfterCalls
+pub mod LocalSteps

@@ -1,6 +1,6 @@
 -- every renaming world keeps the law of renaming
-use Rattle.std.proofs.Common.{None, is_some, ◌≡◌, ℕ, ◌+◌, ◌*◌, ◌≤◌, ◌==◌, Bool, true, List, [], ◌∷◌, ◌++◌, Option, Some, inl, inr, refl, sym, ap, ◌∙◌, arith}
-use Rattle.std.specs.Prelude.{option_map}
+use Rattle.std.proofs.Common.{None, is_some, ◌≡◌, ℕ, ◌+◌, ◌*◌, ◌≤◌, ◌==◌, Bool, true, List, [], ◌∷◌, ◌++◌, Option, Some, inl, inr, refl, sym, ap, subst, ◌∙◌, arith}
+use Rattle.std.specs.Prelude.{option_map, option_and_then}
 use Rattle.std.proofs.lemmas.Bool.Decides.{eqb_tells, leb_tells}
 use Rattle.step_memory.specs.Calls.{Call}
 use Rattle.step_memory.specs.Calls.Call.{Began, Stepped}
@@ -9,9 +9,12 @@ use Rattle.step_memory.specs.Participant.{participant_of}
 use Rattle.step_memory.specs.Runs.{Run}
 use Rattle.step_memory.proofs.RunLemmas.{run_more, run_keeps}
 use Rattle.snapshot_core.specs.Places.{PlacesLaws, BoundsScans}
-use Rattle.snapshot_core.specs.SnapWorld.{SnapState}
+use Rattle.snapshot_core.specs.declared.client.Client.{Client}
+use Rattle.snapshot_core.specs.SnapWorld.{SnapState, IsAccessFor}
+use Rattle.snapshot_core.proofs.Following.{own_access_holds}
+use Rattle.rename_core.specs.Locality.{client_of, access_of}
 use Rattle.snapshot_core.specs.SnapCalls.{SnapCall, next as snap_next, IsReply as IsSnapReply}
-use Rattle.snapshot_core.specs.Snapshot.{SnapObject, SnapBounds, observed, Allows as SnapAllows, new_object as new_snap}
+use Rattle.snapshot_core.specs.Snapshot.{IsMoment, SnapObject, SnapBounds, bounds_over, observed, Allows as SnapAllows, new_object as new_snap}
 use Rattle.rename_core.specs.Config.{is_tree}
 use Rattle.rename_core.specs.declared.config.WorldKind.{WorldKind}
 use Rattle.rename_core.specs.declared.reply.Reply.{Reply}
@@ -22,12 +25,13 @@ use Rattle.rename_core.specs.Law.{KeepsRenameLaw}
 use Rattle.rename_core.specs.Pace.{Pace, InTime, new_pace, paced, IsPaced}
 use Rattle.snapshot_core.specs.Places.{KnownPlaces}
 use Rattle.rename_core.specs.RenameCalls.{next, IsReply, IsAfter, terms_of}
-use Rattle.rename_core.specs.RenameObject.{RenameTerms, RenameObject, new_object, IsRecent, Allows, after, IsRun}
+use Rattle.rename_core.specs.RenameObject.{RenameTerms, RenameObject, new_object, IsRecent, Allows, after, IsRun, IsOwner}
 use Rattle.rename_core.specs.RenameState.{RenameState}
-use Rattle.rename_core.specs.RenameWorld.{name_in, name_by, fresh_world, may_lack}
-use Rattle.rename_core.specs.Round.{name_at}
+use Rattle.rename_core.specs.RenameWorld.{name_in, name_by, owner_by, shown_by, fresh_world, may_lack}
+use Rattle.rename_core.specs.Round.{name_at, standing_by}
 use Rattle.rename_core.proofs.Beginning.{begin_goes}
 use Rattle.rename_core.proofs.Keeping.{Goes, step_goes}
+use Rattle.rename_core.proofs.Shown.{standing_of, shown_rising, shown_is, Owns, owner_is}
 use Rattle.rename_core.proofs.Sizes.{most_after}
 use Rattle.rename_core.proofs.Snapping.{run_ends, AreAfter, after_none, after_more}
 use Rattle.rename_core.proofs.Standing.{IsStanding, standing_fresh, same_in, name_small}
@@ -63,7 +67,7 @@ pub record MayBeNamed {S R V U K : Type 0} (W : KnownPlaces S R V U K) (grows : 
 module _ {S R V U K : Type 0} (W : KnownPlaces S R V U K) (terms : RenameTerms) (scanning : ℕ → ℕ) (named : MayBeNamed W terms.grows terms.most scanning)
     (first : S) (new : W.ties.IsNew first) (most : W.most_of first ≡ terms.most) (low : 1 ≤ terms.limit) (high : terms.limit ≤ 1000000) where
   abbrev bounds : SnapBounds
-  bounds = record { placing = W.ties.placing; scanning = scanning }
+  bounds = bounds_over W first scanning
 
   abbrev Tie : SnapState S U K → SnapObject → Type 0
   Tie w o = AreAfter W named.laws bounds first w o
@@ -88,6 +92,7 @@ module _ {S R V U K : Type 0} (W : KnownPlaces S R V U K) (terms : RenameTerms) 
   fresh_tied = record {
     object = new_snap;
     tie = after_none W named.laws bounds first;
+    same_many = refl;
     as_many = refl;
     limit = refl;
     low = low;
@@ -153,14 +158,52 @@ module _ {S R V U K : Type 0} (W : KnownPlaces S R V U K) (terms : RenameTerms) 
       ]) refl in
       now ∙ ap (λ (x : RenameObject). x.name p) same
 
+  -- the identity that is found as the owner of a name has it in the object
+  pub owner_held : (w : RenameState S U K) (r : List (Call Reply)) → Run (next W) (IsReply W) fresh r w → (o : RenameObject) → IsRun terms r o → (n : ℕ) → IsOwner o n (owner_by n w.rounds)
+  owner_held w r a o run n =
+      let k = holds w r a in
+      owned (owner_by n w.rounds) (owner_is n w.rounds k.tied.distinct) where
+        owned : (p : Option ℕ) → Owns (λ q. name_in w q) n p → IsOwner o n p
+        owned None h = λ q e. h q (name_held w r a o run q ∙ e)
+        owned (Some p) h = sym (name_held w r a o run p) ∙ h
+
+  shown_at : (w : RenameState S U K) (o : RenameObject) (t : Pace) (i : Tied w o t) (q : ℕ) → standing_of q w.rounds ≡ o.moment o.last q
+  shown_at w o t i q = (elim (participant_of q w.rounds) as (λ z. participant_of q w.rounds ≡ z → option_and_then standing_by (option_map (λ u. u.program) z) ≡ o.moment o.last q) [
+    | None ↦ λ h. sym (i.standing.absent q o.last (i.absent q h).0 (omega arith))
+    | Some v ↦ λ h. sym (i.counts q v h).now
+  ]) refl
+
+  -- the proposals that the rounds say are the last moment
+  pub shown_held : (w : RenameState S U K) (r : List (Call Reply)) → Run (next W) (IsReply W) fresh r w → (o : RenameObject) → IsRun terms r o → IsMoment (shown_by [] w.rounds) (o.moment o.last)
+  shown_held w r a o run =
+      let k = holds w r a in
+      let same : k.object ≡ o = run_ends after (Allows terms) new_object r k.object o k.run run in
+      record {
+        rising = shown_rising [] w.rounds tt;
+        values = λ q. shown_is q w.rounds k.tied.distinct ∙ shown_at w k.object k.paces.0 k.tied q ∙ ap (λ (x : RenameObject). x.moment x.last q) same;
+      }
+
+  -- its accesses are those of the snapshot object
+  pub own_held : (w : RenameState S U K) (r : List (Call Reply)) → Run (next W) (IsReply W) fresh r w → (p : ℕ) (c : Client U K) → client_of p w ≡ Some c → IsAccessFor W c c.pending (access_of W c)
+  own_held w r a p c h = let k = holds w r a in own_access_holds W named.laws w.snap p first k.tied.tie.calls new k.tied.tie.world c h
+
 -- every world after some calls keeps the law
 module _ {S R V U K : Type 0} (W : KnownPlaces S R V U K) (kind : WorldKind) (scanning : ℕ → ℕ) (w : RenameState S U K) (named : MayBeNamed W (is_tree kind) w.snap.most scanning) (r : List (Call Reply)) (a : IsAfter W w r) where
   -- the world has room for as many as its places have
   most_is : W.most_of a.first ≡ w.snap.most
   most_is = sym (most_after W (fresh_world a.first (W.most_of a.first) w.limit) r w a.run)
 
-  pub rename_law : KeepsRenameLaw (terms_of W kind w) (record { placing = W.ties.placing; scanning = scanning }) r
-  rename_law = law_held W (terms_of W kind w) scanning named a.first a.new most_is a.low a.high w r a.run
+  pub rename_law : KeepsRenameLaw (terms_of W kind w) (record { most = w.snap.most; placing = W.ties.placing; scanning = scanning }) r
+  rename_law = subst (λ (m : ℕ). KeepsRenameLaw (terms_of W kind w) (record { most = m; placing = W.ties.placing; scanning = scanning }) r) most_is (law_held W (terms_of W kind w) scanning named a.first a.new most_is a.low a.high w r a.run)
 
   pub name_law : (o : RenameObject) → IsRun (terms_of W kind w) r o → (p : ℕ) → name_in w p ≡ o.name p
   name_law = name_held W (terms_of W kind w) scanning named a.first a.new most_is a.low a.high w r a.run
+
+  pub owner_law : (o : RenameObject) → IsRun (terms_of W kind w) r o → (n : ℕ) → IsOwner o n (owner_by n w.rounds)
+  owner_law = owner_held W (terms_of W kind w) scanning named a.first a.new most_is a.low a.high w r a.run
+
+  pub shown_law : (o : RenameObject) → IsRun (terms_of W kind w) r o → IsMoment (shown_by [] w.rounds) (o.moment o.last)
+  shown_law = shown_held W (terms_of W kind w) scanning named a.first a.new most_is a.low a.high w r a.run
+
+  pub own_law : (p : ℕ) (c : Client U K) → client_of p w ≡ Some c → IsAccessFor W c c.pending (access_of W c)
+  own_law = own_held W (terms_of W kind w) scanning named a.first a.new most_is a.low a.high w r a.run

@@ -5,7 +5,7 @@ use Rattle.step_memory.proofs.RunLemmas.{run_more}
 use Rattle.snapshot_core.specs.Places.{KnownPlaces, PlacesLaws, BoundsScans}
 use Rattle.snapshot_core.specs.SnapWorld.{SnapState}
 use Rattle.snapshot_core.specs.SnapCalls.{SnapCall, fresh_over, next, IsReply, IsAfter}
-use Rattle.snapshot_core.specs.Snapshot.{SnapObject, SnapBounds, new_object, observed, Allows, KeepsSnapshotLaw}
+use Rattle.snapshot_core.specs.Snapshot.{SnapObject, SnapBounds, bounds_over, new_object, observed, Allows, KeepsSnapshotLaw}
 use Rattle.snapshot_core.proofs.Following.{law_holds}
 
 module _ {S H : Type 0} (next : S → H → S) (Right : S → H → Type 0) where
@@ -37,13 +37,12 @@ module _ {S R V U K : Type 0} (W : KnownPlaces S R V U K) (laws : PlacesLaws W) 
 
   -- one more call: the object allows it
   pub after_more : (first : S) (scanning : ℕ → ℕ) → W.ties.IsNew first → BoundsScans W (W.most_of first) scanning → (w : SnapState S U K) (o : SnapObject) (h : SnapCall) →
-      AreAfter (record { placing = W.ties.placing; scanning = scanning }) first w o → IsReply W w h →
-      AreAfter (record { placing = W.ties.placing; scanning = scanning }) first (next W w h) (observed o h) × Allows (record { placing = W.ties.placing; scanning = scanning }) o h
+      AreAfter (bounds_over W first scanning) first w o → IsReply W w h →
+      AreAfter (bounds_over W first scanning) first (next W w h) (observed o h) × Allows (bounds_over W first scanning) o h
   after_more first scanning new fits w o h k is =
-      let bounds : SnapBounds = record { placing = W.ties.placing; scanning = scanning } in
-      let more : IsAfter W first (next W w h) (k.calls ++ h ∷ []) =
-      run_more (next W) (IsReply W) (fresh_over W first) k.calls w h k.world is in
-      let law : KeepsSnapshotLaw bounds (k.calls ++ h ∷ []) = law_holds W laws (next W w h) first (k.calls ++ h ∷ []) scanning new fits more in
+      let bounds : SnapBounds = bounds_over W first scanning in
+      let more : IsAfter W first (next W w h) (k.calls ++ h ∷ []) = run_more (next W) (IsReply W) (fresh_over W first) k.calls w h k.world is in
+      let law : KeepsSnapshotLaw bounds (k.calls ++ h ∷ []) = law_holds W laws (next W w h) first scanning new fits (k.calls ++ h ∷ []) more in
       let l : LastCall observed (Allows bounds) new_object k.calls h law.0 = run_last observed (Allows bounds) new_object k.calls h law.0 law.1 in
       let same : l.mid ≡ o = run_ends observed (Allows bounds) new_object k.calls l.mid o l.run k.object in
       let right : Allows bounds o h = subst (λ (x : SnapObject). Allows bounds x h) same l.right in

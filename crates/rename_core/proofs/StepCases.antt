@@ -16,7 +16,7 @@ use Rattle.snapshot_core.specs.Places.{KnownPlaces}
 use Rattle.rename_core.specs.RenameWorld.{name_in, after_wish, snap_step, snap_told, after_follow, begun_snap, rename_answer, after_rename_step, step_refusal}
 use Rattle.rename_core.specs.declared.round.Wish.{Wish}
 use Rattle.rename_core.specs.declared.round.Wish.TheVariants.{Nothing, Update, Scan}
-use Rattle.rename_core.proofs.Clients.{IsAsLarge, scan_large, update_large, snap_large}
+use Rattle.rename_core.proofs.Large.{IsAsLarge, scan_large, update_large, snap_large}
 
 pub wish_large : {S U K : Type 0} (w : SnapState S U K) (p : ℕ) (wish : Wish) → IsAsLarge w (after_wish w p wish)
 wish_large w p Nothing = record { most = refl; many = refl }

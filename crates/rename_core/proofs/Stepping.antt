@@ -15,7 +15,7 @@ use Rattle.snapshot_core.specs.declared.client.SnapReply.TheVariants.{Quiet as S
 use Rattle.snapshot_core.specs.SnapWorld.{SnapState, after_scan, after_update, snap_answer, after_snap_step}
 use Rattle.snapshot_core.specs.SnapCalls.{SnapCall, next as snap_next, IsReply as IsSnapReply}
 use Rattle.snapshot_core.specs.SnapCalls.SnapCall.{Updated, Scanned, Stepped as SnapStepped}
-use Rattle.snapshot_core.specs.Snapshot.{most_steps as snap_most, SnapObject, SnapBounds, Task, observed, Allows as SnapAllows, AllowsStep as SnapAllowsStep, since_of, stepped_to, asked_for, ShowsMoment, value_written, observed_step}
+use Rattle.snapshot_core.specs.Snapshot.{most_steps as snap_most, SnapObject, SnapBounds, Task, observed, Allows as SnapAllows, AllowsStep as SnapAllowsStep, since_of, stepped_to, asked_for, with_update, ShowsMoment, value_written, observed_step}
 use Rattle.snapshot_core.specs.Snapshot.Task.{Placing as ToPlace, Scanning as ToScan, Updating as ToUpdate, Idle}
 use Rattle.rename_core.specs.declared.reply.Reply.TheVariants.{Saw, Quiet, Placed, Proposed, Named, Spent}
 use Rattle.rename_core.specs.declared.round.Round.{Round}
@@ -31,8 +31,10 @@ use Rattle.rename_core.specs.RenameObject.{RenameTerms, RenameObject, IsRecent, 
 use Rattle.rename_core.specs.Pace.{Phase, Pace, IsStepOf, IsInTime, most_steps, paced_step}
 use Rattle.rename_core.specs.Pace.Phase.{ToPlace as ToGo, ToPropose, ToLook, AtEnd}
 use Rattle.rename_core.proofs.Standing.{nobody_has, standing_elsewhere, name_small, standing_named, standing_proposed}
-use Rattle.rename_core.proofs.Clients.{StandsAt, IsAsLarge, HasStepped, snap_large, scan_large, update_large, scan_stands, scan_goes, scan_others, update_stands, update_goes, update_others, is_silent}
-use Rattle.rename_core.proofs.Views.{taken_by, taken_not, view_small}
+use Rattle.snapshot_core.specs.Standing.{StandsAt, ComesTo, GoesBusy, is_quiet}
+use Rattle.snapshot_core.proofs.Clients.{goes_idle}
+use Rattle.rename_core.proofs.Large.{IsAsLarge, snap_large, scan_large, update_large}
+use Rattle.rename_core.proofs.Views.{taken_by, taken_not}
 use Rattle.rename_core.proofs.Numbers.{next_small}
 use Rattle.rename_core.proofs.Tied.{IsPlacing, IsProposing, IsLooking, IsAtStage, IsCounted, Carries, IsTied, tied_next}
 
@@ -83,7 +85,7 @@ module _ {S R V U K : Type 0} (W : KnownPlaces S R V U K) (terms : RenameTerms) 
   counted = i.counts p v here
 
   -- p has made another step, and has this to do
-  module _ (reply : SnapReply) (n : ℕ) (answer : snap_told W w p ≡ Ok reply) (stands : StandsAt snap' p (not (is_silent reply)) n) (others : (q : ℕ) → q ≢ p → participant_of q snap'.participants ≡ participant_of q w.snap.participants) where
+  module _ (reply : SnapReply) (n : ℕ) (answer : snap_told W w p ≡ Ok reply) (stands : StandsAt snap' p (not (is_quiet reply)) n) (others : (q : ℕ) → q ≢ p → participant_of q snap'.participants ≡ participant_of q w.snap.participants) where
     abbrev s1 : SnapObject
     s1 = observed_step s p reply
 
@@ -186,22 +188,22 @@ module _ {S R V U K : Type 0} (W : KnownPlaces S R V U K) (terms : RenameTerms) 
   -- asked for an update, with these moments
   module _ (reply : SnapReply) (n value : ℕ) (answer : snap_told W w p ≡ Ok reply) (stands : StandsAt snap' p true n) (others : (q : ℕ) → q ≢ p → participant_of q snap'.participants ≡ participant_of q w.snap.participants) (few : n < 1000000) where
     abbrev update_s : SnapObject
-    update_s = asked_for (observed_step s p reply) p (ToUpdate value)
+    update_s = with_update (asked_for (observed_step s p reply) p (ToUpdate value)) p
 
     abbrev update_w : SnapState S U K
     update_w = after_update snap' p value
 
     tie_updated : Tie snap' (observed_step s p reply) → Tie update_w update_s
-    tie_updated k = (tie_goes snap' (observed_step s p reply) (Updated p value (Ok tt)) k (sym (ap done_unless (update_goes snap' p n stands few)))).0
+    tie_updated k = (tie_goes snap' (observed_step s p reply) (Updated p value (Ok tt)) k (sym (ap done_unless ((goes_idle W snap' p n stands).update few)))).0
 
     update_who : (q : ℕ) → q ≢ p → participant_of q update_w.participants ≡ participant_of q w.snap.participants
-    update_who q k = update_others snap' p n stands value few q k ∙ others q k
+    update_who q k = ((goes_idle W snap' p n stands).more few value).others q k ∙ others q k
 
     update_size : IsAsLarge w.snap update_w
     update_size = both_large w.snap snap' update_w (snap_large W w.snap p) (update_large snap' p value)
 
     update_there : is_some (participant_of p update_w.participants) ≡ true
-    update_there = ap is_some (update_stands snap' p n stands value few).is
+    update_there = ap is_some ((goes_idle W snap' p n stands).more few value).stands.is
 
     update_task : update_s.task p ≡ ToUpdate value
     update_task = set_at-same (observed_step s p reply).task p (ToUpdate value)
@@ -215,7 +217,7 @@ module _ {S R V U K : Type 0} (W : KnownPlaces S R V U K) (terms : RenameTerms) 
     placed_few = omega arith
 
     abbrev placed_s : SnapObject
-    placed_s = asked_for (observed_step s p (HasPlace x)) p (ToUpdate 1)
+    placed_s = with_update (asked_for (observed_step s p (HasPlace x)) p (ToUpdate 1)) p
 
     abbrev placed_w : SnapState S U K
     placed_w = update_w (HasPlace x) 0 1 answer stands others placed_few
@@ -258,7 +260,7 @@ module _ {S R V U K : Type 0} (W : KnownPlaces S R V U K) (terms : RenameTerms) 
               positive = omega arith;
               small = (let b = many_some in omega arith);
               task = update_task (HasPlace x) 0 1 answer stands others placed_few;
-              stands = subst (λ (m : ℕ). StandsAt placed_w p false (m + 1)) (sym h.none) (update_stands snap' p 0 stands 1 placed_few);
+              stands = subst (λ (m : ℕ). StandsAt placed_w p false (m + 1)) (sym h.none) ((goes_idle W snap' p 0 stands).more placed_few 1).stands;
               phase = set_at-same t.phase p ToPropose;
               pace = set_at-same t.steps p 0 ∙ sym (set_at-same (set_at s.steps p (s.steps p + 1)) p 0);
             };
@@ -283,7 +285,7 @@ module _ {S R V U K : Type 0} (W : KnownPlaces S R V U K) (terms : RenameTerms) 
     written_r = record { count = r.count + 1; proposal = number; stage = Looking }
 
     written_tie : Tie written_w written_s
-    written_tie = (tie_goes snap' (observed_step s p Written) (Scanned p (Ok tt)) (tie_goes w.snap s (SnapStepped p (Ok Written)) i.tie (inl (sym answer))).0 (sym (ap done_unless (scan_goes snap' p (r.count + 1) stands)))).0
+    written_tie = (tie_goes snap' (observed_step s p Written) (Scanned p (Ok tt)) (tie_goes w.snap s (SnapStepped p (Ok Written)) i.tie (inl (sym answer))).0 (sym (ap done_unless (goes_idle W snap' p (r.count + 1) stands).scan))).0
 
     may : MayPropose terms o p number
     may = record { positive = h.positive; small = h.small; rounds = (let a = h.rounds in let b = counted.count in omega arith) }
@@ -323,7 +325,7 @@ module _ {S R V U K : Type 0} (W : KnownPlaces S R V U K) (terms : RenameTerms) 
         many = refl;
         begun = refl;
         large = both_large w.snap snap' written_w (snap_large W w.snap p) (scan_large snap' p);
-        there = ap is_some (scan_stands snap' p (r.count + 1) stands).is;
+        there = ap is_some (goes_idle W snap' p (r.count + 1) stands).scans.stands.is;
         last = ap (λ (m : ℕ). m + 1) i.last;
         moment = written_moment;
         place = i.place;
@@ -333,7 +335,7 @@ module _ {S R V U K : Type 0} (W : KnownPlaces S R V U K) (terms : RenameTerms) 
           steps = λ q n. set_at-other (set_at s.steps p (s.steps p + 1)) p 0 q n ∙ set_at-other s.steps p (s.steps p + 1) q n;
           since = λ q n. set_at-other (set_at s.since p (since_of s p)) p 0 q n ∙ set_at-other s.since p (since_of s p) q n;
           last = omega arith;
-          who = λ q n. scan_others snap' p (r.count + 1) stands q n ∙ others q n;
+          who = λ q n. (goes_idle W snap' p (r.count + 1) stands).scans.others q n ∙ others q n;
         }) (omega arith) q n refl refl refl (set_at-other o.count p (o.count p + 1) q n) (set_at-other o.since p (o.last + 1) q n) (ap (λ (f : ℕ → Option ℕ). f q) written_now ∙ set_at-other (o.moment o.last) p (Some number) q n) (set_at-other t.phase p ToLook q n) (set_at-other t.steps p 0 q n);
         count = written_count;
         own = record {
@@ -347,7 +349,7 @@ module _ {S R V U K : Type 0} (W : KnownPlaces S R V U K) (terms : RenameTerms) 
               let c : since_of written_s p ≡ s.last + 1 = rw b refl in
               let d = i.last in
               omega arith);
-          stands = scan_stands snap' p (r.count + 1) stands;
+          stands = (goes_idle W snap' p (r.count + 1) stands).scans.stands;
           phase = set_at-same t.phase p ToLook;
           pace = set_at-same t.steps p 0 ∙ sym (set_at-same (set_at s.steps p (s.steps p + 1)) p 0);
         };
@@ -472,10 +474,7 @@ module _ {S R V U K : Type 0} (W : KnownPlaces S R V U K) (terms : RenameTerms) 
       few_updates = let a = i.high in let b = more in omega arith
 
       pairs : length view ≤ o.many
-      pairs =
-          let k = view_small view w.rounds shows.is.rising (λ q n e. sym (i.begun q) ∙ i.standing.begun q shows.index n recent.no_later (sym (value_is q) ∙ e)) in
-          let a = i.many in
-          omega arith
+      pairs = let a = shows.few in let b = i.as_many in let c = i.same_many in omega arith
 
       abbrev number : ℕ
       number = next_proposal p view
@@ -522,7 +521,7 @@ module _ {S R V U K : Type 0} (W : KnownPlaces S R V U K) (terms : RenameTerms) 
             positive = next_is.0;
             small = (let a = next_is.1 in let b = pairs in omega arith);
             task = update_task (Viewed view) r.count number answer stands others few_updates;
-            stands = update_stands snap' p r.count stands number few_updates;
+            stands = ((goes_idle W snap' p r.count stands).more few_updates number).stands;
             phase = set_at-same t.phase p ToPropose;
             pace = set_at-same t.steps p 0 ∙ sym (set_at-same (set_at s.steps p (s.steps p + 1)) p 0);
           };
@@ -550,25 +549,25 @@ module _ {S R V U K : Type 0} (W : KnownPlaces S R V U K) (terms : RenameTerms) 
   abbrev Others : Type 0
   Others = (q : ℕ) → q ≢ p → participant_of q snap'.participants ≡ participant_of q w.snap.participants
 
-  pub placing_gone : IsPlacing o t s w.snap p r → r.stage ≡ Placing → (k : HasStepped W w.snap p 0) → HasGone (followed r p k.reply w.limit)
-  placing_gone h stage k = gone k.reply k.answer k.stands k.others where
-    gone : (reply : SnapReply) → snap_told W w p ≡ Ok reply → StandsAt snap' p (not (is_silent reply)) 0 → Others → HasGone (followed r p reply w.limit)
+  pub placing_gone : IsPlacing o t s w.snap p r → r.stage ≡ Placing → (k : GoesBusy W w.snap p 0) → HasGone (followed r p k.reply w.limit)
+  placing_gone h stage k = gone k.reply k.answer k.comes.stands k.comes.others where
+    gone : (reply : SnapReply) → snap_told W w p ≡ Ok reply → StandsAt snap' p (not (is_quiet reply)) 0 → Others → HasGone (followed r p reply w.limit)
     gone Silent answer stands others = quiet_gone 0 answer stands others (goes_on ToGo ToPlace h.phase h.task h.pace refl (tie_stepped Silent 0 answer stands others).1) (subst AtQuiet (sym stage) (record { going = h.going; none = h.none; unplaced = h.unplaced; task = quiet_task 0 answer stands others ∙ h.task; stands = stands; phase = h.phase; pace = quiet_pace h.pace }))
     gone (HasPlace x) answer stands others = placed_gone x answer stands others h
     gone Written answer stands others = absurd (rw h.task at (tie_stepped Written 0 answer stands others).1.0)
     gone (Viewed view) answer stands others = absurd (let e : ToPlace ≡ ToScan = sym h.task ∙ (tie_stepped (Viewed view) 0 answer stands others).1.0 in cc)
 
-  pub proposing_gone : (number : ℕ) → IsProposing terms o t s w.snap p number r → r.stage ≡ Proposing number → (k : HasStepped W w.snap p (r.count + 1)) → HasGone (followed r p k.reply w.limit)
-  proposing_gone number h stage k = gone k.reply k.answer k.stands k.others where
-    gone : (reply : SnapReply) → snap_told W w p ≡ Ok reply → StandsAt snap' p (not (is_silent reply)) (r.count + 1) → Others → HasGone (followed r p reply w.limit)
+  pub proposing_gone : (number : ℕ) → IsProposing terms o t s w.snap p number r → r.stage ≡ Proposing number → (k : GoesBusy W w.snap p (r.count + 1)) → HasGone (followed r p k.reply w.limit)
+  proposing_gone number h stage k = gone k.reply k.answer k.comes.stands k.comes.others where
+    gone : (reply : SnapReply) → snap_told W w p ≡ Ok reply → StandsAt snap' p (not (is_quiet reply)) (r.count + 1) → Others → HasGone (followed r p reply w.limit)
     gone Silent answer stands others = quiet_gone (r.count + 1) answer stands others (goes_on ToPropose (ToUpdate number) h.phase h.task h.pace refl (tie_stepped Silent (r.count + 1) answer stands others).1) (subst AtQuiet (sym stage) (record { going = h.going; rounds = h.rounds; positive = h.positive; small = h.small; task = quiet_task (r.count + 1) answer stands others ∙ h.task; stands = stands; phase = h.phase; pace = quiet_pace h.pace }))
     gone (HasPlace x) answer stands others = absurd (let e : ToUpdate number ≡ ToPlace = sym h.task ∙ (tie_stepped (HasPlace x) (r.count + 1) answer stands others).1.0 in cc)
     gone Written answer stands others = written_gone number answer stands others h stage
     gone (Viewed view) answer stands others = absurd (let e : ToUpdate number ≡ ToScan = sym h.task ∙ (tie_stepped (Viewed view) (r.count + 1) answer stands others).1.0 in cc)
 
-  pub looking_gone : IsLooking terms o t s w.snap p r → r.stage ≡ Looking → (k : HasStepped W w.snap p r.count) → HasGone (followed r p k.reply w.limit)
-  looking_gone h stage k = gone k.reply k.answer k.stands k.others where
-    gone : (reply : SnapReply) → snap_told W w p ≡ Ok reply → StandsAt snap' p (not (is_silent reply)) r.count → Others → HasGone (followed r p reply w.limit)
+  pub looking_gone : IsLooking terms o t s w.snap p r → r.stage ≡ Looking → (k : GoesBusy W w.snap p r.count) → HasGone (followed r p k.reply w.limit)
+  looking_gone h stage k = gone k.reply k.answer k.comes.stands k.comes.others where
+    gone : (reply : SnapReply) → snap_told W w p ≡ Ok reply → StandsAt snap' p (not (is_quiet reply)) r.count → Others → HasGone (followed r p reply w.limit)
     gone Silent answer stands others = quiet_gone r.count answer stands others (goes_on ToLook ToScan h.phase h.task h.pace refl (tie_stepped Silent r.count answer stands others).1) (subst AtQuiet (sym stage) (record { going = h.going; some = h.some; rounds = h.rounds; task = quiet_task r.count answer stands others ∙ h.task; later = (let a = h.later in let b = quiet_since r.count answer stands others in omega arith); stands = stands; phase = h.phase; pace = quiet_pace h.pace }))
     gone (HasPlace x) answer stands others = absurd (let e : ToScan ≡ ToPlace = sym h.task ∙ (tie_stepped (HasPlace x) r.count answer stands others).1.0 in cc)
     gone Written answer stands others = absurd (rw h.task at (tie_stepped Written r.count answer stands others).1.0)

@@ -19,7 +19,8 @@ use Rattle.rename_core.specs.RenameObject.{RenameTerms, RenameObject}
 use Rattle.rename_core.specs.RenameState.{RenameState}
 use Rattle.rename_core.specs.RenameWorld.{world_with}
 use Rattle.rename_core.specs.Round.{standing_by}
-use Rattle.rename_core.proofs.Clients.{StandsAt, IsAsLarge}
+use Rattle.snapshot_core.specs.Standing.{StandsAt}
+use Rattle.rename_core.proofs.Large.{IsAsLarge}
 use Rattle.rename_core.proofs.Participants.{AreDistinct, distinct_put}
 use Rattle.rename_core.proofs.Standing.{IsStanding}
 
@@ -107,6 +108,7 @@ pub record IsTied {S U K : Type 0} (terms : RenameTerms) (Tie : SnapState S U K 
   pub object : SnapObject
   pub tie : Tie w.snap object
   pub as_many : t.begun ≡ object.begun
+  pub same_many : o.many ≡ t.begun
   pub limit : terms.limit ≡ w.limit
   pub low : 1 ≤ w.limit
   pub high : w.limit ≤ 1000000
@@ -170,6 +172,7 @@ module _ {S U K : Type 0} (terms : RenameTerms) (Tie : SnapState S U K → SnapO
       object = s';
       tie = k.tie;
       as_many = k.as_many ∙ i.as_many ∙ sym k.snap_many;
+      same_many = k.many ∙ i.same_many ∙ sym k.as_many;
       limit = i.limit;
       low = i.low;
       high = i.high;

@@ -8,4 +8,5 @@ pub mod Round
 pub mod RenameState
 pub mod RenameWorld
 pub mod RenameCalls
+pub mod Locality
 pub mod FixedLaws

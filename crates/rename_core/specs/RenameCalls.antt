@@ -1,14 +1,17 @@
 -- the calls of a renaming world with their replies, the machine that they run on, and what is said of it after them
-use Rattle.std.specs.Prelude.{◌≡◌, ℕ, ◌+◌, ◌*◌, ◌≤◌, true, if◌then◌else◌, ◌⊎◌, List, [], ◌∷◌, ◌++◌, None, Err}
+use Rattle.std.specs.Prelude.{◌≡◌, ℕ, ◌+◌, ◌*◌, ◌≤◌, true, if◌then◌else◌, ◌⊎◌, List, [], ◌∷◌, ◌++◌, Some, None, Err}
 use Rattle.step_memory.specs.declared.refusal.Refusal.TheVariants.{NoMemory}
 use Rattle.step_memory.specs.World.{begin_refusal, done_unless}
 use Rattle.step_memory.specs.Calls.{Call, lacked_memory}
 use Rattle.step_memory.specs.Calls.Call.{Began, Stepped}
 use Rattle.step_memory.specs.Runs.{Run}
+use Rattle.snapshot_core.specs.declared.client.Client.{Client}
 use Rattle.snapshot_core.specs.Snapshot.{SnapBounds}
+use Rattle.snapshot_core.specs.SnapWorld.{IsAccessFor}
 use Rattle.rename_core.specs.declared.config.WorldKind.{WorldKind}
 use Rattle.rename_core.specs.declared.reply.Reply.{Reply}
 use Rattle.rename_core.specs.Config.{is_tree}
+use Rattle.rename_core.specs.Locality.{client_of, round_of, access_of}
 use Rattle.rename_core.specs.Law.{KeepsRenameLaw}
 use Rattle.snapshot_core.specs.Places.{KnownPlaces}
 use Rattle.rename_core.specs.RenameObject.{RenameTerms}
@@ -47,8 +50,17 @@ module _ {S R V U K : Type 0} (W : KnownPlaces S R V U K) where
 
   -- where b have begun, of whom walks over the segments make so many reads, a scan makes at most b + 1 collects
   abbrev pub bounds_of : RenameState S U K → SnapBounds
-  bounds_of w = record { placing = W.ties.placing; scanning = λ b. (b + 1) * W.ties.reads w.snap.most b }
+  bounds_of w = record { most = w.snap.most; placing = W.ties.placing; scanning = λ b. (b + 1) * W.ties.reads w.snap.most b }
 
   -- every list of calls that leads to this world keeps the law, where the places serve that kind of world
   abbrev pub IsLawful : WorldKind → RenameState S U K → Type 0
   IsLawful kind w = (r : List (Call Reply)) → IsAfter w r → KeepsRenameLaw (terms_of kind w) (bounds_of w) r
+
+  -- after every list of calls, p's next access is one for what it has to do
+  abbrev pub MakesOwnAccess : RenameState S U K → ℕ → Type 0
+  MakesOwnAccess w p = (r : List (Call Reply)) → IsAfter w r → (c : Client U K) → client_of p w ≡ Some c → IsAccessFor W c c.pending (access_of W c)
+
+  -- after every two lists of calls, where worlds are of one size, p would begin as the same
+  abbrev pub BeginsTheSame : ℕ → Type 0
+  BeginsTheSame p = (w x : RenameState S U K) (r s : List (Call Reply)) → IsAfter w r → IsAfter x s → w.snap.most ≡ x.snap.most →
+      begin_refusal w.snap p ≡ None → begin_refusal x.snap p ≡ None → (client_of p (after_rename_begin W w p) ≡ client_of p (after_rename_begin W x p)) × (round_of p (after_rename_begin W w p) ≡ round_of p (after_rename_begin W x p))

@@ -165,3 +165,8 @@ after o (Stepped p (Err why)) = o
 -- the new object may answer these calls so, in order, and is then in that state
 abbrev pub IsRun : RenameTerms → List (Call Reply) → RenameObject → Type 0
 IsRun terms r o = Run after (Allows terms) new_object r o
+
+-- who has the name n, or that no one has
+abbrev pub IsOwner : RenameObject → ℕ → Option ℕ → Type 0
+IsOwner o n None = (p : ℕ) → o.name p ≢ Some n
+IsOwner o n (Some p) = o.name p ≡ Some n

@@ -1,9 +1,10 @@
 -- what the calls of a renaming world answer and leave
-use Rattle.std.specs.Prelude.{ℕ, [], ◌∷◌, ◌++◌, Bool, Option, Some, None, Result, Ok, Err, is_some, List}
+use Rattle.std.specs.Prelude.{ℕ, if◌then◌else◌, [], ◌∷◌, ◌++◌, Bool, Option, Some, None, Result, Ok, Err, is_some, List}
 use Rattle.step_memory.specs.declared.participant.Participant.{Participant}
 use Rattle.step_memory.specs.declared.refusal.Refusal.{Refusal}
 use Rattle.step_memory.specs.declared.refusal.Refusal.TheVariants.{NotBegun}
 use Rattle.step_memory.specs.Participant.{program_of, with_participant, beginner}
+use Rattle.step_memory.specs.View.{inserted}
 use Rattle.step_memory.specs.World.{begin_refusal}
 use Rattle.snapshot_core.specs.declared.client.SnapReply.{SnapReply}
 use Rattle.snapshot_core.specs.SnapWorld.{SnapState, place_in, after_snap_begin, after_update, after_scan, snap_answer, after_snap_step, may_lack_memory}
@@ -14,7 +15,7 @@ use Rattle.rename_core.specs.declared.round.Wish.{Wish}
 use Rattle.rename_core.specs.declared.round.Wish.TheVariants.{Nothing, Update, Scan}
 use Rattle.snapshot_core.specs.Places.{KnownPlaces}
 use Rattle.rename_core.specs.RenameState.{RenameState}
-use Rattle.rename_core.specs.Round.{stage_refusal, name_at, followed, first_round, first_wish}
+use Rattle.rename_core.specs.Round.{stage_refusal, name_at, has_name, standing_by, followed, first_round, first_wish}
 
 -- what the snapshot object is asked for, with no access
 abbrev pub after_wish : {S U K : Type 0} → SnapState S U K → ℕ → Wish → SnapState S U K
@@ -29,6 +30,21 @@ refusal_by (Some r) = stage_refusal r.stage
 abbrev pub name_by : Option Round → Option ℕ
 name_by None = None
 name_by (Some r) = name_at r.stage r.proposal
+
+-- who has a name, by the rounds
+abbrev pub owner_by : ℕ → List (Participant Round) → Option ℕ
+owner_by n [] = None
+owner_by n (v ∷ vs) = if has_name v.program.stage v.program.proposal n then Some v.identity else owner_by n vs
+
+-- a view with the proposal of one more
+abbrev pub shown_with : List (ℕ × ℕ) → ℕ → Option ℕ → List (ℕ × ℕ)
+shown_with view id None = view
+shown_with view id (Some number) = inserted view (id, number)
+
+-- and with those of all of them
+abbrev pub shown_by : List (ℕ × ℕ) → List (Participant Round) → List (ℕ × ℕ)
+shown_by view [] = view
+shown_by view (v ∷ vs) = shown_by (shown_with view v.identity (standing_by v.program)) vs
 
 module _ {S U K : Type 0} where
   -- why a step is refused before it asks the snapshot object

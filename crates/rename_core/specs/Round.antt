@@ -1,5 +1,5 @@
 -- what follows a step of the snapshot object
-use Rattle.std.specs.Prelude.{ℕ, ◌+◌, Bool, ◌==◌, nat_le, nat_lt, if◌then◌else◌, List, Option, Some, None}
+use Rattle.std.specs.Prelude.{ℕ, ◌+◌, Bool, false, ◌==◌, nat_le, nat_lt, if◌then◌else◌, List, Option, Some, None}
 use Rattle.step_memory.specs.declared.refusal.Refusal.{Refusal}
 use Rattle.step_memory.specs.declared.refusal.Refusal.TheVariants.{Finished, Spent as IsSpent}
 use Rattle.snapshot_core.specs.declared.client.SnapReply.{SnapReply}
@@ -36,6 +36,14 @@ name_at (Proposing number) proposal = None
 name_at Looking proposal = None
 name_at Settled proposal = Some proposal
 name_at Over proposal = None
+
+-- whether it has ended with this name
+abbrev pub has_name : Stage → ℕ → ℕ → Bool
+has_name Placing proposal number = false
+has_name (Proposing next) proposal number = false
+has_name Looking proposal number = false
+has_name Settled proposal number = proposal == number
+has_name Over proposal number = false
 
 -- the proposal that stands in the memory
 abbrev pub standing_by : Round → Option ℕ

@@ -1,7 +1,7 @@
 //! Rounds of proposals.
 
 ghost use Rattle.std.specs.Prelude.{◌≡◌, ◌<◌};
-ghost use Rattle.rename_core.specs.Round.{name_at, number_of, standing_by, at_stage, written_round, followed, decided, stage_refusal, first_round, first_wish};
+ghost use Rattle.rename_core.specs.Round.{name_at, has_name, number_of, standing_by, at_stage, written_round, followed, decided, stage_refusal, first_round, first_wish};
 
 use crate::proposal::{is_taken, next_proposal};
 use crate::reply::Reply;
@@ -123,6 +123,19 @@ impl Round {
             Stage::Looking => None,
             Stage::Settled => Some(self.proposal),
             Stage::Over => None,
+        }
+    }
+
+    /// Whether the round has ended with this name.
+    pub fn has_name(&self, number: u64) -> bool
+        ensures { result ≡ has_name self.now.stage self.now.proposal number }
+    {
+        match self.stage {
+            Stage::Placing => false,
+            Stage::Proposing(_) => false,
+            Stage::Looking => false,
+            Stage::Settled => self.proposal == number,
+            Stage::Over => false,
         }
     }
 

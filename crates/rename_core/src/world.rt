@@ -1,14 +1,17 @@
 //! A renaming world, taken step by step.
 
-ghost use Rattle.std.specs.Prelude.{◌≡◌, ◌≢◌, ℕ, [], ◌∷◌, ◌++◌, List, IfOk, IfErr, OnErr, Err, true, false, None, ◌⊎◌, ◌↔◌};
+ghost use Rattle.std.specs.Prelude.{◌≡◌, ◌≢◌, ℕ, [], ◌∷◌, ◌++◌, List, IfOk, IfErr, OnErr, Err, true, false, None, ◌⊎◌, ◌↔◌, ◌<◌, length};
 ghost use Rattle.step_memory.specs.Participant.{index_of};
 ghost use Rattle.step_memory.specs.World.{begin_refusal, done_unless};
 ghost use Rattle.step_memory.specs.Calls.{Call};
 ghost use Rattle.step_memory.specs.Calls.Call.{Began, Stepped};
 ghost use Rattle.rename_core.specs.Config.{is_played_over};
-ghost use Rattle.rename_core.specs.RenameCalls.{IsAfter, LeadsOn, IsLawful, terms_of};
-ghost use Rattle.rename_core.specs.RenameObject.{RenameObject, IsRun};
-ghost use Rattle.rename_core.specs.RenameWorld.{after_wish, name_in, step_refusal, fresh_world, after_rename_begin, rename_answer, after_rename_step, may_lack};
+ghost use Rattle.rename_core.specs.Locality.{IsLocal};
+ghost use Rattle.rename_core.specs.RenameCalls.{IsAfter, LeadsOn, IsLawful, MakesOwnAccess, terms_of};
+ghost use Rattle.rename_core.specs.RenameObject.{RenameObject, IsRun, IsOwner};
+ghost use Rattle.rename_core.specs.Round.{standing_by};
+ghost use Rattle.rename_core.specs.RenameWorld.{after_wish, name_in, owner_by, shown_with, shown_by, step_refusal, fresh_world, after_rename_begin, rename_answer, after_rename_step, may_lack};
+ghost use Rattle.snapshot_core.specs.Snapshot.{IsMoment};
 ghost use Rattle.rename_core.specs.declared.reply.Reply.{Reply};
 
 use crate::config::Config;
@@ -18,7 +21,7 @@ use crate::round::{Round, Stage, Wish};
 use snapshot_core::{Known, SnapWorld};
 use std::alloc::Allocator;
 use std::marker::Model;
-use step_memory::{Participant, Refusal};
+use step_memory::{Participant, Refusal, View};
 
 /// Participants that get names by rounds of proposals, over places.
 #[derive(Drop)]
@@ -36,7 +39,7 @@ impl<W: RenamePlaces<A>, A: Allocator> Model for RenameWorld<W, A> {
 
     ghost view = { λ w. record { snap = w.snap; rounds = w.rounds.items; limit = w.limit } };
 
-    ghost invariant = { λ w. (w.snap.most ≤ vec_capacity w.rounds) × (length w.rounds.items ≡ length w.snap.participants) };
+    ghost invariant = { λ w. (w.snap.most ≤ vec_capacity w.rounds) × (w.snap.most ≤ 64) × (length w.rounds.items ≡ length w.snap.participants) × (length w.rounds.items ≤ w.snap.most) };
 }
 
 /// Where the round of an identity stands.
@@ -49,6 +52,16 @@ fn find(rounds: &[Participant<Round>], id: u64) -> Option<usize>
         }
     }
     None
+}
+
+/// Puts the proposal of a participant into a view, where it has made one.
+fn show(view: &mut View, participant: &Participant<Round>)
+    requires { length view.old < 64 }
+    ensures { view.new ≡ shown_with view.old participant.now.identity (standing_by participant.now.program) }
+{
+    if let Some(number) = participant.program.standing() {
+        view.insert(participant.identity, number);
+    }
 }
 
 /// Asks the snapshot object for what a round wants, with no access. It is never refused, since nothing of the identity is
@@ -108,6 +121,12 @@ where
         // The law, over every list of calls and replies that the world may be after.
         ensures after { LeadsOn ⟦<W as Known>⟧.places self.old self.new (Stepped id result) }
         ensures law { IsLawful ⟦<W as Known>⟧.places W.world self.new }
+
+        // Reply and own state are functions of the own state and the access's answer, and nothing else changes. After every
+        // list of calls the access is one for what the participant does: on its way to a place a read, a write or none, in
+        // a scan a read, at the end of an update the write of its own segment.
+        ensures local { IsLocal ⟦<W as Known>⟧.places id self.old self.new result }
+        ensures own { MakesOwnAccess ⟦<W as Known>⟧.places self.old id }
     {
         self.take_step(id)
     }
@@ -130,6 +149,49 @@ where
         ensures law { (r : List (Call Reply)) → IsAfter ⟦<W as Known>⟧.places self.now r → (o : RenameObject) → IsRun (terms_of ⟦<W as Known>⟧.places W.world self.now) r o → result ≡ o.name id }
     {
         self.round_name(id)
+    }
+
+    /// Who has a name, by the rounds.
+    fn round_owner(&self, number: u64) -> Option<u64>
+        ensures { result ≡ owner_by number self.now.rounds }
+    {
+        for participant in &self.rounds {
+            if participant.program.has_name(number) {
+                return Some(participant.identity);
+            }
+        }
+        None
+    }
+
+    /// Who has a name.
+    pub fn owner_of(&self, number: u64) -> Option<u64>
+        ensures value { result ≡ owner_by number self.now.rounds }
+
+        // It is the identity to which the replies have given the name.
+        ensures law { (r : List (Call Reply)) → IsAfter ⟦<W as Known>⟧.places self.now r → (o : RenameObject) → IsRun (terms_of ⟦<W as Known>⟧.places W.world self.now) r o → IsOwner o number result }
+    {
+        self.round_owner(number)
+    }
+
+    /// The proposals that stand in the memory, by the rounds.
+    fn round_proposals(&self) -> View
+        ensures { result ≡ shown_by [] self.now.rounds }
+    {
+        let mut view = View::new();
+        for participant in &self.rounds {
+            show(&mut view, participant);
+        }
+        view
+    }
+
+    /// The last moment: the proposal of each identity that has proposed, by rising identity.
+    pub fn proposals(&self) -> View
+        ensures value { result ≡ shown_by [] self.now.rounds }
+
+        // It is the last moment that the replies have made.
+        ensures law { (r : List (Call Reply)) → IsAfter ⟦<W as Known>⟧.places self.now r → (o : RenameObject) → IsRun (terms_of ⟦<W as Known>⟧.places W.world self.now) r o → IsMoment result (o.moment o.last) }
+    {
+        self.round_proposals()
     }
 
     /// A participant begins, and asks at once for what it can do.

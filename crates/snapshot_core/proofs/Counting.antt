@@ -12,7 +12,7 @@ one_at_most : (b : Bool) → (if b then 1 else 0) ≤ 1
 one_at_most true = omega arith
 one_at_most false = omega arith
 
-count_to-le : (f : ℕ → Bool) (n : ℕ) → count_to f n ≤ n
+pub count_to-le : (f : ℕ → Bool) (n : ℕ) → count_to f n ≤ n
 count_to-le f zero = omega arith
 count_to-le f (suc n) = omega (arith, count_to-le f n, one_at_most (f n))
 

@@ -1,16 +1,15 @@
 -- the law of a snapshot object over segments in a row
-use Rattle.std.proofs.Common.{◌≡◌, ℕ, zero, suc, ◌+◌, ◌*◌, ◌≤◌, List, length, get_or, replicate, Option, None, refl, arith}
+use Rattle.std.proofs.Common.{◌≡◌, ℕ, zero, suc, ◌+◌, ◌*◌, ◌≤◌, List, length, get_or, replicate, Option, None, refl, subst, arith}
 use Rattle.std.proofs.Math.Nat.{mul-le-mul_right}
 use Rattle.std.proofs.Math.ListN.{length-replicate}
 use Rattle.step_memory.specs.declared.record.Record.{Record}
 use Rattle.snapshot_core.specs.declared.fixed.FixedWalker.{FixedWalker}
 use Rattle.snapshot_core.specs.declared.fixed.FixedWalk.{FixedWalk}
-use Rattle.snapshot_core.specs.FixedTies.{IsEmptyRow, fixed_places}
+use Rattle.snapshot_core.specs.FixedTies.{IsEmptyRow, fixed_places, fresh_row, fixed_bounds}
 use Rattle.snapshot_core.specs.FixedLaws.{fixed_laws}
 use Rattle.snapshot_core.specs.Places.{BoundsScans}
 use Rattle.snapshot_core.specs.SnapWorld.{SnapState}
-use Rattle.snapshot_core.specs.SnapCalls.{SnapCall, IsAfter}
-use Rattle.snapshot_core.specs.Snapshot.{KeepsSnapshotLaw}
+use Rattle.snapshot_core.specs.Snapshot.{KeepsSnapshotLaw, IsLawfulFrom}
 use Rattle.snapshot_core.proofs.Following.{law_holds}
 
 pub empty_at : (m x : ℕ) → get_or (replicate m None) x None ≡ (let nothing : Option Record = None in nothing)
@@ -27,7 +26,8 @@ fits_row m b some l =
     let product = mul-le-mul_right m up in
     omega arith
 
-pub fixed_law : (w : SnapState (List (Option Record)) FixedWalker FixedWalk) (r : List SnapCall) → w.most ≤ 16 → IsAfter fixed_places (replicate w.most None) w r →
-    KeepsSnapshotLaw (record { placing = λ b. 0; scanning = λ b. w.most * (w.most + 1) }) r
-fixed_law w r few a =
-    law_holds fixed_places fixed_laws w (replicate w.most None) r (λ b. w.most * (w.most + 1)) (empty_row w.most few) (rw (length-replicate w.most (let nothing : Option Record = None in nothing)) (fits_row w.most)) a
+pub fixed_law : (w : SnapState (List (Option Record)) FixedWalker FixedWalk) → w.most ≤ 16 → IsLawfulFrom fixed_places (fresh_row w.most) (fixed_bounds w.most) w
+fixed_law w few r a =
+    let many : length (fresh_row w.most) ≡ w.most = length-replicate w.most (let nothing : Option Record = None in nothing) in
+    subst (λ (m : ℕ). KeepsSnapshotLaw (record { most = m; placing = λ b. 0; scanning = λ b. w.most * (w.most + 1) }) r) many
+    (law_holds fixed_places fixed_laws w (fresh_row w.most) (λ b. w.most * (w.most + 1)) (empty_row w.most few) (rw many (fits_row w.most)) r a)

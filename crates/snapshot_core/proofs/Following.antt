@@ -32,18 +32,21 @@ use Rattle.snapshot_core.specs.declared.client.SnapReply.TheVariants.{Quiet as S
 use Rattle.snapshot_core.specs.Scan.{scan_from, scan_after, scan_view}
 use Rattle.snapshot_core.specs.Client.{first_pending, is_idle, scanning, updating, record_of, with_pending, is_placed, placed_note, pending_after, note_after, access_for, after_for, note_for}
 use Rattle.snapshot_core.specs.SnapWorld.{SnapState, place_in, beginner_at, scan_refusal, update_refusal, scan_refusal_by, update_refusal_by, asked, after_scan, after_update, told, clients_over, snap_answer, after_snap_step, may_lack_memory, way_now, ways_of}
-use Rattle.snapshot_core.specs.SnapCalls.{SnapCall, next, IsReply, IsAfter}
+use Rattle.snapshot_core.specs.SnapCalls.{SnapCall, next, IsReply, IsAfter, MakesOwnAccess, BeginsTheSame, HasDistinctPlaces, IsConsistentAfter, KeepsTold}
 use Rattle.snapshot_core.specs.SnapCalls.SnapCall.{Began, Updated, Scanned, Stepped}
 use Rattle.snapshot_core.specs.Walks.{WalkSteps}
-use Rattle.snapshot_core.specs.Places.{KnownPlaces, PlacesLaws, BoundsScans, KeepsWalks, HasGoneOn, value_for}
-use Rattle.snapshot_core.specs.Snapshot.{SnapObject, SnapBounds, new_object, since_of, with_task, observed, Allows, IsLawful}
+use Rattle.snapshot_core.specs.Places.{KnownPlaces, PlacesLaws, BeginsAlike, BoundsScans, KeepsWalks, HasGoneOn, value_for}
+use Rattle.snapshot_core.specs.Snapshot.{SnapObject, SnapBounds, IsMoment, new_object, since_of, with_task, with_update, observed, Allows, IsLawful}
 use Rattle.snapshot_core.specs.Snapshot.Task.{Idle, Placing, Scanning, Updating}
 use Rattle.snapshot_core.proofs.SnapWorldLemmas.{absent_state, absent_answer, idle_state, idle_answer, busy_state, busy_answer, most_kept}
 use Rattle.snapshot_core.proofs.LawfulPlaces.{LawfulPlaces}
-use Rattle.snapshot_core.proofs.Histories.{number, IsHelp}
+use Rattle.snapshot_core.proofs.Histories.{number, value_in, IsHelp}
+use Rattle.snapshot_core.proofs.FewValues.{few_values}
+use Rattle.snapshot_core.proofs.Dues.{bounds_with, begin_is_due, scan_is_due, update_is_due, step_absent, step_idle, lacks_memory}
 use Rattle.snapshot_core.proofs.Collecting.{collecting_new}
 use Rattle.snapshot_core.proofs.Reading.{GoesOn, Shown, Outcome, starts_ahead, begins, steps_bound, reads}
 use Rattle.snapshot_core.proofs.Tied.{Era, place_by, IsScanning, IsAtTask, IsDoing, IsTied, era_now, reached_now, roll_now, put_there, world_with, tied_new}
+use Rattle.snapshot_core.proofs.OwnAccesses.{access_tied}
 use Rattle.snapshot_core.proofs.Going.{tied_with, tied_written, tied_joined, free, nothing_yet, era_joined}
 
 idle_is_nothing : (pending : Pending) → is_idle pending ≡ true → pending ≡ Nothing
@@ -52,10 +55,6 @@ idle_is_nothing Places h = absurd (cc)
 idle_is_nothing Scans h = absurd (cc)
 idle_is_nothing (Update new_value) h = absurd (cc)
 idle_is_nothing (Writing new_value view) h = absurd (cc)
-
--- steps to a place, and those of a scan that keep the bound
-abbrev pub bounds_with : {S R V U K : Type 0} → LawfulPlaces S R V U K → (ℕ → ℕ) → SnapBounds
-bounds_with t scans = record { placing = t.known.ties.placing; scanning = scans }
 
 module _ {S R V U K : Type 0} (t : LawfulPlaces S R V U K) (w : SnapState S U K) (o : SnapObject) (i : IsTied t w o) (id : ℕ) where
   -- one begins
@@ -75,14 +74,18 @@ module _ {S R V U K : Type 0} (t : LawfulPlaces S R V U K) (w : SnapState S U K)
       tied_joined t w o i id c w.memory (b + 1) (set_at i.who b id) absent up (t.laws.rising (t.known.most_of w.memory) b) same last_one consistent (λ x. refl) still
       (w.participants ++ beginner id c ∷ []) (participant_of-push w.participants (beginner id c) goes_in.absent) (length-append w.participants (beginner id c ∷ []))
       (observed o (Began id (Ok tt))) (let k = i.counted in omega arith) refl refl
-      (λ q n. (set_at-other o.task id Placing q n, set_at-other o.steps id 0 q n, set_at-other o.since id 0 q n))
+      (λ q n. (set_at-other o.task id Placing q n, set_at-other o.steps id 0 q n, set_at-other o.since id 0 q n, refl))
+      (i.absent id goes_in.absent).1
       (λ q x k. inl k)
       (rw (set_at-same o.task id Placing, set_at-same o.steps id 0, set_at-same o.since id 0) (record {
         identity = refl;
         walk = refl;
         at = elim (t.known.place_of c.walker) as (λ z. t.known.place_of c.walker ≡ z → IsAtTask t (era_joined t w o i id c w.memory (b + 1) (set_at i.who b id) absent up (t.laws.rising (t.known.most_of w.memory) b) same last_one consistent (λ x. refl) still) Placing 0 0 c z (first_pending z)) [
           | None ↦ λ k. (refl, refl, omega arith)
-          | Some x ↦ λ k. sym (ap number (nothing_yet t w o i id c w.memory (b + 1) (set_at i.who b id) absent up (t.laws.rising (t.known.most_of w.memory) b) same last_one consistent (λ x. refl) still x o.last k (omega arith)))
+          | Some x ↦ λ k. (
+            sym (ap number (nothing_yet t w o i id c w.memory (b + 1) (set_at i.who b id) absent up (t.laws.rising (t.known.most_of w.memory) b) same last_one consistent (λ x. refl) still x o.last k (omega arith))),
+            elim (t.laws.waits b id) [ inl none ↦ absurd (let two : Some x ≡ None = sym k ∙ none in cc) | inr never ↦ inr (refl, never) ],
+          )
         ] refl;
       }))
 
@@ -100,24 +103,24 @@ module _ {S R V U K : Type 0} (t : LawfulPlaces S R V U K) (w : SnapState S U K)
     asked_to_scan : IsTied t (world_with w w.memory id (scanning v.program)) (with_task o id Scanning 0 0)
     asked_to_scan =
         let k = i.clients id v there in
-        tied_with t w o i id v there (scanning v.program) refl Scanning 0 0 (record {
+        tied_with t w o i id v there (scanning v.program) refl o.updates (λ q n. refl) (i.asked id v there) Scanning 0 0 (record {
           identity = k.identity;
           walk = k.walk;
           at = elim (t.known.place_of v.program.walker) as (λ z. IsAtTask t (era_now t w o i) (o.task id) (o.steps id) (o.since id) v.program z Nothing → IsAtTask t (era_now t w o i) Scanning 0 0 (scanning v.program) z Scans) [
             | None ↦ λ h. absurd h
-            | Some own ↦ λ h. (refl, h, inl (refl, ap scan_from k.walk))
+            | Some own ↦ λ h. (refl, h.0, inl (refl, ap scan_from k.walk))
           ] idle_now;
         })
 
-    asked_to_update : (new_value : ℕ) → IsTied t (world_with w w.memory id (updating v.program new_value)) (with_task o id (Updating new_value) 0 0)
+    asked_to_update : (new_value : ℕ) → IsTied t (world_with w w.memory id (updating v.program new_value)) (with_update (with_task o id (Updating new_value) 0 0) id)
     asked_to_update new_value =
         let k = i.clients id v there in
-        tied_with t w o i id v there (updating v.program new_value) refl (Updating new_value) 0 0 (record {
+        tied_with t w o i id v there (updating v.program new_value) refl (set_at o.updates id (o.updates id + 1)) (set_at-other o.updates id (o.updates id + 1)) (set_at-same o.updates id (o.updates id + 1) ∙ ap (λ (n : ℕ). n + 1) (i.asked id v there)) (Updating new_value) 0 0 (record {
           identity = k.identity;
           walk = k.walk;
           at = elim (t.known.place_of v.program.walker) as (λ z. IsAtTask t (era_now t w o i) (o.task id) (o.steps id) (o.since id) v.program z Nothing → IsAtTask t (era_now t w o i) (Updating new_value) 0 0 (updating v.program new_value) z (Update new_value)) [
             | None ↦ λ h. absurd h
-            | Some own ↦ λ h. (refl, ap (λ (n : ℕ). n + 1) h, inl (refl, ap scan_from k.walk))
+            | Some own ↦ λ h. (refl, ap (λ (n : ℕ). n + 1) h.0, inl (refl, ap scan_from k.walk))
           ] idle_now;
         })
 
@@ -149,6 +152,13 @@ module _ {S R V U K : Type 0} (t : LawfulPlaces S R V U K) (w : SnapState S U K)
     few : length w.participants ≤ 64
     few = let k = (t.laws.few w.memory (length w.participants) (ways_of w.participants) i.consistent).1 in let m = many in omega arith
 
+    -- a view of a moment has no more pairs than have begun
+    few_shown : (view : List (ℕ × ℕ)) (j : ℕ) → j ≤ o.last → IsMoment view (o.moment j) → length view ≤ length w.participants
+    few_shown view j l is = few_values i.who (length w.participants) view is.rising (λ q n e. elim (i.place q) as (λ z. i.place q ≡ z → value_in (i.past j) z ≡ Some n → (k : ℕ) × (k < length w.participants) × (i.who k ≡ q)) [
+      | None ↦ λ _ h. absurd (cc)
+      | Some x ↦ λ h _. roll_now t w o i q x h
+    ] refl (sym (i.history.shows j q l) ∙ sym (is.values q) ∙ e))
+
     -- what a step of p's program answers, and leaves
     module _ (v : Participant (Client U K)) (there : participant_of id w.participants ≡ Some v) where
       whole : (length w.participants + 1) * t.known.ties.reads (t.known.most_of w.memory) (length w.participants) ≤ scans o.begun
@@ -159,7 +169,7 @@ module _ {S R V U K : Type 0} (t : LawfulPlaces S R V U K) (w : SnapState S U K)
 
       abbrev Follows : Pending → Type 0
       Follows z =
-          Allows (bounds_with t scans) o (Stepped id (Ok (told (note_for t.known.walker t.known.walks v.program z (got z)))))
+          Allows (bounds_with t w.most scans) o (Stepped id (Ok (told (note_for t.known.walker t.known.walks v.program z (got z)))))
           × IsTied t (record {
             memory = t.known.memory.after w.memory (access_for t.known.walker t.known.place_of t.known.walks v.program z);
             most = w.most;
@@ -239,7 +249,7 @@ module _ {S R V U K : Type 0} (t : LawfulPlaces S R V U K) (w : SnapState S U K)
         scan_step pending k =
             let task = k.0 in
             elim (scan_view t.known.walks v.program.scan value) as (λ s. Outcome t w.memory (length w.participants) o.last i.past o.moment i.place i.who own (since_of o id) (o.steps id + 1) (scan_after t.known.walks v.program.scan value v.program.walk) s →
-            Allows (bounds_with t scans) o (Stepped id (Ok (told (note_after s None))))
+            Allows (bounds_with t w.most scans) o (Stepped id (Ok (told (note_after s None))))
             × IsTied t (record {
               memory = t.known.memory.after w.memory (Read (t.known.walks.next v.program.scan.walk));
               most = w.most;
@@ -251,18 +261,18 @@ module _ {S R V U K : Type 0} (t : LawfulPlaces S R V U K) (w : SnapState S U K)
             }) (observed o (Stepped id (Ok (told (note_after s None)))))) [
               | None ↦ λ g. (
                 rw task (still k.2 (scan_after t.known.walks v.program.scan value v.program.walk) g),
-                looked _ _ (rw (own_name, pending) (tied_with t w o i id v there (record v.program { scan = scan_after t.known.walks v.program.scan value v.program.walk; pending = Scans }) refl (o.task id) (o.steps id + 1) (since_of o id) (record {
+                looked _ _ (rw (own_name, pending) (tied_with t w o i id v there (record v.program { scan = scan_after t.known.walks v.program.scan value v.program.walk; pending = Scans }) refl o.updates (λ q n. refl) (i.asked id v there) (o.task id) (o.steps id + 1) (since_of o id) (record {
                   identity = doing.identity;
                   walk = doing.walk;
                   at = rw at (task, k.1, goes_further k.2 (scan_after t.known.walks v.program.scan value v.program.walk) g);
                 }))),
               )
               | Some view ↦ λ shown. (
-                (task, rw task (bound k.2), record { index = shown.0; no_earlier = shown.1; no_later = shown.2; is = shown.3 }),
-                looked _ _ (rw own_name (tied_with t w o i id v there (record v.program { scan = scan_after t.known.walks v.program.scan value v.program.walk; pending = Nothing }) refl Idle (o.steps id + 1) (since_of o id) (record {
+                (task, rw task (bound k.2), record { index = shown.0; no_earlier = shown.1; no_later = shown.2; is = shown.3; few = rw i.counted (few_shown view shown.0 shown.2 shown.3) }),
+                looked _ _ (rw own_name (tied_with t w o i id v there (record v.program { scan = scan_after t.known.walks v.program.scan value v.program.walk; pending = Nothing }) refl o.updates (λ q n. refl) (i.asked id v there) Idle (o.steps id + 1) (since_of o id) (record {
                   identity = doing.identity;
                   walk = doing.walk;
-                  at = rw at k.1;
+                  at = rw at (k.1, inl refl);
                 }))),
               )
             ] (outcome k.2)
@@ -271,7 +281,7 @@ module _ {S R V U K : Type 0} (t : LawfulPlaces S R V U K) (w : SnapState S U K)
         update_step new_value pending k =
             let task = k.0 in
             elim (scan_view t.known.walks v.program.scan value) as (λ s. Outcome t w.memory (length w.participants) o.last i.past o.moment i.place i.who own (since_of o id) (o.steps id + 1) (scan_after t.known.walks v.program.scan value v.program.walk) s →
-            Allows (bounds_with t scans) o (Stepped id (Ok (told (note_after s (Some new_value)))))
+            Allows (bounds_with t w.most scans) o (Stepped id (Ok (told (note_after s (Some new_value)))))
             × IsTied t (record {
               memory = t.known.memory.after w.memory (Read (t.known.walks.next v.program.scan.walk));
               most = w.most;
@@ -283,7 +293,7 @@ module _ {S R V U K : Type 0} (t : LawfulPlaces S R V U K) (w : SnapState S U K)
             }) (observed o (Stepped id (Ok (told (note_after s (Some new_value))))))) [
               | None ↦ λ g. (
                 rw task (let b = bound k.2 in omega arith),
-                looked _ _ (rw (own_name, pending) (tied_with t w o i id v there (record v.program { scan = scan_after t.known.walks v.program.scan value v.program.walk; pending = Update new_value }) refl (o.task id) (o.steps id + 1) (since_of o id) (record {
+                looked _ _ (rw (own_name, pending) (tied_with t w o i id v there (record v.program { scan = scan_after t.known.walks v.program.scan value v.program.walk; pending = Update new_value }) refl o.updates (λ q n. refl) (i.asked id v there) (o.task id) (o.steps id + 1) (since_of o id) (record {
                   identity = doing.identity;
                   walk = doing.walk;
                   at = rw at (task, k.1, goes_further k.2 (scan_after t.known.walks v.program.scan value v.program.walk) g);
@@ -291,7 +301,7 @@ module _ {S R V U K : Type 0} (t : LawfulPlaces S R V U K) (w : SnapState S U K)
               )
               | Some view ↦ λ shown. (
                 rw task (let b = bound k.2 in omega arith),
-                looked _ _ (rw own_name (tied_with t w o i id v there (record v.program { scan = scan_after t.known.walks v.program.scan value v.program.walk; pending = Writing new_value view }) refl (o.task id) (o.steps id + 1) (since_of o id) (record {
+                looked _ _ (rw own_name (tied_with t w o i id v there (record v.program { scan = scan_after t.known.walks v.program.scan value v.program.walk; pending = Writing new_value view }) refl o.updates (λ q n. refl) (i.asked id v there) (o.task id) (o.steps id + 1) (since_of o id) (record {
                   identity = doing.identity;
                   walk = doing.walk;
                   at = rw at (task, k.1, helps k.2 view k.1 shown, bound_after k.2 (o.steps id) v.program.scan (goes k.2));
@@ -304,7 +314,7 @@ module _ {S R V U K : Type 0} (t : LawfulPlaces S R V U K) (w : SnapState S U K)
             let task = k.0 in
             let few_steps = k.3 in
             let all = whole in
-            rw at ((rw task tt, rw task (omega arith)), rw (own_name, task) (tied_written t w o i id v there (with_pending v.program Nothing) refl own at (record_of v.program new_value view) doing.identity (sym k.1) k.2 (o.steps id + 1) (since_of o id) doing.identity doing.walk refl refl))
+            rw at ((rw task tt, rw task (omega arith)), rw (own_name, task) (tied_written t w o i id v there (with_pending v.program Nothing) refl own at (record_of v.program new_value view) doing.identity (sym k.1) k.2 (o.steps id + 1) (since_of o id) doing.identity doing.walk refl refl refl))
 
       -- p is on its way
       module _ (at : t.known.place_of v.program.walker ≡ None) (pending : v.program.pending ≡ Places) (k : IsAtTask t (era_now t w o i) (o.task id) (o.steps id) (o.since id) v.program None Places) where
@@ -339,13 +349,13 @@ module _ {S R V U K : Type 0} (t : LawfulPlaces S R V U K) (w : SnapState S U K)
         abbrev era_walked : Era S
         era_walked = record { memory = later; begun = length w.participants; last = o.last; past = i.past; moment = o.moment; place = set_at i.place id (t.known.place_of (t.known.walker.resumed u answer_now)); who = i.who }
 
-        went : (z : Pending) (o' : SnapObject) → o'.begun ≡ o.begun → o'.last ≡ o.last → o'.moment ≡ o.moment → ((q : ℕ) → q ≢ id → (o'.task q ≡ o.task q) × (o'.steps q ≡ o.steps q) × (o'.since q ≡ o.since q)) →
+        went : (z : Pending) (o' : SnapObject) → o'.begun ≡ o.begun → o'.last ≡ o.last → o'.moment ≡ o.moment → ((q : ℕ) → q ≢ id → (o'.task q ≡ o.task q) × (o'.steps q ≡ o.steps q) × (o'.since q ≡ o.since q) × (o'.updates q ≡ o.updates q)) → o'.updates id ≡ v.program.updates →
             ((q x : ℕ) → o'.place q ≡ Some x → (o.place q ≡ Some x) ⊎ ((q ≡ id) × (t.known.place_of (t.known.walker.resumed u answer_now) ≡ Some x))) →
             IsDoing t era_walked (o'.task id) (o'.steps id) (o'.since id) id (walked z) → IsTied t (world_with w later id (walked z)) o'
-        went z o' begun last moment others told_place does =
+        went z o' begun last moment others asked told_place does =
             tied_joined t w o i id (walked z) later (length w.participants) i.who absent_place up more (λ j l. refl) (i.listed id u way) gone.consistent gone.segments gone.kept
             (with_participant (record { identity = id; program = walked z; ended = false }) w.participants) (put_there w.participants id v (walked z) there)
-            (length-with_participant w.participants (record { identity = id; program = walked z; ended = false })) o' (begun ∙ i.counted) last moment others told_place does
+            (length-with_participant w.participants (record { identity = id; program = walked z; ended = false })) o' (begun ∙ i.counted) last moment others asked told_place does
 
         nothing_stood : (x : ℕ) → t.known.place_of (t.known.walker.resumed u answer_now) ≡ Some x → i.past o.last x ≡ None
         nothing_stood x e = nothing_yet t w o i id (walked Nothing) later (length w.participants) i.who absent_place up more (λ j l. refl) (i.listed id u way) gone.consistent gone.segments gone.kept x o.last e (omega arith)
@@ -368,7 +378,8 @@ module _ {S R V U K : Type 0} (t : LawfulPlaces S R V U K) (w : SnapState S U K)
             let before = steps_before in (
               rw i.counted (omega arith),
               went Places (observed o (Stepped id (Ok Silent))) refl refl refl
-                  (λ q n. (set_at-other o.task id (o.task id) q n, set_at-other o.steps id (o.steps id + 1) q n, set_at-other o.since id (since_of o id) q n))
+                  (λ q n. (set_at-other o.task id (o.task id) q n, set_at-other o.steps id (o.steps id + 1) q n, set_at-other o.since id (since_of o id) q n, refl))
+                  (i.asked id v there)
                   (λ q x h. inl h)
                   (rw (set_at-same o.task id (o.task id), set_at-same o.steps id (o.steps id + 1), set_at-same o.since id (since_of o id)) (record {
                     identity = doing.identity;
@@ -379,14 +390,15 @@ module _ {S R V U K : Type 0} (t : LawfulPlaces S R V U K) (w : SnapState S U K)
 
         -- the way has reached a place
         arrives : (x : ℕ) → t.known.place_of (t.known.walker.resumed u answer_now) ≡ Some x →
-            Allows (bounds_with t scans) o (Stepped id (Ok (Placed x))) × IsTied t (world_with w later id (walked Nothing)) (observed o (Stepped id (Ok (Placed x))))
+            Allows (bounds_with t w.most scans) o (Stepped id (Ok (Placed x))) × IsTied t (world_with w later id (walked Nothing)) (observed o (Stepped id (Ok (Placed x))))
         arrives x e =
             let left = t.laws.unplaced w.memory (length w.participants) (ways_of w.participants) i.consistent id u way at in
             let few_steps = k.2 in
             let task = k.0 in (
               (task, rw (task, i.counted) (omega arith), record { first = is_first; free = is_free x e }),
               went Nothing (observed o (Stepped id (Ok (Placed x)))) refl refl refl
-                  (λ q n. (set_at-other o.task id Idle q n, set_at-other o.steps id (o.steps id + 1) q n, set_at-other o.since id (since_of o id) q n))
+                  (λ q n. (set_at-other o.task id Idle q n, set_at-other o.steps id (o.steps id + 1) q n, set_at-other o.since id (since_of o id) q n, refl))
+                  (i.asked id v there)
                   (λ q y h. elim (eqb_tells q id) [
                     | inl g ↦ inr (g.1, let two : Some x ≡ Some y = rw g.0 at h in e ∙ two)
                     | inr g ↦ inl (rw g.0 at h)
@@ -394,7 +406,7 @@ module _ {S R V U K : Type 0} (t : LawfulPlaces S R V U K) (w : SnapState S U K)
                   (rw (set_at-same o.task id Idle, set_at-same o.steps id (o.steps id + 1), set_at-same o.since id (since_of o id)) (record {
                     identity = doing.identity;
                     walk = doing.walk ∙ sym gone.kept.beginning;
-                    at = rw e (k.1 ∙ sym (ap number (nothing_stood x e)));
+                    at = rw e (k.1 ∙ sym (ap number (nothing_stood x e)), inl refl);
                   })),
             )
 
@@ -406,7 +418,7 @@ module _ {S R V U K : Type 0} (t : LawfulPlaces S R V U K) (w : SnapState S U K)
         ] refl
 
         place_by_note : (n : Note ℕ) → t.known.walker.note u answer_now ≡ n →
-            Allows (bounds_with t scans) o (Stepped id (Ok (told (placed_note t.known.walker n))))
+            Allows (bounds_with t w.most scans) o (Stepped id (Ok (told (placed_note t.known.walker n))))
             × IsTied t (record {
               memory = later;
               most = w.most;
@@ -444,25 +456,25 @@ module _ {S R V U K : Type 0} (t : LawfulPlaces S R V U K) (w : SnapState S U K)
     abbrev after : SnapState S U K
     after = after_snap_step t.known w id
 
-    by_answer : (reply : Result SnapReply Refusal) (w' : SnapState S U K) → answer ≡ reply → after ≡ w' → Allows (bounds_with t scans) o (Stepped id reply) × IsTied t (cond (lacked_memory reply) w w') (observed o (Stepped id reply)) →
-        Allows (bounds_with t scans) o (Stepped id answer) × IsTied t (cond (lacked_memory answer) w after) (observed o (Stepped id answer))
+    by_answer : (reply : Result SnapReply Refusal) (w' : SnapState S U K) → answer ≡ reply → after ≡ w' → Allows (bounds_with t w.most scans) o (Stepped id reply) × IsTied t (cond (lacked_memory reply) w w') (observed o (Stepped id reply)) →
+        Allows (bounds_with t w.most scans) o (Stepped id answer) × IsTied t (cond (lacked_memory answer) w after) (observed o (Stepped id answer))
     by_answer reply w' ea eb k =
-        subst (λ (x : Result SnapReply Refusal). Allows (bounds_with t scans) o (Stepped id x) × IsTied t (cond (lacked_memory x) w after) (observed o (Stepped id x))) (sym ea)
-        (subst (λ (y : SnapState S U K). Allows (bounds_with t scans) o (Stepped id reply) × IsTied t (cond (lacked_memory reply) w y) (observed o (Stepped id reply))) (sym eb) k)
+        subst (λ (x : Result SnapReply Refusal). Allows (bounds_with t w.most scans) o (Stepped id x) × IsTied t (cond (lacked_memory x) w after) (observed o (Stepped id x))) (sym ea)
+        (subst (λ (y : SnapState S U K). Allows (bounds_with t w.most scans) o (Stepped id reply) × IsTied t (cond (lacked_memory reply) w y) (observed o (Stepped id reply))) (sym eb) k)
 
-    pub stepped_follows : Allows (bounds_with t scans) o (Stepped id answer) × IsTied t (cond (lacked_memory answer) w after) (observed o (Stepped id answer))
-    stepped_follows = elim (participant_of id w.participants) as (λ z. participant_of id w.participants ≡ z → Allows (bounds_with t scans) o (Stepped id answer) × IsTied t (cond (lacked_memory answer) w after) (observed o (Stepped id answer))) [
+    pub stepped_follows : Allows (bounds_with t w.most scans) o (Stepped id answer) × IsTied t (cond (lacked_memory answer) w after) (observed o (Stepped id answer))
+    stepped_follows = elim (participant_of id w.participants) as (λ z. participant_of id w.participants ≡ z → Allows (bounds_with t w.most scans) o (Stepped id answer) × IsTied t (cond (lacked_memory answer) w after) (observed o (Stepped id answer))) [
       | None ↦ λ e.
           let none : None ≡ program_of id w.participants = sym (ap (option_map (λ u. u.program)) e) in
           by_answer (Err NotBegun) w
           (sym (absent_answer t.known w id none))
-          (sym (absent_state t.known w id none)) (λ h. absurd (cc), i)
+          (sym (absent_state t.known w id none)) (inl (step_absent t w o i id scans e), i)
       | Some v ↦ λ e.
           let some : Some v.program ≡ program_of id w.participants = sym (ap (option_map (λ u. u.program)) e) in
           elim (cases_Bool (is_idle v.program.pending)) [
             | inl idle ↦ by_answer (Err Finished) w
                 (sym (idle_answer t.known w id v.program some idle))
-                (sym (idle_state t.known w id v.program some idle)) (λ h. absurd (cc), i)
+                (sym (idle_state t.known w id v.program some idle)) (inl (step_idle t w o i id scans fits v e idle), i)
             | inr busy ↦
                 let on : v.ended ≡ false = (i.named id v e).1 in
                 let ea : answer ≡ Ok (told (note_for t.known.walker t.known.walks v.program v.program.pending (got v e v.program.pending))) =
@@ -480,34 +492,6 @@ module _ {S R V U K : Type 0} (t : LawfulPlaces S R V U K) (w : SnapState S U K)
           ]
     ] refl
 
--- only one who is on its way to a place may lack memory
-module _ {S R V U K : Type 0} (t : LawfulPlaces S R V U K) (w : SnapState S U K) (o : SnapObject) (i : IsTied t w o) (id : ℕ) where
-  module _ (v : Participant (Client U K)) (there : participant_of id w.participants ≡ Some v) where
-    abbrev Lacks : Pending → Type 0
-    Lacks z = t.known.memory.may_refuse w.memory (access_for t.known.walker t.known.place_of t.known.walks v.program z) ≡ true
-
-    lacks_at : (at : Option ℕ) → t.known.place_of v.program.walker ≡ at → (z : Pending) → IsAtTask t (era_now t w o i) (o.task id) (o.steps id) (o.since id) v.program at z → Lacks z → o.task id ≡ Placing
-    lacks_at None at Nothing k h = absurd k
-    lacks_at None at Places k h = k.0
-    lacks_at None at Scans k h = absurd k
-    lacks_at None at (Update new_value) k h = absurd k
-    lacks_at None at (Writing new_value view) k h = absurd k
-    lacks_at (Some own) at Nothing k h = absurd (let sure = t.laws.sure_nothing w.memory in cc)
-    lacks_at (Some own) at Places k h = absurd k
-    lacks_at (Some own) at Scans k h = absurd (let sure = t.laws.sure_reads w.memory (t.known.walks.next v.program.scan.walk) in cc)
-    lacks_at (Some own) at (Update new_value) k h = absurd (let sure = t.laws.sure_reads w.memory (t.known.walks.next v.program.scan.walk) in cc)
-    lacks_at (Some own) at (Writing new_value view) k h =
-        let may : t.known.memory.may_refuse w.memory (Write (t.known.walks.segment own) (t.known.walks.stored (Some (record_of v.program new_value view)))) ≡ true = rw at at h in
-        absurd (let sure = t.laws.sure_writes w.memory own (Some (record_of v.program new_value view)) in cc)
-
-  lacks_on_way : may_lack_memory t.known w id ≡ true → o.task id ≡ Placing
-  lacks_on_way = elim (participant_of id w.participants) as (λ z. participant_of id w.participants ≡ z → may_refuse_by (clients_over t.known) t.known.memory w.memory z ≡ true → o.task id ≡ Placing) [
-    | None ↦ λ e h. absurd (cc)
-    | Some v ↦ λ e h.
-        let on : v.ended ≡ false = (i.named id v e).1 in
-        lacks_at v e (t.known.place_of v.program.walker) refl v.program.pending (i.clients id v e).at (rw on at h)
-  ] refl
-
 module _ {S R V U K : Type 0} (t : LawfulPlaces S R V U K) (scans : ℕ → ℕ) where
   -- the machine over these places
   abbrev pub next_of : SnapState S U K → SnapCall → SnapState S U K
@@ -517,29 +501,29 @@ module _ {S R V U K : Type 0} (t : LawfulPlaces S R V U K) (scans : ℕ → ℕ)
   IsReplyOf = IsReply t.known
 
   -- a call is one of the object, and the tie holds after it
-  follows : (w : SnapState S U K) (o : SnapObject) → IsTied t w o → BoundsScans t.known w.most scans → (h : SnapCall) → IsReplyOf w h → Allows (bounds_with t scans) o h × IsTied t (next_of w h) (observed o h)
-  follows w o i fits (Began id reply) is = (tt, rw is (begin_follows t w o i id))
-  follows w o i fits (Updated id new_value reply) is = (tt, rw is (update_follows t w o i id new_value))
-  follows w o i fits (Scanned id reply) is = (tt, rw is (scan_follows t w o i id))
+  follows : (w : SnapState S U K) (o : SnapObject) → IsTied t w o → BoundsScans t.known w.most scans → (h : SnapCall) → IsReplyOf w h → Allows (bounds_with t w.most scans) o h × IsTied t (next_of w h) (observed o h)
+  follows w o i fits (Began id reply) is = (is ∙ ap done_unless (sym (begin_is_due t w o i id scans)), rw is (begin_follows t w o i id))
+  follows w o i fits (Updated id new_value reply) is = (is ∙ ap done_unless (sym (update_is_due t w o i id scans fits)), rw is (update_follows t w o i id new_value))
+  follows w o i fits (Scanned id reply) is = (is ∙ ap done_unless (sym (scan_is_due t w o i id scans fits)), rw is (scan_follows t w o i id))
   follows w o i fits (Stepped id reply) (inl is) = rw is (stepped_follows t w o i id scans fits)
-  follows w o i fits (Stepped id reply) (inr is) = rw is.0 (λ h. lacks_on_way t w o i id is.1, i)
+  follows w o i fits (Stepped id reply) (inr is) = rw is.0 (inr (lacks_memory t w o i id scans fits is.1), i)
 
   -- who has told its place keeps it
-  place_stays : (o : SnapObject) (h : SnapCall) (p x : ℕ) → Allows (bounds_with t scans) o h → o.place p ≡ Some x → (observed o h).place p ≡ Some x
-  place_stays o (Began q (Ok done)) p x k e = e
-  place_stays o (Began q (Err why)) p x k e = e
-  place_stays o (Updated q new_value (Ok done)) p x k e = e
-  place_stays o (Updated q new_value (Err why)) p x k e = e
-  place_stays o (Scanned q (Ok done)) p x k e = e
-  place_stays o (Scanned q (Err why)) p x k e = e
-  place_stays o (Stepped q (Ok Silent)) p x k e = e
-  place_stays o (Stepped q (Ok (Placed y))) p x k e = elim (eqb_tells p q) [
+  place_stays : (bounds : SnapBounds) (o : SnapObject) (h : SnapCall) (p x : ℕ) → Allows bounds o h → o.place p ≡ Some x → (observed o h).place p ≡ Some x
+  place_stays bounds o (Began q (Ok done)) p x k e = e
+  place_stays bounds o (Began q (Err why)) p x k e = e
+  place_stays bounds o (Updated q new_value (Ok done)) p x k e = e
+  place_stays bounds o (Updated q new_value (Err why)) p x k e = e
+  place_stays bounds o (Scanned q (Ok done)) p x k e = e
+  place_stays bounds o (Scanned q (Err why)) p x k e = e
+  place_stays bounds o (Stepped q (Ok Silent)) p x k e = e
+  place_stays bounds o (Stepped q (Ok (Placed y))) p x k e = elim (eqb_tells p q) [
     | inl u ↦ absurd (let two : None ≡ Some x = sym k.2.first ∙ ap o.place (sym u.1) ∙ e in cc)
     | inr u ↦ rw u.0 e
   ]
-  place_stays o (Stepped q (Ok Written)) p x k e = e
-  place_stays o (Stepped q (Ok (Viewed view))) p x k e = e
-  place_stays o (Stepped q (Err why)) p x k e = e
+  place_stays bounds o (Stepped q (Ok Written)) p x k e = e
+  place_stays bounds o (Stepped q (Ok (Viewed view))) p x k e = e
+  place_stays bounds o (Stepped q (Err why)) p x k e = e
 
   -- a call that is all of a list
   only_call : (h g : SnapCall) → Contains (h ∷ []) g → h ≡ g
@@ -552,7 +536,7 @@ module _ {S R V U K : Type 0} (t : LawfulPlaces S R V U K) (scans : ℕ → ℕ)
   -- what holds after every run
   pub record Holds (most : ℕ) (w : SnapState S U K) (r : List SnapCall) : Type 0 where
     pub object : SnapObject
-    pub run : Run observed (Allows (bounds_with t scans)) new_object r object
+    pub run : Run observed (Allows (bounds_with t most scans)) new_object r object
     pub tied : IsTied t w object
     pub same_most : w.most ≡ most
     pub answered : (p x : ℕ) → Contains r (Stepped p (Ok (Placed x))) → object.place p ≡ Some x
@@ -560,13 +544,14 @@ module _ {S R V U K : Type 0} (t : LawfulPlaces S R V U K) (scans : ℕ → ℕ)
   holds_on : (most : ℕ) → BoundsScans t.known most scans → (w : SnapState S U K) (r : List SnapCall) (h : SnapCall) → Holds most w r → IsReplyOf w h → Holds most (next_of w h) (r ++ h ∷ [])
   holds_on most fits w r h k is =
       let f = follows w k.object k.tied (rw k.same_most fits) h is in
+      let allowed : Allows (bounds_with t most scans) k.object h = subst (λ (m : ℕ). Allows (bounds_with t m scans) k.object h) k.same_most f.0 in
       record {
         object = observed k.object h;
-        run = run_more observed (Allows (bounds_with t scans)) new_object r k.object h k.run f.0;
+        run = run_more observed (Allows (bounds_with t most scans)) new_object r k.object h k.run allowed;
         tied = f.1;
         same_most = most_kept t.known w h ∙ k.same_most;
         answered = λ p x c. elim (Contains-append_cases r (h ∷ []) (Stepped p (Ok (Placed x))) c) [
-          | inl old ↦ place_stays k.object h p x f.0 (k.answered p x old)
+          | inl old ↦ place_stays (bounds_with t most scans) k.object h p x allowed (k.answered p x old)
           | inr now ↦ told_now k.object h p x (only_call h (Stepped p (Ok (Placed x))) now)
         ];
       }
@@ -593,18 +578,31 @@ module _ {S R V U K : Type 0} (known : KnownPlaces S R V U K) (laws : PlacesLaws
   after_all w first r new a = holds_after lawful (all_reads first) first new (λ b some l. omega arith) w r a
 
   pub law_holds : (w : SnapState S U K) → IsLawful known w
-  law_holds w first r scans new fits a = let k = holds_after lawful scans first new fits w r a in (k.object, k.run)
+  law_holds w first scans new fits r a = let k = holds_after lawful scans first new fits w r a in (k.object, k.run)
 
-  pub distinct_holds : (w : SnapState S U K) (id : ℕ) (first : S) (r : List SnapCall) → known.ties.IsNew first → IsAfter known first w r → (x : ℕ) → place_in known w id ≡ Some x → (other : ℕ) → place_in known w other ≡ Some x → other ≡ id
-  distinct_holds w id first r new a x mine other theirs =
+  pub all_distinct : (w : SnapState S U K) → HasDistinctPlaces known w
+  all_distinct w first r new a p q x mine theirs =
       let k = after_all w first r new a in
-      k.tied.history.distinct other id x (sym (place_is lawful (all_reads first) w k.object k.tied other) ∙ theirs) (sym (place_is lawful (all_reads first) w k.object k.tied id) ∙ mine)
+      k.tied.history.distinct q p x (sym (place_is lawful (all_reads first) w k.object k.tied q) ∙ theirs) (sym (place_is lawful (all_reads first) w k.object k.tied p) ∙ mine)
 
-  pub told_holds : (w : SnapState S U K) (id : ℕ) (first : S) (r : List SnapCall) → known.ties.IsNew first → IsAfter known first w r → (x : ℕ) → Contains r (Stepped id (Ok (Placed x))) → place_in known w id ≡ Some x
-  told_holds w id first r new a x c =
+  pub told_holds : (w : SnapState S U K) (p : ℕ) → KeepsTold known w p
+  told_holds w p first r new a x c =
       let k = after_all w first r new a in
-      place_is lawful (all_reads first) w k.object k.tied id ∙ k.tied.told id x (k.answered id x c)
+      place_is lawful (all_reads first) w k.object k.tied p ∙ k.tied.told p x (k.answered p x c)
 
   -- the memory agrees with those who have begun
-  pub consistent_holds : (w : SnapState S U K) (first : S) (r : List SnapCall) → known.ties.IsNew first → IsAfter known first w r → known.ties.IsConsistent w.memory (length w.participants) (ways_of w.participants)
+  pub consistent_holds : (w : SnapState S U K) → IsConsistentAfter known w
   consistent_holds w first r new a = let k = after_all w first r new a in k.tied.consistent
+
+  pub own_access_holds : (w : SnapState S U K) (p : ℕ) → MakesOwnAccess known w p
+  own_access_holds w p first r new a c is = let k = after_all w first r new a in access_tied lawful w k.object k.tied p c is
+
+  size_kept : (w : SnapState S U K) (first : S) (r : List SnapCall) → known.ties.IsNew first → IsAfter known first w r → known.most_of w.memory ≡ known.most_of first
+  size_kept w first r new a = let k = after_all w first r new a in sym k.tied.most ∙ k.same_most
+
+  -- who begins is the same after any calls
+  pub begins_the_same : BeginsAlike known → (p : ℕ) → BeginsTheSame known p
+  begins_the_same alike p first other w x r s new new' size a b =
+      let sizes : known.most_of w.memory ≡ known.most_of x.memory = size_kept w first r new a ∙ size ∙ sym (size_kept x other s new' b) in
+      let walks = alike.walk w.memory x.memory (length w.participants) (length x.participants) (ways_of w.participants) (ways_of x.participants) (consistent_holds w first r new a) (consistent_holds x other s new' b) sizes in
+      rw (alike.way (length w.participants) (length x.participants) p, walks) refl

@@ -41,11 +41,13 @@ module _ {S R V U K : Type 0} (t : LawfulPlaces S R V U K) (w : SnapState S U K)
     ways_at : (q : ℕ) → set_at (ways_of w.participants) p (Some c.walker) q ≡ ways_of w.participants q
     ways_at q = ap (λ (g : ℕ → Option U). g q) ways_same
 
-    -- and changes no segment
-    pub tied_with : (task : Task) (steps since : ℕ) → IsDoing t (era_now t w o i) task steps since p c → IsTied t (world_with w w.memory p c) (with_task o p task steps since)
-    tied_with task steps since doing =
-        tied_next t w o i p c ps (put_there w.participants p v c there) (with_task o p task steps since) w.memory (length w.participants) i.past i.place i.who (record {
-          others = λ q n. (set_at-other o.task p task q n, set_at-other o.steps p steps q n, set_at-other o.since p since q n);
+    -- and changes no segment; of the others so many updates were asked as before
+    pub tied_with : (updates : ℕ → ℕ) → ((q : ℕ) → q ≢ p → updates q ≡ o.updates q) → updates p ≡ c.updates → (task : Task) (steps since : ℕ) → IsDoing t (era_now t w o i) task steps since p c →
+        IsTied t (world_with w w.memory p c) (record (with_task o p task steps since) { updates = updates })
+    tied_with updates of_others asked task steps since doing =
+        tied_next t w o i p c ps (put_there w.participants p v c there) (record (with_task o p task steps since) { updates = updates }) w.memory (length w.participants) i.past i.place i.who (record {
+          others = λ q n. (set_at-other o.task p task q n, set_at-other o.steps p steps q n, set_at-other o.since p since q n, of_others q n);
+          asked = asked;
           most = refl;
           many = many;
           counted = i.counted;
@@ -104,17 +106,18 @@ module _ {S R V U K : Type 0} (t : LawfulPlaces S R V U K) (w : SnapState S U K)
             helps = λ m view h. help_kept o.last i.past o.moment i.place i.history p x own r by one_more help y m view h;
           }
 
-      pub tied_written : (steps since : ℕ) → c.identity ≡ p → c.walk ≡ t.known.walk_from w.memory → c.pending ≡ Nothing → c.updates ≡ r.number → IsTied t (world_with w written p c) (with_moment (with_task o p Idle steps since) p (Some r.value))
-      tied_written steps since named walk idle updates =
+      pub tied_written : (steps since : ℕ) → c.identity ≡ p → c.walk ≡ t.known.walk_from w.memory → c.pending ≡ Nothing → c.updates ≡ r.number → c.updates ≡ v.program.updates → IsTied t (world_with w written p c) (with_moment (with_task o p Idle steps since) p (Some r.value))
+      tied_written steps since named walk idle updates kept =
           let k = t.laws.written w.memory (length w.participants) (ways_of w.participants) i.consistent p x v.program.walker way here r in
           let mine : t.known.place_of c.walker ≡ Some x = ap t.known.place_of same ∙ here in
           let done : IsDoing t after Idle steps since p c = record {
             identity = named;
             walk = walk ∙ sym k.kept.beginning;
-            at = rw (mine, idle) (updates ∙ sym (ap number here_now));
+            at = rw (mine, idle) (updates ∙ sym (ap number here_now), inl refl);
           } in
           tied_next t w o i p c ps (put_there w.participants p v c there) (with_moment (with_task o p Idle steps since) p (Some r.value)) written (length w.participants) wrote i.place i.who (record {
-            others = λ q n. (set_at-other o.task p Idle q n, set_at-other o.steps p steps q n, set_at-other o.since p since q n);
+            others = λ q n. (set_at-other o.task p Idle q n, set_at-other o.steps p steps q n, set_at-other o.since p since q n, refl);
+            asked = i.asked p v there ∙ sym kept;
             most = k.kept.most;
             many = many;
             counted = i.counted;
@@ -177,9 +180,9 @@ module _ {S R V U K : Type 0} (t : LawfulPlaces S R V U K) (w : SnapState S U K)
 
   -- the object has p at this task, and may have been told its place
   pub tied_joined : (ps : List (Participant (Client U K))) → ((q : ℕ) → participant_of q ps ≡ set_at (λ u. participant_of u w.participants) p (Some (record { identity = p; program = c; ended = false })) q) → length ps ≡ n →
-      (o' : SnapObject) → o'.begun ≡ n → o'.last ≡ o.last → o'.moment ≡ o.moment → ((q : ℕ) → q ≢ p → (o'.task q ≡ o.task q) × (o'.steps q ≡ o.steps q) × (o'.since q ≡ o.since q)) → ((q x : ℕ) → o'.place q ≡ Some x → (o.place q ≡ Some x) ⊎ ((q ≡ p) × (t.known.place_of c.walker ≡ Some x))) →
+      (o' : SnapObject) → o'.begun ≡ n → o'.last ≡ o.last → o'.moment ≡ o.moment → ((q : ℕ) → q ≢ p → (o'.task q ≡ o.task q) × (o'.steps q ≡ o.steps q) × (o'.since q ≡ o.since q) × (o'.updates q ≡ o.updates q)) → o'.updates p ≡ c.updates → ((q x : ℕ) → o'.place q ≡ Some x → (o.place q ≡ Some x) ⊎ ((q ≡ p) × (t.known.place_of c.walker ≡ Some x))) →
       IsDoing t era_joined (o'.task p) (o'.steps p) (o'.since p) p c → IsTied t (record { memory = memory; most = w.most; participants = ps }) o'
-  tied_joined ps put many o' counted last moment others told doing =
+  tied_joined ps put many o' counted last moment others asked told doing =
       let history : IsHistory o.last i.past o.moment place' = history_joined o.last i.past o.moment i.place i.history p (t.known.place_of c.walker) absent free in
       let kept_place : (q x : ℕ) → i.place q ≡ Some x → place' q ≡ Some x = λ q x e. elim (eqb_tells q p) [
         | inl u ↦ absurd (let k : None ≡ Some x = sym absent ∙ ap i.place (sym u.1) ∙ e in cc)
@@ -187,6 +190,7 @@ module _ {S R V U K : Type 0} (t : LawfulPlaces S R V U K) (w : SnapState S U K)
       ] in
       tied_next t w o i p c ps put o' memory n i.past place' who (record {
         others = others;
+        asked = asked;
         most = kept.most;
         many = many;
         counted = counted;

@@ -16,7 +16,7 @@ use Rattle.snapshot_core.specs.Scan.{scan_from}
 use Rattle.snapshot_core.specs.SnapWorld.{SnapState, way_now, ways_of}
 use Rattle.snapshot_core.specs.Places.{segment_in}
 use Rattle.snapshot_core.specs.Snapshot.{Task, SnapObject, new_object}
-use Rattle.snapshot_core.specs.Snapshot.Task.{Placing, Scanning, Updating}
+use Rattle.snapshot_core.specs.Snapshot.Task.{Absent, Idle, Placing, Scanning, Updating}
 use Rattle.snapshot_core.proofs.LawfulPlaces.{LawfulPlaces}
 use Rattle.snapshot_core.proofs.Histories.{number, IsHelp, IsHistory}
 use Rattle.snapshot_core.proofs.Collecting.{IsRoll}
@@ -48,6 +48,10 @@ IsGoing t e own since steps s = GoesOn t e.memory e.begun e.last e.past e.place 
 abbrev pub IsScanning : {S R V U K : Type 0} → LawfulPlaces S R V U K → Era S → ℕ → ℕ → ℕ → Scan K → Type 0
 IsScanning t e own since steps s = ((steps ≡ 0) × (s ≡ scan_from (t.known.walk_from e.memory))) ⊎ ((0 < steps) × IsGoing t e own since steps s)
 
+-- nothing is pending: the task is done, or it is a way to a place that takes no step
+abbrev pub HasNothing : {S R V U K : Type 0} → LawfulPlaces S R V U K → Task → Type 0
+HasNothing t task = (task ≡ Idle) ⊎ ((task ≡ Placing) × ((b : ℕ) → t.known.ties.placing b ≡ 0))
+
 -- what a participant still has to do agrees with what it was asked for. Who has no place is on its way
 abbrev pub IsAtTask : {S R V U K : Type 0} → LawfulPlaces S R V U K → Era S → Task → ℕ → ℕ → Client U K → Option ℕ → Pending → Type 0
 IsAtTask t e task steps since c None Nothing = ⊥
@@ -55,7 +59,7 @@ IsAtTask t e task steps since c None Places = (task ≡ Placing) × (c.updates �
 IsAtTask t e task steps since c None Scans = ⊥
 IsAtTask t e task steps since c None (Update new_value) = ⊥
 IsAtTask t e task steps since c None (Writing new_value view) = ⊥
-IsAtTask t e task steps since c (Some own) Nothing = c.updates ≡ number (e.past e.last own)
+IsAtTask t e task steps since c (Some own) Nothing = (c.updates ≡ number (e.past e.last own)) × HasNothing t task
 IsAtTask t e task steps since c (Some own) Places = ⊥
 IsAtTask t e task steps since c (Some own) Scans =
     (task ≡ Scanning) × (c.updates ≡ number (e.past e.last own)) × IsScanning t e own since steps c.scan
@@ -88,7 +92,7 @@ module _ {S R V U K : Type 0} (t : LawfulPlaces S R V U K) (e f : Era S) where
   at_task_on task steps since c None Scans k i = i
   at_task_on task steps since c None (Update new_value) k i = i
   at_task_on task steps since c None (Writing new_value view) k i = i
-  at_task_on task steps since c (Some own) Nothing k i = i ∙ ap number (sym (k own refl).mine)
+  at_task_on task steps since c (Some own) Nothing k i = (i.0 ∙ ap number (sym (k own refl).mine), i.1)
   at_task_on task steps since c (Some own) Places k i = i
   at_task_on task steps since c (Some own) Scans k i = (i.0, i.1 ∙ ap number (sym (k own refl).mine), scanning_on own since steps c.scan (k own refl) i.2)
   at_task_on task steps since c (Some own) (Update new_value) k i = (i.0, i.1 ∙ ap (λ (z : Option Record). number z + 1) (sym (k own refl).mine), scanning_on own since steps c.scan (k own refl) i.2)
@@ -115,6 +119,8 @@ pub record IsTied {S R V U K : Type 0} (t : LawfulPlaces S R V U K) (w : SnapSta
   pub history : IsHistory o.last past o.moment place
   pub present : (x : ℕ) → past o.last x ≡ segment_in t.known w.memory x
   pub told : (p x : ℕ) → o.place p ≡ Some x → place p ≡ Some x
+  pub absent : (p : ℕ) → participant_of p w.participants ≡ None → (o.task p ≡ Absent) × (o.updates p ≡ 0)
+  pub asked : (p : ℕ) (v : Participant (Client U K)) → participant_of p w.participants ≡ Some v → o.updates p ≡ v.program.updates
   pub clients : (p : ℕ) (v : Participant (Client U K)) → participant_of p w.participants ≡ Some v →
       IsDoing t (record { memory = w.memory; begun = length w.participants; last = o.last; past = past; moment = o.moment; place = place; who = who }) (o.task p) (o.steps p) (o.since p) p v.program
 
@@ -140,6 +146,8 @@ tied_new t first new = record {
   };
   present = λ x. sym (t.laws.empty first new x);
   told = λ p x e. absurd (cc);
+  absent = λ p h. (refl, refl);
+  asked = λ p v h. absurd (cc);
   clients = λ p v h. absurd (cc);
 }
 
@@ -186,7 +194,8 @@ module _ {S R V U K : Type 0} (t : LawfulPlaces S R V U K) (w : SnapState S U K)
 
       -- what a step of p owes
       pub record IsNext : Type 0 where
-        pub others : (q : ℕ) → q ≢ p → (o'.task q ≡ o.task q) × (o'.steps q ≡ o.steps q) × (o'.since q ≡ o.since q)
+        pub others : (q : ℕ) → q ≢ p → (o'.task q ≡ o.task q) × (o'.steps q ≡ o.steps q) × (o'.since q ≡ o.since q) × (o'.updates q ≡ o.updates q)
+        pub asked : o'.updates p ≡ c.updates
         pub most : t.known.most_of memory ≡ t.known.most_of w.memory
         pub many : length ps ≡ n
         pub counted : o'.begun ≡ n
@@ -216,6 +225,14 @@ module _ {S R V U K : Type 0} (t : LawfulPlaces S R V U K) (w : SnapState S U K)
             history = k.history;
             present = k.present;
             told = k.told;
+            absent = λ q none. elim (eqb_tells q p) [
+              | inl e ↦ absurd (let own : participant_of p ps ≡ None = rw e.1 at none in let k : Some new ≡ None = sym (set_at-same (λ z. participant_of z w.participants) p (Some new)) ∙ sym (put p) ∙ own in cc)
+              | inr e ↦ let was = i.absent q (sym (put_other q e.1) ∙ none) in ((k.others q e.1).0 ∙ was.0, (k.others q e.1).3 ∙ was.1)
+            ];
+            asked = λ q u h. elim (eqb_tells q p) [
+              | inl e ↦ ap o'.updates e.1 ∙ k.asked ∙ ap (λ (z : Participant (Client U K)). z.program.updates) (put_own q u e.1 h)
+              | inr e ↦ (k.others q e.1).3 ∙ i.asked q u (sym (put_other q e.1) ∙ h)
+            ];
             clients = λ q u h. elim (eqb_tells q p) [
               | inl e ↦ rw (k.many, e.1, ← put_own q u e.1 h) k.doing
               | inr e ↦

@@ -1,7 +1,7 @@
 -- what a participant of a snapshot object does
-use Rattle.std.specs.Prelude.{◌≡◌, ◌⊎◌, ℕ, ◌+◌, Bool, true, false, if◌then◌else◌, List, Option, Some, None}
+use Rattle.std.specs.Prelude.{ℕ, ◌+◌, Bool, true, false, if◌then◌else◌, List, Option, Some, None}
 use Rattle.step_memory.specs.declared.access.Access.{Access}
-use Rattle.step_memory.specs.declared.access.Access.TheVariants.{Read, Write, TestAndSet, Clear, Nothing as Idle}
+use Rattle.step_memory.specs.declared.access.Access.TheVariants.{Read, Write, Nothing as Idle}
 use Rattle.step_memory.specs.declared.access.Answer.{Answer}
 use Rattle.step_memory.specs.declared.access.Answer.TheVariants.{Value, WasSet, Done}
 use Rattle.step_memory.specs.declared.note.Note.{Note}
@@ -111,23 +111,6 @@ module _ {U K R V : Type 0} (walker : ProgramSteps U R V ℕ) (place_of : U → 
 
   abbrev pub next_access : Client U K → Access R V
   next_access c = access_for c c.pending
-
-module _ {U K R V : Type 0} (walker : ProgramSteps U R V ℕ) (place_of : U → Option ℕ) (walks : WalkSteps K R V) where
-  -- an access of one who is on its way to its place
-  abbrev pub IsOnWay : Client U K → Access R V → Type 0
-  IsOnWay c a = (c.pending ≡ Placing) × (a ≡ walker.next c.walker)
-
-  -- the last access of an update: the write of the segment at its own place
-  abbrev pub IsOwnWrite : Client U K → R → Type 0
-  IsOwnWrite c r = (value : ℕ) × (view : List (ℕ × ℕ)) × (place : ℕ) × (c.pending ≡ Writing value view) × (place_of c.walker ≡ Some place) × (r ≡ walks.segment place)
-
-  -- an access of this participant: one on its way, a read, or that write
-  abbrev pub IsOwnAccess : Client U K → Access R V → Type 0
-  IsOwnAccess c (Read r) = Unit {0}
-  IsOwnAccess c (Write r new) = IsOnWay c (Write r new) ⊎ IsOwnWrite c r
-  IsOwnAccess c (TestAndSet r) = IsOnWay c (TestAndSet r)
-  IsOwnAccess c (Clear r) = IsOnWay c (Clear r)
-  IsOwnAccess c Idle = Unit {0}
 
 module _ {U K R V : Type 0} (walker : ProgramSteps U R V ℕ) (walks : WalkSteps K R V) where
   abbrev pub after_for : Client U K → Pending → Answer V → Client U K

@@ -1,10 +1,11 @@
 -- what ties segments in a row to places and walks
-use Rattle.std.specs.Prelude.{◌≡◌, ℕ, ◌<◌, ◌≤◌, List, length, Option, Some, None, slice_index_or}
+use Rattle.std.specs.Prelude.{◌≡◌, ℕ, ◌+◌, ◌*◌, ◌<◌, ◌≤◌, List, length, replicate, Option, Some, None, slice_index_or}
 use Rattle.step_memory.specs.declared.record.Record.{Record}
 use Rattle.snapshot_core.specs.declared.fixed.FixedWalker.{FixedWalker}
 use Rattle.snapshot_core.specs.declared.fixed.FixedWalk.{FixedWalk}
 use Rattle.snapshot_core.specs.Fixed.{fixed_steps, walker_steps, fixed_walks, fixed_place, fixed_walker, fixed_walk}
 use Rattle.snapshot_core.specs.Places.{PlaceTies, KnownPlaces, places_by}
+use Rattle.snapshot_core.specs.Snapshot.{SnapBounds}
 
 -- at most 16 segments, and all of them are empty
 pub record IsEmptyRow (segments : List (Option Record)) : Type 0 where
@@ -40,3 +41,11 @@ fixed_ties = record {
 -- segments in a row, as places
 abbrev pub fixed_places : KnownPlaces (List (Option Record)) ℕ (Option Record) FixedWalker FixedWalk
 fixed_places = places_by walker_steps fixed_place fixed_walks fixed_steps length fixed_walker fixed_walk fixed_ties
+
+-- so many empty segments in a row
+abbrev pub fresh_row : ℕ → List (Option Record)
+fresh_row most = replicate most None
+
+-- over m of them nobody takes a step to its place, and a scan makes at most m(m + 1) reads
+abbrev pub fixed_bounds : ℕ → SnapBounds
+fixed_bounds m = record { most = m; placing = λ b. 0; scanning = λ b. m * (m + 1) }

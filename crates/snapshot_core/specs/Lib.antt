@@ -8,4 +8,5 @@ pub mod FixedTies
 pub mod FixedLaws
 pub mod SnapWorld
 pub mod SnapCalls
+pub mod Standing
 pub mod Snapshot

@@ -1,5 +1,5 @@
 -- what places promise: of the ways to them, and of walks over their segments
-use Rattle.std.specs.Prelude.{◌≡◌, ◌≢◌, ◌↔◌, ℕ, ◌+◌, ◌*◌, ◌<◌, ◌≤◌, false, Option, Some, None}
+use Rattle.std.specs.Prelude.{◌≡◌, ◌≢◌, ◌↔◌, ◌⊎◌, ℕ, ◌+◌, ◌*◌, ◌<◌, ◌≤◌, false, Option, Some, None}
 use Rattle.step_memory.specs.SetAt.{set_at}
 use Rattle.step_memory.specs.declared.access.Access.{Access}
 use Rattle.step_memory.specs.declared.access.Access.TheVariants.{Read, Write, TestAndSet, Clear, Nothing}
@@ -128,12 +128,21 @@ module _ {S R V U K : Type 0} (t : KnownPlaces S R V U K) where
     pub goes : (s : S) (b : ℕ) (ways : ℕ → Option U) → t.ties.IsConsistent s b ways →
         (k : K) (j : ℕ) → t.ties.HasRead s k j → (j + 1 ≤ t.ties.reads (t.most_of s) b) × ReadsOn t s k
     pub rising : (most b : ℕ) → t.ties.reads most b ≤ t.ties.reads most (b + 1)
+    -- who begins has no place yet, or nobody takes a step to its place
+    pub waits : (b p : ℕ) → (t.place_of (t.walker_from b p) ≡ None) ⊎ ((c : ℕ) → t.ties.placing c ≡ 0)
     -- an access on the way to a place is a read, a write or none
     pub plain : (u : U) → IsPlain (t.walker.next u)
     -- and only such an access may want memory: no read does, nor the write of a segment, nor an access that is none
     pub sure_nothing : (s : S) → t.memory.may_refuse s Nothing ≡ false
     pub sure_reads : (s : S) (r : R) → t.memory.may_refuse s (Read r) ≡ false
     pub sure_writes : (s : S) (x : ℕ) (segment : Option Record) → t.memory.may_refuse s (Write (t.walks.segment x) (t.walks.stored segment)) ≡ false
+
+-- places that do not go by the order of beginning: a way is a function of the identity alone, and a walk's beginning one of
+-- the size
+pub record BeginsAlike {S R V U K : Type 0} (t : KnownPlaces S R V U K) : Type 0 where
+  pub way : (b c p : ℕ) → t.walker_from b p ≡ t.walker_from c p
+  pub walk : (s other : S) (b c : ℕ) (ways others : ℕ → Option U) → t.ties.IsConsistent s b ways → t.ties.IsConsistent other c others →
+      t.most_of s ≡ t.most_of other → t.walk_from s ≡ t.walk_from other
 
 -- at most this many steps of a scan, where b have begun and b is not 0: as many collects as there may be, each of as many
 -- reads as a walk may make

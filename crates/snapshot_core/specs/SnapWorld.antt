@@ -1,20 +1,25 @@
 -- what the calls of a snapshot object answer and leave
-use Rattle.std.specs.Prelude.{ℕ, Bool, nat_lt, if◌then◌else◌, length, List, Option, Some, None, option_and_then, Result, Err}
+use Rattle.std.specs.Prelude.{◌≡◌, true, ℕ, Bool, nat_lt, if◌then◌else◌, length, List, Option, Some, None, option_and_then, Result, Err}
+use Rattle.step_memory.specs.declared.access.Access.{Access}
+use Rattle.step_memory.specs.declared.access.Access.TheVariants.{Read, Write, Nothing as Idle}
 use Rattle.step_memory.specs.declared.note.Note.{Note}
 use Rattle.step_memory.specs.declared.note.Note.TheVariants.{Quiet, Said, Ended}
 use Rattle.step_memory.specs.declared.refusal.Refusal.{Refusal}
 use Rattle.step_memory.specs.declared.refusal.Refusal.TheVariants.{AlreadyBegun, NotBegun, Finished, Spent}
 use Rattle.step_memory.specs.declared.participant.Participant.{Participant}
 use Rattle.step_memory.specs.Participant.{participant_of, program_of}
+use Rattle.step_memory.specs.Locality.{LookAlike}
 use Rattle.step_memory.specs.Steps.{ProgramSteps}
 use Rattle.step_memory.specs.WorldState.{WorldState}
 use Rattle.step_memory.specs.World.{after_begin, after_set, step_answer, after_step, may_refuse_step}
 use Rattle.step_memory.specs.Calls.{reply_of}
 use Rattle.snapshot_core.specs.declared.client.Client.{Client}
+use Rattle.snapshot_core.specs.declared.client.Pending.{Pending}
+use Rattle.snapshot_core.specs.declared.client.Pending.TheVariants.{Nothing, Placing, Scan, Update, Write as Writing}
 use Rattle.snapshot_core.specs.declared.client.SnapReply.{SnapReply}
 use Rattle.snapshot_core.specs.declared.client.SnapReply.TheVariants.{Quiet as Silent}
-use Rattle.snapshot_core.specs.Places.{KnownPlaces}
-use Rattle.snapshot_core.specs.Client.{client_at, client_steps, next_access, IsOwnAccess, is_idle, scanning, updating}
+use Rattle.snapshot_core.specs.Places.{KnownPlaces, IsPlain}
+use Rattle.snapshot_core.specs.Client.{client_at, client_steps, is_idle, scanning, updating, record_of}
 
 -- a memory of type S, and participants on ways U whose scans take walks K
 abbrev pub SnapState : Type 0 → Type 0 → Type 0 → Type 0
@@ -102,6 +107,23 @@ module _ {S R V U K : Type 0} (t : KnownPlaces S R V U K) where
   abbrev pub may_lack_memory : SnapState S U K → ℕ → Bool
   may_lack_memory w id = may_refuse_step clients_over t.memory w id
 
-  -- the next access of a participant is one on its way, a read, or the write of its own segment
-  abbrev pub MakesOwnAccess : Client U K → Type 0
-  MakesOwnAccess c = IsOwnAccess t.walker t.place_of t.walks c (next_access t.walker t.place_of t.walks c)
+  -- an access of a participant that has this to do: on its way to a place a read, a write or none; in a scan a read; and at
+  -- the end of an update the write of its own segment
+  abbrev pub IsAccessFor : Client U K → Pending → Access R V → Type 0
+  IsAccessFor c Nothing a = a ≡ Idle
+  IsAccessFor c Placing a = IsPlain a
+  IsAccessFor c Scan a = (r : R) × (a ≡ Read r)
+  IsAccessFor c (Update value) a = (r : R) × (a ≡ Read r)
+  IsAccessFor c (Writing value view) a = (place : ℕ) × (t.place_of c.walker ≡ Some place) × (a ≡ Write (t.walks.segment place) (t.walks.stored (Some (record_of c value view))))
+
+  -- p is on its way to its place
+  abbrev pub IsOnWay : SnapState S U K → ℕ → Type 0
+  IsOnWay w p = (c : Client U K) × (program_of p w.participants ≡ Some c) × (c.pending ≡ Placing)
+
+  -- of p's steps only one on its way to its place may be refused for want of memory
+  abbrev pub LacksOnWay : SnapState S U K → ℕ → Type 0
+  LacksOnWay w p = may_lack_memory w p ≡ true → IsOnWay w p
+
+  -- in each object that looks alike to p the answer is the same
+  abbrev pub AnswersAlike : SnapState S U K → ℕ → Result SnapReply Refusal → Type 0
+  AnswersAlike w p reply = (other : SnapState S U K) → LookAlike clients_over t.memory p w other → reply ≡ snap_answer other p

@@ -1,9 +1,11 @@
 -- the law of the snapshot object (Afek et al. 1993), over its calls with their replies alone: what a scan shows stood in
 -- the object at one moment within the scan; and a scan ends whatever the others do. That steps are counted, and so
 -- bounded, is this project's profile
-use Rattle.std.specs.Prelude.{◌≡◌, ◌≢◌, ℕ, ◌+◌, ◌<◌, ◌≤◌, ◌==◌, if◌then◌else◌, List, Option, Some, None, Ok, Err}
+use Rattle.std.specs.Prelude.{◌≡◌, ◌≢◌, ◌⊎◌, ℕ, ◌+◌, ◌<◌, ◌≤◌, ◌==◌, nat_lt, nat_le, if◌then◌else◌, Bool, true, false, List, ◌++◌, length, Option, Some, None, Ok, Err}
 use Rattle.step_memory.specs.SetAt.{set_at}
-use Rattle.step_memory.specs.declared.refusal.Refusal.TheVariants.{NoMemory}
+use Rattle.step_memory.specs.declared.refusal.Refusal.{Refusal}
+use Rattle.step_memory.specs.declared.refusal.Refusal.TheVariants.{ZeroIdentity, AlreadyBegun, Full, NotBegun, Finished, Spent, NoMemory}
+use Rattle.step_memory.specs.World.{done_unless}
 use Rattle.step_memory.specs.Runs.{Run}
 use Rattle.snapshot_core.specs.declared.client.SnapReply.{SnapReply}
 use Rattle.snapshot_core.specs.declared.client.SnapReply.TheVariants.{Quiet, Placed, Written, View as Viewed}
@@ -13,19 +15,21 @@ use Rattle.snapshot_core.specs.SnapWorld.{SnapState}
 use Rattle.snapshot_core.specs.SnapCalls.{SnapCall, IsAfter}
 use Rattle.snapshot_core.specs.SnapCalls.SnapCall.{Began, Updated, Scanned, Stepped}
 
--- what an identity has begun, or was asked for, and has not done yet
+-- whether an identity has begun, and what it was asked for and has not done yet
 pub data Task : Type 0 where
+  Absent : Task
   Idle : Task
   Placing : Task
   Scanning : Task
   Updating : ℕ → Task
 
--- the object: how many have begun, what each identity has to do, how many steps it has made of it, which moment was the
--- last at the first of them, and the place that it has told. Moments are maps from identity to value, by their numbers
--- from 0 to the last
+-- the object: how many have begun, what each identity has to do, how many updates it was asked for, how many steps it has
+-- made of what it has to do, which moment was the last at the first of them, and the place that it has told. Moments are
+-- maps from identity to value, by their numbers from 0 to the last
 pub record SnapObject : Type 0 where
   pub begun : ℕ
   pub task : ℕ → Task
+  pub updates : ℕ → ℕ
   pub steps : ℕ → ℕ
   pub since : ℕ → ℕ
   pub place : ℕ → Option ℕ
@@ -37,9 +41,10 @@ abbrev pub no_values : ℕ → Option ℕ
 no_values q = None
 
 abbrev pub new_object : SnapObject
-new_object = record { begun = 0; task = λ p. Idle; steps = λ p. 0; since = λ p. 0; place = λ p. None; last = 0; moment = λ i. no_values }
+new_object = record { begun = 0; task = λ p. Absent; updates = λ p. 0; steps = λ p. 0; since = λ p. 0; place = λ p. None; last = 0; moment = λ i. no_values }
 
 abbrev pub value_written : Task → Option ℕ
+value_written Absent = None
 value_written Idle = None
 value_written Placing = None
 value_written Scanning = None
@@ -55,6 +60,10 @@ with_task o p task steps since = record o { task = set_at o.task p task; steps =
 
 abbrev pub asked_for : SnapObject → ℕ → Task → SnapObject
 asked_for o p task = with_task o p task 0 0
+
+-- one more update was asked of p
+abbrev pub with_update : SnapObject → ℕ → SnapObject
+with_update o p = record o { updates = set_at o.updates p (o.updates p + 1) }
 
 -- one more step of p, which has then this to do
 abbrev pub stepped_to : SnapObject → ℕ → Task → SnapObject
@@ -80,7 +89,7 @@ observed_step o p (Viewed view) = stepped_to o p Idle
 abbrev pub observed : SnapObject → SnapCall → SnapObject
 observed o (Began p (Ok done)) = with_begun (asked_for o p Placing)
 observed o (Began p (Err why)) = o
-observed o (Updated p value (Ok done)) = asked_for o p (Updating value)
+observed o (Updated p value (Ok done)) = with_update (asked_for o p (Updating value)) p
 observed o (Updated p value (Err why)) = o
 observed o (Scanned p (Ok done)) = asked_for o p Scanning
 observed o (Scanned p (Err why)) = o
@@ -92,20 +101,23 @@ pub record IsMoment (view : List (ℕ × ℕ)) (moment : ℕ → Option ℕ) : T
   pub rising : IsRising view
   pub values : (q : ℕ) → value_of q view ≡ moment q
 
--- a view shows a moment from this one on
+-- a view shows a moment from this one on, and has no more pairs than have begun
 pub record ShowsMoment (o : SnapObject) (since : ℕ) (view : List (ℕ × ℕ)) : Type 0 where
   pub index : ℕ
   pub no_earlier : since ≤ index
   pub no_later : index ≤ o.last
   pub is : IsMoment view (o.moment index)
+  pub few : length view ≤ o.begun
 
--- the most steps to a place, and of a scan, where so many have begun
+-- the most participants; and the most steps to a place, and of a scan, where so many have begun
 pub record SnapBounds : Type 0 where
+  pub most : ℕ
   pub placing : ℕ → ℕ
   pub scanning : ℕ → ℕ
 
 -- the most steps of a task. After its scan an update writes once
 abbrev pub most_steps : SnapBounds → ℕ → Task → ℕ
+most_steps bounds begun Absent = 0
 most_steps bounds begun Idle = 0
 most_steps bounds begun Placing = bounds.placing begun
 most_steps bounds begun Scanning = bounds.scanning begun
@@ -117,6 +129,7 @@ pub record IsNewPlace (o : SnapObject) (p place : ℕ) : Type 0 where
   pub free : (q : ℕ) → o.place q ≢ Some place
 
 abbrev pub IsUpdating : Task → Type 0
+IsUpdating Absent = ⊥
 IsUpdating Idle = ⊥
 IsUpdating Placing = ⊥
 IsUpdating Scanning = ⊥
@@ -133,19 +146,70 @@ AllowsStep bounds o p (Placed place) = (o.task p ≡ Placing) × IsStepOf bounds
 AllowsStep bounds o p Written = IsUpdating (o.task p) × IsStepOf bounds o p
 AllowsStep bounds o p (Viewed view) = (o.task p ≡ Scanning) × IsStepOf bounds o p × ShowsMoment o (since_of o p) view
 
+abbrev pub has_begun : Task → Bool
+has_begun Absent = false
+has_begun Idle = true
+has_begun Placing = true
+has_begun Scanning = true
+has_begun (Updating value) = true
+
+module _ (bounds : SnapBounds) (o : SnapObject) (p : ℕ) where
+  -- nothing of p is pending: what it has to do takes no step. So is a way to a place that takes none
+  abbrev pub has_nothing_pending : Bool
+  has_nothing_pending = most_steps bounds o.begun (o.task p) == 0
+
+  -- why each call of p is due to be refused: the first of these that holds
+  abbrev pub begin_due : Option Refusal
+  begin_due =
+      if p == 0 then Some ZeroIdentity
+      else if has_begun (o.task p) then Some AlreadyBegun
+      else if nat_le bounds.most o.begun then Some Full
+      else None
+
+  abbrev pub scan_due : Option Refusal
+  scan_due =
+      if has_begun (o.task p) then (if has_nothing_pending then None else Some AlreadyBegun)
+      else Some NotBegun
+
+  abbrev pub update_due : Option Refusal
+  update_due =
+      if has_begun (o.task p) then (if has_nothing_pending then (if nat_lt (o.updates p) 1000000 then None else Some Spent) else Some AlreadyBegun)
+      else Some NotBegun
+
+  abbrev pub step_due : Option Refusal
+  step_due =
+      if has_begun (o.task p) then (if has_nothing_pending then Some Finished else None)
+      else Some NotBegun
+
+  -- a step on the way to a place, for which nothing else is due, may be refused for want of memory
+  abbrev pub LacksMemory : Refusal → Type 0
+  LacksMemory why = (why ≡ NoMemory) × (step_due ≡ None) × (o.task p ≡ Placing)
+
+-- what a call may answer. It is refused exactly where that is due, but for want of memory
 abbrev pub Allows : SnapBounds → SnapObject → SnapCall → Type 0
-Allows bounds o (Began p reply) = Unit {0}
-Allows bounds o (Updated p value reply) = Unit {0}
-Allows bounds o (Scanned p reply) = Unit {0}
+Allows bounds o (Began p reply) = reply ≡ done_unless (begin_due bounds o p)
+Allows bounds o (Updated p value reply) = reply ≡ done_unless (update_due bounds o p)
+Allows bounds o (Scanned p reply) = reply ≡ done_unless (scan_due bounds o p)
 Allows bounds o (Stepped p (Ok reply)) = AllowsStep bounds o p reply
-Allows bounds o (Stepped p (Err why)) = why ≡ NoMemory → o.task p ≡ Placing
+Allows bounds o (Stepped p (Err why)) = (step_due bounds o p ≡ Some why) ⊎ LacksMemory bounds o p why
 
 -- these calls, with these replies, are those of a snapshot object whose steps keep these bounds
 abbrev pub KeepsSnapshotLaw : SnapBounds → List SnapCall → Type 0
 KeepsSnapshotLaw bounds r = (o : SnapObject) × Run observed (Allows bounds) new_object r o
 
+-- every list of calls that leads to this object from a fresh one over this memory keeps the law within these bounds
+abbrev pub IsLawfulFrom : {S R V U K : Type 0} → KnownPlaces S R V U K → S → SnapBounds → SnapState S U K → Type 0
+IsLawfulFrom t first bounds w = (r : List SnapCall) → IsAfter t first w r → KeepsSnapshotLaw bounds r
+
+-- the bounds over these places, with this one on scans
+abbrev pub bounds_over : {S R V U K : Type 0} → KnownPlaces S R V U K → S → (ℕ → ℕ) → SnapBounds
+bounds_over t first scanning = record { most = t.most_of first; placing = t.ties.placing; scanning = scanning }
+
 -- every list of calls that leads to this object, from places in which nothing was written, keeps the law: where a bound on
 -- scans leaves room for as many collects as there may be
 abbrev pub IsLawful : {S R V U K : Type 0} → KnownPlaces S R V U K → SnapState S U K → Type 0
-IsLawful {S} t w = (first : S) (r : List SnapCall) (scanning : ℕ → ℕ) → t.ties.IsNew first → BoundsScans t (t.most_of first) scanning → IsAfter t first w r →
-    KeepsSnapshotLaw (record { placing = t.ties.placing; scanning = scanning }) r
+IsLawful {S} t w = (first : S) (scanning : ℕ → ℕ) → t.ties.IsNew first → BoundsScans t (t.most_of first) scanning → IsLawfulFrom t first (bounds_over t first scanning) w
+
+-- every front of a list that keeps the law within these bounds keeps it
+abbrev pub HoldsOfFronts : SnapBounds → Type 0
+HoldsOfFronts bounds = (r more : List SnapCall) → KeepsSnapshotLaw bounds (r ++ more) → KeepsSnapshotLaw bounds r

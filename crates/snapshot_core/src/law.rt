@@ -1,13 +1,12 @@
 //! Laws of the snapshot object, which run nothing.
 
-ghost use Rattle.std.specs.Prelude.{◌≡◌, ◌≢◌, ◌≤◌, ℕ, ◌+◌, ◌*◌, List, [], replicate, length, Some, None, false};
-ghost use Rattle.snapshot_core.specs.FixedTies.{fixed_places};
-ghost use Rattle.snapshot_core.specs.SnapCalls.{SnapCall, fresh_over, next, IsReply, IsAfter, LeadsOn};
-ghost use Rattle.snapshot_core.specs.Snapshot.{KeepsSnapshotLaw, IsLawful};
-ghost use Rattle.snapshot_core.specs.SnapWorld.{SnapState, place_in, ways_of, may_lack_memory};
-ghost use Rattle.snapshot_core.specs.declared.client.Client.{Client};
-ghost use Rattle.snapshot_core.specs.declared.client.Pending.TheVariants.{Placing};
-ghost use Rattle.step_memory.specs.Participant.{program_of};
+ghost use Rattle.std.specs.Prelude.{◌≡◌, ◌≤◌, ℕ, [], false};
+ghost use Rattle.snapshot_core.specs.FixedTies.{fixed_places, fresh_row, fixed_bounds};
+ghost use Rattle.snapshot_core.specs.Places.{BeginsAlike};
+ghost use Rattle.snapshot_core.specs.SnapCalls.{SnapCall, fresh_over, IsAfter, CallLeadsOn, MakesOwnAccess, BeginsTheSame, HasDistinctPlaces, IsConsistentAfter};
+ghost use Rattle.snapshot_core.specs.Snapshot.{SnapBounds, IsLawful, IsLawfulFrom, HoldsOfFronts};
+ghost use Rattle.snapshot_core.specs.SnapWorld.{SnapState, may_lack_memory, LacksOnWay};
+ghost use Rattle.snapshot_core.specs.Standing.{BeginsSo, GoesSoIdle, GoesSoBusy};
 
 use crate::fixed::Fixed;
 use crate::places::{Known, PlaceWalker, Places};
@@ -20,7 +19,7 @@ use std::alloc::Allocator;
 /// one at the scan's first read on, and over m segments a scan takes at most m(m + 1) steps and an update one more.
 /// Nobody takes a step to its place, and no step wants memory.
 pub fn snapshot_law<A: Allocator>(world: &SnapWorld<Fixed<A>, A>)
-    ensures law { (r : List SnapCall) → world.now.most ≤ 16 → IsAfter fixed_places (replicate world.now.most None) world.now r → KeepsSnapshotLaw (record { placing = λ b. 0; scanning = λ b. world.now.most * (world.now.most + 1) }) r }
+    ensures law { world.now.most ≤ 16 → IsLawfulFrom fixed_places (fresh_row world.now.most) (fixed_bounds world.now.most) world.now }
     ensures ample { (id : ℕ) → may_lack_memory fixed_places world.now id ≡ false }
 {
     let _world = world;
@@ -29,13 +28,27 @@ pub fn snapshot_law<A: Allocator>(world: &SnapWorld<Fixed<A>, A>)
 /// What structures over a snapshot object stand on, over any places: a new object is after no call, each call with its
 /// reply leads from one that is after some to one that is after these and itself, and calls that an object may be after
 /// keep the law, where nothing was written at first and the bound on scans leaves room for as many collects as have begun
-/// and one more. No two have one place, the memory agrees with the ways of those who have begun, and only a step on a way
-/// to a place may want memory.
+/// and one more. Every front of a list that keeps the law keeps it. No two have one place, the memory agrees with the ways
+/// of those who have begun, only a step on a way to a place may want memory, and each access is one for what its
+/// participant has to do. Over places that do not go by the order of beginning, all who begin under one identity are alike.
 pub fn law_of_snapshot_calls<W: Places>()
     ensures fresh { (first : W) → IsAfter ⟦<W as Known>⟧.places first (fresh_over ⟦<W as Known>⟧.places first) [] }
-    ensures call { (w : SnapState W W.Walker W.Walk) (h : SnapCall) → IsReply ⟦<W as Known>⟧.places w h → LeadsOn ⟦<W as Known>⟧.places w (next ⟦<W as Known>⟧.places w h) h }
+    ensures call { (w : SnapState W W.Walker W.Walk) (call : SnapCall) → CallLeadsOn ⟦<W as Known>⟧.places w call }
     ensures law { (w : SnapState W W.Walker W.Walk) → IsLawful ⟦<W as Known>⟧.places w }
-    ensures distinct { (first : W) (w : SnapState W W.Walker W.Walk) (r : List SnapCall) → W.ties.IsNew first → IsAfter ⟦<W as Known>⟧.places first w r → (p q place : ℕ) → place_in ⟦<W as Known>⟧.places w p ≡ Some place → place_in ⟦<W as Known>⟧.places w q ≡ Some place → q ≡ p }
-    ensures consistent { (first : W) (w : SnapState W W.Walker W.Walk) (r : List SnapCall) → W.ties.IsNew first → IsAfter ⟦<W as Known>⟧.places first w r → W.ties.IsConsistent w.memory (length w.participants) (ways_of w.participants) }
-    ensures sure { (w : SnapState W W.Walker W.Walk) (id : ℕ) (c : Client W.Walker W.Walk) → program_of id w.participants ≡ Some c → c.pending ≢ Placing → may_lack_memory ⟦<W as Known>⟧.places w id ≡ false }
+    ensures front { (bounds : SnapBounds) → HoldsOfFronts bounds }
+    ensures distinct { (w : SnapState W W.Walker W.Walk) → HasDistinctPlaces ⟦<W as Known>⟧.places w }
+    ensures consistent { (w : SnapState W W.Walker W.Walk) → IsConsistentAfter ⟦<W as Known>⟧.places w }
+    ensures sure { (w : SnapState W W.Walker W.Walk) (p : ℕ) → LacksOnWay ⟦<W as Known>⟧.places w p }
+    ensures own { (w : SnapState W W.Walker W.Walk) (p : ℕ) → MakesOwnAccess ⟦<W as Known>⟧.places w p }
+    ensures alike { BeginsAlike ⟦<W as Known>⟧.places → (p : ℕ) → BeginsTheSame ⟦<W as Known>⟧.places p }
+{}
+
+/// What the calls of a snapshot object do to those who take part, over any places: who begins has nothing pending exactly
+/// where it has its place at once; a scan of one who has nothing pending is not refused, and an update exactly after
+/// 1,000,000; one who has something pending is asked for nothing more, and its step is answered, which leaves nothing
+/// pending exactly where the reply is not quiet. Whoever else takes part stands as before.
+pub fn law_of_clients<W: Places>()
+    ensures begun { (w : SnapState W W.Walker W.Walk) (p : ℕ) → BeginsSo ⟦<W as Known>⟧.places w p }
+    ensures idle { (w : SnapState W W.Walker W.Walk) (p : ℕ) → GoesSoIdle ⟦<W as Known>⟧.places w p }
+    ensures busy { (w : SnapState W W.Walker W.Walk) (p : ℕ) → GoesSoBusy ⟦<W as Known>⟧.places w p }
 {}

@@ -1,13 +1,11 @@
 //! A snapshot object, taken step by step.
 
-ghost use Rattle.std.specs.Prelude.{◌≡◌, ◌≢◌, ℕ, [], List, IfOk, OnErr, Err, true, Some, Ok, Contains};
-ghost use Rattle.step_memory.specs.Locality.{IsLocal, LookAlike};
-ghost use Rattle.step_memory.specs.Participant.{program_of};
+ghost use Rattle.std.specs.Prelude.{◌≡◌, ◌≢◌, [], IfOk, OnErr, Err, true};
+ghost use Rattle.step_memory.specs.Locality.{IsLocal};
 ghost use Rattle.step_memory.specs.World.{begin_refusal, done_unless};
-ghost use Rattle.snapshot_core.specs.declared.client.Pending.TheVariants.{Placing};
 ghost use Rattle.snapshot_core.specs.Snapshot.{IsLawful};
-ghost use Rattle.snapshot_core.specs.SnapWorld.{SnapState, place_in, after_snap_begin, scan_refusal, update_refusal, after_scan, after_update, clients_over, snap_answer, after_snap_step, may_lack_memory, MakesOwnAccess};
-ghost use Rattle.snapshot_core.specs.SnapCalls.{SnapCall, fresh_over, IsAfter, LeadsOn};
+ghost use Rattle.snapshot_core.specs.SnapWorld.{place_in, after_snap_begin, scan_refusal, update_refusal, after_scan, after_update, clients_over, snap_answer, after_snap_step, may_lack_memory, IsOnWay, AnswersAlike};
+ghost use Rattle.snapshot_core.specs.SnapCalls.{fresh_over, IsAfter, LeadsOn, MakesOwnAccess, HasDistinctPlaces, KeepsTold};
 ghost use Rattle.snapshot_core.specs.SnapCalls.SnapCall.{Began, Updated, Scanned, Stepped};
 
 use crate::client::{Client, SnapReply};
@@ -109,17 +107,17 @@ where
         ensures answer { result ≢ Err Refusal.NoMemory → result ≡ snap_answer ⟦<W as Known>⟧.places self.old id }
         ensures state { result ≢ Err Refusal.NoMemory → self.new ≡ after_snap_step ⟦<W as Known>⟧.places self.old id }
         ensures refused { OnErr result (self.new ≡ self.old) }
-        ensures ample { (c : Client W.Walker W.Walk) → program_of id self.old.participants ≡ Some c → c.pending ≢ Placing → result ≢ Err Refusal.NoMemory }
+        ensures on_way { result ≡ Err Refusal.NoMemory → IsOnWay ⟦<W as Known>⟧.places self.old id }
         ensures no_memory { result ≡ Err Refusal.NoMemory → may_lack_memory ⟦<W as Known>⟧.places self.old id ≡ true }
         ensures after { LeadsOn ⟦<W as Known>⟧.places self.old self.new (Stepped id result) }
         ensures law { IsLawful ⟦<W as Known>⟧.places self.new }
 
         // Nothing of the object changes but this participant and the register that it names, and in another one that
-        // looks alike to this participant the answer is the same. The access is one on the way to its place, a read, or
-        // the write of its own segment.
+        // looks alike to this participant the answer is the same. The access is one for what it has to do: on its way to
+        // its place a read, a write or none, in a scan a read, at the end of an update the write of its own segment.
         ensures local { IsLocal (clients_over ⟦<W as Known>⟧.places) W.steps id self.old self.new }
-        ensures alike { result ≢ Err Refusal.NoMemory → (other : SnapState W W.Walker W.Walk) → LookAlike (clients_over ⟦<W as Known>⟧.places) W.steps id self.old other → result ≡ snap_answer ⟦<W as Known>⟧.places other id }
-        ensures own { (c : Client W.Walker W.Walk) → program_of id self.old.participants ≡ Some c → MakesOwnAccess ⟦<W as Known>⟧.places c }
+        ensures alike { result ≢ Err Refusal.NoMemory → AnswersAlike ⟦<W as Known>⟧.places self.old id result }
+        ensures own { MakesOwnAccess ⟦<W as Known>⟧.places self.old id }
     {
         let Some(client) = self.world.program(id) else {
             return Err(Refusal::NotBegun);
@@ -138,9 +136,9 @@ where
     pub fn place_of(&self, id: u64) -> Option<Place>
         ensures value { result ≡ place_in ⟦<W as Known>⟧.places self.now id }
 
-        // No one else has it, and where a step has told a place, it is that one.
-        ensures distinct { (first : W) (r : List SnapCall) → W.ties.IsNew first → IsAfter ⟦<W as Known>⟧.places first self.now r → (place : ℕ) → result ≡ Some place → (other : ℕ) → place_in ⟦<W as Known>⟧.places self.now other ≡ Some place → other ≡ id }
-        ensures told { (first : W) (r : List SnapCall) → W.ties.IsNew first → IsAfter ⟦<W as Known>⟧.places first self.now r → (place : ℕ) → Contains r (Stepped id (Ok (SnapReply.Placed place))) → result ≡ Some place }
+        // No two have one place, and where a step has told a place, it is that one.
+        ensures distinct { HasDistinctPlaces ⟦<W as Known>⟧.places self.now }
+        ensures told { KeepsTold ⟦<W as Known>⟧.places self.now id }
     {
         let Some(client) = self.world.program(id) else {
             return None;

@@ -1,5 +1,5 @@
 -- the law of a snapshot object over a grid with segments
-use Rattle.std.proofs.Common.{ℕ, ◌+◌, ◌*◌, ◌≤◌, List, Option, None, refl, arith}
+use Rattle.std.proofs.Common.{◌≡◌, ℕ, ◌+◌, ◌*◌, ◌≤◌, length, Option, None, refl, sym, ap, ◌∙◌, arith}
 use Rattle.std.proofs.Math.Nat.{mul-le-mul_right}
 use Rattle.std.proofs.Math.ListN.{length-replicate}
 use Rattle.step_memory.specs.declared.record.Record.{Record}
@@ -8,11 +8,11 @@ use Rattle.snapshot_places.specs.declared.grid_walk.GridWalk.{GridWalk}
 use Rattle.snapshot_places.specs.GridState.{GridState}
 use Rattle.snapshot_places.specs.Grid.{segments_for, fresh_grid}
 use Rattle.snapshot_places.specs.GridTies.{IsEmptyGrid, grid_places}
+use Rattle.snapshot_places.specs.Bounds.{grid_bounds}
 use Rattle.snapshot_places.specs.GridLaws.{grid_laws}
-use Rattle.snapshot_core.specs.Places.{BoundsScans}
+use Rattle.snapshot_core.specs.Places.{BeginsAlike, BoundsScans}
 use Rattle.snapshot_core.specs.SnapWorld.{SnapState}
-use Rattle.snapshot_core.specs.SnapCalls.{SnapCall, IsAfter}
-use Rattle.snapshot_core.specs.Snapshot.{KeepsSnapshotLaw}
+use Rattle.snapshot_core.specs.Snapshot.{IsLawfulFrom}
 use Rattle.snapshot_core.proofs.FixedLaw.{empty_at}
 use Rattle.snapshot_core.proofs.Following.{law_holds}
 
@@ -32,7 +32,14 @@ fits_grid m b some l =
     let product = mul-le-mul_right (segments_for m) up in
     omega arith
 
-pub grid_law : (w : SnapState GridState GridWalker GridWalk) (r : List SnapCall) → w.most ≤ 16 → IsAfter grid_places (fresh_grid w.most) w r →
-    KeepsSnapshotLaw (record { placing = λ b. 4 * b; scanning = λ b. segments_for w.most * (segments_for w.most + 1) }) r
-grid_law w r few a =
-    law_holds grid_places grid_laws w (fresh_grid w.most) r (λ b. segments_for w.most * (segments_for w.most + 1)) (empty_grid w.most few) (fits_grid w.most) a
+pub grid_law : (w : SnapState GridState GridWalker GridWalk) → w.most ≤ 16 → IsLawfulFrom grid_places (fresh_grid w.most) (grid_bounds w.most) w
+grid_law w few = law_holds grid_places grid_laws w (fresh_grid w.most) (λ b. segments_for w.most * (segments_for w.most + 1)) (empty_grid w.most few) (fits_grid w.most)
+
+-- every way begins at the corner, and every walk over as many segments as the size asks for
+pub grid_alike : BeginsAlike grid_places
+grid_alike = record {
+  way = λ b c p. refl;
+  walk = λ g other b c ways others i k size.
+      let rows : length g.segments ≡ length other.segments = i.segments ∙ ap segments_for size ∙ sym k.segments in
+      ap (λ (n : ℕ). record { at = 0; most = n }) rows;
+}

@@ -1,18 +1,28 @@
 -- the law of a snapshot object over a tree
-use Rattle.std.proofs.Common.{◌≡◌, ℕ, ◌+◌, ◌-◌, ◌*◌, ◌≤◌, List, length, Some, refl, ap, arith}
+use Rattle.std.proofs.Common.{◌≡◌, ℕ, ◌+◌, ◌-◌, ◌*◌, ◌≤◌, true, false, cond, length, Some, None, refl, sym, ap, ◌∙◌, arith}
+use Rattle.std.specs.Prelude.{option_map}
+use Rattle.step_memory.specs.Participant.{participant_of}
+use Rattle.step_memory.specs.World.{may_refuse_by}
 use Rattle.splitter_tree.specs.TreeSteps.{tree_steps}
-use Rattle.splitter_tree.specs.Consistent.{IsTree}
+use Rattle.splitter_tree.specs.Consistent.{IsConsistent}
+use Rattle.splitter_tree.specs.Walk.{next_access}
+use Rattle.splitter_tree.proofs.ConsistentKept.{refused}
 use Rattle.splitter_tree.proofs.TreeLaw.{tree_law as law_of_tree}
+use Rattle.splitter_tree.proofs.TreeMemoryLemmas.{tree_memory}
 use Rattle.snapshot_places.specs.declared.tree_walker.TreeWalker.{TreeWalker}
 use Rattle.snapshot_places.specs.declared.tree_walk.TreeWalk.{TreeWalk}
-use Rattle.snapshot_places.specs.Tree.{TreeState, new_tree}
+use Rattle.snapshot_places.specs.Tree.{TreeState, new_tree, tree_places_steps}
 use Rattle.snapshot_places.specs.TreeTies.{IsNewTree, walks_of, tree_places}
 use Rattle.snapshot_places.specs.TreeLaws.{tree_laws}
-use Rattle.snapshot_core.specs.Places.{BoundsScans}
-use Rattle.snapshot_core.specs.SnapWorld.{SnapState, place_in, ways_of}
-use Rattle.snapshot_core.specs.SnapCalls.{SnapCall, IsAfter}
-use Rattle.snapshot_core.specs.Snapshot.{KeepsSnapshotLaw}
-use Rattle.snapshot_core.proofs.Following.{law_holds, distinct_holds, consistent_holds}
+use Rattle.snapshot_places.specs.Bounds.{tree_bounds}
+use Rattle.snapshot_places.specs.Made.{MakesNode, IsFromNewTree, KeepsTree, LacksAtNode}
+use Rattle.snapshot_core.specs.declared.client.Client.{Client}
+use Rattle.snapshot_core.specs.declared.client.Pending.TheVariants.{Placing}
+use Rattle.snapshot_core.specs.Places.{BeginsAlike, BoundsScans}
+use Rattle.snapshot_core.specs.SnapWorld.{SnapState, clients_over, ways_of}
+use Rattle.snapshot_core.specs.Snapshot.{IsLawfulFrom}
+use Rattle.snapshot_core.proofs.Following.{law_holds, consistent_holds}
+use Rattle.snapshot_core.proofs.SureSteps.{lacks_on_way}
 
 is_new : (most : ℕ) → most ≤ 64 → IsNewTree (new_tree most)
 is_new most few = record { few = few; empty = refl }
@@ -23,13 +33,36 @@ fits_tree most b some l =
     let all : (b + 1) * (3 * (2 * b - 1) + 1) ≡ (b + 1) * (6 * b - 2) = ap (λ n. (b + 1) * n) same in
     omega arith
 
-module _ (w : SnapState TreeState TreeWalker TreeWalk) (most : ℕ) (r : List SnapCall) (few : most ≤ 64) (a : IsAfter tree_places (new_tree most) w r) where
-  pub tree_law : KeepsSnapshotLaw (record { placing = λ b. 5 * b; scanning = λ b. (b + 1) * (6 * b - 2) }) r
-  tree_law = law_holds tree_places tree_laws w (new_tree most) r (λ b. (b + 1) * (6 * b - 2)) (is_new most few) (fits_tree most) a
+-- every way begins before the root, and so does every walk
+pub tree_alike : BeginsAlike tree_places
+tree_alike = record { way = λ b c p. refl; walk = λ t other b c ways others i k size. refl }
 
-  pub tree_distinct : (p q place : ℕ) → place_in tree_places w p ≡ Some place → place_in tree_places w q ≡ Some place → q ≡ p
-  tree_distinct p q x here there = distinct_holds tree_places tree_laws w p (new_tree most) r (is_new most few) a x here q there
+module _ (w : SnapState TreeState TreeWalker TreeWalk) where
+  pub tree_law : w.most ≤ 64 → IsLawfulFrom tree_places (new_tree w.most) (tree_bounds w.most) w
+  tree_law few = law_holds tree_places tree_laws w (new_tree w.most) (λ b. (b + 1) * (6 * b - 2)) (is_new w.most few) (fits_tree w.most)
+
+module _ (w : SnapState TreeState TreeWalker TreeWalk) (new : IsFromNewTree w) where
+  consistent : IsConsistent tree_steps w.memory.most (length w.participants) w.memory.nodes (walks_of (ways_of w.participants))
+  consistent = consistent_holds tree_places tree_laws w (new_tree w.most) new.1 (is_new w.most new.0) new.2
 
   -- the tree's law holds of the nodes and the walks
-  pub tree_nodes : IsTree tree_steps (length w.participants) w.memory.nodes (walks_of (ways_of w.participants))
-  tree_nodes = law_of_tree tree_steps w.memory.most (length w.participants) w.memory.nodes (walks_of (ways_of w.participants)) (consistent_holds tree_places tree_laws w (new_tree most) r (is_new most few) a)
+  pub tree_nodes : KeepsTree w
+  tree_nodes = law_of_tree tree_steps w.memory.most (length w.participants) w.memory.nodes (walks_of (ways_of w.participants)) consistent
+
+  -- only a step that makes a node may want memory
+  pub tree_makes : (p : ℕ) → LacksAtNode w p
+  tree_makes p may = elim (participant_of p w.participants) as (λ z. participant_of p w.participants ≡ z → may_refuse_by (clients_over tree_places) tree_places_steps w.memory z ≡ true → MakesNode w p) [
+    | None ↦ λ e h. absurd (cc)
+    | Some v ↦ λ e h. elim v.ended as (λ b. cond b false (tree_places_steps.may_refuse w.memory ((clients_over tree_places).next v.program)) ≡ true → MakesNode w p) [
+      | true ↦ λ k. absurd (cc)
+      | false ↦ λ k.
+          let on_way = lacks_on_way tree_places tree_laws w p may in
+          let there : Some v.program ≡ Some on_way.0 = ap (option_map (λ u. u.program)) (sym e) ∙ on_way.1 in
+          let same : v.program ≡ on_way.0 = cc in
+          let pending : v.program.pending ≡ Placing = ap (λ (c : Client TreeWalker TreeWalk). c.pending) same ∙ on_way.2 in
+          let refuses : tree_steps.may_refuse w.memory.nodes (next_access v.program.walker.walker) ≡ true = rw pending at k in
+          let is : walks_of (ways_of w.participants) p ≡ Some v.program.walker.walker = rw e refl in
+          let unmarked = refused tree_steps w.memory.most (length w.participants) w.memory.nodes (walks_of (ways_of w.participants)) consistent tree_memory p v.program.walker.walker is refuses in
+          record { client = v.program; is = rw e refl; placing = pending; marking = unmarked.0; unmarked = unmarked.1 }
+    ] h
+  ] refl may

@@ -168,6 +168,7 @@ grid_laws = record {
       );
   goes = λ g b ways c k j h. (let i = h.inside in let room = h.room in omega arith, grid_reads g k j h);
   rising = λ most b. omega arith;
+  waits = λ b p. inl refl;
   plain = λ u. sent_plain u.walker.visitor.identity u.walker.visitor.name u.walker.visitor.mark u.walker.visitor.stage;
   sure_nothing = λ g. refl;
   sure_reads = λ g r. refl;

@@ -5,3 +5,5 @@ pub mod GridLaws
 pub mod Tree
 pub mod TreeTies
 pub mod TreeLaws
+pub mod Bounds
+pub mod Made

@@ -1,7 +1,8 @@
 use Rattle.std.proofs.Common.{rules, ◌≡◌, Err}
 use Rattle.step_memory.specs.declared.refusal.Refusal.TheVariants.{NoMemory}
 use Rattle.rename_core.proofs.AfterCalls.{step_leads_on}
-use Rattle.rename_core.proofs.NamedPlaces.{is_lawful}
+use Rattle.rename_core.proofs.NamedPlaces.{is_lawful, own_access}
+use Rattle.rename_core.proofs.LocalSteps.{local_call}
 use Rattle.snapshot_core.specs.Places.{KnownPlaces, places_by}
 use Rattle.rename_core.proofs.world.RenameWorld.step.Given.{Over}
 use Rattle.rename_core.proofs.world.RenameWorld.step.Goals as goal
@@ -17,3 +18,11 @@ returns-clause-after g c =
 
 pub returns-clause-law : goal.returns-clause-law
 returns-clause-law g c = is_lawful (known g) g.met.W.Places.laws g.W.RenamePlaces.world g.met.W.RenamePlaces.may_grow g.met.W.RenamePlaces.at_once c.take_step.new.self
+
+pub returns-clause-local : goal.returns-clause-local
+returns-clause-local g c =
+    let kept : c.take_step.result ≡ Err NoMemory → c.take_step.new.self ≡ c.args.self.now = λ e. search rules in
+    local_call (known g) g.met.W.StepMemory.others c.args.self.now c.take_step.new.self c.args.id c.take_step.result c.take_step.ensures.state c.take_step.ensures.answer kept
+
+pub returns-clause-own : goal.returns-clause-own
+returns-clause-own g c = own_access (known g) g.met.W.Places.laws g.W.RenamePlaces.world g.met.W.RenamePlaces.may_grow g.met.W.RenamePlaces.at_once c.args.self.now c.args.id

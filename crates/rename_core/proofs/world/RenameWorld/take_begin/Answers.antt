@@ -1,10 +1,11 @@
-use Rattle.std.proofs.Common.{◌≡◌, ◌+◌, ◌∷◌, [], None, length, sym, ap, ◌∙◌}
+use Rattle.std.proofs.Common.{◌≤◌, ◌<◌, arith, ◌≡◌, ◌+◌, ◌∷◌, [], None, length, sym, ap, ◌∙◌}
 use Rattle.std.specs.Prelude.{vec_capacity}
 use Rattle.std.proofs.lemmas.List.{length-append}
 use Rattle.step_memory.specs.Participant.{beginner}
 use Rattle.step_memory.specs.World.{begin_refusal}
 use Rattle.snapshot_core.specs.SnapWorld.{after_snap_begin}
 use Rattle.rename_core.specs.RenameWorld.{after_wish}
+use Rattle.step_memory.proofs.WorldKeeps.{let_in}
 use Rattle.rename_core.proofs.StepCases.{was_begun, begun_large}
 use Rattle.snapshot_core.specs.Places.{KnownPlaces, places_by}
 use Rattle.rename_core.proofs.world.RenameWorld.take_begin.Given.{Over}
@@ -24,4 +25,7 @@ invariant_of-self-2 g c =
     let old = c.self.invariant in
     let pushed : length c.push_reserved.new.self.items ≡ length c.self.inside.rounds.items + 1 = ap length c.push_reserved.ensures.items ∙ length-append c.self.inside.rounds.items (beginner c.args.id c.first-2.result ∷ []) in
     let room : vec_capacity c.push_reserved.new.self ≡ vec_capacity c.self.inside.rounds = c.push_reserved.ensures.capacity in
-    rw asked (rw (most, room) old.0, pushed ∙ ap (λ n. n + 1) old.1 ∙ sym many)
+    let inside = let_in c.self.inside.snap c.args.id goes in
+    let free = inside.room in
+    let one_more : length c.push_reserved.new.self.items ≡ length c.self.inside.snap.participants + 1 = pushed ∙ ap (λ n. n + 1) old.2 in
+    rw asked (rw (most, room) old.0, rw most old.1, one_more ∙ sym many, rw (most, one_more) (omega arith))

@@ -103,7 +103,7 @@ invariant_of-self-2 g c =
     let many = l.many in
     let old = c.self.invariant in
     let size = length-set c.self.inside.rounds.items c.in-Some.i (record { identity = c.args.id; program = c.followed-follow.result.round; ended = false }) in
-    rw a (rw most old.0, size ∙ old.1 ∙ sym many)
+    rw a (rw most old.0, rw most old.1, size ∙ old.2 ∙ sym many, rw (most, size) old.3)
 
 pub returns-clause-state : goal.returns-clause-state
 returns-clause-state g c = λ _.

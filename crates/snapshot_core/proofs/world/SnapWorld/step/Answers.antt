@@ -5,9 +5,10 @@ use Rattle.snapshot_core.specs.Client.{is_idle}
 use Rattle.snapshot_core.specs.SnapWorld.{snap_answer, after_snap_step, may_lack_memory}
 use Rattle.snapshot_core.specs.SnapCalls.SnapCall.{Stepped}
 use Rattle.snapshot_core.proofs.SnapWorldLemmas.{after_call, after_step_call, absent_state, absent_answer, idle_state, idle_answer}
-use Rattle.snapshot_core.proofs.Following.{law_holds}
+use Rattle.snapshot_core.proofs.Following.{law_holds, own_access_holds}
 use Rattle.snapshot_core.specs.Places.{KnownPlaces, places_by}
 use Rattle.snapshot_core.proofs.world.SnapWorld.step.Given.{Over}
+use Rattle.snapshot_core.proofs.SureSteps.{lacks_on_way}
 use Rattle.snapshot_core.proofs.world.SnapWorld.step.Goals as goal
 
 abbrev known : (g : Over) → KnownPlaces g.row.W.Denot g.row.W-Reg.Denot g.row.W-Value.Denot g.row.W-Walker.Denot g.row.W-Walk.Denot
@@ -52,3 +53,14 @@ returns-in_err-step-clause-law g c = law_holds (known g) g.met.W.Places.laws c.s
 
 pub returns-clause-law : goal.returns-clause-law
 returns-clause-law g c = law_holds (known g) g.met.W.Places.laws c.step.new.self
+
+pub returns-in_err-step-clause-own : goal.returns-in_err-step-clause-own
+returns-in_err-step-clause-own g c = own_access_holds (known g) g.met.W.Places.laws c.args.self.now c.args.id
+
+pub returns-clause-own : goal.returns-clause-own
+returns-clause-own g c = own_access_holds (known g) g.met.W.Places.laws c.args.self.now c.args.id
+
+pub returns-in_err-step-clause-on_way : goal.returns-in_err-step-clause-on_way
+returns-in_err-step-clause-on_way g c = λ h.
+    let lacks : c.from_residual.result ≡ Err NoMemory → may_lack_memory (known g) c.args.self.now c.args.id ≡ true = search rules in
+    lacks_on_way (known g) g.met.W.Places.laws c.args.self.now c.args.id (lacks h)

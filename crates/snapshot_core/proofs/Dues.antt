@@ -1,0 +1,140 @@
+-- a call of a snapshot object over any places is refused where the object of the law has it due
+use Rattle.std.proofs.Common.{◌≡◌, ◌≢◌, ℕ, ◌+◌, ◌*◌, ◌≤◌, ◌==◌, Bool, true, false, cond, ◌⊎◌, length, Option, Some, None, inl, inr, refl, sym, ap, subst, ◌∙◌, arith}
+use Rattle.std.specs.Prelude.{option_map, nat_lt, nat_le, is_some}
+use Rattle.std.proofs.Math.Nat.{mul-le-mul_right}
+use Rattle.std.proofs.lemmas.Bool.Decides.{eqb_tells}
+use Rattle.step_memory.proofs.ParticipantLemmas.{some_begun}
+use Rattle.step_memory.specs.declared.participant.Participant.{Participant}
+use Rattle.step_memory.specs.declared.refusal.Refusal.TheVariants.{ZeroIdentity, AlreadyBegun, Full, NotBegun, Finished, Spent, NoMemory}
+use Rattle.step_memory.specs.Participant.{participant_of, program_of}
+use Rattle.step_memory.specs.World.{begin_refusal, may_refuse_by}
+use Rattle.snapshot_core.specs.declared.client.Client.{Client}
+use Rattle.snapshot_core.specs.declared.client.Pending.{Pending}
+use Rattle.snapshot_core.specs.declared.client.Pending.TheVariants.{Nothing, Placing as Places, Scan as Scans, Update, Write as Writing}
+use Rattle.snapshot_core.specs.Client.{is_idle}
+use Rattle.snapshot_core.specs.Places.{BoundsScans}
+use Rattle.snapshot_core.specs.SnapWorld.{SnapState, clients_over, scan_refusal, update_refusal, scan_refusal_by, update_refusal_by, may_lack_memory, way_now, ways_of}
+use Rattle.snapshot_core.specs.Snapshot.{Task, SnapObject, SnapBounds, most_steps, has_begun, has_nothing_pending, begin_due, scan_due, update_due, step_due, LacksMemory}
+use Rattle.snapshot_core.specs.Snapshot.Task.{Absent, Idle, Placing, Scanning, Updating}
+use Rattle.snapshot_core.proofs.LawfulPlaces.{LawfulPlaces}
+use Rattle.snapshot_core.proofs.SureSteps.{on_way_or_sure}
+use Rattle.snapshot_core.proofs.Tied.{IsAtTask, IsTied, era_now}
+
+-- so many participants at most, steps to a place, and those of a scan that keep the bound
+abbrev pub bounds_with : {S R V U K : Type 0} → LawfulPlaces S R V U K → ℕ → (ℕ → ℕ) → SnapBounds
+bounds_with t most scans = record { most = most; placing = t.known.ties.placing; scanning = scans }
+
+some_is_not_none : (n : ℕ) → 1 ≤ n → (n == 0) ≡ false
+some_is_not_none n l = elim (eqb_tells n 0) [ inl e ↦ absurd (let z = e.1 in omega arith) | inr e ↦ e.0 ]
+
+none_is_none : (n : ℕ) → n ≡ 0 → (n == 0) ≡ true
+none_is_none n e = rw e refl
+
+module _ {S R V U K : Type 0} (t : LawfulPlaces S R V U K) (w : SnapState S U K) (o : SnapObject) (i : IsTied t w o) (id : ℕ) (scans : ℕ → ℕ) where
+  abbrev bounds : SnapBounds
+  bounds = bounds_with t w.most scans
+
+  abbrev AtTask : Client U K → Option ℕ → Pending → Type 0
+  AtTask c at z = IsAtTask t (era_now t w o i) (o.task id) (o.steps id) (o.since id) c at z
+
+  -- who is at a task has begun
+  begun_at : (c : Client U K) (at : Option ℕ) (z : Pending) → AtTask c at z → has_begun (o.task id) ≡ true
+  begun_at c None Nothing k = absurd k
+  begun_at c None Places k = ap has_begun k.0
+  begun_at c None Scans k = absurd k
+  begun_at c None (Update value) k = absurd k
+  begun_at c None (Writing value view) k = absurd k
+  begun_at c (Some own) Nothing k = elim k.1 [ inl e ↦ ap has_begun e | inr e ↦ ap has_begun e.0 ]
+  begun_at c (Some own) Places k = absurd k
+  begun_at c (Some own) Scans k = ap has_begun k.0
+  begun_at c (Some own) (Update value) k = ap has_begun k.0
+  begun_at c (Some own) (Writing value view) k = ap has_begun k.0
+
+  has_begun_there : (v : Participant (Client U K)) → participant_of id w.participants ≡ Some v → has_begun (o.task id) ≡ true
+  has_begun_there v there = begun_at v.program (t.known.place_of v.program.walker) v.program.pending (i.clients id v there).at
+
+  not_begun : participant_of id w.participants ≡ None → has_begun (o.task id) ≡ false
+  not_begun e = ap has_begun (i.absent id e).0
+
+  begun_is : has_begun (o.task id) ≡ is_some (participant_of id w.participants)
+  begun_is = elim (participant_of id w.participants) as (λ z. participant_of id w.participants ≡ z → has_begun (o.task id) ≡ is_some z) [
+    | None ↦ λ e. not_begun e
+    | Some v ↦ λ e. has_begun_there v e
+  ] refl
+
+  pub begin_is_due : begin_due bounds o id ≡ begin_refusal w id
+  begin_is_due = rw (begun_is, i.counted) refl
+
+  pub step_absent : participant_of id w.participants ≡ None → step_due bounds o id ≡ Some NotBegun
+  step_absent e = rw (not_begun e) refl
+
+  module _ (fits : BoundsScans t.known w.most scans) where
+    module _ (v : Participant (Client U K)) (there : participant_of id w.participants ≡ Some v) where
+      way : ways_of w.participants id ≡ Some v.program.walker
+      way = ap way_now there
+
+      -- a scan has steps
+      some_scan : 1 ≤ scans o.begun
+      some_scan =
+          let b = length w.participants in
+          let few = t.laws.few w.memory b (ways_of w.participants) i.consistent in
+          let most = i.most in
+          let one = (t.laws.goes w.memory b (ways_of w.participants) i.consistent (t.known.walk_from w.memory) 0 (t.laws.starts w.memory b (ways_of w.participants) i.consistent id v.program.walker way).0).0 in
+          let up : 1 ≤ b + 1 = omega arith in
+          let product = mul-le-mul_right (t.known.ties.reads (t.known.most_of w.memory) b) up in
+          let whole : (b + 1) * t.known.ties.reads (t.known.most_of w.memory) b ≤ scans o.begun = rw (i.counted, ← i.most) (fits b (let begun = some_begun id w.participants v there in omega arith) (let room = few.0 in omega arith)) in
+          omega arith
+
+      pending_at : (at : Option ℕ) → t.known.place_of v.program.walker ≡ at → (z : Pending) → AtTask v.program at z → has_nothing_pending bounds o id ≡ is_idle z
+      pending_at None at Nothing k = absurd k
+      pending_at None at Places k =
+          let left = t.laws.unplaced w.memory (length w.participants) (ways_of w.participants) i.consistent id v.program.walker way at in
+          rw (k.0, i.counted) (some_is_not_none (t.known.ties.placing (length w.participants)) (omega arith))
+      pending_at None at Scans k = absurd k
+      pending_at None at (Update value) k = absurd k
+      pending_at None at (Writing value view) k = absurd k
+      pending_at (Some own) at Nothing k = elim k.1 [ inl e ↦ rw e refl | inr e ↦ rw e.0 (none_is_none (t.known.ties.placing o.begun) (e.1 o.begun)) ]
+      pending_at (Some own) at Places k = absurd k
+      pending_at (Some own) at Scans k = rw k.0 (some_is_not_none (scans o.begun) some_scan)
+      pending_at (Some own) at (Update value) k = rw k.0 (some_is_not_none (scans o.begun + 1) (omega arith))
+      pending_at (Some own) at (Writing value view) k = rw k.0 (some_is_not_none (scans o.begun + 1) (omega arith))
+
+      pub pending_is : has_nothing_pending bounds o id ≡ is_idle v.program.pending
+      pending_is = pending_at (t.known.place_of v.program.walker) refl v.program.pending (i.clients id v there).at
+
+      pub step_idle : is_idle v.program.pending ≡ true → step_due bounds o id ≡ Some Finished
+      step_idle idle = rw (has_begun_there v there, pending_is, idle) refl
+
+      step_busy : is_idle v.program.pending ≡ false → step_due bounds o id ≡ None
+      step_busy busy = rw (has_begun_there v there, pending_is, busy) refl
+
+      on_way_at : (at : Option ℕ) → AtTask v.program at Places → o.task id ≡ Placing
+      on_way_at None k = k.0
+      on_way_at (Some own) k = absurd k
+
+      on_way : v.program.pending ≡ Places → o.task id ≡ Placing
+      on_way pending = on_way_at (t.known.place_of v.program.walker) (rw pending at (i.clients id v there).at)
+
+    pub scan_is_due : scan_due bounds o id ≡ scan_refusal w id
+    scan_is_due = elim (participant_of id w.participants) as (λ z. participant_of id w.participants ≡ z → scan_due bounds o id ≡ scan_refusal_by (option_map (λ u. u.program) z)) [
+      | None ↦ λ e. rw (not_begun e) refl
+      | Some v ↦ λ e. rw (has_begun_there v e, pending_is v e) refl
+    ] refl
+
+    pub update_is_due : update_due bounds o id ≡ update_refusal w id
+    update_is_due = elim (participant_of id w.participants) as (λ z. participant_of id w.participants ≡ z → update_due bounds o id ≡ update_refusal_by (option_map (λ u. u.program) z)) [
+      | None ↦ λ e. rw (not_begun e) refl
+      | Some v ↦ λ e. rw (has_begun_there v e, pending_is v e, i.asked id v e) refl
+    ] refl
+
+    -- only one who is on its way to a place may lack memory
+    pub lacks_memory : may_lack_memory t.known w id ≡ true → LacksMemory bounds o id NoMemory
+    lacks_memory = elim (participant_of id w.participants) as (λ z. participant_of id w.participants ≡ z → may_refuse_by (clients_over t.known) t.known.memory w.memory z ≡ true → LacksMemory bounds o id NoMemory) [
+      | None ↦ λ e h. absurd (cc)
+      | Some v ↦ λ e h.
+          let on : v.ended ≡ false = (i.named id v e).1 in
+          elim (on_way_or_sure t.known t.laws w.memory v.program v.program.pending) [
+            | inl pending ↦ (refl, step_busy v e (rw pending refl), on_way v e pending)
+            | inr sure ↦ absurd (let may : t.known.memory.may_refuse w.memory ((clients_over t.known).next v.program) ≡ true = rw on at h in let two : true ≡ false = sym may ∙ sure in cc)
+          ]
+    ] refl

@@ -1,0 +1,12 @@
+-- the most steps of a snapshot object over a grid, and over a tree
+use Rattle.std.specs.Prelude.{ℕ, ◌+◌, ◌-◌, ◌*◌}
+use Rattle.snapshot_core.specs.Snapshot.{SnapBounds}
+use Rattle.snapshot_places.specs.Grid.{segments_for}
+
+-- for m participants there are G segments: a place within 4b steps where b have begun, and a scan of at most G(G + 1) reads
+abbrev pub grid_bounds : ℕ → SnapBounds
+grid_bounds m = record { most = m; placing = λ b. 4 * b; scanning = λ b. segments_for m * (segments_for m + 1) }
+
+-- a place within 5b steps, and a scan of at most (b + 1)(6b - 2) reads
+abbrev pub tree_bounds : ℕ → SnapBounds
+tree_bounds m = record { most = m; placing = λ b. 5 * b; scanning = λ b. (b + 1) * (6 * b - 2) }
