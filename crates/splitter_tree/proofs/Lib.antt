@@ -30,3 +30,4 @@ pub mod LocalStore
 pub mod LawsAfter
 pub mod DueTied
 pub mod StandAlike
+pub mod OwnAccesses

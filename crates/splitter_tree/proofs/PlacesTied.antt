@@ -22,7 +22,7 @@ use Rattle.step_memory.specs.Calls.{Call, steps_of, steps_by, outcome_of, outcom
 use Rattle.step_memory.specs.Calls.Call.{Began, Stepped}
 use Rattle.step_memory.specs.Due.{EndsOnce}
 use Rattle.step_memory.proofs.RunLemmas.{run_keeps}
-use Rattle.step_memory.proofs.SetAtLemmas.{set_at-same, set_at-other, set_at-cases}
+use Rattle.step_memory.proofs.SetAtLemmas.{set_at-same, set_at-other, set_at-cases, set_at-map}
 use Rattle.step_memory.proofs.ParticipantLemmas.{participant_of-push, participant_of-put, length-with_participant}
 use Rattle.step_memory.proofs.WorldKeeps.{steps_of-push, begun_in-push, outcome_of-push, first_of-none, IsLetIn}
 pub use Rattle.step_memory.proofs.WorldKeeps.{let_in}
@@ -72,9 +72,6 @@ way_calls-more (CollectStepped id reply ∷ r) h = way_calls-more r h
 -- a call that is no part of the way leaves it
 no_way : (r : List TreeCall) (h : TreeCall) → way_calls (h ∷ []) ≡ [] → way_calls (r ++ h ∷ []) ≡ way_calls r
 no_way r h none = way_calls-more r h ∙ ap (λ c. way_calls r ++ c) none ∙ append-nil (way_calls r)
-
-set_at-map : {X Y : Type 0} (g : X → Y) (f : ℕ → X) (p : ℕ) (s : X) (q : ℕ) → g (set_at f p s q) ≡ set_at (λ u. g (f u)) p (g s) q
-set_at-map g f p s q = elim (q == p) as (λ b. g (cond b s (f q)) ≡ cond b (g s) (g (f q))) [ true ↦ refl | false ↦ refl ]
 
 -- what is said alike of one who has not begun and of one who has just begun
 same_in : {X : Type 0} (say : Option Walker → X) (walker : ℕ → Option Walker) (id : ℕ) (new : Walker) (p : ℕ) → walker id ≡ None → say None ≡ say (Some new) → say (walker p) ≡ say (set_at walker id (Some new) p)
