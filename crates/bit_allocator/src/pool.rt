@@ -1,15 +1,15 @@
 //! The pool.
 
-ghost use Rattle.std.specs.Prelude.{◌≡◌, ◌≤◌, ◌<◌, ◌⊎◌, ℕ, List, [], ◌∷◌, ◌++◌, IfOk, IfErr, IsOk, Err, MatchOption, Some, ◌≢◌};
+ghost use Rattle.std.specs.Prelude.{◌≡◌, ◌≤◌, ◌<◌, ◌⊎◌, ℕ, List, [], ◌∷◌, ◌++◌, IfOk, IfErr, IsOk, OnErr, Err, MatchOption, Some, ◌≢◌};
 ghost use Rattle.bit_allocator.specs.Competitors.{index_of, holder_in, identities};
 ghost use Rattle.bit_allocator.specs.PoolState.{PoolState};
 ghost use Rattle.bit_allocator.specs.Pool.{fresh_pool, enter_refusal, enter_answer, after_enter, probe_answer, after_probe, number_answer, after_leave};
-ghost use Rattle.bit_allocator.specs.Locality.{IsLocal, LookAlike, probe_steps, leave_steps};
+ghost use Rattle.bit_allocator.specs.Locality.{IsLocal, LookAlike, StandAlike, probe_steps, leave_steps};
 ghost use Rattle.bit_allocator.specs.Calls.{Call};
 ghost use Rattle.bit_allocator.specs.Calls.Call.{Entered, Probed, Left};
 ghost use Rattle.bit_allocator.specs.PoolObject.{PoolObject, IsRun, number_in};
 ghost use Rattle.bit_allocator.specs.Law.{KeepsPoolLaw};
-ghost use Rattle.bit_allocator.specs.After.{After};
+ghost use Rattle.bit_allocator.specs.After.{After, IsLawful, LeadsOn};
 ghost use Rattle.bit_allocator.specs.Acquired.{IsAcquired, LeadsByStay, was_clear, Gets};
 
 use crate::competitor::Competitor;
@@ -179,8 +179,9 @@ impl<A: Allocator> Pool<A> {
     pub fn enter(&mut self, id: u64) -> Result<(), Refusal>
         ensures answer { result ≡ enter_answer self.old id }
         ensures state { self.new ≡ after_enter self.old id }
-        ensures after { (size : ℕ) (r : List Call) → After size self.old r → After size self.new (r ++ Entered id result ∷ []) }
-        ensures law { (size : ℕ) (r : List Call) → After size self.new r → KeepsPoolLaw size r }
+        ensures refused { OnErr result (self.new ≡ self.old) }
+        ensures after { LeadsOn self.old self.new (Entered id result) }
+        ensures law { IsLawful self.new }
     {
         if let Some(refusal) = self.enter_refusal(id) {
             return Err(refusal);
@@ -198,14 +199,16 @@ impl<A: Allocator> Pool<A> {
     pub fn probe(&mut self, id: u64) -> Result<Probe, Refusal>
         ensures answer { result ≡ probe_answer self.old id }
         ensures state { self.new ≡ after_probe self.old id }
-        ensures after { (size : ℕ) (r : List Call) → After size self.old r → After size self.new (r ++ Probed id result ∷ []) }
-        ensures law { (size : ℕ) (r : List Call) → After size self.new r → KeepsPoolLaw size r }
+        ensures refused { OnErr result (self.new ≡ self.old) }
+        ensures after { LeadsOn self.old self.new (Probed id result) }
+        ensures law { IsLawful self.new }
 
         // Nothing of the pool changes but this competitor and the bit that it names.
         ensures local { IsLocal probe_steps id self.old self.new result }
 
-        // In another pool that looks alike to this competitor the answer is the same.
+        // In another pool that looks alike to this competitor the answer is the same, and where it then stands.
         ensures alike { (other : PoolState) → LookAlike probe_steps id self.old other → result ≡ probe_answer other id }
+        ensures stands_alike { (other : PoolState) → LookAlike probe_steps id self.old other → StandAlike id self.new (after_probe other id) }
     {
         let Some(i) = find(&self.competitors, id) else {
             return Err(Refusal::NotCompeting);
@@ -245,14 +248,16 @@ impl<A: Allocator> Pool<A> {
     pub fn leave(&mut self, id: u64) -> Result<u8, Refusal>
         ensures answer { result ≡ number_answer self.old id }
         ensures state { self.new ≡ after_leave self.old id }
-        ensures after { (size : ℕ) (r : List Call) → After size self.old r → After size self.new (r ++ Left id result ∷ []) }
-        ensures law { (size : ℕ) (r : List Call) → After size self.new r → KeepsPoolLaw size r }
+        ensures refused { OnErr result (self.new ≡ self.old) }
+        ensures after { LeadsOn self.old self.new (Left id result) }
+        ensures law { IsLawful self.new }
 
         // Nothing of the pool changes but this competitor and the bit that it names.
         ensures local { IsLocal leave_steps id self.old self.new result }
 
-        // In another pool that looks alike to this competitor the answer is the same.
+        // In another pool that looks alike to this competitor the answer is the same, and where it then stands.
         ensures alike { (other : PoolState) → LookAlike leave_steps id self.old other → result ≡ number_answer other id }
+        ensures stands_alike { (other : PoolState) → LookAlike leave_steps id self.old other → StandAlike id self.new (after_leave other id) }
     {
         let number = self.number_of(id)?;
         let access = Stay::Settled(number).leave_access(self.size);

@@ -1,18 +1,21 @@
-//! What structures over slots stand on.
+//! Laws of slots, which run nothing.
 
-ghost use Rattle.std.specs.Prelude.{◌≡◌, ℕ, List, [], ◌∷◌, ◌++◌, Ok, Some};
-ghost use Rattle.bit_allocator.specs.Pool.{number_answer};
-ghost use Rattle.slot_array.specs.SlotsState.{SlotsState};
+ghost use Rattle.std.specs.Prelude.{◌≡◌, ℕ, ◌≤◌, List, [], ◌∷◌, ◌++◌, length, Ok, Some};
+ghost use Rattle.bit_allocator.specs.Pool.{fresh_pool, number_answer};
+ghost use Rattle.slot_array.specs.After.{AfterSlots, IsLawful, IsSlotReply, slots_next};
+ghost use Rattle.slot_array.specs.Law.{KeepsSlotsLaw};
 ghost use Rattle.slot_array.specs.SlotCalls.{SlotCall};
 ghost use Rattle.slot_array.specs.Slots.{slot};
-ghost use Rattle.slot_array.specs.Law.{KeepsSlotsLaw};
-ghost use Rattle.slot_array.specs.After.{AfterSlots, slots_next, IsSlotReply};
+ghost use Rattle.slot_array.specs.SlotsState.{SlotsState};
 
-/// A law, which runs nothing: one more call, with the reply that it gets, leads on; the number that an identity holds has a
-/// slot; and every list of calls that leads to slots keeps their law.
+/// A law, which runs nothing: new slots are after no call, each call takes slots after some calls to slots after these and
+/// itself, the number that an identity holds has a slot, and calls that slots may be after, and every front of them, keep the law of the slots. By that law each is
+/// refused exactly where those before it make it due.
 pub fn law_of_slot_calls<T>()
-    ensures call { (size : ℕ) (values : List T) (s new : SlotsState T) (r : List (SlotCall T)) (h : SlotCall T) → new ≡ slots_next s h → IsSlotReply s h → AfterSlots size values s r → AfterSlots size values new (r ++ h ∷ []) }
+    ensures fresh { (size : ℕ) (values : List T) → 1 ≤ size → size ≤ 64 → length values ≡ size → AfterSlots size values (record { pool = fresh_pool size; values = values }) [] }
+    ensures next { (size : ℕ) (values : List T) (s : SlotsState T) (r : List (SlotCall T)) (h : SlotCall T) → IsSlotReply s h → AfterSlots size values s r → AfterSlots size values (slots_next s h) (r ++ h ∷ []) }
     ensures there { (size : ℕ) (values : List T) (s : SlotsState T) (r : List (SlotCall T)) (id n : ℕ) → AfterSlots size values s r → number_answer s.pool id ≡ Ok n → (v : T) × (slot n s.values ≡ Some v) }
-    ensures law { (size : ℕ) (values : List T) (s : SlotsState T) (r : List (SlotCall T)) → AfterSlots size values s r → KeepsSlotsLaw size values r }
-{
-}
+    ensures law { (s : SlotsState T) → IsLawful s }
+    ensures front { (size : ℕ) (values : List T) (s : SlotsState T) (r t : List (SlotCall T)) → AfterSlots size values s (r ++ t) → KeepsSlotsLaw size values r }
+    ensures one { (size : ℕ) (values : List T) (s other : SlotsState T) (r : List (SlotCall T)) → AfterSlots size values s r → AfterSlots size values other r → s ≡ other }
+{}

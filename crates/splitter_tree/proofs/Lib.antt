@@ -28,3 +28,6 @@ pub mod AfterLemmas
 pub mod StoreLemmas
 pub mod LocalStore
 pub mod LawsAfter
+pub mod DueTied
+pub mod StandAlike
+pub mod OwnAccesses

@@ -83,7 +83,7 @@ cut (x ∷ r) h (b ∷ before) k rest e =
     let t : r ++ h ∷ [] ≡ before ++ k ∷ rest = cc in
     subst (λ z. CutInside (x ∷ r) (z ∷ before) k rest ⊎ CutAtEnd (x ∷ r) (z ∷ before) h k) s (cut_more x r before h k rest (cut r h before k rest t))
 
-nothing_cut : {H : Type 0} (before : List H) (k : H) (rest : List H) → [] ≡ before ++ k ∷ rest → ⊥
+pub nothing_cut : {H : Type 0} (before : List H) (k : H) (rest : List H) → [] ≡ before ++ k ∷ rest → ⊥
 nothing_cut [] k rest e = cc
 nothing_cut (b ∷ before) k rest e = cc
 

@@ -15,7 +15,7 @@ use Rattle.step_memory.proofs.ParticipantLemmas.{participant_of-put, identity_of
 use Rattle.step_memory.proofs.SetAtLemmas.{set_at-same, set_at-other}
 
 -- memories that agree at the register of an access answer it alike
-answer_alike : {R V : Type 0} (one other : R → V × Bool) (a : Access R V) → AgreeAt one other a → answer_from one a ≡ answer_from other a
+pub answer_alike : {R V : Type 0} (one other : R → V × Bool) (a : Access R V) → AgreeAt one other a → answer_from one a ≡ answer_from other a
 answer_alike one other (Read r) h = rw h refl
 answer_alike one other (Write r v) h = refl
 answer_alike one other (TestAndSet r) h = rw h refl

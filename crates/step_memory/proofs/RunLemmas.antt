@@ -1,5 +1,5 @@
 -- runs, one call after another
-use Rattle.std.proofs.Common.{◌≡◌, List, [], ◌∷◌, ◌++◌, refl, sym, ap, subst, append_assoc}
+use Rattle.std.proofs.Common.{◌≡◌, List, [], ◌∷◌, ◌++◌, refl, sym, ap, subst, ◌∙◌, append_assoc}
 use Rattle.std.proofs.lemmas.List.{append-nil}
 use Rattle.step_memory.specs.Runs.{Run}
 use Rattle.step_memory.specs.Replay.{replay_from}
@@ -26,3 +26,7 @@ module _ {S H : Type 0} (next : S → H → S) (Right : S → H → Type 0) wher
   pub run_replays : (s : S) (r : List H) (end : S) → Run next Right s r end → end ≡ replay_from next s r
   run_replays s [] end e = e
   run_replays s (h ∷ r) end e = run_replays (next s h) r end e.1
+
+  -- and so at one state alone
+  pub run_one : (s : S) (r : List H) (a b : S) → Run next Right s r a → Run next Right s r b → a ≡ b
+  run_one s r a b x y = run_replays s r a x ∙ sym (run_replays s r b y)

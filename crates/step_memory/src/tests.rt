@@ -6,7 +6,8 @@ ghost use Rattle.step_memory.specs.declared.note.Note.TheVariants as note;
 use crate::{
     Access, Answer, Memory, NoMemory, Note, Refusal, StepMemory, StepProgram, View, World,
     law_of_beginners, law_of_call_counts, law_of_locality, law_of_one_place, law_of_participants,
-    law_of_refusals, law_of_replies, law_of_runs, law_of_steps, law_of_views, law_of_worlds,
+    law_of_refusals, law_of_replies, law_of_runs, law_of_steps, law_of_views, law_of_what_is_seen,
+    law_of_worlds,
 };
 use std::alloc::AllocError;
 use std::test::Fail;
@@ -179,6 +180,7 @@ fn views_are_kept_in_order(rt: HostRuntime) -> Result<(), Fail> {
 #[test]
 fn laws_are_called() {
     law_of_one_place::<u64>();
+    law_of_what_is_seen::<u64, bool>();
     law_of_beginners::<Once, u64>();
     law_of_participants::<Once>();
     law_of_call_counts::<u64>();
