@@ -52,6 +52,12 @@ few_digits-fit text value count b d lt digit =
     let small = d.small in
     omega arith
 
+-- each of digits is one
+pub digit_at : (text : List ℕ) (i : ℕ) → list_all is_digit text ≡ true → i < length text → is_digit (get_or text i 0) ≡ true
+digit_at [] i all lt = absurd (omega arith)
+digit_at (b ∷ bs) zero all lt = (both (is_digit b) (list_all is_digit bs) all).0
+digit_at (b ∷ bs) (suc i) all lt = digit_at bs i (both (is_digit b) (list_all is_digit bs) all).1 (omega arith)
+
 number_all : (b : ℕ) (bs : List ℕ) (value : ℕ) → list_all is_digit (b ∷ bs) ≡ true → value ≡ decimal_from 0 (b ∷ bs) → value < 2 ^ 64 → (b ≡ 48 → bs ≡ []) → number_in (b ∷ bs) ≡ Some value
 number_all b bs value digits is fits alone =
     rw digits (elim (eqb_tells b 48) [

@@ -1,6 +1,8 @@
 //! The lines that most inputs are made of, in one pass over their bytes.
 
-ghost use Rattle.std.specs.Prelude.{◌+◌, ◌≤◌, ◌<◌, length, IfSome};
+ghost use Rattle.std.specs.Prelude.{◌≡◌, ◌+◌, ◌≤◌, ◌<◌, true, length, IfSome};
+ghost use Rattle.std.specs.List.{list_all};
+ghost use Rattle.schedule_player.specs.Meaning.{is_digit};
 ghost use Rattle.schedule_player.specs.Digits.{DigitsSoFar};
 ghost use Rattle.schedule_player.specs.Quick.{IsFirstLine, IsNumberAtLf};
 
@@ -33,55 +35,110 @@ const SURE_DIGITS: usize = 19;
 fn quick_number(text: &[u8]) -> Option<(u64, usize)>
     ensures { IfSome result (λ r. IsNumberAtLf text.now r.0 r.1) }
 {
-    let (value, count) = sure_digits(text);
-    if count == SURE_DIGITS && count < text.len() && text[count].is_ascii_digit() {
-        let more = value
-            .checked_mul(10)?
-            .checked_add(u64::from(text[count] - b'0'))?;
-        return number_at_lf(text, more, count + 1);
+    // Where a letter stands fifth, as that of the next line's word after one to three digits, there are few.
+    if text.len() < 5 || b'a' <= text[4] {
+        return few_digits(text, 0, 0);
     }
-    number_at_lf(text, value, count)
+    long_number(text)
 }
 
-/// The number that the first digits write, and how many they are, up to so many that it surely fits.
+/// As `quick_number`, with sixteen or eight digits at once where so many stand there.
 #[inline(always)]
-fn sure_digits(text: &[u8]) -> (u64, usize)
-    ensures read { DigitsSoFar text.now result.0 result.1 }
-    ensures sure { result.1 ≤ SURE_DIGITS }
+fn long_number(text: &[u8]) -> Option<(u64, usize)>
+    ensures { IfSome result (λ r. IsNumberAtLf text.now r.0 r.1) }
+{
+    let Some(sixteen) = first_digits(text, 16) else {
+        return match first_digits(text, 8) {
+            Some(eight) => few_digits(text, eight, 8),
+            None => few_digits(text, 0, 0),
+        };
+    };
+    let Some(nineteen) = digits_to(text, sixteen, 16, SURE_DIGITS) else {
+        return few_digits(text, sixteen, 16);
+    };
+    if text.len() < 20 || !text[19].is_ascii_digit() {
+        return number_at_lf(text, nineteen, 19);
+    }
+    let twenty = nineteen
+        .checked_mul(10)?
+        .checked_add(u64::from(text[19] - b'0'))?;
+    number_at_lf(text, twenty, 20)
+}
+
+/// The number of the first so many bytes, where all of them are digits.
+#[inline(always)]
+fn first_digits(text: &[u8], count: usize) -> Option<u64>
+    requires { count ≤ SURE_DIGITS }
+    ensures { IfSome result (λ value. DigitsSoFar text.now value count) }
+{
+    if text.len() < count || !are_digits(&text[..count]) {
+        return None;
+    }
+    Some(value_of(&text[..count]))
+}
+
+/// Whether each byte is a digit: no branch for each byte, so that many are tested at once.
+#[inline(always)]
+fn are_digits(bytes: &[u8]) -> bool
+    ensures { result ≡ list_all is_digit bytes.now }
+{
+    let mut all = true;
+    for byte in bytes {
+        all &= byte.is_ascii_digit();
+    }
+    all
+}
+
+/// The number that so few digits write that it surely fits.
+#[inline(always)]
+fn value_of(digits: &[u8]) -> u64
+    requires digits { list_all is_digit digits.now ≡ true }
+    requires few { length digits.now ≤ SURE_DIGITS }
+    ensures { DigitsSoFar digits.now result (length digits.now) }
+{
+    let mut value = 0;
+    for digit in digits {
+        value = value * 10 + u64::from(*digit - b'0');
+    }
+    value
+}
+
+/// The number of the digits up to there, after the first of them, where all of these bytes are digits.
+#[inline(always)]
+fn digits_to(text: &[u8], first: u64, from: usize, to: usize) -> Option<u64>
+    requires read { DigitsSoFar text.now first from }
+    requires sure { to ≤ SURE_DIGITS }
+    requires more { from ≤ to }
+    ensures { IfSome result (λ value. DigitsSoFar text.now value to) }
+{
+    if text.len() < to {
+        return None;
+    }
+    let mut value = first;
+    for at in from..to {
+        value = one_more(text, value, at)?;
+    }
+    Some(value)
+}
+
+/// As `quick_number`, digit by digit, after the digits that were read. Answers none for more digits than surely fit.
+#[inline(always)]
+fn few_digits(text: &[u8], first: u64, from: usize) -> Option<(u64, usize)>
+    requires read { DigitsSoFar text.now first from }
+    requires sure { from ≤ SURE_DIGITS }
+    ensures { IfSome result (λ r. IsNumberAtLf text.now r.0 r.1) }
 {
     let most = text.len().min(SURE_DIGITS);
-    let mut value = 0;
-    let mut at = 0;
-    while at + 4 <= most {
-        let Some(first) = one_more(text, value, at) else {
-            return (value, at);
-        };
-        value = first;
-        at += 1;
-        let Some(second) = one_more(text, value, at) else {
-            return (value, at);
-        };
-        value = second;
-        at += 1;
-        let Some(third) = one_more(text, value, at) else {
-            return (value, at);
-        };
-        value = third;
-        at += 1;
-        let Some(fourth) = one_more(text, value, at) else {
-            return (value, at);
-        };
-        value = fourth;
-        at += 1;
-    }
+    let mut value = first;
+    let mut at = from;
     while at < most {
         let Some(next) = one_more(text, value, at) else {
-            return (value, at);
+            break;
         };
         value = next;
         at += 1;
     }
-    (value, at)
+    number_at_lf(text, value, at)
 }
 
 /// The number with the digit that stands at the end of these digits, where one stands there.
