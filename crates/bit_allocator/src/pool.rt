@@ -8,7 +8,6 @@ ghost use Rattle.bit_allocator.specs.Locality.{IsLocal, LookAlike, StandAlike, p
 ghost use Rattle.bit_allocator.specs.Calls.{Call};
 ghost use Rattle.bit_allocator.specs.Calls.Call.{Entered, Probed, Left};
 ghost use Rattle.bit_allocator.specs.PoolObject.{PoolObject, IsRun, number_in};
-ghost use Rattle.bit_allocator.specs.Law.{KeepsPoolLaw};
 ghost use Rattle.bit_allocator.specs.After.{After, IsLawful, LeadsOn};
 ghost use Rattle.bit_allocator.specs.Acquired.{IsAcquired, LeadsByStay, was_clear, Gets};
 
@@ -230,7 +229,7 @@ impl<A: Allocator> Pool<A> {
         ensures refused { IfErr result (λ why. (enter_answer self.old id ≡ Err why) × (self.new ≡ self.old)) }
         ensures range { IfOk result (λ n. (1 ≤ n) × (n ≤ self.new.size)) }
         ensures after { LeadsByStay id self.old self.new result }
-        ensures law { (size : ℕ) (r : List Call) → After size self.new r → KeepsPoolLaw size r }
+        ensures law { IsLawful self.new }
     {
         if let Some(refusal) = self.enter_refusal(id) {
             return Err(refusal);

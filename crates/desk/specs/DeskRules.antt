@@ -1,5 +1,5 @@
 -- what a desk answers to an event, and what is left then
-use Rattle.std.specs.Prelude.{◌≡◌, ℕ, ◌-◌, Bool, true, false, ◌⊎◌, List, Option, Some, None, Result, Ok, Err, slice_index}
+use Rattle.std.specs.Prelude.{◌≡◌, ℕ, ◌-◌, Bool, true, false, ◌⊎◌, List, Option, Some, None, Result, Ok, Err, slice_index, replicate}
 use Rattle.step_memory.specs.declared.refusal.Refusal.{Refusal}
 use Rattle.step_memory.specs.declared.refusal.Refusal.TheVariants as refusal
 use Rattle.step_memory.specs.Calls.Call.{Began, Stepped}
@@ -7,8 +7,8 @@ use Rattle.step_memory.specs.World.{begin_refusal, done_unless}
 use Rattle.snapshot_core.specs.Places.{KnownPlaces}
 use Rattle.rename_core.specs.RenameCalls.{next}
 use Rattle.rename_core.specs.RenameState.{RenameState}
-use Rattle.rename_core.specs.RenameWorld.{rename_answer, step_refusal, may_lack}
-use Rattle.bit_allocator.specs.Pool.{enter_answer, probe_answer, number_answer}
+use Rattle.rename_core.specs.RenameWorld.{rename_answer, step_refusal, may_lack, fresh_world}
+use Rattle.bit_allocator.specs.Pool.{enter_answer, probe_answer, number_answer, fresh_pool}
 use Rattle.bit_allocator.specs.Calls.Call.{Entered, Probed, Left}
 use Rattle.slot_array.specs.SlotCalls.{SlotCall}
 use Rattle.slot_array.specs.SlotCalls.SlotCall.{Pooled, Stored, Fetched}
@@ -71,3 +71,11 @@ module _ {S R V U K : Type 0} (W : KnownPlaces S R V U K) where
   DeskMay w e r u =
       ((r ≡ desk_reply w e) × (u ≡ desk_after w e))
       ⊎ ((r ≡ reply.Refused refusal.NoMemory) × (u ≡ w) × (desk_grows w e ≡ true))
+
+-- a desk on which nothing was done, for so many participants, rounds and numbers
+pub record IsFreshDesk {S R V U K : Type 0} (W : KnownPlaces S R V U K) (most limit size : ℕ) (w : DeskState S U K) : Type 0 where
+  pub first : S
+  pub new : W.ties.IsNew first
+  pub most_is : W.most_of first ≡ most
+  pub names : w.names ≡ fresh_world first most limit
+  pub slots : w.slots ≡ record { pool = fresh_pool size; values = replicate size 0 }

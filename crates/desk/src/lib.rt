@@ -1,4 +1,28 @@
 //! One renaming world and one pool with slots, behind events.
+//!
+//! An *event* is what one participant does, with at most one access to one register; it is answered at once. A desk takes
+//! the events of renaming (`Begin`, `Step`), of the pool (`Enter`, `Probe`, `Leave`) and of the slots (`Put`, `Get`), from
+//! any participants in any order.
+//!
+//! What is proved, over every list of events: each reply is the one that the renaming world, the pool or the slots give
+//! (`DeskOver::apply`: one reply and one desk after it, or, only where a step makes a node of a tree and nothing else is due,
+//! want of memory with nothing changed); the exchanges, events with their replies, are a *run*, which the renaming object,
+//! the pool and the slots, begun fresh, can answer in order, within their counts of steps (`law_of_desks`); and so, among the
+//! exchanges, nobody was given two names, no two were given one, and each name is from 1 to 2b - 1 where b have begun
+//! (`law_of_names`).
+//!
+//! A caller:
+//!
+//! ```text
+//! let config = Config::new(WorldKind::Rename, 4, 4, 1000)?;
+//! let mut desk = DeskOver::<Grid<Global>, Global>::new(alloc, config)?;
+//! desk.apply(Event::Begin(7));                // Ok
+//! loop {
+//!     if let Reply::Named(name, _) = desk.apply(Event::Step(7)) {
+//!         break name;                         // 1: nobody else proposed
+//!     }
+//! }
+//! ```
 #![tactic(auto)]
 
 pub mod event;
@@ -12,3 +36,6 @@ pub use exchange::Exchange;
 pub use laws::{law_of_desks, law_of_names};
 pub use over::DeskOver;
 pub use reply::Reply;
+
+#[cfg(test)]
+mod tests;

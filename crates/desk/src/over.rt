@@ -1,11 +1,9 @@
 //! A desk over places of one kind.
 
-ghost use Rattle.std.specs.Prelude.{◌≡◌, ◌⊎◌, ◌↔◌, ℕ, List, [], IfOk, IfErr, Err, false, replicate};
-ghost use Rattle.bit_allocator.specs.Pool.{fresh_pool};
+ghost use Rattle.std.specs.Prelude.{◌≡◌, ◌⊎◌, ◌↔◌, [], IfOk, IfErr, Err, false};
 ghost use Rattle.desk.specs.DeskCalls.{AfterDesk};
-ghost use Rattle.desk.specs.DeskRules.{DeskMay};
+ghost use Rattle.desk.specs.DeskRules.{DeskMay, IsFreshDesk};
 ghost use Rattle.rename_core.specs.Config.{is_played_over};
-ghost use Rattle.rename_core.specs.RenameWorld.{fresh_world};
 
 use crate::event::Event;
 use crate::reply::Reply;
@@ -30,6 +28,28 @@ impl<W: RenamePlaces<A>, A: Allocator> Model for DeskOver<W, A> {
     ghost Value = { DeskState W W.Walker W.Walk };
 
     ghost view = { λ d. record { names = d.names; slots = d.slots } };
+}
+
+impl<W: RenamePlaces<A> + Drop, A: Allocator + Clone> DeskOver<W, A>
+where
+    W::Walker: Copy,
+    W::Walk: Copy,
+    W::Value: Drop,
+{
+    /// A desk of this config on which nothing was done; each slot holds 0. `OutOfRange` where the places are not those of the
+    /// config's world, and `NoMemory` where its room was refused, which is all taken here but for the nodes of a tree.
+    pub fn new(alloc: A, config: Config) -> Result<Self, Refusal>
+        ensures fresh { IfOk result (λ d. IsFreshDesk ⟦<W as Known>⟧.places config.m config.limit config.k d) }
+        ensures after { IfOk result (λ d. AfterDesk ⟦<W as Known>⟧.places config.m config.limit config.k d []) }
+        ensures out_of_range { result ≡ Err Refusal.OutOfRange ↔ (is_played_over config.world W.world ≡ false) }
+        ensures only { IfErr result (λ why. (why ≡ Refusal.NoMemory) ⊎ (why ≡ Refusal.OutOfRange)) }
+    {
+        let names = RenameWorld::new(alloc.clone()?, config)?;
+        let pool = Pool::new(alloc.clone()?, config.k)?;
+        let values = Vec::from_elem(alloc, 0u64, config.k as usize)?;
+        let slots = Slots::new(pool, values)?;
+        Ok(DeskOver { names, slots })
+    }
 }
 
 impl<W: RenamePlaces<A> + Drop, A: Allocator> DeskOver<W, A>

@@ -14,6 +14,12 @@ pub enum Reply {
     Ok,
     /// The step says nothing.
     Quiet,
+    /// A visit of a lone splitter ended: it stopped.
+    Stop,
+    /// It went right.
+    Right,
+    /// It went down.
+    Down,
     /// The participant has reached this place.
     Place(Place),
     /// The participant has proposed this number.
@@ -32,6 +38,8 @@ pub enum Reply {
     Left(u8),
     /// The value in the slot of the number that is held.
     Value(u64),
+    /// Who has the name that was asked for, or that nobody has it.
+    Owner(Option<u64>),
     /// Refused, with nothing changed.
     Refused(Refusal),
 }
