@@ -2,6 +2,7 @@
 #![tactic(auto)]
 
 pub mod config;
+pub mod law;
 pub mod places;
 pub mod proposal;
 pub mod reply;
@@ -9,6 +10,7 @@ pub mod round;
 pub mod world;
 
 pub use config::{Config, WorldKind};
+pub use law::{fixed_rename_law, grid_rename_law, tree_rename_law};
 pub use places::RenamePlaces;
 pub use proposal::next_proposal;
 pub use reply::Reply;
