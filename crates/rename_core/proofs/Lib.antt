@@ -15,3 +15,6 @@ pub mod Names
 pub mod NamedPlaces
 pub mod AfterCalls
 pub mod LocalSteps
+pub mod Beginners
+pub mod Bounds
+pub mod PlacesLaw

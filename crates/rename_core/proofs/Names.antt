@@ -13,7 +13,7 @@ use Rattle.snapshot_core.specs.declared.client.Client.{Client}
 use Rattle.snapshot_core.specs.SnapWorld.{SnapState, IsAccessFor}
 use Rattle.snapshot_core.proofs.Following.{own_access_holds}
 use Rattle.rename_core.specs.Locality.{client_of, access_of}
-use Rattle.snapshot_core.specs.SnapCalls.{SnapCall, next as snap_next, IsReply as IsSnapReply}
+use Rattle.snapshot_core.specs.SnapCalls.{SnapCall, next as snap_next, IsReply as IsSnapReply, IsAfter as IsSnapAfter}
 use Rattle.snapshot_core.specs.Snapshot.{IsMoment, SnapObject, SnapBounds, bounds_over, observed, Allows as SnapAllows, new_object as new_snap}
 use Rattle.rename_core.specs.Config.{is_tree}
 use Rattle.rename_core.specs.declared.config.WorldKind.{WorldKind}
@@ -183,6 +183,14 @@ module _ {S R V U K : Type 0} (W : KnownPlaces S R V U K) (terms : RenameTerms) 
         values = λ q. shown_is q w.rounds k.tied.distinct ∙ shown_at w k.object k.paces.0 k.tied q ∙ ap (λ (x : RenameObject). x.moment x.last q) same;
       }
 
+  -- who takes part in the snapshot object has a round, and who has one takes part
+  pub joined_held : (w : RenameState S U K) (r : List (Call Reply)) → Run (next W) (IsReply W) fresh r w → (p : ℕ) → is_some (participant_of p w.snap.participants) ≡ is_some (participant_of p w.rounds)
+  joined_held w r a p = let k = holds w r a in k.tied.joined p
+
+  -- the calls of the snapshot object that have led to this
+  pub snap_calls : (w : RenameState S U K) (r : List (Call Reply)) → Run (next W) (IsReply W) fresh r w → (calls : List SnapCall) × IsSnapAfter W first w.snap calls
+  snap_calls w r a = let k = holds w r a in (k.tied.tie.calls, k.tied.tie.world)
+
   -- its accesses are those of the snapshot object
   pub own_held : (w : RenameState S U K) (r : List (Call Reply)) → Run (next W) (IsReply W) fresh r w → (p : ℕ) (c : Client U K) → client_of p w ≡ Some c → IsAccessFor W c c.pending (access_of W c)
   own_held w r a p c h = let k = holds w r a in own_access_holds W named.laws w.snap p first k.tied.tie.calls new k.tied.tie.world c h
@@ -190,7 +198,7 @@ module _ {S R V U K : Type 0} (W : KnownPlaces S R V U K) (terms : RenameTerms) 
 -- every world after some calls keeps the law
 module _ {S R V U K : Type 0} (W : KnownPlaces S R V U K) (kind : WorldKind) (scanning : ℕ → ℕ) (w : RenameState S U K) (named : MayBeNamed W (is_tree kind) w.snap.most scanning) (r : List (Call Reply)) (a : IsAfter W w r) where
   -- the world has room for as many as its places have
-  most_is : W.most_of a.first ≡ w.snap.most
+  pub most_is : W.most_of a.first ≡ w.snap.most
   most_is = sym (most_after W (fresh_world a.first (W.most_of a.first) w.limit) r w a.run)
 
   pub rename_law : KeepsRenameLaw (terms_of W kind w) (record { most = w.snap.most; placing = W.ties.placing; scanning = scanning }) r
@@ -207,3 +215,9 @@ module _ {S R V U K : Type 0} (W : KnownPlaces S R V U K) (kind : WorldKind) (sc
 
   pub own_law : (p : ℕ) (c : Client U K) → client_of p w ≡ Some c → IsAccessFor W c c.pending (access_of W c)
   own_law = own_held W (terms_of W kind w) scanning named a.first a.new most_is a.low a.high w r a.run
+
+  pub snap_after : (calls : List SnapCall) × IsSnapAfter W a.first w.snap calls
+  snap_after = snap_calls W (terms_of W kind w) scanning named a.first a.new most_is a.low a.high w r a.run
+
+  pub joined_law : (p : ℕ) → is_some (participant_of p w.snap.participants) ≡ is_some (participant_of p w.rounds)
+  joined_law = joined_held W (terms_of W kind w) scanning named a.first a.new most_is a.low a.high w r a.run

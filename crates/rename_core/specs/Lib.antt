@@ -9,4 +9,4 @@ pub mod RenameState
 pub mod RenameWorld
 pub mod RenameCalls
 pub mod Locality
-pub mod FixedLaws
+pub mod Ample

@@ -1,12 +1,12 @@
 -- the calls of a renaming world with their replies, the machine that they run on, and what is said of it after them
-use Rattle.std.specs.Prelude.{◌≡◌, ℕ, ◌+◌, ◌*◌, ◌≤◌, true, if◌then◌else◌, ◌⊎◌, List, [], ◌∷◌, ◌++◌, Some, None, Err}
+use Rattle.std.specs.Prelude.{◌≡◌, ℕ, ◌+◌, ◌*◌, ◌≤◌, true, if◌then◌else◌, ◌⊎◌, List, [], ◌∷◌, ◌++◌, Option, Some, None, Err}
 use Rattle.step_memory.specs.declared.refusal.Refusal.TheVariants.{NoMemory}
 use Rattle.step_memory.specs.World.{begin_refusal, done_unless}
 use Rattle.step_memory.specs.Calls.{Call, lacked_memory}
 use Rattle.step_memory.specs.Calls.Call.{Began, Stepped}
 use Rattle.step_memory.specs.Runs.{Run}
 use Rattle.snapshot_core.specs.declared.client.Client.{Client}
-use Rattle.snapshot_core.specs.Snapshot.{SnapBounds}
+use Rattle.snapshot_core.specs.Snapshot.{SnapBounds, IsMoment}
 use Rattle.snapshot_core.specs.SnapWorld.{IsAccessFor}
 use Rattle.rename_core.specs.declared.config.WorldKind.{WorldKind}
 use Rattle.rename_core.specs.declared.reply.Reply.{Reply}
@@ -14,7 +14,7 @@ use Rattle.rename_core.specs.Config.{is_tree}
 use Rattle.rename_core.specs.Locality.{client_of, round_of, access_of}
 use Rattle.rename_core.specs.Law.{KeepsRenameLaw}
 use Rattle.snapshot_core.specs.Places.{KnownPlaces}
-use Rattle.rename_core.specs.RenameObject.{RenameTerms}
+use Rattle.rename_core.specs.RenameObject.{RenameTerms, RenameObject, IsRun, IsOwner}
 use Rattle.rename_core.specs.RenameState.{RenameState}
 use Rattle.rename_core.specs.RenameWorld.{step_refusal, fresh_world, after_rename_begin, rename_answer, after_rename_step, may_lack}
 
@@ -30,6 +30,13 @@ module _ {S R V U K : Type 0} (W : KnownPlaces S R V U K) where
   IsReply w (Stepped id reply) =
       (reply ≡ rename_answer W w id)
       ⊎ ((reply ≡ Err NoMemory) × (step_refusal w id ≡ None) × (may_lack W w id ≡ true))
+
+  -- nobody has begun, and nothing was written. There is room for so many, each with so many proposals
+  pub record IsFresh (most limit : ℕ) (w : RenameState S U K) : Type 0 where
+    pub first : S
+    pub new : W.ties.IsNew first
+    pub room : W.most_of first ≡ most
+    pub is : w ≡ fresh_world first most limit
 
   -- the world is after these calls with these replies, from a fresh one over places in which nothing was written. Its
   -- round limit is in its range
@@ -48,13 +55,31 @@ module _ {S R V U K : Type 0} (W : KnownPlaces S R V U K) where
   abbrev pub terms_of : WorldKind → RenameState S U K → RenameTerms
   terms_of kind w = record { most = w.snap.most; limit = w.limit; grows = is_tree kind }
 
+  -- every list of calls that leads to this world keeps the law within these bounds, where the places serve that kind of world
+  abbrev pub IsLawfulWithin : WorldKind → SnapBounds → RenameState S U K → Type 0
+  IsLawfulWithin kind bounds w = (r : List (Call Reply)) → IsAfter w r → KeepsRenameLaw (terms_of kind w) bounds r
+
   -- where b have begun, of whom walks over the segments make so many reads, a scan makes at most b + 1 collects
   abbrev pub bounds_of : RenameState S U K → SnapBounds
   bounds_of w = record { most = w.snap.most; placing = W.ties.placing; scanning = λ b. (b + 1) * W.ties.reads w.snap.most b }
 
-  -- every list of calls that leads to this world keeps the law, where the places serve that kind of world
+  -- every list of calls that leads to this world keeps the law
   abbrev pub IsLawful : WorldKind → RenameState S U K → Type 0
-  IsLawful kind w = (r : List (Call Reply)) → IsAfter w r → KeepsRenameLaw (terms_of kind w) (bounds_of w) r
+  IsLawful kind w = IsLawfulWithin kind (bounds_of w) w
+
+  -- what is answered of names agrees with the replies: the name of an identity, the owner of a name, the last moment
+  abbrev pub IsName : WorldKind → RenameState S U K → ℕ → Option ℕ → Type 0
+  IsName kind w p name = (r : List (Call Reply)) → IsAfter w r → (o : RenameObject) → IsRun (terms_of kind w) r o → name ≡ o.name p
+
+  abbrev pub IsOwnerOf : WorldKind → RenameState S U K → ℕ → Option ℕ → Type 0
+  IsOwnerOf kind w n owner = (r : List (Call Reply)) → IsAfter w r → (o : RenameObject) → IsRun (terms_of kind w) r o → IsOwner o n owner
+
+  abbrev pub IsLastMoment : WorldKind → RenameState S U K → List (ℕ × ℕ) → Type 0
+  IsLastMoment kind w view = (r : List (Call Reply)) → IsAfter w r → (o : RenameObject) → IsRun (terms_of kind w) r o → IsMoment view (o.moment o.last)
+
+  -- after every list of calls, p's step may want memory only where this holds
+  abbrev pub LacksOnly : RenameState S U K → ℕ → Type 0 → Type 0
+  LacksOnly w p Holds = (r : List (Call Reply)) → IsAfter w r → may_lack W w p ≡ true → Holds
 
   -- after every list of calls, p's next access is one for what it has to do
   abbrev pub MakesOwnAccess : RenameState S U K → ℕ → Type 0

@@ -2,13 +2,14 @@
 
 ghost use Rattle.std.specs.Prelude.{◌≡◌, ◌≤◌, ℕ, ◌==◌, is_some, true, IfOk, IfErr, refl};
 ghost use Rattle.rename_core.specs.Config.{is_tree};
-ghost use Rattle.rename_core.specs.FixedLaws.{fixed_ample};
+ghost use Rattle.rename_core.specs.Ample.{fixed_ample, grid_ample};
 ghost use Rattle.rename_core.specs.declared.config.WorldKind.{WorldKind};
 ghost use Rattle.rename_core.specs.declared.config.WorldKind.TheVariants as kind;
 ghost use Rattle.snapshot_core.specs.SnapWorld.{SnapState, may_lack_memory};
 
 use crate::config::WorldKind;
 use snapshot_core::{Fixed, Known, Places};
+use snapshot_places::{Grid, TreePlaces};
 use std::alloc::Allocator;
 use step_memory::Refusal;
 
@@ -50,4 +51,36 @@ impl<A: Allocator> RenamePlaces<A> for Fixed<A> {
     ghost at_once = { λ b q. refl };
 
     ghost may_grow = { fixed_ample };
+}
+
+impl<A: Allocator + Clone> RenamePlaces<A> for Grid<A> {
+    ghost world = { kind.Rename };
+
+    fn world() -> WorldKind {
+        WorldKind::Rename
+    }
+
+    fn empty(alloc: A, most: usize) -> Result<Self, Refusal> {
+        Grid::new(alloc, most)
+    }
+
+    ghost at_once = { λ b q. refl };
+
+    ghost may_grow = { grid_ample };
+}
+
+impl<A: Allocator + Clone> RenamePlaces<A> for TreePlaces<A> {
+    ghost world = { kind.Tree };
+
+    fn world() -> WorldKind {
+        WorldKind::Tree
+    }
+
+    fn empty(alloc: A, most: usize) -> Result<Self, Refusal> {
+        TreePlaces::new(alloc, most)
+    }
+
+    ghost at_once = { λ b q. refl };
+
+    ghost may_grow = { λ s p h. refl };
 }

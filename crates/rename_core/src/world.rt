@@ -3,16 +3,12 @@
 ghost use Rattle.std.specs.Prelude.{◌≡◌, ◌≢◌, ℕ, [], ◌∷◌, ◌++◌, List, IfOk, IfErr, OnErr, Err, true, false, None, ◌⊎◌, ◌↔◌, ◌<◌, length};
 ghost use Rattle.step_memory.specs.Participant.{index_of};
 ghost use Rattle.step_memory.specs.World.{begin_refusal, done_unless};
-ghost use Rattle.step_memory.specs.Calls.{Call};
 ghost use Rattle.step_memory.specs.Calls.Call.{Began, Stepped};
 ghost use Rattle.rename_core.specs.Config.{is_played_over};
 ghost use Rattle.rename_core.specs.Locality.{IsLocal};
-ghost use Rattle.rename_core.specs.RenameCalls.{IsAfter, LeadsOn, IsLawful, MakesOwnAccess, terms_of};
-ghost use Rattle.rename_core.specs.RenameObject.{RenameObject, IsRun, IsOwner};
+ghost use Rattle.rename_core.specs.RenameCalls.{IsAfter, LeadsOn, IsFresh, IsLawful, MakesOwnAccess, IsName, IsOwnerOf, IsLastMoment};
 ghost use Rattle.rename_core.specs.Round.{standing_by};
-ghost use Rattle.rename_core.specs.RenameWorld.{after_wish, name_in, owner_by, shown_with, shown_by, step_refusal, fresh_world, after_rename_begin, rename_answer, after_rename_step, may_lack};
-ghost use Rattle.snapshot_core.specs.Snapshot.{IsMoment};
-ghost use Rattle.rename_core.specs.declared.reply.Reply.{Reply};
+ghost use Rattle.rename_core.specs.RenameWorld.{after_wish, name_in, owner_by, shown_with, shown_by, step_refusal, after_rename_begin, rename_answer, after_rename_step, may_lack};
 
 use crate::config::Config;
 use crate::places::RenamePlaces;
@@ -146,7 +142,7 @@ where
         ensures value { result ≡ name_in self.now id }
 
         // It is the name that the replies have given to the identity.
-        ensures law { (r : List (Call Reply)) → IsAfter ⟦<W as Known>⟧.places self.now r → (o : RenameObject) → IsRun (terms_of ⟦<W as Known>⟧.places W.world self.now) r o → result ≡ o.name id }
+        ensures law { IsName ⟦<W as Known>⟧.places W.world self.now id result }
     {
         self.round_name(id)
     }
@@ -168,7 +164,7 @@ where
         ensures value { result ≡ owner_by number self.now.rounds }
 
         // It is the identity to which the replies have given the name.
-        ensures law { (r : List (Call Reply)) → IsAfter ⟦<W as Known>⟧.places self.now r → (o : RenameObject) → IsRun (terms_of ⟦<W as Known>⟧.places W.world self.now) r o → IsOwner o number result }
+        ensures law { IsOwnerOf ⟦<W as Known>⟧.places W.world self.now number result }
     {
         self.round_owner(number)
     }
@@ -189,7 +185,7 @@ where
         ensures value { result ≡ shown_by [] self.now.rounds }
 
         // It is the last moment that the replies have made.
-        ensures law { (r : List (Call Reply)) → IsAfter ⟦<W as Known>⟧.places self.now r → (o : RenameObject) → IsRun (terms_of ⟦<W as Known>⟧.places W.world self.now) r o → IsMoment result (o.moment o.last) }
+        ensures law { IsLastMoment ⟦<W as Known>⟧.places W.world self.now result }
     {
         self.round_proposals()
     }
@@ -233,7 +229,7 @@ where
     /// A world in which nobody has begun. Refused where names are not given in the config's world, or not over these
     /// places: where just one of them is a tree; then where the room for the participants was refused.
     pub fn new(alloc: A, config: Config) -> Result<Self, Refusal>
-        ensures fresh { IfOk result (λ w. (first : W) × (W.ties.IsNew first) × (W.most_of first ≡ config.m) × (w ≡ fresh_world first config.m config.limit)) }
+        ensures fresh { IfOk result (λ w. IsFresh ⟦<W as Known>⟧.places config.m config.limit w) }
         ensures out_of_range { result ≡ Err Refusal.OutOfRange ↔ (is_played_over config.world W.world ≡ false) }
         ensures only { IfErr result (λ why. (why ≡ Refusal.NoMemory) ⊎ (why ≡ Refusal.OutOfRange)) }
         ensures after { IfOk result (λ w. IsAfter ⟦<W as Known>⟧.places w []) }

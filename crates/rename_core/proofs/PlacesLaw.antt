@@ -1,0 +1,63 @@
+-- the law of renaming over a grid, over a tree and over segments in a row
+use Rattle.std.proofs.Common.{◌≡◌, ℕ, ◌+◌, ◌-◌, ◌*◌, ◌≤◌, ◌==◌, true, false, List, Option, refl, sym, ap, subst, ◌∙◌}
+use Rattle.snapshot_core.specs.SnapCalls.{IsAfter as IsSnapAfter}
+use Rattle.snapshot_core.specs.FixedTies.{fixed_places, fixed_bounds}
+use Rattle.snapshot_core.specs.FixedLaws.{fixed_laws}
+use Rattle.snapshot_places.specs.Bounds.{grid_bounds, tree_bounds}
+use Rattle.snapshot_places.specs.Grid.{segments_for}
+use Rattle.snapshot_places.specs.GridLaws.{grid_laws}
+use Rattle.snapshot_places.specs.GridState.{GridState}
+use Rattle.snapshot_places.specs.GridTies.{grid_places}
+use Rattle.snapshot_places.specs.Made.{MakesNode}
+use Rattle.snapshot_places.specs.Tree.{TreeState, new_tree}
+use Rattle.snapshot_places.specs.TreeLaws.{tree_laws}
+use Rattle.snapshot_places.specs.TreeTies.{tree_places}
+use Rattle.snapshot_places.specs.declared.grid_walk.GridWalk.{GridWalk}
+use Rattle.snapshot_places.specs.declared.grid_walker.GridWalker.{GridWalker}
+use Rattle.snapshot_places.specs.declared.tree_walk.TreeWalk.{TreeWalk}
+use Rattle.snapshot_places.specs.declared.tree_walker.TreeWalker.{TreeWalker}
+use Rattle.snapshot_places.proofs.GridLaw.{grid_alike}
+use Rattle.snapshot_places.proofs.TreeLaw.{tree_alike, tree_makes}
+use Rattle.snapshot_core.specs.declared.fixed.FixedWalk.{FixedWalk}
+use Rattle.snapshot_core.specs.declared.fixed.FixedWalker.{FixedWalker}
+use Rattle.step_memory.specs.declared.record.Record.{Record}
+use Rattle.rename_core.specs.Ample.{fixed_ample, grid_ample}
+use Rattle.rename_core.specs.declared.config.WorldKind.TheVariants.{Rename, Tree}
+use Rattle.rename_core.specs.RenameCalls.{IsLawfulWithin, LacksOnly, BeginsTheSame}
+use Rattle.rename_core.specs.RenameState.{RenameState}
+use Rattle.rename_core.proofs.Beginners.{begins_alike}
+use Rattle.rename_core.proofs.Bounds.{fits_grid, fits_tree, fits_row}
+use Rattle.rename_core.proofs.Names.{MayBeNamed, rename_law, most_is, snap_after}
+
+grid_named : (most : ℕ) → MayBeNamed grid_places false most (grid_bounds most).scanning
+grid_named most = record { laws = grid_laws; fits = fits_grid most; may_grow = λ s p h. grid_ample s.snap p h; at_once = λ b q. refl }
+
+pub grid_lawful : (w : RenameState GridState GridWalker GridWalk) → IsLawfulWithin grid_places Rename (grid_bounds w.snap.most) w
+grid_lawful w r a = rename_law grid_places Rename (grid_bounds w.snap.most).scanning w (grid_named w.snap.most) r a
+
+pub grid_begins_alike : (p : ℕ) → BeginsTheSame grid_places p
+grid_begins_alike = begins_alike grid_places grid_laws Rename (λ m. (grid_bounds m).scanning) grid_named grid_alike
+
+tree_named : (most : ℕ) → MayBeNamed tree_places true most (tree_bounds most).scanning
+tree_named most = record { laws = tree_laws; fits = fits_tree most; may_grow = λ s p h. refl; at_once = λ b q. refl }
+
+pub tree_lawful : (w : RenameState TreeState TreeWalker TreeWalk) → IsLawfulWithin tree_places Tree (tree_bounds w.snap.most) w
+tree_lawful w r a = rename_law tree_places Tree (tree_bounds w.snap.most).scanning w (tree_named w.snap.most) r a
+
+pub tree_begins_alike : (p : ℕ) → BeginsTheSame tree_places p
+tree_begins_alike = begins_alike tree_places tree_laws Tree (λ m. (tree_bounds m).scanning) tree_named tree_alike
+
+fixed_named : (most : ℕ) → MayBeNamed fixed_places false most (fixed_bounds most).scanning
+fixed_named most = record { laws = fixed_laws; fits = fits_row most; may_grow = λ s p h. fixed_ample s.snap p h; at_once = λ b q. refl }
+
+pub fixed_lawful : (w : RenameState (List (Option Record)) FixedWalker FixedWalk) → IsLawfulWithin fixed_places Rename (fixed_bounds w.snap.most) w
+fixed_lawful w r a = rename_law fixed_places Rename (fixed_bounds w.snap.most).scanning w (fixed_named w.snap.most) r a
+
+-- only a step that makes a node may want memory
+pub tree_lacks : (w : RenameState TreeState TreeWalker TreeWalk) (p : ℕ) → LacksOnly tree_places w p (MakesNode w.snap p)
+tree_lacks w p r a may =
+    let size : a.first.most ≡ w.snap.most = most_is tree_places Tree (tree_bounds w.snap.most).scanning w (tree_named w.snap.most) r a in
+    let first : a.first ≡ new_tree w.snap.most = ap (λ (n : _). record { nodes = n; most = a.first.most }) a.new.empty ∙ ap new_tree size in
+    let calls = snap_after tree_places Tree (tree_bounds w.snap.most).scanning w (tree_named w.snap.most) r a in
+    let few : w.snap.most ≤ 64 = rw (← size) a.new.few in
+    tree_makes w.snap (few, calls.0, subst (λ (t : TreeState). IsSnapAfter tree_places t w.snap calls.0) first calls.1) p may

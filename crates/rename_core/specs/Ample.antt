@@ -1,0 +1,29 @@
+-- over segments in a row, and over a grid, no step wants memory
+use Rattle.std.proofs.Common.{◌≡◌, ℕ, true, false, Some, None, refl, sym, ◌∙◌}
+use Rattle.step_memory.specs.declared.access.Access.{Access}
+use Rattle.step_memory.specs.Participant.{participant_of}
+use Rattle.step_memory.specs.World.{may_refuse_by}
+use Rattle.snapshot_core.specs.FixedTies.{fixed_places}
+use Rattle.snapshot_core.specs.Places.{KnownPlaces}
+use Rattle.snapshot_core.specs.SnapWorld.{SnapState, clients_over, may_lack_memory}
+use Rattle.snapshot_core.specs.declared.fixed.FixedWalk.{FixedWalk}
+use Rattle.snapshot_core.specs.declared.fixed.FixedWalker.{FixedWalker}
+use Rattle.snapshot_places.specs.GridState.{GridState}
+use Rattle.snapshot_places.specs.GridTies.{grid_places}
+use Rattle.snapshot_places.specs.declared.grid_walk.GridWalk.{GridWalk}
+use Rattle.snapshot_places.specs.declared.grid_walker.GridWalker.{GridWalker}
+use Rattle.step_memory.specs.declared.record.Record.{Record}
+use Rattle.std.proofs.Common.{List, Option}
+
+-- where no access is ever refused, no step is
+pub ample : {S R V U K : Type 0} (t : KnownPlaces S R V U K) → ((s : S) (a : Access R V) → t.memory.may_refuse s a ≡ false) → (s : SnapState S U K) (p : ℕ) → may_lack_memory t s p ≡ false
+ample t sure s p = elim (participant_of p s.participants) as (λ z. may_refuse_by (clients_over t) t.memory s.memory z ≡ false) [
+  | None ↦ refl
+  | Some v ↦ elim v.ended as (λ b. may_refuse_by (clients_over t) t.memory s.memory (Some (record { identity = v.identity; program = v.program; ended = b })) ≡ false) [ true ↦ refl | false ↦ sure s.memory ((clients_over t).next v.program) ]
+]
+
+pub fixed_ample : (s : SnapState (List (Option Record)) FixedWalker FixedWalk) (p : ℕ) → may_lack_memory fixed_places s p ≡ true → false ≡ true
+fixed_ample s p h = sym (ample fixed_places (λ m a. refl) s p) ∙ h
+
+pub grid_ample : (s : SnapState GridState GridWalker GridWalk) (p : ℕ) → may_lack_memory grid_places s p ≡ true → false ≡ true
+grid_ample s p h = sym (ample grid_places (λ m a. refl) s p) ∙ h
