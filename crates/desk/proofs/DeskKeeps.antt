@@ -137,12 +137,12 @@ module _ {S R V U K : Type 0} (W : KnownPlaces S R V U K) (most limit size : ℕ
 
 -- the exchanges of a desk's calls are a run
 pub is_run : {S R V U K : Type 0} (W : KnownPlaces S R V U K) (kind : WorldKind) (most limit size : ℕ) (w : DeskState S U K) (calls : List DeskCall) → IsLawful W kind w.names → AfterDesk W most limit size w calls →
-    IsDeskRun (desk_terms most limit (is_tree kind)) (desk_bounds W.ties.placing (W.ties.reads most)) size (map exchange_of calls)
+    IsDeskRun (desk_terms most limit (is_tree kind)) (desk_bounds most W.ties.placing (W.ties.reads most)) size (map exchange_of calls)
 is_run W kind most limit size w calls lawful a = record {
   calls = calls;
   spelled = refl;
-  names = subst (λ (m : ℕ). KeepsRenameLaw (desk_terms m limit (is_tree kind)) (desk_bounds W.ties.placing (W.ties.reads m)) (rename_calls calls)) a.most_is
-      (subst (λ (l : ℕ). KeepsRenameLaw (desk_terms w.names.snap.most l (is_tree kind)) (desk_bounds W.ties.placing (W.ties.reads w.names.snap.most)) (rename_calls calls)) a.limit_is
+  names = subst (λ (m : ℕ). KeepsRenameLaw (desk_terms m limit (is_tree kind)) (desk_bounds m W.ties.placing (W.ties.reads m)) (rename_calls calls)) a.most_is
+      (subst (λ (l : ℕ). KeepsRenameLaw (desk_terms w.names.snap.most l (is_tree kind)) (desk_bounds w.names.snap.most W.ties.placing (W.ties.reads w.names.snap.most)) (rename_calls calls)) a.limit_is
       (lawful (rename_calls calls) a.names));
   slots = law_after_slots size (replicate size 0) w.slots (slot_calls calls) a.slots;
 }

@@ -205,8 +205,8 @@ module _ (terms : RenameTerms) (bounds : SnapBounds) (size : ℕ) (r : List Exch
   small_names p n one =
       let range = run.names.in_range p n (named_has p n one) in
       let many : run.names.object.many ≡ begun_in r =
-          many_after terms new_object run.names.object (rename_calls run.calls) run.names.run
-          ∙ zero-add (begun_calls (rename_calls run.calls)) ∙ sym (begun_shown run.calls) ∙ ap begun_in run.spelled in
+      many_after terms new_object run.names.object (rename_calls run.calls) run.names.run
+      ∙ zero-add (begun_calls (rename_calls run.calls)) ∙ sym (begun_shown run.calls) ∙ ap begun_in run.spelled in
       (range.0, rw (← many) range.1)
 
   -- who owns a name was given it

@@ -5,9 +5,9 @@ use Rattle.step_memory.specs.declared.refusal.Refusal.TheVariants as refusal
 use Rattle.step_memory.specs.Calls.Call.{Began, Stepped}
 use Rattle.step_memory.specs.World.{begin_refusal, done_unless}
 use Rattle.snapshot_core.specs.Places.{KnownPlaces}
-use Rattle.rename_core.specs.RenameCalls.{next}
+use Rattle.rename_core.specs.RenameCalls.{next, IsFresh}
 use Rattle.rename_core.specs.RenameState.{RenameState}
-use Rattle.rename_core.specs.RenameWorld.{rename_answer, step_refusal, may_lack, fresh_world}
+use Rattle.rename_core.specs.RenameWorld.{rename_answer, step_refusal, may_lack}
 use Rattle.bit_allocator.specs.Pool.{enter_answer, probe_answer, number_answer, fresh_pool}
 use Rattle.bit_allocator.specs.Calls.Call.{Entered, Probed, Left}
 use Rattle.slot_array.specs.SlotCalls.{SlotCall}
@@ -74,8 +74,5 @@ module _ {S R V U K : Type 0} (W : KnownPlaces S R V U K) where
 
 -- a desk on which nothing was done, for so many participants, rounds and numbers
 pub record IsFreshDesk {S R V U K : Type 0} (W : KnownPlaces S R V U K) (most limit size : ℕ) (w : DeskState S U K) : Type 0 where
-  pub first : S
-  pub new : W.ties.IsNew first
-  pub most_is : W.most_of first ≡ most
-  pub names : w.names ≡ fresh_world first most limit
+  pub names : IsFresh W most limit w.names
   pub slots : w.slots ≡ record { pool = fresh_pool size; values = replicate size 0 }

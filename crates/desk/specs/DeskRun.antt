@@ -23,5 +23,5 @@ abbrev pub desk_terms : ℕ → ℕ → Bool → RenameTerms
 desk_terms most limit grows = record { most = most; limit = limit; grows = grows }
 
 -- and its bounds: where b have begun and walks over the segments make so many reads, a scan makes at most b + 1 of them
-abbrev pub desk_bounds : (ℕ → ℕ) → (ℕ → ℕ) → SnapBounds
-desk_bounds placing reads = record { placing = placing; scanning = λ b. (b + 1) * reads b }
+abbrev pub desk_bounds : ℕ → (ℕ → ℕ) → (ℕ → ℕ) → SnapBounds
+desk_bounds most placing reads = record { most = most; placing = placing; scanning = λ b. (b + 1) * reads b }

@@ -23,9 +23,8 @@ pub fn law_of_desks<W: RenamePlaces<A>, A: Allocator>()
     ensures goes_on { (most limit size : ℕ) (w : DeskState W W.Walker W.Walk) (calls : List DeskCall) → AfterDesk ⟦<W as Known>⟧.places most limit size w calls →
         (e : Event) (r : Reply) (u : DeskState W W.Walker W.Walk) → DeskMay ⟦<W as Known>⟧.places w e r u → LeadsBy ⟦<W as Known>⟧.places most limit size calls e r u }
     ensures law { (most limit size : ℕ) (w : DeskState W W.Walker W.Walk) (calls : List DeskCall) → AfterDesk ⟦<W as Known>⟧.places most limit size w calls →
-        IsDeskRun (desk_terms most limit (is_tree W.world)) (desk_bounds W.ties.placing (W.ties.reads most)) size (map exchange_of calls) }
-{
-}
+        IsDeskRun (desk_terms most limit (is_tree W.world)) (desk_bounds most W.ties.placing (W.ties.reads most)) size (map exchange_of calls) }
+{}
 
 /// A law, which runs nothing, drawn from what a run is: among its exchanges nobody was given two names, no two were given
 /// one, and each name is from 1 to 2b - 1, where b have begun.
@@ -33,5 +32,4 @@ pub fn law_of_names()
     ensures one_each { (terms : RenameTerms) (bounds : SnapBounds) (size : ℕ) (r : List Exchange) → IsDeskRun terms bounds size r → (p n m : ℕ) → WasNamed p n r → WasNamed p m r → n ≡ m }
     ensures small { (terms : RenameTerms) (bounds : SnapBounds) (size : ℕ) (r : List Exchange) → IsDeskRun terms bounds size r → (p n : ℕ) → WasNamed p n r → (1 ≤ n) × (n ≤ 2 * begun_in r - 1) }
     ensures never_two { (terms : RenameTerms) (bounds : SnapBounds) (size : ℕ) (r : List Exchange) → IsDeskRun terms bounds size r → (p q n : ℕ) → WasNamed p n r → WasNamed q n r → p ≡ q }
-{
-}
+{}

@@ -44,6 +44,9 @@ where
         ensures out_of_range { result ≡ Err Refusal.OutOfRange ↔ (is_played_over config.world W.world ≡ false) }
         ensures only { IfErr result (λ why. (why ≡ Refusal.NoMemory) ⊎ (why ≡ Refusal.OutOfRange)) }
     {
+        if !config.world.is_played_over(W::world()) {
+            return Err(Refusal::OutOfRange);
+        }
         let names = RenameWorld::new(alloc.clone()?, config)?;
         let pool = Pool::new(alloc.clone()?, config.k)?;
         let values = Vec::from_elem(alloc, 0u64, config.k as usize)?;

@@ -12,7 +12,8 @@ fn plays<W: RenamePlaces<Global> + Drop>(
     rt: &impl Abort,
     desk: &mut DeskOver<W, Global>,
     rows: &[(Event, Reply)],
-) where
+)
+where
     W::Walker: Copy,
     W::Walk: Copy,
     W::Value: Drop,
@@ -35,23 +36,27 @@ fn sole(id: u64, number: u64) -> View {
 fn one_is_named_over_a_grid(rt: HostRuntime) -> Result<(), Fail> {
     let config = Config::new(WorldKind::Rename, 1, 4, 1000)?;
     let mut desk = DeskOver::<Grid<Global>, Global>::new(rt.alloc(), config)?;
-    plays(&rt, &mut desk, &[
-        (Event::Step(7), Reply::Refused(Refusal::NotBegun)),
-        (Event::Begin(0), Reply::Refused(Refusal::ZeroIdentity)),
-        (Event::Begin(7), Reply::Ok),
-        (Event::Begin(7), Reply::Refused(Refusal::AlreadyBegun)),
-        (Event::Begin(8), Reply::Refused(Refusal::Full)),
-        (Event::Step(7), Reply::Quiet),
-        (Event::Step(7), Reply::Quiet),
-        (Event::Step(7), Reply::Quiet),
-        (Event::Step(7), Reply::Place(0)),
-        (Event::Step(7), Reply::Quiet),
-        (Event::Step(7), Reply::Quiet),
-        (Event::Step(7), Reply::Proposed(1)),
-        (Event::Step(7), Reply::Quiet),
-        (Event::Step(7), Reply::Named(1, sole(7, 1))),
-        (Event::Step(7), Reply::Refused(Refusal::Finished)),
-    ]);
+    plays(
+        &rt,
+        &mut desk,
+        &[
+            (Event::Step(7), Reply::Refused(Refusal::NotBegun)),
+            (Event::Begin(0), Reply::Refused(Refusal::ZeroIdentity)),
+            (Event::Begin(7), Reply::Ok),
+            (Event::Begin(7), Reply::Refused(Refusal::AlreadyBegun)),
+            (Event::Begin(8), Reply::Refused(Refusal::Full)),
+            (Event::Step(7), Reply::Quiet),
+            (Event::Step(7), Reply::Quiet),
+            (Event::Step(7), Reply::Quiet),
+            (Event::Step(7), Reply::Place(0)),
+            (Event::Step(7), Reply::Quiet),
+            (Event::Step(7), Reply::Quiet),
+            (Event::Step(7), Reply::Proposed(1)),
+            (Event::Step(7), Reply::Quiet),
+            (Event::Step(7), Reply::Named(1, sole(7, 1))),
+            (Event::Step(7), Reply::Refused(Refusal::Finished)),
+        ],
+    );
     Ok(())
 }
 
@@ -79,27 +84,31 @@ fn one_is_named_over_a_tree(rt: HostRuntime) -> Result<(), Fail> {
 fn a_pool_with_slots(rt: HostRuntime) -> Result<(), Fail> {
     let config = Config::new(WorldKind::Rename, 2, 2, 1000)?;
     let mut desk = DeskOver::<Fixed<Global>, Global>::new(rt.alloc(), config)?;
-    plays(&rt, &mut desk, &[
-        (Event::Probe(5), Reply::Refused(Refusal::NotCompeting)),
-        (Event::Enter(0), Reply::Refused(Refusal::ZeroIdentity)),
-        (Event::Enter(5), Reply::Ok),
-        (Event::Enter(5), Reply::Refused(Refusal::AlreadyCompeting)),
-        (Event::Leave(5), Reply::Refused(Refusal::NotHolding)),
-        (Event::Probe(5), Reply::Got(1)),
-        (Event::Probe(5), Reply::Refused(Refusal::Holding)),
-        (Event::Get(5), Reply::Value(0)),
-        (Event::Enter(6), Reply::Ok),
-        (Event::Enter(7), Reply::Refused(Refusal::Crowded)),
-        (Event::Probe(6), Reply::Got(2)),
-        (Event::Put(6, 9), Reply::Ok),
-        (Event::Leave(6), Reply::Left(2)),
-        (Event::Get(6), Reply::Refused(Refusal::NotCompeting)),
-        (Event::Enter(7), Reply::Ok),
-        (Event::Put(7, 1), Reply::Refused(Refusal::NotHolding)),
-        (Event::Probe(7), Reply::Got(2)),
-        (Event::Get(7), Reply::Value(9)),
-        (Event::Get(5), Reply::Value(0)),
-    ]);
+    plays(
+        &rt,
+        &mut desk,
+        &[
+            (Event::Probe(5), Reply::Refused(Refusal::NotCompeting)),
+            (Event::Enter(0), Reply::Refused(Refusal::ZeroIdentity)),
+            (Event::Enter(5), Reply::Ok),
+            (Event::Enter(5), Reply::Refused(Refusal::AlreadyCompeting)),
+            (Event::Leave(5), Reply::Refused(Refusal::NotHolding)),
+            (Event::Probe(5), Reply::Got(1)),
+            (Event::Probe(5), Reply::Refused(Refusal::Holding)),
+            (Event::Get(5), Reply::Value(0)),
+            (Event::Enter(6), Reply::Ok),
+            (Event::Enter(7), Reply::Refused(Refusal::Crowded)),
+            (Event::Probe(6), Reply::Got(2)),
+            (Event::Put(6, 9), Reply::Ok),
+            (Event::Leave(6), Reply::Left(2)),
+            (Event::Get(6), Reply::Refused(Refusal::NotCompeting)),
+            (Event::Enter(7), Reply::Ok),
+            (Event::Put(7, 1), Reply::Refused(Refusal::NotHolding)),
+            (Event::Probe(7), Reply::Got(2)),
+            (Event::Get(7), Reply::Value(9)),
+            (Event::Get(5), Reply::Value(0)),
+        ],
+    );
     Ok(())
 }
 
