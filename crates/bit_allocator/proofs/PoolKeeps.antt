@@ -221,6 +221,13 @@ front_lawful size w r t a =
     let cut = run_splits next IsReply (fresh_pool size) r t w a.run in
     law_after size cut.0 r (record { first = a.first; last = a.last; run = cut.1 })
 
+-- each call is answered as the object that those before it make may answer it
+pub due_after : (size : ℕ) (w : PoolState) (r before rest : List Call) (h : Call) → After size w r → r ≡ before ++ h ∷ rest → (o : PoolObject) × IsRun size before o × Answers o h
+due_after size w r before rest h a e =
+    let law = law_after size w r a in
+    let cut = run_splits after Answers (fresh_object size) before (h ∷ rest) law.object (subst (λ (xs : List Call). IsRun size xs law.object) e law.run) in
+    (cut.0, cut.1, cut.2.0)
+
 -- two pools after one list are the same
 pub one_after : (size : ℕ) (w other : PoolState) (r : List Call) → After size w r → After size other r → w ≡ other
 one_after size w other r a b = run_one next IsReply (fresh_pool size) r w other a.run b.run
