@@ -4,7 +4,6 @@ use Rattle.std.specs.Prelude.{MatchOption}
 use Rattle.std.proofs.lemmas.Bool.Decides.{eqb_tells, leb_tells, Decides-eqb}
 use Rattle.std.proofs.lemmas.List.{get_or-set_same, get_or-set_other, length-set}
 use Rattle.step_memory.specs.declared.refusal.Refusal.TheVariants.{ZeroIdentity, Crowded, NotCompeting, AlreadyCompeting, Holding, NotHolding}
-use Rattle.step_memory.specs.Runs.{Run}
 use Rattle.step_memory.specs.World.{done_unless}
 use Rattle.step_memory.proofs.RunLemmas.{run_more, run_keeps, run_one, run_splits}
 use Rattle.bit_allocator.specs.declared.competitor.Competitor.{Competitor}
