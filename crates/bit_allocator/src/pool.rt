@@ -270,11 +270,13 @@ impl<A: Allocator> Pool<A> {
 #[cfg(test)]
 mod tests {
     use super::*;
+    use crate::{law_of_own_accesses, law_of_pool_calls};
     use std::test::Fail;
 
     #[test]
     fn sizes(rt: HostRuntime) {
-        for (size, taken) in [(0, false), (1, true), (64, true), (65, false)] {
+        for size in 0..66 {
+            let taken = (1..65).contains(&size);
             let made = Pool::new(rt.alloc(), size);
             assert_eq!(rt; made.is_ok(), taken, "at {size}");
         }
@@ -297,6 +299,12 @@ mod tests {
         assert_eq!(rt; lone.acquire(9), Ok(1));
         assert_eq!(rt; lone.acquire(5), Err(Refusal::Crowded));
         Ok(())
+    }
+
+    #[test]
+    fn laws_are_called() {
+        law_of_pool_calls();
+        law_of_own_accesses();
     }
 
     #[test]

@@ -135,7 +135,13 @@ impl<T: Drop, A: Allocator> Slots<T, A> {
 #[cfg(test)]
 mod tests {
     use super::*;
+    use crate::law_of_slot_calls;
     use std::test::Fail;
+
+    #[test]
+    fn laws_are_called() {
+        law_of_slot_calls::<u64>();
+    }
 
     #[test]
     fn one_number(rt: HostRuntime) -> Result<(), Fail> {

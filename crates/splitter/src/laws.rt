@@ -1,13 +1,13 @@
 //! Laws of the splitter, which run nothing: of one splitter, whoever uses it, and of the calls of its world.
 
-ghost use Rattle.std.specs.Prelude.{◌≡◌, ◌≢◌, ℕ, ◌<◌, length, List, [], ◌∷◌, ◌++◌, Option};
+ghost use Rattle.std.specs.Prelude.{◌≡◌, ◌≢◌, ℕ, ◌<◌, true, length, List, [], ◌∷◌, ◌++◌, Option};
 ghost use Rattle.splitter.specs.declared.stage.Stage.{Stage};
 ghost use Rattle.splitter.specs.declared.visitor.Visitor.{Visitor};
 ghost use Rattle.splitter.specs.declared.way.Way.{Way};
 ghost use Rattle.splitter.specs.Door.{DoorIsLawful, IsSplitter};
 ghost use Rattle.splitter.specs.Law.{KeepsSplitterLaw};
 ghost use Rattle.splitter.specs.SplitterWorld.{After, RefusesWhereDue, SplitterState, fresh, visit_of, step_reply, world_after_step};
-ghost use Rattle.splitter.specs.Stage.{name_after, mark_after, stage_after};
+ghost use Rattle.splitter.specs.Stage.{name_after, mark_after, stage_after, went_down, went_right};
 ghost use Rattle.splitter.specs.Visitor.{IsAccessOf, access_of};
 ghost use Rattle.step_memory.specs.Calls.{Call};
 ghost use Rattle.step_memory.specs.Calls.Call.{Began, Stepped};
@@ -22,6 +22,12 @@ pub fn law_of_one_door()
     ensures fresh { (x : ℕ) → DoorIsLawful x 0 (λ p. Stage.Outside) }
     ensures kept { (x y : ℕ) (stage : ℕ → Stage) (p : ℕ) → DoorIsLawful x y stage → DoorIsLawful (name_after p (stage p) x) (mark_after (stage p) y) (set_at stage p (stage_after p (stage p) x y)) }
     ensures law { (x y : ℕ) (stage : ℕ → Stage) → DoorIsLawful x y stage → IsSplitter stage }
+{}
+
+/// A law, which runs nothing: who went right is gone by that way, and so is who went down.
+pub fn law_of_ways()
+    ensures right { (s : Stage) → went_right s ≡ true → s ≡ Stage.Gone Way.Right }
+    ensures down { (s : Stage) → went_down s ≡ true → s ≡ Stage.Gone Way.Down }
 {}
 
 /// A law, which runs nothing: an access of a visit reads or writes a register, or reaches none; and what it does where the

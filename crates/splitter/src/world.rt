@@ -99,6 +99,7 @@ impl<A: Allocator + Clone> SplitterWorld<A> {
 #[cfg(test)]
 mod tests {
     use super::*;
+    use crate::{law_of_one_access, law_of_one_door, law_of_splitter_calls, law_of_ways};
     use linked_list_allocator::LocalHeap;
     use std::test::Fail;
 
@@ -136,9 +137,19 @@ mod tests {
     }
 
     #[test]
+    fn laws_are_called() {
+        law_of_one_door();
+        law_of_one_access();
+        law_of_ways();
+        law_of_splitter_calls();
+    }
+
+    #[test]
     fn ranges_and_want_of_memory(rt: HostRuntime) -> Result<(), Fail> {
         assert!(rt; matches!(SplitterWorld::new(rt.alloc(), 0), Err(Refusal::OutOfRange)));
-        assert!(rt; SplitterWorld::new(rt.alloc(), 16).is_ok());
+        for most in 1..17 {
+            assert!(rt; SplitterWorld::new(rt.alloc(), most).is_ok(), "at {most}");
+        }
         assert!(rt; matches!(SplitterWorld::new(rt.alloc(), 17), Err(Refusal::OutOfRange)));
         // A heap gives a growth at least 16 bytes, so here each in turn is the first that finds no room.
         let mut refused = false;

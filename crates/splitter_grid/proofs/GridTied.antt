@@ -1,5 +1,5 @@
 -- what ties a grid's world to the calls that it is after
-use Rattle.std.proofs.Common.{◌≡◌, ◌≢◌, ℕ, suc, ◌≤◌, true, false, cond, ◌==◌, inl, inr, List, [], ◌∷◌, ◌++◌, length, Option, Some, None, Ok, Err, refl, sym, ap, subst, ◌∙◌, arith, length-append}
+use Rattle.std.proofs.Common.{◌≡◌, ◌≢◌, ℕ, suc, ◌≤◌, true, false, ◌==◌, inl, inr, List, [], ◌∷◌, ◌++◌, length, Option, Some, None, Ok, Err, refl, sym, ap, subst, ◌∙◌, arith, length-append}
 use Rattle.std.specs.Prelude.{is_some, option_map}
 use Rattle.std.proofs.Math.Path.{fun_ext}
 use Rattle.std.proofs.lemmas.Bool.Decides.{eqb_tells}
@@ -12,7 +12,7 @@ use Rattle.step_memory.specs.SetAt.{set_at}
 use Rattle.step_memory.specs.World.{after_begin, begin_refusal, done_unless}
 use Rattle.step_memory.specs.Calls.{Call, next, IsReply, steps_of, steps_by, outcome_of, outcome_by, outcome_in, begun_in, begun_by, IsAfter}
 use Rattle.step_memory.specs.Calls.Call.{Began, Stepped}
-use Rattle.step_memory.proofs.SetAtLemmas.{set_at-same, set_at-other, set_at-cases, set_at-map}
+use Rattle.step_memory.proofs.SetAtLemmas.{set_at-same, set_at-other, set_at-cases, set_at-map, same_in}
 use Rattle.step_memory.proofs.ParticipantLemmas.{participant_of-push, participant_of-put, length-with_participant}
 use Rattle.step_memory.proofs.WorldKeeps.{steps_of-push, begun_in-push, outcome_of-push, first_of-none, IsLetIn, IsKept, world_keeps, after_call, after_stepped, after_splits, most_kept, moved, stepped}
 use Rattle.step_memory.specs.Due.{EndsOnce}
@@ -55,10 +55,6 @@ refused w r h none quiet nobody t = record {
   outcomes = λ p. outcome_of-push p r h ∙ rw (quiet p) (first_of-none (outcome_of p r)) ∙ t.outcomes p;
   steps = λ p. omega (arith, steps_of-push p r h, none p, t.steps p);
 }
-
--- what is said alike of one who has not begun and of one who has just begun
-same_in : {X : Type 0} (say : Option Walker → X) (walker : ℕ → Option Walker) (id : ℕ) (new : Walker) (p : ℕ) → walker id ≡ None → say None ≡ say (Some new) → say (walker p) ≡ say (set_at walker id (Some new) p)
-same_in say walker id new p absent same = set_at-cases walker id (Some new) (λ o. say (walker p) ≡ say o) p (λ e. ap say (ap walker e ∙ absent) ∙ same) (λ _. refl)
 
 -- one who begins
 begun_kept : (w : GridState) (r : List (Call (Option ℕ))) (id : ℕ) → IsLetIn w id → IsTied w r → IsTied (record { memory = w.memory; most = w.most; participants = w.participants ++ beginner id (walk_of id) ∷ [] }) (r ++ Began id (Ok tt) ∷ [])

@@ -1,12 +1,9 @@
 -- the law of the grid (Moir and Anderson 1995), over calls and their replies
 use Rattle.std.specs.Prelude.{◌≡◌, ℕ, ◌*◌, ◌<◌, ◌≤◌, List, Option, Some, IsSome, is_some}
 use Rattle.step_memory.specs.Calls.{Call, outcome_of, steps_of, begun_in}
+pub use Rattle.step_memory.specs.Distinct.{AreDistinct}
 use Rattle.step_memory.specs.Due.{EndsOnce}
 use Rattle.splitter_grid.specs.Door.{IsDoorWithin}
-
--- no two have one place
-abbrev pub AreDistinct : (ℕ → Option ℕ) → Type 0
-AreDistinct place = (p q k : ℕ) → place p ≡ Some k → place q ≡ Some k → p ≡ q
 
 -- Where b have begun: places are distinct. Row and column of the door of a place are together at most b - 1. Nobody makes
 -- more than 4b accepted steps, and who has made so many, and any, has a place. No one makes a step after it was told its

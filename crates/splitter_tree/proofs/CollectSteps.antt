@@ -39,7 +39,7 @@ use Rattle.splitter_tree.specs.CollectLaw.{CollectObject, new_object, one_begun,
 use Rattle.splitter_tree.specs.Ahead.{marked_in, HasRead}
 use Rattle.step_memory.proofs.RunLemmas.{run_replays}
 use Rattle.splitter_tree.specs.Count.{count_to}
-use Rattle.splitter_tree.proofs.Counting.{count_none}
+use Rattle.step_memory.proofs.CountLemmas.{count_none}
 use Rattle.splitter_tree.proofs.TreeCallLemmas.{Goes, absent_place, placed_place, going_place, absent_view, idle_view, going_view, absent_store, busy_store, going_store, collect_absent, collect_busy, collect_goes}
 use Rattle.splitter_tree.proofs.ReadCount.{reads_few, nodes_few}
 use Rattle.splitter_tree.proofs.ConsistentKept.{consistent_new}

@@ -1,24 +1,24 @@
 -- each call of a tree's world is refused exactly where the calls before it make it due
-use Rattle.std.proofs.Common.{◌≡◌, ◌≢◌, ◌≤◌, ℕ, Bool, true, false, cond, not, ◌&&◌, ◌||◌, ◌==◌, inl, inr, List, [], ◌∷◌, ◌++◌, length, Option, Some, None, Result, Ok, Err, refl, sym, ap, subst, ◌∙◌}
+use Rattle.std.proofs.Common.{◌≡◌, ◌≢◌, ◌≤◌, ℕ, Bool, true, false, cond, not, ◌&&◌, ◌||◌, ◌==◌, inl, inr, List, [], ◌∷◌, ◌++◌, Option, Some, None, Result, Ok, Err, refl, sym, ap, subst, ◌∙◌}
 use Rattle.std.specs.Prelude.{is_some, option_map}
+use Rattle.std.proofs.Math.Bool.{or-false, or-true}
 use Rattle.std.proofs.lemmas.Bool.Decides.{eqb_tells, Decides-eqb}
 use Rattle.std.proofs.lemmas.List.{append-nil}
-use Rattle.step_memory.specs.declared.access.Access.{Access}
 use Rattle.step_memory.specs.declared.access.Access.TheVariants.{Write}
 use Rattle.step_memory.specs.declared.access.Answer.{Answer}
 use Rattle.step_memory.specs.declared.access.Answer.TheVariants.{Value, WasSet, Done}
 use Rattle.step_memory.specs.declared.note.Note.{Note}
 use Rattle.step_memory.specs.declared.participant.Participant.{Participant}
 use Rattle.step_memory.specs.declared.refusal.Refusal.{Refusal}
-use Rattle.step_memory.specs.declared.refusal.Refusal.TheVariants.{AlreadyBegun, NotBegun, Finished, NoMemory}
-use Rattle.step_memory.specs.Participant.{participant_of, program_of, with_participant, beginner, resumed}
+use Rattle.step_memory.specs.declared.refusal.Refusal.TheVariants.{NoMemory}
+use Rattle.step_memory.specs.Participant.{participant_of, with_participant, beginner, resumed}
 use Rattle.step_memory.specs.Steps.{MemorySteps}
 use Rattle.step_memory.specs.SetAt.{set_at}
-use Rattle.step_memory.specs.World.{begin_refusal, begun_unless, done_unless, after_set, got_by, may_refuse_by}
-use Rattle.step_memory.specs.Calls.{Call, outcome_of, reply_of, lacked_memory}
+use Rattle.step_memory.specs.World.{begin_refusal, begun_unless, done_unless, got_by, may_refuse_by}
+use Rattle.step_memory.specs.Calls.{reply_of, lacked_memory}
 use Rattle.step_memory.specs.Calls.Call.{Began, Stepped}
-use Rattle.step_memory.specs.Due.{has_begun, begins, has_ended, begin_due, step_due, IsRefusedAsDue, RefusesAsDue}
-use Rattle.step_memory.proofs.DueLemmas.{due_more, cut, nothing_cut, ended_with_outcome, ends_once}
+use Rattle.step_memory.specs.Due.{has_begun, begin_due, RefusesAsDue}
+use Rattle.step_memory.proofs.DueLemmas.{due_more, has_begun-append, cut, nothing_cut, ended_with_outcome, ends_once}
 use Rattle.step_memory.proofs.RunLemmas.{run_keeps}
 use Rattle.step_memory.specs.Runs.{Run}
 use Rattle.std.proofs.Math.Path.{fun_ext}
@@ -36,39 +36,23 @@ use Rattle.splitter_tree.specs.declared.client.Task.TheVariants.{Placing, Nothin
 use Rattle.splitter_tree.specs.declared.client.TreeReply.{TreeReply}
 use Rattle.splitter_tree.specs.TreeMemory.{IsTreeMemory, IsEmptyTree}
 use Rattle.splitter_tree.specs.Walk.{place_of, place_by, walker_note}
-use Rattle.splitter_tree.specs.Client.{client_of, client_steps, client_access, client_note, access_for, after_for, note_for, is_placing, is_idle, is_collecting, is_placed, placing_after, placed_note, place_told, view_told, storing, collecting, with_task, write_at, record_of, task_after, collected_note}
+use Rattle.splitter_tree.specs.Client.{client_of, client_steps, client_access, client_note, access_for, after_for, note_for, is_placing, is_idle, is_collecting, is_placed, place_told, view_told, storing, collecting, with_task, write_at, record_of, task_after, collected_note}
 use Rattle.splitter_tree.specs.Collect.{collect_after, collect_view}
-use Rattle.splitter_tree.specs.TreeWorld.{TreeState, asking_refusal, place_answer, after_placing, after_store, after_collect_begin, view_answer, after_collecting, may_lack_memory}
+use Rattle.splitter_tree.specs.TreeWorld.{TreeState, asking_refusal, place_answer, after_store, after_collect_begin, view_answer, after_collecting, may_lack_memory}
 use Rattle.splitter_tree.specs.TreeCalls.{TreeCall, next, IsReply, IsAfter}
 use Rattle.splitter_tree.specs.TreeCalls.TreeCall.{Began as TreeBegan, Stepped as TreeStepped, Stored, CollectBegan, CollectStepped}
 use Rattle.splitter_tree.specs.PlacesLaw.{way_calls, walkers, KeepsPlacesLaw}
-use Rattle.splitter_tree.specs.TreeDue.{collects_after, collects_from, collects, has_place, asking_due, collect_due, IsTreeRefusedAsDue, TreeRefusesAsDue}
-use Rattle.splitter_tree.proofs.DepthBound.{bool_cases}
+use Rattle.splitter_tree.specs.TreeDue.{collects_after, collects_from, collects, has_place, asking_due, IsTreeRefusedAsDue, TreeRefusesAsDue}
+use Rattle.std.proofs.lemmas.Bool.{cases_Bool}
 use Rattle.splitter_tree.proofs.TreeCallLemmas.{absent_place, placed_place, going_place, absent_view, idle_view, going_view, most_kept}
 use Rattle.splitter_tree.proofs.CallCases.{stepped_by, step_cases, store_cases, collect_begin_cases, collect_step_cases}
 use Rattle.splitter_tree.proofs.PlacesTied.{IsTied, way_calls-more, call_kept, tied_new, all_go, placing_goes, put_twice, law_of_tied}
-
-or_assoc : (a b c : Bool) → (a || (b || c)) ≡ ((a || b) || c)
-or_assoc true b c = refl
-or_assoc false b c = refl
-
-or_false : (a : Bool) → (a || false) ≡ a
-or_false true = refl
-or_false false = refl
-
-or_true : (a : Bool) → (a || true) ≡ true
-or_true true = refl
-or_true false = refl
 
 not_not : (a : Bool) → not (not a) ≡ a
 not_not true = refl
 not_not false = refl
 
 -- lists of calls, one more at the end
-has_begun-append : {X : Type 0} (p : ℕ) (r t : List (Call X)) → has_begun p (r ++ t) ≡ (has_begun p r || has_begun p t)
-has_begun-append p [] t = refl
-has_begun-append p (k ∷ r) t = ap (λ b. begins p k || b) (has_begun-append p r t) ∙ or_assoc (begins p k) (has_begun p r) (has_begun p t)
-
 collects_from-push : (p : ℕ) (before : Bool) (r : List TreeCall) (h : TreeCall) → collects_from p before (r ++ h ∷ []) ≡ collects_after p (collects_from p before r) h
 collects_from-push p before [] h = refl
 collects_from-push p before (k ∷ r) h = collects_from-push p (collects_after p before k) r h
@@ -172,7 +156,7 @@ module _ {S : Type 0} (memory : MemorySteps S TreeRegister TreeValue) (tree : Is
     begun = λ p. ap is_some (one.stands p)
         ∙ set_at-cases (λ q. participant_of q w.participants) id who (λ o. is_some o ≡ (has_begun p (way_calls r) || has_begun p (way_calls (h ∷ [])))) p
         (λ e. rw e one.begun)
-        (λ n. t.begun p ∙ sym (ap (λ b. has_begun p (way_calls r) || b) (one.not_begun p n) ∙ or_false (has_begun p (way_calls r))))
+        (λ n. t.begun p ∙ sym (ap (λ b. has_begun p (way_calls r) || b) (one.not_begun p n) ∙ or-false (has_begun p (way_calls r))))
         ∙ sym (ap (has_begun p) (way_calls-more r h) ∙ has_begun-append p (way_calls r) (way_calls (h ∷ [])));
     collecting = λ p. ap collecting_in (one.stands p)
         ∙ set_at-cases (λ q. participant_of q w.participants) id who (λ o. collecting_in o ≡ collects_after p (collects p r) h) p
@@ -189,7 +173,7 @@ module _ {S : Type 0} (memory : MemorySteps S TreeRegister TreeValue) (tree : Is
   leaves_all : (w new : TreeState S) (r : List TreeCall) (h : TreeCall) (id : ℕ) → new ≡ w → ((p : ℕ) → has_begun p (way_calls (h ∷ [])) ≡ false) → ((p : ℕ) → collects_after p (collects p r) h ≡ collects p r) → IsCounted w r → LeavesOne w new r h id (participant_of id w.participants)
   leaves_all w new r h id same none quiet t = record {
     stands = λ p. ap (λ (v : TreeState S). participant_of p v.participants) same ∙ sym (ap (λ (f : ℕ → Option (Participant Client)). f p) (set_at-as_is (λ q. participant_of q w.participants) id (participant_of id w.participants) refl));
-    begun = t.begun id ∙ sym (ap (λ b. has_begun id (way_calls r) || b) (none id) ∙ or_false (has_begun id (way_calls r)));
+    begun = t.begun id ∙ sym (ap (λ b. has_begun id (way_calls r) || b) (none id) ∙ or-false (has_begun id (way_calls r)));
     not_begun = λ p _. none p;
     collecting = t.collecting id ∙ sym (quiet id);
     not_collecting = λ p _. quiet p;
@@ -217,7 +201,7 @@ module _ {S : Type 0} (memory : MemorySteps S TreeRegister TreeValue) (tree : Is
         let there : has_begun id (way_calls r) ≡ true = sym (t.begun id) ∙ ap is_some e in
         let some = sym (ap (option_map (λ p. p.program)) e) in
         let place = place_is w r id v e t in
-        elim (bool_cases (is_placing v.program.task)) [
+        elim (cases_Bool (is_placing v.program.task)) [
           | inr placed ↦
               let answer = placed_place memory w id v.program some placed in
               let over : has_place id r ≡ true = place ∙ ap not placed in
@@ -280,7 +264,7 @@ module _ {S : Type 0} (memory : MemorySteps S TreeRegister TreeValue) (tree : Is
         let there : has_begun id (way_calls r) ≡ true = sym (t.begun id) ∙ ap is_some e in
         let some = sym (ap (option_map (λ p. p.program)) e) in
         let collects_is : collects id r ≡ is_collecting v.program.task = sym (t.collecting id) ∙ ap collecting_in e in
-        elim (bool_cases (is_collecting v.program.task)) [
+        elim (cases_Bool (is_collecting v.program.task)) [
           | inr idle ↦
               let answer = idle_view memory w id v.program some idle in
               let none : collects id r ≡ false = collects_is ∙ idle in
@@ -300,7 +284,7 @@ module _ {S : Type 0} (memory : MemorySteps S TreeRegister TreeValue) (tree : Is
       let there : is_some (participant_of v.identity w.participants) ≡ true = rw (own, here) refl in
       record {
         stands = λ p. ap (λ (x : TreeState S). participant_of p x.participants) same ∙ participant_of-put w.participants next_one there p ∙ ap (λ i. set_at (λ q. participant_of q w.participants) i (Some next_one) p) own;
-        begun = sym (ap is_some here) ∙ t.begun id ∙ sym (ap (λ b. has_begun id (way_calls r) || b) (none id) ∙ or_false (has_begun id (way_calls r)));
+        begun = sym (ap is_some here) ∙ t.begun id ∙ sym (ap (λ b. has_begun id (way_calls r) || b) (none id) ∙ or-false (has_begun id (way_calls r)));
         not_begun = λ p _. none p;
         collecting = collects_is;
         not_collecting = quiet;
@@ -346,7 +330,7 @@ module _ {S : Type 0} (memory : MemorySteps S TreeRegister TreeValue) (tree : Is
             let itself : (id == id) ≡ true = (Decides-eqb id id).1 refl in
             counted_next w r call id (Some (beginner id (client_of id))) refl (record {
               stands = λ p. ap (λ (o : Option Refusal). participant_of p (begun_unless o w id (client_of id)).participants) e ∙ participant_of-push w.participants (beginner id (client_of id)) in_.absent p;
-              begun = sym (rw (e, itself) (or_true (has_begun id (way_calls r))));
+              begun = sym (rw (e, itself) (or-true (has_begun id (way_calls r))));
               not_begun = λ p n. rw e (let other : (id == p) ≡ false = (elim (eqb_tells id p) [ inl k ↦ absurd (n (sym k.1)) | inr k ↦ k.0 ]) in rw other refl);
               collecting = sym (ap collecting_in in_.absent) ∙ t.collecting id;
               not_collecting = λ p _. refl;
@@ -371,7 +355,7 @@ module _ {S : Type 0} (memory : MemorySteps S TreeRegister TreeValue) (tree : Is
                   ∙ participant_of-put (with_participant first w.participants) second there_too p
                   ∙ ap (λ (f : ℕ → Option (Participant Client)). set_at f id (Some second) p) (fun_ext put)
                   ∙ put_twice memory tree (λ u. participant_of u w.participants) id (Some first) (Some second) p;
-              begun = sym (ap is_some x.here) ∙ t.begun id ∙ sym (or_false (has_begun id (way_calls r)));
+              begun = sym (ap is_some x.here) ∙ t.begun id ∙ sym (or-false (has_begun id (way_calls r)));
               not_begun = λ p _. refl;
               collecting = sym (idle_collects_not x.who.program.task x.idle) ∙ sym (ap collecting_in x.here) ∙ t.collecting id;
               not_collecting = λ p _. refl;
@@ -391,7 +375,7 @@ module _ {S : Type 0} (memory : MemorySteps S TreeRegister TreeValue) (tree : Is
             let itself : (id == id) ≡ true = (Decides-eqb id id).1 refl in
             counted_next w r call id (Some new) refl (record {
               stands = λ p. ap (λ (v : TreeState S). participant_of p v.participants) x.after ∙ participant_of-put w.participants new there p;
-              begun = sym (ap is_some x.here) ∙ t.begun id ∙ sym (or_false (has_begun id (way_calls r)));
+              begun = sym (ap is_some x.here) ∙ t.begun id ∙ sym (or-false (has_begun id (way_calls r)));
               not_begun = λ p _. refl;
               collecting = sym (ap (λ (y : Result (Unit {0}) Refusal). collects_after id (collects id r) (CollectBegan id y)) x.answered ∙ rw itself refl);
               not_collecting = λ p n. ap (λ (y : Result (Unit {0}) Refusal). collects_after p (collects p r) (CollectBegan id y)) x.answered

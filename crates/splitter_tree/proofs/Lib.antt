@@ -3,7 +3,6 @@ pub mod Climbing
 pub mod OrderLemmas
 pub mod OpenLemmas
 pub mod WalkLemmas
-pub mod Counting
 pub mod ReadCount
 pub mod Ways
 pub mod Below

@@ -22,7 +22,7 @@ use Rattle.step_memory.specs.Calls.{Call, steps_of, steps_by, outcome_of, outcom
 use Rattle.step_memory.specs.Calls.Call.{Began, Stepped}
 use Rattle.step_memory.specs.Due.{EndsOnce}
 use Rattle.step_memory.proofs.RunLemmas.{run_keeps}
-use Rattle.step_memory.proofs.SetAtLemmas.{set_at-same, set_at-other, set_at-cases, set_at-map}
+use Rattle.step_memory.proofs.SetAtLemmas.{set_at-same, set_at-other, set_at-cases, set_at-map, same_in}
 use Rattle.step_memory.proofs.ParticipantLemmas.{participant_of-push, participant_of-put, length-with_participant}
 use Rattle.step_memory.proofs.WorldKeeps.{steps_of-push, begun_in-push, outcome_of-push, first_of-none, IsLetIn}
 pub use Rattle.step_memory.proofs.WorldKeeps.{let_in}
@@ -48,7 +48,7 @@ use Rattle.splitter_tree.specs.TreeCalls.{TreeCall, next, IsReply, IsAfter}
 use Rattle.splitter_tree.specs.TreeCalls.TreeCall.{Began as TreeBegan, Stepped as TreeStepped, Stored, CollectBegan, CollectStepped}
 use Rattle.splitter_tree.specs.Consistent.{IsConsistent, IsTree, accesses_of, accesses_by}
 use Rattle.splitter_tree.specs.PlacesLaw.{way_calls, KeepsPlacesLaw, walker_in, walkers}
-use Rattle.splitter_tree.proofs.DepthBound.{bool_cases}
+use Rattle.std.proofs.lemmas.Bool.{cases_Bool}
 use Rattle.splitter_tree.proofs.ConsistentKept.{consistent_new, begun, gone_on, elsewhere}
 use Rattle.splitter_tree.proofs.TreeLaw.{tree_law, nearer}
 use Rattle.splitter_tree.proofs.WalkerLemmas.{visit_after, visit_note, marking_after, marking_note}
@@ -72,10 +72,6 @@ way_calls-more (CollectStepped id reply ∷ r) h = way_calls-more r h
 -- a call that is no part of the way leaves it
 no_way : (r : List TreeCall) (h : TreeCall) → way_calls (h ∷ []) ≡ [] → way_calls (r ++ h ∷ []) ≡ way_calls r
 no_way r h none = way_calls-more r h ∙ ap (λ c. way_calls r ++ c) none ∙ append-nil (way_calls r)
-
--- what is said alike of one who has not begun and of one who has just begun
-same_in : {X : Type 0} (say : Option Walker → X) (walker : ℕ → Option Walker) (id : ℕ) (new : Walker) (p : ℕ) → walker id ≡ None → say None ≡ say (Some new) → say (walker p) ≡ say (set_at walker id (Some new) p)
-same_in say walker id new p absent same = set_at-cases walker id (Some new) (λ o. say (walker p) ≡ say o) p (λ e. ap say (ap walker e ∙ absent) ∙ same) (λ _. refl)
 
 -- what one does who is on its way
 pub placing_access : (c : Client) (t : Task) → is_placing t ≡ true → access_for c t ≡ next_access c.walker
@@ -150,13 +146,13 @@ stage_placed u (Gone Right) = refl
 stage_placed u (Gone Down) = refl
 
 place_is_told : (u : Walker) (got : Answer TreeValue) → place_of u ≡ None → place_told (placed_note (walker_note u got)) ≡ place_of (walker_after u got)
-place_is_told u got on = elim (bool_cases u.is_marking) [
+place_is_told u got on = elim (cases_Bool u.is_marking) [
   | inl m ↦ ap (λ n. place_told (placed_note n)) (marking_note u got m) ∙ sym (ap place_of (marking_after u got m) ∙ on)
   | inr m ↦ ap (λ n. place_told (placed_note n)) (visit_note u got m) ∙ stage_place u (stage_by u.visitor (told got)) ∙ sym (ap place_of (visit_after u got m))
 ]
 
 pub end_is_told : (u : Walker) (got : Answer TreeValue) → place_of u ≡ None → is_placed (walker_note u got) ≡ is_some (place_of (walker_after u got))
-end_is_told u got on = elim (bool_cases u.is_marking) [
+end_is_told u got on = elim (cases_Bool u.is_marking) [
   | inl m ↦ ap is_placed (marking_note u got m) ∙ sym (ap is_some (ap place_of (marking_after u got m) ∙ on))
   | inr m ↦ ap is_placed (visit_note u got m) ∙ stage_placed u (stage_by u.visitor (told got)) ∙ sym (ap is_some (ap place_of (visit_after u got m)))
 ]

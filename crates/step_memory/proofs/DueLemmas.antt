@@ -1,6 +1,7 @@
 -- each call of a world is refused exactly where the calls before it make it due
 use Rattle.std.proofs.Common.{◌≤◌, append_assoc, ◌≡◌, ◌≢◌, ◌==◌, ◌&&◌, ◌||◌, ℕ, Bool, true, false, cond, List, [], ◌∷◌, ◌++◌, length, Option, Some, None, Ok, Err, ◌⊎◌, inl, inr, refl, sym, ap, subst, ◌∙◌, arith, add-zero}
 use Rattle.std.specs.Prelude.{is_some, nat_le}
+use Rattle.std.proofs.Math.Bool.{or_assoc, or-false, or-true}
 use Rattle.std.proofs.lemmas.Bool.Decides.{eqb_tells, leb_tells, Decides-eqb}
 use Rattle.std.proofs.lemmas.List.{length-append}
 use Rattle.step_memory.specs.declared.note.Note.{Note}
@@ -25,26 +26,18 @@ use Rattle.step_memory.proofs.ParticipantLemmas.{participant_of-push, participan
 use Rattle.step_memory.proofs.RunLemmas.{run_keeps}
 use Rattle.step_memory.proofs.WorldKeeps.{IsLetIn, IsKept, let_in, begun_in-push, moved, stepped, world_keeps}
 
-or_assoc : (a b c : Bool) → (a || (b || c)) ≡ ((a || b) || c)
-or_assoc true b c = refl
-or_assoc false b c = refl
-
-or_false : (a : Bool) → (a || false) ≡ a
-or_false true = refl
-or_false false = refl
-
-or_true : (a : Bool) → (a || true) ≡ true
-or_true true = refl
-or_true false = refl
-
 -- lists of calls, one more at the end
 pub has_begun-push : {X : Type 0} (p : ℕ) (r : List (Call X)) (h : Call X) → has_begun p (r ++ h ∷ []) ≡ (has_begun p r || begins p h)
-has_begun-push p [] h = or_false (begins p h)
-has_begun-push p (k ∷ r) h = ap (λ b. begins p k || b) (has_begun-push p r h) ∙ or_assoc (begins p k) (has_begun p r) (begins p h)
+has_begun-push p [] h = or-false (begins p h)
+has_begun-push p (k ∷ r) h = ap (λ b. begins p k || b) (has_begun-push p r h) ∙ sym (or_assoc (begins p k) (has_begun p r) (begins p h))
+
+pub has_begun-append : {X : Type 0} (p : ℕ) (r t : List (Call X)) → has_begun p (r ++ t) ≡ (has_begun p r || has_begun p t)
+has_begun-append p [] t = refl
+has_begun-append p (k ∷ r) t = ap (λ b. begins p k || b) (has_begun-append p r t) ∙ sym (or_assoc (begins p k) (has_begun p r) (has_begun p t))
 
 pub has_ended-push : {X : Type 0} (last : X → Bool) (p : ℕ) (r : List (Call X)) (h : Call X) → has_ended last p (r ++ h ∷ []) ≡ (has_ended last p r || ends_by last p h)
-has_ended-push last p [] h = or_false (ends_by last p h)
-has_ended-push last p (k ∷ r) h = ap (λ b. ends_by last p k || b) (has_ended-push last p r h) ∙ or_assoc (ends_by last p k) (has_ended last p r) (ends_by last p h)
+has_ended-push last p [] h = or-false (ends_by last p h)
+has_ended-push last p (k ∷ r) h = ap (λ b. ends_by last p k || b) (has_ended-push last p r h) ∙ sym (or_assoc (ends_by last p k) (has_ended last p r) (ends_by last p h))
 
 -- whose program ends with its outcome has ended once it is told
 some_first : {O : Type 0} (a b : Option O) → is_some (first_of a b) ≡ (is_some a || is_some b)
@@ -120,8 +113,8 @@ module _ {P S R V O X : Type 0} (program : ProgramSteps P R V O) (memory : Memor
   refused_call : (w : WorldState S P) (r : List (Call X)) (h : Call X) → ((p : ℕ) → begins p h ≡ false) → ((p : ℕ) → ends_by last p h ≡ false) → begun_by h ≡ 0 → IsRefusedAsDue last most grows r h → IsCounted w r → IsCounted w (r ++ h ∷ [])
   refused_call w r h no_begin no_end none is t = record {
     most_is = t.most_is;
-    begun = λ p. t.begun p ∙ sym (has_begun-push p r h ∙ rw (no_begin p) (or_false (has_begun p r)));
-    ended = λ p. t.ended p ∙ sym (has_ended-push last p r h ∙ rw (no_end p) (or_false (has_ended last p r)));
+    begun = λ p. t.begun p ∙ sym (has_begun-push p r h ∙ rw (no_begin p) (or-false (has_begun p r)));
+    ended = λ p. t.ended p ∙ sym (has_ended-push last p r h ∙ rw (no_end p) (or-false (has_ended last p r)));
     many = omega (arith, t.many, begun_in-push r h, none);
     due = due_more last most grows r h t.due is;
   }
@@ -137,14 +130,14 @@ module _ {P S R V O X : Type 0} (program : ProgramSteps P R V O) (memory : Memor
         most_is = t.most_is;
         begun = λ p. ap is_some (push p)
             ∙ set_at-cases (λ v. participant_of v w.participants) id (Some (beginner id (start id))) (λ o. is_some o ≡ (has_begun p r || (id == p))) p
-            (λ e. let own : (id == p) ≡ true = (Decides-eqb id p).1 (sym e) in rw own (sym (or_true (has_begun p r))))
-            (λ n. let other : (id == p) ≡ false = (elim (eqb_tells id p) [ inl e ↦ absurd (n (sym e.1)) | inr e ↦ e.0 ]) in rw other (t.begun p ∙ sym (or_false (has_begun p r))))
+            (λ e. let own : (id == p) ≡ true = (Decides-eqb id p).1 (sym e) in rw own (sym (or-true (has_begun p r))))
+            (λ n. let other : (id == p) ≡ false = (elim (eqb_tells id p) [ inl e ↦ absurd (n (sym e.1)) | inr e ↦ e.0 ]) in rw other (t.begun p ∙ sym (or-false (has_begun p r))))
             ∙ sym (has_begun-push p r (Began id (Ok tt)));
         ended = λ p. ap ended_in (push p)
             ∙ set_at-cases (λ v. participant_of v w.participants) id (Some (beginner id (start id))) (λ o. ended_in o ≡ has_ended last p r) p
             (λ e. sym (ap ended_in in_.absent) ∙ rw (← e) (t.ended p))
             (λ n. t.ended p)
-            ∙ sym (has_ended-push last p r (Began id (Ok tt)) ∙ or_false (has_ended last p r));
+            ∙ sym (has_ended-push last p r (Began id (Ok tt)) ∙ or-false (has_ended last p r));
         many = omega (arith, t.many, begun_in-push r (Began id (Ok tt)), length-append w.participants (beginner id (start id) ∷ []));
         due = due_more last most grows r (Began id (Ok tt)) t.due is;
       }
@@ -166,14 +159,14 @@ module _ {P S R V O X : Type 0} (program : ProgramSteps P R V O) (memory : Memor
             ∙ set_at-cases (λ u. participant_of u w.participants) id (Some new) (λ o. is_some o ≡ has_begun p r) p
             (λ e. sym (rw e begun_here))
             (λ n. t.begun p)
-            ∙ sym (has_begun-push p r call ∙ or_false (has_begun p r));
+            ∙ sym (has_begun-push p r call ∙ or-false (has_begun p r));
         ended = λ p. ap ended_in (put p)
             ∙ set_at-cases (λ u. participant_of u w.participants) id (Some new) (λ o. ended_in o ≡ (has_ended last p r || ends_by last p call)) p
             (λ e. let itself : (id == p) ≡ true = (Decides-eqb id p).1 (sym e) in
             let so_far : has_ended last p r ≡ false = rw e not_ended in
             sym (rw (so_far, itself) (tells (program.note v.program (got_by program memory w.memory v)))))
             (λ n. let other : (id == p) ≡ false = (elim (eqb_tells id p) [ inl e ↦ absurd (n (sym e.1)) | inr e ↦ e.0 ]) in
-            rw other (t.ended p ∙ sym (or_false (has_ended last p r))))
+            rw other (t.ended p ∙ sym (or-false (has_ended last p r))))
             ∙ sym (has_ended-push last p r call);
         many = length-with_participant w.participants new ∙ omega (arith, t.many, begun_in-push r call);
         due = due_more last most grows r call t.due (rw (begun_here, not_ended) refl);
@@ -264,13 +257,13 @@ never_grows m a h = h
 -- lists that keep no law: one that tells the end of a program twice, and one that refuses whoever comes first
 has_ended-append : {X : Type 0} (last : X → Bool) (p : ℕ) (r t : List (Call X)) → has_ended last p (r ++ t) ≡ (has_ended last p r || has_ended last p t)
 has_ended-append last p [] t = refl
-has_ended-append last p (k ∷ r) t = ap (λ b. ends_by last p k || b) (has_ended-append last p r t) ∙ or_assoc (ends_by last p k) (has_ended last p r) (has_ended last p t)
+has_ended-append last p (k ∷ r) t = ap (λ b. ends_by last p k || b) (has_ended-append last p r t) ∙ sym (or_assoc (ends_by last p k) (has_ended last p r) (has_ended last p t))
 
 pub no_second_end : {X : Type 0} (last : X → Bool) (p : ℕ) (a b : X) (before between rest : List (Call X)) → last a ≡ true → EndsOnce last (before ++ Stepped p (Ok a) ∷ (between ++ Stepped p (Ok b) ∷ rest)) → ⊥
 no_second_end last p a b before between rest h once =
     let itself : (p == p) ≡ true = (Decides-eqb p p).1 refl in
     let first : Call _ = Stepped p (Ok a) in
-    let ended : has_ended last p (before ++ first ∷ between) ≡ true = has_ended-append last p before (first ∷ between) ∙ rw (itself, h) (or_true (has_ended last p before)) in
+    let ended : has_ended last p (before ++ first ∷ between) ≡ true = has_ended-append last p before (first ∷ between) ∙ rw (itself, h) (or-true (has_ended last p before)) in
     let not_ended : has_ended last p (before ++ first ∷ between) ≡ false = once (before ++ first ∷ between) p b rest (sym (append_assoc before (first ∷ between) (Stepped p (Ok b) ∷ rest))) in
     let never : true ≡ false = sym ended ∙ not_ended in
     cc

@@ -1,5 +1,6 @@
 pub mod Found
 pub mod SetAtLemmas
+pub mod CountLemmas
 pub mod ParticipantLemmas
 pub mod StepLemmas
 pub mod LocalityLemmas

@@ -10,6 +10,8 @@ pub mod World
 pub mod Locality
 pub mod Runs
 pub mod SetAt
+pub mod Count
+pub mod Distinct
 pub mod Calls
 pub mod Due
 pub mod Replay

@@ -1,6 +1,6 @@
 use Rattle.std.proofs.Common.{refl}
 use Rattle.slot_array.specs.After.{slots_next}
-use Rattle.slot_array.proofs.SlotsKeep.{slot_there, after_none, after_slots_call, law_after_slots, front_lawful, one_after}
+use Rattle.slot_array.proofs.SlotsKeep.{slot_there, after_none, after_slots_call, law_after_slots, front_lawful, one_after, due_after}
 use Rattle.slot_array.proofs.laws.law_of_slot_calls.Goals as goal
 
 pub returns-clause-fresh : goal.returns-clause-fresh
@@ -20,3 +20,6 @@ returns-clause-one g c = one_after
 
 pub returns-clause-there : goal.returns-clause-there
 returns-clause-there g c = slot_there
+
+pub returns-clause-due : goal.returns-clause-due
+returns-clause-due g c = due_after
