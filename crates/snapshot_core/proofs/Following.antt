@@ -583,7 +583,7 @@ module _ {S R V U K : Type 0} (known : KnownPlaces S R V U K) (laws : PlacesLaws
   pub all_distinct : (w : SnapState S U K) → HasDistinctPlaces known w
   all_distinct w first r new a p q x mine theirs =
       let k = after_all w first r new a in
-      k.tied.history.distinct q p x (sym (place_is lawful (all_reads first) w k.object k.tied q) ∙ theirs) (sym (place_is lawful (all_reads first) w k.object k.tied p) ∙ mine)
+      k.tied.history.distinct p q x (sym (place_is lawful (all_reads first) w k.object k.tied p) ∙ mine) (sym (place_is lawful (all_reads first) w k.object k.tied q) ∙ theirs)
 
   pub told_holds : (w : SnapState S U K) (p : ℕ) → KeepsTold known w p
   told_holds w p first r new a x c =

@@ -7,7 +7,7 @@ use Rattle.std.proofs.lemmas.Bool.Decides.{eqb_tells, leb_tells, nat_tests}
 use Rattle.step_memory.specs.SetAt.{set_at}
 use Rattle.step_memory.specs.declared.access.Access.{Access}
 use Rattle.step_memory.specs.declared.access.Access.TheVariants.{Read, Write, TestAndSet, Clear, Nothing}
-use Rattle.step_memory.specs.Steps.{Spares, answer_from}
+use Rattle.step_memory.specs.Steps.{Spares, ReadsOrWrites, answer_from}
 use Rattle.step_memory.specs.Registers as registers
 use Rattle.step_memory.specs.declared.record.Record.{Record}
 use Rattle.splitter.specs.declared.stage.Stage.{Stage}
@@ -27,7 +27,7 @@ use Rattle.snapshot_places.specs.declared.grid_walk.GridWalk.{GridWalk}
 use Rattle.snapshot_places.specs.GridState.{GridState}
 use Rattle.snapshot_places.specs.Grid.{segments_for, register_of, with_doors, with_segments, after_access, door_access, word_answer, grid_walker_steps, next_place, grid_place, grid_walker}
 use Rattle.snapshot_places.specs.GridTies.{IsGridFor, IsWalkAt, walks_of, grid_places}
-use Rattle.snapshot_core.specs.Places.{IsPlain, KeepsWalks, HasGoneOn, HasWritten, ReadsOn, PlacesLaws}
+use Rattle.snapshot_core.specs.Places.{KeepsWalks, HasGoneOn, HasWritten, ReadsOn, PlacesLaws}
 
 -- an access changes no register but the one that it names
 pub others_kept : (g : GridState) (a : Access GridRegister GridValue) (r : GridRegister) → Spares a r → register_of (after_access g a) r ≡ register_of g r
@@ -57,7 +57,7 @@ told g id name mark SawClear = refl
 told g id name mark WroteMark = refl
 told g id name mark (Gone way) = refl
 
-sent_plain : (id name mark : ℕ) (s : Stage) → IsPlain (door_access (access_at id name mark s))
+sent_plain : (id name mark : ℕ) (s : Stage) → ReadsOrWrites (door_access (access_at id name mark s))
 sent_plain id name mark Outside = tt
 sent_plain id name mark WroteName = tt
 sent_plain id name mark SawClear = tt
