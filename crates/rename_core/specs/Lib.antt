@@ -7,6 +7,7 @@ pub mod Config
 pub mod Round
 pub mod RenameState
 pub mod RenameWorld
+pub mod NamedPlaces
 pub mod RenameCalls
 pub mod Locality
 pub mod Ample
