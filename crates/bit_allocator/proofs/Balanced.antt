@@ -9,7 +9,7 @@ use Rattle.bit_allocator.specs.declared.stay.Stay.TheVariants.{Seeking, Settled}
 use Rattle.bit_allocator.specs.Stay.{held_at}
 use Rattle.bit_allocator.specs.Competitors.{identities, stay_of, with_stay, without, holds_at}
 use Rattle.bit_allocator.proofs.StayOfLemmas.{stay_of-push, stay_of-with_stay, stay_of-without, identities-with_stay, length-identities}
-use Rattle.bit_allocator.proofs.SetAtLemmas.{set_at-is}
+use Rattle.step_memory.proofs.SetAtLemmas.{set_at-is}
 use Rattle.bit_allocator.proofs.Counts.{one, count, competitor, is_of, holds, seeks, reaches, number_of, count-push, count-with_stay, count-without, count-one, count-absent, count-length, length-filter, reaches-split}
 
 -- a search is within the bits, or at 1 where there are none; and what is held is within the pool

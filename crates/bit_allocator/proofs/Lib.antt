@@ -1,4 +1,3 @@
-pub mod SetAtLemmas
 pub mod Found
 pub mod StayOfLemmas
 pub mod Counts

@@ -6,7 +6,7 @@ use Rattle.std.proofs.lemmas.List.{get_or-set_same, get_or-set_other, length-set
 use Rattle.step_memory.specs.declared.refusal.Refusal.TheVariants.{ZeroIdentity, Crowded, NotCompeting, AlreadyCompeting, Holding, NotHolding}
 use Rattle.step_memory.specs.Runs.{Run}
 use Rattle.step_memory.specs.World.{done_unless}
-use Rattle.step_memory.proofs.RunLemmas.{run_more, run_keeps}
+use Rattle.step_memory.proofs.RunLemmas.{run_more, run_keeps, run_one, run_splits}
 use Rattle.bit_allocator.specs.declared.competitor.Competitor.{Competitor}
 use Rattle.bit_allocator.specs.declared.probe.Probe.TheVariants.{Missed, Got}
 use Rattle.bit_allocator.specs.declared.stay.Stay.{Stay}
@@ -211,15 +211,25 @@ law_after first w r a =
 pub after_call : (first : ℕ) (w new : PoolState) (r : List Call) (h : Call) → new ≡ next w h → IsReply w h → After first w r → After first new (r ++ h ∷ [])
 after_call first w new r h e is a = record { first = a.first; last = a.last; run = rw e (run_more next IsReply (fresh_pool first) r w h a.run is) }
 
-run_end : {S H : Type 0} (step : S → H → S) (Right : S → H → Type 0) (s : S) (r : List H) (a b : S) → Run step Right s r a → Run step Right s r b → a ≡ b
-run_end step Right s [] a b x y = x ∙ sym y
-run_end step Right s (h ∷ r) a b x y = run_end step Right (step s h) r a b x.1 y.1
+-- a pool in which no one competes is after no call
+pub after_none : (size : ℕ) → 1 ≤ size → size ≤ 64 → After size (fresh_pool size) []
+after_none size first last = record { first = first; last = last; run = refl }
+
+-- every front of the calls keeps the law
+pub front_lawful : (size : ℕ) (w : PoolState) (r t : List Call) → After size w (r ++ t) → KeepsPoolLaw size r
+front_lawful size w r t a =
+    let cut = run_splits next IsReply (fresh_pool size) r t w a.run in
+    law_after size cut.0 r (record { first = a.first; last = a.last; run = cut.1 })
+
+-- two pools after one list are the same
+pub one_after : (size : ℕ) (w other : PoolState) (r : List Call) → After size w r → After size other r → w ≡ other
+one_after size w other r a b = run_one next IsReply (fresh_pool size) r w other a.run b.run
 
 -- what is seen of the object
 pub tied_after : (first : ℕ) (w : PoolState) (r : List Call) (o : PoolObject) → After first w r → IsRun first r o → IsTied w.size w.competitors o
 tied_after first w r o a is =
     let s = stands first w r a in
-    let e : s.object ≡ o = run_end after Answers (fresh_object first) r s.object o s.run is in
+    let e : s.object ≡ o = run_one after Answers (fresh_object first) r s.object o s.run is in
     subst (λ (x : PoolObject). IsTied w.size w.competitors x) e s.tied
 
 holds_is : (n : ℕ) (s : Stay) → holds_at n (held_at s) ≡ true → held_at s ≡ Some n

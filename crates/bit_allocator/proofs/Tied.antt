@@ -12,7 +12,7 @@ use Rattle.bit_allocator.specs.Pool.{enter_refusal, number_by}
 use Rattle.bit_allocator.specs.PoolObject.{PoolObject, competes, no_entry, no_probe, number_in}
 use Rattle.bit_allocator.proofs.StayOfLemmas.{stay_of-push, stay_of-with_stay, stay_of-without, identities-push, identities-with_stay, identities-without, length-identities, competes-identities}
 use Rattle.bit_allocator.proofs.Counts.{one, count, competitor, holds, count-one}
-use Rattle.bit_allocator.proofs.SetAtLemmas.{set_at-is}
+use Rattle.step_memory.proofs.SetAtLemmas.{set_at-is}
 use Rattle.bit_allocator.proofs.Balanced.{NobodyHolds}
 
 -- the object has the pool's size and competitors and what these hold; who seeks has made the probes of all numbers below

@@ -12,6 +12,10 @@ use Rattle.bit_allocator.specs.Stay.{probe_access, stay_probed, probe_reply, lea
 use Rattle.bit_allocator.specs.Competitors.{stay_of}
 use Rattle.bit_allocator.specs.PoolState.{PoolState}
 
+-- p stands alike in two pools
+abbrev pub StandAlike : ℕ → PoolState → PoolState → Type 0
+StandAlike p one other = stay_of p one.competitors ≡ stay_of p other.competitors
+
 -- a call of a competitor as functions of the size, of its own state, and of what its one access answers: the access,
 -- the reply, and the own state that is left (none: it competes no more)
 pub record OwnSteps (O : Type 0) : Type 0 where
@@ -39,13 +43,14 @@ module _ {O : Type 0} (steps : OwnSteps O) where
   got_in w stay = answer_of w.bits (steps.access w.size stay)
 
   -- an accepted call of p makes the one access that p's own state names; its reply and p's new state are functions of
-  -- that state and the answer; nothing else changes
+  -- that state and the answer; nothing else changes, and where p does not compete no bit does
   pub record IsLocal (p : ℕ) (old new : PoolState) (result : Result O Refusal) : Type 0 where
     pub access : (stay : Stay) → stay_of p old.competitors ≡ Some stay → OnOk result (new.bits ≡ after_access old.bits (steps.access old.size stay))
     pub reply : (stay : Stay) → stay_of p old.competitors ≡ Some stay → IfOk result (λ x. x ≡ steps.reply old.size stay (got_in old stay))
     pub own : (stay : Stay) → stay_of p old.competitors ≡ Some stay → OnOk result (stay_of p new.competitors ≡ steps.stay old.size stay (got_in old stay))
     pub others : (q : ℕ) → q ≢ p → stay_of q new.competitors ≡ stay_of q old.competitors
     pub registers : (stay : Stay) → stay_of p old.competitors ≡ Some stay → (r : ℕ) → Spares (steps.access old.size stay) r → register_of new.bits r ≡ register_of old.bits r
+    pub absent : stay_of p old.competitors ≡ None → new.bits ≡ old.bits
     pub size : new.size ≡ old.size
 
   -- p stands alike in two pools of one size, and they have the same bit where p's own state names one

@@ -26,11 +26,13 @@
 #![tactic(auto)]
 
 pub mod competitor;
+pub mod laws;
 pub mod pool;
 pub mod probe;
 pub mod stay;
 
 pub use competitor::Competitor;
+pub use laws::{law_of_own_accesses, law_of_pool_calls};
 pub use pool::{MOST_NUMBERS, Pool};
 pub use probe::Probe;
 pub use stay::Stay;

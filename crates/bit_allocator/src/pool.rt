@@ -1,15 +1,14 @@
 //! The pool.
 
-ghost use Rattle.std.specs.Prelude.{◌≡◌, ◌≤◌, ◌<◌, ◌⊎◌, ℕ, List, [], ◌∷◌, ◌++◌, IfOk, IfErr, IsOk, Err, MatchOption, Some, ◌≢◌};
+ghost use Rattle.std.specs.Prelude.{◌≡◌, ◌≤◌, ◌<◌, ◌⊎◌, ℕ, List, [], ◌∷◌, ◌++◌, IfOk, IfErr, IsOk, OnErr, Err, MatchOption, Some, ◌≢◌};
 ghost use Rattle.bit_allocator.specs.Competitors.{index_of, holder_in, identities};
 ghost use Rattle.bit_allocator.specs.PoolState.{PoolState};
 ghost use Rattle.bit_allocator.specs.Pool.{fresh_pool, enter_refusal, enter_answer, after_enter, probe_answer, after_probe, number_answer, after_leave};
-ghost use Rattle.bit_allocator.specs.Locality.{IsLocal, LookAlike, probe_steps, leave_steps};
+ghost use Rattle.bit_allocator.specs.Locality.{IsLocal, LookAlike, StandAlike, probe_steps, leave_steps};
 ghost use Rattle.bit_allocator.specs.Calls.{Call};
 ghost use Rattle.bit_allocator.specs.Calls.Call.{Entered, Probed, Left};
 ghost use Rattle.bit_allocator.specs.PoolObject.{PoolObject, IsRun, number_in};
-ghost use Rattle.bit_allocator.specs.Law.{KeepsPoolLaw};
-ghost use Rattle.bit_allocator.specs.After.{After};
+ghost use Rattle.bit_allocator.specs.After.{After, IsLawful, LeadsOn};
 
 use crate::competitor::Competitor;
 use crate::probe::Probe;
@@ -156,8 +155,9 @@ impl<A: Allocator> Pool<A> {
     pub fn enter(&mut self, id: u64) -> Result<(), Refusal>
         ensures answer { result ≡ enter_answer self.old id }
         ensures state { self.new ≡ after_enter self.old id }
-        ensures after { (size : ℕ) (r : List Call) → After size self.old r → After size self.new (r ++ Entered id result ∷ []) }
-        ensures law { (size : ℕ) (r : List Call) → After size self.new r → KeepsPoolLaw size r }
+        ensures refused { OnErr result (self.new ≡ self.old) }
+        ensures after { LeadsOn self.old self.new (Entered id result) }
+        ensures law { IsLawful self.new }
     {
         if let Some(refusal) = self.enter_refusal(id) {
             return Err(refusal);
@@ -175,14 +175,16 @@ impl<A: Allocator> Pool<A> {
     pub fn probe(&mut self, id: u64) -> Result<Probe, Refusal>
         ensures answer { result ≡ probe_answer self.old id }
         ensures state { self.new ≡ after_probe self.old id }
-        ensures after { (size : ℕ) (r : List Call) → After size self.old r → After size self.new (r ++ Probed id result ∷ []) }
-        ensures law { (size : ℕ) (r : List Call) → After size self.new r → KeepsPoolLaw size r }
+        ensures refused { OnErr result (self.new ≡ self.old) }
+        ensures after { LeadsOn self.old self.new (Probed id result) }
+        ensures law { IsLawful self.new }
 
         // Nothing of the pool changes but this competitor and the bit that it names.
         ensures local { IsLocal probe_steps id self.old self.new result }
 
-        // In another pool that looks alike to this competitor the answer is the same.
+        // In another pool that looks alike to this competitor the answer is the same, and where it then stands.
         ensures alike { (other : PoolState) → LookAlike probe_steps id self.old other → result ≡ probe_answer other id }
+        ensures stands_alike { (other : PoolState) → LookAlike probe_steps id self.old other → StandAlike id self.new (after_probe other id) }
     {
         let Some(i) = find(&self.competitors, id) else {
             return Err(Refusal::NotCompeting);
@@ -202,14 +204,16 @@ impl<A: Allocator> Pool<A> {
     pub fn leave(&mut self, id: u64) -> Result<u8, Refusal>
         ensures answer { result ≡ number_answer self.old id }
         ensures state { self.new ≡ after_leave self.old id }
-        ensures after { (size : ℕ) (r : List Call) → After size self.old r → After size self.new (r ++ Left id result ∷ []) }
-        ensures law { (size : ℕ) (r : List Call) → After size self.new r → KeepsPoolLaw size r }
+        ensures refused { OnErr result (self.new ≡ self.old) }
+        ensures after { LeadsOn self.old self.new (Left id result) }
+        ensures law { IsLawful self.new }
 
         // Nothing of the pool changes but this competitor and the bit that it names.
         ensures local { IsLocal leave_steps id self.old self.new result }
 
-        // In another pool that looks alike to this competitor the answer is the same.
+        // In another pool that looks alike to this competitor the answer is the same, and where it then stands.
         ensures alike { (other : PoolState) → LookAlike leave_steps id self.old other → result ≡ number_answer other id }
+        ensures stands_alike { (other : PoolState) → LookAlike leave_steps id self.old other → StandAlike id self.new (after_leave other id) }
     {
         let number = self.number_of(id)?;
         let access = Stay::Settled(number).leave_access(self.size);
@@ -223,14 +227,22 @@ impl<A: Allocator> Pool<A> {
 #[cfg(test)]
 mod tests {
     use super::*;
+    use crate::{law_of_own_accesses, law_of_pool_calls};
     use std::test::Fail;
 
     #[test]
     fn sizes(rt: HostRuntime) {
-        for (size, taken) in [(0, false), (1, true), (64, true), (65, false)] {
+        for size in 0..66 {
+            let taken = (1..65).contains(&size);
             let made = Pool::new(rt.alloc(), size);
             assert_eq!(rt; made.is_ok(), taken, "at {size}");
         }
+    }
+
+    #[test]
+    fn laws_are_called() {
+        law_of_pool_calls();
+        law_of_own_accesses();
     }
 
     #[test]

@@ -1,9 +1,9 @@
 -- each call of slots keeps the law
-use Rattle.std.proofs.Common.{◌≡◌, ℕ, ◌-◌, List, [], ◌∷◌, ◌++◌, Ok, Err, Result, length, refl, sym, ap, subst, ◌∙◌}
+use Rattle.std.proofs.Common.{◌≡◌, ◌≤◌, ℕ, ◌-◌, List, [], ◌∷◌, ◌++◌, Ok, Err, Result, length, refl, sym, ap, subst, ◌∙◌}
 use Rattle.std.proofs.lemmas.List.{length-set}
 use Rattle.step_memory.specs.declared.refusal.Refusal.{Refusal}
 use Rattle.step_memory.specs.Runs.{Run}
-use Rattle.step_memory.proofs.RunLemmas.{run_more, run_keeps}
+use Rattle.step_memory.proofs.RunLemmas.{run_more, run_keeps, run_one, run_splits}
 use Rattle.bit_allocator.specs.Pool.{fresh_pool, number_answer}
 use Rattle.bit_allocator.specs.declared.probe.Probe.TheVariants.{Missed, Got}
 use Rattle.bit_allocator.specs.Calls.{Call}
@@ -18,23 +18,6 @@ use Rattle.slot_array.specs.Slots.{stored_reply, stored_in, IsFetched, after_put
 use Rattle.slot_array.specs.SlotsObject.{SlotsObject, fresh_slots, SlotAnswers, slots_after, IsSlotsRun}
 use Rattle.slot_array.specs.Law.{KeepsSlotsLaw}
 use Rattle.slot_array.specs.After.{AfterSlots, slots_next, IsSlotReply}
-
--- a run that is one call longer
-record Longer {S H : Type 0} (step : S → H → S) (Right : S → H → Type 0) (s : S) (r : List H) (h : H) (end : S) : Type 0 where
-  mid : S
-  run : Run step Right s r mid
-  right : Right mid h
-  last : end ≡ step mid h
-
-longer : {S H : Type 0} (step : S → H → S) (Right : S → H → Type 0) (s : S) (r : List H) (h : H) (end : S) → Run step Right s (r ++ h ∷ []) end → Longer step Right s r h end
-longer step Right s [] h end a = record { mid = s; run = refl; right = a.0; last = a.1 }
-longer step Right s (k ∷ r) h end a =
-    let l = longer step Right (step s k) r h end a.1 in
-    record { mid = l.mid; run = (a.0, l.run); right = l.right; last = l.last }
-
-run_end : {S H : Type 0} (step : S → H → S) (Right : S → H → Type 0) (s : S) (r : List H) (a b : S) → Run step Right s r a → Run step Right s r b → a ≡ b
-run_end step Right s [] a b x y = x ∙ sym y
-run_end step Right s (h ∷ r) a b x y = run_end step Right (step s h) r a b x.1 y.1
 
 -- the pool's part of one more call
 pool_calls-pooled : {T : Type 0} (r : List (SlotCall T)) (h : Call) → pool_calls (r ++ Pooled h ∷ []) ≡ pool_calls r ++ h ∷ []
@@ -92,9 +75,9 @@ module _ {T : Type 0} (size : ℕ) (first : List T) (s : SlotsState T) (r : List
       let pool : After size (next s.pool h) (pool_calls r ++ h ∷ []) =
       record { first = t.pool.first; last = t.pool.last; run = run_more next IsReply (fresh_pool size) (pool_calls r) s.pool h t.pool.run is } in
       let law = law_after size (next s.pool h) (pool_calls r ++ h ∷ []) pool in
-      let l = longer after Answers (fresh_object size) (pool_calls r) h law.object law.run in
-      let same : l.mid ≡ t.object.pool = run_end after Answers (fresh_object size) (pool_calls r) l.mid t.object.pool l.run t.pool_run in
-      let right : Answers t.object.pool h = subst (λ (x : PoolObject). Answers x h) same l.right in
+      let l = run_splits after Answers (fresh_object size) (pool_calls r) (h ∷ []) law.object law.run in
+      let same : l.0 ≡ t.object.pool = run_one after Answers (fresh_object size) (pool_calls r) l.0 t.object.pool l.1 t.pool_run in
+      let right : Answers t.object.pool h = subst (λ (x : PoolObject). Answers x h) same l.2.0 in
       record {
         object = slots_after t.object (Pooled h);
         run = gone_on (Pooled h) right;
@@ -170,3 +153,17 @@ after_slots_call {T} size first s new r h e is a = record {
   many = a.many;
   run = subst (λ (x : SlotsState T). Run slots_next IsSlotReply (record { pool = fresh_pool size; values = first }) (r ++ h ∷ []) x) (sym e) (run_more slots_next IsSlotReply (record { pool = fresh_pool size; values = first }) r s h a.run is);
 }
+
+-- new slots are after no call
+pub after_none : {T : Type 0} (size : ℕ) (values : List T) → 1 ≤ size → size ≤ 64 → length values ≡ size → AfterSlots size values (record { pool = fresh_pool size; values = values }) []
+after_none size values first last many = record { first = first; last = last; many = many; run = refl }
+
+-- every front of the calls keeps the law
+pub front_lawful : {T : Type 0} (size : ℕ) (values : List T) (s : SlotsState T) (r t : List (SlotCall T)) → AfterSlots size values s (r ++ t) → KeepsSlotsLaw size values r
+front_lawful size values s r t a =
+    let cut = run_splits slots_next IsSlotReply (record { pool = fresh_pool size; values = values }) r t s a.run in
+    law_after_slots size values cut.0 r (record { first = a.first; last = a.last; many = a.many; run = cut.1 })
+
+-- two slots after one list are the same
+pub one_after : {T : Type 0} (size : ℕ) (values : List T) (s other : SlotsState T) (r : List (SlotCall T)) → AfterSlots size values s r → AfterSlots size values other r → s ≡ other
+one_after size values s other r a b = run_one slots_next IsSlotReply (record { pool = fresh_pool size; values = values }) r s other a.run b.run

@@ -1,11 +1,12 @@
 -- slots after a list of calls
-use Rattle.std.specs.Prelude.{◌≡◌, ℕ, ◌≤◌, List, length}
+use Rattle.std.specs.Prelude.{◌≡◌, ℕ, ◌≤◌, List, [], ◌∷◌, ◌++◌, length}
 use Rattle.step_memory.specs.Runs.{Run}
 use Rattle.bit_allocator.specs.After.{next, IsReply}
 use Rattle.bit_allocator.specs.Pool.{fresh_pool, number_answer}
 use Rattle.slot_array.specs.SlotsState.{SlotsState}
 use Rattle.slot_array.specs.SlotCalls.{SlotCall}
 use Rattle.slot_array.specs.SlotCalls.SlotCall.{Pooled, Stored, Fetched}
+use Rattle.slot_array.specs.Law.{KeepsSlotsLaw}
 use Rattle.slot_array.specs.Slots.{stored_reply, IsFetched, after_put}
 
 -- the slots after a call
@@ -26,3 +27,11 @@ pub record AfterSlots {T : Type 0} (size : ℕ) (values : List T) (s : SlotsStat
   pub last : size ≤ 64
   pub many : length values ≡ size
   pub run : Run slots_next IsSlotReply (record { pool = fresh_pool size; values = values }) r s
+
+-- every list of calls that leads to the old slots leads with this call to the new ones
+abbrev pub LeadsOn : {T : Type 0} → SlotsState T → SlotsState T → SlotCall T → Type 0
+LeadsOn {T} old new call = (size : ℕ) (values : List T) (r : List (SlotCall T)) → AfterSlots size values old r → AfterSlots size values new (r ++ call ∷ [])
+
+-- every list of calls that leads to these slots keeps the law
+abbrev pub IsLawful : {T : Type 0} → SlotsState T → Type 0
+IsLawful {T} s = (size : ℕ) (values : List T) (r : List (SlotCall T)) → AfterSlots size values s r → KeepsSlotsLaw size values r

@@ -22,6 +22,8 @@
 //! ```
 #![tactic(auto)]
 
+pub mod laws;
 pub mod slots;
 
+pub use laws::law_of_slot_calls;
 pub use slots::Slots;

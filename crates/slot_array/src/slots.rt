@@ -1,17 +1,16 @@
 //! Slots over a pool.
 
-ghost use Rattle.std.specs.Prelude.{◌≡◌, ℕ, List, [], ◌∷◌, ◌++◌, ◌≤◌, IfOk, IsOk, vec_len, vec_capacity};
+ghost use Rattle.std.specs.Prelude.{◌≡◌, ℕ, List, [], ◌∷◌, ◌++◌, ◌≤◌, IfOk, IsOk, OnErr, vec_len, vec_capacity};
 ghost use Rattle.std.specs.Result.{result_map_both};
 ghost use Rattle.bit_allocator.specs.Calls.Call.{Entered, Probed, Left};
 ghost use Rattle.bit_allocator.specs.Pool.{enter_answer, after_enter, probe_answer, after_probe, number_answer, after_leave};
 ghost use Rattle.bit_allocator.specs.After.{After};
-ghost use Rattle.bit_allocator.specs.Locality.{IsLocal, LookAlike, probe_steps, leave_steps};
+ghost use Rattle.bit_allocator.specs.Locality.{IsLocal, LookAlike, StandAlike, probe_steps, leave_steps};
 ghost use Rattle.bit_allocator.specs.PoolState.{PoolState};
 ghost use Rattle.slot_array.specs.SlotCalls.{SlotCall, pool_calls};
 ghost use Rattle.slot_array.specs.SlotCalls.SlotCall.{Pooled, Stored, Fetched};
 ghost use Rattle.slot_array.specs.Slots.{stored_reply, IsFetched, after_put, ChangesOwnSlot};
-ghost use Rattle.slot_array.specs.Law.{KeepsSlotsLaw};
-ghost use Rattle.slot_array.specs.After.{AfterSlots};
+ghost use Rattle.slot_array.specs.After.{AfterSlots, IsLawful, LeadsOn};
 
 use bit_allocator::{MOST_NUMBERS, Pool, Probe};
 use std::alloc::Allocator;
@@ -65,8 +64,9 @@ impl<T: Drop, A: Allocator> Slots<T, A> {
     pub fn enter(&mut self, id: u64) -> Result<(), Refusal>
         ensures answer { result ≡ enter_answer self.old.pool id }
         ensures state { self.new ≡ record self.old { pool = after_enter self.old.pool id } }
-        ensures after { (size : ℕ) (values : List T) (r : List (SlotCall T)) → AfterSlots size values self.old r → AfterSlots size values self.new (r ++ Pooled (Entered id result) ∷ []) }
-        ensures law { (size : ℕ) (values : List T) (r : List (SlotCall T)) → AfterSlots size values self.new r → KeepsSlotsLaw size values r }
+        ensures refused { OnErr result (self.new ≡ self.old) }
+        ensures after { LeadsOn self.old self.new (Pooled (Entered id result)) }
+        ensures law { IsLawful self.new }
     {
         self.pool.enter(id)
     }
@@ -75,12 +75,15 @@ impl<T: Drop, A: Allocator> Slots<T, A> {
     pub fn probe(&mut self, id: u64) -> Result<Probe, Refusal>
         ensures answer { result ≡ probe_answer self.old.pool id }
         ensures state { self.new ≡ record self.old { pool = after_probe self.old.pool id } }
-        ensures after { (size : ℕ) (values : List T) (r : List (SlotCall T)) → AfterSlots size values self.old r → AfterSlots size values self.new (r ++ Pooled (Probed id result) ∷ []) }
-        ensures law { (size : ℕ) (values : List T) (r : List (SlotCall T)) → AfterSlots size values self.new r → KeepsSlotsLaw size values r }
+        ensures refused { OnErr result (self.new ≡ self.old) }
+        ensures after { LeadsOn self.old self.new (Pooled (Probed id result)) }
+        ensures law { IsLawful self.new }
 
-        // Nothing of the pool changes but this competitor and the bit that it names.
+        // Nothing of the pool changes but this competitor and the bit that it names, and in another pool that looks alike to
+        // this competitor the answer is the same, and where it then stands.
         ensures local { IsLocal probe_steps id self.old.pool self.new.pool result }
         ensures alike { (other : PoolState) → LookAlike probe_steps id self.old.pool other → result ≡ probe_answer other id }
+        ensures stands_alike { (other : PoolState) → LookAlike probe_steps id self.old.pool other → StandAlike id self.new.pool (after_probe other id) }
     {
         self.pool.probe(id)
     }
@@ -89,12 +92,15 @@ impl<T: Drop, A: Allocator> Slots<T, A> {
     pub fn leave(&mut self, id: u64) -> Result<u8, Refusal>
         ensures answer { result ≡ number_answer self.old.pool id }
         ensures state { self.new ≡ record self.old { pool = after_leave self.old.pool id } }
-        ensures after { (size : ℕ) (values : List T) (r : List (SlotCall T)) → AfterSlots size values self.old r → AfterSlots size values self.new (r ++ Pooled (Left id result) ∷ []) }
-        ensures law { (size : ℕ) (values : List T) (r : List (SlotCall T)) → AfterSlots size values self.new r → KeepsSlotsLaw size values r }
+        ensures refused { OnErr result (self.new ≡ self.old) }
+        ensures after { LeadsOn self.old self.new (Pooled (Left id result)) }
+        ensures law { IsLawful self.new }
 
-        // Nothing of the pool changes but this competitor and the bit that it names.
+        // Nothing of the pool changes but this competitor and the bit that it names, and in another pool that looks alike to
+        // this competitor the answer is the same, and where it then stands.
         ensures local { IsLocal leave_steps id self.old.pool self.new.pool result }
         ensures alike { (other : PoolState) → LookAlike leave_steps id self.old.pool other → result ≡ number_answer other id }
+        ensures stands_alike { (other : PoolState) → LookAlike leave_steps id self.old.pool other → StandAlike id self.new.pool (after_leave other id) }
     {
         self.pool.leave(id)
     }
@@ -105,8 +111,9 @@ impl<T: Drop, A: Allocator> Slots<T, A> {
         ensures answer { result ≡ stored_reply (number_answer self.old.pool id) }
         ensures state { self.new ≡ after_put self.old id value }
         ensures changes { ChangesOwnSlot id value self.old self.new }
-        ensures after { (size : ℕ) (values : List T) (r : List (SlotCall T)) → AfterSlots size values self.old r → AfterSlots size values self.new (r ++ Stored id value result ∷ []) }
-        ensures law { (size : ℕ) (values : List T) (r : List (SlotCall T)) → AfterSlots size values self.new r → KeepsSlotsLaw size values r }
+        ensures refused { OnErr result (self.new ≡ self.old) }
+        ensures after { LeadsOn self.old self.new (Stored id value result) }
+        ensures law { IsLawful self.new }
     {
         let number = self.pool.number_of(id)?;
         self.values[usize::from(number) - 1] = value;
@@ -117,8 +124,8 @@ impl<T: Drop, A: Allocator> Slots<T, A> {
     /// it holds no number.
     pub fn get(&self, id: u64) -> Result<&T, Refusal>
         ensures answer { IsFetched self.now.values (number_answer self.now.pool id) (result_map_both (λ value. value.now) (λ refusal. refusal) result) }
-        ensures after { (size : ℕ) (values : List T) (r : List (SlotCall T)) → AfterSlots size values self.now r → AfterSlots size values self.now (r ++ Fetched id (result_map_both (λ value. value.now) (λ refusal. refusal) result) ∷ []) }
-        ensures law { (size : ℕ) (values : List T) (r : List (SlotCall T)) → AfterSlots size values self.now r → KeepsSlotsLaw size values r }
+        ensures after { LeadsOn self.now self.now (Fetched id (result_map_both (λ value. value.now) (λ refusal. refusal) result)) }
+        ensures law { IsLawful self.now }
     {
         let number = self.pool.number_of(id)?;
         Ok(&self.values[usize::from(number) - 1])
@@ -128,7 +135,13 @@ impl<T: Drop, A: Allocator> Slots<T, A> {
 #[cfg(test)]
 mod tests {
     use super::*;
+    use crate::law_of_slot_calls;
     use std::test::Fail;
+
+    #[test]
+    fn laws_are_called() {
+        law_of_slot_calls::<u64>();
+    }
 
     #[test]
     fn one_number(rt: HostRuntime) -> Result<(), Fail> {

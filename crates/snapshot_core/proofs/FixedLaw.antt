@@ -20,7 +20,7 @@ empty_at (suc m) (suc x) = empty_at m x
 empty_row : (m : ℕ) → m ≤ 16 → IsEmptyRow (replicate m None)
 empty_row m few = record { few = rw (length-replicate m (let nothing : Option Record = None in nothing)) few; empty = empty_at m }
 
-fits_row : (m : ℕ) → BoundsScans fixed_places m (λ b. m * (m + 1))
+pub fits_row : (m : ℕ) → BoundsScans fixed_places m (fixed_bounds m).scanning
 fits_row m b some l =
     let up : b + 1 ≤ m + 1 = omega arith in
     let product = mul-le-mul_right m up in

@@ -2,7 +2,7 @@
 
 ghost use Rattle.std.specs.Prelude.{◌≡◌, ◌≤◌, ℕ, [], false};
 ghost use Rattle.snapshot_core.specs.FixedTies.{fixed_places, fresh_row, fixed_bounds};
-ghost use Rattle.snapshot_core.specs.Places.{BeginsAlike};
+ghost use Rattle.snapshot_core.specs.Places.{BeginsAlike, BoundsScans};
 ghost use Rattle.snapshot_core.specs.SnapCalls.{SnapCall, fresh_over, IsAfter, CallLeadsOn, MakesOwnAccess, BeginsTheSame, HasDistinctPlaces, IsConsistentAfter};
 ghost use Rattle.snapshot_core.specs.Snapshot.{SnapBounds, IsLawful, IsLawfulFrom, HoldsOfFronts};
 ghost use Rattle.snapshot_core.specs.SnapWorld.{SnapState, may_lack_memory, LacksOnWay};
@@ -20,6 +20,7 @@ use std::alloc::Allocator;
 /// Nobody takes a step to its place, and no step wants memory.
 pub fn snapshot_law<A: Allocator>(world: &SnapWorld<Fixed<A>, A>)
     ensures law { world.now.most ≤ 16 → IsLawfulFrom fixed_places (fresh_row world.now.most) (fixed_bounds world.now.most) world.now }
+    ensures fits { BoundsScans fixed_places world.now.most (fixed_bounds world.now.most).scanning }
     ensures ample { (id : ℕ) → may_lack_memory fixed_places world.now id ≡ false }
 {
     let _world = world;

@@ -1,4 +1,6 @@
-use crate::{Fixed, Places, SnapReply, SnapWorld, law_of_snapshot_calls, snapshot_law};
+use crate::{
+    Fixed, Places, SnapReply, SnapWorld, law_of_clients, law_of_snapshot_calls, snapshot_law,
+};
 use std::alloc::Global;
 use std::process::Abort;
 use std::test::Fail;
@@ -73,6 +75,14 @@ fn stale_view_is_refused(rt: HostRuntime) -> Result<(), Fail> {
     assert_eq!(rt; world.scan(20), Ok(()));
     quiet(&rt, &mut world, 20, 2);
     written(&rt, &mut world, 10);
+    let Some(segment) = world.places().segment_at(0) else {
+        panic!(rt; "no record");
+    };
+    assert_eq!(rt;
+        (segment.identity, segment.value, segment.number),
+        (10, 5, 1)
+    );
+    assert_eq!(rt; segment.view.pairs(), [].as_slice());
     quiet(&rt, &mut world, 20, 3);
     shows(&rt, &mut world, 20, &[(10, 5), (20, 9)]);
     Ok(())
@@ -158,5 +168,6 @@ fn alone_over_any_places(rt: HostRuntime) -> Result<(), Fail> {
     assert_eq!(rt; world.places().most(), 16);
     snapshot_law(&world);
     law_of_snapshot_calls::<Fixed<Global>>();
+    law_of_clients::<Fixed<Global>>();
     Ok(())
 }

@@ -153,3 +153,45 @@ where
         self.world.memory()
     }
 }
+
+#[cfg(test)]
+mod tests {
+    use super::*;
+    use crate::client::Pending;
+    use crate::fixed::Fixed;
+    use crate::scan::Scan;
+    use std::alloc::Global;
+    use std::test::Fail;
+
+    /// An object over two segments in a row, in which 10 was asked for so many updates.
+    fn asked(alloc: Global, updates: u32) -> Result<SnapWorld<Fixed<Global>, Global>, Refusal> {
+        let mut snap = SnapWorld::new(alloc, Fixed::new(alloc, 2)?)?;
+        let places = snap.places();
+        let client = Client {
+            identity: 10,
+            walker: places.walker(0, 10),
+            walk: places.walk(),
+            updates,
+            pending: Pending::Nothing,
+            scan: Scan::new(places.walk()),
+        };
+        snap.world.begin(10, client)?;
+        Ok(snap)
+    }
+
+    #[test]
+    fn a_million_updates_and_no_more(rt: HostRuntime) -> Result<(), Fail> {
+        let mut snap = asked(rt.alloc(), 999_999)?;
+        assert_eq!(rt; snap.update(10, 5), Ok(()));
+        for _ in 0..4 {
+            assert!(rt; matches!(snap.step(10), Ok(SnapReply::Quiet)));
+        }
+        assert!(rt; matches!(snap.step(10), Ok(SnapReply::Written)));
+        assert_eq!(rt; snap.update(10, 6), Err(Refusal::Spent));
+        assert_eq!(rt; snap.scan(10), Ok(()));
+        assert_eq!(rt; snap.update(10, 6), Err(Refusal::AlreadyBegun));
+        let mut snap = asked(rt.alloc(), 1_000_000)?;
+        assert_eq!(rt; snap.update(10, 5), Err(Refusal::Spent));
+        Ok(())
+    }
+}

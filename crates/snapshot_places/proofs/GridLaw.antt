@@ -26,7 +26,7 @@ few_in m b some l =
     let square = mul-le-mul_right m one in
     omega arith
 
-fits_grid : (m : ℕ) → BoundsScans grid_places m (λ b. segments_for m * (segments_for m + 1))
+pub fits_grid : (m : ℕ) → BoundsScans grid_places m (grid_bounds m).scanning
 fits_grid m b some l =
     let up : b + 1 ≤ segments_for m + 1 = (let few = few_in m b some l in omega arith) in
     let product = mul-le-mul_right (segments_for m) up in

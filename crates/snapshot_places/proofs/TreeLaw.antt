@@ -27,7 +27,7 @@ use Rattle.snapshot_core.proofs.SureSteps.{lacks_on_way}
 is_new : (most : ℕ) → most ≤ 64 → IsNewTree (new_tree most)
 is_new most few = record { few = few; empty = refl }
 
-fits_tree : (most : ℕ) → BoundsScans tree_places most (λ b. (b + 1) * (6 * b - 2))
+pub fits_tree : (most : ℕ) → BoundsScans tree_places most (tree_bounds most).scanning
 fits_tree most b some l =
     let same : 3 * (2 * b - 1) + 1 ≡ 6 * b - 2 = omega arith in
     let all : (b + 1) * (3 * (2 * b - 1) + 1) ≡ (b + 1) * (6 * b - 2) = ap (λ n. (b + 1) * n) same in

@@ -1,7 +1,7 @@
 //! Laws of the snapshot object over a grid and over a tree, which run nothing.
 
 ghost use Rattle.std.specs.Prelude.{◌≡◌, ◌≤◌, ℕ, false};
-ghost use Rattle.snapshot_core.specs.Places.{BeginsAlike};
+ghost use Rattle.snapshot_core.specs.Places.{BeginsAlike, BoundsScans};
 ghost use Rattle.snapshot_core.specs.SnapCalls.{HasDistinctPlaces};
 ghost use Rattle.snapshot_core.specs.Snapshot.{IsLawfulFrom};
 ghost use Rattle.snapshot_core.specs.SnapWorld.{may_lack_memory, LacksOnWay};
@@ -23,6 +23,7 @@ use std::alloc::Allocator;
 /// No step wants memory, and all who begin under one identity are alike.
 pub fn grid_snapshot_law<A: Allocator>(world: &SnapWorld<Grid<A>, A>)
     ensures law { world.now.most ≤ 16 → IsLawfulFrom grid_places (fresh_grid world.now.most) (grid_bounds world.now.most) world.now }
+    ensures fits { BoundsScans grid_places world.now.most (grid_bounds world.now.most).scanning }
     ensures distinct { HasDistinctPlaces grid_places world.now }
     ensures ample { (id : ℕ) → may_lack_memory grid_places world.now id ≡ false }
     ensures alike { BeginsAlike grid_places }
@@ -36,6 +37,7 @@ pub fn grid_snapshot_law<A: Allocator>(world: &SnapWorld<Grid<A>, A>)
 /// nodes were made. Only a step that makes a node may want memory, and all who begin under one identity are alike.
 pub fn tree_snapshot_law<A: Allocator + Clone>(world: &SnapWorld<TreePlaces<A>, A>)
     ensures law { world.now.most ≤ 64 → IsLawfulFrom tree_places (new_tree world.now.most) (tree_bounds world.now.most) world.now }
+    ensures fits { BoundsScans tree_places world.now.most (tree_bounds world.now.most).scanning }
     ensures distinct { HasDistinctPlaces tree_places world.now }
     ensures nodes { IsFromNewTree world.now → KeepsTree world.now }
     ensures ample { (id : ℕ) → LacksOnWay tree_places world.now id }

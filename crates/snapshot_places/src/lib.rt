@@ -6,6 +6,8 @@ pub mod grid_register;
 pub mod grid_walk;
 pub mod grid_walker;
 pub mod law;
+#[cfg(test)]
+mod tests;
 pub mod tree;
 pub mod tree_walk;
 pub mod tree_walker;

@@ -2,3 +2,4 @@ pub mod Changed
 pub mod DoorKept
 pub mod VisitorAccess
 pub mod SplitterTied
+pub mod StageLemmas

@@ -12,7 +12,9 @@ use Rattle.step_memory.specs.Calls.{Call, steps_of, steps_by, outcome_of, outcom
 use Rattle.step_memory.specs.Calls.Call.{Began, Stepped}
 use Rattle.step_memory.proofs.SetAtLemmas.{set_at-same, set_at-other, set_at-cases}
 use Rattle.step_memory.proofs.ParticipantLemmas.{participant_of-push, participant_of-put}
-use Rattle.step_memory.proofs.WorldKeeps.{steps_of-push, outcome_of-push, first_of-none, IsLetIn, IsKept, world_keeps, moved, stepped, after_began, after_stepped}
+use Rattle.step_memory.proofs.WorldKeeps.{steps_of-push, outcome_of-push, first_of-none, IsLetIn, IsKept, world_keeps, moved, stepped, after_began, after_stepped, after_splits}
+use Rattle.step_memory.specs.Due.{EndsOnce}
+use Rattle.step_memory.proofs.DueLemmas.{world_counted, ends_once, outcomes_tell, never_grows}
 use Rattle.splitter.specs.declared.way.Way.{Way}
 use Rattle.splitter.specs.declared.way.Way.TheVariants.{Stop, Right, Down}
 use Rattle.splitter.specs.declared.stage.Stage.{Stage}
@@ -21,8 +23,8 @@ use Rattle.splitter.specs.declared.visitor.Visitor.{Visitor}
 use Rattle.splitter.specs.Stage.{has_entered, is_gone, name_after, mark_after, stage_after}
 use Rattle.splitter.specs.Visitor.{visitor_steps, access_of, stage_by, note_at, note_after, word_of, IsAccessOf}
 use Rattle.splitter.specs.Door.{DoorIsLawful, IsSplitter}
-use Rattle.splitter.specs.Law.{KeepsSplitterLaw}
-use Rattle.splitter.specs.SplitterWorld.{SplitterState, After, fresh, visit_of, empty_door, step_reply, world_after_step}
+use Rattle.splitter.specs.Law.{IsSplit, HasEntered, WentBy, KeepsSplitterLaw}
+use Rattle.splitter.specs.SplitterWorld.{SplitterState, After, fresh, visit_of, empty_door, step_reply, world_after_step, RefusesWhereDue}
 use Rattle.step_memory.specs.World.{after_begin, begin_refusal, done_unless}
 use Rattle.splitter.proofs.DoorKept.{kept, law_of, lawful_new}
 use Rattle.splitter.proofs.VisitorAccess.{is_access_of}
@@ -259,26 +261,67 @@ took w r t p way h = gone_by (stages w.participants p) way (sym (t.ways p) ∙ h
 entered : (w : SplitterState) (r : List (Call (Option Way))) → IsTied w r → (p : ℕ) → 0 < steps_of p r → has_entered (stages w.participants p) ≡ true
 entered w r t p h = entered_by (stages w.participants p) (omega (arith, h, t.steps p))
 
-tied_law : (w : SplitterState) (r : List (Call (Option Way))) → IsTied w r → KeepsSplitterLaw r
-tied_law w r t =
+split_by : (w : SplitterState) (r : List (Call (Option Way))) → IsTied w r → IsSplit (HasEntered r) (WentBy r)
+split_by w r t =
     let law : IsSplitter (stages w.participants) = law_of (word_of w.memory 0) (word_of w.memory 1) (stages w.participants) t.door in
     record {
-      split = record {
-        one_stops = λ p q h k. law.one_stops p q (took w r t p Stop h) (took w r t q Stop k);
-        not_all_right = λ p h.
-            let other = law.not_all_right p (entered w r t p h) in
-            (other.0, omega (arith, some_access (stages w.participants other.0) other.1, t.steps other.0), λ right. other.2 (took w r t other.0 Right right));
-        not_all_down = λ p h.
-            let other = law.not_all_down p (entered w r t p h) in
-            (other.0, omega (arith, some_access (stages w.participants other.0) other.1, t.steps other.0), λ down. other.2 (took w r t other.0 Down down));
-      };
+      one_stops = λ p q h k. law.one_stops p q (took w r t p Stop h) (took w r t q Stop k);
+      not_all_right = λ p h.
+          let other = law.not_all_right p (entered w r t p h) in
+          (other.0, omega (arith, some_access (stages w.participants other.0) other.1, t.steps other.0), λ right. other.2 (took w r t other.0 Right right));
+      not_all_down = λ p h.
+          let other = law.not_all_down p (entered w r t p h) in
+          (other.0, omega (arith, some_access (stages w.participants other.0) other.1, t.steps other.0), λ down. other.2 (took w r t other.0 Down down));
+    }
+
+-- who entered alone and whose visit has ended has stopped
+alone : (r : List (Call (Option Way))) → IsSplit (HasEntered r) (WentBy r) → (p : ℕ) → HasEntered r p → ((q : ℕ) → HasEntered r q → q ≡ p) → (way : Way) → WentBy r p way → way ≡ Stop
+alone r split p in_ only Stop h = refl
+alone r split p in_ only Right h =
+    let other = split.not_all_right p in_ in
+    absurd (other.2 (subst (λ (q : ℕ). WentBy r q Right) (sym (only other.0 other.1)) h))
+alone r split p in_ only Down h =
+    let other = split.not_all_down p in_ in
+    absurd (other.2 (subst (λ (q : ℕ). WentBy r q Down) (sym (only other.0 other.1)) h))
+
+other_accesses : (way : Way) → way ≢ Right → accesses (Gone way) ≡ 4
+unfolding accesses
+other_accesses Stop h = refl
+other_accesses Right h = absurd (h refl)
+other_accesses Down h = refl
+
+tied_law : (w : SplitterState) (r : List (Call (Option Way))) → IsTied w r → EndsOnce is_some r → KeepsSplitterLaw r
+unfolding accesses
+tied_law w r t once =
+    let split = split_by w r t in
+    record {
+      split = split;
       at_most_four = λ p. omega (arith, few_accesses (stages w.participants p), t.steps p);
       fourth_ends = λ p h. rw (t.ways p) (fourth_ends (stages w.participants p) (sym (t.steps p) ∙ h));
+      right_at_two = λ p h. t.steps p ∙ ap accesses (took w r t p Right h);
+      else_at_four = λ p way n h. t.steps p ∙ ap accesses (took w r t p way h) ∙ other_accesses way n;
+      alone_stops = λ p only way h.
+          let gone = took w r t p way h in
+          let entered : has_entered (stages w.participants p) ≡ true = rw gone refl in
+          alone r split p (omega (arith, some_access (stages w.participants p) entered, t.steps p)) only way h;
+      ends_once = once;
     }
+
+-- each call is refused where those before it make it due
+pub due_after : (w : SplitterState) → RefusesWhereDue w
+due_after w r a = (world_counted visitor_steps memory_steps outcome_in visit_of is_some false w.most outcomes_tell never_grows empty_door w r refl a).due
 
 -- a world that is after these calls shows that they keep the law
 pub law_after : (w : SplitterState) (r : List (Call (Option Way))) → After w r → KeepsSplitterLaw r
-law_after w r a = tied_law w r (world_keeps visitor_steps memory_steps outcome_in visit_of IsTied tie_kept empty_door w r (tied_new w.most) a)
+law_after w r a =
+    tied_law w r (world_keeps visitor_steps memory_steps outcome_in visit_of IsTied tie_kept empty_door w r (tied_new w.most) a)
+    (ends_once is_some w.most false r (due_after w r a))
+
+-- and so does every front of the calls
+pub front_lawful : (w : SplitterState) (r t : List (Call (Option Way))) → After w (r ++ t) → KeepsSplitterLaw r
+front_lawful w r t a =
+    let mid = after_splits visitor_steps memory_steps outcome_in visit_of empty_door w r t a in
+    law_after mid.0 r mid.2
 
 -- a splitter that no one has entered is after no call
 pub after_none : (most : ℕ) → After (fresh most) []

@@ -3,10 +3,19 @@ use Rattle.std.proofs.Common.{◌≢◌, ℕ, ◌<◌, length, refl, sym}
 use Rattle.std.proofs.lemmas.List.{get_or-set_same, get_or-set_other}
 use Rattle.std.proofs.Math.ListN.{length-set}
 use Rattle.step_memory.specs.RegisterState.{Registers}
+use Rattle.step_memory.specs.Steps.{ReadsOrWrites}
 use Rattle.splitter.specs.declared.stage.Stage.{Stage}
 use Rattle.splitter.specs.declared.stage.Stage.TheVariants.{Outside, WroteName, SawClear, WroteMark, Gone}
 use Rattle.splitter.specs.declared.visitor.Visitor.{Visitor}
-use Rattle.splitter.specs.Visitor.{IsAccessOf}
+use Rattle.splitter.specs.Visitor.{IsAccessOf, access_at}
+
+-- it reads or writes a register, or reaches none
+pub own_access : (id name mark : ℕ) (s : Stage) → ReadsOrWrites (access_at id name mark s)
+own_access id name mark Outside = tt
+own_access id name mark WroteName = tt
+own_access id name mark SawClear = tt
+own_access id name mark WroteMark = tt
+own_access id name mark (Gone way) = tt
 
 module _ (m : Registers ℕ) (id name mark : ℕ) (apart : name ≢ mark) (name_in : name < length m.values) (mark_in : mark < length m.values) where
   abbrev visit : Stage → Visitor ℕ

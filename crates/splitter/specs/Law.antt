@@ -1,6 +1,7 @@
 -- the law of the splitter (Moir and Anderson 1995), of the set that entered and of the way that each took
-use Rattle.std.specs.Prelude.{◌≡◌, ℕ, ◌<◌, ◌≤◌, List, Option, Some, IsSome}
+use Rattle.std.specs.Prelude.{◌≡◌, ◌≢◌, ℕ, ◌<◌, ◌≤◌, List, Option, Some, IsSome, is_some}
 use Rattle.step_memory.specs.Calls.{Call, steps_of, outcome_of}
+use Rattle.step_memory.specs.Due.{EndsOnce}
 use Rattle.splitter.specs.declared.way.Way.{Way}
 use Rattle.splitter.specs.declared.way.Way.TheVariants.{Stop, Right, Down}
 
@@ -26,8 +27,14 @@ HasEntered r p = 0 < steps_of p r
 abbrev pub WentBy : List (Call (Option Way)) → ℕ → Way → Type 0
 WentBy r p way = outcome_of p r ≡ Some way
 
--- the law over calls and replies: those who entered are split, and a visit ends at its fourth step or earlier
+-- the law over calls and replies: those who entered are split, and who enters alone stops; a visit ends at its fourth
+-- step or earlier, at its second where it goes right and else at its fourth; and no one makes a step after its visit has
+-- ended
 pub record KeepsSplitterLaw (r : List (Call (Option Way))) : Type 0 where
   pub split : IsSplit (HasEntered r) (WentBy r)
   pub at_most_four : (p : ℕ) → steps_of p r ≤ 4
   pub fourth_ends : (p : ℕ) → steps_of p r ≡ 4 → IsSome (outcome_of p r)
+  pub right_at_two : (p : ℕ) → WentBy r p Right → steps_of p r ≡ 2
+  pub else_at_four : (p : ℕ) (way : Way) → way ≢ Right → WentBy r p way → steps_of p r ≡ 4
+  pub alone_stops : (p : ℕ) → ((q : ℕ) → HasEntered r q → q ≡ p) → (way : Way) → WentBy r p way → way ≡ Stop
+  pub ends_once : EndsOnce is_some r

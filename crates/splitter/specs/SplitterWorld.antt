@@ -1,13 +1,15 @@
 -- what the calls of a splitter's world answer and leave
-use Rattle.std.specs.Prelude.{ℕ, List, [], Option, Result, replicate, false}
+use Rattle.std.specs.Prelude.{ℕ, List, [], ◌∷◌, ◌++◌, Option, Result, replicate, false, is_some}
 use Rattle.step_memory.specs.declared.refusal.Refusal.{Refusal}
 use Rattle.step_memory.specs.RegisterState.{Registers}
 use Rattle.step_memory.specs.Registers.{memory_steps}
 use Rattle.step_memory.specs.WorldState.{WorldState}
 use Rattle.step_memory.specs.World.{step_answer, after_step}
 use Rattle.step_memory.specs.Calls.{Call, outcome_in, reply_of, IsAfter}
+use Rattle.step_memory.specs.Due.{RefusesAsDue}
 use Rattle.splitter.specs.declared.way.Way.{Way}
 use Rattle.splitter.specs.declared.visitor.Visitor.{Visitor}
+use Rattle.splitter.specs.Law.{KeepsSplitterLaw}
 use Rattle.splitter.specs.Visitor.{visitor_at, visitor_steps}
 
 -- the registers, the most participants, and their visits
@@ -37,3 +39,15 @@ world_after_step w id = after_step visitor_steps memory_steps w id
 -- the world is after these calls with these replies
 abbrev pub After : SplitterState → List (Call (Option Way)) → Type 0
 After w r = IsAfter visitor_steps memory_steps outcome_in visit_of empty_door w r
+
+-- every list of calls that leads to the old world leads with this call to the new one
+abbrev pub LeadsOn : SplitterState → SplitterState → Call (Option Way) → Type 0
+LeadsOn old new call = (r : List (Call (Option Way))) → After old r → After new (r ++ call ∷ [])
+
+-- every list of calls that leads to this world keeps the law
+abbrev pub IsLawful : SplitterState → Type 0
+IsLawful w = (r : List (Call (Option Way))) → After w r → KeepsSplitterLaw r
+
+-- and each of these calls is refused exactly where those before it make it due
+abbrev pub RefusesWhereDue : SplitterState → Type 0
+RefusesWhereDue w = (r : List (Call (Option Way))) → After w r → RefusesAsDue is_some w.most false r

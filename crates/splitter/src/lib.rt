@@ -20,14 +20,14 @@
 //! ```
 #![tactic(auto)]
 
-pub mod door;
+pub mod laws;
 pub mod stage;
 pub mod visitor;
 pub mod way;
 pub mod world;
 
-pub use door::{law_of_one_access, law_of_one_door};
+pub use laws::{law_of_one_access, law_of_one_door, law_of_splitter_calls, law_of_ways};
 pub use stage::Stage;
 pub use visitor::Visitor;
 pub use way::Way;
-pub use world::{SplitterWorld, law_of_splitter_calls};
+pub use world::SplitterWorld;

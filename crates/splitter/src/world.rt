@@ -1,13 +1,12 @@
 //! A world whose participants visit one splitter.
 
-ghost use Rattle.std.specs.Prelude.{◌≡◌, ◌≢◌, ℕ, ◌∷◌, [], ◌++◌, List, IfOk, IfErr, IsOk, Err, ◌≤◌, ◌<◌, ◌⊎◌, ◌↔◌, Option};
+ghost use Rattle.std.specs.Prelude.{◌≡◌, ◌≢◌, ℕ, ◌∷◌, [], ◌++◌, List, IfOk, IfErr, IsOk, OnErr, Err, ◌≤◌, ◌<◌, ◌⊎◌, ◌↔◌, Option};
 ghost use Rattle.splitter.specs.declared.way.Way.{Way};
-ghost use Rattle.splitter.specs.Law.{KeepsSplitterLaw};
-ghost use Rattle.splitter.specs.SplitterWorld.{After, SplitterState, fresh, visit_of, step_reply, world_after_step};
+ghost use Rattle.splitter.specs.SplitterWorld.{After, IsLawful, LeadsOn, RefusesWhereDue, SplitterState, fresh, visit_of, step_reply, world_after_step};
 ghost use Rattle.splitter.specs.Visitor.{visitor_steps};
 ghost use Rattle.step_memory.specs.Calls.{Call};
 ghost use Rattle.step_memory.specs.Calls.Call.{Began, Stepped};
-ghost use Rattle.step_memory.specs.Locality.{IsLocal, LookAlike};
+ghost use Rattle.step_memory.specs.Locality.{IsLocal, LookAlike, StandAlike};
 ghost use Rattle.step_memory.specs.Registers.{memory_steps};
 ghost use Rattle.step_memory.specs.World.{after_begin, begin_refusal, done_unless};
 
@@ -37,6 +36,7 @@ impl<A: Allocator + Clone> SplitterWorld<A> {
     pub fn new(alloc: A, most: usize) -> Result<Self, Refusal>
         ensures fresh { IfOk result (λ w. w ≡ fresh most) }
         ensures after { IfOk result (λ w. After w []) }
+        ensures law { IfOk result (λ w. IsLawful w) }
         ensures range { IsOk result → (1 ≤ most) × (most ≤ 16) }
         ensures out_of_range { result ≡ Err Refusal.OutOfRange ↔ ((most < 1) ⊎ (16 < most)) }
         ensures only { IfErr result (λ r. (r ≡ Refusal.NoMemory) ⊎ (r ≡ Refusal.OutOfRange)) }
@@ -61,10 +61,12 @@ impl<A: Allocator + Clone> SplitterWorld<A> {
     pub fn begin(&mut self, id: u64) -> Result<(), Refusal>
         ensures answer { result ≡ done_unless (begin_refusal self.old id) }
         ensures state { self.new ≡ after_begin self.old id (visit_of id) }
+        ensures refused { OnErr result (self.new ≡ self.old) }
 
         // The law, over every list of calls and replies that the world may be after.
-        ensures after { (r : List (Call (Option Way))) → After self.old r → After self.new (r ++ Began id result ∷ []) }
-        ensures law { (r : List (Call (Option Way))) → After self.new r → KeepsSplitterLaw r }
+        ensures after { LeadsOn self.old self.new (Began id result) }
+        ensures law { IsLawful self.new }
+        ensures due { RefusesWhereDue self.new }
     {
         self.world.begin(id, Visitor::new(id, 0, 1))
     }
@@ -74,15 +76,18 @@ impl<A: Allocator + Clone> SplitterWorld<A> {
     pub fn step(&mut self, id: u64) -> Result<Option<Way>, Refusal>
         ensures answer { result ≡ step_reply self.old id }
         ensures state { self.new ≡ world_after_step self.old id }
+        ensures refused { OnErr result (self.new ≡ self.old) }
 
         // Nothing of the world changes but this visit and the register that it names, and in another world that looks
-        // alike to this visit the answer is the same.
+        // alike to this visit the answer is the same, and where the visit then stands.
         ensures local { IsLocal visitor_steps memory_steps id self.old self.new }
         ensures alike { (other : SplitterState) → LookAlike visitor_steps memory_steps id self.old other → result ≡ step_reply other id }
+        ensures stands_alike { (other : SplitterState) → LookAlike visitor_steps memory_steps id self.old other → StandAlike id self.new (world_after_step other id) }
 
         // The law, over every list of calls and replies that the world may be after.
-        ensures after { (r : List (Call (Option Way))) → After self.old r → After self.new (r ++ Stepped id result ∷ []) }
-        ensures law { (r : List (Call (Option Way))) → After self.new r → KeepsSplitterLaw r }
+        ensures after { LeadsOn self.old self.new (Stepped id result) }
+        ensures law { IsLawful self.new }
+        ensures due { RefusesWhereDue self.new }
     {
         match self.world.step(id)? {
             Note::Ended(way) => Ok(Some(way)),
@@ -91,18 +96,10 @@ impl<A: Allocator + Clone> SplitterWorld<A> {
     }
 }
 
-/// A law, which runs nothing: a splitter that no one has entered is after no call, each call takes a world after some
-/// calls to one after these and itself, and calls that a world may be after keep the law of the splitter.
-pub fn law_of_splitter_calls()
-    ensures fresh { (most : ℕ) → After (fresh most) [] }
-    ensures begun { (w : SplitterState) (r : List (Call (Option Way))) (id : ℕ) → After w r → After (after_begin w id (visit_of id)) (r ++ Began id (done_unless (begin_refusal w id)) ∷ []) }
-    ensures stepped { (w : SplitterState) (r : List (Call (Option Way))) (id : ℕ) → After w r → After (world_after_step w id) (r ++ Stepped id (step_reply w id) ∷ []) }
-    ensures law { (w : SplitterState) (r : List (Call (Option Way))) → After w r → KeepsSplitterLaw r }
-{}
-
 #[cfg(test)]
 mod tests {
     use super::*;
+    use crate::{law_of_one_access, law_of_one_door, law_of_splitter_calls, law_of_ways};
     use linked_list_allocator::LocalHeap;
     use std::test::Fail;
 
@@ -140,9 +137,19 @@ mod tests {
     }
 
     #[test]
+    fn laws_are_called() {
+        law_of_one_door();
+        law_of_one_access();
+        law_of_ways();
+        law_of_splitter_calls();
+    }
+
+    #[test]
     fn ranges_and_want_of_memory(rt: HostRuntime) -> Result<(), Fail> {
         assert!(rt; matches!(SplitterWorld::new(rt.alloc(), 0), Err(Refusal::OutOfRange)));
-        assert!(rt; SplitterWorld::new(rt.alloc(), 16).is_ok());
+        for most in 1..17 {
+            assert!(rt; SplitterWorld::new(rt.alloc(), most).is_ok(), "at {most}");
+        }
         assert!(rt; matches!(SplitterWorld::new(rt.alloc(), 17), Err(Refusal::OutOfRange)));
         // A heap gives a growth at least 16 bytes, so here each in turn is the first that finds no room.
         let mut refused = false;

@@ -1,35 +1,15 @@
 -- nobody comes deeper than participants have begun
-use Rattle.std.proofs.Common.{◌≡◌, ℕ, zero, suc, ◌<◌, ◌≤◌, Bool, true, false, ◌==◌, ◌&&◌, ◌||◌, inl, inr, List, [], ◌∷◌, length, get_or, Option, Some, None, refl, sym, ap, ◌∙◌, arith}
+use Rattle.std.proofs.Common.{◌≡◌, ℕ, zero, suc, ◌<◌, ◌≤◌, Bool, true, false, ◌==◌, ◌&&◌, inl, inr, List, [], ◌∷◌, length, get_or, Option, Some, None, refl, sym, ap, ◌∙◌, arith}
+use Rattle.std.proofs.lemmas.Bool.{cases_Bool, or_left, or_right}
+use Rattle.splitter.proofs.StageLemmas.{gone_right, gone_down}
 use Rattle.std.proofs.lemmas.Bool.Decides.{Decides-eqb}
-use Rattle.splitter.specs.declared.way.Way.TheVariants.{Stop, Right, Down}
-use Rattle.splitter.specs.declared.stage.Stage.{Stage}
-use Rattle.splitter.specs.declared.stage.Stage.TheVariants.{Outside, WroteName, SawClear, WroteMark, Gone}
-use Rattle.splitter.specs.Stage.{went_right, went_down}
 use Rattle.splitter.specs.Door.{IsSplitter}
 use Rattle.splitter.proofs.DoorKept.{law_of}
 use Rattle.splitter_grid.specs.declared.walker.Walker.{Walker}
 use Rattle.splitter_grid.specs.Door.{door_number}
 use Rattle.splitter_grid.specs.Count.{count_to}
 use Rattle.splitter_grid.specs.Consistent.{StandsAt, DoorsAgree}
-use Rattle.splitter_grid.proofs.Diagonals.{bool_cases, depth_bound, taken_bound, is_taken}
-
-gone_right : (s : Stage) → went_right s ≡ true → s ≡ Gone Right
-gone_right Outside h = absurd (cc)
-gone_right WroteName h = absurd (cc)
-gone_right SawClear h = absurd (cc)
-gone_right WroteMark h = absurd (cc)
-gone_right (Gone Stop) h = absurd (cc)
-gone_right (Gone Right) h = refl
-gone_right (Gone Down) h = absurd (cc)
-
-gone_down : (s : Stage) → went_down s ≡ true → s ≡ Gone Down
-gone_down Outside h = absurd (cc)
-gone_down WroteName h = absurd (cc)
-gone_down SawClear h = absurd (cc)
-gone_down WroteMark h = absurd (cc)
-gone_down (Gone Stop) h = absurd (cc)
-gone_down (Gone Right) h = absurd (cc)
-gone_down (Gone Down) h = refl
+use Rattle.splitter_grid.proofs.Diagonals.{depth_bound, taken_bound, is_taken}
 
 -- where each stands
 spot : Option Walker → ℕ × ℕ
@@ -44,13 +24,6 @@ spots_many : (walker : ℕ → Option Walker) (ids : List ℕ) → length (spots
 unfolding spots
 spots_many walker [] = refl
 spots_many walker (p ∷ ids) = ap suc (spots_many walker ids)
-
-or_left : (a b : Bool) → a ≡ true → (a || b) ≡ true
-or_left a b h = rw h refl
-
-or_right : (a b : Bool) → b ≡ true → (a || b) ≡ true
-or_right true b h = refl
-or_right false b h = h
 
 -- where one of those listed stands is taken
 taken_at : (walker : ℕ → Option Walker) (ids : List ℕ) (i p d c : ℕ) → i < length ids → get_or ids i 0 ≡ p → StandsAt walker p d c → is_taken (spots walker ids) d c ≡ true
@@ -97,7 +70,7 @@ module _ (limit b : ℕ) (name mark : ℕ → ℕ) (walker : ℕ → Option Walk
   -- no door that was reached is deeper than b - 1
   tight : (d c : ℕ) → 0 < b → g.reached d c ≡ true → d < b
   tight d c some h =
-      let beyond : (e : ℕ) → e < suc limit → g.reached limit e ≡ false = λ e l. elim (bool_cases (g.reached limit e)) [ inl y ↦ absurd (let low = g.within limit e y in omega arith) | inr n ↦ n ] in
+      let beyond : (e : ℕ) → e < suc limit → g.reached limit e ≡ false = λ e l. elim (cases_Bool (g.reached limit e)) [ inl y ↦ absurd (let low = g.within limit e y in omega arith) | inr n ↦ n ] in
       let low = depth_bound g.reached (is_taken (spots walker g.identities)) leads g.comes (g.root some) d c limit (g.inside d c h) h (let deep = g.within d c h in omega arith) (none_count (g.reached limit) (suc limit) beyond) in
       let high = taken_bound (spots walker g.identities) limit in
       let many = spots_many walker g.identities in

@@ -1,4 +1,5 @@
 -- how deep a grid of doors can be entered
+use Rattle.std.proofs.lemmas.Bool.{cases_Bool}
 use Rattle.std.proofs.Common.{◌≡◌, ◌≢◌, ℕ, zero, suc, ◌+◌, ◌<◌, ◌≤◌, Bool, true, false, not, ◌&&◌, ◌||◌, ◌==◌, ◌⊎◌, inl, inr, List, [], ◌∷◌, length, refl, sym, subst, arith}
 use Rattle.std.proofs.lemmas.Bool.Decides.{eqb_tells, Decides-eqb}
 use Rattle.splitter_grid.specs.Count.{count_to}
@@ -8,17 +9,13 @@ abbrev pub doors_to : (ℕ → ℕ → Bool) → ℕ → ℕ
 doors_to f zero = 0
 doors_to f (suc n) = doors_to f n + count_to (f n) (suc n)
 
-pub bool_cases : (b : Bool) → (b ≡ true) ⊎ (b ≡ false)
-bool_cases true = inl refl
-bool_cases false = inr refl
-
 -- doors of which each leads to two neighbours of the next diagonal lead to one more than they are
 module _ (f g : ℕ → Bool) where
   spread : (n : ℕ) → ((c : ℕ) → c < n → f c ≡ true → (g c ≡ true) × (g (suc c) ≡ true)) → (count_to f n ≡ 0) ⊎ (count_to f n + 1 ≤ count_to g (suc n))
   spread zero h = inl refl
   spread (suc n) h =
       let before : (count_to f n ≡ 0) ⊎ (count_to f n + 1 ≤ count_to g (suc n)) = spread n (λ c l. h c (omega arith)) in
-      elim (bool_cases (f n)) [
+      elim (cases_Bool (f n)) [
         | inr no_door ↦ elim before [ inl z ↦ inl (rw no_door (omega arith)) | inr l ↦ inr (rw no_door (omega arith)) ]
         | inl door ↦
             let two = h n (omega arith) door in
@@ -33,9 +30,9 @@ split_count : (f t : ℕ → Bool) (n : ℕ) → count_to f n ≤ count_to (λ c
 split_count f t zero = omega arith
 split_count f t (suc n) =
     let before = split_count f t n in
-    elim (bool_cases (f n)) [
-      | inl a ↦ elim (bool_cases (t n)) [ inl b ↦ rw (a, b) (omega arith) | inr b ↦ rw (a, b) (omega arith) ]
-      | inr a ↦ elim (bool_cases (t n)) [ inl b ↦ rw (a, b) (omega arith) | inr b ↦ rw (a, b) (omega arith) ]
+    elim (cases_Bool (f n)) [
+      | inl a ↦ elim (cases_Bool (t n)) [ inl b ↦ rw (a, b) (omega arith) | inr b ↦ rw (a, b) (omega arith) ]
+      | inr a ↦ elim (cases_Bool (t n)) [ inl b ↦ rw (a, b) (omega arith) | inr b ↦ rw (a, b) (omega arith) ]
     ]
 
 pub some_count : (f : ℕ → Bool) (n c : ℕ) → c < n → f c ≡ true → 0 < count_to f n
@@ -100,9 +97,9 @@ count_or : (f g : ℕ → Bool) (n : ℕ) → count_to (λ c. f c || g c) n ≤ 
 count_or f g zero = omega arith
 count_or f g (suc n) =
     let before = count_or f g n in
-    elim (bool_cases (f n)) [
-      | inl a ↦ elim (bool_cases (g n)) [ inl b ↦ rw (a, b) (omega arith) | inr b ↦ rw (a, b) (omega arith) ]
-      | inr a ↦ elim (bool_cases (g n)) [ inl b ↦ rw (a, b) (omega arith) | inr b ↦ rw (a, b) (omega arith) ]
+    elim (cases_Bool (f n)) [
+      | inl a ↦ elim (cases_Bool (g n)) [ inl b ↦ rw (a, b) (omega arith) | inr b ↦ rw (a, b) (omega arith) ]
+      | inr a ↦ elim (cases_Bool (g n)) [ inl b ↦ rw (a, b) (omega arith) | inr b ↦ rw (a, b) (omega arith) ]
     ]
 
 doors_or : (f g : ℕ → ℕ → Bool) (n : ℕ) → doors_to (λ d c. f d c || g d c) n ≤ doors_to f n + doors_to g n

@@ -1,4 +1,5 @@
 -- a name stands in X of just the doors that were entered
+use Rattle.std.proofs.lemmas.Bool.{cases_Bool}
 use Rattle.std.proofs.Common.{◌≡◌, ◌≢◌, ℕ, ◌+◌, ◌*◌, true, false, cond, ◌⊎◌, inl, inr, List, [], ◌∷◌, ◌++◌, length, Option, Some, None, Ok, Err, Result, refl, sym, ap, subst, ◌∙◌}
 use Rattle.std.specs.Prelude.{◌↔◌}
 use Rattle.std.proofs.lemmas.Bool.Decides.{eqb_tells}
@@ -23,7 +24,6 @@ use Rattle.splitter_grid.specs.Walk.{walk_of, walker_steps, walker_note, next_ac
 use Rattle.splitter_grid.specs.Consistent.{name_in, IsConsistent}
 use Rattle.splitter_grid.specs.GridWorld.{GridState, After, fresh, empty_doors}
 use Rattle.splitter_grid.specs.Entered.{Enters, EntersFrom, WasEntered}
-use Rattle.splitter_grid.proofs.Diagonals.{bool_cases}
 use Rattle.splitter_grid.proofs.ConsistentKept.{names, registers_in, get_or-replicate_same}
 use Rattle.splitter_grid.proofs.GridTied.{IsTied, tied_after, walkers, after_next}
 
@@ -104,7 +104,7 @@ module _ (w : GridState) (past : List (Call (Option ℕ))) (t : IsTied w past) w
   step_call id k =
       elim (participant_of id w.participants) as (λ o. participant_of id w.participants ≡ o → StepNames id k o) [
         | None ↦ λ _. quiet_call w w (Stepped id (Err NotBegun)) k refl (λ never. never)
-        | Some v ↦ λ here. elim (bool_cases v.ended) [
+        | Some v ↦ λ here. elim (cases_Bool v.ended) [
           | inl e ↦ rw e (quiet_call w w (Stepped id (Err Finished)) k refl (λ never. never))
           | inr e ↦ rw e (going_call id v here (outcome_in (walker_note v.program (answer_of w.memory (next_access v.program)))) k)
         ]

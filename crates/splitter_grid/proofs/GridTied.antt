@@ -1,5 +1,5 @@
 -- what ties a grid's world to the calls that it is after
-use Rattle.std.proofs.Common.{◌≡◌, ◌≢◌, ℕ, suc, ◌≤◌, true, false, cond, ◌==◌, inl, inr, List, [], ◌∷◌, ◌++◌, length, Option, Some, None, Ok, Err, refl, sym, ap, subst, ◌∙◌, arith, length-append}
+use Rattle.std.proofs.Common.{◌≡◌, ◌≢◌, ℕ, suc, ◌≤◌, true, false, ◌==◌, inl, inr, List, [], ◌∷◌, ◌++◌, length, Option, Some, None, Ok, Err, refl, sym, ap, subst, ◌∙◌, arith, length-append}
 use Rattle.std.specs.Prelude.{is_some, option_map}
 use Rattle.std.proofs.Math.Path.{fun_ext}
 use Rattle.std.proofs.lemmas.Bool.Decides.{eqb_tells}
@@ -12,9 +12,11 @@ use Rattle.step_memory.specs.SetAt.{set_at}
 use Rattle.step_memory.specs.World.{after_begin, begin_refusal, done_unless}
 use Rattle.step_memory.specs.Calls.{Call, next, IsReply, steps_of, steps_by, outcome_of, outcome_by, outcome_in, begun_in, begun_by, IsAfter}
 use Rattle.step_memory.specs.Calls.Call.{Began, Stepped}
-use Rattle.step_memory.proofs.SetAtLemmas.{set_at-same, set_at-other, set_at-cases}
+use Rattle.step_memory.proofs.SetAtLemmas.{set_at-same, set_at-other, set_at-cases, set_at-map, same_in}
 use Rattle.step_memory.proofs.ParticipantLemmas.{participant_of-push, participant_of-put, length-with_participant}
-use Rattle.step_memory.proofs.WorldKeeps.{steps_of-push, begun_in-push, outcome_of-push, first_of-none, IsLetIn, IsKept, world_keeps, after_call, after_stepped, most_kept, moved, stepped}
+use Rattle.step_memory.proofs.WorldKeeps.{steps_of-push, begun_in-push, outcome_of-push, first_of-none, IsLetIn, IsKept, world_keeps, after_call, after_stepped, after_splits, most_kept, moved, stepped}
+use Rattle.step_memory.specs.Due.{EndsOnce}
+use Rattle.step_memory.proofs.DueLemmas.{world_counted, ends_once, outcomes_tell, never_grows, no_second_end}
 use Rattle.splitter.specs.declared.way.Way.TheVariants.{Stop, Right, Down}
 use Rattle.splitter.specs.declared.stage.Stage.{Stage}
 use Rattle.splitter.specs.declared.stage.Stage.TheVariants.{Outside, WroteName, SawClear, WroteMark, Gone}
@@ -23,7 +25,7 @@ use Rattle.splitter_grid.specs.declared.walker.Walker.{Walker}
 use Rattle.splitter_grid.specs.Door.{number_of}
 use Rattle.splitter_grid.specs.Walk.{walk_of, walker_steps, walked_to, walker_after, walker_note, next_access, note_at_door, place_of, place_by, accesses_of, accesses_by}
 use Rattle.splitter_grid.specs.Consistent.{IsConsistent, IsGrid}
-use Rattle.splitter_grid.specs.GridWorld.{GridState, After, fresh, empty_doors, place_in, step_reply, world_after_step}
+use Rattle.splitter_grid.specs.GridWorld.{GridState, After, fresh, empty_doors, place_in, step_reply, world_after_step, RefusesWhereDue}
 use Rattle.splitter_grid.specs.Law.{KeepsGridLaw}
 use Rattle.splitter_grid.proofs.ConsistentKept.{consistent_new, begun, gone_on}
 use Rattle.splitter_grid.proofs.GridLaw.{grid_law, nearer}
@@ -53,13 +55,6 @@ refused w r h none quiet nobody t = record {
   outcomes = λ p. outcome_of-push p r h ∙ rw (quiet p) (first_of-none (outcome_of p r)) ∙ t.outcomes p;
   steps = λ p. omega (arith, steps_of-push p r h, none p, t.steps p);
 }
-
-set_at-map : {X Y : Type 0} (g : X → Y) (f : ℕ → X) (p : ℕ) (s : X) (q : ℕ) → g (set_at f p s q) ≡ set_at (λ u. g (f u)) p (g s) q
-set_at-map g f p s q = elim (q == p) as (λ b. g (cond b s (f q)) ≡ cond b (g s) (g (f q))) [ true ↦ refl | false ↦ refl ]
-
--- what is said alike of one who has not begun and of one who has just begun
-same_in : {X : Type 0} (say : Option Walker → X) (walker : ℕ → Option Walker) (id : ℕ) (new : Walker) (p : ℕ) → walker id ≡ None → say None ≡ say (Some new) → say (walker p) ≡ say (set_at walker id (Some new) p)
-same_in say walker id new p absent same = set_at-cases walker id (Some new) (λ o. say (walker p) ≡ say o) p (λ e. ap say (ap walker e ∙ absent) ∙ same) (λ _. refl)
 
 -- one who begins
 begun_kept : (w : GridState) (r : List (Call (Option ℕ))) (id : ℕ) → IsLetIn w id → IsTied w r → IsTied (record { memory = w.memory; most = w.most; participants = w.participants ++ beginner id (walk_of id) ∷ [] }) (r ++ Began id (Ok tt) ∷ [])
@@ -179,19 +174,34 @@ pub tied_after : (w : GridState) (r : List (Call (Option ℕ))) → After w r �
 tied_after w r a = world_keeps walker_steps memory_steps outcome_in walk_of IsTied tie_kept (empty_doors w.most) w r (tied_new w.most a.0) a.1
 
 -- the steps of one are at most the accesses that its walk may have made, so the law of the walks is that of the calls
-tied_law : (w : GridState) (r : List (Call (Option ℕ))) → IsTied w r → KeepsGridLaw r
-tied_law w r t =
+tied_law : (w : GridState) (r : List (Call (Option ℕ))) → IsTied w r → EndsOnce is_some r → KeepsGridLaw r
+tied_law w r t once =
     let law : IsGrid (length w.participants) w.memory (walkers w.participants) = grid_law w.most (length w.participants) w.memory (walkers w.participants) t.consistent in
     record {
       distinct = λ p q place h k. law.distinct p q place (sym (t.outcomes p) ∙ h) (sym (t.outcomes q) ∙ k);
       within = λ p place h. rw t.begun_is (law.within p place (sym (t.outcomes p) ∙ h));
       at_most = λ p. omega (arith, t.steps p, law.at_most p, t.begun_is);
       last_places = λ p some all. rw (t.outcomes p) (law.last_places p (omega (arith, t.steps p, some)) (omega (arith, t.steps p, law.at_most p, t.begun_is, all)));
+      ends_once = once;
     }
+
+-- each call is refused where those before it make it due
+pub due_after : (w : GridState) → RefusesWhereDue w
+due_after w r a = (world_counted walker_steps memory_steps outcome_in walk_of is_some false w.most outcomes_tell never_grows (empty_doors w.most) w r refl a.1).due
 
 -- a world that is after these calls shows that they keep the law
 pub law_after : (w : GridState) (r : List (Call (Option ℕ))) → After w r → KeepsGridLaw r
-law_after w r a = tied_law w r (tied_after w r a)
+law_after w r a = tied_law w r (tied_after w r a) (ends_once is_some w.most false r (due_after w r a))
+
+-- and so does every front of the calls
+pub front_lawful : (w : GridState) (r t : List (Call (Option ℕ))) → After w (r ++ t) → KeepsGridLaw r
+front_lawful w r t a =
+    let mid = after_splits walker_steps memory_steps outcome_in walk_of (empty_doors w.most) w r t a.1 in
+    law_after mid.0 r (subst (λ (n : ℕ). (n ≤ 16) × IsAfter walker_steps memory_steps outcome_in walk_of (empty_doors n) mid.0 r) (sym mid.1) (a.0, mid.2))
+
+-- nobody is told a second place
+pub one_place_told : (p a b : ℕ) (before between rest : List (Call (Option ℕ))) → KeepsGridLaw (before ++ Stepped p (Ok (Some a)) ∷ (between ++ Stepped p (Ok (Some b)) ∷ rest)) → ⊥
+one_place_told p a b before between rest law = no_second_end is_some p (Some a) (Some b) before between rest refl law.ends_once
 
 -- the place at which a walk has ended is the one that was answered
 pub place_after : (w : GridState) (r : List (Call (Option ℕ))) → After w r → (p : ℕ) → place_in w p ≡ outcome_of p r

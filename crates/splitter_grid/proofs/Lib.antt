@@ -1,6 +1,5 @@
 pub mod Numbers
 pub mod Diagonals
-pub mod Counting
 pub mod DepthBound
 pub mod AgreeKept
 pub mod ConsistentKept

@@ -1,5 +1,5 @@
 -- what the calls of a grid's world answer and leave
-use Rattle.std.specs.Prelude.{◌≤◌, ℕ, ◌+◌, ◌*◌, ◌/◌, false, List, [], Option, Result, replicate}
+use Rattle.std.specs.Prelude.{◌≤◌, ℕ, ◌+◌, ◌*◌, ◌/◌, false, List, [], ◌∷◌, ◌++◌, Option, Result, replicate, is_some}
 use Rattle.step_memory.specs.declared.refusal.Refusal.{Refusal}
 use Rattle.step_memory.specs.RegisterState.{Registers}
 use Rattle.step_memory.specs.Registers.{memory_steps}
@@ -7,6 +7,8 @@ use Rattle.step_memory.specs.WorldState.{WorldState}
 use Rattle.step_memory.specs.World.{step_answer, after_step}
 use Rattle.step_memory.specs.Participant.{program_of}
 use Rattle.step_memory.specs.Calls.{Call, outcome_in, reply_of, IsAfter}
+use Rattle.step_memory.specs.Due.{RefusesAsDue}
+use Rattle.splitter_grid.specs.Law.{KeepsGridLaw}
 use Rattle.splitter_grid.specs.declared.walker.Walker.{Walker}
 use Rattle.splitter_grid.specs.Walk.{walk_of, walker_steps, place_by}
 use Rattle.splitter_grid.specs.Count.{count_to}
@@ -35,6 +37,18 @@ world_after_step w id = after_step walker_steps memory_steps w id
 -- the world, of at most 16 participants, is after these calls with these replies
 abbrev pub After : GridState → List (Call (Option ℕ)) → Type 0
 After w r = (w.most ≤ 16) × IsAfter walker_steps memory_steps outcome_in walk_of (empty_doors w.most) w r
+
+-- every list of calls that leads to the old world leads with this call to the new one
+abbrev pub LeadsOn : GridState → GridState → Call (Option ℕ) → Type 0
+LeadsOn old new call = (r : List (Call (Option ℕ))) → After old r → After new (r ++ call ∷ [])
+
+-- every list of calls that leads to this world keeps the law
+abbrev pub IsLawful : GridState → Type 0
+IsLawful w = (r : List (Call (Option ℕ))) → After w r → KeepsGridLaw r
+
+-- and each of these calls is refused exactly where those before it make it due
+abbrev pub RefusesWhereDue : GridState → Type 0
+RefusesWhereDue w = (r : List (Call (Option ℕ))) → After w r → RefusesAsDue is_some w.most false r
 
 -- the place at which the walk of an identity has ended
 abbrev pub place_in : GridState → ℕ → Option ℕ

@@ -1,15 +1,17 @@
 //! A world whose participants walk through one grid.
 
-ghost use Rattle.std.specs.Prelude.{◌≡◌, ◌≢◌, ℕ, ◌+◌, ◌*◌, ◌∷◌, [], ◌++◌, List, IfOk, IfErr, IsOk, Err, ◌≤◌, ◌<◌, ◌⊎◌, ◌↔◌, Option};
+ghost use Rattle.std.specs.Prelude.{◌≡◌, ◌≢◌, ℕ, ◌+◌, ◌*◌, ◌∷◌, [], ◌++◌, List, IfOk, IfErr, IsOk, OnErr, Ok, Err, Some, true, false, is_some, ◌≤◌, ◌<◌, ◌⊎◌, ◌↔◌, Option};
 ghost use Rattle.splitter_grid.specs.Consistent.{name_in};
 ghost use Rattle.splitter_grid.specs.Door.{IsDoorWithin};
 ghost use Rattle.splitter_grid.specs.Entered.{WasEntered};
-ghost use Rattle.splitter_grid.specs.GridWorld.{After, GridState, fresh, step_reply, world_after_step, place_in, entered_count};
+ghost use Rattle.splitter_grid.specs.GridWorld.{After, GridState, IsLawful, LeadsOn, RefusesWhereDue, fresh, step_reply, world_after_step, place_in, entered_count};
 ghost use Rattle.splitter_grid.specs.Law.{KeepsGridLaw};
 ghost use Rattle.splitter_grid.specs.Walk.{walk_of, walker_steps};
 ghost use Rattle.step_memory.specs.Calls.{Call, outcome_of, begun_in};
 ghost use Rattle.step_memory.specs.Calls.Call.{Began, Stepped};
-ghost use Rattle.step_memory.specs.Locality.{IsLocal, LookAlike};
+ghost use Rattle.step_memory.specs.Due.{RefusesAsDue};
+ghost use Rattle.step_memory.specs.declared.refusal.Refusal.{Refusal};
+ghost use Rattle.step_memory.specs.Locality.{IsLocal, LookAlike, StandAlike};
 ghost use Rattle.step_memory.specs.Registers.{memory_steps};
 ghost use Rattle.step_memory.specs.World.{after_begin, begin_refusal, done_unless};
 
@@ -43,6 +45,7 @@ impl<A: Allocator + Clone> GridWorld<A> {
     pub fn new(alloc: A, most: usize) -> Result<Self, Refusal>
         ensures fresh { IfOk result (λ w. w ≡ fresh most) }
         ensures after { IfOk result (λ w. After w []) }
+        ensures law { IfOk result (λ w. IsLawful w) }
         ensures range { IsOk result → (1 ≤ most) × (most ≤ 16) }
         ensures out_of_range { result ≡ Err Refusal.OutOfRange ↔ ((most < 1) ⊎ (16 < most)) }
         ensures only { IfErr result (λ r. (r ≡ Refusal.NoMemory) ⊎ (r ≡ Refusal.OutOfRange)) }
@@ -71,10 +74,12 @@ impl<A: Allocator + Clone> GridWorld<A> {
     pub fn begin(&mut self, id: u64) -> Result<(), Refusal>
         ensures answer { result ≡ done_unless (begin_refusal self.old id) }
         ensures state { self.new ≡ after_begin self.old id (walk_of id) }
+        ensures refused { OnErr result (self.new ≡ self.old) }
 
         // The law, over every list of calls and replies that the world may be after.
-        ensures after { (r : List (Call (Option ℕ))) → After self.old r → After self.new (r ++ Began id result ∷ []) }
-        ensures law { (r : List (Call (Option ℕ))) → After self.new r → KeepsGridLaw r }
+        ensures after { LeadsOn self.old self.new (Began id result) }
+        ensures law { IsLawful self.new }
+        ensures due { RefusesWhereDue self.new }
     {
         self.world.begin(id, Walker::new(id, Door::corner()))
     }
@@ -84,15 +89,18 @@ impl<A: Allocator + Clone> GridWorld<A> {
     pub fn step(&mut self, id: u64) -> Result<Option<Place>, Refusal>
         ensures answer { result ≡ step_reply self.old id }
         ensures state { self.new ≡ world_after_step self.old id }
+        ensures refused { OnErr result (self.new ≡ self.old) }
 
         // Nothing of the world changes but this walk and the register that it names, and in another world that looks
-        // alike to this walk the answer is the same.
+        // alike to this walk the answer is the same, and where the walk then stands.
         ensures local { IsLocal walker_steps memory_steps id self.old self.new }
         ensures alike { (other : GridState) → LookAlike walker_steps memory_steps id self.old other → result ≡ step_reply other id }
+        ensures stands_alike { (other : GridState) → LookAlike walker_steps memory_steps id self.old other → StandAlike id self.new (world_after_step other id) }
 
         // The law, over every list of calls and replies that the world may be after.
-        ensures after { (r : List (Call (Option ℕ))) → After self.old r → After self.new (r ++ Stepped id result ∷ []) }
-        ensures law { (r : List (Call (Option ℕ))) → After self.new r → KeepsGridLaw r }
+        ensures after { LeadsOn self.old self.new (Stepped id result) }
+        ensures law { IsLawful self.new }
+        ensures due { RefusesWhereDue self.new }
     {
         match self.world.step(id)? {
             Note::Ended(place) => Ok(Some(place)),
@@ -133,12 +141,18 @@ impl<A: Allocator + Clone> GridWorld<A> {
 }
 
 /// A law, which runs nothing: a grid that no one has entered is after no call, each call takes a world after some calls
-/// to one after these and itself, and calls that a world may be after keep the law of the grid. The places that were
-/// answered are those at which walks have ended.
+/// to one after these and itself, and calls that a world may be after, and every front of them, keep the law of the grid.
+/// Each is refused exactly where those before it make it due. The places that were answered are those at which walks have
+/// ended. A list that tells somebody a second place keeps no law of the grid, nor does one that refuses whoever comes
+/// first.
 pub fn law_of_grid_calls()
     ensures fresh { (most : ℕ) → most ≤ 16 → After (fresh most) [] }
     ensures begun { (w : GridState) (r : List (Call (Option ℕ))) (id : ℕ) → After w r → After (after_begin w id (walk_of id)) (r ++ Began id (done_unless (begin_refusal w id)) ∷ []) }
     ensures stepped { (w : GridState) (r : List (Call (Option ℕ))) (id : ℕ) → After w r → After (world_after_step w id) (r ++ Stepped id (step_reply w id) ∷ []) }
     ensures law { (w : GridState) (r : List (Call (Option ℕ))) → After w r → KeepsGridLaw r }
+    ensures front { (w : GridState) (r t : List (Call (Option ℕ))) → After w (r ++ t) → KeepsGridLaw r }
+    ensures due { (w : GridState) → RefusesWhereDue w }
+    ensures one_place { (p a b : ℕ) (before between rest : List (Call (Option ℕ))) → KeepsGridLaw (before ++ Stepped p (Ok (Some a)) ∷ (between ++ Stepped p (Ok (Some b)) ∷ rest)) → ⊥ }
+    ensures not_refused { (most p : ℕ) (why : Refusal) (rest : List (Call (Option ℕ))) → 1 ≤ most → p ≢ 0 → RefusesAsDue is_some most false (Began p (Err why) ∷ rest) → ⊥ }
     ensures places { (w : GridState) (r : List (Call (Option ℕ))) (id : ℕ) → After w r → place_in w id ≡ outcome_of id r }
 {}

@@ -16,7 +16,7 @@ use Rattle.splitter_tree.specs.declared.client.Task.TheVariants.{Nothing}
 use Rattle.splitter_tree.specs.Walk.{place_of}
 use Rattle.splitter_tree.specs.Client.{client_steps, client_access, client_note, is_placing, is_idle, is_collecting, place_told, storing, collecting, with_task, write_at, record_of}
 use Rattle.splitter_tree.specs.TreeWorld.{TreeState, asking_refusal, place_answer, after_placing, after_store, after_collect_begin, view_answer, after_collecting}
-use Rattle.splitter_tree.proofs.DepthBound.{bool_cases}
+use Rattle.std.proofs.lemmas.Bool.{cases_Bool}
 use Rattle.splitter_tree.proofs.TreeCallLemmas.{absent_place, placed_place, going_place, absent_view, idle_view, going_view, absent_store, busy_store, going_store, collect_absent, collect_busy, collect_goes}
 use Rattle.splitter_tree.proofs.StoreLemmas.{set_stands}
 
@@ -79,7 +79,7 @@ module _ {S : Type 0} (memory : MemorySteps S TreeRegister TreeValue) (w : TreeS
     step_by None e =
         let x = absent_place memory w id (program_here None e) in
         inl (record { why = NotBegun; answered = sym x.0; had_memory = ap lacked_memory (sym x.0); same = sym x.1 })
-    step_by (Some v) e = elim (bool_cases (is_placing v.program.task)) [
+    step_by (Some v) e = elim (cases_Bool (is_placing v.program.task)) [
       | inr placed ↦
           let x = placed_place memory w id v.program (program_here (Some v) e) placed in
           inl (record { why = Finished; answered = sym x.0; had_memory = ap lacked_memory (sym x.0); same = sym x.1 })
@@ -101,7 +101,7 @@ module _ {S : Type 0} (memory : MemorySteps S TreeRegister TreeValue) (w : TreeS
     collect_step_by None e =
         let x = absent_view memory w id (program_here None e) in
         inl (record { why = NotBegun; answered = sym x.0; had_memory = ap lacked_memory (sym x.0); same = sym x.1 })
-    collect_step_by (Some v) e = elim (bool_cases (is_collecting v.program.task)) [
+    collect_step_by (Some v) e = elim (cases_Bool (is_collecting v.program.task)) [
       | inr idle ↦
           let x = idle_view memory w id v.program (program_here (Some v) e) idle in
           inl (record { why = Finished; answered = sym x.0; had_memory = ap lacked_memory (sym x.0); same = sym x.1 })
@@ -117,7 +117,7 @@ module _ {S : Type 0} (memory : MemorySteps S TreeRegister TreeValue) (w : TreeS
   store_by value None e =
       let x = absent_store memory w id value (program_here None e) in
       inl (record { why = NotBegun; answered = sym x.answer; had_memory = ap lacked_memory (sym x.answer); same = sym x.state })
-  store_by value (Some v) e = elim (bool_cases (is_idle v.program.task)) [
+  store_by value (Some v) e = elim (cases_Bool (is_idle v.program.task)) [
     | inr busy ↦
         let x = busy_store memory w id value v.program (program_here (Some v) e) busy in
         inl (record { why = AlreadyBegun; answered = sym x.answer; had_memory = ap lacked_memory (sym x.answer); same = sym x.state })
@@ -134,7 +134,7 @@ module _ {S : Type 0} (memory : MemorySteps S TreeRegister TreeValue) (w : TreeS
   collect_begin_by None e =
       let x = collect_absent w id (program_here None e) in
       inl (record { why = NotBegun; answered = sym x.answer; had_memory = ap lacked_memory (sym x.answer); same = sym x.state })
-  collect_begin_by (Some v) e = elim (bool_cases (is_idle v.program.task)) [
+  collect_begin_by (Some v) e = elim (cases_Bool (is_idle v.program.task)) [
     | inr busy ↦
         let x = collect_busy w id v.program (program_here (Some v) e) busy in
         inl (record { why = AlreadyBegun; answered = sym x.answer; had_memory = ap lacked_memory (sym x.answer); same = sym x.state })

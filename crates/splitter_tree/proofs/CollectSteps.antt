@@ -36,9 +36,10 @@ use Rattle.splitter_tree.specs.TreeWorld.{TreeState, asking_refusal, after_placi
 use Rattle.splitter_tree.specs.TreeCalls.{TreeCall, next, IsReply, IsAfter}
 use Rattle.splitter_tree.specs.TreeCalls.TreeCall.{Began, Stepped, Stored, CollectBegan, CollectStepped}
 use Rattle.splitter_tree.specs.CollectLaw.{CollectObject, new_object, one_begun, with_moment, collect_begun, collect_stepped, goes_on, observed, ShowsValues, most_steps, AllowsStep, Allows, KeepsCollectLaw}
-use Rattle.splitter_tree.specs.Ahead.{marked_in}
+use Rattle.splitter_tree.specs.Ahead.{marked_in, HasRead}
+use Rattle.step_memory.proofs.RunLemmas.{run_replays}
 use Rattle.splitter_tree.specs.Count.{count_to}
-use Rattle.splitter_tree.proofs.Counting.{count_none}
+use Rattle.step_memory.proofs.CountLemmas.{count_none}
 use Rattle.splitter_tree.proofs.TreeCallLemmas.{Goes, absent_place, placed_place, going_place, absent_view, idle_view, going_view, absent_store, busy_store, going_store, collect_absent, collect_busy, collect_goes}
 use Rattle.splitter_tree.proofs.ReadCount.{reads_few, nodes_few}
 use Rattle.splitter_tree.proofs.ConsistentKept.{consistent_new}
@@ -369,12 +370,12 @@ module _ {S : Type 0} (memory : MemorySteps S TreeRegister TreeValue) (tree : Is
   keeps w o (CollectStepped id reply) t is = collect_stepped_keeps w o id reply t is
 
   -- and so every list of them
-  run_keeps : (r : List TreeCall) (w end : TreeState S) (o : CollectObject) → Tied w o → Run (next memory) (IsReply memory) w r end → (last : CollectObject) × Run observed Allows o r last
-  run_keeps [] w end o t run = (o, refl)
+  run_keeps : (r : List TreeCall) (w end : TreeState S) (o : CollectObject) → Tied w o → Run (next memory) (IsReply memory) w r end → (last : CollectObject) × Run observed Allows o r last × Tied end last
+  run_keeps [] w end o t run = (o, refl, subst (λ (x : TreeState S). Tied x o) (sym run) t)
   run_keeps (h ∷ r) w end o t run =
       let one = keeps w o h t run.0 in
       let rest = run_keeps r (next memory w h) end (observed o h) one.1 run.1 in
-      (rest.0, (one.0, rest.1))
+      (rest.0, (one.0, rest.1), rest.2)
 
   -- a tree of no nodes, and nobody there
   tied_new : (most : ℕ) (first : S) → most ≤ 64 → IsEmptyTree memory first → Tied (record { memory = first; most = most; participants = [] }) new_object
@@ -393,4 +394,15 @@ module _ {S : Type 0} (memory : MemorySteps S TreeRegister TreeValue) (tree : Is
 
   -- calls that a world may be after keep the law of collects
   pub collect_law : (first : S) (w : TreeState S) (r : List TreeCall) → w.most ≤ 64 → IsEmptyTree memory first → IsAfter memory first w r → KeepsCollectLaw r
-  collect_law first w r few empty after = run_keeps r (record { memory = first; most = w.most; participants = [] }) w new_object (tied_new w.most first few empty) after
+  collect_law first w r few empty after = let kept = run_keeps r (record { memory = first; most = w.most; participants = [] }) w new_object (tied_new w.most first few empty) after in (kept.0, kept.1)
+
+  -- a collect that is under way has made so many steps, and found so many nodes marked
+  pub collect_reads_few : (first : S) (w : TreeState S) (r : List TreeCall) (o : CollectObject) (p : ℕ) (v : Participant Client) (c : Collect) → w.most ≤ 64 → IsEmptyTree memory first → IsAfter memory first w r →
+      Run observed Allows new_object r o → participant_of p w.participants ≡ Some v → v.program.task ≡ Collecting c →
+      (nodes : ℕ) × HasRead (marked_in memory w.memory) c.walk nodes (o.steps p) × (o.steps p + 1 ≤ 3 * nodes + 1)
+  collect_reads_few first w r o p v c few empty after run here task =
+      let kept = run_keeps r (record { memory = first; most = w.most; participants = [] }) w new_object (tied_new w.most first few empty) after in
+      let same : kept.0 ≡ o = run_replays observed Allows new_object r kept.0 kept.1 ∙ sym (run_replays observed Allows new_object r o run) in
+      let way = kept.2.under_way p c (rw (here, task) refl) in
+      let reads : HasRead (marked_in memory w.memory) c.walk way.nodes (o.steps p) = subst (λ (x : CollectObject). HasRead (marked_in memory w.memory) c.walk way.nodes (x.steps p)) same way.reads in
+      (way.nodes, reads, reads_few (marked_in memory w.memory) c.walk way.nodes (o.steps p) reads)

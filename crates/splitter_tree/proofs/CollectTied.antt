@@ -27,7 +27,7 @@ use Rattle.splitter_tree.specs.Collect.{collect_reads}
 use Rattle.splitter_tree.specs.Ahead.{marked_in, HasGrown, IsPathMarked}
 use Rattle.splitter_tree.specs.PlacesLaw.{walker_in}
 use Rattle.splitter_tree.specs.CollectLaw.{CollectObject, with_moment, one_begun}
-use Rattle.splitter_tree.proofs.Counting.{count_le, count_set}
+use Rattle.step_memory.proofs.CountLemmas.{count_le, count_set}
 use Rattle.splitter_tree.proofs.WalkLemmas.{place_from}
 use Rattle.splitter_tree.proofs.UnderWay.{UnderWay, under_way_later, TellsOf}
 use Rattle.splitter_tree.proofs.ConsistentKept.{begun, gone_on, elsewhere, segments}

@@ -23,7 +23,8 @@ use Rattle.splitter_tree.specs.TreeMemory.{word_in, segment_in, mark_at, name_at
 use Rattle.splitter_tree.specs.Walk.{left_child, right_child, walker_at, walk_of, in_words, told, next_access, visit_on, walked_to, walker_after}
 use Rattle.splitter_tree.specs.Consistent.{NodesAgree, IsConsistent}
 use Rattle.splitter_tree.proofs.AgreeKept.{right_entered, down_entered, marked_node, stayed, moved_down, moved_right, joined, agree_new}
-use Rattle.splitter_tree.proofs.DepthBound.{bool_cases, halves, small_place}
+use Rattle.splitter_tree.proofs.DepthBound.{halves, small_place}
+use Rattle.std.proofs.lemmas.Bool.{cases_Bool}
 
 module _ (b : ℕ) (mark name taken : ℕ → ℕ) (walker : ℕ → Option Walker) (g : NodesAgree b mark name taken walker) where
   -- to whose node someone came, its parent is marked
@@ -207,21 +208,21 @@ module _ {S : Type 0} (memory : MemorySteps S TreeRegister TreeValue) (most b : 
 
     -- an access of a walk
     pub gone_on : GoesOn (next_access u)
-    gone_on = elim (bool_cases u.is_marking) [
+    gone_on = elim (cases_Bool u.is_marking) [
       | inl m ↦ subst GoesOn (sym (marking_is m)) (marks_on m)
       | inr m ↦ subst GoesOn (sym (visit_is m)) (visits_on m)
     ]
 
     -- it leaves the segments
     pub segments : (k : ℕ) → segment_at memory (memory.after s (next_access u)) k ≡ segment_at memory s k
-    segments k = elim (bool_cases u.is_marking) [
+    segments k = elim (cases_Bool u.is_marking) [
       | inl m ↦ subst (λ (a : Access TreeRegister TreeValue). segment_at memory (memory.after s a) k ≡ segment_at memory s k) (sym (marking_is m)) (segment_spared memory tree s (Write (Mark u.place) (Word 1)) k (λ h. absurd (cc)))
       | inr m ↦ subst (λ (a : Access TreeRegister TreeValue). segment_at memory (memory.after s a) k ≡ segment_at memory s k) (sym (visit_is m)) (segments_by_visit memory tree s p u.place ((c.agree.walks p u is).marked m) u.visitor.stage k)
     ]
 
     -- it marks the node before which it stands, and leaves the other marks
     pub marks : (k : ℕ) → (mark_at memory (memory.after s (next_access u)) k ≡ 1) ↔ (((u.is_marking ≡ true) × (u.place ≡ k)) ⊎ (mark_at memory s k ≡ 1))
-    marks k = elim (bool_cases u.is_marking) [
+    marks k = elim (cases_Bool u.is_marking) [
       | inl m ↦
           let now : mark_at memory (memory.after s (next_access u)) k ≡ set_at (mark_at memory s) u.place 1 k = ap (λ (a : Access TreeRegister TreeValue). mark_at memory (memory.after s a) k) (marking_is m) ∙ ap (λ (f : ℕ → ℕ). f k) (marks_by_marking memory tree s u.place (reaches p u is)) in
           elim (eqb_tells k u.place) [
@@ -244,7 +245,7 @@ module _ {S : Type 0} (memory : MemorySteps S TreeRegister TreeValue) (most b : 
     pub refused : memory.may_refuse s (next_access u) ≡ true → (u.is_marking ≡ true) × (mark_at memory s u.place ≡ 0)
     refused h =
         let x = tree.refuses s (next_access u) h in
-        elim (bool_cases u.is_marking) [
+        elim (cases_Bool u.is_marking) [
           | inl m ↦ (m, (let one : Access TreeRegister TreeValue = Write (Mark u.place) (Word 1) in let same : one ≡ Write (Mark x.0) x.1 = sym (marking_is m) ∙ x.2 in let own : u.place ≡ x.0 = cc in rw own x.3))
           | inr m ↦ absurd (no_marking u.visitor.stage x.0 x.1 (sym (visit_is m) ∙ x.2))
         ]

@@ -2,6 +2,8 @@
 use Rattle.std.proofs.Common.{◌≡◌, ℕ, zero, suc, ◌+◌, ◌-◌, ◌*◌, ◌/◌, ◌^◌, ◌<◌, ◌≤◌, min, Bool, true, false, ◌==◌, not, ◌⊎◌, inl, inr, List, [], ◌∷◌, length, get_or, Option, refl, sym, ap, subst, ◌∙◌, arith}
 use Rattle.std.specs.Prelude.{if◌then◌else◌}
 use Rattle.std.proofs.Math.Nat.{pow-succ'}
+use Rattle.std.proofs.lemmas.Bool.{cases_Bool}
+use Rattle.splitter.proofs.StageLemmas.{gone_right, gone_down}
 use Rattle.std.proofs.lemmas.Bool.Decides.{eqb_tells, leb_tells}
 use Rattle.splitter.specs.declared.way.Way.TheVariants.{Stop, Right, Down}
 use Rattle.splitter.specs.declared.stage.Stage.{Stage}
@@ -16,10 +18,6 @@ use Rattle.splitter_tree.specs.Depth.{depth_in, depth_of}
 use Rattle.splitter_tree.specs.Consistent.{NodesAgree}
 use Rattle.splitter_tree.proofs.AgreeKept.{right_entered, down_entered}
 
-pub bool_cases : (t : Bool) → (t ≡ true) ⊎ (t ≡ false)
-bool_cases true = inl refl
-bool_cases false = inr refl
-
 -- how many of a list pass a test
 count_in : (ℕ → Bool) → List ℕ → ℕ
 count_in f [] = 0
@@ -28,7 +26,7 @@ count_in f (p ∷ ids) = (if f p then 1 else 0) + count_in f ids
 count_in-length : (f : ℕ → Bool) (ids : List ℕ) → count_in f ids ≤ length ids
 unfolding count_in
 count_in-length f [] = omega arith
-count_in-length f (p ∷ ids) = let rest = count_in-length f ids in elim (bool_cases (f p)) [ inl e ↦ rw e (omega arith) | inr e ↦ rw e (omega arith) ]
+count_in-length f (p ∷ ids) = let rest = count_in-length f ids in elim (cases_Bool (f p)) [ inl e ↦ rw e (omega arith) | inr e ↦ rw e (omega arith) ]
 
 -- two tests of which no number passes both, and one that all of these pass
 count_in-both : (f g h : ℕ → Bool) (ids : List ℕ) → ((p : ℕ) → f p ≡ true → h p ≡ true) → ((p : ℕ) → g p ≡ true → h p ≡ true) → ((p : ℕ) → f p ≡ true → g p ≡ true → ⊥) → count_in f ids + count_in g ids ≤ count_in h ids
@@ -36,11 +34,11 @@ unfolding count_in
 count_in-both f g h [] fh gh apart = omega arith
 count_in-both f g h (p ∷ ids) fh gh apart =
     let rest = count_in-both f g h ids fh gh apart in
-    elim (bool_cases (f p)) [
-      | inl a ↦ elim (bool_cases (g p)) [ inl c ↦ absurd (apart p a c) | inr c ↦ let t = fh p a in rw (a, c, t) (omega arith) ]
-      | inr a ↦ elim (bool_cases (g p)) [
+    elim (cases_Bool (f p)) [
+      | inl a ↦ elim (cases_Bool (g p)) [ inl c ↦ absurd (apart p a c) | inr c ↦ let t = fh p a in rw (a, c, t) (omega arith) ]
+      | inr a ↦ elim (cases_Bool (g p)) [
         | inl c ↦ let t = gh p c in rw (a, c, t) (omega arith)
-        | inr c ↦ elim (bool_cases (h p)) [ inl t ↦ rw (a, c, t) (omega arith) | inr t ↦ rw (a, c, t) (omega arith) ]
+        | inr c ↦ elim (cases_Bool (h p)) [ inl t ↦ rw (a, c, t) (omega arith) | inr t ↦ rw (a, c, t) (omega arith) ]
       ]
     ]
 
@@ -61,15 +59,15 @@ count_in-fewer f h (q ∷ ids) zero p fh l e t n =
     rw (yes_h, no_f) (omega arith)
 count_in-fewer f h (q ∷ ids) (suc i) p fh l e t n =
     let rest = count_in-fewer f h ids i p fh (omega arith) e t n in
-    elim (bool_cases (f q)) [
+    elim (cases_Bool (f q)) [
       | inl a ↦ let c = fh q a in rw (a, c) (omega arith)
-      | inr a ↦ elim (bool_cases (h q)) [ inl c ↦ rw (a, c) (omega arith) | inr c ↦ rw (a, c) (omega arith) ]
+      | inr a ↦ elim (cases_Bool (h q)) [ inl c ↦ rw (a, c) (omega arith) | inr c ↦ rw (a, c) (omega arith) ]
     ]
 
 count_in-witness : (f : ℕ → Bool) (ids : List ℕ) → 1 ≤ count_in f ids → (p : ℕ) × (f p ≡ true)
 unfolding count_in
 count_in-witness f [] l = absurd (omega arith)
-count_in-witness f (p ∷ ids) l = elim (bool_cases (f p)) [
+count_in-witness f (p ∷ ids) l = elim (cases_Bool (f p)) [
   | inl e ↦ (p, e)
   | inr e ↦ count_in-witness f ids (let k : 1 ≤ 0 + count_in f ids = rw e at l in omega arith)
 ]
@@ -78,9 +76,9 @@ count_to-fewer : (f h : ℕ → Bool) (n : ℕ) → ((k : ℕ) → f k ≡ true 
 count_to-fewer f h zero fh = omega arith
 count_to-fewer f h (suc n) fh =
     let rest = count_to-fewer f h n fh in
-    elim (bool_cases (f n)) [
+    elim (cases_Bool (f n)) [
       | inl a ↦ let c = fh n a in rw (a, c) (omega arith)
-      | inr a ↦ elim (bool_cases (h n)) [ inl c ↦ rw (a, c) (omega arith) | inr c ↦ rw (a, c) (omega arith) ]
+      | inr a ↦ elim (cases_Bool (h n)) [ inl c ↦ rw (a, c) (omega arith) | inr c ↦ rw (a, c) (omega arith) ]
     ]
 
 -- the sum of the first n numbers of a row
@@ -158,24 +156,6 @@ below_power (suc d) k l =
       | inr e ↦ let m = e.1 in let deeper = depth_step k (omega arith) in let before = below_power d (k / 2) (omega arith) in omega arith
     ]
 
-pub gone_right : (s : Stage) → went_right s ≡ true → s ≡ Gone Right
-gone_right Outside h = absurd (cc)
-gone_right WroteName h = absurd (cc)
-gone_right SawClear h = absurd (cc)
-gone_right WroteMark h = absurd (cc)
-gone_right (Gone Stop) h = absurd (cc)
-gone_right (Gone Right) h = refl
-gone_right (Gone Down) h = absurd (cc)
-
-pub gone_down : (s : Stage) → went_down s ≡ true → s ≡ Gone Down
-gone_down Outside h = absurd (cc)
-gone_down WroteName h = absurd (cc)
-gone_down SawClear h = absurd (cc)
-gone_down WroteMark h = absurd (cc)
-gone_down (Gone Stop) h = absurd (cc)
-gone_down (Gone Right) h = absurd (cc)
-gone_down (Gone Down) h = refl
-
 -- a number is twice its half, or one more
 pub halves : (k : ℕ) → (k ≡ 2 * (k / 2)) ⊎ (k ≡ 2 * (k / 2) + 1)
 halves k = elim (leb_tells k (2 * (k / 2))) [ inl l ↦ inl (let m = l.1 in omega arith) | inr l ↦ inr (let m = l.1 in omega arith) ]
@@ -209,7 +189,7 @@ module _ (b : ℕ) (mark name taken : ℕ → ℕ) (walker : ℕ → Option Walk
       let came : g.came k x.0 ≡ true = g.entered k x.0 x.1 in
       let at = g.listed k x.0 came in
       count_in-fewer (g.came (2 * k)) (g.came k) g.identities at.0 x.0 (λ q. from_down k q l) at.1 at.2 came
-      (elim (bool_cases (g.came (2 * k) x.0)) [ inl y ↦ absurd (x.2 (gone_down (g.stage k x.0) (g.came_down k x.0 l y))) | inr n ↦ n ])
+      (elim (cases_Bool (g.came (2 * k) x.0)) [ inl y ↦ absurd (x.2 (gone_down (g.stage k x.0) (g.came_down k x.0 l y))) | inr n ↦ n ])
 
   fewer_right : (k p : ℕ) → 1 ≤ k → g.came (2 * k + 1) p ≡ true → comers (2 * k + 1) + 1 ≤ comers k
   unfolding comers
@@ -218,7 +198,7 @@ module _ (b : ℕ) (mark name taken : ℕ → ℕ) (walker : ℕ → Option Walk
       let came : g.came k x.0 ≡ true = g.entered k x.0 x.1 in
       let at = g.listed k x.0 came in
       count_in-fewer (g.came (2 * k + 1)) (g.came k) g.identities at.0 x.0 (λ q. from_right k q l) at.1 at.2 came
-      (elim (bool_cases (g.came (2 * k + 1) x.0)) [ inl y ↦ absurd (x.2 (gone_right (g.stage k x.0) (g.came_right k x.0 l y))) | inr n ↦ n ])
+      (elim (cases_Bool (g.came (2 * k + 1) x.0)) [ inl y ↦ absurd (x.2 (gone_right (g.stage k x.0) (g.came_right k x.0 l y))) | inr n ↦ n ])
 
   some_comers : (k p : ℕ) → g.came k p ≡ true → 1 ≤ comers k
   unfolding comers

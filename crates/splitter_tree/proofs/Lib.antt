@@ -3,7 +3,6 @@ pub mod Climbing
 pub mod OrderLemmas
 pub mod OpenLemmas
 pub mod WalkLemmas
-pub mod Counting
 pub mod ReadCount
 pub mod Ways
 pub mod Below
@@ -28,3 +27,6 @@ pub mod AfterLemmas
 pub mod StoreLemmas
 pub mod LocalStore
 pub mod LawsAfter
+pub mod DueTied
+pub mod StandAlike
+pub mod OwnAccesses

@@ -16,7 +16,7 @@ use Rattle.splitter_tree.specs.Consistent.{IsConsistent, IsTree, was_made}
 use Rattle.splitter_tree.specs.Count.{count_to}
 use Rattle.splitter_tree.specs.CollectWalk.{first_walk}
 use Rattle.splitter_tree.specs.Ahead.{marked_in, found_by, Sees, HasGrown, HasRead, IsPathMarked, IsAhead}
-use Rattle.splitter_tree.proofs.Counting.{count_le}
+use Rattle.step_memory.proofs.CountLemmas.{count_le}
 use Rattle.splitter_tree.proofs.Numbers.{small_fits}
 use Rattle.splitter_tree.proofs.WalkLemmas.{ahead_at_first}
 use Rattle.splitter_tree.proofs.ReadCount.{reads_few, nodes_few}

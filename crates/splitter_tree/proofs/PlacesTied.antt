@@ -20,8 +20,9 @@ use Rattle.step_memory.specs.SetAt.{set_at}
 use Rattle.step_memory.specs.World.{begin_refusal, begun_unless, done_unless, after_set, got_by}
 use Rattle.step_memory.specs.Calls.{Call, steps_of, steps_by, outcome_of, outcome_by, begun_in, begun_by, lacked_memory}
 use Rattle.step_memory.specs.Calls.Call.{Began, Stepped}
+use Rattle.step_memory.specs.Due.{EndsOnce}
 use Rattle.step_memory.proofs.RunLemmas.{run_keeps}
-use Rattle.step_memory.proofs.SetAtLemmas.{set_at-same, set_at-other, set_at-cases}
+use Rattle.step_memory.proofs.SetAtLemmas.{set_at-same, set_at-other, set_at-cases, set_at-map, same_in}
 use Rattle.step_memory.proofs.ParticipantLemmas.{participant_of-push, participant_of-put, length-with_participant}
 use Rattle.step_memory.proofs.WorldKeeps.{steps_of-push, begun_in-push, outcome_of-push, first_of-none, IsLetIn}
 pub use Rattle.step_memory.proofs.WorldKeeps.{let_in}
@@ -47,7 +48,7 @@ use Rattle.splitter_tree.specs.TreeCalls.{TreeCall, next, IsReply, IsAfter}
 use Rattle.splitter_tree.specs.TreeCalls.TreeCall.{Began as TreeBegan, Stepped as TreeStepped, Stored, CollectBegan, CollectStepped}
 use Rattle.splitter_tree.specs.Consistent.{IsConsistent, IsTree, accesses_of, accesses_by}
 use Rattle.splitter_tree.specs.PlacesLaw.{way_calls, KeepsPlacesLaw, walker_in, walkers}
-use Rattle.splitter_tree.proofs.DepthBound.{bool_cases}
+use Rattle.std.proofs.lemmas.Bool.{cases_Bool}
 use Rattle.splitter_tree.proofs.ConsistentKept.{consistent_new, begun, gone_on, elsewhere}
 use Rattle.splitter_tree.proofs.TreeLaw.{tree_law, nearer}
 use Rattle.splitter_tree.proofs.WalkerLemmas.{visit_after, visit_note, marking_after, marking_note}
@@ -60,7 +61,7 @@ pub record IsClientOf (p : ℕ) (v : Participant Client) : Type 0 where
   pub task : is_placing v.program.task ≡ not (is_some (place_of v.program.walker))
 
 -- the way to the places of calls, one more at the end
-way_calls-more : (r : List TreeCall) (h : TreeCall) → way_calls (r ++ h ∷ []) ≡ way_calls r ++ way_calls (h ∷ [])
+pub way_calls-more : (r : List TreeCall) (h : TreeCall) → way_calls (r ++ h ∷ []) ≡ way_calls r ++ way_calls (h ∷ [])
 way_calls-more [] h = refl
 way_calls-more (TreeBegan id reply ∷ r) h = ap (λ (c : List (Call (Option ℕ))). Began id reply ∷ c) (way_calls-more r h)
 way_calls-more (TreeStepped id reply ∷ r) h = ap (λ (c : List (Call (Option ℕ))). Stepped id reply ∷ c) (way_calls-more r h)
@@ -72,13 +73,6 @@ way_calls-more (CollectStepped id reply ∷ r) h = way_calls-more r h
 no_way : (r : List TreeCall) (h : TreeCall) → way_calls (h ∷ []) ≡ [] → way_calls (r ++ h ∷ []) ≡ way_calls r
 no_way r h none = way_calls-more r h ∙ ap (λ c. way_calls r ++ c) none ∙ append-nil (way_calls r)
 
-set_at-map : {X Y : Type 0} (g : X → Y) (f : ℕ → X) (p : ℕ) (s : X) (q : ℕ) → g (set_at f p s q) ≡ set_at (λ u. g (f u)) p (g s) q
-set_at-map g f p s q = elim (q == p) as (λ b. g (cond b s (f q)) ≡ cond b (g s) (g (f q))) [ true ↦ refl | false ↦ refl ]
-
--- what is said alike of one who has not begun and of one who has just begun
-same_in : {X : Type 0} (say : Option Walker → X) (walker : ℕ → Option Walker) (id : ℕ) (new : Walker) (p : ℕ) → walker id ≡ None → say None ≡ say (Some new) → say (walker p) ≡ say (set_at walker id (Some new) p)
-same_in say walker id new p absent same = set_at-cases walker id (Some new) (λ o. say (walker p) ≡ say o) p (λ e. ap say (ap walker e ∙ absent) ∙ same) (λ _. refl)
-
 -- what one does who is on its way
 pub placing_access : (c : Client) (t : Task) → is_placing t ≡ true → access_for c t ≡ next_access c.walker
 placing_access c Placing h = refl
@@ -86,7 +80,7 @@ placing_access c Nothing h = absurd (cc)
 placing_access c (Storing value) h = absurd (cc)
 placing_access c (Collecting collect) h = absurd (cc)
 
-placing_goes : (c : Client) (t : Task) (got : Answer TreeValue) → is_placing t ≡ true → (after_for c t got ≡ placing_after c got) × (note_for c t got ≡ placed_note (walker_note c.walker got))
+pub placing_goes : (c : Client) (t : Task) (got : Answer TreeValue) → is_placing t ≡ true → (after_for c t got ≡ placing_after c got) × (note_for c t got ≡ placed_note (walker_note c.walker got))
 placing_goes c Placing got h = (refl, refl)
 placing_goes c Nothing got h = absurd (cc)
 placing_goes c (Storing value) got h = absurd (cc)
@@ -152,13 +146,13 @@ stage_placed u (Gone Right) = refl
 stage_placed u (Gone Down) = refl
 
 place_is_told : (u : Walker) (got : Answer TreeValue) → place_of u ≡ None → place_told (placed_note (walker_note u got)) ≡ place_of (walker_after u got)
-place_is_told u got on = elim (bool_cases u.is_marking) [
+place_is_told u got on = elim (cases_Bool u.is_marking) [
   | inl m ↦ ap (λ n. place_told (placed_note n)) (marking_note u got m) ∙ sym (ap place_of (marking_after u got m) ∙ on)
   | inr m ↦ ap (λ n. place_told (placed_note n)) (visit_note u got m) ∙ stage_place u (stage_by u.visitor (told got)) ∙ sym (ap place_of (visit_after u got m))
 ]
 
 pub end_is_told : (u : Walker) (got : Answer TreeValue) → place_of u ≡ None → is_placed (walker_note u got) ≡ is_some (place_of (walker_after u got))
-end_is_told u got on = elim (bool_cases u.is_marking) [
+end_is_told u got on = elim (cases_Bool u.is_marking) [
   | inl m ↦ ap is_placed (marking_note u got m) ∙ sym (ap is_some (ap place_of (marking_after u got m) ∙ on))
   | inr m ↦ ap is_placed (visit_note u got m) ∙ stage_placed u (stage_by u.visitor (told got)) ∙ sym (ap is_some (ap place_of (visit_after u got m)))
 ]
@@ -340,7 +334,7 @@ module _ {S : Type 0} (memory : MemorySteps S TreeRegister TreeValue) (tree : Is
   write_spares (Some place) x = (λ k h. absurd (cc), λ k h. absurd (cc), λ k h. absurd (cc))
 
   -- who is put twice stands as at the second time
-  put_twice : (f : ℕ → Option (Participant Client)) (id : ℕ) (one two : Option (Participant Client)) (q : ℕ) → set_at (set_at f id one) id two q ≡ set_at f id two q
+  pub put_twice : (f : ℕ → Option (Participant Client)) (id : ℕ) (one two : Option (Participant Client)) (q : ℕ) → set_at (set_at f id one) id two q ≡ set_at f id two q
   put_twice f id one two q = set_at-cases f id two (λ o. set_at (set_at f id one) id two q ≡ o) q
       (λ e. ap (set_at (set_at f id one) id two) e ∙ set_at-same (set_at f id one) id two)
       (λ n. set_at-other (set_at f id one) id two q n ∙ set_at-other f id one q n)
@@ -469,12 +463,13 @@ module _ {S : Type 0} (memory : MemorySteps S TreeRegister TreeValue) (tree : Is
   tree_of_tied w r t = subst (λ (n : ℕ). IsTree memory n w.memory (walkers w.participants)) (sym t.begun_is) (tree_law memory w.most (length w.participants) w.memory (walkers w.participants) t.consistent)
 
   -- the steps of one are at most the accesses that its walk may have made, so the law of the walks is that of the calls
-  pub law_of_tied : (w : TreeState S) (r : List TreeCall) → IsTied w r → KeepsPlacesLaw r
-  law_of_tied w r t =
+  pub law_of_tied : (w : TreeState S) (r : List TreeCall) → IsTied w r → EndsOnce is_some (way_calls r) → KeepsPlacesLaw r
+  law_of_tied w r t once =
       let law = tree_of_tied w r t in
       record {
         distinct = λ p q place h k. law.distinct p q place (sym (t.outcomes p) ∙ h) (sym (t.outcomes q) ∙ k);
         within = λ p place h. law.within p place (sym (t.outcomes p) ∙ h);
         at_most = λ p. omega (arith, t.steps p, law.at_most p);
         last_places = λ p some all. rw (t.outcomes p) (law.last_places p (omega (arith, t.steps p, some)) (omega (arith, t.steps p, law.at_most p, all)));
+        ends_once = once;
       }

@@ -8,7 +8,7 @@ use Rattle.splitter_tree.specs.CollectWalk.{first_walk, place_read, walk_at, nod
 use Rattle.splitter_tree.specs.Count.{count_to}
 use Rattle.splitter_tree.specs.NodeOrder.{IsUnder, IsRightOf, IsFrom}
 use Rattle.splitter_tree.specs.Ahead.{Sees, HasGrown, HasRead, IsUpcoming, open_at}
-use Rattle.splitter_tree.proofs.Counting.{count_none, count_le, count_more}
+use Rattle.step_memory.proofs.CountLemmas.{count_none, count_le, count_more}
 use Rattle.splitter_tree.proofs.OrderLemmas.{under_itself, follows, left_from, not_from_left, not_right_of_itself}
 use Rattle.splitter_tree.proofs.OpenLemmas.{open_child, open_after}
 use Rattle.splitter_tree.proofs.WalkLemmas.{place_from, goes, after_is_node}

@@ -15,7 +15,7 @@ use Rattle.splitter_tree.specs.Collect.{first_collect, view_with, collect_after}
 use Rattle.splitter_tree.specs.Count.{count_to}
 use Rattle.splitter_tree.specs.NodeOrder.{IsUnder}
 use Rattle.splitter_tree.specs.Ahead.{Sees, HasGrown, HasRead, IsPathMarked, IsUpcoming, IsAhead}
-use Rattle.splitter_tree.proofs.Counting.{count_le, count_more}
+use Rattle.step_memory.proofs.CountLemmas.{count_le, count_more}
 use Rattle.splitter_tree.proofs.OrderLemmas.{under_itself}
 use Rattle.splitter_tree.proofs.WalkLemmas.{ahead_at_first, ahead_kept, ahead_resumed, upcoming_before, read_once, place_from}
 use Rattle.splitter_tree.proofs.ReadCount.{read_at_first, read_kept, read_resumed}

@@ -16,5 +16,6 @@ pub mod TreeWorld
 pub mod TreeCalls
 pub mod Run
 pub mod PlacesLaw
+pub mod TreeDue
 pub mod CollectLaw
 pub mod Made

@@ -1,5 +1,5 @@
 -- a walk from node to node of a tree
-use Rattle.std.specs.Prelude.{ℕ, ◌+◌, ◌-◌, ◌*◌, ◌^◌, min, true, false, if◌then◌else◌, Option, Some, None}
+use Rattle.std.specs.Prelude.{◌≡◌, ℕ, ◌+◌, ◌-◌, ◌*◌, ◌^◌, min, true, false, if◌then◌else◌, Option, Some, None}
 use Rattle.step_memory.specs.declared.access.Access.{Access}
 use Rattle.step_memory.specs.declared.access.Access.TheVariants.{Read, Write, TestAndSet, Clear, Nothing}
 use Rattle.step_memory.specs.declared.access.Answer.{Answer}
@@ -101,3 +101,8 @@ place_of u = place_at_node u.place u.visitor.stage
 abbrev pub place_by : Option Walker → Option ℕ
 place_by None = None
 place_by (Some u) = place_of u
+
+-- the walk's visit is to the registers of the node before which it stands
+pub record StandsAtNode (u : Walker) : Type 0 where
+  pub name : u.visitor.name ≡ Name u.place
+  pub mark : u.visitor.mark ≡ Taken u.place

@@ -3,7 +3,7 @@
 
 ghost use Rattle.std.specs.Prelude.{◌≡◌, ℕ, ◌+◌, ◌-◌, ◌*◌, ◌≤◌, ◌⊎◌, Bool, true, false, if◌then◌else◌, List, Option, Some};
 ghost use Rattle.splitter_tree.specs.Ahead.{HasGrown, HasRead, marked_in, found_by, IsAhead, IsPathMarked, IsUpcoming, Sees};
-ghost use Rattle.splitter_tree.specs.CollectLaw.{KeepsCollectLaw};
+ghost use Rattle.splitter_tree.specs.CollectLaw.{Allows, CollectObject, KeepsCollectLaw, new_object, observed};
 ghost use Rattle.splitter_tree.specs.CollectWalk.{first_walk, register_read, place_read, finds_mark, walk_resumed, walk_is_over};
 ghost use Rattle.splitter_tree.specs.Consistent.{IsConsistent};
 ghost use Rattle.splitter_tree.specs.Count.{count_to};
@@ -11,14 +11,20 @@ ghost use Rattle.splitter_tree.specs.TreeCalls.{TreeCall, IsAfter};
 ghost use Rattle.splitter_tree.specs.TreeMemory.{IsTreeMemory, IsEmptyTree};
 ghost use Rattle.splitter_tree.specs.TreeWorld.{TreeState};
 ghost use Rattle.splitter_tree.specs.Walk.{next_access, place_by};
+ghost use Rattle.splitter_tree.specs.declared.client.Client.{Client};
+ghost use Rattle.splitter_tree.specs.declared.client.Task.TheVariants.{Collecting};
+ghost use Rattle.splitter_tree.specs.declared.collect.Collect.{Collect};
 ghost use Rattle.splitter_tree.specs.declared.collect_walk.CollectWalk.{CollectWalk};
 ghost use Rattle.splitter_tree.specs.declared.register.TreeRegister.{TreeRegister};
 ghost use Rattle.splitter_tree.specs.declared.register.TreeRegister.TheVariants.{Contents};
 ghost use Rattle.splitter_tree.specs.declared.register.TreeValue.{TreeValue};
 ghost use Rattle.splitter_tree.specs.declared.register.TreeValue.TheVariants.{Contents as Held};
 ghost use Rattle.splitter_tree.specs.declared.walker.Walker.{Walker};
+ghost use Rattle.step_memory.specs.Participant.{participant_of};
+ghost use Rattle.step_memory.specs.Runs.{Run};
 ghost use Rattle.step_memory.specs.Steps.{MemorySteps};
 ghost use Rattle.step_memory.specs.declared.access.Access.TheVariants.{Write};
+ghost use Rattle.step_memory.specs.declared.participant.Participant.{Participant};
 ghost use Rattle.step_memory.specs.declared.record.Record.{Record};
 
 /// A law, which runs nothing. A walk surely reads the segment of every node whose path from the root was marked when it
@@ -56,7 +62,9 @@ pub fn law_of_collects_at_places<S>()
 
 /// A law, which runs nothing: over any memory that is a tree, the calls that its world may be after, with their replies,
 /// keep the law of collects. A view shows what each had stored last at some moment of the collect, and whoever had stored
-/// before it began; and where b have begun, a collect takes at most 6b - 2 steps.
+/// before it began; and where b have begun, a collect takes at most 6b - 2 steps. One that is under way, and has found
+/// `nodes` nodes marked, comes with its next step to at most `3 nodes + 1` of them.
 pub fn law_of_collect_calls<S>()
-    ensures { (memory : MemorySteps S TreeRegister TreeValue) (first : S) (w : TreeState S) (r : List TreeCall) → IsTreeMemory memory → IsEmptyTree memory first → w.most ≤ 64 → IsAfter memory first w r → KeepsCollectLaw r }
+    ensures law { (memory : MemorySteps S TreeRegister TreeValue) (first : S) (w : TreeState S) (r : List TreeCall) → IsTreeMemory memory → IsEmptyTree memory first → w.most ≤ 64 → IsAfter memory first w r → KeepsCollectLaw r }
+    ensures reads { (memory : MemorySteps S TreeRegister TreeValue) (first : S) (w : TreeState S) (r : List TreeCall) (o : CollectObject) (p : ℕ) (v : Participant Client) (c : Collect) → IsTreeMemory memory → IsEmptyTree memory first → w.most ≤ 64 → IsAfter memory first w r → Run observed Allows new_object r o → participant_of p w.participants ≡ Some v → v.program.task ≡ Collecting c → (nodes : ℕ) × HasRead (marked_in memory w.memory) c.walk nodes (o.steps p) × (o.steps p + 1 ≤ 3 * nodes + 1) }
 {}

@@ -37,6 +37,7 @@ pub mod collect_law;
 pub mod collect_walk;
 pub mod door;
 pub mod law;
+pub mod laws;
 pub mod node;
 pub mod places_law;
 pub mod register;
@@ -54,6 +55,7 @@ pub use collect_law::{law_of_collect_calls, law_of_collects, law_of_collects_at_
 pub use collect_walk::CollectWalk;
 pub use door::Door;
 pub use law::law_of_nodes_and_walks;
+pub use laws::{law_of_own_accesses, law_of_tree_calls};
 pub use node::{Link, Node};
 pub use places_law::law_of_places;
 pub use register::{TreeRegister, TreeValue};

@@ -3,7 +3,8 @@
 use crate::world::TreeWorld;
 use crate::{
     Client, TreeRegister, TreeValue, Walker, law_of_collect_calls, law_of_collects,
-    law_of_collects_at_places, law_of_nodes_and_walks, law_of_places, law_of_tree_memory,
+    law_of_collects_at_places, law_of_nodes_and_walks, law_of_own_accesses, law_of_places,
+    law_of_tree_calls, law_of_tree_memory,
 };
 use linked_list_allocator::LocalHeap;
 use std::alloc::Allocator;
@@ -103,7 +104,8 @@ fn refusals_in_their_order(rt: HostRuntime) -> Result<(), Fail> {
 
 #[test]
 fn ranges_of_a_tree(rt: HostRuntime) {
-    for (most, fits) in [(0, false), (1, true), (16, true), (17, false)] {
+    for most in 0..18 {
+        let fits = (1..17).contains(&most);
         match TreeWorld::new(rt.alloc(), most) {
             Ok(_) => assert!(rt; fits, "at {most}"),
             Err(refusal) => {
@@ -112,6 +114,22 @@ fn ranges_of_a_tree(rt: HostRuntime) {
             }
         }
     }
+}
+
+#[test]
+fn sixteen_down_the_deepest_walk(rt: HostRuntime) -> Result<(), Fail> {
+    let mut world = TreeWorld::new(rt.alloc(), 16)?;
+    let mut place = 1;
+    let mut passed = 0;
+    for id in 1..17 {
+        assert_eq!(rt; world.begin(id), Ok(()));
+        assert!(rt; walks_to(&mut world, id, 3 * passed + 4, place));
+        assert_eq!(rt; world.step(id), Err(Refusal::Finished));
+        place = place * 2 + 1;
+        passed += 1;
+    }
+    assert_eq!(rt; world.place_of(16), Some(65_535));
+    Ok(())
 }
 
 #[test]
@@ -187,4 +205,6 @@ fn laws_are_called() {
     law_of_collects();
     law_of_collects_at_places::<u64>();
     law_of_collect_calls::<u64>();
+    law_of_tree_calls();
+    law_of_own_accesses();
 }

@@ -6,13 +6,11 @@ ghost use Rattle.splitter_tree.specs.TreeCalls.{TreeCall};
 ghost use Rattle.splitter_tree.specs.TreeCalls.TreeCall.{Began, Stepped, Stored, CollectBegan, CollectStepped};
 ghost use Rattle.splitter_tree.specs.TreeSteps.{tree_steps, empty_tree};
 ghost use Rattle.splitter_tree.specs.TreeWorld.{after_tree_begin, asking_refusal, place_answer, after_placing, may_lack_memory, after_store, after_collect_begin, view_answer, after_collecting, IsLocalStore};
-ghost use Rattle.splitter_tree.specs.CollectLaw.{KeepsCollectLaw};
-ghost use Rattle.splitter_tree.specs.Consistent.{IsTree};
-ghost use Rattle.splitter_tree.specs.PlacesLaw.{KeepsPlacesLaw, way_calls, walkers};
-ghost use Rattle.splitter_tree.specs.Run.{After, TreeWorldState};
+ghost use Rattle.splitter_tree.specs.PlacesLaw.{way_calls};
+ghost use Rattle.splitter_tree.specs.Run.{After, HasLawfulNodes, IsLawful, LeadsOn, RefusesWhereDue, TreeWorldState};
 ghost use Rattle.splitter_tree.specs.Walk.{place_of};
-ghost use Rattle.step_memory.specs.Calls.{begun_in, outcome_of};
-ghost use Rattle.step_memory.specs.Locality.{IsLocal, LookAlike};
+ghost use Rattle.step_memory.specs.Calls.{outcome_of};
+ghost use Rattle.step_memory.specs.Locality.{IsLocal, LookAlike, StandAlike};
 ghost use Rattle.step_memory.specs.Participant.{program_of};
 ghost use Rattle.step_memory.specs.World.{begin_refusal, done_unless};
 
@@ -50,6 +48,7 @@ impl<A: Allocator + Clone> TreeWorld<A> {
     pub fn new(alloc: A, most: usize) -> Result<Self, Refusal>
         ensures fresh { IfOk result (λ w. w ≡ record { memory = empty_tree; most = most; participants = [] }) }
         ensures after { IfOk result (λ w. After w []) }
+        ensures law { IfOk result (λ w. IsLawful w) }
         ensures range { IsOk result → (1 ≤ most) × (most ≤ 16) }
         ensures out_of_range { result ≡ Err Refusal.OutOfRange ↔ ((most < 1) ⊎ (16 < most)) }
         ensures only { IfErr result (λ r. (r ≡ Refusal.NoMemory) ⊎ (r ≡ Refusal.OutOfRange)) }
@@ -71,11 +70,13 @@ impl<A: Allocator + Clone> TreeWorld<A> {
     pub fn begin(&mut self, id: u64) -> Result<(), Refusal>
         ensures answer { result ≡ done_unless (begin_refusal self.old id) }
         ensures state { self.new ≡ after_tree_begin self.old id }
-        ensures after { (r : List TreeCall) → After self.old r → After self.new (r ++ Began id result ∷ []) }
+        ensures refused { OnErr result (self.new ≡ self.old) }
+        ensures after { LeadsOn self.old self.new (Began id result) }
 
-        // The law of the places, over every list of calls and replies that the world may be after.
-        ensures places { (r : List TreeCall) → After self.new r → KeepsPlacesLaw r }
-        ensures nodes { (r : List TreeCall) → After self.new r → IsTree tree_steps (begun_in (way_calls r)) self.new.memory (walkers self.new.participants) }
+        // The law, over every list of calls and replies that the world may be after.
+        ensures law { IsLawful self.new }
+        ensures due { RefusesWhereDue self.new }
+        ensures nodes { HasLawfulNodes self.new }
     {
         self.world.begin(id, Client::new(id))
     }
@@ -88,14 +89,16 @@ impl<A: Allocator + Clone> TreeWorld<A> {
         ensures state { result ≢ Err Refusal.NoMemory → self.new ≡ after_placing tree_steps self.old id }
         ensures refused { OnErr result (self.new ≡ self.old) }
         ensures no_memory { result ≡ Err Refusal.NoMemory → may_lack_memory tree_steps self.old id ≡ true }
-        ensures after { (r : List TreeCall) → After self.old r → After self.new (r ++ Stepped id result ∷ []) }
-        ensures places { (r : List TreeCall) → After self.new r → KeepsPlacesLaw r }
-        ensures nodes { (r : List TreeCall) → After self.new r → IsTree tree_steps (begun_in (way_calls r)) self.new.memory (walkers self.new.participants) }
+        ensures after { LeadsOn self.old self.new (Stepped id result) }
+        ensures law { IsLawful self.new }
+        ensures due { RefusesWhereDue self.new }
+        ensures nodes { HasLawfulNodes self.new }
 
         // Nothing of the world changes but this participant and the register that it names, and in another world that
-        // looks alike to this participant the answer is the same.
+        // looks alike to this participant the answer is the same, and where the participant then stands.
         ensures local { IsLocal client_steps tree_steps id self.old self.new }
         ensures alike { result ≢ Err Refusal.NoMemory → (other : TreeWorldState) → LookAlike client_steps tree_steps id self.old other → result ≡ place_answer tree_steps other id }
+        ensures stands_alike { result ≢ Err Refusal.NoMemory → (other : TreeWorldState) → LookAlike client_steps tree_steps id self.old other → StandAlike id self.new (after_placing tree_steps other id) }
     {
         let Some(client) = self.world.program(id) else {
             return Err(Refusal::NotBegun);
@@ -112,10 +115,12 @@ impl<A: Allocator + Clone> TreeWorld<A> {
     pub fn store(&mut self, id: u64, value: u64) -> Result<(), Refusal>
         ensures answer { result ≡ done_unless (asking_refusal self.old id) }
         ensures state { self.new ≡ after_store tree_steps self.old id value }
-        ensures after { (r : List TreeCall) → After self.old r → After self.new (r ++ Stored id value result ∷ []) }
+        ensures refused { OnErr result (self.new ≡ self.old) }
+        ensures after { LeadsOn self.old self.new (Stored id value result) }
 
-        // The law of collects, over every list of calls and replies that the world may be after.
-        ensures collects { (r : List TreeCall) → After self.new r → KeepsCollectLaw r }
+        // The law, over every list of calls and replies that the world may be after.
+        ensures law { IsLawful self.new }
+        ensures due { RefusesWhereDue self.new }
 
         // Nothing of the world changes but this participant and the segment at its place.
         ensures local { IsLocalStore tree_steps id self.old self.new }
@@ -137,8 +142,10 @@ impl<A: Allocator + Clone> TreeWorld<A> {
     pub fn collect_begin(&mut self, id: u64) -> Result<(), Refusal>
         ensures answer { result ≡ done_unless (asking_refusal self.old id) }
         ensures state { self.new ≡ after_collect_begin self.old id }
-        ensures after { (r : List TreeCall) → After self.old r → After self.new (r ++ CollectBegan id result ∷ []) }
-        ensures collects { (r : List TreeCall) → After self.new r → KeepsCollectLaw r }
+        ensures refused { OnErr result (self.new ≡ self.old) }
+        ensures after { LeadsOn self.old self.new (CollectBegan id result) }
+        ensures law { IsLawful self.new }
+        ensures due { RefusesWhereDue self.new }
     {
         let Some(client) = self.world.program(id) else {
             return Err(Refusal::NotBegun);
@@ -155,10 +162,13 @@ impl<A: Allocator + Clone> TreeWorld<A> {
     pub fn collect_step(&mut self, id: u64) -> Result<Option<View>, Refusal>
         ensures answer { result ≡ view_answer tree_steps self.old id }
         ensures state { self.new ≡ after_collecting tree_steps self.old id }
-        ensures after { (r : List TreeCall) → After self.old r → After self.new (r ++ CollectStepped id result ∷ []) }
-        ensures collects { (r : List TreeCall) → After self.new r → KeepsCollectLaw r }
+        ensures refused { OnErr result (self.new ≡ self.old) }
+        ensures after { LeadsOn self.old self.new (CollectStepped id result) }
+        ensures law { IsLawful self.new }
+        ensures due { RefusesWhereDue self.new }
         ensures local { IsLocal client_steps tree_steps id self.old self.new }
         ensures alike { (other : TreeWorldState) → LookAlike client_steps tree_steps id self.old other → result ≡ view_answer tree_steps other id }
+        ensures stands_alike { (other : TreeWorldState) → LookAlike client_steps tree_steps id self.old other → StandAlike id self.new (after_collecting tree_steps other id) }
     {
         let Some(client) = self.world.program(id) else {
             return Err(Refusal::NotBegun);

@@ -1,8 +1,10 @@
 pub mod Found
 pub mod SetAtLemmas
+pub mod CountLemmas
 pub mod ParticipantLemmas
 pub mod StepLemmas
 pub mod LocalityLemmas
 pub mod RunLemmas
 pub mod WorldKeeps
+pub mod DueLemmas
 pub mod ViewLemmas

@@ -1,7 +1,8 @@
 -- runs, one call after another
-use Rattle.std.proofs.Common.{List, [], ◌∷◌, ◌++◌, sym, ap, subst, append_assoc}
+use Rattle.std.proofs.Common.{◌≡◌, List, [], ◌∷◌, ◌++◌, refl, sym, ap, subst, ◌∙◌, append_assoc}
 use Rattle.std.proofs.lemmas.List.{append-nil}
 use Rattle.step_memory.specs.Runs.{Run}
+use Rattle.step_memory.specs.Replay.{replay_from}
 
 module _ {S H : Type 0} (next : S → H → S) (Right : S → H → Type 0) where
   -- a run goes on by one call
@@ -15,3 +16,17 @@ module _ {S H : Type 0} (next : S → H → S) (Right : S → H → Type 0) wher
   run_keeps Inv keeps s past (h ∷ r) end i e =
       subst (λ (xs : List H). Inv end xs) (append_assoc past (h ∷ []) r)
       (run_keeps Inv keeps (next s h) (past ++ h ∷ []) r end (keeps s past h i e.0) e.1)
+
+  -- a run over two lists, one after the other, is a run over each
+  pub run_splits : (s : S) (r t : List H) (end : S) → Run next Right s (r ++ t) end → (mid : S) × Run next Right s r mid × Run next Right mid t end
+  run_splits s [] t end e = (s, refl, e)
+  run_splits s (h ∷ r) t end e = let rest = run_splits (next s h) r t end e.1 in (rest.0, (e.0, rest.1), rest.2)
+
+  -- it ends where the list leads
+  pub run_replays : (s : S) (r : List H) (end : S) → Run next Right s r end → end ≡ replay_from next s r
+  run_replays s [] end e = e
+  run_replays s (h ∷ r) end e = run_replays (next s h) r end e.1
+
+  -- and so at one state alone
+  pub run_one : (s : S) (r : List H) (a b : S) → Run next Right s r a → Run next Right s r b → a ≡ b
+  run_one s r a b x y = run_replays s r a x ∙ sym (run_replays s r b y)

@@ -1,9 +1,14 @@
 -- lists of pairs by rising identity
-use Rattle.std.proofs.Common.{◌≡◌, ℕ, zero, suc, ◌+◌, ◌-◌, ◌<◌, ◌≤◌, ◌==◌, true, false, cond, List, [], ◌∷◌, ◌++◌, Some, ◌⊎◌, inl, inr, length, get_or, set, take, drop, replicate, refl, sym, ap, subst, ◌∙◌, arith, add-one, append_assoc}
-use Rattle.std.specs.Prelude.{nat_lt, if◌then◌else◌}
+use Rattle.std.proofs.Common.{◌≡◌, ℕ, zero, suc, ◌+◌, ◌-◌, ◌<◌, ◌≤◌, ◌==◌, true, false, cond, List, [], ◌∷◌, ◌++◌, Some, None, map, ◌⊎◌, inl, inr, length, get_or, set, take, drop, replicate, refl, sym, ap, subst, ◌∙◌, arith, add-one, append_assoc}
+use Rattle.std.specs.Prelude.{nat_lt, if◌then◌else◌, IsSome}
+use Rattle.std.specs.List.{IsDistinct, AllByRecursion, Contains, list_any}
+use Rattle.std.specs.Cmp.{nat_eq_equiv}
+use Rattle.std.proofs.lemmas.Map.Made.{length-le_from_is_member}
+use Rattle.std.proofs.lemmas.Map.Views.{list_any-from_Contains}
+use Rattle.std.proofs.lemmas.List.{length-map}
 use Rattle.std.proofs.Math.Seq.{drop-cons}
 use Rattle.std.proofs.lemmas.List.{take_more_set, take_more, length-take-le, drop-set-lt, get_or-take, drop-replicate}
-use Rattle.std.proofs.lemmas.Bool.Decides.{nat_tests, eqb_tells, leb_tells}
+use Rattle.std.proofs.lemmas.Bool.Decides.{nat_tests, eqb_tells, leb_tells, Decides-eqb}
 use Rattle.step_memory.specs.View.{IsAbove, IsRising, value_of, inserted}
 
 ltb_true : (a b : ℕ) → a < b → nat_lt a b ≡ true
@@ -25,6 +30,10 @@ IsRising-drop (suc i) (x ∷ xs) h = IsRising-drop i xs h.1
 pub inserted-below : (x : ℕ × ℕ) (xs : List (ℕ × ℕ)) → IsAbove x.0 xs → inserted xs x ≡ x ∷ xs
 inserted-below x [] h = refl
 inserted-below x (y ∷ ys) h = rw (ltb_true x.0 y.0 h) refl
+
+above_further : (n m : ℕ) (xs : List (ℕ × ℕ)) → IsAbove m xs → n ≤ m → IsAbove n xs
+above_further n m [] h l = tt
+above_further n m (x ∷ xs) h l = omega (arith, h, l)
 
 IsAbove-inserted : (n : ℕ) (xs : List (ℕ × ℕ)) (new : ℕ × ℕ) → IsAbove n xs → n < new.0 → IsAbove n (inserted xs new)
 IsAbove-inserted n [] new h l = l
@@ -157,3 +166,76 @@ take_cut (suc k) (suc n) [] [] l h e = refl
 take_cut (suc k) (suc n) [] (y ∷ ys) l h e = absurd (omega arith)
 take_cut (suc k) (suc n) (x ∷ xs) [] l h e = absurd (omega arith)
 take_cut (suc k) (suc n) (x ∷ xs) (y ∷ ys) l h e = ap (λ zs. x ∷ zs) (take_cut k n xs ys (omega arith) (omega arith) e)
+
+-- who stands below all pairs has none
+pub value_of-below : (q n : ℕ) (xs : List (ℕ × ℕ)) → IsRising xs → IsAbove n xs → q ≤ n → value_of q xs ≡ None
+value_of-below q n [] rising above le = refl
+value_of-below q n (x ∷ xs) rising above le =
+    elim (eqb_tells x.0 q) [
+      | inl e ↦ absurd (let same = e.1 in omega arith)
+      | inr e ↦ rw e.0 (value_of-below q x.0 xs rising.1 rising.0 (omega arith))
+    ]
+
+-- pairs that rise are told by their values
+pub equal_values : (xs ys : List (ℕ × ℕ)) → IsRising xs → IsRising ys → ((q : ℕ) → value_of q xs ≡ value_of q ys) → xs ≡ ys
+equal_values [] [] h k e = refl
+equal_values [] (y ∷ ys) h k e =
+    let own : (y.0 == y.0) ≡ true = (Decides-eqb y.0 y.0).1 refl in
+    absurd (let some : None ≡ Some y.1 = (let values = e y.0 in rw own at values) in cc)
+equal_values (x ∷ xs) [] h k e =
+    let own : (x.0 == x.0) ≡ true = (Decides-eqb x.0 x.0).1 refl in
+    absurd (let some : Some x.1 ≡ None = (let values = e x.0 in rw own at values) in cc)
+equal_values (x ∷ xs) (y ∷ ys) h k e =
+    let x_own : (x.0 == x.0) ≡ true = (Decides-eqb x.0 x.0).1 refl in
+    let y_own : (y.0 == y.0) ≡ true = (Decides-eqb y.0 y.0).1 refl in
+    elim (eqb_tells x.0 y.0) [
+      | inl same ↦
+          let swapped : (y.0 == x.0) ≡ true = (Decides-eqb y.0 x.0).1 (sym same.1) in
+          let value : Some x.1 ≡ Some y.1 = (let values = e x.0 in rw (x_own, swapped) at values) in
+          let value_is : x.1 ≡ y.1 = cc in
+          let first : x ≡ y = ap (λ i. (i, x.1)) same.1 ∙ ap (λ v. (y.0, v)) value_is in
+          let rest : (q : ℕ) → value_of q xs ≡ value_of q ys = (λ q. elim (eqb_tells x.0 q) [
+            | inl t ↦
+                value_of-below q x.0 xs h.1 h.0 (let i = t.1 in omega arith) ∙ sym (value_of-below q y.0 ys k.1 k.0 (let i = t.1 in let j = same.1 in omega arith))
+            | inr t ↦ let other : (y.0 == q) ≡ false = (elim (eqb_tells y.0 q) [ inl u ↦ absurd (t.1 (same.1 ∙ u.1)) | inr u ↦ u.0 ]) in (let values = e q in rw (t.0, other) at values)
+          ]) in
+          ap (λ z. z ∷ xs) first ∙ ap (λ zs. y ∷ zs) (equal_values xs ys h.1 k.1 rest)
+      | inr apart ↦ elim (ltb_tells x.0 y.0) [
+        | inl below ↦
+            let none : value_of x.0 (y ∷ ys) ≡ None = (let other : (y.0 == x.0) ≡ false = (elim (eqb_tells y.0 x.0) [ inl u ↦ absurd (apart.1 (sym u.1)) | inr u ↦ u.0 ]) in
+            rw other (value_of-below x.0 y.0 ys k.1 k.0 (let l = below.1 in omega arith))) in
+            absurd (let some : Some x.1 ≡ value_of x.0 (y ∷ ys) = (let values = e x.0 in rw x_own at values) in let never : Some x.1 ≡ None = some ∙ none in cc)
+        | inr below ↦
+            let none : value_of y.0 (x ∷ xs) ≡ None = rw apart.0 (value_of-below y.0 x.0 xs h.1 h.0 (let l = below.1 in omega arith)) in
+            absurd (let some : value_of y.0 (x ∷ xs) ≡ Some y.1 = (let values = e y.0 in rw y_own at values) in let never : None ≡ Some y.1 = sym none ∙ some in cc)
+      ]
+    ]
+
+-- the identities of pairs that rise are distinct
+all_above : (n : ℕ) (xs : List (ℕ × ℕ)) → IsRising xs → IsAbove n xs → AllByRecursion (λ y. (n == y) ≡ false) (map (λ p. p.0) xs)
+all_above n [] h a = tt
+all_above n (x ∷ xs) h a = (
+  elim (eqb_tells n x.0) [ inl e ↦ absurd (let same = e.1 in omega arith) | inr e ↦ e.0 ],
+  all_above n xs h.1 (above_further n x.0 xs h.0 (let l = a in omega arith)),
+)
+
+pub distinct_identities : (xs : List (ℕ × ℕ)) → IsRising xs → IsDistinct ◌==◌ (map (λ p. p.0) xs)
+unfolding IsDistinct
+distinct_identities [] h = tt
+distinct_identities (x ∷ xs) h = (all_above x.0 xs h.1 h.0, distinct_identities xs h.1)
+
+-- who stands in the list has a value
+listed_value : (q : ℕ) (xs : List (ℕ × ℕ)) → list_any (λ y. q == y) (map (λ p. p.0) xs) ≡ true → IsSome (value_of q xs)
+listed_value q [] h = absurd (cc)
+listed_value q (x ∷ xs) h =
+    elim (eqb_tells x.0 q) [
+      | inl e ↦ rw e.0 refl
+      | inr e ↦ let other : (q == x.0) ≡ false = (elim (eqb_tells q x.0) [ inl u ↦ absurd (e.1 (sym u.1)) | inr u ↦ u.0 ]) in rw e.0 (listed_value q xs (rw other at h))
+    ]
+
+-- pairs whose identities are all among some are no more than these
+pub among_identities : (pairs : List (ℕ × ℕ)) (identities : List ℕ) → IsRising pairs → ((q : ℕ) → IsSome (value_of q pairs) → Contains identities q) → length pairs ≤ length identities
+among_identities pairs identities rising among =
+    let few = length-le_from_is_member nat_eq_equiv (map (λ p. p.0) pairs) identities (distinct_identities pairs rising)
+    (λ q h. list_any-from_Contains nat_eq_equiv q identities (among q (listed_value q pairs h))) in
+    omega (arith, few, length-map pairs (λ p. p.0))

@@ -10,7 +10,12 @@ pub mod World
 pub mod Locality
 pub mod Runs
 pub mod SetAt
+pub mod Count
+pub mod Distinct
 pub mod Calls
+pub mod Due
+pub mod Replay
 pub mod View
 pub mod ViewInside
+pub mod ViewEq
 pub mod WorldCode

@@ -1,18 +1,24 @@
 -- locality: a participant sees of the others what stands in the register that it reads, and leaves of the world what it
 -- does not write (this project's profile)
-use Rattle.std.specs.Prelude.{◌≡◌, ◌≢◌, ℕ, Some}
+use Rattle.std.specs.Prelude.{◌≡◌, ◌≢◌, ℕ, Some, None}
 use Rattle.step_memory.specs.declared.participant.Participant.{Participant}
 use Rattle.step_memory.specs.Participant.{participant_of}
 use Rattle.step_memory.specs.Steps.{ProgramSteps, MemorySteps, Spares, AgreeAt}
 use Rattle.step_memory.specs.WorldState.{WorldState}
 
+-- p stands alike in two worlds
+abbrev pub StandAlike : {P S : Type 0} → ℕ → WorldState S P → WorldState S P → Type 0
+StandAlike p one other = participant_of p one.participants ≡ participant_of p other.participants
+
 module _ {P S R V O : Type 0} (program : ProgramSteps P R V O) (memory : MemorySteps S R V) where
-  -- a step of p changes no other participant, and at most the register that p's own program names
+  -- a step of p changes no other participant, and at most the register that p's own program names: none where p has not
+  -- begun
   pub record IsLocal (p : ℕ) (old new : WorldState S P) : Type 0 where
     pub most : new.most ≡ old.most
     pub others : (q : ℕ) → q ≢ p → participant_of q new.participants ≡ participant_of q old.participants
     pub registers : (v : Participant P) → participant_of p old.participants ≡ Some v →
         (r : R) → Spares (program.next v.program) r → memory.register new.memory r ≡ memory.register old.memory r
+    pub absent : participant_of p old.participants ≡ None → new.memory ≡ old.memory
 
   -- p stands alike in two worlds, and they have the same in the register that its program names
   pub record LookAlike (p : ℕ) (one other : WorldState S P) : Type 0 where

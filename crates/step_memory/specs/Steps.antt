@@ -43,3 +43,19 @@ AgreeAt one other (Write r v) = one r ≡ other r
 AgreeAt one other (TestAndSet r) = one r ≡ other r
 AgreeAt one other (Clear r) = one r ≡ other r
 AgreeAt one other Nothing = Unit {0}
+
+-- the access reads a register, writes one, or reaches none
+abbrev pub ReadsOrWrites : {R V : Type 0} → Access R V → Type 0
+ReadsOrWrites (Read r) = Unit {0}
+ReadsOrWrites (Write r v) = Unit {0}
+ReadsOrWrites (TestAndSet r) = ⊥
+ReadsOrWrites (Clear r) = ⊥
+ReadsOrWrites Nothing = Unit {0}
+
+-- the access sets a bit and tells whether it was set, clears one, or reaches none
+abbrev pub SetsOrClears : {R V : Type 0} → Access R V → Type 0
+SetsOrClears (Read r) = ⊥
+SetsOrClears (Write r v) = ⊥
+SetsOrClears (TestAndSet r) = Unit {0}
+SetsOrClears (Clear r) = Unit {0}
+SetsOrClears Nothing = Unit {0}

@@ -5,8 +5,9 @@ ghost use Rattle.step_memory.specs.declared.note.Note.TheVariants as note;
 
 use crate::{
     Access, Answer, Memory, NoMemory, Note, Refusal, StepMemory, StepProgram, View, World,
-    law_of_beginners, law_of_call_counts, law_of_one_place, law_of_participants, law_of_replies,
-    law_of_steps, law_of_views, law_of_worlds,
+    law_of_beginners, law_of_call_counts, law_of_counts, law_of_locality, law_of_one_place,
+    law_of_participants, law_of_refusals, law_of_replies, law_of_runs, law_of_steps, law_of_views,
+    law_of_what_is_seen, law_of_worlds,
 };
 use std::alloc::AllocError;
 use std::test::Fail;
@@ -173,18 +174,29 @@ fn views_are_kept_in_order(rt: HostRuntime) -> Result<(), Fail> {
     assert_eq!(rt; view.get(20), Some(5));
     assert_eq!(rt; view.get(25), None);
     assert!(rt; !view.is_full());
+    let mut other = View::new();
+    assert!(rt; view != other);
+    for (identity, value) in [(30, 3), (20, 5), (10, 1)] {
+        other.insert(identity, value);
+    }
+    assert!(rt; view == other);
     Ok(())
 }
 
 #[test]
 fn laws_are_called() {
     law_of_one_place::<u64>();
+    law_of_what_is_seen::<u64, bool>();
+    law_of_counts();
     law_of_beginners::<Once, u64>();
     law_of_participants::<Once>();
     law_of_call_counts::<u64>();
     law_of_steps::<Once, u64, usize, u64, u64, u64>();
     law_of_replies::<u64>();
     law_of_worlds::<Once, u64, usize, u64, u64, u64>();
+    law_of_locality::<Once, u64, usize, u64, u64>();
+    law_of_runs::<Once, u64, usize, u64, u64, u64>();
+    law_of_refusals::<Once, u64, usize, u64, u64, u64>();
     law_of_views();
 }
 

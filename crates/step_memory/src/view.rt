@@ -126,3 +126,26 @@ impl View {
         }
     }
 }
+
+impl PartialEq for View {
+    ghost use Rattle.std.specs.Cmp.{partial_equiv_from_equiv};
+    ghost use Rattle.step_memory.specs.ViewEq.{are_same_pairs, same_pairs_equiv};
+
+    ghost eq = { are_same_pairs };
+
+    ghost laws = { partial_equiv_from_equiv same_pairs_equiv };
+
+    /// Whether both have the same pairs.
+    fn eq(&self, other: &View) -> bool
+        ensures answer { result ≡ are_same_pairs self.now other.now }
+        ensures same { IsTrue result ↔ (self.now ≡ other.now) }
+    {
+        self.pairs() == other.pairs()
+    }
+}
+
+impl Eq for View {
+    ghost use Rattle.step_memory.specs.ViewEq.{same_pairs_equiv};
+
+    ghost laws = { same_pairs_equiv };
+}

@@ -84,6 +84,7 @@ impl<
     pub fn begin(&mut self, id: u64, program: P) -> Result<(), Refusal>
         ensures answer { result ≡ done_unless (begin_refusal self.old id) }
         ensures after { self.new ≡ after_begin self.old id program }
+        ensures refused { OnErr result (self.new ≡ self.old) }
     {
         if let Some(refusal) = self.begin_refusal(id) {
             return Err(refusal);
@@ -108,7 +109,8 @@ impl<
         // Nothing of the world changes but this participant and the register that it names.
         ensures local { IsLocal P.steps S.steps id self.old self.new }
 
-        // In another world that looks alike to this participant the answer is the same.
+        // In another world that looks alike to this participant the answer is the same. Where it then stands is the same
+        // too: that is a law (`law_of_locality`).
         ensures alike { result ≢ Err Refusal.NoMemory → (other : WorldState S P) → LookAlike P.steps S.steps id self.old other → result ≡ step_answer P.steps S.steps other id }
     {
         let Some(i) = find(&self.participants, id) else {
@@ -139,6 +141,7 @@ impl<
     pub fn set(&mut self, id: u64, program: P) -> Result<(), Refusal>
         ensures answer { result ≡ set_answer self.old id }
         ensures after { self.new ≡ after_set self.old id program }
+        ensures refused { OnErr result (self.new ≡ self.old) }
     {
         let Some(i) = find(&self.participants, id) else {
             return Err(Refusal::NotBegun);

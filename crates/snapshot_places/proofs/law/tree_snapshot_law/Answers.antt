@@ -2,7 +2,7 @@ use Rattle.snapshot_core.proofs.Following.{all_distinct}
 use Rattle.snapshot_core.proofs.SureSteps.{lacks_on_way}
 use Rattle.snapshot_places.specs.TreeTies.{tree_places}
 use Rattle.snapshot_places.specs.TreeLaws.{tree_laws}
-use Rattle.snapshot_places.proofs.TreeLaw.{tree_law, tree_nodes, tree_makes, tree_alike}
+use Rattle.snapshot_places.proofs.TreeLaw.{tree_law, fits_tree, tree_nodes, tree_makes, tree_alike}
 use Rattle.snapshot_places.proofs.law.tree_snapshot_law.Goals as goal
 
 pub returns-clause-law : goal.returns-clause-law
@@ -22,3 +22,6 @@ returns-clause-makes g c = λ id new. tree_makes c.args.world.now new id
 
 pub returns-clause-alike : goal.returns-clause-alike
 returns-clause-alike g c = tree_alike
+
+pub returns-clause-fits : goal.returns-clause-fits
+returns-clause-fits g c = fits_tree c.args.world.now.most

@@ -1,4 +1,6 @@
-use Rattle.splitter_grid.proofs.GridTied.{after_none, after_begun, after_step_of, law_after, place_after}
+use Rattle.splitter_grid.proofs.GridTied.{after_none, after_begun, after_step_of, law_after, place_after, front_lawful, due_after, one_place_told}
+use Rattle.std.specs.Prelude.{is_some, false}
+use Rattle.step_memory.proofs.DueLemmas.{not_first_refused}
 use Rattle.splitter_grid.proofs.world.law_of_grid_calls.Goals as goal
 
 pub returns-clause-fresh : goal.returns-clause-fresh
@@ -15,3 +17,15 @@ returns-clause-law c = law_after
 
 pub returns-clause-places : goal.returns-clause-places
 returns-clause-places c = λ w r id a. place_after w r a id
+
+pub returns-clause-front : goal.returns-clause-front
+returns-clause-front c = front_lawful
+
+pub returns-clause-due : goal.returns-clause-due
+returns-clause-due c = due_after
+
+pub returns-clause-one_place : goal.returns-clause-one_place
+returns-clause-one_place c = one_place_told
+
+pub returns-clause-not_refused : goal.returns-clause-not_refused
+returns-clause-not_refused c = λ most p why rest. not_first_refused is_some most false p why rest

@@ -1,4 +1,4 @@
-use Rattle.step_memory.proofs.SetAtLemmas.{set_at-same, set_at-other, set_at-as_is}
+use Rattle.step_memory.proofs.SetAtLemmas.{set_at-same, set_at-other, set_at-as_is, set_at-is}
 use Rattle.step_memory.proofs.laws.law_of_one_place.Goals as goal
 
 pub returns-clause-same : goal.returns-clause-same
@@ -9,3 +9,6 @@ returns-clause-other g c = set_at-other
 
 pub returns-clause-as_is : goal.returns-clause-as_is
 returns-clause-as_is g c = set_at-as_is
+
+pub returns-clause-is : goal.returns-clause-is
+returns-clause-is g c = set_at-is

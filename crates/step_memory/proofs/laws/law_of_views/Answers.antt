@@ -1,4 +1,4 @@
-use Rattle.step_memory.proofs.ViewLemmas.{IsRising-inserted, value_of-inserted, length-inserted}
+use Rattle.step_memory.proofs.ViewLemmas.{IsRising-inserted, value_of-inserted, length-inserted, equal_values, among_identities}
 use Rattle.step_memory.proofs.laws.law_of_views.Goals as goal
 
 pub returns-clause-rising : goal.returns-clause-rising
@@ -9,3 +9,9 @@ returns-clause-value c = λ q xs new. value_of-inserted q xs new
 
 pub returns-clause-length : goal.returns-clause-length
 returns-clause-length c = length-inserted
+
+pub returns-clause-equal : goal.returns-clause-equal
+returns-clause-equal c = equal_values
+
+pub returns-clause-few : goal.returns-clause-few
+returns-clause-few c = among_identities

@@ -1,4 +1,4 @@
-use Rattle.std.proofs.Common.{rules, ◌≡◌, Some, Ok, Err, not, ◌==◌, refl, sym, ap, arith}
+use Rattle.std.proofs.Common.{rules, ◌≡◌, Some, Ok, Err, not, ◌==◌, refl, sym, ap, ◌∙◌, arith}
 use Rattle.std.proofs.lemmas.Fn.{filter_same}
 use Rattle.std.proofs.lemmas.List.Elements.{All-filter}
 use Rattle.step_memory.specs.declared.refusal.Refusal.{Refusal}
@@ -9,7 +9,8 @@ use Rattle.bit_allocator.specs.Competitors.{stay_of, without}
 use Rattle.bit_allocator.specs.Pool.{number_answer, after_leave}
 use Rattle.bit_allocator.specs.Calls.Call.{Left}
 use Rattle.bit_allocator.proofs.CallLemmas.{settled_by, unsettled_after}
-use Rattle.bit_allocator.proofs.LocalityLemmas.{leave_local}
+use Rattle.bit_allocator.proofs.LocalityLemmas.{leave_local, leave_stands}
+use Rattle.bit_allocator.specs.PoolState.{PoolState}
 use Rattle.bit_allocator.proofs.PoolKeeps.{after_call, law_after}
 use Rattle.bit_allocator.proofs.pool.Pool.leave.Goals as goal
 use Rattle.bit_allocator.proofs.pool.Pool.leave.Goals.{After-retain}
@@ -61,3 +62,13 @@ pub returns-clause-local : goal.returns-clause-local
 returns-clause-local g c =
     let reply : Ok c.in_ok-number.number ≡ number_answer c.args.self.now c.args.id = c.in_ok-number.ensures.answer in
     rw (returns-clause-state g c, reply) (leave_local c.args.id c.args.self.now)
+
+pub returns-in_err-number-clause-stands_alike : goal.returns-in_err-number-clause-stands_alike
+returns-in_err-number-clause-stands_alike g c = λ other h.
+    let why : Refusal = c.in_err-number.field-0.0 in
+    let held : Err why ≡ number_answer c.args.self.now c.args.id = c.in_err-number.ensures.answer in
+    let state : c.args.self.now ≡ after_leave c.args.self.now c.args.id = unsettled_after c.args.self.now c.args.id why held in
+    ap (λ (w : PoolState). stay_of c.args.id w.competitors) state ∙ leave_stands c.args.id c.args.self.now other h
+
+pub returns-clause-stands_alike : goal.returns-clause-stands_alike
+returns-clause-stands_alike g c = λ other h. ap (λ (w : PoolState). stay_of c.args.id w.competitors) (returns-clause-state g c) ∙ leave_stands c.args.id c.args.self.now other h

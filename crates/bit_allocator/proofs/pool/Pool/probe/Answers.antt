@@ -7,7 +7,8 @@ use Rattle.bit_allocator.specs.Pool.{got_by}
 use Rattle.bit_allocator.proofs.CallLemmas.{going_answer, going_after}
 use Rattle.bit_allocator.specs.Calls.Call.{Probed}
 use Rattle.bit_allocator.proofs.Found.{Found, found, none-index_of, index_of-below}
-use Rattle.bit_allocator.proofs.LocalityLemmas.{probe_local, probe_alike}
+use Rattle.bit_allocator.proofs.LocalityLemmas.{probe_local, probe_alike, probe_stands}
+use Rattle.bit_allocator.specs.PoolState.{PoolState}
 use Rattle.bit_allocator.proofs.PoolKeeps.{after_call, law_after}
 use Rattle.bit_allocator.proofs.pool.Pool.probe.Goals as goal
 use Rattle.bit_allocator.proofs.pool.Pool.probe.Goals.{In_default, After-index, After-probed-stay}
@@ -116,3 +117,12 @@ returns-clause-alike g c = λ other h. returns-clause-answer g c ∙ probe_alike
 
 pub returns-clause-local : goal.returns-clause-local
 returns-clause-local g c = rw (returns-clause-state g c, returns-clause-answer g c) (probe_local c.args.id c.args.self.now)
+
+pub returns-in_default-clause-stands_alike : goal.returns-in_default-clause-stands_alike
+returns-in_default-clause-stands_alike g c = λ other h. ap (λ (w : PoolState). stay_of c.args.id w.competitors) (returns-in_default-clause-state g c) ∙ probe_stands c.args.id c.args.self.now other h
+
+pub returns-in-Settled-clause-stands_alike : goal.returns-in-Settled-clause-stands_alike
+returns-in-Settled-clause-stands_alike g c = λ other h. ap (λ (w : PoolState). stay_of c.args.id w.competitors) (returns-in-Settled-clause-state g c) ∙ probe_stands c.args.id c.args.self.now other h
+
+pub returns-clause-stands_alike : goal.returns-clause-stands_alike
+returns-clause-stands_alike g c = λ other h. ap (λ (w : PoolState). stay_of c.args.id w.competitors) (returns-clause-state g c) ∙ probe_stands c.args.id c.args.self.now other h

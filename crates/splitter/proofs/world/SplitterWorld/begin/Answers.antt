@@ -1,7 +1,7 @@
 use Rattle.std.proofs.Common.{rules, ◌≡◌}
 use Rattle.step_memory.specs.World.{after_begin, begin_refusal, done_unless}
 use Rattle.splitter.specs.SplitterWorld.{visit_of}
-use Rattle.splitter.proofs.SplitterTied.{after_begun, law_after}
+use Rattle.splitter.proofs.SplitterTied.{after_begun, law_after, due_after}
 use Rattle.splitter.proofs.world.SplitterWorld.begin.Goals as goal
 
 pub returns-clause-after : goal.returns-clause-after
@@ -12,3 +12,6 @@ returns-clause-after g c = λ r a.
 
 pub returns-clause-law : goal.returns-clause-law
 returns-clause-law g c = λ r a. law_after c.begin.new.self r a
+
+pub returns-clause-due : goal.returns-clause-due
+returns-clause-due g c = due_after c.begin.new.self

@@ -1,6 +1,10 @@
-use Rattle.std.proofs.Common.{rules, ◌≡◌}
+use Rattle.std.proofs.Common.{rules, ◌≡◌, ap, ◌∙◌}
+use Rattle.step_memory.specs.Participant.{participant_of}
+use Rattle.step_memory.specs.Registers.{memory_steps}
+use Rattle.step_memory.proofs.LocalityLemmas.{stand_alike}
+use Rattle.splitter_grid.specs.Walk.{walker_steps}
 use Rattle.splitter_grid.specs.GridWorld.{step_reply, world_after_step}
-use Rattle.splitter_grid.proofs.GridTied.{after_step_of, law_after}
+use Rattle.splitter_grid.proofs.GridTied.{after_step_of, law_after, due_after}
 use Rattle.splitter_grid.proofs.world.GridWorld.step.Goals as goal
 
 pub returns-in_err-place-clause-after : goal.returns-in_err-place-clause-after
@@ -20,3 +24,19 @@ returns-clause-after g c = λ r a.
 
 pub returns-clause-law : goal.returns-clause-law
 returns-clause-law g c = λ r a. law_after c.step.new.self r a
+
+pub returns-in_err-place-clause-due : goal.returns-in_err-place-clause-due
+returns-in_err-place-clause-due g c = due_after c.step.new.self
+
+pub returns-in_err-place-clause-stands_alike : goal.returns-in_err-place-clause-stands_alike
+returns-in_err-place-clause-stands_alike g c = λ other h.
+    let state : c.step.new.self ≡ world_after_step c.args.self.now c.args.id = search rules in
+    ap (λ w. participant_of c.args.id w.participants) state ∙ stand_alike walker_steps memory_steps c.args.id c.args.self.now other h
+
+pub returns-clause-due : goal.returns-clause-due
+returns-clause-due g c = due_after c.step.new.self
+
+pub returns-clause-stands_alike : goal.returns-clause-stands_alike
+returns-clause-stands_alike g c = λ other h.
+    let state : c.step.new.self ≡ world_after_step c.args.self.now c.args.id = search rules in
+    ap (λ w. participant_of c.args.id w.participants) state ∙ stand_alike walker_steps memory_steps c.args.id c.args.self.now other h

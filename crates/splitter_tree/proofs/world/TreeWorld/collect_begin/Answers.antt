@@ -5,7 +5,7 @@ use Rattle.step_memory.specs.World.{after_set}
 use Rattle.splitter_tree.specs.Client.{is_idle, collecting}
 use Rattle.splitter_tree.proofs.AfterLemmas.{after_collect_begin_call}
 use Rattle.splitter_tree.proofs.TreeCallLemmas.{collect_absent, collect_busy, collect_goes, set_goes}
-use Rattle.splitter_tree.proofs.LawsAfter.{collects_after}
+use Rattle.splitter_tree.proofs.LawsAfter.{law_after, due_after}
 use Rattle.splitter_tree.proofs.world.TreeWorld.collect_begin.Goals as goal
 
 pub returns-in_default-clause-after : goal.returns-in_default-clause-after
@@ -30,11 +30,20 @@ returns-clause-after g c = λ r a.
     let state : c.set.new.self ≡ after_set c.args.self.now c.args.id (collecting c.in-Some.client.now) = rw (c.collecting-client.ensures, c.self.view_is) at c.set.ensures.after in
     after_collect_begin_call c.args.self.now r a c.set.new.self c.args.id c.set.result (state ∙ goes.state) (reply ∙ goes.answer)
 
-pub returns-in_default-clause-collects : goal.returns-in_default-clause-collects
-returns-in_default-clause-collects g c = λ r a. collects_after c.args.self.now r a
+pub returns-in_default-clause-law : goal.returns-in_default-clause-law
+returns-in_default-clause-law g c = law_after c.args.self.now
 
-pub returns-then-not-is_idle-clause-collects : goal.returns-then-not-is_idle-clause-collects
-returns-then-not-is_idle-clause-collects g c = λ r a. collects_after c.args.self.now r a
+pub returns-in_default-clause-due : goal.returns-in_default-clause-due
+returns-in_default-clause-due g c = due_after c.args.self.now
 
-pub returns-clause-collects : goal.returns-clause-collects
-returns-clause-collects g c = λ r a. collects_after c.set.new.self r a
+pub returns-then-not-is_idle-clause-law : goal.returns-then-not-is_idle-clause-law
+returns-then-not-is_idle-clause-law g c = law_after c.args.self.now
+
+pub returns-then-not-is_idle-clause-due : goal.returns-then-not-is_idle-clause-due
+returns-then-not-is_idle-clause-due g c = due_after c.args.self.now
+
+pub returns-clause-law : goal.returns-clause-law
+returns-clause-law g c = law_after c.set.new.self
+
+pub returns-clause-due : goal.returns-clause-due
+returns-clause-due g c = due_after c.set.new.self

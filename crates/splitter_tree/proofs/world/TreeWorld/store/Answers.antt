@@ -8,7 +8,7 @@ use Rattle.splitter_tree.proofs.AfterLemmas.{after_store_call}
 use Rattle.splitter_tree.proofs.TreeCallLemmas.{absent_store, busy_store, going_store}
 use Rattle.splitter_tree.proofs.LocalStore.{local_store}
 use Rattle.splitter_tree.proofs.StoreLemmas.{store_goes_well}
-use Rattle.splitter_tree.proofs.LawsAfter.{collects_after}
+use Rattle.splitter_tree.proofs.LawsAfter.{law_after, due_after}
 use Rattle.splitter_tree.proofs.world.TreeWorld.store.Goals as goal
 use Rattle.splitter_tree.proofs.world.TreeWorld.store.Given.{Over}
 
@@ -51,17 +51,29 @@ returns-clause-after g c = λ r a.
     let state : c.step.new.self ≡ after_step client_steps tree_steps (after_set c.args.self.now c.args.id (storing c.in-Some.client.now c.args.value)) c.args.id = rw asked at (c.step.ensures.after fine) in
     after_store_call c.args.self.now r a c.step.new.self c.args.id c.args.value (Ok tt) (state ∙ goes.state) goes.answer
 
-pub returns-in_default-clause-collects : goal.returns-in_default-clause-collects
-returns-in_default-clause-collects g c = λ r a. collects_after c.args.self.now r a
+pub returns-in_default-clause-law : goal.returns-in_default-clause-law
+returns-in_default-clause-law g c = law_after c.args.self.now
 
-pub returns-then-not-is_idle-clause-collects : goal.returns-then-not-is_idle-clause-collects
-returns-then-not-is_idle-clause-collects g c = λ r a. collects_after c.args.self.now r a
+pub returns-in_default-clause-due : goal.returns-in_default-clause-due
+returns-in_default-clause-due g c = due_after c.args.self.now
 
-pub returns-in_err-step-clause-collects : goal.returns-in_err-step-clause-collects
-returns-in_err-step-clause-collects g c = λ r a. collects_after c.step.new.self r a
+pub returns-then-not-is_idle-clause-law : goal.returns-then-not-is_idle-clause-law
+returns-then-not-is_idle-clause-law g c = law_after c.args.self.now
 
-pub returns-clause-collects : goal.returns-clause-collects
-returns-clause-collects g c = λ r a. collects_after c.step.new.self r a
+pub returns-then-not-is_idle-clause-due : goal.returns-then-not-is_idle-clause-due
+returns-then-not-is_idle-clause-due g c = due_after c.args.self.now
+
+pub returns-in_err-step-clause-law : goal.returns-in_err-step-clause-law
+returns-in_err-step-clause-law g c = law_after c.step.new.self
+
+pub returns-in_err-step-clause-due : goal.returns-in_err-step-clause-due
+returns-in_err-step-clause-due g c = due_after c.step.new.self
+
+pub returns-clause-law : goal.returns-clause-law
+returns-clause-law g c = law_after c.step.new.self
+
+pub returns-clause-due : goal.returns-clause-due
+returns-clause-due g c = due_after c.step.new.self
 
 pub returns-in_err-step-clause-local : goal.returns-in_err-step-clause-local
 returns-in_err-step-clause-local g c = absurd (no_error g c)
@@ -71,3 +83,6 @@ returns-clause-local g c =
     let some : Some c.in-Some.client.now ≡ program_of c.args.id c.args.self.now.participants = rw (← c.self.view_is) c.in-Some.ensures in
     let asked : c.set.new.self ≡ after_set c.args.self.now c.args.id (storing c.in-Some.client.now c.args.value) = rw (c.storing-client.ensures, c.self.view_is) at c.set.ensures.after in
     local_store tree_steps c.args.self.now c.set.new.self c.step.new.self c.args.id c.args.value c.in-Some.client.now some asked c.step.ensures.local
+
+pub returns-in_err-step-clause-refused : goal.returns-in_err-step-clause-refused
+returns-in_err-step-clause-refused g c = absurd (no_error g c)

@@ -1,0 +1,77 @@
+-- the accesses of a participant
+use Rattle.std.proofs.Common.{◌≡◌, ℕ, Bool, true, false, cond, List, Option, Some, None, refl, sym, ap, subst, ◌∙◌}
+use Rattle.step_memory.specs.declared.access.Access.{Access}
+use Rattle.step_memory.specs.declared.access.Access.TheVariants.{Read, Write, TestAndSet, Clear, Nothing as Idle}
+use Rattle.step_memory.specs.declared.participant.Participant.{Participant}
+use Rattle.step_memory.specs.declared.record.Record.{Record}
+use Rattle.step_memory.specs.Participant.{participant_of}
+use Rattle.step_memory.specs.Steps.{ReadsOrWrites}
+use Rattle.splitter.specs.declared.stage.Stage.{Stage}
+use Rattle.splitter.specs.declared.stage.Stage.TheVariants.{Outside, WroteName, SawClear, WroteMark, Gone}
+use Rattle.splitter.specs.Visitor.{access_at, access_of}
+use Rattle.splitter_tree.specs.declared.register.TreeRegister.{TreeRegister}
+use Rattle.splitter_tree.specs.declared.register.TreeRegister.TheVariants.{Mark, Name, Taken, Contents}
+use Rattle.splitter_tree.specs.declared.register.TreeValue.{TreeValue}
+use Rattle.splitter_tree.specs.declared.register.TreeValue.TheVariants.{Word}
+use Rattle.splitter_tree.specs.declared.walker.Walker.{Walker}
+use Rattle.splitter_tree.specs.declared.client.Client.{Client}
+use Rattle.splitter_tree.specs.declared.client.Task.{Task}
+use Rattle.splitter_tree.specs.declared.client.Task.TheVariants.{Placing, Nothing, Storing, Collecting}
+use Rattle.splitter_tree.specs.Walk.{in_words, next_access, place_of, StandsAtNode}
+use Rattle.splitter_tree.specs.Client.{client_access, access_for, write_at, record_of}
+use Rattle.splitter_tree.specs.Run.{After, TreeWorldState}
+use Rattle.splitter_tree.specs.TreeCalls.{TreeCall}
+use Rattle.splitter_tree.proofs.LawsAfter.{tied}
+
+own_words : (id : ℕ) (name mark : TreeRegister) (s : Stage) → ReadsOrWrites (in_words (access_at id name mark s))
+own_words id name mark Outside = tt
+own_words id name mark WroteName = tt
+own_words id name mark SawClear = tt
+own_words id name mark WroteMark = tt
+own_words id name mark (Gone way) = tt
+
+own_next : (u : Walker) (b : Bool) → ReadsOrWrites (cond b (Write (Mark u.place) (Word 1)) (in_words (access_of u.visitor)))
+own_next u true = tt
+own_next u false = own_words u.visitor.identity u.visitor.name u.visitor.mark u.visitor.stage
+
+own_write : (o : Option ℕ) (x : Record) → ReadsOrWrites (write_at o x)
+own_write None x = tt
+own_write (Some place) x = tt
+
+-- a participant reads or writes a register, or reaches none
+pub own_access : (c : Client) (t : Task) → ReadsOrWrites (access_for c t)
+own_access c Placing = own_next c.walker c.walker.is_marking
+own_access c Nothing = tt
+own_access c (Storing value) = own_write (place_of c.walker) (record_of c value)
+own_access c (Collecting collect) = tt
+
+-- on the way no segment is written
+no_segment : (id k place : ℕ) (value : TreeValue) (s : Stage) → in_words (access_at id (Name k) (Taken k) s) ≡ Write (Contents place) value → ⊥
+no_segment id k place value Outside h = cc
+no_segment id k place value WroteName h = cc
+no_segment id k place value SawClear h = cc
+no_segment id k place value WroteMark h = cc
+no_segment id k place value (Gone way) h = cc
+
+not_on_the_way : (u : Walker) (b : Bool) (place : ℕ) (value : TreeValue) → StandsAtNode u → cond b (Write (Mark u.place) (Word 1)) (in_words (access_of u.visitor)) ≡ Write (Contents place) value → ⊥
+not_on_the_way u true place value stands h = cc
+not_on_the_way u false place value stands h =
+    no_segment u.visitor.identity u.place place value u.visitor.stage
+    (ap (λ (x : TreeRegister). in_words (access_at u.visitor.identity (Name u.place) x u.visitor.stage)) (sym stands.mark)
+    ∙ ap (λ (x : TreeRegister). in_words (access_at u.visitor.identity x u.visitor.mark u.visitor.stage)) (sym stands.name) ∙ h)
+
+at_its_place : (o : Option ℕ) (x : Record) (place : ℕ) (value : TreeValue) → write_at o x ≡ Write (Contents place) value → o ≡ Some place
+at_its_place None x place value h = absurd (cc)
+at_its_place (Some k) x place value h = let same : k ≡ place = cc in ap Some same
+
+-- a segment is written by the one whose place is there
+pub own_segment : (c : Client) (t : Task) (place : ℕ) (value : TreeValue) → StandsAtNode c.walker → access_for c t ≡ Write (Contents place) value → place_of c.walker ≡ Some place
+own_segment c Placing place value stands h = absurd (not_on_the_way c.walker c.walker.is_marking place value stands h)
+own_segment c Nothing place value stands h = absurd (cc)
+own_segment c (Storing x) place value stands h = at_its_place (place_of c.walker) (record_of c x) place value h
+own_segment c (Collecting collect) place value stands h = absurd (cc)
+
+pub all_stand : (w : TreeWorldState) (r : List TreeCall) (p : ℕ) (v : Participant Client) → After w r → participant_of p w.participants ≡ Some v → StandsAtNode v.program.walker
+all_stand w r p v a here =
+    let walk = (tied w r a).consistent.agree.walks p v.program.walker (rw here refl) in
+    record { name = walk.name; mark = walk.taken }

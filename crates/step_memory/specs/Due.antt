@@ -1,0 +1,69 @@
+-- when a call is refused, over calls with their replies alone (this project's profile)
+use Rattle.std.specs.Prelude.{◌≡◌, ◌==◌, ◌&&◌, ◌||◌, ℕ, Bool, true, false, ◌⊎◌, if◌then◌else◌, nat_le, List, [], ◌∷◌, ◌++◌, Option, Some, None, Ok, Err}
+use Rattle.step_memory.specs.declared.refusal.Refusal.{Refusal}
+use Rattle.step_memory.specs.declared.refusal.Refusal.TheVariants.{ZeroIdentity, AlreadyBegun, Full, NotBegun, Finished, NoMemory}
+use Rattle.step_memory.specs.declared.note.Note.{Note}
+use Rattle.step_memory.specs.declared.access.Access.{Access}
+use Rattle.step_memory.specs.Note.{ends}
+use Rattle.step_memory.specs.Steps.{MemorySteps}
+use Rattle.step_memory.specs.World.{done_unless}
+use Rattle.step_memory.specs.Calls.{Call, begun_in}
+use Rattle.step_memory.specs.Calls.Call.{Began, Stepped}
+
+abbrev pub begins : {X : Type 0} → ℕ → Call X → Bool
+begins p (Began q (Ok done)) = q == p
+begins p (Began q (Err refusal)) = false
+begins p (Stepped q reply) = false
+
+-- p has begun
+abbrev pub has_begun : {X : Type 0} → ℕ → List (Call X) → Bool
+has_begun p [] = false
+has_begun p (h ∷ r) = begins p h || has_begun p r
+
+-- what holds of a world of at most `most` participants, where `last` says of the answer to an accepted step whether the
+-- program has ended with it, and `grows` whether a growth may be refused
+module _ {X : Type 0} (last : X → Bool) where
+  abbrev pub ends_by : ℕ → Call X → Bool
+  ends_by p (Began q reply) = false
+  ends_by p (Stepped q (Ok said)) = (q == p) && last said
+  ends_by p (Stepped q (Err refusal)) = false
+
+  -- p's program has ended
+  abbrev pub has_ended : ℕ → List (Call X) → Bool
+  has_ended p [] = false
+  has_ended p (h ∷ r) = ends_by p h || has_ended p r
+
+  -- why `begin` of p is refused after these calls: the first of these that holds
+  abbrev pub begin_due : ℕ → List (Call X) → ℕ → Option Refusal
+  begin_due most r p =
+      if p == 0 then Some ZeroIdentity
+      else if has_begun p r then Some AlreadyBegun
+      else if nat_le most (begun_in r) then Some Full
+      else None
+
+  -- why a step of p is refused after these calls: the first of these that holds
+  abbrev pub step_due : List (Call X) → ℕ → Option Refusal
+  step_due r p = if has_begun p r then (if has_ended p r then Some Finished else None) else Some NotBegun
+
+  -- after these calls, a call is refused exactly where a refusal is due, and by that one. A step that is not due to be
+  -- refused may be refused for want of memory, where it grows
+  abbrev pub IsRefusedAsDue : ℕ → Bool → List (Call X) → Call X → Type 0
+  IsRefusedAsDue most grows r (Began p reply) = reply ≡ done_unless (begin_due most r p)
+  IsRefusedAsDue most grows r (Stepped p (Ok said)) = step_due r p ≡ None
+  IsRefusedAsDue most grows r (Stepped p (Err why)) = (step_due r p ≡ Some why) ⊎ ((step_due r p ≡ None) × (why ≡ NoMemory) × (grows ≡ true))
+
+  -- so is each call of the list after those before it
+  abbrev pub RefusesAsDue : ℕ → Bool → List (Call X) → Type 0
+  RefusesAsDue most grows r = (before : List (Call X)) (h : Call X) (rest : List (Call X)) → r ≡ before ++ h ∷ rest → IsRefusedAsDue most grows before h
+
+  -- nothing after the end: whose program has ended makes no accepted step
+  abbrev pub EndsOnce : List (Call X) → Type 0
+  EndsOnce r = (before : List (Call X)) (p : ℕ) (said : X) (rest : List (Call X)) → r ≡ before ++ Stepped p (Ok said) ∷ rest → has_ended p before ≡ false
+
+-- `last` says of what is shown of a note whether the note ends the program
+abbrev pub TellsTheEnd : {O X : Type 0} → (Note O → X) → (X → Bool) → Type 0
+TellsTheEnd {O} shown last = (note : Note O) → last (shown note) ≡ ends note
+
+-- only where `grows` may the memory refuse a growth
+abbrev pub GrowsOnly : {S R V : Type 0} → MemorySteps S R V → Bool → Type 0
+GrowsOnly {S} {R} {V} memory grows = (m : S) (a : Access R V) → memory.may_refuse m a ≡ true → grows ≡ true
