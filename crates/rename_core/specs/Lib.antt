@@ -5,6 +5,7 @@ pub mod Law
 pub mod Ranges
 pub mod Config
 pub mod Round
+pub mod Reply
 pub mod RenameState
 pub mod RenameWorld
 pub mod NamedPlaces
