@@ -58,5 +58,5 @@ module _ {S R V U K : Type 0} (W : KnownPlaces S R V U K) (w new : RenameState S
     | inl h ↦
         let refused = lack h in
         let lacked : lacked_memory reply ≡ true = rw h refl in
-        leads_on (Stepped id reply) (refused.0 ∙ rw lacked refl) (inr (h, refused.1, refused.2))
+        leads_on (Stepped id reply) (refused.0 ∙ rw lacked refl) (inr (h, (refused.1, refused.2)))
   ]

@@ -128,7 +128,7 @@ module _ {S R V U K : Type 0} (W : KnownPlaces S R V U K) (terms : RenameTerms) 
     pub step_goes : ((s : RenameState S U K) (q : ℕ) → may_lack W s q ≡ true → terms.grows ≡ true) → (reply : Result Reply Refusal) → IsReply W w (Stepped p reply) → Goes w o t (Stepped p reply)
     step_goes grows reply (inl e) = subst (λ (x : Result Reply Refusal). Goes w o t (Stepped p x)) (sym e) answered
     step_goes grows reply (inr e) =
-        let on_way = way_of i.object (tie_goes w.snap i.object (SnapStepped p (Err NoMemory)) i.tie (inr (refl, e.2))).1 in
-        let k = lacks e.1 on_way in
-        let refused : Goes w o t (Stepped p (Err NoMemory)) = record { allowed = inr (record { is = refl; grows = grows w p e.2; none_due = k.0; unplaced = k.1 }); timed = tt; tied = i } in
+        let on_way = way_of i.object (tie_goes w.snap i.object (SnapStepped p (Err NoMemory)) i.tie (inr (refl, e.1.1))).1 in
+        let k = lacks e.1.0 on_way in
+        let refused : Goes w o t (Stepped p (Err NoMemory)) = record { allowed = inr (record { is = refl; grows = grows w p e.1.1; none_due = k.0; unplaced = k.1 }); timed = tt; tied = i } in
         subst (λ (x : Result Reply Refusal). Goes w o t (Stepped p x)) (sym e.0) refused

@@ -16,5 +16,4 @@ pub mod NamedPlaces
 pub mod AfterCalls
 pub mod LocalSteps
 pub mod Beginners
-pub mod Bounds
 pub mod PlacesLaw

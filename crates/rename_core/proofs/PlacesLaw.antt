@@ -16,8 +16,9 @@ use Rattle.snapshot_places.specs.declared.grid_walk.GridWalk.{GridWalk}
 use Rattle.snapshot_places.specs.declared.grid_walker.GridWalker.{GridWalker}
 use Rattle.snapshot_places.specs.declared.tree_walk.TreeWalk.{TreeWalk}
 use Rattle.snapshot_places.specs.declared.tree_walker.TreeWalker.{TreeWalker}
-use Rattle.snapshot_places.proofs.GridLaw.{grid_alike}
-use Rattle.snapshot_places.proofs.TreeLaw.{tree_alike, tree_makes}
+use Rattle.snapshot_core.proofs.FixedLaw.{fits_row}
+use Rattle.snapshot_places.proofs.GridLaw.{fits_grid, grid_alike}
+use Rattle.snapshot_places.proofs.TreeLaw.{fits_tree, tree_alike, tree_makes}
 use Rattle.snapshot_core.specs.declared.fixed.FixedWalk.{FixedWalk}
 use Rattle.snapshot_core.specs.declared.fixed.FixedWalker.{FixedWalker}
 use Rattle.step_memory.specs.declared.record.Record.{Record}
@@ -26,7 +27,6 @@ use Rattle.rename_core.specs.declared.config.WorldKind.TheVariants.{Rename, Tree
 use Rattle.rename_core.specs.RenameCalls.{IsLawfulWithin, LacksOnly, BeginsTheSame}
 use Rattle.rename_core.specs.RenameState.{RenameState}
 use Rattle.rename_core.proofs.Beginners.{begins_alike}
-use Rattle.rename_core.proofs.Bounds.{fits_grid, fits_tree, fits_row}
 use Rattle.rename_core.proofs.Names.{MayBeNamed, rename_law, most_is, snap_after}
 
 grid_named : (most : ℕ) → MayBeNamed grid_places false most (grid_bounds most).scanning

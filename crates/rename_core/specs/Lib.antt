@@ -5,8 +5,10 @@ pub mod Law
 pub mod Ranges
 pub mod Config
 pub mod Round
+pub mod Reply
 pub mod RenameState
 pub mod RenameWorld
+pub mod NamedPlaces
 pub mod RenameCalls
 pub mod Locality
 pub mod Ample

@@ -16,7 +16,7 @@ use Rattle.rename_core.specs.Law.{KeepsRenameLaw}
 use Rattle.snapshot_core.specs.Places.{KnownPlaces}
 use Rattle.rename_core.specs.RenameObject.{RenameTerms, RenameObject, IsRun, IsOwner}
 use Rattle.rename_core.specs.RenameState.{RenameState}
-use Rattle.rename_core.specs.RenameWorld.{step_refusal, fresh_world, after_rename_begin, rename_answer, after_rename_step, may_lack}
+use Rattle.rename_core.specs.RenameWorld.{fresh_world, after_rename_begin, rename_answer, after_rename_step, may_lack, LacksMemory}
 
 module _ {S R V U K : Type 0} (W : KnownPlaces S R V U K) where
   -- the world after a call. A step for which a growth was refused is still to come
@@ -29,7 +29,7 @@ module _ {S R V U K : Type 0} (W : KnownPlaces S R V U K) where
   IsReply w (Began id reply) = reply ≡ done_unless (begin_refusal w.snap id)
   IsReply w (Stepped id reply) =
       (reply ≡ rename_answer W w id)
-      ⊎ ((reply ≡ Err NoMemory) × (step_refusal w id ≡ None) × (may_lack W w id ≡ true))
+      ⊎ ((reply ≡ Err NoMemory) × LacksMemory W w id)
 
   -- nobody has begun, and nothing was written. There is room for so many, each with so many proposals
   pub record IsFresh (most limit : ℕ) (w : RenameState S U K) : Type 0 where

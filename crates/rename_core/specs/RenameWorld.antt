@@ -1,5 +1,5 @@
 -- what the calls of a renaming world answer and leave
-use Rattle.std.specs.Prelude.{ℕ, if◌then◌else◌, [], ◌∷◌, ◌++◌, Bool, Option, Some, None, Result, Ok, Err, is_some, List}
+use Rattle.std.specs.Prelude.{◌≡◌, true, ℕ, if◌then◌else◌, [], ◌∷◌, ◌++◌, Bool, Option, Some, None, Result, Ok, Err, is_some, List}
 use Rattle.step_memory.specs.declared.participant.Participant.{Participant}
 use Rattle.step_memory.specs.declared.refusal.Refusal.{Refusal}
 use Rattle.step_memory.specs.declared.refusal.Refusal.TheVariants.{NotBegun}
@@ -127,3 +127,7 @@ module _ {S R V U K : Type 0} (W : KnownPlaces S R V U K) where
   -- whether that step may be refused for want of memory
   abbrev pub may_lack : RenameState S U K → ℕ → Bool
   may_lack w id = may_lack_memory W w.snap id
+
+  -- a growth may be refused in that step, and nothing else is due
+  abbrev pub LacksMemory : RenameState S U K → ℕ → Type 0
+  LacksMemory w id = (step_refusal w id ≡ None) × (may_lack w id ≡ true)

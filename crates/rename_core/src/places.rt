@@ -1,11 +1,10 @@
 //! Places over which names are given.
 
-ghost use Rattle.std.specs.Prelude.{◌≡◌, ◌≤◌, ℕ, ◌==◌, is_some, true, IfOk, IfErr, refl};
-ghost use Rattle.rename_core.specs.Config.{is_tree};
+ghost use Rattle.std.specs.Prelude.{◌≡◌, ◌≤◌, IfOk, IfErr, refl};
 ghost use Rattle.rename_core.specs.Ample.{fixed_ample, grid_ample};
 ghost use Rattle.rename_core.specs.declared.config.WorldKind.{WorldKind};
 ghost use Rattle.rename_core.specs.declared.config.WorldKind.TheVariants as kind;
-ghost use Rattle.snapshot_core.specs.SnapWorld.{SnapState, may_lack_memory};
+ghost use Rattle.rename_core.specs.NamedPlaces.{PlacesAtOnce, GrowsAsTree};
 
 use crate::config::WorldKind;
 use snapshot_core::{Fixed, Known, Places};
@@ -31,10 +30,10 @@ pub trait RenamePlaces<A: Allocator>: Places {
         ensures no_memory { IfErr result (λ why. why ≡ Refusal.NoMemory) };
 
     /// Who begins has a place at once just where no step is needed to one.
-    ghost at_once: { (b q : ℕ) → is_some (Self.Walker.place_of (Self.walker_from b q)) ≡ (Self.ties.placing 1 == 0) };
+    ghost at_once: { PlacesAtOnce ⟦<Self as Known>⟧.places };
 
     /// Only over a tree may a step want memory.
-    ghost may_grow: { (s : SnapState Self Self.Walker Self.Walk) (p : ℕ) → may_lack_memory ⟦<Self as Known>⟧.places s p ≡ true → is_tree world ≡ true };
+    ghost may_grow: { GrowsAsTree ⟦<Self as Known>⟧.places world };
 }
 
 impl<A: Allocator> RenamePlaces<A> for Fixed<A> {

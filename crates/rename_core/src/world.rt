@@ -8,12 +8,12 @@ ghost use Rattle.rename_core.specs.Config.{is_played_over};
 ghost use Rattle.rename_core.specs.Locality.{IsLocal};
 ghost use Rattle.rename_core.specs.RenameCalls.{IsAfter, LeadsOn, IsFresh, IsLawful, MakesOwnAccess, IsName, IsOwnerOf, IsLastMoment};
 ghost use Rattle.rename_core.specs.Round.{standing_by};
-ghost use Rattle.rename_core.specs.RenameWorld.{after_wish, name_in, owner_by, shown_with, shown_by, step_refusal, after_rename_begin, rename_answer, after_rename_step, may_lack};
+ghost use Rattle.rename_core.specs.RenameWorld.{after_wish, name_in, owner_by, shown_with, shown_by, after_rename_begin, rename_answer, after_rename_step, LacksMemory};
 
 use crate::config::Config;
 use crate::places::RenamePlaces;
 use crate::reply::Reply;
-use crate::round::{Round, Stage, Wish};
+use crate::round::{Round, Wish};
 use snapshot_core::{Known, SnapWorld};
 use std::alloc::Allocator;
 use std::marker::Model;
@@ -28,14 +28,14 @@ pub struct RenameWorld<W: RenamePlaces<A>, A: Allocator> {
 }
 
 impl<W: RenamePlaces<A>, A: Allocator> Model for RenameWorld<W, A> {
-    ghost use Rattle.std.specs.Prelude.{◌≤◌, ◌≡◌, vec_capacity, length};
-    ghost use Rattle.rename_core.specs.RenameState.{RenameState};
+    ghost use Rattle.std.specs.Prelude.{vec_capacity};
+    ghost use Rattle.rename_core.specs.RenameState.{RenameState, HasRoom};
 
     ghost Value = { RenameState W W.Walker W.Walk };
 
     ghost view = { λ w. record { snap = w.snap; rounds = w.rounds.items; limit = w.limit } };
 
-    ghost invariant = { λ w. (w.snap.most ≤ vec_capacity w.rounds) × (w.snap.most ≤ 64) × (length w.rounds.items ≡ length w.snap.participants) × (length w.rounds.items ≤ w.snap.most) };
+    ghost invariant = { λ w. HasRoom (vec_capacity w.rounds) w.snap w.rounds.items };
 }
 
 /// Where the round of an identity stands.
@@ -87,7 +87,7 @@ where
         ensures answer { result ≢ Err Refusal.NoMemory → result ≡ rename_answer ⟦<W as Known>⟧.places self.old id }
         ensures state { result ≢ Err Refusal.NoMemory → self.new ≡ after_rename_step ⟦<W as Known>⟧.places self.old id }
         ensures refused { OnErr result (self.new ≡ self.old) }
-        ensures no_memory { result ≡ Err Refusal.NoMemory → (step_refusal self.old id ≡ None) × (may_lack ⟦<W as Known>⟧.places self.old id ≡ true) }
+        ensures no_memory { result ≡ Err Refusal.NoMemory → LacksMemory ⟦<W as Known>⟧.places self.old id }
     {
         let Some(i) = find(&self.rounds, id) else {
             return Err(Refusal::NotBegun);
@@ -112,7 +112,7 @@ where
         ensures answer { result ≢ Err Refusal.NoMemory → result ≡ rename_answer ⟦<W as Known>⟧.places self.old id }
         ensures state { result ≢ Err Refusal.NoMemory → self.new ≡ after_rename_step ⟦<W as Known>⟧.places self.old id }
         ensures refused { OnErr result (self.new ≡ self.old) }
-        ensures no_memory { result ≡ Err Refusal.NoMemory → (step_refusal self.old id ≡ None) × (may_lack ⟦<W as Known>⟧.places self.old id ≡ true) }
+        ensures no_memory { result ≡ Err Refusal.NoMemory → LacksMemory ⟦<W as Known>⟧.places self.old id }
 
         // The law, over every list of calls and replies that the world may be after.
         ensures after { LeadsOn ⟦<W as Known>⟧.places self.old self.new (Stepped id result) }

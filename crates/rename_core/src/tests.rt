@@ -1,0 +1,452 @@
+//! Worked schedules: two participants over segments in a row, over a grid and over a tree.
+
+use crate::{
+    Config, RenamePlaces, RenameWorld, Reply, WorldKind, fixed_rename_law, grid_rename_law,
+    next_proposal, tree_rename_law,
+};
+use linked_list_allocator::LocalHeap;
+use snapshot_core::Fixed;
+use snapshot_places::{Grid, TreePlaces};
+use std::alloc::{Allocator, Global};
+use std::process::Abort;
+use std::test::Fail;
+use step_memory::{Place, Refusal, View};
+
+/// What the last of some steps answers; those before it are quiet.
+#[derive(Clone, Copy, Debug, Drop)]
+enum Last<'a> {
+    Quiet,
+    Placed(Place),
+    Proposed(u64),
+    Saw(&'a [(u64, u64)]),
+    Named(u64),
+    Spent,
+    Refused(Refusal),
+}
+
+/// The view that a step shows.
+fn shown<W: RenamePlaces<A> + Drop, A: Allocator>(
+    world: &mut RenameWorld<W, A>,
+    id: u64,
+) -> Option<View>
+where
+    W::Walker: Copy,
+    W::Walk: Copy,
+    W::Value: Drop,
+{
+    let Ok(reply) = world.step(id) else {
+        return None;
+    };
+    reply.view()
+}
+
+/// Takes the rows of a schedule in turn: who steps, how often, and what the last of these steps answers.
+fn play<W: RenamePlaces<A> + Drop, A: Allocator>(
+    rt: &impl Abort,
+    world: &mut RenameWorld<W, A>,
+    rows: &[(u64, usize, Last<'_>)],
+)
+where
+    W::Walker: Copy,
+    W::Walk: Copy,
+    W::Value: Drop,
+{
+    for (i, (id, steps, last)) in rows.iter().enumerate() {
+        for _ in 1..*steps {
+            assert!(rt; matches!(world.step(*id), Ok(Reply::Quiet)), "row {i}");
+        }
+        match *last {
+            Last::Quiet => assert!(rt; matches!(world.step(*id), Ok(Reply::Quiet)), "row {i}"),
+            Last::Placed(place) => {
+                assert!(rt;
+                    matches!(world.step(*id), Ok(Reply::Placed(p)) if p == place),
+                    "row {i}"
+                );
+            }
+            Last::Proposed(number) => {
+                assert!(rt;
+                    matches!(world.step(*id), Ok(Reply::Proposed(n)) if n == number),
+                    "row {i}"
+                );
+            }
+            Last::Saw(pairs) => {
+                let Some(view) = shown(world, *id) else {
+                    panic!(rt; "row {i}");
+                };
+                assert_eq!(rt; view.pairs(), pairs, "row {i}");
+            }
+            Last::Named(name) => {
+                assert!(rt; shown(world, *id).is_some(), "row {i}");
+                assert_eq!(rt; world.name_of(*id), Some(name), "row {i}");
+            }
+            Last::Spent => assert!(rt; matches!(world.step(*id), Ok(Reply::Spent)), "row {i}"),
+            Last::Refused(refusal) => {
+                assert!(rt;
+                    matches!(world.step(*id), Err(r) if r == refusal),
+                    "row {i}"
+                );
+            }
+        }
+    }
+}
+
+/// A world of so many participants, each with so many proposals.
+fn grid(alloc: Global, m: u64, limit: u64) -> Result<RenameWorld<Grid<Global>, Global>, Refusal> {
+    RenameWorld::new(alloc, Config::new(WorldKind::Rename, m, 4, limit)?)
+}
+
+fn tree<A: Allocator + Clone>(alloc: A, m: u64) -> Result<RenameWorld<TreePlaces<A>, A>, Refusal> {
+    RenameWorld::new(alloc, Config::new(WorldKind::Tree, m, 4, 1000)?)
+}
+
+fn fixed(alloc: Global, m: u64, limit: u64) -> Result<RenameWorld<Fixed<Global>, Global>, Refusal> {
+    RenameWorld::new(alloc, Config::new(WorldKind::Rename, m, 4, limit)?)
+}
+
+#[test]
+fn one_alone_where_nobody_else_may_be(rt: HostRuntime) -> Result<(), Fail> {
+    let mut world = grid(rt.alloc(), 1, 1000)?;
+    assert_eq!(rt; world.begin(7), Ok(()));
+    play(
+        &rt,
+        &mut world,
+        &[
+            (7, 4, Last::Placed(0)),
+            (7, 3, Last::Proposed(1)),
+            (7, 2, Last::Named(1)),
+            (7, 1, Last::Refused(Refusal::Finished)),
+        ],
+    );
+    assert_eq!(rt; world.name_of(7), Some(1));
+    assert_eq!(rt; world.owner_of(1), Some(7));
+    assert_eq!(rt; world.owner_of(2), None);
+    assert_eq!(rt; world.proposals().pairs(), [(7, 1)].as_slice());
+    grid_rename_law(&world);
+    Ok(())
+}
+
+#[test]
+fn one_alone_where_another_may_come(rt: HostRuntime) -> Result<(), Fail> {
+    let mut world = grid(rt.alloc(), 2, 1000)?;
+    assert_eq!(rt; world.begin(7), Ok(()));
+    play(
+        &rt,
+        &mut world,
+        &[
+            (7, 4, Last::Placed(0)),
+            (7, 7, Last::Proposed(1)),
+            (7, 6, Last::Named(1)),
+        ],
+    );
+    Ok(())
+}
+
+#[test]
+fn begins_and_steps_that_are_refused(rt: HostRuntime) -> Result<(), Fail> {
+    let mut world = grid(rt.alloc(), 2, 1000)?;
+    assert_eq!(rt; world.begin(5), Ok(()));
+    play(&rt, &mut world, &[(5, 1, Last::Quiet)]);
+    assert_eq!(rt; world.begin(5), Err(Refusal::AlreadyBegun));
+    play(&rt, &mut world, &[(5, 3, Last::Placed(0))]);
+    assert_eq!(rt; world.begin(6), Ok(()));
+    assert_eq!(rt; world.begin(7), Err(Refusal::Full));
+    play(&rt, &mut world, &[(7, 1, Last::Refused(Refusal::NotBegun))]);
+    assert_eq!(rt; world.begin(0), Err(Refusal::ZeroIdentity));
+    assert_eq!(rt; world.name_of(5), None);
+    assert_eq!(rt; world.name_of(7), None);
+    assert_eq!(rt; world.owner_of(1), None);
+    assert!(rt; world.proposals().is_empty());
+    Ok(())
+}
+
+#[test]
+fn the_largest_name_is_reached(rt: HostRuntime) -> Result<(), Fail> {
+    let mut world = grid(rt.alloc(), 2, 1000)?;
+    world.begin(10)?;
+    world.begin(20)?;
+    for _ in 0..3 {
+        play(
+            &rt,
+            &mut world,
+            &[(10, 1, Last::Quiet), (20, 1, Last::Quiet)],
+        );
+    }
+    play(
+        &rt,
+        &mut world,
+        &[
+            (10, 1, Last::Quiet),
+            (20, 1, Last::Placed(0)),
+            (10, 4, Last::Placed(2)),
+            (10, 6, Last::Quiet),
+            (20, 6, Last::Quiet),
+            (10, 1, Last::Proposed(1)),
+            (20, 1, Last::Proposed(1)),
+            (10, 6, Last::Saw(&[(10, 1), (20, 1)])),
+            (20, 6, Last::Saw(&[(10, 1), (20, 1)])),
+            (10, 7, Last::Proposed(2)),
+            (20, 7, Last::Proposed(3)),
+            (10, 6, Last::Named(2)),
+            (20, 6, Last::Named(3)),
+        ],
+    );
+    assert_eq!(rt; world.name_of(20), Some(3));
+    assert_eq!(rt; world.owner_of(2), Some(10));
+    assert_eq!(rt; world.owner_of(1), None);
+    assert_eq!(rt; world.proposals().pairs(), [(10, 2), (20, 3)].as_slice());
+    Ok(())
+}
+
+#[test]
+fn a_borrowed_view(rt: HostRuntime) -> Result<(), Fail> {
+    let mut world = grid(rt.alloc(), 2, 1000)?;
+    world.begin(10)?;
+    world.begin(20)?;
+    play(
+        &rt,
+        &mut world,
+        &[
+            (10, 4, Last::Placed(0)),
+            (20, 6, Last::Placed(1)),
+            (10, 7, Last::Proposed(1)),
+            (10, 3, Last::Quiet),
+            (20, 7, Last::Proposed(1)),
+            (10, 3, Last::Quiet),
+            (20, 6, Last::Saw(&[(10, 1), (20, 1)])),
+            (20, 7, Last::Proposed(3)),
+            (10, 2, Last::Saw(&[(10, 1), (20, 1)])),
+            (10, 7, Last::Proposed(2)),
+            (10, 6, Last::Named(2)),
+            (20, 6, Last::Named(3)),
+        ],
+    );
+    Ok(())
+}
+
+#[test]
+fn the_largest_identity(rt: HostRuntime) -> Result<(), Fail> {
+    let mut world = grid(rt.alloc(), 2, 1000)?;
+    world.begin(u64::MAX)?;
+    world.begin(1)?;
+    assert_eq!(rt; world.begin(0), Err(Refusal::ZeroIdentity));
+    play(
+        &rt,
+        &mut world,
+        &[
+            (u64::MAX, 4, Last::Placed(0)),
+            (1, 6, Last::Placed(1)),
+            (u64::MAX, 7, Last::Proposed(1)),
+            (1, 7, Last::Proposed(1)),
+            (u64::MAX, 6, Last::Saw(&[(1, 1), (u64::MAX, 1)])),
+            (u64::MAX, 7, Last::Proposed(3)),
+            (u64::MAX, 6, Last::Named(3)),
+            (1, 6, Last::Named(1)),
+        ],
+    );
+    Ok(())
+}
+
+#[test]
+fn a_participant_that_is_spent(rt: HostRuntime) -> Result<(), Fail> {
+    let mut world = grid(rt.alloc(), 2, 1)?;
+    world.begin(10)?;
+    world.begin(20)?;
+    play(
+        &rt,
+        &mut world,
+        &[
+            (10, 4, Last::Placed(0)),
+            (20, 6, Last::Placed(1)),
+            (20, 7, Last::Proposed(1)),
+            (10, 6, Last::Quiet),
+            (20, 4, Last::Quiet),
+            (10, 1, Last::Proposed(1)),
+            (10, 6, Last::Spent),
+            (10, 1, Last::Refused(Refusal::Spent)),
+            (20, 2, Last::Named(1)),
+        ],
+    );
+    assert_eq!(rt; world.name_of(10), None);
+    assert_eq!(rt; world.owner_of(1), Some(20));
+    Ok(())
+}
+
+#[test]
+fn one_alone_in_a_tree(rt: HostRuntime) -> Result<(), Fail> {
+    let mut world = tree(rt.alloc(), 2)?;
+    assert_eq!(rt; world.begin(7), Ok(()));
+    play(
+        &rt,
+        &mut world,
+        &[
+            (7, 5, Last::Placed(1)),
+            (7, 9, Last::Proposed(1)),
+            (7, 8, Last::Named(1)),
+            (7, 1, Last::Refused(Refusal::Finished)),
+        ],
+    );
+    tree_rename_law(&world);
+    Ok(())
+}
+
+#[test]
+fn two_in_a_tree(rt: HostRuntime) -> Result<(), Fail> {
+    let mut world = tree(rt.alloc(), 2)?;
+    world.begin(10)?;
+    world.begin(20)?;
+    play(
+        &rt,
+        &mut world,
+        &[
+            (10, 5, Last::Placed(1)),
+            (20, 8, Last::Placed(3)),
+            (20, 15, Last::Proposed(1)),
+            (20, 14, Last::Named(1)),
+            (10, 15, Last::Proposed(1)),
+            (10, 14, Last::Saw(&[(10, 1), (20, 1)])),
+            (10, 15, Last::Proposed(2)),
+            (10, 14, Last::Named(2)),
+        ],
+    );
+    assert_eq!(rt; world.owner_of(1), Some(20));
+    assert_eq!(rt; world.proposals().pairs(), [(10, 2), (20, 1)].as_slice());
+    Ok(())
+}
+
+#[test]
+fn a_node_that_was_refused_is_made_later(rt: HostRuntime) -> Result<(), Fail> {
+    let heap = LocalHeap::new(rt.alloc(), 65_536)?;
+    let mut world = tree(&heap, 2)?;
+    world.begin(10)?;
+    world.begin(20)?;
+    play(&rt, &mut world, &[(10, 1, Last::Quiet)]);
+    let mut boxes = Vec::new(rt.alloc());
+    for _ in 0..4_096 {
+        if let Ok(filled) = Box::new(&heap, [0u64; 2]) {
+            boxes.push(filled)?;
+        }
+    }
+    play(
+        &rt,
+        &mut world,
+        &[
+            (10, 4, Last::Placed(1)),
+            (10, 9, Last::Proposed(1)),
+            (10, 8, Last::Named(1)),
+            (20, 4, Last::Refused(Refusal::NoMemory)),
+            (20, 1, Last::Refused(Refusal::NoMemory)),
+        ],
+    );
+    drop(boxes);
+    play(
+        &rt,
+        &mut world,
+        &[
+            (20, 5, Last::Placed(3)),
+            (20, 15, Last::Proposed(1)),
+            (20, 14, Last::Saw(&[(10, 1), (20, 1)])),
+            (20, 15, Last::Proposed(3)),
+            (20, 14, Last::Named(3)),
+        ],
+    );
+    Ok(())
+}
+
+#[test]
+fn two_over_segments_in_a_row(rt: HostRuntime) -> Result<(), Fail> {
+    let mut world = fixed(rt.alloc(), 2, 2)?;
+    world.begin(20)?;
+    world.begin(10)?;
+    play(
+        &rt,
+        &mut world,
+        &[
+            (10, 4, Last::Quiet),
+            (20, 4, Last::Quiet),
+            (10, 1, Last::Proposed(1)),
+            (20, 1, Last::Proposed(1)),
+            (10, 4, Last::Saw(&[(10, 1), (20, 1)])),
+            (20, 4, Last::Saw(&[(10, 1), (20, 1)])),
+            (10, 5, Last::Proposed(2)),
+            (20, 5, Last::Proposed(3)),
+            (10, 4, Last::Named(2)),
+            (20, 4, Last::Named(3)),
+        ],
+    );
+    fixed_rename_law(&world);
+    Ok(())
+}
+
+#[test]
+fn worlds_in_which_no_names_are_given(rt: HostRuntime) -> Result<(), Fail> {
+    for world in [WorldKind::Splitter, WorldKind::Grid, WorldKind::Tree] {
+        let config = Config::new(world, 2, 4, 1000)?;
+        let refused = RenameWorld::<Grid<Global>, Global>::new(rt.alloc(), config).err();
+        assert_eq!(rt; refused, Some(Refusal::OutOfRange));
+    }
+    for world in [WorldKind::Splitter, WorldKind::Grid, WorldKind::Rename] {
+        let config = Config::new(world, 2, 4, 1000)?;
+        let refused = RenameWorld::<TreePlaces<Global>, Global>::new(rt.alloc(), config).err();
+        assert_eq!(rt; refused, Some(Refusal::OutOfRange));
+    }
+    Ok(())
+}
+
+#[test]
+fn configs_out_of_range(rt: HostRuntime) {
+    for (m, k, limit) in [
+        (0, 4, 1000),
+        (17, 4, 1000),
+        (4, 0, 1000),
+        (4, 65, 1000),
+        (4, 4, 0),
+        (4, 4, 1_000_001),
+    ] {
+        assert_eq!(rt;
+            Config::new(WorldKind::Rename, m, k, limit),
+            Err(Refusal::OutOfRange)
+        );
+    }
+    assert!(rt; Config::new(WorldKind::Tree, 16, 64, 1_000_000).is_ok());
+    assert!(rt; Config::new(WorldKind::Splitter, 1, 1, 1).is_ok());
+}
+
+/// A world in the last bytes of a heap.
+fn is_refused<W: RenamePlaces<A> + Drop, A: Allocator + Clone>(alloc: A, config: Config) -> bool
+where
+    W::Walker: Copy,
+    W::Walk: Copy,
+    W::Value: Drop,
+{
+    RenameWorld::<W, A>::new(alloc, config).err() == Some(Refusal::NoMemory)
+}
+
+#[test]
+fn each_growth_of_a_new_world_refused(rt: HostRuntime) -> Result<(), Fail> {
+    let config = Config::new(WorldKind::Rename, 2, 4, 1000)?;
+    let mut was_refused = false;
+    let mut was_made = false;
+    for kept in 0..512 {
+        let heap = LocalHeap::new(rt.alloc(), 65_536)?;
+        let others = Vec::<u8, &LocalHeap>::with_capacity(&heap, 65_408 - 128 * kept)?;
+        if is_refused::<Grid<&LocalHeap>, &LocalHeap>(&heap, config) {
+            was_refused = true;
+        } else {
+            was_made = true;
+        }
+        drop(others);
+    }
+    assert!(rt; was_refused && was_made);
+    Ok(())
+}
+
+#[test]
+fn the_next_proposal_of_each_rank(rt: HostRuntime) {
+    let mut view = View::new();
+    view.insert(10, 1);
+    view.insert(20, 1);
+    view.insert(30, 4);
+    assert_eq!(rt; next_proposal(&view, 10), 2);
+    assert_eq!(rt; next_proposal(&view, 20), 3);
+    assert_eq!(rt; next_proposal(&view, 30), 4);
+}
