@@ -24,7 +24,8 @@ pub fn work<R: Source, W: Sink, A: Allocator + Clone + Drop>(
 ) -> Result<u8, Fault>
     requires reads { R.calls reader.old < 2 ^ 64 }
     requires writes { W.calls writer.old < 2 ^ 64 }
-    ensures { (played : Result Summary Fault) × (result ≡ status_after played) × IsPlayed (IsRun ask.config) (IsRun ask.config) ask.config.world (reading R.remaining R.calls R.failed) (writing W.contents W.failed) reader.old reader.new writer.old writer.new played }
+    ensures { (played : Result Summary Fault) × (result ≡ status_after played) × IsPlayed (IsRun ask.config) (IsRun ask.config) ask.config.world
+        (reading R.remaining R.calls R.failed) (writing W.contents W.failed) reader.old reader.new writer.old writer.new played }
 {
     match play(alloc, reader, writer, ask.config) {
         Ok(_) => Ok(0),
