@@ -1,6 +1,13 @@
 //! The program, over any streams.
 
-ghost use Rattle.std.specs.Prelude.{◌≡◌, ◌⊎◌, ◌<◌, ◌^◌};
+ghost use Rattle.std.specs.Prelude.{◌≡◌, ◌⊎◌, ◌<◌, ◌^◌, Result, map};
+ghost use Rattle.clap.specs.Faults.{fault_of};
+ghost use Rattle.schedule_player.specs.Played.{reading, writing};
+ghost use Rattle.slotctl.specs.Asked.{IsAnswer};
+ghost use Rattle.slotctl.specs.CommandLine.{slotctl_app};
+ghost use Rattle.slotctl.specs.Done.{IsDone};
+ghost use Rattle.slotctl.specs.declared.asked.Ask.{Ask};
+ghost use Rattle.slotctl.specs.declared.misuse.Misuse.{Misuse};
 ghost use Rattle.slotctl.specs.Statuses.{status_of};
 
 use crate::failure::Failure;
@@ -39,9 +46,17 @@ fn done<S: AsStr, R: Source, W: Sink>(
 ) -> Result<u8, Failure>
     requires reads { R.calls input.old < 2 ^ 64 }
     requires writes { W.calls output.old < 2 ^ 64 }
+    ensures { (asked : Result Ask Misuse) × IsAnswer (map S.text words.now) (fault_of slotctl_app (map S.text words.now)) asked
+        × IsDone (reading R.remaining R.calls R.failed) (writing W.contents W.failed) input.old input.new output.old output.new asked result }
 {
-    let asked = words::ask(alloc, words)?;
-    Ok(working::work(alloc, asked, input, output)?)
+    let asked = match words::ask(alloc, words) {
+        Ok(asked) => asked,
+        Err(misuse) => return Err(Failure::Misuse(misuse)),
+    };
+    match working::work(alloc, asked, input, output) {
+        Ok(status) => Ok(status),
+        Err(fault) => Err(Failure::Fault(fault)),
+    }
 }
 
 /// Writes the text of a failure, help to `output` and every other to `errors`, and answers the status. Help that is not
