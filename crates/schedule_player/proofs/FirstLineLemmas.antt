@@ -1,17 +1,16 @@
 -- the first line of some bytes, and what a run makes of it
-use Rattle.std.proofs.Common.{◌≡◌, ℕ, zero, suc, ◌+◌, ◌<◌, ◌≤◌, ◌==◌, ◌&&◌, Bool, true, false, cond, not, List, [], ◌∷◌, ◌++◌, length, take, get_or, Ok, Err, Result, refl, sym, ap, ◌∙◌, arith, append_assoc, add-one}
+use Rattle.std.proofs.Common.{◌≡◌, ℕ, zero, suc, ◌+◌, ◌<◌, ◌==◌, ◌&&◌, true, false, cond, not, List, [], ◌∷◌, ◌++◌, length, take, get_or, Ok, Err, Result, refl, ap, ◌∙◌, arith, append_assoc}
 use Rattle.std.specs.List.{list_all}
-use Rattle.std.proofs.lemmas.List.{append-nil, take_more, take_all}
+use Rattle.std.proofs.lemmas.List.{append-nil, take_more}
 use Rattle.memchr.specs.Find.{Nowhere, Passes, is_byte}
 use Rattle.schedule_player.specs.declared.bad.Bad.{Bad}
 use Rattle.schedule_player.specs.declared.command.Command.{Command}
-use Rattle.schedule_player.specs.declared.command.Command.TheVariants as command
 use Rattle.schedule_player.specs.declared.config.WorldKind.{WorldKind}
 use Rattle.std.proofs.lemmas.Bool.Decides.{nat_tests}
 use Rattle.std.specs.Prelude.{nat_lt}
 use Rattle.schedule_player.specs.declared.bad.Bad.TheVariants.{TooLong, NotPrintable}
 use Rattle.schedule_player.specs.Meaning.{meaning, is_printable, command_in, words}
-use Rattle.schedule_player.specs.Progress.{Progress, with_line, after_meaning, after_line, after_byte, after_bytes}
+use Rattle.schedule_player.specs.Progress.{Progress, with_line, after_meaning, after_line, after_bytes}
 use Rattle.schedule_player.proofs.ProgressLemmas.{after_bytes-append}
 use Rattle.schedule_player.specs.Lines.{has_no_lf}
 use Rattle.schedule_player.proofs.LineLemmas.{both, not_true}

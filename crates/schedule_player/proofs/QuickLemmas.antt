@@ -1,5 +1,5 @@
 -- numbers and lines that are read in one pass
-use Rattle.std.proofs.Common.{◌≡◌, ℕ, zero, suc, ◌+◌, ◌-◌, ◌*◌, ◌^◌, ◌<◌, ◌≤◌, ◌&&◌, Bool, true, false, cond, not, eqb, List, [], ◌∷◌, ◌++◌, length, take, drop, get_or, subst, Some, None, Ok, refl, sym, ap, ◌∙◌, inl, inr, arith, append_assoc, length-append, add-one}
+use Rattle.std.proofs.Common.{◌≡◌, ℕ, zero, suc, ◌+◌, ◌-◌, ◌*◌, ◌^◌, ◌<◌, ◌≤◌, Bool, true, false, cond, eqb, List, [], ◌∷◌, ◌++◌, length, take, drop, get_or, subst, Some, None, Ok, refl, sym, ap, ◌∙◌, inl, inr, arith, append_assoc, length-append, add-one}
 use Rattle.std.specs.List.{list_all}
 use Rattle.std.specs.Prelude.{codes, nat_lt}
 use Rattle.std.proofs.lemmas.List.{append-nil, take_more, take_all, length-take-le, length-drop}
@@ -12,7 +12,7 @@ use Rattle.schedule_player.specs.declared.command.Command.TheVariants as command
 use Rattle.schedule_player.specs.Digits.{DigitsSoFar}
 use Rattle.schedule_player.specs.Quick.{IsNumberAtLf, IsFirstLine}
 use Rattle.schedule_player.specs.Lines.{pieces_from}
-use Rattle.schedule_player.specs.Meaning.{meaning, words, number_in, is_digit, is_printable, decimal_from, if_fits}
+use Rattle.schedule_player.specs.Meaning.{meaning, number_in, is_digit, is_printable, decimal_from, if_fits}
 use Rattle.schedule_player.proofs.LineLemmas.{both}
 use Rattle.schedule_player.proofs.NumberLemmas.{if_fits-small}
 

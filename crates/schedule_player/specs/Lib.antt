@@ -23,3 +23,4 @@ pub mod WorldLaws
 pub mod Stands
 pub mod Played
 pub mod IsRun
+pub mod Toys

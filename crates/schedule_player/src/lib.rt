@@ -1,9 +1,13 @@
 //! The command language, and runs of it: lines of text in, replies out.
 //!
 //! `play` reads the commands that a reader gives, a line each, has a world answer them, and writes the replies, a line
-//! each. Its theorem: for every reader and writer that tell their bytes, the text that the writer gains is the text of the
-//! answers to the lines of the input, whole, however the bytes were cut; and these answers are the replies of one list of
-//! calls that keeps the law of the world. What a read fault, a write fault and want of memory leave is said too.
+//! each. Its theorem (`IsPlayed`): there is a run of the config, a list of events with their replies that the world's
+//! objects can answer, whose events are those that the lines of the input mean, in order; the writer has gained the text of
+//! its replies, with the answers to bad lines between, however the bytes were cut; and the summary counts them. `quit` ends
+//! the reading, and no call failed. What a read fault, a write fault and want of memory leave is said too.
+//!
+//! A world is what answers events by rules (`Respond`) and is opened from a config (`World`). `play_in` plays in any world,
+//! and `play_on` on whatever answers events.
 //!
 //! A caller:
 //!

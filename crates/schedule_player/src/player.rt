@@ -1,10 +1,10 @@
 //! A run under way: bytes in, replies out.
 
-ghost use Rattle.std.specs.Prelude.{◌≡◌, ℕ, ◌+◌, ◌*◌, ◌^◌, ◌<◌, ◌≤◌, ◌++◌, List, [], length, take, Option, Ok, Err, IfOk, IfErr, OnOk, OnErr, false};
+ghost use Rattle.std.specs.Prelude.{◌≡◌, ◌+◌, ◌*◌, ◌^◌, ◌<◌, ◌≤◌, [], length, take, Ok, Err, IfOk, IfErr, OnOk, OnErr};
 ghost use Rattle.schedule_player.specs.HeldLine.{held};
 ghost use Rattle.schedule_player.specs.Knows.{Knows, KnowsMeant};
-ghost use Rattle.schedule_player.specs.Progress.{Progress, after_meaning, after_line, after_bytes, after_end};
-ghost use Rattle.schedule_player.specs.Stands.{Stands, StandsPart, IsHeld, IsFresh, IsSent};
+ghost use Rattle.schedule_player.specs.Progress.{after_meaning, after_line, after_bytes, after_end};
+ghost use Rattle.schedule_player.specs.Stands.{Advances, AdvancesOn, AdvancesAfresh, AdvancesWriting, AdvancesInPart, IsHeld, IsFresh, IsSent};
 ghost use Rattle.schedule_player.specs.Written.{HasPartOf};
 ghost use Rattle.schedule_player.specs.declared.replies.TheConstants.{HELD_REPLIES};
 ghost use Rattle.schedule_player.specs.declared.print.TheConstants.{REPLY_ROOM};
@@ -112,7 +112,7 @@ impl<A: Allocator> Player<A> {
         requires knows { KnowsMeant D.knows meaning }
         requires room { length self.old.replies + REPLY_ROOM ≤ HELD_REPLIES }
         requires count { self.old.summary.lines + 1 < 2 ^ 64 }
-        ensures stands { (start : D) (p : Progress) (before now : Option (List ℕ)) → Stands D.may start world.old self.old p before now → p.over ≡ false → p.line ≡ [] → Stands D.may start world.new self.new (after_meaning p meaning) before now }
+        ensures stands { AdvancesAfresh D.may world.old self.old world.new self.new (λ p. after_meaning p meaning) }
         ensures kept { self.new.kind ≡ self.old.kind }
         ensures longer { length self.new.replies ≤ length self.old.replies + REPLY_ROOM }
         ensures counted { self.new.summary.lines ≡ self.old.summary.lines + 1 }
@@ -135,7 +135,7 @@ impl<A: Allocator> Player<A> {
         requires knows { Knows D.knows self.old.kind }
         requires room { length self.old.replies + REPLY_ROOM ≤ HELD_REPLIES }
         requires count { self.old.summary.lines + 1 < 2 ^ 64 }
-        ensures stands { (start : D) (p : Progress) (before now : Option (List ℕ)) → Stands D.may start world.old self.old p before now → p.over ≡ false → Stands D.may start world.new self.new (after_line self.old.kind p) before now }
+        ensures stands { AdvancesOn D.may world.old self.old world.new self.new (after_line self.old.kind) }
         ensures kept { self.new.kind ≡ self.old.kind }
         ensures longer { length self.new.replies ≤ length self.old.replies + REPLY_ROOM }
         ensures counted { self.new.summary.lines ≡ self.old.summary.lines + 1 }
@@ -154,7 +154,7 @@ impl<A: Allocator> Player<A> {
         requires count { self.old.summary.lines + 1 < 2 ^ 64 }
         requires some { 0 < length bytes.now }
         ensures taken { (0 < result) × (result ≤ length bytes.now) }
-        ensures stands { (start : D) (p : Progress) (before now : Option (List ℕ)) → Stands D.may start world.old self.old p before now → Stands D.may start world.new self.new (after_bytes self.old.kind p (take result bytes.now)) before now }
+        ensures stands { Advances D.may world.old self.old world.new self.new (λ p. after_bytes self.old.kind p (take result bytes.now)) }
         ensures kept { self.new.kind ≡ self.old.kind }
         ensures longer { length self.new.replies ≤ length self.old.replies + REPLY_ROOM }
         ensures counted { self.new.summary.lines ≤ self.old.summary.lines + 1 }
@@ -179,7 +179,7 @@ impl<A: Allocator> Player<A> {
         requires count { self.old.summary.lines + 1 < 2 ^ 64 }
         requires some { 0 < length bytes.now }
         ensures taken { (0 < result) × (result ≤ length bytes.now) }
-        ensures stands { (start : D) (p : Progress) (before now : Option (List ℕ)) → Stands D.may start world.old self.old p before now → p.over ≡ false → Stands D.may start world.new self.new (after_bytes self.old.kind p (take result bytes.now)) before now }
+        ensures stands { AdvancesOn D.may world.old self.old world.new self.new (λ p. after_bytes self.old.kind p (take result bytes.now)) }
         ensures kept { self.new.kind ≡ self.old.kind }
         ensures longer { length self.new.replies ≤ length self.old.replies + REPLY_ROOM }
         ensures counted { self.new.summary.lines ≤ self.old.summary.lines + 1 }
@@ -244,12 +244,14 @@ impl<A: Allocator> Player<A> {
         requires knows { Knows D.knows self.old.kind }
         requires count { self.old.summary.lines + length chunk.now < 2 ^ 64 }
         requires calls { W.calls writer.old + length self.old.replies + REPLY_ROOM * length chunk.now ≤ 2 ^ 100 }
-        ensures ok { OnOk result ((start : D) (p : Progress) (before : Option (List ℕ)) → Stands D.may start world.old self.old p before (W.contents writer.old) → Stands D.may start world.new self.new (after_bytes self.old.kind p chunk.now) before (W.contents writer.new)) }
+        ensures ok { OnOk result (AdvancesWriting D.may world.old self.old (W.contents writer.old) world.new self.new (W.contents writer.new)
+            (λ p. after_bytes self.old.kind p chunk.now)) }
         ensures empty { OnOk result (self.new.replies ≡ []) }
         ensures only { IfErr result (λ fault. fault ≡ Fault.Write) }
         ensures failed { OnErr result (W.failed writer.old < W.failed writer.new) }
         ensures unfailed { OnOk result (W.failed writer.new ≡ W.failed writer.old) }
-        ensures part { OnErr result ((start : D) (p : Progress) (before : Option (List ℕ)) → Stands D.may start world.old self.old p before (W.contents writer.old) → StandsPart D.may start world.new (after_bytes self.old.kind p chunk.now) before (W.contents writer.new)) }
+        ensures part { OnErr result (AdvancesInPart D.may world.old self.old (W.contents writer.old) world.new (W.contents writer.new)
+            (λ p. after_bytes self.old.kind p chunk.now)) }
         ensures kept { self.new.kind ≡ self.old.kind }
         ensures counted { self.new.summary.lines ≤ self.old.summary.lines + length chunk.now }
         ensures calls { W.calls writer.new ≤ W.calls writer.old + length self.old.replies + REPLY_ROOM * length chunk.now }
@@ -273,12 +275,14 @@ impl<A: Allocator> Player<A> {
         requires room { length self.old.replies + REPLY_ROOM ≤ HELD_REPLIES }
         requires count { self.old.summary.lines + 1 < 2 ^ 64 }
         requires calls { W.calls writer.old + length self.old.replies + REPLY_ROOM ≤ 2 ^ 100 }
-        ensures ok { OnOk result ((start : D) (p : Progress) (before : Option (List ℕ)) → Stands D.may start world.old self.old p before (W.contents writer.old) → Stands D.may start world.new self.new (after_end self.old.kind p) before (W.contents writer.new)) }
+        ensures ok { OnOk result (AdvancesWriting D.may world.old self.old (W.contents writer.old) world.new self.new (W.contents writer.new)
+            (after_end self.old.kind)) }
         ensures empty { OnOk result (self.new.replies ≡ []) }
         ensures only { IfErr result (λ fault. fault ≡ Fault.Write) }
         ensures failed { OnErr result (W.failed writer.old < W.failed writer.new) }
         ensures unfailed { OnOk result (W.failed writer.new ≡ W.failed writer.old) }
-        ensures part { OnErr result ((start : D) (p : Progress) (before : Option (List ℕ)) → Stands D.may start world.old self.old p before (W.contents writer.old) → StandsPart D.may start world.new (after_end self.old.kind p) before (W.contents writer.new)) }
+        ensures part { OnErr result (AdvancesInPart D.may world.old self.old (W.contents writer.old) world.new (W.contents writer.new)
+            (after_end self.old.kind)) }
     {
         self.end_line(rt, world);
         self.send(writer)
@@ -289,7 +293,7 @@ impl<A: Allocator> Player<A> {
         requires knows { Knows D.knows self.old.kind }
         requires room { length self.old.replies + REPLY_ROOM ≤ HELD_REPLIES }
         requires count { self.old.summary.lines + 1 < 2 ^ 64 }
-        ensures stands { (start : D) (p : Progress) (before now : Option (List ℕ)) → Stands D.may start world.old self.old p before now → Stands D.may start world.new self.new (after_end self.old.kind p) before now }
+        ensures stands { Advances D.may world.old self.old world.new self.new (after_end self.old.kind) }
         ensures longer { length self.new.replies ≤ length self.old.replies + REPLY_ROOM }
     {
         if !self.over && !self.line.is_empty() {

@@ -3,7 +3,7 @@
 ghost use Rattle.std.specs.Prelude.{◌≡◌, ◌≢◌, Err, ℕ, ◌+◌, ◌^◌, ◌<◌, List, [], length, Option};
 ghost use Rattle.schedule_player.specs.IsRun.{IsRun};
 ghost use Rattle.schedule_player.specs.Knows.{Knows};
-ghost use Rattle.schedule_player.specs.Lines.{IsCutInto, whole_lines, rest_of};
+ghost use Rattle.schedule_player.specs.Lines.{IsCutInto, IsCutOnce, whole_lines, rest_of};
 ghost use Rattle.schedule_player.specs.OneTalk.{IsOneTalk};
 ghost use Rattle.schedule_player.specs.Played.{IsPlayed, reading, writing};
 ghost use Rattle.schedule_player.specs.Progress.{at_start};
@@ -45,7 +45,8 @@ pub fn play<A: Allocator + Clone, R: Source, W: Sink>(
 ) -> Result<Summary, Fault>
     requires reads { R.calls reader.old < 2 ^ 64 }
     requires writes { W.calls writer.old < 2 ^ 64 }
-    ensures { IsPlayed (IsRun config) (IsRun config) config.world (reading R.remaining R.calls R.failed) (writing W.contents W.failed) reader.old reader.new writer.old writer.new result }
+    ensures { IsPlayed (IsRun config) (IsRun config) config.world
+        (reading R.remaining R.calls R.failed) (writing W.contents W.failed) reader.old reader.new writer.old writer.new result }
 {
     match config.world {
         WorldKind::Splitter => play_in::<SplitterWorld<A>, (), A, R, W>(
@@ -69,7 +70,9 @@ pub fn play_in<D: World<A, H> + Drop, H, A: Allocator + Clone, R: Source, W: Sin
 ) -> Result<Summary, Fault>
     requires reads { R.calls reader.old < 2 ^ 64 }
     requires writes { W.calls writer.old < 2 ^ 64 }
-    ensures { IsPlayed (IsRunOf (D.IsRunIn config) (D.fresh config) D.may) (IsRunOf (D.IsRunIn config) (D.fresh config) D.may) D.KIND (reading R.remaining R.calls R.failed) (writing W.contents W.failed) reader.old reader.new writer.old writer.new result }
+    ensures { IsPlayed (IsRunOf (D.IsRunIn config) (D.fresh config) D.may)
+        (IsRunOf (D.IsRunIn config) (D.fresh config) D.may) D.KIND
+        (reading R.remaining R.calls R.failed) (writing W.contents W.failed) reader.old reader.new writer.old writer.new result }
 {
     let Ok(other) = alloc.clone() else {
         return Err(Fault::Memory);
@@ -92,7 +95,8 @@ pub fn play_on<H, D: Respond<H>, A: Allocator + Clone, R: Source, W: Sink>(
     requires knows { Knows D.knows kind }
     requires reads { R.calls reader.old < 2 ^ 64 }
     requires writes { W.calls writer.old < 2 ^ 64 }
-    ensures played { IsPlayed (IsRunTo D.may world.old world.new) (CanRun D.may world.old) kind (reading R.remaining R.calls R.failed) (writing W.contents W.failed) reader.old reader.new writer.old writer.new result }
+    ensures played { IsPlayed (IsRunTo D.may world.old world.new) (CanRun D.may world.old) kind
+        (reading R.remaining R.calls R.failed) (writing W.contents W.failed) reader.old reader.new writer.old writer.new result }
     ensures unchanged { result ≡ Err Fault.Memory → world.new ≡ world.old }
 {
     let Ok(other) = alloc.clone() else {
@@ -121,7 +125,8 @@ fn run<H, D: Respond<H>, A: Allocator, R: Source, W: Sink>(
     requires fresh { IsFresh player.old.kind player.old }
     requires reads { R.calls reader.old < 2 ^ 64 }
     requires writes { W.calls writer.old < 2 ^ 64 }
-    ensures played { IsPlayed (IsRunTo D.may world.old world.new) (CanRun D.may world.old) player.old.kind (reading R.remaining R.calls R.failed) (writing W.contents W.failed) reader.old reader.new writer.old writer.new result }
+    ensures played { IsPlayed (IsRunTo D.may world.old world.new) (CanRun D.may world.old) player.old.kind
+        (reading R.remaining R.calls R.failed) (writing W.contents W.failed) reader.old reader.new writer.old writer.new result }
     ensures never { result ≢ Err Fault.Memory }
 {
     for reads in 0..MOST_READS {
@@ -158,5 +163,5 @@ pub fn law_of_play<A: Allocator + Clone>()
 /// it; and into no others.
 pub fn law_of_lines()
     ensures cut { (bytes : List ℕ) → IsCutInto bytes (whole_lines bytes) (rest_of bytes) }
-    ensures once { (bytes : List ℕ) (ls : List (List ℕ)) (rest : List ℕ) → IsCutInto bytes ls rest → (ls ≡ whole_lines bytes) × (rest ≡ rest_of bytes) }
+    ensures once { (bytes : List ℕ) → IsCutOnce bytes }
 {}

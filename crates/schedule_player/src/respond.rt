@@ -63,5 +63,6 @@ pub trait World<A, R>: Respond<R> {
     ghost one_fresh: { (c : Config) (w v : Self) → fresh c w → fresh c v → w ≡ v };
 
     /// Where no growth is refused there is one reply, and one is left.
-    ghost one_reply: { (w u v : Self) (e : Event) (a b : Reply) → Self.may w e a u → Self.may w e b v → a ≢ reply.Refused refusal.NoMemory → b ≢ reply.Refused refusal.NoMemory → (a ≡ b) × (u ≡ v) };
+    ghost one_reply: { (w u v : Self) (e : Event) (a b : Reply) → Self.may w e a u → Self.may w e b v →
+        a ≢ reply.Refused refusal.NoMemory → b ≢ reply.Refused refusal.NoMemory → (a ≡ b) × (u ≡ v) };
 }

@@ -1,9 +1,10 @@
 //! Two small worlds for tests: one that refuses a growth now and then, and one whose replies vary.
 
-ghost use Rattle.std.specs.Prelude.{◌≡◌, ℕ, ◌+◌, ◌^◌, ◌<◌, ◌⊎◌, true, refl, Result, List};
+ghost use Rattle.std.specs.Prelude.{◌≡◌, ℕ, true, refl};
 ghost use Rattle.std.proofs.Common.{inl, inr, ◌∙◌, sym, subst};
 ghost use Rattle.schedule_player.specs.Runs.{Runs};
-ghost use Rattle.schedule_player.specs.Worlds.{Rules, may_by};
+ghost use Rattle.schedule_player.specs.Toys.{shelf_rules, IsShelfRun, IsSide};
+ghost use Rattle.schedule_player.specs.Worlds.{may_by};
 ghost use Rattle.schedule_player.specs.WorldLaws.{one_by_rules, answers_by};
 ghost use Rattle.schedule_player.specs.declared.config.WorldKind.TheVariants as kind;
 ghost use Rattle.schedule_player.specs.declared.reply.Reply.TheVariants as reply;
@@ -32,9 +33,9 @@ impl Model for Shelf {
 impl<R> Respond<R> for Shelf {
     ghost knows = { λ e. true };
 
-    ghost may = { may_by (record { reply = λ w e. reply.Ok; after = λ w e. w + 1; grows = λ w e. true }) };
+    ghost may = { may_by shelf_rules };
 
-    ghost answers = { answers_by (record { reply = λ w e. reply.Ok; after = λ w e. w + 1; grows = λ w e. true }) (λ e. true) };
+    ghost answers = { answers_by shelf_rules (λ e. true) };
 
     fn respond(&mut self, _rt: &R, _event: Event) -> Reply {
         self.asked = self.asked.wrapping_add(1);
@@ -53,7 +54,7 @@ impl<A: Drop, R> World<A, R> for Shelf {
 
     ghost fresh = { λ c w. w ≡ 0 };
 
-    ghost IsRunIn = { λ c r. (u : ℕ) × Runs (may_by (record { reply = λ w e. reply.Ok; after = λ w e. w + 1; grows = λ w e. true })) 0 r u };
+    ghost IsRunIn = { IsShelfRun };
 
     fn open(_alloc: A, _config: Config) -> Result<Self, Refusal> {
         Ok(Shelf { taken: 0, asked: 0 })
@@ -61,11 +62,11 @@ impl<A: Drop, R> World<A, R> for Shelf {
 
     ghost meant = { λ line e h. refl };
 
-    ghost lawful = { λ c w u r fresh run. (u, subst (λ t. Runs (may_by (record { reply = λ w e. reply.Ok; after = λ w e. w + 1; grows = λ w e. true })) t r u) fresh run) };
+    ghost lawful = { λ c w u r fresh run. (u, subst (λ t. Runs (may_by shelf_rules) t r u) fresh run) };
 
     ghost one_fresh = { λ c w v a b. a ∙ sym b };
 
-    ghost one_reply = { one_by_rules (record { reply = λ w e. reply.Ok; after = λ w e. w + 1; grows = λ w e. true }) };
+    ghost one_reply = { one_by_rules shelf_rules };
 }
 
 /// Says `stop` and `right` in turn, which its rules leave open.
@@ -78,7 +79,7 @@ pub struct Coin {
 impl<R> Respond<R> for Coin {
     ghost knows = { λ e. true };
 
-    ghost may = { λ w e r u. (r ≡ reply.Stop) ⊎ (r ≡ reply.Right) };
+    ghost may = { λ w e r u. IsSide r };
 
     ghost answers = { λ w e known. (reply.Stop, w, inl refl) };
 

@@ -2,7 +2,7 @@
 //!
 //! `slotctl play --world splitter --m 2` reads commands from the standard input, one a line, and writes a reply to each to
 //! the standard output. The words of the command line are read by `ask`, and what they ask for is done by `work`, over any
-//! reader and writer. The status is 0 where it was done and for help, 2 where the words are refused, and 3 at a fault or
+//! reader and writer; `program` is both, with what is told and the status. The status is 0 where it was done and for help, 2 where the words are refused, and 3 at a fault or
 //! for want of memory; at 2 and 3 a text on the standard error says why.
 #![tactic(auto)]
 
@@ -10,6 +10,7 @@ mod asked;
 mod command_line;
 mod failure;
 mod misuse;
+mod program;
 #[cfg(test)]
 mod tests;
 mod words;
@@ -17,7 +18,7 @@ mod working;
 
 use failure::Failure;
 use misuse::Misuse;
-use schedule_player::{Fault, Tried};
+use schedule_player::Tried;
 use std::env;
 use std::io::ErrorKind;
 use std::process::ExitCode;
@@ -32,33 +33,21 @@ fn command_words(rt: &HostRuntime) -> Result<Vec<String>, Misuse> {
     }
 }
 
-// Does what the words ask for, from the standard input to the standard output.
-fn run(rt: &HostRuntime) -> Result<u8, Failure> {
-    let words = command_words(rt)?;
-    let asked = words::ask(rt.alloc(), words.as_slice())?;
-    let mut reader = Tried::new(rt.stdin());
-    let mut writer = Tried::new(rt.stdout());
-    Ok(working::work(rt.alloc(), asked, &mut reader, &mut writer)?)
-}
-
-// Prints help on the standard output and every other text on the standard error, and answers the status.
-fn report(rt: &HostRuntime, failure: Failure) -> u8 {
-    let failure = match failure {
-        Failure::Misuse(Misuse::Help(text)) => match rt.print(text.as_str()) {
-            Ok(()) => return 0,
-            Err(_) => Failure::Fault(Fault::Write),
-        },
-        other => other,
-    };
-    // A standard error that takes no text leaves the status alone to tell.
-    let _ = rt.eprint(&failure);
-    failure.status()
-}
-
 fn main(rt: HostRuntime) -> ExitCode {
-    let status = match run(&rt) {
-        Ok(status) => status,
-        Err(failure) => report(&rt, failure),
+    let mut output = Tried::new(rt.stdout());
+    let mut errors = rt.stderr();
+    let status = match command_words(&rt) {
+        Ok(words) => {
+            let mut input = Tried::new(rt.stdin());
+            program::program(
+                rt.alloc(),
+                words.as_slice(),
+                &mut input,
+                &mut output,
+                &mut errors,
+            )
+        }
+        Err(misuse) => program::report(Failure::Misuse(misuse), &mut output, &mut errors),
     };
     ExitCode::from(status)
 }

@@ -1,5 +1,6 @@
 use crate::failure::Failure;
 use crate::misuse::Misuse;
+use crate::program::program;
 use crate::words::ask;
 use crate::working::work;
 use schedule_player::{Fault, Tried, WorldKind};
@@ -255,4 +256,85 @@ fn a_write_fault_ends_the_run(rt: HostRuntime) -> Result<(), Fail> {
         b"ok\nquie".as_slice()
     );
     Ok(())
+}
+
+const HELP: &[u8] =
+    b"Plays schedules of shared-memory algorithms, one access a step\n\nUsage: slotctl <COMMAND>\n\nCommands:\n  play  Plays the commands of the standard input, and writes a reply to each\n  help  Print this message or the help of the given subcommand(s)\n\nOptions:\n  -h, --help  Print help\n";
+
+const PLAY_HELP: &[u8] =
+    b"Plays the commands of the standard input, and writes a reply to each\n\nUsage: slotctl play [OPTIONS] --world <NAME>\n\nOptions:\n      --world <NAME>  what is played: splitter or grid\n      --m <NUMBER>    the most participants, from 1 to 16 [default: 4]\n  -h, --help          Print help\n";
+
+const NO_SUBCOMMAND: &[u8] =
+    b"error: 'slotctl' requires a subcommand but one was not provided\n  [subcommands: play, help]\n\nUsage: slotctl <COMMAND>\n\nFor more information, try '--help'.\n";
+
+const TOO_MANY: &[u8] =
+    b"error: invalid value '17' for '--m <NUMBER>': 17 is not in 1..=16\n\nFor more information, try '--help'.\n";
+
+const NO_WORLD: &[u8] = b"error: no such world, or a number out of its range\n";
+
+// The status of the program with these words, what it wrote, and what it told on the standard error.
+fn run_of<R: Read + Drop>(
+    alloc: Global,
+    words: &[&str],
+    input: R,
+    most: usize,
+) -> (u8, Vec<u8>, Vec<u8>) {
+    let mut reader = Tried::new(input);
+    let mut writer = Tried::new(Full {
+        taken: Vec::new(alloc),
+        most,
+    });
+    let mut errors = Vec::new(alloc);
+    let status = program(alloc, words, &mut reader, &mut writer, &mut errors);
+    (status, writer.into_inner().taken, errors)
+}
+
+#[test]
+fn statuses_and_texts_are_those_of_the_protocol(rt: HostRuntime) {
+    let alloc = rt.alloc();
+    let none = b"".as_slice();
+    let rows: [(&[&str], u8, &[u8], &[u8]); 7] = [
+        (&["slotctl", "--help"], 0, HELP, none),
+        (&["slotctl", "help"], 0, HELP, none),
+        (&["slotctl", "play", "--help"], 0, PLAY_HELP, none),
+        (&["slotctl"], 2, none, NO_SUBCOMMAND),
+        (
+            &["slotctl", "play", "--world", "grid", "--m", "17"],
+            2,
+            none,
+            TOO_MANY,
+        ),
+        (&["slotctl", "play", "--world", "ring"], 2, none, NO_WORLD),
+        (
+            &["slotctl", "play", "--world", "grid"],
+            0,
+            b"ok\nquiet\n",
+            none,
+        ),
+    ];
+    for (words, status, text, told) in rows {
+        let (ended, written, errors) = run_of(alloc, words, b"begin 7\nstep 7".as_slice(), 1000);
+        assert_eq!(rt; ended, status, "at {words:?}");
+        assert_eq!(rt; written.as_slice(), text, "at {words:?}");
+        assert_eq!(rt; errors.as_slice(), told, "at {words:?}");
+    }
+}
+
+#[test]
+fn faults_have_status_3_and_a_text(rt: HostRuntime) {
+    let alloc = rt.alloc();
+    let words = ["slotctl", "play", "--world", "splitter"];
+    let input = b"begin 7\nstep 7\nstep 7";
+    let (status, written, errors) = run_of(alloc, words.as_slice(), Broken { bytes: input }, 1000);
+    assert_eq!(rt; status, 3);
+    assert_eq!(rt; written.as_slice(), b"ok\nquiet\n".as_slice());
+    assert_eq!(rt; errors.as_slice(), b"slotctl: read fault\n".as_slice());
+    let (status, written, errors) = run_of(alloc, words.as_slice(), input.as_slice(), 7);
+    assert_eq!(rt; status, 3);
+    assert_eq!(rt; written.as_slice(), b"ok\nquie".as_slice());
+    assert_eq!(rt; errors.as_slice(), b"slotctl: write fault\n".as_slice());
+    let (status, written, errors) = run_of(alloc, &["slotctl", "--help"], input.as_slice(), 7);
+    assert_eq!(rt; status, 3);
+    assert_eq!(rt; written.as_slice(), b"Plays s".as_slice());
+    assert_eq!(rt; errors.as_slice(), b"slotctl: write fault\n".as_slice());
 }

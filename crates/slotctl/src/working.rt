@@ -1,11 +1,8 @@
 //! What the program does, over any reader and writer.
 
-ghost use Rattle.std.specs.Prelude.{◌≡◌, ◌<◌, ◌^◌, Result};
-ghost use Rattle.schedule_player.specs.IsRun.{IsRun};
-ghost use Rattle.schedule_player.specs.Played.{IsPlayed, reading, writing};
-ghost use Rattle.schedule_player.specs.declared.fault.Fault.{Fault};
-ghost use Rattle.schedule_player.specs.declared.summary.Summary.{Summary};
-ghost use Rattle.slotctl.specs.Statuses.{status_after};
+ghost use Rattle.std.specs.Prelude.{◌<◌, ◌^◌};
+ghost use Rattle.schedule_player.specs.Played.{reading, writing};
+ghost use Rattle.slotctl.specs.Done.{IsWorked};
 
 use crate::asked::Ask;
 use schedule_player::{Fault, Sink, Source, play};
@@ -24,7 +21,8 @@ pub fn work<R: Source, W: Sink, A: Allocator + Clone + Drop>(
 ) -> Result<u8, Fault>
     requires reads { R.calls reader.old < 2 ^ 64 }
     requires writes { W.calls writer.old < 2 ^ 64 }
-    ensures { (played : Result Summary Fault) × (result ≡ status_after played) × IsPlayed (IsRun ask.config) (IsRun ask.config) ask.config.world (reading R.remaining R.calls R.failed) (writing W.contents W.failed) reader.old reader.new writer.old writer.new played }
+    ensures { IsWorked ask.config (reading R.remaining R.calls R.failed) (writing W.contents W.failed)
+        reader.old reader.new writer.old writer.new result }
 {
     match play(alloc, reader, writer, ask.config) {
         Ok(_) => Ok(0),

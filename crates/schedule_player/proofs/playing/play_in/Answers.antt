@@ -1,5 +1,5 @@
 use Rattle.schedule_player.specs.Played.{reading, writing}
-use Rattle.schedule_player.specs.Runs.{IsRunTo, CanRun, CouldRun, IsRunOf}
+use Rattle.schedule_player.specs.Runs.{IsRunTo, CanRun, IsRunOf}
 use Rattle.schedule_player.proofs.PlayedLemmas.{played_weaker}
 use Rattle.schedule_player.proofs.playing.play_in.Goals as goal
 

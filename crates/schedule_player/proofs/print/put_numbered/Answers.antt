@@ -1,4 +1,3 @@
-use Rattle.std.proofs.Common.{◌≡◌, ◌+◌, ◌<◌, arith}
 use Rattle.std.proofs.lemmas.Fmt.{decimal_digit}
 use Rattle.schedule_player.proofs.print.put_numbered.Goals as goal
 

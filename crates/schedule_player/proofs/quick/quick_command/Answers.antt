@@ -1,4 +1,4 @@
-use Rattle.std.proofs.Common.{◌≡◌, ◌≤◌, length, get_or, arith, refl}
+use Rattle.std.proofs.Common.{arith}
 use Rattle.schedule_player.proofs.QuickLemmas.{first_step, first_begin}
 use Rattle.schedule_player.proofs.quick.quick_command.Goals as goal
 

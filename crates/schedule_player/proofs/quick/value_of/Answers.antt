@@ -1,5 +1,4 @@
-use Rattle.std.proofs.Common.{◌≡◌, ◌+◌, ◌-◌, ◌*◌, ◌<◌, ◌^◌, get_or, length, true, ap, arith}
-use Rattle.schedule_player.specs.Meaning.{is_digit}
+use Rattle.std.proofs.Common.{◌+◌, ◌-◌, ◌*◌, ◌<◌, ◌^◌, get_or, length, ap, arith}
 use Rattle.schedule_player.proofs.QuickLemmas.{digit_at, one_digit_more, few_digits-fit}
 use Rattle.schedule_player.proofs.quick.value_of.Goals as goal
 

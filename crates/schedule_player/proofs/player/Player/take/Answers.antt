@@ -1,4 +1,4 @@
-use Rattle.std.proofs.Common.{◌≡◌, ◌∙◌, true, false, sym, ap, [], length, take, refl}
+use Rattle.std.proofs.Common.{◌≡◌, ◌∙◌, false, sym, ap, [], length, take}
 use Rattle.schedule_player.specs.PlayerState.{PlayerState}
 use Rattle.schedule_player.proofs.ProgressLemmas.{after_bytes-over}
 use Rattle.schedule_player.proofs.FirstLineLemmas.{means-none, after_bytes-first}

@@ -1,0 +1,77 @@
+//! The program, over any streams.
+
+ghost use Rattle.std.specs.Prelude.{◌≡◌, ◌⊎◌, ◌<◌, ◌^◌, Result, map};
+ghost use Rattle.clap.specs.Faults.{fault_of};
+ghost use Rattle.schedule_player.specs.Played.{reading, writing};
+ghost use Rattle.slotctl.specs.Asked.{IsAnswer};
+ghost use Rattle.slotctl.specs.CommandLine.{slotctl_app};
+ghost use Rattle.slotctl.specs.Done.{IsDone};
+ghost use Rattle.slotctl.specs.declared.asked.Ask.{Ask};
+ghost use Rattle.slotctl.specs.declared.misuse.Misuse.{Misuse};
+ghost use Rattle.slotctl.specs.Statuses.{status_of};
+
+use crate::failure::Failure;
+use crate::misuse::Misuse;
+use crate::{words, working};
+use schedule_player::{Fault, Sink, Source};
+use std::alloc::Global;
+use std::convert::AsStr;
+use std::io::Write;
+
+/// Does what the words of a command line ask for, the first of which is the program's name, and answers the status of the
+/// program: 0 where it was done and for help, 2 where the words are refused, 3 at a fault or for want of memory. Help goes
+/// to `output` beside what is done, every other text to `errors`.
+pub fn program<S: AsStr, R: Source, W: Sink, E: Write>(
+    alloc: Global,
+    words: &[S],
+    input: &mut R,
+    output: &mut W,
+    errors: &mut E,
+) -> u8
+    requires reads { R.calls input.old < 2 ^ 64 }
+    requires writes { W.calls output.old < 2 ^ 64 }
+{
+    match done(alloc, words, input, output) {
+        Ok(status) => status,
+        Err(failure) => report(failure, output, errors),
+    }
+}
+
+// Does what the words ask for.
+fn done<S: AsStr, R: Source, W: Sink>(
+    alloc: Global,
+    words: &[S],
+    input: &mut R,
+    output: &mut W,
+) -> Result<u8, Failure>
+    requires reads { R.calls input.old < 2 ^ 64 }
+    requires writes { W.calls output.old < 2 ^ 64 }
+    ensures { (asked : Result Ask Misuse) × IsAnswer (map S.text words.now) (fault_of slotctl_app (map S.text words.now)) asked
+        × IsDone (reading R.remaining R.calls R.failed) (writing W.contents W.failed) input.old input.new output.old output.new asked result }
+{
+    let asked = match words::ask(alloc, words) {
+        Ok(asked) => asked,
+        Err(misuse) => return Err(Failure::Misuse(misuse)),
+    };
+    match working::work(alloc, asked, input, output) {
+        Ok(status) => Ok(status),
+        Err(fault) => Err(Failure::Fault(fault)),
+    }
+}
+
+/// Writes the text of a failure, help to `output` and every other to `errors`, and answers the status. Help that is not
+/// taken is a fault.
+pub fn report<W: Write, E: Write>(failure: Failure, output: &mut W, errors: &mut E) -> u8
+    ensures { (result ≡ status_of failure) ⊎ (result ≡ 3) }
+{
+    let failure = match failure {
+        Failure::Misuse(Misuse::Help(text)) => match output.write_all(text.as_bytes()) {
+            Ok(()) => return 0,
+            Err(_) => Failure::Fault(Fault::Write),
+        },
+        other => other,
+    };
+    // A standard error that takes no text leaves the status alone to tell.
+    let _ = write!(errors, "{failure}");
+    failure.status()
+}
