@@ -1,7 +1,7 @@
 use Rattle.splitter_grid.proofs.GridTied.{after_none, after_begun, after_step_of, law_after, place_after, front_lawful, due_after, one_place_told}
 use Rattle.std.specs.Prelude.{is_some, false}
 use Rattle.step_memory.proofs.DueLemmas.{not_first_refused}
-use Rattle.splitter_grid.proofs.world.law_of_grid_calls.Goals as goal
+use Rattle.splitter_grid.proofs.laws.law_of_grid_calls.Goals as goal
 
 pub returns-clause-fresh : goal.returns-clause-fresh
 returns-clause-fresh c = after_none
