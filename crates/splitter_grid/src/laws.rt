@@ -14,6 +14,7 @@ ghost use Rattle.step_memory.specs.Due.{RefusesAsDue};
 ghost use Rattle.step_memory.specs.RegisterState.{Registers};
 ghost use Rattle.step_memory.specs.Registers.{answer_of, after_access};
 ghost use Rattle.step_memory.specs.SetAt.{set_at};
+ghost use Rattle.step_memory.specs.Steps.{ReadsOrWrites};
 ghost use Rattle.step_memory.specs.World.{after_begin, begin_refusal, done_unless};
 ghost use Rattle.step_memory.specs.declared.access.Answer.{Answer};
 ghost use Rattle.step_memory.specs.declared.note.Note.TheVariants.{Ended};
@@ -41,8 +42,8 @@ pub fn law_of_doors_and_walks()
 /// A law, which runs nothing: a grid that no one has entered is after no call, each call takes a world after some calls
 /// to one after these and itself, and calls that a world may be after, and every front of them, keep the law of the grid.
 /// Each is refused exactly where those before it make it due. The places that were answered are those at which walks have
-/// ended. A list that tells somebody a second place keeps no law of the grid, nor does one that refuses whoever comes
-/// first.
+/// ended. An access of a walk reads or writes a register, or reaches none. A list that tells somebody a second place keeps
+/// no law of the grid, nor is one that refuses whoever comes first refused where it is due.
 pub fn law_of_grid_calls()
     ensures fresh { (most : ℕ) → most ≤ 16 → After (fresh most) [] }
     ensures begun { (w : GridState) (r : List (Call (Option ℕ))) (id : ℕ) → After w r → After (after_begin w id (walk_of id)) (r ++ Began id (done_unless (begin_refusal w id)) ∷ []) }
@@ -50,6 +51,7 @@ pub fn law_of_grid_calls()
     ensures law { (w : GridState) (r : List (Call (Option ℕ))) → After w r → KeepsGridLaw r }
     ensures front { (w : GridState) (r t : List (Call (Option ℕ))) → After w (r ++ t) → KeepsGridLaw r }
     ensures due { (w : GridState) → RefusesWhereDue w }
+    ensures own { (u : Walker) → ReadsOrWrites (next_access u) }
     ensures one_place { (p a b : ℕ) (before between rest : List (Call (Option ℕ))) → KeepsGridLaw (before ++ Stepped p (Ok (Some a)) ∷ (between ++ Stepped p (Ok (Some b)) ∷ rest)) → ⊥ }
     ensures not_refused { (most p : ℕ) (why : Refusal) (rest : List (Call (Option ℕ))) → 1 ≤ most → p ≢ 0 → RefusesAsDue is_some most false (Began p (Err why) ∷ rest) → ⊥ }
     ensures places { (w : GridState) (r : List (Call (Option ℕ))) (id : ℕ) → After w r → place_in w id ≡ outcome_of id r }
