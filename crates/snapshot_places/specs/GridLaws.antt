@@ -3,8 +3,9 @@ use Rattle.std.proofs.Common.{◌≡◌, ◌≢◌, ℕ, ◌+◌, ◌<◌, ◌�
 use Rattle.std.specs.Prelude.{nat_lt, option_map}
 use Rattle.std.proofs.Math.Path.{fun_ext}
 use Rattle.std.proofs.lemmas.List.{get_or-set_other, length-set}
-use Rattle.std.proofs.lemmas.Bool.Decides.{eqb_tells, leb_tells, nat_tests}
+use Rattle.std.proofs.lemmas.Bool.Decides.{leb_tells, nat_tests}
 use Rattle.step_memory.specs.SetAt.{set_at}
+use Rattle.step_memory.proofs.SetAtLemmas.{set_at-map}
 use Rattle.step_memory.specs.declared.access.Access.{Access}
 use Rattle.step_memory.specs.declared.access.Access.TheVariants.{Read, Write, TestAndSet, Clear, Nothing}
 use Rattle.step_memory.specs.Steps.{Spares, ReadsOrWrites, answer_from}
@@ -66,7 +67,7 @@ sent_plain id name mark (Gone way) = tt
 
 -- the walks, with another in the place of p's
 walks_with : (ways : ℕ → Option GridWalker) (p : ℕ) (u : GridWalker) → walks_of (set_at ways p (Some u)) ≡ set_at (walks_of ways) p (Some u.walker)
-walks_with ways p u = fun_ext (λ q. elim (eqb_tells q p) [ inl e ↦ rw e.0 refl | inr e ↦ rw e.0 refl ])
+walks_with ways p u = fun_ext (set_at-map (option_map (λ (v : GridWalker). v.walker)) ways p (Some u))
 
 on_way : (ways : ℕ → Option GridWalker) (p : ℕ) (u : GridWalker) → ways p ≡ Some u → walks_of ways p ≡ Some u.walker
 on_way ways p u e = ap (option_map (λ (v : GridWalker). v.walker)) e

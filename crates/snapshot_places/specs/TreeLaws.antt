@@ -1,12 +1,12 @@
 -- what is promised of places in a tree
 use Rattle.std.proofs.Common.{if◌then◌else◌, ◌≡◌, ◌≢◌, ℕ, ◌+◌, Bool, true, false, Option, Some, None, inl, inr, refl, ap, arith, add-one}
 use Rattle.std.specs.Prelude.{option_map}
-use Rattle.std.proofs.lemmas.Bool.Decides.{eqb_tells}
 use Rattle.std.proofs.Math.Path.{fun_ext}
 use Rattle.step_memory.specs.declared.access.Access.{Access}
 use Rattle.step_memory.specs.declared.access.Access.TheVariants.{Read, Write, TestAndSet, Clear, Nothing}
 use Rattle.step_memory.specs.declared.access.Answer.{Answer}
 use Rattle.step_memory.specs.SetAt.{set_at}
+use Rattle.step_memory.proofs.SetAtLemmas.{set_at-map}
 use Rattle.step_memory.specs.Steps.{Spares, ReadsOrWrites, answer_from}
 use Rattle.step_memory.specs.declared.record.Record.{Record}
 use Rattle.splitter_tree.specs.declared.register.TreeRegister.{TreeRegister}
@@ -43,7 +43,7 @@ tree_others_kept t a r h = others_kept t.nodes a r h
 
 -- the walks, with another in the place of p's
 walks_with : (ways : ℕ → Option TreeWalker) (p : ℕ) (u : TreeWalker) → walks_of (set_at ways p (Some u)) ≡ set_at (walks_of ways) p (Some u.walker)
-walks_with ways p u = fun_ext (λ q. elim (eqb_tells q p) [ inl e ↦ rw e.0 refl | inr e ↦ rw e.0 refl ])
+walks_with ways p u = fun_ext (set_at-map (option_map (λ (v : TreeWalker). v.walker)) ways p (Some u))
 
 on_way : (ways : ℕ → Option TreeWalker) (p : ℕ) (u : TreeWalker) → ways p ≡ Some u → walks_of ways p ≡ Some u.walker
 on_way ways p u e = ap (option_map (λ (v : TreeWalker). v.walker)) e
