@@ -12,7 +12,8 @@ use Rattle.step_memory.specs.View.{IsRising, value_of, inserted}
 use Rattle.snapshot_core.specs.Sightings.{sighting_of, noted, with_sighting, carried_over}
 use Rattle.snapshot_core.specs.Scan.{view_with}
 use Rattle.snapshot_core.specs.Snapshot.{IsMoment}
-use Rattle.snapshot_core.proofs.Counting.{count_to, count_to-lt, count_to-mono, count_to-gain, count_to-longer}
+use Rattle.step_memory.specs.Count.{count_to}
+use Rattle.step_memory.proofs.CountLemmas.{count_to-lt, count_to-mono, count_to-gain, count_to-longer}
 use Rattle.snapshot_core.proofs.SightingLemmas.{is_known, sighting_of-with, is_known-with, length-with-known, length-with-unknown, noted-known, noted-room, sighting_of-carried, is_known-carried}
 use Rattle.step_memory.proofs.ViewLemmas.{value_of-inserted, IsRising-inserted, length-inserted}
 use Rattle.snapshot_core.proofs.Histories.{number, value, value_in, IsHistory, value_in-set}

@@ -9,15 +9,15 @@ use Rattle.step_memory.proofs.SetAtLemmas.{set_at-same, set_at-other}
 use Rattle.step_memory.proofs.ParticipantLemmas.{participant_of-push, length-with_participant, some_begun}
 use Rattle.step_memory.specs.declared.note.Note.{Note}
 use Rattle.step_memory.specs.declared.note.Note.TheVariants.{Quiet, Said, Ended}
-use Rattle.step_memory.specs.declared.access.Access.TheVariants.{Read, Write}
+use Rattle.step_memory.specs.declared.access.Access.TheVariants.{Read}
 use Rattle.step_memory.specs.declared.access.Answer.{Answer}
 use Rattle.step_memory.specs.declared.refusal.Refusal.{Refusal}
 use Rattle.step_memory.specs.declared.refusal.Refusal.TheVariants.{AlreadyBegun, NotBegun, Finished, Spent}
 use Rattle.step_memory.specs.declared.participant.Participant.{Participant}
 use Rattle.step_memory.specs.Note.{ends}
-use Rattle.step_memory.specs.Steps.{ProgramSteps, MemorySteps, answer_from}
+use Rattle.step_memory.specs.Steps.{answer_from}
 use Rattle.step_memory.specs.Participant.{participant_of, program_of, with_participant, beginner}
-use Rattle.step_memory.specs.World.{begin_refusal, begun_unless, done_unless, may_refuse_by}
+use Rattle.step_memory.specs.World.{begin_refusal, begun_unless, done_unless}
 use Rattle.step_memory.specs.Calls.{lacked_memory, reply_of}
 use Rattle.step_memory.specs.Runs.{Run}
 use Rattle.step_memory.proofs.StepLemmas.{going_answer, going_after}
@@ -31,10 +31,9 @@ use Rattle.snapshot_core.specs.declared.client.SnapReply.{SnapReply}
 use Rattle.snapshot_core.specs.declared.client.SnapReply.TheVariants.{Quiet as Silent, Placed, Written, View as Viewed}
 use Rattle.snapshot_core.specs.Scan.{scan_from, scan_after, scan_view}
 use Rattle.snapshot_core.specs.Client.{first_pending, is_idle, scanning, updating, record_of, with_pending, is_placed, placed_note, pending_after, note_after, access_for, after_for, note_for}
-use Rattle.snapshot_core.specs.SnapWorld.{SnapState, place_in, beginner_at, scan_refusal, update_refusal, scan_refusal_by, update_refusal_by, asked, after_scan, after_update, told, clients_over, snap_answer, after_snap_step, may_lack_memory, way_now, ways_of}
+use Rattle.snapshot_core.specs.SnapWorld.{SnapState, place_in, beginner_at, scan_refusal, update_refusal, scan_refusal_by, update_refusal_by, asked, after_scan, after_update, told, clients_over, snap_answer, after_snap_step, way_now, ways_of}
 use Rattle.snapshot_core.specs.SnapCalls.{SnapCall, next, IsReply, IsAfter, MakesOwnAccess, BeginsTheSame, HasDistinctPlaces, IsConsistentAfter, KeepsTold}
 use Rattle.snapshot_core.specs.SnapCalls.SnapCall.{Began, Updated, Scanned, Stepped}
-use Rattle.snapshot_core.specs.Walks.{WalkSteps}
 use Rattle.snapshot_core.specs.Places.{KnownPlaces, PlacesLaws, BeginsAlike, BoundsScans, KeepsWalks, HasGoneOn, value_for}
 use Rattle.snapshot_core.specs.Snapshot.{SnapObject, SnapBounds, IsMoment, new_object, since_of, with_task, with_update, observed, Allows, IsLawful}
 use Rattle.snapshot_core.specs.Snapshot.Task.{Idle, Placing, Scanning, Updating}
@@ -583,7 +582,7 @@ module _ {S R V U K : Type 0} (known : KnownPlaces S R V U K) (laws : PlacesLaws
   pub all_distinct : (w : SnapState S U K) → HasDistinctPlaces known w
   all_distinct w first r new a p q x mine theirs =
       let k = after_all w first r new a in
-      k.tied.history.distinct q p x (sym (place_is lawful (all_reads first) w k.object k.tied q) ∙ theirs) (sym (place_is lawful (all_reads first) w k.object k.tied p) ∙ mine)
+      k.tied.history.distinct p q x (sym (place_is lawful (all_reads first) w k.object k.tied p) ∙ mine) (sym (place_is lawful (all_reads first) w k.object k.tied q) ∙ theirs)
 
   pub told_holds : (w : SnapState S U K) (p : ℕ) → KeepsTold known w p
   told_holds w p first r new a x c =

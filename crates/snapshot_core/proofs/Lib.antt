@@ -1,6 +1,5 @@
 pub mod SightingLemmas
 pub mod SnapWorldLemmas
-pub mod Counting
 pub mod FewValues
 pub mod Histories
 pub mod Collecting

@@ -1,5 +1,5 @@
 -- the calls of a snapshot object
-use Rattle.std.proofs.Common.{◌≡◌, ◌≢◌, ◌<◌, ◌≤◌, ℕ, true, false, cond, List, [], ◌∷◌, ◌++◌, Option, Some, None, Result, Ok, Err, inl, inr, refl, sym, ap, ◌∙◌}
+use Rattle.std.proofs.Common.{◌≡◌, ◌≢◌, ◌<◌, ◌≤◌, ℕ, true, false, cond, Option, Some, None, Result, Ok, Err, inl, inr, refl, sym, ap, ◌∙◌}
 use Rattle.step_memory.specs.declared.refusal.Refusal.{Refusal}
 use Rattle.step_memory.specs.declared.refusal.Refusal.TheVariants.{AlreadyBegun, NotBegun, Finished, Spent, NoMemory}
 use Rattle.step_memory.specs.Participant.{participant_of, program_of}
@@ -8,11 +8,15 @@ use Rattle.step_memory.specs.Calls.{lacked_memory, reply_of}
 use Rattle.std.proofs.lemmas.Bool.{lt-ltb, le-ltb}
 use Rattle.step_memory.proofs.StepLemmas.{most_stepped, lacks_none, lacks_or_not}
 use Rattle.step_memory.proofs.RunLemmas.{run_more}
+use Rattle.std.specs.Prelude.{option_map}
+use Rattle.step_memory.specs.Locality.{LookAlike, StandAlike}
+use Rattle.step_memory.specs.declared.participant.Participant.{Participant}
+use Rattle.step_memory.proofs.LocalityLemmas.{stand_alike}
 use Rattle.snapshot_core.specs.declared.client.Client.{Client}
 use Rattle.snapshot_core.specs.declared.client.SnapReply.{SnapReply}
 use Rattle.snapshot_core.specs.Places.{KnownPlaces}
 use Rattle.snapshot_core.specs.Client.{is_idle, scanning, updating}
-use Rattle.snapshot_core.specs.SnapWorld.{SnapState, beginner_at, scan_refusal, update_refusal, asked, after_scan, after_update, told, clients_over, snap_answer, snap_answer_by, after_snap_step, after_snap_by, may_lack_memory}
+use Rattle.snapshot_core.specs.SnapWorld.{SnapState, beginner_at, scan_refusal, update_refusal, asked, after_scan, after_update, told, clients_over, snap_answer, snap_answer_by, after_snap_step, after_snap_by, may_lack_memory, StaysAlike}
 use Rattle.snapshot_core.specs.SnapCalls.{SnapCall, fresh_over, next, IsReply, LeadsOn}
 use Rattle.snapshot_core.specs.SnapCalls.SnapCall.{Began, Updated, Scanned, Stepped}
 
@@ -109,3 +113,16 @@ module _ {S R V U K : Type 0} (t : KnownPlaces S R V U K) where
 
   pub busy_answer : (w : SnapState S U K) (id : ℕ) (c : Client U K) → Some c ≡ program_of id w.participants → is_idle c.pending ≡ false → snap_answer t w id ≡ reply_of told (step_answer (clients_over t) t.memory w id)
   busy_answer w id c h busy = let e = sym h in rw (e, busy) refl
+
+  stand_by : (w other : SnapState S U K) (p : ℕ) → LookAlike (clients_over t) t.memory p w other → (o : Option (Client U K)) → StandAlike p (after_snap_by t w p o) (after_snap_by t other p o)
+  stand_by w other p alike None = alike.participant
+  stand_by w other p alike (Some c) = elim (is_idle c.pending) as (λ b. StandAlike p (cond b w (after_step (clients_over t) t.memory w p)) (cond b other (after_step (clients_over t) t.memory other p))) [
+    | true ↦ alike.participant
+    | false ↦ stand_alike (clients_over t) t.memory p w other alike
+  ]
+
+  -- where a participant then stands depends on what it sees
+  pub stays_alike : (w new : SnapState S U K) (p : ℕ) → new ≡ after_snap_step t w p → StaysAlike t w new p
+  stays_alike w new p state other alike =
+      let same : program_of p w.participants ≡ program_of p other.participants = ap (option_map (λ (v : Participant (Client U K)). v.program)) alike.participant in
+      rw (state, ← same) (stand_by w other p alike (program_of p w.participants))

@@ -1,11 +1,10 @@
 -- what places promise: of the ways to them, and of walks over their segments
 use Rattle.std.specs.Prelude.{◌≡◌, ◌≢◌, ◌↔◌, ◌⊎◌, ℕ, ◌+◌, ◌*◌, ◌<◌, ◌≤◌, false, Option, Some, None}
 use Rattle.step_memory.specs.SetAt.{set_at}
-use Rattle.step_memory.specs.declared.access.Access.{Access}
-use Rattle.step_memory.specs.declared.access.Access.TheVariants.{Read, Write, TestAndSet, Clear, Nothing}
+use Rattle.step_memory.specs.declared.access.Access.TheVariants.{Read, Write, Nothing}
 use Rattle.step_memory.specs.declared.access.Answer.{Answer}
 use Rattle.step_memory.specs.declared.note.Note.TheVariants.{Ended}
-use Rattle.step_memory.specs.Steps.{ProgramSteps, MemorySteps, answer_from}
+use Rattle.step_memory.specs.Steps.{ProgramSteps, MemorySteps, ReadsOrWrites, answer_from}
 use Rattle.step_memory.specs.declared.record.Record.{Record}
 use Rattle.snapshot_core.specs.Walks.{WalkSteps}
 
@@ -47,14 +46,6 @@ pub record KnownPlaces (S R V U K : Type 0) : Type 1 where
 -- the record of these parts
 abbrev pub places_by : {S R V U K : Type 0} → ProgramSteps U R V ℕ → (U → Option ℕ) → WalkSteps K R V → MemorySteps S R V → (S → ℕ) → (ℕ → ℕ → U) → (S → K) → PlaceTies S U K → KnownPlaces S R V U K
 places_by walker place_of walks memory most_of walker_from walk_from ties = record { walker = walker; place_of = place_of; walks = walks; memory = memory; most_of = most_of; walker_from = walker_from; walk_from = walk_from; ties = ties }
-
--- a read, a write or nothing
-abbrev pub IsPlain : {R V : Type 0} → Access R V → Type 0
-IsPlain (Read r) = Unit {0}
-IsPlain (Write r v) = Unit {0}
-IsPlain (TestAndSet r) = ⊥
-IsPlain (Clear r) = ⊥
-IsPlain Nothing = Unit {0}
 
 module _ {S R V U K : Type 0} (t : KnownPlaces S R V U K) where
   -- what stands in the segment at a place
@@ -131,7 +122,7 @@ module _ {S R V U K : Type 0} (t : KnownPlaces S R V U K) where
     -- who begins has no place yet, or nobody takes a step to its place
     pub waits : (b p : ℕ) → (t.place_of (t.walker_from b p) ≡ None) ⊎ ((c : ℕ) → t.ties.placing c ≡ 0)
     -- an access on the way to a place is a read, a write or none
-    pub plain : (u : U) → IsPlain (t.walker.next u)
+    pub plain : (u : U) → ReadsOrWrites (t.walker.next u)
     -- and only such an access may want memory: no read does, nor the write of a segment, nor an access that is none
     pub sure_nothing : (s : S) → t.memory.may_refuse s Nothing ≡ false
     pub sure_reads : (s : S) (r : R) → t.memory.may_refuse s (Read r) ≡ false

@@ -2,6 +2,7 @@
 use Rattle.std.specs.Prelude.{◌≡◌, ℕ, true, if◌then◌else◌, ◌⊎◌, List, [], ◌∷◌, ◌++◌, length, Some, Result, Ok, Err, Contains}
 use Rattle.step_memory.specs.declared.refusal.Refusal.{Refusal}
 use Rattle.step_memory.specs.declared.refusal.Refusal.TheVariants.{NoMemory}
+use Rattle.step_memory.specs.Distinct.{AreDistinct}
 use Rattle.step_memory.specs.Participant.{program_of}
 use Rattle.step_memory.specs.World.{begin_refusal, done_unless}
 use Rattle.step_memory.specs.Calls.{lacked_memory}
@@ -62,8 +63,7 @@ module _ {S R V U K : Type 0} (t : KnownPlaces S R V U K) where
 
   -- no two have one place
   abbrev pub HasDistinctPlaces : SnapState S U K → Type 0
-  HasDistinctPlaces w = (first : S) (r : List SnapCall) → t.ties.IsNew first → IsAfter first w r →
-      (p q place : ℕ) → place_in t w p ≡ Some place → place_in t w q ≡ Some place → q ≡ p
+  HasDistinctPlaces w = (first : S) (r : List SnapCall) → t.ties.IsNew first → IsAfter first w r → AreDistinct (place_in t w)
 
   -- the memory agrees with the ways of those who have begun
   abbrev pub IsConsistentAfter : SnapState S U K → Type 0

@@ -8,8 +8,8 @@ use Rattle.step_memory.specs.declared.refusal.Refusal.{Refusal}
 use Rattle.step_memory.specs.declared.refusal.Refusal.TheVariants.{AlreadyBegun, NotBegun, Finished, Spent}
 use Rattle.step_memory.specs.declared.participant.Participant.{Participant}
 use Rattle.step_memory.specs.Participant.{participant_of, program_of}
-use Rattle.step_memory.specs.Locality.{LookAlike}
-use Rattle.step_memory.specs.Steps.{ProgramSteps}
+use Rattle.step_memory.specs.Locality.{LookAlike, StandAlike}
+use Rattle.step_memory.specs.Steps.{ProgramSteps, ReadsOrWrites}
 use Rattle.step_memory.specs.WorldState.{WorldState}
 use Rattle.step_memory.specs.World.{after_begin, after_set, step_answer, after_step, may_refuse_step}
 use Rattle.step_memory.specs.Calls.{reply_of}
@@ -18,7 +18,7 @@ use Rattle.snapshot_core.specs.declared.client.Pending.{Pending}
 use Rattle.snapshot_core.specs.declared.client.Pending.TheVariants.{Nothing, Placing, Scan, Update, Write as Writing}
 use Rattle.snapshot_core.specs.declared.client.SnapReply.{SnapReply}
 use Rattle.snapshot_core.specs.declared.client.SnapReply.TheVariants.{Quiet as Silent}
-use Rattle.snapshot_core.specs.Places.{KnownPlaces, IsPlain}
+use Rattle.snapshot_core.specs.Places.{KnownPlaces}
 use Rattle.snapshot_core.specs.Client.{client_at, client_steps, is_idle, scanning, updating, record_of}
 
 -- a memory of type S, and participants on ways U whose scans take walks K
@@ -111,7 +111,7 @@ module _ {S R V U K : Type 0} (t : KnownPlaces S R V U K) where
   -- the end of an update the write of its own segment
   abbrev pub IsAccessFor : Client U K → Pending → Access R V → Type 0
   IsAccessFor c Nothing a = a ≡ Idle
-  IsAccessFor c Placing a = IsPlain a
+  IsAccessFor c Placing a = ReadsOrWrites a
   IsAccessFor c Scan a = (r : R) × (a ≡ Read r)
   IsAccessFor c (Update value) a = (r : R) × (a ≡ Read r)
   IsAccessFor c (Writing value view) a = (place : ℕ) × (t.place_of c.walker ≡ Some place) × (a ≡ Write (t.walks.segment place) (t.walks.stored (Some (record_of c value view))))
@@ -127,3 +127,7 @@ module _ {S R V U K : Type 0} (t : KnownPlaces S R V U K) where
   -- in each object that looks alike to p the answer is the same
   abbrev pub AnswersAlike : SnapState S U K → ℕ → Result SnapReply Refusal → Type 0
   AnswersAlike w p reply = (other : SnapState S U K) → LookAlike clients_over t.memory p w other → reply ≡ snap_answer other p
+
+  -- and p, which stands in this new object, then stands alike there
+  abbrev pub StaysAlike : SnapState S U K → SnapState S U K → ℕ → Type 0
+  StaysAlike w new p = (other : SnapState S U K) → LookAlike clients_over t.memory p w other → StandAlike p new (after_snap_step other p)

@@ -7,15 +7,18 @@
 //! then holds a view that was scanned within this scan. Which registers a collect reads, and in which order, is the
 //! business of the *places* (`Places`): what it reads next may depend on what it read.
 //!
-//! The law, over every list of calls with their replies: *moments* are the maps from identity to value, the empty one
-//! first and a new one for each write. A view that a scan shows is a moment, at or after the one that was the last at the
-//! scan's first read, and no later than its last read. Where b have begun, of whom walks over the segments make at most r
-//! reads, a scan takes at most (b + 1)r steps whatever the others do, each a read, and an update takes one step more, its
-//! write. A step makes one access, which the participant's own state names. (Counting steps, the sequence numbers'
-//! beginning at 1 and the limit of updates are this project's profile.)
+//! The law, over every list of calls with their replies and over each of its fronts: *moments* are the maps from identity
+//! to value, the empty one first and a new one for each write. A view that a scan shows is a moment, at or after the one
+//! that was the last at the scan's first read, and no later than its last read; it has no more pairs than have begun. Where
+//! b have begun, of whom walks over the segments make at most r reads, a scan takes at most (b + 1)r steps whatever the
+//! others do, each a read, and an update takes one step more, its write. A call is refused exactly where that is due, and
+//! for want of memory only on the way to a place. A step makes one access, which the participant's own state names.
+//! (Counting steps, the sequence numbers' beginning at 1 and the limit of updates are this project's profile.)
 //!
-//! What places promise stands in `specs/Places.antt`, and each implementor of `Places` proves it. `Fixed` is one: segments
-//! in a row.
+//! What places promise stands in `specs/Places.antt`, and each implementor of `Places` proves it. Contracts name it by one
+//! record, `⟦<W as Known>⟧.places`: what the ways to places, the walks and the memory do. `Fixed` is one of them, segments
+//! in a row; the crate `snapshot_places` has the grid and the tree. What structures above stand on is stated by
+//! `law_of_snapshot_calls` and `law_of_clients`.
 //!
 //! A caller, over three segments in a row:
 //!

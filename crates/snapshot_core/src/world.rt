@@ -4,7 +4,7 @@ ghost use Rattle.std.specs.Prelude.{◌≡◌, ◌≢◌, [], IfOk, OnErr, Err, 
 ghost use Rattle.step_memory.specs.Locality.{IsLocal};
 ghost use Rattle.step_memory.specs.World.{begin_refusal, done_unless};
 ghost use Rattle.snapshot_core.specs.Snapshot.{IsLawful};
-ghost use Rattle.snapshot_core.specs.SnapWorld.{place_in, after_snap_begin, scan_refusal, update_refusal, after_scan, after_update, clients_over, snap_answer, after_snap_step, may_lack_memory, IsOnWay, AnswersAlike};
+ghost use Rattle.snapshot_core.specs.SnapWorld.{place_in, after_snap_begin, scan_refusal, update_refusal, after_scan, after_update, clients_over, snap_answer, after_snap_step, may_lack_memory, IsOnWay, AnswersAlike, StaysAlike};
 ghost use Rattle.snapshot_core.specs.SnapCalls.{fresh_over, IsAfter, LeadsOn, MakesOwnAccess, HasDistinctPlaces, KeepsTold};
 ghost use Rattle.snapshot_core.specs.SnapCalls.SnapCall.{Began, Updated, Scanned, Stepped};
 
@@ -53,6 +53,7 @@ where
     pub fn begin(&mut self, id: u64) -> Result<(), Refusal>
         ensures answer { result ≡ done_unless (begin_refusal self.old id) }
         ensures state { self.new ≡ after_snap_begin ⟦<W as Known>⟧.places self.old id }
+        ensures refused { OnErr result (self.new ≡ self.old) }
         ensures after { LeadsOn ⟦<W as Known>⟧.places self.old self.new (Began id result) }
         ensures law { IsLawful ⟦<W as Known>⟧.places self.new }
     {
@@ -67,6 +68,7 @@ where
     pub fn update(&mut self, id: u64, value: u64) -> Result<(), Refusal>
         ensures answer { result ≡ done_unless (update_refusal self.old id) }
         ensures state { self.new ≡ after_update self.old id value }
+        ensures refused { OnErr result (self.new ≡ self.old) }
         ensures after { LeadsOn ⟦<W as Known>⟧.places self.old self.new (Updated id value result) }
         ensures law { IsLawful ⟦<W as Known>⟧.places self.new }
     {
@@ -88,6 +90,7 @@ where
     pub fn scan(&mut self, id: u64) -> Result<(), Refusal>
         ensures answer { result ≡ done_unless (scan_refusal self.old id) }
         ensures state { self.new ≡ after_scan self.old id }
+        ensures refused { OnErr result (self.new ≡ self.old) }
         ensures after { LeadsOn ⟦<W as Known>⟧.places self.old self.new (Scanned id result) }
         ensures law { IsLawful ⟦<W as Known>⟧.places self.new }
     {
@@ -113,10 +116,12 @@ where
         ensures law { IsLawful ⟦<W as Known>⟧.places self.new }
 
         // Nothing of the object changes but this participant and the register that it names, and in another one that
-        // looks alike to this participant the answer is the same. The access is one for what it has to do: on its way to
-        // its place a read, a write or none, in a scan a read, at the end of an update the write of its own segment.
+        // looks alike to this participant the answer is the same, and where the participant then stands. The access is
+        // one for what it has to do: on its way to its place a read, a write or none, in a scan a read, at the end of an
+        // update the write of its own segment.
         ensures local { IsLocal (clients_over ⟦<W as Known>⟧.places) W.steps id self.old self.new }
         ensures alike { result ≢ Err Refusal.NoMemory → AnswersAlike ⟦<W as Known>⟧.places self.old id result }
+        ensures stands_alike { result ≢ Err Refusal.NoMemory → StaysAlike ⟦<W as Known>⟧.places self.old self.new id }
         ensures own { MakesOwnAccess ⟦<W as Known>⟧.places self.old id }
     {
         let Some(client) = self.world.program(id) else {

@@ -3,11 +3,12 @@ use Rattle.std.proofs.Common.{◌≡◌, ◌≢◌, ℕ, ◌+◌, ◌<◌, ◌�
 use Rattle.std.specs.Prelude.{nat_lt, option_map}
 use Rattle.std.proofs.Math.Path.{fun_ext}
 use Rattle.std.proofs.lemmas.List.{get_or-set_other, length-set}
-use Rattle.std.proofs.lemmas.Bool.Decides.{eqb_tells, leb_tells, nat_tests}
+use Rattle.std.proofs.lemmas.Bool.Decides.{leb_tells, nat_tests}
 use Rattle.step_memory.specs.SetAt.{set_at}
+use Rattle.step_memory.proofs.SetAtLemmas.{set_at-map}
 use Rattle.step_memory.specs.declared.access.Access.{Access}
 use Rattle.step_memory.specs.declared.access.Access.TheVariants.{Read, Write, TestAndSet, Clear, Nothing}
-use Rattle.step_memory.specs.Steps.{Spares, answer_from}
+use Rattle.step_memory.specs.Steps.{Spares, ReadsOrWrites, answer_from}
 use Rattle.step_memory.specs.Registers as registers
 use Rattle.step_memory.specs.declared.record.Record.{Record}
 use Rattle.splitter.specs.declared.stage.Stage.{Stage}
@@ -27,7 +28,7 @@ use Rattle.snapshot_places.specs.declared.grid_walk.GridWalk.{GridWalk}
 use Rattle.snapshot_places.specs.GridState.{GridState}
 use Rattle.snapshot_places.specs.Grid.{segments_for, register_of, with_doors, with_segments, after_access, door_access, word_answer, grid_walker_steps, next_place, grid_place, grid_walker}
 use Rattle.snapshot_places.specs.GridTies.{IsGridFor, IsWalkAt, walks_of, grid_places}
-use Rattle.snapshot_core.specs.Places.{IsPlain, KeepsWalks, HasGoneOn, HasWritten, ReadsOn, PlacesLaws}
+use Rattle.snapshot_core.specs.Places.{KeepsWalks, HasGoneOn, HasWritten, ReadsOn, PlacesLaws}
 
 -- an access changes no register but the one that it names
 pub others_kept : (g : GridState) (a : Access GridRegister GridValue) (r : GridRegister) → Spares a r → register_of (after_access g a) r ≡ register_of g r
@@ -57,7 +58,7 @@ told g id name mark SawClear = refl
 told g id name mark WroteMark = refl
 told g id name mark (Gone way) = refl
 
-sent_plain : (id name mark : ℕ) (s : Stage) → IsPlain (door_access (access_at id name mark s))
+sent_plain : (id name mark : ℕ) (s : Stage) → ReadsOrWrites (door_access (access_at id name mark s))
 sent_plain id name mark Outside = tt
 sent_plain id name mark WroteName = tt
 sent_plain id name mark SawClear = tt
@@ -66,7 +67,7 @@ sent_plain id name mark (Gone way) = tt
 
 -- the walks, with another in the place of p's
 walks_with : (ways : ℕ → Option GridWalker) (p : ℕ) (u : GridWalker) → walks_of (set_at ways p (Some u)) ≡ set_at (walks_of ways) p (Some u.walker)
-walks_with ways p u = fun_ext (λ q. elim (eqb_tells q p) [ inl e ↦ rw e.0 refl | inr e ↦ rw e.0 refl ])
+walks_with ways p u = fun_ext (set_at-map (option_map (λ (v : GridWalker). v.walker)) ways p (Some u))
 
 on_way : (ways : ℕ → Option GridWalker) (p : ℕ) (u : GridWalker) → ways p ≡ Some u → walks_of ways p ≡ Some u.walker
 on_way ways p u e = ap (option_map (λ (v : GridWalker). v.walker)) e

@@ -1,13 +1,13 @@
 -- what is promised of places in a tree
 use Rattle.std.proofs.Common.{if◌then◌else◌, ◌≡◌, ◌≢◌, ℕ, ◌+◌, Bool, true, false, Option, Some, None, inl, inr, refl, ap, arith, add-one}
 use Rattle.std.specs.Prelude.{option_map}
-use Rattle.std.proofs.lemmas.Bool.Decides.{eqb_tells}
 use Rattle.std.proofs.Math.Path.{fun_ext}
 use Rattle.step_memory.specs.declared.access.Access.{Access}
 use Rattle.step_memory.specs.declared.access.Access.TheVariants.{Read, Write, TestAndSet, Clear, Nothing}
 use Rattle.step_memory.specs.declared.access.Answer.{Answer}
 use Rattle.step_memory.specs.SetAt.{set_at}
-use Rattle.step_memory.specs.Steps.{Spares, answer_from}
+use Rattle.step_memory.proofs.SetAtLemmas.{set_at-map}
+use Rattle.step_memory.specs.Steps.{Spares, ReadsOrWrites, answer_from}
 use Rattle.step_memory.specs.declared.record.Record.{Record}
 use Rattle.splitter_tree.specs.declared.register.TreeRegister.{TreeRegister}
 use Rattle.splitter_tree.specs.declared.register.TreeRegister.TheVariants.{Mark, Name, Taken, Contents}
@@ -35,7 +35,7 @@ use Rattle.snapshot_places.specs.declared.tree_walker.TreeWalker.{TreeWalker}
 use Rattle.snapshot_places.specs.declared.tree_walk.TreeWalk.{TreeWalk}
 use Rattle.snapshot_places.specs.Tree.{TreeState, register_in, tree_after, tree_walker_steps, tree_walker}
 use Rattle.snapshot_places.specs.TreeTies.{walks_of, tree_ties, tree_places}
-use Rattle.snapshot_core.specs.Places.{IsPlain, KeepsWalks, HasGoneOn, HasWritten, ReadsOn, PlacesLaws}
+use Rattle.snapshot_core.specs.Places.{KeepsWalks, HasGoneOn, HasWritten, ReadsOn, PlacesLaws}
 
 -- an access changes no register but the one that it names
 pub tree_others_kept : (t : TreeState) (a : Access TreeRegister TreeValue) (r : TreeRegister) → Spares a r → register_in (tree_after t a) r ≡ register_in t r
@@ -43,7 +43,7 @@ tree_others_kept t a r h = others_kept t.nodes a r h
 
 -- the walks, with another in the place of p's
 walks_with : (ways : ℕ → Option TreeWalker) (p : ℕ) (u : TreeWalker) → walks_of (set_at ways p (Some u)) ≡ set_at (walks_of ways) p (Some u.walker)
-walks_with ways p u = fun_ext (λ q. elim (eqb_tells q p) [ inl e ↦ rw e.0 refl | inr e ↦ rw e.0 refl ])
+walks_with ways p u = fun_ext (set_at-map (option_map (λ (v : TreeWalker). v.walker)) ways p (Some u))
 
 on_way : (ways : ℕ → Option TreeWalker) (p : ℕ) (u : TreeWalker) → ways p ≡ Some u → walks_of ways p ≡ Some u.walker
 on_way ways p u e = ap (option_map (λ (v : TreeWalker). v.walker)) e
@@ -104,22 +104,22 @@ tree_reads t k j h =
       counted = λ i l more. (l.0 + (if finds_mark k.walk found then 1 else 0), read_resumed marked k.walk found l.0 i saw l.1 more);
     }
 
-words_plain : (a : Access TreeRegister ℕ) → IsPlain a → IsPlain (in_words a)
+words_plain : (a : Access TreeRegister ℕ) → ReadsOrWrites a → ReadsOrWrites (in_words a)
 words_plain (Read r) h = tt
 words_plain (Write r v) h = tt
 words_plain (TestAndSet r) h = h
 words_plain (Clear r) h = h
 words_plain Nothing h = tt
 
-visit_plain : (id : ℕ) (name mark : TreeRegister) (s : Stage) → IsPlain (access_at id name mark s)
+visit_plain : (id : ℕ) (name mark : TreeRegister) (s : Stage) → ReadsOrWrites (access_at id name mark s)
 visit_plain id name mark Outside = tt
 visit_plain id name mark WroteName = tt
 visit_plain id name mark SawClear = tt
 visit_plain id name mark WroteMark = tt
 visit_plain id name mark (Gone way) = tt
 
-way_plain : (u : Walker) → IsPlain (next_access u)
-way_plain u = elim u.is_marking as (λ marking. IsPlain (if marking then Write (Mark u.place) (Word 1) else in_words (access_of u.visitor))) [
+way_plain : (u : Walker) → ReadsOrWrites (next_access u)
+way_plain u = elim u.is_marking as (λ marking. ReadsOrWrites (if marking then Write (Mark u.place) (Word 1) else in_words (access_of u.visitor))) [
   | true ↦ tt
   | false ↦ words_plain (access_of u.visitor) (visit_plain u.visitor.identity u.visitor.name u.visitor.mark u.visitor.stage)
 ]

@@ -4,7 +4,7 @@ use Rattle.step_memory.specs.Participant.{program_of}
 use Rattle.snapshot_core.specs.Client.{is_idle}
 use Rattle.snapshot_core.specs.SnapWorld.{snap_answer, after_snap_step, may_lack_memory}
 use Rattle.snapshot_core.specs.SnapCalls.SnapCall.{Stepped}
-use Rattle.snapshot_core.proofs.SnapWorldLemmas.{after_call, after_step_call, absent_state, absent_answer, idle_state, idle_answer}
+use Rattle.snapshot_core.proofs.SnapWorldLemmas.{after_call, after_step_call, absent_state, absent_answer, idle_state, idle_answer, stays_alike}
 use Rattle.snapshot_core.proofs.Following.{law_holds, own_access_holds}
 use Rattle.snapshot_core.specs.Places.{KnownPlaces, places_by}
 use Rattle.snapshot_core.proofs.world.SnapWorld.step.Given.{Over}
@@ -64,3 +64,24 @@ pub returns-in_err-step-clause-on_way : goal.returns-in_err-step-clause-on_way
 returns-in_err-step-clause-on_way g c = λ h.
     let lacks : c.from_residual.result ≡ Err NoMemory → may_lack_memory (known g) c.args.self.now c.args.id ≡ true = search rules in
     lacks_on_way (known g) g.met.W.Places.laws c.args.self.now c.args.id (lacks h)
+
+pub returns-in_default-clause-stands_alike : goal.returns-in_default-clause-stands_alike
+returns-in_default-clause-stands_alike g c = λ h.
+    let none : None ≡ program_of c.args.id c.args.self.now.participants = rw (← c.self.view_is) c.in_default.ensures in
+    stays_alike (known g) c.args.self.now c.args.self.now c.args.id (absent_state (known g) c.args.self.now c.args.id none)
+
+pub returns-then-is_idle-clause-stands_alike : goal.returns-then-is_idle-clause-stands_alike
+returns-then-is_idle-clause-stands_alike g c = λ h.
+    let some : Some c.in-Some.client.now ≡ program_of c.args.id c.args.self.now.participants = rw (← c.self.view_is) c.in-Some.ensures in
+    let idle : is_idle c.in-Some.client.now.pending ≡ true = sym c.is_idle.ensures ∙ c.if-is_idle.true in
+    stays_alike (known g) c.args.self.now c.args.self.now c.args.id (idle_state (known g) c.args.self.now c.args.id c.in-Some.client.now some idle)
+
+pub returns-in_err-step-clause-stands_alike : goal.returns-in_err-step-clause-stands_alike
+returns-in_err-step-clause-stands_alike g c = λ h.
+    let state : c.from_residual.result ≢ Err NoMemory → c.step.new.self ≡ after_snap_step (known g) c.args.self.now c.args.id = search rules in
+    stays_alike (known g) c.args.self.now c.step.new.self c.args.id (state h)
+
+pub returns-clause-stands_alike : goal.returns-clause-stands_alike
+returns-clause-stands_alike g c = λ h.
+    let state : c.match-branch-2.result ≢ Err NoMemory → c.step.new.self ≡ after_snap_step (known g) c.args.self.now c.args.id = search rules in
+    stays_alike (known g) c.args.self.now c.step.new.self c.args.id (state h)
