@@ -1,5 +1,5 @@
 -- a renaming world after one more call
-use Rattle.std.proofs.Common.{◌≡◌, ◌≢◌, ℕ, true, false, List, [], ◌∷◌, ◌++◌, None, Result, Ok, Err, Option, inl, inr, refl, sym, ap, subst, ◌∙◌}
+use Rattle.std.proofs.Common.{◌≡◌, ◌≢◌, ℕ, true, false, [], ◌∷◌, ◌++◌, None, Result, Ok, Err, inl, inr, refl, sym, subst, ◌∙◌}
 use Rattle.step_memory.specs.declared.refusal.Refusal.{Refusal}
 use Rattle.step_memory.specs.declared.refusal.Refusal.TheVariants.{ZeroIdentity, AlreadyBegun, Full, NotBegun, Finished, Spent, Crowded, NotCompeting, AlreadyCompeting, Holding, NotHolding, NoMemory, HistoryFull, OutOfRange}
 use Rattle.step_memory.specs.Calls.{Call, lacked_memory}
@@ -8,11 +8,10 @@ use Rattle.step_memory.specs.World.{begin_refusal, done_unless}
 use Rattle.step_memory.specs.Runs.{Run}
 use Rattle.step_memory.proofs.RunLemmas.{run_more}
 use Rattle.step_memory.proofs.StepLemmas.{lacks_or_not}
-use Rattle.snapshot_core.specs.SnapWorld.{may_lack_memory}
 use Rattle.rename_core.specs.declared.reply.Reply.{Reply}
 use Rattle.rename_core.specs.RenameState.{RenameState}
 use Rattle.snapshot_core.specs.Places.{KnownPlaces}
-use Rattle.rename_core.specs.RenameCalls.{next, IsReply, IsAfter, LeadsOn}
+use Rattle.rename_core.specs.RenameCalls.{next, IsReply, LeadsOn}
 use Rattle.rename_core.proofs.Sizes.{next_limit}
 use Rattle.rename_core.specs.RenameWorld.{rename_answer, after_rename_step, after_rename_begin, step_refusal, fresh_world, may_lack}
 

@@ -2,16 +2,15 @@
 use Rattle.std.proofs.Common.{◌≡◌, ℕ, Bool, true, false, List, [], ◌∷◌, ◌++◌, Option, Some, None, refl, sym, ap, ◌∙◌}
 use Rattle.std.specs.Prelude.{is_some, option_map, option_and_then}
 use Rattle.step_memory.specs.Calls.{Call}
-use Rattle.step_memory.specs.SetAt.{set_at}
 use Rattle.step_memory.proofs.SetAtLemmas.{set_at-same}
 use Rattle.step_memory.specs.declared.participant.Participant.{Participant}
-use Rattle.step_memory.specs.Participant.{participant_of, program_of, beginner}
+use Rattle.step_memory.specs.Participant.{participant_of, beginner}
 use Rattle.step_memory.specs.World.{begin_refusal}
 use Rattle.step_memory.proofs.ParticipantLemmas.{participant_of-push}
 use Rattle.step_memory.proofs.WorldKeeps.{let_in}
 use Rattle.snapshot_core.specs.declared.client.Client.{Client}
 use Rattle.snapshot_core.specs.Places.{KnownPlaces, PlacesLaws, BeginsAlike}
-use Rattle.snapshot_core.specs.SnapWorld.{SnapState, beginner_at, place_in}
+use Rattle.snapshot_core.specs.SnapWorld.{beginner_at}
 use Rattle.snapshot_core.proofs.Following.{begins_the_same}
 use Rattle.rename_core.specs.Config.{is_tree}
 use Rattle.rename_core.specs.declared.config.WorldKind.{WorldKind}
@@ -20,7 +19,7 @@ use Rattle.rename_core.specs.declared.round.Round.{Round}
 use Rattle.rename_core.specs.Locality.{client_of, round_of, wished}
 use Rattle.rename_core.specs.RenameCalls.{IsAfter, BeginsTheSame}
 use Rattle.rename_core.specs.RenameState.{RenameState}
-use Rattle.rename_core.specs.RenameWorld.{after_wish, begun_snap, has_place, after_rename_begin}
+use Rattle.rename_core.specs.RenameWorld.{begun_snap, has_place, after_rename_begin}
 use Rattle.rename_core.specs.Round.{first_round, first_wish}
 use Rattle.rename_core.proofs.LocalSteps.{wish_becomes}
 use Rattle.rename_core.proofs.Names.{MayBeNamed, most_is, snap_after, joined_law}

@@ -1,6 +1,6 @@
 -- one more begins in a renaming world
 use Rattle.std.proofs.Common.{◌==◌, cond, ◌≡◌, ◌≢◌, ℕ, ◌+◌, ◌<◌, ◌≤◌, Bool, true, false, List, [], ◌∷◌, ◌++◌, length, Option, Some, None, Result, Ok, inl, inr, refl, sym, ap, subst, ◌∙◌, arith}
-use Rattle.std.specs.Prelude.{if◌then◌else◌, is_some, option_map, option_and_then}
+use Rattle.std.specs.Prelude.{is_some, option_map, option_and_then}
 use Rattle.std.proofs.lemmas.Bool.Decides.{eqb_tells}
 use Rattle.std.proofs.lemmas.List.{length-append}
 use Rattle.step_memory.specs.SetAt.{set_at}
@@ -29,7 +29,7 @@ use Rattle.rename_core.specs.RenameWorld.{after_wish, begun_snap, has_place, beg
 use Rattle.rename_core.specs.RenameObject.{RenameTerms, RenameObject, no_begin, after}
 use Rattle.rename_core.proofs.Standing.{standing_begun}
 use Rattle.snapshot_core.specs.Standing.{StandsAt}
-use Rattle.snapshot_core.proofs.Clients.{has_begun, goes_idle}
+use Rattle.snapshot_core.proofs.Clients.{goes_idle}
 use Rattle.rename_core.proofs.Large.{update_large}
 use Rattle.rename_core.proofs.Tied.{IsAtStage, IsCounted, IsTied, Carries, counted_on, stage_on}
 use Rattle.rename_core.proofs.Participants.{distinct_push}

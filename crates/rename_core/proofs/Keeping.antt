@@ -1,5 +1,5 @@
 -- each call of a renaming world keeps it tied to the object of its law
-use Rattle.std.proofs.Common.{◌≢◌, cond, Bool, ◌≡◌, ℕ, ◌+◌, true, false, Option, Some, None, Result, Ok, Err, inl, inr, refl, sym, ap, subst, ◌∙◌}
+use Rattle.std.proofs.Common.{◌≢◌, cond, ◌≡◌, ℕ, ◌+◌, true, false, Some, None, Result, Ok, Err, inl, inr, refl, sym, ap, subst, ◌∙◌}
 use Rattle.std.specs.Prelude.{is_some, option_map}
 use Rattle.step_memory.specs.declared.participant.Participant.{Participant}
 use Rattle.step_memory.specs.declared.refusal.Refusal.{Refusal}
@@ -7,7 +7,7 @@ use Rattle.step_memory.specs.declared.refusal.Refusal.TheVariants.{NotBegun, Fin
 use Rattle.step_memory.specs.Participant.{participant_of, program_of}
 use Rattle.step_memory.specs.Calls.{Call, lacked_memory}
 use Rattle.step_memory.specs.Calls.Call.{Stepped}
-use Rattle.snapshot_core.specs.SnapWorld.{SnapState, after_snap_step, may_lack_memory}
+use Rattle.snapshot_core.specs.SnapWorld.{SnapState}
 use Rattle.snapshot_core.specs.SnapCalls.{SnapCall, next as snap_next, IsReply as IsSnapReply}
 use Rattle.snapshot_core.specs.SnapCalls.SnapCall.{Stepped as SnapStepped}
 use Rattle.snapshot_core.specs.Snapshot.Task.{Placing as ToPlace, Scanning as ToScan, Updating as ToUpdate}

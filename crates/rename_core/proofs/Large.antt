@@ -1,5 +1,5 @@
 -- no call of a snapshot object makes more or fewer take part
-use Rattle.std.proofs.Common.{◌≡◌, ℕ, Bool, true, false, cond, length, Option, Some, None, refl, ◌∙◌}
+use Rattle.std.proofs.Common.{◌≡◌, ℕ, true, false, cond, length, Option, Some, None, refl}
 use Rattle.step_memory.specs.declared.participant.Participant.{Participant}
 use Rattle.step_memory.specs.declared.refusal.Refusal.{Refusal}
 use Rattle.step_memory.specs.Participant.{participant_of, program_of, beginner, resumed}

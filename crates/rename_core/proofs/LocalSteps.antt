@@ -1,8 +1,6 @@
 -- a step is local
-use Rattle.std.proofs.Common.{◌≡◌, ◌≢◌, ℕ, ◌==◌, Bool, true, false, cond, List, [], ◌∷◌, Option, Some, None, Result, Ok, Err, inl, inr, refl, sym, ap, subst, ◌∙◌}
-use Rattle.std.specs.Prelude.{option_map, is_some, OnOk, IfOk}
-use Rattle.std.proofs.lemmas.Bool.Decides.{eqb_tells}
-use Rattle.step_memory.specs.SetAt.{set_at}
+use Rattle.std.proofs.Common.{◌≡◌, ◌≢◌, ℕ, true, false, cond, List, Option, Some, None, Result, Ok, Err, inl, inr, refl, sym, ap, subst, ◌∙◌}
+use Rattle.std.specs.Prelude.{option_map}
 use Rattle.step_memory.proofs.SetAtLemmas.{set_at-same, set_at-other}
 use Rattle.step_memory.specs.declared.access.Access.{Access}
 use Rattle.step_memory.specs.declared.access.Answer.{Answer}
@@ -11,7 +9,7 @@ use Rattle.step_memory.specs.declared.refusal.Refusal.{Refusal}
 use Rattle.step_memory.specs.declared.refusal.Refusal.TheVariants.{NotBegun, Finished, NoMemory}
 use Rattle.step_memory.specs.Participant.{participant_of, program_of, with_participant, beginner, resumed}
 use Rattle.step_memory.specs.Steps.{Spares}
-use Rattle.step_memory.specs.World.{after_set, got_by, step_answer_by}
+use Rattle.step_memory.specs.World.{step_answer_by}
 use Rattle.step_memory.specs.Calls.{reply_of}
 use Rattle.step_memory.proofs.ParticipantLemmas.{participant_of-put, identity_of}
 use Rattle.step_memory.proofs.StepLemmas.{going_after, lacks_or_not}
@@ -25,9 +23,9 @@ use Rattle.rename_core.specs.declared.round.Follow.{Follow}
 use Rattle.rename_core.specs.declared.round.Round.{Round}
 use Rattle.rename_core.specs.declared.round.Wish.{Wish}
 use Rattle.rename_core.specs.declared.round.Wish.TheVariants.{Nothing, Update, Scan}
-use Rattle.rename_core.specs.Locality.{client_of, round_of, wished, asked_unless, access_of, got_in, follow_by, client_by, IsLocal}
+use Rattle.rename_core.specs.Locality.{client_of, round_of, wished, asked_unless, access_of, got_in, follow_by, IsLocal}
 use Rattle.rename_core.specs.RenameState.{RenameState}
-use Rattle.rename_core.specs.RenameWorld.{after_wish, world_with, snap_step, snap_told, after_follow, answer_told, answer_open, answer_by, after_told, after_open, after_by, rename_answer, after_rename_step}
+use Rattle.rename_core.specs.RenameWorld.{after_wish, snap_step, snap_told, after_follow, answer_told, answer_open, answer_by, after_told, after_open, after_by, rename_answer, after_rename_step}
 use Rattle.rename_core.specs.Round.{stage_refusal, followed}
 
 -- who is put in is found there, and no other has changed

@@ -1,10 +1,9 @@
 -- the law of renaming over a grid, over a tree and over segments in a row
-use Rattle.std.proofs.Common.{◌≡◌, ℕ, ◌+◌, ◌-◌, ◌*◌, ◌≤◌, ◌==◌, true, false, List, Option, refl, sym, ap, subst, ◌∙◌}
+use Rattle.std.proofs.Common.{◌≡◌, ℕ, ◌≤◌, true, false, List, Option, refl, ap, subst, ◌∙◌}
 use Rattle.snapshot_core.specs.SnapCalls.{IsAfter as IsSnapAfter}
 use Rattle.snapshot_core.specs.FixedTies.{fixed_places, fixed_bounds}
 use Rattle.snapshot_core.specs.FixedLaws.{fixed_laws}
 use Rattle.snapshot_places.specs.Bounds.{grid_bounds, tree_bounds}
-use Rattle.snapshot_places.specs.Grid.{segments_for}
 use Rattle.snapshot_places.specs.GridLaws.{grid_laws}
 use Rattle.snapshot_places.specs.GridState.{GridState}
 use Rattle.snapshot_places.specs.GridTies.{grid_places}

@@ -1,10 +1,10 @@
 -- the proposals that stand in the memory, and who has a name, by the rounds
-use Rattle.std.proofs.Common.{suc, ◌<◌, get_or, drop, drop-cons, ◌≡◌, ◌≢◌, ℕ, ◌+◌, ◌≤◌, ◌==◌, Bool, true, false, cond, List, [], ◌∷◌, length, Option, Some, None, inl, inr, refl, sym, ap, ◌∙◌, arith}
-use Rattle.std.specs.Prelude.{option_map, option_and_then, if◌then◌else◌}
+use Rattle.std.proofs.Common.{suc, ◌<◌, get_or, drop, drop-cons, ◌≡◌, ◌≢◌, ℕ, ◌+◌, ◌≤◌, ◌==◌, true, false, cond, List, [], ◌∷◌, length, Option, Some, None, inl, inr, refl, sym, ap, ◌∙◌, arith}
+use Rattle.std.specs.Prelude.{option_map, option_and_then}
 use Rattle.std.proofs.lemmas.Bool.Decides.{eqb_tells}
 use Rattle.step_memory.specs.declared.participant.Participant.{Participant}
 use Rattle.step_memory.specs.Participant.{participant_of, program_of}
-use Rattle.step_memory.specs.View.{IsRising, value_of, inserted}
+use Rattle.step_memory.specs.View.{IsRising, value_of}
 use Rattle.step_memory.proofs.ViewLemmas.{IsRising-inserted, value_of-inserted, length-inserted}
 use Rattle.rename_core.specs.declared.round.Round.{Round}
 use Rattle.rename_core.specs.declared.round.Stage.{Stage}

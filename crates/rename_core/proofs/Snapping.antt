@@ -1,5 +1,5 @@
 -- a snapshot object and the object of its law after the same calls
-use Rattle.std.proofs.Common.{◌≡◌, ℕ, List, [], ◌∷◌, ◌++◌, Option, refl, sym, subst, ◌∙◌}
+use Rattle.std.proofs.Common.{◌≡◌, ℕ, List, [], ◌∷◌, ◌++◌, refl, sym, subst, ◌∙◌}
 use Rattle.step_memory.specs.Runs.{Run}
 use Rattle.step_memory.proofs.RunLemmas.{run_more}
 use Rattle.snapshot_core.specs.Places.{KnownPlaces, PlacesLaws, BoundsScans}

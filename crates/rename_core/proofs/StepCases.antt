@@ -8,7 +8,7 @@ use Rattle.step_memory.specs.Participant.{participant_of, program_of, beginner}
 use Rattle.step_memory.specs.World.{begin_refusal, done_unless}
 use Rattle.std.proofs.lemmas.List.{length-append}
 use Rattle.snapshot_core.specs.declared.client.SnapReply.{SnapReply}
-use Rattle.snapshot_core.specs.SnapWorld.{SnapState, snap_answer, after_snap_step, after_snap_begin, beginner_at}
+use Rattle.snapshot_core.specs.SnapWorld.{SnapState, beginner_at}
 use Rattle.rename_core.specs.declared.round.Round.{Round}
 use Rattle.rename_core.specs.Round.{name_at, stage_refusal, followed}
 use Rattle.rename_core.specs.RenameState.{RenameState}

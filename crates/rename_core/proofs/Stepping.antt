@@ -1,5 +1,5 @@
 -- a step of a renaming world, by what its snapshot object answers
-use Rattle.std.proofs.Common.{zero, suc, None, ◌≡◌, ◌≢◌, ℕ, ◌+◌, ◌-◌, ◌*◌, ◌<◌, ◌≤◌, ◌==◌, Bool, true, false, not, cond, List, [], ◌∷◌, length, Option, Some, Ok, inl, inr, refl, sym, ap, subst, ◌∙◌, arith}
+use Rattle.std.proofs.Common.{◌≡◌, ◌≢◌, ℕ, ◌+◌, ◌-◌, ◌*◌, ◌<◌, ◌≤◌, ◌==◌, Bool, true, false, not, cond, List, [], ◌∷◌, length, Option, Some, Ok, inl, inr, refl, sym, ap, subst, ◌∙◌, arith}
 use Rattle.std.specs.Prelude.{is_some, nat_lt, nat_le}
 use Rattle.std.proofs.lemmas.Bool.Decides.{eqb_tells, leb_tells}
 use Rattle.std.proofs.lemmas.Bool.{lt-ltb}
@@ -12,7 +12,7 @@ use Rattle.step_memory.specs.World.{done_unless}
 use Rattle.snapshot_core.specs.Places.{KnownPlaces}
 use Rattle.snapshot_core.specs.declared.client.SnapReply.{SnapReply}
 use Rattle.snapshot_core.specs.declared.client.SnapReply.TheVariants.{Quiet as Silent, Placed as HasPlace, Written, View as Viewed}
-use Rattle.snapshot_core.specs.SnapWorld.{SnapState, after_scan, after_update, snap_answer, after_snap_step}
+use Rattle.snapshot_core.specs.SnapWorld.{SnapState, after_scan, after_update}
 use Rattle.snapshot_core.specs.SnapCalls.{SnapCall, next as snap_next, IsReply as IsSnapReply}
 use Rattle.snapshot_core.specs.SnapCalls.SnapCall.{Updated, Scanned, Stepped as SnapStepped}
 use Rattle.snapshot_core.specs.Snapshot.{most_steps as snap_most, SnapObject, SnapBounds, Task, observed, Allows as SnapAllows, AllowsStep as SnapAllowsStep, since_of, stepped_to, asked_for, with_update, ShowsMoment, value_written, observed_step}
@@ -31,7 +31,7 @@ use Rattle.rename_core.specs.RenameObject.{RenameTerms, RenameObject, IsRecent, 
 use Rattle.rename_core.specs.Pace.{Phase, Pace, IsStepOf, IsInTime, most_steps, paced_step}
 use Rattle.rename_core.specs.Pace.Phase.{ToPlace as ToGo, ToPropose, ToLook, AtEnd}
 use Rattle.rename_core.proofs.Standing.{nobody_has, standing_elsewhere, name_small, standing_named, standing_proposed}
-use Rattle.snapshot_core.specs.Standing.{StandsAt, ComesTo, GoesBusy, is_quiet}
+use Rattle.snapshot_core.specs.Standing.{StandsAt, GoesBusy, is_quiet}
 use Rattle.snapshot_core.proofs.Clients.{goes_idle}
 use Rattle.rename_core.proofs.Large.{IsAsLarge, snap_large, scan_large, update_large}
 use Rattle.rename_core.proofs.Views.{taken_by, taken_not}

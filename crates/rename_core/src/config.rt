@@ -1,6 +1,6 @@
 //! What a run is of.
 
-ghost use Rattle.std.specs.Prelude.{◌≡◌, ℕ, ◌≤◌, ◌<◌, ◌↔◌, IfOk, IfErr, IsOk};
+ghost use Rattle.std.specs.Prelude.{◌≡◌, ◌↔◌, IfOk, IfErr, IsOk};
 ghost use Rattle.rename_core.specs.Config.{is_played_over, is_tree};
 ghost use Rattle.rename_core.specs.Ranges.{IsConfigRange};
 

@@ -1,7 +1,6 @@
 //! Which number is proposed next.
 
-ghost use Rattle.std.specs.Prelude.{◌≡◌, ◌≤◌, ◌+◌, ℕ, Option, Some, length};
-ghost use Rattle.step_memory.specs.View.{value_of};
+ghost use Rattle.std.specs.Prelude.{◌≡◌, ◌≤◌, length};
 ghost use Rattle.rename_core.specs.Proposals.{is_taken, rank, nth_free, next_proposal};
 
 use step_memory::View;

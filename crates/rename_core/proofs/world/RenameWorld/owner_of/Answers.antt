@@ -1,4 +1,3 @@
-use Rattle.std.proofs.Common.{sym, subst, ℕ, Option, List}
 use Rattle.rename_core.proofs.NamedPlaces.{owner_is}
 use Rattle.snapshot_core.specs.Places.{KnownPlaces, places_by}
 use Rattle.rename_core.proofs.world.RenameWorld.owner_of.Given.{Over}

@@ -1,4 +1,3 @@
-use Rattle.std.proofs.Common.{sym, subst, ℕ, Option, List}
 use Rattle.rename_core.proofs.NamedPlaces.{last_moment}
 use Rattle.snapshot_core.specs.Places.{KnownPlaces, places_by}
 use Rattle.rename_core.proofs.world.RenameWorld.proposals.Given.{Over}

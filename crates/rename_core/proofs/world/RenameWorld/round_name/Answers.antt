@@ -1,7 +1,6 @@
-use Rattle.std.proofs.Common.{rules, ◌≡◌, ◌<◌, ℕ, Some, None, get_or, length, refl, sym, ap, ◌∙◌, arith}
-use Rattle.step_memory.specs.Participant.{index_of, participant_of}
-use Rattle.step_memory.proofs.Found.{Found, found, none-index_of, index_of-below}
-use Rattle.rename_core.specs.Round.{name_at}
+use Rattle.std.proofs.Common.{◌≡◌, Some, None, get_or, ap, ◌∙◌, arith}
+use Rattle.step_memory.specs.Participant.{index_of}
+use Rattle.step_memory.proofs.Found.{found, none-index_of, index_of-below}
 use Rattle.rename_core.proofs.StepCases.{no_name, own_name}
 use Rattle.rename_core.proofs.world.RenameWorld.round_name.Goals as goal
 
