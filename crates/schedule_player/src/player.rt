@@ -14,6 +14,7 @@ use crate::command::Command;
 use crate::config::WorldKind;
 use crate::fault::Fault;
 use crate::line_buffer::LineBuffer;
+use crate::parse::parse_line;
 use crate::print::{REPLY_ROOM, print_bad, print_reply};
 use crate::quick::quick_command;
 use crate::replies::{HELD_REPLIES, Replies};
@@ -171,7 +172,7 @@ impl<A: Allocator> Player<A> {
         self.take_slowly(rt, world, bytes)
     }
 
-    /// As `take`, where the run goes on, for any line.
+    /// As `take`, where the run goes on, for any line: one that lies whole in these bytes is read where it lies.
     #[inline(never)]
     fn take_slowly<R, D: Respond<R>>(&mut self, rt: &R, world: &mut D, bytes: &[u8]) -> usize
         requires knows { Knows D.knows self.old.kind }
@@ -184,17 +185,18 @@ impl<A: Allocator> Player<A> {
         ensures longer { length self.new.replies ≤ length self.old.replies + REPLY_ROOM }
         ensures counted { self.new.summary.lines ≤ self.old.summary.lines + 1 }
     {
-        match memchr(LF, bytes) {
-            Some(end) => {
-                self.line.extend(&bytes[..end]);
-                self.answer_line(rt, world);
-                end + 1
-            }
-            None => {
-                self.line.extend(bytes);
-                bytes.len()
-            }
+        let Some(end) = memchr(LF, bytes) else {
+            self.line.extend(bytes);
+            return bytes.len();
+        };
+        if self.line.is_empty() {
+            let meaning = parse_line(&bytes[..end], self.kind);
+            self.answer(rt, world, meaning);
+            return end + 1;
         }
+        self.line.extend(&bytes[..end]);
+        self.answer_line(rt, world);
+        end + 1
     }
 
     /// Writes the replies that are held.
