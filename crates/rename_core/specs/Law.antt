@@ -1,6 +1,7 @@
 -- the law of renaming, over calls and their replies alone
 use Rattle.std.specs.Prelude.{◌≡◌, ℕ, ◌-◌, ◌*◌, ◌≤◌, List, Some}
 use Rattle.step_memory.specs.Calls.{Call}
+use Rattle.step_memory.specs.Distinct.{AreDistinct}
 use Rattle.snapshot_core.specs.Snapshot.{SnapBounds}
 use Rattle.rename_core.specs.declared.reply.Reply.{Reply}
 use Rattle.rename_core.specs.RenameObject.{RenameTerms, RenameObject, IsRun}
@@ -11,6 +12,6 @@ use Rattle.rename_core.specs.Pace.{IsPaced}
 pub record KeepsRenameLaw (terms : RenameTerms) (bounds : SnapBounds) (r : List (Call Reply)) : Type 0 where
   pub object : RenameObject
   pub run : IsRun terms r object
-  pub one_to_one : (p q n : ℕ) → object.name p ≡ Some n → object.name q ≡ Some n → p ≡ q
+  pub one_to_one : AreDistinct object.name
   pub in_range : (p n : ℕ) → object.name p ≡ Some n → (1 ≤ n) × (n ≤ 2 * object.many - 1)
   pub paced : IsPaced bounds r

@@ -7,7 +7,7 @@ use Rattle.step_memory.specs.declared.refusal.Refusal.TheVariants.{NoMemory}
 use Rattle.rename_core.specs.declared.round.Follow.{Follow}
 use Rattle.rename_core.specs.Round.{stage_refusal, followed}
 use Rattle.rename_core.specs.RenameWorld.{after_wish, snap_told}
-use Rattle.rename_core.proofs.StepCases.{absent_answer, absent_state, closed_answer, closed_state, open_refusal, refused_answer, told_answer, told_state, step_large}
+use Rattle.rename_core.proofs.StepCases.{absent_answer, absent_state, closed_answer, closed_state, open_refusal, refused_answer, refused_state, told_answer, told_state, step_large}
 use Rattle.snapshot_core.specs.Places.{KnownPlaces, places_by}
 use Rattle.rename_core.proofs.world.RenameWorld.take_step.Given.{Over}
 use Rattle.rename_core.proofs.world.RenameWorld.take_step.Goals as goal
@@ -119,3 +119,13 @@ returns-clause-state g c = λ _.
     let put : with_participant (beginner c.args.id c.followed-follow.result.round) c.args.self.now.rounds ≡ set c.args.self.now.rounds c.in-Some.i (beginner c.args.id c.followed-follow.result.round) = f.put (beginner c.args.id c.followed-follow.result.round) refl in
     let end = told_state (known g) c.args.self.now c.args.id c.index.result.now f.is c.in_ok-step.field-0 none k in
     rw (a, v, l, s) (rw (← put, follow) end)
+
+pub returns-in_err-step-clause-state : goal.returns-in_err-step-clause-state
+returns-in_err-step-clause-state g c = λ goes.
+    let f = there g (goal.at.returns-in_err-step-clause-state g c).After-index in
+    let none : stage_refusal c.index.result.now.program.stage ≡ None = sym c.in_default-refusal.ensures in
+    let is : c.from_residual.result ≡ Err c.in_err-step.field-0.0 = search rules in
+    let s : c.self.inside.snap ≡ c.args.self.now.snap = ap (λ w. w.snap) c.self.view_is in
+    let k : Err c.in_err-step.field-0.0 ≡ snap_told (known g) c.args.self.now c.args.id = rw (← s) (c.in_err-step.ensures.answer (λ e. let same : c.in_err-step.field-0.0 ≡ NoMemory = cc in goes (is ∙ ap Err same))) in
+    let kept : c.step.new.self ≡ c.self.inside.snap = c.in_err-step.ensures.refused in
+    ap (λ z. record { snap = z; rounds = c.self.inside.rounds.items; limit = c.self.inside.limit }) kept ∙ c.self.view_is ∙ refused_state (known g) c.args.self.now c.args.id c.index.result.now f.is c.in_err-step.field-0.0 none k
