@@ -1,11 +1,10 @@
 -- the calls of a competitor are local
-use Rattle.std.proofs.Common.{◌≡◌, ℕ, Bool, true, false, cond, Option, Some, None, Ok, refl, sym, ap, subst, ◌∙◌}
+use Rattle.std.proofs.Common.{◌≡◌, ℕ, true, false, cond, Option, Some, None, Ok, refl, sym, ap, subst, ◌∙◌}
 use Rattle.std.specs.Prelude.{is_some, nat_lt}
-use Rattle.step_memory.specs.declared.access.Access.{Access}
-use Rattle.step_memory.specs.declared.access.Access.TheVariants.{Read, Write, TestAndSet, Clear, Nothing}
+use Rattle.step_memory.specs.declared.access.Access.TheVariants.{TestAndSet, Clear, Nothing}
 use Rattle.step_memory.specs.RegisterLaws.{others_kept}
 use Rattle.step_memory.specs.Registers.{register_of, answer_of, after_access}
-use Rattle.step_memory.specs.Steps.{Spares, AgreeAt, SetsOrClears, answer_from}
+use Rattle.step_memory.specs.Steps.{Spares, SetsOrClears}
 use Rattle.bit_allocator.specs.declared.stay.Stay.{Stay}
 use Rattle.bit_allocator.specs.declared.stay.Stay.TheVariants.{Seeking, Settled}
 use Rattle.bit_allocator.specs.Stay.{probe_access, stay_probed, stay_found, probe_reply, leave_access}

@@ -4,7 +4,6 @@ use Rattle.std.specs.Prelude.{MatchOption}
 use Rattle.std.proofs.lemmas.Bool.Decides.{eqb_tells, leb_tells, Decides-eqb}
 use Rattle.std.proofs.lemmas.List.{get_or-set_same, get_or-set_other, length-set}
 use Rattle.step_memory.specs.declared.refusal.Refusal.TheVariants.{ZeroIdentity, Crowded, NotCompeting, AlreadyCompeting, Holding, NotHolding}
-use Rattle.step_memory.specs.Runs.{Run}
 use Rattle.step_memory.specs.World.{done_unless}
 use Rattle.step_memory.proofs.RunLemmas.{run_more, run_keeps, run_one, run_splits}
 use Rattle.bit_allocator.specs.declared.competitor.Competitor.{Competitor}
@@ -220,6 +219,13 @@ pub front_lawful : (size : ℕ) (w : PoolState) (r t : List Call) → After size
 front_lawful size w r t a =
     let cut = run_splits next IsReply (fresh_pool size) r t w a.run in
     law_after size cut.0 r (record { first = a.first; last = a.last; run = cut.1 })
+
+-- each call is answered as the object that those before it make may answer it
+pub due_after : (size : ℕ) (w : PoolState) (r before rest : List Call) (h : Call) → After size w r → r ≡ before ++ h ∷ rest → (o : PoolObject) × IsRun size before o × Answers o h
+due_after size w r before rest h a e =
+    let law = law_after size w r a in
+    let cut = run_splits after Answers (fresh_object size) before (h ∷ rest) law.object (subst (λ (xs : List Call). IsRun size xs law.object) e law.run) in
+    (cut.0, cut.1, cut.2.0)
 
 -- two pools after one list are the same
 pub one_after : (size : ℕ) (w other : PoolState) (r : List Call) → After size w r → After size other r → w ≡ other

@@ -5,19 +5,21 @@ ghost use Rattle.bit_allocator.specs.After.{After, IsLawful, IsReply, next};
 ghost use Rattle.bit_allocator.specs.Calls.{Call};
 ghost use Rattle.bit_allocator.specs.Law.{KeepsPoolLaw};
 ghost use Rattle.bit_allocator.specs.Pool.{fresh_pool};
+ghost use Rattle.bit_allocator.specs.PoolObject.{Answers, IsRun, PoolObject};
 ghost use Rattle.bit_allocator.specs.PoolState.{PoolState};
 ghost use Rattle.bit_allocator.specs.Stay.{leave_access, probe_access};
 ghost use Rattle.bit_allocator.specs.declared.stay.Stay.{Stay};
 ghost use Rattle.step_memory.specs.Steps.{SetsOrClears};
 
 /// A law, which runs nothing: a pool in which no one competes is after no call, each call takes a pool after some calls to
-/// one after these and itself, and calls that a pool may be after, and every front of them, keep the law of the pool. By
-/// that law each is refused exactly where those before it make it due.
+/// one after these and itself, and calls that a pool may be after, and every front of them, keep the law of the pool. Each
+/// is answered as the object that those before it make may answer it, so it is refused exactly where these make it due.
 pub fn law_of_pool_calls()
     ensures fresh { (size : ℕ) → 1 ≤ size → size ≤ 64 → After size (fresh_pool size) [] }
     ensures next { (size : ℕ) (w : PoolState) (r : List Call) (h : Call) → IsReply w h → After size w r → After size (next w h) (r ++ h ∷ []) }
     ensures law { (w : PoolState) → IsLawful w }
     ensures front { (size : ℕ) (w : PoolState) (r t : List Call) → After size w (r ++ t) → KeepsPoolLaw size r }
+    ensures due { (size : ℕ) (w : PoolState) (r before rest : List Call) (h : Call) → After size w r → r ≡ before ++ h ∷ rest → (o : PoolObject) × IsRun size before o × Answers o h }
     ensures one { (size : ℕ) (w other : PoolState) (r : List Call) → After size w r → After size other r → w ≡ other }
 {}
 

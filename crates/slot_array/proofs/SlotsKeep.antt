@@ -164,6 +164,13 @@ front_lawful size values s r t a =
     let cut = run_splits slots_next IsSlotReply (record { pool = fresh_pool size; values = values }) r t s a.run in
     law_after_slots size values cut.0 r (record { first = a.first; last = a.last; many = a.many; run = cut.1 })
 
+-- each call is answered as the object that those before it make may answer it
+pub due_after : {T : Type 0} (size : ℕ) (values : List T) (s : SlotsState T) (r before rest : List (SlotCall T)) (h : SlotCall T) → AfterSlots size values s r → r ≡ before ++ h ∷ rest → (o : SlotsObject T) × IsSlotsRun size values before o × SlotAnswers o h
+due_after {T} size values s r before rest h a e =
+    let law = law_after_slots size values s r a in
+    let cut = run_splits slots_after SlotAnswers (fresh_slots size values) before (h ∷ rest) law.object (subst (λ (xs : List (SlotCall T)). IsSlotsRun size values xs law.object) e law.run) in
+    (cut.0, cut.1, cut.2.0)
+
 -- two slots after one list are the same
 pub one_after : {T : Type 0} (size : ℕ) (values : List T) (s other : SlotsState T) (r : List (SlotCall T)) → AfterSlots size values s r → AfterSlots size values other r → s ≡ other
 one_after size values s other r a b = run_one slots_next IsSlotReply (record { pool = fresh_pool size; values = values }) r s other a.run b.run

@@ -24,13 +24,13 @@
 #![tactic(auto)]
 
 pub mod door;
-pub mod law;
+pub mod laws;
 #[cfg(test)]
 mod tests;
 pub mod walker;
 pub mod world;
 
 pub use door::Door;
-pub use law::law_of_doors_and_walks;
+pub use laws::{law_of_doors_and_walks, law_of_grid_calls};
 pub use walker::Walker;
-pub use world::{GridWorld, law_of_grid_calls};
+pub use world::GridWorld;

@@ -1,9 +1,9 @@
 //! Worked examples: walks of one to three participants, refusals, and want of memory.
 
 use crate::door::Door;
-use crate::law::law_of_doors_and_walks;
+use crate::laws::{law_of_doors_and_walks, law_of_grid_calls};
 use crate::walker::Walker;
-use crate::world::{GridWorld, law_of_grid_calls};
+use crate::world::GridWorld;
 use std::alloc::Allocator;
 use std::test::Fail;
 use step_memory::{Access, Answer, Note, Refusal, StepProgram};

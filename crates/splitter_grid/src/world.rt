@@ -139,20 +139,3 @@ impl<A: Allocator + Clone> GridWorld<A> {
         entered
     }
 }
-
-/// A law, which runs nothing: a grid that no one has entered is after no call, each call takes a world after some calls
-/// to one after these and itself, and calls that a world may be after, and every front of them, keep the law of the grid.
-/// Each is refused exactly where those before it make it due. The places that were answered are those at which walks have
-/// ended. A list that tells somebody a second place keeps no law of the grid, nor does one that refuses whoever comes
-/// first.
-pub fn law_of_grid_calls()
-    ensures fresh { (most : ℕ) → most ≤ 16 → After (fresh most) [] }
-    ensures begun { (w : GridState) (r : List (Call (Option ℕ))) (id : ℕ) → After w r → After (after_begin w id (walk_of id)) (r ++ Began id (done_unless (begin_refusal w id)) ∷ []) }
-    ensures stepped { (w : GridState) (r : List (Call (Option ℕ))) (id : ℕ) → After w r → After (world_after_step w id) (r ++ Stepped id (step_reply w id) ∷ []) }
-    ensures law { (w : GridState) (r : List (Call (Option ℕ))) → After w r → KeepsGridLaw r }
-    ensures front { (w : GridState) (r t : List (Call (Option ℕ))) → After w (r ++ t) → KeepsGridLaw r }
-    ensures due { (w : GridState) → RefusesWhereDue w }
-    ensures one_place { (p a b : ℕ) (before between rest : List (Call (Option ℕ))) → KeepsGridLaw (before ++ Stepped p (Ok (Some a)) ∷ (between ++ Stepped p (Ok (Some b)) ∷ rest)) → ⊥ }
-    ensures not_refused { (most p : ℕ) (why : Refusal) (rest : List (Call (Option ℕ))) → 1 ≤ most → p ≢ 0 → RefusesAsDue is_some most false (Began p (Err why) ∷ rest) → ⊥ }
-    ensures places { (w : GridState) (r : List (Call (Option ℕ))) (id : ℕ) → After w r → place_in w id ≡ outcome_of id r }
-{}

@@ -5,10 +5,8 @@ use Rattle.std.proofs.Math.Nat.{pow-succ'}
 use Rattle.std.proofs.lemmas.Bool.{cases_Bool}
 use Rattle.splitter.proofs.StageLemmas.{gone_right, gone_down}
 use Rattle.std.proofs.lemmas.Bool.Decides.{eqb_tells, leb_tells}
-use Rattle.splitter.specs.declared.way.Way.TheVariants.{Stop, Right, Down}
-use Rattle.splitter.specs.declared.stage.Stage.{Stage}
-use Rattle.splitter.specs.declared.stage.Stage.TheVariants.{Outside, WroteName, SawClear, WroteMark, Gone}
-use Rattle.splitter.specs.Stage.{went_right, went_down}
+use Rattle.splitter.specs.declared.way.Way.TheVariants.{Right, Down}
+use Rattle.splitter.specs.declared.stage.Stage.TheVariants.{Gone}
 use Rattle.splitter.specs.Door.{IsSplitter}
 use Rattle.splitter.proofs.DoorKept.{law_of}
 use Rattle.splitter_tree.specs.declared.walker.Walker.{Walker}

@@ -1,24 +1,23 @@
 -- each call of a tree's world is refused exactly where the calls before it make it due
-use Rattle.std.proofs.Common.{◌≡◌, ◌≢◌, ◌≤◌, ℕ, Bool, true, false, cond, not, ◌&&◌, ◌||◌, ◌==◌, inl, inr, List, [], ◌∷◌, ◌++◌, length, Option, Some, None, Result, Ok, Err, refl, sym, ap, subst, ◌∙◌}
+use Rattle.std.proofs.Common.{◌≡◌, ◌≢◌, ◌≤◌, ℕ, Bool, true, false, cond, not, ◌&&◌, ◌||◌, ◌==◌, inl, inr, List, [], ◌∷◌, ◌++◌, Option, Some, None, Result, Ok, Err, refl, sym, ap, subst, ◌∙◌}
 use Rattle.std.specs.Prelude.{is_some, option_map}
 use Rattle.std.proofs.Math.Bool.{or-false, or-true}
 use Rattle.std.proofs.lemmas.Bool.Decides.{eqb_tells, Decides-eqb}
 use Rattle.std.proofs.lemmas.List.{append-nil}
-use Rattle.step_memory.specs.declared.access.Access.{Access}
 use Rattle.step_memory.specs.declared.access.Access.TheVariants.{Write}
 use Rattle.step_memory.specs.declared.access.Answer.{Answer}
 use Rattle.step_memory.specs.declared.access.Answer.TheVariants.{Value, WasSet, Done}
 use Rattle.step_memory.specs.declared.note.Note.{Note}
 use Rattle.step_memory.specs.declared.participant.Participant.{Participant}
 use Rattle.step_memory.specs.declared.refusal.Refusal.{Refusal}
-use Rattle.step_memory.specs.declared.refusal.Refusal.TheVariants.{AlreadyBegun, NotBegun, Finished, NoMemory}
-use Rattle.step_memory.specs.Participant.{participant_of, program_of, with_participant, beginner, resumed}
+use Rattle.step_memory.specs.declared.refusal.Refusal.TheVariants.{NoMemory}
+use Rattle.step_memory.specs.Participant.{participant_of, with_participant, beginner, resumed}
 use Rattle.step_memory.specs.Steps.{MemorySteps}
 use Rattle.step_memory.specs.SetAt.{set_at}
-use Rattle.step_memory.specs.World.{begin_refusal, begun_unless, done_unless, after_set, got_by, may_refuse_by}
-use Rattle.step_memory.specs.Calls.{Call, outcome_of, reply_of, lacked_memory}
+use Rattle.step_memory.specs.World.{begin_refusal, begun_unless, done_unless, got_by, may_refuse_by}
+use Rattle.step_memory.specs.Calls.{reply_of, lacked_memory}
 use Rattle.step_memory.specs.Calls.Call.{Began, Stepped}
-use Rattle.step_memory.specs.Due.{has_begun, begins, has_ended, begin_due, step_due, IsRefusedAsDue, RefusesAsDue}
+use Rattle.step_memory.specs.Due.{has_begun, begin_due, RefusesAsDue}
 use Rattle.step_memory.proofs.DueLemmas.{due_more, has_begun-append, cut, nothing_cut, ended_with_outcome, ends_once}
 use Rattle.step_memory.proofs.RunLemmas.{run_keeps}
 use Rattle.step_memory.specs.Runs.{Run}
@@ -37,13 +36,13 @@ use Rattle.splitter_tree.specs.declared.client.Task.TheVariants.{Placing, Nothin
 use Rattle.splitter_tree.specs.declared.client.TreeReply.{TreeReply}
 use Rattle.splitter_tree.specs.TreeMemory.{IsTreeMemory, IsEmptyTree}
 use Rattle.splitter_tree.specs.Walk.{place_of, place_by, walker_note}
-use Rattle.splitter_tree.specs.Client.{client_of, client_steps, client_access, client_note, access_for, after_for, note_for, is_placing, is_idle, is_collecting, is_placed, placing_after, placed_note, place_told, view_told, storing, collecting, with_task, write_at, record_of, task_after, collected_note}
+use Rattle.splitter_tree.specs.Client.{client_of, client_steps, client_access, client_note, access_for, after_for, note_for, is_placing, is_idle, is_collecting, is_placed, place_told, view_told, storing, collecting, with_task, write_at, record_of, task_after, collected_note}
 use Rattle.splitter_tree.specs.Collect.{collect_after, collect_view}
-use Rattle.splitter_tree.specs.TreeWorld.{TreeState, asking_refusal, place_answer, after_placing, after_store, after_collect_begin, view_answer, after_collecting, may_lack_memory}
+use Rattle.splitter_tree.specs.TreeWorld.{TreeState, asking_refusal, place_answer, after_store, after_collect_begin, view_answer, after_collecting, may_lack_memory}
 use Rattle.splitter_tree.specs.TreeCalls.{TreeCall, next, IsReply, IsAfter}
 use Rattle.splitter_tree.specs.TreeCalls.TreeCall.{Began as TreeBegan, Stepped as TreeStepped, Stored, CollectBegan, CollectStepped}
 use Rattle.splitter_tree.specs.PlacesLaw.{way_calls, walkers, KeepsPlacesLaw}
-use Rattle.splitter_tree.specs.TreeDue.{collects_after, collects_from, collects, has_place, asking_due, collect_due, IsTreeRefusedAsDue, TreeRefusesAsDue}
+use Rattle.splitter_tree.specs.TreeDue.{collects_after, collects_from, collects, has_place, asking_due, IsTreeRefusedAsDue, TreeRefusesAsDue}
 use Rattle.std.proofs.lemmas.Bool.{cases_Bool}
 use Rattle.splitter_tree.proofs.TreeCallLemmas.{absent_place, placed_place, going_place, absent_view, idle_view, going_view, most_kept}
 use Rattle.splitter_tree.proofs.CallCases.{stepped_by, step_cases, store_cases, collect_begin_cases, collect_step_cases}

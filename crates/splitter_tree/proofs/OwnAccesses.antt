@@ -1,7 +1,6 @@
 -- the accesses of a participant
-use Rattle.std.proofs.Common.{◌≡◌, ℕ, Bool, true, false, cond, List, Option, Some, None, refl, sym, ap, subst, ◌∙◌}
-use Rattle.step_memory.specs.declared.access.Access.{Access}
-use Rattle.step_memory.specs.declared.access.Access.TheVariants.{Read, Write, TestAndSet, Clear, Nothing as Idle}
+use Rattle.std.proofs.Common.{◌≡◌, ℕ, Bool, true, false, cond, List, Option, Some, None, refl, sym, ap, ◌∙◌}
+use Rattle.step_memory.specs.declared.access.Access.TheVariants.{Write}
 use Rattle.step_memory.specs.declared.participant.Participant.{Participant}
 use Rattle.step_memory.specs.declared.record.Record.{Record}
 use Rattle.step_memory.specs.Participant.{participant_of}
@@ -17,8 +16,8 @@ use Rattle.splitter_tree.specs.declared.walker.Walker.{Walker}
 use Rattle.splitter_tree.specs.declared.client.Client.{Client}
 use Rattle.splitter_tree.specs.declared.client.Task.{Task}
 use Rattle.splitter_tree.specs.declared.client.Task.TheVariants.{Placing, Nothing, Storing, Collecting}
-use Rattle.splitter_tree.specs.Walk.{in_words, next_access, place_of, StandsAtNode}
-use Rattle.splitter_tree.specs.Client.{client_access, access_for, write_at, record_of}
+use Rattle.splitter_tree.specs.Walk.{in_words, place_of, StandsAtNode}
+use Rattle.splitter_tree.specs.Client.{access_for, write_at, record_of}
 use Rattle.splitter_tree.specs.Run.{After, TreeWorldState}
 use Rattle.splitter_tree.specs.TreeCalls.{TreeCall}
 use Rattle.splitter_tree.proofs.LawsAfter.{tied}

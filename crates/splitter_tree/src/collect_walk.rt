@@ -119,7 +119,7 @@ impl CollectWalk {
 #[cfg(test)]
 mod tests {
     use super::*;
-    use crate::collect_law::{law_of_collect_calls, law_of_collects, law_of_collects_at_places};
+    use crate::laws::{law_of_collect_calls, law_of_collects, law_of_collects_at_places};
 
     /// Whether a walk over these nodes, whose segments are empty, reads these registers, and is over with the last.
     fn reads(made: &[Place], registers: &[TreeRegister]) -> bool {

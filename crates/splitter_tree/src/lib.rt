@@ -33,13 +33,10 @@
 
 pub mod client;
 pub mod collect;
-pub mod collect_law;
 pub mod collect_walk;
 pub mod door;
-pub mod law;
 pub mod laws;
 pub mod node;
-pub mod places_law;
 pub mod register;
 #[cfg(test)]
 mod tests;
@@ -51,13 +48,13 @@ pub mod world;
 
 pub use client::{Client, Task, TreeReply};
 pub use collect::Collect;
-pub use collect_law::{law_of_collect_calls, law_of_collects, law_of_collects_at_places};
 pub use collect_walk::CollectWalk;
 pub use door::Door;
-pub use law::law_of_nodes_and_walks;
-pub use laws::{law_of_own_accesses, law_of_tree_calls};
+pub use laws::{
+    law_of_collect_calls, law_of_collects, law_of_collects_at_places, law_of_nodes_and_walks,
+    law_of_own_accesses, law_of_places, law_of_tree_calls,
+};
 pub use node::{Link, Node};
-pub use places_law::law_of_places;
 pub use register::{TreeRegister, TreeValue};
 pub use tree::{Tree, law_of_tree_memory};
 pub use walker::Walker;

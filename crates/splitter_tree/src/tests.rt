@@ -119,14 +119,13 @@ fn ranges_of_a_tree(rt: HostRuntime) {
 #[test]
 fn sixteen_down_the_deepest_walk(rt: HostRuntime) -> Result<(), Fail> {
     let mut world = TreeWorld::new(rt.alloc(), 16)?;
-    let mut place = 1;
-    let mut passed = 0;
-    for id in 1..17 {
+    let mut place = 1u128;
+    for passed in 0..16usize {
+        let id = passed as u64 + 1;
         assert_eq!(rt; world.begin(id), Ok(()));
         assert!(rt; walks_to(&mut world, id, 3 * passed + 4, place));
         assert_eq!(rt; world.step(id), Err(Refusal::Finished));
-        place = place * 2 + 1;
-        passed += 1;
+        place = place.saturating_mul(2).saturating_add(1);
     }
     assert_eq!(rt; world.place_of(16), Some(65_535));
     Ok(())

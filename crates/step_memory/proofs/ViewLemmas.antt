@@ -1,5 +1,5 @@
 -- lists of pairs by rising identity
-use Rattle.std.proofs.Common.{◌≡◌, ℕ, zero, suc, ◌+◌, ◌-◌, ◌<◌, ◌≤◌, ◌==◌, true, false, cond, List, [], ◌∷◌, ◌++◌, Some, None, map, ◌⊎◌, inl, inr, length, get_or, set, take, drop, replicate, refl, sym, ap, subst, ◌∙◌, arith, add-one, append_assoc}
+use Rattle.std.proofs.Common.{◌≡◌, ◌≢◌, ℕ, zero, suc, ◌+◌, ◌-◌, ◌<◌, ◌≤◌, ◌==◌, true, false, cond, List, [], ◌∷◌, ◌++◌, Some, None, map, ◌⊎◌, inl, inr, length, get_or, set, take, drop, replicate, refl, sym, ap, subst, ◌∙◌, arith, add-one, append_assoc}
 use Rattle.std.specs.Prelude.{nat_lt, if◌then◌else◌, IsSome}
 use Rattle.std.specs.List.{IsDistinct, AllByRecursion, Contains, list_any}
 use Rattle.std.specs.Cmp.{nat_eq_equiv}
@@ -7,7 +7,7 @@ use Rattle.std.proofs.lemmas.Map.Made.{length-le_from_is_member}
 use Rattle.std.proofs.lemmas.Map.Views.{list_any-from_Contains}
 use Rattle.std.proofs.lemmas.List.{length-map}
 use Rattle.std.proofs.Math.Seq.{drop-cons}
-use Rattle.std.proofs.lemmas.List.{take_more_set, take_more, length-take-le, drop-set-lt, get_or-take, drop-replicate}
+use Rattle.std.proofs.lemmas.List.{take-append-drop, take_more_set, take_more, length-take-le, drop-set-lt, get_or-take, drop-replicate}
 use Rattle.std.proofs.lemmas.Bool.Decides.{nat_tests, eqb_tells, leb_tells, Decides-eqb}
 use Rattle.step_memory.specs.View.{IsAbove, IsRising, value_of, inserted}
 
@@ -239,3 +239,49 @@ among_identities pairs identities rising among =
     let few = length-le_from_is_member nat_eq_equiv (map (λ p. p.0) pairs) identities (distinct_identities pairs rising)
     (λ q h. list_any-from_Contains nat_eq_equiv q identities (among q (listed_value q pairs h))) in
     omega (arith, few, length-map pairs (λ p. p.0))
+
+-- a list that was changed at one place, in its parts
+set_cut : (xs : List (ℕ × ℕ)) (i : ℕ) (new : ℕ × ℕ) → i < length xs → set xs i new ≡ take i xs ++ new ∷ drop (i + 1) xs
+set_cut xs i new inside =
+    sym (take-append-drop (i + 1) (set xs i new))
+    ∙ ap (λ ys. ys ++ drop (i + 1) (set xs i new)) (take_more_set xs i new inside)
+    ∙ ap (λ ys. (take i xs ++ new ∷ []) ++ ys) (drop-set-lt (i + 1) xs i new (omega arith))
+    ∙ append_assoc (take i xs) (new ∷ []) (drop (i + 1) xs)
+
+-- a loop that looks for the pair to replace: it is among those from i on
+pub record IsAhead (i : ℕ) (xs : List (ℕ × ℕ)) (new : ℕ × ℕ) : Type 0 where
+  pub there : IsSome (value_of new.0 (drop i xs))
+  pub done : take i xs ++ inserted (drop i xs) new ≡ inserted xs new
+
+module _ (xs : List (ℕ × ℕ)) (i : ℕ) (new : ℕ × ℕ) (inside : i < length xs) (ahead : IsAhead i xs new) where
+  abbrev pub at : ℕ × ℕ
+  at = get_or xs i (0, 0)
+
+  cut_here : drop i xs ≡ at ∷ drop (i + 1) xs
+  cut_here = drop-cons xs i (0, 0) inside ∙ rw (add-one i) refl
+
+  -- it stands here
+  pub replaced_here : at.0 ≡ new.0 → set xs i new ≡ inserted xs new
+  replaced_here e =
+      let not_below : nat_lt new.0 at.0 ≡ false = ltb_false new.0 at.0 (omega arith) in
+      let equal : (at.0 == new.0) ≡ true = (Decides-eqb at.0 new.0).1 e in
+      let there : inserted (drop i xs) new ≡ new ∷ drop (i + 1) xs = rw (cut_here, not_below, equal) refl in
+      let cut : set xs i new ≡ take i xs ++ new ∷ drop (i + 1) xs = set_cut xs i new inside in
+      cut ∙ ap (λ ys. take i xs ++ ys) (sym there) ∙ ahead.done
+
+  -- it stands further on
+  pub ahead_next : IsRising xs → at.0 ≢ new.0 → IsAhead (i + 1) xs new
+  ahead_next rising n =
+      let apart : (at.0 == new.0) ≡ false = (elim (eqb_tells at.0 new.0) [ inl e ↦ absurd (n e.1) | inr e ↦ e.0 ]) in
+      let rest_rises : IsRising (at ∷ drop (i + 1) xs) = rw cut_here at (IsRising-drop i xs rising) in
+      let in_rest : IsSome (value_of new.0 (drop (i + 1) xs)) = rw (cut_here, apart) at ahead.there in
+      let above : at.0 < new.0 = elim (ltb_tells at.0 new.0) [
+        | inl l ↦ l.1
+        | inr l ↦ absurd (let none = value_of-below new.0 at.0 (drop (i + 1) xs) rest_rises.1 rest_rises.0 l.1 in let never : false ≡ true = rw none at in_rest in cc)
+      ] in
+      let not_below : nat_lt new.0 at.0 ≡ false = ltb_false new.0 at.0 (omega (arith, above)) in
+      let there : inserted (drop i xs) new ≡ at ∷ inserted (drop (i + 1) xs) new = rw (cut_here, not_below, apart) refl in
+      record {
+        there = in_rest;
+        done = rw (take_more xs i (0, 0) inside, append_assoc) (rw there at ahead.done);
+      }

@@ -176,9 +176,9 @@ fn views_are_kept_in_order(rt: HostRuntime) -> Result<(), Fail> {
     assert!(rt; !view.is_full());
     let mut other = View::new();
     assert!(rt; view != other);
-    for (identity, value) in [(30, 3), (20, 5), (10, 1)] {
-        other.insert(identity, value);
-    }
+    other.insert(30, 3);
+    other.insert(20, 5);
+    other.insert(10, 1);
     assert!(rt; view == other);
     Ok(())
 }

@@ -1,6 +1,6 @@
 //! What a scan shows.
 
-ghost use Rattle.std.specs.Prelude.{◌≡◌, ◌<◌, ◌≤◌, ◌+◌, ◌↔◌, [], length, take, drop, IsTrue, false, if◌then◌else◌};
+ghost use Rattle.std.specs.Prelude.{◌≡◌, ◌<◌, ◌≤◌, ◌+◌, ◌↔◌, ◌⊎◌, [], IsSome, length, take, drop, IsTrue, false, if◌then◌else◌};
 ghost use Rattle.step_memory.specs.View.{value_of, inserted, IsRising};
 
 use std::marker::Model;
@@ -51,6 +51,20 @@ fn put_in(pairs: &mut [(u64, u64)], len: usize, pair: (u64, u64)) -> bool
     }
     pairs[len] = carried;
     true
+}
+
+/// Puts a pair in place of the one of its identity, which is there.
+fn replace_in(pairs: &mut [(u64, u64)], pair: (u64, u64))
+    requires there { IsSome (value_of pair.0 pairs.old) }
+    requires rising { IsRising pairs.old }
+    ensures { pairs.new ≡ inserted pairs.old pair }
+{
+    for i in 0..pairs.len() {
+        if pairs[i].0 == pair.0 {
+            pairs[i] = pair;
+            return;
+        }
+    }
 }
 
 /// The value of an identity.
@@ -116,11 +130,15 @@ impl View {
         find_in(self.pairs(), identity)
     }
 
-    /// Gives an identity this value. Its pair is replaced where it has one.
+    /// Gives an identity this value. Its pair is replaced where it has one, so also where there is no room for another.
     pub fn insert(&mut self, identity: u64, value: u64)
-        requires { length self.old < 64 }
+        requires { (length self.old < 64) ⊎ IsSome (value_of identity self.old) }
         ensures { self.new ≡ inserted self.old (identity, value) }
     {
+        if self.len == View::ROOM {
+            replace_in(&mut self.pairs, (identity, value));
+            return;
+        }
         if put_in(&mut self.pairs, self.len, (identity, value)) {
             self.len += 1;
         }

@@ -1,6 +1,6 @@
 use Rattle.std.proofs.Common.{refl}
 use Rattle.slot_array.specs.After.{slots_next}
-use Rattle.slot_array.proofs.SlotsKeep.{after_none, after_slots_call, law_after_slots, front_lawful, one_after}
+use Rattle.slot_array.proofs.SlotsKeep.{after_none, after_slots_call, law_after_slots, front_lawful, one_after, due_after}
 use Rattle.slot_array.proofs.laws.law_of_slot_calls.Goals as goal
 
 pub returns-clause-fresh : goal.returns-clause-fresh
@@ -17,3 +17,6 @@ returns-clause-front g c = front_lawful
 
 pub returns-clause-one : goal.returns-clause-one
 returns-clause-one g c = one_after
+
+pub returns-clause-due : goal.returns-clause-due
+returns-clause-due g c = due_after

@@ -3,7 +3,7 @@ use Rattle.std.proofs.Common.{refl}
 use Rattle.splitter_tree.proofs.DueTied.{world_counted, places_law}
 use Rattle.splitter_tree.proofs.PlacesTied.{tied_after, tree_of_tied}
 use Rattle.splitter_tree.proofs.NodesMade.{marked_made, made_within}
-use Rattle.splitter_tree.proofs.places_law.law_of_places.Goals as goal
+use Rattle.splitter_tree.proofs.laws.law_of_places.Goals as goal
 
 pub returns-clause-law : goal.returns-clause-law
 returns-clause-law g c = λ memory first w r tree empty few after. places_law memory tree w.most first w r empty few refl after

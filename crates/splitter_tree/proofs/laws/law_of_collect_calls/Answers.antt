@@ -1,5 +1,5 @@
 use Rattle.splitter_tree.proofs.CollectSteps.{collect_law, collect_reads_few}
-use Rattle.splitter_tree.proofs.collect_law.law_of_collect_calls.Goals as goal
+use Rattle.splitter_tree.proofs.laws.law_of_collect_calls.Goals as goal
 
 pub returns-clause-law : goal.returns-clause-law
 returns-clause-law g c = λ memory first w r tree empty few after. collect_law memory tree first w r few empty after

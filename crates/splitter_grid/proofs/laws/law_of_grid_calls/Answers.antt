@@ -1,7 +1,8 @@
 use Rattle.splitter_grid.proofs.GridTied.{after_none, after_begun, after_step_of, law_after, place_after, front_lawful, due_after, one_place_told}
 use Rattle.std.specs.Prelude.{is_some, false}
 use Rattle.step_memory.proofs.DueLemmas.{not_first_refused}
-use Rattle.splitter_grid.proofs.world.law_of_grid_calls.Goals as goal
+use Rattle.splitter.proofs.VisitorAccess.{own_access}
+use Rattle.splitter_grid.proofs.laws.law_of_grid_calls.Goals as goal
 
 pub returns-clause-fresh : goal.returns-clause-fresh
 returns-clause-fresh c = after_none
@@ -29,3 +30,6 @@ returns-clause-one_place c = one_place_told
 
 pub returns-clause-not_refused : goal.returns-clause-not_refused
 returns-clause-not_refused c = λ most p why rest. not_first_refused is_some most false p why rest
+
+pub returns-clause-own : goal.returns-clause-own
+returns-clause-own c = λ u. own_access u.visitor.identity u.visitor.name u.visitor.mark u.visitor.stage

@@ -1,5 +1,5 @@
 use Rattle.splitter_tree.proofs.PlacesAhead.{sees, marks_spared, place_ahead, walk_few, marks_grow}
-use Rattle.splitter_tree.proofs.collect_law.law_of_collects_at_places.Goals as goal
+use Rattle.splitter_tree.proofs.laws.law_of_collects_at_places.Goals as goal
 
 pub returns-clause-ahead : goal.returns-clause-ahead
 returns-clause-ahead g c = λ memory most b s walker p k holds at. place_ahead memory most b s walker holds p k at
