@@ -1,8 +1,6 @@
-use Rattle.std.proofs.Common.{◌≡◌, ◌∙◌, ◌+◌, ◌-◌, ◌++◌, ◌<◌, true, [], ap, sym, subst, length, take, get_or, refl, arith, ℕ, List, Result}
+use Rattle.std.proofs.Common.{◌≡◌, ◌∙◌, ◌++◌, ◌<◌, true, [], ap, sym, length, take, get_or, arith}
 use Rattle.std.proofs.lemmas.List.{take_all}
 use Rattle.std.proofs.lemmas.Bool.{eqb-true}
-use Rattle.schedule_player.specs.declared.bad.Bad.{Bad}
-use Rattle.schedule_player.specs.declared.command.Command.{Command}
 use Rattle.schedule_player.specs.HeldLine.{HeldLine, held}
 use Rattle.schedule_player.specs.Lines.{has_no_lf}
 use Rattle.schedule_player.specs.Meaning.{meaning}
