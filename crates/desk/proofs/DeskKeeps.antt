@@ -1,5 +1,5 @@
 -- a desk goes on, event by event, and keeps the laws of its parts
-use Rattle.std.proofs.Common.{◌≡◌, ◌≢◌, ℕ, zero, suc, ◌-◌, true, false, inl, inr, ◌⊎◌, List, [], ◌∷◌, ◌++◌, map, replicate, Option, Some, None, Result, Ok, Err, refl, sym, ap, subst, ◌∙◌}
+use Rattle.std.proofs.Common.{◌≡◌, ℕ, zero, suc, ◌-◌, true, inl, inr, List, [], ◌∷◌, ◌++◌, map, replicate, Some, None, Result, Ok, Err, refl, sym, ap, subst, ◌∙◌}
 use Rattle.std.specs.Prelude.{slice_get, slice_index}
 use Rattle.step_memory.specs.declared.refusal.Refusal.{Refusal}
 use Rattle.step_memory.specs.declared.refusal.Refusal.TheVariants as refusal
@@ -9,7 +9,6 @@ use Rattle.step_memory.specs.World.{begin_refusal, done_unless}
 use Rattle.snapshot_core.specs.Places.{KnownPlaces}
 use Rattle.rename_core.specs.declared.reply.Reply.{Reply as StepReply}
 use Rattle.rename_core.specs.RenameCalls.{next, IsReply, IsAfter, IsLawful}
-use Rattle.rename_core.specs.RenameState.{RenameState}
 use Rattle.rename_core.specs.Config.{is_tree}
 use Rattle.rename_core.specs.Law.{KeepsRenameLaw}
 use Rattle.rename_core.specs.declared.config.WorldKind.{WorldKind}
@@ -18,15 +17,13 @@ use Rattle.rename_core.proofs.AfterCalls.{leads_on}
 use Rattle.rename_core.proofs.Sizes.{next_limit, next_most}
 use Rattle.bit_allocator.specs.Pool.{enter_answer, probe_answer, number_answer}
 use Rattle.bit_allocator.specs.Calls.Call.{Entered, Probed, Left}
-use Rattle.slot_array.specs.SlotsState.{SlotsState}
 use Rattle.slot_array.specs.SlotCalls.{SlotCall}
 use Rattle.slot_array.specs.SlotCalls.SlotCall.{Pooled, Stored, Fetched}
-use Rattle.slot_array.specs.Slots.{slot, stored_reply, IsFetched}
+use Rattle.slot_array.specs.Slots.{stored_reply, IsFetched}
 use Rattle.slot_array.specs.After.{AfterSlots, slots_next, IsSlotReply}
 use Rattle.slot_array.proofs.SlotsKeep.{after_slots_call, slot_there, law_after_slots}
 use Rattle.desk.specs.declared.event.Event.{Event}
 use Rattle.desk.specs.declared.event.Event.TheVariants.{Begin, Step, Enter, Probe, Leave, Put, Get}
-use Rattle.desk.specs.declared.exchange.Exchange.{Exchange}
 use Rattle.desk.specs.declared.reply.Reply.{Reply}
 use Rattle.desk.specs.declared.reply.Reply.TheVariants as reply
 use Rattle.desk.specs.DeskState.{DeskState}
@@ -111,7 +108,7 @@ module _ {S R V U K : Type 0} (W : KnownPlaces S R V U K) (most limit size : ℕ
   -- a step for which a growth was refused is a call too
   lacking : (p : ℕ) → desk_grows W w (Step p) ≡ true → AfterDesk W most limit size w (calls ++ Renamed (Stepped p (Err refusal.NoMemory)) ∷ [])
   lacking p h = elim (step_refusal w.names p) as (λ o. step_refusal w.names p ≡ o → grows_by o (may_lack W w.names p) ≡ true → AfterDesk W most limit size w (calls ++ Renamed (Stepped p (Err refusal.NoMemory)) ∷ [])) [
-    | None ↦ λ none may. renamed_after (Stepped p (Err refusal.NoMemory)) (inr (refl, none, may))
+    | None ↦ λ none may. renamed_after (Stepped p (Err refusal.NoMemory)) (inr (refl, (none, may)))
     | Some why ↦ λ some may. absurd (cc)
   ] refl h
 

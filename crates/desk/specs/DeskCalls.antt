@@ -1,14 +1,11 @@
 -- a renaming world and slots over a pool, side by side: their calls, and the exchanges that these are
-use Rattle.std.specs.Prelude.{◌≡◌, ℕ, List, [], ◌∷◌, ◌++◌, replicate, Result, Ok, Err}
-use Rattle.step_memory.specs.declared.refusal.Refusal.{Refusal}
+use Rattle.std.specs.Prelude.{◌≡◌, ℕ, List, [], ◌∷◌, ◌++◌, replicate}
 use Rattle.step_memory.specs.Calls.{Call}
 use Rattle.step_memory.specs.Calls.Call.{Began, Stepped}
 use Rattle.snapshot_core.specs.Places.{KnownPlaces}
 use Rattle.rename_core.specs.declared.reply.Reply.{Reply as StepReply}
 use Rattle.rename_core.specs.RenameCalls.{IsAfter}
-use Rattle.rename_core.specs.RenameState.{RenameState}
 use Rattle.bit_allocator.specs.Calls.Call.{Entered, Probed, Left}
-use Rattle.slot_array.specs.SlotsState.{SlotsState}
 use Rattle.slot_array.specs.SlotCalls.{SlotCall}
 use Rattle.slot_array.specs.SlotCalls.SlotCall.{Pooled, Stored, Fetched}
 use Rattle.slot_array.specs.After.{AfterSlots}

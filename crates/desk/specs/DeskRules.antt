@@ -6,11 +6,9 @@ use Rattle.step_memory.specs.Calls.Call.{Began, Stepped}
 use Rattle.step_memory.specs.World.{begin_refusal, done_unless}
 use Rattle.snapshot_core.specs.Places.{KnownPlaces}
 use Rattle.rename_core.specs.RenameCalls.{next, IsFresh}
-use Rattle.rename_core.specs.RenameState.{RenameState}
 use Rattle.rename_core.specs.RenameWorld.{rename_answer, step_refusal, may_lack}
 use Rattle.bit_allocator.specs.Pool.{enter_answer, probe_answer, number_answer, fresh_pool}
 use Rattle.bit_allocator.specs.Calls.Call.{Entered, Probed, Left}
-use Rattle.slot_array.specs.SlotCalls.{SlotCall}
 use Rattle.slot_array.specs.SlotCalls.SlotCall.{Pooled, Stored, Fetched}
 use Rattle.slot_array.specs.Slots.{stored_reply}
 use Rattle.slot_array.specs.After.{slots_next}

@@ -10,8 +10,8 @@ use crate::places::RenamePlaces;
 use snapshot_core::{Known, Places};
 use std::alloc::Allocator;
 
-/// A law, which runs nothing: one more call, with a reply that it may get, leads on, and keeps the world's sizes; and every list of calls that leads to a
-/// world keeps the law of renaming.
+/// A law, which runs nothing: one more call, with a reply that it may get, leads on, and keeps the world's sizes; and every
+/// list of calls that leads to a world keeps the law of renaming.
 pub fn law_of_renaming_calls<W: RenamePlaces<A>, A: Allocator>()
     ensures call { (w new : RenameState W W.Walker W.Walk) (h : Call Reply) → new ≡ next ⟦<W as Known>⟧.places w h → IsReply ⟦<W as Known>⟧.places w h → LeadsOn ⟦<W as Known>⟧.places w new h }
     ensures kept { (w : RenameState W W.Walker W.Walk) (h : Call Reply) → ((next ⟦<W as Known>⟧.places w h).snap.most ≡ w.snap.most) × ((next ⟦<W as Known>⟧.places w h).limit ≡ w.limit) }
