@@ -16,5 +16,4 @@ pub fn law_of_renaming_calls<W: RenamePlaces<A>, A: Allocator>()
     ensures call { (w new : RenameState W W.Walker W.Walk) (h : Call Reply) → new ≡ next ⟦<W as Known>⟧.places w h → IsReply ⟦<W as Known>⟧.places w h → LeadsOn ⟦<W as Known>⟧.places w new h }
     ensures kept { (w : RenameState W W.Walker W.Walk) (h : Call Reply) → ((next ⟦<W as Known>⟧.places w h).snap.most ≡ w.snap.most) × ((next ⟦<W as Known>⟧.places w h).limit ≡ w.limit) }
     ensures law { (w : RenameState W W.Walker W.Walk) → IsLawful ⟦<W as Known>⟧.places W.world w }
-{
-}
+{}
