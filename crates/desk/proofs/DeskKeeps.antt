@@ -1,5 +1,5 @@
 -- a desk goes on, event by event, and keeps the laws of its parts
-use Rattle.std.proofs.Common.{◌≡◌, ℕ, zero, suc, ◌-◌, true, inl, inr, List, [], ◌∷◌, ◌++◌, map, replicate, Some, None, Result, Ok, Err, refl, sym, ap, subst, ◌∙◌}
+use Rattle.std.proofs.Common.{◌≡◌, ℕ, zero, suc, ◌-◌, true, inl, inr, List, [], ◌∷◌, ◌++◌, map, replicate, Option, Some, None, Result, Ok, Err, refl, sym, ap, subst, ◌∙◌}
 use Rattle.std.specs.Prelude.{slice_get, slice_index}
 use Rattle.step_memory.specs.declared.refusal.Refusal.{Refusal}
 use Rattle.step_memory.specs.declared.refusal.Refusal.TheVariants as refusal
@@ -8,7 +8,7 @@ use Rattle.step_memory.specs.Calls.Call.{Began, Stepped}
 use Rattle.step_memory.specs.World.{begin_refusal, done_unless}
 use Rattle.snapshot_core.specs.Places.{KnownPlaces}
 use Rattle.rename_core.specs.declared.reply.Reply.{Reply as StepReply}
-use Rattle.rename_core.specs.RenameCalls.{next, IsReply, IsAfter, IsLawful}
+use Rattle.rename_core.specs.RenameCalls.{next, IsReply, IsAfter, IsLawful, IsOwnerOf}
 use Rattle.rename_core.specs.Config.{is_tree}
 use Rattle.rename_core.specs.Law.{KeepsRenameLaw}
 use Rattle.rename_core.specs.declared.config.WorldKind.{WorldKind}
@@ -30,6 +30,8 @@ use Rattle.desk.specs.DeskState.{DeskState}
 use Rattle.desk.specs.DeskRun.{IsDeskRun, desk_terms, desk_bounds}
 use Rattle.desk.specs.DeskCalls.{DeskCall, rename_calls, slot_calls, exchange, exchange_of, AfterDesk, LeadsBy}
 use Rattle.desk.specs.DeskCalls.DeskCall.{Renamed, Slotted}
+use Rattle.desk.specs.Owner.{IsOwnerOn}
+use Rattle.desk.proofs.NamesGiven.{owner_is}
 use Rattle.desk.specs.DeskRules.{fetched, call_for, desk_next, desk_reply, desk_after, desk_grows, grows_by, DeskMay}
 
 -- one more call of renaming
@@ -143,3 +145,12 @@ is_run W kind most limit size w calls lawful a = record {
       (lawful (rename_calls calls) a.names));
   slots = law_after_slots size (replicate size 0) w.slots (slot_calls calls) a.slots;
 }
+
+-- the owner of a name was given it, among these exchanges
+pub owner_on : {S R V U K : Type 0} (W : KnownPlaces S R V U K) (kind : WorldKind) (w : DeskState S U K) (n : ℕ) (owner : Option ℕ) → IsLawful W kind w.names → IsOwnerOf W kind w.names n owner → IsOwnerOn W w n owner
+unfolding is_run
+owner_on W kind w n owner lawful owns most limit size calls a =
+    let own : AfterDesk W w.names.snap.most w.names.limit size w calls = record { names = a.names; slots = a.slots; most_is = refl; limit_is = refl } in
+    let run = is_run W kind w.names.snap.most w.names.limit size w calls lawful own in
+    owner_is (desk_terms w.names.snap.most w.names.limit (is_tree kind)) (desk_bounds w.names.snap.most W.ties.placing (W.ties.reads w.names.snap.most)) size (map exchange_of calls) run n owner
+    (owns (rename_calls calls) a.names run.names.object run.names.run)

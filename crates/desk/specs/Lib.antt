@@ -4,3 +4,4 @@ pub mod DeskCalls
 pub mod DeskRun
 pub mod DeskRules
 pub mod Names
+pub mod Owner

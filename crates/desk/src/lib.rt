@@ -9,7 +9,7 @@
 //! want of memory with nothing changed); the exchanges, events with their replies, are a *run*, which the renaming object,
 //! the pool and the slots, begun fresh, can answer in order, within their counts of steps (`law_of_desks`); and so, among the
 //! exchanges, nobody was given two names, no two were given one, and each name is from 1 to 2b - 1 where b have begun
-//! (`law_of_names`).
+//! (`law_of_names`). Who is told to have a name is who was given it (`DeskOver::owner`: `told`).
 //!
 //! A caller:
 //!

@@ -3,7 +3,9 @@
 ghost use Rattle.std.specs.Prelude.{◌≡◌, ◌⊎◌, ◌↔◌, [], IfOk, IfErr, Err, false};
 ghost use Rattle.desk.specs.DeskCalls.{AfterDesk};
 ghost use Rattle.desk.specs.DeskRules.{DeskMay, IsFreshDesk};
+ghost use Rattle.desk.specs.Owner.{IsOwnerOn};
 ghost use Rattle.rename_core.specs.Config.{is_played_over};
+ghost use Rattle.rename_core.specs.RenameWorld.{owner_by};
 
 use crate::event::Event;
 use crate::reply::Reply;
@@ -76,5 +78,15 @@ where
             Event::Put(id, value) => Reply::of_done(self.slots.put(id, value)),
             Event::Get(id) => Reply::of_value(self.slots.get(id).copied()),
         }
+    }
+
+    /// Who has a name, or that nobody has it. It changes nothing.
+    pub fn owner(&self, number: u64) -> Option<u64>
+        ensures value { result ≡ owner_by number self.now.names.rounds }
+
+        // It is who was given the name, among the exchanges of the events so far.
+        ensures told { IsOwnerOn ⟦<W as Known>⟧.places self.now number result }
+    {
+        self.names.owner_of(number)
     }
 }

@@ -75,7 +75,9 @@ fn one_is_named_over_a_tree(rt: HostRuntime) -> Result<(), Fail> {
             _ => Reply::Quiet,
         };
         assert!(rt; reply == want, "step {step}: {reply:?}");
+        assert_eq!(rt; desk.owner(1), if step == 22 { Some(7) } else { None });
     }
+    assert_eq!(rt; desk.owner(7), None);
     Ok(())
 }
 
