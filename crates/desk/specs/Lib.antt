@@ -5,3 +5,4 @@ pub mod DeskRun
 pub mod DeskRules
 pub mod Names
 pub mod Owner
+pub mod Laws
