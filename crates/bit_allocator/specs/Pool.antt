@@ -54,6 +54,15 @@ probe_answer_by w (Some (Settled number)) = Err Holding
 abbrev pub probe_answer : PoolState → ℕ → Result Probe Refusal
 probe_answer w id = probe_answer_by w (stay_of id w.competitors)
 
+-- why `probe` is refused
+abbrev pub probe_refusal_by : Option Stay → Option Refusal
+probe_refusal_by None = Some NotCompeting
+probe_refusal_by (Some (Seeking next)) = None
+probe_refusal_by (Some (Settled number)) = Some Holding
+
+abbrev pub probe_refusal : PoolState → ℕ → Option Refusal
+probe_refusal w id = probe_refusal_by (stay_of id w.competitors)
+
 abbrev pub after_probe_by : PoolState → ℕ → Option Stay → PoolState
 after_probe_by w id None = w
 after_probe_by w id (Some (Seeking next)) = record {

@@ -3,7 +3,7 @@
 ghost use Rattle.std.specs.Prelude.{◌≡◌, ◌≤◌, ◌<◌, ◌⊎◌, ℕ, List, [], ◌∷◌, ◌++◌, IfOk, IfErr, IsOk, OnErr, Err, MatchOption, Some, ◌≢◌};
 ghost use Rattle.bit_allocator.specs.Competitors.{index_of, holder_in, identities};
 ghost use Rattle.bit_allocator.specs.PoolState.{PoolState};
-ghost use Rattle.bit_allocator.specs.Pool.{fresh_pool, enter_refusal, enter_answer, after_enter, probe_answer, after_probe, number_answer, after_leave};
+ghost use Rattle.bit_allocator.specs.Pool.{fresh_pool, enter_refusal, enter_answer, after_enter, probe_refusal, probe_answer, after_probe, number_answer, after_leave};
 ghost use Rattle.bit_allocator.specs.Locality.{IsLocal, LookAlike, StandAlike, probe_steps, leave_steps};
 ghost use Rattle.bit_allocator.specs.Calls.{Call};
 ghost use Rattle.bit_allocator.specs.Calls.Call.{Entered, Probed, Left};
@@ -158,8 +158,8 @@ impl<A: Allocator> Pool<A> {
         holder(&self.competitors, number)
     }
 
-    /// Why an identity may not enter.
-    fn enter_refusal(&self, id: u64) -> Option<Refusal>
+    /// Why an identity may not enter: what `enter` would be refused. It changes nothing.
+    pub fn enter_refusal(&self, id: u64) -> Option<Refusal>
         ensures { result ≡ enter_refusal self.now id }
     {
         if id == 0 {
@@ -190,6 +190,19 @@ impl<A: Allocator> Pool<A> {
             stay: Stay::Seeking(1),
         });
         Ok(())
+    }
+
+    /// Why an identity may not probe: what `probe` would be refused. It changes nothing.
+    pub fn probe_refusal(&self, id: u64) -> Option<Refusal>
+        ensures { result ≡ probe_refusal self.now id }
+    {
+        let Some(i) = find(&self.competitors, id) else {
+            return Some(Refusal::NotCompeting);
+        };
+        match self.competitors[i].stay {
+            Stay::Seeking(_) => None,
+            Stay::Settled(_) => Some(Refusal::Holding),
+        }
     }
 
     /// One probe, which is at most one access: the `i`-th of a stay tests and sets bit `i`. It gets the number `i` where
@@ -280,6 +293,8 @@ mod tests {
             let made = Pool::new(rt.alloc(), size);
             assert_eq!(rt; made.is_ok(), taken, "at {size}");
         }
+        law_of_pool_calls();
+        law_of_own_accesses();
     }
 
     #[test]
@@ -299,12 +314,6 @@ mod tests {
         assert_eq!(rt; lone.acquire(9), Ok(1));
         assert_eq!(rt; lone.acquire(5), Err(Refusal::Crowded));
         Ok(())
-    }
-
-    #[test]
-    fn laws_are_called() {
-        law_of_pool_calls();
-        law_of_own_accesses();
     }
 
     #[test]

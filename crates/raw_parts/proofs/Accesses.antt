@@ -7,8 +7,8 @@ use Rattle.atomic_table.specs.Table.{Me, Step, Allows, keeps}
 use Rattle.step_memory.specs.SetAt.{set_at}
 use Rattle.splitter.specs.declared.way.Way.TheVariants.{Stop, Right, Down}
 use Rattle.splitter.specs.declared.stage.Stage.{Stage}
-use Rattle.splitter.specs.declared.stage.Stage.TheVariants.{Outside, WroteName, SawClear, WroteMark, Gone}
-use Rattle.splitter.specs.Stage.{has_entered, name_after, mark_after, stage_after}
+use Rattle.splitter.specs.declared.stage.Stage.TheVariants.{Outside, WroteX, SawClear, WroteY, Gone}
+use Rattle.splitter.specs.Stage.{has_entered, x_after, y_after, stage_after}
 use Rattle.splitter.proofs.DoorKept.{kept}
 use Rattle.raw_parts.specs.declared.splitter_view.Visit.{Visit}
 use Rattle.raw_parts.specs.declared.splitter_view.SplitterView.{SplitterView}
@@ -34,9 +34,9 @@ same_number p q e = omega arith
 -- whoever has made an access has begun
 entered_after : (p : ℕ) (s : Stage) (x y : ℕ) → has_entered (stage_after p s x y) ≡ true
 entered_after p Outside x y = refl
-entered_after p WroteName x y = elim (y == 0) as (λ t. has_entered (cond t SawClear (Gone Right)) ≡ true) [ true ↦ refl | false ↦ refl ]
+entered_after p WroteX x y = elim (y == 0) as (λ t. has_entered (cond t SawClear (Gone Right)) ≡ true) [ true ↦ refl | false ↦ refl ]
 entered_after p SawClear x y = refl
-entered_after p WroteMark x y = elim (x == p) as (λ t. has_entered (cond t (Gone Stop) (Gone Down)) ≡ true) [ true ↦ refl | false ↦ refl ]
+entered_after p WroteY x y = elim (x == p) as (λ t. has_entered (cond t (Gone Stop) (Gone Down)) ≡ true) [ true ↦ refl | false ↦ refl ]
 entered_after p (Gone way) x y = refl
 
 module _ (seats x y p : ℕ) (stage : ℕ → Stage) (h : IsLawful seats x y stage) (within : (0 < p) × (p ≤ seats)) where
@@ -45,15 +45,15 @@ module _ (seats x y p : ℕ) (stage : ℕ → Stage) (h : IsLawful seats x y sta
   begun_still s ne = set_at-cases stage p (stage_after p s x y) (λ v. has_entered v ≡ true) x (λ _. entered_after p s x y) (λ _. h.begun ne)
 
   -- whoever stands in X after the access has begun
-  begun_after : (s : Stage) → name_after p s x ≢ 0 → has_entered (set_at stage p (stage_after p s x y) (name_after p s x)) ≡ true
-  begun_after Outside ne = rw (set_at-same stage p WroteName)
-  begun_after WroteName ne = begun_still WroteName ne
+  begun_after : (s : Stage) → x_after p s x ≢ 0 → has_entered (set_at stage p (stage_after p s x y) (x_after p s x)) ≡ true
+  begun_after Outside ne = rw (set_at-same stage p WroteX)
+  begun_after WroteX ne = begun_still WroteX ne
   begun_after SawClear ne = begun_still SawClear ne
-  begun_after WroteMark ne = begun_still WroteMark ne
+  begun_after WroteY ne = begun_still WroteY ne
   begun_after (Gone way) ne = begun_still (Gone way) ne
 
   -- the words and the stages after the access are lawful
-  lawful_after : (s : Stage) → stage p ≡ s → IsLawful seats (name_after p s x) (mark_after s y) (set_at stage p (stage_after p s x y))
+  lawful_after : (s : Stage) → stage p ≡ s → IsLawful seats (x_after p s x) (y_after s y) (set_at stage p (stage_after p s x y))
   lawful_after s is = record {
     door = kept x y stage p h.door s is;
     seated = λ q. set_at-cases stage p (stage_after p s x y) (λ v. has_entered v ≡ true → (0 < q) × (q ≤ seats)) q
@@ -65,7 +65,7 @@ module _ (seats x y p : ℕ) (stage : ℕ → Stage) (h : IsLawful seats x y sta
 module _ (n m k seat : ℕ) (a : Stage) where
   -- the rule afterwards, where X and Y are as the access leaves them
   rule_after : (words : List ℕ) (views : List SplitterView) (h : IsKept n words views) → get_elem? views seat ≡ some (lone_view m k a)
-      → (left : List ℕ) → left ≡ name_after (name_of k) a h.x ∷ mark_after a h.y ∷ []
+      → (left : List ℕ) → left ≡ x_after (name_of k) a h.x ∷ y_after a h.y ∷ []
       → IsKept n left (set views seat (lone_view m k (stage_after (name_of k) a h.x h.y)))
   rule_after words views h e left are =
       let mine : IsShown n h.seat_of h.stage seat (lone_view m k a) (visit_at k a) = (h.shown seat (lone_view m k a) e).0.0 in
@@ -73,8 +73,8 @@ module _ (n m k seat : ℕ) (a : Stage) where
       let b : Stage = stage_after name a h.x h.y in
       let within : name ≤ n = (let r = mine.in_range in omega arith) in
       record {
-        x = name_after name a h.x;
-        y = mark_after a h.y;
+        x = x_after name a h.x;
+        y = y_after a h.y;
         words_are = are;
         stage = set_at h.stage name b;
         lawful = lawful_after n h.x h.y name h.stage h.lawful (omega arith, within) a mine.stage_is;
@@ -100,7 +100,7 @@ under_rule n seat words views v same h e = record { words = words; views = views
 
 module _ {S : Type 0} (n m k seat slots : ℕ) (st : Step S) where
   -- a store, where it leaves X and Y as the access of a visit does
-  stores : (a b : Stage) (word new : ℕ) → ((x y : ℕ) → slice_set (x ∷ y ∷ []) word new ≡ name_after (name_of k) a x ∷ mark_after a y ∷ [])
+  stores : (a b : Stage) (word new : ℕ) → ((x y : ℕ) → slice_set (x ∷ y ∷ []) word new ≡ x_after (name_of k) a x ∷ y_after a y ∷ [])
       → ((x y : ℕ) → stage_after (name_of k) a x y ≡ b)
       → Allows {S = S} {V = SplitterView} (KeepsRule n) slots seat (lone_view m k a, []) word (λ _. new) (λ _. MovesOn st (lone_view m k a, []) new)
   stores a b word new leaves moves s h _ e _ =
@@ -111,7 +111,7 @@ module _ {S : Type 0} (n m k seat slots : ℕ) (st : Step S) where
       (after, keeps, tt, kept, (refl, under_rule n seat _ _ after (h.shown seat _ e).0.0.seats_are kept (there_still s.views seat _ e after)))
 
   -- a load, where it finds what the access of a visit reads
-  loads : (a : Stage) (word : ℕ) → ((x y : ℕ) → (name_after (name_of k) a x ≡ x) × (mark_after a y ≡ y))
+  loads : (a : Stage) (word : ℕ) → ((x y : ℕ) → (x_after (name_of k) a x ≡ x) × (y_after a y ≡ y))
       → ((x y : ℕ) → stage_after (name_of k) a x y ≡ stage_after (name_of k) a (slice_index (x ∷ y ∷ []) word) (slice_index (x ∷ y ∷ []) word))
       → Allows {S = S} {V = SplitterView} (KeepsRule n) slots seat (lone_view m k a, []) word (λ f. f) (MovesOn st (lone_view m k a, []))
   loads a word leaves moves s h _ e _ =
@@ -126,16 +126,16 @@ module _ {S : Type 0} (n m k seat slots : ℕ) (st : Step S) where
 
   -- the four accesses of a visit
   pub may_write_x : Allows {S = S} {V = SplitterView} (KeepsRule n) slots seat (lone_view m k Outside, []) 0 (λ _. name_of k) (λ _. MovesOn st (lone_view m k Outside, []) (name_of k))
-  may_write_x = stores Outside WroteName 0 (name_of k) (λ x y. refl) (λ x y. refl)
+  may_write_x = stores Outside WroteX 0 (name_of k) (λ x y. refl) (λ x y. refl)
 
-  pub may_read_y : Allows {S = S} {V = SplitterView} (KeepsRule n) slots seat (lone_view m k WroteName, []) 1 (λ f. f) (MovesOn st (lone_view m k WroteName, []))
-  may_read_y = loads WroteName 1 (λ x y. (refl, refl)) (λ x y. refl)
+  pub may_read_y : Allows {S = S} {V = SplitterView} (KeepsRule n) slots seat (lone_view m k WroteX, []) 1 (λ f. f) (MovesOn st (lone_view m k WroteX, []))
+  may_read_y = loads WroteX 1 (λ x y. (refl, refl)) (λ x y. refl)
 
   pub may_write_y : Allows {S = S} {V = SplitterView} (KeepsRule n) slots seat (lone_view m k SawClear, []) 1 (λ _. 1) (λ _. MovesOn st (lone_view m k SawClear, []) 1)
-  may_write_y = stores SawClear WroteMark 1 1 (λ x y. refl) (λ x y. refl)
+  may_write_y = stores SawClear WroteY 1 1 (λ x y. refl) (λ x y. refl)
 
-  pub may_read_x : Allows {S = S} {V = SplitterView} (KeepsRule n) slots seat (lone_view m k WroteMark, []) 0 (λ f. f) (MovesOn st (lone_view m k WroteMark, []))
-  may_read_x = loads WroteMark 0 (λ x y. (refl, refl)) (λ x y. refl)
+  pub may_read_x : Allows {S = S} {V = SplitterView} (KeepsRule n) slots seat (lone_view m k WroteY, []) 0 (λ f. f) (MovesOn st (lone_view m k WroteY, []))
+  may_read_x = loads WroteY 0 (λ x y. (refl, refl)) (λ x y. refl)
 
 -- where a seat with one visit stands after an access of it that found this number
 pub stands_after : (m k found : ℕ) (a : Stage) (before after : Me ℕ SplitterView) → before ≡ (lone_view m k a, []) → after ≡ (moved_on found before.0, before.1) → after ≡ (lone_view m k (stage_after (name_of k) a found found), [])

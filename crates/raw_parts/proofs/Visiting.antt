@@ -6,10 +6,10 @@ use Rattle.atomic_table.specs.Seated.{TableId}
 use Rattle.splitter.specs.declared.way.Way.{Way}
 use Rattle.splitter.specs.declared.way.Way.TheVariants.{Stop, Right, Down}
 use Rattle.splitter.specs.declared.stage.Stage.{Stage}
-use Rattle.splitter.specs.declared.stage.Stage.TheVariants.{Outside, WroteName, SawClear, WroteMark, Gone}
+use Rattle.splitter.specs.declared.stage.Stage.TheVariants.{Outside, WroteX, SawClear, WroteY, Gone}
 use Rattle.splitter.specs.Law.{AtMostOneStopped, NotAllTook, IsSplit}
 use Rattle.splitter.specs.Door.{IsSplitter}
-use Rattle.splitter.specs.Stage.{has_entered, has_marked, went_right}
+use Rattle.splitter.specs.Stage.{has_entered, has_set, went_right}
 use Rattle.splitter.proofs.DoorKept.{law_of}
 use Rattle.raw_parts.specs.declared.splitter_view.SplitterView.{SplitterView}
 use Rattle.raw_parts.specs.SplitterView.{name_of, visit_at, view_of, lone_view}
@@ -19,11 +19,11 @@ use Rattle.raw_parts.specs.Seats.{SplitterId, EndedVisit, seats_in, IsEither, Ei
 use Rattle.raw_parts.proofs.Accesses.{same_number}
 
 -- whoever set Y has begun
-marked_entered : (s : Stage) → has_marked s ≡ true → has_entered s ≡ true
+marked_entered : (s : Stage) → has_set s ≡ true → has_entered s ≡ true
 marked_entered Outside h = absurd (cc)
-marked_entered WroteName h = absurd (cc)
+marked_entered WroteX h = absurd (cc)
 marked_entered SawClear h = absurd (cc)
-marked_entered WroteMark h = refl
+marked_entered WroteY h = refl
 marked_entered (Gone way) h = refl
 
 -- one that went neither right nor down stopped
@@ -39,7 +39,7 @@ module _ (n k : ℕ) where
       let ended : EndsUnderRule n k Right = subst (λ (w : Way). EndsUnderRule n k w) is u in
       let h = ended.kept in
       let mine : h.stage (name_of k) ≡ Gone Right = (h.shown ended.seat _ ended.there).0.0.stage_is in
-      let marker = h.lawful.door.marker (λ clear. let r : went_right (h.stage (name_of k)) ≡ true = rw mine refl in let no_right = h.lawful.door.none_right clear (name_of k) in cc) in
+      let marker = h.lawful.door.setter (λ clear. let r : went_right (h.stage (name_of k)) ≡ true = rw mine refl in let no_right = h.lawful.door.none_right clear (name_of k) in cc) in
       let seated = h.lawful.seated marker.0 (marked_entered (h.stage marker.0) marker.1) in
       let other : ℕ = marker.0 - 1 in
       let name_is : name_of other ≡ marker.0 = (let s = seated.0 in omega arith) in
@@ -47,8 +47,8 @@ module _ (n k : ℕ) where
         ended = ended;
         other = other;
         in_range = (let s = seated.0 in let t = seated.1 in omega arith);
-        another = λ e. let stage_is : h.stage marker.0 ≡ Gone Right = ap h.stage (sym name_is ∙ ap name_of e) ∙ mine in let unmarked : has_marked (h.stage marker.0) ≡ false = rw stage_is refl in let marked = marker.1 in cc;
-        marked = subst (λ (q : ℕ). has_marked (h.stage q) ≡ true) (sym name_is) marker.1;
+        another = λ e. let stage_is : h.stage marker.0 ≡ Gone Right = ap h.stage (sym name_is ∙ ap name_of e) ∙ mine in let unset : has_set (h.stage marker.0) ≡ false = rw stage_is refl in let marked = marker.1 in cc;
+        marked = subst (λ (q : ℕ). has_set (h.stage q) ≡ true) (sym name_is) marker.1;
       }
 
   -- the only seat stops

@@ -6,7 +6,7 @@ use Rattle.atomic_table.specs.Table.{Me, Step}
 use Rattle.splitter.specs.declared.way.Way.{Way}
 use Rattle.splitter.specs.declared.way.Way.TheVariants.{Right}
 use Rattle.splitter.specs.declared.stage.Stage.TheVariants.{Gone}
-use Rattle.splitter.specs.Stage.{has_marked, stage_after}
+use Rattle.splitter.specs.Stage.{has_set, stage_after}
 use Rattle.raw_parts.specs.declared.splitter_view.SplitterView.{SplitterView}
 use Rattle.raw_parts.specs.SplitterView.{name_of, visit_at, view_of, lone_view}
 use Rattle.raw_parts.specs.SplitterRule.{IsKept}
@@ -41,4 +41,4 @@ pub record WentRightAfterAnother (seats number : ℕ) : Type 0 where
   pub other : ℕ
   pub in_range : other < seats
   pub another : other ≢ number
-  pub marked : has_marked (ended.kept.stage (name_of other)) ≡ true
+  pub marked : has_set (ended.kept.stage (name_of other)) ≡ true

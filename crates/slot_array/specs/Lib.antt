@@ -4,3 +4,4 @@ pub mod Slots
 pub mod SlotsObject
 pub mod Law
 pub mod After
+pub mod Laws

@@ -139,11 +139,6 @@ mod tests {
     use std::test::Fail;
 
     #[test]
-    fn laws_are_called() {
-        law_of_slot_calls::<u64>();
-    }
-
-    #[test]
     fn one_number(rt: HostRuntime) -> Result<(), Fail> {
         let pool = Pool::new(rt.alloc(), 1)?;
         let mut slots = Slots::new(pool, vec![in rt.alloc(); 0u64; 1]?)?;
@@ -153,6 +148,18 @@ mod tests {
         assert_eq!(rt; slots.enter(5), Err(Refusal::AlreadyCompeting));
         assert_eq!(rt; slots.leave(5), Ok(1));
         assert_eq!(rt; slots.enter(6), Ok(()));
+        law_of_slot_calls::<u64>();
+        Ok(())
+    }
+
+    #[test]
+    fn sizes(rt: HostRuntime) -> Result<(), Fail> {
+        for size in 1..65u64 {
+            let pool = Pool::new(rt.alloc(), size)?;
+            let mut slots = Slots::new(pool, vec![in rt.alloc(); 0u64; size as usize]?)?;
+            assert_eq!(rt; slots.enter(5), Ok(()), "at {size}");
+            assert_eq!(rt; slots.probe(5), Ok(Probe::Got(1)), "at {size}");
+        }
         Ok(())
     }
 

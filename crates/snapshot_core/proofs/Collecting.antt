@@ -1,22 +1,20 @@
 -- a scan under way: what its collects tell of the past
 use Rattle.std.proofs.Common.{◌≡◌, ◌≢◌, ℕ, ◌+◌, ◌<◌, ◌≤◌, ◌==◌, Bool, true, false, not, ◌&&◌, ◌||◌, ◌⊎◌, List, [], length, map, Option, Some, None, inl, inr, refl, sym, ap, ◌∙◌, arith}
-use Rattle.std.specs.Prelude.{nat_le, is_some}
+use Rattle.std.specs.Prelude.{option_map}
 use Rattle.std.proofs.lemmas.Bool.{cases_Bool}
 use Rattle.std.proofs.lemmas.List.{length-map}
-use Rattle.std.proofs.lemmas.Bool.Decides.{eqb_tells, leb_tells, Decides-eqb}
+use Rattle.std.proofs.lemmas.Bool.Decides.{eqb_tells, leb_tells}
 use Rattle.step_memory.specs.SetAt.{set_at}
 use Rattle.step_memory.proofs.SetAtLemmas.{set_at-same, set_at-other}
 use Rattle.step_memory.specs.declared.record.Record.{Record}
 use Rattle.snapshot_core.specs.declared.sightings.Sighting.{Sighting}
-use Rattle.step_memory.specs.View.{IsRising, value_of, inserted}
-use Rattle.snapshot_core.specs.Sightings.{sighting_of, noted, with_sighting, carried_over}
-use Rattle.snapshot_core.specs.Scan.{view_with}
+use Rattle.snapshot_core.specs.Sightings.{met_in, number_met, sighting_of, noted, with_sighting, carried_over, shown_by}
 use Rattle.snapshot_core.specs.Snapshot.{IsMoment}
 use Rattle.step_memory.specs.Count.{count_to}
 use Rattle.step_memory.proofs.CountLemmas.{count_to-lt, count_to-mono, count_to-gain, count_to-longer}
 use Rattle.snapshot_core.proofs.SightingLemmas.{is_known, sighting_of-with, is_known-with, length-with-known, length-with-unknown, noted-known, noted-room, sighting_of-carried, is_known-carried}
-use Rattle.step_memory.proofs.ViewLemmas.{value_of-inserted, IsRising-inserted, length-inserted}
-use Rattle.snapshot_core.proofs.Histories.{number, value, value_in, IsHistory, value_in-set}
+use Rattle.snapshot_core.proofs.Shown.{AreMet, met-carried, met-set, met-with, number_met-is, shown_rising, shown_is}
+use Rattle.snapshot_core.proofs.Histories.{number, value, value_in, IsHistory}
 
 or_false : (a b : Bool) → (a || b) ≡ false → (a ≡ false) × (b ≡ false)
 or_false true b h = absurd (cc)
@@ -79,12 +77,9 @@ pub record WasRead (last : ℕ) (past : ℕ → ℕ → Option Record) (t x : �
   pub no_later : index ≤ last
   pub is : past index x ≡ Some r
 
-abbrev pub is_seen : (ℕ → Option Record) → ℕ → Bool
-is_seen seen x = is_some (seen x)
-
 -- One who has the place `own` has made so many collects of a scan since a moment, and another is under way, for which
 -- these places are ahead and those may be met. The moment at which this collect began, and what it has seen, are the past
-pub record IsCollecting (b last : ℕ) (past : ℕ → ℕ → Option Record) (place : ℕ → Option ℕ) (who : ℕ → ℕ) (own since collects : ℕ) (Ahead Upcoming : ℕ → Type 0) (is_first differs : Bool) (ss : List Sighting) (view : List (ℕ × ℕ)) : Type 0 where
+pub record IsCollecting (b last : ℕ) (past : ℕ → ℕ → Option Record) (place : ℕ → Option ℕ) (who : ℕ → ℕ) (own since collects : ℕ) (Ahead Upcoming : ℕ → Type 0) (is_first differs : Bool) (ss : List Sighting) : Type 0 where
   pub begun : ℕ
   pub seen : ℕ → Option Record
   pub since_begun : since ≤ begun
@@ -97,14 +92,12 @@ pub record IsCollecting (b last : ℕ) (past : ℕ → ℕ → Option Record) (p
   pub changed_unread : (x : ℕ) → changed_in ss x ≡ true → seen x ≡ None → number (past since x) < (sighting_of x ss).before
   pub changed_read : (x : ℕ) (r : Record) → changed_in ss x ≡ true → seen x ≡ Some r → number (past since x) < r.number
   pub settled : is_first ≡ false → differs ≡ false → (x : ℕ) (r : Record) → seen x ≡ Some r → (sighting_of x ss).before ≡ r.number
-  pub now : (x : ℕ) → (sighting_of x ss).now ≡ number (seen x)
+  pub now : (x : ℕ) → (sighting_of x ss).now ≡ option_map met_in (seen x)
+  pub met : AreMet seen ss
   -- what was not seen was empty as the collect began, or is ahead
   pub unread : (x : ℕ) → seen x ≡ None → (past begun x ≡ None) ⊎ Ahead x
   pub read : (x : ℕ) (r : Record) → seen x ≡ Some r → WasRead last past begun x r
   pub upcoming : (x : ℕ) → Upcoming x → seen x ≡ None
-  pub shown : (q : ℕ) → value_of q view ≡ value_in seen (place q)
-  pub rising : IsRising view
-  pub room : length view ≤ count_of who place b (is_seen seen)
   pub known : length ss ≤ count_of who place b (is_known ss)
   -- a participant does not write during its scan
   pub own_kept : number (past since own) ≡ number (past last own)
@@ -113,13 +106,9 @@ pub record IsCollecting (b last : ℕ) (past : ℕ → ℕ → Option Record) (p
   pub counted : collects ≤ 1 + count_of who place b (changed_in ss)
   pub differing : differs ≡ true → collects ≤ count_of who place b (changed_in ss)
 
--- nothing was seen
-shown_none : (place : ℕ → Option ℕ) (q : ℕ) → value_of q [] ≡ value_in (λ x. None) (place q)
-shown_none place q = elim (place q) as (λ o. value_of q [] ≡ value_in (λ x. None) o) [ None ↦ refl | Some y ↦ refl ]
-
 -- a scan that has read nothing, for which every segment that is not empty is ahead
 pub collecting_new : (b last : ℕ) (past : ℕ → ℕ → Option Record) (place : ℕ → Option ℕ) (who : ℕ → ℕ) (own : ℕ) (Ahead Upcoming : ℕ → Type 0) → ((x : ℕ) → (past last x ≡ None) ⊎ Ahead x) →
-    IsCollecting b last past place who own last 0 Ahead Upcoming true false [] []
+    IsCollecting b last past place who own last 0 Ahead Upcoming true false []
 collecting_new b last past place who own Ahead Upcoming ahead = record {
   begun = last;
   seen = λ x. None;
@@ -135,9 +124,7 @@ collecting_new b last past place who own Ahead Upcoming ahead = record {
   unread = λ x e. ahead x;
   read = λ x r e. absurd (cc);
   upcoming = λ x u. refl;
-  shown = shown_none place;
-  rising = tt;
-  room = omega arith;
+  met = tt;
   known = omega arith;
   own_kept = refl;
   own_same = refl;
@@ -145,7 +132,7 @@ collecting_new b last past place who own Ahead Upcoming ahead = record {
   differing = λ e. absurd (cc);
 }
 
-module _ (b last : ℕ) (past : ℕ → ℕ → Option Record) (moment : ℕ → ℕ → Option ℕ) (place : ℕ → Option ℕ) (who : ℕ → ℕ) (h : IsHistory last past moment place) (roll : IsRoll who place b) (own since collects : ℕ) (Ahead Upcoming : ℕ → Type 0) (f d : Bool) (ss : List Sighting) (view : List (ℕ × ℕ)) (c : IsCollecting b last past place who own since collects Ahead Upcoming f d ss view) where
+module _ (b last : ℕ) (past : ℕ → ℕ → Option Record) (moment : ℕ → ℕ → Option ℕ) (place : ℕ → Option ℕ) (who : ℕ → ℕ) (h : IsHistory last past moment place) (roll : IsRoll who place b) (own since collects : ℕ) (Ahead Upcoming : ℕ → Type 0) (f d : Bool) (ss : List Sighting) (c : IsCollecting b last past place who own since collects Ahead Upcoming f d ss) where
   -- one's own segment is not seen to change
   pub few_collects : (p : ℕ) → place p ≡ Some own → collects ≤ b
   few_collects p mine =
@@ -171,7 +158,7 @@ module _ (b last : ℕ) (past : ℕ → ℕ → Option Record) (moment : ℕ →
       h.same x i last k (omega arith) (omega arith) ∙ none
 
   -- a read that shows no record is passed
-  pub pass : (Ahead' Upcoming' : ℕ → Type 0) → ((x : ℕ) → Ahead x → (past last x ≡ None) ⊎ Ahead' x) → ((x : ℕ) → Upcoming' x → Upcoming x) → IsCollecting b last past place who own since collects Ahead' Upcoming' f d ss view
+  pub pass : (Ahead' Upcoming' : ℕ → Type 0) → ((x : ℕ) → Ahead x → (past last x ≡ None) ⊎ Ahead' x) → ((x : ℕ) → Upcoming' x → Upcoming x) → IsCollecting b last past place who own since collects Ahead' Upcoming' f d ss
   pass Ahead' Upcoming' still fewer = record {
     begun = c.begun;
     seen = c.seen;
@@ -190,9 +177,7 @@ module _ (b last : ℕ) (past : ℕ → ℕ → Option Record) (moment : ℕ →
     ];
     read = c.read;
     upcoming = λ x u. c.upcoming x (fewer x u);
-    shown = c.shown;
-    rising = c.rising;
-    room = c.room;
+    met = c.met;
     known = c.known;
     own_kept = c.own_kept;
     own_same = c.own_same;
@@ -211,8 +196,9 @@ module _ (b last : ℕ) (past : ℕ → ℕ → Option Record) (moment : ℕ →
       (help.index, elim (leb_tells since help.index) [ inl k ↦ k.1 | inr k ↦ absurd (let early = h.grows x help.index since (let g = k.1 in omega arith) since_last in omega arith) ], help.inside, help.is)
 
   -- a collect that is over and equal to the one before shows the moment at which it began
-  pub clean : ((x : ℕ) → Ahead x → ⊥) → f ≡ false → d ≡ false → (i : ℕ) × (since ≤ i) × (i ≤ last) × IsMoment view (moment i)
+  pub clean : ((x : ℕ) → Ahead x → ⊥) → f ≡ false → d ≡ false → (i : ℕ) × (since ≤ i) × (i ≤ last) × IsMoment (shown_by [] ss) (moment i)
   clean over e g =
+      let seen_owner : (x : ℕ) (r : Record) → c.seen x ≡ Some r → place r.identity ≡ Some x = (λ x r some. let rd = c.read x r some in h.owned x rd.index r rd.no_later rd.is) in
       let stood : (x : ℕ) → c.seen x ≡ past c.begun x = λ x. elim (c.seen x) as (λ o. c.seen x ≡ o → o ≡ past c.begun x) [
         | None ↦ λ none. elim (c.unread x none) [ inl k ↦ sym k | inr k ↦ absurd (over x k) ]
         | Some r ↦ λ some.
@@ -227,15 +213,15 @@ module _ (b last : ℕ) (past : ℕ → ℕ → Option Record) (moment : ℕ →
         c.since_begun,
         c.begun_last,
         record {
-          rising = c.rising;
-          values = λ q. c.shown q ∙ elim (place q) as (λ o. value_in c.seen o ≡ value_in (past c.begun) o) [ None ↦ refl | Some x ↦ ap value (stood x) ] ∙ sym (h.shows c.begun q c.begun_last);
+          rising = shown_rising [] ss tt;
+          values = λ q. shown_is c.seen place seen_owner h.distinct ss c.now c.met q ∙ elim (place q) as (λ o. value_in c.seen o ≡ value_in (past c.begun) o) [ None ↦ refl | Some x ↦ ap value (stood x) ] ∙ sym (h.shows c.begun q c.begun_last);
         },
       )
 
   -- a collect is over, and another begins
-  pub next_collect : ((x : ℕ) → Ahead x → ⊥) → (Ahead' Upcoming' : ℕ → Type 0) → ((x : ℕ) → (past last x ≡ None) ⊎ Ahead' x) → (f ≡ true) ⊎ (d ≡ true) → IsCollecting b last past place who own since (collects + 1) Ahead' Upcoming' false false (map carried_over ss) []
+  pub next_collect : ((x : ℕ) → Ahead x → ⊥) → (Ahead' Upcoming' : ℕ → Type 0) → ((x : ℕ) → (past last x ≡ None) ⊎ Ahead' x) → (f ≡ true) ⊎ (d ≡ true) → IsCollecting b last past place who own since (collects + 1) Ahead' Upcoming' false false (map carried_over ss)
   next_collect over Ahead' Upcoming' ahead why =
-      let before_is : (x : ℕ) → (sighting_of x (map carried_over ss)).before ≡ number (c.seen x) = λ x. ap (λ (s : Sighting). s.before) (sighting_of-carried ss x) ∙ c.now x in
+      let before_is : (x : ℕ) → (sighting_of x (map carried_over ss)).before ≡ number (c.seen x) = λ x. ap (λ (s : Sighting). s.before) (sighting_of-carried ss x) ∙ ap number_met (c.now x) ∙ number_met-is (c.seen x) in
       let changed_is : (x : ℕ) → changed_in (map carried_over ss) x ≡ changed_in ss x = λ x. ap (λ (s : Sighting). s.changed) (sighting_of-carried ss x) in
       let count = count_of-mono who place b (changed_in ss) (changed_in (map carried_over ss)) (λ x e. changed_is x ∙ e) in
       let many = count_of-mono who place b (is_known ss) (is_known (map carried_over ss)) (λ x e. is_known-carried ss x ∙ e) in
@@ -281,9 +267,7 @@ module _ (b last : ℕ) (past : ℕ → ℕ → Option Record) (moment : ℕ →
         unread = λ x e. ahead x;
         read = λ x r k. absurd (cc);
         upcoming = λ x u. refl;
-        shown = shown_none place;
-        rising = tt;
-        room = omega arith;
+        met = met-carried (λ x. None) ss;
         known = (let same = length-map ss carried_over in let was = c.known in omega arith);
         own_kept = c.own_kept;
         own_same = changed_is own ∙ c.own_same;
@@ -297,7 +281,7 @@ module _ (b last : ℕ) (past : ℕ → ℕ → Option Record) (moment : ℕ →
   -- a segment that was written is passed, where it is not seen to change for the second time
   module _ (few : b ≤ 64) (x : ℕ) (r : Record) (here : past last x ≡ Some r) (unseen : c.seen x ≡ None) (Ahead' Upcoming' : ℕ → Type 0) (still : (y : ℕ) → y ≢ x → Ahead y → Ahead' y) (fewer : (y : ℕ) → Upcoming' y → Upcoming y × (y ≢ x)) (change : Bool) (change_is : change ≡ (not f && not ((sighting_of x ss).before == r.number))) (not_second : (change && changed_in ss x) ≡ false) where
     abbrev new : Sighting
-    new = record { place = x; before = (sighting_of x ss).before; now = r.number; changed = changed_in ss x || change }
+    new = record { place = x; before = (sighting_of x ss).before; now = Some (met_in r); changed = changed_in ss x || change }
 
     owner : place r.identity ≡ Some x
     owner = h.owned x last r (omega arith) here
@@ -410,34 +394,6 @@ module _ (b last : ℕ) (past : ℕ → ℕ → Option Record) (moment : ℕ →
           omega arith
     ])
 
-    unseen_here : is_seen c.seen x ≡ false
-    unseen_here = rw unseen refl
-
-    view_is : view_with view r ≡ inserted view (r.identity, r.value)
-    view_is =
-        let some = count_of-lt who place b roll r.identity x owner (is_seen c.seen) unseen_here in
-        let short : nat_le 64 (length view) ≡ false = (let k = c.room in elim (leb_tells 64 (length view)) [ inl e ↦ absurd (let long = e.1 in omega arith) | inr e ↦ e.0 ]) in
-        rw short refl
-
-    stays_seen : (y : ℕ) → is_seen c.seen y ≡ true → is_seen seen' y ≡ true
-    stays_seen y e = elim (eqb_tells y x) [ inl u ↦ rw u.0 refl | inr u ↦ rw u.0 e ]
-
-    view_count : length (view_with view r) ≤ count_of who place b (is_seen seen')
-    view_count = rw view_is (
-        let more = count_of-gain who place b roll r.identity x owner (is_seen c.seen) (is_seen seen') unseen_here (ap is_some seen_here) stays_seen in
-        let one = length-inserted view (r.identity, r.value) in
-        let was = c.room in
-        omega arith)
-
-    shown' : (q : ℕ) → value_of q (view_with view r) ≡ value_in seen' (place q)
-    shown' q = rw view_is (
-        value_of-inserted q view (r.identity, r.value)
-        ∙ (elim (eqb_tells r.identity q) [
-          | inl e ↦ let same : (q == r.identity) ≡ true = (Decides-eqb q r.identity).1 (sym e.1) in rw (e.0, same) refl
-          | inr e ↦ elim (eqb_tells q r.identity) [ inl g ↦ absurd (e.1 (sym g.1)) | inr g ↦ rw (e.0, g.0) (c.shown q) ]
-        ])
-        ∙ sym (value_in-set c.seen place x r.identity r owner (λ u y there same. h.distinct u r.identity x (there ∙ ap Some same) owner) q))
-
     -- what is not seen now was not seen before, and is elsewhere
     unseen_before : (y : ℕ) → seen' y ≡ None → (y ≢ x) × (c.seen y ≡ None)
     unseen_before y e = elim (eqb_tells y x) [
@@ -452,7 +408,7 @@ module _ (b last : ℕ) (past : ℕ → ℕ → Option Record) (moment : ℕ →
       | inr u ↦ inr (u.1, sym (seen_other y u.1) ∙ e)
     ]
 
-    pub pass_record : IsCollecting b last past place who own since collects Ahead' Upcoming' f (d || change) (noted new ss) (view_with view r)
+    pub pass_record : IsCollecting b last past place who own since collects Ahead' Upcoming' f (d || change) (noted new ss)
     pass_record = record {
       begun = c.begun;
       seen = seen';
@@ -486,8 +442,8 @@ module _ (b last : ℕ) (past : ℕ → ℕ → Option Record) (moment : ℕ →
             | inr u ↦ before_same y ∙ c.settled e both.0 y s u.1
           ];
       now = λ y. elim (eqb_tells y x) [
-        | inl u ↦ ap (λ (z : ℕ). (sighting_of z (noted new ss)).now) u.1 ∙ ap (λ (s : Sighting). s.now) at_x ∙ sym (ap (λ (z : ℕ). number (seen' z)) u.1 ∙ ap number seen_here)
-        | inr u ↦ ap (λ (s : Sighting). s.now) (elsewhere y u.1) ∙ c.now y ∙ sym (ap number (seen_other y u.1))
+        | inl u ↦ ap (λ (z : ℕ). (sighting_of z (noted new ss)).now) u.1 ∙ ap (λ (s : Sighting). s.now) at_x ∙ sym (ap (λ (z : ℕ). option_map met_in (seen' z)) u.1 ∙ ap (option_map met_in) seen_here)
+        | inr u ↦ ap (λ (s : Sighting). s.now) (elsewhere y u.1) ∙ c.now y ∙ sym (ap (option_map met_in) (seen_other y u.1))
       ];
       unread = λ y e. let was = unseen_before y e in elim (c.unread y was.1) [ inl k ↦ inl k | inr k ↦ inr (still y was.0 k) ];
       read = λ y s k. elim (seen_cases y s k) [
@@ -495,9 +451,7 @@ module _ (b last : ℕ) (past : ℕ → ℕ → Option Record) (moment : ℕ →
         | inr u ↦ c.read y s u.1
       ];
       upcoming = λ y u. let was = fewer y u in seen_other y was.1 ∙ c.upcoming y was.0;
-      shown = shown';
-      rising = rw view_is (IsRising-inserted view (r.identity, r.value) c.rising);
-      room = view_count;
+      met = rw noted_is (met-with seen' new ss (r, seen_here, refl) (met-set c.seen x r unseen ss c.met));
       known = known_count;
       own_kept = c.own_kept;
       own_same = elim (eqb_tells own x) [
@@ -530,10 +484,10 @@ module _ (b last : ℕ) (past : ℕ → ℕ → Option Record) (moment : ℕ →
     }
 
 -- a scan goes on after another has written
-pub collecting_later : (b last : ℕ) (past past' : ℕ → ℕ → Option Record) (place : ℕ → Option ℕ) (who : ℕ → ℕ) (own since collects : ℕ) (Ahead Ahead' Upcoming : ℕ → Type 0) (f d : Bool) (ss : List Sighting) (view : List (ℕ × ℕ)) →
+pub collecting_later : (b last : ℕ) (past past' : ℕ → ℕ → Option Record) (place : ℕ → Option ℕ) (who : ℕ → ℕ) (own since collects : ℕ) (Ahead Ahead' Upcoming : ℕ → Type 0) (f d : Bool) (ss : List Sighting) →
     ((i : ℕ) → i ≤ last → past' i ≡ past i) → past' (last + 1) own ≡ past last own → ((x : ℕ) → Ahead x → Ahead' x) →
-    IsCollecting b last past place who own since collects Ahead Upcoming f d ss view → IsCollecting b (last + 1) past' place who own since collects Ahead' Upcoming f d ss view
-collecting_later b last past past' place who own since collects Ahead Ahead' Upcoming f d ss view kept mine still c =
+    IsCollecting b last past place who own since collects Ahead Upcoming f d ss → IsCollecting b (last + 1) past' place who own since collects Ahead' Upcoming f d ss
+collecting_later b last past past' place who own since collects Ahead Ahead' Upcoming f d ss kept mine still c =
     let in_begun : c.begun ≤ last = c.begun_last in
     let in_since : since ≤ last = (let a = c.since_begun in omega arith) in
     let at_since : past' since ≡ past since = kept since in_since in
@@ -553,9 +507,7 @@ collecting_later b last past past' place who own since collects Ahead Ahead' Upc
       unread = λ x e. elim (c.unread x e) [ inl k ↦ inl (ap (λ (g : ℕ → Option Record). g x) at_begun ∙ k) | inr k ↦ inr (still x k) ];
       read = λ x r k. let rd = c.read x r k in record { index = rd.index; no_earlier = rd.no_earlier; no_later = (let l = rd.no_later in omega arith); is = ap (λ (g : ℕ → Option Record). g x) (kept rd.index rd.no_later) ∙ rd.is };
       upcoming = c.upcoming;
-      shown = c.shown;
-      rising = c.rising;
-      room = c.room;
+      met = c.met;
       known = c.known;
       own_kept = rw at_since (c.own_kept ∙ sym (ap number mine));
       own_same = c.own_same;
@@ -574,10 +526,10 @@ count_joined who who' place place' b b' f l same kept =
     omega arith
 
 -- a scan goes on after p has begun, or has reached a place where nothing stood
-pub collecting_joined : (b b' last : ℕ) (past : ℕ → ℕ → Option Record) (place : ℕ → Option ℕ) (who who' : ℕ → ℕ) (p : ℕ) (new : Option ℕ) (own since collects : ℕ) (Ahead Ahead' Upcoming : ℕ → Type 0) (f d : Bool) (ss : List Sighting) (view : List (ℕ × ℕ)) →
+pub collecting_joined : (b b' last : ℕ) (past : ℕ → ℕ → Option Record) (place : ℕ → Option ℕ) (who who' : ℕ → ℕ) (p : ℕ) (new : Option ℕ) (own since collects : ℕ) (Ahead Ahead' Upcoming : ℕ → Type 0) (f d : Bool) (ss : List Sighting) →
     b ≤ b' → ((i : ℕ) → i < b → who' i ≡ who i) → place p ≡ None → ((x i : ℕ) → new ≡ Some x → i ≤ last → past i x ≡ None) → ((x : ℕ) → Ahead x → Ahead' x) →
-    IsCollecting b last past place who own since collects Ahead Upcoming f d ss view → IsCollecting b' last past (set_at place p new) who' own since collects Ahead' Upcoming f d ss view
-collecting_joined b b' last past place who who' p new own since collects Ahead Ahead' Upcoming f d ss view more same absent empty still c =
+    IsCollecting b last past place who own since collects Ahead Upcoming f d ss → IsCollecting b' last past (set_at place p new) who' own since collects Ahead' Upcoming f d ss
+collecting_joined b b' last past place who who' p new own since collects Ahead Ahead' Upcoming f d ss more same absent empty still c =
     let unseen : (x : ℕ) → new ≡ Some x → c.seen x ≡ None = λ x e. elim (c.seen x) as (λ o. c.seen x ≡ o → o ≡ None) [
       | None ↦ λ _. refl
       | Some r ↦ λ some. absurd (let rd = c.read x r some in let k : Some r ≡ None = sym rd.is ∙ empty x rd.index e rd.no_later in cc)
@@ -602,12 +554,7 @@ collecting_joined b b' last past place who who' p new own since collects Ahead A
       unread = λ x e. elim (c.unread x e) [ inl k ↦ inl k | inr k ↦ inr (still x k) ];
       read = c.read;
       upcoming = c.upcoming;
-      shown = λ q. elim (eqb_tells q p) [
-        | inl e ↦ rw e.0 (c.shown q ∙ ap (value_in c.seen) (ap place e.1 ∙ absent) ∙ elim new as (λ o. new ≡ o → None ≡ value_in c.seen o) [ None ↦ λ _. refl | Some x ↦ λ k. sym (ap value (unseen x k)) ] refl)
-        | inr e ↦ rw e.0 (c.shown q)
-      ];
-      rising = c.rising;
-      room = (let k = count (is_seen c.seen) in let was = c.room in omega arith);
+      met = c.met;
       known = (let k = count (is_known ss) in let was = c.known in omega arith);
       own_kept = c.own_kept;
       own_same = c.own_same;

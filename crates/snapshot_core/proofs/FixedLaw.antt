@@ -17,7 +17,7 @@ empty_at zero x = refl
 empty_at (suc m) zero = refl
 empty_at (suc m) (suc x) = empty_at m x
 
-empty_row : (m : ℕ) → m ≤ 16 → IsEmptyRow (replicate m None)
+pub empty_row : (m : ℕ) → m ≤ 16 → IsEmptyRow (replicate m None)
 empty_row m few = record { few = rw (length-replicate m (let nothing : Option Record = None in nothing)) few; empty = empty_at m }
 
 pub fits_row : (m : ℕ) → BoundsScans fixed_places m (fixed_bounds m).scanning

@@ -101,7 +101,7 @@ module _ {S R V U K : Type 0} (t : LawfulPlaces S R V U K) (w : SnapState S U K)
               reads = g.reads;
               walk = k.read s.walk g.reads g.walk;
               count = rw same_most g.count;
-              collecting = collecting_later (length w.participants) o.last i.past wrote i.place i.who y since g.collects (t.known.ties.IsAhead w.memory s.walk) (t.known.ties.IsAhead written s.walk) (t.known.ties.IsUpcoming s.walk) s.is_first s.differs s.sightings s.view kept_past (other y n) (k.ahead s.walk) g.collecting;
+              collecting = collecting_later (length w.participants) o.last i.past wrote i.place i.who y since g.collects (t.known.ties.IsAhead w.memory s.walk) (t.known.ties.IsAhead written s.walk) (t.known.ties.IsUpcoming s.walk) s.is_first s.differs s.sightings kept_past (other y n) (k.ahead s.walk) g.collecting;
             };
             helps = λ m view h. help_kept o.last i.past o.moment i.place i.history p x own r by one_more help y m view h;
           }
@@ -173,7 +173,7 @@ module _ {S R V U K : Type 0} (t : LawfulPlaces S R V U K) (w : SnapState S U K)
               let was = g.count in
               let one = mul-le-mul_left g.collects more in
               omega arith);
-          collecting = collecting_joined (length w.participants) n o.last i.past i.place i.who who p (t.known.place_of c.walker) own since g.collects (t.known.ties.IsAhead w.memory s.walk) (t.known.ties.IsAhead memory s.walk) (t.known.ties.IsUpcoming s.walk) s.is_first s.differs s.sightings s.view up same absent nothing_yet (kept.ahead s.walk) g.collecting;
+          collecting = collecting_joined (length w.participants) n o.last i.past i.place i.who who p (t.known.place_of c.walker) own since g.collects (t.known.ties.IsAhead w.memory s.walk) (t.known.ties.IsAhead memory s.walk) (t.known.ties.IsUpcoming s.walk) s.is_first s.differs s.sightings up same absent nothing_yet (kept.ahead s.walk) g.collecting;
         };
         helps = λ m view k. k;
       }

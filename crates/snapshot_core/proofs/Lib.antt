@@ -1,6 +1,7 @@
 pub mod SightingLemmas
 pub mod SnapWorldLemmas
 pub mod FewValues
+pub mod Shown
 pub mod Histories
 pub mod Collecting
 pub mod LawfulPlaces

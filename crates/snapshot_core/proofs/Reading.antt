@@ -27,7 +27,7 @@ pub record GoesOn {S R V U K : Type 0} (t : LawfulPlaces S R V U K) (m : S) (b l
   pub reads : ℕ
   pub walk : t.known.ties.HasRead m s.walk reads
   pub count : steps ≤ collects * t.known.ties.reads (t.known.most_of m) b + reads
-  pub collecting : IsCollecting b last past place who own since collects (t.known.ties.IsAhead m s.walk) (t.known.ties.IsUpcoming s.walk) s.is_first s.differs s.sightings s.view
+  pub collecting : IsCollecting b last past place who own since collects (t.known.ties.IsAhead m s.walk) (t.known.ties.IsUpcoming s.walk) s.is_first s.differs s.sightings
 
 -- it has ended with a view, or goes on
 abbrev pub Outcome : {S R V U K : Type 0} → LawfulPlaces S R V U K → S → ℕ → ℕ → (ℕ → ℕ → Option Record) → (ℕ → ℕ → Option ℕ) → (ℕ → Option ℕ) → (ℕ → ℕ) → ℕ → ℕ → ℕ → Scan K → Option (List (ℕ × ℕ)) → Type 0
@@ -56,7 +56,7 @@ module _ {S R V U K : Type 0} (t : LawfulPlaces S R V U K) (m : S) (ways : ℕ �
     -- a scan that goes on has made fewer steps than one collect more than there are participants has reads
     pub steps_bound : (steps : ℕ) (s : Scan K) → GoesOn t m b last past place who own since steps s → steps + 1 ≤ (b + 1) * t.known.ties.reads (t.known.most_of m) b
     steps_bound steps s g =
-        let few = few_collects b last past moment place who h roll own since g.collects (t.known.ties.IsAhead m s.walk) (t.known.ties.IsUpcoming s.walk) s.is_first s.differs s.sightings s.view g.collecting p mine in
+        let few = few_collects b last past moment place who h roll own since g.collects (t.known.ties.IsAhead m s.walk) (t.known.ties.IsUpcoming s.walk) s.is_first s.differs s.sightings g.collecting p mine in
         let one = (t.laws.goes m b ways consistent s.walk g.reads g.walk).0 in
         let count = g.count in
         let product = mul-le-mul_right (t.known.ties.reads (t.known.most_of m) b) few in
@@ -70,22 +70,22 @@ module _ {S R V U K : Type 0} (t : LawfulPlaces S R V U K) (m : S) (ways : ℕ �
 
       -- the walk goes on from it
       walks_on : ((Ahead' Upcoming' : ℕ → Type 0) → ((y : ℕ) → t.known.ties.IsAhead m s.walk y → t.known.walks.place s.walk ≢ Some y → Ahead' y) → ((y : ℕ) → Upcoming' y → t.known.ties.IsUpcoming (t.known.walks.resumed s.walk got) y) →
-          IsCollecting b last past place who own since collects Ahead' Upcoming' s.is_first s.differs s.sightings s.view) →
+          IsCollecting b last past place who own since collects Ahead' Upcoming' s.is_first s.differs s.sightings) →
           Outcome t m b last past moment place who own since (steps + 1) (goes_after t.known.walks None s got (t.known.walk_from m)) (goes_view t.known.walks None s got)
       walks_on c =
           let g = t.laws.goes m b ways consistent s.walk j walk in
           elim (cases_Bool (t.known.walks.is_over s.walk got)) [
             | inl over ↦
-                let done : IsCollecting b last past place who own since collects (λ y. ⊥) (λ y. ⊥) s.is_first s.differs s.sightings s.view = c (λ y. ⊥) (λ y. ⊥) (λ y a n. let e : false ≡ true = sym (g.1.ahead y a n).1 ∙ over in absurd (cc)) (λ y e. absurd e) in
-                let again : (s.is_first ≡ true) ⊎ (s.differs ≡ true) → IsCollecting b last past place who own since (collects + 1) (t.known.ties.IsAhead m (t.known.walk_from m)) (t.known.ties.IsUpcoming (t.known.walk_from m)) false false _ _ =
-                next_collect b last past moment place who h roll own since collects (λ y. ⊥) (λ y. ⊥) s.is_first s.differs s.sightings s.view done (λ y e. e) (t.known.ties.IsAhead m (t.known.walk_from m)) (t.known.ties.IsUpcoming (t.known.walk_from m)) starts_ahead in
+                let done : IsCollecting b last past place who own since collects (λ y. ⊥) (λ y. ⊥) s.is_first s.differs s.sightings = c (λ y. ⊥) (λ y. ⊥) (λ y a n. let e : false ≡ true = sym (g.1.ahead y a n).1 ∙ over in absurd (cc)) (λ y e. absurd e) in
+                let again : (s.is_first ≡ true) ⊎ (s.differs ≡ true) → IsCollecting b last past place who own since (collects + 1) (t.known.ties.IsAhead m (t.known.walk_from m)) (t.known.ties.IsUpcoming (t.known.walk_from m)) false false _ =
+                next_collect b last past moment place who h roll own since collects (λ y. ⊥) (λ y. ⊥) s.is_first s.differs s.sightings done (λ y e. e) (t.known.ties.IsAhead m (t.known.walk_from m)) (t.known.ties.IsUpcoming (t.known.walk_from m)) starts_ahead in
                 let few = g.0 in
                 let more : steps + 1 ≤ (collects + 1) * t.known.ties.reads (t.known.most_of m) b + 0 = (let product = add-mul collects 1 (t.known.ties.reads (t.known.most_of m) b) in omega arith) in
                 elim (cases_Bool s.is_first) [
                   | inl f ↦ rw (over, f) (record { collects = collects + 1; reads = 0; walk = begins; count = more; collecting = again (inl f) })
                   | inr f ↦ elim (cases_Bool s.differs) [
                     | inl d ↦ rw (over, f, d) (record { collects = collects + 1; reads = 0; walk = begins; count = more; collecting = again (inr d) })
-                    | inr d ↦ rw (over, f, d) (clean b last past moment place who h roll own since collects (λ y. ⊥) (λ y. ⊥) s.is_first s.differs s.sightings s.view done (λ y e. e) f d)
+                    | inr d ↦ rw (over, f, d) (clean b last past moment place who h roll own since collects (λ y. ⊥) (λ y. ⊥) s.is_first s.differs s.sightings done (λ y e. e) f d)
                   ]
                 ]
             | inr on ↦ rw on (record {
@@ -97,7 +97,7 @@ module _ {S R V U K : Type 0} (t : LawfulPlaces S R V U K) (m : S) (ways : ℕ �
             })
           ]
 
-    module _ (s : Scan K) (j collects steps : ℕ) (walk : t.known.ties.HasRead m s.walk j) (count : steps ≤ collects * t.known.ties.reads (t.known.most_of m) b + j) (few : b ≤ 64) (c : IsCollecting b last past place who own since collects (t.known.ties.IsAhead m s.walk) (t.known.ties.IsUpcoming s.walk) s.is_first s.differs s.sightings s.view) where
+    module _ (s : Scan K) (j collects steps : ℕ) (walk : t.known.ties.HasRead m s.walk j) (count : steps ≤ collects * t.known.ties.reads (t.known.most_of m) b + j) (few : b ≤ 64) (c : IsCollecting b last past place who own since collects (t.known.ties.IsAhead m s.walk) (t.known.ties.IsUpcoming s.walk) s.is_first s.differs s.sightings) where
       abbrev value : V
       value = value_for t.known m s.walk
 
@@ -105,12 +105,12 @@ module _ {S R V U K : Type 0} (t : LawfulPlaces S R V U K) (m : S) (ways : ℕ �
       reads_other : t.known.walks.place s.walk ≡ None → Outcome t m b last past moment place who own since (steps + 1) (goes_after t.known.walks None s value (t.known.walk_from m)) (goes_view t.known.walks None s value)
       reads_other none =
           let g = t.laws.goes m b ways consistent s.walk j walk in
-          walks_on s j collects steps walk count (λ Ahead' Upcoming' still fewer. pass b last past moment place who h roll own since collects (t.known.ties.IsAhead m s.walk) (t.known.ties.IsUpcoming s.walk) s.is_first s.differs s.sightings s.view c Ahead' Upcoming' (λ y a. inr (still y a (λ e. let k : None ≡ Some y = sym none ∙ e in absurd (cc)))) (λ y e. g.1.upcoming y (fewer y e)))
+          walks_on s j collects steps walk count (λ Ahead' Upcoming' still fewer. pass b last past moment place who h roll own since collects (t.known.ties.IsAhead m s.walk) (t.known.ties.IsUpcoming s.walk) s.is_first s.differs s.sightings c Ahead' Upcoming' (λ y a. inr (still y a (λ e. let k : None ≡ Some y = sym none ∙ e in absurd (cc)))) (λ y e. g.1.upcoming y (fewer y e)))
 
       reads_empty : (x : ℕ) → t.known.walks.place s.walk ≡ Some x → past last x ≡ None → Outcome t m b last past moment place who own since (steps + 1) (goes_after t.known.walks None s value (t.known.walk_from m)) (goes_view t.known.walks None s value)
       reads_empty x at none =
           let g = t.laws.goes m b ways consistent s.walk j walk in
-          walks_on s j collects steps walk count (λ Ahead' Upcoming' still fewer. pass b last past moment place who h roll own since collects (t.known.ties.IsAhead m s.walk) (t.known.ties.IsUpcoming s.walk) s.is_first s.differs s.sightings s.view c Ahead' Upcoming' (λ y a. elim (eqb_tells y x) [
+          walks_on s j collects steps walk count (λ Ahead' Upcoming' still fewer. pass b last past moment place who h roll own since collects (t.known.ties.IsAhead m s.walk) (t.known.ties.IsUpcoming s.walk) s.is_first s.differs s.sightings c Ahead' Upcoming' (λ y a. elim (eqb_tells y x) [
             | inl e ↦ inl (ap (past last) e.1 ∙ none)
             | inr e ↦ inr (still y a (λ k. let both : Some x ≡ Some y = sym at ∙ k in let same : x ≡ y = cc in e.1 (sym same)))
           ]) (λ y e. g.1.upcoming y (fewer y e)))
@@ -125,9 +125,9 @@ module _ {S R V U K : Type 0} (t : LawfulPlaces S R V U K) (m : S) (ways : ℕ �
                 let both = and_true (is_change s x r) (changed_in s.sightings x) y in
                 let apart = and_true (not s.is_first) (not ((sighting_of x s.sightings).before == r.number)) both.0 in
                 let other : (sighting_of x s.sightings).before ≢ r.number = λ e. elim (eqb_tells (sighting_of x s.sightings).before r.number) [ inl w ↦ (let k : not true ≡ true = rw w.0 at apart.1 in let two : false ≡ true = k in absurd (cc)) | inr w ↦ w.1 e ] in
-                rw y (borrowed b last past moment place who h roll own since collects (t.known.ties.IsAhead m s.walk) (t.known.ties.IsUpcoming s.walk) s.is_first s.differs s.sightings s.view c x r here unseen (not-true s.is_first apart.0) other both.1)
+                rw y (borrowed b last past moment place who h roll own since collects (t.known.ties.IsAhead m s.walk) (t.known.ties.IsUpcoming s.walk) s.is_first s.differs s.sightings c x r here unseen (not-true s.is_first apart.0) other both.1)
             | inr n ↦ rw n (walks_on (met_anew s x r) j collects steps walk count (λ Ahead' Upcoming' still fewer.
-                pass_record b last past moment place who h roll own since collects (t.known.ties.IsAhead m s.walk) (t.known.ties.IsUpcoming s.walk) s.is_first s.differs s.sightings s.view c few x r here unseen Ahead' Upcoming'
+                pass_record b last past moment place who h roll own since collects (t.known.ties.IsAhead m s.walk) (t.known.ties.IsUpcoming s.walk) s.is_first s.differs s.sightings c few x r here unseen Ahead' Upcoming'
                 (λ y e a. still y a (λ k. let two : Some x ≡ Some y = sym at ∙ k in let same : x ≡ y = cc in e (sym same)))
                 (λ y e. (g.1.upcoming y (fewer y e), λ k. g.1.once x at (subst (λ (z : ℕ). t.known.ties.IsUpcoming (t.known.walks.resumed s.walk value) z) k (fewer y e))))
                 (is_change s x r) refl n))

@@ -1,5 +1,9 @@
 -- the calls of a snapshot object
 use Rattle.std.proofs.Common.{◌≡◌, ◌≢◌, ◌<◌, ◌≤◌, ℕ, true, false, cond, Option, Some, None, Result, Ok, Err, inl, inr, refl, sym, ap, ◌∙◌}
+use Rattle.snapshot_core.specs.declared.client.Pending.{Pending}
+use Rattle.snapshot_core.specs.declared.client.Pending.TheVariants.{Nothing, Placing, Scan, Update, Write as Writing}
+use Rattle.step_memory.specs.declared.note.Note.TheVariants.{Quiet}
+use Rattle.step_memory.specs.declared.access.Access.TheVariants.{Read}
 use Rattle.step_memory.specs.declared.refusal.Refusal.{Refusal}
 use Rattle.step_memory.specs.declared.refusal.Refusal.TheVariants.{AlreadyBegun, NotBegun, Finished, Spent, NoMemory}
 use Rattle.step_memory.specs.Participant.{participant_of, program_of}
@@ -9,13 +13,13 @@ use Rattle.std.proofs.lemmas.Bool.{lt-ltb, le-ltb}
 use Rattle.step_memory.proofs.StepLemmas.{most_stepped, lacks_none, lacks_or_not}
 use Rattle.step_memory.proofs.RunLemmas.{run_more}
 use Rattle.std.specs.Prelude.{option_map}
-use Rattle.step_memory.specs.Locality.{LookAlike, StandAlike}
+use Rattle.step_memory.specs.Locality.{LookAlike, StandAlike, ReadsNext}
 use Rattle.step_memory.specs.declared.participant.Participant.{Participant}
-use Rattle.step_memory.proofs.LocalityLemmas.{stand_alike}
+use Rattle.step_memory.proofs.LocalityLemmas.{answers_alike, stand_alike}
 use Rattle.snapshot_core.specs.declared.client.Client.{Client}
 use Rattle.snapshot_core.specs.declared.client.SnapReply.{SnapReply}
 use Rattle.snapshot_core.specs.Places.{KnownPlaces}
-use Rattle.snapshot_core.specs.Client.{is_idle, scanning, updating}
+use Rattle.snapshot_core.specs.Client.{is_idle, scanning, updating, access_for}
 use Rattle.snapshot_core.specs.SnapWorld.{SnapState, beginner_at, scan_refusal, update_refusal, asked, after_scan, after_update, told, clients_over, snap_answer, snap_answer_by, after_snap_step, after_snap_by, may_lack_memory, StaysAlike}
 use Rattle.snapshot_core.specs.SnapCalls.{SnapCall, fresh_over, next, IsReply, LeadsOn}
 use Rattle.snapshot_core.specs.SnapCalls.SnapCall.{Began, Updated, Scanned, Stepped}
@@ -113,6 +117,34 @@ module _ {S R V U K : Type 0} (t : KnownPlaces S R V U K) where
 
   pub busy_answer : (w : SnapState S U K) (id : ℕ) (c : Client U K) → Some c ≡ program_of id w.participants → is_idle c.pending ≡ false → snap_answer t w id ≡ reply_of told (step_answer (clients_over t) t.memory w id)
   busy_answer w id c h busy = let e = sym h in rw (e, busy) refl
+
+  -- one whose next access is a read has something to do
+  reads_busy : (c : Client U K) (pending : Pending) (r : R) → access_for t.walker t.place_of t.walks c pending ≡ Read r → is_idle pending ≡ false
+  reads_busy c Nothing r h = absurd (cc)
+  reads_busy c Placing r h = refl
+  reads_busy c Scan r h = refl
+  reads_busy c (Update value) r h = refl
+  reads_busy c (Writing value view) r h = refl
+
+  pub reads_state : (w : SnapState S U K) (id : ℕ) → ReadsNext (clients_over t) w id → after_snap_step t w id ≡ after_step (clients_over t) t.memory w id
+  reads_state w id h =
+      let here : Some h.0.program ≡ program_of id w.participants = sym (ap (option_map (λ (v : Participant (Client U K)). v.program)) h.2) in
+      busy_state w id h.0.program here (reads_busy h.0.program h.0.program.pending h.1 h.3)
+
+  pub reads_answer : (w : SnapState S U K) (id : ℕ) → ReadsNext (clients_over t) w id → step_answer (clients_over t) t.memory w id ≡ Ok Quiet → snap_answer t w id ≡ Ok (told Quiet)
+  reads_answer w id h e =
+      let here : Some h.0.program ≡ program_of id w.participants = sym (ap (option_map (λ (v : Participant (Client U K)). v.program)) h.2) in
+      busy_answer w id h.0.program here (reads_busy h.0.program h.0.program.pending h.1 h.3) ∙ ap (reply_of told) e
+
+  answer_by_alike : (w other : SnapState S U K) (p : ℕ) → LookAlike (clients_over t) t.memory p w other → (o : Option (Client U K)) → snap_answer_by t w p o ≡ snap_answer_by t other p o
+  answer_by_alike w other p alike None = refl
+  answer_by_alike w other p alike (Some c) = ap (λ (x : Result SnapReply Refusal). cond (is_idle c.pending) (Err Finished) x) (ap (reply_of told) (answers_alike (clients_over t) t.memory p w other alike))
+
+  -- what a participant is answered depends on what it sees
+  pub snap_alike : (w other : SnapState S U K) (p : ℕ) → LookAlike (clients_over t) t.memory p w other → snap_answer t w p ≡ snap_answer t other p
+  snap_alike w other p alike =
+      let same : program_of p w.participants ≡ program_of p other.participants = ap (option_map (λ (v : Participant (Client U K)). v.program)) alike.participant in
+      rw (← same) (answer_by_alike w other p alike (program_of p w.participants))
 
   stand_by : (w other : SnapState S U K) (p : ℕ) → LookAlike (clients_over t) t.memory p w other → (o : Option (Client U K)) → StandAlike p (after_snap_by t w p o) (after_snap_by t other p o)
   stand_by w other p alike None = alike.participant

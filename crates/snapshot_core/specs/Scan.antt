@@ -1,15 +1,14 @@
 -- what a scan makes of what it reads
-use Rattle.std.specs.Prelude.{ℕ, Bool, true, false, not, ◌&&◌, ◌||◌, ◌==◌, nat_le, if◌then◌else◌, List, [], length, map, Option, Some, None}
+use Rattle.std.specs.Prelude.{ℕ, Bool, true, false, not, ◌&&◌, ◌||◌, ◌==◌, if◌then◌else◌, List, [], map, Option, Some, None}
 use Rattle.step_memory.specs.declared.record.Record.{Record}
 use Rattle.snapshot_core.specs.declared.sightings.Sighting.{Sighting}
 use Rattle.snapshot_core.specs.declared.scan.Scan.{Scan}
-use Rattle.step_memory.specs.View.{inserted}
-use Rattle.snapshot_core.specs.Sightings.{sighting_of, noted, carried_over}
+use Rattle.snapshot_core.specs.Sightings.{met_in, sighting_of, noted, carried_over, shown_by}
 use Rattle.snapshot_core.specs.Walks.{WalkSteps}
 
 -- a scan that has read nothing
 abbrev pub scan_from : {K : Type 0} → K → Scan K
-scan_from walk = record { walk = walk; is_first = true; differs = false; sightings = []; view = [] }
+scan_from walk = record { walk = walk; is_first = true; differs = false; sightings = [] }
 
 -- whether this record shows that its segment changed since the collect before
 abbrev pub is_change : {K : Type 0} → Scan K → ℕ → Record → Bool
@@ -24,12 +23,9 @@ abbrev pub sighting_after : {K : Type 0} → Scan K → ℕ → Record → Sight
 sighting_after s place r = record {
   place = place;
   before = (sighting_of place s.sightings).before;
-  now = r.number;
+  now = Some (met_in r);
   changed = (sighting_of place s.sightings).changed || is_change s place r;
 }
-
-abbrev pub view_with : List (ℕ × ℕ) → Record → List (ℕ × ℕ)
-view_with view r = if nat_le 64 (length view) then view else inserted view (r.identity, r.value)
 
 -- a scan that has noted this record
 abbrev pub met_anew : {K : Type 0} → Scan K → ℕ → Record → Scan K
@@ -38,7 +34,6 @@ met_anew s place r = record {
   is_first = s.is_first;
   differs = s.differs || is_change s place r;
   sightings = noted (sighting_after s place r) s.sightings;
-  view = view_with s.view r;
 }
 
 -- a scan that has met it
@@ -53,13 +48,15 @@ met_view s place r = if is_second_change s place r then Some r.view else None
 abbrev pub is_clean : {K : Type 0} → Scan K → Bool
 is_clean s = not s.is_first && not s.differs
 
+-- another collect, which takes this walk
+abbrev pub next_collect : {K : Type 0} → Scan K → K → Scan K
+next_collect s walk = record { walk = walk; is_first = false; differs = false; sightings = map carried_over s.sightings }
+
 abbrev pub ended_collect : {K : Type 0} → Scan K → K → Scan K
-ended_collect s walk =
-    if is_clean s then s
-    else record { walk = walk; is_first = false; differs = false; sightings = map carried_over s.sightings; view = [] }
+ended_collect s walk = if is_clean s then s else next_collect s walk
 
 abbrev pub ended_view : {K : Type 0} → Scan K → Option (List (ℕ × ℕ))
-ended_view s = if is_clean s then Some s.view else None
+ended_view s = if is_clean s then Some (shown_by [] s.sightings) else None
 
 module _ {K R V : Type 0} (walks : WalkSteps K R V) where
   abbrev pub met_at : Scan K → Option ℕ → Option Record → Scan K

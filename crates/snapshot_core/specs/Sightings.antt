@@ -1,10 +1,22 @@
 -- what a scan knows of segments, by their places
 use Rattle.std.specs.Prelude.{ℕ, ◌+◌, ◌==◌, nat_lt, if◌then◌else◌, false, List, [], ◌∷◌, length, Option, Some, None, option_map, is_some, ◌||◌}
+use Rattle.step_memory.specs.declared.record.Record.{Record}
+use Rattle.step_memory.specs.View.{inserted}
+use Rattle.snapshot_core.specs.declared.sightings.Met.{Met}
 use Rattle.snapshot_core.specs.declared.sightings.Sighting.{Sighting}
+
+-- what a collect keeps of a record
+abbrev pub met_in : Record → Met
+met_in r = record { identity = r.identity; value = r.value; number = r.number }
+
+-- the sequence number of a segment of which this was met
+abbrev pub number_met : Option Met → ℕ
+number_met None = 0
+number_met (Some m) = m.number
 
 -- a segment of which nothing is known counts as empty and unchanged
 abbrev pub unknown : ℕ → Sighting
-unknown place = record { place = place; before = 0; now = 0; changed = false }
+unknown place = record { place = place; before = 0; now = None; changed = false }
 
 abbrev pub sighting_of : ℕ → List Sighting → Sighting
 sighting_of place [] = unknown place
@@ -25,4 +37,14 @@ noted new ss = if is_some (index_of new.place ss) || nat_lt (length ss) 64 then 
 
 -- what is known as the next collect begins
 abbrev pub carried_over : Sighting → Sighting
-carried_over s = record { place = s.place; before = s.now; now = 0; changed = s.changed }
+carried_over s = record { place = s.place; before = number_met s.now; now = None; changed = s.changed }
+
+-- a view with what was met of one more segment
+abbrev pub shown_with : List (ℕ × ℕ) → Option Met → List (ℕ × ℕ)
+shown_with view None = view
+shown_with view (Some m) = inserted view (m.identity, m.value)
+
+-- a view with what the present collect met
+abbrev pub shown_by : List (ℕ × ℕ) → List Sighting → List (ℕ × ℕ)
+shown_by view [] = view
+shown_by view (s ∷ ss) = shown_by (shown_with view s.now) ss

@@ -1,12 +1,15 @@
 //! A participant of a snapshot object.
 
-ghost use Rattle.std.specs.Prelude.{◌≡◌, ◌<◌, ◌↔◌, IsTrue, ◌≢◌};
+ghost use Rattle.std.specs.Prelude.{◌≡◌, ◌<◌, ◌↔◌, IsTrue, ◌≢◌, IfSome, true, false};
+ghost use Rattle.step_memory.specs.declared.access.Access.TheVariants.{Read};
+ghost use Rattle.step_memory.specs.declared.access.Answer.TheVariants.{Value};
+ghost use Rattle.step_memory.specs.declared.note.Note.TheVariants as note;
 ghost use Rattle.snapshot_core.specs.Client.{view_told, is_idle, client_at, client_steps, updating, scanning, next_access, client_after, client_note, scan_resumed, scan_note, placing_resumed, placing_note};
 
 use crate::places::PlaceWalker;
 use crate::scan::Scan;
 use crate::walk::SegmentWalk;
-use step_memory::{Access, Answer, Note, Place, Record, StepProgram, View};
+use step_memory::{Access, Answer, Note, Place, Record, Request, StepProgram, View};
 
 /// What a step of a snapshot object tells.
 #[derive(Clone, Copy, Debug, Drop)]
@@ -90,35 +93,6 @@ where
         ensures { result ≡ is_idle self.now.pending }
     {
         matches!(self.pending, Pending::Nothing)
-    }
-
-    /// This participant, asked to scan.
-    pub fn scanning(&self) -> Self
-        ensures { result ≡ scanning self.now }
-    {
-        Client {
-            identity: self.identity,
-            walker: self.walker,
-            walk: self.walk,
-            updates: self.updates,
-            pending: Pending::Scan,
-            scan: Scan::new(self.walk),
-        }
-    }
-
-    /// This participant, asked to update its segment with a value.
-    pub fn updating(&self, value: u64) -> Self
-        requires { self.now.updates < 1000000 }
-        ensures { result ≡ updating self.now value }
-    {
-        Client {
-            identity: self.identity,
-            walker: self.walker,
-            walk: self.walk,
-            updates: self.updates + 1,
-            pending: Pending::Update(value),
-            scan: Scan::new(self.walk),
-        }
     }
 
     /// Takes the answer to an access on the way to the place.
@@ -215,5 +189,69 @@ where
                 Note::Said(SnapReply::Written)
             }
         }
+    }
+
+    fn reads(&self) -> Option<U::Reg>
+        ensures { IfSome result (λ register. next_access U.steps U.place_of K.walks self.now ≡ Read register) }
+    {
+        match self.pending {
+            Pending::Nothing => None,
+            Pending::Placing => None,
+            Pending::Scan => Some(self.scan.walk.next()),
+            Pending::Update(_) => Some(self.scan.walk.next()),
+            Pending::Write(_, _) => None,
+        }
+    }
+
+    fn read_on(&mut self, got: &U::Value) -> bool
+        ensures after { result ≡ true → self.new ≡ client_after U.steps K.walks self.old (Value got.now) }
+        ensures quiet { result ≡ true → client_note U.steps K.walks self.old (Value got.now) ≡ note.Quiet }
+        ensures kept { result ≡ false → self.new ≡ self.old }
+    {
+        match self.pending {
+            Pending::Nothing => false,
+            Pending::Placing => false,
+            Pending::Scan => self.scan.read_on(got, self.walk),
+            Pending::Update(_) => self.scan.read_on(got, self.walk),
+            Pending::Write(_, _) => false,
+        }
+    }
+}
+
+/// The request of a scan.
+#[derive(Clone, Copy, Debug, Drop, PartialEq, Eq)]
+pub struct ToScan;
+
+impl<U, K: SegmentWalk + Copy> Request<Client<U, K>> for ToScan {
+    ghost can_ask = { λ _ c. Unit {0} };
+
+    ghost asked = { λ _ c. scanning c };
+
+    fn ask(self, program: &mut Client<U, K>)
+        ensures { program.new ≡ scanning program.old }
+    {
+        program.pending = Pending::Scan;
+        program.scan.restart(program.walk);
+    }
+}
+
+/// The request of an update of one's segment with a value.
+#[derive(Clone, Copy, Debug, Drop, PartialEq, Eq)]
+pub struct ToUpdate {
+    pub value: u64,
+}
+
+impl<U, K: SegmentWalk + Copy> Request<Client<U, K>> for ToUpdate {
+    ghost can_ask = { λ _ c. c.updates < 1000000 };
+
+    ghost asked = { λ q c. updating c q.value };
+
+    fn ask(self, program: &mut Client<U, K>)
+        requires { program.old.updates < 1000000 }
+        ensures { program.new ≡ updating program.old self.value }
+    {
+        program.updates += 1;
+        program.pending = Pending::Update(self.value);
+        program.scan.restart(program.walk);
     }
 }

@@ -1,7 +1,8 @@
 //! Segments in a row.
 
-ghost use Rattle.std.specs.Prelude.{◌≡◌, ◌<◌, ◌≤◌, ℕ, OnOk, OnErr, IfOk, IfErr, Err, IsOk, true, false, replicate, Some, None, length};
+ghost use Rattle.std.specs.Prelude.{◌≡◌, ◌<◌, ◌≤◌, ℕ, OnOk, OnErr, IfOk, IfErr, IfSome, Err, IsOk, true, false, replicate, Some, None, length};
 ghost use Rattle.step_memory.specs.declared.access.Access.{Access};
+ghost use Rattle.step_memory.specs.declared.access.Access.TheVariants.{Read};
 ghost use Rattle.step_memory.specs.Steps.{answer_from};
 ghost use Rattle.snapshot_core.specs.Fixed.{fixed_steps, register_of, after_access, walker_steps, fixed_walks, fixed_place, fixed_walker, fixed_walk};
 ghost use Rattle.snapshot_core.specs.FixedTies.{IsEmptyRow, fixed_ties};
@@ -12,7 +13,7 @@ use crate::walk::SegmentWalk;
 use std::alloc::Allocator;
 use std::marker::Model;
 use step_memory::{
-    Access, Answer, NoMemory, Note, Place, Refusal, Segment, StepMemory, StepProgram,
+    Access, Answer, NoMemory, Note, Place, Record, Refusal, Segment, StepMemory, StepProgram,
 };
 
 /// Segments in a row, as many as there may be participants. Whoever is the j-th to begin has the place j - 1, at once and
@@ -92,6 +93,18 @@ impl<A: Allocator> StepMemory for Fixed<A> {
         })
     }
 
+    fn look(&self, register: &Place) -> Option<&Segment>
+        ensures value { IfSome result (λ value. value.now ≡ (register_of self.now register.now).0) }
+        ensures kept { IfSome result (λ value. after_access self.now (Read register.now) ≡ self.now) }
+    {
+        let place = *register;
+        if place < self.segments.len() as u128 {
+            Some(&self.segments[place as usize])
+        } else {
+            None
+        }
+    }
+
     ghost others = { others_kept };
 }
 
@@ -169,8 +182,8 @@ impl SegmentWalk for FixedWalk {
         segment
     }
 
-    fn content(value: &Segment) -> Segment {
-        *value
+    fn content(value: &Segment) -> Option<&Record> {
+        value.as_ref()
     }
 }
 

@@ -48,11 +48,11 @@ mod tests;
 pub mod walk;
 pub mod world;
 
-pub use client::{Client, Pending, SnapReply};
+pub use client::{Client, Pending, SnapReply, ToScan, ToUpdate};
 pub use fixed::{Fixed, FixedWalk, FixedWalker};
 pub use law::{law_of_clients, law_of_snapshot_calls, snapshot_law};
 pub use places::{Known, PlaceWalker, Places};
 pub use scan::Scan;
-pub use sightings::{Sighting, Sightings};
+pub use sightings::{Met, Sighting, Sightings};
 pub use walk::SegmentWalk;
 pub use world::SnapWorld;

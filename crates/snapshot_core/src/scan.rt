@@ -1,9 +1,9 @@
 //! A scan.
 
-ghost use Rattle.std.specs.Prelude.{◌≡◌};
-ghost use Rattle.snapshot_core.specs.Scan.{scan_from, met, met_view, ended_collect, ended_view, scan_after, scan_view};
+ghost use Rattle.std.specs.Prelude.{◌≡◌, not, is_some, true, false, None};
+ghost use Rattle.snapshot_core.specs.Scan.{scan_from, is_second_change, met, met_at, view_at, next_collect, ended_collect, ended_view, scan_after, scan_view};
 
-use crate::sightings::{Sighting, Sightings};
+use crate::sightings::{Met, Sighting, Sightings};
 use crate::walk::SegmentWalk;
 use step_memory::{Place, Record, View};
 
@@ -20,8 +20,6 @@ pub struct Scan<K> {
     pub differs: bool,
     /// What is known of the segments that were met.
     pub sightings: Sightings,
-    /// The values that the present collect met.
-    pub view: View,
 }
 
 impl<K: SegmentWalk + Copy> Scan<K> {
@@ -34,33 +32,68 @@ impl<K: SegmentWalk + Copy> Scan<K> {
             is_first: true,
             differs: false,
             sightings: Sightings::new(),
-            view: View::new(),
         }
     }
 
-    /// Meets a segment that was written. The view in its record, where this shows that it changed twice. (To compare each
-    /// segment as it is met tells what a comparison of all numbers at the collect's end would, in which one that was not
-    /// reached counts as 0: a segment that one collect met was written before the next began, and a walk meets it again.)
-    fn meet(&mut self, place: Place, found: &Record) -> Option<View>
-        ensures after { self.new ≡ met self.old place found.now }
-        ensures view { result ≡ met_view self.old place found.now }
+    /// Makes this a scan that has read nothing, whose collects take this walk.
+    pub fn restart(&mut self, walk: K)
+        ensures { self.new ≡ scan_from walk }
     {
-        let known = self.sightings.at(place);
+        self.walk = walk;
+        self.is_first = true;
+        self.differs = false;
+        self.sightings.clear();
+    }
+
+    /// Meets a segment that was written. False where its record shows that it changed twice: then nothing has changed. (To
+    /// compare each segment as it is met tells what a comparison of all numbers at the collect's end would, in which one
+    /// that was not reached counts as 0: a segment that one collect met was written before the next began, and a walk meets
+    /// it again.)
+    fn meet(&mut self, place: Place, found: &Record) -> bool
+        ensures after { self.new ≡ met self.old place found.now }
+        ensures answer { result ≡ not (is_second_change self.old place found.now) }
+    {
+        let at = self.sightings.find(place);
+        let known = self.sightings.get(place, at);
         let differs = !self.is_first && known.before != found.number;
         if differs && known.changed {
-            return Some(found.view);
+            return false;
         }
         self.differs = self.differs || differs;
-        self.sightings.note(Sighting {
+        let sighting = Sighting {
             place,
             before: known.before,
-            now: found.number,
+            now: Some(Met::of(found)),
             changed: known.changed || differs,
-        });
-        if !self.view.is_full() {
-            self.view.insert(found.identity, found.value);
-        }
-        None
+        };
+        self.sightings.put(at, sighting);
+        true
+    }
+
+    /// Meets the segment that was read, where it is one and was written. False where it is seen to have changed twice: then
+    /// nothing has changed.
+    fn meet_read(&mut self, got: &K::Value) -> bool
+        ensures after { self.new ≡ met_at K.walks self.old (K.walks.place self.old.walk) (K.walks.content got.now) }
+        ensures answer { result ≡ not (is_some (view_at K.walks self.old (K.walks.place self.old.walk) (K.walks.content got.now))) }
+        ensures kept { result ≡ false → self.new ≡ self.old }
+    {
+        let Some(place) = self.walk.place() else {
+            return true;
+        };
+        let Some(found) = K::content(got) else {
+            return true;
+        };
+        self.meet(place, found)
+    }
+
+    /// Another collect begins, which takes this walk.
+    fn begin_collect(&mut self, walk: K)
+        ensures { self.new ≡ next_collect self.old walk }
+    {
+        self.walk = walk;
+        self.is_first = false;
+        self.differs = false;
+        self.sightings.carry_over();
     }
 
     /// Ends a collect: the values that it met, where it is equal to the one before; else another begins.
@@ -69,13 +102,9 @@ impl<K: SegmentWalk + Copy> Scan<K> {
         ensures view { result ≡ ended_view self.old }
     {
         if !self.is_first && !self.differs {
-            return Some(self.view);
+            return Some(self.sightings.view());
         }
-        self.walk = walk;
-        self.is_first = false;
-        self.differs = false;
-        self.sightings.carry_over();
-        self.view = View::new();
+        self.begin_collect(walk);
         None
     }
 
@@ -86,8 +115,8 @@ impl<K: SegmentWalk + Copy> Scan<K> {
     {
         if let Some(place) = self.walk.place() {
             if let Some(found) = K::content(got) {
-                if let Some(view) = self.meet(place, &found) {
-                    return Some(view);
+                if !self.meet(place, found) {
+                    return Some(found.view);
                 }
             }
         }
@@ -96,5 +125,28 @@ impl<K: SegmentWalk + Copy> Scan<K> {
         } else {
             None
         }
+    }
+
+    /// Takes what the walk's next read gave, where the scan goes on. Tells whether it did; where not, nothing has changed,
+    /// and `resume` takes it.
+    pub fn read_on(&mut self, got: &K::Value, walk: K) -> bool
+        ensures after { result ≡ true → self.new ≡ scan_after K.walks self.old got.now walk }
+        ensures goes { result ≡ true → scan_view K.walks self.old got.now ≡ None }
+        ensures kept { result ≡ false → self.new ≡ self.old }
+    {
+        let mut next = self.walk;
+        let over = next.resume(got);
+        if over && !self.is_first && !self.differs {
+            return false;
+        }
+        if !self.meet_read(got) {
+            return false;
+        }
+        self.walk = next;
+        if !over {
+            return true;
+        }
+        self.begin_collect(walk);
+        true
     }
 }

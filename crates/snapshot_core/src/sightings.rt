@@ -1,19 +1,66 @@
 //! What a scan keeps of the segments that it met.
 
-ghost use Rattle.std.specs.Prelude.{◌≡◌, ◌≤◌, [], map, length};
-ghost use Rattle.snapshot_core.specs.Sightings.{sighting_of, index_of, noted, carried_over};
+ghost use Rattle.std.specs.Prelude.{◌≡◌, ◌<◌, ◌≤◌, [], map, length};
+ghost use Rattle.snapshot_core.specs.Sightings.{met_in, unknown, sighting_of, index_of, noted, carried_over, shown_with, shown_by};
 
 use std::marker::Model;
-use step_memory::Place;
+use step_memory::{Place, Record, View};
 
-/// What a scan knows of the segment at a place: its sequence number in the collect before and in the present one (0 where
-/// it was empty or not reached), and whether it was seen to change.
+/// What a collect met in a segment: the identity, the value and the sequence number of its record.
+#[derive(Clone, Copy, Debug, Drop)]
+pub struct Met {
+    pub identity: u64,
+    pub value: u64,
+    pub number: u32,
+}
+
+impl Met {
+    /// What a collect keeps of a record.
+    pub fn of(found: &Record) -> Self
+        ensures { result ≡ met_in found.now }
+    {
+        Met {
+            identity: found.identity,
+            value: found.value,
+            number: found.number,
+        }
+    }
+}
+
+/// What a scan knows of the segment at a place: its sequence number in the collect before (0 where it was empty or not
+/// reached), what the present collect met in it (`None` where it was empty or is not reached), and whether it was seen to
+/// change.
 #[derive(Clone, Copy, Debug, Drop)]
 pub struct Sighting {
     pub place: Place,
     pub before: u32,
-    pub now: u32,
+    pub now: Option<Met>,
     pub changed: bool,
+}
+
+impl Sighting {
+    /// Of the segment at a place nothing is known.
+    fn unknown(place: Place) -> Self
+        ensures { result ≡ unknown place }
+    {
+        Sighting {
+            place,
+            before: 0,
+            now: None,
+            changed: false,
+        }
+    }
+
+    /// Another collect begins: the present one is the collect before.
+    fn carry_over(&mut self)
+        ensures { self.new ≡ carried_over self.old }
+    {
+        self.before = match self.now {
+            Some(met) => met.number,
+            None => 0,
+        };
+        self.now = None;
+    }
 }
 
 /// What a scan knows of at most 64 segments, in the value itself. Contracts see the list.
@@ -51,8 +98,17 @@ fn carry_over_all(entries: &mut [Sighting])
     ensures { entries.new ≡ map carried_over entries.old }
 {
     for entry in entries.iter_mut() {
-        entry.before = entry.now;
-        entry.now = 0;
+        entry.carry_over();
+    }
+}
+
+/// Puts what was met of a segment into a view.
+fn show(view: &mut View, met: Option<Met>)
+    requires { length view.old < 64 }
+    ensures { view.new ≡ shown_with view.old met }
+{
+    if let Some(met) = met {
+        view.insert(met.identity, met.value);
     }
 }
 
@@ -62,36 +118,35 @@ impl Sightings {
         ensures { result ≡ [] }
     {
         Sightings {
-            entries: [Sighting {
-                place: 0,
-                before: 0,
-                now: 0,
-                changed: false,
-            }; 64],
+            entries: [Sighting::unknown(0); 64],
             len: 0,
         }
     }
 
-    /// What is known of the segment at a place.
-    pub fn at(&self, place: Place) -> Sighting
+    /// Where the segment at a place is noted, for `get` and `put`.
+    pub fn find(&self, place: Place) -> Option<usize>
+        ensures { result ≡ index_of place self.now }
+    {
+        find(&self.entries[..self.len], place)
+    }
+
+    /// What is known of the segment at a place, which is noted there.
+    pub fn get(&self, place: Place, at: Option<usize>) -> Sighting
+        requires { at ≡ index_of place self.now }
         ensures { result ≡ sighting_of place self.now }
     {
-        match find(&self.entries[..self.len], place) {
+        match at {
             Some(i) => self.entries[i],
-            None => Sighting {
-                place,
-                before: 0,
-                now: 0,
-                changed: false,
-            },
+            None => Sighting::unknown(place),
         }
     }
 
-    /// Notes this of a segment, in place of what was known of it. Of a 65th segment nothing is noted.
-    pub fn note(&mut self, sighting: Sighting)
+    /// Notes this of a segment, in place of what was known of it, which is noted there. Of a 65th segment nothing is noted.
+    pub fn put(&mut self, at: Option<usize>, sighting: Sighting)
+        requires { at ≡ index_of sighting.place self.old }
         ensures { self.new ≡ noted sighting self.old }
     {
-        match find(&self.entries[..self.len], sighting.place) {
+        match at {
             Some(i) => self.entries[i] = sighting,
             None => {
                 if self.len < 64 {
@@ -100,6 +155,24 @@ impl Sightings {
                 }
             }
         }
+    }
+
+    /// Nothing is known any more.
+    pub fn clear(&mut self)
+        ensures { self.new ≡ [] }
+    {
+        self.len = 0;
+    }
+
+    /// The view that the present collect met.
+    pub fn view(&self) -> View
+        ensures { result ≡ shown_by [] self.now }
+    {
+        let mut view = View::new();
+        for entry in &self.entries[..self.len] {
+            show(&mut view, entry.now);
+        }
+        view
     }
 
     /// Another collect begins: the present one is the collect before.

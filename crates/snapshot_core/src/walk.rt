@@ -1,9 +1,9 @@
 //! Walks over the segments that may be in use.
 
-ghost use Rattle.std.specs.Prelude.{◌≡◌};
+ghost use Rattle.std.specs.Prelude.{◌≡◌, option_copied};
 ghost use Rattle.snapshot_core.specs.Walks.{WalkSteps};
 
-use step_memory::{Place, Segment};
+use step_memory::{Place, Record, Segment};
 
 /// A walk over all segments that may be in use, one read after another. Which register it reads next may depend on what
 /// it read. Not every read has to be of a segment.
@@ -39,6 +39,6 @@ pub trait SegmentWalk {
         ensures { result ≡ walks.stored segment };
 
     /// What a segment holds, whose register holds this.
-    fn content(value: &Self::Value) -> Segment
-        ensures { result ≡ walks.content value.now };
+    fn content(value: &Self::Value) -> Option<&Record>
+        ensures { option_copied result ≡ walks.content value.now };
 }

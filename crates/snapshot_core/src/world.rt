@@ -1,6 +1,6 @@
 //! A snapshot object, taken step by step.
 
-ghost use Rattle.std.specs.Prelude.{◌≡◌, ◌≢◌, [], IfOk, OnErr, Err, true};
+ghost use Rattle.std.specs.Prelude.{◌≡◌, ◌≢◌, [], IfOk, OnErr, Err, Ok, true, false};
 ghost use Rattle.step_memory.specs.Locality.{IsLocal};
 ghost use Rattle.step_memory.specs.World.{begin_refusal, done_unless};
 ghost use Rattle.snapshot_core.specs.Snapshot.{IsLawful};
@@ -8,7 +8,7 @@ ghost use Rattle.snapshot_core.specs.SnapWorld.{place_in, after_snap_begin, scan
 ghost use Rattle.snapshot_core.specs.SnapCalls.{fresh_over, IsAfter, LeadsOn, MakesOwnAccess, HasDistinctPlaces, KeepsTold};
 ghost use Rattle.snapshot_core.specs.SnapCalls.SnapCall.{Began, Updated, Scanned, Stepped};
 
-use crate::client::{Client, SnapReply};
+use crate::client::{Client, SnapReply, ToScan, ToUpdate};
 use crate::places::{Known, PlaceWalker, Places};
 use std::alloc::Allocator;
 use std::marker::Model;
@@ -49,6 +49,20 @@ where
         })
     }
 
+    /// The most participants.
+    pub fn most(&self) -> usize
+        ensures { result ≡ self.now.most }
+    {
+        self.world.most()
+    }
+
+    /// Why an identity may not begin: what `begin` would be refused. It changes nothing.
+    pub fn begin_refusal(&self, id: u64) -> Option<Refusal>
+        ensures { result ≡ begin_refusal self.now id }
+    {
+        self.world.begin_refusal(id)
+    }
+
     /// A participant begins. Refused where the identity is 0, then where it has begun, then where the object is full.
     pub fn begin(&mut self, id: u64) -> Result<(), Refusal>
         ensures answer { result ≡ done_unless (begin_refusal self.old id) }
@@ -81,8 +95,7 @@ where
         if 1_000_000 <= client.updates {
             return Err(Refusal::Spent);
         }
-        let client = client.updating(value);
-        self.world.set(id, client)
+        self.world.ask(id, ToUpdate { value })
     }
 
     /// Asks for a scan, which the next steps make. Refused where the identity has not begun, then where something of it is
@@ -100,12 +113,48 @@ where
         if !client.is_idle() {
             return Err(Refusal::AlreadyBegun);
         }
-        let client = client.scanning();
-        self.world.set(id, client)
+        self.world.ask(id, ToScan)
+    }
+
+    /// One step of a participant, if it is a read of a scan that goes on: it copies no segment, and answers `Quiet`. Tells
+    /// whether it was made; where not, nothing has changed, and `step` makes it or refuses it.
+    pub fn read_on(&mut self, id: u64) -> bool
+        ensures answer { result ≡ true → snap_answer ⟦<W as Known>⟧.places self.old id ≡ Ok SnapReply.Quiet }
+        ensures state { result ≡ true → self.new ≡ after_snap_step ⟦<W as Known>⟧.places self.old id }
+        ensures kept { result ≡ false → self.new ≡ self.old }
+        ensures local { result ≡ true → IsLocal (clients_over ⟦<W as Known>⟧.places) W.steps id self.old self.new }
+        ensures after { result ≡ true → LeadsOn ⟦<W as Known>⟧.places self.old self.new (Stepped id (Ok SnapReply.Quiet)) }
+        ensures law { IsLawful ⟦<W as Known>⟧.places self.new }
+    {
+        self.world.read_on(id)
+    }
+
+    /// Any other step. A function of its own, so that a read of a scan that goes on has no room of a segment to clear.
+    #[inline(never)]
+    fn take_step(&mut self, id: u64) -> Result<SnapReply, Refusal>
+        ensures answer { result ≢ Err Refusal.NoMemory → result ≡ snap_answer ⟦<W as Known>⟧.places self.old id }
+        ensures state { result ≢ Err Refusal.NoMemory → self.new ≡ after_snap_step ⟦<W as Known>⟧.places self.old id }
+        ensures refused { OnErr result (self.new ≡ self.old) }
+        ensures no_memory { result ≡ Err Refusal.NoMemory → may_lack_memory ⟦<W as Known>⟧.places self.old id ≡ true }
+        ensures local { IsLocal (clients_over ⟦<W as Known>⟧.places) W.steps id self.old self.new }
+        ensures alike { result ≢ Err Refusal.NoMemory → AnswersAlike ⟦<W as Known>⟧.places self.old id result }
+    {
+        let Some(client) = self.world.program(id) else {
+            return Err(Refusal::NotBegun);
+        };
+        if client.is_idle() {
+            return Err(Refusal::Finished);
+        }
+        match self.world.step(id)? {
+            Note::Quiet => Ok(SnapReply::Quiet),
+            Note::Said(reply) => Ok(reply),
+            Note::Ended(reply) => Ok(reply),
+        }
     }
 
     /// One step of a participant: one access. Refused where the identity has not begun, then where nothing of it is
     /// pending, then where the memory refused a growth: then the same step may be asked again.
+    #[inline(always)]
     pub fn step(&mut self, id: u64) -> Result<SnapReply, Refusal>
         ensures answer { result ≢ Err Refusal.NoMemory → result ≡ snap_answer ⟦<W as Known>⟧.places self.old id }
         ensures state { result ≢ Err Refusal.NoMemory → self.new ≡ after_snap_step ⟦<W as Known>⟧.places self.old id }
@@ -124,17 +173,10 @@ where
         ensures stands_alike { result ≢ Err Refusal.NoMemory → StaysAlike ⟦<W as Known>⟧.places self.old self.new id }
         ensures own { MakesOwnAccess ⟦<W as Known>⟧.places self.old id }
     {
-        let Some(client) = self.world.program(id) else {
-            return Err(Refusal::NotBegun);
-        };
-        if client.is_idle() {
-            return Err(Refusal::Finished);
+        if self.read_on(id) {
+            return Ok(SnapReply::Quiet);
         }
-        match self.world.step(id)? {
-            Note::Quiet => Ok(SnapReply::Quiet),
-            Note::Said(reply) => Ok(reply),
-            Note::Ended(reply) => Ok(reply),
-        }
+        self.take_step(id)
     }
 
     /// The place of a participant, once it has one.

@@ -24,7 +24,7 @@ use Rattle.snapshot_core.specs.Snapshot.{IsLawfulFrom}
 use Rattle.snapshot_core.proofs.Following.{law_holds, consistent_holds}
 use Rattle.snapshot_core.proofs.SureSteps.{lacks_on_way}
 
-is_new : (most : ℕ) → most ≤ 64 → IsNewTree (new_tree most)
+pub is_new : (most : ℕ) → most ≤ 64 → IsNewTree (new_tree most)
 is_new most few = record { few = few; empty = refl }
 
 pub fits_tree : (most : ℕ) → BoundsScans tree_places most (tree_bounds most).scanning

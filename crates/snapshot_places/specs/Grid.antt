@@ -1,5 +1,5 @@
 -- a grid of doors, with a segment at each
-use Rattle.std.specs.Prelude.{ℕ, ◌+◌, ◌*◌, ◌/◌, nat_lt, nat_le, if◌then◌else◌, Bool, false, replicate, List, length, Option, Some, None, slice_index_or, slice_set}
+use Rattle.std.specs.Prelude.{◌≡◌, ℕ, ◌+◌, ◌*◌, ◌/◌, nat_lt, nat_le, if◌then◌else◌, Bool, false, replicate, map, List, length, Option, Some, None, slice_index_or, slice_set}
 use Rattle.step_memory.specs.declared.access.Access.{Access}
 use Rattle.step_memory.specs.declared.access.Access.TheVariants.{Read, Write, TestAndSet, Clear, Nothing}
 use Rattle.step_memory.specs.declared.access.Answer.{Answer}
@@ -83,6 +83,10 @@ next_place k = if nat_lt k.at k.most then k.at + 1 else k.at
 abbrev pub contents_of : GridValue → Option Record
 contents_of (Word word) = None
 contents_of (Contents segment) = segment
+
+-- each of these values is what stands in a segment
+abbrev pub AreContents : List GridValue → Type 0
+AreContents values = map (λ v. Contents (contents_of v)) values ≡ values
 
 -- by rising place
 abbrev pub grid_walks : WalkSteps GridWalk GridRegister GridValue

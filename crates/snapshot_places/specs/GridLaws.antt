@@ -12,7 +12,7 @@ use Rattle.step_memory.specs.Steps.{Spares, ReadsOrWrites, answer_from}
 use Rattle.step_memory.specs.Registers as registers
 use Rattle.step_memory.specs.declared.record.Record.{Record}
 use Rattle.splitter.specs.declared.stage.Stage.{Stage}
-use Rattle.splitter.specs.declared.stage.Stage.TheVariants.{Outside, WroteName, SawClear, WroteMark, Gone}
+use Rattle.splitter.specs.declared.stage.Stage.TheVariants.{Outside, WroteX, SawClear, WroteY, Gone}
 use Rattle.splitter.specs.Visitor.{access_at}
 use Rattle.splitter_grid.specs.Door.{IsDoorWithin}
 use Rattle.splitter_grid.specs.Walk as walk
@@ -44,26 +44,26 @@ others_kept g (Clear q) r h = refl
 others_kept g Nothing r h = refl
 
 -- an access that is sent to the doors is one of the doors
-sent : (g : GridState) (id name mark : ℕ) (s : Stage) → after_access g (door_access (access_at id name mark s)) ≡ with_doors g (registers.after_access g.doors (access_at id name mark s))
-sent g id name mark Outside = refl
-sent g id name mark WroteName = refl
-sent g id name mark SawClear = refl
-sent g id name mark WroteMark = refl
-sent g id name mark (Gone way) = refl
+sent : (g : GridState) (id x y : ℕ) (s : Stage) → after_access g (door_access (access_at id x y s)) ≡ with_doors g (registers.after_access g.doors (access_at id x y s))
+sent g id x y Outside = refl
+sent g id x y WroteX = refl
+sent g id x y SawClear = refl
+sent g id x y WroteY = refl
+sent g id x y (Gone way) = refl
 
-told : (g : GridState) (id name mark : ℕ) (s : Stage) → word_answer (answer_from (register_of g) (door_access (access_at id name mark s))) ≡ registers.answer_of g.doors (access_at id name mark s)
-told g id name mark Outside = refl
-told g id name mark WroteName = refl
-told g id name mark SawClear = refl
-told g id name mark WroteMark = refl
-told g id name mark (Gone way) = refl
+told : (g : GridState) (id x y : ℕ) (s : Stage) → word_answer (answer_from (register_of g) (door_access (access_at id x y s))) ≡ registers.answer_of g.doors (access_at id x y s)
+told g id x y Outside = refl
+told g id x y WroteX = refl
+told g id x y SawClear = refl
+told g id x y WroteY = refl
+told g id x y (Gone way) = refl
 
-sent_plain : (id name mark : ℕ) (s : Stage) → ReadsOrWrites (door_access (access_at id name mark s))
-sent_plain id name mark Outside = tt
-sent_plain id name mark WroteName = tt
-sent_plain id name mark SawClear = tt
-sent_plain id name mark WroteMark = tt
-sent_plain id name mark (Gone way) = tt
+sent_plain : (id x y : ℕ) (s : Stage) → ReadsOrWrites (door_access (access_at id x y s))
+sent_plain id x y Outside = tt
+sent_plain id x y WroteX = tt
+sent_plain id x y SawClear = tt
+sent_plain id x y WroteY = tt
+sent_plain id x y (Gone way) = tt
 
 -- the walks, with another in the place of p's
 walks_with : (ways : ℕ → Option GridWalker) (p : ℕ) (u : GridWalker) → walks_of (set_at ways p (Some u)) ≡ set_at (walks_of ways) p (Some u.walker)
@@ -96,9 +96,9 @@ grid_gone_on : (g : GridState) (b : ℕ) (ways : ℕ → Option GridWalker) → 
 grid_gone_on g b ways c p u here none =
     let is = on_way ways p u here in
     let v = u.walker.visitor in
-    rw (sent g v.identity v.name v.mark v.stage) (record {
+    rw (sent g v.identity v.x v.y v.stage) (record {
       consistent = record {
-        doors = rw (walks_with ways p (grid_walker_steps.resumed u (answer_from (register_of g) (door_access (walk.next_access u.walker)))), told g v.identity v.name v.mark v.stage) (kept.gone_on g.most b g.doors (walks_of ways) c.doors p u.walker is);
+        doors = rw (walks_with ways p (grid_walker_steps.resumed u (answer_from (register_of g) (door_access (walk.next_access u.walker)))), told g v.identity v.x v.y v.stage) (kept.gone_on g.most b g.doors (walks_of ways) c.doors p u.walker is);
         segments = c.segments;
       };
       segments = λ x. refl;
@@ -170,7 +170,7 @@ grid_laws = record {
   goes = λ g b ways c k j h. (let i = h.inside in let room = h.room in omega arith, grid_reads g k j h);
   rising = λ most b. omega arith;
   waits = λ b p. inl refl;
-  plain = λ u. sent_plain u.walker.visitor.identity u.walker.visitor.name u.walker.visitor.mark u.walker.visitor.stage;
+  plain = λ u. sent_plain u.walker.visitor.identity u.walker.visitor.x u.walker.visitor.y u.walker.visitor.stage;
   sure_nothing = λ g. refl;
   sure_reads = λ g r. refl;
   sure_writes = λ g x segment. refl;

@@ -7,7 +7,7 @@ use Rattle.splitter_tree.specs.declared.register.TreeRegister.{TreeRegister}
 use Rattle.splitter_tree.specs.declared.register.TreeRegister.TheVariants.{Contents}
 use Rattle.splitter_tree.specs.declared.register.TreeValue.{TreeValue}
 use Rattle.splitter_tree.specs.declared.register.TreeValue.TheVariants.{Contents as Held}
-use Rattle.splitter_tree.specs.TreeSteps.{Doors, register_of, after_access, may_refuse, empty_tree}
+use Rattle.splitter_tree.specs.TreeSteps.{NodeMap, register_of, after_access, may_refuse, empty_tree}
 use Rattle.splitter_tree.specs.TreeMemory.{segment_in}
 use Rattle.splitter_tree.specs.Walk.{walk_of, next_access, walker_after, walker_note, place_of}
 use Rattle.splitter_tree.specs.CollectWalk.{first_walk, register_read, place_read, walk_resumed, walk_is_over}
@@ -17,18 +17,18 @@ use Rattle.snapshot_core.specs.Walks.{WalkSteps}
 
 -- the nodes that are there, and the most participants
 pub record TreeState : Type 0 where
-  pub nodes : Doors
+  pub nodes : NodeMap
   pub most : ℕ
 
 -- how these are stored, where nodes are
-abbrev pub tree_code : Coded Doors → Coded TreeState
-tree_code doors = code_by (Doors × ℕ) (coded× doors coded_ℕ) (λ t. (t.nodes, t.most)) (λ x. record { nodes = x.0; most = x.1 }) (λ _. refl)
+abbrev pub tree_code : Coded NodeMap → Coded TreeState
+tree_code doors = code_by (NodeMap × ℕ) (coded× doors coded_ℕ) (λ t. (t.nodes, t.most)) (λ x. record { nodes = x.0; most = x.1 }) (λ _. refl)
 
 -- a tree of no node, for so many
 abbrev pub new_tree : ℕ → TreeState
 new_tree most = record { nodes = empty_tree; most = most }
 
-abbrev pub with_nodes : TreeState → Doors → TreeState
+abbrev pub with_nodes : TreeState → NodeMap → TreeState
 with_nodes t nodes = record { nodes = nodes; most = t.most }
 
 abbrev pub register_in : TreeState → TreeRegister → TreeValue × Bool

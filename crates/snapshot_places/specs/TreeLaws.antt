@@ -10,14 +10,14 @@ use Rattle.step_memory.proofs.SetAtLemmas.{set_at-map}
 use Rattle.step_memory.specs.Steps.{Spares, ReadsOrWrites, answer_from}
 use Rattle.step_memory.specs.declared.record.Record.{Record}
 use Rattle.splitter_tree.specs.declared.register.TreeRegister.{TreeRegister}
-use Rattle.splitter_tree.specs.declared.register.TreeRegister.TheVariants.{Mark, Name, Taken, Contents}
+use Rattle.splitter_tree.specs.declared.register.TreeRegister.TheVariants.{Mark, X, Y, Contents}
 use Rattle.splitter_tree.specs.declared.register.TreeValue.{TreeValue}
 use Rattle.splitter_tree.specs.declared.register.TreeValue.TheVariants.{Word, Contents as Held}
 use Rattle.splitter_tree.specs.declared.walker.Walker.{Walker}
 use Rattle.splitter.specs.declared.stage.Stage.{Stage}
-use Rattle.splitter.specs.declared.stage.Stage.TheVariants.{Outside, WroteName, SawClear, WroteMark, Gone}
+use Rattle.splitter.specs.declared.stage.Stage.TheVariants.{Outside, WroteX, SawClear, WroteY, Gone}
 use Rattle.splitter.specs.Visitor.{access_at, access_of}
-use Rattle.splitter_tree.specs.TreeSteps.{Doors, tree_steps}
+use Rattle.splitter_tree.specs.TreeSteps.{NodeMap, tree_steps}
 use Rattle.splitter_tree.specs.TreeLaws.{others_kept}
 use Rattle.splitter_tree.specs.TreeMemory.{word_in, segment_in}
 use Rattle.splitter_tree.specs.Walk.{in_words, next_access, place_of, place_by}
@@ -49,7 +49,7 @@ on_way : (ways : ℕ → Option TreeWalker) (p : ℕ) (u : TreeWalker) → ways 
 on_way ways p u e = ap (option_map (λ (v : TreeWalker). v.walker)) e
 
 -- marks that stay let walks go on
-tree_keeps_walks : (t : TreeState) (nodes : Doors) → HasGrown (marked_in tree_steps t.nodes) (marked_in tree_steps nodes) → KeepsWalks tree_places t (record { nodes = nodes; most = t.most })
+tree_keeps_walks : (t : TreeState) (nodes : NodeMap) → HasGrown (marked_in tree_steps t.nodes) (marked_in tree_steps nodes) → KeepsWalks tree_places t (record { nodes = nodes; most = t.most })
 tree_keeps_walks t nodes grown = record {
   most = refl;
   beginning = refl;
@@ -85,7 +85,7 @@ module _ (t : TreeState) (b : ℕ) (ways : ℕ → Option TreeWalker) (c : IsCon
     tree_written x at r =
         let other : (q : TreeRegister) → q ≢ Contents x → (tree_steps.register (tree_steps.after t.nodes (Write (Contents x) (Held (Some r)))) q).0 ≡ (tree_steps.register t.nodes q).0 = λ q n. ap (λ (z : TreeValue × Bool). z.0) (tree_memory.others t.nodes (Write (Contents x) (Held (Some r))) q n) in
         record {
-          consistent = elsewhere tree_steps t.most b t.nodes (walks_of ways) c (tree_steps.after t.nodes (Write (Contents x) (Held (Some r)))) (fun_ext (λ k. ap word_in (other (Mark k) (λ e. absurd (cc))))) (fun_ext (λ k. ap word_in (other (Name k) (λ e. absurd (cc))))) (fun_ext (λ k. ap word_in (other (Taken k) (λ e. absurd (cc)))));
+          consistent = elsewhere tree_steps t.most b t.nodes (walks_of ways) c (tree_steps.after t.nodes (Write (Contents x) (Held (Some r)))) (fun_ext (λ k. ap word_in (other (Mark k) (λ e. absurd (cc))))) (fun_ext (λ k. ap word_in (other (X k) (λ e. absurd (cc))))) (fun_ext (λ k. ap word_in (other (Y k) (λ e. absurd (cc)))));
           own = ap segment_in (tree_memory.takes_segment t.nodes x (Some r) (tree.placed p x (at_place x at)));
           others = λ y n. ap segment_in (other (Contents y) (λ e. n (let same : y ≡ x = cc in same)));
           kept = tree_keeps_walks t (tree_steps.after t.nodes (Write (Contents x) (Held (Some r)))) (marks_spared tree_steps t.nodes x (Some r) tree_memory);
@@ -111,17 +111,17 @@ words_plain (TestAndSet r) h = h
 words_plain (Clear r) h = h
 words_plain Nothing h = tt
 
-visit_plain : (id : ℕ) (name mark : TreeRegister) (s : Stage) → ReadsOrWrites (access_at id name mark s)
-visit_plain id name mark Outside = tt
-visit_plain id name mark WroteName = tt
-visit_plain id name mark SawClear = tt
-visit_plain id name mark WroteMark = tt
-visit_plain id name mark (Gone way) = tt
+visit_plain : (id : ℕ) (x y : TreeRegister) (s : Stage) → ReadsOrWrites (access_at id x y s)
+visit_plain id x y Outside = tt
+visit_plain id x y WroteX = tt
+visit_plain id x y SawClear = tt
+visit_plain id x y WroteY = tt
+visit_plain id x y (Gone way) = tt
 
 way_plain : (u : Walker) → ReadsOrWrites (next_access u)
 way_plain u = elim u.is_marking as (λ marking. ReadsOrWrites (if marking then Write (Mark u.place) (Word 1) else in_words (access_of u.visitor))) [
   | true ↦ tt
-  | false ↦ words_plain (access_of u.visitor) (visit_plain u.visitor.identity u.visitor.name u.visitor.mark u.visitor.stage)
+  | false ↦ words_plain (access_of u.visitor) (visit_plain u.visitor.identity u.visitor.x u.visitor.y u.visitor.stage)
 ]
 
 pub tree_laws : PlacesLaws tree_places

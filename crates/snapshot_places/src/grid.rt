@@ -1,9 +1,10 @@
 //! A grid of doors, with a segment at each.
 
-ghost use Rattle.std.specs.Prelude.{◌≡◌, ◌<◌, ◌≤◌, ℕ, OnOk, OnErr, IfOk, IfErr, Err, IsOk, Some, None, slice_index_or};
+ghost use Rattle.std.specs.Prelude.{◌≡◌, ◌<◌, ◌≤◌, ℕ, OnOk, OnErr, IfOk, IfErr, IfSome, Err, IsOk, Some, None, slice_index_or, slice_set};
 ghost use Rattle.step_memory.specs.declared.access.Access.{Access};
+ghost use Rattle.step_memory.specs.declared.access.Access.TheVariants.{Read};
 ghost use Rattle.step_memory.specs.Steps.{answer_from};
-ghost use Rattle.snapshot_places.specs.Grid.{fresh_grid, register_of, after_access, grid_steps, grid_walker, most_in, grid_walk};
+ghost use Rattle.snapshot_places.specs.Grid.{fresh_grid, with_segments, register_of, after_access, grid_steps, grid_walker, most_in, grid_walk};
 ghost use Rattle.snapshot_places.specs.GridTies.{IsEmptyGrid, grid_ties};
 ghost use Rattle.snapshot_places.specs.GridLaws.{others_kept, grid_laws};
 
@@ -16,20 +17,25 @@ use std::alloc::Allocator;
 use std::marker::Model;
 use step_memory::{Access, Answer, Memory, NoMemory, Place, Refusal, Segment, StepMemory};
 
-/// The doors of a grid, and a segment for each.
+/// The doors of a grid, and a segment for each. A segment is kept as the value of its register, so that it can be lent.
 #[derive(Drop)]
 pub struct Grid<A: Allocator> {
     doors: Memory<u64, A>,
-    segments: Vec<Segment, A>,
+    segments: Vec<GridValue, A>,
     most: usize,
 }
 
 impl<A: Allocator> Model for Grid<A> {
+    ghost use Rattle.std.specs.Prelude.{map};
     ghost use Rattle.snapshot_places.specs.GridState.{GridState};
 
     ghost Value = { GridState };
 
-    ghost view = { λ g. record { doors = g.doors; segments = g.segments.items; most = g.most } };
+    ghost use Rattle.snapshot_places.specs.Grid.{contents_of, AreContents};
+
+    ghost view = { λ g. record { doors = g.doors; segments = map contents_of g.segments.items; most = g.most } };
+
+    ghost invariant = { λ g. AreContents g.segments.items };
 }
 
 impl<A: Allocator + Clone> Grid<A> {
@@ -57,7 +63,7 @@ impl<A: Allocator + Clone> Grid<A> {
             return Err(Refusal::NoMemory);
         };
         for _i in 0..many {
-            segments.push_reserved(None);
+            segments.push_reserved(GridValue::Contents(None));
         }
         Ok(Grid {
             doors,
@@ -73,9 +79,19 @@ impl<A: Allocator> Grid<A> {
         ensures { result ≡ slice_index_or self.now.segments place None }
     {
         if place < self.segments.len() as u128 {
-            self.segments[place as usize]
+            self.segments[place as usize].contents()
         } else {
             None
+        }
+    }
+
+    /// Puts a segment at a place, where there is one.
+    fn put(&mut self, place: Place, segment: Segment)
+        ensures { self.new ≡ with_segments self.old (slice_set self.old.segments place segment) }
+    {
+        if place < self.segments.len() as u128 {
+            let at = place as usize;
+            self.segments[at] = GridValue::Contents(segment);
         }
     }
 }
@@ -104,10 +120,7 @@ impl<A: Allocator> StepMemory for Grid<A> {
                 Answer::Done
             }
             Access::Write(GridRegister::Segment(place), GridValue::Contents(segment)) => {
-                if place < self.segments.len() as u128 {
-                    let at = place as usize;
-                    self.segments[at] = segment;
-                }
+                self.put(place, segment);
                 Answer::Done
             }
             Access::Write(GridRegister::Door(_), GridValue::Contents(_)) => Answer::Done,
@@ -116,6 +129,20 @@ impl<A: Allocator> StepMemory for Grid<A> {
             Access::Clear(_) => Answer::Done,
             Access::Nothing => Answer::Done,
         })
+    }
+
+    fn look(&self, register: &GridRegister) -> Option<&GridValue>
+        ensures value { IfSome result (λ value. value.now ≡ (register_of self.now register.now).0) }
+        ensures kept { IfSome result (λ value. after_access self.now (Read register.now) ≡ self.now) }
+    {
+        let GridRegister::Segment(place) = *register else {
+            return None;
+        };
+        if place < self.segments.len() as u128 {
+            Some(&self.segments[place as usize])
+        } else {
+            None
+        }
     }
 
     ghost others = { others_kept };

@@ -1,5 +1,8 @@
 //! The registers of a grid with segments.
 
+ghost use Rattle.std.specs.Prelude.{◌≡◌};
+ghost use Rattle.snapshot_places.specs.Grid.{contents_of};
+
 use step_memory::{Place, Segment};
 
 /// A register of a grid with segments.
@@ -18,4 +21,16 @@ pub enum GridValue {
     Word(u64),
     /// What stands in a segment.
     Contents(Segment),
+}
+
+impl GridValue {
+    /// What stands in a segment, in whose register this stands. Empty where it is the word of a door.
+    pub fn contents(&self) -> Segment
+        ensures { result ≡ contents_of self.now }
+    {
+        match self {
+            GridValue::Word(_) => None,
+            GridValue::Contents(segment) => *segment,
+        }
+    }
 }

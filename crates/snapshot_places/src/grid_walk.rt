@@ -5,7 +5,7 @@ ghost use Rattle.snapshot_places.specs.Grid.{grid_walks};
 
 use crate::grid_register::{GridRegister, GridValue};
 use snapshot_core::SegmentWalk;
-use step_memory::{Place, Segment};
+use step_memory::{Place, Record, Segment};
 
 /// A walk over the segments of a grid, by rising place: the next place, and how many segments there are.
 #[derive(Clone, Copy, Debug, Drop, PartialEq, Eq)]
@@ -44,10 +44,10 @@ impl SegmentWalk for GridWalk {
         GridValue::Contents(segment)
     }
 
-    fn content(value: &GridValue) -> Segment {
+    fn content(value: &GridValue) -> Option<&Record> {
         match value {
             GridValue::Word(_) => None,
-            GridValue::Contents(segment) => *segment,
+            GridValue::Contents(segment) => segment.as_ref(),
         }
     }
 }

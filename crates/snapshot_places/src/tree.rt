@@ -26,12 +26,12 @@ pub struct TreePlaces<A: Allocator> {
 impl<A: Allocator> Model for TreePlaces<A> {
     ghost use Rattle.std.specs.Coded.{coded_ℕ};
     ghost use Rattle.std.specs.FinMap as map;
-    ghost use Rattle.splitter_tree.specs.contracts.door.Door as door;
+    ghost use Rattle.splitter_tree.specs.contracts.node_registers.NodeRegisters as registers;
     ghost use Rattle.snapshot_places.specs.Tree.{TreeState, tree_code};
 
     ghost Value = { TreeState };
 
-    ghost coded = { tree_code (map.code coded_ℕ door.the_row.coded) };
+    ghost coded = { tree_code (map.code coded_ℕ registers.the_row.coded) };
 
     ghost view = { λ t. record { nodes = t.tree; most = t.most } };
 }

@@ -4,7 +4,7 @@ ghost use Rattle.snapshot_places.specs.Tree.{tree_walks};
 
 use snapshot_core::SegmentWalk;
 use splitter_tree::{CollectWalk, TreeRegister, TreeValue};
-use step_memory::{Place, Segment};
+use step_memory::{Place, Record, Segment};
 
 /// A walk over the nodes that were made, each before its left subtree and that before its right one: it reads the mark of a
 /// node, and where that is set the node's segment and what lies below.
@@ -40,7 +40,7 @@ impl SegmentWalk for TreeWalk {
         TreeValue::Contents(segment)
     }
 
-    fn content(value: &TreeValue) -> Segment {
+    fn content(value: &TreeValue) -> Option<&Record> {
         CollectWalk::content(value)
     }
 }

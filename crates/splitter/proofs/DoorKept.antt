@@ -3,30 +3,30 @@ use Rattle.std.proofs.Common.{◌≡◌, ◌≢◌, ℕ, true, false, inl, inr, 
 use Rattle.std.proofs.lemmas.Bool.Decides.{eqb_tells}
 use Rattle.splitter.specs.declared.way.Way.TheVariants.{Stop, Right, Down}
 use Rattle.splitter.specs.declared.stage.Stage.{Stage}
-use Rattle.splitter.specs.declared.stage.Stage.TheVariants.{Outside, WroteName, SawClear, WroteMark, Gone}
-use Rattle.splitter.specs.Stage.{has_entered, has_marked, is_between, has_stopped, went_right, went_down, name_after, mark_after, stage_after}
+use Rattle.splitter.specs.declared.stage.Stage.TheVariants.{Outside, WroteX, SawClear, WroteY, Gone}
+use Rattle.splitter.specs.Stage.{has_entered, has_set, is_between, has_stopped, went_right, went_down, x_after, y_after, stage_after}
 use Rattle.splitter.specs.Door.{DoorIsLawful, IsSplitter}
 use Rattle.step_memory.specs.SetAt.{set_at}
 use Rattle.step_memory.proofs.SetAtLemmas.{set_at-same, set_at-other, set_at-cases, set_at-as_is}
 use Rattle.splitter.proofs.Changed.{passed_before, passes_still, passes_too, fails_still}
 
-marked_not_right : (s : Stage) → has_marked s ≡ true → (has_entered s ≡ true) × (went_right s ≡ false)
-marked_not_right Outside h = absurd (cc)
-marked_not_right WroteName h = absurd (cc)
-marked_not_right SawClear h = absurd (cc)
-marked_not_right WroteMark h = (refl, refl)
-marked_not_right (Gone Stop) h = (refl, refl)
-marked_not_right (Gone Right) h = absurd (cc)
-marked_not_right (Gone Down) h = (refl, refl)
+set_not_right : (s : Stage) → has_set s ≡ true → (has_entered s ≡ true) × (went_right s ≡ false)
+set_not_right Outside h = absurd (cc)
+set_not_right WroteX h = absurd (cc)
+set_not_right SawClear h = absurd (cc)
+set_not_right WroteY h = (refl, refl)
+set_not_right (Gone Stop) h = (refl, refl)
+set_not_right (Gone Right) h = absurd (cc)
+set_not_right (Gone Down) h = (refl, refl)
 
-stopped_marked : (s : Stage) → has_stopped s ≡ true → has_marked s ≡ true
-stopped_marked Outside h = absurd (cc)
-stopped_marked WroteName h = absurd (cc)
-stopped_marked SawClear h = absurd (cc)
-stopped_marked WroteMark h = absurd (cc)
-stopped_marked (Gone Stop) h = refl
-stopped_marked (Gone Right) h = absurd (cc)
-stopped_marked (Gone Down) h = absurd (cc)
+stopped_set : (s : Stage) → has_stopped s ≡ true → has_set s ≡ true
+stopped_set Outside h = absurd (cc)
+stopped_set WroteX h = absurd (cc)
+stopped_set SawClear h = absurd (cc)
+stopped_set WroteY h = absurd (cc)
+stopped_set (Gone Stop) h = refl
+stopped_set (Gone Right) h = absurd (cc)
+stopped_set (Gone Down) h = absurd (cc)
 
 -- a lawful splitter keeps the law
 pub law_of : (x y : ℕ) (stage : ℕ → Stage) → DoorIsLawful x y stage → IsSplitter stage
@@ -34,7 +34,7 @@ law_of x y stage d = record {
   one_stops = λ p q h k. d.one p q (rw h refl) (rw k refl);
   not_all_right = λ p e. elim (eqb_tells y 0) [
     | inl w ↦ (p, e, λ gone. let not_right : went_right (stage p) ≡ false = d.none_right w.1 p in let right : went_right (stage p) ≡ true = rw gone refl in cc)
-    | inr w ↦ let m = d.marker w.1 in let r = marked_not_right (stage m.0) m.1 in (m.0, r.0, λ gone. let right : went_right (stage m.0) ≡ true = rw gone refl in let not_right = r.1 in cc)
+    | inr w ↦ let m = d.setter w.1 in let r = set_not_right (stage m.0) m.1 in (m.0, r.0, λ gone. let right : went_right (stage m.0) ≡ true = rw gone refl in let not_right = r.1 in cc)
   ];
   not_all_down = λ p e. (x, d.named p e, λ gone. let down : went_down (stage x) ≡ true = rw gone refl in let stays = d.stays in cc);
 }
@@ -42,9 +42,9 @@ law_of x y stage d = record {
 -- an empty splitter is lawful
 pub lawful_new : (x : ℕ) → DoorIsLawful x 0 (λ p. Outside)
 lawful_new x = record {
-  unmarked = λ _ p. refl;
+  unset = λ _ p. refl;
   none_right = λ _ p. refl;
-  marker = λ h. absurd (h refl);
+  setter = λ h. absurd (h refl);
   named = λ p h. absurd (cc);
   stays = refl;
   alone = λ p h q b. absurd (cc);
@@ -52,70 +52,70 @@ lawful_new x = record {
 }
 
 module _ (x y : ℕ) (stage : ℕ → Stage) (p : ℕ) (d : DoorIsLawful x y stage) where
-  -- the first access: p writes its name
-  wrote_name : stage p ≡ Outside → DoorIsLawful p y (set_at stage p WroteName)
-  wrote_name s = record {
-    unmarked = λ h q. fails_still stage p WroteName has_marked refl q (d.unmarked h q);
-    none_right = λ h q. fails_still stage p WroteName went_right refl q (d.none_right h q);
-    marker = λ h. let m = d.marker h in (m.0, passes_still stage p WroteName has_marked (rw s) m.0 m.1);
-    named = λ q h. rw (set_at-same stage p WroteName);
-    stays = rw (set_at-same stage p WroteName);
-    alone = λ q h r b e. (passed_before stage p WroteName is_between refl r b).0 (sym e);
-    one = λ q r h k. d.one q r (passed_before stage p WroteName has_stopped refl q h).1 (passed_before stage p WroteName has_stopped refl r k).1;
+  -- the first access: p writes X
+  wrote_x : stage p ≡ Outside → DoorIsLawful p y (set_at stage p WroteX)
+  wrote_x s = record {
+    unset = λ h q. fails_still stage p WroteX has_set refl q (d.unset h q);
+    none_right = λ h q. fails_still stage p WroteX went_right refl q (d.none_right h q);
+    setter = λ h. let m = d.setter h in (m.0, passes_still stage p WroteX has_set (rw s) m.0 m.1);
+    named = λ q h. rw (set_at-same stage p WroteX);
+    stays = rw (set_at-same stage p WroteX);
+    alone = λ q h r b e. (passed_before stage p WroteX is_between refl r b).0 (sym e);
+    one = λ q r h k. d.one q r (passed_before stage p WroteX has_stopped refl q h).1 (passed_before stage p WroteX has_stopped refl r k).1;
   }
 
-  -- the second: p sees the mark clear
-  saw_clear : stage p ≡ WroteName → y ≡ 0 → DoorIsLawful x y (set_at stage p SawClear)
+  -- the second: p sees Y clear
+  saw_clear : stage p ≡ WroteX → y ≡ 0 → DoorIsLawful x y (set_at stage p SawClear)
   saw_clear s z = record {
-    unmarked = λ h q. fails_still stage p SawClear has_marked refl q (d.unmarked h q);
+    unset = λ h q. fails_still stage p SawClear has_set refl q (d.unset h q);
     none_right = λ h q. fails_still stage p SawClear went_right refl q (d.none_right h q);
-    marker = λ h. absurd (h z);
+    setter = λ h. absurd (h z);
     named = λ q h. passes_too stage p SawClear has_entered refl x (d.named p (rw s));
     stays = fails_still stage p SawClear went_down refl x d.stays;
     alone = λ q h. absurd (
         let b = (passed_before stage p SawClear has_stopped refl q h).1 in
-        let m : has_marked (stage q) ≡ true = stopped_marked (stage q) b in
-        let n : has_marked (stage q) ≡ false = d.unmarked z q in cc);
+        let m : has_set (stage q) ≡ true = stopped_set (stage q) b in
+        let n : has_set (stage q) ≡ false = d.unset z q in cc);
     one = λ q r h k. d.one q r (passed_before stage p SawClear has_stopped refl q h).1 (passed_before stage p SawClear has_stopped refl r k).1;
   }
 
   -- or it sees it set, and goes right
-  turned_right : stage p ≡ WroteName → y ≢ 0 → DoorIsLawful x y (set_at stage p (Gone Right))
+  turned_right : stage p ≡ WroteX → y ≢ 0 → DoorIsLawful x y (set_at stage p (Gone Right))
   turned_right s n = record {
-    unmarked = λ h. absurd (n h);
+    unset = λ h. absurd (n h);
     none_right = λ h. absurd (n h);
-    marker = λ h. let m = d.marker h in (m.0, passes_still stage p (Gone Right) has_marked (rw s) m.0 m.1);
+    setter = λ h. let m = d.setter h in (m.0, passes_still stage p (Gone Right) has_set (rw s) m.0 m.1);
     named = λ q h. passes_too stage p (Gone Right) has_entered refl x (d.named p (rw s));
     stays = fails_still stage p (Gone Right) went_down refl x d.stays;
     alone = λ q h r b. d.alone q (passed_before stage p (Gone Right) has_stopped refl q h).1 r (passed_before stage p (Gone Right) is_between refl r b).1;
     one = λ q r h k. d.one q r (passed_before stage p (Gone Right) has_stopped refl q h).1 (passed_before stage p (Gone Right) has_stopped refl r k).1;
   }
 
-  -- the third: p writes the mark
-  wrote_mark : stage p ≡ SawClear → DoorIsLawful x 1 (set_at stage p WroteMark)
-  wrote_mark s = record {
-    unmarked = λ h. absurd (omega arith);
+  -- the third: p sets Y
+  wrote_y : stage p ≡ SawClear → DoorIsLawful x 1 (set_at stage p WroteY)
+  wrote_y s = record {
+    unset = λ h. absurd (omega arith);
     none_right = λ h. absurd (omega arith);
-    marker = λ h. (p, rw (set_at-same stage p WroteMark));
-    named = λ q h. passes_too stage p WroteMark has_entered refl x (d.named p (rw s));
-    stays = fails_still stage p WroteMark went_down refl x d.stays;
+    setter = λ h. (p, rw (set_at-same stage p WroteY));
+    named = λ q h. passes_too stage p WroteY has_entered refl x (d.named p (rw s));
+    stays = fails_still stage p WroteY went_down refl x d.stays;
     alone = λ q h r.
-        let before = (passed_before stage p WroteMark has_stopped refl q h).1 in
-        set_at-cases stage p WroteMark (λ v. is_between v ≡ true → x ≢ r) r
+        let before = (passed_before stage p WroteY has_stopped refl q h).1 in
+        set_at-cases stage p WroteY (λ v. is_between v ≡ true → x ≢ r) r
         (λ e _. d.alone q before r (rw (e, s)))
         (λ _ b. d.alone q before r b);
-    one = λ q r h k. d.one q r (passed_before stage p WroteMark has_stopped refl q h).1 (passed_before stage p WroteMark has_stopped refl r k).1;
+    one = λ q r h k. d.one q r (passed_before stage p WroteY has_stopped refl q h).1 (passed_before stage p WroteY has_stopped refl r k).1;
   }
 
-  is_set : stage p ≡ WroteMark → y ≢ 0
-  is_set s h = let m : has_marked (stage p) ≡ true = rw s in let n : has_marked (stage p) ≡ false = d.unmarked h p in cc
+  is_set : stage p ≡ WroteY → y ≢ 0
+  is_set s h = let m : has_set (stage p) ≡ true = rw s in let n : has_set (stage p) ≡ false = d.unset h p in cc
 
-  -- the fourth: p finds its name, and stops
-  stopped : stage p ≡ WroteMark → x ≡ p → DoorIsLawful x y (set_at stage p (Gone Stop))
+  -- the fourth: p finds itself in X, and stops
+  stopped : stage p ≡ WroteY → x ≡ p → DoorIsLawful x y (set_at stage p (Gone Stop))
   stopped s own = record {
-    unmarked = λ h. absurd (is_set s h);
+    unset = λ h. absurd (is_set s h);
     none_right = λ h. absurd (is_set s h);
-    marker = λ h. let m = d.marker h in (m.0, passes_too stage p (Gone Stop) has_marked refl m.0 m.1);
+    setter = λ h. let m = d.setter h in (m.0, passes_too stage p (Gone Stop) has_set refl m.0 m.1);
     named = λ q h. passes_too stage p (Gone Stop) has_entered refl x (d.named p (rw s));
     stays = fails_still stage p (Gone Stop) went_down refl x d.stays;
     alone = λ q h r b e. (passed_before stage p (Gone Stop) is_between refl r b).0 (sym e ∙ own);
@@ -126,11 +126,11 @@ module _ (x y : ℕ) (stage : ℕ → Stage) (p : ℕ) (d : DoorIsLawful x y sta
   }
 
   -- or it finds another, and goes down
-  turned_down : stage p ≡ WroteMark → x ≢ p → DoorIsLawful x y (set_at stage p (Gone Down))
+  turned_down : stage p ≡ WroteY → x ≢ p → DoorIsLawful x y (set_at stage p (Gone Down))
   turned_down s other = record {
-    unmarked = λ h. absurd (is_set s h);
+    unset = λ h. absurd (is_set s h);
     none_right = λ h. absurd (is_set s h);
-    marker = λ h. let m = d.marker h in (m.0, passes_too stage p (Gone Down) has_marked refl m.0 m.1);
+    setter = λ h. let m = d.setter h in (m.0, passes_too stage p (Gone Down) has_set refl m.0 m.1);
     named = λ q h. passes_too stage p (Gone Down) has_entered refl x (d.named p (rw s));
     stays = rw (set_at-other stage p (Gone Down) x other) d.stays;
     alone = λ q h r b. d.alone q (passed_before stage p (Gone Down) has_stopped refl q h).1 r (passed_before stage p (Gone Down) is_between refl r b).1;
@@ -138,9 +138,9 @@ module _ (x y : ℕ) (stage : ℕ → Stage) (p : ℕ) (d : DoorIsLawful x y sta
   }
 
   -- any access of p keeps the law. One that has gone makes none
-  pub kept : (s : Stage) → stage p ≡ s → DoorIsLawful (name_after p s x) (mark_after s y) (set_at stage p (stage_after p s x y))
-  kept Outside s = wrote_name s
-  kept WroteName s = elim (eqb_tells y 0) [ inl w ↦ rw w.0 (saw_clear s w.1) | inr w ↦ rw w.0 (turned_right s w.1) ]
-  kept SawClear s = wrote_mark s
-  kept WroteMark s = elim (eqb_tells x p) [ inl w ↦ rw w.0 (stopped s w.1) | inr w ↦ rw w.0 (turned_down s w.1) ]
+  pub kept : (s : Stage) → stage p ≡ s → DoorIsLawful (x_after p s x) (y_after s y) (set_at stage p (stage_after p s x y))
+  kept Outside s = wrote_x s
+  kept WroteX s = elim (eqb_tells y 0) [ inl w ↦ rw w.0 (saw_clear s w.1) | inr w ↦ rw w.0 (turned_right s w.1) ]
+  kept SawClear s = wrote_y s
+  kept WroteY s = elim (eqb_tells x p) [ inl w ↦ rw w.0 (stopped s w.1) | inr w ↦ rw w.0 (turned_down s w.1) ]
   kept (Gone way) s = subst (λ (f : ℕ → Stage). DoorIsLawful x y f) (sym (set_at-as_is stage p (Gone way) (sym s))) d

@@ -18,9 +18,9 @@ use Rattle.step_memory.proofs.DueLemmas.{world_counted, ends_once, outcomes_tell
 use Rattle.splitter.specs.declared.way.Way.{Way}
 use Rattle.splitter.specs.declared.way.Way.TheVariants.{Stop, Right, Down}
 use Rattle.splitter.specs.declared.stage.Stage.{Stage}
-use Rattle.splitter.specs.declared.stage.Stage.TheVariants.{Outside, WroteName, SawClear, WroteMark, Gone}
+use Rattle.splitter.specs.declared.stage.Stage.TheVariants.{Outside, WroteX, SawClear, WroteY, Gone}
 use Rattle.splitter.specs.declared.visitor.Visitor.{Visitor}
-use Rattle.splitter.specs.Stage.{has_entered, is_gone, name_after, mark_after, stage_after}
+use Rattle.splitter.specs.Stage.{has_entered, is_gone, x_after, y_after, stage_after}
 use Rattle.splitter.specs.Visitor.{visitor_steps, access_of, stage_by, note_at, note_after, word_of, IsAccessOf}
 use Rattle.splitter.specs.Door.{DoorIsLawful, IsSplitter}
 use Rattle.splitter.specs.Law.{IsSplit, HasEntered, WentBy, KeepsSplitterLaw}
@@ -39,17 +39,17 @@ stages ps p = stage_in (program_of p ps)
 
 way_at : Stage → Option Way
 way_at Outside = None
-way_at WroteName = None
+way_at WroteX = None
 way_at SawClear = None
-way_at WroteMark = None
+way_at WroteY = None
 way_at (Gone way) = Some way
 
 -- the accesses that a visit has made
 accesses : Stage → ℕ
 accesses Outside = 0
-accesses WroteName = 1
+accesses WroteX = 1
 accesses SawClear = 2
-accesses WroteMark = 3
+accesses WroteY = 3
 accesses (Gone Stop) = 4
 accesses (Gone Right) = 2
 accesses (Gone Down) = 4
@@ -58,8 +58,8 @@ accesses (Gone Down) = 4
 record IsVisitOf (p : ℕ) (v : Participant (Visitor ℕ)) : Type 0 where
   own : v.identity ≡ p
   identity : v.program.identity ≡ p
-  name : v.program.name ≡ 0
-  mark : v.program.mark ≡ 1
+  x : v.program.x ≡ 0
+  y : v.program.y ≡ 1
   ended : v.ended ≡ is_gone v.program.stage
 
 pub record IsTied (w : SplitterState) (r : List (Call (Option Way))) : Type 0 where
@@ -91,7 +91,7 @@ begun_kept w r id in_ t =
     record {
       registers = t.registers;
       visits = λ p v h. set_at-cases (λ z. participant_of z w.participants) id (Some (beginner id (visit_of id))) (λ o. o ≡ Some v → IsVisitOf p v) p
-          (λ e k. let is : beginner id (visit_of id) ≡ v = cc in subst (λ (u : Participant (Visitor ℕ)). IsVisitOf p u) is (record { own = sym e; identity = sym e; name = refl; mark = refl; ended = refl }))
+          (λ e k. let is : beginner id (visit_of id) ≡ v = cc in subst (λ (u : Participant (Visitor ℕ)). IsVisitOf p u) is (record { own = sym e; identity = sym e; x = refl; y = refl; ended = refl }))
           (λ _ k. t.visits p v k)
           (sym (push p) ∙ h);
       door = rw same t.door;
@@ -104,32 +104,32 @@ begun_kept w r id in_ t =
 one_more : (p : ℕ) (s : Stage) (x y : ℕ) → is_gone s ≡ false → accesses (stage_after p s x y) ≡ accesses s + 1
 unfolding accesses
 one_more p Outside x y h = refl
-one_more p WroteName x y h = elim (y == 0) as (λ t. accesses (cond t SawClear (Gone Right)) ≡ 2) [ true ↦ refl | false ↦ refl ]
+one_more p WroteX x y h = elim (y == 0) as (λ t. accesses (cond t SawClear (Gone Right)) ≡ 2) [ true ↦ refl | false ↦ refl ]
 one_more p SawClear x y h = refl
-one_more p WroteMark x y h = elim (x == p) as (λ t. accesses (cond t (Gone Stop) (Gone Down)) ≡ 4) [ true ↦ refl | false ↦ refl ]
+one_more p WroteY x y h = elim (x == p) as (λ t. accesses (cond t (Gone Stop) (Gone Down)) ≡ 4) [ true ↦ refl | false ↦ refl ]
 one_more p (Gone way) x y h = absurd (cc)
 
 way_told : (s : Stage) → outcome_in (note_at s) ≡ way_at s
 unfolding way_at
 way_told Outside = refl
-way_told WroteName = refl
+way_told WroteX = refl
 way_told SawClear = refl
-way_told WroteMark = refl
+way_told WroteY = refl
 way_told (Gone way) = refl
 
 end_told : (s : Stage) → ends (note_at s) ≡ is_gone s
 end_told Outside = refl
-end_told WroteName = refl
+end_told WroteX = refl
 end_told SawClear = refl
-end_told WroteMark = refl
+end_told WroteY = refl
 end_told (Gone way) = refl
 
 no_way_yet : (s : Stage) → is_gone s ≡ false → way_at s ≡ None
 unfolding way_at
 no_way_yet Outside h = refl
-no_way_yet WroteName h = refl
+no_way_yet WroteX h = refl
 no_way_yet SawClear h = refl
-no_way_yet WroteMark h = refl
+no_way_yet WroteY h = refl
 no_way_yet (Gone way) h = absurd (cc)
 
 -- a step that is accepted
@@ -140,8 +140,8 @@ going_kept w r id v here goes t =
     let visit = t.visits id v here in
     let new : Participant (Visitor ℕ) = moved visitor_steps memory_steps outcome_in visit_of w.memory v in
     let m' = after_access w.memory (access_of v.program) in
-    let access : IsAccessOf w.memory v.program = is_access_of w.memory v.program (λ e. absurd (let n = visit.name in let k = visit.mark in omega arith)) (rw (visit.name, t.registers) (omega arith)) (rw (visit.mark, t.registers) (omega arith)) in
-    let reached : stage_by v.program (answer_of w.memory (access_of v.program)) ≡ stage_after id v.program.stage (word_of w.memory 0) (word_of w.memory 1) = access.stage ∙ rw (visit.identity, visit.name, visit.mark) refl in
+    let access : IsAccessOf w.memory v.program = is_access_of w.memory v.program (λ e. absurd (let n = visit.x in let k = visit.y in omega arith)) (rw (visit.x, t.registers) (omega arith)) (rw (visit.y, t.registers) (omega arith)) in
+    let reached : stage_by v.program (answer_of w.memory (access_of v.program)) ≡ stage_after id v.program.stage (word_of w.memory 0) (word_of w.memory 1) = access.stage ∙ rw (visit.identity, visit.x, visit.y) refl in
     let on : is_gone v.program.stage ≡ false = sym visit.ended ∙ goes in
     let stage_is : stages w.participants id ≡ v.program.stage = rw here refl in
     let there : is_some (participant_of v.identity w.participants) ≡ true = rw (visit.own, here) refl in
@@ -150,10 +150,10 @@ going_kept w r id v here goes t =
     let all : stages (with_participant new w.participants) ≡ set_at (stages w.participants) id after =
     fun_ext (λ q. ap (λ o. stage_in (option_map (λ u. u.program) o)) (put q)
     ∙ elim (eqb_tells q id) [ inl e ↦ rw (e.0) reached | inr e ↦ rw (e.0) refl ]) in
-    let at_name : word_of m' 0 ≡ name_after id v.program.stage (word_of w.memory 0) =
-    ap (word_of m') (sym visit.name) ∙ access.name ∙ ap (λ i. name_after i v.program.stage (word_of w.memory v.program.name)) visit.identity ∙ ap (λ x. name_after id v.program.stage (word_of w.memory x)) visit.name in
-    let at_mark : word_of m' 1 ≡ mark_after v.program.stage (word_of w.memory 1) =
-    ap (word_of m') (sym visit.mark) ∙ access.mark ∙ ap (λ x. mark_after v.program.stage (word_of w.memory x)) visit.mark in
+    let at_x : word_of m' 0 ≡ x_after id v.program.stage (word_of w.memory 0) =
+    ap (word_of m') (sym visit.x) ∙ access.x ∙ ap (λ i. x_after i v.program.stage (word_of w.memory v.program.x)) visit.identity ∙ ap (λ x. x_after id v.program.stage (word_of w.memory x)) visit.x in
+    let at_y : word_of m' 1 ≡ y_after v.program.stage (word_of w.memory 1) =
+    ap (word_of m') (sym visit.y) ∙ access.y ∙ ap (λ x. y_after v.program.stage (word_of w.memory x)) visit.y in
     let call : Call (Option Way) = Stepped id (Ok (outcome_in (note_after v.program (answer_of w.memory (access_of v.program))))) in
     let itself : (id == id) ≡ true = (Decides-eqb id id).1 refl in
     let now : stages (with_participant new w.participants) id ≡ after = ap (λ (f : ℕ → Stage). f id) all ∙ set_at-same (stages w.participants) id after in
@@ -172,10 +172,10 @@ going_kept w r id v here goes t =
     record {
       registers = access.registers ∙ t.registers;
       visits = λ p u h. set_at-cases (λ z. participant_of z w.participants) id (Some new) (λ o. o ≡ Some u → IsVisitOf p u) p
-          (λ e k. let is : new ≡ u = cc in subst (λ (x : Participant (Visitor ℕ)). IsVisitOf p x) is (record { own = visit.own ∙ sym e; identity = visit.identity ∙ sym e; name = visit.name; mark = visit.mark; ended = end_told new.program.stage }))
+          (λ e k. let is : new ≡ u = cc in subst (λ (x : Participant (Visitor ℕ)). IsVisitOf p x) is (record { own = visit.own ∙ sym e; identity = visit.identity ∙ sym e; x = visit.x; y = visit.y; ended = end_told new.program.stage }))
           (λ _ k. t.visits p u k)
           (sym (put p) ∙ h);
-      door = rw (all, at_name, at_mark) (kept (word_of w.memory 0) (word_of w.memory 1) (stages w.participants) id t.door v.program.stage stage_is);
+      door = rw (all, at_x, at_y) (kept (word_of w.memory 0) (word_of w.memory 1) (stages w.participants) id t.door v.program.stage stage_is);
       ways = λ p. elim (eqb_tells id p) [
         | inl e ↦ subst (λ (x : ℕ). outcome_of x (r ++ call ∷ []) ≡ way_at (stages (with_participant new w.participants) x)) e.1 own_way
         | inr e ↦ outcome_of-push p r call ∙ rw e.0 (first_of-none (outcome_of p r)) ∙ t.ways p ∙ ap way_at (sym (others p e.1))
@@ -213,17 +213,17 @@ tied_new most = record {
 entered_by : (s : Stage) → 0 < accesses s → has_entered s ≡ true
 unfolding accesses
 entered_by Outside h = absurd (omega arith)
-entered_by WroteName h = refl
+entered_by WroteX h = refl
 entered_by SawClear h = refl
-entered_by WroteMark h = refl
+entered_by WroteY h = refl
 entered_by (Gone way) h = refl
 
 some_access : (s : Stage) → has_entered s ≡ true → 0 < accesses s
 unfolding accesses
 some_access Outside h = absurd (cc)
-some_access WroteName h = omega arith
+some_access WroteX h = omega arith
 some_access SawClear h = omega arith
-some_access WroteMark h = omega arith
+some_access WroteY h = omega arith
 some_access (Gone Stop) h = omega arith
 some_access (Gone Right) h = omega arith
 some_access (Gone Down) h = omega arith
@@ -231,9 +231,9 @@ some_access (Gone Down) h = omega arith
 few_accesses : (s : Stage) → accesses s ≤ 4
 unfolding accesses
 few_accesses Outside = omega arith
-few_accesses WroteName = omega arith
+few_accesses WroteX = omega arith
 few_accesses SawClear = omega arith
-few_accesses WroteMark = omega arith
+few_accesses WroteY = omega arith
 few_accesses (Gone Stop) = omega arith
 few_accesses (Gone Right) = omega arith
 few_accesses (Gone Down) = omega arith
@@ -241,17 +241,17 @@ few_accesses (Gone Down) = omega arith
 fourth_ends : (s : Stage) → accesses s ≡ 4 → IsSome (way_at s)
 unfolding accesses way_at
 fourth_ends Outside h = absurd (omega arith)
-fourth_ends WroteName h = absurd (omega arith)
+fourth_ends WroteX h = absurd (omega arith)
 fourth_ends SawClear h = absurd (omega arith)
-fourth_ends WroteMark h = absurd (omega arith)
+fourth_ends WroteY h = absurd (omega arith)
 fourth_ends (Gone way) h = refl
 
 gone_by : (s : Stage) (way : Way) → way_at s ≡ Some way → s ≡ Gone way
 unfolding way_at
 gone_by Outside way h = absurd (cc)
-gone_by WroteName way h = absurd (cc)
+gone_by WroteX way h = absurd (cc)
 gone_by SawClear way h = absurd (cc)
-gone_by WroteMark way h = absurd (cc)
+gone_by WroteY way h = absurd (cc)
 gone_by (Gone taken) way h = cc
 
 -- what each took, from the calls to the visits

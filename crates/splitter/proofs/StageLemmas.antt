@@ -2,23 +2,23 @@
 use Rattle.std.proofs.Common.{◌≡◌, true, refl}
 use Rattle.splitter.specs.declared.way.Way.TheVariants.{Stop, Right, Down}
 use Rattle.splitter.specs.declared.stage.Stage.{Stage}
-use Rattle.splitter.specs.declared.stage.Stage.TheVariants.{Outside, WroteName, SawClear, WroteMark, Gone}
+use Rattle.splitter.specs.declared.stage.Stage.TheVariants.{Outside, WroteX, SawClear, WroteY, Gone}
 use Rattle.splitter.specs.Stage.{went_right, went_down}
 
 pub gone_right : (s : Stage) → went_right s ≡ true → s ≡ Gone Right
 gone_right Outside h = absurd (cc)
-gone_right WroteName h = absurd (cc)
+gone_right WroteX h = absurd (cc)
 gone_right SawClear h = absurd (cc)
-gone_right WroteMark h = absurd (cc)
+gone_right WroteY h = absurd (cc)
 gone_right (Gone Stop) h = absurd (cc)
 gone_right (Gone Right) h = refl
 gone_right (Gone Down) h = absurd (cc)
 
 pub gone_down : (s : Stage) → went_down s ≡ true → s ≡ Gone Down
 gone_down Outside h = absurd (cc)
-gone_down WroteName h = absurd (cc)
+gone_down WroteX h = absurd (cc)
 gone_down SawClear h = absurd (cc)
-gone_down WroteMark h = absurd (cc)
+gone_down WroteY h = absurd (cc)
 gone_down (Gone Stop) h = absurd (cc)
 gone_down (Gone Right) h = absurd (cc)
 gone_down (Gone Down) h = refl

@@ -2,16 +2,16 @@
 use Rattle.std.specs.Prelude.{◌≡◌, ◌≢◌, ℕ, true, false}
 use Rattle.splitter.specs.declared.stage.Stage.{Stage}
 use Rattle.splitter.specs.declared.stage.Stage.TheVariants.{Gone}
-use Rattle.splitter.specs.Stage.{has_entered, has_marked, is_between, has_stopped, went_right, went_down}
+use Rattle.splitter.specs.Stage.{has_entered, has_set, is_between, has_stopped, went_right, went_down}
 use Rattle.splitter.specs.Law.{IsSplit}
 
 -- what stands in X, what stands in Y and the visits agree
 pub record DoorIsLawful (x y : ℕ) (stage : ℕ → Stage) : Type 0 where
-  -- while the mark is clear no one has set it and no one has gone right
-  pub unmarked : y ≡ 0 → (p : ℕ) → has_marked (stage p) ≡ false
+  -- while Y is clear no one has set it and no one has gone right
+  pub unset : y ≡ 0 → (p : ℕ) → has_set (stage p) ≡ false
   pub none_right : y ≡ 0 → (p : ℕ) → went_right (stage p) ≡ false
   -- where it is set, someone set it
-  pub marker : y ≢ 0 → (p : ℕ) × (has_marked (stage p) ≡ true)
+  pub setter : y ≢ 0 → (p : ℕ) × (has_set (stage p) ≡ true)
   -- once anyone has entered, X names one who has entered and has not gone down
   pub named : (p : ℕ) → has_entered (stage p) ≡ true → has_entered (stage x) ≡ true
   pub stays : went_down (stage x) ≡ false

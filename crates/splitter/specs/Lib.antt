@@ -3,3 +3,4 @@ pub mod Stage
 pub mod Door
 pub mod Visitor
 pub mod SplitterWorld
+pub mod Laws

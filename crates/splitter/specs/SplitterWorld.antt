@@ -16,7 +16,7 @@ use Rattle.splitter.specs.Visitor.{visitor_at, visitor_steps}
 abbrev pub SplitterState : Type 0
 SplitterState = WorldState (Registers ℕ) (Visitor ℕ)
 
--- X is register 0 and Y register 1: no name stands there, and the mark is clear
+-- X is register 0 and Y register 1: X holds 0, and Y is clear
 abbrev pub empty_door : Registers ℕ
 empty_door = record { first = 0; values = replicate 2 0; bits = replicate 0 false }
 

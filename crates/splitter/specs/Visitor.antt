@@ -11,24 +11,24 @@ use Rattle.step_memory.specs.RegisterState.{Registers}
 use Rattle.step_memory.specs.Registers.{register_of, answer_of, after_access}
 use Rattle.splitter.specs.declared.way.Way.{Way}
 use Rattle.splitter.specs.declared.stage.Stage.{Stage}
-use Rattle.splitter.specs.declared.stage.Stage.TheVariants.{Outside, WroteName, SawClear, WroteMark, Gone}
+use Rattle.splitter.specs.declared.stage.Stage.TheVariants.{Outside, WroteX, SawClear, WroteY, Gone}
 use Rattle.splitter.specs.declared.visitor.Visitor.{Visitor}
-use Rattle.splitter.specs.Stage.{name_after, mark_after, stage_after}
+use Rattle.splitter.specs.Stage.{x_after, y_after, stage_after}
 
 -- a visit that has not begun
 abbrev pub visitor_at : {R : Type 0} → ℕ → R → R → Visitor R
-visitor_at id name mark = record { identity = id; name = name; mark = mark; stage = Outside }
+visitor_at id x y = record { identity = id; x = x; y = y; stage = Outside }
 
 abbrev pub access_at : {R : Type 0} → ℕ → R → R → Stage → Access R ℕ
-access_at p name mark Outside = Write name p
-access_at p name mark WroteName = Read mark
-access_at p name mark SawClear = Write mark 1
-access_at p name mark WroteMark = Read name
-access_at p name mark (Gone way) = Nothing
+access_at p x y Outside = Write x p
+access_at p x y WroteX = Read y
+access_at p x y SawClear = Write y 1
+access_at p x y WroteY = Read x
+access_at p x y (Gone way) = Nothing
 
 -- the access of the next step
 abbrev pub access_of : {R : Type 0} → Visitor R → Access R ℕ
-access_of v = access_at v.identity v.name v.mark v.stage
+access_of v = access_at v.identity v.x v.y v.stage
 
 -- the value in an answer
 abbrev pub value_in : Answer ℕ → ℕ
@@ -45,9 +45,9 @@ visitor_after v got = record v { stage = stage_by v got }
 
 abbrev pub note_at : Stage → Note Way
 note_at Outside = Quiet
-note_at WroteName = Quiet
+note_at WroteX = Quiet
 note_at SawClear = Quiet
-note_at WroteMark = Quiet
+note_at WroteY = Quiet
 note_at (Gone way) = Ended way
 
 abbrev pub note_after : {R : Type 0} → Visitor R → Answer ℕ → Note Way
@@ -63,8 +63,8 @@ word_of m r = (register_of m r).0
 -- the next access of a visit to registers in a row does to X, to Y and to the visit what is said of them, and leaves
 -- every other register
 pub record IsAccessOf (m : Registers ℕ) (v : Visitor ℕ) : Type 0 where
-  pub stage : stage_by v (answer_of m (access_of v)) ≡ stage_after v.identity v.stage (word_of m v.name) (word_of m v.mark)
-  pub name : word_of (after_access m (access_of v)) v.name ≡ name_after v.identity v.stage (word_of m v.name)
-  pub mark : word_of (after_access m (access_of v)) v.mark ≡ mark_after v.stage (word_of m v.mark)
-  pub others : (r : ℕ) → r ≢ v.name → r ≢ v.mark → word_of (after_access m (access_of v)) r ≡ word_of m r
+  pub stage : stage_by v (answer_of m (access_of v)) ≡ stage_after v.identity v.stage (word_of m v.x) (word_of m v.y)
+  pub x : word_of (after_access m (access_of v)) v.x ≡ x_after v.identity v.stage (word_of m v.x)
+  pub y : word_of (after_access m (access_of v)) v.y ≡ y_after v.stage (word_of m v.y)
+  pub others : (r : ℕ) → r ≢ v.x → r ≢ v.y → word_of (after_access m (access_of v)) r ≡ word_of m r
   pub registers : length (after_access m (access_of v)).values ≡ length m.values

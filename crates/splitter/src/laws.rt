@@ -1,26 +1,24 @@
 //! Laws of the splitter, which run nothing: of one splitter, whoever uses it, and of the calls of its world.
 
-ghost use Rattle.std.specs.Prelude.{◌≡◌, ◌≢◌, ℕ, ◌<◌, true, length, List, [], ◌∷◌, ◌++◌, Option};
+ghost use Rattle.std.specs.Prelude.{◌≡◌, ◌≢◌, ℕ, ◌<◌, true, length, List, [], ◌++◌, Option};
+ghost use Rattle.splitter.specs.Laws.{KeepsDoorLaw, BeginLeadsOn, StepLeadsOn};
 ghost use Rattle.splitter.specs.declared.stage.Stage.{Stage};
 ghost use Rattle.splitter.specs.declared.visitor.Visitor.{Visitor};
 ghost use Rattle.splitter.specs.declared.way.Way.{Way};
 ghost use Rattle.splitter.specs.Door.{DoorIsLawful, IsSplitter};
 ghost use Rattle.splitter.specs.Law.{KeepsSplitterLaw};
-ghost use Rattle.splitter.specs.SplitterWorld.{After, RefusesWhereDue, SplitterState, fresh, visit_of, step_reply, world_after_step};
-ghost use Rattle.splitter.specs.Stage.{name_after, mark_after, stage_after, went_down, went_right};
+ghost use Rattle.splitter.specs.SplitterWorld.{After, RefusesWhereDue, SplitterState, fresh};
+ghost use Rattle.splitter.specs.Stage.{went_down, went_right};
 ghost use Rattle.splitter.specs.Visitor.{IsAccessOf, access_of};
 ghost use Rattle.step_memory.specs.Calls.{Call};
-ghost use Rattle.step_memory.specs.Calls.Call.{Began, Stepped};
 ghost use Rattle.step_memory.specs.RegisterState.{Registers};
-ghost use Rattle.step_memory.specs.SetAt.{set_at};
 ghost use Rattle.step_memory.specs.Steps.{ReadsOrWrites};
-ghost use Rattle.step_memory.specs.World.{after_begin, begin_refusal, done_unless};
 
 /// A law, which runs nothing: a splitter that no one has entered is lawful, each access of a visit keeps it so, and a
 /// lawful one keeps the law of the splitter. Structures of many splitters stand on this.
 pub fn law_of_one_door()
     ensures fresh { (x : ℕ) → DoorIsLawful x 0 (λ p. Stage.Outside) }
-    ensures kept { (x y : ℕ) (stage : ℕ → Stage) (p : ℕ) → DoorIsLawful x y stage → DoorIsLawful (name_after p (stage p) x) (mark_after (stage p) y) (set_at stage p (stage_after p (stage p) x y)) }
+    ensures kept { KeepsDoorLaw }
     ensures law { (x y : ℕ) (stage : ℕ → Stage) → DoorIsLawful x y stage → IsSplitter stage }
 {}
 
@@ -34,7 +32,7 @@ pub fn law_of_ways()
 /// visit's two registers stand in a row of registers.
 pub fn law_of_one_access()
     ensures own { (v : Visitor ℕ) → ReadsOrWrites (access_of v) }
-    ensures access { (m : Registers ℕ) (v : Visitor ℕ) → v.name ≢ v.mark → v.name < length m.values → v.mark < length m.values → IsAccessOf m v }
+    ensures access { (m : Registers ℕ) (v : Visitor ℕ) → v.x ≢ v.y → v.x < length m.values → v.y < length m.values → IsAccessOf m v }
 {}
 
 /// A law, which runs nothing: a splitter that no one has entered is after no call, each call takes a world after some
@@ -42,8 +40,8 @@ pub fn law_of_one_access()
 /// splitter. Each is refused exactly where those before it make it due.
 pub fn law_of_splitter_calls()
     ensures fresh { (most : ℕ) → After (fresh most) [] }
-    ensures begun { (w : SplitterState) (r : List (Call (Option Way))) (id : ℕ) → After w r → After (after_begin w id (visit_of id)) (r ++ Began id (done_unless (begin_refusal w id)) ∷ []) }
-    ensures stepped { (w : SplitterState) (r : List (Call (Option Way))) (id : ℕ) → After w r → After (world_after_step w id) (r ++ Stepped id (step_reply w id) ∷ []) }
+    ensures begun { BeginLeadsOn }
+    ensures stepped { StepLeadsOn }
     ensures law { (w : SplitterState) (r : List (Call (Option Way))) → After w r → KeepsSplitterLaw r }
     ensures front { (w : SplitterState) (r t : List (Call (Option Way))) → After w (r ++ t) → KeepsSplitterLaw r }
     ensures due { (w : SplitterState) → RefusesWhereDue w }

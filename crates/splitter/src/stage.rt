@@ -8,11 +8,11 @@ pub enum Stage {
     /// No access was made.
     Outside,
     /// Its identity is written into X.
-    WroteName,
+    WroteX,
     /// It read Y as clear.
     SawClear,
     /// It has set Y.
-    WroteMark,
+    WroteY,
     /// The visit has ended.
     Gone(Way),
 }

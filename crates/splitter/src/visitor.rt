@@ -10,8 +10,8 @@ use step_memory::{Access, Answer, Note, StepProgram};
 /// What stands in Y once it is set; 0 stands there before.
 const SET: u64 = 1;
 
-/// A visit of one identity, which is not 0, to the splitter whose X is the register `name` and whose Y the register
-/// `mark`. X holds an identity and 0 at first, Y holds 0 while it is clear.
+/// A visit of one identity, which is not 0, to the splitter whose X is the register `x` and whose Y the register
+/// `y`. X holds an identity and 0 at first, Y holds 0 while it is clear.
 ///
 /// 1. Write the identity into X.
 /// 2. Read Y. Where it is set the visit ends to the right.
@@ -20,20 +20,20 @@ const SET: u64 = 1;
 #[derive(Clone, Copy, Debug, Drop, PartialEq, Eq)]
 pub struct Visitor<R> {
     pub identity: u64,
-    pub name: R,
-    pub mark: R,
+    pub x: R,
+    pub y: R,
     pub stage: Stage,
 }
 
 impl<R: Copy> Visitor<R> {
     /// A visit that has not begun.
-    pub fn new(identity: u64, name: R, mark: R) -> Visitor<R>
-        ensures { result ≡ visitor_at identity name mark }
+    pub fn new(identity: u64, x: R, y: R) -> Visitor<R>
+        ensures { result ≡ visitor_at identity x y }
     {
         Visitor {
             identity,
-            name,
-            mark,
+            x,
+            y,
             stage: Stage::Outside,
         }
     }
@@ -52,10 +52,10 @@ impl<R: Copy> StepProgram for Visitor<R> {
         ensures { result ≡ access_of self.now }
     {
         match self.stage {
-            Stage::Outside => Access::Write(self.name, self.identity),
-            Stage::WroteName => Access::Read(self.mark),
-            Stage::SawClear => Access::Write(self.mark, SET),
-            Stage::WroteMark => Access::Read(self.name),
+            Stage::Outside => Access::Write(self.x, self.identity),
+            Stage::WroteX => Access::Read(self.y),
+            Stage::SawClear => Access::Write(self.y, SET),
+            Stage::WroteY => Access::Read(self.x),
             Stage::Gone(_) => Access::Nothing,
         }
     }
@@ -69,16 +69,16 @@ impl<R: Copy> StepProgram for Visitor<R> {
             _ => 0,
         };
         self.stage = match self.stage {
-            Stage::Outside => Stage::WroteName,
-            Stage::WroteName => {
+            Stage::Outside => Stage::WroteX,
+            Stage::WroteX => {
                 if found == 0 {
                     Stage::SawClear
                 } else {
                     Stage::Gone(Way::Right)
                 }
             }
-            Stage::SawClear => Stage::WroteMark,
-            Stage::WroteMark => {
+            Stage::SawClear => Stage::WroteY,
+            Stage::WroteY => {
                 if found == self.identity {
                     Stage::Gone(Way::Stop)
                 } else {

@@ -5,8 +5,8 @@
 pub enum Way {
     /// The visitor stops: at most one does.
     Stop,
-    /// It found the mark set. Not all who enter go right.
+    /// It found Y set. Not all who enter go right.
     Right,
-    /// It found another's name. Not all who enter go down.
+    /// It found another in X. Not all who enter go down.
     Down,
 }

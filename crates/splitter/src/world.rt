@@ -1,12 +1,13 @@
 //! A world whose participants visit one splitter.
 
 ghost use Rattle.std.specs.Prelude.{◌≡◌, ◌≢◌, ℕ, ◌∷◌, [], ◌++◌, List, IfOk, IfErr, IsOk, OnErr, Err, ◌≤◌, ◌<◌, ◌⊎◌, ◌↔◌, Option};
+ghost use Rattle.splitter.specs.Laws.{StaysAlike};
 ghost use Rattle.splitter.specs.declared.way.Way.{Way};
 ghost use Rattle.splitter.specs.SplitterWorld.{After, IsLawful, LeadsOn, RefusesWhereDue, SplitterState, fresh, visit_of, step_reply, world_after_step};
 ghost use Rattle.splitter.specs.Visitor.{visitor_steps};
 ghost use Rattle.step_memory.specs.Calls.{Call};
 ghost use Rattle.step_memory.specs.Calls.Call.{Began, Stepped};
-ghost use Rattle.step_memory.specs.Locality.{IsLocal, LookAlike, StandAlike};
+ghost use Rattle.step_memory.specs.Locality.{IsLocal, LookAlike};
 ghost use Rattle.step_memory.specs.Registers.{memory_steps};
 ghost use Rattle.step_memory.specs.World.{after_begin, begin_refusal, done_unless};
 
@@ -82,7 +83,7 @@ impl<A: Allocator + Clone> SplitterWorld<A> {
         // alike to this visit the answer is the same, and where the visit then stands.
         ensures local { IsLocal visitor_steps memory_steps id self.old self.new }
         ensures alike { (other : SplitterState) → LookAlike visitor_steps memory_steps id self.old other → result ≡ step_reply other id }
-        ensures stands_alike { (other : SplitterState) → LookAlike visitor_steps memory_steps id self.old other → StandAlike id self.new (world_after_step other id) }
+        ensures stands_alike { StaysAlike self.old self.new id }
 
         // The law, over every list of calls and replies that the world may be after.
         ensures after { LeadsOn self.old self.new (Stepped id result) }
@@ -133,15 +134,11 @@ mod tests {
         }
         assert_eq!(rt; world.step(10), Ok(Some(Way::Down)));
         assert_eq!(rt; world.step(20), Ok(Some(Way::Stop)));
-        Ok(())
-    }
-
-    #[test]
-    fn laws_are_called() {
         law_of_one_door();
         law_of_one_access();
         law_of_ways();
         law_of_splitter_calls();
+        Ok(())
     }
 
     #[test]

@@ -5,8 +5,8 @@ use Rattle.step_memory.specs.SetAt.{set_at}
 use Rattle.step_memory.proofs.SetAtLemmas.{set_at-same, set_at-other, set_at-cases}
 use Rattle.splitter.specs.declared.way.Way.TheVariants.{Stop, Right, Down}
 use Rattle.splitter.specs.declared.stage.Stage.{Stage}
-use Rattle.splitter.specs.declared.stage.Stage.TheVariants.{Outside, WroteName, SawClear, WroteMark, Gone}
-use Rattle.splitter.specs.Stage.{has_entered, went_right, went_down, name_after, mark_after, stage_after}
+use Rattle.splitter.specs.declared.stage.Stage.TheVariants.{Outside, WroteX, SawClear, WroteY, Gone}
+use Rattle.splitter.specs.Stage.{has_entered, went_right, went_down, x_after, y_after, stage_after}
 use Rattle.splitter.specs.Door.{DoorIsLawful}
 use Rattle.splitter.proofs.DoorKept.{kept, lawful_new}
 use Rattle.splitter_grid.specs.declared.walker.Walker.{Walker}
@@ -53,36 +53,36 @@ visit_person stage k p s j q n = set_at-cases stage k (set_at (stage k) p s) (λ
 
 entered_after : (p : ℕ) (s : Stage) (x y : ℕ) → has_entered (stage_after p s x y) ≡ true
 entered_after p Outside x y = refl
-entered_after p WroteName x y = elim (y == 0) as (λ b. has_entered (cond b SawClear (Gone Right)) ≡ true) [ true ↦ refl | false ↦ refl ]
+entered_after p WroteX x y = elim (y == 0) as (λ b. has_entered (cond b SawClear (Gone Right)) ≡ true) [ true ↦ refl | false ↦ refl ]
 entered_after p SawClear x y = refl
-entered_after p WroteMark x y = elim (x == p) as (λ b. has_entered (cond b (Gone Stop) (Gone Down)) ≡ true) [ true ↦ refl | false ↦ refl ]
+entered_after p WroteY x y = elim (x == p) as (λ b. has_entered (cond b (Gone Stop) (Gone Down)) ≡ true) [ true ↦ refl | false ↦ refl ]
 entered_after p (Gone way) x y = refl
 
-pub name_own : (p : ℕ) (s : Stage) (x : ℕ) → (name_after p s x ≡ p) ⊎ (name_after p s x ≡ x)
-name_own p Outside x = inl refl
-name_own p WroteName x = inr refl
-name_own p SawClear x = inr refl
-name_own p WroteMark x = inr refl
-name_own p (Gone way) x = inr refl
+pub x_own : (p : ℕ) (s : Stage) (x : ℕ) → (x_after p s x ≡ p) ⊎ (x_after p s x ≡ x)
+x_own p Outside x = inl refl
+x_own p WroteX x = inr refl
+x_own p SawClear x = inr refl
+x_own p WroteY x = inr refl
+x_own p (Gone way) x = inr refl
 
-module _ (b : ℕ) (name mark : ℕ → ℕ) (walker : ℕ → Option Walker) (g : DoorsAgree b b name mark walker) (p : ℕ) (v : Walker) (is : walker p ≡ Some v) where
+module _ (b : ℕ) (x_of y_of : ℕ → ℕ) (walker : ℕ → Option Walker) (g : DoorsAgree b b x_of y_of walker) (p : ℕ) (v : Walker) (is : walker p ≡ Some v) where
   abbrev at : ℕ
   at = number_of v.door
 
   abbrev after : Stage
-  after = stage_after p v.visitor.stage (name at) (mark at)
+  after = stage_after p v.visitor.stage (x_of at) (y_of at)
 
   abbrev stage' : ℕ → ℕ → Stage
   stage' = visited g.stage at p after
 
   -- the doors after the step
-  doors_after : (j : ℕ) → DoorIsLawful (set_at name at (name_after p v.visitor.stage (name at)) j) (set_at mark at (mark_after v.visitor.stage (mark at)) j) (stage' j)
+  doors_after : (j : ℕ) → DoorIsLawful (set_at x_of at (x_after p v.visitor.stage (x_of at)) j) (set_at y_of at (y_after v.visitor.stage (y_of at)) j) (stage' j)
   unfolding visited
   doors_after j = elim (eqb_tells j at) [
-    | inl e ↦ subst (λ (i : ℕ). DoorIsLawful (set_at name at (name_after p v.visitor.stage (name at)) i) (set_at mark at (mark_after v.visitor.stage (mark at)) i) (set_at g.stage at (set_at (g.stage at) p after) i)) (sym e.1)
-        (rw (set_at-same name at (name_after p v.visitor.stage (name at)), set_at-same mark at (mark_after v.visitor.stage (mark at)), set_at-same g.stage at (set_at (g.stage at) p after))
-        (kept (name at) (mark at) (g.stage at) p (g.doors at) v.visitor.stage (g.walks p v is).here))
-    | inr e ↦ rw (set_at-other name at (name_after p v.visitor.stage (name at)) j e.1, set_at-other mark at (mark_after v.visitor.stage (mark at)) j e.1, set_at-other g.stage at (set_at (g.stage at) p after) j e.1) (g.doors j)
+    | inl e ↦ subst (λ (i : ℕ). DoorIsLawful (set_at x_of at (x_after p v.visitor.stage (x_of at)) i) (set_at y_of at (y_after v.visitor.stage (y_of at)) i) (set_at g.stage at (set_at (g.stage at) p after) i)) (sym e.1)
+        (rw (set_at-same x_of at (x_after p v.visitor.stage (x_of at)), set_at-same y_of at (y_after v.visitor.stage (y_of at)), set_at-same g.stage at (set_at (g.stage at) p after))
+        (kept (x_of at) (y_of at) (g.stage at) p (g.doors at) v.visitor.stage (g.walks p v is).here))
+    | inr e ↦ rw (set_at-other x_of at (x_after p v.visitor.stage (x_of at)) j e.1, set_at-other y_of at (y_after v.visitor.stage (y_of at)) j e.1, set_at-other g.stage at (set_at (g.stage at) p after) j e.1) (g.doors j)
   ]
 
   -- p goes on as v', before the door at (d2, c2)
@@ -123,20 +123,20 @@ module _ (b : ℕ) (name mark : ℕ → ℕ) (walker : ℕ → Option Walker) (g
       | inr n ↦ ap has_entered (visit_person g.stage at p after j q n.1) ∙ h
       | inl e ↦ elim (eqb_tells j at) [
         | inr n ↦ ap has_entered (visit_door g.stage at p after j q n.1) ∙ h
-        | inl k ↦ subst (λ (i : ℕ). has_entered (stage' i q) ≡ true) (sym k.1) (subst (λ (i : ℕ). has_entered (stage' at i) ≡ true) (sym e.1) (ap has_entered (visit_own g.stage at p after) ∙ entered_after p v.visitor.stage (name at) (mark at)))
+        | inl k ↦ subst (λ (i : ℕ). has_entered (stage' i q) ≡ true) (sym k.1) (subst (λ (i : ℕ). has_entered (stage' at i) ≡ true) (sym e.1) (ap has_entered (visit_own g.stage at p after) ∙ entered_after p v.visitor.stage (x_of at) (y_of at)))
       ]
     ]
 
-    entered_own : (x : ℕ) → (x ≡ p) ⊎ (x ≡ name at) → x ≢ 0 → has_entered (stage' at x) ≡ true
+    entered_own : (x : ℕ) → (x ≡ p) ⊎ (x ≡ x_of at) → x ≢ 0 → has_entered (stage' at x) ≡ true
     entered_own x own some = elim own [
-      | inl e ↦ subst (λ (i : ℕ). has_entered (stage' at i) ≡ true) (sym e) (ap has_entered (visit_own g.stage at p after) ∙ entered_after p v.visitor.stage (name at) (mark at))
+      | inl e ↦ subst (λ (i : ℕ). has_entered (stage' at i) ≡ true) (sym e) (ap has_entered (visit_own g.stage at p after) ∙ entered_after p v.visitor.stage (x_of at) (y_of at))
       | inr e ↦ entered_still at x (subst (λ (i : ℕ). has_entered (g.stage at i) ≡ true) (sym e) (g.entered at (λ none. some (e ∙ none))))
     ]
 
-    named_after : (k : ℕ) → set_at name at (name_after p v.visitor.stage (name at)) k ≢ 0 → has_entered (stage' k (set_at name at (name_after p v.visitor.stage (name at)) k)) ≡ true
-    named_after k = set_at-cases name at (name_after p v.visitor.stage (name at)) (λ x. x ≢ 0 → has_entered (stage' k x) ≡ true) k
-        (λ e some. subst (λ (i : ℕ). has_entered (stage' i (name_after p v.visitor.stage (name at))) ≡ true) (sym e) (entered_own (name_after p v.visitor.stage (name at)) (name_own p v.visitor.stage (name at)) some))
-        (λ _ some. entered_still k (name k) (g.entered k some))
+    named_after : (k : ℕ) → set_at x_of at (x_after p v.visitor.stage (x_of at)) k ≢ 0 → has_entered (stage' k (set_at x_of at (x_after p v.visitor.stage (x_of at)) k)) ≡ true
+    named_after k = set_at-cases x_of at (x_after p v.visitor.stage (x_of at)) (λ x. x ≢ 0 → has_entered (stage' k x) ≡ true) k
+        (λ e some. subst (λ (i : ℕ). has_entered (stage' i (x_after p v.visitor.stage (x_of at))) ≡ true) (sym e) (entered_own (x_after p v.visitor.stage (x_of at)) (x_own p v.visitor.stage (x_of at)) some))
+        (λ _ some. entered_still k (x_of k) (g.entered k some))
 
     same_number : (d c : ℕ) → v.door.depth ≡ d → v.door.column ≡ c → at ≡ door_number d c
     same_number d c e f = ap (λ i. door_number i v.door.column) e ∙ ap (λ i. door_number d i) f
@@ -163,7 +163,7 @@ module _ (b : ℕ) (name mark : ℕ → ℕ) (walker : ℕ → Option Walker) (g
           | inr n ↦ inl (s.0, stands_still s.0 d c n.1 s.1)
           | inl e ↦
               let w = was_at d c (subst (λ (i : ℕ). StandsAt walker i d c) e.1 s.1) in
-              inr (p, subst (λ (i : ℕ). has_entered (stage' i p) ≡ true) (same_number d c w.0 w.1) (ap has_entered (visit_own g.stage at p after) ∙ entered_after p v.visitor.stage (name at) (mark at)))
+              inr (p, subst (λ (i : ℕ). has_entered (stage' i p) ≡ true) (same_number d c w.0 w.1) (ap has_entered (visit_own g.stage at p after) ∙ entered_after p v.visitor.stage (x_of at) (y_of at)))
         ]
         | inr e ↦ inr (e.0, entered_still (door_number d c) e.0 e.1)
       ]
@@ -174,8 +174,8 @@ module _ (b : ℕ) (name mark : ℕ → ℕ) (walker : ℕ → Option Walker) (g
         (λ e h. let own : v' ≡ u = cc in subst (λ (w : Walker). IsWalkOf stage' reached' q w) own (rw e walk))
         (λ n h. let old = g.walks q u h in record {
           identity = old.identity;
-          name = old.name;
-          mark = old.mark;
+          x = old.x;
+          y = old.y;
           inside = old.inside;
           here = visit_person g.stage at p after (door_number u.door.depth u.door.column) q n ∙ old.here;
           arrived = with_door-keeps g.reached v'.door.depth v'.door.column u.door.depth u.door.column old.arrived;
@@ -184,7 +184,7 @@ module _ (b : ℕ) (name mark : ℕ → ℕ) (walker : ℕ → Option Walker) (g
           below = λ d c k m. visit_person g.stage at p after (door_number d c) q n ∙ old.below d c k m;
         })
 
-    pub stepped : DoorsAgree (suc b) b (set_at name at (name_after p v.visitor.stage (name at))) (set_at mark at (mark_after v.visitor.stage (mark at))) walker'
+    pub stepped : DoorsAgree (suc b) b (set_at x_of at (x_after p v.visitor.stage (x_of at))) (set_at y_of at (y_after v.visitor.stage (y_of at))) walker'
     stepped = record {
       stage = stage';
       reached = reached';
@@ -213,12 +213,12 @@ module _ (b : ℕ) (name mark : ℕ → ℕ) (walker : ℕ → Option Walker) (g
       root = λ some. with_door-keeps g.reached v'.door.depth v'.door.column 0 0 (g.root some);
     }
 
-module _ (b : ℕ) (name mark : ℕ → ℕ) (walker : ℕ → Option Walker) (g : DoorsAgree b b name mark walker) (p : ℕ) (v : Walker) (is : walker p ≡ Some v) where
+module _ (b : ℕ) (x_of y_of : ℕ → ℕ) (walker : ℕ → Option Walker) (g : DoorsAgree b b x_of y_of walker) (p : ℕ) (v : Walker) (is : walker p ≡ Some v) where
   abbrev door : ℕ
   door = number_of v.door
 
   abbrev next_stage : Stage
-  next_stage = stage_after p v.visitor.stage (name door) (mark door)
+  next_stage = stage_after p v.visitor.stage (x_of door) (y_of door)
 
   deeper_door : (d c : ℕ) → c ≤ d → v.door.depth < d → door_number d c ≢ door
   deeper_door d c l m e = let same = number_depth d c v.door.depth v.door.column l (g.walks p v is).inside e in omega arith
@@ -227,15 +227,15 @@ module _ (b : ℕ) (name mark : ℕ → ℕ) (walker : ℕ → Option Walker) (g
   abbrev staying : Walker
   staying = visit_on v next_stage
 
-  pub stayed : went_right next_stage ≡ false → went_down next_stage ≡ false → DoorsAgree b b (set_at name door (name_after p v.visitor.stage (name door))) (set_at mark door (mark_after v.visitor.stage (mark door))) (set_at walker p (Some staying))
+  pub stayed : went_right next_stage ≡ false → went_down next_stage ≡ false → DoorsAgree b b (set_at x_of door (x_after p v.visitor.stage (x_of door))) (set_at y_of door (y_after v.visitor.stage (y_of door))) (set_at walker p (Some staying))
   stayed r d =
       let old = g.walks p v is in
       let deep = g.within v.door.depth v.door.column old.arrived in
-      let new = stepped b name mark walker g p v is staying
+      let new = stepped b x_of y_of walker g p v is staying
       (record {
         identity = old.identity;
-        name = old.name;
-        mark = old.mark;
+        x = old.x;
+        y = old.y;
         inside = old.inside;
         here = visit_own g.stage door p next_stage;
         arrived = with_door-has g.reached v.door.depth v.door.column;
@@ -246,19 +246,19 @@ module _ (b : ℕ) (name mark : ℕ → ℕ) (walker : ℕ → Option Walker) (g
       (inl (record { walk = staying; is = set_at-same walker p (Some staying); depth_is = refl; column_is = refl }))
       (λ e same. let c : v.door.column ≤ suc e = (let k = old.inside in omega arith) in g.comes e v.door.column c (subst (λ (i : ℕ). g.reached i v.door.column ≡ true) same old.arrived))
       (omega arith) in
-      tightened (suc b) b (set_at name door (name_after p v.visitor.stage (name door))) (set_at mark door (mark_after v.visitor.stage (mark door))) (set_at walker p (Some staying)) new (omega arith)
+      tightened (suc b) b (set_at x_of door (x_after p v.visitor.stage (x_of door))) (set_at y_of door (y_after v.visitor.stage (y_of door))) (set_at walker p (Some staying)) new (omega arith)
 
   -- a visit that leads on, to the next diagonal
-  pub moved_on : (column : ℕ) → ((went_right next_stage ≡ true) × (column ≡ v.door.column)) ⊎ ((went_down next_stage ≡ true) × (column ≡ suc v.door.column)) → DoorsAgree b b (set_at name door (name_after p v.visitor.stage (name door))) (set_at mark door (mark_after v.visitor.stage (mark door))) (set_at walker p (Some (walker_at p (door_at (suc v.door.depth) column))))
+  pub moved_on : (column : ℕ) → ((went_right next_stage ≡ true) × (column ≡ v.door.column)) ⊎ ((went_down next_stage ≡ true) × (column ≡ suc v.door.column)) → DoorsAgree b b (set_at x_of door (x_after p v.visitor.stage (x_of door))) (set_at y_of door (y_after v.visitor.stage (y_of door))) (set_at walker p (Some (walker_at p (door_at (suc v.door.depth) column))))
   moved_on column way =
       let old = g.walks p v is in
       let deep = g.within v.door.depth v.door.column old.arrived in
       let inside : column ≤ suc v.door.depth = (let k = old.inside in elim way [ inl r ↦ let e = r.1 in omega arith | inr d ↦ let e = d.1 in omega arith ]) in
-      let new = stepped b name mark walker g p v is (walker_at p (door_at (suc v.door.depth) column))
+      let new = stepped b x_of y_of walker g p v is (walker_at p (door_at (suc v.door.depth) column))
       (record {
         identity = refl;
-        name = refl;
-        mark = refl;
+        x = refl;
+        y = refl;
         inside = inside;
         here = visit_door g.stage door p next_stage (door_number (suc v.door.depth) column) p (deeper_door (suc v.door.depth) column inside (omega arith)) ∙ old.below (suc v.door.depth) column inside (omega arith);
         arrived = with_door-has g.reached (suc v.door.depth) column;
@@ -272,11 +272,11 @@ module _ (b : ℕ) (name mark : ℕ → ℕ) (walker : ℕ → Option Walker) (g
       ]))
       (λ e same. let depth : v.door.depth ≡ e = omega arith in (v.door.column, (let k = old.inside in omega arith), subst (λ (i : ℕ). g.reached i v.door.column ≡ true) depth old.arrived))
       (omega arith) in
-      tightened (suc b) b (set_at name door (name_after p v.visitor.stage (name door))) (set_at mark door (mark_after v.visitor.stage (mark door))) (set_at walker p (Some (walker_at p (door_at (suc v.door.depth) column)))) new (omega arith)
+      tightened (suc b) b (set_at x_of door (x_after p v.visitor.stage (x_of door))) (set_at y_of door (y_after v.visitor.stage (y_of door))) (set_at walker p (Some (walker_at p (door_at (suc v.door.depth) column)))) new (omega arith)
 
 -- one more participant, before the first door
-pub joined : (b : ℕ) (name mark : ℕ → ℕ) (walker : ℕ → Option Walker) → DoorsAgree b b name mark walker → (p : ℕ) → p ≢ 0 → walker p ≡ None → DoorsAgree (suc b) (suc b) name mark (set_at walker p (Some (walk_of p)))
-joined b name mark walker g p some absent =
+pub joined : (b : ℕ) (x_of y_of : ℕ → ℕ) (walker : ℕ → Option Walker) → DoorsAgree b b x_of y_of walker → (p : ℕ) → p ≢ 0 → walker p ≡ None → DoorsAgree (suc b) (suc b) x_of y_of (set_at walker p (Some (walk_of p)))
+joined b x_of y_of walker g p some absent =
     let stands : (q d c : ℕ) → StandsAt walker q d c → StandsAt (set_at walker p (Some (walk_of p))) q d c = λ q d c s.
     record { walk = s.walk; is = set_at-other walker p (Some (walk_of p)) q (λ e. absurd (let k : Some s.walk ≡ None = sym s.is ∙ ap walker e ∙ absent in cc)) ∙ s.is; depth_is = s.depth_is; column_is = s.column_is } in
     record {
@@ -290,8 +290,8 @@ joined b name mark walker g p some absent =
       walks = λ q u. set_at-cases walker p (Some (walk_of p)) (λ o. o ≡ Some u → IsWalkOf g.stage (with_door g.reached 0 0) q u) q
           (λ e h. let own : walk_of p ≡ u = cc in subst (λ (w : Walker). IsWalkOf g.stage (with_door g.reached 0 0) q w) own (record {
             identity = sym e;
-            name = refl;
-            mark = refl;
+            x = refl;
+            y = refl;
             inside = omega arith;
             here = ap (g.stage (door_number 0 0)) e ∙ g.absent p absent (door_number 0 0);
             arrived = with_door-has g.reached 0 0;
@@ -299,7 +299,7 @@ joined b name mark walker g p some absent =
             not_down = refl;
             below = λ d c l m. ap (g.stage (door_number d c)) e ∙ g.absent p absent (door_number d c);
           }))
-          (λ _ h. let old = g.walks q u h in record { identity = old.identity; name = old.name; mark = old.mark; inside = old.inside; here = old.here; arrived = with_door-keeps g.reached 0 0 u.door.depth u.door.column old.arrived; not_right = old.not_right; not_down = old.not_down; below = old.below });
+          (λ _ h. let old = g.walks q u h in record { identity = old.identity; x = old.x; y = old.y; inside = old.inside; here = old.here; arrived = with_door-keeps g.reached 0 0 u.door.depth u.door.column old.arrived; not_right = old.not_right; not_down = old.not_down; below = old.below });
       absent = λ q. set_at-cases walker p (Some (walk_of p)) (λ o. o ≡ None → (k : ℕ) → g.stage k q ≡ Outside) q (λ _ h. absurd (cc)) (λ _ h. g.absent q h);
       doors = g.doors;
       entered = g.entered;
@@ -315,8 +315,8 @@ joined b name mark walker g p some absent =
     }
 
 -- a grid that no one has entered
-pub agree_new : (name mark : ℕ → ℕ) → ((k : ℕ) → name k ≡ 0) → ((k : ℕ) → mark k ≡ 0) → DoorsAgree 0 0 name mark (λ p. None)
-agree_new name mark unnamed clear = record {
+pub agree_new : (x_of y_of : ℕ → ℕ) → ((k : ℕ) → x_of k ≡ 0) → ((k : ℕ) → y_of k ≡ 0) → DoorsAgree 0 0 x_of y_of (λ p. None)
+agree_new x_of y_of unnamed clear = record {
   stage = λ k p. Outside;
   reached = λ d c. false;
   identities = [];
@@ -325,7 +325,7 @@ agree_new name mark unnamed clear = record {
   nobody = refl;
   walks = λ p u h. absurd (cc);
   absent = λ p h k. refl;
-  doors = λ k. rw (clear k) (lawful_new (name k));
+  doors = λ k. rw (clear k) (lawful_new (x_of k));
   entered = λ k some. absurd (some (unnamed k));
   left = λ d c p l h. absurd (cc);
   here = λ d c h. absurd (cc);

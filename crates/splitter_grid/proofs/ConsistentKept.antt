@@ -8,14 +8,14 @@ use Rattle.step_memory.specs.Registers.{answer_of, after_access}
 use Rattle.step_memory.specs.SetAt.{set_at}
 use Rattle.splitter.specs.declared.way.Way.TheVariants.{Stop, Right, Down}
 use Rattle.splitter.specs.declared.stage.Stage.{Stage}
-use Rattle.splitter.specs.declared.stage.Stage.TheVariants.{Outside, WroteName, SawClear, WroteMark, Gone}
-use Rattle.splitter.specs.Stage.{went_right, went_down, name_after, mark_after, stage_after}
+use Rattle.splitter.specs.declared.stage.Stage.TheVariants.{Outside, WroteX, SawClear, WroteY, Gone}
+use Rattle.splitter.specs.Stage.{went_right, went_down, x_after, y_after, stage_after}
 use Rattle.splitter.specs.Visitor.{IsAccessOf, stage_by, word_of}
 use Rattle.splitter.proofs.VisitorAccess.{is_access_of}
 use Rattle.splitter_grid.specs.declared.walker.Walker.{Walker}
 use Rattle.splitter_grid.specs.Door.{number_of, door_at, right_of, down_of, deeper}
 use Rattle.splitter_grid.specs.Walk.{walker_at, walk_of, visit_on, walked_to, walker_after, next_access}
-use Rattle.splitter_grid.specs.Consistent.{name_in, mark_in, DoorsAgree, IsConsistent}
+use Rattle.splitter_grid.specs.Consistent.{x_in, y_in, DoorsAgree, IsConsistent}
 use Rattle.splitter_grid.specs.GridWorld.{empty_doors}
 use Rattle.splitter_grid.proofs.Numbers.{number_below}
 use Rattle.splitter_grid.proofs.AgreeKept.{stayed, moved_on, joined, agree_new}
@@ -25,60 +25,60 @@ pub deeper_is : (n : ℕ) → n < 255 → deeper n ≡ suc n
 deeper_is n l = omega arith
 
 -- the walk that an access leaves, by how far its visit has come
-module _ (b : ℕ) (few : b ≤ 16) (name mark : ℕ → ℕ) (walker : ℕ → Option Walker) (g : DoorsAgree b b name mark walker) (p : ℕ) (u : Walker) (is : walker p ≡ Some u) where
+module _ (b : ℕ) (few : b ≤ 16) (x_of y_of : ℕ → ℕ) (walker : ℕ → Option Walker) (g : DoorsAgree b b x_of y_of walker) (p : ℕ) (u : Walker) (is : walker p ≡ Some u) where
   abbrev door : ℕ
   door = number_of u.door
 
   abbrev next_stage : Stage
-  next_stage = stage_after p u.visitor.stage (name door) (mark door)
+  next_stage = stage_after p u.visitor.stage (x_of door) (y_of door)
 
   abbrev AgreesWith : Walker → Type 0
-  AgreesWith new = DoorsAgree b b (set_at name door (name_after p u.visitor.stage (name door))) (set_at mark door (mark_after u.visitor.stage (mark door))) (set_at walker p (Some new))
+  AgreesWith new = DoorsAgree b b (set_at x_of door (x_after p u.visitor.stage (x_of door))) (set_at y_of door (y_after u.visitor.stage (y_of door))) (set_at walker p (Some new))
 
   stays : (s : Stage) → next_stage ≡ s → went_right s ≡ false → went_down s ≡ false → AgreesWith (visit_on u s)
-  stays s k r d = subst (λ (x : Stage). AgreesWith (visit_on u x)) k (stayed b name mark walker g p u is (rw k r) (rw k d))
+  stays s k r d = subst (λ (x : Stage). AgreesWith (visit_on u x)) k (stayed b x_of y_of walker g p u is (rw k r) (rw k d))
 
   shallow : u.door.depth < 255
   shallow = let within = g.within u.door.depth u.door.column (g.walks p u is).arrived in omega arith
 
   agrees_next : (s : Stage) → next_stage ≡ s → AgreesWith (walked_to u s)
   agrees_next Outside k = stays Outside k refl refl
-  agrees_next WroteName k = stays WroteName k refl refl
+  agrees_next WroteX k = stays WroteX k refl refl
   agrees_next SawClear k = stays SawClear k refl refl
-  agrees_next WroteMark k = stays WroteMark k refl refl
+  agrees_next WroteY k = stays WroteY k refl refl
   agrees_next (Gone Stop) k = stays (Gone Stop) k refl refl
   agrees_next (Gone Right) k =
       let walk = g.walks p u is in
       let next : walker_at p (door_at (suc u.door.depth) u.door.column) ≡ walker_at u.visitor.identity (right_of u.door) = rw (walk.identity, deeper_is u.door.depth shallow) refl in
-      subst AgreesWith next (moved_on b name mark walker g p u is u.door.column (inl (rw k refl, refl)))
+      subst AgreesWith next (moved_on b x_of y_of walker g p u is u.door.column (inl (rw k refl, refl)))
   agrees_next (Gone Down) k =
       let walk = g.walks p u is in
       let narrow : u.door.column < 255 = (let inside = walk.inside in let low = shallow in omega arith) in
       let next : walker_at p (door_at (suc u.door.depth) (suc u.door.column)) ≡ walker_at u.visitor.identity (down_of u.door) = rw (walk.identity, deeper_is u.door.depth shallow, deeper_is u.door.column narrow) refl in
-      subst AgreesWith next (moved_on b name mark walker g p u is (suc u.door.column) (inr (rw k refl, refl)))
+      subst AgreesWith next (moved_on b x_of y_of walker g p u is (suc u.door.column) (inr (rw k refl, refl)))
 
 -- what an access of a walk does to the names and the marks
-module _ (m : Registers ℕ) (p : ℕ) (u : Walker) (identity : u.visitor.identity ≡ p) (name_is : u.visitor.name ≡ 2 * number_of u.door) (mark_is : u.visitor.mark ≡ 2 * number_of u.door + 1) (below : 2 * number_of u.door + 1 < length m.values) where
+module _ (m : Registers ℕ) (p : ℕ) (u : Walker) (identity : u.visitor.identity ≡ p) (x_is : u.visitor.x ≡ 2 * number_of u.door) (y_is : u.visitor.y ≡ 2 * number_of u.door + 1) (below : 2 * number_of u.door + 1 < length m.values) where
   abbrev pub left : Registers ℕ
   left = after_access m (next_access u)
 
   access : IsAccessOf m u.visitor
-  access = is_access_of m u.visitor (λ e. absurd (let n = name_is in let k = mark_is in omega arith)) (rw name_is (let l = below in omega arith)) (rw mark_is below)
+  access = is_access_of m u.visitor (λ e. absurd (let n = x_is in let k = y_is in omega arith)) (rw x_is (let l = below in omega arith)) (rw y_is below)
 
-  pub names : name_in left ≡ set_at (name_in m) (number_of u.door) (name_after p u.visitor.stage (name_in m (number_of u.door)))
-  names = fun_ext (λ k. elim (eqb_tells k (number_of u.door)) [
-    | inl e ↦ rw e.0 (ap (name_in left) e.1 ∙ ap (word_of left) (sym name_is) ∙ access.name ∙ ap (λ i. name_after i u.visitor.stage (word_of m u.visitor.name)) identity ∙ ap (λ r. name_after p u.visitor.stage (word_of m r)) name_is)
-    | inr e ↦ rw e.0 (access.others (2 * k) (λ h. absurd (let n = name_is in let other = e.1 in omega arith)) (λ h. absurd (let n = mark_is in omega arith)))
+  pub xs : x_in left ≡ set_at (x_in m) (number_of u.door) (x_after p u.visitor.stage (x_in m (number_of u.door)))
+  xs = fun_ext (λ k. elim (eqb_tells k (number_of u.door)) [
+    | inl e ↦ rw e.0 (ap (x_in left) e.1 ∙ ap (word_of left) (sym x_is) ∙ access.x ∙ ap (λ i. x_after i u.visitor.stage (word_of m u.visitor.x)) identity ∙ ap (λ r. x_after p u.visitor.stage (word_of m r)) x_is)
+    | inr e ↦ rw e.0 (access.others (2 * k) (λ h. absurd (let n = x_is in let other = e.1 in omega arith)) (λ h. absurd (let n = y_is in omega arith)))
   ])
 
-  marks : mark_in left ≡ set_at (mark_in m) (number_of u.door) (mark_after u.visitor.stage (mark_in m (number_of u.door)))
-  marks = fun_ext (λ k. elim (eqb_tells k (number_of u.door)) [
-    | inl e ↦ rw e.0 (ap (mark_in left) e.1 ∙ ap (word_of left) (sym mark_is) ∙ access.mark ∙ ap (λ r. mark_after u.visitor.stage (word_of m r)) mark_is)
-    | inr e ↦ rw e.0 (access.others (2 * k + 1) (λ h. absurd (let n = name_is in omega arith)) (λ h. absurd (let n = mark_is in let other = e.1 in omega arith)))
+  ys : y_in left ≡ set_at (y_in m) (number_of u.door) (y_after u.visitor.stage (y_in m (number_of u.door)))
+  ys = fun_ext (λ k. elim (eqb_tells k (number_of u.door)) [
+    | inl e ↦ rw e.0 (ap (y_in left) e.1 ∙ ap (word_of left) (sym y_is) ∙ access.y ∙ ap (λ r. y_after u.visitor.stage (word_of m r)) y_is)
+    | inr e ↦ rw e.0 (access.others (2 * k + 1) (λ h. absurd (let n = x_is in omega arith)) (λ h. absurd (let n = y_is in let other = e.1 in omega arith)))
   ])
 
-  reaches : stage_by u.visitor (answer_of m (next_access u)) ≡ stage_after p u.visitor.stage (name_in m (number_of u.door)) (mark_in m (number_of u.door))
-  reaches = access.stage ∙ rw (identity, name_is, mark_is) refl
+  reaches : stage_by u.visitor (answer_of m (next_access u)) ≡ stage_after p u.visitor.stage (x_in m (number_of u.door)) (y_in m (number_of u.door))
+  reaches = access.stage ∙ rw (identity, x_is, y_is) refl
 
 module _ (most b : ℕ) (m : Registers ℕ) (walker : ℕ → Option Walker) (c : IsConsistent most b m walker) where
   -- both registers of the door of a walk are there
@@ -95,29 +95,29 @@ module _ (most b : ℕ) (m : Registers ℕ) (walker : ℕ → Option Walker) (c 
       let walk = c.agree.walks p u is in
       let below = registers_in p u is in
       let few : b ≤ 16 = (let f = c.few in let r = c.room in omega arith) in
-      let stage = reaches m p u walk.identity walk.name walk.mark below in
-      let next = agrees_next b few (name_in m) (mark_in m) walker c.agree p u is (stage_by u.visitor (answer_of m (next_access u))) (sym stage) in
+      let stage = reaches m p u walk.identity walk.x walk.y below in
+      let next = agrees_next b few (x_in m) (y_in m) walker c.agree p u is (stage_by u.visitor (answer_of m (next_access u))) (sym stage) in
       record {
         few = c.few;
         room = c.room;
-        registers = (access m p u walk.identity walk.name walk.mark below).registers ∙ c.registers;
-        agree = rw (names m p u walk.identity walk.name walk.mark below, marks m p u walk.identity walk.name walk.mark below) next;
+        registers = (access m p u walk.identity walk.x walk.y below).registers ∙ c.registers;
+        agree = rw (xs m p u walk.identity walk.x walk.y below, ys m p u walk.identity walk.x walk.y below) next;
       }
 
   -- one who begins
   pub begun : (p : ℕ) → p ≢ 0 → walker p ≡ None → b < most → IsConsistent most (suc b) m (set_at walker p (Some (walk_of p)))
-  begun p some absent l = record { few = c.few; room = omega arith; registers = c.registers; agree = joined b (name_in m) (mark_in m) walker c.agree p some absent }
+  begun p some absent l = record { few = c.few; room = omega arith; registers = c.registers; agree = joined b (x_in m) (y_in m) walker c.agree p some absent }
 
   -- what happens elsewhere
   pub elsewhere : (other : Registers ℕ) → length other.values ≡ length m.values → ((r : ℕ) → word_of other r ≡ word_of m r) → IsConsistent most b other walker
   elsewhere other same words =
-      let names_same : name_in m ≡ name_in other = fun_ext (λ k. sym (words (2 * k))) in
-      let marks_same : mark_in m ≡ mark_in other = fun_ext (λ k. sym (words (2 * k + 1))) in
+      let xs_same : x_in m ≡ x_in other = fun_ext (λ k. sym (words (2 * k))) in
+      let ys_same : y_in m ≡ y_in other = fun_ext (λ k. sym (words (2 * k + 1))) in
       record {
         few = c.few;
         room = c.room;
         registers = same ∙ c.registers;
-        agree = subst (λ (f : ℕ → ℕ). DoorsAgree b b (name_in other) f walker) marks_same (subst (λ (f : ℕ → ℕ). DoorsAgree b b f (mark_in m) walker) names_same c.agree);
+        agree = subst (λ (f : ℕ → ℕ). DoorsAgree b b (x_in other) f walker) ys_same (subst (λ (f : ℕ → ℕ). DoorsAgree b b f (y_in m) walker) xs_same c.agree);
       }
 
 pub get_or-replicate_same : (n i x : ℕ) → get_or (replicate n x) i x ≡ x
@@ -131,5 +131,5 @@ consistent_new most few = record {
   few = few;
   room = omega arith;
   registers = length-replicate (most * (most + 1)) 0;
-  agree = agree_new (name_in (empty_doors most)) (mark_in (empty_doors most)) (λ k. get_or-replicate_same (most * (most + 1)) (2 * k) 0) (λ k. get_or-replicate_same (most * (most + 1)) (2 * k + 1) 0);
+  agree = agree_new (x_in (empty_doors most)) (y_in (empty_doors most)) (λ k. get_or-replicate_same (most * (most + 1)) (2 * k) 0) (λ k. get_or-replicate_same (most * (most + 1)) (2 * k + 1) 0);
 }

@@ -41,7 +41,7 @@ none_count : (f : ℕ → Bool) (n : ℕ) → ((c : ℕ) → c < n → f c ≡ f
 none_count f zero h = refl
 none_count f (suc n) h = let last : f n ≡ false = h n (omega arith) in let before = none_count f n (λ c l. h c (omega arith)) in rw last (omega arith)
 
-module _ (limit b : ℕ) (name mark : ℕ → ℕ) (walker : ℕ → Option Walker) (g : DoorsAgree limit b name mark walker) where
+module _ (limit b : ℕ) (x_of y_of : ℕ → ℕ) (walker : ℕ → Option Walker) (g : DoorsAgree limit b x_of y_of walker) where
   free : (d c p : ℕ) → is_taken (spots walker g.identities) d c ≡ false → StandsAt walker p d c → ⊥
   free d c p h s =
       let at = g.listed p s.walk s.is in
@@ -53,7 +53,7 @@ module _ (limit b : ℕ) (name mark : ℕ → ℕ) (walker : ℕ → Option Walk
   leads d c k h f = elim (g.here d c h) [
     | inl s ↦ absurd (free d c s.0 f s.1)
     | inr e ↦
-        let law : IsSplitter (g.stage (door_number d c)) = law_of (name (door_number d c)) (mark (door_number d c)) (g.stage (door_number d c)) (g.doors (door_number d c)) in
+        let law : IsSplitter (g.stage (door_number d c)) = law_of (x_of (door_number d c)) (y_of (door_number d c)) (g.stage (door_number d c)) (g.doors (door_number d c)) in
         let x = law.not_all_down e.0 e.1 in
         let y = law.not_all_right e.0 e.1 in (
           elim (g.left d c x.0 k x.1) [
@@ -77,7 +77,7 @@ module _ (limit b : ℕ) (name mark : ℕ → ℕ) (walker : ℕ → Option Walk
       let all = g.many in
       omega arith
 
-  pub tightened : 0 < b → DoorsAgree b b name mark walker
+  pub tightened : 0 < b → DoorsAgree b b x_of y_of walker
   tightened some = record {
     stage = g.stage;
     reached = g.reached;

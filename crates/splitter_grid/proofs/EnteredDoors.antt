@@ -1,4 +1,4 @@
--- a name stands in X of just the doors that were entered
+-- an identity stands in X of just the doors that were entered
 use Rattle.std.proofs.lemmas.Bool.{cases_Bool}
 use Rattle.std.proofs.Common.{◌≡◌, ◌≢◌, ℕ, ◌+◌, ◌*◌, true, false, cond, ◌⊎◌, inl, inr, List, [], ◌∷◌, ◌++◌, length, Option, Some, None, Ok, Err, Result, refl, sym, ap, subst, ◌∙◌}
 use Rattle.std.specs.Prelude.{◌↔◌}
@@ -16,22 +16,22 @@ use Rattle.step_memory.specs.Calls.Call.{Began, Stepped}
 use Rattle.step_memory.specs.Runs.{Run}
 use Rattle.step_memory.proofs.WorldKeeps.{stepped}
 use Rattle.splitter.specs.declared.stage.Stage.{Stage}
-use Rattle.splitter.specs.declared.stage.Stage.TheVariants.{Outside, WroteName, SawClear, WroteMark, Gone}
-use Rattle.splitter.specs.Stage.{has_entered, name_after}
+use Rattle.splitter.specs.declared.stage.Stage.TheVariants.{Outside, WroteX, SawClear, WroteY, Gone}
+use Rattle.splitter.specs.Stage.{has_entered, x_after}
 use Rattle.splitter_grid.specs.declared.walker.Walker.{Walker}
 use Rattle.splitter_grid.specs.Door.{number_of}
 use Rattle.splitter_grid.specs.Walk.{walk_of, walker_steps, walker_note, next_access}
-use Rattle.splitter_grid.specs.Consistent.{name_in, IsConsistent}
+use Rattle.splitter_grid.specs.Consistent.{x_in, IsConsistent}
 use Rattle.splitter_grid.specs.GridWorld.{GridState, After, fresh, empty_doors}
 use Rattle.splitter_grid.specs.Entered.{Enters, EntersFrom, WasEntered}
-use Rattle.splitter_grid.proofs.ConsistentKept.{names, registers_in, get_or-replicate_same}
+use Rattle.splitter_grid.proofs.ConsistentKept.{xs, registers_in, get_or-replicate_same}
 use Rattle.splitter_grid.proofs.GridTied.{IsTied, tied_after, walkers, after_next}
 
 module _ (most b : ℕ) (m : Registers ℕ) (walker : ℕ → Option Walker) (c : IsConsistent most b m walker) where
-  -- where anyone has entered, a name stands
-  entered_named : (k p : ℕ) → has_entered (c.agree.stage k p) ≡ true → name_in m k ≢ 0
+  -- where anyone has entered, an identity stands in X
+  entered_named : (k p : ℕ) → has_entered (c.agree.stage k p) ≡ true → x_in m k ≢ 0
   entered_named k p h none = absurd (
-      let first : has_entered (c.agree.stage k (name_in m k)) ≡ true = (c.agree.doors k).named p h in
+      let first : has_entered (c.agree.stage k (x_in m k)) ≡ true = (c.agree.doors k).named p h in
       let zero : has_entered (c.agree.stage k 0) ≡ true = subst (λ (i : ℕ). has_entered (c.agree.stage k i) ≡ true) none first in
       let outside : c.agree.stage k 0 ≡ Outside = c.agree.absent 0 c.agree.nobody k in
       let never : has_entered Outside ≡ true = rw outside at zero in cc)
@@ -39,27 +39,27 @@ module _ (most b : ℕ) (m : Registers ℕ) (walker : ℕ → Option Walker) (c 
   not_nobody : (p : ℕ) (u : Walker) → walker p ≡ Some u → p ≢ 0
   not_nobody p u is e = absurd (let k : Some u ≡ None = sym is ∙ ap walker e ∙ c.agree.nobody in cc)
 
-  -- after an access of p a name stands at its door
-  names_door : (p : ℕ) (u : Walker) → walker p ≡ Some u → (s : Stage) → u.visitor.stage ≡ s → name_after p s (name_in m (number_of u.door)) ≢ 0
+  -- after an access of p an identity stands in X of its door
+  names_door : (p : ℕ) (u : Walker) → walker p ≡ Some u → (s : Stage) → u.visitor.stage ≡ s → x_after p s (x_in m (number_of u.door)) ≢ 0
   names_door p u is Outside e = not_nobody p u is
-  names_door p u is WroteName e = entered_named (number_of u.door) p (ap has_entered ((c.agree.walks p u is).here ∙ e))
+  names_door p u is WroteX e = entered_named (number_of u.door) p (ap has_entered ((c.agree.walks p u is).here ∙ e))
   names_door p u is SawClear e = entered_named (number_of u.door) p (ap has_entered ((c.agree.walks p u is).here ∙ e))
-  names_door p u is WroteMark e = entered_named (number_of u.door) p (ap has_entered ((c.agree.walks p u is).here ∙ e))
+  names_door p u is WroteY e = entered_named (number_of u.door) p (ap has_entered ((c.agree.walks p u is).here ∙ e))
   names_door p u is (Gone way) e = entered_named (number_of u.door) p (ap has_entered ((c.agree.walks p u is).here ∙ e))
 
-  names_are : (p : ℕ) (u : Walker) → walker p ≡ Some u → name_in (after_access m (next_access u)) ≡ set_at (name_in m) (number_of u.door) (name_after p u.visitor.stage (name_in m (number_of u.door)))
-  names_are p u is = let walk = c.agree.walks p u is in names m p u walk.identity walk.name walk.mark (registers_in most b m walker c p u is)
+  xs_are : (p : ℕ) (u : Walker) → walker p ≡ Some u → x_in (after_access m (next_access u)) ≡ set_at (x_in m) (number_of u.door) (x_after p u.visitor.stage (x_in m (number_of u.door)))
+  xs_are p u is = let walk = c.agree.walks p u is in xs m p u walk.identity walk.x walk.y (registers_in most b m walker c p u is)
 
-  -- an access of p gives its door a name, and changes no other's
-  pub access_names : (p : ℕ) (u : Walker) → walker p ≡ Some u → (k : ℕ) → (name_in (after_access m (next_access u)) k ≢ 0) ↔ ((number_of u.door ≡ k) ⊎ (name_in m k ≢ 0))
+  -- an access of p puts an identity into X of its door, and changes no other's
+  pub access_names : (p : ℕ) (u : Walker) → walker p ≡ Some u → (k : ℕ) → (x_in (after_access m (next_access u)) k ≢ 0) ↔ ((number_of u.door ≡ k) ⊎ (x_in m k ≢ 0))
   access_names p u is k =
-      let now : name_in (after_access m (next_access u)) k ≡ set_at (name_in m) (number_of u.door) (name_after p u.visitor.stage (name_in m (number_of u.door))) k = ap (λ (f : ℕ → ℕ). f k) (names_are p u is) in
+      let now : x_in (after_access m (next_access u)) k ≡ set_at (x_in m) (number_of u.door) (x_after p u.visitor.stage (x_in m (number_of u.door))) k = ap (λ (f : ℕ → ℕ). f k) (xs_are p u is) in
       elim (eqb_tells k (number_of u.door)) [
         | inl e ↦
-            let there : name_in (after_access m (next_access u)) k ≡ name_after p u.visitor.stage (name_in m (number_of u.door)) = now ∙ rw e.0 refl in
+            let there : x_in (after_access m (next_access u)) k ≡ x_after p u.visitor.stage (x_in m (number_of u.door)) = now ∙ rw e.0 refl in
             (λ _. inl (sym e.1), λ _ none. names_door p u is u.visitor.stage refl (sym there ∙ none))
         | inr e ↦
-            let there : name_in (after_access m (next_access u)) k ≡ name_in m k = now ∙ rw e.0 refl in
+            let there : x_in (after_access m (next_access u)) k ≡ x_in m k = now ∙ rw e.0 refl in
             (λ some. inr (λ none. some (there ∙ none)), λ o. elim o [ inl at ↦ absurd (e.1 (sym at)) | inr some ↦ λ none. some (sym there ∙ none) ])
       ]
 
@@ -69,15 +69,15 @@ next_of w h = next walker_steps memory_steps outcome_in walk_of w h
 abbrev IsReplyOf : GridState → Call (Option ℕ) → Type 0
 IsReplyOf w h = IsReply walker_steps memory_steps outcome_in walk_of w h
 
--- after a call a name stands where one stood, and at the door that it enters
+-- after a call an identity stands in X where one stood, and at the door that it enters
 abbrev NamedBy : GridState → GridState → Call (Option ℕ) → ℕ → Type 0
-NamedBy w new h k = (name_in new.memory k ≢ 0) ↔ (Enters w h k ⊎ (name_in w.memory k ≢ 0))
+NamedBy w new h k = (x_in new.memory k ≢ 0) ↔ (Enters w h k ⊎ (x_in w.memory k ≢ 0))
 
 -- one that enters no door
 quiet_call : (w new : GridState) (h : Call (Option ℕ)) (k : ℕ) → new.memory ≡ w.memory → (Enters w h k → ⊥) → NamedBy w new h k
 quiet_call w new h k same none =
-    let names_same : name_in new.memory k ≡ name_in w.memory k = ap (λ m. name_in m k) same in
-    (λ some. inr (λ zero. some (names_same ∙ zero)), λ o. elim o [ inl at ↦ absurd (none at) | inr some ↦ λ zero. some (sym names_same ∙ zero) ])
+    let xs_same : x_in new.memory k ≡ x_in w.memory k = ap (λ m. x_in m k) same in
+    (λ some. inr (λ zero. some (xs_same ∙ zero)), λ o. elim o [ inl at ↦ absurd (none at) | inr some ↦ λ zero. some (sym xs_same ∙ zero) ])
 
 memory_begun : (w : GridState) (id : ℕ) → (after_begin w id (walk_of id)).memory ≡ w.memory
 memory_begun w id = elim (begin_refusal w id) as (λ o. (begun_unless o w id (walk_of id)).memory ≡ w.memory) [ None ↦ refl | Some why ↦ refl ]
@@ -120,9 +120,9 @@ module _ (w : GridState) (past : List (Call (Option ℕ))) (t : IsTied w past) w
   one_call (Stepped id reply) (inr is) k = absurd (let yes_may : false ≡ true = sym (never_lacks id) ∙ is.1 in cc)
 
 -- over a run of calls
-names_over : (w : GridState) (past r : List (Call (Option ℕ))) (end : GridState) → After w past → Run next_of IsReplyOf w r end → (k : ℕ) → (name_in end.memory k ≢ 0) ↔ (EntersFrom w r k ⊎ (name_in w.memory k ≢ 0))
+names_over : (w : GridState) (past r : List (Call (Option ℕ))) (end : GridState) → After w past → Run next_of IsReplyOf w r end → (k : ℕ) → (x_in end.memory k ≢ 0) ↔ (EntersFrom w r k ⊎ (x_in w.memory k ≢ 0))
 names_over w past [] end a e k =
-    let same : name_in end.memory k ≡ name_in w.memory k = ap (λ x. name_in x.memory k) e in
+    let same : x_in end.memory k ≡ x_in w.memory k = ap (λ x. x_in x.memory k) e in
     (λ some. inr (λ zero. some (same ∙ zero)), λ o. elim o [ inl never ↦ absurd (never) | inr some ↦ λ zero. some (sym same ∙ zero) ])
 names_over w past (h ∷ r) end a e k =
     let first = one_call w past (tied_after w past a) h e.0 k in
@@ -134,9 +134,9 @@ names_over w past (h ∷ r) end a e k =
       ],
     )
 
--- a name stands in X of just the doors that were entered
-pub named_entered : (w : GridState) (r : List (Call (Option ℕ))) → After w r → (k : ℕ) → (name_in w.memory k ≢ 0) ↔ WasEntered w.most r k
+-- an identity stands in X of just the doors that were entered
+pub named_entered : (w : GridState) (r : List (Call (Option ℕ))) → After w r → (k : ℕ) → (x_in w.memory k ≢ 0) ↔ WasEntered w.most r k
 named_entered w r a k =
     let over = names_over (fresh w.most) [] r w (a.0, refl) a.1 k in
-    let unnamed : name_in (empty_doors w.most) k ≡ 0 = get_or-replicate_same (w.most * (w.most + 1)) (2 * k) 0 in
+    let unnamed : x_in (empty_doors w.most) k ≡ 0 = get_or-replicate_same (w.most * (w.most + 1)) (2 * k) 0 in
     (λ some. elim (over.0 some) [ inl yes_entered ↦ yes_entered | inr named ↦ absurd (named unnamed) ], λ yes_entered. over.1 (inl yes_entered))

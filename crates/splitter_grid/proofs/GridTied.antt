@@ -19,7 +19,7 @@ use Rattle.step_memory.specs.Due.{EndsOnce}
 use Rattle.step_memory.proofs.DueLemmas.{world_counted, ends_once, outcomes_tell, never_grows, no_second_end}
 use Rattle.splitter.specs.declared.way.Way.TheVariants.{Stop, Right, Down}
 use Rattle.splitter.specs.declared.stage.Stage.{Stage}
-use Rattle.splitter.specs.declared.stage.Stage.TheVariants.{Outside, WroteName, SawClear, WroteMark, Gone}
+use Rattle.splitter.specs.declared.stage.Stage.TheVariants.{Outside, WroteX, SawClear, WroteY, Gone}
 use Rattle.splitter.specs.Visitor.{stage_by}
 use Rattle.splitter_grid.specs.declared.walker.Walker.{Walker}
 use Rattle.splitter_grid.specs.Door.{number_of}
@@ -81,18 +81,18 @@ begun_kept w r id in_ t =
 -- what a walk says is its place, and that it has ended
 place_told : (u : Walker) (s : Stage) → outcome_in (note_at_door (number_of u.door) s) ≡ place_of (walked_to u s)
 place_told u Outside = refl
-place_told u WroteName = refl
+place_told u WroteX = refl
 place_told u SawClear = refl
-place_told u WroteMark = refl
+place_told u WroteY = refl
 place_told u (Gone Stop) = refl
 place_told u (Gone Right) = refl
 place_told u (Gone Down) = refl
 
 end_told : (u : Walker) (s : Stage) → ends (note_at_door (number_of u.door) s) ≡ is_some (place_of (walked_to u s))
 end_told u Outside = refl
-end_told u WroteName = refl
+end_told u WroteX = refl
 end_told u SawClear = refl
-end_told u WroteMark = refl
+end_told u WroteY = refl
 end_told u (Gone Stop) = refl
 end_told u (Gone Right) = refl
 end_told u (Gone Down) = refl

@@ -14,16 +14,16 @@ use Rattle.splitter_grid.specs.Law.{AreDistinct}
 use Rattle.splitter_grid.specs.Count.{count_to}
 
 -- what stands in X of door k
-abbrev pub name_in : Registers ℕ → ℕ → ℕ
-name_in m k = word_of m (2 * k)
+abbrev pub x_in : Registers ℕ → ℕ → ℕ
+x_in m k = word_of m (2 * k)
 
 -- what stands in Y of door k
-abbrev pub mark_in : Registers ℕ → ℕ → ℕ
-mark_in m k = word_of m (2 * k + 1)
+abbrev pub y_in : Registers ℕ → ℕ → ℕ
+y_in m k = word_of m (2 * k + 1)
 
 -- whether anyone has entered door k: then an identity, which is not 0, stands in its X
 abbrev pub was_entered : Registers ℕ → ℕ → Bool
-was_entered m k = not (name_in m k == 0)
+was_entered m k = not (x_in m k == 0)
 
 -- p stands before this door, or in it
 pub record StandsAt (walker : ℕ → Option Walker) (p depth column : ℕ) : Type 0 where
@@ -36,8 +36,8 @@ pub record StandsAt (walker : ℕ → Option Walker) (p depth column : ℕ) : Ty
 -- that lies deeper
 pub record IsWalkOf (stage : ℕ → ℕ → Stage) (reached : ℕ → ℕ → Bool) (p : ℕ) (u : Walker) : Type 0 where
   pub identity : u.visitor.identity ≡ p
-  pub name : u.visitor.name ≡ 2 * number_of u.door
-  pub mark : u.visitor.mark ≡ 2 * number_of u.door + 1
+  pub x : u.visitor.x ≡ 2 * number_of u.door
+  pub y : u.visitor.y ≡ 2 * number_of u.door + 1
   pub inside : u.door.column ≤ u.door.depth
   pub here : stage (number_of u.door) p ≡ u.visitor.stage
   pub arrived : reached u.door.depth u.door.column ≡ true
@@ -45,9 +45,9 @@ pub record IsWalkOf (stage : ℕ → ℕ → Stage) (reached : ℕ → ℕ → B
   pub not_down : went_down u.visitor.stage ≡ false
   pub below : (d c : ℕ) → c ≤ d → u.door.depth < d → stage (door_number d c) p ≡ Outside
 
--- b have begun, and all doors that anyone reached lie on the first `limit` diagonals. Door k has this name and this mark.
+-- b have begun, and all doors that anyone reached lie on the first `limit` diagonals. In door k this stands in X and that in Y.
 -- The past is in two of the fields: how far p's visit to door k came, and which doors, by depth and column, were reached
-pub record DoorsAgree (limit b : ℕ) (name mark : ℕ → ℕ) (walker : ℕ → Option Walker) : Type 0 where
+pub record DoorsAgree (limit b : ℕ) (x_of y_of : ℕ → ℕ) (walker : ℕ → Option Walker) : Type 0 where
   pub stage : ℕ → ℕ → Stage
   pub reached : ℕ → ℕ → Bool
   -- who has begun
@@ -58,9 +58,9 @@ pub record DoorsAgree (limit b : ℕ) (name mark : ℕ → ℕ) (walker : ℕ �
   -- each walk agrees with the visits, and who has not begun made none
   pub walks : (p : ℕ) (u : Walker) → walker p ≡ Some u → IsWalkOf stage reached p u
   pub absent : (p : ℕ) → walker p ≡ None → (k : ℕ) → stage k p ≡ Outside
-  -- each door is a lawful splitter, and where a name stands in it, that one has entered
-  pub doors : (k : ℕ) → DoorIsLawful (name k) (mark k) (stage k)
-  pub entered : (k : ℕ) → name k ≢ 0 → has_entered (stage k (name k)) ≡ true
+  -- each door is a lawful splitter, and who stands in its X has entered
+  pub doors : (k : ℕ) → DoorIsLawful (x_of k) (y_of k) (stage k)
+  pub entered : (k : ℕ) → x_of k ≢ 0 → has_entered (stage k (x_of k)) ≡ true
   -- who entered a door stands there still, or has left it for a door that was reached
   pub left : (d c p : ℕ) → c ≤ d → has_entered (stage (door_number d c) p) ≡ true →
       StandsAt walker p d c
@@ -79,7 +79,7 @@ pub record IsConsistent (most b : ℕ) (m : Registers ℕ) (walker : ℕ → Opt
   pub few : most ≤ 16
   pub room : b ≤ most
   pub registers : length m.values ≡ most * (most + 1)
-  pub agree : DoorsAgree b b (name_in m) (mark_in m) walker
+  pub agree : DoorsAgree b b (x_in m) (y_in m) walker
 
 -- the law of the grid, of b walks and the doors in these registers: the places at which walks have ended are distinct;
 -- they, and all doors that anyone entered, are on the first b diagonals; nobody makes more than 4b accesses, and who has
@@ -87,7 +87,7 @@ pub record IsConsistent (most b : ℕ) (m : Registers ℕ) (walker : ℕ → Opt
 pub record IsGrid (b : ℕ) (m : Registers ℕ) (walker : ℕ → Option Walker) : Type 0 where
   pub distinct : AreDistinct (λ p. place_by (walker p))
   pub within : (p place : ℕ) → place_by (walker p) ≡ Some place → IsDoorWithin b place
-  pub entered : (k : ℕ) → name_in m k ≢ 0 → IsDoorWithin b k
+  pub entered : (k : ℕ) → x_in m k ≢ 0 → IsDoorWithin b k
   pub few_entered : (n : ℕ) → 2 * count_to (was_entered m) n ≤ b * (b + 1)
   pub at_most : (p : ℕ) → accesses_by (walker p) ≤ 4 * b
   pub last_places : (p : ℕ) → 0 < accesses_by (walker p) → accesses_by (walker p) ≡ 4 * b → IsSome (place_by (walker p))

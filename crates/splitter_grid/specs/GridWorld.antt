@@ -18,7 +18,7 @@ use Rattle.splitter_grid.specs.Consistent.{was_entered}
 abbrev pub GridState : Type 0
 GridState = WorldState (Registers ℕ) Walker
 
--- two registers for each door: no name stands there, and the mark is clear
+-- two registers for each door: X holds 0, and Y is clear
 abbrev pub empty_doors : ℕ → Registers ℕ
 empty_doors most = record { first = 0; values = replicate (most * (most + 1)) 0; bits = replicate 0 false }
 

@@ -5,3 +5,4 @@ pub mod Count
 pub mod Consistent
 pub mod GridWorld
 pub mod Entered
+pub mod Laws

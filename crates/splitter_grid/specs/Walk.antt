@@ -7,7 +7,7 @@ use Rattle.step_memory.specs.declared.note.Note.TheVariants.{Quiet, Ended}
 use Rattle.step_memory.specs.Steps.{ProgramSteps}
 use Rattle.splitter.specs.declared.way.Way.TheVariants.{Stop, Right, Down}
 use Rattle.splitter.specs.declared.stage.Stage.{Stage}
-use Rattle.splitter.specs.declared.stage.Stage.TheVariants.{Outside, WroteName, SawClear, WroteMark, Gone}
+use Rattle.splitter.specs.declared.stage.Stage.TheVariants.{Outside, WroteX, SawClear, WroteY, Gone}
 use Rattle.splitter.specs.Visitor.{access_of, visitor_at, stage_by}
 use Rattle.splitter_grid.specs.declared.door.Door.{Door}
 use Rattle.splitter_grid.specs.declared.walker.Walker.{Walker}
@@ -31,9 +31,9 @@ visit_on u s = record u { visitor = record u.visitor { stage = s } }
 -- the walk whose visit has come this far: from a visit that ends right or down it stands before the next door
 abbrev pub walked_to : Walker → Stage → Walker
 walked_to u Outside = visit_on u Outside
-walked_to u WroteName = visit_on u WroteName
+walked_to u WroteX = visit_on u WroteX
 walked_to u SawClear = visit_on u SawClear
-walked_to u WroteMark = visit_on u WroteMark
+walked_to u WroteY = visit_on u WroteY
 walked_to u (Gone Stop) = visit_on u (Gone Stop)
 walked_to u (Gone Right) = walker_at u.visitor.identity (right_of u.door)
 walked_to u (Gone Down) = walker_at u.visitor.identity (down_of u.door)
@@ -45,9 +45,9 @@ walker_after u got = walked_to u (stage_by u.visitor got)
 -- what a walk says where its visit has come this far
 abbrev pub note_at_door : ℕ → Stage → Note ℕ
 note_at_door k Outside = Quiet
-note_at_door k WroteName = Quiet
+note_at_door k WroteX = Quiet
 note_at_door k SawClear = Quiet
-note_at_door k WroteMark = Quiet
+note_at_door k WroteY = Quiet
 note_at_door k (Gone Stop) = Ended k
 note_at_door k (Gone Right) = Quiet
 note_at_door k (Gone Down) = Quiet
@@ -60,9 +60,9 @@ walker_steps = record { next = next_access; resumed = walker_after; note = walke
 
 abbrev pub place_at_door : ℕ → Stage → Option ℕ
 place_at_door k Outside = None
-place_at_door k WroteName = None
+place_at_door k WroteX = None
 place_at_door k SawClear = None
-place_at_door k WroteMark = None
+place_at_door k WroteY = None
 place_at_door k (Gone Stop) = Some k
 place_at_door k (Gone Right) = None
 place_at_door k (Gone Down) = None
@@ -77,9 +77,9 @@ place_by (Some u) = place_of u
 
 abbrev pub accesses_at : Stage → ℕ
 accesses_at Outside = 0
-accesses_at WroteName = 1
+accesses_at WroteX = 1
 accesses_at SawClear = 2
-accesses_at WroteMark = 3
+accesses_at WroteY = 3
 accesses_at (Gone way) = 4
 
 -- the most accesses that a walk which stands here has made: four at each door that it passed, and those at its door

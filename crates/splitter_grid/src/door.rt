@@ -31,17 +31,17 @@ impl Door {
     }
 
     /// The register of the door's X.
-    pub fn name(self) -> usize
+    pub fn x(self) -> usize
         ensures { result ≡ 2 * number_of self }
     {
         2 * usize::from(self.number())
     }
 
     /// The register of the door's Y.
-    pub fn mark(self) -> usize
+    pub fn y(self) -> usize
         ensures { result ≡ 2 * number_of self + 1 }
     {
-        self.name() + 1
+        self.x() + 1
     }
 
     /// The door to the right: the next row, the same column. No grid is as deep as the depths of doors go.

@@ -128,7 +128,7 @@ fn doors_are_numbered_by_diagonals(rt: HostRuntime) {
     ];
     for (k, door) in doors.iter().enumerate() {
         assert_eq!(rt; usize::from(door.number()), k);
-        assert_eq!(rt; (door.name(), door.mark()), (2 * k, 2 * k + 1));
+        assert_eq!(rt; (door.x(), door.y()), (2 * k, 2 * k + 1));
     }
     assert_eq!(rt; right.down(), down.right());
 }

@@ -22,7 +22,7 @@ impl Walker {
         ensures { result ≡ walker_at identity door }
     {
         Walker {
-            visitor: Visitor::new(identity, door.name(), door.mark()),
+            visitor: Visitor::new(identity, door.x(), door.y()),
             door,
         }
     }
@@ -34,7 +34,7 @@ impl Walker {
         match self.visitor.stage {
             Stage::Gone(Way::Stop) => Some(Place::from(self.door.number())),
             Stage::Gone(Way::Right) | Stage::Gone(Way::Down) => None,
-            Stage::Outside | Stage::WroteName | Stage::SawClear | Stage::WroteMark => None,
+            Stage::Outside | Stage::WroteX | Stage::SawClear | Stage::WroteY => None,
         }
     }
 }

@@ -1,7 +1,8 @@
 //! A world whose participants walk through one grid.
 
 ghost use Rattle.std.specs.Prelude.{◌≡◌, ◌≢◌, ℕ, ◌+◌, ◌*◌, ◌∷◌, [], ◌++◌, List, IfOk, IfErr, IsOk, OnErr, Ok, Err, Some, true, false, is_some, ◌≤◌, ◌<◌, ◌⊎◌, ◌↔◌, Option};
-ghost use Rattle.splitter_grid.specs.Consistent.{name_in};
+ghost use Rattle.splitter_grid.specs.Laws.{StaysAlike};
+ghost use Rattle.splitter_grid.specs.Consistent.{x_in};
 ghost use Rattle.splitter_grid.specs.Door.{IsDoorWithin};
 ghost use Rattle.splitter_grid.specs.Entered.{WasEntered};
 ghost use Rattle.splitter_grid.specs.GridWorld.{After, GridState, IsLawful, LeadsOn, RefusesWhereDue, fresh, step_reply, world_after_step, place_in, entered_count};
@@ -11,7 +12,7 @@ ghost use Rattle.step_memory.specs.Calls.{Call, outcome_of, begun_in};
 ghost use Rattle.step_memory.specs.Calls.Call.{Began, Stepped};
 ghost use Rattle.step_memory.specs.Due.{RefusesAsDue};
 ghost use Rattle.step_memory.specs.declared.refusal.Refusal.{Refusal};
-ghost use Rattle.step_memory.specs.Locality.{IsLocal, LookAlike, StandAlike};
+ghost use Rattle.step_memory.specs.Locality.{IsLocal, LookAlike};
 ghost use Rattle.step_memory.specs.Registers.{memory_steps};
 ghost use Rattle.step_memory.specs.World.{after_begin, begin_refusal, done_unless};
 
@@ -95,7 +96,7 @@ impl<A: Allocator + Clone> GridWorld<A> {
         // alike to this walk the answer is the same, and where the walk then stands.
         ensures local { IsLocal walker_steps memory_steps id self.old self.new }
         ensures alike { (other : GridState) → LookAlike walker_steps memory_steps id self.old other → result ≡ step_reply other id }
-        ensures stands_alike { (other : GridState) → LookAlike walker_steps memory_steps id self.old other → StandAlike id self.new (world_after_step other id) }
+        ensures stands_alike { StaysAlike self.old self.new id }
 
         // The law, over every list of calls and replies that the world may be after.
         ensures after { LeadsOn self.old self.new (Stepped id result) }
@@ -125,7 +126,7 @@ impl<A: Allocator + Clone> GridWorld<A> {
 
         // The law, over every list of calls and replies that the world may be after: the doors counted are those that
         // were entered, and all of them lie on the first diagonals, as many as participants have begun.
-        ensures entered { (r : List (Call (Option ℕ))) → After self.now r → (k : ℕ) → (name_in self.now.memory k ≢ 0) ↔ WasEntered self.now.most r k }
+        ensures entered { (r : List (Call (Option ℕ))) → After self.now r → (k : ℕ) → (x_in self.now.memory k ≢ 0) ↔ WasEntered self.now.most r k }
         ensures within { (r : List (Call (Option ℕ))) → After self.now r → (k : ℕ) → WasEntered self.now.most r k → IsDoorWithin (begun_in r) k }
         ensures few { (r : List (Call (Option ℕ))) → After self.now r → 2 * result ≤ begun_in r * (begun_in r + 1) }
     {

@@ -5,8 +5,8 @@ use Rattle.step_memory.specs.SetAt.{set_at}
 use Rattle.step_memory.proofs.SetAtLemmas.{set_at-same, set_at-other, set_at-cases}
 use Rattle.splitter.specs.declared.way.Way.TheVariants.{Stop, Right, Down}
 use Rattle.splitter.specs.declared.stage.Stage.{Stage}
-use Rattle.splitter.specs.declared.stage.Stage.TheVariants.{Outside, WroteName, SawClear, WroteMark, Gone}
-use Rattle.splitter.specs.Stage.{has_entered, went_right, went_down, name_after, mark_after, stage_after}
+use Rattle.splitter.specs.declared.stage.Stage.TheVariants.{Outside, WroteX, SawClear, WroteY, Gone}
+use Rattle.splitter.specs.Stage.{has_entered, went_right, went_down, x_after, y_after, stage_after}
 use Rattle.splitter.specs.Door.{DoorIsLawful}
 use Rattle.splitter.proofs.DoorKept.{kept, lawful_new}
 use Rattle.splitter_tree.specs.declared.walker.Walker.{Walker}
@@ -16,23 +16,23 @@ use Rattle.splitter_tree.proofs.VisitsKept.{with_visit, with_visit-node, with_vi
 
 pub right_entered : (s : Stage) → went_right s ≡ true → has_entered s ≡ true
 right_entered Outside h = absurd (cc)
-right_entered WroteName h = absurd (cc)
+right_entered WroteX h = absurd (cc)
 right_entered SawClear h = absurd (cc)
-right_entered WroteMark h = absurd (cc)
+right_entered WroteY h = absurd (cc)
 right_entered (Gone Stop) h = absurd (cc)
 right_entered (Gone Right) h = refl
 right_entered (Gone Down) h = absurd (cc)
 
 pub down_entered : (s : Stage) → went_down s ≡ true → has_entered s ≡ true
 down_entered Outside h = absurd (cc)
-down_entered WroteName h = absurd (cc)
+down_entered WroteX h = absurd (cc)
 down_entered SawClear h = absurd (cc)
-down_entered WroteMark h = absurd (cc)
+down_entered WroteY h = absurd (cc)
 down_entered (Gone Stop) h = absurd (cc)
 down_entered (Gone Right) h = absurd (cc)
 down_entered (Gone Down) h = refl
 
-module _ (b : ℕ) (mark name taken : ℕ → ℕ) (walker : ℕ → Option Walker) (g : NodesAgree b mark name taken walker) (p : ℕ) (v : Walker) (is : walker p ≡ Some v) where
+module _ (b : ℕ) (mark x_of y_of : ℕ → ℕ) (walker : ℕ → Option Walker) (g : NodesAgree b mark x_of y_of walker) (p : ℕ) (v : Walker) (is : walker p ≡ Some v) where
   abbrev at : ℕ
   at = v.place
 
@@ -53,8 +53,8 @@ module _ (b : ℕ) (mark name taken : ℕ → ℕ) (walker : ℕ → Option Walk
   walks_marked q u = set_at-cases walker p (Some marked_on) (λ o. o ≡ Some u → IsWalkOf mark' g.stage g.came q u) q
       (λ e h. let own : marked_on ≡ u = cc in subst (λ (w : Walker). IsWalkOf mark' g.stage g.came q w) own (rw e (let old = g.walks p v is in record {
         identity = old.identity;
-        name = old.name;
-        taken = old.taken;
+        x = old.x;
+        y = old.y;
         here = old.here;
         arrived = old.arrived;
         marking = λ h. absurd (cc);
@@ -65,8 +65,8 @@ module _ (b : ℕ) (mark name taken : ℕ → ℕ) (walker : ℕ → Option Walk
       })))
       (λ n h. let old = g.walks q u h in record {
         identity = old.identity;
-        name = old.name;
-        taken = old.taken;
+        x = old.x;
+        y = old.y;
         here = old.here;
         arrived = old.arrived;
         marking = old.marking;
@@ -79,7 +79,7 @@ module _ (b : ℕ) (mark name taken : ℕ → ℕ) (walker : ℕ → Option Walk
   not_nobody : 0 ≢ p
   not_nobody e = absurd (let k : Some v ≡ None = sym is ∙ ap walker (sym e) ∙ g.nobody in cc)
 
-  pub marked_node : NodesAgree b mark' name taken (set_at walker p (Some marked_on))
+  pub marked_node : NodesAgree b mark' x_of y_of (set_at walker p (Some marked_on))
   marked_node = record {
     stage = g.stage;
     came = g.came;
@@ -88,7 +88,7 @@ module _ (b : ℕ) (mark name taken : ℕ → ℕ) (walker : ℕ → Option Walk
     nobody = set_at-other walker p (Some marked_on) 0 not_nobody ∙ g.nobody;
     walks = walks_marked;
     absent = λ q. set_at-cases walker p (Some marked_on) (λ o. o ≡ None → (k : ℕ) → g.stage k q ≡ Outside) q (λ _ h. absurd (cc)) (λ _ h. g.absent q h);
-    doors = g.doors;
+    splitters = g.splitters;
     entered = g.entered;
     listed = g.listed;
     node = g.node;
@@ -101,23 +101,23 @@ module _ (b : ℕ) (mark name taken : ℕ → ℕ) (walker : ℕ → Option Walk
   -- p takes an access of its visit
   module _ (visits : v.is_marking ≡ false) where
     abbrev after : Stage
-    after = stage_after p v.visitor.stage (name at) (taken at)
+    after = stage_after p v.visitor.stage (x_of at) (y_of at)
 
     abbrev stage' : ℕ → ℕ → Stage
     stage' = with_visit g.stage at p after
 
-    abbrev name' : ℕ → ℕ
-    name' = set_at name at (name_after p v.visitor.stage (name at))
+    abbrev x_of' : ℕ → ℕ
+    x_of' = set_at x_of at (x_after p v.visitor.stage (x_of at))
 
-    abbrev taken' : ℕ → ℕ
-    taken' = set_at taken at (mark_after v.visitor.stage (taken at))
+    abbrev y_of' : ℕ → ℕ
+    y_of' = set_at y_of at (y_after v.visitor.stage (y_of at))
 
-    doors_after : (j : ℕ) → DoorIsLawful (name' j) (taken' j) (stage' j)
-    doors_after j = elim (eqb_tells j at) [
-      | inl e ↦ subst (λ (i : ℕ). DoorIsLawful (name' i) (taken' i) (stage' i)) (sym e.1)
-          (rw (set_at-same name at (name_after p v.visitor.stage (name at)), set_at-same taken at (mark_after v.visitor.stage (taken at)), with_visit-node g.stage at p after)
-          (kept (name at) (taken at) (g.stage at) p (g.doors at) v.visitor.stage (g.walks p v is).here))
-      | inr e ↦ rw (set_at-other name at (name_after p v.visitor.stage (name at)) j e.1, set_at-other taken at (mark_after v.visitor.stage (taken at)) j e.1, with_visit-other_node g.stage at p after j e.1) (g.doors j)
+    splitters_after : (j : ℕ) → DoorIsLawful (x_of' j) (y_of' j) (stage' j)
+    splitters_after j = elim (eqb_tells j at) [
+      | inl e ↦ subst (λ (i : ℕ). DoorIsLawful (x_of' i) (y_of' i) (stage' i)) (sym e.1)
+          (rw (set_at-same x_of at (x_after p v.visitor.stage (x_of at)), set_at-same y_of at (y_after v.visitor.stage (y_of at)), with_visit-node g.stage at p after)
+          (kept (x_of at) (y_of at) (g.stage at) p (g.splitters at) v.visitor.stage (g.walks p v is).here))
+      | inr e ↦ rw (set_at-other x_of at (x_after p v.visitor.stage (x_of at)) j e.1, set_at-other y_of at (y_after v.visitor.stage (y_of at)) j e.1, with_visit-other_node g.stage at p after j e.1) (g.splitters j)
     ]
 
     -- the stage of q's visit to node j is as before, or these are p and its node
@@ -151,8 +151,8 @@ module _ (b : ℕ) (mark name taken : ℕ → ℕ) (walker : ℕ → Option Walk
           (λ e h. let own : v' ≡ u = cc in subst (λ (w : Walker). IsWalkOf mark stage' came' q w) own (rw e walk))
           (λ n h. let old = g.walks q u h in record {
             identity = old.identity;
-            name = old.name;
-            taken = old.taken;
+            x = old.x;
+            y = old.y;
             here = with_visit-other g.stage at p after u.place q n ∙ old.here;
             arrived = still u.place q old.arrived;
             marking = old.marking;
@@ -198,7 +198,7 @@ module _ (b : ℕ) (mark name taken : ℕ → ℕ) (walker : ℕ → Option Walk
         ]
       ]
 
-      stepped : NodesAgree b mark name' taken' walker'
+      stepped : NodesAgree b mark x_of' y_of' walker'
       stepped = record {
         stage = stage';
         came = came';
@@ -207,7 +207,7 @@ module _ (b : ℕ) (mark name taken : ℕ → ℕ) (walker : ℕ → Option Walk
         nobody = set_at-other walker p (Some v') 0 not_nobody ∙ g.nobody;
         walks = walks_after;
         absent = λ q. set_at-cases walker p (Some v') (λ o. o ≡ None → (k : ℕ) → stage' k q ≡ Outside) q (λ _ h. absurd (cc)) (λ n h k. with_visit-other g.stage at p after k q n ∙ g.absent q h k);
-        doors = doors_after;
+        splitters = splitters_after;
         entered = entered_after;
         listed = λ k q h. elim (cases k q h) [
           | inl e ↦ let old = g.listed at p (g.walks p v is).arrived in (old.0, old.1, old.2 ∙ sym e.1)
@@ -228,14 +228,14 @@ module _ (b : ℕ) (mark name taken : ℕ → ℕ) (walker : ℕ → Option Walk
     stage_above : (k j : ℕ) → at ≡ j → k < j → stage' k p ≡ g.stage k p
     stage_above k j e l = ap (λ (w : ℕ → Stage). w p) (with_visit-other_node g.stage at p after k (λ h. absurd (omega arith)))
 
-    pub stayed : went_right after ≡ false → went_down after ≡ false → NodesAgree b mark name' taken' (set_at walker p (Some staying))
+    pub stayed : went_right after ≡ false → went_down after ≡ false → NodesAgree b mark x_of' y_of' (set_at walker p (Some staying))
     stayed r d =
         let old = g.walks p v is in
         stepped staying
         (record {
           identity = old.identity;
-          name = old.name;
-          taken = old.taken;
+          x = old.x;
+          y = old.y;
           here = with_visit-own g.stage at p after;
           arrived = with_comer-has g.came v.place p;
           marking = λ h. absurd (cc);
@@ -255,12 +255,12 @@ module _ (b : ℕ) (mark name taken : ℕ → ℕ) (walker : ℕ → Option Walk
       below_child : (k : ℕ) → at < k → stage' k p ≡ Outside
       below_child k l = ap (λ (w : ℕ → Stage). w p) (with_visit-other_node g.stage at p after k (λ h. absurd (omega arith))) ∙ (g.walks p v is).below k l
 
-      pub moved_on : NodesAgree b mark name' taken' (set_at walker p (Some (walker_at p child)))
+      pub moved_on : NodesAgree b mark x_of' y_of' (set_at walker p (Some (walker_at p child)))
       moved_on = stepped (walker_at p child)
           (record {
             identity = refl;
-            name = refl;
-            taken = refl;
+            x = refl;
+            y = refl;
             here = below_child child larger;
             arrived = with_comer-has g.came child p;
             marking = λ _. refl;
@@ -274,19 +274,19 @@ module _ (b : ℕ) (mark name taken : ℕ → ℕ) (walker : ℕ → Option Walk
     own_stage : (k : ℕ) → k ≡ at → stage' k p ≡ after
     own_stage k e = ap (λ (i : ℕ). stage' i p) e ∙ with_visit-own g.stage at p after
 
-    pub moved_down : went_down after ≡ true → NodesAgree b mark name' taken' (set_at walker p (Some (walker_at p (2 * v.place))))
+    pub moved_down : went_down after ≡ true → NodesAgree b mark x_of' y_of' (set_at walker p (Some (walker_at p (2 * v.place))))
     moved_down d = let above = positive in moved_on (2 * v.place) (omega arith)
         (λ k l e. ap went_down (own_stage k (omega arith)) ∙ d)
         (λ k l e. absurd (omega arith))
 
-    pub moved_right : went_right after ≡ true → NodesAgree b mark name' taken' (set_at walker p (Some (walker_at p (2 * v.place + 1))))
+    pub moved_right : went_right after ≡ true → NodesAgree b mark x_of' y_of' (set_at walker p (Some (walker_at p (2 * v.place + 1))))
     moved_right r = let above = positive in moved_on (2 * v.place + 1) (omega arith)
         (λ k l e. absurd (omega arith))
         (λ k l e. ap went_right (own_stage k (omega arith)) ∙ r)
 
 -- one more participant, before the root
-pub joined : (b : ℕ) (mark name taken : ℕ → ℕ) (walker : ℕ → Option Walker) → NodesAgree b mark name taken walker → (p : ℕ) → p ≢ 0 → walker p ≡ None → NodesAgree (suc b) mark name taken (set_at walker p (Some (walk_of p)))
-joined b mark name taken walker g p some absent = record {
+pub joined : (b : ℕ) (mark x_of y_of : ℕ → ℕ) (walker : ℕ → Option Walker) → NodesAgree b mark x_of y_of walker → (p : ℕ) → p ≢ 0 → walker p ≡ None → NodesAgree (suc b) mark x_of y_of (set_at walker p (Some (walk_of p)))
+joined b mark x_of y_of walker g p some absent = record {
   stage = g.stage;
   came = with_comer g.came 1 p;
   identities = p ∷ g.identities;
@@ -295,8 +295,8 @@ joined b mark name taken walker g p some absent = record {
   walks = λ q u. set_at-cases walker p (Some (walk_of p)) (λ o. o ≡ Some u → IsWalkOf mark g.stage (with_comer g.came 1 p) q u) q
       (λ e h. let own : walk_of p ≡ u = cc in subst (λ (w : Walker). IsWalkOf mark g.stage (with_comer g.came 1 p) q w) own (rw e (record {
         identity = refl;
-        name = refl;
-        taken = refl;
+        x = refl;
+        y = refl;
         here = g.absent p absent 1;
         arrived = with_comer-has g.came 1 p;
         marking = λ _. refl;
@@ -307,8 +307,8 @@ joined b mark name taken walker g p some absent = record {
       })))
       (λ _ h. let old = g.walks q u h in record {
         identity = old.identity;
-        name = old.name;
-        taken = old.taken;
+        x = old.x;
+        y = old.y;
         here = old.here;
         arrived = with_comer-keeps g.came 1 p u.place q old.arrived;
         marking = old.marking;
@@ -318,7 +318,7 @@ joined b mark name taken walker g p some absent = record {
         below = old.below;
       });
   absent = λ q. set_at-cases walker p (Some (walk_of p)) (λ o. o ≡ None → (k : ℕ) → g.stage k q ≡ Outside) q (λ _ h. absurd (cc)) (λ _ h. g.absent q h);
-  doors = g.doors;
+  splitters = g.splitters;
   entered = λ k q h. with_comer-keeps g.came 1 p k q (g.entered k q h);
   listed = λ k q h. elim (with_comer-cases g.came 1 p k q h) [
     | inl e ↦ (zero, omega arith, sym e.1)
@@ -332,8 +332,8 @@ joined b mark name taken walker g p some absent = record {
 }
 
 -- a tree of no nodes
-pub agree_new : (mark name taken : ℕ → ℕ) → ((k : ℕ) → mark k ≡ 0) → ((k : ℕ) → taken k ≡ 0) → NodesAgree 0 mark name taken (λ p. None)
-agree_new mark name taken unmarked clear = record {
+pub agree_new : (mark x_of y_of : ℕ → ℕ) → ((k : ℕ) → mark k ≡ 0) → ((k : ℕ) → y_of k ≡ 0) → NodesAgree 0 mark x_of y_of (λ p. None)
+agree_new mark x_of y_of unmarked clear = record {
   stage = λ k p. Outside;
   came = λ k p. false;
   identities = [];
@@ -341,7 +341,7 @@ agree_new mark name taken unmarked clear = record {
   nobody = refl;
   walks = λ p u h. absurd (cc);
   absent = λ p h k. refl;
-  doors = λ k. rw (clear k) (lawful_new (name k));
+  splitters = λ k. rw (clear k) (lawful_new (x_of k));
   entered = λ k p h. absurd (cc);
   listed = λ k p h. absurd (cc);
   node = λ k p h. absurd (cc);

@@ -10,7 +10,7 @@ use Rattle.step_memory.specs.declared.participant.Participant.{Participant}
 use Rattle.step_memory.specs.declared.record.Record.{Record}
 use Rattle.step_memory.proofs.SetAtLemmas.{set_at-same, set_at-other}
 use Rattle.splitter_tree.specs.declared.register.TreeRegister.{TreeRegister}
-use Rattle.splitter_tree.specs.declared.register.TreeRegister.TheVariants.{Mark, Name, Taken, Contents}
+use Rattle.splitter_tree.specs.declared.register.TreeRegister.TheVariants.{Mark, X, Y, Contents}
 use Rattle.splitter_tree.specs.declared.register.TreeValue.{TreeValue}
 use Rattle.splitter_tree.specs.declared.register.TreeValue.TheVariants.{Contents as Held}
 use Rattle.splitter_tree.specs.declared.walker.Walker.{Walker}
@@ -67,20 +67,20 @@ pub record Agrees {S : Type 0} (memory : MemorySteps S TreeRegister TreeValue) (
   pub grows : (i q : ℕ) → i ≤ o.last → IsSome (o.moment i q) → IsSome (o.moment o.last q)
   pub under_way : (q : ℕ) (c : Collect) → collect_in (person q) ≡ Some c → UnderWay (marked_in memory s) (λ u. place_in (person u)) o.moment o.last (o.since q) (o.steps q) c
 
-some_is : {X : Type 0} (o : Option X) → IsSome o → (x : X) × (o ≡ Some x)
+some_is : {T : Type 0} (o : Option T) → IsSome o → (x : T) × (o ≡ Some x)
 some_is None h = absurd (cc)
 some_is (Some x) h = (x, refl)
 
 -- what is said of each person
-abbrev pub said : {X : Type 0} → (Person → X) → (ℕ → Person) → ℕ → X
+abbrev pub said : {T : Type 0} → (Person → T) → (ℕ → Person) → ℕ → T
 said say person q = say (person q)
 
 -- a function of a person, after one was put in p's place
-person_at : {X : Type 0} (say : Person → X) (person : ℕ → Person) (p : ℕ) (new : Person) → said say (set_at person p new) ≡ set_at (said say person) p (say new)
+person_at : {T : Type 0} (say : Person → T) (person : ℕ → Person) (p : ℕ) (new : Person) → said say (set_at person p new) ≡ set_at (said say person) p (say new)
 person_at say person p new = fun_ext (λ q. elim (q == p) as (λ t. say (cond t new (person q)) ≡ cond t (say new) (say (person q))) [ true ↦ refl | false ↦ refl ])
 
 -- what is said alike of the new one and of the old is said as before
-same_said : {X : Type 0} (say : Person → X) (person : ℕ → Person) (p : ℕ) (new : Person) → say new ≡ say (person p) → said say (set_at person p new) ≡ said say person
+same_said : {T : Type 0} (say : Person → T) (person : ℕ → Person) (p : ℕ) (new : Person) → say new ≡ say (person p) → said say (set_at person p new) ≡ said say person
 same_said say person p new e = fun_ext (λ q. elim (eqb_tells q p) [ inl t ↦ rw t.0 (e ∙ ap (λ u. say (person u)) (sym t.1)) | inr t ↦ rw t.0 refl ])
 
 module _ {S : Type 0} (memory : MemorySteps S TreeRegister TreeValue) (tree : IsTreeMemory memory) (most b : ℕ) (s : S) (person : ℕ → Person) (o : CollectObject) (t : Agrees memory most b s person o) where
@@ -159,7 +159,7 @@ module _ {S : Type 0} (memory : MemorySteps S TreeRegister TreeValue) (tree : Is
       marked_same k = ap (λ x. word_in x.0 == 1) (same (Mark k))
 
       consistent_same : IsConsistent memory most b s' (λ q. walker_in (now q))
-      consistent_same = rw walkers_same (elsewhere memory most b s (λ q. walker_in (person q)) t.consistent s' (fun_ext (λ k. ap (λ x. word_in x.0) (same (Mark k)))) (fun_ext (λ k. ap (λ x. word_in x.0) (same (Name k)))) (fun_ext (λ k. ap (λ x. word_in x.0) (same (Taken k)))))
+      consistent_same = rw walkers_same (elsewhere memory most b s (λ q. walker_in (person q)) t.consistent s' (fun_ext (λ k. ap (λ x. word_in x.0) (same (Mark k)))) (fun_ext (λ k. ap (λ x. word_in x.0) (same (X k)))) (fun_ext (λ k. ap (λ x. word_in x.0) (same (Y k)))))
 
       under_way_same : (since steps : ℕ) (c : Collect) → UnderWay (marked_in memory s) place o.moment o.last since steps c → UnderWay (marked_in memory s') (λ q. place_in (now q)) o.moment o.last since steps c
       under_way_same since steps c u = under_way_later (marked_in memory s) (marked_in memory s') place (λ q. place_in (now q)) o.moment o.moment o.last o.last since steps c (λ k h. marked_same k ∙ h) (λ q k h. place_same q ∙ h) (λ i h. refl) (omega arith) u
@@ -211,7 +211,7 @@ module _ {S : Type 0} (memory : MemorySteps S TreeRegister TreeValue) (tree : Is
 
       consistent_kept : IsConsistent memory most b wrote (λ q. walker_in (now q))
       consistent_kept = rw walkers_same (elsewhere memory most b s (λ q. walker_in (person q)) t.consistent wrote
-          (fun_ext (λ j. ap (λ x. word_in x.0) (spared (Mark j) (λ h. absurd (cc))))) (fun_ext (λ j. ap (λ x. word_in x.0) (spared (Name j) (λ h. absurd (cc))))) (fun_ext (λ j. ap (λ x. word_in x.0) (spared (Taken j) (λ h. absurd (cc))))))
+          (fun_ext (λ j. ap (λ x. word_in x.0) (spared (Mark j) (λ h. absurd (cc))))) (fun_ext (λ j. ap (λ x. word_in x.0) (spared (X j) (λ h. absurd (cc))))) (fun_ext (λ j. ap (λ x. word_in x.0) (spared (Y j) (λ h. absurd (cc))))))
 
       abbrev o' : CollectObject
       o' = with_moment o p r.value

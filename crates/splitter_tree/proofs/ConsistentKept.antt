@@ -10,23 +10,23 @@ use Rattle.step_memory.specs.SetAt.{set_at}
 use Rattle.step_memory.proofs.SetAtLemmas.{set_at-other, set_at-as_is}
 use Rattle.splitter.specs.declared.way.Way.TheVariants.{Stop, Right, Down}
 use Rattle.splitter.specs.declared.stage.Stage.{Stage}
-use Rattle.splitter.specs.declared.stage.Stage.TheVariants.{Outside, WroteName, SawClear, WroteMark, Gone}
+use Rattle.splitter.specs.declared.stage.Stage.TheVariants.{Outside, WroteX, SawClear, WroteY, Gone}
 use Rattle.splitter.specs.declared.visitor.Visitor.{Visitor}
-use Rattle.splitter.specs.Stage.{went_right, went_down, name_after, mark_after, stage_after}
+use Rattle.splitter.specs.Stage.{went_right, went_down, x_after, y_after, stage_after}
 use Rattle.splitter.specs.Visitor.{access_at, stage_by}
 use Rattle.splitter_tree.specs.declared.register.TreeRegister.{TreeRegister}
-use Rattle.splitter_tree.specs.declared.register.TreeRegister.TheVariants.{Mark, Name, Taken, Contents}
+use Rattle.splitter_tree.specs.declared.register.TreeRegister.TheVariants.{Mark, X, Y, Contents}
 use Rattle.splitter_tree.specs.declared.register.TreeValue.{TreeValue}
 use Rattle.splitter_tree.specs.declared.register.TreeValue.TheVariants.{Word}
 use Rattle.splitter_tree.specs.declared.walker.Walker.{Walker}
-use Rattle.splitter_tree.specs.TreeMemory.{word_in, segment_in, mark_at, name_at, taken_at, segment_at, IsWithinReach, IsTreeMemory, IsEmptyTree}
+use Rattle.splitter_tree.specs.TreeMemory.{word_in, segment_in, mark_at, x_at, y_at, segment_at, IsWithinReach, IsTreeMemory, IsEmptyTree}
 use Rattle.splitter_tree.specs.Walk.{left_child, right_child, walker_at, walk_of, in_words, told, next_access, visit_on, walked_to, walker_after}
 use Rattle.splitter_tree.specs.Consistent.{NodesAgree, IsConsistent}
 use Rattle.splitter_tree.proofs.AgreeKept.{right_entered, down_entered, marked_node, stayed, moved_down, moved_right, joined, agree_new}
 use Rattle.splitter_tree.proofs.DepthBound.{halves, small_place}
 use Rattle.std.proofs.lemmas.Bool.{cases_Bool}
 
-module _ (b : ℕ) (mark name taken : ℕ → ℕ) (walker : ℕ → Option Walker) (g : NodesAgree b mark name taken walker) where
+module _ (b : ℕ) (mark x_of y_of : ℕ → ℕ) (walker : ℕ → Option Walker) (g : NodesAgree b mark x_of y_of walker) where
   -- to whose node someone came, its parent is marked
   pub parent_marked : (k p : ℕ) → 2 ≤ k → g.came k p ≡ true → mark (k / 2) ≡ 1
   parent_marked k p l h = elim (halves k) [
@@ -34,33 +34,33 @@ module _ (b : ℕ) (mark name taken : ℕ → ℕ) (walker : ℕ → Option Walk
     | inr e ↦ g.marked (k / 2) p (right_entered (g.stage (k / 2) p) (g.came_right (k / 2) p (omega arith) (subst (λ (i : ℕ). g.came i p ≡ true) e h)))
   ]
 
-module _ (b : ℕ) (few : b ≤ 64) (mark name taken : ℕ → ℕ) (walker : ℕ → Option Walker) (g : NodesAgree b mark name taken walker) (p : ℕ) (u : Walker) (is : walker p ≡ Some u) (visits : u.is_marking ≡ false) where
+module _ (b : ℕ) (few : b ≤ 64) (mark x_of y_of : ℕ → ℕ) (walker : ℕ → Option Walker) (g : NodesAgree b mark x_of y_of walker) (p : ℕ) (u : Walker) (is : walker p ≡ Some u) (visits : u.is_marking ≡ false) where
   abbrev next_stage : Stage
-  next_stage = stage_after p u.visitor.stage (name u.place) (taken u.place)
+  next_stage = stage_after p u.visitor.stage (x_of u.place) (y_of u.place)
 
   abbrev AgreesWith : Walker → Type 0
-  AgreesWith new = NodesAgree b mark (set_at name u.place (name_after p u.visitor.stage (name u.place))) (set_at taken u.place (mark_after u.visitor.stage (taken u.place))) (set_at walker p (Some new))
+  AgreesWith new = NodesAgree b mark (set_at x_of u.place (x_after p u.visitor.stage (x_of u.place))) (set_at y_of u.place (y_after u.visitor.stage (y_of u.place))) (set_at walker p (Some new))
 
   stays : (s : Stage) → next_stage ≡ s → went_right s ≡ false → went_down s ≡ false → AgreesWith (visit_on u s)
-  stays s k r d = subst (λ (x : Stage). AgreesWith (visit_on u x)) k (stayed b mark name taken walker g p u is visits (rw k r) (rw k d))
+  stays s k r d = subst (λ (x : Stage). AgreesWith (visit_on u x)) k (stayed b mark x_of y_of walker g p u is visits (rw k r) (rw k d))
 
   -- the walk that an access of a visit leaves, by how far the visit has come
   agrees_next : (s : Stage) → next_stage ≡ s → AgreesWith (walked_to u s)
   agrees_next Outside k = stays Outside k refl refl
-  agrees_next WroteName k = stays WroteName k refl refl
+  agrees_next WroteX k = stays WroteX k refl refl
   agrees_next SawClear k = stays SawClear k refl refl
-  agrees_next WroteMark k = stays WroteMark k refl refl
+  agrees_next WroteY k = stays WroteY k refl refl
   agrees_next (Gone Stop) k = stays (Gone Stop) k refl refl
   agrees_next (Gone Right) k =
       let walk = g.walks p u is in
-      let small = small_place b few mark name taken walker g u.place p walk.arrived in
+      let small = small_place b few mark x_of y_of walker g u.place p walk.arrived in
       let next : walker_at p (2 * u.place + 1) ≡ walker_at u.visitor.identity (right_child u.place) = rw (walk.identity, small.1) refl in
-      subst AgreesWith next (moved_right b mark name taken walker g p u is visits (rw k refl))
+      subst AgreesWith next (moved_right b mark x_of y_of walker g p u is visits (rw k refl))
   agrees_next (Gone Down) k =
       let walk = g.walks p u is in
-      let small = small_place b few mark name taken walker g u.place p walk.arrived in
+      let small = small_place b few mark x_of y_of walker g u.place p walk.arrived in
       let next : walker_at p (2 * u.place) ≡ walker_at u.visitor.identity (left_child u.place) = rw (walk.identity, small.0) refl in
-      subst AgreesWith next (moved_down b mark name taken walker g p u is visits (rw k refl))
+      subst AgreesWith next (moved_down b mark x_of y_of walker g p u is visits (rw k refl))
 
 -- what an access of a walk does to the registers
 module _ {S : Type 0} (memory : MemorySteps S TreeRegister TreeValue) (tree : IsTreeMemory memory) (s : S) where
@@ -71,11 +71,11 @@ module _ {S : Type 0} (memory : MemorySteps S TreeRegister TreeValue) (tree : Is
   pub mark_spared : (a : Access TreeRegister TreeValue) (k : ℕ) → Spares a (Mark k) → mark_at memory (left_by a) k ≡ mark_at memory s k
   mark_spared a k h = ap (λ (x : TreeValue × Bool). word_in x.0) (tree.others s a (Mark k) h)
 
-  name_spared : (a : Access TreeRegister TreeValue) (k : ℕ) → Spares a (Name k) → name_at memory (left_by a) k ≡ name_at memory s k
-  name_spared a k h = ap (λ (x : TreeValue × Bool). word_in x.0) (tree.others s a (Name k) h)
+  x_spared : (a : Access TreeRegister TreeValue) (k : ℕ) → Spares a (X k) → x_at memory (left_by a) k ≡ x_at memory s k
+  x_spared a k h = ap (λ (x : TreeValue × Bool). word_in x.0) (tree.others s a (X k) h)
 
-  taken_spared : (a : Access TreeRegister TreeValue) (k : ℕ) → Spares a (Taken k) → taken_at memory (left_by a) k ≡ taken_at memory s k
-  taken_spared a k h = ap (λ (x : TreeValue × Bool). word_in x.0) (tree.others s a (Taken k) h)
+  y_spared : (a : Access TreeRegister TreeValue) (k : ℕ) → Spares a (Y k) → y_at memory (left_by a) k ≡ y_at memory s k
+  y_spared a k h = ap (λ (x : TreeValue × Bool). word_in x.0) (tree.others s a (Y k) h)
 
   segment_spared : (a : Access TreeRegister TreeValue) (k : ℕ) → Spares a (Contents k) → segment_at memory (left_by a) k ≡ segment_at memory s k
   segment_spared a k h = ap (λ (x : TreeValue × Bool). segment_in x.0) (tree.others s a (Contents k) h)
@@ -90,75 +90,75 @@ module _ {S : Type 0} (memory : MemorySteps S TreeRegister TreeValue) (tree : Is
     | inr e ↦ rw e.0 (mark_spared (marking k) j (λ h. e.1 (let both : j ≡ k = cc in both)))
   ])
 
-  names_by_marking : (k : ℕ) → name_at memory (left_by (marking k)) ≡ name_at memory s
-  names_by_marking k = fun_ext (λ j. name_spared (marking k) j (λ h. absurd (cc)))
+  x_by_marking : (k : ℕ) → x_at memory (left_by (marking k)) ≡ x_at memory s
+  x_by_marking k = fun_ext (λ j. x_spared (marking k) j (λ h. absurd (cc)))
 
-  takens_by_marking : (k : ℕ) → taken_at memory (left_by (marking k)) ≡ taken_at memory s
-  takens_by_marking k = fun_ext (λ j. taken_spared (marking k) j (λ h. absurd (cc)))
+  y_by_marking : (k : ℕ) → y_at memory (left_by (marking k)) ≡ y_at memory s
+  y_by_marking k = fun_ext (λ j. y_spared (marking k) j (λ h. absurd (cc)))
 
   -- an access of a visit to the splitter of node k, which is marked
   module _ (p k : ℕ) (marked : mark_at memory s k ≡ 1) where
     abbrev visiting : Stage → Access TreeRegister TreeValue
-    visiting stage = in_words (access_at p (Name k) (Taken k) stage)
+    visiting stage = in_words (access_at p (X k) (Y k) stage)
 
     pub marks_by_visit : (stage : Stage) → mark_at memory (left_by (visiting stage)) ≡ mark_at memory s
     marks_by_visit Outside = fun_ext (λ j. mark_spared (visiting Outside) j (λ h. absurd (cc)))
-    marks_by_visit WroteName = fun_ext (λ j. mark_spared (visiting WroteName) j tt)
+    marks_by_visit WroteX = fun_ext (λ j. mark_spared (visiting WroteX) j tt)
     marks_by_visit SawClear = fun_ext (λ j. mark_spared (visiting SawClear) j (λ h. absurd (cc)))
-    marks_by_visit WroteMark = fun_ext (λ j. mark_spared (visiting WroteMark) j tt)
+    marks_by_visit WroteY = fun_ext (λ j. mark_spared (visiting WroteY) j tt)
     marks_by_visit (Gone way) = fun_ext (λ j. mark_spared (visiting (Gone way)) j tt)
 
-    -- a visit that writes no name leaves the names
-    same_names : (a : Access TreeRegister TreeValue) → ((j : ℕ) → Spares a (Name j)) → name_at memory (left_by a) ≡ set_at (name_at memory s) k (name_at memory s k)
-    same_names a spares = fun_ext (λ j. name_spared a j (spares j)) ∙ sym (set_at-as_is (name_at memory s) k (name_at memory s k) refl)
+    -- a visit that does not write X leaves it
+    same_x : (a : Access TreeRegister TreeValue) → ((j : ℕ) → Spares a (X j)) → x_at memory (left_by a) ≡ set_at (x_at memory s) k (x_at memory s k)
+    same_x a spares = fun_ext (λ j. x_spared a j (spares j)) ∙ sym (set_at-as_is (x_at memory s) k (x_at memory s k) refl)
 
-    same_takens : (a : Access TreeRegister TreeValue) → ((j : ℕ) → Spares a (Taken j)) → taken_at memory (left_by a) ≡ set_at (taken_at memory s) k (taken_at memory s k)
-    same_takens a spares = fun_ext (λ j. taken_spared a j (spares j)) ∙ sym (set_at-as_is (taken_at memory s) k (taken_at memory s k) refl)
+    same_y : (a : Access TreeRegister TreeValue) → ((j : ℕ) → Spares a (Y j)) → y_at memory (left_by a) ≡ set_at (y_at memory s) k (y_at memory s k)
+    same_y a spares = fun_ext (λ j. y_spared a j (spares j)) ∙ sym (set_at-as_is (y_at memory s) k (y_at memory s k) refl)
 
-    names_by_visit : (stage : Stage) → name_at memory (left_by (visiting stage)) ≡ set_at (name_at memory s) k (name_after p stage (name_at memory s k))
-    names_by_visit Outside = fun_ext (λ j. elim (eqb_tells j k) [
-      | inl e ↦ rw e.0 (ap (name_at memory (left_by (visiting Outside))) e.1 ∙ ap word_in (tree.takes_name s k p marked))
-      | inr e ↦ rw e.0 (name_spared (visiting Outside) j (λ h. e.1 (let both : j ≡ k = cc in both)))
+    x_by_visit : (stage : Stage) → x_at memory (left_by (visiting stage)) ≡ set_at (x_at memory s) k (x_after p stage (x_at memory s k))
+    x_by_visit Outside = fun_ext (λ j. elim (eqb_tells j k) [
+      | inl e ↦ rw e.0 (ap (x_at memory (left_by (visiting Outside))) e.1 ∙ ap word_in (tree.takes_x s k p marked))
+      | inr e ↦ rw e.0 (x_spared (visiting Outside) j (λ h. e.1 (let both : j ≡ k = cc in both)))
     ])
-    names_by_visit WroteName = same_names (visiting WroteName) (λ j. tt)
-    names_by_visit SawClear = same_names (visiting SawClear) (λ j h. absurd (cc))
-    names_by_visit WroteMark = same_names (visiting WroteMark) (λ j. tt)
-    names_by_visit (Gone way) = same_names (visiting (Gone way)) (λ j. tt)
+    x_by_visit WroteX = same_x (visiting WroteX) (λ j. tt)
+    x_by_visit SawClear = same_x (visiting SawClear) (λ j h. absurd (cc))
+    x_by_visit WroteY = same_x (visiting WroteY) (λ j. tt)
+    x_by_visit (Gone way) = same_x (visiting (Gone way)) (λ j. tt)
 
-    takens_by_visit : (stage : Stage) → taken_at memory (left_by (visiting stage)) ≡ set_at (taken_at memory s) k (mark_after stage (taken_at memory s k))
-    takens_by_visit Outside = same_takens (visiting Outside) (λ j h. absurd (cc))
-    takens_by_visit WroteName = same_takens (visiting WroteName) (λ j. tt)
-    takens_by_visit SawClear = fun_ext (λ j. elim (eqb_tells j k) [
-      | inl e ↦ rw e.0 (ap (taken_at memory (left_by (visiting SawClear))) e.1 ∙ ap word_in (tree.takes_taken s k marked))
-      | inr e ↦ rw e.0 (taken_spared (visiting SawClear) j (λ h. e.1 (let both : j ≡ k = cc in both)))
+    y_by_visit : (stage : Stage) → y_at memory (left_by (visiting stage)) ≡ set_at (y_at memory s) k (y_after stage (y_at memory s k))
+    y_by_visit Outside = same_y (visiting Outside) (λ j h. absurd (cc))
+    y_by_visit WroteX = same_y (visiting WroteX) (λ j. tt)
+    y_by_visit SawClear = fun_ext (λ j. elim (eqb_tells j k) [
+      | inl e ↦ rw e.0 (ap (y_at memory (left_by (visiting SawClear))) e.1 ∙ ap word_in (tree.takes_y s k marked))
+      | inr e ↦ rw e.0 (y_spared (visiting SawClear) j (λ h. e.1 (let both : j ≡ k = cc in both)))
     ])
-    takens_by_visit WroteMark = same_takens (visiting WroteMark) (λ j. tt)
-    takens_by_visit (Gone way) = same_takens (visiting (Gone way)) (λ j. tt)
+    y_by_visit WroteY = same_y (visiting WroteY) (λ j. tt)
+    y_by_visit (Gone way) = same_y (visiting (Gone way)) (λ j. tt)
 
     -- the words that a visit reads are those in its node's registers
-    pub visit_reaches : (v : Visitor TreeRegister) → v.identity ≡ p → v.name ≡ Name k → v.mark ≡ Taken k → (stage : Stage) → v.stage ≡ stage →
-        stage_by v (told (answer_from (memory.register s) (visiting stage))) ≡ stage_after p stage (name_at memory s k) (taken_at memory s k)
-    visit_reaches v own name taken Outside e = rw e refl
-    visit_reaches v own name taken WroteName e = rw (e, tree.takens s k) refl
-    visit_reaches v own name taken SawClear e = rw e refl
-    visit_reaches v own name taken WroteMark e = rw (e, tree.names s k, own) refl
-    visit_reaches v own name taken (Gone way) e = rw e refl
+    pub visit_reaches : (v : Visitor TreeRegister) → v.identity ≡ p → v.x ≡ X k → v.y ≡ Y k → (stage : Stage) → v.stage ≡ stage →
+        stage_by v (told (answer_from (memory.register s) (visiting stage))) ≡ stage_after p stage (x_at memory s k) (y_at memory s k)
+    visit_reaches v own x_of y_of Outside e = rw e refl
+    visit_reaches v own x_of y_of WroteX e = rw (e, tree.ys s k) refl
+    visit_reaches v own x_of y_of SawClear e = rw e refl
+    visit_reaches v own x_of y_of WroteY e = rw (e, tree.xs s k, own) refl
+    visit_reaches v own x_of y_of (Gone way) e = rw e refl
 
     segments_by_visit : (stage : Stage) (j : ℕ) → segment_at memory (left_by (visiting stage)) j ≡ segment_at memory s j
     segments_by_visit Outside j = segment_spared (visiting Outside) j (λ h. absurd (cc))
-    segments_by_visit WroteName j = segment_spared (visiting WroteName) j tt
+    segments_by_visit WroteX j = segment_spared (visiting WroteX) j tt
     segments_by_visit SawClear j = segment_spared (visiting SawClear) j (λ h. absurd (cc))
-    segments_by_visit WroteMark j = segment_spared (visiting WroteMark) j tt
+    segments_by_visit WroteY j = segment_spared (visiting WroteY) j tt
     segments_by_visit (Gone way) j = segment_spared (visiting (Gone way)) j tt
 
 module _ {S : Type 0} (memory : MemorySteps S TreeRegister TreeValue) (most b : ℕ) (s : S) (walker : ℕ → Option Walker) (c : IsConsistent memory most b s walker) where
   -- one who begins
   pub begun : (p : ℕ) → p ≢ 0 → walker p ≡ None → b < most → IsConsistent memory most (suc b) s (set_at walker p (Some (walk_of p)))
-  begun p some absent l = record { few = c.few; room = omega arith; agree = joined b (mark_at memory s) (name_at memory s) (taken_at memory s) walker c.agree p some absent }
+  begun p some absent l = record { few = c.few; room = omega arith; agree = joined b (mark_at memory s) (x_at memory s) (y_at memory s) walker c.agree p some absent }
 
-  -- what leaves marks, names and bits as they are
-  pub elsewhere : (other : S) → mark_at memory other ≡ mark_at memory s → name_at memory other ≡ name_at memory s → taken_at memory other ≡ taken_at memory s → IsConsistent memory most b other walker
-  elsewhere other marks names takens = record { few = c.few; room = c.room; agree = rw (marks, names, takens) c.agree }
+  -- what leaves marks, X and Y as they are
+  pub elsewhere : (other : S) → mark_at memory other ≡ mark_at memory s → x_at memory other ≡ x_at memory s → y_at memory other ≡ y_at memory s → IsConsistent memory most b other walker
+  elsewhere other marks xs ys = record { few = c.few; room = c.room; agree = rw (marks, xs, ys) c.agree }
 
   -- a walk stands within reach
   reaches : (p : ℕ) (u : Walker) → walker p ≡ Some u → IsWithinReach memory s u.place
@@ -167,13 +167,13 @@ module _ {S : Type 0} (memory : MemorySteps S TreeRegister TreeValue) (most b : 
       let some = c.agree.node u.place p came in
       elim (eqb_tells u.place 1) [
         | inl e ↦ inl e.1
-        | inr e ↦ let other = e.1 in inr (parent_marked b (mark_at memory s) (name_at memory s) (taken_at memory s) walker c.agree u.place p (omega arith) came)
+        | inr e ↦ let other = e.1 in inr (parent_marked b (mark_at memory s) (x_at memory s) (y_at memory s) walker c.agree u.place p (omega arith) came)
       ]
 
   module _ (tree : IsTreeMemory memory) (p : ℕ) (u : Walker) (is : walker p ≡ Some u) where
     -- the access of a walk that visits is one to its node's splitter
-    visit_is : u.is_marking ≡ false → next_access u ≡ in_words (access_at p (Name u.place) (Taken u.place) u.visitor.stage)
-    visit_is m = let walk = c.agree.walks p u is in rw (m, walk.identity, walk.name, walk.taken) refl
+    visit_is : u.is_marking ≡ false → next_access u ≡ in_words (access_at p (X u.place) (Y u.place) u.visitor.stage)
+    visit_is m = let walk = c.agree.walks p u is in rw (m, walk.identity, walk.x, walk.y) refl
 
     marking_is : u.is_marking ≡ true → next_access u ≡ Write (Mark u.place) (Word 1)
     marking_is m = rw m refl
@@ -185,25 +185,25 @@ module _ {S : Type 0} (memory : MemorySteps S TreeRegister TreeValue) (most b : 
     marks_on m = record {
       few = c.few;
       room = c.room;
-      agree = rw (marks_by_marking memory tree s u.place (reaches p u is), names_by_marking memory tree s u.place, takens_by_marking memory tree s u.place, m)
-          (marked_node b (mark_at memory s) (name_at memory s) (taken_at memory s) walker c.agree p u is);
+      agree = rw (marks_by_marking memory tree s u.place (reaches p u is), x_by_marking memory tree s u.place, y_by_marking memory tree s u.place, m)
+          (marked_node b (mark_at memory s) (x_at memory s) (y_at memory s) walker c.agree p u is);
     }
 
-    visits_on : u.is_marking ≡ false → GoesOn (in_words (access_at p (Name u.place) (Taken u.place) u.visitor.stage))
+    visits_on : u.is_marking ≡ false → GoesOn (in_words (access_at p (X u.place) (Y u.place) u.visitor.stage))
     visits_on m =
         let walk = c.agree.walks p u is in
         let marked = walk.marked m in
         let few : b ≤ 64 = (let f = c.few in let r = c.room in omega arith) in
-        let a : Access TreeRegister TreeValue = in_words (access_at p (Name u.place) (Taken u.place) u.visitor.stage) in
-        let stage = visit_reaches memory tree s p u.place marked u.visitor walk.identity walk.name walk.taken u.visitor.stage refl in
+        let a : Access TreeRegister TreeValue = in_words (access_at p (X u.place) (Y u.place) u.visitor.stage) in
+        let stage = visit_reaches memory tree s p u.place marked u.visitor walk.identity walk.x walk.y u.visitor.stage refl in
         let reached : Stage = stage_by u.visitor (told (answer_from (memory.register s) a)) in
-        let next = agrees_next b few (mark_at memory s) (name_at memory s) (taken_at memory s) walker c.agree p u is m reached (sym stage) in
+        let next = agrees_next b few (mark_at memory s) (x_at memory s) (y_at memory s) walker c.agree p u is m reached (sym stage) in
         let after_is : walker_after u (answer_from (memory.register s) a) ≡ walked_to u reached = ap (λ (t : Bool). cond t (record u { is_marking = false }) (walked_to u reached)) m in
         record {
           few = c.few;
           room = c.room;
-          agree = rw (marks_by_visit memory tree s p u.place marked u.visitor.stage, names_by_visit memory tree s p u.place marked u.visitor.stage, takens_by_visit memory tree s p u.place marked u.visitor.stage)
-              (subst (λ (w : Walker). NodesAgree b (mark_at memory s) (set_at (name_at memory s) u.place (name_after p u.visitor.stage (name_at memory s u.place))) (set_at (taken_at memory s) u.place (mark_after u.visitor.stage (taken_at memory s u.place))) (set_at walker p (Some w))) (sym after_is) next);
+          agree = rw (marks_by_visit memory tree s p u.place marked u.visitor.stage, x_by_visit memory tree s p u.place marked u.visitor.stage, y_by_visit memory tree s p u.place marked u.visitor.stage)
+              (subst (λ (w : Walker). NodesAgree b (mark_at memory s) (set_at (x_at memory s) u.place (x_after p u.visitor.stage (x_at memory s u.place))) (set_at (y_at memory s) u.place (y_after u.visitor.stage (y_at memory s u.place))) (set_at walker p (Some w))) (sym after_is) next);
         }
 
     -- an access of a walk
@@ -234,11 +234,11 @@ module _ {S : Type 0} (memory : MemorySteps S TreeRegister TreeValue) (most b : 
           (λ h. inr (sym now ∙ h), λ o. elim o [ inl at ↦ absurd (let marking : u.is_marking ≡ true = at.0 in cc) | inr h ↦ now ∙ h ])
     ]
 
-    no_marking : (stage : Stage) (k : ℕ) (v : TreeValue) → in_words (access_at p (Name u.place) (Taken u.place) stage) ≡ Write (Mark k) v → ⊥
+    no_marking : (stage : Stage) (k : ℕ) (v : TreeValue) → in_words (access_at p (X u.place) (Y u.place) stage) ≡ Write (Mark k) v → ⊥
     no_marking Outside k v h = cc
-    no_marking WroteName k v h = cc
+    no_marking WroteX k v h = cc
     no_marking SawClear k v h = cc
-    no_marking WroteMark k v h = cc
+    no_marking WroteY k v h = cc
     no_marking (Gone way) k v h = cc
 
     -- it is refused only where it makes a node
@@ -255,5 +255,5 @@ pub consistent_new : {S : Type 0} (memory : MemorySteps S TreeRegister TreeValue
 consistent_new memory most s empty few = record {
   few = few;
   room = omega arith;
-  agree = agree_new (mark_at memory s) (name_at memory s) (taken_at memory s) empty.unmarked empty.not_taken;
+  agree = agree_new (mark_at memory s) (x_at memory s) (y_at memory s) empty.unmarked empty.not_taken;
 }

@@ -158,7 +158,7 @@ below_power (suc d) k l =
 pub halves : (k : ℕ) → (k ≡ 2 * (k / 2)) ⊎ (k ≡ 2 * (k / 2) + 1)
 halves k = elim (leb_tells k (2 * (k / 2))) [ inl l ↦ inl (let m = l.1 in omega arith) | inr l ↦ inr (let m = l.1 in omega arith) ]
 
-module _ (b : ℕ) (mark name taken : ℕ → ℕ) (walker : ℕ → Option Walker) (g : NodesAgree b mark name taken walker) where
+module _ (b : ℕ) (mark x_of y_of : ℕ → ℕ) (walker : ℕ → Option Walker) (g : NodesAgree b mark x_of y_of walker) where
   -- how many came to node k
   comers : ℕ → ℕ
   comers k = count_in (g.came k) g.identities
@@ -177,7 +177,7 @@ module _ (b : ℕ) (mark name taken : ℕ → ℕ) (walker : ℕ → Option Walk
       cc
 
   law_at : (k : ℕ) → IsSplitter (g.stage k)
-  law_at k = law_of (name k) (taken k) (g.stage k) (g.doors k)
+  law_at k = law_of (x_of k) (y_of k) (g.stage k) (g.splitters k)
 
   -- those who went down from a node, and those who went right, are fewer than those who came to it
   fewer_down : (k p : ℕ) → 1 ≤ k → g.came (2 * k) p ≡ true → comers (2 * k) + 1 ≤ comers k
@@ -300,7 +300,7 @@ double_min : (k top largest : ℕ) → k < top → 2 * top ≤ largest → (2 * 
 double_min k top largest l h = (omega arith, omega arith)
 
 -- where at most 64 have begun, no number of a child is too large for a place
-pub small_place : (b : ℕ) → b ≤ 64 → (mark name taken : ℕ → ℕ) (walker : ℕ → Option Walker) (g : NodesAgree b mark name taken walker) (k p : ℕ) → g.came k p ≡ true → (2 * k ≡ left_child k) × (2 * k + 1 ≡ right_child k)
-small_place b few mark name taken walker g k p h =
-    let low = shallow b mark name taken walker g k p h in
+pub small_place : (b : ℕ) → b ≤ 64 → (mark x_of y_of : ℕ → ℕ) (walker : ℕ → Option Walker) (g : NodesAgree b mark x_of y_of walker) (k p : ℕ) → g.came k p ≡ true → (2 * k ≡ left_child k) × (2 * k + 1 ≡ right_child k)
+small_place b few mark x_of y_of walker g k p h =
+    let low = shallow b mark x_of y_of walker g k p h in
     double_min k (2 ^ 64) (2 ^ 128 - 1) (below_power 64 k (omega arith)) (omega arith)

@@ -9,7 +9,7 @@ use Rattle.step_memory.specs.Steps.{MemorySteps}
 use Rattle.step_memory.specs.World.{begin_refusal, begun_unless}
 use Rattle.step_memory.specs.Calls.{lacked_memory, begun_in}
 use Rattle.splitter_tree.specs.declared.register.TreeRegister.{TreeRegister}
-use Rattle.splitter_tree.specs.declared.register.TreeRegister.TheVariants.{Mark, Name, Taken}
+use Rattle.splitter_tree.specs.declared.register.TreeRegister.TheVariants.{Mark, X, Y}
 use Rattle.splitter_tree.specs.declared.register.TreeValue.{TreeValue}
 use Rattle.splitter_tree.specs.declared.walker.Walker.{Walker}
 use Rattle.splitter_tree.specs.TreeMemory.{mark_at, IsTreeMemory, IsEmptyTree}
@@ -85,7 +85,7 @@ module _ {S : Type 0} (memory : MemorySteps S TreeRegister TreeValue) (tree : Is
           | inl x ↦ same_marks w (after_collecting memory w id) x.same
           | inr x ↦
               let spares = reads_only x.who.program x.who.program.task x.collects in
-              ap (λ (y : TreeState S). mark_at memory y.memory) x.after ∙ (words_spared memory tree w.memory (client_access x.who.program) (λ j. spares (Mark j)) (λ j. spares (Name j)) (λ j. spares (Taken j))).0
+              ap (λ (y : TreeState S). mark_at memory y.memory) x.after ∙ (words_spared memory tree w.memory (client_access x.who.program) (λ j. spares (Mark j)) (λ j. spares (X j)) (λ j. spares (Y j))).0
         ]) (λ never. never)
 
   -- over a run of calls

@@ -6,10 +6,10 @@ use Rattle.step_memory.specs.declared.record.Record.{Record}
 use Rattle.step_memory.specs.Participant.{participant_of}
 use Rattle.step_memory.specs.Steps.{ReadsOrWrites}
 use Rattle.splitter.specs.declared.stage.Stage.{Stage}
-use Rattle.splitter.specs.declared.stage.Stage.TheVariants.{Outside, WroteName, SawClear, WroteMark, Gone}
+use Rattle.splitter.specs.declared.stage.Stage.TheVariants.{Outside, WroteX, SawClear, WroteY, Gone}
 use Rattle.splitter.specs.Visitor.{access_at, access_of}
 use Rattle.splitter_tree.specs.declared.register.TreeRegister.{TreeRegister}
-use Rattle.splitter_tree.specs.declared.register.TreeRegister.TheVariants.{Mark, Name, Taken, Contents}
+use Rattle.splitter_tree.specs.declared.register.TreeRegister.TheVariants.{Mark, X, Y, Contents}
 use Rattle.splitter_tree.specs.declared.register.TreeValue.{TreeValue}
 use Rattle.splitter_tree.specs.declared.register.TreeValue.TheVariants.{Word}
 use Rattle.splitter_tree.specs.declared.walker.Walker.{Walker}
@@ -22,16 +22,16 @@ use Rattle.splitter_tree.specs.Run.{After, TreeWorldState}
 use Rattle.splitter_tree.specs.TreeCalls.{TreeCall}
 use Rattle.splitter_tree.proofs.LawsAfter.{tied}
 
-own_words : (id : ℕ) (name mark : TreeRegister) (s : Stage) → ReadsOrWrites (in_words (access_at id name mark s))
-own_words id name mark Outside = tt
-own_words id name mark WroteName = tt
-own_words id name mark SawClear = tt
-own_words id name mark WroteMark = tt
-own_words id name mark (Gone way) = tt
+own_words : (id : ℕ) (x y : TreeRegister) (s : Stage) → ReadsOrWrites (in_words (access_at id x y s))
+own_words id x y Outside = tt
+own_words id x y WroteX = tt
+own_words id x y SawClear = tt
+own_words id x y WroteY = tt
+own_words id x y (Gone way) = tt
 
 own_next : (u : Walker) (b : Bool) → ReadsOrWrites (cond b (Write (Mark u.place) (Word 1)) (in_words (access_of u.visitor)))
 own_next u true = tt
-own_next u false = own_words u.visitor.identity u.visitor.name u.visitor.mark u.visitor.stage
+own_next u false = own_words u.visitor.identity u.visitor.x u.visitor.y u.visitor.stage
 
 own_write : (o : Option ℕ) (x : Record) → ReadsOrWrites (write_at o x)
 own_write None x = tt
@@ -45,19 +45,19 @@ own_access c (Storing value) = own_write (place_of c.walker) (record_of c value)
 own_access c (Collecting collect) = tt
 
 -- on the way no segment is written
-no_segment : (id k place : ℕ) (value : TreeValue) (s : Stage) → in_words (access_at id (Name k) (Taken k) s) ≡ Write (Contents place) value → ⊥
+no_segment : (id k place : ℕ) (value : TreeValue) (s : Stage) → in_words (access_at id (X k) (Y k) s) ≡ Write (Contents place) value → ⊥
 no_segment id k place value Outside h = cc
-no_segment id k place value WroteName h = cc
+no_segment id k place value WroteX h = cc
 no_segment id k place value SawClear h = cc
-no_segment id k place value WroteMark h = cc
+no_segment id k place value WroteY h = cc
 no_segment id k place value (Gone way) h = cc
 
 not_on_the_way : (u : Walker) (b : Bool) (place : ℕ) (value : TreeValue) → StandsAtNode u → cond b (Write (Mark u.place) (Word 1)) (in_words (access_of u.visitor)) ≡ Write (Contents place) value → ⊥
 not_on_the_way u true place value stands h = cc
 not_on_the_way u false place value stands h =
     no_segment u.visitor.identity u.place place value u.visitor.stage
-    (ap (λ (x : TreeRegister). in_words (access_at u.visitor.identity (Name u.place) x u.visitor.stage)) (sym stands.mark)
-    ∙ ap (λ (x : TreeRegister). in_words (access_at u.visitor.identity x u.visitor.mark u.visitor.stage)) (sym stands.name) ∙ h)
+    (ap (λ (x : TreeRegister). in_words (access_at u.visitor.identity (X u.place) x u.visitor.stage)) (sym stands.y)
+    ∙ ap (λ (x : TreeRegister). in_words (access_at u.visitor.identity x u.visitor.y u.visitor.stage)) (sym stands.x) ∙ h)
 
 at_its_place : (o : Option ℕ) (x : Record) (place : ℕ) (value : TreeValue) → write_at o x ≡ Write (Contents place) value → o ≡ Some place
 at_its_place None x place value h = absurd (cc)
@@ -73,4 +73,4 @@ own_segment c (Collecting collect) place value stands h = absurd (cc)
 pub all_stand : (w : TreeWorldState) (r : List TreeCall) (p : ℕ) (v : Participant Client) → After w r → participant_of p w.participants ≡ Some v → StandsAtNode v.program.walker
 all_stand w r p v a here =
     let walk = (tied w r a).consistent.agree.walks p v.program.walker (rw here refl) in
-    record { name = walk.name; mark = walk.taken }
+    record { x = walk.x; y = walk.y }

@@ -28,10 +28,10 @@ use Rattle.step_memory.proofs.WorldKeeps.{steps_of-push, begun_in-push, outcome_
 pub use Rattle.step_memory.proofs.WorldKeeps.{let_in}
 use Rattle.splitter.specs.declared.way.Way.TheVariants.{Stop, Right, Down}
 use Rattle.splitter.specs.declared.stage.Stage.{Stage}
-use Rattle.splitter.specs.declared.stage.Stage.TheVariants.{Outside, WroteName, SawClear, WroteMark, Gone}
+use Rattle.splitter.specs.declared.stage.Stage.TheVariants.{Outside, WroteX, SawClear, WroteY, Gone}
 use Rattle.splitter.specs.Visitor.{stage_by}
 use Rattle.splitter_tree.specs.declared.register.TreeRegister.{TreeRegister}
-use Rattle.splitter_tree.specs.declared.register.TreeRegister.TheVariants.{Mark, Name, Taken}
+use Rattle.splitter_tree.specs.declared.register.TreeRegister.TheVariants.{Mark, X, Y}
 use Rattle.splitter_tree.specs.declared.register.TreeValue.{TreeValue}
 use Rattle.splitter_tree.specs.declared.walker.Walker.{Walker}
 use Rattle.splitter_tree.specs.declared.collect.Collect.{Collect}
@@ -39,7 +39,7 @@ use Rattle.splitter_tree.specs.declared.client.Client.{Client}
 use Rattle.splitter_tree.specs.declared.client.Task.{Task}
 use Rattle.splitter_tree.specs.declared.client.Task.TheVariants.{Placing, Nothing, Storing, Collecting}
 use Rattle.splitter_tree.specs.declared.client.TreeReply.{TreeReply}
-use Rattle.splitter_tree.specs.TreeMemory.{word_in, mark_at, name_at, taken_at, IsTreeMemory, IsEmptyTree}
+use Rattle.splitter_tree.specs.TreeMemory.{word_in, mark_at, x_at, y_at, IsTreeMemory, IsEmptyTree}
 use Rattle.splitter_tree.specs.Walk.{walk_of, next_access, told, walked_to, walker_after, walker_note, note_at_node, place_of, place_by}
 use Rattle.splitter_tree.specs.Client.{client_of, client_steps, client_access, client_note, access_for, after_for, note_for, is_placing, is_idle, is_collecting, is_placed, placing_after, placed_note, place_told, storing, collecting, with_task, write_at, record_of, task_after, collected_note}
 use Rattle.splitter_tree.specs.Collect.{collect_after, collect_view}
@@ -129,18 +129,18 @@ reads_only c (Collecting collect) h r = tt
 -- a walk's note tells its place, and that it is there
 stage_place : (u : Walker) (s : Stage) → place_told (placed_note (note_at_node u.place s)) ≡ place_of (walked_to u s)
 stage_place u Outside = refl
-stage_place u WroteName = refl
+stage_place u WroteX = refl
 stage_place u SawClear = refl
-stage_place u WroteMark = refl
+stage_place u WroteY = refl
 stage_place u (Gone Stop) = refl
 stage_place u (Gone Right) = refl
 stage_place u (Gone Down) = refl
 
 stage_placed : (u : Walker) (s : Stage) → is_placed (note_at_node u.place s) ≡ is_some (place_of (walked_to u s))
 stage_placed u Outside = refl
-stage_placed u WroteName = refl
+stage_placed u WroteX = refl
 stage_placed u SawClear = refl
-stage_placed u WroteMark = refl
+stage_placed u WroteY = refl
 stage_placed u (Gone Stop) = refl
 stage_placed u (Gone Right) = refl
 stage_placed u (Gone Down) = refl
@@ -220,15 +220,15 @@ module _ {S : Type 0} (memory : MemorySteps S TreeRegister TreeValue) (tree : Is
       ((q : ℕ) → participant_of q new.participants ≡ set_at (λ u. participant_of u w.participants) id (Some after) q) →
       after.program.walker ≡ v.program.walker → IsClientOf id after →
       length new.participants ≡ length w.participants → new.most ≡ w.most →
-      mark_at memory new.memory ≡ mark_at memory w.memory → name_at memory new.memory ≡ name_at memory w.memory → taken_at memory new.memory ≡ taken_at memory w.memory →
+      mark_at memory new.memory ≡ mark_at memory w.memory → x_at memory new.memory ≡ x_at memory w.memory → y_at memory new.memory ≡ y_at memory w.memory →
       way_calls (h ∷ []) ≡ [] → IsTied w r → IsTied new (r ++ h ∷ [])
-  quiet_kept w new r h id v after here put walk own many most marks names takens none t =
+  quiet_kept w new r h id v after here put walk own many most marks xs ys none t =
       let way : way_calls (r ++ h ∷ []) ≡ way_calls r = no_way r h none in
       let is : walkers w.participants id ≡ Some v.program.walker = rw here refl in
       let walks : walkers new.participants ≡ walkers w.participants = walks_put w id v after here new.participants put ∙ fun_ext (λ q. set_at-cases (walkers w.participants) id (Some after.program.walker) (λ o. o ≡ walkers w.participants q) q
       (λ e. ap (λ (u : Walker). Some u) walk ∙ sym is ∙ ap (walkers w.participants) (sym e)) (λ _. refl)) in
       record {
-        consistent = rw (walks, many, most) (elsewhere memory w.most (length w.participants) w.memory (walkers w.participants) t.consistent new.memory marks names takens);
+        consistent = rw (walks, many, most) (elsewhere memory w.most (length w.participants) w.memory (walkers w.participants) t.consistent new.memory marks xs ys);
         begun_is = rw way (t.begun_is ∙ sym many);
         clients = clients_put w id v after here new.participants put t.clients own;
         outcomes = λ p. rw way (t.outcomes p ∙ ap (λ (f : ℕ → Option Walker). place_by (f p)) (sym walks));
@@ -321,15 +321,15 @@ module _ {S : Type 0} (memory : MemorySteps S TreeRegister TreeValue) (tree : Is
       }
 
   -- an access that leaves marks, X and Y leaves their words
-  pub words_spared : (s : S) (a : Access TreeRegister TreeValue) → ((k : ℕ) → Spares a (Mark k)) → ((k : ℕ) → Spares a (Name k)) → ((k : ℕ) → Spares a (Taken k)) →
-      (mark_at memory (memory.after s a) ≡ mark_at memory s) × (name_at memory (memory.after s a) ≡ name_at memory s) × (taken_at memory (memory.after s a) ≡ taken_at memory s)
-  words_spared s a marks names takens = (
+  pub words_spared : (s : S) (a : Access TreeRegister TreeValue) → ((k : ℕ) → Spares a (Mark k)) → ((k : ℕ) → Spares a (X k)) → ((k : ℕ) → Spares a (Y k)) →
+      (mark_at memory (memory.after s a) ≡ mark_at memory s) × (x_at memory (memory.after s a) ≡ x_at memory s) × (y_at memory (memory.after s a) ≡ y_at memory s)
+  words_spared s a marks xs ys = (
     fun_ext (λ k. ap (λ (x : TreeValue × Bool). word_in x.0) (tree.others s a (Mark k) (marks k))),
-    fun_ext (λ k. ap (λ (x : TreeValue × Bool). word_in x.0) (tree.others s a (Name k) (names k))),
-    fun_ext (λ k. ap (λ (x : TreeValue × Bool). word_in x.0) (tree.others s a (Taken k) (takens k))),
+    fun_ext (λ k. ap (λ (x : TreeValue × Bool). word_in x.0) (tree.others s a (X k) (xs k))),
+    fun_ext (λ k. ap (λ (x : TreeValue × Bool). word_in x.0) (tree.others s a (Y k) (ys k))),
   )
 
-  pub write_spares : (place : Option ℕ) (x : Record) → ((k : ℕ) → Spares (write_at place x) (Mark k)) × ((k : ℕ) → Spares (write_at place x) (Name k)) × ((k : ℕ) → Spares (write_at place x) (Taken k))
+  pub write_spares : (place : Option ℕ) (x : Record) → ((k : ℕ) → Spares (write_at place x) (Mark k)) × ((k : ℕ) → Spares (write_at place x) (X k)) × ((k : ℕ) → Spares (write_at place x) (Y k))
   write_spares None x = (λ k. tt, λ k. tt, λ k. tt)
   write_spares (Some place) x = (λ k h. absurd (cc), λ k h. absurd (cc), λ k h. absurd (cc))
 
@@ -369,7 +369,7 @@ module _ {S : Type 0} (memory : MemorySteps S TreeRegister TreeValue) (tree : Is
         let there_too : is_some (participant_of v.identity w.participants) ≡ true = rw (client.own, here) refl in
         let put : (q : ℕ) → participant_of q (with_participant new w.participants) ≡ set_at (λ u. participant_of u w.participants) id (Some new) q = (λ q. participant_of-put w.participants new there_too q ∙ rw client.own refl) in
         let spares = reads_only v.program v.program.task collects in
-        let words = words_spared w.memory (client_access v.program) (λ k. spares (Mark k)) (λ k. spares (Name k)) (λ k. spares (Taken k)) in
+        let words = words_spared w.memory (client_access v.program) (λ k. spares (Mark k)) (λ k. spares (X k)) (λ k. spares (Y k)) in
         quiet_kept w (record { memory = memory.after w.memory (client_access v.program); most = w.most; participants = with_participant new w.participants }) r (CollectStepped id reply) id v new here put left.walk
         (record { own = client.own; goes = left.goes; task = left.task ∙ has_place idle ∙ ap (λ (x : Walker). not (is_some (place_of x))) (sym left.walk) })
         (length-with_participant w.participants new) refl words.0 words.1 words.2 refl t

@@ -8,14 +8,14 @@ use Rattle.std.proofs.lemmas.Cmp.{nat_cmp_total}
 use Rattle.std.proofs.lemmas.Bool.Decides.{eqb_tells, Decides-eqb, same_from_decides}
 use Rattle.std.proofs.lemmas.Nat.{le-div, div_below, pow_below, pow_pos}
 use Rattle.step_memory.specs.SetAt.{set_at}
-use Rattle.splitter_tree.specs.declared.door.Door.{Door}
+use Rattle.splitter_tree.specs.declared.node_registers.NodeRegisters.{NodeRegisters}
 use Rattle.splitter_tree.specs.declared.node.Node.{Node}
 use Rattle.splitter_tree.specs.declared.register.TreeRegister.{TreeRegister}
-use Rattle.splitter_tree.specs.declared.register.TreeRegister.TheVariants.{Mark, Name, Taken, Contents}
+use Rattle.splitter_tree.specs.declared.register.TreeRegister.TheVariants.{Mark, X, Y, Contents}
 use Rattle.splitter_tree.specs.declared.register.TreeValue.{TreeValue}
 use Rattle.splitter_tree.specs.declared.register.TreeValue.TheVariants as value
-use Rattle.splitter_tree.specs.Nodes.{entries_below, door_below, doors_of, is_lacking, grown}
-use Rattle.splitter_tree.specs.TreeSteps.{Doors, number_in, fresh_door, sets_mark, is_missing, makes_node, with_door, written, after_write}
+use Rattle.splitter_tree.specs.Nodes.{entries_below, registers_below, nodes_of, is_lacking, grown}
+use Rattle.splitter_tree.specs.TreeSteps.{NodeMap, number_in, fresh_registers, sets_mark, is_missing, makes_node, with_registers, written, after_write}
 use Rattle.splitter_tree.specs.TreeLaws.{get_written}
 use Rattle.splitter_tree.proofs.Ways.{from_le}
 use Rattle.splitter_tree.proofs.Below.{absent_below}
@@ -44,68 +44,68 @@ root_depth place depth h =
     )
 
 module _ {A : Type 0} (root : Option (Box (Node A) A)) where
-  pub get_root : (q : ℕ) → map.get (doors_of root) q ≡ door_below 1 root q
+  pub get_root : (q : ℕ) → map.get (nodes_of root) q ≡ registers_below 1 root q
   get_root q = map.get-from_entries nat_cmp_total (entries_below 1 root) q
 
   -- no node has number 0
-  pub no_zero : map.get (doors_of root) 0 ≡ None
+  pub no_zero : map.get (nodes_of root) 0 ≡ None
   no_zero = get_root 0 ∙ absent_below 1 0 root (λ h. let le : 1 ≤ 0 = from_le 1 0 h in omega arith)
 
-  pub get_at : (place depth : ℕ) → 2 ^ depth ≤ place → place < 2 * 2 ^ depth → (q : ℕ) → door_below (place / 2 ^ depth) root q ≡ map.get (doors_of root) q
-  get_at place depth low high q = ap (λ (p : ℕ). door_below p root q) (root_number place depth low high) ∙ sym (get_root q)
+  pub get_at : (place depth : ℕ) → 2 ^ depth ≤ place → place < 2 * 2 ^ depth → (q : ℕ) → registers_below (place / 2 ^ depth) root q ≡ map.get (nodes_of root) q
+  get_at place depth low high q = ap (λ (p : ℕ). registers_below p root q) (root_number place depth low high) ∙ sym (get_root q)
 
   -- whether a node is to be made, by its number
-  lacking_missing : (place depth : ℕ) → 2 ^ depth ≤ place → place < 2 * 2 ^ depth → is_lacking (door_below (place / 2 ^ depth) root) place depth ≡ is_missing (doors_of root) place
+  lacking_missing : (place depth : ℕ) → 2 ^ depth ≤ place → place < 2 * 2 ^ depth → is_lacking (registers_below (place / 2 ^ depth) root) place depth ≡ is_missing (nodes_of root) place
   lacking_missing place depth low high =
-      let f : door_below (place / 2 ^ depth) root ≡ map.get (doors_of root) = fun_ext (get_at place depth low high) in
-      ap (λ (g : ℕ → Option Door). is_lacking g place depth) f
-      ∙ ap (λ b. not (is_some (map.get (doors_of root) place)) && (b || is_some (map.get (doors_of root) (place / 2)))) (root_depth place depth (root_number place depth low high))
+      let f : registers_below (place / 2 ^ depth) root ≡ map.get (nodes_of root) = fun_ext (get_at place depth low high) in
+      ap (λ (g : ℕ → Option NodeRegisters). is_lacking g place depth) f
+      ∙ ap (λ b. not (is_some (map.get (nodes_of root) place)) && (b || is_some (map.get (nodes_of root) (place / 2)))) (root_depth place depth (root_number place depth low high))
 
 and_false : (b : Bool) → b && false ≡ false
 and_false true = refl
 and_false false = refl
 
-mark_kept : (r : TreeRegister) (v : TreeValue) (o : Option Door) → sets_mark r v ≡ true → written r v o ≡ o
+mark_kept : (r : TreeRegister) (v : TreeValue) (o : Option NodeRegisters) → sets_mark r v ≡ true → written r v o ≡ o
 mark_kept r v None h = refl
-mark_kept (Mark p) (value.Word w) (Some door) h = refl
-mark_kept (Mark p) (value.Contents s) (Some door) h = absurd (cc)
-mark_kept (Name p) v (Some door) h = absurd (cc)
-mark_kept (Taken p) v (Some door) h = absurd (cc)
-mark_kept (Contents p) v (Some door) h = absurd (cc)
+mark_kept (Mark p) (value.Word w) (Some registers) h = refl
+mark_kept (Mark p) (value.Contents s) (Some registers) h = absurd (cc)
+mark_kept (X p) v (Some registers) h = absurd (cc)
+mark_kept (Y p) v (Some registers) h = absurd (cc)
+mark_kept (Contents p) v (Some registers) h = absurd (cc)
 
 -- a write into node 0, which is not there, is lost
-pub after_zero : {A : Type 0} (old : Option (Box (Node A) A)) (r : TreeRegister) (v : TreeValue) → number_in r ≡ 0 → doors_of old ≡ after_write (doors_of old) r v
+pub after_zero : {A : Type 0} (old : Option (Box (Node A) A)) (r : TreeRegister) (v : TreeValue) → number_in r ≡ 0 → nodes_of old ≡ after_write (nodes_of old) r v
 after_zero old r v e =
-    let m : Doors = doors_of old in
+    let m : NodeMap = nodes_of old in
     let here : map.get m (number_in r) ≡ None = ap (map.get m) e ∙ no_zero old in
     let parent : map.get m (number_in r / 2) ≡ None = ap (map.get m) (let h : number_in r / 2 ≡ 0 = omega (arith, e) in h) ∙ no_zero old in
     let below : (number_in r == 1) ≡ false = ne_eqb (number_in r) 1 (omega (arith, e)) in
     let whole : is_missing m (number_in r) ≡ false = rw (here, parent, below) refl in
-    sym (ap (λ b. cond b (map.insert m (number_in r) fresh_door) (with_door m (number_in r) (written r v (map.get m (number_in r))))) (ap (λ b. sets_mark r v && b) whole ∙ and_false (sets_mark r v))
-    ∙ ap (λ o. with_door m (number_in r) (written r v o)) here)
+    sym (ap (λ b. cond b (map.insert m (number_in r) fresh_registers) (with_registers m (number_in r) (written r v (map.get m (number_in r))))) (ap (λ b. sets_mark r v && b) whole ∙ and_false (sets_mark r v))
+    ∙ ap (λ o. with_registers m (number_in r) (written r v o)) here)
 
 module _ {A : Type 0} (old new : Option (Box (Node A) A)) (r : TreeRegister) (v : TreeValue) (depth : ℕ) (low : 2 ^ depth ≤ number_in r) (high : number_in r < 2 * 2 ^ depth) where
-  made : sets_mark r v ≡ true → is_lacking (door_below (number_in r / 2 ^ depth) old) (number_in r) depth ≡ makes_node (doors_of old) r v
-  made sets = lacking_missing old (number_in r) depth low high ∙ (let e : is_missing (doors_of old) (number_in r) ≡ makes_node (doors_of old) r v = rw sets refl in e)
+  made : sets_mark r v ≡ true → is_lacking (registers_below (number_in r / 2 ^ depth) old) (number_in r) depth ≡ makes_node (nodes_of old) r v
+  made sets = lacking_missing old (number_in r) depth low high ∙ (let e : is_missing (nodes_of old) (number_in r) ≡ makes_node (nodes_of old) r v = rw sets refl in e)
 
-  same_doors : (x : Option Door) → ((q : ℕ) → door_below (number_in r / 2 ^ depth) new q ≡ set_at (door_below (number_in r / 2 ^ depth) old) (number_in r) x q) → x ≡ cond (makes_node (doors_of old) r v) (Some fresh_door) (written r v (map.get (doors_of old) (number_in r))) → doors_of new ≡ after_write (doors_of old) r v
-  same_doors x h is = map.same_map nat_cmp_total nat_cmp-IsAntisymmetric (doors_of new) (after_write (doors_of old) r v) (λ q.
+  same_nodes : (x : Option NodeRegisters) → ((q : ℕ) → registers_below (number_in r / 2 ^ depth) new q ≡ set_at (registers_below (number_in r / 2 ^ depth) old) (number_in r) x q) → x ≡ cond (makes_node (nodes_of old) r v) (Some fresh_registers) (written r v (map.get (nodes_of old) (number_in r))) → nodes_of new ≡ after_write (nodes_of old) r v
+  same_nodes x h is = map.same_map nat_cmp_total nat_cmp-IsAntisymmetric (nodes_of new) (after_write (nodes_of old) r v) (λ q.
       sym (get_at new (number_in r) depth low high q)
       ∙ h q
-      ∙ ap (λ (f : ℕ → Option Door). set_at f (number_in r) x q) (fun_ext (get_at old (number_in r) depth low high))
-      ∙ ap (λ o. set_at (map.get (doors_of old)) (number_in r) o q) is
-      ∙ sym (get_written (doors_of old) r v q))
+      ∙ ap (λ (f : ℕ → Option NodeRegisters). set_at f (number_in r) x q) (fun_ext (get_at old (number_in r) depth low high))
+      ∙ ap (λ o. set_at (map.get (nodes_of old)) (number_in r) o q) is
+      ∙ sym (get_written (nodes_of old) r v q))
 
-  pub after_growth : (place : ℕ) → place ≡ number_in r → sets_mark r v ≡ true → ((q : ℕ) → door_below (place / 2 ^ depth) new q ≡ set_at (door_below (place / 2 ^ depth) old) place (grown (door_below (place / 2 ^ depth) old) place depth) q) → doors_of new ≡ after_write (doors_of old) r v
-  after_growth place is sets h = same_doors (grown (door_below (number_in r / 2 ^ depth) old) (number_in r) depth)
-      (subst (λ (k : ℕ). (q : ℕ) → door_below (k / 2 ^ depth) new q ≡ set_at (door_below (k / 2 ^ depth) old) k (grown (door_below (k / 2 ^ depth) old) k depth) q) is h)
-      (ap (λ b. cond b (Some fresh_door) (door_below (number_in r / 2 ^ depth) old (number_in r))) (made sets)
-      ∙ ap (cond (makes_node (doors_of old) r v) (Some fresh_door)) (get_at old (number_in r) depth low high (number_in r) ∙ sym (mark_kept r v (map.get (doors_of old) (number_in r)) sets)))
+  pub after_growth : (place : ℕ) → place ≡ number_in r → sets_mark r v ≡ true → ((q : ℕ) → registers_below (place / 2 ^ depth) new q ≡ set_at (registers_below (place / 2 ^ depth) old) place (grown (registers_below (place / 2 ^ depth) old) place depth) q) → nodes_of new ≡ after_write (nodes_of old) r v
+  after_growth place is sets h = same_nodes (grown (registers_below (number_in r / 2 ^ depth) old) (number_in r) depth)
+      (subst (λ (k : ℕ). (q : ℕ) → registers_below (k / 2 ^ depth) new q ≡ set_at (registers_below (k / 2 ^ depth) old) k (grown (registers_below (k / 2 ^ depth) old) k depth) q) is h)
+      (ap (λ b. cond b (Some fresh_registers) (registers_below (number_in r / 2 ^ depth) old (number_in r))) (made sets)
+      ∙ ap (cond (makes_node (nodes_of old) r v) (Some fresh_registers)) (get_at old (number_in r) depth low high (number_in r) ∙ sym (mark_kept r v (map.get (nodes_of old) (number_in r)) sets)))
 
-  pub after_refusal : (place : ℕ) → place ≡ number_in r → sets_mark r v ≡ true → is_lacking (door_below (place / 2 ^ depth) old) place depth ≡ true → makes_node (doors_of old) r v ≡ true
-  after_refusal place is sets h = sym (made sets) ∙ subst (λ (k : ℕ). is_lacking (door_below (k / 2 ^ depth) old) k depth ≡ true) is h
+  pub after_refusal : (place : ℕ) → place ≡ number_in r → sets_mark r v ≡ true → is_lacking (registers_below (place / 2 ^ depth) old) place depth ≡ true → makes_node (nodes_of old) r v ≡ true
+  after_refusal place is sets h = sym (made sets) ∙ subst (λ (k : ℕ). is_lacking (registers_below (k / 2 ^ depth) old) k depth ≡ true) is h
 
-  pub after_change : sets_mark r v ≡ false → ((q : ℕ) → door_below (number_in r / 2 ^ depth) new q ≡ set_at (door_below (number_in r / 2 ^ depth) old) (number_in r) (written r v (door_below (number_in r / 2 ^ depth) old (number_in r))) q) → doors_of new ≡ after_write (doors_of old) r v
-  after_change other h = same_doors (written r v (door_below (number_in r / 2 ^ depth) old (number_in r))) h
+  pub after_change : sets_mark r v ≡ false → ((q : ℕ) → registers_below (number_in r / 2 ^ depth) new q ≡ set_at (registers_below (number_in r / 2 ^ depth) old) (number_in r) (written r v (registers_below (number_in r / 2 ^ depth) old (number_in r))) q) → nodes_of new ≡ after_write (nodes_of old) r v
+  after_change other h = same_nodes (written r v (registers_below (number_in r / 2 ^ depth) old (number_in r))) h
       (ap (written r v) (get_at old (number_in r) depth low high (number_in r))
-      ∙ (let e : written r v (map.get (doors_of old) (number_in r)) ≡ cond (makes_node (doors_of old) r v) (Some fresh_door) (written r v (map.get (doors_of old) (number_in r))) = rw other refl in e))
+      ∙ (let e : written r v (map.get (nodes_of old) (number_in r)) ≡ cond (makes_node (nodes_of old) r v) (Some fresh_registers) (written r v (map.get (nodes_of old) (number_in r))) = rw other refl in e))

@@ -19,7 +19,7 @@ use Rattle.splitter_tree.specs.declared.client.TreeReply.{TreeReply}
 use Rattle.splitter_tree.specs.declared.client.TreeReply.TheVariants.{Stored}
 use Rattle.splitter_tree.specs.Walk.{place_of}
 use Rattle.splitter_tree.specs.Client.{client_steps, storing, write_at, record_of}
-use Rattle.splitter_tree.specs.TreeSteps.{Doors, tree_steps, may_refuse}
+use Rattle.splitter_tree.specs.TreeSteps.{NodeMap, tree_steps, may_refuse}
 use Rattle.splitter_tree.specs.TreeWorld.{TreeState}
 
 -- who was set stands there anew
@@ -33,15 +33,15 @@ pub store_answer : {S : Type 0} (memory : MemorySteps S TreeRegister TreeValue) 
 store_answer memory w id value c h = rw (set_stands w id c (storing c value) h) refl
 
 -- the write of a segment makes no node
-write_fits : (m : Doors) (place : Option ℕ) (r : Record) → may_refuse m (write_at place r) ≡ false
+write_fits : (m : NodeMap) (place : Option ℕ) (r : Record) → may_refuse m (write_at place r) ≡ false
 write_fits m None r = refl
 write_fits m (Some place) r = refl
 
-store_fits : (w : TreeState Doors) (id value : ℕ) (c : Client) → Some c ≡ program_of id w.participants → may_refuse_step client_steps tree_steps (after_set w id (storing c value)) id ≡ false
+store_fits : (w : TreeState NodeMap) (id value : ℕ) (c : Client) → Some c ≡ program_of id w.participants → may_refuse_step client_steps tree_steps (after_set w id (storing c value)) id ≡ false
 store_fits w id value c h = rw (set_stands w id c (storing c value) h) (write_fits w.memory (place_of c.walker) (record_of (storing c value) value))
 
 -- so its step has no error
-pub store_goes_well : (w v : TreeState Doors) (id value : ℕ) (c : Client) → Some c ≡ program_of id w.participants → v ≡ after_set w id (storing c value) → (result : Result (Note TreeReply) Refusal) (why : Refusal) → result ≡ Err why →
+pub store_goes_well : (w v : TreeState NodeMap) (id value : ℕ) (c : Client) → Some c ≡ program_of id w.participants → v ≡ after_set w id (storing c value) → (result : Result (Note TreeReply) Refusal) (why : Refusal) → result ≡ Err why →
     (result ≢ Err NoMemory → result ≡ step_answer client_steps tree_steps v id) → (result ≡ Err NoMemory → may_refuse_step client_steps tree_steps v id ≡ true) → ⊥
 store_goes_well w v id value c h e result why is answer lacks = elim (lacks_or_not result) [
   | inr goes ↦ let ok : result ≡ Ok (Said Stored) = answer goes ∙ ap (λ u. step_answer client_steps tree_steps u id) e ∙ store_answer tree_steps w id value c h in absurd (cc)

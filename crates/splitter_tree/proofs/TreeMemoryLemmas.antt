@@ -8,83 +8,83 @@ use Rattle.step_memory.specs.declared.access.Access.{Access}
 use Rattle.step_memory.specs.declared.access.Access.TheVariants.{Read, Write, TestAndSet, Clear, Nothing}
 use Rattle.step_memory.specs.declared.record.Record.{Record}
 use Rattle.step_memory.proofs.SetAtLemmas.{set_at-same}
-use Rattle.splitter_tree.specs.declared.door.Door.{Door}
+use Rattle.splitter_tree.specs.declared.node_registers.NodeRegisters.{NodeRegisters}
 use Rattle.splitter_tree.specs.declared.register.TreeRegister.{TreeRegister}
-use Rattle.splitter_tree.specs.declared.register.TreeRegister.TheVariants.{Mark, Name, Taken, Contents}
+use Rattle.splitter_tree.specs.declared.register.TreeRegister.TheVariants.{Mark, X, Y, Contents}
 use Rattle.splitter_tree.specs.declared.register.TreeValue.{TreeValue}
 use Rattle.splitter_tree.specs.declared.register.TreeValue.TheVariants.{Word, Contents as Held}
-use Rattle.splitter_tree.specs.TreeSteps.{Doors, number_in, fresh_door, value_in, makes_node, written, after_write, may_refuse, tree_steps, empty_tree}
+use Rattle.splitter_tree.specs.TreeSteps.{NodeMap, number_in, fresh_registers, value_in, makes_node, written, after_write, may_refuse, tree_steps, empty_tree}
 use Rattle.splitter_tree.specs.TreeLaws.{get_written, makes_absent, others_kept}
 use Rattle.splitter_tree.specs.TreeMemory.{word_in, segment_in, mark_at, IsWithinReach, IsTreeMemory, IsEmptyTree}
 
 -- each register holds a value of its kind
-mark_word : (k : ℕ) (o : Option Door) → value_in (Mark k) o ≡ Word (word_in (value_in (Mark k) o))
+mark_word : (k : ℕ) (o : Option NodeRegisters) → value_in (Mark k) o ≡ Word (word_in (value_in (Mark k) o))
 mark_word k None = refl
-mark_word k (Some door) = refl
+mark_word k (Some registers) = refl
 
-name_word : (k : ℕ) (o : Option Door) → value_in (Name k) o ≡ Word (word_in (value_in (Name k) o))
-name_word k None = refl
-name_word k (Some door) = refl
+x_word : (k : ℕ) (o : Option NodeRegisters) → value_in (X k) o ≡ Word (word_in (value_in (X k) o))
+x_word k None = refl
+x_word k (Some registers) = refl
 
-taken_word : (k : ℕ) (o : Option Door) → value_in (Taken k) o ≡ Word (word_in (value_in (Taken k) o))
-taken_word k None = refl
-taken_word k (Some door) = refl
+y_word : (k : ℕ) (o : Option NodeRegisters) → value_in (Y k) o ≡ Word (word_in (value_in (Y k) o))
+y_word k None = refl
+y_word k (Some registers) = refl
 
-contents_held : (k : ℕ) (o : Option Door) → value_in (Contents k) o ≡ Held (segment_in (value_in (Contents k) o))
+contents_held : (k : ℕ) (o : Option NodeRegisters) → value_in (Contents k) o ≡ Held (segment_in (value_in (Contents k) o))
 contents_held k None = refl
-contents_held k (Some door) = refl
+contents_held k (Some registers) = refl
 
-mark_bit : (k : ℕ) (o : Option Door) → (word_in (value_in (Mark k) o) ≡ 0) ⊎ (word_in (value_in (Mark k) o) ≡ 1)
+mark_bit : (k : ℕ) (o : Option NodeRegisters) → (word_in (value_in (Mark k) o) ≡ 0) ⊎ (word_in (value_in (Mark k) o) ≡ 1)
 mark_bit k None = inl refl
-mark_bit k (Some door) = inr refl
+mark_bit k (Some registers) = inr refl
 
 -- a node is there where its mark is set
-there : (k : ℕ) (o : Option Door) → word_in (value_in (Mark k) o) ≡ 1 → is_some o ≡ true
+there : (k : ℕ) (o : Option NodeRegisters) → word_in (value_in (Mark k) o) ≡ 1 → is_some o ≡ true
 there k None h = absurd (cc)
-there k (Some door) h = refl
+there k (Some registers) h = refl
 
-absent : (k : ℕ) (o : Option Door) → o ≡ None → word_in (value_in (Mark k) o) ≡ 0
+absent : (k : ℕ) (o : Option NodeRegisters) → o ≡ None → word_in (value_in (Mark k) o) ≡ 0
 absent k None h = refl
-absent k (Some door) h = absurd (cc)
+absent k (Some registers) h = absurd (cc)
 
 -- what stands in a register that was written
-after_own : (s : Doors) (r : TreeRegister) (v : TreeValue) → value_in r (map.get (after_write s r v) (number_in r)) ≡ value_in r (cond (makes_node s r v) (Some fresh_door) (written r v (map.get s (number_in r))))
-after_own s r v = ap (value_in r) (get_written s r v (number_in r) ∙ set_at-same (map.get s) (number_in r) (cond (makes_node s r v) (Some fresh_door) (written r v (map.get s (number_in r)))))
+after_own : (s : NodeMap) (r : TreeRegister) (v : TreeValue) → value_in r (map.get (after_write s r v) (number_in r)) ≡ value_in r (cond (makes_node s r v) (Some fresh_registers) (written r v (map.get s (number_in r))))
+after_own s r v = ap (value_in r) (get_written s r v (number_in r) ∙ set_at-same (map.get s) (number_in r) (cond (makes_node s r v) (Some fresh_registers) (written r v (map.get s (number_in r)))))
 
 -- the mark of a node that is there, and of one that can be made
-marked : (k : ℕ) (here : Option Door) (reach : Bool) → (is_some here ≡ false → reach ≡ true) → value_in (Mark k) (cond (not (is_some here) && reach) (Some fresh_door) (written (Mark k) (Word 1) here)) ≡ Word 1
+marked : (k : ℕ) (here : Option NodeRegisters) (reach : Bool) → (is_some here ≡ false → reach ≡ true) → value_in (Mark k) (cond (not (is_some here) && reach) (Some fresh_registers) (written (Mark k) (Word 1) here)) ≡ Word 1
 marked k None true h = refl
 marked k None false h = absurd (let e : false ≡ true = h refl in cc)
-marked k (Some door) reach h = refl
+marked k (Some registers) reach h = refl
 
 or_true : (b : Bool) → b || true ≡ true
 or_true true = refl
 or_true false = refl
 
-in_reach : (s : Doors) (k : ℕ) → IsWithinReach tree_steps s k → (k == 1) || is_some (map.get s (k / 2)) ≡ true
+in_reach : (s : NodeMap) (k : ℕ) → IsWithinReach tree_steps s k → (k == 1) || is_some (map.get s (k / 2)) ≡ true
 in_reach s k (inl e) = rw ((Decides-eqb k 1).1 e) refl
 in_reach s k (inr h) = let up : is_some (map.get s (k / 2)) ≡ true = there (k / 2) (map.get s (k / 2)) h in rw up (or_true (k == 1))
 
-named : (k w : ℕ) (o : Option Door) → word_in (value_in (Mark k) o) ≡ 1 → value_in (Name k) (written (Name k) (Word w) o) ≡ Word w
-named k w None h = absurd (cc)
-named k w (Some door) h = refl
+x_put : (k w : ℕ) (o : Option NodeRegisters) → word_in (value_in (Mark k) o) ≡ 1 → value_in (X k) (written (X k) (Word w) o) ≡ Word w
+x_put k w None h = absurd (cc)
+x_put k w (Some registers) h = refl
 
-taken : (k w : ℕ) (o : Option Door) → word_in (value_in (Mark k) o) ≡ 1 → value_in (Taken k) (written (Taken k) (Word w) o) ≡ Word w
-taken k w None h = absurd (cc)
-taken k w (Some door) h = refl
+y_put : (k w : ℕ) (o : Option NodeRegisters) → word_in (value_in (Mark k) o) ≡ 1 → value_in (Y k) (written (Y k) (Word w) o) ≡ Word w
+y_put k w None h = absurd (cc)
+y_put k w (Some registers) h = refl
 
-stored : (k : ℕ) (segment : Option Record) (o : Option Door) → word_in (value_in (Mark k) o) ≡ 1 → value_in (Contents k) (written (Contents k) (Held segment) o) ≡ Held segment
+stored : (k : ℕ) (segment : Option Record) (o : Option NodeRegisters) → word_in (value_in (Mark k) o) ≡ 1 → value_in (Contents k) (written (Contents k) (Held segment) o) ≡ Held segment
 stored k segment None h = absurd (cc)
-stored k segment (Some door) h = refl
+stored k segment (Some registers) h = refl
 
 -- what may be refused marks a node that is not there
-refused_write : (s : Doors) (r : TreeRegister) (v : TreeValue) → makes_node s r v ≡ true → (k : ℕ) × (u : TreeValue) × (Write r v ≡ Write (Mark k) u) × (mark_at tree_steps s k ≡ 0)
+refused_write : (s : NodeMap) (r : TreeRegister) (v : TreeValue) → makes_node s r v ≡ true → (k : ℕ) × (u : TreeValue) × (Write r v ≡ Write (Mark k) u) × (mark_at tree_steps s k ≡ 0)
 refused_write s (Mark k) v h = (k, v, refl, absent k (map.get s k) (makes_absent s (Mark k) v h))
-refused_write s (Name k) v h = absurd (cc)
-refused_write s (Taken k) v h = absurd (cc)
+refused_write s (X k) v h = absurd (cc)
+refused_write s (Y k) v h = absurd (cc)
 refused_write s (Contents k) v h = absurd (cc)
 
-refused : (s : Doors) (a : Access TreeRegister TreeValue) → may_refuse s a ≡ true → (k : ℕ) × (v : TreeValue) × (a ≡ Write (Mark k) v) × (mark_at tree_steps s k ≡ 0)
+refused : (s : NodeMap) (a : Access TreeRegister TreeValue) → may_refuse s a ≡ true → (k : ℕ) × (v : TreeValue) × (a ≡ Write (Mark k) v) × (mark_at tree_steps s k ≡ 0)
 refused s (Read r) h = absurd (cc)
 refused s (Write r v) h = refused_write s r v h
 refused s (TestAndSet r) h = absurd (cc)
@@ -94,14 +94,14 @@ refused s Nothing h = absurd (cc)
 pub tree_memory : IsTreeMemory tree_steps
 tree_memory = record {
   marks = λ s k. mark_word k (map.get s k);
-  names = λ s k. name_word k (map.get s k);
-  takens = λ s k. taken_word k (map.get s k);
+  xs = λ s k. x_word k (map.get s k);
+  ys = λ s k. y_word k (map.get s k);
   segments = λ s k. contents_held k (map.get s k);
   mark_is_bit = λ s k. mark_bit k (map.get s k);
   others = others_kept;
   takes_mark = λ s k h. after_own s (Mark k) (Word 1) ∙ marked k (map.get s k) ((k == 1) || is_some (map.get s (k / 2))) (λ _. in_reach s k h);
-  takes_name = λ s k w h. after_own s (Name k) (Word w) ∙ named k w (map.get s k) h;
-  takes_taken = λ s k h. after_own s (Taken k) (Word 1) ∙ taken k 1 (map.get s k) h;
+  takes_x = λ s k w h. after_own s (X k) (Word w) ∙ x_put k w (map.get s k) h;
+  takes_y = λ s k h. after_own s (Y k) (Word 1) ∙ y_put k 1 (map.get s k) h;
   takes_segment = λ s k segment h. after_own s (Contents k) (Held segment) ∙ stored k segment (map.get s k) h;
   refuses = refused;
 }
@@ -109,7 +109,7 @@ tree_memory = record {
 pub tree_empty : IsEmptyTree tree_steps empty_tree
 tree_empty = record {
   unmarked = λ k. ap (λ o. word_in (value_in (Mark k) o)) (map.get-empty nat_cmp k);
-  unnamed = λ k. ap (λ o. word_in (value_in (Name k) o)) (map.get-empty nat_cmp k);
-  not_taken = λ k. ap (λ o. word_in (value_in (Taken k) o)) (map.get-empty nat_cmp k);
+  unnamed = λ k. ap (λ o. word_in (value_in (X k) o)) (map.get-empty nat_cmp k);
+  not_taken = λ k. ap (λ o. word_in (value_in (Y k) o)) (map.get-empty nat_cmp k);
   nothing_held = λ k. ap (λ o. segment_in (value_in (Contents k) o)) (map.get-empty nat_cmp k);
 }

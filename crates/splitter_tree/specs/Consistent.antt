@@ -3,14 +3,14 @@ use Rattle.std.specs.Prelude.{◌≡◌, ◌≢◌, ℕ, ◌+◌, ◌-◌, ◌*�
 use Rattle.std.proofs.Common.{get_or}
 use Rattle.step_memory.specs.Steps.{MemorySteps}
 use Rattle.splitter.specs.declared.stage.Stage.{Stage}
-use Rattle.splitter.specs.declared.stage.Stage.TheVariants.{Outside, WroteName, SawClear, WroteMark, Gone}
+use Rattle.splitter.specs.declared.stage.Stage.TheVariants.{Outside, WroteX, SawClear, WroteY, Gone}
 use Rattle.splitter.specs.Stage.{has_entered, went_right, went_down}
 use Rattle.splitter.specs.Door.{DoorIsLawful}
 use Rattle.splitter_tree.specs.declared.register.TreeRegister.{TreeRegister}
-use Rattle.splitter_tree.specs.declared.register.TreeRegister.TheVariants.{Name, Taken}
+use Rattle.splitter_tree.specs.declared.register.TreeRegister.TheVariants.{X, Y}
 use Rattle.splitter_tree.specs.declared.register.TreeValue.{TreeValue}
 use Rattle.splitter_tree.specs.declared.walker.Walker.{Walker}
-use Rattle.splitter_tree.specs.TreeMemory.{mark_at, name_at, taken_at}
+use Rattle.splitter_tree.specs.TreeMemory.{mark_at, x_at, y_at}
 use Rattle.splitter_tree.specs.Walk.{place_by}
 use Rattle.splitter_tree.specs.Count.{count_to}
 use Rattle.splitter_tree.specs.Depth.{depth_of, IsNodeWithin}
@@ -21,8 +21,8 @@ use Rattle.splitter_tree.specs.Law.{AreDistinct}
 -- not left it, and has entered no node of a larger number
 pub record IsWalkOf (mark : ℕ → ℕ) (stage : ℕ → ℕ → Stage) (came : ℕ → ℕ → Bool) (p : ℕ) (u : Walker) : Type 0 where
   pub identity : u.visitor.identity ≡ p
-  pub name : u.visitor.name ≡ Name u.place
-  pub taken : u.visitor.mark ≡ Taken u.place
+  pub x : u.visitor.x ≡ X u.place
+  pub y : u.visitor.y ≡ Y u.place
   pub here : stage u.place p ≡ u.visitor.stage
   pub arrived : came u.place p ≡ true
   pub marking : u.is_marking ≡ true → u.visitor.stage ≡ Outside
@@ -31,9 +31,9 @@ pub record IsWalkOf (mark : ℕ → ℕ) (stage : ℕ → ℕ → Stage) (came :
   pub not_down : went_down u.visitor.stage ≡ false
   pub below : (k : ℕ) → u.place < k → stage k p ≡ Outside
 
--- b have begun. Node k has this mark, this name in X and this in Y. The past is in two of the fields: how far p's visit to
+-- b have begun. Node k has this mark, this in X and this in Y. The past is in two of the fields: how far p's visit to
 -- node k came, and whether p came to it: it stands before it, visits it, or has passed it
-pub record NodesAgree (b : ℕ) (mark name taken : ℕ → ℕ) (walker : ℕ → Option Walker) : Type 0 where
+pub record NodesAgree (b : ℕ) (mark x_of y_of : ℕ → ℕ) (walker : ℕ → Option Walker) : Type 0 where
   pub stage : ℕ → ℕ → Stage
   pub came : ℕ → ℕ → Bool
   -- who has begun
@@ -44,7 +44,7 @@ pub record NodesAgree (b : ℕ) (mark name taken : ℕ → ℕ) (walker : ℕ �
   pub walks : (p : ℕ) (u : Walker) → walker p ≡ Some u → IsWalkOf mark stage came p u
   pub absent : (p : ℕ) → walker p ≡ None → (k : ℕ) → stage k p ≡ Outside
   -- each node has a lawful splitter
-  pub doors : (k : ℕ) → DoorIsLawful (name k) (taken k) (stage k)
+  pub splitters : (k : ℕ) → DoorIsLawful (x_of k) (y_of k) (stage k)
   -- who entered a node's splitter came to the node, and who came to a node has begun
   pub entered : (k p : ℕ) → has_entered (stage k p) ≡ true → came k p ≡ true
   pub listed : (k p : ℕ) → came k p ≡ true → (i : ℕ) × (i < length identities) × (get_or identities i 0 ≡ p)
@@ -58,9 +58,9 @@ pub record NodesAgree (b : ℕ) (mark name taken : ℕ → ℕ) (walker : ℕ �
 
 abbrev pub accesses_at : Stage → ℕ
 accesses_at Outside = 1
-accesses_at WroteName = 2
+accesses_at WroteX = 2
 accesses_at SawClear = 3
-accesses_at WroteMark = 4
+accesses_at WroteY = 4
 accesses_at (Gone way) = 5
 
 -- the most accesses that a walk which stands here has made: five at each node that it passed, and those at its node
@@ -76,7 +76,7 @@ module _ {S : Type 0} (memory : MemorySteps S TreeRegister TreeValue) where
   pub record IsConsistent (most b : ℕ) (s : S) (walker : ℕ → Option Walker) : Type 0 where
     pub few : most ≤ 64
     pub room : b ≤ most
-    pub agree : NodesAgree b (mark_at memory s) (name_at memory s) (taken_at memory s) walker
+    pub agree : NodesAgree b (mark_at memory s) (x_at memory s) (y_at memory s) walker
 
   -- whether anyone has marked node k, by which it is made
   abbrev pub was_made : S → ℕ → Bool

@@ -19,3 +19,4 @@ pub mod PlacesLaw
 pub mod TreeDue
 pub mod CollectLaw
 pub mod Made
+pub mod Laws

@@ -1,32 +1,35 @@
 -- the nodes of a tree by their numbers: the root is 1, and the children of node p are 2p and 2p + 1
-use Rattle.std.specs.Prelude.{ℕ, ◌+◌, ◌*◌, ◌-◌, ◌/◌, ◌%◌, ◌^◌, List, [], ◌∷◌, ◌++◌, Bool, ◌&&◌, ◌||◌, not, ◌==◌, if◌then◌else◌, Option, Some, None, is_some, Box}
+use Rattle.splitter_tree.specs.declared.register.TreeValue.{TreeValue}
+use Rattle.splitter_tree.specs.declared.register.TreeRegister.{TreeRegister}
+use Rattle.step_memory.specs.SetAt.{set_at}
+use Rattle.std.specs.Prelude.{ℕ, ◌+◌, ◌*◌, ◌-◌, ◌/◌, ◌%◌, ◌^◌, List, [], ◌∷◌, ◌++◌, Bool, ◌&&◌, ◌||◌, not, ◌==◌, if◌then◌else◌, Option, Some, None, is_some, Box, ◌≡◌}
 use Rattle.std.specs.Ordering.{nat_cmp}
 use Rattle.std.specs.FinMap as map
-use Rattle.splitter_tree.specs.declared.door.Door.{Door}
+use Rattle.splitter_tree.specs.declared.node_registers.NodeRegisters.{NodeRegisters}
 use Rattle.splitter_tree.specs.declared.node.Node.{Node, Node', Held-Node-left, None', Some'}
-use Rattle.splitter_tree.specs.TreeSteps.{Doors, fresh_door}
+use Rattle.splitter_tree.specs.TreeSteps.{NodeMap, fresh_registers, number_in, written}
 
 abbrev mutual
   -- what the node with number p holds, and all nodes below it
-  pub entries_in : {A : Type 0} → ℕ → Node A → List (ℕ × Door)
-  entries_in p (Node' door left right) = (p, door) ∷ (entries_at (2 * p) left ++ entries_at (2 * p + 1) right)
+  pub entries_in : {A : Type 0} → ℕ → Node A → List (ℕ × NodeRegisters)
+  entries_in p (Node' registers left right) = (p, registers) ∷ (entries_at (2 * p) left ++ entries_at (2 * p + 1) right)
 
-  pub entries_at : {A : Type 0} → ℕ → Held-Node-left A → List (ℕ × Door)
+  pub entries_at : {A : Type 0} → ℕ → Held-Node-left A → List (ℕ × NodeRegisters)
   entries_at p None' = []
   entries_at p (Some' q n) = entries_in p n
 
 -- the same from a link on
-abbrev pub entries_below : {A B : Type 0} → ℕ → Option (Box (Node A) B) → List (ℕ × Door)
+abbrev pub entries_below : {A B : Type 0} → ℕ → Option (Box (Node A) B) → List (ℕ × NodeRegisters)
 entries_below p None = []
 entries_below p (Some b) = entries_in p b.value
 
 -- the node with number q, where it is there from this link on, whose node has number p
-abbrev pub door_below : {A B : Type 0} → ℕ → Option (Box (Node A) B) → ℕ → Option Door
-door_below p link q = map.find nat_cmp q (entries_below p link)
+abbrev pub registers_below : {A B : Type 0} → ℕ → Option (Box (Node A) B) → ℕ → Option NodeRegisters
+registers_below p link q = map.find nat_cmp q (entries_below p link)
 
 -- the nodes of a tree with this root
-abbrev pub doors_of : {A B : Type 0} → Option (Box (Node A) B) → Doors
-doors_of root = map.from_entries (entries_below 1 root)
+abbrev pub nodes_of : {A B : Type 0} → Option (Box (Node A) B) → NodeMap
+nodes_of root = map.from_entries (entries_below 1 root)
 
 -- the way to a node goes right, where it has come to so many levels above the node
 abbrev pub is_right : ℕ → ℕ → Bool
@@ -34,9 +37,17 @@ is_right place depth = (place / 2 ^ (depth - 1)) % 2 == 1
 
 -- the node with this number, so many levels below a link, is not there and can be made: it is the link's own, or its
 -- parent is there
-abbrev pub is_lacking : (ℕ → Option Door) → ℕ → ℕ → Bool
-is_lacking door place depth = not (is_some (door place)) && ((depth == 0) || is_some (door (place / 2)))
+abbrev pub is_lacking : (ℕ → Option NodeRegisters) → ℕ → ℕ → Bool
+is_lacking registers place depth = not (is_some (registers place)) && ((depth == 0) || is_some (registers (place / 2)))
 
 -- what is there after it was made where it could be
-abbrev pub grown : (ℕ → Option Door) → ℕ → ℕ → Option Door
-grown door place depth = if is_lacking door place depth then Some fresh_door else door place
+abbrev pub grown : (ℕ → Option NodeRegisters) → ℕ → ℕ → Option NodeRegisters
+grown registers place depth = if is_lacking registers place depth then Some fresh_registers else registers place
+
+-- below a link, what nodes hold after a write into this register
+abbrev pub IsWritten : (ℕ → Option NodeRegisters) → (ℕ → Option NodeRegisters) → TreeRegister → TreeValue → Type 0
+IsWritten old new register value = (q : ℕ) → new q ≡ set_at old (number_in register) (written register value (old (number_in register))) q
+
+-- and after the node so many levels below it has grown
+abbrev pub IsGrown : (ℕ → Option NodeRegisters) → (ℕ → Option NodeRegisters) → ℕ → ℕ → Type 0
+IsGrown old new place depth = (q : ℕ) → new q ≡ set_at old place (grown old place depth) q

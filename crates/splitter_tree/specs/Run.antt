@@ -5,13 +5,13 @@ use Rattle.splitter_tree.specs.CollectLaw.{KeepsCollectLaw}
 use Rattle.splitter_tree.specs.Consistent.{IsTree}
 use Rattle.splitter_tree.specs.PlacesLaw.{KeepsPlacesLaw, way_calls, walkers}
 use Rattle.splitter_tree.specs.TreeDue.{TreeRefusesAsDue}
-use Rattle.splitter_tree.specs.TreeSteps.{Doors, tree_steps, empty_tree}
+use Rattle.splitter_tree.specs.TreeSteps.{NodeMap, tree_steps, empty_tree}
 use Rattle.splitter_tree.specs.TreeWorld.{TreeState}
 use Rattle.splitter_tree.specs.TreeCalls.{TreeCall, IsAfter}
 
 -- the nodes, the most participants, and the participants
 abbrev pub TreeWorldState : Type 0
-TreeWorldState = TreeState Doors
+TreeWorldState = TreeState NodeMap
 
 -- the world, of at most 16 participants, is after these calls with these replies
 abbrev pub After : TreeWorldState → List TreeCall → Type 0

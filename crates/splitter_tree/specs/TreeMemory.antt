@@ -1,11 +1,11 @@
--- what a memory does that holds a growing tree of doors, told by what stands in each node's registers
+-- what a memory does that holds a growing tree of nodes, told by what stands in each node's registers
 use Rattle.std.specs.Prelude.{◌≡◌, ℕ, ◌/◌, ◌⊎◌, true, Option, None}
 use Rattle.step_memory.specs.declared.access.Access.{Access}
 use Rattle.step_memory.specs.declared.access.Access.TheVariants.{Write}
 use Rattle.step_memory.specs.declared.record.Record.{Record}
 use Rattle.step_memory.specs.Steps.{MemorySteps, Spares}
 use Rattle.splitter_tree.specs.declared.register.TreeRegister.{TreeRegister}
-use Rattle.splitter_tree.specs.declared.register.TreeRegister.TheVariants.{Mark, Name, Taken, Contents}
+use Rattle.splitter_tree.specs.declared.register.TreeRegister.TheVariants.{Mark, X, Y, Contents}
 use Rattle.splitter_tree.specs.declared.register.TreeValue.{TreeValue}
 use Rattle.splitter_tree.specs.declared.register.TreeValue.TheVariants.{Word, Contents as Held}
 
@@ -25,12 +25,12 @@ module _ {S : Type 0} (memory : MemorySteps S TreeRegister TreeValue) where
   mark_at s k = word_in (memory.register s (Mark k)).0
 
   -- what stands in X of node k
-  abbrev pub name_at : S → ℕ → ℕ
-  name_at s k = word_in (memory.register s (Name k)).0
+  abbrev pub x_at : S → ℕ → ℕ
+  x_at s k = word_in (memory.register s (X k)).0
 
   -- what stands in Y of node k
-  abbrev pub taken_at : S → ℕ → ℕ
-  taken_at s k = word_in (memory.register s (Taken k)).0
+  abbrev pub y_at : S → ℕ → ℕ
+  y_at s k = word_in (memory.register s (Y k)).0
 
   -- what stands in the segment of node k
   abbrev pub segment_at : S → ℕ → Option Record
@@ -49,20 +49,20 @@ module _ {S : Type 0} (memory : MemorySteps S TreeRegister TreeValue) where
   -- be refused only where a node is marked that was not
   pub record IsTreeMemory : Type 0 where
     pub marks : (s : S) (k : ℕ) → (memory.register s (Mark k)).0 ≡ Word (mark_at s k)
-    pub names : (s : S) (k : ℕ) → (memory.register s (Name k)).0 ≡ Word (name_at s k)
-    pub takens : (s : S) (k : ℕ) → (memory.register s (Taken k)).0 ≡ Word (taken_at s k)
+    pub xs : (s : S) (k : ℕ) → (memory.register s (X k)).0 ≡ Word (x_at s k)
+    pub ys : (s : S) (k : ℕ) → (memory.register s (Y k)).0 ≡ Word (y_at s k)
     pub segments : (s : S) (k : ℕ) → (memory.register s (Contents k)).0 ≡ Held (segment_at s k)
     pub mark_is_bit : (s : S) (k : ℕ) → (mark_at s k ≡ 0) ⊎ (mark_at s k ≡ 1)
     pub others : (s : S) (a : Access TreeRegister TreeValue) (r : TreeRegister) → Spares a r → memory.register (memory.after s a) r ≡ memory.register s r
     pub takes_mark : (s : S) (k : ℕ) → IsWithinReach s k → Takes s (Mark k) (Word 1)
-    pub takes_name : (s : S) (k identity : ℕ) → mark_at s k ≡ 1 → Takes s (Name k) (Word identity)
-    pub takes_taken : (s : S) (k : ℕ) → mark_at s k ≡ 1 → Takes s (Taken k) (Word 1)
+    pub takes_x : (s : S) (k identity : ℕ) → mark_at s k ≡ 1 → Takes s (X k) (Word identity)
+    pub takes_y : (s : S) (k : ℕ) → mark_at s k ≡ 1 → Takes s (Y k) (Word 1)
     pub takes_segment : (s : S) (k : ℕ) (segment : Option Record) → mark_at s k ≡ 1 → Takes s (Contents k) (Held segment)
     pub refuses : (s : S) (a : Access TreeRegister TreeValue) → memory.may_refuse s a ≡ true → (k : ℕ) × (v : TreeValue) × (a ≡ Write (Mark k) v) × (mark_at s k ≡ 0)
 
   -- a tree of no nodes
   pub record IsEmptyTree (s : S) : Type 0 where
     pub unmarked : (k : ℕ) → mark_at s k ≡ 0
-    pub unnamed : (k : ℕ) → name_at s k ≡ 0
-    pub not_taken : (k : ℕ) → taken_at s k ≡ 0
+    pub unnamed : (k : ℕ) → x_at s k ≡ 0
+    pub not_taken : (k : ℕ) → y_at s k ≡ 0
     pub nothing_held : (k : ℕ) → segment_at s k ≡ None

@@ -9,10 +9,10 @@ use Rattle.step_memory.specs.declared.note.Note.TheVariants.{Quiet, Ended}
 use Rattle.step_memory.specs.Steps.{ProgramSteps}
 use Rattle.splitter.specs.declared.way.Way.TheVariants.{Stop, Right, Down}
 use Rattle.splitter.specs.declared.stage.Stage.{Stage}
-use Rattle.splitter.specs.declared.stage.Stage.TheVariants.{Outside, WroteName, SawClear, WroteMark, Gone}
+use Rattle.splitter.specs.declared.stage.Stage.TheVariants.{Outside, WroteX, SawClear, WroteY, Gone}
 use Rattle.splitter.specs.Visitor.{access_of, visitor_at, stage_by}
 use Rattle.splitter_tree.specs.declared.register.TreeRegister.{TreeRegister}
-use Rattle.splitter_tree.specs.declared.register.TreeRegister.TheVariants.{Mark, Name, Taken}
+use Rattle.splitter_tree.specs.declared.register.TreeRegister.TheVariants.{Mark, X, Y}
 use Rattle.splitter_tree.specs.declared.register.TreeValue.{TreeValue}
 use Rattle.splitter_tree.specs.declared.register.TreeValue.TheVariants.{Word, Contents as Held}
 use Rattle.splitter_tree.specs.declared.walker.Walker.{Walker}
@@ -27,7 +27,7 @@ right_child k = min (left_child k + 1) (2 ^ 128 - 1)
 
 -- a walk that stands before node k, whose mark it writes next
 abbrev pub walker_at : ℕ → ℕ → Walker
-walker_at id k = record { visitor = visitor_at id (Name k) (Taken k); place = k; is_marking = true }
+walker_at id k = record { visitor = visitor_at id (X k) (Y k); place = k; is_marking = true }
 
 -- a walk that begins, before the root
 abbrev pub walk_of : ℕ → Walker
@@ -58,9 +58,9 @@ visit_on u s = record u { visitor = record u.visitor { stage = s } }
 -- the walk whose visit has come this far: from a visit that ends right or down it stands before the next node
 abbrev pub walked_to : Walker → Stage → Walker
 walked_to u Outside = visit_on u Outside
-walked_to u WroteName = visit_on u WroteName
+walked_to u WroteX = visit_on u WroteX
 walked_to u SawClear = visit_on u SawClear
-walked_to u WroteMark = visit_on u WroteMark
+walked_to u WroteY = visit_on u WroteY
 walked_to u (Gone Stop) = visit_on u (Gone Stop)
 walked_to u (Gone Right) = walker_at u.visitor.identity (right_child u.place)
 walked_to u (Gone Down) = walker_at u.visitor.identity (left_child u.place)
@@ -72,9 +72,9 @@ walker_after u got = if u.is_marking then record u { is_marking = false } else w
 -- what a walk says where its visit has come this far
 abbrev pub note_at_node : ℕ → Stage → Note ℕ
 note_at_node k Outside = Quiet
-note_at_node k WroteName = Quiet
+note_at_node k WroteX = Quiet
 note_at_node k SawClear = Quiet
-note_at_node k WroteMark = Quiet
+note_at_node k WroteY = Quiet
 note_at_node k (Gone Stop) = Ended k
 note_at_node k (Gone Right) = Quiet
 note_at_node k (Gone Down) = Quiet
@@ -87,9 +87,9 @@ walker_steps = record { next = next_access; resumed = walker_after; note = walke
 
 abbrev pub place_at_node : ℕ → Stage → Option ℕ
 place_at_node k Outside = None
-place_at_node k WroteName = None
+place_at_node k WroteX = None
 place_at_node k SawClear = None
-place_at_node k WroteMark = None
+place_at_node k WroteY = None
 place_at_node k (Gone Stop) = Some k
 place_at_node k (Gone Right) = None
 place_at_node k (Gone Down) = None
@@ -104,5 +104,5 @@ place_by (Some u) = place_of u
 
 -- the walk's visit is to the registers of the node before which it stands
 pub record StandsAtNode (u : Walker) : Type 0 where
-  pub name : u.visitor.name ≡ Name u.place
-  pub mark : u.visitor.mark ≡ Taken u.place
+  pub x : u.visitor.x ≡ X u.place
+  pub y : u.visitor.y ≡ Y u.place

@@ -1,11 +1,11 @@
 //! A collect.
 
-ghost use Rattle.std.specs.Prelude.{◌≡◌};
+ghost use Rattle.std.specs.Prelude.{◌≡◌, option_copied};
 ghost use Rattle.splitter_tree.specs.Collect.{first_collect, collect_reads, collect_after, collect_view, view_with};
 
 use crate::collect_walk::CollectWalk;
 use crate::register::{TreeRegister, TreeValue};
-use step_memory::{Segment, View};
+use step_memory::{Record, View};
 
 /// A collect under way: its walk over the nodes, and the identities and values in the segments that it has read. A view
 /// has room for as many pairs as there may ever be participants.
@@ -34,8 +34,8 @@ impl Collect {
     }
 
     /// Puts what a segment holds into the view.
-    fn gather(&mut self, segment: Segment)
-        ensures view { self.new.view ≡ view_with self.old.view segment }
+    fn gather(&mut self, segment: Option<&Record>)
+        ensures view { self.new.view ≡ view_with self.old.view (option_copied segment.entry) }
         ensures walk { self.new.walk ≡ self.old.walk }
     {
         if let Some(found) = segment {

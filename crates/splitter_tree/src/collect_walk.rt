@@ -1,11 +1,11 @@
 //! The walk of a collect.
 
-ghost use Rattle.std.specs.Prelude.{◌≡◌, ◌<◌, ◌≤◌, ℕ};
+ghost use Rattle.std.specs.Prelude.{◌≡◌, ◌<◌, ◌≤◌, ℕ, option_copied};
 ghost use Rattle.splitter_tree.specs.CollectWalk.{first_walk, register_read, place_read, walk_resumed, walk_is_over, node_after, node_next, finds_mark};
 ghost use Rattle.splitter_tree.specs.TreeMemory.{segment_in};
 
 use crate::register::{TreeRegister, TreeValue};
-use step_memory::{Place, Segment};
+use step_memory::{Place, Record};
 
 /// A walk over the nodes that were made, each before its left subtree and that before its right one. It reads the mark
 /// of a node; where that is 1, the node's segment, and then what lies below. It keeps no list of nodes: the number of
@@ -106,12 +106,12 @@ impl CollectWalk {
     }
 
     /// What a segment holds, in whose register this stands.
-    pub fn content(value: &TreeValue) -> Segment
-        ensures { result ≡ segment_in value.now }
+    pub fn content(value: &TreeValue) -> Option<&Record>
+        ensures { option_copied result ≡ segment_in value.now }
     {
         match value {
             TreeValue::Word(_) => None,
-            TreeValue::Contents(segment) => *segment,
+            TreeValue::Contents(segment) => segment.as_ref(),
         }
     }
 }

@@ -34,9 +34,9 @@
 pub mod client;
 pub mod collect;
 pub mod collect_walk;
-pub mod door;
 pub mod laws;
 pub mod node;
+pub mod node_registers;
 pub mod register;
 #[cfg(test)]
 mod tests;
@@ -49,12 +49,12 @@ pub mod world;
 pub use client::{Client, Task, TreeReply};
 pub use collect::Collect;
 pub use collect_walk::CollectWalk;
-pub use door::Door;
 pub use laws::{
     law_of_collect_calls, law_of_collects, law_of_collects_at_places, law_of_nodes_and_walks,
     law_of_own_accesses, law_of_places, law_of_tree_calls,
 };
 pub use node::{Link, Node};
+pub use node_registers::NodeRegisters;
 pub use register::{TreeRegister, TreeValue};
 pub use tree::{Tree, law_of_tree_memory};
 pub use walker::Walker;

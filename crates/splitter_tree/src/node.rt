@@ -3,10 +3,10 @@
 ghost use Rattle.std.specs.Prelude.{◌≡◌, ◌<◌, ◌/◌, ◌^◌, ℕ, OnOk, OnErr, IfOk, true, option_copied, Some, None};
 ghost use Rattle.std.specs.FinMap as map;
 ghost use Rattle.step_memory.specs.SetAt.{set_at};
-ghost use Rattle.splitter_tree.specs.Nodes.{door_below, doors_of, grown, is_lacking, is_right};
-ghost use Rattle.splitter_tree.specs.TreeSteps.{number_in, written, fresh_door, after_write, makes_node};
+ghost use Rattle.splitter_tree.specs.Nodes.{registers_below, nodes_of, grown, is_lacking, is_right, IsWritten, IsGrown};
+ghost use Rattle.splitter_tree.specs.TreeSteps.{number_in, written, fresh_registers, after_write, makes_node};
 
-use crate::door::Door;
+use crate::node_registers::NodeRegisters;
 use crate::register::{TreeRegister, TreeValue};
 use std::alloc::Allocator;
 use step_memory::{NoMemory, Place};
@@ -17,7 +17,7 @@ pub type Link<A> = Option<Box<Node<A>, A>>;
 /// A node of the tree: what it holds, and its children. Their numbers follow from the way to them.
 #[derive(Drop)]
 pub struct Node<A: Allocator> {
-    pub door: Door,
+    pub registers: NodeRegisters,
     /// Where down leads to: the node with twice the number of this one.
     pub left: Link<A>,
     /// Where right leads to: the node with one more than that.
@@ -34,16 +34,16 @@ fn goes_right(place: Place, depth: u32) -> bool
 }
 
 /// What a node holds that lies so many levels below a link, where it is there.
-fn find_below<A: Allocator>(link: &Link<A>, place: Place, depth: u32) -> Option<&Door>
+fn find_below<A: Allocator>(link: &Link<A>, place: Place, depth: u32) -> Option<&NodeRegisters>
     requires within { depth < 128 }
     requires number { 0 < place / 2 ^ depth }
-    ensures { option_copied result ≡ door_below (place / 2 ^ depth) link.now place }
+    ensures { option_copied result ≡ registers_below (place / 2 ^ depth) link.now place }
 {
     let Some(node) = link else {
         return None;
     };
     if depth == 0 {
-        Some(&node.door)
+        Some(&node.registers)
     } else if goes_right(place, depth) {
         find_below(&node.right, place, depth - 1)
     } else {
@@ -60,13 +60,13 @@ fn write_below<A: Allocator>(
 )
     requires within { depth < 128 }
     requires number { 0 < number_in register / 2 ^ depth }
-    ensures { (q : ℕ) → door_below (number_in register / 2 ^ depth) link.new q ≡ set_at (door_below (number_in register / 2 ^ depth) link.old) (number_in register) (written register value.now (door_below (number_in register / 2 ^ depth) link.old (number_in register))) q }
+    ensures { let top = number_in register / 2 ^ depth in IsWritten (registers_below top link.old) (registers_below top link.new) register value.now }
 {
     let Some(node) = link else {
         return;
     };
     if depth == 0 {
-        node.door.write(register, *value);
+        node.registers.write(register, *value);
     } else if goes_right(register.node(), depth) {
         write_below(&mut node.right, depth - 1, register, value);
     } else {
@@ -76,13 +76,13 @@ fn write_below<A: Allocator>(
 
 /// A node that has just been made, with no children.
 fn leaf<A: Allocator + Clone>(alloc: &A) -> Result<Box<Node<A>, A>, NoMemory>
-    ensures { IfOk result (λ b. (p q : ℕ) → door_below p (Some b) q ≡ set_at (λ _. None) p (Some fresh_door) q) }
+    ensures { IfOk result (λ b. (p q : ℕ) → registers_below p (Some b) q ≡ set_at (λ _. None) p (Some fresh_registers) q) }
 {
     let Ok(other) = alloc.clone() else {
         return Err(NoMemory);
     };
     let node = Node {
-        door: Door::new(),
+        registers: NodeRegisters::new(),
         left: None,
         right: None,
     };
@@ -102,9 +102,9 @@ fn grow_below<A: Allocator + Clone>(
 ) -> Result<(), NoMemory>
     requires within { depth < 128 }
     requires number { 0 < place / 2 ^ depth }
-    ensures grown { OnOk result ((q : ℕ) → door_below (place / 2 ^ depth) link.new q ≡ set_at (door_below (place / 2 ^ depth) link.old) place (grown (door_below (place / 2 ^ depth) link.old) place depth) q) }
+    ensures grown { OnOk result (let top = place / 2 ^ depth in IsGrown (registers_below top link.old) (registers_below top link.new) place depth) }
     ensures refused { OnErr result (link.new ≡ link.old) }
-    ensures no_memory { OnErr result (is_lacking (door_below (place / 2 ^ depth) link.old) place depth ≡ true) }
+    ensures no_memory { OnErr result (is_lacking (registers_below (place / 2 ^ depth) link.old) place depth ≡ true) }
 {
     match link {
         None => {
@@ -126,8 +126,8 @@ fn grow_below<A: Allocator + Clone>(
 }
 
 /// What the node with this number holds, where it is there, in a tree with this root.
-pub(crate) fn find_from<A: Allocator>(root: &Link<A>, place: Place) -> Option<&Door>
-    ensures { option_copied result ≡ map.get (doors_of root.now) place }
+pub(crate) fn find_from<A: Allocator>(root: &Link<A>, place: Place) -> Option<&NodeRegisters>
+    ensures { option_copied result ≡ map.get (nodes_of root.now) place }
 {
     if place == 0 {
         None
@@ -144,9 +144,9 @@ pub(crate) fn write_from<A: Allocator + Clone>(
     register: TreeRegister,
     value: TreeValue,
 ) -> Result<(), NoMemory>
-    ensures after { OnOk result (doors_of root.new ≡ after_write (doors_of root.old) register value) }
+    ensures after { OnOk result (nodes_of root.new ≡ after_write (nodes_of root.old) register value) }
     ensures refused { OnErr result (root.new ≡ root.old) }
-    ensures no_memory { OnErr result (makes_node (doors_of root.old) register value ≡ true) }
+    ensures no_memory { OnErr result (makes_node (nodes_of root.old) register value ≡ true) }
 {
     let place = register.node();
     if place == 0 {

@@ -12,9 +12,9 @@ pub enum TreeRegister {
     /// Whether anyone has come to the node: 1, and 0 before. A walk writes it before it visits the node's splitter.
     Mark(Place),
     /// X of the node's splitter: an identity, and 0 at first.
-    Name(Place),
+    X(Place),
     /// Y of the node's splitter: 1 once it is set, and 0 before.
-    Taken(Place),
+    Y(Place),
     /// The segment of the participant whose place the node is.
     Contents(Place),
 }
@@ -35,8 +35,8 @@ impl TreeRegister {
     {
         match self {
             TreeRegister::Mark(place) => place,
-            TreeRegister::Name(place) => place,
-            TreeRegister::Taken(place) => place,
+            TreeRegister::X(place) => place,
+            TreeRegister::Y(place) => place,
             TreeRegister::Contents(place) => place,
         }
     }
@@ -50,8 +50,8 @@ impl TreeRegister {
                 TreeValue::Word(word) => *word == 1,
                 TreeValue::Contents(_) => false,
             },
-            TreeRegister::Name(_) => false,
-            TreeRegister::Taken(_) => false,
+            TreeRegister::X(_) => false,
+            TreeRegister::Y(_) => false,
             TreeRegister::Contents(_) => false,
         }
     }

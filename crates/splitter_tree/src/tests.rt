@@ -114,6 +114,14 @@ fn ranges_of_a_tree(rt: HostRuntime) {
             }
         }
     }
+    law_of_tree_memory();
+    law_of_nodes_and_walks::<u64>();
+    law_of_places::<u64>();
+    law_of_collects();
+    law_of_collects_at_places::<u64>();
+    law_of_collect_calls::<u64>();
+    law_of_tree_calls();
+    law_of_own_accesses();
 }
 
 #[test]
@@ -149,10 +157,10 @@ fn a_node_that_was_refused_is_made_later(rt: HostRuntime) -> Result<(), Fail> {
     }
     assert_eq!(rt; world.step(20), Err(Refusal::NoMemory));
     assert_eq!(rt; world.step(20), Err(Refusal::NoMemory));
-    assert!(rt; world.tree().door_at(3).is_none());
+    assert!(rt; world.tree().registers_at(3).is_none());
     drop(boxes);
     assert_eq!(rt; world.step(20), Ok(None));
-    assert!(rt; world.tree().door_at(3).is_some());
+    assert!(rt; world.tree().registers_at(3).is_some());
     assert!(rt; walks_to(&mut world, 20, 3, 3));
     Ok(())
 }
@@ -177,11 +185,11 @@ fn a_walk_as_a_program(rt: HostRuntime) {
     assert!(rt;
         matches!(
             walker.next(),
-            Access::Write(TreeRegister::Name(1), TreeValue::Word(9))
+            Access::Write(TreeRegister::X(1), TreeValue::Word(9))
         )
     );
     assert_eq!(rt; take(&mut walker, Answer::Done), Note::Quiet);
-    assert!(rt; matches!(walker.next(), Access::Read(TreeRegister::Taken(1))));
+    assert!(rt; matches!(walker.next(), Access::Read(TreeRegister::Y(1))));
     assert_eq!(rt;
         take(&mut walker, Answer::Value(TreeValue::Word(1))),
         Note::Quiet
@@ -194,16 +202,4 @@ fn a_walk_as_a_program(rt: HostRuntime) {
     );
     assert_eq!(rt; walker.place(), None);
     assert!(rt; client.is_placing());
-}
-
-#[test]
-fn laws_are_called() {
-    law_of_tree_memory();
-    law_of_nodes_and_walks::<u64>();
-    law_of_places::<u64>();
-    law_of_collects();
-    law_of_collects_at_places::<u64>();
-    law_of_collect_calls::<u64>();
-    law_of_tree_calls();
-    law_of_own_accesses();
 }

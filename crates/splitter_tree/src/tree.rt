@@ -7,8 +7,8 @@ ghost use Rattle.splitter_tree.specs.TreeLaws.{others_kept};
 ghost use Rattle.splitter_tree.specs.TreeMemory.{IsTreeMemory, IsEmptyTree};
 ghost use Rattle.step_memory.specs.declared.access.Access.{Access};
 
-use crate::door::Door;
 use crate::node::{Link, find_from, write_from};
+use crate::node_registers::NodeRegisters;
 use crate::register::{TreeRegister, TreeValue};
 use std::alloc::Allocator;
 use std::marker::Model;
@@ -25,16 +25,16 @@ pub struct Tree<A: Allocator> {
 impl<A: Allocator> Model for Tree<A> {
     ghost use Rattle.std.specs.Coded.{coded_ℕ};
     ghost use Rattle.std.specs.FinMap as map;
-    ghost use Rattle.splitter_tree.specs.contracts.door.Door as door;
-    ghost use Rattle.splitter_tree.specs.TreeSteps.{Doors};
+    ghost use Rattle.splitter_tree.specs.contracts.node_registers.NodeRegisters as registers;
+    ghost use Rattle.splitter_tree.specs.TreeSteps.{NodeMap};
 
-    ghost Value = { Doors };
+    ghost Value = { NodeMap };
 
-    ghost coded = { map.code coded_ℕ door.the_row.coded };
+    ghost coded = { map.code coded_ℕ registers.the_row.coded };
 
-    ghost use Rattle.splitter_tree.specs.Nodes.{doors_of};
+    ghost use Rattle.splitter_tree.specs.Nodes.{nodes_of};
 
-    ghost view = { λ t. doors_of t.root };
+    ghost view = { λ t. nodes_of t.root };
 }
 
 impl<A: Allocator> Tree<A> {
@@ -47,7 +47,7 @@ impl<A: Allocator> Tree<A> {
 
     /// What the node with this number holds, where it is there. This is no access: it is for what watches a tree from
     /// outside.
-    pub fn door_at(&self, place: Place) -> Option<&Door>
+    pub fn registers_at(&self, place: Place) -> Option<&NodeRegisters>
         ensures { option_copied result ≡ map.get self.now place }
     {
         find_from(&self.root, place)
@@ -57,12 +57,12 @@ impl<A: Allocator> Tree<A> {
     fn read(&self, register: TreeRegister) -> TreeValue
         ensures { result ≡ value_in register (map.get self.now (number_in register)) }
     {
-        match self.door_at(register.node()) {
-            Some(door) => door.read(register),
+        match self.registers_at(register.node()) {
+            Some(registers) => registers.read(register),
             None => match register {
                 TreeRegister::Mark(_) => TreeValue::Word(0),
-                TreeRegister::Name(_) => TreeValue::Word(0),
-                TreeRegister::Taken(_) => TreeValue::Word(0),
+                TreeRegister::X(_) => TreeValue::Word(0),
+                TreeRegister::Y(_) => TreeValue::Word(0),
                 TreeRegister::Contents(_) => TreeValue::Contents(None),
             },
         }

@@ -1,6 +1,6 @@
 //! Examples of accesses to a tree: what is there, what is lost, and want of memory.
 
-use crate::door::Door;
+use crate::node_registers::NodeRegisters;
 use crate::register::{TreeRegister, TreeValue};
 use crate::tree::{Tree, law_of_tree_memory};
 use linked_list_allocator::LocalHeap;
@@ -38,16 +38,16 @@ fn a_node_is_made_below_one_that_is_there(rt: HostRuntime) {
     law_of_tree_memory();
     let mut tree = Tree::new(rt.alloc());
     assert!(rt; !refuses(&mut tree, TreeRegister::Mark(2), 1));
-    assert!(rt; tree.door_at(2).is_none());
-    assert!(rt; !refuses(&mut tree, TreeRegister::Name(1), 10));
-    assert_eq!(rt; word(&mut tree, TreeRegister::Name(1)), Some(0));
+    assert!(rt; tree.registers_at(2).is_none());
+    assert!(rt; !refuses(&mut tree, TreeRegister::X(1), 10));
+    assert_eq!(rt; word(&mut tree, TreeRegister::X(1)), Some(0));
     for place in [1, 2, 5] {
         assert_eq!(rt; word(&mut tree, TreeRegister::Mark(place)), Some(0));
         assert!(rt; !refuses(&mut tree, TreeRegister::Mark(place), 1));
         assert_eq!(rt; word(&mut tree, TreeRegister::Mark(place)), Some(1));
     }
     for place in [0, 3, 4, 10, 11] {
-        assert!(rt; tree.door_at(place).is_none(), "at {place}");
+        assert!(rt; tree.registers_at(place).is_none(), "at {place}");
     }
 }
 
@@ -58,25 +58,21 @@ fn a_node_keeps_its_own_words(rt: HostRuntime) {
         let _ = refuses(&mut tree, TreeRegister::Mark(place), 1);
     }
     for place in [1, 2, 3, 6u64] {
-        let _ = refuses(
-            &mut tree,
-            TreeRegister::Name(Place::from(place)),
-            10 * place,
-        );
+        let _ = refuses(&mut tree, TreeRegister::X(Place::from(place)), 10 * place);
     }
-    let _ = refuses(&mut tree, TreeRegister::Taken(3), 1);
+    let _ = refuses(&mut tree, TreeRegister::Y(3), 1);
     for place in [1, 2, 3, 6u64] {
-        let names = word(&mut tree, TreeRegister::Name(Place::from(place)));
-        assert_eq!(rt; names, Some(10 * place));
-        let taken = word(&mut tree, TreeRegister::Taken(Place::from(place)));
-        assert_eq!(rt; taken, Some(if place == 3 { 1 } else { 0 }));
+        let x = word(&mut tree, TreeRegister::X(Place::from(place)));
+        assert_eq!(rt; x, Some(10 * place));
+        let y = word(&mut tree, TreeRegister::Y(Place::from(place)));
+        assert_eq!(rt; y, Some(if place == 3 { 1 } else { 0 }));
     }
-    let mut door = Door::new();
-    door.write(TreeRegister::Name(3), TreeValue::Word(30));
-    assert!(rt; matches!(door.read(TreeRegister::Name(3)), TreeValue::Word(30)));
+    let mut registers = NodeRegisters::new();
+    registers.write(TreeRegister::X(3), TreeValue::Word(30));
+    assert!(rt; matches!(registers.read(TreeRegister::X(3)), TreeValue::Word(30)));
     assert!(rt;
         matches!(
-            door.read(TreeRegister::Contents(3)),
+            registers.read(TreeRegister::Contents(3)),
             TreeValue::Contents(None)
         )
     );
@@ -89,8 +85,8 @@ fn as_deep_as_numbers_go(rt: HostRuntime) {
         assert!(rt; !refuses(&mut tree, TreeRegister::Mark(1 << depth), 1));
     }
     let deepest = 1u128 << 127;
-    assert!(rt; tree.door_at(deepest).is_some());
-    assert!(rt; tree.door_at(deepest + 1).is_none());
+    assert!(rt; tree.registers_at(deepest).is_some());
+    assert!(rt; tree.registers_at(deepest + 1).is_none());
 }
 
 #[test]
@@ -108,9 +104,9 @@ fn a_growth_that_was_refused(rt: HostRuntime) -> Result<(), Fail> {
     assert!(rt; refuses(&mut tree, TreeRegister::Mark(3), 1));
     assert!(rt; !refuses(&mut tree, TreeRegister::Mark(1), 1));
     assert!(rt; !refuses(&mut tree, TreeRegister::Mark(6), 1));
-    assert!(rt; tree.door_at(3).is_none());
+    assert!(rt; tree.registers_at(3).is_none());
     drop(boxes);
     assert!(rt; !refuses(&mut tree, TreeRegister::Mark(3), 1));
-    assert!(rt; tree.door_at(3).is_some());
+    assert!(rt; tree.registers_at(3).is_some());
     Ok(())
 }

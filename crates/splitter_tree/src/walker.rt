@@ -77,11 +77,7 @@ impl Walker {
         ensures { result ≡ walker_at identity place }
     {
         Walker {
-            visitor: Visitor::new(
-                identity,
-                TreeRegister::Name(place),
-                TreeRegister::Taken(place),
-            ),
+            visitor: Visitor::new(identity, TreeRegister::X(place), TreeRegister::Y(place)),
             place,
             is_marking: true,
         }
@@ -94,7 +90,7 @@ impl Walker {
         match self.visitor.stage {
             Stage::Gone(Way::Stop) => Some(self.place),
             Stage::Gone(Way::Right) | Stage::Gone(Way::Down) => None,
-            Stage::Outside | Stage::WroteName | Stage::SawClear | Stage::WroteMark => None,
+            Stage::Outside | Stage::WroteX | Stage::SawClear | Stage::WroteY => None,
         }
     }
 }

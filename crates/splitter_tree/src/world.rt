@@ -1,6 +1,7 @@
 //! A world whose participants walk down one tree, store values at their places, and collect them.
 
 ghost use Rattle.std.specs.Prelude.{◌≡◌, ◌≢◌, ℕ, [], ◌∷◌, ◌++◌, List, IfOk, IfErr, IsOk, Err, OnErr, true, ◌≤◌, ◌<◌, ◌⊎◌, ◌↔◌, option_and_then};
+ghost use Rattle.splitter_tree.specs.Laws.{AnswersPlaceAlike, StaysAlikeOnWay, StaysAlikeCollecting};
 ghost use Rattle.splitter_tree.specs.Client.{client_steps};
 ghost use Rattle.splitter_tree.specs.TreeCalls.{TreeCall};
 ghost use Rattle.splitter_tree.specs.TreeCalls.TreeCall.{Began, Stepped, Stored, CollectBegan, CollectStepped};
@@ -10,7 +11,7 @@ ghost use Rattle.splitter_tree.specs.PlacesLaw.{way_calls};
 ghost use Rattle.splitter_tree.specs.Run.{After, HasLawfulNodes, IsLawful, LeadsOn, RefusesWhereDue, TreeWorldState};
 ghost use Rattle.splitter_tree.specs.Walk.{place_of};
 ghost use Rattle.step_memory.specs.Calls.{outcome_of};
-ghost use Rattle.step_memory.specs.Locality.{IsLocal, LookAlike, StandAlike};
+ghost use Rattle.step_memory.specs.Locality.{IsLocal, LookAlike};
 ghost use Rattle.step_memory.specs.Participant.{program_of};
 ghost use Rattle.step_memory.specs.World.{begin_refusal, done_unless};
 
@@ -30,14 +31,14 @@ pub struct TreeWorld<A: Allocator> {
 impl<A: Allocator> Model for TreeWorld<A> {
     ghost use Rattle.splitter_tree.specs.Run.{TreeWorldState};
     ghost use Rattle.splitter_tree.specs.contracts.client.Client as client;
-    ghost use Rattle.splitter_tree.specs.contracts.door.Door as door;
+    ghost use Rattle.splitter_tree.specs.contracts.node_registers.NodeRegisters as registers;
     ghost use Rattle.std.specs.Coded.{coded_ℕ};
     ghost use Rattle.std.specs.FinMap as map;
     ghost use Rattle.step_memory.specs.WorldCode.{world_code};
 
     ghost Value = { TreeWorldState };
 
-    ghost coded = { world_code (map.code coded_ℕ door.the_row.coded) client.the_row.coded };
+    ghost coded = { world_code (map.code coded_ℕ registers.the_row.coded) client.the_row.coded };
 
     ghost view = { λ w. w.world };
 }
@@ -97,8 +98,8 @@ impl<A: Allocator + Clone> TreeWorld<A> {
         // Nothing of the world changes but this participant and the register that it names, and in another world that
         // looks alike to this participant the answer is the same, and where the participant then stands.
         ensures local { IsLocal client_steps tree_steps id self.old self.new }
-        ensures alike { result ≢ Err Refusal.NoMemory → (other : TreeWorldState) → LookAlike client_steps tree_steps id self.old other → result ≡ place_answer tree_steps other id }
-        ensures stands_alike { result ≢ Err Refusal.NoMemory → (other : TreeWorldState) → LookAlike client_steps tree_steps id self.old other → StandAlike id self.new (after_placing tree_steps other id) }
+        ensures alike { result ≢ Err Refusal.NoMemory → AnswersPlaceAlike self.old id result }
+        ensures stands_alike { result ≢ Err Refusal.NoMemory → StaysAlikeOnWay self.old self.new id }
     {
         let Some(client) = self.world.program(id) else {
             return Err(Refusal::NotBegun);
@@ -168,7 +169,7 @@ impl<A: Allocator + Clone> TreeWorld<A> {
         ensures due { RefusesWhereDue self.new }
         ensures local { IsLocal client_steps tree_steps id self.old self.new }
         ensures alike { (other : TreeWorldState) → LookAlike client_steps tree_steps id self.old other → result ≡ view_answer tree_steps other id }
-        ensures stands_alike { (other : TreeWorldState) → LookAlike client_steps tree_steps id self.old other → StandAlike id self.new (after_collecting tree_steps other id) }
+        ensures stands_alike { StaysAlikeCollecting self.old self.new id }
     {
         let Some(client) = self.world.program(id) else {
             return Err(Refusal::NotBegun);

@@ -19,3 +19,4 @@ pub mod View
 pub mod ViewInside
 pub mod ViewEq
 pub mod WorldCode
+pub mod Laws

@@ -1,6 +1,7 @@
 -- locality: a participant sees of the others what stands in the register that it reads, and leaves of the world what it
 -- does not write (this project's profile)
 use Rattle.std.specs.Prelude.{◌≡◌, ◌≢◌, ℕ, Some, None}
+use Rattle.step_memory.specs.declared.access.Access.TheVariants.{Read}
 use Rattle.step_memory.specs.declared.participant.Participant.{Participant}
 use Rattle.step_memory.specs.Participant.{participant_of}
 use Rattle.step_memory.specs.Steps.{ProgramSteps, MemorySteps, Spares, AgreeAt}
@@ -25,3 +26,7 @@ module _ {P S R V O : Type 0} (program : ProgramSteps P R V O) (memory : MemoryS
     pub participant : participant_of p one.participants ≡ participant_of p other.participants
     pub register : (v : Participant P) → participant_of p one.participants ≡ Some v →
         AgreeAt (memory.register one.memory) (memory.register other.memory) (program.next v.program)
+
+-- p has begun, and its next access is a read
+abbrev pub ReadsNext : {P S R V O : Type 0} → ProgramSteps P R V O → WorldState S P → ℕ → Type 0
+ReadsNext {P} {S} {R} program w p = (v : Participant P) × (r : R) × (participant_of p w.participants ≡ Some v) × (program.next v.program ≡ Read r)

@@ -1,11 +1,11 @@
 -- what the calls of a world answer and leave
-use Rattle.std.specs.Prelude.{ℕ, Bool, false, [], ◌∷◌, ◌++◌, length, Option, Some, None, Result, Ok, Err, ◌==◌, nat_le, if◌then◌else◌, is_some}
+use Rattle.std.specs.Prelude.{◌≡◌, ℕ, Bool, false, [], ◌∷◌, ◌++◌, length, Option, Some, None, Result, Ok, Err, ◌==◌, nat_le, if◌then◌else◌, is_some}
 use Rattle.step_memory.specs.declared.access.Answer.{Answer}
 use Rattle.step_memory.specs.declared.note.Note.{Note}
 use Rattle.step_memory.specs.declared.refusal.Refusal.{Refusal}
 use Rattle.step_memory.specs.declared.refusal.Refusal.TheVariants.{ZeroIdentity, AlreadyBegun, Full, NotBegun, Finished}
 use Rattle.step_memory.specs.declared.participant.Participant.{Participant}
-use Rattle.step_memory.specs.Participant.{beginner, resumed, participant_of, with_participant}
+use Rattle.step_memory.specs.Participant.{beginner, resumed, participant_of, program_of, with_participant}
 use Rattle.step_memory.specs.Steps.{ProgramSteps, MemorySteps, answer_from}
 use Rattle.step_memory.specs.WorldState.{WorldState}
 
@@ -41,6 +41,18 @@ set_answer w id = set_answer_by (participant_of id w.participants)
 -- the world after `set`: with no participant of that identity it is as before
 abbrev pub after_set : {S P : Type 0} → WorldState S P → ℕ → P → WorldState S P
 after_set w id program = record w { participants = with_participant (beginner id program) w.participants }
+
+-- the request may be made of who has begun under this identity
+abbrev pub CanAsk : {Q S P : Type 0} → (Q → P → Type 0) → Q → ℕ → WorldState S P → Type 0
+CanAsk {Q} {S} {P} can_ask request id w = (program : P) → program_of id w.participants ≡ Some program → can_ask request program
+
+abbrev pub after_asked_by : {S P : Type 0} → (P → P) → WorldState S P → ℕ → Option P → WorldState S P
+after_asked_by asked w id None = w
+after_asked_by asked w id (Some program) = after_set w id (asked program)
+
+-- the world after a program was asked: with no participant of that identity it is as before
+abbrev pub after_asked : {S P : Type 0} → (P → P) → WorldState S P → ℕ → WorldState S P
+after_asked asked w id = after_asked_by asked w id (program_of id w.participants)
 
 module _ {P S R V O : Type 0} (program : ProgramSteps P R V O) (memory : MemorySteps S R V) where
   -- what the memory answers to a participant

@@ -43,7 +43,7 @@ pub use memory::{Memory, StepMemory};
 pub use note::Note;
 pub use participant::Participant;
 pub use place::Place;
-pub use program::StepProgram;
+pub use program::{Request, StepProgram};
 pub use record::{Record, Segment};
 pub use refusal::{NoMemory, Refusal};
 pub use view::View;

@@ -1,9 +1,10 @@
 //! Registers.
 
-ghost use Rattle.std.specs.Prelude.{◌≡◌, ℕ, OnOk, OnErr, IfOk, IsOk, true, false, replicate};
+ghost use Rattle.std.specs.Prelude.{◌≡◌, ℕ, OnOk, OnErr, IfOk, IsOk, IfSome, true, false, replicate};
 ghost use Rattle.step_memory.specs.Steps.{MemorySteps, answer_from, Spares};
 ghost use Rattle.step_memory.specs.Registers.{memory_steps, register_of, answer_of, after_access};
 ghost use Rattle.step_memory.specs.declared.access.Access.{Access};
+ghost use Rattle.step_memory.specs.declared.access.Access.TheVariants.{Read};
 ghost use Rattle.step_memory.specs.RegisterLaws.{others_kept};
 
 use crate::access::{Access, Answer};
@@ -15,7 +16,7 @@ use std::marker::Model;
 /// it names.
 pub trait StepMemory {
     /// What names a register.
-    type Reg;
+    type Reg: Copy;
 
     /// What stands in a register.
     type Value;
@@ -29,6 +30,15 @@ pub trait StepMemory {
         ensures after { OnOk result (self.new ≡ steps.after self.old a) }
         ensures refused { OnErr result (self.new ≡ self.old) }
         ensures no_memory { OnErr result (steps.may_refuse self.old a ≡ true) };
+
+    /// The value that stands in a register, where it stands, for a `Read` that copies nothing. `None` where none is lent:
+    /// then `access` answers the `Read`.
+    fn look(&self, _register: &Self::Reg) -> Option<&Self::Value>
+        ensures value { IfSome result (λ value. value.now ≡ (steps.register self.now _register.now).0) }
+        ensures kept { IfSome result (λ value. steps.after self.now (Read _register.now) ≡ self.now) }
+    {
+        None
+    }
 
     /// An access changes no register but the one that it names.
     ghost others: { (m : Self) (a : Access Self.Reg Self.Value) (r : Self.Reg) → Spares a r → steps.register (steps.after m a) r ≡ steps.register m r };
@@ -138,6 +148,13 @@ impl<V: Copy, A: Allocator> StepMemory for Memory<V, A> {
             }
             Access::Nothing => Answer::Done,
         })
+    }
+
+    fn look(&self, register: &usize) -> Option<&V>
+        ensures value { IfSome result (λ value. value.now ≡ (register_of self.now register.now).0) }
+        ensures kept { IfSome result (λ value. after_access self.now (Read register.now) ≡ self.now) }
+    {
+        self.values.get(*register)
     }
 
     ghost others = { others_kept };

@@ -1,11 +1,13 @@
 //! One participant of a world.
 
-ghost use Rattle.std.specs.Prelude.{◌≡◌};
-ghost use Rattle.step_memory.specs.Participant.{resumed};
+ghost use Rattle.std.specs.Prelude.{◌≡◌, true, false};
+ghost use Rattle.step_memory.specs.Participant.{resumed, beginner};
+ghost use Rattle.step_memory.specs.declared.access.Answer.TheVariants.{Value};
+ghost use Rattle.step_memory.specs.declared.note.Note.TheVariants.{Quiet};
 
 use crate::access::Answer;
 use crate::note::Note;
-use crate::program::StepProgram;
+use crate::program::{Request, StepProgram};
 
 /// A participant: its identity, which is not 0, its program, and whether its program has ended.
 #[derive(Debug, Drop)]
@@ -24,5 +26,29 @@ impl<P: StepProgram> Participant<P> {
         let note = self.program.resume(got);
         self.ended = note.ends();
         note
+    }
+    /// Takes the value that the access of its program reads, where it stands, if the program then goes on and says nothing.
+    /// Tells whether it did; where not, nothing has changed.
+    pub fn read_on(&mut self, got: &P::Value) -> bool
+        ensures after { result ≡ true → self.new ≡ resumed P.steps self.old (Value got.now) }
+        ensures quiet { result ≡ true → P.steps.note self.old.program (Value got.now) ≡ Quiet }
+        ensures kept { result ≡ false → self.new ≡ self.old }
+    {
+        if !self.program.read_on(got) {
+            return false;
+        }
+        self.ended = false;
+        true
+    }
+}
+
+impl<P> Participant<P> {
+    /// Asks its program for something, with no access; it has then not ended.
+    pub fn ask<Q: Request<P>>(&mut self, request: Q)
+        requires { Q.can_ask request self.old.program }
+        ensures { self.new ≡ beginner self.old.identity (Q.asked request self.old.program) }
+    {
+        request.ask(&mut self.program);
+        self.ended = false;
     }
 }

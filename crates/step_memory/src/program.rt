@@ -1,7 +1,10 @@
 //! Programs that take one access a step.
 
-ghost use Rattle.std.specs.Prelude.{◌≡◌};
+ghost use Rattle.std.specs.Prelude.{◌≡◌, IfSome, true, false};
 ghost use Rattle.step_memory.specs.Steps.{ProgramSteps};
+ghost use Rattle.step_memory.specs.declared.access.Access.TheVariants.{Read};
+ghost use Rattle.step_memory.specs.declared.access.Answer.TheVariants.{Value};
+ghost use Rattle.step_memory.specs.declared.note.Note.TheVariants.{Quiet};
 
 use crate::access::{Access, Answer};
 use crate::note::Note;
@@ -10,7 +13,7 @@ use crate::note::Note;
 /// program alone, and what comes of it a function of the program and of the answer alone.
 pub trait StepProgram {
     /// What names a register.
-    type Reg;
+    type Reg: Copy;
 
     /// What stands in a register.
     type Value;
@@ -29,4 +32,35 @@ pub trait StepProgram {
     fn resume(&mut self, got: Answer<Self::Value>) -> Note<Self::Output>
         ensures after { self.new ≡ steps.resumed self.old got }
         ensures note { result ≡ steps.note self.old got };
+
+    /// The register that the access reads, where the program may take the value where it stands (`read_on`).
+    fn reads(&self) -> Option<Self::Reg>
+        ensures { IfSome result (λ register. steps.next self.now ≡ Read register) }
+    {
+        None
+    }
+
+    /// Takes the value that the access reads, where it stands in the memory, if the program then goes on and says nothing.
+    /// Tells whether it did; where not, nothing has changed, and `resume` takes the answer.
+    fn read_on(&mut self, _got: &Self::Value) -> bool
+        ensures after { result ≡ true → self.new ≡ steps.resumed self.old (Value _got.now) }
+        ensures quiet { result ≡ true → steps.note self.old (Value _got.now) ≡ Quiet }
+        ensures kept { result ≡ false → self.new ≡ self.old }
+    {
+        false
+    }
+}
+
+/// What may be asked of a program between its steps, with no access.
+pub trait Request<P> {
+    /// Whether it may be asked of this program.
+    ghost can_ask: { Self → P → Type 0 };
+
+    /// The program once it was asked.
+    ghost asked: { Self → P → P };
+
+    /// Asks a program, where it stands.
+    fn ask(self, program: &mut P)
+        requires { can_ask self program.old }
+        ensures { program.new ≡ asked self program.old };
 }

@@ -1,15 +1,15 @@
 //! Participants that take steps on one memory.
 
-ghost use Rattle.std.specs.Prelude.{◌≡◌, ◌≢◌, ℕ, ◌<◌, ◌≤◌, [], ◌∷◌, ◌++◌, true, false, length, option_copied, IfOk, OnErr, OnOk, IsOk, Err, Option};
+ghost use Rattle.std.specs.Prelude.{◌≡◌, ◌≢◌, ℕ, ◌<◌, ◌≤◌, [], ◌∷◌, ◌++◌, true, false, length, option_copied, IfOk, OnErr, OnOk, IsOk, Err, Ok, Option};
 ghost use Rattle.step_memory.specs.Participant.{index_of, program_of};
-ghost use Rattle.step_memory.specs.World.{begin_refusal, done_unless, after_begin, step_answer, after_step, may_refuse_step, set_answer, after_set};
+ghost use Rattle.step_memory.specs.World.{begin_refusal, done_unless, after_begin, step_answer, after_step, may_refuse_step, set_answer, after_set, CanAsk, after_asked};
 ghost use Rattle.step_memory.specs.WorldState.{WorldState};
-ghost use Rattle.step_memory.specs.Locality.{IsLocal, LookAlike};
+ghost use Rattle.step_memory.specs.Locality.{IsLocal, LookAlike, ReadsNext};
 
 use crate::memory::StepMemory;
 use crate::note::Note;
 use crate::participant::Participant;
-use crate::program::StepProgram;
+use crate::program::{Request, StepProgram};
 use crate::refusal::{NoMemory, Refusal};
 use std::alloc::Allocator;
 use std::marker::Model;
@@ -64,8 +64,8 @@ impl<
         }
     }
 
-    /// Why an identity may not begin.
-    fn begin_refusal(&self, id: u64) -> Option<Refusal>
+    /// Why an identity may not begin: what `begin` would be refused. It changes nothing.
+    pub fn begin_refusal(&self, id: u64) -> Option<Refusal>
         ensures { result ≡ begin_refusal self.now id }
     {
         if id == 0 {
@@ -126,6 +126,31 @@ impl<
         Ok(self.participants[i].resume(got))
     }
 
+    /// One step of a participant, if it is a read after which its program goes on and says nothing: nothing is copied.
+    /// Tells whether it was made; where not, nothing has changed, and `step` makes it or refuses it.
+    pub fn read_on(&mut self, id: u64) -> bool
+        ensures answer { result ≡ true → step_answer P.steps S.steps self.old id ≡ Ok Note.Quiet }
+        ensures reads { result ≡ true → ReadsNext P.steps self.old id }
+        ensures local { result ≡ true → IsLocal P.steps S.steps id self.old self.new }
+        ensures after { result ≡ true → self.new ≡ after_step P.steps S.steps self.old id }
+        ensures kept { result ≡ false → self.new ≡ self.old }
+    {
+        let Some(i) = find(&self.participants, id) else {
+            return false;
+        };
+        let reader = &self.participants[i];
+        if reader.ended {
+            return false;
+        }
+        let Some(register) = reader.program.reads() else {
+            return false;
+        };
+        let Some(value) = self.memory.look(&register) else {
+            return false;
+        };
+        self.participants[i].read_on(value)
+    }
+
     /// The program of a participant.
     pub fn program(&self, id: u64) -> Option<&P>
         ensures { option_copied result ≡ program_of id self.now.participants }
@@ -151,6 +176,21 @@ impl<
             program,
             ended: false,
         };
+        Ok(())
+    }
+
+    /// Asks a participant's program for something, where it stands, with no access; the participant has then not ended.
+    /// Refused where the identity has not begun.
+    pub fn ask<Q: Request<P> + Drop>(&mut self, id: u64, request: Q) -> Result<(), Refusal>
+        requires { CanAsk Q.can_ask request id self.old }
+        ensures answer { result ≡ set_answer self.old id }
+        ensures after { self.new ≡ after_asked (Q.asked request) self.old id }
+        ensures refused { OnErr result (self.new ≡ self.old) }
+    {
+        let Some(i) = find(&self.participants, id) else {
+            return Err(Refusal::NotBegun);
+        };
+        self.participants[i].ask(request);
         Ok(())
     }
 

@@ -32,4 +32,4 @@ pub returns-clause-not_refused : goal.returns-clause-not_refused
 returns-clause-not_refused c = λ most p why rest. not_first_refused is_some most false p why rest
 
 pub returns-clause-own : goal.returns-clause-own
-returns-clause-own c = λ u. own_access u.visitor.identity u.visitor.name u.visitor.mark u.visitor.stage
+returns-clause-own c = λ u. own_access u.visitor.identity u.visitor.x u.visitor.y u.visitor.stage

@@ -1,7 +1,7 @@
 use Rattle.std.proofs.Common.{arith, ap, sym, ◌≡◌, ◌+◌, ◌∙◌, []}
 use mathlib.Core.Option.{none}
 use Rattle.atomic_table.specs.Table.{step}
-use Rattle.splitter.specs.declared.stage.Stage.TheVariants.{Outside, WroteName, SawClear}
+use Rattle.splitter.specs.declared.stage.Stage.TheVariants.{Outside, WroteX, SawClear}
 use Rattle.raw_parts.specs.SplitterView.{lone_view}
 use Rattle.raw_parts.specs.SplitterSteps.{moved_on}
 use Rattle.raw_parts.proofs.Accesses.{may_write_x, may_read_y, may_write_y, may_read_x, stands_after}
@@ -22,15 +22,15 @@ pub store-requires-2 : goal.store-requires-2
 store-requires-2 g c =
     let words : c.self.inside.table.shared.table_id.words ≡ 2 = c.self.invariant in
     let wrote_x = stands_after _ _ (c.args.number + 1) Outside _ _ c.requires.fresh c.store.ensures.2.0 in
-    let read_y = stands_after _ _ c.load.result WroteName _ _ wrote_x c.load.ensures.2.0 in
-    let saw_clear = read_y ∙ ap (λ found. (moved_on found (lone_view c.args.self.now.seats c.args.number WroteName), [])) c.if-load-ne0.false in
+    let read_y = stands_after _ _ c.load.result WroteX _ _ wrote_x c.load.ensures.2.0 in
+    let saw_clear = read_y ∙ ap (λ found. (moved_on found (lone_view c.args.self.now.seats c.args.number WroteX), [])) c.if-load-ne0.false in
     (c.load.ensures.0 ∙ c.store.ensures.0 ∙ c.requires.ours ∙ ap (λ w. w.table) (sym c.self.view_is), omega arith, rw saw_clear (may_write_y _ _ _ _ _ (step 0 0 0 0 none)))
 
 pub load-requires-2 : goal.load-requires-2
 load-requires-2 g c =
     let words : c.self.inside.table.shared.table_id.words ≡ 2 = c.self.invariant in
     let wrote_x = stands_after _ _ (c.args.number + 1) Outside _ _ c.requires.fresh c.store.ensures.2.0 in
-    let read_y = stands_after _ _ c.load.result WroteName _ _ wrote_x c.load.ensures.2.0 in
-    let saw_clear = read_y ∙ ap (λ found. (moved_on found (lone_view c.args.self.now.seats c.args.number WroteName), [])) c.if-load-ne0.false in
+    let read_y = stands_after _ _ c.load.result WroteX _ _ wrote_x c.load.ensures.2.0 in
+    let saw_clear = read_y ∙ ap (λ found. (moved_on found (lone_view c.args.self.now.seats c.args.number WroteX), [])) c.if-load-ne0.false in
     let wrote_y = stands_after _ _ 1 SawClear _ _ saw_clear c.store-2.ensures.2.0 in
     (c.store-2.ensures.0 ∙ c.load.ensures.0 ∙ c.store.ensures.0 ∙ c.requires.ours ∙ ap (λ w. w.table) (sym c.self.view_is), omega arith, rw wrote_y (may_read_x _ _ _ _ _ (step 0 0 0 0 none)))

@@ -31,9 +31,9 @@ returns-clause-after g c =
     let some : Some c.in-Some.client.now ≡ program_of c.args.id c.args.self.now.participants = rw (← c.self.view_is) c.in-Some.ensures in
     let idle : is_idle c.in-Some.client.now.pending ≡ true = sym c.is_idle.ensures ∙ c.if-not-is_idle.false in
     let goes = scan_goes c.args.self.now c.args.id c.in-Some.client.now some idle in
-    let reply : c.set.result ≡ Ok tt = rw c.self.view_is at c.set.ensures.answer ∙ set_goes c.args.self.now c.args.id c.in-Some.client.now some in
-    let state : c.set.new.self ≡ after_set c.args.self.now c.args.id (scanning c.in-Some.client.now) = rw (c.scanning-client.ensures, c.self.view_is) at c.set.ensures.after in
-    after_call (known g) c.args.self.now c.set.new.self (Scanned c.args.id c.set.result) (state ∙ goes.state) (reply ∙ goes.answer)
+    let reply : c.ask.result ≡ Ok tt = rw c.self.view_is at c.ask.ensures.answer ∙ set_goes c.args.self.now c.args.id c.in-Some.client.now some in
+    let state : c.ask.new.self ≡ after_set c.args.self.now c.args.id (scanning c.in-Some.client.now) = rw (c.self.view_is, ← some) at c.ask.ensures.after in
+    after_call (known g) c.args.self.now c.ask.new.self (Scanned c.args.id c.ask.result) (state ∙ goes.state) (reply ∙ goes.answer)
 
 pub returns-in_default-clause-law : goal.returns-in_default-clause-law
 returns-in_default-clause-law g c = law_holds (known g) g.met.W.Places.laws c.args.self.now
@@ -42,4 +42,4 @@ pub returns-then-not-is_idle-clause-law : goal.returns-then-not-is_idle-clause-l
 returns-then-not-is_idle-clause-law g c = law_holds (known g) g.met.W.Places.laws c.args.self.now
 
 pub returns-clause-law : goal.returns-clause-law
-returns-clause-law g c = law_holds (known g) g.met.W.Places.laws c.set.new.self
+returns-clause-law g c = law_holds (known g) g.met.W.Places.laws c.ask.new.self

@@ -2,12 +2,13 @@ use Rattle.std.proofs.Common.{◌≡◌, ◌<◌, Some, None, take, sym, ◌∙�
 use Rattle.std.proofs.lemmas.List.{get_or-take, length-take-le}
 use Rattle.snapshot_core.specs.Sightings.{index_of}
 use Rattle.snapshot_core.proofs.SightingLemmas.{IsNotedAt, noted_at, not_noted}
-use Rattle.snapshot_core.proofs.sightings.Sightings.at.Goals as goal
-use Rattle.snapshot_core.proofs.sightings.Sightings.at.Goals.{In-Some}
+use Rattle.snapshot_core.proofs.sightings.Sightings.get.Goals as goal
+use Rattle.snapshot_core.proofs.sightings.Sightings.get.Goals.{In-Some}
 
 found : (c : In-Some) → IsNotedAt c.args.place (take c.self.inside.len c.self.inside.entries) c.in-Some.i
 found c =
-    let e : index_of c.args.place (take c.self.inside.len c.self.inside.entries) ≡ Some c.in-Some.i = sym c.in-Some.ensures in
+    let at : c.args.at ≡ index_of c.args.place (take c.self.inside.len c.self.inside.entries) = rw (← c.self.view_is) at c.requires in
+    let e : index_of c.args.place (take c.self.inside.len c.self.inside.entries) ≡ Some c.in-Some.i = sym at ∙ c.in-Some.is in
     noted_at c.args.place (take c.self.inside.len c.self.inside.entries) c.in-Some.i e
 
 below : (c : In-Some) → c.in-Some.i < c.self.inside.len
@@ -25,8 +26,9 @@ returns-in-Some c =
 
 pub returns-in-None : goal.returns-in-None
 returns-in-None c =
-    let e : index_of c.args.place (take c.self.inside.len c.self.inside.entries) ≡ None = sym c.in-None.ensures in
-    rw (← c.self.view_is) (sym (not_noted c.args.place (take c.self.inside.len c.self.inside.entries) e).is)
+    let at : c.args.at ≡ index_of c.args.place (take c.self.inside.len c.self.inside.entries) = rw (← c.self.view_is) at c.requires in
+    let e : index_of c.args.place (take c.self.inside.len c.self.inside.entries) ≡ None = sym at ∙ c.in-None.is in
+    rw (c.unknown.ensures, ← c.self.view_is) (sym (not_noted c.args.place (take c.self.inside.len c.self.inside.entries) e).is)
 
 pub offset_bounds-self-inside-i : goal.offset_bounds-self-inside-i
 offset_bounds-self-inside-i c = let h = below (goal.at.offset_bounds-self-inside-i c).In-Some in search rules

@@ -3,11 +3,13 @@ use Rattle.std.proofs.lemmas.List.{length-take-le, take_more_set}
 use Rattle.std.proofs.Math.Seq.{take-set-lt}
 use Rattle.snapshot_core.specs.Sightings.{index_of}
 use Rattle.snapshot_core.proofs.SightingLemmas.{noted_at, noted-some, noted-none}
-use Rattle.snapshot_core.proofs.sightings.Sightings.note.Goals as goal
-use Rattle.snapshot_core.proofs.sightings.Sightings.note.Goals.{In-Some}
+use Rattle.snapshot_core.proofs.sightings.Sightings.put.Goals as goal
+use Rattle.snapshot_core.proofs.sightings.Sightings.put.Goals.{In-Some}
 
 found : (c : In-Some) → index_of c.args.sighting.place (take c.self.inside.len c.self.inside.entries) ≡ Some c.in-Some.i
-found c = sym c.in-Some.ensures
+found c =
+    let at : c.args.at ≡ index_of c.args.sighting.place (take c.self.inside.len c.self.inside.entries) = rw (← c.self.view_is) at c.requires in
+    sym at ∙ c.in-Some.is
 
 below : (c : In-Some) → c.in-Some.i < c.self.inside.len
 below c =
@@ -25,7 +27,8 @@ returns-in-Some c =
 
 pub returns-then-self-lt64 : goal.returns-then-self-lt64
 returns-then-self-lt64 c =
-    let e : index_of c.args.sighting.place (take c.self.inside.len c.self.inside.entries) ≡ None = sym c.in-None.ensures in
+    let at : c.args.at ≡ index_of c.args.sighting.place (take c.self.inside.len c.self.inside.entries) = rw (← c.self.view_is) at c.requires in
+    let e : index_of c.args.sighting.place (take c.self.inside.len c.self.inside.entries) ≡ None = sym at ∙ c.in-None.is in
     let l : length (take c.self.inside.len c.self.inside.entries) ≡ c.self.inside.len = length-take-le c.self.inside.len c.self.inside.entries (omega arith) in
     rw (← c.self.view_is) (take_more_set c.self.inside.entries c.self.inside.len c.args.sighting (omega arith)
     ∙ sym (noted-none c.args.sighting (take c.self.inside.len c.self.inside.entries) e (omega arith)))

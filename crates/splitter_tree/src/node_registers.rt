@@ -1,30 +1,30 @@
 //! What a node holds.
 
 ghost use Rattle.std.specs.Prelude.{◌≡◌, Some};
-ghost use Rattle.splitter_tree.specs.TreeSteps.{fresh_door, value_in, door_after_write};
+ghost use Rattle.splitter_tree.specs.TreeSteps.{fresh_registers, value_in, registers_after_write};
 
 use crate::register::{TreeRegister, TreeValue};
 use step_memory::Segment;
 
 /// What a node of the tree holds: its splitter's X and Y, and its segment. Its mark is set as long as the node is there.
 #[derive(Clone, Copy, Debug, Drop)]
-pub struct Door {
+pub struct NodeRegisters {
     /// X: an identity, and 0 at first.
-    pub name: u64,
+    pub x: u64,
     /// Y: 1 once it is set, and 0 before.
-    pub taken: u64,
+    pub y: u64,
     /// The segment of the participant whose place the node is.
     pub segment: Segment,
 }
 
-impl Door {
+impl NodeRegisters {
     /// A splitter that no one has entered, and an empty segment.
-    pub fn new() -> Door
-        ensures { result ≡ fresh_door }
+    pub fn new() -> NodeRegisters
+        ensures { result ≡ fresh_registers }
     {
-        Door {
-            name: 0,
-            taken: 0,
+        NodeRegisters {
+            x: 0,
+            y: 0,
             segment: None,
         }
     }
@@ -35,24 +35,24 @@ impl Door {
     {
         match register {
             TreeRegister::Mark(_) => TreeValue::Word(1),
-            TreeRegister::Name(_) => TreeValue::Word(self.name),
-            TreeRegister::Taken(_) => TreeValue::Word(self.taken),
+            TreeRegister::X(_) => TreeValue::Word(self.x),
+            TreeRegister::Y(_) => TreeValue::Word(self.y),
             TreeRegister::Contents(_) => TreeValue::Contents(self.segment),
         }
     }
 
     /// Writes into a register of this node. A mark that is set stays set, and a value of the other kind is lost.
     pub fn write(&mut self, register: TreeRegister, value: TreeValue)
-        ensures { self.new ≡ door_after_write register value self.old }
+        ensures { self.new ≡ registers_after_write register value self.old }
     {
         match (register, value) {
-            (TreeRegister::Name(_), TreeValue::Word(word)) => self.name = word,
-            (TreeRegister::Taken(_), TreeValue::Word(word)) => self.taken = word,
+            (TreeRegister::X(_), TreeValue::Word(word)) => self.x = word,
+            (TreeRegister::Y(_), TreeValue::Word(word)) => self.y = word,
             (TreeRegister::Contents(_), TreeValue::Contents(segment)) => self.segment = segment,
             (TreeRegister::Mark(_), TreeValue::Word(_)) => {}
             (TreeRegister::Mark(_), TreeValue::Contents(_)) => {}
-            (TreeRegister::Name(_), TreeValue::Contents(_)) => {}
-            (TreeRegister::Taken(_), TreeValue::Contents(_)) => {}
+            (TreeRegister::X(_), TreeValue::Contents(_)) => {}
+            (TreeRegister::Y(_), TreeValue::Contents(_)) => {}
             (TreeRegister::Contents(_), TreeValue::Word(_)) => {}
         }
     }

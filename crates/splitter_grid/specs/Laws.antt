@@ -1,0 +1,74 @@
+-- what the laws of this crate say, each under a name
+use Rattle.step_memory.specs.Locality.{LookAlike, StandAlike}
+use Rattle.std.specs.Prelude.{◌≡◌, ◌≢◌, ℕ, ◌+◌, ◌*◌, ◌≤◌, ◌<◌, length, Option, Some, None, ◌∷◌, [], ◌++◌, List, Ok, Err, false, is_some}
+use Rattle.splitter.specs.Visitor.{word_of}
+use Rattle.splitter_grid.specs.Consistent.{IsConsistent}
+use Rattle.splitter_grid.specs.GridWorld.{After, GridState, step_reply, world_after_step}
+use Rattle.splitter_grid.specs.Law.{KeepsGridLaw}
+use Rattle.splitter_grid.specs.Walk.{walk_of, next_access, walker_after, accesses_of, place_of, walker_steps}
+use Rattle.splitter_grid.specs.declared.walker.Walker.{Walker}
+use Rattle.step_memory.specs.Calls.{Call}
+use Rattle.step_memory.specs.Calls.Call.{Began, Stepped}
+use Rattle.step_memory.specs.Due.{RefusesAsDue}
+use Rattle.step_memory.specs.RegisterState.{Registers}
+use Rattle.step_memory.specs.Registers.{answer_of, after_access, memory_steps}
+use Rattle.step_memory.specs.SetAt.{set_at}
+use Rattle.step_memory.specs.World.{after_begin, begin_refusal, done_unless}
+use Rattle.step_memory.specs.declared.access.Answer.{Answer}
+use Rattle.step_memory.specs.declared.refusal.Refusal.{Refusal}
+
+-- one more may begin before the door in the corner
+abbrev pub AgreesWithBeginner : Type 0
+AgreesWithBeginner =
+    (most b : ℕ) (m : Registers ℕ) (walker : ℕ → Option Walker) (p : ℕ) → IsConsistent most b m walker → p ≢ 0 → walker p ≡ None → b < most →
+    IsConsistent most (b + 1) m (set_at walker p (Some (walk_of p)))
+
+-- a walk may make its next access
+abbrev pub AgreesAfterAccess : Type 0
+AgreesAfterAccess =
+    (most b : ℕ) (m : Registers ℕ) (walker : ℕ → Option Walker) (p : ℕ) (u : Walker) → IsConsistent most b m walker → walker p ≡ Some u →
+    IsConsistent most b (after_access m (next_access u)) (set_at walker p (Some (walker_after u (answer_of m (next_access u)))))
+
+-- doors and walks agree in every memory with the same words
+abbrev pub AgreesElsewhere : Type 0
+AgreesElsewhere =
+    (most b : ℕ) (m other : Registers ℕ) (walker : ℕ → Option Walker) → IsConsistent most b m walker → length other.values ≡ length m.values →
+    ((r : ℕ) → word_of other r ≡ word_of m r) → IsConsistent most b other walker
+
+-- an access brings a walk nearer to its place
+abbrev pub ComesNearer : Type 0
+ComesNearer =
+    (most b : ℕ) (m : Registers ℕ) (walker : ℕ → Option Walker) (p : ℕ) (u : Walker) (got : Answer ℕ) → IsConsistent most b m walker →
+    walker p ≡ Some u → place_of u ≡ None → accesses_of u + 1 ≤ accesses_of (walker_after u got)
+
+-- who has no place has accesses left
+abbrev pub HasAccessesLeft : Type 0
+HasAccessesLeft =
+    (most b : ℕ) (m : Registers ℕ) (walker : ℕ → Option Walker) (p : ℕ) (u : Walker) → IsConsistent most b m walker → walker p ≡ Some u →
+    place_of u ≡ None → accesses_of u + 1 ≤ 4 * b
+
+-- a beginning leads on
+abbrev pub BeginLeadsOn : Type 0
+BeginLeadsOn =
+    (w : GridState) (r : List (Call (Option ℕ))) (id : ℕ) → After w r →
+    After (after_begin w id (walk_of id)) (r ++ Began id (done_unless (begin_refusal w id)) ∷ [])
+
+-- a step leads on
+abbrev pub StepLeadsOn : Type 0
+StepLeadsOn =
+    (w : GridState) (r : List (Call (Option ℕ))) (id : ℕ) → After w r → After (world_after_step w id) (r ++ Stepped id (step_reply w id) ∷ [])
+
+-- nobody is told a second place
+abbrev pub TellsOnePlace : Type 0
+TellsOnePlace =
+    (p a b : ℕ) (before between rest : List (Call (Option ℕ))) →
+    KeepsGridLaw (before ++ Stepped p (Ok (Some a)) ∷ (between ++ Stepped p (Ok (Some b)) ∷ rest)) → ⊥
+
+-- the first to begin is not refused
+abbrev pub LetsTheFirstIn : Type 0
+LetsTheFirstIn =
+    (most p : ℕ) (why : Refusal) (rest : List (Call (Option ℕ))) → 1 ≤ most → p ≢ 0 → RefusesAsDue is_some most false (Began p (Err why) ∷ rest) → ⊥
+
+-- who stands in the new world stands alike after its step in each world that looks alike to it
+abbrev pub StaysAlike : GridState → GridState → ℕ → Type 0
+StaysAlike old new id = (other : GridState) → LookAlike walker_steps memory_steps id old other → StandAlike id new (world_after_step other id)

@@ -1,0 +1,79 @@
+use Rattle.std.proofs.Common.{◌≡◌, ◌<◌, Some, Ok, get_or, set, refl, sym, ap, ◌∙◌, arith, length}
+use Rattle.std.proofs.lemmas.List.{get_or_default}
+use Rattle.step_memory.specs.declared.access.Access.TheVariants.{Read}
+use Rattle.step_memory.specs.declared.access.Answer.TheVariants.{Value}
+use Rattle.step_memory.specs.Participant.{index_of, resumed, with_participant}
+use Rattle.step_memory.specs.World.{got_by}
+use Rattle.step_memory.proofs.LocalityLemmas.{step_local}
+use Rattle.step_memory.proofs.Found.{Found, found, index_of-below}
+use Rattle.step_memory.proofs.StepLemmas.{going_answer, going_after}
+use Rattle.step_memory.proofs.world.World.read_on.Goals as goal
+use Rattle.step_memory.proofs.world.World.read_on.Goals.{After-index-reader, After-read_on}
+
+pub index-reader-requires : goal.index-reader-requires
+index-reader-requires g c =
+    let n : Some c.in-Some.i ≡ index_of c.args.id c.deref.result.now = c.in-Some.ensures.answer in
+    omega (arith, index_of-below c.args.id c.deref.result.now c.in-Some.i n, c.deref.ensures.len)
+
+found_participant : (g : _) (c : After-index-reader g) → Found c.args.id c.args.self.now.participants c.in-Some.i c.index-reader.result.now
+found_participant g c =
+    let v : c.self.inside.participants.items ≡ c.args.self.now.participants = ap (λ w. w.participants) c.self.view_is in
+    let n : Some c.in-Some.i ≡ index_of c.args.id c.deref.result.now = c.in-Some.ensures.answer in
+    let e : Some c.in-Some.i ≡ index_of c.args.id c.args.self.now.participants = cc in
+    let p : c.index-reader.result.now ≡ get_or c.args.self.now.participants c.in-Some.i c.index-reader.result.now = rw (← v) c.index-reader.ensures in
+    found c.args.id c.args.self.now.participants c.in-Some.i c.index-reader.result.now e p
+
+pub index_mut-requires : goal.index_mut-requires
+index_mut-requires g c =
+    let n : Some c.in-Some.i ≡ index_of c.args.id c.deref.result.now = c.in-Some.ensures.answer in
+    omega (arith, index_of-below c.args.id c.deref.result.now c.in-Some.i n, c.deref.ensures.len)
+
+-- what stands in the register is what the access answers, and the access leaves the memory as it is
+record ReadsOn (g : _) (c : After-read_on g) : Type 0 where
+  got : Value c.in-Some-look.value.now ≡ got_by g.P.StepProgram.steps g.S.StepMemory.steps c.args.self.now.memory c.index-reader.result.now
+  memory : g.S.StepMemory.steps.after c.args.self.now.memory (g.P.StepProgram.steps.next c.index-reader.result.now.program) ≡ c.args.self.now.memory
+  same : c.index_mut.result.now ≡ c.index-reader.result.now
+
+reads_on : (g : _) (c : After-read_on g) → ReadsOn g c
+reads_on g c =
+    let m : c.self.inside.memory ≡ c.args.self.now.memory = ap (λ w. w.memory) c.self.view_is in
+    let n : Some c.in-Some.i ≡ index_of c.args.id c.deref.result.now = c.in-Some.ensures.answer in
+    let below : c.in-Some.i < length c.self.inside.participants.items = rw (← c.deref.ensures.value) (index_of-below c.args.id c.deref.result.now c.in-Some.i n) in
+    let next : g.P.StepProgram.steps.next c.index-reader.result.now.program ≡ Read c.in-Some-reads.register = c.in-Some-reads.ensures in
+    let stood : c.in-Some-look.value.now ≡ (g.S.StepMemory.steps.register c.args.self.now.memory c.in-Some-reads.register).0 = rw m at c.in-Some-look.ensures.value in
+    record {
+      got = rw next (ap Value stood);
+      memory = rw next (rw m at c.in-Some-look.ensures.kept);
+      same = c.index_mut.ensures.value ∙ get_or_default c.self.inside.participants.items c.in-Some.i _ _ below ∙ sym c.index-reader.ensures;
+    }
+
+pub returns-clause-answer : goal.returns-clause-answer
+returns-clause-answer g c = λ goes.
+    let f = found_participant g (goal.at.returns-clause-answer g c).After-index-reader in
+    let w = reads_on g (goal.at.returns-clause-answer g c).After-read_on in
+    going_answer g.P.StepProgram.steps g.S.StepMemory.steps c.args.self.now c.args.id c.index-reader.result.now f.is c.if-reader.false
+    ∙ ap Ok (rw (← w.got, ← w.same) (c.read_on.ensures.quiet goes))
+
+pub returns-clause-after : goal.returns-clause-after
+returns-clause-after g c = λ goes.
+    let f = found_participant g (goal.at.returns-clause-after g c).After-index-reader in
+    let w = reads_on g (goal.at.returns-clause-after g c).After-read_on in
+    let m : c.self.inside.most ≡ c.args.self.now.most = ap (λ w. w.most) c.self.view_is in
+    let k : c.self.inside.memory ≡ c.args.self.now.memory = ap (λ w. w.memory) c.self.view_is in
+    let v : c.self.inside.participants.items ≡ c.args.self.now.participants = ap (λ w. w.participants) c.self.view_is in
+    let participant : c.read_on.new.self ≡ resumed g.P.StepProgram.steps c.index-reader.result.now (Value c.in-Some-look.value.now) = rw (← w.same) (c.read_on.ensures.after goes) in
+    let identity : c.read_on.new.self.identity ≡ c.args.id = ap (λ p. p.identity) participant ∙ f.identity in
+    let put : with_participant c.read_on.new.self c.args.self.now.participants ≡ set c.args.self.now.participants c.in-Some.i c.read_on.new.self = f.put c.read_on.new.self identity in
+    let whole : resumed g.P.StepProgram.steps c.index-reader.result.now (got_by g.P.StepProgram.steps g.S.StepMemory.steps c.args.self.now.memory c.index-reader.result.now) ≡ c.read_on.new.self = sym (rw (← w.got) participant) in
+    sym (going_after g.P.StepProgram.steps g.S.StepMemory.steps c.args.self.now c.args.id c.index-reader.result.now f.is c.if-reader.false
+    ∙ rw (whole, put, w.memory, ← v, ← m, ← k) refl)
+
+pub returns-clause-local : goal.returns-clause-local
+returns-clause-local g c = λ goes.
+    let e = returns-clause-after g c goes in
+    rw e (step_local g.P.StepProgram.steps g.S.StepMemory.steps g.met.S.StepMemory.others c.args.self.now c.args.id)
+
+pub returns-clause-reads : goal.returns-clause-reads
+returns-clause-reads g c = λ _.
+    let f = found_participant g (goal.at.returns-clause-reads g c).After-index-reader in
+    (c.index-reader.result.now, c.in-Some-reads.register, f.is, c.in-Some-reads.ensures)

@@ -1,0 +1,178 @@
+-- what the laws of this crate say, each under a name
+use Rattle.std.specs.Prelude.{◌≡◌, ◌≢◌, ℕ, ◌+◌, ◌<◌, ◌≤◌, [], ◌∷◌, ◌++◌, Bool, true, false, List, Option, Some, None, Ok, Err, Result, is_some, IsSome, Contains, length}
+use Rattle.step_memory.specs.Count.{count_to}
+use Rattle.step_memory.specs.SetAt.{set_at}
+use Rattle.step_memory.specs.Participant.{participant_of, with_participant, resumed}
+use Rattle.step_memory.specs.Steps.{ProgramSteps, MemorySteps}
+use Rattle.step_memory.specs.WorldState.{WorldState}
+use Rattle.step_memory.specs.World.{begin_refusal, done_unless, after_begin, step_answer, after_step, got_by}
+use Rattle.step_memory.specs.Calls.{Call, next, IsReply, IsAfter, begun_in, reply_of, lacked_memory}
+use Rattle.step_memory.specs.Calls.Call.{Began, Stepped}
+use Rattle.step_memory.specs.Locality.{LookAlike, StandAlike}
+use Rattle.step_memory.specs.Runs.{Run}
+use Rattle.step_memory.specs.Replay.{replay}
+use Rattle.step_memory.specs.Due.{RefusesAsDue, EndsOnce, TellsTheEnd, GrowsOnly}
+use Rattle.step_memory.specs.View.{IsRising, value_of}
+use Rattle.step_memory.specs.declared.note.Note.{Note}
+use Rattle.step_memory.specs.declared.participant.Participant.{Participant}
+use Rattle.step_memory.specs.declared.refusal.Refusal.{Refusal}
+
+-- what is seen alike of nothing and of what is put where nothing was is as before
+abbrev pub ShowsNoNewcomer : (X Y : Type 0) → Type 0
+ShowsNoNewcomer X Y =
+    (say : Option Y → X) (f : ℕ → Option Y) (p : ℕ) (new : Y) (q : ℕ) → f p ≡ None → say None ≡ say (Some new) →
+    say (f q) ≡ say (set_at f p (Some new) q)
+
+-- after one more has begun its identity finds it, and each other finds whom it found
+abbrev pub FindsNewcomer : (P : Type 0) → Type 0
+FindsNewcomer P =
+    (ps : List (Participant P)) (new : Participant P) → participant_of new.identity ps ≡ None → (q : ℕ) →
+    participant_of q (ps ++ new ∷ []) ≡ set_at (λ v. participant_of v ps) new.identity (Some new) q
+
+-- after one was put in the place of another of its identity this finds it, and each other finds whom it found
+abbrev pub FindsReplaced : (P : Type 0) → Type 0
+FindsReplaced P =
+    (ps : List (Participant P)) (new : Participant P) → is_some (participant_of new.identity ps) ≡ true → (q : ℕ) →
+    participant_of q (with_participant new ps) ≡ set_at (λ v. participant_of v ps) new.identity (Some new) q
+
+-- who is let in has an identity that is not 0 and has not begun, and there is room
+abbrev pub BeginsWhereFree : (P S : Type 0) → Type 0
+BeginsWhereFree P S =
+    (w : WorldState S P) (id : ℕ) → begin_refusal w id ≡ None →
+    (id ≢ 0) × (participant_of id w.participants ≡ None) × (length w.participants < w.most)
+
+-- who goes on is answered the note of its program
+abbrev pub AnswersByNote : (P S R V O : Type 0) → Type 0
+AnswersByNote P S R V O =
+    (program : ProgramSteps P R V O) (memory : MemorySteps S R V) (w : WorldState S P) (id : ℕ) (p : Participant P) →
+    participant_of id w.participants ≡ Some p → p.ended ≡ false →
+    step_answer program memory w id ≡ Ok (program.note p.program (got_by program memory w.memory p))
+
+-- who goes on leaves the world after its access
+abbrev pub LeavesByAccess : (P S R V O : Type 0) → Type 0
+LeavesByAccess P S R V O =
+    (program : ProgramSteps P R V O) (memory : MemorySteps S R V) (w : WorldState S P) (id : ℕ) (p : Participant P) →
+    participant_of id w.participants ≡ Some p → p.ended ≡ false →
+    after_step program memory w id ≡ record {
+      memory = memory.after w.memory (program.next p.program);
+      most = w.most;
+      participants = with_participant (resumed program p (got_by program memory w.memory p)) w.participants;
+    }
+
+-- no step makes more room for participants
+abbrev pub StepKeepsMost : (P S R V O : Type 0) → Type 0
+StepKeepsMost P S R V O =
+    (program : ProgramSteps P R V O) (memory : MemorySteps S R V) (w : WorldState S P) (id : ℕ) → (after_step program memory w id).most ≡ w.most
+
+-- no step that is answered so lacks memory
+abbrev pub AnswersWithMemory : (P S R V O X : Type 0) → Type 0
+AnswersWithMemory P S R V O X =
+    (program : ProgramSteps P R V O) (memory : MemorySteps S R V) (shown : Note O → X) (w : WorldState S P) (id : ℕ) →
+    lacked_memory (reply_of shown (step_answer program memory w id)) ≡ false
+
+-- a call that gets a right reply leads on
+abbrev pub CallLeadsOn : (P S R V O X : Type 0) → Type 0
+CallLeadsOn P S R V O X =
+    (program : ProgramSteps P R V O) (memory : MemorySteps S R V) (shown : Note O → X) (start : ℕ →
+    P) (first : S) (w new : WorldState S P) (r : List (Call X)) (h : Call X) → new ≡ next program memory shown start w h →
+    IsReply program memory shown start w h → IsAfter program memory shown start first w r → IsAfter program memory shown start first new (r ++ h ∷ [])
+
+-- so does a beginning
+abbrev pub BeginLeadsOn : (P S R V O X : Type 0) → Type 0
+BeginLeadsOn P S R V O X =
+    (program : ProgramSteps P R V O) (memory : MemorySteps S R V) (shown : Note O → X) (start : ℕ →
+    P) (first : S) (w new : WorldState S P) (r : List (Call X)) (id : ℕ) (reply : Result (Unit {0}) Refusal) → new ≡ after_begin w id (start id) →
+    reply ≡ done_unless (begin_refusal w id) → IsAfter program memory shown start first w r →
+    IsAfter program memory shown start first new (r ++ Began id reply ∷ [])
+
+-- and a step
+abbrev pub StepLeadsOn : (P S R V O X : Type 0) → Type 0
+StepLeadsOn P S R V O X =
+    (program : ProgramSteps P R V O) (memory : MemorySteps S R V) (shown : Note O → X) (start : ℕ →
+    P) (first : S) (w new : WorldState S P) (r : List (Call X)) (id : ℕ) (reply : Result X Refusal) → new ≡ after_step program memory w id →
+    reply ≡ reply_of shown (step_answer program memory w id) → IsAfter program memory shown start first w r →
+    IsAfter program memory shown start first new (r ++ Stepped id reply ∷ [])
+
+-- no call makes more room for participants
+abbrev pub CallKeepsMost : (P S R V O X : Type 0) → Type 0
+CallKeepsMost P S R V O X =
+    (program : ProgramSteps P R V O) (memory : MemorySteps S R V) (shown : Note O → X) (start : ℕ → P) (w : WorldState S P) (h : Call X) →
+    (next program memory shown start w h).most ≡ w.most
+
+-- a rising list whose identities are all among some is no longer than these
+abbrev pub IsNoLonger : Type 0
+IsNoLonger =
+    (pairs : List (ℕ × ℕ)) (identities : List ℕ) → IsRising pairs → ((q : ℕ) → IsSome (value_of q pairs) → Contains identities q) →
+    length pairs ≤ length identities
+
+-- after every list of calls that leads to a world each call was refused exactly where that was due
+abbrev pub RefusesWhereDue : (P S R V O X : Type 0) → Type 0
+RefusesWhereDue P S R V O X =
+    (program : ProgramSteps P R V O) (memory : MemorySteps S R V) (shown : Note O → X) (start : ℕ → P) (first : S) (last : X → Bool) (grows : Bool) →
+    TellsTheEnd shown last → GrowsOnly memory grows → (w : WorldState S P) (r : List (Call X)) → IsAfter program memory shown start first w r →
+    RefusesAsDue last w.most grows r
+
+-- as many have begun in the calls as take part in the world
+abbrev pub CountsBegun : (P S R V O X : Type 0) → Type 0
+CountsBegun P S R V O X =
+    (program : ProgramSteps P R V O) (memory : MemorySteps S R V) (shown : Note O → X) (start : ℕ →
+    P) (first : S) (w : WorldState S P) (r : List (Call X)) → IsAfter program memory shown start first w r → begun_in r ≡ length w.participants
+
+-- who was told its end is not told another
+abbrev pub HasNoSecondEnd : (X : Type 0) → Type 0
+HasNoSecondEnd X =
+    (last : X → Bool) (p : ℕ) (a b : X) (before between rest : List (Call X)) → last a ≡ true →
+    EndsOnce last (before ++ Stepped p (Ok a) ∷ (between ++ Stepped p (Ok b) ∷ rest)) → ⊥
+
+-- the first to begin is not refused
+abbrev pub LetsTheFirstIn : (X : Type 0) → Type 0
+LetsTheFirstIn X =
+    (last : X → Bool) (most : ℕ) (grows : Bool) (p : ℕ) (why : Refusal) (rest : List (Call X)) → 1 ≤ most → p ≢ 0 →
+    RefusesAsDue last most grows (Began p (Err why) ∷ rest) → ⊥
+
+-- a world is the one that its calls lead to
+abbrev pub IsReplayed : (P S R V O X : Type 0) → Type 0
+IsReplayed P S R V O X =
+    (program : ProgramSteps P R V O) (memory : MemorySteps S R V) (shown : Note O → X) (start : ℕ →
+    P) (first : S) (w : WorldState S P) (r : List (Call X)) → IsAfter program memory shown start first w r →
+    w ≡ replay program memory shown start first w.most r
+
+-- one list of calls leads to one world alone
+abbrev pub LeadsToOne : (P S R V O X : Type 0) → Type 0
+LeadsToOne P S R V O X =
+    (program : ProgramSteps P R V O) (memory : MemorySteps S R V) (shown : Note O → X) (start : ℕ →
+    P) (first : S) (w other : WorldState S P) (r : List (Call X)) → w.most ≡ other.most → IsAfter program memory shown start first w r →
+    IsAfter program memory shown start first other r → w ≡ other
+
+-- between calls and those after them a world stands
+abbrev pub StandsBetween : (P S R V O X : Type 0) → Type 0
+StandsBetween P S R V O X =
+    (program : ProgramSteps P R V O) (memory : MemorySteps S R V) (shown : Note O → X) (start : ℕ →
+    P) (first : S) (w : WorldState S P) (r t : List (Call X)) → IsAfter program memory shown start first w (r ++ t) → (mid : WorldState S P)
+    × (mid.most ≡ w.most) × IsAfter program memory shown start first mid r
+    × Run (next program memory shown start) (IsReply program memory shown start) mid t w
+
+-- before the last call a world stands
+abbrev pub StandsBeforeLast : (P S R V O X : Type 0) → Type 0
+StandsBeforeLast P S R V O X =
+    (program : ProgramSteps P R V O) (memory : MemorySteps S R V) (shown : Note O → X) (start : ℕ →
+    P) (first : S) (w : WorldState S P) (r : List (Call X)) (h : Call X) → IsAfter program memory shown start first w (r ++ h ∷ []) →
+    (mid : WorldState S P) × (mid.most ≡ w.most) × IsAfter program memory shown start first mid r × IsReply program memory shown start mid h
+    × (w ≡ next program memory shown start mid h)
+
+-- in two worlds that look alike to a participant it is answered alike
+abbrev pub AnswersAlike : (P S R V O : Type 0) → Type 0
+AnswersAlike P S R V O =
+    (program : ProgramSteps P R V O) (memory : MemorySteps S R V) (p : ℕ) (one other : WorldState S P) → LookAlike program memory p one other →
+    step_answer program memory one p ≡ step_answer program memory other p
+
+-- and it then stands alike
+abbrev pub StandsAlikeAfter : (P S R V O : Type 0) → Type 0
+StandsAlikeAfter P S R V O =
+    (program : ProgramSteps P R V O) (memory : MemorySteps S R V) (p : ℕ) (one other : WorldState S P) → LookAlike program memory p one other →
+    StandAlike p (after_step program memory one p) (after_step program memory other p)
+
+-- where one more passes, and each that passed, the count is one more
+abbrev pub CountsOneMore : Type 0
+CountsOneMore =
+    (f g : ℕ → Bool) (n k : ℕ) → k < n → f k ≡ false → g k ≡ true → ((i : ℕ) → i < n → f i ≡ true → g i ≡ true) → count_to f n + 1 ≤ count_to g n
