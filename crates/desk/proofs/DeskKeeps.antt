@@ -1,4 +1,4 @@
--- a desk goes on, event by event, and keeps the laws of its parts
+-- a desk over places of one kind goes on, event by event, and keeps the laws of its parts
 use Rattle.std.proofs.Common.{◌≡◌, ℕ, zero, suc, ◌-◌, true, inl, inr, List, [], ◌∷◌, ◌++◌, map, replicate, Option, Some, None, Result, Ok, Err, refl, sym, ap, subst, ◌∙◌}
 use Rattle.std.specs.Prelude.{slice_get, slice_index}
 use Rattle.step_memory.specs.declared.refusal.Refusal.{Refusal}
@@ -7,8 +7,9 @@ use Rattle.step_memory.specs.Calls.{Call}
 use Rattle.step_memory.specs.Calls.Call.{Began, Stepped}
 use Rattle.step_memory.specs.World.{begin_refusal, done_unless}
 use Rattle.snapshot_core.specs.Places.{KnownPlaces}
+use Rattle.snapshot_core.specs.Snapshot.{SnapBounds}
 use Rattle.rename_core.specs.declared.reply.Reply.{Reply as StepReply}
-use Rattle.rename_core.specs.RenameCalls.{next, IsReply, IsAfter, IsLawful, IsOwnerOf}
+use Rattle.rename_core.specs.RenameCalls.{next, IsReply, IsAfter, IsLawfulWithin}
 use Rattle.rename_core.specs.Config.{is_tree}
 use Rattle.rename_core.specs.Law.{KeepsRenameLaw}
 use Rattle.rename_core.specs.declared.config.WorldKind.{WorldKind}
@@ -27,12 +28,11 @@ use Rattle.desk.specs.declared.event.Event.TheVariants.{Begin, Step, Enter, Prob
 use Rattle.desk.specs.declared.reply.Reply.{Reply}
 use Rattle.desk.specs.declared.reply.Reply.TheVariants as reply
 use Rattle.desk.specs.DeskState.{DeskState}
-use Rattle.desk.specs.DeskRun.{IsDeskRun, desk_terms, desk_bounds}
+use Rattle.desk.specs.DeskRun.{IsDeskRun, desk_terms}
 use Rattle.desk.specs.DeskCalls.{DeskCall, rename_calls, slot_calls, exchange, exchange_of, AfterDesk, LeadsBy}
 use Rattle.desk.specs.DeskCalls.DeskCall.{Renamed, Slotted}
-use Rattle.desk.specs.Owner.{IsOwnerOn}
-use Rattle.desk.proofs.NamesGiven.{owner_is}
-use Rattle.desk.specs.DeskRules.{fetched, call_for, desk_next, desk_reply, desk_after, desk_grows, grows_by, DeskMay}
+use Rattle.desk.specs.DeskRules.{fetched, call_for, next_over, reply_over, after_over, grows_over, grows_by, rules_over}
+use Rattle.desk.specs.Rules.{may_by}
 
 -- one more call of renaming
 rename_calls-renamed : (calls : List DeskCall) (h : Call StepReply) → rename_calls (calls ++ Renamed h ∷ []) ≡ rename_calls calls ++ h ∷ []
@@ -63,7 +63,7 @@ index_of-get (x ∷ xs) zero v h = cc
 index_of-get (x ∷ xs) (suc i) v h = index_of-get xs i v h
 
 module _ {S R V U K : Type 0} (W : KnownPlaces S R V U K) (most limit size : ℕ) (w : DeskState S U K) (calls : List DeskCall) (a : AfterDesk W most limit size w calls) where
-  renamed_after : (h : Call StepReply) → IsReply W w.names h → AfterDesk W most limit size (desk_next W w (Renamed h)) (calls ++ Renamed h ∷ [])
+  renamed_after : (h : Call StepReply) → IsReply W w.names h → AfterDesk W most limit size (next_over W w (Renamed h)) (calls ++ Renamed h ∷ [])
   renamed_after h is = record {
     names = subst (λ (xs : List (Call StepReply)). IsAfter W (next W w.names h) xs) (sym (rename_calls-renamed calls h)) (leads_on W w.names (next W w.names h) h refl is (rename_calls calls) a.names);
     slots = subst (λ (xs : List (SlotCall ℕ)). AfterSlots size (replicate size 0) w.slots xs) (sym (slot_calls-renamed calls h)) a.slots;
@@ -71,7 +71,7 @@ module _ {S R V U K : Type 0} (W : KnownPlaces S R V U K) (most limit size : ℕ
     limit_is = next_limit W w.names h ∙ a.limit_is;
   }
 
-  slotted_after : (h : SlotCall ℕ) → IsSlotReply w.slots h → AfterDesk W most limit size (desk_next W w (Slotted h)) (calls ++ Slotted h ∷ [])
+  slotted_after : (h : SlotCall ℕ) → IsSlotReply w.slots h → AfterDesk W most limit size (next_over W w (Slotted h)) (calls ++ Slotted h ∷ [])
   slotted_after h is = record {
     names = subst (λ (xs : List (Call StepReply)). IsAfter W w.names xs) (sym (rename_calls-slotted calls h)) a.names;
     slots = subst (λ (xs : List (SlotCall ℕ)). AfterSlots size (replicate size 0) (slots_next w.slots h) xs) (sym (slot_calls-slotted calls h))
@@ -88,7 +88,7 @@ module _ {S R V U K : Type 0} (W : KnownPlaces S R V U K) (most limit size : ℕ
   fetched_is p (Err why) holds = refl
 
   -- the call that an event is leads on
-  call_after : (e : Event) → AfterDesk W most limit size (desk_after W w e) (calls ++ call_for W w e ∷ [])
+  call_after : (e : Event) → AfterDesk W most limit size (after_over W w e) (calls ++ call_for W w e ∷ [])
   call_after (Begin p) = renamed_after (Began p (done_unless (begin_refusal w.names.snap p))) refl
   call_after (Step p) = renamed_after (Stepped p (rename_answer W w.names p)) (inl refl)
   call_after (Enter p) = slotted_after (Pooled (Entered p (enter_answer w.slots.pool p))) refl
@@ -98,7 +98,7 @@ module _ {S R V U K : Type 0} (W : KnownPlaces S R V U K) (most limit size : ℕ
   call_after (Get p) = slotted_after (Fetched p (fetched w.slots.values (number_answer w.slots.pool p))) (fetched_is p (number_answer w.slots.pool p) refl)
 
   -- and is of that event
-  call_spelled : (e : Event) → exchange_of (call_for W w e) ≡ exchange e (desk_reply W w e)
+  call_spelled : (e : Event) → exchange_of (call_for W w e) ≡ exchange e (reply_over W w e)
   call_spelled (Begin p) = refl
   call_spelled (Step p) = refl
   call_spelled (Enter p) = refl
@@ -108,13 +108,13 @@ module _ {S R V U K : Type 0} (W : KnownPlaces S R V U K) (most limit size : ℕ
   call_spelled (Get p) = refl
 
   -- a step for which a growth was refused is a call too
-  lacking : (p : ℕ) → desk_grows W w (Step p) ≡ true → AfterDesk W most limit size w (calls ++ Renamed (Stepped p (Err refusal.NoMemory)) ∷ [])
+  lacking : (p : ℕ) → grows_over W w (Step p) ≡ true → AfterDesk W most limit size w (calls ++ Renamed (Stepped p (Err refusal.NoMemory)) ∷ [])
   lacking p h = elim (step_refusal w.names p) as (λ o. step_refusal w.names p ≡ o → grows_by o (may_lack W w.names p) ≡ true → AfterDesk W most limit size w (calls ++ Renamed (Stepped p (Err refusal.NoMemory)) ∷ [])) [
     | None ↦ λ none may. renamed_after (Stepped p (Err refusal.NoMemory)) (inr (refl, (none, may)))
     | Some why ↦ λ some may. absurd (cc)
   ] refl h
 
-  lack_leads : (e : Event) → desk_grows W w e ≡ true → LeadsBy W most limit size calls e (reply.Refused refusal.NoMemory) w
+  lack_leads : (e : Event) → grows_over W w e ≡ true → LeadsBy W most limit size calls e (reply.Refused refusal.NoMemory) w
   lack_leads (Begin p) h = absurd (cc)
   lack_leads (Step p) h = record { call = Renamed (Stepped p (Err refusal.NoMemory)); spelled = refl; after = lacking p h }
   lack_leads (Enter p) h = absurd (cc)
@@ -124,7 +124,7 @@ module _ {S R V U K : Type 0} (W : KnownPlaces S R V U K) (most limit size : ℕ
   lack_leads (Get p) h = absurd (cc)
 
   -- so calls lead on by whatever a desk may answer
-  pub goes_on : (e : Event) (r : Reply) (u : DeskState S U K) → DeskMay W w e r u → LeadsBy W most limit size calls e r u
+  pub goes_on : (e : Event) (r : Reply) (u : DeskState S U K) → may_by (rules_over W) w e r u → LeadsBy W most limit size calls e r u
   goes_on e r u (inl m) = record {
     call = call_for W w e;
     spelled = call_spelled e ∙ ap (λ (x : Reply). exchange e x) (sym m.0);
@@ -134,23 +134,14 @@ module _ {S R V U K : Type 0} (W : KnownPlaces S R V U K) (most limit size : ℕ
       subst (λ (x : DeskState S U K). LeadsBy W most limit size calls e r x) (sym m.1)
       (subst (λ (x : Reply). LeadsBy W most limit size calls e x w) (sym m.0) (lack_leads e m.2))
 
--- the exchanges of a desk's calls are a run
-pub is_run : {S R V U K : Type 0} (W : KnownPlaces S R V U K) (kind : WorldKind) (most limit size : ℕ) (w : DeskState S U K) (calls : List DeskCall) → IsLawful W kind w.names → AfterDesk W most limit size w calls →
-    IsDeskRun (desk_terms most limit (is_tree kind)) (desk_bounds most W.ties.placing (W.ties.reads most)) size (map exchange_of calls)
-is_run W kind most limit size w calls lawful a = record {
+-- the exchanges of a desk's calls are a run, where its renaming world keeps the law within these bounds
+unfoldable pub is_run : {S R V U K : Type 0} (W : KnownPlaces S R V U K) (kind : WorldKind) (bounds : ℕ → SnapBounds) (most limit size : ℕ) (w : DeskState S U K) (calls : List DeskCall) →
+    IsLawfulWithin W kind (bounds w.names.snap.most) w.names → AfterDesk W most limit size w calls → IsDeskRun (desk_terms most limit (is_tree kind)) (bounds most) size (map exchange_of calls)
+is_run W kind bounds most limit size w calls lawful a = record {
   calls = calls;
   spelled = refl;
-  names = subst (λ (m : ℕ). KeepsRenameLaw (desk_terms m limit (is_tree kind)) (desk_bounds m W.ties.placing (W.ties.reads m)) (rename_calls calls)) a.most_is
-      (subst (λ (l : ℕ). KeepsRenameLaw (desk_terms w.names.snap.most l (is_tree kind)) (desk_bounds w.names.snap.most W.ties.placing (W.ties.reads w.names.snap.most)) (rename_calls calls)) a.limit_is
+  names = subst (λ (m : ℕ). KeepsRenameLaw (desk_terms m limit (is_tree kind)) (bounds m) (rename_calls calls)) a.most_is
+      (subst (λ (l : ℕ). KeepsRenameLaw (desk_terms w.names.snap.most l (is_tree kind)) (bounds w.names.snap.most) (rename_calls calls)) a.limit_is
       (lawful (rename_calls calls) a.names));
   slots = law_after_slots size (replicate size 0) w.slots (slot_calls calls) a.slots;
 }
-
--- the owner of a name was given it, among these exchanges
-pub owner_on : {S R V U K : Type 0} (W : KnownPlaces S R V U K) (kind : WorldKind) (w : DeskState S U K) (n : ℕ) (owner : Option ℕ) → IsLawful W kind w.names → IsOwnerOf W kind w.names n owner → IsOwnerOn W w n owner
-unfolding is_run
-owner_on W kind w n owner lawful owns most limit size calls a =
-    let own : AfterDesk W w.names.snap.most w.names.limit size w calls = record { names = a.names; slots = a.slots; most_is = refl; limit_is = refl } in
-    let run = is_run W kind w.names.snap.most w.names.limit size w calls lawful own in
-    owner_is (desk_terms w.names.snap.most w.names.limit (is_tree kind)) (desk_bounds w.names.snap.most W.ties.placing (W.ties.reads w.names.snap.most)) size (map exchange_of calls) run n owner
-    (owns (rename_calls calls) a.names run.names.object run.names.run)

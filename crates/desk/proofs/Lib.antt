@@ -1,2 +1,4 @@
 pub mod DeskKeeps
 pub mod NamesGiven
+pub mod Refusing
+pub mod DeskLaws

@@ -1,7 +1,10 @@
 -- what exchanges are a run: the renaming object (the problem: Attiya et al. 1990), the pool (Moir and Anderson 1995) and
 -- the slots, begun fresh, can answer each event with its reply, in order
-use Rattle.std.specs.Prelude.{◌≡◌, ℕ, ◌+◌, ◌*◌, Bool, List, map, replicate}
+use Rattle.std.specs.Prelude.{◌≡◌, ℕ, if◌then◌else◌, Bool, List, map, replicate}
 use Rattle.snapshot_core.specs.Snapshot.{SnapBounds}
+use Rattle.snapshot_places.specs.Bounds.{grid_bounds, tree_bounds}
+use Rattle.rename_core.specs.declared.config.Config.{Config}
+use Rattle.rename_core.specs.Config.{is_tree}
 use Rattle.rename_core.specs.Law.{KeepsRenameLaw}
 use Rattle.rename_core.specs.RenameObject.{RenameTerms}
 use Rattle.slot_array.specs.Law.{KeepsSlotsLaw}
@@ -22,6 +25,11 @@ pub record IsDeskRun (terms : RenameTerms) (bounds : SnapBounds) (size : ℕ) (r
 abbrev pub desk_terms : ℕ → ℕ → Bool → RenameTerms
 desk_terms most limit grows = record { most = most; limit = limit; grows = grows }
 
--- and its bounds: where b have begun and walks over the segments make so many reads, a scan makes at most b + 1 of them
-abbrev pub desk_bounds : ℕ → (ℕ → ℕ) → (ℕ → ℕ) → SnapBounds
-desk_bounds most placing reads = record { most = most; placing = placing; scanning = λ b. (b + 1) * reads b }
+-- and its bounds: over a tree, or over a grid
+abbrev pub desk_bounds : Bool → ℕ → SnapBounds
+desk_bounds grows most = if grows then tree_bounds most else grid_bounds most
+
+-- the exchanges are a run for this config, in the world of a grid or of a tree
+abbrev pub IsDeskRunOf : Config → List Exchange → Type 0
+IsDeskRunOf config r =
+    IsDeskRun (desk_terms config.m config.limit (is_tree config.world)) (desk_bounds (is_tree config.world) config.m) config.k r

@@ -1,28 +1,64 @@
--- the laws of a desk: what it may answer leads on, and its exchanges are a run
-use Rattle.std.specs.Prelude.{ℕ, List, map}
-use Rattle.snapshot_core.specs.Places.{KnownPlaces}
+-- the laws of a desk
+use Rattle.std.specs.Prelude.{◌≡◌, ◌≢◌, ◌↔◌, ℕ, true, List, [], map, Some}
+use Rattle.step_memory.specs.declared.refusal.Refusal.{Refusal}
+use Rattle.step_memory.specs.declared.refusal.Refusal.TheVariants as refusal
 use Rattle.snapshot_core.specs.Snapshot.{SnapBounds}
-use Rattle.rename_core.specs.Config.{is_tree}
-use Rattle.rename_core.specs.declared.config.WorldKind.{WorldKind}
+use Rattle.rename_core.specs.declared.config.Config.{Config}
 use Rattle.rename_core.specs.RenameObject.{RenameTerms}
 use Rattle.desk.specs.declared.event.Event.{Event}
 use Rattle.desk.specs.declared.exchange.Exchange.{Exchange}
 use Rattle.desk.specs.declared.reply.Reply.{Reply}
-use Rattle.desk.specs.DeskState.{DeskState}
-use Rattle.desk.specs.DeskCalls.{DeskCall, exchange_of, AfterDesk, LeadsBy}
-use Rattle.desk.specs.DeskRules.{DeskMay}
-use Rattle.desk.specs.DeskRun.{IsDeskRun, desk_terms, desk_bounds}
+use Rattle.desk.specs.declared.reply.Reply.TheVariants as reply
+use Rattle.desk.specs.Desk.{gives_names, fresh_desk, desk_reply, desk_rules, desk_refusal, owner_reply, IsFreshDesk, IsAfterDesk, LeadsDesk}
+use Rattle.desk.specs.DeskCalls.{DeskCall, exchange_of}
+use Rattle.desk.specs.DeskRun.{IsDeskRun, IsDeskRunOf}
+use Rattle.desk.specs.DeskValue.{DeskValue}
+use Rattle.desk.specs.Owner.{IsOwnerReply}
+use Rattle.desk.specs.Rules.{may_by}
 
-module _ {S R V U K : Type 0} (W : KnownPlaces S R V U K) where
-  -- whatever a desk may answer to an event leads on by one call that is this exchange
-  abbrev pub DeskGoesOn : Type 0
-  DeskGoesOn = (most limit size : ℕ) (w : DeskState S U K) (calls : List DeskCall) → AfterDesk W most limit size w calls →
-      (e : Event) (r : Reply) (u : DeskState S U K) → DeskMay W w e r u → LeadsBy W most limit size calls e r u
+-- names are given in the config's world, and this is its fresh desk
+pub record IsThisDesk (c : Config) (w : DeskValue) : Type 0 where
+  pub named : gives_names c.world ≡ true
+  pub is : w ≡ fresh_desk c
 
-  -- the exchanges of every list of calls that leads to a desk are a run, where the places serve that kind of world
-  abbrev pub DeskKeepsRuns : WorldKind → Type 0
-  DeskKeepsRuns kind = (most limit size : ℕ) (w : DeskState S U K) (calls : List DeskCall) → AfterDesk W most limit size w calls →
-      IsDeskRun (desk_terms most limit (is_tree kind)) (desk_bounds most W.ties.placing (W.ties.reads most)) size (map exchange_of calls)
+-- a fresh desk is after no calls
+abbrev pub BeginsDesk : Type 0
+BeginsDesk = (c : Config) (w : DeskValue) → IsFreshDesk c w → IsAfterDesk c w []
+
+-- where names are given there is a fresh desk, and it is this one
+abbrev pub HasFreshDesk : Type 0
+HasFreshDesk = (c : Config) (w : DeskValue) → IsFreshDesk c w ↔ IsThisDesk c w
+
+-- all fresh desks of one config are one
+abbrev pub IsOneFreshDesk : Type 0
+IsOneFreshDesk = (c : Config) (w u : DeskValue) → IsFreshDesk c w → IsFreshDesk c u → w ≡ u
+
+-- whatever a desk may answer to an event leads on by one call that is this exchange
+abbrev pub DeskGoesOn : Type 0
+DeskGoesOn = (c : Config) (w : DeskValue) (calls : List DeskCall) → IsAfterDesk c w calls → (e : Event) (r : Reply) (u : DeskValue) → may_by desk_rules w e r u → LeadsDesk c calls e r u
+
+-- the exchanges of every list of calls that leads to a desk are a run
+abbrev pub DeskKeepsRuns : Type 0
+DeskKeepsRuns = (c : Config) (w : DeskValue) (calls : List DeskCall) → IsAfterDesk c w calls → IsDeskRunOf c (map exchange_of calls)
+
+-- what a desk tells of a name is right after these exchanges
+abbrev pub TellsOwners : DeskValue → ℕ → Reply → Type 0
+TellsOwners w n told = (c : Config) (calls : List DeskCall) → IsAfterDesk c w calls → IsOwnerReply c.m (map exchange_of calls) n told
+
+abbrev pub DeskTellsOwners : Type 0
+DeskTellsOwners = (w : DeskValue) (n : ℕ) → TellsOwners w n (owner_reply w n)
+
+-- an event is refused, want of memory aside, just as the desk says beforehand
+abbrev pub RefusesAsSaid : DeskValue → Event → Type 0
+RefusesAsSaid w e = (c : Config) (calls : List DeskCall) → IsAfterDesk c w calls → (why : Refusal) → (desk_reply w e ≡ reply.Refused why) ↔ (desk_refusal w e ≡ Some why)
+
+abbrev pub DeskRefusesAsSaid : Type 0
+DeskRefusesAsSaid = (w : DeskValue) (e : Event) → RefusesAsSaid w e
+
+-- where no growth is refused there is one reply, and one desk is left
+abbrev pub IsDeskDetermined : Type 0
+IsDeskDetermined = (w u v : DeskValue) (e : Event) (a b : Reply) → may_by desk_rules w e a u → may_by desk_rules w e b v →
+    a ≢ reply.Refused refusal.NoMemory → b ≢ reply.Refused refusal.NoMemory → (a ≡ b) × (u ≡ v)
 
 -- this holds of the exchanges of each run
 abbrev pub InEachRun : (List Exchange → Type 0) → Type 0

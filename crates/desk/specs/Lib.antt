@@ -1,8 +1,12 @@
 pub mod Replies
+pub mod Rules
 pub mod DeskState
+pub mod DeskValue
 pub mod DeskCalls
 pub mod DeskRun
 pub mod DeskRules
 pub mod Names
 pub mod Owner
+pub mod Desk
+pub mod DeskParts
 pub mod Laws

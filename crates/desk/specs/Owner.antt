@@ -1,10 +1,23 @@
--- who has a name, as a desk tells it
-use Rattle.std.specs.Prelude.{ℕ, List, map, Option}
-use Rattle.snapshot_core.specs.Places.{KnownPlaces}
-use Rattle.desk.specs.DeskState.{DeskState}
-use Rattle.desk.specs.DeskCalls.{DeskCall, exchange_of, AfterDesk}
+-- who has a name, by exchanges alone
+use Rattle.std.specs.Prelude.{◌≡◌, ℕ, ◌-◌, ◌*◌, ◌≤◌, List, Option}
+use Rattle.step_memory.specs.declared.refusal.Refusal.TheVariants as refusal
+use Rattle.desk.specs.declared.exchange.Exchange.{Exchange}
+use Rattle.desk.specs.declared.reply.Reply.{Reply}
+use Rattle.desk.specs.declared.reply.Reply.TheVariants as reply
 use Rattle.desk.specs.Names.{IsOwnerIn}
 
--- whatever calls led to the desk, this is who was given the name among their exchanges
-abbrev pub IsOwnerOn : {S R V U K : Type 0} → KnownPlaces S R V U K → DeskState S U K → ℕ → Option ℕ → Type 0
-IsOwnerOn W w n owner = (most limit size : ℕ) (calls : List DeskCall) → AfterDesk W most limit size w calls → IsOwnerIn (map exchange_of calls) n owner
+-- for m participants names are from 1 to 2m - 1
+pub record IsNumber (most n : ℕ) : Type 0 where
+  pub some : 1 ≤ n
+  pub small : n ≤ 2 * most - 1
+
+-- the reply tells who was given the name among the exchanges, or that it was given to nobody
+pub record TellsOwner (r : List Exchange) (n : ℕ) (told : Reply) : Type 0 where
+  pub owner : Option ℕ
+  pub is : told ≡ reply.Owner owner
+  pub given : IsOwnerIn r n owner
+
+-- the right answer, after these exchanges, to who has a name: a refusal exactly where names don't reach there
+pub record IsOwnerReply (most : ℕ) (r : List Exchange) (n : ℕ) (told : Reply) : Type 0 where
+  pub out_of_range : (IsNumber most n → ⊥) → told ≡ reply.Refused refusal.OutOfRange
+  pub in_range : IsNumber most n → TellsOwner r n told

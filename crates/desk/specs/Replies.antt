@@ -1,5 +1,5 @@
 -- what outcomes are answered as
-use Rattle.std.specs.Prelude.{ℕ, Result, Ok, Err}
+use Rattle.std.specs.Prelude.{ℕ, Bool, true, false, Result, Ok, Err}
 use Rattle.step_memory.specs.declared.refusal.Refusal.{Refusal}
 use Rattle.bit_allocator.specs.declared.probe.Probe.{Probe}
 use Rattle.bit_allocator.specs.declared.probe.Probe.TheVariants as probe
@@ -40,3 +40,22 @@ left_reply (Err refusal) = reply.Refused refusal
 abbrev pub value_reply : Result ℕ Refusal → Reply
 value_reply (Ok value) = reply.Value value
 value_reply (Err refusal) = reply.Refused refusal
+
+-- whether an event was not accepted
+abbrev pub is_refusal : Reply → Bool
+is_refusal reply.Ok = false
+is_refusal reply.Quiet = false
+is_refusal reply.Stop = false
+is_refusal reply.Right = false
+is_refusal reply.Down = false
+is_refusal (reply.Place place) = false
+is_refusal (reply.Proposed number) = false
+is_refusal (reply.Saw view) = false
+is_refusal (reply.Named name view) = false
+is_refusal reply.Spent = false
+is_refusal reply.Missed = false
+is_refusal (reply.Got number) = false
+is_refusal (reply.Left number) = false
+is_refusal (reply.Value value) = false
+is_refusal (reply.Owner owner) = false
+is_refusal (reply.Refused refusal) = true

@@ -1,18 +1,22 @@
 //! What structures over a desk stand on.
 
 ghost use Rattle.std.specs.Prelude.{◌≡◌, ℕ, ◌-◌, ◌*◌, ◌≤◌};
-ghost use Rattle.desk.specs.Laws.{DeskGoesOn, DeskKeepsRuns, InEachRun};
+ghost use Rattle.desk.specs.Laws.{BeginsDesk, HasFreshDesk, IsOneFreshDesk, DeskGoesOn, DeskKeepsRuns, DeskTellsOwners, DeskRefusesAsSaid, IsDeskDetermined, InEachRun};
 ghost use Rattle.desk.specs.Names.{WasNamed, begun_in};
 
-use rename_core::RenamePlaces;
-use snapshot_core::{Known, Places};
-use std::alloc::Allocator;
-
-/// A law, which runs nothing: whatever a desk may answer to an event leads on by one call that is this exchange; and the
-/// exchanges of every list of calls that leads to a desk are a run of the renaming object, the pool and the slots.
-pub fn law_of_desks<W: RenamePlaces<A>, A: Allocator>()
-    ensures goes_on { DeskGoesOn ⟦<W as Known>⟧.places }
-    ensures law { DeskKeepsRuns ⟦<W as Known>⟧.places W.world }
+/// A law, which runs nothing. A fresh desk is after no calls, and there is one for each config; whatever a desk may answer to
+/// an event leads on by one call that is this exchange; the exchanges of every list of calls that leads to a desk are a run
+/// of the renaming object, the pool and the slots; after such a list owners are told rightly, and events are refused, want
+/// of memory aside, just as the desk says beforehand; and where no growth is refused there is one reply and one desk.
+pub fn law_of_desk()
+    ensures fresh { BeginsDesk }
+    ensures fresh_is { HasFreshDesk }
+    ensures one_fresh { IsOneFreshDesk }
+    ensures goes_on { DeskGoesOn }
+    ensures law { DeskKeepsRuns }
+    ensures owner { DeskTellsOwners }
+    ensures refusal { DeskRefusesAsSaid }
+    ensures determined { IsDeskDetermined }
 {}
 
 /// A law, which runs nothing, drawn from what a run is: among its exchanges nobody was given two names, no two were given

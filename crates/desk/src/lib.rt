@@ -4,37 +4,43 @@
 //! the events of renaming (`Begin`, `Step`), of the pool (`Enter`, `Probe`, `Leave`) and of the slots (`Put`, `Get`), from
 //! any participants in any order.
 //!
+//! Names are given over the places of a grid (the world `Rename`) or of a tree (`Tree`), as the config says: one desk, with
+//! one definition of what it answers.
+//!
 //! What is proved, over every list of events: each reply is the one that the renaming world, the pool or the slots give
-//! (`DeskOver::apply`: one reply and one desk after it, or, only where a step makes a node of a tree and nothing else is due,
+//! (`Desk::apply`: one reply and one desk after it, or, only over a tree where a step makes a node and nothing else is due,
 //! want of memory with nothing changed); the exchanges, events with their replies, are a *run*, which the renaming object,
-//! the pool and the slots, begun fresh, can answer in order, within their counts of steps (`law_of_desks`); and so, among the
-//! exchanges, nobody was given two names, no two were given one, and each name is from 1 to 2b - 1 where b have begun
-//! (`law_of_names`). Who is told to have a name is who was given it (`DeskOver::owner`: `told`).
+//! the pool and the slots, begun fresh, can answer in order, within their counts of steps (`law_of_desk`: `law`); and so,
+//! among the exchanges, nobody was given two names, no two were given one, and each name is from 1 to 2b - 1 where b have
+//! begun (`law_of_names`). Who is told to have a name is who was given it (`Desk::owner`: `told`). What an event would be
+//! refused is said beforehand (`Desk::refusal`).
 //!
 //! A caller:
 //!
 //! ```text
 //! let config = Config::new(WorldKind::Rename, 4, 4, 1000)?;
-//! let mut desk = DeskOver::<Grid<Global>, Global>::new(alloc, config)?;
+//! let mut desk = Desk::new(alloc, config)?;
 //! desk.apply(Event::Begin(7));                // Ok
 //! loop {
 //!     if let Reply::Named(name, _) = desk.apply(Event::Step(7)) {
 //!         break name;                         // 1: nobody else proposed
 //!     }
 //! }
+//! desk.owner(1);                              // Owner(Some(7))
 //! ```
 #![tactic(auto)]
 
+pub mod desk;
 pub mod event;
 pub mod exchange;
 pub mod laws;
-pub mod over;
+mod over;
 pub mod reply;
 
+pub use desk::Desk;
 pub use event::Event;
 pub use exchange::Exchange;
-pub use laws::{law_of_desks, law_of_names};
-pub use over::DeskOver;
+pub use laws::{law_of_desk, law_of_names};
 pub use reply::Reply;
 
 #[cfg(test)]

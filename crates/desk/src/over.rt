@@ -1,11 +1,10 @@
 //! A desk over places of one kind.
 
-ghost use Rattle.std.specs.Prelude.{◌≡◌, ◌⊎◌, ◌↔◌, [], IfOk, IfErr, Err, false};
-ghost use Rattle.desk.specs.DeskCalls.{AfterDesk};
-ghost use Rattle.desk.specs.DeskRules.{DeskMay, IsFreshDesk};
-ghost use Rattle.desk.specs.Owner.{IsOwnerOn};
+ghost use Rattle.std.specs.Prelude.{◌≡◌, ◌⊎◌, ◌↔◌, IfOk, IfErr, Err, false};
+ghost use Rattle.desk.specs.Desk.{owner_over};
+ghost use Rattle.desk.specs.DeskRules.{fresh_over, rules_over, refusal_over};
+ghost use Rattle.desk.specs.Rules.{may_by};
 ghost use Rattle.rename_core.specs.Config.{is_played_over};
-ghost use Rattle.rename_core.specs.RenameWorld.{owner_by};
 
 use crate::event::Event;
 use crate::reply::Reply;
@@ -19,7 +18,7 @@ use step_memory::Refusal;
 
 /// A renaming world over these places, and slots over a pool.
 #[derive(Drop)]
-pub struct DeskOver<W: RenamePlaces<A>, A: Allocator> {
+pub(crate) struct DeskOver<W: RenamePlaces<A>, A: Allocator> {
     names: RenameWorld<W, A>,
     slots: Slots<u64, A>,
 }
@@ -40,9 +39,8 @@ where
 {
     /// A desk of this config on which nothing was done; each slot holds 0. `OutOfRange` where the places are not those of the
     /// config's world, and `NoMemory` where its room was refused, which is all taken here but for the nodes of a tree.
-    pub fn new(alloc: A, config: Config) -> Result<Self, Refusal>
-        ensures fresh { IfOk result (λ d. IsFreshDesk ⟦<W as Known>⟧.places config.m config.limit config.k d) }
-        ensures after { IfOk result (λ d. AfterDesk ⟦<W as Known>⟧.places config.m config.limit config.k d []) }
+    pub(crate) fn new(alloc: A, config: Config) -> Result<Self, Refusal>
+        ensures fresh { IfOk result (λ d. d ≡ fresh_over (W.empty_for config.m) config.m config.limit config.k) }
         ensures out_of_range { result ≡ Err Refusal.OutOfRange ↔ (is_played_over config.world W.world ≡ false) }
         ensures only { IfErr result (λ why. (why ≡ Refusal.NoMemory) ⊎ (why ≡ Refusal.OutOfRange)) }
     {
@@ -64,10 +62,9 @@ where
     W::Value: Drop,
 {
     /// Takes one event and answers it, by at most one access. Refusals come as in the renaming world, the pool and the
-    /// slots, and change nothing. Want of memory is answered only where the step makes a node of a tree and nothing else is
-    /// due; then the event may be asked again and is the same event.
-    pub fn apply(&mut self, event: Event) -> Reply
-        ensures { DeskMay ⟦<W as Known>⟧.places self.old event result self.new }
+    /// slots, and change nothing.
+    pub(crate) fn apply(&mut self, event: Event) -> Reply
+        ensures { may_by (rules_over ⟦<W as Known>⟧.places) self.old event result self.new }
     {
         match event {
             Event::Begin(id) => Reply::of_done(self.names.begin(id)),
@@ -80,13 +77,28 @@ where
         }
     }
 
-    /// Who has a name, or that nobody has it. It changes nothing.
-    pub fn owner(&self, number: u64) -> Option<u64>
-        ensures value { result ≡ owner_by number self.now.names.rounds }
-
-        // It is who was given the name, among the exchanges of the events so far.
-        ensures told { IsOwnerOn ⟦<W as Known>⟧.places self.now number result }
+    /// Why an event would be refused, want of memory aside.
+    pub(crate) fn refusal(&self, event: Event) -> Option<Refusal>
+        ensures { result ≡ refusal_over self.now event }
     {
-        self.names.owner_of(number)
+        match event {
+            Event::Begin(id) => self.names.begin_refusal(id),
+            Event::Step(id) => self.names.step_refusal(id),
+            Event::Enter(id) => self.slots.pool().enter_refusal(id),
+            Event::Probe(id) => self.slots.pool().probe_refusal(id),
+            Event::Leave(id) => self.slots.pool().number_of(id).err(),
+            Event::Put(id, _) => self.slots.pool().number_of(id).err(),
+            Event::Get(id) => self.slots.pool().number_of(id).err(),
+        }
+    }
+
+    /// Who has a name, or that nobody has it; a refusal where names don't reach there.
+    pub(crate) fn owner(&self, number: u64) -> Reply
+        ensures { result ≡ owner_over self.now number }
+    {
+        if number == 0 || 2 * self.names.most() <= number {
+            return Reply::Refused(Refusal::OutOfRange);
+        }
+        Reply::Owner(self.names.owner_of(number))
     }
 }

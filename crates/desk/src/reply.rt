@@ -1,7 +1,7 @@
 //! What is answered to an event.
 
 ghost use Rattle.std.specs.Prelude.{◌≡◌};
-ghost use Rattle.desk.specs.Replies.{done_reply, step_reply, shown_step, probe_reply, left_reply, value_reply};
+ghost use Rattle.desk.specs.Replies.{is_refusal, done_reply, step_reply, shown_step, probe_reply, left_reply, value_reply};
 
 use bit_allocator::Probe;
 use rename_core::Reply as StepReply;
@@ -45,6 +45,14 @@ pub enum Reply {
 }
 
 impl Reply {
+    /// Whether it is a refusal: then the event was not accepted.
+    #[inline(always)]
+    pub fn is_refusal(&self) -> bool
+        ensures { result ≡ is_refusal self.now }
+    {
+        matches!(self, Reply::Refused(_))
+    }
+
     /// What is answered to an event that only is done, by its outcome.
     pub(crate) fn of_done(outcome: Result<(), Refusal>) -> Reply
         ensures { result ≡ done_reply outcome }

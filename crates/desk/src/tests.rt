@@ -1,27 +1,52 @@
-use crate::{DeskOver, Event, Reply};
-use rename_core::{Config, RenamePlaces, WorldKind};
-use snapshot_core::Fixed;
-use snapshot_places::{Grid, TreePlaces};
-use std::alloc::Global;
+use crate::{Desk, Event, Reply, law_of_desk, law_of_names};
+use linked_list_allocator::LocalHeap;
+use rename_core::{Config, WorldKind};
+use std::alloc::{Allocator, Global};
 use std::process::Abort;
 use std::test::Fail;
 use step_memory::{Refusal, View};
 
-/// Plays events on a desk, and compares each reply.
-fn plays<W: RenamePlaces<Global> + Drop>(
-    rt: &impl Abort,
-    desk: &mut DeskOver<W, Global>,
-    rows: &[(Event, Reply)],
-)
-where
-    W::Walker: Copy,
-    W::Walk: Copy,
-    W::Value: Drop,
-{
-    for (i, (event, want)) in rows.iter().enumerate() {
-        let reply = desk.apply(*event);
-        assert!(rt; reply == *want, "event {i}, {event:?}: {reply:?}");
+/// A desk of two participants, in this world, with a pool of this size.
+fn pooled(alloc: Global, world: WorldKind, k: u64) -> Result<Desk<Global>, Refusal> {
+    Desk::new(alloc, Config::new(world, 2, k, 1000)?)
+}
+
+/// Why a reply is a refusal, want of memory aside.
+fn refusal_in(reply: &Reply) -> Option<Refusal> {
+    match reply {
+        Reply::Refused(Refusal::NoMemory) => None,
+        Reply::Refused(refusal) => Some(*refusal),
+        _ => None,
     }
+}
+
+/// Applies an event, and compares its reply, and what would be refused with what is.
+fn applies<A: Allocator + Clone>(rt: &impl Abort, desk: &mut Desk<A>, event: Event, want: &Reply) {
+    let due = desk.refusal(event);
+    let reply = desk.apply(event);
+    assert!(rt; reply == *want, "{event:?}: {reply:?}");
+    assert_eq!(rt; refusal_in(&reply), due, "{event:?}");
+}
+
+/// Applies events one by one.
+fn plays<A: Allocator + Clone>(rt: &impl Abort, desk: &mut Desk<A>, rows: &[(Event, Reply)]) {
+    for (event, want) in rows {
+        applies(rt, desk, *event, want);
+    }
+}
+
+/// Makes so many steps, of which the last answers this and those before it are quiet.
+fn steps<A: Allocator + Clone>(
+    rt: &impl Abort,
+    desk: &mut Desk<A>,
+    id: u64,
+    count: usize,
+    last: &Reply,
+) {
+    for _ in 1..count {
+        applies(rt, desk, Event::Step(id), &Reply::Quiet);
+    }
+    applies(rt, desk, Event::Step(id), last);
 }
 
 /// The view in which one identity has proposed a number.
@@ -31,11 +56,33 @@ fn sole(id: u64, number: u64) -> View {
     view
 }
 
+/// The worlds in which names are given have a desk, and the others have none.
+#[test]
+fn a_desk_for_two_worlds(rt: HostRuntime) -> Result<(), Fail> {
+    law_of_desk();
+    law_of_names();
+    for (world, given) in [
+        (WorldKind::Splitter, false),
+        (WorldKind::Grid, false),
+        (WorldKind::Rename, true),
+        (WorldKind::Tree, true),
+    ] {
+        let made = pooled(rt.alloc(), world, 64);
+        assert_eq!(rt; made.is_ok(), given, "{world:?}");
+        let refused = made.err();
+        assert!(rt;
+            given || refused == Some(Refusal::OutOfRange),
+            "{world:?}: {refused:?}"
+        );
+    }
+    Ok(())
+}
+
 /// One participant alone, over a grid of one door.
 #[test]
 fn one_is_named_over_a_grid(rt: HostRuntime) -> Result<(), Fail> {
-    let config = Config::new(WorldKind::Rename, 1, 4, 1000)?;
-    let mut desk = DeskOver::<Grid<Global>, Global>::new(rt.alloc(), config)?;
+    let mut desk = Desk::new(rt.alloc(), Config::new(WorldKind::Rename, 1, 4, 1000)?)?;
+    assert!(rt; desk.owner(1) == Reply::Owner(None));
     plays(
         &rt,
         &mut desk,
@@ -45,89 +92,180 @@ fn one_is_named_over_a_grid(rt: HostRuntime) -> Result<(), Fail> {
             (Event::Begin(7), Reply::Ok),
             (Event::Begin(7), Reply::Refused(Refusal::AlreadyBegun)),
             (Event::Begin(8), Reply::Refused(Refusal::Full)),
-            (Event::Step(7), Reply::Quiet),
-            (Event::Step(7), Reply::Quiet),
-            (Event::Step(7), Reply::Quiet),
-            (Event::Step(7), Reply::Place(0)),
-            (Event::Step(7), Reply::Quiet),
-            (Event::Step(7), Reply::Quiet),
-            (Event::Step(7), Reply::Proposed(1)),
-            (Event::Step(7), Reply::Quiet),
-            (Event::Step(7), Reply::Named(1, sole(7, 1))),
-            (Event::Step(7), Reply::Refused(Refusal::Finished)),
         ],
     );
+    steps(&rt, &mut desk, 7, 4, &Reply::Place(0));
+    steps(&rt, &mut desk, 7, 3, &Reply::Proposed(1));
+    steps(&rt, &mut desk, 7, 2, &Reply::Named(1, sole(7, 1)));
+    steps(&rt, &mut desk, 7, 1, &Reply::Refused(Refusal::Finished));
+    assert!(rt; desk.owner(1) == Reply::Owner(Some(7)));
+    assert!(rt; desk.owner(2) == Reply::Refused(Refusal::OutOfRange));
+    assert!(rt; desk.owner(0) == Reply::Refused(Refusal::OutOfRange));
     Ok(())
 }
 
 /// One participant alone, in a tree.
 #[test]
 fn one_is_named_over_a_tree(rt: HostRuntime) -> Result<(), Fail> {
-    let config = Config::new(WorldKind::Tree, 2, 4, 1000)?;
-    let mut desk = DeskOver::<TreePlaces<Global>, Global>::new(rt.alloc(), config)?;
+    let mut desk = pooled(rt.alloc(), WorldKind::Tree, 4)?;
     plays(&rt, &mut desk, &[(Event::Begin(7), Reply::Ok)]);
-    for step in 1..=22 {
-        let reply = desk.apply(Event::Step(7));
-        let want = match step {
-            5 => Reply::Place(1),
-            14 => Reply::Proposed(1),
-            22 => Reply::Named(1, sole(7, 1)),
-            _ => Reply::Quiet,
-        };
-        assert!(rt; reply == want, "step {step}: {reply:?}");
-        assert_eq!(rt; desk.owner(1), if step == 22 { Some(7) } else { None });
-    }
-    assert_eq!(rt; desk.owner(7), None);
+    steps(&rt, &mut desk, 7, 5, &Reply::Place(1));
+    steps(&rt, &mut desk, 7, 9, &Reply::Proposed(1));
+    steps(&rt, &mut desk, 7, 8, &Reply::Named(1, sole(7, 1)));
+    steps(&rt, &mut desk, 7, 1, &Reply::Refused(Refusal::Finished));
+    assert!(rt; desk.owner(1) == Reply::Owner(Some(7)));
+    assert!(rt; desk.owner(3) == Reply::Owner(None));
+    assert!(rt; desk.owner(4) == Reply::Refused(Refusal::OutOfRange));
     Ok(())
 }
 
-/// A bit that is freed behind a prober, and slots that keep their values.
+/// With one round each, one of two is spent.
 #[test]
-fn a_pool_with_slots(rt: HostRuntime) -> Result<(), Fail> {
-    let config = Config::new(WorldKind::Rename, 2, 2, 1000)?;
-    let mut desk = DeskOver::<Fixed<Global>, Global>::new(rt.alloc(), config)?;
+fn one_is_spent(rt: HostRuntime) -> Result<(), Fail> {
+    let mut desk = Desk::new(rt.alloc(), Config::new(WorldKind::Rename, 2, 4, 1)?)?;
     plays(
         &rt,
         &mut desk,
-        &[
-            (Event::Probe(5), Reply::Refused(Refusal::NotCompeting)),
-            (Event::Enter(0), Reply::Refused(Refusal::ZeroIdentity)),
-            (Event::Enter(5), Reply::Ok),
-            (Event::Enter(5), Reply::Refused(Refusal::AlreadyCompeting)),
-            (Event::Leave(5), Reply::Refused(Refusal::NotHolding)),
-            (Event::Probe(5), Reply::Got(1)),
-            (Event::Probe(5), Reply::Refused(Refusal::Holding)),
-            (Event::Get(5), Reply::Value(0)),
-            (Event::Enter(6), Reply::Ok),
-            (Event::Enter(7), Reply::Refused(Refusal::Crowded)),
-            (Event::Probe(6), Reply::Got(2)),
-            (Event::Put(6, 9), Reply::Ok),
-            (Event::Leave(6), Reply::Left(2)),
-            (Event::Get(6), Reply::Refused(Refusal::NotCompeting)),
-            (Event::Enter(7), Reply::Ok),
-            (Event::Put(7, 1), Reply::Refused(Refusal::NotHolding)),
-            (Event::Probe(7), Reply::Got(2)),
-            (Event::Get(7), Reply::Value(9)),
-            (Event::Get(5), Reply::Value(0)),
-        ],
+        &[(Event::Begin(10), Reply::Ok), (Event::Begin(20), Reply::Ok)],
     );
+    steps(&rt, &mut desk, 10, 4, &Reply::Place(0));
+    steps(&rt, &mut desk, 20, 6, &Reply::Place(1));
+    steps(&rt, &mut desk, 20, 7, &Reply::Proposed(1));
+    steps(&rt, &mut desk, 10, 6, &Reply::Quiet);
+    steps(&rt, &mut desk, 20, 4, &Reply::Quiet);
+    steps(&rt, &mut desk, 10, 1, &Reply::Proposed(1));
+    steps(&rt, &mut desk, 10, 6, &Reply::Spent);
+    steps(&rt, &mut desk, 10, 1, &Reply::Refused(Refusal::Spent));
+    steps(&rt, &mut desk, 20, 2, &Reply::Named(1, sole(20, 1)));
     Ok(())
 }
 
-/// Places of one world serve no other.
+/// A node of the tree for which there is no room, and then there is.
 #[test]
-fn the_places_are_those_of_the_world(rt: HostRuntime) -> Result<(), Fail> {
-    for (kind, grid, tree) in [
-        (WorldKind::Splitter, false, false),
-        (WorldKind::Grid, false, false),
-        (WorldKind::Rename, true, false),
-        (WorldKind::Tree, false, true),
-    ] {
-        let config = Config::new(kind, 16, 64, 1)?;
-        let over_grid = DeskOver::<Grid<Global>, Global>::new(rt.alloc(), config);
-        assert_eq!(rt; over_grid.is_ok(), grid, "{kind:?}");
-        let over_tree = DeskOver::<TreePlaces<Global>, Global>::new(rt.alloc(), config);
-        assert_eq!(rt; over_tree.is_ok(), tree, "{kind:?}");
+fn a_node_is_refused(rt: HostRuntime) -> Result<(), Fail> {
+    let heap = LocalHeap::new(rt.alloc(), 65_536)?;
+    let mut desk = Desk::new(&heap, Config::new(WorldKind::Tree, 2, 4, 1000)?)?;
+    plays(
+        &rt,
+        &mut desk,
+        &[(Event::Begin(10), Reply::Ok), (Event::Begin(20), Reply::Ok)],
+    );
+    steps(&rt, &mut desk, 10, 1, &Reply::Quiet);
+    let mut boxes = Vec::new(rt.alloc());
+    for _ in 0..4_096 {
+        if let Ok(filled) = Box::new(&heap, [0u64; 2]) {
+            boxes.push(filled)?;
+        }
+    }
+    steps(&rt, &mut desk, 10, 4, &Reply::Place(1));
+    steps(&rt, &mut desk, 20, 4, &Reply::Refused(Refusal::NoMemory));
+    steps(&rt, &mut desk, 20, 1, &Reply::Refused(Refusal::NoMemory));
+    drop(boxes);
+    steps(&rt, &mut desk, 20, 5, &Reply::Place(3));
+    Ok(())
+}
+
+/// A pool of one number.
+#[test]
+fn one_number(rt: HostRuntime) -> Result<(), Fail> {
+    for world in [WorldKind::Rename, WorldKind::Tree] {
+        let mut desk = pooled(rt.alloc(), world, 1)?;
+        plays(
+            &rt,
+            &mut desk,
+            &[
+                (Event::Enter(5), Reply::Ok),
+                (Event::Probe(5), Reply::Got(1)),
+                (Event::Enter(6), Reply::Refused(Refusal::Crowded)),
+                (Event::Enter(5), Reply::Refused(Refusal::AlreadyCompeting)),
+                (Event::Leave(5), Reply::Left(1)),
+                (Event::Enter(6), Reply::Ok),
+            ],
+        );
+    }
+    Ok(())
+}
+
+/// A bit that is freed behind a prober.
+#[test]
+fn a_bit_freed_behind_a_prober(rt: HostRuntime) -> Result<(), Fail> {
+    for world in [WorldKind::Rename, WorldKind::Tree] {
+        let mut desk = pooled(rt.alloc(), world, 3)?;
+        plays(
+            &rt,
+            &mut desk,
+            &[
+                (Event::Enter(5), Reply::Ok),
+                (Event::Probe(5), Reply::Got(1)),
+                (Event::Enter(6), Reply::Ok),
+                (Event::Probe(6), Reply::Missed),
+                (Event::Probe(6), Reply::Got(2)),
+                (Event::Enter(7), Reply::Ok),
+                (Event::Probe(7), Reply::Missed),
+                (Event::Leave(5), Reply::Left(1)),
+                (Event::Probe(7), Reply::Got(3)),
+                (Event::Enter(8), Reply::Ok),
+                (Event::Probe(8), Reply::Got(1)),
+                (Event::Enter(9), Reply::Refused(Refusal::Crowded)),
+            ],
+        );
+        assert!(rt; desk.owner(1) == Reply::Owner(None));
+    }
+    Ok(())
+}
+
+/// A slot keeps its value over its holders.
+#[test]
+fn a_slot_keeps_its_value(rt: HostRuntime) -> Result<(), Fail> {
+    for world in [WorldKind::Rename, WorldKind::Tree] {
+        let mut desk = pooled(rt.alloc(), world, 2)?;
+        plays(
+            &rt,
+            &mut desk,
+            &[
+                (Event::Enter(5), Reply::Ok),
+                (Event::Leave(5), Reply::Refused(Refusal::NotHolding)),
+                (Event::Probe(5), Reply::Got(1)),
+                (Event::Probe(5), Reply::Refused(Refusal::Holding)),
+                (Event::Get(5), Reply::Value(0)),
+                (Event::Put(5, 77), Reply::Ok),
+                (Event::Get(5), Reply::Value(77)),
+                (Event::Leave(5), Reply::Left(1)),
+                (Event::Get(5), Reply::Refused(Refusal::NotCompeting)),
+                (Event::Enter(6), Reply::Ok),
+                (Event::Get(6), Reply::Refused(Refusal::NotHolding)),
+                (Event::Put(6, 1), Reply::Refused(Refusal::NotHolding)),
+                (Event::Probe(6), Reply::Got(1)),
+                (Event::Get(6), Reply::Value(77)),
+            ],
+        );
+    }
+    Ok(())
+}
+
+/// The value in the last slot, which has no bit, is found by who comes next.
+#[test]
+fn the_last_slot(rt: HostRuntime) -> Result<(), Fail> {
+    for world in [WorldKind::Rename, WorldKind::Tree] {
+        let mut desk = pooled(rt.alloc(), world, 2)?;
+        plays(
+            &rt,
+            &mut desk,
+            &[
+                (Event::Probe(5), Reply::Refused(Refusal::NotCompeting)),
+                (Event::Enter(0), Reply::Refused(Refusal::ZeroIdentity)),
+                (Event::Enter(5), Reply::Ok),
+                (Event::Leave(5), Reply::Refused(Refusal::NotHolding)),
+                (Event::Probe(5), Reply::Got(1)),
+                (Event::Enter(6), Reply::Ok),
+                (Event::Probe(6), Reply::Got(2)),
+                (Event::Put(6, 9), Reply::Ok),
+                (Event::Leave(6), Reply::Left(2)),
+                (Event::Enter(7), Reply::Ok),
+                (Event::Probe(7), Reply::Got(2)),
+                (Event::Get(7), Reply::Value(9)),
+            ],
+        );
     }
     Ok(())
 }

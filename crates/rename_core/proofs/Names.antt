@@ -1,15 +1,19 @@
 -- every renaming world keeps the law of renaming
-use Rattle.std.proofs.Common.{None, is_some, ◌≡◌, ℕ, ◌≤◌, ◌==◌, Bool, true, List, [], ◌∷◌, ◌++◌, Option, Some, inl, inr, refl, sym, ap, subst, ◌∙◌, arith}
+use Rattle.std.proofs.Common.{None, is_some, IsOk, Ok, ◌≡◌, ◌+◌, false, ℕ, ◌≤◌, ◌==◌, Bool, true, List, [], ◌∷◌, ◌++◌, Option, Some, inl, inr, refl, sym, ap, subst, ◌∙◌, arith}
 use Rattle.std.specs.Prelude.{option_map, option_and_then}
 use Rattle.std.proofs.lemmas.Bool.Decides.{eqb_tells, leb_tells}
 use Rattle.step_memory.specs.Calls.{Call}
 use Rattle.step_memory.specs.Calls.Call.{Began, Stepped}
+use Rattle.step_memory.specs.declared.participant.Participant.{Participant}
+use Rattle.step_memory.specs.declared.refusal.Refusal.TheVariants.{NotBegun}
 use Rattle.step_memory.specs.Participant.{participant_of}
 use Rattle.step_memory.specs.Runs.{Run}
 use Rattle.step_memory.proofs.RunLemmas.{run_more, run_keeps}
 use Rattle.snapshot_core.specs.Places.{PlacesLaws, BoundsScans}
 use Rattle.snapshot_core.specs.declared.client.Client.{Client}
 use Rattle.snapshot_core.specs.SnapWorld.{SnapState, IsAccessFor}
+use Rattle.snapshot_core.specs.Standing.{StandsAt, GoesBusy}
+use Rattle.snapshot_core.proofs.Clients.{goes_busy}
 use Rattle.snapshot_core.proofs.Following.{own_access_holds}
 use Rattle.rename_core.specs.Locality.{client_of, access_of}
 use Rattle.snapshot_core.specs.SnapCalls.{SnapCall, next as snap_next, IsReply as IsSnapReply, IsAfter as IsSnapAfter}
@@ -26,8 +30,8 @@ use Rattle.snapshot_core.specs.Places.{KnownPlaces}
 use Rattle.rename_core.specs.RenameCalls.{next, IsReply, IsAfter, terms_of}
 use Rattle.rename_core.specs.RenameObject.{RenameTerms, RenameObject, new_object, IsRecent, Allows, after, IsRun, IsOwner}
 use Rattle.rename_core.specs.RenameState.{RenameState}
-use Rattle.rename_core.specs.RenameWorld.{name_in, name_by, owner_by, shown_by, fresh_world, may_lack}
-use Rattle.rename_core.specs.Round.{name_at, standing_by}
+use Rattle.rename_core.specs.RenameWorld.{name_in, name_by, owner_by, shown_by, step_refusal, rename_answer, answer_open, fresh_world, may_lack}
+use Rattle.rename_core.specs.Round.{name_at, stage_refusal, standing_by}
 use Rattle.rename_core.proofs.Beginning.{begin_goes}
 use Rattle.rename_core.proofs.Keeping.{Goes, step_goes}
 use Rattle.rename_core.proofs.Shown.{standing_of, shown_rising, shown_is, Owns, owner_is}
@@ -190,6 +194,28 @@ module _ {S R V U K : Type 0} (W : KnownPlaces S R V U K) (terms : RenameTerms) 
   pub snap_calls : (w : RenameState S U K) (r : List (Call Reply)) → Run (next W) (IsReply W) fresh r w → (calls : List SnapCall) × IsSnapAfter W first w.snap calls
   snap_calls w r a = let k = holds w r a in (k.tied.tie.calls, k.tied.tie.world)
 
+  -- a step of one who has something to do is answered
+  busy_answered : (w : RenameState S U K) (p : ℕ) (v : Participant Round) → participant_of p w.rounds ≡ Some v → stage_refusal v.program.stage ≡ None → (n : ℕ) → StandsAt w.snap p false n → IsOk (rename_answer W w p)
+  busy_answered w p v here unclosed n stands =
+      let k : GoesBusy W w.snap p n = goes_busy W w.snap p n stands in
+      rw (here, unclosed, k.answer) refl
+
+  open_answered : (w : RenameState S U K) (o : RenameObject) (t : Pace) (i : Tied w o t) (p : ℕ) (v : Participant Round) → participant_of p w.rounds ≡ Some v → (stage : Stage) → v.program.stage ≡ stage →
+      IsAtStage terms o t i.object w.snap p v.program stage → stage_refusal stage ≡ None → IsOk (rename_answer W w p)
+  open_answered w o t i p v here Placing e h unclosed = busy_answered w p v here (ap stage_refusal e ∙ unclosed) 0 h.stands
+  open_answered w o t i p v here (Proposing number) e h unclosed = busy_answered w p v here (ap stage_refusal e ∙ unclosed) (v.program.count + 1) h.stands
+  open_answered w o t i p v here Looking e h unclosed = busy_answered w p v here (ap stage_refusal e ∙ unclosed) v.program.count h.stands
+  open_answered w o t i p v here Settled e h unclosed = absurd (cc)
+  open_answered w o t i p v here Over e h unclosed = absurd (cc)
+
+  pub answered_held : (w : RenameState S U K) (r : List (Call Reply)) → Run (next W) (IsReply W) fresh r w → (p : ℕ) → step_refusal w p ≡ None → IsOk (rename_answer W w p)
+  answered_held w r a p unrefused =
+      let k = holds w r a in
+      elim (participant_of p w.rounds) as (λ z. participant_of p w.rounds ≡ z → IsOk (rename_answer W w p)) [
+        | None ↦ λ h. absurd (let no : Some NotBegun ≡ None = rw h at unrefused in cc)
+        | Some v ↦ λ h. open_answered w k.object k.paces.0 k.tied p v h v.program.stage refl (k.tied.stages p v h) (rw h at unrefused)
+      ] refl
+
   -- its accesses are those of the snapshot object
   pub own_held : (w : RenameState S U K) (r : List (Call Reply)) → Run (next W) (IsReply W) fresh r w → (p : ℕ) (c : Client U K) → client_of p w ≡ Some c → IsAccessFor W c c.pending (access_of W c)
   own_held w r a p c h = let k = holds w r a in own_access_holds W named.laws w.snap p first k.tied.tie.calls new k.tied.tie.world c h
@@ -211,6 +237,9 @@ module _ {S R V U K : Type 0} (W : KnownPlaces S R V U K) (kind : WorldKind) (sc
 
   pub shown_law : (o : RenameObject) → IsRun (terms_of W kind w) r o → IsMoment (shown_by [] w.rounds) (o.moment o.last)
   shown_law = shown_held W (terms_of W kind w) scanning named a.first a.new most_is a.low a.high w r a.run
+
+  pub answered_law : (p : ℕ) → step_refusal w p ≡ None → IsOk (rename_answer W w p)
+  answered_law = answered_held W (terms_of W kind w) scanning named a.first a.new most_is a.low a.high w r a.run
 
   pub own_law : (p : ℕ) (c : Client U K) → client_of p w ≡ Some c → IsAccessFor W c c.pending (access_of W c)
   own_law = own_held W (terms_of W kind w) scanning named a.first a.new most_is a.low a.high w r a.run

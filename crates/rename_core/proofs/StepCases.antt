@@ -1,6 +1,6 @@
 -- a step of a renaming world by cases on who takes it
-use Rattle.std.proofs.Common.{◌≡◌, ℕ, ◌+◌, [], ◌∷◌, ◌++◌, length, Option, Some, None, Ok, Err, refl, sym, ap, ◌∙◌}
-use Rattle.std.specs.Prelude.{option_map}
+use Rattle.std.proofs.Common.{◌≡◌, false, ℕ, ◌+◌, [], ◌∷◌, ◌++◌, length, Option, Some, None, Ok, Err, refl, sym, ap, ◌∙◌}
+use Rattle.std.specs.Prelude.{option_map, is_some}
 use Rattle.step_memory.specs.declared.participant.Participant.{Participant}
 use Rattle.step_memory.specs.declared.refusal.Refusal.{Refusal}
 use Rattle.step_memory.specs.declared.refusal.Refusal.TheVariants.{NotBegun}
@@ -22,6 +22,10 @@ pub wish_large : {S U K : Type 0} (w : SnapState S U K) (p : ℕ) (wish : Wish) 
 wish_large w p Nothing = record { most = refl; many = refl }
 wish_large w p (Update value) = update_large w p value
 wish_large w p Scan = scan_large w p
+
+pub not_refused : (why : Option Refusal) → is_some why ≡ false → why ≡ None
+not_refused None h = refl
+not_refused (Some why) h = absurd (cc)
 
 pub was_begun : (why : Option Refusal) (done : Unit {0}) → Ok done ≡ done_unless why → why ≡ None
 was_begun None done h = refl
@@ -78,9 +82,3 @@ module _ {S R V U K : Type 0} (W : KnownPlaces S R V U K) (w : RenameState S U K
       let a = snap_large W w.snap p in
       let b = wish_large (snap_step W w p) p wish in
       record { most = b.most ∙ a.most; many = b.many ∙ a.many }
-
-pub no_name : {S U K : Type 0} (w : RenameState S U K) (p : ℕ) → participant_of p w.rounds ≡ None → None ≡ name_in w p
-no_name w p h = rw h refl
-
-pub own_name : {S U K : Type 0} (w : RenameState S U K) (p : ℕ) (v : Participant Round) → participant_of p w.rounds ≡ Some v → name_at v.program.stage v.program.proposal ≡ name_in w p
-own_name w p v h = rw h refl

@@ -12,3 +12,4 @@ pub mod NamedPlaces
 pub mod RenameCalls
 pub mod Locality
 pub mod Ample
+pub mod EmptyPlaces

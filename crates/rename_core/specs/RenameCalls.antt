@@ -1,5 +1,5 @@
 -- the calls of a renaming world with their replies, the machine that they run on, and what is said of it after them
-use Rattle.std.specs.Prelude.{◌≡◌, ℕ, ◌+◌, ◌*◌, ◌≤◌, true, if◌then◌else◌, ◌⊎◌, List, [], ◌∷◌, ◌++◌, Option, Some, None, Err}
+use Rattle.std.specs.Prelude.{◌≡◌, ℕ, ◌+◌, ◌*◌, ◌≤◌, true, if◌then◌else◌, ◌⊎◌, List, [], ◌∷◌, ◌++◌, Option, Some, None, Err, IsOk}
 use Rattle.step_memory.specs.declared.refusal.Refusal.TheVariants.{NoMemory}
 use Rattle.step_memory.specs.World.{begin_refusal, done_unless}
 use Rattle.step_memory.specs.Calls.{Call, lacked_memory}
@@ -16,7 +16,7 @@ use Rattle.rename_core.specs.Law.{KeepsRenameLaw}
 use Rattle.snapshot_core.specs.Places.{KnownPlaces}
 use Rattle.rename_core.specs.RenameObject.{RenameTerms, RenameObject, IsRun, IsOwner}
 use Rattle.rename_core.specs.RenameState.{RenameState}
-use Rattle.rename_core.specs.RenameWorld.{fresh_world, after_rename_begin, rename_answer, after_rename_step, may_lack, LacksMemory}
+use Rattle.rename_core.specs.RenameWorld.{fresh_world, after_rename_begin, step_refusal, rename_answer, after_rename_step, may_lack, LacksMemory}
 
 module _ {S R V U K : Type 0} (W : KnownPlaces S R V U K) where
   -- the world after a call. A step for which a growth was refused is still to come
@@ -84,6 +84,10 @@ module _ {S R V U K : Type 0} (W : KnownPlaces S R V U K) where
   -- after every list of calls, p's next access is one for what it has to do
   abbrev pub MakesOwnAccess : RenameState S U K → ℕ → Type 0
   MakesOwnAccess w p = (r : List (Call Reply)) → IsAfter w r → (c : Client U K) → client_of p w ≡ Some c → IsAccessFor W c c.pending (access_of W c)
+
+  -- after every list of calls, p's step is answered where its round does not refuse it
+  abbrev pub AnswersUnrefused : RenameState S U K → ℕ → Type 0
+  AnswersUnrefused w p = (r : List (Call Reply)) → IsAfter w r → step_refusal w p ≡ None → IsOk (rename_answer W w p)
 
   -- after every two lists of calls, where worlds are of one size, p would begin as the same
   abbrev pub BeginsTheSame : ℕ → Type 0

@@ -1,10 +1,14 @@
 //! Places over which names are given.
 
-ghost use Rattle.std.specs.Prelude.{◌≡◌, ◌≤◌, IfOk, IfErr, refl};
+ghost use Rattle.std.specs.Prelude.{◌≡◌, ◌≤◌, ℕ, IfOk, IfErr, refl};
 ghost use Rattle.rename_core.specs.Ample.{fixed_ample, grid_ample};
+ghost use Rattle.rename_core.specs.EmptyPlaces.{AreEmptyFor, fixed_empty, grid_empty, tree_empty};
 ghost use Rattle.rename_core.specs.declared.config.WorldKind.{WorldKind};
 ghost use Rattle.rename_core.specs.declared.config.WorldKind.TheVariants as kind;
 ghost use Rattle.rename_core.specs.NamedPlaces.{PlacesAtOnce, GrowsAsTree};
+ghost use Rattle.snapshot_core.specs.FixedTies.{fresh_row};
+ghost use Rattle.snapshot_places.specs.Grid.{fresh_grid};
+ghost use Rattle.snapshot_places.specs.Tree.{new_tree};
 
 use crate::config::WorldKind;
 use snapshot_core::{Fixed, Known, Places};
@@ -17,6 +21,9 @@ pub trait RenamePlaces<A: Allocator>: Places {
     /// The world that they serve.
     ghost world: { WorldKind };
 
+    /// What is made for so many participants.
+    ghost empty_for: { ℕ → Self };
+
     /// The world that they serve.
     fn world() -> WorldKind
         ensures { result ≡ world };
@@ -25,9 +32,13 @@ pub trait RenamePlaces<A: Allocator>: Places {
     fn empty(alloc: A, most: usize) -> Result<Self, Refusal>
         requires some { 1 ≤ most }
         requires few { most ≤ 16 }
+        ensures made { IfOk result (λ s. s ≡ empty_for most) }
         ensures fresh { IfOk result (λ s. Self.ties.IsNew s) }
         ensures most { IfOk result (λ s. Self.most_of s ≡ most) }
         ensures no_memory { IfErr result (λ why. why ≡ Refusal.NoMemory) };
+
+    /// What is made is places in which nothing was written.
+    ghost are_empty: { AreEmptyFor ⟦<Self as Known>⟧.places empty_for };
 
     /// Who begins has a place at once just where no step is needed to one.
     ghost at_once: { PlacesAtOnce ⟦<Self as Known>⟧.places };
@@ -39,6 +50,8 @@ pub trait RenamePlaces<A: Allocator>: Places {
 impl<A: Allocator> RenamePlaces<A> for Fixed<A> {
     ghost world = { kind.Rename };
 
+    ghost empty_for = { fresh_row };
+
     fn world() -> WorldKind {
         WorldKind::Rename
     }
@@ -46,6 +59,8 @@ impl<A: Allocator> RenamePlaces<A> for Fixed<A> {
     fn empty(alloc: A, most: usize) -> Result<Self, Refusal> {
         Fixed::new(alloc, most)
     }
+
+    ghost are_empty = { fixed_empty };
 
     ghost at_once = { λ b q. refl };
 
@@ -55,6 +70,8 @@ impl<A: Allocator> RenamePlaces<A> for Fixed<A> {
 impl<A: Allocator + Clone> RenamePlaces<A> for Grid<A> {
     ghost world = { kind.Rename };
 
+    ghost empty_for = { fresh_grid };
+
     fn world() -> WorldKind {
         WorldKind::Rename
     }
@@ -62,6 +79,8 @@ impl<A: Allocator + Clone> RenamePlaces<A> for Grid<A> {
     fn empty(alloc: A, most: usize) -> Result<Self, Refusal> {
         Grid::new(alloc, most)
     }
+
+    ghost are_empty = { grid_empty };
 
     ghost at_once = { λ b q. refl };
 
@@ -71,6 +90,8 @@ impl<A: Allocator + Clone> RenamePlaces<A> for Grid<A> {
 impl<A: Allocator + Clone> RenamePlaces<A> for TreePlaces<A> {
     ghost world = { kind.Tree };
 
+    ghost empty_for = { new_tree };
+
     fn world() -> WorldKind {
         WorldKind::Tree
     }
@@ -78,6 +99,8 @@ impl<A: Allocator + Clone> RenamePlaces<A> for TreePlaces<A> {
     fn empty(alloc: A, most: usize) -> Result<Self, Refusal> {
         TreePlaces::new(alloc, most)
     }
+
+    ghost are_empty = { tree_empty };
 
     ghost at_once = { λ b q. refl };
 

@@ -126,6 +126,16 @@ fn one_alone_where_nobody_else_may_be(rt: HostRuntime) -> Result<(), Fail> {
 }
 
 #[test]
+fn worlds_of_every_size(rt: HostRuntime) -> Result<(), Fail> {
+    for m in 1..=16 {
+        assert_eq!(rt; grid(rt.alloc(), m, 1)?.begin(7), Ok(()), "at {m}");
+        assert_eq!(rt; tree(rt.alloc(), m)?.begin(7), Ok(()), "at {m}");
+        assert_eq!(rt; fixed(rt.alloc(), m, 1)?.begin(7), Ok(()), "at {m}");
+    }
+    Ok(())
+}
+
+#[test]
 fn one_alone_where_another_may_come(rt: HostRuntime) -> Result<(), Fail> {
     let mut world = grid(rt.alloc(), 2, 1000)?;
     assert_eq!(rt; world.begin(7), Ok(()));

@@ -1,14 +1,14 @@
 //! A renaming world, taken step by step.
 
-ghost use Rattle.std.specs.Prelude.{◌≡◌, ◌≢◌, ◌<◌, ◌⊎◌, ◌↔◌, [], length, IfOk, IfErr, OnErr, Err, false};
-ghost use Rattle.step_memory.specs.Participant.{index_of};
+ghost use Rattle.std.specs.Prelude.{◌≡◌, ◌≢◌, ◌<◌, ◌≤◌, ◌⊎◌, ◌↔◌, [], length, IfOk, IfErr, OnErr, Err, Ok, true, false};
+ghost use Rattle.step_memory.specs.Participant.{index_of, program_of};
 ghost use Rattle.step_memory.specs.World.{begin_refusal, done_unless};
 ghost use Rattle.step_memory.specs.Calls.Call.{Began, Stepped};
 ghost use Rattle.rename_core.specs.Config.{is_played_over};
 ghost use Rattle.rename_core.specs.Locality.{IsLocal};
 ghost use Rattle.rename_core.specs.RenameCalls.{IsAfter, LeadsOn, IsFresh, IsLawful, MakesOwnAccess, IsName, IsOwnerOf, IsLastMoment};
 ghost use Rattle.rename_core.specs.Round.{standing_by};
-ghost use Rattle.rename_core.specs.RenameWorld.{after_wish, name_in, owner_by, shown_with, shown_by, after_rename_begin, rename_answer, after_rename_step, LacksMemory};
+ghost use Rattle.rename_core.specs.RenameWorld.{fresh_world, step_refusal, after_wish, name_in, owner_by, shown_with, shown_by, after_rename_begin, rename_answer, after_rename_step, LacksMemory};
 
 use crate::config::Config;
 use crate::places::RenamePlaces;
@@ -82,8 +82,34 @@ where
     W::Walk: Copy,
     W::Value: Drop,
 {
-    /// A step, and what follows it.
-    fn take_step(&mut self, id: u64) -> Result<Reply, Refusal>
+    /// A step that reads for a scan that goes on, after which nothing follows. Tells whether it was made; where not, nothing
+    /// has changed.
+    fn read_on(&mut self, id: u64) -> bool
+        ensures answer { result ≡ true → rename_answer ⟦<W as Known>⟧.places self.old id ≡ Ok Reply.Quiet }
+        ensures state { result ≡ true → self.new ≡ after_rename_step ⟦<W as Known>⟧.places self.old id }
+        ensures kept { result ≡ false → self.new ≡ self.old }
+    {
+        let Some(i) = find(&self.rounds, id) else {
+            return false;
+        };
+        let round = self.rounds[i].program;
+        if round.stage.refusal().is_some() {
+            return false;
+        }
+        if !self.snap.read_on(id) {
+            return false;
+        }
+        self.rounds[i] = Participant {
+            identity: id,
+            program: round,
+            ended: false,
+        };
+        true
+    }
+
+    /// Any other step, and what follows it. A function of its own, so that a read has no room of a segment to clear.
+    #[inline(never)]
+    fn take_other(&mut self, id: u64) -> Result<Reply, Refusal>
         ensures answer { result ≢ Err Refusal.NoMemory → result ≡ rename_answer ⟦<W as Known>⟧.places self.old id }
         ensures state { result ≢ Err Refusal.NoMemory → self.new ≡ after_rename_step ⟦<W as Known>⟧.places self.old id }
         ensures refused { OnErr result (self.new ≡ self.old) }
@@ -104,6 +130,20 @@ where
             ended: false,
         };
         Ok(follow.reply)
+    }
+
+    /// A step, and what follows it.
+    #[inline(always)]
+    fn take_step(&mut self, id: u64) -> Result<Reply, Refusal>
+        ensures answer { result ≢ Err Refusal.NoMemory → result ≡ rename_answer ⟦<W as Known>⟧.places self.old id }
+        ensures state { result ≢ Err Refusal.NoMemory → self.new ≡ after_rename_step ⟦<W as Known>⟧.places self.old id }
+        ensures refused { OnErr result (self.new ≡ self.old) }
+        ensures no_memory { result ≡ Err Refusal.NoMemory → LacksMemory ⟦<W as Known>⟧.places self.old id }
+    {
+        if self.read_on(id) {
+            return Ok(Reply::Quiet);
+        }
+        self.take_other(id)
     }
 
     /// One step of a participant: one access, and what follows it. Refused where the identity has not begun, then where it
@@ -127,14 +167,49 @@ where
         self.take_step(id)
     }
 
-    /// The name that the round of an identity has ended with.
-    fn round_name(&self, id: u64) -> Option<u64>
-        ensures { result ≡ name_in self.now id }
+    /// The most participants, of whom a view has room for.
+    pub fn most(&self) -> u64
+        ensures value { result ≡ self.now.snap.most }
+        ensures few { result ≤ 64 }
+    {
+        self.snap.most() as u64
+    }
+
+    /// Why an identity may not begin: what `begin` would be refused. It changes nothing.
+    pub fn begin_refusal(&self, id: u64) -> Option<Refusal>
+        ensures { result ≡ begin_refusal self.now.snap id }
+    {
+        self.snap.begin_refusal(id)
+    }
+
+    /// The round of an identity that has begun.
+    fn round(&self, id: u64) -> Option<Round>
+        ensures { result ≡ program_of id self.now.rounds }
     {
         let Some(i) = find(&self.rounds, id) else {
             return None;
         };
-        self.rounds[i].program.name()
+        Some(self.rounds[i].program)
+    }
+
+    /// Why an identity may take no step: what `step` would be refused, want of memory aside. It changes nothing.
+    pub fn step_refusal(&self, id: u64) -> Option<Refusal>
+        ensures { result ≡ step_refusal self.now id }
+    {
+        match self.round(id) {
+            None => Some(Refusal::NotBegun),
+            Some(round) => round.stage.refusal(),
+        }
+    }
+
+    /// The name that the round of an identity has ended with.
+    fn round_name(&self, id: u64) -> Option<u64>
+        ensures { result ≡ name_in self.now id }
+    {
+        match self.round(id) {
+            None => None,
+            Some(round) => round.name(),
+        }
     }
 
     /// The name of a participant, once it has one.
@@ -229,6 +304,7 @@ where
     /// A world in which nobody has begun. Refused where names are not given in the config's world, or not over these
     /// places: where just one of them is a tree; then where the room for the participants was refused.
     pub fn new(alloc: A, config: Config) -> Result<Self, Refusal>
+        ensures made { IfOk result (λ w. w ≡ fresh_world (W.empty_for config.m) config.m config.limit) }
         ensures fresh { IfOk result (λ w. IsFresh ⟦<W as Known>⟧.places config.m config.limit w) }
         ensures out_of_range { result ≡ Err Refusal.OutOfRange ↔ (is_played_over config.world W.world ≡ false) }
         ensures only { IfErr result (λ why. (why ≡ Refusal.NoMemory) ⊎ (why ≡ Refusal.OutOfRange)) }

@@ -1,6 +1,6 @@
 use Rattle.rename_core.proofs.AfterCalls.{leads_on}
 use Rattle.rename_core.proofs.Sizes.{next_most, next_limit}
-use Rattle.rename_core.proofs.NamedPlaces.{is_lawful}
+use Rattle.rename_core.proofs.NamedPlaces.{is_lawful, answers_unrefused}
 use Rattle.snapshot_core.specs.Places.{KnownPlaces, places_by}
 use Rattle.rename_core.proofs.calls_law.law_of_renaming_calls.Given.{Over}
 use Rattle.rename_core.proofs.calls_law.law_of_renaming_calls.Goals as goal
@@ -10,6 +10,9 @@ known g = places_by g.W.Walker.StepProgram.steps g.W.Walker.PlaceWalker.place_of
 
 pub returns-clause-call : goal.returns-clause-call
 returns-clause-call g c = leads_on (known g)
+
+pub returns-clause-answered : goal.returns-clause-answered
+returns-clause-answered g c = answers_unrefused (known g) g.met.W.Places.laws g.W.RenamePlaces.world g.met.W.RenamePlaces.may_grow g.met.W.RenamePlaces.at_once
 
 pub returns-clause-law : goal.returns-clause-law
 returns-clause-law g c = is_lawful (known g) g.met.W.Places.laws g.W.RenamePlaces.world g.met.W.RenamePlaces.may_grow g.met.W.RenamePlaces.at_once

@@ -1,131 +1,14 @@
-use Rattle.std.proofs.Common.{rules, ◌≡◌, false, Some, None, Ok, Err, get_or, set, refl, sym, ap, ◌∙◌, arith}
-use Rattle.std.proofs.lemmas.List.{length-set}
-use Rattle.step_memory.specs.Participant.{index_of, participant_of, with_participant, beginner}
-use Rattle.step_memory.proofs.Found.{Found, found, none-index_of, index_of-below}
-use Rattle.snapshot_core.specs.SnapWorld.{after_snap_step}
-use Rattle.step_memory.specs.declared.refusal.Refusal.TheVariants.{NoMemory}
-use Rattle.rename_core.specs.declared.round.Follow.{Follow}
-use Rattle.rename_core.specs.Round.{stage_refusal, followed}
-use Rattle.rename_core.specs.RenameWorld.{after_wish, snap_told}
-use Rattle.rename_core.proofs.StepCases.{absent_answer, absent_state, closed_answer, closed_state, open_refusal, refused_answer, refused_state, told_answer, told_state, step_large}
-use Rattle.snapshot_core.specs.Places.{KnownPlaces, places_by}
-use Rattle.rename_core.proofs.world.RenameWorld.take_step.Given.{Over}
+use Rattle.std.proofs.Common.{sym}
 use Rattle.rename_core.proofs.world.RenameWorld.take_step.Goals as goal
-use Rattle.rename_core.proofs.world.RenameWorld.take_step.Goals.{In_default, After-index, After-ask}
-
-abbrev pub known : (g : Over) → KnownPlaces g.row.W.Denot g.row.W-Reg.Denot g.row.W-Value.Denot g.row.W-Walker.Denot g.row.W-Walk.Denot
-known g = places_by g.W.Walker.StepProgram.steps g.W.Walker.PlaceWalker.place_of g.W.Walk.SegmentWalk.walks g.W.StepMemory.steps g.W.Places.most_of g.W.Places.walker_from g.W.Places.walk_from g.W.Places.ties
-
-absent : (g : _) (c : In_default g) → participant_of c.args.id c.args.self.now.rounds ≡ None
-absent g c =
-    let v : c.self.inside.rounds.items ≡ c.args.self.now.rounds = ap (λ w. w.rounds) c.self.view_is in
-    let n : None ≡ index_of c.args.id c.deref.result.now = c.in_default.ensures in
-    let e : index_of c.args.id c.args.self.now.rounds ≡ None = cc in
-    none-index_of c.args.id c.args.self.now.rounds e
-
-pub returns-in_default-clause-answer : goal.returns-in_default-clause-answer
-returns-in_default-clause-answer g c = λ _. absent_answer (known g) c.args.self.now c.args.id (absent g c)
-
-pub returns-in_default-clause-state : goal.returns-in_default-clause-state
-returns-in_default-clause-state g c = λ _. absent_state (known g) c.args.self.now c.args.id (absent g c)
-
-pub index-requires : goal.index-requires
-index-requires g c =
-    let n : Some c.in-Some.i ≡ index_of c.args.id c.deref.result.now = c.in-Some.ensures in
-    omega (arith, index_of-below c.args.id c.deref.result.now c.in-Some.i n, c.deref.ensures.len)
-
-there : (g : _) (c : After-index g) → Found c.args.id c.args.self.now.rounds c.in-Some.i c.index.result.now
-there g c =
-    let v : c.self.inside.rounds.items ≡ c.args.self.now.rounds = ap (λ w. w.rounds) c.self.view_is in
-    let n : Some c.in-Some.i ≡ index_of c.args.id c.deref.result.now = c.in-Some.ensures in
-    let e : Some c.in-Some.i ≡ index_of c.args.id c.args.self.now.rounds = cc in
-    let p : c.index.result.now ≡ get_or c.args.self.now.rounds c.in-Some.i c.index.result.now = rw (← v) c.index.ensures in
-    found c.args.id c.args.self.now.rounds c.in-Some.i c.index.result.now e p
-
-pub returns-in-Some-refusal-clause-answer : goal.returns-in-Some-refusal-clause-answer
-returns-in-Some-refusal-clause-answer g c = λ _.
-    let f = there g (goal.at.returns-in-Some-refusal-clause-answer g c).After-index in
-    let why : stage_refusal c.index.result.now.program.stage ≡ Some c.in-Some-refusal.refusal = sym c.in-Some-refusal.ensures in
-    closed_answer (known g) c.args.self.now c.args.id c.index.result.now f.is c.in-Some-refusal.refusal why
-
-pub returns-in-Some-refusal-clause-state : goal.returns-in-Some-refusal-clause-state
-returns-in-Some-refusal-clause-state g c = λ _.
-    let f = there g (goal.at.returns-in-Some-refusal-clause-state g c).After-index in
-    let why : stage_refusal c.index.result.now.program.stage ≡ Some c.in-Some-refusal.refusal = sym c.in-Some-refusal.ensures in
-    closed_state (known g) c.args.self.now c.args.id c.index.result.now f.is c.in-Some-refusal.refusal why
-
-pub returns-in_err-step-clause-answer : goal.returns-in_err-step-clause-answer
-returns-in_err-step-clause-answer g c = λ goes.
-    let f = there g (goal.at.returns-in_err-step-clause-answer g c).After-index in
-    let none : stage_refusal c.index.result.now.program.stage ≡ None = sym c.in_default-refusal.ensures in
-    let is : c.from_residual.result ≡ Err c.in_err-step.field-0.0 = search rules in
-    let s : c.self.inside.snap ≡ c.args.self.now.snap = ap (λ w. w.snap) c.self.view_is in
-    let k : Err c.in_err-step.field-0.0 ≡ snap_told (known g) c.args.self.now c.args.id =
-    rw (← s) (c.in_err-step.ensures.answer (λ e. let same : c.in_err-step.field-0.0 ≡ NoMemory = cc in goes (is ∙ ap Err same))) in
-    is ∙ refused_answer (known g) c.args.self.now c.args.id c.index.result.now f.is c.in_err-step.field-0.0 none k
-
-pub returns-in_err-step-clause-no_memory : goal.returns-in_err-step-clause-no_memory
-returns-in_err-step-clause-no_memory g c = λ e.
-    let f = there g (goal.at.returns-in_err-step-clause-no_memory g c).After-index in
-    let none : stage_refusal c.index.result.now.program.stage ≡ None = sym c.in_default-refusal.ensures in
-    let is : c.from_residual.result ≡ Err c.in_err-step.field-0.0 = search rules in
-    let s : c.self.inside.snap ≡ c.args.self.now.snap = ap (λ w. w.snap) c.self.view_is in
-    let same : c.in_err-step.field-0.0 ≡ NoMemory = cc in
-    (open_refusal (known g) c.args.self.now c.args.id c.index.result.now f.is none, rw (← s) (c.in_err-step.ensures.no_memory (ap Err same)))
-
-pub index_mut-requires : goal.index_mut-requires
-index_mut-requires g c =
-    let n : Some c.in-Some.i ≡ index_of c.args.id c.deref.result.now = c.in-Some.ensures in
-    omega (arith, index_of-below c.args.id c.deref.result.now c.in-Some.i n, c.deref.ensures.len)
 
 pub returns-clause-answer : goal.returns-clause-answer
-returns-clause-answer g c = λ _.
-    let f = there g (goal.at.returns-clause-answer g c).After-index in
-    let none : stage_refusal c.index.result.now.program.stage ≡ None = sym c.in_default-refusal.ensures in
-    let s : c.self.inside.snap ≡ c.args.self.now.snap = ap (λ w. w.snap) c.self.view_is in
-    let l : c.self.inside.limit ≡ c.args.self.now.limit = ap (λ w. w.limit) c.self.view_is in
-    let k : Ok c.in_ok-step.field-0 ≡ snap_told (known g) c.args.self.now c.args.id =
-    rw (← s) (c.in_ok-step.ensures.answer (λ e. absurd (cc))) in
-    let follow : c.followed-follow.result ≡ followed c.index.result.now.program c.args.id c.in_ok-step.field-0 c.args.self.now.limit = rw (← l) c.followed-follow.ensures in
-    ap (λ (x : Follow). Ok x.reply) follow ∙ told_answer (known g) c.args.self.now c.args.id c.index.result.now f.is c.in_ok-step.field-0 none k
-
--- what the snapshot object has come to
-asked : (g : _) (c : After-ask g) → c.ask.new.snap ≡ after_wish (after_snap_step (known g) c.self.inside.snap c.args.id) c.args.id c.followed-follow.result.wish
-asked g c =
-    let stepped : c.step.new.self ≡ after_snap_step (known g) c.self.inside.snap c.args.id = c.in_ok-step.ensures.state (λ e. absurd (cc)) in
-    rw (← stepped) c.ask.ensures
-
-pub invariant_of-self-2 : goal.invariant_of-self-2
-invariant_of-self-2 g c =
-    let a = asked g (goal.at.invariant_of-self-2 g c).After-ask in
-    let l = step_large (known g) (record { snap = c.self.inside.snap; rounds = c.self.inside.rounds.items; limit = c.self.inside.limit }) c.args.id c.followed-follow.result.wish in
-    let most = l.most in
-    let many = l.many in
-    let old = c.self.invariant in
-    let size = length-set c.self.inside.rounds.items c.in-Some.i (record { identity = c.args.id; program = c.followed-follow.result.round; ended = false }) in
-    rw a (rw most old.0, rw most old.1, size ∙ old.2 ∙ sym many, rw (most, size) old.3)
+returns-clause-answer g c = rw (c.read_on.ensures.kept c.if-read_on.false) at c.take_other.ensures.answer
 
 pub returns-clause-state : goal.returns-clause-state
-returns-clause-state g c = λ _.
-    let f = there g (goal.at.returns-clause-state g c).After-index in
-    let a = asked g (goal.at.returns-clause-state g c).After-ask in
-    let none : stage_refusal c.index.result.now.program.stage ≡ None = sym c.in_default-refusal.ensures in
-    let s : c.self.inside.snap ≡ c.args.self.now.snap = ap (λ w. w.snap) c.self.view_is in
-    let l : c.self.inside.limit ≡ c.args.self.now.limit = ap (λ w. w.limit) c.self.view_is in
-    let v : c.self.inside.rounds.items ≡ c.args.self.now.rounds = ap (λ w. w.rounds) c.self.view_is in
-    let k : Ok c.in_ok-step.field-0 ≡ snap_told (known g) c.args.self.now c.args.id =
-    rw (← s) (c.in_ok-step.ensures.answer (λ e. absurd (cc))) in
-    let follow : c.followed-follow.result ≡ followed c.index.result.now.program c.args.id c.in_ok-step.field-0 c.args.self.now.limit = rw (← l) c.followed-follow.ensures in
-    let put : with_participant (beginner c.args.id c.followed-follow.result.round) c.args.self.now.rounds ≡ set c.args.self.now.rounds c.in-Some.i (beginner c.args.id c.followed-follow.result.round) = f.put (beginner c.args.id c.followed-follow.result.round) refl in
-    let end = told_state (known g) c.args.self.now c.args.id c.index.result.now f.is c.in_ok-step.field-0 none k in
-    rw (a, v, l, s) (rw (← put, follow) end)
+returns-clause-state g c = rw (c.read_on.ensures.kept c.if-read_on.false) at c.take_other.ensures.state
 
-pub returns-in_err-step-clause-state : goal.returns-in_err-step-clause-state
-returns-in_err-step-clause-state g c = λ goes.
-    let f = there g (goal.at.returns-in_err-step-clause-state g c).After-index in
-    let none : stage_refusal c.index.result.now.program.stage ≡ None = sym c.in_default-refusal.ensures in
-    let is : c.from_residual.result ≡ Err c.in_err-step.field-0.0 = search rules in
-    let s : c.self.inside.snap ≡ c.args.self.now.snap = ap (λ w. w.snap) c.self.view_is in
-    let k : Err c.in_err-step.field-0.0 ≡ snap_told (known g) c.args.self.now c.args.id = rw (← s) (c.in_err-step.ensures.answer (λ e. let same : c.in_err-step.field-0.0 ≡ NoMemory = cc in goes (is ∙ ap Err same))) in
-    let kept : c.step.new.self ≡ c.self.inside.snap = c.in_err-step.ensures.refused in
-    ap (λ z. record { snap = z; rounds = c.self.inside.rounds.items; limit = c.self.inside.limit }) kept ∙ c.self.view_is ∙ refused_state (known g) c.args.self.now c.args.id c.index.result.now f.is c.in_err-step.field-0.0 none k
+pub returns-clause-refused : goal.returns-clause-refused
+returns-clause-refused g c = rw (c.read_on.ensures.kept c.if-read_on.false) at c.take_other.ensures.refused
+
+pub returns-clause-no_memory : goal.returns-clause-no_memory
+returns-clause-no_memory g c = rw (c.read_on.ensures.kept c.if-read_on.false) at c.take_other.ensures.no_memory

@@ -1,15 +1,15 @@
-use Rattle.std.proofs.Common.{◌≡◌, Some, None, get_or, ap, ◌∙◌, arith}
+use Rattle.std.proofs.Common.{◌≡◌, Some, None, get_or, sym, ap, arith}
+use Rattle.std.specs.Prelude.{option_map}
 use Rattle.step_memory.specs.Participant.{index_of}
 use Rattle.step_memory.proofs.Found.{found, none-index_of, index_of-below}
-use Rattle.rename_core.proofs.StepCases.{no_name, own_name}
-use Rattle.rename_core.proofs.world.RenameWorld.round_name.Goals as goal
+use Rattle.rename_core.proofs.world.RenameWorld.round.Goals as goal
 
 pub returns-in_default : goal.returns-in_default
 returns-in_default g c =
     let v : c.self.inside.rounds.items ≡ c.args.self.now.rounds = ap (λ w. w.rounds) c.self.view_is in
     let n : None ≡ index_of c.args.id c.deref.result.now = c.in_default.ensures in
     let e : index_of c.args.id c.args.self.now.rounds ≡ None = cc in
-    no_name c.args.self.now c.args.id (none-index_of c.args.id c.args.self.now.rounds e)
+    sym (ap (option_map (λ p. p.program)) (none-index_of c.args.id c.args.self.now.rounds e))
 
 pub index-requires : goal.index-requires
 index-requires g c =
@@ -23,4 +23,4 @@ returns g c =
     let e : Some c.in-Some.i ≡ index_of c.args.id c.args.self.now.rounds = cc in
     let p : c.index.result.now ≡ get_or c.args.self.now.rounds c.in-Some.i c.index.result.now = rw (← v) c.index.ensures in
     let f = found c.args.id c.args.self.now.rounds c.in-Some.i c.index.result.now e p in
-    c.name.ensures ∙ own_name c.args.self.now c.args.id c.index.result.now f.is
+    sym (ap (option_map (λ p. p.program)) f.is)

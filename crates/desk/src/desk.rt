@@ -1,0 +1,100 @@
+//! A desk of either world.
+
+ghost use Rattle.std.specs.Prelude.{◌≡◌, ◌⊎◌, ◌↔◌, IfOk, IfErr, Err, false};
+ghost use Rattle.desk.specs.Desk.{gives_names, desk_rules, desk_refusal, owner_reply, IsFreshDesk};
+ghost use Rattle.desk.specs.Laws.{TellsOwners, RefusesAsSaid};
+ghost use Rattle.desk.specs.Rules.{may_by};
+
+use crate::event::Event;
+use crate::over::DeskOver;
+use crate::reply::Reply;
+use rename_core::Config;
+use snapshot_places::{Grid, TreePlaces};
+use std::alloc::Allocator;
+use std::marker::Model;
+use step_memory::Refusal;
+
+/// A desk over a grid, or one over a tree.
+#[derive(Drop)]
+enum Parts<G, T> {
+    Grid(G),
+    Tree(T),
+}
+
+/// One renaming world, over the places of a grid or of a tree, and slots over a pool.
+#[derive(Drop)]
+pub struct Desk<A: Allocator + Clone> {
+    parts: Parts<DeskOver<Grid<A>, A>, DeskOver<TreePlaces<A>, A>>,
+}
+
+impl<A: Allocator + Clone> Model for Desk<A> {
+    ghost use Rattle.std.specs.Coded.{codes, coded_ℕ};
+    ghost use Rattle.std.specs.FinMap as map;
+    ghost use Rattle.splitter_tree.specs.contracts.node_registers.NodeRegisters as registers;
+    ghost use Rattle.snapshot_places.specs.Tree.{tree_code};
+    ghost use Rattle.desk.specs.DeskValue.{DeskValue};
+
+    ghost Value = { DeskValue };
+
+    ghost coded = { Prim.hlevel (codes, tree_code (map.code coded_ℕ registers.the_row.coded)) };
+
+    ghost use Rattle.desk.specs.DeskParts.{value_of};
+
+    ghost view = { λ d. value_of d.parts };
+}
+
+impl<A: Allocator + Clone> Desk<A> {
+    /// A desk of this config on which nothing was done; each slot holds 0. `OutOfRange` where no names are given in the
+    /// config's world, and `NoMemory` where its room was refused, which is all taken here but for the nodes of a tree.
+    pub fn new(alloc: A, config: Config) -> Result<Self, Refusal>
+        ensures fresh { IfOk result (λ d. IsFreshDesk config d) }
+        ensures out_of_range { result ≡ Err Refusal.OutOfRange ↔ (gives_names config.world ≡ false) }
+        ensures only { IfErr result (λ why. (why ≡ Refusal.NoMemory) ⊎ (why ≡ Refusal.OutOfRange)) }
+    {
+        if config.world.is_tree() {
+            let parts = Parts::Tree(DeskOver::new(alloc, config)?);
+            return Ok(Desk { parts });
+        }
+        let parts = Parts::Grid(DeskOver::new(alloc, config)?);
+        Ok(Desk { parts })
+    }
+
+    /// Takes one event and answers it, by at most one access. A refusal changes nothing. Want of memory is answered only
+    /// where the step makes a node of a tree and nothing else is due; then the event may be asked again and is the same
+    /// event.
+    pub fn apply(&mut self, event: Event) -> Reply
+        ensures { may_by desk_rules self.old event result self.new }
+    {
+        match &mut self.parts {
+            Parts::Grid(desk) => desk.apply(event),
+            Parts::Tree(desk) => desk.apply(event),
+        }
+    }
+
+    /// Why an event would be refused, want of memory aside. It changes nothing.
+    pub fn refusal(&self, event: Event) -> Option<Refusal>
+        ensures value { result ≡ desk_refusal self.now event }
+
+        // After every list of calls it is what `apply` would answer.
+        ensures told { RefusesAsSaid self.now event }
+    {
+        match &self.parts {
+            Parts::Grid(desk) => desk.refusal(event),
+            Parts::Tree(desk) => desk.refusal(event),
+        }
+    }
+
+    /// Who has a name, or that nobody has it; `OutOfRange` unless the number is from 1 to 2m - 1, for m participants. It
+    /// changes nothing.
+    pub fn owner(&self, number: u64) -> Reply
+        ensures value { result ≡ owner_reply self.now number }
+
+        // It is who was given the name, among the exchanges of the events so far.
+        ensures told { TellsOwners self.now number result }
+    {
+        match &self.parts {
+            Parts::Grid(desk) => desk.owner(number),
+            Parts::Tree(desk) => desk.owner(number),
+        }
+    }
+}

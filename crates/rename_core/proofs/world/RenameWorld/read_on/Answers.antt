@@ -1,0 +1,84 @@
+use Rattle.std.proofs.Common.{rules, ◌≡◌, true, false, Some, None, Ok, get_or, set, refl, sym, ap, ◌∙◌, arith}
+use Rattle.std.specs.Prelude.{is_some}
+use Rattle.std.proofs.lemmas.List.{length-set}
+use Rattle.step_memory.specs.Participant.{index_of, with_participant, beginner}
+use Rattle.step_memory.proofs.Found.{Found, found, index_of-below}
+use Rattle.snapshot_core.specs.declared.client.SnapReply.TheVariants.{Quiet}
+use Rattle.snapshot_core.specs.SnapWorld.{after_snap_step}
+use Rattle.rename_core.specs.declared.round.Wish.TheVariants.{Nothing}
+use Rattle.rename_core.specs.Round.{stage_refusal}
+use Rattle.rename_core.specs.RenameWorld.{snap_told}
+use Rattle.rename_core.proofs.StepCases.{not_refused, told_answer, told_state, step_large}
+use Rattle.snapshot_core.specs.Places.{KnownPlaces, places_by}
+use Rattle.rename_core.proofs.world.RenameWorld.read_on.Given.{Over}
+use Rattle.rename_core.proofs.world.RenameWorld.read_on.Goals as goal
+use Rattle.rename_core.proofs.world.RenameWorld.read_on.Goals.{After-index, After-read_on}
+
+abbrev known : (g : Over) → KnownPlaces g.row.W.Denot g.row.W-Reg.Denot g.row.W-Value.Denot g.row.W-Walker.Denot g.row.W-Walk.Denot
+known g = places_by g.W.Walker.StepProgram.steps g.W.Walker.PlaceWalker.place_of g.W.Walk.SegmentWalk.walks g.W.StepMemory.steps g.W.Places.most_of g.W.Places.walker_from g.W.Places.walk_from g.W.Places.ties
+
+pub index-requires : goal.index-requires
+index-requires g c =
+    let n : Some c.in-Some.i ≡ index_of c.args.id c.deref.result.now = c.in-Some.ensures in
+    omega (arith, index_of-below c.args.id c.deref.result.now c.in-Some.i n, c.deref.ensures.len)
+
+there : (g : _) (c : After-index g) → Found c.args.id c.args.self.now.rounds c.in-Some.i c.index.result.now
+there g c =
+    let v : c.self.inside.rounds.items ≡ c.args.self.now.rounds = ap (λ w. w.rounds) c.self.view_is in
+    let n : Some c.in-Some.i ≡ index_of c.args.id c.deref.result.now = c.in-Some.ensures in
+    let e : Some c.in-Some.i ≡ index_of c.args.id c.args.self.now.rounds = cc in
+    let p : c.index.result.now ≡ get_or c.args.self.now.rounds c.in-Some.i c.index.result.now = rw (← v) c.index.ensures in
+    found c.args.id c.args.self.now.rounds c.in-Some.i c.index.result.now e p
+
+pub index_mut-requires : goal.index_mut-requires
+index_mut-requires g c =
+    let n : Some c.in-Some.i ≡ index_of c.args.id c.deref.result.now = c.in-Some.ensures in
+    omega (arith, index_of-below c.args.id c.deref.result.now c.in-Some.i n, c.deref.ensures.len)
+
+-- what the snapshot object has told, and come to
+record Goes (g : _) (c : After-read_on g) : Type 0 where
+  none : stage_refusal c.index.result.now.program.stage ≡ None
+  told : Ok Quiet ≡ snap_told (known g) c.args.self.now c.args.id
+  stepped : c.read_on.new.self ≡ after_snap_step (known g) c.args.self.now.snap c.args.id
+
+goes : (g : _) (c : After-read_on g) → c.read_on.result ≡ true → Goes g c
+goes g c read =
+    let s : c.self.inside.snap ≡ c.args.self.now.snap = ap (λ w. w.snap) c.self.view_is in
+    let open_yet : is_some (stage_refusal c.index.result.now.program.stage) ≡ false = search rules in
+    record {
+      none = not_refused (stage_refusal c.index.result.now.program.stage) open_yet;
+      told = sym (rw (← s) (c.read_on.ensures.answer read));
+      stepped = rw (← s) (c.read_on.ensures.state read);
+    }
+
+pub returns-clause-answer : goal.returns-clause-answer
+returns-clause-answer g c = λ _.
+    let f = there g (goal.at.returns-clause-answer g c).After-index in
+    let w = goes g (goal.at.returns-clause-answer g c).After-read_on c.if-not-read_on.false in
+    sym (told_answer (known g) c.args.self.now c.args.id c.index.result.now f.is Quiet w.none w.told)
+
+pub returns-clause-state : goal.returns-clause-state
+returns-clause-state g c = λ _.
+    let f = there g (goal.at.returns-clause-state g c).After-index in
+    let w = goes g (goal.at.returns-clause-state g c).After-read_on c.if-not-read_on.false in
+    let l : c.self.inside.limit ≡ c.args.self.now.limit = ap (λ w. w.limit) c.self.view_is in
+    let v : c.self.inside.rounds.items ≡ c.args.self.now.rounds = ap (λ w. w.rounds) c.self.view_is in
+    let put : with_participant (beginner c.args.id c.index.result.now.program) c.args.self.now.rounds ≡ set c.args.self.now.rounds c.in-Some.i (beginner c.args.id c.index.result.now.program) = f.put (beginner c.args.id c.index.result.now.program) refl in
+    let end = told_state (known g) c.args.self.now c.args.id c.index.result.now f.is Quiet w.none w.told in
+    rw (w.stepped, v, l) (rw (← put) end)
+
+pub invariant_of-self : goal.invariant_of-self
+invariant_of-self g c =
+    let kept : c.read_on.new.self ≡ c.self.inside.snap = c.read_on.ensures.kept c.if-not-read_on.true in
+    rw kept c.self.invariant
+
+pub invariant_of-self-2 : goal.invariant_of-self-2
+invariant_of-self-2 g c =
+    let w = goes g (goal.at.invariant_of-self-2 g c).After-read_on c.if-not-read_on.false in
+    let s : c.self.inside.snap ≡ c.args.self.now.snap = ap (λ w. w.snap) c.self.view_is in
+    let l = step_large (known g) c.args.self.now c.args.id Nothing in
+    let most = l.most in
+    let many = l.many in
+    let old = rw s at c.self.invariant in
+    let size = length-set c.self.inside.rounds.items c.in-Some.i (beginner c.args.id c.index.result.now.program) in
+    rw w.stepped (rw most old.0, rw most old.1, size ∙ old.2 ∙ sym many, rw (most, size) old.3)
