@@ -5,7 +5,7 @@ use Rattle.std.proofs.lemmas.List.{append-nil, take_more}
 use Rattle.memchr.specs.Find.{Nowhere, Passes, is_byte}
 use Rattle.schedule_player.specs.declared.bad.Bad.{Bad}
 use Rattle.schedule_player.specs.declared.command.Command.{Command}
-use Rattle.schedule_player.specs.declared.config.WorldKind.{WorldKind}
+use Rattle.rename_core.specs.declared.config.WorldKind.{WorldKind}
 use Rattle.std.proofs.lemmas.Bool.Decides.{nat_tests}
 use Rattle.std.specs.Prelude.{nat_lt}
 use Rattle.schedule_player.specs.declared.bad.Bad.TheVariants.{TooLong, NotPrintable}

@@ -1,19 +1,18 @@
 -- numbers and lines that are read in one pass
-use Rattle.std.proofs.Common.{◌≡◌, ℕ, zero, suc, ◌+◌, ◌-◌, ◌*◌, ◌^◌, ◌<◌, ◌≤◌, Bool, true, false, cond, eqb, List, [], ◌∷◌, ◌++◌, length, take, drop, get_or, subst, Some, None, Ok, refl, sym, ap, ◌∙◌, inl, inr, arith, append_assoc, length-append, add-one}
+use Rattle.std.proofs.Common.{◌≡◌, ℕ, zero, suc, ◌+◌, ◌-◌, ◌*◌, ◌^◌, ◌<◌, ◌≤◌, Bool, true, false, cond, not, eqb, List, [], ◌∷◌, ◌++◌, length, take, drop, get_or, subst, Some, None, Ok, refl, sym, ap, ◌∙◌, inl, inr, arith, append_assoc, length-append, add-one}
 use Rattle.std.specs.List.{list_all}
-use Rattle.std.specs.Prelude.{codes, nat_lt}
+use Rattle.std.specs.Prelude.{nat_lt}
 use Rattle.std.proofs.lemmas.List.{append-nil, take_more, take_all, length-take-le, length-drop}
 use Rattle.std.proofs.lemmas.List.Folds.{list_all-append}
 use Rattle.std.proofs.lemmas.Bool.Decides.{nat_tests, eqb_tells}
 use Rattle.std.proofs.Math.Nat.{pow-suc, pow-le-pow_right}
-use Rattle.schedule_player.specs.declared.config.WorldKind.{WorldKind}
-use Rattle.schedule_player.specs.declared.event.Event.TheVariants.{Begin, Step}
-use Rattle.schedule_player.specs.declared.command.Command.TheVariants as command
+use Rattle.rename_core.specs.declared.config.WorldKind.{WorldKind}
+use Rattle.schedule_player.specs.declared.command.Command.{Command}
 use Rattle.schedule_player.specs.Digits.{DigitsSoFar}
-use Rattle.schedule_player.specs.Quick.{IsNumberAtLf, IsFirstLine}
+use Rattle.schedule_player.specs.Quick.{IsNumberBefore, IsFirstLine}
 use Rattle.schedule_player.specs.Lines.{pieces_from}
-use Rattle.schedule_player.specs.Meaning.{meaning, number_in, is_digit, is_printable, decimal_from, if_fits}
-use Rattle.schedule_player.proofs.LineLemmas.{both}
+use Rattle.schedule_player.specs.Meaning.{meaning, words, command_of, number_in, is_digit, is_printable, decimal_from, if_fits}
+use Rattle.schedule_player.proofs.LineLemmas.{both, not_true}
 use Rattle.schedule_player.proofs.NumberLemmas.{if_fits-small}
 
 decimal_from-push : (n : ℕ) (xs : List ℕ) (x : ℕ) → decimal_from n (xs ++ x ∷ []) ≡ decimal_from n xs * 10 + (x - 48)
@@ -95,61 +94,132 @@ digits-printable (b ∷ bs) h =
     let parts = both (is_digit b) (list_all is_digit bs) h in
     rw (digit-printable b parts.0) (digits-printable bs parts.1)
 
-digits-one_word : (piece word : List ℕ) → list_all is_digit word ≡ true → pieces_from 32 piece word ≡ (piece ++ word) ∷ []
-digits-one_word piece [] h = ap (λ p. p ∷ []) (sym (append-nil piece))
-digits-one_word piece (b ∷ bs) h =
+abbrev pub no_space : List ℕ → Bool
+no_space word = list_all (λ b. not (eqb b 32)) word
+
+digits-no_space : (word : List ℕ) → list_all is_digit word ≡ true → no_space word ≡ true
+digits-no_space [] h = refl
+digits-no_space (b ∷ bs) h =
     let parts = both (is_digit b) (list_all is_digit bs) h in
-    rw (digit-no_space b parts.0) (digits-one_word (piece ++ b ∷ []) bs parts.1 ∙ simp append_assoc)
+    rw (digit-no_space b parts.0) (digits-no_space bs parts.1)
+
+-- what has no space is one word
+one_word : (piece word : List ℕ) → no_space word ≡ true → pieces_from 32 piece word ≡ (piece ++ word) ∷ []
+one_word piece [] h = ap (λ p. p ∷ []) (sym (append-nil piece))
+one_word piece (b ∷ bs) h =
+    let parts = both (not (eqb b 32)) (no_space bs) h in
+    rw (not_true (eqb b 32) parts.0) (one_word (piece ++ b ∷ []) bs parts.1 ∙ simp append_assoc)
+
+-- and a space ends it
+first_word : (piece word rest : List ℕ) → no_space word ≡ true → pieces_from 32 piece (word ++ 32 ∷ rest) ≡ (piece ++ word) ∷ words rest
+first_word piece [] rest h = ap (λ p. p ∷ words rest) (sym (append-nil piece))
+first_word piece (b ∷ bs) rest h =
+    let parts = both (not (eqb b 32)) (no_space bs) h in
+    rw (not_true (eqb b 32) parts.0) (first_word (piece ++ b ∷ []) bs rest parts.1 ∙ simp append_assoc)
 
 short-line : (n : ℕ) → n ≤ 100 → nat_lt 100 n ≡ false
 short-line n le = grind (arith, nat_tests)
 
-pub step-means : (world : WorldKind) (digits : List ℕ) (n : ℕ) → number_in digits ≡ Some n → length digits ≤ 20 → meaning world (codes "step " ++ digits) ≡ Ok (command.Event (Step n))
-step-means world digits n is few =
-    let d = number-digits digits n is in
-    rw (short-line (length (codes "step " ++ digits)) (omega arith), digits-printable digits d, digits-one_word [] digits d, is) refl
+-- a line of a word and others means what these words mean
+line-means : (world : WorldKind) (word others : List ℕ) → length word ≤ 5 → list_all is_printable word ≡ true → no_space word ≡ true → length others ≤ 41 → list_all is_printable others ≡ true →
+    meaning world (word ++ 32 ∷ others) ≡ command_of world word (words others)
+line-means world word others short plain whole few printable =
+    let all : list_all is_printable (word ++ 32 ∷ others) ≡ true = list_all-append is_printable word (32 ∷ others) ∙ rw (plain, printable) refl in
+    rw (short-line (length (word ++ 32 ∷ others)) (omega (arith, length-append word (32 ∷ others))), all, first_word [] word others whole) refl
 
-pub begin-means : (world : WorldKind) (digits : List ℕ) (n : ℕ) → number_in digits ≡ Some n → length digits ≤ 20 → meaning world (codes "begin " ++ digits) ≡ Ok (command.Event (Begin n))
-begin-means world digits n is few =
+-- of one number
+pub one-means : (world : WorldKind) (word digits : List ℕ) (n : ℕ) → length word ≤ 5 → list_all is_printable word ≡ true → no_space word ≡ true → number_in digits ≡ Some n → length digits ≤ 20 →
+    meaning world (word ++ 32 ∷ digits) ≡ command_of world word (digits ∷ [])
+one-means world word digits n short plain whole is few =
     let d = number-digits digits n is in
-    rw (short-line (length (codes "begin " ++ digits)) (omega arith), digits-printable digits d, digits-one_word [] digits d, is) refl
+    line-means world word digits short plain whole (omega arith) (digits-printable digits d) ∙ ap (command_of world word) (one_word [] digits (digits-no_space digits d))
+
+-- of two
+pub two-means : (world : WorldKind) (word one other : List ℕ) (m n : ℕ) → length word ≤ 5 → list_all is_printable word ≡ true → no_space word ≡ true →
+    number_in one ≡ Some m → length one ≤ 20 → number_in other ≡ Some n → length other ≤ 20 →
+    meaning world (word ++ 32 ∷ (one ++ 32 ∷ other)) ≡ command_of world word (one ∷ other ∷ [])
+two-means world word one other m n short plain whole is few is2 few2 =
+    let d = number-digits one m is in
+    let d2 = number-digits other n is2 in
+    let all : list_all is_printable (one ++ 32 ∷ other) ≡ true = list_all-append is_printable one (32 ∷ other) ∙ rw (digits-printable one d, digits-printable other d2) refl in
+    line-means world word (one ++ 32 ∷ other) short plain whole (omega (arith, length-append one (32 ∷ other))) all
+    ∙ ap (command_of world word) (first_word [] one other (digits-no_space one d) ∙ ap (λ ws. one ∷ ws) (one_word [] other (digits-no_space other d2)))
+
+-- past a beginning
+take-past : (head rest : List ℕ) (n : ℕ) → take (length head + n) (head ++ rest) ≡ head ++ take n rest
+take-past [] rest n = ap (λ k. take k rest) (omega arith)
+take-past (b ∷ head) rest n =
+    let one : length (b ∷ head) + n ≡ suc (length head + n) = omega arith in
+    rw one (ap (λ l. b ∷ l) (take-past head rest n))
+
+at-past : (head rest : List ℕ) (n : ℕ) → get_or (head ++ rest) (length head + n) 0 ≡ get_or rest n 0
+at-past [] rest n = ap (λ k. get_or rest k 0) (omega arith)
+at-past (b ∷ head) rest n =
+    let one : length (b ∷ head) + n ≡ suc (length head + n) = omega arith in
+    rw one (at-past head rest n)
+
+-- the first line ends at the first LF past its beginning
+pub first_line : (world : WorldKind) (head rest : List ℕ) (command : Command) (count end : ℕ) → end ≡ length head + count → count < length rest → get_or rest count 0 ≡ 10 → meaning world (head ++ take count rest) ≡ Ok command →
+    IsFirstLine world (head ++ rest) command end
+first_line world head rest command count end is lt lf means =
+    rw is (record {
+      inside = omega (arith, length-append head rest);
+      ends = at-past head rest count ∙ lf;
+      means = ap (meaning world) (take-past head rest count) ∙ means;
+    })
 
 -- a word's bytes and the others
-five : (bytes : List ℕ) (a b c d e : ℕ) → 5 ≤ length bytes → get_or bytes 0 0 ≡ a → get_or bytes 1 0 ≡ b → get_or bytes 2 0 ≡ c → get_or bytes 3 0 ≡ d → get_or bytes 4 0 ≡ e → bytes ≡ (a ∷ b ∷ c ∷ d ∷ e ∷ []) ++ drop 5 bytes
-five (v ∷ w ∷ x ∷ y ∷ z ∷ bs) a b c d e le ea eb ec ed ee = rw (ea, eb, ec, ed, ee) refl
-five _ a b c d e le ea eb ec ed ee = absurd (omega arith)
+pub four_and_more : (bytes : List ℕ) (a b c d : ℕ) → 4 ≤ length bytes → get_or bytes 0 0 ≡ a → get_or bytes 1 0 ≡ b → get_or bytes 2 0 ≡ c → get_or bytes 3 0 ≡ d → bytes ≡ a ∷ b ∷ c ∷ d ∷ drop 4 bytes
+four_and_more (w ∷ x ∷ y ∷ z ∷ bs) a b c d le ea eb ec ed = rw (ea, eb, ec, ed) refl
+four_and_more _ a b c d le ea eb ec ed = absurd (omega arith)
 
-six : (bytes : List ℕ) (a b c d e f : ℕ) → 6 ≤ length bytes → get_or bytes 0 0 ≡ a → get_or bytes 1 0 ≡ b → get_or bytes 2 0 ≡ c → get_or bytes 3 0 ≡ d → get_or bytes 4 0 ≡ e → get_or bytes 5 0 ≡ f → bytes ≡ (a ∷ b ∷ c ∷ d ∷ e ∷ f ∷ []) ++ drop 6 bytes
-six (u ∷ v ∷ w ∷ x ∷ y ∷ z ∷ bs) a b c d e f le ea eb ec ed ee ef = rw (ea, eb, ec, ed, ee, ef) refl
-six _ a b c d e f le ea eb ec ed ee ef = absurd (omega arith)
+pub five_and_more : (bytes : List ℕ) (a b c d e : ℕ) → 5 ≤ length bytes → get_or bytes 0 0 ≡ a → get_or bytes 1 0 ≡ b → get_or bytes 2 0 ≡ c → get_or bytes 3 0 ≡ d → get_or bytes 4 0 ≡ e → bytes ≡ a ∷ b ∷ c ∷ d ∷ e ∷ drop 5 bytes
+five_and_more (v ∷ w ∷ x ∷ y ∷ z ∷ bs) a b c d e le ea eb ec ed ee = rw (ea, eb, ec, ed, ee) refl
+five_and_more _ a b c d e le ea eb ec ed ee = absurd (omega arith)
 
--- the line of a word and a number
-pub first_step : (world : WorldKind) (bytes : List ℕ) (value count : ℕ) → 5 ≤ length bytes → get_or bytes 0 0 ≡ 115 → get_or bytes 1 0 ≡ 116 → get_or bytes 2 0 ≡ 101 → get_or bytes 3 0 ≡ 112 → get_or bytes 4 0 ≡ 32 →
-    IsNumberAtLf (take (length bytes - 5) (drop 5 bytes)) value count → IsFirstLine world bytes (command.Event (Step value)) (count + 5)
-first_step world bytes value count le b0 b1 b2 b3 b4 n =
-    let whole : take (length bytes - 5) (drop 5 bytes) ≡ drop 5 bytes = take_all (length bytes - 5) (drop 5 bytes) (omega (arith, length-drop 5 bytes)) in
-    let m = rw whole at n in
-    let all = five bytes 115 116 101 112 32 le b0 b1 b2 b3 b4 in
-    let long = ap length all in
-    let inside = m.inside in
-    let later : count + 5 ≡ suc (suc (suc (suc (suc count)))) = omega arith in
-    record {
-      inside = omega (arith, length-append (codes "step ") (drop 5 bytes));
-      ends = rw later (subst (λ (l : List ℕ). get_or l (suc (suc (suc (suc (suc count))))) 0 ≡ 10) (sym all) m.ends);
-      means = rw later (subst (λ (l : List ℕ). meaning world (take (suc (suc (suc (suc (suc count))))) l) ≡ Ok (command.Event (Step value))) (sym all) (step-means world (take count (drop 5 bytes)) value m.number (omega (arith, m.few, length-take-le count (drop 5 bytes)))));
-    }
+pub six_and_more : (bytes : List ℕ) (a b c d e f : ℕ) → 6 ≤ length bytes → get_or bytes 0 0 ≡ a → get_or bytes 1 0 ≡ b → get_or bytes 2 0 ≡ c → get_or bytes 3 0 ≡ d → get_or bytes 4 0 ≡ e → get_or bytes 5 0 ≡ f → bytes ≡ a ∷ b ∷ c ∷ d ∷ e ∷ f ∷ drop 6 bytes
+six_and_more (u ∷ v ∷ w ∷ x ∷ y ∷ z ∷ bs) a b c d e f le ea eb ec ed ee ef = rw (ea, eb, ec, ed, ee, ef) refl
+six_and_more _ a b c d e f le ea eb ec ed ee ef = absurd (omega arith)
 
-pub first_begin : (world : WorldKind) (bytes : List ℕ) (value count : ℕ) → 6 ≤ length bytes → get_or bytes 0 0 ≡ 98 → get_or bytes 1 0 ≡ 101 → get_or bytes 2 0 ≡ 103 → get_or bytes 3 0 ≡ 105 → get_or bytes 4 0 ≡ 110 → get_or bytes 5 0 ≡ 32 →
-    IsNumberAtLf (take (length bytes - 6) (drop 6 bytes)) value count → IsFirstLine world bytes (command.Event (Begin value)) (count + 6)
-first_begin world bytes value count le b0 b1 b2 b3 b4 b5 n =
-    let whole : take (length bytes - 6) (drop 6 bytes) ≡ drop 6 bytes = take_all (length bytes - 6) (drop 6 bytes) (omega (arith, length-drop 6 bytes)) in
-    let m = rw whole at n in
-    let all = six bytes 98 101 103 105 110 32 le b0 b1 b2 b3 b4 b5 in
-    let long = ap length all in
-    let inside = m.inside in
-    let later : count + 6 ≡ suc (suc (suc (suc (suc (suc count))))) = omega arith in
-    record {
-      inside = omega (arith, length-append (codes "begin ") (drop 6 bytes));
-      ends = rw later (subst (λ (l : List ℕ). get_or l (suc (suc (suc (suc (suc (suc count)))))) 0 ≡ 10) (sym all) m.ends);
-      means = rw later (subst (λ (l : List ℕ). meaning world (take (suc (suc (suc (suc (suc (suc count)))))) l) ≡ Ok (command.Event (Begin value))) (sym all) (begin-means world (take count (drop 6 bytes)) value m.number (omega (arith, m.few, length-take-le count (drop 6 bytes)))));
-    }
+-- the bytes past a beginning, as a slice gives them
+pub rest_of-slice : (bytes : List ℕ) (n : ℕ) → n ≤ length bytes → take (length bytes - n) (drop n bytes) ≡ drop n bytes
+rest_of-slice bytes n le = take_all (length bytes - n) (drop n bytes) (omega (arith, length-drop n bytes))
+
+-- the line of a word and a number, where these bytes are a word with its space and others
+pub first_of_one : (world : WorldKind) (word bytes rest : List ℕ) (command : ℕ → Command) (value count end : ℕ) → bytes ≡ word ++ 32 ∷ rest → end ≡ suc (length word) + count →
+    length word ≤ 5 → list_all is_printable word ≡ true → no_space word ≡ true → ((digits : List ℕ) → number_in digits ≡ Some value → command_of world word (digits ∷ []) ≡ Ok (command value)) →
+    IsNumberBefore 10 rest value count → IsFirstLine world bytes (command value) end
+first_of_one world word bytes rest command value count end split end_is short plain whole means n =
+    let head : List ℕ = word ++ 32 ∷ [] in
+    let joined : head ++ rest ≡ bytes = append_assoc word (32 ∷ []) rest ∙ sym split in
+    let long : end ≡ length head + count = end_is ∙ omega (arith, length-append word (32 ∷ [])) in
+    let digits : List ℕ = take count rest in
+    let few : length digits ≤ 20 = omega (arith, n.few, length-take-le count rest) in
+    let said : meaning world (head ++ digits) ≡ Ok (command value) = ap (meaning world) (append_assoc word (32 ∷ []) digits) ∙ one-means world word digits value short plain whole n.number few ∙ means digits n.number in
+    subst (λ (l : List ℕ). IsFirstLine world l (command value) end) joined (first_line world head rest (command value) count end long n.inside n.ends said)
+
+split_at : (rest : List ℕ) (i x : ℕ) → i < length rest → get_or rest i 0 ≡ x → take i rest ++ x ∷ drop (suc i) rest ≡ rest
+split_at [] i x lt is = absurd (omega arith)
+split_at (b ∷ bs) zero x lt is = ap (λ y. y ∷ bs) (sym is)
+split_at (b ∷ bs) (suc i) x lt is = ap (λ l. b ∷ l) (split_at bs i x (omega arith) is)
+
+-- the line of a word and two numbers
+pub first_of_two : (world : WorldKind) (word bytes rest : List ℕ) (command : Command) (one other first second end : ℕ) → bytes ≡ word ++ 32 ∷ rest → end ≡ suc (length word) + (suc first + second) →
+    length word ≤ 5 → list_all is_printable word ≡ true → no_space word ≡ true →
+    ((m n : List ℕ) → number_in m ≡ Some one → number_in n ≡ Some other → command_of world word (m ∷ n ∷ []) ≡ Ok command) →
+    IsNumberBefore 32 rest one first → IsNumberBefore 10 (drop (suc first) rest) other second → IsFirstLine world bytes command end
+first_of_two world word bytes rest command one other first second end split end_is short plain whole means a b =
+    let m : List ℕ = take first rest in
+    let past : List ℕ = drop (suc first) rest in
+    let n : List ℕ = take second past in
+    let head : List ℕ = word ++ 32 ∷ (m ++ 32 ∷ []) in
+    let parted : m ++ 32 ∷ past ≡ rest = split_at rest first 32 a.inside a.ends in
+    let joined : head ++ past ≡ bytes =
+    append_assoc word (32 ∷ (m ++ 32 ∷ [])) past ∙ ap (λ l. word ++ 32 ∷ l) (append_assoc m (32 ∷ []) past ∙ parted) ∙ sym split in
+    let m_long : length m ≡ first = length-take-le first rest (let inside = a.inside in omega arith) in
+    let long : end ≡ length head + second = end_is ∙ omega (arith, length-append word (32 ∷ (m ++ 32 ∷ [])), length-append m (32 ∷ []), m_long) in
+    let said : meaning world (head ++ n) ≡ Ok command =
+    ap (meaning world) (append_assoc word (32 ∷ (m ++ 32 ∷ [])) n ∙ ap (λ l. word ++ 32 ∷ l) (append_assoc m (32 ∷ []) n))
+    ∙ two-means world word m n one other short plain whole a.number (omega (arith, a.few)) b.number (omega (arith, b.few, length-take-le second past))
+    ∙ means m n a.number b.number in
+    subst (λ (l : List ℕ). IsFirstLine world l command end) joined (first_line world head past command second end long b.inside b.ends said)

@@ -1,15 +1,32 @@
--- runs by the kind of world
+-- runs and talks by the kind of world
 use Rattle.std.specs.Prelude.{List}
-use Rattle.schedule_player.specs.declared.config.Config.{Config}
-use Rattle.schedule_player.specs.declared.config.WorldKind.{WorldKind}
-use Rattle.schedule_player.specs.declared.config.WorldKind.TheVariants.{Splitter, Grid}
-use Rattle.schedule_player.specs.declared.exchange.Exchange.{Exchange}
-use Rattle.schedule_player.specs.Runs.{IsRunOf}
-use Rattle.schedule_player.specs.Worlds.{may_by, splitter_rules, splitter_fresh, IsSplitterRun, grid_rules, grid_fresh, IsGridRun}
+use Rattle.rename_core.specs.declared.config.Config.{Config}
+use Rattle.rename_core.specs.declared.config.WorldKind.{WorldKind}
+use Rattle.rename_core.specs.declared.config.WorldKind.TheVariants.{Splitter, Grid, Rename, Tree}
+use Rattle.desk.specs.declared.exchange.Exchange.{Exchange}
+use Rattle.desk.specs.Desk.{IsFreshDesk}
+use Rattle.desk.specs.DeskRun.{IsDeskRunOf}
+use Rattle.schedule_player.specs.DeskWorld.{DeskWorldMay}
+use Rattle.schedule_player.specs.Talks.{IsTalkOf}
+use Rattle.schedule_player.specs.Turns.{Turn}
+use Rattle.schedule_player.specs.Visits.{visit_may}
+use Rattle.schedule_player.specs.Worlds.{splitter_rules, splitter_fresh, IsSplitterRun, grid_rules, grid_fresh, IsGridRun}
 
+-- what exchanges are a run
 abbrev pub IsRunByKind : WorldKind → Config → List Exchange → Type 0
-IsRunByKind Splitter config r = IsRunOf (IsSplitterRun config) (splitter_fresh config) (may_by splitter_rules) r
-IsRunByKind Grid config r = IsRunOf (IsGridRun config) (grid_fresh config) (may_by grid_rules) r
+IsRunByKind Splitter config r = IsSplitterRun r
+IsRunByKind Grid config r = IsGridRun r
+IsRunByKind Rename config r = IsDeskRunOf config r
+IsRunByKind Tree config r = IsDeskRunOf config r
 
 abbrev pub IsRun : Config → List Exchange → Type 0
 IsRun config r = IsRunByKind config.world config r
+
+abbrev pub IsTalkByKind : WorldKind → Config → List Turn → Type 0
+IsTalkByKind Splitter config ts = IsTalkOf IsSplitterRun config.m (splitter_fresh config) (visit_may splitter_rules) ts
+IsTalkByKind Grid config ts = IsTalkOf IsGridRun config.m (grid_fresh config) (visit_may grid_rules) ts
+IsTalkByKind Rename config ts = IsTalkOf (IsDeskRunOf config) config.m (IsFreshDesk config) DeskWorldMay ts
+IsTalkByKind Tree config ts = IsTalkOf (IsDeskRunOf config) config.m (IsFreshDesk config) DeskWorldMay ts
+
+abbrev pub IsTalk : Config → List Turn → Type 0
+IsTalk config ts = IsTalkByKind config.world config ts

@@ -1,20 +1,23 @@
--- the rules of the tests' worlds
-use Rattle.std.specs.Prelude.{◌≡◌, ℕ, ◌+◌, true, ◌⊎◌, List}
-use Rattle.schedule_player.specs.declared.config.Config.{Config}
-use Rattle.schedule_player.specs.declared.exchange.Exchange.{Exchange}
-use Rattle.schedule_player.specs.declared.reply.Reply.{Reply}
-use Rattle.schedule_player.specs.declared.reply.Reply.TheVariants as reply
-use Rattle.schedule_player.specs.Runs.{Runs}
-use Rattle.schedule_player.specs.Worlds.{Rules, may_by}
+-- the rules of the tests' services
+use Rattle.std.specs.Prelude.{◌≡◌, ℕ, ◌+◌, ◌⊎◌, List, [], ◌∷◌, None}
+use Rattle.step_memory.specs.declared.refusal.Refusal.TheVariants as refusal
+use Rattle.desk.specs.declared.exchange.Exchange.{Exchange}
+use Rattle.desk.specs.declared.reply.Reply.{Reply}
+use Rattle.desk.specs.declared.reply.Reply.TheVariants as reply
+use Rattle.schedule_player.specs.Requests.{Request}
+use Rattle.schedule_player.specs.Requests.Request.{Take, OwnerOf}
 
 -- a shelf, by how many events it took: it takes each, and may be refused memory for each
-abbrev pub shelf_rules : Rules ℕ
-shelf_rules = record { reply = λ w e. reply.Ok; after = λ w e. w + 1; grows = λ w e. true }
+abbrev pub ShelfMay : ℕ → Request → Reply → ℕ → Type 0
+ShelfMay w (Take e) r u = ((r ≡ reply.Ok) × (u ≡ w + 1)) ⊎ ((r ≡ reply.Refused refusal.NoMemory) × (u ≡ w))
+ShelfMay w (OwnerOf n) r u = ⊥
 
--- from an empty shelf
-abbrev pub IsShelfRun : Config → List Exchange → Type 0
-IsShelfRun c r = (u : ℕ) × Runs (may_by shelf_rules) 0 r u
+-- so each reply is one of these
+abbrev pub IsShelfRun : List Exchange → Type 0
+IsShelfRun [] = Unit {0}
+IsShelfRun (x ∷ r) = ((x.reply ≡ reply.Ok) ⊎ (x.reply ≡ reply.Refused refusal.NoMemory)) × IsShelfRun r
 
--- a coin says either
-abbrev pub IsSide : Reply → Type 0
-IsSide r = (r ≡ reply.Stop) ⊎ (r ≡ reply.Right)
+-- a coin says either side, and that nobody has a name
+abbrev pub IsSide : Request → Reply → Type 0
+IsSide (Take e) r = (r ≡ reply.Stop) ⊎ (r ≡ reply.Right)
+IsSide (OwnerOf n) r = r ≡ reply.Owner None

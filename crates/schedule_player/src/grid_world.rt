@@ -1,53 +1,64 @@
 //! A grid's world answers events.
 
-ghost use Rattle.std.specs.Prelude.{◌≡◌, true};
-ghost use Rattle.schedule_player.specs.declared.config.WorldKind.TheVariants as kind;
-ghost use Rattle.schedule_player.specs.Worlds.{grid_rules, may_by, IsGridRun, grid_fresh};
-ghost use Rattle.schedule_player.specs.WorldLaws.{grid_lawful, one_by_rules, answers_by, one_grid_fresh};
+ghost use Rattle.std.specs.Prelude.{◌≡◌, true, false};
+ghost use Rattle.rename_core.specs.declared.config.WorldKind.TheVariants as kind;
+ghost use Rattle.schedule_player.specs.Kinds.{is_grid, grid_meant};
+ghost use Rattle.schedule_player.specs.Visits.{visit_may, knows_visits};
+ghost use Rattle.schedule_player.specs.VisitLaws.{visit_answers, one_visit, visits_tell};
+ghost use Rattle.schedule_player.specs.Worlds.{grid_rules, IsGridRun, grid_fresh};
+ghost use Rattle.schedule_player.specs.WorldLaws.{grid_lawful, one_grid_fresh};
 
-use crate::config::{Config, WorldKind};
-use crate::event::Event;
-use crate::reply::Reply;
-use crate::respond::{Respond, World};
+use crate::outcomes::{begin_reply, walk_reply};
+use crate::service::Service;
+use crate::world::World;
+use desk::{Event, Reply};
+use rename_core::Config;
 use splitter_grid::GridWorld;
 use std::alloc::Allocator;
 use step_memory::Refusal;
 
-impl<A: Allocator + Clone, R> Respond<R> for GridWorld<A> {
-    ghost knows = { λ e. true };
+impl<A: Allocator + Clone, R> Service<R> for GridWorld<A> {
+    ghost knows = { knows_visits };
 
-    ghost may = { may_by grid_rules };
+    ghost may = { visit_may grid_rules };
 
-    ghost answers = { answers_by grid_rules (λ e. true) };
+    ghost answers = { visit_answers grid_rules };
 
-    fn respond(&mut self, _rt: &R, event: Event) -> Reply {
+    fn apply(&mut self, _rt: &R, event: Event) -> Reply {
         match event {
-            Event::Begin(id) => Reply::of_begin(self.begin(id)),
-            Event::Step(id) => Reply::of_walk(self.step(id)),
+            Event::Begin(id) => begin_reply(self.begin(id)),
+            Event::Step(id) => walk_reply(self.step(id)),
+            Event::Enter(_)
+            | Event::Probe(_)
+            | Event::Leave(_)
+            | Event::Put(_, _)
+            | Event::Get(_) => unreachable!(),
         }
+    }
+
+    fn owner(&mut self, _rt: &R, _n: u64) -> Reply {
+        unreachable!()
     }
 }
 
 impl<A: Allocator + Clone, R> World<A, R> for GridWorld<A> {
-    ghost KIND = { kind.Grid };
-
-    const KIND: WorldKind = WorldKind::Grid;
+    ghost serves = { is_grid };
 
     ghost fresh = { grid_fresh };
 
-    ghost IsRunIn = { IsGridRun };
+    ghost IsRunIn = { λ c. IsGridRun };
 
     fn open(alloc: A, config: Config) -> Result<Self, Refusal> {
         GridWorld::new(alloc, config.m as usize)
     }
 
-    ghost use Rattle.std.proofs.Common.{refl};
-
-    ghost meant = { λ line e h. refl };
+    ghost meant = { grid_meant };
 
     ghost lawful = { grid_lawful };
 
+    ghost tells = { λ c w u ts fresh. visits_tell grid_rules c.m w u ts };
+
     ghost one_fresh = { one_grid_fresh };
 
-    ghost one_reply = { one_by_rules grid_rules };
+    ghost one_reply = { λ w u v q a b x y na nb. one_visit grid_rules w u v q a b x y };
 }

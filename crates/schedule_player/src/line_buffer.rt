@@ -6,8 +6,8 @@ ghost use Rattle.schedule_player.specs.Meaning.{meaning};
 
 use crate::bad::Bad;
 use crate::command::Command;
-use crate::config::WorldKind;
 use crate::parse::{LINE_MAX, parse_line};
+use rename_core::WorldKind;
 use std::alloc::Allocator;
 use std::marker::Model;
 use step_memory::NoMemory;
@@ -96,7 +96,7 @@ impl<A: Allocator> LineBuffer<A> {
 #[cfg(test)]
 mod tests {
     use super::*;
-    use crate::event::Event;
+    use desk::Event;
     use std::test::Fail;
 
     #[test]

@@ -11,18 +11,18 @@ ghost use Rattle.schedule_player.specs.declared.print.TheConstants.{REPLY_ROOM};
 
 use crate::bad::Bad;
 use crate::command::Command;
-use crate::config::WorldKind;
 use crate::fault::Fault;
 use crate::line_buffer::LineBuffer;
 use crate::parse::parse_line;
 use crate::print::{REPLY_ROOM, print_bad, print_reply};
 use crate::quick::quick_command;
 use crate::replies::{HELD_REPLIES, Replies};
-use crate::reply::Reply;
-use crate::respond::Respond;
+use crate::service::Service;
 use crate::sink::{Sink, put_all};
 use crate::summary::Summary;
+use desk::Reply;
 use memchr::memchr;
+use rename_core::WorldKind;
 use std::alloc::Allocator;
 use std::marker::Model;
 use step_memory::NoMemory;
@@ -109,7 +109,7 @@ impl<A: Allocator> Player<A> {
 
     /// Answers what a line means, counts the answer and holds its text. `quit` ends the run.
     #[inline(always)]
-    fn answer<R, D: Respond<R>>(&mut self, rt: &R, world: &mut D, meaning: Result<Command, Bad>)
+    fn answer<R, D: Service<R>>(&mut self, rt: &R, world: &mut D, meaning: Result<Command, Bad>)
         requires knows { KnowsMeant D.knows meaning }
         requires room { length self.old.replies + REPLY_ROOM ≤ HELD_REPLIES }
         requires count { self.old.summary.lines + 1 < 2 ^ 64 }
@@ -119,10 +119,8 @@ impl<A: Allocator> Player<A> {
         ensures counted { self.new.summary.lines ≡ self.old.summary.lines + 1 }
     {
         match meaning {
-            Ok(Command::Event(event)) => {
-                let reply = world.respond(rt, event);
-                self.hold(&reply);
-            }
+            Ok(Command::Event(event)) => self.hold(&world.apply(rt, event)),
+            Ok(Command::Owner(n)) => self.hold(&world.owner(rt, n)),
             Ok(Command::Quit) => {
                 self.over = true;
                 self.hold(&Reply::Ok);
@@ -132,7 +130,7 @@ impl<A: Allocator> Player<A> {
     }
 
     /// Answers the line so far, which is whole, and begins the next.
-    fn answer_line<R, D: Respond<R>>(&mut self, rt: &R, world: &mut D)
+    fn answer_line<R, D: Service<R>>(&mut self, rt: &R, world: &mut D)
         requires knows { Knows D.knows self.old.kind }
         requires room { length self.old.replies + REPLY_ROOM ≤ HELD_REPLIES }
         requires count { self.old.summary.lines + 1 < 2 ^ 64 }
@@ -149,7 +147,7 @@ impl<A: Allocator> Player<A> {
     /// Takes the first line of these bytes with its LF, or all of them where none ends, and says how many bytes it took.
     /// After `quit` nothing is acted on.
     #[inline(never)]
-    fn take<R, D: Respond<R>>(&mut self, rt: &R, world: &mut D, bytes: &[u8]) -> usize
+    fn take<R, D: Service<R>>(&mut self, rt: &R, world: &mut D, bytes: &[u8]) -> usize
         requires knows { Knows D.knows self.old.kind }
         requires room { length self.old.replies + REPLY_ROOM ≤ HELD_REPLIES }
         requires count { self.old.summary.lines + 1 < 2 ^ 64 }
@@ -174,7 +172,7 @@ impl<A: Allocator> Player<A> {
 
     /// As `take`, where the run goes on, for any line: one that lies whole in these bytes is read where it lies.
     #[inline(never)]
-    fn take_slowly<R, D: Respond<R>>(&mut self, rt: &R, world: &mut D, bytes: &[u8]) -> usize
+    fn take_slowly<R, D: Service<R>>(&mut self, rt: &R, world: &mut D, bytes: &[u8]) -> usize
         requires knows { Knows D.knows self.old.kind }
         requires room { length self.old.replies + REPLY_ROOM ≤ HELD_REPLIES }
         requires count { self.old.summary.lines + 1 < 2 ^ 64 }
@@ -236,7 +234,7 @@ impl<A: Allocator> Player<A> {
     }
 
     /// Takes bytes that were read, and writes their replies.
-    pub fn feed<R, D: Respond<R>, W: Sink>(
+    pub fn feed<R, D: Service<R>, W: Sink>(
         &mut self,
         rt: &R,
         world: &mut D,
@@ -267,7 +265,7 @@ impl<A: Allocator> Player<A> {
     }
 
     /// Takes the end of the input, where what stands with no LF is a line too, and writes the last reply.
-    pub fn finish<R, D: Respond<R>, W: Sink>(
+    pub fn finish<R, D: Service<R>, W: Sink>(
         &mut self,
         rt: &R,
         world: &mut D,
@@ -291,7 +289,7 @@ impl<A: Allocator> Player<A> {
     }
 
     /// Answers what stands before the end of the input with no LF, if it is not empty.
-    fn end_line<R, D: Respond<R>>(&mut self, rt: &R, world: &mut D)
+    fn end_line<R, D: Service<R>>(&mut self, rt: &R, world: &mut D)
         requires knows { Knows D.knows self.old.kind }
         requires room { length self.old.replies + REPLY_ROOM ≤ HELD_REPLIES }
         requires count { self.old.summary.lines + 1 < 2 ^ 64 }

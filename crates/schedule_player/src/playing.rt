@@ -1,23 +1,29 @@
 //! Runs of a world, from a reader to a writer.
 
-ghost use Rattle.std.specs.Prelude.{◌≡◌, ◌≢◌, Err, ℕ, ◌+◌, ◌^◌, ◌<◌, List, [], length, Option};
-ghost use Rattle.schedule_player.specs.IsRun.{IsRun};
+ghost use Rattle.std.specs.Prelude.{◌≡◌, ◌≢◌, true, Err, ℕ, ◌+◌, ◌^◌, ◌<◌, List, [], length, Option, IfOk, IfErr};
+ghost use Rattle.desk.specs.Desk.{gives_names};
+ghost use Rattle.schedule_player.specs.Granted.{granted};
+ghost use Rattle.schedule_player.specs.IsRun.{IsTalk};
 ghost use Rattle.schedule_player.specs.Knows.{Knows};
 ghost use Rattle.schedule_player.specs.Lines.{IsCutInto, IsCutOnce, whole_lines, rest_of};
 ghost use Rattle.schedule_player.specs.OneTalk.{IsOneTalk};
 ghost use Rattle.schedule_player.specs.Played.{IsPlayed, reading, writing};
 ghost use Rattle.schedule_player.specs.Progress.{at_start};
-ghost use Rattle.schedule_player.specs.Runs.{IsRunTo, CanRun, CouldRun, IsRunOf, IsDetermined};
+ghost use Rattle.schedule_player.specs.Runs.{IsRunTo, CanRun, CouldRun, NoneRefusedGrowth};
 ghost use Rattle.schedule_player.specs.Stands.{IsFresh};
-ghost use Rattle.schedule_player.specs.declared.config.Config.{Config};
+ghost use Rattle.schedule_player.specs.Talks.{IsTalkOf};
+ghost use Rattle.schedule_player.specs.Turns.{Turn};
+ghost use Rattle.rename_core.specs.declared.config.Config.{Config};
 
-use crate::config::{Config, WorldKind};
 use crate::fault::Fault;
 use crate::player::Player;
-use crate::respond::{Respond, World};
+use crate::service::Service;
 use crate::sink::Sink;
 use crate::source::Source;
 use crate::summary::Summary;
+use crate::world::World;
+use desk::Desk;
+use rename_core::{Config, WorldKind};
 use splitter::SplitterWorld;
 use splitter_grid::GridWorld;
 use std::alloc::Allocator;
@@ -45,46 +51,62 @@ pub fn play<A: Allocator + Clone, R: Source, W: Sink>(
 ) -> Result<Summary, Fault>
     requires reads { R.calls reader.old < 2 ^ 64 }
     requires writes { W.calls writer.old < 2 ^ 64 }
-    ensures { IsPlayed (IsRun config) (IsRun config) config.world
+    ensures { IsPlayed (IsTalk config) (IsTalk config) config.world
         (reading R.remaining R.calls R.failed) (writing W.contents W.failed) reader.old reader.new writer.old writer.new result }
 {
     match config.world {
-        WorldKind::Splitter => play_in::<SplitterWorld<A>, (), A, R, W>(
-            alloc,
-            &(),
-            reader,
-            writer,
-            config,
-        ),
-        WorldKind::Grid => play_in::<GridWorld<A>, (), A, R, W>(alloc, &(), reader, writer, config),
+        WorldKind::Splitter => {
+            let mut world = opened::<SplitterWorld<A>, (), A>(&alloc, config)?;
+            play_in(alloc, &(), &mut world, config, reader, writer)
+        }
+        WorldKind::Grid => {
+            let mut world = opened::<GridWorld<A>, (), A>(&alloc, config)?;
+            play_in(alloc, &(), &mut world, config, reader, writer)
+        }
+        WorldKind::Rename | WorldKind::Tree => {
+            let mut world = opened::<Desk<A>, (), A>(&alloc, config)?;
+            play_in(alloc, &(), &mut world, config, reader, writer)
+        }
     }
 }
 
-/// Plays on a fresh world of this type, as `play`.
-pub fn play_in<D: World<A, H> + Drop, H, A: Allocator + Clone, R: Source, W: Sink>(
-    alloc: A,
-    rt: &H,
-    reader: &mut R,
-    writer: &mut W,
-    config: Config,
-) -> Result<Summary, Fault>
-    requires reads { R.calls reader.old < 2 ^ 64 }
-    requires writes { W.calls writer.old < 2 ^ 64 }
-    ensures { IsPlayed (IsRunOf (D.IsRunIn config) (D.fresh config) D.may)
-        (IsRunOf (D.IsRunIn config) (D.fresh config) D.may) D.KIND
-        (reading R.remaining R.calls R.failed) (writing W.contents W.failed) reader.old reader.new writer.old writer.new result }
+/// A fresh world of a config; `Fault::Memory` where memory was refused.
+fn opened<D: World<A, H>, H, A: Allocator + Clone>(alloc: &A, config: Config) -> Result<D, Fault>
+    requires { D.serves config.world ≡ true }
+    ensures fresh { IfOk result (λ w. D.fresh config w) }
+    ensures only { IfErr result (λ fault. fault ≡ Fault.Memory) }
 {
     let Ok(other) = alloc.clone() else {
         return Err(Fault::Memory);
     };
     match D::open(other, config) {
-        Ok(mut world) => play_on(alloc, rt, &mut world, D::KIND, reader, writer),
+        Ok(world) => Ok(world),
         Err(_) => Err(Fault::Memory),
     }
 }
 
+/// Plays in a world that is fresh under a config, as `play`.
+pub fn play_in<D: World<A, H>, H, A: Allocator + Clone, R: Source, W: Sink>(
+    alloc: A,
+    rt: &H,
+    world: &mut D,
+    config: Config,
+    reader: &mut R,
+    writer: &mut W,
+) -> Result<Summary, Fault>
+    requires serves { D.serves config.world ≡ true }
+    requires fresh { D.fresh config world.old }
+    requires reads { R.calls reader.old < 2 ^ 64 }
+    requires writes { W.calls writer.old < 2 ^ 64 }
+    ensures { IsPlayed (IsTalkOf (D.IsRunIn config) config.m (D.fresh config) D.may)
+        (IsTalkOf (D.IsRunIn config) config.m (D.fresh config) D.may) config.world
+        (reading R.remaining R.calls R.failed) (writing W.contents W.failed) reader.old reader.new writer.old writer.new result }
+{
+    play_on(alloc, rt, world, config.world, reader, writer)
+}
+
 /// Plays on what answers events, as `play`, where it knows each event that lines of this kind mean.
-pub fn play_on<H, D: Respond<H>, A: Allocator + Clone, R: Source, W: Sink>(
+pub fn play_on<H, D: Service<H>, A: Allocator + Clone, R: Source, W: Sink>(
     alloc: A,
     rt: &H,
     world: &mut D,
@@ -112,7 +134,7 @@ pub fn play_on<H, D: Respond<H>, A: Allocator + Clone, R: Source, W: Sink>(
 }
 
 /// Reads to the end of the input or to `quit`, and writes the replies after each read.
-fn run<H, D: Respond<H>, A: Allocator, R: Source, W: Sink>(
+fn run<H, D: Service<H>, A: Allocator, R: Source, W: Sink>(
     rt: &H,
     world: &mut D,
     player: &mut Player<A>,
@@ -148,16 +170,24 @@ fn run<H, D: Respond<H>, A: Allocator, R: Source, W: Sink>(
 
 /// Runs of one world are determined by their events where no growth is refused.
 pub fn law_of_world<D: World<A, H>, A, H>()
-    ensures { (config : Config) → IsDetermined (CouldRun (D.fresh config) D.may) }
+    ensures { (config : Config) → IsOneTalk (CouldRun (D.fresh config) D.may) }
 {}
 
 /// So what is said to the lines of an input is a function of them, where no growth is refused.
 pub fn law_of_play<A: Allocator + Clone>()
-    ensures { (config : Config) → IsOneTalk (IsRun config) }
+    ensures { (config : Config) → IsOneTalk (IsTalk config) }
 {
     law_of_world::<SplitterWorld<A>, A, ()>();
     law_of_world::<GridWorld<A>, A, ()>();
+    law_of_world::<Desk<A>, A, ()>();
 }
+
+/// A law, which runs nothing, of the worlds with names: without the turns that were refused memory a talk is one too, so these
+/// are the one difference that such refusals make; and they come only over a tree.
+pub fn law_of_growths()
+    ensures left_out { (config : Config) → gives_names config.world ≡ true → (ts : List Turn) → IsTalk config ts → IsTalk config (granted ts) }
+    ensures only_tree { (config : Config) → config.world ≡ WorldKind.Rename → (ts : List Turn) → IsTalk config ts → NoneRefusedGrowth ts }
+{}
 
 /// A law, which runs nothing: bytes are cut into their whole lines and a rest, each line with its LF, no line with an LF in
 /// it; and into no others.

@@ -4,11 +4,18 @@ ghost use Rattle.std.specs.Prelude.{◌≡◌, ◌+◌, ◌≤◌, ◌<◌, true
 ghost use Rattle.std.specs.List.{list_all};
 ghost use Rattle.schedule_player.specs.Meaning.{is_digit};
 ghost use Rattle.schedule_player.specs.Digits.{DigitsSoFar};
-ghost use Rattle.schedule_player.specs.Quick.{IsFirstLine, IsNumberAtLf};
+ghost use Rattle.schedule_player.specs.Quick.{IsFirstLine, IsFirstAtDesk, IsNumberBefore};
 
 use crate::command::Command;
-use crate::config::WorldKind;
-use crate::event::Event;
+use crate::parse::has_desk;
+use desk::Event;
+use rename_core::WorldKind;
+
+/// What ends a line.
+const LF: u8 = 10;
+
+/// What stands between words.
+const SPACE: u8 = 32;
 
 /// The command that the first line of these bytes means, and where its LF stands, where that takes one look at each byte.
 /// `None` says nothing of the line.
@@ -17,12 +24,44 @@ pub(crate) fn quick_command(bytes: &[u8], world: WorldKind) -> Option<(Command, 
     ensures { IfSome result (λ r. IsFirstLine world bytes.now r.0 r.1) }
 {
     if let [b's', b't', b'e', b'p', b' ', number @ ..] = bytes {
-        let (id, count) = quick_number(number)?;
+        let (id, count) = quick_number(number, LF)?;
         return Some((Command::Event(Event::Step(id)), count + 5));
     }
     if let [b'b', b'e', b'g', b'i', b'n', b' ', number @ ..] = bytes {
-        let (id, count) = quick_number(number)?;
+        let (id, count) = quick_number(number, LF)?;
         return Some((Command::Event(Event::Begin(id)), count + 6));
+    }
+    if has_desk(world) {
+        return quick_desk_command(bytes);
+    }
+    None
+}
+
+/// As `quick_command`, of the words that only a desk knows.
+#[inline(never)]
+fn quick_desk_command(bytes: &[u8]) -> Option<(Command, usize)>
+    ensures { IfSome result (λ r. IsFirstAtDesk bytes.now r.0 r.1) }
+{
+    if let [b'e', b'n', b't', b'e', b'r', b' ', number @ ..] = bytes {
+        let (id, count) = quick_number(number, LF)?;
+        return Some((Command::Event(Event::Enter(id)), count + 6));
+    }
+    if let [b'p', b'r', b'o', b'b', b'e', b' ', number @ ..] = bytes {
+        let (id, count) = quick_number(number, LF)?;
+        return Some((Command::Event(Event::Probe(id)), count + 6));
+    }
+    if let [b'l', b'e', b'a', b'v', b'e', b' ', number @ ..] = bytes {
+        let (id, count) = quick_number(number, LF)?;
+        return Some((Command::Event(Event::Leave(id)), count + 6));
+    }
+    if let [b'g', b'e', b't', b' ', number @ ..] = bytes {
+        let (id, count) = quick_number(number, LF)?;
+        return Some((Command::Event(Event::Get(id)), count + 4));
+    }
+    if let [b'p', b'u', b't', b' ', numbers @ ..] = bytes {
+        let (id, first) = quick_number(numbers, SPACE)?;
+        let (value, second) = quick_number(&numbers[first + 1..], LF)?;
+        return Some((Command::Event(Event::Put(id, value)), first + second + 5));
     }
     None
 }
@@ -30,39 +69,39 @@ pub(crate) fn quick_command(bytes: &[u8], world: WorldKind) -> Option<(Command, 
 /// The most digits whose number surely fits in 64 bits.
 const SURE_DIGITS: usize = 19;
 
-/// The number that digits before an LF write, and how many they are.
+/// The number that digits before this byte write, and how many they are.
 #[inline(always)]
-fn quick_number(text: &[u8]) -> Option<(u64, usize)>
-    ensures { IfSome result (λ r. IsNumberAtLf text.now r.0 r.1) }
+fn quick_number(text: &[u8], end: u8) -> Option<(u64, usize)>
+    ensures { IfSome result (λ r. IsNumberBefore end text.now r.0 r.1) }
 {
     // Where a letter stands fifth, as that of the next line's word after one to three digits, there are few.
     if text.len() < 5 || b'a' <= text[4] {
-        return few_digits(text, 0, 0);
+        return few_digits(text, 0, 0, end);
     }
-    long_number(text)
+    long_number(text, end)
 }
 
 /// As `quick_number`, with sixteen or eight digits at once where so many stand there.
 #[inline(always)]
-fn long_number(text: &[u8]) -> Option<(u64, usize)>
-    ensures { IfSome result (λ r. IsNumberAtLf text.now r.0 r.1) }
+fn long_number(text: &[u8], end: u8) -> Option<(u64, usize)>
+    ensures { IfSome result (λ r. IsNumberBefore end text.now r.0 r.1) }
 {
     let Some(sixteen) = first_digits(text, 16) else {
         return match first_digits(text, 8) {
-            Some(eight) => few_digits(text, eight, 8),
-            None => few_digits(text, 0, 0),
+            Some(eight) => few_digits(text, eight, 8, end),
+            None => few_digits(text, 0, 0, end),
         };
     };
     let Some(nineteen) = digits_to(text, sixteen, 16, SURE_DIGITS) else {
-        return few_digits(text, sixteen, 16);
+        return few_digits(text, sixteen, 16, end);
     };
     if text.len() < 20 || !text[19].is_ascii_digit() {
-        return number_at_lf(text, nineteen, 19);
+        return number_before(text, nineteen, 19, end);
     }
     let twenty = nineteen
         .checked_mul(10)?
         .checked_add(u64::from(text[19] - b'0'))?;
-    number_at_lf(text, twenty, 20)
+    number_before(text, twenty, 20, end)
 }
 
 /// The number of the first so many bytes, where all of them are digits.
@@ -123,10 +162,10 @@ fn digits_to(text: &[u8], first: u64, from: usize, to: usize) -> Option<u64>
 
 /// As `quick_number`, digit by digit, after the digits that were read. Answers none for more digits than surely fit.
 #[inline(always)]
-fn few_digits(text: &[u8], first: u64, from: usize) -> Option<(u64, usize)>
+fn few_digits(text: &[u8], first: u64, from: usize, end: u8) -> Option<(u64, usize)>
     requires read { DigitsSoFar text.now first from }
     requires sure { from ≤ SURE_DIGITS }
-    ensures { IfSome result (λ r. IsNumberAtLf text.now r.0 r.1) }
+    ensures { IfSome result (λ r. IsNumberBefore end text.now r.0 r.1) }
 {
     let most = text.len().min(SURE_DIGITS);
     let mut value = first;
@@ -138,7 +177,7 @@ fn few_digits(text: &[u8], first: u64, from: usize) -> Option<(u64, usize)>
         value = next;
         at += 1;
     }
-    number_at_lf(text, value, at)
+    number_before(text, value, at, end)
 }
 
 /// The number with the digit that stands at the end of these digits, where one stands there.
@@ -156,14 +195,14 @@ fn one_more(text: &[u8], value: u64, count: usize) -> Option<u64>
     Some(value * 10 + (byte - 48))
 }
 
-/// This number, where its digits are no others than a number's, and an LF follows them.
+/// This number, where its digits are no others than a number's, and this byte follows them.
 #[inline(always)]
-fn number_at_lf(text: &[u8], value: u64, count: usize) -> Option<(u64, usize)>
+fn number_before(text: &[u8], value: u64, count: usize, end: u8) -> Option<(u64, usize)>
     requires read { DigitsSoFar text.now value count }
     requires few { count ≤ 20 }
-    ensures { IfSome result (λ r. IsNumberAtLf text.now r.0 r.1) }
+    ensures { IfSome result (λ r. IsNumberBefore end text.now r.0 r.1) }
 {
-    if count == 0 || text.len() <= count || text[count] != b'\n' {
+    if count == 0 || text.len() <= count || text[count] != end {
         return None;
     }
     if text[0] == b'0' && count != 1 {

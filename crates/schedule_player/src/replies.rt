@@ -1,7 +1,10 @@
 //! The replies that are not written yet.
 
-ghost use Rattle.std.specs.Prelude.{◌≡◌, ◌+◌, ◌≤◌, ◌++◌, [], length, IfOk};
+ghost use Rattle.std.specs.Prelude.{◌≡◌, ℕ, ◌+◌, ◌≤◌, ◌<◌, ◌^◌, ◌++◌, List, Option, [], length, IfOk, IfErr, OnOk, OnErr};
+ghost use Rattle.schedule_player.specs.UnderWay.{GoesPast, StopsWithin};
 
+use crate::fault::Fault;
+use crate::sink::{Sink, put_all};
 use std::alloc::Allocator;
 use std::marker::Model;
 use step_memory::NoMemory;
@@ -62,6 +65,41 @@ impl<A: Allocator> Replies<A> {
         let end = self.used + text.len();
         self.bytes[self.used..end].copy_from_slice(text);
         self.used = end;
+    }
+
+    /// Writes the bytes that are held, and forgets them. `Fault::Write` where the writer failed or took nothing, after which a
+    /// beginning of them is written.
+    pub fn send<W: Sink>(&mut self, writer: &mut W) -> Result<(), Fault>
+        requires { W.calls writer.old + length self.old ≤ 2 ^ 100 }
+        ensures on { OnOk result (GoesPast [] (W.contents writer.old) self.old (W.contents writer.new) self.new) }
+        ensures within { OnErr result (StopsWithin [] (W.contents writer.old) self.old (W.contents writer.new)) }
+        ensures empty { OnOk result (self.new ≡ []) }
+        ensures only { IfErr result (λ fault. fault ≡ Fault.Write) }
+        ensures failed { OnErr result (W.failed writer.old < W.failed writer.new) }
+        ensures unfailed { OnOk result (W.failed writer.new ≡ W.failed writer.old) }
+        ensures calls { W.calls writer.new ≤ W.calls writer.old + length self.old }
+    {
+        put_all(writer, self.as_slice())?;
+        self.clear();
+        Ok(())
+    }
+
+    /// Makes room for so many bytes: where there is too little, those that are held are written, as by `send`.
+    pub fn make_room<W: Sink>(&mut self, room: usize, writer: &mut W) -> Result<(), Fault>
+        requires few { room ≤ HELD_REPLIES }
+        requires calls { W.calls writer.old + length self.old ≤ 2 ^ 100 }
+        ensures on { OnOk result (GoesPast [] (W.contents writer.old) self.old (W.contents writer.new) self.new) }
+        ensures within { OnErr result (StopsWithin [] (W.contents writer.old) self.old (W.contents writer.new)) }
+        ensures room { OnOk result (length self.new + room ≤ HELD_REPLIES) }
+        ensures only { IfErr result (λ fault. fault ≡ Fault.Write) }
+        ensures failed { OnErr result (W.failed writer.old < W.failed writer.new) }
+        ensures unfailed { OnOk result (W.failed writer.new ≡ W.failed writer.old) }
+        ensures calls { OnOk result (W.calls writer.new + length self.new ≤ W.calls writer.old + length self.old) }
+    {
+        if self.len() <= HELD_REPLIES - room {
+            return Ok(());
+        }
+        self.send(writer)
     }
 
     /// Forgets the bytes that are held.

@@ -1,53 +1,64 @@
 //! A splitter's world answers events.
 
-ghost use Rattle.std.specs.Prelude.{◌≡◌, true};
-ghost use Rattle.schedule_player.specs.declared.config.WorldKind.TheVariants as kind;
-ghost use Rattle.schedule_player.specs.Worlds.{splitter_rules, may_by, IsSplitterRun, splitter_fresh};
-ghost use Rattle.schedule_player.specs.WorldLaws.{splitter_lawful, one_by_rules, answers_by, one_splitter_fresh};
+ghost use Rattle.std.specs.Prelude.{◌≡◌, true, false};
+ghost use Rattle.rename_core.specs.declared.config.WorldKind.TheVariants as kind;
+ghost use Rattle.schedule_player.specs.Kinds.{is_splitter, splitter_meant};
+ghost use Rattle.schedule_player.specs.Visits.{visit_may, knows_visits};
+ghost use Rattle.schedule_player.specs.VisitLaws.{visit_answers, one_visit, visits_tell};
+ghost use Rattle.schedule_player.specs.Worlds.{splitter_rules, IsSplitterRun, splitter_fresh};
+ghost use Rattle.schedule_player.specs.WorldLaws.{splitter_lawful, one_splitter_fresh};
 
-use crate::config::{Config, WorldKind};
-use crate::event::Event;
-use crate::reply::Reply;
-use crate::respond::{Respond, World};
+use crate::outcomes::{begin_reply, visit_reply};
+use crate::service::Service;
+use crate::world::World;
+use desk::{Event, Reply};
+use rename_core::Config;
 use splitter::SplitterWorld;
 use std::alloc::Allocator;
 use step_memory::Refusal;
 
-impl<A: Allocator + Clone, R> Respond<R> for SplitterWorld<A> {
-    ghost knows = { λ e. true };
+impl<A: Allocator + Clone, R> Service<R> for SplitterWorld<A> {
+    ghost knows = { knows_visits };
 
-    ghost may = { may_by splitter_rules };
+    ghost may = { visit_may splitter_rules };
 
-    ghost answers = { answers_by splitter_rules (λ e. true) };
+    ghost answers = { visit_answers splitter_rules };
 
-    fn respond(&mut self, _rt: &R, event: Event) -> Reply {
+    fn apply(&mut self, _rt: &R, event: Event) -> Reply {
         match event {
-            Event::Begin(id) => Reply::of_begin(self.begin(id)),
-            Event::Step(id) => Reply::of_visit(self.step(id)),
+            Event::Begin(id) => begin_reply(self.begin(id)),
+            Event::Step(id) => visit_reply(self.step(id)),
+            Event::Enter(_)
+            | Event::Probe(_)
+            | Event::Leave(_)
+            | Event::Put(_, _)
+            | Event::Get(_) => unreachable!(),
         }
+    }
+
+    fn owner(&mut self, _rt: &R, _n: u64) -> Reply {
+        unreachable!()
     }
 }
 
 impl<A: Allocator + Clone, R> World<A, R> for SplitterWorld<A> {
-    ghost KIND = { kind.Splitter };
-
-    const KIND: WorldKind = WorldKind::Splitter;
+    ghost serves = { is_splitter };
 
     ghost fresh = { splitter_fresh };
 
-    ghost IsRunIn = { IsSplitterRun };
+    ghost IsRunIn = { λ c. IsSplitterRun };
 
     fn open(alloc: A, config: Config) -> Result<Self, Refusal> {
         SplitterWorld::new(alloc, config.m as usize)
     }
 
-    ghost use Rattle.std.proofs.Common.{refl};
-
-    ghost meant = { λ line e h. refl };
+    ghost meant = { splitter_meant };
 
     ghost lawful = { splitter_lawful };
 
+    ghost tells = { λ c w u ts fresh. visits_tell splitter_rules c.m w u ts };
+
     ghost one_fresh = { one_splitter_fresh };
 
-    ghost one_reply = { one_by_rules splitter_rules };
+    ghost one_reply = { λ w u v q a b x y na nb. one_visit splitter_rules w u v q a b x y };
 }

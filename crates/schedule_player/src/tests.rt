@@ -1,13 +1,14 @@
 //! Runs of commands over readers and writers in memory.
 
 ghost use Rattle.std.specs.Prelude.{◌≡◌, true};
+ghost use Rattle.schedule_player.specs.Requests.Request.{Take};
 
-use crate::replies::HELD_REPLIES;
 use crate::toys::{Coin, Shelf};
 use crate::{
-    Config, Event, Fault, LineBuffer, MOST_READS, READ_BYTES, Reply, Respond, Summary, Tried,
-    WorldKind, law_of_lines, law_of_play, law_of_world, play, play_in, play_on,
+    Config, Event, Fault, MOST_READS, READ_BYTES, Reply, Service, Summary, Tried, World, WorldKind,
+    law_of_growths, law_of_lines, law_of_play, law_of_world, play, play_in, play_on,
 };
+use desk::Desk;
 use linked_list_allocator::LocalHeap;
 use splitter::SplitterWorld;
 use splitter_grid::GridWorld;
@@ -15,20 +16,33 @@ use std::alloc::{Allocator, Global};
 use std::io;
 use std::io::{Read, Write};
 use std::test::Fail;
-use step_memory::Memory;
 
-/// Gives at most so many bytes a read, and fails at one call, counted from 1.
+/// Gives at most so many bytes a read, and fails at one call, counted from 1. Bytes of a heap that it was lent it gives back
+/// at another.
 #[derive(Drop)]
-struct Drip<'a> {
+pub(crate) struct Drip<'a> {
     bytes: &'a [u8],
     piece: usize,
     calls: u64,
     fails_at: u64,
+    lent: Option<Vec<u8, &'a LocalHeap>>,
+    frees_at: u64,
+}
+
+impl<'a> Drip<'a> {
+    /// Lends it bytes of a heap, which it gives back at this call.
+    pub(crate) fn lend(&mut self, bytes: Vec<u8, &'a LocalHeap>, frees_at: u64) {
+        self.lent = Some(bytes);
+        self.frees_at = frees_at;
+    }
 }
 
 impl Read for Drip<'_> {
     fn read(&mut self, buf: &mut [u8]) -> io::Result<usize> {
         self.calls = self.calls.saturating_add(1);
+        if self.calls == self.frees_at {
+            self.lent = None;
+        }
         if self.calls == self.fails_at {
             return Err(io::ErrorKind::Other.into());
         }
@@ -42,7 +56,7 @@ impl Read for Drip<'_> {
 
 /// Takes at most so many bytes a write, and fails at one call, counted from 1, or takes nothing there.
 #[derive(Drop)]
-struct Cup {
+pub(crate) struct Cup {
     taken: Vec<u8>,
     piece: usize,
     calls: u64,
@@ -70,16 +84,18 @@ impl Write for Cup {
     }
 }
 
-fn dripping(bytes: &[u8], piece: usize, fails_at: u64) -> Drip<'_> {
+pub(crate) fn dripping(bytes: &[u8], piece: usize, fails_at: u64) -> Drip<'_> {
     Drip {
         bytes,
         piece,
         calls: 0,
         fails_at,
+        lent: None,
+        frees_at: 0,
     }
 }
 
-fn cup_of(alloc: Global, piece: usize, fails_at: u64, takes_nothing: bool) -> Cup {
+pub(crate) fn cup_of(alloc: Global, piece: usize, fails_at: u64, takes_nothing: bool) -> Cup {
     Cup {
         taken: Vec::new(alloc),
         piece,
@@ -91,30 +107,28 @@ fn cup_of(alloc: Global, piece: usize, fails_at: u64, takes_nothing: bool) -> Cu
 
 /// What a run answers, what was written, and how often the reader and the writer were called.
 #[derive(Drop)]
-struct Played {
-    outcome: Result<Summary, Fault>,
-    text: Vec<u8>,
-    reads: u64,
-    writes: u64,
+pub(crate) struct Played {
+    pub(crate) outcome: Result<Summary, Fault>,
+    pub(crate) text: Vec<u8>,
+    pub(crate) reads: u64,
+    pub(crate) writes: u64,
 }
 
-fn play_by<A: Allocator + Clone>(alloc: A, reader: Drip<'_>, writer: Cup) -> Played {
-    played_in(WorldKind::Splitter, 2, alloc, reader, writer)
+/// In a splitter for two participants.
+fn play_by(alloc: Global, reader: Drip<'_>, writer: Cup) -> Result<Played, Fail> {
+    let config = Config::new(WorldKind::Splitter, 2, 4, 1000)?;
+    Ok(run_of(config, alloc, reader, writer))
 }
 
-fn played_in<A: Allocator + Clone>(
-    world: WorldKind,
-    m: u64,
+pub(crate) fn run_of<A: Allocator + Clone>(
+    config: Config,
     alloc: A,
     reader: Drip<'_>,
     writer: Cup,
 ) -> Played {
     let mut reader = Tried::new(reader);
     let mut writer = Tried::new(writer);
-    let outcome = match Config::new(world, m, 4, 1000) {
-        Ok(config) => play(alloc, &mut reader, &mut writer, config),
-        Err(_) => Err(Fault::Memory),
-    };
+    let outcome = play(alloc, &mut reader, &mut writer, config);
     let drip = reader.into_inner();
     let cup = writer.into_inner();
     Played {
@@ -160,7 +174,7 @@ fn the_text_is_the_same_however_the_bytes_are_cut(rt: HostRuntime) -> Result<(),
                 rt.alloc(),
                 dripping(input, piece, 0),
                 cup_of(rt.alloc(), piece, 0, false),
-            );
+            )?;
             assert!(rt; p.outcome.is_ok());
             assert_eq!(rt; p.text.as_slice(), text);
         }
@@ -183,7 +197,7 @@ fn the_summary_counts_each_line(rt: HostRuntime) -> Result<(), Fail> {
             rt.alloc(),
             dripping(input, 7, 0),
             cup_of(rt.alloc(), 7, 0, false),
-        );
+        )?;
         let summary = p.outcome?;
         assert_eq!(rt; summary.lines, lines);
         assert_eq!(rt; summary.accepted, accepted);
@@ -200,14 +214,14 @@ fn each_read_fails_once(rt: HostRuntime) -> Result<(), Fail> {
             rt.alloc(),
             dripping(input, 4, 0),
             cup_of(rt.alloc(), 64, 0, false),
-        )
+        )?
         .reads;
         for fails_at in 1..calls {
             let p = play_by(
                 rt.alloc(),
                 dripping(input, 4, fails_at),
                 cup_of(rt.alloc(), 64, 0, false),
-            );
+            )?;
             assert!(rt; matches!(p.outcome, Err(Fault::Read)));
             assert!(rt; text.starts_with(p.text.as_slice()));
             assert!(rt; p.text.is_empty() || p.text.ends_with(b"\n".as_slice()));
@@ -217,7 +231,7 @@ fn each_read_fails_once(rt: HostRuntime) -> Result<(), Fail> {
         rt.alloc(),
         dripping(b"begin 7\nstep 7".as_slice(), 64, 2),
         cup_of(rt.alloc(), 64, 0, false),
-    );
+    )?;
     assert!(rt; matches!(p.outcome, Err(Fault::Read)));
     assert_eq!(rt; p.text.as_slice(), b"ok\n".as_slice());
     Ok(())
@@ -230,7 +244,7 @@ fn each_write_fails_once(rt: HostRuntime) -> Result<(), Fail> {
             rt.alloc(),
             dripping(input, 4, 0),
             cup_of(rt.alloc(), 3, 0, false),
-        )
+        )?
         .writes;
         for takes_nothing in [false, true] {
             for fails_at in 1..calls {
@@ -238,92 +252,11 @@ fn each_write_fails_once(rt: HostRuntime) -> Result<(), Fail> {
                     rt.alloc(),
                     dripping(input, 4, 0),
                     cup_of(rt.alloc(), 3, fails_at, takes_nothing),
-                );
+                )?;
                 assert!(rt; matches!(p.outcome, Err(Fault::Write)));
                 assert!(rt; text.starts_with(p.text.as_slice()) && p.text.len() < text.len());
             }
         }
-    }
-    Ok(())
-}
-
-/// The bytes of a heap that a run takes its memory from, where growths are refused. It is a multiple of 16.
-const HEAP: usize = 262_144;
-
-/// The bytes of a heap that are taken after each growth of a run, in the order of the growths: the registers of its world,
-/// the participants, the bytes of one read, the line and the replies. A heap gives each growth 16 bytes at least.
-fn taken_after_growths(
-    alloc: Global,
-    world: WorldKind,
-    m: u64,
-    registers: usize,
-) -> Result<[usize; 5], Fail> {
-    let heap = LocalHeap::new(alloc, HEAP)?;
-    let memory = Memory::new(&heap, 0u64, registers, 0)?;
-    let first = heap.used();
-    drop(memory);
-    let splitter = match world {
-        WorldKind::Splitter => Some(SplitterWorld::new(&heap, m as usize)?),
-        WorldKind::Grid => None,
-    };
-    let grid = match world {
-        WorldKind::Splitter => None,
-        WorldKind::Grid => Some(GridWorld::new(&heap, m as usize)?),
-    };
-    let second = heap.used();
-    let chunk = Vec::from_elem(&heap, 0u8, READ_BYTES)?;
-    let third = heap.used();
-    let line = LineBuffer::new(&heap)?;
-    let fourth = heap.used();
-    let replies = Vec::<u8, &LocalHeap>::with_capacity(&heap, HELD_REPLIES)?;
-    let fifth = heap.used();
-    drop((splitter, grid, chunk, line, replies));
-    Ok([first, second, third, fourth, fifth])
-}
-
-/// A run with so many bytes of a heap left to take, a multiple of 16.
-fn play_in_the_last(
-    left: usize,
-    alloc: Global,
-    world: WorldKind,
-    m: u64,
-    input: &[u8],
-) -> Result<Played, Fail> {
-    let heap = LocalHeap::new(alloc, HEAP)?;
-    let others = Vec::<u8, &LocalHeap>::with_capacity(&heap, HEAP.saturating_sub(left))?;
-    let played = played_in(
-        world,
-        m,
-        &heap,
-        dripping(input, 64, 0),
-        cup_of(alloc, 64, 0, false),
-    );
-    drop(others);
-    Ok(played)
-}
-
-#[test]
-fn each_growth_is_refused_in_turn(rt: HostRuntime) -> Result<(), Fail> {
-    let input = b"begin 7\nquit\n".as_slice();
-    for (world, m, registers) in [
-        (WorldKind::Splitter, 2, 2),
-        (WorldKind::Splitter, 16, 2),
-        (WorldKind::Grid, 2, 6),
-        (WorldKind::Grid, 16, 272),
-    ] {
-        let mut fits = 0;
-        for taken in taken_after_growths(rt.alloc(), world, m, registers)? {
-            assert!(rt; fits < taken, "at {taken} bytes");
-            for left in [fits, taken.saturating_sub(16)] {
-                let p = play_in_the_last(left, rt.alloc(), world, m, input)?;
-                assert_eq!(rt; p.outcome.err(), Some(Fault::Memory), "at {left} bytes");
-                assert_eq!(rt; (p.reads, p.writes), (0, 0), "at {left} bytes");
-            }
-            fits = taken;
-        }
-        let p = play_in_the_last(fits, rt.alloc(), world, m, input)?;
-        assert!(rt; p.outcome.is_ok(), "at {fits} bytes");
-        assert_eq!(rt; p.text.as_slice(), b"ok\nok\n".as_slice());
     }
     Ok(())
 }
@@ -335,7 +268,7 @@ fn a_line_of_a_million_bytes_is_bad(rt: HostRuntime) -> Result<(), Fail> {
         rt.alloc(),
         dripping(input.as_slice(), 1, 0),
         cup_of(rt.alloc(), 64, 0, false),
-    );
+    )?;
     assert!(rt; p.outcome.is_ok());
     assert_eq!(rt; p.text.as_slice(), b"bad 1\n".as_slice());
     Ok(())
@@ -361,9 +294,8 @@ fn grid_rows() -> [(u64, &'static [u8], &'static [u8]); 2] {
 fn walks_in_a_grid_end_at_places(rt: HostRuntime) -> Result<(), Fail> {
     for (m, input, text) in grid_rows() {
         for piece in [1, READ_BYTES] {
-            let p = played_in(
-                WorldKind::Grid,
-                m,
+            let p = run_of(
+                Config::new(WorldKind::Grid, m, 4, 1000)?,
                 rt.alloc(),
                 dripping(input, piece, 0),
                 cup_of(rt.alloc(), piece, 0, false),
@@ -376,10 +308,10 @@ fn walks_in_a_grid_end_at_places(rt: HostRuntime) -> Result<(), Fail> {
 }
 
 /// One event through the bound.
-fn answered<D: Respond<()>>(world: &mut D, event: Event) -> Reply
-    requires { D.knows event ≡ true }
+fn answered<D: Service<()>>(world: &mut D, event: Event) -> Reply
+    requires { D.knows (Take event) ≡ true }
 {
-    world.respond(&(), event)
+    world.apply(&(), event)
 }
 
 #[test]
@@ -390,26 +322,11 @@ fn a_world_answers_through_its_bound(rt: HostRuntime) -> Result<(), Fail> {
     let mut world = GridWorld::new(rt.alloc(), 1)?;
     assert_eq!(rt; answered(&mut world, Event::Begin(3)), Reply::Ok);
     assert_eq!(rt; answered(&mut world, Event::Step(3)), Reply::Quiet);
+    let mut world = Desk::new(rt.alloc(), Config::new(WorldKind::Tree, 1, 4, 1000)?)?;
+    assert_eq!(rt; answered(&mut world, Event::Enter(3)), Reply::Ok);
+    assert_eq!(rt; answered(&mut world, Event::Probe(3)), Reply::Got(1));
     assert!(rt; MOST_READS == 1 << 40);
     Ok(())
-}
-
-#[test]
-fn configs_are_in_range(rt: HostRuntime) {
-    let kind = WorldKind::Splitter;
-    for (m, k, limit) in [(1, 1, 1), (16, 64, 1_000_000)] {
-        assert!(rt; Config::new(kind, m, k, limit).is_ok());
-    }
-    for (m, k, limit) in [
-        (0, 1, 1),
-        (17, 1, 1),
-        (1, 0, 1),
-        (1, 65, 1),
-        (1, 1, 0),
-        (1, 1, 1_000_001),
-    ] {
-        assert!(rt; Config::new(kind, m, k, limit).is_err());
-    }
 }
 
 #[test]
@@ -421,12 +338,14 @@ fn a_world_that_refuses_growths_takes_the_event_when_asked_again(
         b"begin 1\nbegin 2\nbegin 3\nbegin 3\nstep 9\nstep 9\nquit\n".as_slice(),
     );
     let mut writer = Tried::new(Vec::new(rt.alloc()));
-    let summary = play_in::<Shelf, (), Global, _, _>(
+    let mut shelf = <Shelf as World<Global, ()>>::open(rt.alloc(), config)?;
+    let summary = play_in(
         rt.alloc(),
         &(),
+        &mut shelf,
+        config,
         &mut reader,
         &mut writer,
-        config,
     )?;
     assert_eq!(rt;
         writer.into_inner().as_slice(),
@@ -442,17 +361,17 @@ fn a_world_whose_replies_vary_is_played_and_left_where_the_replies_went_out(
     rt: HostRuntime,
 ) -> Result<(), Fail> {
     for (fails_at, stops, text) in [
-        (0, true, b"right\nstop\nright\n".as_slice()),
-        (3, false, b"right\nstop\n"),
+        (0, true, b"right\nstop\nowner none\nright\n".as_slice()),
+        (4, false, b"right\nstop\nowner none\n"),
     ] {
         let mut coin = Coin { stops: false };
-        let mut reader = Tried::new(dripping(b"begin 1\nstep 1\nstep 1\n", 8, fails_at));
+        let mut reader = Tried::new(dripping(b"begin 1\nstep 1\nowner 1\nenter 1\n", 8, fails_at));
         let mut writer = Tried::new(Vec::new(rt.alloc()));
         let outcome = play_on(
             rt.alloc(),
             &(),
             &mut coin,
-            WorldKind::Splitter,
+            WorldKind::Rename,
             &mut reader,
             &mut writer,
         );
@@ -464,21 +383,23 @@ fn a_world_whose_replies_vary_is_played_and_left_where_the_replies_went_out(
 }
 
 #[test]
-fn reads_and_writes_are_few(rt: HostRuntime) {
+fn reads_and_writes_are_few(rt: HostRuntime) -> Result<(), Fail> {
     let input = b"begin 7\nstep 7\nstep 7\nstep 7\nstep 7\nquit\nbegin 8\n".as_slice();
     for (piece, reads, writes) in [(READ_BYTES, 1, 1), (8, 6, 6), (1, 41, 6)] {
         let p = play_by(
             rt.alloc(),
             dripping(input, piece, 0),
             cup_of(rt.alloc(), READ_BYTES, 0, false),
-        );
+        )?;
         assert!(rt; p.outcome.is_ok());
         assert_eq!(rt; (p.reads, p.writes), (reads, writes), "at {piece} bytes");
     }
+    Ok(())
 }
 
 #[test]
 fn laws_are_called() {
+    law_of_growths();
     law_of_lines();
     law_of_play::<Global>();
 }

@@ -1,18 +1,15 @@
-//! Two small worlds for tests: one that refuses a growth now and then, and one whose replies vary.
+//! Two small services for tests: a world that refuses a growth now and then, and a service whose replies vary.
 
-ghost use Rattle.std.specs.Prelude.{◌≡◌, ℕ, true, refl};
-ghost use Rattle.std.proofs.Common.{inl, inr, ◌∙◌, sym, subst};
-ghost use Rattle.schedule_player.specs.Runs.{Runs};
-ghost use Rattle.schedule_player.specs.Toys.{shelf_rules, IsShelfRun, IsSide};
-ghost use Rattle.schedule_player.specs.Worlds.{may_by};
-ghost use Rattle.schedule_player.specs.WorldLaws.{one_by_rules, answers_by};
-ghost use Rattle.schedule_player.specs.declared.config.WorldKind.TheVariants as kind;
-ghost use Rattle.schedule_player.specs.declared.reply.Reply.TheVariants as reply;
+ghost use Rattle.std.specs.Prelude.{ℕ, true, ◌≡◌};
+ghost use Rattle.schedule_player.specs.Kinds.{is_splitter, splitter_meant};
+ghost use Rattle.schedule_player.specs.Toys.{ShelfMay, IsShelfRun, IsSide};
+ghost use Rattle.schedule_player.specs.ToyLaws.{shelf_answers, shelf_lawful, shelf_tells, one_shelf_fresh, one_shelf_reply, coin_answers};
+ghost use Rattle.schedule_player.specs.Visits.{knows_visits};
 
-use crate::config::{Config, WorldKind};
-use crate::event::Event;
-use crate::reply::Reply;
-use crate::respond::{Respond, World};
+use crate::service::Service;
+use crate::world::World;
+use desk::{Event, Reply};
+use rename_core::Config;
 use std::marker::Model;
 use step_memory::Refusal;
 
@@ -30,14 +27,14 @@ impl Model for Shelf {
     ghost view = { λ s. s.taken };
 }
 
-impl<R> Respond<R> for Shelf {
-    ghost knows = { λ e. true };
+impl<R> Service<R> for Shelf {
+    ghost knows = { knows_visits };
 
-    ghost may = { may_by shelf_rules };
+    ghost may = { ShelfMay };
 
-    ghost answers = { answers_by shelf_rules (λ e. true) };
+    ghost answers = { shelf_answers };
 
-    fn respond(&mut self, _rt: &R, _event: Event) -> Reply {
+    fn apply(&mut self, _rt: &R, _event: Event) -> Reply {
         self.asked = self.asked.wrapping_add(1);
         if self.asked % 3 == 0 || self.taken == u64::MAX {
             return Reply::Refused(Refusal::NoMemory);
@@ -45,50 +42,58 @@ impl<R> Respond<R> for Shelf {
         self.taken += 1;
         Reply::Ok
     }
+
+    fn owner(&mut self, _rt: &R, _n: u64) -> Reply {
+        unreachable!()
+    }
 }
 
 impl<A: Drop, R> World<A, R> for Shelf {
-    ghost KIND = { kind.Splitter };
-
-    const KIND: WorldKind = WorldKind::Splitter;
+    ghost serves = { is_splitter };
 
     ghost fresh = { λ c w. w ≡ 0 };
 
-    ghost IsRunIn = { IsShelfRun };
+    ghost IsRunIn = { λ c. IsShelfRun };
 
     fn open(_alloc: A, _config: Config) -> Result<Self, Refusal> {
         Ok(Shelf { taken: 0, asked: 0 })
     }
 
-    ghost meant = { λ line e h. refl };
+    ghost meant = { splitter_meant };
 
-    ghost lawful = { λ c w u r fresh run. (u, subst (λ t. Runs (may_by shelf_rules) t r u) fresh run) };
+    ghost lawful = { λ c w u ts fresh. shelf_lawful w u ts };
 
-    ghost one_fresh = { λ c w v a b. a ∙ sym b };
+    ghost tells = { λ c w u ts fresh. shelf_tells c.m w u ts };
 
-    ghost one_reply = { one_by_rules shelf_rules };
+    ghost one_fresh = { λ c. one_shelf_fresh };
+
+    ghost one_reply = { one_shelf_reply };
 }
 
-/// Says `stop` and `right` in turn, which its rules leave open.
+/// Says `stop` and `right` in turn, which its rules leave open, and that nobody has a name.
 #[derive(Drop)]
 pub struct Coin {
     /// Whether `stop` is next.
     pub stops: bool,
 }
 
-impl<R> Respond<R> for Coin {
-    ghost knows = { λ e. true };
+impl<R> Service<R> for Coin {
+    ghost knows = { λ q. true };
 
-    ghost may = { λ w e r u. IsSide r };
+    ghost may = { λ w q r u. IsSide q r };
 
-    ghost answers = { λ w e known. (reply.Stop, w, inl refl) };
+    ghost answers = { λ w q known. coin_answers w q };
 
-    fn respond(&mut self, _rt: &R, _event: Event) -> Reply {
+    fn apply(&mut self, _rt: &R, _event: Event) -> Reply {
         self.stops = !self.stops;
         if self.stops {
             Reply::Right
         } else {
             Reply::Stop
         }
+    }
+
+    fn owner(&mut self, _rt: &R, _n: u64) -> Reply {
+        Reply::Owner(None)
     }
 }

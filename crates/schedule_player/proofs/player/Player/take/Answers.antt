@@ -10,9 +10,9 @@ returns-then-self-clause-stands g c = λ start p before now t.
     rw (after_bytes-over c.args.self.now.kind p (take (length c.args.bytes.now) c.args.bytes.now) over) t
 
 pub answer-requires-clause-knows : goal.answer-requires-clause-knows
-answer-requires-clause-knows g c = λ e is.
+answer-requires-clause-knows g c = λ q is.
     let kind = ap (λ (q : PlayerState). q.kind) c.self.view_is in
-    c.requires.knows (take c.in-Some.end c.args.bytes.now) e ((rw kind at c.in-Some.ensures).means ∙ is)
+    c.requires.knows (take c.in-Some.end c.args.bytes.now) q ((rw kind at c.in-Some.ensures).means ∙ is)
 
 pub returns-in-Some-clause-stands : goal.returns-in-Some-clause-stands
 returns-in-Some-clause-stands g c = λ start p before now t.

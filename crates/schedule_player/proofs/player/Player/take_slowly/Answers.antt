@@ -17,13 +17,13 @@ returns-in_default-clause-stands g c = λ start p before now t on.
     let more = c.extend.ensures p.line (ap (λ (q : PlayerState). q.line) c.self.view_is ∙ t.line_is) in
     let extended = ap (λ (l : HeldLine). let q : PlayerState = record { kind = c.self.inside.kind; line = l; replies = c.self.inside.replies; summary = c.self.inside.summary; over = c.self.inside.over } in q) more in
     rw (all, after_bytes-part c.args.self.now.kind p bytes on none)
-    (stands_with_line g.D.Respond.may start c.args.world.now c.args.self.now _ p (p.line ++ bytes) before now t (extended ∙ ap (λ (q : PlayerState). let r : PlayerState = record q { line = held (p.line ++ bytes) } in r) c.self.view_is))
+    (stands_with_line g.D.Service.may start c.args.world.now c.args.self.now _ p (p.line ++ bytes) before now t (extended ∙ ap (λ (q : PlayerState). let r : PlayerState = record q { line = held (p.line ++ bytes) } in r) c.self.view_is))
 
 pub answer-requires-clause-knows : goal.answer-requires-clause-knows
-answer-requires-clause-knows g c = λ e is.
+answer-requires-clause-knows g c = λ q is.
     let kind = ap (λ (q : PlayerState). q.kind) c.self.view_is in
     let line = take c.in-Some.end c.args.bytes.now in
-    c.requires.knows line e (ap (λ k. meaning k line) (sym kind) ∙ sym c.parse_line-meaning.ensures ∙ is)
+    c.requires.knows line q (ap (λ k. meaning k line) (sym kind) ∙ sym c.parse_line-meaning.ensures ∙ is)
 
 pub returns-then-is_empty-clause-stands : goal.returns-then-is_empty-clause-stands
 returns-then-is_empty-clause-stands g c = λ start p before now t on.
@@ -47,5 +47,10 @@ returns-clause-stands g c = λ start p before now t on.
     let kind = ap (λ (q : PlayerState). q.kind) c.self.view_is in
     let more = c.extend-2.ensures p.line (ap (λ (q : PlayerState). q.line) c.self.view_is ∙ t.line_is) in
     let extended = ap (λ (l : HeldLine). let q : PlayerState = record { kind = c.self.inside.kind; line = l; replies = c.self.inside.replies; summary = c.self.inside.summary; over = c.self.inside.over } in q) more in
-    let longer = stands_with_line g.D.Respond.may start c.args.world.now c.args.self.now _ p (p.line ++ take c.in-Some.end bytes) before now t (extended ∙ ap (λ (q : PlayerState). let r : PlayerState = record q { line = held (p.line ++ take c.in-Some.end bytes) } in r) c.self.view_is) in
+    let longer = stands_with_line g.D.Service.may start c.args.world.now c.args.self.now _ p (p.line ++ take c.in-Some.end bytes) before now t (extended ∙ ap (λ (q : PlayerState). let r : PlayerState = record q { line = held (p.line ++ take c.in-Some.end bytes) } in r) c.self.view_is) in
     rw (after_bytes-whole c.args.self.now.kind p bytes c.in-Some.end on below lf none) (rw kind at (c.answer_line.ensures.stands start _ before now longer on))
+
+pub answer_line-requires-clause-knows : goal.answer_line-requires-clause-knows
+answer_line-requires-clause-knows g c = λ line q is.
+    let kind = ap (λ (s : PlayerState). s.kind) c.self.view_is in
+    c.requires.knows line q (ap (λ k. meaning k line) (sym kind) ∙ is)

@@ -1,0 +1,15 @@
+-- talks: what is said in turn in one run
+use Rattle.std.specs.Prelude.{ℕ, List}
+use Rattle.desk.specs.declared.exchange.Exchange.{Exchange}
+use Rattle.desk.specs.declared.reply.Reply.{Reply}
+use Rattle.schedule_player.specs.Owners.{AreOwnersTold}
+use Rattle.schedule_player.specs.Requests.{Request}
+use Rattle.schedule_player.specs.Runs.{CouldRun}
+use Rattle.schedule_player.specs.Turns.{Turn, exchanges}
+
+-- turns whose exchanges are a run, in which everyone who asks is told right who has a name, for so many participants, and
+-- which the rules allow from a fresh world
+pub record IsTalkOf {T : Type 0} (IsRun : List Exchange → Type 0) (most : ℕ) (fresh : T → Type 0) (may : T → Request → Reply → T → Type 0) (ts : List Turn) : Type 0 where
+  pub run : IsRun (exchanges ts)
+  pub owners : AreOwnersTold most ts
+  pub could : CouldRun fresh may ts

@@ -1,0 +1,146 @@
+-- runs of worlds whose participants only begin and step
+use Rattle.std.proofs.Common.{◌≡◌, ℕ, Bool, true, false, not, cond, nat_lt, List, [], ◌∷◌, ◌++◌, length, codes, map, Some, None, Result, Ok, Err, refl, sym, ap, subst, ◌∙◌, append_assoc}
+use Rattle.std.proofs.lemmas.List.{append-nil}
+use Rattle.std.specs.List.{list_all}
+use Rattle.step_memory.specs.Calls.{Call}
+use Rattle.step_memory.specs.Calls.Call.{Began, Stepped}
+use Rattle.rename_core.specs.declared.config.WorldKind.{WorldKind}
+use Rattle.desk.specs.declared.event.Event.{Event}
+use Rattle.desk.specs.declared.event.Event.TheVariants.{Begin, Step, Enter, Probe, Leave, Put, Get}
+use Rattle.desk.specs.declared.exchange.Exchange.{Exchange}
+use Rattle.desk.specs.declared.reply.Reply.{Reply}
+use Rattle.desk.specs.Replies.{done_reply}
+use Rattle.schedule_player.specs.declared.bad.Bad.{Bad}
+use Rattle.schedule_player.specs.declared.bad.Bad.TheVariants.{TooLong, NotPrintable, UnknownWord}
+use Rattle.schedule_player.specs.declared.command.Command.{Command}
+use Rattle.schedule_player.specs.declared.command.Command.TheVariants as command
+use Rattle.schedule_player.specs.Knows.{Knows}
+use Rattle.schedule_player.specs.Meaning.{meaning, command_in, command_of_one, command_if, quit_of, number_in, same_bytes, has_desk, desk_command_of, is_printable, words}
+use Rattle.schedule_player.specs.Owners.{AreOwnersTold}
+use Rattle.schedule_player.specs.Requests.{Request, as_command}
+use Rattle.schedule_player.specs.Requests.Request.{Take, OwnerOf}
+use Rattle.schedule_player.specs.Runs.{Runs}
+use Rattle.schedule_player.specs.RunLaws.{runs-cut}
+use Rattle.schedule_player.specs.Turns.{Turn, exchanges}
+use Rattle.schedule_player.specs.Turns.Turn.{Answered, Told, Ended, Misread}
+use Rattle.schedule_player.specs.Visits.{VisitRules, visit_may, said_reply, knows_visits}
+use Rattle.schedule_player.specs.Worlds.{exchange_of, IsCallRun}
+
+-- a line of a kind without a desk means a visit, `quit`, or nothing
+abbrev IsVisit : Result Command Bad → Type 0
+IsVisit (Err bad) = Unit {0}
+IsVisit (Ok (command.Event e)) = knows_visits (Take e) ≡ true
+IsVisit (Ok (command.Owner n)) = ⊥
+IsVisit (Ok command.Quit) = Unit {0}
+
+visit_of_one : (event : ℕ → Event) → ((n : ℕ) → knows_visits (Take (event n)) ≡ true) → (others : List (List ℕ)) → IsVisit (command_of_one (λ n. command.Event (event n)) others)
+visit_of_one event known [] = tt
+visit_of_one event known (word ∷ []) = elim (number_in word) as (λ o. IsVisit (command_if (λ n. command.Event (event n)) o)) [ None ↦ tt | Some n ↦ known n ]
+visit_of_one event known (word ∷ other ∷ more) = tt
+
+quit_is_visit : (others : List (List ℕ)) → IsVisit (quit_of others)
+quit_is_visit [] = tt
+quit_is_visit (word ∷ more) = tt
+
+visit_if : (b : Bool) (x y : Result Command Bad) → IsVisit x → IsVisit y → IsVisit (cond b x y)
+visit_if true x y p q = p
+visit_if false x y p q = q
+
+visit_of_words : (kind : WorldKind) → has_desk kind ≡ false → (ws : List (List ℕ)) → IsVisit (command_in kind ws)
+visit_of_words kind none [] = tt
+visit_of_words kind none (word ∷ others) =
+    let begin : Result Command Bad = command_of_one (λ n. command.Event (Begin n)) others in
+    let step : Result Command Bad = command_of_one (λ n. command.Event (Step n)) others in
+    let rest : Result Command Bad = cond (has_desk kind) (desk_command_of word others) (Err UnknownWord) in
+    let unknown : IsVisit rest = subst (λ b. IsVisit (cond b (desk_command_of word others) (Err UnknownWord))) (sym none) tt in
+    let quit : Result Command Bad = cond (same_bytes word (codes "quit")) (quit_of others) rest in
+    visit_if (same_bytes word (codes "begin")) begin (cond (same_bytes word (codes "step")) step quit) (visit_of_one Begin (λ n. refl) others)
+    (visit_if (same_bytes word (codes "step")) step quit (visit_of_one Step (λ n. refl) others)
+    (visit_if (same_bytes word (codes "quit")) (quit_of others) rest (quit_is_visit others) unknown))
+
+visit_of_line : (kind : WorldKind) → has_desk kind ≡ false → (line : List ℕ) → IsVisit (meaning kind line)
+visit_of_line kind none line =
+    let all : Result Command Bad = command_in kind (words line) in
+    let printable : Result Command Bad = cond (not (list_all is_printable line)) (Err NotPrintable) all in
+    visit_if (nat_lt 100 (length line)) (Err TooLong) printable tt
+    (visit_if (not (list_all is_printable line)) (Err NotPrintable) all tt (visit_of_words kind none (words line)))
+
+visit_known : (q : Request) → IsVisit (Ok (as_command q)) → knows_visits q ≡ true
+visit_known (Take e) visit = visit
+visit_known (OwnerOf n) visit = absurd visit
+
+-- what lines of such a kind mean is known
+pub visits_meant : (kind : WorldKind) → has_desk kind ≡ false → Knows knows_visits kind
+visits_meant kind none line q is = visit_known q (subst IsVisit is (visit_of_line kind none line))
+
+module _ {T X : Type 0} (rules : VisitRules T X) where
+  -- there is a reply to what is known
+  pub visit_answers : (w : T) (q : Request) → knows_visits q ≡ true → (r : Reply) × (u : T) × visit_may rules w q r u
+  visit_answers w (Take (Begin p)) known = (done_reply (rules.begins w p), rules.begun w p, (refl, refl))
+  visit_answers w (Take (Step p)) known = (said_reply rules.shown (rules.steps w p), rules.stepped w p, (refl, refl))
+  visit_answers w (Take (Enter p)) known = absurd cc
+  visit_answers w (Take (Probe p)) known = absurd cc
+  visit_answers w (Take (Leave p)) known = absurd cc
+  visit_answers w (Take (Put p value)) known = absurd cc
+  visit_answers w (Take (Get p)) known = absurd cc
+  visit_answers w (OwnerOf n) known = absurd cc
+
+  -- and only one
+  pub one_visit : (w u v : T) (q : Request) (a b : Reply) → visit_may rules w q a u → visit_may rules w q b v → (a ≡ b) × (u ≡ v)
+  one_visit w u v (Take (Begin p)) a b x y = (x.0 ∙ sym y.0, x.1 ∙ sym y.1)
+  one_visit w u v (Take (Step p)) a b x y = (x.0 ∙ sym y.0, x.1 ∙ sym y.1)
+  one_visit w u v (Take (Enter p)) a b x y = absurd x
+  one_visit w u v (Take (Probe p)) a b x y = absurd x
+  one_visit w u v (Take (Leave p)) a b x y = absurd x
+  one_visit w u v (Take (Put p value)) a b x y = absurd x
+  one_visit w u v (Take (Get p)) a b x y = absurd x
+  one_visit w u v (OwnerOf n) a b x y = absurd x
+
+  -- nobody is told who has a name
+  pub visits_tell : (most : ℕ) (w u : T) (ts : List Turn) → Runs (visit_may rules) w ts u → AreOwnersTold most ts
+  visits_tell most w u ts run = λ front back n r is.
+      let cut = runs-cut (visit_may rules) w u front (Told n r ∷ back) (subst (λ (l : List Turn). Runs (visit_may rules) w l u) is run) in
+      absurd cut.2.1
+
+  module _ (After : T → List (Call X) → Type 0)
+      (begun : (t : T) (r : List (Call X)) (p : ℕ) → After t r → After (rules.begun t p) (r ++ Began p (rules.begins t p) ∷ []))
+      (stepped : (t : T) (r : List (Call X)) (p : ℕ) → After t r → After (rules.stepped t p) (r ++ Stepped p (rules.steps t p) ∷ [])) where
+    -- one exchange is one call
+    one_call : (w u : T) (before : List (Call X)) (e : Event) (a : Reply) → After w before → visit_may rules w (Take e) a u →
+        (call : Call X) × (let x : Exchange = record { event = e; reply = a } in exchange_of rules.shown call ≡ x) × After u (before ++ call ∷ [])
+    one_call w u before (Begin p) a after m = (
+      Began p (rules.begins w p),
+      ap (λ (r : Reply). let x : Exchange = record { event = Begin p; reply = r } in x) (sym m.0),
+      subst (λ (t : T). After t (before ++ Began p (rules.begins w p) ∷ [])) (sym m.1) (begun w before p after),
+    )
+    one_call w u before (Step p) a after m = (
+      Stepped p (rules.steps w p),
+      ap (λ (r : Reply). let x : Exchange = record { event = Step p; reply = r } in x) (sym m.0),
+      subst (λ (t : T). After t (before ++ Stepped p (rules.steps w p) ∷ [])) (sym m.1) (stepped w before p after),
+    )
+    one_call w u before (Enter p) a after m = absurd m
+    one_call w u before (Probe p) a after m = absurd m
+    one_call w u before (Leave p) a after m = absurd m
+    one_call w u before (Put p value) a after m = absurd m
+    one_call w u before (Get p) a after m = absurd m
+
+    -- the exchanges of a run are calls
+    calls_of_run : (w u : T) (before : List (Call X)) (ts : List Turn) → After w before → Runs (visit_may rules) w ts u →
+        (calls : List (Call X)) × (map (exchange_of rules.shown) calls ≡ exchanges ts) × After u (before ++ calls)
+    calls_of_run w u before [] after run = ([], refl, subst (λ (l : List (Call X)). After u l) (sym (append-nil before)) (subst (λ (t : T). After t before) run after))
+    calls_of_run w u before (Answered x ∷ ts) after run =
+        let one = one_call w run.0 before x.event x.reply after run.1 in
+        let rest = calls_of_run run.0 u (before ++ one.0 ∷ []) ts one.2 run.2 in (
+          one.0 ∷ rest.0,
+          ap (λ (y : Exchange). y ∷ map (exchange_of rules.shown) rest.0) one.1 ∙ ap (λ (l : List Exchange). x ∷ l) rest.1,
+          subst (λ (l : List (Call X)). After u l) (append_assoc before (one.0 ∷ []) rest.0) rest.2,
+        )
+    calls_of_run w u before (Told n r ∷ ts) after run = absurd run.1
+    calls_of_run w u before (Ended ∷ ts) after run = calls_of_run w u before ts after run
+    calls_of_run w u before (Misread bad ∷ ts) after run = calls_of_run w u before ts after run
+
+    pub call_run : (KeepsLaw : List (Call X) → Type 0) → ((t : T) (r : List (Call X)) → After t r → KeepsLaw r) → (w u : T) → After w [] → (ts : List Turn) → Runs (visit_may rules) w ts u →
+        IsCallRun rules.shown KeepsLaw (exchanges ts)
+    call_run KeepsLaw law w u first ts run =
+        let calls = calls_of_run w u [] ts first run in
+        record { calls = calls.0; spelled = calls.1; law = law u calls.0 calls.2 }

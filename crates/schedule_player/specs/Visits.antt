@@ -1,0 +1,44 @@
+-- the rules of worlds whose participants only begin and step
+use Rattle.std.specs.Prelude.{◌≡◌, ℕ, Bool, true, false, Result, Ok, Err}
+use Rattle.step_memory.specs.declared.refusal.Refusal.{Refusal}
+use Rattle.desk.specs.declared.event.Event.TheVariants.{Begin, Step, Enter, Probe, Leave, Put, Get}
+use Rattle.desk.specs.declared.reply.Reply.{Reply}
+use Rattle.desk.specs.declared.reply.Reply.TheVariants as reply
+use Rattle.desk.specs.Replies.{done_reply}
+use Rattle.schedule_player.specs.Requests.{Request}
+use Rattle.schedule_player.specs.Requests.Request.{Take, OwnerOf}
+
+-- only `begin` and `step` are known
+abbrev pub knows_visits : Request → Bool
+knows_visits (Take (Begin p)) = true
+knows_visits (Take (Step p)) = true
+knows_visits (Take (Enter p)) = false
+knows_visits (Take (Probe p)) = false
+knows_visits (Take (Leave p)) = false
+knows_visits (Take (Put p value)) = false
+knows_visits (Take (Get p)) = false
+knows_visits (OwnerOf n) = false
+
+-- the outcome of `begin` and of `step` and the state after each, and what an accepted step is shown as
+pub record VisitRules (T X : Type 0) : Type 0 where
+  pub begins : T → ℕ → Result (Unit {0}) Refusal
+  pub begun : T → ℕ → T
+  pub steps : T → ℕ → Result X Refusal
+  pub stepped : T → ℕ → T
+  pub shown : X → Reply
+
+-- the reply to a step, where an accepted one is shown so
+abbrev pub said_reply : {X : Type 0} → (X → Reply) → Result X Refusal → Reply
+said_reply shown (Ok said) = shown said
+said_reply shown (Err refusal) = reply.Refused refusal
+
+-- one reply and one state, for what is known
+abbrev pub visit_may : {T X : Type 0} → VisitRules T X → T → Request → Reply → T → Type 0
+visit_may rules w (Take (Begin p)) r u = (r ≡ done_reply (rules.begins w p)) × (u ≡ rules.begun w p)
+visit_may rules w (Take (Step p)) r u = (r ≡ said_reply rules.shown (rules.steps w p)) × (u ≡ rules.stepped w p)
+visit_may rules w (Take (Enter p)) r u = ⊥
+visit_may rules w (Take (Probe p)) r u = ⊥
+visit_may rules w (Take (Leave p)) r u = ⊥
+visit_may rules w (Take (Put p value)) r u = ⊥
+visit_may rules w (Take (Get p)) r u = ⊥
+visit_may rules w (OwnerOf n) r u = ⊥

@@ -1,0 +1,53 @@
+//! A desk's world answers events, and tells who has a name.
+
+ghost use Rattle.std.specs.Prelude.{true};
+ghost use Rattle.desk.specs.Desk.{gives_names, IsFreshDesk};
+ghost use Rattle.desk.specs.DeskRun.{IsDeskRunOf};
+ghost use Rattle.schedule_player.specs.DeskWorld.{DeskWorldMay};
+ghost use Rattle.schedule_player.specs.DeskWorldLaws.{desk_answers, desk_lawful, desk_tells, one_desk_fresh, one_desk_reply};
+ghost use Rattle.std.proofs.Common.{refl};
+
+use crate::service::Service;
+use crate::world::World;
+use desk::{Desk, Event, Reply};
+use rename_core::Config;
+use std::alloc::Allocator;
+use step_memory::Refusal;
+
+impl<A: Allocator + Clone, R> Service<R> for Desk<A> {
+    ghost knows = { λ q. true };
+
+    ghost may = { DeskWorldMay };
+
+    ghost answers = { λ w q known. desk_answers w q };
+
+    fn apply(&mut self, _rt: &R, event: Event) -> Reply {
+        self.apply(event)
+    }
+
+    fn owner(&mut self, _rt: &R, n: u64) -> Reply {
+        Desk::owner(self, n)
+    }
+}
+
+impl<A: Allocator + Clone, R> World<A, R> for Desk<A> {
+    ghost serves = { gives_names };
+
+    ghost fresh = { IsFreshDesk };
+
+    ghost IsRunIn = { IsDeskRunOf };
+
+    fn open(alloc: A, config: Config) -> Result<Self, Refusal> {
+        Desk::new(alloc, config)
+    }
+
+    ghost meant = { λ kind serves line q is. refl };
+
+    ghost lawful = { desk_lawful };
+
+    ghost tells = { desk_tells };
+
+    ghost one_fresh = { one_desk_fresh };
+
+    ghost one_reply = { one_desk_reply };
+}

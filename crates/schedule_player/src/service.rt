@@ -1,0 +1,30 @@
+//! What answers events.
+
+ghost use Rattle.std.specs.Prelude.{◌≡◌, Bool, true};
+ghost use Rattle.desk.specs.declared.reply.Reply.{Reply};
+ghost use Rattle.schedule_player.specs.Requests.{Request};
+ghost use Rattle.schedule_player.specs.Requests.Request.{Take, OwnerOf};
+
+use desk::{Event, Reply};
+
+/// What answers events one by one, and tells who has a name, under rules.
+pub trait Service<R> {
+    /// Whether it knows a request: an event, or the number of a name whose owner is asked for.
+    ghost knows: { Request → Bool };
+
+    /// Whether it may answer a request so, and what is left then.
+    ghost may: { Self → Request → Reply → Self → Type 0 };
+
+    /// It may answer each request that it knows.
+    ghost answers: { (w : Self) (q : Request) → knows q ≡ true → (r : Reply) × (u : Self) × may w q r u };
+
+    /// Takes one event and answers it.
+    fn apply(&mut self, rt: &R, event: Event) -> Reply
+        requires { knows (Take event) ≡ true }
+        ensures { may self.old (Take event) result self.new };
+
+    /// Tells who has this name.
+    fn owner(&mut self, rt: &R, n: u64) -> Reply
+        requires { knows (OwnerOf n) ≡ true }
+        ensures { may self.old (OwnerOf n) result self.new };
+}
