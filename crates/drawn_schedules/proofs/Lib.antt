@@ -1,0 +1,4 @@
+pub mod ResultLemmas
+pub mod UnderWayLemmas
+pub mod ScheduleLemmas
+pub mod RunLemmas

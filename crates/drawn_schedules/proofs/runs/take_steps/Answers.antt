@@ -1,0 +1,24 @@
+use Rattle.std.proofs.Common.{◌+◌, ◌-◌, ◌%◌, ◌∷◌, [], arith}
+use Rattle.desk.specs.declared.event.Event.TheVariants.{Step}
+use Rattle.rand_pcg.specs.Pcg.{pcg32}
+use Rattle.drawn_schedules.specs.Schedule.{steps_drawn}
+use Rattle.drawn_schedules.proofs.RunLemmas.{steps_next, steps_none, plays_on}
+use Rattle.drawn_schedules.proofs.runs.take_steps.Goals as goal
+
+pub loop-done-preserved : goal.loop-done-preserved
+loop-done-preserved g c =
+    let k = c.loop-done._done in
+    let words = c.loop-done.words in
+    let e = c.in_ok-take.ensures in
+    let i = c.loop-done.invariant in
+    record {
+      on = rw c.draw_one.ensures.step (plays_on (steps_drawn c.args.ids c.args.n c.args.words) (Step (1 + (pcg32 words).0 % c.args.ids) ∷ []) (steps_drawn c.args.ids (c.args.n - (k + 1)) (pcg32 words).1)
+          c.args.desk.now c.loop-done.desk c.take.new.desk c.args.tally.now c.loop-done.tally c.take.new.tally
+          (rw (steps_next c.args.ids c.args.n k words c.loop-done-test.true) at i.on) (rw c.draw_one.ensures.word at e.on));
+      begun = omega (arith, e.begun, i.begun);
+      named = omega (arith, e.named, i.named);
+      spent = omega (arith, e.spent, i.spent);
+    }
+
+pub returns-clause-on : goal.returns-clause-on
+returns-clause-on g c = rw (steps_none c.args.ids c.args.n c.loop-done._done c.loop-done.words (omega arith)) at c.loop-done.invariant.on

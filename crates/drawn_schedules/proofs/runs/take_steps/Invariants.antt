@@ -1,0 +1,12 @@
+use Rattle.std.proofs.Common.{◌+◌, ◌-◌, ◌≤◌}
+use Rattle.drawn_schedules.specs.Schedule.{steps_drawn}
+use Rattle.drawn_schedules.specs.Runs.{PlaysFrom}
+use Rattle.drawn_schedules.proofs.runs.take_steps.Given as goal
+
+abbrev pub invariant-loop-done : goal.invariant-loop-done
+invariant-loop-done g l = record {
+  on : PlaysFrom (steps_drawn l.ids l.n l.fn.words) l.fn.desk l.fn.tally (steps_drawn l.ids (l.n - l._done) l.words) l.desk l.tally;
+  begun : l.tally.begun ≤ l.fn.tally.begun + l._done;
+  named : l.tally.named ≤ l.fn.tally.named + l._done;
+  spent : l.tally.spent ≤ l.fn.tally.spent + l._done;
+}

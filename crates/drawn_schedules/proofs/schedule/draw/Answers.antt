@@ -1,0 +1,49 @@
+use Rattle.std.proofs.Common.{◌++◌, []}
+use Rattle.std.proofs.lemmas.Result.{on_ok_weaker}
+use Rattle.schedule_player.specs.declared.fault.Fault.TheVariants.{Write}
+use Rattle.drawn_schedules.specs.Schedule.{begins_from, opened, steps_drawn}
+use Rattle.schedule_player.specs.Events.{event_lines}
+use Rattle.schedule_player.specs.UnderWay.{IsUnderWay}
+use Rattle.drawn_schedules.proofs.ScheduleLemmas.{schedule_lines}
+use Rattle.drawn_schedules.proofs.ResultLemmas.{on_ok_both, on_err_at}
+use Rattle.drawn_schedules.proofs.UnderWayLemmas.{at_first, at_last, second_half}
+use Rattle.drawn_schedules.proofs.schedule.draw.Goals as goal
+
+pub returns-in_err-draw_begins-clause-part : goal.returns-in_err-draw_begins-clause-part
+returns-in_err-draw_begins-clause-part g c = λ is.
+    (let old = g.W.Write.contents c.args.writer.now in
+    let begins = event_lines (begins_from 1 c.args.ids) in
+    let steps = event_lines (steps_drawn c.args.ids c.args.n (opened c.args.seed)) in
+    let way : IsUnderWay (begins ++ steps) old old c.in-Ok.held (begins ++ steps) = rw c.in-Ok.ensures (at_first (begins ++ steps) old) in
+    rw (schedule_lines c.args.seed c.args.ids c.args.n) (c.in_err-draw_begins.ensures.within (begins ++ steps) steps old way))
+
+pub returns-in_err-draw_steps-clause-part : goal.returns-in_err-draw_steps-clause-part
+returns-in_err-draw_steps-clause-part g c = λ is.
+    (let old = g.W.Write.contents c.args.writer.now in
+    let begins = event_lines (begins_from 1 c.args.ids) in
+    let steps = event_lines (steps_drawn c.args.ids c.args.n (opened c.args.seed)) in
+    let come = second_half begins steps old (g.W.Write.contents c.draw_begins.new.writer) c.in-Ok.held c.draw_begins.new.held c.in-Ok.ensures c.in_ok-draw_begins.ensures.on in
+    let within = rw c.generator.ensures at c.in_err-draw_steps.ensures.within in
+    rw (schedule_lines c.args.seed c.args.ids c.args.n) (within (begins ++ steps) [] old come))
+
+pub returns-clause-ok : goal.returns-clause-ok
+returns-clause-ok g c =
+    let old = g.W.Write.contents c.args.writer.now in
+    let begins = event_lines (begins_from 1 c.args.ids) in
+    let steps = event_lines (steps_drawn c.args.ids c.args.n (opened c.args.seed)) in
+    let come = second_half begins steps old (g.W.Write.contents c.draw_begins.new.writer) c.in-Ok.held c.draw_begins.new.held c.in-Ok.ensures c.in_ok-draw_begins.ensures.on in
+    let on = rw c.generator.ensures at c.in_ok-draw_steps.ensures.on in
+    let done = on (begins ++ steps) [] old come in
+    rw (schedule_lines c.args.seed c.args.ids c.args.n)
+    (on_ok_weaker c.send.result (λ both. at_last (begins ++ steps) old (g.W.Write.contents c.send.new.writer) (rw both.1 at (both.0 (begins ++ steps) [] old done)))
+    (on_ok_both _ _ c.send.result c.send.ensures.on c.send.ensures.empty))
+
+pub returns-clause-part : goal.returns-clause-part
+returns-clause-part g c = λ is.
+    (let old = g.W.Write.contents c.args.writer.now in
+    let begins = event_lines (begins_from 1 c.args.ids) in
+    let steps = event_lines (steps_drawn c.args.ids c.args.n (opened c.args.seed)) in
+    let come = second_half begins steps old (g.W.Write.contents c.draw_begins.new.writer) c.in-Ok.held c.draw_begins.new.held c.in-Ok.ensures c.in_ok-draw_begins.ensures.on in
+    let on = rw c.generator.ensures at c.in_ok-draw_steps.ensures.on in
+    let done = on (begins ++ steps) [] old come in
+    rw (schedule_lines c.args.seed c.args.ids c.args.n) (on_err_at _ c.send.result Write is c.send.ensures.within (begins ++ steps) [] old done))

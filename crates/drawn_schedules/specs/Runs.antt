@@ -1,0 +1,73 @@
+-- runs of drawn schedules, and what is told of them
+use Rattle.std.specs.Prelude.{◌≡◌, ◌≢◌, ℕ, ◌+◌, ◌%◌, ◌^◌, ◌≤◌, List, [], ◌∷◌, ◌++◌, map, length, codes, decimal, Option}
+use Rattle.step_memory.specs.declared.refusal.Refusal.TheVariants as refusal
+use Rattle.rename_core.specs.declared.config.Config.{Config}
+use Rattle.desk.specs.declared.event.Event.{Event}
+use Rattle.desk.specs.declared.exchange.Exchange.{Exchange}
+use Rattle.desk.specs.declared.reply.Reply.TheVariants as reply
+use Rattle.desk.specs.Desk.{IsAfterDesk}
+use Rattle.desk.specs.DeskCalls.{DeskCall, exchange_of}
+use Rattle.desk.specs.DeskRun.{IsDeskRunOf}
+use Rattle.desk.specs.DeskValue.{DeskValue}
+use Rattle.desk.specs.Names.{begun_in}
+use Rattle.drawn_schedules.specs.declared.tally.Tally.{Tally}
+use Rattle.drawn_schedules.specs.Schedule.{schedule}
+use Rattle.drawn_schedules.specs.Tally.{IsTallyOf, how_many, is_named, is_spent}
+use Rattle.schedule_player.specs.Written.{HasPartOf}
+
+-- no growth was refused
+abbrev pub IsAmple : List Exchange → Type 0
+IsAmple [] = Unit {0}
+IsAmple (x ∷ r) = (x.reply ≢ reply.Refused refusal.NoMemory) × IsAmple r
+
+-- a desk of this config has answered these events so far, by these exchanges, whose numbers these are
+pub record HasPlayed (config : Config) (events : List Event) (w : DeskValue) (t : Tally) : Type 0 where
+  pub calls : List DeskCall
+  pub after : IsAfterDesk config w calls
+  pub asked : map (λ x. x.event) (map exchange_of calls) ≡ events
+  pub ample : IsAmple (map exchange_of calls)
+  pub tally : IsTallyOf (map exchange_of calls) t
+
+-- wherever some of these events were to come, others are to come now
+abbrev pub PlaysFrom : List Event → DeskValue → Tally → List Event → DeskValue → Tally → Type 0
+PlaysFrom this w t that w' t' = (config : Config) (done all rest : List Event) → HasPlayed config done w t → done ++ (this ++ rest) ≡ all →
+    (done' : List Event) × HasPlayed config done' w' t' × (done' ++ (that ++ rest) ≡ all)
+
+-- a run of the schedule of a seed, as the desk of this config makes it where no growth is refused
+pub record IsDrawnRun (config : Config) (seed ids n : ℕ) (r : List Exchange) : Type 0 where
+  pub run : IsDeskRunOf config r
+  pub asked : map (λ x. x.event) r ≡ schedule seed ids n
+  pub ample : IsAmple r
+  pub last : DeskValue
+  pub calls : List DeskCall
+  pub spelled : map exchange_of calls ≡ r
+  pub after : IsAfterDesk config last calls
+
+-- the line of a run: its number, and how many have begun, were named and were spent
+abbrev pub numbers_line : ℕ → ℕ → ℕ → ℕ → List ℕ
+numbers_line j begun named spent =
+    ((codes "run " ++ decimal j) ++ (codes " begun " ++ decimal begun)) ++ ((codes " named " ++ decimal named) ++ (codes " spent " ++ decimal spent)) ++ 10 ∷ []
+
+abbrev pub run_line : ℕ → List Exchange → List ℕ
+run_line j r = numbers_line j (begun_in r) (how_many is_named r) (how_many is_spent r)
+
+-- the runs from number j on are those of the seeds from `seed + j` on
+abbrev pub AreDrawnRuns : Config → ℕ → ℕ → ℕ → ℕ → List (List Exchange) → Type 0
+AreDrawnRuns config seed ids n j [] = Unit {0}
+AreDrawnRuns config seed ids n j (r ∷ rs) = IsDrawnRun config ((seed + j) % 2 ^ 64) ids n r × AreDrawnRuns config seed ids n (j + 1) rs
+
+-- their lines
+abbrev pub run_lines : ℕ → List (List Exchange) → List ℕ
+run_lines j [] = []
+run_lines j (r ∷ rs) = run_line j r ++ run_lines (j + 1) rs
+
+-- so many runs were made, and this is so of the text of their lines
+pub record HasDrawn (config : Config) (seed ids n count : ℕ) (Told : List ℕ → Type 0) : Type 0 where
+  pub runs : List (List Exchange)
+  pub drawn : AreDrawnRuns config seed ids n 0 runs
+  pub count_is : length runs ≡ count
+  pub told : Told (run_lines 0 runs)
+
+-- at most so many runs were made, of whose lines the writer has gained a beginning
+abbrev pub HasDrawnPart : Config → ℕ → ℕ → ℕ → ℕ → Option (List ℕ) → Option (List ℕ) → Type 0
+HasDrawnPart config seed ids n most before now = (count : ℕ) × (count ≤ most) × HasDrawn config seed ids n count (HasPartOf before now)

@@ -1,0 +1,58 @@
+-- the numbers of a run
+use Rattle.std.specs.Prelude.{◌≡◌, ℕ, ◌+◌, if◌then◌else◌, Bool, true, false, List, [], ◌∷◌}
+use Rattle.desk.specs.declared.exchange.Exchange.{Exchange}
+use Rattle.desk.specs.declared.reply.Reply.{Reply}
+use Rattle.desk.specs.declared.reply.Reply.TheVariants as reply
+use Rattle.desk.specs.Names.{begun_in}
+use Rattle.drawn_schedules.specs.declared.tally.Tally.{Tally}
+
+abbrev pub is_named : Reply → Bool
+is_named reply.Ok = false
+is_named reply.Quiet = false
+is_named reply.Stop = false
+is_named reply.Right = false
+is_named reply.Down = false
+is_named (reply.Place place) = false
+is_named (reply.Proposed number) = false
+is_named (reply.Saw view) = false
+is_named (reply.Named name view) = true
+is_named reply.Spent = false
+is_named reply.Missed = false
+is_named (reply.Got number) = false
+is_named (reply.Left number) = false
+is_named (reply.Value value) = false
+is_named (reply.Owner owner) = false
+is_named (reply.Refused why) = false
+
+abbrev pub is_spent : Reply → Bool
+is_spent reply.Ok = false
+is_spent reply.Quiet = false
+is_spent reply.Stop = false
+is_spent reply.Right = false
+is_spent reply.Down = false
+is_spent (reply.Place place) = false
+is_spent (reply.Proposed number) = false
+is_spent (reply.Saw view) = false
+is_spent (reply.Named name view) = false
+is_spent reply.Spent = true
+is_spent reply.Missed = false
+is_spent (reply.Got number) = false
+is_spent (reply.Left number) = false
+is_spent (reply.Value value) = false
+is_spent (reply.Owner owner) = false
+is_spent (reply.Refused why) = false
+
+-- one more, where this is so
+abbrev pub one_more_if : Bool → ℕ → ℕ
+one_more_if so n = if so then n + 1 else n
+
+-- how many replies are such
+abbrev pub how_many : (Reply → Bool) → List Exchange → ℕ
+how_many such [] = 0
+how_many such (x ∷ r) = one_more_if (such x.reply) (how_many such r)
+
+-- how many have begun, were named and were spent, among these exchanges
+pub record IsTallyOf (r : List Exchange) (t : Tally) : Type 0 where
+  pub begun : t.begun ≡ begun_in r
+  pub named : t.named ≡ how_many is_named r
+  pub spent : t.spent ≡ how_many is_spent r

@@ -1,0 +1,165 @@
+//! Schedules that are drawn.
+
+ghost use Rattle.std.specs.Prelude.{◌≡◌, ◌<◌, ◌≤◌, ◌+◌, ◌*◌, ◌%◌, ◌^◌, ◌⊎◌, [], ◌∷◌, ◌++◌, Err, length, IfErr, OnOk, OnErr};
+ghost use Rattle.std.specs.Io.KnownBytes.{Appends};
+ghost use Rattle.rand_pcg.specs.Pcg.{pcg32};
+ghost use Rattle.drawn_schedules.specs.Schedule.{begins_from, opened, schedule, steps_drawn};
+ghost use Rattle.schedule_player.specs.Events.{event_lines, event_words};
+ghost use Rattle.schedule_player.specs.UnderWay.{GoesPast, StopsWithin};
+ghost use Rattle.schedule_player.specs.Written.{HasPartOf};
+
+use desk::Event;
+use rand_core::SeedableRng;
+use rand_core::utils::NextWord;
+use rand_pcg::Lcg64Xsh32;
+use schedule_player::{EVENT_ROOM, Fault, Replies, Sink, print_event};
+use std::alloc::Allocator;
+
+/// The generator of a seed.
+pub(crate) fn generator(seed: u64) -> Lcg64Xsh32
+    ensures { result ≡ opened seed }
+{
+    Lcg64Xsh32::seed_from_u64(seed)
+}
+
+/// The identity that steps next, by the generator's next word.
+pub(crate) fn draw_one(words: &mut Lcg64Xsh32, ids: u64) -> u64
+    requires some { 1 ≤ ids }
+    requires few { ids ≤ 64 }
+    ensures word { result ≡ 1 + (pcg32 words.old).0 % ids }
+    ensures step { words.new ≡ (pcg32 words.old).1 }
+    ensures most { result ≤ ids }
+{
+    1 + u64::from(words.next_word()) % ids
+}
+
+/// Appends the line of an event, where it has room, or after what is held is written.
+fn put_line<A: Allocator, W: Sink>(
+    event: Event,
+    held: &mut Replies<A>,
+    writer: &mut W,
+) -> Result<(), Fault>
+    requires { W.calls writer.old + length held.old ≤ 2 ^ 100 }
+    ensures on { OnOk result (GoesPast (event_words event ++ 10 ∷ []) (W.contents writer.old) held.old (W.contents writer.new) held.new) }
+    ensures within { OnErr result (StopsWithin (event_words event ++ 10 ∷ []) (W.contents writer.old) held.old (W.contents writer.new)) }
+    ensures only { IfErr result (λ fault. fault ≡ Fault.Write) }
+    ensures failed { OnErr result (W.failed writer.old < W.failed writer.new) }
+    ensures unfailed { OnOk result (W.failed writer.new ≡ W.failed writer.old) }
+    ensures calls { OnOk result (W.calls writer.new + length held.new ≤ W.calls writer.old + length held.old + 46) }
+{
+    held.make_room(EVENT_ROOM + 1, writer)?;
+    print_event(event, held);
+    held.put(b"\n");
+    Ok(())
+}
+
+/// The lines of the participants that begin.
+fn draw_begins<A: Allocator, W: Sink>(
+    ids: u64,
+    held: &mut Replies<A>,
+    writer: &mut W,
+) -> Result<(), Fault>
+    requires few { ids ≤ 64 }
+    requires calls { W.calls writer.old + length held.old + 46 * ids ≤ 2 ^ 100 }
+    ensures on { OnOk result (GoesPast (event_lines (begins_from 1 ids)) (W.contents writer.old) held.old (W.contents writer.new) held.new) }
+    ensures within { OnErr result (StopsWithin (event_lines (begins_from 1 ids)) (W.contents writer.old) held.old (W.contents writer.new)) }
+    ensures only { IfErr result (λ fault. fault ≡ Fault.Write) }
+    ensures failed { OnErr result (W.failed writer.old < W.failed writer.new) }
+    ensures unfailed { OnOk result (W.failed writer.new ≡ W.failed writer.old) }
+    ensures calls { OnOk result (W.calls writer.new + length held.new ≤ W.calls writer.old + length held.old + 46 * ids) }
+{
+    for before in 0..ids {
+        put_line(Event::Begin(before + 1), held, writer)?;
+    }
+    Ok(())
+}
+
+/// The lines of the steps.
+fn draw_steps<A: Allocator, W: Sink>(
+    words: Lcg64Xsh32,
+    ids: u64,
+    n: u64,
+    held: &mut Replies<A>,
+    writer: &mut W,
+) -> Result<(), Fault>
+    requires some { 1 ≤ ids }
+    requires few { ids ≤ 64 }
+    requires calls { W.calls writer.old + length held.old + 46 * n ≤ 2 ^ 100 }
+    ensures on { OnOk result (GoesPast (event_lines (steps_drawn ids n words)) (W.contents writer.old) held.old (W.contents writer.new) held.new) }
+    ensures within { OnErr result (StopsWithin (event_lines (steps_drawn ids n words)) (W.contents writer.old) held.old (W.contents writer.new)) }
+    ensures only { IfErr result (λ fault. fault ≡ Fault.Write) }
+    ensures failed { OnErr result (W.failed writer.old < W.failed writer.new) }
+    ensures unfailed { OnOk result (W.failed writer.new ≡ W.failed writer.old) }
+    ensures calls { OnOk result (W.calls writer.new + length held.new ≤ W.calls writer.old + length held.old + 46 * n) }
+{
+    let mut words = words;
+    for _done in 0..n {
+        put_line(Event::Step(draw_one(&mut words, ids)), held, writer)?;
+    }
+    Ok(())
+}
+
+/// Writes the schedule of a seed: `begin 1` to `begin ids`, and then `n` lines `step I`, where I is one more than the next word
+/// of the generator `Lcg64Xsh32` of that seed modulo `ids` (this project's profile).
+///
+/// `Fault::Memory` where its buffer was refused, with nothing written; `Fault::Write` where the writer failed or took nothing,
+/// with a beginning of the text written.
+pub fn draw<A: Allocator, W: Sink>(
+    alloc: A,
+    seed: u64,
+    ids: u64,
+    n: u64,
+    writer: &mut W,
+) -> Result<(), Fault>
+    requires some { 1 ≤ ids }
+    requires few { ids ≤ 64 }
+    requires writes { W.calls writer.old < 2 ^ 64 }
+    ensures ok { OnOk result (Appends (W.contents writer.old) (W.contents writer.new) (event_lines (schedule seed ids n))) }
+    ensures unfailed { OnOk result (W.failed writer.new ≡ W.failed writer.old) }
+    ensures part { result ≡ Err Fault.Write → HasPartOf (W.contents writer.old) (W.contents writer.new) (event_lines (schedule seed ids n)) }
+    ensures failed { result ≡ Err Fault.Write → W.failed writer.old < W.failed writer.new }
+    ensures memory { result ≡ Err Fault.Memory → writer.new ≡ writer.old }
+    ensures only { IfErr result (λ fault. (fault ≡ Fault.Write) ⊎ (fault ≡ Fault.Memory)) }
+{
+    let Ok(mut held) = Replies::new(alloc) else {
+        return Err(Fault::Memory);
+    };
+    draw_begins(ids, &mut held, writer)?;
+    draw_steps(generator(seed), ids, n, &mut held, writer)?;
+    held.send(writer)
+}
+
+#[cfg(test)]
+mod tests {
+    use super::*;
+    use schedule_player::Tried;
+    use std::test::Fail;
+
+    #[test]
+    fn one_identity_takes_every_step(rt: HostRuntime) -> Result<(), Fail> {
+        let mut writer = Tried::new(Vec::new(rt.alloc()));
+        assert!(rt; draw(rt.alloc(), 7, 1, 3, &mut writer).is_ok());
+        let text = writer.into_inner();
+        assert_eq!(rt;
+            text.as_slice(),
+            b"begin 1\nstep 1\nstep 1\nstep 1\n".as_slice()
+        );
+        Ok(())
+    }
+
+    #[test]
+    fn each_word_gives_a_step(rt: HostRuntime) -> Result<(), Fail> {
+        let mut words = generator(7);
+        let mut seen = [false; 5];
+        for _ in 0..400 {
+            if let Some(here) = seen.get_mut(draw_one(&mut words, 4) as usize) {
+                *here = true;
+            }
+        }
+        assert_eq!(rt; seen, [false, true, true, true, true]);
+        let mut writer = Tried::new(Vec::new(rt.alloc()));
+        assert!(rt; draw(rt.alloc(), 7, 4, 40_000, &mut writer).is_ok());
+        assert_eq!(rt; writer.into_inner().len(), 4 * 8 + 40_000 * 7);
+        Ok(())
+    }
+}

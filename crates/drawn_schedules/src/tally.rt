@@ -1,0 +1,48 @@
+//! The numbers of a run.
+
+ghost use Rattle.std.specs.Prelude.{◌≡◌, ◌+◌, ◌<◌, ◌≤◌, ◌^◌, []};
+ghost use Rattle.desk.specs.Names.{begun_more};
+ghost use Rattle.drawn_schedules.specs.Tally.{IsTallyOf, is_named, is_spent, one_more_if};
+
+use desk::{Event, Reply};
+
+/// How many participants have begun in a run, were named and were spent.
+#[derive(Clone, Copy, Debug, Drop, PartialEq, Eq)]
+pub struct Tally {
+    /// Those that have begun.
+    pub begun: u64,
+    /// Those that were named.
+    pub named: u64,
+    /// Those that have used up their rounds.
+    pub spent: u64,
+}
+
+impl Tally {
+    /// The numbers before the first event.
+    pub fn new() -> Tally
+        ensures { IsTallyOf [] result }
+    {
+        Tally {
+            begun: 0,
+            named: 0,
+            spent: 0,
+        }
+    }
+
+    /// Counts an event by its reply.
+    pub fn count(&mut self, event: Event, reply: &Reply)
+        requires begun { self.old.begun + 1 < 2 ^ 64 }
+        requires named { self.old.named + 1 < 2 ^ 64 }
+        requires spent { self.old.spent + 1 < 2 ^ 64 }
+        ensures begun { self.new.begun ≡ begun_more event reply.now self.old.begun }
+        ensures named { self.new.named ≡ one_more_if (is_named reply.now) self.old.named }
+        ensures spent { self.new.spent ≡ one_more_if (is_spent reply.now) self.old.spent }
+    {
+        match (event, reply) {
+            (Event::Begin(_), Reply::Ok) => self.begun += 1,
+            (_, Reply::Named(_, _)) => self.named += 1,
+            (_, Reply::Spent) => self.spent += 1,
+            _ => {}
+        }
+    }
+}
