@@ -1,0 +1,7 @@
+pub mod Logging
+pub mod Histories
+pub mod Keeping
+pub mod Places
+pub mod Marking
+pub mod Renames
+pub mod Sent

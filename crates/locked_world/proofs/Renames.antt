@@ -1,0 +1,48 @@
+-- steps that are added
+use Rattle.std.proofs.Common.{◌≡◌, ℕ, ◌+◌, true, false, List, [], ◌∷◌, ◌++◌, refl, sym, ap, ◌∙◌, arith, append_assoc, length-append}
+use Rattle.std.proofs.lemmas.List.Elements.{All-nil, All-push}
+use Rattle.std.proofs.lemmas.List.{append-nil}
+use Rattle.step_memory.specs.declared.refusal.Refusal.{Refusal}
+use Rattle.desk.specs.declared.event.Event.TheVariants.{Step}
+use Rattle.desk.specs.declared.reply.Reply.{Reply}
+use Rattle.desk.specs.declared.reply.Reply.TheVariants.{Ok, Quiet, Stop, Right, Down, Place, Proposed, Saw, Named, Spent, Missed, Got, Left, Value, Owner, Refused}
+use Rattle.desk.specs.DeskCalls.{exchange}
+use Rattle.desk.specs.Replies.{is_refusal}
+use Rattle.locked_world.specs.declared.kept.Kept.{Kept}
+use Rattle.locked_world.specs.Kepts.{IsKept, Keeps}
+use Rattle.locked_world.specs.KeptLogs.{kept_of}
+use Rattle.locked_world.specs.Renamed.{goes_on, IsStepped, IsPlainStep}
+
+pub stepped_not : (id : ℕ) (ks : List Kept) → IsStepped id 0 ks ks
+stepped_not id ks = record { added = []; longer = sym (append-nil ks); counted = refl; plain = All-nil (IsPlainStep id) }
+
+-- who is not named, spent or refused goes on
+pub plain_by : (r : Reply) → ((name : ℕ) (view : List (ℕ × ℕ)) → r ≡ Named name view → ⊥) → (r ≡ Spent → ⊥) → ((why : Refusal) → r ≡ Refused why → ⊥) → (goes_on r ≡ true) × (is_refusal r ≡ false)
+plain_by Ok named spent refused = (refl, refl)
+plain_by Quiet named spent refused = (refl, refl)
+plain_by Stop named spent refused = (refl, refl)
+plain_by Right named spent refused = (refl, refl)
+plain_by Down named spent refused = (refl, refl)
+plain_by (Place place) named spent refused = (refl, refl)
+plain_by (Proposed number) named spent refused = (refl, refl)
+plain_by (Saw view) named spent refused = (refl, refl)
+plain_by (Named name view) named spent refused = absurd (named name view refl)
+plain_by Spent named spent refused = absurd (spent refl)
+plain_by Missed named spent refused = (refl, refl)
+plain_by (Got number) named spent refused = (refl, refl)
+plain_by (Left number) named spent refused = (refl, refl)
+plain_by (Value value) named spent refused = (refl, refl)
+plain_by (Owner owner) named spent refused = (refl, refl)
+plain_by (Refused why) named spent refused = absurd (refused why refl)
+
+-- one more step after which it goes on
+pub stepped_more : (id count : ℕ) (ks mid new : List Kept) (r : Reply) → IsStepped id count ks mid → Keeps mid (Step id) r new → goes_on r ≡ true → is_refusal r ≡ false → IsStepped id (count + 1) ks new
+stepped_more id count ks mid new r h keeps plain accepted =
+    let kept : IsKept mid (Step id) r new = rw accepted at keeps in
+    let one = kept_of kept.place (exchange (Step id) r) in
+    record {
+      added = h.added ++ one ∷ [];
+      longer = kept.is ∙ ap (λ xs. xs ++ one ∷ []) h.longer ∙ append_assoc ks h.added (one ∷ []);
+      counted = omega (arith, length-append h.added (one ∷ []), h.counted);
+      plain = All-push (IsPlainStep id) h.added one h.plain (record { event = refl; plain = plain });
+    }

@@ -1,0 +1,14 @@
+use Rattle.std.proofs.Common.{◌≡◌, ◌+◌, length}
+use Rattle.locked_world.proofs.Marking.{are_none, are_more, map_more}
+use Rattle.locked_world.proofs.closing.mark_sessions.Goals as goal
+
+pub loop-session-init : goal.loop-session-init
+loop-session-init g c = are_none _ _ _
+
+pub loop-session-preserved : goal.loop-session-preserved
+loop-session-preserved g c =
+    let x = c.session-item.result in
+    let e = c.in_ok-now.ensures in
+    let count : c.in_ok-now.now + length x.clerk.kept.items ≡ c.loop-session.now = e.1 in
+    rw (map_more (λ s. s.clerk.kept.items) c.args.sessions.now.items c.deref-session-items.result.now c.loop-session.session-index x c.deref-session-items.ensures.value c.loop-session-test.true c.session-item.is)
+    (are_more _ _ _ _ _ _ _ _ _ c.loop-session.invariant e.0 count)

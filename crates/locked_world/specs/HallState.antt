@@ -1,0 +1,9 @@
+-- what a contract sees of a hall
+use Rattle.std.specs.Prelude.{List}
+use Rattle.rename_core.specs.declared.config.Config.{Config}
+use Rattle.desk.specs.declared.exchange.Exchange.{Exchange}
+
+-- what it was opened for, and its accepted events with their replies
+pub record HallState : Type 0 where
+  pub config : Config
+  pub history : List Exchange

@@ -1,0 +1,49 @@
+-- what callers keep: their accepted events, with replies and places that rise
+use Rattle.std.specs.Prelude.{◌≡◌, ℕ, ◌+◌, ◌<◌, ◌==◌, List, [], ◌∷◌, ◌++◌, length, Bool, true, false, ◌&&◌, nat_le, nat_lt, sum_by, count_by, All, if◌then◌else◌, Some, slice_get}
+use Rattle.desk.specs.declared.event.Event.{Event}
+use Rattle.desk.specs.declared.event.Event.TheVariants.{Begin}
+use Rattle.desk.specs.declared.exchange.Exchange.{Exchange}
+use Rattle.desk.specs.declared.reply.Reply.{Reply}
+use Rattle.desk.specs.DeskCalls.{exchange}
+use Rattle.desk.specs.Replies.{is_refusal}
+use Rattle.locked_world.specs.declared.kept.Kept.{Kept}
+use Rattle.locked_world.specs.KeptLogs.{kept_of}
+
+-- the places rise, from the first bound on, and stay below the second
+abbrev pub rises : ℕ → List Kept → ℕ → Bool
+rises from [] next = nat_le from next
+rises from (k ∷ ks) next = nat_le from k.place && rises (k.place + 1) ks next
+
+-- an accepted event is kept with its reply, at a place above the others
+pub record IsKept (ks : List Kept) (e : Event) (r : Reply) (new : List Kept) : Type 0 where
+  pub place : ℕ
+  pub above : All (λ k. k.place < place) ks
+  pub is : new ≡ ks ++ kept_of place (exchange e r) ∷ []
+
+abbrev pub KeepsUnless : Bool → List Kept → Event → Reply → List Kept → Type 0
+KeepsUnless true ks e r new = new ≡ ks
+KeepsUnless false ks e r new = IsKept ks e r new
+
+-- what an event with its reply does to a caller's list: an accepted one is added, a refused one changes nothing
+abbrev pub Keeps : List Kept → Event → Reply → List Kept → Type 0
+Keeps ks e r new = KeepsUnless (is_refusal r) ks e r new
+
+-- how often a place was kept
+abbrev pub times : ℕ → List (List Kept) → ℕ
+times p kepts = sum_by (λ ks. count_by (λ k. k.place == p) ks) kepts
+
+abbrev pub Fits : List Exchange → List Kept → Type 0
+Fits history ks = All (λ k. slice_get history k.place ≡ Some k.exchange) ks
+
+-- each place of the history was kept once, with the exchange there, and no other place
+pub record IsJust (history : List Exchange) (kepts : List (List Kept)) : Type 0 where
+  pub once : (p : ℕ) → times p kepts ≡ (if nat_lt p (length history) then 1 else 0)
+  pub fits : All (λ ks. Fits history ks) kepts
+  pub counted : sum_by (λ ks. length ks) kepts ≡ length history
+
+-- a session that has only begun
+pub record IsOpened (id : ℕ) (ks : List Kept) : Type 0 where
+  pub place : ℕ
+  pub reply : Reply
+  pub accepted : is_refusal reply ≡ false
+  pub is : ks ≡ kept_of place (exchange (Begin id) reply) ∷ []

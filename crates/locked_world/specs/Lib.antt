@@ -1,0 +1,12 @@
+pub mod LogState
+pub mod Logs
+pub mod KeptState
+pub mod KeptLogs
+pub mod Replay
+pub mod HallState
+pub mod Halls
+pub mod Acts
+pub mod Kepts
+pub mod Answers
+pub mod Marks
+pub mod Renamed

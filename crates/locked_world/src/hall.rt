@@ -1,0 +1,120 @@
+//! A desk with its history.
+
+ghost use Rattle.std.specs.Prelude.{◌≡◌, ◌⊎◌, ◌↔◌, [], length, slice_get, IfOk, IfErr, Err, false};
+ghost use Rattle.desk.specs.Desk.{gives_names, owner_reply};
+ghost use Rattle.desk.specs.Owner.{IsOwnerReply};
+ghost use Rattle.locked_world.specs.Halls.{hall_of, desk_of, IsLawful, hall_refusal, HallMay};
+
+use crate::log::Log;
+use desk::{Desk, Event, Exchange, Reply};
+use rename_core::Config;
+use std::alloc::Global;
+use std::marker::Model;
+use step_memory::Refusal;
+
+/// The most events that a history holds.
+pub const MOST_EVENTS: usize = 1_000_000;
+
+/// A value that is let go by what its type says of that, and not by its parts.
+#[derive(Drop)]
+struct Held<T> {
+    desk: T,
+}
+
+/// A desk with the list of its accepted events and their replies. A refused event is not stored.
+#[derive(Drop)]
+pub struct Hall {
+    config: Config,
+    held: Held<Desk<Global>>,
+    history: Log<Global>,
+}
+
+impl Model for Hall {
+    ghost use Rattle.std.specs.Prelude.{◌≡◌};
+    ghost use Rattle.locked_world.specs.HallState.{HallState};
+
+    ghost Value = { HallState };
+
+    ghost use Rattle.locked_world.specs.Halls.{hall_of, desk_of, IsLawful};
+
+    ghost view = { λ h. hall_of h.config h.history.items };
+
+    ghost invariant = { λ h. (h.held.desk ≡ desk_of (hall_of h.config h.history.items)) × IsLawful (hall_of h.config h.history.items) };
+}
+
+impl Hall {
+    /// A hall of this config with no event; `OutOfRange` where no names are given in the config's world, and `NoMemory` where
+    /// its room was refused.
+    pub fn new(alloc: Global, config: Config) -> Result<Self, Refusal>
+        ensures opened { IfOk result (λ h. h ≡ hall_of config []) }
+        ensures out_of_range { result ≡ Err Refusal.OutOfRange ↔ (gives_names config.world ≡ false) }
+        ensures only { IfErr result (λ why. (why ≡ Refusal.NoMemory) ⊎ (why ≡ Refusal.OutOfRange)) }
+    {
+        let desk = Desk::new(alloc, config)?;
+        let history = Log::new(alloc)?;
+        Ok(Hall {
+            config,
+            held: Held { desk },
+            history,
+        })
+    }
+
+    /// How many events the history holds.
+    pub fn len(&self) -> usize
+        ensures count { result ≡ length self.now.history }
+        ensures lawful { IsLawful self.now }
+    {
+        self.history.len()
+    }
+
+    /// The event at a place of the history, counted from 0, with its reply.
+    pub fn get(&self, place: usize) -> Option<Exchange>
+        ensures { result ≡ slice_get self.now.history place }
+    {
+        self.history.get(place)
+    }
+
+    /// Why an event would be refused, want of memory aside: `HistoryFull` where nothing else is due and 1,000,000 events are
+    /// held. It changes nothing.
+    pub fn refusal(&self, event: Event) -> Option<Refusal>
+        ensures { result ≡ hall_refusal self.now event }
+    {
+        if let Some(refusal) = self.held.desk.refusal(event) {
+            return Some(refusal);
+        }
+        if self.history.len() >= MOST_EVENTS {
+            Some(Refusal::HistoryFull)
+        } else {
+            None
+        }
+    }
+
+    /// Takes one event and answers it, by at most one access. Where it is accepted the history gains the event with its
+    /// reply; where it is refused nothing changes. The growth of the history is made first.
+    pub fn apply(&mut self, event: Event) -> Reply
+        ensures { HallMay self.old event result self.new }
+    {
+        if let Some(refusal) = self.refusal(event) {
+            return Reply::Refused(refusal);
+        }
+        if !self.history.reserve() {
+            return Reply::Refused(Refusal::NoMemory);
+        }
+        let reply = self.held.desk.apply(event);
+        if !reply.is_refusal() {
+            self.history.push_reserved(Exchange { event, reply });
+        }
+        reply
+    }
+
+    /// Who has a name, or that nobody has it; `OutOfRange` unless the number is from 1 to 2m - 1, for m participants. It
+    /// changes nothing.
+    pub fn owner(&self, number: u64) -> Reply
+        ensures value { result ≡ owner_reply (desk_of self.now) number }
+
+        // It is who was given the name in the history.
+        ensures told { IsOwnerReply self.now.config.m self.now.history number result }
+    {
+        self.held.desk.owner(number)
+    }
+}

@@ -1,0 +1,79 @@
+//! What a caller has kept, in order.
+
+ghost use Rattle.std.specs.Prelude.{◌≡◌, ◌++◌, [], ◌∷◌, length, slice_get, true, IfOk};
+
+use crate::kept::Kept;
+use crate::log::Log;
+use std::alloc::Global;
+use std::marker::Model;
+use step_memory::NoMemory;
+
+/// Kept events in order: 48 bytes each, and their views apart.
+#[derive(Drop)]
+pub struct KeptLog {
+    places: Vec<usize>,
+    log: Log<Global>,
+}
+
+impl Model for KeptLog {
+    ghost use Rattle.std.specs.Prelude.{◌≡◌, ◌&&◌, nat_lt, length, vec_len, vec_capacity};
+    ghost use Rattle.locked_world.specs.KeptState.{KeptState};
+
+    ghost Value = { KeptState };
+
+    ghost use Rattle.locked_world.specs.KeptLogs.{kept_log_of};
+
+    ghost view = { λ l. kept_log_of l.places.items l.log.items (nat_lt (vec_len l.places) (vec_capacity l.places) && l.log.room) };
+
+    ghost invariant = { λ l. length l.places.items ≡ length l.log.items };
+}
+
+impl KeptLog {
+    /// Nothing kept, which takes no memory.
+    pub(crate) fn new(alloc: Global) -> Result<KeptLog, NoMemory>
+        ensures { IfOk result (λ l. l.items ≡ []) }
+    {
+        let log = Log::new(alloc)?;
+        Ok(KeptLog {
+            places: Vec::new(alloc),
+            log,
+        })
+    }
+
+    /// How many were kept.
+    pub fn len(&self) -> usize
+        ensures { result ≡ length self.now.items }
+    {
+        self.places.len()
+    }
+
+    /// One that was kept, in their order.
+    pub fn get(&self, at: usize) -> Option<Kept>
+        ensures { result ≡ slice_get self.now.items at }
+    {
+        let Some(exchange) = self.log.get(at) else {
+            return None;
+        };
+        Some(Kept {
+            place: self.places[at],
+            exchange,
+        })
+    }
+
+    /// Makes room for one more, and tells whether there is.
+    pub(crate) fn reserve(&mut self) -> bool
+        ensures same { self.new.items ≡ self.old.items }
+        ensures room { result ≡ true → self.new.room ≡ true }
+    {
+        self.places.reserve(1).is_ok() && self.log.reserve()
+    }
+
+    /// Puts one behind the others, where there is room.
+    pub(crate) fn push_reserved(&mut self, kept: Kept)
+        requires { self.old.room ≡ true }
+        ensures { self.new.items ≡ self.old.items ++ kept ∷ [] }
+    {
+        self.places.push_reserved(kept.place);
+        self.log.push_reserved(kept.exchange);
+    }
+}

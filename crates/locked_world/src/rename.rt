@@ -1,0 +1,39 @@
+//! Steps until the name.
+
+ghost use Rattle.std.specs.Prelude.{◌≡◌};
+ghost use Rattle.locked_world.specs.Renamed.{IsRenamed};
+
+use crate::parts::{HallLock, Session};
+use desk::Reply;
+use std::sync::Wait;
+use std::sync::ledger::Ledger;
+use step_memory::Refusal;
+
+impl<L: Ledger> HallLock<L> {
+    /// Makes steps of a session until it is named, is spent, is refused, or has made so many. Each takes the lock once.
+    /// `Spent` also where a step answered that the participant is.
+    pub fn rename<R: Wait>(
+        &self,
+        rt: &R,
+        session: &mut Session<L>,
+        turns: u64,
+    ) -> Result<Option<u64>, Refusal>
+        ensures renamed { IsRenamed session.old.id turns session.old.clerk.kept.items result session.new.clerk.kept.items }
+        ensures same { session.new.id ≡ session.old.id }
+    {
+        for turn in 0..turns {
+            let _ = turn;
+            let reply = self.step(rt, session);
+            if let Reply::Named(name, _) = reply {
+                return Ok(Some(name));
+            }
+            if let Reply::Spent = reply {
+                return Err(Refusal::Spent);
+            }
+            if let Reply::Refused(refusal) = reply {
+                return Err(refusal);
+            }
+        }
+        Ok(None)
+    }
+}
