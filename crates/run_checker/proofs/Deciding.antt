@@ -1,0 +1,149 @@
+-- what tables tell of those who have proposed
+use Rattle.std.proofs.Common.{◌≡◌, ℕ, ◌≤◌, ◌==◌, ◌↔◌, inl, inr, Bool, true, false, List, [], ◌∷◌, length, refl, sym, ap, ◌∙◌, arith, Some, None, Option, IsTrue}
+use Rattle.std.specs.Prelude.{option_map}
+use Rattle.std.proofs.lemmas.Bool.Decides.{eqb_tells}
+use Rattle.step_memory.specs.declared.participant.Participant.{Participant}
+use Rattle.step_memory.specs.Participant.{participant_of, program_of}
+use Rattle.step_memory.specs.View.{IsRising, value_of, inserted}
+use Rattle.step_memory.proofs.ViewLemmas.{IsRising-inserted, value_of-inserted}
+use Rattle.snapshot_core.specs.Snapshot.{IsMoment}
+use Rattle.rename_core.specs.RenameObject.{RenameTerms, RenameObject, IsRecent, IsConflict, IsSole, HasConflict, IsFreeName}
+use Rattle.run_checker.specs.declared.names.Names.{Names}
+use Rattle.run_checker.specs.declared.standing.Standing.{Standing}
+use Rattle.run_checker.specs.declared.standing.Turn.{Turn}
+use Rattle.run_checker.specs.Moments.{crowded, SomeSince}
+use Rattle.run_checker.specs.Standing.{turn_of, count_of, since_of, told_in, Stands, HoldsNames, turns_in}
+use Rattle.run_checker.specs.Reasons.{MayBeNamed}
+use Rattle.run_checker.proofs.Crowds.{own, conflict_crowds, crowd_conflicts, sole_quiet, quiet_sole}
+
+-- the view of a moment: the pairs of those of whom it says something
+abbrev with_told : List (ℕ × ℕ) → ℕ → Option ℕ → List (ℕ × ℕ)
+with_told view p None = view
+with_told view p (Some n) = inserted view (p, n)
+
+abbrev view_of : List (Participant Standing) → (ℕ → Option ℕ) → List (ℕ × ℕ)
+view_of [] told = []
+view_of (v ∷ vs) told = with_told (view_of vs told) v.identity (told v.identity)
+
+with_rises : (view : List (ℕ × ℕ)) (p : ℕ) (o : Option ℕ) → IsRising view → IsRising (with_told view p o)
+with_rises view p None h = h
+with_rises view p (Some n) h = IsRising-inserted view (p, n) h
+
+view_rises : (ps : List (Participant Standing)) (told : ℕ → Option ℕ) → IsRising (view_of ps told)
+view_rises [] told = tt
+view_rises (v ∷ vs) told = with_rises (view_of vs told) v.identity (told v.identity) (view_rises vs told)
+
+-- what is put in of one is not seen of another
+with_other : (view : List (ℕ × ℕ)) (p q : ℕ) (o : Option ℕ) → (p == q) ≡ false → value_of q (with_told view p o) ≡ value_of q view
+with_other view p q None h = refl
+with_other view p q (Some n) h = value_of-inserted q view (p, n) ∙ rw h refl
+
+with_own : (view : List (ℕ × ℕ)) (p q n : ℕ) (o : Option ℕ) → (p == q) ≡ true → o ≡ Some n → value_of q (with_told view p o) ≡ Some n
+with_own view p q n None h e = absurd (cc)
+with_own view p q n (Some k) h e = value_of-inserted q view (p, k) ∙ rw h e
+
+with_none : (view : List (ℕ × ℕ)) (p q : ℕ) (o : Option ℕ) → o ≡ None → value_of q view ≡ None → value_of q (with_told view p o) ≡ None
+with_none view p q None e h = h
+with_none view p q (Some n) e h = absurd (cc)
+
+none_told : (ps : List (Participant Standing)) (told : ℕ → Option ℕ) (q : ℕ) → told q ≡ None → value_of q (view_of ps told) ≡ None
+none_told [] told q none = refl
+none_told (v ∷ vs) told q none = elim (eqb_tells v.identity q) [
+  | inl y ↦ with_none (view_of vs told) v.identity q (told v.identity) (ap told y.1 ∙ none) (none_told vs told q none)
+  | inr y ↦ with_other (view_of vs told) v.identity q (told v.identity) y.0 ∙ none_told vs told q none
+]
+
+some_told : (ps : List (Participant Standing)) (told : ℕ → Option ℕ) (q n : ℕ) → told q ≡ Some n → (participant_of q ps ≡ None → ⊥) → value_of q (view_of ps told) ≡ Some n
+some_told [] told q n some there = absurd (there refl)
+some_told (v ∷ vs) told q n some there = elim (eqb_tells v.identity q) [
+  | inl y ↦ with_own (view_of vs told) v.identity q n (told v.identity) y.0 (ap told y.1 ∙ some)
+  | inr y ↦ with_other (view_of vs told) v.identity q (told v.identity) y.0 ∙ some_told vs told q n some (λ e. there (rw y.0 e))
+]
+
+-- each moment of the object has its view
+told_of : (ps : List (Participant Standing)) (row : List ℕ) (q n : ℕ) → told_in row (turns_in ps q) ≡ Some n → participant_of q ps ≡ None → ⊥
+told_of ps row q n says none =
+    let e : told_in row (turns_in ps q) ≡ None = ap (λ x. told_in row (turn_of (option_map (λ v. v.program) x))) none in
+    let f : None ≡ Some n = sym e ∙ says in
+    absurd (cc)
+
+has_view : (terms : RenameTerms) (s : Names) (o : RenameObject) (i : ℕ) → HoldsNames terms s o → i ≤ o.last → IsMoment (view_of s.participants.items (o.moment i)) (o.moment i)
+has_view terms s o i h l = record {
+  rising = view_rises s.participants.items (o.moment i);
+  values = (λ q. elim (o.moment i q) as (λ x. o.moment i q ≡ x → value_of q (view_of s.participants.items (o.moment i)) ≡ o.moment i q) [
+    | None ↦ λ e. none_told s.participants.items (o.moment i) q e ∙ sym e
+    | Some n ↦ λ e. some_told s.participants.items (o.moment i) q n e (told_of s.participants.items (h.turns.rows i) q n (sym (h.turns.shown i l q) ∙ e)) ∙ sym e
+  ] refl);
+}
+
+-- of one who has begun and proposed
+module _ (terms : RenameTerms) (s : Names) (o : RenameObject) (p : ℕ) (st : Standing) (h : HoldsNames terms s o) (is : program_of p s.participants.items ≡ Some st) where
+  abbrev t : Turn
+  t = st.turn
+
+  turn_is : turns_in s.participants.items p ≡ Some t
+  turn_is = ap turn_of is
+
+  pub count_is : o.count p ≡ t.count
+  count_is = h.turns.count p ∙ ap count_of turn_is
+
+  since_is : o.since p ≡ t.since
+  since_is = h.turns.since p ∙ ap since_of turn_is
+
+  fits : length s.participants.items ≤ 16
+  fits = let r = h.room in let f = h.fits in omega arith
+
+  module _ (some : 1 ≤ o.count p) where
+    pub stand : Stands h.turns.rows o.last t
+    stand = h.turns.stands p t turn_is (let c = count_is in omega arith)
+
+    pub recent : (i : ℕ) → t.since ≤ i → i ≤ o.last → IsRecent o p i
+    recent i from l = record { no_earlier = rw since_is from; no_later = l }
+
+    pub since_of_recent : (i : ℕ) → IsRecent o p i → t.since ≤ i
+    since_of_recent i r = let e = since_is in let f = r.no_earlier in omega arith
+
+    pub conflicts : (i : ℕ) → t.since ≤ i → i ≤ o.last → crowded t.number (h.turns.rows i) ≡ true → IsConflict (o.moment i) p
+    conflicts i from l = crowd_conflicts (turns_in s.participants.items) (length s.participants.items) terms.limit s.moments o.last o.moment o.count o.since h.turns i p t.number t l fits turn_is (stand.in_each i from l) stand.positive
+
+    pub crowds : (i : ℕ) → t.since ≤ i → i ≤ o.last → IsConflict (o.moment i) p → crowded t.number (h.turns.rows i) ≡ true
+    crowds i from l = conflict_crowds (turns_in s.participants.items) (length s.participants.items) terms.limit s.moments o.last o.moment o.count o.since h.turns i p t.number t l fits turn_is (stand.in_each i from l) stand.positive
+
+    sole : (i : ℕ) → t.since ≤ i → i ≤ o.last → crowded t.number (h.turns.rows i) ≡ false → IsSole (o.moment i) p t.number
+    sole i from l = quiet_sole (turns_in s.participants.items) (length s.participants.items) terms.limit s.moments o.last o.moment o.count o.since h.turns i p t.number t l fits turn_is (stand.in_each i from l) stand.positive
+
+    quiet : (i : ℕ) → t.since ≤ i → i ≤ o.last → IsSole (o.moment i) p t.number → crowded t.number (h.turns.rows i) ≡ false
+    quiet i from l = sole_quiet (turns_in s.participants.items) (length s.participants.items) terms.limit s.moments o.last o.moment o.count o.since h.turns i p t.number t l fits turn_is (stand.in_each i from l) stand.positive
+
+    own_is : (i : ℕ) → t.since ≤ i → i ≤ o.last → o.moment i p ≡ Some t.number
+    own_is i from l = own (turns_in s.participants.items) (length s.participants.items) terms.limit s.moments o.last o.moment o.count o.since h.turns i p t.number t l fits turn_is (stand.in_each i from l) stand.positive
+
+    -- another has proposed the same
+    pub conflict_told : (r : Bool) → IsTrue r ↔ SomeSince (λ i. crowded t.number (h.turns.rows i) ≡ true) t.since o.last → IsTrue r ↔ HasConflict o p
+    conflict_told r w = (
+      (λ y. let k = w.0 y in record { index = k.index; recent = recent k.index k.no_earlier k.no_later; conflict = conflicts k.index k.no_earlier k.no_later k.passes }),
+      (λ k.
+          let from = since_of_recent k.index k.recent in
+          w.1 (record { index = k.index; no_earlier = from; no_later = k.recent.no_later; passes = crowds k.index from k.recent.no_later k.conflict })),
+    )
+
+    -- what may be a name is what was proposed last
+    pub last_number : (n : ℕ) → MayBeNamed o p n → n ≡ t.number
+    last_number n k =
+        let e : Some n ≡ Some t.number = sym k.shows.sole.own ∙ own_is k.shows.index (since_of_recent k.shows.index k.shows.recent) k.shows.recent.no_later in
+        cc
+
+    pub sole_told : (r : Bool) → IsTrue r ↔ SomeSince (λ i. crowded t.number (h.turns.rows i) ≡ false) t.since o.last → IsFreeName o t.number → IsTrue r ↔ MayBeNamed o p t.number
+    sole_told r w free = (
+      (λ y.
+          let k = w.0 y in
+          record {
+            view = view_of s.participants.items (o.moment k.index);
+            some = some;
+            shows = record { index = k.index; recent = recent k.index k.no_earlier k.no_later; is = has_view terms s o k.index h k.no_later; sole = sole k.index k.no_earlier k.no_later k.passes };
+            free = free;
+          }),
+      (λ k.
+          let from = since_of_recent k.shows.index k.shows.recent in
+          w.1 (record { index = k.shows.index; no_earlier = from; no_later = k.shows.recent.no_later; passes = quiet k.shows.index from k.shows.recent.no_later k.shows.sole })),
+    )

@@ -1,0 +1,17 @@
+pub mod Past
+pub mod Turned
+pub mod PeopleLemmas
+pub mod TurnLemmas
+pub mod NamesLemmas
+pub mod Crowds
+pub mod Deciding
+pub mod RowLemmas
+pub mod StayLemmas
+pub mod Judging
+pub mod Following
+pub mod RecordRuns
+pub mod DeskRuns
+pub mod WordLemmas
+pub mod JsonLemmas
+pub mod RecordLines
+pub mod RowRuns

@@ -1,0 +1,37 @@
+-- what a line says is one thing
+use Rattle.std.proofs.Common.{◌≡◌, ℕ, ◌≤◌, List, length, Option, Some, None, Result, Ok, Err, sym, subst, ◌∙◌}
+use Rattle.std.specs.Prelude.{MatchOption}
+use Rattle.std.specs.Result.{IfOk}
+use Rattle.std.specs.declared.alloc.AllocError.{AllocError}
+use Rattle.serde_json.specs.Data.{Data}
+use Rattle.serde_json.specs.declared.value.Value.{Value}
+use Rattle.serde_json.specs.View.{view}
+use Rattle.rename_core.specs.declared.config.Config.{Config}
+use Rattle.rename_core.specs.declared.config.WorldKind.{WorldKind}
+use Rattle.run_checker.specs.declared.line.Line.{Line}
+use Rattle.run_checker.specs.Json.{IsHeader}
+use Rattle.run_checker.specs.RecordLine.{IsJson, SaysLine, IsEventLine, IsHeaderLine}
+
+-- bytes are read as one value alone
+one_value : (bytes : List ℕ) (d e : Data) → IsJson bytes d → IsJson bytes e → d ≡ e
+one_value bytes d e x y = let k : Some d ≡ Some e = sym x.reads ∙ y.reads in cc
+
+pub json_some : (bytes : List ℕ) (o : Option Value) (v : Value) → o ≡ Some v → MatchOption o ((d : Data) → IsJson bytes d → ⊥) (λ w. IsJson bytes (view w)) → IsJson bytes (view v)
+json_some bytes None v e h = absurd (cc)
+json_some bytes (Some w) v e h = let f : w ≡ v = cc in subst (λ (x : Value). IsJson bytes (view x)) f h
+
+pub json_none : (bytes : List ℕ) (o : Option Value) → o ≡ None → MatchOption o ((d : Data) → IsJson bytes d → ⊥) (λ w. IsJson bytes (view w)) → (d : Data) → IsJson bytes d → ⊥
+json_none bytes None e h = h
+json_none bytes (Some w) e h = absurd (cc)
+
+-- a line says what its value does
+pub line_said : (kind : WorldKind) (bytes : List ℕ) (d : Data) (r : Result (Option Line) AllocError) → length bytes ≤ 8192 → IsJson bytes d →
+    IfOk r (λ x. MatchOption x ((l : Line) → SaysLine kind d l → ⊥) (λ l. SaysLine kind d l)) → IfOk r (λ x. MatchOption x ((l : Line) → IsEventLine kind bytes l → ⊥) (λ l. IsEventLine kind bytes l))
+line_said kind bytes d (Ok None) short json h = λ l e. h l (subst (λ (x : Data). SaysLine kind x l) (one_value bytes e.value d e.json json) e.says)
+line_said kind bytes d (Ok (Some l)) short json h = record { short = short; value = d; json = json; says = h }
+line_said kind bytes d (Err e) short json h = tt
+
+pub header_said : (bytes : List ℕ) (d : Data) (o : Option Config) → length bytes ≤ 8192 → IsJson bytes d →
+    MatchOption o ((c : Config) → IsHeader d c → ⊥) (λ c. IsHeader d c) → MatchOption o ((c : Config) → IsHeaderLine bytes c → ⊥) (λ c. IsHeaderLine bytes c)
+header_said bytes d None short json h = λ c e. h c (subst (λ (x : Data). IsHeader x c) (one_value bytes e.value d e.json json) e.says)
+header_said bytes d (Some c) short json h = record { short = short; value = d; json = json; says = h }

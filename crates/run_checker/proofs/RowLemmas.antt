@@ -1,0 +1,142 @@
+-- rows of views
+use Rattle.std.proofs.Common.{◌≡◌, ℕ, zero, suc, ◌<◌, ◌≤◌, ◌==◌, inl, inr, true, cond, List, [], ◌∷◌, length, get_or, refl, sym, ap, ◌∙◌, subst, arith, Some, None, Option, slice_index, slice_set, replicate}
+use Rattle.std.specs.Prelude.{nat_lt}
+use Rattle.std.proofs.lemmas.Bool.{cases_Bool, ltb-true, ltb-false, ne_eqb, eq-eqb}
+use Rattle.std.proofs.lemmas.Bool.Decides.{eqb_tells}
+use Rattle.std.proofs.lemmas.Grind.{same_number_lists}
+use Rattle.std.proofs.lemmas.List.{get_or-set_same, get_or-set_other, length-set}
+use Rattle.step_memory.specs.Participant.{program_of}
+use Rattle.step_memory.specs.View.{IsAbove, IsRising, value_of}
+use Rattle.snapshot_core.specs.Snapshot.{IsMoment}
+use Rattle.rename_core.specs.RenameObject.{RenameTerms, RenameObject, ShowsConflict}
+use Rattle.run_checker.specs.declared.names.Names.{Names}
+use Rattle.run_checker.specs.declared.standing.Standing.{Standing}
+use Rattle.run_checker.specs.declared.standing.Turn.{Turn}
+use Rattle.run_checker.specs.Moments.{crowded, SomeSince}
+use Rattle.run_checker.specs.Rows.{HasPair, LacksPair, IsRowOf, TellsMoments}
+use Rattle.run_checker.specs.Standing.{number_told, told_in, HoldsNames, turns_in}
+use Rattle.run_checker.proofs.Crowds.{number_some, some_number}
+use Rattle.run_checker.proofs.Deciding.{recent, since_of_recent, conflicts, crowds}
+
+-- no identity of a rising list comes again
+above_all : (n : ℕ) (xs : List (ℕ × ℕ)) (j : ℕ) (d : ℕ × ℕ) → IsAbove n xs → IsRising xs → j < length xs → n < (get_or xs j d).0
+above_all n [] j d a r l = absurd (omega arith)
+above_all n (x ∷ xs) zero d a r l = a
+above_all n (x ∷ xs) (suc j) d a r l = let k = above_all x.0 xs j d r.0 r.1 (omega arith) in omega arith
+
+-- what stands in a rising list is the value of its identity
+pub value_at : (xs : List (ℕ × ℕ)) (j : ℕ) (d : ℕ × ℕ) → IsRising xs → j < length xs → value_of (get_or xs j d).0 xs ≡ Some (get_or xs j d).1
+value_at [] j d r l = absurd (omega arith)
+value_at (x ∷ xs) zero d r l = rw (eq-eqb x.0 x.0 refl) refl
+value_at (x ∷ xs) (suc j) d r l =
+    let above = above_all x.0 xs j d r.0 r.1 (omega arith) in
+    rw (ne_eqb x.0 (get_or xs j d).0 (λ e. absurd (omega arith))) (value_at xs j d r.1 (omega arith))
+
+-- what a row says is some number, or nothing
+positive : (row : List ℕ) (o : Option Turn) (n : ℕ) → told_in row o ≡ Some n → 1 ≤ n
+positive row None n h = absurd (cc)
+positive row (Some t) n h =
+    let e : slice_index row t.seat ≡ n = some_number _ n h in
+    elim (eqb_tells n 0) [
+      | inl y ↦ absurd (let z : slice_index row t.seat ≡ 0 = e ∙ y.1 in let k : number_told 0 ≡ Some n = ap number_told (sym z) ∙ h in cc)
+      | inr y ↦ (let d = y.1 in omega arith)
+    ]
+
+seat_of : (turns : ℕ → Option Turn) (row : List ℕ) (p n : ℕ) (o : Option Turn) → turns p ≡ o → told_in row o ≡ Some n → (t : Turn) × (turns p ≡ Some t) × (slice_index row t.seat ≡ n)
+seat_of turns row p n None e h = absurd (cc)
+seat_of turns row p n (Some t) e h = (t, e, some_number _ n h)
+
+-- a list that has a pair that no moment has is no moment
+pub no_moment : (terms : RenameTerms) (s : Names) (o : RenameObject) (view : List (ℕ × ℕ)) (j : ℕ) (d : ℕ × ℕ) (i : ℕ) → HoldsNames terms s o → i ≤ o.last → IsRising view → j < length view →
+    LacksPair (turns_in s.participants.items) (get_or view j d).0 (get_or view j d).1 → IsMoment view (o.moment i) → ⊥
+no_moment terms s o view j d i h l r inside lacks is =
+    let p : ℕ = (get_or view j d).0 in
+    let n : ℕ = (get_or view j d).1 in
+    let says : told_in (h.turns.rows i) (turns_in s.participants.items p) ≡ Some n = sym (h.turns.shown i l p) ∙ sym (is.values p) ∙ value_at view j d r inside in
+    let t = seat_of (turns_in s.participants.items) (h.turns.rows i) p n (turns_in s.participants.items p) refl says in
+    let small = h.turns.small i l t.0.seat in
+    let e = t.2 in
+    lacks t.0 t.1 (positive (h.turns.rows i) (turns_in s.participants.items p) n says) (omega arith)
+
+zero_at : (k n : ℕ) → slice_index (replicate k 0) n ≡ 0
+zero_at zero n = refl
+zero_at (suc k) zero = refl
+zero_at (suc k) (suc n) = zero_at k n
+
+told_zero : (o : Option Turn) → told_in (replicate 16 0) o ≡ None
+told_zero None = refl
+told_zero (Some t) = ap number_told (zero_at 16 t.seat)
+
+-- the row of no pair
+pub no_pair : (turns : ℕ → Option Turn) (many : ℕ) → IsRowOf turns many [] (replicate 16 0)
+no_pair turns many = record { wide = refl; says = (λ q. sym (told_zero (turns q))); unused = (λ seat far. zero_at 16 seat) }
+
+-- the row with one more pair, which comes first
+pub one_pair : (terms : RenameTerms) (s : Names) (o : RenameObject) (h : HoldsNames terms s o) (xs : List (ℕ × ℕ)) (x : ℕ × ℕ) (row : List ℕ) (seat : ℕ) →
+    IsRowOf (turns_in s.participants.items) (length s.participants.items) xs row → HasPair (turns_in s.participants.items) x.0 x.1 seat →
+    IsRowOf (turns_in s.participants.items) (length s.participants.items) (x ∷ xs) (slice_set row seat x.1)
+one_pair terms s o h xs x row seat r k =
+    let below = h.turns.seated x.0 k.turn k.is in
+    let room = h.room in
+    let fits = h.fits in
+    let at = k.at in
+    let wide = r.wide in
+    let inside : seat < length row = omega arith in
+    record {
+      wide = length-set row seat x.1 ∙ r.wide;
+      says = (λ q. elim (eqb_tells x.0 q) [
+        | inl y ↦ rw y.0 (sym (
+            ap (told_in (slice_set row seat x.1)) (ap (turns_in s.participants.items) (sym y.1) ∙ k.is) ∙ ap number_told (ap (slice_index (slice_set row seat x.1)) k.at ∙ get_or-set_same row seat x.1 0 inside) ∙ number_some x.1 k.positive))
+        | inr y ↦ rw y.0 (r.says q ∙ elim (turns_in s.participants.items q) as (λ z. turns_in s.participants.items q ≡ z → told_in row z ≡ told_in (slice_set row seat x.1) z) [
+          | None ↦ λ e. refl
+          | Some u ↦ λ e. ap number_told (sym (get_or-set_other row seat u.seat x.1 0 (λ same. y.1 (sym (h.turns.apart q x.0 u k.turn e k.is (same ∙ sym k.at))))))
+        ] refl)
+      ]);
+      unused = (λ other far. get_or-set_other row seat other x.1 0 (λ same. absurd (omega arith)) ∙ r.unused other far);
+    }
+
+number_told_one : (a b : ℕ) → number_told a ≡ number_told b → a ≡ b
+number_told_one a b e = elim (eqb_tells a 0) [
+  | inl y ↦ elim (eqb_tells b 0) [
+    | inl z ↦ y.1 ∙ sym z.1
+    | inr z ↦ absurd (let k : None ≡ Some b = (let f : cond (a == 0) None (Some a) ≡ cond (b == 0) None (Some b) = e in rw (y.0, z.0) at f) in cc)
+  ]
+  | inr y ↦ elim (eqb_tells b 0) [
+    | inl z ↦ absurd (let k : Some a ≡ None = (let f : cond (a == 0) None (Some a) ≡ cond (b == 0) None (Some b) = e in rw (y.0, z.0) at f) in cc)
+    | inr z ↦ (let k : Some a ≡ Some b = (let f : cond (a == 0) None (Some a) ≡ cond (b == 0) None (Some b) = e in rw (y.0, z.0) at f) in cc)
+  ]
+]
+
+-- a rising list is a moment exactly where its row is the moment's
+pub row_tells : (terms : RenameTerms) (s : Names) (o : RenameObject) (h : HoldsNames terms s o) (view : List (ℕ × ℕ)) (row : List ℕ) →
+    IsRowOf (turns_in s.participants.items) (length s.participants.items) view row → TellsMoments o h.turns.rows view (Some row)
+row_tells terms s o h view row r i l rises = (
+  (λ is. same_number_lists (h.turns.rows i) row (h.turns.held.wide i l ∙ sym r.wide) (λ seat inside. elim (cases_Bool (nat_lt seat (length s.participants.items))) [
+    | inl y ↦
+        let k = h.turns.taken seat (ltb-true _ _ y) in
+        let e : number_told (slice_index (h.turns.rows i) k.turn.seat) ≡ number_told (slice_index row k.turn.seat) =
+        sym (ap (told_in (h.turns.rows i)) k.is) ∙ sym (h.turns.shown i l k.who) ∙ sym (is.values k.who) ∙ r.says k.who ∙ ap (told_in row) k.is in
+        subst (λ x. slice_index (h.turns.rows i) x ≡ slice_index row x) k.at (number_told_one _ _ e)
+    | inr y ↦ h.turns.unused i l seat (ltb-false _ _ y) ∙ sym (r.unused seat (ltb-false _ _ y))
+  ])),
+  (λ e. record { rising = rises; values = (λ q. r.says q ∙ ap (λ x. told_in x (turns_in s.participants.items q)) (sym e) ∙ sym (h.turns.shown i l q)) }),
+)
+
+-- a view that rises and has a row shows a conflict exactly where the row was seen and is crowded
+module _ (terms : RenameTerms) (s : Names) (o : RenameObject) (p : ℕ) (st : Standing) (h : HoldsNames terms s o) (is : program_of p s.participants.items ≡ Some st) (some : 1 ≤ o.count p)
+    (view : List (ℕ × ℕ)) (rises : IsRising view) where
+  pub shows : (row : List ℕ) → TellsMoments o h.turns.rows view (Some row) → SomeSince (λ i. h.turns.rows i ≡ row) st.turn.since o.last → crowded st.turn.number row ≡ true → ShowsConflict o p view
+  shows row tells k crowd = record {
+    index = k.index;
+    recent = recent terms s o p st h is some k.index k.no_earlier k.no_later;
+    is = (tells k.index k.no_later rises).1 k.passes;
+    conflict = conflicts terms s o p st h is some k.index k.no_earlier k.no_later (ap (crowded st.turn.number) k.passes ∙ crowd);
+  }
+
+  pub was_shown : (row : List ℕ) → TellsMoments o h.turns.rows view (Some row) → ShowsConflict o p view → SomeSince (λ i. h.turns.rows i ≡ row) st.turn.since o.last × (crowded st.turn.number row ≡ true)
+  was_shown row tells c =
+      let from = since_of_recent terms s o p st h is some c.index c.recent in
+      let same = (tells c.index c.recent.no_later rises).0 c.is in (
+        record { index = c.index; no_earlier = from; no_later = c.recent.no_later; passes = same },
+        ap (crowded st.turn.number) (sym same) ∙ crowds terms s o p st h is some c.index from c.recent.no_later c.conflict,
+      )

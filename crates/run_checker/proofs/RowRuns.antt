@@ -1,0 +1,86 @@
+-- the lines of a record, one after the other
+use Rattle.std.proofs.Common.{◌≡◌, ℕ, ◌+◌, ◌<◌, ◌≤◌, List, [], ◌∷◌, ◌++◌, length, Option, Some, None, refl, sym, ap, ◌∙◌, subst, arith, length-append, append_assoc}
+use Rattle.std.proofs.lemmas.List.{append-nil}
+use Rattle.schedule_player.specs.Lines.{pieces_from}
+use Rattle.rename_core.specs.declared.config.Config.{Config}
+use Rattle.rename_core.specs.declared.config.WorldKind.{WorldKind}
+use Rattle.run_checker.specs.declared.checker.Checker.{Checker}
+use Rattle.run_checker.specs.declared.line.Line.{Line}
+use Rattle.run_checker.specs.declared.reason.Reason.{Reason}
+use Rattle.run_checker.specs.Config.{terms_of}
+use Rattle.run_checker.specs.Judged.{HasTaken, IsFaultAfter}
+use Rattle.run_checker.specs.RecordLine.{IsEventLine}
+use Rattle.run_checker.specs.ReplyText.{pieces_left}
+use Rattle.run_checker.specs.Verdict.{lines_from, lines_of, record_lines, lines_left, AreRead, SpellRun, IsFaultyRow, IsBadRow}
+use Rattle.run_checker.proofs.WordLemmas.{HasPiece, some_piece}
+use Rattle.run_checker.proofs.RecordRuns.{follows_run}
+
+-- a line, and those that are left
+pub one_line : (bytes line : List ℕ) (rest : Option (List ℕ)) → pieces_from 10 [] bytes ≡ line ∷ pieces_left 10 rest → ((line ≡ []) × (rest ≡ None) → ⊥) → record_lines bytes ≡ line ∷ lines_left rest
+one_line bytes line rest e full = ap lines_of e ∙ by line rest full
+  where
+    joined : (p : List ℕ) (pieces : List (List ℕ)) → HasPiece pieces → lines_from p pieces ≡ p ∷ lines_of pieces
+    joined p [] h = absurd (let k = h.is in cc)
+    joined p (q ∷ qs) h = refl
+
+    by : (p : List ℕ) (o : Option (List ℕ)) → ((p ≡ []) × (o ≡ None) → ⊥) → lines_from p (pieces_left 10 o) ≡ p ∷ lines_left o
+    by [] None f = absurd (f (refl, refl))
+    by (x ∷ xs) None f = refl
+    by p (Some b) f = joined p (pieces_from 10 [] b) (some_piece 10 [] b)
+
+pub no_line : (bytes line : List ℕ) (rest : Option (List ℕ)) → pieces_from 10 [] bytes ≡ line ∷ pieces_left 10 rest → line ≡ [] → rest ≡ None → record_lines bytes ≡ []
+no_line bytes line rest e a b = ap lines_of (e ∙ (λ i. a i ∷ pieces_left 10 (b i)))
+
+-- the rows so far were read and taken, and these are left
+pub record RowsSoFar (c : Config) (rows left : List (List ℕ)) (checker : Checker) (number : ℕ) : Type 0 where
+  pub before : List (List ℕ)
+  pub lines : List Line
+  pub is : before ++ left ≡ rows
+  pub read : AreRead c.world before lines
+  pub many : length lines ≡ length before
+  pub few : length before ≤ 1000000
+  pub taken : HasTaken (terms_of c) c.k lines checker
+  pub at : number ≡ length before + 2
+
+read_more : (kind : WorldKind) (rows : List (List ℕ)) (lines : List Line) (row : List ℕ) (l : Line) → AreRead kind rows lines → IsEventLine kind row l → AreRead kind (rows ++ row ∷ []) (lines ++ l ∷ [])
+read_more kind [] [] row l r e = (e, tt)
+read_more kind [] (m ∷ ms) row l r e = absurd r
+read_more kind (x ∷ xs) [] row l r e = absurd r
+read_more kind (x ∷ xs) (m ∷ ms) row l r e = (r.0, read_more kind xs ms row l r.1 e)
+
+module _ (c : Config) (rows : List (List ℕ)) (checker : Checker) (number : ℕ) where
+  pub all_rows : RowsSoFar c rows [] checker number → SpellRun c rows
+  all_rows s = record {
+    lines = s.lines;
+    read = subst (λ (x : List (List ℕ)). AreRead c.world x s.lines) whole s.read;
+    few = subst (λ (x : List (List ℕ)). length x ≤ 1000000) whole s.few;
+    run = follows_run (terms_of c) c.k s.lines s.taken.object s.taken.run;
+  }
+    where
+      whole : s.before ≡ rows
+      whole = sym (append-nil s.before) ∙ s.is
+
+  pub faulty_row : (row : List ℕ) (more : List (List ℕ)) (l : Line) (why : Reason) → (s : RowsSoFar c rows (row ∷ more) checker number) → length s.before < 1000000 → IsEventLine c.world row l →
+      IsFaultAfter (terms_of c) c.k s.lines l why → IsFaultyRow c rows number why
+  faulty_row row more l why s few says fault = record { before = s.before; row = row; after = more; is = s.is; lines = s.lines; read = s.read; few = few; line = l; says = says; fault = fault; at = s.at }
+
+  pub bad_row : (row : List ℕ) (more : List (List ℕ)) → (s : RowsSoFar c rows (row ∷ more) checker number) → (length s.before < 1000000 → (l : Line) → IsEventLine c.world row l → ⊥) → IsBadRow c rows number
+  bad_row row more s bad = record { before = s.before; row = row; after = more; is = s.is; lines = s.lines; read = s.read; run = follows_run (terms_of c) c.k s.lines s.taken.object s.taken.run; bad = bad; at = s.at }
+
+  pub next_row : (row : List ℕ) (more : List (List ℕ)) (l : Line) (new : Checker) → (s : RowsSoFar c rows (row ∷ more) checker number) → length s.before < 1000000 → IsEventLine c.world row l →
+      HasTaken (terms_of c) c.k (s.lines ++ l ∷ []) new → RowsSoFar c rows more new (number + 1)
+  next_row row more l new s few says taken =
+      let a = length-append s.before (row ∷ []) in
+      let b = length-append s.lines (l ∷ []) in
+      let m = s.many in
+      let n = s.at in
+      record {
+        before = s.before ++ row ∷ [];
+        lines = s.lines ++ l ∷ [];
+        is = append_assoc s.before (row ∷ []) more ∙ s.is;
+        read = read_more c.world s.before s.lines row l s.read says;
+        many = omega arith;
+        few = omega arith;
+        taken = taken;
+        at = omega arith;
+      }

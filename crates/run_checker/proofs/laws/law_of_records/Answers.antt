@@ -1,0 +1,11 @@
+use Rattle.run_checker.proofs.RecordRuns.{run_follows, follows_run, at_fault}
+use Rattle.run_checker.proofs.laws.law_of_records.Goals as goal
+
+pub returns-clause-run : goal.returns-clause-run
+returns-clause-run c = run_follows
+
+pub returns-clause-follow : goal.returns-clause-follow
+returns-clause-follow c = follows_run
+
+pub returns-clause-fault : goal.returns-clause-fault
+returns-clause-fault c = at_fault

@@ -1,0 +1,50 @@
+use Rattle.std.proofs.Common.{◌≡◌, ℕ, ◌+◌, ◌<◌, ◌^◌, ◌++◌, ◌∷◌, [], List, take, length, refl, sym, ap, ◌∙◌, subst, arith, Option}
+use Rattle.std.proofs.lemmas.List.{take_more, take_all, length-take-le}
+use Rattle.run_checker.specs.declared.line.Line.{Line}
+use Rattle.run_checker.specs.declared.reason.Reason.{Reason}
+use Rattle.run_checker.specs.Config.{terms_of}
+use Rattle.run_checker.specs.Judged.{HasTaken, IsFaultAfter, TakesOn}
+use Rattle.run_checker.proofs.RecordRuns.{follows_run, first_at, not_run}
+use Rattle.run_checker.proofs.lines.first_fault.Goals as goal
+
+pub loop-i-init : goal.loop-i-init
+loop-i-init c =
+    let r = c.args.config.in_range in
+    c.in_ok-checker.ensures (terms_of c.args.config) (λ i. record { most = c.args.config.m; limit = c.args.config.limit; grows = sym c.is_tree-grows.ensures i }) r.1 r.4 r.5 r.2 r.3
+
+few_taken : (lines : List Line) (i : ℕ) → i < length lines → length lines < 1000001 → length (take i lines) < 2 ^ 62
+few_taken lines i l few = let e = length-take-le i lines (omega arith) in omega arith
+
+pub returns-in-Some-clause-fault : goal.returns-in-Some-clause-fault
+returns-in-Some-clause-fault c =
+    let few = c.requires in
+    let on = c.in_ok-reason.ensures (terms_of c.args.config) c.args.config.k (take c.loop-i.i c.args.lines.now) c.loop-i.invariant (few_taken c.args.lines.now c.loop-i.i c.loop-i-test.true (omega arith)) in
+    let fault : IsFaultAfter (terms_of c.args.config) c.args.config.k (take c.loop-i.i c.args.lines.now) c.index-lines-i.result c.in-Some.reason =
+    subst (λ (o : Option Reason). TakesOn (terms_of c.args.config) c.args.config.k (take c.loop-i.i c.args.lines.now) c.index-lines-i.result o c.judge.new.self) c.in-Some.is on in
+    first_at (terms_of c.args.config) c.args.config.k c.args.lines.now c.loop-i.i c.index-lines-i.result c.in-Some.reason c.loop-i-test.true c.index-lines-i.is fault
+
+pub returns-in-Some-clause-none : goal.returns-in-Some-clause-none
+returns-in-Some-clause-none c =
+    let few = c.requires in
+    let on = c.in_ok-reason.ensures (terms_of c.args.config) c.args.config.k (take c.loop-i.i c.args.lines.now) c.loop-i.invariant (few_taken c.args.lines.now c.loop-i.i c.loop-i-test.true (omega arith)) in
+    let fault : IsFaultAfter (terms_of c.args.config) c.args.config.k (take c.loop-i.i c.args.lines.now) c.index-lines-i.result c.in-Some.reason =
+    subst (λ (o : Option Reason). TakesOn (terms_of c.args.config) c.args.config.k (take c.loop-i.i c.args.lines.now) c.index-lines-i.result o c.judge.new.self) c.in-Some.is on in
+    ((λ e. absurd (cc)), (λ r. absurd (not_run (terms_of c.args.config) c.args.config.k c.args.lines.now c.loop-i.i c.index-lines-i.result c.in-Some.reason c.loop-i-test.true c.index-lines-i.is fault r)))
+
+pub loop-i-preserved : goal.loop-i-preserved
+loop-i-preserved c =
+    let few = c.requires in
+    let on = c.in_ok-reason.ensures (terms_of c.args.config) c.args.config.k (take c.loop-i.i c.args.lines.now) c.loop-i.invariant (few_taken c.args.lines.now c.loop-i.i c.loop-i-test.true (omega arith)) in
+    let taken : HasTaken (terms_of c.args.config) c.args.config.k (take c.loop-i.i c.args.lines.now ++ c.index-lines-i.result ∷ []) c.judge.new.self =
+    subst (λ (o : Option Reason). TakesOn (terms_of c.args.config) c.args.config.k (take c.loop-i.i c.args.lines.now) c.index-lines-i.result o c.judge.new.self) c.in_default.is on in
+    let more : take (c.loop-i.i + 1) c.args.lines.now ≡ take c.loop-i.i c.args.lines.now ++ c.index-lines-i.result ∷ [] =
+    take_more c.args.lines.now c.loop-i.i c.index-lines-i.result c.loop-i-test.true ∙ ap (λ (x : Line). take c.loop-i.i c.args.lines.now ++ x ∷ []) (sym c.index-lines-i.is) in
+    rw more taken
+
+pub returns-clause-fault : goal.returns-clause-fault
+returns-clause-fault c =
+    let all : take c.loop-i.i c.args.lines.now ≡ c.args.lines.now = take_all c.loop-i.i c.args.lines.now (let e = c.loop-i-test.false in omega arith) in
+    follows_run (terms_of c.args.config) c.args.config.k c.args.lines.now c.loop-i.invariant.object (rw all at c.loop-i.invariant.run)
+
+pub returns-clause-none : goal.returns-clause-none
+returns-clause-none c = ((λ e. returns-clause-fault c), (λ r. refl))

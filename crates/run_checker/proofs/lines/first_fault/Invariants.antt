@@ -1,0 +1,7 @@
+use Rattle.std.proofs.Common.{take}
+use Rattle.run_checker.specs.Config.{terms_of}
+use Rattle.run_checker.specs.Judged.{HasTaken}
+use Rattle.run_checker.proofs.lines.first_fault.Given as goal
+
+abbrev pub invariant-loop-i : goal.invariant-loop-i
+invariant-loop-i l = HasTaken (terms_of l.fn.config) l.fn.config.k (take l.i l.lines) l.checker

@@ -1,0 +1,113 @@
+use Rattle.std.proofs.Common.{◌≡◌, ℕ, ◌<◌, length, List, [], ◌∷◌, Option, Some, MatchOption, refl, sym, ap, ◌∙◌, subst, arith}
+use Rattle.std.specs.Option.{option_copied}
+use Rattle.run_checker.specs.declared.line.Line.{Line}
+use Rattle.run_checker.specs.declared.reason.Reason.{Reason}
+use Rattle.run_checker.specs.Config.{terms_of}
+use Rattle.run_checker.specs.Judged.{TakesOn}
+use Rattle.run_checker.specs.RecordLine.{IsEventLine}
+use Rattle.run_checker.specs.Verdict.{lines_left}
+use Rattle.run_checker.proofs.RowRuns.{RowsSoFar, all_rows, faulty_row, bad_row, next_row}
+use Rattle.run_checker.proofs.record.judge_rows.Goals.{in-Some+in_default-next_line, in_default}
+use Rattle.run_checker.proofs.record.judge_rows.Goals as goal
+
+pub loop-left-init : goal.loop-left-init
+loop-left-init c =
+    let r = c.args.config.in_range in
+    record {
+      before = [];
+      lines = [];
+      is = refl;
+      read = tt;
+      many = refl;
+      few = omega arith;
+      taken = c.in_ok-checker.ensures (terms_of c.args.config) (λ i. record { most = c.args.config.m; limit = c.args.config.limit; grows = sym c.is_tree-grows.ensures i }) r.1 r.4 r.5 r.2 r.3;
+      at = refl;
+    }
+
+pub returns-then-number-ge-LINES_END : goal.returns-then-number-ge-LINES_END
+returns-then-number-ge-LINES_END c =
+    let config = c.args.config in
+    let rows = lines_left (option_copied c.args.rows) in
+    let row = c.in-Some-next_line.row.now in
+    let more = lines_left (option_copied c.in-Some-next_line.rest) in
+    let e = ap (λ (o : Option (List ℕ)). lines_left o) (ap (λ o. option_copied o) c.in-Some.is) ∙ c.in-Some-next_line.ensures.lines in
+    let s = subst (λ (left : List (List ℕ)). RowsSoFar config rows left c.loop-left.checker c.loop-left.number) e c.loop-left.invariant in
+    let at = s.at in
+    let end = c.if-number-ge-LINES_END.true in
+    bad_row config rows c.loop-left.checker c.loop-left.number row more s (λ few. absurd (omega arith))
+
+pub returns-in_default-2 : goal.returns-in_default-2
+returns-in_default-2 c =
+    let config = c.args.config in
+    let rows = lines_left (option_copied c.args.rows) in
+    let row = c.in-Some-next_line.row.now in
+    let more = lines_left (option_copied c.in-Some-next_line.rest) in
+    let e = ap (λ (o : Option (List ℕ)). lines_left o) (ap (λ o. option_copied o) c.in-Some.is) ∙ c.in-Some-next_line.ensures.lines in
+    let s = subst (λ (left : List (List ℕ)). RowsSoFar config rows left c.loop-left.checker c.loop-left.number) e c.loop-left.invariant in
+    let none = subst (λ (o : Option Line). MatchOption o ((l : Line) → IsEventLine config.world row l → ⊥) (λ l. IsEventLine config.world row l)) c.in_default-2.is c.in_ok-line.ensures in
+    bad_row config rows c.loop-left.checker c.loop-left.number row more s (λ few. none)
+
+pub returns-in-Some-3 : goal.returns-in-Some-3
+returns-in-Some-3 c =
+    let config = c.args.config in
+    let rows = lines_left (option_copied c.args.rows) in
+    let row = c.in-Some-next_line.row.now in
+    let more = lines_left (option_copied c.in-Some-next_line.rest) in
+    let line = c.in-Some-2.line in
+    let e = ap (λ (o : Option (List ℕ)). lines_left o) (ap (λ o. option_copied o) c.in-Some.is) ∙ c.in-Some-next_line.ensures.lines in
+    let s = subst (λ (left : List (List ℕ)). RowsSoFar config rows left c.loop-left.checker c.loop-left.number) e c.loop-left.invariant in
+    let at = s.at in
+    let end = c.if-number-ge-LINES_END.false in
+    let says = subst (λ (o : Option Line). MatchOption o ((l : Line) → IsEventLine config.world row l → ⊥) (λ l. IsEventLine config.world row l)) c.in-Some-2.is c.in_ok-line.ensures in
+    let few : length s.before < 1000000 = omega arith in
+    let many = s.many in
+    let on = c.in_ok-reason.ensures (terms_of config) config.k s.lines s.taken (omega arith) in
+    let fault = subst (λ (o : Option Reason). TakesOn (terms_of config) config.k s.lines line o c.judge.new.self) c.in-Some-3.is on in
+    faulty_row config rows c.loop-left.checker c.loop-left.number row more line c.in-Some-3.reason s few says fault
+
+pub loop-left-preserved-in_default-3 : goal.loop-left-preserved-in_default-3
+loop-left-preserved-in_default-3 c =
+    let config = c.args.config in
+    let rows = lines_left (option_copied c.args.rows) in
+    let row = c.in-Some-next_line.row.now in
+    let more = lines_left (option_copied c.in-Some-next_line.rest) in
+    let line = c.in-Some-2.line in
+    let e = ap (λ (o : Option (List ℕ)). lines_left o) (ap (λ o. option_copied o) c.in-Some.is) ∙ c.in-Some-next_line.ensures.lines in
+    let s = subst (λ (left : List (List ℕ)). RowsSoFar config rows left c.loop-left.checker c.loop-left.number) e c.loop-left.invariant in
+    let at = s.at in
+    let end = c.if-number-ge-LINES_END.false in
+    let says = subst (λ (o : Option Line). MatchOption o ((l : Line) → IsEventLine config.world row l → ⊥) (λ l. IsEventLine config.world row l)) c.in-Some-2.is c.in_ok-line.ensures in
+    let few : length s.before < 1000000 = omega arith in
+    let many = s.many in
+    let on = c.in_ok-reason.ensures (terms_of config) config.k s.lines s.taken (omega arith) in
+    let taken = subst (λ (o : Option Reason). TakesOn (terms_of config) config.k s.lines line o c.judge.new.self) c.in_default-3.is on in
+    next_row config rows c.loop-left.checker c.loop-left.number row more line c.judge.new.self s few says taken
+
+pub loop-left-preserved : goal.loop-left-preserved
+loop-left-preserved c =
+    let config = c.args.config in
+    let rows = lines_left (option_copied c.args.rows) in
+    let row = c.in-Some-next_line.row.now in
+    let more = lines_left (option_copied c.in-Some-next_line.rest) in
+    let line = c.in-Some-2.line in
+    let e = ap (λ (o : Option (List ℕ)). lines_left o) (ap (λ o. option_copied o) c.in-Some.is) ∙ c.in-Some-next_line.ensures.lines in
+    let s = subst (λ (left : List (List ℕ)). RowsSoFar config rows left c.loop-left.checker c.loop-left.number) e c.loop-left.invariant in
+    let at = s.at in
+    let end = c.if-number-ge-LINES_END.false in
+    let says = subst (λ (o : Option Line). MatchOption o ((l : Line) → IsEventLine config.world row l → ⊥) (λ l. IsEventLine config.world row l)) c.in-Some-2.is c.in_ok-line.ensures in
+    let few : length s.before < 1000000 = omega arith in
+    let many = s.many in
+    let on = c.in_ok-reason.ensures (terms_of config) config.k s.lines s.taken (omega arith) in
+    let taken = subst (λ (o : Option Reason). TakesOn (terms_of config) config.k s.lines line o c.judge.new.self) c.in_default-3.is on in
+    next_row config rows c.loop-left.checker c.loop-left.number row more line c.judge.new.self s few says taken
+
+pub returns : goal.returns
+returns c =
+    let config = c.args.config in
+    let rows = lines_left (option_copied c.args.rows) in
+    let none : lines_left (option_copied c.loop-left.left) ≡ [] = elim c.match-left.branch [
+      | in-Some+in_default-next_line w ↦ ap (λ (o : Option (List ℕ)). lines_left o) (ap (λ o. option_copied o) w.in-Some.is) ∙ subst (λ o. MatchOption o (lines_left (Some w.in-Some.bytes.now) ≡ []) (λ r. lines_left (Some w.in-Some.bytes.now) ≡ r.0.now ∷ lines_left (option_copied r.1))) w.in_default-next_line.is w.next_line.ensures.lines
+      | in_default w ↦ ap (λ (o : Option (List ℕ)). lines_left o) (ap (λ o. option_copied o) w.in_default.is)
+    ] in
+    let s = subst (λ (left : List (List ℕ)). RowsSoFar config rows left c.loop-left.checker c.loop-left.number) none c.loop-left.invariant in
+    all_rows config rows c.loop-left.checker c.loop-left.number s

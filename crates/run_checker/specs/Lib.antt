@@ -1,0 +1,15 @@
+pub mod Moments
+pub mod Standing
+pub mod Rows
+pub mod Stays
+pub mod Told
+pub mod ReplyText
+pub mod Json
+pub mod RecordLine
+pub mod Verdict
+pub mod Config
+pub mod ObjectRun
+pub mod Reasons
+pub mod Fault
+pub mod Lines
+pub mod Judged

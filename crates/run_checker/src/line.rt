@@ -1,0 +1,13 @@
+//! A line of a record.
+
+use crate::told::Told;
+use desk::Event;
+
+/// An event and what the record tells of its reply.
+#[derive(Debug, Drop)]
+pub struct Line {
+    /// What a participant did.
+    pub event: Event,
+    /// What it was answered, as the record tells.
+    pub told: Told,
+}

@@ -1,0 +1,35 @@
+//! Goes over a list of lines.
+
+ghost use Rattle.std.specs.Prelude.{◌≡◌, ◌≤◌, ◌↔◌, ℕ, List, length, IfOk, MatchOption, None};
+ghost use Rattle.run_checker.specs.Config.{terms_of};
+ghost use Rattle.run_checker.specs.Lines.{AreLinesOfRun};
+ghost use Rattle.run_checker.specs.Judged.{IsFirstFault};
+
+use crate::checker::Checker;
+use crate::line::Line;
+use crate::reason::Reason;
+use rename_core::Config;
+use std::alloc::{AllocError, Global};
+
+/// The first of at most a million lines that can't follow those before it, from 0, with the least reason that fits; `None`
+/// where they are those of a run of this config. An error where a growth was refused.
+pub fn first_fault(
+    alloc: Global,
+    config: Config,
+    lines: &[Line],
+) -> Result<Option<(usize, Reason)>, AllocError>
+    requires { length lines.now ≤ 1000000 }
+    ensures fault { IfOk result (λ r. MatchOption r (AreLinesOfRun (terms_of config) config.k lines.now) (λ f. IsFirstFault (terms_of config) config.k lines.now f.0 f.1)) }
+
+    // None is found exactly where the lines are those of a run.
+    ensures none { IfOk result (λ r. (r ≡ None) ↔ AreLinesOfRun (terms_of config) config.k lines.now) }
+{
+    let grows = config.world.is_tree();
+    let mut checker = Checker::new(alloc, config.m, config.limit, config.k, grows)?;
+    for (i, line) in lines.iter().enumerate() {
+        if let Some(reason) = checker.judge(line)? {
+            return Ok(Some((i, reason)));
+        }
+    }
+    Ok(None)
+}

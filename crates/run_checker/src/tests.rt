@@ -1,0 +1,466 @@
+use crate::{
+    Line, Pairs, Reason, Told, Verdict, check, first_fault, law_of_desk_runs, law_of_reasons,
+    law_of_records,
+};
+use desk::Event;
+use desk::Event::{Begin, Enter, Get, Leave, Probe, Put, Step};
+use rename_core::{Config, WorldKind};
+use std::alloc::{AllocError, Global};
+use std::process::Abort;
+use std::test::Fail;
+
+/// Two participants, a pool of three numbers and two rounds.
+fn small(world: WorldKind) -> Result<Config, Fail> {
+    Ok(Config::new(world, 2, 3, 2)?)
+}
+
+/// A view.
+fn saw(alloc: Global, pairs: &[(u64, u64)]) -> Result<Told, AllocError> {
+    let mut view = Pairs::new(alloc);
+    for (id, number) in pairs {
+        view.push(*id, *number)?;
+    }
+    Ok(Told::Saw(view))
+}
+
+/// Judges lines, and compares the first fault.
+fn judge<R: Abort + AllocGlobal, const N: usize>(
+    rt: &R,
+    config: Config,
+    rows: [(Event, Told); N],
+    fault: Option<(usize, Reason)>,
+) -> Result<(), Fail> {
+    let mut lines = Vec::new(rt.alloc());
+    for (event, told) in Vec::from_array(rt.alloc(), rows)? {
+        lines.push(Line { event, told })?;
+    }
+    assert!(rt; lines.len() <= 1_000_000);
+    let found = first_fault(rt.alloc(), config, &lines)?;
+    assert!(rt; found == fault, "{found:?} for {lines:?}");
+    Ok(())
+}
+
+/// Lines of two who have begun: the last can't follow, or can.
+#[test]
+fn a_small_record(rt: HostRuntime) -> Result<(), Fail> {
+    let config = Config::new(WorldKind::Rename, 2, 4, 1000)?;
+    judge(
+        &rt,
+        config,
+        [
+            (Begin(10), Told::Ok),
+            (Begin(20), Told::Ok),
+            (Step(10), Told::Proposed(1)),
+            (Step(10), Told::Named(1)),
+            (Step(20), Told::Proposed(1)),
+            (Step(20), Told::Named(1)),
+        ],
+        Some((5, Reason::Name)),
+    )?;
+    judge(
+        &rt,
+        config,
+        [
+            (Begin(10), Told::Ok),
+            (Begin(20), Told::Ok),
+            (Step(10), Told::Proposed(1)),
+            (Step(10), Told::Named(1)),
+            (Step(20), Told::Proposed(1)),
+        ],
+        None,
+    )?;
+    judge(
+        &rt,
+        config,
+        [
+            (Begin(10), Told::Ok),
+            (Begin(20), Told::Ok),
+            (Step(10), Told::Proposed(4)),
+        ],
+        Some((2, Reason::Proposal)),
+    )?;
+    judge(
+        &rt,
+        config,
+        [
+            (Begin(10), Told::Ok),
+            (Begin(20), Told::Ok),
+            (Step(20), Told::Proposed(1)),
+            (Step(10), Told::Proposed(1)),
+            (Step(10), saw(rt.alloc(), &[(20, 1)])?),
+        ],
+        Some((4, Reason::View)),
+    )
+}
+
+/// A refused `begin` does not count.
+#[test]
+fn who_has_begun(rt: HostRuntime) -> Result<(), Fail> {
+    let config = small(WorldKind::Rename)?;
+    for (refused, second, fault) in [
+        (Told::Refused(1), Told::Proposed(1), None),
+        (
+            Told::Refused(1),
+            Told::Proposed(2),
+            Some((2, Reason::Proposal)),
+        ),
+        (
+            Told::Refused(2),
+            Told::Proposed(1),
+            Some((1, Reason::Refusal)),
+        ),
+    ] {
+        judge(
+            &rt,
+            config,
+            [
+                (Begin(10), Told::Ok),
+                (Begin(0), refused),
+                (Step(10), second),
+            ],
+            fault,
+        )?;
+    }
+    judge(
+        &rt,
+        config,
+        [
+            (Begin(10), Told::Ok),
+            (Begin(10), Told::Refused(2)),
+            (Begin(20), Told::Ok),
+            (Begin(30), Told::Refused(3)),
+            (Step(30), Told::Refused(4)),
+            (Begin(30), Told::Ok),
+        ],
+        Some((5, Reason::Refusal)),
+    )
+}
+
+/// Replies of other commands, and refusals that are not due.
+#[test]
+fn replies_and_refusals(rt: HostRuntime) -> Result<(), Fail> {
+    let config = small(WorldKind::Rename)?;
+    for (told, fault) in [
+        (Told::Quiet, None),
+        (Told::Ok, Some((1, Reason::Reply))),
+        (Told::Stop, Some((1, Reason::Reply))),
+        (Told::Right, Some((1, Reason::Reply))),
+        (Told::Down, Some((1, Reason::Reply))),
+        (Told::Owner(None), Some((1, Reason::Reply))),
+        (Told::Owner(Some(10)), Some((1, Reason::Reply))),
+        (Told::Missed, Some((1, Reason::Reply))),
+        (Told::Got(1), Some((1, Reason::Reply))),
+        (Told::Left(1), Some((1, Reason::Reply))),
+        (Told::Value(0), Some((1, Reason::Reply))),
+        (Told::Refused(0), Some((1, Reason::Refusal))),
+        (Told::Refused(5), Some((1, Reason::Refusal))),
+        (Told::Refused(12), Some((1, Reason::Refusal))),
+        (Told::Refused(13), Some((1, Reason::Refusal))),
+        (Told::Refused(u64::MAX), Some((1, Reason::Refusal))),
+    ] {
+        judge(&rt, config, [(Begin(7), Told::Ok), (Step(7), told)], fault)?;
+    }
+    let tree = small(WorldKind::Tree)?;
+    for (event, fault) in [
+        (Step(7), None),
+        (Begin(8), Some((1, Reason::Refusal))),
+        (Step(8), Some((1, Reason::Refusal))),
+        (Enter(7), Some((1, Reason::Refusal))),
+    ] {
+        judge(
+            &rt,
+            tree,
+            [(Begin(7), Told::Ok), (event, Told::Refused(12))],
+            fault,
+        )?;
+    }
+    Ok(())
+}
+
+/// Places are given once.
+#[test]
+fn places(rt: HostRuntime) -> Result<(), Fail> {
+    let config = small(WorldKind::Rename)?;
+    for (event, place, fault) in [
+        (Step(20), 1, None),
+        (Step(20), u128::MAX, None),
+        (Step(20), 0, Some((3, Reason::Place))),
+        (Step(10), 1, Some((3, Reason::Place))),
+    ] {
+        judge(
+            &rt,
+            config,
+            [
+                (Begin(10), Told::Ok),
+                (Begin(20), Told::Ok),
+                (Step(10), Told::Place(0)),
+                (event, Told::Place(place)),
+            ],
+            fault,
+        )?;
+    }
+    Ok(())
+}
+
+/// How many proposals there may be, and where in them views and the end come.
+#[test]
+fn proposals(rt: HostRuntime) -> Result<(), Fail> {
+    let config = small(WorldKind::Rename)?;
+    for (told, fault) in [
+        (Told::Proposed(1), None),
+        (Told::Proposed(0), Some((1, Reason::Proposal))),
+        (Told::Proposed(2), Some((1, Reason::Proposal))),
+        (Told::Proposed(u64::MAX), Some((1, Reason::Proposal))),
+        (Told::Spent, Some((1, Reason::Proposal))),
+        (saw(rt.alloc(), &[(7, 1)])?, Some((1, Reason::Proposal))),
+        (Told::Named(1), Some((1, Reason::Name))),
+    ] {
+        judge(&rt, config, [(Begin(7), Told::Ok), (Step(7), told)], fault)?;
+    }
+    for (told, fault) in [
+        (Told::Spent, Some((3, Reason::View))),
+        (Told::Proposed(1), Some((3, Reason::Proposal))),
+        (saw(rt.alloc(), &[(7, 1)])?, Some((3, Reason::Proposal))),
+        (Told::Named(1), None),
+    ] {
+        judge(
+            &rt,
+            config,
+            [
+                (Begin(7), Told::Ok),
+                (Step(7), Told::Proposed(1)),
+                (Step(7), Told::Proposed(1)),
+                (Step(7), told),
+            ],
+            fault,
+        )?;
+    }
+    Ok(())
+}
+
+/// Views are moments since the last proposal, in which another proposes the same.
+#[test]
+fn views(rt: HostRuntime) -> Result<(), Fail> {
+    let config = Config::new(WorldKind::Tree, 3, 3, 3)?;
+    let mut long = Pairs::new(rt.alloc());
+    for id in 0..70 {
+        long.push(id + 1, 1)?;
+    }
+    for (told, fault) in [
+        (saw(rt.alloc(), &[(10, 1), (20, 1)])?, None),
+        (saw(rt.alloc(), &[(10, 1)])?, Some((7, Reason::View))),
+        (saw(rt.alloc(), &[(20, 1)])?, Some((7, Reason::View))),
+        (
+            saw(rt.alloc(), &[(10, 1), (20, 2)])?,
+            Some((7, Reason::View)),
+        ),
+        (
+            saw(rt.alloc(), &[(20, 1), (10, 1)])?,
+            Some((7, Reason::View)),
+        ),
+        (
+            saw(rt.alloc(), &[(10, 1), (10, 1)])?,
+            Some((7, Reason::View)),
+        ),
+        (
+            saw(rt.alloc(), &[(10, 2), (20, 1)])?,
+            Some((7, Reason::View)),
+        ),
+        (
+            saw(rt.alloc(), &[(10, 1), (40, 1)])?,
+            Some((7, Reason::View)),
+        ),
+        (
+            saw(rt.alloc(), &[(10, 1), (20, 257)])?,
+            Some((7, Reason::View)),
+        ),
+        (
+            saw(rt.alloc(), &[(10, 0), (20, 1)])?,
+            Some((7, Reason::View)),
+        ),
+        (saw(rt.alloc(), &[])?, Some((7, Reason::View))),
+        (Told::Saw(long), Some((7, Reason::View))),
+    ] {
+        judge(
+            &rt,
+            config,
+            [
+                (Begin(10), Told::Ok),
+                (Begin(20), Told::Ok),
+                (Begin(30), Told::Ok),
+                (Step(10), Told::Proposed(2)),
+                (Step(20), Told::Proposed(1)),
+                (Step(10), Told::Proposed(1)),
+                (Step(20), Told::Proposed(2)),
+                (Step(10), told),
+            ],
+            fault,
+        )?;
+    }
+    Ok(())
+}
+
+/// Who is spent has seen another propose the same, and takes no more steps.
+#[test]
+fn spent(rt: HostRuntime) -> Result<(), Fail> {
+    let config = Config::new(WorldKind::Rename, 2, 3, 1)?;
+    for (told, fault) in [
+        (Told::Refused(6), None),
+        (Told::Quiet, Some((6, Reason::Refusal))),
+        (Told::Refused(5), Some((6, Reason::Refusal))),
+    ] {
+        judge(
+            &rt,
+            config,
+            [
+                (Begin(10), Told::Ok),
+                (Begin(20), Told::Ok),
+                (Step(10), Told::Proposed(1)),
+                (Step(20), Told::Proposed(1)),
+                (Step(10), Told::Spent),
+                (Step(10), Told::Refused(6)),
+                (Step(10), told),
+            ],
+            fault,
+        )?;
+    }
+    Ok(())
+}
+
+/// Names are what was proposed last, alone at some moment since, and nobody else's.
+#[test]
+fn names(rt: HostRuntime) -> Result<(), Fail> {
+    let config = Config::new(WorldKind::Rename, 2, 3, 5)?;
+    for (told, fault) in [
+        (Told::Named(3), None),
+        (Told::Named(2), Some((5, Reason::Name))),
+        (Told::Named(1), Some((5, Reason::Name))),
+        (Told::Named(0), Some((5, Reason::Name))),
+        (Told::Named(u64::MAX), Some((5, Reason::Name))),
+    ] {
+        judge(
+            &rt,
+            config,
+            [
+                (Begin(10), Told::Ok),
+                (Begin(20), Told::Ok),
+                (Step(10), Told::Proposed(2)),
+                (Step(10), Told::Proposed(3)),
+                (Step(20), Told::Proposed(2)),
+                (Step(10), told),
+            ],
+            fault,
+        )?;
+    }
+    for (first, second, fault) in [
+        (Told::Proposed(2), Told::Named(1), None),
+        (Told::Proposed(1), Told::Named(1), Some((4, Reason::Name))),
+    ] {
+        judge(
+            &rt,
+            config,
+            [
+                (Begin(10), Told::Ok),
+                (Begin(20), Told::Ok),
+                (Step(20), first),
+                (Step(10), Told::Proposed(1)),
+                (Step(10), second),
+            ],
+            fault,
+        )?;
+    }
+    Ok(())
+}
+
+/// Numbers of the pool, and what stands in their slots.
+#[test]
+fn pool_and_slots(rt: HostRuntime) -> Result<(), Fail> {
+    let config = small(WorldKind::Rename)?;
+    for (event, told, fault) in [
+        (Probe(6), Told::Got(1), None),
+        (Probe(6), Told::Got(3), None),
+        (Probe(6), Told::Got(2), Some((6, Reason::Pool))),
+        (Probe(6), Told::Got(0), Some((6, Reason::Pool))),
+        (Probe(6), Told::Got(4), Some((6, Reason::Pool))),
+        (Probe(6), Told::Got(256), Some((6, Reason::Pool))),
+        (Probe(6), Told::Missed, Some((6, Reason::Pool))),
+        (Probe(5), Told::Refused(10), None),
+        (Probe(7), Told::Refused(8), None),
+        (Leave(5), Told::Left(2), None),
+        (Leave(5), Told::Left(1), Some((6, Reason::Pool))),
+        (Leave(6), Told::Refused(11), None),
+        (Leave(6), Told::Left(2), Some((6, Reason::Refusal))),
+        (Get(5), Told::Value(9), None),
+        (Get(5), Told::Value(0), Some((6, Reason::Pool))),
+        (Get(6), Told::Refused(11), None),
+        (Put(7, 1), Told::Refused(8), None),
+        (Put(7, 1), Told::Ok, Some((6, Reason::Refusal))),
+        (Enter(5), Told::Refused(9), None),
+        (Enter(0), Told::Refused(1), None),
+        (Enter(7), Told::Ok, None),
+        (Enter(7), Told::Refused(7), Some((6, Reason::Refusal))),
+    ] {
+        judge(
+            &rt,
+            config,
+            [
+                (Enter(5), Told::Ok),
+                (Probe(5), Told::Got(2)),
+                (Put(5, 9), Told::Ok),
+                (Enter(6), Told::Ok),
+                (Probe(6), Told::Missed),
+                (Get(5), Told::Value(9)),
+                (event, told),
+            ],
+            fault,
+        )?;
+    }
+    judge(
+        &rt,
+        Config::new(WorldKind::Tree, 1, 1, 1)?,
+        [
+            (Enter(5), Told::Ok),
+            (Enter(6), Told::Refused(7)),
+            (Probe(5), Told::Got(1)),
+            (Put(5, 3), Told::Ok),
+            (Leave(5), Told::Left(1)),
+            (Get(5), Told::Refused(8)),
+            (Enter(6), Told::Ok),
+            (Probe(6), Told::Got(1)),
+            (Get(6), Told::Value(3)),
+            (Leave(6), Told::Left(1)),
+            (Enter(5), Told::Ok),
+            (Probe(5), Told::Missed),
+        ],
+        Some((11, Reason::Pool)),
+    )
+}
+
+#[test]
+fn reasons_have_numbers(rt: HostRuntime) {
+    assert_eq!(rt; Reason::Reply.number(), 1);
+    assert_eq!(rt; Reason::Pool.number(), 7);
+    law_of_reasons();
+    law_of_records();
+    law_of_desk_runs();
+}
+
+/// Records, from their bytes.
+#[test]
+fn records(rt: HostRuntime) {
+    let alloc = rt.alloc();
+    let head =
+        b"{\"format\":\"slot-record\",\"version\":1,\"world\":\"rename\",\"m\":2,\"k\":3,\"limit\":2}\n".as_slice();
+    assert_eq!(rt; check(alloc, head), Verdict::Yes);
+    assert_eq!(rt; check(alloc, b"".as_slice()), Verdict::BadRecord(1));
+    assert_eq!(rt; check(alloc, b"\n".as_slice()), Verdict::BadRecord(1));
+    let yes =
+        b"{\"format\":\"slot-record\",\"version\":1,\"world\":\"rename\",\"m\":2,\"k\":3,\"limit\":2}\n{\"command\":\"enter 5\",\"reply\":\"ok\"}\n{\"command\":\"probe 5\",\"reply\":\"got 2\"}\n{\"reply\":\"left 2\",\"command\":\"leave 5\"}".as_slice();
+    assert_eq!(rt; check(alloc, yes), Verdict::Yes);
+    let no =
+        b"{\"format\":\"slot-record\",\"version\":1,\"world\":\"rename\",\"m\":2,\"k\":3,\"limit\":2}\n{\"command\":\"enter 5\",\"reply\":\"ok\"}\n{\"command\":\"probe 5\",\"reply\":\"got 4\"}\nx".as_slice();
+    assert_eq!(rt; check(alloc, no), Verdict::No(3, Reason::Pool));
+    let bad =
+        b"{\"format\":\"slot-record\",\"version\":1,\"world\":\"rename\",\"m\":2,\"k\":3,\"limit\":2}\n{\"command\":\"enter 5\",\"reply\":\"ok\"}\n\n{\"command\":\"probe 5\",\"reply\":\"got 2\"}\n".as_slice();
+    assert_eq!(rt; check(alloc, bad), Verdict::BadRecord(3));
+}
