@@ -1,17 +1,20 @@
 -- what clap's answer tells of the words
-use Rattle.std.proofs.Common.{ap, sym, ◌≡◌, ◌⊎◌, ◌||◌, ◌∙◌, inl, inr, ℕ, List, [], ◌∷◌, Bool, true, false, refl}
+use Rattle.std.proofs.Common.{ap, sym, ◌≡◌, ◌⊎◌, ◌||◌, ◌∙◌, inl, inr, ℕ, List, [], ◌∷◌, Bool, true, false, Option, Some, codes, get_or, subst, arith, refl}
 use Rattle.std.specs.List.{list_any}
-use Rattle.clap.specs.Words.{IsAmong, Kinds}
+use Rattle.std.proofs.lemmas.Option.{same_Some}
+use Rattle.clap.specs.Words.{IsAmong, Kinds, Row}
 use Rattle.clap.specs.Faults.{is_simple_and_free}
 use Rattle.clap.specs.Simple.{is_simple}
 use Rattle.clap.specs.declared.error.kind.ErrorKind.{ErrorKind}
 use Rattle.clap.specs.declared.error.kind.ErrorKind.TheVariants.{OutOfMemory}
 use Rattle.clap.proofs.OnLiterals.{clap_on_literals}
 use Rattle.slotctl.specs.declared.asked.Ask.{Ask}
+use Rattle.slotctl.specs.declared.asked.Ask.TheVariants.{Play, Draw}
+use Rattle.slotctl.specs.declared.asked.Drawing.{Drawing}
 use Rattle.slotctl.specs.declared.misuse.Misuse.{Misuse}
 use Rattle.slotctl.specs.declared.misuse.Misuse.TheVariants.{Help, Words, Memory}
 use Rattle.slotctl.specs.CommandLine.{slotctl_app}
-use Rattle.slotctl.specs.Asked.{AsksFor, IsMisuse, IsMisuseOf, IsRefusal, is_help, is_refusal}
+use Rattle.slotctl.specs.Asked.{AsksFor, IsAsked, IsDrawingOf, IsMisuse, IsMisuseOf, IsRefusal, is_help, is_refusal}
 
 pub app_is_simple : is_simple slotctl_app ≡ true
 unfolding clap_on_literals
@@ -48,3 +51,15 @@ pub refused : (words : List (List ℕ)) (kinds : Kinds) (u : Misuse) → IsRefus
 refused words kinds Memory is none never = tt
 refused words kinds (Help text) is none never = elim is [ ]
 refused words kinds (Words text) is none never = inr (none, never)
+
+other_name : codes "draw" ≡ codes "play" → ⊥
+other_name same = let first : 100 ≡ 112 = ap (λ l. get_or l 0 0) same in omega (arith, first)
+
+-- where `draw` was met and gives nothing, nothing is asked for
+pub nothing_drawn : (met : Option (List ℕ × List Row)) (rows : List Row) → met ≡ Some (codes "draw", rows) → ((d : Drawing) → IsDrawingOf rows d → ⊥) → (a : Ask) → IsAsked met a → ⊥
+nothing_drawn met rows is none (Play config) h =
+    let same : (codes "draw", rows) ≡ (codes "play", h.0) = same_Some (codes "draw", rows) (codes "play", h.0) (sym is ∙ h.1) in
+    other_name (ap (λ (p : List ℕ × List Row). p.0) same)
+nothing_drawn met rows is none (Draw d) h =
+    let same : (codes "draw", h.0) ≡ (codes "draw", rows) = same_Some (codes "draw", h.0) (codes "draw", rows) (sym h.1 ∙ is) in
+    none d (subst (λ (r : List Row). IsDrawingOf r d) (ap (λ (p : List ℕ × List Row). p.1) same) h.2)

@@ -1,46 +1,47 @@
 -- when no config has the matched options
-use Rattle.std.proofs.Common.{ap, sym, subst, arith, ◌≡◌, ◌∙◌, ◌<◌, ◌^◌, ℕ, List, Option, Some, None, Result, Ok, Err, IfOk, IsOk, ◌↔◌, MatchOption, codes, refl, true, false}
+use Rattle.std.proofs.Common.{ap, sym, subst, arith, ◌≡◌, ◌∙◌, ◌<◌, ◌≤◌, ◌^◌, ℕ, List, Option, Some, None, Result, Ok, Err, IfOk, IsOk, ◌↔◌, MatchOption, IfSome, IsSome, codes, refl, true, false}
 use Rattle.std.specs.Prelude.{option_and_then}
 use Rattle.std.specs.Str.Parse.{ParsesUnsigned, digits_value, without_leading_plus}
 use Rattle.clap.specs.Words.{ReadsOne, Row, first_of, one_of}
 use Rattle.std.specs.Result.{result_ok}
 use Rattle.std.proofs.lemmas.Option.{same_Some}
-use Rattle.schedule_player.specs.Ranges.{IsConfigRange}
+use Rattle.rename_core.specs.Ranges.{IsConfigRange}
 use Rattle.step_memory.specs.declared.refusal.Refusal.{Refusal}
-use Rattle.schedule_player.specs.declared.config.Config.{Config}
-use Rattle.schedule_player.specs.declared.config.WorldKind.{WorldKind}
-use Rattle.slotctl.specs.Asked.{HasNumber, IsConfigOf, world_named}
+use Rattle.rename_core.specs.declared.config.Config.{Config}
+use Rattle.rename_core.specs.declared.config.WorldKind.{WorldKind}
+use Rattle.slotctl.specs.Asked.{HasNumber, HasWorld, IsConfigOf, IsDrawingOf, world_named}
+use Rattle.slotctl.specs.Ranges.{IsDrawingRange}
+use Rattle.slotctl.specs.declared.asked.Drawing.{Drawing}
 
 pub unless_some : {T : Type 0} (o : Option T) (P : Type 0) (Q : T → Type 0) → o ≡ None → P → MatchOption o P Q
 unless_some o P Q e p = subst (λ w. MatchOption w P Q) (sym e) p
 
--- no world has the matched name
-pub no_world : (rows : List Row) → option_and_then world_named (first_of (codes "world") rows) ≡ None → (c : Config) → IsConfigOf rows c → ⊥
-no_world rows e c h =
-    let bad : None ≡ Some c.world = sym e ∙ h.world in
-    cc
+-- what the matched name gives is the world, if there is one
+pub world_told : (rows : List Row) (r : Option WorldKind) → option_and_then world_named (first_of (codes "world") rows) ≡ r → MatchOption r ((w : WorldKind) → HasWorld rows w → ⊥) (HasWorld rows)
+world_told rows None is = λ w h. (let bad : None ≡ Some w = sym is ∙ h in cc)
+world_told rows (Some w) is = is
 
 -- what `get_one` reads as a `u64`
 abbrev pub Reads : {E : Type 0} → (List ℕ → Result ℕ E → Type 0) → Type 0
 Reads {E} gives = (t : List ℕ) (r : Result ℕ E) → gives t r → ParsesUnsigned 64 10 t r
 
--- no number is written there
-pub no_number : {E : Type 0} (gives : List ℕ → Result ℕ E → Type 0) → Reads gives → (rows : List Row)
-    → ((t : List ℕ) → one_of (codes "m") rows ≡ Some t → ReadsOne gives t None)
-    → (c : Config) → IsConfigOf rows c → ⊥
-no_number gives reads rows value c h =
-    let bad = value h.m.0 h.m.1 in
-    let small : digits_value 10 (without_leading_plus h.m.0) < 2 ^ 64 = rw h.m.2.1 (omega (arith, h.range.1)) in
-    reads h.m.0 (Err bad.0) bad.1 (h.m.2.0, small)
+-- no number is written there that fits
+no_number : {E : Type 0} (gives : List ℕ → Result ℕ E → Type 0) → Reads gives → (rows : List Row) (id : List ℕ)
+    → ((t : List ℕ) → one_of id rows ≡ Some t → ReadsOne gives t None)
+    → (n : ℕ) → n < 2 ^ 64 → HasNumber rows id n → ⊥
+no_number gives reads rows id value n small h =
+    let bad = value h.0 h.1 in
+    let fits : digits_value 10 (without_leading_plus h.0) < 2 ^ 64 = rw h.2.1 small in
+    reads h.0 (Err bad.0) bad.1 (h.2.0, fits)
 
 -- a number that was read is written there
-pub number_read : {E : Type 0} (gives : List ℕ → Result ℕ E → Type 0) → Reads gives → (rows : List Row) (n : ℕ)
-    → (one_of (codes "m") rows ≡ None → Some n ≡ None)
-    → ((t : List ℕ) → one_of (codes "m") rows ≡ Some t → ReadsOne gives t (Some n))
-    → HasNumber rows (codes "m") n
-number_read gives reads rows n none value = go (one_of (codes "m") rows) refl
+number_read : {E : Type 0} (gives : List ℕ → Result ℕ E → Type 0) → Reads gives → (rows : List Row) (id : List ℕ) (n : ℕ)
+    → (one_of id rows ≡ None → Some n ≡ None)
+    → ((t : List ℕ) → one_of id rows ≡ Some t → ReadsOne gives t (Some n))
+    → HasNumber rows id n
+number_read gives reads rows id n none value = go (one_of id rows) refl
   where
-    go : (o : Option (List ℕ)) → one_of (codes "m") rows ≡ o → HasNumber rows (codes "m") n
+    go : (o : Option (List ℕ)) → one_of id rows ≡ o → HasNumber rows id n
     go None e =
         let bad : Some n ≡ None = none e in
         cc
@@ -48,25 +49,77 @@ number_read gives reads rows n none value = go (one_of (codes "m") rows) refl
         let read = reads t (Ok n) (value t e) in
         (t, e, (read.0.0, sym read.1))
 
+-- what was read is the number that is written there, if one is that fits
+pub number_told : {E : Type 0} (gives : List ℕ → Result ℕ E → Type 0) → Reads gives → (rows : List Row) (id : List ℕ) (r : Option ℕ)
+    → (one_of id rows ≡ None → r ≡ None) → ((t : List ℕ) → one_of id rows ≡ Some t → ReadsOne gives t r)
+    → MatchOption r ((n : ℕ) → n < 2 ^ 64 → HasNumber rows id n → ⊥) (HasNumber rows id)
+number_told gives reads rows id None none value = no_number gives reads rows id value
+number_told gives reads rows id (Some n) none value = number_read gives reads rows id n none value
+
 -- two numbers that are written there are one
 pub same_number : (rows : List Row) (id : List ℕ) (m n : ℕ) → HasNumber rows id m → HasNumber rows id n → m ≡ n
 same_number rows id m n h g =
     let same : h.0 ≡ g.0 = same_Some h.0 g.0 (sym h.1 ∙ g.1) in
     sym h.2.1 ∙ ap (λ t. digits_value 10 (without_leading_plus t)) same ∙ g.2.1
 
--- what is made of the matched world and number is the config, where there is one
-pub made : (rows : List Row) (w : WorldKind) (n : ℕ) (r : Result Config Refusal)
-    → option_and_then world_named (first_of (codes "world") rows) ≡ Some w → HasNumber rows (codes "m") n
-    → IfOk r (λ c. (c.world ≡ w) × (c.m ≡ n) × (c.k ≡ 4) × (c.limit ≡ 1000)) → (IsOk r ↔ IsConfigRange n 4 1000)
+-- what is made of the matched world and numbers is the config, where there is one
+pub made : (rows : List Row) (w : WorldKind) (m k limit : ℕ) (r : Result Config Refusal)
+    → HasWorld rows w → HasNumber rows (codes "m") m → HasNumber rows (codes "k") k → HasNumber rows (codes "limit") limit
+    → IfOk r (λ c. (c.world ≡ w) × (c.m ≡ m) × (c.k ≡ k) × (c.limit ≡ limit)) → (IsOk r ↔ IsConfigRange m k limit)
     → MatchOption (result_ok r) ((c : Config) → IsConfigOf rows c → ⊥) (IsConfigOf rows)
-made rows w n (Ok c) world m values range = record {
+made rows w m k limit (Ok c) world has_m has_k has_limit values range = record {
   world = world ∙ ap Some (sym values.0);
-  m = subst (λ x. HasNumber rows (codes "m") x) (sym values.1) m;
-  k = values.2;
-  limit = values.3;
-  range = rw (values.1, values.2, values.3) (range.0 refl);
+  m = subst (λ x. HasNumber rows (codes "m") x) (sym values.1) has_m;
+  k = subst (λ x. HasNumber rows (codes "k") x) (sym values.2) has_k;
+  limit = subst (λ x. HasNumber rows (codes "limit") x) (sym values.3) has_limit;
 }
-made rows w n (Err e) world m values range = λ c h.
-    let same : c.m ≡ n = same_number rows (codes "m") c.m n h.m m in
-    let bad : false ≡ true = range.1 (rw (same, h.k, h.limit) at h.range) in
+made rows w m k limit (Err e) world has_m has_k has_limit values range = λ c h.
+    let same_m : c.m ≡ m = same_number rows (codes "m") c.m m h.m has_m in
+    let same_k : c.k ≡ k = same_number rows (codes "k") c.k k h.k has_k in
+    let same_limit : c.limit ≡ limit = same_number rows (codes "limit") c.limit limit h.limit has_limit in
+    let fits = c.in_range in
+    let bad : false ≡ true = range.1 (rw (same_m, same_k, same_limit) at fits) in
     cc
+
+-- a config in its range is made
+pub config_made : (rows : List Row) (m limit : ℕ) (r : Result Config Refusal) → HasNumber rows (codes "m") m → HasNumber rows (codes "limit") limit → (IsOk r ↔ IsConfigRange m 4 limit) →
+    result_ok r ≡ None → (d : Drawing) → IsDrawingOf rows d → ⊥
+config_made rows m limit (Ok c) has_m has_limit range none d h = absurd cc
+config_made rows m limit (Err e) has_m has_limit range none d h =
+    let same_m : d.config.m ≡ m = same_number rows (codes "m") d.config.m m h.m has_m in
+    let same_limit : d.config.limit ≡ limit = same_number rows (codes "limit") d.config.limit limit h.limit has_limit in
+    let fits = d.config.in_range in
+    let bad : false ≡ true = range.1 (rw (same_m, h.k, same_limit) at fits) in
+    cc
+
+-- what is made of the matched numbers and the config is the drawing, where there is one
+pub drawn : (rows : List Row) (seed ids steps runs m limit : ℕ) (w : WorldKind) (c : Config) (o : Option Drawing)
+    → HasNumber rows (codes "seed") seed → HasNumber rows (codes "ids") ids → HasNumber rows (codes "steps") steps → HasNumber rows (codes "runs") runs
+    → HasWorld rows w → HasNumber rows (codes "m") m → HasNumber rows (codes "limit") limit
+    → (c.world ≡ w) × (c.m ≡ m) × (c.k ≡ 4) × (c.limit ≡ limit)
+    → IfSome o (λ d. (d.seed ≡ seed) × (d.ids ≡ ids) × (d.steps ≡ steps) × (d.runs ≡ runs) × (d.config ≡ c)) → (IsSome o ↔ IsDrawingRange seed ids steps runs c.world)
+    → MatchOption o ((d : Drawing) → IsDrawingOf rows d → ⊥) (IsDrawingOf rows)
+drawn rows seed ids steps runs m limit w c (Some d) has_seed has_ids has_steps has_runs world has_m has_limit sizes values range = record {
+  seed = subst (λ x. HasNumber rows (codes "seed") x) (sym values.0) has_seed;
+  ids = subst (λ x. HasNumber rows (codes "ids") x) (sym values.1) has_ids;
+  steps = subst (λ x. HasNumber rows (codes "steps") x) (sym values.2) has_steps;
+  runs = subst (λ x. HasNumber rows (codes "runs") x) (sym values.3) has_runs;
+  world = world ∙ ap Some (sym (ap (λ (x : Config). x.world) values.4 ∙ sizes.0));
+  m = subst (λ x. HasNumber rows (codes "m") x) (sym (ap (λ (x : Config). x.m) values.4 ∙ sizes.1)) has_m;
+  limit = subst (λ x. HasNumber rows (codes "limit") x) (sym (ap (λ (x : Config). x.limit) values.4 ∙ sizes.3)) has_limit;
+  k = ap (λ (x : Config). x.k) values.4 ∙ sizes.2;
+}
+drawn rows seed ids steps runs m limit w c None has_seed has_ids has_steps has_runs world has_m has_limit sizes values range = λ d h.
+    let same_seed : d.seed ≡ seed = same_number rows (codes "seed") d.seed seed h.seed has_seed in
+    let same_ids : d.ids ≡ ids = same_number rows (codes "ids") d.ids ids h.ids has_ids in
+    let same_steps : d.steps ≡ steps = same_number rows (codes "steps") d.steps steps h.steps has_steps in
+    let same_runs : d.runs ≡ runs = same_number rows (codes "runs") d.runs runs h.runs has_runs in
+    let same_world : d.config.world ≡ c.world = same_Some d.config.world w (sym h.world ∙ world) ∙ sym sizes.0 in
+    let fits = d.in_range in
+    let bad : false ≡ true = range.1 (rw (same_seed, same_ids, same_steps, same_runs, same_world) at fits) in
+    cc
+
+-- what holds of a result's value
+pub value_is : {T E : Type 0} (r : Result T E) (x : T) (P : T → Type 0) → result_ok r ≡ Some x → IfOk r P → P x
+value_is (Ok y) x P is p = subst P (same_Some y x is) p
+value_is (Err e) x P is p = absurd cc

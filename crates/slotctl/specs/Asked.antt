@@ -7,12 +7,13 @@ use Rattle.std.specs.List.{list_any}
 use Rattle.clap.specs.Words.{Kinds, Row, first_of, one_of, subcommand_of}
 use Rattle.clap.specs.declared.error.kind.ErrorKind.{ErrorKind}
 use Rattle.clap.specs.declared.error.kind.ErrorKind.TheVariants.{DisplayHelp, DisplayHelpOnMissingArgumentOrSubcommand, OutOfMemory}
-use Rattle.schedule_player.specs.Ranges.{IsConfigRange}
-use Rattle.schedule_player.specs.declared.config.Config.{Config}
-use Rattle.schedule_player.specs.declared.config.WorldKind.{WorldKind}
-use Rattle.schedule_player.specs.declared.config.WorldKind.TheVariants.{Splitter, Grid}
+use Rattle.rename_core.specs.declared.config.Config.{Config}
+use Rattle.rename_core.specs.declared.config.WorldKind.{WorldKind}
+use Rattle.rename_core.specs.declared.config.WorldKind.TheVariants.{Splitter, Grid, Rename, Tree}
 use Rattle.slotctl.specs.CommandLine.{slotctl_app}
 use Rattle.slotctl.specs.declared.asked.Ask.{Ask}
+use Rattle.slotctl.specs.declared.asked.Ask.TheVariants.{Play, Draw}
+use Rattle.slotctl.specs.declared.asked.Drawing.{Drawing}
 use Rattle.slotctl.specs.declared.misuse.Misuse.{Misuse}
 use Rattle.slotctl.specs.declared.misuse.Misuse.TheVariants.{Help, Words, Memory}
 
@@ -21,6 +22,8 @@ abbrev pub world_named : List ℕ → Option WorldKind
 world_named name =
     if bytes_eq name (codes "splitter") then Some Splitter
     else if bytes_eq name (codes "grid") then Some Grid
+    else if bytes_eq name (codes "rename") then Some Rename
+    else if bytes_eq name (codes "tree") then Some Tree
     else None
 
 -- the text is decimal digits of this number, and a plus may stand first
@@ -31,18 +34,34 @@ WritesNumber text n = IsNumeral 10 (without_leading_plus text) × (digits_value 
 abbrev pub HasNumber : List Row → List ℕ → ℕ → Type 0
 HasNumber rows id n = (text : List ℕ) × (one_of id rows ≡ Some text) × WritesNumber text n
 
--- the config that the options of `play` give: the world's name and the number of participants as clap matched them, the
--- defaults of what cannot be chosen, and each number in its range
+-- the world of the name among what clap matched
+abbrev pub HasWorld : List Row → WorldKind → Type 0
+HasWorld rows world = option_and_then world_named (first_of (codes "world") rows) ≡ Some world
+
+-- the config that the options of `play` give: the world's name and the numbers as clap matched them, each number in its
+-- range
 pub record IsConfigOf (rows : List Row) (c : Config) : Type 0 where
-  pub world : option_and_then world_named (first_of (codes "world") rows) ≡ Some c.world
+  pub world : HasWorld rows c.world
   pub m : HasNumber rows (codes "m") c.m
-  pub k : c.k ≡ 4
-  pub limit : c.limit ≡ 1000
-  pub range : IsConfigRange c.m c.k c.limit
+  pub k : HasNumber rows (codes "k") c.k
+  pub limit : HasNumber rows (codes "limit") c.limit
+
+-- the drawing that the options of `draw` give, as clap matched them, each number in its range; the pool, which no drawn
+-- event uses, has four numbers
+pub record IsDrawingOf (rows : List Row) (d : Drawing) : Type 0 where
+  pub seed : HasNumber rows (codes "seed") d.seed
+  pub ids : HasNumber rows (codes "ids") d.ids
+  pub steps : HasNumber rows (codes "steps") d.steps
+  pub runs : HasNumber rows (codes "runs") d.runs
+  pub world : HasWorld rows d.config.world
+  pub m : HasNumber rows (codes "m") d.config.m
+  pub limit : HasNumber rows (codes "limit") d.config.limit
+  pub k : d.config.k ≡ 4
 
 -- the subcommand that clap met, with what it matched there, asks for this
 abbrev pub IsAsked : Option (List ℕ × List Row) → Ask → Type 0
-IsAsked met a = (rows : List Row) × (met ≡ Some (codes "play", rows)) × IsConfigOf rows a.config
+IsAsked met (Play config) = (rows : List Row) × (met ≡ Some (codes "play", rows)) × IsConfigOf rows config
+IsAsked met (Draw drawing) = (rows : List Row) × (met ≡ Some (codes "draw", rows)) × IsDrawingOf rows drawing
 
 -- the words ask for this: its options are those that clap matched in the words, or the defaults
 abbrev pub AsksFor : List (List ℕ) → Ask → Type 0

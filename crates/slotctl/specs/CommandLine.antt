@@ -1,33 +1,74 @@
 -- the command line of the program, as clap sees it
-use Rattle.std.specs.Prelude.{[], ◌∷◌, Some, true, codes}
+use Rattle.std.specs.Prelude.{ℕ, List, [], ◌∷◌, Some, true, codes}
 use Rattle.clap.specs.Words.{App, Rule, new_app, new_rule, with_rule, with_subcommand}
 use Rattle.clap.specs.declared.builder.action.ArgAction.TheVariants.{Set}
 use Rattle.clap.specs.declared.builder.value_parser.ValueParser.TheVariants.{Unsigned}
 
--- `--world NAME`, which has to be given
+-- `--world NAME`, and `rename` where it is not given
 abbrev pub world_option : Rule
 world_option = record (new_rule (codes "world")) {
   long = Some (codes "world");
   action = Some Set;
   value_names = 1;
-  required = true;
+  defaults = codes "rename" ∷ [];
 }
 
--- `--m NUMBER`, from 1 to 16, and 4 where it is not given
-abbrev pub m_option : Rule
-m_option = record (new_rule (codes "m")) {
-  long = Some (codes "m");
+-- an option of this name with a number in this range, and this text where it is not given
+abbrev pub number_option : List ℕ → ℕ → ℕ → List ℕ → Rule
+number_option name least most text = record (new_rule name) {
+  long = Some name;
   action = Some Set;
   value_names = 1;
-  parser = Some (Unsigned 1 16);
-  defaults = codes "4" ∷ [];
+  parser = Some (Unsigned least most);
+  defaults = text ∷ [];
 }
 
-abbrev pub play_app : App
-play_app = with_rule (with_rule (new_app (codes "play")) world_option) m_option
+-- `--m NUMBER`, from 1 to 16, or 4; `--k NUMBER`, from 1 to 64, or 4; `--limit NUMBER`, from 1 to 1,000,000, or 1000
+abbrev pub m_option : Rule
+m_option = number_option (codes "m") 1 16 (codes "4")
 
--- the program with its subcommand, one of which has to be given
+abbrev pub k_option : Rule
+k_option = number_option (codes "k") 1 64 (codes "4")
+
+abbrev pub limit_option : Rule
+limit_option = number_option (codes "limit") 1 1000000 (codes "1000")
+
+-- an option of this name with a number up to the most, which has to be given
+abbrev pub needed_option : List ℕ → ℕ → ℕ → Rule
+needed_option name least most = record (new_rule name) {
+  long = Some name;
+  action = Some Set;
+  required = true;
+  value_names = 1;
+  parser = Some (Unsigned least most);
+}
+
+-- `--seed NUMBER`, of 64 bits, `--ids NUMBER`, from 1 to 16, and `--steps NUMBER`, at most 1,000,000, all to be given;
+-- `--runs NUMBER`, at most 1,000, or 0
+abbrev pub seed_option : Rule
+seed_option = needed_option (codes "seed") 0 18446744073709551615
+
+abbrev pub ids_option : Rule
+ids_option = needed_option (codes "ids") 1 16
+
+abbrev pub steps_option : Rule
+steps_option = needed_option (codes "steps") 0 1000000
+
+abbrev pub runs_option : Rule
+runs_option = number_option (codes "runs") 0 1000 (codes "0")
+
+abbrev pub play_app : App
+play_app = with_rule (with_rule (with_rule (with_rule (new_app (codes "play")) world_option) m_option) k_option) limit_option
+
+-- what `draw` has to be told
+abbrev pub draw_needs_app : App
+draw_needs_app = with_rule (with_rule (with_rule (new_app (codes "draw")) seed_option) ids_option) steps_option
+
+abbrev pub draw_app : App
+draw_app = with_rule (with_rule (with_rule (with_rule draw_needs_app runs_option) world_option) m_option) limit_option
+
+-- the program with its subcommands, one of which has to be given
 abbrev pub slotctl_app : App
 slotctl_app =
     let program = new_app (codes "slotctl") in
-    with_subcommand (record program { top = record program.top { subcommand_required = true } }) play_app.top
+    with_subcommand (with_subcommand (record program { top = record program.top { subcommand_required = true } }) play_app.top) draw_app.top

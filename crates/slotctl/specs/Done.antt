@@ -1,11 +1,18 @@
 -- what is done for the words of a command line
-use Rattle.std.specs.Prelude.{◌≡◌, ℕ, Result, Ok, Err}
-use Rattle.schedule_player.specs.IsRun.{IsRun}
+use Rattle.std.specs.Prelude.{◌≡◌, ◌⊎◌, ◌<◌, ℕ, zero, suc, List, Option, Result, Ok, Err, IfOk, IfErr}
+use Rattle.std.specs.Io.KnownBytes.{Appends}
+use Rattle.drawn_schedules.specs.Runs.{HasDrawn, HasDrawnPart}
+use Rattle.drawn_schedules.specs.Schedule.{schedule}
+use Rattle.schedule_player.specs.Events.{event_lines}
+use Rattle.schedule_player.specs.IsRun.{IsTalk}
 use Rattle.schedule_player.specs.Played.{Reading, Writing, IsPlayed}
-use Rattle.schedule_player.specs.declared.config.Config.{Config}
 use Rattle.schedule_player.specs.declared.fault.Fault.{Fault}
+use Rattle.schedule_player.specs.declared.fault.Fault.TheVariants.{Write, Memory}
 use Rattle.schedule_player.specs.declared.summary.Summary.{Summary}
+use Rattle.schedule_player.specs.Written.{HasPartOf}
 use Rattle.slotctl.specs.declared.asked.Ask.{Ask}
+use Rattle.slotctl.specs.declared.asked.Ask.TheVariants.{Play, Draw}
+use Rattle.slotctl.specs.declared.asked.Drawing.{Drawing}
 use Rattle.slotctl.specs.declared.failure.Failure.{Failure}
 use Rattle.slotctl.specs.declared.failure.Failure.TheVariants as failure
 use Rattle.slotctl.specs.declared.misuse.Misuse.{Misuse}
@@ -16,14 +23,31 @@ abbrev pub outcome_of : Result ℕ Fault → Result ℕ Failure
 outcome_of (Ok status) = Ok status
 outcome_of (Err fault) = Err (failure.Fault fault)
 
--- the config is played, with the theorem of a run, and answers this status
-abbrev pub IsWorked : {R W : Type 0} → Config → Reading R → Writing W → R → R → W → W → Result ℕ Fault → Type 0
-IsWorked config reading writing r r' w w' status =
-    (played : Result Summary Fault) × (status ≡ status_after played) × IsPlayed (IsRun config) (IsRun config) config.world reading writing r r' w w' played
+-- what is drawn: the lines of a schedule, or those of runs
+abbrev pub IsDrawn : ℕ → Drawing → (List ℕ → Type 0) → Type 0
+IsDrawn zero d Told = Told (event_lines (schedule d.seed d.ids d.steps))
+IsDrawn (suc more) d Told = HasDrawn d.config d.seed d.ids d.steps d.runs Told
 
--- where the words ask for nothing that is done, nothing is read or written; what they ask for is
--- played
+-- a beginning of it
+abbrev pub IsPartDrawn : ℕ → Drawing → Option (List ℕ) → Option (List ℕ) → Type 0
+IsPartDrawn zero d before now = HasPartOf before now (event_lines (schedule d.seed d.ids d.steps))
+IsPartDrawn (suc more) d before now = HasDrawnPart d.config d.seed d.ids d.steps d.runs before now
+
+-- a drawing is written: where all of it, with status 0; at a fault, of the writer or for want of memory, a beginning of it
+pub record IsDrawnBy {W : Type 0} (d : Drawing) (writing : Writing W) (w w' : W) (result : Result ℕ Fault) : Type 0 where
+  pub ok : IfOk result (λ status. (status ≡ 0) × IsDrawn d.runs d (Appends (writing.contents w) (writing.contents w')) × (writing.failed w' ≡ writing.failed w))
+  pub write_fault : result ≡ Err Write → IsPartDrawn d.runs d (writing.contents w) (writing.contents w') × (writing.failed w < writing.failed w')
+  pub memory : result ≡ Err Memory → IsPartDrawn d.runs d (writing.contents w) (writing.contents w')
+  pub only : IfErr result (λ fault. (fault ≡ Write) ⊎ (fault ≡ Memory))
+
+-- what was asked for is done, and answers this status: a config is played, with the theorem of a run; or nothing is read,
+-- and a drawing is written
+abbrev pub IsWorked : {R W : Type 0} → Ask → Reading R → Writing W → R → R → W → W → Result ℕ Fault → Type 0
+IsWorked (Play config) reading writing r r' w w' status =
+    (played : Result Summary Fault) × (status ≡ status_after played) × IsPlayed (IsTalk config) (IsTalk config) config.world reading writing r r' w w' played
+IsWorked (Draw drawing) reading writing r r' w w' status = (r' ≡ r) × IsDrawnBy drawing writing w w' status
+
+-- where the words ask for nothing that is done, nothing is read or written; what they ask for is done
 abbrev pub IsDone : {R W : Type 0} → Reading R → Writing W → R → R → W → W → Result Ask Misuse → Result ℕ Failure → Type 0
 IsDone reading writing r r' w w' (Err misuse) result = (result ≡ Err (failure.Misuse misuse)) × (r' ≡ r) × (w' ≡ w)
-IsDone reading writing r r' w w' (Ok ask) result =
-    (status : Result ℕ Fault) × (result ≡ outcome_of status) × IsWorked ask.config reading writing r r' w w' status
+IsDone reading writing r r' w w' (Ok ask) result = (status : Result ℕ Fault) × (result ≡ outcome_of status) × IsWorked ask reading writing r r' w w' status

@@ -1,3 +1,4 @@
+pub mod Ranges
 pub mod CommandLine
 pub mod Asked
 pub mod Statuses

@@ -1,10 +1,55 @@
 //! What the program can be asked for.
 
+ghost use Rattle.std.specs.Prelude.{◌≡◌, ◌≤◌, IfSome, IsSome, ◌↔◌};
+ghost use Rattle.slotctl.specs.Ranges.{IsDrawingRange};
+
+use rename_core::WorldKind;
 use schedule_player::Config;
 
-/// What the words of a command line ask for: a run of `play`.
+/// What the words of a command line ask for.
 #[derive(Clone, Copy, Drop)]
-pub struct Ask {
-    /// The world and the sizes of the run.
+pub enum Ask {
+    /// A run of `play`, of this world and these sizes.
+    Play(Config),
+    /// Drawn schedules.
+    Draw(Drawing),
+}
+
+/// The schedules that are drawn: the schedule of a seed as its lines, or runs of it and of the seeds after it.
+#[derive(Clone, Copy, Drop)]
+pub struct Drawing {
+    /// The seed of the first.
+    pub seed: u64,
+    /// How many identities there are, from 1 to 16.
+    pub ids: u64,
+    /// How many steps are taken, at most 1,000,000.
+    pub steps: u64,
+    /// How many runs are made, at most 1,000; with none, the schedule is written.
+    pub runs: u64,
+    /// The world of the runs, in which names are given, and its sizes.
     pub config: Config,
+    ghost in_range: { IsDrawingRange seed ids steps runs config.world },
+}
+
+impl Drawing {
+    /// A drawing of these values; none where one of them is outside its range.
+    pub fn new(seed: u64, ids: u64, steps: u64, runs: u64, config: Config) -> Option<Drawing>
+        ensures values { IfSome result (λ d. (d.seed ≡ seed) × (d.ids ≡ ids) × (d.steps ≡ steps) × (d.runs ≡ runs) × (d.config ≡ config)) }
+        ensures range { IsSome result ↔ IsDrawingRange seed ids steps runs config.world }
+    {
+        if ids < 1 || 16 < ids || 1_000_000 < steps || 1_000 < runs {
+            return None;
+        }
+        match config.world {
+            WorldKind::Splitter => None,
+            WorldKind::Grid => None,
+            WorldKind::Rename | WorldKind::Tree => Some(Drawing {
+                seed,
+                ids,
+                steps,
+                runs,
+                config,
+            }),
+        }
+    }
 }

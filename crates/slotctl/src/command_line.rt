@@ -3,9 +3,10 @@
 ghost use Rattle.std.specs.Prelude.{◌≡◌, false, IfOk};
 ghost use Rattle.clap.specs.Words.{app_of, rule_of};
 ghost use Rattle.clap.specs.declared.builder.command.Command.TheViews.{out-Command};
-ghost use Rattle.slotctl.specs.CommandLine.{m_option, play_app, slotctl_app, world_option};
+ghost use Rattle.slotctl.specs.CommandLine.{draw_app, draw_needs_app, limit_option, m_option, needed_option, number_option, play_app, slotctl_app, world_option};
 
-use clap::{Arg, ArgAction, Command, value_parser};
+use clap::builder::ValueParser;
+use clap::{Arg, ArgAction, Command};
 use std::alloc::{AllocError, Global};
 
 // `--world NAME`.
@@ -16,9 +17,44 @@ fn world_option<'a>(alloc: Global) -> Arg<'a>
     Arg::new(alloc, "world")
         .long("world")
         .action(ArgAction::Set)
-        .required(true)
+        .default_value("rename")
         .value_name("NAME")
-        .help("what is played: splitter or grid")
+        .help("what is played: splitter, grid, rename or tree")
+}
+
+// An option with a number in this range, and a text of the number that it has where it is not given.
+fn number_option<'a>(
+    alloc: Global,
+    name: &'a str,
+    least: u64,
+    most: u64,
+    default: &'a str,
+    help: &'a str,
+) -> Arg<'a>
+    ensures rule { rule_of result ≡ number_option name.now least most default.now }
+    ensures local { result.global ≡ false }
+{
+    Arg::new(alloc, name)
+        .long(name)
+        .action(ArgAction::Set)
+        .value_parser(ValueParser::unsigned(least, most))
+        .default_value(default)
+        .value_name("NUMBER")
+        .help(help)
+}
+
+// An option with a number in this range, which has to be given.
+fn needed_option<'a>(alloc: Global, name: &'a str, least: u64, most: u64, help: &'a str) -> Arg<'a>
+    ensures rule { rule_of result ≡ needed_option name.now least most }
+    ensures local { result.global ≡ false }
+{
+    Arg::new(alloc, name)
+        .long(name)
+        .action(ArgAction::Set)
+        .required(true)
+        .value_parser(ValueParser::unsigned(least, most))
+        .value_name("NUMBER")
+        .help(help)
 }
 
 // `--m NUMBER`.
@@ -26,13 +62,29 @@ fn m_option<'a>(alloc: Global) -> Arg<'a>
     ensures rule { rule_of result ≡ m_option }
     ensures local { result.global ≡ false }
 {
-    Arg::new(alloc, "m")
-        .long("m")
-        .action(ArgAction::Set)
-        .value_parser(value_parser!(u64).range(1..=16))
-        .default_value("4")
-        .value_name("NUMBER")
-        .help("the most participants, from 1 to 16")
+    number_option(
+        alloc,
+        "m",
+        1,
+        16,
+        "4",
+        "the most participants, from 1 to 16",
+    )
+}
+
+// `--limit NUMBER`.
+fn limit_option<'a>(alloc: Global) -> Arg<'a>
+    ensures rule { rule_of result ≡ limit_option }
+    ensures local { result.global ≡ false }
+{
+    number_option(
+        alloc,
+        "limit",
+        1,
+        1_000_000,
+        "1000",
+        "the most proposals of each participant, from 1 to 1000000",
+    )
 }
 
 // The subcommand `play` with its options.
@@ -43,16 +95,57 @@ fn play_command<'a>(alloc: Global) -> Result<Command<'a>, AllocError>
     Command::new(alloc, "play")
         .about("Plays the commands of the standard input, and writes a reply to each")
         .arg(world_option(alloc))?
-        .arg(m_option(alloc))
+        .arg(m_option(alloc))?
+        .arg(number_option(alloc, "k", 1, 64, "4", "the size of the pool, from 1 to 64"))?
+        .arg(limit_option(alloc))
 }
 
-/// The program with its subcommand, one of which has to be given.
+// What `draw` has to be told.
+fn draw_needs<'a>(alloc: Global) -> Result<Command<'a>, AllocError>
+    ensures app { IfOk result (λ c. app_of c ≡ draw_needs_app) }
+    ensures local { IfOk result (λ c. (out-Command c).has_globals ≡ false) }
+{
+    Command::new(alloc, "draw")
+        .about("Draws schedules, and writes one, or a line for each of many that are played")
+        .arg(needed_option(alloc, "seed", 0, u64::MAX, "the seed of the generator"))?
+        .arg(needed_option(alloc, "ids", 1, 16, "how many identities, from 1 to 16"))?
+        .arg(needed_option(
+            alloc,
+            "steps",
+            0,
+            1_000_000,
+            "how many steps, at most 1000000",
+        ))
+}
+
+// The subcommand `draw` with its options.
+fn draw_command<'a>(alloc: Global) -> Result<Command<'a>, AllocError>
+    ensures app { IfOk result (λ c. app_of c ≡ draw_app) }
+    ensures local { IfOk result (λ c. (out-Command c).has_globals ≡ false) }
+{
+    draw_needs(alloc)?
+        .arg(number_option(
+            alloc,
+            "runs",
+            0,
+            1_000,
+            "0",
+            "how many are played, at most 1000",
+        ))?
+        .arg(world_option(alloc))?
+        .arg(m_option(alloc))?
+        .arg(limit_option(alloc))
+}
+
+/// The program with its subcommands, one of which has to be given.
 pub fn slotctl_command<'a>(alloc: Global) -> Result<Command<'a>, AllocError>
     ensures { IfOk result (λ c. app_of c ≡ slotctl_app) }
 {
     let play = play_command(alloc)?;
+    let draw = draw_command(alloc)?;
     Command::new(alloc, "slotctl")
         .about("Plays schedules of shared-memory algorithms, one access a step")
         .subcommand_required(true)
-        .subcommand(play)
+        .subcommand(play)?
+        .subcommand(draw)
 }

@@ -1,3 +1,4 @@
+use crate::asked::Ask;
 use crate::failure::Failure;
 use crate::misuse::Misuse;
 use crate::program::program;
@@ -9,55 +10,171 @@ use std::io;
 use std::io::{Read, Write};
 use std::test::Fail;
 
-// The number of participants that the words ask for, which choose nothing else.
-fn participants(alloc: Global, words: &[&str]) -> Result<u64, Misuse> {
-    let config = ask(alloc, words)?.config;
-    let is_plain = config.world == WorldKind::Splitter && config.k == 4 && config.limit == 1000;
-    Ok(if is_plain { config.m } else { 0 })
+// The world and the numbers of the config that the words ask to play.
+fn chosen(alloc: Global, words: &[&str]) -> Result<Option<(WorldKind, u64, u64, u64)>, Misuse> {
+    match ask(alloc, words)? {
+        Ask::Play(config) => Ok(Some((config.world, config.m, config.k, config.limit))),
+        Ask::Draw(_) => Ok(None),
+    }
+}
+
+// The seed, the identities, the steps, the runs, and the world of what the words ask to draw.
+fn drawing(
+    alloc: Global,
+    words: &[&str],
+) -> Result<Option<(u64, u64, u64, u64, WorldKind)>, Misuse> {
+    match ask(alloc, words)? {
+        Ask::Play(_) => Ok(None),
+        Ask::Draw(d) => Ok(Some((d.seed, d.ids, d.steps, d.runs, d.config.world))),
+    }
+}
+
+#[test]
+fn drawings_are_read(rt: HostRuntime) -> Result<(), Fail> {
+    let alloc = rt.alloc();
+    let words = [
+        "slotctl", "draw", "--seed", "7", "--ids", "1", "--steps", "3",
+    ];
+    assert_eq!(rt;
+        drawing(alloc, words.as_slice())?,
+        Some((7, 1, 3, 0, WorldKind::Rename))
+    );
+    let words = [
+        "slotctl",
+        "draw",
+        "--world",
+        "tree",
+        "--runs",
+        "1000",
+        "--steps",
+        "1000000",
+        "--ids",
+        "16",
+        "--seed",
+        "18446744073709551615",
+    ];
+    assert_eq!(rt;
+        drawing(alloc, words.as_slice())?,
+        Some((u64::MAX, 16, 1_000_000, 1_000, WorldKind::Tree))
+    );
+    for (option, value) in [
+        ("--ids", "0"),
+        ("--ids", "17"),
+        ("--steps", "1000001"),
+        ("--runs", "1001"),
+        ("--seed", "18446744073709551616"),
+        ("--world", "grid"),
+        ("--world", "splitter"),
+        ("--m", "17"),
+        ("--k", "4"),
+    ] {
+        let mut words = [
+            "slotctl", "draw", option, value, "--seed", "1", "--ids", "1", "--steps", "1",
+        ];
+        for at in [4, 6, 8] {
+            if words[at] == option {
+                words[at + 1] = value;
+                words[2] = "--m";
+                words[3] = "4";
+            }
+        }
+        assert!(rt; is_refused(alloc, words.as_slice()), "at {words:?}");
+    }
+    assert!(rt; is_refused(alloc, &["slotctl", "draw", "--seed", "1", "--ids", "1"]));
+    assert!(rt; is_refused(alloc, &["slotctl", "draw", "--steps", "1", "--ids", "1"]));
+    assert!(rt; is_refused(alloc, &["slotctl", "draw", "--steps", "1", "--seed", "1"]));
+    Ok(())
+}
+
+#[test]
+fn schedules_are_drawn(rt: HostRuntime) -> Result<(), Fail> {
+    let alloc = rt.alloc();
+    let schedule = [
+        "slotctl", "draw", "--seed", "7", "--ids", "1", "--steps", "3",
+    ];
+    let runs = [
+        "slotctl", "draw", "--seed", "7", "--ids", "1", "--steps", "9", "--runs", "2", "--m", "1",
+    ];
+    let rows: [(&[&str], &[u8]); 2] = [
+        (&schedule, b"begin 1\nstep 1\nstep 1\nstep 1\n"),
+        (
+            &runs,
+            b"run 0 begun 1 named 1 spent 0\nrun 1 begun 1 named 1 spent 0\n",
+        ),
+    ];
+    for (words, text) in rows {
+        let (outcome, written) = done(alloc, words, b"begin 8\n")?;
+        assert!(rt; matches!(outcome, Ok(0)));
+        assert_eq!(rt; written.as_slice(), text);
+    }
+    Ok(())
 }
 
 #[test]
 fn options_are_read(rt: HostRuntime) -> Result<(), Fail> {
-    let alloc = rt.alloc();
-    assert_eq!(rt;
-        participants(alloc, &["slotctl", "play", "--world", "splitter"])?,
-        4
-    );
-    assert_eq!(rt;
-        participants(alloc, &["slotctl", "play", "--m=2", "--world=splitter"])?,
-        2
-    );
-    for (text, m) in [("1", 1), ("16", 16), ("+4", 4), ("04", 4)] {
-        assert_eq!(rt;
-            participants(
-                alloc,
-                &["slotctl", "play", "--world", "splitter", "--m", text]
-            )?,
-            m,
-            "at {text}"
-        );
+    let rows: [(&[&str], (WorldKind, u64, u64, u64)); 9] = [
+        (&["slotctl", "play"], (WorldKind::Rename, 4, 4, 1000)),
+        (
+            &["slotctl", "play", "--world", "splitter"],
+            (WorldKind::Splitter, 4, 4, 1000),
+        ),
+        (
+            &["slotctl", "play", "--world=grid", "--m=2"],
+            (WorldKind::Grid, 2, 4, 1000),
+        ),
+        (
+            &["slotctl", "play", "--world", "rename", "--k", "1"],
+            (WorldKind::Rename, 4, 1, 1000),
+        ),
+        (
+            &["slotctl", "play", "--limit", "1", "--world", "tree"],
+            (WorldKind::Tree, 4, 4, 1),
+        ),
+        (
+            &[
+                "slotctl", "play", "--m", "16", "--k", "64", "--limit", "1000000",
+            ],
+            (WorldKind::Rename, 16, 64, 1_000_000),
+        ),
+        (
+            &["slotctl", "play", "--m", "1", "--k", "2", "--limit", "3"],
+            (WorldKind::Rename, 1, 2, 3),
+        ),
+        (
+            &["slotctl", "play", "--m", "+4", "--k", "04"],
+            (WorldKind::Rename, 4, 4, 1000),
+        ),
+        (
+            &["slotctl", "play", "--limit", "007"],
+            (WorldKind::Rename, 4, 4, 7),
+        ),
+    ];
+    for (words, want) in rows {
+        assert_eq!(rt; chosen(rt.alloc(), words)?, Some(want), "at {words:?}");
     }
     Ok(())
 }
 
 #[test]
 fn numbers_are_refused(rt: HostRuntime) {
-    for text in [
-        "0",
-        "17",
-        "-1",
-        "",
-        " 4",
-        "4 ",
-        "four",
-        "0x4",
-        "18446744073709551617",
-    ] {
-        let words = ["slotctl", "play", "--world", "splitter", "--m", text];
-        assert!(rt;
-            matches!(ask(rt.alloc(), words.as_slice()), Err(Misuse::Words(_))),
-            "at {text}"
-        );
+    for (option, above) in [("--m", "17"), ("--k", "65"), ("--limit", "1000001")] {
+        for text in [
+            "0",
+            above,
+            "-1",
+            "",
+            " 4",
+            "4 ",
+            "four",
+            "0x4",
+            "18446744073709551617",
+        ] {
+            let words = ["slotctl", "play", option, text];
+            assert!(rt;
+                matches!(ask(rt.alloc(), words.as_slice()), Err(Misuse::Words(_))),
+                "at {option} {text}"
+            );
+        }
     }
 }
 
@@ -73,8 +190,7 @@ fn words_are_refused(rt: HostRuntime) {
     assert!(rt; is_refused(alloc, &["slotctl"]));
     assert!(rt; is_refused(alloc, &["slotctl", "replay"]));
     assert!(rt; is_refused(alloc, &["slotctl", "replay", "--help"]));
-    assert!(rt; is_refused(alloc, &["slotctl", "play"]));
-    assert!(rt; is_refused(alloc, &["slotctl", "play", "--m", "2"]));
+    assert!(rt; is_refused(alloc, &["slotctl", "play", "--seed", "2"]));
     assert!(rt; is_refused(alloc, &["slotctl", "play", "--world"]));
     assert!(rt; is_refused(alloc, &["slotctl", "play", "--world", "ring"]));
     assert!(rt; is_refused(alloc, &["slotctl", "play", "--world", "Splitter"]));
@@ -95,7 +211,8 @@ fn words_are_refused(rt: HostRuntime) {
         )
     );
     assert!(rt; is_refused(alloc, &["slotctl", "play", "--world", "splitter", "2"]));
-    assert!(rt; is_refused(alloc, &["slotctl", "play", "--k", "2", "--help"]));
+    assert!(rt; is_refused(alloc, &["slotctl", "play", "--workers", "2", "--help"]));
+    assert!(rt; is_refused(alloc, &["slotctl", "play", "--k", "2", "--k", "2"]));
 }
 
 // That the words ask for help, whose text has this line of usage.
@@ -116,7 +233,7 @@ fn help_is_shown(rt: HostRuntime) {
         shows_usage(
             alloc,
             &["slotctl", "play", "--help"],
-            "Usage: slotctl play [OPTIONS] --world <NAME>\n"
+            "Usage: slotctl play [OPTIONS]\n"
         )
     );
     assert!(rt;
@@ -163,21 +280,42 @@ fn done(
 
 #[test]
 fn commands_are_played(rt: HostRuntime) -> Result<(), Fail> {
-    let words = ["slotctl", "play", "--world", "splitter", "--m", "2"];
-    let rows: [(&[u8], &[u8]); 4] = [
-        (b"", b""),
+    let splitter = ["slotctl", "play", "--world", "splitter", "--m", "2"];
+    let rename = ["slotctl", "play", "--m", "1", "--k", "1"];
+    let tree = [
+        "slotctl", "play", "--world", "tree", "--m", "1", "--limit", "1",
+    ];
+    let rows: [(&[&str], &[u8], &[u8]); 7] = [
+        (&splitter, b"", b""),
         (
+            &splitter,
             b"begin 10\nbegin 20\nstep 10\nstep 20\nstep 10\nstep 20\nstep 10\nstep 20\nstep 10\nstep 20\n",
             b"ok\nok\nquiet\nquiet\nquiet\nquiet\nquiet\nquiet\ndown\nstop\n",
         ),
         (
+            &splitter,
             b"enter 5\nstep 9\nbegin 0\nbegin 9\nquit\nbegin 8\n",
             b"bad 3\nrefused 4\nrefused 1\nok\nok\n",
         ),
-        (b"begin 7\nquit\nbegin 8", b"ok\nok\n"),
+        (&splitter, b"begin 7\nquit\nbegin 8", b"ok\nok\n"),
+        (
+            &rename,
+            b"enter 5\nprobe 5\nput 5 9\nenter 6\nbegin 7\nstep 7\nowner 1\nowner 2\nget 5",
+            b"ok\ngot 1\nok\nrefused 7\nok\nquiet\nowner none\nrefused 14\nvalue 9\n",
+        ),
+        (
+            &rename,
+            b"begin 7\nstep 7\nstep 7\nstep 7\nstep 7\nstep 7\nstep 7\nstep 7\nstep 7\nstep 7\nowner 1\n",
+            b"ok\nquiet\nquiet\nquiet\nplace 0\nquiet\nquiet\nproposed 1\nquiet\nnamed 1\nowner 7\n",
+        ),
+        (
+            &tree,
+            b"begin 7\nstep 7\nstep 7\nstep 7\nstep 7\nstep 7\nstep 8\n",
+            b"ok\nquiet\nquiet\nquiet\nquiet\nplace 1\nrefused 4\n",
+        ),
     ];
-    for (input, text) in rows {
-        let (outcome, written) = done(rt.alloc(), words.as_slice(), input)?;
+    for (words, input, text) in rows {
+        let (outcome, written) = done(rt.alloc(), words, input)?;
         assert!(rt; matches!(outcome, Ok(0)));
         assert_eq!(rt; written.as_slice(), text);
     }
@@ -259,16 +397,19 @@ fn a_write_fault_ends_the_run(rt: HostRuntime) -> Result<(), Fail> {
 }
 
 const HELP: &[u8] =
-    b"Plays schedules of shared-memory algorithms, one access a step\n\nUsage: slotctl <COMMAND>\n\nCommands:\n  play  Plays the commands of the standard input, and writes a reply to each\n  help  Print this message or the help of the given subcommand(s)\n\nOptions:\n  -h, --help  Print help\n";
+    b"Plays schedules of shared-memory algorithms, one access a step\n\nUsage: slotctl <COMMAND>\n\nCommands:\n  play  Plays the commands of the standard input, and writes a reply to each\n  draw  Draws schedules, and writes one, or a line for each of many that are played\n  help  Print this message or the help of the given subcommand(s)\n\nOptions:\n  -h, --help  Print help\n";
 
 const PLAY_HELP: &[u8] =
-    b"Plays the commands of the standard input, and writes a reply to each\n\nUsage: slotctl play [OPTIONS] --world <NAME>\n\nOptions:\n      --world <NAME>  what is played: splitter or grid\n      --m <NUMBER>    the most participants, from 1 to 16 [default: 4]\n  -h, --help          Print help\n";
+    b"Plays the commands of the standard input, and writes a reply to each\n\nUsage: slotctl play [OPTIONS]\n\nOptions:\n      --world <NAME>    what is played: splitter, grid, rename or tree [default: rename]\n      --m <NUMBER>      the most participants, from 1 to 16 [default: 4]\n      --k <NUMBER>      the size of the pool, from 1 to 64 [default: 4]\n      --limit <NUMBER>  the most proposals of each participant, from 1 to 1000000 [default: 1000]\n  -h, --help            Print help\n";
 
 const NO_SUBCOMMAND: &[u8] =
-    b"error: 'slotctl' requires a subcommand but one was not provided\n  [subcommands: play, help]\n\nUsage: slotctl <COMMAND>\n\nFor more information, try '--help'.\n";
+    b"error: 'slotctl' requires a subcommand but one was not provided\n  [subcommands: play, draw, help]\n\nUsage: slotctl <COMMAND>\n\nFor more information, try '--help'.\n";
 
 const TOO_MANY: &[u8] =
     b"error: invalid value '17' for '--m <NUMBER>': 17 is not in 1..=16\n\nFor more information, try '--help'.\n";
+
+const NO_NUMBER: &[u8] =
+    b"error: invalid value '0' for '--limit <NUMBER>': 0 is not in 1..=1000000\n\nFor more information, try '--help'.\n";
 
 const NO_WORLD: &[u8] = b"error: no such world, or a number out of its range\n";
 
@@ -293,7 +434,7 @@ fn run_of<R: Read + Drop>(
 fn statuses_and_texts_are_those_of_the_protocol(rt: HostRuntime) {
     let alloc = rt.alloc();
     let none = b"".as_slice();
-    let rows: [(&[&str], u8, &[u8], &[u8]); 7] = [
+    let rows: [(&[&str], u8, &[u8], &[u8]); 9] = [
         (&["slotctl", "--help"], 0, HELP, none),
         (&["slotctl", "help"], 0, HELP, none),
         (&["slotctl", "play", "--help"], 0, PLAY_HELP, none),
@@ -304,7 +445,9 @@ fn statuses_and_texts_are_those_of_the_protocol(rt: HostRuntime) {
             none,
             TOO_MANY,
         ),
+        (&["slotctl", "play", "--limit", "0"], 2, none, NO_NUMBER),
         (&["slotctl", "play", "--world", "ring"], 2, none, NO_WORLD),
+        (&["slotctl", "play"], 0, b"ok\nquiet\n", none),
         (
             &["slotctl", "play", "--world", "grid"],
             0,

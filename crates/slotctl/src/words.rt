@@ -1,14 +1,16 @@
 //! What the words of a command line ask for.
 
-ghost use Rattle.std.specs.Prelude.{◌≡◌, IfOk, IsErr, Option, Some, None, MatchOption, map, option_and_then};
+ghost use Rattle.std.specs.Prelude.{◌≡◌, ℕ, ◌<◌, ◌^◌, MatchOption, map};
 ghost use Rattle.clap.specs.Words.{found_of, kind_of, rows_of, subcommand_rows_of};
 ghost use Rattle.clap.specs.Faults.{fault_of};
 ghost use Rattle.slotctl.specs.CommandLine.{slotctl_app};
-ghost use Rattle.slotctl.specs.Asked.{IsAnswer, IsAsked, IsConfigOf, IsMisuseOf, IsRefusal, world_named};
-ghost use Rattle.schedule_player.specs.declared.config.Config.{Config};
+ghost use Rattle.slotctl.specs.Asked.{HasNumber, HasWorld, IsAnswer, IsAsked, IsConfigOf, IsDrawingOf, IsMisuseOf, IsRefusal, world_named};
+ghost use Rattle.rename_core.specs.declared.config.Config.{Config};
+ghost use Rattle.rename_core.specs.declared.config.WorldKind.{WorldKind};
+ghost use Rattle.slotctl.specs.declared.asked.Drawing.{Drawing};
 ghost use Rattle.slotctl.specs.declared.asked.Ask.{Ask};
 
-use crate::asked::Ask;
+use crate::asked::{Ask, Drawing};
 use crate::command_line::slotctl_command;
 use crate::misuse::Misuse;
 use clap::error::ErrorKind;
@@ -17,12 +19,6 @@ use schedule_player::{Config, WorldKind};
 use std::alloc::Global;
 use std::convert::AsStr;
 
-/// The pool's size where no option tells it.
-const DEFAULT_K: u64 = 4;
-
-/// The round limit where no option tells it.
-const DEFAULT_LIMIT: u64 = 1000;
-
 // The world of a name.
 fn world_named(name: &str) -> Option<WorldKind>
     ensures { result ≡ world_named name.now }
@@ -30,25 +26,54 @@ fn world_named(name: &str) -> Option<WorldKind>
     match name {
         "splitter" => Some(WorldKind::Splitter),
         "grid" => Some(WorldKind::Grid),
+        "rename" => Some(WorldKind::Rename),
+        "tree" => Some(WorldKind::Tree),
         _ => None,
     }
 }
 
-// The config that the options of `play` give, where there is one.
-fn play_config(matches: &ArgMatches<'_>) -> Option<Config>
-    ensures { MatchOption result ((c : Config) → IsConfigOf (rows_of (found_of matches.now)) c → ⊥) (IsConfigOf (rows_of (found_of matches.now))) }
+// The world that is matched.
+fn world_given(matches: &ArgMatches<'_>) -> Option<WorldKind>
+    ensures { MatchOption result ((w : WorldKind) → HasWorld (rows_of (found_of matches.now)) w → ⊥) (HasWorld (rows_of (found_of matches.now))) }
 {
-    let world = world_named(matches.get_str("world")?)?;
-    let m = matches.get_one::<u64>("m")?;
-    Config::new(world, m, DEFAULT_K, DEFAULT_LIMIT).ok()
+    world_named(matches.get_str("world")?)
 }
 
-// What the options of `play` ask for, where they ask for something.
-fn play_asked(matches: &ArgMatches<'_>) -> Option<Ask>
-    ensures { MatchOption result ((a : Ask) → IsConfigOf (rows_of (found_of matches.now)) a.config → ⊥) (λ a. IsConfigOf (rows_of (found_of matches.now)) a.config) }
+// The number that is matched for an option.
+fn number_given(matches: &ArgMatches<'_>, name: &str) -> Option<u64>
+    ensures { MatchOption result ((n : ℕ) → n < 2 ^ 64 → HasNumber (rows_of (found_of matches.now)) name.now n → ⊥)
+        (HasNumber (rows_of (found_of matches.now)) name.now) }
 {
-    let config = play_config(matches)?;
-    Some(Ask { config })
+    matches.get_one::<u64>(name)
+}
+
+// What the options of `play` give, where they give something.
+fn play_given(matches: &ArgMatches<'_>) -> Option<Config>
+    ensures { MatchOption result ((c : Config) → IsConfigOf (rows_of (found_of matches.now)) c → ⊥) (IsConfigOf (rows_of (found_of matches.now))) }
+{
+    let world = world_given(matches)?;
+    let m = number_given(matches, "m")?;
+    let k = number_given(matches, "k")?;
+    let limit = number_given(matches, "limit")?;
+    Config::new(world, m, k, limit).ok()
+}
+
+/// The size of the pool of a drawn run, which no drawn event uses.
+const DRAWN_POOL: u64 = 4;
+
+// What the options of `draw` give, where they give something.
+fn draw_given(matches: &ArgMatches<'_>) -> Option<Drawing>
+    ensures { MatchOption result ((d : Drawing) → IsDrawingOf (rows_of (found_of matches.now)) d → ⊥) (IsDrawingOf (rows_of (found_of matches.now))) }
+{
+    let seed = number_given(matches, "seed")?;
+    let ids = number_given(matches, "ids")?;
+    let steps = number_given(matches, "steps")?;
+    let runs = number_given(matches, "runs")?;
+    let world = world_given(matches)?;
+    let m = number_given(matches, "m")?;
+    let limit = number_given(matches, "limit")?;
+    let config = Config::new(world, m, DRAWN_POOL, limit).ok()?;
+    Drawing::new(seed, ids, steps, runs, config)
 }
 
 // What the matches ask for, where they ask for something.
@@ -56,7 +81,8 @@ fn asked(matches: &ArgMatches<'_>) -> Option<Ask>
     ensures { MatchOption result ((a : Ask) → IsAsked (subcommand_rows_of matches.now) a → ⊥) (IsAsked (subcommand_rows_of matches.now)) }
 {
     match matches.subcommand() {
-        Some(("play", options)) => play_asked(options),
+        Some(("play", options)) => Some(Ask::Play(play_given(options)?)),
+        Some(("draw", options)) => Some(Ask::Draw(draw_given(options)?)),
         _ => None,
     }
 }

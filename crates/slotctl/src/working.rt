@@ -2,17 +2,42 @@
 
 ghost use Rattle.std.specs.Prelude.{◌<◌, ◌^◌};
 ghost use Rattle.schedule_player.specs.Played.{reading, writing};
-ghost use Rattle.slotctl.specs.Done.{IsWorked};
+ghost use Rattle.slotctl.specs.Done.{IsWorked, IsDrawnBy};
 
-use crate::asked::Ask;
+use crate::asked::{Ask, Drawing};
+use drawn_schedules::{draw, play_drawn};
 use schedule_player::{Fault, Sink, Source, play};
 use std::alloc::Allocator;
 
+// Writes what is drawn: a schedule, or the lines of runs.
+fn draw_for<W: Sink, A: Allocator + Clone>(
+    alloc: A,
+    drawing: Drawing,
+    writer: &mut W,
+) -> Result<u8, Fault>
+    requires { W.calls writer.old < 2 ^ 64 }
+    ensures { IsDrawnBy drawing (writing W.contents W.failed) writer.old writer.new result }
+{
+    let Drawing {
+        seed,
+        ids,
+        steps,
+        runs,
+        config,
+    } = drawing;
+    if runs == 0 {
+        draw(alloc, seed, ids, steps, writer)?;
+    } else {
+        play_drawn(alloc, seed, ids, steps, runs, config, writer)?;
+    }
+    Ok(0)
+}
+
 /// Does what was asked for, over this input and this output, and answers the status of the program, 0.
 ///
-/// `play` writes the replies to the commands that it reads. Answers `Fault::Read` where the reader failed or the limit of
-/// reads was reached, `Fault::Write` where the writer failed or took no byte, and `Fault::Memory` where memory was refused,
-/// with nothing read and nothing written.
+/// `play` writes the replies to the commands that it reads; `draw` reads nothing. Answers `Fault::Read` where the reader failed
+/// or the limit of reads was reached, `Fault::Write` where the writer failed or took no byte, and `Fault::Memory` where memory
+/// was refused: by `play` with nothing read and nothing written.
 pub fn work<R: Source, W: Sink, A: Allocator + Clone + Drop>(
     alloc: A,
     ask: Ask,
@@ -21,11 +46,13 @@ pub fn work<R: Source, W: Sink, A: Allocator + Clone + Drop>(
 ) -> Result<u8, Fault>
     requires reads { R.calls reader.old < 2 ^ 64 }
     requires writes { W.calls writer.old < 2 ^ 64 }
-    ensures { IsWorked ask.config (reading R.remaining R.calls R.failed) (writing W.contents W.failed)
-        reader.old reader.new writer.old writer.new result }
+    ensures { IsWorked ask (reading R.remaining R.calls R.failed) (writing W.contents W.failed) reader.old reader.new writer.old writer.new result }
 {
-    match play(alloc, reader, writer, ask.config) {
-        Ok(_) => Ok(0),
-        Err(fault) => Err(fault),
+    match ask {
+        Ask::Play(config) => match play(alloc, reader, writer, config) {
+            Ok(_) => Ok(0),
+            Err(fault) => Err(fault),
+        },
+        Ask::Draw(drawing) => draw_for(alloc, drawing, writer),
     }
 }

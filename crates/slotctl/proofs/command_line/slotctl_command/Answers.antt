@@ -9,4 +9,5 @@ returns c =
     let about_is : app_of c.about.result ≡ new_app (codes "slotctl") = ap app_of_fields c.about.ensures ∙ c.new.ensures.app in
     let required_is : app_of c.subcommand_required.result ≡ on_top (λ s. record s { subcommand_required = true }) (new_app (codes "slotctl")) =
     ap app_of_fields c.subcommand_required.ensures ∙ ap (on_top (λ s. record s { subcommand_required = true })) about_is in
-    IfOk-weaker c.subcommand.result _ _ (λ r h. h.shape c.in_ok-play.ensures.local ∙ ap₂ with_subcommand required_is (ap (λ (a : App). a.top) c.in_ok-play.ensures.app)) c.subcommand.ensures
+    let with_play = c.in_ok-subcommand.ensures.shape c.in_ok-play.ensures.local ∙ ap₂ with_subcommand required_is (ap (λ (a : App). a.top) c.in_ok-play.ensures.app) in
+    IfOk-weaker c.subcommand-2.result _ _ (λ r h. h.shape c.in_ok-draw.ensures.local ∙ ap₂ with_subcommand with_play (ap (λ (a : App). a.top) c.in_ok-draw.ensures.app)) c.subcommand-2.ensures
