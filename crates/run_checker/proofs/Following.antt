@@ -22,7 +22,7 @@ use Rattle.desk.specs.DeskCalls.DeskCall.{Renamed, Slotted}
 use Rattle.run_checker.specs.declared.line.Line.{Line}
 use Rattle.run_checker.specs.declared.reason.Reason.TheVariants as reason
 use Rattle.run_checker.specs.declared.told.Told.{Told}
-use Rattle.run_checker.specs.declared.told.Told.TheVariants.{Ok as IsOk, Quiet, Place, Proposed, Saw, Named, Spent, Missed, Got, Left, Value, Refused}
+use Rattle.run_checker.specs.declared.told.Told.TheVariants.{Ok as Accepted, Quiet, Place, Proposed, Saw, Named, Spent, Missed, Got, Left, Value, Refused}
 use Rattle.run_checker.specs.ObjectRun.{DeskObject, AllowsCall, after_call}
 use Rattle.run_checker.specs.Told.{is_reply_of}
 use Rattle.run_checker.specs.Reasons.{why_of, is_told_rightly, Keeps, KeepsAll, MayBeNamed}
@@ -65,7 +65,7 @@ fetched_err values (Ok n) why e = cc
 fetched_err values (Err w) why e = sym e
 
 pub can_follow : (terms : RenameTerms) (o : DeskObject) (e : Event) (t : Told) → KeepsAll terms o e t → CanFollow terms o (line e t)
-can_follow terms o (Begin p) IsOk k = record { call = Renamed (Began p (Ok tt)); spelled = refl; allowed = sym (ap done_unless (none_of (no_begin terms o.names p) (k reason.Refusal))) }
+can_follow terms o (Begin p) Accepted k = record { call = Renamed (Began p (Ok tt)); spelled = refl; allowed = sym (ap done_unless (none_of (no_begin terms o.names p) (k reason.Refusal))) }
 can_follow terms o (Begin p) (Refused n) k =
     let w = told_why (no_begin terms o.names p) terms.grows n (k reason.Refusal) in
     record { call = Renamed (Began p (Err w.0)); spelled = ap (λ x. line (Begin p) (Refused x)) w.2; allowed = sym (ap done_unless w.1) }
@@ -83,7 +83,7 @@ can_follow terms o (Step p) (Refused n) k = elim (told_due (no_step o.names p) (
   | inl w ↦ record { call = Renamed (Stepped p (Err w.0)); spelled = ap (λ x. line (Step p) (Refused x)) w.2; allowed = inl w.1 }
   | inr w ↦ record { call = Renamed (Stepped p (Err NoMemory)); spelled = ap (λ x. line (Step p) (Refused x)) (sym w.2); allowed = inr (record { is = refl; grows = (and_parts terms.grows true w.1).0; none_due = w.0 }) }
 ]
-can_follow terms o (Enter p) IsOk k = record { call = Slotted (Pooled (Entered p (Ok tt))); spelled = refl; allowed = sym (ap done_unless (none_of _ (k reason.Refusal))) }
+can_follow terms o (Enter p) Accepted k = record { call = Slotted (Pooled (Entered p (Ok tt))); spelled = refl; allowed = sym (ap done_unless (none_of _ (k reason.Refusal))) }
 can_follow terms o (Enter p) (Refused n) k =
     let w = told_why _ terms.grows n (k reason.Refusal) in
     record { call = Slotted (Pooled (Entered p (Err w.0))); spelled = ap (λ x. line (Enter p) (Refused x)) w.2; allowed = sym (ap done_unless w.1) }
@@ -96,7 +96,7 @@ can_follow terms o (Leave p) (Left n) k = record { call = Slotted (Pooled (HasLe
 can_follow terms o (Leave p) (Refused n) k =
     let w = told_why (why_of (number_in o.slots.pool p)) terms.grows n (k reason.Refusal) in
     record { call = Slotted (Pooled (HasLeft p (Err w.0))); spelled = ap (λ x. line (Leave p) (Refused x)) w.2; allowed = sym (err_of (number_in o.slots.pool p) w.0 w.1) }
-can_follow terms o (Put p value) IsOk k =
+can_follow terms o (Put p value) Accepted k =
     let w = ok_of (number_in o.slots.pool p) (none_of _ (k reason.Refusal)) in
     record { call = Slotted (Stored p value (Ok tt)); spelled = refl; allowed = sym (ap stored_reply w.1) }
 can_follow terms o (Put p value) (Refused n) k =
@@ -143,7 +143,7 @@ fetched_why values (Err w) why h = (let f : why ≡ w = cc in ap Some (sym f))
 
 -- no reason fits the line of a call to which the objects may give its reply
 pub call_keeps : (terms : RenameTerms) (o : DeskObject) (c : DeskCall) → AllowsCall terms o c → KeepsAll terms o (exchange_of c).event (told_of (exchange_of c).reply)
-call_keeps terms o (Renamed (Began p (Ok done))) a = for_all (Keeps terms o (Begin p) IsOk) refl (none_due _ (none_by _ a)) tt tt tt tt tt
+call_keeps terms o (Renamed (Began p (Ok done))) a = for_all (Keeps terms o (Begin p) Accepted) refl (none_due _ (none_by _ a)) tt tt tt tt tt
 call_keeps terms o (Renamed (Began p (Err why))) a = for_all (Keeps terms o (Begin p) (Refused (refusal_number why))) refl (due_told _ (terms.grows && false) why (some_by _ why a)) tt tt tt tt tt
 call_keeps terms o (Renamed (Stepped p (Ok step.Quiet))) a = for_all (Keeps terms o (Step p) Quiet) refl (none_due _ a.0) tt tt tt tt tt
 call_keeps terms o (Renamed (Stepped p (Ok (step.Placed x)))) a = for_all (Keeps terms o (Step p) (Place x)) refl (none_due _ a.0) a.1 tt tt tt tt
@@ -155,14 +155,14 @@ call_keeps terms o (Renamed (Stepped p (Err why))) a = elim a [
   | inl due ↦ for_all (Keeps terms o (Step p) (Refused (refusal_number why))) refl (due_told _ (terms.grows && true) why due) tt tt tt tt tt
   | inr lacks ↦ for_all (Keeps terms o (Step p) (Refused (refusal_number why))) refl (rw lacks.is (lack_told _ terms.grows lacks.none_due lacks.grows)) tt tt tt tt tt
 ]
-call_keeps terms o (Slotted (Pooled (Entered p (Ok done)))) a = for_all (Keeps terms o (Enter p) IsOk) refl (none_due _ (none_by _ a)) tt tt tt tt tt
+call_keeps terms o (Slotted (Pooled (Entered p (Ok done)))) a = for_all (Keeps terms o (Enter p) Accepted) refl (none_due _ (none_by _ a)) tt tt tt tt tt
 call_keeps terms o (Slotted (Pooled (Entered p (Err why)))) a = for_all (Keeps terms o (Enter p) (Refused (refusal_number why))) refl (due_told _ (terms.grows && false) why (some_by _ why a)) tt tt tt tt tt
 call_keeps terms o (Slotted (Pooled (Probed p (Ok probe.Missed)))) a = for_all (Keeps terms o (Probe p) Missed) refl (none_due _ a.0) tt tt tt tt a.1
 call_keeps terms o (Slotted (Pooled (Probed p (Ok (probe.Got n))))) a = for_all (Keeps terms o (Probe p) (Got n)) refl (none_due _ a.0) tt tt tt tt a.1
 call_keeps terms o (Slotted (Pooled (Probed p (Err why)))) a = for_all (Keeps terms o (Probe p) (Refused (refusal_number why))) refl (due_told _ (terms.grows && false) why a) tt tt tt tt tt
 call_keeps terms o (Slotted (Pooled (HasLeft p (Ok n)))) a = for_all (Keeps terms o (Leave p) (Left n)) refl (none_due _ (sym (ap why_of a))) tt tt tt tt (sym a)
 call_keeps terms o (Slotted (Pooled (HasLeft p (Err why)))) a = for_all (Keeps terms o (Leave p) (Refused (refusal_number why))) refl (due_told _ (terms.grows && false) why (sym (ap why_of a))) tt tt tt tt tt
-call_keeps terms o (Slotted (Stored p value (Ok done))) a = for_all (Keeps terms o (Put p value) IsOk) refl (none_due _ (stored_ok _ a)) tt tt tt tt tt
+call_keeps terms o (Slotted (Stored p value (Ok done))) a = for_all (Keeps terms o (Put p value) Accepted) refl (none_due _ (stored_ok _ a)) tt tt tt tt tt
 call_keeps terms o (Slotted (Stored p value (Err why))) a = for_all (Keeps terms o (Put p value) (Refused (refusal_number why))) refl (due_told _ (terms.grows && false) why (stored_err _ why a)) tt tt tt tt tt
 call_keeps terms o (Slotted (Fetched p (Ok v))) a = for_all (Keeps terms o (Get p) (Value v)) refl (none_due _ (fetched_ok o.slots.values _ v a)) tt tt tt tt a
 call_keeps terms o (Slotted (Fetched p (Err why))) a = for_all (Keeps terms o (Get p) (Refused (refusal_number why))) refl (due_told _ (terms.grows && false) why (fetched_why o.slots.values _ why a)) tt tt tt tt tt

@@ -16,7 +16,7 @@ use Rattle.run_checker.specs.Fault.{told_by}
 use Rattle.run_checker.specs.declared.line.Line.{Line}
 use Rattle.run_checker.specs.declared.reason.Reason.{Reason}
 use Rattle.run_checker.specs.declared.told.Told.{Told}
-use Rattle.run_checker.specs.declared.told.Told.TheVariants.{Ok as IsOk, Place, Proposed, Named, Spent, Missed, Got, Left}
+use Rattle.run_checker.specs.declared.told.Told.TheVariants.{Ok as Accepted, Place, Proposed, Named, Spent, Missed, Got, Left}
 use Rattle.run_checker.specs.ObjectRun.{DeskObject, fresh_desk_object, AllowsCall, after_call}
 use Rattle.run_checker.specs.Reasons.{KeepsAll, IsLeastReason}
 use Rattle.run_checker.specs.Lines.{line_of, AreLinesOfRun, CanFollow, after_told, after_line, Follow}
@@ -25,21 +25,21 @@ use Rattle.run_checker.proofs.Following.{can_follow, follows_keeps, same_after}
 
 -- a line makes at most one moment
 last_after : (o : DeskObject) (e : Event) (t : Told) → (after_told o e t).names.last ≤ o.names.last + 1
-last_after o (Begin p) IsOk = omega arith
+last_after o (Begin p) Accepted = omega arith
 last_after o (Begin p) t = omega arith
 last_after o (Step p) (Place x) = omega arith
 last_after o (Step p) (Proposed n) = omega arith
 last_after o (Step p) (Named n) = omega arith
 last_after o (Step p) Spent = omega arith
 last_after o (Step p) t = omega arith
-last_after o (Enter p) IsOk = omega arith
+last_after o (Enter p) Accepted = omega arith
 last_after o (Enter p) t = omega arith
 last_after o (Probe p) Missed = omega arith
 last_after o (Probe p) (Got n) = omega arith
 last_after o (Probe p) t = omega arith
 last_after o (Leave p) (Left n) = omega arith
 last_after o (Leave p) t = omega arith
-last_after o (Put p v) IsOk = omega arith
+last_after o (Put p v) Accepted = omega arith
 last_after o (Put p v) t = omega arith
 last_after o (Get p) t = omega arith
 

@@ -18,7 +18,7 @@ use Rattle.desk.specs.DeskCalls.DeskCall.{Renamed, Slotted}
 use Rattle.run_checker.specs.declared.line.Line.{Line}
 use Rattle.run_checker.specs.declared.told.Told.{Told}
 use Rattle.run_checker.specs.declared.told.Told.TheVariants as told
-use Rattle.run_checker.specs.declared.told.Told.TheVariants.{Ok as IsOk, Place, Proposed, Named, Spent, Missed, Got, Left}
+use Rattle.run_checker.specs.declared.told.Told.TheVariants.{Ok as Accepted, Place, Proposed, Named, Spent, Missed, Got, Left}
 use Rattle.run_checker.specs.ObjectRun.{DeskObject, fresh_desk_object, AllowsCall, after_call, IsObjectRun}
 
 -- how a reply is told: the view by which a name was given is left out
@@ -62,16 +62,16 @@ pub record CanFollow (terms : RenameTerms) (o : DeskObject) (l : Line) : Type 0 
 
 -- the objects after an event with what is told of its reply
 abbrev pub after_told : DeskObject → Event → Told → DeskObject
-after_told o (Begin p) IsOk = after_call o (Renamed (Began p (Ok tt)))
+after_told o (Begin p) Accepted = after_call o (Renamed (Began p (Ok tt)))
 after_told o (Step p) (Place place) = after_call o (Renamed (Stepped p (Ok (step.Placed place))))
 after_told o (Step p) (Proposed number) = after_call o (Renamed (Stepped p (Ok (step.Proposed number))))
 after_told o (Step p) (Named name) = after_call o (Renamed (Stepped p (Ok (step.Named name []))))
 after_told o (Step p) Spent = after_call o (Renamed (Stepped p (Ok step.Spent)))
-after_told o (Enter p) IsOk = after_call o (Slotted (Pooled (Entered p (Ok tt))))
+after_told o (Enter p) Accepted = after_call o (Slotted (Pooled (Entered p (Ok tt))))
 after_told o (Probe p) Missed = after_call o (Slotted (Pooled (Probed p (Ok probe.Missed))))
 after_told o (Probe p) (Got number) = after_call o (Slotted (Pooled (Probed p (Ok (probe.Got number)))))
 after_told o (Leave p) (Left number) = after_call o (Slotted (Pooled (HasLeft p (Ok number))))
-after_told o (Put p value) IsOk = after_call o (Slotted (Stored p value (Ok tt)))
+after_told o (Put p value) Accepted = after_call o (Slotted (Stored p value (Ok tt)))
 after_told o e t = o
 
 abbrev pub after_line : DeskObject → Line → DeskObject
