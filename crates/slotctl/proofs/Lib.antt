@@ -1,2 +1,3 @@
 mod ConfigLemmas
 mod AskLemmas
+mod ReadLemmas

@@ -12,7 +12,7 @@ use Rattle.rename_core.specs.declared.config.WorldKind.{WorldKind}
 use Rattle.rename_core.specs.declared.config.WorldKind.TheVariants.{Splitter, Grid, Rename, Tree}
 use Rattle.slotctl.specs.CommandLine.{slotctl_app}
 use Rattle.slotctl.specs.declared.asked.Ask.{Ask}
-use Rattle.slotctl.specs.declared.asked.Ask.TheVariants.{Play, Draw}
+use Rattle.slotctl.specs.declared.asked.Ask.TheVariants.{Play, Check, Draw}
 use Rattle.slotctl.specs.declared.asked.Drawing.{Drawing}
 use Rattle.slotctl.specs.declared.misuse.Misuse.{Misuse}
 use Rattle.slotctl.specs.declared.misuse.Misuse.TheVariants.{Help, Words, Memory}
@@ -61,6 +61,7 @@ pub record IsDrawingOf (rows : List Row) (d : Drawing) : Type 0 where
 -- the subcommand that clap met, with what it matched there, asks for this
 abbrev pub IsAsked : Option (List ℕ × List Row) → Ask → Type 0
 IsAsked met (Play config) = (rows : List Row) × (met ≡ Some (codes "play", rows)) × IsConfigOf rows config
+IsAsked met Check = (rows : List Row) × (met ≡ Some (codes "check", rows))
 IsAsked met (Draw drawing) = (rows : List Row) × (met ≡ Some (codes "draw", rows)) × IsDrawingOf rows drawing
 
 -- the words ask for this: its options are those that clap matched in the words, or the defaults

@@ -67,8 +67,12 @@ draw_needs_app = with_rule (with_rule (with_rule (new_app (codes "draw")) seed_o
 abbrev pub draw_app : App
 draw_app = with_rule (with_rule (with_rule (with_rule draw_needs_app runs_option) world_option) m_option) limit_option
 
+-- `check` has no options
+abbrev pub check_app : App
+check_app = new_app (codes "check")
+
 -- the program with its subcommands, one of which has to be given
 abbrev pub slotctl_app : App
 slotctl_app =
     let program = new_app (codes "slotctl") in
-    with_subcommand (with_subcommand (record program { top = record program.top { subcommand_required = true } }) play_app.top) draw_app.top
+    with_subcommand (with_subcommand (with_subcommand (record program { top = record program.top { subcommand_required = true } }) play_app.top) check_app.top) draw_app.top

@@ -11,11 +11,12 @@ use Rattle.schedule_player.specs.declared.fault.Fault.TheVariants.{Write, Memory
 use Rattle.schedule_player.specs.declared.summary.Summary.{Summary}
 use Rattle.schedule_player.specs.Written.{HasPartOf}
 use Rattle.slotctl.specs.declared.asked.Ask.{Ask}
-use Rattle.slotctl.specs.declared.asked.Ask.TheVariants.{Play, Draw}
+use Rattle.slotctl.specs.declared.asked.Ask.TheVariants.{Play, Check, Draw}
 use Rattle.slotctl.specs.declared.asked.Drawing.{Drawing}
 use Rattle.slotctl.specs.declared.failure.Failure.{Failure}
 use Rattle.slotctl.specs.declared.failure.Failure.TheVariants as failure
 use Rattle.slotctl.specs.declared.misuse.Misuse.{Misuse}
+use Rattle.slotctl.specs.Checked.{IsChecked}
 use Rattle.slotctl.specs.Statuses.{status_after}
 
 -- a status is answered, and a fault is a failure
@@ -40,11 +41,12 @@ pub record IsDrawnBy {W : Type 0} (d : Drawing) (writing : Writing W) (w w' : W)
   pub memory : result ≡ Err Memory → IsPartDrawn d.runs d (writing.contents w) (writing.contents w')
   pub only : IfErr result (λ fault. (fault ≡ Write) ⊎ (fault ≡ Memory))
 
--- what was asked for is done, and answers this status: a config is played, with the theorem of a run; or nothing is read,
--- and a drawing is written
+-- what was asked for is done, and answers this status: a config is played, with the theorem of a run; or a record is checked; or
+-- nothing is read, and a drawing is written
 abbrev pub IsWorked : {R W : Type 0} → Ask → Reading R → Writing W → R → R → W → W → Result ℕ Fault → Type 0
 IsWorked (Play config) reading writing r r' w w' status =
     (played : Result Summary Fault) × (status ≡ status_after played) × IsPlayed (IsTalk config) (IsTalk config) config.world reading writing r r' w w' played
+IsWorked Check reading writing r r' w w' status = IsChecked reading writing r r' w w' status
 IsWorked (Draw drawing) reading writing r r' w w' status = (r' ≡ r) × IsDrawnBy drawing writing w w' status
 
 -- where the words ask for nothing that is done, nothing is read or written; what they ask for is done

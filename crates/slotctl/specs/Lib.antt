@@ -2,4 +2,5 @@ pub mod Ranges
 pub mod CommandLine
 pub mod Asked
 pub mod Statuses
+pub mod Checked
 pub mod Done

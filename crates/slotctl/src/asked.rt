@@ -11,6 +11,8 @@ use schedule_player::Config;
 pub enum Ask {
     /// A run of `play`, of this world and these sizes.
     Play(Config),
+    /// The check of a record.
+    Check,
     /// Drawn schedules.
     Draw(Drawing),
 }

@@ -3,7 +3,7 @@
 ghost use Rattle.std.specs.Prelude.{◌≡◌, false, IfOk};
 ghost use Rattle.clap.specs.Words.{app_of, rule_of};
 ghost use Rattle.clap.specs.declared.builder.command.Command.TheViews.{out-Command};
-ghost use Rattle.slotctl.specs.CommandLine.{draw_app, draw_needs_app, limit_option, m_option, needed_option, number_option, play_app, slotctl_app, world_option};
+ghost use Rattle.slotctl.specs.CommandLine.{check_app, draw_app, draw_needs_app, limit_option, m_option, needed_option, number_option, play_app, slotctl_app, world_option};
 
 use clap::builder::ValueParser;
 use clap::{Arg, ArgAction, Command};
@@ -137,6 +137,16 @@ fn draw_command<'a>(alloc: Global) -> Result<Command<'a>, AllocError>
         .arg(limit_option(alloc))
 }
 
+// The subcommand `check`, which has no options.
+fn check_command<'a>(alloc: Global) -> Command<'a>
+    ensures app { app_of result ≡ check_app }
+    ensures local { (out-Command result).has_globals ≡ false }
+{
+    Command::new(alloc, "check").about(
+        "Checks the record of the standard input, and writes its verdict",
+    )
+}
+
 /// The program with its subcommands, one of which has to be given.
 pub fn slotctl_command<'a>(alloc: Global) -> Result<Command<'a>, AllocError>
     ensures { IfOk result (λ c. app_of c ≡ slotctl_app) }
@@ -147,5 +157,6 @@ pub fn slotctl_command<'a>(alloc: Global) -> Result<Command<'a>, AllocError>
         .about("Plays schedules of shared-memory algorithms, one access a step")
         .subcommand_required(true)
         .subcommand(play)?
+        .subcommand(check_command(alloc))?
         .subcommand(draw)
 }

@@ -7,6 +7,7 @@
 #![tactic(auto)]
 
 mod asked;
+mod checking;
 mod command_line;
 mod failure;
 mod misuse;

@@ -14,7 +14,7 @@ use std::test::Fail;
 fn chosen(alloc: Global, words: &[&str]) -> Result<Option<(WorldKind, u64, u64, u64)>, Misuse> {
     match ask(alloc, words)? {
         Ask::Play(config) => Ok(Some((config.world, config.m, config.k, config.limit))),
-        Ask::Draw(_) => Ok(None),
+        Ask::Check | Ask::Draw(_) => Ok(None),
     }
 }
 
@@ -24,7 +24,7 @@ fn drawing(
     words: &[&str],
 ) -> Result<Option<(u64, u64, u64, u64, WorldKind)>, Misuse> {
     match ask(alloc, words)? {
-        Ask::Play(_) => Ok(None),
+        Ask::Play(_) | Ask::Check => Ok(None),
         Ask::Draw(d) => Ok(Some((d.seed, d.ids, d.steps, d.runs, d.config.world))),
     }
 }

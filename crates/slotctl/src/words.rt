@@ -82,6 +82,7 @@ fn asked(matches: &ArgMatches<'_>) -> Option<Ask>
 {
     match matches.subcommand() {
         Some(("play", options)) => Some(Ask::Play(play_given(options)?)),
+        Some(("check", _)) => Some(Ask::Check),
         Some(("draw", options)) => Some(Ask::Draw(draw_given(options)?)),
         _ => None,
     }

@@ -5,9 +5,10 @@ ghost use Rattle.schedule_player.specs.Played.{reading, writing};
 ghost use Rattle.slotctl.specs.Done.{IsWorked, IsDrawnBy};
 
 use crate::asked::{Ask, Drawing};
+use crate::checking::check_for;
 use drawn_schedules::{draw, play_drawn};
 use schedule_player::{Fault, Sink, Source, play};
-use std::alloc::Allocator;
+use std::alloc::{Allocator, Global};
 
 // Writes what is drawn: a schedule, or the lines of runs.
 fn draw_for<W: Sink, A: Allocator + Clone>(
@@ -33,13 +34,14 @@ fn draw_for<W: Sink, A: Allocator + Clone>(
     Ok(0)
 }
 
-/// Does what was asked for, over this input and this output, and answers the status of the program, 0.
+/// Does what was asked for, over this input and this output, and answers the status of the program: 0, but 1 where `check` says
+/// other than yes.
 ///
-/// `play` writes the replies to the commands that it reads; `draw` reads nothing. Answers `Fault::Read` where the reader failed
+/// `play` writes the replies to the commands that it reads; `check` reads to the end and writes a verdict; `draw` reads nothing. Answers `Fault::Read` where the reader failed
 /// or the limit of reads was reached, `Fault::Write` where the writer failed or took no byte, and `Fault::Memory` where memory
-/// was refused: by `play` with nothing read and nothing written.
-pub fn work<R: Source, W: Sink, A: Allocator + Clone + Drop>(
-    alloc: A,
+/// was refused: by `play` with nothing read and nothing written, and by `check` with nothing written.
+pub fn work<R: Source, W: Sink>(
+    alloc: Global,
     ask: Ask,
     reader: &mut R,
     writer: &mut W,
@@ -53,6 +55,7 @@ pub fn work<R: Source, W: Sink, A: Allocator + Clone + Drop>(
             Ok(_) => Ok(0),
             Err(fault) => Err(fault),
         },
+        Ask::Check => check_for(alloc, reader, writer),
         Ask::Draw(drawing) => draw_for(alloc, drawing, writer),
     }
 }
