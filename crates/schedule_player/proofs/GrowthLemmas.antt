@@ -31,7 +31,7 @@ use Rattle.desk.specs.DeskValue.DeskValue.{OverGrid, OverTree}
 use Rattle.desk.specs.Rules.{may_by}
 use Rattle.desk.proofs.DeskLaws as desk
 use Rattle.schedule_player.specs.DeskWorld.{DeskWorldMay}
-use Rattle.schedule_player.specs.DeskWorldLaws.{desk_lawful, desk_tells}
+use Rattle.schedule_player.proofs.TalkLemmas.{desk_talk}
 use Rattle.schedule_player.specs.Granted.{is_of_memory, is_lack, granted}
 use Rattle.schedule_player.specs.IsRun.{IsTalkByKind}
 use Rattle.schedule_player.specs.Runs.{Runs, NoneRefusedGrowth}
@@ -151,21 +151,14 @@ none_refused c w u calls (Told n r ∷ ts) is after run = (
 none_refused c w u calls (Ended ∷ ts) is after run = none_refused c w u calls ts is after run
 none_refused c w u calls (Misread bad ∷ ts) is after run = none_refused c w u calls ts is after run
 
+-- whoever could run so runs so too where the turns that were refused memory are left out
 granted_talk : (c : Config) (k : WorldKind) → gives_names k ≡ true → (ts : List Turn) → IsTalkByKind k c ts → IsTalkByKind k c (granted ts)
 granted_talk c Splitter named ts t = absurd cc
 granted_talk c Grid named ts t = absurd cc
 granted_talk c Rename named ts t =
-    let run = runs_granted c t.could.start t.could.last [] ts (desk.fresh c t.could.start t.could.is_fresh) t.could.run in record {
-      run = desk_lawful c t.could.start t.could.last (granted ts) t.could.is_fresh run;
-      owners = desk_tells c t.could.start t.could.last (granted ts) t.could.is_fresh run;
-      could = record { start = t.could.start; last = t.could.last; is_fresh = t.could.is_fresh; run = run };
-    }
+    desk_talk c Rename named t.could.start t.could.last (granted ts) t.could.is_fresh (runs_granted c t.could.start t.could.last [] ts (desk.fresh c t.could.start t.could.is_fresh) t.could.run)
 granted_talk c Tree named ts t =
-    let run = runs_granted c t.could.start t.could.last [] ts (desk.fresh c t.could.start t.could.is_fresh) t.could.run in record {
-      run = desk_lawful c t.could.start t.could.last (granted ts) t.could.is_fresh run;
-      owners = desk_tells c t.could.start t.could.last (granted ts) t.could.is_fresh run;
-      could = record { start = t.could.start; last = t.could.last; is_fresh = t.could.is_fresh; run = run };
-    }
+    desk_talk c Tree named t.could.start t.could.last (granted ts) t.could.is_fresh (runs_granted c t.could.start t.could.last [] ts (desk.fresh c t.could.start t.could.is_fresh) t.could.run)
 
 pub left_out : (c : Config) → gives_names c.world ≡ true → (ts : List Turn) → IsTalkByKind c.world c ts → IsTalkByKind c.world c (granted ts)
 left_out c named ts t = granted_talk c c.world named ts t

@@ -8,6 +8,8 @@ pub mod Events
 pub mod Asked
 pub mod Requests
 pub mod Turns
+pub mod Texts
+pub mod Records
 pub mod Tries
 pub mod Written
 pub mod UnderWay
@@ -33,6 +35,7 @@ pub mod Kinds
 pub mod WorldLaws
 pub mod Stands
 pub mod Played
+pub mod Recorded
 pub mod IsRun
 pub mod Toys
 pub mod ToyLaws

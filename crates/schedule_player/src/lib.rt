@@ -21,11 +21,14 @@
 //! ```
 #![tactic(auto)]
 
+pub mod as_record;
+pub mod as_replies;
 pub mod bad;
 pub mod command;
 mod desk_world;
 pub mod events;
 pub mod fault;
+pub mod form;
 mod grid_world;
 pub mod line_buffer;
 mod outcomes;
@@ -34,6 +37,9 @@ pub mod player;
 pub mod playing;
 pub mod print;
 mod quick;
+#[cfg(test)]
+mod record_tests;
+pub mod recording;
 pub mod replies;
 pub mod service;
 pub mod sink;
@@ -49,11 +55,14 @@ pub mod world;
 #[cfg(test)]
 mod worlds_tests;
 
+pub use as_record::{AsRecord, HEADER_ROOM, print_header};
+pub use as_replies::AsReplies;
 pub use bad::Bad;
 pub use command::Command;
 pub use desk::{Event, Exchange, Reply};
 pub use events::{EVENT_ROOM, print_event};
 pub use fault::Fault;
+pub use form::{Form, TURN_ROOM};
 pub use line_buffer::LineBuffer;
 pub use parse::parse_line;
 pub use playing::{
@@ -61,6 +70,7 @@ pub use playing::{
     play_on,
 };
 pub use print::{REPLY_ROOM, print_bad, print_reply, print_words, put_number, put_word};
+pub use recording::record;
 pub use rename_core::{Config, WorldKind};
 pub use replies::{HELD_REPLIES, Replies};
 pub use service::Service;

@@ -5,26 +5,31 @@ ghost use Rattle.schedule_player.specs.HeldLine.{held};
 ghost use Rattle.schedule_player.specs.Knows.{Knows, KnowsMeant};
 ghost use Rattle.schedule_player.specs.Progress.{after_meaning, after_line, after_bytes, after_end};
 ghost use Rattle.schedule_player.specs.Stands.{Advances, AdvancesOn, AdvancesAfresh, AdvancesWriting, AdvancesInPart, IsHeld, IsFresh, IsSent};
+ghost use Rattle.schedule_player.specs.Records.{header_line};
+ghost use Rattle.schedule_player.specs.Turns.Turn.{Answered, Told, Ended, Misread};
 ghost use Rattle.schedule_player.specs.Written.{HasPartOf};
+ghost use Rattle.std.specs.Io.KnownBytes.{Appends};
 ghost use Rattle.schedule_player.specs.declared.replies.TheConstants.{HELD_REPLIES};
-ghost use Rattle.schedule_player.specs.declared.print.TheConstants.{REPLY_ROOM};
+ghost use Rattle.schedule_player.specs.declared.form.TheConstants.{TURN_ROOM};
+ghost use Rattle.schedule_player.specs.declared.as_record.TheConstants.{HEADER_ROOM};
 
+use crate::as_record::{HEADER_ROOM, print_header};
 use crate::bad::Bad;
 use crate::command::Command;
 use crate::fault::Fault;
+use crate::form::{Form, TURN_ROOM};
 use crate::line_buffer::LineBuffer;
 use crate::parse::parse_line;
-use crate::print::{REPLY_ROOM, print_bad, print_reply};
 use crate::quick::quick_command;
 use crate::replies::{HELD_REPLIES, Replies};
 use crate::service::Service;
 use crate::sink::{Sink, put_all};
 use crate::summary::Summary;
-use desk::Reply;
+use desk::{Event, Reply};
 use memchr::memchr;
-use rename_core::WorldKind;
+use rename_core::{Config, WorldKind};
 use std::alloc::Allocator;
-use std::marker::Model;
+use std::marker::{Model, PhantomData};
 use step_memory::NoMemory;
 
 /// What ends a line.
@@ -33,15 +38,16 @@ const LF: u8 = 10;
 /// A run under way: what answers events, the line so far, the replies that are not written yet, the counts, and
 /// whether `quit` was answered.
 #[derive(Drop)]
-pub struct Player<A: Allocator> {
+pub struct Player<A: Allocator, F: Form> {
     kind: WorldKind,
     line: LineBuffer<A>,
     replies: Replies<A>,
     summary: Summary,
     over: bool,
+    form: PhantomData<F>,
 }
 
-impl<A: Allocator> Model for Player<A> {
+impl<A: Allocator, F: Form> Model for Player<A, F> {
     ghost use Rattle.schedule_player.specs.PlayerState.{PlayerState};
 
     ghost Value = { PlayerState };
@@ -49,9 +55,9 @@ impl<A: Allocator> Model for Player<A> {
     ghost view = { λ p. record { kind = p.kind; line = p.line; replies = p.replies; summary = p.summary; over = p.over } };
 }
 
-impl<A: Allocator + Clone> Player<A> {
+impl<A: Allocator + Clone, F: Form> Player<A, F> {
     /// A run that has read nothing. All the memory that it wants is taken here.
-    pub fn new(alloc: A, kind: WorldKind) -> Result<Player<A>, NoMemory>
+    pub fn new(alloc: A, kind: WorldKind) -> Result<Player<A, F>, NoMemory>
         ensures { IfOk result (λ player. IsFresh kind player) }
     {
         let Ok(other) = alloc.clone() else {
@@ -65,11 +71,12 @@ impl<A: Allocator + Clone> Player<A> {
             replies,
             summary: Summary::new(),
             over: false,
+            form: PhantomData,
         })
     }
 }
 
-impl<A: Allocator> Player<A> {
+impl<A: Allocator, F: Form> Player<A, F> {
     /// The counts so far.
     pub fn summary(&self) -> Summary
         ensures { result ≡ self.now.summary }
@@ -84,59 +91,82 @@ impl<A: Allocator> Player<A> {
         self.over
     }
 
-    /// Counts a reply and holds its text.
+    /// Counts the reply to an event and holds the text of both.
     #[inline(always)]
-    fn hold(&mut self, reply: &Reply)
-        requires room { length self.old.replies + REPLY_ROOM ≤ HELD_REPLIES }
+    fn hold_answered(&mut self, event: Event, reply: &Reply)
+        requires room { length self.old.replies + TURN_ROOM ≤ HELD_REPLIES }
         requires count { self.old.summary.lines + 1 < 2 ^ 64 }
-        ensures held { IsHeld self.old (Ok reply.now) self.new }
-        ensures longer { length self.new.replies ≤ length self.old.replies + REPLY_ROOM }
+        ensures held { IsHeld F.text self.old (Answered (record { event = event; reply = reply.now })) self.new }
+        ensures longer { length self.new.replies ≤ length self.old.replies + TURN_ROOM }
     {
-        print_reply(reply, &mut self.replies);
+        F::put_answered(event, reply, &mut self.replies);
         self.summary.count_reply(reply);
     }
 
-    /// Counts a bad line and holds the text of its answer.
-    fn hold_bad(&mut self, bad: Bad)
-        requires room { length self.old.replies + REPLY_ROOM ≤ HELD_REPLIES }
+    /// Counts that it was told who has a name, and holds the text of it.
+    #[inline(always)]
+    fn hold_told(&mut self, n: u64, reply: &Reply)
+        requires room { length self.old.replies + TURN_ROOM ≤ HELD_REPLIES }
         requires count { self.old.summary.lines + 1 < 2 ^ 64 }
-        ensures held { IsHeld self.old (Err bad) self.new }
-        ensures longer { length self.new.replies ≤ length self.old.replies + REPLY_ROOM }
+        ensures held { IsHeld F.text self.old (Told n reply.now) self.new }
+        ensures longer { length self.new.replies ≤ length self.old.replies + TURN_ROOM }
     {
-        print_bad(bad, &mut self.replies);
+        F::put_told(n, reply, &mut self.replies);
+        self.summary.count_reply(reply);
+    }
+
+    /// Counts `quit` and holds the text of it.
+    fn hold_ended(&mut self)
+        requires room { length self.old.replies + TURN_ROOM ≤ HELD_REPLIES }
+        requires count { self.old.summary.lines + 1 < 2 ^ 64 }
+        ensures held { IsHeld F.text self.old Ended self.new }
+        ensures longer { length self.new.replies ≤ length self.old.replies + TURN_ROOM }
+    {
+        F::put_ended(&mut self.replies);
+        self.summary.count_reply(&Reply::Ok);
+    }
+
+    /// Counts a bad line and holds the text of it.
+    fn hold_misread(&mut self, bad: Bad)
+        requires room { length self.old.replies + TURN_ROOM ≤ HELD_REPLIES }
+        requires count { self.old.summary.lines + 1 < 2 ^ 64 }
+        ensures held { IsHeld F.text self.old (Misread bad) self.new }
+        ensures longer { length self.new.replies ≤ length self.old.replies + TURN_ROOM }
+    {
+        F::put_misread(bad, &mut self.replies);
         self.summary.count_bad(bad);
     }
 
-    /// Answers what a line means, counts the answer and holds its text. `quit` ends the run.
+    /// Answers what a line means, counts the answer and holds the text of both. `quit` ends the run.
     #[inline(always)]
     fn answer<R, D: Service<R>>(&mut self, rt: &R, world: &mut D, meaning: Result<Command, Bad>)
         requires knows { KnowsMeant D.knows meaning }
-        requires room { length self.old.replies + REPLY_ROOM ≤ HELD_REPLIES }
+        requires room { length self.old.replies + TURN_ROOM ≤ HELD_REPLIES }
         requires count { self.old.summary.lines + 1 < 2 ^ 64 }
-        ensures stands { AdvancesAfresh D.may world.old self.old world.new self.new (λ p. after_meaning p meaning) }
+        ensures stands { AdvancesAfresh D.may F.text world.old self.old world.new self.new (λ p. after_meaning p meaning) }
         ensures kept { self.new.kind ≡ self.old.kind }
-        ensures longer { length self.new.replies ≤ length self.old.replies + REPLY_ROOM }
+        ensures longer { length self.new.replies ≤ length self.old.replies + TURN_ROOM }
         ensures counted { self.new.summary.lines ≡ self.old.summary.lines + 1 }
     {
         match meaning {
-            Ok(Command::Event(event)) => self.hold(&world.apply(rt, event)),
-            Ok(Command::Owner(n)) => self.hold(&world.owner(rt, n)),
+            Ok(Command::Event(event)) => self.hold_answered(event, &world.apply(rt, event)),
+            Ok(Command::Owner(n)) => self.hold_told(n, &world.owner(rt, n)),
             Ok(Command::Quit) => {
                 self.over = true;
-                self.hold(&Reply::Ok);
+                self.hold_ended();
             }
-            Err(bad) => self.hold_bad(bad),
+            Err(bad) => self.hold_misread(bad),
         }
     }
 
     /// Answers the line so far, which is whole, and begins the next.
     fn answer_line<R, D: Service<R>>(&mut self, rt: &R, world: &mut D)
         requires knows { Knows D.knows self.old.kind }
-        requires room { length self.old.replies + REPLY_ROOM ≤ HELD_REPLIES }
+        requires room { length self.old.replies + TURN_ROOM ≤ HELD_REPLIES }
         requires count { self.old.summary.lines + 1 < 2 ^ 64 }
-        ensures stands { AdvancesOn D.may world.old self.old world.new self.new (after_line self.old.kind) }
+        ensures stands { AdvancesOn D.may F.text world.old self.old world.new self.new (after_line self.old.kind) }
         ensures kept { self.new.kind ≡ self.old.kind }
-        ensures longer { length self.new.replies ≤ length self.old.replies + REPLY_ROOM }
+        ensures longer { length self.new.replies ≤ length self.old.replies + TURN_ROOM }
         ensures counted { self.new.summary.lines ≡ self.old.summary.lines + 1 }
     {
         let meaning = self.line.meaning(self.kind);
@@ -149,13 +179,13 @@ impl<A: Allocator> Player<A> {
     #[inline(never)]
     fn take<R, D: Service<R>>(&mut self, rt: &R, world: &mut D, bytes: &[u8]) -> usize
         requires knows { Knows D.knows self.old.kind }
-        requires room { length self.old.replies + REPLY_ROOM ≤ HELD_REPLIES }
+        requires room { length self.old.replies + TURN_ROOM ≤ HELD_REPLIES }
         requires count { self.old.summary.lines + 1 < 2 ^ 64 }
         requires some { 0 < length bytes.now }
         ensures taken { (0 < result) × (result ≤ length bytes.now) }
-        ensures stands { Advances D.may world.old self.old world.new self.new (λ p. after_bytes self.old.kind p (take result bytes.now)) }
+        ensures stands { Advances D.may F.text world.old self.old world.new self.new (λ p. after_bytes self.old.kind p (take result bytes.now)) }
         ensures kept { self.new.kind ≡ self.old.kind }
-        ensures longer { length self.new.replies ≤ length self.old.replies + REPLY_ROOM }
+        ensures longer { length self.new.replies ≤ length self.old.replies + TURN_ROOM }
         ensures counted { self.new.summary.lines ≤ self.old.summary.lines + 1 }
     {
         if self.over {
@@ -174,13 +204,13 @@ impl<A: Allocator> Player<A> {
     #[inline(never)]
     fn take_slowly<R, D: Service<R>>(&mut self, rt: &R, world: &mut D, bytes: &[u8]) -> usize
         requires knows { Knows D.knows self.old.kind }
-        requires room { length self.old.replies + REPLY_ROOM ≤ HELD_REPLIES }
+        requires room { length self.old.replies + TURN_ROOM ≤ HELD_REPLIES }
         requires count { self.old.summary.lines + 1 < 2 ^ 64 }
         requires some { 0 < length bytes.now }
         ensures taken { (0 < result) × (result ≤ length bytes.now) }
-        ensures stands { AdvancesOn D.may world.old self.old world.new self.new (λ p. after_bytes self.old.kind p (take result bytes.now)) }
+        ensures stands { AdvancesOn D.may F.text world.old self.old world.new self.new (λ p. after_bytes self.old.kind p (take result bytes.now)) }
         ensures kept { self.new.kind ≡ self.old.kind }
-        ensures longer { length self.new.replies ≤ length self.old.replies + REPLY_ROOM }
+        ensures longer { length self.new.replies ≤ length self.old.replies + TURN_ROOM }
         ensures counted { self.new.summary.lines ≤ self.old.summary.lines + 1 }
     {
         let Some(end) = memchr(LF, bytes) else {
@@ -214,11 +244,27 @@ impl<A: Allocator> Player<A> {
         Ok(())
     }
 
-    /// Makes room for one more reply: where there is too little, the replies that are held are written.
+    /// Writes the first line of a record, before which nothing is held.
+    pub fn write_header<W: Sink>(&mut self, config: Config, writer: &mut W) -> Result<(), Fault>
+        requires none { self.old.replies ≡ [] }
+        requires calls { W.calls writer.old + HEADER_ROOM ≤ 2 ^ 100 }
+        ensures ok { OnOk result (Appends (W.contents writer.old) (W.contents writer.new) (header_line config)) }
+        ensures same { OnOk result (self.new ≡ self.old) }
+        ensures only { IfErr result (λ fault. fault ≡ Fault.Write) }
+        ensures failed { OnErr result (W.failed writer.old < W.failed writer.new) }
+        ensures unfailed { OnOk result (W.failed writer.new ≡ W.failed writer.old) }
+        ensures part { OnErr result (HasPartOf (W.contents writer.old) (W.contents writer.new) (header_line config)) }
+        ensures calls { W.calls writer.new ≤ W.calls writer.old + HEADER_ROOM }
+    {
+        print_header(config, &mut self.replies);
+        self.replies.send(writer)
+    }
+
+    /// Makes room for one more turn: where there is too little, the replies that are held are written.
     fn make_room<W: Sink>(&mut self, writer: &mut W) -> Result<(), Fault>
         requires calls { W.calls writer.old + length self.old.replies ≤ 2 ^ 100 }
         ensures ok { OnOk result (IsSent self.old (W.contents writer.old) self.new (W.contents writer.new)) }
-        ensures room { OnOk result (length self.new.replies + REPLY_ROOM ≤ HELD_REPLIES) }
+        ensures room { OnOk result (length self.new.replies + TURN_ROOM ≤ HELD_REPLIES) }
         ensures only { IfErr result (λ fault. fault ≡ Fault.Write) }
         ensures failed { OnErr result (W.failed writer.old < W.failed writer.new) }
         ensures unfailed { OnOk result (W.failed writer.new ≡ W.failed writer.old) }
@@ -227,7 +273,7 @@ impl<A: Allocator> Player<A> {
         ensures calls { W.calls writer.new ≤ W.calls writer.old + length self.old.replies }
         ensures calls_left { OnOk result (W.calls writer.new + length self.new.replies ≤ W.calls writer.old + length self.old.replies) }
     {
-        if self.replies.len() <= HELD_REPLIES - REPLY_ROOM {
+        if self.replies.len() <= HELD_REPLIES - TURN_ROOM {
             return Ok(());
         }
         self.send(writer)
@@ -243,18 +289,18 @@ impl<A: Allocator> Player<A> {
     ) -> Result<(), Fault>
         requires knows { Knows D.knows self.old.kind }
         requires count { self.old.summary.lines + length chunk.now < 2 ^ 64 }
-        requires calls { W.calls writer.old + length self.old.replies + REPLY_ROOM * length chunk.now ≤ 2 ^ 100 }
-        ensures ok { OnOk result (AdvancesWriting D.may world.old self.old (W.contents writer.old) world.new self.new (W.contents writer.new)
+        requires calls { W.calls writer.old + length self.old.replies + TURN_ROOM * length chunk.now ≤ 2 ^ 100 }
+        ensures ok { OnOk result (AdvancesWriting D.may F.text world.old self.old (W.contents writer.old) world.new self.new (W.contents writer.new)
             (λ p. after_bytes self.old.kind p chunk.now)) }
         ensures empty { OnOk result (self.new.replies ≡ []) }
         ensures only { IfErr result (λ fault. fault ≡ Fault.Write) }
         ensures failed { OnErr result (W.failed writer.old < W.failed writer.new) }
         ensures unfailed { OnOk result (W.failed writer.new ≡ W.failed writer.old) }
-        ensures part { OnErr result (AdvancesInPart D.may world.old self.old (W.contents writer.old) world.new (W.contents writer.new)
+        ensures part { OnErr result (AdvancesInPart D.may F.text world.old self.old (W.contents writer.old) world.new (W.contents writer.new)
             (λ p. after_bytes self.old.kind p chunk.now)) }
         ensures kept { self.new.kind ≡ self.old.kind }
         ensures counted { self.new.summary.lines ≤ self.old.summary.lines + length chunk.now }
-        ensures calls { W.calls writer.new ≤ W.calls writer.old + length self.old.replies + REPLY_ROOM * length chunk.now }
+        ensures calls { W.calls writer.new ≤ W.calls writer.old + length self.old.replies + TURN_ROOM * length chunk.now }
     {
         let mut at = 0;
         while at < chunk.len() {
@@ -272,16 +318,16 @@ impl<A: Allocator> Player<A> {
         writer: &mut W,
     ) -> Result<(), Fault>
         requires knows { Knows D.knows self.old.kind }
-        requires room { length self.old.replies + REPLY_ROOM ≤ HELD_REPLIES }
+        requires room { length self.old.replies + TURN_ROOM ≤ HELD_REPLIES }
         requires count { self.old.summary.lines + 1 < 2 ^ 64 }
-        requires calls { W.calls writer.old + length self.old.replies + REPLY_ROOM ≤ 2 ^ 100 }
-        ensures ok { OnOk result (AdvancesWriting D.may world.old self.old (W.contents writer.old) world.new self.new (W.contents writer.new)
+        requires calls { W.calls writer.old + length self.old.replies + TURN_ROOM ≤ 2 ^ 100 }
+        ensures ok { OnOk result (AdvancesWriting D.may F.text world.old self.old (W.contents writer.old) world.new self.new (W.contents writer.new)
             (after_end self.old.kind)) }
         ensures empty { OnOk result (self.new.replies ≡ []) }
         ensures only { IfErr result (λ fault. fault ≡ Fault.Write) }
         ensures failed { OnErr result (W.failed writer.old < W.failed writer.new) }
         ensures unfailed { OnOk result (W.failed writer.new ≡ W.failed writer.old) }
-        ensures part { OnErr result (AdvancesInPart D.may world.old self.old (W.contents writer.old) world.new (W.contents writer.new)
+        ensures part { OnErr result (AdvancesInPart D.may F.text world.old self.old (W.contents writer.old) world.new (W.contents writer.new)
             (after_end self.old.kind)) }
     {
         self.end_line(rt, world);
@@ -291,10 +337,10 @@ impl<A: Allocator> Player<A> {
     /// Answers what stands before the end of the input with no LF, if it is not empty.
     fn end_line<R, D: Service<R>>(&mut self, rt: &R, world: &mut D)
         requires knows { Knows D.knows self.old.kind }
-        requires room { length self.old.replies + REPLY_ROOM ≤ HELD_REPLIES }
+        requires room { length self.old.replies + TURN_ROOM ≤ HELD_REPLIES }
         requires count { self.old.summary.lines + 1 < 2 ^ 64 }
-        ensures stands { Advances D.may world.old self.old world.new self.new (after_end self.old.kind) }
-        ensures longer { length self.new.replies ≤ length self.old.replies + REPLY_ROOM }
+        ensures stands { Advances D.may F.text world.old self.old world.new self.new (after_end self.old.kind) }
+        ensures longer { length self.new.replies ≤ length self.old.replies + TURN_ROOM }
     {
         if !self.over && !self.line.is_empty() {
             self.answer_line(rt, world);

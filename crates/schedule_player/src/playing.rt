@@ -1,6 +1,6 @@
 //! Runs of a world, from a reader to a writer.
 
-ghost use Rattle.std.specs.Prelude.{◌≡◌, ◌≢◌, true, Err, ℕ, ◌+◌, ◌^◌, ◌<◌, List, [], length, Option, IfOk, IfErr};
+ghost use Rattle.std.specs.Prelude.{◌≡◌, ◌≢◌, true, Err, ℕ, ◌+◌, ◌^◌, ◌<◌, List, [], length, flat_map, Option, IfOk, IfErr};
 ghost use Rattle.desk.specs.Desk.{gives_names};
 ghost use Rattle.schedule_player.specs.Granted.{granted};
 ghost use Rattle.schedule_player.specs.IsRun.{IsTalk};
@@ -12,10 +12,13 @@ ghost use Rattle.schedule_player.specs.Progress.{at_start};
 ghost use Rattle.schedule_player.specs.Runs.{IsRunTo, CanRun, CouldRun, NoneRefusedGrowth};
 ghost use Rattle.schedule_player.specs.Stands.{IsFresh};
 ghost use Rattle.schedule_player.specs.Talks.{IsTalkOf};
+ghost use Rattle.schedule_player.specs.Texts.{replies_of};
 ghost use Rattle.schedule_player.specs.Turns.{Turn};
 ghost use Rattle.rename_core.specs.declared.config.Config.{Config};
 
+use crate::as_replies::AsReplies;
 use crate::fault::Fault;
+use crate::form::Form;
 use crate::player::Player;
 use crate::service::Service;
 use crate::sink::Sink;
@@ -51,7 +54,7 @@ pub fn play<A: Allocator + Clone, R: Source, W: Sink>(
 ) -> Result<Summary, Fault>
     requires reads { R.calls reader.old < 2 ^ 64 }
     requires writes { W.calls writer.old < 2 ^ 64 }
-    ensures { IsPlayed (IsTalk config) (IsTalk config) config.world
+    ensures { IsPlayed replies_of (IsTalk config) (IsTalk config) config.world
         (reading R.remaining R.calls R.failed) (writing W.contents W.failed) reader.old reader.new writer.old writer.new result }
 {
     match config.world {
@@ -71,7 +74,10 @@ pub fn play<A: Allocator + Clone, R: Source, W: Sink>(
 }
 
 /// A fresh world of a config; `Fault::Memory` where memory was refused.
-fn opened<D: World<A, H>, H, A: Allocator + Clone>(alloc: &A, config: Config) -> Result<D, Fault>
+pub(crate) fn opened<D: World<A, H>, H, A: Allocator + Clone>(
+    alloc: &A,
+    config: Config,
+) -> Result<D, Fault>
     requires { D.serves config.world ≡ true }
     ensures fresh { IfOk result (λ w. D.fresh config w) }
     ensures only { IfErr result (λ fault. fault ≡ Fault.Memory) }
@@ -98,7 +104,7 @@ pub fn play_in<D: World<A, H>, H, A: Allocator + Clone, R: Source, W: Sink>(
     requires fresh { D.fresh config world.old }
     requires reads { R.calls reader.old < 2 ^ 64 }
     requires writes { W.calls writer.old < 2 ^ 64 }
-    ensures { IsPlayed (IsTalkOf (D.IsRunIn config) config.m (D.fresh config) D.may)
+    ensures { IsPlayed replies_of (IsTalkOf (D.IsRunIn config) config.m (D.fresh config) D.may)
         (IsTalkOf (D.IsRunIn config) config.m (D.fresh config) D.may) config.world
         (reading R.remaining R.calls R.failed) (writing W.contents W.failed) reader.old reader.new writer.old writer.new result }
 {
@@ -117,27 +123,48 @@ pub fn play_on<H, D: Service<H>, A: Allocator + Clone, R: Source, W: Sink>(
     requires knows { Knows D.knows kind }
     requires reads { R.calls reader.old < 2 ^ 64 }
     requires writes { W.calls writer.old < 2 ^ 64 }
-    ensures played { IsPlayed (IsRunTo D.may world.old world.new) (CanRun D.may world.old) kind
+    ensures played { IsPlayed replies_of (IsRunTo D.may world.old world.new) (CanRun D.may world.old) kind
         (reading R.remaining R.calls R.failed) (writing W.contents W.failed) reader.old reader.new writer.old writer.new result }
     ensures unchanged { result ≡ Err Fault.Memory → world.new ≡ world.old }
+{
+    let mut chunk = room_for_a_read(&alloc)?;
+    let mut player = fresh_player::<A, AsReplies>(alloc, kind)?;
+    run(rt, world, &mut player, &mut chunk, reader, writer)
+}
+
+/// Room for the bytes of one read; `Fault::Memory` where memory was refused.
+pub(crate) fn room_for_a_read<A: Allocator + Clone>(alloc: &A) -> Result<Vec<u8, A>, Fault>
+    ensures room { IfOk result (λ chunk. length chunk.items ≡ READ_BYTES) }
+    ensures only { IfErr result (λ fault. fault ≡ Fault.Memory) }
 {
     let Ok(other) = alloc.clone() else {
         return Err(Fault::Memory);
     };
-    let Ok(mut chunk) = Vec::from_elem(other, 0, READ_BYTES) else {
-        return Err(Fault::Memory);
-    };
-    let Ok(mut player) = Player::new(alloc, kind) else {
-        return Err(Fault::Memory);
-    };
-    run(rt, world, &mut player, &mut chunk, reader, writer)
+    match Vec::from_elem(other, 0, READ_BYTES) {
+        Ok(chunk) => Ok(chunk),
+        Err(_) => Err(Fault::Memory),
+    }
 }
 
-/// Reads to the end of the input or to `quit`, and writes the replies after each read.
-fn run<H, D: Service<H>, A: Allocator, R: Source, W: Sink>(
+/// A player that has read nothing; `Fault::Memory` where memory was refused.
+pub(crate) fn fresh_player<A: Allocator + Clone, F: Form>(
+    alloc: A,
+    kind: WorldKind,
+) -> Result<Player<A, F>, Fault>
+    ensures fresh { IfOk result (λ player. IsFresh kind player) }
+    ensures only { IfErr result (λ fault. fault ≡ Fault.Memory) }
+{
+    match Player::new(alloc, kind) {
+        Ok(player) => Ok(player),
+        Err(_) => Err(Fault::Memory),
+    }
+}
+
+/// Reads to the end of the input or to `quit`, and writes the text of the turns after each read.
+pub(crate) fn run<H, D: Service<H>, A: Allocator, F: Form, R: Source, W: Sink>(
     rt: &H,
     world: &mut D,
-    player: &mut Player<A>,
+    player: &mut Player<A, F>,
     chunk: &mut [u8],
     reader: &mut R,
     writer: &mut W,
@@ -146,8 +173,8 @@ fn run<H, D: Service<H>, A: Allocator, R: Source, W: Sink>(
     requires chunk { length chunk.old ≡ READ_BYTES }
     requires fresh { IsFresh player.old.kind player.old }
     requires reads { R.calls reader.old < 2 ^ 64 }
-    requires writes { W.calls writer.old < 2 ^ 64 }
-    ensures played { IsPlayed (IsRunTo D.may world.old world.new) (CanRun D.may world.old) player.old.kind
+    requires writes { W.calls writer.old < 2 ^ 65 }
+    ensures played { IsPlayed (flat_map F.text) (IsRunTo D.may world.old world.new) (CanRun D.may world.old) player.old.kind
         (reading R.remaining R.calls R.failed) (writing W.contents W.failed) reader.old reader.new writer.old writer.new result }
     ensures never { result ≢ Err Fault.Memory }
 {

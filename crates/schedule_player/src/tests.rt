@@ -107,15 +107,15 @@ pub(crate) fn cup_of(alloc: Global, piece: usize, fails_at: u64, takes_nothing: 
 
 /// What a run answers, what was written, and how often the reader and the writer were called.
 #[derive(Drop)]
-pub(crate) struct Played {
-    pub(crate) outcome: Result<Summary, Fault>,
+pub(crate) struct Played<T> {
+    pub(crate) outcome: Result<T, Fault>,
     pub(crate) text: Vec<u8>,
     pub(crate) reads: u64,
     pub(crate) writes: u64,
 }
 
 /// In a splitter for two participants.
-fn play_by(alloc: Global, reader: Drip<'_>, writer: Cup) -> Result<Played, Fail> {
+fn play_by(alloc: Global, reader: Drip<'_>, writer: Cup) -> Result<Played<Summary>, Fail> {
     let config = Config::new(WorldKind::Splitter, 2, 4, 1000)?;
     Ok(run_of(config, alloc, reader, writer))
 }
@@ -125,10 +125,19 @@ pub(crate) fn run_of<A: Allocator + Clone>(
     alloc: A,
     reader: Drip<'_>,
     writer: Cup,
-) -> Played {
+) -> Played<Summary> {
     let mut reader = Tried::new(reader);
     let mut writer = Tried::new(writer);
     let outcome = play(alloc, &mut reader, &mut writer, config);
+    what_is_left(outcome, reader, writer)
+}
+
+/// What a run that answered this has left.
+pub(crate) fn what_is_left<T>(
+    outcome: Result<T, Fault>,
+    reader: Tried<Drip<'_>>,
+    writer: Tried<Cup>,
+) -> Played<T> {
     let drip = reader.into_inner();
     let cup = writer.into_inner();
     Played {

@@ -2,7 +2,7 @@
 
 use crate::replies::HELD_REPLIES;
 use crate::tests::{Played, cup_of, dripping, run_of};
-use crate::{Config, Fault, LineBuffer, READ_BYTES, WorldKind};
+use crate::{Config, Fault, LineBuffer, READ_BYTES, Summary, WorldKind};
 use desk::Desk;
 use linked_list_allocator::LocalHeap;
 use splitter::SplitterWorld;
@@ -12,16 +12,16 @@ use std::process::Abort;
 use std::test::Fail;
 
 /// An input and what is written for it: lines, in order, each with how often it comes.
-struct Row {
-    world: WorldKind,
-    m: u64,
-    k: u64,
-    limit: u64,
-    asked: &'static str,
-    said: &'static str,
+pub(crate) struct Row {
+    pub(crate) world: WorldKind,
+    pub(crate) m: u64,
+    pub(crate) k: u64,
+    pub(crate) limit: u64,
+    pub(crate) asked: &'static str,
+    pub(crate) said: &'static str,
 }
 
-const ROWS: [Row; 13] = [
+pub(crate) const ROWS: [Row; 13] = [
     // One alone in a world for one.
     Row {
         world: WorldKind::Rename,
@@ -157,7 +157,7 @@ const ROWS: [Row; 13] = [
 ];
 
 /// The lines that a text of a row stands for.
-fn spelled(alloc: Global, text: &str) -> Result<Vec<u8>, Fail> {
+pub(crate) fn spelled(alloc: Global, text: &str) -> Result<Vec<u8>, Fail> {
     let mut lines = Vec::new(alloc);
     for piece in text.split(", ") {
         let (line, count) = match piece.split_once('*') {
@@ -193,7 +193,7 @@ fn names_places_numbers_and_values_are_told(rt: HostRuntime) -> Result<(), Fail>
 }
 
 /// The bytes of a heap that a run takes its memory from, where growths are refused. It is a multiple of 16.
-const HEAP: usize = 524_288;
+pub(crate) const HEAP: usize = 524_288;
 
 /// The bytes of a heap that a world takes when it is opened.
 fn taken_by_world(heap: &LocalHeap, config: Config) -> Result<usize, Fail> {
@@ -230,13 +230,13 @@ fn taken_after_growths(alloc: Global, config: Config) -> Result<[usize; 4], Fail
 }
 
 /// A run with so many bytes of a heap left to take, a multiple of 16, until the read of this number, which gives all back.
-fn play_in_the_last(
+pub(crate) fn play_in_the_last(
     left: usize,
     alloc: Global,
     config: Config,
     input: &[u8],
     frees_at: u64,
-) -> Result<Played, Fail> {
+) -> Result<Played<Summary>, Fail> {
     let heap = LocalHeap::new(alloc, HEAP)?;
     let others = Vec::<u8, &LocalHeap>::with_capacity(&heap, HEAP.saturating_sub(left))?;
     let mut reader = dripping(input, 1, 0);
@@ -244,15 +244,29 @@ fn play_in_the_last(
     Ok(run_of(config, &heap, reader, cup_of(alloc, 64, 0, false)))
 }
 
-/// The least memory in which a run of this config reads; with any less it reads and writes nothing. Tried are all amounts
-/// below that of the world, and those about the others: a heap loses some bytes between growths.
-fn least_memory(rt: &impl Abort, alloc: Global, config: Config) -> Result<Option<usize>, Fail> {
+/// Amounts of memory about those at which a growth before the first read is refused: all below that of the world, and those
+/// about the others, since a heap loses some bytes between growths.
+pub(crate) fn amounts_about_growths(alloc: Global, config: Config) -> Result<Vec<usize>, Fail> {
     let taken = taken_after_growths(alloc, config)?;
-    let world = (0..taken[0]).step_by(16);
-    let others = taken.iter().flat_map(|next| [0, 16, 32, 48].map(|more| next.saturating_add(
-        more,
-    )));
-    for left in world.chain(others) {
+    let mut amounts = Vec::new(alloc);
+    for left in (0..taken[0]).step_by(16) {
+        amounts.push(left)?;
+    }
+    for next in taken {
+        for more in [0, 16, 32, 48] {
+            amounts.push(next.saturating_add(more))?;
+        }
+    }
+    Ok(amounts)
+}
+
+/// The least memory in which a run of this config reads; with any less it reads and writes nothing.
+pub(crate) fn least_memory(
+    rt: &impl Abort,
+    alloc: Global,
+    config: Config,
+) -> Result<Option<usize>, Fail> {
+    for left in amounts_about_growths(alloc, config)? {
         let p = play_in_the_last(left, alloc, config, b"begin 7\nquit\n", 0)?;
         if p.outcome.is_ok() {
             assert_eq!(rt; p.text.as_slice(), b"ok\nok\n".as_slice());

@@ -1,7 +1,11 @@
+use Rattle.std.proofs.Common.{[], refl}
 use Rattle.schedule_player.specs.Played.{reading, writing}
 use Rattle.schedule_player.specs.Runs.{IsRunTo, CanRun}
 use Rattle.schedule_player.specs.Talks.{IsTalkOf}
-use Rattle.schedule_player.proofs.PlayedLemmas.{played_weaker}
+use Rattle.schedule_player.specs.Texts.{replies_of}
+use Rattle.schedule_player.proofs.PlayedLemmas.{played_after}
+use Rattle.schedule_player.proofs.StandsLemmas.{appends_none}
+use Rattle.schedule_player.proofs.TalkLemmas.{talk_of_run}
 use Rattle.schedule_player.proofs.playing.play_in.Goals as goal
 
 pub play_on-requires-clause-knows : goal.play_on-requires-clause-knows
@@ -14,15 +18,10 @@ returns g c =
     let world = c.args.world.now in
     let fresh = c.requires.fresh in
     let IsTalk = IsTalkOf (g.D.World.IsRunIn config) config.m (g.D.World.fresh config) may in
-    played_weaker (IsRunTo may world c.play_on.new.world) (CanRun may world) IsTalk IsTalk
-    (λ ts run. record {
-      run = g.met.D.World.lawful config world c.play_on.new.world ts fresh run;
-      owners = g.met.D.World.tells config world c.play_on.new.world ts fresh run;
-      could = record { start = world; last = c.play_on.new.world; is_fresh = fresh; run = run };
-    })
-    (λ ts run. record {
-      run = g.met.D.World.lawful config world run.0 ts fresh run.1;
-      owners = g.met.D.World.tells config world run.0 ts fresh run.1;
-      could = record { start = world; last = run.0; is_fresh = fresh; run = run.1 };
-    })
-    config.world (reading g.R.Read.remaining g.R.Source.calls g.R.Source.failed) (writing g.W.Write.contents g.W.Sink.failed) c.args.reader.now c.play_on.new.reader c.args.writer.now c.play_on.new.writer c.play_on.result c.play_on.ensures.played
+    let talk = talk_of_run (g.D.World.IsRunIn config) config.m (g.D.World.fresh config) may (g.met.D.World.lawful config) (g.met.D.World.tells config) in
+    let now = g.W.Write.contents c.args.writer.now in
+    played_after [] replies_of (IsRunTo may world c.play_on.new.world) (CanRun may world) IsTalk IsTalk
+    (λ ts run. talk world c.play_on.new.world ts fresh run)
+    (λ ts run. talk world run.0 ts fresh run.1)
+    config.world (reading g.R.Read.remaining g.R.Source.calls g.R.Source.failed) (writing g.W.Write.contents g.W.Sink.failed) c.args.reader.now c.play_on.new.reader c.args.writer.now c.args.writer.now c.play_on.new.writer
+    (appends_none now) refl c.play_on.result (λ e. refl) c.play_on.ensures.played

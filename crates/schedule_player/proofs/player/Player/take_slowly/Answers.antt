@@ -17,7 +17,7 @@ returns-in_default-clause-stands g c = λ start p before now t on.
     let more = c.extend.ensures p.line (ap (λ (q : PlayerState). q.line) c.self.view_is ∙ t.line_is) in
     let extended = ap (λ (l : HeldLine). let q : PlayerState = record { kind = c.self.inside.kind; line = l; replies = c.self.inside.replies; summary = c.self.inside.summary; over = c.self.inside.over } in q) more in
     rw (all, after_bytes-part c.args.self.now.kind p bytes on none)
-    (stands_with_line g.D.Service.may start c.args.world.now c.args.self.now _ p (p.line ++ bytes) before now t (extended ∙ ap (λ (q : PlayerState). let r : PlayerState = record q { line = held (p.line ++ bytes) } in r) c.self.view_is))
+    (stands_with_line g.D.Service.may g.F.Form.text start c.args.world.now c.args.self.now _ p (p.line ++ bytes) before now t (extended ∙ ap (λ (q : PlayerState). let r : PlayerState = record q { line = held (p.line ++ bytes) } in r) c.self.view_is))
 
 pub answer-requires-clause-knows : goal.answer-requires-clause-knows
 answer-requires-clause-knows g c = λ q is.
@@ -47,7 +47,7 @@ returns-clause-stands g c = λ start p before now t on.
     let kind = ap (λ (q : PlayerState). q.kind) c.self.view_is in
     let more = c.extend-2.ensures p.line (ap (λ (q : PlayerState). q.line) c.self.view_is ∙ t.line_is) in
     let extended = ap (λ (l : HeldLine). let q : PlayerState = record { kind = c.self.inside.kind; line = l; replies = c.self.inside.replies; summary = c.self.inside.summary; over = c.self.inside.over } in q) more in
-    let longer = stands_with_line g.D.Service.may start c.args.world.now c.args.self.now _ p (p.line ++ take c.in-Some.end bytes) before now t (extended ∙ ap (λ (q : PlayerState). let r : PlayerState = record q { line = held (p.line ++ take c.in-Some.end bytes) } in r) c.self.view_is) in
+    let longer = stands_with_line g.D.Service.may g.F.Form.text start c.args.world.now c.args.self.now _ p (p.line ++ take c.in-Some.end bytes) before now t (extended ∙ ap (λ (q : PlayerState). let r : PlayerState = record q { line = held (p.line ++ take c.in-Some.end bytes) } in r) c.self.view_is) in
     rw (after_bytes-whole c.args.self.now.kind p bytes c.in-Some.end on below lf none) (rw kind at (c.answer_line.ensures.stands start _ before now longer on))
 
 pub answer_line-requires-clause-knows : goal.answer_line-requires-clause-knows

@@ -1,0 +1,34 @@
+-- what rules allow from a fresh world is a talk
+use Rattle.std.proofs.Common.{◌≡◌, ℕ, true, List}
+use Rattle.desk.specs.declared.exchange.Exchange.{Exchange}
+use Rattle.desk.specs.declared.reply.Reply.{Reply}
+use Rattle.desk.specs.Desk.{gives_names, IsFreshDesk}
+use Rattle.desk.specs.DeskRun.{IsDeskRunOf}
+use Rattle.desk.specs.DeskValue.{DeskValue}
+use Rattle.rename_core.specs.declared.config.Config.{Config}
+use Rattle.rename_core.specs.declared.config.WorldKind.{WorldKind}
+use Rattle.rename_core.specs.declared.config.WorldKind.TheVariants.{Splitter, Grid, Rename, Tree}
+use Rattle.schedule_player.specs.DeskWorld.{DeskWorldMay}
+use Rattle.schedule_player.specs.DeskWorldLaws.{desk_lawful, desk_tells}
+use Rattle.schedule_player.specs.IsRun.{IsTalkByKind}
+use Rattle.schedule_player.specs.Owners.{AreOwnersTold}
+use Rattle.schedule_player.specs.Requests.{Request}
+use Rattle.schedule_player.specs.Runs.{Runs}
+use Rattle.schedule_player.specs.Talks.{IsTalkOf}
+use Rattle.schedule_player.specs.Turns.{Turn, exchanges}
+
+pub talk_of_run : {T : Type 0} (IsRun : List Exchange → Type 0) (most : ℕ) (fresh : T → Type 0) (may : T → Request → Reply → T → Type 0)
+    (lawful : (w u : T) (ts : List Turn) → fresh w → Runs may w ts u → IsRun (exchanges ts)) (tells : (w u : T) (ts : List Turn) → fresh w → Runs may w ts u → AreOwnersTold most ts)
+    (w u : T) (ts : List Turn) → fresh w → Runs may w ts u → IsTalkOf IsRun most fresh may ts
+talk_of_run IsRun most fresh may lawful tells w u ts is_fresh run = record {
+  run = lawful w u ts is_fresh run;
+  owners = tells w u ts is_fresh run;
+  could = record { start = w; last = u; is_fresh = is_fresh; run = run };
+}
+
+-- and so it is of a desk, in the worlds with names
+pub desk_talk : (c : Config) (k : WorldKind) → gives_names k ≡ true → (w u : DeskValue) (ts : List Turn) → IsFreshDesk c w → Runs DeskWorldMay w ts u → IsTalkByKind k c ts
+desk_talk c Splitter named w u ts is_fresh run = absurd cc
+desk_talk c Grid named w u ts is_fresh run = absurd cc
+desk_talk c Rename named w u ts is_fresh run = talk_of_run (IsDeskRunOf c) c.m (IsFreshDesk c) DeskWorldMay (desk_lawful c) (desk_tells c) w u ts is_fresh run
+desk_talk c Tree named w u ts is_fresh run = talk_of_run (IsDeskRunOf c) c.m (IsFreshDesk c) DeskWorldMay (desk_lawful c) (desk_tells c) w u ts is_fresh run

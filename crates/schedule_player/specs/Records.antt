@@ -1,0 +1,38 @@
+-- records (this project's profile), version 1: a line of JSON for the config, and one for each event with its reply
+use Rattle.std.specs.Prelude.{ℕ, List, [], ◌++◌, flat_map, codes, decimal}
+use Rattle.desk.specs.declared.exchange.Exchange.{Exchange}
+use Rattle.rename_core.specs.declared.config.Config.{Config}
+use Rattle.rename_core.specs.declared.config.WorldKind.{WorldKind}
+use Rattle.rename_core.specs.declared.config.WorldKind.TheVariants.{Splitter, Grid, Rename, Tree}
+use Rattle.schedule_player.specs.Events.{event_words}
+use Rattle.schedule_player.specs.Replies.{reply_words}
+use Rattle.schedule_player.specs.Turns.{Turn}
+use Rattle.schedule_player.specs.Turns.Turn.{Answered, Told, Ended, Misread}
+
+-- the name of a world
+abbrev pub world_name : WorldKind → List ℕ
+world_name Splitter = codes "splitter"
+world_name Grid = codes "grid"
+world_name Rename = codes "rename"
+world_name Tree = codes "tree"
+
+-- the first line: the config, its keys in rising order
+abbrev pub header_line : Config → List ℕ
+header_line c =
+    codes "{\"format\":\"slot-record\",\"k\":" ++ decimal c.k ++ codes ",\"limit\":" ++ decimal c.limit ++ codes ",\"m\":" ++ decimal c.m
+    ++ codes ",\"version\":1,\"world\":\"" ++ world_name c.world ++ codes "\"}\n"
+
+-- the line of an event and its reply; no word of either needs an escape
+abbrev pub exchange_line : Exchange → List ℕ
+exchange_line x = codes "{\"command\":\"" ++ event_words x.event ++ codes "\",\"reply\":\"" ++ reply_words x.reply ++ codes "\"}\n"
+
+-- what is recorded of a turn: an event, with its reply, be it a refusal, and nothing else
+abbrev pub turn_record : Turn → List ℕ
+turn_record (Answered x) = exchange_line x
+turn_record (Told n r) = []
+turn_record Ended = []
+turn_record (Misread bad) = []
+
+-- the record of turns
+abbrev pub record_of : Config → List Turn → List ℕ
+record_of config turns = header_line config ++ flat_map turn_record turns

@@ -1,0 +1,66 @@
+//! The form of records.
+
+ghost use Rattle.std.specs.Prelude.{◌≡◌, ◌≤◌, ◌+◌, ◌++◌, length};
+ghost use Rattle.schedule_player.specs.Records.{header_line, turn_record, world_name};
+
+use crate::bad::Bad;
+use crate::events::print_event;
+use crate::form::Form;
+use crate::print::{print_words, put_word};
+use crate::replies::{HELD_REPLIES, Replies};
+use desk::{Event, Reply};
+use rename_core::{Config, WorldKind};
+use std::alloc::Allocator;
+
+/// The first line of no record has more bytes.
+pub const HEADER_ROOM: usize = 135;
+
+/// Of each event a line of JSON is written, with its reply, and of other turns nothing.
+#[derive(Drop)]
+pub struct AsRecord;
+
+impl Form for AsRecord {
+    ghost text = { turn_record };
+
+    fn put_answered<A: Allocator>(event: Event, reply: &Reply, out: &mut Replies<A>) {
+        out.put(b"{\"command\":\"");
+        print_event(event, out);
+        out.put(b"\",\"reply\":\"");
+        print_words(reply, out);
+        out.put(b"\"}\n");
+    }
+
+    fn put_told<A: Allocator>(_n: u64, _reply: &Reply, _out: &mut Replies<A>) {}
+
+    fn put_ended<A: Allocator>(_out: &mut Replies<A>) {}
+
+    fn put_misread<A: Allocator>(_bad: Bad, _out: &mut Replies<A>) {}
+}
+
+/// Appends the name of a world.
+fn put_world<A: Allocator>(world: WorldKind, out: &mut Replies<A>)
+    requires { length out.old + 8 ≤ HELD_REPLIES }
+    ensures text { out.new ≡ out.old ++ world_name world }
+    ensures short { length out.new ≤ length out.old + 8 }
+{
+    match world {
+        WorldKind::Splitter => out.put(b"splitter"),
+        WorldKind::Grid => out.put(b"grid"),
+        WorldKind::Rename => out.put(b"rename"),
+        WorldKind::Tree => out.put(b"tree"),
+    }
+}
+
+/// Appends the first line of a record.
+pub fn print_header<A: Allocator>(config: Config, out: &mut Replies<A>)
+    requires { length out.old + HEADER_ROOM ≤ HELD_REPLIES }
+    ensures text { out.new ≡ out.old ++ header_line config }
+    ensures short { length out.new ≤ length out.old + HEADER_ROOM }
+{
+    put_word(b"{\"format\":\"slot-record\",\"k\":", config.k, out);
+    put_word(b",\"limit\":", config.limit, out);
+    put_word(b",\"m\":", config.m, out);
+    out.put(b",\"version\":1,\"world\":\"");
+    put_world(config.world, out);
+    out.put(b"\"}\n");
+}

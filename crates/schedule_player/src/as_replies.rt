@@ -1,0 +1,36 @@
+//! The form of replies.
+
+ghost use Rattle.schedule_player.specs.Texts.{turn_reply};
+
+use crate::bad::Bad;
+use crate::form::Form;
+use crate::print::{print_bad, print_reply};
+use crate::replies::Replies;
+use desk::{Event, Reply};
+use std::alloc::Allocator;
+
+/// Of each turn the reply is written, or that its line was bad.
+#[derive(Drop)]
+pub struct AsReplies;
+
+impl Form for AsReplies {
+    ghost text = { turn_reply };
+
+    #[inline(always)]
+    fn put_answered<A: Allocator>(_event: Event, reply: &Reply, out: &mut Replies<A>) {
+        print_reply(reply, out);
+    }
+
+    #[inline(always)]
+    fn put_told<A: Allocator>(_n: u64, reply: &Reply, out: &mut Replies<A>) {
+        print_reply(reply, out);
+    }
+
+    fn put_ended<A: Allocator>(out: &mut Replies<A>) {
+        print_reply(&Reply::Ok, out);
+    }
+
+    fn put_misread<A: Allocator>(bad: Bad, out: &mut Replies<A>) {
+        print_bad(bad, out);
+    }
+}

@@ -1,0 +1,212 @@
+//! Records of runs.
+
+use crate::tests::{Cup, Drip, Played, cup_of, dripping, what_is_left};
+use crate::worlds_tests::{
+    HEAP, ROWS, Row, amounts_about_growths, least_memory, play_in_the_last, spelled,
+};
+use crate::{Config, Fault, READ_BYTES, Tried, WorldKind, record};
+use linked_list_allocator::LocalHeap;
+use std::alloc::{Allocator, Global};
+use std::process::Abort;
+use std::test::Fail;
+
+/// A run whose record is written; one in a world without names is none.
+fn recorded<A: Allocator + Clone>(
+    config: Config,
+    alloc: A,
+    reader: Drip<'_>,
+    writer: Cup,
+) -> Played<()> {
+    let mut reader = Tried::new(reader);
+    let mut writer = Tried::new(writer);
+    let outcome = match config.world {
+        WorldKind::Rename | WorldKind::Tree => record(alloc, &mut reader, &mut writer, config),
+        WorldKind::Splitter | WorldKind::Grid => Err(Fault::Read),
+    };
+    what_is_left(outcome, reader, writer)
+}
+
+/// The record that these lines and the replies to them make, where no line is bad.
+fn record_text(alloc: Global, config: Config, asked: &[u8], said: &[u8]) -> Result<Vec<u8>, Fail> {
+    let world = if config.world == WorldKind::Tree {
+        "tree"
+    } else {
+        "rename"
+    };
+    let header = format!(in alloc;
+        "{{\"format\":\"slot-record\",\"k\":{},\"limit\":{},\"m\":{},\"version\":1,\"world\":\"{world}\"}}\n",
+        config.k, config.limit, config.m
+    )?;
+    let mut text = Vec::new(alloc);
+    text.extend_from_slice(header.as_bytes())?;
+    let lines = asked.split(|byte| *byte == b'\n');
+    let replies = said.split(|byte| *byte == b'\n');
+    for (line, reply) in lines.zip(replies) {
+        if line.is_empty() || line.starts_with(b"owner") {
+            continue;
+        }
+        for piece in [
+            b"{\"command\":\"".as_slice(),
+            line,
+            b"\",\"reply\":\"",
+            reply,
+            b"\"}\n",
+        ] {
+            text.extend_from_slice(piece)?;
+        }
+    }
+    Ok(text)
+}
+
+#[test]
+fn the_record_of_a_row_is_its_events_with_their_replies(rt: HostRuntime) -> Result<(), Fail> {
+    for row in &ROWS {
+        let config = Config::new(row.world, row.m, row.k, row.limit)?;
+        let asked = spelled(rt.alloc(), row.asked)?;
+        let said = spelled(rt.alloc(), row.said)?;
+        let text = record_text(rt.alloc(), config, &asked, &said)?;
+        for piece in [1, 7, READ_BYTES] {
+            let p = recorded(
+                config,
+                rt.alloc(),
+                dripping(&asked, piece, 0),
+                cup_of(rt.alloc(), piece, 0, false),
+            );
+            assert!(rt; p.outcome.is_ok(), "at {}", row.asked);
+            assert!(rt; p.text == text, "at {}", row.asked);
+        }
+    }
+    Ok(())
+}
+
+/// Lines of each kind, and the record of those that are recorded.
+const LINES: &[u8] = b"begin 7\nstep 7\nstep 9\nowner 1\nSTEP 7\n\nenter 7\nquit\nstep 7\n";
+
+const RECORD: &[u8] =
+    b"{\"format\":\"slot-record\",\"k\":4,\"limit\":1000,\"m\":2,\"version\":1,\"world\":\"rename\"}
+{\"command\":\"begin 7\",\"reply\":\"ok\"}
+{\"command\":\"step 7\",\"reply\":\"quiet\"}
+{\"command\":\"step 9\",\"reply\":\"refused 4\"}
+{\"command\":\"enter 7\",\"reply\":\"ok\"}
+";
+
+fn lines_by(alloc: Global, reader: Drip<'_>, writer: Cup) -> Result<Played<()>, Fail> {
+    let config = Config::new(WorldKind::Rename, 2, 4, 1000)?;
+    Ok(recorded(config, alloc, reader, writer))
+}
+
+#[test]
+fn owners_bad_lines_and_quit_are_not_recorded(rt: HostRuntime) -> Result<(), Fail> {
+    let p = lines_by(
+        rt.alloc(),
+        dripping(LINES, 4, 0),
+        cup_of(rt.alloc(), 64, 0, false),
+    )?;
+    assert!(rt; p.outcome.is_ok());
+    assert_eq!(rt; p.text.as_slice(), RECORD);
+    let p = lines_by(
+        rt.alloc(),
+        dripping(b"", 4, 0),
+        cup_of(rt.alloc(), 64, 0, false),
+    )?;
+    assert!(rt; p.outcome.is_ok());
+    assert!(rt; RECORD.starts_with(p.text.as_slice()));
+    assert_eq!(rt; p.text.iter().filter(|byte| **byte == b'\n').count(), 1);
+    Ok(())
+}
+
+#[test]
+fn each_read_of_a_record_fails_once(rt: HostRuntime) -> Result<(), Fail> {
+    let whole = lines_by(
+        rt.alloc(),
+        dripping(LINES, 4, 0),
+        cup_of(rt.alloc(), 64, 0, false),
+    )?;
+    for fails_at in 1..whole.reads {
+        let p = lines_by(
+            rt.alloc(),
+            dripping(LINES, 4, fails_at),
+            cup_of(rt.alloc(), 64, 0, false),
+        )?;
+        assert!(rt; matches!(p.outcome, Err(Fault::Read)));
+        assert!(rt; RECORD.starts_with(p.text.as_slice()) && p.text.ends_with(b"}\n"));
+    }
+    Ok(())
+}
+
+#[test]
+fn each_write_of_a_record_fails_once(rt: HostRuntime) -> Result<(), Fail> {
+    let whole = lines_by(
+        rt.alloc(),
+        dripping(LINES, 4, 0),
+        cup_of(rt.alloc(), 3, 0, false),
+    )?;
+    for takes_nothing in [false, true] {
+        for fails_at in 1..whole.writes {
+            let p = lines_by(
+                rt.alloc(),
+                dripping(LINES, 4, 0),
+                cup_of(rt.alloc(), 3, fails_at, takes_nothing),
+            )?;
+            assert!(rt; matches!(p.outcome, Err(Fault::Write)));
+            assert!(rt; RECORD.starts_with(p.text.as_slice()) && p.text.len() < RECORD.len());
+            assert_eq!(rt; p.reads == 0, fails_at <= HEADER_WRITES, "at {fails_at}");
+        }
+    }
+    Ok(())
+}
+
+/// How many writes of three bytes the header of `RECORD` takes.
+const HEADER_WRITES: u64 = 27;
+
+/// A record with so many bytes of a heap left to take, a multiple of 16.
+fn record_in_the_last(
+    left: usize,
+    alloc: Global,
+    config: Config,
+    input: &[u8],
+) -> Result<Played<()>, Fail> {
+    let heap = LocalHeap::new(alloc, HEAP)?;
+    let _others = Vec::<u8, &LocalHeap>::with_capacity(&heap, HEAP.saturating_sub(left))?;
+    Ok(recorded(
+        config,
+        &heap,
+        dripping(input, 1, 0),
+        cup_of(alloc, 64, 0, false),
+    ))
+}
+
+/// Records a row with each amount of memory about its growths, up to one that is enough: with less than the least in which a run
+/// reads, nothing is read or written, and with more the record is that of the replies which the run gives in the same memory.
+fn record_with_growths_refused(rt: &impl Abort, alloc: Global, row: &Row) -> Result<(), Fail> {
+    let config = Config::new(row.world, row.m, row.k, row.limit)?;
+    let asked = spelled(alloc, row.asked)?;
+    let said = spelled(alloc, row.said)?;
+    let fits = least_memory(rt, alloc, config)?.unwrap_or(HEAP);
+    for left in amounts_about_growths(alloc, config)? {
+        let p = record_in_the_last(left, alloc, config, &asked)?;
+        if left < fits {
+            assert!(rt; matches!(p.outcome, Err(Fault::Memory)), "at {left} bytes");
+            assert_eq!(rt; (p.reads, p.writes), (0, 0), "at {left} bytes");
+        }
+    }
+    for left in (fits..HEAP).step_by(16) {
+        let played = play_in_the_last(left, alloc, config, &asked, 0)?;
+        let p = record_in_the_last(left, alloc, config, &asked)?;
+        assert!(rt; p.outcome.is_ok(), "at {left} bytes");
+        let text = record_text(alloc, config, &asked, &played.text)?;
+        assert!(rt; p.text == text, "at {left} bytes");
+        if played.text == said {
+            return Ok(());
+        }
+    }
+    Ok(())
+}
+
+#[test]
+fn each_growth_of_a_record_is_refused_in_turn(rt: HostRuntime) -> Result<(), Fail> {
+    for row in &ROWS {
+        record_with_growths_refused(&rt, rt.alloc(), row)?;
+    }
+    Ok(())
+}

@@ -1,0 +1,40 @@
+//! Runs of a world whose record is written.
+
+ghost use Rattle.std.specs.Prelude.{◌≡◌, true, ◌^◌, ◌<◌};
+ghost use Rattle.desk.specs.Desk.{gives_names};
+ghost use Rattle.schedule_player.specs.Played.{reading, writing};
+ghost use Rattle.schedule_player.specs.Recorded.{IsRecorded};
+
+use crate::as_record::AsRecord;
+use crate::fault::Fault;
+use crate::playing::{fresh_player, opened, room_for_a_read, run};
+use crate::sink::Sink;
+use crate::source::Source;
+use desk::Desk;
+use rename_core::Config;
+use std::alloc::Allocator;
+
+/// Plays the commands that a reader gives, as `play`, and writes the record of the run in place of the replies: its header
+/// before the first read, and a line for each event with its reply.
+///
+/// Its faults are those of `play`. `Fault::Write` comes with nothing read where not even the header could be written.
+pub fn record<A: Allocator + Clone, R: Source, W: Sink>(
+    alloc: A,
+    reader: &mut R,
+    writer: &mut W,
+    config: Config,
+) -> Result<(), Fault>
+    requires names { gives_names config.world ≡ true }
+    requires reads { R.calls reader.old < 2 ^ 64 }
+    requires writes { W.calls writer.old < 2 ^ 64 }
+    ensures { IsRecorded config (reading R.remaining R.calls R.failed) (writing W.contents W.failed) reader.old reader.new writer.old writer.new result }
+{
+    let mut world = opened::<Desk<A>, (), A>(&alloc, config)?;
+    let mut chunk = room_for_a_read(&alloc)?;
+    let mut player = fresh_player::<A, AsRecord>(alloc, config.world)?;
+    player.write_header(config, writer)?;
+    match run(&(), &mut world, &mut player, &mut chunk, reader, writer) {
+        Ok(_) => Ok(()),
+        Err(fault) => Err(fault),
+    }
+}
