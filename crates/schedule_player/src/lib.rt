@@ -51,7 +51,7 @@ mod worlds_tests;
 
 pub use bad::Bad;
 pub use command::Command;
-pub use desk::{Event, Exchange, Reply};
+pub use desk::{Event, Exchange, Reply, ShortReply};
 pub use events::{EVENT_ROOM, print_event};
 pub use fault::Fault;
 pub use line_buffer::LineBuffer;
