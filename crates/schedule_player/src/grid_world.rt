@@ -24,6 +24,7 @@ impl<A: Allocator + Clone, R> Service<R> for GridWorld<A> {
 
     ghost answers = { visit_answers grid_rules };
 
+    #[inline(always)]
     fn apply(&mut self, _rt: &R, event: Event, _view: &mut View) -> ShortReply {
         match event {
             Event::Begin(id) => ShortReply::of_done(self.begin(id)),
