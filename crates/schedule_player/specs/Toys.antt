@@ -6,11 +6,12 @@ use Rattle.desk.specs.declared.reply.Reply.{Reply}
 use Rattle.desk.specs.declared.reply.Reply.TheVariants as reply
 use Rattle.schedule_player.specs.Requests.{Request}
 use Rattle.schedule_player.specs.Requests.Request.{Take, OwnerOf}
+use Rattle.schedule_player.specs.Visits.{NoName}
 
 -- a shelf, by how many events it took: it takes each, and may be refused memory for each
 abbrev pub ShelfMay : ℕ → Request → Reply → ℕ → Type 0
 ShelfMay w (Take e) r u = ((r ≡ reply.Ok) × (u ≡ w + 1)) ⊎ ((r ≡ reply.Refused refusal.NoMemory) × (u ≡ w))
-ShelfMay w (OwnerOf n) r u = ⊥
+ShelfMay w (OwnerOf n) r u = NoName w n r u
 
 -- so each reply is one of these
 abbrev pub IsShelfRun : List Exchange → Type 0

@@ -1,7 +1,8 @@
 -- runs of worlds whose participants only begin and step
-use Rattle.std.proofs.Common.{◌≡◌, ℕ, Bool, true, false, not, cond, nat_lt, List, [], ◌∷◌, ◌++◌, length, codes, map, Some, None, Result, Ok, Err, refl, sym, ap, subst, ◌∙◌, append_assoc}
+use Rattle.std.proofs.Common.{◌≡◌, ℕ, zero, suc, arith, Bool, true, false, not, cond, nat_lt, List, [], ◌∷◌, ◌++◌, length, codes, map, Some, None, Result, Ok, Err, refl, sym, ap, subst, ◌∙◌, append_assoc}
 use Rattle.std.proofs.lemmas.List.{append-nil}
 use Rattle.std.specs.List.{list_all}
+use Rattle.step_memory.specs.declared.refusal.Refusal.TheVariants as refusal
 use Rattle.step_memory.specs.Calls.{Call}
 use Rattle.step_memory.specs.Calls.Call.{Began, Stepped}
 use Rattle.rename_core.specs.declared.config.WorldKind.{WorldKind}
@@ -9,6 +10,8 @@ use Rattle.desk.specs.declared.event.Event.{Event}
 use Rattle.desk.specs.declared.event.Event.TheVariants.{Begin, Step, Enter, Probe, Leave, Put, Get}
 use Rattle.desk.specs.declared.exchange.Exchange.{Exchange}
 use Rattle.desk.specs.declared.reply.Reply.{Reply}
+use Rattle.desk.specs.declared.reply.Reply.TheVariants as reply
+use Rattle.desk.specs.Owner.{IsOwnerReply}
 use Rattle.desk.specs.Replies.{done_reply}
 use Rattle.schedule_player.specs.declared.bad.Bad.{Bad}
 use Rattle.schedule_player.specs.declared.bad.Bad.TheVariants.{TooLong, NotPrintable, UnknownWord}
@@ -23,7 +26,7 @@ use Rattle.schedule_player.specs.Runs.{Runs}
 use Rattle.schedule_player.specs.RunLaws.{runs-cut}
 use Rattle.schedule_player.specs.Turns.{Turn, exchanges}
 use Rattle.schedule_player.specs.Turns.Turn.{Answered, Told, Ended, Misread}
-use Rattle.schedule_player.specs.Visits.{VisitRules, visit_may, said_reply, knows_visits}
+use Rattle.schedule_player.specs.Visits.{VisitRules, NoName, visit_may, said_reply, knows_visits}
 use Rattle.schedule_player.specs.Worlds.{exchange_of, IsCallRun}
 
 -- a line of a kind without a desk means a visit, `quit`, or nothing
@@ -73,6 +76,29 @@ visit_known (OwnerOf n) visit = absurd visit
 pub visits_meant : (kind : WorldKind) → has_desk kind ≡ false → Knows knows_visits kind
 visits_meant kind none line q is = visit_known q (subst IsVisit is (visit_of_line kind none line))
 
+-- a name that is asked for where none are given is answered so
+pub no_name : {T : Type 0} (w : T) (n : ℕ) → knows_visits (OwnerOf n) ≡ true → NoName w n (reply.Refused refusal.OutOfRange) w
+no_name w zero known = (refl, refl)
+no_name w (suc n) known = absurd cc
+
+-- and only so
+pub one_no_name : {T : Type 0} (w u v : T) (n : ℕ) (a b : Reply) → NoName w n a u → NoName w n b v → (a ≡ b) × (u ≡ v)
+one_no_name w u v zero a b x y = (x.0 ∙ sym y.0, x.1 ∙ sym y.1)
+one_no_name w u v (suc n) a b x y = absurd x
+
+-- nothing changes
+pub no_name_kept : {T : Type 0} (w u : T) (n : ℕ) (a : Reply) → NoName w n a u → u ≡ w
+no_name_kept w u zero a x = x.1
+no_name_kept w u (suc n) a x = absurd x
+
+-- that is right after any exchanges
+pub no_name_right : {T : Type 0} (most : ℕ) (r : List Exchange) (w u : T) (n : ℕ) (a : Reply) → NoName w n a u → IsOwnerReply most r n a
+no_name_right most r w u zero a x = record {
+  out_of_range = λ never. x.0;
+  in_range = λ number. absurd (omega (arith, number.some));
+}
+no_name_right most r w u (suc n) a x = absurd x
+
 module _ {T X : Type 0} (rules : VisitRules T X) where
   -- there is a reply to what is known
   pub visit_answers : (w : T) (q : Request) → knows_visits q ≡ true → (r : Reply) × (u : T) × visit_may rules w q r u
@@ -83,7 +109,7 @@ module _ {T X : Type 0} (rules : VisitRules T X) where
   visit_answers w (Take (Leave p)) known = absurd cc
   visit_answers w (Take (Put p value)) known = absurd cc
   visit_answers w (Take (Get p)) known = absurd cc
-  visit_answers w (OwnerOf n) known = absurd cc
+  visit_answers w (OwnerOf n) known = (reply.Refused refusal.OutOfRange, w, no_name w n known)
 
   -- and only one
   pub one_visit : (w u v : T) (q : Request) (a b : Reply) → visit_may rules w q a u → visit_may rules w q b v → (a ≡ b) × (u ≡ v)
@@ -94,13 +120,13 @@ module _ {T X : Type 0} (rules : VisitRules T X) where
   one_visit w u v (Take (Leave p)) a b x y = absurd x
   one_visit w u v (Take (Put p value)) a b x y = absurd x
   one_visit w u v (Take (Get p)) a b x y = absurd x
-  one_visit w u v (OwnerOf n) a b x y = absurd x
+  one_visit w u v (OwnerOf n) a b x y = one_no_name w u v n a b x y
 
-  -- nobody is told who has a name
+  -- who asks for a name is told right
   pub visits_tell : (most : ℕ) (w u : T) (ts : List Turn) → Runs (visit_may rules) w ts u → AreOwnersTold most ts
   visits_tell most w u ts run = λ front back n r is.
       let cut = runs-cut (visit_may rules) w u front (Told n r ∷ back) (subst (λ (l : List Turn). Runs (visit_may rules) w l u) is run) in
-      absurd cut.2.1
+      no_name_right most (exchanges front) cut.0 cut.2.0 n r cut.2.1
 
   module _ (After : T → List (Call X) → Type 0)
       (begun : (t : T) (r : List (Call X)) (p : ℕ) → After t r → After (rules.begun t p) (r ++ Began p (rules.begins t p) ∷ []))
@@ -135,7 +161,7 @@ module _ {T X : Type 0} (rules : VisitRules T X) where
           ap (λ (y : Exchange). y ∷ map (exchange_of rules.shown) rest.0) one.1 ∙ ap (λ (l : List Exchange). x ∷ l) rest.1,
           subst (λ (l : List (Call X)). After u l) (append_assoc before (one.0 ∷ []) rest.0) rest.2,
         )
-    calls_of_run w u before (Told n r ∷ ts) after run = absurd run.1
+    calls_of_run w u before (Told n r ∷ ts) after run = calls_of_run run.0 u before ts (subst (λ (t : T). After t before) (sym (no_name_kept w run.0 n r run.1)) after) run.2
     calls_of_run w u before (Ended ∷ ts) after run = calls_of_run w u before ts after run
     calls_of_run w u before (Misread bad ∷ ts) after run = calls_of_run w u before ts after run
 

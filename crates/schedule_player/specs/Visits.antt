@@ -1,6 +1,7 @@
 -- the rules of worlds whose participants only begin and step
-use Rattle.std.specs.Prelude.{◌≡◌, ℕ, Bool, true, false, Result, Ok, Err}
+use Rattle.std.specs.Prelude.{◌≡◌, ℕ, zero, suc, Bool, true, false, Result, Ok, Err}
 use Rattle.step_memory.specs.declared.refusal.Refusal.{Refusal}
+use Rattle.step_memory.specs.declared.refusal.Refusal.TheVariants as refusal
 use Rattle.desk.specs.declared.event.Event.TheVariants.{Begin, Step, Enter, Probe, Leave, Put, Get}
 use Rattle.desk.specs.declared.reply.Reply.{Reply}
 use Rattle.desk.specs.declared.reply.Reply.TheVariants as reply
@@ -8,7 +9,7 @@ use Rattle.desk.specs.Replies.{done_reply}
 use Rattle.schedule_player.specs.Requests.{Request}
 use Rattle.schedule_player.specs.Requests.Request.{Take, OwnerOf}
 
--- only `begin` and `step` are known
+-- only `begin` and `step` are known, and who has the name 0
 abbrev pub knows_visits : Request → Bool
 knows_visits (Take (Begin p)) = true
 knows_visits (Take (Step p)) = true
@@ -17,7 +18,8 @@ knows_visits (Take (Probe p)) = false
 knows_visits (Take (Leave p)) = false
 knows_visits (Take (Put p value)) = false
 knows_visits (Take (Get p)) = false
-knows_visits (OwnerOf n) = false
+knows_visits (OwnerOf zero) = true
+knows_visits (OwnerOf (suc n)) = false
 
 -- the outcome of `begin` and of `step` and the state after each, and what an accepted step is shown as
 pub record VisitRules (T X : Type 0) : Type 0 where
@@ -32,6 +34,11 @@ abbrev pub said_reply : {X : Type 0} → (X → Reply) → Result X Refusal → 
 said_reply shown (Ok said) = shown said
 said_reply shown (Err refusal) = reply.Refused refusal
 
+-- no names are given: that 0 is none is refused for every number of participants, and no other is asked for
+abbrev pub NoName : {T : Type 0} → T → ℕ → Reply → T → Type 0
+NoName w zero r u = (r ≡ reply.Refused refusal.OutOfRange) × (u ≡ w)
+NoName w (suc n) r u = ⊥
+
 -- one reply and one state, for what is known
 abbrev pub visit_may : {T X : Type 0} → VisitRules T X → T → Request → Reply → T → Type 0
 visit_may rules w (Take (Begin p)) r u = (r ≡ done_reply (rules.begins w p)) × (u ≡ rules.begun w p)
@@ -41,4 +48,4 @@ visit_may rules w (Take (Probe p)) r u = ⊥
 visit_may rules w (Take (Leave p)) r u = ⊥
 visit_may rules w (Take (Put p value)) r u = ⊥
 visit_may rules w (Take (Get p)) r u = ⊥
-visit_may rules w (OwnerOf n) r u = ⊥
+visit_may rules w (OwnerOf n) r u = NoName w n r u
