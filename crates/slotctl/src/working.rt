@@ -1,8 +1,8 @@
 //! What the program does, over any reader and writer.
 
-ghost use Rattle.std.specs.Prelude.{◌<◌, ◌^◌};
+ghost use Rattle.std.specs.Prelude.{◌≡◌, ◌<◌, ◌^◌, false};
 ghost use Rattle.schedule_player.specs.Played.{reading, writing};
-ghost use Rattle.slotctl.specs.Done.{IsWorked, IsDrawnBy};
+ghost use Rattle.slotctl.specs.Done.{IsWorked, IsDrawnBy, is_served};
 
 use crate::asked::{Ask, Drawing};
 use drawn_schedules::{draw, play_drawn};
@@ -37,13 +37,14 @@ fn draw_for<W: Sink, A: Allocator + Clone>(
 ///
 /// `play` writes the replies to the commands that it reads; `draw` reads nothing. Answers `Fault::Read` where the reader failed
 /// or the limit of reads was reached, `Fault::Write` where the writer failed or took no byte, and `Fault::Memory` where memory
-/// was refused: by `play` with nothing read and nothing written.
+/// was refused: by `play` with nothing read and nothing written. To serve is not done here.
 pub fn work<R: Source, W: Sink, A: Allocator + Clone + Drop>(
     alloc: A,
     ask: Ask,
     reader: &mut R,
     writer: &mut W,
 ) -> Result<u8, Fault>
+    requires here { is_served ask ≡ false }
     requires reads { R.calls reader.old < 2 ^ 64 }
     requires writes { W.calls writer.old < 2 ^ 64 }
     ensures { IsWorked ask (reading R.remaining R.calls R.failed) (writing W.contents W.failed) reader.old reader.new writer.old writer.new result }
@@ -54,5 +55,6 @@ pub fn work<R: Source, W: Sink, A: Allocator + Clone + Drop>(
             Err(fault) => Err(fault),
         },
         Ask::Draw(drawing) => draw_for(alloc, drawing, writer),
+        Ask::Serve(_) => unreachable!(),
     }
 }
