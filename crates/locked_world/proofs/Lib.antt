@@ -5,3 +5,5 @@ pub mod Places
 pub mod Marking
 pub mod Renames
 pub mod Sent
+pub mod Staying
+pub mod Serves

@@ -10,3 +10,5 @@ pub mod Kepts
 pub mod Answers
 pub mod Marks
 pub mod Renamed
+pub mod Serving
+pub mod ServingLaws

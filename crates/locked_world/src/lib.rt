@@ -35,6 +35,7 @@ pub mod callers;
 pub mod closing;
 mod entry;
 pub mod hall;
+mod hall_service;
 pub mod kept;
 pub mod kept_log;
 pub mod laws;
@@ -43,14 +44,16 @@ mod log;
 pub mod parts;
 pub mod rename;
 mod same;
+pub mod serving_clerk;
 
 pub use act::Act;
 pub use closing::{Closed, Missing};
 pub use hall::Hall;
 pub use kept::Kept;
 pub use kept_log::KeptLog;
-pub use laws::law_of_hall;
+pub use laws::{law_of_hall, law_of_serving};
 pub use parts::{Clerk, HallLock, Session};
+pub use serving_clerk::ServingClerk;
 
 #[cfg(test)]
 mod tests;

@@ -9,9 +9,10 @@ use Rattle.rename_core.specs.Ranges.{IsConfigRange}
 use Rattle.step_memory.specs.declared.refusal.Refusal.{Refusal}
 use Rattle.rename_core.specs.declared.config.Config.{Config}
 use Rattle.rename_core.specs.declared.config.WorldKind.{WorldKind}
-use Rattle.slotctl.specs.Asked.{HasNumber, HasWorld, IsConfigOf, IsDrawingOf, world_named}
-use Rattle.slotctl.specs.Ranges.{IsDrawingRange}
+use Rattle.slotctl.specs.Asked.{HasNumber, HasWorld, IsConfigOf, IsDrawingOf, IsServingOf, world_named}
+use Rattle.slotctl.specs.Ranges.{IsDrawingRange, IsServingRange}
 use Rattle.slotctl.specs.declared.asked.Drawing.{Drawing}
+use Rattle.slotctl.specs.declared.asked.Serving.{Serving}
 
 pub unless_some : {T : Type 0} (o : Option T) (P : Type 0) (Q : T → Type 0) → o ≡ None → P → MatchOption o P Q
 unless_some o P Q e p = subst (λ w. MatchOption w P Q) (sym e) p
@@ -123,3 +124,27 @@ drawn rows seed ids steps runs m limit w c None has_seed has_ids has_steps has_r
 pub value_is : {T E : Type 0} (r : Result T E) (x : T) (P : T → Type 0) → result_ok r ≡ Some x → IfOk r P → P x
 value_is (Ok y) x P is p = subst P (same_Some y x is) p
 value_is (Err e) x P is p = absurd cc
+
+-- two worlds that are matched there are one
+same_world : (rows : List Row) (w u : WorldKind) → HasWorld rows w → HasWorld rows u → w ≡ u
+same_world rows w u h g = same_Some w u (sym h ∙ g)
+
+-- what is made of the matched config and numbers is the serving, where there is one
+pub served : (rows : List Row) (c : Config) (port workers count : ℕ) (o : Option Serving)
+    → IsConfigOf rows c → HasNumber rows (codes "port") port → HasNumber rows (codes "workers") workers → HasNumber rows (codes "count") count
+    → IfSome o (λ s. (s.config ≡ c) × (s.port ≡ port) × (s.workers ≡ workers) × (s.count ≡ count)) → (IsSome o ↔ IsServingRange c.world port workers count)
+    → MatchOption o ((s : Serving) → IsServingOf rows s → ⊥) (IsServingOf rows)
+served rows c port workers count (Some s) config has_port has_workers has_count values range = record {
+  config = subst (λ (x : Config). IsConfigOf rows x) (sym values.0) config;
+  port = subst (λ x. HasNumber rows (codes "port") x) (sym values.1) has_port;
+  workers = subst (λ x. HasNumber rows (codes "workers") x) (sym values.2) has_workers;
+  count = subst (λ x. HasNumber rows (codes "count") x) (sym values.3) has_count;
+}
+served rows c port workers count None config has_port has_workers has_count values range = λ s h.
+    let same_port : s.port ≡ port = same_number rows (codes "port") s.port port h.port has_port in
+    let same_workers : s.workers ≡ workers = same_number rows (codes "workers") s.workers workers h.workers has_workers in
+    let same_count : s.count ≡ count = same_number rows (codes "count") s.count count h.count has_count in
+    let same_kind : s.config.world ≡ c.world = same_world rows s.config.world c.world h.config.world config.world in
+    let fits = s.in_range in
+    let bad : false ≡ true = range.1 (rw (same_port, same_workers, same_count, same_kind) at fits) in
+    cc

@@ -12,8 +12,9 @@ use Rattle.rename_core.specs.declared.config.WorldKind.{WorldKind}
 use Rattle.rename_core.specs.declared.config.WorldKind.TheVariants.{Splitter, Grid, Rename, Tree}
 use Rattle.slotctl.specs.CommandLine.{slotctl_app}
 use Rattle.slotctl.specs.declared.asked.Ask.{Ask}
-use Rattle.slotctl.specs.declared.asked.Ask.TheVariants.{Play, Check, Draw}
+use Rattle.slotctl.specs.declared.asked.Ask.TheVariants.{Play, Check, Draw, Serve}
 use Rattle.slotctl.specs.declared.asked.Drawing.{Drawing}
+use Rattle.slotctl.specs.declared.asked.Serving.{Serving}
 use Rattle.slotctl.specs.declared.misuse.Misuse.{Misuse}
 use Rattle.slotctl.specs.declared.misuse.Misuse.TheVariants.{Help, Words, Memory}
 
@@ -38,7 +39,7 @@ HasNumber rows id n = (text : List ℕ) × (one_of id rows ≡ Some text) × Wri
 abbrev pub HasWorld : List Row → WorldKind → Type 0
 HasWorld rows world = option_and_then world_named (first_of (codes "world") rows) ≡ Some world
 
--- the config that the options of `play` give: the world's name and the numbers as clap matched them, each number in its
+-- the config that the options of `play` and of `serve` give: the world's name and the numbers as clap matched them, each number in its
 -- range
 pub record IsConfigOf (rows : List Row) (c : Config) : Type 0 where
   pub world : HasWorld rows c.world
@@ -58,11 +59,19 @@ pub record IsDrawingOf (rows : List Row) (d : Drawing) : Type 0 where
   pub limit : HasNumber rows (codes "limit") d.config.limit
   pub k : d.config.k ≡ 4
 
+-- the serving that the options of `serve` give, as clap matched them, each number in its range
+pub record IsServingOf (rows : List Row) (s : Serving) : Type 0 where
+  pub config : IsConfigOf rows s.config
+  pub port : HasNumber rows (codes "port") s.port
+  pub workers : HasNumber rows (codes "workers") s.workers
+  pub count : HasNumber rows (codes "count") s.count
+
 -- the subcommand that clap met, with what it matched there, asks for this
 abbrev pub IsAsked : Option (List ℕ × List Row) → Ask → Type 0
 IsAsked met (Play config) = (rows : List Row) × (met ≡ Some (codes "play", rows)) × IsConfigOf rows config
 IsAsked met Check = (rows : List Row) × (met ≡ Some (codes "check", rows))
 IsAsked met (Draw drawing) = (rows : List Row) × (met ≡ Some (codes "draw", rows)) × IsDrawingOf rows drawing
+IsAsked met (Serve serving) = (rows : List Row) × (met ≡ Some (codes "serve", rows)) × IsServingOf rows serving
 
 -- the words ask for this: its options are those that clap matched in the words, or the defaults
 abbrev pub AsksFor : List (List ℕ) → Ask → Type 0

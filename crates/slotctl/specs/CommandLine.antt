@@ -57,8 +57,25 @@ steps_option = needed_option (codes "steps") 0 1000000
 abbrev pub runs_option : Rule
 runs_option = number_option (codes "runs") 0 1000 (codes "0")
 
+-- `--port NUMBER`, of 16 bits, or 0; `--workers NUMBER`, from 1 to 16, or 2; `--count NUMBER`, from 1 to 1,000,000, or 1
+abbrev pub port_option : Rule
+port_option = number_option (codes "port") 0 65535 (codes "0")
+
+abbrev pub workers_option : Rule
+workers_option = number_option (codes "workers") 1 16 (codes "2")
+
+abbrev pub count_option : Rule
+count_option = number_option (codes "count") 1 1000000 (codes "1")
+
+-- a subcommand with a world and all its sizes
+abbrev pub config_app : List ℕ → App
+config_app name = with_rule (with_rule (with_rule (with_rule (new_app name) world_option) m_option) k_option) limit_option
+
 abbrev pub play_app : App
-play_app = with_rule (with_rule (with_rule (with_rule (new_app (codes "play")) world_option) m_option) k_option) limit_option
+play_app = config_app (codes "play")
+
+abbrev pub serve_app : App
+serve_app = with_rule (with_rule (with_rule (config_app (codes "serve")) port_option) workers_option) count_option
 
 -- what `draw` has to be told
 abbrev pub draw_needs_app : App
@@ -75,4 +92,4 @@ check_app = new_app (codes "check")
 abbrev pub slotctl_app : App
 slotctl_app =
     let program = new_app (codes "slotctl") in
-    with_subcommand (with_subcommand (with_subcommand (record program { top = record program.top { subcommand_required = true } }) play_app.top) check_app.top) draw_app.top
+    with_subcommand (with_subcommand (with_subcommand (with_subcommand (record program { top = record program.top { subcommand_required = true } }) play_app.top) check_app.top) draw_app.top) serve_app.top

@@ -1,5 +1,5 @@
 -- what is done for the words of a command line
-use Rattle.std.specs.Prelude.{◌≡◌, ◌⊎◌, ◌<◌, ℕ, zero, suc, List, Option, Result, Ok, Err, IfOk, IfErr}
+use Rattle.std.specs.Prelude.{◌≡◌, ◌⊎◌, ◌<◌, Bool, true, false, ℕ, zero, suc, List, Option, Result, Ok, Err, IfOk, IfErr}
 use Rattle.std.specs.Io.KnownBytes.{Appends}
 use Rattle.drawn_schedules.specs.Runs.{HasDrawn, HasDrawnPart}
 use Rattle.drawn_schedules.specs.Schedule.{schedule}
@@ -11,17 +11,19 @@ use Rattle.schedule_player.specs.declared.fault.Fault.TheVariants.{Write, Memory
 use Rattle.schedule_player.specs.declared.summary.Summary.{Summary}
 use Rattle.schedule_player.specs.Written.{HasPartOf}
 use Rattle.slotctl.specs.declared.asked.Ask.{Ask}
-use Rattle.slotctl.specs.declared.asked.Ask.TheVariants.{Play, Check, Draw}
+use Rattle.slotctl.specs.declared.asked.Ask.TheVariants.{Play, Check, Draw, Serve}
 use Rattle.slotctl.specs.declared.asked.Drawing.{Drawing}
 use Rattle.slotctl.specs.declared.failure.Failure.{Failure}
 use Rattle.slotctl.specs.declared.failure.Failure.TheVariants as failure
 use Rattle.slotctl.specs.declared.misuse.Misuse.{Misuse}
+use Rattle.slotctl.specs.declared.outcome.Outcome.{Outcome}
+use Rattle.slotctl.specs.declared.outcome.Outcome.TheVariants as outcome
 use Rattle.slotctl.specs.Checked.{IsChecked}
 use Rattle.slotctl.specs.Statuses.{status_after}
 
 -- a status is answered, and a fault is a failure
-abbrev pub outcome_of : Result ℕ Fault → Result ℕ Failure
-outcome_of (Ok status) = Ok status
+abbrev pub outcome_of : Result ℕ Fault → Result Outcome Failure
+outcome_of (Ok status) = Ok (outcome.Ended status)
 outcome_of (Err fault) = Err (failure.Fault fault)
 
 -- what is drawn: the lines of a schedule, or those of runs
@@ -41,15 +43,34 @@ pub record IsDrawnBy {W : Type 0} (d : Drawing) (writing : Writing W) (w w' : W)
   pub memory : result ≡ Err Memory → IsPartDrawn d.runs d (writing.contents w) (writing.contents w')
   pub only : IfErr result (λ fault. (fault ≡ Write) ⊎ (fault ≡ Memory))
 
--- what was asked for is done, and answers this status: a config is played, with the theorem of a run; or a record is checked; or
--- nothing is read, and a drawing is written
+-- connections are to be served
+abbrev pub is_served : Ask → Bool
+is_served (Play config) = false
+is_served Check = false
+is_served (Draw drawing) = false
+is_served (Serve serving) = true
+
+-- what was asked for, which is not to serve, is done, and answers this status: a config is played, with the theorem of a
+-- run; or a record is checked; or nothing is read, and a drawing is written
 abbrev pub IsWorked : {R W : Type 0} → Ask → Reading R → Writing W → R → R → W → W → Result ℕ Fault → Type 0
 IsWorked (Play config) reading writing r r' w w' status =
     (played : Result Summary Fault) × (status ≡ status_after played) × IsPlayed (IsTalk config) (IsTalk config) config.world reading writing r r' w w' played
 IsWorked Check reading writing r r' w w' status = IsChecked reading writing r r' w w' status
 IsWorked (Draw drawing) reading writing r r' w w' status = (r' ≡ r) × IsDrawnBy drawing writing w w' status
+IsWorked (Serve serving) reading writing r r' w w' status = ⊥
+
+-- it is done so, and this is the outcome
+abbrev pub HasWorked : {R W : Type 0} → Ask → Reading R → Writing W → R → R → W → W → Result Outcome Failure → Type 0
+HasWorked ask reading writing r r' w w' result = (status : Result ℕ Fault) × (result ≡ outcome_of status) × IsWorked ask reading writing r r' w w' status
+
+-- to serve is left, with nothing read or written
+abbrev pub IsDoneFor : {R W : Type 0} → Ask → Reading R → Writing W → R → R → W → W → Result Outcome Failure → Type 0
+IsDoneFor (Play config) reading writing r r' w w' result = HasWorked (Play config) reading writing r r' w w' result
+IsDoneFor Check reading writing r r' w w' result = HasWorked Check reading writing r r' w w' result
+IsDoneFor (Draw drawing) reading writing r r' w w' result = HasWorked (Draw drawing) reading writing r r' w w' result
+IsDoneFor (Serve serving) reading writing r r' w w' result = (result ≡ Ok (outcome.Serve serving)) × (r' ≡ r) × (w' ≡ w)
 
 -- where the words ask for nothing that is done, nothing is read or written; what they ask for is done
-abbrev pub IsDone : {R W : Type 0} → Reading R → Writing W → R → R → W → W → Result Ask Misuse → Result ℕ Failure → Type 0
+abbrev pub IsDone : {R W : Type 0} → Reading R → Writing W → R → R → W → W → Result Ask Misuse → Result Outcome Failure → Type 0
 IsDone reading writing r r' w w' (Err misuse) result = (result ≡ Err (failure.Misuse misuse)) × (r' ≡ r) × (w' ≡ w)
-IsDone reading writing r r' w w' (Ok ask) result = (status : Result ℕ Fault) × (result ≡ outcome_of status) × IsWorked ask reading writing r r' w w' status
+IsDone reading writing r r' w w' (Ok ask) result = IsDoneFor ask reading writing r r' w w' result

@@ -6,3 +6,7 @@ use Rattle.desk.specs.Desk.{gives_names}
 -- the seed has 64 bits, the identities are 1 to 16, the steps at most 1,000,000, the runs at most 1,000, and names are given in the world
 abbrev pub IsDrawingRange : ℕ → ℕ → ℕ → ℕ → WorldKind → Type 0
 IsDrawingRange seed ids steps runs world = (seed < 2 ^ 64) × (1 ≤ ids) × (ids ≤ 16) × (steps ≤ 1000000) × (runs ≤ 1000) × (gives_names world ≡ true)
+
+-- the port has 16 bits, there are 1 to 16 workers and 1 to 1,000,000 connections, and names are given in the world
+abbrev pub IsServingRange : WorldKind → ℕ → ℕ → ℕ → Type 0
+IsServingRange world port workers count = (port ≤ 65535) × (1 ≤ workers) × (workers ≤ 16) × (1 ≤ count) × (count ≤ 1000000) × (gives_names world ≡ true)

@@ -12,6 +12,7 @@ status_of (failure.Misuse (Help text)) = 0
 status_of (failure.Misuse (Words text)) = 2
 status_of (failure.Misuse Memory) = 3
 status_of (failure.Fault fault) = 3
+status_of (failure.Server fault) = 3
 
 -- a run that came to its end is done, with status 0; a fault of it is told
 abbrev pub status_after : Result Summary Fault → Result ℕ Fault

@@ -1,7 +1,7 @@
 //! What the program can be asked for.
 
 ghost use Rattle.std.specs.Prelude.{◌≡◌, ◌≤◌, IfSome, IsSome, ◌↔◌};
-ghost use Rattle.slotctl.specs.Ranges.{IsDrawingRange};
+ghost use Rattle.slotctl.specs.Ranges.{IsDrawingRange, IsServingRange};
 
 use rename_core::WorldKind;
 use schedule_player::Config;
@@ -15,6 +15,8 @@ pub enum Ask {
     Check,
     /// Drawn schedules.
     Draw(Drawing),
+    /// Connections that are served.
+    Serve(Serving),
 }
 
 /// The schedules that are drawn: the schedule of a seed as its lines, or runs of it and of the seeds after it.
@@ -51,6 +53,42 @@ impl Drawing {
                 steps,
                 runs,
                 config,
+            }),
+        }
+    }
+}
+
+/// The connections that are served, over one hall.
+#[derive(Clone, Copy, Drop)]
+pub struct Serving {
+    /// The world of the hall, in which names are given, and its sizes.
+    pub config: Config,
+    /// The port that is listened on, at most 65,535; with 0 any that is free.
+    pub port: u64,
+    /// How many are served at once, from 1 to 16.
+    pub workers: u64,
+    /// How many are served, from 1 to 1,000,000.
+    pub count: u64,
+    ghost in_range: { IsServingRange config.world port workers count },
+}
+
+impl Serving {
+    /// A serving of these values; none where one of them is outside its range.
+    pub fn new(config: Config, port: u64, workers: u64, count: u64) -> Option<Serving>
+        ensures values { IfSome result (λ s. (s.config ≡ config) × (s.port ≡ port) × (s.workers ≡ workers) × (s.count ≡ count)) }
+        ensures range { IsSome result ↔ IsServingRange config.world port workers count }
+    {
+        if 65_535 < port || workers < 1 || 16 < workers || count < 1 || 1_000_000 < count {
+            return None;
+        }
+        match config.world {
+            WorldKind::Splitter => None,
+            WorldKind::Grid => None,
+            WorldKind::Rename | WorldKind::Tree => Some(Serving {
+                config,
+                port,
+                workers,
+                count,
             }),
         }
     }

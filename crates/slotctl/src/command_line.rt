@@ -3,7 +3,7 @@
 ghost use Rattle.std.specs.Prelude.{◌≡◌, false, IfOk};
 ghost use Rattle.clap.specs.Words.{app_of, rule_of};
 ghost use Rattle.clap.specs.declared.builder.command.Command.TheViews.{out-Command};
-ghost use Rattle.slotctl.specs.CommandLine.{check_app, draw_app, draw_needs_app, limit_option, m_option, needed_option, number_option, play_app, slotctl_app, world_option};
+ghost use Rattle.slotctl.specs.CommandLine.{check_app, config_app, draw_app, draw_needs_app, limit_option, m_option, needed_option, number_option, play_app, serve_app, slotctl_app, world_option};
 
 use clap::builder::ValueParser;
 use clap::{Arg, ArgAction, Command};
@@ -87,17 +87,33 @@ fn limit_option<'a>(alloc: Global) -> Arg<'a>
     )
 }
 
+// A subcommand with a world and all its sizes.
+fn config_command<'a>(
+    alloc: Global,
+    name: &'a str,
+    about: &'a str,
+) -> Result<Command<'a>, AllocError>
+    ensures app { IfOk result (λ c. app_of c ≡ config_app name.now) }
+    ensures local { IfOk result (λ c. (out-Command c).has_globals ≡ false) }
+{
+    Command::new(alloc, name)
+        .about(about)
+        .arg(world_option(alloc))?
+        .arg(m_option(alloc))?
+        .arg(number_option(alloc, "k", 1, 64, "4", "the size of the pool, from 1 to 64"))?
+        .arg(limit_option(alloc))
+}
+
 // The subcommand `play` with its options.
 fn play_command<'a>(alloc: Global) -> Result<Command<'a>, AllocError>
     ensures app { IfOk result (λ c. app_of c ≡ play_app) }
     ensures local { IfOk result (λ c. (out-Command c).has_globals ≡ false) }
 {
-    Command::new(alloc, "play")
-        .about("Plays the commands of the standard input, and writes a reply to each")
-        .arg(world_option(alloc))?
-        .arg(m_option(alloc))?
-        .arg(number_option(alloc, "k", 1, 64, "4", "the size of the pool, from 1 to 64"))?
-        .arg(limit_option(alloc))
+    config_command(
+        alloc,
+        "play",
+        "Plays the commands of the standard input, and writes a reply to each",
+    )
 }
 
 // What `draw` has to be told.
@@ -147,16 +163,54 @@ fn check_command<'a>(alloc: Global) -> Command<'a>
     )
 }
 
+// The subcommand `serve` with its options.
+fn serve_command<'a>(alloc: Global) -> Result<Command<'a>, AllocError>
+    ensures app { IfOk result (λ c. app_of c ≡ serve_app) }
+    ensures local { IfOk result (λ c. (out-Command c).has_globals ≡ false) }
+{
+    config_command(
+        alloc,
+        "serve",
+        "Serves the commands of connections to 127.0.0.1, over one hall",
+    )?
+    .arg(number_option(
+        alloc,
+        "port",
+        0,
+        65_535,
+        "0",
+        "the port, or 0 for one that is free",
+    ))?
+    .arg(number_option(
+        alloc,
+        "workers",
+        1,
+        16,
+        "2",
+        "how many connections are served at once, from 1 to 16",
+    ))?
+    .arg(number_option(
+        alloc,
+        "count",
+        1,
+        1_000_000,
+        "1",
+        "how many connections are served, from 1 to 1000000",
+    ))
+}
+
 /// The program with its subcommands, one of which has to be given.
 pub fn slotctl_command<'a>(alloc: Global) -> Result<Command<'a>, AllocError>
     ensures { IfOk result (λ c. app_of c ≡ slotctl_app) }
 {
     let play = play_command(alloc)?;
     let draw = draw_command(alloc)?;
+    let serve = serve_command(alloc)?;
     Command::new(alloc, "slotctl")
         .about("Plays schedules of shared-memory algorithms, one access a step")
         .subcommand_required(true)
         .subcommand(play)?
         .subcommand(check_command(alloc))?
-        .subcommand(draw)
+        .subcommand(draw)?
+        .subcommand(serve)
 }

@@ -5,6 +5,7 @@ ghost use Rattle.slotctl.specs.Statuses.{status_of};
 
 use crate::misuse::Misuse;
 use schedule_player::Fault;
+use slot_server::ServerFault;
 use thiserror::Error;
 
 /// Why the program did nothing, or did not come to its end. Its `Display` is the text for the user.
@@ -16,6 +17,9 @@ pub enum Failure {
     /// A fault of the input, of the output or of memory.
     #[error("slotctl: {0}\n")]
     Fault(#[from] Fault),
+    /// A fault of what serves connections.
+    #[error("slotctl: {0}\n")]
+    Server(#[from] ServerFault),
 }
 
 impl Failure {
@@ -28,6 +32,7 @@ impl Failure {
             Failure::Misuse(Misuse::Words(_)) => 2,
             Failure::Misuse(Misuse::Memory) => 3,
             Failure::Fault(_) => 3,
+            Failure::Server(_) => 3,
         }
     }
 }

@@ -1,8 +1,9 @@
 //! The program `slotctl`: plays schedules of shared-memory algorithms, one access a step.
 //!
 //! `slotctl play --world splitter --m 2` reads commands from the standard input, one a line, and writes a reply to each to
-//! the standard output. The words of the command line are read by `ask`, and what they ask for is done by `work`, over any
-//! reader and writer; `program` is both, with what is told and the status. The status is 0 where it was done and for help, 2 where the words are refused, and 3 at a fault or
+//! the standard output. `slotctl serve` answers the commands of connections over one hall. The words of the command line are
+//! read by `ask`, and what they ask for is done by `work`, over any reader and writer, but to serve; `program` is both, with what
+//! is told and the status, and `main` alone serves. The status is 0 where it was done and for help, 2 where the words are refused, and 3 at a fault or
 //! for want of memory; at 2 and 3 a text on the standard error says why.
 #![tactic(auto)]
 
@@ -11,7 +12,9 @@ mod checking;
 mod command_line;
 mod failure;
 mod misuse;
+mod outcome;
 mod program;
+mod serving;
 #[cfg(test)]
 mod tests;
 mod words;
@@ -19,10 +22,13 @@ mod working;
 
 use failure::Failure;
 use misuse::Misuse;
+use outcome::Outcome;
 use schedule_player::Tried;
 use std::env;
 use std::io::ErrorKind;
+use std::marker::Brand;
 use std::process::ExitCode;
+use std::sync::ledger::Blank;
 
 // The words of the command line.
 fn command_words(rt: &HostRuntime) -> Result<Vec<String>, Misuse> {
@@ -35,20 +41,35 @@ fn command_words(rt: &HostRuntime) -> Result<Vec<String>, Misuse> {
 }
 
 fn main(rt: HostRuntime) -> ExitCode {
+    let alloc = rt.alloc();
     let mut output = Tried::new(rt.stdout());
     let mut errors = rt.stderr();
-    let status = match command_words(&rt) {
+    let outcome = match command_words(&rt) {
         Ok(words) => {
             let mut input = Tried::new(rt.stdin());
             program::program(
-                rt.alloc(),
+                alloc,
                 words.as_slice(),
                 &mut input,
                 &mut output,
                 &mut errors,
             )
         }
-        Err(misuse) => program::report(Failure::Misuse(misuse), &mut output, &mut errors),
+        Err(misuse) => Outcome::Ended(program::report(
+            Failure::Misuse(misuse),
+            &mut output,
+            &mut errors,
+        )),
+    };
+    let status = match outcome {
+        Outcome::Ended(status) => status,
+        Outcome::Serve(serving) => {
+            let blank = Blank::new(1_000_001);
+            match serving::serve::<Brand, _, _>(&rt, alloc, serving, &mut output, blank) {
+                Ok(()) => 0,
+                Err(failure) => program::report(failure, &mut output, &mut errors),
+            }
+        }
     };
     ExitCode::from(status)
 }

@@ -10,8 +10,10 @@ ghost use Rattle.slotctl.specs.declared.asked.Ask.{Ask};
 ghost use Rattle.slotctl.specs.declared.misuse.Misuse.{Misuse};
 ghost use Rattle.slotctl.specs.Statuses.{status_of};
 
+use crate::asked::Ask;
 use crate::failure::Failure;
 use crate::misuse::Misuse;
+use crate::outcome::Outcome;
 use crate::{words, working};
 use schedule_player::{Fault, Sink, Source};
 use std::alloc::Global;
@@ -20,30 +22,30 @@ use std::io::Write;
 
 /// Does what the words of a command line ask for, the first of which is the program's name, and answers the status of the
 /// program: 0 where it was done and for help, 2 where the words are refused, 3 at a fault or for want of memory. Help goes
-/// to `output` beside what is done, every other text to `errors`.
+/// to `output` beside what is done, every other text to `errors`. To serve is left to the caller.
 pub fn program<S: AsStr, R: Source, W: Sink, E: Write>(
     alloc: Global,
     words: &[S],
     input: &mut R,
     output: &mut W,
     errors: &mut E,
-) -> u8
+) -> Outcome
     requires reads { R.calls input.old < 2 ^ 64 }
     requires writes { W.calls output.old < 2 ^ 64 }
 {
     match done(alloc, words, input, output) {
-        Ok(status) => status,
-        Err(failure) => report(failure, output, errors),
+        Ok(outcome) => outcome,
+        Err(failure) => Outcome::Ended(report(failure, output, errors)),
     }
 }
 
-// Does what the words ask for.
+// Does what the words ask for, but to serve.
 fn done<S: AsStr, R: Source, W: Sink>(
     alloc: Global,
     words: &[S],
     input: &mut R,
     output: &mut W,
-) -> Result<u8, Failure>
+) -> Result<Outcome, Failure>
     requires reads { R.calls input.old < 2 ^ 64 }
     requires writes { W.calls output.old < 2 ^ 64 }
     ensures { (asked : Result Ask Misuse) × IsAnswer (map S.text words.now) (fault_of slotctl_app (map S.text words.now)) asked
@@ -53,8 +55,11 @@ fn done<S: AsStr, R: Source, W: Sink>(
         Ok(asked) => asked,
         Err(misuse) => return Err(Failure::Misuse(misuse)),
     };
+    if let Ask::Serve(serving) = asked {
+        return Ok(Outcome::Serve(serving));
+    }
     match working::work(alloc, asked, input, output) {
-        Ok(status) => Ok(status),
+        Ok(status) => Ok(Outcome::Ended(status)),
         Err(fault) => Err(Failure::Fault(fault)),
     }
 }

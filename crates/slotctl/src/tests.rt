@@ -14,7 +14,7 @@ use std::test::Fail;
 fn chosen(alloc: Global, words: &[&str]) -> Result<Option<(WorldKind, u64, u64, u64)>, Misuse> {
     match ask(alloc, words)? {
         Ask::Play(config) => Ok(Some((config.world, config.m, config.k, config.limit))),
-        Ask::Check | Ask::Draw(_) => Ok(None),
+        Ask::Check | Ask::Draw(_) | Ask::Serve(_) => Ok(None),
     }
 }
 
@@ -24,7 +24,7 @@ fn drawing(
     words: &[&str],
 ) -> Result<Option<(u64, u64, u64, u64, WorldKind)>, Misuse> {
     match ask(alloc, words)? {
-        Ask::Play(_) | Ask::Check => Ok(None),
+        Ask::Play(_) | Ask::Check | Ask::Serve(_) => Ok(None),
         Ask::Draw(d) => Ok(Some((d.seed, d.ids, d.steps, d.runs, d.config.world))),
     }
 }
@@ -397,13 +397,13 @@ fn a_write_fault_ends_the_run(rt: HostRuntime) -> Result<(), Fail> {
 }
 
 const HELP: &[u8] =
-    b"Plays schedules of shared-memory algorithms, one access a step\n\nUsage: slotctl <COMMAND>\n\nCommands:\n  play  Plays the commands of the standard input, and writes a reply to each\n  draw  Draws schedules, and writes one, or a line for each of many that are played\n  help  Print this message or the help of the given subcommand(s)\n\nOptions:\n  -h, --help  Print help\n";
+    b"Plays schedules of shared-memory algorithms, one access a step\n\nUsage: slotctl <COMMAND>\n\nCommands:\n  play   Plays the commands of the standard input, and writes a reply to each\n  draw   Draws schedules, and writes one, or a line for each of many that are played\n  serve  Serves the commands of connections to 127.0.0.1, over one hall\n  help   Print this message or the help of the given subcommand(s)\n\nOptions:\n  -h, --help  Print help\n";
 
 const PLAY_HELP: &[u8] =
     b"Plays the commands of the standard input, and writes a reply to each\n\nUsage: slotctl play [OPTIONS]\n\nOptions:\n      --world <NAME>    what is played: splitter, grid, rename or tree [default: rename]\n      --m <NUMBER>      the most participants, from 1 to 16 [default: 4]\n      --k <NUMBER>      the size of the pool, from 1 to 64 [default: 4]\n      --limit <NUMBER>  the most proposals of each participant, from 1 to 1000000 [default: 1000]\n  -h, --help            Print help\n";
 
 const NO_SUBCOMMAND: &[u8] =
-    b"error: 'slotctl' requires a subcommand but one was not provided\n  [subcommands: play, draw, help]\n\nUsage: slotctl <COMMAND>\n\nFor more information, try '--help'.\n";
+    b"error: 'slotctl' requires a subcommand but one was not provided\n  [subcommands: play, draw, serve, help]\n\nUsage: slotctl <COMMAND>\n\nFor more information, try '--help'.\n";
 
 const TOO_MANY: &[u8] =
     b"error: invalid value '17' for '--m <NUMBER>': 17 is not in 1..=16\n\nFor more information, try '--help'.\n";

@@ -4,13 +4,14 @@ ghost use Rattle.std.specs.Prelude.{◌≡◌, ℕ, ◌<◌, ◌^◌, MatchOptio
 ghost use Rattle.clap.specs.Words.{found_of, kind_of, rows_of, subcommand_rows_of};
 ghost use Rattle.clap.specs.Faults.{fault_of};
 ghost use Rattle.slotctl.specs.CommandLine.{slotctl_app};
-ghost use Rattle.slotctl.specs.Asked.{HasNumber, HasWorld, IsAnswer, IsAsked, IsConfigOf, IsDrawingOf, IsMisuseOf, IsRefusal, world_named};
+ghost use Rattle.slotctl.specs.Asked.{HasNumber, HasWorld, IsAnswer, IsAsked, IsConfigOf, IsDrawingOf, IsMisuseOf, IsRefusal, IsServingOf, world_named};
 ghost use Rattle.rename_core.specs.declared.config.Config.{Config};
 ghost use Rattle.rename_core.specs.declared.config.WorldKind.{WorldKind};
 ghost use Rattle.slotctl.specs.declared.asked.Drawing.{Drawing};
+ghost use Rattle.slotctl.specs.declared.asked.Serving.{Serving};
 ghost use Rattle.slotctl.specs.declared.asked.Ask.{Ask};
 
-use crate::asked::{Ask, Drawing};
+use crate::asked::{Ask, Drawing, Serving};
 use crate::command_line::slotctl_command;
 use crate::misuse::Misuse;
 use clap::error::ErrorKind;
@@ -47,8 +48,8 @@ fn number_given(matches: &ArgMatches<'_>, name: &str) -> Option<u64>
     matches.get_one::<u64>(name)
 }
 
-// What the options of `play` give, where they give something.
-fn play_given(matches: &ArgMatches<'_>) -> Option<Config>
+// The config that the options of `play` or of `serve` give, where they give one.
+fn config_given(matches: &ArgMatches<'_>) -> Option<Config>
     ensures { MatchOption result ((c : Config) → IsConfigOf (rows_of (found_of matches.now)) c → ⊥) (IsConfigOf (rows_of (found_of matches.now))) }
 {
     let world = world_given(matches)?;
@@ -76,14 +77,26 @@ fn draw_given(matches: &ArgMatches<'_>) -> Option<Drawing>
     Drawing::new(seed, ids, steps, runs, config)
 }
 
+// What the options of `serve` give, where they give something.
+fn serve_given(matches: &ArgMatches<'_>) -> Option<Serving>
+    ensures { MatchOption result ((s : Serving) → IsServingOf (rows_of (found_of matches.now)) s → ⊥) (IsServingOf (rows_of (found_of matches.now))) }
+{
+    let config = config_given(matches)?;
+    let port = number_given(matches, "port")?;
+    let workers = number_given(matches, "workers")?;
+    let count = number_given(matches, "count")?;
+    Serving::new(config, port, workers, count)
+}
+
 // What the matches ask for, where they ask for something.
 fn asked(matches: &ArgMatches<'_>) -> Option<Ask>
     ensures { MatchOption result ((a : Ask) → IsAsked (subcommand_rows_of matches.now) a → ⊥) (IsAsked (subcommand_rows_of matches.now)) }
 {
     match matches.subcommand() {
-        Some(("play", options)) => Some(Ask::Play(play_given(options)?)),
+        Some(("play", options)) => Some(Ask::Play(config_given(options)?)),
         Some(("check", _)) => Some(Ask::Check),
         Some(("draw", options)) => Some(Ask::Draw(draw_given(options)?)),
+        Some(("serve", options)) => Some(Ask::Serve(serve_given(options)?)),
         _ => None,
     }
 }

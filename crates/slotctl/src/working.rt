@@ -1,8 +1,8 @@
 //! What the program does, over any reader and writer.
 
-ghost use Rattle.std.specs.Prelude.{◌<◌, ◌^◌};
+ghost use Rattle.std.specs.Prelude.{◌≡◌, ◌<◌, ◌^◌, false};
 ghost use Rattle.schedule_player.specs.Played.{reading, writing};
-ghost use Rattle.slotctl.specs.Done.{IsWorked, IsDrawnBy};
+ghost use Rattle.slotctl.specs.Done.{IsWorked, IsDrawnBy, is_served};
 
 use crate::asked::{Ask, Drawing};
 use crate::checking::check_for;
@@ -37,15 +37,16 @@ fn draw_for<W: Sink, A: Allocator + Clone>(
 /// Does what was asked for, over this input and this output, and answers the status of the program: 0, but 1 where `check` says
 /// other than yes.
 ///
-/// `play` writes the replies to the commands that it reads; `check` reads to the end and writes a verdict; `draw` reads nothing. Answers `Fault::Read` where the reader failed
-/// or the limit of reads was reached, `Fault::Write` where the writer failed or took no byte, and `Fault::Memory` where memory
-/// was refused: by `play` with nothing read and nothing written, and by `check` with nothing written.
+/// `play` writes the replies to the commands that it reads; `check` reads to the end and writes a verdict; `draw` reads nothing.
+/// Answers `Fault::Read` where the reader failed or the limit of reads was reached, `Fault::Write` where the writer failed or took no byte, and `Fault::Memory` where memory
+/// was refused: by `play` with nothing read and nothing written, and by `check` with nothing written. To serve is not done here.
 pub fn work<R: Source, W: Sink>(
     alloc: Global,
     ask: Ask,
     reader: &mut R,
     writer: &mut W,
 ) -> Result<u8, Fault>
+    requires here { is_served ask ≡ false }
     requires reads { R.calls reader.old < 2 ^ 64 }
     requires writes { W.calls writer.old < 2 ^ 64 }
     ensures { IsWorked ask (reading R.remaining R.calls R.failed) (writing W.contents W.failed) reader.old reader.new writer.old writer.new result }
@@ -57,5 +58,6 @@ pub fn work<R: Source, W: Sink>(
         },
         Ask::Check => check_for(alloc, reader, writer),
         Ask::Draw(drawing) => draw_for(alloc, drawing, writer),
+        Ask::Serve(_) => unreachable!(),
     }
 }

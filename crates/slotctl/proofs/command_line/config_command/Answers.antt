@@ -1,13 +1,13 @@
-use Rattle.std.proofs.Common.{ap, ap₂, codes, false, ◌≡◌, ◌||◌, ◌∙◌}
+use Rattle.std.proofs.Common.{ap, ap₂, false, ◌≡◌, ◌||◌, ◌∙◌}
 use Rattle.std.proofs.lemmas.Result.{IfOk-weaker}
 use Rattle.clap.specs.Words.{app_of, with_rule, new_app}
 use Rattle.clap.specs.Simple.{app_of_fields}
 use Rattle.clap.specs.declared.builder.command.Command.TheViews.{out-Command}
-use Rattle.slotctl.proofs.command_line.play_command.Goals as goal
+use Rattle.slotctl.proofs.command_line.config_command.Goals as goal
 
 pub returns : goal.returns
 returns c =
-    let about_is : app_of c.about.result ≡ new_app (codes "play") = ap app_of_fields c.about.ensures ∙ c.new.ensures.app in
+    let about_is : app_of c.about.result ≡ new_app c.args.name.now = ap app_of_fields c.about.ensures ∙ c.new.ensures.app in
     let about_local : (out-Command c.about.result).has_globals ≡ false = ap (λ f. f.has_globals) c.about.ensures ∙ c.new.ensures.local in
     let first = c.in_ok-arg.ensures in
     let with_world = first.shape c.world_option.ensures.local ∙ ap₂ with_rule about_is c.world_option.ensures.rule in

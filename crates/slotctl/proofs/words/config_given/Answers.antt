@@ -1,7 +1,7 @@
 use Rattle.std.proofs.Common.{arith}
 use Rattle.clap.specs.Words.{found_of, rows_of}
 use Rattle.slotctl.proofs.ConfigLemmas.{made, unless_some}
-use Rattle.slotctl.proofs.words.play_given.Goals as goal
+use Rattle.slotctl.proofs.words.config_given.Goals as goal
 
 pub returns-in_err-world : goal.returns-in_err-world
 returns-in_err-world c = unless_some c.from_residual.result _ _ c.from_residual.ensures (λ given h. c.in_err-world.ensures given.world h.world)

@@ -1,0 +1,57 @@
+-- what a hall, and a clerk at its lock, may answer as services
+use Rattle.std.specs.Prelude.{◌≡◌, ◌⊎◌, List, [], ◌∷◌, length, Bool, true, false, if◌then◌else◌}
+use Rattle.step_memory.specs.declared.refusal.Refusal.{Refusal}
+use Rattle.step_memory.specs.declared.refusal.Refusal.TheVariants as refusal
+use Rattle.desk.specs.declared.event.Event.{Event}
+use Rattle.desk.specs.declared.exchange.Exchange.{Exchange}
+use Rattle.desk.specs.declared.reply.Reply.{Reply}
+use Rattle.desk.specs.declared.reply.Reply.TheVariants as reply
+use Rattle.desk.specs.Desk.{owner_reply}
+use Rattle.desk.specs.Replies.{is_refusal}
+use Rattle.schedule_player.specs.Requests.{Request}
+use Rattle.schedule_player.specs.Requests.Request.{Take, OwnerOf}
+use Rattle.schedule_player.specs.Turns.{Turn}
+use Rattle.schedule_player.specs.Turns.Turn.{Answered, Told, Ended, Misread}
+use Rattle.locked_world.specs.declared.kept.Kept.{Kept}
+use Rattle.locked_world.specs.Answers.{IsSomeAnswer, IsSomeOwner}
+use Rattle.locked_world.specs.Halls.{desk_of, HallMay}
+use Rattle.locked_world.specs.HallState.{HallState}
+use Rattle.locked_world.specs.Kepts.{Keeps}
+
+-- a hall takes an event by its rules, and tells who has a name with nothing changed
+abbrev pub HallServes : HallState → Request → Reply → HallState → Type 0
+HallServes h (Take e) r u = HallMay h e r u
+HallServes h (OwnerOf n) r u = (r ≡ owner_reply (desk_of h) n) × (u ≡ h)
+
+-- what some hall of a lawful history answers, at least as long as what the clerk had kept; or its own list could not grow
+abbrev pub IsClerkReply : List Kept → Event → Reply → Type 0
+IsClerkReply ks e r = IsSomeAnswer (length ks) e r ⊎ (r ≡ reply.Refused refusal.NoMemory)
+
+-- a clerk, by what it has kept: an accepted event is kept with its reply, a refused one changes nothing. Who has a name is
+-- told as some hall tells it
+abbrev pub ClerkServes : List Kept → Request → Reply → List Kept → Type 0
+ClerkServes ks (Take e) r new = IsClerkReply ks e r × Keeps ks e r new
+ClerkServes ks (OwnerOf n) r new = IsSomeOwner n r × (new ≡ ks)
+
+-- a growth was refused, or the history was full
+abbrev pub is_of_room : Refusal → Bool
+is_of_room refusal.NoMemory = true
+is_of_room refusal.HistoryFull = true
+is_of_room _ = false
+
+abbrev pub wants_room : Reply → Bool
+wants_room (reply.Refused why) = is_of_room why
+wants_room _ = false
+
+-- the turns that were not answered so
+abbrev pub with_room : List Turn → List Turn
+with_room [] = []
+with_room (Answered x ∷ ts) = if wants_room x.reply then with_room ts else Answered x ∷ with_room ts
+with_room (Told n r ∷ ts) = Told n r ∷ with_room ts
+with_room (Ended ∷ ts) = Ended ∷ with_room ts
+with_room (Misread bad ∷ ts) = Misread bad ∷ with_room ts
+
+-- the exchanges whose events were accepted
+abbrev pub accepted : List Exchange → List Exchange
+accepted [] = []
+accepted (x ∷ xs) = if is_refusal x.reply then accepted xs else x ∷ accepted xs

@@ -1,0 +1,63 @@
+//! A clerk at its lock, as a service.
+
+ghost use Rattle.std.specs.Prelude.{◌≡◌, true};
+ghost use Rattle.locked_world.specs.Serving.{ClerkServes};
+ghost use Rattle.locked_world.specs.ServingLaws.{clerk_answers};
+
+use crate::parts::{Clerk, HallLock};
+use desk::{Event, Reply, ShortReply};
+use schedule_player::Service;
+use std::marker::Model;
+use std::sync::Wait;
+use std::sync::ledger::Ledger;
+use step_memory::View;
+
+/// A clerk with its lock: it answers each event by one taking of the lock.
+#[derive(Drop)]
+pub struct ServingClerk<'a, L: Ledger> {
+    lock: &'a HallLock<L>,
+    clerk: Clerk<L>,
+}
+
+impl<'a, L: Ledger> Model for ServingClerk<'a, L> {
+    ghost use Rattle.std.specs.Prelude.{List};
+    ghost use Rattle.locked_world.specs.declared.kept.Kept.{Kept};
+
+    ghost Value = { List Kept };
+
+    ghost view = { λ s. s.clerk.kept.items };
+}
+
+impl<'a, L: Ledger> ServingClerk<'a, L> {
+    /// A clerk with its lock.
+    pub fn new(lock: &'a HallLock<L>, clerk: Clerk<L>) -> ServingClerk<'a, L>
+        ensures { result ≡ clerk.kept.items }
+    {
+        ServingClerk { lock, clerk }
+    }
+
+    /// The clerk.
+    pub fn into_clerk(self) -> Clerk<L>
+        ensures { result.kept.items ≡ self.entry }
+    {
+        let ServingClerk { lock: _, clerk } = self;
+        clerk
+    }
+}
+
+impl<'a, L: Ledger, R: Wait> Service<R> for ServingClerk<'a, L> {
+    ghost knows = { λ q. true };
+
+    ghost may = { ClerkServes };
+
+    ghost answers = { λ ks q known. clerk_answers ks q };
+
+    fn apply(&mut self, rt: &R, event: Event, view: &mut View) -> ShortReply {
+        let ServingClerk { lock, clerk } = self;
+        lock.apply(rt, clerk, event).shorten(view)
+    }
+
+    fn owner(&mut self, rt: &R, n: u64) -> Reply {
+        self.lock.owner(rt, n)
+    }
+}

@@ -1,0 +1,24 @@
+//! Why a server did not come to its end.
+
+use std::error::Error;
+use std::fmt;
+
+/// Why a server did not serve all its connections. A fault of one connection is none of these.
+#[derive(Clone, Copy, Debug, Drop, PartialEq, Eq)]
+pub enum ServerFault {
+    /// A growth was refused; the clerks are lost.
+    Memory = 3,
+    /// To listen or to accept failed.
+    Network = 4,
+}
+
+impl fmt::Display for ServerFault {
+    fn fmt<W: fmt::Write>(&self, f: &mut fmt::Formatter<W>) -> fmt::Result {
+        f.write_str(match self {
+            ServerFault::Memory => "no memory",
+            ServerFault::Network => "network fault",
+        })
+    }
+}
+
+impl Error for ServerFault {}

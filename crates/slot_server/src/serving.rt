@@ -1,0 +1,32 @@
+//! The command language over any service.
+
+ghost use Rattle.std.specs.Prelude.{◌≡◌, Err, ◌^◌, ◌<◌};
+ghost use Rattle.schedule_player.specs.Knows.{Knows};
+ghost use Rattle.schedule_player.specs.Played.{IsPlayed, reading, writing};
+ghost use Rattle.schedule_player.specs.Runs.{IsRunTo, CanRun};
+
+use schedule_player::{Fault, Service, Sink, Source, Summary, WorldKind, play_on};
+use std::alloc::Allocator;
+
+/// Answers the commands that a reader gives by a service, line by line, and writes the replies, one a line: as `play` does, of
+/// which it has the theorem. The command language is that of the worlds in which names are given. The replies to what one
+/// read gave are written before the next read.
+///
+/// `Fault::Memory` where it was refused, with nothing read, nothing written and the service as it was; `Fault::Read` where the
+/// reader failed or was read 2^40 times; `Fault::Write` where the writer failed or took nothing.
+pub fn serve_one<R, A: Allocator + Clone, I: Source, O: Sink, S: Service<R>>(
+    rt: &R,
+    alloc: A,
+    reader: &mut I,
+    writer: &mut O,
+    service: &mut S,
+) -> Result<Summary, Fault>
+    requires knows { Knows S.knows WorldKind.Rename }
+    requires reads { I.calls reader.old < 2 ^ 64 }
+    requires writes { O.calls writer.old < 2 ^ 64 }
+    ensures served { IsPlayed (IsRunTo S.may service.old service.new) (CanRun S.may service.old) WorldKind.Rename
+        (reading I.remaining I.calls I.failed) (writing O.contents O.failed) reader.old reader.new writer.old writer.new result }
+    ensures unchanged { result ≡ Err Fault.Memory → service.new ≡ service.old }
+{
+    play_on(alloc, rt, service, WorldKind::Rename, reader, writer)
+}

@@ -1,0 +1,12 @@
+//! How the program goes on.
+
+use crate::asked::Serving;
+
+/// What is left to do, once the words were read.
+#[derive(Clone, Copy, Drop)]
+pub enum Outcome {
+    /// Nothing: this is the status.
+    Ended(u8),
+    /// To serve connections.
+    Serve(Serving),
+}
