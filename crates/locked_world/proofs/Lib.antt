@@ -4,4 +4,5 @@ pub mod Keeping
 pub mod Places
 pub mod Marking
 pub mod Renames
+pub mod Naming
 pub mod Sent

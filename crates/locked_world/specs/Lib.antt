@@ -10,3 +10,5 @@ pub mod Kepts
 pub mod Answers
 pub mod Marks
 pub mod Renamed
+pub mod KeptNames
+pub mod Words

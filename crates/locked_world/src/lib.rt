@@ -40,6 +40,7 @@ pub mod kept_log;
 pub mod laws;
 pub mod lock;
 mod log;
+pub mod names;
 pub mod parts;
 pub mod rename;
 mod same;
@@ -50,7 +51,10 @@ pub use hall::Hall;
 pub use kept::Kept;
 pub use kept_log::KeptLog;
 pub use laws::law_of_hall;
+pub use names::{agrees, post_name};
 pub use parts::{Clerk, HallLock, Session};
 
+#[cfg(test)]
+mod board_tests;
 #[cfg(test)]
 mod tests;
