@@ -4,6 +4,7 @@ pub mod Keeping
 pub mod Places
 pub mod Marking
 pub mod Renames
+pub mod Naming
 pub mod Sent
 pub mod Staying
 pub mod Serves

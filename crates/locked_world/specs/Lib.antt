@@ -12,3 +12,5 @@ pub mod Marks
 pub mod Renamed
 pub mod Serving
 pub mod ServingLaws
+pub mod KeptNames
+pub mod Words

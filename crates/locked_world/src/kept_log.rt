@@ -1,18 +1,21 @@
 //! What a caller has kept, in order.
 
 ghost use Rattle.std.specs.Prelude.{◌≡◌, ◌++◌, [], ◌∷◌, length, slice_get, true, IfOk};
+ghost use Rattle.locked_world.specs.KeptNames.{name_given, name_kept};
 
 use crate::kept::Kept;
 use crate::log::Log;
+use desk::Reply;
 use std::alloc::Global;
 use std::marker::Model;
 use step_memory::NoMemory;
 
-/// Kept events in order: 48 bytes each, and their views apart.
+/// Kept events in order: 48 bytes each, and their views apart; and the first name among them.
 #[derive(Drop)]
 pub struct KeptLog {
     places: Vec<usize>,
     log: Log<Global>,
+    name: Option<u64>,
 }
 
 impl Model for KeptLog {
@@ -21,11 +24,22 @@ impl Model for KeptLog {
 
     ghost Value = { KeptState };
 
-    ghost use Rattle.locked_world.specs.KeptLogs.{kept_log_of};
+    ghost use Rattle.locked_world.specs.KeptLogs.{kept_log_of, side_by_side};
+    ghost use Rattle.locked_world.specs.KeptNames.{name_kept};
 
     ghost view = { λ l. kept_log_of l.places.items l.log.items (nat_lt (vec_len l.places) (vec_capacity l.places) && l.log.room) };
 
-    ghost invariant = { λ l. length l.places.items ≡ length l.log.items };
+    ghost invariant = { λ l. (length l.places.items ≡ length l.log.items) × (l.name ≡ name_kept (side_by_side l.places.items l.log.items)) };
+}
+
+/// The name that a reply gives.
+fn name_given(reply: &Reply) -> Option<u64>
+    ensures { result ≡ name_given reply.now }
+{
+    match reply {
+        Reply::Named(name, _) => Some(*name),
+        _ => None,
+    }
 }
 
 impl KeptLog {
@@ -37,6 +51,7 @@ impl KeptLog {
         Ok(KeptLog {
             places: Vec::new(alloc),
             log,
+            name: None,
         })
     }
 
@@ -60,6 +75,13 @@ impl KeptLog {
         })
     }
 
+    /// The first name among what was kept.
+    pub(crate) fn name(&self) -> Option<u64>
+        ensures { result ≡ name_kept self.now.items }
+    {
+        self.name
+    }
+
     /// Makes room for one more, and tells whether there is.
     pub(crate) fn reserve(&mut self) -> bool
         ensures same { self.new.items ≡ self.old.items }
@@ -73,6 +95,7 @@ impl KeptLog {
         requires { self.old.room ≡ true }
         ensures { self.new.items ≡ self.old.items ++ kept ∷ [] }
     {
+        self.name = self.name.or(name_given(&kept.exchange.reply));
         self.places.push_reserved(kept.place);
         self.log.push_reserved(kept.exchange);
     }

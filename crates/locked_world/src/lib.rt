@@ -41,6 +41,7 @@ pub mod kept_log;
 pub mod laws;
 pub mod lock;
 mod log;
+pub mod names;
 pub mod parts;
 pub mod rename;
 mod same;
@@ -52,8 +53,11 @@ pub use hall::Hall;
 pub use kept::Kept;
 pub use kept_log::KeptLog;
 pub use laws::{law_of_hall, law_of_serving};
+pub use names::{agrees, post_name};
 pub use parts::{Clerk, HallLock, Session};
 pub use serving_clerk::ServingClerk;
 
+#[cfg(test)]
+mod board_tests;
 #[cfg(test)]
 mod tests;

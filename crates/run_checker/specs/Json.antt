@@ -49,6 +49,9 @@ pub record SaysSizes (d : Data) (world : WorldKind) (m k limit : ℕ) : Type 0 w
   pub k_is : number_at (codes "k") d ≡ Some k
   pub limit_is : number_at (codes "limit") d ≡ Some limit
 
+abbrev pub SaysNoSizes : Data → Type 0
+SaysNoSizes d = (world : WorldKind) (m k limit : ℕ) → SaysSizes d world m k limit → ⊥
+
 -- it says of what a run is, each size in its range
 abbrev pub IsHeader : Data → Config → Type 0
 IsHeader d c = SaysSizes d c.world c.m c.k c.limit

@@ -1,7 +1,8 @@
 -- what a checker says of a line, and keeps after it
-use Rattle.std.specs.Prelude.{◌≡◌, ℕ, ◌≤◌, List, [], ◌∷◌, ◌++◌, length, take, slice_get, Option, Some, None, Result, Ok, Err}
+use Rattle.std.specs.Prelude.{◌≡◌, ℕ, ◌<◌, ◌≤◌, ◌^◌, Bool, List, [], ◌∷◌, ◌++◌, length, take, slice_get, Option, Some, None, Result, Ok, Err}
 use Rattle.desk.specs.declared.event.Event.{Event}
-use Rattle.rename_core.specs.RenameObject.{RenameTerms}
+use Rattle.bit_allocator.specs.PoolObject.{no_entry, no_probe, number_in}
+use Rattle.rename_core.specs.RenameObject.{RenameTerms, no_begin, no_step}
 use Rattle.run_checker.specs.declared.checker.Checker.{Checker}
 use Rattle.run_checker.specs.declared.fault.Fault.{Fault}
 use Rattle.run_checker.specs.declared.fault.Fault.TheVariants.{Unlawful, NoMemory}
@@ -10,8 +11,8 @@ use Rattle.run_checker.specs.declared.reason.Reason.{Reason}
 use Rattle.run_checker.specs.declared.reason.Reason.TheVariants as reason
 use Rattle.run_checker.specs.declared.told.Told.{Told}
 use Rattle.run_checker.specs.ObjectRun.{DeskObject}
-use Rattle.run_checker.specs.Lines.{after_line, Follow}
-use Rattle.run_checker.specs.Reasons.{Keeps, KeepsAll, IsLeastReason}
+use Rattle.run_checker.specs.Lines.{after_line, Follow, AreLinesOfRun}
+use Rattle.run_checker.specs.Reasons.{Keeps, KeepsAll, IsLeastReason, why_of}
 use Rattle.run_checker.specs.Standing.{HoldsNames}
 use Rattle.run_checker.specs.Stays.{HoldsSlots}
 
@@ -37,6 +38,36 @@ IsJudged terms o l (Ok done) new = IsTaken terms o l new
 IsJudged terms o l (Err (Unlawful why)) new = IsLeastReason terms o l.event l.told why
 IsJudged terms o l (Err NoMemory) new = Unit {0}
 
+-- what is kept is of some objects of which this holds: then what is said of the line, and kept after it, is right
+abbrev pub Judges : (RenameTerms → DeskObject → Type 0) → Checker → Line → Result (Unit {0}) Fault → Checker → Type 0
+Judges P old l said new = (terms : RenameTerms) (o : DeskObject) → HoldsDesk terms old o → P terms o → IsJudged terms o l said new
+
+-- the same, of objects with fewer moments than a sequence number counts
+abbrev pub JudgesWithRoom : (RenameTerms → DeskObject → Type 0) → Checker → Line → Result (Unit {0}) Fault → Checker → Type 0
+JudgesWithRoom P old l said new = (terms : RenameTerms) (o : DeskObject) → HoldsDesk terms old o → P terms o → o.names.last < 2 ^ 62 → IsJudged terms o l said new
+
+abbrev pub HasRoom : RenameTerms → DeskObject → Type 0
+HasRoom terms o = o.names.last < 2 ^ 62
+
+-- no refusal is due where this identity begins, steps, enters or probes, or gives back or uses its number
+abbrev pub MayBegin : ℕ → RenameTerms → DeskObject → Type 0
+MayBegin id terms o = no_begin terms o.names id ≡ None
+
+abbrev pub MayStep : ℕ → RenameTerms → DeskObject → Type 0
+MayStep id terms o = no_step o.names id ≡ None
+
+abbrev pub MayEnter : ℕ → RenameTerms → DeskObject → Type 0
+MayEnter id terms o = no_entry o.slots.pool id ≡ None
+
+abbrev pub MayProbe : ℕ → RenameTerms → DeskObject → Type 0
+MayProbe id terms o = no_probe o.slots.pool id ≡ None
+
+abbrev pub HoldsNumber : ℕ → RenameTerms → DeskObject → Type 0
+HoldsNumber id terms o = why_of (number_in o.slots.pool id) ≡ None
+
+abbrev pub IsDueSo : Event → Told → RenameTerms → DeskObject → Type 0
+IsDueSo e t terms o = IsRefusedAsDue terms o e t
+
 -- these lines were taken: each can follow those before it, and what is kept is of the objects after them
 pub record HasTaken (terms : RenameTerms) (size : ℕ) (lines : List Line) (c : Checker) : Type 0 where
   pub object : DeskObject
@@ -60,3 +91,17 @@ pub record IsFirstFault (terms : RenameTerms) (size : ℕ) (lines : List Line) (
   pub line : Line
   pub at : slice_get lines k ≡ Some line
   pub fault : IsFaultAfter terms size (take k lines) line why
+
+-- no line was taken yet, where the sizes are in range
+abbrev pub HasTakenNone : ℕ → ℕ → ℕ → Bool → Checker → Type 0
+HasTakenNone most limit size grows c =
+    (terms : RenameTerms) → terms ≡ record { most = most; limit = limit; grows = grows } → most ≤ 16 → 1 ≤ limit → limit ≤ 1000000 → 1 ≤ size → size ≤ 64 → HasTaken terms size [] c
+
+-- after any lines that were taken this one is, or it is the first at fault
+abbrev pub TakesMore : Line → Checker → Option Reason → Checker → Type 0
+TakesMore l old said new = (terms : RenameTerms) (size : ℕ) (lines : List Line) → HasTaken terms size lines old → length lines < 2 ^ 62 → TakesOn terms size lines l said new
+
+-- the first line that can't follow, or that the lines are those of a run
+abbrev pub IsFirstFaultOrNone : RenameTerms → ℕ → List Line → Option (ℕ × Reason) → Type 0
+IsFirstFaultOrNone terms size lines None = AreLinesOfRun terms size lines
+IsFirstFaultOrNone terms size lines (Some fault) = IsFirstFault terms size lines fault.0 fault.1

@@ -3,6 +3,7 @@ use Rattle.std.specs.Prelude.{◌≡◌, ◌≢◌, ℕ, ◌+◌, ◌-◌, ◌<�
 use Rattle.std.specs.Cmp.Lexicographic.{pointwise}
 use Rattle.std.specs.Bool.{beq}
 use Rattle.std.specs.HashMap.{get}
+use Rattle.step_memory.specs.SetAt.{set_at}
 use Rattle.run_checker.specs.declared.moments.Moments.{Moments}
 
 -- whether two or more propose this number
@@ -34,3 +35,11 @@ pub record HoldsMoments (m : Moments) (last : ℕ) (rows : ℕ → List ℕ) : T
 -- what is kept of when numbers turned, after a number that is crowded in just one of two moments was noted
 abbrev pub turned_at : List ℕ → List ℕ → List ℕ → ℕ → ℕ → List ℕ
 turned_at turned now next n at = if beq (crowded n now) (crowded n next) then turned else slice_set turned n at
+
+-- this holds of any rows whose tables these are
+abbrev pub OfMoments : Moments → (ℕ → (ℕ → List ℕ) → Type 0) → Type 0
+OfMoments m P = (last : ℕ) (rows : ℕ → List ℕ) → HoldsMoments m last rows → P last rows
+
+-- the rows with one more, in which this seat proposes this number
+abbrev pub with_row : ℕ → ℕ → ℕ → (ℕ → List ℕ) → ℕ → List ℕ
+with_row last seat number rows = set_at rows (last + 1) (slice_set (rows last) seat number)

@@ -4,6 +4,7 @@ use Rattle.serde_json.specs.Data.{Data}
 use Rattle.serde_json.specs.Read.{read}
 use Rattle.rename_core.specs.declared.config.Config.{Config}
 use Rattle.rename_core.specs.declared.config.WorldKind.{WorldKind}
+use Rattle.desk.specs.declared.event.Event.{Event}
 use Rattle.schedule_player.specs.declared.command.Command.TheVariants as command
 use Rattle.schedule_player.specs.Meaning.{meaning}
 use Rattle.run_checker.specs.declared.line.Line.{Line}
@@ -14,6 +15,10 @@ use Rattle.run_checker.specs.ReplyText.{told_in}
 pub record IsJson (bytes : List ℕ) (d : Data) : Type 0 where
   pub utf8 : IsUtf8 bytes
   pub reads : read bytes ≡ Some d
+
+-- the text is this event's line, in the world of this kind
+abbrev pub IsEventOf : WorldKind → List ℕ → Event → Type 0
+IsEventOf kind text e = meaning kind text ≡ Ok (command.Event e)
 
 -- the value says an event, in the world of this kind, and what is told of its reply
 pub record SaysLine (kind : WorldKind) (d : Data) (l : Line) : Type 0 where

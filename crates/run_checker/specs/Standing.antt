@@ -2,7 +2,8 @@
 use Rattle.std.specs.Prelude.{◌≡◌, ℕ, ◌<◌, ◌≤◌, ◌==◌, if◌then◌else◌, Bool, false, List, [], ◌∷◌, length, Option, Some, None, is_some, slice_index}
 use Rattle.step_memory.specs.declared.participant.Participant.{Participant}
 use Rattle.step_memory.specs.Participant.{participant_of, program_of}
-use Rattle.rename_core.specs.RenameObject.{RenameTerms, RenameObject}
+use Rattle.rename_core.specs.RenameObject.{RenameTerms, RenameObject, new_object, after_step}
+use Rattle.rename_core.specs.declared.reply.Reply.TheVariants as step
 use Rattle.run_checker.specs.declared.moments.Moments.{Moments}
 use Rattle.run_checker.specs.declared.standing.Standing.{Standing}
 use Rattle.run_checker.specs.declared.standing.Turn.{Turn}
@@ -104,3 +105,15 @@ pub record HoldsNames (terms : RenameTerms) (s : Names) (o : RenameObject) : Typ
   pub low : 1 ≤ terms.limit
   pub few : terms.limit ≤ 1000000
   pub room : length s.participants.items ≤ terms.most
+
+-- this holds of any object that what is kept is of
+abbrev pub OfNames : Names → (RenameTerms → RenameObject → Type 0) → Type 0
+OfNames s P = (terms : RenameTerms) (o : RenameObject) → HoldsNames terms s o → P terms o
+
+-- nobody has begun, where the sizes are in range
+abbrev pub HoldsNone : ℕ → ℕ → Names → Type 0
+HoldsNone most limit s = (terms : RenameTerms) → terms.most ≡ most → terms.limit ≡ limit → most ≤ 16 → 1 ≤ limit → limit ≤ 1000000 → HoldsNames terms s new_object
+
+-- the object after an identity has proposed a number
+abbrev pub proposed_by : ℕ → ℕ → RenameObject → RenameObject
+proposed_by id number o = after_step o id (step.Proposed number)

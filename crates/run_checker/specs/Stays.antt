@@ -1,8 +1,11 @@
 -- what is kept of the pool and the slots
-use Rattle.std.specs.Prelude.{◌≡◌, ℕ, ◌-◌, ◌<◌, ◌≤◌, max, map, length, Option, Some, None, is_some}
+use Rattle.std.specs.Prelude.{◌≡◌, ℕ, ◌-◌, ◌<◌, ◌≤◌, max, map, length, Option, Some, None, Ok, is_some}
 use Rattle.step_memory.specs.Participant.{program_of}
+use Rattle.bit_allocator.specs.Calls.Call.{Probed, Left}
 use Rattle.bit_allocator.specs.PoolObject.{competes}
-use Rattle.slot_array.specs.SlotsObject.{SlotsObject}
+use Rattle.bit_allocator.specs.declared.probe.Probe.TheVariants as probe
+use Rattle.slot_array.specs.SlotCalls.SlotCall.{Pooled, Stored}
+use Rattle.slot_array.specs.SlotsObject.{SlotsObject, slots_after}
 use Rattle.run_checker.specs.declared.stays.Stay.{Stay}
 use Rattle.run_checker.specs.declared.stays.Stays.{Stays}
 use Rattle.run_checker.specs.Standing.{Apart}
@@ -30,3 +33,20 @@ pub record HoldsSlots (s : Stays) (o : SlotsObject ℕ) : Type 0 where
   pub apart : Apart s.competitors.items
   pub values : o.values ≡ s.values.items
   pub many : length o.values ≡ o.pool.size
+
+-- this holds of any pool and slots that what is kept is of
+abbrev pub OfSlots : Stays → (SlotsObject ℕ → Type 0) → Type 0
+OfSlots s P = (o : SlotsObject ℕ) → HoldsSlots s o → P o
+
+-- the pool and the slots after an identity has missed a bit, got a number, left one, or stored a value
+abbrev pub missed_by : ℕ → SlotsObject ℕ → SlotsObject ℕ
+missed_by id o = slots_after o (Pooled (Probed id (Ok probe.Missed)))
+
+abbrev pub got_by : ℕ → ℕ → SlotsObject ℕ → SlotsObject ℕ
+got_by id number o = slots_after o (Pooled (Probed id (Ok (probe.Got number))))
+
+abbrev pub left_by : ℕ → ℕ → SlotsObject ℕ → SlotsObject ℕ
+left_by id number o = slots_after o (Pooled (Left id (Ok number)))
+
+abbrev pub stored_by : ℕ → ℕ → SlotsObject ℕ → SlotsObject ℕ
+stored_by id value o = slots_after o (Stored id value (Ok tt))

@@ -11,7 +11,7 @@ ghost use Rattle.run_checker.specs.ObjectRun.{DeskObject};
 ghost use Rattle.run_checker.specs.Told.{is_step, is_reply_of};
 ghost use Rattle.run_checker.specs.Reasons.{why_of, refusal_due, is_told_rightly, is_refused_as_due};
 ghost use Rattle.run_checker.specs.Lines.{line};
-ghost use Rattle.run_checker.specs.Judged.{HoldsDesk, HasTaken, TakesOn, IsRefusedAsDue, IsJudged};
+ghost use Rattle.run_checker.specs.Judged.{HoldsDesk, Judges, JudgesWithRoom, MayBegin, MayStep, MayEnter, MayProbe, HoldsNumber, IsDueSo, HasRoom, HasTakenNone, TakesMore};
 
 use crate::fault::Fault;
 use crate::line::Line;
@@ -62,7 +62,7 @@ impl Checker {
         size: u64,
         grows: bool,
     ) -> Result<Checker, AllocError>
-        ensures { IfOk result (λ c. (terms : RenameTerms) → terms ≡ record { most = most; limit = limit; grows = grows } → most ≤ 16 → 1 ≤ limit → limit ≤ 1000000 → 1 ≤ size → size ≤ 64 → HasTaken terms size [] c) }
+        ensures { IfOk result (λ c. HasTakenNone most limit size grows c) }
     {
         Ok(Checker {
             names: Names::new(alloc, most, limit)?,
@@ -95,7 +95,7 @@ impl Checker {
 
     /// A participant begins that may.
     fn begin(&mut self, id: u64) -> Result<(), Fault>
-        ensures { (terms : RenameTerms) (o : DeskObject) → HoldsDesk terms self.old o → no_begin terms o.names id ≡ None → IsJudged terms o (line (event.Begin id) told.Ok) result self.new }
+        ensures { Judges (MayBegin id) self.old (line (event.Begin id) told.Ok) result self.new }
     {
         self.names.begin(id)?;
         Ok(())
@@ -103,7 +103,7 @@ impl Checker {
 
     /// A participant that may step is told a place.
     fn place(&mut self, id: u64, place: Place) -> Result<(), Fault>
-        ensures { (terms : RenameTerms) (o : DeskObject) → HoldsDesk terms self.old o → no_step o.names id ≡ None → IsJudged terms o (line (event.Step id) (told.Place place)) result self.new }
+        ensures { Judges (MayStep id) self.old (line (event.Step id) (told.Place place)) result self.new }
     {
         if !self.names.place(id, place) {
             return Err(Fault::Unlawful(Reason::Place));
@@ -113,7 +113,7 @@ impl Checker {
 
     /// A participant that may step is told that it has proposed.
     fn propose(&mut self, id: u64, number: u64) -> Result<(), Fault>
-        ensures { (terms : RenameTerms) (o : DeskObject) → HoldsDesk terms self.old o → no_step o.names id ≡ None → o.names.last < 2 ^ 62 → IsJudged terms o (line (event.Step id) (told.Proposed number)) result self.new }
+        ensures { JudgesWithRoom (MayStep id) self.old (line (event.Step id) (told.Proposed number)) result self.new }
     {
         if !self.names.may_propose(id, number) {
             return Err(Fault::Unlawful(Reason::Proposal));
@@ -124,7 +124,7 @@ impl Checker {
 
     /// A participant that may step is told a view.
     fn see(&self, id: u64, view: &Pairs) -> Result<(), Fault>
-        ensures { (terms : RenameTerms) (o : DeskObject) → HoldsDesk terms self.now o → no_step o.names id ≡ None → IsJudged terms o (line (event.Step id) (told.Saw view.now)) result self.now }
+        ensures { Judges (MayStep id) self.now (line (event.Step id) (told.Saw view.now)) result self.now }
     {
         if !self.names.has_turns(id) {
             return Err(Fault::Unlawful(Reason::Proposal));
@@ -137,7 +137,7 @@ impl Checker {
 
     /// A participant that may step is told a name.
     fn name(&mut self, id: u64, name: u64) -> Result<(), Fault>
-        ensures { (terms : RenameTerms) (o : DeskObject) → HoldsDesk terms self.old o → no_step o.names id ≡ None → IsJudged terms o (line (event.Step id) (told.Named name)) result self.new }
+        ensures { Judges (MayStep id) self.old (line (event.Step id) (told.Named name)) result self.new }
     {
         if !self.names.may_name(id, name) {
             return Err(Fault::Unlawful(Reason::Name));
@@ -148,7 +148,7 @@ impl Checker {
 
     /// A participant that may step is told that it is spent.
     fn spend(&mut self, id: u64) -> Result<(), Fault>
-        ensures { (terms : RenameTerms) (o : DeskObject) → HoldsDesk terms self.old o → no_step o.names id ≡ None → IsJudged terms o (line (event.Step id) told.Spent) result self.new }
+        ensures { Judges (MayStep id) self.old (line (event.Step id) told.Spent) result self.new }
     {
         if !self.names.is_last_turn(id) {
             return Err(Fault::Unlawful(Reason::Proposal));
@@ -162,7 +162,7 @@ impl Checker {
 
     /// An identity enters that may.
     fn enter(&mut self, id: u64) -> Result<(), Fault>
-        ensures { (terms : RenameTerms) (o : DeskObject) → HoldsDesk terms self.old o → no_entry o.slots.pool id ≡ None → IsJudged terms o (line (event.Enter id) told.Ok) result self.new }
+        ensures { Judges (MayEnter id) self.old (line (event.Enter id) told.Ok) result self.new }
     {
         self.stays.enter(id)?;
         Ok(())
@@ -170,7 +170,7 @@ impl Checker {
 
     /// An identity that may probe is told that it missed.
     fn miss(&mut self, id: u64) -> Result<(), Fault>
-        ensures { (terms : RenameTerms) (o : DeskObject) → HoldsDesk terms self.old o → no_probe o.slots.pool id ≡ None → IsJudged terms o (line (event.Probe id) told.Missed) result self.new }
+        ensures { Judges (MayProbe id) self.old (line (event.Probe id) told.Missed) result self.new }
     {
         if !self.stays.may_miss(id) {
             return Err(Fault::Unlawful(Reason::Pool));
@@ -181,7 +181,7 @@ impl Checker {
 
     /// An identity that may probe is told a number.
     fn get(&mut self, id: u64, number: u64) -> Result<(), Fault>
-        ensures { (terms : RenameTerms) (o : DeskObject) → HoldsDesk terms self.old o → no_probe o.slots.pool id ≡ None → IsJudged terms o (line (event.Probe id) (told.Got number)) result self.new }
+        ensures { Judges (MayProbe id) self.old (line (event.Probe id) (told.Got number)) result self.new }
     {
         if !self.stays.is_free(number) {
             return Err(Fault::Unlawful(Reason::Pool));
@@ -192,7 +192,7 @@ impl Checker {
 
     /// The holder of a number is told which one it gives back.
     fn leave(&mut self, id: u64, number: u64) -> Result<(), Fault>
-        ensures { (terms : RenameTerms) (o : DeskObject) → HoldsDesk terms self.old o → why_of (number_in o.slots.pool id) ≡ None → IsJudged terms o (line (event.Leave id) (told.Left number)) result self.new }
+        ensures { Judges (HoldsNumber id) self.old (line (event.Leave id) (told.Left number)) result self.new }
     {
         let Ok(held) = self.stays.number_of(id) else {
             return Err(Fault::Unlawful(Reason::Refusal));
@@ -206,7 +206,7 @@ impl Checker {
 
     /// The holder of a number puts a value.
     fn put(&mut self, id: u64, value: u64) -> Result<(), Fault>
-        ensures { (terms : RenameTerms) (o : DeskObject) → HoldsDesk terms self.old o → why_of (number_in o.slots.pool id) ≡ None → IsJudged terms o (line (event.Put id value) told.Ok) result self.new }
+        ensures { Judges (HoldsNumber id) self.old (line (event.Put id value) told.Ok) result self.new }
     {
         let Ok(held) = self.stays.number_of(id) else {
             return Err(Fault::Unlawful(Reason::Refusal));
@@ -217,7 +217,7 @@ impl Checker {
 
     /// The holder of a number is told the value in its slot.
     fn fetch(&self, id: u64, value: u64) -> Result<(), Fault>
-        ensures { (terms : RenameTerms) (o : DeskObject) → HoldsDesk terms self.now o → why_of (number_in o.slots.pool id) ≡ None → IsJudged terms o (line (event.Get id) (told.Value value)) result self.now }
+        ensures { Judges (HoldsNumber id) self.now (line (event.Get id) (told.Value value)) result self.now }
     {
         let Ok(held) = self.stays.number_of(id) else {
             return Err(Fault::Unlawful(Reason::Refusal));
@@ -230,7 +230,7 @@ impl Checker {
 
     /// What a step is told changes the renaming object.
     fn step(&mut self, id: u64, told: &Told) -> Result<(), Fault>
-        ensures { (terms : RenameTerms) (o : DeskObject) → HoldsDesk terms self.old o → IsRefusedAsDue terms o (event.Step id) told.now → o.names.last < 2 ^ 62 → IsJudged terms o (line (event.Step id) told.now) result self.new }
+        ensures { JudgesWithRoom (IsDueSo (event.Step id) told.now) self.old (line (event.Step id) told.now) result self.new }
     {
         match told {
             Told::Place(place) => self.place(id, *place),
@@ -244,7 +244,7 @@ impl Checker {
 
     /// What a probe is told changes the pool.
     fn probe(&mut self, id: u64, told: &Told) -> Result<(), Fault>
-        ensures { (terms : RenameTerms) (o : DeskObject) → HoldsDesk terms self.old o → IsRefusedAsDue terms o (event.Probe id) told.now → IsJudged terms o (line (event.Probe id) told.now) result self.new }
+        ensures { Judges (IsDueSo (event.Probe id) told.now) self.old (line (event.Probe id) told.now) result self.new }
     {
         match told {
             Told::Missed => self.miss(id),
@@ -255,7 +255,7 @@ impl Checker {
 
     /// What is told of an event, of whose command it is a reply and which is refused as it is due, changes the objects.
     fn follow(&mut self, event: Event, told: &Told) -> Result<(), Fault>
-        ensures { (terms : RenameTerms) (o : DeskObject) → HoldsDesk terms self.old o → IsRefusedAsDue terms o event told.now → o.names.last < 2 ^ 62 → IsJudged terms o (line event told.now) result self.new }
+        ensures { JudgesWithRoom (IsDueSo event told.now) self.old (line event told.now) result self.new }
     {
         match event {
             Event::Begin(id) => match told {
@@ -285,7 +285,7 @@ impl Checker {
 
     /// Takes a line, by the objects that are kept.
     fn take_line(&mut self, line: &Line) -> Result<(), Fault>
-        ensures { (terms : RenameTerms) (o : DeskObject) → HoldsDesk terms self.old o → o.names.last < 2 ^ 62 → IsJudged terms o line.now result self.new }
+        ensures { Judges HasRoom self.old line.now result self.new }
     {
         if !line.told.is_reply_of(line.event) {
             return Err(Fault::Unlawful(Reason::Reply));
@@ -300,7 +300,7 @@ impl Checker {
     /// Takes a line, and tells nothing, where it can follow those before it; else tells the least reason for which it can't.
     /// An error where a growth was refused. After a reason or an error the checker is of no more use.
     pub fn judge(&mut self, line: &Line) -> Result<Option<Reason>, AllocError>
-        ensures { IfOk result (λ r. (terms : RenameTerms) (size : ℕ) (lines : List Line) → HasTaken terms size lines self.old → length lines < 2 ^ 62 → TakesOn terms size lines line.now r self.new) }
+        ensures { IfOk result (λ r. TakesMore line.now self.old r self.new) }
     {
         match self.take_line(line) {
             Ok(()) => Ok(None),

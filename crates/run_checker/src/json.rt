@@ -4,7 +4,7 @@ ghost use Rattle.std.specs.Prelude.{◌≡◌, ℕ, List, MatchOption, option_ma
 ghost use Rattle.rename_core.specs.declared.config.WorldKind.{WorldKind};
 ghost use Rattle.rename_core.specs.declared.config.Config.{Config};
 ghost use Rattle.serde_json.specs.View.{view};
-ghost use Rattle.run_checker.specs.Json.{keys_of, text_at, number_at, world_in, AreTexts, HasFormat, SaysSizes, IsHeader};
+ghost use Rattle.run_checker.specs.Json.{keys_of, text_at, number_at, world_in, AreTexts, HasFormat, SaysSizes, SaysNoSizes, IsHeader};
 
 use crate::words::is_word;
 use rename_core::{Config, WorldKind};
@@ -89,7 +89,7 @@ fn is_header(value: &Value) -> bool
 
 /// What a header says.
 fn said_sizes(value: &Value) -> Option<Sizes>
-    ensures { MatchOption result ((w : WorldKind) (m k l : ℕ) → SaysSizes (view value.now) w m k l → ⊥) (λ s. SaysSizes (view value.now) s.world s.m s.k s.limit) }
+    ensures { MatchOption result (SaysNoSizes (view value.now)) (λ s. SaysSizes (view value.now) s.world s.m s.k s.limit) }
 {
     if !is_header(value) {
         return None;

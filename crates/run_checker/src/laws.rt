@@ -22,12 +22,15 @@ pub fn law_of_reasons()
 pub fn law_of_records()
     ensures run { (terms : RenameTerms) (size : ℕ) (lines : List Line) → AreLinesOfRun terms size lines → (o : DeskObject) × Follow terms size lines o }
     ensures follow { (terms : RenameTerms) (size : ℕ) (lines : List Line) (o : DeskObject) → Follow terms size lines o → AreLinesOfRun terms size lines }
-    ensures fault { (terms : RenameTerms) (size : ℕ) (before : List Line) (l : Line) (more : List Line) (why : Reason) → IsFaultAfter terms size before l why → AreLinesOfRun terms size (before ++ l ∷ more) → ⊥ }
+    ensures fault { (terms : RenameTerms) (size : ℕ) (before : List Line) (l : Line) (more : List Line) (why : Reason) →
+        IsFaultAfter terms size before l why → AreLinesOfRun terms size (before ++ l ∷ more) → ⊥ }
 {}
 
 /// A law, which runs nothing: the exchanges of a desk's run, which also keeps its counts of steps, are ones that the objects can
 /// make; so their lines are those of a run.
 pub fn law_of_desk_runs()
-    ensures object { (terms : RenameTerms) (bounds : SnapBounds) (size : ℕ) (r : List Exchange) → IsDeskRun terms bounds size r → IsObjectRun terms size r }
-    ensures lines { (terms : RenameTerms) (bounds : SnapBounds) (size : ℕ) (r : List Exchange) → IsDeskRun terms bounds size r → AreLinesOfRun terms size (map line_of r) }
+    ensures object { (terms : RenameTerms) (bounds : SnapBounds) (size : ℕ) (r : List Exchange) →
+        IsDeskRun terms bounds size r → IsObjectRun terms size r }
+    ensures lines { (terms : RenameTerms) (bounds : SnapBounds) (size : ℕ) (r : List Exchange) →
+        IsDeskRun terms bounds size r → AreLinesOfRun terms size (map line_of r) }
 {}

@@ -1,4 +1,30 @@
-//! Tells whether a record is a run.
+//! Tells whether a record is a run, from the objects alone: nothing is played.
+//!
+//! A record is lines of JSON: a header, which says of what a run it is, and then an event with its reply as each line. `check`
+//! decides of its bytes. What is proved (`IsVerdict`), where no growth is refused:
+//!
+//! - `Yes`: the first line is a header, the others, at most 1,000,000, spell events with replies, and those are a run of the
+//!   renaming object, the pool and the slots, for some choice of the views that are not written.
+//! - `No` of a line and a reason: the lines before it are read and follow one another; it is read too and can't follow, for this
+//!   reason of seven and for no lesser one.
+//! - `BadRecord` of a line: the lines before it are read and follow one another, and it is none of a record.
+//!
+//! So the first fault decides, of whichever kind. That a line can follow exactly where no reason fits is `law_of_reasons`; that a
+//! list is one of a run exactly where each of its lines can follow, `law_of_records`; that what a desk answers is always one,
+//! `law_of_desk_runs`. `first_fault` judges lines that were read already, and `Checker::judge` one line after the other. `read_header`,
+//! `read_line`, `read_reply` and `next_line` read exactly what the definitions of `specs/` say.
+//!
+//! `NoMemory` says nothing of the record, and no clause says when a growth is refused: that a verdict comes where memory is given is
+//! tested.
+//!
+//! A caller:
+//!
+//! ```text
+//! let bytes = b"{\"format\":\"slot-record\",\"k\":4,\"limit\":1000,\"m\":1,\"version\":1,\"world\":\"rename\"}\n\
+//!               {\"command\":\"begin 7\",\"reply\":\"ok\"}\n\
+//!               {\"command\":\"step 7\",\"reply\":\"named 1\"}\n";
+//! check(alloc, bytes);                    // No(3, Reason::Name): 7 has proposed nothing
+//! ```
 #![tactic(auto)]
 
 pub mod checker;
@@ -33,5 +59,7 @@ pub use reply_text::read_reply;
 pub use told::Told;
 pub use verdict::Verdict;
 
+#[cfg(test)]
+mod record_tests;
 #[cfg(test)]
 mod tests;

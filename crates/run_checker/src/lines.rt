@@ -3,7 +3,7 @@
 ghost use Rattle.std.specs.Prelude.{◌≡◌, ◌≤◌, ◌↔◌, ℕ, List, length, IfOk, MatchOption, None};
 ghost use Rattle.run_checker.specs.Config.{terms_of};
 ghost use Rattle.run_checker.specs.Lines.{AreLinesOfRun};
-ghost use Rattle.run_checker.specs.Judged.{IsFirstFault};
+ghost use Rattle.run_checker.specs.Judged.{IsFirstFaultOrNone};
 
 use crate::checker::Checker;
 use crate::line::Line;
@@ -19,7 +19,7 @@ pub fn first_fault(
     lines: &[Line],
 ) -> Result<Option<(usize, Reason)>, AllocError>
     requires { length lines.now ≤ 1000000 }
-    ensures fault { IfOk result (λ r. MatchOption r (AreLinesOfRun (terms_of config) config.k lines.now) (λ f. IsFirstFault (terms_of config) config.k lines.now f.0 f.1)) }
+    ensures fault { IfOk result (IsFirstFaultOrNone (terms_of config) config.k lines.now) }
 
     // None is found exactly where the lines are those of a run.
     ensures none { IfOk result (λ r. (r ≡ None) ↔ AreLinesOfRun (terms_of config) config.k lines.now) }

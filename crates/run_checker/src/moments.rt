@@ -2,7 +2,7 @@
 
 ghost use Rattle.std.specs.Prelude.{◌≡◌, ℕ, List, ◌+◌, ◌<◌, ◌≤◌, ◌==◌, ◌^◌, ◌↔◌, true, false, nat_lt, replicate, count_by, slice_set, slice_index, IfOk, OnOk, IsTrue};
 ghost use Rattle.step_memory.specs.SetAt.{set_at};
-ghost use Rattle.run_checker.specs.Moments.{crowded, turned_at, SomeSince, HoldsMoments};
+ghost use Rattle.run_checker.specs.Moments.{crowded, turned_at, SomeSince, HoldsMoments, OfMoments, with_row};
 
 use std::alloc::{AllocError, Global};
 use std::collections::HashMap;
@@ -99,14 +99,14 @@ impl Moments {
 
     /// Whether in some moment from `since` on two or more propose a number.
     pub fn was_crowded(&self, since: usize, number: u8) -> bool
-        ensures { (last : ℕ) (rows : ℕ → List ℕ) → HoldsMoments self.now last rows → since ≤ last → number < 32 → IsTrue result ↔ SomeSince (λ i. crowded number (rows i) ≡ true) since last }
+        ensures { OfMoments self.now (λ last rows. since ≤ last → number < 32 → IsTrue result ↔ SomeSince (λ i. crowded number (rows i) ≡ true) since last) }
     {
         is_crowded(&self.present, number) || since < self.turned(number)
     }
 
     /// Whether in some moment from `since` on at most one proposes a number.
     pub fn was_quiet(&self, since: usize, number: u8) -> bool
-        ensures { (last : ℕ) (rows : ℕ → List ℕ) → HoldsMoments self.now last rows → since ≤ last → number < 32 → IsTrue result ↔ SomeSince (λ i. crowded number (rows i) ≡ false) since last }
+        ensures { OfMoments self.now (λ last rows. since ≤ last → number < 32 → IsTrue result ↔ SomeSince (λ i. crowded number (rows i) ≡ false) since last) }
     {
         !is_crowded(&self.present, number) || since < self.turned(number)
     }
@@ -126,7 +126,8 @@ impl Moments {
     /// One more moment: the last one, with this number at a seat. An error where a growth was refused; then the moments are
     /// of no more use.
     pub fn propose(&mut self, seat: usize, number: u8) -> Result<(), AllocError>
-        ensures { OnOk result ((last : ℕ) (rows : ℕ → List ℕ) → last < 2 ^ 62 → HoldsMoments self.old last rows → HoldsMoments self.new (last + 1) (set_at rows (last + 1) (slice_set (rows last) seat number))) }
+        ensures { OnOk result ((last : ℕ) (rows : ℕ → List ℕ) → last < 2 ^ 62 → HoldsMoments self.old last rows →
+            HoldsMoments self.new (last + 1) (with_row last seat number rows)) }
     {
         let next = with_number(&self.present, seat, number);
         let at = self.last.saturating_add(1);

@@ -8,7 +8,7 @@ ghost use Rattle.rename_core.specs.RenameObject.{RenameTerms, RenameObject, new_
 ghost use Rattle.rename_core.specs.declared.reply.Reply.TheVariants as step;
 ghost use Rattle.step_memory.specs.View.{IsAbove, IsRising};
 ghost use Rattle.run_checker.specs.Rows.{HasPair, LacksPair, TellsMoments};
-ghost use Rattle.run_checker.specs.Standing.{is_held, turns_in, HoldsNames};
+ghost use Rattle.run_checker.specs.Standing.{is_held, turns_in, HoldsNames, OfNames, HoldsNone, proposed_by};
 ghost use Rattle.run_checker.specs.Reasons.{MayBeNamed};
 
 use crate::moments::{Moments, NUMBERS, Row, is_crowded, with_number};
@@ -89,7 +89,7 @@ fn is_rising(pairs: &[(u64, u64)]) -> bool
 impl Names {
     /// Nobody has begun. An error where a growth was refused.
     pub fn new(alloc: Global, most: u64, limit: u64) -> Result<Names, AllocError>
-        ensures { IfOk result (λ s. (terms : RenameTerms) → terms.most ≡ most → terms.limit ≡ limit → most ≤ 16 → 1 ≤ limit → limit ≤ 1000000 → HoldsNames terms s new_object) }
+        ensures { IfOk result (λ s. HoldsNone most limit s) }
     {
         Ok(Names {
             participants: Vec::new(alloc),
@@ -132,7 +132,7 @@ impl Names {
 
     /// An identity begins that may.
     pub fn begin(&mut self, id: u64) -> Result<(), AllocError>
-        ensures { OnOk result ((terms : RenameTerms) (o : RenameObject) → HoldsNames terms self.old o → no_begin terms o id ≡ None → HoldsNames terms self.new (after o (Began id (Ok tt)))) }
+        ensures { OnOk result (OfNames self.old (λ terms o. no_begin terms o id ≡ None → HoldsNames terms self.new (after o (Began id (Ok tt))))) }
     {
         let turn = Turn {
             seat: self.participants.len(),
@@ -157,7 +157,7 @@ impl Names {
     /// Gives an identity that may step a place; tells whether it may have this one. Else nothing changes.
     pub fn place(&mut self, id: u64, place: Place) -> bool
         ensures told { (terms : RenameTerms) (o : RenameObject) → HoldsNames terms self.old o → no_step o id ≡ None → IsTrue result ↔ IsFreePlace o id place }
-        ensures after { (terms : RenameTerms) (o : RenameObject) → HoldsNames terms self.old o → no_step o id ≡ None → IsTrue result → HoldsNames terms self.new (after_step o id (step.Placed place)) }
+        ensures after { OfNames self.old (λ terms o. no_step o id ≡ None → IsTrue result → HoldsNames terms self.new (after_step o id (step.Placed place))) }
     {
         let Some(standing) = find(&self.participants, id) else {
             return false;
@@ -209,7 +209,8 @@ impl Names {
 
     /// An identity that may propose a number does. An error where a growth was refused; then what is kept is of no more use.
     pub fn propose(&mut self, id: u64, number: u64) -> Result<(), AllocError>
-        ensures { OnOk result ((terms : RenameTerms) (o : RenameObject) → HoldsNames terms self.old o → no_step o id ≡ None → o.last < 2 ^ 62 → MayPropose terms o id number → HoldsNames terms self.new (after_step o id (step.Proposed number))) }
+        ensures { OnOk result (OfNames self.old (λ terms o. no_step o id ≡ None → o.last < 2 ^ 62 → MayPropose terms o id number →
+            HoldsNames terms self.new (proposed_by id number o))) }
     {
         let Some(standing) = find(&self.participants, id) else {
             return Ok(());
@@ -248,7 +249,7 @@ impl Names {
 
     /// An identity that may step is spent.
     pub fn spend(&mut self, id: u64)
-        ensures { (terms : RenameTerms) (o : RenameObject) → HoldsNames terms self.old o → no_step o id ≡ None → HoldsNames terms self.new (after_step o id step.Spent) }
+        ensures { OfNames self.old (λ terms o. no_step o id ≡ None → HoldsNames terms self.new (after_step o id step.Spent)) }
     {
         let Some(standing) = find(&self.participants, id) else {
             return;
@@ -262,7 +263,7 @@ impl Names {
 
     /// An identity that may step is given a name.
     pub fn name(&mut self, id: u64, name: u64)
-        ensures { (terms : RenameTerms) (o : RenameObject) → HoldsNames terms self.old o → no_step o id ≡ None → HoldsNames terms self.new (after_step o id (step.Named name [])) }
+        ensures { OfNames self.old (λ terms o. no_step o id ≡ None → HoldsNames terms self.new (after_step o id (step.Named name []))) }
     {
         let Some(standing) = find(&self.participants, id) else {
             return;

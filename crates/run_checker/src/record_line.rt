@@ -8,7 +8,7 @@ ghost use Rattle.rename_core.specs.declared.config.Config.{Config};
 ghost use Rattle.serde_json.specs.Data.{Data};
 ghost use Rattle.serde_json.specs.View.{view};
 ghost use Rattle.run_checker.specs.declared.line.Line.{Line};
-ghost use Rattle.run_checker.specs.RecordLine.{IsJson, SaysLine, IsEventLine, IsHeaderLine};
+ghost use Rattle.run_checker.specs.RecordLine.{IsJson, IsEventOf, SaysLine, IsEventLine, IsHeaderLine};
 
 use crate::json::{header, texts};
 use crate::line::Line;
@@ -35,7 +35,7 @@ fn value_of(alloc: Global, bytes: &[u8]) -> Result<Option<Value>, AllocError>
 
 /// The event that a command's line is, in the world of this kind.
 fn event_of(text: &str, kind: WorldKind) -> Option<Event>
-    ensures { MatchOption result ((e : Event) → meaning kind text.now ≡ Ok (command.Event e) → ⊥) (λ e. meaning kind text.now ≡ Ok (command.Event e)) }
+    ensures { MatchOption result ((e : Event) → IsEventOf kind text.now e → ⊥) (IsEventOf kind text.now) }
 {
     match parse_line(text.as_bytes(), kind) {
         Ok(Command::Event(event)) => Some(event),

@@ -9,7 +9,7 @@ ghost use Rattle.slot_array.specs.SlotCalls.SlotCall.{Pooled, Stored};
 ghost use Rattle.slot_array.specs.Slots.{IsFetched};
 ghost use Rattle.slot_array.specs.SlotsObject.{SlotsObject, fresh_slots, slots_after};
 ghost use Rattle.run_checker.specs.Standing.{is_held};
-ghost use Rattle.run_checker.specs.Stays.{HoldsSlots};
+ghost use Rattle.run_checker.specs.Stays.{HoldsSlots, OfSlots, missed_by, got_by, left_by, stored_by};
 
 use crate::names::is_number;
 use crate::people::{find, put};
@@ -98,7 +98,7 @@ impl Stays {
 
     /// An identity enters that may. An error where a growth was refused; then what is kept is of no more use.
     pub fn enter(&mut self, id: u64) -> Result<(), AllocError>
-        ensures { OnOk result ((o : SlotsObject ℕ) → HoldsSlots self.old o → no_entry o.pool id ≡ None → HoldsSlots self.new (slots_after o (Pooled (Entered id (Ok tt))))) }
+        ensures { OnOk result (OfSlots self.old (λ o. no_entry o.pool id ≡ None → HoldsSlots self.new (slots_after o (Pooled (Entered id (Ok tt)))))) }
     {
         let program = Stay {
             probes: 0,
@@ -124,7 +124,7 @@ impl Stays {
 
     /// An identity that may misses a probe.
     pub fn miss(&mut self, id: u64)
-        ensures { (o : SlotsObject ℕ) → HoldsSlots self.old o → no_probe o.pool id ≡ None → o.pool.probes id + 1 ≢ max 1 (o.pool.size - 1) → HoldsSlots self.new (slots_after o (Pooled (Probed id (Ok probe.Missed)))) }
+        ensures { OfSlots self.old (λ o. no_probe o.pool id ≡ None → o.pool.probes id + 1 ≢ max 1 (o.pool.size - 1) → HoldsSlots self.new (missed_by id o)) }
     {
         let Some(stay) = find(&self.competitors, id) else {
             return;
@@ -151,7 +151,7 @@ impl Stays {
 
     /// An identity that may probe gets a free number.
     pub fn get(&mut self, id: u64, number: u64)
-        ensures { (o : SlotsObject ℕ) → HoldsSlots self.old o → no_probe o.pool id ≡ None → IsFree o.pool number → HoldsSlots self.new (slots_after o (Pooled (Probed id (Ok (probe.Got number))))) }
+        ensures { OfSlots self.old (λ o. no_probe o.pool id ≡ None → IsFree o.pool number → HoldsSlots self.new (got_by id number o)) }
     {
         let Some(stay) = find(&self.competitors, id) else {
             return;
@@ -165,7 +165,7 @@ impl Stays {
 
     /// An identity gives back the number that it holds.
     pub fn leave(&mut self, id: u64)
-        ensures { (o : SlotsObject ℕ) (n : ℕ) → HoldsSlots self.old o → number_in o.pool id ≡ Ok n → HoldsSlots self.new (slots_after o (Pooled (Left id (Ok n)))) }
+        ensures { (o : SlotsObject ℕ) (n : ℕ) → HoldsSlots self.old o → number_in o.pool id ≡ Ok n → HoldsSlots self.new (left_by id n o) }
     {
         self.competitors
             .retain(|competitor| competitor.identity != id);
@@ -173,7 +173,7 @@ impl Stays {
 
     /// The holder of a number puts a value into its slot.
     pub fn store(&mut self, number: u64, value: u64)
-        ensures { (o : SlotsObject ℕ) (id : ℕ) → HoldsSlots self.old o → number_in o.pool id ≡ Ok number → HoldsSlots self.new (slots_after o (Stored id value (Ok tt))) }
+        ensures { (o : SlotsObject ℕ) (id : ℕ) → HoldsSlots self.old o → number_in o.pool id ≡ Ok number → HoldsSlots self.new (stored_by id value o) }
     {
         let place = number.saturating_sub(1) as usize;
         if place < self.values.len() {

@@ -1,6 +1,5 @@
 use crate::{
-    Line, Pairs, Reason, Told, Verdict, check, first_fault, law_of_desk_runs, law_of_reasons,
-    law_of_records,
+    Line, Pairs, Reason, Told, first_fault, law_of_desk_runs, law_of_reasons, law_of_records,
 };
 use desk::Event;
 use desk::Event::{Begin, Enter, Get, Leave, Probe, Put, Step};
@@ -40,57 +39,72 @@ fn judge<R: Abort + AllocGlobal, const N: usize>(
     Ok(())
 }
 
-/// Lines of two who have begun: the last can't follow, or can.
+/// A name that is another's.
 #[test]
 fn a_small_record(rt: HostRuntime) -> Result<(), Fail> {
     let config = Config::new(WorldKind::Rename, 2, 4, 1000)?;
-    judge(
-        &rt,
-        config,
-        [
-            (Begin(10), Told::Ok),
-            (Begin(20), Told::Ok),
-            (Step(10), Told::Proposed(1)),
-            (Step(10), Told::Named(1)),
-            (Step(20), Told::Proposed(1)),
-            (Step(20), Told::Named(1)),
-        ],
-        Some((5, Reason::Name)),
-    )?;
-    judge(
-        &rt,
-        config,
-        [
-            (Begin(10), Told::Ok),
-            (Begin(20), Told::Ok),
-            (Step(10), Told::Proposed(1)),
-            (Step(10), Told::Named(1)),
-            (Step(20), Told::Proposed(1)),
-        ],
-        None,
-    )?;
-    judge(
-        &rt,
-        config,
-        [
-            (Begin(10), Told::Ok),
-            (Begin(20), Told::Ok),
-            (Step(10), Told::Proposed(4)),
-        ],
-        Some((2, Reason::Proposal)),
-    )?;
-    judge(
-        &rt,
-        config,
-        [
-            (Begin(10), Told::Ok),
-            (Begin(20), Told::Ok),
-            (Step(20), Told::Proposed(1)),
-            (Step(10), Told::Proposed(1)),
-            (Step(10), saw(rt.alloc(), &[(20, 1)])?),
-        ],
-        Some((4, Reason::View)),
-    )
+    for (told, fault) in [
+        (Told::Named(1), Some((5, Reason::Name))),
+        (Told::Quiet, None),
+    ] {
+        judge(
+            &rt,
+            config,
+            [
+                (Begin(10), Told::Ok),
+                (Begin(20), Told::Ok),
+                (Step(10), Told::Proposed(1)),
+                (Step(10), Told::Named(1)),
+                (Step(20), Told::Proposed(1)),
+                (Step(20), told),
+            ],
+            fault,
+        )?;
+    }
+    Ok(())
+}
+
+/// A number above what two may propose.
+#[test]
+fn a_high_proposal(rt: HostRuntime) -> Result<(), Fail> {
+    let config = Config::new(WorldKind::Rename, 2, 4, 1000)?;
+    for (number, fault) in [(4, Some((2, Reason::Proposal))), (3, None)] {
+        judge(
+            &rt,
+            config,
+            [
+                (Begin(10), Told::Ok),
+                (Begin(20), Told::Ok),
+                (Step(10), Told::Proposed(number)),
+            ],
+            fault,
+        )?;
+    }
+    Ok(())
+}
+
+/// A view in which who sees it proposes nothing.
+#[test]
+fn a_view_from_before(rt: HostRuntime) -> Result<(), Fail> {
+    let config = Config::new(WorldKind::Rename, 2, 4, 1000)?;
+    for (view, fault) in [
+        (saw(rt.alloc(), &[(20, 1)])?, Some((4, Reason::View))),
+        (saw(rt.alloc(), &[(10, 1), (20, 1)])?, None),
+    ] {
+        judge(
+            &rt,
+            config,
+            [
+                (Begin(10), Told::Ok),
+                (Begin(20), Told::Ok),
+                (Step(20), Told::Proposed(1)),
+                (Step(10), Told::Proposed(1)),
+                (Step(10), view),
+            ],
+            fault,
+        )?;
+    }
+    Ok(())
 }
 
 /// A refused `begin` does not count.
@@ -160,6 +174,12 @@ fn replies_and_refusals(rt: HostRuntime) -> Result<(), Fail> {
     ] {
         judge(&rt, config, [(Begin(7), Told::Ok), (Step(7), told)], fault)?;
     }
+    Ok(())
+}
+
+/// Want of memory may be told of a step over a tree.
+#[test]
+fn wants_of_memory(rt: HostRuntime) -> Result<(), Fail> {
     let tree = small(WorldKind::Tree)?;
     for (event, fault) in [
         (Step(7), None),
@@ -238,66 +258,53 @@ fn proposals(rt: HostRuntime) -> Result<(), Fail> {
     Ok(())
 }
 
+/// Judges a view of 10, after each of two has proposed 2 and 1 in the other order.
+fn judge_view<R: Abort + AllocGlobal>(
+    rt: &R,
+    told: Told,
+    fault: Option<(usize, Reason)>,
+) -> Result<(), Fail> {
+    judge(
+        rt,
+        Config::new(WorldKind::Tree, 3, 3, 3)?,
+        [
+            (Begin(10), Told::Ok),
+            (Begin(20), Told::Ok),
+            (Begin(30), Told::Ok),
+            (Step(10), Told::Proposed(2)),
+            (Step(20), Told::Proposed(1)),
+            (Step(10), Told::Proposed(1)),
+            (Step(20), Told::Proposed(2)),
+            (Step(10), told),
+        ],
+        fault,
+    )
+}
+
 /// Views are moments since the last proposal, in which another proposes the same.
 #[test]
 fn views(rt: HostRuntime) -> Result<(), Fail> {
-    let config = Config::new(WorldKind::Tree, 3, 3, 3)?;
-    let mut long = Pairs::new(rt.alloc());
+    let alloc = rt.alloc();
+    judge_view(&rt, saw(alloc, &[(10, 1), (20, 1)])?, None)?;
+    for view in [
+        saw(alloc, &[(10, 1)])?,
+        saw(alloc, &[(20, 1)])?,
+        saw(alloc, &[(10, 1), (20, 2)])?,
+        saw(alloc, &[(20, 1), (10, 1)])?,
+        saw(alloc, &[(10, 1), (10, 1)])?,
+        saw(alloc, &[(10, 2), (20, 1)])?,
+        saw(alloc, &[(10, 1), (40, 1)])?,
+        saw(alloc, &[(10, 1), (20, 257)])?,
+        saw(alloc, &[(10, 0), (20, 1)])?,
+        saw(alloc, &[])?,
+    ] {
+        judge_view(&rt, view, Some((7, Reason::View)))?;
+    }
+    let mut long = Pairs::new(alloc);
     for id in 0..70 {
         long.push(id + 1, 1)?;
     }
-    for (told, fault) in [
-        (saw(rt.alloc(), &[(10, 1), (20, 1)])?, None),
-        (saw(rt.alloc(), &[(10, 1)])?, Some((7, Reason::View))),
-        (saw(rt.alloc(), &[(20, 1)])?, Some((7, Reason::View))),
-        (
-            saw(rt.alloc(), &[(10, 1), (20, 2)])?,
-            Some((7, Reason::View)),
-        ),
-        (
-            saw(rt.alloc(), &[(20, 1), (10, 1)])?,
-            Some((7, Reason::View)),
-        ),
-        (
-            saw(rt.alloc(), &[(10, 1), (10, 1)])?,
-            Some((7, Reason::View)),
-        ),
-        (
-            saw(rt.alloc(), &[(10, 2), (20, 1)])?,
-            Some((7, Reason::View)),
-        ),
-        (
-            saw(rt.alloc(), &[(10, 1), (40, 1)])?,
-            Some((7, Reason::View)),
-        ),
-        (
-            saw(rt.alloc(), &[(10, 1), (20, 257)])?,
-            Some((7, Reason::View)),
-        ),
-        (
-            saw(rt.alloc(), &[(10, 0), (20, 1)])?,
-            Some((7, Reason::View)),
-        ),
-        (saw(rt.alloc(), &[])?, Some((7, Reason::View))),
-        (Told::Saw(long), Some((7, Reason::View))),
-    ] {
-        judge(
-            &rt,
-            config,
-            [
-                (Begin(10), Told::Ok),
-                (Begin(20), Told::Ok),
-                (Begin(30), Told::Ok),
-                (Step(10), Told::Proposed(2)),
-                (Step(20), Told::Proposed(1)),
-                (Step(10), Told::Proposed(1)),
-                (Step(20), Told::Proposed(2)),
-                (Step(10), told),
-            ],
-            fault,
-        )?;
-    }
-    Ok(())
+    judge_view(&rt, Told::Saw(long), Some((7, Reason::View)))
 }
 
 /// Who is spent has seen another propose the same, and takes no more steps.
@@ -352,6 +359,13 @@ fn names(rt: HostRuntime) -> Result<(), Fail> {
             fault,
         )?;
     }
+    Ok(())
+}
+
+/// A name that another proposes at every moment since.
+#[test]
+fn crowded_names(rt: HostRuntime) -> Result<(), Fail> {
+    let config = Config::new(WorldKind::Rename, 2, 3, 5)?;
     for (first, second, fault) in [
         (Told::Proposed(2), Told::Named(1), None),
         (Told::Proposed(1), Told::Named(1), Some((4, Reason::Name))),
@@ -372,10 +386,32 @@ fn names(rt: HostRuntime) -> Result<(), Fail> {
     Ok(())
 }
 
+/// Judges an event while 5 holds the number 2, with 9 in its slot, and 6 has probed once.
+fn judge_pool<R: Abort + AllocGlobal>(
+    rt: &R,
+    event: Event,
+    told: Told,
+    fault: Option<(usize, Reason)>,
+) -> Result<(), Fail> {
+    judge(
+        rt,
+        small(WorldKind::Rename)?,
+        [
+            (Enter(5), Told::Ok),
+            (Probe(5), Told::Got(2)),
+            (Put(5, 9), Told::Ok),
+            (Enter(6), Told::Ok),
+            (Probe(6), Told::Missed),
+            (Get(5), Told::Value(9)),
+            (event, told),
+        ],
+        fault,
+    )
+}
+
 /// Numbers of the pool, and what stands in their slots.
 #[test]
 fn pool_and_slots(rt: HostRuntime) -> Result<(), Fail> {
-    let config = small(WorldKind::Rename)?;
     for (event, told, fault) in [
         (Probe(6), Told::Got(1), None),
         (Probe(6), Told::Got(3), None),
@@ -400,21 +436,14 @@ fn pool_and_slots(rt: HostRuntime) -> Result<(), Fail> {
         (Enter(7), Told::Ok, None),
         (Enter(7), Told::Refused(7), Some((6, Reason::Refusal))),
     ] {
-        judge(
-            &rt,
-            config,
-            [
-                (Enter(5), Told::Ok),
-                (Probe(5), Told::Got(2)),
-                (Put(5, 9), Told::Ok),
-                (Enter(6), Told::Ok),
-                (Probe(6), Told::Missed),
-                (Get(5), Told::Value(9)),
-                (event, told),
-            ],
-            fault,
-        )?;
+        judge_pool(&rt, event, told, fault)?;
     }
+    Ok(())
+}
+
+/// A pool of one number, whose slot keeps its value from one holder to the next.
+#[test]
+fn one_number(rt: HostRuntime) -> Result<(), Fail> {
     judge(
         &rt,
         Config::new(WorldKind::Tree, 1, 1, 1)?,
@@ -443,24 +472,4 @@ fn reasons_have_numbers(rt: HostRuntime) {
     law_of_reasons();
     law_of_records();
     law_of_desk_runs();
-}
-
-/// Records, from their bytes.
-#[test]
-fn records(rt: HostRuntime) {
-    let alloc = rt.alloc();
-    let head =
-        b"{\"format\":\"slot-record\",\"version\":1,\"world\":\"rename\",\"m\":2,\"k\":3,\"limit\":2}\n".as_slice();
-    assert_eq!(rt; check(alloc, head), Verdict::Yes);
-    assert_eq!(rt; check(alloc, b"".as_slice()), Verdict::BadRecord(1));
-    assert_eq!(rt; check(alloc, b"\n".as_slice()), Verdict::BadRecord(1));
-    let yes =
-        b"{\"format\":\"slot-record\",\"version\":1,\"world\":\"rename\",\"m\":2,\"k\":3,\"limit\":2}\n{\"command\":\"enter 5\",\"reply\":\"ok\"}\n{\"command\":\"probe 5\",\"reply\":\"got 2\"}\n{\"reply\":\"left 2\",\"command\":\"leave 5\"}".as_slice();
-    assert_eq!(rt; check(alloc, yes), Verdict::Yes);
-    let no =
-        b"{\"format\":\"slot-record\",\"version\":1,\"world\":\"rename\",\"m\":2,\"k\":3,\"limit\":2}\n{\"command\":\"enter 5\",\"reply\":\"ok\"}\n{\"command\":\"probe 5\",\"reply\":\"got 4\"}\nx".as_slice();
-    assert_eq!(rt; check(alloc, no), Verdict::No(3, Reason::Pool));
-    let bad =
-        b"{\"format\":\"slot-record\",\"version\":1,\"world\":\"rename\",\"m\":2,\"k\":3,\"limit\":2}\n{\"command\":\"enter 5\",\"reply\":\"ok\"}\n\n{\"command\":\"probe 5\",\"reply\":\"got 2\"}\n".as_slice();
-    assert_eq!(rt; check(alloc, bad), Verdict::BadRecord(3));
 }

@@ -19,4 +19,4 @@ pub returns : goal.returns
 returns c =
     let i = c.self.inside in
     let at : slice_get i.log.items c.args.at ≡ Some c.in-Some.exchange = sym c.in-Some.ensures in
-    sym (kept_there i.places.items i.log.items c.args.at c.index.result.now c.in-Some.exchange c.self.invariant c.index.ensures at) ∙ ap (λ (k : KeptState). slice_get k.items c.args.at) c.self.view_is
+    sym (kept_there i.places.items i.log.items c.args.at c.index.result.now c.in-Some.exchange c.self.invariant.0 c.index.ensures at) ∙ ap (λ (k : KeptState). slice_get k.items c.args.at) c.self.view_is
