@@ -3,6 +3,7 @@
 ghost use Rattle.std.specs.Prelude.{◌≡◌, Err, ◌^◌, ◌<◌};
 ghost use Rattle.schedule_player.specs.Knows.{Knows};
 ghost use Rattle.schedule_player.specs.Played.{IsPlayed, reading, writing};
+ghost use Rattle.schedule_player.specs.Texts.{replies_of};
 ghost use Rattle.schedule_player.specs.Runs.{IsRunTo, CanRun};
 
 use schedule_player::{Fault, Service, Sink, Source, Summary, WorldKind, play_on};
@@ -24,7 +25,7 @@ pub fn serve_one<R, A: Allocator + Clone, I: Source, O: Sink, S: Service<R>>(
     requires knows { Knows S.knows WorldKind.Rename }
     requires reads { I.calls reader.old < 2 ^ 64 }
     requires writes { O.calls writer.old < 2 ^ 64 }
-    ensures served { IsPlayed (IsRunTo S.may service.old service.new) (CanRun S.may service.old) WorldKind.Rename
+    ensures served { IsPlayed replies_of (IsRunTo S.may service.old service.new) (CanRun S.may service.old) WorldKind.Rename
         (reading I.remaining I.calls I.failed) (writing O.contents O.failed) reader.old reader.new writer.old writer.new result }
     ensures unchanged { result ≡ Err Fault.Memory → service.new ≡ service.old }
 {

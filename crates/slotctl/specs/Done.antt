@@ -6,6 +6,7 @@ use Rattle.drawn_schedules.specs.Schedule.{schedule}
 use Rattle.schedule_player.specs.Events.{event_lines}
 use Rattle.schedule_player.specs.IsRun.{IsTalk}
 use Rattle.schedule_player.specs.Played.{Reading, Writing, IsPlayed}
+use Rattle.schedule_player.specs.Texts.{replies_of}
 use Rattle.schedule_player.specs.declared.fault.Fault.{Fault}
 use Rattle.schedule_player.specs.declared.fault.Fault.TheVariants.{Write, Memory}
 use Rattle.schedule_player.specs.declared.summary.Summary.{Summary}
@@ -54,7 +55,7 @@ is_served (Serve serving) = true
 -- run; or a record is checked; or nothing is read, and a drawing is written
 abbrev pub IsWorked : {R W : Type 0} → Ask → Reading R → Writing W → R → R → W → W → Result ℕ Fault → Type 0
 IsWorked (Play config) reading writing r r' w w' status =
-    (played : Result Summary Fault) × (status ≡ status_after played) × IsPlayed (IsTalk config) (IsTalk config) config.world reading writing r r' w w' played
+    (played : Result Summary Fault) × (status ≡ status_after played) × IsPlayed replies_of (IsTalk config) (IsTalk config) config.world reading writing r r' w w' played
 IsWorked Check reading writing r r' w w' status = IsChecked reading writing r r' w w' status
 IsWorked (Draw drawing) reading writing r r' w w' status = (r' ≡ r) × IsDrawnBy drawing writing w w' status
 IsWorked (Serve serving) reading writing r r' w w' status = ⊥
