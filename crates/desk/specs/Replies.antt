@@ -1,5 +1,5 @@
 -- what outcomes are answered as
-use Rattle.std.specs.Prelude.{ℕ, Bool, true, false, Result, Ok, Err}
+use Rattle.std.specs.Prelude.{ℕ, Bool, true, false, List, Result, Ok, Err}
 use Rattle.step_memory.specs.declared.refusal.Refusal.{Refusal}
 use Rattle.bit_allocator.specs.declared.probe.Probe.{Probe}
 use Rattle.bit_allocator.specs.declared.probe.Probe.TheVariants as probe
@@ -7,6 +7,8 @@ use Rattle.rename_core.specs.declared.reply.Reply.{Reply as StepReply}
 use Rattle.rename_core.specs.declared.reply.Reply.TheVariants as step
 use Rattle.desk.specs.declared.reply.Reply.{Reply}
 use Rattle.desk.specs.declared.reply.Reply.TheVariants as reply
+use Rattle.desk.specs.declared.short_reply.ShortReply.{ShortReply}
+use Rattle.desk.specs.declared.short_reply.ShortReply.TheVariants as short
 
 abbrev pub done_reply : Result (Unit {0}) Refusal → Reply
 done_reply (Ok done) = reply.Ok
@@ -59,3 +61,22 @@ is_refusal (reply.Left number) = false
 is_refusal (reply.Value value) = false
 is_refusal (reply.Owner owner) = false
 is_refusal (reply.Refused refusal) = true
+
+-- the reply that a short one is, with the view beside it
+abbrev pub with_view : ShortReply → List (ℕ × ℕ) → Reply
+with_view short.Ok view = reply.Ok
+with_view short.Quiet view = reply.Quiet
+with_view short.Stop view = reply.Stop
+with_view short.Right view = reply.Right
+with_view short.Down view = reply.Down
+with_view (short.Place place) view = reply.Place place
+with_view (short.Proposed number) view = reply.Proposed number
+with_view short.Saw view = reply.Saw view
+with_view (short.Named name) view = reply.Named name view
+with_view short.Spent view = reply.Spent
+with_view short.Missed view = reply.Missed
+with_view (short.Got number) view = reply.Got number
+with_view (short.Left number) view = reply.Left number
+with_view (short.Value value) view = reply.Value value
+with_view (short.Owner owner) view = reply.Owner owner
+with_view (short.Refused refusal) view = reply.Refused refusal

@@ -3,16 +3,18 @@
 ghost use Rattle.std.specs.Prelude.{◌≡◌, ◌⊎◌, ◌↔◌, IfOk, IfErr, Err, false};
 ghost use Rattle.desk.specs.Desk.{gives_names, desk_rules, desk_refusal, owner_reply, IsFreshDesk};
 ghost use Rattle.desk.specs.Laws.{TellsOwners, RefusesAsSaid};
+ghost use Rattle.desk.specs.Replies.{with_view};
 ghost use Rattle.desk.specs.Rules.{may_by};
 
 use crate::event::Event;
 use crate::over::DeskOver;
 use crate::reply::Reply;
+use crate::short_reply::ShortReply;
 use rename_core::Config;
 use snapshot_places::{Grid, TreePlaces};
 use std::alloc::Allocator;
 use std::marker::Model;
-use step_memory::Refusal;
+use step_memory::{Refusal, View};
 
 /// A desk over a grid, or one over a tree.
 #[derive(Drop)]
@@ -65,9 +67,17 @@ impl<A: Allocator + Clone> Desk<A> {
     pub fn apply(&mut self, event: Event) -> Reply
         ensures { may_by desk_rules self.old event result self.new }
     {
+        let mut view = View::new();
+        self.apply_short(event, &mut view).with(&view)
+    }
+
+    /// As `apply`, with a reply of a few bytes, and its view where it shows one.
+    pub fn apply_short(&mut self, event: Event, view: &mut View) -> ShortReply
+        ensures { may_by desk_rules self.old event (with_view result view.new) self.new }
+    {
         match &mut self.parts {
-            Parts::Grid(desk) => desk.apply(event),
-            Parts::Tree(desk) => desk.apply(event),
+            Parts::Grid(desk) => desk.apply_short(event, view),
+            Parts::Tree(desk) => desk.apply_short(event, view),
         }
     }
 

@@ -36,12 +36,14 @@ pub mod exchange;
 pub mod laws;
 mod over;
 pub mod reply;
+pub mod short_reply;
 
 pub use desk::Desk;
 pub use event::Event;
 pub use exchange::Exchange;
 pub use laws::{law_of_desk, law_of_names};
 pub use reply::Reply;
+pub use short_reply::ShortReply;
 
 #[cfg(test)]
 mod tests;

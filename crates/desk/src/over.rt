@@ -3,18 +3,20 @@
 ghost use Rattle.std.specs.Prelude.{◌≡◌, ◌⊎◌, ◌↔◌, IfOk, IfErr, Err, false};
 ghost use Rattle.desk.specs.Desk.{owner_over};
 ghost use Rattle.desk.specs.DeskRules.{fresh_over, rules_over, refusal_over};
+ghost use Rattle.desk.specs.Replies.{with_view};
 ghost use Rattle.desk.specs.Rules.{may_by};
 ghost use Rattle.rename_core.specs.Config.{is_played_over};
 
 use crate::event::Event;
 use crate::reply::Reply;
+use crate::short_reply::ShortReply;
 use bit_allocator::Pool;
 use rename_core::{Config, RenamePlaces, RenameWorld};
 use slot_array::Slots;
 use snapshot_core::{Known, Places};
 use std::alloc::Allocator;
 use std::marker::Model;
-use step_memory::Refusal;
+use step_memory::{Refusal, View};
 
 /// A renaming world over these places, and slots over a pool.
 #[derive(Drop)]
@@ -61,19 +63,19 @@ where
     W::Walk: Copy,
     W::Value: Drop,
 {
-    /// Takes one event and answers it, by at most one access. Refusals come as in the renaming world, the pool and the
-    /// slots, and change nothing.
-    pub(crate) fn apply(&mut self, event: Event) -> Reply
-        ensures { may_by (rules_over ⟦<W as Known>⟧.places) self.old event result self.new }
+    /// Takes one event and answers it, by at most one access, with the view that the reply shows beside it. Refusals come as in
+    /// the renaming world, the pool and the slots, and change nothing.
+    pub(crate) fn apply_short(&mut self, event: Event, view: &mut View) -> ShortReply
+        ensures { may_by (rules_over ⟦<W as Known>⟧.places) self.old event (with_view result view.new) self.new }
     {
         match event {
-            Event::Begin(id) => Reply::of_done(self.names.begin(id)),
-            Event::Step(id) => Reply::of_step(self.names.step(id)),
-            Event::Enter(id) => Reply::of_done(self.slots.enter(id)),
-            Event::Probe(id) => Reply::of_probe(self.slots.probe(id)),
-            Event::Leave(id) => Reply::of_leave(self.slots.leave(id)),
-            Event::Put(id, value) => Reply::of_done(self.slots.put(id, value)),
-            Event::Get(id) => Reply::of_value(self.slots.get(id).copied()),
+            Event::Begin(id) => ShortReply::of_done(self.names.begin(id)),
+            Event::Step(id) => ShortReply::of_step(self.names.step_short(id, view)),
+            Event::Enter(id) => ShortReply::of_done(self.slots.enter(id)),
+            Event::Probe(id) => ShortReply::of_probe(self.slots.probe(id)),
+            Event::Leave(id) => ShortReply::of_leave(self.slots.leave(id)),
+            Event::Put(id, value) => ShortReply::of_done(self.slots.put(id, value)),
+            Event::Get(id) => ShortReply::of_value(self.slots.get(id).copied()),
         }
     }
 

@@ -1,13 +1,12 @@
 //! What is answered to an event.
 
 ghost use Rattle.std.specs.Prelude.{◌≡◌};
-ghost use Rattle.desk.specs.Replies.{is_refusal, done_reply, step_reply, shown_step, probe_reply, left_reply, value_reply};
+ghost use Rattle.desk.specs.Replies.{is_refusal, with_view};
 
-use bit_allocator::Probe;
-use rename_core::Reply as StepReply;
+use crate::short_reply::ShortReply;
 use step_memory::{Place, Refusal, View};
 
-/// What is answered to an event. A view takes a kilobyte, so a reply is lent where it can be.
+/// What is answered to an event. A view takes a kilobyte: a `ShortReply` stands for it where events are many.
 #[derive(Clone, Copy, Debug, Drop, PartialEq, Eq)]
 pub enum Reply {
     /// Done.
@@ -53,68 +52,33 @@ impl Reply {
         matches!(self, Reply::Refused(_))
     }
 
-    /// What is answered to an event that only is done, by its outcome.
-    pub(crate) fn of_done(outcome: Result<(), Refusal>) -> Reply
-        ensures { result ≡ done_reply outcome }
+    /// The reply without its view, which is put beside it.
+    pub fn shorten(self, view: &mut View) -> ShortReply
+        ensures { with_view result view.new ≡ self }
     {
-        match outcome {
-            Ok(()) => Reply::Ok,
-            Err(refusal) => Reply::Refused(refusal),
-        }
-    }
-
-    /// What is answered to a step, by its outcome.
-    pub(crate) fn of_step(outcome: Result<StepReply, Refusal>) -> Reply
-        ensures { result ≡ step_reply outcome }
-    {
-        match outcome {
-            Ok(said) => Reply::of_said(said),
-            Err(refusal) => Reply::Refused(refusal),
-        }
-    }
-
-    /// What an accepted step is shown as.
-    fn of_said(said: StepReply) -> Reply
-        ensures { result ≡ shown_step said }
-    {
-        match said {
-            StepReply::Quiet => Reply::Quiet,
-            StepReply::Placed(place) => Reply::Place(place),
-            StepReply::Proposed(number) => Reply::Proposed(number),
-            StepReply::Saw(view) => Reply::Saw(view),
-            StepReply::Named(name, view) => Reply::Named(name, view),
-            StepReply::Spent => Reply::Spent,
-        }
-    }
-
-    /// What is answered to a probe, by its outcome.
-    pub(crate) fn of_probe(outcome: Result<Probe, Refusal>) -> Reply
-        ensures { result ≡ probe_reply outcome }
-    {
-        match outcome {
-            Ok(Probe::Missed) => Reply::Missed,
-            Ok(Probe::Got(number)) => Reply::Got(number),
-            Err(refusal) => Reply::Refused(refusal),
-        }
-    }
-
-    /// What is answered to one who leaves, by its outcome.
-    pub(crate) fn of_leave(outcome: Result<u8, Refusal>) -> Reply
-        ensures { result ≡ left_reply outcome }
-    {
-        match outcome {
-            Ok(number) => Reply::Left(number),
-            Err(refusal) => Reply::Refused(refusal),
-        }
-    }
-
-    /// What is answered to one who gets a value, by its outcome.
-    pub(crate) fn of_value(outcome: Result<u64, Refusal>) -> Reply
-        ensures { result ≡ value_reply outcome }
-    {
-        match outcome {
-            Ok(value) => Reply::Value(value),
-            Err(refusal) => Reply::Refused(refusal),
+        match self {
+            Reply::Ok => ShortReply::Ok,
+            Reply::Quiet => ShortReply::Quiet,
+            Reply::Stop => ShortReply::Stop,
+            Reply::Right => ShortReply::Right,
+            Reply::Down => ShortReply::Down,
+            Reply::Place(place) => ShortReply::Place(place),
+            Reply::Proposed(number) => ShortReply::Proposed(number),
+            Reply::Saw(seen) => {
+                *view = seen;
+                ShortReply::Saw
+            }
+            Reply::Named(name, seen) => {
+                *view = seen;
+                ShortReply::Named(name)
+            }
+            Reply::Spent => ShortReply::Spent,
+            Reply::Missed => ShortReply::Missed,
+            Reply::Got(number) => ShortReply::Got(number),
+            Reply::Left(number) => ShortReply::Left(number),
+            Reply::Value(value) => ShortReply::Value(value),
+            Reply::Owner(owner) => ShortReply::Owner(owner),
+            Reply::Refused(refusal) => ShortReply::Refused(refusal),
         }
     }
 }

@@ -1,3 +1,4 @@
+pub mod ShortReplies
 pub mod ResultLemmas
 pub mod UnderWayLemmas
 pub mod ScheduleLemmas

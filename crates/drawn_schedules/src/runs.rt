@@ -11,12 +11,12 @@ ghost use Rattle.drawn_schedules.specs.Tally.{IsTallyOf};
 use crate::schedule::{draw_one, generator};
 use crate::tally::Tally;
 use bumpalo::Bump;
-use desk::{Desk, Event, Reply};
+use desk::{Desk, Event, ShortReply};
 use rand_pcg::Lcg64Xsh32;
 use rename_core::Config;
 use schedule_player::{Fault, HELD_REPLIES, Replies, Sink, put_word};
 use std::alloc::Allocator;
-use step_memory::Refusal;
+use step_memory::{Refusal, View};
 
 /// The line of no run has more bytes.
 const LINE_ROOM: usize = 106;
@@ -25,6 +25,7 @@ const LINE_ROOM: usize = 106;
 fn take<A: Allocator + Clone>(
     desk: &mut Desk<A>,
     event: Event,
+    view: &mut View,
     tally: &mut Tally,
 ) -> Result<(), Fault>
     requires begun { tally.old.begun + 1 < 2 ^ 64 }
@@ -36,11 +37,11 @@ fn take<A: Allocator + Clone>(
     ensures named { tally.new.named ≤ tally.old.named + 1 }
     ensures spent { tally.new.spent ≤ tally.old.spent + 1 }
 {
-    let reply = desk.apply(event);
-    if reply == Reply::Refused(Refusal::NoMemory) {
+    let reply = desk.apply_short(event, view);
+    if reply == ShortReply::Refused(Refusal::NoMemory) {
         return Err(Fault::Memory);
     }
-    tally.count(event, &reply);
+    tally.count(event, reply);
     Ok(())
 }
 
@@ -60,8 +61,9 @@ fn take_begins<A: Allocator + Clone>(
     ensures named { tally.new.named ≤ tally.old.named + ids }
     ensures spent { tally.new.spent ≤ tally.old.spent + ids }
 {
+    let mut view = View::new();
     for before in 0..ids {
-        take(desk, Event::Begin(before + 1), tally)?;
+        take(desk, Event::Begin(before + 1), &mut view, tally)?;
     }
     Ok(())
 }
@@ -83,8 +85,14 @@ fn take_steps<A: Allocator + Clone>(
     ensures only { IfErr result (λ fault. fault ≡ Fault.Memory) }
 {
     let mut words = words;
+    let mut view = View::new();
     for _done in 0..n {
-        take(desk, Event::Step(draw_one(&mut words, ids)), tally)?;
+        take(
+            desk,
+            Event::Step(draw_one(&mut words, ids)),
+            &mut view,
+            tally,
+        )?;
     }
     Ok(())
 }

@@ -1,10 +1,11 @@
 //! The numbers of a run.
 
-ghost use Rattle.std.specs.Prelude.{◌≡◌, ◌+◌, ◌<◌, ◌≤◌, ◌^◌, []};
+ghost use Rattle.std.specs.Prelude.{◌≡◌, ℕ, ◌+◌, ◌<◌, ◌≤◌, ◌^◌, List, []};
 ghost use Rattle.desk.specs.Names.{begun_more};
+ghost use Rattle.desk.specs.Replies.{with_view};
 ghost use Rattle.drawn_schedules.specs.Tally.{IsTallyOf, is_named, is_spent, one_more_if};
 
-use desk::{Event, Reply};
+use desk::{Event, ShortReply};
 
 /// How many participants have begun in a run, were named and were spent.
 #[derive(Clone, Copy, Debug, Drop, PartialEq, Eq)]
@@ -29,19 +30,19 @@ impl Tally {
         }
     }
 
-    /// Counts an event by its reply.
-    pub fn count(&mut self, event: Event, reply: &Reply)
+    /// Counts an event by its reply, whatever view that shows.
+    pub fn count(&mut self, event: Event, reply: ShortReply)
         requires begun { self.old.begun + 1 < 2 ^ 64 }
         requires named { self.old.named + 1 < 2 ^ 64 }
         requires spent { self.old.spent + 1 < 2 ^ 64 }
-        ensures begun { self.new.begun ≡ begun_more event reply.now self.old.begun }
-        ensures named { self.new.named ≡ one_more_if (is_named reply.now) self.old.named }
-        ensures spent { self.new.spent ≡ one_more_if (is_spent reply.now) self.old.spent }
+        ensures begun { (view : List (ℕ × ℕ)) → self.new.begun ≡ begun_more event (with_view reply view) self.old.begun }
+        ensures named { (view : List (ℕ × ℕ)) → self.new.named ≡ one_more_if (is_named (with_view reply view)) self.old.named }
+        ensures spent { (view : List (ℕ × ℕ)) → self.new.spent ≡ one_more_if (is_spent (with_view reply view)) self.old.spent }
     {
         match (event, reply) {
-            (Event::Begin(_), Reply::Ok) => self.begun += 1,
-            (_, Reply::Named(_, _)) => self.named += 1,
-            (_, Reply::Spent) => self.spent += 1,
+            (Event::Begin(_), ShortReply::Ok) => self.begun += 1,
+            (_, ShortReply::Named(_)) => self.named += 1,
+            (_, ShortReply::Spent) => self.spent += 1,
             _ => {}
         }
     }

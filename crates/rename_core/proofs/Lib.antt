@@ -1,6 +1,7 @@
 pub mod Numbers
 pub mod Views
 pub mod Participants
+pub mod ShortReplies
 pub mod Standing
 pub mod Large
 pub mod Snapping

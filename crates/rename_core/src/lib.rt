@@ -46,6 +46,7 @@ pub mod places;
 pub mod proposal;
 pub mod reply;
 pub mod round;
+pub mod short_reply;
 #[cfg(test)]
 mod tests;
 pub mod world;
@@ -57,4 +58,5 @@ pub use places::RenamePlaces;
 pub use proposal::next_proposal;
 pub use reply::Reply;
 pub use round::{Follow, Round, Stage, Wish};
+pub use short_reply::ShortReply;
 pub use world::RenameWorld;

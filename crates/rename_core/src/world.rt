@@ -8,12 +8,14 @@ ghost use Rattle.rename_core.specs.Config.{is_played_over};
 ghost use Rattle.rename_core.specs.Locality.{IsLocal};
 ghost use Rattle.rename_core.specs.RenameCalls.{IsAfter, LeadsOn, IsFresh, IsLawful, MakesOwnAccess, IsName, IsOwnerOf, IsLastMoment};
 ghost use Rattle.rename_core.specs.Round.{standing_by};
+ghost use Rattle.rename_core.specs.Reply.{outcome_with};
 ghost use Rattle.rename_core.specs.RenameWorld.{fresh_world, step_refusal, after_wish, name_in, owner_by, shown_with, shown_by, after_rename_begin, rename_answer, after_rename_step, LacksMemory};
 
 use crate::config::Config;
 use crate::places::RenamePlaces;
 use crate::reply::Reply;
 use crate::round::{Round, Wish};
+use crate::short_reply::ShortReply;
 use snapshot_core::{Known, SnapWorld};
 use std::alloc::Allocator;
 use std::marker::Model;
@@ -109,8 +111,8 @@ where
 
     /// Any other step, and what follows it. A function of its own, so that a read has no room of a segment to clear.
     #[inline(never)]
-    fn take_other(&mut self, id: u64) -> Result<Reply, Refusal>
-        ensures answer { result ≢ Err Refusal.NoMemory → result ≡ rename_answer ⟦<W as Known>⟧.places self.old id }
+    fn take_other(&mut self, id: u64, view: &mut View) -> Result<ShortReply, Refusal>
+        ensures answer { result ≢ Err Refusal.NoMemory → outcome_with result view.new ≡ rename_answer ⟦<W as Known>⟧.places self.old id }
         ensures state { result ≢ Err Refusal.NoMemory → self.new ≡ after_rename_step ⟦<W as Known>⟧.places self.old id }
         ensures refused { OnErr result (self.new ≡ self.old) }
         ensures no_memory { result ≡ Err Refusal.NoMemory → LacksMemory ⟦<W as Known>⟧.places self.old id }
@@ -129,21 +131,21 @@ where
             program: follow.round,
             ended: false,
         };
-        Ok(follow.reply)
+        Ok(follow.reply.shorten(view))
     }
 
     /// A step, and what follows it.
     #[inline(always)]
-    fn take_step(&mut self, id: u64) -> Result<Reply, Refusal>
-        ensures answer { result ≢ Err Refusal.NoMemory → result ≡ rename_answer ⟦<W as Known>⟧.places self.old id }
+    fn take_step(&mut self, id: u64, view: &mut View) -> Result<ShortReply, Refusal>
+        ensures answer { result ≢ Err Refusal.NoMemory → outcome_with result view.new ≡ rename_answer ⟦<W as Known>⟧.places self.old id }
         ensures state { result ≢ Err Refusal.NoMemory → self.new ≡ after_rename_step ⟦<W as Known>⟧.places self.old id }
         ensures refused { OnErr result (self.new ≡ self.old) }
         ensures no_memory { result ≡ Err Refusal.NoMemory → LacksMemory ⟦<W as Known>⟧.places self.old id }
     {
         if self.read_on(id) {
-            return Ok(Reply::Quiet);
+            return Ok(ShortReply::Quiet);
         }
-        self.take_other(id)
+        self.take_other(id, view)
     }
 
     /// One step of a participant: one access, and what follows it. Refused where the identity has not begun, then where it
@@ -164,7 +166,24 @@ where
         ensures local { IsLocal ⟦<W as Known>⟧.places id self.old self.new result }
         ensures own { MakesOwnAccess ⟦<W as Known>⟧.places self.old id }
     {
-        self.take_step(id)
+        let mut view = View::new();
+        let outcome = self.step_short(id, &mut view);
+        ShortReply::with_in(outcome, &view)
+    }
+
+    /// As `step`, with a reply of a few bytes, and its view where it shows one: what `step` answers is the reply with the view.
+    #[inline(always)]
+    pub fn step_short(&mut self, id: u64, view: &mut View) -> Result<ShortReply, Refusal>
+        ensures answer { result ≢ Err Refusal.NoMemory → outcome_with result view.new ≡ rename_answer ⟦<W as Known>⟧.places self.old id }
+        ensures state { result ≢ Err Refusal.NoMemory → self.new ≡ after_rename_step ⟦<W as Known>⟧.places self.old id }
+        ensures refused { OnErr result (self.new ≡ self.old) }
+        ensures no_memory { result ≡ Err Refusal.NoMemory → LacksMemory ⟦<W as Known>⟧.places self.old id }
+        ensures after { LeadsOn ⟦<W as Known>⟧.places self.old self.new (Stepped id (outcome_with result view.new)) }
+        ensures law { IsLawful ⟦<W as Known>⟧.places W.world self.new }
+        ensures local { IsLocal ⟦<W as Known>⟧.places id self.old self.new (outcome_with result view.new) }
+        ensures own { MakesOwnAccess ⟦<W as Known>⟧.places self.old id }
+    {
+        self.take_step(id, view)
     }
 
     /// The most participants, of whom a view has room for.

@@ -8,9 +8,10 @@ use crate::events::print_event;
 use crate::form::Form;
 use crate::print::{print_words, put_word};
 use crate::replies::{HELD_REPLIES, Replies};
-use desk::{Event, Reply};
+use desk::{Event, ShortReply};
 use rename_core::{Config, WorldKind};
 use std::alloc::Allocator;
+use step_memory::View;
 
 /// The first line of no record has more bytes.
 pub const HEADER_ROOM: usize = 135;
@@ -22,15 +23,20 @@ pub struct AsRecord;
 impl Form for AsRecord {
     ghost text = { turn_record };
 
-    fn put_answered<A: Allocator>(event: Event, reply: &Reply, out: &mut Replies<A>) {
+    fn put_answered<A: Allocator>(
+        event: Event,
+        reply: ShortReply,
+        view: &View,
+        out: &mut Replies<A>,
+    ) {
         out.put(b"{\"command\":\"");
         print_event(event, out);
         out.put(b"\",\"reply\":\"");
-        print_words(reply, out);
+        print_words(reply, view, out);
         out.put(b"\"}\n");
     }
 
-    fn put_told<A: Allocator>(_n: u64, _reply: &Reply, _out: &mut Replies<A>) {}
+    fn put_told<A: Allocator>(_n: u64, _reply: ShortReply, _view: &View, _out: &mut Replies<A>) {}
 
     fn put_ended<A: Allocator>(_out: &mut Replies<A>) {}
 

@@ -6,8 +6,9 @@ use crate::bad::Bad;
 use crate::form::Form;
 use crate::print::{print_bad, print_reply};
 use crate::replies::Replies;
-use desk::{Event, Reply};
+use desk::{Event, ShortReply};
 use std::alloc::Allocator;
+use step_memory::View;
 
 /// Of each turn the reply is written, or that its line was bad.
 #[derive(Drop)]
@@ -17,17 +18,22 @@ impl Form for AsReplies {
     ghost text = { turn_reply };
 
     #[inline(always)]
-    fn put_answered<A: Allocator>(_event: Event, reply: &Reply, out: &mut Replies<A>) {
-        print_reply(reply, out);
+    fn put_answered<A: Allocator>(
+        _event: Event,
+        reply: ShortReply,
+        view: &View,
+        out: &mut Replies<A>,
+    ) {
+        print_reply(reply, view, out);
     }
 
     #[inline(always)]
-    fn put_told<A: Allocator>(_n: u64, reply: &Reply, out: &mut Replies<A>) {
-        print_reply(reply, out);
+    fn put_told<A: Allocator>(_n: u64, reply: ShortReply, view: &View, out: &mut Replies<A>) {
+        print_reply(reply, view, out);
     }
 
     fn put_ended<A: Allocator>(out: &mut Replies<A>) {
-        print_reply(&Reply::Ok, out);
+        out.put(b"ok\n");
     }
 
     fn put_misread<A: Allocator>(bad: Bad, out: &mut Replies<A>) {

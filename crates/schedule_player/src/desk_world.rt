@@ -9,10 +9,10 @@ ghost use Rattle.std.proofs.Common.{refl};
 
 use crate::service::Service;
 use crate::world::World;
-use desk::{Desk, Event, Reply};
+use desk::{Desk, Event, Reply, ShortReply};
 use rename_core::Config;
 use std::alloc::Allocator;
-use step_memory::Refusal;
+use step_memory::{Refusal, View};
 
 impl<A: Allocator + Clone, R> Service<R> for Desk<A> {
     ghost knows = { λ q. true };
@@ -21,8 +21,8 @@ impl<A: Allocator + Clone, R> Service<R> for Desk<A> {
 
     ghost answers = { λ w q known. desk_answers w q };
 
-    fn apply(&mut self, _rt: &R, event: Event) -> Reply {
-        self.apply(event)
+    fn apply(&mut self, _rt: &R, event: Event, view: &mut View) -> ShortReply {
+        self.apply_short(event, view)
     }
 
     fn owner(&mut self, _rt: &R, n: u64) -> Reply {

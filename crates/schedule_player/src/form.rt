@@ -1,13 +1,15 @@
 //! How the turns of a run are written.
 
 ghost use Rattle.std.specs.Prelude.{◌≡◌, ◌≤◌, ◌+◌, ◌++◌, ℕ, List, length};
+ghost use Rattle.desk.specs.Replies.{with_view};
 ghost use Rattle.schedule_player.specs.Turns.{Turn};
 ghost use Rattle.schedule_player.specs.Turns.Turn.{Answered, Told, Ended, Misread};
 
 use crate::bad::Bad;
 use crate::replies::{HELD_REPLIES, Replies};
-use desk::{Event, Reply};
+use desk::{Event, ShortReply};
 use std::alloc::Allocator;
+use step_memory::View;
 
 /// What is written of no turn has more bytes: the longest is the record of a view of 64 pairs.
 pub const TURN_ROOM: usize = 2_762;
@@ -17,16 +19,21 @@ pub trait Form: Drop {
     /// The text of a turn.
     ghost text: { Turn → List ℕ };
 
-    /// Appends the text of an event that was answered.
-    fn put_answered<A: Allocator>(event: Event, reply: &Reply, out: &mut Replies<A>)
+    /// Appends the text of an event that was answered, with this view where the reply shows one.
+    fn put_answered<A: Allocator>(
+        event: Event,
+        reply: ShortReply,
+        view: &View,
+        out: &mut Replies<A>,
+    )
         requires { length out.old + TURN_ROOM ≤ HELD_REPLIES }
-        ensures text { out.new ≡ out.old ++ text (Answered (record { event = event; reply = reply.now })) }
+        ensures text { out.new ≡ out.old ++ text (Answered (record { event = event; reply = with_view reply view.now })) }
         ensures short { length out.new ≤ length out.old + TURN_ROOM };
 
-    /// Appends the text of an owner that was told.
-    fn put_told<A: Allocator>(n: u64, reply: &Reply, out: &mut Replies<A>)
+    /// Appends the text of an owner that was told, by a reply that shows this view where it shows one.
+    fn put_told<A: Allocator>(n: u64, reply: ShortReply, view: &View, out: &mut Replies<A>)
         requires { length out.old + TURN_ROOM ≤ HELD_REPLIES }
-        ensures text { out.new ≡ out.old ++ text (Told n reply.now) }
+        ensures text { out.new ≡ out.old ++ text (Told n (with_view reply view.now)) }
         ensures short { length out.new ≤ length out.old + TURN_ROOM };
 
     /// Appends the text of `quit`.

@@ -59,7 +59,7 @@ pub use as_record::{AsRecord, HEADER_ROOM, print_header};
 pub use as_replies::AsReplies;
 pub use bad::Bad;
 pub use command::Command;
-pub use desk::{Event, Exchange, Reply};
+pub use desk::{Event, Exchange, Reply, ShortReply};
 pub use events::{EVENT_ROOM, print_event};
 pub use fault::Fault;
 pub use form::{Form, TURN_ROOM};

@@ -1,44 +1,34 @@
-//! What the outcomes of a splitter's and a grid's world are answered as.
+//! What the outcomes of a splitter's and a grid's steps are answered as.
 
-ghost use Rattle.std.specs.Prelude.{◌≡◌};
-ghost use Rattle.desk.specs.Replies.{done_reply};
+ghost use Rattle.std.specs.Prelude.{◌≡◌, ℕ, List};
+ghost use Rattle.desk.specs.Replies.{with_view};
 ghost use Rattle.schedule_player.specs.Visits.{said_reply};
 ghost use Rattle.schedule_player.specs.Worlds.{way_reply, place_reply};
 
-use desk::Reply;
+use desk::ShortReply;
 use splitter::Way;
 use step_memory::{Place, Refusal};
 
-/// What is answered to `begin`, by its outcome.
-pub(crate) fn begin_reply(outcome: Result<(), Refusal>) -> Reply
-    ensures { result ≡ done_reply outcome }
-{
-    match outcome {
-        Ok(()) => Reply::Ok,
-        Err(refusal) => Reply::Refused(refusal),
-    }
-}
-
 /// What is answered to a step of a visit, by its outcome.
-pub(crate) fn visit_reply(outcome: Result<Option<Way>, Refusal>) -> Reply
-    ensures { result ≡ said_reply way_reply outcome }
+pub(crate) fn visit_reply(outcome: Result<Option<Way>, Refusal>) -> ShortReply
+    ensures { (view : List (ℕ × ℕ)) → with_view result view ≡ said_reply way_reply outcome }
 {
     match outcome {
-        Ok(None) => Reply::Quiet,
-        Ok(Some(Way::Stop)) => Reply::Stop,
-        Ok(Some(Way::Right)) => Reply::Right,
-        Ok(Some(Way::Down)) => Reply::Down,
-        Err(refusal) => Reply::Refused(refusal),
+        Ok(None) => ShortReply::Quiet,
+        Ok(Some(Way::Stop)) => ShortReply::Stop,
+        Ok(Some(Way::Right)) => ShortReply::Right,
+        Ok(Some(Way::Down)) => ShortReply::Down,
+        Err(refusal) => ShortReply::Refused(refusal),
     }
 }
 
 /// What is answered to a step of a walk, by its outcome.
-pub(crate) fn walk_reply(outcome: Result<Option<Place>, Refusal>) -> Reply
-    ensures { result ≡ said_reply place_reply outcome }
+pub(crate) fn walk_reply(outcome: Result<Option<Place>, Refusal>) -> ShortReply
+    ensures { (view : List (ℕ × ℕ)) → with_view result view ≡ said_reply place_reply outcome }
 {
     match outcome {
-        Ok(None) => Reply::Quiet,
-        Ok(Some(place)) => Reply::Place(place),
-        Err(refusal) => Reply::Refused(refusal),
+        Ok(None) => ShortReply::Quiet,
+        Ok(Some(place)) => ShortReply::Place(place),
+        Err(refusal) => ShortReply::Refused(refusal),
     }
 }

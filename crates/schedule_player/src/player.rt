@@ -1,9 +1,12 @@
 //! A run under way: bytes in, replies out.
 
-ghost use Rattle.std.specs.Prelude.{◌≡◌, ◌+◌, ◌*◌, ◌^◌, ◌<◌, ◌≤◌, [], length, take, Ok, Err, IfOk, IfErr, OnOk, OnErr};
+ghost use Rattle.std.specs.Prelude.{◌≡◌, true, ◌+◌, ◌*◌, ◌^◌, ◌<◌, ◌≤◌, [], length, take, Ok, Err, IfOk, IfErr, OnOk, OnErr};
+ghost use Rattle.desk.specs.declared.reply.Reply.{Reply as DeskReply};
+ghost use Rattle.desk.specs.Replies.{with_view};
 ghost use Rattle.schedule_player.specs.HeldLine.{held};
 ghost use Rattle.schedule_player.specs.Knows.{Knows, KnowsMeant};
 ghost use Rattle.schedule_player.specs.Progress.{after_meaning, after_line, after_bytes, after_end};
+ghost use Rattle.schedule_player.specs.Requests.Request.{OwnerOf};
 ghost use Rattle.schedule_player.specs.Stands.{Advances, AdvancesOn, AdvancesAfresh, AdvancesWriting, AdvancesInPart, IsHeld, IsFresh, IsSent};
 ghost use Rattle.schedule_player.specs.Records.{header_line};
 ghost use Rattle.schedule_player.specs.Turns.Turn.{Answered, Told, Ended, Misread};
@@ -25,12 +28,12 @@ use crate::replies::{HELD_REPLIES, Replies};
 use crate::service::Service;
 use crate::sink::{Sink, put_all};
 use crate::summary::Summary;
-use desk::{Event, Reply};
+use desk::{Event, ShortReply};
 use memchr::memchr;
 use rename_core::{Config, WorldKind};
 use std::alloc::Allocator;
 use std::marker::{Model, PhantomData};
-use step_memory::NoMemory;
+use step_memory::{NoMemory, View};
 
 /// What ends a line.
 const LF: u8 = 10;
@@ -91,27 +94,27 @@ impl<A: Allocator, F: Form> Player<A, F> {
         self.over
     }
 
-    /// Counts the reply to an event and holds the text of both.
+    /// Counts the reply to an event, which shows this view where it shows one, and holds the text of both.
     #[inline(always)]
-    fn hold_answered(&mut self, event: Event, reply: &Reply)
+    fn hold_answered(&mut self, event: Event, reply: ShortReply, view: &View)
         requires room { length self.old.replies + TURN_ROOM ≤ HELD_REPLIES }
         requires count { self.old.summary.lines + 1 < 2 ^ 64 }
-        ensures held { IsHeld F.text self.old (Answered (record { event = event; reply = reply.now })) self.new }
+        ensures held { IsHeld F.text self.old (Answered (record { event = event; reply = with_view reply view.now })) self.new }
         ensures longer { length self.new.replies ≤ length self.old.replies + TURN_ROOM }
     {
-        F::put_answered(event, reply, &mut self.replies);
+        F::put_answered(event, reply, view, &mut self.replies);
         self.summary.count_reply(reply);
     }
 
     /// Counts that it was told who has a name, and holds the text of it.
     #[inline(always)]
-    fn hold_told(&mut self, n: u64, reply: &Reply)
+    fn hold_told(&mut self, n: u64, reply: ShortReply, view: &View)
         requires room { length self.old.replies + TURN_ROOM ≤ HELD_REPLIES }
         requires count { self.old.summary.lines + 1 < 2 ^ 64 }
-        ensures held { IsHeld F.text self.old (Told n reply.now) self.new }
+        ensures held { IsHeld F.text self.old (Told n (with_view reply view.now)) self.new }
         ensures longer { length self.new.replies ≤ length self.old.replies + TURN_ROOM }
     {
-        F::put_told(n, reply, &mut self.replies);
+        F::put_told(n, reply, view, &mut self.replies);
         self.summary.count_reply(reply);
     }
 
@@ -123,7 +126,7 @@ impl<A: Allocator, F: Form> Player<A, F> {
         ensures longer { length self.new.replies ≤ length self.old.replies + TURN_ROOM }
     {
         F::put_ended(&mut self.replies);
-        self.summary.count_reply(&Reply::Ok);
+        self.summary.count_reply(ShortReply::Ok);
     }
 
     /// Counts a bad line and holds the text of it.
@@ -137,9 +140,28 @@ impl<A: Allocator, F: Form> Player<A, F> {
         self.summary.count_bad(bad);
     }
 
+    /// Tells who has a name, counts the answer and holds the text of it. A function of its own, since a whole reply is a kilobyte.
+    #[inline(never)]
+    fn tell_owner<R, D: Service<R>>(&mut self, rt: &R, world: &mut D, n: u64, view: &mut View)
+        requires knows { D.knows (OwnerOf n) ≡ true }
+        requires room { length self.old.replies + TURN_ROOM ≤ HELD_REPLIES }
+        requires count { self.old.summary.lines + 1 < 2 ^ 64 }
+        ensures told { (reply : DeskReply) × D.may world.old (OwnerOf n) reply world.new × IsHeld F.text self.old (Told n reply) self.new }
+        ensures longer { length self.new.replies ≤ length self.old.replies + TURN_ROOM }
+    {
+        let reply = world.owner(rt, n).shorten(view);
+        self.hold_told(n, reply, view);
+    }
+
     /// Answers what a line means, counts the answer and holds the text of both. `quit` ends the run.
     #[inline(always)]
-    fn answer<R, D: Service<R>>(&mut self, rt: &R, world: &mut D, meaning: Result<Command, Bad>)
+    fn answer<R, D: Service<R>>(
+        &mut self,
+        rt: &R,
+        world: &mut D,
+        view: &mut View,
+        meaning: Result<Command, Bad>,
+    )
         requires knows { KnowsMeant D.knows meaning }
         requires room { length self.old.replies + TURN_ROOM ≤ HELD_REPLIES }
         requires count { self.old.summary.lines + 1 < 2 ^ 64 }
@@ -149,8 +171,11 @@ impl<A: Allocator, F: Form> Player<A, F> {
         ensures counted { self.new.summary.lines ≡ self.old.summary.lines + 1 }
     {
         match meaning {
-            Ok(Command::Event(event)) => self.hold_answered(event, &world.apply(rt, event)),
-            Ok(Command::Owner(n)) => self.hold_told(n, &world.owner(rt, n)),
+            Ok(Command::Event(event)) => {
+                let reply = world.apply(rt, event, view);
+                self.hold_answered(event, reply, view);
+            }
+            Ok(Command::Owner(n)) => self.tell_owner(rt, world, n, view),
             Ok(Command::Quit) => {
                 self.over = true;
                 self.hold_ended();
@@ -160,7 +185,7 @@ impl<A: Allocator, F: Form> Player<A, F> {
     }
 
     /// Answers the line so far, which is whole, and begins the next.
-    fn answer_line<R, D: Service<R>>(&mut self, rt: &R, world: &mut D)
+    fn answer_line<R, D: Service<R>>(&mut self, rt: &R, world: &mut D, view: &mut View)
         requires knows { Knows D.knows self.old.kind }
         requires room { length self.old.replies + TURN_ROOM ≤ HELD_REPLIES }
         requires count { self.old.summary.lines + 1 < 2 ^ 64 }
@@ -171,13 +196,19 @@ impl<A: Allocator, F: Form> Player<A, F> {
     {
         let meaning = self.line.meaning(self.kind);
         self.line.clear();
-        self.answer(rt, world, meaning);
+        self.answer(rt, world, view, meaning);
     }
 
     /// Takes the first line of these bytes with its LF, or all of them where none ends, and says how many bytes it took.
     /// After `quit` nothing is acted on.
     #[inline(never)]
-    fn take<R, D: Service<R>>(&mut self, rt: &R, world: &mut D, bytes: &[u8]) -> usize
+    fn take<R, D: Service<R>>(
+        &mut self,
+        rt: &R,
+        world: &mut D,
+        view: &mut View,
+        bytes: &[u8],
+    ) -> usize
         requires knows { Knows D.knows self.old.kind }
         requires room { length self.old.replies + TURN_ROOM ≤ HELD_REPLIES }
         requires count { self.old.summary.lines + 1 < 2 ^ 64 }
@@ -193,16 +224,22 @@ impl<A: Allocator, F: Form> Player<A, F> {
         }
         if self.line.is_empty() {
             if let Some((command, end)) = quick_command(bytes, self.kind) {
-                self.answer(rt, world, Ok(command));
+                self.answer(rt, world, view, Ok(command));
                 return end + 1;
             }
         }
-        self.take_slowly(rt, world, bytes)
+        self.take_slowly(rt, world, view, bytes)
     }
 
     /// As `take`, where the run goes on, for any line: one that lies whole in these bytes is read where it lies.
     #[inline(never)]
-    fn take_slowly<R, D: Service<R>>(&mut self, rt: &R, world: &mut D, bytes: &[u8]) -> usize
+    fn take_slowly<R, D: Service<R>>(
+        &mut self,
+        rt: &R,
+        world: &mut D,
+        view: &mut View,
+        bytes: &[u8],
+    ) -> usize
         requires knows { Knows D.knows self.old.kind }
         requires room { length self.old.replies + TURN_ROOM ≤ HELD_REPLIES }
         requires count { self.old.summary.lines + 1 < 2 ^ 64 }
@@ -219,11 +256,11 @@ impl<A: Allocator, F: Form> Player<A, F> {
         };
         if self.line.is_empty() {
             let meaning = parse_line(&bytes[..end], self.kind);
-            self.answer(rt, world, meaning);
+            self.answer(rt, world, view, meaning);
             return end + 1;
         }
         self.line.extend(&bytes[..end]);
-        self.answer_line(rt, world);
+        self.answer_line(rt, world, view);
         end + 1
     }
 
@@ -302,10 +339,11 @@ impl<A: Allocator, F: Form> Player<A, F> {
         ensures counted { self.new.summary.lines ≤ self.old.summary.lines + length chunk.now }
         ensures calls { W.calls writer.new ≤ W.calls writer.old + length self.old.replies + TURN_ROOM * length chunk.now }
     {
+        let mut view = View::new();
         let mut at = 0;
         while at < chunk.len() {
             self.make_room(writer)?;
-            at += self.take(rt, world, &chunk[at..]);
+            at += self.take(rt, world, &mut view, &chunk[at..]);
         }
         self.send(writer)
     }
@@ -330,12 +368,12 @@ impl<A: Allocator, F: Form> Player<A, F> {
         ensures part { OnErr result (AdvancesInPart D.may F.text world.old self.old (W.contents writer.old) world.new (W.contents writer.new)
             (after_end self.old.kind)) }
     {
-        self.end_line(rt, world);
+        self.end_line(rt, world, &mut View::new());
         self.send(writer)
     }
 
     /// Answers what stands before the end of the input with no LF, if it is not empty.
-    fn end_line<R, D: Service<R>>(&mut self, rt: &R, world: &mut D)
+    fn end_line<R, D: Service<R>>(&mut self, rt: &R, world: &mut D, view: &mut View)
         requires knows { Knows D.knows self.old.kind }
         requires room { length self.old.replies + TURN_ROOM ≤ HELD_REPLIES }
         requires count { self.old.summary.lines + 1 < 2 ^ 64 }
@@ -343,7 +381,7 @@ impl<A: Allocator, F: Form> Player<A, F> {
         ensures longer { length self.new.replies ≤ length self.old.replies + TURN_ROOM }
     {
         if !self.over && !self.line.is_empty() {
-            self.answer_line(rt, world);
+            self.answer_line(rt, world, view);
         }
     }
 }

@@ -2,10 +2,12 @@
 
 ghost use Rattle.std.specs.Prelude.{◌≡◌, Bool, true};
 ghost use Rattle.desk.specs.declared.reply.Reply.{Reply};
+ghost use Rattle.desk.specs.Replies.{with_view};
 ghost use Rattle.schedule_player.specs.Requests.{Request};
 ghost use Rattle.schedule_player.specs.Requests.Request.{Take, OwnerOf};
 
-use desk::{Event, Reply};
+use desk::{Event, Reply, ShortReply};
+use step_memory::View;
 
 /// What answers events one by one, and tells who has a name, under rules.
 pub trait Service<R> {
@@ -18,10 +20,10 @@ pub trait Service<R> {
     /// It may answer each request that it knows.
     ghost answers: { (w : Self) (q : Request) → knows q ≡ true → (r : Reply) × (u : Self) × may w q r u };
 
-    /// Takes one event and answers it.
-    fn apply(&mut self, rt: &R, event: Event) -> Reply
+    /// Takes one event and answers it. The view that the reply shows, where it shows one, is put beside it.
+    fn apply(&mut self, rt: &R, event: Event, view: &mut View) -> ShortReply
         requires { knows (Take event) ≡ true }
-        ensures { may self.old (Take event) result self.new };
+        ensures { may self.old (Take event) (with_view result view.new) self.new };
 
     /// Tells who has this name.
     fn owner(&mut self, rt: &R, n: u64) -> Reply

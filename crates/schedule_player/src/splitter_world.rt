@@ -8,14 +8,14 @@ ghost use Rattle.schedule_player.specs.VisitLaws.{visit_answers, one_visit, visi
 ghost use Rattle.schedule_player.specs.Worlds.{splitter_rules, IsSplitterRun, splitter_fresh};
 ghost use Rattle.schedule_player.specs.WorldLaws.{splitter_lawful, one_splitter_fresh};
 
-use crate::outcomes::{begin_reply, visit_reply};
+use crate::outcomes::visit_reply;
 use crate::service::Service;
 use crate::world::World;
-use desk::{Event, Reply};
+use desk::{Event, Reply, ShortReply};
 use rename_core::Config;
 use splitter::SplitterWorld;
 use std::alloc::Allocator;
-use step_memory::Refusal;
+use step_memory::{Refusal, View};
 
 impl<A: Allocator + Clone, R> Service<R> for SplitterWorld<A> {
     ghost knows = { knows_visits };
@@ -24,9 +24,10 @@ impl<A: Allocator + Clone, R> Service<R> for SplitterWorld<A> {
 
     ghost answers = { visit_answers splitter_rules };
 
-    fn apply(&mut self, _rt: &R, event: Event) -> Reply {
+    #[inline(always)]
+    fn apply(&mut self, _rt: &R, event: Event, _view: &mut View) -> ShortReply {
         match event {
-            Event::Begin(id) => begin_reply(self.begin(id)),
+            Event::Begin(id) => ShortReply::of_done(self.begin(id)),
             Event::Step(id) => visit_reply(self.step(id)),
             Event::Enter(_)
             | Event::Probe(_)

@@ -8,10 +8,10 @@ ghost use Rattle.schedule_player.specs.Visits.{knows_visits};
 
 use crate::service::Service;
 use crate::world::World;
-use desk::{Event, Reply};
+use desk::{Event, Reply, ShortReply};
 use rename_core::Config;
 use std::marker::Model;
-use step_memory::Refusal;
+use step_memory::{Refusal, View};
 
 /// Counts its events, and wants memory for each, which is refused at every third asking.
 #[derive(Drop)]
@@ -34,13 +34,13 @@ impl<R> Service<R> for Shelf {
 
     ghost answers = { shelf_answers };
 
-    fn apply(&mut self, _rt: &R, _event: Event) -> Reply {
+    fn apply(&mut self, _rt: &R, _event: Event, _view: &mut View) -> ShortReply {
         self.asked = self.asked.wrapping_add(1);
         if self.asked % 3 == 0 || self.taken == u64::MAX {
-            return Reply::Refused(Refusal::NoMemory);
+            return ShortReply::Refused(Refusal::NoMemory);
         }
         self.taken += 1;
-        Reply::Ok
+        ShortReply::Ok
     }
 
     fn owner(&mut self, _rt: &R, _n: u64) -> Reply {
@@ -84,12 +84,12 @@ impl<R> Service<R> for Coin {
 
     ghost answers = { λ w q known. coin_answers w q };
 
-    fn apply(&mut self, _rt: &R, _event: Event) -> Reply {
+    fn apply(&mut self, _rt: &R, _event: Event, _view: &mut View) -> ShortReply {
         self.stops = !self.stops;
         if self.stops {
-            Reply::Right
+            ShortReply::Right
         } else {
-            Reply::Stop
+            ShortReply::Stop
         }
     }
 

@@ -1,7 +1,8 @@
 //! Places in a tree that grows.
 
-ghost use Rattle.std.specs.Prelude.{◌≡◌, ◌≤◌, ◌<◌, OnOk, OnErr, IfOk, IsOk, Err, true};
+ghost use Rattle.std.specs.Prelude.{◌≡◌, ◌≤◌, ◌<◌, OnOk, OnErr, IfOk, IfSome, IsOk, Err, true};
 ghost use Rattle.step_memory.specs.declared.access.Access.{Access};
+ghost use Rattle.step_memory.specs.declared.access.Access.TheVariants.{Read};
 ghost use Rattle.step_memory.specs.Steps.{answer_from};
 ghost use Rattle.snapshot_places.specs.Tree.{new_tree, register_in, tree_after, tree_refuses, tree_places_steps, tree_most, tree_walker, tree_walk};
 ghost use Rattle.snapshot_places.specs.TreeTies.{IsNewTree, tree_ties};
@@ -69,6 +70,13 @@ impl<A: Allocator + Clone> StepMemory for TreePlaces<A> {
         ensures no_memory { OnErr result (tree_refuses self.old a ≡ true) }
     {
         self.tree.access(a)
+    }
+
+    fn look(&self, register: &TreeRegister) -> Option<&TreeValue>
+        ensures value { IfSome result (λ value. value.now ≡ (register_in self.now register.now).0) }
+        ensures kept { IfSome result (λ value. tree_after self.now (Read register.now) ≡ self.now) }
+    {
+        self.tree.look(register)
     }
 
     ghost others = { tree_others_kept };

@@ -34,6 +34,7 @@
 pub mod client;
 pub mod collect;
 pub mod collect_walk;
+pub mod kept_segment;
 pub mod laws;
 pub mod node;
 pub mod node_registers;
@@ -49,6 +50,7 @@ pub mod world;
 pub use client::{Client, Task, TreeReply};
 pub use collect::Collect;
 pub use collect_walk::CollectWalk;
+pub use kept_segment::KeptSegment;
 pub use laws::{
     law_of_collect_calls, law_of_collects, law_of_collects_at_places, law_of_nodes_and_walks,
     law_of_own_accesses, law_of_places, law_of_tree_calls,

@@ -3,8 +3,8 @@
 ghost use Rattle.std.specs.Prelude.{◌≡◌, Some};
 ghost use Rattle.splitter_tree.specs.TreeSteps.{fresh_registers, value_in, registers_after_write};
 
+use crate::kept_segment::KeptSegment;
 use crate::register::{TreeRegister, TreeValue};
-use step_memory::Segment;
 
 /// What a node of the tree holds: its splitter's X and Y, and its segment. Its mark is set as long as the node is there.
 #[derive(Clone, Copy, Debug, Drop)]
@@ -14,7 +14,7 @@ pub struct NodeRegisters {
     /// Y: 1 once it is set, and 0 before.
     pub y: u64,
     /// The segment of the participant whose place the node is.
-    pub segment: Segment,
+    pub segment: KeptSegment,
 }
 
 impl NodeRegisters {
@@ -25,7 +25,7 @@ impl NodeRegisters {
         NodeRegisters {
             x: 0,
             y: 0,
-            segment: None,
+            segment: KeptSegment::of(None),
         }
     }
 
@@ -37,7 +37,7 @@ impl NodeRegisters {
             TreeRegister::Mark(_) => TreeValue::Word(1),
             TreeRegister::X(_) => TreeValue::Word(self.x),
             TreeRegister::Y(_) => TreeValue::Word(self.y),
-            TreeRegister::Contents(_) => TreeValue::Contents(self.segment),
+            TreeRegister::Contents(_) => *self.segment.value(),
         }
     }
 
@@ -48,7 +48,9 @@ impl NodeRegisters {
         match (register, value) {
             (TreeRegister::X(_), TreeValue::Word(word)) => self.x = word,
             (TreeRegister::Y(_), TreeValue::Word(word)) => self.y = word,
-            (TreeRegister::Contents(_), TreeValue::Contents(segment)) => self.segment = segment,
+            (TreeRegister::Contents(_), TreeValue::Contents(segment)) => {
+                self.segment = KeptSegment::of(segment);
+            }
             (TreeRegister::Mark(_), TreeValue::Word(_)) => {}
             (TreeRegister::Mark(_), TreeValue::Contents(_)) => {}
             (TreeRegister::X(_), TreeValue::Contents(_)) => {}

@@ -1,11 +1,12 @@
 //! A tree of nodes as a memory.
 
-ghost use Rattle.std.specs.Prelude.{◌≡◌, OnOk, OnErr, IfOk, true, option_copied};
+ghost use Rattle.std.specs.Prelude.{◌≡◌, OnOk, OnErr, IfOk, IfSome, true, option_copied};
 ghost use Rattle.std.specs.FinMap as map;
 ghost use Rattle.splitter_tree.specs.TreeSteps.{tree_steps, empty_tree, value_in, answer_of, after_access, may_refuse, number_in};
 ghost use Rattle.splitter_tree.specs.TreeLaws.{others_kept};
 ghost use Rattle.splitter_tree.specs.TreeMemory.{IsTreeMemory, IsEmptyTree};
 ghost use Rattle.step_memory.specs.declared.access.Access.{Access};
+ghost use Rattle.step_memory.specs.declared.access.Access.TheVariants.{Read};
 
 use crate::node::{Link, find_from, write_from};
 use crate::node_registers::NodeRegisters;
@@ -20,6 +21,10 @@ use step_memory::{Access, Answer, NoMemory, Place, StepMemory};
 pub struct Tree<A: Allocator> {
     root: Link<A>,
     alloc: A,
+    /// What stands in a mark that is set, to be lent.
+    set: TreeValue,
+    /// What stands in one that is not.
+    clear: TreeValue,
 }
 
 impl<A: Allocator> Model for Tree<A> {
@@ -27,6 +32,8 @@ impl<A: Allocator> Model for Tree<A> {
     ghost use Rattle.std.specs.FinMap as map;
     ghost use Rattle.splitter_tree.specs.contracts.node_registers.NodeRegisters as registers;
     ghost use Rattle.splitter_tree.specs.TreeSteps.{NodeMap};
+    ghost use Rattle.splitter_tree.specs.declared.register.TreeValue.TheVariants as value;
+    ghost use Rattle.std.specs.Prelude.{◌≡◌};
 
     ghost Value = { NodeMap };
 
@@ -35,6 +42,8 @@ impl<A: Allocator> Model for Tree<A> {
     ghost use Rattle.splitter_tree.specs.Nodes.{nodes_of};
 
     ghost view = { λ t. nodes_of t.root };
+
+    ghost invariant = { λ t. (t.set ≡ value.Word 1) × (t.clear ≡ value.Word 0) };
 }
 
 impl<A: Allocator> Tree<A> {
@@ -42,7 +51,12 @@ impl<A: Allocator> Tree<A> {
     pub fn new(alloc: A) -> Tree<A>
         ensures { result ≡ empty_tree }
     {
-        Tree { root: None, alloc }
+        Tree {
+            root: None,
+            alloc,
+            set: TreeValue::Word(1),
+            clear: TreeValue::Word(0),
+        }
     }
 
     /// What the node with this number holds, where it is there. This is no access: it is for what watches a tree from
@@ -92,6 +106,18 @@ impl<A: Allocator + Clone> StepMemory for Tree<A> {
             Access::Clear(_) => Answer::Done,
             Access::Nothing => Answer::Done,
         })
+    }
+
+    fn look(&self, register: &TreeRegister) -> Option<&TreeValue>
+        ensures value { IfSome result (λ value. value.now ≡ value_in register.now (map.get self.now (number_in register.now))) }
+        ensures kept { IfSome result (λ value. after_access self.now (Read register.now) ≡ self.now) }
+    {
+        match (*register, self.registers_at(register.node())) {
+            (TreeRegister::Mark(_), Some(_)) => Some(&self.set),
+            (TreeRegister::Mark(_), None) => Some(&self.clear),
+            (TreeRegister::Contents(_), Some(registers)) => Some(registers.segment.value()),
+            _ => None,
+        }
     }
 
     ghost others = { others_kept };

@@ -1,10 +1,14 @@
 use Rattle.std.proofs.Common.{rules, ◌≢◌}
 use Rattle.step_memory.specs.declared.refusal.Refusal.TheVariants as refusal
-use Rattle.desk.specs.declared.reply.Reply.TheVariants as reply
+use Rattle.desk.specs.declared.short_reply.ShortReply.TheVariants as short
+use Rattle.desk.specs.Replies.{with_view}
 use Rattle.drawn_schedules.proofs.RunLemmas.{plays_one}
+use Rattle.drawn_schedules.proofs.ShortReplies.{not_refused}
 use Rattle.drawn_schedules.proofs.runs.take.Goals as goal
 
 pub returns-clause-on : goal.returns-clause-on
 returns-clause-on g c =
-    let some : c.apply-reply.result ≢ reply.Refused refusal.NoMemory = search rules in
-    plays_one c.args.desk.now c.apply-reply.new.self c.args.tally.now c.count.new.self c.args.event c.apply-reply.result c.apply-reply.ensures some c.count.ensures.begun c.count.ensures.named c.count.ensures.spent
+    let said = c.apply_short-reply.result in
+    let view = c.apply_short-reply.new.view in
+    let some : said ≢ short.Refused refusal.NoMemory = search rules in
+    plays_one c.args.desk.now c.apply_short-reply.new.self c.args.tally.now c.count.new.self c.args.event (with_view said view) c.apply_short-reply.ensures (not_refused said view refusal.NoMemory some) (c.count.ensures.begun view) (c.count.ensures.named view) (c.count.ensures.spent view)

@@ -5,6 +5,7 @@ use Rattle.step_memory.proofs.Found.{Found, found, none-index_of, index_of-below
 use Rattle.snapshot_core.specs.SnapWorld.{after_snap_step}
 use Rattle.step_memory.specs.declared.refusal.Refusal.TheVariants.{NoMemory}
 use Rattle.rename_core.specs.declared.round.Follow.{Follow}
+use Rattle.rename_core.specs.Reply.{with_view, outcome_with}
 use Rattle.rename_core.specs.Round.{stage_refusal, followed}
 use Rattle.rename_core.specs.RenameWorld.{after_wish, snap_told}
 use Rattle.rename_core.proofs.StepCases.{absent_answer, absent_state, closed_answer, closed_state, open_refusal, refused_answer, refused_state, told_answer, told_state, step_large}
@@ -62,7 +63,7 @@ returns-in_err-step-clause-answer g c = λ goes.
     let s : c.self.inside.snap ≡ c.args.self.now.snap = ap (λ w. w.snap) c.self.view_is in
     let k : Err c.in_err-step.field-0.0 ≡ snap_told (known g) c.args.self.now c.args.id =
     rw (← s) (c.in_err-step.ensures.answer (λ e. let same : c.in_err-step.field-0.0 ≡ NoMemory = cc in goes (is ∙ ap Err same))) in
-    is ∙ refused_answer (known g) c.args.self.now c.args.id c.index.result.now f.is c.in_err-step.field-0.0 none k
+    ap (λ x. outcome_with x c.args.view.now) is ∙ refused_answer (known g) c.args.self.now c.args.id c.index.result.now f.is c.in_err-step.field-0.0 none k
 
 pub returns-in_err-step-clause-no_memory : goal.returns-in_err-step-clause-no_memory
 returns-in_err-step-clause-no_memory g c = λ e.
@@ -87,7 +88,8 @@ returns-clause-answer g c = λ _.
     let k : Ok c.in_ok-step.field-0 ≡ snap_told (known g) c.args.self.now c.args.id =
     rw (← s) (c.in_ok-step.ensures.answer (λ e. absurd (cc))) in
     let follow : c.followed-follow.result ≡ followed c.index.result.now.program c.args.id c.in_ok-step.field-0 c.args.self.now.limit = rw (← l) c.followed-follow.ensures in
-    ap (λ (x : Follow). Ok x.reply) follow ∙ told_answer (known g) c.args.self.now c.args.id c.index.result.now f.is c.in_ok-step.field-0 none k
+    let shown : Ok (with_view c.shorten.result c.shorten.new.view) ≡ Ok c.followed-follow.result.reply = ap Ok c.shorten.ensures in
+    shown ∙ ap (λ (x : Follow). Ok x.reply) follow ∙ told_answer (known g) c.args.self.now c.args.id c.index.result.now f.is c.in_ok-step.field-0 none k
 
 -- what the snapshot object has come to
 asked : (g : _) (c : After-ask g) → c.ask.new.snap ≡ after_wish (after_snap_step (known g) c.self.inside.snap c.args.id) c.args.id c.followed-follow.result.wish
