@@ -11,10 +11,11 @@ use Rattle.clap.proofs.OnLiterals.{clap_on_literals}
 use Rattle.slotctl.specs.declared.asked.Ask.{Ask}
 use Rattle.slotctl.specs.declared.asked.Ask.TheVariants.{Play, Draw}
 use Rattle.slotctl.specs.declared.asked.Drawing.{Drawing}
+use Rattle.slotctl.specs.declared.asked.Playing.{Playing}
 use Rattle.slotctl.specs.declared.misuse.Misuse.{Misuse}
 use Rattle.slotctl.specs.declared.misuse.Misuse.TheVariants.{Help, Words, Memory}
 use Rattle.slotctl.specs.CommandLine.{slotctl_app}
-use Rattle.slotctl.specs.Asked.{AsksFor, IsAsked, IsDrawingOf, IsMisuse, IsMisuseOf, IsRefusal, is_help, is_refusal}
+use Rattle.slotctl.specs.Asked.{AsksFor, IsAsked, IsDrawingOf, IsPlayingOf, IsMisuse, IsMisuseOf, IsRefusal, is_help, is_refusal}
 
 pub app_is_simple : is_simple slotctl_app ≡ true
 unfolding clap_on_literals
@@ -55,11 +56,19 @@ refused words kinds (Words text) is none never = inr (none, never)
 other_name : codes "draw" ≡ codes "play" → ⊥
 other_name same = let first : 100 ≡ 112 = ap (λ l. get_or l 0 0) same in omega (arith, first)
 
+same_rows : (name : List ℕ) (a b : List Row) (met : Option (List ℕ × List Row)) → met ≡ Some (name, a) → met ≡ Some (name, b) → a ≡ b
+same_rows name a b met is at = ap (λ (p : List ℕ × List Row). p.1) (same_Some (name, a) (name, b) (sym is ∙ at))
+
+-- where `play` was met and gives nothing, nothing is asked for
+pub nothing_played : (met : Option (List ℕ × List Row)) (rows : List Row) → met ≡ Some (codes "play", rows) → ((p : Playing) → IsPlayingOf rows p → ⊥) → (a : Ask) → IsAsked met a → ⊥
+nothing_played met rows is none (Play p) h = none p (subst (λ (r : List Row). IsPlayingOf r p) (same_rows (codes "play") h.0 rows met h.1 is) h.2)
+nothing_played met rows is none (Draw d) h =
+    let same : (codes "draw", h.0) ≡ (codes "play", rows) = same_Some (codes "draw", h.0) (codes "play", rows) (sym h.1 ∙ is) in
+    other_name (ap (λ (p : List ℕ × List Row). p.0) same)
+
 -- where `draw` was met and gives nothing, nothing is asked for
 pub nothing_drawn : (met : Option (List ℕ × List Row)) (rows : List Row) → met ≡ Some (codes "draw", rows) → ((d : Drawing) → IsDrawingOf rows d → ⊥) → (a : Ask) → IsAsked met a → ⊥
-nothing_drawn met rows is none (Play config) h =
+nothing_drawn met rows is none (Play playing) h =
     let same : (codes "draw", rows) ≡ (codes "play", h.0) = same_Some (codes "draw", rows) (codes "play", h.0) (sym is ∙ h.1) in
     other_name (ap (λ (p : List ℕ × List Row). p.0) same)
-nothing_drawn met rows is none (Draw d) h =
-    let same : (codes "draw", h.0) ≡ (codes "draw", rows) = same_Some (codes "draw", h.0) (codes "draw", rows) (sym h.1 ∙ is) in
-    none d (subst (λ (r : List Row). IsDrawingOf r d) (ap (λ (p : List ℕ × List Row). p.1) same) h.2)
+nothing_drawn met rows is none (Draw d) h = none d (subst (λ (r : List Row). IsDrawingOf r d) (same_rows (codes "draw") h.0 rows met h.1 is) h.2)

@@ -1,7 +1,7 @@
 -- the command line of the program, as clap sees it
 use Rattle.std.specs.Prelude.{ℕ, List, [], ◌∷◌, Some, true, codes}
 use Rattle.clap.specs.Words.{App, Rule, new_app, new_rule, with_rule, with_subcommand}
-use Rattle.clap.specs.declared.builder.action.ArgAction.TheVariants.{Set}
+use Rattle.clap.specs.declared.builder.action.ArgAction.TheVariants.{Set, SetTrue}
 use Rattle.clap.specs.declared.builder.value_parser.ValueParser.TheVariants.{Unsigned}
 
 -- `--world NAME`, and `rename` where it is not given
@@ -57,8 +57,12 @@ steps_option = needed_option (codes "steps") 0 1000000
 abbrev pub runs_option : Rule
 runs_option = number_option (codes "runs") 0 1000 (codes "0")
 
+-- `--record`
+abbrev pub record_flag : Rule
+record_flag = record (new_rule (codes "record")) { long = Some (codes "record"); action = Some SetTrue }
+
 abbrev pub play_app : App
-play_app = with_rule (with_rule (with_rule (with_rule (new_app (codes "play")) world_option) m_option) k_option) limit_option
+play_app = with_rule (with_rule (with_rule (with_rule (with_rule (new_app (codes "play")) record_flag) world_option) m_option) k_option) limit_option
 
 -- what `draw` has to be told
 abbrev pub draw_needs_app : App

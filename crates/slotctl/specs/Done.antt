@@ -1,5 +1,5 @@
 -- what is done for the words of a command line
-use Rattle.std.specs.Prelude.{◌≡◌, ◌⊎◌, ◌<◌, ℕ, zero, suc, List, Option, Result, Ok, Err, IfOk, IfErr}
+use Rattle.std.specs.Prelude.{◌≡◌, ◌⊎◌, ◌<◌, ℕ, zero, suc, Bool, true, false, List, Option, Result, Ok, Err, IfOk, IfErr}
 use Rattle.std.specs.Io.KnownBytes.{Appends}
 use Rattle.drawn_schedules.specs.Runs.{HasDrawn, HasDrawnPart}
 use Rattle.drawn_schedules.specs.Schedule.{schedule}
@@ -10,6 +10,9 @@ use Rattle.schedule_player.specs.declared.fault.Fault.{Fault}
 use Rattle.schedule_player.specs.declared.fault.Fault.TheVariants.{Write, Memory}
 use Rattle.schedule_player.specs.declared.summary.Summary.{Summary}
 use Rattle.schedule_player.specs.Written.{HasPartOf}
+use Rattle.schedule_player.specs.Recorded.{IsRecorded}
+use Rattle.schedule_player.specs.Texts.{replies_of}
+use Rattle.rename_core.specs.declared.config.Config.{Config}
 use Rattle.slotctl.specs.declared.asked.Ask.{Ask}
 use Rattle.slotctl.specs.declared.asked.Ask.TheVariants.{Play, Draw}
 use Rattle.slotctl.specs.declared.asked.Drawing.{Drawing}
@@ -40,11 +43,16 @@ pub record IsDrawnBy {W : Type 0} (d : Drawing) (writing : Writing W) (w w' : W)
   pub memory : result ≡ Err Memory → IsPartDrawn d.runs d (writing.contents w) (writing.contents w')
   pub only : IfErr result (λ fault. (fault ≡ Write) ⊎ (fault ≡ Memory))
 
--- what was asked for is done, and answers this status: a config is played, with the theorem of a run; or nothing is read,
--- and a drawing is written
+-- a config is played, with the theorem of a run whose replies are written, or whose record is
+abbrev pub IsPlayedBy : {R W : Type 0} → Bool → Config → Reading R → Writing W → R → R → W → W → Result ℕ Fault → Type 0
+IsPlayedBy false config reading writing r r' w w' status =
+    (played : Result Summary Fault) × (status ≡ status_after played) × IsPlayed replies_of (IsTalk config) (IsTalk config) config.world reading writing r r' w w' played
+IsPlayedBy true config reading writing r r' w w' status =
+    (recorded : Result (Unit {0}) Fault) × (status ≡ status_after recorded) × IsRecorded config reading writing r r' w w' recorded
+
+-- what was asked for is done, and answers this status: a run is played; or nothing is read, and a drawing is written
 abbrev pub IsWorked : {R W : Type 0} → Ask → Reading R → Writing W → R → R → W → W → Result ℕ Fault → Type 0
-IsWorked (Play config) reading writing r r' w w' status =
-    (played : Result Summary Fault) × (status ≡ status_after played) × IsPlayed (IsTalk config) (IsTalk config) config.world reading writing r r' w w' played
+IsWorked (Play playing) reading writing r r' w w' status = IsPlayedBy playing.recorded playing.config reading writing r r' w w' status
 IsWorked (Draw drawing) reading writing r r' w w' status = (r' ≡ r) × IsDrawnBy drawing writing w w' status
 
 -- where the words ask for nothing that is done, nothing is read or written; what they ask for is done

@@ -1,8 +1,12 @@
--- the ranges of a drawing's numbers (this project's profile)
-use Rattle.std.specs.Prelude.{◌≡◌, ℕ, ◌<◌, ◌≤◌, ◌^◌, true}
+-- the ranges of what is asked for (this project's profile)
+use Rattle.std.specs.Prelude.{◌≡◌, ℕ, ◌<◌, ◌≤◌, ◌^◌, Bool, true}
 use Rattle.rename_core.specs.declared.config.WorldKind.{WorldKind}
 use Rattle.desk.specs.Desk.{gives_names}
 
 -- the seed has 64 bits, the identities are 1 to 16, the steps at most 1,000,000, the runs at most 1,000, and names are given in the world
 abbrev pub IsDrawingRange : ℕ → ℕ → ℕ → ℕ → WorldKind → Type 0
 IsDrawingRange seed ids steps runs world = (seed < 2 ^ 64) × (1 ≤ ids) × (ids ≤ 16) × (steps ≤ 1000000) × (runs ≤ 1000) × (gives_names world ≡ true)
+
+-- a record is written where names are given, and replies in any world
+abbrev pub CanBeWritten : Bool → WorldKind → Type 0
+CanBeWritten recorded world = recorded ≡ true → gives_names world ≡ true

@@ -2,11 +2,11 @@
 
 ghost use Rattle.std.specs.Prelude.{◌<◌, ◌^◌};
 ghost use Rattle.schedule_player.specs.Played.{reading, writing};
-ghost use Rattle.slotctl.specs.Done.{IsWorked, IsDrawnBy};
+ghost use Rattle.slotctl.specs.Done.{IsWorked, IsDrawnBy, IsPlayedBy};
 
-use crate::asked::{Ask, Drawing};
+use crate::asked::{Ask, Drawing, Playing};
 use drawn_schedules::{draw, play_drawn};
-use schedule_player::{Fault, Sink, Source, play};
+use schedule_player::{Fault, Sink, Source, play, record};
 use std::alloc::Allocator;
 
 // Writes what is drawn: a schedule, or the lines of runs.
@@ -33,9 +33,34 @@ fn draw_for<W: Sink, A: Allocator + Clone>(
     Ok(0)
 }
 
+// Plays a run, and writes the replies or its record.
+fn play_for<R: Source, W: Sink, A: Allocator + Clone>(
+    alloc: A,
+    playing: Playing,
+    reader: &mut R,
+    writer: &mut W,
+) -> Result<u8, Fault>
+    requires reads { R.calls reader.old < 2 ^ 64 }
+    requires writes { W.calls writer.old < 2 ^ 64 }
+    ensures { IsPlayedBy playing.recorded playing.config (reading R.remaining R.calls R.failed) (writing W.contents W.failed)
+        reader.old reader.new writer.old writer.new result }
+{
+    let Playing { config, recorded } = playing;
+    if recorded {
+        return match record(alloc, reader, writer, config) {
+            Ok(()) => Ok(0),
+            Err(fault) => Err(fault),
+        };
+    }
+    match play(alloc, reader, writer, config) {
+        Ok(_) => Ok(0),
+        Err(fault) => Err(fault),
+    }
+}
+
 /// Does what was asked for, over this input and this output, and answers the status of the program, 0.
 ///
-/// `play` writes the replies to the commands that it reads; `draw` reads nothing. Answers `Fault::Read` where the reader failed
+/// `play` writes the replies to the commands that it reads, or with `--record` the record of the run; `draw` reads nothing. Answers `Fault::Read` where the reader failed
 /// or the limit of reads was reached, `Fault::Write` where the writer failed or took no byte, and `Fault::Memory` where memory
 /// was refused: by `play` with nothing read and nothing written.
 pub fn work<R: Source, W: Sink, A: Allocator + Clone + Drop>(
@@ -49,10 +74,7 @@ pub fn work<R: Source, W: Sink, A: Allocator + Clone + Drop>(
     ensures { IsWorked ask (reading R.remaining R.calls R.failed) (writing W.contents W.failed) reader.old reader.new writer.old writer.new result }
 {
     match ask {
-        Ask::Play(config) => match play(alloc, reader, writer, config) {
-            Ok(_) => Ok(0),
-            Err(fault) => Err(fault),
-        },
+        Ask::Play(playing) => play_for(alloc, playing, reader, writer),
         Ask::Draw(drawing) => draw_for(alloc, drawing, writer),
     }
 }
