@@ -72,6 +72,7 @@ impl<A: Allocator + Clone> Desk<A> {
     }
 
     /// As `apply`, with a reply of a few bytes, and its view where it shows one.
+    #[inline(always)]
     pub fn apply_short(&mut self, event: Event, view: &mut View) -> ShortReply
         ensures { may_by desk_rules self.old event (with_view result view.new) self.new }
     {

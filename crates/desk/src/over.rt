@@ -65,6 +65,7 @@ where
 {
     /// Takes one event and answers it, by at most one access, with the view that the reply shows beside it. Refusals come as in
     /// the renaming world, the pool and the slots, and change nothing.
+    #[inline(always)]
     pub(crate) fn apply_short(&mut self, event: Event, view: &mut View) -> ShortReply
         ensures { may_by (rules_over ⟦<W as Known>⟧.places) self.old event (with_view result view.new) self.new }
     {

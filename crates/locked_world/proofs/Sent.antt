@@ -12,6 +12,7 @@ use Rattle.std.specs.contracts.impls.GlobalAllocator.TheImpl.{ghosts as heap_gho
 use Rattle.std.proofs.option.Option.TheSendSync as option
 use Rattle.std.proofs.boxed.Box.TheSendSync as boxed
 use Rattle.splitter_tree.proofs.node_registers.NodeRegisters.TheSendSync as registers_sent
+use Rattle.splitter_tree.proofs.register.TreeValue.TheSendSync as value_sent
 use Rattle.splitter_tree.proofs.node.Node.TheLaws.TheKnot as knot
 use Rattle.splitter_tree.specs.contracts.node.Node as node
 use Rattle.splitter_tree.specs.contracts.tree.Tree as tree
@@ -65,7 +66,7 @@ node_send A g s f = recorded_send (node.the_field A g).row _ _ (node.the_type A 
 tree_send : (A : RattleType) (g : Ghosts A.Denot) → IsSend A → Frees g g.dealloc_token → IsSend (tree.the_row A g)
 tree_send A g s f =
     view_send (tree_inside.the_row A g) _ _ _ _
-    (recorded_send (tree_inside.the_field A g).row _ _ (tree_inside.the_type A g).to_one (struct_send (shape (tree_inside.the_type A g)) (option.the_field_send _ (boxed.the_send _ A g (node_send A g s f) s f), (s, tt))))
+    (recorded_send (tree_inside.the_field A g).row _ _ (tree_inside.the_type A g).to_one (struct_send (shape (tree_inside.the_type A g)) (option.the_field_send _ (boxed.the_send _ A g (node_send A g s f) s f), (s, (value_sent.the_field_send, (value_sent.the_field_send, tt))))))
 
 places_send : (A : RattleType) (g : Ghosts A.Denot) → IsSend A → Frees g g.dealloc_token → IsSend (places.the_row A g)
 places_send A g s f =

@@ -1,6 +1,6 @@
 //! A renaming world, taken step by step.
 
-ghost use Rattle.std.specs.Prelude.{◌≡◌, ◌≢◌, ◌<◌, ◌≤◌, ◌⊎◌, ◌↔◌, [], length, IfOk, IfErr, OnErr, Err, Ok, true, false};
+ghost use Rattle.std.specs.Prelude.{◌≡◌, ◌≢◌, ℕ, ◌<◌, ◌≤◌, ◌⊎◌, ◌↔◌, List, [], length, IfOk, IfErr, IfSome, OnErr, Some, None, Err, Ok, true, false};
 ghost use Rattle.step_memory.specs.Participant.{index_of, program_of};
 ghost use Rattle.step_memory.specs.World.{begin_refusal, done_unless};
 ghost use Rattle.step_memory.specs.Calls.Call.{Began, Stepped};
@@ -84,29 +84,31 @@ where
     W::Walk: Copy,
     W::Value: Drop,
 {
-    /// A step that reads for a scan that goes on, after which nothing follows. Tells whether it was made; where not, nothing
-    /// has changed.
-    fn read_on(&mut self, id: u64) -> bool
-        ensures answer { result ≡ true → rename_answer ⟦<W as Known>⟧.places self.old id ≡ Ok Reply.Quiet }
-        ensures state { result ≡ true → self.new ≡ after_rename_step ⟦<W as Known>⟧.places self.old id }
-        ensures kept { result ≡ false → self.new ≡ self.old }
+    /// A step that is refused before its access, or that reads for a scan that goes on, after which nothing follows: its
+    /// outcome. `None` at any other step, with nothing changed.
+    fn take_quick(&mut self, id: u64) -> Option<Result<ShortReply, Refusal>>
+        ensures answer { IfSome result (λ r. (view : List (ℕ × ℕ)) → outcome_with r view ≡ rename_answer ⟦<W as Known>⟧.places self.old id) }
+        ensures state { IfSome result (λ r. self.new ≡ after_rename_step ⟦<W as Known>⟧.places self.old id) }
+        ensures refused { IfSome result (λ r. OnErr r (self.new ≡ self.old)) }
+        ensures sure { result ≢ Some (Err Refusal.NoMemory) }
+        ensures kept { result ≡ None → self.new ≡ self.old }
     {
         let Some(i) = find(&self.rounds, id) else {
-            return false;
+            return Some(Err(Refusal::NotBegun));
         };
         let round = self.rounds[i].program;
-        if round.stage.refusal().is_some() {
-            return false;
+        if let Some(refusal) = round.stage.refusal() {
+            return Some(Err(refusal));
         }
         if !self.snap.read_on(id) {
-            return false;
+            return None;
         }
         self.rounds[i] = Participant {
             identity: id,
             program: round,
             ended: false,
         };
-        true
+        Some(Ok(ShortReply::Quiet))
     }
 
     /// Any other step, and what follows it. A function of its own, so that a read has no room of a segment to clear.
@@ -142,8 +144,8 @@ where
         ensures refused { OnErr result (self.new ≡ self.old) }
         ensures no_memory { result ≡ Err Refusal.NoMemory → LacksMemory ⟦<W as Known>⟧.places self.old id }
     {
-        if self.read_on(id) {
-            return Ok(ShortReply::Quiet);
+        if let Some(outcome) = self.take_quick(id) {
+            return outcome;
         }
         self.take_other(id, view)
     }

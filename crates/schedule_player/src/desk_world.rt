@@ -21,6 +21,7 @@ impl<A: Allocator + Clone, R> Service<R> for Desk<A> {
 
     ghost answers = { λ w q known. desk_answers w q };
 
+    #[inline(always)]
     fn apply(&mut self, _rt: &R, event: Event, view: &mut View) -> ShortReply {
         self.apply_short(event, view)
     }

@@ -1,21 +1,34 @@
 use Rattle.std.proofs.Common.{rules, ◌≡◌, true, false, Some, None, Ok, get_or, set, refl, sym, ap, ◌∙◌, arith}
 use Rattle.std.specs.Prelude.{is_some}
 use Rattle.std.proofs.lemmas.List.{length-set}
-use Rattle.step_memory.specs.Participant.{index_of, with_participant, beginner}
-use Rattle.step_memory.proofs.Found.{Found, found, index_of-below}
+use Rattle.step_memory.specs.Participant.{index_of, participant_of, with_participant, beginner}
+use Rattle.step_memory.proofs.Found.{Found, found, none-index_of, index_of-below}
 use Rattle.snapshot_core.specs.declared.client.SnapReply.TheVariants.{Quiet}
 use Rattle.snapshot_core.specs.SnapWorld.{after_snap_step}
 use Rattle.rename_core.specs.declared.round.Wish.TheVariants.{Nothing}
 use Rattle.rename_core.specs.Round.{stage_refusal}
 use Rattle.rename_core.specs.RenameWorld.{snap_told}
-use Rattle.rename_core.proofs.StepCases.{not_refused, told_answer, told_state, step_large}
+use Rattle.rename_core.proofs.StepCases.{absent_answer, absent_state, closed_answer, closed_state, not_refused, told_answer, told_state, step_large}
 use Rattle.snapshot_core.specs.Places.{KnownPlaces, places_by}
-use Rattle.rename_core.proofs.world.RenameWorld.read_on.Given.{Over}
-use Rattle.rename_core.proofs.world.RenameWorld.read_on.Goals as goal
-use Rattle.rename_core.proofs.world.RenameWorld.read_on.Goals.{After-index, After-read_on}
+use Rattle.rename_core.proofs.world.RenameWorld.take_quick.Given.{Over}
+use Rattle.rename_core.proofs.world.RenameWorld.take_quick.Goals as goal
+use Rattle.rename_core.proofs.world.RenameWorld.take_quick.Goals.{In_default, After-index, After-read_on}
 
 abbrev known : (g : Over) → KnownPlaces g.row.W.Denot g.row.W-Reg.Denot g.row.W-Value.Denot g.row.W-Walker.Denot g.row.W-Walk.Denot
 known g = places_by g.W.Walker.StepProgram.steps g.W.Walker.PlaceWalker.place_of g.W.Walk.SegmentWalk.walks g.W.StepMemory.steps g.W.Places.most_of g.W.Places.walker_from g.W.Places.walk_from g.W.Places.ties
+
+absent : (g : _) (c : In_default g) → participant_of c.args.id c.args.self.now.rounds ≡ None
+absent g c =
+    let v : c.self.inside.rounds.items ≡ c.args.self.now.rounds = ap (λ w. w.rounds) c.self.view_is in
+    let n : None ≡ index_of c.args.id c.deref.result.now = c.in_default.ensures in
+    let e : index_of c.args.id c.args.self.now.rounds ≡ None = cc in
+    none-index_of c.args.id c.args.self.now.rounds e
+
+pub returns-in_default-clause-answer : goal.returns-in_default-clause-answer
+returns-in_default-clause-answer g c = λ view. absent_answer (known g) c.args.self.now c.args.id (absent g c)
+
+pub returns-in_default-clause-state : goal.returns-in_default-clause-state
+returns-in_default-clause-state g c = absent_state (known g) c.args.self.now c.args.id (absent g c)
 
 pub index-requires : goal.index-requires
 index-requires g c =
@@ -35,6 +48,18 @@ index_mut-requires g c =
     let n : Some c.in-Some.i ≡ index_of c.args.id c.deref.result.now = c.in-Some.ensures in
     omega (arith, index_of-below c.args.id c.deref.result.now c.in-Some.i n, c.deref.ensures.len)
 
+pub returns-in-Some-refusal-clause-answer : goal.returns-in-Some-refusal-clause-answer
+returns-in-Some-refusal-clause-answer g c = λ view.
+    let f = there g (goal.at.returns-in-Some-refusal-clause-answer g c).After-index in
+    let why : stage_refusal c.index.result.now.program.stage ≡ Some c.in-Some-refusal.refusal = sym c.in-Some-refusal.ensures in
+    closed_answer (known g) c.args.self.now c.args.id c.index.result.now f.is c.in-Some-refusal.refusal why
+
+pub returns-in-Some-refusal-clause-state : goal.returns-in-Some-refusal-clause-state
+returns-in-Some-refusal-clause-state g c =
+    let f = there g (goal.at.returns-in-Some-refusal-clause-state g c).After-index in
+    let why : stage_refusal c.index.result.now.program.stage ≡ Some c.in-Some-refusal.refusal = sym c.in-Some-refusal.ensures in
+    closed_state (known g) c.args.self.now c.args.id c.index.result.now f.is c.in-Some-refusal.refusal why
+
 -- what the snapshot object has told, and come to
 record Goes (g : _) (c : After-read_on g) : Type 0 where
   none : stage_refusal c.index.result.now.program.stage ≡ None
@@ -52,13 +77,13 @@ goes g c read =
     }
 
 pub returns-clause-answer : goal.returns-clause-answer
-returns-clause-answer g c = λ _.
+returns-clause-answer g c = λ view.
     let f = there g (goal.at.returns-clause-answer g c).After-index in
     let w = goes g (goal.at.returns-clause-answer g c).After-read_on c.if-not-read_on.false in
-    sym (told_answer (known g) c.args.self.now c.args.id c.index.result.now f.is Quiet w.none w.told)
+    told_answer (known g) c.args.self.now c.args.id c.index.result.now f.is Quiet w.none w.told
 
 pub returns-clause-state : goal.returns-clause-state
-returns-clause-state g c = λ _.
+returns-clause-state g c =
     let f = there g (goal.at.returns-clause-state g c).After-index in
     let w = goes g (goal.at.returns-clause-state g c).After-read_on c.if-not-read_on.false in
     let l : c.self.inside.limit ≡ c.args.self.now.limit = ap (λ w. w.limit) c.self.view_is in
