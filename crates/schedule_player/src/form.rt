@@ -19,7 +19,7 @@ pub trait Form: Drop {
     /// The text of a turn.
     ghost text: { Turn → List ℕ };
 
-    /// Appends the text of an event that was answered; the view is the one that the reply shows, where it shows one.
+    /// Appends the text of an event that was answered, with this view where the reply shows one.
     fn put_answered<A: Allocator>(
         event: Event,
         reply: ShortReply,
@@ -30,7 +30,7 @@ pub trait Form: Drop {
         ensures text { out.new ≡ out.old ++ text (Answered (record { event = event; reply = with_view reply view.now })) }
         ensures short { length out.new ≤ length out.old + TURN_ROOM };
 
-    /// Appends the text of an owner that was told, as of a reply.
+    /// Appends the text of an owner that was told, by a reply that shows this view where it shows one.
     fn put_told<A: Allocator>(n: u64, reply: ShortReply, view: &View, out: &mut Replies<A>)
         requires { length out.old + TURN_ROOM ≤ HELD_REPLIES }
         ensures text { out.new ≡ out.old ++ text (Told n (with_view reply view.now)) }

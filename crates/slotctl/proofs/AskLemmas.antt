@@ -11,11 +11,12 @@ use Rattle.clap.proofs.OnLiterals.{clap_on_literals}
 use Rattle.slotctl.specs.declared.asked.Ask.{Ask}
 use Rattle.slotctl.specs.declared.asked.Ask.TheVariants.{Play, Check, Draw, Serve}
 use Rattle.slotctl.specs.declared.asked.Drawing.{Drawing}
+use Rattle.slotctl.specs.declared.asked.Playing.{Playing}
 use Rattle.slotctl.specs.declared.asked.Serving.{Serving}
 use Rattle.slotctl.specs.declared.misuse.Misuse.{Misuse}
 use Rattle.slotctl.specs.declared.misuse.Misuse.TheVariants.{Help, Words, Memory}
 use Rattle.slotctl.specs.CommandLine.{slotctl_app}
-use Rattle.slotctl.specs.Asked.{AsksFor, IsAsked, IsDrawingOf, IsMisuse, IsMisuseOf, IsRefusal, IsServingOf, is_help, is_refusal}
+use Rattle.slotctl.specs.Asked.{AsksFor, IsAsked, IsDrawingOf, IsPlayingOf, IsMisuse, IsMisuseOf, IsRefusal, IsServingOf, is_help, is_refusal}
 
 pub app_is_simple : is_simple slotctl_app ≡ true
 unfolding clap_on_literals
@@ -56,6 +57,9 @@ refused words kinds (Words text) is none never = inr (none, never)
 other_name : codes "draw" ≡ codes "play" → ⊥
 other_name same = let first : 100 ≡ 112 = ap (λ l. get_or l 0 0) same in omega (arith, first)
 
+check_is_not_play : codes "check" ≡ codes "play" → ⊥
+check_is_not_play same = let first : 99 ≡ 112 = ap (λ l. get_or l 0 0) same in omega (arith, first)
+
 serve_is_not_play : codes "serve" ≡ codes "play" → ⊥
 serve_is_not_play same = let first : 115 ≡ 112 = ap (λ l. get_or l 0 0) same in omega (arith, first)
 
@@ -75,16 +79,23 @@ met_name met a b rows others is that = ap (λ (p : List ℕ × List Row). p.0) (
 met_rows : (met : Option (List ℕ × List Row)) (a b : List ℕ) (rows others : List Row) → met ≡ Some (a, rows) → met ≡ Some (b, others) → rows ≡ others
 met_rows met a b rows others is that = ap (λ (p : List ℕ × List Row). p.1) (same_Some (a, rows) (b, others) (sym is ∙ that))
 
+-- where `play` was met and gives nothing, nothing is asked for
+pub nothing_played : (met : Option (List ℕ × List Row)) (rows : List Row) → met ≡ Some (codes "play", rows) → ((p : Playing) → IsPlayingOf rows p → ⊥) → (a : Ask) → IsAsked met a → ⊥
+nothing_played met rows is none (Play p) h = none p (subst (λ (r : List Row). IsPlayingOf r p) (sym (met_rows met (codes "play") (codes "play") rows h.0 is h.1)) h.2)
+nothing_played met rows is none Check h = check_is_not_play (sym (met_name met (codes "play") (codes "check") rows h.0 is h.1))
+nothing_played met rows is none (Draw d) h = other_name (sym (met_name met (codes "play") (codes "draw") rows h.0 is h.1))
+nothing_played met rows is none (Serve s) h = serve_is_not_play (sym (met_name met (codes "play") (codes "serve") rows h.0 is h.1))
+
 -- where `draw` was met and gives nothing, nothing is asked for
 pub nothing_drawn : (met : Option (List ℕ × List Row)) (rows : List Row) → met ≡ Some (codes "draw", rows) → ((d : Drawing) → IsDrawingOf rows d → ⊥) → (a : Ask) → IsAsked met a → ⊥
-nothing_drawn met rows is none (Play config) h = other_name (met_name met (codes "draw") (codes "play") rows h.0 is h.1)
+nothing_drawn met rows is none (Play playing) h = other_name (met_name met (codes "draw") (codes "play") rows h.0 is h.1)
 nothing_drawn met rows is none Check h = check_is_not_draw (sym (met_name met (codes "draw") (codes "check") rows h.0 is h.1))
 nothing_drawn met rows is none (Draw d) h = none d (subst (λ (r : List Row). IsDrawingOf r d) (sym (met_rows met (codes "draw") (codes "draw") rows h.0 is h.1)) h.2)
 nothing_drawn met rows is none (Serve s) h = serve_is_not_draw (sym (met_name met (codes "draw") (codes "serve") rows h.0 is h.1))
 
 -- where `serve` was met and gives nothing, nothing is asked for
 pub nothing_served : (met : Option (List ℕ × List Row)) (rows : List Row) → met ≡ Some (codes "serve", rows) → ((s : Serving) → IsServingOf rows s → ⊥) → (a : Ask) → IsAsked met a → ⊥
-nothing_served met rows is none (Play config) h = serve_is_not_play (met_name met (codes "serve") (codes "play") rows h.0 is h.1)
+nothing_served met rows is none (Play playing) h = serve_is_not_play (met_name met (codes "serve") (codes "play") rows h.0 is h.1)
 nothing_served met rows is none Check h = serve_is_not_check (met_name met (codes "serve") (codes "check") rows h.0 is h.1)
 nothing_served met rows is none (Draw d) h = serve_is_not_draw (met_name met (codes "serve") (codes "draw") rows h.0 is h.1)
 nothing_served met rows is none (Serve s) h = none s (subst (λ (r : List Row). IsServingOf r s) (sym (met_rows met (codes "serve") (codes "serve") rows h.0 is h.1)) h.2)

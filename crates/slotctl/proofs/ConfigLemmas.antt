@@ -1,5 +1,5 @@
--- when no config has the matched options
-use Rattle.std.proofs.Common.{ap, sym, subst, arith, ◌≡◌, ◌∙◌, ◌<◌, ◌≤◌, ◌^◌, ℕ, List, Option, Some, None, Result, Ok, Err, IfOk, IsOk, ◌↔◌, MatchOption, IfSome, IsSome, codes, refl, true, false}
+-- when no config, run or drawing has the matched options
+use Rattle.std.proofs.Common.{ap, sym, subst, ◌≡◌, ◌∙◌, ◌<◌, ◌≤◌, ◌^◌, ℕ, List, Option, Some, None, Result, Ok, Err, IfOk, IsOk, ◌↔◌, Bool, MatchOption, IfSome, IsSome, codes, refl, true, false}
 use Rattle.std.specs.Prelude.{option_and_then}
 use Rattle.std.specs.Str.Parse.{ParsesUnsigned, digits_value, without_leading_plus}
 use Rattle.clap.specs.Words.{ReadsOne, Row, first_of, one_of}
@@ -9,9 +9,10 @@ use Rattle.rename_core.specs.Ranges.{IsConfigRange}
 use Rattle.step_memory.specs.declared.refusal.Refusal.{Refusal}
 use Rattle.rename_core.specs.declared.config.Config.{Config}
 use Rattle.rename_core.specs.declared.config.WorldKind.{WorldKind}
-use Rattle.slotctl.specs.Asked.{HasNumber, HasWorld, IsConfigOf, IsDrawingOf, IsServingOf, world_named}
-use Rattle.slotctl.specs.Ranges.{IsDrawingRange, IsServingRange}
+use Rattle.slotctl.specs.Asked.{HasNumber, HasWorld, IsConfigOf, IsDrawingOf, IsPlayingOf, IsServingOf, asks_record, world_named}
+use Rattle.slotctl.specs.Ranges.{CanBeWritten, IsDrawingRange, IsServingRange}
 use Rattle.slotctl.specs.declared.asked.Drawing.{Drawing}
+use Rattle.slotctl.specs.declared.asked.Playing.{Playing}
 use Rattle.slotctl.specs.declared.asked.Serving.{Serving}
 
 pub unless_some : {T : Type 0} (o : Option T) (P : Type 0) (Q : T → Type 0) → o ≡ None → P → MatchOption o P Q
@@ -80,6 +81,21 @@ made rows w m k limit (Err e) world has_m has_k has_limit values range = λ c h.
     let same_limit : c.limit ≡ limit = same_number rows (codes "limit") c.limit limit h.limit has_limit in
     let fits = c.in_range in
     let bad : false ≡ true = range.1 (rw (same_m, same_k, same_limit) at fits) in
+    cc
+
+-- two configs that are written there have one world
+same_world : (rows : List Row) (a b : Config) → IsConfigOf rows a → IsConfigOf rows b → a.world ≡ b.world
+same_world rows a b has_a has_b = same_Some a.world b.world (sym has_a.world ∙ has_b.world)
+
+-- what is made of the matched config and flag is the run, where there is one
+pub played : (rows : List Row) (config : Config) (recorded : Bool) (o : Option Playing) → IsConfigOf rows config → recorded ≡ asks_record rows
+    → IfSome o (λ p. (p.config ≡ config) × (p.recorded ≡ recorded)) → (IsSome o ↔ CanBeWritten recorded config.world)
+    → MatchOption o ((p : Playing) → IsPlayingOf rows p → ⊥) (IsPlayingOf rows)
+played rows config recorded (Some p) has asks values written = record { config = subst (IsConfigOf rows) (sym values.0) has; recorded = values.1 ∙ asks }
+played rows config recorded None has asks values written = λ p h.
+    let fits = p.written in
+    let same : p.recorded ≡ recorded = h.recorded ∙ sym asks in
+    let bad : false ≡ true = written.1 (rw (same, same_world rows p.config config h.config has) at fits) in
     cc
 
 -- a config in its range is made

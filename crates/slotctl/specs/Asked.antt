@@ -4,6 +4,7 @@ use Rattle.std.specs.Prelude.{Result, Ok, Err}
 use Rattle.std.specs.Str.{bytes_eq}
 use Rattle.std.specs.Str.Parse.{IsNumeral, digits_value, without_leading_plus}
 use Rattle.std.specs.List.{list_any}
+use Rattle.std.specs.Option.{option_map_or}
 use Rattle.clap.specs.Words.{Kinds, Row, first_of, one_of, subcommand_of}
 use Rattle.clap.specs.declared.error.kind.ErrorKind.{ErrorKind}
 use Rattle.clap.specs.declared.error.kind.ErrorKind.TheVariants.{DisplayHelp, DisplayHelpOnMissingArgumentOrSubcommand, OutOfMemory}
@@ -15,6 +16,7 @@ use Rattle.slotctl.specs.declared.asked.Ask.{Ask}
 use Rattle.slotctl.specs.declared.asked.Ask.TheVariants.{Play, Check, Draw, Serve}
 use Rattle.slotctl.specs.declared.asked.Drawing.{Drawing}
 use Rattle.slotctl.specs.declared.asked.Serving.{Serving}
+use Rattle.slotctl.specs.declared.asked.Playing.{Playing}
 use Rattle.slotctl.specs.declared.misuse.Misuse.{Misuse}
 use Rattle.slotctl.specs.declared.misuse.Misuse.TheVariants.{Help, Words, Memory}
 
@@ -47,6 +49,15 @@ pub record IsConfigOf (rows : List Row) (c : Config) : Type 0 where
   pub k : HasNumber rows (codes "k") c.k
   pub limit : HasNumber rows (codes "limit") c.limit
 
+-- whether `--record` is among what clap matched, which gives the text `true` to a flag that is
+abbrev pub asks_record : List Row → Bool
+asks_record rows = option_map_or (λ text. bytes_eq text (codes "true")) (first_of (codes "record") rows) false
+
+-- the run that the options of `play` give
+pub record IsPlayingOf (rows : List Row) (p : Playing) : Type 0 where
+  pub config : IsConfigOf rows p.config
+  pub recorded : p.recorded ≡ asks_record rows
+
 -- the drawing that the options of `draw` give, as clap matched them, each number in its range; the pool, which no drawn
 -- event uses, has four numbers
 pub record IsDrawingOf (rows : List Row) (d : Drawing) : Type 0 where
@@ -68,7 +79,7 @@ pub record IsServingOf (rows : List Row) (s : Serving) : Type 0 where
 
 -- the subcommand that clap met, with what it matched there, asks for this
 abbrev pub IsAsked : Option (List ℕ × List Row) → Ask → Type 0
-IsAsked met (Play config) = (rows : List Row) × (met ≡ Some (codes "play", rows)) × IsConfigOf rows config
+IsAsked met (Play playing) = (rows : List Row) × (met ≡ Some (codes "play", rows)) × IsPlayingOf rows playing
 IsAsked met Check = (rows : List Row) × (met ≡ Some (codes "check", rows))
 IsAsked met (Draw drawing) = (rows : List Row) × (met ≡ Some (codes "draw", rows)) × IsDrawingOf rows drawing
 IsAsked met (Serve serving) = (rows : List Row) × (met ≡ Some (codes "serve", rows)) × IsServingOf rows serving

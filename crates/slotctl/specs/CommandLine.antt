@@ -1,7 +1,7 @@
 -- the command line of the program, as clap sees it
 use Rattle.std.specs.Prelude.{ℕ, List, [], ◌∷◌, Some, true, codes}
 use Rattle.clap.specs.Words.{App, Rule, new_app, new_rule, with_rule, with_subcommand}
-use Rattle.clap.specs.declared.builder.action.ArgAction.TheVariants.{Set}
+use Rattle.clap.specs.declared.builder.action.ArgAction.TheVariants.{Set, SetTrue}
 use Rattle.clap.specs.declared.builder.value_parser.ValueParser.TheVariants.{Unsigned}
 
 -- `--world NAME`, and `rename` where it is not given
@@ -71,8 +71,12 @@ count_option = number_option (codes "count") 1 1000000 (codes "1")
 abbrev pub config_app : List ℕ → App
 config_app name = with_rule (with_rule (with_rule (with_rule (new_app name) world_option) m_option) k_option) limit_option
 
+-- `--record`
+abbrev pub record_flag : Rule
+record_flag = record (new_rule (codes "record")) { long = Some (codes "record"); action = Some SetTrue }
+
 abbrev pub play_app : App
-play_app = config_app (codes "play")
+play_app = with_rule (config_app (codes "play")) record_flag
 
 abbrev pub serve_app : App
 serve_app = with_rule (with_rule (with_rule (config_app (codes "serve")) port_option) workers_option) count_option

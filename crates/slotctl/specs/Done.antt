@@ -11,6 +11,9 @@ use Rattle.schedule_player.specs.declared.fault.Fault.{Fault}
 use Rattle.schedule_player.specs.declared.fault.Fault.TheVariants.{Write, Memory}
 use Rattle.schedule_player.specs.declared.summary.Summary.{Summary}
 use Rattle.schedule_player.specs.Written.{HasPartOf}
+use Rattle.schedule_player.specs.Recorded.{IsRecorded}
+use Rattle.schedule_player.specs.Texts.{replies_of}
+use Rattle.rename_core.specs.declared.config.Config.{Config}
 use Rattle.slotctl.specs.declared.asked.Ask.{Ask}
 use Rattle.slotctl.specs.declared.asked.Ask.TheVariants.{Play, Check, Draw, Serve}
 use Rattle.slotctl.specs.declared.asked.Drawing.{Drawing}
@@ -44,6 +47,13 @@ pub record IsDrawnBy {W : Type 0} (d : Drawing) (writing : Writing W) (w w' : W)
   pub memory : result ≡ Err Memory → IsPartDrawn d.runs d (writing.contents w) (writing.contents w')
   pub only : IfErr result (λ fault. (fault ≡ Write) ⊎ (fault ≡ Memory))
 
+-- a config is played, with the theorem of a run whose replies are written, or whose record is
+abbrev pub IsPlayedBy : {R W : Type 0} → Bool → Config → Reading R → Writing W → R → R → W → W → Result ℕ Fault → Type 0
+IsPlayedBy false config reading writing r r' w w' status =
+    (played : Result Summary Fault) × (status ≡ status_after played) × IsPlayed replies_of (IsTalk config) (IsTalk config) config.world reading writing r r' w w' played
+IsPlayedBy true config reading writing r r' w w' status =
+    (recorded : Result (Unit {0}) Fault) × (status ≡ status_after recorded) × IsRecorded config reading writing r r' w w' recorded
+
 -- connections are to be served
 abbrev pub is_served : Ask → Bool
 is_served (Play config) = false
@@ -51,11 +61,10 @@ is_served Check = false
 is_served (Draw drawing) = false
 is_served (Serve serving) = true
 
--- what was asked for, which is not to serve, is done, and answers this status: a config is played, with the theorem of a
--- run; or a record is checked; or nothing is read, and a drawing is written
+-- what was asked for, which is not to serve, is done, and answers this status: a run is
+-- played; or a record is checked; or nothing is read, and a drawing is written
 abbrev pub IsWorked : {R W : Type 0} → Ask → Reading R → Writing W → R → R → W → W → Result ℕ Fault → Type 0
-IsWorked (Play config) reading writing r r' w w' status =
-    (played : Result Summary Fault) × (status ≡ status_after played) × IsPlayed replies_of (IsTalk config) (IsTalk config) config.world reading writing r r' w w' played
+IsWorked (Play playing) reading writing r r' w w' status = IsPlayedBy playing.recorded playing.config reading writing r r' w w' status
 IsWorked Check reading writing r r' w w' status = IsChecked reading writing r r' w w' status
 IsWorked (Draw drawing) reading writing r r' w w' status = (r' ≡ r) × IsDrawnBy drawing writing w w' status
 IsWorked (Serve serving) reading writing r r' w w' status = ⊥

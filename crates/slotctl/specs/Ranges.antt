@@ -1,5 +1,5 @@
--- the ranges of a drawing's numbers (this project's profile)
-use Rattle.std.specs.Prelude.{◌≡◌, ℕ, ◌<◌, ◌≤◌, ◌^◌, true}
+-- the ranges of what is asked for (this project's profile)
+use Rattle.std.specs.Prelude.{◌≡◌, ℕ, ◌<◌, ◌≤◌, ◌^◌, Bool, true}
 use Rattle.rename_core.specs.declared.config.WorldKind.{WorldKind}
 use Rattle.desk.specs.Desk.{gives_names}
 
@@ -10,3 +10,7 @@ IsDrawingRange seed ids steps runs world = (seed < 2 ^ 64) × (1 ≤ ids) × (id
 -- the port has 16 bits, there are 1 to 16 workers and 1 to 1,000,000 connections, and names are given in the world
 abbrev pub IsServingRange : WorldKind → ℕ → ℕ → ℕ → Type 0
 IsServingRange world port workers count = (port ≤ 65535) × (1 ≤ workers) × (workers ≤ 16) × (1 ≤ count) × (count ≤ 1000000) × (gives_names world ≡ true)
+
+-- a record is written where names are given, and replies in any world
+abbrev pub CanBeWritten : Bool → WorldKind → Type 0
+CanBeWritten recorded world = recorded ≡ true → gives_names world ≡ true

@@ -1,7 +1,6 @@
 -- the status of the program (this project's profile)
 use Rattle.std.specs.Prelude.{ℕ, Result, Ok, Err}
 use Rattle.schedule_player.specs.declared.fault.Fault.{Fault}
-use Rattle.schedule_player.specs.declared.summary.Summary.{Summary}
 use Rattle.slotctl.specs.declared.failure.Failure.{Failure}
 use Rattle.slotctl.specs.declared.failure.Failure.TheVariants as failure
 use Rattle.slotctl.specs.declared.misuse.Misuse.TheVariants.{Help, Words, Memory}
@@ -15,6 +14,6 @@ status_of (failure.Fault fault) = 3
 status_of (failure.Server fault) = 3
 
 -- a run that came to its end is done, with status 0; a fault of it is told
-abbrev pub status_after : Result Summary Fault → Result ℕ Fault
+abbrev pub status_after : {T : Type 0} → Result T Fault → Result ℕ Fault
 status_after (Ok summary) = Ok 0
 status_after (Err fault) = Err fault

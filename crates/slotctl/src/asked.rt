@@ -1,7 +1,7 @@
 //! What the program can be asked for.
 
-ghost use Rattle.std.specs.Prelude.{◌≡◌, ◌≤◌, IfSome, IsSome, ◌↔◌};
-ghost use Rattle.slotctl.specs.Ranges.{IsDrawingRange, IsServingRange};
+ghost use Rattle.std.specs.Prelude.{◌≡◌, ◌≤◌, IfSome, IsSome, ◌↔◌, Bool};
+ghost use Rattle.slotctl.specs.Ranges.{IsDrawingRange, IsServingRange, CanBeWritten};
 
 use rename_core::WorldKind;
 use schedule_player::Config;
@@ -9,14 +9,42 @@ use schedule_player::Config;
 /// What the words of a command line ask for.
 #[derive(Clone, Copy, Drop)]
 pub enum Ask {
-    /// A run of `play`, of this world and these sizes.
-    Play(Config),
+    /// A run of `play`.
+    Play(Playing),
     /// The check of a record.
     Check,
     /// Drawn schedules.
     Draw(Drawing),
     /// Connections that are served.
     Serve(Serving),
+}
+
+/// The run that is played.
+#[derive(Clone, Copy, Drop)]
+pub struct Playing {
+    /// Its world and its sizes.
+    pub config: Config,
+    /// Whether its record is written in place of the replies.
+    pub recorded: bool,
+    ghost written: { CanBeWritten recorded config.world },
+}
+
+impl Playing {
+    /// A run of this config; none where a record is to be written in a world without names.
+    pub fn new(config: Config, recorded: bool) -> Option<Playing>
+        ensures values { IfSome result (λ p. (p.config ≡ config) × (p.recorded ≡ recorded)) }
+        ensures written { IsSome result ↔ CanBeWritten recorded config.world }
+    {
+        match config.world {
+            WorldKind::Rename | WorldKind::Tree => Some(Playing { config, recorded }),
+            WorldKind::Splitter | WorldKind::Grid => {
+                if recorded {
+                    return None;
+                }
+                Some(Playing { config, recorded })
+            }
+        }
+    }
 }
 
 /// The schedules that are drawn: the schedule of a seed as its lines, or runs of it and of the seeds after it.

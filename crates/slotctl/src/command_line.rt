@@ -3,7 +3,7 @@
 ghost use Rattle.std.specs.Prelude.{◌≡◌, false, IfOk};
 ghost use Rattle.clap.specs.Words.{app_of, rule_of};
 ghost use Rattle.clap.specs.declared.builder.command.Command.TheViews.{out-Command};
-ghost use Rattle.slotctl.specs.CommandLine.{check_app, config_app, draw_app, draw_needs_app, limit_option, m_option, needed_option, number_option, play_app, serve_app, slotctl_app, world_option};
+ghost use Rattle.slotctl.specs.CommandLine.{check_app, config_app, draw_app, draw_needs_app, limit_option, m_option, needed_option, number_option, play_app, record_flag, serve_app, slotctl_app, world_option};
 
 use clap::builder::ValueParser;
 use clap::{Arg, ArgAction, Command};
@@ -87,6 +87,17 @@ fn limit_option<'a>(alloc: Global) -> Arg<'a>
     )
 }
 
+// `--record`.
+fn record_flag<'a>(alloc: Global) -> Arg<'a>
+    ensures rule { rule_of result ≡ record_flag }
+    ensures local { result.global ≡ false }
+{
+    Arg::new(alloc, "record")
+        .long("record")
+        .action(ArgAction::SetTrue)
+        .help("writes the record of the run in place of the replies")
+}
+
 // A subcommand with a world and all its sizes.
 fn config_command<'a>(
     alloc: Global,
@@ -113,7 +124,8 @@ fn play_command<'a>(alloc: Global) -> Result<Command<'a>, AllocError>
         alloc,
         "play",
         "Plays the commands of the standard input, and writes a reply to each",
-    )
+    )?
+    .arg(record_flag(alloc))
 }
 
 // What `draw` has to be told.

@@ -13,7 +13,10 @@ use std::test::Fail;
 // The world and the numbers of the config that the words ask to play.
 fn chosen(alloc: Global, words: &[&str]) -> Result<Option<(WorldKind, u64, u64, u64)>, Misuse> {
     match ask(alloc, words)? {
-        Ask::Play(config) => Ok(Some((config.world, config.m, config.k, config.limit))),
+        Ask::Play(playing) => {
+            let config = playing.config;
+            Ok(Some((config.world, config.m, config.k, config.limit)))
+        }
         Ask::Check | Ask::Draw(_) | Ask::Serve(_) => Ok(None),
     }
 }
@@ -191,6 +194,15 @@ fn words_are_refused(rt: HostRuntime) {
     assert!(rt; is_refused(alloc, &["slotctl", "replay"]));
     assert!(rt; is_refused(alloc, &["slotctl", "replay", "--help"]));
     assert!(rt; is_refused(alloc, &["slotctl", "play", "--seed", "2"]));
+    assert!(rt; is_refused(alloc, &["slotctl", "play", "--record", "--record"]));
+    assert!(rt; is_refused(alloc, &["slotctl", "play", "--record=true"]));
+    assert!(rt;
+        is_refused(
+            alloc,
+            &["slotctl", "play", "--record", "--world", "splitter"]
+        )
+    );
+    assert!(rt; is_refused(alloc, &["slotctl", "play", "--world", "grid", "--record"]));
     assert!(rt; is_refused(alloc, &["slotctl", "play", "--world"]));
     assert!(rt; is_refused(alloc, &["slotctl", "play", "--world", "ring"]));
     assert!(rt; is_refused(alloc, &["slotctl", "play", "--world", "Splitter"]));
@@ -285,7 +297,13 @@ fn commands_are_played(rt: HostRuntime) -> Result<(), Fail> {
     let tree = [
         "slotctl", "play", "--world", "tree", "--m", "1", "--limit", "1",
     ];
-    let rows: [(&[&str], &[u8], &[u8]); 7] = [
+    let recorded = ["slotctl", "play", "--record", "--m", "2"];
+    let rows: [(&[&str], &[u8], &[u8]); 8] = [
+        (
+            &recorded,
+            b"begin 10\nbegin 10\nbad\nowner 1\nstep 10",
+            b"{\"format\":\"slot-record\",\"k\":4,\"limit\":1000,\"m\":2,\"version\":1,\"world\":\"rename\"}\n{\"command\":\"begin 10\",\"reply\":\"ok\"}\n{\"command\":\"begin 10\",\"reply\":\"refused 2\"}\n{\"command\":\"step 10\",\"reply\":\"quiet\"}\n",
+        ),
         (&splitter, b"", b""),
         (
             &splitter,

@@ -1,17 +1,18 @@
 //! What the words of a command line ask for.
 
-ghost use Rattle.std.specs.Prelude.{◌≡◌, ℕ, ◌<◌, ◌^◌, MatchOption, map};
+ghost use Rattle.std.specs.Prelude.{◌≡◌, ℕ, Bool, ◌<◌, ◌^◌, MatchOption, map};
 ghost use Rattle.clap.specs.Words.{found_of, kind_of, rows_of, subcommand_rows_of};
 ghost use Rattle.clap.specs.Faults.{fault_of};
 ghost use Rattle.slotctl.specs.CommandLine.{slotctl_app};
-ghost use Rattle.slotctl.specs.Asked.{HasNumber, HasWorld, IsAnswer, IsAsked, IsConfigOf, IsDrawingOf, IsMisuseOf, IsRefusal, IsServingOf, world_named};
+ghost use Rattle.slotctl.specs.Asked.{HasNumber, HasWorld, IsAnswer, IsAsked, IsConfigOf, IsDrawingOf, IsMisuseOf, IsPlayingOf, IsRefusal, IsServingOf, asks_record, world_named};
 ghost use Rattle.rename_core.specs.declared.config.Config.{Config};
 ghost use Rattle.rename_core.specs.declared.config.WorldKind.{WorldKind};
 ghost use Rattle.slotctl.specs.declared.asked.Drawing.{Drawing};
+ghost use Rattle.slotctl.specs.declared.asked.Playing.{Playing};
 ghost use Rattle.slotctl.specs.declared.asked.Serving.{Serving};
 ghost use Rattle.slotctl.specs.declared.asked.Ask.{Ask};
 
-use crate::asked::{Ask, Drawing, Serving};
+use crate::asked::{Ask, Drawing, Playing, Serving};
 use crate::command_line::slotctl_command;
 use crate::misuse::Misuse;
 use clap::error::ErrorKind;
@@ -48,6 +49,16 @@ fn number_given(matches: &ArgMatches<'_>, name: &str) -> Option<u64>
     matches.get_one::<u64>(name)
 }
 
+// Whether `--record` is matched.
+fn record_given(matches: &ArgMatches<'_>) -> bool
+    ensures { result ≡ asks_record (rows_of (found_of matches.now)) }
+{
+    match matches.get_str("record") {
+        Some(text) => text == "true",
+        None => false,
+    }
+}
+
 // The config that the options of `play` or of `serve` give, where they give one.
 fn config_given(matches: &ArgMatches<'_>) -> Option<Config>
     ensures { MatchOption result ((c : Config) → IsConfigOf (rows_of (found_of matches.now)) c → ⊥) (IsConfigOf (rows_of (found_of matches.now))) }
@@ -57,6 +68,14 @@ fn config_given(matches: &ArgMatches<'_>) -> Option<Config>
     let k = number_given(matches, "k")?;
     let limit = number_given(matches, "limit")?;
     Config::new(world, m, k, limit).ok()
+}
+
+// What the options of `play` give, where they give something.
+fn play_given(matches: &ArgMatches<'_>) -> Option<Playing>
+    ensures { MatchOption result ((p : Playing) → IsPlayingOf (rows_of (found_of matches.now)) p → ⊥) (IsPlayingOf (rows_of (found_of matches.now))) }
+{
+    let config = config_given(matches)?;
+    Playing::new(config, record_given(matches))
 }
 
 /// The size of the pool of a drawn run, which no drawn event uses.
@@ -93,7 +112,7 @@ fn asked(matches: &ArgMatches<'_>) -> Option<Ask>
     ensures { MatchOption result ((a : Ask) → IsAsked (subcommand_rows_of matches.now) a → ⊥) (IsAsked (subcommand_rows_of matches.now)) }
 {
     match matches.subcommand() {
-        Some(("play", options)) => Some(Ask::Play(config_given(options)?)),
+        Some(("play", options)) => Some(Ask::Play(play_given(options)?)),
         Some(("check", _)) => Some(Ask::Check),
         Some(("draw", options)) => Some(Ask::Draw(draw_given(options)?)),
         Some(("serve", options)) => Some(Ask::Serve(serve_given(options)?)),

@@ -2,12 +2,12 @@
 
 ghost use Rattle.std.specs.Prelude.{◌≡◌, ◌<◌, ◌^◌, false};
 ghost use Rattle.schedule_player.specs.Played.{reading, writing};
-ghost use Rattle.slotctl.specs.Done.{IsWorked, IsDrawnBy, is_served};
+ghost use Rattle.slotctl.specs.Done.{IsWorked, IsDrawnBy, IsPlayedBy, is_served};
 
-use crate::asked::{Ask, Drawing};
+use crate::asked::{Ask, Drawing, Playing};
 use crate::checking::check_for;
 use drawn_schedules::{draw, play_drawn};
-use schedule_player::{Fault, Sink, Source, play};
+use schedule_player::{Fault, Sink, Source, play, record};
 use std::alloc::{Allocator, Global};
 
 // Writes what is drawn: a schedule, or the lines of runs.
@@ -34,12 +34,37 @@ fn draw_for<W: Sink, A: Allocator + Clone>(
     Ok(0)
 }
 
+// Plays a run, and writes the replies or its record.
+fn play_for<R: Source, W: Sink, A: Allocator + Clone>(
+    alloc: A,
+    playing: Playing,
+    reader: &mut R,
+    writer: &mut W,
+) -> Result<u8, Fault>
+    requires reads { R.calls reader.old < 2 ^ 64 }
+    requires writes { W.calls writer.old < 2 ^ 64 }
+    ensures { IsPlayedBy playing.recorded playing.config (reading R.remaining R.calls R.failed) (writing W.contents W.failed)
+        reader.old reader.new writer.old writer.new result }
+{
+    let Playing { config, recorded } = playing;
+    if recorded {
+        return match record(alloc, reader, writer, config) {
+            Ok(()) => Ok(0),
+            Err(fault) => Err(fault),
+        };
+    }
+    match play(alloc, reader, writer, config) {
+        Ok(_) => Ok(0),
+        Err(fault) => Err(fault),
+    }
+}
+
 /// Does what was asked for, over this input and this output, and answers the status of the program: 0, but 1 where `check` says
 /// other than yes.
 ///
-/// `play` writes the replies to the commands that it reads; `check` reads to the end and writes a verdict; `draw` reads nothing.
-/// Answers `Fault::Read` where the reader failed or the limit of reads was reached, `Fault::Write` where the writer failed or took no byte, and `Fault::Memory` where memory
-/// was refused: by `play` with nothing read and nothing written, and by `check` with nothing written. To serve is not done here.
+/// `play` writes the replies to the commands that it reads, or with `--record` the record of the run; `check` reads to the end and
+/// writes a verdict; `draw` reads nothing. Answers `Fault::Read` where the reader failed or the limit of reads was reached,
+/// `Fault::Write` where the writer failed or took no byte, and `Fault::Memory` where memory was refused: by `play` with nothing read and nothing written, and by `check` with nothing written. To serve is not done here.
 pub fn work<R: Source, W: Sink>(
     alloc: Global,
     ask: Ask,
@@ -52,10 +77,7 @@ pub fn work<R: Source, W: Sink>(
     ensures { IsWorked ask (reading R.remaining R.calls R.failed) (writing W.contents W.failed) reader.old reader.new writer.old writer.new result }
 {
     match ask {
-        Ask::Play(config) => match play(alloc, reader, writer, config) {
-            Ok(_) => Ok(0),
-            Err(fault) => Err(fault),
-        },
+        Ask::Play(playing) => play_for(alloc, playing, reader, writer),
         Ask::Check => check_for(alloc, reader, writer),
         Ask::Draw(drawing) => draw_for(alloc, drawing, writer),
         Ask::Serve(_) => unreachable!(),

@@ -1,8 +1,14 @@
 use Rattle.std.proofs.Common.{rules, codes, Some, ◌≡◌}
 use Rattle.clap.specs.Words.{found_of, rows_of, subcommand_rows_of}
-use Rattle.slotctl.proofs.AskLemmas.{nothing_drawn, nothing_served}
+use Rattle.slotctl.proofs.AskLemmas.{nothing_drawn, nothing_played, nothing_served}
 use Rattle.slotctl.proofs.ConfigLemmas.{unless_some}
 use Rattle.slotctl.proofs.words.asked.Goals as goal
+
+pub returns-in_err-play_given-in-Some-play-default : goal.returns-in_err-play_given-in-Some-play-default
+returns-in_err-play_given-in-Some-play-default c =
+    let rows = rows_of (found_of c.in-Some-play-default.options.now) in
+    let met : subcommand_rows_of c.args.matches.now ≡ Some (codes "play", rows) = search rules in
+    unless_some c.from_residual.result _ _ c.from_residual.ensures (nothing_played (subcommand_rows_of c.args.matches.now) rows met c.in_err-play_given-in-Some-play-default.ensures)
 
 pub returns-in_err-draw_given-in-Some-draw-default : goal.returns-in_err-draw_given-in-Some-draw-default
 returns-in_err-draw_given-in-Some-draw-default c =
