@@ -1,6 +1,7 @@
 use crate::asked::Ask;
 use crate::failure::Failure;
 use crate::misuse::Misuse;
+use crate::outcome::Outcome;
 use crate::program::program;
 use crate::words::ask;
 use crate::working::work;
@@ -87,6 +88,67 @@ fn drawings_are_read(rt: HostRuntime) -> Result<(), Fail> {
     assert!(rt; is_refused(alloc, &["slotctl", "draw", "--steps", "1", "--ids", "1"]));
     assert!(rt; is_refused(alloc, &["slotctl", "draw", "--steps", "1", "--seed", "1"]));
     Ok(())
+}
+
+// The world, the port, the workers and the count of what the words ask to serve.
+fn serving(alloc: Global, words: &[&str]) -> Result<Option<(WorldKind, u64, u64, u64)>, Misuse> {
+    match ask(alloc, words)? {
+        Ask::Serve(s) => Ok(Some((s.config.world, s.port, s.workers, s.count))),
+        Ask::Play(_) | Ask::Draw(_) => Ok(None),
+    }
+}
+
+#[test]
+fn servings_are_read(rt: HostRuntime) -> Result<(), Fail> {
+    let alloc = rt.alloc();
+    assert_eq!(rt;
+        serving(alloc, &["slotctl", "serve"])?,
+        Some((WorldKind::Rename, 0, 2, 1))
+    );
+    let words = [
+        "slotctl",
+        "serve",
+        "--count",
+        "1000000",
+        "--workers",
+        "16",
+        "--port",
+        "65535",
+        "--world",
+        "tree",
+    ];
+    assert_eq!(rt;
+        serving(alloc, words.as_slice())?,
+        Some((WorldKind::Tree, 65_535, 16, 1_000_000))
+    );
+    for (option, value) in [
+        ("--port", "65536"),
+        ("--workers", "0"),
+        ("--workers", "17"),
+        ("--count", "0"),
+        ("--count", "1000001"),
+        ("--world", "grid"),
+        ("--world", "splitter"),
+        ("--m", "17"),
+        ("--seed", "1"),
+    ] {
+        let words = ["slotctl", "serve", option, value];
+        assert!(rt; is_refused(alloc, words.as_slice()), "{option} {value}");
+    }
+    Ok(())
+}
+
+// To serve is left to the caller, with nothing read or written.
+#[test]
+fn serving_is_left(rt: HostRuntime) {
+    let (status, written, errors) = run_of(
+        rt.alloc(),
+        &["slotctl", "serve", "--m", "1"],
+        b"begin 7\n".as_slice(),
+        1000,
+    );
+    assert_eq!(rt; status, 100);
+    assert!(rt; written.is_empty() && errors.is_empty());
 }
 
 #[test]
@@ -444,7 +506,11 @@ fn run_of<R: Read + Drop>(
         most,
     });
     let mut errors = Vec::new(alloc);
-    let status = program(alloc, words, &mut reader, &mut writer, &mut errors);
+    let outcome = program(alloc, words, &mut reader, &mut writer, &mut errors);
+    let status = match outcome {
+        Outcome::Ended(status) => status,
+        Outcome::Serve(_) => 100,
+    };
     (status, writer.into_inner().taken, errors)
 }
 
