@@ -1,4 +1,4 @@
-use crate::{Desk, Event, Reply, law_of_desk, law_of_names};
+use crate::{Desk, Event, Reply, ShortReply, law_of_desk, law_of_names};
 use linked_list_allocator::LocalHeap;
 use rename_core::{Config, WorldKind};
 use std::alloc::{Allocator, Global};
@@ -116,6 +116,29 @@ fn one_is_named_over_a_tree(rt: HostRuntime) -> Result<(), Fail> {
     assert!(rt; desk.owner(1) == Reply::Owner(Some(7)));
     assert!(rt; desk.owner(3) == Reply::Owner(None));
     assert!(rt; desk.owner(4) == Reply::Refused(Refusal::OutOfRange));
+    Ok(())
+}
+
+/// A reply of a few bytes has its view beside it, and with it is the whole reply.
+#[test]
+fn a_view_beside_its_reply(rt: HostRuntime) -> Result<(), Fail> {
+    let mut desk = pooled(rt.alloc(), WorldKind::Tree, 4)?;
+    let mut view = View::new();
+    let begun = desk.apply_short(Event::Begin(7), &mut view);
+    assert_eq!(rt; begun, ShortReply::Ok);
+    for _ in 0..21 {
+        desk.apply_short(Event::Step(7), &mut view);
+        assert!(rt; view == View::new());
+    }
+    let named = desk.apply_short(Event::Step(7), &mut view);
+    assert_eq!(rt; named, ShortReply::Named(1));
+    assert!(rt; named.with(&view) == Reply::Named(1, sole(7, 1)));
+    let refused = desk.apply_short(Event::Step(7), &mut view);
+    assert_eq!(rt; refused, ShortReply::Refused(Refusal::Finished));
+    assert!(rt; refused.is_refusal() && !named.is_refusal());
+    let mut beside = View::new();
+    assert_eq!(rt; named.with(&view).shorten(&mut beside), named);
+    assert!(rt; beside == sole(7, 1));
     Ok(())
 }
 

@@ -16,6 +16,7 @@ use std::alloc::{Allocator, Global};
 use std::io;
 use std::io::{Read, Write};
 use std::test::Fail;
+use step_memory::View;
 
 /// Gives at most so many bytes a read, and fails at one call, counted from 1. Bytes of a heap that it was lent it gives back
 /// at another.
@@ -320,7 +321,8 @@ fn walks_in_a_grid_end_at_places(rt: HostRuntime) -> Result<(), Fail> {
 fn answered<D: Service<()>>(world: &mut D, event: Event) -> Reply
     requires { D.knows (Take event) ≡ true }
 {
-    world.apply(&(), event)
+    let mut view = View::new();
+    world.apply(&(), event, &mut view).with(&view)
 }
 
 #[test]
