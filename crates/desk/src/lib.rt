@@ -15,6 +15,9 @@
 //! begun (`law_of_names`). Who is told to have a name is who was given it (`Desk::owner`: `told`). What an event would be
 //! refused is said beforehand (`Desk::refusal`).
 //!
+//! A reply may show a view, which takes a kilobyte. Where events are many, `Desk::apply_short` answers in a few bytes and puts
+//! the view beside, by the same rules.
+//!
 //! A caller:
 //!
 //! ```text

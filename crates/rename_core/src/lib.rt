@@ -22,6 +22,8 @@
 //! (b + 1)(6b - 2); a proposal takes one step more than a view (`grid_rename_law`, `tree_rename_law`). It is not promised
 //! that rounds end while others step.
 //!
+//! `step_short` is `step` with a reply of a few bytes: the view that it shows, which takes a kilobyte, is put beside it.
+//!
 //! A caller, over a grid:
 //!
 //! ```text
