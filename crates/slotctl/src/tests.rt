@@ -418,7 +418,7 @@ const HELP: &[u8] =
     b"Plays schedules of shared-memory algorithms, one access a step\n\nUsage: slotctl <COMMAND>\n\nCommands:\n  play  Plays the commands of the standard input, and writes a reply to each\n  draw  Draws schedules, and writes one, or a line for each of many that are played\n  help  Print this message or the help of the given subcommand(s)\n\nOptions:\n  -h, --help  Print help\n";
 
 const PLAY_HELP: &[u8] =
-    b"Plays the commands of the standard input, and writes a reply to each\n\nUsage: slotctl play [OPTIONS]\n\nOptions:\n      --world <NAME>    what is played: splitter, grid, rename or tree [default: rename]\n      --m <NUMBER>      the most participants, from 1 to 16 [default: 4]\n      --k <NUMBER>      the size of the pool, from 1 to 64 [default: 4]\n      --limit <NUMBER>  the most proposals of each participant, from 1 to 1000000 [default: 1000]\n  -h, --help            Print help\n";
+    b"Plays the commands of the standard input, and writes a reply to each\n\nUsage: slotctl play [OPTIONS]\n\nOptions:\n      --record          writes the record of the run in place of the replies\n      --world <NAME>    what is played: splitter, grid, rename or tree [default: rename]\n      --m <NUMBER>      the most participants, from 1 to 16 [default: 4]\n      --k <NUMBER>      the size of the pool, from 1 to 64 [default: 4]\n      --limit <NUMBER>  the most proposals of each participant, from 1 to 1000000 [default: 1000]\n  -h, --help            Print help\n";
 
 const NO_SUBCOMMAND: &[u8] =
     b"error: 'slotctl' requires a subcommand but one was not provided\n  [subcommands: play, draw, help]\n\nUsage: slotctl <COMMAND>\n\nFor more information, try '--help'.\n";
