@@ -6,6 +6,10 @@
 //! (`IsTalk`); the writer has gained the text of its answers, however the bytes were cut; and the summary counts them.
 //! `quit` ends the reading, and no call failed. What a read fault, a write fault and want of memory leave is said too.
 //!
+//! `record` plays in a world with names and writes the record of the run in place of the replies: a header, and each event with its
+//! reply as a line of JSON (`record_of`). It has the same theorem with that text (`IsRecorded`). How a turn is written is a type
+//! parameter of the player (`Form`: `AsReplies`, `AsRecord`).
+//!
 //! A service answers events and tells owners by rules (`Service`), and a world is a service that is opened from a config
 //! (`World`). `play_in` plays in any world, and `play_on` on any service.
 //!
