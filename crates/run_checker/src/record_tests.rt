@@ -322,11 +322,11 @@ fn a_long_view(rt: HostRuntime) -> Result<(), Fail> {
     Ok(())
 }
 
-/// A line that begins with so many bytes and spaces.
+/// These bytes, and spaces behind them up to this length.
 fn padded(alloc: Global, line: &str, length: usize) -> Result<Vec<u8>, AllocError> {
     let mut bytes = Vec::new(alloc);
     bytes.extend_from_slice(line.as_bytes())?;
-    while bytes.len() < length {
+    for _ in line.len()..length {
         bytes.push(b' ')?;
     }
     Ok(bytes)
