@@ -1,6 +1,6 @@
 -- what a hall, and a clerk, answer in turn
-use Rattle.std.proofs.Common.{◌≡◌, ℕ, ◌⊎◌, ◌++◌, nat_le, Bool, true, false, cond, inl, inr, List, [], ◌∷◌, length, Option, Some, None, refl, sym, ap, subst, ◌∙◌, append_assoc}
-use Rattle.std.proofs.lemmas.List.{append-nil}
+use Rattle.std.proofs.Common.{◌≡◌, ℕ, ◌⊎◌, ◌++◌, nat_le, Bool, true, false, cond, inl, inr, List, [], ◌∷◌, map, length, Option, Some, None, refl, sym, ap, subst, ◌∙◌, append_assoc}
+use Rattle.std.proofs.lemmas.List.{append-nil, map-append}
 use Rattle.std.proofs.lemmas.Option.{same_Some}
 use Rattle.step_memory.specs.declared.refusal.Refusal.{Refusal}
 use Rattle.step_memory.specs.declared.refusal.Refusal.TheVariants as refusal
@@ -23,9 +23,12 @@ use Rattle.schedule_player.specs.Requests.Request.{Take}
 use Rattle.schedule_player.specs.Runs.{Runs}
 use Rattle.schedule_player.specs.Turns.{Turn, exchanges}
 use Rattle.schedule_player.specs.Turns.Turn.{Answered, Told, Ended, Misread}
+use Rattle.locked_world.specs.declared.kept.Kept.{Kept}
 use Rattle.locked_world.specs.Halls.{hall_of, desk_of, IsLawful, full_unless, hall_refusal, longer, reply_unless, after_unless, HallMay}
 use Rattle.locked_world.specs.HallState.{HallState}
-use Rattle.locked_world.specs.Serving.{HallServes, is_of_room, wants_room, with_room, accepted}
+use Rattle.locked_world.specs.KeptLogs.{kept_of}
+use Rattle.locked_world.specs.Kepts.{KeepsUnless, Keeps}
+use Rattle.locked_world.specs.Serving.{ClerkServes, HallServes, is_of_room, wants_room, with_room, accepted, exchange_kept}
 use Rattle.locked_world.proofs.Histories.{grows, not_refused, refused_so, none_of_full, accepted_by}
 use Rattle.locked_world.proofs.Staying.{stays}
 
@@ -151,3 +154,20 @@ history h u (Told n r ∷ ts) lawful run =
     rest ∙ ap (λ (v : HallState). v.history ++ accepted (exchanges ts)) run.1.1
 history h u (Ended ∷ ts) lawful run = history h u ts lawful run
 history h u (Misread bad ∷ ts) lawful run = history h u ts lawful run
+
+-- and so does what a clerk has kept
+kept_one : (ks new : List Kept) (x : Exchange) → Keeps ks x.event x.reply new → map exchange_kept new ≡ map exchange_kept ks ++ accepted (x ∷ [])
+kept_one ks new x keeps =
+    elim (is_refusal x.reply) as (λ b. KeepsUnless b ks x.event x.reply new → map exchange_kept new ≡ map exchange_kept ks ++ cond b [] (x ∷ [])) [
+      | true ↦ λ same. ap (map exchange_kept) same ∙ sym (append-nil (map exchange_kept ks))
+      | false ↦ λ kept. ap (map exchange_kept) kept.is ∙ map-append exchange_kept ks (kept_of kept.place x ∷ [])
+    ] keeps
+
+pub kept : (ks new : List Kept) (ts : List Turn) → Runs ClerkServes ks ts new → map exchange_kept new ≡ map exchange_kept ks ++ accepted (exchanges ts)
+kept ks new [] run = ap (map exchange_kept) (sym run) ∙ sym (append-nil (map exchange_kept ks))
+kept ks new (Answered x ∷ ts) run =
+    kept run.0 new ts run.2 ∙ ap (λ (l : List Exchange). l ++ accepted (exchanges ts)) (kept_one ks run.0 x run.1.1)
+    ∙ append_assoc (map exchange_kept ks) (accepted (x ∷ [])) (accepted (exchanges ts)) ∙ ap (λ (l : List Exchange). map exchange_kept ks ++ l) (sym (accepted-one x (exchanges ts)))
+kept ks new (Told n r ∷ ts) run = kept run.0 new ts run.2 ∙ ap (λ (l : List Kept). map exchange_kept l ++ accepted (exchanges ts)) run.1.1
+kept ks new (Ended ∷ ts) run = kept ks new ts run
+kept ks new (Misread bad ∷ ts) run = kept ks new ts run

@@ -1,7 +1,8 @@
 -- what a hall, and a clerk at its lock, may answer as services
-use Rattle.std.specs.Prelude.{◌≡◌, ◌⊎◌, List, [], ◌∷◌, length, Bool, true, false, if◌then◌else◌}
+use Rattle.std.specs.Prelude.{◌≡◌, ◌⊎◌, List, [], ◌∷◌, ◌++◌, map, length, Bool, true, false, if◌then◌else◌}
 use Rattle.step_memory.specs.declared.refusal.Refusal.{Refusal}
 use Rattle.step_memory.specs.declared.refusal.Refusal.TheVariants as refusal
+use Rattle.rename_core.specs.declared.config.Config.{Config}
 use Rattle.desk.specs.declared.event.Event.{Event}
 use Rattle.desk.specs.declared.exchange.Exchange.{Exchange}
 use Rattle.desk.specs.declared.reply.Reply.{Reply}
@@ -10,11 +11,12 @@ use Rattle.desk.specs.Desk.{owner_reply}
 use Rattle.desk.specs.Replies.{is_refusal}
 use Rattle.schedule_player.specs.Requests.{Request}
 use Rattle.schedule_player.specs.Requests.Request.{Take, OwnerOf}
+use Rattle.schedule_player.specs.Runs.{Runs}
 use Rattle.schedule_player.specs.Turns.{Turn}
 use Rattle.schedule_player.specs.Turns.Turn.{Answered, Told, Ended, Misread}
 use Rattle.locked_world.specs.declared.kept.Kept.{Kept}
 use Rattle.locked_world.specs.Answers.{IsSomeAnswer, IsSomeOwner}
-use Rattle.locked_world.specs.Halls.{desk_of, HallMay}
+use Rattle.locked_world.specs.Halls.{hall_of, desk_of, HallMay}
 use Rattle.locked_world.specs.HallState.{HallState}
 use Rattle.locked_world.specs.Kepts.{Keeps}
 
@@ -55,3 +57,14 @@ with_room (Misread bad ∷ ts) = Misread bad ∷ with_room ts
 abbrev pub accepted : List Exchange → List Exchange
 accepted [] = []
 accepted (x ∷ xs) = if is_refusal x.reply then accepted xs else x ∷ accepted xs
+
+-- a clerk has come to keep also those of these exchanges, in order
+abbrev pub exchange_kept : Kept → Exchange
+exchange_kept k = k.exchange
+
+abbrev pub KeepsAccepted : List Kept → List Exchange → List Kept → Type 0
+KeepsAccepted ks xs new = map exchange_kept new ≡ map exchange_kept ks ++ accepted xs
+
+-- a hall that began with no event has answered so in turn
+abbrev pub HasServed : Config → List Turn → HallState → Type 0
+HasServed c ts u = Runs HallServes (hall_of c []) ts u

@@ -1,15 +1,16 @@
 //! What halls stand on.
 
-ghost use Rattle.std.specs.Prelude.{◌≡◌, ◌++◌, List, [], true};
+ghost use Rattle.std.specs.Prelude.{◌≡◌, ◌++◌, List, true};
 ghost use Rattle.desk.specs.Desk.{gives_names};
 ghost use Rattle.desk.specs.DeskRun.{IsDeskRunOf};
 ghost use Rattle.rename_core.specs.declared.config.Config.{Config};
 ghost use Rattle.schedule_player.specs.IsRun.{IsTalk};
 ghost use Rattle.schedule_player.specs.Runs.{Runs};
 ghost use Rattle.schedule_player.specs.Turns.{Turn, exchanges};
-ghost use Rattle.locked_world.specs.Halls.{hall_of, IsLawful};
+ghost use Rattle.locked_world.specs.Halls.{IsLawful};
 ghost use Rattle.locked_world.specs.HallState.{HallState};
-ghost use Rattle.locked_world.specs.Serving.{HallServes, with_room, accepted};
+ghost use Rattle.locked_world.specs.declared.kept.Kept.{Kept};
+ghost use Rattle.locked_world.specs.Serving.{ClerkServes, HallServes, HasServed, KeepsAccepted, with_room, accepted};
 
 use crate::hall::Hall;
 
@@ -22,8 +23,9 @@ pub fn law_of_hall(hall: &Hall)
 
 /// A law, which runs nothing, of what a hall answers in turn as a service: without the turns that were refused a growth or
 /// found the history full, turns from a hall with no event are a talk of its config; and its history gains the accepted
-/// events with their replies.
+/// events with their replies, as does what a clerk has kept.
 pub fn law_of_serving()
-    ensures talk { (c : Config) → gives_names c.world ≡ true → (u : HallState) (ts : List Turn) → Runs HallServes (hall_of c []) ts u → IsTalk c (with_room ts) }
+    ensures talk { (c : Config) → gives_names c.world ≡ true → (u : HallState) (ts : List Turn) → HasServed c ts u → IsTalk c (with_room ts) }
     ensures history { (h u : HallState) (ts : List Turn) → IsLawful h → Runs HallServes h ts u → u.history ≡ h.history ++ accepted (exchanges ts) }
+    ensures kept { (ks new : List Kept) (ts : List Turn) → Runs ClerkServes ks ts new → KeepsAccepted ks (exchanges ts) new }
 {}
