@@ -34,11 +34,10 @@ pub mod connections;
 pub mod gate;
 pub mod server_fault;
 pub mod serving;
-pub mod watched;
-pub mod workers;
-
 #[cfg(test)]
 mod tests;
+pub mod watched;
+pub mod workers;
 
 pub use gate::{Gate, OpenGate};
 pub use server_fault::ServerFault;
