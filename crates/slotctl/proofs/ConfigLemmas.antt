@@ -83,9 +83,9 @@ made rows w m k limit (Err e) world has_m has_k has_limit values range = λ c h.
     let bad : false ≡ true = range.1 (rw (same_m, same_k, same_limit) at fits) in
     cc
 
--- two configs that are written there have one world
-same_world : (rows : List Row) (a b : Config) → IsConfigOf rows a → IsConfigOf rows b → a.world ≡ b.world
-same_world rows a b has_a has_b = same_Some a.world b.world (sym has_a.world ∙ has_b.world)
+-- two worlds that are matched there are one
+same_world : (rows : List Row) (w u : WorldKind) → HasWorld rows w → HasWorld rows u → w ≡ u
+same_world rows w u h g = same_Some w u (sym h ∙ g)
 
 -- what is made of the matched config and flag is the run, where there is one
 pub played : (rows : List Row) (config : Config) (recorded : Bool) (o : Option Playing) → IsConfigOf rows config → recorded ≡ asks_record rows
@@ -95,7 +95,7 @@ played rows config recorded (Some p) has asks values written = record { config =
 played rows config recorded None has asks values written = λ p h.
     let fits = p.written in
     let same : p.recorded ≡ recorded = h.recorded ∙ sym asks in
-    let bad : false ≡ true = written.1 (rw (same, same_world rows p.config config h.config has) at fits) in
+    let bad : false ≡ true = written.1 (rw (same, same_world rows p.config.world config.world h.config.world has.world) at fits) in
     cc
 
 -- a config in its range is made
@@ -140,10 +140,6 @@ drawn rows seed ids steps runs m limit w c None has_seed has_ids has_steps has_r
 pub value_is : {T E : Type 0} (r : Result T E) (x : T) (P : T → Type 0) → result_ok r ≡ Some x → IfOk r P → P x
 value_is (Ok y) x P is p = subst P (same_Some y x is) p
 value_is (Err e) x P is p = absurd cc
-
--- two worlds that are matched there are one
-same_world : (rows : List Row) (w u : WorldKind) → HasWorld rows w → HasWorld rows u → w ≡ u
-same_world rows w u h g = same_Some w u (sym h ∙ g)
 
 -- what is made of the matched config and numbers is the serving, where there is one
 pub served : (rows : List Row) (c : Config) (port workers count : ℕ) (o : Option Serving)

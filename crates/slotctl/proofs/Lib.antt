@@ -1,3 +1,4 @@
 mod ConfigLemmas
 mod AskLemmas
 mod ReadLemmas
+mod CheckLemmas

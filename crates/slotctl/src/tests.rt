@@ -94,7 +94,7 @@ fn drawings_are_read(rt: HostRuntime) -> Result<(), Fail> {
 fn serving(alloc: Global, words: &[&str]) -> Result<Option<(WorldKind, u64, u64, u64)>, Misuse> {
     match ask(alloc, words)? {
         Ask::Serve(s) => Ok(Some((s.config.world, s.port, s.workers, s.count))),
-        Ask::Play(_) | Ask::Draw(_) => Ok(None),
+        Ask::Play(_) | Ask::Check | Ask::Draw(_) => Ok(None),
     }
 }
 
@@ -402,6 +402,62 @@ fn commands_are_played(rt: HostRuntime) -> Result<(), Fail> {
     Ok(())
 }
 
+const HEADER: &[u8] =
+    b"{\"format\":\"slot-record\",\"k\":4,\"limit\":1000,\"m\":2,\"version\":1,\"world\":\"rename\"}\n";
+
+// What is told of a record that is this header and these lines.
+fn verdict_on(alloc: Global, lines: &[u8]) -> Result<(u8, Vec<u8>), Fail> {
+    let mut record = Vec::new(alloc);
+    record.extend_from_slice(HEADER)?;
+    record.extend_from_slice(lines)?;
+    let (outcome, written) = done(alloc, &["slotctl", "check"], record.as_slice())?;
+    Ok((outcome?, written))
+}
+
+#[test]
+fn records_are_checked(rt: HostRuntime) -> Result<(), Fail> {
+    let rows: [(&[u8], u8, &[u8]); 4] = [
+        (b"", 0, b"yes\n"),
+        (
+            b"{\"command\":\"begin 10\",\"reply\":\"ok\"}\n",
+            0,
+            b"yes\n",
+        ),
+        (
+            b"{\"command\":\"begin 10\",\"reply\":\"ok\"}\n{\"command\":\"begin 10\",\"reply\":\"ok\"}\n",
+            1,
+            b"no 3 2\n",
+        ),
+        (b"{\"command\":\"begin 10\"", 1, b"bad record 2\n"),
+    ];
+    for (lines, status, text) in rows {
+        let (told, written) = verdict_on(rt.alloc(), lines)?;
+        assert_eq!(rt; told, status);
+        assert_eq!(rt; written.as_slice(), text);
+    }
+    Ok(())
+}
+
+#[test]
+fn a_record_of_play_is_checked(rt: HostRuntime) -> Result<(), Fail> {
+    let alloc = rt.alloc();
+    for world in ["rename", "tree"] {
+        let words = ["slotctl", "play", "--record", "--world", world, "--m", "2"];
+        let mut input = Vec::new(alloc);
+        input.extend_from_slice(
+            b"begin 10\nbegin 20\nbegin 10\nenter 5\nprobe 5\nput 5 9\nget 5\nleave 5\n",
+        )?;
+        for _ in 0..200u64 {
+            input.extend_from_slice(b"step 10\nstep 20\n")?;
+        }
+        let (_, record) = done(alloc, words.as_slice(), input.as_slice())?;
+        let (outcome, written) = done(alloc, &["slotctl", "check"], record.as_slice())?;
+        assert!(rt; matches!(outcome, Ok(0)), "in {world}");
+        assert_eq!(rt; written.as_slice(), b"yes\n".as_slice());
+    }
+    Ok(())
+}
+
 // Gives one byte a read, and fails after the last.
 #[derive(Drop)]
 struct Broken {
@@ -477,13 +533,13 @@ fn a_write_fault_ends_the_run(rt: HostRuntime) -> Result<(), Fail> {
 }
 
 const HELP: &[u8] =
-    b"Plays schedules of shared-memory algorithms, one access a step\n\nUsage: slotctl <COMMAND>\n\nCommands:\n  play   Plays the commands of the standard input, and writes a reply to each\n  draw   Draws schedules, and writes one, or a line for each of many that are played\n  serve  Serves the commands of connections to 127.0.0.1, over one hall\n  help   Print this message or the help of the given subcommand(s)\n\nOptions:\n  -h, --help  Print help\n";
+    b"Plays schedules of shared-memory algorithms, one access a step\n\nUsage: slotctl <COMMAND>\n\nCommands:\n  play   Plays the commands of the standard input, and writes a reply to each\n  check  Checks the record of the standard input, and writes its verdict\n  draw   Draws schedules, and writes one, or a line for each of many that are played\n  serve  Serves the commands of connections to 127.0.0.1, over one hall\n  help   Print this message or the help of the given subcommand(s)\n\nOptions:\n  -h, --help  Print help\n";
 
 const PLAY_HELP: &[u8] =
-    b"Plays the commands of the standard input, and writes a reply to each\n\nUsage: slotctl play [OPTIONS]\n\nOptions:\n      --record          writes the record of the run in place of the replies\n      --world <NAME>    what is played: splitter, grid, rename or tree [default: rename]\n      --m <NUMBER>      the most participants, from 1 to 16 [default: 4]\n      --k <NUMBER>      the size of the pool, from 1 to 64 [default: 4]\n      --limit <NUMBER>  the most proposals of each participant, from 1 to 1000000 [default: 1000]\n  -h, --help            Print help\n";
+    b"Plays the commands of the standard input, and writes a reply to each\n\nUsage: slotctl play [OPTIONS]\n\nOptions:\n      --world <NAME>    what is played: splitter, grid, rename or tree [default: rename]\n      --m <NUMBER>      the most participants, from 1 to 16 [default: 4]\n      --k <NUMBER>      the size of the pool, from 1 to 64 [default: 4]\n      --limit <NUMBER>  the most proposals of each participant, from 1 to 1000000 [default: 1000]\n      --record          writes the record of the run in place of the replies\n  -h, --help            Print help\n";
 
 const NO_SUBCOMMAND: &[u8] =
-    b"error: 'slotctl' requires a subcommand but one was not provided\n  [subcommands: play, draw, serve, help]\n\nUsage: slotctl <COMMAND>\n\nFor more information, try '--help'.\n";
+    b"error: 'slotctl' requires a subcommand but one was not provided\n  [subcommands: play, check, draw, serve, help]\n\nUsage: slotctl <COMMAND>\n\nFor more information, try '--help'.\n";
 
 const TOO_MANY: &[u8] =
     b"error: invalid value '17' for '--m <NUMBER>': 17 is not in 1..=16\n\nFor more information, try '--help'.\n";
