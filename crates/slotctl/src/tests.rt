@@ -348,6 +348,9 @@ fn done(
     let asked = ask(alloc, words)?;
     let mut reader = Tried::new(input);
     let mut writer = Tried::new(Vec::new(alloc));
+    if let Ask::Serve(_) = asked {
+        return Ok((Err(Fault::Memory), writer.into_inner()));
+    }
     let outcome = work(alloc, asked, &mut reader, &mut writer);
     Ok((outcome, writer.into_inner()))
 }
@@ -479,6 +482,9 @@ impl Read for Broken {
 fn a_read_fault_ends_the_run(rt: HostRuntime) -> Result<(), Fail> {
     let alloc = rt.alloc();
     let asked = ask(alloc, &["slotctl", "play", "--world", "splitter"])?;
+    if let Ask::Serve(_) = asked {
+        panic!(rt; "to serve is asked for");
+    }
     let mut reader = Tried::new(Broken {
         bytes: b"begin 7\nstep 7\nstep 7",
     });
@@ -518,6 +524,9 @@ fn a_write_fault_ends_the_run(rt: HostRuntime) -> Result<(), Fail> {
         alloc,
         &["slotctl", "play", "--world", "splitter", "--m", "2"],
     )?;
+    if let Ask::Serve(_) = asked {
+        panic!(rt; "to serve is asked for");
+    }
     let mut reader = Tried::new(b"begin 7\nstep 7\n".as_slice());
     let mut writer = Tried::new(Full {
         taken: Vec::new(alloc),
