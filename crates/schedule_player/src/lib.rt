@@ -34,6 +34,7 @@ pub mod events;
 pub mod fault;
 pub mod form;
 mod grid_world;
+pub mod laws;
 pub mod line_buffer;
 mod outcomes;
 pub mod parse;
@@ -67,12 +68,10 @@ pub use desk::{Event, Exchange, Reply, ShortReply};
 pub use events::{EVENT_ROOM, print_event};
 pub use fault::Fault;
 pub use form::{Form, TURN_ROOM};
+pub use laws::{law_of_growths, law_of_lines, law_of_play, law_of_world};
 pub use line_buffer::LineBuffer;
 pub use parse::parse_line;
-pub use playing::{
-    MOST_READS, READ_BYTES, law_of_growths, law_of_lines, law_of_play, law_of_world, play, play_in,
-    play_on,
-};
+pub use playing::{MOST_READS, READ_BYTES, play, play_in, play_on};
 pub use print::{REPLY_ROOM, print_bad, print_reply, print_words, put_number, put_word};
 pub use recording::record;
 pub use rename_core::{Config, WorldKind};

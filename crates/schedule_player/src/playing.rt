@@ -1,20 +1,14 @@
 //! Runs of a world, from a reader to a writer.
 
-ghost use Rattle.std.specs.Prelude.{◌≡◌, ◌≢◌, true, Err, ℕ, ◌+◌, ◌^◌, ◌<◌, List, [], length, flat_map, Option, IfOk, IfErr};
-ghost use Rattle.desk.specs.Desk.{gives_names};
-ghost use Rattle.schedule_player.specs.Granted.{granted};
+ghost use Rattle.std.specs.Prelude.{◌≡◌, ◌≢◌, true, Err, ◌^◌, ◌<◌, length, flat_map, IfOk, IfErr};
 ghost use Rattle.schedule_player.specs.IsRun.{IsTalk};
 ghost use Rattle.schedule_player.specs.Knows.{Knows};
-ghost use Rattle.schedule_player.specs.Lines.{IsCutInto, IsCutOnce, whole_lines, rest_of};
-ghost use Rattle.schedule_player.specs.OneTalk.{IsOneTalk};
 ghost use Rattle.schedule_player.specs.Played.{IsPlayed, reading, writing};
 ghost use Rattle.schedule_player.specs.Progress.{at_start};
-ghost use Rattle.schedule_player.specs.Runs.{IsRunTo, CanRun, CouldRun, NoneRefusedGrowth};
+ghost use Rattle.schedule_player.specs.Runs.{IsRunTo, CanRun};
 ghost use Rattle.schedule_player.specs.Stands.{IsFresh};
 ghost use Rattle.schedule_player.specs.Talks.{IsTalkOf};
 ghost use Rattle.schedule_player.specs.Texts.{replies_of};
-ghost use Rattle.schedule_player.specs.Turns.{Turn};
-ghost use Rattle.rename_core.specs.declared.config.Config.{Config};
 
 use crate::as_replies::AsReplies;
 use crate::fault::Fault;
@@ -194,31 +188,3 @@ pub(crate) fn run<H, D: Service<H>, A: Allocator, F: Form, R: Source, W: Sink>(
     }
     Err(Fault::Read)
 }
-
-/// Runs of one world are determined by their events where no growth is refused.
-pub fn law_of_world<D: World<A, H>, A, H>()
-    ensures { (config : Config) → IsOneTalk (CouldRun (D.fresh config) D.may) }
-{}
-
-/// So what is said to the lines of an input is a function of them, where no growth is refused.
-pub fn law_of_play<A: Allocator + Clone>()
-    ensures { (config : Config) → IsOneTalk (IsTalk config) }
-{
-    law_of_world::<SplitterWorld<A>, A, ()>();
-    law_of_world::<GridWorld<A>, A, ()>();
-    law_of_world::<Desk<A>, A, ()>();
-}
-
-/// A law, which runs nothing, of the worlds with names: without the turns that were refused memory a talk is one too, so these
-/// are the one difference that such refusals make; and they come only over a tree.
-pub fn law_of_growths()
-    ensures left_out { (config : Config) → gives_names config.world ≡ true → (ts : List Turn) → IsTalk config ts → IsTalk config (granted ts) }
-    ensures only_tree { (config : Config) → config.world ≡ WorldKind.Rename → (ts : List Turn) → IsTalk config ts → NoneRefusedGrowth ts }
-{}
-
-/// A law, which runs nothing: bytes are cut into their whole lines and a rest, each line with its LF, no line with an LF in
-/// it; and into no others.
-pub fn law_of_lines()
-    ensures cut { (bytes : List ℕ) → IsCutInto bytes (whole_lines bytes) (rest_of bytes) }
-    ensures once { (bytes : List ℕ) → IsCutOnce bytes }
-{}

@@ -1,7 +1,7 @@
 use Rattle.rename_core.specs.declared.config.WorldKind.TheVariants.{Splitter, Grid, Rename, Tree}
 use Rattle.schedule_player.specs.OneTalk.{IsOneTalk}
 use Rattle.schedule_player.specs.IsRun.{IsTalkByKind}
-use Rattle.schedule_player.proofs.playing.law_of_play.Goals as goal
+use Rattle.schedule_player.proofs.laws.law_of_play.Goals as goal
 
 pub returns : goal.returns
 returns g c = λ config. elim config.world as (λ k. IsOneTalk (IsTalkByKind k config)) [

@@ -1,5 +1,5 @@
 use Rattle.schedule_player.proofs.LineLemmas.{cut_right, cut_once}
-use Rattle.schedule_player.proofs.playing.law_of_lines.Goals as goal
+use Rattle.schedule_player.proofs.laws.law_of_lines.Goals as goal
 
 pub returns-clause-cut : goal.returns-clause-cut
 returns-clause-cut c = cut_right

@@ -1,5 +1,5 @@
 use Rattle.schedule_player.proofs.GrowthLemmas.{left_out, only_tree}
-use Rattle.schedule_player.proofs.playing.law_of_growths.Goals as goal
+use Rattle.schedule_player.proofs.laws.law_of_growths.Goals as goal
 
 pub returns-clause-left_out : goal.returns-clause-left_out
 returns-clause-left_out c = left_out
