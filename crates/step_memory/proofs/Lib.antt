@@ -1,3 +1,4 @@
+pub mod Roster
 pub mod Found
 pub mod SetAtLemmas
 pub mod CountLemmas

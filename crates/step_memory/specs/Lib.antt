@@ -4,6 +4,7 @@ pub mod Steps
 pub mod RegisterState
 pub mod Registers
 pub mod RegisterLaws
+pub mod Roster
 pub mod Participant
 pub mod WorldState
 pub mod World
