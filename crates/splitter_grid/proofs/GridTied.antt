@@ -17,18 +17,17 @@ use Rattle.step_memory.proofs.ParticipantLemmas.{participant_of-push, participan
 use Rattle.step_memory.proofs.WorldKeeps.{steps_of-push, begun_in-push, outcome_of-push, first_of-none, IsLetIn, IsKept, world_keeps, after_call, after_stepped, after_splits, most_kept, moved, stepped}
 use Rattle.step_memory.specs.Due.{EndsOnce}
 use Rattle.step_memory.proofs.DueLemmas.{world_counted, ends_once, outcomes_tell, never_grows, no_second_end}
-use Rattle.splitter.specs.declared.way.Way.TheVariants.{Stop, Right, Down}
 use Rattle.splitter.specs.declared.stage.Stage.{Stage}
-use Rattle.splitter.specs.declared.stage.Stage.TheVariants.{Outside, WroteX, SawClear, WroteY, Gone}
+use Rattle.splitter.specs.Walk.{note_at_door}
 use Rattle.splitter.specs.Visitor.{stage_by}
 use Rattle.splitter_grid.specs.declared.walker.Walker.{Walker}
 use Rattle.splitter_grid.specs.Door.{number_of}
-use Rattle.splitter_grid.specs.Walk.{walk_of, walker_steps, walked_to, walker_after, walker_note, next_access, note_at_door, place_of, place_by, accesses_of, accesses_by}
+use Rattle.splitter_grid.specs.Walk.{walk_of, walker_steps, walked_to, walker_after, walker_note, next_access, place_of, place_by, accesses_of, accesses_by}
 use Rattle.splitter_grid.specs.Consistent.{IsConsistent, IsGrid}
 use Rattle.splitter_grid.specs.GridWorld.{GridState, After, fresh, empty_doors, place_in, step_reply, world_after_step, RefusesWhereDue}
 use Rattle.splitter_grid.specs.Law.{KeepsGridLaw}
 use Rattle.splitter_grid.proofs.ConsistentKept.{consistent_new, begun, gone_on}
-use Rattle.splitter_grid.proofs.GridLaw.{grid_law, nearer}
+use Rattle.splitter_grid.proofs.GridLaw.{grid_law, nearer, place_told}
 
 -- the walk of each identity
 abbrev pub walkers : List (Participant Walker) → ℕ → Option Walker
@@ -78,24 +77,9 @@ begun_kept w r id in_ t =
       steps = λ p. omega (arith, steps_of-push p r (Began id (Ok tt)), t.steps p, same_accesses p);
     }
 
--- what a walk says is its place, and that it has ended
-place_told : (u : Walker) (s : Stage) → outcome_in (note_at_door (number_of u.door) s) ≡ place_of (walked_to u s)
-place_told u Outside = refl
-place_told u WroteX = refl
-place_told u SawClear = refl
-place_told u WroteY = refl
-place_told u (Gone Stop) = refl
-place_told u (Gone Right) = refl
-place_told u (Gone Down) = refl
-
+-- a walk says that it has ended where it has a place
 end_told : (u : Walker) (s : Stage) → ends (note_at_door (number_of u.door) s) ≡ is_some (place_of (walked_to u s))
-end_told u Outside = refl
-end_told u WroteX = refl
-end_told u SawClear = refl
-end_told u WroteY = refl
-end_told u (Gone Stop) = refl
-end_told u (Gone Right) = refl
-end_told u (Gone Down) = refl
+end_told u s = sym (outcomes_tell (note_at_door (number_of u.door) s)) ∙ ap is_some (place_told u s)
 
 no_place : (o : Option ℕ) → is_some o ≡ false → o ≡ None
 no_place None h = refl

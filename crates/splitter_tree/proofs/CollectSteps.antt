@@ -38,7 +38,7 @@ use Rattle.splitter_tree.specs.TreeCalls.TreeCall.{Began, Stepped, Stored, Colle
 use Rattle.splitter_tree.specs.CollectLaw.{CollectObject, new_object, one_begun, with_moment, collect_begun, collect_stepped, goes_on, observed, ShowsValues, most_steps, AllowsStep, Allows, KeepsCollectLaw}
 use Rattle.splitter_tree.specs.Ahead.{marked_in, HasRead}
 use Rattle.step_memory.proofs.RunLemmas.{run_replays}
-use Rattle.splitter_tree.specs.Count.{count_to}
+use Rattle.step_memory.specs.Count.{count_to}
 use Rattle.step_memory.proofs.CountLemmas.{count_none}
 use Rattle.splitter_tree.proofs.TreeCallLemmas.{Goes, absent_place, placed_place, going_place, absent_view, idle_view, going_view, absent_store, busy_store, going_store, collect_absent, collect_busy, collect_goes}
 use Rattle.splitter_tree.proofs.ReadCount.{reads_few, nodes_few}

@@ -18,7 +18,7 @@ use Rattle.step_memory.specs.Participant.{participant_of, with_participant, begi
 use Rattle.step_memory.specs.Steps.{MemorySteps, Spares, answer_from}
 use Rattle.step_memory.specs.SetAt.{set_at}
 use Rattle.step_memory.specs.World.{begin_refusal, begun_unless, done_unless, after_set, got_by}
-use Rattle.step_memory.specs.Calls.{Call, steps_of, steps_by, outcome_of, outcome_by, begun_in, begun_by, lacked_memory}
+use Rattle.step_memory.specs.Calls.{Call, steps_of, steps_by, outcome_of, outcome_by, outcome_in, begun_in, begun_by, lacked_memory}
 use Rattle.step_memory.specs.Calls.Call.{Began, Stepped}
 use Rattle.step_memory.specs.Due.{EndsOnce}
 use Rattle.step_memory.proofs.RunLemmas.{run_keeps}
@@ -26,10 +26,8 @@ use Rattle.step_memory.proofs.SetAtLemmas.{set_at-same, set_at-other, set_at-cas
 use Rattle.step_memory.proofs.ParticipantLemmas.{participant_of-push, participant_of-put, length-with_participant}
 use Rattle.step_memory.proofs.WorldKeeps.{steps_of-push, begun_in-push, outcome_of-push, first_of-none, IsLetIn}
 pub use Rattle.step_memory.proofs.WorldKeeps.{let_in}
-use Rattle.splitter.specs.declared.way.Way.TheVariants.{Stop, Right, Down}
-use Rattle.splitter.specs.declared.stage.Stage.{Stage}
-use Rattle.splitter.specs.declared.stage.Stage.TheVariants.{Outside, WroteX, SawClear, WroteY, Gone}
 use Rattle.splitter.specs.Visitor.{stage_by}
+use Rattle.splitter.specs.Walk.{note_at_door}
 use Rattle.splitter_tree.specs.declared.register.TreeRegister.{TreeRegister}
 use Rattle.splitter_tree.specs.declared.register.TreeRegister.TheVariants.{Mark, X, Y}
 use Rattle.splitter_tree.specs.declared.register.TreeValue.{TreeValue}
@@ -40,7 +38,7 @@ use Rattle.splitter_tree.specs.declared.client.Task.{Task}
 use Rattle.splitter_tree.specs.declared.client.Task.TheVariants.{Placing, Nothing, Storing, Collecting}
 use Rattle.splitter_tree.specs.declared.client.TreeReply.{TreeReply}
 use Rattle.splitter_tree.specs.TreeMemory.{word_in, mark_at, x_at, y_at, IsTreeMemory, IsEmptyTree}
-use Rattle.splitter_tree.specs.Walk.{walk_of, next_access, told, walked_to, walker_after, walker_note, note_at_node, place_of, place_by}
+use Rattle.splitter_tree.specs.Walk.{walk_of, next_access, told, walker_after, walker_note, place_of, place_by}
 use Rattle.splitter_tree.specs.Client.{client_of, client_steps, client_access, client_note, access_for, after_for, note_for, is_placing, is_idle, is_collecting, is_placed, placing_after, placed_note, place_told, storing, collecting, with_task, write_at, record_of, task_after, collected_note}
 use Rattle.splitter_tree.specs.Collect.{collect_after, collect_view}
 use Rattle.splitter_tree.specs.TreeWorld.{TreeState, asking_refusal, place_answer, after_placing, after_store, after_collect_begin, view_answer, after_collecting}
@@ -51,7 +49,7 @@ use Rattle.splitter_tree.specs.PlacesLaw.{way_calls, KeepsPlacesLaw, walker_in, 
 use Rattle.std.proofs.lemmas.Bool.{cases_Bool}
 use Rattle.splitter_tree.proofs.ConsistentKept.{consistent_new, begun, gone_on, elsewhere}
 use Rattle.splitter_tree.proofs.TreeLaw.{tree_law, nearer}
-use Rattle.splitter_tree.proofs.WalkerLemmas.{visit_after, visit_note, marking_after, marking_note}
+use Rattle.splitter_tree.proofs.WalkerLemmas.{visit_after, visit_note, marking_after, marking_note, stage_place}
 use Rattle.splitter_tree.proofs.CallCases.{GoesOn, stepped_by, step_cases, store_cases, collect_begin_cases, collect_step_cases}
 
 -- a participant has its identity, goes on for ever, and is on its way just while its walk has no place
@@ -126,35 +124,27 @@ reads_only c Nothing h r = absurd (cc)
 reads_only c (Storing value) h r = absurd (cc)
 reads_only c (Collecting collect) h r = tt
 
--- a walk's note tells its place, and that it is there
-stage_place : (u : Walker) (s : Stage) → place_told (placed_note (note_at_node u.place s)) ≡ place_of (walked_to u s)
-stage_place u Outside = refl
-stage_place u WroteX = refl
-stage_place u SawClear = refl
-stage_place u WroteY = refl
-stage_place u (Gone Stop) = refl
-stage_place u (Gone Right) = refl
-stage_place u (Gone Down) = refl
+-- a client tells the place that its walk tells, and is there where it tells one
+place_in_note : (n : Note ℕ) → place_told (placed_note n) ≡ outcome_in n
+place_in_note Quiet = refl
+place_in_note (Said place) = refl
+place_in_note (Ended place) = refl
 
-stage_placed : (u : Walker) (s : Stage) → is_placed (note_at_node u.place s) ≡ is_some (place_of (walked_to u s))
-stage_placed u Outside = refl
-stage_placed u WroteX = refl
-stage_placed u SawClear = refl
-stage_placed u WroteY = refl
-stage_placed u (Gone Stop) = refl
-stage_placed u (Gone Right) = refl
-stage_placed u (Gone Down) = refl
+placed_by_note : (n : Note ℕ) → is_placed n ≡ is_some (outcome_in n)
+placed_by_note Quiet = refl
+placed_by_note (Said place) = refl
+placed_by_note (Ended place) = refl
 
 place_is_told : (u : Walker) (got : Answer TreeValue) → place_of u ≡ None → place_told (placed_note (walker_note u got)) ≡ place_of (walker_after u got)
 place_is_told u got on = elim (cases_Bool u.is_marking) [
   | inl m ↦ ap (λ n. place_told (placed_note n)) (marking_note u got m) ∙ sym (ap place_of (marking_after u got m) ∙ on)
-  | inr m ↦ ap (λ n. place_told (placed_note n)) (visit_note u got m) ∙ stage_place u (stage_by u.visitor (told got)) ∙ sym (ap place_of (visit_after u got m))
+  | inr m ↦ ap (λ n. place_told (placed_note n)) (visit_note u got m) ∙ place_in_note (note_at_door u.place (stage_by u.visitor (told got))) ∙ stage_place u (stage_by u.visitor (told got)) ∙ sym (ap place_of (visit_after u got m))
 ]
 
 pub end_is_told : (u : Walker) (got : Answer TreeValue) → place_of u ≡ None → is_placed (walker_note u got) ≡ is_some (place_of (walker_after u got))
 end_is_told u got on = elim (cases_Bool u.is_marking) [
   | inl m ↦ ap is_placed (marking_note u got m) ∙ sym (ap is_some (ap place_of (marking_after u got m) ∙ on))
-  | inr m ↦ ap is_placed (visit_note u got m) ∙ stage_placed u (stage_by u.visitor (told got)) ∙ sym (ap is_some (ap place_of (visit_after u got m)))
+  | inr m ↦ ap is_placed (visit_note u got m) ∙ placed_by_note (note_at_door u.place (stage_by u.visitor (told got))) ∙ ap is_some (stage_place u (stage_by u.visitor (told got))) ∙ sym (ap is_some (ap place_of (visit_after u got m)))
 ]
 
 pub placed_goes : (n : Note ℕ) → ends (placed_note n) ≡ false

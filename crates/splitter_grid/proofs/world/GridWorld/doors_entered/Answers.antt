@@ -1,7 +1,7 @@
 use Rattle.std.proofs.Common.{◌≡◌, ℕ, ap, subst, ◌∙◌}
 use Rattle.step_memory.specs.RegisterState.{Registers}
 use Rattle.splitter_grid.specs.Consistent.{was_entered}
-use Rattle.splitter_grid.specs.Count.{count_to}
+use Rattle.step_memory.specs.Count.{count_to}
 use Rattle.splitter_grid.proofs.GridTied.{grid_after}
 use Rattle.splitter_grid.proofs.EnteredDoors.{named_entered}
 use Rattle.splitter_grid.proofs.world.GridWorld.doors_entered.Goals as goal
