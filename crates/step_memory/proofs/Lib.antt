@@ -7,5 +7,6 @@ pub mod StepLemmas
 pub mod LocalityLemmas
 pub mod RunLemmas
 pub mod WorldKeeps
+pub mod ToldLemmas
 pub mod DueLemmas
 pub mod ViewLemmas

@@ -8,11 +8,12 @@ use Rattle.step_memory.specs.Participant.{participant_of, with_participant, resu
 use Rattle.step_memory.specs.Steps.{ProgramSteps, MemorySteps}
 use Rattle.step_memory.specs.WorldState.{WorldState}
 use Rattle.step_memory.specs.World.{begin_refusal, done_unless, after_begin, step_answer, after_step, got_by}
-use Rattle.step_memory.specs.Calls.{Call, next, IsReply, IsAfter, begun_in, reply_of, lacked_memory, outcome_of, outcome_by, first_of}
+use Rattle.step_memory.specs.Calls.{Call, next, IsReply, IsAfter, begun_in, reply_of, lacked_memory, steps_by, outcome_of, outcome_by, first_of}
 use Rattle.step_memory.specs.Calls.Call.{Began, Stepped}
 use Rattle.step_memory.specs.Locality.{LookAlike, StandAlike}
 use Rattle.step_memory.specs.Runs.{Run}
 use Rattle.step_memory.specs.Replay.{replay}
+use Rattle.step_memory.specs.Told.{Tells}
 use Rattle.step_memory.specs.Due.{RefusesAsDue, EndsOnce, TellsTheEnd, GrowsOnly}
 use Rattle.step_memory.specs.View.{IsRising, value_of, inserted}
 use Rattle.step_memory.specs.declared.note.Note.{Note}
@@ -100,6 +101,26 @@ abbrev pub AnswersWithMemory : (P S R V O X : Type 0) → Type 0
 AnswersWithMemory P S R V O X =
     (program : ProgramSteps P R V O) (memory : MemorySteps S R V) (shown : Note O → X) (w : WorldState S P) (id : ℕ) →
     lacked_memory (reply_of shown (step_answer program memory w id)) ≡ false
+
+-- a call that is no accepted step tells nothing of how participants stand
+abbrev pub TellsNothing : (Z O : Type 0) → Type 0
+TellsNothing Z O =
+    (say : Z → Option O) (least most : Z → ℕ) (stands : ℕ → Z) (r : List (Call (Option O))) → Tells say least most stands r →
+    (h : Call (Option O)) → ((p : ℕ) → steps_by p h ≡ 0) → ((p : ℕ) → outcome_by p h ≡ None) → Tells say least most stands (r ++ h ∷ [])
+
+-- who begins has made no step, and stands as one who has not begun
+abbrev pub TellsOfBeginner : (Z O : Type 0) → Type 0
+TellsOfBeginner Z O =
+    (say : Z → Option O) (least most : Z → ℕ) (stands : ℕ → Z) (r : List (Call (Option O))) → Tells say least most stands r →
+    (id : ℕ) (new : Z) → say (stands id) ≡ say new → least new ≤ least (stands id) → most (stands id) ≤ most new →
+    Tells say least most (set_at stands id new) (r ++ Began id (Ok tt) ∷ [])
+
+-- a step of one who has no outcome yet tells the outcome of who then stands so
+abbrev pub TellsOfStep : (Z O : Type 0) → Type 0
+TellsOfStep Z O =
+    (say : Z → Option O) (least most : Z → ℕ) (stands : ℕ → Z) (r : List (Call (Option O))) → Tells say least most stands r →
+    (id : ℕ) (new : Z) (said : Option O) → say (stands id) ≡ None → said ≡ say new → least new ≤ least (stands id) + 1 →
+    most (stands id) + 1 ≤ most new → Tells say least most (set_at stands id new) (r ++ Stepped id (Ok said) ∷ [])
 
 -- a call that gets a right reply leads on
 abbrev pub CallLeadsOn : (P S R V O X : Type 0) → Type 0

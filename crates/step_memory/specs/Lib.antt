@@ -14,6 +14,7 @@ pub mod SetAt
 pub mod Count
 pub mod Distinct
 pub mod Calls
+pub mod Told
 pub mod Due
 pub mod Replay
 pub mod View
