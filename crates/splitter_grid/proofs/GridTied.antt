@@ -35,14 +35,14 @@ abbrev pub walkers : List (Participant Walker) → ℕ → Option Walker
 walkers ps p = program_of p ps
 
 -- a participant has its identity, and has ended where its walk has a place
-pub record IsNamed (p : ℕ) (v : Participant Walker) : Type 0 where
+pub record IsParticipantOf (p : ℕ) (v : Participant Walker) : Type 0 where
   pub own : v.identity ≡ p
   pub ended : v.ended ≡ is_some (place_of v.program)
 
 pub record IsTied (w : GridState) (r : List (Call (Option ℕ))) : Type 0 where
   pub consistent : IsConsistent w.most (length w.participants) w.memory (walkers w.participants)
   pub begun_is : begun_in r ≡ length w.participants
-  pub named : (p : ℕ) (v : Participant Walker) → participant_of p w.participants ≡ Some v → IsNamed p v
+  pub known : (p : ℕ) (v : Participant Walker) → participant_of p w.participants ≡ Some v → IsParticipantOf p v
   pub told : Tells place_by (λ _. 0) accesses_by (walkers w.participants) r
 
 -- a call that is refused
@@ -50,7 +50,7 @@ refused : (w : GridState) (r : List (Call (Option ℕ))) (h : Call (Option ℕ))
 refused w r h none quiet nobody t = record {
   consistent = t.consistent;
   begun_is = omega (arith, begun_in-push r h, nobody, t.begun_is);
-  named = t.named;
+  known = t.known;
   told = told_quiet place_by (λ _. 0) accesses_by (walkers w.participants) r t.told h none quiet;
 }
 
@@ -66,9 +66,9 @@ begun_kept w r id in_ t =
     record {
       consistent = rw (longer, walks) (begun w.most (length w.participants) w.memory (walkers w.participants) t.consistent id in_.not_zero absent in_.room);
       begun_is = omega (arith, begun_in-push r (Began id (Ok tt)), t.begun_is, longer);
-      named = λ p v h. set_at-cases (λ z. participant_of z w.participants) id (Some (beginner id (walk_of id))) (λ o. o ≡ Some v → IsNamed p v) p
-          (λ e k. let is : beginner id (walk_of id) ≡ v = cc in subst (λ (u : Participant Walker). IsNamed p u) is (record { own = sym e; ended = refl }))
-          (λ _ k. t.named p v k)
+      known = λ p v h. set_at-cases (λ z. participant_of z w.participants) id (Some (beginner id (walk_of id))) (λ o. o ≡ Some v → IsParticipantOf p v) p
+          (λ e k. let is : beginner id (walk_of id) ≡ v = cc in subst (λ (u : Participant Walker). IsParticipantOf p u) is (record { own = sym e; ended = refl }))
+          (λ _ k. t.known p v k)
           (sym (push p) ∙ h);
       told = rw walks (told_begun place_by (λ _. 0) accesses_by (walkers w.participants) r t.told id (Some (walk_of id)) (ap place_by absent) (omega arith) (rw absent (omega arith)));
     }
@@ -85,27 +85,27 @@ no_place (Some k) h = absurd (cc)
 going_kept : (w : GridState) (r : List (Call (Option ℕ))) (id : ℕ) (v : Participant Walker) → participant_of id w.participants ≡ Some v → v.ended ≡ false → IsTied w r →
     IsTied (stepped walker_steps memory_steps outcome_in walk_of w v) (r ++ Stepped id (Ok (outcome_in (walker_note v.program (answer_of w.memory (next_access v.program))))) ∷ [])
 going_kept w r id v here goes t =
-    let named = t.named id v here in
+    let known = t.known id v here in
     let is : walkers w.participants id ≡ Some v.program = rw here refl in
-    let on : place_of v.program ≡ None = no_place (place_of v.program) (sym named.ended ∙ goes) in
+    let on : place_of v.program ≡ None = no_place (place_of v.program) (sym known.ended ∙ goes) in
     let got : Answer ℕ = answer_of w.memory (next_access v.program) in
     let walk : Walker = walker_after v.program got in
     let new : Participant Walker = moved walker_steps memory_steps outcome_in walk_of w.memory v in
     let call : Call (Option ℕ) = Stepped id (Ok (outcome_in (walker_note v.program got))) in
-    let there : is_some (participant_of v.identity w.participants) ≡ true = rw (named.own, here) refl in
-    let put : (q : ℕ) → participant_of q (with_participant new w.participants) ≡ set_at (λ u. participant_of u w.participants) id (Some new) q = (λ q. participant_of-put w.participants new there q ∙ rw named.own refl) in
+    let there : is_some (participant_of v.identity w.participants) ≡ true = rw (known.own, here) refl in
+    let put : (q : ℕ) → participant_of q (with_participant new w.participants) ≡ set_at (λ u. participant_of u w.participants) id (Some new) q = (λ q. participant_of-put w.participants new there q ∙ rw known.own refl) in
     let walks : walkers (with_participant new w.participants) ≡ set_at (walkers w.participants) id (Some walk) = fun_ext (λ q. ap (option_map (λ x. x.program)) (put q) ∙ set_at-map (option_map (λ x. x.program)) (λ u. participant_of u w.participants) id (Some new) q) in
     let many : length (with_participant new w.participants) ≡ length w.participants = length-with_participant w.participants new in
     let more = nearer w.most (length w.participants) w.memory (walkers w.participants) t.consistent id v.program is on got in
     record {
       consistent = rw (many, walks) (gone_on w.most (length w.participants) w.memory (walkers w.participants) t.consistent id v.program is);
       begun_is = omega (arith, begun_in-push r call, t.begun_is, many);
-      named = λ p u h. set_at-cases (λ z. participant_of z w.participants) id (Some new) (λ o. o ≡ Some u → IsNamed p u) p
-          (λ e k. let same : new ≡ u = cc in subst (λ (x : Participant Walker). IsNamed p x) same (record { own = named.own ∙ sym e; ended = end_told v.program (stage_by v.program.visitor got) }))
-          (λ _ k. t.named p u k)
+      known = λ p u h. set_at-cases (λ z. participant_of z w.participants) id (Some new) (λ o. o ≡ Some u → IsParticipantOf p u) p
+          (λ e k. let same : new ≡ u = cc in subst (λ (x : Participant Walker). IsParticipantOf p x) same (record { own = known.own ∙ sym e; ended = end_told v.program (stage_by v.program.visitor got) }))
+          (λ _ k. t.known p u k)
           (sym (put p) ∙ h);
       told = rw walks (told_stepped place_by (λ _. 0) accesses_by (walkers w.participants) r t.told id (Some walk) (outcome_in (walker_note v.program got))
-      (ap place_by is ∙ on) (place_told v.program (stage_by v.program.visitor got)) (omega arith) (rw is more));
+          (ap place_by is ∙ on) (place_told v.program (stage_by v.program.visitor got)) (omega arith) (rw is more));
     }
 
 -- each call keeps the tie
@@ -122,7 +122,7 @@ tied_new : (most : ℕ) → most ≤ 16 → IsTied (fresh most) []
 tied_new most few = record {
   consistent = consistent_new most few;
   begun_is = refl;
-  named = λ p v h. absurd (cc);
+  known = λ p v h. absurd (cc);
   told = record { outcomes = λ p. refl; at_least = λ p. omega arith; at_most = λ p. omega arith };
 }
 

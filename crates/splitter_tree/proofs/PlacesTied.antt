@@ -279,7 +279,7 @@ module _ {S : Type 0} (memory : MemorySteps S TreeRegister TreeValue) (tree : Is
           task = ap (λ (c : Client). is_placing c.task) goes.0 ∙ task_told (is_placed (walker_note u got)) v.program.task placing ∙ ap not (end_is_told u got on) ∙ ap (λ (x : Walker). not (is_some (place_of x))) (sym walk_is);
         });
         told = rw (way, walks) (told_stepped place_by (λ _. 0) accesses_by (walkers w.participants) (way_calls r) t.told id (Some (walker_after u got)) (place_told (client_note v.program got))
-        (ap place_by is ∙ on) told_is (omega arith) (rw is more));
+            (ap place_by is ∙ on) told_is (omega arith) (rw is more));
       }
 
   -- an access that leaves marks, X and Y leaves their words
