@@ -1,4 +1,3 @@
-pub mod Found
 pub mod StayOfLemmas
 pub mod Counts
 pub mod Balanced

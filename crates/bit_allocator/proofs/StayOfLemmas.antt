@@ -4,6 +4,7 @@ use Rattle.std.specs.Prelude.{is_some}
 use Rattle.std.specs.List.{list_any}
 use Rattle.std.proofs.lemmas.Bool.Decides.{eqb_tells, Decides-eqb}
 use Rattle.step_memory.specs.SetAt.{set_at}
+use Rattle.step_memory.proofs.Roster.{seen-push, seen-put}
 use Rattle.bit_allocator.specs.declared.competitor.Competitor.{Competitor}
 use Rattle.bit_allocator.specs.declared.stay.Stay.{Stay}
 use Rattle.bit_allocator.specs.Competitors.{identities, stay_of, with_stay, without}
@@ -13,30 +14,11 @@ eqb_flip a b = elim (eqb_tells a b) [ inl w ↦ w.0 ∙ sym ((Decides-eqb b a).1
 
 -- one more at the end, whose identity was not there
 pub stay_of-push : (cs : List Competitor) (new : Competitor) → stay_of new.identity cs ≡ None → (q : ℕ) → stay_of q (cs ++ new ∷ []) ≡ set_at (λ v. stay_of v cs) new.identity (Some new.stay) q
-stay_of-push [] new h q = rw (eqb_flip q new.identity) refl
-stay_of-push (c ∷ cs) new h q =
-    elim (eqb_tells c.identity new.identity) [
-      | inl w ↦ absurd (let k : Some c.stay ≡ None = rw w.0 at h in cc)
-      | inr w ↦ elim (eqb_tells c.identity q) [
-        | inl v ↦ let other : (q == new.identity) ≡ false = rw (← v.1) w.0 in rw (v.0, other) refl
-        | inr v ↦ let i = stay_of-push cs new (rw w.0 at h) q in rw v.0 i
-      ]
-    ]
+stay_of-push = seen-push (λ c. c.identity) (λ c. c.stay)
 
 -- another state of one who is there
 pub stay_of-with_stay : (cs : List Competitor) (id : ℕ) (stay : Stay) → is_some (stay_of id cs) ≡ true → (q : ℕ) → stay_of q (with_stay id stay cs) ≡ set_at (λ v. stay_of v cs) id (Some stay) q
-stay_of-with_stay [] id stay h q = absurd (cc)
-stay_of-with_stay (c ∷ cs) id stay h q =
-    elim (eqb_tells c.identity id) [
-      | inl w ↦ elim (eqb_tells id q) [
-        | inl v ↦ let own : (q == id) ≡ true = eqb_flip q id ∙ v.0 in rw (w.0, v.0, own) refl
-        | inr v ↦ let other : (q == id) ≡ false = eqb_flip q id ∙ v.0 in let first : (c.identity == q) ≡ false = rw w.1 v.0 in rw (w.0, v.0, other, first) refl
-      ]
-      | inr w ↦ elim (eqb_tells c.identity q) [
-        | inl v ↦ let other : (q == id) ≡ false = rw (← v.1) w.0 in rw (w.0, v.0, other) refl
-        | inr v ↦ let i = stay_of-with_stay cs id stay (rw w.0 at h) q in rw (w.0, v.0) i
-      ]
-    ]
+stay_of-with_stay cs id stay = seen-put (λ c. c.identity) (λ c. c.stay) cs (record { identity = id; stay = stay })
 
 same_either : {X : Type 0} (b : Bool) (x : X) → x ≡ cond b x x
 same_either true x = refl

@@ -1,5 +1,6 @@
 -- competitors, by their identities
-use Rattle.std.specs.Prelude.{ℕ, ◌+◌, Bool, false, not, filter, List, [], ◌∷◌, Option, Some, None, ◌==◌, if◌then◌else◌, option_map, map}
+use Rattle.std.specs.Prelude.{ℕ, Bool, false, not, filter, List, [], ◌∷◌, Option, Some, None, ◌==◌, if◌then◌else◌, map}
+use Rattle.step_memory.specs.Roster.{index_by, seen_by, replaced_by}
 use Rattle.bit_allocator.specs.declared.competitor.Competitor.{Competitor}
 use Rattle.bit_allocator.specs.declared.stay.Stay.{Stay}
 use Rattle.bit_allocator.specs.Stay.{held_at}
@@ -8,20 +9,17 @@ use Rattle.bit_allocator.specs.Stay.{held_at}
 abbrev pub identities : List Competitor → List ℕ
 identities cs = map (λ c. c.identity) cs
 
--- the place of an identity
+-- the index of an identity
 abbrev pub index_of : ℕ → List Competitor → Option ℕ
-index_of id [] = None
-index_of id (c ∷ cs) = if c.identity == id then Some 0 else option_map (λ k. k + 1) (index_of id cs)
+index_of id cs = index_by (λ c. c.identity) id cs
 
 -- where an identity stands; none where it does not compete
 abbrev pub stay_of : ℕ → List Competitor → Option Stay
-stay_of id [] = None
-stay_of id (c ∷ cs) = if c.identity == id then Some c.stay else stay_of id cs
+stay_of id cs = seen_by (λ c. c.identity) (λ c. c.stay) id cs
 
 -- the competitors, with this state of that identity
 abbrev pub with_stay : ℕ → Stay → List Competitor → List Competitor
-with_stay id stay [] = []
-with_stay id stay (c ∷ cs) = if c.identity == id then record { identity = id; stay = stay } ∷ cs else c ∷ with_stay id stay cs
+with_stay id stay cs = replaced_by (λ c. c.identity) (record { identity = id; stay = stay }) cs
 
 -- the competitors without that identity
 abbrev pub without : ℕ → List Competitor → List Competitor

@@ -9,3 +9,4 @@ pub mod Law
 pub mod After
 pub mod Acquired
 pub mod Sound
+pub mod Laws

@@ -1,5 +1,5 @@
 -- the pool as an object with a free choice: it gives out any number that nobody holds (Moir and Anderson 1995)
-use Rattle.std.specs.Prelude.{◌≡◌, ◌≢◌, ℕ, ◌+◌, ◌-◌, ◌≤◌, Bool, not, List, [], ◌∷◌, ◌++◌, length, filter, Option, Some, None, Result, Ok, Err, ◌==◌, nat_le, max, if◌then◌else◌, is_some, ok_or}
+use Rattle.std.specs.Prelude.{◌≡◌, ◌≢◌, ℕ, ◌+◌, ◌-◌, ◌≤◌, Bool, not, List, [], ◌∷◌, ◌++◌, length, filter, Option, Some, None, Result, Ok, Err, ◌==◌, nat_le, max, if◌then◌else◌, is_some, ok_or, MatchOption}
 use Rattle.std.specs.List.{list_any}
 use Rattle.step_memory.specs.declared.refusal.Refusal.{Refusal}
 use Rattle.step_memory.specs.declared.refusal.Refusal.TheVariants.{ZeroIdentity, Crowded, NotCompeting, AlreadyCompeting, Holding, NotHolding}
@@ -44,6 +44,10 @@ no_probe o p =
 -- the number that p holds, or why there is none: the first of these reasons that holds
 abbrev pub number_in : PoolObject → ℕ → Result ℕ Refusal
 number_in o p = if not (competes o p) then Err NotCompeting else ok_or (o.held p) NotHolding
+
+-- this one holds the number, or nobody does
+abbrev pub IsHolderIn : PoolObject → ℕ → Option ℕ → Type 0
+IsHolderIn o number holder = MatchOption holder ((p : ℕ) → o.held p ≢ Some number) (λ p. o.held p ≡ Some number)
 
 -- a number of the pool that nobody holds
 pub record IsFree (o : PoolObject) (n : ℕ) : Type 0 where

@@ -4,8 +4,8 @@ ghost use Rattle.std.specs.Prelude.{◌≡◌, ℕ, ◌≤◌, List, [], ◌∷�
 ghost use Rattle.bit_allocator.specs.After.{After, IsLawful, IsReply, next};
 ghost use Rattle.bit_allocator.specs.Calls.{Call};
 ghost use Rattle.bit_allocator.specs.Law.{KeepsPoolLaw};
+ghost use Rattle.bit_allocator.specs.Laws.{AnswersAreDue};
 ghost use Rattle.bit_allocator.specs.Pool.{fresh_pool};
-ghost use Rattle.bit_allocator.specs.PoolObject.{Answers, IsRun, PoolObject};
 ghost use Rattle.bit_allocator.specs.PoolState.{PoolState};
 ghost use Rattle.bit_allocator.specs.Stay.{leave_access, probe_access};
 ghost use Rattle.bit_allocator.specs.declared.stay.Stay.{Stay};
@@ -19,7 +19,7 @@ pub fn law_of_pool_calls()
     ensures next { (size : ℕ) (w : PoolState) (r : List Call) (h : Call) → IsReply w h → After size w r → After size (next w h) (r ++ h ∷ []) }
     ensures law { (w : PoolState) → IsLawful w }
     ensures front { (size : ℕ) (w : PoolState) (r t : List Call) → After size w (r ++ t) → KeepsPoolLaw size r }
-    ensures due { (size : ℕ) (w : PoolState) (r before rest : List Call) (h : Call) → After size w r → r ≡ before ++ h ∷ rest → (o : PoolObject) × IsRun size before o × Answers o h }
+    ensures due { AnswersAreDue }
     ensures one { (size : ℕ) (w other : PoolState) (r : List Call) → After size w r → After size other r → w ≡ other }
 {}
 

@@ -1,13 +1,14 @@
 //! The pool.
 
-ghost use Rattle.std.specs.Prelude.{◌≡◌, ◌≤◌, ◌<◌, ◌⊎◌, ℕ, List, [], ◌∷◌, ◌++◌, IfOk, IfErr, IsOk, OnErr, Err, MatchOption, Some, ◌≢◌};
-ghost use Rattle.bit_allocator.specs.Competitors.{index_of, holder_in, identities};
+ghost use Rattle.std.specs.Prelude.{◌≡◌, ◌≤◌, ◌<◌, ◌⊎◌, ℕ, List, [], ◌∷◌, ◌++◌, IfOk, IfErr, IfSome, IsOk, OnErr, Err, length};
+ghost use Rattle.bit_allocator.specs.Competitors.{index_of, stay_of, holder_in, identities};
+ghost use Rattle.bit_allocator.specs.Stay.{IsWithin};
 ghost use Rattle.bit_allocator.specs.PoolState.{PoolState};
 ghost use Rattle.bit_allocator.specs.Pool.{fresh_pool, enter_refusal, enter_answer, after_enter, probe_refusal, probe_answer, after_probe, number_answer, after_leave};
 ghost use Rattle.bit_allocator.specs.Locality.{IsLocal, LookAlike, StandAlike, probe_steps, leave_steps};
 ghost use Rattle.bit_allocator.specs.Calls.{Call};
 ghost use Rattle.bit_allocator.specs.Calls.Call.{Entered, Probed, Left};
-ghost use Rattle.bit_allocator.specs.PoolObject.{PoolObject, IsRun, number_in};
+ghost use Rattle.bit_allocator.specs.PoolObject.{PoolObject, IsRun, number_in, IsHolderIn};
 ghost use Rattle.bit_allocator.specs.After.{After, IsLawful, LeadsOn};
 ghost use Rattle.bit_allocator.specs.Acquired.{IsAcquired, LeadsByStay, was_clear, Gets};
 
@@ -44,6 +45,7 @@ impl<A: Allocator> Model for Pool<A> {
 /// Where the competitor of an identity stands.
 fn find(competitors: &[Competitor], id: u64) -> Option<usize>
     ensures answer { result ≡ index_of id competitors.now }
+    ensures inside { IfSome result (λ i. i < length competitors.now) }
 {
     for (i, competitor) in competitors.iter().enumerate() {
         if competitor.identity == id {
@@ -135,25 +137,34 @@ impl<A: Allocator> Pool<A> {
         self.competitors.as_slice()
     }
 
+    /// Where an identity stands; none where it does not compete.
+    fn stay_of(&self, id: u64) -> Option<Stay>
+        ensures stay { result ≡ stay_of id self.now.competitors }
+        ensures within { IfSome result (λ stay. IsWithin self.now.size stay) }
+    {
+        let Some(i) = find(&self.competitors, id) else {
+            return None;
+        };
+        Some(self.competitors[i].stay)
+    }
+
     /// The number that an identity holds. Refused where the identity does not compete, then where it holds none.
     pub fn number_of(&self, id: u64) -> Result<u8, Refusal>
         ensures answer { result ≡ number_answer self.now id }
         ensures range { IfOk result (λ n. (1 ≤ n) × (n ≤ self.now.size)) }
         ensures law { (size : ℕ) (r : List Call) (o : PoolObject) → After size self.now r → IsRun size r o → result ≡ number_in o id }
     {
-        let Some(i) = find(&self.competitors, id) else {
-            return Err(Refusal::NotCompeting);
-        };
-        match self.competitors[i].stay {
-            Stay::Seeking(_) => Err(Refusal::NotHolding),
-            Stay::Settled(number) => Ok(number),
+        match self.stay_of(id) {
+            None => Err(Refusal::NotCompeting),
+            Some(Stay::Seeking(_)) => Err(Refusal::NotHolding),
+            Some(Stay::Settled(number)) => Ok(number),
         }
     }
 
     /// Who holds a number.
     pub fn holder_of(&self, number: u8) -> Option<u64>
         ensures value { result ≡ holder_in number self.now.competitors }
-        ensures law { (size : ℕ) (r : List Call) (o : PoolObject) → After size self.now r → IsRun size r o → MatchOption result ((p : ℕ) → o.held p ≢ Some number) (λ p. o.held p ≡ Some number) }
+        ensures law { (size : ℕ) (r : List Call) (o : PoolObject) → After size self.now r → IsRun size r o → IsHolderIn o number result }
     {
         holder(&self.competitors, number)
     }
@@ -164,7 +175,7 @@ impl<A: Allocator> Pool<A> {
     {
         if id == 0 {
             Some(Refusal::ZeroIdentity)
-        } else if find(&self.competitors, id).is_some() {
+        } else if self.stay_of(id).is_some() {
             Some(Refusal::AlreadyCompeting)
         } else if usize::from(self.size) <= self.competitors.len() {
             Some(Refusal::Crowded)
@@ -196,12 +207,10 @@ impl<A: Allocator> Pool<A> {
     pub fn probe_refusal(&self, id: u64) -> Option<Refusal>
         ensures { result ≡ probe_refusal self.now id }
     {
-        let Some(i) = find(&self.competitors, id) else {
-            return Some(Refusal::NotCompeting);
-        };
-        match self.competitors[i].stay {
-            Stay::Seeking(_) => None,
-            Stay::Settled(_) => Some(Refusal::Holding),
+        match self.stay_of(id) {
+            None => Some(Refusal::NotCompeting),
+            Some(Stay::Seeking(_)) => None,
+            Some(Stay::Settled(_)) => Some(Refusal::Holding),
         }
     }
 

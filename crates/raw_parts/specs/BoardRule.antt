@@ -35,3 +35,13 @@ pub record IsGranted (views : List BoardView) (c : Claim) : Type 0 where
   pub view : BoardView
   pub there : get_elem? views seat ≡ some view
   pub claimed : IsClaimed c view.claims
+
+-- where the rule is kept, the word of a claim that some seat has holds its identity
+abbrev pub HoldsWhatIsClaimed : Type 0
+HoldsWhatIsClaimed = (count : ℕ) (words : List ℕ) (views : List BoardView) (c : Claim) → KeepsBoard count words views → IsGranted views c → IsSo words c
+
+-- and two claims of one word are of one identity
+abbrev pub HasOneIdentity : Type 0
+HasOneIdentity =
+    (count : ℕ) (words : List ℕ) (views : List BoardView) (c d : Claim) → KeepsBoard count words views → IsGranted views c → IsGranted views d →
+    c.word ≡ d.word → c.identity ≡ d.identity

@@ -12,13 +12,13 @@ use Rattle.splitter.specs.Stage.{has_entered}
 use Rattle.splitter.specs.Door.{DoorIsLawful}
 use Rattle.raw_parts.specs.declared.splitter_view.Visit.{Visit}
 use Rattle.raw_parts.specs.declared.splitter_view.SplitterView.{SplitterView}
-use Rattle.raw_parts.specs.SplitterView.{name_of}
+use Rattle.raw_parts.specs.SplitterView.{own_word}
 
--- what stands in X and in Y agrees with how far the visit of each name has come
+-- what stands in X and in Y agrees with how far the visit of each seat has come
 pub record IsLawful (seats x y : ℕ) (stage : ℕ → Stage) : Type 0 where
   pub door : DoorIsLawful x y stage
-  -- only the seats' names enter, so 0 does not
-  pub seated : (name : ℕ) → has_entered (stage name) ≡ true → (0 < name) × (name ≤ seats)
+  -- only what seats write into X enters, so 0 does not
+  pub seated : (word : ℕ) → has_entered (stage word) ≡ true → (0 < word) × (word ≤ seats)
   -- where X is not 0, it names one who has begun
   pub begun : x ≢ 0 → has_entered (stage x) ≡ true
 
@@ -27,7 +27,7 @@ pub record IsShown (seats : ℕ) (seat_of : ℕ → ℕ) (stage : ℕ → Stage)
   pub seats_are : view.seats ≡ seats
   pub in_range : v.number < seats
   pub own : seat_of v.number ≡ seat
-  pub stage_is : stage (name_of v.number) ≡ v.stage
+  pub stage_is : stage (own_word v.number) ≡ v.stage
 
 -- a fact of each visit
 abbrev pub Each : (Visit → Type 0) → List Visit → Type 0

@@ -8,12 +8,12 @@ use Rattle.splitter.specs.declared.way.Way.TheVariants.{Right}
 use Rattle.splitter.specs.declared.stage.Stage.TheVariants.{Gone}
 use Rattle.splitter.specs.Stage.{has_set, stage_after}
 use Rattle.raw_parts.specs.declared.splitter_view.SplitterView.{SplitterView}
-use Rattle.raw_parts.specs.SplitterView.{name_of, visit_at, view_of, lone_view}
+use Rattle.raw_parts.specs.SplitterView.{own_word, visit_at, view_of, lone_view}
 use Rattle.raw_parts.specs.SplitterRule.{IsKept}
 
 -- the view after an access to a word in which `found` stood: one access reads X or Y, so the number stands for both
 abbrev pub moved_on : ℕ → SplitterView → SplitterView
-moved_on found v = view_of v.seats (map (λ t. visit_at t.number (stage_after (name_of t.number) t.stage found found)) v.visits)
+moved_on found v = view_of v.seats (map (λ t. visit_at t.number (stage_after (own_word t.number) t.stage found found)) v.visits)
 
 -- the view is a seat's in a table that keeps the rule
 pub record IsUnderRule (v : SplitterView) : Type 0 where
@@ -41,4 +41,4 @@ pub record WentRightAfterAnother (seats number : ℕ) : Type 0 where
   pub other : ℕ
   pub in_range : other < seats
   pub another : other ≢ number
-  pub marked : has_set (ended.kept.stage (name_of other)) ≡ true
+  pub set_y : has_set (ended.kept.stage (own_word other)) ≡ true

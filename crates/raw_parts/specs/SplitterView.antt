@@ -5,9 +5,9 @@ use Rattle.splitter.specs.declared.stage.Stage.TheVariants.{Outside}
 use Rattle.raw_parts.specs.declared.splitter_view.Visit.{Visit}
 use Rattle.raw_parts.specs.declared.splitter_view.SplitterView.{SplitterView}
 
--- a seat's name, which it writes into X: its number plus one, for 0 in X says that no seat has begun
-abbrev pub name_of : ℕ → ℕ
-name_of number = number + 1
+-- the word that a seat writes into X: its number plus one, for 0 in X says that no seat has begun
+abbrev pub own_word : ℕ → ℕ
+own_word number = number + 1
 
 abbrev pub visit_at : ℕ → Stage → Visit
 visit_at number stage = record { number = number; stage = stage }

@@ -29,14 +29,14 @@ pub struct Board<A: Allocator> {
 }
 
 impl<A: Allocator> Model for Board<A> {
-    ghost use Rattle.std.specs.Prelude.{[], ◌≡◌, ◌<◌, ◌≤◌};
     ghost use Rattle.atomic_table.specs.Seated.{TableId};
+    ghost use Rattle.raw_parts.specs.Boards.{IsBoardTable};
 
     ghost Value = { TableId };
 
     ghost view = { λ b. b.table.shared.table_id };
 
-    ghost invariant = { λ b. (0 < b.table.shared.table_id.words) × (b.table.shared.table_id.words ≤ 127) × (b.table.shared.key ≡ b.table.shared.table_id.words) × (b.table.shared.table_id.slots ≡ 0) };
+    ghost invariant = { λ b. IsBoardTable b.table.shared.table_id b.table.shared.key };
 }
 
 impl<A: Allocator + Clone> Board<A> {

@@ -1,9 +1,7 @@
 //! The rule of a name board's table, and the kinds of step that keep it.
 
-ghost use Rattle.std.specs.Prelude.{◌≡◌, ℕ, List, ◌++◌, take, drop};
-ghost use Rattle.raw_parts.specs.declared.board_view.BoardView.{BoardView};
-ghost use Rattle.raw_parts.specs.declared.board_view.Claim.{Claim};
-ghost use Rattle.raw_parts.specs.BoardRule.{KeepsBoard, KeepsBoardRule, IsGranted, IsSo};
+ghost use Rattle.std.specs.Prelude.{◌++◌, take, drop};
+ghost use Rattle.raw_parts.specs.BoardRule.{KeepsBoardRule, HoldsWhatIsClaimed, HasOneIdentity};
 ghost use Rattle.raw_parts.specs.BoardSteps.{Posts, Finds, LooksOn};
 ghost use Rattle.raw_parts.specs.BoardView.{claims_of, no_claim};
 
@@ -70,6 +68,6 @@ impl Split<BoardView> for Part {
 /// A law, which runs nothing: where the rule is kept, the word of each claim holds its identity, which is not 0; so two
 /// claims of one word, whoever has them, are of one identity.
 pub fn law_of_the_board()
-    ensures claimed { (count : ℕ) (words : List ℕ) (views : List BoardView) (c : Claim) → KeepsBoard count words views → IsGranted views c → IsSo words c }
-    ensures one { (count : ℕ) (words : List ℕ) (views : List BoardView) (c d : Claim) → KeepsBoard count words views → IsGranted views c → IsGranted views d → c.word ≡ d.word → c.identity ≡ d.identity }
+    ensures claimed { HoldsWhatIsClaimed }
+    ensures one { HasOneIdentity }
 {}

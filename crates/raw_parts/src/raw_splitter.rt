@@ -22,7 +22,7 @@ use step_memory::Refusal;
 /// The most seats of a splitter.
 const MOST_SEATS: u64 = 64;
 
-/// The word that holds the name of a seat that entered, at first 0.
+/// The word that holds the number of a seat that entered, plus one; at first 0.
 const X: usize = 0;
 
 /// The word that is set once a seat found it clear, at first 0.
@@ -33,13 +33,13 @@ const SET: u64 = 1;
 
 /// A splitter on two atomic words, for the seats that came with it.
 ///
-/// A visit (Moir and Anderson 1995), each line one atomic access. A seat's name is its number plus one, since 0 in X says
-/// that no seat has begun.
+/// A visit (Moir and Anderson 1995), each line one atomic access. A seat writes its number plus one into X, since 0 there
+/// says that no seat has begun.
 ///
-/// 1. Write the seat's name into X.
+/// 1. Write the number plus one into X.
 /// 2. Read Y. Where it is set the visit goes right.
 /// 3. Set Y.
-/// 4. Read X. Where the seat's name stands there the visit stops, else it goes down.
+/// 4. Read X. Where what was written stands there the visit stops, else it goes down.
 #[derive(Drop)]
 pub struct RawSplitter<A: Allocator> {
     // It has no slots, so what a slot holds says nothing.
@@ -150,13 +150,13 @@ impl<A: Allocator> RawSplitter<A> {
         ensures ended { seat.new.me ≡ (lone_view self.now.seats number (Gone result), []) }
         ensures lawful { EndsUnderRule self.now.seats number result }
     {
-        let name = number + 1;
-        self.table.shared.store::<WriteX>(seat, X, name);
+        let own = number + 1;
+        self.table.shared.store::<WriteX>(seat, X, own);
         if self.table.shared.load::<ReadY>(seat, Y) != 0 {
             return Way::Right;
         }
         self.table.shared.store::<WriteY>(seat, Y, SET);
-        if self.table.shared.load::<ReadX>(seat, X) == name {
+        if self.table.shared.load::<ReadX>(seat, X) == own {
             Way::Stop
         } else {
             Way::Down

@@ -19,7 +19,7 @@ impl<S> TableRule<S, SplitterView, u64> for Splitting {
     ghost first = { undealt_from 0 };
 }
 
-/// The first access of a visit: a seat writes its name into X.
+/// The first access of a visit: a seat writes its number plus one into X.
 pub struct WriteX;
 
 impl<S> Play<S, SplitterView> for WriteX {

@@ -75,8 +75,10 @@ fn one_to_sixty_four_seats(rt: HostRuntime) -> Result<(), Fail> {
         };
         assert_eq!(rt; refusal, Refusal::OutOfRange);
     }
-    let (_splitter, seats) = RawSplitter::new(rt.alloc(), 64)?;
-    assert_eq!(rt; seats.len(), 64);
+    for count in 1..65u64 {
+        let (_splitter, seats) = RawSplitter::new(rt.alloc(), count)?;
+        assert_eq!(rt; seats.len(), count as usize);
+    }
     Ok(())
 }
 

@@ -36,7 +36,7 @@ law_of x y stage d = record {
     | inl w ↦ (p, e, λ gone. let not_right : went_right (stage p) ≡ false = d.none_right w.1 p in let right : went_right (stage p) ≡ true = rw gone refl in cc)
     | inr w ↦ let m = d.setter w.1 in let r = set_not_right (stage m.0) m.1 in (m.0, r.0, λ gone. let right : went_right (stage m.0) ≡ true = rw gone refl in let not_right = r.1 in cc)
   ];
-  not_all_down = λ p e. (x, d.named p e, λ gone. let down : went_down (stage x) ≡ true = rw gone refl in let stays = d.stays in cc);
+  not_all_down = λ p e. (x, d.in_x p e, λ gone. let down : went_down (stage x) ≡ true = rw gone refl in let stays = d.stays in cc);
 }
 
 -- an empty splitter is lawful
@@ -45,7 +45,7 @@ lawful_new x = record {
   unset = λ _ p. refl;
   none_right = λ _ p. refl;
   setter = λ h. absurd (h refl);
-  named = λ p h. absurd (cc);
+  in_x = λ p h. absurd (cc);
   stays = refl;
   alone = λ p h q b. absurd (cc);
   one = λ p q h k. absurd (cc);
@@ -58,7 +58,7 @@ module _ (x y : ℕ) (stage : ℕ → Stage) (p : ℕ) (d : DoorIsLawful x y sta
     unset = λ h q. fails_still stage p WroteX has_set refl q (d.unset h q);
     none_right = λ h q. fails_still stage p WroteX went_right refl q (d.none_right h q);
     setter = λ h. let m = d.setter h in (m.0, passes_still stage p WroteX has_set (rw s) m.0 m.1);
-    named = λ q h. rw (set_at-same stage p WroteX);
+    in_x = λ q h. rw (set_at-same stage p WroteX);
     stays = rw (set_at-same stage p WroteX);
     alone = λ q h r b e. (passed_before stage p WroteX is_between refl r b).0 (sym e);
     one = λ q r h k. d.one q r (passed_before stage p WroteX has_stopped refl q h).1 (passed_before stage p WroteX has_stopped refl r k).1;
@@ -70,7 +70,7 @@ module _ (x y : ℕ) (stage : ℕ → Stage) (p : ℕ) (d : DoorIsLawful x y sta
     unset = λ h q. fails_still stage p SawClear has_set refl q (d.unset h q);
     none_right = λ h q. fails_still stage p SawClear went_right refl q (d.none_right h q);
     setter = λ h. absurd (h z);
-    named = λ q h. passes_too stage p SawClear has_entered refl x (d.named p (rw s));
+    in_x = λ q h. passes_too stage p SawClear has_entered refl x (d.in_x p (rw s));
     stays = fails_still stage p SawClear went_down refl x d.stays;
     alone = λ q h. absurd (
         let b = (passed_before stage p SawClear has_stopped refl q h).1 in
@@ -85,7 +85,7 @@ module _ (x y : ℕ) (stage : ℕ → Stage) (p : ℕ) (d : DoorIsLawful x y sta
     unset = λ h. absurd (n h);
     none_right = λ h. absurd (n h);
     setter = λ h. let m = d.setter h in (m.0, passes_still stage p (Gone Right) has_set (rw s) m.0 m.1);
-    named = λ q h. passes_too stage p (Gone Right) has_entered refl x (d.named p (rw s));
+    in_x = λ q h. passes_too stage p (Gone Right) has_entered refl x (d.in_x p (rw s));
     stays = fails_still stage p (Gone Right) went_down refl x d.stays;
     alone = λ q h r b. d.alone q (passed_before stage p (Gone Right) has_stopped refl q h).1 r (passed_before stage p (Gone Right) is_between refl r b).1;
     one = λ q r h k. d.one q r (passed_before stage p (Gone Right) has_stopped refl q h).1 (passed_before stage p (Gone Right) has_stopped refl r k).1;
@@ -97,7 +97,7 @@ module _ (x y : ℕ) (stage : ℕ → Stage) (p : ℕ) (d : DoorIsLawful x y sta
     unset = λ h. absurd (omega arith);
     none_right = λ h. absurd (omega arith);
     setter = λ h. (p, rw (set_at-same stage p WroteY));
-    named = λ q h. passes_too stage p WroteY has_entered refl x (d.named p (rw s));
+    in_x = λ q h. passes_too stage p WroteY has_entered refl x (d.in_x p (rw s));
     stays = fails_still stage p WroteY went_down refl x d.stays;
     alone = λ q h r.
         let before = (passed_before stage p WroteY has_stopped refl q h).1 in
@@ -116,7 +116,7 @@ module _ (x y : ℕ) (stage : ℕ → Stage) (p : ℕ) (d : DoorIsLawful x y sta
     unset = λ h. absurd (is_set s h);
     none_right = λ h. absurd (is_set s h);
     setter = λ h. let m = d.setter h in (m.0, passes_too stage p (Gone Stop) has_set refl m.0 m.1);
-    named = λ q h. passes_too stage p (Gone Stop) has_entered refl x (d.named p (rw s));
+    in_x = λ q h. passes_too stage p (Gone Stop) has_entered refl x (d.in_x p (rw s));
     stays = fails_still stage p (Gone Stop) went_down refl x d.stays;
     alone = λ q h r b e. (passed_before stage p (Gone Stop) is_between refl r b).0 (sym e ∙ own);
     one = λ q r h k.
@@ -131,7 +131,7 @@ module _ (x y : ℕ) (stage : ℕ → Stage) (p : ℕ) (d : DoorIsLawful x y sta
     unset = λ h. absurd (is_set s h);
     none_right = λ h. absurd (is_set s h);
     setter = λ h. let m = d.setter h in (m.0, passes_too stage p (Gone Down) has_set refl m.0 m.1);
-    named = λ q h. passes_too stage p (Gone Down) has_entered refl x (d.named p (rw s));
+    in_x = λ q h. passes_too stage p (Gone Down) has_entered refl x (d.in_x p (rw s));
     stays = rw (set_at-other stage p (Gone Down) x other) d.stays;
     alone = λ q h r b. d.alone q (passed_before stage p (Gone Down) has_stopped refl q h).1 r (passed_before stage p (Gone Down) is_between refl r b).1;
     one = λ q r h k. d.one q r (passed_before stage p (Gone Down) has_stopped refl q h).1 (passed_before stage p (Gone Down) has_stopped refl r k).1;

@@ -3,3 +3,4 @@ pub mod DoorKept
 pub mod VisitorAccess
 pub mod SplitterTied
 pub mod StageLemmas
+pub mod WalkLemmas

@@ -2,7 +2,7 @@
 use Rattle.std.proofs.Common.{◌≡◌, ◌≢◌, ℕ, ◌+◌, ◌<◌, ◌≤◌, true, false, cond, ◌==◌, inl, inr, List, [], ◌∷◌, ◌++◌, length, Option, Some, None, Ok, Err, refl, sym, ap, subst, ◌∙◌, arith}
 use Rattle.std.specs.Prelude.{is_some, option_map, IsSome}
 use Rattle.std.proofs.Math.Path.{fun_ext}
-use Rattle.std.proofs.lemmas.Bool.Decides.{eqb_tells, Decides-eqb}
+use Rattle.std.proofs.lemmas.Bool.Decides.{eqb_tells}
 use Rattle.step_memory.specs.declared.participant.Participant.{Participant}
 use Rattle.step_memory.specs.Note.{ends}
 use Rattle.step_memory.specs.Participant.{participant_of, program_of, with_participant, beginner}
@@ -10,9 +10,11 @@ use Rattle.step_memory.specs.Registers.{answer_of, after_access, memory_steps}
 use Rattle.step_memory.specs.SetAt.{set_at}
 use Rattle.step_memory.specs.Calls.{Call, steps_of, steps_by, outcome_of, outcome_by, outcome_in}
 use Rattle.step_memory.specs.Calls.Call.{Began, Stepped}
-use Rattle.step_memory.proofs.SetAtLemmas.{set_at-same, set_at-other, set_at-cases}
+use Rattle.step_memory.proofs.SetAtLemmas.{set_at-cases}
 use Rattle.step_memory.proofs.ParticipantLemmas.{participant_of-push, participant_of-put}
-use Rattle.step_memory.proofs.WorldKeeps.{steps_of-push, outcome_of-push, first_of-none, IsLetIn, IsKept, world_keeps, moved, stepped, after_began, after_stepped, after_splits}
+use Rattle.step_memory.proofs.WorldKeeps.{IsLetIn, IsKept, world_keeps, moved, stepped, after_began, after_stepped, after_splits}
+use Rattle.step_memory.specs.Told.{Tells}
+use Rattle.step_memory.proofs.ToldLemmas.{told_quiet, told_stepped}
 use Rattle.step_memory.specs.Due.{EndsOnce}
 use Rattle.step_memory.proofs.DueLemmas.{world_counted, ends_once, outcomes_tell, never_grows}
 use Rattle.splitter.specs.declared.way.Way.{Way}
@@ -66,8 +68,10 @@ pub record IsTied (w : SplitterState) (r : List (Call (Option Way))) : Type 0 wh
   registers : length w.memory.values ≡ 2
   visits : (p : ℕ) (v : Participant (Visitor ℕ)) → participant_of p w.participants ≡ Some v → IsVisitOf p v
   door : DoorIsLawful (word_of w.memory 0) (word_of w.memory 1) (stages w.participants)
-  ways : (p : ℕ) → outcome_of p r ≡ way_at (stages w.participants p)
-  steps : (p : ℕ) → steps_of p r ≡ accesses (stages w.participants p)
+  told : Tells way_at accesses accesses (stages w.participants) r
+
+steps_are : (w : SplitterState) (r : List (Call (Option Way))) → IsTied w r → (p : ℕ) → steps_of p r ≡ accesses (stages w.participants p)
+steps_are w r t p = omega (arith, t.told.at_least p, t.told.at_most p)
 
 -- a call that is refused
 refused : (w : SplitterState) (r : List (Call (Option Way))) (h : Call (Option Way)) → ((p : ℕ) → steps_by p h ≡ 0) → ((p : ℕ) → outcome_by p h ≡ None) → IsTied w r → IsTied w (r ++ h ∷ [])
@@ -75,8 +79,7 @@ refused w r h none quiet t = record {
   registers = t.registers;
   visits = t.visits;
   door = t.door;
-  ways = λ p. outcome_of-push p r h ∙ rw (quiet p) (first_of-none (outcome_of p r)) ∙ t.ways p;
-  steps = λ p. omega (arith, steps_of-push p r h, none p, t.steps p);
+  told = told_quiet way_at accesses accesses (stages w.participants) r t.told h none quiet;
 }
 
 -- one who begins stands outside, as before
@@ -95,9 +98,7 @@ begun_kept w r id in_ t =
           (λ _ k. t.visits p v k)
           (sym (push p) ∙ h);
       door = rw same t.door;
-      ways = λ p. outcome_of-push p r (Began id (Ok tt)) ∙ first_of-none (outcome_of p r) ∙ t.ways p ∙ ap (λ (f : ℕ → Stage). way_at (f p)) (sym same);
-      steps = λ p. let kept_stage : accesses (stages (w.participants ++ beginner id (visit_of id) ∷ []) p) ≡ accesses (stages w.participants p) = ap (λ (f : ℕ → Stage). accesses (f p)) same in
-          omega (arith, steps_of-push p r (Began id (Ok tt)), t.steps p, kept_stage);
+      told = rw same (told_quiet way_at accesses accesses (stages w.participants) r t.told (Began id (Ok tt)) (λ p. refl) (λ p. refl));
     }
 
 -- an access of a visit that has not ended is one more, and tells the way where it ends
@@ -154,21 +155,9 @@ going_kept w r id v here goes t =
     ap (word_of m') (sym visit.x) ∙ access.x ∙ ap (λ i. x_after i v.program.stage (word_of w.memory v.program.x)) visit.identity ∙ ap (λ x. x_after id v.program.stage (word_of w.memory x)) visit.x in
     let at_y : word_of m' 1 ≡ y_after v.program.stage (word_of w.memory 1) =
     ap (word_of m') (sym visit.y) ∙ access.y ∙ ap (λ x. y_after v.program.stage (word_of w.memory x)) visit.y in
-    let call : Call (Option Way) = Stepped id (Ok (outcome_in (note_after v.program (answer_of w.memory (access_of v.program))))) in
-    let itself : (id == id) ≡ true = (Decides-eqb id id).1 refl in
-    let now : stages (with_participant new w.participants) id ≡ after = ap (λ (f : ℕ → Stage). f id) all ∙ set_at-same (stages w.participants) id after in
-    let others : (p : ℕ) → (id ≢ p) → stages (with_participant new w.participants) p ≡ stages w.participants p = (λ p n. ap (λ (f : ℕ → Stage). f p) all ∙ set_at-other (stages w.participants) id after p (λ h. n (sym h))) in
-    let own_way : outcome_of id (r ++ call ∷ []) ≡ way_at (stages (with_participant new w.participants) id) =
-    (let before : outcome_of id r ≡ None = t.ways id ∙ ap way_at stage_is ∙ no_way_yet v.program.stage on in
-    outcome_of-push id r call ∙ rw (before, itself) (way_told (stage_by v.program (answer_of w.memory (access_of v.program)))) ∙ ap way_at (reached ∙ sym now)) in
-    let own_steps : steps_of id (r ++ call ∷ []) ≡ accesses (stages (with_participant new w.participants) id) =
-    (let one : steps_by id call ≡ 1 = rw itself refl in
-    let before : accesses (stages w.participants id) ≡ accesses v.program.stage = ap accesses stage_is in
-    let more = one_more id v.program.stage (word_of w.memory 0) (word_of w.memory 1) on in
-    let reached_steps : accesses (stages (with_participant new w.participants) id) ≡ accesses after = ap accesses now in
-    let pushed = steps_of-push id r call in
-    let so_far = t.steps id in
-    omega arith) in
+    let way : outcome_in (note_after v.program (answer_of w.memory (access_of v.program))) ≡ way_at after = way_told (stage_by v.program (answer_of w.memory (access_of v.program))) ∙ ap way_at reached in
+    let none : way_at (stages w.participants id) ≡ None = ap way_at stage_is ∙ no_way_yet v.program.stage on in
+    let more : accesses after ≡ accesses (stages w.participants id) + 1 = one_more id v.program.stage (word_of w.memory 0) (word_of w.memory 1) on ∙ ap (λ (s : Stage). accesses s + 1) (sym stage_is) in
     record {
       registers = access.registers ∙ t.registers;
       visits = λ p u h. set_at-cases (λ z. participant_of z w.participants) id (Some new) (λ o. o ≡ Some u → IsVisitOf p u) p
@@ -176,17 +165,7 @@ going_kept w r id v here goes t =
           (λ _ k. t.visits p u k)
           (sym (put p) ∙ h);
       door = rw (all, at_x, at_y) (kept (word_of w.memory 0) (word_of w.memory 1) (stages w.participants) id t.door v.program.stage stage_is);
-      ways = λ p. elim (eqb_tells id p) [
-        | inl e ↦ subst (λ (x : ℕ). outcome_of x (r ++ call ∷ []) ≡ way_at (stages (with_participant new w.participants) x)) e.1 own_way
-        | inr e ↦ outcome_of-push p r call ∙ rw e.0 (first_of-none (outcome_of p r)) ∙ t.ways p ∙ ap way_at (sym (others p e.1))
-      ];
-      steps = λ p. elim (eqb_tells id p) [
-        | inl e ↦ subst (λ (x : ℕ). steps_of x (r ++ call ∷ []) ≡ accesses (stages (with_participant new w.participants) x)) e.1 own_steps
-        | inr e ↦
-            let none : steps_by p call ≡ 0 = rw e.0 refl in
-            let same : accesses (stages (with_participant new w.participants) p) ≡ accesses (stages w.participants p) = ap accesses (others p e.1) in
-            omega (arith, steps_of-push p r call, t.steps p, none, same)
-      ];
+      told = rw all (told_stepped way_at accesses accesses (stages w.participants) r t.told id after (outcome_in (note_after v.program (answer_of w.memory (access_of v.program)))) none way (omega (arith, more)) (omega (arith, more)));
     }
 
 -- each call keeps the tie
@@ -205,8 +184,7 @@ tied_new most = record {
   registers = refl;
   visits = λ p v h. absurd (cc);
   door = lawful_new 0;
-  ways = λ p. refl;
-  steps = λ p. refl;
+  told = record { outcomes = λ p. refl; at_least = λ p. omega arith; at_most = λ p. omega arith };
 }
 
 -- what the accesses of a visit tell
@@ -256,10 +234,10 @@ gone_by (Gone taken) way h = cc
 
 -- what each took, from the calls to the visits
 took : (w : SplitterState) (r : List (Call (Option Way))) → IsTied w r → (p : ℕ) (way : Way) → outcome_of p r ≡ Some way → stages w.participants p ≡ Gone way
-took w r t p way h = gone_by (stages w.participants p) way (sym (t.ways p) ∙ h)
+took w r t p way h = gone_by (stages w.participants p) way (sym (t.told.outcomes p) ∙ h)
 
 entered : (w : SplitterState) (r : List (Call (Option Way))) → IsTied w r → (p : ℕ) → 0 < steps_of p r → has_entered (stages w.participants p) ≡ true
-entered w r t p h = entered_by (stages w.participants p) (omega (arith, h, t.steps p))
+entered w r t p h = entered_by (stages w.participants p) (omega (arith, h, steps_are w r t p))
 
 split_by : (w : SplitterState) (r : List (Call (Option Way))) → IsTied w r → IsSplit (HasEntered r) (WentBy r)
 split_by w r t =
@@ -268,10 +246,10 @@ split_by w r t =
       one_stops = λ p q h k. law.one_stops p q (took w r t p Stop h) (took w r t q Stop k);
       not_all_right = λ p h.
           let other = law.not_all_right p (entered w r t p h) in
-          (other.0, omega (arith, some_access (stages w.participants other.0) other.1, t.steps other.0), λ right. other.2 (took w r t other.0 Right right));
+          (other.0, omega (arith, some_access (stages w.participants other.0) other.1, steps_are w r t other.0), λ right. other.2 (took w r t other.0 Right right));
       not_all_down = λ p h.
           let other = law.not_all_down p (entered w r t p h) in
-          (other.0, omega (arith, some_access (stages w.participants other.0) other.1, t.steps other.0), λ down. other.2 (took w r t other.0 Down down));
+          (other.0, omega (arith, some_access (stages w.participants other.0) other.1, steps_are w r t other.0), λ down. other.2 (took w r t other.0 Down down));
     }
 
 -- who entered alone and whose visit has ended has stopped
@@ -296,14 +274,14 @@ tied_law w r t once =
     let split = split_by w r t in
     record {
       split = split;
-      at_most_four = λ p. omega (arith, few_accesses (stages w.participants p), t.steps p);
-      fourth_ends = λ p h. rw (t.ways p) (fourth_ends (stages w.participants p) (sym (t.steps p) ∙ h));
-      right_at_two = λ p h. t.steps p ∙ ap accesses (took w r t p Right h);
-      else_at_four = λ p way n h. t.steps p ∙ ap accesses (took w r t p way h) ∙ other_accesses way n;
+      at_most_four = λ p. omega (arith, few_accesses (stages w.participants p), steps_are w r t p);
+      fourth_ends = λ p h. rw (t.told.outcomes p) (fourth_ends (stages w.participants p) (sym (steps_are w r t p) ∙ h));
+      right_at_two = λ p h. steps_are w r t p ∙ ap accesses (took w r t p Right h);
+      else_at_four = λ p way n h. steps_are w r t p ∙ ap accesses (took w r t p way h) ∙ other_accesses way n;
       alone_stops = λ p only way h.
           let gone = took w r t p way h in
           let entered : has_entered (stages w.participants p) ≡ true = rw gone refl in
-          alone r split p (omega (arith, some_access (stages w.participants p) entered, t.steps p)) only way h;
+          alone r split p (omega (arith, some_access (stages w.participants p) entered, steps_are w r t p)) only way h;
       ends_once = once;
     }
 

@@ -13,7 +13,7 @@ pub record DoorIsLawful (x y : ℕ) (stage : ℕ → Stage) : Type 0 where
   -- where it is set, someone set it
   pub setter : y ≢ 0 → (p : ℕ) × (has_set (stage p) ≡ true)
   -- once anyone has entered, X names one who has entered and has not gone down
-  pub named : (p : ℕ) → has_entered (stage p) ≡ true → has_entered (stage x) ≡ true
+  pub in_x : (p : ℕ) → has_entered (stage p) ≡ true → has_entered (stage x) ≡ true
   pub stays : went_down (stage x) ≡ false
   -- where one stopped, no one who is between stands in X
   pub alone : (p : ℕ) → has_stopped (stage p) ≡ true → (q : ℕ) → is_between (stage q) ≡ true → x ≢ q

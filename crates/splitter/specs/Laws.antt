@@ -2,13 +2,16 @@
 use Rattle.splitter.specs.Visitor.{visitor_steps}
 use Rattle.step_memory.specs.Registers.{memory_steps}
 use Rattle.step_memory.specs.Locality.{LookAlike, StandAlike}
-use Rattle.std.specs.Prelude.{ℕ, List, [], ◌∷◌, ◌++◌, Option}
+use Rattle.std.specs.Prelude.{◌≡◌, ◌+◌, ◌≤◌, ◌⊎◌, false, ℕ, List, [], ◌∷◌, ◌++◌, Option, Some, None, IsSome}
 use Rattle.splitter.specs.declared.stage.Stage.{Stage}
+use Rattle.splitter.specs.declared.stage.Stage.TheVariants.{Gone}
 use Rattle.splitter.specs.declared.way.Way.{Way}
+use Rattle.splitter.specs.declared.way.Way.TheVariants.{Right, Down}
+use Rattle.splitter.specs.Walk.{gone_on, note_at_door, place_at_door, accesses_at}
 use Rattle.splitter.specs.Door.{DoorIsLawful}
 use Rattle.splitter.specs.SplitterWorld.{After, SplitterState, visit_of, step_reply, world_after_step}
-use Rattle.splitter.specs.Stage.{x_after, y_after, stage_after}
-use Rattle.step_memory.specs.Calls.{Call}
+use Rattle.splitter.specs.Stage.{went_right, went_down, x_after, y_after, stage_after}
+use Rattle.step_memory.specs.Calls.{Call, outcome_in}
 use Rattle.step_memory.specs.Calls.Call.{Began, Stepped}
 use Rattle.step_memory.specs.SetAt.{set_at}
 use Rattle.step_memory.specs.World.{after_begin, begin_refusal, done_unless}
@@ -18,6 +21,35 @@ abbrev pub KeepsDoorLaw : Type 0
 KeepsDoorLaw =
     (x y : ℕ) (stage : ℕ → Stage) (p : ℕ) → DoorIsLawful x y stage →
     DoorIsLawful (x_after p (stage p) x) (y_after (stage p) y) (set_at stage p (stage_after p (stage p) x y))
+
+-- a walk stands at its door still, or before the next one on the right or down
+abbrev pub GoesOn : (W : Type 0) → Type 0
+GoesOn W =
+    (here : Stage → W) (right down : W) (s : Stage) →
+    ((went_right s ≡ false) × (went_down s ≡ false) × (gone_on here right down s ≡ here s))
+    ⊎ (((s ≡ Gone Right) × (gone_on here right down s ≡ right)) ⊎ ((s ≡ Gone Down) × (gone_on here right down s ≡ down)))
+
+-- what a walk says at door k tells the place at which it then stands, if any
+abbrev pub TellsPlace : (W : Type 0) → Type 0
+TellsPlace W =
+    (here : Stage → W) (right down : W) (place_of : W → Option ℕ) (k : ℕ) (s : Stage) → place_of (here s) ≡ place_at_door k s →
+    place_of right ≡ None → place_of down ≡ None → outcome_in (note_at_door k s) ≡ place_of (gone_on here right down s)
+
+-- two whose visits to lawful doors have one place are one
+abbrev pub HasOneAtPlace : Type 0
+HasOneAtPlace =
+    (x_of y_of : ℕ → ℕ) (stage : ℕ → ℕ → Stage) → ((k : ℕ) → DoorIsLawful (x_of k) (y_of k) (stage k)) →
+    (p q i j place : ℕ) → place_at_door i (stage i p) ≡ Some place → place_at_door j (stage j q) ≡ Some place → p ≡ q
+
+-- who has made four accesses at a door, and has not left it, has its place
+abbrev pub FourthPlaces : Type 0
+FourthPlaces = (k : ℕ) (s : Stage) → 4 ≤ accesses_at s → went_right s ≡ false → went_down s ≡ false → IsSome (place_at_door k s)
+
+-- each access of a visit that has not ended is one more
+abbrev pub CountsOneMore : Type 0
+CountsOneMore =
+    (p : ℕ) (s : Stage) (x y k : ℕ) → place_at_door k s ≡ None → went_right s ≡ false → went_down s ≡ false →
+    (accesses_at s + 1 ≤ accesses_at (stage_after p s x y)) × (accesses_at s ≤ 3)
 
 -- a beginning leads on
 abbrev pub BeginLeadsOn : Type 0

@@ -1,7 +1,7 @@
 //! Laws of the splitter, which run nothing: of one splitter, whoever uses it, and of the calls of its world.
 
-ghost use Rattle.std.specs.Prelude.{◌≡◌, ◌≢◌, ℕ, ◌<◌, true, length, List, [], ◌++◌, Option};
-ghost use Rattle.splitter.specs.Laws.{KeepsDoorLaw, BeginLeadsOn, StepLeadsOn};
+ghost use Rattle.std.specs.Prelude.{◌≡◌, ◌≢◌, ◌↔◌, ℕ, ◌<◌, ◌≤◌, true, length, List, [], ◌++◌, Option, Some};
+ghost use Rattle.splitter.specs.Laws.{KeepsDoorLaw, BeginLeadsOn, StepLeadsOn, GoesOn, TellsPlace, HasOneAtPlace, FourthPlaces, CountsOneMore};
 ghost use Rattle.splitter.specs.declared.stage.Stage.{Stage};
 ghost use Rattle.splitter.specs.declared.visitor.Visitor.{Visitor};
 ghost use Rattle.splitter.specs.declared.way.Way.{Way};
@@ -10,9 +10,12 @@ ghost use Rattle.splitter.specs.Law.{KeepsSplitterLaw};
 ghost use Rattle.splitter.specs.SplitterWorld.{After, RefusesWhereDue, SplitterState, fresh};
 ghost use Rattle.splitter.specs.Stage.{went_down, went_right};
 ghost use Rattle.splitter.specs.Visitor.{IsAccessOf, access_of};
-ghost use Rattle.step_memory.specs.Calls.{Call};
+ghost use Rattle.splitter.specs.Walk.{accesses_at, place_at_door};
+ghost use Rattle.step_memory.specs.Calls.{Call, outcome_in};
 ghost use Rattle.step_memory.specs.RegisterState.{Registers};
 ghost use Rattle.step_memory.specs.Steps.{ReadsOrWrites};
+ghost use Rattle.step_memory.specs.declared.note.Note.{Note};
+ghost use Rattle.step_memory.specs.declared.note.Note.TheVariants.{Ended};
 
 /// A law, which runs nothing: a splitter that no one has entered is lawful, each access of a visit keeps it so, and a
 /// lawful one keeps the law of the splitter. Structures of many splitters stand on this.
@@ -26,6 +29,20 @@ pub fn law_of_one_door()
 pub fn law_of_ways()
     ensures right { (s : Stage) → went_right s ≡ true → s ≡ Stage.Gone Way.Right }
     ensures down { (s : Stage) → went_down s ≡ true → s ≡ Stage.Gone Way.Down }
+{}
+
+/// A law, which runs nothing, of walks from door to door, each of which has a splitter: a walk stands at its door until its
+/// visit there ends right or down; what it says tells the place at which it then stands; places are distinct; and a visit
+/// makes at most four accesses, after which the walk has left the door or has its place.
+pub fn law_of_walks<W>()
+    ensures on { GoesOn W }
+    ensures told { TellsPlace W }
+    ensures ended { (note : Note ℕ) (x : ℕ) → (note ≡ Ended x) ↔ (outcome_in note ≡ Some x) }
+    ensures place { (k : ℕ) (s : Stage) (place : ℕ) → place_at_door k s ≡ Some place → (s ≡ Stage.Gone Way.Stop) × (place ≡ k) }
+    ensures one { HasOneAtPlace }
+    ensures few { (s : Stage) → accesses_at s ≤ 4 }
+    ensures last { FourthPlaces }
+    ensures more { CountsOneMore }
 {}
 
 /// A law, which runs nothing: an access of a visit reads or writes a register, or reaches none; and what it does where the

@@ -26,7 +26,9 @@ pub mod visitor;
 pub mod way;
 pub mod world;
 
-pub use laws::{law_of_one_access, law_of_one_door, law_of_splitter_calls, law_of_ways};
+pub use laws::{
+    law_of_one_access, law_of_one_door, law_of_splitter_calls, law_of_walks, law_of_ways,
+};
 pub use stage::Stage;
 pub use visitor::Visitor;
 pub use way::Way;

@@ -100,7 +100,9 @@ impl<A: Allocator + Clone> SplitterWorld<A> {
 #[cfg(test)]
 mod tests {
     use super::*;
-    use crate::{law_of_one_access, law_of_one_door, law_of_splitter_calls, law_of_ways};
+    use crate::{
+        law_of_one_access, law_of_one_door, law_of_splitter_calls, law_of_walks, law_of_ways,
+    };
     use linked_list_allocator::LocalHeap;
     use std::test::Fail;
 
@@ -137,6 +139,7 @@ mod tests {
         law_of_one_door();
         law_of_one_access();
         law_of_ways();
+        law_of_walks::<u64>();
         law_of_splitter_calls();
         Ok(())
     }

@@ -133,8 +133,8 @@ module _ (b : ℕ) (x_of y_of : ℕ → ℕ) (walker : ℕ → Option Walker) (g
       | inr e ↦ entered_still at x (subst (λ (i : ℕ). has_entered (g.stage at i) ≡ true) (sym e) (g.entered at (λ none. some (e ∙ none))))
     ]
 
-    named_after : (k : ℕ) → set_at x_of at (x_after p v.visitor.stage (x_of at)) k ≢ 0 → has_entered (stage' k (set_at x_of at (x_after p v.visitor.stage (x_of at)) k)) ≡ true
-    named_after k = set_at-cases x_of at (x_after p v.visitor.stage (x_of at)) (λ x. x ≢ 0 → has_entered (stage' k x) ≡ true) k
+    in_x_after : (k : ℕ) → set_at x_of at (x_after p v.visitor.stage (x_of at)) k ≢ 0 → has_entered (stage' k (set_at x_of at (x_after p v.visitor.stage (x_of at)) k)) ≡ true
+    in_x_after k = set_at-cases x_of at (x_after p v.visitor.stage (x_of at)) (λ x. x ≢ 0 → has_entered (stage' k x) ≡ true) k
         (λ e some. subst (λ (i : ℕ). has_entered (stage' i (x_after p v.visitor.stage (x_of at))) ≡ true) (sym e) (entered_own (x_after p v.visitor.stage (x_of at)) (x_own p v.visitor.stage (x_of at)) some))
         (λ _ some. entered_still k (x_of k) (g.entered k some))
 
@@ -195,7 +195,7 @@ module _ (b : ℕ) (x_of y_of : ℕ → ℕ) (walker : ℕ → Option Walker) (g
       walks = walks_after;
       absent = λ q. set_at-cases walker p (Some v') (λ o. o ≡ None → (k : ℕ) → stage' k q ≡ Outside) q (λ _ h. absurd (cc)) (λ n h k. visit_person g.stage at p after k q n ∙ g.absent q h k);
       doors = doors_after;
-      entered = named_after;
+      entered = in_x_after;
       left = left_after;
       here = here_after;
       comes = λ d c l h. elim (with_door-cases g.reached v'.door.depth v'.door.column (suc d) c h) [

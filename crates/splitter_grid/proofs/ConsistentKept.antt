@@ -6,12 +6,13 @@ use Rattle.std.proofs.lemmas.Bool.Decides.{eqb_tells}
 use Rattle.step_memory.specs.RegisterState.{Registers}
 use Rattle.step_memory.specs.Registers.{answer_of, after_access}
 use Rattle.step_memory.specs.SetAt.{set_at}
-use Rattle.splitter.specs.declared.way.Way.TheVariants.{Stop, Right, Down}
+use Rattle.splitter.specs.declared.way.Way.TheVariants.{Right, Down}
 use Rattle.splitter.specs.declared.stage.Stage.{Stage}
-use Rattle.splitter.specs.declared.stage.Stage.TheVariants.{Outside, WroteX, SawClear, WroteY, Gone}
+use Rattle.splitter.specs.declared.stage.Stage.TheVariants.{Gone}
 use Rattle.splitter.specs.Stage.{went_right, went_down, x_after, y_after, stage_after}
 use Rattle.splitter.specs.Visitor.{IsAccessOf, stage_by, word_of}
 use Rattle.splitter.proofs.VisitorAccess.{is_access_of}
+use Rattle.splitter.proofs.WalkLemmas.{goes_on}
 use Rattle.splitter_grid.specs.declared.walker.Walker.{Walker}
 use Rattle.splitter_grid.specs.Door.{number_of, door_at, right_of, down_of, deeper}
 use Rattle.splitter_grid.specs.Walk.{walker_at, walk_of, visit_on, walked_to, walker_after, next_access}
@@ -41,23 +42,26 @@ module _ (b : ℕ) (few : b ≤ 16) (x_of y_of : ℕ → ℕ) (walker : ℕ → 
   shallow : u.door.depth < 255
   shallow = let within = g.within u.door.depth u.door.column (g.walks p u is).arrived in omega arith
 
-  agrees_next : (s : Stage) → next_stage ≡ s → AgreesWith (walked_to u s)
-  agrees_next Outside k = stays Outside k refl refl
-  agrees_next WroteX k = stays WroteX k refl refl
-  agrees_next SawClear k = stays SawClear k refl refl
-  agrees_next WroteY k = stays WroteY k refl refl
-  agrees_next (Gone Stop) k = stays (Gone Stop) k refl refl
-  agrees_next (Gone Right) k =
+  goes_right : next_stage ≡ Gone Right → AgreesWith (walker_at u.visitor.identity (right_of u.door))
+  goes_right k =
       let walk = g.walks p u is in
       let next : walker_at p (door_at (suc u.door.depth) u.door.column) ≡ walker_at u.visitor.identity (right_of u.door) = rw (walk.identity, deeper_is u.door.depth shallow) refl in
       subst AgreesWith next (moved_on b x_of y_of walker g p u is u.door.column (inl (rw k refl, refl)))
-  agrees_next (Gone Down) k =
+
+  goes_down : next_stage ≡ Gone Down → AgreesWith (walker_at u.visitor.identity (down_of u.door))
+  goes_down k =
       let walk = g.walks p u is in
       let narrow : u.door.column < 255 = (let inside = walk.inside in let low = shallow in omega arith) in
       let next : walker_at p (door_at (suc u.door.depth) (suc u.door.column)) ≡ walker_at u.visitor.identity (down_of u.door) = rw (walk.identity, deeper_is u.door.depth shallow, deeper_is u.door.column narrow) refl in
       subst AgreesWith next (moved_on b x_of y_of walker g p u is (suc u.door.column) (inr (rw k refl, refl)))
 
--- what an access of a walk does to the names and the marks
+  agrees_next : (s : Stage) → next_stage ≡ s → AgreesWith (walked_to u s)
+  agrees_next s k = elim (goes_on (visit_on u) (walker_at u.visitor.identity (right_of u.door)) (walker_at u.visitor.identity (down_of u.door)) s) [
+    | inl e ↦ subst AgreesWith (sym e.2) (stays s k e.0 e.1)
+    | inr o ↦ elim o [ inl e ↦ subst AgreesWith (sym e.1) (goes_right (k ∙ e.0)) | inr e ↦ subst AgreesWith (sym e.1) (goes_down (k ∙ e.0)) ]
+  ]
+
+-- what an access of a walk does to X and Y of the doors
 module _ (m : Registers ℕ) (p : ℕ) (u : Walker) (identity : u.visitor.identity ≡ p) (x_is : u.visitor.x ≡ 2 * number_of u.door) (y_is : u.visitor.y ≡ 2 * number_of u.door + 1) (below : 2 * number_of u.door + 1 < length m.values) where
   abbrev pub left : Registers ℕ
   left = after_access m (next_access u)

@@ -7,7 +7,7 @@ use Rattle.splitter.specs.Door.{IsSplitter}
 use Rattle.splitter.proofs.DoorKept.{law_of}
 use Rattle.splitter_grid.specs.declared.walker.Walker.{Walker}
 use Rattle.splitter_grid.specs.Door.{door_number}
-use Rattle.splitter_grid.specs.Count.{count_to}
+use Rattle.step_memory.specs.Count.{count_to}
 use Rattle.splitter_grid.specs.Consistent.{StandsAt, DoorsAgree}
 use Rattle.splitter_grid.proofs.Diagonals.{depth_bound, taken_bound, is_taken}
 

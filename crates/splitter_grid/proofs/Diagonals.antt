@@ -2,7 +2,7 @@
 use Rattle.std.proofs.lemmas.Bool.{cases_Bool}
 use Rattle.std.proofs.Common.{◌≡◌, ◌≢◌, ℕ, zero, suc, ◌+◌, ◌<◌, ◌≤◌, Bool, true, false, not, ◌&&◌, ◌||◌, ◌==◌, ◌⊎◌, inl, inr, List, [], ◌∷◌, length, refl, sym, subst, arith}
 use Rattle.std.proofs.lemmas.Bool.Decides.{eqb_tells, Decides-eqb}
-use Rattle.splitter_grid.specs.Count.{count_to}
+use Rattle.step_memory.specs.Count.{count_to}
 
 -- how many doors of the first n diagonals pass a test of depth and column
 abbrev pub doors_to : (ℕ → ℕ → Bool) → ℕ → ℕ

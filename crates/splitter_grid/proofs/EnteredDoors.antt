@@ -29,9 +29,9 @@ use Rattle.splitter_grid.proofs.GridTied.{IsTied, tied_after, walkers, after_nex
 
 module _ (most b : ℕ) (m : Registers ℕ) (walker : ℕ → Option Walker) (c : IsConsistent most b m walker) where
   -- where anyone has entered, an identity stands in X
-  entered_named : (k p : ℕ) → has_entered (c.agree.stage k p) ≡ true → x_in m k ≢ 0
-  entered_named k p h none = absurd (
-      let first : has_entered (c.agree.stage k (x_in m k)) ≡ true = (c.agree.doors k).named p h in
+  entered_in_x : (k p : ℕ) → has_entered (c.agree.stage k p) ≡ true → x_in m k ≢ 0
+  entered_in_x k p h none = absurd (
+      let first : has_entered (c.agree.stage k (x_in m k)) ≡ true = (c.agree.doors k).in_x p h in
       let zero : has_entered (c.agree.stage k 0) ≡ true = subst (λ (i : ℕ). has_entered (c.agree.stage k i) ≡ true) none first in
       let outside : c.agree.stage k 0 ≡ Outside = c.agree.absent 0 c.agree.nobody k in
       let never : has_entered Outside ≡ true = rw outside at zero in cc)
@@ -40,24 +40,24 @@ module _ (most b : ℕ) (m : Registers ℕ) (walker : ℕ → Option Walker) (c 
   not_nobody p u is e = absurd (let k : Some u ≡ None = sym is ∙ ap walker e ∙ c.agree.nobody in cc)
 
   -- after an access of p an identity stands in X of its door
-  names_door : (p : ℕ) (u : Walker) → walker p ≡ Some u → (s : Stage) → u.visitor.stage ≡ s → x_after p s (x_in m (number_of u.door)) ≢ 0
-  names_door p u is Outside e = not_nobody p u is
-  names_door p u is WroteX e = entered_named (number_of u.door) p (ap has_entered ((c.agree.walks p u is).here ∙ e))
-  names_door p u is SawClear e = entered_named (number_of u.door) p (ap has_entered ((c.agree.walks p u is).here ∙ e))
-  names_door p u is WroteY e = entered_named (number_of u.door) p (ap has_entered ((c.agree.walks p u is).here ∙ e))
-  names_door p u is (Gone way) e = entered_named (number_of u.door) p (ap has_entered ((c.agree.walks p u is).here ∙ e))
+  writes_x : (p : ℕ) (u : Walker) → walker p ≡ Some u → (s : Stage) → u.visitor.stage ≡ s → x_after p s (x_in m (number_of u.door)) ≢ 0
+  writes_x p u is Outside e = not_nobody p u is
+  writes_x p u is WroteX e = entered_in_x (number_of u.door) p (ap has_entered ((c.agree.walks p u is).here ∙ e))
+  writes_x p u is SawClear e = entered_in_x (number_of u.door) p (ap has_entered ((c.agree.walks p u is).here ∙ e))
+  writes_x p u is WroteY e = entered_in_x (number_of u.door) p (ap has_entered ((c.agree.walks p u is).here ∙ e))
+  writes_x p u is (Gone way) e = entered_in_x (number_of u.door) p (ap has_entered ((c.agree.walks p u is).here ∙ e))
 
   xs_are : (p : ℕ) (u : Walker) → walker p ≡ Some u → x_in (after_access m (next_access u)) ≡ set_at (x_in m) (number_of u.door) (x_after p u.visitor.stage (x_in m (number_of u.door)))
   xs_are p u is = let walk = c.agree.walks p u is in xs m p u walk.identity walk.x walk.y (registers_in most b m walker c p u is)
 
   -- an access of p puts an identity into X of its door, and changes no other's
-  pub access_names : (p : ℕ) (u : Walker) → walker p ≡ Some u → (k : ℕ) → (x_in (after_access m (next_access u)) k ≢ 0) ↔ ((number_of u.door ≡ k) ⊎ (x_in m k ≢ 0))
-  access_names p u is k =
+  pub access_writes : (p : ℕ) (u : Walker) → walker p ≡ Some u → (k : ℕ) → (x_in (after_access m (next_access u)) k ≢ 0) ↔ ((number_of u.door ≡ k) ⊎ (x_in m k ≢ 0))
+  access_writes p u is k =
       let now : x_in (after_access m (next_access u)) k ≡ set_at (x_in m) (number_of u.door) (x_after p u.visitor.stage (x_in m (number_of u.door))) k = ap (λ (f : ℕ → ℕ). f k) (xs_are p u is) in
       elim (eqb_tells k (number_of u.door)) [
         | inl e ↦
             let there : x_in (after_access m (next_access u)) k ≡ x_after p u.visitor.stage (x_in m (number_of u.door)) = now ∙ rw e.0 refl in
-            (λ _. inl (sym e.1), λ _ none. names_door p u is u.visitor.stage refl (sym there ∙ none))
+            (λ _. inl (sym e.1), λ _ none. writes_x p u is u.visitor.stage refl (sym there ∙ none))
         | inr e ↦
             let there : x_in (after_access m (next_access u)) k ≡ x_in m k = now ∙ rw e.0 refl in
             (λ some. inr (λ none. some (there ∙ none)), λ o. elim o [ inl at ↦ absurd (e.1 (sym at)) | inr some ↦ λ none. some (sym there ∙ none) ])
@@ -86,7 +86,7 @@ module _ (w : GridState) (past : List (Call (Option ℕ))) (t : IsTied w past) w
   going_call : (id : ℕ) (v : Participant Walker) → participant_of id w.participants ≡ Some v → (outcome : Option ℕ) (k : ℕ) → NamedBy w (stepped walker_steps memory_steps outcome_in walk_of w v) (Stepped id (Ok outcome)) k
   going_call id v here outcome k =
       let is : walkers w.participants id ≡ Some v.program = rw here refl in
-      let change = access_names w.most (length w.participants) w.memory (walkers w.participants) t.consistent id v.program is k in (
+      let change = access_writes w.most (length w.participants) w.memory (walkers w.participants) t.consistent id v.program is k in (
         λ some. elim (change.0 some) [ inl at ↦ inl (v.program, is, at) | inr stood ↦ inr stood ],
         λ o. elim o [
           | inl e ↦ change.1 (inl (let own : v.program ≡ e.0 = (let both : Some v.program ≡ Some e.0 = sym is ∙ e.1 in cc) in ap (λ (u : Walker). number_of u.door) own ∙ e.2))
@@ -120,14 +120,14 @@ module _ (w : GridState) (past : List (Call (Option ℕ))) (t : IsTied w past) w
   one_call (Stepped id reply) (inr is) k = absurd (let yes_may : false ≡ true = sym (never_lacks id) ∙ is.1 in cc)
 
 -- over a run of calls
-names_over : (w : GridState) (past r : List (Call (Option ℕ))) (end : GridState) → After w past → Run next_of IsReplyOf w r end → (k : ℕ) → (x_in end.memory k ≢ 0) ↔ (EntersFrom w r k ⊎ (x_in w.memory k ≢ 0))
-names_over w past [] end a e k =
+written_over : (w : GridState) (past r : List (Call (Option ℕ))) (end : GridState) → After w past → Run next_of IsReplyOf w r end → (k : ℕ) → (x_in end.memory k ≢ 0) ↔ (EntersFrom w r k ⊎ (x_in w.memory k ≢ 0))
+written_over w past [] end a e k =
     let same : x_in end.memory k ≡ x_in w.memory k = ap (λ x. x_in x.memory k) e in
     (λ some. inr (λ zero. some (same ∙ zero)), λ o. elim o [ inl never ↦ absurd (never) | inr some ↦ λ zero. some (sym same ∙ zero) ])
-names_over w past (h ∷ r) end a e k =
+written_over w past (h ∷ r) end a e k =
     let first = one_call w past (tied_after w past a) h e.0 k in
-    let rest = names_over (next_of w h) (past ++ h ∷ []) r end (after_next w past h e.0 a) e.1 k in (
-      λ some. elim (rest.0 some) [ inl later ↦ inl (inr later) | inr named ↦ elim (first.0 named) [ inl now ↦ inl (inl now) | inr before ↦ inr before ] ],
+    let rest = written_over (next_of w h) (past ++ h ∷ []) r end (after_next w past h e.0 a) e.1 k in (
+      λ some. elim (rest.0 some) [ inl later ↦ inl (inr later) | inr written ↦ elim (first.0 written) [ inl now ↦ inl (inl now) | inr before ↦ inr before ] ],
       λ o. elim o [
         | inl over ↦ elim over [ inl now ↦ rest.1 (inr (first.1 (inl now))) | inr later ↦ rest.1 (inl later) ]
         | inr before ↦ rest.1 (inr (first.1 (inr before)))
@@ -135,8 +135,8 @@ names_over w past (h ∷ r) end a e k =
     )
 
 -- an identity stands in X of just the doors that were entered
-pub named_entered : (w : GridState) (r : List (Call (Option ℕ))) → After w r → (k : ℕ) → (x_in w.memory k ≢ 0) ↔ WasEntered w.most r k
-named_entered w r a k =
-    let over = names_over (fresh w.most) [] r w (a.0, refl) a.1 k in
-    let unnamed : x_in (empty_doors w.most) k ≡ 0 = get_or-replicate_same (w.most * (w.most + 1)) (2 * k) 0 in
-    (λ some. elim (over.0 some) [ inl yes_entered ↦ yes_entered | inr named ↦ absurd (named unnamed) ], λ yes_entered. over.1 (inl yes_entered))
+pub written_entered : (w : GridState) (r : List (Call (Option ℕ))) → After w r → (k : ℕ) → (x_in w.memory k ≢ 0) ↔ WasEntered w.most r k
+written_entered w r a k =
+    let over = written_over (fresh w.most) [] r w (a.0, refl) a.1 k in
+    let unwritten : x_in (empty_doors w.most) k ≡ 0 = get_or-replicate_same (w.most * (w.most + 1)) (2 * k) 0 in
+    (λ some. elim (over.0 some) [ inl yes_entered ↦ yes_entered | inr written ↦ absurd (written unwritten) ], λ yes_entered. over.1 (inl yes_entered))

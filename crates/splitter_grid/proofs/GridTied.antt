@@ -1,8 +1,7 @@
 -- what ties a grid's world to the calls that it is after
-use Rattle.std.proofs.Common.{◌≡◌, ◌≢◌, ℕ, suc, ◌≤◌, true, false, ◌==◌, inl, inr, List, [], ◌∷◌, ◌++◌, length, Option, Some, None, Ok, Err, refl, sym, ap, subst, ◌∙◌, arith, length-append}
+use Rattle.std.proofs.Common.{◌≡◌, ℕ, suc, ◌≤◌, true, false, List, [], ◌∷◌, ◌++◌, length, Option, Some, None, Ok, Err, refl, sym, ap, subst, ◌∙◌, arith, length-append}
 use Rattle.std.specs.Prelude.{is_some, option_map}
 use Rattle.std.proofs.Math.Path.{fun_ext}
-use Rattle.std.proofs.lemmas.Bool.Decides.{eqb_tells}
 use Rattle.step_memory.specs.declared.access.Answer.{Answer}
 use Rattle.step_memory.specs.declared.participant.Participant.{Participant}
 use Rattle.step_memory.specs.Note.{ends}
@@ -10,50 +9,49 @@ use Rattle.step_memory.specs.Participant.{participant_of, program_of, with_parti
 use Rattle.step_memory.specs.Registers.{answer_of, memory_steps}
 use Rattle.step_memory.specs.SetAt.{set_at}
 use Rattle.step_memory.specs.World.{after_begin, begin_refusal, done_unless}
-use Rattle.step_memory.specs.Calls.{Call, next, IsReply, steps_of, steps_by, outcome_of, outcome_by, outcome_in, begun_in, begun_by, IsAfter}
+use Rattle.step_memory.specs.Calls.{Call, next, IsReply, steps_by, outcome_of, outcome_by, outcome_in, begun_in, begun_by, IsAfter}
 use Rattle.step_memory.specs.Calls.Call.{Began, Stepped}
-use Rattle.step_memory.proofs.SetAtLemmas.{set_at-same, set_at-other, set_at-cases, set_at-map, same_in}
+use Rattle.step_memory.proofs.SetAtLemmas.{set_at-cases, set_at-map}
 use Rattle.step_memory.proofs.ParticipantLemmas.{participant_of-push, participant_of-put, length-with_participant}
-use Rattle.step_memory.proofs.WorldKeeps.{steps_of-push, begun_in-push, outcome_of-push, first_of-none, IsLetIn, IsKept, world_keeps, after_call, after_stepped, after_splits, most_kept, moved, stepped}
+use Rattle.step_memory.proofs.WorldKeeps.{begun_in-push, IsLetIn, IsKept, world_keeps, after_call, after_stepped, after_splits, most_kept, moved, stepped}
+use Rattle.step_memory.specs.Told.{Tells}
+use Rattle.step_memory.proofs.ToldLemmas.{told_quiet, told_begun, told_stepped}
 use Rattle.step_memory.specs.Due.{EndsOnce}
 use Rattle.step_memory.proofs.DueLemmas.{world_counted, ends_once, outcomes_tell, never_grows, no_second_end}
-use Rattle.splitter.specs.declared.way.Way.TheVariants.{Stop, Right, Down}
 use Rattle.splitter.specs.declared.stage.Stage.{Stage}
-use Rattle.splitter.specs.declared.stage.Stage.TheVariants.{Outside, WroteX, SawClear, WroteY, Gone}
+use Rattle.splitter.specs.Walk.{note_at_door}
 use Rattle.splitter.specs.Visitor.{stage_by}
 use Rattle.splitter_grid.specs.declared.walker.Walker.{Walker}
 use Rattle.splitter_grid.specs.Door.{number_of}
-use Rattle.splitter_grid.specs.Walk.{walk_of, walker_steps, walked_to, walker_after, walker_note, next_access, note_at_door, place_of, place_by, accesses_of, accesses_by}
+use Rattle.splitter_grid.specs.Walk.{walk_of, walker_steps, walked_to, walker_after, walker_note, next_access, place_of, place_by, accesses_by}
 use Rattle.splitter_grid.specs.Consistent.{IsConsistent, IsGrid}
 use Rattle.splitter_grid.specs.GridWorld.{GridState, After, fresh, empty_doors, place_in, step_reply, world_after_step, RefusesWhereDue}
 use Rattle.splitter_grid.specs.Law.{KeepsGridLaw}
 use Rattle.splitter_grid.proofs.ConsistentKept.{consistent_new, begun, gone_on}
-use Rattle.splitter_grid.proofs.GridLaw.{grid_law, nearer}
+use Rattle.splitter_grid.proofs.GridLaw.{grid_law, nearer, place_told}
 
 -- the walk of each identity
 abbrev pub walkers : List (Participant Walker) → ℕ → Option Walker
 walkers ps p = program_of p ps
 
 -- a participant has its identity, and has ended where its walk has a place
-pub record IsNamed (p : ℕ) (v : Participant Walker) : Type 0 where
+pub record IsParticipantOf (p : ℕ) (v : Participant Walker) : Type 0 where
   pub own : v.identity ≡ p
   pub ended : v.ended ≡ is_some (place_of v.program)
 
 pub record IsTied (w : GridState) (r : List (Call (Option ℕ))) : Type 0 where
   pub consistent : IsConsistent w.most (length w.participants) w.memory (walkers w.participants)
   pub begun_is : begun_in r ≡ length w.participants
-  pub named : (p : ℕ) (v : Participant Walker) → participant_of p w.participants ≡ Some v → IsNamed p v
-  pub outcomes : (p : ℕ) → outcome_of p r ≡ place_by (walkers w.participants p)
-  pub steps : (p : ℕ) → steps_of p r ≤ accesses_by (walkers w.participants p)
+  pub known : (p : ℕ) (v : Participant Walker) → participant_of p w.participants ≡ Some v → IsParticipantOf p v
+  pub told : Tells place_by (λ _. 0) accesses_by (walkers w.participants) r
 
 -- a call that is refused
 refused : (w : GridState) (r : List (Call (Option ℕ))) (h : Call (Option ℕ)) → ((p : ℕ) → steps_by p h ≡ 0) → ((p : ℕ) → outcome_by p h ≡ None) → begun_by h ≡ 0 → IsTied w r → IsTied w (r ++ h ∷ [])
 refused w r h none quiet nobody t = record {
   consistent = t.consistent;
   begun_is = omega (arith, begun_in-push r h, nobody, t.begun_is);
-  named = t.named;
-  outcomes = λ p. outcome_of-push p r h ∙ rw (quiet p) (first_of-none (outcome_of p r)) ∙ t.outcomes p;
-  steps = λ p. omega (arith, steps_of-push p r h, none p, t.steps p);
+  known = t.known;
+  told = told_quiet place_by (λ _. 0) accesses_by (walkers w.participants) r t.told h none quiet;
 }
 
 -- one who begins
@@ -65,37 +63,19 @@ begun_kept w r id in_ t =
     let walks : walkers all ≡ set_at (walkers w.participants) id (Some (walk_of id)) =
     fun_ext (λ q. ap (option_map (λ v. v.program)) (push q) ∙ set_at-map (option_map (λ v. v.program)) (λ u. participant_of u w.participants) id (Some (beginner id (walk_of id))) q) in
     let absent : walkers w.participants id ≡ None = rw in_.absent refl in
-    let same_place : (p : ℕ) → place_by (walkers w.participants p) ≡ place_by (walkers all p) = (λ p. same_in place_by (walkers w.participants) id (walk_of id) p absent refl ∙ ap (λ (f : ℕ → Option Walker). place_by (f p)) (sym walks)) in
-    let same_accesses : (p : ℕ) → accesses_by (walkers w.participants p) ≡ accesses_by (walkers all p) = (λ p. same_in accesses_by (walkers w.participants) id (walk_of id) p absent refl ∙ ap (λ (f : ℕ → Option Walker). accesses_by (f p)) (sym walks)) in
     record {
       consistent = rw (longer, walks) (begun w.most (length w.participants) w.memory (walkers w.participants) t.consistent id in_.not_zero absent in_.room);
       begun_is = omega (arith, begun_in-push r (Began id (Ok tt)), t.begun_is, longer);
-      named = λ p v h. set_at-cases (λ z. participant_of z w.participants) id (Some (beginner id (walk_of id))) (λ o. o ≡ Some v → IsNamed p v) p
-          (λ e k. let is : beginner id (walk_of id) ≡ v = cc in subst (λ (u : Participant Walker). IsNamed p u) is (record { own = sym e; ended = refl }))
-          (λ _ k. t.named p v k)
+      known = λ p v h. set_at-cases (λ z. participant_of z w.participants) id (Some (beginner id (walk_of id))) (λ o. o ≡ Some v → IsParticipantOf p v) p
+          (λ e k. let is : beginner id (walk_of id) ≡ v = cc in subst (λ (u : Participant Walker). IsParticipantOf p u) is (record { own = sym e; ended = refl }))
+          (λ _ k. t.known p v k)
           (sym (push p) ∙ h);
-      outcomes = λ p. outcome_of-push p r (Began id (Ok tt)) ∙ first_of-none (outcome_of p r) ∙ t.outcomes p ∙ same_place p;
-      steps = λ p. omega (arith, steps_of-push p r (Began id (Ok tt)), t.steps p, same_accesses p);
+      told = rw walks (told_begun place_by (λ _. 0) accesses_by (walkers w.participants) r t.told id (Some (walk_of id)) (ap place_by absent) (omega arith) (rw absent (omega arith)));
     }
 
--- what a walk says is its place, and that it has ended
-place_told : (u : Walker) (s : Stage) → outcome_in (note_at_door (number_of u.door) s) ≡ place_of (walked_to u s)
-place_told u Outside = refl
-place_told u WroteX = refl
-place_told u SawClear = refl
-place_told u WroteY = refl
-place_told u (Gone Stop) = refl
-place_told u (Gone Right) = refl
-place_told u (Gone Down) = refl
-
+-- a walk says that it has ended where it has a place
 end_told : (u : Walker) (s : Stage) → ends (note_at_door (number_of u.door) s) ≡ is_some (place_of (walked_to u s))
-end_told u Outside = refl
-end_told u WroteX = refl
-end_told u SawClear = refl
-end_told u WroteY = refl
-end_told u (Gone Stop) = refl
-end_told u (Gone Right) = refl
-end_told u (Gone Down) = refl
+end_told u s = sym (outcomes_tell (note_at_door (number_of u.door) s)) ∙ ap is_some (place_told u s)
 
 no_place : (o : Option ℕ) → is_some o ≡ false → o ≡ None
 no_place None h = refl
@@ -105,49 +85,27 @@ no_place (Some k) h = absurd (cc)
 going_kept : (w : GridState) (r : List (Call (Option ℕ))) (id : ℕ) (v : Participant Walker) → participant_of id w.participants ≡ Some v → v.ended ≡ false → IsTied w r →
     IsTied (stepped walker_steps memory_steps outcome_in walk_of w v) (r ++ Stepped id (Ok (outcome_in (walker_note v.program (answer_of w.memory (next_access v.program))))) ∷ [])
 going_kept w r id v here goes t =
-    let named = t.named id v here in
+    let known = t.known id v here in
     let is : walkers w.participants id ≡ Some v.program = rw here refl in
-    let on : place_of v.program ≡ None = no_place (place_of v.program) (sym named.ended ∙ goes) in
+    let on : place_of v.program ≡ None = no_place (place_of v.program) (sym known.ended ∙ goes) in
     let got : Answer ℕ = answer_of w.memory (next_access v.program) in
     let walk : Walker = walker_after v.program got in
     let new : Participant Walker = moved walker_steps memory_steps outcome_in walk_of w.memory v in
     let call : Call (Option ℕ) = Stepped id (Ok (outcome_in (walker_note v.program got))) in
-    let there : is_some (participant_of v.identity w.participants) ≡ true = rw (named.own, here) refl in
-    let put : (q : ℕ) → participant_of q (with_participant new w.participants) ≡ set_at (λ u. participant_of u w.participants) id (Some new) q = (λ q. participant_of-put w.participants new there q ∙ rw named.own refl) in
+    let there : is_some (participant_of v.identity w.participants) ≡ true = rw (known.own, here) refl in
+    let put : (q : ℕ) → participant_of q (with_participant new w.participants) ≡ set_at (λ u. participant_of u w.participants) id (Some new) q = (λ q. participant_of-put w.participants new there q ∙ rw known.own refl) in
     let walks : walkers (with_participant new w.participants) ≡ set_at (walkers w.participants) id (Some walk) = fun_ext (λ q. ap (option_map (λ x. x.program)) (put q) ∙ set_at-map (option_map (λ x. x.program)) (λ u. participant_of u w.participants) id (Some new) q) in
     let many : length (with_participant new w.participants) ≡ length w.participants = length-with_participant w.participants new in
-    let own : walkers (with_participant new w.participants) id ≡ Some walk = ap (λ (f : ℕ → Option Walker). f id) walks ∙ set_at-same (walkers w.participants) id (Some walk) in
-    let others : (p : ℕ) → id ≢ p → walkers (with_participant new w.participants) p ≡ walkers w.participants p = (λ p n. ap (λ (f : ℕ → Option Walker). f p) walks ∙ set_at-other (walkers w.participants) id (Some walk) p (λ h. n (sym h))) in
-    let itself : (id == id) ≡ true = elim (eqb_tells id id) [ inl e ↦ e.0 | inr e ↦ absurd (e.1 refl) ] in
-    let own_place : outcome_of id (r ++ call ∷ []) ≡ place_by (walkers (with_participant new w.participants) id) =
-    (let before : outcome_of id r ≡ None = t.outcomes id ∙ ap place_by is ∙ on in
-    outcome_of-push id r call ∙ rw (before, itself) (place_told v.program (stage_by v.program.visitor got)) ∙ ap place_by (sym own)) in
-    let own_steps : steps_of id (r ++ call ∷ []) ≤ accesses_by (walkers (with_participant new w.participants) id) =
-    (let one : steps_by id call ≡ 1 = rw itself refl in
     let more = nearer w.most (length w.participants) w.memory (walkers w.participants) t.consistent id v.program is on got in
-    let before : accesses_by (walkers w.participants id) ≡ accesses_of v.program = ap accesses_by is in
-    let now : accesses_by (walkers (with_participant new w.participants) id) ≡ accesses_of walk = ap accesses_by own in
-    let so_far = t.steps id in
-    let pushed = steps_of-push id r call in
-    omega arith) in
     record {
       consistent = rw (many, walks) (gone_on w.most (length w.participants) w.memory (walkers w.participants) t.consistent id v.program is);
       begun_is = omega (arith, begun_in-push r call, t.begun_is, many);
-      named = λ p u h. set_at-cases (λ z. participant_of z w.participants) id (Some new) (λ o. o ≡ Some u → IsNamed p u) p
-          (λ e k. let same : new ≡ u = cc in subst (λ (x : Participant Walker). IsNamed p x) same (record { own = named.own ∙ sym e; ended = end_told v.program (stage_by v.program.visitor got) }))
-          (λ _ k. t.named p u k)
+      known = λ p u h. set_at-cases (λ z. participant_of z w.participants) id (Some new) (λ o. o ≡ Some u → IsParticipantOf p u) p
+          (λ e k. let same : new ≡ u = cc in subst (λ (x : Participant Walker). IsParticipantOf p x) same (record { own = known.own ∙ sym e; ended = end_told v.program (stage_by v.program.visitor got) }))
+          (λ _ k. t.known p u k)
           (sym (put p) ∙ h);
-      outcomes = λ p. elim (eqb_tells id p) [
-        | inl e ↦ subst (λ (x : ℕ). outcome_of x (r ++ call ∷ []) ≡ place_by (walkers (with_participant new w.participants) x)) e.1 own_place
-        | inr e ↦ outcome_of-push p r call ∙ rw e.0 (first_of-none (outcome_of p r)) ∙ t.outcomes p ∙ ap place_by (sym (others p e.1))
-      ];
-      steps = λ p. elim (eqb_tells id p) [
-        | inl e ↦ subst (λ (x : ℕ). steps_of x (r ++ call ∷ []) ≤ accesses_by (walkers (with_participant new w.participants) x)) e.1 own_steps
-        | inr e ↦
-            let none : steps_by p call ≡ 0 = rw e.0 refl in
-            let same : accesses_by (walkers (with_participant new w.participants) p) ≡ accesses_by (walkers w.participants p) = ap accesses_by (others p e.1) in
-            omega (arith, steps_of-push p r call, t.steps p, none, same)
-      ];
+      told = rw walks (told_stepped place_by (λ _. 0) accesses_by (walkers w.participants) r t.told id (Some walk) (outcome_in (walker_note v.program got))
+          (ap place_by is ∙ on) (place_told v.program (stage_by v.program.visitor got)) (omega arith) (rw is more));
     }
 
 -- each call keeps the tie
@@ -164,9 +122,8 @@ tied_new : (most : ℕ) → most ≤ 16 → IsTied (fresh most) []
 tied_new most few = record {
   consistent = consistent_new most few;
   begun_is = refl;
-  named = λ p v h. absurd (cc);
-  outcomes = λ p. refl;
-  steps = λ p. omega arith;
+  known = λ p v h. absurd (cc);
+  told = record { outcomes = λ p. refl; at_least = λ p. omega arith; at_most = λ p. omega arith };
 }
 
 -- a world that is after these calls is tied to them
@@ -178,10 +135,10 @@ tied_law : (w : GridState) (r : List (Call (Option ℕ))) → IsTied w r → End
 tied_law w r t once =
     let law : IsGrid (length w.participants) w.memory (walkers w.participants) = grid_law w.most (length w.participants) w.memory (walkers w.participants) t.consistent in
     record {
-      distinct = λ p q place h k. law.distinct p q place (sym (t.outcomes p) ∙ h) (sym (t.outcomes q) ∙ k);
-      within = λ p place h. rw t.begun_is (law.within p place (sym (t.outcomes p) ∙ h));
-      at_most = λ p. omega (arith, t.steps p, law.at_most p, t.begun_is);
-      last_places = λ p some all. rw (t.outcomes p) (law.last_places p (omega (arith, t.steps p, some)) (omega (arith, t.steps p, law.at_most p, t.begun_is, all)));
+      distinct = λ p q place h k. law.distinct p q place (sym (t.told.outcomes p) ∙ h) (sym (t.told.outcomes q) ∙ k);
+      within = λ p place h. rw t.begun_is (law.within p place (sym (t.told.outcomes p) ∙ h));
+      at_most = λ p. omega (arith, t.told.at_most p, law.at_most p, t.begun_is);
+      last_places = λ p some all. rw (t.told.outcomes p) (law.last_places p (omega (arith, t.told.at_most p, some)) (omega (arith, t.told.at_most p, law.at_most p, t.begun_is, all)));
       ends_once = once;
     }
 
@@ -205,7 +162,7 @@ one_place_told p a b before between rest law = no_second_end is_some p (Some a) 
 
 -- the place at which a walk has ended is the one that was answered
 pub place_after : (w : GridState) (r : List (Call (Option ℕ))) → After w r → (p : ℕ) → place_in w p ≡ outcome_of p r
-place_after w r a p = sym ((tied_after w r a).outcomes p)
+place_after w r a p = sym ((tied_after w r a).told.outcomes p)
 
 -- the law of the doors
 pub grid_after : (w : GridState) (r : List (Call (Option ℕ))) → After w r → IsGrid (begun_in r) w.memory (walkers w.participants)

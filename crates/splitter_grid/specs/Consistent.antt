@@ -11,7 +11,7 @@ use Rattle.splitter_grid.specs.declared.walker.Walker.{Walker}
 use Rattle.splitter_grid.specs.Door.{door_number, number_of, IsDoorWithin}
 use Rattle.splitter_grid.specs.Walk.{place_by, accesses_by}
 use Rattle.splitter_grid.specs.Law.{AreDistinct}
-use Rattle.splitter_grid.specs.Count.{count_to}
+use Rattle.step_memory.specs.Count.{count_to}
 
 -- what stands in X of door k
 abbrev pub x_in : Registers ℕ → ℕ → ℕ

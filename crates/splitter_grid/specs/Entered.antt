@@ -1,6 +1,6 @@
 -- which doors were entered over a list of calls. Moves are quiet, so the calls and replies alone do not tell: one goes
 -- along them with the worlds between
-use Rattle.std.specs.Prelude.{◌≡◌, ℕ, ◌⊎◌, List, [], ◌∷◌, Option, Some, Ok, Err}
+use Rattle.std.specs.Prelude.{◌≡◌, ◌≢◌, ◌↔◌, ℕ, ◌⊎◌, List, [], ◌∷◌, Option, Some, Ok, Err}
 use Rattle.step_memory.specs.Participant.{program_of}
 use Rattle.step_memory.specs.Registers.{memory_steps}
 use Rattle.step_memory.specs.Calls.{Call, next, outcome_in}
@@ -8,7 +8,8 @@ use Rattle.step_memory.specs.Calls.Call.{Began, Stepped}
 use Rattle.splitter_grid.specs.declared.walker.Walker.{Walker}
 use Rattle.splitter_grid.specs.Door.{number_of}
 use Rattle.splitter_grid.specs.Walk.{walk_of, walker_steps}
-use Rattle.splitter_grid.specs.GridWorld.{GridState, fresh}
+use Rattle.splitter_grid.specs.Consistent.{x_in}
+use Rattle.splitter_grid.specs.GridWorld.{GridState, After, fresh}
 
 -- the call is an accepted step, made by one who stands at door k
 abbrev pub Enters : GridState → Call (Option ℕ) → ℕ → Type 0
@@ -24,3 +25,7 @@ EntersFrom w (h ∷ r) k = Enters w h k ⊎ EntersFrom (next walker_steps memory
 -- door k of a fresh grid was entered over these calls
 abbrev pub WasEntered : ℕ → List (Call (Option ℕ)) → ℕ → Type 0
 WasEntered most r k = EntersFrom (fresh most) r k
+
+-- after any calls that lead to this world X of a door is not 0 exactly where the door was entered
+abbrev pub ShowsWhatWasEntered : GridState → Type 0
+ShowsWhatWasEntered w = (r : List (Call (Option ℕ))) → After w r → (k : ℕ) → (x_in w.memory k ≢ 0) ↔ WasEntered w.most r k

@@ -11,7 +11,7 @@ use Rattle.step_memory.specs.Due.{RefusesAsDue}
 use Rattle.splitter_grid.specs.Law.{KeepsGridLaw}
 use Rattle.splitter_grid.specs.declared.walker.Walker.{Walker}
 use Rattle.splitter_grid.specs.Walk.{walk_of, walker_steps, place_by}
-use Rattle.splitter_grid.specs.Count.{count_to}
+use Rattle.step_memory.specs.Count.{count_to}
 use Rattle.splitter_grid.specs.Consistent.{was_entered}
 
 -- the registers, the most participants, and their walks

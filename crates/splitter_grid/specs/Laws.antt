@@ -47,6 +47,10 @@ HasAccessesLeft =
     (most b : ℕ) (m : Registers ℕ) (walker : ℕ → Option Walker) (p : ℕ) (u : Walker) → IsConsistent most b m walker → walker p ≡ Some u →
     place_of u ≡ None → accesses_of u + 1 ≤ 4 * b
 
+-- where one walks somebody has begun
+abbrev pub HasBegun : Type 0
+HasBegun = (most b : ℕ) (m : Registers ℕ) (walker : ℕ → Option Walker) (p : ℕ) (u : Walker) → IsConsistent most b m walker → walker p ≡ Some u → 1 ≤ b
+
 -- a beginning leads on
 abbrev pub BeginLeadsOn : Type 0
 BeginLeadsOn =

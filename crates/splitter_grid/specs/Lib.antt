@@ -1,7 +1,6 @@
 pub mod Law
 pub mod Door
 pub mod Walk
-pub mod Count
 pub mod Consistent
 pub mod GridWorld
 pub mod Entered

@@ -1,14 +1,12 @@
 -- a walk from door to door
-use Rattle.std.specs.Prelude.{ℕ, ◌+◌, ◌*◌, Option, Some, None}
+use Rattle.std.specs.Prelude.{ℕ, ◌+◌, ◌*◌, Option, Some, None, option_and_then}
 use Rattle.step_memory.specs.declared.access.Access.{Access}
 use Rattle.step_memory.specs.declared.access.Answer.{Answer}
 use Rattle.step_memory.specs.declared.note.Note.{Note}
-use Rattle.step_memory.specs.declared.note.Note.TheVariants.{Quiet, Ended}
 use Rattle.step_memory.specs.Steps.{ProgramSteps}
-use Rattle.splitter.specs.declared.way.Way.TheVariants.{Stop, Right, Down}
 use Rattle.splitter.specs.declared.stage.Stage.{Stage}
-use Rattle.splitter.specs.declared.stage.Stage.TheVariants.{Outside, WroteX, SawClear, WroteY, Gone}
 use Rattle.splitter.specs.Visitor.{access_of, visitor_at, stage_by}
+use Rattle.splitter.specs.Walk.{gone_on, note_at_door, place_at_door, accesses_at}
 use Rattle.splitter_grid.specs.declared.door.Door.{Door}
 use Rattle.splitter_grid.specs.declared.walker.Walker.{Walker}
 use Rattle.splitter_grid.specs.Door.{number_of, right_of, down_of, corner}
@@ -30,57 +28,25 @@ visit_on u s = record u { visitor = record u.visitor { stage = s } }
 
 -- the walk whose visit has come this far: from a visit that ends right or down it stands before the next door
 abbrev pub walked_to : Walker → Stage → Walker
-walked_to u Outside = visit_on u Outside
-walked_to u WroteX = visit_on u WroteX
-walked_to u SawClear = visit_on u SawClear
-walked_to u WroteY = visit_on u WroteY
-walked_to u (Gone Stop) = visit_on u (Gone Stop)
-walked_to u (Gone Right) = walker_at u.visitor.identity (right_of u.door)
-walked_to u (Gone Down) = walker_at u.visitor.identity (down_of u.door)
+walked_to u s = gone_on (visit_on u) (walker_at u.visitor.identity (right_of u.door)) (walker_at u.visitor.identity (down_of u.door)) s
 
 -- the walk after an answer
 abbrev pub walker_after : Walker → Answer ℕ → Walker
 walker_after u got = walked_to u (stage_by u.visitor got)
 
--- what a walk says where its visit has come this far
-abbrev pub note_at_door : ℕ → Stage → Note ℕ
-note_at_door k Outside = Quiet
-note_at_door k WroteX = Quiet
-note_at_door k SawClear = Quiet
-note_at_door k WroteY = Quiet
-note_at_door k (Gone Stop) = Ended k
-note_at_door k (Gone Right) = Quiet
-note_at_door k (Gone Down) = Quiet
-
+-- what a walk says after an answer
 abbrev pub walker_note : Walker → Answer ℕ → Note ℕ
 walker_note u got = note_at_door (number_of u.door) (stage_by u.visitor got)
 
 abbrev pub walker_steps : ProgramSteps Walker ℕ ℕ ℕ
 walker_steps = record { next = next_access; resumed = walker_after; note = walker_note }
 
-abbrev pub place_at_door : ℕ → Stage → Option ℕ
-place_at_door k Outside = None
-place_at_door k WroteX = None
-place_at_door k SawClear = None
-place_at_door k WroteY = None
-place_at_door k (Gone Stop) = Some k
-place_at_door k (Gone Right) = None
-place_at_door k (Gone Down) = None
-
 -- the place at which a walk has ended
 abbrev pub place_of : Walker → Option ℕ
 place_of u = place_at_door (number_of u.door) u.visitor.stage
 
 abbrev pub place_by : Option Walker → Option ℕ
-place_by None = None
-place_by (Some u) = place_of u
-
-abbrev pub accesses_at : Stage → ℕ
-accesses_at Outside = 0
-accesses_at WroteX = 1
-accesses_at SawClear = 2
-accesses_at WroteY = 3
-accesses_at (Gone way) = 4
+place_by walk = option_and_then place_of walk
 
 -- the most accesses that a walk which stands here has made: four at each door that it passed, and those at its door
 abbrev pub accesses_of : Walker → ℕ

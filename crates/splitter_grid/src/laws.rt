@@ -1,7 +1,7 @@
 //! Laws of the grid, which run nothing: of its registers and the walks alone, and of the calls of its world.
 
 ghost use Rattle.std.specs.Prelude.{◌≡◌, ◌↔◌, ℕ, ◌+◌, ◌*◌, ◌/◌, ◌≤◌, ◌<◌, Option, Some, None, [], ◌++◌, List};
-ghost use Rattle.splitter_grid.specs.Laws.{AgreesWithBeginner, AgreesAfterAccess, AgreesElsewhere, ComesNearer, HasAccessesLeft, BeginLeadsOn, StepLeadsOn, TellsOnePlace, LetsTheFirstIn};
+ghost use Rattle.splitter_grid.specs.Laws.{AgreesWithBeginner, AgreesAfterAccess, AgreesElsewhere, ComesNearer, HasAccessesLeft, HasBegun, BeginLeadsOn, StepLeadsOn, TellsOnePlace, LetsTheFirstIn};
 ghost use Rattle.splitter_grid.specs.Consistent.{IsConsistent, IsGrid};
 ghost use Rattle.splitter_grid.specs.Door.{IsDoorWithin};
 ghost use Rattle.splitter_grid.specs.GridWorld.{empty_doors, After, GridState, RefusesWhereDue, fresh, place_in};
@@ -28,7 +28,7 @@ pub fn law_of_doors_and_walks()
     ensures law { (most b : ℕ) (m : Registers ℕ) (walker : ℕ → Option Walker) → IsConsistent most b m walker → IsGrid b m walker }
     ensures nearer { ComesNearer }
     ensures unplaced { HasAccessesLeft }
-    ensures some { (most b : ℕ) (m : Registers ℕ) (walker : ℕ → Option Walker) (p : ℕ) (u : Walker) → IsConsistent most b m walker → walker p ≡ Some u → 1 ≤ b }
+    ensures some { HasBegun }
     ensures ended { (u : Walker) (got : Answer ℕ) (x : ℕ) → (walker_note u got ≡ Ended x) ↔ (place_of (walker_after u got) ≡ Some x) }
     ensures low { (b k : ℕ) → IsDoorWithin b k → k < b * (b + 1) / 2 }
 {}

@@ -4,7 +4,7 @@ ghost use Rattle.std.specs.Prelude.{◌≡◌};
 ghost use Rattle.splitter_grid.specs.Walk.{walker_at, walker_steps, next_access, walker_after, walker_note, place_of};
 
 use crate::door::Door;
-use splitter::{Stage, Visitor, Way};
+use splitter::{Visitor, Way};
 use step_memory::{Access, Answer, Note, Place, StepProgram};
 
 /// A walk of one identity, which is not 0, through a grid of splitters: the door before which it stands, and its visit
@@ -31,11 +31,7 @@ impl Walker {
     pub fn place(&self) -> Option<Place>
         ensures { result ≡ place_of self.now }
     {
-        match self.visitor.stage {
-            Stage::Gone(Way::Stop) => Some(Place::from(self.door.number())),
-            Stage::Gone(Way::Right) | Stage::Gone(Way::Down) => None,
-            Stage::Outside | Stage::WroteX | Stage::SawClear | Stage::WroteY => None,
-        }
+        self.visitor.stage.place_at(Place::from(self.door.number()))
     }
 }
 

@@ -2,9 +2,8 @@
 
 ghost use Rattle.std.specs.Prelude.{◌≡◌, ◌≢◌, ℕ, ◌+◌, ◌*◌, ◌∷◌, [], ◌++◌, List, IfOk, IfErr, IsOk, OnErr, Ok, Err, Some, true, false, is_some, ◌≤◌, ◌<◌, ◌⊎◌, ◌↔◌, Option};
 ghost use Rattle.splitter_grid.specs.Laws.{StaysAlike};
-ghost use Rattle.splitter_grid.specs.Consistent.{x_in};
 ghost use Rattle.splitter_grid.specs.Door.{IsDoorWithin};
-ghost use Rattle.splitter_grid.specs.Entered.{WasEntered};
+ghost use Rattle.splitter_grid.specs.Entered.{WasEntered, ShowsWhatWasEntered};
 ghost use Rattle.splitter_grid.specs.GridWorld.{After, GridState, IsLawful, LeadsOn, RefusesWhereDue, fresh, step_reply, world_after_step, place_in, entered_count};
 ghost use Rattle.splitter_grid.specs.Law.{KeepsGridLaw};
 ghost use Rattle.splitter_grid.specs.Walk.{walk_of, walker_steps};
@@ -126,7 +125,7 @@ impl<A: Allocator + Clone> GridWorld<A> {
 
         // The law, over every list of calls and replies that the world may be after: the doors counted are those that
         // were entered, and all of them lie on the first diagonals, as many as participants have begun.
-        ensures entered { (r : List (Call (Option ℕ))) → After self.now r → (k : ℕ) → (x_in self.now.memory k ≢ 0) ↔ WasEntered self.now.most r k }
+        ensures entered { ShowsWhatWasEntered self.now }
         ensures within { (r : List (Call (Option ℕ))) → After self.now r → (k : ℕ) → WasEntered self.now.most r k → IsDoorWithin (begun_in r) k }
         ensures few { (r : List (Call (Option ℕ))) → After self.now r → 2 * result ≤ begun_in r * (begun_in r + 1) }
     {

@@ -38,7 +38,7 @@ use Rattle.splitter_tree.specs.TreeCalls.TreeCall.{Began, Stepped, Stored, Colle
 use Rattle.splitter_tree.specs.CollectLaw.{CollectObject, new_object, one_begun, with_moment, collect_begun, collect_stepped, goes_on, observed, ShowsValues, most_steps, AllowsStep, Allows, KeepsCollectLaw}
 use Rattle.splitter_tree.specs.Ahead.{marked_in, HasRead}
 use Rattle.step_memory.proofs.RunLemmas.{run_replays}
-use Rattle.splitter_tree.specs.Count.{count_to}
+use Rattle.step_memory.specs.Count.{count_to}
 use Rattle.step_memory.proofs.CountLemmas.{count_none}
 use Rattle.splitter_tree.proofs.TreeCallLemmas.{Goes, absent_place, placed_place, going_place, absent_view, idle_view, going_view, absent_store, busy_store, going_store, collect_absent, collect_busy, collect_goes}
 use Rattle.splitter_tree.proofs.ReadCount.{reads_few, nodes_few}
@@ -97,9 +97,9 @@ module _ {S : Type 0} (memory : MemorySteps S TreeRegister TreeValue) (tree : Is
 
   -- one put in the place of p
   put_is : (w : TreeState S) (p : ℕ) (v new : Participant Client) → persons w p ≡ Some v → new.identity ≡ p → (q : ℕ) → participant_of q (with_participant new w.participants) ≡ set_at (persons w) p (Some new) q
-  put_is w p v new here named q =
-      let there : is_some (participant_of new.identity w.participants) ≡ true = rw (named, here) refl in
-      participant_of-put w.participants new there q ∙ rw named refl
+  put_is w p v new here known q =
+      let there : is_some (participant_of new.identity w.participants) ≡ true = rw (known, here) refl in
+      participant_of-put w.participants new there q ∙ rw known refl
 
   -- what a call is allowed and leaves
   abbrev Keeps : TreeState S → CollectObject → TreeCall → Type 0
@@ -125,7 +125,7 @@ module _ {S : Type 0} (memory : MemorySteps S TreeRegister TreeValue) (tree : Is
     | None ↦ λ e. let h : None ≡ program_of id w.participants = rw e refl in subst (λ (x : TreeState S). Tied x o) (absent_place memory w id h).1 t
     | Some v ↦ λ e.
         let h : Some v.program ≡ program_of id w.participants = rw e refl in
-        let n = t.named id v e in
+        let n = t.known id v e in
         elim (is_placing v.program.task) as (λ x. is_placing v.program.task ≡ x → Tied (after_placing memory w id) o) [
           | false ↦ λ f. subst (λ (x : TreeState S). Tied x o) (placed_place memory w id v.program h f).1 t
           | true ↦ λ f.
@@ -136,7 +136,7 @@ module _ {S : Type 0} (memory : MemorySteps S TreeRegister TreeValue) (tree : Is
               let after : TreeState S = record { memory = memory.after w.memory (next_access v.program.walker); most = w.most; participants = with_participant new w.participants } in
               let access : client_access v.program ≡ next_access v.program.walker = rw k refl in
               let is : after_placing memory w id ≡ after = (going_place memory w id v.program h f).1 ∙ going_after client_steps memory w id v e n.goes ∙ rw access refl in
-              let named : IsClientOf id new = record {
+              let known : IsClientOf id new = record {
                 own = n.own;
                 goes = rw k (placed_goes (walker_note v.program.walker got));
                 task = rw k (task_told (is_placed (walker_note v.program.walker got)) Placing refl ∙ ap not (end_is_told v.program.walker got off));
@@ -146,7 +146,7 @@ module _ {S : Type 0} (memory : MemorySteps S TreeRegister TreeValue) (tree : Is
               let walks : new.program.walker ≡ walker_after v.program.walker got = rw k refl in
               subst (λ (x : TreeState S). Tied x o) (sym is)
               (tied_as after (length w.participants) (set_at (persons w) id (Some new)) o (length-with_participant w.participants new) (put_is w id v new e n.own)
-              (placing_kept memory tree w.most (length w.participants) w.memory (persons w) o t id v e new named idle was_idle off walks))
+              (placing_kept memory tree w.most (length w.participants) w.memory (persons w) o t id v e new known idle was_idle off walks))
         ] refl
   ] refl
 
@@ -157,7 +157,7 @@ module _ {S : Type 0} (memory : MemorySteps S TreeRegister TreeValue) (tree : Is
   stored_goes : (w : TreeState S) (o : CollectObject) (id value : ℕ) (v : Participant Client) → Tied w o → participant_of id w.participants ≡ Some v → v.program.task ≡ Nothing →
       Tied (after_step client_steps memory (after_set w id (storing v.program value)) id) (with_moment o id value)
   stored_goes w o id value v t e k =
-      let n = t.named id v e in
+      let n = t.known id v e in
       let place = has_some (place_of v.program.walker) (rw k at n.task) in
       let r : Record = record_of v.program value in
       let asked : Participant Client = beginner id (storing v.program value) in
@@ -173,10 +173,10 @@ module _ {S : Type 0} (memory : MemorySteps S TreeRegister TreeValue) (tree : Is
       let own : place_in (persons w id) ≡ Some place.0 = ap place_in e ∙ place.1 in
       let by : r.identity ≡ id = (t.consistent.agree.walks id v.program.walker (ap walker_in e)).identity in
       let was_idle : collect_in (persons w id) ≡ None = rw (e, k) refl in
-      let named : IsClientOf id new = record { own = refl; goes = refl; task = rw k at n.task } in
+      let known : IsClientOf id new = record { own = refl; goes = refl; task = rw k at n.task } in
       subst (λ (x : TreeState S). Tied x (with_moment o id value)) (sym is)
       (tied_as after (length w.participants) (set_at (persons w) id (Some new)) (with_moment o id value) (length-with_participant before.participants new ∙ length-with_participant w.participants asked) puts
-      (stored_kept memory tree w.most (length w.participants) w.memory (persons w) o t id v e new named refl place.0 own r by refl was_idle))
+      (stored_kept memory tree w.most (length w.participants) w.memory (persons w) o t id v e new known refl place.0 own r by refl was_idle))
 
   not_collecting : (w : TreeState S) (o : CollectObject) (id : ℕ) (v : Participant Client) → Tied w o → participant_of id w.participants ≡ Some v → v.program.task ≡ Nothing → o.collects id ≡ false
   not_collecting w o id v t e k = t.collecting id ∙ rw (e, k) refl
@@ -205,12 +205,12 @@ module _ {S : Type 0} (memory : MemorySteps S TreeRegister TreeValue) (tree : Is
   -- a collect begins
   collect_goes_on : (w : TreeState S) (o : CollectObject) (id : ℕ) (v : Participant Client) → Tied w o → participant_of id w.participants ≡ Some v → v.program.task ≡ Nothing → Tied (after_set w id (collecting v.program)) (collect_begun o id)
   collect_goes_on w o id v t e k =
-      let n = t.named id v e in
+      let n = t.known id v e in
       let new : Participant Client = beginner id (collecting v.program) in
-      let named : IsClientOf id new = record { own = refl; goes = refl; task = rw k at n.task } in
+      let known : IsClientOf id new = record { own = refl; goes = refl; task = rw k at n.task } in
       let first = under_way_at_first (marked_in memory w.memory) (λ q. place_in (persons w q)) o.moment o.last (path_of memory tree w.most (length w.participants) w.memory (persons w) o t) in
       tied_as (after_set w id (collecting v.program)) (length w.participants) (set_at (persons w) id (Some new)) (collect_begun o id) (length-with_participant w.participants new) (put_is w id v new e refl)
-      (tasked memory tree w.most (length w.participants) w.memory (persons w) o t id v e new named refl w.memory (λ r. refl) (set_at o.collects id true) (set_at o.since id o.last) (set_at o.steps id 0) (λ q. refl)
+      (tasked memory tree w.most (length w.participants) w.memory (persons w) o t id v e new known refl w.memory (λ r. refl) (set_at o.collects id true) (set_at o.since id o.last) (set_at o.steps id 0) (λ q. refl)
       (λ q other. (set_at-other o.since id o.last q other, set_at-other o.steps id 0 q other))
       (λ c h. let is : first_collect ≡ c = cc in rw (set_at-same o.since id o.last, set_at-same o.steps id 0, ← is) first))
 
@@ -304,9 +304,9 @@ module _ {S : Type 0} (memory : MemorySteps S TreeRegister TreeValue) (tree : Is
     placed_still None = refl
     placed_still (Some view) = refl
 
-    stepped_named : IsClientOf id stepped
-    stepped_named =
-        let n = t.named id v e in
+    stepped_known : IsClientOf id stepped
+    stepped_known =
+        let n = t.known id v e in
         record {
           own = n.own;
           goes = ap ends note_is ∙ collected_goes (collect_view c got);
@@ -318,8 +318,8 @@ module _ {S : Type 0} (memory : MemorySteps S TreeRegister TreeValue) (tree : Is
         ((d : Collect) → collect_of (task_after (collect_after c got) shown) ≡ Some d → UnderWay (marked_in memory w.memory) place_now o.moment o.last (o.since id) (o.steps id + 1) d) → Tied after (collect_stepped o id shown)
     tied_then shown is going own =
         let task : stepped.program.task ≡ task_after (collect_after c got) shown = ap (λ (x : Client). x.task) program_is ∙ ap (task_after (collect_after c got)) is in
-        tied_as after (length w.participants) (set_at (persons w) id (Some stepped)) (collect_stepped o id shown) (length-with_participant w.participants stepped) (put_is w id v stepped e (t.named id v e).own)
-        (tasked memory tree w.most (length w.participants) w.memory (persons w) o t id v e stepped stepped_named (ap (λ (x : Client). x.walker) program_is) read_on (λ r. tree.others w.memory (Read (collect_reads c)) r tt)
+        tied_as after (length w.participants) (set_at (persons w) id (Some stepped)) (collect_stepped o id shown) (length-with_participant w.participants stepped) (put_is w id v stepped e (t.known id v e).own)
+        (tasked memory tree w.most (length w.participants) w.memory (persons w) o t id v e stepped stepped_known (ap (λ (x : Client). x.walker) program_is) read_on (λ r. tree.others w.memory (Read (collect_reads c)) r tt)
         (set_at o.collects id (goes_on shown)) o.since (set_at o.steps id (o.steps id + 1)) (λ q. ap (λ (x : Bool). set_at o.collects id x q) (going ∙ ap (λ (x : Task). is_some (collect_of x)) (sym task)))
         (λ q other. (refl, set_at-other o.steps id (o.steps id + 1) q other))
         (λ d h. rw (set_at-same o.steps id (o.steps id + 1)) (own d (ap collect_of (sym task) ∙ h))))
@@ -337,7 +337,7 @@ module _ {S : Type 0} (memory : MemorySteps S TreeRegister TreeValue) (tree : Is
 
     collecting_keeps : (f : is_collecting v.program.task ≡ true) (reply : Result (Option (List (ℕ × ℕ))) Refusal) → reply ≡ view_answer memory w id → Keeps w o (CollectStepped id reply)
     collecting_keeps f reply is =
-        let n = t.named id v e in
+        let n = t.known id v e in
         let h : Some v.program ≡ program_of id w.participants = rw e refl in
         let g = going_view memory w id v.program h f in
         let told_note : step_answer client_steps memory w id ≡ Ok (collected_note (collect_view c got)) = going_answer client_steps memory w id v e n.goes ∙ rw access (ap Ok note_is) in
@@ -383,7 +383,7 @@ module _ {S : Type 0} (memory : MemorySteps S TreeRegister TreeValue) (tree : Is
     consistent = consistent_new memory most first empty few;
     many = refl;
     few = λ n. let none = count_none n in omega arith;
-    named = λ q v h. absurd (cc);
+    known = λ q v h. absurd (cc);
     collecting = λ q. refl;
     owned = λ k r h. let never : None ≡ Some r = sym (empty.nothing_held k) ∙ h in absurd (cc);
     held = λ q k h. absurd (cc);

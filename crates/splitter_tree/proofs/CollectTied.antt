@@ -21,7 +21,7 @@ use Rattle.splitter_tree.specs.declared.client.Task.TheVariants.{Placing, Nothin
 use Rattle.splitter_tree.specs.TreeMemory.{IsTreeMemory, segment_at, segment_in, word_in}
 use Rattle.splitter_tree.specs.Walk.{walk_of, next_access, walker_after, place_of, place_by}
 use Rattle.splitter_tree.specs.Consistent.{IsConsistent, IsTree}
-use Rattle.splitter_tree.specs.Count.{count_to}
+use Rattle.step_memory.specs.Count.{count_to}
 use Rattle.splitter_tree.specs.CollectWalk.{place_read}
 use Rattle.splitter_tree.specs.Collect.{collect_reads}
 use Rattle.splitter_tree.specs.Ahead.{marked_in, HasGrown, IsPathMarked}
@@ -59,7 +59,7 @@ pub record Agrees {S : Type 0} (memory : MemorySteps S TreeRegister TreeValue) (
   pub consistent : IsConsistent memory most b s (λ q. walker_in (person q))
   pub many : o.begun ≡ b
   pub few : (n : ℕ) → count_to (λ q. is_some (person q)) n ≤ b
-  pub named : (q : ℕ) (v : Participant Client) → person q ≡ Some v → IsClientOf q v
+  pub known : (q : ℕ) (v : Participant Client) → person q ≡ Some v → IsClientOf q v
   pub collecting : (q : ℕ) → o.collects q ≡ is_some (collect_in (person q))
   pub owned : (k : ℕ) (r : Record) → segment_at memory s k ≡ Some r → (place_in (person r.identity) ≡ Some k) × (o.moment o.last r.identity ≡ Some r.value)
   pub held : (q k : ℕ) → place_in (person q) ≡ Some k → IsSome (o.moment o.last q) → (r : Record) × (segment_at memory s k ≡ Some r) × (r.identity ≡ q)
@@ -128,7 +128,7 @@ module _ {S : Type 0} (memory : MemorySteps S TreeRegister TreeValue) (tree : Is
   }
 
   -- one who asks for something, stores, or whose collect goes on keeps its place
-  module _ (p : ℕ) (v : Participant Client) (here : person p ≡ Some v) (new : Participant Client) (named : IsClientOf p new) (walks : new.program.walker ≡ v.program.walker) where
+  module _ (p : ℕ) (v : Participant Client) (here : person p ≡ Some v) (new : Participant Client) (known : IsClientOf p new) (walks : new.program.walker ≡ v.program.walker) where
     abbrev now : ℕ → Person
     now = set_at person p (Some new)
 
@@ -146,8 +146,8 @@ module _ {S : Type 0} (memory : MemorySteps S TreeRegister TreeValue) (tree : Is
       | inl e ↦
           let own : Some new ≡ Some u = rw e.0 at h in
           let is : new ≡ u = cc in
-          subst (λ (x : Participant Client). IsClientOf q x) is (subst (λ (i : ℕ). IsClientOf i new) (sym e.1) named)
-      | inr e ↦ t.named q u (rw e.0 at h)
+          subst (λ (x : Participant Client). IsClientOf q x) is (subst (λ (i : ℕ). IsClientOf i new) (sym e.1) known)
+      | inr e ↦ t.known q u (rw e.0 at h)
     ]
 
     -- no register changes
@@ -172,7 +172,7 @@ module _ {S : Type 0} (memory : MemorySteps S TreeRegister TreeValue) (tree : Is
         consistent = consistent_same;
         many = t.many;
         few = rw begun_same t.few;
-        named = named_now;
+        known = named_now;
         collecting = λ q. elim (eqb_tells q p) [
           | inl e ↦ asked q ∙ rw e.0 refl
           | inr e ↦ asked q ∙ rw e.0 (t.collecting q)
@@ -237,7 +237,7 @@ module _ {S : Type 0} (memory : MemorySteps S TreeRegister TreeValue) (tree : Is
         consistent = consistent_kept;
         many = t.many;
         few = rw begun_same t.few;
-        named = named_now;
+        known = named_now;
         collecting = λ q. elim (eqb_tells q p) [
           | inl e ↦ ap o.collects e.1 ∙ t.collecting p ∙ rw was_idle (rw (e.0, idle) refl)
           | inr e ↦ rw e.0 (t.collecting q)
@@ -284,7 +284,7 @@ module _ {S : Type 0} (memory : MemorySteps S TreeRegister TreeValue) (tree : Is
       }
 
   -- one on its way makes an access
-  module _ (p : ℕ) (v : Participant Client) (here : person p ≡ Some v) (new : Participant Client) (named : IsClientOf p new) (idle : collect_of new.program.task ≡ None) (was_idle : collect_of v.program.task ≡ None) (off : place_of v.program.walker ≡ None) where
+  module _ (p : ℕ) (v : Participant Client) (here : person p ≡ Some v) (new : Participant Client) (known : IsClientOf p new) (idle : collect_of new.program.task ≡ None) (was_idle : collect_of v.program.task ≡ None) (off : place_of v.program.walker ≡ None) where
     abbrev u : Walker
     u = v.program.walker
 
@@ -321,12 +321,12 @@ module _ {S : Type 0} (memory : MemorySteps S TreeRegister TreeValue) (tree : Is
       consistent = rw (person_at walker_in person p (Some new), walks) (gone_on memory most b s (λ q. walker_in (person q)) t.consistent tree p u walk_is);
       many = t.many;
       few = rw (same_said (λ x. is_some x) person p (Some new) (sym (ap is_some here))) t.few;
-      named = λ q x h. elim (eqb_tells q p) [
+      known = λ q x h. elim (eqb_tells q p) [
         | inl e ↦
             let own : Some new ≡ Some x = rw e.0 at h in
             let is : new ≡ x = cc in
-            subst (λ (y : Participant Client). IsClientOf q y) is (subst (λ (i : ℕ). IsClientOf i new) (sym e.1) named)
-        | inr e ↦ t.named q x (rw e.0 at h)
+            subst (λ (y : Participant Client). IsClientOf q y) is (subst (λ (i : ℕ). IsClientOf i new) (sym e.1) known)
+        | inr e ↦ t.known q x (rw e.0 at h)
       ];
       collecting = λ q. elim (eqb_tells q p) [
         | inl e ↦ ap o.collects e.1 ∙ t.collecting p ∙ rw (here, was_idle) (rw (e.0, idle) refl)
@@ -349,7 +349,7 @@ module _ {S : Type 0} (memory : MemorySteps S TreeRegister TreeValue) (tree : Is
     }
 
   -- one who begins
-  module _ (p : ℕ) (some : p ≢ 0) (absent : person p ≡ None) (room : b < most) (new : Participant Client) (named : IsClientOf p new) (idle : collect_of new.program.task ≡ None) (walks : new.program.walker ≡ walk_of p) where
+  module _ (p : ℕ) (some : p ≢ 0) (absent : person p ≡ None) (room : b < most) (new : Participant Client) (known : IsClientOf p new) (idle : collect_of new.program.task ≡ None) (walks : new.program.walker ≡ walk_of p) where
     abbrev joined : ℕ → Person
     joined = set_at person p (Some new)
 
@@ -361,12 +361,12 @@ module _ {S : Type 0} (memory : MemorySteps S TreeRegister TreeValue) (tree : Is
       consistent = rw (person_at walker_in person p (Some new), walks) (begun memory most b s (λ q. walker_in (person q)) t.consistent p some (ap walker_in absent) room);
       many = let m = t.many in omega arith;
       few = λ n. rw (person_at (λ x. is_some x) person p (Some new)) (let one = count_set (λ q. is_some (person q)) p n in omega (arith, one, t.few n));
-      named = λ q x h. elim (eqb_tells q p) [
+      known = λ q x h. elim (eqb_tells q p) [
         | inl e ↦
             let own : Some new ≡ Some x = rw e.0 at h in
             let is : new ≡ x = cc in
-            subst (λ (y : Participant Client). IsClientOf q y) is (subst (λ (i : ℕ). IsClientOf i new) (sym e.1) named)
-        | inr e ↦ t.named q x (rw e.0 at h)
+            subst (λ (y : Participant Client). IsClientOf q y) is (subst (λ (i : ℕ). IsClientOf i new) (sym e.1) known)
+        | inr e ↦ t.known q x (rw e.0 at h)
       ];
       collecting = λ q. elim (eqb_tells q p) [
         | inl e ↦ ap o.collects e.1 ∙ t.collecting p ∙ rw absent (rw (e.0, idle) refl)

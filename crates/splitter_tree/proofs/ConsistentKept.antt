@@ -8,12 +8,13 @@ use Rattle.step_memory.specs.declared.access.Access.TheVariants.{Write}
 use Rattle.step_memory.specs.Steps.{MemorySteps, Spares, answer_from}
 use Rattle.step_memory.specs.SetAt.{set_at}
 use Rattle.step_memory.proofs.SetAtLemmas.{set_at-other, set_at-as_is}
-use Rattle.splitter.specs.declared.way.Way.TheVariants.{Stop, Right, Down}
+use Rattle.splitter.specs.declared.way.Way.TheVariants.{Right, Down}
 use Rattle.splitter.specs.declared.stage.Stage.{Stage}
 use Rattle.splitter.specs.declared.stage.Stage.TheVariants.{Outside, WroteX, SawClear, WroteY, Gone}
 use Rattle.splitter.specs.declared.visitor.Visitor.{Visitor}
 use Rattle.splitter.specs.Stage.{went_right, went_down, x_after, y_after, stage_after}
 use Rattle.splitter.specs.Visitor.{access_at, stage_by}
+use Rattle.splitter.proofs.WalkLemmas.{goes_on}
 use Rattle.splitter_tree.specs.declared.register.TreeRegister.{TreeRegister}
 use Rattle.splitter_tree.specs.declared.register.TreeRegister.TheVariants.{Mark, X, Y, Contents}
 use Rattle.splitter_tree.specs.declared.register.TreeValue.{TreeValue}
@@ -44,23 +45,26 @@ module _ (b : ℕ) (few : b ≤ 64) (mark x_of y_of : ℕ → ℕ) (walker : ℕ
   stays : (s : Stage) → next_stage ≡ s → went_right s ≡ false → went_down s ≡ false → AgreesWith (visit_on u s)
   stays s k r d = subst (λ (x : Stage). AgreesWith (visit_on u x)) k (stayed b mark x_of y_of walker g p u is visits (rw k r) (rw k d))
 
-  -- the walk that an access of a visit leaves, by how far the visit has come
-  agrees_next : (s : Stage) → next_stage ≡ s → AgreesWith (walked_to u s)
-  agrees_next Outside k = stays Outside k refl refl
-  agrees_next WroteX k = stays WroteX k refl refl
-  agrees_next SawClear k = stays SawClear k refl refl
-  agrees_next WroteY k = stays WroteY k refl refl
-  agrees_next (Gone Stop) k = stays (Gone Stop) k refl refl
-  agrees_next (Gone Right) k =
+  goes_right : next_stage ≡ Gone Right → AgreesWith (walker_at u.visitor.identity (right_child u.place))
+  goes_right k =
       let walk = g.walks p u is in
       let small = small_place b few mark x_of y_of walker g u.place p walk.arrived in
       let next : walker_at p (2 * u.place + 1) ≡ walker_at u.visitor.identity (right_child u.place) = rw (walk.identity, small.1) refl in
       subst AgreesWith next (moved_right b mark x_of y_of walker g p u is visits (rw k refl))
-  agrees_next (Gone Down) k =
+
+  goes_down : next_stage ≡ Gone Down → AgreesWith (walker_at u.visitor.identity (left_child u.place))
+  goes_down k =
       let walk = g.walks p u is in
       let small = small_place b few mark x_of y_of walker g u.place p walk.arrived in
       let next : walker_at p (2 * u.place) ≡ walker_at u.visitor.identity (left_child u.place) = rw (walk.identity, small.0) refl in
       subst AgreesWith next (moved_down b mark x_of y_of walker g p u is visits (rw k refl))
+
+  -- the walk that an access of a visit leaves, by how far the visit has come
+  agrees_next : (s : Stage) → next_stage ≡ s → AgreesWith (walked_to u s)
+  agrees_next s k = elim (goes_on (visit_on u) (walker_at u.visitor.identity (right_child u.place)) (walker_at u.visitor.identity (left_child u.place)) s) [
+    | inl e ↦ subst AgreesWith (sym e.2) (stays s k e.0 e.1)
+    | inr o ↦ elim o [ inl e ↦ subst AgreesWith (sym e.1) (goes_right (k ∙ e.0)) | inr e ↦ subst AgreesWith (sym e.1) (goes_down (k ∙ e.0)) ]
+  ]
 
 -- what an access of a walk does to the registers
 module _ {S : Type 0} (memory : MemorySteps S TreeRegister TreeValue) (tree : IsTreeMemory memory) (s : S) where

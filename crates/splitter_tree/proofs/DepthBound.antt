@@ -11,7 +11,7 @@ use Rattle.splitter.specs.Door.{IsSplitter}
 use Rattle.splitter.proofs.DoorKept.{law_of}
 use Rattle.splitter_tree.specs.declared.walker.Walker.{Walker}
 use Rattle.splitter_tree.specs.Walk.{left_child, right_child}
-use Rattle.splitter_tree.specs.Count.{count_to}
+use Rattle.step_memory.specs.Count.{count_to}
 use Rattle.splitter_tree.specs.Depth.{depth_in, depth_of}
 use Rattle.splitter_tree.specs.Consistent.{NodesAgree}
 use Rattle.splitter_tree.proofs.AgreeKept.{right_entered, down_entered}

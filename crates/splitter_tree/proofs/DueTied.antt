@@ -186,7 +186,7 @@ module _ {S : Type 0} (memory : MemorySteps S TreeRegister TreeValue) (tree : Is
   -- whether one has its place
   place_is : (w : TreeState S) (r : List TreeCall) (id : ℕ) (v : Participant Client) → participant_of id w.participants ≡ Some v → IsCounted w r → has_place id r ≡ not (is_placing v.program.task)
   place_is w r id v here t =
-      let placed : has_place id r ≡ is_some (place_by (walkers w.participants id)) = sym (ended_with_outcome id (way_calls r)) ∙ ap is_some (t.tied.outcomes id) in
+      let placed : has_place id r ≡ is_some (place_by (walkers w.participants id)) = sym (ended_with_outcome id (way_calls r)) ∙ ap is_some (t.tied.told.outcomes id) in
       let walk : place_by (walkers w.participants id) ≡ place_of v.program.walker = rw here refl in
       placed ∙ ap is_some walk ∙ sym (ap not (t.tied.clients id v here).task ∙ not_not (is_some (place_of v.program.walker)))
 

@@ -56,7 +56,7 @@ place_by_walk (Some p) = refl
 
 -- the place of a participant is the one that was answered
 pub answered_after : (w : TreeWorldState) (r : List TreeCall) (id : ℕ) → After w r → option_and_then (λ c. place_of c.walker) (program_of id w.participants) ≡ outcome_of id (way_calls r)
-answered_after w r id a = place_by_walk (participant_of id w.participants) ∙ sym ((tied w r a).outcomes id)
+answered_after w r id a = place_by_walk (participant_of id w.participants) ∙ sym ((tied w r a).told.outcomes id)
 
 -- a tree of no nodes is after no call
 pub after_none : (most : ℕ) → most ≤ 16 → After (record { memory = empty_tree; most = most; participants = [] }) []

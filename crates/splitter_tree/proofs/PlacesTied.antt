@@ -1,8 +1,7 @@
 -- what ties the places of a tree's world to the calls that it is after
-use Rattle.std.proofs.Common.{◌≡◌, ◌≢◌, ℕ, suc, ◌≤◌, Bool, true, false, cond, not, ◌==◌, inl, inr, List, [], ◌∷◌, ◌++◌, length, Option, Some, None, Result, Ok, Err, refl, sym, ap, subst, ◌∙◌, arith, length-append}
+use Rattle.std.proofs.Common.{◌≡◌, ℕ, suc, ◌≤◌, Bool, true, false, cond, not, inl, inr, List, [], ◌∷◌, ◌++◌, length, Option, Some, None, Result, Ok, Err, refl, sym, ap, subst, ◌∙◌, arith, length-append}
 use Rattle.std.specs.Prelude.{is_some}
 use Rattle.std.proofs.Math.Path.{fun_ext}
-use Rattle.std.proofs.lemmas.Bool.Decides.{eqb_tells}
 use Rattle.std.proofs.lemmas.List.{append-nil}
 use Rattle.step_memory.specs.declared.access.Access.{Access}
 use Rattle.step_memory.specs.declared.access.Answer.{Answer}
@@ -18,18 +17,18 @@ use Rattle.step_memory.specs.Participant.{participant_of, with_participant, begi
 use Rattle.step_memory.specs.Steps.{MemorySteps, Spares, answer_from}
 use Rattle.step_memory.specs.SetAt.{set_at}
 use Rattle.step_memory.specs.World.{begin_refusal, begun_unless, done_unless, after_set, got_by}
-use Rattle.step_memory.specs.Calls.{Call, steps_of, steps_by, outcome_of, outcome_by, begun_in, begun_by, lacked_memory}
+use Rattle.step_memory.specs.Calls.{Call, steps_by, outcome_by, outcome_in, begun_in, begun_by, lacked_memory}
 use Rattle.step_memory.specs.Calls.Call.{Began, Stepped}
 use Rattle.step_memory.specs.Due.{EndsOnce}
 use Rattle.step_memory.proofs.RunLemmas.{run_keeps}
-use Rattle.step_memory.proofs.SetAtLemmas.{set_at-same, set_at-other, set_at-cases, set_at-map, same_in}
+use Rattle.step_memory.proofs.SetAtLemmas.{set_at-same, set_at-other, set_at-cases, set_at-map}
 use Rattle.step_memory.proofs.ParticipantLemmas.{participant_of-push, participant_of-put, length-with_participant}
-use Rattle.step_memory.proofs.WorldKeeps.{steps_of-push, begun_in-push, outcome_of-push, first_of-none, IsLetIn}
+use Rattle.step_memory.specs.Told.{Tells}
+use Rattle.step_memory.proofs.ToldLemmas.{told_quiet, told_begun, told_stepped}
+use Rattle.step_memory.proofs.WorldKeeps.{begun_in-push, IsLetIn}
 pub use Rattle.step_memory.proofs.WorldKeeps.{let_in}
-use Rattle.splitter.specs.declared.way.Way.TheVariants.{Stop, Right, Down}
-use Rattle.splitter.specs.declared.stage.Stage.{Stage}
-use Rattle.splitter.specs.declared.stage.Stage.TheVariants.{Outside, WroteX, SawClear, WroteY, Gone}
 use Rattle.splitter.specs.Visitor.{stage_by}
+use Rattle.splitter.specs.Walk.{note_at_door}
 use Rattle.splitter_tree.specs.declared.register.TreeRegister.{TreeRegister}
 use Rattle.splitter_tree.specs.declared.register.TreeRegister.TheVariants.{Mark, X, Y}
 use Rattle.splitter_tree.specs.declared.register.TreeValue.{TreeValue}
@@ -40,18 +39,18 @@ use Rattle.splitter_tree.specs.declared.client.Task.{Task}
 use Rattle.splitter_tree.specs.declared.client.Task.TheVariants.{Placing, Nothing, Storing, Collecting}
 use Rattle.splitter_tree.specs.declared.client.TreeReply.{TreeReply}
 use Rattle.splitter_tree.specs.TreeMemory.{word_in, mark_at, x_at, y_at, IsTreeMemory, IsEmptyTree}
-use Rattle.splitter_tree.specs.Walk.{walk_of, next_access, told, walked_to, walker_after, walker_note, note_at_node, place_of, place_by}
+use Rattle.splitter_tree.specs.Walk.{walk_of, next_access, told, walker_after, walker_note, place_of, place_by}
 use Rattle.splitter_tree.specs.Client.{client_of, client_steps, client_access, client_note, access_for, after_for, note_for, is_placing, is_idle, is_collecting, is_placed, placing_after, placed_note, place_told, storing, collecting, with_task, write_at, record_of, task_after, collected_note}
 use Rattle.splitter_tree.specs.Collect.{collect_after, collect_view}
 use Rattle.splitter_tree.specs.TreeWorld.{TreeState, asking_refusal, place_answer, after_placing, after_store, after_collect_begin, view_answer, after_collecting}
 use Rattle.splitter_tree.specs.TreeCalls.{TreeCall, next, IsReply, IsAfter}
 use Rattle.splitter_tree.specs.TreeCalls.TreeCall.{Began as TreeBegan, Stepped as TreeStepped, Stored, CollectBegan, CollectStepped}
-use Rattle.splitter_tree.specs.Consistent.{IsConsistent, IsTree, accesses_of, accesses_by}
+use Rattle.splitter_tree.specs.Consistent.{IsConsistent, IsTree, accesses_by}
 use Rattle.splitter_tree.specs.PlacesLaw.{way_calls, KeepsPlacesLaw, walker_in, walkers}
 use Rattle.std.proofs.lemmas.Bool.{cases_Bool}
 use Rattle.splitter_tree.proofs.ConsistentKept.{consistent_new, begun, gone_on, elsewhere}
 use Rattle.splitter_tree.proofs.TreeLaw.{tree_law, nearer}
-use Rattle.splitter_tree.proofs.WalkerLemmas.{visit_after, visit_note, marking_after, marking_note}
+use Rattle.splitter_tree.proofs.WalkerLemmas.{visit_after, visit_note, marking_after, marking_note, stage_place}
 use Rattle.splitter_tree.proofs.CallCases.{GoesOn, stepped_by, step_cases, store_cases, collect_begin_cases, collect_step_cases}
 
 -- a participant has its identity, goes on for ever, and is on its way just while its walk has no place
@@ -126,35 +125,27 @@ reads_only c Nothing h r = absurd (cc)
 reads_only c (Storing value) h r = absurd (cc)
 reads_only c (Collecting collect) h r = tt
 
--- a walk's note tells its place, and that it is there
-stage_place : (u : Walker) (s : Stage) → place_told (placed_note (note_at_node u.place s)) ≡ place_of (walked_to u s)
-stage_place u Outside = refl
-stage_place u WroteX = refl
-stage_place u SawClear = refl
-stage_place u WroteY = refl
-stage_place u (Gone Stop) = refl
-stage_place u (Gone Right) = refl
-stage_place u (Gone Down) = refl
+-- a client tells the place that its walk tells, and is there where it tells one
+place_in_note : (n : Note ℕ) → place_told (placed_note n) ≡ outcome_in n
+place_in_note Quiet = refl
+place_in_note (Said place) = refl
+place_in_note (Ended place) = refl
 
-stage_placed : (u : Walker) (s : Stage) → is_placed (note_at_node u.place s) ≡ is_some (place_of (walked_to u s))
-stage_placed u Outside = refl
-stage_placed u WroteX = refl
-stage_placed u SawClear = refl
-stage_placed u WroteY = refl
-stage_placed u (Gone Stop) = refl
-stage_placed u (Gone Right) = refl
-stage_placed u (Gone Down) = refl
+placed_by_note : (n : Note ℕ) → is_placed n ≡ is_some (outcome_in n)
+placed_by_note Quiet = refl
+placed_by_note (Said place) = refl
+placed_by_note (Ended place) = refl
 
 place_is_told : (u : Walker) (got : Answer TreeValue) → place_of u ≡ None → place_told (placed_note (walker_note u got)) ≡ place_of (walker_after u got)
 place_is_told u got on = elim (cases_Bool u.is_marking) [
   | inl m ↦ ap (λ n. place_told (placed_note n)) (marking_note u got m) ∙ sym (ap place_of (marking_after u got m) ∙ on)
-  | inr m ↦ ap (λ n. place_told (placed_note n)) (visit_note u got m) ∙ stage_place u (stage_by u.visitor (told got)) ∙ sym (ap place_of (visit_after u got m))
+  | inr m ↦ ap (λ n. place_told (placed_note n)) (visit_note u got m) ∙ place_in_note (note_at_door u.place (stage_by u.visitor (told got))) ∙ stage_place u (stage_by u.visitor (told got)) ∙ sym (ap place_of (visit_after u got m))
 ]
 
 pub end_is_told : (u : Walker) (got : Answer TreeValue) → place_of u ≡ None → is_placed (walker_note u got) ≡ is_some (place_of (walker_after u got))
 end_is_told u got on = elim (cases_Bool u.is_marking) [
   | inl m ↦ ap is_placed (marking_note u got m) ∙ sym (ap is_some (ap place_of (marking_after u got m) ∙ on))
-  | inr m ↦ ap is_placed (visit_note u got m) ∙ stage_placed u (stage_by u.visitor (told got)) ∙ sym (ap is_some (ap place_of (visit_after u got m)))
+  | inr m ↦ ap is_placed (visit_note u got m) ∙ placed_by_note (note_at_door u.place (stage_by u.visitor (told got))) ∙ ap is_some (stage_place u (stage_by u.visitor (told got))) ∙ sym (ap is_some (ap place_of (visit_after u got m)))
 ]
 
 pub placed_goes : (n : Note ℕ) → ends (placed_note n) ≡ false
@@ -176,8 +167,7 @@ module _ {S : Type 0} (memory : MemorySteps S TreeRegister TreeValue) (tree : Is
     pub consistent : IsConsistent memory w.most (length w.participants) w.memory (walkers w.participants)
     pub begun_is : begun_in (way_calls r) ≡ length w.participants
     pub clients : (p : ℕ) (v : Participant Client) → participant_of p w.participants ≡ Some v → IsClientOf p v
-    pub outcomes : (p : ℕ) → outcome_of p (way_calls r) ≡ place_by (walkers w.participants p)
-    pub steps : (p : ℕ) → steps_of p (way_calls r) ≤ accesses_by (walkers w.participants p)
+    pub told : Tells place_by (λ _. 0) accesses_by (walkers w.participants) (way_calls r)
 
   -- a call of `begin` or `step` that is refused
   refused_way : (w : TreeState S) (r : List TreeCall) (h : TreeCall) (k : Call (Option ℕ)) → way_calls (h ∷ []) ≡ k ∷ [] → ((p : ℕ) → steps_by p k ≡ 0) → ((p : ℕ) → outcome_by p k ≡ None) → begun_by k ≡ 0 → IsTied w r → IsTied w (r ++ h ∷ [])
@@ -187,8 +177,7 @@ module _ {S : Type 0} (memory : MemorySteps S TreeRegister TreeValue) (tree : Is
         consistent = t.consistent;
         begun_is = rw way (omega (arith, begun_in-push (way_calls r) k, nobody, t.begun_is));
         clients = t.clients;
-        outcomes = λ p. rw way (outcome_of-push p (way_calls r) k ∙ rw (quiet p) (first_of-none (outcome_of p (way_calls r))) ∙ t.outcomes p);
-        steps = λ p. rw way (omega (arith, steps_of-push p (way_calls r) k, none p, t.steps p));
+        told = rw way (told_quiet place_by (λ _. 0) accesses_by (walkers w.participants) (way_calls r) t.told k none quiet);
       }
 
   -- a call of the others that is refused
@@ -199,8 +188,7 @@ module _ {S : Type 0} (memory : MemorySteps S TreeRegister TreeValue) (tree : Is
         consistent = t.consistent;
         begun_is = rw way t.begun_is;
         clients = t.clients;
-        outcomes = λ p. rw way (t.outcomes p);
-        steps = λ p. rw way (t.steps p);
+        told = rw way t.told;
       }
 
   -- who has been put in the place of one
@@ -231,8 +219,7 @@ module _ {S : Type 0} (memory : MemorySteps S TreeRegister TreeValue) (tree : Is
         consistent = rw (walks, many, most) (elsewhere memory w.most (length w.participants) w.memory (walkers w.participants) t.consistent new.memory marks xs ys);
         begun_is = rw way (t.begun_is ∙ sym many);
         clients = clients_put w id v after here new.participants put t.clients own;
-        outcomes = λ p. rw way (t.outcomes p ∙ ap (λ (f : ℕ → Option Walker). place_by (f p)) (sym walks));
-        steps = λ p. rw way (let same : accesses_by (walkers new.participants p) ≡ accesses_by (walkers w.participants p) = ap (λ (f : ℕ → Option Walker). accesses_by (f p)) walks in omega (arith, t.steps p, same));
+        told = rw (way, walks) t.told;
       }
 
   -- one who begins
@@ -245,8 +232,6 @@ module _ {S : Type 0} (memory : MemorySteps S TreeRegister TreeValue) (tree : Is
       let longer : length all ≡ suc (length w.participants) = omega (arith, length-append w.participants (beginner id (client_of id) ∷ [])) in
       let walks : walkers all ≡ set_at (walkers w.participants) id (Some (walk_of id)) = fun_ext (λ q. ap walker_in (push q) ∙ set_at-map walker_in (λ u. participant_of u w.participants) id (Some (beginner id (client_of id))) q) in
       let absent : walkers w.participants id ≡ None = rw in_.absent refl in
-      let same_place : (p : ℕ) → place_by (walkers w.participants p) ≡ place_by (walkers all p) = (λ p. same_in place_by (walkers w.participants) id (walk_of id) p absent refl ∙ ap (λ (f : ℕ → Option Walker). place_by (f p)) (sym walks)) in
-      let same_accesses : (p : ℕ) → accesses_by (walkers w.participants p) ≡ accesses_by (walkers all p) = (λ p. same_in accesses_by (walkers w.participants) id (walk_of id) p absent refl ∙ ap (λ (f : ℕ → Option Walker). accesses_by (f p)) (sym walks)) in
       record {
         consistent = rw (longer, walks) (begun memory w.most (length w.participants) w.memory (walkers w.participants) t.consistent id in_.not_zero absent in_.room);
         begun_is = rw way (omega (arith, begun_in-push (way_calls r) call, t.begun_is, longer));
@@ -254,8 +239,7 @@ module _ {S : Type 0} (memory : MemorySteps S TreeRegister TreeValue) (tree : Is
             (λ e k. let is : beginner id (client_of id) ≡ v = cc in subst (λ (u : Participant Client). IsClientOf p u) is (record { own = sym e; goes = refl; task = refl }))
             (λ _ k. t.clients p v k)
             (sym (push p) ∙ h);
-        outcomes = λ p. rw way (outcome_of-push p (way_calls r) call ∙ first_of-none (outcome_of p (way_calls r)) ∙ t.outcomes p ∙ same_place p);
-        steps = λ p. rw way (omega (arith, steps_of-push p (way_calls r) call, t.steps p, same_accesses p));
+        told = rw (way, walks) (told_begun place_by (λ _. 0) accesses_by (walkers w.participants) (way_calls r) t.told id (Some (walk_of id)) (ap place_by absent) (omega arith) (rw absent (omega arith)));
       }
 
   -- an accepted step on the way to a place
@@ -281,20 +265,7 @@ module _ {S : Type 0} (memory : MemorySteps S TreeRegister TreeValue) (tree : Is
       let put : (q : ℕ) → participant_of q all ≡ set_at (λ u. participant_of u w.participants) id (Some new) q = (λ q. participant_of-put w.participants new there q ∙ rw client.own refl) in
       let walks : walkers all ≡ set_at (walkers w.participants) id (Some (walker_after u got)) = walks_put w id v new here all put ∙ ap (λ (x : Walker). set_at (walkers w.participants) id (Some x)) walk_is in
       let many : length all ≡ length w.participants = length-with_participant w.participants new in
-      let own : walkers all id ≡ Some (walker_after u got) = ap (λ (f : ℕ → Option Walker). f id) walks ∙ set_at-same (walkers w.participants) id (Some (walker_after u got)) in
-      let others : (p : ℕ) → id ≢ p → walkers all p ≡ walkers w.participants p = (λ p n. ap (λ (f : ℕ → Option Walker). f p) walks ∙ set_at-other (walkers w.participants) id (Some (walker_after u got)) p (λ h. n (sym h))) in
-      let itself : (id == id) ≡ true = elim (eqb_tells id id) [ inl e ↦ e.0 | inr e ↦ absurd (e.1 refl) ] in
-      let own_place : outcome_of id (way_calls r ++ call ∷ []) ≡ place_by (walkers all id) =
-      (let before : outcome_of id (way_calls r) ≡ None = t.outcomes id ∙ ap place_by is ∙ on in
-      outcome_of-push id (way_calls r) call ∙ rw (before, itself) told_is ∙ ap place_by (sym own)) in
-      let own_steps : steps_of id (way_calls r ++ call ∷ []) ≤ accesses_by (walkers all id) =
-      (let one : steps_by id call ≡ 1 = rw itself refl in
       let more = nearer memory w.most (length w.participants) w.memory (walkers w.participants) t.consistent id u is on got in
-      let before : accesses_by (walkers w.participants id) ≡ accesses_of u = ap accesses_by is in
-      let now : accesses_by (walkers all id) ≡ accesses_of (walker_after u got) = ap accesses_by own in
-      let so_far = t.steps id in
-      let pushed = steps_of-push id (way_calls r) call in
-      omega (arith, one, more, before, now, so_far, pushed)) in
       let next_one : IsConsistent memory w.most (length w.participants) (memory.after w.memory (next_access u)) (set_at (walkers w.participants) id (Some (walker_after u got))) =
       subst (λ (a : Answer TreeValue). IsConsistent memory w.most (length w.participants) (memory.after w.memory (next_access u)) (set_at (walkers w.participants) id (Some (walker_after u a)))) (sym got_is) (gone_on memory w.most (length w.participants) w.memory (walkers w.participants) t.consistent tree id u is) in
       record {
@@ -307,17 +278,8 @@ module _ {S : Type 0} (memory : MemorySteps S TreeRegister TreeValue) (tree : Is
           goes = ap ends goes.1 ∙ placed_goes (walker_note u got);
           task = ap (λ (c : Client). is_placing c.task) goes.0 ∙ task_told (is_placed (walker_note u got)) v.program.task placing ∙ ap not (end_is_told u got on) ∙ ap (λ (x : Walker). not (is_some (place_of x))) (sym walk_is);
         });
-        outcomes = λ p. rw way (elim (eqb_tells id p) [
-          | inl e ↦ subst (λ (x : ℕ). outcome_of x (way_calls r ++ call ∷ []) ≡ place_by (walkers all x)) e.1 own_place
-          | inr e ↦ outcome_of-push p (way_calls r) call ∙ rw e.0 (first_of-none (outcome_of p (way_calls r))) ∙ t.outcomes p ∙ ap place_by (sym (others p e.1))
-        ]);
-        steps = λ p. rw way (elim (eqb_tells id p) [
-          | inl e ↦ subst (λ (x : ℕ). steps_of x (way_calls r ++ call ∷ []) ≤ accesses_by (walkers all x)) e.1 own_steps
-          | inr e ↦
-              let none : steps_by p call ≡ 0 = rw e.0 refl in
-              let same : accesses_by (walkers all p) ≡ accesses_by (walkers w.participants p) = ap accesses_by (others p e.1) in
-              omega (arith, steps_of-push p (way_calls r) call, t.steps p, none, same)
-        ]);
+        told = rw (way, walks) (told_stepped place_by (λ _. 0) accesses_by (walkers w.participants) (way_calls r) t.told id (Some (walker_after u got)) (place_told (client_note v.program got))
+            (ap place_by is ∙ on) told_is (omega arith) (rw is more));
       }
 
   -- an access that leaves marks, X and Y leaves their words
@@ -450,8 +412,7 @@ module _ {S : Type 0} (memory : MemorySteps S TreeRegister TreeValue) (tree : Is
     consistent = consistent_new memory most first empty few;
     begun_is = refl;
     clients = λ p v h. absurd (cc);
-    outcomes = λ p. refl;
-    steps = λ p. omega arith;
+    told = record { outcomes = λ p. refl; at_least = λ p. omega arith; at_most = λ p. omega arith };
   }
 
   -- a world that is after these calls is tied to them
@@ -467,9 +428,9 @@ module _ {S : Type 0} (memory : MemorySteps S TreeRegister TreeValue) (tree : Is
   law_of_tied w r t once =
       let law = tree_of_tied w r t in
       record {
-        distinct = λ p q place h k. law.distinct p q place (sym (t.outcomes p) ∙ h) (sym (t.outcomes q) ∙ k);
-        within = λ p place h. law.within p place (sym (t.outcomes p) ∙ h);
-        at_most = λ p. omega (arith, t.steps p, law.at_most p);
-        last_places = λ p some all. rw (t.outcomes p) (law.last_places p (omega (arith, t.steps p, some)) (omega (arith, t.steps p, law.at_most p, all)));
+        distinct = λ p q place h k. law.distinct p q place (sym (t.told.outcomes p) ∙ h) (sym (t.told.outcomes q) ∙ k);
+        within = λ p place h. law.within p place (sym (t.told.outcomes p) ∙ h);
+        at_most = λ p. omega (arith, t.told.at_most p, law.at_most p);
+        last_places = λ p some all. rw (t.told.outcomes p) (law.last_places p (omega (arith, t.told.at_most p, some)) (omega (arith, t.told.at_most p, law.at_most p, all)));
         ends_once = once;
       }

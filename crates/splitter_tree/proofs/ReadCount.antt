@@ -5,7 +5,7 @@ use Rattle.step_memory.specs.SetAt.{set_at}
 use Rattle.splitter_tree.specs.declared.register.TreeValue.{TreeValue}
 use Rattle.splitter_tree.specs.declared.collect_walk.CollectWalk.{CollectWalk}
 use Rattle.splitter_tree.specs.CollectWalk.{first_walk, place_read, walk_at, node_after, finds_mark, walk_resumed, walk_is_over}
-use Rattle.splitter_tree.specs.Count.{count_to}
+use Rattle.step_memory.specs.Count.{count_to}
 use Rattle.splitter_tree.specs.NodeOrder.{IsUnder, IsRightOf, IsFrom}
 use Rattle.splitter_tree.specs.Ahead.{Sees, HasGrown, HasRead, IsUpcoming, open_at}
 use Rattle.step_memory.proofs.CountLemmas.{count_none, count_le, count_more}

@@ -12,7 +12,7 @@ use Rattle.splitter_tree.specs.declared.collect.Collect.{Collect}
 use Rattle.splitter_tree.specs.TreeMemory.{segment_in}
 use Rattle.splitter_tree.specs.CollectWalk.{place_read, finds_mark, walk_resumed, walk_is_over}
 use Rattle.splitter_tree.specs.Collect.{first_collect, view_with, collect_after}
-use Rattle.splitter_tree.specs.Count.{count_to}
+use Rattle.step_memory.specs.Count.{count_to}
 use Rattle.splitter_tree.specs.NodeOrder.{IsUnder}
 use Rattle.splitter_tree.specs.Ahead.{Sees, HasGrown, HasRead, IsPathMarked, IsUpcoming, IsAhead}
 use Rattle.step_memory.proofs.CountLemmas.{count_le, count_more}

@@ -8,7 +8,7 @@ use Rattle.splitter_tree.specs.declared.collect_walk.CollectWalk.{CollectWalk}
 use Rattle.splitter_tree.specs.CollectWalk.{numbers, register_read, is_mark}
 use Rattle.splitter_tree.specs.TreeMemory.{mark_at}
 use Rattle.splitter_tree.specs.NodeOrder.{IsUnder, IsFrom}
-use Rattle.splitter_tree.specs.Count.{count_to}
+use Rattle.step_memory.specs.Count.{count_to}
 
 module _ {S : Type 0} (memory : MemorySteps S TreeRegister TreeValue) where
   -- which nodes are marked

@@ -3,16 +3,17 @@ use Rattle.std.specs.Prelude.{◌≡◌, ◌≢◌, ℕ, ◌+◌, ◌-◌, ◌*�
 use Rattle.std.proofs.Common.{get_or}
 use Rattle.step_memory.specs.Steps.{MemorySteps}
 use Rattle.splitter.specs.declared.stage.Stage.{Stage}
-use Rattle.splitter.specs.declared.stage.Stage.TheVariants.{Outside, WroteX, SawClear, WroteY, Gone}
+use Rattle.splitter.specs.declared.stage.Stage.TheVariants.{Outside}
 use Rattle.splitter.specs.Stage.{has_entered, went_right, went_down}
 use Rattle.splitter.specs.Door.{DoorIsLawful}
+use Rattle.splitter.specs.Walk.{accesses_at}
 use Rattle.splitter_tree.specs.declared.register.TreeRegister.{TreeRegister}
 use Rattle.splitter_tree.specs.declared.register.TreeRegister.TheVariants.{X, Y}
 use Rattle.splitter_tree.specs.declared.register.TreeValue.{TreeValue}
 use Rattle.splitter_tree.specs.declared.walker.Walker.{Walker}
 use Rattle.splitter_tree.specs.TreeMemory.{mark_at, x_at, y_at}
 use Rattle.splitter_tree.specs.Walk.{place_by}
-use Rattle.splitter_tree.specs.Count.{count_to}
+use Rattle.step_memory.specs.Count.{count_to}
 use Rattle.splitter_tree.specs.Depth.{depth_of, IsNodeWithin}
 use Rattle.splitter_tree.specs.NodeOrder.{IsUnder}
 use Rattle.splitter_tree.specs.Law.{AreDistinct}
@@ -56,16 +57,9 @@ pub record NodesAgree (b : ℕ) (mark x_of y_of : ℕ → ℕ) (walker : ℕ →
   pub marked : (k p : ℕ) → has_entered (stage k p) ≡ true → mark k ≡ 1
   pub marker : (k : ℕ) → mark k ≢ 0 → (p : ℕ) × (came k p ≡ true)
 
-abbrev pub accesses_at : Stage → ℕ
-accesses_at Outside = 1
-accesses_at WroteX = 2
-accesses_at SawClear = 3
-accesses_at WroteY = 4
-accesses_at (Gone way) = 5
-
 -- the most accesses that a walk which stands here has made: five at each node that it passed, and those at its node
 abbrev pub accesses_of : Walker → ℕ
-accesses_of u = 5 * depth_of u.place + (if u.is_marking then 0 else accesses_at u.visitor.stage)
+accesses_of u = 5 * depth_of u.place + (if u.is_marking then 0 else accesses_at u.visitor.stage + 1)
 
 abbrev pub accesses_by : Option Walker → ℕ
 accesses_by None = 0

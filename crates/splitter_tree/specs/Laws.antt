@@ -2,19 +2,19 @@
 use Rattle.step_memory.specs.declared.refusal.Refusal.{Refusal}
 use Rattle.splitter_tree.specs.TreeSteps.{tree_steps}
 use Rattle.step_memory.specs.Locality.{LookAlike, StandAlike}
-use Rattle.std.specs.Prelude.{◌≡◌, ◌≢◌, ℕ, ◌+◌, ◌*◌, ◌≤◌, ◌<◌, true, ◌⊎◌, ◌↔◌, Option, Some, None, ◌-◌, Bool, false, if◌then◌else◌, List, not, is_some, length, ◌∷◌, ◌++◌, Ok, Result}
-use Rattle.splitter_tree.specs.Ahead.{HasGrown, HasRead, marked_in, IsAhead, Sees}
+use Rattle.std.specs.Prelude.{◌≡◌, ◌≢◌, ℕ, ◌+◌, ◌*◌, ◌≤◌, ◌<◌, true, ◌⊎◌, ◌↔◌, Option, Some, None, ◌-◌, Bool, false, if◌then◌else◌, List, not, is_some, length, [], ◌∷◌, ◌++◌, Ok, Err, Result}
+use Rattle.splitter_tree.specs.Ahead.{HasGrown, HasRead, marked_in, IsAhead, IsUpcoming, Sees}
 use Rattle.splitter_tree.specs.Client.{is_placing, client_access, client_steps}
 use Rattle.splitter_tree.specs.CollectLaw.{Allows, CollectObject, KeepsCollectLaw, new_object, observed}
 use Rattle.splitter_tree.specs.CollectWalk.{first_walk, place_read, finds_mark, walk_resumed, walk_is_over}
 use Rattle.splitter_tree.specs.Consistent.{IsConsistent, IsTree, accesses_of}
-use Rattle.splitter_tree.specs.Count.{count_to}
+use Rattle.step_memory.specs.Count.{count_to}
 use Rattle.splitter_tree.specs.Depth.{IsNodeWithin}
 use Rattle.splitter_tree.specs.Made.{WasMade}
 use Rattle.splitter_tree.specs.PlacesLaw.{way_calls, KeepsPlacesLaw, walkers}
 use Rattle.splitter_tree.specs.Run.{After, TreeWorldState}
-use Rattle.splitter_tree.specs.TreeCalls.{TreeCall, IsAfter}
-use Rattle.splitter_tree.specs.TreeCalls.TreeCall.{Stepped}
+use Rattle.splitter_tree.specs.TreeCalls.{TreeCall, IsAfter, IsReply, next}
+use Rattle.splitter_tree.specs.TreeCalls.TreeCall.{Began, Stepped}
 use Rattle.splitter_tree.specs.TreeDue.{TreeRefusesAsDue}
 use Rattle.splitter_tree.specs.TreeMemory.{IsTreeMemory, IsEmptyTree, mark_at, x_at, y_at, segment_at}
 use Rattle.splitter_tree.specs.TreeWorld.{TreeState, place_answer, after_placing, after_collecting}
@@ -56,6 +56,18 @@ AgreesAfterAccess S =
     (memory : MemorySteps S TreeRegister TreeValue) (most b : ℕ) (s : S) (walker : ℕ → Option Walker) (p : ℕ) (u : Walker) → IsTreeMemory memory →
     IsConsistent memory most b s walker → walker p ≡ Some u →
     IsConsistent memory most b (memory.after s (next_access u)) (set_at walker p (Some (walker_after u (answer_from (memory.register s) (next_access u)))))
+
+-- the segment that a walk reads next is upcoming
+abbrev pub IsUpcomingWhenRead : Type 0
+IsUpcomingWhenRead = (marked : ℕ → Bool) (w : CollectWalk) (nodes reads q : ℕ) → HasRead marked w nodes reads → place_read w ≡ Some q → IsUpcoming w q
+
+-- a call that gets a right reply leads on
+abbrev pub CallLeadsOn : Type 0
+CallLeadsOn = (w : TreeWorldState) (r : List TreeCall) (h : TreeCall) → IsReply tree_steps w h → After w r → After (next tree_steps w h) (r ++ h ∷ [])
+
+-- the first to begin is not refused
+abbrev pub LetsTheFirstIn : Type 0
+LetsTheFirstIn = (most p : ℕ) (why : Refusal) (rest : List TreeCall) → 1 ≤ most → p ≢ 0 → TreeRefusesAsDue most (Began p (Err why) ∷ rest) → ⊥
 
 -- nodes and walks agree in every memory with the same marks, X and Y
 abbrev pub AgreesElsewhere : (S : Type 0) → Type 0

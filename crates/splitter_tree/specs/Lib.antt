@@ -1,7 +1,6 @@
 pub mod Law
 pub mod Depth
 pub mod NodeOrder
-pub mod Count
 pub mod TreeMemory
 pub mod Walk
 pub mod Consistent

@@ -1,16 +1,15 @@
 -- a walk from node to node of a tree
-use Rattle.std.specs.Prelude.{◌≡◌, ℕ, ◌+◌, ◌-◌, ◌*◌, ◌^◌, min, true, false, if◌then◌else◌, Option, Some, None}
+use Rattle.std.specs.Prelude.{◌≡◌, ℕ, ◌+◌, ◌-◌, ◌*◌, ◌^◌, min, true, false, if◌then◌else◌, Option, option_and_then}
 use Rattle.step_memory.specs.declared.access.Access.{Access}
 use Rattle.step_memory.specs.declared.access.Access.TheVariants.{Read, Write, TestAndSet, Clear, Nothing}
 use Rattle.step_memory.specs.declared.access.Answer.{Answer}
 use Rattle.step_memory.specs.declared.access.Answer.TheVariants.{Value, WasSet, Done}
 use Rattle.step_memory.specs.declared.note.Note.{Note}
-use Rattle.step_memory.specs.declared.note.Note.TheVariants.{Quiet, Ended}
+use Rattle.step_memory.specs.declared.note.Note.TheVariants.{Quiet}
 use Rattle.step_memory.specs.Steps.{ProgramSteps}
-use Rattle.splitter.specs.declared.way.Way.TheVariants.{Stop, Right, Down}
 use Rattle.splitter.specs.declared.stage.Stage.{Stage}
-use Rattle.splitter.specs.declared.stage.Stage.TheVariants.{Outside, WroteX, SawClear, WroteY, Gone}
 use Rattle.splitter.specs.Visitor.{access_of, visitor_at, stage_by}
+use Rattle.splitter.specs.Walk.{gone_on, note_at_door, place_at_door}
 use Rattle.splitter_tree.specs.declared.register.TreeRegister.{TreeRegister}
 use Rattle.splitter_tree.specs.declared.register.TreeRegister.TheVariants.{Mark, X, Y}
 use Rattle.splitter_tree.specs.declared.register.TreeValue.{TreeValue}
@@ -57,50 +56,25 @@ visit_on u s = record u { visitor = record u.visitor { stage = s } }
 
 -- the walk whose visit has come this far: from a visit that ends right or down it stands before the next node
 abbrev pub walked_to : Walker → Stage → Walker
-walked_to u Outside = visit_on u Outside
-walked_to u WroteX = visit_on u WroteX
-walked_to u SawClear = visit_on u SawClear
-walked_to u WroteY = visit_on u WroteY
-walked_to u (Gone Stop) = visit_on u (Gone Stop)
-walked_to u (Gone Right) = walker_at u.visitor.identity (right_child u.place)
-walked_to u (Gone Down) = walker_at u.visitor.identity (left_child u.place)
+walked_to u s = gone_on (visit_on u) (walker_at u.visitor.identity (right_child u.place)) (walker_at u.visitor.identity (left_child u.place)) s
 
 -- the walk after an answer
 abbrev pub walker_after : Walker → Answer TreeValue → Walker
 walker_after u got = if u.is_marking then record u { is_marking = false } else walked_to u (stage_by u.visitor (told got))
 
--- what a walk says where its visit has come this far
-abbrev pub note_at_node : ℕ → Stage → Note ℕ
-note_at_node k Outside = Quiet
-note_at_node k WroteX = Quiet
-note_at_node k SawClear = Quiet
-note_at_node k WroteY = Quiet
-note_at_node k (Gone Stop) = Ended k
-note_at_node k (Gone Right) = Quiet
-note_at_node k (Gone Down) = Quiet
-
+-- what a walk says after an answer
 abbrev pub walker_note : Walker → Answer TreeValue → Note ℕ
-walker_note u got = if u.is_marking then Quiet else note_at_node u.place (stage_by u.visitor (told got))
+walker_note u got = if u.is_marking then Quiet else note_at_door u.place (stage_by u.visitor (told got))
 
 abbrev pub walker_steps : ProgramSteps Walker TreeRegister TreeValue ℕ
 walker_steps = record { next = next_access; resumed = walker_after; note = walker_note }
 
-abbrev pub place_at_node : ℕ → Stage → Option ℕ
-place_at_node k Outside = None
-place_at_node k WroteX = None
-place_at_node k SawClear = None
-place_at_node k WroteY = None
-place_at_node k (Gone Stop) = Some k
-place_at_node k (Gone Right) = None
-place_at_node k (Gone Down) = None
-
 -- the place at which a walk has ended
 abbrev pub place_of : Walker → Option ℕ
-place_of u = place_at_node u.place u.visitor.stage
+place_of u = place_at_door u.place u.visitor.stage
 
 abbrev pub place_by : Option Walker → Option ℕ
-place_by None = None
-place_by (Some u) = place_of u
+place_by walk = option_and_then place_of walk
 
 -- the walk's visit is to the registers of the node before which it stands
 pub record StandsAtNode (u : Walker) : Type 0 where

@@ -1,22 +1,19 @@
 //! Laws of the tree, which run nothing: of its registers and the walks alone, of collects, and of the calls of its world.
 
-ghost use Rattle.std.specs.Prelude.{◌≡◌, ◌≢◌, ℕ, ◌+◌, ◌*◌, ◌≤◌, ◌<◌, Some, ◌-◌, Bool, List, not, [], ◌∷◌, ◌++◌, Err};
-ghost use Rattle.splitter_tree.specs.Laws.{AgreesWhenEmpty, AgreesWithBeginner, AgreesAfterAccess, AgreesElsewhere, WalksKeepTreeLaw, ComesNearer, HasAccessesLeft, EndsAtPlace, WalkKeepsSegments, WalkMarksItsNode, RefusedAtNewNode, ReadsWhatIsAhead, KeepsReads, CountsOneRead, FindsFewNodes, PlacesAreAhead, ReadsFew, WalkAddsMarks, WriteAddsMarks, CollectsAreLawful, CollectHasRead, PlacesAreLawful, NodesAgreeWithWalks, NodesAreTree, PlacesAreTold, IsOnTheWay, NeverEnds, RefusalsAreDue, MarksWhatWasMade, MakesNodesWithin, TellsOnePlace, WritesOwnSegment, StandsAtItsNode};
+ghost use Rattle.std.specs.Prelude.{◌≡◌, ℕ, ◌+◌, ◌*◌, ◌≤◌, Some, Bool, List, [], ◌++◌};
+ghost use Rattle.splitter_tree.specs.Laws.{IsUpcomingWhenRead, CallLeadsOn, LetsTheFirstIn, AgreesWhenEmpty, AgreesWithBeginner, AgreesAfterAccess, AgreesElsewhere, WalksKeepTreeLaw, ComesNearer, HasAccessesLeft, EndsAtPlace, WalkKeepsSegments, WalkMarksItsNode, RefusedAtNewNode, ReadsWhatIsAhead, KeepsReads, CountsOneRead, FindsFewNodes, PlacesAreAhead, ReadsFew, WalkAddsMarks, WriteAddsMarks, CollectsAreLawful, CollectHasRead, PlacesAreLawful, NodesAgreeWithWalks, NodesAreTree, PlacesAreTold, IsOnTheWay, NeverEnds, RefusalsAreDue, MarksWhatWasMade, MakesNodesWithin, TellsOnePlace, WritesOwnSegment, StandsAtItsNode};
 ghost use Rattle.splitter_tree.specs.Ahead.{HasGrown, HasRead, marked_in, found_by, IsAhead, IsPathMarked, IsUpcoming, Sees};
 ghost use Rattle.splitter_tree.specs.Client.{client_access};
 ghost use Rattle.splitter_tree.specs.CollectWalk.{first_walk, register_read, place_read, walk_resumed};
 ghost use Rattle.splitter_tree.specs.Run.{After, IsLawful, KeepsTreeCallsLaw, RefusesWhereDue, TreeWorldState};
-ghost use Rattle.splitter_tree.specs.TreeCalls.{TreeCall, IsReply, next};
-ghost use Rattle.splitter_tree.specs.TreeCalls.TreeCall.{Began};
-ghost use Rattle.splitter_tree.specs.TreeDue.{TreeRefusesAsDue};
-ghost use Rattle.splitter_tree.specs.TreeSteps.{empty_tree, tree_steps};
+ghost use Rattle.splitter_tree.specs.TreeCalls.{TreeCall};
+ghost use Rattle.splitter_tree.specs.TreeSteps.{empty_tree};
 ghost use Rattle.splitter_tree.specs.declared.client.Client.{Client};
 ghost use Rattle.splitter_tree.specs.declared.collect_walk.CollectWalk.{CollectWalk};
 ghost use Rattle.splitter_tree.specs.declared.register.TreeRegister.{TreeRegister};
 ghost use Rattle.splitter_tree.specs.declared.register.TreeRegister.TheVariants.{Contents};
 ghost use Rattle.splitter_tree.specs.declared.register.TreeValue.{TreeValue};
 ghost use Rattle.step_memory.specs.Steps.{MemorySteps, ReadsOrWrites};
-ghost use Rattle.step_memory.specs.declared.refusal.Refusal.{Refusal};
 
 /// A law, which runs nothing: a tree of no nodes is consistent with no walks; one who begins, each access of a walk that
 /// was not refused, and whatever leaves the marks, X and Y of the nodes as they are keep nodes and walks
@@ -51,7 +48,7 @@ pub fn law_of_collects()
     ensures upcoming { (w : CollectWalk) (got : TreeValue) (q : ℕ) → IsUpcoming (walk_resumed w got) q → IsUpcoming w q }
     ensures once { (w : CollectWalk) (got : TreeValue) (q : ℕ) → place_read w ≡ Some q → IsUpcoming (walk_resumed w got) q → ⊥ }
 
-    ensures here { (marked : ℕ → Bool) (w : CollectWalk) (nodes reads q : ℕ) → HasRead marked w nodes reads → place_read w ≡ Some q → IsUpcoming w q }
+    ensures here { IsUpcomingWhenRead }
 
     // The reads.
     ensures none_read { (marked : ℕ → Bool) → HasRead marked first_walk 0 0 }
@@ -104,12 +101,12 @@ pub fn law_of_places<S>()
 /// refuses whoever comes first is refused where nothing is due.
 pub fn law_of_tree_calls()
     ensures fresh { (most : ℕ) → most ≤ 16 → After (record { memory = empty_tree; most = most; participants = [] }) [] }
-    ensures next { (w : TreeWorldState) (r : List TreeCall) (h : TreeCall) → IsReply tree_steps w h → After w r → After (next tree_steps w h) (r ++ h ∷ []) }
+    ensures next { CallLeadsOn }
     ensures law { (w : TreeWorldState) → IsLawful w }
     ensures front { (w : TreeWorldState) (r t : List TreeCall) → After w (r ++ t) → KeepsTreeCallsLaw r }
     ensures due { (w : TreeWorldState) → RefusesWhereDue w }
     ensures one_place { TellsOnePlace }
-    ensures not_refused { (most p : ℕ) (why : Refusal) (rest : List TreeCall) → 1 ≤ most → p ≢ 0 → TreeRefusesAsDue most (Began p (Err why) ∷ rest) → ⊥ }
+    ensures not_refused { LetsTheFirstIn }
 {}
 
 /// A law, which runs nothing: an access of a participant reads or writes a register, or reaches none; and the one who

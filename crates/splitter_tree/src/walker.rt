@@ -4,7 +4,7 @@ ghost use Rattle.std.specs.Prelude.{◌≡◌};
 ghost use Rattle.splitter_tree.specs.Walk.{left_child, right_child, in_words, told, walker_at, walk_of, walker_steps, next_access, walker_after, walker_note, place_of};
 
 use crate::register::{TreeRegister, TreeValue};
-use splitter::{Stage, Visitor, Way};
+use splitter::{Visitor, Way};
 use step_memory::{Access, Answer, Note, Place, StepProgram};
 
 /// The node at which every walk begins.
@@ -87,11 +87,7 @@ impl Walker {
     pub fn place(&self) -> Option<Place>
         ensures { result ≡ place_of self.now }
     {
-        match self.visitor.stage {
-            Stage::Gone(Way::Stop) => Some(self.place),
-            Stage::Gone(Way::Right) | Stage::Gone(Way::Down) => None,
-            Stage::Outside | Stage::WroteX | Stage::SawClear | Stage::WroteY => None,
-        }
+        self.visitor.stage.place_at(self.place)
     }
 }
 

@@ -1,3 +1,4 @@
+pub mod Roster
 pub mod Found
 pub mod SetAtLemmas
 pub mod CountLemmas
@@ -6,5 +7,6 @@ pub mod StepLemmas
 pub mod LocalityLemmas
 pub mod RunLemmas
 pub mod WorldKeeps
+pub mod ToldLemmas
 pub mod DueLemmas
 pub mod ViewLemmas

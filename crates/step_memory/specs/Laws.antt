@@ -1,21 +1,53 @@
 -- what the laws of this crate say, each under a name
-use Rattle.std.specs.Prelude.{◌≡◌, ◌≢◌, ℕ, ◌+◌, ◌<◌, ◌≤◌, [], ◌∷◌, ◌++◌, Bool, true, false, List, Option, Some, None, Ok, Err, Result, is_some, IsSome, Contains, length}
+use Rattle.std.specs.Prelude.{◌≡◌, ◌≢◌, ◌==◌, if◌then◌else◌, ℕ, ◌+◌, ◌<◌, ◌≤◌, [], ◌∷◌, ◌++◌, Bool, true, false, List, Option, Some, None, Ok, Err, Result, is_some, IsSome, Contains, length}
+use Rattle.std.proofs.Common.{get_or}
 use Rattle.step_memory.specs.Count.{count_to}
 use Rattle.step_memory.specs.SetAt.{set_at}
+use Rattle.step_memory.specs.Roster.{index_by, seen_by, replaced_by, StandsAt}
 use Rattle.step_memory.specs.Participant.{participant_of, with_participant, resumed}
 use Rattle.step_memory.specs.Steps.{ProgramSteps, MemorySteps}
 use Rattle.step_memory.specs.WorldState.{WorldState}
 use Rattle.step_memory.specs.World.{begin_refusal, done_unless, after_begin, step_answer, after_step, got_by}
-use Rattle.step_memory.specs.Calls.{Call, next, IsReply, IsAfter, begun_in, reply_of, lacked_memory}
+use Rattle.step_memory.specs.Calls.{Call, next, IsReply, IsAfter, begun_in, reply_of, lacked_memory, steps_by, outcome_of, outcome_by, first_of}
 use Rattle.step_memory.specs.Calls.Call.{Began, Stepped}
 use Rattle.step_memory.specs.Locality.{LookAlike, StandAlike}
 use Rattle.step_memory.specs.Runs.{Run}
 use Rattle.step_memory.specs.Replay.{replay}
+use Rattle.step_memory.specs.Told.{Tells}
 use Rattle.step_memory.specs.Due.{RefusesAsDue, EndsOnce, TellsTheEnd, GrowsOnly}
-use Rattle.step_memory.specs.View.{IsRising, value_of}
+use Rattle.step_memory.specs.View.{IsRising, value_of, inserted}
 use Rattle.step_memory.specs.declared.note.Note.{Note}
 use Rattle.step_memory.specs.declared.participant.Participant.{Participant}
 use Rattle.step_memory.specs.declared.refusal.Refusal.{Refusal}
+
+-- an entry whose index was found in what is shown of entries is the one that is seen under its identity
+abbrev pub FindsEntry : (X Y : Type 0) → Type 0
+FindsEntry X Y =
+    (identity : X → ℕ) (seen : X → Y) (id : ℕ) (shown items xs : List X) (i : ℕ) (x : X) → shown ≡ items → items ≡ xs →
+    Some i ≡ index_by identity id shown → x ≡ get_or items i x → StandsAt identity seen id xs i x
+
+-- where no index was found none is seen
+abbrev pub FindsNoEntry : (X Y : Type 0) → Type 0
+FindsNoEntry X Y =
+    (identity : X → ℕ) (seen : X → Y) (id : ℕ) (shown items xs : List X) → shown ≡ items → items ≡ xs →
+    None ≡ index_by identity id shown → seen_by identity seen id xs ≡ None
+
+-- an index is found exactly where an entry is seen
+abbrev pub FindsWhatIsSeen : (X Y : Type 0) → Type 0
+FindsWhatIsSeen X Y =
+    (identity : X → ℕ) (seen : X → Y) (id : ℕ) (xs : List X) → is_some (index_by identity id xs) ≡ is_some (seen_by identity seen id xs)
+
+-- after one more entry was added its identity sees it, and each other what it saw
+abbrev pub SeesAdded : (X Y : Type 0) → Type 0
+SeesAdded X Y =
+    (identity : X → ℕ) (seen : X → Y) (xs : List X) (new : X) → seen_by identity seen (identity new) xs ≡ None → (q : ℕ) →
+    seen_by identity seen q (xs ++ new ∷ []) ≡ set_at (λ v. seen_by identity seen v xs) (identity new) (Some (seen new)) q
+
+-- after one was put in the place of another of its identity this sees it, and each other what it saw
+abbrev pub SeesReplaced : (X Y : Type 0) → Type 0
+SeesReplaced X Y =
+    (identity : X → ℕ) (seen : X → Y) (xs : List X) (new : X) → is_some (seen_by identity seen (identity new) xs) ≡ true → (q : ℕ) →
+    seen_by identity seen q (replaced_by identity new xs) ≡ set_at (λ v. seen_by identity seen v xs) (identity new) (Some (seen new)) q
 
 -- what is seen alike of nothing and of what is put where nothing was is as before
 abbrev pub ShowsNoNewcomer : (X Y : Type 0) → Type 0
@@ -69,6 +101,26 @@ abbrev pub AnswersWithMemory : (P S R V O X : Type 0) → Type 0
 AnswersWithMemory P S R V O X =
     (program : ProgramSteps P R V O) (memory : MemorySteps S R V) (shown : Note O → X) (w : WorldState S P) (id : ℕ) →
     lacked_memory (reply_of shown (step_answer program memory w id)) ≡ false
+
+-- a call that is no accepted step tells nothing of how participants stand
+abbrev pub TellsNothing : (Z O : Type 0) → Type 0
+TellsNothing Z O =
+    (say : Z → Option O) (least most : Z → ℕ) (stands : ℕ → Z) (r : List (Call (Option O))) → Tells say least most stands r →
+    (h : Call (Option O)) → ((p : ℕ) → steps_by p h ≡ 0) → ((p : ℕ) → outcome_by p h ≡ None) → Tells say least most stands (r ++ h ∷ [])
+
+-- who begins has made no step, and stands as one who has not begun
+abbrev pub TellsOfBeginner : (Z O : Type 0) → Type 0
+TellsOfBeginner Z O =
+    (say : Z → Option O) (least most : Z → ℕ) (stands : ℕ → Z) (r : List (Call (Option O))) → Tells say least most stands r →
+    (id : ℕ) (new : Z) → say (stands id) ≡ say new → least new ≤ least (stands id) → most (stands id) ≤ most new →
+    Tells say least most (set_at stands id new) (r ++ Began id (Ok tt) ∷ [])
+
+-- a step of one who has no outcome yet tells the outcome of who then stands so
+abbrev pub TellsOfStep : (Z O : Type 0) → Type 0
+TellsOfStep Z O =
+    (say : Z → Option O) (least most : Z → ℕ) (stands : ℕ → Z) (r : List (Call (Option O))) → Tells say least most stands r →
+    (id : ℕ) (new : Z) (said : Option O) → say (stands id) ≡ None → said ≡ say new → least new ≤ least (stands id) + 1 →
+    most (stands id) + 1 ≤ most new → Tells say least most (set_at stands id new) (r ++ Stepped id (Ok said) ∷ [])
 
 -- a call that gets a right reply leads on
 abbrev pub CallLeadsOn : (P S R V O X : Type 0) → Type 0
@@ -159,6 +211,21 @@ StandsBeforeLast P S R V O X =
     P) (first : S) (w : WorldState S P) (r : List (Call X)) (h : Call X) → IsAfter program memory shown start first w (r ++ h ∷ []) →
     (mid : WorldState S P) × (mid.most ≡ w.most) × IsAfter program memory shown start first mid r × IsReply program memory shown start mid h
     × (w ≡ next program memory shown start mid h)
+
+-- the outcome of p's program is the one that was told before one more call, else the one that this tells
+abbrev pub KeepsTheFirstOutcome : (X : Type 0) → Type 0
+KeepsTheFirstOutcome X =
+    (p : ℕ) (r : List (Call (Option X))) (h : Call (Option X)) → outcome_of p (r ++ h ∷ []) ≡ first_of (outcome_of p r) (outcome_by p h)
+
+-- after an insertion an identity has the value that was inserted under it, and each other the one that it had
+abbrev pub HasWhatWasInserted : Type 0
+HasWhatWasInserted =
+    (q : ℕ) (pairs : List (ℕ × ℕ)) (new : ℕ × ℕ) → value_of q (inserted pairs new) ≡ (if new.0 == q then Some new.1 else value_of q pairs)
+
+-- rising pairs are equal where each identity has the same value in both
+abbrev pub AreToldByValues : Type 0
+AreToldByValues =
+    (one other : List (ℕ × ℕ)) → IsRising one → IsRising other → ((q : ℕ) → value_of q one ≡ value_of q other) → one ≡ other
 
 -- in two worlds that look alike to a participant it is answered alike
 abbrev pub AnswersAlike : (P S R V O : Type 0) → Type 0

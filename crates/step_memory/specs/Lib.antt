@@ -4,6 +4,7 @@ pub mod Steps
 pub mod RegisterState
 pub mod Registers
 pub mod RegisterLaws
+pub mod Roster
 pub mod Participant
 pub mod WorldState
 pub mod World
@@ -13,6 +14,7 @@ pub mod SetAt
 pub mod Count
 pub mod Distinct
 pub mod Calls
+pub mod Told
 pub mod Due
 pub mod Replay
 pub mod View

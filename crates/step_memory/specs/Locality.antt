@@ -1,10 +1,13 @@
 -- locality: a participant sees of the others what stands in the register that it reads, and leaves of the world what it
 -- does not write (this project's profile)
-use Rattle.std.specs.Prelude.{◌≡◌, ◌≢◌, ℕ, Some, None}
+use Rattle.std.specs.Prelude.{◌≡◌, ◌≢◌, ℕ, Some, None, Result}
 use Rattle.step_memory.specs.declared.access.Access.TheVariants.{Read}
+use Rattle.step_memory.specs.declared.note.Note.{Note}
 use Rattle.step_memory.specs.declared.participant.Participant.{Participant}
+use Rattle.step_memory.specs.declared.refusal.Refusal.{Refusal}
 use Rattle.step_memory.specs.Participant.{participant_of}
 use Rattle.step_memory.specs.Steps.{ProgramSteps, MemorySteps, Spares, AgreeAt}
+use Rattle.step_memory.specs.World.{step_answer}
 use Rattle.step_memory.specs.WorldState.{WorldState}
 
 -- p stands alike in two worlds
@@ -26,6 +29,10 @@ module _ {P S R V O : Type 0} (program : ProgramSteps P R V O) (memory : MemoryS
     pub participant : participant_of p one.participants ≡ participant_of p other.participants
     pub register : (v : Participant P) → participant_of p one.participants ≡ Some v →
         AgreeAt (memory.register one.memory) (memory.register other.memory) (program.next v.program)
+
+  -- in each world that looks alike to p a step of p is answered so
+  abbrev pub IsAnsweredAlike : ℕ → WorldState S P → Result (Note O) Refusal → Type 0
+  IsAnsweredAlike p one reply = (other : WorldState S P) → LookAlike p one other → reply ≡ step_answer program memory other p
 
 -- p has begun, and its next access is a read
 abbrev pub ReadsNext : {P S R V O : Type 0} → ProgramSteps P R V O → WorldState S P → ℕ → Type 0

@@ -36,14 +36,14 @@ pub mod world;
 pub use access::{Access, Answer};
 pub use laws::{
     law_of_beginners, law_of_call_counts, law_of_counts, law_of_locality, law_of_one_place,
-    law_of_participants, law_of_refusals, law_of_replies, law_of_runs, law_of_steps, law_of_views,
-    law_of_what_is_seen, law_of_worlds,
+    law_of_participants, law_of_refusals, law_of_replies, law_of_rosters, law_of_runs,
+    law_of_steps, law_of_told_outcomes, law_of_views, law_of_what_is_seen, law_of_worlds,
 };
 pub use memory::{Memory, StepMemory};
 pub use note::Note;
 pub use participant::Participant;
 pub use place::Place;
-pub use program::{Request, StepProgram};
+pub use program::{Replace, Request, StepProgram};
 pub use record::{Record, Segment};
 pub use refusal::{NoMemory, Refusal};
 pub use view::View;

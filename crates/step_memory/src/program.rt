@@ -64,3 +64,21 @@ pub trait Request<P> {
         requires { can_ask self program.old }
         ensures { program.new ≡ asked self program.old };
 }
+
+/// A request for another program in place of this one.
+#[derive(Drop)]
+pub struct Replace<P> {
+    pub program: P,
+}
+
+impl<P: Drop> Request<P> for Replace<P> {
+    ghost can_ask = { λ request program. Unit {0} };
+
+    ghost asked = { λ request program. request.program };
+
+    fn ask(self, program: &mut P)
+        ensures { program.new ≡ self.program }
+    {
+        *program = self.program;
+    }
+}

@@ -1,15 +1,15 @@
 //! Participants that take steps on one memory.
 
-ghost use Rattle.std.specs.Prelude.{◌≡◌, ◌≢◌, ℕ, ◌<◌, ◌≤◌, [], ◌∷◌, ◌++◌, true, false, length, option_copied, IfOk, OnErr, OnOk, IsOk, Err, Ok, Option};
-ghost use Rattle.step_memory.specs.Participant.{index_of, program_of};
+ghost use Rattle.std.specs.Prelude.{◌≡◌, ◌≢◌, ℕ, ◌<◌, ◌≤◌, [], ◌∷◌, ◌++◌, true, false, length, option_copied, IfOk, IfSome, OnErr, OnOk, IsOk, Err, Ok, Option, is_some};
+ghost use Rattle.step_memory.specs.Participant.{index_of, participant_of, program_of};
 ghost use Rattle.step_memory.specs.World.{begin_refusal, done_unless, after_begin, step_answer, after_step, may_refuse_step, set_answer, after_set, CanAsk, after_asked};
 ghost use Rattle.step_memory.specs.WorldState.{WorldState};
-ghost use Rattle.step_memory.specs.Locality.{IsLocal, LookAlike, ReadsNext};
+ghost use Rattle.step_memory.specs.Locality.{IsLocal, IsAnsweredAlike, ReadsNext};
 
 use crate::memory::StepMemory;
 use crate::note::Note;
 use crate::participant::Participant;
-use crate::program::{Request, StepProgram};
+use crate::program::{Replace, Request, StepProgram};
 use crate::refusal::{NoMemory, Refusal};
 use std::alloc::Allocator;
 use std::marker::Model;
@@ -36,6 +36,7 @@ impl<P, S, A: Allocator> Model for World<P, S, A> {
 /// Where the participant of an identity stands.
 fn find<P>(participants: &[Participant<P>], id: u64) -> Option<usize>
     ensures answer { result ≡ index_of id participants.now }
+    ensures inside { IfSome result (λ i. i < length participants.now) }
 {
     for (i, participant) in participants.iter().enumerate() {
         if participant.identity == id {
@@ -64,13 +65,20 @@ impl<
         }
     }
 
+    /// Whether an identity has begun.
+    fn has_begun(&self, id: u64) -> bool
+        ensures { result ≡ is_some (participant_of id self.now.participants) }
+    {
+        find(&self.participants, id).is_some()
+    }
+
     /// Why an identity may not begin: what `begin` would be refused. It changes nothing.
     pub fn begin_refusal(&self, id: u64) -> Option<Refusal>
         ensures { result ≡ begin_refusal self.now id }
     {
         if id == 0 {
             Some(Refusal::ZeroIdentity)
-        } else if find(&self.participants, id).is_some() {
+        } else if self.has_begun(id) {
             Some(Refusal::AlreadyBegun)
         } else if self.most <= self.participants.len() {
             Some(Refusal::Full)
@@ -111,7 +119,7 @@ impl<
 
         // In another world that looks alike to this participant the answer is the same. Where it then stands is the same
         // too: that is a law (`law_of_locality`).
-        ensures alike { result ≢ Err Refusal.NoMemory → (other : WorldState S P) → LookAlike P.steps S.steps id self.old other → result ≡ step_answer P.steps S.steps other id }
+        ensures alike { result ≢ Err Refusal.NoMemory → IsAnsweredAlike P.steps S.steps id self.old result }
     {
         let Some(i) = find(&self.participants, id) else {
             return Err(Refusal::NotBegun);
@@ -168,15 +176,7 @@ impl<
         ensures after { self.new ≡ after_set self.old id program }
         ensures refused { OnErr result (self.new ≡ self.old) }
     {
-        let Some(i) = find(&self.participants, id) else {
-            return Err(Refusal::NotBegun);
-        };
-        self.participants[i] = Participant {
-            identity: id,
-            program,
-            ended: false,
-        };
-        Ok(())
+        self.ask(id, Replace { program })
     }
 
     /// Asks a participant's program for something, where it stands, with no access; the participant has then not ended.

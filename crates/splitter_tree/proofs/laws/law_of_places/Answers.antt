@@ -15,7 +15,7 @@ pub returns-clause-tree : goal.returns-clause-tree
 returns-clause-tree g c = λ memory first w r tree empty few after. tree_of_tied memory tree w r (tied_after memory tree first w r empty few after)
 
 pub returns-clause-places : goal.returns-clause-places
-returns-clause-places g c = λ memory first w r p tree empty few after. sym ((tied_after memory tree first w r empty few after).outcomes p)
+returns-clause-places g c = λ memory first w r p tree empty few after. sym ((tied_after memory tree first w r empty few after).told.outcomes p)
 
 pub returns-clause-on_the_way : goal.returns-clause-on_the_way
 returns-clause-on_the_way g c = λ memory first w r p v tree empty few after here. ((tied_after memory tree first w r empty few after).clients p v here).task

@@ -1,12 +1,14 @@
-use Rattle.std.proofs.Common.{◌≡◌, Some, None, Ok, Err, get_or, refl, sym, ap, ◌∙◌, arith}
+use Rattle.std.proofs.Common.{◌≡◌, None, Ok, Err, refl, sym, ap, ◌∙◌}
 use Rattle.step_memory.specs.declared.refusal.Refusal.TheVariants.{NotCompeting, Holding}
-use Rattle.bit_allocator.specs.Competitors.{index_of, stay_of}
+use Rattle.bit_allocator.specs.Competitors.{stay_of}
 use Rattle.step_memory.specs.Registers.{after_access}
 use Rattle.bit_allocator.specs.Stay.{probe_access, stay_probed, probe_reply}
 use Rattle.bit_allocator.specs.Pool.{got_by}
 use Rattle.bit_allocator.proofs.CallLemmas.{going_answer, going_after}
 use Rattle.bit_allocator.specs.Calls.Call.{Probed}
-use Rattle.bit_allocator.proofs.Found.{Found, found, none-index_of, index_of-below}
+use Rattle.step_memory.specs.Roster.{StandsAt}
+use Rattle.step_memory.proofs.Roster as roster
+use Rattle.bit_allocator.proofs.Counts.{competitor}
 use Rattle.bit_allocator.proofs.LocalityLemmas.{probe_local, probe_alike, probe_stands}
 use Rattle.bit_allocator.specs.PoolState.{PoolState}
 use Rattle.bit_allocator.proofs.PoolKeeps.{after_call, law_after}
@@ -14,11 +16,7 @@ use Rattle.bit_allocator.proofs.pool.Pool.probe.Goals as goal
 use Rattle.bit_allocator.proofs.pool.Pool.probe.Goals.{In_default, After-index, After-probed-stay}
 
 absent : (g : _) (c : In_default g) → stay_of c.args.id c.args.self.now.competitors ≡ None
-absent g c =
-    let v : c.self.inside.competitors.items ≡ c.args.self.now.competitors = ap (λ w. w.competitors) c.self.view_is in
-    let n : None ≡ index_of c.args.id c.deref.result.now = c.in_default.ensures.answer in
-    let e : index_of c.args.id c.args.self.now.competitors ≡ None = cc in
-    none-index_of c.args.id c.args.self.now.competitors e
+absent g c = roster.absent (λ x. x.identity) (λ x. x.stay) c.args.id c.args.self.now.competitors c.deref.ensures.value (ap (λ w. w.competitors) c.self.view_is) c.in_default.ensures.answer
 
 pub returns-in_default-clause-answer : goal.returns-in_default-clause-answer
 returns-in_default-clause-answer g c = rw (absent g c) refl
@@ -36,23 +34,11 @@ returns-in_default-clause-law g c = λ size r a. law_after size _ r a
 pub returns-in_default-clause-alike : goal.returns-in_default-clause-alike
 returns-in_default-clause-alike g c = λ other h. returns-in_default-clause-answer g c ∙ probe_alike c.args.id c.args.self.now other h
 
-pub index-requires : goal.index-requires
-index-requires g c =
-    let n : Some c.in-Some.i ≡ index_of c.args.id c.deref.result.now = c.in-Some.ensures.answer in
-    omega (arith, index_of-below c.args.id c.deref.result.now c.in-Some.i n, c.deref.ensures.len)
-
-pub index_mut-requires : goal.index_mut-requires
-index_mut-requires g c =
-    let n : Some c.in-Some.i ≡ index_of c.args.id c.deref.result.now = c.in-Some.ensures.answer in
-    omega (arith, index_of-below c.args.id c.deref.result.now c.in-Some.i n, c.deref.ensures.len)
-
-found_here : (g : _) (c : After-index g) → Found c.args.id c.args.self.now.competitors c.in-Some.i c.index.result.now
+-- the competitor whose index was found
+found_here : (g : _) (c : After-index g) → StandsAt (λ x. x.identity) (λ x. x.stay) c.args.id c.args.self.now.competitors c.in-Some.i c.index.result.now
 found_here g c =
-    let v : c.self.inside.competitors.items ≡ c.args.self.now.competitors = ap (λ w. w.competitors) c.self.view_is in
-    let n : Some c.in-Some.i ≡ index_of c.args.id c.deref.result.now = c.in-Some.ensures.answer in
-    let e : Some c.in-Some.i ≡ index_of c.args.id c.args.self.now.competitors = cc in
-    let p : c.index.result.now ≡ get_or c.args.self.now.competitors c.in-Some.i c.index.result.now = rw (← v) c.index.ensures in
-    found c.args.id c.args.self.now.competitors c.in-Some.i c.index.result.now e p
+    roster.found (λ x. x.identity) (λ x. x.stay) c.args.id c.args.self.now.competitors c.in-Some.i c.index.result.now
+    c.deref.ensures.value (ap (λ w. w.competitors) c.self.view_is) c.in-Some.ensures.answer c.index.ensures
 
 pub returns-in-Settled-clause-answer : goal.returns-in-Settled-clause-answer
 returns-in-Settled-clause-answer g c =
@@ -103,7 +89,8 @@ returns-clause-state g c =
     let w = going g (goal.at.returns-clause-state g c).After-probed-stay in
     let v : c.self.inside.competitors.items ≡ c.args.self.now.competitors = ap (λ w. w.competitors) c.self.view_is in
     let z : c.self.inside.size ≡ c.args.self.now.size = ap (λ w. w.size) c.self.view_is in
-    rw (going_after c.args.self.now c.args.id c.index.result.now.stay f.is c.in_default-stay.not-Settled) (rw (f.put, w.bits, z, v, w.stay) refl)
+    let put = f.put (competitor c.args.id (stay_probed c.args.self.now.size c.index.result.now.stay (got_by c.args.self.now c.index.result.now.stay))) refl in
+    rw (going_after c.args.self.now c.args.id c.index.result.now.stay f.is c.in_default-stay.not-Settled) (rw (put, w.bits, z, v, w.stay) refl)
 
 pub returns-clause-after : goal.returns-clause-after
 returns-clause-after g c = λ size r a.

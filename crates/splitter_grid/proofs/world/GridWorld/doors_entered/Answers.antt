@@ -1,16 +1,16 @@
 use Rattle.std.proofs.Common.{◌≡◌, ℕ, ap, subst, ◌∙◌}
 use Rattle.step_memory.specs.RegisterState.{Registers}
 use Rattle.splitter_grid.specs.Consistent.{was_entered}
-use Rattle.splitter_grid.specs.Count.{count_to}
+use Rattle.step_memory.specs.Count.{count_to}
 use Rattle.splitter_grid.proofs.GridTied.{grid_after}
-use Rattle.splitter_grid.proofs.EnteredDoors.{named_entered}
+use Rattle.splitter_grid.proofs.EnteredDoors.{written_entered}
 use Rattle.splitter_grid.proofs.world.GridWorld.doors_entered.Goals as goal
 
 pub returns-clause-entered : goal.returns-clause-entered
-returns-clause-entered g c = λ r a k. named_entered c.args.self.now r a k
+returns-clause-entered g c = λ r a k. written_entered c.args.self.now r a k
 
 pub returns-clause-within : goal.returns-clause-within
-returns-clause-within g c = λ r a k entered. (grid_after c.args.self.now r a).entered k ((named_entered c.args.self.now r a k).1 entered)
+returns-clause-within g c = λ r a k entered. (grid_after c.args.self.now r a).entered k ((written_entered c.args.self.now r a k).1 entered)
 
 pub returns-clause-few : goal.returns-clause-few
 returns-clause-few g c = λ r a.

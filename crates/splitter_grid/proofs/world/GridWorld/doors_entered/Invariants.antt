@@ -1,6 +1,6 @@
 use Rattle.std.proofs.Common.{◌≡◌, ◌≤◌}
 use Rattle.splitter_grid.specs.Consistent.{was_entered}
-use Rattle.splitter_grid.specs.Count.{count_to}
+use Rattle.step_memory.specs.Count.{count_to}
 use Rattle.splitter_grid.proofs.world.GridWorld.doors_entered.Given as goal
 
 abbrev pub invariant-loop-k : goal.invariant-loop-k

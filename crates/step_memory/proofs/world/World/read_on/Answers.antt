@@ -1,32 +1,20 @@
-use Rattle.std.proofs.Common.{◌≡◌, ◌<◌, Some, Ok, get_or, set, refl, sym, ap, ◌∙◌, arith, length}
+use Rattle.std.proofs.Common.{◌≡◌, ◌<◌, Ok, set, refl, sym, ap, ◌∙◌, length}
 use Rattle.std.proofs.lemmas.List.{get_or_default}
 use Rattle.step_memory.specs.declared.access.Access.TheVariants.{Read}
 use Rattle.step_memory.specs.declared.access.Answer.TheVariants.{Value}
-use Rattle.step_memory.specs.Participant.{index_of, resumed, with_participant}
+use Rattle.step_memory.specs.Participant.{resumed, with_participant}
 use Rattle.step_memory.specs.World.{got_by}
 use Rattle.step_memory.proofs.LocalityLemmas.{step_local}
-use Rattle.step_memory.proofs.Found.{Found, found, index_of-below}
+use Rattle.step_memory.proofs.Found.{Found}
+use Rattle.step_memory.proofs.Roster as roster
 use Rattle.step_memory.proofs.StepLemmas.{going_answer, going_after}
 use Rattle.step_memory.proofs.world.World.read_on.Goals as goal
 use Rattle.step_memory.proofs.world.World.read_on.Goals.{After-index-reader, After-read_on}
 
-pub index-reader-requires : goal.index-reader-requires
-index-reader-requires g c =
-    let n : Some c.in-Some.i ≡ index_of c.args.id c.deref.result.now = c.in-Some.ensures.answer in
-    omega (arith, index_of-below c.args.id c.deref.result.now c.in-Some.i n, c.deref.ensures.len)
-
 found_participant : (g : _) (c : After-index-reader g) → Found c.args.id c.args.self.now.participants c.in-Some.i c.index-reader.result.now
 found_participant g c =
-    let v : c.self.inside.participants.items ≡ c.args.self.now.participants = ap (λ w. w.participants) c.self.view_is in
-    let n : Some c.in-Some.i ≡ index_of c.args.id c.deref.result.now = c.in-Some.ensures.answer in
-    let e : Some c.in-Some.i ≡ index_of c.args.id c.args.self.now.participants = cc in
-    let p : c.index-reader.result.now ≡ get_or c.args.self.now.participants c.in-Some.i c.index-reader.result.now = rw (← v) c.index-reader.ensures in
-    found c.args.id c.args.self.now.participants c.in-Some.i c.index-reader.result.now e p
-
-pub index_mut-requires : goal.index_mut-requires
-index_mut-requires g c =
-    let n : Some c.in-Some.i ≡ index_of c.args.id c.deref.result.now = c.in-Some.ensures.answer in
-    omega (arith, index_of-below c.args.id c.deref.result.now c.in-Some.i n, c.deref.ensures.len)
+    roster.found (λ v. v.identity) (λ v. v) c.args.id c.args.self.now.participants c.in-Some.i c.index-reader.result.now
+    c.deref.ensures.value (ap (λ w. w.participants) c.self.view_is) c.in-Some.ensures.answer c.index-reader.ensures
 
 -- what stands in the register is what the access answers, and the access leaves the memory as it is
 record ReadsOn (g : _) (c : After-read_on g) : Type 0 where
@@ -37,8 +25,7 @@ record ReadsOn (g : _) (c : After-read_on g) : Type 0 where
 reads_on : (g : _) (c : After-read_on g) → ReadsOn g c
 reads_on g c =
     let m : c.self.inside.memory ≡ c.args.self.now.memory = ap (λ w. w.memory) c.self.view_is in
-    let n : Some c.in-Some.i ≡ index_of c.args.id c.deref.result.now = c.in-Some.ensures.answer in
-    let below : c.in-Some.i < length c.self.inside.participants.items = rw (← c.deref.ensures.value) (index_of-below c.args.id c.deref.result.now c.in-Some.i n) in
+    let below : c.in-Some.i < length c.self.inside.participants.items = rw (← c.deref.ensures.value) c.in-Some.ensures.inside in
     let next : g.P.StepProgram.steps.next c.index-reader.result.now.program ≡ Read c.in-Some-reads.register = c.in-Some-reads.ensures in
     let stood : c.in-Some-look.value.now ≡ (g.S.StepMemory.steps.register c.args.self.now.memory c.in-Some-reads.register).0 = rw m at c.in-Some-look.ensures.value in
     record {

@@ -1,39 +1,29 @@
-use Rattle.std.proofs.Common.{◌≡◌, ◌<◌, Some, None, Ok, get_or, set, refl, sym, ap, ◌∙◌, arith, length}
+use Rattle.std.proofs.Common.{◌≡◌, ◌<◌, None, Ok, set, refl, sym, ap, ◌∙◌, length}
 use Rattle.std.proofs.lemmas.List.{get_or_default}
-use Rattle.step_memory.specs.Participant.{index_of, resumed, with_participant}
+use Rattle.step_memory.specs.Participant.{participant_of, resumed, with_participant}
 use Rattle.step_memory.specs.World.{got_by}
-use Rattle.step_memory.proofs.Found.{Found, found, none-index_of, index_of-below}
+use Rattle.step_memory.proofs.Found.{Found}
+use Rattle.step_memory.proofs.Roster as roster
 use Rattle.step_memory.proofs.LocalityLemmas.{step_local, answers_alike}
 use Rattle.step_memory.proofs.StepLemmas.{absent_answer, absent_after, ended_answer, ended_after, going_answer, going_after, going_refused}
 use Rattle.step_memory.proofs.world.World.step.Goals as goal
 use Rattle.step_memory.proofs.world.World.step.Goals.{In_default, After-index-participant, After-resume}
 
+absent : (g : _) (c : In_default g) → participant_of c.args.id c.args.self.now.participants ≡ None
+absent g c = roster.absent (λ v. v.identity) (λ v. v) c.args.id c.args.self.now.participants c.deref.ensures.value (ap (λ w. w.participants) c.self.view_is) c.in_default.ensures.answer
+
 pub returns-in_default-clause-answer : goal.returns-in_default-clause-answer
 returns-in_default-clause-answer g c = λ _.
-    let v : c.self.inside.participants.items ≡ c.args.self.now.participants = ap (λ w. w.participants) c.self.view_is in
-    let n : None ≡ index_of c.args.id c.deref.result.now = c.in_default.ensures.answer in
-    let e : index_of c.args.id c.args.self.now.participants ≡ None = cc in
-    sym (absent_answer g.P.StepProgram.steps g.S.StepMemory.steps c.args.self.now c.args.id (none-index_of c.args.id c.args.self.now.participants e))
+    sym (absent_answer g.P.StepProgram.steps g.S.StepMemory.steps c.args.self.now c.args.id (absent g (goal.at.returns-in_default-clause-answer g c).In_default))
 
 pub returns-in_default-clause-after : goal.returns-in_default-clause-after
 returns-in_default-clause-after g c = λ _.
-    let v : c.self.inside.participants.items ≡ c.args.self.now.participants = ap (λ w. w.participants) c.self.view_is in
-    let n : None ≡ index_of c.args.id c.deref.result.now = c.in_default.ensures.answer in
-    let e : index_of c.args.id c.args.self.now.participants ≡ None = cc in
-    sym (absent_after g.P.StepProgram.steps g.S.StepMemory.steps c.args.self.now c.args.id (none-index_of c.args.id c.args.self.now.participants e))
-
-pub index-participant-requires : goal.index-participant-requires
-index-participant-requires g c =
-    let n : Some c.in-Some.i ≡ index_of c.args.id c.deref.result.now = c.in-Some.ensures.answer in
-    omega (arith, index_of-below c.args.id c.deref.result.now c.in-Some.i n, c.deref.ensures.len)
+    sym (absent_after g.P.StepProgram.steps g.S.StepMemory.steps c.args.self.now c.args.id (absent g (goal.at.returns-in_default-clause-after g c).In_default))
 
 found_participant : (g : _) (c : After-index-participant g) → Found c.args.id c.args.self.now.participants c.in-Some.i c.index-participant.result.now
 found_participant g c =
-    let v : c.self.inside.participants.items ≡ c.args.self.now.participants = ap (λ w. w.participants) c.self.view_is in
-    let n : Some c.in-Some.i ≡ index_of c.args.id c.deref.result.now = c.in-Some.ensures.answer in
-    let e : Some c.in-Some.i ≡ index_of c.args.id c.args.self.now.participants = cc in
-    let p : c.index-participant.result.now ≡ get_or c.args.self.now.participants c.in-Some.i c.index-participant.result.now = rw (← v) c.index-participant.ensures in
-    found c.args.id c.args.self.now.participants c.in-Some.i c.index-participant.result.now e p
+    roster.found (λ v. v.identity) (λ v. v) c.args.id c.args.self.now.participants c.in-Some.i c.index-participant.result.now
+    c.deref.ensures.value (ap (λ w. w.participants) c.self.view_is) c.in-Some.ensures.answer c.index-participant.ensures
 
 pub returns-then-participant-clause-answer : goal.returns-then-participant-clause-answer
 returns-then-participant-clause-answer g c = λ _.
@@ -53,11 +43,6 @@ returns-in_default-access-clause-no_memory g c = λ _.
     going_refused g.P.StepProgram.steps g.S.StepMemory.steps c.args.self.now c.args.id c.index-participant.result.now f.is c.if-participant.false
     ∙ rw (← m, ← next) c.in_default-access.ensures.no_memory
 
-pub index_mut-requires : goal.index_mut-requires
-index_mut-requires g c =
-    let n : Some c.in-Some.i ≡ index_of c.args.id c.deref.result.now = c.in-Some.ensures.answer in
-    omega (arith, index_of-below c.args.id c.deref.result.now c.in-Some.i n, c.deref.ensures.len)
-
 -- what the access answered and the participant made of it
 record Going (g : _) (c : After-resume g) : Type 0 where
   got : c.in-Ok.got ≡ got_by g.P.StepProgram.steps g.S.StepMemory.steps c.args.self.now.memory c.index-participant.result.now
@@ -68,8 +53,7 @@ record Going (g : _) (c : After-resume g) : Type 0 where
 going : (g : _) (c : After-resume g) → Going g c
 going g c =
     let m : c.self.inside.memory ≡ c.args.self.now.memory = ap (λ w. w.memory) c.self.view_is in
-    let n : Some c.in-Some.i ≡ index_of c.args.id c.deref.result.now = c.in-Some.ensures.answer in
-    let below : c.in-Some.i < length c.self.inside.participants.items = rw (← c.deref.ensures.value) (index_of-below c.args.id c.deref.result.now c.in-Some.i n) in
+    let below : c.in-Some.i < length c.self.inside.participants.items = rw (← c.deref.ensures.value) c.in-Some.ensures.inside in
     let same : c.index_mut.result.now ≡ c.index-participant.result.now = c.index_mut.ensures.value ∙ get_or_default c.self.inside.participants.items c.in-Some.i _ _ below ∙ sym c.index-participant.ensures in
     let next : c.next.result ≡ g.P.StepProgram.steps.next c.index-participant.result.now.program = c.next.ensures in
     record {

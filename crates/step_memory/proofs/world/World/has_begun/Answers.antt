@@ -1,0 +1,11 @@
+use Rattle.std.proofs.Common.{◌≡◌, ap, ◌∙◌}
+use Rattle.std.specs.Prelude.{is_some}
+use Rattle.step_memory.specs.Participant.{index_of}
+use Rattle.step_memory.proofs.Found.{is_some-index_of}
+use Rattle.step_memory.proofs.world.World.has_begun.Goals as goal
+
+pub returns : goal.returns
+returns g c =
+    let v : c.self.inside.participants.items ≡ c.args.self.now.participants = ap (λ w. w.participants) c.self.view_is in
+    let e : c.find.result ≡ index_of c.args.id c.args.self.now.participants = cc in
+    c.is_some.ensures ∙ ap is_some e ∙ is_some-index_of c.args.id c.args.self.now.participants
