@@ -140,6 +140,16 @@ module _ (b last : ℕ) (past : ℕ → ℕ → Option Record) (moment : ℕ →
       let counted = c.counted in
       omega arith
 
+  -- there is room to note each segment that was written
+  pub has_room : b ≤ 64 → (x : ℕ) (r : Record) → past last x ≡ Some r → (is_known ss x ≡ true) ⊎ (length ss < 64)
+  has_room few x r here = elim (cases_Bool (is_known ss x)) [
+    | inl y ↦ inl y
+    | inr n ↦
+        let some = count_of-lt who place b roll r.identity x (h.owned x last r (omega arith) here) (is_known ss) n in
+        let many = c.known in
+        inr (omega arith)
+  ]
+
   since_last : since ≤ last
   since_last = let a = c.since_begun in let e = c.begun_last in omega arith
 

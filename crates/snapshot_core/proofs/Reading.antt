@@ -26,6 +26,7 @@ pub record GoesOn {S R V U K : Type 0} (t : LawfulPlaces S R V U K) (m : S) (b l
   pub collects : ℕ
   pub reads : ℕ
   pub walk : t.known.ties.HasRead m s.walk reads
+  pub beginning : reads ≡ 0 → s.walk ≡ t.known.walk_from m
   pub count : steps ≤ collects * t.known.ties.reads (t.known.most_of m) b + reads
   pub collecting : IsCollecting b last past place who own since collects (t.known.ties.IsAhead m s.walk) (t.known.ties.IsUpcoming s.walk) s.is_first s.differs s.sightings
 
@@ -82,9 +83,9 @@ module _ {S R V U K : Type 0} (t : LawfulPlaces S R V U K) (m : S) (ways : ℕ �
                 let few = g.0 in
                 let more : steps + 1 ≤ (collects + 1) * t.known.ties.reads (t.known.most_of m) b + 0 = (let product = add-mul collects 1 (t.known.ties.reads (t.known.most_of m) b) in omega arith) in
                 elim (cases_Bool s.is_first) [
-                  | inl f ↦ rw (over, f) (record { collects = collects + 1; reads = 0; walk = begins; count = more; collecting = again (inl f) })
+                  | inl f ↦ rw (over, f) (record { collects = collects + 1; reads = 0; walk = begins; beginning = λ _. refl; count = more; collecting = again (inl f) })
                   | inr f ↦ elim (cases_Bool s.differs) [
-                    | inl d ↦ rw (over, f, d) (record { collects = collects + 1; reads = 0; walk = begins; count = more; collecting = again (inr d) })
+                    | inl d ↦ rw (over, f, d) (record { collects = collects + 1; reads = 0; walk = begins; beginning = λ _. refl; count = more; collecting = again (inr d) })
                     | inr d ↦ rw (over, f, d) (clean b last past moment place who h roll own since collects (λ y. ⊥) (λ y. ⊥) s.is_first s.differs s.sightings done (λ y e. e) f d)
                   ]
                 ]
@@ -92,6 +93,7 @@ module _ {S R V U K : Type 0} (t : LawfulPlaces S R V U K) (m : S) (ways : ℕ �
               collects = collects;
               reads = j + 1;
               walk = g.1.counted j walk on;
+              beginning = λ e. absurd (omega arith);
               count = omega arith;
               collecting = c (t.known.ties.IsAhead m (t.known.walks.resumed s.walk got)) (t.known.ties.IsUpcoming (t.known.walks.resumed s.walk got)) (λ y a n. (g.1.ahead y a n).0) (λ y e. e);
             })
