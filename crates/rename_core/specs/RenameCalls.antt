@@ -61,7 +61,7 @@ module _ {S R V U K : Type 0} (W : KnownPlaces S R V U K) where
 
   -- where b have begun, of whom walks over the segments make so many reads, a scan makes at most b + 1 collects
   abbrev pub bounds_of : RenameState S U K → SnapBounds
-  bounds_of w = record { most = w.snap.most; placing = W.ties.placing; scanning = λ b. (b + 1) * W.ties.reads w.snap.most b }
+  bounds_of w = record { most = w.snap.most; placing = W.ties.placing; scanning = λ b. (b + 1) * W.ties.reads w.snap.most b; collecting = W.ties.reads w.snap.most w.snap.most }
 
   -- every list of calls that leads to this world keeps the law
   abbrev pub IsLawful : WorldKind → RenameState S U K → Type 0

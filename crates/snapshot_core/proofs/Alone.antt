@@ -284,20 +284,20 @@ module _ {S R V U K : Type 0} (known : KnownPlaces S R V U K) (laws : PlacesLaws
         update_ends n value task left = begun_ends (n + 1) (λ e. let two : Absent ≡ Updating value = sym e ∙ task in absurd (cc)) (λ v there.
             update_left t w o k.tied p v there c refl n value (left v there) task (known.place_of v.program.walker) v.program.pending (k.tied.clients p v there).at)
 
-        abbrev whole : ℕ
-        whole = 3 * c - 1
-
-        -- where there is no read in a collect nobody has begun
-        update_whole : (value : ℕ) → o.task p ≡ Updating value → EndsAlone known w p (3 * c)
-        update_whole value task = elim (participant_of p w.participants) as (λ z. participant_of p w.participants ≡ z → EndsAlone known w p (3 * c)) [
-          | None ↦ λ e. absurd (let two : Absent ≡ Updating value = sym (k.tied.absent p e).0 ∙ task in cc)
-          | Some v ↦ λ e.
-              let some = some_reads t w o k.tied p v e c refl in
-              ends_later known w p (3 * c - 1 + 1) (3 * c) (omega arith) (update_ends (3 * c - 1) value task (λ u there. any_left t w o k.tied p u there c refl))
+        reads_some : o.task p ≢ Absent → 1 ≤ most_reads known w
+        reads_some begun = elim (participant_of p w.participants) as (λ z. participant_of p w.participants ≡ z → 1 ≤ most_reads known w) [
+          | None ↦ λ e. absurd (begun (k.tied.absent p e).0)
+          | Some v ↦ λ e. some_reads t w o k.tied p v e c refl
         ] refl
+
+        update_whole : (value : ℕ) → o.task p ≡ Updating value → EndsAlone known w p (3 * c)
+        update_whole value task =
+            let some = reads_some (λ e. let two : Absent ≡ Updating value = sym e ∙ task in absurd (cc)) in
+            ends_later known w p (3 * c - 1 + 1) (3 * c) (omega arith) (update_ends (3 * c - 1) value task (λ u there. any_left t w o k.tied p u there c refl))
 
         ends_soon : EndsSoon known w o p
         ends_soon = record {
+          some = reads_some;
           new_scan = λ task none. scan_ends (2 * c) task (λ v there own. new_left t w o k.tied p v there c refl own none);
           scan = λ task. scan_ends (3 * c - 1) task (λ v there. any_left t w o k.tied p v there c refl);
           new_update = λ value task none. update_ends (2 * c) value task (λ v there own. new_left t w o k.tied p v there c refl own none);

@@ -1,11 +1,11 @@
 -- how soon one ends what it does while no other steps (this project's profile)
-use Rattle.std.specs.Prelude.{◌≡◌, ℕ, zero, suc, ◌+◌, ◌-◌, ◌*◌, false, ◌⊎◌, List, Ok}
+use Rattle.std.specs.Prelude.{◌≡◌, ◌≢◌, ◌≤◌, ℕ, zero, suc, ◌+◌, ◌-◌, ◌*◌, false, ◌⊎◌, List, Ok}
 use Rattle.step_memory.specs.Participant.{participant_of}
 use Rattle.snapshot_core.specs.declared.client.SnapReply.{SnapReply}
 use Rattle.snapshot_core.specs.Places.{KnownPlaces}
 use Rattle.snapshot_core.specs.SnapCalls.{SnapCall, IsAfter}
 use Rattle.snapshot_core.specs.Snapshot.{SnapObject, SnapBounds, KeepsSnapshotLaw}
-use Rattle.snapshot_core.specs.Snapshot.Task.{Scanning, Updating}
+use Rattle.snapshot_core.specs.Snapshot.Task.{Absent, Scanning, Updating}
 use Rattle.snapshot_core.specs.SnapWorld.{SnapState, snap_answer, after_snap_step}
 use Rattle.snapshot_core.specs.Standing.{is_quiet}
 
@@ -24,8 +24,9 @@ module _ {S R V U K : Type 0} (t : KnownPlaces S R V U K) where
   most_reads w = t.ties.reads w.most w.most
 
   -- alone, a scan that has read nothing makes two collects; any other has at most one read less than three collects left.
-  -- An update writes once after its scan
+  -- An update writes once after its scan. Where someone has begun a collect has a read
   pub record EndsSoon (w : SnapState S U K) (o : SnapObject) (p : ℕ) : Type 0 where
+    pub some : o.task p ≢ Absent → 1 ≤ most_reads w
     pub new_scan : o.task p ≡ Scanning → o.steps p ≡ 0 → EndsAlone w p (2 * most_reads w)
     pub scan : o.task p ≡ Scanning → EndsAlone w p (3 * most_reads w - 1)
     pub new_update : (value : ℕ) → o.task p ≡ Updating value → o.steps p ≡ 0 → EndsAlone w p (2 * most_reads w + 1)
