@@ -1,5 +1,5 @@
 -- what a desk over places of one kind answers to an event, and what is left then
-use Rattle.std.specs.Prelude.{ℕ, ◌-◌, Bool, false, List, Option, Some, None, Result, Ok, Err, slice_index, replicate}
+use Rattle.std.specs.Prelude.{ℕ, ◌-◌, Bool, true, false, List, Option, Some, None, Result, Ok, Err, slice_index, replicate}
 use Rattle.step_memory.specs.declared.refusal.Refusal.{Refusal}
 use Rattle.step_memory.specs.Calls.Call.{Began, Stepped}
 use Rattle.step_memory.specs.World.{begin_refusal, done_unless}
