@@ -1,5 +1,6 @@
 -- who was named is who has the name
 use Rattle.std.proofs.Common.{◌≡◌, ℕ, ◌+◌, ◌-◌, ◌*◌, ◌≤◌, ◌⊎◌, Bool, true, false, ◌==◌, inl, inr, List, [], ◌∷◌, map, Option, Some, None, Ok, Err, refl, sym, ap, subst, ◌∙◌, add-zero, zero-add, arith}
+use Rattle.std.proofs.lemmas.Bool.{cases_Bool}
 use Rattle.std.proofs.lemmas.Bool.Decides.{eqb_tells, Decides-eqb}
 use Rattle.step_memory.specs.Runs.{Run}
 use Rattle.step_memory.specs.Calls.{Call}
@@ -31,13 +32,9 @@ abbrev pub GaveName : ℕ → ℕ → List (Call StepReply) → Type 0
 GaveName p n [] = ⊥
 GaveName p n (h ∷ r) = IsNamingCall p n h ⊎ GaveName p n r
 
-either : (b : Bool) → (b ≡ true) ⊎ (b ≡ false)
-either true = inl refl
-either false = inr refl
-
 -- who has a name takes no accepted step
 named_refused : (o : RenameObject) (p n : ℕ) → o.name p ≡ Some n → no_step o p ≡ None → ⊥
-named_refused o p n named none = elim (either (o.begun p)) [
+named_refused o p n named none = elim (cases_Bool (o.begun p)) [
   | inl t ↦ (let k : Some Finished ≡ None = rw (t, named) at none in cc)
   | inr f ↦ (let k : Some NotBegun ≡ None = rw f at none in cc)
 ]

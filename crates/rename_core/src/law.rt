@@ -19,8 +19,8 @@ use std::alloc::Allocator;
 
 /// A law, which runs nothing. Over a grid the calls of a renaming world with their replies keep the law of renaming, after
 /// every list of calls: where b have begun, a place comes within 4b steps, and over G segments a view within G(G + 1) and
-/// a proposal within one step more; who steps alone is named within 4m + 11G + 1. No step wants memory, and what `begin` gives is a function of the identity and of the
-/// most participants alone.
+/// a proposal within one step more; and of m, one who steps alone is named within 4m + 11G + 1. No step wants memory, and
+/// what `begin` gives is a function of the identity and of the most participants alone.
 pub fn grid_rename_law<A: Allocator + Clone>(world: &RenameWorld<Grid<A>, A>)
     ensures law { IsLawfulWithin grid_places kind.Rename (grid_bounds world.now.snap.most) world.now }
     ensures ample { (id : ℕ) → may_lack grid_places world.now id ≡ false }
@@ -31,8 +31,8 @@ pub fn grid_rename_law<A: Allocator + Clone>(world: &RenameWorld<Grid<A>, A>)
 
 /// A law, which runs nothing. Over a tree the calls of a renaming world with their replies keep the law of renaming, after
 /// every list of calls: where b have begun, a place comes within 5b steps, a view within (b + 1)(6b - 2) and a proposal
-/// within one step more; who steps alone is named within 5m + 11(6m - 2) + 1. Only a step that makes a node may want memory, and what `begin` gives is a function of the
-/// identity and of the most participants alone.
+/// within one step more; and of m, one who steps alone is named within 5m + 11(6m - 2) + 1. Only a step that makes a node
+/// may want memory, and what `begin` gives is a function of the identity and of the most participants alone.
 pub fn tree_rename_law<A: Allocator + Clone>(world: &RenameWorld<TreePlaces<A>, A>)
     ensures law { IsLawfulWithin tree_places kind.Tree (tree_bounds world.now.snap.most) world.now }
     ensures makes { (id : ℕ) → LacksOnly tree_places world.now id (MakesNode world.now.snap id) }

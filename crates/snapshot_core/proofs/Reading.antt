@@ -1,7 +1,7 @@
 -- a scan over any places, read by read
-use Rattle.std.proofs.Common.{◌≡◌, ◌≢◌, ℕ, ◌+◌, ◌*◌, ◌≤◌, ◌==◌, Bool, true, false, not, ◌&&◌, ◌⊎◌, List, Option, Some, None, inl, inr, refl, sym, ap, subst, ◌∙◌, arith}
+use Rattle.std.proofs.Common.{◌≡◌, ◌≢◌, ℕ, ◌+◌, ◌*◌, ◌≤◌, ◌==◌, true, false, not, ◌⊎◌, List, Option, Some, None, inl, inr, refl, sym, ap, subst, ◌∙◌, arith}
 use Rattle.std.proofs.Math.Nat.{add-mul, mul-le-mul_right}
-use Rattle.std.proofs.lemmas.Bool.{cases_Bool, not-true}
+use Rattle.std.proofs.lemmas.Bool.{and_parts, cases_Bool, not-true}
 use Rattle.std.proofs.lemmas.Bool.Decides.{eqb_tells}
 use Rattle.step_memory.specs.declared.record.Record.{Record}
 use Rattle.snapshot_core.specs.declared.scan.Scan.{Scan}
@@ -12,10 +12,6 @@ use Rattle.snapshot_core.specs.Snapshot.{IsMoment}
 use Rattle.snapshot_core.proofs.LawfulPlaces.{LawfulPlaces}
 use Rattle.snapshot_core.proofs.Histories.{IsHistory}
 use Rattle.snapshot_core.proofs.Collecting.{IsCollecting, IsRoll, changed_in, pass, pass_record, borrowed, clean, next_collect, few_collects}
-
-and_true : (a b : Bool) → (a && b) ≡ true → (a ≡ true) × (b ≡ true)
-and_true true b h = (refl, h)
-and_true false b h = absurd (cc)
 
 -- a view shows a moment since this one
 abbrev pub Shown : ℕ → ℕ → (ℕ → ℕ → Option ℕ) → List (ℕ × ℕ) → Type 0
@@ -124,8 +120,8 @@ module _ {S R V U K : Type 0} (t : LawfulPlaces S R V U K) (m : S) (ways : ℕ �
           let unseen : c.seen x ≡ None = c.upcoming x (g.1.here x at).1 in
           elim (cases_Bool (is_second_change s x r)) [
             | inl y ↦
-                let both = and_true (is_change s x r) (changed_in s.sightings x) y in
-                let apart = and_true (not s.is_first) (not ((sighting_of x s.sightings).before == r.number)) both.0 in
+                let both = and_parts (is_change s x r) (changed_in s.sightings x) y in
+                let apart = and_parts (not s.is_first) (not ((sighting_of x s.sightings).before == r.number)) both.0 in
                 let other : (sighting_of x s.sightings).before ≢ r.number = λ e. elim (eqb_tells (sighting_of x s.sightings).before r.number) [ inl w ↦ (let k : not true ≡ true = rw w.0 at apart.1 in let two : false ≡ true = k in absurd (cc)) | inr w ↦ w.1 e ] in
                 rw y (borrowed b last past moment place who h roll own since collects (t.known.ties.IsAhead m s.walk) (t.known.ties.IsUpcoming s.walk) s.is_first s.differs s.sightings c x r here unseen (not-true s.is_first apart.0) other both.1)
             | inr n ↦ rw n (walks_on (met_anew s x r) j collects steps walk count (λ Ahead' Upcoming' still fewer.

@@ -205,7 +205,12 @@ IsLawfulFrom t first bounds w = (r : List SnapCall) → IsAfter t first w r → 
 
 -- the bounds over these places, with this one on scans
 abbrev pub bounds_over : {S R V U K : Type 0} → KnownPlaces S R V U K → S → (ℕ → ℕ) → SnapBounds
-bounds_over t first scanning = record { most = t.most_of first; placing = t.ties.placing; scanning = scanning; collecting = t.ties.reads (t.most_of first) (t.most_of first) }
+bounds_over t first scanning = record {
+  most = t.most_of first;
+  placing = t.ties.placing;
+  scanning = scanning;
+  collecting = t.ties.reads (t.most_of first) (t.most_of first);
+}
 
 -- every list of calls that leads to this object, from places in which nothing was written, keeps the law: where a bound on
 -- scans leaves room for as many collects as there may be
