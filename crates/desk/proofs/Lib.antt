@@ -1,4 +1,5 @@
 pub mod DeskKeeps
 pub mod NamesGiven
+pub mod NamedAlone
 pub mod Refusing
 pub mod DeskLaws

@@ -1,5 +1,6 @@
 -- who was named is who has the name
 use Rattle.std.proofs.Common.{◌≡◌, ℕ, ◌+◌, ◌-◌, ◌*◌, ◌≤◌, ◌⊎◌, Bool, true, false, ◌==◌, inl, inr, List, [], ◌∷◌, map, Option, Some, None, Ok, Err, refl, sym, ap, subst, ◌∙◌, add-zero, zero-add, arith}
+use Rattle.std.proofs.lemmas.Bool.{cases_Bool}
 use Rattle.std.proofs.lemmas.Bool.Decides.{eqb_tells, Decides-eqb}
 use Rattle.step_memory.specs.Runs.{Run}
 use Rattle.step_memory.specs.Calls.{Call}
@@ -22,22 +23,18 @@ use Rattle.desk.specs.DeskRun.{IsDeskRun}
 use Rattle.desk.specs.Names.{IsNaming, WasNamed, IsOwnerIn, begun_in}
 
 -- this call names p so
-record IsNamingCall (p n : ℕ) (h : Call StepReply) : Type 0 where
-  view : List (ℕ × ℕ)
-  is : h ≡ Stepped p (Ok (Named n view))
+pub record IsNamingCall (p n : ℕ) (h : Call StepReply) : Type 0 where
+  pub view : List (ℕ × ℕ)
+  pub is : h ≡ Stepped p (Ok (Named n view))
 
 -- among these calls one names p so
-abbrev GaveName : ℕ → ℕ → List (Call StepReply) → Type 0
+abbrev pub GaveName : ℕ → ℕ → List (Call StepReply) → Type 0
 GaveName p n [] = ⊥
 GaveName p n (h ∷ r) = IsNamingCall p n h ⊎ GaveName p n r
 
-either : (b : Bool) → (b ≡ true) ⊎ (b ≡ false)
-either true = inl refl
-either false = inr refl
-
 -- who has a name takes no accepted step
 named_refused : (o : RenameObject) (p n : ℕ) → o.name p ≡ Some n → no_step o p ≡ None → ⊥
-named_refused o p n named none = elim (either (o.begun p)) [
+named_refused o p n named none = elim (cases_Bool (o.begun p)) [
   | inl t ↦ (let k : Some Finished ≡ None = rw (t, named) at none in cc)
   | inr f ↦ (let k : Some NotBegun ≡ None = rw f at none in cc)
 ]
@@ -89,7 +86,7 @@ name_given o p n (Stepped q (Ok Spent)) named = inl named
 name_given o p n (Stepped q (Err why)) named = inl named
 
 -- so who has a name was named, or had it at first
-was_given : (terms : RenameTerms) (o o' : RenameObject) (p n : ℕ) (r : List (Call StepReply)) → Run after (Allows terms) o r o' → o'.name p ≡ Some n → (o.name p ≡ Some n) ⊎ GaveName p n r
+pub was_given : (terms : RenameTerms) (o o' : RenameObject) (p n : ℕ) (r : List (Call StepReply)) → Run after (Allows terms) o r o' → o'.name p ≡ Some n → (o.name p ≡ Some n) ⊎ GaveName p n r
 was_given terms o o' p n [] run named = inl (rw run at named)
 was_given terms o o' p n (h ∷ r) run named = elim (was_given terms (after o h) o' p n r run.1 named) [
   | inl had ↦ elim (name_given o p n h had) [ inl before ↦ inl before | inr here ↦ inr (inl here) ]
@@ -134,7 +131,7 @@ given_by p n (Renamed h ∷ calls) (inr later) = inr (given_by p n calls later)
 given_by p n (Slotted h ∷ calls) (inr later) = given_by p n calls later
 
 -- and the other way round
-shown_by : (p n : ℕ) (calls : List DeskCall) → GaveName p n (rename_calls calls) → WasNamed p n (map exchange_of calls)
+pub shown_by : (p n : ℕ) (calls : List DeskCall) → GaveName p n (rename_calls calls) → WasNamed p n (map exchange_of calls)
 shown_by p n [] g = absurd g
 shown_by p n (Renamed h ∷ calls) (inl x) = inl (record { view = x.view; is = ap (λ (k : Call StepReply). exchange_of (Renamed k)) x.is })
 shown_by p n (Renamed h ∷ calls) (inr later) = inr (shown_by p n calls later)

@@ -6,6 +6,7 @@ pub mod DeskCalls
 pub mod DeskRun
 pub mod DeskRules
 pub mod Names
+pub mod NamedAlone
 pub mod Owner
 pub mod Desk
 pub mod DeskParts

@@ -2,6 +2,7 @@
 
 ghost use Rattle.std.specs.Prelude.{◌≡◌, ℕ, ◌-◌, ◌*◌, ◌≤◌};
 ghost use Rattle.desk.specs.Laws.{BeginsDesk, HasFreshDesk, IsOneFreshDesk, DeskGoesOn, DeskKeepsRuns, DeskTellsOwners, DeskRefusesAsSaid, IsDeskDetermined, InEachRun};
+ghost use Rattle.desk.specs.NamedAlone.{NamesSoonAlone};
 ghost use Rattle.desk.specs.Names.{WasNamed, begun_in};
 
 /// A law, which runs nothing. A fresh desk is after no calls, and there is one for each config; whatever a desk may answer to
@@ -20,9 +21,12 @@ pub fn law_of_desk()
 {}
 
 /// A law, which runs nothing, drawn from what a run is: among its exchanges nobody was given two names, no two were given
-/// one, and each name is from 1 to 2b - 1, where b have begun.
+/// one, and each name is from 1 to 2b - 1, where b have begun. Wherever a run is cut in two, one who has begun, is neither
+/// named nor spent and has two proposals left is named once it has made `steps_alone` accepted steps after the cut, if no
+/// other has made one there: wherever the others stopped. Others may begin, and compete for the pool.
 pub fn law_of_names()
     ensures one_each { InEachRun (λ r. (p n m : ℕ) → WasNamed p n r → WasNamed p m r → n ≡ m) }
     ensures small { InEachRun (λ r. (p n : ℕ) → WasNamed p n r → (1 ≤ n) × (n ≤ 2 * begun_in r - 1)) }
+    ensures soon_alone { NamesSoonAlone }
     ensures never_two { InEachRun (λ r. (p q n : ℕ) → WasNamed p n r → WasNamed q n r → p ≡ q) }
 {}

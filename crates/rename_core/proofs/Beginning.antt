@@ -169,6 +169,7 @@ module _ {S R V U K : Type 0} (W : KnownPlaces S R V U K) (terms : RenameTerms) 
         high = i.high;
         most = i.most ∙ sym k.most;
         many = ap (λ (n : ℕ). n + 1) i.many ∙ sym (length-append w.rounds (beginner p r ∷ []));
+        roomy = (let a = inside.room in let b = i.many in let c = i.counted in let d = i.most in omega arith);
         counted = length-append w.rounds (beginner p r ∷ []) ∙ ap (λ (n : ℕ). n + 1) i.counted ∙ sym k.many;
         distinct = distinct_push w.rounds (beginner p r) new_round i.distinct;
         begun = λ q. elim (eqb_tells q p) [

@@ -12,9 +12,11 @@ pub mod Beginning
 pub mod StepCases
 pub mod Sizes
 pub mod Shown
+pub mod LocalSteps
+pub mod Alone
+pub mod AloneRuns
 pub mod Names
 pub mod NamedPlaces
 pub mod AfterCalls
-pub mod LocalSteps
 pub mod Beginners
 pub mod PlacesLaw

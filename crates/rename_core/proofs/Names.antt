@@ -1,5 +1,5 @@
 -- every renaming world keeps the law of renaming
-use Rattle.std.proofs.Common.{None, is_some, IsOk, Ok, ◌≡◌, ◌+◌, false, ℕ, ◌≤◌, ◌==◌, Bool, true, List, [], ◌∷◌, ◌++◌, Option, Some, inl, inr, refl, sym, ap, subst, ◌∙◌, arith}
+use Rattle.std.proofs.Common.{None, is_some, IsOk, ◌≡◌, ◌+◌, false, ℕ, ◌≤◌, ◌==◌, Bool, true, List, [], ◌∷◌, ◌++◌, Option, Some, inl, inr, refl, sym, ap, subst, ◌∙◌, arith}
 use Rattle.std.specs.Prelude.{option_map, option_and_then}
 use Rattle.std.proofs.lemmas.Bool.Decides.{eqb_tells, leb_tells}
 use Rattle.step_memory.specs.Calls.{Call}
@@ -30,8 +30,11 @@ use Rattle.snapshot_core.specs.Places.{KnownPlaces}
 use Rattle.rename_core.specs.RenameCalls.{next, IsReply, IsAfter, terms_of}
 use Rattle.rename_core.specs.RenameObject.{RenameTerms, RenameObject, new_object, IsRecent, Allows, after, IsRun, IsOwner}
 use Rattle.rename_core.specs.RenameState.{RenameState}
-use Rattle.rename_core.specs.RenameWorld.{name_in, name_by, owner_by, shown_by, step_refusal, rename_answer, answer_open, fresh_world, may_lack}
+use Rattle.rename_core.specs.RenameWorld.{name_in, name_by, owner_by, shown_by, step_refusal, rename_answer, fresh_world, may_lack}
 use Rattle.rename_core.specs.Round.{name_at, stage_refusal, standing_by}
+use Rattle.snapshot_core.proofs.Alone.{ends_soon_alone}
+use Rattle.rename_core.proofs.Alone.{Grounds}
+use Rattle.rename_core.proofs.AloneRuns.{KeepsAlone, alone_fresh, alone_more, alone_named}
 use Rattle.rename_core.proofs.Beginning.{begin_goes}
 use Rattle.rename_core.proofs.Keeping.{Goes, step_goes}
 use Rattle.rename_core.proofs.Shown.{standing_of, shown_rising, shown_is, Owns, owner_is}
@@ -78,6 +81,14 @@ module _ {S R V U K : Type 0} (W : KnownPlaces S R V U K) (terms : RenameTerms) 
   pub tie_goes : (w : SnapState S U K) (o : SnapObject) (h : SnapCall) → Tie w o → IsSnapReply W w h → Tie (snap_next W w h) (observed o h) × SnapAllows bounds o h
   tie_goes w o h k is = after_more W named.laws first scanning new (rw most named.fits) w o h k is
 
+  pub grounds : Grounds W terms bounds Tie
+  grounds = record {
+    soon = λ w o p k. ends_soon_alone W named.laws w p first k.calls new k.world bounds (o, k.object);
+    collects = rw most refl;
+    full = most;
+    farther = named.laws.farther;
+  }
+
   abbrev Tied : RenameState S U K → RenameObject → Pace → Type 0
   Tied = IsTied terms Tie
 
@@ -90,6 +101,7 @@ module _ {S R V U K : Type 0} (W : KnownPlaces S R V U K) (terms : RenameTerms) 
     pub run : IsRun terms r object
     pub paces : IsPaced bounds r
     pub tied : Tied w object paces.0
+    pub alone : KeepsAlone W terms bounds Tie tie_goes grounds w r object paces.0
 
   fresh_tied : Tied fresh new_object new_pace
   fresh_tied = record {
@@ -102,6 +114,7 @@ module _ {S R V U K : Type 0} (W : KnownPlaces S R V U K) (terms : RenameTerms) 
     high = high;
     most = sym most;
     many = refl;
+    roomy = omega arith;
     counted = refl;
     distinct = tt;
     begun = λ p. refl;
@@ -127,10 +140,11 @@ module _ {S R V U K : Type 0} (W : KnownPlaces S R V U K) (terms : RenameTerms) 
         run = run_more after (Allows terms) new_object r k.object h k.run g.allowed;
         paces = (paced bounds k.paces.0 h, run_more (paced bounds) (InTime bounds) new_pace r k.paces.0 h k.paces.1 g.timed);
         tied = g.tied;
+        alone = alone_more W terms bounds Tie tie_goes grounds w r k.object k.paces.0 k.tied k.run k.alone h is g;
       }
 
   pub holds : (w : RenameState S U K) (r : List (Call Reply)) → Run (next W) (IsReply W) fresh r w → Holds w r
-  holds w r a = run_keeps (next W) (IsReply W) Holds keeps fresh [] r w (record { object = new_object; run = refl; paces = (new_pace, refl); tied = fresh_tied }) a
+  holds w r a = run_keeps (next W) (IsReply W) Holds keeps fresh [] r w (record { object = new_object; run = refl; paces = (new_pace, refl); tied = fresh_tied; alone = alone_fresh W terms bounds Tie tie_goes grounds fresh new_pace }) a
 
   pub law_held : (w : RenameState S U K) (r : List (Call Reply)) → Run (next W) (IsReply W) fresh r w → KeepsRenameLaw terms bounds r
   law_held w r a =
@@ -141,6 +155,7 @@ module _ {S R V U K : Type 0} (W : KnownPlaces S R V U K) (terms : RenameTerms) 
         one_to_one = distinct_names k.object k.tied.standing;
         in_range = λ p n e. let h = k.tied.standing.held p n e in name_small k.object k.tied.standing p n h.index h.recent.no_later h.sole;
         paced = k.paces;
+        alone = alone_named W terms bounds Tie tie_goes grounds w r k.object k.paces.0 k.tied k.run k.alone;
       }
 
   name_at_stage : (w : RenameState S U K) (o : RenameObject) (t : Pace) (i : Tied w o t) (p : ℕ) (r : Round) (stage : Stage) → IsAtStage terms o t i.object w.snap p r stage → name_at stage r.proposal ≡ o.name p
@@ -226,8 +241,8 @@ module _ {S R V U K : Type 0} (W : KnownPlaces S R V U K) (kind : WorldKind) (sc
   pub most_is : W.most_of a.first ≡ w.snap.most
   most_is = sym (most_after W (fresh_world a.first (W.most_of a.first) w.limit) r w a.run)
 
-  pub rename_law : KeepsRenameLaw (terms_of W kind w) (record { most = w.snap.most; placing = W.ties.placing; scanning = scanning }) r
-  rename_law = subst (λ (m : ℕ). KeepsRenameLaw (terms_of W kind w) (record { most = m; placing = W.ties.placing; scanning = scanning }) r) most_is (law_held W (terms_of W kind w) scanning named a.first a.new most_is a.low a.high w r a.run)
+  pub rename_law : KeepsRenameLaw (terms_of W kind w) (record { most = w.snap.most; placing = W.ties.placing; scanning = scanning; collecting = W.ties.reads w.snap.most w.snap.most }) r
+  rename_law = subst (λ (m : ℕ). KeepsRenameLaw (terms_of W kind w) (record { most = m; placing = W.ties.placing; scanning = scanning; collecting = W.ties.reads m m }) r) most_is (law_held W (terms_of W kind w) scanning named a.first a.new most_is a.low a.high w r a.run)
 
   pub name_law : (o : RenameObject) → IsRun (terms_of W kind w) r o → (p : ℕ) → name_in w p ≡ o.name p
   name_law = name_held W (terms_of W kind w) scanning named a.first a.new most_is a.low a.high w r a.run

@@ -2,6 +2,7 @@
 use Rattle.std.proofs.Common.{◌≡◌, ℕ, zero, suc, ◌+◌, ◌-◌, ◌*◌, ◌<◌, ◌≤◌, ◌==◌, Bool, true, false, not, cond, ◌&&◌, ◌||◌, ◌⊎◌, List, [], ◌∷◌, length, Some, inl, inr, refl, sym, ap, ◌∙◌, arith}
 use Rattle.std.specs.Prelude.{nat_le}
 use Rattle.std.specs.List.{count_by}
+use Rattle.std.proofs.lemmas.Bool.{cases_Bool}
 use Rattle.std.proofs.lemmas.Bool.Decides.{eqb_tells, leb_tells}
 use Rattle.std.proofs.lemmas.List.Sums.{count_by-le-length, sum_by-cons}
 use Rattle.step_memory.specs.View.{value_of}
@@ -50,6 +51,14 @@ module _ (taken : ℕ → Bool) where
   least_has r (suc n) l = elim (leb_tells r (free_up_to taken n)) [
     | inl e ↦ rw e.0 (least_has r n e.1)
     | inr e ↦ rw e.0 (let few = e.1 in let k = free_next n in omega arith)
+  ]
+
+  -- and it is free itself
+  pub least_free : (r n : ℕ) → 1 ≤ r → r ≤ free_up_to taken n → taken (least_with taken r n) ≡ false
+  least_free r zero some l = absurd (omega arith)
+  least_free r (suc n) some l = elim (leb_tells r (free_up_to taken n)) [
+    | inl e ↦ rw e.0 (least_free r n some e.1)
+    | inr e ↦ rw e.0 (elim (cases_Bool (taken (suc n))) [ inl y ↦ absurd (let few = e.1 in let same = free_taken n y in omega arith) | inr not_taken ↦ not_taken ])
   ]
 
   -- where one number more is taken, one less is free
@@ -130,3 +139,12 @@ next_small id s view h =
     let up = free_or_taken id view (next_proposal id view) in
     let low : 1 ≤ next_proposal id view = (elim (eqb_tells (next_proposal id view) 0) [ inl e ↦ absurd (let none : free_up_to (is_taken id view) (next_proposal id view) ≡ 0 = ap (free_up_to (is_taken id view)) e.1 in omega arith) | inr e ↦ let n = e.1 in omega arith ]) in
     (low, omega arith)
+
+-- and no other proposes it
+pub next_free : (id s : ℕ) (view : List (ℕ × ℕ)) → value_of id view ≡ Some s → is_taken id view (next_proposal id view) ≡ false
+next_free id s view h =
+    let own = own_pair id s view h in
+    let a = own.0 in
+    let b = own.1 in
+    let enough = free_or_taken id view (rank id view + length view) in
+    least_free (is_taken id view) (rank id view) (rank id view + length view) a (omega arith)

@@ -10,10 +10,10 @@ use Rattle.std.proofs.lemmas.List.{length-append}
 use Rattle.snapshot_core.specs.declared.client.SnapReply.{SnapReply}
 use Rattle.snapshot_core.specs.SnapWorld.{SnapState, beginner_at}
 use Rattle.rename_core.specs.declared.round.Round.{Round}
-use Rattle.rename_core.specs.Round.{name_at, stage_refusal, followed}
+use Rattle.rename_core.specs.Round.{stage_refusal, followed}
 use Rattle.rename_core.specs.RenameState.{RenameState}
 use Rattle.snapshot_core.specs.Places.{KnownPlaces}
-use Rattle.rename_core.specs.RenameWorld.{name_in, after_wish, snap_step, snap_told, after_follow, begun_snap, rename_answer, after_rename_step, step_refusal}
+use Rattle.rename_core.specs.RenameWorld.{after_wish, snap_step, snap_told, after_follow, begun_snap, rename_answer, after_rename_step, step_refusal}
 use Rattle.rename_core.specs.declared.round.Wish.{Wish}
 use Rattle.rename_core.specs.declared.round.Wish.TheVariants.{Nothing, Update, Scan}
 use Rattle.rename_core.proofs.Large.{IsAsLarge, scan_large, update_large, snap_large}

@@ -114,6 +114,7 @@ pub record IsTied {S U K : Type 0} (terms : RenameTerms) (Tie : SnapState S U K 
   pub high : w.limit ≤ 1000000
   pub most : terms.most ≡ w.snap.most
   pub many : o.many ≡ length w.rounds
+  pub roomy : o.many ≤ terms.most
   pub counted : length w.rounds ≡ length w.snap.participants
   pub distinct : AreDistinct w.rounds
   pub begun : (p : ℕ) → o.begun p ≡ is_some (participant_of p w.rounds)
@@ -178,6 +179,7 @@ module _ {S U K : Type 0} (terms : RenameTerms) (Tie : SnapState S U K → SnapO
       high = i.high;
       most = i.most ∙ sym k.large.most;
       many = k.many ∙ i.many ∙ sym (length-with_participant w.rounds (beginner p r));
+      roomy = rw k.many i.roomy;
       counted = length-with_participant w.rounds (beginner p r) ∙ i.counted ∙ sym k.large.many;
       distinct = distinct_put w.rounds (beginner p r) i.distinct;
       begun = λ q. ap (λ (f : ℕ → Bool). f q) k.begun ∙ i.begun q ∙ sym (put_there q);

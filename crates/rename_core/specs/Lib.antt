@@ -1,6 +1,7 @@
 pub mod Proposals
 pub mod RenameObject
 pub mod Pace
+pub mod Alone
 pub mod Law
 pub mod Ranges
 pub mod Config

@@ -51,6 +51,14 @@ module _ {S R V U K : Type 0} (W : KnownPlaces S R V U K) where
   abbrev pub LeadsOn : RenameState S U K → RenameState S U K → Call Reply → Type 0
   LeadsOn old new call = (r : List (Call Reply)) → IsAfter old r → IsAfter new (r ++ call ∷ [])
 
+  -- a call with a reply that it may get leads on
+  abbrev pub CallLeadsOn : RenameState S U K → RenameState S U K → Call Reply → Type 0
+  CallLeadsOn w new h = new ≡ next w h → IsReply w h → LeadsOn w new h
+
+  -- a call keeps the most participants and the round limit
+  abbrev pub KeepsSizes : RenameState S U K → Call Reply → Type 0
+  KeepsSizes w h = ((next w h).snap.most ≡ w.snap.most) × ((next w h).limit ≡ w.limit)
+
   -- the law's numbers: the most participants and the round limit, and whether a step may lack memory
   abbrev pub terms_of : WorldKind → RenameState S U K → RenameTerms
   terms_of kind w = record { most = w.snap.most; limit = w.limit; grows = is_tree kind }
@@ -61,7 +69,12 @@ module _ {S R V U K : Type 0} (W : KnownPlaces S R V U K) where
 
   -- where b have begun, of whom walks over the segments make so many reads, a scan makes at most b + 1 collects
   abbrev pub bounds_of : RenameState S U K → SnapBounds
-  bounds_of w = record { most = w.snap.most; placing = W.ties.placing; scanning = λ b. (b + 1) * W.ties.reads w.snap.most b }
+  bounds_of w = record {
+    most = w.snap.most;
+    placing = W.ties.placing;
+    scanning = λ b. (b + 1) * W.ties.reads w.snap.most b;
+    collecting = W.ties.reads w.snap.most w.snap.most;
+  }
 
   -- every list of calls that leads to this world keeps the law
   abbrev pub IsLawful : WorldKind → RenameState S U K → Type 0

@@ -1,7 +1,7 @@
 //! What structures over a renaming world stand on.
 
-ghost use Rattle.std.specs.Prelude.{◌≡◌, ℕ, List, [], ◌∷◌, ◌++◌};
-ghost use Rattle.rename_core.specs.RenameCalls.{next, IsReply, LeadsOn, IsLawful, AnswersUnrefused};
+ghost use Rattle.std.specs.Prelude.{ℕ};
+ghost use Rattle.rename_core.specs.RenameCalls.{CallLeadsOn, KeepsSizes, IsLawful, AnswersUnrefused};
 ghost use Rattle.rename_core.specs.RenameState.{RenameState};
 ghost use Rattle.rename_core.specs.declared.reply.Reply.{Reply};
 ghost use Rattle.step_memory.specs.Calls.{Call};
@@ -14,8 +14,8 @@ use std::alloc::Allocator;
 /// list of calls that leads to a world keeps the law of renaming. After such a list a step is refused, want of memory aside,
 /// only where its round is ended or its participant has not begun.
 pub fn law_of_renaming_calls<W: RenamePlaces<A>, A: Allocator>()
-    ensures call { (w new : RenameState W W.Walker W.Walk) (h : Call Reply) → new ≡ next ⟦<W as Known>⟧.places w h → IsReply ⟦<W as Known>⟧.places w h → LeadsOn ⟦<W as Known>⟧.places w new h }
-    ensures kept { (w : RenameState W W.Walker W.Walk) (h : Call Reply) → ((next ⟦<W as Known>⟧.places w h).snap.most ≡ w.snap.most) × ((next ⟦<W as Known>⟧.places w h).limit ≡ w.limit) }
+    ensures call { (w new : RenameState W W.Walker W.Walk) (h : Call Reply) → CallLeadsOn ⟦<W as Known>⟧.places w new h }
+    ensures kept { (w : RenameState W W.Walker W.Walk) (h : Call Reply) → KeepsSizes ⟦<W as Known>⟧.places w h }
     ensures answered { (w : RenameState W W.Walker W.Walk) (p : ℕ) → AnswersUnrefused ⟦<W as Known>⟧.places w p }
     ensures law { (w : RenameState W W.Walker W.Walk) → IsLawful ⟦<W as Known>⟧.places W.world w }
 {}

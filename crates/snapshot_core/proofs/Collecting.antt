@@ -1,7 +1,7 @@
 -- a scan under way: what its collects tell of the past
 use Rattle.std.proofs.Common.{◌≡◌, ◌≢◌, ℕ, ◌+◌, ◌<◌, ◌≤◌, ◌==◌, Bool, true, false, not, ◌&&◌, ◌||◌, ◌⊎◌, List, [], length, map, Option, Some, None, inl, inr, refl, sym, ap, ◌∙◌, arith}
 use Rattle.std.specs.Prelude.{option_map}
-use Rattle.std.proofs.lemmas.Bool.{cases_Bool}
+use Rattle.std.proofs.lemmas.Bool.{cases_Bool, or_cases, or_parts, or_left, or_right}
 use Rattle.std.proofs.lemmas.List.{length-map}
 use Rattle.std.proofs.lemmas.Bool.Decides.{eqb_tells, leb_tells}
 use Rattle.step_memory.specs.SetAt.{set_at}
@@ -15,21 +15,6 @@ use Rattle.step_memory.proofs.CountLemmas.{count_to-lt, count_to-mono, count_to-
 use Rattle.snapshot_core.proofs.SightingLemmas.{is_known, sighting_of-with, is_known-with, length-with-known, length-with-unknown, noted-known, noted-room, sighting_of-carried, is_known-carried}
 use Rattle.snapshot_core.proofs.Shown.{AreMet, met-carried, met-set, met-with, number_met-is, shown_rising, shown_is}
 use Rattle.snapshot_core.proofs.Histories.{number, value, value_in, IsHistory}
-
-or_false : (a b : Bool) → (a || b) ≡ false → (a ≡ false) × (b ≡ false)
-or_false true b h = absurd (cc)
-or_false false b h = (refl, h)
-
-or_true : (a b : Bool) → (a || b) ≡ true → (a ≡ true) ⊎ (b ≡ true)
-or_true true b h = inl refl
-or_true false b h = inr h
-
-or_left : (a b : Bool) → a ≡ true → (a || b) ≡ true
-or_left a b h = rw h refl
-
-or_right : (a b : Bool) → b ≡ true → (a || b) ≡ true
-or_right true b h = refl
-or_right false b h = h
 
 abbrev pub changed_in : List Sighting → ℕ → Bool
 changed_in ss x = (sighting_of x ss).changed
@@ -139,6 +124,16 @@ module _ (b last : ℕ) (past : ℕ → ℕ → Option Record) (moment : ℕ →
       let some = count_of-lt who place b roll p own mine (changed_in ss) c.own_same in
       let counted = c.counted in
       omega arith
+
+  -- there is room to note each segment that was written
+  pub has_room : b ≤ 64 → (x : ℕ) (r : Record) → past last x ≡ Some r → (is_known ss x ≡ true) ⊎ (length ss < 64)
+  has_room few x r here = elim (cases_Bool (is_known ss x)) [
+    | inl y ↦ inl y
+    | inr n ↦
+        let some = count_of-lt who place b roll r.identity x (h.owned x last r (omega arith) here) (is_known ss) n in
+        let many = c.known in
+        inr (omega arith)
+  ]
 
   since_last : since ≤ last
   since_last = let a = c.since_begun in let e = c.begun_last in omega arith
@@ -356,7 +351,7 @@ module _ (b last : ℕ) (past : ℕ → ℕ → Option Record) (moment : ℕ →
           let now = now_number in
           omega arith
       | inr n ↦
-          let was : changed_in ss x ≡ true = (elim (or_true (changed_in ss x) change (sym changed_here ∙ e)) [ inl y ↦ y | inr y ↦ absurd (let k : true ≡ false = sym y ∙ n in cc) ]) in
+          let was : changed_in ss x ≡ true = (elim (or_cases (changed_in ss x) change (sym changed_here ∙ e)) [ inl y ↦ y | inr y ↦ absurd (let k : true ≡ false = sym y ∙ n in cc) ]) in
           let low = c.changed_unread x was unseen in
           let same = unchanged n (compared x was) in
           omega arith
@@ -436,7 +431,7 @@ module _ (b last : ℕ) (past : ℕ → ℕ → Option Record) (moment : ℕ →
         | inr g ↦ c.changed_read y s (sym (changed_other y g.0) ∙ e) g.1
       ];
       settled = λ e g y s k.
-          let both = or_false d change g in
+          let both = or_parts d change g in
           elim (seen_cases y s k) [
             | inl u ↦ before_same y ∙ ap (λ (z : ℕ). (sighting_of z ss).before) u.0 ∙ unchanged both.1 e ∙ ap (λ (z : Record). z.number) u.1
             | inr u ↦ before_same y ∙ c.settled e both.0 y s u.1
@@ -477,7 +472,7 @@ module _ (b last : ℕ) (past : ℕ → ℕ → Option Record) (moment : ℕ →
         | inl y ↦ let more = count_more y in let was = c.counted in omega arith
         | inr n ↦
             let more = count_kept in
-            let old : d ≡ true = (elim (or_true d change e) [ inl y ↦ y | inr y ↦ absurd (let k : true ≡ false = sym y ∙ n in cc) ]) in
+            let old : d ≡ true = (elim (or_cases d change e) [ inl y ↦ y | inr y ↦ absurd (let k : true ≡ false = sym y ∙ n in cc) ]) in
             let was = c.differing old in
             omega arith
       ];

@@ -22,7 +22,7 @@ use Rattle.snapshot_core.proofs.Tied.{IsAtTask, IsTied, era_now}
 
 -- so many participants at most, steps to a place, and those of a scan that keep the bound
 abbrev pub bounds_with : {S R V U K : Type 0} → LawfulPlaces S R V U K → ℕ → (ℕ → ℕ) → SnapBounds
-bounds_with t most scans = record { most = most; placing = t.known.ties.placing; scanning = scans }
+bounds_with t most scans = record { most = most; placing = t.known.ties.placing; scanning = scans; collecting = t.known.ties.reads most most }
 
 some_is_not_none : (n : ℕ) → 1 ≤ n → (n == 0) ≡ false
 some_is_not_none n l = elim (eqb_tells n 0) [ inl e ↦ absurd (let z = e.1 in omega arith) | inr e ↦ e.0 ]

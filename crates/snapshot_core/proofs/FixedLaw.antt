@@ -29,5 +29,5 @@ fits_row m b some l =
 pub fixed_law : (w : SnapState (List (Option Record)) FixedWalker FixedWalk) → w.most ≤ 16 → IsLawfulFrom fixed_places (fresh_row w.most) (fixed_bounds w.most) w
 fixed_law w few r a =
     let many : length (fresh_row w.most) ≡ w.most = length-replicate w.most (let nothing : Option Record = None in nothing) in
-    subst (λ (m : ℕ). KeepsSnapshotLaw (record { most = m; placing = λ b. 0; scanning = λ b. w.most * (w.most + 1) }) r) many
+    subst (λ (m : ℕ). KeepsSnapshotLaw (record { most = m; placing = λ b. 0; scanning = λ b. w.most * (w.most + 1); collecting = m }) r) many
     (law_holds fixed_places fixed_laws w (fresh_row w.most) (λ b. w.most * (w.most + 1)) (empty_row w.most few) (rw many (fits_row w.most)) r a)

@@ -202,6 +202,7 @@ module _ {S R V U K : Type 0} (t : LawfulPlaces S R V U K) (w : SnapState S U K)
               collects = 0;
               reads = 0;
               walk = begins t w.memory (ways_of w.participants) (length w.participants) o.last i.past o.moment i.place i.who i.consistent i.history (roll_now t w o i) i.present (reached_now t w o i) own o.last id mine;
+              beginning = λ _. refl;
               count = omega arith;
               collecting = collecting_new (length w.participants) o.last i.past i.place i.who own (t.known.ties.IsAhead w.memory (t.known.walk_from w.memory)) (t.known.ties.IsUpcoming (t.known.walk_from w.memory)) (starts_ahead t w.memory (ways_of w.participants) (length w.participants) o.last i.past o.moment i.place i.who i.consistent i.history (roll_now t w o i) i.present (reached_now t w o i));
             })
@@ -569,11 +570,11 @@ module _ {S R V U K : Type 0} (known : KnownPlaces S R V U K) (laws : PlacesLaws
   abbrev lawful : LawfulPlaces S R V U K
   lawful = record { known = known; laws = laws }
 
-  abbrev all_reads : S → ℕ → ℕ
+  abbrev pub all_reads : S → ℕ → ℕ
   all_reads first b = (b + 1) * known.ties.reads (known.most_of first) b
 
   -- after every list of calls
-  after_all : (w : SnapState S U K) (first : S) (r : List SnapCall) → known.ties.IsNew first → IsAfter known first w r → Holds lawful (all_reads first) (known.most_of first) w r
+  pub after_all : (w : SnapState S U K) (first : S) (r : List SnapCall) → known.ties.IsNew first → IsAfter known first w r → Holds lawful (all_reads first) (known.most_of first) w r
   after_all w first r new a = holds_after lawful (all_reads first) first new (λ b some l. omega arith) w r a
 
   pub law_holds : (w : SnapState S U K) → IsLawful known w

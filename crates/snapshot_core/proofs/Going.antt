@@ -100,6 +100,7 @@ module _ {S R V U K : Type 0} (t : LawfulPlaces S R V U K) (w : SnapState S U K)
               collects = g.collects;
               reads = g.reads;
               walk = k.read s.walk g.reads g.walk;
+              beginning = λ e. g.beginning e ∙ sym k.beginning;
               count = rw same_most g.count;
               collecting = collecting_later (length w.participants) o.last i.past wrote i.place i.who y since g.collects (t.known.ties.IsAhead w.memory s.walk) (t.known.ties.IsAhead written s.walk) (t.known.ties.IsUpcoming s.walk) s.is_first s.differs s.sightings kept_past (other y n) (k.ahead s.walk) g.collecting;
             };
@@ -169,6 +170,7 @@ module _ {S R V U K : Type 0} (t : LawfulPlaces S R V U K) (w : SnapState S U K)
           collects = g.collects;
           reads = g.reads;
           walk = kept.read s.walk g.reads g.walk;
+          beginning = λ e. g.beginning e ∙ sym kept.beginning;
           count = rw same_most (
               let was = g.count in
               let one = mul-le-mul_left g.collects more in

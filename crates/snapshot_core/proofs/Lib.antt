@@ -12,6 +12,8 @@ pub mod SureSteps
 pub mod Dues
 pub mod OwnAccesses
 pub mod Following
+pub mod ScanAlone
+pub mod Alone
 pub mod Fronts
 pub mod Clients
 pub mod FixedLaw

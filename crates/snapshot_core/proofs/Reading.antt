@@ -1,7 +1,7 @@
 -- a scan over any places, read by read
-use Rattle.std.proofs.Common.{◌≡◌, ◌≢◌, ℕ, ◌+◌, ◌*◌, ◌≤◌, ◌==◌, Bool, true, false, not, ◌&&◌, ◌⊎◌, List, Option, Some, None, inl, inr, refl, sym, ap, subst, ◌∙◌, arith}
+use Rattle.std.proofs.Common.{◌≡◌, ◌≢◌, ℕ, ◌+◌, ◌*◌, ◌≤◌, ◌==◌, true, false, not, ◌⊎◌, List, Option, Some, None, inl, inr, refl, sym, ap, subst, ◌∙◌, arith}
 use Rattle.std.proofs.Math.Nat.{add-mul, mul-le-mul_right}
-use Rattle.std.proofs.lemmas.Bool.{cases_Bool, not-true}
+use Rattle.std.proofs.lemmas.Bool.{and_parts, cases_Bool, not-true}
 use Rattle.std.proofs.lemmas.Bool.Decides.{eqb_tells}
 use Rattle.step_memory.specs.declared.record.Record.{Record}
 use Rattle.snapshot_core.specs.declared.scan.Scan.{Scan}
@@ -13,10 +13,6 @@ use Rattle.snapshot_core.proofs.LawfulPlaces.{LawfulPlaces}
 use Rattle.snapshot_core.proofs.Histories.{IsHistory}
 use Rattle.snapshot_core.proofs.Collecting.{IsCollecting, IsRoll, changed_in, pass, pass_record, borrowed, clean, next_collect, few_collects}
 
-and_true : (a b : Bool) → (a && b) ≡ true → (a ≡ true) × (b ≡ true)
-and_true true b h = (refl, h)
-and_true false b h = absurd (cc)
-
 -- a view shows a moment since this one
 abbrev pub Shown : ℕ → ℕ → (ℕ → ℕ → Option ℕ) → List (ℕ × ℕ) → Type 0
 Shown last since moment view = (i : ℕ) × (since ≤ i) × (i ≤ last) × IsMoment view (moment i)
@@ -26,6 +22,7 @@ pub record GoesOn {S R V U K : Type 0} (t : LawfulPlaces S R V U K) (m : S) (b l
   pub collects : ℕ
   pub reads : ℕ
   pub walk : t.known.ties.HasRead m s.walk reads
+  pub beginning : reads ≡ 0 → s.walk ≡ t.known.walk_from m
   pub count : steps ≤ collects * t.known.ties.reads (t.known.most_of m) b + reads
   pub collecting : IsCollecting b last past place who own since collects (t.known.ties.IsAhead m s.walk) (t.known.ties.IsUpcoming s.walk) s.is_first s.differs s.sightings
 
@@ -82,9 +79,9 @@ module _ {S R V U K : Type 0} (t : LawfulPlaces S R V U K) (m : S) (ways : ℕ �
                 let few = g.0 in
                 let more : steps + 1 ≤ (collects + 1) * t.known.ties.reads (t.known.most_of m) b + 0 = (let product = add-mul collects 1 (t.known.ties.reads (t.known.most_of m) b) in omega arith) in
                 elim (cases_Bool s.is_first) [
-                  | inl f ↦ rw (over, f) (record { collects = collects + 1; reads = 0; walk = begins; count = more; collecting = again (inl f) })
+                  | inl f ↦ rw (over, f) (record { collects = collects + 1; reads = 0; walk = begins; beginning = λ _. refl; count = more; collecting = again (inl f) })
                   | inr f ↦ elim (cases_Bool s.differs) [
-                    | inl d ↦ rw (over, f, d) (record { collects = collects + 1; reads = 0; walk = begins; count = more; collecting = again (inr d) })
+                    | inl d ↦ rw (over, f, d) (record { collects = collects + 1; reads = 0; walk = begins; beginning = λ _. refl; count = more; collecting = again (inr d) })
                     | inr d ↦ rw (over, f, d) (clean b last past moment place who h roll own since collects (λ y. ⊥) (λ y. ⊥) s.is_first s.differs s.sightings done (λ y e. e) f d)
                   ]
                 ]
@@ -92,6 +89,7 @@ module _ {S R V U K : Type 0} (t : LawfulPlaces S R V U K) (m : S) (ways : ℕ �
               collects = collects;
               reads = j + 1;
               walk = g.1.counted j walk on;
+              beginning = λ e. absurd (omega arith);
               count = omega arith;
               collecting = c (t.known.ties.IsAhead m (t.known.walks.resumed s.walk got)) (t.known.ties.IsUpcoming (t.known.walks.resumed s.walk got)) (λ y a n. (g.1.ahead y a n).0) (λ y e. e);
             })
@@ -122,8 +120,8 @@ module _ {S R V U K : Type 0} (t : LawfulPlaces S R V U K) (m : S) (ways : ℕ �
           let unseen : c.seen x ≡ None = c.upcoming x (g.1.here x at).1 in
           elim (cases_Bool (is_second_change s x r)) [
             | inl y ↦
-                let both = and_true (is_change s x r) (changed_in s.sightings x) y in
-                let apart = and_true (not s.is_first) (not ((sighting_of x s.sightings).before == r.number)) both.0 in
+                let both = and_parts (is_change s x r) (changed_in s.sightings x) y in
+                let apart = and_parts (not s.is_first) (not ((sighting_of x s.sightings).before == r.number)) both.0 in
                 let other : (sighting_of x s.sightings).before ≢ r.number = λ e. elim (eqb_tells (sighting_of x s.sightings).before r.number) [ inl w ↦ (let k : not true ≡ true = rw w.0 at apart.1 in let two : false ≡ true = k in absurd (cc)) | inr w ↦ w.1 e ] in
                 rw y (borrowed b last past moment place who h roll own since collects (t.known.ties.IsAhead m s.walk) (t.known.ties.IsUpcoming s.walk) s.is_first s.differs s.sightings c x r here unseen (not-true s.is_first apart.0) other both.1)
             | inr n ↦ rw n (walks_on (met_anew s x r) j collects steps walk count (λ Ahead' Upcoming' still fewer.

@@ -1,6 +1,7 @@
 -- the view that a collect shows: each value that it met, under its identity
 use Rattle.std.proofs.Common.{◌≡◌, ℕ, suc, ◌+◌, ◌<◌, ◌≤◌, ◌==◌, Bool, true, false, cond, List, [], ◌∷◌, length, get_or, map, drop, drop-cons, Option, Some, None, inl, inr, refl, sym, ap, ◌∙◌, arith}
 use Rattle.std.specs.Prelude.{option_map, ◌||◌}
+use Rattle.std.proofs.lemmas.Bool.{or_left, or_right}
 use Rattle.std.proofs.lemmas.Bool.Decides.{eqb_tells}
 use Rattle.step_memory.specs.SetAt.{set_at}
 use Rattle.step_memory.proofs.SetAtLemmas.{set_at-other}
@@ -95,13 +96,6 @@ either true true x y = refl
 either true false x y = refl
 either false true x y = refl
 either false false x y = refl
-
-or_left : (a b : Bool) → a ≡ true → (a || b) ≡ true
-or_left a b h = rw h refl
-
-or_right : (a b : Bool) → b ≡ true → (a || b) ≡ true
-or_right true b h = refl
-or_right false b h = h
 
 value_with : (f : ℕ → Option ℕ) (q : ℕ) (view : List (ℕ × ℕ)) (o : Option Met) → Agrees f o → value_of q (shown_with view o) ≡ cond (is_of q o) (f q) (value_of q view)
 value_with f q view None h = refl

@@ -120,6 +120,7 @@ fixed_laws = record {
       );
   goes = λ s b ways c k j h. (let i = h.inside in omega arith, row_reads s k j h);
   rising = λ most b. omega arith;
+  farther = λ b. omega arith;
   waits = λ b p. inr (λ c. refl);
   plain = λ u. tt;
   sure_nothing = λ s. refl;

@@ -48,4 +48,4 @@ fresh_row most = replicate most None
 
 -- over m of them nobody takes a step to its place, and a scan makes at most m(m + 1) reads
 abbrev pub fixed_bounds : ℕ → SnapBounds
-fixed_bounds m = record { most = m; placing = λ b. 0; scanning = λ b. m * (m + 1) }
+fixed_bounds m = record { most = m; placing = λ b. 0; scanning = λ b. m * (m + 1); collecting = m }

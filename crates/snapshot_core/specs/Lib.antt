@@ -10,3 +10,4 @@ pub mod SnapWorld
 pub mod SnapCalls
 pub mod Standing
 pub mod Snapshot
+pub mod Alone

@@ -119,6 +119,7 @@ module _ {S R V U K : Type 0} (t : KnownPlaces S R V U K) where
     pub goes : (s : S) (b : ℕ) (ways : ℕ → Option U) → t.ties.IsConsistent s b ways →
         (k : K) (j : ℕ) → t.ties.HasRead s k j → (j + 1 ≤ t.ties.reads (t.most_of s) b) × ReadsOn t s k
     pub rising : (most b : ℕ) → t.ties.reads most b ≤ t.ties.reads most (b + 1)
+    pub farther : (b : ℕ) → t.ties.placing b ≤ t.ties.placing (b + 1)
     -- who begins has no place yet, or nobody takes a step to its place
     pub waits : (b p : ℕ) → (t.place_of (t.walker_from b p) ≡ None) ⊎ ((c : ℕ) → t.ties.placing c ≡ 0)
     -- an access on the way to a place is a read, a write or none

@@ -109,11 +109,13 @@ pub record ShowsMoment (o : SnapObject) (since : ℕ) (view : List (ℕ × ℕ))
   pub is : IsMoment view (o.moment index)
   pub few : length view ≤ o.begun
 
--- the most participants; and the most steps to a place, and of a scan, where so many have begun
+-- the most participants; the most steps to a place, and of a scan, where so many have begun; and the most reads of one
+-- collect
 pub record SnapBounds : Type 0 where
   pub most : ℕ
   pub placing : ℕ → ℕ
   pub scanning : ℕ → ℕ
+  pub collecting : ℕ
 
 -- the most steps of a task. After its scan an update writes once
 abbrev pub most_steps : SnapBounds → ℕ → Task → ℕ
@@ -203,7 +205,12 @@ IsLawfulFrom t first bounds w = (r : List SnapCall) → IsAfter t first w r → 
 
 -- the bounds over these places, with this one on scans
 abbrev pub bounds_over : {S R V U K : Type 0} → KnownPlaces S R V U K → S → (ℕ → ℕ) → SnapBounds
-bounds_over t first scanning = record { most = t.most_of first; placing = t.ties.placing; scanning = scanning }
+bounds_over t first scanning = record {
+  most = t.most_of first;
+  placing = t.ties.placing;
+  scanning = scanning;
+  collecting = t.ties.reads (t.most_of first) (t.most_of first);
+}
 
 -- every list of calls that leads to this object, from places in which nothing was written, keeps the law: where a bound on
 -- scans leaves room for as many collects as there may be

@@ -1,6 +1,7 @@
 //! Laws of the snapshot object, which run nothing.
 
 ghost use Rattle.std.specs.Prelude.{◌≡◌, ◌≤◌, ℕ, [], false};
+ghost use Rattle.snapshot_core.specs.Alone.{EndsSoonAlone, EndsAlike};
 ghost use Rattle.snapshot_core.specs.FixedTies.{fixed_places, fresh_row, fixed_bounds};
 ghost use Rattle.snapshot_core.specs.Places.{BeginsAlike, BoundsScans};
 ghost use Rattle.snapshot_core.specs.SnapCalls.{SnapCall, fresh_over, IsAfter, CallLeadsOn, MakesOwnAccess, BeginsTheSame, HasDistinctPlaces, IsConsistentAfter};
@@ -52,4 +53,13 @@ pub fn law_of_clients<W: Places>()
     ensures begun { (w : SnapState W W.Walker W.Walk) (p : ℕ) → BeginsSo ⟦<W as Known>⟧.places w p }
     ensures idle { (w : SnapState W W.Walker W.Walk) (p : ℕ) → GoesSoIdle ⟦<W as Known>⟧.places w p }
     ensures busy { (w : SnapState W W.Walker W.Walk) (p : ℕ) → GoesSoBusy ⟦<W as Known>⟧.places w p }
+{}
+
+/// How soon one ends what it does who alone steps, over any places, where a collect makes at most c reads: a scan within 2c
+/// steps from its beginning, and within 3c - 1 from any point of it, whatever others did before; an update one step later.
+/// So it does not make as many collects as it might among others. What others do meanwhile changes nothing of this, where
+/// they write nothing.
+pub fn law_of_steps_alone<W: Places>()
+    ensures soon { (w : SnapState W W.Walker W.Walk) (p : ℕ) → EndsSoonAlone ⟦<W as Known>⟧.places w p }
+    ensures alike { (w other : SnapState W W.Walker W.Walk) (p : ℕ) → EndsAlike ⟦<W as Known>⟧.places w other p }
 {}

@@ -169,6 +169,7 @@ grid_laws = record {
       );
   goes = λ g b ways c k j h. (let i = h.inside in let room = h.room in omega arith, grid_reads g k j h);
   rising = λ most b. omega arith;
+  farther = λ b. omega arith;
   waits = λ b p. inl refl;
   plain = λ u. sent_plain u.walker.visitor.identity u.walker.visitor.x u.walker.visitor.y u.walker.visitor.stage;
   sure_nothing = λ g. refl;

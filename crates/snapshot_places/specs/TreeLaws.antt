@@ -138,6 +138,7 @@ tree_laws = record {
   starts = λ t b ways c p u here. ((0, read_at_first (marked_in tree_steps t.nodes)), λ x at. place_ahead tree_steps t.most b t.nodes (walks_of ways) c p x (rw (on_way ways p u here) at));
   goes = λ t b ways c k j h. (walk_few tree_steps t.most b t.nodes (walks_of ways) c k.walk h.0 j h.1, tree_reads t k j h);
   rising = λ most b. omega arith;
+  farther = λ b. omega arith;
   waits = λ b p. inl refl;
   plain = λ u. way_plain u.walker;
   sure_nothing = λ t. refl;

@@ -1,3 +1,4 @@
+use Rattle.desk.proofs.NamedAlone.{names_soon_alone}
 use Rattle.desk.proofs.NamesGiven.{one_each, never_two, small_names}
 use Rattle.desk.proofs.laws.law_of_names.Goals as goal
 
@@ -9,3 +10,6 @@ returns-clause-never_two c = never_two
 
 pub returns-clause-small : goal.returns-clause-small
 returns-clause-small c = small_names
+
+pub returns-clause-soon_alone : goal.returns-clause-soon_alone
+returns-clause-soon_alone c = names_soon_alone

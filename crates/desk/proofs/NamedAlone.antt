@@ -1,0 +1,197 @@
+-- who alone steps is soon named, by exchanges alone
+use Rattle.std.proofs.Common.{◌≡◌, ℕ, ◌+◌, ◌≤◌, ◌⊎◌, true, false, cond, ◌&&◌, ◌==◌, inl, inr, List, [], ◌∷◌, ◌++◌, map, Some, None, Ok, Err, refl, sym, ap, subst, ◌∙◌, arith}
+use Rattle.std.specs.Prelude.{is_some}
+use Rattle.std.proofs.lemmas.Bool.Decides.{eqb_tells}
+use Rattle.step_memory.specs.Runs.{Run}
+use Rattle.step_memory.specs.Calls.{Call, steps_of as call_steps}
+use Rattle.step_memory.specs.Calls.Call.{Began, Stepped}
+use Rattle.step_memory.proofs.RunLemmas.{run_splits}
+use Rattle.rename_core.specs.Alone.{steps_alone, HasTwoLeft as HasTwoCalls, StepsAlone as CallsAlone}
+use Rattle.rename_core.specs.declared.reply.Reply.{Reply as StepReply}
+use Rattle.rename_core.specs.declared.reply.Reply.TheVariants.{Quiet, Placed, Proposed, Saw, Named, Spent}
+use Rattle.rename_core.specs.RenameObject.{RenameTerms, RenameObject, new_object, Allows, after, IsRun}
+use Rattle.bit_allocator.specs.Calls.Call.{Entered, Probed, Left}
+use Rattle.slot_array.specs.SlotCalls.SlotCall.{Pooled, Stored, Fetched}
+use Rattle.desk.specs.declared.event.Event.{Event}
+use Rattle.desk.specs.declared.event.Event.TheVariants as event
+use Rattle.desk.specs.declared.exchange.Exchange.{Exchange}
+use Rattle.desk.specs.declared.reply.Reply.{Reply}
+use Rattle.desk.specs.declared.reply.Reply.TheVariants as reply
+use Rattle.desk.specs.DeskCalls.{DeskCall, rename_calls, exchange, exchange_of}
+use Rattle.desk.specs.DeskCalls.DeskCall.{Renamed, Slotted}
+use Rattle.desk.specs.NamedAlone.{HasBegun, WasSpent, proposals_of, steps_of, StepsAlone, HasTwoLeft, HasName, NamesSoonAlone}
+use Rattle.desk.specs.Replies.{is_refusal, shown_step}
+use Rattle.desk.proofs.NamesGiven.{was_given, shown_by, has_named}
+
+-- where a list of calls is shown as two parts of exchanges, it has two parts
+record AreParts (calls : List DeskCall) (before more : List Exchange) : Type 0 where
+  first : List DeskCall
+  second : List DeskCall
+  is : first ++ second ≡ calls
+  shows : map exchange_of first ≡ before
+  goes_on : map exchange_of second ≡ more
+
+parts_of : (calls : List DeskCall) (before more : List Exchange) → map exchange_of calls ≡ before ++ more → AreParts calls before more
+parts_of calls [] more e = record { first = []; second = calls; is = refl; shows = refl; goes_on = e }
+parts_of [] (x ∷ before) more e = absurd (cc)
+parts_of (h ∷ calls) (x ∷ before) more e =
+    let rest : map exchange_of calls ≡ before ++ more = cc in
+    let here : exchange_of h ≡ x = cc in
+    let k = parts_of calls before more rest in
+    record { first = h ∷ k.first; second = k.second; is = ap (λ z. h ∷ z) k.is; shows = rw (here, k.shows) refl; goes_on = k.goes_on }
+
+rename_parts : (first second : List DeskCall) → rename_calls (first ++ second) ≡ rename_calls first ++ rename_calls second
+rename_parts [] second = refl
+rename_parts (Renamed h ∷ first) second = ap (λ z. h ∷ z) (rename_parts first second)
+rename_parts (Slotted h ∷ first) second = rename_parts first second
+
+-- who has begun has
+began_now : (o : RenameObject) (p : ℕ) (h : Call StepReply) → o.begun p ≡ true → (after o h).begun p ≡ true
+began_now o p (Began q (Ok done)) e = elim (eqb_tells p q) [ inl k ↦ rw k.0 refl | inr k ↦ rw k.0 e ]
+began_now o p (Began q (Err why)) e = e
+began_now o p (Stepped q (Ok Quiet)) e = e
+began_now o p (Stepped q (Ok (Placed place))) e = e
+began_now o p (Stepped q (Ok (Proposed m))) e = e
+began_now o p (Stepped q (Ok (Saw view))) e = e
+began_now o p (Stepped q (Ok (Named m view))) e = e
+began_now o p (Stepped q (Ok Spent)) e = e
+began_now o p (Stepped q (Err why)) e = e
+
+began_stays : (terms : RenameTerms) (o o' : RenameObject) (p : ℕ) (r : List (Call StepReply)) → Run after (Allows terms) o r o' → o.begun p ≡ true → o'.begun p ≡ true
+began_stays terms o o' p [] run e = rw run e
+began_stays terms o o' p (h ∷ r) run e = began_stays terms (after o h) o' p r run.1 (began_now o p h e)
+
+other_event : (e f : Event) (said wanted : Reply) → (e ≡ f → ⊥) → exchange e said ≡ exchange f wanted → ⊥
+other_event e f said wanted differs x = differs (ap (λ (z : Exchange). z.event) x)
+
+-- whose `begin` was answered has begun
+has_begun : (terms : RenameTerms) (o o' : RenameObject) (p : ℕ) (calls : List DeskCall) → Run after (Allows terms) o (rename_calls calls) o' → HasBegun p (map exchange_of calls) → o'.begun p ≡ true
+has_begun terms o o' p [] run h = absurd h
+has_begun terms o o' p (Renamed (Began q (Ok done)) ∷ calls) run (inl x) =
+    let e : event.Begin q ≡ event.Begin p = ap (λ (z : Exchange). z.event) x in
+    let same : q ≡ p = cc in
+    began_stays terms (after o (Began q (Ok done))) o' p (rename_calls calls) run.1 (elim (eqb_tells p q) [ inl k ↦ rw k.0 refl | inr k ↦ absurd (k.1 (sym same)) ])
+has_begun terms o o' p (Renamed (Began q (Err why)) ∷ calls) run (inl x) = absurd (let e : reply.Refused why ≡ reply.Ok = ap (λ (z : Exchange). z.reply) x in cc)
+has_begun terms o o' p (Renamed (Stepped q a) ∷ calls) run (inl x) = absurd (other_event (event.Step q) (event.Begin p) _ reply.Ok (λ e. cc) x)
+has_begun terms o o' p (Slotted (Pooled (Entered q a)) ∷ calls) run (inl x) = absurd (other_event (event.Enter q) (event.Begin p) _ reply.Ok (λ e. cc) x)
+has_begun terms o o' p (Slotted (Pooled (Probed q a)) ∷ calls) run (inl x) = absurd (other_event (event.Probe q) (event.Begin p) _ reply.Ok (λ e. cc) x)
+has_begun terms o o' p (Slotted (Pooled (Left q a)) ∷ calls) run (inl x) = absurd (other_event (event.Leave q) (event.Begin p) _ reply.Ok (λ e. cc) x)
+has_begun terms o o' p (Slotted (Stored q v a) ∷ calls) run (inl x) = absurd (other_event (event.Put q v) (event.Begin p) _ reply.Ok (λ e. cc) x)
+has_begun terms o o' p (Slotted (Fetched q a) ∷ calls) run (inl x) = absurd (other_event (event.Get q) (event.Begin p) _ reply.Ok (λ e. cc) x)
+has_begun terms o o' p (Renamed h ∷ calls) run (inr later) = has_begun terms (after o h) o' p calls run.1 later
+has_begun terms o o' p (Slotted h ∷ calls) run (inr later) = has_begun terms o o' p calls run later
+
+-- one call spends who is spent after it and was not before
+spent_now : (o : RenameObject) (p : ℕ) (h : Call StepReply) → (after o h).spent p ≡ true → (o.spent p ≡ true) ⊎ (h ≡ Stepped p (Ok Spent))
+spent_now o p (Began q (Ok done)) e = inl e
+spent_now o p (Began q (Err why)) e = inl e
+spent_now o p (Stepped q (Ok Quiet)) e = inl e
+spent_now o p (Stepped q (Ok (Placed place))) e = inl e
+spent_now o p (Stepped q (Ok (Proposed m))) e = inl e
+spent_now o p (Stepped q (Ok (Saw view))) e = inl e
+spent_now o p (Stepped q (Ok (Named m view))) e = inl e
+spent_now o p (Stepped q (Ok Spent)) e = elim (eqb_tells p q) [ inl k ↦ inr (rw k.1 refl) | inr k ↦ inl (rw k.0 at e) ]
+spent_now o p (Stepped q (Err why)) e = inl e
+
+-- so who is spent was told so, or was spent at first
+was_spent : (terms : RenameTerms) (o o' : RenameObject) (p : ℕ) (calls : List DeskCall) → Run after (Allows terms) o (rename_calls calls) o' → o'.spent p ≡ true → (o.spent p ≡ true) ⊎ WasSpent p (map exchange_of calls)
+was_spent terms o o' p [] run e = inl (rw run at e)
+was_spent terms o o' p (Slotted h ∷ calls) run e = elim (was_spent terms o o' p calls run e) [ inl first ↦ inl first | inr later ↦ inr (inr later) ]
+was_spent terms o o' p (Renamed h ∷ calls) run e = elim (was_spent terms (after o h) o' p calls run.1 e) [
+  | inl had ↦ elim (spent_now o p h had) [ inl first ↦ inl first | inr here ↦ inr (inl (ap (λ (k : Call StepReply). exchange_of (Renamed k)) here)) ]
+  | inr later ↦ inr (inr later)
+]
+
+-- the object counts the proposals that are told
+count_is : (terms : RenameTerms) (o o' : RenameObject) (p : ℕ) (calls : List DeskCall) → Run after (Allows terms) o (rename_calls calls) o' → o'.count p ≡ o.count p + proposals_of p (map exchange_of calls)
+count_is terms o o' p [] run = let e = ap (λ (x : RenameObject). x.count p) run in omega arith
+count_is terms o o' p (Renamed (Began q (Ok done)) ∷ calls) run = count_is terms (after o (Began q (Ok done))) o' p calls run.1
+count_is terms o o' p (Renamed (Began q (Err why)) ∷ calls) run = count_is terms o o' p calls run.1
+count_is terms o o' p (Renamed (Stepped q (Ok Quiet)) ∷ calls) run = count_is terms o o' p calls run.1
+count_is terms o o' p (Renamed (Stepped q (Ok (Placed place))) ∷ calls) run = count_is terms (after o (Stepped q (Ok (Placed place)))) o' p calls run.1
+count_is terms o o' p (Renamed (Stepped q (Ok (Proposed m))) ∷ calls) run =
+    let rest = count_is terms (after o (Stepped q (Ok (Proposed m)))) o' p calls run.1 in
+    elim (eqb_tells p q) [
+      | inl k ↦
+          let mine : (after o (Stepped q (Ok (Proposed m)))).count p ≡ o.count p + 1 = rw (k.0, k.1) refl in
+          rw k.0 (omega arith)
+      | inr k ↦
+          let same : (after o (Stepped q (Ok (Proposed m)))).count p ≡ o.count p = rw k.0 refl in
+          rw k.0 (omega arith)
+    ]
+count_is terms o o' p (Renamed (Stepped q (Ok (Saw view))) ∷ calls) run = count_is terms o o' p calls run.1
+count_is terms o o' p (Renamed (Stepped q (Ok (Named m view))) ∷ calls) run = count_is terms (after o (Stepped q (Ok (Named m view)))) o' p calls run.1
+count_is terms o o' p (Renamed (Stepped q (Ok Spent)) ∷ calls) run = count_is terms (after o (Stepped q (Ok Spent))) o' p calls run.1
+count_is terms o o' p (Renamed (Stepped q (Err why)) ∷ calls) run = count_is terms o o' p calls run.1
+count_is terms o o' p (Slotted (Pooled (Entered q a)) ∷ calls) run = count_is terms o o' p calls run
+count_is terms o o' p (Slotted (Pooled (Probed q a)) ∷ calls) run = count_is terms o o' p calls run
+count_is terms o o' p (Slotted (Pooled (Left q a)) ∷ calls) run = count_is terms o o' p calls run
+count_is terms o o' p (Slotted (Stored q v a) ∷ calls) run = count_is terms o o' p calls run
+count_is terms o o' p (Slotted (Fetched q a) ∷ calls) run = count_is terms o o' p calls run
+
+accepted : (said : StepReply) → is_refusal (shown_step said) ≡ false
+accepted Quiet = refl
+accepted (Placed place) = refl
+accepted (Proposed m) = refl
+accepted (Saw view) = refl
+accepted (Named m view) = refl
+accepted Spent = refl
+
+-- who steps alone among exchanges does among the calls
+calls_alone : (p : ℕ) (calls : List DeskCall) → StepsAlone p (map exchange_of calls) → CallsAlone p (rename_calls calls)
+calls_alone p [] a = tt
+calls_alone p (Renamed (Began q answer) ∷ calls) a = (tt, calls_alone p calls a.1)
+calls_alone p (Renamed (Stepped q (Ok said)) ∷ calls) a = (a.0 (accepted said), calls_alone p calls a.1)
+calls_alone p (Renamed (Stepped q (Err why)) ∷ calls) a = (tt, calls_alone p calls a.1)
+calls_alone p (Slotted h ∷ calls) a = calls_alone p calls a.1
+
+-- and makes as many steps
+steps_are : (p : ℕ) (calls : List DeskCall) → steps_of p (map exchange_of calls) ≡ call_steps p (rename_calls calls)
+steps_are p [] = refl
+steps_are p (Renamed (Began q answer) ∷ calls) = let rest = steps_are p calls in omega arith
+steps_are p (Renamed (Stepped q (Ok said)) ∷ calls) =
+    let rest = steps_are p calls in
+    let told = accepted said in
+    rw told (elim (q == p) as (λ b. cond (b && true) (steps_of p (map exchange_of calls) + 1) (steps_of p (map exchange_of calls)) ≡ cond b 1 0 + call_steps p (rename_calls calls)) [ true ↦ omega arith | false ↦ omega arith ])
+steps_are p (Renamed (Stepped q (Err why)) ∷ calls) =
+    let rest = steps_are p calls in
+    elim (q == p) as (λ b. cond (b && false) (steps_of p (map exchange_of calls) + 1) (steps_of p (map exchange_of calls)) ≡ 0 + call_steps p (rename_calls calls)) [ true ↦ omega arith | false ↦ omega arith ]
+steps_are p (Slotted (Pooled (Entered q a)) ∷ calls) = steps_are p calls
+steps_are p (Slotted (Pooled (Probed q a)) ∷ calls) = steps_are p calls
+steps_are p (Slotted (Pooled (Left q a)) ∷ calls) = steps_are p calls
+steps_are p (Slotted (Stored q v a) ∷ calls) = steps_are p calls
+steps_are p (Slotted (Fetched q a) ∷ calls) = steps_are p calls
+
+-- who has two proposals left among exchanges has two among the calls
+two_left : (terms : RenameTerms) (o : RenameObject) (p : ℕ) (calls : List DeskCall) → IsRun terms (rename_calls calls) o → HasTwoLeft terms.limit p (map exchange_of calls) → HasTwoCalls terms o p
+two_left terms o p calls run h = record {
+  begun = has_begun terms new_object o p calls run h.begun;
+  unnamed = elim (o.name p) as (λ z. o.name p ≡ z → z ≡ None) [
+    | None ↦ λ _. refl
+    | Some n ↦ λ e. absurd (elim (was_given terms new_object o p n (rename_calls calls) run e) [
+      | inl first ↦ (let two : None ≡ Some n = first in cc)
+      | inr given ↦ h.unnamed n (shown_by p n calls given)
+    ])
+  ] refl;
+  unspent = elim (o.spent p) as (λ z. o.spent p ≡ z → z ≡ false) [
+    | false ↦ λ _. refl
+    | true ↦ λ e. absurd (elim (was_spent terms new_object o p calls run e) [
+      | inl first ↦ (let two : false ≡ true = first in cc)
+      | inr told ↦ h.unspent told
+    ])
+  ] refl;
+  left = (let c = count_is terms new_object o p calls run in let l = h.left in omega arith);
+}
+
+pub names_soon_alone : NamesSoonAlone
+names_soon_alone terms bounds size before more run p two alone many =
+    let k = parts_of run.calls before more run.spelled in
+    let whole : rename_calls k.first ++ rename_calls k.second ≡ rename_calls run.calls = sym (rename_parts k.first k.second) ∙ ap rename_calls k.is in
+    let split = run_splits after (Allows terms) new_object (rename_calls k.first) (rename_calls k.second) run.names.object (subst (λ (x : List (Call StepReply)). IsRun terms x run.names.object) (sym whole) run.names.run) in
+    let front : HasTwoCalls terms split.0 p = two_left terms split.0 p k.first split.1 (subst (λ (x : List Exchange). HasTwoLeft terms.limit p x) (sym k.shows) two) in
+    let steps : steps_alone bounds ≤ call_steps p (rename_calls k.second) = (let e = steps_are p k.second in let same : steps_of p (map exchange_of k.second) ≡ steps_of p more = ap (steps_of p) k.goes_on in omega arith) in
+    let named : is_some (run.names.object.name p) ≡ true = run.names.alone (rename_calls k.first) (rename_calls k.second) split.0 run.names.object p whole split.1 run.names.run front (calls_alone p k.second (subst (λ (x : List Exchange). StepsAlone p x) (sym k.goes_on) alone)) steps in
+    elim (run.names.object.name p) as (λ z. run.names.object.name p ≡ z → is_some z ≡ true → HasName p (before ++ more)) [
+      | None ↦ λ e h. absurd (cc)
+      | Some n ↦ λ e h. (n, has_named terms bounds size (before ++ more) run p n e)
+    ] refl named

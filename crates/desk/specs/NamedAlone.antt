@@ -1,0 +1,71 @@
+-- how soon one is named who alone steps, by exchanges alone (this project's profile)
+use Rattle.std.specs.Prelude.{◌≡◌, ℕ, ◌+◌, ◌≤◌, ◌==◌, ◌&&◌, not, false, if◌then◌else◌, ◌⊎◌, List, [], ◌∷◌, ◌++◌}
+use Rattle.snapshot_core.specs.Snapshot.{SnapBounds}
+use Rattle.rename_core.specs.Alone.{steps_alone}
+use Rattle.rename_core.specs.RenameObject.{RenameTerms}
+use Rattle.desk.specs.declared.event.Event.{Event}
+use Rattle.desk.specs.declared.event.Event.TheVariants.{Begin, Step}
+use Rattle.desk.specs.declared.exchange.Exchange.{Exchange}
+use Rattle.desk.specs.declared.reply.Reply.{Reply}
+use Rattle.desk.specs.declared.reply.Reply.TheVariants.{Ok, Proposed, Spent}
+use Rattle.desk.specs.DeskCalls.{exchange}
+use Rattle.desk.specs.DeskRun.{IsDeskRun}
+use Rattle.desk.specs.Names.{WasNamed}
+use Rattle.desk.specs.Replies.{is_refusal}
+
+-- among these exchanges p has begun
+abbrev pub HasBegun : ℕ → List Exchange → Type 0
+HasBegun p [] = ⊥
+HasBegun p (x ∷ r) = (x ≡ exchange (Begin p) Ok) ⊎ HasBegun p r
+
+-- p has used up its rounds
+abbrev pub WasSpent : ℕ → List Exchange → Type 0
+WasSpent p [] = ⊥
+WasSpent p (x ∷ r) = (x ≡ exchange (Step p) Spent) ⊎ WasSpent p r
+
+-- one more, where this is a proposal of p
+abbrev pub proposed_more : ℕ → Event → Reply → ℕ → ℕ
+proposed_more p (Step q) (Proposed number) n = if p == q then n + 1 else n
+proposed_more p e r n = n
+
+-- how many proposals p has made
+abbrev pub proposals_of : ℕ → List Exchange → ℕ
+proposals_of p [] = 0
+proposals_of p (x ∷ r) = proposed_more p x.event x.reply (proposals_of p r)
+
+-- one more, where this is an accepted step of p
+abbrev pub stepped_more : ℕ → Event → Reply → ℕ → ℕ
+stepped_more p (Step q) r n = if q == p && not (is_refusal r) then n + 1 else n
+stepped_more p e r n = n
+
+-- how many accepted steps p has made
+abbrev pub steps_of : ℕ → List Exchange → ℕ
+steps_of p [] = 0
+steps_of p (x ∷ r) = stepped_more p x.event x.reply (steps_of p r)
+
+-- this is no accepted step of another than p
+abbrev pub LeavesAlone : ℕ → Event → Reply → Type 0
+LeavesAlone p (Step q) r = is_refusal r ≡ false → q ≡ p
+LeavesAlone p e r = Unit {0}
+
+-- none of these is. Others may begin, and compete for the pool
+abbrev pub StepsAlone : ℕ → List Exchange → Type 0
+StepsAlone p [] = Unit {0}
+StepsAlone p (x ∷ r) = LeavesAlone p x.event x.reply × StepsAlone p r
+
+-- p has begun, is neither named nor spent, and has two proposals left
+pub record HasTwoLeft (limit p : ℕ) (r : List Exchange) : Type 0 where
+  pub begun : HasBegun p r
+  pub unnamed : (n : ℕ) → WasNamed p n r → ⊥
+  pub unspent : WasSpent p r → ⊥
+  pub left : proposals_of p r + 2 ≤ limit
+
+-- p has a name
+abbrev pub HasName : ℕ → List Exchange → Type 0
+HasName p r = (n : ℕ) × WasNamed p n r
+
+-- cut each run in two at any point: who has two proposals left there, and alone steps after it, is named once it has made so
+-- many steps after it
+abbrev pub NamesSoonAlone : Type 0
+NamesSoonAlone = (terms : RenameTerms) (bounds : SnapBounds) (size : ℕ) (before more : List Exchange) → IsDeskRun terms bounds size (before ++ more) →
+    (p : ℕ) → HasTwoLeft terms.limit p before → StepsAlone p more → steps_alone bounds ≤ steps_of p more → HasName p (before ++ more)

@@ -1,0 +1,36 @@
+-- how soon a participant is named while no other steps (this project's profile)
+use Rattle.std.specs.Prelude.{◌≡◌, ℕ, ◌+◌, ◌*◌, ◌≤◌, true, false, is_some, List, [], ◌∷◌, ◌++◌, None, Ok, Err}
+use Rattle.step_memory.specs.Calls.{Call, steps_of}
+use Rattle.step_memory.specs.Calls.Call.{Began, Stepped}
+use Rattle.snapshot_core.specs.Snapshot.{SnapBounds}
+use Rattle.rename_core.specs.declared.reply.Reply.{Reply}
+use Rattle.rename_core.specs.RenameObject.{RenameTerms, RenameObject, IsRun}
+
+-- the call is no accepted step of another than p
+abbrev pub LeavesAlone : ℕ → Call Reply → Type 0
+LeavesAlone p (Began q reply) = Unit {0}
+LeavesAlone p (Stepped q (Ok said)) = q ≡ p
+LeavesAlone p (Stepped q (Err why)) = Unit {0}
+
+-- none of these calls is. Others may begin
+abbrev pub StepsAlone : ℕ → List (Call Reply) → Type 0
+StepsAlone p [] = Unit {0}
+StepsAlone p (h ∷ r) = LeavesAlone p h × StepsAlone p r
+
+-- p has begun, is neither named nor spent, and has two proposals left
+pub record HasTwoLeft (terms : RenameTerms) (o : RenameObject) (p : ℕ) : Type 0 where
+  pub begun : o.begun p ≡ true
+  pub unnamed : o.name p ≡ None
+  pub unspent : o.spent p ≡ false
+  pub left : o.count p + 2 ≤ terms.limit
+
+-- the most steps of one who steps alone until it is named: to its place, the rest of a scan that began among others, and
+-- two rounds, each of an update and a scan
+abbrev pub steps_alone : SnapBounds → ℕ
+steps_alone bounds = bounds.placing bounds.most + 11 * bounds.collecting + 1
+
+-- cut these calls in two at any point: who has two proposals left there, and alone steps after it, is named once it has made
+-- so many steps after it
+abbrev pub IsNamedAlone : RenameTerms → SnapBounds → List (Call Reply) → Type 0
+IsNamedAlone terms bounds r = (before more : List (Call Reply)) (o now : RenameObject) (p : ℕ) → before ++ more ≡ r → IsRun terms before o → IsRun terms r now →
+    HasTwoLeft terms o p → StepsAlone p more → steps_alone bounds ≤ steps_of p more → is_some (now.name p) ≡ true
