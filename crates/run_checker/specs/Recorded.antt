@@ -1,0 +1,37 @@
+-- of what records nothing but Yes is said: of those that `record` writes of an input with at most a million events
+use Rattle.std.specs.Prelude.{◌≡◌, ◌⊎◌, ℕ, ◌+◌, ◌≤◌, true, List, [], ◌∷◌, map, length, Result, Ok, Err}
+use Rattle.rename_core.specs.declared.config.Config.{Config}
+use Rattle.rename_core.specs.declared.config.WorldKind.{WorldKind}
+use Rattle.desk.specs.Desk.{gives_names}
+use Rattle.schedule_player.specs.declared.bad.Bad.{Bad}
+use Rattle.schedule_player.specs.declared.command.Command.{Command}
+use Rattle.schedule_player.specs.declared.command.Command.TheVariants as command
+use Rattle.schedule_player.specs.Asked.{asked_by}
+use Rattle.schedule_player.specs.IsRun.{IsTalk}
+use Rattle.schedule_player.specs.Lines.{lines}
+use Rattle.schedule_player.specs.Turns.{Turn, asked, exchanges}
+use Rattle.run_checker.specs.declared.verdict.Verdict.{Verdict}
+use Rattle.run_checker.specs.declared.verdict.Verdict.TheVariants.{Yes, NoMemory}
+use Rattle.run_checker.specs.Verdict.{IsVerdict}
+
+-- a talk of this config, in whose world names are given, to what these lines ask, with at most a million events
+pub record IsShortTalk (c : Config) (ls : List (List ℕ)) (ts : List Turn) : Type 0 where
+  pub names : gives_names c.world ≡ true
+  pub asked_is : map asked ts ≡ asked_by c.world ls
+  pub talk : IsTalk c ts
+  pub few : length (exchanges ts) ≤ 1000000
+
+abbrev pub events_among : List (Result Command Bad) → ℕ
+events_among [] = 0
+events_among (Ok (command.Event e) ∷ ms) = events_among ms + 1
+events_among (Ok (command.Owner n) ∷ ms) = events_among ms
+events_among (Ok command.Quit ∷ ms) = events_among ms
+events_among (Err bad ∷ ms) = events_among ms
+
+-- how many events an input asks for, up to `quit`
+abbrev pub events_in : WorldKind → List ℕ → ℕ
+events_in kind input = events_among (asked_by kind (lines input))
+
+-- where no growth is refused, nothing but Yes is said of these bytes
+abbrev pub IsYes : List ℕ → Type 0
+IsYes bytes = (v : Verdict) → IsVerdict bytes v → (v ≡ Yes) ⊎ (v ≡ NoMemory)
