@@ -1,5 +1,5 @@
 -- a record, as it is written, is a header and a line for each exchange, which says it
-use Rattle.std.proofs.Common.{◌≡◌, ℕ, ◌+◌, ◌^◌, ◌<◌, ◌≤◌, true, List, [], ◌∷◌, ◌++◌, length, map, flat_map, codes, decimal, IsUtf8, refl, sym, ap, ◌∙◌, arith, append_assoc, length-append}
+use Rattle.std.proofs.Common.{◌≡◌, ℕ, ◌+◌, ◌^◌, ◌<◌, ◌≤◌, true, List, [], ◌∷◌, ◌++◌, length, map, flat_map, codes, decimal, IsUtf8, refl, sym, ap, ◌∙◌, arith, append_assoc, length-append, suc}
 use Rattle.std.proofs.lemmas.List.{length-map}
 use Rattle.std.specs.List.{list_all}
 use Rattle.std.proofs.lemmas.Str.{IsUtf8-append}
@@ -16,12 +16,14 @@ use Rattle.schedule_player.specs.Records.{world_name, header_line, exchange_line
 use Rattle.schedule_player.specs.Replies.{reply_words}
 use Rattle.schedule_player.specs.Turns.{Turn, exchanges}
 use Rattle.schedule_player.specs.Turns.Turn.{Answered, Told, Ended, Misread}
+use Rattle.run_checker.specs.declared.line.Line.{Line}
 use Rattle.run_checker.specs.declared.verdict.Verdict.TheVariants.{Yes}
 use Rattle.run_checker.specs.Config.{terms_of}
 use Rattle.run_checker.specs.Json.{SaysSizes}
 use Rattle.run_checker.specs.Lines.{line_of}
 use Rattle.run_checker.specs.ObjectRun.{IsObjectRun}
 use Rattle.run_checker.specs.RecordLine.{IsEventLine, IsHeaderLine}
+use Rattle.run_checker.specs.Recorded.{IsRecordOf}
 use Rattle.run_checker.specs.Verdict.{record_lines, AreRead, IsSaidAfter}
 use Rattle.run_checker.proofs.Pieces.{lines_cut}
 use Rattle.run_checker.proofs.WrittenTexts.{is_plain, line_data, line_text, header_data, header_text, read_line_text, read_header_text, plain_utf8}
@@ -210,18 +212,34 @@ module _ (c : Config) (named : gives_names c.world ≡ true) (ts : List Turn) (n
       let whole : record_of c ts ≡ with_ends (head_of c ∷ map row_of (exchanges ts)) = ap (λ (l : List ℕ). header_line c ++ l) (rows_ended ts) ∙ ended start (with_ends (map row_of (exchanges ts))) in
       ap record_lines whole ∙ lines_cut (head_of c ∷ map row_of (exchanges ts)) (rw (head_no_lf c named) (rows_no_lf (exchanges ts) narrow))
 
-  -- so where they are a run that is not too long, they spell it
-  pub record_said : IsObjectRun (terms_of c) c.k (exchanges ts) → length (exchanges ts) ≤ 1000000 → IsSaidAfter (record_lines (record_of c ts)) Yes
-  record_said run few = record {
+  pub record_is : IsRecordOf c (exchanges ts) (record_of c ts)
+  record_is = record {
     head = head_of c;
     rows = map row_of (exchanges ts);
     is = record_cut;
-    config = c;
     header = head_says c named;
-    said = record {
-      lines = map line_of (exchanges ts);
-      read = rows_read c.world (desk_named c.world named) (exchanges ts) narrow;
-      few = omega (arith, length-map (exchanges ts) row_of);
-      run = record { exchanges = exchanges ts; spelled = refl; run = run };
-    };
+    read = rows_read c.world (desk_named c.world named) (exchanges ts) narrow;
   }
+
+-- as many rows are read as lines
+read_length : (kind : WorldKind) (rows : List (List ℕ)) (ls : List Line) → AreRead kind rows ls → length rows ≡ length ls
+read_length kind [] [] r = refl
+read_length kind [] (l ∷ ls) r = absurd r
+read_length kind (row ∷ rows) [] r = absurd r
+read_length kind (row ∷ rows) (l ∷ ls) r = ap suc (read_length kind rows ls r.1)
+
+-- where the exchanges are a run that is not too long, their record spells one
+pub record_said : (c : Config) (r : List Exchange) (bytes : List ℕ) → IsRecordOf c r bytes → IsObjectRun (terms_of c) c.k r → length r ≤ 1000000 → IsSaidAfter (record_lines bytes) Yes
+record_said c r bytes b run few = record {
+  head = b.head;
+  rows = b.rows;
+  is = b.is;
+  config = c;
+  header = b.header;
+  said = record {
+    lines = map line_of r;
+    read = b.read;
+    few = omega (arith, read_length c.world b.rows (map line_of r) b.read, length-map r line_of);
+    run = record { exchanges = r; spelled = refl; run = run };
+  };
+}

@@ -121,27 +121,15 @@ means_by : (kind : WorldKind) (line : List ℕ) (ws : List (List ℕ)) (r : Resu
 means_by kind line ws r short plain cut is = rw (not_more (length line) short, all_by is_plain is_printable plain_printable line plain, cut) is
 
 -- a word and a number
-module _ (kind : WorldKind) (desk : has_desk kind ≡ true) (p : ℕ) (narrow : p < 2 ^ 64) where
+module _ (kind : WorldKind) (p : ℕ) (narrow : p < 2 ^ 64) where
   small : p < 10 ^ 64
   small = omega arith
 
-  is_begin : meaning kind (codes "begin " ++ decimal p) ≡ Ok (command.Event (Begin p))
-  is_begin = means_by kind (codes "begin " ++ decimal p) (codes "begin" ∷ decimal p ∷ []) _ (omega (arith, short_decimal p narrow)) (plain_both (codes "begin ") (decimal p) refl (plain_decimal p small)) (ap (λ (k : List (List ℕ)). codes "begin" ∷ k) (number_word [] p small)) (rw (number_in-decimal p narrow) refl)
-
-  is_step : meaning kind (codes "step " ++ decimal p) ≡ Ok (command.Event (Step p))
-  is_step = means_by kind (codes "step " ++ decimal p) (codes "step" ∷ decimal p ∷ []) _ (omega (arith, short_decimal p narrow)) (plain_both (codes "step ") (decimal p) refl (plain_decimal p small)) (ap (λ (k : List (List ℕ)). codes "step" ∷ k) (number_word [] p small)) (rw (number_in-decimal p narrow) refl)
-
-  is_enter : meaning kind (codes "enter " ++ decimal p) ≡ Ok (command.Event (Enter p))
-  is_enter = means_by kind (codes "enter " ++ decimal p) (codes "enter" ∷ decimal p ∷ []) _ (omega (arith, short_decimal p narrow)) (plain_both (codes "enter ") (decimal p) refl (plain_decimal p small)) (ap (λ (k : List (List ℕ)). codes "enter" ∷ k) (number_word [] p small)) (rw (desk, number_in-decimal p narrow) refl)
-
-  is_probe : meaning kind (codes "probe " ++ decimal p) ≡ Ok (command.Event (Probe p))
-  is_probe = means_by kind (codes "probe " ++ decimal p) (codes "probe" ∷ decimal p ∷ []) _ (omega (arith, short_decimal p narrow)) (plain_both (codes "probe ") (decimal p) refl (plain_decimal p small)) (ap (λ (k : List (List ℕ)). codes "probe" ∷ k) (number_word [] p small)) (rw (desk, number_in-decimal p narrow) refl)
-
-  is_leave : meaning kind (codes "leave " ++ decimal p) ≡ Ok (command.Event (Leave p))
-  is_leave = means_by kind (codes "leave " ++ decimal p) (codes "leave" ∷ decimal p ∷ []) _ (omega (arith, short_decimal p narrow)) (plain_both (codes "leave ") (decimal p) refl (plain_decimal p small)) (ap (λ (k : List (List ℕ)). codes "leave" ∷ k) (number_word [] p small)) (rw (desk, number_in-decimal p narrow) refl)
-
-  is_get : meaning kind (codes "get " ++ decimal p) ≡ Ok (command.Event (Get p))
-  is_get = means_by kind (codes "get " ++ decimal p) (codes "get" ∷ decimal p ∷ []) _ (omega (arith, short_decimal p narrow)) (plain_both (codes "get ") (decimal p) refl (plain_decimal p small)) (ap (λ (k : List (List ℕ)). codes "get" ∷ k) (number_word [] p small)) (rw (desk, number_in-decimal p narrow) refl)
+  means_one : (word : List ℕ) (r : Result Command Bad) → list_all is_plain word ≡ true → lacks 32 word ≡ true → length word ≤ 5 → command_in kind (word ∷ decimal p ∷ []) ≡ r → meaning kind (word ++ 32 ∷ decimal p) ≡ r
+  means_one word r plain whole short is =
+      means_by kind (word ++ 32 ∷ decimal p) (word ∷ decimal p ∷ []) r (omega (arith, length-append word (32 ∷ decimal p), short_decimal p narrow))
+      (plain_both word (32 ∷ decimal p) plain (plain_both (32 ∷ []) (decimal p) refl (plain_decimal p small)))
+      (pieces-cut 32 [] word (decimal p) whole ∙ ap (λ (k : List (List ℕ)). word ∷ k) (number_word [] p small)) is
 
 two_words : (p value : ℕ) → p < 10 ^ 64 → value < 10 ^ 64 → pieces_from 32 [] ((decimal p ++ codes " ") ++ decimal value) ≡ decimal p ∷ decimal value ∷ []
 two_words p value hp hv = ap (pieces_from 32 []) (append_assoc (decimal p) (codes " ") (decimal value)) ∙ pieces-cut 32 [] (decimal p) (decimal value) (no_space p hp) ∙ ap (λ (k : List (List ℕ)). decimal p ∷ k) (number_word [] value hv)
@@ -159,13 +147,13 @@ is_put kind desk p value hp hv =
 
 -- the words of an event mean it
 pub event_means : (kind : WorldKind) → has_desk kind ≡ true → (e : Event) → IsNarrowEvent e → meaning kind (event_words e) ≡ Ok (command.Event e)
-event_means kind desk (Begin p) h = is_begin kind desk p h
-event_means kind desk (Step p) h = is_step kind desk p h
-event_means kind desk (Enter p) h = is_enter kind desk p h
-event_means kind desk (Probe p) h = is_probe kind desk p h
-event_means kind desk (Leave p) h = is_leave kind desk p h
+event_means kind desk (Begin p) h = means_one kind p h (codes "begin") (Ok (command.Event (Begin p))) refl refl (omega arith) (rw (number_in-decimal p h) refl)
+event_means kind desk (Step p) h = means_one kind p h (codes "step") (Ok (command.Event (Step p))) refl refl (omega arith) (rw (number_in-decimal p h) refl)
+event_means kind desk (Enter p) h = means_one kind p h (codes "enter") (Ok (command.Event (Enter p))) refl refl (omega arith) (rw (desk, number_in-decimal p h) refl)
+event_means kind desk (Probe p) h = means_one kind p h (codes "probe") (Ok (command.Event (Probe p))) refl refl (omega arith) (rw (desk, number_in-decimal p h) refl)
+event_means kind desk (Leave p) h = means_one kind p h (codes "leave") (Ok (command.Event (Leave p))) refl refl (omega arith) (rw (desk, number_in-decimal p h) refl)
 event_means kind desk (Put p value) h = is_put kind desk p value h.0 h.1
-event_means kind desk (Get p) h = is_get kind desk p h
+event_means kind desk (Get p) h = means_one kind p h (codes "get") (Ok (command.Event (Get p))) refl refl (omega arith) (rw (desk, number_in-decimal p h) refl)
 
 -- a word with a number after it
 pub word_plain : (word : List ℕ) (n : ℕ) → list_all is_plain word ≡ true → n < 10 ^ 64 → list_all is_plain (word ++ decimal n) ≡ true

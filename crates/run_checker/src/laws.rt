@@ -1,23 +1,21 @@
 //! What the verdicts stand on.
 
-ghost use Rattle.std.specs.Prelude.{◌≡◌, ◌↔◌, ◌≤◌, ◌∷◌, ◌++◌, [], true, ℕ, List, map, Some, Ok};
+ghost use Rattle.std.specs.Prelude.{◌↔◌, ◌∷◌, ◌++◌, ℕ, List, map};
 ghost use Rattle.snapshot_core.specs.Snapshot.{SnapBounds};
 ghost use Rattle.rename_core.specs.RenameObject.{RenameTerms};
 ghost use Rattle.rename_core.specs.declared.config.Config.{Config};
-ghost use Rattle.desk.specs.Desk.{gives_names};
 ghost use Rattle.desk.specs.declared.exchange.Exchange.{Exchange};
 ghost use Rattle.desk.specs.DeskRun.{IsDeskRun};
 ghost use Rattle.schedule_player.specs.Played.{reading, writing};
-ghost use Rattle.schedule_player.specs.Recorded.{IsRecorded};
 ghost use Rattle.schedule_player.specs.Records.{record_of};
-ghost use Rattle.schedule_player.specs.Turns.{Turn};
+ghost use Rattle.schedule_player.specs.Turns.{Turn, exchanges};
 ghost use Rattle.run_checker.specs.declared.line.Line.{Line};
 ghost use Rattle.run_checker.specs.ObjectRun.{DeskObject, IsObjectRun};
 ghost use Rattle.run_checker.specs.Judged.{IsFaultAfter};
 ghost use Rattle.run_checker.specs.Lines.{AreLinesOfRun, CanFollow, Follow, line_of};
 ghost use Rattle.run_checker.specs.declared.reason.Reason.{Reason};
 ghost use Rattle.run_checker.specs.Reasons.{KeepsAll};
-ghost use Rattle.run_checker.specs.Recorded.{IsShortTalk, IsYes, events_in};
+ghost use Rattle.run_checker.specs.Recorded.{HasRecorded, IsRecordOf, IsShortTalk, IsYes, RecordsTalk};
 ghost use Rattle.run_checker.specs.declared.verdict.Verdict.TheVariants.{Yes};
 ghost use Rattle.run_checker.specs.Verdict.{IsSaid, record_lines};
 
@@ -46,17 +44,20 @@ pub fn law_of_desk_runs()
         IsDeskRun terms bounds size r → AreLinesOfRun terms size (map line_of r) }
 {}
 
-/// A law, which runs nothing, of the worlds with names: the record of a talk to what some lines ask, with at most a million
-/// events, is a header and lines that spell the talk's run; and so nothing but `Yes` is said of it where no growth is refused.
+/// A law, which runs nothing, of the worlds with names: the record of a talk to what some lines ask, with at most a million events,
+/// is a header and for each exchange, in order, a line that says it; it is said to be a run's, and nothing else is said of it where no
+/// growth is refused.
 pub fn law_of_recorded_talks()
-    ensures spells { (c : Config) (ls : List (List ℕ)) (ts : List Turn) → IsShortTalk c ls ts → IsSaid (record_lines (record_of c ts)) Yes }
+    ensures says { (c : Config) (ls : List (List ℕ)) (ts : List Turn) → IsShortTalk c ls ts → IsRecordOf c (exchanges ts) (record_of c ts) }
+    ensures said { (c : Config) (ls : List (List ℕ)) (ts : List Turn) → IsShortTalk c ls ts → IsSaid (record_lines (record_of c ts)) Yes }
     ensures yes { (c : Config) (ls : List (List ℕ)) (ts : List Turn) → IsShortTalk c ls ts → IsYes (record_of c ts) }
 {}
 
-/// A law, which runs nothing: where `record` has ended, of an input with at most a million events, nothing but `Yes` is said of
-/// the bytes that a writer has which had none, where no growth is refused.
+/// A law, which runs nothing: where `record` has ended, of an input with at most a million events, what it wrote is the record of a
+/// talk to the input's lines; and `check` answers `Yes` to it, or `NoMemory` where a growth was refused.
 pub fn law_of_recording<R: Source, W: Sink>()
-    ensures { (c : Config) (r r' : R) (w w' : W) (input bytes : List ℕ) → gives_names c.world ≡ true →
-        IsRecorded c (reading R.remaining R.calls R.failed) (writing W.contents W.failed) r r' w w' (Ok tt) →
-        R.remaining r ≡ Some input → W.contents w ≡ Some [] → W.contents w' ≡ Some bytes → events_in c.world input ≤ 1000000 → IsYes bytes }
+    ensures says { (c : Config) (r r' : R) (w w' : W) (input bytes : List ℕ) →
+        HasRecorded c (reading R.remaining R.calls R.failed) (writing W.contents W.failed) r r' w w' input bytes → RecordsTalk c input bytes }
+    ensures yes { (c : Config) (r r' : R) (w w' : W) (input bytes : List ℕ) →
+        HasRecorded c (reading R.remaining R.calls R.failed) (writing W.contents W.failed) r r' w w' input bytes → IsYes bytes }
 {}
