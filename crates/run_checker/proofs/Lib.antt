@@ -15,3 +15,14 @@ pub mod WordLemmas
 pub mod JsonLemmas
 pub mod RecordLines
 pub mod RowRuns
+pub mod WrittenTexts
+pub mod WrittenNumbers
+pub mod Pieces
+pub mod WrittenWords
+pub mod WrittenReplies
+pub mod WrittenLines
+pub mod OneVerdict
+pub mod NarrowRuns
+pub mod LowPlaces
+pub mod Talking
+pub mod Recording

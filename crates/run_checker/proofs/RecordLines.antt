@@ -13,7 +13,7 @@ use Rattle.run_checker.specs.Json.{IsHeader}
 use Rattle.run_checker.specs.RecordLine.{IsJson, SaysLine, IsEventLine, IsHeaderLine}
 
 -- bytes are read as one value alone
-one_value : (bytes : List ℕ) (d e : Data) → IsJson bytes d → IsJson bytes e → d ≡ e
+pub one_value : (bytes : List ℕ) (d e : Data) → IsJson bytes d → IsJson bytes e → d ≡ e
 one_value bytes d e x y = let k : Some d ≡ Some e = sym x.reads ∙ y.reads in cc
 
 pub json_some : (bytes : List ℕ) (o : Option Value) (v : Value) → o ≡ Some v → MatchOption o ((d : Data) → IsJson bytes d → ⊥) (λ w. IsJson bytes (view w)) → IsJson bytes (view v)

@@ -1,6 +1,7 @@
 -- the lines of a record, one after the other
 use Rattle.std.proofs.Common.{◌≡◌, ℕ, ◌+◌, ◌<◌, ◌≤◌, List, [], ◌∷◌, ◌++◌, length, Option, Some, None, refl, sym, ap, ◌∙◌, subst, arith, length-append, append_assoc}
 use Rattle.std.proofs.lemmas.List.{append-nil}
+use Rattle.std.specs.Prelude.{MatchOption}
 use Rattle.schedule_player.specs.Lines.{pieces_from}
 use Rattle.rename_core.specs.declared.config.Config.{Config}
 use Rattle.rename_core.specs.declared.config.WorldKind.{WorldKind}
@@ -8,7 +9,7 @@ use Rattle.run_checker.specs.declared.checker.Checker.{Checker}
 use Rattle.run_checker.specs.declared.line.Line.{Line}
 use Rattle.run_checker.specs.declared.reason.Reason.{Reason}
 use Rattle.run_checker.specs.Config.{terms_of}
-use Rattle.run_checker.specs.Judged.{HasTaken, IsFaultAfter}
+use Rattle.run_checker.specs.Judged.{HasTaken, IsFaultAfter, TakesOn, TakesMore}
 use Rattle.run_checker.specs.RecordLine.{IsEventLine}
 use Rattle.run_checker.specs.ReplyText.{pieces_left}
 use Rattle.run_checker.specs.Verdict.{lines_from, lines_of, record_lines, lines_left, AreRead, SpellRun, IsFaultyRow, IsBadRow}
@@ -84,3 +85,27 @@ module _ (c : Config) (rows : List (List ℕ)) (checker : Checker) (number : ℕ
         taken = taken;
         at = omega arith;
       }
+
+-- what is left begins with this row
+pub row_here : (c : Config) (rows : List (List ℕ)) (left : Option (List ℕ)) (bytes row : List ℕ) (more : List (List ℕ)) (checker : Checker) (number : ℕ) → RowsSoFar c rows (lines_left left) checker number → left ≡ Some bytes →
+    record_lines bytes ≡ row ∷ more → RowsSoFar c rows (row ∷ more) checker number
+row_here c rows left bytes row more checker number s is e = subst (λ (l : List (List ℕ)). RowsSoFar c rows l checker number) (ap (λ (o : Option (List ℕ)). lines_left o) is ∙ e) s
+
+-- and that row is read as what was read of it
+pub line_read : (kind : WorldKind) (row : List ℕ) (found : Option Line) (l : Line) → found ≡ Some l → MatchOption found ((k : Line) → IsEventLine kind row k → ⊥) (λ k. IsEventLine kind row k) → IsEventLine kind row l
+line_read kind row found l is h = subst (λ (o : Option Line). MatchOption o ((k : Line) → IsEventLine kind row k → ⊥) (λ k. IsEventLine kind row k)) is h
+
+-- the row was read as this line, and judged, where it is not one too many: it is the first at fault, or one more is taken
+module _ (c : Config) (rows : List (List ℕ)) (checker new : Checker) (number : ℕ) (row : List ℕ) (more : List (List ℕ)) (l : Line) (said : Option Reason) (s : RowsSoFar c rows (row ∷ more) checker number) (early : number < 1000002)
+    (says : IsEventLine c.world row l) (judged : TakesMore l checker said new) where
+  row_few : length s.before < 1000000
+  row_few = (let at = s.at in omega arith)
+
+  row_judged : TakesOn (terms_of c) c.k s.lines l said new
+  row_judged = (let at = s.at in let many = s.many in judged (terms_of c) c.k s.lines s.taken (omega arith))
+
+  pub row_at_fault : (why : Reason) → said ≡ Some why → IsFaultyRow c rows number why
+  row_at_fault why is = faulty_row c rows checker number row more l why s row_few says (subst (λ (o : Option Reason). TakesOn (terms_of c) c.k s.lines l o new) is row_judged)
+
+  pub row_taken : said ≡ None → RowsSoFar c rows more new (number + 1)
+  row_taken is = next_row c rows checker number row more l new s row_few says (subst (λ (o : Option Reason). TakesOn (terms_of c) c.k s.lines l o new) is row_judged)

@@ -13,3 +13,4 @@ pub mod Reasons
 pub mod Fault
 pub mod Lines
 pub mod Judged
+pub mod Recorded

@@ -11,7 +11,8 @@ ghost use Rattle.run_checker.specs.ObjectRun.{DeskObject};
 ghost use Rattle.run_checker.specs.Told.{is_step, is_reply_of};
 ghost use Rattle.run_checker.specs.Reasons.{why_of, refusal_due, is_told_rightly, is_refused_as_due};
 ghost use Rattle.run_checker.specs.Lines.{line};
-ghost use Rattle.run_checker.specs.Judged.{HoldsDesk, Judges, JudgesWithRoom, MayBegin, MayStep, MayEnter, MayProbe, HoldsNumber, IsDueSo, HasRoom, HasTakenNone, TakesMore};
+ghost use Rattle.run_checker.specs.Judged.{HoldsDesk, Judges, JudgesWithRoom, HasRoom, HasTakenNone, TakesMore};
+ghost use Rattle.run_checker.specs.Judged.{MayBegin, MayStep, MayEnter, MayProbe, HoldsNumber, IsDueSo};
 
 use crate::fault::Fault;
 use crate::line::Line;

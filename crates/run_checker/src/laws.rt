@@ -3,14 +3,23 @@
 ghost use Rattle.std.specs.Prelude.{◌↔◌, ◌∷◌, ◌++◌, ℕ, List, map};
 ghost use Rattle.snapshot_core.specs.Snapshot.{SnapBounds};
 ghost use Rattle.rename_core.specs.RenameObject.{RenameTerms};
+ghost use Rattle.rename_core.specs.declared.config.Config.{Config};
 ghost use Rattle.desk.specs.declared.exchange.Exchange.{Exchange};
 ghost use Rattle.desk.specs.DeskRun.{IsDeskRun};
+ghost use Rattle.schedule_player.specs.Played.{reading, writing};
+ghost use Rattle.schedule_player.specs.Records.{record_of};
+ghost use Rattle.schedule_player.specs.Turns.{Turn, exchanges};
 ghost use Rattle.run_checker.specs.declared.line.Line.{Line};
 ghost use Rattle.run_checker.specs.ObjectRun.{DeskObject, IsObjectRun};
 ghost use Rattle.run_checker.specs.Judged.{IsFaultAfter};
 ghost use Rattle.run_checker.specs.Lines.{AreLinesOfRun, CanFollow, Follow, line_of};
 ghost use Rattle.run_checker.specs.declared.reason.Reason.{Reason};
 ghost use Rattle.run_checker.specs.Reasons.{KeepsAll};
+ghost use Rattle.run_checker.specs.Recorded.{HasRecorded, IsRecordOf, IsShortTalk, IsYes, RecordsTalk};
+ghost use Rattle.run_checker.specs.declared.verdict.Verdict.TheVariants.{Yes};
+ghost use Rattle.run_checker.specs.Verdict.{IsSaid, record_lines};
+
+use schedule_player::{Sink, Source};
 
 /// A law, which runs nothing: a line can follow those before it exactly where none of the seven reasons fits.
 pub fn law_of_reasons()
@@ -33,4 +42,22 @@ pub fn law_of_desk_runs()
         IsDeskRun terms bounds size r → IsObjectRun terms size r }
     ensures lines { (terms : RenameTerms) (bounds : SnapBounds) (size : ℕ) (r : List Exchange) →
         IsDeskRun terms bounds size r → AreLinesOfRun terms size (map line_of r) }
+{}
+
+/// A law, which runs nothing, of the worlds with names: the record of a talk to what some lines ask, with at most a million events,
+/// is a header and for each exchange, in order, a line that says it; it is said to be a run's, and nothing else is said of it where no
+/// growth is refused.
+pub fn law_of_recorded_talks()
+    ensures says { (c : Config) (ls : List (List ℕ)) (ts : List Turn) → IsShortTalk c ls ts → IsRecordOf c (exchanges ts) (record_of c ts) }
+    ensures said { (c : Config) (ls : List (List ℕ)) (ts : List Turn) → IsShortTalk c ls ts → IsSaid (record_lines (record_of c ts)) Yes }
+    ensures yes { (c : Config) (ls : List (List ℕ)) (ts : List Turn) → IsShortTalk c ls ts → IsYes (record_of c ts) }
+{}
+
+/// A law, which runs nothing: where `record` has ended, of an input with at most a million events, what it wrote is the record of a
+/// talk to the input's lines; and `check` answers `Yes` to it, or `NoMemory` where a growth was refused.
+pub fn law_of_recording<R: Source, W: Sink>()
+    ensures says { (c : Config) (r r' : R) (w w' : W) (input bytes : List ℕ) →
+        HasRecorded c (reading R.remaining R.calls R.failed) (writing W.contents W.failed) r r' w w' input bytes → RecordsTalk c input bytes }
+    ensures yes { (c : Config) (r r' : R) (w w' : W) (input bytes : List ℕ) →
+        HasRecorded c (reading R.remaining R.calls R.failed) (writing W.contents W.failed) r r' w w' input bytes → IsYes bytes }
 {}

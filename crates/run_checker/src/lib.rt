@@ -29,12 +29,12 @@
 
 pub mod checker;
 mod fault;
-pub mod json;
 pub mod laws;
 pub mod line;
 pub mod lines;
 mod moments;
 mod names;
+pub mod object;
 pub mod pairs;
 mod people;
 pub mod reason;
@@ -49,7 +49,9 @@ pub mod verdict;
 mod words;
 
 pub use checker::Checker;
-pub use laws::{law_of_desk_runs, law_of_reasons, law_of_records};
+pub use laws::{
+    law_of_desk_runs, law_of_reasons, law_of_recorded_talks, law_of_recording, law_of_records,
+};
 pub use line::Line;
 pub use lines::first_fault;
 pub use pairs::Pairs;

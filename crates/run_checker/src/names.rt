@@ -4,7 +4,8 @@ ghost use Rattle.std.specs.Prelude.{◌≡◌, ℕ, ◌<◌, ◌≤◌, ◌+◌,
 ghost use Rattle.std.specs.List.{list_any};
 ghost use Rattle.step_memory.specs.Calls.Call.{Began};
 ghost use Rattle.step_memory.specs.declared.participant.Participant.{Participant};
-ghost use Rattle.rename_core.specs.RenameObject.{RenameTerms, RenameObject, new_object, no_begin, no_step, after, after_step, IsFreePlace, MayPropose, HasConflict, ShowsConflict};
+ghost use Rattle.rename_core.specs.RenameObject.{RenameTerms, RenameObject, new_object, no_begin, no_step, after, after_step};
+ghost use Rattle.rename_core.specs.RenameObject.{IsFreePlace, MayPropose, HasConflict, ShowsConflict};
 ghost use Rattle.rename_core.specs.declared.reply.Reply.TheVariants as step;
 ghost use Rattle.step_memory.specs.View.{IsAbove, IsRising};
 ghost use Rattle.run_checker.specs.Rows.{HasPair, LacksPair, TellsMoments};

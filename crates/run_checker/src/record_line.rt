@@ -10,8 +10,8 @@ ghost use Rattle.serde_json.specs.View.{view};
 ghost use Rattle.run_checker.specs.declared.line.Line.{Line};
 ghost use Rattle.run_checker.specs.RecordLine.{IsJson, IsEventOf, SaysLine, IsEventLine, IsHeaderLine};
 
-use crate::json::{header, texts};
 use crate::line::Line;
+use crate::object::{header, texts};
 use crate::reply_text::read_reply;
 use desk::Event;
 use rename_core::{Config, WorldKind};

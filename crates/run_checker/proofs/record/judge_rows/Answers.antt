@@ -1,12 +1,10 @@
-use Rattle.std.proofs.Common.{◌≡◌, ℕ, ◌<◌, length, List, [], ◌∷◌, Option, Some, MatchOption, refl, sym, ap, ◌∙◌, subst, arith}
+use Rattle.std.proofs.Common.{◌≡◌, ℕ, List, [], ◌∷◌, Option, Some, MatchOption, refl, sym, ap, ◌∙◌, subst, arith}
 use Rattle.std.specs.Option.{option_copied}
 use Rattle.run_checker.specs.declared.line.Line.{Line}
-use Rattle.run_checker.specs.declared.reason.Reason.{Reason}
 use Rattle.run_checker.specs.Config.{terms_of}
-use Rattle.run_checker.specs.Judged.{TakesOn}
 use Rattle.run_checker.specs.RecordLine.{IsEventLine}
 use Rattle.run_checker.specs.Verdict.{lines_left}
-use Rattle.run_checker.proofs.RowRuns.{RowsSoFar, all_rows, faulty_row, bad_row, next_row}
+use Rattle.run_checker.proofs.RowRuns.{RowsSoFar, all_rows, bad_row, row_here, line_read, row_at_fault, row_taken}
 use Rattle.run_checker.proofs.record.judge_rows.Goals.{in-Some+in_default-next_line, in_default}
 use Rattle.run_checker.proofs.record.judge_rows.Goals as goal
 
@@ -27,11 +25,10 @@ loop-left-init c =
 pub returns-then-number-ge-LINES_END : goal.returns-then-number-ge-LINES_END
 returns-then-number-ge-LINES_END c =
     let config = c.args.config in
-    let rows = lines_left (option_copied c.args.rows) in
     let row = c.in-Some-next_line.row.now in
     let more = lines_left (option_copied c.in-Some-next_line.rest) in
-    let e = ap (λ (o : Option (List ℕ)). lines_left o) (ap (λ o. option_copied o) c.in-Some.is) ∙ c.in-Some-next_line.ensures.lines in
-    let s = subst (λ (left : List (List ℕ)). RowsSoFar config rows left c.loop-left.checker c.loop-left.number) e c.loop-left.invariant in
+    let rows = lines_left (option_copied c.args.rows) in
+    let s = row_here config rows (option_copied c.loop-left.left) c.in-Some.bytes.now row more c.loop-left.checker c.loop-left.number c.loop-left.invariant (ap (λ o. option_copied o) c.in-Some.is) c.in-Some-next_line.ensures.lines in
     let at = s.at in
     let end = c.if-number-ge-LINES_END.true in
     bad_row config rows c.loop-left.checker c.loop-left.number row more s (λ few. absurd (omega arith))
@@ -39,67 +36,42 @@ returns-then-number-ge-LINES_END c =
 pub returns-in_default-2 : goal.returns-in_default-2
 returns-in_default-2 c =
     let config = c.args.config in
-    let rows = lines_left (option_copied c.args.rows) in
     let row = c.in-Some-next_line.row.now in
     let more = lines_left (option_copied c.in-Some-next_line.rest) in
-    let e = ap (λ (o : Option (List ℕ)). lines_left o) (ap (λ o. option_copied o) c.in-Some.is) ∙ c.in-Some-next_line.ensures.lines in
-    let s = subst (λ (left : List (List ℕ)). RowsSoFar config rows left c.loop-left.checker c.loop-left.number) e c.loop-left.invariant in
+    let rows = lines_left (option_copied c.args.rows) in
+    let s = row_here config rows (option_copied c.loop-left.left) c.in-Some.bytes.now row more c.loop-left.checker c.loop-left.number c.loop-left.invariant (ap (λ o. option_copied o) c.in-Some.is) c.in-Some-next_line.ensures.lines in
     let none = subst (λ (o : Option Line). MatchOption o ((l : Line) → IsEventLine config.world row l → ⊥) (λ l. IsEventLine config.world row l)) c.in_default-2.is c.in_ok-line.ensures in
     bad_row config rows c.loop-left.checker c.loop-left.number row more s (λ few. none)
 
 pub returns-in-Some-3 : goal.returns-in-Some-3
 returns-in-Some-3 c =
     let config = c.args.config in
-    let rows = lines_left (option_copied c.args.rows) in
     let row = c.in-Some-next_line.row.now in
     let more = lines_left (option_copied c.in-Some-next_line.rest) in
-    let line = c.in-Some-2.line in
-    let e = ap (λ (o : Option (List ℕ)). lines_left o) (ap (λ o. option_copied o) c.in-Some.is) ∙ c.in-Some-next_line.ensures.lines in
-    let s = subst (λ (left : List (List ℕ)). RowsSoFar config rows left c.loop-left.checker c.loop-left.number) e c.loop-left.invariant in
-    let at = s.at in
-    let end = c.if-number-ge-LINES_END.false in
-    let says = subst (λ (o : Option Line). MatchOption o ((l : Line) → IsEventLine config.world row l → ⊥) (λ l. IsEventLine config.world row l)) c.in-Some-2.is c.in_ok-line.ensures in
-    let few : length s.before < 1000000 = omega arith in
-    let many = s.many in
-    let on = c.in_ok-reason.ensures (terms_of config) config.k s.lines s.taken (omega arith) in
-    let fault = subst (λ (o : Option Reason). TakesOn (terms_of config) config.k s.lines line o c.judge.new.self) c.in-Some-3.is on in
-    faulty_row config rows c.loop-left.checker c.loop-left.number row more line c.in-Some-3.reason s few says fault
+    let rows = lines_left (option_copied c.args.rows) in
+    let s = row_here config rows (option_copied c.loop-left.left) c.in-Some.bytes.now row more c.loop-left.checker c.loop-left.number c.loop-left.invariant (ap (λ o. option_copied o) c.in-Some.is) c.in-Some-next_line.ensures.lines in
+    let says = line_read config.world row c.in_ok-line.field-0 c.in-Some-2.line c.in-Some-2.is c.in_ok-line.ensures in
+    row_at_fault config rows c.loop-left.checker c.judge.new.self c.loop-left.number row more c.in-Some-2.line c.in_ok-reason.field-0 s c.if-number-ge-LINES_END.false says c.in_ok-reason.ensures c.in-Some-3.reason c.in-Some-3.is
 
 pub loop-left-preserved-in_default-3 : goal.loop-left-preserved-in_default-3
 loop-left-preserved-in_default-3 c =
     let config = c.args.config in
-    let rows = lines_left (option_copied c.args.rows) in
     let row = c.in-Some-next_line.row.now in
     let more = lines_left (option_copied c.in-Some-next_line.rest) in
-    let line = c.in-Some-2.line in
-    let e = ap (λ (o : Option (List ℕ)). lines_left o) (ap (λ o. option_copied o) c.in-Some.is) ∙ c.in-Some-next_line.ensures.lines in
-    let s = subst (λ (left : List (List ℕ)). RowsSoFar config rows left c.loop-left.checker c.loop-left.number) e c.loop-left.invariant in
-    let at = s.at in
-    let end = c.if-number-ge-LINES_END.false in
-    let says = subst (λ (o : Option Line). MatchOption o ((l : Line) → IsEventLine config.world row l → ⊥) (λ l. IsEventLine config.world row l)) c.in-Some-2.is c.in_ok-line.ensures in
-    let few : length s.before < 1000000 = omega arith in
-    let many = s.many in
-    let on = c.in_ok-reason.ensures (terms_of config) config.k s.lines s.taken (omega arith) in
-    let taken = subst (λ (o : Option Reason). TakesOn (terms_of config) config.k s.lines line o c.judge.new.self) c.in_default-3.is on in
-    next_row config rows c.loop-left.checker c.loop-left.number row more line c.judge.new.self s few says taken
+    let rows = lines_left (option_copied c.args.rows) in
+    let s = row_here config rows (option_copied c.loop-left.left) c.in-Some.bytes.now row more c.loop-left.checker c.loop-left.number c.loop-left.invariant (ap (λ o. option_copied o) c.in-Some.is) c.in-Some-next_line.ensures.lines in
+    let says = line_read config.world row c.in_ok-line.field-0 c.in-Some-2.line c.in-Some-2.is c.in_ok-line.ensures in
+    row_taken config rows c.loop-left.checker c.judge.new.self c.loop-left.number row more c.in-Some-2.line c.in_ok-reason.field-0 s c.if-number-ge-LINES_END.false says c.in_ok-reason.ensures c.in_default-3.is
 
 pub loop-left-preserved : goal.loop-left-preserved
 loop-left-preserved c =
     let config = c.args.config in
-    let rows = lines_left (option_copied c.args.rows) in
     let row = c.in-Some-next_line.row.now in
     let more = lines_left (option_copied c.in-Some-next_line.rest) in
-    let line = c.in-Some-2.line in
-    let e = ap (λ (o : Option (List ℕ)). lines_left o) (ap (λ o. option_copied o) c.in-Some.is) ∙ c.in-Some-next_line.ensures.lines in
-    let s = subst (λ (left : List (List ℕ)). RowsSoFar config rows left c.loop-left.checker c.loop-left.number) e c.loop-left.invariant in
-    let at = s.at in
-    let end = c.if-number-ge-LINES_END.false in
-    let says = subst (λ (o : Option Line). MatchOption o ((l : Line) → IsEventLine config.world row l → ⊥) (λ l. IsEventLine config.world row l)) c.in-Some-2.is c.in_ok-line.ensures in
-    let few : length s.before < 1000000 = omega arith in
-    let many = s.many in
-    let on = c.in_ok-reason.ensures (terms_of config) config.k s.lines s.taken (omega arith) in
-    let taken = subst (λ (o : Option Reason). TakesOn (terms_of config) config.k s.lines line o c.judge.new.self) c.in_default-3.is on in
-    next_row config rows c.loop-left.checker c.loop-left.number row more line c.judge.new.self s few says taken
+    let rows = lines_left (option_copied c.args.rows) in
+    let s = row_here config rows (option_copied c.loop-left.left) c.in-Some.bytes.now row more c.loop-left.checker c.loop-left.number c.loop-left.invariant (ap (λ o. option_copied o) c.in-Some.is) c.in-Some-next_line.ensures.lines in
+    let says = line_read config.world row c.in_ok-line.field-0 c.in-Some-2.line c.in-Some-2.is c.in_ok-line.ensures in
+    row_taken config rows c.loop-left.checker c.judge.new.self c.loop-left.number row more c.in-Some-2.line c.in_ok-reason.field-0 s c.if-number-ge-LINES_END.false says c.in_ok-reason.ensures c.in_default-3.is
 
 pub returns : goal.returns
 returns c =

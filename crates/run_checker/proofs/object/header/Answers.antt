@@ -1,7 +1,7 @@
 use Rattle.std.proofs.Common.{◌≡◌, ℕ, Some, sym, subst, ◌∙◌}
 use Rattle.std.proofs.lemmas.Bool.{false≢true}
 use Rattle.rename_core.specs.Ranges.{IsConfigRange}
-use Rattle.run_checker.proofs.json.header.Goals as goal
+use Rattle.run_checker.proofs.object.header.Goals as goal
 
 some_one : (a b : ℕ) → Some a ≡ Some b → a ≡ b
 some_one a b e = cc

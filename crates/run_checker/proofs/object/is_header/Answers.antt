@@ -2,7 +2,7 @@ use Rattle.std.proofs.Common.{◌≡◌, ℕ, List, Some, sym, ap, ◌∙◌}
 use Rattle.std.specs.Prelude.{codes}
 use Rattle.schedule_player.specs.Meaning.{same_bytes}
 use Rattle.run_checker.proofs.JsonLemmas.{same_is, same_self}
-use Rattle.run_checker.proofs.json.is_header.Goals as goal
+use Rattle.run_checker.proofs.object.is_header.Goals as goal
 
 some_one : (a b : List ℕ) → Some a ≡ Some b → a ≡ b
 some_one a b e = cc

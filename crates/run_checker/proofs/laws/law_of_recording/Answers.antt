@@ -1,0 +1,9 @@
+use Rattle.schedule_player.specs.Played.{reading, writing}
+use Rattle.run_checker.proofs.Recording.{recorded, recorded_yes}
+use Rattle.run_checker.proofs.laws.law_of_recording.Goals as goal
+
+pub returns-clause-says : goal.returns-clause-says
+returns-clause-says g c = λ config. recorded config (reading g.R.Read.remaining g.R.Source.calls g.R.Source.failed) (writing g.W.Write.contents g.W.Sink.failed)
+
+pub returns-clause-yes : goal.returns-clause-yes
+returns-clause-yes g c = λ config. recorded_yes config (reading g.R.Read.remaining g.R.Source.calls g.R.Source.failed) (writing g.W.Write.contents g.W.Sink.failed)

@@ -1,0 +1,65 @@
+-- what `record` writes, of an input with at most a million events, and what is said of it (this project's profile)
+use Rattle.std.specs.Prelude.{◌≡◌, ◌⊎◌, ℕ, ◌+◌, ◌≤◌, true, List, [], ◌∷◌, map, length, Some, Result, Ok, Err}
+use Rattle.rename_core.specs.declared.config.Config.{Config}
+use Rattle.rename_core.specs.declared.config.WorldKind.{WorldKind}
+use Rattle.desk.specs.declared.exchange.Exchange.{Exchange}
+use Rattle.desk.specs.Desk.{gives_names}
+use Rattle.schedule_player.specs.declared.bad.Bad.{Bad}
+use Rattle.schedule_player.specs.declared.command.Command.{Command}
+use Rattle.schedule_player.specs.declared.command.Command.TheVariants as command
+use Rattle.schedule_player.specs.Asked.{asked_by}
+use Rattle.schedule_player.specs.IsRun.{IsTalk}
+use Rattle.schedule_player.specs.Lines.{lines}
+use Rattle.schedule_player.specs.Played.{Reading, Writing}
+use Rattle.schedule_player.specs.Recorded.{IsRecorded}
+use Rattle.schedule_player.specs.Turns.{Turn, asked, exchanges}
+use Rattle.run_checker.specs.declared.verdict.Verdict.{Verdict}
+use Rattle.run_checker.specs.declared.verdict.Verdict.TheVariants.{Yes, NoMemory}
+use Rattle.run_checker.specs.Lines.{line_of}
+use Rattle.run_checker.specs.RecordLine.{IsHeaderLine}
+use Rattle.run_checker.specs.Verdict.{record_lines, AreRead, IsVerdict}
+
+-- the bytes are a header of this config, and a line for each of these exchanges, in order, which says it
+pub record IsRecordOf (c : Config) (r : List Exchange) (bytes : List ℕ) : Type 0 where
+  pub head : List ℕ
+  pub rows : List (List ℕ)
+  pub is : record_lines bytes ≡ head ∷ rows
+  pub header : IsHeaderLine head c
+  pub read : AreRead c.world rows (map line_of r)
+
+-- a talk of this config, in whose world names are given, to what these lines ask, with at most a million events
+pub record IsShortTalk (c : Config) (ls : List (List ℕ)) (ts : List Turn) : Type 0 where
+  pub names : gives_names c.world ≡ true
+  pub asked_is : map asked ts ≡ asked_by c.world ls
+  pub talk : IsTalk c ts
+  pub few : length (exchanges ts) ≤ 1000000
+
+abbrev pub events_among : List (Result Command Bad) → ℕ
+events_among [] = 0
+events_among (Ok (command.Event e) ∷ ms) = events_among ms + 1
+events_among (Ok (command.Owner n) ∷ ms) = events_among ms
+events_among (Ok command.Quit ∷ ms) = events_among ms
+events_among (Err bad ∷ ms) = events_among ms
+
+-- how many events an input asks for, up to `quit`
+abbrev pub events_in : WorldKind → List ℕ → ℕ
+events_in kind input = events_among (asked_by kind (lines input))
+
+-- `record` has ended, of this input with at most a million events, and these bytes are what the writer has, which had none
+pub record HasRecorded (c : Config) {R W : Type 0} (reading : Reading R) (writing : Writing W) (r r' : R) (w w' : W) (input bytes : List ℕ) : Type 0 where
+  pub names : gives_names c.world ≡ true
+  pub ended : IsRecorded c reading writing r r' w w' (Ok tt)
+  pub has : reading.remaining r ≡ Some input
+  pub few : events_in c.world input ≤ 1000000
+  pub none : writing.contents w ≡ Some []
+  pub now : writing.contents w' ≡ Some bytes
+
+-- the bytes are the record of a talk to the lines of this input
+pub record RecordsTalk (c : Config) (input bytes : List ℕ) : Type 0 where
+  pub turns : List Turn
+  pub talk : IsShortTalk c (lines input) turns
+  pub record_is : IsRecordOf c (exchanges turns) bytes
+
+-- where no growth is refused, nothing but Yes is said of these bytes
+abbrev pub IsYes : List ℕ → Type 0
+IsYes bytes = (v : Verdict) → IsVerdict bytes v → (v ≡ Yes) ⊎ (v ≡ NoMemory)
