@@ -43,6 +43,8 @@
 //! ```
 #![tactic(auto)]
 
+#[cfg(test)]
+mod alone_tests;
 pub mod calls_law;
 pub mod config;
 pub mod law;

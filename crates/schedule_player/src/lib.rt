@@ -34,6 +34,8 @@ pub mod events;
 pub mod fault;
 pub mod form;
 mod grid_world;
+#[cfg(test)]
+mod growth_tests;
 pub mod laws;
 pub mod line_buffer;
 mod outcomes;

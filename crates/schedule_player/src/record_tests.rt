@@ -1,17 +1,14 @@
 //! Records of runs.
 
-use crate::tests::{Cup, Drip, Played, cup_of, dripping, what_is_left};
-use crate::worlds_tests::{
-    HEAP, ROWS, Row, amounts_about_growths, least_memory, play_in_the_last, spelled,
-};
+use crate::tests::{Played, what_is_left};
+use crate::worlds_tests::{ROWS, spelled};
 use crate::{Config, Fault, READ_BYTES, Tried, WorldKind, record};
-use linked_list_allocator::LocalHeap;
 use std::alloc::{Allocator, Global};
-use std::process::Abort;
 use std::test::Fail;
+use test_doubles::{Cup, Drip};
 
 /// A run whose record is written; one in a world without names is none.
-fn recorded<A: Allocator + Clone>(
+pub(crate) fn recorded<A: Allocator + Clone>(
     config: Config,
     alloc: A,
     reader: Drip<'_>,
@@ -27,7 +24,12 @@ fn recorded<A: Allocator + Clone>(
 }
 
 /// The record that these lines and the replies to them make, where no line is bad.
-fn record_text(alloc: Global, config: Config, asked: &[u8], said: &[u8]) -> Result<Vec<u8>, Fail> {
+pub(crate) fn record_text(
+    alloc: Global,
+    config: Config,
+    asked: &[u8],
+    said: &[u8],
+) -> Result<Vec<u8>, Fail> {
     let world = if config.world == WorldKind::Tree {
         "tree"
     } else {
@@ -69,8 +71,8 @@ fn the_record_of_a_row_is_its_events_with_their_replies(rt: HostRuntime) -> Resu
             let p = recorded(
                 config,
                 rt.alloc(),
-                dripping(&asked, piece, 0),
-                cup_of(rt.alloc(), piece, 0, false),
+                Drip::new(&asked, piece, 0),
+                Cup::new(rt.alloc(), piece, 0, false),
             );
             assert!(rt; p.outcome.is_ok(), "at {}", row.asked);
             assert!(rt; p.text == text, "at {}", row.asked);
@@ -99,15 +101,15 @@ fn lines_by(alloc: Global, reader: Drip<'_>, writer: Cup) -> Result<Played<()>, 
 fn owners_bad_lines_and_quit_are_not_recorded(rt: HostRuntime) -> Result<(), Fail> {
     let p = lines_by(
         rt.alloc(),
-        dripping(LINES, 4, 0),
-        cup_of(rt.alloc(), 64, 0, false),
+        Drip::new(LINES, 4, 0),
+        Cup::new(rt.alloc(), 64, 0, false),
     )?;
     assert!(rt; p.outcome.is_ok());
     assert_eq!(rt; p.text.as_slice(), RECORD);
     let p = lines_by(
         rt.alloc(),
-        dripping(b"", 4, 0),
-        cup_of(rt.alloc(), 64, 0, false),
+        Drip::new(b"", 4, 0),
+        Cup::new(rt.alloc(), 64, 0, false),
     )?;
     assert!(rt; p.outcome.is_ok());
     assert!(rt; RECORD.starts_with(p.text.as_slice()));
@@ -119,14 +121,14 @@ fn owners_bad_lines_and_quit_are_not_recorded(rt: HostRuntime) -> Result<(), Fai
 fn each_read_of_a_record_fails_once(rt: HostRuntime) -> Result<(), Fail> {
     let whole = lines_by(
         rt.alloc(),
-        dripping(LINES, 4, 0),
-        cup_of(rt.alloc(), 64, 0, false),
+        Drip::new(LINES, 4, 0),
+        Cup::new(rt.alloc(), 64, 0, false),
     )?;
     for fails_at in 1..whole.reads {
         let p = lines_by(
             rt.alloc(),
-            dripping(LINES, 4, fails_at),
-            cup_of(rt.alloc(), 64, 0, false),
+            Drip::new(LINES, 4, fails_at),
+            Cup::new(rt.alloc(), 64, 0, false),
         )?;
         assert!(rt; matches!(p.outcome, Err(Fault::Read)));
         assert!(rt; RECORD.starts_with(p.text.as_slice()) && p.text.ends_with(b"}\n"));
@@ -138,15 +140,15 @@ fn each_read_of_a_record_fails_once(rt: HostRuntime) -> Result<(), Fail> {
 fn each_write_of_a_record_fails_once(rt: HostRuntime) -> Result<(), Fail> {
     let whole = lines_by(
         rt.alloc(),
-        dripping(LINES, 4, 0),
-        cup_of(rt.alloc(), 3, 0, false),
+        Drip::new(LINES, 4, 0),
+        Cup::new(rt.alloc(), 3, 0, false),
     )?;
     for takes_nothing in [false, true] {
         for fails_at in 1..whole.writes {
             let p = lines_by(
                 rt.alloc(),
-                dripping(LINES, 4, 0),
-                cup_of(rt.alloc(), 3, fails_at, takes_nothing),
+                Drip::new(LINES, 4, 0),
+                Cup::new(rt.alloc(), 3, fails_at, takes_nothing),
             )?;
             assert!(rt; matches!(p.outcome, Err(Fault::Write)));
             assert!(rt; RECORD.starts_with(p.text.as_slice()) && p.text.len() < RECORD.len());
@@ -158,55 +160,3 @@ fn each_write_of_a_record_fails_once(rt: HostRuntime) -> Result<(), Fail> {
 
 /// How many writes of three bytes the header of `RECORD` takes.
 const HEADER_WRITES: u64 = 27;
-
-/// A record with so many bytes of a heap left to take, a multiple of 16.
-fn record_in_the_last(
-    left: usize,
-    alloc: Global,
-    config: Config,
-    input: &[u8],
-) -> Result<Played<()>, Fail> {
-    let heap = LocalHeap::new(alloc, HEAP)?;
-    let _others = Vec::<u8, &LocalHeap>::with_capacity(&heap, HEAP.saturating_sub(left))?;
-    Ok(recorded(
-        config,
-        &heap,
-        dripping(input, 1, 0),
-        cup_of(alloc, 64, 0, false),
-    ))
-}
-
-/// Records a row with each amount of memory about its growths, up to one that is enough: with less than the least in which a run
-/// reads, nothing is read or written, and with more the record is that of the replies which the run gives in the same memory.
-fn record_with_growths_refused(rt: &impl Abort, alloc: Global, row: &Row) -> Result<(), Fail> {
-    let config = Config::new(row.world, row.m, row.k, row.limit)?;
-    let asked = spelled(alloc, row.asked)?;
-    let said = spelled(alloc, row.said)?;
-    let fits = least_memory(rt, alloc, config)?.unwrap_or(HEAP);
-    for left in amounts_about_growths(alloc, config)? {
-        let p = record_in_the_last(left, alloc, config, &asked)?;
-        if left < fits {
-            assert!(rt; matches!(p.outcome, Err(Fault::Memory)), "at {left} bytes");
-            assert_eq!(rt; (p.reads, p.writes), (0, 0), "at {left} bytes");
-        }
-    }
-    for left in (fits..HEAP).step_by(16) {
-        let played = play_in_the_last(left, alloc, config, &asked, 0)?;
-        let p = record_in_the_last(left, alloc, config, &asked)?;
-        assert!(rt; p.outcome.is_ok(), "at {left} bytes");
-        let text = record_text(alloc, config, &asked, &played.text)?;
-        assert!(rt; p.text == text, "at {left} bytes");
-        if played.text == said {
-            return Ok(());
-        }
-    }
-    Ok(())
-}
-
-#[test]
-fn each_growth_of_a_record_is_refused_in_turn(rt: HostRuntime) -> Result<(), Fail> {
-    for row in &ROWS {
-        record_with_growths_refused(&rt, rt.alloc(), row)?;
-    }
-    Ok(())
-}

@@ -4,107 +4,19 @@ ghost use Rattle.std.specs.Prelude.{◌≡◌, true};
 ghost use Rattle.schedule_player.specs.Requests.Request.{Take};
 
 use crate::toys::{Coin, Shelf};
+use crate::worlds_tests::{ROWS, spelled};
 use crate::{
     Config, Event, Fault, MOST_READS, READ_BYTES, Reply, Service, Summary, Tried, World, WorldKind,
     law_of_growths, law_of_lines, law_of_play, law_of_world, play, play_in, play_on,
 };
 use desk::Desk;
-use linked_list_allocator::LocalHeap;
 use splitter::SplitterWorld;
 use splitter_grid::GridWorld;
 use std::alloc::{Allocator, Global};
-use std::io;
-use std::io::{Read, Write};
+use std::process::Abort;
 use std::test::Fail;
 use step_memory::View;
-
-/// Gives at most so many bytes a read, and fails at one call, counted from 1. Bytes of a heap that it was lent it gives back
-/// at another.
-#[derive(Drop)]
-pub(crate) struct Drip<'a> {
-    bytes: &'a [u8],
-    piece: usize,
-    calls: u64,
-    fails_at: u64,
-    lent: Option<Vec<u8, &'a LocalHeap>>,
-    frees_at: u64,
-}
-
-impl<'a> Drip<'a> {
-    /// Lends it bytes of a heap, which it gives back at this call.
-    pub(crate) fn lend(&mut self, bytes: Vec<u8, &'a LocalHeap>, frees_at: u64) {
-        self.lent = Some(bytes);
-        self.frees_at = frees_at;
-    }
-}
-
-impl Read for Drip<'_> {
-    fn read(&mut self, buf: &mut [u8]) -> io::Result<usize> {
-        self.calls = self.calls.saturating_add(1);
-        if self.calls == self.frees_at {
-            self.lent = None;
-        }
-        if self.calls == self.fails_at {
-            return Err(io::ErrorKind::Other.into());
-        }
-        let count = self.bytes.len().min(self.piece).min(buf.len());
-        let (given, left) = self.bytes.split_at(count);
-        buf[..count].copy_from_slice(given);
-        self.bytes = left;
-        Ok(count)
-    }
-}
-
-/// Takes at most so many bytes a write, and fails at one call, counted from 1, or takes nothing there.
-#[derive(Drop)]
-pub(crate) struct Cup {
-    taken: Vec<u8>,
-    piece: usize,
-    calls: u64,
-    fails_at: u64,
-    takes_nothing: bool,
-}
-
-impl Write for Cup {
-    fn write(&mut self, buf: &[u8]) -> io::Result<usize> {
-        self.calls = self.calls.saturating_add(1);
-        if self.calls == self.fails_at {
-            return if self.takes_nothing {
-                Ok(0)
-            } else {
-                Err(io::ErrorKind::Other.into())
-            };
-        }
-        let count = buf.len().min(self.piece);
-        self.taken.extend_from_slice(&buf[..count])?;
-        Ok(count)
-    }
-
-    fn flush(&mut self) -> io::Result<()> {
-        Ok(())
-    }
-}
-
-pub(crate) fn dripping(bytes: &[u8], piece: usize, fails_at: u64) -> Drip<'_> {
-    Drip {
-        bytes,
-        piece,
-        calls: 0,
-        fails_at,
-        lent: None,
-        frees_at: 0,
-    }
-}
-
-pub(crate) fn cup_of(alloc: Global, piece: usize, fails_at: u64, takes_nothing: bool) -> Cup {
-    Cup {
-        taken: Vec::new(alloc),
-        piece,
-        calls: 0,
-        fails_at,
-        takes_nothing,
-    }
-}
+use test_doubles::{Cup, Drip, Refusing};
 
 /// What a run answers, what was written, and how often the reader and the writer were called.
 #[derive(Drop)]
@@ -149,8 +61,12 @@ pub(crate) fn what_is_left<T>(
     }
 }
 
+/// Lines of each kind that is bad, and one that is refused.
 const LINES: &[u8] =
     b"\naaaaaaaaaaaaaaaaaaaaaaaaaaaaaaaaaaaaaaaaaaaaaaaaaaaaaaaaaaaaaaaaaaaaaaaaaaaaaaaaaaaaaaaaaaaaaaaaaaaa\naaaaaaaaaaaaaaaaaaaaaaaaaaaaaaaaaaaaaaaaaaaaaaaaaaaaaaaaaaaaaaaaaaaaaaaaaaaaaaaaaaaaaaaaaaaaaaaaaaaaa\nstep\nstep 07\nSTEP 1\nstep  1\nbegin 18446744073709551616\nstep 1\r\nstep 1";
+
+const LINES_TEXT: &[u8] =
+    b"bad 3\nbad 3\nbad 1\nbad 4\nbad 5\nbad 3\nbad 4\nbad 5\nbad 2\nrefused 4\n";
 
 /// Inputs and the texts that they are answered by, with two participants.
 fn rows() -> [(&'static [u8], &'static [u8]); 6] {
@@ -169,10 +85,7 @@ fn rows() -> [(&'static [u8], &'static [u8]); 6] {
             b"bad 3\nrefused 4\nrefused 1\nok\nok\n",
         ),
         (b"begin 7\nquit\nbegin 8", b"ok\nok\n"),
-        (
-            LINES,
-            b"bad 3\nbad 3\nbad 1\nbad 4\nbad 5\nbad 3\nbad 4\nbad 5\nbad 2\nrefused 4\n",
-        ),
+        (LINES, LINES_TEXT),
     ]
 }
 
@@ -182,8 +95,8 @@ fn the_text_is_the_same_however_the_bytes_are_cut(rt: HostRuntime) -> Result<(),
         for piece in [1, 3, READ_BYTES] {
             let p = play_by(
                 rt.alloc(),
-                dripping(input, piece, 0),
-                cup_of(rt.alloc(), piece, 0, false),
+                Drip::new(input, piece, 0),
+                Cup::new(rt.alloc(), piece, 0, false),
             )?;
             assert!(rt; p.outcome.is_ok());
             assert_eq!(rt; p.text.as_slice(), text);
@@ -205,8 +118,8 @@ fn the_summary_counts_each_line(rt: HostRuntime) -> Result<(), Fail> {
     for ((input, _), (lines, accepted, refused, bad)) in rows().into_iter().zip(counts) {
         let p = play_by(
             rt.alloc(),
-            dripping(input, 7, 0),
-            cup_of(rt.alloc(), 7, 0, false),
+            Drip::new(input, 7, 0),
+            Cup::new(rt.alloc(), 7, 0, false),
         )?;
         let summary = p.outcome?;
         assert_eq!(rt; summary.lines, lines);
@@ -217,70 +130,134 @@ fn the_summary_counts_each_line(rt: HostRuntime) -> Result<(), Fail> {
     Ok(())
 }
 
-#[test]
-fn each_read_fails_once(rt: HostRuntime) -> Result<(), Fail> {
-    for (input, text) in rows() {
-        let calls = play_by(
-            rt.alloc(),
-            dripping(input, 4, 0),
-            cup_of(rt.alloc(), 64, 0, false),
-        )?
-        .reads;
-        for fails_at in 1..calls {
-            let p = play_by(
-                rt.alloc(),
-                dripping(input, 4, fails_at),
-                cup_of(rt.alloc(), 64, 0, false),
-            )?;
-            assert!(rt; matches!(p.outcome, Err(Fault::Read)));
-            assert!(rt; text.starts_with(p.text.as_slice()));
-            assert!(rt; p.text.is_empty() || p.text.ends_with(b"\n".as_slice()));
+/// The first lines of a text, so many.
+fn first_lines(text: &[u8], count: usize) -> &[u8] {
+    let mut seen = 0usize;
+    for (at, byte) in text.iter().enumerate() {
+        if seen == count {
+            return &text[..at];
+        }
+        if *byte == b'\n' {
+            seen = seen.saturating_add(1);
         }
     }
+    text
+}
+
+/// Each read of a run fails in turn: the whole lines before it are answered.
+fn reads_fail_in_turn(rt: &impl Abort, alloc: Global, config: Config, input: &[u8], text: &[u8]) {
+    let whole = run_of(
+        config,
+        alloc,
+        Drip::new(input, 4, 0),
+        Cup::new(alloc, 64, 0, false),
+    );
+    for fails_at in 1..=whole.reads {
+        let p = run_of(
+            config,
+            alloc,
+            Drip::new(input, 4, fails_at),
+            Cup::new(alloc, 64, 0, false),
+        );
+        assert!(rt; matches!(p.outcome, Err(Fault::Read)), "at {fails_at}");
+        let given = (fails_at as usize).saturating_sub(1).saturating_mul(4);
+        let lines = input
+            .iter()
+            .take(given)
+            .filter(|byte| **byte == b'\n')
+            .count();
+        assert_eq!(rt;
+            p.text.as_slice(),
+            first_lines(text, lines),
+            "at {fails_at}"
+        );
+    }
+}
+
+/// Each write of a run fails in turn: a beginning of the text is written.
+fn writes_fail_in_turn(rt: &impl Abort, alloc: Global, config: Config, input: &[u8], text: &[u8]) {
+    let whole = run_of(
+        config,
+        alloc,
+        Drip::new(input, 4, 0),
+        Cup::new(alloc, 3, 0, false),
+    );
+    for takes_nothing in [false, true] {
+        for fails_at in 1..=whole.writes {
+            let p = run_of(
+                config,
+                alloc,
+                Drip::new(input, 4, 0),
+                Cup::new(alloc, 3, fails_at, takes_nothing),
+            );
+            assert!(rt; matches!(p.outcome, Err(Fault::Write)), "at {fails_at}");
+            assert!(rt; text.starts_with(p.text.as_slice()), "at {fails_at}");
+            assert!(rt; p.text.len() < text.len(), "at {fails_at}");
+        }
+    }
+}
+
+/// In a splitter each row, and in a world of names the row of bad lines and the one in which the name 2b - 1 is reached.
+#[test]
+fn each_read_and_each_write_fails_once(rt: HostRuntime) -> Result<(), Fail> {
+    let alloc = rt.alloc();
+    let splitter = Config::new(WorldKind::Splitter, 2, 4, 1000)?;
+    for (input, text) in rows() {
+        reads_fail_in_turn(&rt, alloc, splitter, input, text);
+        writes_fail_in_turn(&rt, alloc, splitter, input, text);
+    }
+    let rename = Config::new(WorldKind::Rename, 2, 4, 1000)?;
+    for (input, text) in [
+        (
+            spelled(alloc, ROWS[2].asked)?,
+            spelled(alloc, ROWS[2].said)?,
+        ),
+        (
+            Vec::from_slice(alloc, LINES)?,
+            Vec::from_slice(alloc, LINES_TEXT)?,
+        ),
+    ] {
+        reads_fail_in_turn(&rt, alloc, rename, &input, &text);
+        writes_fail_in_turn(&rt, alloc, rename, &input, &text);
+    }
+    Ok(())
+}
+
+#[test]
+fn a_line_that_a_read_fault_cuts_is_not_run(rt: HostRuntime) -> Result<(), Fail> {
     let p = play_by(
         rt.alloc(),
-        dripping(b"begin 7\nstep 7".as_slice(), 64, 2),
-        cup_of(rt.alloc(), 64, 0, false),
+        Drip::new(b"begin 7\nstep 7".as_slice(), 64, 2),
+        Cup::new(rt.alloc(), 64, 0, false),
     )?;
     assert!(rt; matches!(p.outcome, Err(Fault::Read)));
     assert_eq!(rt; p.text.as_slice(), b"ok\n".as_slice());
     Ok(())
 }
 
-#[test]
-fn each_write_fails_once(rt: HostRuntime) -> Result<(), Fail> {
-    for (input, text) in rows() {
-        let calls = play_by(
-            rt.alloc(),
-            dripping(input, 4, 0),
-            cup_of(rt.alloc(), 3, 0, false),
-        )?
-        .writes;
-        for takes_nothing in [false, true] {
-            for fails_at in 1..calls {
-                let p = play_by(
-                    rt.alloc(),
-                    dripping(input, 4, 0),
-                    cup_of(rt.alloc(), 3, fails_at, takes_nothing),
-                )?;
-                assert!(rt; matches!(p.outcome, Err(Fault::Write)));
-                assert!(rt; text.starts_with(p.text.as_slice()) && p.text.len() < text.len());
-            }
-        }
-    }
-    Ok(())
-}
-
+/// However long a line is, no more growths are made than for a short one.
 #[test]
 fn a_line_of_a_million_bytes_is_bad(rt: HostRuntime) -> Result<(), Fail> {
-    let input = vec![in rt.alloc(); b'a'; 1_000_000]?;
-    let p = play_by(
-        rt.alloc(),
-        dripping(input.as_slice(), 1, 0),
-        cup_of(rt.alloc(), 64, 0, false),
-    )?;
-    assert!(rt; p.outcome.is_ok());
-    assert_eq!(rt; p.text.as_slice(), b"bad 1\n".as_slice());
+    let alloc = rt.alloc();
+    let config = Config::new(WorldKind::Splitter, 2, 4, 1000)?;
+    let long = vec![in alloc; b'a'; 1_000_000]?;
+    let mut left = [0, 0];
+    for (left, (input, text)) in left.iter_mut().zip([
+        (long.as_slice(), b"bad 1\n".as_slice()),
+        (b"a", b"bad 3\n"),
+    ]) {
+        let heap = Refusing::new(alloc, u64::MAX);
+        let p = run_of(
+            config,
+            &heap,
+            Drip::new(input, 1, 0),
+            Cup::new(alloc, 64, 0, false),
+        );
+        assert!(rt; p.outcome.is_ok());
+        assert_eq!(rt; p.text.as_slice(), text);
+        *left = heap.left();
+    }
+    assert_eq!(rt; left[0], left[1]);
     Ok(())
 }
 
@@ -307,8 +284,8 @@ fn walks_in_a_grid_end_at_places(rt: HostRuntime) -> Result<(), Fail> {
             let p = run_of(
                 Config::new(WorldKind::Grid, m, 4, 1000)?,
                 rt.alloc(),
-                dripping(input, piece, 0),
-                cup_of(rt.alloc(), piece, 0, false),
+                Drip::new(input, piece, 0),
+                Cup::new(rt.alloc(), piece, 0, false),
             );
             assert!(rt; p.outcome.is_ok());
             assert_eq!(rt; p.text.as_slice(), text);
@@ -376,7 +353,7 @@ fn a_world_whose_replies_vary_is_played_and_left_where_the_replies_went_out(
         (4, false, b"right\nstop\nowner none\n"),
     ] {
         let mut coin = Coin { stops: false };
-        let mut reader = Tried::new(dripping(b"begin 1\nstep 1\nowner 1\nenter 1\n", 8, fails_at));
+        let mut reader = Tried::new(Drip::new(b"begin 1\nstep 1\nowner 1\nenter 1\n", 8, fails_at));
         let mut writer = Tried::new(Vec::new(rt.alloc()));
         let outcome = play_on(
             rt.alloc(),
@@ -399,8 +376,8 @@ fn reads_and_writes_are_few(rt: HostRuntime) -> Result<(), Fail> {
     for (piece, reads, writes) in [(READ_BYTES, 1, 1), (8, 6, 6), (1, 41, 6)] {
         let p = play_by(
             rt.alloc(),
-            dripping(input, piece, 0),
-            cup_of(rt.alloc(), READ_BYTES, 0, false),
+            Drip::new(input, piece, 0),
+            Cup::new(rt.alloc(), READ_BYTES, 0, false),
         )?;
         assert!(rt; p.outcome.is_ok());
         assert_eq!(rt; (p.reads, p.writes), (reads, writes), "at {piece} bytes");

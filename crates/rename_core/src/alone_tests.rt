@@ -1,0 +1,172 @@
+//! One who steps alone, wherever the others have stopped.
+
+use crate::{Config, RenamePlaces, RenameWorld, WorldKind};
+use snapshot_places::{Grid, TreePlaces};
+use std::alloc::Global;
+use std::process::Abort;
+use std::test::Fail;
+
+/// A world in which the participants 10, 20 and on, so many, have begun.
+fn begun<W: RenamePlaces<Global> + Drop>(
+    alloc: Global,
+    world: WorldKind,
+    count: u64,
+) -> Result<RenameWorld<W, Global>, Fail>
+where
+    W::Walker: Copy,
+    W::Walk: Copy,
+    W::Value: Drop,
+{
+    let mut world = RenameWorld::new(alloc, Config::new(world, count, 4, 1000)?)?;
+    for before in 0..count {
+        world.begin(before.saturating_add(1).saturating_mul(10))?;
+    }
+    Ok(world)
+}
+
+/// At most so many steps of a participant, until it is named. How many there were.
+fn goes<W: RenamePlaces<Global> + Drop>(
+    world: &mut RenameWorld<W, Global>,
+    id: u64,
+    most: u64,
+) -> Result<u64, Fail>
+where
+    W::Walker: Copy,
+    W::Walk: Copy,
+    W::Value: Drop,
+{
+    for steps in 0..most {
+        if world.name_of(id).is_some() {
+            return Ok(steps);
+        }
+        world.step(id)?;
+    }
+    Ok(most)
+}
+
+/// For how many steps of another, which then stops, so many steps of one who is then alone give it this name.
+#[derive(Drop)]
+struct Alone {
+    stopped: [u64; 2],
+    steps: u64,
+    name: u64,
+}
+
+/// Two participants, of whom one stops after each number of steps up to that at which it is named.
+fn one_stops<W: RenamePlaces<Global> + Drop>(
+    rt: &impl Abort,
+    alloc: Global,
+    kind: WorldKind,
+    table: &[Alone],
+) -> Result<(), Fail>
+where
+    W::Walker: Copy,
+    W::Walk: Copy,
+    W::Value: Drop,
+{
+    for row in table {
+        for stopped in row.stopped[0]..=row.stopped[1] {
+            let mut world = begun::<W>(alloc, kind, 2)?;
+            assert_eq!(rt; goes(&mut world, 10, stopped)?, stopped, "at {stopped}");
+            assert_eq!(rt; goes(&mut world, 20, 1_000)?, row.steps, "at {stopped}");
+            assert_eq!(rt; world.name_of(20), Some(row.name), "at {stopped}");
+        }
+    }
+    Ok(())
+}
+
+#[test]
+fn one_stops_in_a_grid(rt: HostRuntime) -> Result<(), Fail> {
+    let table = [
+        Alone {
+            stopped: [0, 2],
+            steps: 17,
+            name: 1,
+        },
+        Alone {
+            stopped: [3, 10],
+            steps: 19,
+            name: 1,
+        },
+        Alone {
+            stopped: [11, 17],
+            steps: 32,
+            name: 3,
+        },
+    ];
+    one_stops::<Grid<Global>>(&rt, rt.alloc(), WorldKind::Rename, &table)
+}
+
+#[test]
+fn one_stops_in_a_tree(rt: HostRuntime) -> Result<(), Fail> {
+    let table = [
+        Alone {
+            stopped: [0, 3],
+            steps: 22,
+            name: 1,
+        },
+        Alone {
+            stopped: [4, 13],
+            steps: 37,
+            name: 1,
+        },
+        Alone {
+            stopped: [14, 22],
+            steps: 66,
+            name: 3,
+        },
+    ];
+    one_stops::<TreePlaces<Global>>(&rt, rt.alloc(), WorldKind::Tree, &table)
+}
+
+/// Three participants, of whom two stop after each two numbers of steps up to those at which they are named: the third is named
+/// within this many steps. Then the others go on: no two have one name, and none is above 5.
+fn two_stop<W: RenamePlaces<Global> + Drop>(
+    rt: &impl Abort,
+    alloc: Global,
+    kind: WorldKind,
+    most: u64,
+) -> Result<(), Fail>
+where
+    W::Walker: Copy,
+    W::Walk: Copy,
+    W::Value: Drop,
+{
+    for first in 0..most {
+        for second in 0..most {
+            let mut world = begun::<W>(alloc, kind, 3)?;
+            let went = (goes(&mut world, 10, first)?, goes(&mut world, 20, second)?);
+            goes(&mut world, 30, most)?;
+            let name = world.name_of(30);
+            goes(&mut world, 20, 1_000)?;
+            goes(&mut world, 10, 1_000)?;
+            let names = [world.name_of(10), world.name_of(20), name];
+            let mut seen = [false; 6];
+            for name in names {
+                let here = name.and_then(|name| seen.get_mut(name as usize));
+                let Some(here) = here else {
+                    panic!(rt; "at {first} and {second}: {names:?}");
+                };
+                assert!(rt; !*here, "at {first} and {second}: {names:?}");
+                *here = true;
+            }
+            if went.1 < second {
+                break;
+            }
+            if went.0 < first {
+                return Ok(());
+            }
+        }
+    }
+    Ok(())
+}
+
+#[test]
+fn two_stop_in_a_grid(rt: HostRuntime) -> Result<(), Fail> {
+    two_stop::<Grid<Global>>(&rt, rt.alloc(), WorldKind::Rename, 79)
+}
+
+#[test]
+fn two_stop_in_a_tree(rt: HostRuntime) -> Result<(), Fail> {
+    two_stop::<TreePlaces<Global>>(&rt, rt.alloc(), WorldKind::Tree, 192)
+}
