@@ -1,9 +1,9 @@
-pub mod StayOfLemmas
-pub mod Counts
-pub mod Balanced
-pub mod Tied
+mod StayOfLemmas
+mod Counts
+mod Balanced
+mod Tied
 pub mod PoolKeeps
-pub mod Seeking
-pub mod Acquiring
-pub mod LocalityLemmas
-pub mod CallLemmas
+mod Seeking
+mod Acquiring
+mod LocalityLemmas
+mod CallLemmas

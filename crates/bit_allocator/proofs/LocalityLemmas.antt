@@ -2,7 +2,7 @@
 use Rattle.std.proofs.Common.{◌≡◌, ℕ, true, false, cond, Option, Some, None, Ok, refl, sym, ap, subst, ◌∙◌}
 use Rattle.std.specs.Prelude.{is_some, nat_lt}
 use Rattle.step_memory.specs.declared.access.Access.TheVariants.{TestAndSet, Clear, Nothing}
-use Rattle.step_memory.specs.RegisterLaws.{others_kept}
+use Rattle.step_memory.specs.RegisterProofs.{others_kept}
 use Rattle.step_memory.specs.Registers.{register_of, answer_of, after_access}
 use Rattle.step_memory.specs.Steps.{Spares, SetsOrClears}
 use Rattle.bit_allocator.specs.declared.stay.Stay.{Stay}

@@ -8,10 +8,10 @@ use Rattle.snapshot_core.specs.Snapshot.{SnapBounds}
 use Rattle.snapshot_core.specs.SnapWorld.{SnapState, may_lack_memory}
 use Rattle.snapshot_places.specs.Bounds.{grid_bounds, tree_bounds}
 use Rattle.snapshot_places.specs.Grid.{fresh_grid}
-use Rattle.snapshot_places.specs.GridLaws.{grid_laws}
+use Rattle.snapshot_places.specs.GridProofs.{grid_laws}
 use Rattle.snapshot_places.specs.GridTies.{grid_places}
 use Rattle.snapshot_places.specs.Tree.{new_tree}
-use Rattle.snapshot_places.specs.TreeLaws.{tree_laws}
+use Rattle.snapshot_places.specs.TreeProofs.{tree_laws}
 use Rattle.snapshot_places.specs.TreeTies.{tree_places}
 use Rattle.rename_core.specs.Ample.{grid_ample}
 use Rattle.rename_core.specs.Config.{is_tree}

@@ -1,5 +1,5 @@
-pub mod DeskKeeps
-pub mod NamesGiven
-pub mod NamedAlone
-pub mod Refusing
+mod DeskKeeps
+mod NamesGiven
+mod NamedAlone
+mod Refusing
 pub mod DeskLaws

@@ -1,5 +1,5 @@
-pub mod ShortReplies
-pub mod ResultLemmas
-pub mod UnderWayLemmas
-pub mod ScheduleLemmas
-pub mod RunLemmas
+mod ShortReplies
+mod ResultLemmas
+mod UnderWayLemmas
+mod ScheduleLemmas
+mod RunLemmas

@@ -1,10 +1,10 @@
-pub mod Logging
-pub mod Histories
-pub mod Keeping
-pub mod Places
-pub mod Marking
-pub mod Renames
-pub mod Naming
+mod Logging
+mod Histories
+mod Keeping
+mod Places
+mod Marking
+mod Renames
+mod Naming
 pub mod Sent
-pub mod Staying
-pub mod Serves
+mod Staying
+mod Serves

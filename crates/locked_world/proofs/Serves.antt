@@ -17,7 +17,7 @@ use Rattle.desk.specs.DeskValue.{DeskValue}
 use Rattle.desk.specs.Replies.{is_refusal}
 use Rattle.desk.proofs.DeskLaws as desk
 use Rattle.schedule_player.specs.DeskWorld.{DeskWorldMay}
-use Rattle.schedule_player.specs.DeskWorldLaws.{desk_lawful, desk_tells}
+use Rattle.schedule_player.specs.DeskWorldProofs.{desk_lawful, desk_tells}
 use Rattle.schedule_player.specs.IsRun.{IsTalk, IsTalkByKind}
 use Rattle.schedule_player.specs.Requests.Request.{Take}
 use Rattle.schedule_player.specs.Runs.{Runs}

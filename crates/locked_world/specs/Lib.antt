@@ -11,6 +11,6 @@ pub mod Answers
 pub mod Marks
 pub mod Renamed
 pub mod Serving
-pub mod ServingLaws
+pub mod ServingProofs
 pub mod KeptNames
 pub mod Words

@@ -2,7 +2,7 @@
 
 ghost use Rattle.std.specs.Prelude.{true};
 ghost use Rattle.locked_world.specs.Serving.{HallServes};
-ghost use Rattle.locked_world.specs.ServingLaws.{hall_answers};
+ghost use Rattle.locked_world.specs.ServingProofs.{hall_answers};
 
 use crate::hall::Hall;
 use desk::{Event, Reply, ShortReply};

@@ -2,7 +2,7 @@
 
 ghost use Rattle.std.specs.Prelude.{◌≡◌, true};
 ghost use Rattle.locked_world.specs.Serving.{ClerkServes};
-ghost use Rattle.locked_world.specs.ServingLaws.{clerk_answers};
+ghost use Rattle.locked_world.specs.ServingProofs.{clerk_answers};
 
 use crate::parts::{Clerk, HallLock};
 use desk::{Event, Reply, ShortReply};

@@ -1,6 +1,6 @@
-pub mod Views
-pub mod Accesses
-pub mod Dealing
-pub mod Meeting
-pub mod Visiting
-pub mod Claims
+mod Views
+mod Accesses
+mod Dealing
+mod Meeting
+mod Visiting
+mod Claims

@@ -42,11 +42,11 @@ use Rattle.rename_core.specs.RenameState.{RenameState}
 use Rattle.rename_core.specs.RenameWorld.{after_wish, begun_snap, begun_unless, has_place, world_with, snap_step, snap_told, after_told, after_open, after_by, answer_told, answer_open, answer_by, rename_answer, after_rename_step}
 use Rattle.rename_core.specs.Round.{stage_refusal, followed, decided, named_by, spent_by, saw_by, number_of, written_round, first_round, first_wish}
 use Rattle.rename_core.proofs.LocalSteps.{wish_becomes}
-use Rattle.rename_core.proofs.Numbers.{next_free}
-use Rattle.rename_core.proofs.StepCases.{told_answer, told_state, closed_answer}
-use Rattle.rename_core.proofs.Stepping.{HasGone, placing_gone, proposing_gone, looking_gone, standing_made}
-use Rattle.rename_core.proofs.Tied.{IsAtStage, IsPlacing, IsProposing, IsLooking, IsTied}
-use Rattle.rename_core.proofs.Views.{taken_not}
+use Rattle.rename_core.proofs.rounds.Numbers.{next_free}
+use Rattle.rename_core.proofs.rounds.StepCases.{told_answer, told_state, closed_answer}
+use Rattle.rename_core.proofs.rounds.Stepping.{HasGone, placing_gone, proposing_gone, looking_gone, standing_made}
+use Rattle.rename_core.proofs.rounds.Tied.{IsAtStage, IsPlacing, IsProposing, IsLooking, IsTied}
+use Rattle.rename_core.proofs.rounds.Views.{taken_not}
 
 -- in the last moment no other proposes n
 abbrev IsFree : RenameObject → ℕ → ℕ → Type 0

@@ -15,9 +15,9 @@ use Rattle.rename_core.specs.RenameCalls.{next, IsReply}
 use Rattle.rename_core.specs.RenameObject.{RenameTerms, RenameObject, new_object, Allows, after, IsRun}
 use Rattle.rename_core.specs.RenameState.{RenameState}
 use Rattle.rename_core.proofs.Alone.{Grounds, LeftAlone, starts_alone, ends_named, call_alone}
-use Rattle.rename_core.proofs.Keeping.{Goes}
-use Rattle.rename_core.proofs.Snapping.{run_ends}
-use Rattle.rename_core.proofs.Tied.{IsTied}
+use Rattle.rename_core.proofs.rounds.Keeping.{Goes}
+use Rattle.rename_core.proofs.rounds.Snapping.{run_ends}
+use Rattle.rename_core.proofs.rounds.Tied.{IsTied}
 
 only_cell : {X : Type 0} (x h : X) (before more : List X) → x ≡ h → before ++ more ≡ [] → (more ≡ []) × (x ∷ before ≡ h ∷ [])
 only_cell x h [] more e none = (none, rw e refl)

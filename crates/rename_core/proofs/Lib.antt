@@ -1,22 +1,12 @@
-pub mod Numbers
-pub mod Views
-pub mod Participants
-pub mod ShortReplies
-pub mod Standing
-pub mod Large
-pub mod Snapping
-pub mod Tied
-pub mod Stepping
-pub mod Keeping
-pub mod Beginning
-pub mod StepCases
+mod rounds
+mod Participants
+mod ShortReplies
+mod Large
 pub mod Sizes
-pub mod Shown
-pub mod LocalSteps
-pub mod Alone
-pub mod AloneRuns
-pub mod Names
+mod LocalSteps
+mod Alone
+mod AloneRuns
+mod Names
 pub mod NamedPlaces
 pub mod AfterCalls
-pub mod Beginners
 pub mod PlacesLaw

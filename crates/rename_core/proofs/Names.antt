@@ -35,13 +35,13 @@ use Rattle.rename_core.specs.Round.{name_at, stage_refusal, standing_by}
 use Rattle.snapshot_core.proofs.Alone.{ends_soon_alone}
 use Rattle.rename_core.proofs.Alone.{Grounds}
 use Rattle.rename_core.proofs.AloneRuns.{KeepsAlone, alone_fresh, alone_more, alone_named}
-use Rattle.rename_core.proofs.Beginning.{begin_goes}
-use Rattle.rename_core.proofs.Keeping.{Goes, step_goes}
-use Rattle.rename_core.proofs.Shown.{standing_of, shown_rising, shown_is, Owns, owner_is}
+use Rattle.rename_core.proofs.rounds.Beginning.{begin_goes}
+use Rattle.rename_core.proofs.rounds.Keeping.{Goes, step_goes}
+use Rattle.rename_core.proofs.rounds.Shown.{standing_of, shown_rising, shown_is, Owns, owner_is}
 use Rattle.rename_core.proofs.Sizes.{most_after}
-use Rattle.rename_core.proofs.Snapping.{run_ends, AreAfter, after_none, after_more}
-use Rattle.rename_core.proofs.Standing.{IsStanding, standing_fresh, same_in, name_small}
-use Rattle.rename_core.proofs.Tied.{IsAtStage, IsTied}
+use Rattle.rename_core.proofs.rounds.Snapping.{run_ends, AreAfter, after_none, after_more}
+use Rattle.rename_core.proofs.rounds.Standing.{IsStanding, standing_fresh, same_in, name_small}
+use Rattle.rename_core.proofs.rounds.Tied.{IsAtStage, IsTied}
 
 -- no two have one name
 pub distinct_names : (o : RenameObject) → IsStanding o → (p q n : ℕ) → o.name p ≡ Some n → o.name q ≡ Some n → p ≡ q

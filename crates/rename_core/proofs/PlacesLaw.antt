@@ -2,14 +2,14 @@
 use Rattle.std.proofs.Common.{◌≡◌, ℕ, ◌≤◌, true, false, List, Option, refl, ap, subst, ◌∙◌}
 use Rattle.snapshot_core.specs.SnapCalls.{IsAfter as IsSnapAfter}
 use Rattle.snapshot_core.specs.FixedTies.{fixed_places, fixed_bounds}
-use Rattle.snapshot_core.specs.FixedLaws.{fixed_laws}
+use Rattle.snapshot_core.specs.FixedProofs.{fixed_laws}
 use Rattle.snapshot_places.specs.Bounds.{grid_bounds, tree_bounds}
-use Rattle.snapshot_places.specs.GridLaws.{grid_laws}
+use Rattle.snapshot_places.specs.GridProofs.{grid_laws}
 use Rattle.snapshot_places.specs.GridState.{GridState}
 use Rattle.snapshot_places.specs.GridTies.{grid_places}
 use Rattle.snapshot_places.specs.Made.{MakesNode}
 use Rattle.snapshot_places.specs.Tree.{TreeState, new_tree}
-use Rattle.snapshot_places.specs.TreeLaws.{tree_laws}
+use Rattle.snapshot_places.specs.TreeProofs.{tree_laws}
 use Rattle.snapshot_places.specs.TreeTies.{tree_places}
 use Rattle.snapshot_places.specs.declared.grid_walk.GridWalk.{GridWalk}
 use Rattle.snapshot_places.specs.declared.grid_walker.GridWalker.{GridWalker}
@@ -25,7 +25,7 @@ use Rattle.rename_core.specs.Ample.{fixed_ample, grid_ample}
 use Rattle.rename_core.specs.declared.config.WorldKind.TheVariants.{Rename, Tree}
 use Rattle.rename_core.specs.RenameCalls.{IsLawfulWithin, LacksOnly, BeginsTheSame}
 use Rattle.rename_core.specs.RenameState.{RenameState}
-use Rattle.rename_core.proofs.Beginners.{begins_alike}
+use Rattle.rename_core.proofs.rounds.Beginners.{begins_alike}
 use Rattle.rename_core.proofs.Names.{MayBeNamed, rename_law, most_is, snap_after}
 
 grid_named : (most : ℕ) → MayBeNamed grid_places false most (grid_bounds most).scanning

@@ -14,7 +14,7 @@ use Rattle.rename_core.specs.RenameCalls.{next, IsReply}
 use Rattle.rename_core.specs.RenameState.{RenameState}
 use Rattle.rename_core.specs.RenameWorld.{begun_unless, has_place, after_told, after_open, after_by, after_rename_step, snap_told}
 use Rattle.rename_core.specs.Round.{stage_refusal, followed, first_wish}
-use Rattle.rename_core.proofs.StepCases.{begun_large, step_large}
+use Rattle.rename_core.proofs.rounds.StepCases.{begun_large, step_large}
 
 module _ {S R V U K : Type 0} (W : KnownPlaces S R V U K) (w : RenameState S U K) (p : ℕ) where
   told_most : (r : Round) (told : Result SnapReply Refusal) → (after_told W w p r told).snap.most ≡ w.snap.most

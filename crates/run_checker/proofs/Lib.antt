@@ -1,28 +1,28 @@
-pub mod Past
-pub mod Turned
-pub mod PeopleLemmas
-pub mod TurnLemmas
-pub mod NamesLemmas
-pub mod Crowds
-pub mod Deciding
-pub mod RowLemmas
-pub mod StayLemmas
-pub mod Judging
-pub mod Following
-pub mod RecordRuns
-pub mod DeskRuns
-pub mod WordLemmas
-pub mod JsonLemmas
-pub mod RecordLines
-pub mod RowRuns
-pub mod WrittenTexts
-pub mod WrittenNumbers
-pub mod Pieces
-pub mod WrittenWords
-pub mod WrittenReplies
-pub mod WrittenLines
-pub mod OneVerdict
-pub mod NarrowRuns
-pub mod LowPlaces
-pub mod Talking
-pub mod Recording
+mod Past
+mod Turned
+mod PeopleLemmas
+mod TurnLemmas
+mod NamesLemmas
+mod Crowds
+mod Deciding
+mod RowLemmas
+mod StayLemmas
+mod Judging
+mod Following
+mod RecordRuns
+mod DeskRuns
+mod WordLemmas
+mod JsonLemmas
+mod RecordLines
+mod RowRuns
+mod WrittenTexts
+mod WrittenNumbers
+mod Pieces
+mod WrittenWords
+mod WrittenReplies
+mod WrittenLines
+mod OneVerdict
+mod NarrowRuns
+mod LowPlaces
+mod Talking
+mod Recording

@@ -27,14 +27,14 @@ use Rattle.splitter_grid.proofs.GridLaw.{grid_law}
 use Rattle.splitter_grid.proofs.Numbers.{number_low}
 use Rattle.splitter_tree.specs.TreeSteps.{tree_steps}
 use Rattle.splitter_tree.specs.Walk as tree_walk
-use Rattle.splitter_tree.proofs.TreeLaw.{tree_law}
+use Rattle.splitter_tree.proofs.nodes.TreeLaw.{tree_law}
 use Rattle.snapshot_places.specs.declared.grid_walker.GridWalker.{GridWalker}
 use Rattle.snapshot_places.specs.declared.tree_walker.TreeWalker.{TreeWalker}
 use Rattle.snapshot_places.specs.GridState.{GridState}
 use Rattle.snapshot_places.specs.Tree.{TreeState}
-use Rattle.snapshot_places.specs.GridLaws.{grid_laws}
+use Rattle.snapshot_places.specs.GridProofs.{grid_laws}
 use Rattle.snapshot_places.specs.GridTies.{grid_places, walks_of}
-use Rattle.snapshot_places.specs.TreeLaws.{tree_laws}
+use Rattle.snapshot_places.specs.TreeProofs.{tree_laws}
 use Rattle.snapshot_places.specs.TreeTies.{tree_places, walks_of as tree_walks_of}
 use Rattle.rename_core.specs.declared.config.Config.{Config}
 use Rattle.rename_core.specs.declared.reply.Reply.{Reply as StepReply}

@@ -15,7 +15,7 @@ use Rattle.schedule_player.specs.Meaning.{meaning}
 use Rattle.schedule_player.specs.Requests.{Request}
 use Rattle.schedule_player.specs.Requests.Request.{Take, OwnerOf}
 use Rattle.schedule_player.specs.Runs.{Runs, CanRun}
-use Rattle.schedule_player.specs.RunLaws.{runs-append}
+use Rattle.schedule_player.specs.RunProofs.{runs-append}
 use Rattle.schedule_player.specs.Turns.{asked}
 
 -- each event that is asked for is known

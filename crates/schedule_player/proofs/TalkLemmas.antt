@@ -9,7 +9,7 @@ use Rattle.rename_core.specs.declared.config.Config.{Config}
 use Rattle.rename_core.specs.declared.config.WorldKind.{WorldKind}
 use Rattle.rename_core.specs.declared.config.WorldKind.TheVariants.{Splitter, Grid, Rename, Tree}
 use Rattle.schedule_player.specs.DeskWorld.{DeskWorldMay}
-use Rattle.schedule_player.specs.DeskWorldLaws.{desk_lawful, desk_tells}
+use Rattle.schedule_player.specs.DeskWorldProofs.{desk_lawful, desk_tells}
 use Rattle.schedule_player.specs.IsRun.{IsTalkByKind}
 use Rattle.schedule_player.specs.Owners.{AreOwnersTold}
 use Rattle.schedule_player.specs.Requests.{Request}

@@ -5,7 +5,7 @@ use Rattle.rename_core.specs.declared.config.WorldKind.{WorldKind}
 use Rattle.rename_core.specs.declared.config.WorldKind.TheVariants.{Splitter, Grid, Rename, Tree}
 use Rattle.schedule_player.specs.Knows.{Knows}
 use Rattle.schedule_player.specs.Visits.{knows_visits}
-use Rattle.schedule_player.specs.VisitLaws.{visits_meant}
+use Rattle.schedule_player.specs.VisitProofs.{visits_meant}
 
 abbrev pub is_splitter : WorldKind → Bool
 is_splitter Splitter = true

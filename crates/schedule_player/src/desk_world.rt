@@ -4,7 +4,7 @@ ghost use Rattle.std.specs.Prelude.{true};
 ghost use Rattle.desk.specs.Desk.{gives_names, IsFreshDesk};
 ghost use Rattle.desk.specs.DeskRun.{IsDeskRunOf};
 ghost use Rattle.schedule_player.specs.DeskWorld.{DeskWorldMay};
-ghost use Rattle.schedule_player.specs.DeskWorldLaws.{desk_answers, desk_lawful, desk_tells, one_desk_fresh, one_desk_reply};
+ghost use Rattle.schedule_player.specs.DeskWorldProofs.{desk_answers, desk_lawful, desk_tells, one_desk_fresh, one_desk_reply};
 ghost use Rattle.std.proofs.Common.{refl};
 
 use crate::service::Service;

@@ -4,9 +4,9 @@ ghost use Rattle.std.specs.Prelude.{◌≡◌, true, false};
 ghost use Rattle.rename_core.specs.declared.config.WorldKind.TheVariants as kind;
 ghost use Rattle.schedule_player.specs.Kinds.{is_grid, grid_meant};
 ghost use Rattle.schedule_player.specs.Visits.{visit_may, knows_visits};
-ghost use Rattle.schedule_player.specs.VisitLaws.{visit_answers, one_visit, visits_tell};
+ghost use Rattle.schedule_player.specs.VisitProofs.{visit_answers, one_visit, visits_tell};
 ghost use Rattle.schedule_player.specs.Worlds.{grid_rules, IsGridRun, grid_fresh};
-ghost use Rattle.schedule_player.specs.WorldLaws.{grid_lawful, one_grid_fresh};
+ghost use Rattle.schedule_player.specs.WorldProofs.{grid_lawful, one_grid_fresh};
 
 use crate::outcomes::walk_reply;
 use crate::service::Service;

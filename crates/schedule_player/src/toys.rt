@@ -3,7 +3,7 @@
 ghost use Rattle.std.specs.Prelude.{ℕ, true, ◌≡◌};
 ghost use Rattle.schedule_player.specs.Kinds.{is_splitter, splitter_meant};
 ghost use Rattle.schedule_player.specs.Toys.{ShelfMay, IsShelfRun, IsSide};
-ghost use Rattle.schedule_player.specs.ToyLaws.{shelf_answers, shelf_lawful, shelf_tells, one_shelf_fresh, one_shelf_reply, coin_answers};
+ghost use Rattle.schedule_player.specs.ToyProofs.{shelf_answers, shelf_lawful, shelf_tells, one_shelf_fresh, one_shelf_reply, coin_answers};
 ghost use Rattle.schedule_player.specs.Visits.{knows_visits};
 
 use crate::service::Service;

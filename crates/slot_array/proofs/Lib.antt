@@ -1,2 +1,2 @@
-pub mod SlotLemmas
+mod SlotLemmas
 pub mod SlotsKeep

@@ -6,7 +6,7 @@ use Rattle.step_memory.specs.declared.record.Record.{Record}
 use Rattle.snapshot_core.specs.declared.fixed.FixedWalker.{FixedWalker}
 use Rattle.snapshot_core.specs.declared.fixed.FixedWalk.{FixedWalk}
 use Rattle.snapshot_core.specs.FixedTies.{IsEmptyRow, fixed_places, fresh_row, fixed_bounds}
-use Rattle.snapshot_core.specs.FixedLaws.{fixed_laws}
+use Rattle.snapshot_core.specs.FixedProofs.{fixed_laws}
 use Rattle.snapshot_core.specs.Places.{BoundsScans}
 use Rattle.snapshot_core.specs.SnapWorld.{SnapState}
 use Rattle.snapshot_core.specs.Snapshot.{KeepsSnapshotLaw, IsLawfulFrom}

@@ -1,19 +1,19 @@
-pub mod SightingLemmas
-pub mod SnapWorldLemmas
-pub mod FewValues
-pub mod Shown
-pub mod Histories
-pub mod Collecting
-pub mod LawfulPlaces
-pub mod Reading
-pub mod Tied
-pub mod Going
+mod SightingLemmas
+mod SnapWorldLemmas
+mod FewValues
+mod Shown
+mod Histories
+mod Collecting
+mod LawfulPlaces
+mod Reading
+mod Tied
+mod Going
 pub mod SureSteps
-pub mod Dues
-pub mod OwnAccesses
+mod Dues
+mod OwnAccesses
 pub mod Following
-pub mod ScanAlone
+mod ScanAlone
 pub mod Alone
-pub mod Fronts
+mod Fronts
 pub mod Clients
 pub mod FixedLaw

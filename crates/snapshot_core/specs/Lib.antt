@@ -5,7 +5,7 @@ pub mod Scan
 pub mod Client
 pub mod Fixed
 pub mod FixedTies
-pub mod FixedLaws
+pub mod FixedProofs
 pub mod SnapWorld
 pub mod SnapCalls
 pub mod Standing

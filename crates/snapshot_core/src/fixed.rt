@@ -6,7 +6,7 @@ ghost use Rattle.step_memory.specs.declared.access.Access.TheVariants.{Read};
 ghost use Rattle.step_memory.specs.Steps.{answer_from};
 ghost use Rattle.snapshot_core.specs.Fixed.{fixed_steps, register_of, after_access, walker_steps, fixed_walks, fixed_place, fixed_walker, fixed_walk};
 ghost use Rattle.snapshot_core.specs.FixedTies.{IsEmptyRow, fixed_ties};
-ghost use Rattle.snapshot_core.specs.FixedLaws.{others_kept, fixed_laws};
+ghost use Rattle.snapshot_core.specs.FixedProofs.{others_kept, fixed_laws};
 
 use crate::places::{PlaceWalker, Places};
 use crate::walk::SegmentWalk;

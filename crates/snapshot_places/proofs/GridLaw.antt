@@ -9,7 +9,7 @@ use Rattle.snapshot_places.specs.GridState.{GridState}
 use Rattle.snapshot_places.specs.Grid.{segments_for, fresh_grid}
 use Rattle.snapshot_places.specs.GridTies.{IsEmptyGrid, grid_places}
 use Rattle.snapshot_places.specs.Bounds.{grid_bounds}
-use Rattle.snapshot_places.specs.GridLaws.{grid_laws}
+use Rattle.snapshot_places.specs.GridProofs.{grid_laws}
 use Rattle.snapshot_core.specs.Places.{BeginsAlike, BoundsScans}
 use Rattle.snapshot_core.specs.SnapWorld.{SnapState}
 use Rattle.snapshot_core.specs.Snapshot.{IsLawfulFrom}

@@ -1,3 +1,3 @@
-pub mod GridContents
+mod GridContents
 pub mod GridLaw
 pub mod TreeLaw

@@ -6,14 +6,14 @@ use Rattle.step_memory.specs.World.{may_refuse_by}
 use Rattle.splitter_tree.specs.TreeSteps.{tree_steps}
 use Rattle.splitter_tree.specs.Consistent.{IsConsistent}
 use Rattle.splitter_tree.specs.Walk.{next_access}
-use Rattle.splitter_tree.proofs.ConsistentKept.{refused}
-use Rattle.splitter_tree.proofs.TreeLaw.{tree_law as law_of_tree}
+use Rattle.splitter_tree.proofs.nodes.ConsistentKept.{refused}
+use Rattle.splitter_tree.proofs.nodes.TreeLaw.{tree_law as law_of_tree}
 use Rattle.splitter_tree.proofs.TreeMemoryLemmas.{tree_memory}
 use Rattle.snapshot_places.specs.declared.tree_walker.TreeWalker.{TreeWalker}
 use Rattle.snapshot_places.specs.declared.tree_walk.TreeWalk.{TreeWalk}
 use Rattle.snapshot_places.specs.Tree.{TreeState, new_tree, tree_places_steps}
 use Rattle.snapshot_places.specs.TreeTies.{IsNewTree, walks_of, tree_places}
-use Rattle.snapshot_places.specs.TreeLaws.{tree_laws}
+use Rattle.snapshot_places.specs.TreeProofs.{tree_laws}
 use Rattle.snapshot_places.specs.Bounds.{tree_bounds}
 use Rattle.snapshot_places.specs.Made.{MakesNode, IsFromNewTree, KeepsTree, LacksAtNode}
 use Rattle.snapshot_core.specs.declared.client.Client.{Client}

@@ -1,9 +1,9 @@
 pub mod GridState
 pub mod Grid
 pub mod GridTies
-pub mod GridLaws
+pub mod GridProofs
 pub mod Tree
 pub mod TreeTies
-pub mod TreeLaws
+pub mod TreeProofs
 pub mod Bounds
 pub mod Made

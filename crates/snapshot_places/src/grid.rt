@@ -6,7 +6,7 @@ ghost use Rattle.step_memory.specs.declared.access.Access.TheVariants.{Read};
 ghost use Rattle.step_memory.specs.Steps.{answer_from};
 ghost use Rattle.snapshot_places.specs.Grid.{fresh_grid, with_segments, register_of, after_access, grid_steps, grid_walker, most_in, grid_walk};
 ghost use Rattle.snapshot_places.specs.GridTies.{IsEmptyGrid, grid_ties};
-ghost use Rattle.snapshot_places.specs.GridLaws.{others_kept, grid_laws};
+ghost use Rattle.snapshot_places.specs.GridProofs.{others_kept, grid_laws};
 
 use crate::grid_register::{GridRegister, GridValue};
 use crate::grid_walk::GridWalk;

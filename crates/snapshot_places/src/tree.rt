@@ -6,7 +6,7 @@ ghost use Rattle.step_memory.specs.declared.access.Access.TheVariants.{Read};
 ghost use Rattle.step_memory.specs.Steps.{answer_from};
 ghost use Rattle.snapshot_places.specs.Tree.{new_tree, register_in, tree_after, tree_refuses, tree_places_steps, tree_most, tree_walker, tree_walk};
 ghost use Rattle.snapshot_places.specs.TreeTies.{IsNewTree, tree_ties};
-ghost use Rattle.snapshot_places.specs.TreeLaws.{tree_others_kept, tree_laws};
+ghost use Rattle.snapshot_places.specs.TreeProofs.{tree_others_kept, tree_laws};
 
 use crate::tree_walk::TreeWalk;
 use crate::tree_walker::TreeWalker;

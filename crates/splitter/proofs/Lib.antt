@@ -1,4 +1,4 @@
-pub mod Changed
+mod Changed
 pub mod DoorKept
 pub mod VisitorAccess
 pub mod SplitterTied

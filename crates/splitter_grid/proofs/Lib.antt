@@ -1,8 +1,8 @@
 pub mod Numbers
-pub mod Diagonals
-pub mod DepthBound
-pub mod AgreeKept
+mod Diagonals
+mod DepthBound
+mod AgreeKept
 pub mod ConsistentKept
 pub mod GridLaw
 pub mod GridTied
-pub mod EnteredDoors
+mod EnteredDoors

@@ -46,7 +46,7 @@ use Rattle.splitter_tree.specs.TreeDue.{collects_after, collects_from, collects,
 use Rattle.std.proofs.lemmas.Bool.{cases_Bool}
 use Rattle.splitter_tree.proofs.TreeCallLemmas.{absent_place, placed_place, going_place, absent_view, idle_view, going_view, most_kept}
 use Rattle.splitter_tree.proofs.CallCases.{stepped_by, step_cases, store_cases, collect_begin_cases, collect_step_cases}
-use Rattle.splitter_tree.proofs.PlacesTied.{IsTied, way_calls-more, call_kept, tied_new, all_go, placing_goes, put_twice, law_of_tied}
+use Rattle.splitter_tree.proofs.nodes.PlacesTied.{IsTied, way_calls-more, call_kept, tied_new, all_go, placing_goes, put_twice, law_of_tied}
 
 not_not : (a : Bool) → not (not a) ≡ a
 not_not true = refl

@@ -9,8 +9,8 @@ use Rattle.splitter_tree.specs.Run.{After, TreeWorldState, KeepsTreeCallsLaw, Is
 use Rattle.splitter_tree.specs.TreeCalls.{TreeCall, next, IsReply}
 use Rattle.splitter_tree.specs.TreeCalls.TreeCall.{Began, Stepped, Stored, CollectBegan, CollectStepped}
 use Rattle.splitter_tree.specs.TreeSteps.{tree_steps, empty_tree}
-use Rattle.splitter_tree.proofs.CollectSteps.{collect_law}
-use Rattle.splitter_tree.proofs.PlacesTied.{IsTied, tied_after, tree_of_tied}
+use Rattle.splitter_tree.proofs.collects.CollectSteps.{collect_law}
+use Rattle.splitter_tree.proofs.nodes.PlacesTied.{IsTied, tied_after, tree_of_tied}
 use Rattle.splitter_tree.proofs.DueTied.{world_counted, places_law}
 use Rattle.splitter_tree.specs.TreeDue.{TreeRefusesAsDue}
 use Rattle.splitter_tree.proofs.TreeMemoryLemmas.{tree_memory, tree_empty}

@@ -1,32 +1,12 @@
-pub mod Numbers
-pub mod Climbing
-pub mod OrderLemmas
-pub mod OpenLemmas
-pub mod WalkLemmas
-pub mod ReadCount
-pub mod Ways
-pub mod Below
-pub mod Steps
-pub mod Roots
-pub mod VisitsKept
-pub mod AgreeKept
-pub mod DepthBound
-pub mod ConsistentKept
-pub mod TreeLaw
+pub mod collects
+pub mod nodes
 pub mod TreeMemoryLemmas
-pub mod WalkerLemmas
-pub mod CallCases
-pub mod PlacesTied
-pub mod PlacesAhead
-pub mod UnderWay
-pub mod CollectTied
-pub mod CollectSteps
-pub mod NodesMade
-pub mod TreeCallLemmas
-pub mod AfterLemmas
-pub mod StoreLemmas
-pub mod LocalStore
-pub mod LawsAfter
-pub mod DueTied
-pub mod StandAlike
-pub mod OwnAccesses
+mod CallCases
+mod TreeCallLemmas
+mod AfterLemmas
+mod StoreLemmas
+mod LocalStore
+mod LawsAfter
+mod DueTied
+mod StandAlike
+mod OwnAccesses

@@ -14,7 +14,7 @@ use Rattle.splitter_tree.specs.declared.register.TreeRegister.TheVariants.{Mark,
 use Rattle.splitter_tree.specs.declared.register.TreeValue.{TreeValue}
 use Rattle.splitter_tree.specs.declared.register.TreeValue.TheVariants.{Word, Contents as Held}
 use Rattle.splitter_tree.specs.TreeSteps.{NodeMap, number_in, fresh_registers, value_in, makes_node, written, after_write, may_refuse, tree_steps, empty_tree}
-use Rattle.splitter_tree.specs.TreeLaws.{get_written, makes_absent, others_kept}
+use Rattle.splitter_tree.specs.TreeProofs.{get_written, makes_absent, others_kept}
 use Rattle.splitter_tree.specs.TreeMemory.{word_in, segment_in, mark_at, IsWithinReach, IsTreeMemory, IsEmptyTree}
 
 -- each register holds a value of its kind

@@ -10,7 +10,7 @@ pub mod Ahead
 pub mod Client
 pub mod TreeSteps
 pub mod Nodes
-pub mod TreeLaws
+pub mod TreeProofs
 pub mod TreeWorld
 pub mod TreeCalls
 pub mod Run

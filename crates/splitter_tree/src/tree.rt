@@ -3,7 +3,7 @@
 ghost use Rattle.std.specs.Prelude.{◌≡◌, OnOk, OnErr, IfOk, IfSome, true, option_copied};
 ghost use Rattle.std.specs.FinMap as map;
 ghost use Rattle.splitter_tree.specs.TreeSteps.{tree_steps, empty_tree, value_in, answer_of, after_access, may_refuse, number_in};
-ghost use Rattle.splitter_tree.specs.TreeLaws.{others_kept};
+ghost use Rattle.splitter_tree.specs.TreeProofs.{others_kept};
 ghost use Rattle.splitter_tree.specs.TreeMemory.{IsTreeMemory, IsEmptyTree};
 ghost use Rattle.step_memory.specs.declared.access.Access.{Access};
 ghost use Rattle.step_memory.specs.declared.access.Access.TheVariants.{Read};

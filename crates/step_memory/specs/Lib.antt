@@ -3,7 +3,7 @@ pub mod Refusal
 pub mod Steps
 pub mod RegisterState
 pub mod Registers
-pub mod RegisterLaws
+pub mod RegisterProofs
 pub mod Roster
 pub mod Participant
 pub mod WorldState

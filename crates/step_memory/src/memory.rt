@@ -5,7 +5,7 @@ ghost use Rattle.step_memory.specs.Steps.{MemorySteps, answer_from, Spares};
 ghost use Rattle.step_memory.specs.Registers.{memory_steps, register_of, answer_of, after_access};
 ghost use Rattle.step_memory.specs.declared.access.Access.{Access};
 ghost use Rattle.step_memory.specs.declared.access.Access.TheVariants.{Read};
-ghost use Rattle.step_memory.specs.RegisterLaws.{others_kept};
+ghost use Rattle.step_memory.specs.RegisterProofs.{others_kept};
 
 use crate::access::{Access, Answer};
 use crate::refusal::NoMemory;

@@ -1,6 +1,6 @@
 use Rattle.std.proofs.Common.{rules, ◌<◌, ◌+◌, length, sym, arith}
 use Rattle.rename_core.specs.Proposals.{is_taken}
-use Rattle.rename_core.proofs.Numbers.{free_or_taken, others_few, least_is}
+use Rattle.rename_core.proofs.rounds.Numbers.{free_or_taken, others_few, least_is}
 use Rattle.rename_core.proofs.proposal.nth_free.Goals as goal
 
 pub overflow_add-at : goal.overflow_add-at

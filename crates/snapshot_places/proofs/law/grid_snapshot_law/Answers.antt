@@ -1,6 +1,6 @@
 use Rattle.snapshot_core.proofs.Following.{all_distinct}
 use Rattle.snapshot_places.specs.GridTies.{grid_places}
-use Rattle.snapshot_places.specs.GridLaws.{grid_laws}
+use Rattle.snapshot_places.specs.GridProofs.{grid_laws}
 use Rattle.snapshot_places.proofs.GridLaw.{grid_law, fits_grid, grid_alike}
 use Rattle.snapshot_places.proofs.law.grid_snapshot_law.Goals as goal
 

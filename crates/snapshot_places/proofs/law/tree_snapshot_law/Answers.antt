@@ -1,7 +1,7 @@
 use Rattle.snapshot_core.proofs.Following.{all_distinct}
 use Rattle.snapshot_core.proofs.SureSteps.{lacks_on_way}
 use Rattle.snapshot_places.specs.TreeTies.{tree_places}
-use Rattle.snapshot_places.specs.TreeLaws.{tree_laws}
+use Rattle.snapshot_places.specs.TreeProofs.{tree_laws}
 use Rattle.snapshot_places.proofs.TreeLaw.{tree_law, fits_tree, tree_nodes, tree_makes, tree_alike}
 use Rattle.snapshot_places.proofs.law.tree_snapshot_law.Goals as goal
 

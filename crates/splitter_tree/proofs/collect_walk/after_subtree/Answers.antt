@@ -1,5 +1,5 @@
 use Rattle.std.proofs.Common.{sym, ◌∙◌, arith}
-use Rattle.splitter_tree.proofs.Climbing.{climbed_up}
+use Rattle.splitter_tree.proofs.collects.Climbing.{climbed_up}
 use Rattle.splitter_tree.proofs.collect_walk.after_subtree.Goals as goal
 
 pub loop-at-preserved : goal.loop-at-preserved

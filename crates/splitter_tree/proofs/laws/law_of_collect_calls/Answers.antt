@@ -1,4 +1,4 @@
-use Rattle.splitter_tree.proofs.CollectSteps.{collect_law, collect_reads_few}
+use Rattle.splitter_tree.proofs.collects.CollectSteps.{collect_law, collect_reads_few}
 use Rattle.splitter_tree.proofs.laws.law_of_collect_calls.Goals as goal
 
 pub returns-clause-law : goal.returns-clause-law

@@ -1,5 +1,5 @@
-use Rattle.splitter_tree.proofs.WalkLemmas.{ahead_at_first, ahead_kept, ahead_resumed, register_is, upcoming_before, read_once}
-use Rattle.splitter_tree.proofs.ReadCount.{read_at_first, read_here, read_kept, read_resumed, reads_few, nodes_few}
+use Rattle.splitter_tree.proofs.collects.WalkLemmas.{ahead_at_first, ahead_kept, ahead_resumed, register_is, upcoming_before, read_once}
+use Rattle.splitter_tree.proofs.collects.ReadCount.{read_at_first, read_here, read_kept, read_resumed, reads_few, nodes_few}
 use Rattle.splitter_tree.proofs.laws.law_of_collects.Goals as goal
 
 pub returns-clause-first : goal.returns-clause-first

@@ -1,4 +1,4 @@
-use Rattle.splitter_tree.proofs.PlacesAhead.{sees, marks_spared, place_ahead, walk_few, marks_grow}
+use Rattle.splitter_tree.proofs.collects.PlacesAhead.{sees, marks_spared, place_ahead, walk_few, marks_grow}
 use Rattle.splitter_tree.proofs.laws.law_of_collects_at_places.Goals as goal
 
 pub returns-clause-ahead : goal.returns-clause-ahead

@@ -1,8 +1,8 @@
 use Rattle.std.proofs.Common.{sym}
 use Rattle.std.proofs.Common.{refl}
 use Rattle.splitter_tree.proofs.DueTied.{world_counted, places_law}
-use Rattle.splitter_tree.proofs.PlacesTied.{tied_after, tree_of_tied}
-use Rattle.splitter_tree.proofs.NodesMade.{marked_made, made_within}
+use Rattle.splitter_tree.proofs.nodes.PlacesTied.{tied_after, tree_of_tied}
+use Rattle.splitter_tree.proofs.nodes.NodesMade.{marked_made, made_within}
 use Rattle.splitter_tree.proofs.laws.law_of_places.Goals as goal
 
 pub returns-clause-law : goal.returns-clause-law

@@ -1,6 +1,6 @@
 use Rattle.std.proofs.Common.{arith, ◌∙◌, sym}
-use Rattle.splitter_tree.proofs.Ways.{number_nearer, on_way}
-use Rattle.splitter_tree.proofs.Steps.{found_right, found_left}
+use Rattle.splitter_tree.proofs.nodes.Ways.{number_nearer, on_way}
+use Rattle.splitter_tree.proofs.nodes.Steps.{found_right, found_left}
 use Rattle.splitter_tree.proofs.node.+find_below.Goals as goal
 
 pub find_below-requires-else-goes_right : goal.find_below-requires-else-goes_right

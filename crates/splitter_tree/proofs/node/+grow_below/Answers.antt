@@ -1,6 +1,6 @@
 use Rattle.std.proofs.Common.{arith, refl, ◌∙◌, sym}
-use Rattle.splitter_tree.proofs.Ways.{number_nearer}
-use Rattle.splitter_tree.proofs.Steps.{put_right, put_left, kept_left, kept_right, lacking_right, lacking_left, grown_right, grown_left, kept_itself, on_ok, on_err}
+use Rattle.splitter_tree.proofs.nodes.Ways.{number_nearer}
+use Rattle.splitter_tree.proofs.nodes.Steps.{put_right, put_left, kept_left, kept_right, lacking_right, lacking_left, grown_right, grown_left, kept_itself, on_ok, on_err}
 use Rattle.splitter_tree.proofs.node.+grow_below.Goals as goal
 
 pub grow_below-requires-else-goes_right : goal.grow_below-requires-else-goes_right

@@ -1,8 +1,8 @@
 use Rattle.std.proofs.Common.{◌≡◌, ℕ, true, false, arith, ◌∙◌, sym, ap}
 use Rattle.splitter_tree.specs.Nodes.{is_right}
 use Rattle.splitter_tree.specs.TreeSteps.{number_in, written}
-use Rattle.splitter_tree.proofs.Ways.{number_nearer}
-use Rattle.splitter_tree.proofs.Steps.{change_right, change_left}
+use Rattle.splitter_tree.proofs.nodes.Ways.{number_nearer}
+use Rattle.splitter_tree.proofs.nodes.Steps.{change_right, change_left}
 use Rattle.splitter_tree.proofs.node.+write_below.Goals as goal
 
 pub write_below-requires-else-goes_right : goal.write_below-requires-else-goes_right

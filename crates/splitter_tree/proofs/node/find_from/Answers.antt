@@ -1,7 +1,7 @@
 use Rattle.std.proofs.Common.{ℕ, ◌∙◌, sym, ap}
 use Rattle.std.specs.FinMap as map
 use Rattle.splitter_tree.specs.Nodes.{nodes_of}
-use Rattle.splitter_tree.proofs.Roots.{no_zero, get_at}
+use Rattle.splitter_tree.proofs.nodes.Roots.{no_zero, get_at}
 use Rattle.splitter_tree.proofs.node.find_from.Goals as goal
 
 pub returns-then-place-eq0 : goal.returns-then-place-eq0

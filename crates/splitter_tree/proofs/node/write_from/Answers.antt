@@ -1,7 +1,7 @@
 use Rattle.std.proofs.Common.{◌≤◌, ◌<◌, ◌*◌, ◌^◌, ◌∙◌, sym}
 use Rattle.splitter_tree.specs.TreeSteps.{number_in}
-use Rattle.splitter_tree.proofs.Roots.{after_zero, after_growth, after_refusal, after_change}
-use Rattle.splitter_tree.proofs.Steps.{on_ok, on_err}
+use Rattle.splitter_tree.proofs.nodes.Roots.{after_zero, after_growth, after_refusal, after_change}
+use Rattle.splitter_tree.proofs.nodes.Steps.{on_ok, on_err}
 use Rattle.splitter_tree.proofs.node.write_from.Goals as goal
 
 pub returns-then-place-eq0-clause-after : goal.returns-then-place-eq0-clause-after

@@ -2,7 +2,7 @@ use Rattle.std.proofs.Common.{◌≡◌, ◌+◌, List, drop, ap, subst, ◌∙�
 use Rattle.step_memory.specs.declared.participant.Participant.{Participant}
 use Rattle.rename_core.specs.declared.round.Round.{Round}
 use Rattle.rename_core.specs.RenameWorld.{shown_by}
-use Rattle.rename_core.proofs.Shown.{shown_next, length_shown}
+use Rattle.rename_core.proofs.rounds.Shown.{shown_next, length_shown}
 use Rattle.rename_core.proofs.world.RenameWorld.round_proposals.Goals as goal
 
 pub loop-participant-preserved : goal.loop-participant-preserved

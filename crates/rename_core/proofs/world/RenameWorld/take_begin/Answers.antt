@@ -6,7 +6,7 @@ use Rattle.step_memory.specs.World.{begin_refusal}
 use Rattle.snapshot_core.specs.SnapWorld.{after_snap_begin}
 use Rattle.rename_core.specs.RenameWorld.{after_wish}
 use Rattle.step_memory.proofs.WorldKeeps.{let_in}
-use Rattle.rename_core.proofs.StepCases.{was_begun, begun_large}
+use Rattle.rename_core.proofs.rounds.StepCases.{was_begun, begun_large}
 use Rattle.snapshot_core.specs.Places.{KnownPlaces, places_by}
 use Rattle.rename_core.proofs.world.RenameWorld.take_begin.Given.{Over}
 use Rattle.rename_core.proofs.world.RenameWorld.take_begin.Goals as goal

@@ -8,7 +8,7 @@ use Rattle.rename_core.specs.declared.round.Follow.{Follow}
 use Rattle.rename_core.specs.Reply.{with_view, outcome_with}
 use Rattle.rename_core.specs.Round.{stage_refusal, followed}
 use Rattle.rename_core.specs.RenameWorld.{after_wish, snap_told}
-use Rattle.rename_core.proofs.StepCases.{absent_answer, absent_state, closed_answer, closed_state, open_refusal, refused_answer, refused_state, told_answer, told_state, step_large}
+use Rattle.rename_core.proofs.rounds.StepCases.{absent_answer, absent_state, closed_answer, closed_state, open_refusal, refused_answer, refused_state, told_answer, told_state, step_large}
 use Rattle.snapshot_core.specs.Places.{KnownPlaces, places_by}
 use Rattle.rename_core.proofs.world.RenameWorld.take_other.Given.{Over}
 use Rattle.rename_core.proofs.world.RenameWorld.take_other.Goals as goal

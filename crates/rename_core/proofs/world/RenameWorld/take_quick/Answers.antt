@@ -8,7 +8,7 @@ use Rattle.snapshot_core.specs.SnapWorld.{after_snap_step}
 use Rattle.rename_core.specs.declared.round.Wish.TheVariants.{Nothing}
 use Rattle.rename_core.specs.Round.{stage_refusal}
 use Rattle.rename_core.specs.RenameWorld.{snap_told}
-use Rattle.rename_core.proofs.StepCases.{absent_answer, absent_state, closed_answer, closed_state, not_refused, told_answer, told_state, step_large}
+use Rattle.rename_core.proofs.rounds.StepCases.{absent_answer, absent_state, closed_answer, closed_state, not_refused, told_answer, told_state, step_large}
 use Rattle.snapshot_core.specs.Places.{KnownPlaces, places_by}
 use Rattle.rename_core.proofs.world.RenameWorld.take_quick.Given.{Over}
 use Rattle.rename_core.proofs.world.RenameWorld.take_quick.Goals as goal

@@ -1,4 +1,4 @@
-use Rattle.schedule_player.specs.VisitLaws.{no_name}
+use Rattle.schedule_player.specs.VisitProofs.{no_name}
 use Rattle.schedule_player.proofs.grid_world.GridWorldService.owner.Goals as goal
 
 pub returns : goal.returns

@@ -1,4 +1,4 @@
-use Rattle.schedule_player.specs.VisitLaws.{no_name}
+use Rattle.schedule_player.specs.VisitProofs.{no_name}
 use Rattle.schedule_player.proofs.splitter_world.SplitterWorldService.owner.Goals as goal
 
 pub returns : goal.returns

@@ -1,4 +1,4 @@
-use Rattle.schedule_player.specs.VisitLaws.{no_name}
+use Rattle.schedule_player.specs.VisitProofs.{no_name}
 use Rattle.schedule_player.proofs.toys.ShelfService.owner.Goals as goal
 
 pub returns : goal.returns

@@ -1,6 +1,6 @@
 use Rattle.std.proofs.Common.{Some, sym, ap, ◌∙◌}
 use Rattle.splitter_tree.specs.CollectWalk.{node_after}
-use Rattle.splitter_tree.proofs.Numbers.{child_fits, child_too_far}
+use Rattle.splitter_tree.proofs.nodes.Numbers.{child_fits, child_too_far}
 use Rattle.splitter_tree.proofs.collect_walk.CollectWalk.next_node.Goals as goal
 
 pub returns-in-Some : goal.returns-in-Some

@@ -10,7 +10,7 @@ use Rattle.step_memory.proofs.SetAtLemmas.{set_at-same, set_at-other}
 use Rattle.splitter_tree.specs.declared.node_registers.NodeRegisters.{NodeRegisters}
 use Rattle.splitter_tree.specs.declared.node.Node.{Node, Node', Held-Node-left, None', Some', out-Node, roll-Node}
 use Rattle.splitter_tree.specs.Nodes.{entries_in, entries_at, entries_below, registers_below}
-use Rattle.splitter_tree.proofs.Ways.{IsFrom, from_itself, from_parent, not_both, not_above}
+use Rattle.splitter_tree.proofs.nodes.Ways.{IsFrom, from_itself, from_parent, not_both, not_above}
 
 -- what a list of entries has at a number
 abbrev pub found : ℕ → List (ℕ × NodeRegisters) → Option NodeRegisters

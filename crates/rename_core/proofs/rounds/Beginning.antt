@@ -27,14 +27,14 @@ use Rattle.rename_core.specs.Pace.{Pace, paced, first_phase}
 use Rattle.rename_core.specs.Pace.Phase.{ToPlace as ToGo, ToPropose}
 use Rattle.rename_core.specs.RenameWorld.{after_wish, begun_snap, has_place, begun_unless}
 use Rattle.rename_core.specs.RenameObject.{RenameTerms, RenameObject, no_begin, after}
-use Rattle.rename_core.proofs.Standing.{standing_begun}
+use Rattle.rename_core.proofs.rounds.Standing.{standing_begun}
 use Rattle.snapshot_core.specs.Standing.{StandsAt}
 use Rattle.snapshot_core.proofs.Clients.{goes_idle}
 use Rattle.rename_core.proofs.Large.{update_large}
-use Rattle.rename_core.proofs.Tied.{IsAtStage, IsCounted, IsTied, Carries, counted_on, stage_on}
+use Rattle.rename_core.proofs.rounds.Tied.{IsAtStage, IsCounted, IsTied, Carries, counted_on, stage_on}
 use Rattle.rename_core.proofs.Participants.{distinct_push}
-use Rattle.rename_core.proofs.Stepping.{since_kept}
-use Rattle.rename_core.proofs.Keeping.{Goes}
+use Rattle.rename_core.proofs.rounds.Stepping.{since_kept}
+use Rattle.rename_core.proofs.rounds.Keeping.{Goes}
 
 idle_first : (x : Option ℕ) → is_idle (first_pending x) ≡ is_some x
 idle_first None = refl

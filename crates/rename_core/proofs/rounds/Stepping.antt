@@ -30,13 +30,13 @@ use Rattle.rename_core.specs.RenameWorld.{after_wish, world_with, snap_step, sna
 use Rattle.rename_core.specs.RenameObject.{RenameTerms, RenameObject, IsRecent, IsSole, IsConflict, MayPropose, ShowsSole, AllowsStep, after_step}
 use Rattle.rename_core.specs.Pace.{Phase, Pace, IsStepOf, IsInTime, most_steps, paced_step}
 use Rattle.rename_core.specs.Pace.Phase.{ToPlace as ToGo, ToPropose, ToLook, AtEnd}
-use Rattle.rename_core.proofs.Standing.{nobody_has, standing_elsewhere, name_small, standing_named, standing_proposed}
+use Rattle.rename_core.proofs.rounds.Standing.{nobody_has, standing_elsewhere, name_small, standing_named, standing_proposed}
 use Rattle.snapshot_core.specs.Standing.{StandsAt, GoesBusy, is_quiet}
 use Rattle.snapshot_core.proofs.Clients.{goes_idle}
 use Rattle.rename_core.proofs.Large.{IsAsLarge, snap_large, scan_large, update_large}
-use Rattle.rename_core.proofs.Views.{taken_by, taken_not}
-use Rattle.rename_core.proofs.Numbers.{next_small}
-use Rattle.rename_core.proofs.Tied.{IsPlacing, IsProposing, IsLooking, IsAtStage, IsCounted, Carries, IsTied, tied_next}
+use Rattle.rename_core.proofs.rounds.Views.{taken_by, taken_not}
+use Rattle.rename_core.proofs.rounds.Numbers.{next_small}
+use Rattle.rename_core.proofs.rounds.Tied.{IsPlacing, IsProposing, IsLooking, IsAtStage, IsCounted, Carries, IsTied, tied_next}
 
 -- a scan that goes on began no earlier
 pub since_kept : (s t : SnapObject) (q : ℕ) → t.steps q ≡ s.steps q → t.since q ≡ s.since q → s.last ≤ t.last → since_of s q ≤ since_of t q

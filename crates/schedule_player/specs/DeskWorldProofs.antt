@@ -17,7 +17,7 @@ use Rattle.schedule_player.specs.Owners.{AreOwnersTold}
 use Rattle.schedule_player.specs.Requests.{Request}
 use Rattle.schedule_player.specs.Requests.Request.{Take, OwnerOf}
 use Rattle.schedule_player.specs.Runs.{Runs}
-use Rattle.schedule_player.specs.RunLaws.{runs-cut}
+use Rattle.schedule_player.specs.RunProofs.{runs-cut}
 use Rattle.schedule_player.specs.Turns.{Turn, exchanges}
 use Rattle.schedule_player.specs.Turns.Turn.{Answered, Told, Ended, Misread}
 

@@ -41,12 +41,12 @@ use Rattle.step_memory.proofs.RunLemmas.{run_replays}
 use Rattle.step_memory.specs.Count.{count_to}
 use Rattle.step_memory.proofs.CountLemmas.{count_none}
 use Rattle.splitter_tree.proofs.TreeCallLemmas.{Goes, absent_place, placed_place, going_place, absent_view, idle_view, going_view, absent_store, busy_store, going_store, collect_absent, collect_busy, collect_goes}
-use Rattle.splitter_tree.proofs.ReadCount.{reads_few, nodes_few}
-use Rattle.splitter_tree.proofs.ConsistentKept.{consistent_new}
-use Rattle.splitter_tree.proofs.UnderWay.{UnderWay, under_way_at_first, read_still, read_stored, read_rising, under_way_read, TellsOf}
+use Rattle.splitter_tree.proofs.collects.ReadCount.{reads_few, nodes_few}
+use Rattle.splitter_tree.proofs.nodes.ConsistentKept.{consistent_new}
+use Rattle.splitter_tree.proofs.collects.UnderWay.{UnderWay, under_way_at_first, read_still, read_stored, read_rising, under_way_read, TellsOf}
 use Rattle.splitter_tree.specs.PlacesLaw.{walker_in}
-use Rattle.splitter_tree.proofs.PlacesTied.{IsClientOf, let_in, end_is_told, placed_goes, collected_goes, no_place, task_told}
-use Rattle.splitter_tree.proofs.CollectTied.{Person, place_in, collect_of, collect_in, Agrees, path_of, few_marked, few_placed, got_by, tells, tasked, stored_kept, placing_kept, begun_kept}
+use Rattle.splitter_tree.proofs.nodes.PlacesTied.{IsClientOf, let_in, end_is_told, placed_goes, collected_goes, no_place, task_told}
+use Rattle.splitter_tree.proofs.collects.CollectTied.{Person, place_in, collect_of, collect_in, Agrees, path_of, few_marked, few_placed, got_by, tells, tasked, stored_kept, placing_kept, begun_kept}
 
 -- what a task is, by its tests
 placing_is : (k : Task) → is_placing k ≡ true → k ≡ Placing

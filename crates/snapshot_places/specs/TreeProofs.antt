@@ -18,19 +18,19 @@ use Rattle.splitter.specs.declared.stage.Stage.{Stage}
 use Rattle.splitter.specs.declared.stage.Stage.TheVariants.{Outside, WroteX, SawClear, WroteY, Gone}
 use Rattle.splitter.specs.Visitor.{access_at, access_of}
 use Rattle.splitter_tree.specs.TreeSteps.{NodeMap, tree_steps}
-use Rattle.splitter_tree.specs.TreeLaws.{others_kept}
+use Rattle.splitter_tree.specs.TreeProofs.{others_kept}
 use Rattle.splitter_tree.specs.TreeMemory.{word_in, segment_in}
 use Rattle.splitter_tree.specs.Walk.{in_words, next_access, place_of, place_by}
 use Rattle.splitter_tree.specs.CollectWalk.{finds_mark}
 use Rattle.splitter_tree.specs.Consistent.{IsConsistent, IsTree}
 use Rattle.splitter_tree.specs.Ahead.{marked_in, found_by, HasGrown}
-use Rattle.splitter_tree.proofs.ConsistentKept.{consistent_new, begun, gone_on, elsewhere, segments}
-use Rattle.splitter_tree.proofs.TreeLaw.{tree_law, nearer, unplaced}
-use Rattle.splitter_tree.proofs.WalkerLemmas.{ended_there}
+use Rattle.splitter_tree.proofs.nodes.ConsistentKept.{consistent_new, begun, gone_on, elsewhere, segments}
+use Rattle.splitter_tree.proofs.nodes.TreeLaw.{tree_law, nearer, unplaced}
+use Rattle.splitter_tree.proofs.nodes.WalkerLemmas.{ended_there}
 use Rattle.splitter_tree.proofs.TreeMemoryLemmas.{tree_memory, tree_empty}
-use Rattle.splitter_tree.proofs.WalkLemmas.{ahead_kept, ahead_resumed, register_is, upcoming_before, read_once}
-use Rattle.splitter_tree.proofs.ReadCount.{read_at_first, read_here, read_kept, read_resumed}
-use Rattle.splitter_tree.proofs.PlacesAhead.{sees, marks_spared, place_ahead, walk_few, marks_grow}
+use Rattle.splitter_tree.proofs.collects.WalkLemmas.{ahead_kept, ahead_resumed, register_is, upcoming_before, read_once}
+use Rattle.splitter_tree.proofs.collects.ReadCount.{read_at_first, read_here, read_kept, read_resumed}
+use Rattle.splitter_tree.proofs.collects.PlacesAhead.{sees, marks_spared, place_ahead, walk_few, marks_grow}
 use Rattle.snapshot_places.specs.declared.tree_walker.TreeWalker.{TreeWalker}
 use Rattle.snapshot_places.specs.declared.tree_walk.TreeWalk.{TreeWalk}
 use Rattle.snapshot_places.specs.Tree.{TreeState, register_in, tree_after, tree_walker_steps, tree_walker}

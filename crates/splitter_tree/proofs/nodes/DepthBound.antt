@@ -14,7 +14,7 @@ use Rattle.splitter_tree.specs.Walk.{left_child, right_child}
 use Rattle.step_memory.specs.Count.{count_to}
 use Rattle.splitter_tree.specs.Depth.{depth_in, depth_of}
 use Rattle.splitter_tree.specs.Consistent.{NodesAgree}
-use Rattle.splitter_tree.proofs.AgreeKept.{right_entered, down_entered}
+use Rattle.splitter_tree.proofs.nodes.AgreeKept.{right_entered, down_entered}
 
 -- how many of a list pass a test
 count_in : (ℕ → Bool) → List ℕ → ℕ

@@ -16,9 +16,9 @@ use Rattle.splitter_tree.specs.declared.register.TreeValue.{TreeValue}
 use Rattle.splitter_tree.specs.declared.register.TreeValue.TheVariants as value
 use Rattle.splitter_tree.specs.Nodes.{entries_below, registers_below, nodes_of, is_lacking, grown}
 use Rattle.splitter_tree.specs.TreeSteps.{NodeMap, number_in, fresh_registers, sets_mark, is_missing, makes_node, with_registers, written, after_write}
-use Rattle.splitter_tree.specs.TreeLaws.{get_written}
-use Rattle.splitter_tree.proofs.Ways.{from_le}
-use Rattle.splitter_tree.proofs.Below.{absent_below}
+use Rattle.splitter_tree.specs.TreeProofs.{get_written}
+use Rattle.splitter_tree.proofs.nodes.Ways.{from_le}
+use Rattle.splitter_tree.proofs.nodes.Below.{absent_below}
 
 -- the depth of a place: how many levels it lies below the root
 pub root_number : (place depth : ℕ) → 2 ^ depth ≤ place → place < 2 * 2 ^ depth → place / 2 ^ depth ≡ 1

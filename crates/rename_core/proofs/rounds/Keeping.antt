@@ -25,8 +25,8 @@ use Rattle.rename_core.specs.RenameWorld.{after_follow, rename_answer, after_ren
 use Rattle.rename_core.specs.RenameObject.{RenameTerms, RenameObject, no_step, Allows, after}
 use Rattle.snapshot_core.specs.Standing.{GoesBusy}
 use Rattle.snapshot_core.proofs.Clients.{goes_busy}
-use Rattle.rename_core.proofs.Tied.{IsAtStage, IsTied}
-use Rattle.rename_core.proofs.Stepping.{HasGone, placing_gone, proposing_gone, looking_gone}
+use Rattle.rename_core.proofs.rounds.Tied.{IsAtStage, IsTied}
+use Rattle.rename_core.proofs.rounds.Stepping.{HasGone, placing_gone, proposing_gone, looking_gone}
 
 -- want of memory is never due
 not_due : (bounds : SnapBounds) (s : SnapObject) (p : ℕ) → step_due bounds s p ≢ Some NoMemory

@@ -17,11 +17,11 @@ use Rattle.step_memory.specs.Count.{count_to}
 use Rattle.splitter_tree.specs.CollectWalk.{first_walk}
 use Rattle.splitter_tree.specs.Ahead.{marked_in, found_by, Sees, HasGrown, HasRead, IsPathMarked, IsAhead}
 use Rattle.step_memory.proofs.CountLemmas.{count_le}
-use Rattle.splitter_tree.proofs.Numbers.{small_fits}
-use Rattle.splitter_tree.proofs.WalkLemmas.{ahead_at_first}
-use Rattle.splitter_tree.proofs.ReadCount.{reads_few, nodes_few}
-use Rattle.splitter_tree.proofs.ConsistentKept.{marks}
-use Rattle.splitter_tree.proofs.TreeLaw.{tree_law}
+use Rattle.splitter_tree.proofs.nodes.Numbers.{small_fits}
+use Rattle.splitter_tree.proofs.collects.WalkLemmas.{ahead_at_first}
+use Rattle.splitter_tree.proofs.collects.ReadCount.{reads_few, nodes_few}
+use Rattle.splitter_tree.proofs.nodes.ConsistentKept.{marks}
+use Rattle.splitter_tree.proofs.nodes.TreeLaw.{tree_law}
 
 module _ {S : Type 0} (memory : MemorySteps S TreeRegister TreeValue) where
   marked_is : (s : S) (k : ℕ) → mark_at memory s k ≡ 1 → marked_in memory s k ≡ true

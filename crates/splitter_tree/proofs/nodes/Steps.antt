@@ -9,8 +9,8 @@ use Rattle.splitter_tree.specs.declared.node_registers.NodeRegisters.{NodeRegist
 use Rattle.splitter_tree.specs.declared.node.Node.{Node, out-Node, roll-Node}
 use Rattle.splitter_tree.specs.Nodes.{entries_in, registers_below, is_right, is_lacking, grown}
 use Rattle.splitter_tree.specs.TreeSteps.{fresh_registers}
-use Rattle.splitter_tree.proofs.Ways.{IsFrom, way_right, way_left, on_way, parent_on_way}
-use Rattle.splitter_tree.proofs.Below.{found, parts, out_parts, roll_parts, roll_out, at_node, at_left, at_right, set_left, set_right}
+use Rattle.splitter_tree.proofs.nodes.Ways.{IsFrom, way_right, way_left, on_way, parent_on_way}
+use Rattle.splitter_tree.proofs.nodes.Below.{found, parts, out_parts, roll_parts, roll_out, at_node, at_left, at_right, set_left, set_right}
 
 pub on_ok : {X E : Type 0} {P Q : Type 0} (r : Result X E) → (P → Q) → OnOk r P → OnOk r Q
 on_ok (Ok x) f h = f h

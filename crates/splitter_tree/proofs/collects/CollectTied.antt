@@ -28,12 +28,12 @@ use Rattle.splitter_tree.specs.Ahead.{marked_in, HasGrown, IsPathMarked}
 use Rattle.splitter_tree.specs.PlacesLaw.{walker_in}
 use Rattle.splitter_tree.specs.CollectLaw.{CollectObject, with_moment, one_begun}
 use Rattle.step_memory.proofs.CountLemmas.{count_le, count_set}
-use Rattle.splitter_tree.proofs.WalkLemmas.{place_from}
-use Rattle.splitter_tree.proofs.UnderWay.{UnderWay, under_way_later, TellsOf}
-use Rattle.splitter_tree.proofs.ConsistentKept.{begun, gone_on, elsewhere, segments}
-use Rattle.splitter_tree.proofs.TreeLaw.{tree_law}
-use Rattle.splitter_tree.proofs.PlacesAhead.{path_marked, marked_few, marks_grow}
-use Rattle.splitter_tree.proofs.PlacesTied.{IsClientOf}
+use Rattle.splitter_tree.proofs.collects.WalkLemmas.{place_from}
+use Rattle.splitter_tree.proofs.collects.UnderWay.{UnderWay, under_way_later, TellsOf}
+use Rattle.splitter_tree.proofs.nodes.ConsistentKept.{begun, gone_on, elsewhere, segments}
+use Rattle.splitter_tree.proofs.nodes.TreeLaw.{tree_law}
+use Rattle.splitter_tree.proofs.collects.PlacesAhead.{path_marked, marked_few, marks_grow}
+use Rattle.splitter_tree.proofs.nodes.PlacesTied.{IsClientOf}
 
 abbrev pub Person : Type 0
 Person = Option (Participant Client)

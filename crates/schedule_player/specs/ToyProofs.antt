@@ -8,12 +8,12 @@ use Rattle.schedule_player.specs.Owners.{AreOwnersTold}
 use Rattle.schedule_player.specs.Requests.{Request}
 use Rattle.schedule_player.specs.Requests.Request.{Take, OwnerOf}
 use Rattle.schedule_player.specs.Runs.{Runs}
-use Rattle.schedule_player.specs.RunLaws.{runs-cut}
+use Rattle.schedule_player.specs.RunProofs.{runs-cut}
 use Rattle.schedule_player.specs.Toys.{ShelfMay, IsShelfRun, IsSide}
 use Rattle.schedule_player.specs.Turns.{Turn, exchanges}
 use Rattle.schedule_player.specs.Turns.Turn.{Answered, Told, Ended, Misread}
 use Rattle.schedule_player.specs.Visits.{knows_visits}
-use Rattle.schedule_player.specs.VisitLaws.{no_name, no_name_right, one_no_name}
+use Rattle.schedule_player.specs.VisitProofs.{no_name, no_name_right, one_no_name}
 
 pub shelf_answers : (w : ℕ) (q : Request) → knows_visits q ≡ true → (r : Reply) × (u : ℕ) × ShelfMay w q r u
 shelf_answers w (Take e) known = (reply.Ok, w + 1, inl (refl, refl))

@@ -8,7 +8,7 @@ use Rattle.splitter_tree.specs.declared.collect_walk.CollectWalk.{CollectWalk}
 use Rattle.splitter_tree.specs.CollectWalk.{numbers, first_walk, walk_at, register_read, place_read, is_mark, node_after, child_or, goes_to, finds_mark, walk_resumed, walk_is_over}
 use Rattle.splitter_tree.specs.NodeOrder.{IsRightOf, IsFrom}
 use Rattle.splitter_tree.specs.Ahead.{Sees, HasGrown, IsPathMarked, IsUpcoming, IsAhead}
-use Rattle.splitter_tree.proofs.OrderLemmas.{under_le, under_child, under_root, not_right_of_itself, follows, from_left, left_from, not_from_left}
+use Rattle.splitter_tree.proofs.collects.OrderLemmas.{under_le, under_child, under_root, not_right_of_itself, follows, from_left, left_from, not_from_left}
 
 -- a walk begins before every node
 pub ahead_at_first : (marked : ℕ → Bool) (q : ℕ) → IsPathMarked marked q → IsAhead marked first_walk q

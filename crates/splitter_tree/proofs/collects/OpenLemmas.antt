@@ -4,8 +4,8 @@ use Rattle.std.specs.Prelude.{Bool, ◌&&◌, nat_lt, ◌⊎◌}
 use Rattle.std.proofs.lemmas.Bool.Decides.{eqb_tells, leb_tells}
 use Rattle.splitter_tree.specs.CollectWalk.{climbed_in, climbed, node_after}
 use Rattle.splitter_tree.specs.Ahead.{open_in, open_at}
-use Rattle.splitter_tree.proofs.Climbing.{climbs_tells}
-use Rattle.splitter_tree.proofs.OrderLemmas.{follows}
+use Rattle.splitter_tree.proofs.collects.Climbing.{climbs_tells}
+use Rattle.splitter_tree.proofs.collects.OrderLemmas.{follows}
 
 -- whether it is a left child
 abbrev is_left : ℕ → Bool

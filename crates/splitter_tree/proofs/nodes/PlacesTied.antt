@@ -48,9 +48,9 @@ use Rattle.splitter_tree.specs.TreeCalls.TreeCall.{Began as TreeBegan, Stepped a
 use Rattle.splitter_tree.specs.Consistent.{IsConsistent, IsTree, accesses_by}
 use Rattle.splitter_tree.specs.PlacesLaw.{way_calls, KeepsPlacesLaw, walker_in, walkers}
 use Rattle.std.proofs.lemmas.Bool.{cases_Bool}
-use Rattle.splitter_tree.proofs.ConsistentKept.{consistent_new, begun, gone_on, elsewhere}
-use Rattle.splitter_tree.proofs.TreeLaw.{tree_law, nearer}
-use Rattle.splitter_tree.proofs.WalkerLemmas.{visit_after, visit_note, marking_after, marking_note, stage_place}
+use Rattle.splitter_tree.proofs.nodes.ConsistentKept.{consistent_new, begun, gone_on, elsewhere}
+use Rattle.splitter_tree.proofs.nodes.TreeLaw.{tree_law, nearer}
+use Rattle.splitter_tree.proofs.nodes.WalkerLemmas.{visit_after, visit_note, marking_after, marking_note, stage_place}
 use Rattle.splitter_tree.proofs.CallCases.{GoesOn, stepped_by, step_cases, store_cases, collect_begin_cases, collect_step_cases}
 
 -- a participant has its identity, goes on for ever, and is on its way just while its walk has no place

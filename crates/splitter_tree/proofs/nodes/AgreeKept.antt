@@ -12,7 +12,7 @@ use Rattle.splitter.proofs.DoorKept.{kept, lawful_new}
 use Rattle.splitter_tree.specs.declared.walker.Walker.{Walker}
 use Rattle.splitter_tree.specs.Walk.{walker_at, walk_of, visit_on}
 use Rattle.splitter_tree.specs.Consistent.{IsWalkOf, NodesAgree}
-use Rattle.splitter_tree.proofs.VisitsKept.{with_visit, with_visit-node, with_visit-other_node, with_visit-own, with_visit-other, with_comer, with_comer-has, with_comer-keeps, with_comer-cases}
+use Rattle.splitter_tree.proofs.nodes.VisitsKept.{with_visit, with_visit-node, with_visit-other_node, with_visit-own, with_visit-other, with_comer, with_comer-has, with_comer-keeps, with_comer-cases}
 
 pub right_entered : (s : Stage) → went_right s ≡ true → has_entered s ≡ true
 right_entered Outside h = absurd (cc)

@@ -10,7 +10,7 @@ use Rattle.rename_core.specs.declared.config.Config.{Config}
 use Rattle.schedule_player.specs.Runs.{Runs}
 use Rattle.schedule_player.specs.Turns.{Turn, exchanges}
 use Rattle.schedule_player.specs.Visits.{visit_may}
-use Rattle.schedule_player.specs.VisitLaws.{call_run}
+use Rattle.schedule_player.specs.VisitProofs.{call_run}
 use Rattle.schedule_player.specs.Worlds.{splitter_rules, splitter_fresh, IsSplitterRun, grid_rules, grid_fresh, IsGridRun}
 
 pub splitter_lawful : (c : Config) (w u : splitter.SplitterState) (ts : List Turn) → splitter_fresh c w → Runs (visit_may splitter_rules) w ts u → IsSplitterRun (exchanges ts)

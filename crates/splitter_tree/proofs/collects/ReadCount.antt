@@ -9,9 +9,9 @@ use Rattle.step_memory.specs.Count.{count_to}
 use Rattle.splitter_tree.specs.NodeOrder.{IsUnder, IsRightOf, IsFrom}
 use Rattle.splitter_tree.specs.Ahead.{Sees, HasGrown, HasRead, IsUpcoming, open_at}
 use Rattle.step_memory.proofs.CountLemmas.{count_none, count_le, count_more}
-use Rattle.splitter_tree.proofs.OrderLemmas.{under_itself, follows, left_from, not_from_left, not_right_of_itself}
-use Rattle.splitter_tree.proofs.OpenLemmas.{open_child, open_after}
-use Rattle.splitter_tree.proofs.WalkLemmas.{place_from, goes, after_is_node}
+use Rattle.splitter_tree.proofs.collects.OrderLemmas.{under_itself, follows, left_from, not_from_left, not_right_of_itself}
+use Rattle.splitter_tree.proofs.collects.OpenLemmas.{open_child, open_after}
+use Rattle.splitter_tree.proofs.collects.WalkLemmas.{place_from, goes, after_is_node}
 
 -- a walk that has read nothing
 pub read_at_first : (marked : ℕ → Bool) → HasRead marked first_walk 0 0

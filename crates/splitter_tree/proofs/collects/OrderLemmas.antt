@@ -4,7 +4,7 @@ use Rattle.std.specs.Prelude.{◌⊎◌}
 use Rattle.std.proofs.lemmas.Bool.Decides.{eqb_tells, leb_tells}
 use Rattle.splitter_tree.specs.CollectWalk.{climbed_in, climbed, node_after}
 use Rattle.splitter_tree.specs.NodeOrder.{above, IsUnder, IsRightOf, IsFrom}
-use Rattle.splitter_tree.proofs.Climbing.{climbs_tells}
+use Rattle.splitter_tree.proofs.collects.Climbing.{climbs_tells}
 
 -- from the parent one level less
 pub above_half : (n q : ℕ) → above n (q / 2) ≡ above (suc n) q

@@ -22,7 +22,7 @@ use Rattle.rename_core.specs.Round.{standing_by}
 use Rattle.snapshot_core.specs.Standing.{StandsAt}
 use Rattle.rename_core.proofs.Large.{IsAsLarge}
 use Rattle.rename_core.proofs.Participants.{AreDistinct, distinct_put}
-use Rattle.rename_core.proofs.Standing.{IsStanding}
+use Rattle.rename_core.proofs.rounds.Standing.{IsStanding}
 
 -- p has neither a name nor used up its rounds
 pub record IsGoing (o : RenameObject) (p : ℕ) : Type 0 where

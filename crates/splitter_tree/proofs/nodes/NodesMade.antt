@@ -21,9 +21,9 @@ use Rattle.splitter_tree.specs.TreeCalls.TreeCall.{Began, Stepped, Stored, Colle
 use Rattle.splitter_tree.specs.Depth.{IsNodeWithin}
 use Rattle.splitter_tree.specs.PlacesLaw.{way_calls, walkers}
 use Rattle.splitter_tree.specs.Made.{Marks, MarksFrom, WasMade}
-use Rattle.splitter_tree.proofs.ConsistentKept.{marks}
+use Rattle.splitter_tree.proofs.nodes.ConsistentKept.{marks}
 use Rattle.splitter_tree.proofs.CallCases.{step_cases, store_cases, collect_begin_cases, collect_step_cases}
-use Rattle.splitter_tree.proofs.PlacesTied.{IsTied, all_go, call_kept, tied_new, tied_after, tree_of_tied, words_spared, write_spares, reads_only, placing_access}
+use Rattle.splitter_tree.proofs.nodes.PlacesTied.{IsTied, all_go, call_kept, tied_new, tied_after, tree_of_tied, words_spared, write_spares, reads_only, placing_access}
 
 module _ {S : Type 0} (memory : MemorySteps S TreeRegister TreeValue) (tree : IsTreeMemory memory) where
   -- after a call a node is marked that was, and the one that the call marks

@@ -16,9 +16,9 @@ use Rattle.step_memory.specs.Count.{count_to}
 use Rattle.splitter_tree.specs.NodeOrder.{IsUnder}
 use Rattle.splitter_tree.specs.Ahead.{Sees, HasGrown, HasRead, IsPathMarked, IsUpcoming, IsAhead}
 use Rattle.step_memory.proofs.CountLemmas.{count_le, count_more}
-use Rattle.splitter_tree.proofs.OrderLemmas.{under_itself}
-use Rattle.splitter_tree.proofs.WalkLemmas.{ahead_at_first, ahead_kept, ahead_resumed, upcoming_before, read_once, place_from}
-use Rattle.splitter_tree.proofs.ReadCount.{read_at_first, read_kept, read_resumed}
+use Rattle.splitter_tree.proofs.collects.OrderLemmas.{under_itself}
+use Rattle.splitter_tree.proofs.collects.WalkLemmas.{ahead_at_first, ahead_kept, ahead_resumed, upcoming_before, read_once, place_from}
+use Rattle.splitter_tree.proofs.collects.ReadCount.{read_at_first, read_kept, read_resumed}
 
 -- what a collect, since a moment and after so many steps, has come to. The places, the marks and the moments are those
 -- of now. Of each identity that has a pair it is known that its place lies behind

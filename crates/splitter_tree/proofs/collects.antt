@@ -1,0 +1,10 @@
+-- the order of nodes, and the reads of a collect
+pub mod Climbing
+pub mod OrderLemmas
+pub mod OpenLemmas
+pub mod WalkLemmas
+pub mod ReadCount
+pub mod PlacesAhead
+pub mod UnderWay
+pub mod CollectTied
+pub mod CollectSteps

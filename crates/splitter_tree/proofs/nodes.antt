@@ -1,0 +1,14 @@
+-- walks from node to node, and the nodes that they made
+pub mod Numbers
+pub mod Ways
+pub mod Below
+pub mod Steps
+pub mod Roots
+pub mod VisitsKept
+pub mod AgreeKept
+pub mod DepthBound
+pub mod ConsistentKept
+pub mod TreeLaw
+pub mod WalkerLemmas
+pub mod PlacesTied
+pub mod NodesMade
