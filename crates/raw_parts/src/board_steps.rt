@@ -1,7 +1,7 @@
 //! The rule of a name board's table, and the kinds of step that keep it.
 
 ghost use Rattle.std.specs.Prelude.{◌++◌, take, drop};
-ghost use Rattle.raw_parts.specs.BoardRule.{KeepsBoardRule, HoldsWhatIsClaimed, HasOneIdentity};
+ghost use Rattle.raw_parts.specs.BoardRule.{KeepsBoardRule};
 ghost use Rattle.raw_parts.specs.BoardSteps.{Posts, Finds, LooksOn};
 ghost use Rattle.raw_parts.specs.BoardView.{claims_of, no_claim};
 
@@ -64,10 +64,3 @@ impl Split<BoardView> for Part {
 
     ghost right = { λ v. claims_of (drop 1 v.claims) };
 }
-
-/// A law, which runs nothing: where the rule is kept, the word of each claim holds its identity, which is not 0; so two
-/// claims of one word, whoever has them, are of one identity.
-pub fn law_of_the_board()
-    ensures claimed { HoldsWhatIsClaimed }
-    ensures one { HasOneIdentity }
-{}

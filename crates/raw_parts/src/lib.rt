@@ -48,6 +48,7 @@ pub mod board;
 pub mod board_seats;
 pub mod board_steps;
 pub mod board_view;
+pub mod laws;
 pub mod raw_splitter;
 pub mod seats;
 pub mod splitter_steps;
@@ -55,10 +56,9 @@ pub mod splitter_view;
 
 pub use board::Board;
 pub use board_seats::{Grant, ReaderSeat};
-pub use board_steps::law_of_the_board;
+pub use laws::{law_of_the_board, law_of_the_rule};
 pub use raw_splitter::RawSplitter;
 pub use seats::{EnteredSeat, FreshSeat};
-pub use splitter_steps::law_of_the_rule;
 
 #[cfg(test)]
 mod board_tests;

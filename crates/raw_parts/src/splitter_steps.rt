@@ -1,9 +1,7 @@
 //! The rule of a splitter's table, and the kinds of step that keep it.
 
-ghost use Rattle.std.specs.Prelude.{ℕ, List, ◌++◌, [], take, drop};
-ghost use Rattle.splitter.specs.Door.{IsSplitter};
-ghost use Rattle.raw_parts.specs.declared.splitter_view.SplitterView.{SplitterView};
-ghost use Rattle.raw_parts.specs.SplitterRule.{IsKept, KeepsRule};
+ghost use Rattle.std.specs.Prelude.{◌++◌, [], take, drop};
+ghost use Rattle.raw_parts.specs.SplitterRule.{KeepsRule};
 ghost use Rattle.raw_parts.specs.SplitterSteps.{MovesOn, Looks};
 ghost use Rattle.raw_parts.specs.SplitterView.{view_of, undealt_from};
 
@@ -80,9 +78,3 @@ impl Split<SplitterView> for Part {
 
     ghost right = { λ v. view_of v.seats (drop 1 v.visits) };
 }
-
-/// A law, which runs nothing: where the rule is kept, the seats of the splitter keep its law. Of those that have entered
-/// at most one stopped, not all went right and not all went down.
-pub fn law_of_the_rule()
-    ensures { (seats : ℕ) (words : List ℕ) (views : List SplitterView) (kept : IsKept seats words views) → IsSplitter kept.stage }
-{}

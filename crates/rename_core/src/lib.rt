@@ -45,9 +45,8 @@
 
 #[cfg(test)]
 mod alone_tests;
-pub mod calls_law;
 pub mod config;
-pub mod law;
+pub mod laws;
 pub mod places;
 pub mod proposal;
 pub mod reply;
@@ -57,9 +56,10 @@ pub mod short_reply;
 mod tests;
 pub mod world;
 
-pub use calls_law::law_of_renaming_calls;
 pub use config::{Config, WorldKind};
-pub use law::{fixed_rename_law, grid_rename_law, law_of_steps_alone, tree_rename_law};
+pub use laws::{
+    fixed_rename_law, grid_rename_law, law_of_renaming_calls, law_of_steps_alone, tree_rename_law,
+};
 pub use places::RenamePlaces;
 pub use proposal::next_proposal;
 pub use reply::Reply;

@@ -39,7 +39,7 @@
 
 pub mod client;
 pub mod fixed;
-pub mod law;
+pub mod laws;
 pub mod places;
 pub mod scan;
 pub mod sightings;
@@ -50,7 +50,7 @@ pub mod world;
 
 pub use client::{Client, Pending, SnapReply, ToScan, ToUpdate};
 pub use fixed::{Fixed, FixedWalk, FixedWalker};
-pub use law::{law_of_clients, law_of_snapshot_calls, law_of_steps_alone, snapshot_law};
+pub use laws::{law_of_clients, law_of_snapshot_calls, law_of_steps_alone, snapshot_law};
 pub use places::{Known, PlaceWalker, Places};
 pub use scan::Scan;
 pub use sightings::{Met, Sighting, Sightings};

@@ -34,7 +34,7 @@ pub mod grid;
 pub mod grid_register;
 pub mod grid_walk;
 pub mod grid_walker;
-pub mod law;
+pub mod laws;
 #[cfg(test)]
 mod tests;
 pub mod tree;
@@ -45,7 +45,7 @@ pub use grid::Grid;
 pub use grid_register::{GridRegister, GridValue};
 pub use grid_walk::GridWalk;
 pub use grid_walker::GridWalker;
-pub use law::{grid_snapshot_law, tree_snapshot_law};
+pub use laws::{grid_snapshot_law, tree_snapshot_law};
 pub use tree::TreePlaces;
 pub use tree_walk::TreeWalk;
 pub use tree_walker::TreeWalker;

@@ -7,13 +7,22 @@ ghost use Rattle.splitter_tree.specs.Client.{client_access};
 ghost use Rattle.splitter_tree.specs.CollectWalk.{first_walk, register_read, place_read, walk_resumed};
 ghost use Rattle.splitter_tree.specs.Run.{After, IsLawful, KeepsTreeCallsLaw, RefusesWhereDue, TreeWorldState};
 ghost use Rattle.splitter_tree.specs.TreeCalls.{TreeCall};
-ghost use Rattle.splitter_tree.specs.TreeSteps.{empty_tree};
+ghost use Rattle.splitter_tree.specs.TreeMemory.{IsTreeMemory, IsEmptyTree};
+ghost use Rattle.splitter_tree.specs.TreeSteps.{empty_tree, tree_steps};
 ghost use Rattle.splitter_tree.specs.declared.client.Client.{Client};
 ghost use Rattle.splitter_tree.specs.declared.collect_walk.CollectWalk.{CollectWalk};
 ghost use Rattle.splitter_tree.specs.declared.register.TreeRegister.{TreeRegister};
 ghost use Rattle.splitter_tree.specs.declared.register.TreeRegister.TheVariants.{Contents};
 ghost use Rattle.splitter_tree.specs.declared.register.TreeValue.{TreeValue};
 ghost use Rattle.step_memory.specs.Steps.{MemorySteps, ReadsOrWrites};
+
+/// A law, which runs nothing: a tree is a memory in which a node is within reach once its parent is marked, a node that is
+/// marked keeps what is written to it, and only what marks a node may be refused; and a new tree has no node. Walks and
+/// collects stand on this.
+pub fn law_of_tree_memory()
+    ensures memory { IsTreeMemory tree_steps }
+    ensures empty { IsEmptyTree tree_steps empty_tree }
+{}
 
 /// A law, which runs nothing: a tree of no nodes is consistent with no walks; one who begins, each access of a walk that
 /// was not refused, and whatever leaves the marks, X and Y of the nodes as they are keep nodes and walks

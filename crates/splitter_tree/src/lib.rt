@@ -53,11 +53,11 @@ pub use collect_walk::CollectWalk;
 pub use kept_segment::KeptSegment;
 pub use laws::{
     law_of_collect_calls, law_of_collects, law_of_collects_at_places, law_of_nodes_and_walks,
-    law_of_own_accesses, law_of_places, law_of_tree_calls,
+    law_of_own_accesses, law_of_places, law_of_tree_calls, law_of_tree_memory,
 };
 pub use node::{Link, Node};
 pub use node_registers::NodeRegisters;
 pub use register::{TreeRegister, TreeValue};
-pub use tree::{Tree, law_of_tree_memory};
+pub use tree::Tree;
 pub use walker::Walker;
 pub use world::TreeWorld;

@@ -4,7 +4,6 @@ ghost use Rattle.std.specs.Prelude.{◌≡◌, OnOk, OnErr, IfOk, IfSome, true, 
 ghost use Rattle.std.specs.FinMap as map;
 ghost use Rattle.splitter_tree.specs.TreeSteps.{tree_steps, empty_tree, value_in, answer_of, after_access, may_refuse, number_in};
 ghost use Rattle.splitter_tree.specs.TreeProofs.{others_kept};
-ghost use Rattle.splitter_tree.specs.TreeMemory.{IsTreeMemory, IsEmptyTree};
 ghost use Rattle.step_memory.specs.declared.access.Access.{Access};
 ghost use Rattle.step_memory.specs.declared.access.Access.TheVariants.{Read};
 
@@ -122,11 +121,3 @@ impl<A: Allocator + Clone> StepMemory for Tree<A> {
 
     ghost others = { others_kept };
 }
-
-/// A law, which runs nothing: a tree is a memory in which a node is within reach once its parent is marked, a node that is
-/// marked keeps what is written to it, and only what marks a node may be refused; and a new tree has no node. Walks and
-/// collects stand on this.
-pub fn law_of_tree_memory()
-    ensures memory { IsTreeMemory tree_steps }
-    ensures empty { IsEmptyTree tree_steps empty_tree }
-{}

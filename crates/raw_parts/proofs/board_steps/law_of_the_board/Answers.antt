@@ -1,8 +1,0 @@
-use Rattle.raw_parts.proofs.Claims.{granted_is_so, granted_one}
-use Rattle.raw_parts.proofs.board_steps.law_of_the_board.Goals as goal
-
-pub returns-clause-claimed : goal.returns-clause-claimed
-returns-clause-claimed c = granted_is_so
-
-pub returns-clause-one : goal.returns-clause-one
-returns-clause-one c = granted_one

@@ -1,5 +1,0 @@
-use Rattle.splitter.proofs.DoorKept.{law_of}
-use Rattle.raw_parts.proofs.splitter_steps.law_of_the_rule.Goals as goal
-
-pub returns : goal.returns
-returns c = λ seats words views kept. law_of kept.x kept.y kept.stage kept.lawful.door

@@ -1,0 +1,20 @@
+//! What the rules of the two tables say, which run nothing.
+
+ghost use Rattle.std.specs.Prelude.{ℕ, List};
+ghost use Rattle.splitter.specs.Door.{IsSplitter};
+ghost use Rattle.raw_parts.specs.BoardRule.{HoldsWhatIsClaimed, HasOneIdentity};
+ghost use Rattle.raw_parts.specs.SplitterRule.{IsKept};
+ghost use Rattle.raw_parts.specs.declared.splitter_view.SplitterView.{SplitterView};
+
+/// A law, which runs nothing: where the rule is kept, the seats of the splitter keep its law. Of those that have entered
+/// at most one stopped, not all went right and not all went down.
+pub fn law_of_the_rule()
+    ensures { (seats : ℕ) (words : List ℕ) (views : List SplitterView) (kept : IsKept seats words views) → IsSplitter kept.stage }
+{}
+
+/// A law, which runs nothing: where the rule is kept, the word of each claim holds its identity, which is not 0; so two
+/// claims of one word, whoever has them, are of one identity.
+pub fn law_of_the_board()
+    ensures claimed { HoldsWhatIsClaimed }
+    ensures one { HasOneIdentity }
+{}

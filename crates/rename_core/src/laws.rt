@@ -1,0 +1,76 @@
+//! Laws of renaming, which run nothing: of the calls of a world, and over a grid, over a tree and over segments in a row.
+
+ghost use Rattle.std.specs.Prelude.{◌≡◌, ℕ, ◌+◌, ◌-◌, ◌*◌, ◌≤◌, false};
+ghost use Rattle.snapshot_core.specs.FixedTies.{fixed_places, fixed_bounds};
+ghost use Rattle.snapshot_places.specs.Bounds.{grid_bounds, tree_bounds};
+ghost use Rattle.snapshot_places.specs.Grid.{segments_for};
+ghost use Rattle.snapshot_places.specs.GridTies.{grid_places};
+ghost use Rattle.snapshot_places.specs.Made.{MakesNode};
+ghost use Rattle.snapshot_places.specs.TreeTies.{tree_places};
+ghost use Rattle.rename_core.specs.Alone.{steps_alone};
+ghost use Rattle.rename_core.specs.RenameCalls.{CallLeadsOn, KeepsSizes, IsLawful, AnswersUnrefused, IsLawfulWithin, LacksOnly, BeginsTheSame};
+ghost use Rattle.rename_core.specs.RenameState.{RenameState};
+ghost use Rattle.rename_core.specs.RenameWorld.{may_lack};
+ghost use Rattle.rename_core.specs.declared.reply.Reply.{Reply};
+ghost use Rattle.rename_core.specs.declared.config.WorldKind.TheVariants as kind;
+ghost use Rattle.step_memory.specs.Calls.{Call};
+
+use crate::places::RenamePlaces;
+use crate::world::RenameWorld;
+use snapshot_core::{Fixed, Known, Places};
+use snapshot_places::{Grid, TreePlaces};
+use std::alloc::Allocator;
+
+/// A law, which runs nothing: one more call, with a reply that it may get, leads on, and keeps the world's sizes; and every
+/// list of calls that leads to a world keeps the law of renaming. After such a list a step is refused, want of memory aside,
+/// only where its round is ended or its participant has not begun.
+pub fn law_of_renaming_calls<W: RenamePlaces<A>, A: Allocator>()
+    ensures call { (w new : RenameState W W.Walker W.Walk) (h : Call Reply) → CallLeadsOn ⟦<W as Known>⟧.places w new h }
+    ensures kept { (w : RenameState W W.Walker W.Walk) (h : Call Reply) → KeepsSizes ⟦<W as Known>⟧.places w h }
+    ensures answered { (w : RenameState W W.Walker W.Walk) (p : ℕ) → AnswersUnrefused ⟦<W as Known>⟧.places w p }
+    ensures law { (w : RenameState W W.Walker W.Walk) → IsLawful ⟦<W as Known>⟧.places W.world w }
+{}
+
+/// A law, which runs nothing. Over a grid the calls of a renaming world with their replies keep the law of renaming, after
+/// every list of calls: where b have begun, a place comes within 4b steps, and over G segments a view within G(G + 1) and
+/// a proposal within one step more; and of m, one who steps alone is named within 4m + 11G + 1. No step wants memory, and
+/// what `begin` gives is a function of the identity and of the most participants alone.
+pub fn grid_rename_law<A: Allocator + Clone>(world: &RenameWorld<Grid<A>, A>)
+    ensures law { IsLawfulWithin grid_places kind.Rename (grid_bounds world.now.snap.most) world.now }
+    ensures ample { (id : ℕ) → may_lack grid_places world.now id ≡ false }
+    ensures alike { (id : ℕ) → BeginsTheSame grid_places id }
+{
+    let _world = world;
+}
+
+/// A law, which runs nothing. Over a tree the calls of a renaming world with their replies keep the law of renaming, after
+/// every list of calls: where b have begun, a place comes within 5b steps, a view within (b + 1)(6b - 2) and a proposal
+/// within one step more; and of m, one who steps alone is named within 5m + 11(6m - 2) + 1. Only a step that makes a node
+/// may want memory, and what `begin` gives is a function of the identity and of the most participants alone.
+pub fn tree_rename_law<A: Allocator + Clone>(world: &RenameWorld<TreePlaces<A>, A>)
+    ensures law { IsLawfulWithin tree_places kind.Tree (tree_bounds world.now.snap.most) world.now }
+    ensures makes { (id : ℕ) → LacksOnly tree_places world.now id (MakesNode world.now.snap id) }
+    ensures alike { (id : ℕ) → BeginsTheSame tree_places id }
+{
+    let _world = world;
+}
+
+/// A law, which runs nothing. Over m segments in a row the calls of a renaming world with their replies keep the law of
+/// renaming, after every list of calls: nobody takes a step to its place, and a view comes within m(m + 1) steps. No step
+/// wants memory.
+pub fn fixed_rename_law<A: Allocator>(world: &RenameWorld<Fixed<A>, A>)
+    ensures law { IsLawfulWithin fixed_places kind.Rename (fixed_bounds world.now.snap.most) world.now }
+    ensures ample { (id : ℕ) → may_lack fixed_places world.now id ≡ false }
+{
+    let _world = world;
+}
+
+/// A law, which runs nothing: the most steps that one who steps alone makes until it is named, among at most m participants,
+/// from any point at which two of its proposals are left. They are 4m + 11G + 1 over a grid of G doors, and
+/// 5m + 11(6m - 2) + 1 over a tree: a linear number of collects' reads, where the bounds on steps among others are quadratic.
+pub fn law_of_steps_alone()
+    ensures grid { (m : ℕ) → steps_alone (grid_bounds m) ≡ 4 * m + 11 * segments_for m + 1 }
+    ensures tree { (m : ℕ) → 1 ≤ m → steps_alone (tree_bounds m) ≡ 5 * m + 11 * (6 * m - 2) + 1 }
+    ensures few_on_grid { (steps_alone (grid_bounds 1) ≡ 16) × (steps_alone (grid_bounds 2) ≡ 42) × (steps_alone (grid_bounds 3) ≡ 79) }
+    ensures few_in_tree { (steps_alone (tree_bounds 1) ≡ 50) × (steps_alone (tree_bounds 2) ≡ 121) × (steps_alone (tree_bounds 3) ≡ 192) }
+{}

@@ -1,0 +1,17 @@
+use Rattle.snapshot_core.proofs.Following.{all_distinct}
+use Rattle.snapshot_places.specs.GridTies.{grid_places}
+use Rattle.snapshot_places.specs.GridProofs.{grid_laws}
+use Rattle.snapshot_places.proofs.GridLaw.{grid_law, fits_grid, grid_alike}
+use Rattle.snapshot_places.proofs.laws.grid_snapshot_law.Goals as goal
+
+pub returns-clause-law : goal.returns-clause-law
+returns-clause-law g c = grid_law c.args.world.now
+
+pub returns-clause-distinct : goal.returns-clause-distinct
+returns-clause-distinct g c = all_distinct grid_places grid_laws c.args.world.now
+
+pub returns-clause-alike : goal.returns-clause-alike
+returns-clause-alike g c = grid_alike
+
+pub returns-clause-fits : goal.returns-clause-fits
+returns-clause-fits g c = fits_grid c.args.world.now.most
