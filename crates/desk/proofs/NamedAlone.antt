@@ -1,25 +1,24 @@
 -- who alone steps is soon named, by exchanges alone
-use Rattle.std.proofs.Common.{◌≡◌, ℕ, ◌+◌, ◌≤◌, ◌⊎◌, true, false, cond, ◌&&◌, ◌==◌, inl, inr, List, [], ◌∷◌, ◌++◌, map, Some, None, Ok, Err, refl, sym, ap, subst, ◌∙◌, arith}
+use Rattle.std.proofs.Common.{◌≡◌, ℕ, ◌+◌, ◌⊎◌, true, false, cond, ◌&&◌, ◌==◌, inl, inr, List, [], ◌∷◌, ◌++◌, map, Some, None, Ok, Err, refl, sym, ap, subst, ◌∙◌, arith}
 use Rattle.std.specs.Prelude.{is_some}
-use Rattle.std.proofs.lemmas.Bool.Decides.{eqb_tells}
+use Rattle.std.proofs.lemmas.Bool.Decides.{eqb_tells, Decides-eqb}
 use Rattle.step_memory.specs.Runs.{Run}
 use Rattle.step_memory.specs.Calls.{Call, steps_of as call_steps}
 use Rattle.step_memory.specs.Calls.Call.{Began, Stepped}
 use Rattle.step_memory.proofs.RunLemmas.{run_splits}
-use Rattle.rename_core.specs.Alone.{steps_alone, HasTwoLeft as HasTwoCalls, StepsAlone as CallsAlone}
+use Rattle.rename_core.specs.Alone.{HasTwoLeft as HasTwoCalls, StepsAlone as CallsAlone}
 use Rattle.rename_core.specs.declared.reply.Reply.{Reply as StepReply}
 use Rattle.rename_core.specs.declared.reply.Reply.TheVariants.{Quiet, Placed, Proposed, Saw, Named, Spent}
 use Rattle.rename_core.specs.RenameObject.{RenameTerms, RenameObject, new_object, Allows, after, IsRun}
 use Rattle.bit_allocator.specs.Calls.Call.{Entered, Probed, Left}
+use Rattle.slot_array.specs.SlotCalls.{SlotCall}
 use Rattle.slot_array.specs.SlotCalls.SlotCall.{Pooled, Stored, Fetched}
-use Rattle.desk.specs.declared.event.Event.{Event}
 use Rattle.desk.specs.declared.event.Event.TheVariants as event
 use Rattle.desk.specs.declared.exchange.Exchange.{Exchange}
-use Rattle.desk.specs.declared.reply.Reply.{Reply}
 use Rattle.desk.specs.declared.reply.Reply.TheVariants as reply
 use Rattle.desk.specs.DeskCalls.{DeskCall, rename_calls, exchange, exchange_of}
 use Rattle.desk.specs.DeskCalls.DeskCall.{Renamed, Slotted}
-use Rattle.desk.specs.NamedAlone.{HasBegun, WasSpent, proposals_of, steps_of, StepsAlone, HasTwoLeft, HasName, NamesSoonAlone}
+use Rattle.desk.specs.NamedAlone.{IsAmong, HasBegun, WasSpent, proposals_of, steps_of, StepsAlone, HasTwoLeft, HasName, NamesSoonAlone}
 use Rattle.desk.specs.Replies.{is_refusal, shown_step}
 use Rattle.desk.proofs.NamesGiven.{was_given, shown_by, has_named}
 
@@ -45,41 +44,85 @@ rename_parts [] second = refl
 rename_parts (Renamed h ∷ first) second = ap (λ z. h ∷ z) (rename_parts first second)
 rename_parts (Slotted h ∷ first) second = rename_parts first second
 
--- who has begun has
-began_now : (o : RenameObject) (p : ℕ) (h : Call StepReply) → o.begun p ≡ true → (after o h).begun p ≡ true
-began_now o p (Began q (Ok done)) e = elim (eqb_tells p q) [ inl k ↦ rw k.0 refl | inr k ↦ rw k.0 e ]
-began_now o p (Began q (Err why)) e = e
-began_now o p (Stepped q (Ok Quiet)) e = e
-began_now o p (Stepped q (Ok (Placed place))) e = e
-began_now o p (Stepped q (Ok (Proposed m))) e = e
-began_now o p (Stepped q (Ok (Saw view))) e = e
-began_now o p (Stepped q (Ok (Named m view))) e = e
-began_now o p (Stepped q (Ok Spent)) e = e
-began_now o p (Stepped q (Err why)) e = e
+-- an exchange of the slots is none of renaming
+slots_apart : (h : SlotCall ℕ) (g : Call StepReply) → exchange_of (Slotted h) ≡ exchange_of (Renamed g) → ⊥
+slots_apart (Pooled (Entered q a)) (Began p b) x = let e : event.Enter q ≡ event.Begin p = ap (λ (z : Exchange). z.event) x in absurd (cc)
+slots_apart (Pooled (Entered q a)) (Stepped p b) x = let e : event.Enter q ≡ event.Step p = ap (λ (z : Exchange). z.event) x in absurd (cc)
+slots_apart (Pooled (Probed q a)) (Began p b) x = let e : event.Probe q ≡ event.Begin p = ap (λ (z : Exchange). z.event) x in absurd (cc)
+slots_apart (Pooled (Probed q a)) (Stepped p b) x = let e : event.Probe q ≡ event.Step p = ap (λ (z : Exchange). z.event) x in absurd (cc)
+slots_apart (Pooled (Left q a)) (Began p b) x = let e : event.Leave q ≡ event.Begin p = ap (λ (z : Exchange). z.event) x in absurd (cc)
+slots_apart (Pooled (Left q a)) (Stepped p b) x = let e : event.Leave q ≡ event.Step p = ap (λ (z : Exchange). z.event) x in absurd (cc)
+slots_apart (Stored q v a) (Began p b) x = let e : event.Put q v ≡ event.Begin p = ap (λ (z : Exchange). z.event) x in absurd (cc)
+slots_apart (Stored q v a) (Stepped p b) x = let e : event.Put q v ≡ event.Step p = ap (λ (z : Exchange). z.event) x in absurd (cc)
+slots_apart (Fetched q a) (Began p b) x = let e : event.Get q ≡ event.Begin p = ap (λ (z : Exchange). z.event) x in absurd (cc)
+slots_apart (Fetched q a) (Stepped p b) x = let e : event.Get q ≡ event.Step p = ap (λ (z : Exchange). z.event) x in absurd (cc)
 
-began_stays : (terms : RenameTerms) (o o' : RenameObject) (p : ℕ) (r : List (Call StepReply)) → Run after (Allows terms) o r o' → o.begun p ≡ true → o'.begun p ≡ true
-began_stays terms o o' p [] run e = rw run e
-began_stays terms o o' p (h ∷ r) run e = began_stays terms (after o h) o' p r run.1 (began_now o p h e)
+begun_call : (p : ℕ) (h : Call StepReply) → exchange_of (Renamed h) ≡ exchange (event.Begin p) reply.Ok → h ≡ Began p (Ok tt)
+begun_call p (Began q (Ok done)) x = let e : event.Begin q ≡ event.Begin p = ap (λ (z : Exchange). z.event) x in let same : q ≡ p = cc in rw same refl
+begun_call p (Began q (Err why)) x = absurd (let e : reply.Refused why ≡ reply.Ok = ap (λ (z : Exchange). z.reply) x in cc)
+begun_call p (Stepped q a) x = absurd (let e : event.Step q ≡ event.Begin p = ap (λ (z : Exchange). z.event) x in cc)
 
-other_event : (e f : Event) (said wanted : Reply) → (e ≡ f → ⊥) → exchange e said ≡ exchange f wanted → ⊥
-other_event e f said wanted differs x = differs (ap (λ (z : Exchange). z.event) x)
+spent_step : (said : StepReply) → shown_step said ≡ reply.Spent → said ≡ Spent
+spent_step Quiet x = absurd (cc)
+spent_step (Placed place) x = absurd (cc)
+spent_step (Proposed m) x = absurd (cc)
+spent_step (Saw view) x = absurd (cc)
+spent_step (Named m view) x = absurd (cc)
+spent_step Spent x = refl
 
--- whose `begin` was answered has begun
-has_begun : (terms : RenameTerms) (o o' : RenameObject) (p : ℕ) (calls : List DeskCall) → Run after (Allows terms) o (rename_calls calls) o' → HasBegun p (map exchange_of calls) → o'.begun p ≡ true
-has_begun terms o o' p [] run h = absurd h
-has_begun terms o o' p (Renamed (Began q (Ok done)) ∷ calls) run (inl x) =
-    let e : event.Begin q ≡ event.Begin p = ap (λ (z : Exchange). z.event) x in
+spent_call : (p : ℕ) (h : Call StepReply) → exchange_of (Renamed h) ≡ exchange (event.Step p) reply.Spent → h ≡ Stepped p (Ok Spent)
+spent_call p (Began q a) x = absurd (let e : event.Begin q ≡ event.Step p = ap (λ (z : Exchange). z.event) x in cc)
+spent_call p (Stepped q (Ok said)) x =
+    let e : event.Step q ≡ event.Step p = ap (λ (z : Exchange). z.event) x in
     let same : q ≡ p = cc in
-    began_stays terms (after o (Began q (Ok done))) o' p (rename_calls calls) run.1 (elim (eqb_tells p q) [ inl k ↦ rw k.0 refl | inr k ↦ absurd (k.1 (sym same)) ])
-has_begun terms o o' p (Renamed (Began q (Err why)) ∷ calls) run (inl x) = absurd (let e : reply.Refused why ≡ reply.Ok = ap (λ (z : Exchange). z.reply) x in cc)
-has_begun terms o o' p (Renamed (Stepped q a) ∷ calls) run (inl x) = absurd (other_event (event.Step q) (event.Begin p) _ reply.Ok (λ e. cc) x)
-has_begun terms o o' p (Slotted (Pooled (Entered q a)) ∷ calls) run (inl x) = absurd (other_event (event.Enter q) (event.Begin p) _ reply.Ok (λ e. cc) x)
-has_begun terms o o' p (Slotted (Pooled (Probed q a)) ∷ calls) run (inl x) = absurd (other_event (event.Probe q) (event.Begin p) _ reply.Ok (λ e. cc) x)
-has_begun terms o o' p (Slotted (Pooled (Left q a)) ∷ calls) run (inl x) = absurd (other_event (event.Leave q) (event.Begin p) _ reply.Ok (λ e. cc) x)
-has_begun terms o o' p (Slotted (Stored q v a) ∷ calls) run (inl x) = absurd (other_event (event.Put q v) (event.Begin p) _ reply.Ok (λ e. cc) x)
-has_begun terms o o' p (Slotted (Fetched q a) ∷ calls) run (inl x) = absurd (other_event (event.Get q) (event.Begin p) _ reply.Ok (λ e. cc) x)
-has_begun terms o o' p (Renamed h ∷ calls) run (inr later) = has_begun terms (after o h) o' p calls run.1 later
-has_begun terms o o' p (Slotted h ∷ calls) run (inr later) = has_begun terms o o' p calls run later
+    rw (same, spent_step said (ap (λ (z : Exchange). z.reply) x)) refl
+spent_call p (Stepped q (Err why)) x = absurd (let e : reply.Refused why ≡ reply.Spent = ap (λ (z : Exchange). z.reply) x in cc)
+
+-- what a call of renaming makes true, and no call makes false, holds after calls among whose exchanges is its
+module _ (terms : RenameTerms) (Holds : RenameObject → Type 0) (stays : (o : RenameObject) (h : Call StepReply) → Holds o → Holds (after o h)) where
+  still_holds : (o o' : RenameObject) (r : List (Call StepReply)) → Run after (Allows terms) o r o' → Holds o → Holds o'
+  still_holds o o' [] run k = subst Holds (sym run) k
+  still_holds o o' (h ∷ r) run k = still_holds (after o h) o' r run.1 (stays o h k)
+
+  module _ (g : Call StepReply) (only : (h : Call StepReply) → exchange_of (Renamed h) ≡ exchange_of (Renamed g) → h ≡ g) (makes : (o : RenameObject) → Holds (after o g)) where
+    holds_then : (o o' : RenameObject) (calls : List DeskCall) → Run after (Allows terms) o (rename_calls calls) o' → IsAmong (exchange_of (Renamed g)) (map exchange_of calls) → Holds o'
+    holds_then o o' [] run k = absurd k
+    holds_then o o' (Renamed h ∷ calls) run (inl x) = still_holds (after o h) o' (rename_calls calls) run.1 (subst (λ (z : Call StepReply). Holds (after o z)) (sym (only h x)) (makes o))
+    holds_then o o' (Renamed h ∷ calls) run (inr later) = holds_then (after o h) o' calls run.1 later
+    holds_then o o' (Slotted h ∷ calls) run (inl x) = absurd (slots_apart h g x)
+    holds_then o o' (Slotted h ∷ calls) run (inr later) = holds_then o o' calls run later
+
+-- who has begun has, and who is spent is
+begun_stays : (p : ℕ) (o : RenameObject) (h : Call StepReply) → o.begun p ≡ true → (after o h).begun p ≡ true
+begun_stays p o (Began q (Ok done)) e = elim (eqb_tells p q) [ inl k ↦ rw k.0 refl | inr k ↦ rw k.0 e ]
+begun_stays p o (Began q (Err why)) e = e
+begun_stays p o (Stepped q (Ok Quiet)) e = e
+begun_stays p o (Stepped q (Ok (Placed place))) e = e
+begun_stays p o (Stepped q (Ok (Proposed m))) e = e
+begun_stays p o (Stepped q (Ok (Saw view))) e = e
+begun_stays p o (Stepped q (Ok (Named m view))) e = e
+begun_stays p o (Stepped q (Ok Spent)) e = e
+begun_stays p o (Stepped q (Err why)) e = e
+
+spent_stays : (p : ℕ) (o : RenameObject) (h : Call StepReply) → o.spent p ≡ true → (after o h).spent p ≡ true
+spent_stays p o (Began q (Ok done)) e = e
+spent_stays p o (Began q (Err why)) e = e
+spent_stays p o (Stepped q (Ok Quiet)) e = e
+spent_stays p o (Stepped q (Ok (Placed place))) e = e
+spent_stays p o (Stepped q (Ok (Proposed m))) e = e
+spent_stays p o (Stepped q (Ok (Saw view))) e = e
+spent_stays p o (Stepped q (Ok (Named m view))) e = e
+spent_stays p o (Stepped q (Ok Spent)) e = elim (eqb_tells p q) [ inl k ↦ rw k.0 refl | inr k ↦ rw k.0 e ]
+spent_stays p o (Stepped q (Err why)) e = e
+
+same_is : (p : ℕ) → (p == p) ≡ true
+same_is p = (Decides-eqb p p).1 refl
+
+has_begun : (terms : RenameTerms) (o o' : RenameObject) (p : ℕ) (calls : List DeskCall) → Run after (Allows terms) o (rename_calls calls) o' → HasBegun p (map exchange_of calls) → o'.begun p ≡ true
+has_begun terms o o' p calls = holds_then terms (λ x. x.begun p ≡ true) (begun_stays p) (Began p (Ok tt)) (begun_call p) (λ x. rw (same_is p) refl) o o' calls
+
+has_spent : (terms : RenameTerms) (o o' : RenameObject) (p : ℕ) (calls : List DeskCall) → Run after (Allows terms) o (rename_calls calls) o' → WasSpent p (map exchange_of calls) → o'.spent p ≡ true
+has_spent terms o o' p calls = holds_then terms (λ x. x.spent p ≡ true) (spent_stays p) (Stepped p (Ok Spent)) (spent_call p) (λ x. rw (same_is p) refl) o o' calls
 
 -- one call spends who is spent after it and was not before
 spent_now : (o : RenameObject) (p : ℕ) (h : Call StepReply) → (after o h).spent p ≡ true → (o.spent p ≡ true) ⊎ (h ≡ Stepped p (Ok Spent))
@@ -184,14 +227,24 @@ two_left terms o p calls run h = record {
 }
 
 pub names_soon_alone : NamesSoonAlone
-names_soon_alone terms bounds size before more run p two alone many =
+names_soon_alone terms bounds size before more run p two alone =
     let k = parts_of run.calls before more run.spelled in
     let whole : rename_calls k.first ++ rename_calls k.second ≡ rename_calls run.calls = sym (rename_parts k.first k.second) ∙ ap rename_calls k.is in
     let split = run_splits after (Allows terms) new_object (rename_calls k.first) (rename_calls k.second) run.names.object (subst (λ (x : List (Call StepReply)). IsRun terms x run.names.object) (sym whole) run.names.run) in
     let front : HasTwoCalls terms split.0 p = two_left terms split.0 p k.first split.1 (subst (λ (x : List Exchange). HasTwoLeft terms.limit p x) (sym k.shows) two) in
-    let steps : steps_alone bounds ≤ call_steps p (rename_calls k.second) = (let e = steps_are p k.second in let same : steps_of p (map exchange_of k.second) ≡ steps_of p more = ap (steps_of p) k.goes_on in omega arith) in
-    let named : is_some (run.names.object.name p) ≡ true = run.names.alone (rename_calls k.first) (rename_calls k.second) split.0 run.names.object p whole split.1 run.names.run front (calls_alone p k.second (subst (λ (x : List Exchange). StepsAlone p x) (sym k.goes_on) alone)) steps in
-    elim (run.names.object.name p) as (λ z. run.names.object.name p ≡ z → is_some z ≡ true → HasName p (before ++ more)) [
-      | None ↦ λ e h. absurd (cc)
-      | Some n ↦ λ e h. (n, has_named terms bounds size (before ++ more) run p n e)
-    ] refl named
+    let steps : steps_of p more ≡ call_steps p (rename_calls k.second) = ap (steps_of p) (sym k.goes_on) ∙ steps_are p k.second in
+    elim (run.names.alone (rename_calls k.first) (rename_calls k.second) split.0 run.names.object p whole split.1 run.names.run front (calls_alone p k.second (subst (λ (x : List Exchange). StepsAlone p x) (sym k.goes_on) alone))) [
+      | inl named ↦ inl (elim (run.names.object.name p) as (λ z. run.names.object.name p ≡ z → is_some z ≡ true → HasName p (before ++ more)) [
+        | None ↦ λ e h. absurd (cc)
+        | Some n ↦ λ e h. (n, has_named terms bounds size (before ++ more) run p n e)
+      ] refl named)
+      | inr on ↦
+          let few = on.1 in
+          inr (
+            λ told. (
+                let spent : run.names.object.spent p ≡ true = has_spent terms new_object run.names.object p run.calls run.names.run (subst (λ (x : List Exchange). WasSpent p x) (sym run.spelled) told) in
+                let two : true ≡ false = sym spent ∙ on.0 in
+                absurd (cc)),
+            omega arith,
+          )
+    ]

@@ -1,5 +1,5 @@
 -- how soon one is named who alone steps, by exchanges alone (this project's profile)
-use Rattle.std.specs.Prelude.{◌≡◌, ℕ, ◌+◌, ◌≤◌, ◌==◌, ◌&&◌, not, false, if◌then◌else◌, ◌⊎◌, List, [], ◌∷◌, ◌++◌}
+use Rattle.std.specs.Prelude.{◌≡◌, ℕ, ◌+◌, ◌<◌, ◌≤◌, ◌==◌, ◌&&◌, not, false, if◌then◌else◌, ◌⊎◌, List, [], ◌∷◌, ◌++◌}
 use Rattle.snapshot_core.specs.Snapshot.{SnapBounds}
 use Rattle.rename_core.specs.Alone.{steps_alone}
 use Rattle.rename_core.specs.RenameObject.{RenameTerms}
@@ -13,15 +13,18 @@ use Rattle.desk.specs.DeskRun.{IsDeskRun}
 use Rattle.desk.specs.Names.{WasNamed}
 use Rattle.desk.specs.Replies.{is_refusal}
 
--- among these exchanges p has begun
+-- this exchange is among these
+abbrev pub IsAmong : Exchange → List Exchange → Type 0
+IsAmong x [] = ⊥
+IsAmong x (y ∷ r) = (y ≡ x) ⊎ IsAmong x r
+
+-- p has begun
 abbrev pub HasBegun : ℕ → List Exchange → Type 0
-HasBegun p [] = ⊥
-HasBegun p (x ∷ r) = (x ≡ exchange (Begin p) Ok) ⊎ HasBegun p r
+HasBegun p r = IsAmong (exchange (Begin p) Ok) r
 
 -- p has used up its rounds
 abbrev pub WasSpent : ℕ → List Exchange → Type 0
-WasSpent p [] = ⊥
-WasSpent p (x ∷ r) = (x ≡ exchange (Step p) Spent) ⊎ WasSpent p r
+WasSpent p r = IsAmong (exchange (Step p) Spent) r
 
 -- one more, where this is a proposal of p
 abbrev pub proposed_more : ℕ → Event → Reply → ℕ → ℕ
@@ -64,8 +67,12 @@ pub record HasTwoLeft (limit p : ℕ) (r : List Exchange) : Type 0 where
 abbrev pub HasName : ℕ → List Exchange → Type 0
 HasName p r = (n : ℕ) × WasNamed p n r
 
+-- p has a name; or it is not spent, so that its steps go on, and has made fewer than so many after the cut
+abbrev pub IsNamedWithin : ℕ → ℕ → List Exchange → List Exchange → Type 0
+IsNamedWithin most p before more = HasName p (before ++ more) ⊎ ((WasSpent p (before ++ more) → ⊥) × (steps_of p more < most))
+
 -- cut each run in two at any point: who has two proposals left there, and alone steps after it, is named once it has made so
--- many steps after it
+-- many steps after it, or earlier
 abbrev pub NamesSoonAlone : Type 0
 NamesSoonAlone = (terms : RenameTerms) (bounds : SnapBounds) (size : ℕ) (before more : List Exchange) → IsDeskRun terms bounds size (before ++ more) →
-    (p : ℕ) → HasTwoLeft terms.limit p before → StepsAlone p more → steps_alone bounds ≤ steps_of p more → HasName p (before ++ more)
+    (p : ℕ) → HasTwoLeft terms.limit p before → StepsAlone p more → IsNamedWithin (steps_alone bounds) p before more

@@ -22,8 +22,9 @@ pub fn law_of_desk()
 
 /// A law, which runs nothing, drawn from what a run is: among its exchanges nobody was given two names, no two were given
 /// one, and each name is from 1 to 2b - 1, where b have begun. Wherever a run is cut in two, one who has begun, is neither
-/// named nor spent and has two proposals left is named once it has made `steps_alone` accepted steps after the cut, if no
-/// other has made one there: wherever the others stopped. Others may begin, and compete for the pool.
+/// named nor spent and has two proposals left is named once it has made `steps_alone` accepted steps after the cut, or
+/// earlier, and is not spent until then, if no other has made one there: wherever the others stopped. Others may begin, and
+/// compete for the pool.
 pub fn law_of_names()
     ensures one_each { InEachRun (λ r. (p n m : ℕ) → WasNamed p n r → WasNamed p m r → n ≡ m) }
     ensures small { InEachRun (λ r. (p n : ℕ) → WasNamed p n r → (1 ≤ n) × (n ≤ 2 * begun_in r - 1)) }

@@ -203,6 +203,16 @@ module _ {S R V U K : Type 0} (W : KnownPlaces S R V U K) (terms : RenameTerms) 
         | Some v ↦ λ e. (v, e, starts_at v e v.program.stage (i.stages p v e) two)
       ] refl
 
+      -- who has some left is named, or not spent
+      pub goes_alone : (n : ℕ) → LeftAlone w o t p n → (is_some (o.name p) ≡ true) ⊎ (o.spent p ≡ false)
+      goes_alone n h = by_stage h.0.program.stage (i.stages p h.0 h.1) h.2 where
+        by_stage : (stage : Stage) → IsAtStage terms o t i.object w.snap p h.0.program stage → LeftAt w o t p h.0.program stage n → (is_some (o.name p) ≡ true) ⊎ (o.spent p ≡ false)
+        by_stage Placing k left = inr k.going.left
+        by_stage (Proposing number) k left = inr k.going.left
+        by_stage Looking k left = inr k.going.left
+        by_stage Settled k left = inl (ap is_some k.1)
+        by_stage Over k left = absurd left
+
       pub ends_named : LeftAlone w o t p 0 → is_some (o.name p) ≡ true
       ends_named h = ends_at h.0 h.1 h.0.program.stage refl (i.stages p h.0 h.1) h.2
 

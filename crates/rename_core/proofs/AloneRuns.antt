@@ -1,6 +1,6 @@
 -- who steps alone is named in time, over every list of calls
 use Rattle.std.proofs.Common.{◌≡◌, ℕ, ◌+◌, ◌≤◌, true, false, ◌⊎◌, List, [], ◌∷◌, ◌++◌, inl, inr, refl, sym, ap, subst, ◌∙◌, arith}
-use Rattle.std.specs.Prelude.{is_some}
+use Rattle.std.proofs.lemmas.Bool.Decides.{eqb_tells}
 use Rattle.step_memory.specs.Calls.{Call, steps_of, steps_by}
 use Rattle.step_memory.proofs.RunLemmas.{run_more}
 use Rattle.step_memory.proofs.WorldKeeps.{steps_of-push}
@@ -9,12 +9,12 @@ use Rattle.snapshot_core.specs.SnapCalls.{SnapCall, next as snap_next, IsReply a
 use Rattle.snapshot_core.specs.Snapshot.{SnapObject, SnapBounds, observed, Allows as SnapAllows}
 use Rattle.snapshot_core.specs.SnapWorld.{SnapState}
 use Rattle.rename_core.specs.declared.reply.Reply.{Reply}
-use Rattle.rename_core.specs.Alone.{LeavesAlone, StepsAlone, HasTwoLeft, steps_alone, IsNamedAlone}
+use Rattle.rename_core.specs.Alone.{LeavesAlone, StepsAlone, HasTwoLeft, steps_alone, IsNamedWithin, IsNamedAlone}
 use Rattle.rename_core.specs.Pace.{Pace, paced}
 use Rattle.rename_core.specs.RenameCalls.{next, IsReply}
 use Rattle.rename_core.specs.RenameObject.{RenameTerms, RenameObject, new_object, Allows, after, IsRun}
 use Rattle.rename_core.specs.RenameState.{RenameState}
-use Rattle.rename_core.proofs.Alone.{Grounds, LeftAlone, starts_alone, ends_named, call_alone}
+use Rattle.rename_core.proofs.Alone.{Grounds, LeftAlone, starts_alone, goes_alone, ends_named, call_alone}
 use Rattle.rename_core.proofs.rounds.Keeping.{Goes}
 use Rattle.rename_core.proofs.rounds.Snapping.{run_ends}
 use Rattle.rename_core.proofs.rounds.Tied.{IsTied}
@@ -76,9 +76,14 @@ module _ {S R V U K : Type 0} (W : KnownPlaces S R V U K) (terms : RenameTerms) 
   ]
 
   pub alone_named : (w : RenameState S U K) (r : List (Call Reply)) (o : RenameObject) (t : Pace) → IsTied terms Tie w o t → IsRun terms r o → KeepsAlone w r o t → IsNamedAlone terms bounds r
-  alone_named w r o t i run kept before more then now p e past present two alone many =
+  alone_named w r o t i run kept before more then now p e past present two alone =
       let k = kept before more p then e past two alone in
-      let none : k.0 ≡ 0 = (let l = k.1 in omega arith) in
-      let named : is_some (o.name p) ≡ true = ends_named W terms bounds Tie tie_goes grounds w o t i p (subst (λ (n : ℕ). LeftAlone W terms bounds w o t p n) none k.2) in
+      let l = k.1 in
       let same : o ≡ now = run_ends after (Allows terms) new_object r o now run present in
-      ap (λ (x : RenameObject). is_some (x.name p)) (sym same) ∙ named
+      subst (λ (x : RenameObject). IsNamedWithin (steps_alone bounds) x p more) same (elim (goes_alone W terms bounds Tie tie_goes grounds w o t i p k.0 k.2) [
+        | inl named ↦ inl named
+        | inr unspent ↦ elim (eqb_tells k.0 0) [
+          | inl none ↦ inl (ends_named W terms bounds Tie tie_goes grounds w o t i p (subst (λ (n : ℕ). LeftAlone W terms bounds w o t p n) none.1 k.2))
+          | inr some ↦ let other = some.1 in inr (unspent, omega arith)
+        ]
+      ])

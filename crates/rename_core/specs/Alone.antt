@@ -1,5 +1,5 @@
 -- how soon a participant is named while no other steps (this project's profile)
-use Rattle.std.specs.Prelude.{◌≡◌, ℕ, ◌+◌, ◌*◌, ◌≤◌, true, false, is_some, List, [], ◌∷◌, ◌++◌, None, Ok, Err}
+use Rattle.std.specs.Prelude.{◌≡◌, ℕ, ◌+◌, ◌*◌, ◌<◌, ◌≤◌, ◌⊎◌, true, false, is_some, List, [], ◌∷◌, ◌++◌, None, Ok, Err}
 use Rattle.step_memory.specs.Calls.{Call, steps_of}
 use Rattle.step_memory.specs.Calls.Call.{Began, Stepped}
 use Rattle.snapshot_core.specs.Snapshot.{SnapBounds}
@@ -29,8 +29,12 @@ pub record HasTwoLeft (terms : RenameTerms) (o : RenameObject) (p : ℕ) : Type 
 abbrev pub steps_alone : SnapBounds → ℕ
 steps_alone bounds = bounds.placing bounds.most + 11 * bounds.collecting + 1
 
+-- p has a name; or it is not spent, so that its steps go on, and has made fewer than so many among these calls
+abbrev pub IsNamedWithin : ℕ → RenameObject → ℕ → List (Call Reply) → Type 0
+IsNamedWithin most now p more = (is_some (now.name p) ≡ true) ⊎ ((now.spent p ≡ false) × (steps_of p more < most))
+
 -- cut these calls in two at any point: who has two proposals left there, and alone steps after it, is named once it has made
--- so many steps after it
+-- so many steps after it, or earlier
 abbrev pub IsNamedAlone : RenameTerms → SnapBounds → List (Call Reply) → Type 0
 IsNamedAlone terms bounds r = (before more : List (Call Reply)) (o now : RenameObject) (p : ℕ) → before ++ more ≡ r → IsRun terms before o → IsRun terms r now →
-    HasTwoLeft terms o p → StepsAlone p more → steps_alone bounds ≤ steps_of p more → is_some (now.name p) ≡ true
+    HasTwoLeft terms o p → StepsAlone p more → IsNamedWithin (steps_alone bounds) now p more
