@@ -1,7 +1,8 @@
 -- the lines of a record, as they are written, are read as the objects of their words
-use Rattle.std.proofs.Common.{◌≡◌, ℕ, ◌<◌, ◌≤◌, ◌^◌, Bool, true, false, ◌&&◌, ◌==◌, not, List, [], ◌∷◌, ◌++◌, Option, Some, option_and_then, refl, sym, ap, ◌∙◌, arith, append_assoc, append-nil, codes, decimal, IsUtf8}
+use Rattle.std.proofs.Common.{◌≡◌, ℕ, ◌<◌, ◌≤◌, ◌^◌, Bool, true, ◌&&◌, ◌==◌, not, List, [], ◌∷◌, ◌++◌, Option, Some, option_and_then, refl, sym, ap, ◌∙◌, arith, append_assoc, append-nil, codes, decimal, IsUtf8}
 use Rattle.std.specs.List.{list_all}
 use Rattle.std.specs.Prelude.{nat_le, nat_lt}
+use Rattle.std.proofs.lemmas.Bool.{and_parts}
 use Rattle.std.proofs.lemmas.Bool.Decides.{nat_tests}
 use Rattle.json.specs.Token.{Token}
 use Rattle.json.specs.Lex.{tokens}
@@ -47,10 +48,6 @@ header_text k limit m name =
     ++ codes ",\"version\":1,\"world\":\"" ++ name ++ codes "\"}"
 
 -- plain bytes are written as they stand
-pub both_true : (a b : Bool) → (a && b) ≡ true → (a ≡ true) × (b ≡ true)
-both_true true b h = (refl, h)
-both_true false b h = absurd cc
-
 no_quote : (b : ℕ) → is_plain b ≡ true → b ≡ 34 → ⊥
 no_quote b h e = grind (arith, nat_tests)
 
@@ -63,7 +60,7 @@ no_control b h = grind (arith, nat_tests)
 pub escape_plain : (xs : List ℕ) → list_all is_plain xs ≡ true → escape xs ≡ xs
 escape_plain [] h = refl
 escape_plain (x ∷ xs) h =
-    let parts = both_true (is_plain x) (list_all is_plain xs) h in
+    let parts = and_parts (is_plain x) (list_all is_plain xs) h in
     ap (λ (l : List ℕ). l ++ escape xs) (escape_byte_plain x (no_quote x parts.0) (no_backslash x parts.0) (no_control x parts.0)) ∙ ap (λ (l : List ℕ). x ∷ l) (escape_plain xs parts.1)
 
 -- what is printed of a value is read back
@@ -107,7 +104,7 @@ ascii_byte b h = grind (arith, nat_tests)
 
 plain_ascii : (xs : List ℕ) → list_all is_plain xs ≡ true → are_ascii xs ≡ true
 plain_ascii [] h = refl
-plain_ascii (x ∷ xs) h = let parts = both_true (is_plain x) (list_all is_plain xs) h in rw (ascii_byte x parts.0) (plain_ascii xs parts.1)
+plain_ascii (x ∷ xs) h = let parts = and_parts (is_plain x) (list_all is_plain xs) h in rw (ascii_byte x parts.0) (plain_ascii xs parts.1)
 
 pub plain_utf8 : (xs : List ℕ) → list_all is_plain xs ≡ true → IsUtf8 xs
 plain_utf8 xs h = IsUtf8-are_ascii xs (plain_ascii xs h)

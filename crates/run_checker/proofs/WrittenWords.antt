@@ -2,6 +2,7 @@
 use Rattle.std.proofs.Common.{◌≡◌, ◌≢◌, ℕ, ◌^◌, ◌<◌, ◌≤◌, ◌==◌, Bool, true, false, not, List, [], ◌∷◌, ◌++◌, length, Result, Ok, codes, decimal, refl, ap, ◌∙◌, arith, append_assoc, length-append}
 use Rattle.std.specs.List.{list_all}
 use Rattle.std.specs.Prelude.{nat_lt}
+use Rattle.std.proofs.lemmas.Bool.{and_parts}
 use Rattle.std.proofs.lemmas.Bool.Decides.{nat_tests}
 use Rattle.std.proofs.lemmas.Fmt.{length-decimal-le_wide}
 use Rattle.std.proofs.lemmas.List.Folds.{list_all-append}
@@ -19,7 +20,7 @@ use Rattle.schedule_player.specs.Lines.{pieces_from, has_no_lf}
 use Rattle.schedule_player.specs.Meaning.{is_digit, is_printable, words, has_desk, command_in, meaning}
 use Rattle.run_checker.proofs.Pieces.{lacks, pieces-last, pieces-cut}
 use Rattle.run_checker.proofs.WrittenNumbers.{decimal_digits, number_in-decimal}
-use Rattle.run_checker.proofs.WrittenTexts.{is_plain, both_true}
+use Rattle.run_checker.proofs.WrittenTexts.{is_plain}
 
 -- the numbers of an event are below 2^64
 abbrev pub IsNarrowEvent : Event → Type 0
@@ -66,7 +67,7 @@ IsNarrowReply (reply.Refused why) = Unit {0}
 -- a test that follows from another
 all_by : (p q : ℕ → Bool) → ((b : ℕ) → p b ≡ true → q b ≡ true) → (xs : List ℕ) → list_all p xs ≡ true → list_all q xs ≡ true
 all_by p q by [] h = refl
-all_by p q by (x ∷ xs) h = let parts = both_true (p x) (list_all p xs) h in rw (by x parts.0) (all_by p q by xs parts.1)
+all_by p q by (x ∷ xs) h = let parts = and_parts (p x) (list_all p xs) h in rw (by x parts.0) (all_by p q by xs parts.1)
 
 both_all : (p : ℕ → Bool) (xs ys : List ℕ) → list_all p xs ≡ true → list_all p ys ≡ true → list_all p (xs ++ ys) ≡ true
 both_all p xs ys a b = list_all-append p xs ys ∙ rw (a, b) refl

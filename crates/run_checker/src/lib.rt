@@ -14,6 +14,9 @@
 //! `law_of_desk_runs`. `first_fault` judges lines that were read already, and `Checker::judge` one line after the other. `read_header`,
 //! `read_line`, `read_reply` and `next_line` read exactly what the definitions of `specs/` say.
 //!
+//! What `record` of `schedule_player` writes of an input with at most 1,000,000 events is the record of a talk to its lines, and `check`
+//! answers `Yes` to it, or `NoMemory`: `law_of_recording`, and over talks alone `law_of_recorded_talks`.
+//!
 //! `NoMemory` says nothing of the record, and no clause says when a growth is refused: that a verdict comes where memory is given is
 //! tested.
 //!
