@@ -205,6 +205,7 @@ mod tests {
     use schedule_player::Tried;
     use std::alloc::Global;
     use std::test::Fail;
+    use test_doubles::Refusing;
 
     /// The lines of so many runs.
     fn lines(
@@ -274,6 +275,32 @@ mod tests {
         }
         let all = lines(rt.alloc(), 0, 4, 200, 100, config)?;
         assert_eq!(rt; all.as_slice(), want.as_slice());
+        Ok(())
+    }
+
+    /// Each growth is refused in turn: a beginning of the lines is written.
+    #[test]
+    fn each_growth_of_drawn_runs_is_refused_in_turn(rt: HostRuntime) -> Result<(), Fail> {
+        let alloc = rt.alloc();
+        for world in [WorldKind::Rename, WorldKind::Tree] {
+            let config = Config::new(world, 4, 4, 1000)?;
+            let all = lines(alloc, 7, 4, 200, 3, config)?;
+            let mut growths = 0;
+            for growth in 1..1_000u64 {
+                let heap = Refusing::new(alloc, growth);
+                let mut writer = Tried::new(Vec::new(alloc));
+                let outcome = play_drawn(&heap, 7, 4, 200, 3, config, &mut writer);
+                let text = writer.into_inner();
+                if heap.left() > 0 {
+                    assert!(rt; outcome.is_ok() && text == all, "at {growth}");
+                    break;
+                }
+                growths = growth;
+                assert_eq!(rt; outcome.err(), Some(Fault::Memory), "at {growth}");
+                assert!(rt; all.starts_with(text.as_slice()), "at {growth}");
+            }
+            assert!(rt; growths > 1 && growths < 999, "in {world:?}");
+        }
         Ok(())
     }
 }

@@ -134,6 +134,7 @@ mod tests {
     use super::*;
     use schedule_player::Tried;
     use std::test::Fail;
+    use test_doubles::Refusing;
 
     #[test]
     fn one_identity_takes_every_step(rt: HostRuntime) -> Result<(), Fail> {
@@ -161,5 +162,17 @@ mod tests {
         assert!(rt; draw(rt.alloc(), 7, 4, 40_000, &mut writer).is_ok());
         assert_eq!(rt; writer.into_inner().len(), 4 * 8 + 40_000 * 7);
         Ok(())
+    }
+
+    /// Its one growth is refused: nothing is written.
+    #[test]
+    fn a_schedule_without_memory(rt: HostRuntime) {
+        for growth in [1, 2] {
+            let heap = Refusing::new(rt.alloc(), growth);
+            let mut writer = Tried::new(Vec::new(rt.alloc()));
+            let outcome = draw(&heap, 7, 1, 3, &mut writer);
+            assert_eq!(rt; outcome.is_ok(), growth == 2);
+            assert_eq!(rt; writer.into_inner().is_empty(), growth == 1);
+        }
     }
 }
