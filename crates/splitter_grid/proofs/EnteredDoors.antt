@@ -1,6 +1,6 @@
 -- an identity stands in X of just the doors that were entered
 use Rattle.std.proofs.lemmas.Bool.{cases_Bool}
-use Rattle.std.proofs.Common.{◌≡◌, ◌≢◌, ℕ, ◌+◌, ◌*◌, true, false, cond, ◌⊎◌, inl, inr, List, [], ◌∷◌, ◌++◌, length, Option, Some, None, Ok, Err, Result, refl, sym, ap, subst, ◌∙◌}
+use Rattle.std.proofs.Common.{◌≡◌, ◌≢◌, ℕ, ◌+◌, ◌*◌, true, false, cond, ◌⊎◌, inl, inr, List, [], length, Option, Some, None, Ok, Err, Result, refl, sym, ap, subst, ◌∙◌}
 use Rattle.std.specs.Prelude.{◌↔◌}
 use Rattle.std.proofs.lemmas.Bool.Decides.{eqb_tells}
 use Rattle.step_memory.specs.declared.participant.Participant.{Participant}
@@ -13,7 +13,7 @@ use Rattle.step_memory.specs.SetAt.{set_at}
 use Rattle.step_memory.specs.World.{begin_refusal, begun_unless, after_begin, after_step_by, step_answer_by, may_refuse_by}
 use Rattle.step_memory.specs.Calls.{Call, next, IsReply, outcome_in, reply_of, lacked_memory}
 use Rattle.step_memory.specs.Calls.Call.{Began, Stepped}
-use Rattle.step_memory.specs.Runs.{Run}
+use Rattle.step_memory.proofs.RunLemmas.{run_gathers}
 use Rattle.step_memory.proofs.WorldKeeps.{stepped}
 use Rattle.splitter.specs.declared.stage.Stage.{Stage}
 use Rattle.splitter.specs.declared.stage.Stage.TheVariants.{Outside, WroteX, SawClear, WroteY, Gone}
@@ -23,7 +23,7 @@ use Rattle.splitter_grid.specs.Door.{number_of}
 use Rattle.splitter_grid.specs.Walk.{walk_of, walker_steps, walker_note, next_access}
 use Rattle.splitter_grid.specs.Consistent.{x_in, IsConsistent}
 use Rattle.splitter_grid.specs.GridWorld.{GridState, After, fresh, empty_doors}
-use Rattle.splitter_grid.specs.Entered.{Enters, EntersFrom, WasEntered}
+use Rattle.splitter_grid.specs.Entered.{Enters, WasEntered}
 use Rattle.splitter_grid.proofs.ConsistentKept.{xs, registers_in, get_or-replicate_same}
 use Rattle.splitter_grid.proofs.GridTied.{IsTied, tied_after, walkers, after_next}
 
@@ -119,24 +119,10 @@ module _ (w : GridState) (past : List (Call (Option ℕ))) (t : IsTied w past) w
   one_call (Stepped id reply) (inl is) k = subst (λ (x : Result (Option ℕ) Refusal). NamedBy w (next_of w (Stepped id x)) (Stepped id x) k) (sym is) (step_call id k)
   one_call (Stepped id reply) (inr is) k = absurd (let yes_may : false ≡ true = sym (never_lacks id) ∙ is.1 in cc)
 
--- over a run of calls
-written_over : (w : GridState) (past r : List (Call (Option ℕ))) (end : GridState) → After w past → Run next_of IsReplyOf w r end → (k : ℕ) → (x_in end.memory k ≢ 0) ↔ (EntersFrom w r k ⊎ (x_in w.memory k ≢ 0))
-written_over w past [] end a e k =
-    let same : x_in end.memory k ≡ x_in w.memory k = ap (λ x. x_in x.memory k) e in
-    (λ some. inr (λ zero. some (same ∙ zero)), λ o. elim o [ inl never ↦ absurd (never) | inr some ↦ λ zero. some (sym same ∙ zero) ])
-written_over w past (h ∷ r) end a e k =
-    let first = one_call w past (tied_after w past a) h e.0 k in
-    let rest = written_over (next_of w h) (past ++ h ∷ []) r end (after_next w past h e.0 a) e.1 k in (
-      λ some. elim (rest.0 some) [ inl later ↦ inl (inr later) | inr written ↦ elim (first.0 written) [ inl now ↦ inl (inl now) | inr before ↦ inr before ] ],
-      λ o. elim o [
-        | inl over ↦ elim over [ inl now ↦ rest.1 (inr (first.1 (inl now))) | inr later ↦ rest.1 (inl later) ]
-        | inr before ↦ rest.1 (inr (first.1 (inr before)))
-      ],
-    )
-
 -- an identity stands in X of just the doors that were entered
 pub written_entered : (w : GridState) (r : List (Call (Option ℕ))) → After w r → (k : ℕ) → (x_in w.memory k ≢ 0) ↔ WasEntered w.most r k
 written_entered w r a k =
-    let over = written_over (fresh w.most) [] r w (a.0, refl) a.1 k in
+    let over = run_gathers next_of IsReplyOf After (λ u past h b is. after_next u past h is b) (λ u h. Enters u h k) (λ u. x_in u.memory k ≢ 0)
+    (λ u past h b is. one_call u past (tied_after u past b) h is k) (fresh w.most) [] r w (a.0, refl) a.1 in
     let unwritten : x_in (empty_doors w.most) k ≡ 0 = get_or-replicate_same (w.most * (w.most + 1)) (2 * k) 0 in
     (λ some. elim (over.0 some) [ inl yes_entered ↦ yes_entered | inr written ↦ absurd (written unwritten) ], λ yes_entered. over.1 (inl yes_entered))

@@ -1,8 +1,9 @@
 -- which doors were entered over a list of calls. Moves are quiet, so the calls and replies alone do not tell: one goes
 -- along them with the worlds between
-use Rattle.std.specs.Prelude.{◌≡◌, ◌≢◌, ◌↔◌, ℕ, ◌⊎◌, List, [], ◌∷◌, Option, Some, Ok, Err}
+use Rattle.std.specs.Prelude.{◌≡◌, ◌≢◌, ◌↔◌, ℕ, List, Option, Some, Ok, Err}
 use Rattle.step_memory.specs.Participant.{program_of}
 use Rattle.step_memory.specs.Registers.{memory_steps}
+use Rattle.step_memory.specs.Runs.{HappensFrom}
 use Rattle.step_memory.specs.Calls.{Call, next, outcome_in}
 use Rattle.step_memory.specs.Calls.Call.{Began, Stepped}
 use Rattle.splitter_grid.specs.declared.walker.Walker.{Walker}
@@ -19,8 +20,7 @@ Enters w (Stepped id (Ok outcome)) k = (u : Walker) × (program_of id w.particip
 
 -- one of these calls, made one after another from this world on, enters door k
 abbrev pub EntersFrom : GridState → List (Call (Option ℕ)) → ℕ → Type 0
-EntersFrom w [] k = ⊥
-EntersFrom w (h ∷ r) k = Enters w h k ⊎ EntersFrom (next walker_steps memory_steps outcome_in walk_of w h) r k
+EntersFrom w r k = HappensFrom (next walker_steps memory_steps outcome_in walk_of) (λ u h. Enters u h k) w r
 
 -- door k of a fresh grid was entered over these calls
 abbrev pub WasEntered : ℕ → List (Call (Option ℕ)) → ℕ → Type 0

@@ -1,6 +1,7 @@
 -- which nodes were made over a list of calls. Moves are quiet, so the calls and replies alone do not tell: one goes along
 -- them with the worlds between
-use Rattle.std.specs.Prelude.{◌≡◌, ℕ, true, ◌⊎◌, List, [], ◌∷◌, Some, Ok, Err}
+use Rattle.std.specs.Prelude.{◌≡◌, ℕ, true, List, [], Some, Ok, Err}
+use Rattle.step_memory.specs.Runs.{HappensFrom}
 use Rattle.step_memory.specs.Steps.{MemorySteps}
 use Rattle.splitter_tree.specs.declared.register.TreeRegister.{TreeRegister}
 use Rattle.splitter_tree.specs.declared.register.TreeValue.{TreeValue}
@@ -22,8 +23,7 @@ module _ {S : Type 0} (memory : MemorySteps S TreeRegister TreeValue) where
 
   -- one of these calls, made one after another from this world on, marks node k
   abbrev pub MarksFrom : TreeState S → List TreeCall → ℕ → Type 0
-  MarksFrom w [] k = ⊥
-  MarksFrom w (h ∷ r) k = Marks w h k ⊎ MarksFrom (next memory w h) r k
+  MarksFrom w r k = HappensFrom (next memory) (λ u h. Marks u h k) w r
 
   -- node k was made over these calls to a world of at most so many participants over this memory
   abbrev pub WasMade : S → ℕ → List TreeCall → ℕ → Type 0

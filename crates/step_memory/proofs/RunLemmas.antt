@@ -1,7 +1,7 @@
 -- runs, one call after another
-use Rattle.std.proofs.Common.{◌≡◌, List, [], ◌∷◌, ◌++◌, refl, sym, ap, subst, ◌∙◌, append_assoc}
+use Rattle.std.proofs.Common.{◌≡◌, ◌↔◌, ◌⊎◌, inl, inr, List, [], ◌∷◌, ◌++◌, refl, sym, ap, subst, ◌∙◌, append_assoc}
 use Rattle.std.proofs.lemmas.List.{append-nil}
-use Rattle.step_memory.specs.Runs.{Run}
+use Rattle.step_memory.specs.Runs.{Run, HappensFrom}
 use Rattle.step_memory.specs.Replay.{replay_from}
 
 module _ {S H : Type 0} (next : S → H → S) (Right : S → H → Type 0) where
@@ -16,6 +16,22 @@ module _ {S H : Type 0} (next : S → H → S) (Right : S → H → Type 0) wher
   run_keeps Inv keeps s past (h ∷ r) end i e =
       subst (λ (xs : List H). Inv end xs) (append_assoc past (h ∷ []) r)
       (run_keeps Inv keeps (next s h) (past ++ h ∷ []) r end (keeps s past h i e.0) e.1)
+
+  -- what holds after every run held before it, or one of its calls did it
+  pub run_gathers : (Inv : S → List H → Type 0) → ((s : S) (past : List H) (h : H) → Inv s past → Right s h → Inv (next s h) (past ++ h ∷ [])) →
+      (Does : S → H → Type 0) (Holds : S → Type 0) → ((s : S) (past : List H) (h : H) → Inv s past → Right s h → (Holds (next s h)) ↔ (Does s h ⊎ Holds s)) →
+      (s : S) (past r : List H) (end : S) → Inv s past → Run next Right s r end → (Holds end) ↔ (HappensFrom next Does s r ⊎ Holds s)
+  run_gathers Inv keeps Does Holds one s past [] end i e =
+      (λ some. inr (subst Holds e some), λ o. elim o [ inl never ↦ absurd (never) | inr some ↦ subst Holds (sym e) some ])
+  run_gathers Inv keeps Does Holds one s past (h ∷ r) end i e =
+      let first = one s past h i e.0 in
+      let rest = run_gathers Inv keeps Does Holds one (next s h) (past ++ h ∷ []) r end (keeps s past h i e.0) e.1 in (
+        λ some. elim (rest.0 some) [ inl later ↦ inl (inr later) | inr held ↦ elim (first.0 held) [ inl now ↦ inl (inl now) | inr before ↦ inr before ] ],
+        λ o. elim o [
+          | inl over ↦ elim over [ inl now ↦ rest.1 (inr (first.1 (inl now))) | inr later ↦ rest.1 (inl later) ]
+          | inr before ↦ rest.1 (inr (first.1 (inr before)))
+        ],
+      )
 
   -- a run over two lists, one after the other, is a run over each
   pub run_splits : (s : S) (r t : List H) (end : S) → Run next Right s (r ++ t) end → (mid : S) × Run next Right s r mid × Run next Right mid t end

@@ -1,10 +1,10 @@
 -- just the nodes are marked that were made
-use Rattle.std.proofs.Common.{◌≡◌, ℕ, ◌≤◌, true, false, cond, ◌⊎◌, inl, inr, List, [], ◌∷◌, ◌++◌, length, Option, Some, None, Ok, Err, Result, refl, sym, ap, subst, ◌∙◌}
+use Rattle.std.proofs.Common.{◌≡◌, ℕ, ◌≤◌, true, false, cond, ◌⊎◌, inl, inr, List, [], length, Option, Some, None, Ok, Err, Result, refl, sym, ap, subst, ◌∙◌}
 use Rattle.std.specs.Prelude.{◌↔◌}
 use Rattle.step_memory.specs.declared.access.Access.{Access}
 use Rattle.step_memory.specs.declared.refusal.Refusal.{Refusal}
 use Rattle.step_memory.specs.declared.refusal.Refusal.TheVariants.{NoMemory}
-use Rattle.step_memory.specs.Runs.{Run}
+use Rattle.step_memory.proofs.RunLemmas.{run_gathers}
 use Rattle.step_memory.specs.Steps.{MemorySteps}
 use Rattle.step_memory.specs.World.{begin_refusal, begun_unless}
 use Rattle.step_memory.specs.Calls.{lacked_memory, begun_in}
@@ -20,7 +20,7 @@ use Rattle.splitter_tree.specs.TreeCalls.{TreeCall, next, IsReply, IsAfter}
 use Rattle.splitter_tree.specs.TreeCalls.TreeCall.{Began, Stepped, Stored, CollectBegan, CollectStepped}
 use Rattle.splitter_tree.specs.Depth.{IsNodeWithin}
 use Rattle.splitter_tree.specs.PlacesLaw.{way_calls, walkers}
-use Rattle.splitter_tree.specs.Made.{Marks, MarksFrom, WasMade}
+use Rattle.splitter_tree.specs.Made.{Marks, WasMade}
 use Rattle.splitter_tree.proofs.nodes.ConsistentKept.{marks}
 use Rattle.splitter_tree.proofs.CallCases.{step_cases, store_cases, collect_begin_cases, collect_step_cases}
 use Rattle.splitter_tree.proofs.nodes.PlacesTied.{IsTied, all_go, call_kept, tied_new, tied_after, tree_of_tied, words_spared, write_spares, reads_only, placing_access}
@@ -88,24 +88,10 @@ module _ {S : Type 0} (memory : MemorySteps S TreeRegister TreeValue) (tree : Is
               ap (λ (y : TreeState S). mark_at memory y.memory) x.after ∙ (words_spared memory tree w.memory (client_access x.who.program) (λ j. spares (Mark j)) (λ j. spares (X j)) (λ j. spares (Y j))).0
         ]) (λ never. never)
 
-  -- over a run of calls
-  marks_over : (w : TreeState S) (past r : List TreeCall) (end : TreeState S) → IsTied memory tree w past → Run (next memory) (IsReply memory) w r end → (k : ℕ) → (mark_at memory end.memory k ≡ 1) ↔ (MarksFrom memory w r k ⊎ (mark_at memory w.memory k ≡ 1))
-  marks_over w past [] end t e k =
-      let same : mark_at memory end.memory k ≡ mark_at memory w.memory k = ap (λ (x : TreeState S). mark_at memory x.memory k) e in
-      (λ some. inr (sym same ∙ some), λ o. elim o [ inl never ↦ absurd (never) | inr some ↦ same ∙ some ])
-  marks_over w past (h ∷ r) end t e k =
-      let first = one_call w past t h e.0 k in
-      let rest = marks_over (next memory w h) (past ++ h ∷ []) r end (call_kept memory tree w past h t e.0) e.1 k in (
-        λ some. elim (rest.0 some) [ inl later ↦ inl (inr later) | inr stood ↦ elim (first.0 stood) [ inl now ↦ inl (inl now) | inr before ↦ inr before ] ],
-        λ o. elim o [
-          | inl over ↦ elim over [ inl now ↦ rest.1 (inr (first.1 (inl now))) | inr later ↦ rest.1 (inl later) ]
-          | inr before ↦ rest.1 (inr (first.1 (inr before)))
-        ],
-      )
-
   pub marked_made : (first : S) (w : TreeState S) (r : List TreeCall) → IsEmptyTree memory first → w.most ≤ 64 → IsAfter memory first w r → (k : ℕ) → (mark_at memory w.memory k ≡ 1) ↔ WasMade memory first w.most r k
   marked_made first w r empty few a k =
-      let over = marks_over (record { memory = first; most = w.most; participants = [] }) [] r w (tied_new memory tree first w.most empty few) a k in
+      let over = run_gathers (next memory) (IsReply memory) (IsTied memory tree) (call_kept memory tree) (λ u h. Marks memory u h k) (λ u. mark_at memory u.memory k ≡ 1)
+      (λ u past h t is. one_call u past t h is k) (record { memory = first; most = w.most; participants = [] }) [] r w (tied_new memory tree first w.most empty few) a in
       (λ some. elim (over.0 some) [ inl was ↦ was | inr stood ↦ absurd (let none = empty.unmarked k in let both : 0 ≡ 1 = sym none ∙ stood in cc) ], λ was. over.1 (inl was))
 
   -- of these, all lie at depths below the number of those who have begun
