@@ -67,4 +67,6 @@ pub use verdict::Verdict;
 #[cfg(test)]
 mod record_tests;
 #[cfg(test)]
+mod recording_tests;
+#[cfg(test)]
 mod tests;

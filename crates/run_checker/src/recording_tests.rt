@@ -1,0 +1,36 @@
+//! A run whose record is written and checked.
+
+ghost use Rattle.std.specs.Prelude.{◌≡◌, ◌≤◌, ◌⊎◌, true, IfOk};
+ghost use Rattle.desk.specs.Desk.{gives_names};
+ghost use Rattle.run_checker.specs.Recorded.{events_in};
+
+use crate::{Verdict, check, law_of_recording};
+use rename_core::{Config, WorldKind};
+use schedule_player::{Fault, Tried, record};
+use std::alloc::Global;
+use std::test::Fail;
+
+/// The verdict on the record of the run of an input: `Yes` where it asks for at most a million events and memory is given.
+fn checked_record(alloc: Global, config: Config, input: &[u8]) -> Result<Verdict, Fault>
+    requires { gives_names config.world ≡ true }
+    ensures { events_in config.world input.now ≤ 1000000 → IfOk result (λ v. (v ≡ Verdict.Yes) ⊎ (v ≡ Verdict.NoMemory)) }
+{
+    law_of_recording::<Tried<&[u8]>, Tried<Vec<u8>>>();
+    let mut reader = Tried::new(input);
+    let mut writer = Tried::new(Vec::new(alloc));
+    record(alloc, &mut reader, &mut writer, config)?;
+    let bytes = writer.into_inner();
+    Ok(check(alloc, &bytes))
+}
+
+#[test]
+fn a_recorded_run_is_checked_yes(rt: HostRuntime) -> Result<(), Fail> {
+    let input =
+        b"begin 1\nbegin 20\nstep 1\nstep 3\nenter 20\nprobe 20\nput 20 5\nget 20\nowner 1\nno\nleave 20\nquit\nstep 1\n";
+    for world in [WorldKind::Rename, WorldKind::Tree] {
+        let config = Config::new(world, 2, 4, 1000).expect(&rt, "a config");
+        let verdict = checked_record(rt.alloc(), config, input).expect(&rt, "a record");
+        assert_eq!(rt; verdict, Verdict::Yes);
+    }
+    Ok(())
+}
