@@ -14,6 +14,7 @@ mod failure;
 mod misuse;
 mod outcome;
 mod program;
+mod progress;
 mod serving;
 #[cfg(test)]
 mod tests;
@@ -24,11 +25,12 @@ use failure::Failure;
 use misuse::Misuse;
 use outcome::Outcome;
 use schedule_player::Tried;
-use std::env;
-use std::io::ErrorKind;
+use std::alloc::Global;
+use std::io::{ErrorKind, IsTerminal};
 use std::marker::Brand;
 use std::process::ExitCode;
 use std::sync::ledger::Blank;
+use std::{env, thread};
 
 // The words of the command line.
 fn command_words(rt: &HostRuntime) -> Result<Vec<String>, Misuse> {
@@ -40,21 +42,22 @@ fn command_words(rt: &HostRuntime) -> Result<Vec<String>, Misuse> {
     }
 }
 
+// What the words ask for, over the standard streams.
+fn by_words(rt: &HostRuntime, alloc: Global, words: &[String]) -> Outcome {
+    let mut input = Tried::new(rt.stdin());
+    let mut output = Tried::new(rt.stdout());
+    program::program(alloc, words, &mut input, &mut output, &mut rt.stderr())
+}
+
 fn main(rt: HostRuntime) -> ExitCode {
     let alloc = rt.alloc();
     let mut output = Tried::new(rt.stdout());
     let mut errors = rt.stderr();
     let outcome = match command_words(&rt) {
-        Ok(words) => {
-            let mut input = Tried::new(rt.stdin());
-            program::program(
-                alloc,
-                words.as_slice(),
-                &mut input,
-                &mut output,
-                &mut errors,
-            )
+        Ok(words) if errors.is_terminal() && progress::may_take_long(&words) => {
+            progress::in_sight(&rt, rt.stderr(), || by_words(&rt, alloc, &words))
         }
+        Ok(words) => by_words(&rt, alloc, &words),
         Err(misuse) => Outcome::Ended(program::report(
             Failure::Misuse(misuse),
             &mut output,

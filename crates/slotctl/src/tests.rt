@@ -3,13 +3,18 @@ use crate::failure::Failure;
 use crate::misuse::Misuse;
 use crate::outcome::Outcome;
 use crate::program::program;
+use crate::progress::{may_take_long, tell_until};
 use crate::words::ask;
 use crate::working::work;
-use schedule_player::{Fault, Tried, WorldKind};
+use run_checker::{Verdict, check};
+use schedule_player::{Config, Fault, Tried, WorldKind, record};
 use std::alloc::Global;
 use std::io;
-use std::io::{Read, Write};
+use std::io::Read;
+use std::sync::atomic::{AtomicBool, AtomicU64, Ordering};
 use std::test::Fail;
+use std::time::{Clock, Duration};
+use test_doubles::{Cup, Drip, Refusing};
 
 // The world and the numbers of the config that the words ask to play.
 fn chosen(alloc: Global, words: &[&str]) -> Result<Option<(WorldKind, u64, u64, u64)>, Misuse> {
@@ -33,60 +38,46 @@ fn drawing(
     }
 }
 
+// The words of a line.
+fn words_of(alloc: Global, line: &str) -> Result<Vec<&str>, Fail> {
+    Ok(line.split(' ').collect(alloc)?)
+}
+
+const NO_DRAWINGS: [&str; 12] = [
+    "slotctl draw --ids 0 --seed 1 --steps 1",
+    "slotctl draw --ids 17 --seed 1 --steps 1",
+    "slotctl draw --ids 1 --seed 1 --steps 1000001",
+    "slotctl draw --ids 1 --seed 18446744073709551616 --steps 1",
+    "slotctl draw --ids 1 --seed 1 --steps 1 --runs 1001",
+    "slotctl draw --ids 1 --seed 1 --steps 1 --world grid",
+    "slotctl draw --ids 1 --seed 1 --steps 1 --world splitter",
+    "slotctl draw --ids 1 --seed 1 --steps 1 --m 17",
+    "slotctl draw --ids 1 --seed 1 --steps 1 --k 4",
+    "slotctl draw --ids 1 --seed 1",
+    "slotctl draw --ids 1 --steps 1",
+    "slotctl draw --seed 1 --steps 1",
+];
+
 #[test]
 fn drawings_are_read(rt: HostRuntime) -> Result<(), Fail> {
     let alloc = rt.alloc();
-    let words = [
-        "slotctl", "draw", "--seed", "7", "--ids", "1", "--steps", "3",
-    ];
-    assert_eq!(rt;
-        drawing(alloc, words.as_slice())?,
-        Some((7, 1, 3, 0, WorldKind::Rename))
-    );
-    let words = [
-        "slotctl",
-        "draw",
-        "--world",
-        "tree",
-        "--runs",
-        "1000",
-        "--steps",
-        "1000000",
-        "--ids",
-        "16",
-        "--seed",
-        "18446744073709551615",
-    ];
-    assert_eq!(rt;
-        drawing(alloc, words.as_slice())?,
-        Some((u64::MAX, 16, 1_000_000, 1_000, WorldKind::Tree))
-    );
-    for (option, value) in [
-        ("--ids", "0"),
-        ("--ids", "17"),
-        ("--steps", "1000001"),
-        ("--runs", "1001"),
-        ("--seed", "18446744073709551616"),
-        ("--world", "grid"),
-        ("--world", "splitter"),
-        ("--m", "17"),
-        ("--k", "4"),
+    for (line, want) in [
+        (
+            "slotctl draw --seed 7 --ids 1 --steps 3",
+            (7, 1, 3, 0, WorldKind::Rename),
+        ),
+        (
+            "slotctl draw --world tree --runs 1000 --steps 1000000 --ids 16 --seed 18446744073709551615",
+            (u64::MAX, 16, 1_000_000, 1_000, WorldKind::Tree),
+        ),
     ] {
-        let mut words = [
-            "slotctl", "draw", option, value, "--seed", "1", "--ids", "1", "--steps", "1",
-        ];
-        for at in [4, 6, 8] {
-            if words[at] == option {
-                words[at + 1] = value;
-                words[2] = "--m";
-                words[3] = "4";
-            }
-        }
-        assert!(rt; is_refused(alloc, words.as_slice()), "at {words:?}");
+        let words = words_of(alloc, line)?;
+        assert_eq!(rt; drawing(alloc, words.as_slice())?, Some(want), "{line}");
     }
-    assert!(rt; is_refused(alloc, &["slotctl", "draw", "--seed", "1", "--ids", "1"]));
-    assert!(rt; is_refused(alloc, &["slotctl", "draw", "--steps", "1", "--ids", "1"]));
-    assert!(rt; is_refused(alloc, &["slotctl", "draw", "--steps", "1", "--seed", "1"]));
+    for line in NO_DRAWINGS {
+        let words = words_of(alloc, line)?;
+        assert!(rt; is_refused(alloc, words.as_slice()), "{line}");
+    }
     Ok(())
 }
 
@@ -145,7 +136,7 @@ fn serving_is_left(rt: HostRuntime) {
         rt.alloc(),
         &["slotctl", "serve", "--m", "1"],
         b"begin 7\n".as_slice(),
-        1000,
+        taking_all(rt.alloc()),
     );
     assert_eq!(rt; status, 100);
     assert!(rt; written.is_empty() && errors.is_empty());
@@ -177,45 +168,40 @@ fn schedules_are_drawn(rt: HostRuntime) -> Result<(), Fail> {
 
 #[test]
 fn options_are_read(rt: HostRuntime) -> Result<(), Fail> {
-    let rows: [(&[&str], (WorldKind, u64, u64, u64)); 9] = [
-        (&["slotctl", "play"], (WorldKind::Rename, 4, 4, 1000)),
+    for (line, want) in [
+        ("slotctl play", (WorldKind::Rename, 4, 4, 1000)),
         (
-            &["slotctl", "play", "--world", "splitter"],
+            "slotctl play --world splitter",
             (WorldKind::Splitter, 4, 4, 1000),
         ),
         (
-            &["slotctl", "play", "--world=grid", "--m=2"],
+            "slotctl play --world=grid --m=2",
             (WorldKind::Grid, 2, 4, 1000),
         ),
         (
-            &["slotctl", "play", "--world", "rename", "--k", "1"],
+            "slotctl play --world rename --k 1",
             (WorldKind::Rename, 4, 1, 1000),
         ),
         (
-            &["slotctl", "play", "--limit", "1", "--world", "tree"],
+            "slotctl play --limit 1 --world tree",
             (WorldKind::Tree, 4, 4, 1),
         ),
         (
-            &[
-                "slotctl", "play", "--m", "16", "--k", "64", "--limit", "1000000",
-            ],
+            "slotctl play --m 16 --k 64 --limit 1000000",
             (WorldKind::Rename, 16, 64, 1_000_000),
         ),
         (
-            &["slotctl", "play", "--m", "1", "--k", "2", "--limit", "3"],
+            "slotctl play --m 1 --k 2 --limit 3",
             (WorldKind::Rename, 1, 2, 3),
         ),
         (
-            &["slotctl", "play", "--m", "+4", "--k", "04"],
+            "slotctl play --m +4 --k 04",
             (WorldKind::Rename, 4, 4, 1000),
         ),
-        (
-            &["slotctl", "play", "--limit", "007"],
-            (WorldKind::Rename, 4, 4, 7),
-        ),
-    ];
-    for (words, want) in rows {
-        assert_eq!(rt; chosen(rt.alloc(), words)?, Some(want), "at {words:?}");
+        ("slotctl play --limit 007", (WorldKind::Rename, 4, 4, 7)),
+    ] {
+        let words = words_of(rt.alloc(), line)?;
+        assert_eq!(rt; chosen(rt.alloc(), words.as_slice())?, Some(want), "{line}");
     }
     Ok(())
 }
@@ -355,52 +341,53 @@ fn done(
     Ok((outcome, writer.into_inner()))
 }
 
+// Words, an input and what is written for it.
+const PLAYED: [(&str, &[u8], &[u8]); 8] = [
+    (
+        "slotctl play --record --m 2",
+        b"begin 10\nbegin 10\nbad\nowner 1\nstep 10",
+        b"{\"format\":\"slot-record\",\"k\":4,\"limit\":1000,\"m\":2,\"version\":1,\"world\":\"rename\"}\n{\"command\":\"begin 10\",\"reply\":\"ok\"}\n{\"command\":\"begin 10\",\"reply\":\"refused 2\"}\n{\"command\":\"step 10\",\"reply\":\"quiet\"}\n",
+    ),
+    ("slotctl play --world splitter --m 2", b"", b""),
+    (
+        "slotctl play --world splitter --m 2",
+        b"begin 10\nbegin 20\nstep 10\nstep 20\nstep 10\nstep 20\nstep 10\nstep 20\nstep 10\nstep 20\n",
+        b"ok\nok\nquiet\nquiet\nquiet\nquiet\nquiet\nquiet\ndown\nstop\n",
+    ),
+    (
+        "slotctl play --world splitter --m 2",
+        b"enter 5\nstep 9\nbegin 0\nbegin 9\nquit\nbegin 8\n",
+        b"bad 3\nrefused 4\nrefused 1\nok\nok\n",
+    ),
+    (
+        "slotctl play --world splitter --m 2",
+        b"begin 7\nquit\nbegin 8",
+        b"ok\nok\n",
+    ),
+    (
+        "slotctl play --m 1 --k 1",
+        b"enter 5\nprobe 5\nput 5 9\nenter 6\nbegin 7\nstep 7\nowner 1\nowner 2\nget 5",
+        b"ok\ngot 1\nok\nrefused 7\nok\nquiet\nowner none\nrefused 14\nvalue 9\n",
+    ),
+    (
+        "slotctl play --m 1 --k 1",
+        b"begin 7\nstep 7\nstep 7\nstep 7\nstep 7\nstep 7\nstep 7\nstep 7\nstep 7\nstep 7\nowner 1\n",
+        b"ok\nquiet\nquiet\nquiet\nplace 0\nquiet\nquiet\nproposed 1\nquiet\nnamed 1\nowner 7\n",
+    ),
+    (
+        "slotctl play --world tree --m 1 --limit 1",
+        b"begin 7\nstep 7\nstep 7\nstep 7\nstep 7\nstep 7\nstep 8\n",
+        b"ok\nquiet\nquiet\nquiet\nquiet\nplace 1\nrefused 4\n",
+    ),
+];
+
 #[test]
 fn commands_are_played(rt: HostRuntime) -> Result<(), Fail> {
-    let splitter = ["slotctl", "play", "--world", "splitter", "--m", "2"];
-    let rename = ["slotctl", "play", "--m", "1", "--k", "1"];
-    let tree = [
-        "slotctl", "play", "--world", "tree", "--m", "1", "--limit", "1",
-    ];
-    let recorded = ["slotctl", "play", "--record", "--m", "2"];
-    let rows: [(&[&str], &[u8], &[u8]); 8] = [
-        (
-            &recorded,
-            b"begin 10\nbegin 10\nbad\nowner 1\nstep 10",
-            b"{\"format\":\"slot-record\",\"k\":4,\"limit\":1000,\"m\":2,\"version\":1,\"world\":\"rename\"}\n{\"command\":\"begin 10\",\"reply\":\"ok\"}\n{\"command\":\"begin 10\",\"reply\":\"refused 2\"}\n{\"command\":\"step 10\",\"reply\":\"quiet\"}\n",
-        ),
-        (&splitter, b"", b""),
-        (
-            &splitter,
-            b"begin 10\nbegin 20\nstep 10\nstep 20\nstep 10\nstep 20\nstep 10\nstep 20\nstep 10\nstep 20\n",
-            b"ok\nok\nquiet\nquiet\nquiet\nquiet\nquiet\nquiet\ndown\nstop\n",
-        ),
-        (
-            &splitter,
-            b"enter 5\nstep 9\nbegin 0\nbegin 9\nquit\nbegin 8\n",
-            b"bad 3\nrefused 4\nrefused 1\nok\nok\n",
-        ),
-        (&splitter, b"begin 7\nquit\nbegin 8", b"ok\nok\n"),
-        (
-            &rename,
-            b"enter 5\nprobe 5\nput 5 9\nenter 6\nbegin 7\nstep 7\nowner 1\nowner 2\nget 5",
-            b"ok\ngot 1\nok\nrefused 7\nok\nquiet\nowner none\nrefused 14\nvalue 9\n",
-        ),
-        (
-            &rename,
-            b"begin 7\nstep 7\nstep 7\nstep 7\nstep 7\nstep 7\nstep 7\nstep 7\nstep 7\nstep 7\nowner 1\n",
-            b"ok\nquiet\nquiet\nquiet\nplace 0\nquiet\nquiet\nproposed 1\nquiet\nnamed 1\nowner 7\n",
-        ),
-        (
-            &tree,
-            b"begin 7\nstep 7\nstep 7\nstep 7\nstep 7\nstep 7\nstep 8\n",
-            b"ok\nquiet\nquiet\nquiet\nquiet\nplace 1\nrefused 4\n",
-        ),
-    ];
-    for (words, input, text) in rows {
-        let (outcome, written) = done(rt.alloc(), words, input)?;
-        assert!(rt; matches!(outcome, Ok(0)));
-        assert_eq!(rt; written.as_slice(), text);
+    for (line, input, text) in PLAYED {
+        let words = words_of(rt.alloc(), line)?;
+        let (outcome, written) = done(rt.alloc(), words.as_slice(), input)?;
+        assert!(rt; matches!(outcome, Ok(0)), "{line}");
+        assert_eq!(rt; written.as_slice(), text, "{line}");
     }
     Ok(())
 }
@@ -461,21 +448,30 @@ fn a_record_of_play_is_checked(rt: HostRuntime) -> Result<(), Fail> {
     Ok(())
 }
 
-// Gives one byte a read, and fails after the last.
-#[derive(Drop)]
-struct Broken {
-    bytes: &'static [u8],
-}
-
-impl Read for Broken {
-    fn read(&mut self, buf: &mut [u8]) -> io::Result<usize> {
-        if self.bytes.is_empty() || buf.is_empty() {
-            return Err(io::ErrorKind::Other.into());
+// Over a tree the record of a run in which a growth was refused, whichever, is one of a run.
+#[test]
+fn a_record_of_a_run_with_a_refused_growth_is_checked(rt: HostRuntime) -> Result<(), Fail> {
+    let alloc = rt.alloc();
+    let config = Config::new(WorldKind::Tree, 2, 4, 1000)?;
+    let input =
+        b"begin 10\nbegin 20\nstep 10\nstep 10\nstep 20\nstep 20\nstep 20\nstep 20\nstep 20\nstep 10\n";
+    let mut checked = 0u64;
+    for growth in 1..1_000 {
+        let heap = Refusing::new(alloc, growth);
+        let mut reader = Tried::new(input.as_slice());
+        let mut writer = Tried::new(Vec::new(alloc));
+        let outcome = record(&heap, &mut reader, &mut writer, config);
+        if heap.left() > 0 {
+            break;
         }
-        buf[0] = self.bytes[0];
-        self.bytes = &self.bytes[1..];
-        Ok(1)
+        if outcome.is_ok() {
+            let verdict = check(alloc, writer.into_inner().as_slice());
+            assert!(rt; verdict == Verdict::Yes, "at {growth}: {verdict:?}");
+            checked = checked.saturating_add(1);
+        }
     }
+    assert!(rt; checked > 1);
+    Ok(())
 }
 
 #[test]
@@ -485,36 +481,12 @@ fn a_read_fault_ends_the_run(rt: HostRuntime) -> Result<(), Fail> {
     if let Ask::Serve(_) = asked {
         panic!(rt; "to serve is asked for");
     }
-    let mut reader = Tried::new(Broken {
-        bytes: b"begin 7\nstep 7\nstep 7",
-    });
+    let mut reader = Tried::new(Drip::new(b"begin 7\nstep 7\nstep 7", 1, 22));
     let mut writer = Tried::new(Vec::new(alloc));
     let outcome = work(alloc, asked, &mut reader, &mut writer);
     assert!(rt; matches!(outcome, Err(Fault::Read)));
     assert_eq!(rt; writer.into_inner().as_slice(), b"ok\nquiet\n".as_slice());
     Ok(())
-}
-
-// Takes so many bytes, and then fails.
-#[derive(Drop)]
-struct Full {
-    taken: Vec<u8>,
-    most: usize,
-}
-
-impl Write for Full {
-    fn write(&mut self, buf: &[u8]) -> io::Result<usize> {
-        let count = buf.len().min(self.most.saturating_sub(self.taken.len()));
-        if count == 0 {
-            return Err(io::ErrorKind::Other.into());
-        }
-        self.taken.extend_from_slice(&buf[..count])?;
-        Ok(count)
-    }
-
-    fn flush(&mut self) -> io::Result<()> {
-        Ok(())
-    }
 }
 
 #[test]
@@ -528,10 +500,7 @@ fn a_write_fault_ends_the_run(rt: HostRuntime) -> Result<(), Fail> {
         panic!(rt; "to serve is asked for");
     }
     let mut reader = Tried::new(b"begin 7\nstep 7\n".as_slice());
-    let mut writer = Tried::new(Full {
-        taken: Vec::new(alloc),
-        most: 7,
-    });
+    let mut writer = Tried::new(Cup::new(alloc, 7, 2, false));
     let outcome = work(alloc, asked, &mut reader, &mut writer);
     assert!(rt; matches!(outcome, Err(Fault::Write)));
     assert_eq!(rt;
@@ -558,18 +527,20 @@ const NO_NUMBER: &[u8] =
 
 const NO_WORLD: &[u8] = b"error: no such world, or a number out of its range\n";
 
+// A writer that takes all that it is given.
+fn taking_all(alloc: Global) -> Cup {
+    Cup::new(alloc, 100_000, 0, false)
+}
+
 // The status of the program with these words, what it wrote, and what it told on the standard error.
 fn run_of<R: Read + Drop>(
     alloc: Global,
     words: &[&str],
     input: R,
-    most: usize,
+    output: Cup,
 ) -> (u8, Vec<u8>, Vec<u8>) {
     let mut reader = Tried::new(input);
-    let mut writer = Tried::new(Full {
-        taken: Vec::new(alloc),
-        most,
-    });
+    let mut writer = Tried::new(output);
     let mut errors = Vec::new(alloc);
     let outcome = program(alloc, words, &mut reader, &mut writer, &mut errors);
     let status = match outcome {
@@ -605,7 +576,12 @@ fn statuses_and_texts_are_those_of_the_protocol(rt: HostRuntime) {
         ),
     ];
     for (words, status, text, told) in rows {
-        let (ended, written, errors) = run_of(alloc, words, b"begin 7\nstep 7".as_slice(), 1000);
+        let (ended, written, errors) = run_of(
+            alloc,
+            words,
+            b"begin 7\nstep 7".as_slice(),
+            taking_all(alloc),
+        );
         assert_eq!(rt; ended, status, "at {words:?}");
         assert_eq!(rt; written.as_slice(), text, "at {words:?}");
         assert_eq!(rt; errors.as_slice(), told, "at {words:?}");
@@ -617,16 +593,76 @@ fn faults_have_status_3_and_a_text(rt: HostRuntime) {
     let alloc = rt.alloc();
     let words = ["slotctl", "play", "--world", "splitter"];
     let input = b"begin 7\nstep 7\nstep 7";
-    let (status, written, errors) = run_of(alloc, words.as_slice(), Broken { bytes: input }, 1000);
+    let (status, written, errors) = run_of(
+        alloc,
+        words.as_slice(),
+        Drip::new(input, 1, 22),
+        taking_all(alloc),
+    );
     assert_eq!(rt; status, 3);
     assert_eq!(rt; written.as_slice(), b"ok\nquiet\n".as_slice());
     assert_eq!(rt; errors.as_slice(), b"slotctl: read fault\n".as_slice());
-    let (status, written, errors) = run_of(alloc, words.as_slice(), input.as_slice(), 7);
+    let (status, written, errors) = run_of(
+        alloc,
+        words.as_slice(),
+        input.as_slice(),
+        Cup::new(alloc, 7, 2, false),
+    );
     assert_eq!(rt; status, 3);
     assert_eq!(rt; written.as_slice(), b"ok\nquie".as_slice());
     assert_eq!(rt; errors.as_slice(), b"slotctl: write fault\n".as_slice());
-    let (status, written, errors) = run_of(alloc, &["slotctl", "--help"], input.as_slice(), 7);
+    let (status, written, errors) = run_of(
+        alloc,
+        &["slotctl", "--help"],
+        input.as_slice(),
+        Cup::new(alloc, 7, 2, false),
+    );
     assert_eq!(rt; status, 3);
     assert_eq!(rt; written.as_slice(), b"Plays s".as_slice());
     assert_eq!(rt; errors.as_slice(), b"slotctl: write fault\n".as_slice());
+}
+
+// A clock by which work is done after so many sleeps.
+#[derive(Drop)]
+struct Work {
+    left: AtomicU64,
+    done: AtomicBool,
+}
+
+impl Clock for Work {
+    fn monotonic(&self) -> io::Result<Duration> {
+        Ok(Duration::from_secs(0))
+    }
+
+    fn since_1970(&self) -> io::Result<Duration> {
+        Ok(Duration::from_secs(0))
+    }
+
+    fn sleep(&self, _duration: Duration) {
+        if self.left.fetch_sub(1, Ordering::SeqCst) <= 1 {
+            self.done.store(true, Ordering::SeqCst);
+        }
+    }
+}
+
+#[test]
+fn long_work_shows_that_it_goes_on(rt: HostRuntime) -> Result<(), Fail> {
+    for (sleeps, text) in [
+        (1, b"".as_slice()),
+        (19, b""),
+        (20, b".\n"),
+        (59, b"..\n"),
+        (60, b"...\n"),
+    ] {
+        let work = Work {
+            left: AtomicU64::new(sleeps),
+            done: AtomicBool::new(false),
+        };
+        let mut errors = Vec::new(rt.alloc());
+        tell_until(&work, &work.done, &mut errors);
+        assert_eq!(rt; errors.as_slice(), text, "after {sleeps}");
+    }
+    assert!(rt; may_take_long(&["slotctl", "check"]) && may_take_long(&["slotctl", "draw"]));
+    assert!(rt; !may_take_long(&["slotctl", "play"]) && !may_take_long(&["slotctl"]));
+    Ok(())
 }

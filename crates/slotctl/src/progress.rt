@@ -1,0 +1,62 @@
+//! A sign that long work goes on, for whoever looks on.
+
+use std::convert::AsStr;
+use std::io::Write;
+use std::sync::atomic::{AtomicBool, Ordering};
+use std::thread;
+use std::thread::Threads;
+use std::time::{Clock, Duration};
+
+/// How many looks at whether the work is done make a second.
+const LOOKS_A_SECOND: u64 = 20;
+
+/// Whether the words ask for work that may take long: a check, or a drawing.
+pub fn may_take_long<S: AsStr>(words: &[S]) -> bool {
+    match words.get(1) {
+        Some(word) => matches!(word.as_str(), "check" | "draw"),
+        None => false,
+    }
+}
+
+/// Writes a dot for each second until the work is done, and then an end of line where there are dots.
+pub fn tell_until<C: Clock, E: Write>(clock: &C, done: &AtomicBool, errors: &mut E) {
+    let mut told = false;
+    for look in 1..u64::MAX {
+        if done.load(Ordering::SeqCst) {
+            break;
+        }
+        thread::sleep(clock, Duration::from_millis(1_000 / LOOKS_A_SECOND));
+        if look % LOOKS_A_SECOND == 0 {
+            // A standard error that takes no dot is told none.
+            told = errors.write_all(b".").is_ok();
+        }
+    }
+    if told {
+        let _ = errors.write_all(b"\n");
+    }
+}
+
+/// Does the work, and beside it, in a thread of its own, tells until it is done.
+pub fn in_sight<R: Threads + Clock + Sync, E: Write + Drop + Send, T, F: FnOnce() -> T>(
+    rt: &R,
+    errors: E,
+    work: F,
+) -> T
+    requires { F.pre work }
+    ensures { F.post work result }
+{
+    let done = AtomicBool::new(false);
+    let mut errors = errors;
+    let (_, made) = thread::join(
+        rt,
+        || tell_until(rt, &done, &mut errors),
+        ||
+            requires { F.pre work }
+        {
+            let made = work();
+            done.store(true, Ordering::SeqCst);
+            made
+        },
+    );
+    made
+}
