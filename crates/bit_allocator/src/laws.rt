@@ -8,6 +8,7 @@ ghost use Rattle.bit_allocator.specs.Laws.{AnswersAreDue};
 ghost use Rattle.bit_allocator.specs.Pool.{fresh_pool};
 ghost use Rattle.bit_allocator.specs.PoolState.{PoolState};
 ghost use Rattle.bit_allocator.specs.Stay.{leave_access, probe_access};
+ghost use Rattle.bit_allocator.specs.Widening.{widen_access};
 ghost use Rattle.bit_allocator.specs.declared.stay.Stay.{Stay};
 ghost use Rattle.step_memory.specs.Steps.{SetsOrClears};
 
@@ -23,8 +24,10 @@ pub fn law_of_pool_calls()
     ensures one { (size : ℕ) (w other : PoolState) (r : List Call) → After size w r → After size other r → w ≡ other }
 {}
 
-/// A law, which runs nothing: an access of a competitor tests and sets a bit, clears one, or reaches none.
+/// A law, which runs nothing: an access of a competitor tests and sets a bit, clears one, or reaches none. That of a pool
+/// that widens tests and sets one, or reaches none.
 pub fn law_of_own_accesses()
     ensures probe { (size : ℕ) (stay : Stay) → SetsOrClears (probe_access size stay) }
     ensures leave { (size : ℕ) (stay : Stay) → SetsOrClears (leave_access size stay) }
+    ensures widen { (w : PoolState) → SetsOrClears (widen_access w) }
 {}
