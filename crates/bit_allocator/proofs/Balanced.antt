@@ -1,5 +1,5 @@
 -- bits and competitors keep in balance: the argument for the last number
-use Rattle.std.proofs.Common.{◌≡◌, ◌≢◌, ℕ, ◌+◌, ◌-◌, ◌≤◌, ◌<◌, Bool, true, false, not, ◌==◌, nat_le, List, [], ◌∷◌, ◌++◌, Some, None, length, get_or, set, replicate, max, inl, inr, refl, sym, ap, subst, ◌∙◌, arith}
+use Rattle.std.proofs.Common.{◌≡◌, ◌≢◌, ℕ, zero, suc, ◌+◌, ◌-◌, ◌≤◌, ◌<◌, Bool, true, false, not, ◌==◌, nat_le, List, [], ◌∷◌, ◌++◌, Some, None, length, get_or, set, replicate, max, inl, inr, refl, sym, ap, subst, ◌∙◌, arith}
 use Rattle.std.specs.Prelude.{is_some}
 use Rattle.std.proofs.lemmas.List.{get_or-set_same, get_or-set_other, get_or-replicate, length-set, length-append}
 use Rattle.std.proofs.lemmas.Bool.Decides.{eqb_tells, leb_tells, Decides-eqb}
@@ -10,24 +10,31 @@ use Rattle.bit_allocator.specs.Stay.{held_at}
 use Rattle.bit_allocator.specs.Competitors.{identities, stay_of, with_stay, without, holds_at}
 use Rattle.bit_allocator.proofs.StayOfLemmas.{stay_of-push, stay_of-with_stay, stay_of-without, identities-with_stay, length-identities}
 use Rattle.step_memory.proofs.SetAtLemmas.{set_at-is}
-use Rattle.bit_allocator.proofs.Counts.{one, count, competitor, is_of, holds, seeks, reaches, number_of, count-push, count-with_stay, count-without, count-one, count-absent, count-length, length-filter, reaches-split}
+use Rattle.bit_allocator.proofs.Counts.{one, count, competitor, is_of, holds, seeks, reaches, number_of, count-push, count-with_stay, count-without, count-one, count-absent, count-length, count-none, length-filter, reaches-split}
 
 -- a search is within the bits, or at 1 where there are none; and what is held is within the pool
 abbrev pub IsPlaced : ℕ → Stay → Type 0
 IsPlaced size (Seeking next) = (1 ≤ next) × (next ≤ max 1 (size - 1))
 IsPlaced size (Settled number) = (1 ≤ number) × (number ≤ size)
 
--- Each bit is set where its number is held, by one. Of those who hold number i or a larger one, or whose next probe is
+-- Each bit is set where its number is held, by one; and bits of no number are clear. Of those who hold number i or a larger one, or whose next probe is
 -- there, there are no more than numbers from i on: so whoever misses the last bit finds the last number free
 pub record IsBalanced (size : ℕ) (bits : List Bool) (cs : List Competitor) : Type 0 where
   pub first : 1 ≤ size
   pub last : size ≤ 64
   pub room : length bits ≡ 65
   pub held : (i : ℕ) → i < size → one (get_or bits i false) ≡ count (holds i) cs
+  pub spare : (i : ℕ) → size ≤ i → get_or bits i false ≡ false
   pub crowd : length cs ≤ size
   pub reach : (i : ℕ) → 1 ≤ i → i ≤ size → count (reaches i) cs + i ≤ size + 1
   pub apart : (p : ℕ) → count (is_of p) cs ≤ 1
   pub placed : (p : ℕ) (stay : Stay) → stay_of p cs ≡ Some stay → IsPlaced size stay
+
+-- bits that are clear read so, and so do those that are not there
+clear_at : (n i : ℕ) → get_or (replicate n false) i false ≡ false
+clear_at zero i = refl
+clear_at (suc n) zero = refl
+clear_at (suc n) (suc i) = clear_at n i
 
 pub balanced_fresh : (size : ℕ) → 1 ≤ size → size ≤ 64 → IsBalanced size (replicate 65 false) []
 balanced_fresh size first last = record {
@@ -35,6 +42,7 @@ balanced_fresh size first last = record {
   last = last;
   room = refl;
   held = λ i h. let lt : i < 65 = omega arith in ap one (get_or-replicate 65 i false false lt);
+  spare = λ i h. clear_at 65 i;
   crowd = omega arith;
   reach = λ i h k. omega arith;
   apart = λ p. omega arith;
@@ -50,6 +58,7 @@ balanced_entered size bits cs id b absent room =
       last = b.last;
       room = b.room;
       held = λ i h. let pushed : count (holds i) (cs ++ new ∷ []) ≡ count (holds i) cs + 0 = count-push (holds i) cs new in omega (arith, b.held i h);
+      spare = b.spare;
       crowd = omega (arith, length-append cs (new ∷ []));
       reach = λ i h k. elim (leb_tells i 1) [
         | inl w ↦
@@ -79,6 +88,7 @@ pub record IsProbed (size : ℕ) (bits after : List Bool) (cs : List Competitor)
   pub here : stay_of id cs ≡ Some (Seeking next)
   pub room : length after ≡ 65
   pub held : (i : ℕ) → i < size → one (get_or after i false) ≡ one (get_or bits i false) + one (holds_at i (held_at new))
+  pub spare : (i : ℕ) → size ≤ i → get_or after i false ≡ get_or bits i false
   pub reach : (i : ℕ) → 1 ≤ i → i ≤ size → count (reaches i) cs + one (nat_le i (number_of new)) + i ≤ size + 1 + one (nat_le i next)
   pub placed : IsPlaced size new
 
@@ -90,6 +100,7 @@ balanced_probed size bits after cs id next new b m = record {
   held = λ i h.
       let moved : count (holds i) (with_stay id new cs) + 0 ≡ count (holds i) cs + one (holds_at i (held_at new)) = count-with_stay (holds i) cs id (Seeking next) new m.here in
       omega (arith, b.held i h, m.held i h);
+  spare = λ i h. m.spare i h ∙ b.spare i h;
   crowd =
       let same : length (identities (with_stay id new cs)) ≡ length (identities cs) = ap length (identities-with_stay cs id new) in
       omega (arith, length-identities cs, length-identities (with_stay id new cs), b.crowd);
@@ -134,6 +145,7 @@ module _ (size : ℕ) (bits : List Bool) (cs : List Competitor) (id next : ℕ) 
               let other : i ≢ next = λ e. w.1 (sym e) in
               rw (get_or-set_other bits next i true false other, w.0) (omega arith)
         ];
+        spare = λ i h. get_or-set_other bits next i true false (λ e. omega (arith, below, h, e));
         reach = λ i h k. omega (arith, b.reach i h k);
         placed = (p.0, omega arith);
       }
@@ -161,6 +173,7 @@ module _ (size : ℕ) (bits : List Bool) (cs : List Competitor) (id next : ℕ) 
         here = here;
         room = length-set bits next true ∙ b.room;
         held = λ i h. rw (set_again was i h lt) (omega arith);
+        spare = λ i h. get_or-set_other bits next i true false (λ e. omega (arith, lt, h, e));
         reach = λ i h k. elim (leb_tells i next) [
           | inl w ↦ elim (leb_tells i (next + 1)) [
             | inl v ↦ rw (w.0, v.0) (omega (arith, b.reach i h k))
@@ -192,6 +205,7 @@ module _ (size : ℕ) (bits : List Bool) (cs : List Competitor) (id next : ℕ) 
       | inl w ↦ absurd (omega arith)
       | inr w ↦ rw (set_again was i h below, w.0) (omega arith)
     ];
+    spare = λ i h. get_or-set_other bits next i true false (λ e. omega (arith, below, h, e));
     reach = λ i h k. elim (leb_tells i next) [
       | inl w ↦ elim (leb_tells i size) [
         | inl v ↦ rw (w.0, v.0) (omega (arith, b.reach i h k))
@@ -230,14 +244,16 @@ module _ (size : ℕ) (bits : List Bool) (cs : List Competitor) (id next : ℕ) 
           | inl w ↦ absurd (omega arith)
           | inr w ↦ rw w.0 (omega arith)
         ];
+        spare = λ i h. refl;
         reach = λ i h k. rw same (omega (arith, b.reach i h k));
         placed = (b.first, omega arith);
       }
 
 -- the number is given back
 pub balanced_left : (size : ℕ) (bits after : List Bool) (cs : List Competitor) (id number : ℕ) → IsBalanced size bits cs → stay_of id cs ≡ Some (Settled number) → length after ≡ 65 →
-    (number < size → get_or after number false ≡ false) → ((i : ℕ) → i < size → i ≢ number → get_or after i false ≡ get_or bits i false) → IsBalanced size after (without id cs)
-balanced_left size bits after cs id number b here room clears spares = record {
+    (number < size → get_or after number false ≡ false) → ((i : ℕ) → i < size → i ≢ number → get_or after i false ≡ get_or bits i false) →
+    ((i : ℕ) → size ≤ i → get_or after i false ≡ get_or bits i false) → IsBalanced size after (without id cs)
+balanced_left size bits after cs id number b here room clears spares beyond = record {
   first = b.first;
   last = b.last;
   room = room;
@@ -253,6 +269,7 @@ balanced_left size bits after cs id number b here room clears spares = record {
             let as_many : count (holds i) (without id cs) + 0 ≡ count (holds i) cs = rw w.0 at fewer in
             rw (spares i h (λ e. w.1 (sym e))) (omega (arith, b.held i h))
       ];
+  spare = λ i h. beyond i h ∙ b.spare i h;
   crowd = omega (arith, length-filter (λ c. not (c.identity == id)) cs, b.crowd);
   reach = λ i h k. omega (arith, count-without (reaches i) cs id (Settled number) here (b.apart id), b.reach i h k);
   apart = λ p. omega (arith, count-without (is_of p) cs id (Settled number) here (b.apart id), b.apart p);
@@ -261,3 +278,54 @@ balanced_left size bits after cs id number b here room clears spares = record {
     | inr w ↦ b.placed p stay w.1
   ];
 }
+
+-- a number is held by one at most
+pub held_once : (size : ℕ) (bits : List Bool) (cs : List Competitor) → IsBalanced size bits cs → (n : ℕ) → n ≤ size → 1 ≤ n → count (holds n) cs ≤ 1
+held_once size bits cs b n high low = elim (leb_tells (suc n) size) [
+  | inl w ↦
+      let most : one (get_or bits n false) ≤ 1 = elim (get_or bits n false) as (λ x. one x ≤ 1) [ true ↦ omega arith | false ↦ omega arith ] in
+      let lt : n < size = omega (arith, w.1) in
+      omega (arith, b.held n lt)
+  | inr w ↦ omega (arith, w.1, b.reach n low high, reaches-split n cs)
+]
+
+-- who stands so is within the pool
+within_size : (size : ℕ) (stay : Stay) → 1 ≤ size → IsPlaced size stay → number_of stay ≤ size
+within_size size (Seeking next) first p = let top : next ≤ max 1 (size - 1) = p.1 in omega arith
+within_size size (Settled number) first p = p.1
+
+more_placed : (size more : ℕ) (stay : Stay) → size ≤ more → IsPlaced size stay → IsPlaced more stay
+more_placed size more (Seeking next) above p = let top : next ≤ max 1 (size - 1) = p.1 in (p.0, omega arith)
+more_placed size more (Settled number) above p = let top : number ≤ size = p.1 in (p.0, omega arith)
+
+below_other : (i n : ℕ) → i ≤ n → i ≢ n → i < n
+below_other i n h k = elim (leb_tells (suc i) n) [ inl w ↦ omega (arith, w.1) | inr w ↦ absurd (k (omega (arith, h, w.1))) ]
+
+-- the pool gets more numbers: the bit of what was the last is set where that is held
+pub balanced_widened : (size more : ℕ) (bits after : List Bool) (cs : List Competitor) → IsBalanced size bits cs → size < more → more ≤ 64 → length after ≡ 65 →
+    one (get_or after size false) ≡ count (holds size) cs → ((i : ℕ) → i ≢ size → get_or after i false ≡ get_or bits i false) → IsBalanced more after cs
+balanced_widened size more bits after cs b above most room set_last spares =
+    let beyond : (i : ℕ) → size < i → count (reaches i) cs ≡ 0 = λ i h. count-none (reaches i) cs b.apart (λ p stay here.
+    let low : number_of stay ≤ size = within_size size stay b.first (b.placed p stay here) in
+    elim (leb_tells i (number_of stay)) [ inl w ↦ absurd (omega (arith, w.1, h, low)) | inr w ↦ w.0 ])
+    in
+    record {
+      first = omega (arith, b.first, above);
+      last = most;
+      room = room;
+      held = λ i h. elim (eqb_tells i size) [
+        | inl w ↦ rw (sym w.1) at set_last
+        | inr w ↦ elim (leb_tells i size) [
+          | inl v ↦ rw (spares i w.1) (b.held i (below_other i size v.1 w.1))
+          | inr v ↦ rw (spares i w.1, b.spare i (omega (arith, v.1))) (omega (arith, beyond i (omega (arith, v.1)), reaches-split i cs))
+        ]
+      ];
+      spare = λ i h. spares i (λ e. omega (arith, h, e, above)) ∙ b.spare i (omega (arith, h, above));
+      crowd = omega (arith, b.crowd, above);
+      reach = λ i h k. elim (leb_tells i size) [
+        | inl v ↦ omega (arith, b.reach i h v.1, above)
+        | inr v ↦ omega (arith, beyond i (omega (arith, v.1)), k)
+      ];
+      apart = b.apart;
+      placed = λ p stay h. more_placed size more stay (omega (arith, above)) (b.placed p stay h);
+    }

@@ -1,6 +1,6 @@
 -- how many competitors pass a test
 use Rattle.std.proofs.Common.{◌≡◌, ◌≢◌, ℕ, suc, ◌+◌, ◌≤◌, Bool, true, false, ◌==◌, nat_le, List, [], ◌∷◌, ◌++◌, Some, None, length, filter, cond, inl, inr, refl, sym, ap, ◌∙◌, arith}
-use Rattle.std.proofs.lemmas.Bool.Decides.{eqb_tells, leb_tells}
+use Rattle.std.proofs.lemmas.Bool.Decides.{eqb_tells, leb_tells, Decides-eqb}
 use Rattle.bit_allocator.specs.declared.competitor.Competitor.{Competitor}
 use Rattle.bit_allocator.specs.declared.stay.Stay.{Stay}
 use Rattle.bit_allocator.specs.declared.stay.Stay.TheVariants.{Seeking, Settled}
@@ -94,6 +94,22 @@ count-absent (c ∷ cs) id h = elim (eqb_tells c.identity id) [
   | inl w ↦ absurd (let k : Some c.stay ≡ None = rw w.0 at h in cc)
   | inr w ↦ let i = count-absent cs id (rw w.0 at h) in rw w.0 (omega arith)
 ]
+
+-- none passes where nobody that stands somewhere does
+pub count-none : (f : Competitor → Bool) (cs : List Competitor) → ((p : ℕ) → count (is_of p) cs ≤ 1) → ((p : ℕ) (stay : Stay) → stay_of p cs ≡ Some stay → f (competitor p stay) ≡ false) → count f cs ≡ 0
+count-none f [] apart none = refl
+count-none f (c ∷ cs) apart none =
+    let own : (c.identity == c.identity) ≡ true = (Decides-eqb c.identity c.identity).1 refl in
+    let head : f c ≡ false = none c.identity c.stay (rw own refl) in
+    let rest : count f cs ≡ 0 = count-none f cs (λ p. omega (arith, apart p)) (λ p stay h. elim (eqb_tells c.identity p) [
+      | inl w ↦ absurd (
+          let alone : 1 + count (is_of p) cs ≤ 1 = rw w.0 at (apart p) in
+          let some : one (p == p) ≤ count (is_of p) cs = count-one (is_of p) cs p stay h in
+          let more : 1 ≤ count (is_of p) cs = rw ((Decides-eqb p p).1 refl) at some in
+          omega arith)
+      | inr w ↦ none p stay (rw w.0 h)
+    ]) in
+    rw head (omega (arith, rest))
 
 -- fewer pass a harder test
 pub count-less : (f g : Competitor → Bool) → ((c : Competitor) → one (f c) ≤ one (g c)) → (cs : List Competitor) → count f cs ≤ count g cs

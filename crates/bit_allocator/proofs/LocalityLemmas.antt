@@ -8,9 +8,10 @@ use Rattle.step_memory.specs.Steps.{Spares, SetsOrClears}
 use Rattle.bit_allocator.specs.declared.stay.Stay.{Stay}
 use Rattle.bit_allocator.specs.declared.stay.Stay.TheVariants.{Seeking, Settled}
 use Rattle.bit_allocator.specs.Stay.{probe_access, stay_probed, stay_found, probe_reply, leave_access}
-use Rattle.bit_allocator.specs.Competitors.{stay_of, with_stay}
+use Rattle.bit_allocator.specs.Competitors.{stay_of, with_stay, holder_in}
 use Rattle.bit_allocator.specs.PoolState.{PoolState}
 use Rattle.bit_allocator.specs.Pool.{probe_answer, probe_answer_by, after_probe, after_probe_by, got_by, number_answer, number_by, after_leave, after_leave_by}
+use Rattle.bit_allocator.specs.Widening.{widen_access}
 use Rattle.bit_allocator.specs.Locality.{IsLocal, LookAlike, StandAlike, probe_steps, leave_steps}
 use Rattle.step_memory.proofs.LocalityLemmas.{answer_alike}
 use Rattle.step_memory.proofs.SetAtLemmas.{set_at-same, set_at-other}
@@ -142,3 +143,7 @@ own_probe size (Settled number) = tt
 pub own_leave : (size : ℕ) (stay : Stay) → SetsOrClears (leave_access size stay)
 own_leave size (Seeking next) = tt
 own_leave size (Settled number) = elim (nat_lt number size) as (λ b. SetsOrClears {V = Unit {0}} (cond b (Clear number) Nothing)) [ true ↦ tt | false ↦ tt ]
+
+-- and so does that of widening
+pub widening : (w : PoolState) → SetsOrClears (widen_access w)
+widening w = elim (holder_in w.size w.competitors) as (λ o. SetsOrClears {V = Unit {0}} (cond (is_some o) (TestAndSet w.size) Nothing)) [ None ↦ tt | Some p ↦ tt ]

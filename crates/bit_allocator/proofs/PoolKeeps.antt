@@ -1,10 +1,12 @@
 -- each call of a pool keeps the law
-use Rattle.std.proofs.Common.{◌≡◌, ◌≢◌, ◌⊎◌, ℕ, suc, ◌+◌, ◌≤◌, ◌<◌, Bool, true, false, ◌==◌, List, [], ◌∷◌, ◌++◌, Some, None, Ok, Err, length, get_or, set, inl, inr, refl, sym, ap, subst, ◌∙◌, arith}
-use Rattle.std.specs.Prelude.{MatchOption}
+use Rattle.std.proofs.Common.{◌≡◌, ◌≢◌, ◌⊎◌, ℕ, suc, ◌+◌, ◌≤◌, ◌<◌, Bool, true, false, cond, ◌==◌, List, [], ◌∷◌, ◌++◌, Some, None, Ok, Err, length, get_or, set, inl, inr, refl, sym, ap, subst, ◌∙◌, arith}
+use Rattle.std.specs.Prelude.{MatchOption, is_some}
 use Rattle.std.proofs.lemmas.Bool.Decides.{eqb_tells, leb_tells, Decides-eqb}
 use Rattle.std.proofs.lemmas.List.{get_or-set_same, get_or-set_other, length-set}
-use Rattle.step_memory.specs.declared.refusal.Refusal.TheVariants.{ZeroIdentity, Crowded, NotCompeting, AlreadyCompeting, Holding, NotHolding}
+use Rattle.step_memory.specs.declared.refusal.Refusal.TheVariants.{OutOfRange, ZeroIdentity, Crowded, NotCompeting, AlreadyCompeting, Holding, NotHolding}
 use Rattle.step_memory.specs.World.{done_unless}
+use Rattle.step_memory.specs.declared.access.Access.TheVariants.{TestAndSet, Nothing}
+use Rattle.step_memory.specs.Registers.{after_access}
 use Rattle.step_memory.proofs.RunLemmas.{run_more, run_keeps, run_one, run_splits}
 use Rattle.bit_allocator.specs.declared.competitor.Competitor.{Competitor}
 use Rattle.bit_allocator.specs.declared.probe.Probe.TheVariants.{Missed, Got}
@@ -13,16 +15,17 @@ use Rattle.bit_allocator.specs.declared.stay.Stay.TheVariants.{Seeking, Settled}
 use Rattle.bit_allocator.specs.Stay.{held_at}
 use Rattle.bit_allocator.specs.Competitors.{stay_of, held_in, holder_in, holds_at}
 use Rattle.bit_allocator.specs.PoolState.{PoolState}
-use Rattle.bit_allocator.specs.Pool.{fresh_pool, enter_refusal, enter_answer, entered_unless, after_enter, probe_answer, probe_answer_by, after_probe, after_probe_by, number_answer, number_by, after_leave, after_leave_by}
+use Rattle.bit_allocator.specs.Pool.{fresh_pool, enter_refusal, enter_answer, entered_unless, after_enter, probe_answer, probe_answer_by, after_probe, after_probe_by, number_answer, number_by, after_leave, after_leave_by, widened_unless, after_widen, widen_answer}
+use Rattle.bit_allocator.specs.Widening.{widen_refusal, widen_access}
 use Rattle.bit_allocator.specs.Calls.{Call}
-use Rattle.bit_allocator.specs.Calls.Call.{Entered, Probed, Left}
+use Rattle.bit_allocator.specs.Calls.Call.{Entered, Probed, Left, Widened}
 use Rattle.bit_allocator.specs.PoolObject.{PoolObject, fresh_object, no_entry, no_probe, number_in, IsFree, Answers, after, IsRun}
 use Rattle.bit_allocator.specs.Law.{KeepsPoolLaw}
 use Rattle.bit_allocator.specs.After.{After, next, IsReply}
 use Rattle.bit_allocator.proofs.StayOfLemmas.{length-identities}
-use Rattle.bit_allocator.proofs.Counts.{one, count, is_of, holds, count-one, count-two, reaches-split}
-use Rattle.bit_allocator.proofs.Balanced.{IsPlaced, IsBalanced, NobodyHolds, balanced_fresh, balanced_entered, balanced_probed, balanced_left, free_clear, probed_clear, probed_missed, free_last, probed_last, free_only, probed_only}
-use Rattle.bit_allocator.proofs.Tied.{IsTied, no_entry-is, number_in-is, no_probe-absent, no_probe-settled, no_probe-seeking, holder_competes, settled_at, unheld, tied_fresh, tied_entered, tied_missed, tied_got, tied_left}
+use Rattle.bit_allocator.proofs.Counts.{one, count, is_of, holds, count-one, count-two}
+use Rattle.bit_allocator.proofs.Balanced.{IsPlaced, IsBalanced, NobodyHolds, held_once, balanced_widened, balanced_fresh, balanced_entered, balanced_probed, balanced_left, free_clear, probed_clear, probed_missed, free_last, probed_last, free_only, probed_only}
+use Rattle.bit_allocator.proofs.Tied.{IsTied, no_entry-is, number_in-is, no_probe-absent, no_probe-settled, no_probe-seeking, holder_competes, settled_at, unheld, tied_fresh, tied_entered, tied_missed, tied_got, tied_left, tied_widened}
 
 -- the pool after these calls, and the object that may have given the same replies
 pub record Stands (first : ℕ) (w : PoolState) (r : List Call) : Type 0 where
@@ -51,6 +54,31 @@ let_in w id h = elim (eqb_tells id 0) [
           | inr l ↦ record { absent = e; room = l.1 }
         ]
       ] refl
+]
+
+-- a pool that is let get more numbers has fewer, and gets 64 at most
+pub may_widen : (size more : ℕ) → widen_refusal size more ≡ None → (size < more) × (more ≤ 64)
+may_widen size more h = elim (leb_tells more size) [
+  | inl w ↦ absurd (let k : Some OutOfRange ≡ None = rw w.0 at h in cc)
+  | inr w ↦ elim (leb_tells 65 more) [
+    | inl v ↦ absurd (let k : Some OutOfRange ≡ None = rw (w.0, v.0) at h in cc)
+    | inr v ↦ (omega (arith, w.1), omega (arith, v.1))
+  ]
+]
+
+-- where none is found to hold a number nobody does; and who is found is counted
+holder_counts : (n : ℕ) (cs : List Competitor) → holder_in n cs ≡ None → count (holds n) cs ≡ 0
+holder_counts n [] h = refl
+holder_counts n (c ∷ cs) h = elim (either (holds n c)) [
+  | inl w ↦ absurd (let e : Some c.identity ≡ None = rw w at h in cc)
+  | inr w ↦ let rest = holder_counts n cs (rw w at h) in rw w (omega arith)
+]
+
+holder_counted : (n : ℕ) (cs : List Competitor) (p : ℕ) → holder_in n cs ≡ Some p → 1 ≤ count (holds n) cs
+holder_counted n [] p h = absurd (cc)
+holder_counted n (c ∷ cs) p h = elim (either (holds n c)) [
+  | inl w ↦ rw w (omega arith)
+  | inr w ↦ let rest = holder_counted n cs p (rw w at h) in rw w (omega arith)
 ]
 
 module _ (first : ℕ) (w : PoolState) (r : List Call) (s : Stands first w r) where
@@ -140,13 +168,14 @@ module _ (first : ℕ) (w : PoolState) (r : List Call) (s : Stands first w r) wh
               run = gone_on (Left id (Ok number)) is;
               tied = tied_left w.size w.competitors s.object id s.tied;
               balanced = balanced_left w.size w.bits.bits (set w.bits.bits number false) w.competitors id number s.balanced here (length-set w.bits.bits number false ∙ s.balanced.room)
-                  (λ _. get_or-set_same w.bits.bits number false false in_bits) (λ i h n. get_or-set_other w.bits.bits number i false false n);
+                  (λ _. get_or-set_same w.bits.bits number false false in_bits) (λ i h n. get_or-set_other w.bits.bits number i false false n)
+                  (λ i h. get_or-set_other w.bits.bits number i false false (λ e. omega (arith, below.1, h, e)));
             })
         | inr end ↦ rw end.0 (record {
           object = after s.object (Left id (Ok number));
           run = gone_on (Left id (Ok number)) is;
           tied = tied_left w.size w.competitors s.object id s.tied;
-          balanced = balanced_left w.size w.bits.bits w.bits.bits w.competitors id number s.balanced here s.balanced.room (λ h. absurd (omega (arith, h, end.1))) (λ i h n. refl);
+          balanced = balanced_left w.size w.bits.bits w.bits.bits w.competitors id number s.balanced here s.balanced.room (λ h. absurd (omega (arith, h, end.1))) (λ i h n. refl) (λ i h. refl);
         })
       ]
 
@@ -159,26 +188,56 @@ module _ (first : ℕ) (w : PoolState) (r : List Call) (s : Stands first w r) wh
     ]
   ] refl
 
+  -- the bit of what was the last number becomes set exactly where that is held
+  last_set : one (get_or (after_access w.bits (widen_access w)).bits w.size false) ≡ count (holds w.size) w.competitors
+  last_set =
+      let once : count (holds w.size) w.competitors ≤ 1 = held_once w.size w.bits.bits w.competitors s.balanced w.size (omega arith) s.balanced.first in
+      let in_bits : w.size < length w.bits.bits = omega (arith, s.balanced.room, s.balanced.last) in
+      elim (holder_in w.size w.competitors) as (λ o. holder_in w.size w.competitors ≡ o → one (get_or (after_access w.bits (cond (is_some o) (TestAndSet w.size) Nothing)).bits w.size false) ≡ count (holds w.size) w.competitors) [
+        | None ↦ λ e. rw (s.balanced.spare w.size (omega arith)) (sym (holder_counts w.size w.competitors e))
+        | Some p ↦ λ e. rw (get_or-set_same w.bits.bits w.size true false in_bits) (omega (arith, once, holder_counted w.size w.competitors p e))
+      ] refl
+
+  -- and no other bit changes
+  others_spared : (i : ℕ) → i ≢ w.size → get_or (after_access w.bits (widen_access w)).bits i false ≡ get_or w.bits.bits i false
+  others_spared i n = elim (holder_in w.size w.competitors) as (λ o. get_or (after_access w.bits (cond (is_some o) (TestAndSet w.size) Nothing)).bits i false ≡ get_or w.bits.bits i false) [
+    | None ↦ refl
+    | Some p ↦ get_or-set_other w.bits.bits w.size i true false n
+  ]
+
+  as_many_bits : length (after_access w.bits (widen_access w)).bits ≡ 65
+  as_many_bits = elim (holder_in w.size w.competitors) as (λ o. length (after_access w.bits (cond (is_some o) (TestAndSet w.size) Nothing)).bits ≡ 65) [
+    | None ↦ s.balanced.room
+    | Some p ↦ length-set w.bits.bits w.size true ∙ s.balanced.room
+  ]
+
+  widen_keeps : (more : ℕ) → Stands first (after_widen w more) (r ++ Widened more (widen_answer w more) ∷ [])
+  widen_keeps more = elim (widen_refusal w.size more) as (λ e. widen_refusal w.size more ≡ e → Stands first (widened_unless e w more) (r ++ Widened more (done_unless e) ∷ [])) [
+    | Some why ↦ λ e.
+        let n : widen_refusal s.object.size more ≡ Some why = ap (λ (k : ℕ). widen_refusal k more) s.tied.size_is ∙ e in
+        record { object = s.object; run = gone_on (Widened more (Err why)) (rw n refl); tied = s.tied; balanced = s.balanced }
+    | None ↦ λ e.
+        let n : widen_refusal s.object.size more ≡ None = ap (λ (k : ℕ). widen_refusal k more) s.tied.size_is ∙ e in
+        let room = may_widen w.size more e in
+        record {
+          object = after s.object (Widened more (Ok tt));
+          run = gone_on (Widened more (Ok tt)) (rw n refl);
+          tied = tied_widened w.size more w.competitors s.object s.tied;
+          balanced = balanced_widened w.size more w.bits.bits (after_access w.bits (widen_access w)).bits w.competitors s.balanced room.0 room.1 as_many_bits last_set others_spared;
+        }
+  ] refl
+
 next_keeps : (first : ℕ) (w : PoolState) (r : List Call) (h : Call) → Stands first w r → IsReply w h → Stands first (next w h) (r ++ h ∷ [])
 next_keeps first w r (Entered id reply) s is = rw is (enter_keeps first w r s id)
 next_keeps first w r (Probed id reply) s is = rw is (probe_keeps first w r s id)
 next_keeps first w r (Left id reply) s is = rw is (leave_keeps first w r s id)
+next_keeps first w r (Widened more reply) s is = rw is (widen_keeps first w r s more)
 
 -- so it is after any calls
 pub stands : (first : ℕ) (w : PoolState) (r : List Call) → After first w r → Stands first w r
 stands first w r a =
     let fresh : Stands first (fresh_pool first) [] = record { object = fresh_object first; run = refl; tied = tied_fresh first; balanced = balanced_fresh first a.first a.last } in
     run_keeps next IsReply (Stands first) (next_keeps first) (fresh_pool first) [] r w fresh a.run
-
--- a number is held by one at most
-held_once : (size : ℕ) (bits : List Bool) (cs : List Competitor) → IsBalanced size bits cs → (n : ℕ) → n ≤ size → 1 ≤ n → count (holds n) cs ≤ 1
-held_once size bits cs b n high low = elim (leb_tells (suc n) size) [
-  | inl w ↦
-      let most : one (get_or bits n false) ≤ 1 = elim (get_or bits n false) as (λ x. one x ≤ 1) [ true ↦ omega arith | false ↦ omega arith ] in
-      let lt : n < size = omega (arith, w.1) in
-      omega (arith, b.held n lt)
-  | inr w ↦ omega (arith, w.1, b.reach n low high, reaches-split n cs)
-]
 
 -- the law
 pub law_after : (first : ℕ) (w : PoolState) (r : List Call) → After first w r → KeepsPoolLaw first r

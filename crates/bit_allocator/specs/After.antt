@@ -2,24 +2,26 @@
 use Rattle.std.specs.Prelude.{◌≡◌, ℕ, ◌≤◌, List, [], ◌∷◌, ◌++◌}
 use Rattle.step_memory.specs.Runs.{Run}
 use Rattle.bit_allocator.specs.Calls.{Call}
-use Rattle.bit_allocator.specs.Calls.Call.{Entered, Probed, Left}
+use Rattle.bit_allocator.specs.Calls.Call.{Entered, Probed, Left, Widened}
 use Rattle.bit_allocator.specs.Law.{KeepsPoolLaw}
 use Rattle.bit_allocator.specs.PoolState.{PoolState}
-use Rattle.bit_allocator.specs.Pool.{fresh_pool, enter_answer, after_enter, probe_answer, after_probe, number_answer, after_leave}
+use Rattle.bit_allocator.specs.Pool.{fresh_pool, enter_answer, after_enter, probe_answer, after_probe, number_answer, after_leave, widen_answer, after_widen}
 
 -- the pool after a call
 abbrev pub next : PoolState → Call → PoolState
 next w (Entered id reply) = after_enter w id
 next w (Probed id reply) = after_probe w id
 next w (Left id reply) = after_leave w id
+next w (Widened more reply) = after_widen w more
 
 -- the reply is the one that the call gets
 abbrev pub IsReply : PoolState → Call → Type 0
 IsReply w (Entered id reply) = reply ≡ enter_answer w id
 IsReply w (Probed id reply) = reply ≡ probe_answer w id
 IsReply w (Left id reply) = reply ≡ number_answer w id
+IsReply w (Widened more reply) = reply ≡ widen_answer w more
 
--- a pool that was made with so many numbers is after these calls with these replies
+-- a pool that was made with so many numbers, at the start, is after these calls with these replies
 pub record After (size : ℕ) (w : PoolState) (r : List Call) : Type 0 where
   pub first : 1 ≤ size
   pub last : size ≤ 64

@@ -3,8 +3,9 @@ use Rattle.std.specs.Prelude.{ℕ, Result}
 use Rattle.step_memory.specs.declared.refusal.Refusal.{Refusal}
 use Rattle.bit_allocator.specs.declared.probe.Probe.{Probe}
 
--- a call, by the identity that it names, with its reply
+-- a call with its reply: by the identity that it names, or by the size that the pool is to have
 pub data Call : Type 0 where
   Entered : ℕ → Result (Unit {0}) Refusal → Call
   Probed : ℕ → Result Probe Refusal → Call
   Left : ℕ → Result ℕ Refusal → Call
+  Widened : ℕ → Result (Unit {0}) Refusal → Call

@@ -1,6 +1,7 @@
 pub mod Stay
 pub mod Competitors
 pub mod PoolState
+pub mod Widening
 pub mod Pool
 pub mod Locality
 pub mod Calls

@@ -11,6 +11,7 @@ use Rattle.bit_allocator.specs.declared.stay.Stay.{Stay}
 use Rattle.bit_allocator.specs.Stay.{probe_access, stay_probed, probe_reply, leave_access, held_at}
 use Rattle.bit_allocator.specs.Competitors.{stay_of}
 use Rattle.bit_allocator.specs.PoolState.{PoolState}
+use Rattle.bit_allocator.specs.Widening.{widen_access}
 
 -- p stands alike in two pools
 abbrev pub StandAlike : ℕ → PoolState → PoolState → Type 0
@@ -58,3 +59,9 @@ module _ {O : Type 0} (steps : OwnSteps O) where
     pub size : one.size ≡ other.size
     pub stay : stay_of p one.competitors ≡ stay_of p other.competitors
     pub bit : (stay : Stay) → stay_of p one.competitors ≡ Some stay → AgreeAt (register_of one.bits) (register_of other.bits) (steps.access one.size stay)
+
+-- `widen` leaves each own state as it is, and of the bits changes at most that of what was the last number
+pub record IsWidened (old new : PoolState) (result : Result (Unit {0}) Refusal) : Type 0 where
+  pub access : OnOk result (new.bits ≡ after_access old.bits (widen_access old))
+  pub registers : (r : ℕ) → r ≢ old.size → register_of new.bits r ≡ register_of old.bits r
+  pub stays : (p : ℕ) → stay_of p new.competitors ≡ stay_of p old.competitors

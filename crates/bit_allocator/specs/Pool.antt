@@ -12,6 +12,7 @@ use Rattle.bit_allocator.specs.declared.stay.Stay.TheVariants.{Seeking, Settled}
 use Rattle.bit_allocator.specs.Stay.{probe_access, stay_probed, probe_reply, leave_access}
 use Rattle.bit_allocator.specs.Competitors.{stay_of, with_stay, without}
 use Rattle.bit_allocator.specs.PoolState.{PoolState}
+use Rattle.bit_allocator.specs.Widening.{widen_refusal, widen_access}
 
 -- the bits of 64 numbers, all clear; register 0 is no number's
 abbrev pub clear_bits : Registers (Unit {0})
@@ -97,3 +98,15 @@ after_leave_by w id (Some (Settled number)) = record {
 -- the pool after `leave`
 abbrev pub after_leave : PoolState → ℕ → PoolState
 after_leave w id = after_leave_by w id (stay_of id w.competitors)
+
+-- what `widen` answers
+abbrev pub widen_answer : PoolState → ℕ → Result (Unit {0}) Refusal
+widen_answer w more = done_unless (widen_refusal w.size more)
+
+abbrev pub widened_unless : Option Refusal → PoolState → ℕ → PoolState
+widened_unless None w more = record { size = more; bits = after_access w.bits (widen_access w); competitors = w.competitors }
+widened_unless (Some refusal) w more = w
+
+-- the pool after `widen`
+abbrev pub after_widen : PoolState → ℕ → PoolState
+after_widen w more = widened_unless (widen_refusal w.size more) w more

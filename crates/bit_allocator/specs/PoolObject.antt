@@ -9,9 +9,10 @@ use Rattle.step_memory.specs.World.{done_unless}
 use Rattle.bit_allocator.specs.declared.probe.Probe.{Probe}
 use Rattle.bit_allocator.specs.declared.probe.Probe.TheVariants.{Missed, Got}
 use Rattle.bit_allocator.specs.Calls.{Call}
-use Rattle.bit_allocator.specs.Calls.Call.{Entered, Probed, Left}
+use Rattle.bit_allocator.specs.Calls.Call.{Entered, Probed, Left, Widened}
+use Rattle.bit_allocator.specs.Widening.{widen_refusal}
 
--- the size; who competes; the number that each identity holds, if any; and how many accepted probes it has made in its
+-- the present size; who competes; the number that each identity holds, if any; and how many accepted probes it has made in its
 -- present stay
 pub record PoolObject : Type 0 where
   pub size : ℕ
@@ -55,8 +56,8 @@ pub record IsFree (o : PoolObject) (n : ℕ) : Type 0 where
   pub last : n ≤ o.size
   pub unheld : (q : ℕ) → o.held q ≢ Some n
 
--- what a probe may answer: any free number, or that it missed. But the probe numbered max(1, size - 1) of a stay is never
--- missed
+-- what a probe may answer: any free number, or that it missed. But the probe numbered max(1, size - 1) of a stay, by the
+-- present size, is never missed
 abbrev pub MayAnswer : PoolObject → ℕ → Result Probe Refusal → Type 0
 MayAnswer o p (Ok Missed) = (no_probe o p ≡ None) × (o.probes p + 1 ≢ max 1 (o.size - 1))
 MayAnswer o p (Ok (Got n)) = (no_probe o p ≡ None) × IsFree o n
@@ -67,8 +68,9 @@ abbrev pub Answers : PoolObject → Call → Type 0
 Answers o (Entered p reply) = reply ≡ done_unless (no_entry o p)
 Answers o (Probed p reply) = MayAnswer o p reply
 Answers o (Left p reply) = reply ≡ number_in o p
+Answers o (Widened more reply) = reply ≡ done_unless (widen_refusal o.size more)
 
--- the object after a call. A refusal changes nothing
+-- the object after a call. A refusal changes nothing, and a widening the size alone
 abbrev pub after : PoolObject → Call → PoolObject
 after o (Entered p (Ok done)) = record o { competing = o.competing ++ p ∷ []; probes = set_at o.probes p 0 }
 after o (Entered p (Err refusal)) = o
@@ -77,7 +79,9 @@ after o (Probed p (Ok (Got n))) = record o { held = set_at o.held p (Some n); pr
 after o (Probed p (Err refusal)) = o
 after o (Left p (Ok n)) = record o { competing = filter (λ q. not (q == p)) o.competing; held = set_at o.held p None }
 after o (Left p (Err refusal)) = o
+after o (Widened more (Ok done)) = record o { size = more }
+after o (Widened more (Err refusal)) = o
 
--- the object, begun fresh with this size, may answer these calls so, and is then in that state
+-- the object, begun fresh with this size at the start, may answer these calls so, and is then in that state
 abbrev pub IsRun : ℕ → List Call → PoolObject → Type 0
 IsRun size r o = Run after Answers (fresh_object size) r o

@@ -1,13 +1,14 @@
 //! The pool.
 
-ghost use Rattle.std.specs.Prelude.{◌≡◌, ◌≤◌, ◌<◌, ◌⊎◌, ℕ, List, [], ◌∷◌, ◌++◌, IfOk, IfErr, IfSome, IsOk, OnErr, Err, length};
+ghost use Rattle.std.specs.Prelude.{◌≡◌, ◌≤◌, ◌<◌, ◌⊎◌, ℕ, List, [], ◌∷◌, ◌++◌, IfOk, IfErr, IfSome, IfNone, IsOk, OnErr, Err, length};
 ghost use Rattle.bit_allocator.specs.Competitors.{index_of, stay_of, holder_in, identities};
 ghost use Rattle.bit_allocator.specs.Stay.{IsWithin};
 ghost use Rattle.bit_allocator.specs.PoolState.{PoolState};
-ghost use Rattle.bit_allocator.specs.Pool.{fresh_pool, enter_refusal, enter_answer, after_enter, probe_refusal, probe_answer, after_probe, number_answer, after_leave};
-ghost use Rattle.bit_allocator.specs.Locality.{IsLocal, LookAlike, StandAlike, probe_steps, leave_steps};
+ghost use Rattle.bit_allocator.specs.Pool.{fresh_pool, enter_refusal, enter_answer, after_enter, probe_refusal, probe_answer, after_probe, number_answer, after_leave, widen_answer, after_widen};
+ghost use Rattle.bit_allocator.specs.Widening.{widen_refusal};
+ghost use Rattle.bit_allocator.specs.Locality.{IsLocal, IsWidened, LookAlike, StandAlike, probe_steps, leave_steps};
 ghost use Rattle.bit_allocator.specs.Calls.{Call};
-ghost use Rattle.bit_allocator.specs.Calls.Call.{Entered, Probed, Left};
+ghost use Rattle.bit_allocator.specs.Calls.Call.{Entered, Probed, Left, Widened};
 ghost use Rattle.bit_allocator.specs.PoolObject.{PoolObject, IsRun, number_in, IsHolderIn};
 ghost use Rattle.bit_allocator.specs.After.{After, IsLawful, LeadsOn};
 ghost use Rattle.bit_allocator.specs.Acquired.{IsAcquired, LeadsByStay, was_clear, Gets};
@@ -121,7 +122,7 @@ impl<A: Allocator + Clone> Pool<A> {
 }
 
 impl<A: Allocator> Pool<A> {
-    /// The size, which is the largest number.
+    /// The present size, which is the largest number.
     pub fn size(&self) -> u64
         ensures size { result ≡ self.now.size }
         ensures range { (1 ≤ result) × (result ≤ 64) }
@@ -287,6 +288,44 @@ impl<A: Allocator> Pool<A> {
             .retain(|competitor| competitor.identity != id);
         Ok(number)
     }
+
+    /// Why the pool may not get so many numbers: what `widen` would be refused. It changes nothing.
+    pub fn widen_refusal(&self, size: u64) -> Option<Refusal>
+        ensures answer { result ≡ widen_refusal self.now.size size }
+        ensures more { IfNone result ((self.now.size < size) × (size ≤ 64)) }
+    {
+        if size <= self.size() || 64 < size {
+            Some(Refusal::OutOfRange)
+        } else {
+            None
+        }
+    }
+
+    /// The pool gets more numbers: from now on those from 1 to `size`, which is above the present size and at most 64. All
+    /// that is held stays held. What was the last number had no bit: where it is held this makes one access, which sets its
+    /// bit, and else none. Refused where the size is out of that range. It takes no memory.
+    pub fn widen(&mut self, size: u64) -> Result<(), Refusal>
+        ensures answer { result ≡ widen_answer self.old size }
+        ensures state { self.new ≡ after_widen self.old size }
+        ensures refused { OnErr result (self.new ≡ self.old) }
+        ensures after { LeadsOn self.old self.new (Widened size result) }
+        ensures law { IsLawful self.new }
+
+        // No competitor stands elsewhere, and no bit changes but that of what was the last number.
+        ensures local { IsWidened self.old self.new result }
+    {
+        if let Some(refusal) = self.widen_refusal(size) {
+            return Err(refusal);
+        }
+        let access = if holder(&self.competitors, self.size).is_some() {
+            Access::TestAndSet(usize::from(self.size))
+        } else {
+            Access::Nothing
+        };
+        self.bits.access(access).unwrap();
+        self.size = size as u8;
+        Ok(())
+    }
 }
 
 #[cfg(test)]
@@ -304,6 +343,55 @@ mod tests {
         }
         law_of_pool_calls();
         law_of_own_accesses();
+    }
+
+    #[test]
+    fn widens_from_each_size_to_each(rt: HostRuntime) -> Result<(), Fail> {
+        for size in 1..65u64 {
+            for more in 0..66u64 {
+                let mut pool = Pool::new(rt.alloc(), size)?;
+                let wider = size < more && more <= 64;
+                assert_eq!(rt; pool.widen(more).is_ok(), wider, "from {size} to {more}");
+                let now = if wider { more } else { size };
+                assert_eq!(rt; pool.size(), now, "from {size} to {more}");
+            }
+        }
+        Ok(())
+    }
+
+    #[test]
+    fn widens_before_the_only_number_is_held(rt: HostRuntime) -> Result<(), Fail> {
+        let mut pool = Pool::new(rt.alloc(), 1)?;
+        assert_eq!(rt; pool.enter(5), Ok(()));
+        assert_eq!(rt; pool.widen(2), Ok(()));
+        assert_eq!(rt; pool.probe(5), Ok(Probe::Got(1)));
+        assert_eq!(rt; pool.enter(6), Ok(()));
+        assert_eq!(rt; pool.probe(6), Ok(Probe::Got(2)));
+        Ok(())
+    }
+
+    #[test]
+    fn widens_while_the_last_number_is_held(rt: HostRuntime) -> Result<(), Fail> {
+        let mut pool = Pool::new(rt.alloc(), 2)?;
+        assert_eq!(rt; pool.enter(5), Ok(()));
+        assert_eq!(rt; pool.probe(5), Ok(Probe::Got(1)));
+        assert_eq!(rt; pool.enter(6), Ok(()));
+        assert_eq!(rt; pool.probe(6), Ok(Probe::Got(2)));
+        assert_eq!(rt; pool.enter(7), Err(Refusal::Crowded));
+        assert_eq!(rt; pool.widen(2), Err(Refusal::OutOfRange));
+        assert_eq!(rt; pool.widen(4), Ok(()));
+        assert_eq!(rt; pool.enter(7), Ok(()));
+        assert_eq!(rt; pool.probe(7), Ok(Probe::Missed));
+        assert_eq!(rt; pool.probe(7), Ok(Probe::Missed));
+        assert_eq!(rt; pool.leave(6), Ok(2));
+        assert_eq!(rt; pool.probe(7), Ok(Probe::Got(3)));
+        assert_eq!(rt; pool.enter(8), Ok(()));
+        assert_eq!(rt; pool.probe(8), Ok(Probe::Missed));
+        assert_eq!(rt; pool.probe(8), Ok(Probe::Got(2)));
+        assert_eq!(rt; pool.acquire(9), Ok(4));
+        assert_eq!(rt; pool.enter(10), Err(Refusal::Crowded));
+        assert_eq!(rt; pool.widen(65), Err(Refusal::OutOfRange));
+        Ok(())
     }
 
     #[test]

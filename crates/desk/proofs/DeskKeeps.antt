@@ -1,5 +1,5 @@
 -- a desk over places of one kind goes on, event by event, and keeps the laws of its parts
-use Rattle.std.proofs.Common.{◌≡◌, ℕ, zero, suc, ◌-◌, true, inl, inr, List, [], ◌∷◌, ◌++◌, map, replicate, Option, Some, None, Result, Ok, Err, refl, sym, ap, subst, ◌∙◌}
+use Rattle.std.proofs.Common.{◌≡◌, ℕ, zero, suc, ◌-◌, true, inl, inr, List, [], ◌∷◌, ◌++◌, map, replicate, Some, None, Result, Ok, Err, refl, sym, ap, subst, ◌∙◌}
 use Rattle.std.specs.Prelude.{slice_get, slice_index}
 use Rattle.step_memory.specs.declared.refusal.Refusal.{Refusal}
 use Rattle.step_memory.specs.declared.refusal.Refusal.TheVariants as refusal
@@ -16,20 +16,20 @@ use Rattle.rename_core.specs.declared.config.WorldKind.{WorldKind}
 use Rattle.rename_core.specs.RenameWorld.{rename_answer, step_refusal, may_lack}
 use Rattle.rename_core.proofs.AfterCalls.{leads_on}
 use Rattle.rename_core.proofs.Sizes.{next_limit, next_most}
-use Rattle.bit_allocator.specs.Pool.{enter_answer, probe_answer, number_answer}
+use Rattle.bit_allocator.specs.Pool.{enter_answer, probe_answer, number_answer, widen_answer}
 use Rattle.bit_allocator.specs.Calls.Call.{Entered, Probed, Left}
 use Rattle.slot_array.specs.SlotCalls.{SlotCall}
-use Rattle.slot_array.specs.SlotCalls.SlotCall.{Pooled, Stored, Fetched}
+use Rattle.slot_array.specs.SlotCalls.SlotCall.{Pooled, Stored, Fetched, Extended}
 use Rattle.slot_array.specs.Slots.{stored_reply, IsFetched}
 use Rattle.slot_array.specs.After.{AfterSlots, slots_next, IsSlotReply}
 use Rattle.slot_array.proofs.SlotsKeep.{after_slots_call, slot_there, law_after_slots}
 use Rattle.desk.specs.declared.event.Event.{Event}
-use Rattle.desk.specs.declared.event.Event.TheVariants.{Begin, Step, Enter, Probe, Leave, Put, Get}
+use Rattle.desk.specs.declared.event.Event.TheVariants.{Begin, Step, Enter, Probe, Leave, Put, Get, Widen}
 use Rattle.desk.specs.declared.reply.Reply.{Reply}
 use Rattle.desk.specs.declared.reply.Reply.TheVariants as reply
 use Rattle.desk.specs.DeskState.{DeskState}
 use Rattle.desk.specs.DeskRun.{IsDeskRun, desk_terms}
-use Rattle.desk.specs.DeskCalls.{DeskCall, rename_calls, slot_calls, exchange, exchange_of, AfterDesk, LeadsBy}
+use Rattle.desk.specs.DeskCalls.{DeskCall, rename_calls, slot_calls, exchange, exchange_of, BeginsSlots, BeginSlots, AfterDesk, LeadsBy}
 use Rattle.desk.specs.DeskCalls.DeskCall.{Renamed, Slotted}
 use Rattle.desk.specs.DeskRules.{fetched, call_for, next_over, reply_over, after_over, grows_over, grows_by, rules_over}
 use Rattle.desk.specs.Rules.{may_by}
@@ -56,6 +56,11 @@ slot_calls-slotted [] h = refl
 slot_calls-slotted (Renamed k ∷ calls) h = slot_calls-slotted calls h
 slot_calls-slotted (Slotted k ∷ calls) h = ap (λ xs. k ∷ xs) (slot_calls-slotted calls h)
 
+-- one more call of slots that are 0 when they are new
+begin_more : (r : List (SlotCall ℕ)) (h : SlotCall ℕ) → BeginSlots r → BeginsSlots h → BeginSlots (r ++ h ∷ [])
+begin_more [] h all own = (own, tt)
+begin_more (k ∷ r) h all own = (all.0, begin_more r h all.1 own)
+
 -- what is found at a place is what stands there
 index_of-get : (xs : List ℕ) (i v : ℕ) → slice_get xs i ≡ Some v → slice_index xs i ≡ v
 index_of-get [] i v h = absurd (cc)
@@ -67,15 +72,17 @@ module _ {S R V U K : Type 0} (W : KnownPlaces S R V U K) (most limit size : ℕ
   renamed_after h is = record {
     names = subst (λ (xs : List (Call StepReply)). IsAfter W (next W w.names h) xs) (sym (rename_calls-renamed calls h)) (leads_on W w.names (next W w.names h) h refl is (rename_calls calls) a.names);
     slots = subst (λ (xs : List (SlotCall ℕ)). AfterSlots size (replicate size 0) w.slots xs) (sym (slot_calls-renamed calls h)) a.slots;
+    new_slots = subst (λ (xs : List (SlotCall ℕ)). BeginSlots xs) (sym (slot_calls-renamed calls h)) a.new_slots;
     most_is = next_most W w.names h ∙ a.most_is;
     limit_is = next_limit W w.names h ∙ a.limit_is;
   }
 
-  slotted_after : (h : SlotCall ℕ) → IsSlotReply w.slots h → AfterDesk W most limit size (next_over W w (Slotted h)) (calls ++ Slotted h ∷ [])
-  slotted_after h is = record {
+  slotted_after : (h : SlotCall ℕ) → IsSlotReply w.slots h → BeginsSlots h → AfterDesk W most limit size (next_over W w (Slotted h)) (calls ++ Slotted h ∷ [])
+  slotted_after h is new = record {
     names = subst (λ (xs : List (Call StepReply)). IsAfter W w.names xs) (sym (rename_calls-slotted calls h)) a.names;
     slots = subst (λ (xs : List (SlotCall ℕ)). AfterSlots size (replicate size 0) (slots_next w.slots h) xs) (sym (slot_calls-slotted calls h))
         (after_slots_call size (replicate size 0) w.slots (slots_next w.slots h) (slot_calls calls) h refl is a.slots);
+    new_slots = subst (λ (xs : List (SlotCall ℕ)). BeginSlots xs) (sym (slot_calls-slotted calls h)) (begin_more (slot_calls calls) h a.new_slots new);
     most_is = a.most_is;
     limit_is = a.limit_is;
   }
@@ -91,11 +98,12 @@ module _ {S R V U K : Type 0} (W : KnownPlaces S R V U K) (most limit size : ℕ
   call_after : (e : Event) → AfterDesk W most limit size (after_over W w e) (calls ++ call_for W w e ∷ [])
   call_after (Begin p) = renamed_after (Began p (done_unless (begin_refusal w.names.snap p))) refl
   call_after (Step p) = renamed_after (Stepped p (rename_answer W w.names p)) (inl refl)
-  call_after (Enter p) = slotted_after (Pooled (Entered p (enter_answer w.slots.pool p))) refl
-  call_after (Probe p) = slotted_after (Pooled (Probed p (probe_answer w.slots.pool p))) refl
-  call_after (Leave p) = slotted_after (Pooled (Left p (number_answer w.slots.pool p))) refl
-  call_after (Put p value) = slotted_after (Stored p value (stored_reply (number_answer w.slots.pool p))) refl
-  call_after (Get p) = slotted_after (Fetched p (fetched w.slots.values (number_answer w.slots.pool p))) (fetched_is p (number_answer w.slots.pool p) refl)
+  call_after (Enter p) = slotted_after (Pooled (Entered p (enter_answer w.slots.pool p))) refl tt
+  call_after (Probe p) = slotted_after (Pooled (Probed p (probe_answer w.slots.pool p))) refl tt
+  call_after (Leave p) = slotted_after (Pooled (Left p (number_answer w.slots.pool p))) refl tt
+  call_after (Put p value) = slotted_after (Stored p value (stored_reply (number_answer w.slots.pool p))) refl tt
+  call_after (Get p) = slotted_after (Fetched p (fetched w.slots.values (number_answer w.slots.pool p))) (fetched_is p (number_answer w.slots.pool p) refl) tt
+  call_after (Widen more) = slotted_after (Extended more 0 (widen_answer w.slots.pool more)) refl refl
 
   -- and is of that event
   call_spelled : (e : Event) → exchange_of (call_for W w e) ≡ exchange e (reply_over W w e)
@@ -106,6 +114,7 @@ module _ {S R V U K : Type 0} (W : KnownPlaces S R V U K) (most limit size : ℕ
   call_spelled (Leave p) = refl
   call_spelled (Put p value) = refl
   call_spelled (Get p) = refl
+  call_spelled (Widen more) = refl
 
   -- a step for which a growth was refused is a call too
   lacking : (p : ℕ) → grows_over W w (Step p) ≡ true → AfterDesk W most limit size w (calls ++ Renamed (Stepped p (Err refusal.NoMemory)) ∷ [])
@@ -122,6 +131,7 @@ module _ {S R V U K : Type 0} (W : KnownPlaces S R V U K) (most limit size : ℕ
   lack_leads (Leave p) h = absurd (cc)
   lack_leads (Put p value) h = absurd (cc)
   lack_leads (Get p) h = absurd (cc)
+  lack_leads (Widen more) h = absurd (cc)
 
   -- so calls lead on by whatever a desk may answer
   pub goes_on : (e : Event) (r : Reply) (u : DeskState S U K) → may_by (rules_over W) w e r u → LeadsBy W most limit size calls e r u
@@ -144,4 +154,5 @@ is_run W kind bounds most limit size w calls lawful a = record {
       (subst (λ (l : ℕ). KeepsRenameLaw (desk_terms w.names.snap.most l (is_tree kind)) (bounds w.names.snap.most) (rename_calls calls)) a.limit_is
       (lawful (rename_calls calls) a.names));
   slots = law_after_slots size (replicate size 0) w.slots (slot_calls calls) a.slots;
+  new_slots = a.new_slots;
 }

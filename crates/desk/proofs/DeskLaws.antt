@@ -64,6 +64,7 @@ module _ {S R V U K : Type 0} (W : KnownPlaces S R V U K) where
       record {
         names = record { first = made c.m; new = e.0; low = c.in_range.4; high = c.in_range.5; run = ap (λ (n : ℕ). fresh_world (made c.m) n c.limit) (sym e.1) };
         slots = record { first = c.in_range.2; last = c.in_range.3; many = length-replicate c.k 0; run = refl };
+        new_slots = tt;
         most_is = refl;
         limit_is = refl;
       }
@@ -73,7 +74,7 @@ module _ {S R V U K : Type 0} (W : KnownPlaces S R V U K) where
       IsLawfulWithin W kind (bounds w.names.snap.most) w.names → AfterDesk W most limit size w calls → (n : ℕ) → IsOwnerReply most (map exchange_of calls) n (owner_over w n)
   unfolding over.is_run
   owner_given kind bounds laws may_grow at_once most limit size w calls lawful a n =
-      let own : AfterDesk W w.names.snap.most w.names.limit size w calls = record { names = a.names; slots = a.slots; most_is = refl; limit_is = refl } in
+      let own : AfterDesk W w.names.snap.most w.names.limit size w calls = record { names = a.names; slots = a.slots; new_slots = a.new_slots; most_is = refl; limit_is = refl } in
       let run = over.is_run W kind bounds w.names.snap.most w.names.limit size w calls lawful own in
       let owns = owner_is W laws kind may_grow at_once w.names (rename_calls calls) a.names run.names.object run.names.run n in
       let is = given.owner_is (desk_terms w.names.snap.most w.names.limit (is_tree kind)) (bounds w.names.snap.most) size (map exchange_of calls) run n (owner_by n w.names.rounds) owns in

@@ -10,8 +10,8 @@ use Rattle.snapshot_core.specs.Snapshot.{SnapBounds}
 use Rattle.rename_core.specs.declared.reply.Reply.{Reply as StepReply}
 use Rattle.rename_core.specs.declared.reply.Reply.TheVariants.{Quiet, Placed, Proposed, Saw, Named, Spent}
 use Rattle.rename_core.specs.RenameObject.{RenameTerms, RenameObject, new_object, no_step, Allows, after, after_step, IsOwner}
-use Rattle.bit_allocator.specs.Calls.Call.{Entered, Probed, Left}
-use Rattle.slot_array.specs.SlotCalls.SlotCall.{Pooled, Stored, Fetched}
+use Rattle.bit_allocator.specs.Calls.Call.{Entered, Probed, Left, Widened}
+use Rattle.slot_array.specs.SlotCalls.SlotCall.{Pooled, Stored, Fetched, Extended}
 use Rattle.desk.specs.declared.event.Event.{Event}
 use Rattle.desk.specs.declared.event.Event.TheVariants as event
 use Rattle.desk.specs.declared.exchange.Exchange.{Exchange}
@@ -127,6 +127,8 @@ given_by p n (Slotted (Pooled (Probed q a)) ∷ calls) (inl x) = absurd (other_e
 given_by p n (Slotted (Pooled (Left q a)) ∷ calls) (inl x) = absurd (other_event p n (event.Leave q) _ (λ e. cc) x)
 given_by p n (Slotted (Stored q v a) ∷ calls) (inl x) = absurd (other_event p n (event.Put q v) _ (λ e. cc) x)
 given_by p n (Slotted (Fetched q a) ∷ calls) (inl x) = absurd (other_event p n (event.Get q) _ (λ e. cc) x)
+given_by p n (Slotted (Pooled (Widened more a)) ∷ calls) (inl x) = absurd (other_event p n (event.Widen more) _ (λ e. cc) x)
+given_by p n (Slotted (Extended more v a) ∷ calls) (inl x) = absurd (other_event p n (event.Widen more) _ (λ e. cc) x)
 given_by p n (Renamed h ∷ calls) (inr later) = inr (given_by p n calls later)
 given_by p n (Slotted h ∷ calls) (inr later) = given_by p n calls later
 
@@ -170,6 +172,8 @@ begun_shown (Slotted (Pooled (Probed q a)) ∷ calls) = begun_shown calls
 begun_shown (Slotted (Pooled (Left q a)) ∷ calls) = begun_shown calls
 begun_shown (Slotted (Stored q v a) ∷ calls) = begun_shown calls
 begun_shown (Slotted (Fetched q a) ∷ calls) = begun_shown calls
+begun_shown (Slotted (Pooled (Widened more a)) ∷ calls) = begun_shown calls
+begun_shown (Slotted (Extended more v a) ∷ calls) = begun_shown calls
 
 module _ (terms : RenameTerms) (bounds : SnapBounds) (size : ℕ) (r : List Exchange) (run : IsDeskRun terms bounds size r) where
   -- who was named has the name

@@ -1,7 +1,6 @@
 -- an event is refused, want of memory aside, just as the desk says beforehand
 use Rattle.std.proofs.Common.{◌≡◌, ◌↔◌, ℕ, List, Option, Some, None, Result, Ok, Err, IsOk, refl}
 use Rattle.step_memory.specs.declared.refusal.Refusal.{Refusal}
-use Rattle.step_memory.specs.declared.refusal.Refusal.TheVariants.{NotBegun}
 use Rattle.step_memory.specs.Participant.{program_of}
 use Rattle.step_memory.specs.World.{begin_refusal, done_unless}
 use Rattle.snapshot_core.specs.Places.{KnownPlaces}
@@ -18,9 +17,10 @@ use Rattle.bit_allocator.specs.declared.stay.Stay.TheVariants.{Seeking, Settled}
 use Rattle.bit_allocator.specs.Competitors.{stay_of}
 use Rattle.bit_allocator.specs.Pool.{enter_refusal, probe_answer_by, probe_refusal_by, number_answer}
 use Rattle.bit_allocator.specs.PoolState.{PoolState}
+use Rattle.bit_allocator.specs.Widening.{widen_refusal}
 use Rattle.slot_array.specs.Slots.{stored_reply}
 use Rattle.desk.specs.declared.event.Event.{Event}
-use Rattle.desk.specs.declared.event.Event.TheVariants.{Begin, Step, Enter, Probe as Probing, Leave, Put, Get}
+use Rattle.desk.specs.declared.event.Event.TheVariants.{Begin, Step, Enter, Probe as Probing, Leave, Put, Get, Widen}
 use Rattle.desk.specs.declared.reply.Reply.{Reply}
 use Rattle.desk.specs.declared.reply.Reply.TheVariants.{Refused}
 use Rattle.desk.specs.Replies.{done_reply, shown_step, step_reply, shown_probe, probe_reply, left_reply, value_reply}
@@ -93,3 +93,4 @@ module _ {S R V U K : Type 0} (W : KnownPlaces S R V U K) (w : DeskState S U K) 
   refuses_as_said (Leave p) = said_left (number_answer w.slots.pool p)
   refuses_as_said (Put p value) = said_stored (number_answer w.slots.pool p)
   refuses_as_said (Get p) = said_fetched w.slots.values (number_answer w.slots.pool p)
+  refuses_as_said (Widen more) = said_done (widen_refusal w.slots.pool.size more)

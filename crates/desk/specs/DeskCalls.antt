@@ -5,9 +5,9 @@ use Rattle.step_memory.specs.Calls.Call.{Began, Stepped}
 use Rattle.snapshot_core.specs.Places.{KnownPlaces}
 use Rattle.rename_core.specs.declared.reply.Reply.{Reply as StepReply}
 use Rattle.rename_core.specs.RenameCalls.{IsAfter}
-use Rattle.bit_allocator.specs.Calls.Call.{Entered, Probed, Left}
+use Rattle.bit_allocator.specs.Calls.Call.{Entered, Probed, Left, Widened}
 use Rattle.slot_array.specs.SlotCalls.{SlotCall}
-use Rattle.slot_array.specs.SlotCalls.SlotCall.{Pooled, Stored, Fetched}
+use Rattle.slot_array.specs.SlotCalls.SlotCall.{Pooled, Stored, Fetched, Extended}
 use Rattle.slot_array.specs.After.{AfterSlots}
 use Rattle.desk.specs.declared.event.Event.{Event}
 use Rattle.desk.specs.declared.event.Event.TheVariants as event
@@ -45,12 +45,27 @@ exchange_of (Slotted (Pooled (Probed p answer))) = exchange (event.Probe p) (pro
 exchange_of (Slotted (Pooled (Left p answer))) = exchange (event.Leave p) (left_reply answer)
 exchange_of (Slotted (Stored p value answer)) = exchange (event.Put p value) (done_reply answer)
 exchange_of (Slotted (Fetched p answer)) = exchange (event.Get p) (value_reply answer)
+exchange_of (Slotted (Pooled (Widened more answer))) = exchange (event.Widen more) (done_reply answer)
+exchange_of (Slotted (Extended more value answer)) = exchange (event.Widen more) (done_reply answer)
 
--- the desk is after these calls, for so many participants, rounds and numbers: its renaming world is after those of
--- renaming, and its slots, at first 0, after theirs
+-- where the call is a widening each new slot holds 0: the exchange does not show the value
+abbrev pub BeginsSlots : SlotCall ℕ → Type 0
+BeginsSlots (Pooled h) = Unit {0}
+BeginsSlots (Stored p value answer) = Unit {0}
+BeginsSlots (Fetched p answer) = Unit {0}
+BeginsSlots (Extended more value answer) = value ≡ 0
+
+-- so it is of each of these calls
+abbrev pub BeginSlots : List (SlotCall ℕ) → Type 0
+BeginSlots [] = Unit {0}
+BeginSlots (h ∷ r) = BeginsSlots h × BeginSlots r
+
+-- the desk is after these calls, for so many participants, rounds and numbers at the start: its renaming world is after
+-- those of renaming, and its slots, each 0 when it is new, after theirs
 pub record AfterDesk {S R V U K : Type 0} (W : KnownPlaces S R V U K) (most limit size : ℕ) (w : DeskState S U K) (calls : List DeskCall) : Type 0 where
   pub names : IsAfter W w.names (rename_calls calls)
   pub slots : AfterSlots size (replicate size 0) w.slots (slot_calls calls)
+  pub new_slots : BeginSlots (slot_calls calls)
   pub most_is : w.names.snap.most ≡ most
   pub limit_is : w.names.limit ≡ limit
 

@@ -1,18 +1,19 @@
 -- what a desk over places of one kind answers to an event, and what is left then
-use Rattle.std.specs.Prelude.{ℕ, ◌-◌, Bool, true, false, List, Option, Some, None, Result, Ok, Err, slice_index, replicate}
+use Rattle.std.specs.Prelude.{ℕ, ◌-◌, Bool, false, List, Option, Some, None, Result, Ok, Err, slice_index, replicate}
 use Rattle.step_memory.specs.declared.refusal.Refusal.{Refusal}
 use Rattle.step_memory.specs.Calls.Call.{Began, Stepped}
 use Rattle.step_memory.specs.World.{begin_refusal, done_unless}
 use Rattle.snapshot_core.specs.Places.{KnownPlaces}
 use Rattle.rename_core.specs.RenameCalls.{next}
 use Rattle.rename_core.specs.RenameWorld.{fresh_world, rename_answer, step_refusal, may_lack}
-use Rattle.bit_allocator.specs.Pool.{enter_refusal, enter_answer, probe_refusal, probe_answer, number_answer, fresh_pool}
+use Rattle.bit_allocator.specs.Pool.{enter_refusal, enter_answer, probe_refusal, probe_answer, number_answer, widen_answer, fresh_pool}
+use Rattle.bit_allocator.specs.Widening.{widen_refusal}
 use Rattle.bit_allocator.specs.Calls.Call.{Entered, Probed, Left}
-use Rattle.slot_array.specs.SlotCalls.SlotCall.{Pooled, Stored, Fetched}
+use Rattle.slot_array.specs.SlotCalls.SlotCall.{Pooled, Stored, Fetched, Extended}
 use Rattle.slot_array.specs.Slots.{stored_reply}
 use Rattle.slot_array.specs.After.{slots_next}
 use Rattle.desk.specs.declared.event.Event.{Event}
-use Rattle.desk.specs.declared.event.Event.TheVariants.{Begin, Step, Enter, Probe, Leave, Put, Get}
+use Rattle.desk.specs.declared.event.Event.TheVariants.{Begin, Step, Enter, Probe, Leave, Put, Get, Widen}
 use Rattle.desk.specs.declared.reply.Reply.{Reply}
 use Rattle.desk.specs.DeskCalls.{DeskCall, exchange_of}
 use Rattle.desk.specs.DeskCalls.DeskCall.{Renamed, Slotted}
@@ -51,6 +52,7 @@ module _ {S U K : Type 0} where
   refusal_over w (Leave p) = refusal_of (number_answer w.slots.pool p)
   refusal_over w (Put p value) = refusal_of (number_answer w.slots.pool p)
   refusal_over w (Get p) = refusal_of (number_answer w.slots.pool p)
+  refusal_over w (Widen more) = widen_refusal w.slots.pool.size more
 
 module _ {S R V U K : Type 0} (W : KnownPlaces S R V U K) where
   -- the call that an event is, with the reply that it gets where no growth is refused
@@ -62,6 +64,7 @@ module _ {S R V U K : Type 0} (W : KnownPlaces S R V U K) where
   call_for w (Leave p) = Slotted (Pooled (Left p (number_answer w.slots.pool p)))
   call_for w (Put p value) = Slotted (Stored p value (stored_reply (number_answer w.slots.pool p)))
   call_for w (Get p) = Slotted (Fetched p (fetched w.slots.values (number_answer w.slots.pool p)))
+  call_for w (Widen more) = Slotted (Extended more 0 (widen_answer w.slots.pool more))
 
   -- the desk after a call
   abbrev pub next_over : DeskState S U K → DeskCall → DeskState S U K
@@ -84,6 +87,7 @@ module _ {S R V U K : Type 0} (W : KnownPlaces S R V U K) where
   grows_over w (Leave p) = false
   grows_over w (Put p value) = false
   grows_over w (Get p) = false
+  grows_over w (Widen more) = false
 
   abbrev pub rules_over : Rules (DeskState S U K)
   rules_over = record { reply = reply_over; after = after_over; grows = grows_over }

@@ -9,17 +9,18 @@ use Rattle.rename_core.specs.Law.{KeepsRenameLaw}
 use Rattle.rename_core.specs.RenameObject.{RenameTerms}
 use Rattle.slot_array.specs.Law.{KeepsSlotsLaw}
 use Rattle.desk.specs.declared.exchange.Exchange.{Exchange}
-use Rattle.desk.specs.DeskCalls.{DeskCall, rename_calls, slot_calls, exchange_of}
+use Rattle.desk.specs.DeskCalls.{DeskCall, rename_calls, slot_calls, exchange_of, BeginSlots}
 
 -- The exchanges are calls of renaming, pool and slots. Those of renaming keep its law: no two have one name, where b have
 -- begun each name is from 1 to 2b - 1, each view shown is a moment of its scan, and nobody is answered `quiet` for ever.
 -- Those of pool and slots keep theirs: while at most as many compete as there are numbers, what is held is distinct and
--- within them, and a slot changes by its holder alone
+-- within them, and a slot, which is 0 when it is new, changes by its holder alone. The size is that at the start
 pub record IsDeskRun (terms : RenameTerms) (bounds : SnapBounds) (size : ℕ) (r : List Exchange) : Type 0 where
   pub calls : List DeskCall
   pub spelled : map exchange_of calls ≡ r
   pub names : KeepsRenameLaw terms bounds (rename_calls calls)
   pub slots : KeepsSlotsLaw size (replicate size 0) (slot_calls calls)
+  pub new_slots : BeginSlots (slot_calls calls)
 
 -- the numbers of the renaming object's law
 abbrev pub desk_terms : ℕ → ℕ → Bool → RenameTerms

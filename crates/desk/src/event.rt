@@ -1,7 +1,7 @@
-//! What a participant does.
+//! What a participant does, and that the pool gets more numbers.
 
-/// One event: what one participant does, with at most one access to one register. The identity is as it was written,
-/// 0 included.
+/// One event: what one participant does, with at most one access to one register; or that the pool gets more numbers, which
+/// makes at most one access too and is no participant's. The identity is as it was written, 0 included.
 #[derive(Clone, Copy, Debug, Drop, PartialEq, Eq)]
 pub enum Event {
     /// The participant begins.
@@ -18,4 +18,6 @@ pub enum Event {
     Put(u64, u64),
     /// The holder of a number gets the value in its slot.
     Get(u64),
+    /// The pool gets more numbers, up to this one, and each new slot holds 0.
+    Widen(u64),
 }

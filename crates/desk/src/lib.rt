@@ -2,7 +2,7 @@
 //!
 //! An *event* is what one participant does, with at most one access to one register; it is answered at once. A desk takes
 //! the events of renaming (`Begin`, `Step`), of the pool (`Enter`, `Probe`, `Leave`) and of the slots (`Put`, `Get`), from
-//! any participants in any order.
+//! any participants in any order; and one that is no participant's, by which the pool gets more numbers (`Widen`).
 //!
 //! Names are given over the places of a grid (the world `Rename`) or of a tree (`Tree`), as the config says: one desk, with
 //! one definition of what it answers.

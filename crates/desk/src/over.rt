@@ -77,6 +77,7 @@ where
             Event::Leave(id) => ShortReply::of_leave(self.slots.leave(id)),
             Event::Put(id, value) => ShortReply::of_done(self.slots.put(id, value)),
             Event::Get(id) => ShortReply::of_value(self.slots.get(id).copied()),
+            Event::Widen(size) => ShortReply::of_done(self.slots.widen(size, 0)),
         }
     }
 
@@ -92,6 +93,7 @@ where
             Event::Leave(id) => self.slots.pool().number_of(id).err(),
             Event::Put(id, _) => self.slots.pool().number_of(id).err(),
             Event::Get(id) => self.slots.pool().number_of(id).err(),
+            Event::Widen(size) => self.slots.pool().widen_refusal(size),
         }
     }
 

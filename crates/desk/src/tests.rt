@@ -292,3 +292,62 @@ fn the_last_slot(rt: HostRuntime) -> Result<(), Fail> {
     }
     Ok(())
 }
+
+/// The pool gets more numbers while the last is held, and the new slots hold 0.
+#[test]
+fn a_pool_that_widens(rt: HostRuntime) -> Result<(), Fail> {
+    for world in [WorldKind::Rename, WorldKind::Tree] {
+        let mut desk = pooled(rt.alloc(), world, 2)?;
+        plays(
+            &rt,
+            &mut desk,
+            &[
+                (Event::Enter(5), Reply::Ok),
+                (Event::Probe(5), Reply::Got(1)),
+                (Event::Enter(6), Reply::Ok),
+                (Event::Probe(6), Reply::Got(2)),
+                (Event::Enter(7), Reply::Refused(Refusal::Crowded)),
+                (Event::Widen(2), Reply::Refused(Refusal::OutOfRange)),
+                (Event::Widen(4), Reply::Ok),
+                (Event::Enter(7), Reply::Ok),
+                (Event::Probe(7), Reply::Missed),
+                (Event::Probe(7), Reply::Missed),
+                (Event::Leave(6), Reply::Left(2)),
+                (Event::Probe(7), Reply::Got(3)),
+                (Event::Enter(8), Reply::Ok),
+                (Event::Probe(8), Reply::Missed),
+                (Event::Probe(8), Reply::Got(2)),
+                (Event::Enter(9), Reply::Ok),
+                (Event::Probe(9), Reply::Missed),
+                (Event::Probe(9), Reply::Missed),
+                (Event::Probe(9), Reply::Got(4)),
+                (Event::Enter(10), Reply::Refused(Refusal::Crowded)),
+                (Event::Get(9), Reply::Value(0)),
+                (Event::Put(9, 5), Reply::Ok),
+                (Event::Get(9), Reply::Value(5)),
+                (Event::Widen(65), Reply::Refused(Refusal::OutOfRange)),
+            ],
+        );
+    }
+    Ok(())
+}
+
+/// A pool of one number widens before it is held.
+#[test]
+fn a_pool_of_one_that_widens(rt: HostRuntime) -> Result<(), Fail> {
+    for world in [WorldKind::Rename, WorldKind::Tree] {
+        let mut desk = pooled(rt.alloc(), world, 1)?;
+        plays(
+            &rt,
+            &mut desk,
+            &[
+                (Event::Enter(5), Reply::Ok),
+                (Event::Widen(2), Reply::Ok),
+                (Event::Probe(5), Reply::Got(1)),
+                (Event::Enter(6), Reply::Ok),
+                (Event::Probe(6), Reply::Got(2)),
+            ],
+        );
+    }
+    Ok(())
+}

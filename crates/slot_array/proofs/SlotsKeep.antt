@@ -1,25 +1,29 @@
 -- each call of slots keeps the law
-use Rattle.std.proofs.Common.{◌≡◌, ◌≤◌, ℕ, zero, suc, ◌-◌, ◌<◌, true, false, not, cond, List, [], ◌∷◌, ◌++◌, Some, None, Ok, Err, Result, length, refl, sym, ap, subst, ◌∙◌, arith}
+use Rattle.std.proofs.Common.{◌≡◌, ◌≤◌, ℕ, zero, suc, ◌-◌, ◌<◌, true, false, not, cond, List, [], ◌∷◌, ◌++◌, Some, None, Ok, Err, Result, length, replicate, refl, sym, ap, subst, ◌∙◌, arith}
 use Rattle.std.specs.Prelude.{slice_get, ok_or}
 use Rattle.step_memory.specs.declared.refusal.Refusal.TheVariants.{NotCompeting, NotHolding}
-use Rattle.std.proofs.lemmas.List.{length-set}
+use Rattle.std.proofs.lemmas.List.{length-set, length-append, length-replicate}
 use Rattle.step_memory.specs.declared.refusal.Refusal.{Refusal}
+use Rattle.step_memory.specs.World.{done_unless}
 use Rattle.step_memory.specs.Runs.{Run}
 use Rattle.step_memory.proofs.RunLemmas.{run_more, run_keeps, run_one, run_splits}
-use Rattle.bit_allocator.specs.Pool.{fresh_pool, number_answer}
+use Rattle.bit_allocator.specs.Pool.{fresh_pool, number_answer, widen_answer, after_widen}
+use Rattle.bit_allocator.specs.Widening.{widen_refusal}
+use Rattle.bit_allocator.specs.PoolState.{PoolState}
 use Rattle.bit_allocator.specs.declared.probe.Probe.TheVariants.{Missed, Got}
 use Rattle.bit_allocator.specs.Calls.{Call}
-use Rattle.bit_allocator.specs.Calls.Call.{Entered, Probed, Left}
+use Rattle.bit_allocator.specs.Calls.Call.{Entered, Probed, Left, Widened}
 use Rattle.bit_allocator.specs.PoolObject.{PoolObject, competes, fresh_object, Answers, after, number_in, IsRun}
 use Rattle.bit_allocator.specs.After.{After, next, IsReply}
 use Rattle.bit_allocator.proofs.PoolKeeps.{law_after, number_after}
 use Rattle.slot_array.specs.SlotsState.{SlotsState}
 use Rattle.slot_array.specs.SlotCalls.{SlotCall, pool_calls}
-use Rattle.slot_array.specs.SlotCalls.SlotCall.{Pooled, Stored, Fetched}
-use Rattle.slot_array.specs.Slots.{slot, stored_reply, stored_in, IsFetched, after_put}
-use Rattle.slot_array.specs.SlotsObject.{SlotsObject, fresh_slots, SlotAnswers, slots_after, IsSlotsRun}
+use Rattle.slot_array.specs.SlotCalls.SlotCall.{Pooled, Stored, Fetched, Extended}
+use Rattle.slot_array.specs.Slots.{slot, stored_reply, stored_in, IsFetched, after_put, extended_in, after_extend}
+use Rattle.slot_array.specs.SlotsObject.{SlotsObject, fresh_slots, PoolAnswers, SlotAnswers, slots_after, IsSlotsRun}
 use Rattle.slot_array.specs.Law.{KeepsSlotsLaw}
-use Rattle.slot_array.specs.After.{AfterSlots, slots_next, IsSlotReply}
+use Rattle.slot_array.specs.After.{AfterSlots, slots_next, IsPoolReply, IsSlotReply}
+use Rattle.slot_array.proofs.SlotLemmas.{wider}
 
 -- the pool's part of one more call
 pool_calls-pooled : {T : Type 0} (r : List (SlotCall T)) (h : Call) → pool_calls (r ++ Pooled h ∷ []) ≡ pool_calls r ++ h ∷ []
@@ -27,18 +31,28 @@ pool_calls-pooled [] h = refl
 pool_calls-pooled (Pooled k ∷ r) h = ap (λ xs. k ∷ xs) (pool_calls-pooled r h)
 pool_calls-pooled (Stored p v reply ∷ r) h = pool_calls-pooled r h
 pool_calls-pooled (Fetched p reply ∷ r) h = pool_calls-pooled r h
+pool_calls-pooled (Extended more v reply ∷ r) h = ap (λ xs. Widened more reply ∷ xs) (pool_calls-pooled r h)
 
 pool_calls-stored : {T : Type 0} (r : List (SlotCall T)) (p : ℕ) (value : T) (reply : Result (Unit {0}) Refusal) → pool_calls (r ++ Stored p value reply ∷ []) ≡ pool_calls r
 pool_calls-stored [] p value reply = refl
 pool_calls-stored (Pooled k ∷ r) p value reply = ap (λ xs. k ∷ xs) (pool_calls-stored r p value reply)
 pool_calls-stored (Stored q v e ∷ r) p value reply = pool_calls-stored r p value reply
 pool_calls-stored (Fetched q e ∷ r) p value reply = pool_calls-stored r p value reply
+pool_calls-stored (Extended more v e ∷ r) p value reply = ap (λ xs. Widened more e ∷ xs) (pool_calls-stored r p value reply)
 
 pool_calls-fetched : {T : Type 0} (r : List (SlotCall T)) (p : ℕ) (reply : Result T Refusal) → pool_calls (r ++ Fetched p reply ∷ []) ≡ pool_calls r
 pool_calls-fetched [] p reply = refl
 pool_calls-fetched (Pooled k ∷ r) p reply = ap (λ xs. k ∷ xs) (pool_calls-fetched r p reply)
 pool_calls-fetched (Stored q v e ∷ r) p reply = pool_calls-fetched r p reply
 pool_calls-fetched (Fetched q e ∷ r) p reply = pool_calls-fetched r p reply
+pool_calls-fetched (Extended more v e ∷ r) p reply = ap (λ xs. Widened more e ∷ xs) (pool_calls-fetched r p reply)
+
+pool_calls-extended : {T : Type 0} (r : List (SlotCall T)) (more : ℕ) (value : T) (reply : Result (Unit {0}) Refusal) → pool_calls (r ++ Extended more value reply ∷ []) ≡ pool_calls r ++ Widened more reply ∷ []
+pool_calls-extended [] more value reply = refl
+pool_calls-extended (Pooled k ∷ r) more value reply = ap (λ xs. k ∷ xs) (pool_calls-extended r more value reply)
+pool_calls-extended (Stored q v e ∷ r) more value reply = pool_calls-extended r more value reply
+pool_calls-extended (Fetched q e ∷ r) more value reply = pool_calls-extended r more value reply
+pool_calls-extended (Extended n v e ∷ r) more value reply = ap (λ xs. Widened n e ∷ xs) (pool_calls-extended r more value reply)
 
 -- `put` keeps as many slots
 length-stored_in : {T : Type 0} (held : Result ℕ Refusal) (value : T) (values : List T) → length (stored_in held value values) ≡ length values
@@ -52,17 +66,38 @@ record Stands {T : Type 0} (size : ℕ) (first : List T) (s : SlotsState T) (r :
   pool : After size s.pool (pool_calls r)
   pool_run : IsRun size (pool_calls r) object.pool
   values : object.values ≡ s.values
-  many : length object.values ≡ size
-  size_is : object.pool.size ≡ size
+  many : length object.values ≡ object.pool.size
 
-size_kept : (o : PoolObject) (h : Call) → (after o h).size ≡ o.size
-size_kept o (Entered p (Ok done)) = refl
-size_kept o (Entered p (Err refusal)) = refl
-size_kept o (Probed p (Ok Missed)) = refl
-size_kept o (Probed p (Ok (Got n))) = refl
-size_kept o (Probed p (Err refusal)) = refl
-size_kept o (Left p (Ok n)) = refl
-size_kept o (Left p (Err refusal)) = refl
+-- a call of the pool alone keeps its size
+size_kept : (w : PoolState) (o : PoolObject) (h : Call) → IsPoolReply w h → (after o h).size ≡ o.size
+size_kept w o (Entered p (Ok done)) is = refl
+size_kept w o (Entered p (Err refusal)) is = refl
+size_kept w o (Probed p (Ok Missed)) is = refl
+size_kept w o (Probed p (Ok (Got n))) is = refl
+size_kept w o (Probed p (Err refusal)) is = refl
+size_kept w o (Left p (Ok n)) is = refl
+size_kept w o (Left p (Err refusal)) is = refl
+size_kept w o (Widened more reply) is = absurd is
+
+-- its reply is that of the pool
+pool_reply : (w : PoolState) (h : Call) → IsPoolReply w h → IsReply w h
+pool_reply w (Entered p reply) is = is
+pool_reply w (Probed p reply) is = is
+pool_reply w (Left p reply) is = is
+pool_reply w (Widened more reply) is = absurd is
+
+pool_answers : (w : PoolState) (o : PoolObject) (h : Call) → IsPoolReply w h → Answers o h → PoolAnswers o h
+pool_answers w o (Entered p reply) is right = right
+pool_answers w o (Probed p reply) is right = right
+pool_answers w o (Left p reply) is right = right
+pool_answers w o (Widened more reply) is right = absurd is
+
+-- there are as many values as numbers after a widening too
+many_extended : {T : Type 0} (o : PoolObject) (more : ℕ) (value : T) (values : List T) (reply : Result (Unit {0}) Refusal) → length values ≡ o.size → reply ≡ done_unless (widen_refusal o.size more) →
+    length (extended_in reply more value values) ≡ (after o (Widened more reply)).size
+many_extended o more value values (Err refusal) many is = many
+many_extended o more value values (Ok done) many is =
+    omega (arith, length-append values (replicate (more - length values) value), length-replicate (more - length values) value, wider o.size more done is, many)
 
 module _ {T : Type 0} (size : ℕ) (first : List T) (s : SlotsState T) (r : List (SlotCall T)) (t : Stands size first s r) where
   -- the object goes on by a call
@@ -72,22 +107,43 @@ module _ {T : Type 0} (size : ℕ) (first : List T) (s : SlotsState T) (r : List
   held_is : (p : ℕ) → number_answer s.pool p ≡ number_in t.object.pool p
   held_is p = number_after size s.pool (pool_calls r) t.object.pool t.pool t.pool_run p
 
-  pooled_keeps : (h : Call) → IsReply s.pool h → Stands size first (record s { pool = next s.pool h }) (r ++ Pooled h ∷ [])
-  pooled_keeps h is =
-      let pool : After size (next s.pool h) (pool_calls r ++ h ∷ []) =
-      record { first = t.pool.first; last = t.pool.last; run = run_more next IsReply (fresh_pool size) (pool_calls r) s.pool h t.pool.run is } in
-      let law = law_after size (next s.pool h) (pool_calls r ++ h ∷ []) pool in
+  -- the pool and its object go on by a call of the pool
+  pool_on : (h : Call) → IsReply s.pool h → After size (next s.pool h) (pool_calls r ++ h ∷ [])
+  pool_on h is = record { first = t.pool.first; last = t.pool.last; run = run_more next IsReply (fresh_pool size) (pool_calls r) s.pool h t.pool.run is }
+
+  pool_right : (h : Call) → IsReply s.pool h → Answers t.object.pool h
+  pool_right h is =
+      let law = law_after size (next s.pool h) (pool_calls r ++ h ∷ []) (pool_on h is) in
       let l = run_splits after Answers (fresh_object size) (pool_calls r) (h ∷ []) law.object law.run in
       let same : l.0 ≡ t.object.pool = run_one after Answers (fresh_object size) (pool_calls r) l.0 t.object.pool l.1 t.pool_run in
-      let right : Answers t.object.pool h = subst (λ (x : PoolObject). Answers x h) same l.2.0 in
+      subst (λ (x : PoolObject). Answers x h) same l.2.0
+
+  pool_run_on : (h : Call) → IsReply s.pool h → IsRun size (pool_calls r ++ h ∷ []) (after t.object.pool h)
+  pool_run_on h is = run_more after Answers (fresh_object size) (pool_calls r) t.object.pool h t.pool_run (pool_right h is)
+
+  pooled_keeps : (h : Call) → IsPoolReply s.pool h → Stands size first (record s { pool = next s.pool h }) (r ++ Pooled h ∷ [])
+  pooled_keeps h own =
+      let is : IsReply s.pool h = pool_reply s.pool h own in
       record {
         object = slots_after t.object (Pooled h);
-        run = gone_on (Pooled h) right;
-        pool = subst (λ (xs : List Call). After size (next s.pool h) xs) (sym (pool_calls-pooled r h)) pool;
-        pool_run = subst (λ (xs : List Call). IsRun size xs (after t.object.pool h)) (sym (pool_calls-pooled r h)) (run_more after Answers (fresh_object size) (pool_calls r) t.object.pool h t.pool_run right);
+        run = gone_on (Pooled h) (pool_answers s.pool t.object.pool h own (pool_right h is));
+        pool = subst (λ (xs : List Call). After size (next s.pool h) xs) (sym (pool_calls-pooled r h)) (pool_on h is);
+        pool_run = subst (λ (xs : List Call). IsRun size xs (after t.object.pool h)) (sym (pool_calls-pooled r h)) (pool_run_on h is);
         values = t.values;
-        many = t.many;
-        size_is = size_kept t.object.pool h ∙ t.size_is;
+        many = t.many ∙ sym (size_kept s.pool t.object.pool h own);
+      }
+
+  extended_keeps : (more : ℕ) (value : T) (reply : Result (Unit {0}) Refusal) → reply ≡ widen_answer s.pool more → Stands size first (after_extend s more value) (r ++ Extended more value reply ∷ [])
+  extended_keeps more value reply is =
+      let h : Call = Widened more reply in
+      let right : reply ≡ done_unless (widen_refusal t.object.pool.size more) = pool_right h is in
+      record {
+        object = slots_after t.object (Extended more value reply);
+        run = gone_on (Extended more value reply) right;
+        pool = subst (λ (xs : List Call). After size (after_widen s.pool more) xs) (sym (pool_calls-extended r more value reply)) (pool_on h is);
+        pool_run = subst (λ (xs : List Call). IsRun size xs (after t.object.pool h)) (sym (pool_calls-extended r more value reply)) (pool_run_on h is);
+        values = ap (λ (xs : List T). extended_in reply more value xs) t.values ∙ ap (λ (k : Result (Unit {0}) Refusal). extended_in k more value s.values) is;
+        many = many_extended t.object.pool more value t.object.values reply t.many right;
       }
 
   stored_keeps : (p : ℕ) (value : T) (reply : Result (Unit {0}) Refusal) → reply ≡ stored_reply (number_answer s.pool p) → Stands size first (after_put s p value) (r ++ Stored p value reply ∷ [])
@@ -100,7 +156,6 @@ module _ {T : Type 0} (size : ℕ) (first : List T) (s : SlotsState T) (r : List
         pool_run = subst (λ (xs : List Call). IsRun size xs t.object.pool) (sym (pool_calls-stored r p value reply)) t.pool_run;
         values = ap (λ (xs : List T). stored_in (number_in t.object.pool p) value xs) t.values ∙ ap (λ (k : Result ℕ Refusal). stored_in k value s.values) (sym held);
         many = length-stored_in (number_in t.object.pool p) value t.object.values ∙ t.many;
-        size_is = t.size_is;
       }
 
   fetched_keeps : (p : ℕ) (reply : Result T Refusal) → IsFetched s.values (number_answer s.pool p) reply → Stands size first s (r ++ Fetched p reply ∷ [])
@@ -114,13 +169,13 @@ module _ {T : Type 0} (size : ℕ) (first : List T) (s : SlotsState T) (r : List
         pool_run = subst (λ (xs : List Call). IsRun size xs t.object.pool) (sym (pool_calls-fetched r p reply)) t.pool_run;
         values = t.values;
         many = t.many;
-        size_is = t.size_is;
       }
 
 next_keeps : {T : Type 0} (size : ℕ) (first : List T) (s : SlotsState T) (r : List (SlotCall T)) (h : SlotCall T) → Stands size first s r → IsSlotReply s h → Stands size first (slots_next s h) (r ++ h ∷ [])
 next_keeps size first s r (Pooled h) t is = pooled_keeps size first s r t h is
 next_keeps size first s r (Stored p value reply) t is = stored_keeps size first s r t p value reply is
 next_keeps size first s r (Fetched p reply) t is = fetched_keeps size first s r t p reply is
+next_keeps size first s r (Extended more value reply) t is = extended_keeps size first s r t more value reply is
 
 -- so it is after any calls
 stands : {T : Type 0} (size : ℕ) (first : List T) (s : SlotsState T) (r : List (SlotCall T)) → AfterSlots size first s r → Stands size first s r
@@ -133,7 +188,6 @@ stands {T} size first s r a =
       pool_run = refl;
       values = refl;
       many = a.many;
-      size_is = refl;
     } in
     run_keeps slots_next IsSlotReply (Stands size first) (next_keeps size first) fresh [] r s begun a.run
 
@@ -141,7 +195,7 @@ stands {T} size first s r a =
 pub law_after_slots : {T : Type 0} (size : ℕ) (first : List T) (s : SlotsState T) (r : List (SlotCall T)) → AfterSlots size first s r → KeepsSlotsLaw size first r
 law_after_slots size first s r a =
     let t = stands size first s r a in
-    record { object = t.object; run = t.run; pool = law_after size s.pool (pool_calls r) t.pool; slots = t.many ∙ sym t.size_is }
+    record { object = t.object; run = t.run; pool = law_after size s.pool (pool_calls r) t.pool; slots = t.many }
 
 -- the pool is after its part of the calls
 pub pool_after : {T : Type 0} (size : ℕ) (first : List T) (s : SlotsState T) (r : List (SlotCall T)) → AfterSlots size first s r → After size s.pool (pool_calls r)
@@ -197,6 +251,6 @@ slot_there size first s r id n a holds =
     let held : law.object.held id ≡ Some n = held_of law.object id n (sym (number_after size s.pool (pool_calls r) law.object t.pool law.run id) ∙ holds) in
     let range = law.in_range id n held in
     let same : law.object ≡ t.object.pool = run_one after Answers (fresh_object size) (pool_calls r) law.object t.object.pool law.run t.pool_run in
-    let sized : law.object.size ≡ size = ap (λ (o : PoolObject). o.size) same ∙ t.size_is in
-    let many : length s.values ≡ size = sym (ap length t.values) ∙ t.many in
+    let sized : law.object.size ≡ t.object.pool.size = ap (λ (o : PoolObject). o.size) same in
+    let many : length s.values ≡ t.object.pool.size = sym (ap length t.values) ∙ t.many in
     something_at s.values (n - 1) (omega arith)

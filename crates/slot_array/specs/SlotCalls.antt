@@ -2,12 +2,15 @@
 use Rattle.std.specs.Prelude.{ℕ, List, [], ◌∷◌, Result}
 use Rattle.step_memory.specs.declared.refusal.Refusal.{Refusal}
 use Rattle.bit_allocator.specs.Calls.{Call}
+use Rattle.bit_allocator.specs.Calls.Call.{Widened}
 
--- a call of the pool; a value put by an identity; and the value that an identity got
+-- a call of the pool alone; a value put by an identity; the value that an identity got; and a widening of the pool, with
+-- the value that each new slot is to hold
 pub data SlotCall (T : Type 0) : Type 0 where
   Pooled : Call → SlotCall T
   Stored : ℕ → T → Result (Unit {0}) Refusal → SlotCall T
   Fetched : ℕ → Result T Refusal → SlotCall T
+  Extended : ℕ → T → Result (Unit {0}) Refusal → SlotCall T
 
 -- the pool's part of a list of calls
 abbrev pub pool_calls : {T : Type 0} → List (SlotCall T) → List Call
@@ -15,3 +18,4 @@ pool_calls [] = []
 pool_calls (Pooled h ∷ r) = h ∷ pool_calls r
 pool_calls (Stored p v reply ∷ r) = pool_calls r
 pool_calls (Fetched p reply ∷ r) = pool_calls r
+pool_calls (Extended more v reply ∷ r) = Widened more reply ∷ pool_calls r

@@ -1,8 +1,8 @@
 -- what the calls of slots answer and leave
-use Rattle.std.specs.Prelude.{◌≡◌, ◌≢◌, ℕ, ◌-◌, ◌≤◌, List, Option, Some, Result, Ok, Err, slice_get, slice_set}
+use Rattle.std.specs.Prelude.{◌≡◌, ◌≢◌, ℕ, ◌-◌, ◌≤◌, ◌<◌, List, ◌++◌, length, replicate, Option, Some, Result, Ok, Err, slice_get, slice_set}
 use Rattle.std.specs.Result.{IsOkAnd}
 use Rattle.step_memory.specs.declared.refusal.Refusal.{Refusal}
-use Rattle.bit_allocator.specs.Pool.{number_answer}
+use Rattle.bit_allocator.specs.Pool.{number_answer, widen_answer, after_widen}
 use Rattle.slot_array.specs.SlotsState.{SlotsState}
 
 -- the value in the slot of a number
@@ -33,3 +33,17 @@ pub record ChangesOwnSlot {T : Type 0} (id : ℕ) (value : T) (old new : SlotsSt
   pub own : (number : ℕ) → number_answer old.pool id ≡ Ok number → slot number new.values ≡ Some value
   pub others : (number : ℕ) → 1 ≤ number → number_answer old.pool id ≢ Ok number → slot number new.values ≡ slot number old.values
   pub pool : new.pool ≡ old.pool
+
+-- the values after `widen` that is answered so: each new slot holds this value
+abbrev pub extended_in : {T : Type 0} → Result (Unit {0}) Refusal → ℕ → T → List T → List T
+extended_in (Ok done) more value values = values ++ replicate (more - length values) value
+extended_in (Err refusal) more value values = values
+
+-- the slots after `widen`
+abbrev pub after_extend : {T : Type 0} → SlotsState T → ℕ → T → SlotsState T
+after_extend s more value = record { pool = after_widen s.pool more; values = extended_in (widen_answer s.pool more) more value s.values }
+
+-- `widen` fills the new slots with this value, and leaves the others as they are
+pub record FillsNewSlots {T : Type 0} (more : ℕ) (value : T) (old new : SlotsState T) : Type 0 where
+  pub kept : (number : ℕ) → 1 ≤ number → number ≤ old.pool.size → slot number new.values ≡ slot number old.values
+  pub filled : (number : ℕ) → old.pool.size < number → number ≤ more → slot number new.values ≡ Some value

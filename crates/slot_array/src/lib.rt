@@ -2,12 +2,12 @@
 //!
 //! A competitor of a pool takes a number, works with the slot of that number alone, and gives the number back; the slot
 //! keeps its value for the next holder. So a thread has a slot of its own as long as it needs one, any number of times,
-//! among as many slots as compete at once.
+//! among as many slots as compete at once. Where the pool gets more numbers, so are there more slots.
 //!
 //! What is proved, over every list of calls in any order: the pool's part of the list keeps the pool's law
 //! (`bit_allocator`); `put` by the holder of a number changes the slot of that number and nothing else; `get` answers
-//! what stands in the slot of the number held; each refusal comes exactly when it is due, and changes nothing. After
-//! `new` no call takes memory.
+//! what stands in the slot of the number held; `widen` fills the new slots and changes no other; each refusal comes exactly
+//! when it is due, and changes nothing. After `new` no call takes memory.
 //!
 //! A caller, which counts in a slot of its own:
 //!

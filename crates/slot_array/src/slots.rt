@@ -1,15 +1,15 @@
 //! Slots over a pool.
 
-ghost use Rattle.std.specs.Prelude.{◌≡◌, ℕ, List, [], ◌∷◌, ◌++◌, ◌≤◌, IfOk, IsOk, OnErr, vec_len, vec_capacity};
+ghost use Rattle.std.specs.Prelude.{◌≡◌, ℕ, ◌+◌, List, [], ◌∷◌, ◌++◌, replicate, ◌≤◌, IfOk, IsOk, OnErr, vec_len, vec_capacity};
 ghost use Rattle.std.specs.Result.{result_map_both};
 ghost use Rattle.bit_allocator.specs.Calls.Call.{Entered, Probed, Left};
-ghost use Rattle.bit_allocator.specs.Pool.{enter_answer, after_enter, probe_answer, after_probe, number_answer, after_leave};
+ghost use Rattle.bit_allocator.specs.Pool.{enter_answer, after_enter, probe_answer, after_probe, number_answer, after_leave, widen_answer};
 ghost use Rattle.bit_allocator.specs.After.{After};
-ghost use Rattle.bit_allocator.specs.Locality.{IsLocal, LookAlike, StandAlike, probe_steps, leave_steps};
+ghost use Rattle.bit_allocator.specs.Locality.{IsLocal, IsWidened, LookAlike, StandAlike, probe_steps, leave_steps};
 ghost use Rattle.bit_allocator.specs.PoolState.{PoolState};
 ghost use Rattle.slot_array.specs.SlotCalls.{SlotCall, pool_calls};
-ghost use Rattle.slot_array.specs.SlotCalls.SlotCall.{Pooled, Stored, Fetched};
-ghost use Rattle.slot_array.specs.Slots.{stored_reply, IsFetched, after_put, ChangesOwnSlot};
+ghost use Rattle.slot_array.specs.SlotCalls.SlotCall.{Pooled, Stored, Fetched, Extended};
+ghost use Rattle.slot_array.specs.Slots.{stored_reply, IsFetched, after_put, ChangesOwnSlot, after_extend, FillsNewSlots};
 ghost use Rattle.slot_array.specs.After.{AfterSlots, IsLawful, LeadsOn};
 
 use bit_allocator::{MOST_NUMBERS, Pool, Probe};
@@ -33,6 +33,17 @@ impl<T, A: Allocator> Model for Slots<T, A> {
     ghost view = { λ s. record { pool = s.pool; values = s.values.items } };
 
     ghost invariant = { λ s. (vec_len s.values ≡ s.pool.size) × (64 ≤ vec_capacity s.values) };
+}
+
+/// Puts so many copies of a value at the end, where there is room for them.
+fn fill<T: Copy, A: Allocator>(values: &mut Vec<T, A>, more: usize, value: T)
+    requires { vec_len values.old + more ≤ vec_capacity values.old }
+    ensures items { values.new.items ≡ values.old.items ++ replicate more value }
+    ensures capacity { vec_capacity values.new ≡ vec_capacity values.old }
+{
+    for _i in 0..more {
+        values.push_reserved(value);
+    }
 }
 
 impl<T: Drop, A: Allocator> Slots<T, A> {
@@ -132,6 +143,27 @@ impl<T: Drop, A: Allocator> Slots<T, A> {
     }
 }
 
+impl<T: Copy, A: Allocator> Slots<T, A> {
+    /// The pool gets more numbers, as in the pool, and each new slot holds this value; the others keep theirs. Refused where
+    /// the pool refuses the size. It takes no memory.
+    pub fn widen(&mut self, size: u64, value: T) -> Result<(), Refusal>
+        ensures answer { result ≡ widen_answer self.old.pool size }
+        ensures state { self.new ≡ after_extend self.old size value }
+        ensures fills { IfOk result (λ done. FillsNewSlots size value self.old self.new) }
+        ensures refused { OnErr result (self.new ≡ self.old) }
+        ensures after { LeadsOn self.old self.new (Extended size value result) }
+        ensures law { IsLawful self.new }
+
+        // No competitor stands elsewhere, and no bit changes but that of what was the last number.
+        ensures local { IsWidened self.old.pool self.new.pool result }
+    {
+        self.pool.widen(size)?;
+        let more = size as usize - self.values.len();
+        fill(&mut self.values, more, value);
+        Ok(())
+    }
+}
+
 #[cfg(test)]
 mod tests {
     use super::*;
@@ -160,6 +192,29 @@ mod tests {
             assert_eq!(rt; slots.enter(5), Ok(()), "at {size}");
             assert_eq!(rt; slots.probe(5), Ok(Probe::Got(1)), "at {size}");
         }
+        Ok(())
+    }
+
+    #[test]
+    fn new_slots_hold_their_value_and_old_ones_keep_theirs(rt: HostRuntime) -> Result<(), Fail> {
+        let pool = Pool::new(rt.alloc(), 2)?;
+        let mut slots = Slots::new(pool, vec![in rt.alloc(); 7u64; 2]?)?;
+        assert_eq!(rt; slots.enter(5), Ok(()));
+        assert_eq!(rt; slots.probe(5), Ok(Probe::Got(1)));
+        assert_eq!(rt; slots.enter(6), Ok(()));
+        assert_eq!(rt; slots.probe(6), Ok(Probe::Got(2)));
+        assert_eq!(rt; slots.put(6, 9), Ok(()));
+        assert_eq!(rt; slots.enter(7), Err(Refusal::Crowded));
+        assert_eq!(rt; slots.widen(2, 1), Err(Refusal::OutOfRange));
+        assert_eq!(rt; slots.widen(4, 1), Ok(()));
+        assert_eq!(rt; slots.enter(7), Ok(()));
+        assert_eq!(rt; slots.probe(7), Ok(Probe::Missed));
+        assert_eq!(rt; slots.probe(7), Ok(Probe::Missed));
+        assert_eq!(rt; slots.probe(7), Ok(Probe::Got(3)));
+        assert_eq!(rt; slots.get(5).copied(), Ok(7));
+        assert_eq!(rt; slots.get(6).copied(), Ok(9));
+        assert_eq!(rt; slots.get(7).copied(), Ok(1));
+        assert_eq!(rt; slots.widen(65, 1), Err(Refusal::OutOfRange));
         Ok(())
     }
 

@@ -1,6 +1,6 @@
 use Rattle.std.proofs.Common.{refl}
 use Rattle.bit_allocator.specs.After.{next}
-use Rattle.bit_allocator.proofs.PoolKeeps.{after_none, after_call, law_after, front_lawful, one_after, due_after}
+use Rattle.bit_allocator.proofs.PoolKeeps.{may_widen, after_none, after_call, law_after, front_lawful, one_after, due_after}
 use Rattle.bit_allocator.proofs.laws.law_of_pool_calls.Goals as goal
 
 pub returns-clause-fresh : goal.returns-clause-fresh
@@ -20,3 +20,6 @@ returns-clause-one c = one_after
 
 pub returns-clause-due : goal.returns-clause-due
 returns-clause-due c = due_after
+
+pub returns-clause-wider : goal.returns-clause-wider
+returns-clause-wider c = may_widen

@@ -1,0 +1,37 @@
+use Rattle.std.proofs.Common.{rules, ◌≡◌, Ok, length, ap, arith}
+use Rattle.bit_allocator.specs.Pool.{widen_answer}
+use Rattle.slot_array.specs.SlotsState.{SlotsState}
+use Rattle.slot_array.specs.SlotCalls.SlotCall.{Extended}
+use Rattle.slot_array.specs.Slots.{after_extend}
+use Rattle.slot_array.proofs.SlotLemmas.{fills_new}
+use Rattle.slot_array.proofs.SlotsKeep.{after_slots_call, law_after_slots}
+use Rattle.slot_array.proofs.slots.Slots.widen.Goals as goal
+
+pub returns-in_err-widen-clause-after : goal.returns-in_err-widen-clause-after
+returns-in_err-widen-clause-after g c = λ size values r a.
+    let new : SlotsState g.row.T.Denot = record { pool = c.widen.new.self; values = c.self.inside.values.items } in
+    let state : new ≡ after_extend c.args.self.now c.args.size c.args.value = search rules in
+    let reply : c.from_residual.result ≡ widen_answer c.args.self.now.pool c.args.size = search rules in
+    after_slots_call size values c.args.self.now new r (Extended c.args.size c.args.value c.from_residual.result) state reply a
+
+pub returns-in_err-widen-clause-law : goal.returns-in_err-widen-clause-law
+returns-in_err-widen-clause-law g c = λ size values r a. law_after_slots size values _ r a
+
+pub returns-clause-state : goal.returns-clause-state
+returns-clause-state g c = search rules
+
+pub returns-clause-fills : goal.returns-clause-fills
+returns-clause-fills g c =
+    let p : c.self.inside.pool ≡ c.args.self.now.pool = ap (λ s. s.pool) c.self.view_is in
+    let v : c.self.inside.values.items ≡ c.args.self.now.values = ap (λ s. s.values) c.self.view_is in
+    let many : length c.args.self.now.values ≡ c.args.self.now.pool.size = omega (arith, c.self.invariant.0, c.self.inside.values.ok.0, ap length v, ap (λ w. w.size) p) in
+    let done : Ok tt ≡ widen_answer c.args.self.now.pool c.args.size = search rules in
+    rw (returns-clause-state g c) (fills_new c.args.self.now c.args.size c.args.value many done)
+
+pub returns-clause-after : goal.returns-clause-after
+returns-clause-after g c = λ size values r a.
+    let reply : Ok tt ≡ widen_answer c.args.self.now.pool c.args.size = search rules in
+    after_slots_call size values c.args.self.now _ r (Extended c.args.size c.args.value (Ok tt)) (returns-clause-state g c) reply a
+
+pub returns-clause-law : goal.returns-clause-law
+returns-clause-law g c = λ size values r a. law_after_slots size values _ r a
