@@ -63,3 +63,5 @@ pub use verdict::Verdict;
 mod record_tests;
 #[cfg(test)]
 mod tests;
+#[cfg(test)]
+mod worked_runs_tests;
