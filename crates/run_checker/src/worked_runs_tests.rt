@@ -78,7 +78,7 @@ fn spelled(alloc: Global, text: &str) -> Result<Vec<u8>, Fail> {
     Ok(lines)
 }
 
-/// The record of each run is one of a run, in both worlds; with one reply turned into another it is none.
+/// The record of each run is one of a run, in both worlds; with one more line, which can follow nothing, it is none.
 #[test]
 fn records_of_worked_runs(rt: HostRuntime) -> Result<(), Fail> {
     let alloc = rt.alloc();
