@@ -70,3 +70,5 @@ mod record_tests;
 mod recording_tests;
 #[cfg(test)]
 mod tests;
+#[cfg(test)]
+mod worked_runs_tests;

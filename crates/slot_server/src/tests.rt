@@ -16,49 +16,7 @@ use std::sync::ledger::{Blank, Ledger};
 use std::test::Fail;
 use std::thread::Threads;
 use std::{io, thread};
-
-/// Gives these bytes, at most so many a read, and then fails, or ends.
-#[derive(Drop)]
-struct Drip<'a> {
-    bytes: &'a [u8],
-    piece: usize,
-    fails: bool,
-}
-
-impl Read for Drip<'_> {
-    fn read(&mut self, buf: &mut [u8]) -> io::Result<usize> {
-        if self.bytes.is_empty() && self.fails {
-            return Err(io::ErrorKind::Other.into());
-        }
-        let count = self.bytes.len().min(self.piece).min(buf.len());
-        let (given, left) = self.bytes.split_at(count);
-        buf[..count].copy_from_slice(given);
-        self.bytes = left;
-        Ok(count)
-    }
-}
-
-/// Takes so many bytes, and then fails.
-#[derive(Drop)]
-struct Cup {
-    taken: Vec<u8>,
-    most: usize,
-}
-
-impl Write for Cup {
-    fn write(&mut self, buf: &[u8]) -> io::Result<usize> {
-        let count = buf.len().min(self.most.saturating_sub(self.taken.len()));
-        if count == 0 {
-            return Err(io::ErrorKind::Other.into());
-        }
-        self.taken.extend_from_slice(&buf[..count])?;
-        Ok(count)
-    }
-
-    fn flush(&mut self) -> io::Result<()> {
-        Ok(())
-    }
-}
+use test_doubles::{Cup, Drip};
 
 /// What a hall for one participant was asked, what came of it, and its history.
 #[derive(Drop)]
@@ -68,13 +26,10 @@ struct Run {
     hall: Hall,
 }
 
-fn over_a_hall<R>(rt: &R, alloc: Global, input: Drip<'_>, most: usize) -> Result<Run, Fail> {
+fn over_a_hall<R>(rt: &R, alloc: Global, input: Drip<'_>, output: Cup) -> Result<Run, Fail> {
     let mut hall = Hall::new(alloc, Config::new(WorldKind::Rename, 1, 4, 1000)?)?;
     let mut reader = Tried::new(input);
-    let mut writer = Tried::new(Cup {
-        taken: Vec::new(alloc),
-        most,
-    });
+    let mut writer = Tried::new(output);
     let outcome = serve_one(rt, alloc, &mut reader, &mut writer, &mut hall);
     Ok(Run {
         outcome,
@@ -103,13 +58,9 @@ fn a_read_fault_over_a_hall(rt: HostRuntime) -> Result<(), Fail> {
     let alloc = rt.alloc();
     law_of_serving();
     for (fails, text, count) in [(true, b"ok\n".as_slice(), 1), (false, b"ok\nquiet\n", 2)] {
-        for piece in [1, 2, 100] {
-            let input = Drip {
-                bytes: b"begin 7\nstep 7",
-                piece,
-                fails,
-            };
-            let run = over_a_hall(&rt, alloc, input, 1000)?;
+        for (piece, end) in [(1, 15), (2, 8), (100, 2)] {
+            let input = Drip::new(b"begin 7\nstep 7", piece, if fails { end } else { 0 });
+            let run = over_a_hall(&rt, alloc, input, Cup::new(alloc, 1000, 0, false))?;
             assert_eq!(rt; run.outcome.is_err(), fails);
             assert_eq!(rt;
                 run.outcome.err(),
@@ -125,12 +76,8 @@ fn a_read_fault_over_a_hall(rt: HostRuntime) -> Result<(), Fail> {
 /// A write fault: what went out is a beginning of the text, and what was answered stands in the history.
 #[test]
 fn a_write_fault_over_a_hall(rt: HostRuntime) -> Result<(), Fail> {
-    let input = Drip {
-        bytes: b"begin 7\nstep 7\n",
-        piece: 100,
-        fails: false,
-    };
-    let run = over_a_hall(&rt, rt.alloc(), input, 3)?;
+    let input = Drip::new(b"begin 7\nstep 7\n", 100, 0);
+    let run = over_a_hall(&rt, rt.alloc(), input, Cup::new(rt.alloc(), 3, 2, false))?;
     assert_eq!(rt; run.outcome.err(), Some(Fault::Write));
     assert_eq!(rt; run.text.as_slice(), b"ok\n".as_slice());
     assert!(rt; has_just(&run.hall, &[Event::Begin(7), Event::Step(7)]));
@@ -181,11 +128,7 @@ fn a_gate_is_told_of_lines_and_replies(rt: HostRuntime) -> Result<(), Fail> {
                 other: AtomicU64::new(0),
             };
             let mut hall = Hall::new(alloc, Config::new(WorldKind::Tree, 1, 4, 1000)?)?;
-            let given = Drip {
-                bytes: input,
-                piece,
-                fails: false,
-            };
+            let given = Drip::new(input, piece, 0);
             let mut reader = Watched::new(&rt, &gate, 3, Tried::new(given));
             let mut writer = Watched::new(&rt, &gate, 3, Tried::new(Vec::new(alloc)));
             let summary = serve_one(&rt, alloc, &mut reader, &mut writer, &mut hall)?;

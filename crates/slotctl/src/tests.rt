@@ -448,13 +448,13 @@ fn a_record_of_play_is_checked(rt: HostRuntime) -> Result<(), Fail> {
     Ok(())
 }
 
-// Over a tree the record of a run in which a growth was refused, whichever, is one of a run.
+// Over a tree the record of a run in which a growth was refused, whichever, is one of a run. Two make a node each.
 #[test]
 fn a_record_of_a_run_with_a_refused_growth_is_checked(rt: HostRuntime) -> Result<(), Fail> {
     let alloc = rt.alloc();
     let config = Config::new(WorldKind::Tree, 2, 4, 1000)?;
     let input =
-        b"begin 10\nbegin 20\nstep 10\nstep 10\nstep 20\nstep 20\nstep 20\nstep 20\nstep 20\nstep 10\n";
+        b"begin 10\nbegin 20\nstep 10\nstep 10\nstep 10\nstep 10\nstep 10\nstep 20\nstep 20\nstep 20\nstep 20\nstep 20\nstep 20\nstep 20\nstep 20\n";
     let mut checked = 0u64;
     for growth in 1..1_000 {
         let heap = Refusing::new(alloc, growth);
@@ -470,7 +470,7 @@ fn a_record_of_a_run_with_a_refused_growth_is_checked(rt: HostRuntime) -> Result
             checked = checked.saturating_add(1);
         }
     }
-    assert!(rt; checked > 1);
+    assert_eq!(rt; checked, 2, "a node for each");
     Ok(())
 }
 

@@ -1,8 +1,9 @@
 //! Examples of accesses to a tree: what is there, what is lost, and want of memory.
 
+use crate::law_of_tree_memory;
 use crate::node_registers::NodeRegisters;
 use crate::register::{TreeRegister, TreeValue};
-use crate::tree::{Tree, law_of_tree_memory};
+use crate::tree::Tree;
 use linked_list_allocator::LocalHeap;
 use std::test::Fail;
 use step_memory::{Access, Answer, NoMemory, Place, StepMemory};
