@@ -17,8 +17,9 @@ abbrev pub IsPlaced : ℕ → Stay → Type 0
 IsPlaced size (Seeking next) = (1 ≤ next) × (next ≤ max 1 (size - 1))
 IsPlaced size (Settled number) = (1 ≤ number) × (number ≤ size)
 
--- Each bit is set where its number is held, by one; and bits of no number are clear. Of those who hold number i or a larger one, or whose next probe is
--- there, there are no more than numbers from i on: so whoever misses the last bit finds the last number free
+-- Each bit is set where its number is held, by one, and bits of no number are clear. Of those who hold number i or a larger
+-- one, or whose next probe is there, there are no more than numbers from i on: so whoever misses the last bit finds the last
+-- number free
 pub record IsBalanced (size : ℕ) (bits : List Bool) (cs : List Competitor) : Type 0 where
   pub first : 1 ≤ size
   pub last : size ≤ 64

@@ -21,7 +21,7 @@ IsReply w (Probed id reply) = reply ≡ probe_answer w id
 IsReply w (Left id reply) = reply ≡ number_answer w id
 IsReply w (Widened more reply) = reply ≡ widen_answer w more
 
--- a pool that was made with so many numbers, at the start, is after these calls with these replies
+-- a pool that was made with so many numbers is after these calls with these replies
 pub record After (size : ℕ) (w : PoolState) (r : List Call) : Type 0 where
   pub first : 1 ≤ size
   pub last : size ≤ 64

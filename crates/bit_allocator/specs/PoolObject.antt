@@ -12,8 +12,8 @@ use Rattle.bit_allocator.specs.Calls.{Call}
 use Rattle.bit_allocator.specs.Calls.Call.{Entered, Probed, Left, Widened}
 use Rattle.bit_allocator.specs.Widening.{widen_refusal}
 
--- the present size; who competes; the number that each identity holds, if any; and how many accepted probes it has made in its
--- present stay
+-- the present size; who competes; the number that each identity holds, if any; and how many accepted probes it has made in
+-- its present stay
 pub record PoolObject : Type 0 where
   pub size : ℕ
   pub competing : List ℕ
@@ -82,6 +82,6 @@ after o (Left p (Err refusal)) = o
 after o (Widened more (Ok done)) = record o { size = more }
 after o (Widened more (Err refusal)) = o
 
--- the object, begun fresh with this size at the start, may answer these calls so, and is then in that state
+-- the object, begun fresh with this size, may answer these calls so, and is then in that state
 abbrev pub IsRun : ℕ → List Call → PoolObject → Type 0
 IsRun size r o = Run after Answers (fresh_object size) r o

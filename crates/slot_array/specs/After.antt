@@ -33,7 +33,7 @@ IsSlotReply s (Stored id value reply) = reply ≡ stored_reply (number_answer s.
 IsSlotReply s (Fetched id reply) = IsFetched s.values (number_answer s.pool id) reply
 IsSlotReply s (Extended more value reply) = IsReply s.pool (Widened more reply)
 
--- slots that were made over a new pool of so many numbers, with these values at the start, are after these calls with these replies
+-- slots that were made over a new pool of so many numbers, with these values, are after these calls with these replies
 pub record AfterSlots {T : Type 0} (size : ℕ) (values : List T) (s : SlotsState T) (r : List (SlotCall T)) : Type 0 where
   pub first : 1 ≤ size
   pub last : size ≤ 64

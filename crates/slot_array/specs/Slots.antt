@@ -43,7 +43,7 @@ extended_in (Err refusal) more value values = values
 abbrev pub after_extend : {T : Type 0} → SlotsState T → ℕ → T → SlotsState T
 after_extend s more value = record { pool = after_widen s.pool more; values = extended_in (widen_answer s.pool more) more value s.values }
 
--- `widen` fills the new slots with this value, and leaves the others as they are
+-- `widen` to so many numbers fills the new slots with this value, and leaves the others as they are
 pub record FillsNewSlots {T : Type 0} (more : ℕ) (value : T) (old new : SlotsState T) : Type 0 where
   pub kept : (number : ℕ) → 1 ≤ number → number ≤ old.pool.size → slot number new.values ≡ slot number old.values
   pub filled : (number : ℕ) → old.pool.size < number → number ≤ more → slot number new.values ≡ Some value

@@ -39,6 +39,6 @@ slots_after o (Stored p value reply) = record o { values = stored_in (number_in 
 slots_after o (Fetched p reply) = o
 slots_after o (Extended more value reply) = record { pool = after o.pool (Widened more reply); values = extended_in reply more value o.values }
 
--- the object, begun fresh with this size and these values at the start, may answer these calls so, and is then in that state
+-- the object, begun fresh with this size and these values, may answer these calls so, and is then in that state
 abbrev pub IsSlotsRun : {T : Type 0} → ℕ → List T → List (SlotCall T) → SlotsObject T → Type 0
 IsSlotsRun size values r o = Run slots_after SlotAnswers (fresh_slots size values) r o

@@ -2,7 +2,7 @@
 //!
 //! A competitor of a pool takes a number, works with the slot of that number alone, and gives the number back; the slot
 //! keeps its value for the next holder. So a thread has a slot of its own as long as it needs one, any number of times,
-//! among as many slots as compete at once. Where the pool gets more numbers, so are there more slots.
+//! among as many slots as compete at once. Where the pool gets more numbers there are as many more slots.
 //!
 //! What is proved, over every list of calls in any order: the pool's part of the list keeps the pool's law
 //! (`bit_allocator`); `put` by the holder of a number changes the slot of that number and nothing else; `get` answers
