@@ -10,9 +10,9 @@ use Rattle.rename_core.specs.Alone.{HasTwoLeft as HasTwoCalls, StepsAlone as Cal
 use Rattle.rename_core.specs.declared.reply.Reply.{Reply as StepReply}
 use Rattle.rename_core.specs.declared.reply.Reply.TheVariants.{Quiet, Placed, Proposed, Saw, Named, Spent}
 use Rattle.rename_core.specs.RenameObject.{RenameTerms, RenameObject, new_object, Allows, after, IsRun}
-use Rattle.bit_allocator.specs.Calls.Call.{Entered, Probed, Left}
+use Rattle.bit_allocator.specs.Calls.Call.{Entered, Probed, Left, Widened}
 use Rattle.slot_array.specs.SlotCalls.{SlotCall}
-use Rattle.slot_array.specs.SlotCalls.SlotCall.{Pooled, Stored, Fetched}
+use Rattle.slot_array.specs.SlotCalls.SlotCall.{Pooled, Stored, Fetched, Extended}
 use Rattle.desk.specs.declared.event.Event.{Event}
 use Rattle.desk.specs.declared.event.Event.TheVariants as event
 use Rattle.desk.specs.declared.exchange.Exchange.{Exchange}
@@ -67,6 +67,8 @@ of_slots (Pooled (Probed q a)) = record { event = refl; proposed = λ p n. refl;
 of_slots (Pooled (Left q a)) = record { event = refl; proposed = λ p n. refl; stepped = λ p n. refl }
 of_slots (Stored q v a) = record { event = refl; proposed = λ p n. refl; stepped = λ p n. refl }
 of_slots (Fetched q a) = record { event = refl; proposed = λ p n. refl; stepped = λ p n. refl }
+of_slots (Pooled (Widened more a)) = record { event = refl; proposed = λ p n. refl; stepped = λ p n. refl }
+of_slots (Extended more v a) = record { event = refl; proposed = λ p n. refl; stepped = λ p n. refl }
 
 slots_apart : (h : SlotCall ℕ) (g : Call StepReply) → exchange_of (Slotted h) ≡ exchange_of (Renamed g) → ⊥
 slots_apart h g x = let two : false ≡ true = sym (of_slots h).event ∙ ap (λ (z : Exchange). is_of_names z.event) x ∙ of_names g in absurd (cc)
