@@ -1,7 +1,8 @@
 -- what is kept of the pool after each reply
-use Rattle.std.proofs.Common.{◌≡◌, ℕ, ◌+◌, ◌-◌, ◌<◌, ◌≤◌, ◌==◌, inl, inr, true, false, not, cond, List, [], ◌∷◌, ◌++◌, length, map, take, replicate, refl, sym, ap, ◌∙◌, subst, arith, Some, None, Option, is_some, Ok, filter, max, zero, suc, length-append, length-replicate}
+use Rattle.std.proofs.Common.{◌≡◌, ℕ, ◌+◌, ◌-◌, ◌<◌, ◌≤◌, ◌==◌, inl, inr, true, false, not, cond, List, [], ◌∷◌, ◌++◌, length, map, take, replicate, refl, sym, ap, ◌∙◌, subst, arith, Some, None, Option, is_some, Ok, filter, max, zero, suc, length-append}
 use Rattle.std.specs.List.{list_any}
 use Rattle.std.specs.Prelude.{option_map}
+use Rattle.std.proofs.lemmas.List.{length-replicate}
 use Rattle.std.proofs.lemmas.Bool.{cases_Bool, false≢true, eq-eqb, ne_eqb}
 use Rattle.std.proofs.lemmas.Bool.Decides.{eqb_tells}
 use Rattle.step_memory.specs.declared.participant.Participant.{Participant}
@@ -306,5 +307,5 @@ widened s s' o more h none items size values =
       in_range = (λ q stay n is has. let r = h.in_range q stay n (sym (who q) ∙ is) has in let last = r.1 in (r.0, omega arith));
       apart = rw items h.apart;
       values = sym (values ∙ ap (λ xs. take more xs ++ replicate (more - length xs) 0) old ∙ ap (λ xs. xs ++ replicate (more - length o.values) 0) (take_all o.values more (omega arith)));
-      many = omega (arith, length-append o.values (replicate (more - length o.values) 0), length-replicate (more - length o.values) 0, many, wider);
+      many = omega (arith, length-append o.values (replicate (more - length o.values) 0), length-replicate {A = ℕ} (more - length o.values) 0, many, wider);
     }

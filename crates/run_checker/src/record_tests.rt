@@ -72,7 +72,8 @@ fn each_reason(rt: HostRuntime) -> Result<(), Fail> {
 }
 
 /// The header of a pool of two numbers, which gets two more in the record below; without its LF.
-const TWO_NUMBERS: &str = r#"{"format":"slot-record","k":2,"limit":2,"m":2,"version":1,"world":"rename"}"#;
+const TWO_NUMBERS: &str =
+    r#"{"format":"slot-record","k":2,"limit":2,"m":2,"version":1,"world":"rename"}"#;
 
 /// A pool whose numbers are all held gets two more, and all of them are held.
 const WIDENED: [(&str, &str); 23] = [
@@ -276,6 +277,8 @@ fn no_commands(rt: HostRuntime) -> Result<(), Fail> {
         "enter 5.0",
         "enter 18446744073709551616",
         "put 5",
+        "widen",
+        "widen 04",
         "stop 5",
         "0123456789012345678901234567890123456789012345678901234567890123456789012345678901234567890123456789",
     ] {

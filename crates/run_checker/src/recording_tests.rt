@@ -38,7 +38,8 @@ fn a_recorded_run_is_checked_yes(rt: HostRuntime) -> Result<(), Fail> {
 /// Runs in which the pool gets more numbers, the last of which is held or free.
 #[test]
 fn recorded_runs_of_a_pool_that_widens(rt: HostRuntime) -> Result<(), Fail> {
-    let held = b"enter 5\nprobe 5\nenter 6\nprobe 6\nenter 7\nwiden 2\nwiden 4\nenter 7\nprobe 7\nprobe 7\nleave 6\nprobe 7\n\
+    let held =
+        b"enter 5\nprobe 5\nenter 6\nprobe 6\nenter 7\nwiden 2\nwiden 4\nenter 7\nprobe 7\nprobe 7\nleave 6\nprobe 7\n\
                  enter 8\nprobe 8\nprobe 8\nenter 9\nprobe 9\nprobe 9\nprobe 9\nenter 10\nput 9 5\nget 9\nwiden 65\n";
     let free = b"enter 5\nwiden 2\nprobe 5\nenter 6\nprobe 6\n";
     for world in [WorldKind::Rename, WorldKind::Tree] {
