@@ -1,5 +1,5 @@
 -- who alone steps is soon named, by exchanges alone
-use Rattle.std.proofs.Common.{◌≡◌, ℕ, ◌+◌, ◌⊎◌, true, false, cond, ◌&&◌, ◌==◌, inl, inr, List, [], ◌∷◌, ◌++◌, map, Some, None, Ok, Err, refl, sym, ap, subst, ◌∙◌, arith}
+use Rattle.std.proofs.Common.{◌≡◌, ℕ, ◌+◌, ◌⊎◌, Bool, true, false, cond, ◌&&◌, ◌==◌, inl, inr, List, [], ◌∷◌, ◌++◌, map, Some, None, Ok, Err, refl, sym, ap, subst, ◌∙◌, arith}
 use Rattle.std.specs.Prelude.{is_some}
 use Rattle.std.proofs.lemmas.Bool.Decides.{eqb_tells, Decides-eqb}
 use Rattle.step_memory.specs.Runs.{Run}
@@ -10,15 +10,16 @@ use Rattle.rename_core.specs.Alone.{HasTwoLeft as HasTwoCalls, StepsAlone as Cal
 use Rattle.rename_core.specs.declared.reply.Reply.{Reply as StepReply}
 use Rattle.rename_core.specs.declared.reply.Reply.TheVariants.{Quiet, Placed, Proposed, Saw, Named, Spent}
 use Rattle.rename_core.specs.RenameObject.{RenameTerms, RenameObject, new_object, Allows, after, IsRun}
-use Rattle.bit_allocator.specs.Calls.Call.{Entered, Probed, Left}
+use Rattle.bit_allocator.specs.Calls.Call.{Entered, Probed, Left, Widened}
 use Rattle.slot_array.specs.SlotCalls.{SlotCall}
-use Rattle.slot_array.specs.SlotCalls.SlotCall.{Pooled, Stored, Fetched}
+use Rattle.slot_array.specs.SlotCalls.SlotCall.{Pooled, Stored, Fetched, Extended}
+use Rattle.desk.specs.declared.event.Event.{Event}
 use Rattle.desk.specs.declared.event.Event.TheVariants as event
 use Rattle.desk.specs.declared.exchange.Exchange.{Exchange}
 use Rattle.desk.specs.declared.reply.Reply.TheVariants as reply
 use Rattle.desk.specs.DeskCalls.{DeskCall, rename_calls, exchange, exchange_of}
 use Rattle.desk.specs.DeskCalls.DeskCall.{Renamed, Slotted}
-use Rattle.desk.specs.NamedAlone.{IsAmong, HasBegun, WasSpent, proposals_of, steps_of, StepsAlone, HasTwoLeft, HasName, NamesSoonAlone}
+use Rattle.desk.specs.NamedAlone.{IsAmong, HasBegun, WasSpent, proposed_more, proposals_of, stepped_more, steps_of, StepsAlone, HasTwoLeft, HasName, NamesSoonAlone}
 use Rattle.desk.specs.Replies.{is_refusal, shown_step}
 use Rattle.desk.proofs.NamesGiven.{was_given, shown_by, has_named}
 
@@ -44,18 +45,33 @@ rename_parts [] second = refl
 rename_parts (Renamed h ∷ first) second = ap (λ z. h ∷ z) (rename_parts first second)
 rename_parts (Slotted h ∷ first) second = rename_parts first second
 
--- an exchange of the slots is none of renaming
+-- whether an event is one of renaming
+abbrev is_of_names : Event → Bool
+is_of_names (event.Begin q) = true
+is_of_names (event.Step q) = true
+is_of_names e = false
+
+of_names : (g : Call StepReply) → is_of_names (exchange_of (Renamed g)).event ≡ true
+of_names (Began q a) = refl
+of_names (Stepped q a) = refl
+
+-- one of the slots is not: it is no proposal and no step
+record IsOfSlots (x : Exchange) : Type 0 where
+  event : is_of_names x.event ≡ false
+  proposed : (p n : ℕ) → proposed_more p x.event x.reply n ≡ n
+  stepped : (p n : ℕ) → stepped_more p x.event x.reply n ≡ n
+
+of_slots : (h : SlotCall ℕ) → IsOfSlots (exchange_of (Slotted h))
+of_slots (Pooled (Entered q a)) = record { event = refl; proposed = λ p n. refl; stepped = λ p n. refl }
+of_slots (Pooled (Probed q a)) = record { event = refl; proposed = λ p n. refl; stepped = λ p n. refl }
+of_slots (Pooled (Left q a)) = record { event = refl; proposed = λ p n. refl; stepped = λ p n. refl }
+of_slots (Stored q v a) = record { event = refl; proposed = λ p n. refl; stepped = λ p n. refl }
+of_slots (Fetched q a) = record { event = refl; proposed = λ p n. refl; stepped = λ p n. refl }
+of_slots (Pooled (Widened more a)) = record { event = refl; proposed = λ p n. refl; stepped = λ p n. refl }
+of_slots (Extended more v a) = record { event = refl; proposed = λ p n. refl; stepped = λ p n. refl }
+
 slots_apart : (h : SlotCall ℕ) (g : Call StepReply) → exchange_of (Slotted h) ≡ exchange_of (Renamed g) → ⊥
-slots_apart (Pooled (Entered q a)) (Began p b) x = let e : event.Enter q ≡ event.Begin p = ap (λ (z : Exchange). z.event) x in absurd (cc)
-slots_apart (Pooled (Entered q a)) (Stepped p b) x = let e : event.Enter q ≡ event.Step p = ap (λ (z : Exchange). z.event) x in absurd (cc)
-slots_apart (Pooled (Probed q a)) (Began p b) x = let e : event.Probe q ≡ event.Begin p = ap (λ (z : Exchange). z.event) x in absurd (cc)
-slots_apart (Pooled (Probed q a)) (Stepped p b) x = let e : event.Probe q ≡ event.Step p = ap (λ (z : Exchange). z.event) x in absurd (cc)
-slots_apart (Pooled (Left q a)) (Began p b) x = let e : event.Leave q ≡ event.Begin p = ap (λ (z : Exchange). z.event) x in absurd (cc)
-slots_apart (Pooled (Left q a)) (Stepped p b) x = let e : event.Leave q ≡ event.Step p = ap (λ (z : Exchange). z.event) x in absurd (cc)
-slots_apart (Stored q v a) (Began p b) x = let e : event.Put q v ≡ event.Begin p = ap (λ (z : Exchange). z.event) x in absurd (cc)
-slots_apart (Stored q v a) (Stepped p b) x = let e : event.Put q v ≡ event.Step p = ap (λ (z : Exchange). z.event) x in absurd (cc)
-slots_apart (Fetched q a) (Began p b) x = let e : event.Get q ≡ event.Begin p = ap (λ (z : Exchange). z.event) x in absurd (cc)
-slots_apart (Fetched q a) (Stepped p b) x = let e : event.Get q ≡ event.Step p = ap (λ (z : Exchange). z.event) x in absurd (cc)
+slots_apart h g x = let two : false ≡ true = sym (of_slots h).event ∙ ap (λ (z : Exchange). is_of_names z.event) x ∙ of_names g in absurd (cc)
 
 begun_call : (p : ℕ) (h : Call StepReply) → exchange_of (Renamed h) ≡ exchange (event.Begin p) reply.Ok → h ≡ Began p (Ok tt)
 begun_call p (Began q (Ok done)) x = let e : event.Begin q ≡ event.Begin p = ap (λ (z : Exchange). z.event) x in let same : q ≡ p = cc in rw same refl
@@ -166,11 +182,7 @@ count_is terms o o' p (Renamed (Stepped q (Ok (Saw view))) ∷ calls) run = coun
 count_is terms o o' p (Renamed (Stepped q (Ok (Named m view))) ∷ calls) run = count_is terms (after o (Stepped q (Ok (Named m view)))) o' p calls run.1
 count_is terms o o' p (Renamed (Stepped q (Ok Spent)) ∷ calls) run = count_is terms (after o (Stepped q (Ok Spent))) o' p calls run.1
 count_is terms o o' p (Renamed (Stepped q (Err why)) ∷ calls) run = count_is terms o o' p calls run.1
-count_is terms o o' p (Slotted (Pooled (Entered q a)) ∷ calls) run = count_is terms o o' p calls run
-count_is terms o o' p (Slotted (Pooled (Probed q a)) ∷ calls) run = count_is terms o o' p calls run
-count_is terms o o' p (Slotted (Pooled (Left q a)) ∷ calls) run = count_is terms o o' p calls run
-count_is terms o o' p (Slotted (Stored q v a) ∷ calls) run = count_is terms o o' p calls run
-count_is terms o o' p (Slotted (Fetched q a) ∷ calls) run = count_is terms o o' p calls run
+count_is terms o o' p (Slotted h ∷ calls) run = rw ((of_slots h).proposed p (proposals_of p (map exchange_of calls))) (count_is terms o o' p calls run)
 
 accepted : (said : StepReply) → is_refusal (shown_step said) ≡ false
 accepted Quiet = refl
@@ -199,11 +211,7 @@ steps_are p (Renamed (Stepped q (Ok said)) ∷ calls) =
 steps_are p (Renamed (Stepped q (Err why)) ∷ calls) =
     let rest = steps_are p calls in
     elim (q == p) as (λ b. cond (b && false) (steps_of p (map exchange_of calls) + 1) (steps_of p (map exchange_of calls)) ≡ 0 + call_steps p (rename_calls calls)) [ true ↦ omega arith | false ↦ omega arith ]
-steps_are p (Slotted (Pooled (Entered q a)) ∷ calls) = steps_are p calls
-steps_are p (Slotted (Pooled (Probed q a)) ∷ calls) = steps_are p calls
-steps_are p (Slotted (Pooled (Left q a)) ∷ calls) = steps_are p calls
-steps_are p (Slotted (Stored q v a) ∷ calls) = steps_are p calls
-steps_are p (Slotted (Fetched q a) ∷ calls) = steps_are p calls
+steps_are p (Slotted h ∷ calls) = rw ((of_slots h).stepped p (steps_of p (map exchange_of calls))) (steps_are p calls)
 
 -- who has two proposals left among exchanges has two among the calls
 two_left : (terms : RenameTerms) (o : RenameObject) (p : ℕ) (calls : List DeskCall) → IsRun terms (rename_calls calls) o → HasTwoLeft terms.limit p (map exchange_of calls) → HasTwoCalls terms o p

@@ -47,6 +47,7 @@ begun_by (event.Probe id) r = inr (λ b. refl)
 begun_by (event.Leave id) r = inr (λ b. refl)
 begun_by (event.Put id value) r = inr (λ b. refl)
 begun_by (event.Get id) r = inr (λ b. refl)
+begun_by (event.Widen more) r = inr (λ b. refl)
 
 begun_swap : (x y : Exchange) (b : ℕ) → begun_more x.event x.reply (begun_more y.event y.reply b) ≡ begun_more y.event y.reply (begun_more x.event x.reply b)
 begun_swap x y b = elim (begun_by x.event x.reply) [

@@ -11,12 +11,13 @@ use Rattle.rename_core.specs.RenameWorld.{begun_unless, refusal_by, after_by, af
 use Rattle.bit_allocator.specs.declared.stay.Stay.{Stay}
 use Rattle.bit_allocator.specs.declared.stay.Stay.TheVariants.{Seeking, Settled}
 use Rattle.bit_allocator.specs.Competitors.{stay_of}
-use Rattle.bit_allocator.specs.Pool.{entered_unless, probe_refusal_by, after_probe_by, number_by, after_leave_by}
+use Rattle.bit_allocator.specs.Pool.{entered_unless, probe_refusal_by, after_probe_by, number_by, after_leave_by, widened_unless}
 use Rattle.bit_allocator.specs.PoolState.{PoolState}
-use Rattle.slot_array.specs.Slots.{stored_in}
+use Rattle.slot_array.specs.Slots.{stored_in, extended_in}
 use Rattle.step_memory.specs.Participant.{program_of}
+use Rattle.step_memory.specs.World.{done_unless}
 use Rattle.desk.specs.declared.event.Event.{Event}
-use Rattle.desk.specs.declared.event.Event.TheVariants.{Begin, Step, Enter, Probe, Leave, Put, Get}
+use Rattle.desk.specs.declared.event.Event.TheVariants.{Begin, Step, Enter, Probe, Leave, Put, Get, Widen}
 use Rattle.desk.specs.Desk.{desk_refusal, desk_after}
 use Rattle.desk.specs.DeskRules.{refusal_of, refusal_over, after_over}
 use Rattle.desk.specs.DeskState.{DeskState}
@@ -61,6 +62,8 @@ module _ {S R V U K : Type 0} (W : KnownPlaces S R V U K) where
   stays_over w (Leave p) why is = with_pool w (left w.slots.pool p (stay_of p w.slots.pool.competitors) why is)
   stays_over w (Put p value) why is = with_values w (stored (number_by (stay_of p w.slots.pool.competitors)) value w.slots.values why is)
   stays_over w (Get p) why is = refl
+  stays_over w (Widen more) why is =
+      ap (λ (o : Option Refusal). let d : DeskState S U K = record { names = w.names; slots = record { pool = widened_unless o w.slots.pool more; values = extended_in (done_unless o) more 0 w.slots.values } } in d) is
 
 pub stays : (w : DeskValue) (e : Event) (why : Refusal) → desk_refusal w e ≡ Some why → desk_after w e ≡ w
 stays (OverGrid w) e why is = ap OverGrid (stays_over grid_places w e why is)

@@ -16,6 +16,7 @@ fn is_same_event(a: Event, b: Event) -> bool
         (Event::Leave(p), Event::Leave(q)) => p == q,
         (Event::Put(p, value), Event::Put(q, other)) => p == q && value == other,
         (Event::Get(p), Event::Get(q)) => p == q,
+        (Event::Widen(size), Event::Widen(other)) => size == other,
         _ => false,
     }
 }

@@ -8,7 +8,7 @@ use Rattle.rename_core.specs.declared.reply.Reply.{Reply as StepReply}
 use Rattle.rename_core.specs.RenameObject.{RenameTerms, RenameObject, Allows, after}
 use Rattle.slot_array.specs.SlotsObject.{SlotsObject, SlotAnswers, slots_after}
 use Rattle.desk.specs.declared.exchange.Exchange.{Exchange}
-use Rattle.desk.specs.DeskCalls.{DeskCall, rename_calls, slot_calls}
+use Rattle.desk.specs.DeskCalls.{DeskCall, rename_calls, slot_calls, BeginSlots}
 use Rattle.desk.specs.DeskCalls.DeskCall.{Renamed, Slotted}
 use Rattle.desk.specs.DeskRun.{IsDeskRun}
 use Rattle.run_checker.specs.ObjectRun.{AllowsRenaming, AllowsCall, after_call, IsObjectRun}
@@ -19,17 +19,17 @@ allowed terms o (Began p reply) a = a
 allowed terms o (Stepped p (Ok reply)) a = a
 allowed terms o (Stepped p (Err why)) a = elim a [ inl due ↦ inl due | inr lacks ↦ inr (record { is = lacks.is; grows = lacks.grows; none_due = lacks.none_due }) ]
 
--- a run of the names and one of the slots are one of both
+-- a run of the names and one of the slots, each 0 when it is new, are one of both
 joined : (terms : RenameTerms) (calls : List DeskCall) (names names' : RenameObject) (slots slots' : SlotsObject ℕ) → Run after (Allows terms) names (rename_calls calls) names' →
-    Run slots_after SlotAnswers slots (slot_calls calls) slots' → Run after_call (AllowsCall terms) (record { names = names; slots = slots }) calls (record { names = names'; slots = slots' })
-joined terms [] names names' slots slots' r s = λ i. record { names = r i; slots = s i }
-joined terms (Renamed h ∷ calls) names names' slots slots' r s = (allowed terms names h r.0, joined terms calls (after names h) names' slots slots' r.1 s)
-joined terms (Slotted h ∷ calls) names names' slots slots' r s = (s.0, joined terms calls names names' (slots_after slots h) slots' r s.1)
+    Run slots_after SlotAnswers slots (slot_calls calls) slots' → BeginSlots (slot_calls calls) → Run after_call (AllowsCall terms) (record { names = names; slots = slots }) calls (record { names = names'; slots = slots' })
+joined terms [] names names' slots slots' r s new = λ i. record { names = r i; slots = s i }
+joined terms (Renamed h ∷ calls) names names' slots slots' r s new = (allowed terms names h r.0, joined terms calls (after names h) names' slots slots' r.1 s new)
+joined terms (Slotted h ∷ calls) names names' slots slots' r s new = ((s.0, new.0), joined terms calls names names' (slots_after slots h) slots' r s.1 new.1)
 
 pub desk_run : (terms : RenameTerms) (bounds : SnapBounds) (size : ℕ) (r : List Exchange) → IsDeskRun terms bounds size r → IsObjectRun terms size r
 desk_run terms bounds size r d = record {
   calls = d.calls;
   spelled = d.spelled;
   object = record { names = d.names.object; slots = d.slots.object };
-  run = joined terms d.calls _ d.names.object _ d.slots.object d.names.run d.slots.run;
+  run = joined terms d.calls _ d.names.object _ d.slots.object d.names.run d.slots.run d.new_slots;
 }

@@ -11,12 +11,12 @@ use Rattle.step_memory.specs.World.{done_unless}
 use Rattle.rename_core.specs.declared.reply.Reply.TheVariants as step
 use Rattle.rename_core.specs.RenameObject.{RenameTerms, no_begin, no_step}
 use Rattle.bit_allocator.specs.declared.probe.Probe.TheVariants as probe
-use Rattle.bit_allocator.specs.Calls.Call.{Entered, Probed, Left as HasLeft}
+use Rattle.bit_allocator.specs.Calls.Call.{Entered, Probed, Left as HasLeft, Widened}
 use Rattle.bit_allocator.specs.PoolObject.{number_in}
-use Rattle.slot_array.specs.SlotCalls.SlotCall.{Pooled, Stored, Fetched}
+use Rattle.slot_array.specs.SlotCalls.SlotCall.{Pooled, Stored, Fetched, Extended}
 use Rattle.slot_array.specs.Slots.{stored_reply, stored_in, IsFetched}
 use Rattle.desk.specs.declared.event.Event.{Event}
-use Rattle.desk.specs.declared.event.Event.TheVariants.{Begin, Step, Enter, Probe, Leave, Put, Get}
+use Rattle.desk.specs.declared.event.Event.TheVariants.{Begin, Step, Enter, Probe, Leave, Put, Get, Widen}
 use Rattle.desk.specs.DeskCalls.{DeskCall, exchange_of}
 use Rattle.desk.specs.DeskCalls.DeskCall.{Renamed, Slotted}
 use Rattle.run_checker.specs.declared.line.Line.{Line}
@@ -83,29 +83,33 @@ can_follow terms o (Step p) (Refused n) k = elim (told_due (no_step o.names p) (
   | inl w ↦ record { call = Renamed (Stepped p (Err w.0)); spelled = ap (λ x. line (Step p) (Refused x)) w.2; allowed = inl w.1 }
   | inr w ↦ record { call = Renamed (Stepped p (Err NoMemory)); spelled = ap (λ x. line (Step p) (Refused x)) (sym w.2); allowed = inr (record { is = refl; grows = (and_parts terms.grows true w.1).0; none_due = w.0 }) }
 ]
-can_follow terms o (Enter p) Accepted k = record { call = Slotted (Pooled (Entered p (Ok tt))); spelled = refl; allowed = sym (ap done_unless (none_of _ (k reason.Refusal))) }
+can_follow terms o (Enter p) Accepted k = record { call = Slotted (Pooled (Entered p (Ok tt))); spelled = refl; allowed = (sym (ap done_unless (none_of _ (k reason.Refusal))), tt) }
 can_follow terms o (Enter p) (Refused n) k =
     let w = told_why _ terms.grows n (k reason.Refusal) in
-    record { call = Slotted (Pooled (Entered p (Err w.0))); spelled = ap (λ x. line (Enter p) (Refused x)) w.2; allowed = sym (ap done_unless w.1) }
-can_follow terms o (Probe p) Missed k = record { call = Slotted (Pooled (Probed p (Ok probe.Missed))); spelled = refl; allowed = (none_of _ (k reason.Refusal), k reason.Pool) }
-can_follow terms o (Probe p) (Got n) k = record { call = Slotted (Pooled (Probed p (Ok (probe.Got n)))); spelled = refl; allowed = (none_of _ (k reason.Refusal), k reason.Pool) }
+    record { call = Slotted (Pooled (Entered p (Err w.0))); spelled = ap (λ x. line (Enter p) (Refused x)) w.2; allowed = (sym (ap done_unless w.1), tt) }
+can_follow terms o (Probe p) Missed k = record { call = Slotted (Pooled (Probed p (Ok probe.Missed))); spelled = refl; allowed = ((none_of _ (k reason.Refusal), k reason.Pool), tt) }
+can_follow terms o (Probe p) (Got n) k = record { call = Slotted (Pooled (Probed p (Ok (probe.Got n)))); spelled = refl; allowed = ((none_of _ (k reason.Refusal), k reason.Pool), tt) }
 can_follow terms o (Probe p) (Refused n) k =
     let w = told_why _ terms.grows n (k reason.Refusal) in
-    record { call = Slotted (Pooled (Probed p (Err w.0))); spelled = ap (λ x. line (Probe p) (Refused x)) w.2; allowed = w.1 }
-can_follow terms o (Leave p) (Left n) k = record { call = Slotted (Pooled (HasLeft p (Ok n))); spelled = refl; allowed = sym (k reason.Pool) }
+    record { call = Slotted (Pooled (Probed p (Err w.0))); spelled = ap (λ x. line (Probe p) (Refused x)) w.2; allowed = (w.1, tt) }
+can_follow terms o (Leave p) (Left n) k = record { call = Slotted (Pooled (HasLeft p (Ok n))); spelled = refl; allowed = (sym (k reason.Pool), tt) }
 can_follow terms o (Leave p) (Refused n) k =
     let w = told_why (why_of (number_in o.slots.pool p)) terms.grows n (k reason.Refusal) in
-    record { call = Slotted (Pooled (HasLeft p (Err w.0))); spelled = ap (λ x. line (Leave p) (Refused x)) w.2; allowed = sym (err_of (number_in o.slots.pool p) w.0 w.1) }
+    record { call = Slotted (Pooled (HasLeft p (Err w.0))); spelled = ap (λ x. line (Leave p) (Refused x)) w.2; allowed = (sym (err_of (number_in o.slots.pool p) w.0 w.1), tt) }
 can_follow terms o (Put p value) Accepted k =
     let w = ok_of (number_in o.slots.pool p) (none_of _ (k reason.Refusal)) in
-    record { call = Slotted (Stored p value (Ok tt)); spelled = refl; allowed = sym (ap stored_reply w.1) }
+    record { call = Slotted (Stored p value (Ok tt)); spelled = refl; allowed = (sym (ap stored_reply w.1), tt) }
 can_follow terms o (Put p value) (Refused n) k =
     let w = told_why (why_of (number_in o.slots.pool p)) terms.grows n (k reason.Refusal) in
-    record { call = Slotted (Stored p value (Err w.0)); spelled = ap (λ x. line (Put p value) (Refused x)) w.2; allowed = sym (ap stored_reply (err_of (number_in o.slots.pool p) w.0 w.1)) }
-can_follow terms o (Get p) (Value v) k = record { call = Slotted (Fetched p (Ok v)); spelled = refl; allowed = k reason.Pool }
+    record { call = Slotted (Stored p value (Err w.0)); spelled = ap (λ x. line (Put p value) (Refused x)) w.2; allowed = (sym (ap stored_reply (err_of (number_in o.slots.pool p) w.0 w.1)), tt) }
+can_follow terms o (Get p) (Value v) k = record { call = Slotted (Fetched p (Ok v)); spelled = refl; allowed = (k reason.Pool, tt) }
 can_follow terms o (Get p) (Refused n) k =
     let w = told_why (why_of (number_in o.slots.pool p)) terms.grows n (k reason.Refusal) in
-    record { call = Slotted (Fetched p (Err w.0)); spelled = ap (λ x. line (Get p) (Refused x)) w.2; allowed = fetched_err o.slots.values (number_in o.slots.pool p) w.0 (err_of (number_in o.slots.pool p) w.0 w.1) }
+    record { call = Slotted (Fetched p (Err w.0)); spelled = ap (λ x. line (Get p) (Refused x)) w.2; allowed = (fetched_err o.slots.values (number_in o.slots.pool p) w.0 (err_of (number_in o.slots.pool p) w.0 w.1), tt) }
+can_follow terms o (Widen more) Accepted k = record { call = Slotted (Extended more 0 (Ok tt)); spelled = refl; allowed = (sym (ap done_unless (none_of _ (k reason.Refusal))), refl) }
+can_follow terms o (Widen more) (Refused n) k =
+    let w = told_why _ terms.grows n (k reason.Refusal) in
+    record { call = Slotted (Extended more 0 (Err w.0)); spelled = ap (λ x. line (Widen more) (Refused x)) w.2; allowed = (sym (ap done_unless w.1), refl) }
 can_follow terms o e t k = let r : is_reply_of t e ≡ true = k reason.Reply in absurd (cc)
 
 -- what is told where nothing is due, and where something is
@@ -117,7 +121,7 @@ lack_told : (due : Option Refusal) (grows : Bool) → due ≡ None → grows ≡
 lack_told None grows e g = rw g refl
 lack_told (Some w) grows e g = cc
 
-none_by : (due : Option Refusal) → Ok tt ≡ done_unless due → due ≡ None
+pub none_by : (due : Option Refusal) → Ok tt ≡ done_unless due → due ≡ None
 none_by None h = refl
 none_by (Some w) h = absurd (cc)
 
@@ -155,17 +159,20 @@ call_keeps terms o (Renamed (Stepped p (Err why))) a = elim a [
   | inl due ↦ for_all (Keeps terms o (Step p) (Refused (refusal_number why))) refl (due_told _ (terms.grows && true) why due) tt tt tt tt tt
   | inr lacks ↦ for_all (Keeps terms o (Step p) (Refused (refusal_number why))) refl (rw lacks.is (lack_told _ terms.grows lacks.none_due lacks.grows)) tt tt tt tt tt
 ]
-call_keeps terms o (Slotted (Pooled (Entered p (Ok done)))) a = for_all (Keeps terms o (Enter p) Accepted) refl (none_due _ (none_by _ a)) tt tt tt tt tt
-call_keeps terms o (Slotted (Pooled (Entered p (Err why)))) a = for_all (Keeps terms o (Enter p) (Refused (refusal_number why))) refl (due_told _ (terms.grows && false) why (some_by _ why a)) tt tt tt tt tt
-call_keeps terms o (Slotted (Pooled (Probed p (Ok probe.Missed)))) a = for_all (Keeps terms o (Probe p) Missed) refl (none_due _ a.0) tt tt tt tt a.1
-call_keeps terms o (Slotted (Pooled (Probed p (Ok (probe.Got n))))) a = for_all (Keeps terms o (Probe p) (Got n)) refl (none_due _ a.0) tt tt tt tt a.1
-call_keeps terms o (Slotted (Pooled (Probed p (Err why)))) a = for_all (Keeps terms o (Probe p) (Refused (refusal_number why))) refl (due_told _ (terms.grows && false) why a) tt tt tt tt tt
-call_keeps terms o (Slotted (Pooled (HasLeft p (Ok n)))) a = for_all (Keeps terms o (Leave p) (Left n)) refl (none_due _ (sym (ap why_of a))) tt tt tt tt (sym a)
-call_keeps terms o (Slotted (Pooled (HasLeft p (Err why)))) a = for_all (Keeps terms o (Leave p) (Refused (refusal_number why))) refl (due_told _ (terms.grows && false) why (sym (ap why_of a))) tt tt tt tt tt
-call_keeps terms o (Slotted (Stored p value (Ok done))) a = for_all (Keeps terms o (Put p value) Accepted) refl (none_due _ (stored_ok _ a)) tt tt tt tt tt
-call_keeps terms o (Slotted (Stored p value (Err why))) a = for_all (Keeps terms o (Put p value) (Refused (refusal_number why))) refl (due_told _ (terms.grows && false) why (stored_err _ why a)) tt tt tt tt tt
-call_keeps terms o (Slotted (Fetched p (Ok v))) a = for_all (Keeps terms o (Get p) (Value v)) refl (none_due _ (fetched_ok o.slots.values _ v a)) tt tt tt tt a
-call_keeps terms o (Slotted (Fetched p (Err why))) a = for_all (Keeps terms o (Get p) (Refused (refusal_number why))) refl (due_told _ (terms.grows && false) why (fetched_why o.slots.values _ why a)) tt tt tt tt tt
+call_keeps terms o (Slotted (Pooled (Entered p (Ok done)))) a = for_all (Keeps terms o (Enter p) Accepted) refl (none_due _ (none_by _ a.0)) tt tt tt tt tt
+call_keeps terms o (Slotted (Pooled (Entered p (Err why)))) a = for_all (Keeps terms o (Enter p) (Refused (refusal_number why))) refl (due_told _ (terms.grows && false) why (some_by _ why a.0)) tt tt tt tt tt
+call_keeps terms o (Slotted (Pooled (Probed p (Ok probe.Missed)))) a = for_all (Keeps terms o (Probe p) Missed) refl (none_due _ a.0.0) tt tt tt tt a.0.1
+call_keeps terms o (Slotted (Pooled (Probed p (Ok (probe.Got n))))) a = for_all (Keeps terms o (Probe p) (Got n)) refl (none_due _ a.0.0) tt tt tt tt a.0.1
+call_keeps terms o (Slotted (Pooled (Probed p (Err why)))) a = for_all (Keeps terms o (Probe p) (Refused (refusal_number why))) refl (due_told _ (terms.grows && false) why a.0) tt tt tt tt tt
+call_keeps terms o (Slotted (Pooled (HasLeft p (Ok n)))) a = for_all (Keeps terms o (Leave p) (Left n)) refl (none_due _ (sym (ap why_of a.0))) tt tt tt tt (sym a.0)
+call_keeps terms o (Slotted (Pooled (HasLeft p (Err why)))) a = for_all (Keeps terms o (Leave p) (Refused (refusal_number why))) refl (due_told _ (terms.grows && false) why (sym (ap why_of a.0))) tt tt tt tt tt
+call_keeps terms o (Slotted (Stored p value (Ok done))) a = for_all (Keeps terms o (Put p value) Accepted) refl (none_due _ (stored_ok _ a.0)) tt tt tt tt tt
+call_keeps terms o (Slotted (Stored p value (Err why))) a = for_all (Keeps terms o (Put p value) (Refused (refusal_number why))) refl (due_told _ (terms.grows && false) why (stored_err _ why a.0)) tt tt tt tt tt
+call_keeps terms o (Slotted (Fetched p (Ok v))) a = for_all (Keeps terms o (Get p) (Value v)) refl (none_due _ (fetched_ok o.slots.values _ v a.0)) tt tt tt tt a.0
+call_keeps terms o (Slotted (Fetched p (Err why))) a = for_all (Keeps terms o (Get p) (Refused (refusal_number why))) refl (due_told _ (terms.grows && false) why (fetched_why o.slots.values _ why a.0)) tt tt tt tt tt
+call_keeps terms o (Slotted (Pooled (Widened more reply))) a = absurd a.0
+call_keeps terms o (Slotted (Extended more v (Ok done))) a = for_all (Keeps terms o (Widen more) Accepted) refl (none_due _ (none_by _ a.0)) tt tt tt tt tt
+call_keeps terms o (Slotted (Extended more v (Err why))) a = for_all (Keeps terms o (Widen more) (Refused (refusal_number why))) refl (due_told _ (terms.grows && false) why (some_by _ why a.0)) tt tt tt tt tt
 
 pub follows_keeps : (terms : RenameTerms) (o : DeskObject) (l : Line) → CanFollow terms o l → KeepsAll terms o l.event l.told
 follows_keeps terms o l f = subst (λ (x : Line). KeepsAll terms o x.event x.told) f.spelled (call_keeps terms o f.call f.allowed)
@@ -193,6 +200,9 @@ same_after terms o (Slotted (Pooled (Probed p (Err why)))) a = refl
 same_after terms o (Slotted (Pooled (HasLeft p (Ok n)))) a = refl
 same_after terms o (Slotted (Pooled (HasLeft p (Err why)))) a = refl
 same_after terms o (Slotted (Stored p value (Ok done))) a = refl
-same_after terms o (Slotted (Stored p value (Err why))) a = λ i. record { names = o.names; slots = record { pool = o.slots.pool; values = stored_same (number_in o.slots.pool p) why value o.slots.values a i } }
+same_after terms o (Slotted (Stored p value (Err why))) a = λ i. record { names = o.names; slots = record { pool = o.slots.pool; values = stored_same (number_in o.slots.pool p) why value o.slots.values a.0 i } }
 same_after terms o (Slotted (Fetched p (Ok v))) a = refl
 same_after terms o (Slotted (Fetched p (Err why))) a = refl
+same_after terms o (Slotted (Pooled (Widened more reply))) a = absurd a.0
+same_after terms o (Slotted (Extended more v (Ok done))) a = ap (λ (x : ℕ). after_call o (Slotted (Extended more x (Ok tt)))) a.1
+same_after terms o (Slotted (Extended more v (Err why))) a = refl

@@ -49,7 +49,7 @@ use Rattle.rename_core.specs.Round.{stage_refusal, followed, decided, spent_by, 
 use Rattle.rename_core.specs.Proposals.{is_taken}
 use Rattle.bit_allocator.specs.declared.probe.Probe.{Probe}
 use Rattle.bit_allocator.specs.declared.probe.Probe.TheVariants as probe
-use Rattle.bit_allocator.specs.Pool.{enter_answer, probe_answer, number_answer}
+use Rattle.bit_allocator.specs.Pool.{enter_answer, probe_answer, number_answer, widen_answer}
 use Rattle.slot_array.specs.Slots.{stored_reply}
 use Rattle.desk.specs.declared.event.Event.{Event}
 use Rattle.desk.specs.declared.event.Event.TheVariants as event
@@ -187,6 +187,7 @@ module _ {S R V U K : Type 0} (W : KnownPlaces S R V U K) (laws : PlacesLaws W) 
     over_low most limit size w calls a (event.Leave p) place e = absurd (left_other (number_answer w.slots.pool p) place e)
     over_low most limit size w calls a (event.Put p value) place e = absurd (done_other (stored_reply (number_answer w.slots.pool p)) place e)
     over_low most limit size w calls a (event.Get p) place e = absurd (value_other (fetched w.slots.values (number_answer w.slots.pool p)) place e)
+    over_low most limit size w calls a (event.Widen more) place e = absurd (done_other (widen_answer w.slots.pool more) place e)
 
 -- the doors of a grid, and the nodes of a tree
 few_doors : (b : ℕ) → b ≤ 16 → b * (b + 1) ≤ 272

@@ -1,5 +1,5 @@
 -- what the objects answer has numbers that a record can write, where the events have
-use Rattle.std.proofs.Common.{◌≡◌, ◌≢◌, ℕ, zero, suc, ◌+◌, ◌-◌, ◌*◌, ◌^◌, ◌<◌, ◌≤◌, ◌==◌, ◌⊎◌, true, false, List, [], ◌∷◌, length, map, replicate, set, Some, None, Result, Ok, Err, inl, inr, refl, sym, ap, ◌∙◌, subst, arith, eq-eqb}
+use Rattle.std.proofs.Common.{◌≡◌, ◌≢◌, ℕ, zero, suc, ◌+◌, ◌-◌, ◌*◌, ◌^◌, ◌<◌, ◌≤◌, ◌==◌, ◌⊎◌, true, false, List, [], ◌∷◌, ◌++◌, length, map, replicate, set, Some, None, Result, Ok, Err, inl, inr, refl, sym, ap, ◌∙◌, subst, arith, eq-eqb}
 use Rattle.std.specs.Prelude.{slice_get}
 use Rattle.std.proofs.lemmas.Bool.Decides.{eqb_tells, leb_tells}
 use Rattle.std.proofs.lemmas.Bool.{ne_eqb}
@@ -13,10 +13,11 @@ use Rattle.step_memory.specs.declared.refusal.Refusal.TheVariants.{ZeroIdentity,
 use Rattle.rename_core.specs.declared.reply.Reply.{Reply as StepReply}
 use Rattle.rename_core.specs.declared.reply.Reply.TheVariants as step
 use Rattle.rename_core.specs.RenameObject.{RenameTerms, RenameObject, no_begin, no_step, AllowsStep, ShowsConflict}
-use Rattle.bit_allocator.specs.Calls.Call.{Entered, Probed, Left}
+use Rattle.bit_allocator.specs.Calls.Call.{Entered, Probed, Left, Widened}
 use Rattle.bit_allocator.specs.PoolObject.{competes, number_in}
 use Rattle.bit_allocator.specs.declared.probe.Probe.TheVariants as probe
-use Rattle.slot_array.specs.SlotCalls.SlotCall.{Pooled, Stored, Fetched}
+use Rattle.bit_allocator.proofs.PoolKeeps.{may_widen}
+use Rattle.slot_array.specs.SlotCalls.SlotCall.{Pooled, Stored, Fetched, Extended}
 use Rattle.slot_array.specs.Slots.{stored_in, IsFetched}
 use Rattle.desk.specs.declared.exchange.Exchange.{Exchange}
 use Rattle.desk.specs.declared.reply.Reply.{Reply}
@@ -25,6 +26,7 @@ use Rattle.desk.specs.DeskCalls.{DeskCall, exchange_of}
 use Rattle.desk.specs.DeskCalls.DeskCall.{Renamed, Slotted}
 use Rattle.desk.specs.Replies.{done_reply, value_reply}
 use Rattle.run_checker.specs.ObjectRun.{DeskObject, fresh_desk_object, AllowsCall, after_call, IsObjectRun}
+use Rattle.run_checker.proofs.Following.{none_by}
 use Rattle.run_checker.proofs.WrittenWords.{IsNarrowEvent, AreNarrow, IsShort, IsNarrowReply}
 use Rattle.run_checker.proofs.WrittenLines.{AreNarrowExchanges}
 
@@ -141,6 +143,11 @@ small_at [] i v h e = absurd (cc)
 small_at (x ∷ xs) zero v h e = (let same : x ≡ v = cc in let l = h.0 in omega arith)
 small_at (x ∷ xs) (suc i) v h e = small_at xs i v h.1 e
 
+small_more : (vs : List ℕ) (n v : ℕ) → AreSmall vs → v < 2 ^ 64 → AreSmall (vs ++ replicate n v)
+small_more [] zero v h k = tt
+small_more [] (suc n) v h k = (k, small_more [] n v h k)
+small_more (x ∷ xs) n v h k = (h.0, small_more xs n v h.1 k)
+
 stored_small : (held : Result ℕ Refusal) (v : ℕ) (vs : List ℕ) → AreSmall vs → v < 2 ^ 64 → AreSmall (stored_in held v vs)
 stored_small (Ok number) v vs h k = small_set vs (number - 1) v h k
 stored_small (Err why) v vs h k = h
@@ -157,28 +164,28 @@ done_narrow (Err why) = tt
 
 -- ---- the objects
 
--- who has begun, at most 16 with identities from 1 on, and only they have proposed; numbers are held that the pool has, and
--- values kept that fit
-record IsNarrowObject (most size : ℕ) (o : DeskObject) : Type 0 where
+-- who has begun, at most 16 with identities from 1 on, and only they have proposed; the pool has at most 64 numbers, those are
+-- held, and values kept that fit
+record IsNarrowObject (most : ℕ) (o : DeskObject) : Type 0 where
   who : List ℕ
   many : o.names.many ≡ length who
   room : length who ≤ most
   listed : (q : ℕ) → o.names.begun q ≡ true → IsIn q who
   narrow : (q : ℕ) → o.names.begun q ≡ true → (0 < q) × (q < 2 ^ 64)
   shown : (i q n : ℕ) → o.names.moment i q ≡ Some n → (o.names.begun q ≡ true) × (n < 2 ^ 64)
-  sized : o.slots.pool.size ≡ size
-  held : (q n : ℕ) → o.slots.pool.held q ≡ Some n → n ≤ size
+  sized : o.slots.pool.size ≤ 64
+  held : (q n : ℕ) → o.slots.pool.held q ≡ Some n → n ≤ 64
   values : AreSmall o.slots.values
 
-narrow_fresh : (most size : ℕ) → IsNarrowObject most size (fresh_desk_object size)
-narrow_fresh most size = record {
+narrow_fresh : (most size : ℕ) → size ≤ 64 → IsNarrowObject most (fresh_desk_object size)
+narrow_fresh most size few = record {
   who = [];
   many = refl;
   room = omega arith;
   listed = λ q e. absurd (cc);
   narrow = λ q e. absurd (cc);
   shown = λ i q n e. absurd (cc);
-  sized = refl;
+  sized = few;
   held = λ q n e. absurd (cc);
   values = small_zeros size;
 }
@@ -203,8 +210,8 @@ may_step o p e = elim (o.begun p) as (λ b. o.begun p ≡ b → o.begun p ≡ tr
   | false ↦ λ is. absurd (let no : Some NotBegun ≡ None = rw is at e in cc)
 ] refl
 
-module _ (terms : RenameTerms) (size : ℕ) (fits : terms.most ≤ 16) (few : size ≤ 64) where
-  view_short : (o : DeskObject) → IsNarrowObject terms.most size o → (p : ℕ) (view : List (ℕ × ℕ)) → ShowsConflict o.names p view → IsShort view
+module _ (terms : RenameTerms) (fits : terms.most ≤ 16) where
+  view_short : (o : DeskObject) → IsNarrowObject terms.most o → (p : ℕ) (view : List (ℕ × ℕ)) → ShowsConflict o.names p view → IsShort view
   view_short o h p view s =
       let at = λ (q n : ℕ) (e : value_of q view ≡ Some n). h.shown s.index q n (sym (s.is.values q) ∙ e) in
       let in_who = each_by (λ q n. IsIn q h.who) view s.is.rising (λ q n e. h.listed q (at q n e).0) in
@@ -217,16 +224,16 @@ module _ (terms : RenameTerms) (size : ℕ) (fits : terms.most ≤ 16) (few : si
         narrow = narrow_pairs view (each_by (λ q n. (q < 2 ^ 64) × (n < 2 ^ 64)) view s.is.rising (λ q n e. ((h.narrow q (at q n e).0).1, (at q n e).1)));
       }
 
-  few_names : (o : DeskObject) → IsNarrowObject terms.most size o → (n : ℕ) → n ≤ 2 * o.names.many - 1 → n < 2 ^ 64
+  few_names : (o : DeskObject) → IsNarrowObject terms.most o → (n : ℕ) → n ≤ 2 * o.names.many - 1 → n < 2 ^ 64
   few_names o h n small = (let many = h.many in let room = h.room in omega arith)
 
   -- ---- one call
 
-  module _ (o : DeskObject) (h : IsNarrowObject terms.most size o) where
+  module _ (o : DeskObject) (h : IsNarrowObject terms.most o) where
     set_true : (p q : ℕ) → o.names.begun q ≡ true → set_at o.names.begun p true q ≡ true
     set_true p q is = elim (eqb_tells q p) [ inl e ↦ rw e.0 refl | inr e ↦ rw e.0 is ]
 
-    begun_keeps : (p : ℕ) → p < 2 ^ 64 → Ok tt ≡ done_unless (no_begin terms o.names p) → IsNarrowObject terms.most size (after_call o (Renamed (Began p (Ok tt))))
+    begun_keeps : (p : ℕ) → p < 2 ^ 64 → Ok tt ≡ done_unless (no_begin terms o.names p) → IsNarrowObject terms.most (after_call o (Renamed (Began p (Ok tt))))
     begun_keeps p fits_p e =
         let may = may_begin terms o.names p e in
         let many = h.many in
@@ -255,7 +262,7 @@ module _ (terms : RenameTerms) (size : ℕ) (fits : terms.most ≤ 16) (few : si
       | inr past ↦ h.shown i q m (rw past.0 at e)
     ]
 
-    step_keeps : (p : ℕ) (said : StepReply) → no_step o.names p ≡ None → AllowsStep terms o.names p said → IsNarrowObject terms.most size (after_call o (Renamed (Stepped p (Ok said))))
+    step_keeps : (p : ℕ) (said : StepReply) → no_step o.names p ≡ None → AllowsStep terms o.names p said → IsNarrowObject terms.most (after_call o (Renamed (Stepped p (Ok said))))
     step_keeps p step.Quiet none a = h
     step_keeps p (step.Placed place) none a = record { who = h.who; many = h.many; room = h.room; listed = h.listed; narrow = h.narrow; shown = h.shown; sized = h.sized; held = h.held; values = h.values }
     step_keeps p (step.Proposed n) none a =
@@ -274,7 +281,7 @@ module _ (terms : RenameTerms) (size : ℕ) (fits : terms.most ≤ 16) (few : si
     step_keeps p (step.Named n view) none a = record { who = h.who; many = h.many; room = h.room; listed = h.listed; narrow = h.narrow; shown = h.shown; sized = h.sized; held = h.held; values = h.values }
     step_keeps p step.Spent none a = record { who = h.who; many = h.many; room = h.room; listed = h.listed; narrow = h.narrow; shown = h.shown; sized = h.sized; held = h.held; values = h.values }
 
-    got_held : (p n : ℕ) → n ≤ o.slots.pool.size → (q m : ℕ) → set_at o.slots.pool.held p (Some n) q ≡ Some m → m ≤ size
+    got_held : (p n : ℕ) → n ≤ o.slots.pool.size → (q m : ℕ) → set_at o.slots.pool.held p (Some n) q ≡ Some m → m ≤ 64
     got_held p n most q m e = elim (eqb_tells q p) [
       | inl own ↦
           let is : Some n ≡ Some m = rw own.0 at e in
@@ -284,13 +291,13 @@ module _ (terms : RenameTerms) (size : ℕ) (fits : terms.most ≤ 16) (few : si
       | inr other ↦ h.held q m (rw other.0 at e)
     ]
 
-    left_held : (p q m : ℕ) → set_at o.slots.pool.held p None q ≡ Some m → m ≤ size
+    left_held : (p q m : ℕ) → set_at o.slots.pool.held p None q ≡ Some m → m ≤ 64
     left_held p q m e = elim (eqb_tells q p) [
       | inl own ↦ absurd (let no : None ≡ Some m = rw own.0 at e in cc)
       | inr other ↦ h.held q m (rw other.0 at e)
     ]
 
-    keeps : (call : DeskCall) → IsNarrowEvent (exchange_of call).event → AllowsCall terms o call → IsNarrowObject terms.most size (after_call o call)
+    keeps : (call : DeskCall) → IsNarrowEvent (exchange_of call).event → AllowsCall terms o call → IsNarrowObject terms.most (after_call o call)
     keeps (Renamed (Began p (Ok done))) e a = begun_keeps p e a
     keeps (Renamed (Began p (Err why))) e a = h
     keeps (Renamed (Stepped p (Ok said))) e a = step_keeps p said a.0 a.1
@@ -299,12 +306,27 @@ module _ (terms : RenameTerms) (size : ℕ) (fits : terms.most ≤ 16) (few : si
     keeps (Slotted (Pooled (Entered p (Err why)))) e a = h
     keeps (Slotted (Pooled (Probed p (Ok probe.Missed)))) e a = record { who = h.who; many = h.many; room = h.room; listed = h.listed; narrow = h.narrow; shown = h.shown; sized = h.sized; held = h.held; values = h.values }
     keeps (Slotted (Pooled (Probed p (Ok (probe.Got n))))) e a =
-        record { who = h.who; many = h.many; room = h.room; listed = h.listed; narrow = h.narrow; shown = h.shown; sized = h.sized; held = got_held p n a.1.last; values = h.values }
+        record { who = h.who; many = h.many; room = h.room; listed = h.listed; narrow = h.narrow; shown = h.shown; sized = h.sized; held = got_held p n a.0.1.last; values = h.values }
     keeps (Slotted (Pooled (Probed p (Err why)))) e a = h
     keeps (Slotted (Pooled (Left p (Ok n)))) e a = record { who = h.who; many = h.many; room = h.room; listed = h.listed; narrow = h.narrow; shown = h.shown; sized = h.sized; held = left_held p; values = h.values }
     keeps (Slotted (Pooled (Left p (Err why)))) e a = h
     keeps (Slotted (Stored p value answer)) e a = record { who = h.who; many = h.many; room = h.room; listed = h.listed; narrow = h.narrow; shown = h.shown; sized = h.sized; held = h.held; values = stored_small (number_in o.slots.pool p) value o.slots.values h.values e.1 }
     keeps (Slotted (Fetched p answer)) e a = h
+    keeps (Slotted (Pooled (Widened more answer))) e a = absurd a.0
+    keeps (Slotted (Extended more v (Ok done))) e a =
+        let zero_is : v ≡ 0 = a.1 in
+        record {
+          who = h.who;
+          many = h.many;
+          room = h.room;
+          listed = h.listed;
+          narrow = h.narrow;
+          shown = h.shown;
+          sized = (may_widen o.slots.pool.size more (none_by _ a.0)).1;
+          held = h.held;
+          values = small_more o.slots.values (more - length o.slots.values) v h.values (omega arith);
+        }
+    keeps (Slotted (Extended more v (Err why))) e a = h
 
     -- the number that is given back is one of the pool's
     left_number : (p n : ℕ) → Ok n ≡ number_in o.slots.pool p → n < 2 ^ 64
@@ -334,19 +356,21 @@ module _ (terms : RenameTerms) (size : ℕ) (fits : terms.most ≤ 16) (few : si
     reply_narrow (Renamed (Stepped p (Err why))) a f = tt
     reply_narrow (Slotted (Pooled (Entered p answer))) a f = done_narrow answer
     reply_narrow (Slotted (Pooled (Probed p (Ok probe.Missed)))) a f = tt
-    reply_narrow (Slotted (Pooled (Probed p (Ok (probe.Got n))))) a f = (let last = a.1.last in let sized = h.sized in omega arith)
+    reply_narrow (Slotted (Pooled (Probed p (Ok (probe.Got n))))) a f = (let last = a.0.1.last in let sized = h.sized in omega arith)
     reply_narrow (Slotted (Pooled (Probed p (Err why)))) a f = tt
-    reply_narrow (Slotted (Pooled (Left p (Ok n)))) a f = left_number p n a
+    reply_narrow (Slotted (Pooled (Left p (Ok n)))) a f = left_number p n a.0
     reply_narrow (Slotted (Pooled (Left p (Err why)))) a f = tt
     reply_narrow (Slotted (Stored p value answer)) a f = done_narrow answer
-    reply_narrow (Slotted (Fetched p answer)) a f = fetched_narrow o.slots.values (number_in o.slots.pool p) answer h.values a
+    reply_narrow (Slotted (Pooled (Widened more answer))) a f = done_narrow answer
+    reply_narrow (Slotted (Extended more v answer)) a f = done_narrow answer
+    reply_narrow (Slotted (Fetched p answer)) a f = fetched_narrow o.slots.values (number_in o.slots.pool p) answer h.values a.0
 
   -- ---- and any calls
-  calls_narrow : (o end : DeskObject) (calls : List DeskCall) → IsNarrowObject terms.most size o → Run after_call (AllowsCall terms) o calls end → AreWritable (map exchange_of calls) → AreNarrowExchanges (map exchange_of calls)
+  calls_narrow : (o end : DeskObject) (calls : List DeskCall) → IsNarrowObject terms.most o → Run after_call (AllowsCall terms) o calls end → AreWritable (map exchange_of calls) → AreNarrowExchanges (map exchange_of calls)
   calls_narrow o end [] h r w = tt
   calls_narrow o end (call ∷ calls) h r w = (w.0, reply_narrow o h call r.0 w.1, calls_narrow (after_call o call) end calls (keeps o h call w.0 r.0) r.1 w.2)
 
-  pub run_narrow : (r : List Exchange) → IsObjectRun terms size r → AreWritable r → AreNarrowExchanges r
-  run_narrow r run w =
+  pub run_narrow : (size : ℕ) → size ≤ 64 → (r : List Exchange) → IsObjectRun terms size r → AreWritable r → AreNarrowExchanges r
+  run_narrow size few r run w =
       subst (λ (x : List Exchange). AreNarrowExchanges x) run.spelled
-      (calls_narrow (fresh_desk_object size) run.object run.calls (narrow_fresh terms.most size) run.run (subst (λ (x : List Exchange). AreWritable x) (sym run.spelled) w))
+      (calls_narrow (fresh_desk_object size) run.object run.calls (narrow_fresh terms.most size few) run.run (subst (λ (x : List Exchange). AreWritable x) (sym run.spelled) w))

@@ -7,7 +7,7 @@ use Rattle.step_memory.specs.Runs.{Run}
 use Rattle.step_memory.proofs.RunLemmas.{run_more, run_one, run_splits}
 use Rattle.rename_core.specs.RenameObject.{RenameTerms}
 use Rattle.desk.specs.declared.event.Event.{Event}
-use Rattle.desk.specs.declared.event.Event.TheVariants.{Begin, Step, Enter, Probe, Leave, Put, Get}
+use Rattle.desk.specs.declared.event.Event.TheVariants.{Begin, Step, Enter, Probe, Leave, Put, Get, Widen}
 use Rattle.desk.specs.DeskCalls.{DeskCall, exchange_of}
 use Rattle.run_checker.specs.declared.checker.Checker.{Checker}
 use Rattle.run_checker.specs.declared.fault.Fault.{Fault}
@@ -42,6 +42,8 @@ last_after o (Leave p) t = omega arith
 last_after o (Put p v) Accepted = omega arith
 last_after o (Put p v) t = omega arith
 last_after o (Get p) t = omega arith
+last_after o (Widen more) Accepted = omega arith
+last_after o (Widen more) t = omega arith
 
 pub taken_on : (terms : RenameTerms) (size : ℕ) (lines : List Line) (l : Line) (old new : Checker) → HasTaken terms size lines old → length lines < 2 ^ 62 →
     ((o : DeskObject) → HoldsDesk terms old o → o.names.last < 2 ^ 62 → IsTaken terms o l new) → HasTaken terms size (lines ++ l ∷ []) new

@@ -1,7 +1,8 @@
 -- what is kept of the pool after each reply
-use Rattle.std.proofs.Common.{◌≡◌, ℕ, ◌+◌, ◌-◌, ◌<◌, ◌≤◌, ◌==◌, inl, inr, true, false, not, cond, List, [], ◌∷◌, ◌++◌, length, map, refl, sym, ap, ◌∙◌, subst, arith, Some, None, Option, is_some, Ok, filter, max}
+use Rattle.std.proofs.Common.{◌≡◌, ℕ, ◌+◌, ◌-◌, ◌<◌, ◌≤◌, ◌==◌, inl, inr, true, false, not, cond, List, [], ◌∷◌, ◌++◌, length, map, take, replicate, refl, sym, ap, ◌∙◌, subst, arith, Some, None, Option, is_some, Ok, filter, max, zero, suc, length-append}
 use Rattle.std.specs.List.{list_any}
 use Rattle.std.specs.Prelude.{option_map}
+use Rattle.std.proofs.lemmas.List.{length-replicate}
 use Rattle.std.proofs.lemmas.Bool.{cases_Bool, false≢true, eq-eqb, ne_eqb}
 use Rattle.std.proofs.lemmas.Bool.Decides.{eqb_tells}
 use Rattle.step_memory.specs.declared.participant.Participant.{Participant}
@@ -9,13 +10,15 @@ use Rattle.step_memory.specs.Participant.{beginner, participant_of, program_of, 
 use Rattle.step_memory.specs.SetAt.{set_at}
 use Rattle.bit_allocator.specs.Calls.Call.{Entered, Probed, Left}
 use Rattle.bit_allocator.specs.PoolObject.{competes, no_entry, no_probe, IsFree}
+use Rattle.bit_allocator.specs.Widening.{widen_refusal}
 use Rattle.bit_allocator.specs.declared.probe.Probe.TheVariants as probe
+use Rattle.bit_allocator.proofs.PoolKeeps.{may_widen}
 use Rattle.slot_array.specs.SlotCalls.SlotCall.{Pooled}
 use Rattle.slot_array.specs.SlotsObject.{SlotsObject, slots_after}
 use Rattle.run_checker.specs.declared.stays.Stay.{Stay}
 use Rattle.run_checker.specs.declared.stays.Stays.{Stays}
 use Rattle.run_checker.specs.Standing.{is_held, Apart}
-use Rattle.run_checker.specs.Stays.{held_by, last_probe, HoldsSlots}
+use Rattle.run_checker.specs.Stays.{held_by, last_probe, HoldsSlots, widened_to}
 use Rattle.run_checker.proofs.PeopleLemmas.{program_of-push, program_of-put, apart_push, apart_put, any_passes, passes_any, seen_kept, seen_set}
 use Rattle.run_checker.proofs.NamesLemmas.{held_is, is_held_by}
 
@@ -271,3 +274,38 @@ pub somebody_holds : (s : Stays) (o : SlotsObject ℕ) (n : ℕ) → HoldsSlots 
 somebody_holds s o n h some =
     let k = any_passes (λ c. is_held n c.held) s.competitors.items h.apart some in
     (k.who, h.held k.who ∙ ap held_by k.is ∙ held_is n k.kept.held k.passes)
+
+-- a pool that gets more numbers, each with a slot that holds 0
+take_all : (values : List ℕ) (n : ℕ) → length values ≤ n → take n values ≡ values
+take_all [] zero h = refl
+take_all [] (suc n) h = refl
+take_all (v ∷ vs) zero h = absurd (omega arith)
+take_all (v ∷ vs) (suc n) h = ap (λ xs. v ∷ xs) (take_all vs n (omega arith))
+
+fewer_than : (probes size more : ℕ) → probes < last_probe size → size < more → probes < last_probe more
+fewer_than probes size more few wider = omega arith
+
+pub widened : (s s' : Stays) (o : SlotsObject ℕ) (more : ℕ) → HoldsSlots s o → widen_refusal o.pool.size more ≡ None → s'.competitors.items ≡ s.competitors.items →
+    s'.size ≡ more → s'.values.items ≡ take more s.values.items ++ replicate (more - length s.values.items) 0 → HoldsSlots s' (widened_to more o)
+widened s s' o more h none items size values =
+    let may = may_widen o.pool.size more none in
+    let wider : o.pool.size < more = may.0 in
+    let low = h.low in
+    let many : length o.values ≡ o.pool.size = h.many in
+    let old : s.values.items ≡ o.values = sym h.values in
+    let who : (q : ℕ) → program_of q s'.competitors.items ≡ program_of q s.competitors.items = (λ q. ap (program_of q) items) in
+    record {
+      size_is = size;
+      low = omega arith;
+      high = may.1;
+      competing = h.competing ∙ sym (ap (map (λ v. v.identity)) items);
+      competes = (λ q. h.competes q ∙ sym (ap is_some (who q)));
+      crowd = h.crowd ∙ sym (ap length items);
+      held = (λ q. h.held q ∙ sym (ap held_by (who q)));
+      probes = (λ q stay is. h.probes q stay (sym (who q) ∙ is));
+      few = (λ q stay is unheld. fewer_than stay.probes o.pool.size more (h.few q stay (sym (who q) ∙ is) unheld) wider);
+      in_range = (λ q stay n is has. let r = h.in_range q stay n (sym (who q) ∙ is) has in let last = r.1 in (r.0, omega arith));
+      apart = rw items h.apart;
+      values = sym (values ∙ ap (λ xs. take more xs ++ replicate (more - length xs) 0) old ∙ ap (λ xs. xs ++ replicate (more - length o.values) 0) (take_all o.values more (omega arith)));
+      many = omega (arith, length-append o.values (replicate (more - length o.values) 0), length-replicate {A = ℕ} (more - length o.values) 0, many, wider);
+    }

@@ -6,7 +6,7 @@ use Rattle.std.proofs.lemmas.Bool.Decides.{leb_tells}
 use Rattle.rename_core.specs.declared.config.Config.{Config}
 use Rattle.rename_core.specs.declared.config.WorldKind.{WorldKind}
 use Rattle.desk.specs.declared.event.Event.{Event}
-use Rattle.desk.specs.declared.event.Event.TheVariants.{Begin, Step, Enter, Probe, Leave, Put, Get}
+use Rattle.desk.specs.declared.event.Event.TheVariants.{Begin, Step, Enter, Probe, Leave, Put, Get, Widen}
 use Rattle.desk.specs.declared.reply.Reply.{Reply}
 use Rattle.desk.specs.declared.reply.Reply.TheVariants as reply
 use Rattle.desk.specs.Desk.{desk_rules, IsAfterDesk}
@@ -101,7 +101,8 @@ desk_narrow word others =
     (either_narrow (same_bytes word (codes "leave")) (event_of_one Leave others) _ (one_narrow Leave (λ n h. h) others)
     (either_narrow (same_bytes word (codes "put")) (event_of_two Put others) _ (two_narrow others)
     (either_narrow (same_bytes word (codes "get")) (event_of_one Get others) _ (one_narrow Get (λ n h. h) others)
-    (either_narrow (same_bytes word (codes "owner")) (command_of_one command.Owner others) (Err UnknownWord) (owner_narrow others) tt)))))
+    (either_narrow (same_bytes word (codes "widen")) (event_of_one Widen others) _ (one_narrow Widen (λ n h. h) others)
+    (either_narrow (same_bytes word (codes "owner")) (command_of_one command.Owner others) (Err UnknownWord) (owner_narrow others) tt))))))
 
 words_narrow : (kind : WorldKind) (ws : List (List ℕ)) → IsNarrow (command_in kind ws)
 words_narrow kind [] = tt

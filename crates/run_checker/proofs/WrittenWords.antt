@@ -9,7 +9,7 @@ use Rattle.std.proofs.lemmas.List.Folds.{list_all-append}
 use Rattle.step_memory.specs.View.{IsAbove, IsRising}
 use Rattle.rename_core.specs.declared.config.WorldKind.{WorldKind}
 use Rattle.desk.specs.declared.event.Event.{Event}
-use Rattle.desk.specs.declared.event.Event.TheVariants.{Begin, Step, Enter, Probe, Leave, Put, Get}
+use Rattle.desk.specs.declared.event.Event.TheVariants.{Begin, Step, Enter, Probe, Leave, Put, Get, Widen}
 use Rattle.desk.specs.declared.reply.Reply.{Reply}
 use Rattle.desk.specs.declared.reply.Reply.TheVariants as reply
 use Rattle.schedule_player.specs.declared.bad.Bad.{Bad}
@@ -31,6 +31,7 @@ IsNarrowEvent (Probe p) = p < 2 ^ 64
 IsNarrowEvent (Leave p) = p < 2 ^ 64
 IsNarrowEvent (Put p value) = (p < 2 ^ 64) × (value < 2 ^ 64)
 IsNarrowEvent (Get p) = p < 2 ^ 64
+IsNarrowEvent (Widen more) = more < 2 ^ 64
 
 -- and those of pairs
 abbrev pub AreNarrow : List (ℕ × ℕ) → Type 0
@@ -155,6 +156,7 @@ event_means kind desk (Probe p) h = means_one kind p h (codes "probe") (Ok (comm
 event_means kind desk (Leave p) h = means_one kind p h (codes "leave") (Ok (command.Event (Leave p))) refl refl (omega arith) (rw (desk, number_in-decimal p h) refl)
 event_means kind desk (Put p value) h = is_put kind desk p value h.0 h.1
 event_means kind desk (Get p) h = means_one kind p h (codes "get") (Ok (command.Event (Get p))) refl refl (omega arith) (rw (desk, number_in-decimal p h) refl)
+event_means kind desk (Widen more) h = means_one kind more h (codes "widen") (Ok (command.Event (Widen more))) refl refl (omega arith) (rw (desk, number_in-decimal more h) refl)
 
 -- a word with a number after it
 pub word_plain : (word : List ℕ) (n : ℕ) → list_all is_plain word ≡ true → n < 10 ^ 64 → list_all is_plain (word ++ decimal n) ≡ true
@@ -168,6 +170,7 @@ event_plain (Probe p) h = word_plain (codes "probe ") p refl (omega arith)
 event_plain (Leave p) h = word_plain (codes "leave ") p refl (omega arith)
 event_plain (Put p value) h = put_plain p value (let l = h.0 in omega arith) (let l = h.1 in omega arith)
 event_plain (Get p) h = word_plain (codes "get ") p refl (omega arith)
+event_plain (Widen more) h = word_plain (codes "widen ") more refl (omega arith)
 
 pub event_short : (e : Event) → IsNarrowEvent e → length (event_words e) ≤ 45
 event_short (Begin p) h = omega (arith, short_decimal p h)
@@ -177,3 +180,4 @@ event_short (Probe p) h = omega (arith, short_decimal p h)
 event_short (Leave p) h = omega (arith, short_decimal p h)
 event_short (Put p value) h = put_short p value h.0 h.1
 event_short (Get p) h = omega (arith, short_decimal p h)
+event_short (Widen more) h = omega (arith, short_decimal more h)

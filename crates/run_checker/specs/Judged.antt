@@ -2,6 +2,7 @@
 use Rattle.std.specs.Prelude.{◌≡◌, ℕ, ◌<◌, ◌≤◌, ◌^◌, Bool, List, [], ◌∷◌, ◌++◌, length, take, slice_get, Option, Some, None, Result, Ok, Err}
 use Rattle.desk.specs.declared.event.Event.{Event}
 use Rattle.bit_allocator.specs.PoolObject.{no_entry, no_probe, number_in}
+use Rattle.bit_allocator.specs.Widening.{widen_refusal}
 use Rattle.rename_core.specs.RenameObject.{RenameTerms, no_begin, no_step}
 use Rattle.run_checker.specs.declared.checker.Checker.{Checker}
 use Rattle.run_checker.specs.declared.fault.Fault.{Fault}
@@ -64,6 +65,10 @@ MayProbe id terms o = no_probe o.slots.pool id ≡ None
 
 abbrev pub HoldsNumber : ℕ → RenameTerms → DeskObject → Type 0
 HoldsNumber id terms o = why_of (number_in o.slots.pool id) ≡ None
+
+-- nor where the pool widens
+abbrev pub MayWiden : ℕ → RenameTerms → DeskObject → Type 0
+MayWiden more terms o = widen_refusal o.slots.pool.size more ≡ None
 
 abbrev pub IsDueSo : Event → Told → RenameTerms → DeskObject → Type 0
 IsDueSo e t terms o = IsRefusedAsDue terms o e t

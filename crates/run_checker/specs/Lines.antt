@@ -7,9 +7,9 @@ use Rattle.rename_core.specs.declared.reply.Reply.TheVariants as step
 use Rattle.rename_core.specs.RenameObject.{RenameTerms}
 use Rattle.bit_allocator.specs.declared.probe.Probe.TheVariants as probe
 use Rattle.bit_allocator.specs.Calls.Call.{Entered, Probed, Left as HasLeft}
-use Rattle.slot_array.specs.SlotCalls.SlotCall.{Pooled, Stored}
+use Rattle.slot_array.specs.SlotCalls.SlotCall.{Pooled, Stored, Extended}
 use Rattle.desk.specs.declared.event.Event.{Event}
-use Rattle.desk.specs.declared.event.Event.TheVariants.{Begin, Step, Enter, Probe, Leave, Put}
+use Rattle.desk.specs.declared.event.Event.TheVariants.{Begin, Step, Enter, Probe, Leave, Put, Widen}
 use Rattle.desk.specs.declared.exchange.Exchange.{Exchange}
 use Rattle.desk.specs.declared.reply.Reply.{Reply}
 use Rattle.desk.specs.declared.reply.Reply.TheVariants as reply
@@ -72,6 +72,7 @@ after_told o (Probe p) Missed = after_call o (Slotted (Pooled (Probed p (Ok prob
 after_told o (Probe p) (Got number) = after_call o (Slotted (Pooled (Probed p (Ok (probe.Got number)))))
 after_told o (Leave p) (Left number) = after_call o (Slotted (Pooled (HasLeft p (Ok number))))
 after_told o (Put p value) Accepted = after_call o (Slotted (Stored p value (Ok tt)))
+after_told o (Widen more) Accepted = after_call o (Slotted (Extended more 0 (Ok tt)))
 after_told o e t = o
 
 abbrev pub after_line : DeskObject → Line → DeskObject

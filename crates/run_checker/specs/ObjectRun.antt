@@ -11,7 +11,7 @@ use Rattle.rename_core.specs.declared.reply.Reply.{Reply as StepReply}
 use Rattle.rename_core.specs.RenameObject.{RenameTerms, RenameObject, new_object, no_begin, no_step, AllowsStep, after}
 use Rattle.slot_array.specs.SlotsObject.{SlotsObject, fresh_slots, SlotAnswers, slots_after}
 use Rattle.desk.specs.declared.exchange.Exchange.{Exchange}
-use Rattle.desk.specs.DeskCalls.{DeskCall, exchange_of}
+use Rattle.desk.specs.DeskCalls.{DeskCall, exchange_of, BeginsSlots}
 use Rattle.desk.specs.DeskCalls.DeskCall.{Renamed, Slotted}
 
 -- the renaming object, and the slots with their pool
@@ -19,7 +19,7 @@ pub record DeskObject : Type 0 where
   pub names : RenameObject
   pub slots : SlotsObject ℕ
 
--- nothing was done, with so many numbers; each slot holds 0
+-- nothing was done, with so many numbers at the start; each slot holds 0
 abbrev pub fresh_desk_object : ℕ → DeskObject
 fresh_desk_object size = record { names = new_object; slots = fresh_slots size (replicate size 0) }
 
@@ -35,10 +35,10 @@ AllowsRenaming terms o (Began p reply) = reply ≡ done_unless (no_begin terms o
 AllowsRenaming terms o (Stepped p (Ok reply)) = (no_step o p ≡ None) × AllowsStep terms o p reply
 AllowsRenaming terms o (Stepped p (Err why)) = (no_step o p ≡ Some why) ⊎ MayLackMemory terms o p why
 
--- the reply is one that the objects may give to the call
+-- the reply is one that the objects may give to the call, and each new slot holds 0
 abbrev pub AllowsCall : RenameTerms → DeskObject → DeskCall → Type 0
 AllowsCall terms o (Renamed h) = AllowsRenaming terms o.names h
-AllowsCall terms o (Slotted h) = SlotAnswers o.slots h
+AllowsCall terms o (Slotted h) = SlotAnswers o.slots h × BeginsSlots h
 
 -- the objects after a call
 abbrev pub after_call : DeskObject → DeskCall → DeskObject

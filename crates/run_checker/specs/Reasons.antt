@@ -4,10 +4,11 @@ use Rattle.step_memory.specs.declared.refusal.Refusal.{Refusal}
 use Rattle.step_memory.specs.Refusal.{refusal_number}
 use Rattle.rename_core.specs.RenameObject.{RenameTerms, RenameObject, no_begin, no_step, IsFreePlace, MayPropose, ShowsConflict, HasConflict, ShowsSole, IsFreeName}
 use Rattle.bit_allocator.specs.PoolObject.{no_entry, no_probe, number_in, IsFree}
+use Rattle.bit_allocator.specs.Widening.{widen_refusal}
 use Rattle.slot_array.specs.Slots.{IsFetched}
 use Rattle.slot_array.specs.SlotsObject.{SlotsObject}
 use Rattle.desk.specs.declared.event.Event.{Event}
-use Rattle.desk.specs.declared.event.Event.TheVariants.{Begin, Step, Enter, Probe, Leave, Put, Get}
+use Rattle.desk.specs.declared.event.Event.TheVariants.{Begin, Step, Enter, Probe, Leave, Put, Get, Widen}
 use Rattle.run_checker.specs.declared.reason.Reason.{Reason}
 use Rattle.run_checker.specs.declared.reason.Reason.TheVariants as reason
 use Rattle.run_checker.specs.declared.told.Told.{Told}
@@ -37,6 +38,7 @@ refusal_due terms o (Probe p) = no_probe o.slots.pool p
 refusal_due terms o (Leave p) = why_of (number_in o.slots.pool p)
 refusal_due terms o (Put p value) = why_of (number_in o.slots.pool p)
 refusal_due terms o (Get p) = why_of (number_in o.slots.pool p)
+refusal_due terms o (Widen more) = widen_refusal o.slots.pool.size more
 
 -- where none is due, want of memory may be told of a step in a world that grows
 abbrev pub is_told_rightly : Option Refusal → Bool → ℕ → Bool
@@ -79,8 +81,8 @@ abbrev pub GivesFreeName : RenameObject → ℕ → Told → Type 0
 GivesFreeName o p (Named name) = MayBeNamed o p name
 GivesFreeName o p t = Unit {0}
 
--- a number is got that is free; not each probe of a stay is missed; the number that is held is given back; and a value is got
--- that is in its slot
+-- a number is got that is free; not each probe of a stay is missed, by the present size; the number that is held is given back;
+-- and a value is got that is in its slot
 abbrev pub KeepsThePool : SlotsObject ℕ → ℕ → Told → Type 0
 KeepsThePool o p Missed = o.pool.probes p + 1 ≢ max 1 (o.pool.size - 1)
 KeepsThePool o p (Got number) = IsFree o.pool number

@@ -4,7 +4,7 @@ use Rattle.step_memory.specs.Participant.{program_of}
 use Rattle.bit_allocator.specs.Calls.Call.{Probed, Left}
 use Rattle.bit_allocator.specs.PoolObject.{competes}
 use Rattle.bit_allocator.specs.declared.probe.Probe.TheVariants as probe
-use Rattle.slot_array.specs.SlotCalls.SlotCall.{Pooled, Stored}
+use Rattle.slot_array.specs.SlotCalls.SlotCall.{Pooled, Stored, Extended}
 use Rattle.slot_array.specs.SlotsObject.{SlotsObject, slots_after}
 use Rattle.run_checker.specs.declared.stays.Stay.{Stay}
 use Rattle.run_checker.specs.declared.stays.Stays.{Stays}
@@ -38,7 +38,7 @@ pub record HoldsSlots (s : Stays) (o : SlotsObject ℕ) : Type 0 where
 abbrev pub OfSlots : Stays → (SlotsObject ℕ → Type 0) → Type 0
 OfSlots s P = (o : SlotsObject ℕ) → HoldsSlots s o → P o
 
--- the pool and the slots after an identity has missed a bit, got a number, left one, or stored a value
+-- the pool and the slots after an identity has missed a bit, got a number, left one, or stored a value, and after a widening
 abbrev pub missed_by : ℕ → SlotsObject ℕ → SlotsObject ℕ
 missed_by id o = slots_after o (Pooled (Probed id (Ok probe.Missed)))
 
@@ -50,3 +50,6 @@ left_by id number o = slots_after o (Pooled (Left id (Ok number)))
 
 abbrev pub stored_by : ℕ → ℕ → SlotsObject ℕ → SlotsObject ℕ
 stored_by id value o = slots_after o (Stored id value (Ok tt))
+
+abbrev pub widened_to : ℕ → SlotsObject ℕ → SlotsObject ℕ
+widened_to more o = slots_after o (Extended more 0 (Ok tt))

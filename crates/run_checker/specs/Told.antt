@@ -1,10 +1,11 @@
 -- which replies are those of which commands (the command language: this project's profile)
 use Rattle.std.specs.Prelude.{ℕ, Bool, true, false}
 use Rattle.desk.specs.declared.event.Event.{Event}
-use Rattle.desk.specs.declared.event.Event.TheVariants.{Begin, Step, Enter, Probe, Leave, Put, Get}
+use Rattle.desk.specs.declared.event.Event.TheVariants.{Begin, Step, Enter, Probe, Leave, Put, Get, Widen}
 use Rattle.run_checker.specs.declared.told.Told.{Told}
 use Rattle.run_checker.specs.declared.told.Told.TheVariants.{Ok, Quiet, Stop, Right, Down, Place, Proposed, Saw, Named, Spent, Missed, Got, Left, Value, Owner, Refused}
 
+-- who an event is of; a widening is nobody's, and 0 is nobody
 abbrev pub identity_of : Event → ℕ
 identity_of (Begin p) = p
 identity_of (Step p) = p
@@ -13,6 +14,7 @@ identity_of (Probe p) = p
 identity_of (Leave p) = p
 identity_of (Put p value) = p
 identity_of (Get p) = p
+identity_of (Widen more) = 0
 
 abbrev pub is_done : Event → Bool
 is_done (Begin p) = true
@@ -22,6 +24,7 @@ is_done (Probe p) = false
 is_done (Leave p) = false
 is_done (Put p value) = true
 is_done (Get p) = false
+is_done (Widen more) = true
 
 abbrev pub is_step : Event → Bool
 is_step (Step p) = true

@@ -12,7 +12,7 @@ ghost use Rattle.run_checker.specs.Told.{is_step, is_reply_of};
 ghost use Rattle.run_checker.specs.Reasons.{why_of, refusal_due, is_told_rightly, is_refused_as_due};
 ghost use Rattle.run_checker.specs.Lines.{line};
 ghost use Rattle.run_checker.specs.Judged.{HoldsDesk, Judges, JudgesWithRoom, HasRoom, HasTakenNone, TakesMore};
-ghost use Rattle.run_checker.specs.Judged.{MayBegin, MayStep, MayEnter, MayProbe, HoldsNumber, IsDueSo};
+ghost use Rattle.run_checker.specs.Judged.{MayBegin, MayStep, MayEnter, MayProbe, MayWiden, HoldsNumber, IsDueSo};
 
 use crate::fault::Fault;
 use crate::line::Line;
@@ -55,7 +55,7 @@ fn is_refused_as_due(due: Option<Refusal>, lacks: bool, told: &Told) -> bool
 
 impl Checker {
     /// Nothing was done, by at most `most` participants (1 to 16) with `limit` proposals each (1 to 1,000,000) and a pool of
-    /// `size` numbers (1 to 64). An error where a growth was refused.
+    /// `size` numbers (1 to 64) at the start. An error where a growth was refused.
     pub fn new(
         alloc: Global,
         most: u64,
@@ -84,6 +84,7 @@ impl Checker {
             Event::Leave(id) => self.stays.number_of(id).err(),
             Event::Put(id, _) => self.stays.number_of(id).err(),
             Event::Get(id) => self.stays.number_of(id).err(),
+            Event::Widen(more) => self.stays.widen_refusal(more),
         }
     }
 
@@ -229,6 +230,14 @@ impl Checker {
         Ok(())
     }
 
+    /// The pool gets more numbers where it may.
+    fn widen(&mut self, more: u64) -> Result<(), Fault>
+        ensures { Judges (MayWiden more) self.old (line (event.Widen more) told.Ok) result self.new }
+    {
+        self.stays.widen(more)?;
+        Ok(())
+    }
+
     /// What a step is told changes the renaming object.
     fn step(&mut self, id: u64, told: &Told) -> Result<(), Fault>
         ensures { JudgesWithRoom (IsDueSo (event.Step id) told.now) self.old (line (event.Step id) told.now) result self.new }
@@ -279,6 +288,10 @@ impl Checker {
             },
             Event::Get(id) => match told {
                 Told::Value(value) => self.fetch(id, *value),
+                _ => Ok(()),
+            },
+            Event::Widen(more) => match told {
+                Told::Ok => self.widen(more),
                 _ => Ok(()),
             },
         }

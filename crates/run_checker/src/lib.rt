@@ -4,7 +4,8 @@
 //! decides of its bytes. What is proved (`IsVerdict`), where no growth is refused:
 //!
 //! - `Yes`: the first line is a header, the others, at most 1,000,000, spell events with replies, and those are a run of the
-//!   renaming object, the pool and the slots, for some choice of the views that are not written.
+//!   renaming object, the pool and the slots, for some choice of the views that are not written. The header's size of the pool
+//!   is that at the start: a `widen` that is answered `ok` changes it for the lines after it.
 //! - `No` of a line and a reason: the lines before it are read and follow one another; it is read too and can't follow, for this
 //!   reason of seven and for no lesser one.
 //! - `BadRecord` of a line: the lines before it are read and follow one another, and it is none of a record.

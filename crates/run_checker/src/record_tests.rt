@@ -71,6 +71,63 @@ fn each_reason(rt: HostRuntime) -> Result<(), Fail> {
     follows(&rt, got, "leave 7", ("left 2", "left 1"), Reason::Pool)
 }
 
+/// The header of a pool of two numbers, which gets two more in the record below; without its LF.
+const TWO_NUMBERS: &str =
+    r#"{"format":"slot-record","k":2,"limit":2,"m":2,"version":1,"world":"rename"}"#;
+
+/// A pool whose numbers are all held gets two more, and all of them are held.
+const WIDENED: [(&str, &str); 23] = [
+    ("enter 5", "ok"),
+    ("probe 5", "got 1"),
+    ("enter 6", "ok"),
+    ("probe 6", "got 2"),
+    ("enter 7", "refused 7"),
+    ("widen 2", "refused 14"),
+    ("widen 4", "ok"),
+    ("enter 7", "ok"),
+    ("probe 7", "missed"),
+    ("probe 7", "missed"),
+    ("leave 6", "left 2"),
+    ("probe 7", "got 3"),
+    ("enter 8", "ok"),
+    ("probe 8", "missed"),
+    ("probe 8", "got 2"),
+    ("enter 9", "ok"),
+    ("probe 9", "missed"),
+    ("probe 9", "missed"),
+    ("probe 9", "got 4"),
+    ("enter 10", "refused 7"),
+    ("put 9 5", "ok"),
+    ("get 9", "value 5"),
+    ("widen 65", "refused 14"),
+];
+
+/// The record of a pool that widens, and the same with one reply that can't be.
+#[test]
+fn a_record_of_a_pool_that_widens(rt: HostRuntime) -> Result<(), Fail> {
+    let right = verdict_on(rt.alloc(), TWO_NUMBERS, &WIDENED)?;
+    assert_eq!(rt; right, Verdict::Yes);
+    for (at, reply, reason) in [
+        (5, "ok", Reason::Refusal),
+        (6, "refused 14", Reason::Refusal),
+        (6, "quiet", Reason::Reply),
+        (7, "refused 7", Reason::Refusal),
+        (11, "missed", Reason::Pool),
+        (18, "got 5", Reason::Pool),
+        (18, "missed", Reason::Pool),
+        (22, "refused 13", Reason::Refusal),
+    ] {
+        let mut rows = WIDENED;
+        rows[at].1 = reply;
+        let wrong = verdict_on(rt.alloc(), TWO_NUMBERS, &rows)?;
+        assert!(rt;
+            wrong == Verdict::No(at as u64 + 2, reason),
+            "{at} {reply}: {wrong:?}"
+        );
+    }
+    Ok(())
+}
+
 /// The first fault of either kind decides: a line that can't follow, or one that is none of a record.
 #[test]
 fn the_first_fault(rt: HostRuntime) -> Result<(), Fail> {
@@ -220,6 +277,8 @@ fn no_commands(rt: HostRuntime) -> Result<(), Fail> {
         "enter 5.0",
         "enter 18446744073709551616",
         "put 5",
+        "widen",
+        "widen 04",
         "stop 5",
         "0123456789012345678901234567890123456789012345678901234567890123456789012345678901234567890123456789",
     ] {

@@ -34,3 +34,21 @@ fn a_recorded_run_is_checked_yes(rt: HostRuntime) -> Result<(), Fail> {
     }
     Ok(())
 }
+
+/// Runs in which the pool gets more numbers, the last of which is held or free.
+#[test]
+fn recorded_runs_of_a_pool_that_widens(rt: HostRuntime) -> Result<(), Fail> {
+    let held =
+        b"enter 5\nprobe 5\nenter 6\nprobe 6\nenter 7\nwiden 2\nwiden 4\nenter 7\nprobe 7\nprobe 7\nleave 6\nprobe 7\n\
+                 enter 8\nprobe 8\nprobe 8\nenter 9\nprobe 9\nprobe 9\nprobe 9\nenter 10\nput 9 5\nget 9\nwiden 65\n";
+    let free = b"enter 5\nwiden 2\nprobe 5\nenter 6\nprobe 6\n";
+    for world in [WorldKind::Rename, WorldKind::Tree] {
+        let two = Config::new(world, 2, 2, 1000).expect(&rt, "a config");
+        let one = Config::new(world, 2, 1, 1000).expect(&rt, "a config");
+        let verdict = checked_record(rt.alloc(), two, held).expect(&rt, "a record");
+        assert_eq!(rt; verdict, Verdict::Yes);
+        let verdict = checked_record(rt.alloc(), one, free).expect(&rt, "a record");
+        assert_eq!(rt; verdict, Verdict::Yes);
+    }
+    Ok(())
+}

@@ -5,11 +5,12 @@ ghost use Rattle.std.specs.List.{list_any};
 ghost use Rattle.bit_allocator.specs.Calls.Call.{Entered, Probed, Left};
 ghost use Rattle.bit_allocator.specs.PoolObject.{no_entry, no_probe, number_in, IsFree};
 ghost use Rattle.bit_allocator.specs.declared.probe.Probe.TheVariants as probe;
+ghost use Rattle.bit_allocator.specs.Widening.{widen_refusal};
 ghost use Rattle.slot_array.specs.SlotCalls.SlotCall.{Pooled, Stored};
 ghost use Rattle.slot_array.specs.Slots.{IsFetched};
 ghost use Rattle.slot_array.specs.SlotsObject.{SlotsObject, fresh_slots, slots_after};
 ghost use Rattle.run_checker.specs.Standing.{is_held};
-ghost use Rattle.run_checker.specs.Stays.{HoldsSlots, OfSlots, missed_by, got_by, left_by, stored_by};
+ghost use Rattle.run_checker.specs.Stays.{HoldsSlots, OfSlots, missed_by, got_by, left_by, stored_by, widened_to};
 
 use crate::names::is_number;
 use crate::people::{find, put};
@@ -93,6 +94,17 @@ impl Stays {
                 None => Err(Refusal::NotHolding),
                 Some(number) => Ok(number),
             },
+        }
+    }
+
+    /// Why a widening to so many numbers is to be refused.
+    pub fn widen_refusal(&self, more: u64) -> Option<Refusal>
+        ensures { (o : SlotsObject ℕ) → HoldsSlots self.now o → result ≡ widen_refusal o.pool.size more }
+    {
+        if more <= self.size || 64 < more {
+            Some(Refusal::OutOfRange)
+        } else {
+            None
         }
     }
 
@@ -187,5 +199,15 @@ impl Stays {
     {
         let place = number.saturating_sub(1) as usize;
         place < self.values.len() && self.values[place] == value
+    }
+
+    /// The pool gets more numbers, up to this one, and each new slot holds 0. An error where a growth was refused; then what is
+    /// kept is of no more use.
+    pub fn widen(&mut self, more: u64) -> Result<(), AllocError>
+        ensures { OnOk result (OfSlots self.old (λ o. widen_refusal o.pool.size more ≡ None → HoldsSlots self.new (widened_to more o))) }
+    {
+        self.values.resize(more as usize, 0)?;
+        self.size = more;
+        Ok(())
     }
 }

@@ -2,7 +2,7 @@ use crate::{
     Line, Pairs, Reason, Told, first_fault, law_of_desk_runs, law_of_reasons, law_of_records,
 };
 use desk::Event;
-use desk::Event::{Begin, Enter, Get, Leave, Probe, Put, Step};
+use desk::Event::{Begin, Enter, Get, Leave, Probe, Put, Step, Widen};
 use rename_core::{Config, WorldKind};
 use std::alloc::{AllocError, Global};
 use std::process::Abort;
@@ -463,6 +463,82 @@ fn one_number(rt: HostRuntime) -> Result<(), Fail> {
         ],
         Some((11, Reason::Pool)),
     )
+}
+
+/// A pool of two numbers, both held, that gets two more.
+#[test]
+fn a_pool_that_widens(rt: HostRuntime) -> Result<(), Fail> {
+    for (event, told, fault) in [
+        (Widen(2), Told::Refused(14), None),
+        (Widen(2), Told::Ok, Some((5, Reason::Refusal))),
+        (Widen(4), Told::Refused(14), Some((5, Reason::Refusal))),
+        (Widen(4), Told::Refused(7), Some((5, Reason::Refusal))),
+        (Widen(4), Told::Left(2), Some((5, Reason::Reply))),
+        (Widen(64), Told::Ok, None),
+        (Widen(65), Told::Refused(14), None),
+        (Widen(65), Told::Ok, Some((5, Reason::Refusal))),
+        (Widen(0), Told::Refused(14), None),
+    ] {
+        judge(
+            &rt,
+            Config::new(WorldKind::Rename, 1, 2, 1)?,
+            [
+                (Enter(5), Told::Ok),
+                (Probe(5), Told::Got(1)),
+                (Enter(6), Told::Ok),
+                (Probe(6), Told::Got(2)),
+                (Enter(7), Told::Refused(7)),
+                (event, told),
+            ],
+            fault,
+        )?;
+    }
+    Ok(())
+}
+
+/// Judges an event of a pool that had one number, held by 5 with 9 in its slot, and has three; 6 has probed once since.
+fn judge_wider<R: Abort + AllocGlobal>(
+    rt: &R,
+    event: Event,
+    told: Told,
+    fault: Option<(usize, Reason)>,
+) -> Result<(), Fail> {
+    judge(
+        rt,
+        Config::new(WorldKind::Tree, 1, 1, 1)?,
+        [
+            (Enter(5), Told::Ok),
+            (Probe(5), Told::Got(1)),
+            (Put(5, 9), Told::Ok),
+            (Widen(3), Told::Ok),
+            (Enter(6), Told::Ok),
+            (Probe(6), Told::Missed),
+            (event, told),
+        ],
+        fault,
+    )
+}
+
+/// The present size says who is let in, which numbers are given and which probe is not missed.
+#[test]
+fn a_wider_pool(rt: HostRuntime) -> Result<(), Fail> {
+    for (event, told, fault) in [
+        (Enter(7), Told::Ok, None),
+        (Enter(7), Told::Refused(7), Some((6, Reason::Refusal))),
+        (Probe(6), Told::Got(2), None),
+        (Probe(6), Told::Got(3), None),
+        (Probe(6), Told::Got(1), Some((6, Reason::Pool))),
+        (Probe(6), Told::Got(4), Some((6, Reason::Pool))),
+        (Probe(6), Told::Missed, Some((6, Reason::Pool))),
+        (Get(5), Told::Value(9), None),
+        (Get(5), Told::Value(0), Some((6, Reason::Pool))),
+        (Leave(5), Told::Left(1), None),
+        (Widen(3), Told::Refused(14), None),
+        (Widen(4), Told::Ok, None),
+    ] {
+        judge_wider(&rt, event, told, fault)?;
+    }
+    Ok(())
 }
 
 #[test]

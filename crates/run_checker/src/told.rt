@@ -56,7 +56,10 @@ pub fn is_step(event: Event) -> bool
 fn is_done(event: Event) -> bool
     ensures { result ≡ is_done event }
 {
-    matches!(event, Event::Begin(_) | Event::Enter(_) | Event::Put(_, _))
+    matches!(
+        event,
+        Event::Begin(_) | Event::Enter(_) | Event::Put(_, _) | Event::Widen(_)
+    )
 }
 
 impl Told {

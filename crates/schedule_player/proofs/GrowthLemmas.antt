@@ -1,5 +1,5 @@
 -- a desk's talk without the turns that were refused memory
-use Rattle.std.proofs.Common.{◌≡◌, ◌≢◌, ◌==◌, ◌||◌, ◌*◌, nat_le, is_some, ℕ, Bool, true, false, cond, inl, inr, List, [], ◌∷◌, ◌++◌, length, Option, Some, None, refl, sym, ap, subst, ◌∙◌}
+use Rattle.std.proofs.Common.{◌≡◌, ◌≢◌, ◌==◌, ◌||◌, ◌*◌, nat_le, nat_lt, is_some, ℕ, Bool, true, false, cond, inl, inr, List, [], ◌∷◌, ◌++◌, length, Option, Some, None, refl, sym, ap, subst, ◌∙◌}
 use Rattle.step_memory.specs.declared.refusal.Refusal.{Refusal}
 use Rattle.step_memory.specs.declared.refusal.Refusal.TheVariants as refusal
 use Rattle.step_memory.specs.Participant.{participant_of, program_of}
@@ -18,8 +18,9 @@ use Rattle.bit_allocator.specs.declared.stay.Stay.TheVariants.{Seeking, Settled}
 use Rattle.bit_allocator.specs.Competitors.{stay_of}
 use Rattle.bit_allocator.specs.Pool.{enter_refusal, probe_refusal_by, number_by}
 use Rattle.bit_allocator.specs.PoolState.{PoolState}
+use Rattle.bit_allocator.specs.Widening.{widen_refusal}
 use Rattle.desk.specs.declared.event.Event.{Event}
-use Rattle.desk.specs.declared.event.Event.TheVariants.{Begin, Step, Enter, Probe, Leave, Put, Get}
+use Rattle.desk.specs.declared.event.Event.TheVariants.{Begin, Step, Enter, Probe, Leave, Put, Get, Widen}
 use Rattle.desk.specs.declared.reply.Reply.{Reply}
 use Rattle.desk.specs.declared.reply.Reply.TheVariants as reply
 use Rattle.desk.specs.Desk.{desk_rules, desk_refusal, owner_reply, gives_names, IsAfterDesk}
@@ -80,6 +81,11 @@ other_enter w p =
     other_if (p == 0) refusal.ZeroIdentity (cond (is_some (stay_of p w.competitors)) (Some refusal.AlreadyCompeting) crowded) refl
     (other_if (is_some (stay_of p w.competitors)) refusal.AlreadyCompeting crowded refl (other_if (nat_le w.size (length w.competitors)) refusal.Crowded None refl tt))
 
+other_widen : (size more : ℕ) → IsOther (widen_refusal size more)
+other_widen size more =
+    let above : Option Refusal = cond (nat_lt 64 more) (Some refusal.OutOfRange) None in
+    other_if (nat_le more size) refusal.OutOfRange above refl (other_if (nat_lt 64 more) refusal.OutOfRange None refl tt)
+
 other_over : {S U K : Type 0} (w : DeskState S U K) (e : Event) → IsOther (refusal_over w e)
 other_over w (Begin p) = other_begin w.names.snap p
 other_over w (Step p) = other_step (program_of p w.names.rounds)
@@ -88,6 +94,7 @@ other_over w (Probe p) = other_probe (stay_of p w.slots.pool.competitors)
 other_over w (Leave p) = other_number (stay_of p w.slots.pool.competitors)
 other_over w (Put p value) = other_number (stay_of p w.slots.pool.competitors)
 other_over w (Get p) = other_number (stay_of p w.slots.pool.competitors)
+other_over w (Widen more) = other_widen w.slots.pool.size more
 
 other_due : (w : DeskValue) (e : Event) → IsOther (desk_refusal w e)
 other_due (OverGrid w) e = other_over w e

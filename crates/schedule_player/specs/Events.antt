@@ -11,6 +11,7 @@ event_words (event.Probe id) = codes "probe " ++ decimal id
 event_words (event.Leave id) = codes "leave " ++ decimal id
 event_words (event.Put id value) = (codes "put " ++ decimal id) ++ codes " " ++ decimal value
 event_words (event.Get id) = codes "get " ++ decimal id
+event_words (event.Widen more) = codes "widen " ++ decimal more
 
 -- the lines that ask for events, in order
 abbrev pub event_lines : List Event → List ℕ

@@ -7,7 +7,7 @@ use Rattle.step_memory.specs.Calls.{Call}
 use Rattle.step_memory.specs.Calls.Call.{Began, Stepped}
 use Rattle.rename_core.specs.declared.config.WorldKind.{WorldKind}
 use Rattle.desk.specs.declared.event.Event.{Event}
-use Rattle.desk.specs.declared.event.Event.TheVariants.{Begin, Step, Enter, Probe, Leave, Put, Get}
+use Rattle.desk.specs.declared.event.Event.TheVariants.{Begin, Step, Enter, Probe, Leave, Put, Get, Widen}
 use Rattle.desk.specs.declared.exchange.Exchange.{Exchange}
 use Rattle.desk.specs.declared.reply.Reply.{Reply}
 use Rattle.desk.specs.declared.reply.Reply.TheVariants as reply
@@ -109,6 +109,7 @@ module _ {T X : Type 0} (rules : VisitRules T X) where
   visit_answers w (Take (Leave p)) known = absurd cc
   visit_answers w (Take (Put p value)) known = absurd cc
   visit_answers w (Take (Get p)) known = absurd cc
+  visit_answers w (Take (Widen more)) known = absurd cc
   visit_answers w (OwnerOf n) known = (reply.Refused refusal.OutOfRange, w, no_name w n known)
 
   -- and only one
@@ -120,6 +121,7 @@ module _ {T X : Type 0} (rules : VisitRules T X) where
   one_visit w u v (Take (Leave p)) a b x y = absurd x
   one_visit w u v (Take (Put p value)) a b x y = absurd x
   one_visit w u v (Take (Get p)) a b x y = absurd x
+  one_visit w u v (Take (Widen more)) a b x y = absurd x
   one_visit w u v (OwnerOf n) a b x y = one_no_name w u v n a b x y
 
   -- who asks for a name is told right
@@ -149,6 +151,7 @@ module _ {T X : Type 0} (rules : VisitRules T X) where
     one_call w u before (Leave p) a after m = absurd m
     one_call w u before (Put p value) a after m = absurd m
     one_call w u before (Get p) a after m = absurd m
+    one_call w u before (Widen more) a after m = absurd m
 
     -- the exchanges of a run are calls
     calls_of_run : (w u : T) (before : List (Call X)) (ts : List Turn) → After w before → Runs (visit_may rules) w ts u →

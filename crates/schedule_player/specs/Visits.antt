@@ -2,7 +2,7 @@
 use Rattle.std.specs.Prelude.{◌≡◌, ℕ, zero, suc, Bool, true, false, Result, Ok, Err}
 use Rattle.step_memory.specs.declared.refusal.Refusal.{Refusal}
 use Rattle.step_memory.specs.declared.refusal.Refusal.TheVariants as refusal
-use Rattle.desk.specs.declared.event.Event.TheVariants.{Begin, Step, Enter, Probe, Leave, Put, Get}
+use Rattle.desk.specs.declared.event.Event.TheVariants.{Begin, Step, Enter, Probe, Leave, Put, Get, Widen}
 use Rattle.desk.specs.declared.reply.Reply.{Reply}
 use Rattle.desk.specs.declared.reply.Reply.TheVariants as reply
 use Rattle.desk.specs.Replies.{done_reply}
@@ -18,6 +18,7 @@ knows_visits (Take (Probe p)) = false
 knows_visits (Take (Leave p)) = false
 knows_visits (Take (Put p value)) = false
 knows_visits (Take (Get p)) = false
+knows_visits (Take (Widen more)) = false
 knows_visits (OwnerOf zero) = true
 knows_visits (OwnerOf (suc n)) = false
 
@@ -48,4 +49,5 @@ visit_may rules w (Take (Probe p)) r u = ⊥
 visit_may rules w (Take (Leave p)) r u = ⊥
 visit_may rules w (Take (Put p value)) r u = ⊥
 visit_may rules w (Take (Get p)) r u = ⊥
+visit_may rules w (Take (Widen more)) r u = ⊥
 visit_may rules w (OwnerOf n) r u = NoName w n r u

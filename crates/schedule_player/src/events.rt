@@ -28,5 +28,6 @@ pub fn print_event<A: Allocator>(event: Event, out: &mut Replies<A>)
             put_word(b" ", value, out);
         }
         Event::Get(id) => put_word(b"get ", id, out),
+        Event::Widen(size) => put_word(b"widen ", size, out),
     }
 }

@@ -33,7 +33,8 @@ impl<A: Allocator + Clone, R> Service<R> for GridWorld<A> {
             | Event::Probe(_)
             | Event::Leave(_)
             | Event::Put(_, _)
-            | Event::Get(_) => unreachable!(),
+            | Event::Get(_)
+            | Event::Widen(_) => unreachable!(),
         }
     }
 
