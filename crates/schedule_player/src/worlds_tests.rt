@@ -18,10 +18,12 @@ pub(crate) struct Row {
 }
 
 /// The pool gets more numbers while the last is held.
-const WIDENED: &str = "enter 5, probe 5, enter 6, probe 6, enter 7, widen 2, widen 4, enter 7, probe 7*2, leave 6, probe 7, \
+const WIDENED: &str =
+    "enter 5, probe 5, enter 6, probe 6, enter 7, widen 2, widen 4, enter 7, probe 7*2, leave 6, probe 7, \
     enter 8, probe 8*2, enter 9, probe 9*3, enter 10, put 9 5, get 9, widen 65";
 
-const WIDENED_SAID: &str = "ok, got 1, ok, got 2, refused 7, refused 14, ok*2, missed*2, left 2, got 3, ok, missed, got 2, ok, \
+const WIDENED_SAID: &str =
+    "ok, got 1, ok, got 2, refused 7, refused 14, ok*2, missed*2, left 2, got 3, ok, missed, got 2, ok, \
     missed*2, got 4, refused 7, ok, value 5, refused 14";
 
 pub(crate) const ROWS: [Row; 17] = [
