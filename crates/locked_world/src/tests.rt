@@ -76,6 +76,41 @@ fn one_in_a_hall(rt: HostRuntime) -> Result<(), Fail> {
     Ok(())
 }
 
+/// The pool of a hall widens while its last number is held, and the history has that too.
+#[test]
+fn a_hall_whose_pool_widens(rt: HostRuntime) -> Result<(), Fail> {
+    let mut hall = Hall::new(rt.alloc(), Config::new(WorldKind::Tree, 4, 2, 1000)?)?;
+    for (event, want) in [
+        (Event::Enter(5), Reply::Ok),
+        (Event::Probe(5), Reply::Got(1)),
+        (Event::Enter(6), Reply::Ok),
+        (Event::Probe(6), Reply::Got(2)),
+        (Event::Enter(7), Reply::Refused(Refusal::Crowded)),
+        (Event::Widen(2), Reply::Refused(Refusal::OutOfRange)),
+        (Event::Widen(4), Reply::Ok),
+        (Event::Enter(7), Reply::Ok),
+        (Event::Probe(7), Reply::Missed),
+        (Event::Probe(7), Reply::Missed),
+        (Event::Leave(6), Reply::Left(2)),
+        (Event::Probe(7), Reply::Got(3)),
+        (Event::Enter(8), Reply::Ok),
+        (Event::Probe(8), Reply::Missed),
+        (Event::Probe(8), Reply::Got(2)),
+        (Event::Enter(9), Reply::Ok),
+        (Event::Probe(9), Reply::Missed),
+        (Event::Probe(9), Reply::Missed),
+        (Event::Probe(9), Reply::Got(4)),
+        (Event::Enter(10), Reply::Refused(Refusal::Crowded)),
+        (Event::Put(9, 5), Reply::Ok),
+        (Event::Get(9), Reply::Value(5)),
+        (Event::Widen(65), Reply::Refused(Refusal::OutOfRange)),
+    ] {
+        applies(&rt, &mut hall, event, &want);
+    }
+    assert_eq!(rt; hall.len(), 19);
+    Ok(())
+}
+
 /// Halls are opened where names are given alone.
 #[test]
 fn worlds_of_halls(rt: HostRuntime) -> Result<(), Fail> {
@@ -118,6 +153,18 @@ fn a_full_history(rt: HostRuntime) -> Result<(), Fail> {
         &mut hall,
         Event::Begin(7),
         &Reply::Refused(Refusal::HistoryFull),
+    );
+    applies(
+        &rt,
+        &mut hall,
+        Event::Widen(2),
+        &Reply::Refused(Refusal::HistoryFull),
+    );
+    applies(
+        &rt,
+        &mut hall,
+        Event::Widen(1),
+        &Reply::Refused(Refusal::OutOfRange),
     );
     applies(
         &rt,
@@ -244,6 +291,20 @@ fn a_freed_bit_through_a_clerk(rt: HostRuntime) {
     ];
     let count = pool_by_clerk::<Brand, _>(&rt, rt.alloc(), Blank::new(1_000_001), 3, &rows);
     assert_eq!(rt; count, Some(11));
+}
+
+#[test]
+fn a_wider_pool_through_a_clerk(rt: HostRuntime) {
+    let rows = [
+        (Event::Enter(5), Reply::Ok),
+        (Event::Widen(2), Reply::Ok),
+        (Event::Probe(5), Reply::Got(1)),
+        (Event::Enter(6), Reply::Ok),
+        (Event::Probe(6), Reply::Got(2)),
+        (Event::Widen(2), Reply::Refused(Refusal::OutOfRange)),
+    ];
+    let count = pool_by_clerk::<Brand, _>(&rt, rt.alloc(), Blank::new(1_000_001), 1, &rows);
+    assert_eq!(rt; count, Some(5));
 }
 
 #[test]

@@ -150,7 +150,7 @@ fn each_growth_of_a_row_is_refused_in_turn(rt: HostRuntime) -> Result<(), Fail> 
             let refused = growths_refused_in_turn(&rt, rt.alloc(), row, kept)?;
             assert_eq!(rt;
                 refused > 0,
-                row.world == WorldKind::Tree,
+                row.world == WorldKind::Tree && row.asked.starts_with("begin"),
                 "at {}",
                 row.asked
             );

@@ -17,7 +17,16 @@ pub(crate) struct Row {
     pub(crate) said: &'static str,
 }
 
-pub(crate) const ROWS: [Row; 13] = [
+/// The pool gets more numbers while the last is held.
+const WIDENED: &str =
+    "enter 5, probe 5, enter 6, probe 6, enter 7, widen 2, widen 4, enter 7, probe 7*2, leave 6, probe 7, \
+    enter 8, probe 8*2, enter 9, probe 9*3, enter 10, put 9 5, get 9, widen 65";
+
+const WIDENED_SAID: &str =
+    "ok, got 1, ok, got 2, refused 7, refused 14, ok*2, missed*2, left 2, got 3, ok, missed, got 2, ok, \
+    missed*2, got 4, refused 7, ok, value 5, refused 14";
+
+pub(crate) const ROWS: [Row; 17] = [
     // One alone in a world for one.
     Row {
         world: WorldKind::Rename,
@@ -130,6 +139,41 @@ pub(crate) const ROWS: [Row; 13] = [
         asked: "probe 5, enter 0, enter 5, leave 5, probe 5, enter 6, probe 6, put 6 9, leave 6, enter 7, \
             probe 7, get 7",
         said: "refused 8, refused 1, ok, refused 11, got 1, ok, got 2, ok, left 2, ok, got 2, value 9",
+    },
+    // A pool that widens while its last number is held.
+    Row {
+        world: WorldKind::Rename,
+        m: 4,
+        k: 2,
+        limit: 1000,
+        asked: WIDENED,
+        said: WIDENED_SAID,
+    },
+    Row {
+        world: WorldKind::Tree,
+        m: 4,
+        k: 2,
+        limit: 1000,
+        asked: WIDENED,
+        said: WIDENED_SAID,
+    },
+    // A pool of one number that widens before it is held.
+    Row {
+        world: WorldKind::Rename,
+        m: 4,
+        k: 1,
+        limit: 1000,
+        asked: "enter 5, widen 2, probe 5, enter 6, probe 6",
+        said: "ok*2, got 1, ok, got 2",
+    },
+    // A pool widens at most to 64 numbers, and each new slot holds 0.
+    Row {
+        world: WorldKind::Rename,
+        m: 4,
+        k: 1,
+        limit: 1000,
+        asked: "widen 0, widen 1, widen 65, widen 64, widen 64, enter 5, probe 5, put 5 9, enter 6, probe 6*2, get 6",
+        said: "refused 14*3, ok, refused 14, ok, got 1, ok*2, missed, got 2, value 0",
     },
     // One alone in a tree.
     Row {
