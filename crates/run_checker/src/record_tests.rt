@@ -117,6 +117,7 @@ fn a_record_of_a_pool_that_widens(rt: HostRuntime) -> Result<(), Fail> {
         (18, "missed", Reason::Pool),
         (22, "refused 13", Reason::Refusal),
     ] {
+        assert!(rt; at < 23);
         let mut rows = WIDENED;
         rows[at].1 = reply;
         let wrong = verdict_on(rt.alloc(), TWO_NUMBERS, &rows)?;
