@@ -1,5 +1,5 @@
 -- a record, as it is written, is a header and a line for each exchange, which says it
-use Rattle.std.proofs.Common.{◌≡◌, ℕ, ◌+◌, ◌^◌, ◌<◌, ◌≤◌, true, List, [], ◌∷◌, ◌++◌, length, map, flat_map, codes, decimal, IsUtf8, refl, sym, ap, ◌∙◌, arith, append_assoc, length-append, suc}
+use Rattle.std.proofs.Common.{◌≡◌, ℕ, ◌+◌, ◌^◌, ◌<◌, ◌≤◌, true, false, List, [], ◌∷◌, ◌++◌, length, map, flat_map, codes, decimal, IsUtf8, refl, sym, ap, ◌∙◌, arith, append_assoc, length-append, suc}
 use Rattle.std.proofs.lemmas.List.{length-map}
 use Rattle.std.specs.List.{list_all}
 use Rattle.std.proofs.lemmas.Str.{IsUtf8-append}
@@ -26,6 +26,7 @@ use Rattle.run_checker.specs.RecordLine.{IsEventLine, IsHeaderLine}
 use Rattle.run_checker.specs.Recorded.{IsRecordOf}
 use Rattle.run_checker.specs.Verdict.{record_lines, AreRead, IsSaidAfter}
 use Rattle.run_checker.proofs.Pieces.{lines_cut}
+use Rattle.run_checker.proofs.RecordRuns.{lines_of_all}
 use Rattle.run_checker.proofs.WrittenTexts.{is_plain, line_data, line_text, header_data, header_text, read_line_text, read_header_text, plain_utf8}
 use Rattle.run_checker.proofs.WrittenWords.{IsNarrowEvent, IsNarrowReply, event_means, event_plain, event_short, plain_decimal, plain_has_no_lf, short_decimal, no_lf_both}
 use Rattle.run_checker.proofs.WrittenReplies.{reply_tells, reply_plain, reply_short}
@@ -79,7 +80,7 @@ module _ (c r : List ℕ) (hc : list_all is_plain c ≡ true) (hr : list_all is_
 
 -- the line of an exchange says it
 module _ (kind : WorldKind) (desk : has_desk kind ≡ true) where
-  row_says : (x : Exchange) → IsNarrowEvent x.event → IsNarrowReply x.reply → IsEventLine kind (row_of x) (line_of x)
+  row_says : (x : Exchange) → IsNarrowEvent x.event → IsNarrowReply x.reply → IsEventLine kind (row_of x) (line_of false x)
   row_says x e r =
       let asked = event_words x.event in
       let replied = reply_words x.reply in
@@ -98,7 +99,7 @@ module _ (kind : WorldKind) (desk : has_desk kind ≡ true) where
         };
       }
 
-  rows_read : (r : List Exchange) → AreNarrowExchanges r → AreRead kind (map row_of r) (map line_of r)
+  rows_read : (r : List Exchange) → AreNarrowExchanges r → AreRead kind (map row_of r) (map (line_of false) r)
   rows_read [] h = tt
   rows_read (x ∷ xs) h = (row_says x h.0 h.1, rows_read xs h.2)
 
@@ -237,9 +238,9 @@ record_said c r bytes b run few = record {
   config = c;
   header = b.header;
   said = record {
-    lines = map line_of r;
+    lines = map (line_of false) r;
     read = b.read;
-    few = omega (arith, read_length c.world b.rows (map line_of r) b.read, length-map r line_of);
-    run = record { exchanges = r; spelled = refl; run = run };
+    few = omega (arith, read_length c.world b.rows (map (line_of false) r) b.read, length-map r (line_of false));
+    run = record { exchanges = r; spelled = lines_of_all false r; run = run };
   };
 }

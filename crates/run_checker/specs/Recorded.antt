@@ -1,5 +1,5 @@
 -- what `record` writes, of an input with at most a million events, and what is said of it (this project's profile)
-use Rattle.std.specs.Prelude.{◌≡◌, ◌⊎◌, ℕ, ◌+◌, ◌≤◌, true, List, [], ◌∷◌, map, length, Some, Result, Ok, Err}
+use Rattle.std.specs.Prelude.{◌≡◌, ◌⊎◌, ℕ, ◌+◌, ◌≤◌, true, false, List, [], ◌∷◌, map, length, Some, Result, Ok, Err}
 use Rattle.rename_core.specs.declared.config.Config.{Config}
 use Rattle.rename_core.specs.declared.config.WorldKind.{WorldKind}
 use Rattle.desk.specs.declared.exchange.Exchange.{Exchange}
@@ -25,7 +25,7 @@ pub record IsRecordOf (c : Config) (r : List Exchange) (bytes : List ℕ) : Type
   pub rows : List (List ℕ)
   pub is : record_lines bytes ≡ head ∷ rows
   pub header : IsHeaderLine head c
-  pub read : AreRead c.world rows (map line_of r)
+  pub read : AreRead c.world rows (map (line_of false) r)
 
 -- a talk of this config, in whose world names are given, to what these lines ask, with at most a million events
 pub record IsShortTalk (c : Config) (ls : List (List ℕ)) (ts : List Turn) : Type 0 where

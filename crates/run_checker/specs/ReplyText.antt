@@ -70,7 +70,7 @@ abbrev pub word_with : List ℕ → List ℕ → Option Told
 word_with word other =
     if same_bytes word (codes "place") then option_map Place (number_below (2 ^ 128) other)
     else if same_bytes word (codes "proposed") then option_map Proposed (number_of other)
-    else if same_bytes word (codes "named") then option_map Named (number_of other)
+    else if same_bytes word (codes "named") then option_map (λ name. Named name None) (number_of other)
     else if same_bytes word (codes "got") then option_map Got (number_of other)
     else if same_bytes word (codes "left") then option_map Left (number_of other)
     else if same_bytes word (codes "value") then option_map Value (number_of other)

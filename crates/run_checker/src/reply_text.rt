@@ -87,7 +87,7 @@ fn with(word: &[u8], other: &[u8]) -> Option<Told>
     } else if is_word(word, b"proposed") {
         Some(Told::Proposed(number(other)?))
     } else if is_word(word, b"named") {
-        Some(Told::Named(number(other)?))
+        Some(Told::Named(number(other)?, None))
     } else if is_word(word, b"got") {
         Some(Told::Got(number(other)?))
     } else if is_word(word, b"left") {
