@@ -99,12 +99,12 @@ module _ (h : Header) (rows : List (List ℕ)) (s : SpellRun h rows) where
   only_yes NoMemory said = absurd said
 
 -- a header says one version and one config
-record AreSame (h k : Header) : Type 0 where
-  version : h.version ≡ k.version
-  world : h.config.world ≡ k.config.world
-  m : h.config.m ≡ k.config.m
-  k : h.config.k ≡ k.config.k
-  limit : h.config.limit ≡ k.config.limit
+record AreSame (g h : Header) : Type 0 where
+  version : g.version ≡ h.version
+  world : g.config.world ≡ h.config.world
+  m : g.config.m ≡ h.config.m
+  k : g.config.k ≡ h.config.k
+  limit : g.config.limit ≡ h.config.limit
 
 header_once : (head : List ℕ) (g h : Header) → IsHeaderLine head g → IsHeaderLine head h → AreSame g h
 header_once head g h x y =

@@ -1,5 +1,5 @@
 -- a record, as it is written, is a header and a line for each exchange, which says it
-use Rattle.std.proofs.Common.{◌≡◌, ℕ, ◌+◌, ◌^◌, ◌<◌, ◌≤◌, true, false, List, [], ◌∷◌, ◌++◌, length, map, flat_map, Option, Some, None, option_and_then, codes, decimal, IsUtf8, refl, sym, ap, ◌∙◌, arith, append_assoc, length-append, suc}
+use Rattle.std.proofs.Common.{◌≡◌, ℕ, ◌+◌, ◌^◌, ◌<◌, ◌≤◌, true, false, List, [], ◌∷◌, ◌++◌, length, map, flat_map, Option, None, option_and_then, codes, decimal, IsUtf8, refl, sym, ap, ◌∙◌, arith, append_assoc, length-append, suc}
 use Rattle.std.proofs.lemmas.List.{length-map}
 use Rattle.std.specs.List.{list_all}
 use Rattle.std.proofs.lemmas.Str.{IsUtf8-append}

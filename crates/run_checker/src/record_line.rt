@@ -15,7 +15,7 @@ ghost use Rattle.run_checker.specs.RecordLine.{IsJson, IsEventOf, SaysLine, IsEv
 
 use crate::header::{Header, Version};
 use crate::line::Line;
-use crate::object::{LineTexts, header, texts};
+use crate::object::{header, texts};
 use crate::reply_text::{pairs, read_reply};
 use crate::told::Told;
 use desk::Event;
@@ -78,14 +78,15 @@ fn with_view(alloc: Global, told: Told, text: &str) -> Result<Option<Told>, Allo
 fn told_of(
     alloc: Global,
     version: Version,
-    texts: LineTexts<'_>,
+    reply: &str,
+    view: Option<&str>,
 ) -> Result<Option<Told>, AllocError>
-    ensures { IfOk result (λ r. r ≡ told_by version texts.reply.now (option_copied texts.view)) }
+    ensures { IfOk result (λ r. r ≡ told_by version reply.now (option_copied view.entry)) }
 {
-    let Some(told) = read_reply(alloc, texts.reply.as_bytes())? else {
+    let Some(told) = read_reply(alloc, reply.as_bytes())? else {
         return Ok(None);
     };
-    let Some(text) = texts.view else {
+    let Some(text) = view else {
         return Ok(without_view(version, told));
     };
     match version {
@@ -110,7 +111,7 @@ fn line_of(
     let Some(event) = event_of(texts.command, kind) else {
         return Ok(None);
     };
-    let Some(told) = told_of(alloc, version, texts)? else {
+    let Some(told) = told_of(alloc, version, texts.reply, texts.view)? else {
         return Ok(None);
     };
     Ok(Some(Line { event, told }))
