@@ -165,7 +165,7 @@ done_narrow (Err why) = tt
 
 -- ---- the objects
 
--- who has begun, at most 16 with identities from 1 on, and only they have proposed; the pool has at most 64 numbers, those are
+-- who has begun, at most 64 with identities from 1 on, and only they have proposed; the pool has at most 64 numbers, those are
 -- held, and values kept that fit
 record IsNarrowObject (most : ℕ) (o : DeskObject) : Type 0 where
   who : List ℕ
@@ -211,7 +211,7 @@ may_step o p e = elim (o.begun p) as (λ b. o.begun p ≡ b → o.begun p ≡ tr
   | false ↦ λ is. absurd (let no : Some NotBegun ≡ None = rw is at e in cc)
 ] refl
 
-module _ (terms : RenameTerms) (fits : terms.most ≤ 16) where
+module _ (terms : RenameTerms) (fits : terms.most ≤ 64) where
   -- the view of a moment in which somebody proposes
   moment_short : (o : DeskObject) → IsNarrowObject terms.most o → (i p number : ℕ) (view : List (ℕ × ℕ)) → IsMoment view (o.names.moment i) → o.names.moment i p ≡ Some number → IsShort view
   moment_short o h i p number view is own =

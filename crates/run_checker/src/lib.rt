@@ -36,6 +36,7 @@
 
 pub mod checker;
 mod fault;
+mod firsts;
 pub mod header;
 pub mod laws;
 pub mod line;
