@@ -1,11 +1,9 @@
 -- a desk of either world keeps its laws
-use Rattle.std.proofs.Common.{◌≡◌, ℕ, ◌-◌, ◌*◌, ◌==◌, ◌≤◌, ◌||◌, false, true, inl, inr, List, [], ◌∷◌, ◌++◌, map, replicate, Option, refl, sym, ap, subst, ◌∙◌, arith}
-use Rattle.std.specs.Prelude.{is_some}
+use Rattle.std.proofs.Common.{◌≡◌, ℕ, ◌-◌, ◌*◌, ◌≤◌, true, inl, inr, List, [], map, Option, refl, sym, ap, subst, ◌∙◌, arith}
 use Rattle.std.proofs.Math.ListN.{length-replicate}
 use Rattle.std.proofs.lemmas.Bool.Decides.{eqb_tells, leb_tells}
 use Rattle.snapshot_core.specs.Places.{KnownPlaces, PlacesLaws}
 use Rattle.snapshot_core.specs.Snapshot.{SnapBounds}
-use Rattle.snapshot_core.specs.SnapWorld.{SnapState, may_lack_memory}
 use Rattle.snapshot_places.specs.Bounds.{grid_bounds, tree_bounds}
 use Rattle.snapshot_places.specs.Grid.{fresh_grid}
 use Rattle.snapshot_places.specs.GridProofs.{grid_laws}
@@ -26,8 +24,8 @@ use Rattle.rename_core.specs.RenameWorld.{fresh_world, owner_by}
 use Rattle.rename_core.proofs.NamedPlaces.{owner_is, answers_unrefused}
 use Rattle.rename_core.proofs.PlacesLaw.{grid_lawful, tree_lawful}
 use Rattle.desk.specs.declared.exchange.Exchange.{Exchange}
-use Rattle.desk.specs.Desk.{gives_names, fresh_in, desk_rules, owner_told, owner_over, owner_reply, IsFreshDesk, IsAfterDesk, LeadsDesk}
-use Rattle.desk.specs.DeskCalls.{DeskCall, rename_calls, exchange_of, AfterDesk, LeadsBy}
+use Rattle.desk.specs.Desk.{gives_names, fresh_in, desk_rules, owner_told, owner_over, IsFreshDesk, LeadsDesk}
+use Rattle.desk.specs.DeskCalls.{DeskCall, rename_calls, exchange_of, AfterDesk}
 use Rattle.desk.specs.DeskRules.{fresh_over, after_over}
 use Rattle.desk.specs.DeskRun.{IsDeskRun, IsDeskRunOf, desk_terms, desk_bounds}
 use Rattle.desk.specs.DeskState.{DeskState}

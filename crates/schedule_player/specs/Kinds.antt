@@ -30,15 +30,3 @@ grid_meant Splitter is = absurd cc
 grid_meant Grid is = visits_meant Grid refl
 grid_meant Rename is = absurd cc
 grid_meant Tree is = absurd cc
-
-pub kind_of_splitter : (kind : WorldKind) → is_splitter kind ≡ true → kind ≡ Splitter
-kind_of_splitter Splitter is = refl
-kind_of_splitter Grid is = absurd cc
-kind_of_splitter Rename is = absurd cc
-kind_of_splitter Tree is = absurd cc
-
-pub kind_of_grid : (kind : WorldKind) → is_grid kind ≡ true → kind ≡ Grid
-kind_of_grid Splitter is = absurd cc
-kind_of_grid Grid is = refl
-kind_of_grid Rename is = absurd cc
-kind_of_grid Tree is = absurd cc
