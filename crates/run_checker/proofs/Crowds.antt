@@ -87,12 +87,12 @@ has_seat turns row q n None e h = absurd (cc)
 has_seat turns row q n (Some t) e h = record { turn = t; is = e; at = some_number _ n h }
 
 module _ (turns : ℕ → Option Turn) (many limit : ℕ) (m : Moments) (last : ℕ) (moment : ℕ → ℕ → Option ℕ) (counts sinces : ℕ → ℕ)
-    (h : HoldsTurns turns many limit m last moment counts sinces) (i p n : ℕ) (t : Turn) (l : i ≤ last) (fits : many ≤ 16)
+    (h : HoldsTurns turns many limit m last moment counts sinces) (i p n : ℕ) (t : Turn) (l : i ≤ last) (fits : many ≤ 64)
     (is : turns p ≡ Some t) (at : slice_index (h.rows i) t.seat ≡ n) (positive : 1 ≤ n) where
   abbrev row : List ℕ
   row = h.rows i
 
-  wide : length row ≡ 16
+  wide : length row ≡ 64
   wide = h.held.wide i l
 
   -- it is what p proposes

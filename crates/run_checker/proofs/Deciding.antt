@@ -90,7 +90,7 @@ module _ (terms : RenameTerms) (s : Names) (o : RenameObject) (p : ℕ) (st : St
   since_is : o.since p ≡ t.since
   since_is = h.turns.since p ∙ ap since_of turn_is
 
-  fits : length s.participants.items ≤ 16
+  fits : length s.participants.items ≤ 64
   fits = let r = h.room in let f = h.fits in omega arith
 
   module _ (some : 1 ≤ o.count p) where

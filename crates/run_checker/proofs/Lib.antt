@@ -1,3 +1,4 @@
+mod ConfigBounds
 mod Past
 mod Turned
 mod PeopleLemmas
@@ -6,6 +7,8 @@ mod NamesLemmas
 mod Crowds
 mod Deciding
 mod RowLemmas
+mod PairLemmas
+mod FirstLemmas
 mod StayLemmas
 mod Judging
 mod Following

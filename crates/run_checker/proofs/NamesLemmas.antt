@@ -1,7 +1,7 @@
 -- what is kept of the renaming object after each reply
-use Rattle.std.proofs.Common.{◌≡◌, ℕ, ◌+◌, ◌<◌, ◌≤◌, ◌==◌, inl, inr, true, false, List, [], ◌∷◌, ◌++◌, length, refl, sym, ap, ◌∙◌, arith, Some, None, Option, is_some, length-append, Ok}
+use Rattle.std.proofs.Common.{◌≡◌, ℕ, ◌+◌, ◌<◌, ◌≤◌, ◌==◌, inl, inr, true, false, List, [], ◌∷◌, ◌++◌, length, refl, sym, ap, ◌∙◌, subst, arith, Some, None, Option, is_some, length-append, Ok}
 use Rattle.std.proofs.Math.Path.{fun_ext}
-use Rattle.std.specs.Prelude.{slice_set}
+use Rattle.std.specs.Prelude.{slice_set, replicate}
 use Rattle.std.specs.List.{list_any}
 use Rattle.std.proofs.lemmas.Bool.{cases_Bool, false≢true}
 use Rattle.std.proofs.lemmas.Bool.Decides.{eqb_tells, leb_tells}
@@ -12,12 +12,13 @@ use Rattle.step_memory.specs.SetAt.{set_at}
 use Rattle.step_memory.proofs.ParticipantLemmas.{length-with_participant}
 use Rattle.step_memory.proofs.SetAtLemmas.{set_at-map}
 use Rattle.rename_core.specs.declared.reply.Reply.TheVariants as step
-use Rattle.rename_core.specs.RenameObject.{RenameTerms, RenameObject, no_begin, no_step, after, after_step, IsFreePlace}
+use Rattle.rename_core.specs.RenameObject.{RenameTerms, RenameObject, new_object, no_begin, no_step, after, after_step, IsFreePlace}
 use Rattle.run_checker.specs.declared.names.Names.{Names}
 use Rattle.run_checker.specs.declared.standing.Standing.{Standing}
 use Rattle.run_checker.specs.Moments.{HoldsMoments}
 use Rattle.run_checker.specs.Standing.{place_of, name_of, spent_of, turn_of, is_held, Apart, HoldsPeople, HoldsTurns, turns_in, HoldsNames}
 use Rattle.run_checker.proofs.PeopleLemmas.{program_of-push, program_of-put, apart_push, apart_put, any_passes, passes_any, seen_kept, seen_set}
+use Rattle.run_checker.proofs.Turned.{zero_at}
 use Rattle.run_checker.proofs.TurnLemmas.{first_turn, turns_begun, next_turn, turns_proposed}
 
 -- who may begin has not begun, and there is room
@@ -169,7 +170,7 @@ module _ (terms : RenameTerms) (s s' : Names) (o : RenameObject) (p : ℕ) (old 
     room = room';
   }
 
-  pub has_proposed : (number : ℕ) → 1 ≤ number → number < 32 → o.count p < terms.limit → new ≡ record old { turn = next_turn old.turn (o.last + 1) number } →
+  pub has_proposed : (number : ℕ) → 1 ≤ number → number < 128 → o.count p < terms.limit → new ≡ record old { turn = next_turn old.turn (o.last + 1) number } →
       HoldsMoments s'.moments (o.last + 1) (set_at h.turns.rows (o.last + 1) (slice_set (h.turns.rows o.last) old.turn.seat number)) → HoldsNames terms s' (after_step o p (step.Proposed number))
   has_proposed number positive small left e held = record {
     people = record {
@@ -244,3 +245,31 @@ nobody_named ps o name h free = nobody_has (λ s. s.name) name_of o.name ps name
 
 pub somebody_named : (ps : List (Participant Standing)) (o : RenameObject) (name : ℕ) → HoldsPeople ps o → list_any (λ v. is_held name v.program.name) ps ≡ true → (q : ℕ) × (o.name q ≡ Some name)
 somebody_named ps o name h given = somebody_has (λ s. s.name) name_of o.name ps name (λ s. refl) h.name h.apart given
+
+-- nobody has begun
+pub none_begun : (terms : RenameTerms) (s : Names) → s.participants.items ≡ [] → HoldsMoments s.moments 0 (λ i. replicate 64 0) → s.most ≡ terms.most → s.limit ≡ terms.limit → terms.most ≤ 64 →
+    1 ≤ terms.limit → terms.limit ≤ 1000000 → HoldsNames terms s new_object
+none_begun terms s none held most limit fits low few = record {
+  people = subst (λ (ps : List (Participant Standing)). HoldsPeople ps new_object) (sym none)
+      (record { many = refl; begun = (λ q. refl); place = (λ q. refl); name = (λ q. refl); spent = (λ q. refl); apart = tt });
+  turns = subst (λ (ps : List (Participant Standing)). HoldsTurns (turns_in ps) (length ps) terms.limit s.moments 0 new_object.moment new_object.count new_object.since) (sym none) (record {
+    rows = λ i. replicate 64 0;
+    held = held;
+    count = (λ q. refl);
+    since = (λ q. refl);
+    few = (λ q. omega arith);
+    apart = (λ p q t u is is' same. absurd (cc));
+    seated = (λ q t is. absurd (cc));
+    taken = (λ seat l. absurd (omega arith));
+    shown = (λ i l q. refl);
+    unused = (λ i l seat far. zero_at 64 seat);
+    small = (λ i l seat. let e = zero_at 64 seat in omega arith);
+    stands = (λ q t is some. absurd (cc));
+  });
+  most_is = most;
+  limit_is = limit;
+  fits = fits;
+  low = low;
+  few = few;
+  room = (let e : length s.participants.items ≡ 0 = ap length none in omega arith);
+}

@@ -164,7 +164,7 @@ done_narrow (Err why) = tt
 
 -- ---- the objects
 
--- who has begun, at most 16 with identities from 1 on, and only they have proposed; the pool has at most 64 numbers, those are
+-- who has begun, at most 64 with identities from 1 on, and only they have proposed; the pool has at most 64 numbers, those are
 -- held, and values kept that fit
 record IsNarrowObject (most : ℕ) (o : DeskObject) : Type 0 where
   who : List ℕ
@@ -210,7 +210,7 @@ may_step o p e = elim (o.begun p) as (λ b. o.begun p ≡ b → o.begun p ≡ tr
   | false ↦ λ is. absurd (let no : Some NotBegun ≡ None = rw is at e in cc)
 ] refl
 
-module _ (terms : RenameTerms) (fits : terms.most ≤ 16) where
+module _ (terms : RenameTerms) (fits : terms.most ≤ 64) where
   view_short : (o : DeskObject) → IsNarrowObject terms.most o → (p : ℕ) (view : List (ℕ × ℕ)) → ShowsConflict o.names p view → IsShort view
   view_short o h p view s =
       let at = λ (q n : ℕ) (e : value_of q view ≡ Some n). h.shown s.index q n (sym (s.is.values q) ∙ e) in

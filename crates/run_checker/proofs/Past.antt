@@ -65,7 +65,7 @@ pub shown_by : (m : Moments) (last : ℕ) (rows : ℕ → List ℕ) (since : ℕ
 shown_by m last rows since row o r h e k = asked (λ i. rows i ≡ row) last (unwrap_or (get (pointwise nat_eq) m.seen row) 0) since r (h.seen row) (k ∙ ap (λ (x : Option ℕ). ltb since (unwrap_or x 0)) e)
 
 -- the table of numbers tells where two or more proposed one, or at most one did
-pub stood_by : (m : Moments) (last : ℕ) (rows : ℕ → List ℕ) (since n : ℕ) (want r : Bool) → HoldsMoments m last rows → since ≤ last → n < 32 →
+pub stood_by : (m : Moments) (last : ℕ) (rows : ℕ → List ℕ) (since n : ℕ) (want r : Bool) → HoldsMoments m last rows → since ≤ last → n < 128 →
     (crowded n m.present ≡ want → r ≡ true) → ((crowded n m.present ≡ want → ⊥) → r ≡ ltb since (slice_index m.turned n)) → IsTrue r ↔ SomeSince (λ i. crowded n (rows i) ≡ want) since last
 stood_by m last rows since n want r h l small now then =
     asked_turned (λ i. crowded n (rows i)) want last (slice_index m.turned n) since r l (h.turned n small)

@@ -15,6 +15,7 @@ use Rattle.run_checker.specs.declared.standing.Turn.{Turn}
 use Rattle.run_checker.specs.Moments.{crowded, SomeSince}
 use Rattle.run_checker.specs.Rows.{HasPair, LacksPair, IsRowOf, TellsMoments}
 use Rattle.run_checker.specs.Standing.{number_told, told_in, HoldsNames, turns_in}
+use Rattle.run_checker.proofs.Turned.{zero_at}
 use Rattle.run_checker.proofs.Crowds.{number_some, some_number}
 use Rattle.run_checker.proofs.Deciding.{recent, since_of_recent, conflicts, crowds}
 
@@ -58,18 +59,13 @@ no_moment terms s o view j d i h l r inside lacks is =
     let e = t.2 in
     lacks t.0 t.1 (positive (h.turns.rows i) (turns_in s.participants.items p) n says) (omega arith)
 
-zero_at : (k n : ℕ) → slice_index (replicate k 0) n ≡ 0
-zero_at zero n = refl
-zero_at (suc k) zero = refl
-zero_at (suc k) (suc n) = zero_at k n
-
-told_zero : (o : Option Turn) → told_in (replicate 16 0) o ≡ None
+told_zero : (o : Option Turn) → told_in (replicate 64 0) o ≡ None
 told_zero None = refl
-told_zero (Some t) = ap number_told (zero_at 16 t.seat)
+told_zero (Some t) = ap number_told (zero_at 64 t.seat)
 
 -- the row of no pair
-pub no_pair : (turns : ℕ → Option Turn) (many : ℕ) → IsRowOf turns many [] (replicate 16 0)
-no_pair turns many = record { wide = refl; says = (λ q. sym (told_zero (turns q))); unused = (λ seat far. zero_at 16 seat) }
+pub no_pair : (turns : ℕ → Option Turn) (many : ℕ) → IsRowOf turns many [] (replicate 64 0)
+no_pair turns many = record { wide = refl; says = (λ q. sym (told_zero (turns q))); unused = (λ seat far. zero_at 64 seat) }
 
 -- the row with one more pair, which comes first
 pub one_pair : (terms : RenameTerms) (s : Names) (o : RenameObject) (h : HoldsNames terms s o) (xs : List (ℕ × ℕ)) (x : ℕ × ℕ) (row : List ℕ) (seat : ℕ) →

@@ -75,7 +75,7 @@ number_told_some : (n : ℕ) → 1 ≤ n → number_told n ≡ Some n
 number_told_some n l = rw (ne_eqb n 0 (λ e. absurd (omega arith))) refl
 
 module _ (turns : ℕ → Option Turn) (many limit : ℕ) (m m' : Moments) (last : ℕ) (moment : ℕ → ℕ → Option ℕ) (counts sinces : ℕ → ℕ) (p n : ℕ) (t : Turn)
-    (h : HoldsTurns turns many limit m last moment counts sinces) (is : turns p ≡ Some t) (positive : 1 ≤ n) (small : n < 32) (left : counts p < limit) (fits : many ≤ 16)
+    (h : HoldsTurns turns many limit m last moment counts sinces) (is : turns p ≡ Some t) (positive : 1 ≤ n) (small : n < 128) (left : counts p < limit) (fits : many ≤ 64)
     (held : HoldsMoments m' (last + 1) (set_at h.rows (last + 1) (slice_set (h.rows last) t.seat n))) where
   abbrev turn : Turn
   turn = next_turn t (last + 1) n
@@ -127,7 +127,7 @@ module _ (turns : ℕ → Option Turn) (many limit : ℕ) (m m' : Moments) (last
     | inr k ↦ subst P (sym (ap rows' k ∙ later h.rows last row)) (new k)
   ]
 
-  small_seat : (seat : ℕ) → slice_index row seat < 32
+  small_seat : (seat : ℕ) → slice_index row seat < 128
   small_seat seat = elim (eqb_tells seat t.seat) [
     | inl y ↦ let e : slice_index row seat ≡ n = ap (slice_index row) y.1 ∙ own_seat in omega arith
     | inr y ↦ let e = other_seat seat y.1 in let l = h.small last (omega arith) seat in omega arith
@@ -182,6 +182,6 @@ module _ (turns : ℕ → Option Turn) (many limit : ℕ) (m m' : Moments) (last
     shown = shown';
     unused = (λ i l seat far. in_row (λ r. slice_index r seat ≡ 0) i l (λ k. h.unused i k seat far)
         (λ k. other_seat seat (λ e. absurd (let l = h.seated p t is in omega arith)) ∙ h.unused last (omega arith) seat far));
-    small = (λ i l seat. in_row (λ r. slice_index r seat < 32) i l (λ k. h.small i k seat) (λ k. small_seat seat));
+    small = (λ i l seat. in_row (λ r. slice_index r seat < 128) i l (λ k. h.small i k seat) (λ k. small_seat seat));
     stands = stands';
   }

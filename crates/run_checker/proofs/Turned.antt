@@ -185,7 +185,7 @@ proposed m new last rows seat s at h a l p t g =
     seen : at ≡ last + 1 → (row : List ℕ) → get (pointwise nat_eq) new.seen row ≡ cond (pointwise nat_eq (slice_set (rows last) seat s) row) (Some (last + 1 + 1)) (get (pointwise nat_eq) m.seen row)
     seen e row = g row ∙ (λ i. cond (pointwise nat_eq (slice_set (h.present_is i) seat s) row) (Some (e i + 1)) (get (pointwise nat_eq) m.seen row))
 
-zero_at : (k n : ℕ) → slice_index (replicate k 0) n ≡ 0
+pub zero_at : (k n : ℕ) → slice_index (replicate k 0) n ≡ 0
 zero_at zero n = refl
 zero_at (suc k) zero = refl
 zero_at (suc k) (suc n) = zero_at k n
@@ -199,20 +199,20 @@ none_turned P past e none = record {
 }
 
 -- one row was seen
-one_seen : (row : List ℕ) → IsPast (λ i. replicate {A = ℕ} 16 0 ≡ row) 0 (unwrap_or (cond (pointwise nat_eq (replicate 16 0) row) (Some 1) None) 0)
-one_seen row = elim (cases_Bool (pointwise nat_eq (replicate 16 0) row)) [
-  | inl y ↦ rw y (record { above = (λ i l passes. omega arith); reached = (λ l. (same_row (replicate 16 0) row).0 y); within = omega arith })
-  | inr y ↦ rw y (record { above = (λ i l passes. absurd (false≢true (sym y ∙ (same_row (replicate 16 0) row).1 passes))); reached = (λ l. absurd (omega arith)); within = omega arith })
+one_seen : (row : List ℕ) → IsPast (λ i. replicate {A = ℕ} 64 0 ≡ row) 0 (unwrap_or (cond (pointwise nat_eq (replicate 64 0) row) (Some 1) None) 0)
+one_seen row = elim (cases_Bool (pointwise nat_eq (replicate 64 0) row)) [
+  | inl y ↦ rw y (record { above = (λ i l passes. omega arith); reached = (λ l. (same_row (replicate 64 0) row).0 y); within = omega arith })
+  | inr y ↦ rw y (record { above = (λ i l passes. absurd (false≢true (sym y ∙ (same_row (replicate 64 0) row).1 passes))); reached = (λ l. absurd (omega arith)); within = omega arith })
 ]
 
 -- the tables of one moment in which nobody proposes
-pub first : (m : Moments) → m.last ≡ 0 → m.present ≡ replicate 16 0 → m.turned ≡ replicate 32 0 →
-    ((row : List ℕ) → get (pointwise nat_eq) m.seen row ≡ cond (pointwise nat_eq (replicate 16 0) row) (Some 1) None) → HoldsMoments m 0 (λ i. replicate 16 0)
+pub first : (m : Moments) → m.last ≡ 0 → m.present ≡ replicate 64 0 → m.turned ≡ replicate 128 0 →
+    ((row : List ℕ) → get (pointwise nat_eq) m.seen row ≡ cond (pointwise nat_eq (replicate 64 0) row) (Some 1) None) → HoldsMoments m 0 (λ i. replicate 64 0)
 first m l p t g = record {
   last_is = l;
   present_is = p;
   wide = (λ i k. refl);
   numbers = ap length t;
-  turned = (λ n k. none_turned (λ i. crowded n (replicate 16 0) ≡ crowded n (replicate 16 0) → ⊥) (slice_index m.turned n) (ap (λ (x : List ℕ). slice_index x n) t ∙ zero_at 32 n) (λ h. h refl));
-  seen = (λ row. subst (λ (o : Option ℕ). IsPast (λ i. replicate {A = ℕ} 16 0 ≡ row) 0 (unwrap_or o 0)) (sym (g row)) (one_seen row));
+  turned = (λ n k. none_turned (λ i. crowded n (replicate 64 0) ≡ crowded n (replicate 64 0) → ⊥) (slice_index m.turned n) (ap (λ (x : List ℕ). slice_index x n) t ∙ zero_at 128 n) (λ h. h refl));
+  seen = (λ row. subst (λ (o : Option ℕ). IsPast (λ i. replicate {A = ℕ} 64 0 ≡ row) 0 (unwrap_or o 0)) (sym (g row)) (one_seen row));
 }

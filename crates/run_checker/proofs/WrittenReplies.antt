@@ -127,7 +127,7 @@ pairs_short (pair ∷ more) h =
     omega arith
 
 -- and not long
-pub reply_short : (r : Reply) → IsNarrowReply r → length (reply_words r) ≤ 675
+pub reply_short : (r : Reply) → IsNarrowReply r → length (reply_words r) ≤ 2691
 reply_short reply.Ok h = omega arith
 reply_short reply.Quiet h = omega arith
 reply_short reply.Stop h = omega arith

@@ -38,10 +38,10 @@ abbrev pub AreNarrow : List (ℕ × ℕ) → Type 0
 AreNarrow [] = Unit {0}
 AreNarrow (pair ∷ more) = (pair.0 < 2 ^ 64) × (pair.1 < 2 ^ 64) × AreNarrow more
 
--- a view that a line can show: some pairs, at most 16, by rising identity from 1 on
+-- a view that a line can show: some pairs, at most 64, by rising identity from 1 on
 pub record IsShort (view : List (ℕ × ℕ)) : Type 0 where
   pub some : view ≢ []
-  pub few : length view ≤ 16
+  pub few : length view ≤ 64
   pub above : IsAbove 0 view
   pub rising : IsRising view
   pub narrow : AreNarrow view

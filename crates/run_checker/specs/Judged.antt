@@ -100,7 +100,7 @@ pub record IsFirstFault (terms : RenameTerms) (size : ℕ) (lines : List Line) (
 -- no line was taken yet, where the sizes are in range
 abbrev pub HasTakenNone : ℕ → ℕ → ℕ → Bool → Checker → Type 0
 HasTakenNone most limit size grows c =
-    (terms : RenameTerms) → terms ≡ record { most = most; limit = limit; grows = grows } → most ≤ 16 → 1 ≤ limit → limit ≤ 1000000 → 1 ≤ size → size ≤ 64 → HasTaken terms size [] c
+    (terms : RenameTerms) → terms ≡ record { most = most; limit = limit; grows = grows } → most ≤ 64 → 1 ≤ limit → limit ≤ 1000000 → 1 ≤ size → size ≤ 64 → HasTaken terms size [] c
 
 -- after any lines that were taken this one is, or it is the first at fault
 abbrev pub TakesMore : Line → Checker → Option Reason → Checker → Type 0

@@ -13,4 +13,6 @@ pub mod Reasons
 pub mod Fault
 pub mod Lines
 pub mod Judged
+pub mod Pairs
+pub mod Firsts
 pub mod Recorded

@@ -27,9 +27,9 @@ pub record IsPast (Passes : ℕ → Type 0) (last past : ℕ) : Type 0 where
 pub record HoldsMoments (m : Moments) (last : ℕ) (rows : ℕ → List ℕ) : Type 0 where
   pub last_is : m.last ≡ last
   pub present_is : m.present ≡ rows last
-  pub wide : (i : ℕ) → i ≤ last → length (rows i) ≡ 16
-  pub numbers : length m.turned ≡ 32
-  pub turned : (n : ℕ) → n < 32 → IsPast (λ i. crowded n (rows i) ≢ crowded n (rows last)) last (slice_index m.turned n)
+  pub wide : (i : ℕ) → i ≤ last → length (rows i) ≡ 64
+  pub numbers : length m.turned ≡ 128
+  pub turned : (n : ℕ) → n < 128 → IsPast (λ i. crowded n (rows i) ≢ crowded n (rows last)) last (slice_index m.turned n)
   pub seen : (row : List ℕ) → IsPast (λ i. rows i ≡ row) last (unwrap_or (get (pointwise nat_eq) m.seen row) 0)
 
 -- what is kept of when numbers turned, after a number that is crowded in just one of two moments was noted

@@ -12,15 +12,15 @@ pub record HasPair (turns : ℕ → Option Turn) (p n seat : ℕ) : Type 0 where
   pub is : turns p ≡ Some turn
   pub at : turn.seat ≡ seat
   pub positive : 1 ≤ n
-  pub small : n < 32
+  pub small : n < 128
 
 -- there is no such pair in any moment
 abbrev pub LacksPair : (ℕ → Option Turn) → ℕ → ℕ → Type 0
-LacksPair turns p n = (t : Turn) → turns p ≡ Some t → 1 ≤ n → n < 32 → ⊥
+LacksPair turns p n = (t : Turn) → turns p ≡ Some t → 1 ≤ n → n < 128 → ⊥
 
 -- the row says what the pairs say
 pub record IsRowOf (turns : ℕ → Option Turn) (many : ℕ) (view : List (ℕ × ℕ)) (row : List ℕ) : Type 0 where
-  pub wide : length row ≡ 16
+  pub wide : length row ≡ 64
   pub says : (q : ℕ) → value_of q view ≡ told_in row (turns q)
   pub unused : (seat : ℕ) → many ≤ seat → slice_index row seat ≡ 0
 

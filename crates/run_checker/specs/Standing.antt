@@ -73,7 +73,7 @@ pub record IsTaken (turns : ℕ → Option Turn) (seat : ℕ) : Type 0 where
 pub record Stands (rows : ℕ → List ℕ) (last : ℕ) (t : Turn) : Type 0 where
   pub since : t.since ≤ last
   pub positive : 1 ≤ t.number
-  pub small : t.number < 32
+  pub small : t.number < 128
   pub in_each : (i : ℕ) → t.since ≤ i → i ≤ last → slice_index (rows i) t.seat ≡ t.number
 
 -- who has begun has a seat of its own among the first so many, and the rows are the moments
@@ -88,7 +88,7 @@ pub record HoldsTurns (turns : ℕ → Option Turn) (many limit : ℕ) (m : Mome
   pub taken : (seat : ℕ) → seat < many → IsTaken turns seat
   pub shown : (i : ℕ) → i ≤ last → (q : ℕ) → moment i q ≡ told_in (rows i) (turns q)
   pub unused : (i : ℕ) → i ≤ last → (seat : ℕ) → many ≤ seat → slice_index (rows i) seat ≡ 0
-  pub small : (i : ℕ) → i ≤ last → (seat : ℕ) → slice_index (rows i) seat < 32
+  pub small : (i : ℕ) → i ≤ last → (seat : ℕ) → slice_index (rows i) seat < 128
   pub stands : (q : ℕ) (t : Turn) → turns q ≡ Some t → 1 ≤ t.count → Stands rows last t
 
 -- by identity, where each participant is in its rounds
@@ -101,7 +101,7 @@ pub record HoldsNames (terms : RenameTerms) (s : Names) (o : RenameObject) : Typ
   pub turns : HoldsTurns (turns_in s.participants.items) (length s.participants.items) terms.limit s.moments o.last o.moment o.count o.since
   pub most_is : s.most ≡ terms.most
   pub limit_is : s.limit ≡ terms.limit
-  pub fits : terms.most ≤ 16
+  pub fits : terms.most ≤ 64
   pub low : 1 ≤ terms.limit
   pub few : terms.limit ≤ 1000000
   pub room : length s.participants.items ≤ terms.most
@@ -112,7 +112,7 @@ OfNames s P = (terms : RenameTerms) (o : RenameObject) → HoldsNames terms s o 
 
 -- nobody has begun, where the sizes are in range
 abbrev pub HoldsNone : ℕ → ℕ → Names → Type 0
-HoldsNone most limit s = (terms : RenameTerms) → terms.most ≡ most → terms.limit ≡ limit → most ≤ 16 → 1 ≤ limit → limit ≤ 1000000 → HoldsNames terms s new_object
+HoldsNone most limit s = (terms : RenameTerms) → terms.most ≡ most → terms.limit ≡ limit → most ≤ 64 → 1 ≤ limit → limit ≤ 1000000 → HoldsNames terms s new_object
 
 -- the object after an identity has proposed a number
 abbrev pub proposed_by : ℕ → ℕ → RenameObject → RenameObject

@@ -54,19 +54,21 @@ fn is_refused_as_due(due: Option<Refusal>, lacks: bool, told: &Told) -> bool
 }
 
 impl Checker {
-    /// Nothing was done, by at most `most` participants (1 to 16) with `limit` proposals each (1 to 1,000,000) and a pool of
-    /// `size` numbers (1 to 64) at the start. An error where a growth was refused.
+    /// Nothing was done, by at most `most` participants (1 to 64) with `limit` proposals each (1 to 1,000,000) and a pool of
+    /// `size` numbers (1 to 64) at the start; with room for what so many lines ask to be kept. An error where a growth was
+    /// refused.
     pub fn new(
         alloc: Global,
         most: u64,
         limit: u64,
         size: u64,
         grows: bool,
+        lines: usize,
     ) -> Result<Checker, AllocError>
         ensures { IfOk result (λ c. HasTakenNone most limit size grows c) }
     {
         Ok(Checker {
-            names: Names::new(alloc, most, limit)?,
+            names: Names::new(alloc, most, limit, lines)?,
             stays: Stays::new(alloc, size)?,
             grows,
         })

@@ -33,6 +33,7 @@
 
 pub mod checker;
 mod fault;
+mod firsts;
 pub mod laws;
 pub mod line;
 pub mod lines;

@@ -25,7 +25,8 @@ pub fn first_fault(
     ensures none { IfOk result (λ r. (r ≡ None) ↔ AreLinesOfRun (terms_of config) config.k lines.now) }
 {
     let grows = config.world.is_tree();
-    let mut checker = Checker::new(alloc, config.m, config.limit, config.k, grows)?;
+    let room = lines.len();
+    let mut checker = Checker::new(alloc, config.m, config.limit, config.k, grows, room)?;
     for (i, line) in lines.iter().enumerate() {
         if let Some(reason) = checker.judge(line)? {
             return Ok(Some((i, reason)));

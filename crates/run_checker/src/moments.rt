@@ -9,13 +9,13 @@ use std::alloc::{AllocError, Global};
 use std::collections::HashMap;
 
 /// How many participants a row has room for: the most of a config.
-pub const ROOM: usize = 16;
+pub const ROOM: usize = 64;
 
 /// How many numbers there are from 0 on: with so many participants each proposal is below twice as many.
-pub const NUMBERS: usize = 32;
+pub const NUMBERS: usize = 128;
 
 /// A moment: for each seat the number that is proposed there, 0 where none was.
-pub type Row = [u8; 16];
+pub type Row = [u8; 64];
 
 /// What is kept of the moments: the last one; and, so that a question about past moments is a look-up, for each row one more
 /// than the number of the last moment that it was, and for each number one more than that of the last moment in which just
@@ -24,7 +24,7 @@ pub type Row = [u8; 16];
 pub struct Moments {
     present: Row,
     last: usize,
-    turned: [usize; 32],
+    turned: [usize; 128],
     seen: HashMap<Row, usize>,
 }
 
@@ -54,16 +54,17 @@ pub fn number_at(row: &Row, seat: usize) -> u8
 }
 
 impl Moments {
-    /// The moments of an object to which nothing was proposed: one, in which nobody proposes.
-    pub fn new(alloc: Global) -> Result<Moments, AllocError>
-        ensures { IfOk result (λ m. HoldsMoments m 0 (λ i. replicate 16 0)) }
+    /// The moments of an object to which nothing was proposed: one, in which nobody proposes; with room for so many. An error
+    /// where a growth was refused.
+    pub fn new(alloc: Global, room: usize) -> Result<Moments, AllocError>
+        ensures { IfOk result (λ m. HoldsMoments m 0 (λ i. replicate 64 0)) }
     {
-        let mut seen = HashMap::new(alloc);
-        seen.insert([0; 16], 1)?;
+        let mut seen = HashMap::with_capacity(alloc, room)?;
+        seen.insert([0; 64], 1)?;
         Ok(Moments {
-            present: [0; 16],
+            present: [0; 64],
             last: 0,
-            turned: [0; 32],
+            turned: [0; 128],
             seen,
         })
     }
@@ -100,14 +101,14 @@ impl Moments {
 
     /// Whether in some moment from `since` on two or more propose a number.
     pub fn was_crowded(&self, since: usize, number: u8) -> bool
-        ensures { OfMoments self.now (λ last rows. since ≤ last → number < 32 → IsTrue result ↔ SomeSince (λ i. crowded number (rows i) ≡ true) since last) }
+        ensures { OfMoments self.now (λ last rows. since ≤ last → number < 128 → IsTrue result ↔ SomeSince (λ i. crowded number (rows i) ≡ true) since last) }
     {
         is_crowded(&self.present, number) || since < self.turned(number)
     }
 
     /// Whether in some moment from `since` on at most one proposes a number.
     pub fn was_quiet(&self, since: usize, number: u8) -> bool
-        ensures { OfMoments self.now (λ last rows. since ≤ last → number < 32 → IsTrue result ↔ SomeSince (λ i. crowded number (rows i) ≡ false) since last) }
+        ensures { OfMoments self.now (λ last rows. since ≤ last → number < 128 → IsTrue result ↔ SomeSince (λ i. crowded number (rows i) ≡ false) since last) }
     {
         !is_crowded(&self.present, number) || since < self.turned(number)
     }

@@ -88,13 +88,16 @@ fn is_rising(pairs: &[(u64, u64)]) -> bool
 }
 
 impl Names {
-    /// Nobody has begun. An error where a growth was refused.
-    pub fn new(alloc: Global, most: u64, limit: u64) -> Result<Names, AllocError>
+    /// Nobody has begun; with room for the moments of so many lines, so that their table need not grow. An error where a growth
+    /// was refused.
+    pub fn new(alloc: Global, most: u64, limit: u64, lines: usize) -> Result<Names, AllocError>
         ensures { IfOk result (λ s. HoldsNone most limit s) }
     {
+        let proposals = most.saturating_mul(limit);
+        let room = (lines as u64).min(proposals) as usize;
         Ok(Names {
             participants: Vec::new(alloc),
-            moments: Moments::new(alloc)?,
+            moments: Moments::new(alloc, room)?,
             most,
             limit,
         })
@@ -293,7 +296,7 @@ impl Names {
     fn row_of(&self, view: &[(u64, u64)]) -> Option<Row>
         ensures { (terms : RenameTerms) (o : RenameObject) → (h : HoldsNames terms self.now o) → TellsMoments o h.turns.rows view.now result }
     {
-        let mut row: Row = [0; 16];
+        let mut row: Row = [0; 64];
         let mut i = view.len();
         while i > 0 {
             i -= 1;

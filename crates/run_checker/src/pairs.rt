@@ -1,6 +1,8 @@
 //! The pairs of a view, as a record writes them.
 
-ghost use Rattle.std.specs.Prelude.{◌≡◌, List, ℕ, [], ◌∷◌, ◌++◌, OnOk, OnErr};
+ghost use Rattle.std.specs.Prelude.{◌≡◌, ◌↔◌, List, ℕ, [], ◌∷◌, ◌++◌, nat_le, position, OnOk, OnErr, IfOk, IsTrue};
+ghost use Rattle.step_memory.specs.View.{inserted};
+ghost use Rattle.run_checker.specs.Pairs.{HasAt};
 
 use std::alloc::{AllocError, AllocFailed, Global};
 use std::marker::Model;
@@ -9,6 +11,23 @@ use std::marker::Model;
 #[derive(Debug, Drop)]
 pub struct Pairs {
     items: Vec<(u64, u64)>,
+}
+
+/// Where the first pair stands whose identity is not below this one.
+fn first_from(pairs: &[(u64, u64)], id: u64) -> Option<usize>
+    ensures { result ≡ position (λ pair. nat_le id pair.0) pairs.now }
+{
+    pairs.iter().position(|pair| id <= pair.0)
+}
+
+/// Whether a pair of this identity stands at a place.
+fn has_at(pairs: &[(u64, u64)], at: usize, id: u64) -> bool
+    ensures { IsTrue result ↔ HasAt pairs.now at id }
+{
+    if pairs.len() <= at {
+        return false;
+    }
+    pairs[at].0 == id
 }
 
 impl Model for Pairs {
@@ -33,6 +52,30 @@ impl Pairs {
         ensures refused { OnErr result (self.new ≡ self.old) }
     {
         self.items.push((id, number)).map_err(AllocError::from)
+    }
+
+    /// Gives an identity this number, in the order of the identities; its pair is replaced where it has one. An error where a
+    /// growth was refused, with the pairs as before.
+    pub fn put(&mut self, id: u64, number: u64) -> Result<(), AllocError>
+        ensures put { OnOk result (self.new ≡ inserted self.old (id, number)) }
+        ensures refused { OnErr result (self.new ≡ self.old) }
+    {
+        let at = first_from(&self.items, id).unwrap_or(self.items.len());
+        if has_at(&self.items, at, id) {
+            self.items[at] = (id, number);
+            return Ok(());
+        }
+        self.items.insert(at, (id, number))?;
+        Ok(())
+    }
+
+    /// The same pairs once more; an error where a growth was refused.
+    pub fn copied(&self) -> Result<Pairs, AllocError>
+        ensures { IfOk result (λ copy. copy ≡ self.now) }
+    {
+        Ok(Pairs {
+            items: self.items.clone()?,
+        })
     }
 
     /// The pairs, in the order in which they are written.

@@ -14,12 +14,26 @@ use std::alloc::{AllocError, Global};
 /// The number of the first line that is one too many: a header and a million lines come before it.
 const LINES_END: u64 = 1_000_002;
 
+/// For how many lines what is kept should have room: those of a record, and at most a million.
+fn room_for(rows: Option<&[u8]>) -> usize {
+    match rows {
+        Some(bytes) => bytes
+            .iter()
+            .filter(|byte| **byte == b'\n')
+            .count()
+            .saturating_add(1)
+            .min(1_000_000),
+        None => 0,
+    }
+}
+
 /// What is said of the event lines of a record of this config. An error where a growth was refused.
 fn judge_rows(alloc: Global, config: Config, rows: Option<&[u8]>) -> Result<Verdict, AllocError>
     ensures { IfOk result (IsSaidOfRows config (lines_left (option_copied rows.entry))) }
 {
     let grows = config.world.is_tree();
-    let mut checker = Checker::new(alloc, config.m, config.limit, config.k, grows)?;
+    let room = room_for(rows);
+    let mut checker = Checker::new(alloc, config.m, config.limit, config.k, grows, room)?;
     let mut number: u64 = 2;
     let mut left = rows;
     while let Some(bytes) = left {

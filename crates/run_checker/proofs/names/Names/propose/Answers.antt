@@ -19,7 +19,7 @@ returns c = λ terms o h none few may.
     let fits = h.fits in
     let room = h.room in
     let top = may.small in
-    let small : c.args.number < 32 = omega arith in
+    let small : c.args.number < 128 = omega arith in
     let number : c.min-number.result ≡ c.args.number = grind (arith, c.min-number.ensures, small) in
     let held : HoldsMoments c.propose.new.self (o.last + 1) (set_at h.turns.rows (o.last + 1) (slice_set (h.turns.rows o.last) old.turn.seat c.min-number.result)) =
     c.in_ok-propose.ensures o.last h.turns.rows few h.turns.held in

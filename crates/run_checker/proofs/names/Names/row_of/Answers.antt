@@ -1,8 +1,15 @@
-use Rattle.std.proofs.Common.{◌≡◌, ℕ, ◌-◌, ◌<◌, ◌∷◌, length, drop, get_or, suc, ap, ◌∙◌, subst, arith, drop-cons}
+use Rattle.std.proofs.Common.{◌≡◌, ℕ, ◌-◌, ◌<◌, ◌∷◌, length, drop, get_or, suc, List, replicate, ap, sym, ◌∙◌, subst, arith, drop-cons}
+use Rattle.std.proofs.Math.Seq.{drop-length}
 use Rattle.run_checker.specs.Rows.{HasPair, LacksPair, IsRowOf}
 use Rattle.run_checker.specs.Standing.{turns_in}
-use Rattle.run_checker.proofs.RowLemmas.{no_moment, one_pair, row_tells}
+use Rattle.run_checker.proofs.RowLemmas.{no_moment, no_pair, one_pair, row_tells}
 use Rattle.run_checker.proofs.names.Names.row_of.Goals as goal
+
+pub loop-i-init : goal.loop-i-init
+loop-i-init c = record {
+  inside = omega arith;
+  said = λ terms o h. subst (λ (v : List (ℕ × ℕ)). IsRowOf (turns_in c.args.self.now.participants.items) (length c.args.self.now.participants.items) v (replicate 64 0)) (sym (drop-length c.args.view.now)) (no_pair _ _);
+}
 
 pub returns-in_default : goal.returns-in_default
 returns-in_default c = λ terms o h i l rises is.
