@@ -1,11 +1,9 @@
 -- a desk of either world keeps its laws
-use Rattle.std.proofs.Common.{◌≡◌, ℕ, ◌-◌, ◌*◌, ◌==◌, ◌≤◌, ◌||◌, false, true, inl, inr, List, [], ◌∷◌, ◌++◌, map, replicate, Option, refl, sym, ap, subst, ◌∙◌, arith}
-use Rattle.std.specs.Prelude.{is_some}
+use Rattle.std.proofs.Common.{◌≡◌, ℕ, ◌-◌, ◌*◌, ◌≤◌, true, inl, inr, List, [], map, Option, refl, sym, ap, subst, ◌∙◌, arith}
 use Rattle.std.proofs.Math.ListN.{length-replicate}
 use Rattle.std.proofs.lemmas.Bool.Decides.{eqb_tells, leb_tells}
 use Rattle.snapshot_core.specs.Places.{KnownPlaces, PlacesLaws}
 use Rattle.snapshot_core.specs.Snapshot.{SnapBounds}
-use Rattle.snapshot_core.specs.SnapWorld.{SnapState, may_lack_memory}
 use Rattle.snapshot_places.specs.Bounds.{grid_bounds, tree_bounds}
 use Rattle.snapshot_places.specs.Grid.{fresh_grid}
 use Rattle.snapshot_places.specs.GridProofs.{grid_laws}
@@ -20,13 +18,14 @@ use Rattle.rename_core.specs.declared.config.Config.{Config}
 use Rattle.rename_core.specs.declared.config.WorldKind.{WorldKind}
 use Rattle.rename_core.specs.declared.config.WorldKind.TheVariants.{Splitter, Grid, Rename, Tree}
 use Rattle.rename_core.specs.NamedPlaces.{PlacesAtOnce, GrowsAsTree}
+use Rattle.rename_core.specs.Ranges.{most_in}
 use Rattle.rename_core.specs.RenameCalls.{IsLawfulWithin}
 use Rattle.rename_core.specs.RenameWorld.{fresh_world, owner_by}
 use Rattle.rename_core.proofs.NamedPlaces.{owner_is, answers_unrefused}
 use Rattle.rename_core.proofs.PlacesLaw.{grid_lawful, tree_lawful}
 use Rattle.desk.specs.declared.exchange.Exchange.{Exchange}
-use Rattle.desk.specs.Desk.{gives_names, fresh_in, desk_rules, owner_told, owner_over, owner_reply, IsFreshDesk, IsAfterDesk, LeadsDesk}
-use Rattle.desk.specs.DeskCalls.{DeskCall, rename_calls, exchange_of, AfterDesk, LeadsBy}
+use Rattle.desk.specs.Desk.{gives_names, fresh_in, desk_rules, owner_told, owner_over, IsFreshDesk, LeadsDesk}
+use Rattle.desk.specs.DeskCalls.{DeskCall, rename_calls, exchange_of, AfterDesk}
 use Rattle.desk.specs.DeskRules.{fresh_over, after_over}
 use Rattle.desk.specs.DeskRun.{IsDeskRun, IsDeskRunOf, desk_terms, desk_bounds}
 use Rattle.desk.specs.DeskState.{DeskState}
@@ -58,9 +57,10 @@ told_right most n r owner is = elim (eqb_tells n 0) [
 
 -- over places of one kind
 module _ {S R V U K : Type 0} (W : KnownPlaces S R V U K) where
-  fresh_places : (made : ℕ → S) → AreEmptyFor W made → (c : Config) → AfterDesk W c.m c.limit c.k (fresh_over (made c.m) c.m c.limit c.k) []
-  fresh_places made empty c =
-      let e = empty c.m c.in_range.1 in
+  fresh_places : (kind : WorldKind) (made : ℕ → S) → AreEmptyFor W kind made → (c : Config) → c.world ≡ kind →
+      AfterDesk W c.m c.limit c.k (fresh_over (made c.m) c.m c.limit c.k) []
+  fresh_places kind made empty c serves =
+      let e = empty c.m (subst (λ (k : WorldKind). c.m ≤ most_in k) serves c.in_range.1) in
       record {
         names = record { first = made c.m; new = e.0; low = c.in_range.4; high = c.in_range.5; run = ap (λ (n : ℕ). fresh_world (made c.m) n c.limit) (sym e.1) };
         slots = record { first = c.in_range.2; last = c.in_range.3; many = length-replicate c.k 0; run = refl };
@@ -81,8 +81,8 @@ module _ {S R V U K : Type 0} (W : KnownPlaces S R V U K) where
       subst (λ (m : ℕ). IsOwnerReply m (map exchange_of calls) n (owner_over w n)) a.most_is (told_right w.names.snap.most n (map exchange_of calls) (owner_by n w.names.rounds) is)
 
 pub fresh : BeginsDesk
-fresh c (OverGrid w) is = (is.0, subst (λ (x : _). AfterDesk grid_places c.m c.limit c.k x []) (sym is.1) (fresh_places grid_places fresh_grid grid_empty c))
-fresh c (OverTree w) is = (is.0, subst (λ (x : _). AfterDesk tree_places c.m c.limit c.k x []) (sym is.1) (fresh_places tree_places new_tree tree_empty c))
+fresh c (OverGrid w) is = (is.0, subst (λ (x : _). AfterDesk grid_places c.m c.limit c.k x []) (sym is.1) (fresh_places grid_places Rename fresh_grid grid_empty c is.0))
+fresh c (OverTree w) is = (is.0, subst (λ (x : _). AfterDesk tree_places c.m c.limit c.k x []) (sym is.1) (fresh_places tree_places Tree new_tree tree_empty c is.0))
 
 -- the fresh desk of a world in which names are given
 fresh_of : (c : Config) (kind : WorldKind) → c.world ≡ kind → gives_names kind ≡ true → IsFreshDesk c (fresh_in kind c)

@@ -10,3 +10,4 @@ mod Names
 pub mod NamedPlaces
 pub mod AfterCalls
 pub mod PlacesLaw
+pub mod MostIn

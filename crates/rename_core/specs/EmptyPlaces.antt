@@ -1,5 +1,5 @@
 -- what is made for so many participants is places in which nothing was written, for so many
-use Rattle.std.proofs.Common.{◌≡◌, ℕ, ◌≤◌, Option, None, refl, arith}
+use Rattle.std.proofs.Common.{◌≡◌, ℕ, ◌≤◌, Option, None, refl}
 use Rattle.std.proofs.Math.ListN.{length-replicate}
 use Rattle.step_memory.specs.declared.record.Record.{Record}
 use Rattle.snapshot_core.specs.FixedTies.{fixed_places, fresh_row}
@@ -11,16 +11,19 @@ use Rattle.snapshot_places.specs.Tree.{new_tree}
 use Rattle.snapshot_places.specs.TreeTies.{tree_places}
 use Rattle.snapshot_places.proofs.GridLaw.{empty_grid}
 use Rattle.snapshot_places.proofs.TreeLaw.{is_new}
+use Rattle.rename_core.specs.Ranges.{most_in}
+use Rattle.rename_core.specs.declared.config.WorldKind.{WorldKind}
+use Rattle.rename_core.specs.declared.config.WorldKind.TheVariants.{Rename, Tree}
 
--- for so many participants, in range, these are such places
-abbrev pub AreEmptyFor : {S R V U K : Type 0} → KnownPlaces S R V U K → (ℕ → S) → Type 0
-AreEmptyFor W made = (most : ℕ) → most ≤ 16 → W.ties.IsNew (made most) × (W.most_of (made most) ≡ most)
+-- for as many participants as the world takes, these are such places
+abbrev pub AreEmptyFor : {S R V U K : Type 0} → KnownPlaces S R V U K → WorldKind → (ℕ → S) → Type 0
+AreEmptyFor W kind made = (most : ℕ) → most ≤ most_in kind → W.ties.IsNew (made most) × (W.most_of (made most) ≡ most)
 
-pub fixed_empty : AreEmptyFor fixed_places fresh_row
+pub fixed_empty : AreEmptyFor fixed_places Rename fresh_row
 fixed_empty most few = (empty_row most few, length-replicate most (let nothing : Option Record = None in nothing))
 
-pub grid_empty : AreEmptyFor grid_places fresh_grid
+pub grid_empty : AreEmptyFor grid_places Rename fresh_grid
 grid_empty most few = (empty_grid most few, refl)
 
-pub tree_empty : AreEmptyFor tree_places new_tree
-tree_empty most few = (is_new most (omega arith), refl)
+pub tree_empty : AreEmptyFor tree_places Tree new_tree
+tree_empty most few = (is_new most few, refl)

@@ -2,7 +2,7 @@
 
 ghost use Rattle.std.specs.Prelude.{◌≡◌, ◌↔◌, IfOk, IfErr, IsOk};
 ghost use Rattle.rename_core.specs.Config.{is_played_over, is_tree};
-ghost use Rattle.rename_core.specs.Ranges.{IsConfigRange};
+ghost use Rattle.rename_core.specs.Ranges.{IsConfigRange, most_in};
 
 use step_memory::Refusal;
 
@@ -32,6 +32,18 @@ impl WorldKind {
         }
     }
 
+    /// As many as may take part: 64 where places are in a tree, 16 elsewhere.
+    pub fn most(self) -> u64
+        ensures { result ≡ most_in self }
+    {
+        match self {
+            WorldKind::Splitter => 16,
+            WorldKind::Grid => 16,
+            WorldKind::Rename => 16,
+            WorldKind::Tree => 64,
+        }
+    }
+
     /// Whether names are given in this world, over places that serve that one.
     pub fn is_played_over(self, served: WorldKind) -> bool
         ensures { result ≡ is_played_over self served }
@@ -50,23 +62,23 @@ impl WorldKind {
 pub struct Config {
     /// The world.
     pub world: WorldKind,
-    /// The most participants, from 1 to 16.
+    /// The most participants, from 1 to 64 where the world is `Tree`, and to 16 elsewhere.
     pub m: u64,
     /// The size of the pool, from 1 to 64.
     pub k: u64,
     /// The round limit, from 1 to 1,000,000.
     pub limit: u64,
-    ghost in_range: { IsConfigRange m k limit },
+    ghost in_range: { IsConfigRange world m k limit },
 }
 
 impl Config {
     /// A config of these values; `OutOfRange` where one of them is outside its range.
     pub fn new(world: WorldKind, m: u64, k: u64, limit: u64) -> Result<Config, Refusal>
         ensures ok { IfOk result (λ c. (c.world ≡ world) × (c.m ≡ m) × (c.k ≡ k) × (c.limit ≡ limit)) }
-        ensures range { IsOk result ↔ IsConfigRange m k limit }
+        ensures range { IsOk result ↔ IsConfigRange world m k limit }
         ensures only { IfErr result (λ r. r ≡ Refusal.OutOfRange) }
     {
-        if m < 1 || 16 < m || k < 1 || 64 < k || limit < 1 || 1_000_000 < limit {
+        if m < 1 || world.most() < m || k < 1 || 64 < k || limit < 1 || 1_000_000 < limit {
             return Err(Refusal::OutOfRange);
         }
         Ok(Config { world, m, k, limit })

@@ -12,6 +12,7 @@ ghost use Rattle.rename_core.specs.RenameCalls.{CallLeadsOn, KeepsSizes, IsLawfu
 ghost use Rattle.rename_core.specs.RenameState.{RenameState};
 ghost use Rattle.rename_core.specs.RenameWorld.{may_lack};
 ghost use Rattle.rename_core.specs.declared.reply.Reply.{Reply};
+ghost use Rattle.rename_core.specs.declared.config.Config.{Config};
 ghost use Rattle.rename_core.specs.declared.config.WorldKind.TheVariants as kind;
 ghost use Rattle.step_memory.specs.Calls.{Call};
 
@@ -73,4 +74,9 @@ pub fn law_of_steps_alone()
     ensures tree { (m : ℕ) → 1 ≤ m → steps_alone (tree_bounds m) ≡ 5 * m + 11 * (6 * m - 2) + 1 }
     ensures few_on_grid { (steps_alone (grid_bounds 1) ≡ 16) × (steps_alone (grid_bounds 2) ≡ 42) × (steps_alone (grid_bounds 3) ≡ 79) }
     ensures few_in_tree { (steps_alone (tree_bounds 1) ≡ 50) × (steps_alone (tree_bounds 2) ≡ 121) × (steps_alone (tree_bounds 3) ≡ 192) }
+{}
+
+/// A law, which runs nothing: under no config do more take part than a view has room for.
+pub fn law_of_configs()
+    ensures { (c : Config) → c.m ≤ 64 }
 {}

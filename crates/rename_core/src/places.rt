@@ -6,6 +6,7 @@ ghost use Rattle.rename_core.specs.EmptyPlaces.{AreEmptyFor, fixed_empty, grid_e
 ghost use Rattle.rename_core.specs.declared.config.WorldKind.{WorldKind};
 ghost use Rattle.rename_core.specs.declared.config.WorldKind.TheVariants as kind;
 ghost use Rattle.rename_core.specs.NamedPlaces.{PlacesAtOnce, GrowsAsTree};
+ghost use Rattle.rename_core.specs.Ranges.{most_in};
 ghost use Rattle.snapshot_core.specs.FixedTies.{fresh_row};
 ghost use Rattle.snapshot_places.specs.Grid.{fresh_grid};
 ghost use Rattle.snapshot_places.specs.Tree.{new_tree};
@@ -28,17 +29,17 @@ pub trait RenamePlaces<A: Allocator>: Places {
     fn world() -> WorldKind
         ensures { result ≡ world };
 
-    /// Places for so many participants, in which nothing was written. Refused where the room for them was.
+    /// Places for so many participants, as their world may take, in which nothing was written. Refused where the room for them was.
     fn empty(alloc: A, most: usize) -> Result<Self, Refusal>
         requires some { 1 ≤ most }
-        requires few { most ≤ 16 }
+        requires few { most ≤ most_in world }
         ensures made { IfOk result (λ s. s ≡ empty_for most) }
         ensures fresh { IfOk result (λ s. Self.ties.IsNew s) }
         ensures most { IfOk result (λ s. Self.most_of s ≡ most) }
         ensures no_memory { IfErr result (λ why. why ≡ Refusal.NoMemory) };
 
     /// What is made is places in which nothing was written.
-    ghost are_empty: { AreEmptyFor ⟦<Self as Known>⟧.places empty_for };
+    ghost are_empty: { AreEmptyFor ⟦<Self as Known>⟧.places world empty_for };
 
     /// Who begins has a place at once just where no step is needed to one.
     ghost at_once: { PlacesAtOnce ⟦<Self as Known>⟧.places };

@@ -129,8 +129,10 @@ fn one_alone_where_nobody_else_may_be(rt: HostRuntime) -> Result<(), Fail> {
 fn worlds_of_every_size(rt: HostRuntime) -> Result<(), Fail> {
     for m in 1..=16 {
         assert_eq!(rt; grid(rt.alloc(), m, 1)?.begin(7), Ok(()), "at {m}");
-        assert_eq!(rt; tree(rt.alloc(), m)?.begin(7), Ok(()), "at {m}");
         assert_eq!(rt; fixed(rt.alloc(), m, 1)?.begin(7), Ok(()), "at {m}");
+    }
+    for m in 1..=64 {
+        assert_eq!(rt; tree(rt.alloc(), m)?.begin(7), Ok(()), "at {m}");
     }
     Ok(())
 }
@@ -406,7 +408,6 @@ fn worlds_in_which_no_names_are_given(rt: HostRuntime) -> Result<(), Fail> {
 fn configs_out_of_range(rt: HostRuntime) {
     for (m, k, limit) in [
         (0, 4, 1000),
-        (17, 4, 1000),
         (4, 0, 1000),
         (4, 65, 1000),
         (4, 4, 0),
@@ -417,8 +418,62 @@ fn configs_out_of_range(rt: HostRuntime) {
             Err(Refusal::OutOfRange)
         );
     }
-    assert!(rt; Config::new(WorldKind::Tree, 16, 64, 1_000_000).is_ok());
+    assert!(rt; Config::new(WorldKind::Tree, 64, 64, 1_000_000).is_ok());
     assert!(rt; Config::new(WorldKind::Splitter, 1, 1, 1).is_ok());
+}
+
+#[test]
+fn most_participants_of_each_world(rt: HostRuntime) {
+    for (world, most) in [
+        (WorldKind::Splitter, 16),
+        (WorldKind::Grid, 16),
+        (WorldKind::Rename, 16),
+        (WorldKind::Tree, 64),
+    ] {
+        assert_eq!(rt; world.most(), most);
+        for m in [16, 17, 64, 65] {
+            let config = Config::new(world, m, 4, 1000);
+            assert_eq!(rt; config.is_ok(), m <= most, "{m} in {world:?}");
+            assert!(rt; config.is_ok() || config == Err(Refusal::OutOfRange));
+        }
+    }
+}
+
+/// A participant steps until it is named: how many steps these are, its place, and its name.
+fn goes_to_its_name(
+    world: &mut RenameWorld<TreePlaces<Global>, Global>,
+    id: u64,
+) -> Result<(u64, Place, u64), Fail> {
+    let mut placed = 0;
+    for steps in 1..10_000 {
+        match world.step(id)? {
+            Reply::Placed(place) => placed = place,
+            Reply::Named(name, _) => return Ok((steps, placed, name)),
+            _ => {}
+        }
+    }
+    Ok((10_000, placed, 0))
+}
+
+#[test]
+fn sixty_four_one_after_another_over_a_tree(rt: HostRuntime) -> Result<(), Fail> {
+    let mut world = tree(rt.alloc(), 64)?;
+    for id in 1..=64 {
+        world.begin(id)?;
+    }
+    assert_eq!(rt; world.begin(65), Err(Refusal::Full));
+    assert_eq!(rt; goes_to_its_name(&mut world, 1)?, (22, 1, 1));
+    let mut place: Place = 1;
+    for id in 2..=64u64 {
+        place = place.saturating_mul(2).saturating_add(1);
+        let steps = id.saturating_mul(27).saturating_add(12);
+        let name = id.saturating_mul(2).saturating_sub(1);
+        assert_eq!(rt; goes_to_its_name(&mut world, id)?, (steps, place, name));
+    }
+    assert_eq!(rt; place, 18_446_744_073_709_551_615);
+    assert_eq!(rt; world.owner_of(127), Some(64));
+    assert_eq!(rt; world.proposals().pairs().len(), 64);
+    Ok(())
 }
 
 /// A world in the last bytes of a heap.

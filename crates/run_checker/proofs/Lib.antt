@@ -1,4 +1,3 @@
-mod ConfigBounds
 mod Past
 mod Turned
 mod PeopleLemmas

@@ -22,7 +22,7 @@ use Rattle.run_checker.specs.declared.verdict.Verdict.TheVariants.{Yes}
 use Rattle.run_checker.specs.Config.{terms_of}
 use Rattle.run_checker.specs.Recorded.{IsRecordOf, IsShortTalk, HasRecorded, RecordsTalk, events_among, events_in, IsYes}
 use Rattle.run_checker.specs.Verdict.{record_lines, IsSaid, IsSaidAfter}
-use Rattle.run_checker.proofs.ConfigBounds.{most_seated}
+use Rattle.rename_core.proofs.MostIn.{few_take_part}
 use Rattle.run_checker.proofs.DeskRuns.{desk_run}
 use Rattle.run_checker.proofs.NarrowRuns.{AreWritable, run_narrow}
 use Rattle.run_checker.proofs.OneVerdict.{one_verdict}
@@ -42,7 +42,7 @@ talk_record c ls ts t =
     let talk = desk_talk c.world c ts t.names t.talk in
     let start = desk.fresh c talk.could.start talk.could.is_fresh in
     let fit : AreWritable (exchanges ts) = turns_fit c talk.could.start talk.could.last [] ts start talk.could.run (asked_narrow c.world ls ts t.asked_is) in
-    record_is c t.names ts (run_narrow (terms_of c) (most_seated c) c.k c.in_range.3 (exchanges ts) (desk_run (terms_of c) _ c.k (exchanges ts) talk.run) fit)
+    record_is c t.names ts (run_narrow (terms_of c) (few_take_part c) c.k c.in_range.3 (exchanges ts) (desk_run (terms_of c) _ c.k (exchanges ts) talk.run) fit)
 
 -- and is one of a run
 said_by : (c : Config) (ls : List (List ℕ)) (ts : List Turn) (bytes : List ℕ) → IsShortTalk c ls ts → IsRecordOf c (exchanges ts) bytes → IsSaidAfter (record_lines bytes) Yes

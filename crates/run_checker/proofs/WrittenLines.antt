@@ -5,6 +5,7 @@ use Rattle.std.specs.List.{list_all}
 use Rattle.std.proofs.lemmas.Str.{IsUtf8-append}
 use Rattle.json.proofs.Printed.Utf8.{are_ascii, IsUtf8-are_ascii}
 use Rattle.rename_core.specs.declared.config.Config.{Config}
+use Rattle.rename_core.proofs.MostIn.{few_take_part}
 use Rattle.rename_core.specs.declared.config.WorldKind.{WorldKind}
 use Rattle.rename_core.specs.declared.config.WorldKind.TheVariants.{Splitter, Grid, Rename, Tree}
 use Rattle.desk.specs.declared.exchange.Exchange.{Exchange}
@@ -211,7 +212,7 @@ module _ (c : Config) (named : gives_names c.world ≡ true) where
   limit_fits = let h = c.in_range.5 in omega arith
 
   m_fits : c.m < 2 ^ 64
-  m_fits = let h = c.in_range.1 in omega arith
+  m_fits = let h = few_take_part c in omega arith
 
   head_no_lf : has_no_lf (head_of c) ≡ true
   head_no_lf = header_no_lf c.k c.limit c.m (world_name c.world) k_fits limit_fits m_fits (name_plain c.world)

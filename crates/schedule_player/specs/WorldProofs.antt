@@ -1,12 +1,14 @@
 -- a splitter's and a grid's world keep their laws
-use Rattle.std.proofs.Common.{◌≡◌, ◌∙◌, List, [], sym, subst}
+use Rattle.std.proofs.Common.{◌≡◌, ◌≤◌, ◌∙◌, List, [], sym, subst}
 use Rattle.splitter.specs.Law.{KeepsSplitterLaw}
 use Rattle.splitter.specs.SplitterWorld as splitter
 use Rattle.splitter.proofs.SplitterTied as splitter_law
 use Rattle.splitter_grid.specs.Law.{KeepsGridLaw}
 use Rattle.splitter_grid.specs.GridWorld as grid
 use Rattle.splitter_grid.proofs.GridTied as grid_law
+use Rattle.rename_core.specs.Ranges.{most_in}
 use Rattle.rename_core.specs.declared.config.Config.{Config}
+use Rattle.rename_core.specs.declared.config.WorldKind.{WorldKind}
 use Rattle.schedule_player.specs.Runs.{Runs}
 use Rattle.schedule_player.specs.Turns.{Turn, exchanges}
 use Rattle.schedule_player.specs.Visits.{visit_may}
@@ -24,7 +26,7 @@ one_splitter_fresh c w v a b = a ∙ sym b
 pub grid_lawful : (c : Config) (w u : grid.GridState) (ts : List Turn) → grid_fresh c w → Runs (visit_may grid_rules) w ts u → IsGridRun (exchanges ts)
 grid_lawful c w u ts fresh run =
     call_run grid_rules grid.After grid_law.after_begun grid_law.after_step_of KeepsGridLaw grid_law.law_after w u
-    (subst (λ (t : grid.GridState). grid.After t []) (sym fresh) (grid_law.after_none c.m c.in_range.1)) ts run
+    (subst (λ (t : grid.GridState). grid.After t []) (sym fresh.1) (grid_law.after_none c.m (subst (λ (k : WorldKind). c.m ≤ most_in k) fresh.0 c.in_range.1))) ts run
 
 pub one_grid_fresh : (c : Config) (w v : grid.GridState) → grid_fresh c w → grid_fresh c v → w ≡ v
-one_grid_fresh c w v a b = a ∙ sym b
+one_grid_fresh c w v a b = a.1 ∙ sym b.1

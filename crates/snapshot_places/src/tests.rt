@@ -95,7 +95,7 @@ fn alone_over_a_grid(rt: HostRuntime) -> Result<(), Fail> {
 
 #[test]
 fn alone_over_a_tree(rt: HostRuntime) -> Result<(), Fail> {
-    for most in 1..=16 {
+    for most in 1..=64 {
         let mut world = SnapWorld::new(rt.alloc(), TreePlaces::new(rt.alloc(), most)?)?;
         assert_eq!(rt; world.begin(7), Ok(()));
         assert!(rt; quiet(&mut world, 7, 4));
@@ -177,7 +177,7 @@ fn sizes_out_of_range(rt: HostRuntime) {
     assert!(rt; matches!(Grid::new(rt.alloc(), 0), Err(Refusal::OutOfRange)));
     assert!(rt; matches!(Grid::new(rt.alloc(), 17), Err(Refusal::OutOfRange)));
     assert!(rt; matches!(TreePlaces::new(rt.alloc(), 0), Err(Refusal::OutOfRange)));
-    assert!(rt; matches!(TreePlaces::new(rt.alloc(), 17), Err(Refusal::OutOfRange)));
+    assert!(rt; matches!(TreePlaces::new(rt.alloc(), 65), Err(Refusal::OutOfRange)));
 }
 
 #[test]

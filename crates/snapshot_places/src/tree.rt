@@ -38,15 +38,15 @@ impl<A: Allocator> Model for TreePlaces<A> {
 }
 
 impl<A: Allocator> TreePlaces<A> {
-    /// A tree of no node, for so many participants, from 1 to 16; `OutOfRange` elsewhere. It takes no memory yet.
+    /// A tree of no node, for so many participants, from 1 to 64; `OutOfRange` elsewhere. It takes no memory yet.
     pub fn new(alloc: A, most: usize) -> Result<Self, Refusal>
         ensures empty { IfOk result (λ t. t ≡ new_tree most) }
         ensures fresh { IfOk result IsNewTree }
         ensures too_few { most < 1 → result ≡ Err Refusal.OutOfRange }
-        ensures too_many { 16 < most → result ≡ Err Refusal.OutOfRange }
-        ensures in_range { 1 ≤ most → most ≤ 16 → IsOk result }
+        ensures too_many { 64 < most → result ≡ Err Refusal.OutOfRange }
+        ensures in_range { 1 ≤ most → most ≤ 64 → IsOk result }
     {
-        if most < 1 || 16 < most {
+        if most < 1 || 64 < most {
             return Err(Refusal::OutOfRange);
         }
         Ok(TreePlaces {

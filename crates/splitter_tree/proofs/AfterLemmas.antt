@@ -12,7 +12,7 @@ use Rattle.splitter_tree.proofs.TreeCallLemmas.{most_kept, after_call, after_ste
 
 module _ (w : TreeWorldState) (r : List TreeCall) (a : After w r) where
   pub after_more : (new : TreeWorldState) (h : TreeCall) → new ≡ next tree_steps w h → IsReply tree_steps w h → After new (r ++ h ∷ [])
-  after_more new h e is = (subst (λ (n : ℕ). n ≤ 16) (sym (ap (λ v. v.most) e ∙ most_kept tree_steps w h)) a.0, after_call tree_steps empty_tree w new r h e is a.1)
+  after_more new h e is = (subst (λ (n : ℕ). n ≤ 64) (sym (ap (λ v. v.most) e ∙ most_kept tree_steps w h)) a.0, after_call tree_steps empty_tree w new r h e is a.1)
 
   -- the calls that ask for something
   pub after_collect_begin_call : (new : TreeWorldState) (id : ℕ) (reply : Result (Unit {0}) Refusal) → new ≡ after_collect_begin w id → reply ≡ done_unless (asking_refusal w id) → After new (r ++ CollectBegan id reply ∷ [])
@@ -28,4 +28,4 @@ module _ (w : TreeWorldState) (r : List TreeCall) (a : After w r) where
       (reply ≢ Err NoMemory → new ≡ after_placing tree_steps w id) → (reply ≢ Err NoMemory → reply ≡ place_answer tree_steps w id) →
       (reply ≡ Err NoMemory → (new ≡ w) × (may_lack_memory tree_steps w id ≡ true)) → After new (r ++ Stepped id reply ∷ [])
   after_placing_call new id reply e is lack =
-      (subst (λ (n : ℕ). n ≤ 16) (sym (most_of_after tree_steps w new id reply e (λ h. (lack h).0))) a.0, after_step_call tree_steps empty_tree w new r id reply e is lack a.1)
+      (subst (λ (n : ℕ). n ≤ 64) (sym (most_of_after tree_steps w new id reply e (λ h. (lack h).0))) a.0, after_step_call tree_steps empty_tree w new r id reply e is lack a.1)

@@ -27,24 +27,21 @@ use Rattle.splitter_tree.proofs.TreeCallLemmas.{most_kept}
 use Rattle.step_memory.specs.Participant.{participant_of, program_of}
 use Rattle.step_memory.specs.declared.participant.Participant.{Participant}
 
-below_64 : (n : ℕ) → n ≤ 16 → n ≤ 64
-below_64 n h = omega arith
-
 pub tied : (w : TreeWorldState) (r : List TreeCall) → After w r → IsTied tree_steps tree_memory w r
-tied w r a = tied_after tree_steps tree_memory empty_tree w r tree_empty (below_64 w.most a.0) a.1
+tied w r a = tied_after tree_steps tree_memory empty_tree w r tree_empty a.0 a.1
 
 pub places_after : (w : TreeWorldState) (r : List TreeCall) → After w r → KeepsPlacesLaw r
-places_after w r a = places_law tree_steps tree_memory w.most empty_tree w r tree_empty (below_64 w.most a.0) refl a.1
+places_after w r a = places_law tree_steps tree_memory w.most empty_tree w r tree_empty a.0 refl a.1
 
 -- each call is refused where those before it make it due
 pub due_after : (w : TreeWorldState) (r : List TreeCall) → After w r → TreeRefusesAsDue w.most r
-due_after w r a = (world_counted tree_steps tree_memory w.most empty_tree w r tree_empty (below_64 w.most a.0) refl a.1).due
+due_after w r a = (world_counted tree_steps tree_memory w.most empty_tree w r tree_empty a.0 refl a.1).due
 
 pub nodes_after : (w : TreeWorldState) (r : List TreeCall) → After w r → IsTree tree_steps (begun_in (way_calls r)) w.memory (walkers w.participants)
 nodes_after w r a = tree_of_tied tree_steps tree_memory w r (tied w r a)
 
 pub collects_after : (w : TreeWorldState) (r : List TreeCall) → After w r → KeepsCollectLaw r
-collects_after w r a = collect_law tree_steps tree_memory empty_tree w r (below_64 w.most a.0) tree_empty a.1
+collects_after w r a = collect_law tree_steps tree_memory empty_tree w r a.0 tree_empty a.1
 
 -- and they keep the law
 pub law_after : (w : TreeWorldState) → IsLawful w
@@ -59,7 +56,7 @@ pub answered_after : (w : TreeWorldState) (r : List TreeCall) (id : ℕ) → Aft
 answered_after w r id a = place_by_walk (participant_of id w.participants) ∙ sym ((tied w r a).told.outcomes id)
 
 -- a tree of no nodes is after no call
-pub after_none : (most : ℕ) → most ≤ 16 → After (record { memory = empty_tree; most = most; participants = [] }) []
+pub after_none : (most : ℕ) → most ≤ 64 → After (record { memory = empty_tree; most = most; participants = [] }) []
 after_none most few = (few, refl)
 
 run_most : (s : TreeWorldState) (r : List TreeCall) (end : TreeWorldState) → Run (next tree_steps) (IsReply tree_steps) s r end → end.most ≡ s.most
@@ -71,7 +68,7 @@ pub front_lawful : (w : TreeWorldState) (r t : List TreeCall) → After w (r ++ 
 front_lawful w r t a =
     let cut = run_splits (next tree_steps) (IsReply tree_steps) (record { memory = empty_tree; most = w.most; participants = [] }) r t w a.1 in
     let same : cut.0.most ≡ w.most = run_most (record { memory = empty_tree; most = w.most; participants = [] }) r cut.0 cut.1 in
-    law_after cut.0 r (subst (λ (n : ℕ). (n ≤ 16) × Run (next tree_steps) (IsReply tree_steps) (record { memory = empty_tree; most = n; participants = [] }) r cut.0) (sym same) (a.0, cut.1))
+    law_after cut.0 r (subst (λ (n : ℕ). (n ≤ 64) × Run (next tree_steps) (IsReply tree_steps) (record { memory = empty_tree; most = n; participants = [] }) r cut.0) (sym same) (a.0, cut.1))
 
 -- nobody is told a second place
 way_calls-append : (r t : List TreeCall) → way_calls (r ++ t) ≡ way_calls r ++ way_calls t

@@ -13,9 +13,9 @@ use Rattle.splitter_tree.specs.TreeCalls.{TreeCall, IsAfter}
 abbrev pub TreeWorldState : Type 0
 TreeWorldState = TreeState NodeMap
 
--- the world, of at most 16 participants, is after these calls with these replies
+-- the world, of at most 64 participants, is after these calls with these replies
 abbrev pub After : TreeWorldState → List TreeCall → Type 0
-After w r = (w.most ≤ 16) × IsAfter tree_steps empty_tree w r
+After w r = (w.most ≤ 64) × IsAfter tree_steps empty_tree w r
 
 -- the law over calls and replies: that of the places, and that of the collects
 pub record KeepsTreeCallsLaw (r : List TreeCall) : Type 0 where

@@ -109,7 +109,7 @@ pub fn law_of_places<S>()
 /// where those before it make it due. A list that tells somebody a second place keeps no law of the places, and one that
 /// refuses whoever comes first is refused where nothing is due.
 pub fn law_of_tree_calls()
-    ensures fresh { (most : ℕ) → most ≤ 16 → After (record { memory = empty_tree; most = most; participants = [] }) [] }
+    ensures fresh { (most : ℕ) → most ≤ 64 → After (record { memory = empty_tree; most = most; participants = [] }) [] }
     ensures next { CallLeadsOn }
     ensures law { (w : TreeWorldState) → IsLawful w }
     ensures front { (w : TreeWorldState) (r t : List TreeCall) → After w (r ++ t) → KeepsTreeCallsLaw r }

@@ -104,8 +104,8 @@ fn refusals_in_their_order(rt: HostRuntime) -> Result<(), Fail> {
 
 #[test]
 fn ranges_of_a_tree(rt: HostRuntime) {
-    for most in 0..18 {
-        let fits = (1..17).contains(&most);
+    for most in [0, 1, 16, 17, 63, 64, 65, 1_000] {
+        let fits = (1..65).contains(&most);
         match TreeWorld::new(rt.alloc(), most) {
             Ok(_) => assert!(rt; fits, "at {most}"),
             Err(refusal) => {
@@ -125,17 +125,17 @@ fn ranges_of_a_tree(rt: HostRuntime) {
 }
 
 #[test]
-fn sixteen_down_the_deepest_walk(rt: HostRuntime) -> Result<(), Fail> {
-    let mut world = TreeWorld::new(rt.alloc(), 16)?;
+fn sixty_four_down_the_deepest_walk(rt: HostRuntime) -> Result<(), Fail> {
+    let mut world = TreeWorld::new(rt.alloc(), 64)?;
     let mut place = 1u128;
-    for passed in 0..16usize {
+    for passed in 0..64usize {
         let id = passed as u64 + 1;
         assert_eq!(rt; world.begin(id), Ok(()));
         assert!(rt; walks_to(&mut world, id, 3 * passed + 4, place));
         assert_eq!(rt; world.step(id), Err(Refusal::Finished));
         place = place.saturating_mul(2).saturating_add(1);
     }
-    assert_eq!(rt; world.place_of(16), Some(65_535));
+    assert_eq!(rt; world.place_of(64), Some(18_446_744_073_709_551_615));
     Ok(())
 }
 

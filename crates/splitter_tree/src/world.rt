@@ -44,17 +44,17 @@ impl<A: Allocator> Model for TreeWorld<A> {
 }
 
 impl<A: Allocator + Clone> TreeWorld<A> {
-    /// A tree of no nodes, for at most `most` participants, from 1 to 16; `OutOfRange` elsewhere. The room for the
+    /// A tree of no nodes, for at most `most` participants, from 1 to 64; `OutOfRange` elsewhere. The room for the
     /// participants is taken here, that for a node when a walk comes to it first.
     pub fn new(alloc: A, most: usize) -> Result<Self, Refusal>
         ensures fresh { IfOk result (λ w. w ≡ record { memory = empty_tree; most = most; participants = [] }) }
         ensures after { IfOk result (λ w. After w []) }
         ensures law { IfOk result (λ w. IsLawful w) }
-        ensures range { IsOk result → (1 ≤ most) × (most ≤ 16) }
-        ensures out_of_range { result ≡ Err Refusal.OutOfRange ↔ ((most < 1) ⊎ (16 < most)) }
+        ensures range { IsOk result → (1 ≤ most) × (most ≤ 64) }
+        ensures out_of_range { result ≡ Err Refusal.OutOfRange ↔ ((most < 1) ⊎ (64 < most)) }
         ensures only { IfErr result (λ r. (r ≡ Refusal.NoMemory) ⊎ (r ≡ Refusal.OutOfRange)) }
     {
-        if most < 1 || 16 < most {
+        if most < 1 || 64 < most {
             return Err(Refusal::OutOfRange);
         }
         let Ok(other) = alloc.clone() else {

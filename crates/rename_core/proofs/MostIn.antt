@@ -1,0 +1,17 @@
+-- how many may take part
+use Rattle.std.proofs.Common.{◌≤◌, arith}
+use Rattle.rename_core.specs.Ranges.{most_in}
+use Rattle.rename_core.specs.declared.config.Config.{Config}
+use Rattle.rename_core.specs.declared.config.WorldKind.{WorldKind}
+use Rattle.rename_core.specs.declared.config.WorldKind.TheVariants.{Splitter, Grid, Rename, Tree}
+
+-- in no world more than a view has room for
+most_is_shown : (world : WorldKind) → most_in world ≤ 64
+most_is_shown Splitter = omega arith
+most_is_shown Grid = omega arith
+most_is_shown Rename = omega arith
+most_is_shown Tree = omega arith
+
+-- nor under any config
+pub few_take_part : (c : Config) → c.m ≤ 64
+few_take_part c = let fits = c.in_range in let few = most_is_shown c.world in omega arith
