@@ -109,13 +109,13 @@ module _ (terms : RenameTerms) (s : Names) (o : RenameObject) (p : ℕ) (st : St
     pub crowds : (i : ℕ) → t.since ≤ i → i ≤ o.last → IsConflict (o.moment i) p → crowded t.number (h.turns.rows i) ≡ true
     crowds i from l = conflict_crowds (turns_in s.participants.items) (length s.participants.items) terms.limit s.moments o.last o.moment o.count o.since h.turns i p t.number t l fits turn_is (stand.in_each i from l) stand.positive
 
-    sole : (i : ℕ) → t.since ≤ i → i ≤ o.last → crowded t.number (h.turns.rows i) ≡ false → IsSole (o.moment i) p t.number
+    pub sole : (i : ℕ) → t.since ≤ i → i ≤ o.last → crowded t.number (h.turns.rows i) ≡ false → IsSole (o.moment i) p t.number
     sole i from l = quiet_sole (turns_in s.participants.items) (length s.participants.items) terms.limit s.moments o.last o.moment o.count o.since h.turns i p t.number t l fits turn_is (stand.in_each i from l) stand.positive
 
-    quiet : (i : ℕ) → t.since ≤ i → i ≤ o.last → IsSole (o.moment i) p t.number → crowded t.number (h.turns.rows i) ≡ false
+    pub quiet : (i : ℕ) → t.since ≤ i → i ≤ o.last → IsSole (o.moment i) p t.number → crowded t.number (h.turns.rows i) ≡ false
     quiet i from l = sole_quiet (turns_in s.participants.items) (length s.participants.items) terms.limit s.moments o.last o.moment o.count o.since h.turns i p t.number t l fits turn_is (stand.in_each i from l) stand.positive
 
-    own_is : (i : ℕ) → t.since ≤ i → i ≤ o.last → o.moment i p ≡ Some t.number
+    pub own_is : (i : ℕ) → t.since ≤ i → i ≤ o.last → o.moment i p ≡ Some t.number
     own_is i from l = own (turns_in s.participants.items) (length s.participants.items) terms.limit s.moments o.last o.moment o.count o.since h.turns i p t.number t l fits turn_is (stand.in_each i from l) stand.positive
 
     -- another has proposed the same
@@ -128,17 +128,18 @@ module _ (terms : RenameTerms) (s : Names) (o : RenameObject) (p : ℕ) (st : St
     )
 
     -- what may be a name is what was proposed last
-    pub last_number : (n : ℕ) → MayBeNamed o p n → n ≡ t.number
-    last_number n k =
+    pub last_number : (n : ℕ) (shown : Option (List (ℕ × ℕ))) → MayBeNamed o p n shown → n ≡ t.number
+    last_number n shown k =
         let e : Some n ≡ Some t.number = sym k.shows.sole.own ∙ own_is k.shows.index (since_of_recent k.shows.index k.shows.recent) k.shows.recent.no_later in
         cc
 
-    pub sole_told : (r : Bool) → IsTrue r ↔ SomeSince (λ i. crowded t.number (h.turns.rows i) ≡ false) t.since o.last → IsFreeName o t.number → IsTrue r ↔ MayBeNamed o p t.number
+    pub sole_told : (r : Bool) → IsTrue r ↔ SomeSince (λ i. crowded t.number (h.turns.rows i) ≡ false) t.since o.last → IsFreeName o t.number → IsTrue r ↔ MayBeNamed o p t.number None
     sole_told r w free = (
       (λ y.
           let k = w.0 y in
           record {
             view = view_of s.participants.items (o.moment k.index);
+            written = tt;
             some = some;
             shows = record { index = k.index; recent = recent k.index k.no_earlier k.no_later; is = has_view terms s o k.index h k.no_later; sole = sole k.index k.no_earlier k.no_later k.passes };
             free = free;

@@ -17,6 +17,8 @@ use Rattle.slot_array.specs.SlotCalls.SlotCall.{Pooled, Stored, Fetched, Extende
 use Rattle.slot_array.specs.Slots.{stored_reply, stored_in, IsFetched}
 use Rattle.desk.specs.declared.event.Event.{Event}
 use Rattle.desk.specs.declared.event.Event.TheVariants.{Begin, Step, Enter, Probe, Leave, Put, Get, Widen}
+use Rattle.desk.specs.declared.exchange.Exchange.{Exchange}
+use Rattle.desk.specs.declared.reply.Reply.TheVariants as reply
 use Rattle.desk.specs.DeskCalls.{DeskCall, exchange_of}
 use Rattle.desk.specs.DeskCalls.DeskCall.{Renamed, Slotted}
 use Rattle.run_checker.specs.declared.line.Line.{Line}
@@ -25,8 +27,8 @@ use Rattle.run_checker.specs.declared.told.Told.{Told}
 use Rattle.run_checker.specs.declared.told.Told.TheVariants.{Ok as Accepted, Quiet, Place, Proposed, Saw, Named, Spent, Missed, Got, Left, Value, Refused}
 use Rattle.run_checker.specs.ObjectRun.{DeskObject, AllowsCall, after_call}
 use Rattle.run_checker.specs.Told.{is_reply_of}
-use Rattle.run_checker.specs.Reasons.{why_of, is_told_rightly, Keeps, KeepsAll, MayBeNamed}
-use Rattle.run_checker.specs.Lines.{told_of, line, line_of, CanFollow, after_line}
+use Rattle.run_checker.specs.Reasons.{why_of, is_told_rightly, Keeps, KeepsAll, IsWritten, MayBeNamed}
+use Rattle.run_checker.specs.Lines.{shown_where, told_of, line, line_of, IsLineOf, CanFollow, after_line}
 use Rattle.run_checker.proofs.Judging.{for_all, none_due}
 
 none_of : (o : Option Refusal) → is_none o ≡ true → o ≡ None
@@ -64,52 +66,61 @@ fetched_err : (values : List ℕ) (r : Result ℕ Refusal) (why : Refusal) → r
 fetched_err values (Ok n) why e = cc
 fetched_err values (Err w) why e = sym e
 
+-- a reply that is told in one way
+told : {x : Exchange} {l : Line} → line_of true x ≡ l → IsLineOf x l
+told e = record { shows = true; spelled = e }
+
+-- a name is told with its view where that is written
+named_so : (e : Event) (n : ℕ) (view : List (ℕ × ℕ)) (shown : Option (List (ℕ × ℕ))) → IsWritten shown view → IsLineOf (record { event = e; reply = reply.Named n view }) (line e (Named n shown))
+named_so e n view None w = record { shows = false; spelled = refl }
+named_so e n view (Some pairs) w = record { shows = true; spelled = ap (λ (v : List (ℕ × ℕ)). line e (Named n (Some v))) w }
+
 pub can_follow : (terms : RenameTerms) (o : DeskObject) (e : Event) (t : Told) → KeepsAll terms o e t → CanFollow terms o (line e t)
-can_follow terms o (Begin p) Accepted k = record { call = Renamed (Began p (Ok tt)); spelled = refl; allowed = sym (ap done_unless (none_of (no_begin terms o.names p) (k reason.Refusal))) }
+can_follow terms o (Begin p) Accepted k = record { call = Renamed (Began p (Ok tt)); spelled = told refl; allowed = sym (ap done_unless (none_of (no_begin terms o.names p) (k reason.Refusal))) }
 can_follow terms o (Begin p) (Refused n) k =
     let w = told_why (no_begin terms o.names p) terms.grows n (k reason.Refusal) in
-    record { call = Renamed (Began p (Err w.0)); spelled = ap (λ x. line (Begin p) (Refused x)) w.2; allowed = sym (ap done_unless w.1) }
-can_follow terms o (Step p) Quiet k = record { call = Renamed (Stepped p (Ok step.Quiet)); spelled = refl; allowed = (none_of (no_step o.names p) (k reason.Refusal), tt) }
-can_follow terms o (Step p) (Place x) k = record { call = Renamed (Stepped p (Ok (step.Placed x))); spelled = refl; allowed = (none_of (no_step o.names p) (k reason.Refusal), k reason.Place) }
-can_follow terms o (Step p) (Proposed n) k = record { call = Renamed (Stepped p (Ok (step.Proposed n))); spelled = refl; allowed = (none_of (no_step o.names p) (k reason.Refusal), k reason.Proposal) }
+    record { call = Renamed (Began p (Err w.0)); spelled = told (ap (λ x. line (Begin p) (Refused x)) w.2); allowed = sym (ap done_unless w.1) }
+can_follow terms o (Step p) Quiet k = record { call = Renamed (Stepped p (Ok step.Quiet)); spelled = told refl; allowed = (none_of (no_step o.names p) (k reason.Refusal), tt) }
+can_follow terms o (Step p) (Place x) k = record { call = Renamed (Stepped p (Ok (step.Placed x))); spelled = told refl; allowed = (none_of (no_step o.names p) (k reason.Refusal), k reason.Place) }
+can_follow terms o (Step p) (Proposed n) k = record { call = Renamed (Stepped p (Ok (step.Proposed n))); spelled = told refl; allowed = (none_of (no_step o.names p) (k reason.Refusal), k reason.Proposal) }
 can_follow terms o (Step p) (Saw view) k =
     let turns = k reason.Proposal in
-    record { call = Renamed (Stepped p (Ok (step.Saw view))); spelled = refl; allowed = (none_of (no_step o.names p) (k reason.Refusal), (turns.0, turns.1, k reason.View)) }
-can_follow terms o (Step p) (Named n) k =
-    let m : MayBeNamed o.names p n = k reason.Name in
-    record { call = Renamed (Stepped p (Ok (step.Named n m.view))); spelled = refl; allowed = (none_of (no_step o.names p) (k reason.Refusal), (m.some, m.shows, m.free)) }
-can_follow terms o (Step p) Spent k = record { call = Renamed (Stepped p (Ok step.Spent)); spelled = refl; allowed = (none_of (no_step o.names p) (k reason.Refusal), (k reason.Proposal, k reason.View)) }
+    record { call = Renamed (Stepped p (Ok (step.Saw view))); spelled = told refl; allowed = (none_of (no_step o.names p) (k reason.Refusal), (turns.0, turns.1, k reason.View)) }
+can_follow terms o (Step p) (Named n shown) k =
+    let m : MayBeNamed o.names p n shown = k reason.Name in
+    record { call = Renamed (Stepped p (Ok (step.Named n m.view))); spelled = named_so (Step p) n m.view shown m.written; allowed = (none_of (no_step o.names p) (k reason.Refusal), (m.some, m.shows, m.free)) }
+can_follow terms o (Step p) Spent k = record { call = Renamed (Stepped p (Ok step.Spent)); spelled = told refl; allowed = (none_of (no_step o.names p) (k reason.Refusal), (k reason.Proposal, k reason.View)) }
 can_follow terms o (Step p) (Refused n) k = elim (told_due (no_step o.names p) (terms.grows && true) n (k reason.Refusal)) [
-  | inl w ↦ record { call = Renamed (Stepped p (Err w.0)); spelled = ap (λ x. line (Step p) (Refused x)) w.2; allowed = inl w.1 }
-  | inr w ↦ record { call = Renamed (Stepped p (Err NoMemory)); spelled = ap (λ x. line (Step p) (Refused x)) (sym w.2); allowed = inr (record { is = refl; grows = (and_parts terms.grows true w.1).0; none_due = w.0 }) }
+  | inl w ↦ record { call = Renamed (Stepped p (Err w.0)); spelled = told (ap (λ x. line (Step p) (Refused x)) w.2); allowed = inl w.1 }
+  | inr w ↦ record { call = Renamed (Stepped p (Err NoMemory)); spelled = told (ap (λ x. line (Step p) (Refused x)) (sym w.2)); allowed = inr (record { is = refl; grows = (and_parts terms.grows true w.1).0; none_due = w.0 }) }
 ]
-can_follow terms o (Enter p) Accepted k = record { call = Slotted (Pooled (Entered p (Ok tt))); spelled = refl; allowed = (sym (ap done_unless (none_of _ (k reason.Refusal))), tt) }
+can_follow terms o (Enter p) Accepted k = record { call = Slotted (Pooled (Entered p (Ok tt))); spelled = told refl; allowed = (sym (ap done_unless (none_of _ (k reason.Refusal))), tt) }
 can_follow terms o (Enter p) (Refused n) k =
     let w = told_why _ terms.grows n (k reason.Refusal) in
-    record { call = Slotted (Pooled (Entered p (Err w.0))); spelled = ap (λ x. line (Enter p) (Refused x)) w.2; allowed = (sym (ap done_unless w.1), tt) }
-can_follow terms o (Probe p) Missed k = record { call = Slotted (Pooled (Probed p (Ok probe.Missed))); spelled = refl; allowed = ((none_of _ (k reason.Refusal), k reason.Pool), tt) }
-can_follow terms o (Probe p) (Got n) k = record { call = Slotted (Pooled (Probed p (Ok (probe.Got n)))); spelled = refl; allowed = ((none_of _ (k reason.Refusal), k reason.Pool), tt) }
+    record { call = Slotted (Pooled (Entered p (Err w.0))); spelled = told (ap (λ x. line (Enter p) (Refused x)) w.2); allowed = (sym (ap done_unless w.1), tt) }
+can_follow terms o (Probe p) Missed k = record { call = Slotted (Pooled (Probed p (Ok probe.Missed))); spelled = told refl; allowed = ((none_of _ (k reason.Refusal), k reason.Pool), tt) }
+can_follow terms o (Probe p) (Got n) k = record { call = Slotted (Pooled (Probed p (Ok (probe.Got n)))); spelled = told refl; allowed = ((none_of _ (k reason.Refusal), k reason.Pool), tt) }
 can_follow terms o (Probe p) (Refused n) k =
     let w = told_why _ terms.grows n (k reason.Refusal) in
-    record { call = Slotted (Pooled (Probed p (Err w.0))); spelled = ap (λ x. line (Probe p) (Refused x)) w.2; allowed = (w.1, tt) }
-can_follow terms o (Leave p) (Left n) k = record { call = Slotted (Pooled (HasLeft p (Ok n))); spelled = refl; allowed = (sym (k reason.Pool), tt) }
+    record { call = Slotted (Pooled (Probed p (Err w.0))); spelled = told (ap (λ x. line (Probe p) (Refused x)) w.2); allowed = (w.1, tt) }
+can_follow terms o (Leave p) (Left n) k = record { call = Slotted (Pooled (HasLeft p (Ok n))); spelled = told refl; allowed = (sym (k reason.Pool), tt) }
 can_follow terms o (Leave p) (Refused n) k =
     let w = told_why (why_of (number_in o.slots.pool p)) terms.grows n (k reason.Refusal) in
-    record { call = Slotted (Pooled (HasLeft p (Err w.0))); spelled = ap (λ x. line (Leave p) (Refused x)) w.2; allowed = (sym (err_of (number_in o.slots.pool p) w.0 w.1), tt) }
+    record { call = Slotted (Pooled (HasLeft p (Err w.0))); spelled = told (ap (λ x. line (Leave p) (Refused x)) w.2); allowed = (sym (err_of (number_in o.slots.pool p) w.0 w.1), tt) }
 can_follow terms o (Put p value) Accepted k =
     let w = ok_of (number_in o.slots.pool p) (none_of _ (k reason.Refusal)) in
-    record { call = Slotted (Stored p value (Ok tt)); spelled = refl; allowed = (sym (ap stored_reply w.1), tt) }
+    record { call = Slotted (Stored p value (Ok tt)); spelled = told refl; allowed = (sym (ap stored_reply w.1), tt) }
 can_follow terms o (Put p value) (Refused n) k =
     let w = told_why (why_of (number_in o.slots.pool p)) terms.grows n (k reason.Refusal) in
-    record { call = Slotted (Stored p value (Err w.0)); spelled = ap (λ x. line (Put p value) (Refused x)) w.2; allowed = (sym (ap stored_reply (err_of (number_in o.slots.pool p) w.0 w.1)), tt) }
-can_follow terms o (Get p) (Value v) k = record { call = Slotted (Fetched p (Ok v)); spelled = refl; allowed = (k reason.Pool, tt) }
+    record { call = Slotted (Stored p value (Err w.0)); spelled = told (ap (λ x. line (Put p value) (Refused x)) w.2); allowed = (sym (ap stored_reply (err_of (number_in o.slots.pool p) w.0 w.1)), tt) }
+can_follow terms o (Get p) (Value v) k = record { call = Slotted (Fetched p (Ok v)); spelled = told refl; allowed = (k reason.Pool, tt) }
 can_follow terms o (Get p) (Refused n) k =
     let w = told_why (why_of (number_in o.slots.pool p)) terms.grows n (k reason.Refusal) in
-    record { call = Slotted (Fetched p (Err w.0)); spelled = ap (λ x. line (Get p) (Refused x)) w.2; allowed = (fetched_err o.slots.values (number_in o.slots.pool p) w.0 (err_of (number_in o.slots.pool p) w.0 w.1), tt) }
-can_follow terms o (Widen more) Accepted k = record { call = Slotted (Extended more 0 (Ok tt)); spelled = refl; allowed = (sym (ap done_unless (none_of _ (k reason.Refusal))), refl) }
+    record { call = Slotted (Fetched p (Err w.0)); spelled = told (ap (λ x. line (Get p) (Refused x)) w.2); allowed = (fetched_err o.slots.values (number_in o.slots.pool p) w.0 (err_of (number_in o.slots.pool p) w.0 w.1), tt) }
+can_follow terms o (Widen more) Accepted k = record { call = Slotted (Extended more 0 (Ok tt)); spelled = told refl; allowed = (sym (ap done_unless (none_of _ (k reason.Refusal))), refl) }
 can_follow terms o (Widen more) (Refused n) k =
     let w = told_why _ terms.grows n (k reason.Refusal) in
-    record { call = Slotted (Extended more 0 (Err w.0)); spelled = ap (λ x. line (Widen more) (Refused x)) w.2; allowed = (sym (ap done_unless w.1), refl) }
+    record { call = Slotted (Extended more 0 (Err w.0)); spelled = told (ap (λ x. line (Widen more) (Refused x)) w.2); allowed = (sym (ap done_unless w.1), refl) }
 can_follow terms o e t k = let r : is_reply_of t e ≡ true = k reason.Reply in absurd (cc)
 
 -- what is told where nothing is due, and where something is
@@ -145,64 +156,68 @@ fetched_why : (values : List ℕ) (r : Result ℕ Refusal) (why : Refusal) → I
 fetched_why values (Ok n) why h = absurd h
 fetched_why values (Err w) why h = (let f : why ≡ w = cc in ap Some (sym f))
 
+written_where : (b : Bool) (view : List (ℕ × ℕ)) → IsWritten (shown_where b view) view
+written_where true view = refl
+written_where false view = tt
+
 -- no reason fits the line of a call to which the objects may give its reply
-pub call_keeps : (terms : RenameTerms) (o : DeskObject) (c : DeskCall) → AllowsCall terms o c → KeepsAll terms o (exchange_of c).event (told_of (exchange_of c).reply)
-call_keeps terms o (Renamed (Began p (Ok done))) a = for_all (Keeps terms o (Begin p) Accepted) refl (none_due _ (none_by _ a)) tt tt tt tt tt
-call_keeps terms o (Renamed (Began p (Err why))) a = for_all (Keeps terms o (Begin p) (Refused (refusal_number why))) refl (due_told _ (terms.grows && false) why (some_by _ why a)) tt tt tt tt tt
-call_keeps terms o (Renamed (Stepped p (Ok step.Quiet))) a = for_all (Keeps terms o (Step p) Quiet) refl (none_due _ a.0) tt tt tt tt tt
-call_keeps terms o (Renamed (Stepped p (Ok (step.Placed x)))) a = for_all (Keeps terms o (Step p) (Place x)) refl (none_due _ a.0) a.1 tt tt tt tt
-call_keeps terms o (Renamed (Stepped p (Ok (step.Proposed n)))) a = for_all (Keeps terms o (Step p) (Proposed n)) refl (none_due _ a.0) tt a.1 tt tt tt
-call_keeps terms o (Renamed (Stepped p (Ok (step.Saw view)))) a = for_all (Keeps terms o (Step p) (Saw view)) refl (none_due _ a.0) tt (a.1.0, a.1.1) a.1.2 tt tt
-call_keeps terms o (Renamed (Stepped p (Ok (step.Named n view)))) a = for_all (Keeps terms o (Step p) (Named n)) refl (none_due _ a.0) tt tt tt (record { view = view; some = a.1.0; shows = a.1.1; free = a.1.2 }) tt
-call_keeps terms o (Renamed (Stepped p (Ok step.Spent))) a = for_all (Keeps terms o (Step p) Spent) refl (none_due _ a.0) tt a.1.0 a.1.1 tt tt
-call_keeps terms o (Renamed (Stepped p (Err why))) a = elim a [
+pub call_keeps : (terms : RenameTerms) (o : DeskObject) (c : DeskCall) (b : Bool) → AllowsCall terms o c → KeepsAll terms o (exchange_of c).event (told_of b (exchange_of c).reply)
+call_keeps terms o (Renamed (Began p (Ok done))) b a = for_all (Keeps terms o (Begin p) Accepted) refl (none_due _ (none_by _ a)) tt tt tt tt tt
+call_keeps terms o (Renamed (Began p (Err why))) b a = for_all (Keeps terms o (Begin p) (Refused (refusal_number why))) refl (due_told _ (terms.grows && false) why (some_by _ why a)) tt tt tt tt tt
+call_keeps terms o (Renamed (Stepped p (Ok step.Quiet))) b a = for_all (Keeps terms o (Step p) Quiet) refl (none_due _ a.0) tt tt tt tt tt
+call_keeps terms o (Renamed (Stepped p (Ok (step.Placed x)))) b a = for_all (Keeps terms o (Step p) (Place x)) refl (none_due _ a.0) a.1 tt tt tt tt
+call_keeps terms o (Renamed (Stepped p (Ok (step.Proposed n)))) b a = for_all (Keeps terms o (Step p) (Proposed n)) refl (none_due _ a.0) tt a.1 tt tt tt
+call_keeps terms o (Renamed (Stepped p (Ok (step.Saw view)))) b a = for_all (Keeps terms o (Step p) (Saw view)) refl (none_due _ a.0) tt (a.1.0, a.1.1) a.1.2 tt tt
+call_keeps terms o (Renamed (Stepped p (Ok (step.Named n view)))) b a = for_all (Keeps terms o (Step p) (Named n (shown_where b view))) refl (none_due _ a.0) tt tt tt (record { view = view; written = written_where b view; some = a.1.0; shows = a.1.1; free = a.1.2 }) tt
+call_keeps terms o (Renamed (Stepped p (Ok step.Spent))) b a = for_all (Keeps terms o (Step p) Spent) refl (none_due _ a.0) tt a.1.0 a.1.1 tt tt
+call_keeps terms o (Renamed (Stepped p (Err why))) b a = elim a [
   | inl due ↦ for_all (Keeps terms o (Step p) (Refused (refusal_number why))) refl (due_told _ (terms.grows && true) why due) tt tt tt tt tt
   | inr lacks ↦ for_all (Keeps terms o (Step p) (Refused (refusal_number why))) refl (rw lacks.is (lack_told _ terms.grows lacks.none_due lacks.grows)) tt tt tt tt tt
 ]
-call_keeps terms o (Slotted (Pooled (Entered p (Ok done)))) a = for_all (Keeps terms o (Enter p) Accepted) refl (none_due _ (none_by _ a.0)) tt tt tt tt tt
-call_keeps terms o (Slotted (Pooled (Entered p (Err why)))) a = for_all (Keeps terms o (Enter p) (Refused (refusal_number why))) refl (due_told _ (terms.grows && false) why (some_by _ why a.0)) tt tt tt tt tt
-call_keeps terms o (Slotted (Pooled (Probed p (Ok probe.Missed)))) a = for_all (Keeps terms o (Probe p) Missed) refl (none_due _ a.0.0) tt tt tt tt a.0.1
-call_keeps terms o (Slotted (Pooled (Probed p (Ok (probe.Got n))))) a = for_all (Keeps terms o (Probe p) (Got n)) refl (none_due _ a.0.0) tt tt tt tt a.0.1
-call_keeps terms o (Slotted (Pooled (Probed p (Err why)))) a = for_all (Keeps terms o (Probe p) (Refused (refusal_number why))) refl (due_told _ (terms.grows && false) why a.0) tt tt tt tt tt
-call_keeps terms o (Slotted (Pooled (HasLeft p (Ok n)))) a = for_all (Keeps terms o (Leave p) (Left n)) refl (none_due _ (sym (ap why_of a.0))) tt tt tt tt (sym a.0)
-call_keeps terms o (Slotted (Pooled (HasLeft p (Err why)))) a = for_all (Keeps terms o (Leave p) (Refused (refusal_number why))) refl (due_told _ (terms.grows && false) why (sym (ap why_of a.0))) tt tt tt tt tt
-call_keeps terms o (Slotted (Stored p value (Ok done))) a = for_all (Keeps terms o (Put p value) Accepted) refl (none_due _ (stored_ok _ a.0)) tt tt tt tt tt
-call_keeps terms o (Slotted (Stored p value (Err why))) a = for_all (Keeps terms o (Put p value) (Refused (refusal_number why))) refl (due_told _ (terms.grows && false) why (stored_err _ why a.0)) tt tt tt tt tt
-call_keeps terms o (Slotted (Fetched p (Ok v))) a = for_all (Keeps terms o (Get p) (Value v)) refl (none_due _ (fetched_ok o.slots.values _ v a.0)) tt tt tt tt a.0
-call_keeps terms o (Slotted (Fetched p (Err why))) a = for_all (Keeps terms o (Get p) (Refused (refusal_number why))) refl (due_told _ (terms.grows && false) why (fetched_why o.slots.values _ why a.0)) tt tt tt tt tt
-call_keeps terms o (Slotted (Pooled (Widened more reply))) a = absurd a.0
-call_keeps terms o (Slotted (Extended more v (Ok done))) a = for_all (Keeps terms o (Widen more) Accepted) refl (none_due _ (none_by _ a.0)) tt tt tt tt tt
-call_keeps terms o (Slotted (Extended more v (Err why))) a = for_all (Keeps terms o (Widen more) (Refused (refusal_number why))) refl (due_told _ (terms.grows && false) why (some_by _ why a.0)) tt tt tt tt tt
+call_keeps terms o (Slotted (Pooled (Entered p (Ok done)))) b a = for_all (Keeps terms o (Enter p) Accepted) refl (none_due _ (none_by _ a.0)) tt tt tt tt tt
+call_keeps terms o (Slotted (Pooled (Entered p (Err why)))) b a = for_all (Keeps terms o (Enter p) (Refused (refusal_number why))) refl (due_told _ (terms.grows && false) why (some_by _ why a.0)) tt tt tt tt tt
+call_keeps terms o (Slotted (Pooled (Probed p (Ok probe.Missed)))) b a = for_all (Keeps terms o (Probe p) Missed) refl (none_due _ a.0.0) tt tt tt tt a.0.1
+call_keeps terms o (Slotted (Pooled (Probed p (Ok (probe.Got n))))) b a = for_all (Keeps terms o (Probe p) (Got n)) refl (none_due _ a.0.0) tt tt tt tt a.0.1
+call_keeps terms o (Slotted (Pooled (Probed p (Err why)))) b a = for_all (Keeps terms o (Probe p) (Refused (refusal_number why))) refl (due_told _ (terms.grows && false) why a.0) tt tt tt tt tt
+call_keeps terms o (Slotted (Pooled (HasLeft p (Ok n)))) b a = for_all (Keeps terms o (Leave p) (Left n)) refl (none_due _ (sym (ap why_of a.0))) tt tt tt tt (sym a.0)
+call_keeps terms o (Slotted (Pooled (HasLeft p (Err why)))) b a = for_all (Keeps terms o (Leave p) (Refused (refusal_number why))) refl (due_told _ (terms.grows && false) why (sym (ap why_of a.0))) tt tt tt tt tt
+call_keeps terms o (Slotted (Stored p value (Ok done))) b a = for_all (Keeps terms o (Put p value) Accepted) refl (none_due _ (stored_ok _ a.0)) tt tt tt tt tt
+call_keeps terms o (Slotted (Stored p value (Err why))) b a = for_all (Keeps terms o (Put p value) (Refused (refusal_number why))) refl (due_told _ (terms.grows && false) why (stored_err _ why a.0)) tt tt tt tt tt
+call_keeps terms o (Slotted (Fetched p (Ok v))) b a = for_all (Keeps terms o (Get p) (Value v)) refl (none_due _ (fetched_ok o.slots.values _ v a.0)) tt tt tt tt a.0
+call_keeps terms o (Slotted (Fetched p (Err why))) b a = for_all (Keeps terms o (Get p) (Refused (refusal_number why))) refl (due_told _ (terms.grows && false) why (fetched_why o.slots.values _ why a.0)) tt tt tt tt tt
+call_keeps terms o (Slotted (Pooled (Widened more reply))) b a = absurd a.0
+call_keeps terms o (Slotted (Extended more v (Ok done))) b a = for_all (Keeps terms o (Widen more) Accepted) refl (none_due _ (none_by _ a.0)) tt tt tt tt tt
+call_keeps terms o (Slotted (Extended more v (Err why))) b a = for_all (Keeps terms o (Widen more) (Refused (refusal_number why))) refl (due_told _ (terms.grows && false) why (some_by _ why a.0)) tt tt tt tt tt
 
 pub follows_keeps : (terms : RenameTerms) (o : DeskObject) (l : Line) → CanFollow terms o l → KeepsAll terms o l.event l.told
-follows_keeps terms o l f = subst (λ (x : Line). KeepsAll terms o x.event x.told) f.spelled (call_keeps terms o f.call f.allowed)
+follows_keeps terms o l f = subst (λ (x : Line). KeepsAll terms o x.event x.told) f.spelled.spelled (call_keeps terms o f.call f.spelled.shows f.allowed)
 
 stored_same : (r : Result ℕ Refusal) (why : Refusal) (v : ℕ) (values : List ℕ) → Err why ≡ stored_reply r → stored_in r v values ≡ values
 stored_same (Ok n) why v values h = absurd (cc)
 stored_same (Err w) why v values h = refl
 
 -- a call leaves what its line does
-pub same_after : (terms : RenameTerms) (o : DeskObject) (c : DeskCall) → AllowsCall terms o c → after_call o c ≡ after_line o (line_of (exchange_of c))
-same_after terms o (Renamed (Began p (Ok done))) a = refl
-same_after terms o (Renamed (Began p (Err why))) a = refl
-same_after terms o (Renamed (Stepped p (Ok step.Quiet))) a = refl
-same_after terms o (Renamed (Stepped p (Ok (step.Placed x)))) a = refl
-same_after terms o (Renamed (Stepped p (Ok (step.Proposed n)))) a = refl
-same_after terms o (Renamed (Stepped p (Ok (step.Saw view)))) a = refl
-same_after terms o (Renamed (Stepped p (Ok (step.Named n view)))) a = refl
-same_after terms o (Renamed (Stepped p (Ok step.Spent))) a = refl
-same_after terms o (Renamed (Stepped p (Err why))) a = refl
-same_after terms o (Slotted (Pooled (Entered p (Ok done)))) a = refl
-same_after terms o (Slotted (Pooled (Entered p (Err why)))) a = refl
-same_after terms o (Slotted (Pooled (Probed p (Ok probe.Missed)))) a = refl
-same_after terms o (Slotted (Pooled (Probed p (Ok (probe.Got n))))) a = refl
-same_after terms o (Slotted (Pooled (Probed p (Err why)))) a = refl
-same_after terms o (Slotted (Pooled (HasLeft p (Ok n)))) a = refl
-same_after terms o (Slotted (Pooled (HasLeft p (Err why)))) a = refl
-same_after terms o (Slotted (Stored p value (Ok done))) a = refl
-same_after terms o (Slotted (Stored p value (Err why))) a = λ i. record { names = o.names; slots = record { pool = o.slots.pool; values = stored_same (number_in o.slots.pool p) why value o.slots.values a.0 i } }
-same_after terms o (Slotted (Fetched p (Ok v))) a = refl
-same_after terms o (Slotted (Fetched p (Err why))) a = refl
-same_after terms o (Slotted (Pooled (Widened more reply))) a = absurd a.0
-same_after terms o (Slotted (Extended more v (Ok done))) a = ap (λ (x : ℕ). after_call o (Slotted (Extended more x (Ok tt)))) a.1
-same_after terms o (Slotted (Extended more v (Err why))) a = refl
+pub same_after : (terms : RenameTerms) (o : DeskObject) (c : DeskCall) (b : Bool) → AllowsCall terms o c → after_call o c ≡ after_line o (line_of b (exchange_of c))
+same_after terms o (Renamed (Began p (Ok done))) b a = refl
+same_after terms o (Renamed (Began p (Err why))) b a = refl
+same_after terms o (Renamed (Stepped p (Ok step.Quiet))) b a = refl
+same_after terms o (Renamed (Stepped p (Ok (step.Placed x)))) b a = refl
+same_after terms o (Renamed (Stepped p (Ok (step.Proposed n)))) b a = refl
+same_after terms o (Renamed (Stepped p (Ok (step.Saw view)))) b a = refl
+same_after terms o (Renamed (Stepped p (Ok (step.Named n view)))) b a = refl
+same_after terms o (Renamed (Stepped p (Ok step.Spent))) b a = refl
+same_after terms o (Renamed (Stepped p (Err why))) b a = refl
+same_after terms o (Slotted (Pooled (Entered p (Ok done)))) b a = refl
+same_after terms o (Slotted (Pooled (Entered p (Err why)))) b a = refl
+same_after terms o (Slotted (Pooled (Probed p (Ok probe.Missed)))) b a = refl
+same_after terms o (Slotted (Pooled (Probed p (Ok (probe.Got n))))) b a = refl
+same_after terms o (Slotted (Pooled (Probed p (Err why)))) b a = refl
+same_after terms o (Slotted (Pooled (HasLeft p (Ok n)))) b a = refl
+same_after terms o (Slotted (Pooled (HasLeft p (Err why)))) b a = refl
+same_after terms o (Slotted (Stored p value (Ok done))) b a = refl
+same_after terms o (Slotted (Stored p value (Err why))) b a = λ i. record { names = o.names; slots = record { pool = o.slots.pool; values = stored_same (number_in o.slots.pool p) why value o.slots.values a.0 i } }
+same_after terms o (Slotted (Fetched p (Ok v))) b a = refl
+same_after terms o (Slotted (Fetched p (Err why))) b a = refl
+same_after terms o (Slotted (Pooled (Widened more reply))) b a = absurd a.0
+same_after terms o (Slotted (Extended more v (Ok done))) b a = ap (λ (x : ℕ). after_call o (Slotted (Extended more x (Ok tt)))) a.1
+same_after terms o (Slotted (Extended more v (Err why))) b a = refl

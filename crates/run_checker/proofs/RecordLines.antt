@@ -6,8 +6,9 @@ use Rattle.std.specs.declared.alloc.AllocError.{AllocError}
 use Rattle.serde_json.specs.Data.{Data}
 use Rattle.serde_json.specs.declared.value.Value.{Value}
 use Rattle.serde_json.specs.View.{view}
-use Rattle.rename_core.specs.declared.config.Config.{Config}
 use Rattle.rename_core.specs.declared.config.WorldKind.{WorldKind}
+use Rattle.run_checker.specs.declared.header.Header.{Header}
+use Rattle.run_checker.specs.declared.header.Version.{Version}
 use Rattle.run_checker.specs.declared.line.Line.{Line}
 use Rattle.run_checker.specs.Json.{IsHeader}
 use Rattle.run_checker.specs.RecordLine.{IsJson, SaysLine, IsEventLine, IsHeaderLine}
@@ -25,13 +26,13 @@ json_none bytes None e h = h
 json_none bytes (Some w) e h = absurd (cc)
 
 -- a line says what its value does
-pub line_said : (kind : WorldKind) (bytes : List ℕ) (d : Data) (r : Result (Option Line) AllocError) → length bytes ≤ 8192 → IsJson bytes d →
-    IfOk r (λ x. MatchOption x ((l : Line) → SaysLine kind d l → ⊥) (λ l. SaysLine kind d l)) → IfOk r (λ x. MatchOption x ((l : Line) → IsEventLine kind bytes l → ⊥) (λ l. IsEventLine kind bytes l))
-line_said kind bytes d (Ok None) short json h = λ l e. h l (subst (λ (x : Data). SaysLine kind x l) (one_value bytes e.value d e.json json) e.says)
-line_said kind bytes d (Ok (Some l)) short json h = record { short = short; value = d; json = json; says = h }
-line_said kind bytes d (Err e) short json h = tt
+pub line_said : (kind : WorldKind) (version : Version) (bytes : List ℕ) (d : Data) (r : Result (Option Line) AllocError) → length bytes ≤ 8192 → IsJson bytes d →
+    IfOk r (λ x. MatchOption x ((l : Line) → SaysLine kind version d l → ⊥) (λ l. SaysLine kind version d l)) → IfOk r (λ x. MatchOption x ((l : Line) → IsEventLine kind version bytes l → ⊥) (λ l. IsEventLine kind version bytes l))
+line_said kind version bytes d (Ok None) short json h = λ l e. h l (subst (λ (x : Data). SaysLine kind version x l) (one_value bytes e.value d e.json json) e.says)
+line_said kind version bytes d (Ok (Some l)) short json h = record { short = short; value = d; json = json; says = h }
+line_said kind version bytes d (Err e) short json h = tt
 
-pub header_said : (bytes : List ℕ) (d : Data) (o : Option Config) → length bytes ≤ 8192 → IsJson bytes d →
-    MatchOption o ((c : Config) → IsHeader d c → ⊥) (λ c. IsHeader d c) → MatchOption o ((c : Config) → IsHeaderLine bytes c → ⊥) (λ c. IsHeaderLine bytes c)
-header_said bytes d None short json h = λ c e. h c (subst (λ (x : Data). IsHeader x c) (one_value bytes e.value d e.json json) e.says)
+pub header_said : (bytes : List ℕ) (d : Data) (o : Option Header) → length bytes ≤ 8192 → IsJson bytes d →
+    MatchOption o ((h : Header) → IsHeader d h → ⊥) (λ h. IsHeader d h) → MatchOption o ((h : Header) → IsHeaderLine bytes h → ⊥) (λ h. IsHeaderLine bytes h)
+header_said bytes d None short json h = λ k e. h k (subst (λ (x : Data). IsHeader x k) (one_value bytes e.value d e.json json) e.says)
 header_said bytes d (Some c) short json h = record { short = short; value = d; json = json; says = h }

@@ -1,5 +1,5 @@
 -- lines that follow one another
-use Rattle.std.proofs.Common.{◌≡◌, ℕ, zero, suc, ◌+◌, ◌<◌, ◌≤◌, ◌^◌, List, [], ◌∷◌, ◌++◌, length, map, take, Some, Err, refl, sym, ap, ◌∙◌, subst, arith, length-append, get_or, drop, drop-cons}
+use Rattle.std.proofs.Common.{◌≡◌, ℕ, zero, suc, ◌+◌, ◌<◌, ◌≤◌, ◌^◌, Bool, List, [], ◌∷◌, ◌++◌, length, map, take, Some, Err, refl, sym, ap, ◌∙◌, subst, arith, length-append, get_or, drop, drop-cons}
 use Rattle.std.proofs.lemmas.List.{take-append-drop}
 use Rattle.std.specs.Result.{IfOk}
 use Rattle.std.specs.Prelude.{slice_get}
@@ -8,6 +8,7 @@ use Rattle.step_memory.proofs.RunLemmas.{run_more, run_one, run_splits}
 use Rattle.rename_core.specs.RenameObject.{RenameTerms}
 use Rattle.desk.specs.declared.event.Event.{Event}
 use Rattle.desk.specs.declared.event.Event.TheVariants.{Begin, Step, Enter, Probe, Leave, Put, Get, Widen}
+use Rattle.desk.specs.declared.exchange.Exchange.{Exchange}
 use Rattle.desk.specs.DeskCalls.{DeskCall, exchange_of}
 use Rattle.run_checker.specs.declared.checker.Checker.{Checker}
 use Rattle.run_checker.specs.declared.fault.Fault.{Fault}
@@ -19,7 +20,7 @@ use Rattle.run_checker.specs.declared.told.Told.{Told}
 use Rattle.run_checker.specs.declared.told.Told.TheVariants.{Ok as Accepted, Place, Proposed, Named, Spent, Missed, Got, Left}
 use Rattle.run_checker.specs.ObjectRun.{DeskObject, fresh_desk_object, AllowsCall, after_call}
 use Rattle.run_checker.specs.Reasons.{KeepsAll, IsLeastReason}
-use Rattle.run_checker.specs.Lines.{line_of, AreLinesOfRun, CanFollow, after_told, after_line, Follow}
+use Rattle.run_checker.specs.Lines.{line_of, IsLineOf, AreLinesOf, AreLinesOfRun, CanFollow, after_told, after_line, Follow}
 use Rattle.run_checker.specs.Judged.{HoldsDesk, IsTaken, IsJudged, HasTaken, IsFaultAfter, TakesOn, IsFirstFault}
 use Rattle.run_checker.proofs.Following.{can_follow, follows_keeps, same_after}
 
@@ -29,7 +30,7 @@ last_after o (Begin p) Accepted = omega arith
 last_after o (Begin p) t = omega arith
 last_after o (Step p) (Place x) = omega arith
 last_after o (Step p) (Proposed n) = omega arith
-last_after o (Step p) (Named n) = omega arith
+last_after o (Step p) (Named n shown) = omega arith
 last_after o (Step p) Spent = omega arith
 last_after o (Step p) t = omega arith
 last_after o (Enter p) Accepted = omega arith
@@ -63,32 +64,44 @@ pub fault_on : (terms : RenameTerms) (size : ℕ) (lines : List Line) (l : Line)
     ((o : DeskObject) → HoldsDesk terms old o → o.names.last < 2 ^ 62 → IsLeastReason terms o l.event l.told why) → IsFaultAfter terms size lines l why
 fault_on terms size lines l old why h few j = let last = h.few in record { object = h.object; run = h.run; least = j h.object h.held (omega arith) }
 
+-- a call leaves what any line of it does
+after_is : (terms : RenameTerms) (o : DeskObject) (c : DeskCall) (l : Line) → IsLineOf (exchange_of c) l → AllowsCall terms o c → after_call o c ≡ after_line o l
+after_is terms o c l w a = same_after terms o c w.shows a ∙ ap (after_line o) w.spelled
+
+-- exchanges have their lines, told in full or not
+pub lines_of_all : (shows : Bool) (r : List Exchange) → AreLinesOf r (map (line_of shows) r)
+lines_of_all shows [] = tt
+lines_of_all shows (x ∷ xs) = (record { shows = shows; spelled = refl }, lines_of_all shows xs)
+
 -- exchanges that the objects can make follow one another as lines
-follow_calls : (terms : RenameTerms) (o end : DeskObject) (calls : List DeskCall) → Run after_call (AllowsCall terms) o calls end → Run after_line (CanFollow terms) o (map line_of (map exchange_of calls)) end
-follow_calls terms o end [] r = r
-follow_calls terms o end (c ∷ calls) r = (
-  record { call = c; spelled = refl; allowed = r.0 },
-  subst (λ (x : DeskObject). Run after_line (CanFollow terms) x (map line_of (map exchange_of calls)) end) (same_after terms o c r.0) (follow_calls terms (after_call o c) end calls r.1),
+follow_calls : (terms : RenameTerms) (o end : DeskObject) (calls : List DeskCall) (lines : List Line) → AreLinesOf (map exchange_of calls) lines → Run after_call (AllowsCall terms) o calls end →
+    Run after_line (CanFollow terms) o lines end
+follow_calls terms o end [] [] w r = r
+follow_calls terms o end [] (l ∷ lines) w r = absurd w
+follow_calls terms o end (c ∷ calls) [] w r = absurd w
+follow_calls terms o end (c ∷ calls) (l ∷ lines) w r = (
+  record { call = c; spelled = w.0; allowed = r.0 },
+  subst (λ (x : DeskObject). Run after_line (CanFollow terms) x lines end) (after_is terms o c l w.0 r.0) (follow_calls terms (after_call o c) end calls lines w.1 r.1),
 )
 
 pub run_follows : (terms : RenameTerms) (size : ℕ) (lines : List Line) → AreLinesOfRun terms size lines → (o : DeskObject) × Follow terms size lines o
 run_follows terms size lines r =
-    let e : map line_of (map exchange_of r.run.calls) ≡ lines = ap (map line_of) r.run.spelled ∙ r.spelled in
-    (r.run.object, subst (λ (x : List Line). Follow terms size x r.run.object) e (follow_calls terms (fresh_desk_object size) r.run.object r.run.calls r.run.run))
+    let e : AreLinesOf (map exchange_of r.run.calls) lines = subst (λ (x : List Exchange). AreLinesOf x lines) (sym r.run.spelled) r.spelled in
+    (r.run.object, follow_calls terms (fresh_desk_object size) r.run.object r.run.calls lines e r.run.run)
 
 -- calls whose lines these are
 record AreCallsFor (terms : RenameTerms) (o end : DeskObject) (lines : List Line) : Type 0 where
   calls : List DeskCall
-  spelled : map line_of (map exchange_of calls) ≡ lines
+  spelled : AreLinesOf (map exchange_of calls) lines
   run : Run after_call (AllowsCall terms) o calls end
 
 calls_for : (terms : RenameTerms) (o end : DeskObject) (lines : List Line) → Run after_line (CanFollow terms) o lines end → AreCallsFor terms o end lines
-calls_for terms o end [] r = record { calls = []; spelled = refl; run = r }
+calls_for terms o end [] r = record { calls = []; spelled = tt; run = r }
 calls_for terms o end (l ∷ lines) r =
     let f = r.0 in
-    let next : after_line o l ≡ after_call o f.call = ap (after_line o) (sym f.spelled) ∙ sym (same_after terms o f.call f.allowed) in
+    let next : after_line o l ≡ after_call o f.call = sym (after_is terms o f.call l f.spelled f.allowed) in
     let k = calls_for terms (after_call o f.call) end lines (subst (λ (x : DeskObject). Run after_line (CanFollow terms) x lines end) next r.1) in
-    record { calls = f.call ∷ k.calls; spelled = (λ i. f.spelled i ∷ k.spelled i); run = (f.allowed, k.run) }
+    record { calls = f.call ∷ k.calls; spelled = (f.spelled, k.spelled); run = (f.allowed, k.run) }
 
 pub follows_run : (terms : RenameTerms) (size : ℕ) (lines : List Line) (o : DeskObject) → Follow terms size lines o → AreLinesOfRun terms size lines
 follows_run terms size lines o f =

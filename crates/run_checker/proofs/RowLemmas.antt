@@ -1,5 +1,5 @@
 -- rows of views
-use Rattle.std.proofs.Common.{◌≡◌, ℕ, zero, suc, ◌<◌, ◌≤◌, ◌==◌, inl, inr, true, cond, List, [], ◌∷◌, length, get_or, refl, sym, ap, ◌∙◌, subst, arith, Some, None, Option, slice_index, slice_set, replicate}
+use Rattle.std.proofs.Common.{◌≡◌, ℕ, zero, suc, ◌<◌, ◌≤◌, ◌==◌, inl, inr, true, false, cond, List, [], ◌∷◌, length, get_or, refl, sym, ap, ◌∙◌, subst, arith, Some, None, Option, slice_index, slice_set, replicate}
 use Rattle.std.specs.Prelude.{nat_lt}
 use Rattle.std.proofs.lemmas.Bool.{cases_Bool, ltb-true, ltb-false, ne_eqb, eq-eqb}
 use Rattle.std.proofs.lemmas.Bool.Decides.{eqb_tells}
@@ -8,15 +8,15 @@ use Rattle.std.proofs.lemmas.List.{get_or-set_same, get_or-set_other, length-set
 use Rattle.step_memory.specs.Participant.{program_of}
 use Rattle.step_memory.specs.View.{IsAbove, IsRising, value_of}
 use Rattle.snapshot_core.specs.Snapshot.{IsMoment}
-use Rattle.rename_core.specs.RenameObject.{RenameTerms, RenameObject, ShowsConflict}
+use Rattle.rename_core.specs.RenameObject.{RenameTerms, RenameObject, IsRecent, ShowsConflict, ShowsSole}
 use Rattle.run_checker.specs.declared.names.Names.{Names}
 use Rattle.run_checker.specs.declared.standing.Standing.{Standing}
 use Rattle.run_checker.specs.declared.standing.Turn.{Turn}
 use Rattle.run_checker.specs.Moments.{crowded, SomeSince}
-use Rattle.run_checker.specs.Rows.{HasPair, LacksPair, IsRowOf, TellsMoments}
+use Rattle.run_checker.specs.Rows.{HasPair, LacksPair, IsRowOf, TellsMoments, TellsSince}
 use Rattle.run_checker.specs.Standing.{number_told, told_in, HoldsNames, turns_in}
 use Rattle.run_checker.proofs.Crowds.{number_some, some_number}
-use Rattle.run_checker.proofs.Deciding.{recent, since_of_recent, conflicts, crowds}
+use Rattle.run_checker.proofs.Deciding.{recent, since_of_recent, conflicts, crowds, sole, quiet, own_is}
 
 -- no identity of a rising list comes again
 above_all : (n : ℕ) (xs : List (ℕ × ℕ)) (j : ℕ) (d : ℕ × ℕ) → IsAbove n xs → IsRising xs → j < length xs → n < (get_or xs j d).0
@@ -122,21 +122,51 @@ row_tells terms s o h view row r i l rises = (
   (λ e. record { rising = rises; values = (λ q. r.says q ∙ ap (λ x. told_in x (turns_in s.participants.items q)) (sym e) ∙ sym (h.turns.shown i l q)) }),
 )
 
--- a view that rises and has a row shows a conflict exactly where the row was seen and is crowded
+-- what a row that is found of a view tells of one who has begun and proposed
 module _ (terms : RenameTerms) (s : Names) (o : RenameObject) (p : ℕ) (st : Standing) (h : HoldsNames terms s o) (is : program_of p s.participants.items ≡ Some st) (some : 1 ≤ o.count p)
-    (view : List (ℕ × ℕ)) (rises : IsRising view) where
-  pub shows : (row : List ℕ) → TellsMoments o h.turns.rows view (Some row) → SomeSince (λ i. h.turns.rows i ≡ row) st.turn.since o.last → crowded st.turn.number row ≡ true → ShowsConflict o p view
-  shows row tells k crowd = record {
-    index = k.index;
-    recent = recent terms s o p st h is some k.index k.no_earlier k.no_later;
-    is = (tells k.index k.no_later rises).1 k.passes;
-    conflict = conflicts terms s o p st h is some k.index k.no_earlier k.no_later (ap (crowded st.turn.number) k.passes ∙ crowd);
-  }
+    (view : List (ℕ × ℕ)) where
+  moment_since : (i : ℕ) → IsRecent o p i → IsMoment view (o.moment i) → SomeSince (λ j. IsMoment view (o.moment j)) st.turn.since o.last
+  moment_since i r m = record { index = i; no_earlier = since_of_recent terms s o p st h is some i r; no_later = r.no_later; passes = m }
 
-  pub was_shown : (row : List ℕ) → TellsMoments o h.turns.rows view (Some row) → ShowsConflict o p view → SomeSince (λ i. h.turns.rows i ≡ row) st.turn.since o.last × (crowded st.turn.number row ≡ true)
-  was_shown row tells c =
-      let from = since_of_recent terms s o p st h is some c.index c.recent in
-      let same = (tells c.index c.recent.no_later rises).0 c.is in (
-        record { index = c.index; no_earlier = from; no_later = c.recent.no_later; passes = same },
-        ap (crowded st.turn.number) (sym same) ∙ crowds terms s o p st h is some c.index from c.recent.no_later c.conflict,
-      )
+  pub no_conflict : TellsSince o h.turns.rows st.turn.since view None → ShowsConflict o p view → ⊥
+  no_conflict none c = none (moment_since c.index c.recent c.is)
+
+  pub no_sole : (n : ℕ) → TellsSince o h.turns.rows st.turn.since view None → ShowsSole o p n view → ⊥
+  no_sole n none c = none (moment_since c.index c.recent c.is)
+
+  -- it is the last proposal that is seen
+  pub sole_number : (n : ℕ) → ShowsSole o p n view → st.turn.number ≡ n
+  sole_number n c =
+      let e : Some st.turn.number ≡ Some n = sym (own_is terms s o p st h is some c.index (since_of_recent terms s o p st h is some c.index c.recent) c.recent.no_later) ∙ c.sole.own in
+      cc
+
+  module _ (row : List ℕ) (tells : TellsSince o h.turns.rows st.turn.since view (Some row)) where
+    pub shows : crowded st.turn.number row ≡ true → ShowsConflict o p view
+    shows crowd =
+        let k = tells.0 in
+        record {
+          index = k.index;
+          recent = recent terms s o p st h is some k.index k.no_earlier k.no_later;
+          is = k.passes;
+          conflict = conflicts terms s o p st h is some k.index k.no_earlier k.no_later (ap (crowded st.turn.number) (tells.1 k.index k.no_later k.passes) ∙ crowd);
+        }
+
+    pub was_shown : ShowsConflict o p view → crowded st.turn.number row ≡ true
+    was_shown c =
+        let from = since_of_recent terms s o p st h is some c.index c.recent in
+        ap (crowded st.turn.number) (sym (tells.1 c.index c.recent.no_later c.is)) ∙ crowds terms s o p st h is some c.index from c.recent.no_later c.conflict
+
+    pub shows_alone : crowded st.turn.number row ≡ false → ShowsSole o p st.turn.number view
+    shows_alone calm =
+        let k = tells.0 in
+        record {
+          index = k.index;
+          recent = recent terms s o p st h is some k.index k.no_earlier k.no_later;
+          is = k.passes;
+          sole = sole terms s o p st h is some k.index k.no_earlier k.no_later (ap (crowded st.turn.number) (tells.1 k.index k.no_later k.passes) ∙ calm);
+        }
+
+    pub was_alone : ShowsSole o p st.turn.number view → crowded st.turn.number row ≡ false
+    was_alone c =
+        let from = since_of_recent terms s o p st h is some c.index c.recent in
+        ap (crowded st.turn.number) (sym (tells.1 c.index c.recent.no_later c.is)) ∙ quiet terms s o p st h is some c.index from c.recent.no_later c.sole

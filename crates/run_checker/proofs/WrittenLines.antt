@@ -1,5 +1,5 @@
 -- a record, as it is written, is a header and a line for each exchange, which says it
-use Rattle.std.proofs.Common.{◌≡◌, ℕ, ◌+◌, ◌^◌, ◌<◌, ◌≤◌, true, List, [], ◌∷◌, ◌++◌, length, map, flat_map, codes, decimal, IsUtf8, refl, sym, ap, ◌∙◌, arith, append_assoc, length-append, suc}
+use Rattle.std.proofs.Common.{◌≡◌, ℕ, ◌+◌, ◌^◌, ◌<◌, ◌≤◌, true, false, List, [], ◌∷◌, ◌++◌, length, map, flat_map, Option, Some, None, option_and_then, codes, decimal, IsUtf8, refl, sym, ap, ◌∙◌, arith, append_assoc, length-append, suc}
 use Rattle.std.proofs.lemmas.List.{length-map}
 use Rattle.std.specs.List.{list_all}
 use Rattle.std.proofs.lemmas.Str.{IsUtf8-append}
@@ -16,7 +16,10 @@ use Rattle.schedule_player.specs.Records.{world_name, header_line, exchange_line
 use Rattle.schedule_player.specs.Replies.{reply_words}
 use Rattle.schedule_player.specs.Turns.{Turn, exchanges}
 use Rattle.schedule_player.specs.Turns.Turn.{Answered, Told, Ended, Misread}
+use Rattle.run_checker.specs.declared.header.Version.TheVariants.{One}
 use Rattle.run_checker.specs.declared.line.Line.{Line}
+use Rattle.run_checker.specs.declared.told.Told.{Told as Words}
+use Rattle.run_checker.specs.ReplyText.{told_with}
 use Rattle.run_checker.specs.declared.verdict.Verdict.TheVariants.{Yes}
 use Rattle.run_checker.specs.Config.{terms_of}
 use Rattle.run_checker.specs.Json.{SaysSizes}
@@ -26,6 +29,7 @@ use Rattle.run_checker.specs.RecordLine.{IsEventLine, IsHeaderLine}
 use Rattle.run_checker.specs.Recorded.{IsRecordOf}
 use Rattle.run_checker.specs.Verdict.{record_lines, AreRead, IsSaidAfter}
 use Rattle.run_checker.proofs.Pieces.{lines_cut}
+use Rattle.run_checker.proofs.RecordRuns.{lines_of_all}
 use Rattle.run_checker.proofs.WrittenTexts.{is_plain, line_data, line_text, header_data, header_text, read_line_text, read_header_text, plain_utf8}
 use Rattle.run_checker.proofs.WrittenWords.{IsNarrowEvent, IsNarrowReply, event_means, event_plain, event_short, plain_decimal, plain_has_no_lf, short_decimal, no_lf_both}
 use Rattle.run_checker.proofs.WrittenReplies.{reply_tells, reply_plain, reply_short}
@@ -79,7 +83,7 @@ module _ (c r : List ℕ) (hc : list_all is_plain c ≡ true) (hr : list_all is_
 
 -- the line of an exchange says it
 module _ (kind : WorldKind) (desk : has_desk kind ≡ true) where
-  row_says : (x : Exchange) → IsNarrowEvent x.event → IsNarrowReply x.reply → IsEventLine kind (row_of x) (line_of x)
+  row_says : (x : Exchange) → IsNarrowEvent x.event → IsNarrowReply x.reply → IsEventLine kind One (row_of x) (line_of false x)
   row_says x e r =
       let asked = event_words x.event in
       let replied = reply_words x.reply in
@@ -92,13 +96,14 @@ module _ (kind : WorldKind) (desk : has_desk kind ≡ true) where
         says = record {
           asked = asked;
           replied = replied;
-          texts = record { keys = refl; command_is = refl; reply_is = refl };
+          shown = None;
+          texts = record { keys = refl; command_is = refl; reply_is = refl; view_is = tt };
           event_is = event_means kind desk x.event e;
-          told_is = reply_tells x.reply r;
+          told_is = ap (λ (o : Option Words). option_and_then (λ t. told_with One t None) o) (reply_tells x.reply r);
         };
       }
 
-  rows_read : (r : List Exchange) → AreNarrowExchanges r → AreRead kind (map row_of r) (map line_of r)
+  rows_read : (r : List Exchange) → AreNarrowExchanges r → AreRead kind One (map row_of r) (map (line_of false) r)
   rows_read [] h = tt
   rows_read (x ∷ xs) h = (row_says x h.0 h.1, rows_read xs h.2)
 
@@ -107,7 +112,7 @@ rows_no_lf [] h = refl
 rows_no_lf (x ∷ xs) h = rw (line_no_lf (event_words x.event) (reply_words x.reply) (event_plain x.event h.0) (reply_plain x.reply h.1)) (rows_no_lf xs h.2)
 
 -- the header says the config
-sizes_said : (kind : WorldKind) (m k limit : ℕ) → gives_names kind ≡ true → SaysSizes (header_data k limit m (world_name kind)) kind m k limit
+sizes_said : (kind : WorldKind) (m k limit : ℕ) → gives_names kind ≡ true → SaysSizes (header_data k limit m (world_name kind)) One kind m k limit
 sizes_said Splitter m k limit h = absurd cc
 sizes_said Grid m k limit h = absurd cc
 sizes_said Rename m k limit h = record { format = record { keys = refl; format = refl; version = refl }; world_is = refl; m_is = refl; k_is = refl; limit_is = refl }
@@ -183,7 +188,7 @@ module _ (c : Config) (named : gives_names c.world ≡ true) where
   head_no_lf : has_no_lf (head_of c) ≡ true
   head_no_lf = header_no_lf c.k c.limit c.m (world_name c.world) k_fits limit_fits m_fits (name_plain c.world)
 
-  head_says : IsHeaderLine (head_of c) c
+  head_says : IsHeaderLine (head_of c) (record { version = One; config = c })
   head_says = record {
     short = omega (arith, header_length c.k c.limit c.m (world_name c.world) k_fits limit_fits m_fits (name_plain c.world), name_short c.world);
     value = header_data c.k c.limit c.m (world_name c.world);
@@ -191,7 +196,7 @@ module _ (c : Config) (named : gives_names c.world ≡ true) where
       utf8 = header_utf8 c.k c.limit c.m (world_name c.world) k_fits limit_fits m_fits (name_plain c.world);
       reads = read_header_text c.k c.limit c.m (world_name c.world) k_fits limit_fits m_fits (name_plain c.world);
     };
-    says = sizes_said c.world c.m c.k c.limit named;
+    says = record { sizes = sizes_said c.world c.m c.k c.limit named; fits = (let h = c.in_range.1 in omega arith) };
   }
 
 -- the bytes are these lines, each with its LF
@@ -222,7 +227,7 @@ module _ (c : Config) (named : gives_names c.world ≡ true) (ts : List Turn) (n
   }
 
 -- as many rows are read as lines
-read_length : (kind : WorldKind) (rows : List (List ℕ)) (ls : List Line) → AreRead kind rows ls → length rows ≡ length ls
+read_length : (kind : WorldKind) (rows : List (List ℕ)) (ls : List Line) → AreRead kind One rows ls → length rows ≡ length ls
 read_length kind [] [] r = refl
 read_length kind [] (l ∷ ls) r = absurd r
 read_length kind (row ∷ rows) [] r = absurd r
@@ -234,12 +239,12 @@ record_said c r bytes b run few = record {
   head = b.head;
   rows = b.rows;
   is = b.is;
-  config = c;
-  header = b.header;
+  header = record { version = One; config = c };
+  says = b.header;
   said = record {
-    lines = map line_of r;
+    lines = map (line_of false) r;
     read = b.read;
-    few = omega (arith, read_length c.world b.rows (map line_of r) b.read, length-map r line_of);
-    run = record { exchanges = r; spelled = refl; run = run };
+    few = omega (arith, read_length c.world b.rows (map (line_of false) r) b.read, length-map r (line_of false));
+    run = record { exchanges = r; spelled = lines_of_all false r; run = run };
   };
 }

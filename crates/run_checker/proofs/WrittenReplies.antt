@@ -1,5 +1,5 @@
 -- the words of replies, as they are written, tell them
-use Rattle.std.proofs.Common.{◌≡◌, ℕ, ◌*◌, ◌^◌, ◌<◌, ◌≤◌, true, List, [], ◌∷◌, ◌++◌, length, map, Some, option_map, codes, decimal, refl, ap, ◌∙◌, arith, append_assoc, length-append}
+use Rattle.std.proofs.Common.{◌≡◌, ℕ, ◌*◌, ◌^◌, ◌<◌, ◌≤◌, true, false, List, [], ◌∷◌, ◌++◌, length, map, Some, option_map, codes, decimal, refl, ap, ◌∙◌, arith, append_assoc, length-append}
 use Rattle.std.specs.List.{list_all}
 use Rattle.std.proofs.lemmas.Bool.{lt-ltb}
 use Rattle.std.proofs.lemmas.Fmt.{length-decimal-le_wide}
@@ -67,7 +67,7 @@ refusal_small HistoryFull = omega arith
 refusal_small OutOfRange = omega arith
 
 -- the words of a reply tell it
-pub reply_tells : (r : Reply) → IsNarrowReply r → told_in (reply_words r) ≡ Some (told_of r)
+pub reply_tells : (r : Reply) → IsNarrowReply r → told_in (reply_words r) ≡ Some (told_of false r)
 reply_tells reply.Ok h = refl
 reply_tells reply.Quiet h = refl
 reply_tells reply.Stop h = refl

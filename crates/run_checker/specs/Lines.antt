@@ -1,5 +1,5 @@
 -- what lines a record has of exchanges, and when lines are those of a run
-use Rattle.std.specs.Prelude.{◌≡◌, ℕ, List, [], map, Ok}
+use Rattle.std.specs.Prelude.{◌≡◌, ℕ, Bool, true, false, List, [], ◌∷◌, Option, Some, None, Ok}
 use Rattle.step_memory.specs.Calls.Call.{Began, Stepped}
 use Rattle.step_memory.specs.Refusal.{refusal_number}
 use Rattle.step_memory.specs.Runs.{Run}
@@ -21,43 +21,60 @@ use Rattle.run_checker.specs.declared.told.Told.TheVariants as told
 use Rattle.run_checker.specs.declared.told.Told.TheVariants.{Ok as Accepted, Place, Proposed, Named, Spent, Missed, Got, Left}
 use Rattle.run_checker.specs.ObjectRun.{DeskObject, fresh_desk_object, AllowsCall, after_call, IsObjectRun}
 
--- how a reply is told: the view by which a name was given is left out
-abbrev pub told_of : Reply → Told
-told_of reply.Ok = told.Ok
-told_of reply.Quiet = told.Quiet
-told_of reply.Stop = told.Stop
-told_of reply.Right = told.Right
-told_of reply.Down = told.Down
-told_of (reply.Place place) = told.Place place
-told_of (reply.Proposed number) = told.Proposed number
-told_of (reply.Saw view) = told.Saw view
-told_of (reply.Named name view) = told.Named name
-told_of reply.Spent = told.Spent
-told_of reply.Missed = told.Missed
-told_of (reply.Got number) = told.Got number
-told_of (reply.Left number) = told.Left number
-told_of (reply.Value value) = told.Value value
-told_of (reply.Owner owner) = told.Owner owner
-told_of (reply.Refused why) = told.Refused (refusal_number why)
+-- the view by which a name was given, where it is shown
+abbrev pub shown_where : Bool → List (ℕ × ℕ) → Option (List (ℕ × ℕ))
+shown_where true view = Some view
+shown_where false view = None
+
+-- how a reply is told: the view by which a name was given is shown or left out
+abbrev pub told_of : Bool → Reply → Told
+told_of shows reply.Ok = told.Ok
+told_of shows reply.Quiet = told.Quiet
+told_of shows reply.Stop = told.Stop
+told_of shows reply.Right = told.Right
+told_of shows reply.Down = told.Down
+told_of shows (reply.Place place) = told.Place place
+told_of shows (reply.Proposed number) = told.Proposed number
+told_of shows (reply.Saw view) = told.Saw view
+told_of shows (reply.Named name view) = told.Named name (shown_where shows view)
+told_of shows reply.Spent = told.Spent
+told_of shows reply.Missed = told.Missed
+told_of shows (reply.Got number) = told.Got number
+told_of shows (reply.Left number) = told.Left number
+told_of shows (reply.Value value) = told.Value value
+told_of shows (reply.Owner owner) = told.Owner owner
+told_of shows (reply.Refused why) = told.Refused (refusal_number why)
 
 abbrev pub line : Event → Told → Line
 line e t = record { event = e; told = t }
 
--- the line of an exchange
-abbrev pub line_of : Exchange → Line
-line_of x = line x.event (told_of x.reply)
+-- the line of an exchange, with the view by which a name was given or without it
+abbrev pub line_of : Bool → Exchange → Line
+line_of shows x = line x.event (told_of shows x.reply)
+
+-- a line is that of an exchange, told in full or without the view by which a name was given
+pub record IsLineOf (x : Exchange) (l : Line) : Type 0 where
+  pub shows : Bool
+  pub spelled : line_of shows x ≡ l
+
+-- line by line
+abbrev pub AreLinesOf : List Exchange → List Line → Type 0
+AreLinesOf [] [] = Unit {0}
+AreLinesOf [] (l ∷ lines) = ⊥
+AreLinesOf (x ∷ exchanges) [] = ⊥
+AreLinesOf (x ∷ exchanges) (l ∷ lines) = IsLineOf x l × AreLinesOf exchanges lines
 
 -- lines are those of a run where there is a choice of the views that are not written with which they are the lines of
 -- exchanges that the objects can make
 pub record AreLinesOfRun (terms : RenameTerms) (size : ℕ) (lines : List Line) : Type 0 where
   pub exchanges : List Exchange
-  pub spelled : map line_of exchanges ≡ lines
+  pub spelled : AreLinesOf exchanges lines
   pub run : IsObjectRun terms size exchanges
 
 -- the same, line by line: a line can follow where it is that of a call to which the objects may give its reply
 pub record CanFollow (terms : RenameTerms) (o : DeskObject) (l : Line) : Type 0 where
   pub call : DeskCall
-  pub spelled : line_of (exchange_of call) ≡ l
+  pub spelled : IsLineOf (exchange_of call) l
   pub allowed : AllowsCall terms o call
 
 -- the objects after an event with what is told of its reply
@@ -65,7 +82,7 @@ abbrev pub after_told : DeskObject → Event → Told → DeskObject
 after_told o (Begin p) Accepted = after_call o (Renamed (Began p (Ok tt)))
 after_told o (Step p) (Place place) = after_call o (Renamed (Stepped p (Ok (step.Placed place))))
 after_told o (Step p) (Proposed number) = after_call o (Renamed (Stepped p (Ok (step.Proposed number))))
-after_told o (Step p) (Named name) = after_call o (Renamed (Stepped p (Ok (step.Named name []))))
+after_told o (Step p) (Named name shown) = after_call o (Renamed (Stepped p (Ok (step.Named name []))))
 after_told o (Step p) Spent = after_call o (Renamed (Stepped p (Ok step.Spent)))
 after_told o (Enter p) Accepted = after_call o (Slotted (Pooled (Entered p (Ok tt))))
 after_told o (Probe p) Missed = after_call o (Slotted (Pooled (Probed p (Ok probe.Missed))))

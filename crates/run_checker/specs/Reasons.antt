@@ -69,16 +69,22 @@ ShowsWhatWas o p (Saw view) = ShowsConflict o p view
 ShowsWhatWas o p Spent = HasConflict o p
 ShowsWhatWas o p t = Unit {0}
 
--- the identity has proposed this number last, in some moment since then no other proposes it, and it is no one's name and at
--- most 2b - 1
-pub record MayBeNamed (o : RenameObject) (p n : ℕ) : Type 0 where
+-- the view is the one that is written, where one is
+abbrev pub IsWritten : Option (List (ℕ × ℕ)) → List (ℕ × ℕ) → Type 0
+IsWritten None view = Unit {0}
+IsWritten (Some shown) view = view ≡ shown
+
+-- the identity has proposed this number last, in some moment since then no other proposes it - in the one that is shown, where
+-- one is -, and it is no one's name and at most 2b - 1
+pub record MayBeNamed (o : RenameObject) (p n : ℕ) (shown : Option (List (ℕ × ℕ))) : Type 0 where
   pub view : List (ℕ × ℕ)
+  pub written : IsWritten shown view
   pub some : 1 ≤ o.count p
   pub shows : ShowsSole o p n view
   pub free : IsFreeName o n
 
 abbrev pub GivesFreeName : RenameObject → ℕ → Told → Type 0
-GivesFreeName o p (Named name) = MayBeNamed o p name
+GivesFreeName o p (Named name shown) = MayBeNamed o p name shown
 GivesFreeName o p t = Unit {0}
 
 -- a number is got that is free; not each probe of a stay is missed, by the present size; the number that is held is given back;

@@ -4,6 +4,8 @@ use Rattle.std.specs.Prelude.{ℕ, ◌+◌, ◌^◌, ◌==◌, nat_lt, if◌then
 use Rattle.std.specs.List.{list_all}
 use Rattle.schedule_player.specs.Lines.{pieces_from}
 use Rattle.schedule_player.specs.Meaning.{words, is_digit, decimal_from, same_bytes}
+use Rattle.run_checker.specs.declared.header.Version.{Version}
+use Rattle.run_checker.specs.declared.header.Version.TheVariants.{One, Two}
 use Rattle.run_checker.specs.declared.told.Told.{Told}
 use Rattle.run_checker.specs.declared.told.Told.TheVariants.{Ok, Quiet, Stop, Right, Down, Place, Proposed, Saw, Named, Spent, Missed, Got, Left, Value, Owner, Refused}
 
@@ -45,6 +47,10 @@ abbrev pub pairs_after : ℕ → List (List ℕ) → Option (List (ℕ × ℕ))
 pairs_after above [] = Some []
 pairs_after above (word ∷ more) = option_and_then (λ pair. option_map (λ pairs. pair ∷ pairs) (pairs_after pair.0 more)) (pair_after above (pair_in word))
 
+-- the pairs that a text writes
+abbrev pub pairs_in : List ℕ → Option (List (ℕ × ℕ))
+pairs_in text = pairs_after 0 (words text)
+
 -- a view has one pair or more, and no identity is 0
 abbrev pub saw_of : List (List ℕ) → Option Told
 saw_of [] = None
@@ -70,7 +76,7 @@ abbrev pub word_with : List ℕ → List ℕ → Option Told
 word_with word other =
     if same_bytes word (codes "place") then option_map Place (number_below (2 ^ 128) other)
     else if same_bytes word (codes "proposed") then option_map Proposed (number_of other)
-    else if same_bytes word (codes "named") then option_map Named (number_of other)
+    else if same_bytes word (codes "named") then option_map (λ name. Named name None) (number_of other)
     else if same_bytes word (codes "got") then option_map Got (number_of other)
     else if same_bytes word (codes "left") then option_map Left (number_of other)
     else if same_bytes word (codes "value") then option_map Value (number_of other)
@@ -90,6 +96,19 @@ told_of_words (word ∷ others) = if same_bytes word (codes "saw") then saw_of o
 -- the reply that a text tells, without its LF
 abbrev pub told_in : List ℕ → Option Told
 told_in text = told_of_words (words text)
+
+-- what is told of a reply, with the view that is written beside it: in version 2 of each name, and of nothing else
+abbrev pub told_with : Version → Told → Option (List ℕ) → Option Told
+told_with One t None = Some t
+told_with One t (Some text) = None
+told_with Two (Named name shown) None = None
+told_with Two (Named name shown) (Some text) = option_map (λ view. Named name (Some view)) (pairs_in text)
+told_with Two t None = Some t
+told_with Two t (Some text) = None
+
+-- what these texts tell of a reply
+abbrev pub told_by : Version → List ℕ → Option (List ℕ) → Option Told
+told_by version text shown = option_and_then (λ t. told_with version t shown) (told_in text)
 
 -- the pieces of the bytes that are left, none where nothing follows a separator
 abbrev pub pieces_left : ℕ → Option (List ℕ) → List (List ℕ)

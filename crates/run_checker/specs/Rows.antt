@@ -1,9 +1,10 @@
 -- the row that a view is
-use Rattle.std.specs.Prelude.{◌≡◌, ℕ, ◌<◌, ◌≤◌, ◌↔◌, List, length, Option, Some, slice_index, MatchOption}
+use Rattle.std.specs.Prelude.{◌≡◌, ℕ, ◌<◌, ◌≤◌, ◌↔◌, List, length, Option, Some, None, slice_index, MatchOption}
 use Rattle.step_memory.specs.View.{IsRising, value_of}
 use Rattle.snapshot_core.specs.Snapshot.{IsMoment}
 use Rattle.rename_core.specs.RenameObject.{RenameObject}
 use Rattle.run_checker.specs.declared.standing.Turn.{Turn}
+use Rattle.run_checker.specs.Moments.{SomeSince}
 use Rattle.run_checker.specs.Standing.{told_in}
 
 -- an identity has this seat, and the number is one that is proposed
@@ -28,3 +29,9 @@ pub record IsRowOf (turns : ℕ → Option Turn) (many : ℕ) (view : List (ℕ 
 abbrev pub TellsMoments : RenameObject → (ℕ → List ℕ) → List (ℕ × ℕ) → Option (List ℕ) → Type 0
 TellsMoments o rows view found =
     (i : ℕ) → i ≤ o.last → IsRising view → MatchOption found (IsMoment view (o.moment i) → ⊥) (λ row. IsMoment view (o.moment i) ↔ (rows i ≡ row))
+
+-- a view was a moment since then exactly where its row is found, which is that of any such moment
+abbrev pub TellsSince : RenameObject → (ℕ → List ℕ) → ℕ → List (ℕ × ℕ) → Option (List ℕ) → Type 0
+TellsSince o rows since view None = SomeSince (λ i. IsMoment view (o.moment i)) since o.last → ⊥
+TellsSince o rows since view (Some row) =
+    SomeSince (λ i. IsMoment view (o.moment i)) since o.last × ((i : ℕ) → i ≤ o.last → IsMoment view (o.moment i) → rows i ≡ row)

@@ -1,8 +1,9 @@
 -- what is said of a record
 use Rattle.std.specs.Prelude.{◌≡◌, ◌⊎◌, ℕ, ◌+◌, ◌<◌, ◌≤◌, List, [], ◌∷◌, ◌++◌, length, Option, Some, None}
 use Rattle.schedule_player.specs.Lines.{pieces_from, unless_empty}
-use Rattle.rename_core.specs.declared.config.Config.{Config}
 use Rattle.rename_core.specs.declared.config.WorldKind.{WorldKind}
+use Rattle.run_checker.specs.declared.header.Header.{Header}
+use Rattle.run_checker.specs.declared.header.Version.{Version}
 use Rattle.run_checker.specs.declared.line.Line.{Line}
 use Rattle.run_checker.specs.declared.reason.Reason.{Reason}
 use Rattle.run_checker.specs.declared.verdict.Verdict.{Verdict}
@@ -31,67 +32,67 @@ lines_left None = []
 lines_left (Some bytes) = record_lines bytes
 
 -- rows are read as these lines, one by one
-abbrev pub AreRead : WorldKind → List (List ℕ) → List Line → Type 0
-AreRead kind [] [] = Unit {0}
-AreRead kind [] (l ∷ ls) = ⊥
-AreRead kind (row ∷ rows) [] = ⊥
-AreRead kind (row ∷ rows) (l ∷ ls) = IsEventLine kind row l × AreRead kind rows ls
+abbrev pub AreRead : WorldKind → Version → List (List ℕ) → List Line → Type 0
+AreRead kind version [] [] = Unit {0}
+AreRead kind version [] (l ∷ ls) = ⊥
+AreRead kind version (row ∷ rows) [] = ⊥
+AreRead kind version (row ∷ rows) (l ∷ ls) = IsEventLine kind version row l × AreRead kind version rows ls
 
--- the event lines of a record spell a run of this config, and there are at most a million
-pub record SpellRun (c : Config) (rows : List (List ℕ)) : Type 0 where
+-- the event lines of a record spell a run of this header, and there are at most a million
+pub record SpellRun (h : Header) (rows : List (List ℕ)) : Type 0 where
   pub lines : List Line
-  pub read : AreRead c.world rows lines
+  pub read : AreRead h.config.world h.version rows lines
   pub few : length rows ≤ 1000000
-  pub run : AreLinesOfRun (terms_of c) c.k lines
+  pub run : AreLinesOfRun (terms_of h.config) h.config.k lines
 
 -- the line of this number is the first at fault: those before it are read and follow one another, and this is the least reason
 -- for which it can't
-pub record IsFaultyRow (c : Config) (rows : List (List ℕ)) (number : ℕ) (why : Reason) : Type 0 where
+pub record IsFaultyRow (h : Header) (rows : List (List ℕ)) (number : ℕ) (why : Reason) : Type 0 where
   pub before : List (List ℕ)
   pub row : List ℕ
   pub after : List (List ℕ)
   pub is : before ++ row ∷ after ≡ rows
   pub lines : List Line
-  pub read : AreRead c.world before lines
+  pub read : AreRead h.config.world h.version before lines
   pub few : length before < 1000000
   pub line : Line
-  pub says : IsEventLine c.world row line
-  pub fault : IsFaultAfter (terms_of c) c.k lines line why
+  pub says : IsEventLine h.config.world h.version row line
+  pub fault : IsFaultAfter (terms_of h.config) h.config.k lines line why
   pub at : number ≡ length before + 2
 
 -- the line of this number is the first that is none: those before it are read and follow one another, and it says no event, or
 -- a million were before it
-pub record IsBadRow (c : Config) (rows : List (List ℕ)) (number : ℕ) : Type 0 where
+pub record IsBadRow (h : Header) (rows : List (List ℕ)) (number : ℕ) : Type 0 where
   pub before : List (List ℕ)
   pub row : List ℕ
   pub after : List (List ℕ)
   pub is : before ++ row ∷ after ≡ rows
   pub lines : List Line
-  pub read : AreRead c.world before lines
-  pub run : AreLinesOfRun (terms_of c) c.k lines
-  pub bad : length before < 1000000 → (l : Line) → IsEventLine c.world row l → ⊥
+  pub read : AreRead h.config.world h.version before lines
+  pub run : AreLinesOfRun (terms_of h.config) h.config.k lines
+  pub bad : length before < 1000000 → (l : Line) → IsEventLine h.config.world h.version row l → ⊥
   pub at : number ≡ length before + 2
 
 -- what is said of the event lines
-abbrev pub IsSaidOfRows : Config → List (List ℕ) → Verdict → Type 0
-IsSaidOfRows c rows Yes = SpellRun c rows
-IsSaidOfRows c rows (No number why) = IsFaultyRow c rows number why
-IsSaidOfRows c rows (BadRecord number) = IsBadRow c rows number
-IsSaidOfRows c rows NoMemory = ⊥
+abbrev pub IsSaidOfRows : Header → List (List ℕ) → Verdict → Type 0
+IsSaidOfRows h rows Yes = SpellRun h rows
+IsSaidOfRows h rows (No number why) = IsFaultyRow h rows number why
+IsSaidOfRows h rows (BadRecord number) = IsBadRow h rows number
+IsSaidOfRows h rows NoMemory = ⊥
 
 -- the first line is a header, and this is said of the others
 pub record IsSaidAfter (lines : List (List ℕ)) (v : Verdict) : Type 0 where
   pub head : List ℕ
   pub rows : List (List ℕ)
   pub is : lines ≡ head ∷ rows
-  pub config : Config
-  pub header : IsHeaderLine head config
-  pub said : IsSaidOfRows config rows v
+  pub header : Header
+  pub says : IsHeaderLine head header
+  pub said : IsSaidOfRows header rows v
 
 -- the first line is no header, or there is none
 abbrev pub LacksHeader : List (List ℕ) → Type 0
 LacksHeader [] = Unit {0}
-LacksHeader (head ∷ rows) = (c : Config) → IsHeaderLine head c → ⊥
+LacksHeader (head ∷ rows) = (h : Header) → IsHeaderLine head h → ⊥
 
 -- what is said of the lines of a record
 abbrev pub IsSaid : List (List ℕ) → Verdict → Type 0

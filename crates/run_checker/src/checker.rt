@@ -1,6 +1,7 @@
 //! Judges lines one after the other.
 
 ghost use Rattle.std.specs.Prelude.{◌≡◌, ℕ, ◌+◌, ◌*◌, ◌<◌, ◌≤◌, ◌^◌, ◌&&◌, true, List, [], length, None, Ok, Err, IfOk};
+ghost use Rattle.std.specs.Option.{option_copied};
 ghost use Rattle.step_memory.specs.declared.refusal.Refusal.{Refusal};
 ghost use Rattle.rename_core.specs.RenameObject.{RenameTerms, no_begin, no_step};
 ghost use Rattle.bit_allocator.specs.PoolObject.{no_entry, no_probe, number_in};
@@ -138,10 +139,10 @@ impl Checker {
     }
 
     /// A participant that may step is told a name.
-    fn name(&mut self, id: u64, name: u64) -> Result<(), Fault>
-        ensures { Judges (MayStep id) self.old (line (event.Step id) (told.Named name)) result self.new }
+    fn name(&mut self, id: u64, name: u64, shown: Option<&Pairs>) -> Result<(), Fault>
+        ensures { Judges (MayStep id) self.old (line (event.Step id) (told.Named name (option_copied shown))) result self.new }
     {
-        if !self.names.may_name(id, name) {
+        if !self.names.may_name(id, name, shown) {
             return Err(Fault::Unlawful(Reason::Name));
         }
         self.names.name(id, name);
@@ -246,7 +247,7 @@ impl Checker {
             Told::Place(place) => self.place(id, *place),
             Told::Proposed(number) => self.propose(id, *number),
             Told::Saw(view) => self.see(id, view),
-            Told::Named(name) => self.name(id, *name),
+            Told::Named(name, shown) => self.name(id, *name, shown.as_ref()),
             Told::Spent => self.spend(id),
             _ => Ok(()),
         }

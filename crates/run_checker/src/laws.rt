@@ -1,6 +1,6 @@
 //! What the verdicts stand on.
 
-ghost use Rattle.std.specs.Prelude.{◌↔◌, ◌∷◌, ◌++◌, ℕ, List, map};
+ghost use Rattle.std.specs.Prelude.{◌↔◌, ◌∷◌, ◌++◌, ℕ, Bool, List, map};
 ghost use Rattle.snapshot_core.specs.Snapshot.{SnapBounds};
 ghost use Rattle.rename_core.specs.RenameObject.{RenameTerms};
 ghost use Rattle.rename_core.specs.declared.config.Config.{Config};
@@ -36,12 +36,12 @@ pub fn law_of_records()
 {}
 
 /// A law, which runs nothing: the exchanges of a desk's run, which also keeps its counts of steps, are ones that the objects can
-/// make; so their lines are those of a run.
+/// make; so their lines are those of a run, with the views by which names were given or without them.
 pub fn law_of_desk_runs()
     ensures object { (terms : RenameTerms) (bounds : SnapBounds) (size : ℕ) (r : List Exchange) →
         IsDeskRun terms bounds size r → IsObjectRun terms size r }
     ensures lines { (terms : RenameTerms) (bounds : SnapBounds) (size : ℕ) (r : List Exchange) →
-        IsDeskRun terms bounds size r → AreLinesOfRun terms size (map line_of r) }
+        IsDeskRun terms bounds size r → (shows : Bool) → AreLinesOfRun terms size (map (line_of shows) r) }
 {}
 
 /// A law, which runs nothing, of the worlds with names: the record of a talk to what some lines ask, with at most a million events,

@@ -33,6 +33,7 @@
 
 pub mod checker;
 mod fault;
+pub mod header;
 pub mod laws;
 pub mod line;
 pub mod lines;
@@ -53,6 +54,7 @@ pub mod verdict;
 mod words;
 
 pub use checker::Checker;
+pub use header::{Header, Version};
 pub use laws::{
     law_of_desk_runs, law_of_reasons, law_of_recorded_talks, law_of_recording, law_of_records,
 };
@@ -71,5 +73,7 @@ mod record_tests;
 mod recording_tests;
 #[cfg(test)]
 mod tests;
+#[cfg(test)]
+mod version_tests;
 #[cfg(test)]
 mod worked_runs_tests;

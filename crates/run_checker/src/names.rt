@@ -5,14 +5,16 @@ ghost use Rattle.std.specs.List.{list_any};
 ghost use Rattle.step_memory.specs.Calls.Call.{Began};
 ghost use Rattle.step_memory.specs.declared.participant.Participant.{Participant};
 ghost use Rattle.rename_core.specs.RenameObject.{RenameTerms, RenameObject, new_object, no_begin, no_step, after, after_step};
-ghost use Rattle.rename_core.specs.RenameObject.{IsFreePlace, MayPropose, HasConflict, ShowsConflict};
+ghost use Rattle.std.specs.Option.{option_copied};
+ghost use Rattle.rename_core.specs.RenameObject.{IsFreePlace, MayPropose, HasConflict, ShowsConflict, ShowsSole};
 ghost use Rattle.rename_core.specs.declared.reply.Reply.TheVariants as step;
 ghost use Rattle.step_memory.specs.View.{IsAbove, IsRising};
-ghost use Rattle.run_checker.specs.Rows.{HasPair, LacksPair, TellsMoments};
+ghost use Rattle.run_checker.specs.Rows.{HasPair, LacksPair, TellsMoments, TellsSince};
 ghost use Rattle.run_checker.specs.Standing.{is_held, turns_in, HoldsNames, OfNames, HoldsNone, proposed_by};
 ghost use Rattle.run_checker.specs.Reasons.{MayBeNamed};
 
 use crate::moments::{Moments, NUMBERS, Row, is_crowded, with_number};
+use crate::pairs::Pairs;
 use crate::people::{find, put};
 use crate::standing::{Standing, Turn};
 use std::alloc::{AllocError, Global};
@@ -306,6 +308,20 @@ impl Names {
         Some(row)
     }
 
+    /// The row of a view, where it is a moment from this one on.
+    fn row_since(&self, since: usize, view: &[(u64, u64)]) -> Option<Row>
+        ensures { (terms : RenameTerms) (o : RenameObject) → (h : HoldsNames terms self.now o) → TellsSince o h.turns.rows since view.now result }
+    {
+        if !is_rising(view) {
+            return None;
+        }
+        let row = self.row_of(view)?;
+        if !self.moments.has_shown(since, &row) {
+            return None;
+        }
+        Some(row)
+    }
+
     /// Whether a view is a moment since the last proposal of an identity that has made one, in which another proposes the
     /// same.
     pub fn shows_conflict(&self, id: u64, view: &[(u64, u64)]) -> bool
@@ -314,19 +330,35 @@ impl Names {
         let Some(standing) = find(&self.participants, id) else {
             return false;
         };
-        if !is_rising(view) {
-            return false;
+        let turn = standing.turn;
+        match self.row_since(turn.since, view) {
+            Some(row) => is_crowded(&row, turn.number),
+            None => false,
         }
-        let Some(row) = self.row_of(view) else {
+    }
+
+    /// Whether a view is a moment since the last proposal of an identity that has made one, in which it proposes this number
+    /// and no other does.
+    fn shows_sole(&self, id: u64, number: u64, view: &[(u64, u64)]) -> bool
+        ensures { (terms : RenameTerms) (o : RenameObject) → HoldsNames terms self.now o → 1 ≤ o.count id → IsTrue result ↔ ShowsSole o id number view.now }
+    {
+        let Some(standing) = find(&self.participants, id) else {
             return false;
         };
         let turn = standing.turn;
-        is_crowded(&row, turn.number) && self.moments.has_shown(turn.since, &row)
+        if u64::from(turn.number) != number {
+            return false;
+        }
+        match self.row_since(turn.since, view) {
+            Some(row) => !is_crowded(&row, turn.number),
+            None => false,
+        }
     }
 
-    /// Whether an identity that may step may be given a name.
-    pub fn may_name(&self, id: u64, name: u64) -> bool
-        ensures { (terms : RenameTerms) (o : RenameObject) → HoldsNames terms self.now o → no_step o id ≡ None → IsTrue result ↔ MayBeNamed o id name }
+    /// Whether an identity that may step may be given a name, by the view that is shown where one is.
+    pub fn may_name(&self, id: u64, name: u64, shown: Option<&Pairs>) -> bool
+        ensures { (terms : RenameTerms) (o : RenameObject) → HoldsNames terms self.now o → no_step o id ≡ None →
+            IsTrue result ↔ MayBeNamed o id name (option_copied shown) }
     {
         let Some(standing) = find(&self.participants, id) else {
             return false;
@@ -339,6 +371,9 @@ impl Names {
         if is_named(&self.participants, name) {
             return false;
         }
-        self.moments.was_quiet(turn.since, turn.number)
+        match shown {
+            Some(view) => self.shows_sole(id, name, view.as_slice()),
+            None => self.moments.was_quiet(turn.since, turn.number),
+        }
     }
 }

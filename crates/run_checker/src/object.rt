@@ -1,11 +1,14 @@
 //! The lines of a record as JSON values.
 
-ghost use Rattle.std.specs.Prelude.{◌≡◌, ℕ, List, MatchOption, option_map, Some, codes, IsTrue, ◌↔◌};
+ghost use Rattle.std.specs.Prelude.{◌≡◌, ℕ, List, MatchOption, Option, option_map, Some, codes};
+ghost use Rattle.std.specs.Option.{option_copied};
 ghost use Rattle.rename_core.specs.declared.config.WorldKind.{WorldKind};
-ghost use Rattle.rename_core.specs.declared.config.Config.{Config};
 ghost use Rattle.serde_json.specs.View.{view};
 ghost use Rattle.run_checker.specs.Json.{keys_of, text_at, number_at, world_in, AreTexts, HasFormat, SaysSizes, SaysNoSizes, IsHeader};
+ghost use Rattle.run_checker.specs.declared.header.Header.{Header};
+ghost use Rattle.run_checker.specs.declared.header.Version.{Version};
 
+use crate::header::{Header, Version};
 use crate::words::is_word;
 use rename_core::{Config, WorldKind};
 use serde_json::Value;
@@ -34,16 +37,37 @@ fn number(value: &Value, key: &str) -> Option<u64>
     value.get(key).and_then(Value::as_u64)
 }
 
-/// The command and the reply of an event's line.
-pub fn texts(value: &Value) -> Option<(&str, &str)>
-    ensures { MatchOption result ((c r : List ℕ) → AreTexts (view value.now) c r → ⊥) (λ t. AreTexts (view value.now) t.0.now t.1.now) }
+/// The texts of an event's line.
+#[derive(Clone, Copy, Debug, Drop)]
+pub struct LineTexts<'a> {
+    /// The command.
+    pub command: &'a str,
+    /// What it was answered.
+    pub reply: &'a str,
+    /// The view by which a name was given, where one is written.
+    pub view: Option<&'a str>,
+}
+
+/// The command, the reply and the view of an event's line.
+pub fn texts(value: &Value) -> Option<LineTexts<'_>>
+    ensures { MatchOption result ((c r : List ℕ) (v : Option (List ℕ)) → AreTexts (view value.now) c r v → ⊥)
+        (λ t. AreTexts (view value.now) t.command.now t.reply.now (option_copied t.view)) }
 {
-    if keys(value)? != 2 {
-        return None;
-    }
     let command = text(value, "command")?;
     let reply = text(value, "reply")?;
-    Some((command, reply))
+    match keys(value)? {
+        2 => Some(LineTexts {
+            command,
+            reply,
+            view: None,
+        }),
+        3 => Some(LineTexts {
+            command,
+            reply,
+            view: Some(text(value, "view")?),
+        }),
+        _ => None,
+    }
 }
 
 /// The world of a name.
@@ -62,39 +86,30 @@ fn world(name: &str) -> Option<WorldKind>
 /// What a header says, in its range or not.
 #[derive(Clone, Copy, Drop)]
 struct Sizes {
+    version: Version,
     world: WorldKind,
     m: u64,
     k: u64,
     limit: u64,
 }
 
-/// Whether a value has the keys, the format and the version of a header.
-fn is_header(value: &Value) -> bool
-    ensures { IsTrue result ↔ HasFormat (view value.now) }
+/// The version of a value that has the keys and the format of a header.
+fn version(value: &Value) -> Option<Version>
+    ensures { MatchOption result ((v : Version) → HasFormat (view value.now) v → ⊥) (HasFormat (view value.now)) }
 {
-    let Some(format) = text(value, "format") else {
-        return false;
-    };
-    let Some(count) = keys(value) else {
-        return false;
-    };
-    let Some(version) = number(value, "version") else {
-        return false;
-    };
-    if count != 6 || version != 1 {
-        return false;
+    let format = text(value, "format")?;
+    if keys(value)? != 6 || !is_word(format.as_bytes(), b"slot-record") {
+        return None;
     }
-    is_word(format.as_bytes(), b"slot-record")
+    Version::of_number(number(value, "version")?)
 }
 
 /// What a header says.
 fn said_sizes(value: &Value) -> Option<Sizes>
-    ensures { MatchOption result (SaysNoSizes (view value.now)) (λ s. SaysSizes (view value.now) s.world s.m s.k s.limit) }
+    ensures { MatchOption result (SaysNoSizes (view value.now)) (λ s. SaysSizes (view value.now) s.version s.world s.m s.k s.limit) }
 {
-    if !is_header(value) {
-        return None;
-    }
     Some(Sizes {
+        version: version(value)?,
         world: world(text(value, "world")?)?,
         m: number(value, "m")?,
         k: number(value, "k")?,
@@ -103,14 +118,18 @@ fn said_sizes(value: &Value) -> Option<Sizes>
 }
 
 /// Of what a run is, by the first line of its record.
-pub fn header(value: &Value) -> Option<Config>
-    ensures { MatchOption result ((c : Config) → IsHeader (view value.now) c → ⊥) (λ c. IsHeader (view value.now) c) }
+pub fn header(value: &Value) -> Option<Header>
+    ensures { MatchOption result ((h : Header) → IsHeader (view value.now) h → ⊥) (λ h. IsHeader (view value.now) h) }
 {
     let Some(sizes) = said_sizes(value) else {
         return None;
     };
+    let version = sizes.version;
+    if !version.fits(sizes.m) {
+        return None;
+    }
     match Config::new(sizes.world, sizes.m, sizes.k, sizes.limit) {
-        Ok(config) => Some(config),
+        Ok(config) => Some(Header { version, config }),
         Err(_) => None,
     }
 }

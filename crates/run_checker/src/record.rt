@@ -5,19 +5,20 @@ ghost use Rattle.std.specs.Option.{option_copied};
 ghost use Rattle.run_checker.specs.Verdict.{lines_left, record_lines, IsSaid, IsSaidOfRows, IsVerdict};
 
 use crate::checker::Checker;
+use crate::header::Header;
 use crate::record_line::{read_header, read_line};
 use crate::rows::next_line;
 use crate::verdict::Verdict;
-use rename_core::Config;
 use std::alloc::{AllocError, Global};
 
 /// The number of the first line that is one too many: a header and a million lines come before it.
 const LINES_END: u64 = 1_000_002;
 
-/// What is said of the event lines of a record of this config. An error where a growth was refused.
-fn judge_rows(alloc: Global, config: Config, rows: Option<&[u8]>) -> Result<Verdict, AllocError>
-    ensures { IfOk result (IsSaidOfRows config (lines_left (option_copied rows.entry))) }
+/// What is said of the event lines of a record with this header. An error where a growth was refused.
+fn judge_rows(alloc: Global, header: Header, rows: Option<&[u8]>) -> Result<Verdict, AllocError>
+    ensures { IfOk result (IsSaidOfRows header (lines_left (option_copied rows.entry))) }
 {
+    let config = header.config;
     let grows = config.world.is_tree();
     let mut checker = Checker::new(alloc, config.m, config.limit, config.k, grows)?;
     let mut number: u64 = 2;
@@ -29,7 +30,7 @@ fn judge_rows(alloc: Global, config: Config, rows: Option<&[u8]>) -> Result<Verd
         if LINES_END <= number {
             return Ok(Verdict::BadRecord(number));
         }
-        let Some(line) = read_line(alloc, config.world, row)? else {
+        let Some(line) = read_line(alloc, config.world, header.version, row)? else {
             return Ok(Verdict::BadRecord(number));
         };
         if let Some(reason) = checker.judge(&line)? {
@@ -48,10 +49,10 @@ fn judge_record(alloc: Global, bytes: &[u8]) -> Result<Verdict, AllocError>
     let Some((head, rows)) = next_line(bytes) else {
         return Ok(Verdict::BadRecord(1));
     };
-    let Some(config) = read_header(alloc, head)? else {
+    let Some(header) = read_header(alloc, head)? else {
         return Ok(Verdict::BadRecord(1));
     };
-    judge_rows(alloc, config, rows)
+    judge_rows(alloc, header, rows)
 }
 
 /// The verdict on a record: whether its lines spell a run the objects can have had, and where they first don't; `NoMemory` where

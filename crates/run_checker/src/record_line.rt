@@ -1,20 +1,25 @@
 //! From the bytes of a record's line to what it says.
 
-ghost use Rattle.std.specs.Prelude.{◌≡◌, IfOk, MatchOption, Ok};
+ghost use Rattle.std.specs.Prelude.{◌≡◌, IfOk, MatchOption, Some, None, Ok};
+ghost use Rattle.std.specs.Option.{option_copied};
 ghost use Rattle.desk.specs.declared.event.Event.{Event};
 ghost use Rattle.schedule_player.specs.declared.command.Command.TheVariants as command;
 ghost use Rattle.schedule_player.specs.Meaning.{meaning};
-ghost use Rattle.rename_core.specs.declared.config.Config.{Config};
 ghost use Rattle.serde_json.specs.Data.{Data};
 ghost use Rattle.serde_json.specs.View.{view};
+ghost use Rattle.run_checker.specs.declared.header.Header.{Header};
+ghost use Rattle.run_checker.specs.declared.header.Version.TheVariants.{Two};
 ghost use Rattle.run_checker.specs.declared.line.Line.{Line};
+ghost use Rattle.run_checker.specs.ReplyText.{told_with, told_by};
 ghost use Rattle.run_checker.specs.RecordLine.{IsJson, IsEventOf, SaysLine, IsEventLine, IsHeaderLine};
 
+use crate::header::{Header, Version};
 use crate::line::Line;
-use crate::object::{header, texts};
-use crate::reply_text::read_reply;
+use crate::object::{LineTexts, header, texts};
+use crate::reply_text::{pairs, read_reply};
+use crate::told::Told;
 use desk::Event;
-use rename_core::{Config, WorldKind};
+use rename_core::WorldKind;
 use schedule_player::{Command, parse_line};
 use serde_json::Value;
 use std::alloc::{AllocError, Global};
@@ -45,26 +50,82 @@ fn event_of(text: &str, kind: WorldKind) -> Option<Event>
     }
 }
 
-/// The line that a value says, in the world of this kind. An error where a growth was refused.
-fn line_of(alloc: Global, kind: WorldKind, value: &Value) -> Result<Option<Line>, AllocError>
-    ensures { IfOk result (λ r. MatchOption r ((l : Line) → SaysLine kind (view value.now) l → ⊥) (λ l. SaysLine kind (view value.now) l)) }
+/// What is told of a reply beside which no view is written, in a record of this version.
+fn without_view(version: Version, told: Told) -> Option<Told>
+    ensures { result ≡ told_with version told None }
 {
-    let Some((command, reply)) = texts(value) else {
+    match (version, &told) {
+        (Version::Two, Told::Named(_, _)) => None,
+        _ => Some(told),
+    }
+}
+
+/// What is told of a reply beside which the pairs of this text are written, in a record of version 2. An error where a growth
+/// was refused.
+fn with_view(alloc: Global, told: Told, text: &str) -> Result<Option<Told>, AllocError>
+    ensures { IfOk result (λ r. r ≡ told_with Two told (Some text.now)) }
+{
+    match told {
+        Told::Named(name, _) => match pairs(alloc, text.as_bytes())? {
+            Some(view) => Ok(Some(Told::Named(name, Some(view)))),
+            None => Ok(None),
+        },
+        _ => Ok(None),
+    }
+}
+
+/// What a reply and the view beside it tell, in a record of this version. An error where a growth was refused.
+fn told_of(
+    alloc: Global,
+    version: Version,
+    texts: LineTexts<'_>,
+) -> Result<Option<Told>, AllocError>
+    ensures { IfOk result (λ r. r ≡ told_by version texts.reply.now (option_copied texts.view)) }
+{
+    let Some(told) = read_reply(alloc, texts.reply.as_bytes())? else {
         return Ok(None);
     };
-    let Some(event) = event_of(command, kind) else {
+    let Some(text) = texts.view else {
+        return Ok(without_view(version, told));
+    };
+    match version {
+        Version::One => Ok(None),
+        Version::Two => with_view(alloc, told, text),
+    }
+}
+
+/// The line that a value says, in the world of this kind and a record of this version. An error where a growth was refused.
+fn line_of(
+    alloc: Global,
+    kind: WorldKind,
+    version: Version,
+    value: &Value,
+) -> Result<Option<Line>, AllocError>
+    ensures { IfOk result (λ r. MatchOption r ((l : Line) → SaysLine kind version (view value.now) l → ⊥)
+        (λ l. SaysLine kind version (view value.now) l)) }
+{
+    let Some(texts) = texts(value) else {
         return Ok(None);
     };
-    let Some(told) = read_reply(alloc, reply.as_bytes())? else {
+    let Some(event) = event_of(texts.command, kind) else {
+        return Ok(None);
+    };
+    let Some(told) = told_of(alloc, version, texts)? else {
         return Ok(None);
     };
     Ok(Some(Line { event, told }))
 }
 
-/// What an event's line says, without its LF, in the world of this kind; `None` where it is no event's line. An error where a
-/// growth was refused.
-pub fn read_line(alloc: Global, kind: WorldKind, bytes: &[u8]) -> Result<Option<Line>, AllocError>
-    ensures { IfOk result (λ r. MatchOption r ((l : Line) → IsEventLine kind bytes.now l → ⊥) (λ l. IsEventLine kind bytes.now l)) }
+/// What an event's line says, without its LF, in the world of this kind and a record of this version; `None` where it is no
+/// event's line. An error where a growth was refused.
+pub fn read_line(
+    alloc: Global,
+    kind: WorldKind,
+    version: Version,
+    bytes: &[u8],
+) -> Result<Option<Line>, AllocError>
+    ensures { IfOk result (λ r. MatchOption r ((l : Line) → IsEventLine kind version bytes.now l → ⊥)
+        (λ l. IsEventLine kind version bytes.now l)) }
 {
     if LINE_MOST < bytes.len() {
         return Ok(None);
@@ -72,12 +133,12 @@ pub fn read_line(alloc: Global, kind: WorldKind, bytes: &[u8]) -> Result<Option<
     let Some(value) = value_of(alloc, bytes)? else {
         return Ok(None);
     };
-    line_of(alloc, kind, &value)
+    line_of(alloc, kind, version, &value)
 }
 
 /// What the first line of a record says, without its LF; `None` where it is no header. An error where a growth was refused.
-pub fn read_header(alloc: Global, bytes: &[u8]) -> Result<Option<Config>, AllocError>
-    ensures { IfOk result (λ r. MatchOption r ((c : Config) → IsHeaderLine bytes.now c → ⊥) (λ c. IsHeaderLine bytes.now c)) }
+pub fn read_header(alloc: Global, bytes: &[u8]) -> Result<Option<Header>, AllocError>
+    ensures { IfOk result (λ r. MatchOption r ((h : Header) → IsHeaderLine bytes.now h → ⊥) (λ h. IsHeaderLine bytes.now h)) }
 {
     if LINE_MOST < bytes.len() {
         return Ok(None);

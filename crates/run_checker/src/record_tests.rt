@@ -160,6 +160,7 @@ fn headers(rt: HostRuntime) -> Result<(), Fail> {
         r#"{"world":"tree","version":1,"m":16,"limit":1000000,"k":64,"format":"slot-record"}"#,
         r#" { "m" : 1 , "k" : 1 , "limit" : 1 , "version" : 1 , "world" : "tree" , "format" : "slot-record" } "#,
         r#"{"format":"slot-record","k":3,"limit":2,"m":9,"m":2,"version":1,"world":"rename"}"#,
+        r#"{"format":"slot-record","k":3,"limit":2,"m":16,"version":2,"world":"rename"}"#,
     ] {
         let found = verdict(rt.alloc(), &[head, ENTER])?;
         assert!(&rt; found == Verdict::Yes, "{head}: {found:?}");
@@ -177,7 +178,8 @@ fn no_headers(rt: HostRuntime) -> Result<(), Fail> {
         r#"{"format":"slot-record","k":3,"limit":2,"m":2,"version":1}"#,
         r#"{"format":"slot-record","k":3,"limit":2,"m":2,"version":1,"world":"rename","x":1}"#,
         r#"{"format":"slot-records","k":3,"limit":2,"m":2,"version":1,"world":"rename"}"#,
-        r#"{"format":"slot-record","k":3,"limit":2,"m":2,"version":2,"world":"rename"}"#,
+        r#"{"format":"slot-record","k":3,"limit":2,"m":2,"version":0,"world":"rename"}"#,
+        r#"{"format":"slot-record","k":3,"limit":2,"m":2,"version":3,"world":"rename"}"#,
         r#"{"format":"slot-record","k":3,"limit":2,"m":2,"version":"1","world":"rename"}"#,
         r#"{"format":"slot-record","k":3,"limit":2,"m":2,"version":1,"world":"grid"}"#,
         r#"{"format":"slot-record","k":3,"limit":2,"m":2,"version":1,"world":"Tree"}"#,
@@ -190,6 +192,9 @@ fn no_headers(rt: HostRuntime) -> Result<(), Fail> {
         r#"{"format":"slot-record","k":3,"limit":2,"m":0,"version":1,"world":"rename"}"#,
         r#"{"format":"slot-record","k":3,"limit":2,"m":-0,"version":1,"world":"rename"}"#,
         r#"{"format":"slot-record","k":3,"limit":2,"m":17,"version":1,"world":"rename"}"#,
+        r#"{"format":"slot-record","k":3,"limit":2,"m":17,"version":1,"world":"tree"}"#,
+        r#"{"format":"slot-record","k":3,"limit":2,"m":17,"version":2,"world":"rename"}"#,
+        r#"{"format":"slot-record","k":3,"limit":2,"m":65,"version":2,"world":"tree"}"#,
         r#"{"format":"slot-record","k":4.0,"limit":2,"m":2,"version":1,"world":"rename"}"#,
         r#"{"format":"slot-record","k":4e0,"limit":2,"m":2,"version":1,"world":"rename"}"#,
         r#"{"format":"slot-record","k":03,"limit":2,"m":2,"version":1,"world":"rename"}"#,

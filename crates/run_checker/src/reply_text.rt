@@ -4,7 +4,7 @@ ghost use Rattle.std.specs.Prelude.{◌≡◌, ℕ, List, IfOk, option_map};
 ghost use Rattle.std.specs.Option.{option_copied};
 ghost use Rattle.schedule_player.specs.Meaning.{words};
 ghost use Rattle.run_checker.specs.declared.told.Told.TheVariants as told;
-ghost use Rattle.run_checker.specs.ReplyText.{pair_in, pairs_after, saw_of, word_alone, owner_of, word_with, plain_of, told_in, pieces_left};
+ghost use Rattle.run_checker.specs.ReplyText.{pair_in, pairs_in, saw_of, word_alone, owner_of, word_with, plain_of, told_in, pieces_left};
 
 use crate::pairs::Pairs;
 use crate::told::Told;
@@ -24,8 +24,8 @@ fn pair(word: &[u8]) -> Option<(u64, u64)>
 }
 
 /// The pairs that the words of a text write, by strictly rising identity from 1 on.
-fn pairs(alloc: Global, text: &[u8]) -> Result<Option<Pairs>, AllocError>
-    ensures { IfOk result (λ r. r ≡ pairs_after 0 (words text.now)) }
+pub fn pairs(alloc: Global, text: &[u8]) -> Result<Option<Pairs>, AllocError>
+    ensures { IfOk result (λ r. r ≡ pairs_in text.now) }
 {
     let mut view = Pairs::new(alloc);
     let mut above = 0;
@@ -87,7 +87,7 @@ fn with(word: &[u8], other: &[u8]) -> Option<Told>
     } else if is_word(word, b"proposed") {
         Some(Told::Proposed(number(other)?))
     } else if is_word(word, b"named") {
-        Some(Told::Named(number(other)?))
+        Some(Told::Named(number(other)?, None))
     } else if is_word(word, b"got") {
         Some(Told::Got(number(other)?))
     } else if is_word(word, b"left") {

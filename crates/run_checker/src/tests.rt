@@ -44,7 +44,7 @@ fn judge<R: Abort + AllocGlobal, const N: usize>(
 fn a_small_record(rt: HostRuntime) -> Result<(), Fail> {
     let config = Config::new(WorldKind::Rename, 2, 4, 1000)?;
     for (told, fault) in [
-        (Told::Named(1), Some((5, Reason::Name))),
+        (Told::Named(1, None), Some((5, Reason::Name))),
         (Told::Quiet, None),
     ] {
         judge(
@@ -54,7 +54,7 @@ fn a_small_record(rt: HostRuntime) -> Result<(), Fail> {
                 (Begin(10), Told::Ok),
                 (Begin(20), Told::Ok),
                 (Step(10), Told::Proposed(1)),
-                (Step(10), Told::Named(1)),
+                (Step(10), Told::Named(1, None)),
                 (Step(20), Told::Proposed(1)),
                 (Step(20), told),
             ],
@@ -233,7 +233,7 @@ fn proposals(rt: HostRuntime) -> Result<(), Fail> {
         (Told::Proposed(u64::MAX), Some((1, Reason::Proposal))),
         (Told::Spent, Some((1, Reason::Proposal))),
         (saw(rt.alloc(), &[(7, 1)])?, Some((1, Reason::Proposal))),
-        (Told::Named(1), Some((1, Reason::Name))),
+        (Told::Named(1, None), Some((1, Reason::Name))),
     ] {
         judge(&rt, config, [(Begin(7), Told::Ok), (Step(7), told)], fault)?;
     }
@@ -241,7 +241,7 @@ fn proposals(rt: HostRuntime) -> Result<(), Fail> {
         (Told::Spent, Some((3, Reason::View))),
         (Told::Proposed(1), Some((3, Reason::Proposal))),
         (saw(rt.alloc(), &[(7, 1)])?, Some((3, Reason::Proposal))),
-        (Told::Named(1), None),
+        (Told::Named(1, None), None),
     ] {
         judge(
             &rt,
@@ -339,11 +339,11 @@ fn spent(rt: HostRuntime) -> Result<(), Fail> {
 fn names(rt: HostRuntime) -> Result<(), Fail> {
     let config = Config::new(WorldKind::Rename, 2, 3, 5)?;
     for (told, fault) in [
-        (Told::Named(3), None),
-        (Told::Named(2), Some((5, Reason::Name))),
-        (Told::Named(1), Some((5, Reason::Name))),
-        (Told::Named(0), Some((5, Reason::Name))),
-        (Told::Named(u64::MAX), Some((5, Reason::Name))),
+        (Told::Named(3, None), None),
+        (Told::Named(2, None), Some((5, Reason::Name))),
+        (Told::Named(1, None), Some((5, Reason::Name))),
+        (Told::Named(0, None), Some((5, Reason::Name))),
+        (Told::Named(u64::MAX, None), Some((5, Reason::Name))),
     ] {
         judge(
             &rt,
@@ -367,8 +367,8 @@ fn names(rt: HostRuntime) -> Result<(), Fail> {
 fn crowded_names(rt: HostRuntime) -> Result<(), Fail> {
     let config = Config::new(WorldKind::Rename, 2, 3, 5)?;
     for (first, second, fault) in [
-        (Told::Proposed(2), Told::Named(1), None),
-        (Told::Proposed(1), Told::Named(1), Some((4, Reason::Name))),
+        (Told::Proposed(2), Told::Named(1, None), None),
+        (Told::Proposed(1), Told::Named(1, None), Some((4, Reason::Name))),
     ] {
         judge(
             &rt,

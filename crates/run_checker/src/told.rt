@@ -8,7 +8,7 @@ use desk::Event;
 use step_memory::Place;
 
 /// A reply as a record spells it: what numbers and views it has is not bounded by what any object could answer, and the view
-/// by which a name was given is not written.
+/// by which a name was given is written or not.
 #[derive(Debug, Drop)]
 pub enum Told {
     /// `ok`
@@ -27,8 +27,8 @@ pub enum Told {
     Proposed(u64),
     /// `saw ID:S ID:S ..`
     Saw(Pairs),
-    /// `named N`
-    Named(u64),
+    /// `named N`, and the pairs of the view by which the name was given where they are written
+    Named(u64, Option<Pairs>),
     /// `spent`
     Spent,
     /// `missed`
@@ -76,7 +76,7 @@ impl Told {
             Told::Place(_) => is_step(event),
             Told::Proposed(_) => is_step(event),
             Told::Saw(_) => is_step(event),
-            Told::Named(_) => is_step(event),
+            Told::Named(_, _) => is_step(event),
             Told::Spent => is_step(event),
             Told::Missed => matches!(event, Event::Probe(_)),
             Told::Got(_) => matches!(event, Event::Probe(_)),

@@ -10,7 +10,8 @@ use Rattle.run_checker.proofs.record.judge_rows.Goals as goal
 
 pub loop-left-init : goal.loop-left-init
 loop-left-init c =
-    let r = c.args.config.in_range in
+    let config = c.args.header.config in
+    let r = config.in_range in
     record {
       before = [];
       lines = [];
@@ -18,68 +19,68 @@ loop-left-init c =
       read = tt;
       many = refl;
       few = omega arith;
-      taken = c.in_ok-checker.ensures (terms_of c.args.config) (λ i. record { most = c.args.config.m; limit = c.args.config.limit; grows = sym c.is_tree-grows.ensures i }) r.1 r.4 r.5 r.2 r.3;
+      taken = c.in_ok-checker.ensures (terms_of config) (λ i. record { most = config.m; limit = config.limit; grows = sym c.is_tree-grows.ensures i }) r.1 r.4 r.5 r.2 r.3;
       at = refl;
     }
 
 pub returns-then-number-ge-LINES_END : goal.returns-then-number-ge-LINES_END
 returns-then-number-ge-LINES_END c =
-    let config = c.args.config in
+    let header = c.args.header in
     let row = c.in-Some-next_line.row.now in
     let more = lines_left (option_copied c.in-Some-next_line.rest) in
     let rows = lines_left (option_copied c.args.rows) in
-    let s = row_here config rows (option_copied c.loop-left.left) c.in-Some.bytes.now row more c.loop-left.checker c.loop-left.number c.loop-left.invariant (ap (λ o. option_copied o) c.in-Some.is) c.in-Some-next_line.ensures.lines in
+    let s = row_here header rows (option_copied c.loop-left.left) c.in-Some.bytes.now row more c.loop-left.checker c.loop-left.number c.loop-left.invariant (ap (λ o. option_copied o) c.in-Some.is) c.in-Some-next_line.ensures.lines in
     let at = s.at in
     let end = c.if-number-ge-LINES_END.true in
-    bad_row config rows c.loop-left.checker c.loop-left.number row more s (λ few. absurd (omega arith))
+    bad_row header rows c.loop-left.checker c.loop-left.number row more s (λ few. absurd (omega arith))
 
 pub returns-in_default-2 : goal.returns-in_default-2
 returns-in_default-2 c =
-    let config = c.args.config in
+    let header = c.args.header in
     let row = c.in-Some-next_line.row.now in
     let more = lines_left (option_copied c.in-Some-next_line.rest) in
     let rows = lines_left (option_copied c.args.rows) in
-    let s = row_here config rows (option_copied c.loop-left.left) c.in-Some.bytes.now row more c.loop-left.checker c.loop-left.number c.loop-left.invariant (ap (λ o. option_copied o) c.in-Some.is) c.in-Some-next_line.ensures.lines in
-    let none = subst (λ (o : Option Line). MatchOption o ((l : Line) → IsEventLine config.world row l → ⊥) (λ l. IsEventLine config.world row l)) c.in_default-2.is c.in_ok-line.ensures in
-    bad_row config rows c.loop-left.checker c.loop-left.number row more s (λ few. none)
+    let s = row_here header rows (option_copied c.loop-left.left) c.in-Some.bytes.now row more c.loop-left.checker c.loop-left.number c.loop-left.invariant (ap (λ o. option_copied o) c.in-Some.is) c.in-Some-next_line.ensures.lines in
+    let none = subst (λ (o : Option Line). MatchOption o ((l : Line) → IsEventLine header.config.world header.version row l → ⊥) (λ l. IsEventLine header.config.world header.version row l)) c.in_default-2.is c.in_ok-line.ensures in
+    bad_row header rows c.loop-left.checker c.loop-left.number row more s (λ few. none)
 
 pub returns-in-Some-3 : goal.returns-in-Some-3
 returns-in-Some-3 c =
-    let config = c.args.config in
+    let header = c.args.header in
     let row = c.in-Some-next_line.row.now in
     let more = lines_left (option_copied c.in-Some-next_line.rest) in
     let rows = lines_left (option_copied c.args.rows) in
-    let s = row_here config rows (option_copied c.loop-left.left) c.in-Some.bytes.now row more c.loop-left.checker c.loop-left.number c.loop-left.invariant (ap (λ o. option_copied o) c.in-Some.is) c.in-Some-next_line.ensures.lines in
-    let says = line_read config.world row c.in_ok-line.field-0 c.in-Some-2.line c.in-Some-2.is c.in_ok-line.ensures in
-    row_at_fault config rows c.loop-left.checker c.judge.new.self c.loop-left.number row more c.in-Some-2.line c.in_ok-reason.field-0 s c.if-number-ge-LINES_END.false says c.in_ok-reason.ensures c.in-Some-3.reason c.in-Some-3.is
+    let s = row_here header rows (option_copied c.loop-left.left) c.in-Some.bytes.now row more c.loop-left.checker c.loop-left.number c.loop-left.invariant (ap (λ o. option_copied o) c.in-Some.is) c.in-Some-next_line.ensures.lines in
+    let says = line_read header.config.world header.version row c.in_ok-line.field-0 c.in-Some-2.line c.in-Some-2.is c.in_ok-line.ensures in
+    row_at_fault header rows c.loop-left.checker c.judge.new.self c.loop-left.number row more c.in-Some-2.line c.in_ok-reason.field-0 s c.if-number-ge-LINES_END.false says c.in_ok-reason.ensures c.in-Some-3.reason c.in-Some-3.is
 
 pub loop-left-preserved-in_default-3 : goal.loop-left-preserved-in_default-3
 loop-left-preserved-in_default-3 c =
-    let config = c.args.config in
+    let header = c.args.header in
     let row = c.in-Some-next_line.row.now in
     let more = lines_left (option_copied c.in-Some-next_line.rest) in
     let rows = lines_left (option_copied c.args.rows) in
-    let s = row_here config rows (option_copied c.loop-left.left) c.in-Some.bytes.now row more c.loop-left.checker c.loop-left.number c.loop-left.invariant (ap (λ o. option_copied o) c.in-Some.is) c.in-Some-next_line.ensures.lines in
-    let says = line_read config.world row c.in_ok-line.field-0 c.in-Some-2.line c.in-Some-2.is c.in_ok-line.ensures in
-    row_taken config rows c.loop-left.checker c.judge.new.self c.loop-left.number row more c.in-Some-2.line c.in_ok-reason.field-0 s c.if-number-ge-LINES_END.false says c.in_ok-reason.ensures c.in_default-3.is
+    let s = row_here header rows (option_copied c.loop-left.left) c.in-Some.bytes.now row more c.loop-left.checker c.loop-left.number c.loop-left.invariant (ap (λ o. option_copied o) c.in-Some.is) c.in-Some-next_line.ensures.lines in
+    let says = line_read header.config.world header.version row c.in_ok-line.field-0 c.in-Some-2.line c.in-Some-2.is c.in_ok-line.ensures in
+    row_taken header rows c.loop-left.checker c.judge.new.self c.loop-left.number row more c.in-Some-2.line c.in_ok-reason.field-0 s c.if-number-ge-LINES_END.false says c.in_ok-reason.ensures c.in_default-3.is
 
 pub loop-left-preserved : goal.loop-left-preserved
 loop-left-preserved c =
-    let config = c.args.config in
+    let header = c.args.header in
     let row = c.in-Some-next_line.row.now in
     let more = lines_left (option_copied c.in-Some-next_line.rest) in
     let rows = lines_left (option_copied c.args.rows) in
-    let s = row_here config rows (option_copied c.loop-left.left) c.in-Some.bytes.now row more c.loop-left.checker c.loop-left.number c.loop-left.invariant (ap (λ o. option_copied o) c.in-Some.is) c.in-Some-next_line.ensures.lines in
-    let says = line_read config.world row c.in_ok-line.field-0 c.in-Some-2.line c.in-Some-2.is c.in_ok-line.ensures in
-    row_taken config rows c.loop-left.checker c.judge.new.self c.loop-left.number row more c.in-Some-2.line c.in_ok-reason.field-0 s c.if-number-ge-LINES_END.false says c.in_ok-reason.ensures c.in_default-3.is
+    let s = row_here header rows (option_copied c.loop-left.left) c.in-Some.bytes.now row more c.loop-left.checker c.loop-left.number c.loop-left.invariant (ap (λ o. option_copied o) c.in-Some.is) c.in-Some-next_line.ensures.lines in
+    let says = line_read header.config.world header.version row c.in_ok-line.field-0 c.in-Some-2.line c.in-Some-2.is c.in_ok-line.ensures in
+    row_taken header rows c.loop-left.checker c.judge.new.self c.loop-left.number row more c.in-Some-2.line c.in_ok-reason.field-0 s c.if-number-ge-LINES_END.false says c.in_ok-reason.ensures c.in_default-3.is
 
 pub returns : goal.returns
 returns c =
-    let config = c.args.config in
+    let header = c.args.header in
     let rows = lines_left (option_copied c.args.rows) in
     let none : lines_left (option_copied c.loop-left.left) ≡ [] = elim c.match-left.branch [
       | in-Some+in_default-next_line w ↦ ap (λ (o : Option (List ℕ)). lines_left o) (ap (λ o. option_copied o) w.in-Some.is) ∙ subst (λ o. MatchOption o (lines_left (Some w.in-Some.bytes.now) ≡ []) (λ r. lines_left (Some w.in-Some.bytes.now) ≡ r.0.now ∷ lines_left (option_copied r.1))) w.in_default-next_line.is w.next_line.ensures.lines
       | in_default w ↦ ap (λ (o : Option (List ℕ)). lines_left o) (ap (λ o. option_copied o) w.in_default.is)
     ] in
-    let s = subst (λ (left : List (List ℕ)). RowsSoFar config rows left c.loop-left.checker c.loop-left.number) none c.loop-left.invariant in
-    all_rows config rows c.loop-left.checker c.loop-left.number s
+    let s = subst (λ (left : List (List ℕ)). RowsSoFar header rows left c.loop-left.checker c.loop-left.number) none c.loop-left.invariant in
+    all_rows header rows c.loop-left.checker c.loop-left.number s

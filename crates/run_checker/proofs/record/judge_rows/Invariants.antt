@@ -5,7 +5,7 @@ use Rattle.run_checker.proofs.RowRuns.{RowsSoFar}
 use Rattle.run_checker.proofs.record.judge_rows.Given as goal
 
 abbrev pub invariant-loop-left : goal.invariant-loop-left
-invariant-loop-left l = RowsSoFar l.config (lines_left (option_copied l.fn.rows)) (lines_left (option_copied l.left)) l.checker l.number
+invariant-loop-left l = RowsSoFar l.header (lines_left (option_copied l.fn.rows)) (lines_left (option_copied l.left)) l.checker l.number
 
 abbrev pub decreases-loop-left : goal.decreases-loop-left
 decreases-loop-left l = left_length (option_copied l.left)
