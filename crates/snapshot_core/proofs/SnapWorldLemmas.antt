@@ -13,7 +13,7 @@ use Rattle.std.proofs.lemmas.Bool.{lt-ltb, le-ltb}
 use Rattle.step_memory.proofs.StepLemmas.{most_stepped, lacks_none, lacks_or_not}
 use Rattle.step_memory.proofs.RunLemmas.{run_more}
 use Rattle.std.specs.Prelude.{option_map}
-use Rattle.step_memory.specs.Locality.{LookAlike, StandAlike, ReadsNext}
+use Rattle.step_memory.specs.Locality.{LookAlike, StandAlike, ReadsNext, IsTaken}
 use Rattle.step_memory.specs.declared.participant.Participant.{Participant}
 use Rattle.step_memory.proofs.LocalityLemmas.{answers_alike, stand_alike}
 use Rattle.snapshot_core.specs.declared.client.Client.{Client}
@@ -135,6 +135,17 @@ module _ {S R V U K : Type 0} (t : KnownPlaces S R V U K) where
   reads_answer w id h e =
       let here : Some h.0.program ≡ program_of id w.participants = sym (ap (option_map (λ (v : Participant (Client U K)). v.program)) h.2) in
       busy_answer w id h.0.program here (reads_busy h.0.program h.0.program.pending h.1 h.3) ∙ ap (reply_of told) e
+
+  -- so has one on its way to its place
+  pub way_state : (w : SnapState S U K) (id : ℕ) → IsTaken (λ c. c.pending ≡ Placing) w id → after_snap_step t w id ≡ after_step (clients_over t) t.memory w id
+  way_state w id h =
+      let here : Some h.0.program ≡ program_of id w.participants = sym (ap (option_map (λ (v : Participant (Client U K)). v.program)) h.1) in
+      busy_state w id h.0.program here (ap is_idle h.2)
+
+  pub way_answer : (w : SnapState S U K) (id : ℕ) → IsTaken (λ c. c.pending ≡ Placing) w id → step_answer (clients_over t) t.memory w id ≡ Ok Quiet → snap_answer t w id ≡ Ok (told Quiet)
+  way_answer w id h e =
+      let here : Some h.0.program ≡ program_of id w.participants = sym (ap (option_map (λ (v : Participant (Client U K)). v.program)) h.1) in
+      busy_answer w id h.0.program here (ap is_idle h.2) ∙ ap (reply_of told) e
 
   answer_by_alike : (w other : SnapState S U K) (p : ℕ) → LookAlike (clients_over t) t.memory p w other → (o : Option (Client U K)) → snap_answer_by t w p o ≡ snap_answer_by t other p o
   answer_by_alike w other p alike None = refl

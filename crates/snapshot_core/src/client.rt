@@ -4,12 +4,13 @@ ghost use Rattle.std.specs.Prelude.{◌≡◌, ◌<◌, ◌↔◌, IsTrue, ◌�
 ghost use Rattle.step_memory.specs.declared.access.Access.TheVariants.{Read};
 ghost use Rattle.step_memory.specs.declared.access.Answer.TheVariants.{Value};
 ghost use Rattle.step_memory.specs.declared.note.Note.TheVariants as note;
+ghost use Rattle.snapshot_core.specs.declared.client.Pending.TheVariants.{Placing};
 ghost use Rattle.snapshot_core.specs.Client.{view_told, is_idle, client_at, client_steps, updating, scanning, next_access, client_after, client_note, scan_resumed, scan_note, placing_resumed, placing_note};
 
-use crate::places::PlaceWalker;
+use crate::places::{PlaceWalker, Places};
 use crate::scan::Scan;
 use crate::walk::SegmentWalk;
-use step_memory::{Access, Answer, Note, Place, Record, Request, StepProgram, View};
+use step_memory::{Access, Answer, Note, Place, Record, Request, Shortcut, StepProgram, View};
 
 /// What a step of a snapshot object tells.
 #[derive(Clone, Copy, Debug, Drop)]
@@ -253,5 +254,28 @@ impl<U, K: SegmentWalk + Copy> Request<Client<U, K>> for ToUpdate {
         program.updates += 1;
         program.pending = Pending::Update(self.value);
         program.scan.restart(program.walk);
+    }
+}
+
+/// The step of a participant on its way to its place, taken by the places.
+#[derive(Clone, Copy, Debug, Drop, PartialEq, Eq)]
+pub struct OnWay;
+
+impl<W: Places> Shortcut<Client<W::Walker, W::Walk>, W> for OnWay
+where
+    W::Walker: Copy,
+    W::Walk: Copy,
+    W::Value: Drop,
+{
+    ghost takes = { λ c. c.pending ≡ Placing };
+
+    fn take(program: &mut Client<W::Walker, W::Walk>, memory: &mut W) -> bool {
+        match program.pending {
+            Pending::Nothing => false,
+            Pending::Placing => memory.walk_on(&mut program.walker),
+            Pending::Scan => false,
+            Pending::Update(_) => false,
+            Pending::Write(_, _) => false,
+        }
     }
 }

@@ -8,7 +8,7 @@ ghost use Rattle.snapshot_core.specs.SnapWorld.{place_in, after_snap_begin, scan
 ghost use Rattle.snapshot_core.specs.SnapCalls.{fresh_over, IsAfter, LeadsOn, MakesOwnAccess, HasDistinctPlaces, KeepsTold};
 ghost use Rattle.snapshot_core.specs.SnapCalls.SnapCall.{Began, Updated, Scanned, Stepped};
 
-use crate::client::{Client, SnapReply, ToScan, ToUpdate};
+use crate::client::{Client, OnWay, SnapReply, ToScan, ToUpdate};
 use crate::places::{Known, PlaceWalker, Places};
 use std::alloc::Allocator;
 use std::marker::Model;
@@ -116,8 +116,9 @@ where
         self.world.ask(id, ToScan)
     }
 
-    /// One step of a participant, if it is a read of a scan that goes on: it copies no segment, and answers `Quiet`. Tells
-    /// whether it was made; where not, nothing has changed, and `step` makes it or refuses it.
+    /// One step of a participant, if it is a read of a scan that goes on, or a step of a way that goes on: it copies no
+    /// segment, and answers `Quiet`. Tells whether it was made; where not, nothing has changed, and `step` makes it or
+    /// refuses it.
     pub fn read_on(&mut self, id: u64) -> bool
         ensures answer { result ≡ true → snap_answer ⟦<W as Known>⟧.places self.old id ≡ Ok SnapReply.Quiet }
         ensures state { result ≡ true → self.new ≡ after_snap_step ⟦<W as Known>⟧.places self.old id }
@@ -126,7 +127,10 @@ where
         ensures after { result ≡ true → LeadsOn ⟦<W as Known>⟧.places self.old self.new (Stepped id (Ok SnapReply.Quiet)) }
         ensures law { IsLawful ⟦<W as Known>⟧.places self.new }
     {
-        self.world.read_on(id)
+        if self.world.read_on(id) {
+            return true;
+        }
+        self.world.take::<OnWay>(id)
     }
 
     /// Any other step. A function of its own, so that a read of a scan that goes on has no room of a segment to clear.

@@ -15,7 +15,9 @@ use snapshot_core::{PlaceWalker, Places, SegmentWalk};
 use splitter_grid::{Door, Walker};
 use std::alloc::Allocator;
 use std::marker::Model;
-use step_memory::{Access, Answer, Memory, NoMemory, Place, Refusal, Segment, StepMemory};
+use step_memory::{
+    Access, Answer, Memory, NoMemory, Place, Refusal, Segment, StepMemory, StepProgram,
+};
 
 /// The doors of a grid, and a segment for each. A segment is kept as the value of its register, so that it can be lent.
 #[derive(Drop)]
@@ -176,6 +178,29 @@ impl<A: Allocator> Places for Grid<A> {
             at: 0,
             most: self.segments.len() as u128,
         }
+    }
+
+    fn walk_on(&mut self, walker: &mut GridWalker) -> bool {
+        let mut next = walker.walker;
+        match next.next() {
+            Access::Read(r) => {
+                let word = self.doors.value(r);
+                if !next.resume(Answer::Value(word)).is_quiet() {
+                    return false;
+                }
+            }
+            Access::Write(r, word) => {
+                if !next.resume(Answer::Done).is_quiet() {
+                    return false;
+                }
+                let _done = self.doors.access(Access::Write(r, word));
+            }
+            Access::TestAndSet(_) => return false,
+            Access::Clear(_) => return false,
+            Access::Nothing => return false,
+        }
+        walker.walker = next;
+        true
     }
 
     ghost laws = { grid_laws };

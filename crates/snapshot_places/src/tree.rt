@@ -111,5 +111,9 @@ impl<A: Allocator + Clone> Places for TreePlaces<A> {
         }
     }
 
+    fn walk_on(&mut self, walker: &mut TreeWalker) -> bool {
+        self.tree.walk_on(&mut walker.walker)
+    }
+
     ghost laws = { tree_laws };
 }

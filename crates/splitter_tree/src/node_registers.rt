@@ -1,6 +1,7 @@
 //! What a node holds.
 
-ghost use Rattle.std.specs.Prelude.{◌≡◌, Some};
+ghost use Rattle.std.specs.Prelude.{◌≡◌, Some, IfSome};
+ghost use Rattle.splitter_tree.specs.declared.register.TreeValue.TheVariants as value;
 ghost use Rattle.splitter_tree.specs.TreeSteps.{fresh_registers, value_in, registers_after_write};
 
 use crate::kept_segment::KeptSegment;
@@ -38,6 +39,18 @@ impl NodeRegisters {
             TreeRegister::X(_) => TreeValue::Word(self.x),
             TreeRegister::Y(_) => TreeValue::Word(self.y),
             TreeRegister::Contents(_) => *self.segment.value(),
+        }
+    }
+
+    /// The word that stands in a register of this node; none where a segment stands there.
+    pub fn word(&self, register: TreeRegister) -> Option<u64>
+        ensures { IfSome result (λ word. value_in register (Some self.now) ≡ value.Word word) }
+    {
+        match register {
+            TreeRegister::Mark(_) => Some(1),
+            TreeRegister::X(_) => Some(self.x),
+            TreeRegister::Y(_) => Some(self.y),
+            TreeRegister::Contents(_) => None,
         }
     }
 

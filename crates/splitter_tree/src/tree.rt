@@ -1,18 +1,22 @@
 //! A tree of nodes as a memory.
 
-ghost use Rattle.std.specs.Prelude.{◌≡◌, OnOk, OnErr, IfOk, IfSome, true, option_copied};
+ghost use Rattle.std.specs.Prelude.{◌≡◌, OnOk, OnErr, IfOk, IfSome, true, false, option_copied};
 ghost use Rattle.std.specs.FinMap as map;
 ghost use Rattle.splitter_tree.specs.TreeSteps.{tree_steps, empty_tree, value_in, answer_of, after_access, may_refuse, number_in};
 ghost use Rattle.splitter_tree.specs.TreeProofs.{others_kept};
 ghost use Rattle.step_memory.specs.declared.access.Access.{Access};
 ghost use Rattle.step_memory.specs.declared.access.Access.TheVariants.{Read};
+ghost use Rattle.step_memory.specs.declared.note.Note.TheVariants.{Quiet};
+ghost use Rattle.splitter_tree.specs.declared.register.TreeValue.TheVariants as value;
+ghost use Rattle.splitter_tree.specs.Walk.{next_access, walker_after, walker_note};
 
 use crate::node::{Link, find_from, write_from};
 use crate::node_registers::NodeRegisters;
 use crate::register::{TreeRegister, TreeValue};
+use crate::walker::Walker;
 use std::alloc::Allocator;
 use std::marker::Model;
-use step_memory::{Access, Answer, NoMemory, Place, StepMemory};
+use step_memory::{Access, Answer, NoMemory, Place, StepMemory, StepProgram};
 
 /// Nodes, under an allocator of which each takes its room when it is made. Contracts see the nodes that are there by
 /// their numbers.
@@ -79,6 +83,78 @@ impl<A: Allocator> Tree<A> {
                 TreeRegister::Contents(_) => TreeValue::Contents(None),
             },
         }
+    }
+}
+
+impl<A: Allocator + Clone> Tree<A> {
+    /// The word that stands in a register of a node that is there.
+    fn word(&self, register: TreeRegister) -> Option<u64>
+        ensures { IfSome result (λ word. value_in register (map.get self.now (number_in register)) ≡ value.Word word) }
+    {
+        match self.registers_at(register.node()) {
+            Some(registers) => registers.word(register),
+            None => None,
+        }
+    }
+
+    /// Takes a step of a visit, as `walk_on` does.
+    fn visit_on(&mut self, walker: &mut Walker) -> bool
+        requires { walker.old.is_marking ≡ false }
+        ensures after { result ≡ true → walker.new ≡ walker_after walker.old (answer_of self.old (next_access walker.old)) }
+        ensures quiet { result ≡ true → walker_note walker.old (answer_of self.old (next_access walker.old)) ≡ Quiet }
+        ensures memory { result ≡ true → self.new ≡ after_access self.old (next_access walker.old) }
+        ensures kept { result ≡ false → walker.new ≡ walker.old }
+        ensures memory_kept { result ≡ false → self.new ≡ self.old }
+    {
+        let mut next = *walker;
+        match walker.visitor.next() {
+            Access::Read(register) => {
+                let Some(word) = self.word(register) else {
+                    return false;
+                };
+                if !next.resume_visit(Answer::Value(word)).is_quiet() {
+                    return false;
+                }
+            }
+            Access::Write(register, word) => {
+                if !next.resume_visit(Answer::Done).is_quiet() {
+                    return false;
+                }
+                if write_from(
+                    &mut self.root,
+                    &self.alloc,
+                    register,
+                    TreeValue::Word(word),
+                ).is_err()
+                {
+                    return false;
+                }
+            }
+            Access::TestAndSet(_) => return false,
+            Access::Clear(_) => return false,
+            Access::Nothing => return false,
+        }
+        *walker = next;
+        true
+    }
+
+    /// Takes the next step of a walk where it stands, so that no segment is copied, if it makes no node and the walk then
+    /// goes on and says nothing. Tells whether it did; where not, nothing has changed, and the step is still to be taken.
+    pub fn walk_on(&mut self, walker: &mut Walker) -> bool
+        ensures after { result ≡ true → walker.new ≡ walker_after walker.old (answer_of self.old (next_access walker.old)) }
+        ensures quiet { result ≡ true → walker_note walker.old (answer_of self.old (next_access walker.old)) ≡ Quiet }
+        ensures memory { result ≡ true → self.new ≡ after_access self.old (next_access walker.old) }
+        ensures kept { result ≡ false → walker.new ≡ walker.old }
+        ensures memory_kept { result ≡ false → self.new ≡ self.old }
+    {
+        if !walker.is_marking {
+            return self.visit_on(walker);
+        }
+        if self.registers_at(walker.place).is_none() {
+            return false;
+        }
+        walker.is_marking = false;
+        true
     }
 }
 

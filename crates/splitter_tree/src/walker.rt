@@ -1,7 +1,9 @@
 //! A walk from node to node.
 
 ghost use Rattle.std.specs.Prelude.{◌≡◌};
-ghost use Rattle.splitter_tree.specs.Walk.{left_child, right_child, in_words, told, walker_at, walk_of, walker_steps, next_access, walker_after, walker_note, place_of};
+ghost use Rattle.splitter_tree.specs.Walk.{left_child, right_child, in_words, told, walker_at, walk_of, walker_steps, next_access, walker_after, walker_note, walked_to, place_of};
+ghost use Rattle.splitter.specs.Visitor.{stage_by};
+ghost use Rattle.splitter.specs.Walk.{note_at_door};
 
 use crate::register::{TreeRegister, TreeValue};
 use splitter::{Visitor, Way};
@@ -89,6 +91,25 @@ impl Walker {
     {
         self.visitor.stage.place_at(self.place)
     }
+
+    /// Takes the answer to an access of the visit.
+    pub(crate) fn resume_visit(&mut self, got: Answer<u64>) -> Note<Place>
+        ensures after { self.new ≡ walked_to self.old (stage_by self.old.visitor got) }
+        ensures note { result ≡ note_at_door self.old.place (stage_by self.old.visitor got) }
+    {
+        match self.visitor.resume(got) {
+            Note::Ended(Way::Stop) => Note::Ended(self.place),
+            Note::Ended(Way::Right) => {
+                *self = Walker::before(self.visitor.identity, right_child(self.place));
+                Note::Quiet
+            }
+            Note::Ended(Way::Down) => {
+                *self = Walker::before(self.visitor.identity, left_child(self.place));
+                Note::Quiet
+            }
+            Note::Said(_) | Note::Quiet => Note::Quiet,
+        }
+    }
 }
 
 impl StepProgram for Walker {
@@ -118,17 +139,6 @@ impl StepProgram for Walker {
             self.is_marking = false;
             return Note::Quiet;
         }
-        match self.visitor.resume(told(got)) {
-            Note::Ended(Way::Stop) => Note::Ended(self.place),
-            Note::Ended(Way::Right) => {
-                *self = Walker::before(self.visitor.identity, right_child(self.place));
-                Note::Quiet
-            }
-            Note::Ended(Way::Down) => {
-                *self = Walker::before(self.visitor.identity, left_child(self.place));
-                Note::Quiet
-            }
-            Note::Said(_) | Note::Quiet => Note::Quiet,
-        }
+        self.resume_visit(told(got))
     }
 }

@@ -37,3 +37,7 @@ module _ {P S R V O : Type 0} (program : ProgramSteps P R V O) (memory : MemoryS
 -- p has begun, and its next access is a read
 abbrev pub ReadsNext : {P S R V O : Type 0} → ProgramSteps P R V O → WorldState S P → ℕ → Type 0
 ReadsNext {P} {S} {R} program w p = (v : Participant P) × (r : R) × (participant_of p w.participants ≡ Some v) × (program.next v.program ≡ Read r)
+
+-- p has begun, and its program is one that a shortcut takes
+abbrev pub IsTaken : {P S : Type 0} → (P → Type 0) → WorldState S P → ℕ → Type 0
+IsTaken {P} {S} takes w p = (v : Participant P) × (participant_of p w.participants ≡ Some v) × takes v.program

@@ -28,6 +28,7 @@ pub mod place;
 pub mod program;
 pub mod record;
 pub mod refusal;
+pub mod shortcut;
 #[cfg(test)]
 mod tests;
 pub mod view;
@@ -46,5 +47,6 @@ pub use place::Place;
 pub use program::{Replace, Request, StepProgram};
 pub use record::{Record, Segment};
 pub use refusal::{NoMemory, Refusal};
+pub use shortcut::Shortcut;
 pub use view::View;
 pub use world::World;

@@ -1,6 +1,7 @@
 //! What a program says of a step.
 
-ghost use Rattle.std.specs.Prelude.{◌≡◌};
+ghost use Rattle.std.specs.Prelude.{◌≡◌, ◌↔◌, IsTrue};
+ghost use Rattle.step_memory.specs.declared.note.Note.TheVariants.{Quiet};
 ghost use Rattle.step_memory.specs.Note.{ends};
 
 /// What a program says of the step that it took.
@@ -20,5 +21,12 @@ impl<O> Note<O> {
         ensures { result ≡ ends self.now }
     {
         matches!(self, Note::Ended(_))
+    }
+
+    /// Whether the program has said nothing, and goes on.
+    pub fn is_quiet(&self) -> bool
+        ensures { IsTrue result ↔ (self.now ≡ Quiet) }
+    {
+        matches!(self, Note::Quiet)
     }
 }

@@ -2,12 +2,15 @@
 
 ghost use Rattle.std.specs.Prelude.{◌≡◌, true, false};
 ghost use Rattle.step_memory.specs.Participant.{resumed, beginner};
+ghost use Rattle.step_memory.specs.Steps.{answer_from};
 ghost use Rattle.step_memory.specs.declared.access.Answer.TheVariants.{Value};
 ghost use Rattle.step_memory.specs.declared.note.Note.TheVariants.{Quiet};
 
 use crate::access::Answer;
+use crate::memory::StepMemory;
 use crate::note::Note;
 use crate::program::{Request, StepProgram};
+use crate::shortcut::Shortcut;
 
 /// A participant: its identity, which is not 0, its program, and whether its program has ended.
 #[derive(Debug, Drop)]
@@ -35,6 +38,25 @@ impl<P: StepProgram> Participant<P> {
         ensures kept { result ≡ false → self.new ≡ self.old }
     {
         if !self.program.read_on(got) {
+            return false;
+        }
+        self.ended = false;
+        true
+    }
+
+    /// Takes its program's step by this shortcut. Tells whether it did; where not, nothing has changed.
+    pub fn take<Q: Shortcut<P, S>, S: StepMemory<Reg = P::Reg, Value = P::Value>>(
+        &mut self,
+        memory: &mut S,
+    ) -> bool
+        ensures takes { result ≡ true → Q.takes self.old.program }
+        ensures after { result ≡ true → self.new ≡ resumed P.steps self.old (answer_from (S.steps.register memory.old) (P.steps.next self.old.program)) }
+        ensures quiet { result ≡ true → P.steps.note self.old.program (answer_from (S.steps.register memory.old) (P.steps.next self.old.program)) ≡ Quiet }
+        ensures memory { result ≡ true → memory.new ≡ S.steps.after memory.old (P.steps.next self.old.program) }
+        ensures kept { result ≡ false → self.new ≡ self.old }
+        ensures memory_kept { result ≡ false → memory.new ≡ memory.old }
+    {
+        if !Q::take(&mut self.program, memory) {
             return false;
         }
         self.ended = false;

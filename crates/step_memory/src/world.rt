@@ -4,13 +4,14 @@ ghost use Rattle.std.specs.Prelude.{◌≡◌, ◌≢◌, ℕ, ◌<◌, ◌≤�
 ghost use Rattle.step_memory.specs.Participant.{index_of, participant_of, program_of};
 ghost use Rattle.step_memory.specs.World.{begin_refusal, done_unless, after_begin, step_answer, after_step, may_refuse_step, set_answer, after_set, CanAsk, after_asked};
 ghost use Rattle.step_memory.specs.WorldState.{WorldState};
-ghost use Rattle.step_memory.specs.Locality.{IsLocal, IsAnsweredAlike, ReadsNext};
+ghost use Rattle.step_memory.specs.Locality.{IsLocal, IsAnsweredAlike, ReadsNext, IsTaken};
 
 use crate::memory::StepMemory;
 use crate::note::Note;
 use crate::participant::Participant;
 use crate::program::{Replace, Request, StepProgram};
 use crate::refusal::{NoMemory, Refusal};
+use crate::shortcut::Shortcut;
 use std::alloc::Allocator;
 use std::marker::Model;
 
@@ -157,6 +158,25 @@ impl<
             return false;
         };
         self.participants[i].read_on(value)
+    }
+
+    /// One step of a participant by a shortcut, if that takes it: nothing is copied. Tells whether it was made; where not,
+    /// nothing has changed, and `step` makes it or refuses it.
+    pub fn take<Q: Shortcut<P, S>>(&mut self, id: u64) -> bool
+        ensures answer { result ≡ true → step_answer P.steps S.steps self.old id ≡ Ok Note.Quiet }
+        ensures takes { result ≡ true → IsTaken Q.takes self.old id }
+        ensures local { result ≡ true → IsLocal P.steps S.steps id self.old self.new }
+        ensures after { result ≡ true → self.new ≡ after_step P.steps S.steps self.old id }
+        ensures kept { result ≡ false → self.new ≡ self.old }
+    {
+        let Some(i) = find(&self.participants, id) else {
+            return false;
+        };
+        let walker = &self.participants[i];
+        if walker.ended {
+            return false;
+        }
+        self.participants[i].take::<Q, S>(&mut self.memory)
     }
 
     /// The program of a participant.

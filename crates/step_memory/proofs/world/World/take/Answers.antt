@@ -1,0 +1,60 @@
+use Rattle.std.proofs.Common.{◌≡◌, ◌<◌, Ok, set, refl, sym, ap, ◌∙◌, length}
+use Rattle.std.proofs.lemmas.List.{get_or_default}
+use Rattle.step_memory.specs.Participant.{resumed, with_participant}
+use Rattle.step_memory.specs.World.{got_by}
+use Rattle.step_memory.proofs.LocalityLemmas.{step_local}
+use Rattle.step_memory.proofs.Found.{Found}
+use Rattle.step_memory.proofs.Roster as roster
+use Rattle.step_memory.proofs.StepLemmas.{going_answer, going_after}
+use Rattle.step_memory.proofs.world.World.take.Goals as goal
+use Rattle.step_memory.proofs.world.World.take.Goals.{After-index-walker, After-take}
+
+found_participant : (g : _) (c : After-index-walker g) → Found c.args.id c.args.self.now.participants c.in-Some.i c.index-walker.result.now
+found_participant g c =
+    roster.found (λ v. v.identity) (λ v. v) c.args.id c.args.self.now.participants c.in-Some.i c.index-walker.result.now
+    c.deref.ensures.value (ap (λ w. w.participants) c.self.view_is) c.in-Some.ensures.answer c.index-walker.ensures
+
+-- the participant that the shortcut was handed, and the memory
+record Taken (g : _) (c : After-take g) : Type 0 where
+  same : c.index_mut.result.now ≡ c.index-walker.result.now
+  memory : c.self.inside.memory ≡ c.args.self.now.memory
+
+taken : (g : _) (c : After-take g) → Taken g c
+taken g c =
+    let below : c.in-Some.i < length c.self.inside.participants.items = rw (← c.deref.ensures.value) c.in-Some.ensures.inside in
+    record {
+      same = c.index_mut.ensures.value ∙ get_or_default c.self.inside.participants.items c.in-Some.i _ _ below ∙ sym c.index-walker.ensures;
+      memory = ap (λ w. w.memory) c.self.view_is;
+    }
+
+pub returns-clause-answer : goal.returns-clause-answer
+returns-clause-answer g c = λ goes.
+    let f = found_participant g (goal.at.returns-clause-answer g c).After-index-walker in
+    let w = taken g (goal.at.returns-clause-answer g c).After-take in
+    going_answer g.P.StepProgram.steps g.S.StepMemory.steps c.args.self.now c.args.id c.index-walker.result.now f.is c.if-walker.false
+    ∙ ap Ok (rw (← w.memory, ← w.same) (c.take.ensures.quiet goes))
+
+pub returns-clause-takes : goal.returns-clause-takes
+returns-clause-takes g c = λ goes.
+    let f = found_participant g (goal.at.returns-clause-takes g c).After-index-walker in
+    let w = taken g (goal.at.returns-clause-takes g c).After-take in
+    (c.index-walker.result.now, f.is, rw (← w.same) (c.take.ensures.takes goes))
+
+pub returns-clause-after : goal.returns-clause-after
+returns-clause-after g c = λ goes.
+    let f = found_participant g (goal.at.returns-clause-after g c).After-index-walker in
+    let w = taken g (goal.at.returns-clause-after g c).After-take in
+    let m : c.self.inside.most ≡ c.args.self.now.most = ap (λ w. w.most) c.self.view_is in
+    let v : c.self.inside.participants.items ≡ c.args.self.now.participants = ap (λ w. w.participants) c.self.view_is in
+    let got = got_by g.P.StepProgram.steps g.S.StepMemory.steps c.args.self.now.memory c.index-walker.result.now in
+    let participant : c.take.new.self ≡ resumed g.P.StepProgram.steps c.index-walker.result.now got = rw (← w.memory, ← w.same) (c.take.ensures.after goes) in
+    let memory : c.take.new.memory ≡ g.S.StepMemory.steps.after c.args.self.now.memory (g.P.StepProgram.steps.next c.index-walker.result.now.program) = rw (← w.memory, ← w.same) (c.take.ensures.memory goes) in
+    let identity : c.take.new.self.identity ≡ c.args.id = ap (λ p. p.identity) participant ∙ f.identity in
+    let put : with_participant c.take.new.self c.args.self.now.participants ≡ set c.args.self.now.participants c.in-Some.i c.take.new.self = f.put c.take.new.self identity in
+    sym (going_after g.P.StepProgram.steps g.S.StepMemory.steps c.args.self.now c.args.id c.index-walker.result.now f.is c.if-walker.false
+    ∙ rw (← participant, put, ← memory, ← v, ← m) refl)
+
+pub returns-clause-local : goal.returns-clause-local
+returns-clause-local g c = λ goes.
+    let e = returns-clause-after g c goes in
+    rw e (step_local g.P.StepProgram.steps g.S.StepMemory.steps g.met.S.StepMemory.others c.args.self.now c.args.id)
