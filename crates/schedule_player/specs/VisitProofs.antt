@@ -1,5 +1,5 @@
 -- runs of worlds whose participants only begin and step
-use Rattle.std.proofs.Common.{◌≡◌, ℕ, zero, suc, arith, Bool, true, false, not, cond, nat_lt, List, [], ◌∷◌, ◌++◌, length, codes, map, Some, None, Result, Ok, Err, refl, sym, ap, subst, ◌∙◌, append_assoc}
+use Rattle.std.proofs.Common.{◌≡◌, ◌≢◌, inl, inr, ℕ, zero, suc, arith, Bool, true, false, not, cond, nat_lt, List, [], ◌∷◌, ◌++◌, length, codes, map, Some, None, Result, Ok, Err, refl, sym, ap, subst, ◌∙◌, append_assoc}
 use Rattle.std.proofs.lemmas.List.{append-nil}
 use Rattle.std.specs.List.{list_all}
 use Rattle.step_memory.specs.declared.refusal.Refusal.TheVariants as refusal
@@ -26,7 +26,7 @@ use Rattle.schedule_player.specs.Runs.{Runs}
 use Rattle.schedule_player.specs.RunProofs.{runs-cut}
 use Rattle.schedule_player.specs.Turns.{Turn, exchanges}
 use Rattle.schedule_player.specs.Turns.Turn.{Answered, Told, Ended, Misread}
-use Rattle.schedule_player.specs.Visits.{VisitRules, NoName, visit_may, said_reply, knows_visits}
+use Rattle.schedule_player.specs.Visits.{VisitRules, NoName, visit_may, step_may, said_reply, knows_visits}
 use Rattle.schedule_player.specs.Worlds.{exchange_of, IsCallRun}
 
 -- a line of a kind without a desk means a visit, `quit`, or nothing
@@ -103,7 +103,7 @@ module _ {T X : Type 0} (rules : VisitRules T X) where
   -- there is a reply to what is known
   pub visit_answers : (w : T) (q : Request) → knows_visits q ≡ true → (r : Reply) × (u : T) × visit_may rules w q r u
   visit_answers w (Take (Begin p)) known = (done_reply (rules.begins w p), rules.begun w p, (refl, refl))
-  visit_answers w (Take (Step p)) known = (said_reply rules.shown (rules.steps w p), rules.stepped w p, (refl, refl))
+  visit_answers w (Take (Step p)) known = (said_reply rules.shown (rules.steps w p), rules.stepped w p, inl (refl, refl))
   visit_answers w (Take (Enter p)) known = absurd cc
   visit_answers w (Take (Probe p)) known = absurd cc
   visit_answers w (Take (Leave p)) known = absurd cc
@@ -112,17 +112,24 @@ module _ {T X : Type 0} (rules : VisitRules T X) where
   visit_answers w (Take (Widen more)) known = absurd cc
   visit_answers w (OwnerOf n) known = (reply.Refused refusal.OutOfRange, w, no_name w n known)
 
-  -- and only one
-  pub one_visit : (w u v : T) (q : Request) (a b : Reply) → visit_may rules w q a u → visit_may rules w q b v → (a ≡ b) × (u ≡ v)
-  one_visit w u v (Take (Begin p)) a b x y = (x.0 ∙ sym y.0, x.1 ∙ sym y.1)
-  one_visit w u v (Take (Step p)) a b x y = (x.0 ∙ sym y.0, x.1 ∙ sym y.1)
-  one_visit w u v (Take (Enter p)) a b x y = absurd x
-  one_visit w u v (Take (Probe p)) a b x y = absurd x
-  one_visit w u v (Take (Leave p)) a b x y = absurd x
-  one_visit w u v (Take (Put p value)) a b x y = absurd x
-  one_visit w u v (Take (Get p)) a b x y = absurd x
-  one_visit w u v (Take (Widen more)) a b x y = absurd x
-  one_visit w u v (OwnerOf n) a b x y = one_no_name w u v n a b x y
+  one_step : (w u v : T) (p : ℕ) (a b : Reply) → step_may rules w p a u → step_may rules w p b v →
+      a ≢ reply.Refused refusal.NoMemory → b ≢ reply.Refused refusal.NoMemory → (a ≡ b) × (u ≡ v)
+  one_step w u v p a b (inl x) (inl y) na nb = (x.0 ∙ sym y.0, x.1 ∙ sym y.1)
+  one_step w u v p a b (inl x) (inr y) na nb = absurd (nb y.0)
+  one_step w u v p a b (inr x) y na nb = absurd (na x.0)
+
+  -- and only one, where no growth is refused
+  pub one_visit : (w u v : T) (q : Request) (a b : Reply) → visit_may rules w q a u → visit_may rules w q b v →
+      a ≢ reply.Refused refusal.NoMemory → b ≢ reply.Refused refusal.NoMemory → (a ≡ b) × (u ≡ v)
+  one_visit w u v (Take (Begin p)) a b x y na nb = (x.0 ∙ sym y.0, x.1 ∙ sym y.1)
+  one_visit w u v (Take (Step p)) a b x y na nb = one_step w u v p a b x y na nb
+  one_visit w u v (Take (Enter p)) a b x y na nb = absurd x
+  one_visit w u v (Take (Probe p)) a b x y na nb = absurd x
+  one_visit w u v (Take (Leave p)) a b x y na nb = absurd x
+  one_visit w u v (Take (Put p value)) a b x y na nb = absurd x
+  one_visit w u v (Take (Get p)) a b x y na nb = absurd x
+  one_visit w u v (Take (Widen more)) a b x y na nb = absurd x
+  one_visit w u v (OwnerOf n) a b x y na nb = one_no_name w u v n a b x y
 
   -- who asks for a name is told right
   pub visits_tell : (most : ℕ) (w u : T) (ts : List Turn) → Runs (visit_may rules) w ts u → AreOwnersTold most ts
@@ -132,7 +139,21 @@ module _ {T X : Type 0} (rules : VisitRules T X) where
 
   module _ (After : T → List (Call X) → Type 0)
       (begun : (t : T) (r : List (Call X)) (p : ℕ) → After t r → After (rules.begun t p) (r ++ Began p (rules.begins t p) ∷ []))
-      (stepped : (t : T) (r : List (Call X)) (p : ℕ) → After t r → After (rules.stepped t p) (r ++ Stepped p (rules.steps t p) ∷ [])) where
+      (stepped : (t : T) (r : List (Call X)) (p : ℕ) → After t r → After (rules.stepped t p) (r ++ Stepped p (rules.steps t p) ∷ []))
+      (lacked : (t : T) (r : List (Call X)) (p : ℕ) → After t r → rules.lacks t p ≡ true → After t (r ++ Stepped p (Err refusal.NoMemory) ∷ [])) where
+    one_step_call : (w u : T) (before : List (Call X)) (p : ℕ) (a : Reply) → After w before → step_may rules w p a u →
+        (call : Call X) × (let x : Exchange = record { event = Step p; reply = a } in exchange_of rules.shown call ≡ x) × After u (before ++ call ∷ [])
+    one_step_call w u before p a after (inl m) = (
+      Stepped p (rules.steps w p),
+      ap (λ (r : Reply). let x : Exchange = record { event = Step p; reply = r } in x) (sym m.0),
+      subst (λ (t : T). After t (before ++ Stepped p (rules.steps w p) ∷ [])) (sym m.1) (stepped w before p after),
+    )
+    one_step_call w u before p a after (inr m) = (
+      Stepped p (Err refusal.NoMemory),
+      ap (λ (r : Reply). let x : Exchange = record { event = Step p; reply = r } in x) (sym m.0),
+      subst (λ (t : T). After t (before ++ Stepped p (Err refusal.NoMemory) ∷ [])) (sym m.1) (lacked w before p after m.2),
+    )
+
     -- one exchange is one call
     one_call : (w u : T) (before : List (Call X)) (e : Event) (a : Reply) → After w before → visit_may rules w (Take e) a u →
         (call : Call X) × (let x : Exchange = record { event = e; reply = a } in exchange_of rules.shown call ≡ x) × After u (before ++ call ∷ [])
@@ -141,11 +162,7 @@ module _ {T X : Type 0} (rules : VisitRules T X) where
       ap (λ (r : Reply). let x : Exchange = record { event = Begin p; reply = r } in x) (sym m.0),
       subst (λ (t : T). After t (before ++ Began p (rules.begins w p) ∷ [])) (sym m.1) (begun w before p after),
     )
-    one_call w u before (Step p) a after m = (
-      Stepped p (rules.steps w p),
-      ap (λ (r : Reply). let x : Exchange = record { event = Step p; reply = r } in x) (sym m.0),
-      subst (λ (t : T). After t (before ++ Stepped p (rules.steps w p) ∷ [])) (sym m.1) (stepped w before p after),
-    )
+    one_call w u before (Step p) a after m = one_step_call w u before p a after m
     one_call w u before (Enter p) a after m = absurd m
     one_call w u before (Probe p) a after m = absurd m
     one_call w u before (Leave p) a after m = absurd m

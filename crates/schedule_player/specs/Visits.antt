@@ -1,5 +1,5 @@
 -- the rules of worlds whose participants only begin and step
-use Rattle.std.specs.Prelude.{◌≡◌, ℕ, zero, suc, Bool, true, false, Result, Ok, Err}
+use Rattle.std.specs.Prelude.{◌≡◌, ◌⊎◌, ℕ, zero, suc, Bool, true, false, Result, Ok, Err}
 use Rattle.step_memory.specs.declared.refusal.Refusal.{Refusal}
 use Rattle.step_memory.specs.declared.refusal.Refusal.TheVariants as refusal
 use Rattle.desk.specs.declared.event.Event.TheVariants.{Begin, Step, Enter, Probe, Leave, Put, Get, Widen}
@@ -22,12 +22,14 @@ knows_visits (Take (Widen more)) = false
 knows_visits (OwnerOf zero) = true
 knows_visits (OwnerOf (suc n)) = false
 
--- the outcome of `begin` and of `step` and the state after each, and what an accepted step is shown as
+-- the outcome of `begin` and of `step` and the state after each, whether a step may be refused for want of memory instead,
+-- and what an accepted step is shown as
 pub record VisitRules (T X : Type 0) : Type 0 where
   pub begins : T → ℕ → Result (Unit {0}) Refusal
   pub begun : T → ℕ → T
   pub steps : T → ℕ → Result X Refusal
   pub stepped : T → ℕ → T
+  pub lacks : T → ℕ → Bool
   pub shown : X → Reply
 
 -- the reply to a step, where an accepted one is shown so
@@ -40,10 +42,16 @@ abbrev pub NoName : {T : Type 0} → T → ℕ → Reply → T → Type 0
 NoName w zero r u = (r ≡ reply.Refused refusal.OutOfRange) × (u ≡ w)
 NoName w (suc n) r u = ⊥
 
--- one reply and one state, for what is known
+-- a step has one reply and leaves one state; or, where a growth may be refused, that refusal, with nothing changed
+abbrev pub step_may : {T X : Type 0} → VisitRules T X → T → ℕ → Reply → T → Type 0
+step_may rules w p r u =
+    ((r ≡ said_reply rules.shown (rules.steps w p)) × (u ≡ rules.stepped w p))
+    ⊎ ((r ≡ reply.Refused refusal.NoMemory) × (u ≡ w) × (rules.lacks w p ≡ true))
+
+-- so may be replied to what is known
 abbrev pub visit_may : {T X : Type 0} → VisitRules T X → T → Request → Reply → T → Type 0
 visit_may rules w (Take (Begin p)) r u = (r ≡ done_reply (rules.begins w p)) × (u ≡ rules.begun w p)
-visit_may rules w (Take (Step p)) r u = (r ≡ said_reply rules.shown (rules.steps w p)) × (u ≡ rules.stepped w p)
+visit_may rules w (Take (Step p)) r u = step_may rules w p r u
 visit_may rules w (Take (Enter p)) r u = ⊥
 visit_may rules w (Take (Probe p)) r u = ⊥
 visit_may rules w (Take (Leave p)) r u = ⊥

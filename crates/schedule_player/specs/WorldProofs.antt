@@ -17,7 +17,7 @@ use Rattle.schedule_player.specs.Worlds.{splitter_rules, splitter_fresh, IsSplit
 
 pub splitter_lawful : (c : Config) (w u : splitter.SplitterState) (ts : List Turn) → splitter_fresh c w → Runs (visit_may splitter_rules) w ts u → IsSplitterRun (exchanges ts)
 splitter_lawful c w u ts fresh run =
-    call_run splitter_rules splitter.After splitter_law.after_begun splitter_law.after_step_of KeepsSplitterLaw splitter_law.law_after w u
+    call_run splitter_rules splitter.After splitter_law.after_begun splitter_law.after_step_of (λ t r p after lacks. absurd cc) KeepsSplitterLaw splitter_law.law_after w u
     (subst (λ (t : splitter.SplitterState). splitter.After t []) (sym fresh) (splitter_law.after_none c.m)) ts run
 
 pub one_splitter_fresh : (c : Config) (w v : splitter.SplitterState) → splitter_fresh c w → splitter_fresh c v → w ≡ v
@@ -25,7 +25,7 @@ one_splitter_fresh c w v a b = a ∙ sym b
 
 pub grid_lawful : (c : Config) (w u : grid.GridState) (ts : List Turn) → grid_fresh c w → Runs (visit_may grid_rules) w ts u → IsGridRun (exchanges ts)
 grid_lawful c w u ts fresh run =
-    call_run grid_rules grid.After grid_law.after_begun grid_law.after_step_of KeepsGridLaw grid_law.law_after w u
+    call_run grid_rules grid.After grid_law.after_begun grid_law.after_step_of (λ t r p after lacks. absurd cc) KeepsGridLaw grid_law.law_after w u
     (subst (λ (t : grid.GridState). grid.After t []) (sym fresh.1) (grid_law.after_none c.m (subst (λ (k : WorldKind). c.m ≤ most_in k) fresh.0 c.in_range.1))) ts run
 
 pub one_grid_fresh : (c : Config) (w v : grid.GridState) → grid_fresh c w → grid_fresh c v → w ≡ v

@@ -62,5 +62,5 @@ impl<A: Allocator + Clone, R> World<A, R> for SplitterWorld<A> {
 
     ghost one_fresh = { one_splitter_fresh };
 
-    ghost one_reply = { λ w u v q a b x y na nb. one_visit splitter_rules w u v q a b x y };
+    ghost one_reply = { one_visit splitter_rules };
 }
