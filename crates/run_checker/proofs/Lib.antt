@@ -9,6 +9,7 @@ mod Deciding
 mod RowLemmas
 mod PairLemmas
 mod FirstLemmas
+mod MigrationLemmas
 mod StayLemmas
 mod Judging
 mod Following
@@ -29,3 +30,4 @@ mod NarrowRuns
 mod LowPlaces
 mod Talking
 mod Recording
+mod MigratedRecords
