@@ -8,6 +8,7 @@ mod Deciding
 mod RowLemmas
 mod PairLemmas
 mod FirstLemmas
+mod MigrationLemmas
 mod StayLemmas
 mod Judging
 mod Following
@@ -28,3 +29,4 @@ mod NarrowRuns
 mod LowPlaces
 mod Talking
 mod Recording
+mod MigratedRecords

@@ -65,7 +65,7 @@ pub fault_on : (terms : RenameTerms) (size : ℕ) (lines : List Line) (l : Line)
 fault_on terms size lines l old why h few j = let last = h.few in record { object = h.object; run = h.run; least = j h.object h.held (omega arith) }
 
 -- a call leaves what any line of it does
-after_is : (terms : RenameTerms) (o : DeskObject) (c : DeskCall) (l : Line) → IsLineOf (exchange_of c) l → AllowsCall terms o c → after_call o c ≡ after_line o l
+pub after_is : (terms : RenameTerms) (o : DeskObject) (c : DeskCall) (l : Line) → IsLineOf (exchange_of c) l → AllowsCall terms o c → after_call o c ≡ after_line o l
 after_is terms o c l w a = same_after terms o c w.shows a ∙ ap (after_line o) w.spelled
 
 -- exchanges have their lines, told in full or not

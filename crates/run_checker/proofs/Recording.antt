@@ -53,7 +53,7 @@ said_by c ls ts bytes t b =
 pub talk_said : (c : Config) (ls : List (List ℕ)) (ts : List Turn) → IsShortTalk c ls ts → IsSaid (record_lines (record_of c ts)) Yes
 talk_said c ls ts t = inl (said_by c ls ts (record_of c ts) t (talk_record c ls ts t))
 
-yes_by : (bytes : List ℕ) → IsSaidAfter (record_lines bytes) Yes → IsYes bytes
+pub yes_by : (bytes : List ℕ) → IsSaidAfter (record_lines bytes) Yes → IsYes bytes
 yes_by bytes s v (inl said) = inl (one_verdict (record_lines bytes) s v said)
 yes_by bytes s v (inr none) = inr none
 

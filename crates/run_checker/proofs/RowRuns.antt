@@ -44,14 +44,14 @@ pub record RowsSoFar (h : Header) (rows left : List (List ℕ)) (checker : Check
   pub taken : HasTaken (terms_of h.config) h.config.k lines checker
   pub at : number ≡ length before + 2
 
-read_more : (kind : WorldKind) (version : Version) (rows : List (List ℕ)) (lines : List Line) (row : List ℕ) (l : Line) → AreRead kind version rows lines → IsEventLine kind version row l → AreRead kind version (rows ++ row ∷ []) (lines ++ l ∷ [])
+pub read_more : (kind : WorldKind) (version : Version) (rows : List (List ℕ)) (lines : List Line) (row : List ℕ) (l : Line) → AreRead kind version rows lines → IsEventLine kind version row l → AreRead kind version (rows ++ row ∷ []) (lines ++ l ∷ [])
 read_more kind version [] [] row l r e = (e, tt)
 read_more kind version [] (m ∷ ms) row l r e = absurd r
 read_more kind version (x ∷ xs) [] row l r e = absurd r
 read_more kind version (x ∷ xs) (m ∷ ms) row l r e = (r.0, read_more kind version xs ms row l r.1 e)
 
 module _ (h : Header) (rows : List (List ℕ)) (checker : Checker) (number : ℕ) where
-  pub all_rows : RowsSoFar h rows [] checker number → SpellRun h rows
+  abbrev pub all_rows : RowsSoFar h rows [] checker number → SpellRun h rows
   all_rows s = record {
     lines = s.lines;
     read = subst (λ (x : List (List ℕ)). AreRead h.config.world h.version x s.lines) whole s.read;
@@ -69,7 +69,7 @@ module _ (h : Header) (rows : List (List ℕ)) (checker : Checker) (number : ℕ
   pub bad_row : (row : List ℕ) (more : List (List ℕ)) → (s : RowsSoFar h rows (row ∷ more) checker number) → (length s.before < 1000000 → (l : Line) → IsEventLine h.config.world h.version row l → ⊥) → IsBadRow h rows number
   bad_row row more s bad = record { before = s.before; row = row; after = more; is = s.is; lines = s.lines; read = s.read; run = follows_run (terms_of h.config) h.config.k s.lines s.taken.object s.taken.run; bad = bad; at = s.at }
 
-  pub next_row : (row : List ℕ) (more : List (List ℕ)) (l : Line) (new : Checker) → (s : RowsSoFar h rows (row ∷ more) checker number) → length s.before < 1000000 → IsEventLine h.config.world h.version row l →
+  abbrev pub next_row : (row : List ℕ) (more : List (List ℕ)) (l : Line) (new : Checker) → (s : RowsSoFar h rows (row ∷ more) checker number) → length s.before < 1000000 → IsEventLine h.config.world h.version row l →
       HasTaken (terms_of h.config) h.config.k (s.lines ++ l ∷ []) new → RowsSoFar h rows more new (number + 1)
   next_row row more l new s few says taken =
       let a = length-append s.before (row ∷ []) in
@@ -99,10 +99,10 @@ line_read kind version row found l is h = subst (λ (o : Option Line). MatchOpti
 -- the row was read as this line, and judged, where it is not one too many: it is the first at fault, or one more is taken
 module _ (h : Header) (rows : List (List ℕ)) (checker new : Checker) (number : ℕ) (row : List ℕ) (more : List (List ℕ)) (l : Line) (said : Option Reason) (s : RowsSoFar h rows (row ∷ more) checker number) (early : number < 1000002)
     (says : IsEventLine h.config.world h.version row l) (judged : TakesMore l checker said new) where
-  row_few : length s.before < 1000000
+  pub row_few : length s.before < 1000000
   row_few = (let at = s.at in omega arith)
 
-  row_judged : TakesOn (terms_of h.config) h.config.k s.lines l said new
+  pub row_judged : TakesOn (terms_of h.config) h.config.k s.lines l said new
   row_judged = (let at = s.at in let many = s.many in judged (terms_of h.config) h.config.k s.lines s.taken (omega arith))
 
   pub row_at_fault : (why : Reason) → said ≡ Some why → IsFaultyRow h rows number why

@@ -31,7 +31,7 @@ use Rattle.run_checker.proofs.WrittenWords.{IsNarrowEvent}
 -- ---- what lines ask
 
 -- an event that is asked has numbers below 2^64
-abbrev IsNarrow : Result Command Bad → Type 0
+abbrev pub IsNarrow : Result Command Bad → Type 0
 IsNarrow (Ok (command.Event e)) = IsNarrowEvent e
 IsNarrow (Ok (command.Owner n)) = Unit {0}
 IsNarrow (Ok command.Quit) = Unit {0}
@@ -112,7 +112,7 @@ words_narrow kind (word ∷ others) =
     (either_narrow (same_bytes word (codes "quit")) (quit_of others) _ (quit_narrow others)
     (either_narrow (has_desk kind) (desk_command_of word others) (Err UnknownWord) (desk_narrow word others) tt)))
 
-line_narrow : (kind : WorldKind) (line : List ℕ) → IsNarrow (meaning kind line)
+pub line_narrow : (kind : WorldKind) (line : List ℕ) → IsNarrow (meaning kind line)
 line_narrow kind line =
     either_narrow (nat_lt 100 (length line)) (Err TooLong) _ tt
     (either_narrow (not (list_all is_printable line)) (Err NotPrintable) (command_in kind (words line)) tt (words_narrow kind (words line)))

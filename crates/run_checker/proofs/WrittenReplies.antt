@@ -190,7 +190,7 @@ view_short (pair ∷ more) h =
     let one = length-append (decimal pair.0) (codes ":") in
     omega arith
 
-pub shown_short : (r : Reply) → IsNarrowReply r → length (shown_text (shown_of r)) ≤ 690
+pub shown_short : (r : Reply) → IsNarrowReply r → length (shown_text (shown_of r)) ≤ 2706
 shown_short (reply.Named name view) h =
     let few = h.1.few in
     let short = view_short view h.1.narrow in

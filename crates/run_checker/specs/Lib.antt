@@ -16,3 +16,5 @@ pub mod Judged
 pub mod Pairs
 pub mod Firsts
 pub mod Recorded
+pub mod Compact
+pub mod Migrated

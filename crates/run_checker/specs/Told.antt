@@ -42,6 +42,10 @@ abbrev pub is_get : Event → Bool
 is_get (Get p) = true
 is_get e = false
 
+abbrev pub is_name : Told → Bool
+is_name (Named name shown) = true
+is_name t = false
+
 -- a refusal may be told of any command; else the reply is one of its own
 abbrev pub is_reply_of : Told → Event → Bool
 is_reply_of Ok e = is_done e

@@ -35,12 +35,15 @@
 #![tactic(auto)]
 
 pub mod checker;
+mod compact;
 mod fault;
 mod firsts;
 pub mod header;
 pub mod laws;
 pub mod line;
 pub mod lines;
+pub mod migrating;
+mod migration;
 mod moments;
 mod names;
 pub mod object;
@@ -53,6 +56,7 @@ pub mod reply_text;
 mod rows;
 mod standing;
 mod stays;
+mod text;
 pub mod told;
 pub mod verdict;
 mod words;
@@ -64,6 +68,7 @@ pub use laws::{
 };
 pub use line::Line;
 pub use lines::first_fault;
+pub use migrating::migrate;
 pub use pairs::Pairs;
 pub use reason::Reason;
 pub use record::check;

@@ -12,10 +12,10 @@ use crate::verdict::Verdict;
 use std::alloc::{AllocError, Global};
 
 /// The number of the first line that is one too many: a header and a million lines come before it.
-const LINES_END: u64 = 1_000_002;
+pub const LINES_END: u64 = 1_000_002;
 
 /// For how many lines what is kept should have room: those of a record, and at most a million.
-fn room_for(rows: Option<&[u8]>) -> usize {
+pub fn room_for(rows: Option<&[u8]>) -> usize {
     match rows {
         Some(bytes) => bytes
             .iter()

@@ -1,7 +1,7 @@
 //! What a record tells of an event.
 
 ghost use Rattle.std.specs.Prelude.{◌≡◌};
-ghost use Rattle.run_checker.specs.Told.{is_step, is_probe, is_leave, is_get, is_done, is_reply_of};
+ghost use Rattle.run_checker.specs.Told.{is_name, is_step, is_probe, is_leave, is_get, is_done, is_reply_of};
 
 use crate::pairs::Pairs;
 use desk::Event;
@@ -63,6 +63,13 @@ fn is_done(event: Event) -> bool
 }
 
 impl Told {
+    /// Whether it is a name.
+    pub fn is_name(&self) -> bool
+        ensures { result ≡ is_name self.now }
+    {
+        matches!(self, Told::Named(_, _))
+    }
+
     /// Whether this is a reply of the event's command: one of its own, or a refusal.
     pub fn is_reply_of(&self, event: Event) -> bool
         ensures { result ≡ is_reply_of self.now event }

@@ -1,0 +1,244 @@
+-- lines are migrated, one after the other
+use Rattle.std.proofs.Common.{◌≡◌, ℕ, Bool, true, false, List, [], ◌∷◌, ◌++◌, map, flat_map, Option, Some, None, Ok, Err, refl, sym, ap, ◌∙◌, subst, append_assoc}
+use Rattle.std.specs.Prelude.{MatchOption, unwrap_or}
+use Rattle.std.proofs.lemmas.List.{map-append, append-nil}
+use Rattle.std.proofs.lemmas.Grind.{flat_map-append}
+use Rattle.step_memory.specs.Calls.Call.{Began, Stepped}
+use Rattle.step_memory.specs.Runs.{Run}
+use Rattle.step_memory.proofs.RunLemmas.{run_more, run_one, run_splits}
+use Rattle.rename_core.specs.declared.config.Config.{Config}
+use Rattle.rename_core.specs.declared.reply.Reply.TheVariants as step
+use Rattle.rename_core.specs.RenameObject.{RenameTerms, RenameObject, IsRecent, ShowsSole}
+use Rattle.bit_allocator.specs.declared.probe.Probe.TheVariants as probe
+use Rattle.bit_allocator.specs.Calls.Call.{Entered, Probed, Left, Widened}
+use Rattle.slot_array.specs.SlotCalls.SlotCall.{Pooled, Stored, Fetched, Extended}
+use Rattle.desk.specs.declared.event.Event.{Event}
+use Rattle.desk.specs.declared.event.Event.TheVariants as event
+use Rattle.desk.specs.declared.reply.Reply.{Reply}
+use Rattle.desk.specs.declared.reply.Reply.TheVariants as reply
+use Rattle.desk.specs.DeskCalls.{DeskCall, exchange_of}
+use Rattle.desk.specs.DeskCalls.DeskCall.{Renamed, Slotted}
+use Rattle.schedule_player.specs.Records.{header_line, exchange_line}
+use Rattle.schedule_player.specs.Replies.{reply_words}
+use Rattle.run_checker.specs.declared.firsts.Firsts.{Firsts}
+use Rattle.run_checker.specs.declared.line.Line.{Line}
+use Rattle.run_checker.specs.declared.migration.Migration.{Migration}
+use Rattle.run_checker.specs.declared.told.Told.TheVariants as told
+use Rattle.run_checker.specs.Compact.{told_words, line_words}
+use Rattle.run_checker.specs.Config.{terms_of}
+use Rattle.run_checker.specs.Firsts.{IsFirstSole, NeverSole, view_at, HasFirst, HoldsFirsts}
+use Rattle.run_checker.specs.Lines.{told_of, line_of, IsLineOf, CanFollow, after_line}
+use Rattle.run_checker.specs.Migrated.{Telling, ShowsFirst, IsTelling, after_telling, exchanges_in, record_text, proposal_of, shown_in, GoesOn, GathersMore}
+use Rattle.run_checker.specs.ObjectRun.{DeskObject, fresh_desk_object, AllowsCall, after_call}
+use Rattle.run_checker.proofs.RecordRuns.{after_is}
+
+-- ---- the text of a line
+
+-- the words of a reply are those of what is told of it
+words_told : (b : Bool) (r : Reply) → reply_words r ≡ told_words (told_of b r)
+words_told b reply.Ok = refl
+words_told b reply.Quiet = refl
+words_told b reply.Stop = refl
+words_told b reply.Right = refl
+words_told b reply.Down = refl
+words_told b (reply.Place place) = refl
+words_told b (reply.Proposed number) = refl
+words_told b (reply.Saw view) = refl
+words_told b (reply.Named name view) = refl
+words_told b reply.Spent = refl
+words_told b reply.Missed = refl
+words_told b (reply.Got number) = refl
+words_told b (reply.Left number) = refl
+words_told b (reply.Value value) = refl
+words_told b (reply.Owner owner) = refl
+words_told b (reply.Refused why) = refl
+
+-- what is shown is the view of a name
+abbrev IsShown : Reply → List (ℕ × ℕ) → Type 0
+IsShown (reply.Named name view) shown = shown ≡ view
+IsShown r shown = Unit {0}
+
+same_line : (e : Event) (b : Bool) (r : Reply) (shown : List (ℕ × ℕ)) → IsShown r shown → exchange_line (record { event = e; reply = r }) ≡ line_words e (told_of b r) shown
+same_line e b reply.Ok shown h = refl
+same_line e b reply.Quiet shown h = refl
+same_line e b reply.Stop shown h = refl
+same_line e b reply.Right shown h = refl
+same_line e b reply.Down shown h = refl
+same_line e b (reply.Place place) shown h = refl
+same_line e b (reply.Proposed number) shown h = refl
+same_line e b (reply.Saw view) shown h = refl
+same_line e b (reply.Named name view) shown h = ap (λ (v : List (ℕ × ℕ)). line_words e (told_of b (reply.Named name view)) v) (sym h)
+same_line e b reply.Spent shown h = refl
+same_line e b reply.Missed shown h = refl
+same_line e b (reply.Got number) shown h = refl
+same_line e b (reply.Left number) shown h = refl
+same_line e b (reply.Value value) shown h = refl
+same_line e b (reply.Owner owner) shown h = refl
+same_line e b (reply.Refused why) shown h = refl
+
+-- ---- the call that a line is taken for
+
+-- a call for a line, with the view that is shown
+record Chosen (terms : RenameTerms) (o : DeskObject) (f : Firsts) (l : Line) : Type 0 where
+  call : DeskCall
+  telling : IsTelling terms o (record { line = l; call = call })
+  words : exchange_line (exchange_of call) ≡ line_words l.event l.told (shown_in f l.event l.told)
+
+-- the first view of a name that may be given
+first_view : (o : RenameObject) (f : Firsts) (p n : ℕ) (view : List (ℕ × ℕ)) → HoldsFirsts f o → ShowsSole o p n view → (w : List (ℕ × ℕ)) × (view_at f p ≡ Some w) × IsFirstSole o p n w
+first_view o f p n view h s = elim (view_at f p) as (λ x. view_at f p ≡ x → MatchOption x (NeverSole o p) (λ w. HasFirst o p w) → (w : List (ℕ × ℕ)) × (view_at f p ≡ Some w) × IsFirstSole o p n w) [
+  | None ↦ λ e never. absurd (never s.index n s.recent s.sole)
+  | Some w ↦ λ e has.
+      let k : Some has.number ≡ Some n = sym has.first.shows.sole.own ∙ h.same p has.first.shows.index has.first.shows.recent ∙ sym (h.same p s.index s.recent) ∙ s.sole.own in
+      let same : has.number ≡ n = cc in
+      (w, e, subst (λ (m : ℕ). IsFirstSole o p m w) same has.first)
+] refl (h.found p)
+
+module _ (terms : RenameTerms) (o : DeskObject) (f : Firsts) (h : HoldsFirsts f o.names) where
+  plain : (c : DeskCall) (b : Bool) → AllowsCall terms o c → ShowsFirst o.names (exchange_of c).event (exchange_of c).reply (told_of b (exchange_of c).reply) →
+      IsShown (exchange_of c).reply (shown_in f (exchange_of c).event (told_of b (exchange_of c).reply)) → Chosen terms o f (line_of b (exchange_of c))
+  plain c b a first shown = record {
+    call = c;
+    telling = record { allowed = a; spelled = record { shows = b; spelled = refl }; first = first };
+    words = same_line (exchange_of c).event b (exchange_of c).reply (shown_in f (exchange_of c).event (told_of b (exchange_of c).reply)) shown;
+  }
+
+  choose_for : (c : DeskCall) (b : Bool) → AllowsCall terms o c → Chosen terms o f (line_of b (exchange_of c))
+  choose_for (Renamed (Began p (Ok done))) b a = plain (Renamed (Began p (Ok done))) b a tt tt
+  choose_for (Renamed (Began p (Err why))) b a = plain (Renamed (Began p (Err why))) b a tt tt
+  choose_for (Renamed (Stepped p (Ok step.Quiet))) b a = plain (Renamed (Stepped p (Ok step.Quiet))) b a tt tt
+  choose_for (Renamed (Stepped p (Ok (step.Placed x)))) b a = plain (Renamed (Stepped p (Ok (step.Placed x)))) b a tt tt
+  choose_for (Renamed (Stepped p (Ok (step.Proposed n)))) b a = plain (Renamed (Stepped p (Ok (step.Proposed n)))) b a tt tt
+  choose_for (Renamed (Stepped p (Ok (step.Saw view)))) b a = plain (Renamed (Stepped p (Ok (step.Saw view)))) b a tt tt
+  choose_for (Renamed (Stepped p (Ok (step.Named n view)))) true a = plain (Renamed (Stepped p (Ok (step.Named n view)))) true a tt refl
+  choose_for (Renamed (Stepped p (Ok (step.Named n view)))) false a =
+      let k = first_view o.names f p n view h a.1.1 in
+      record {
+        call = Renamed (Stepped p (Ok (step.Named n k.0)));
+        telling = record { allowed = (a.0, (a.1.0, k.2.shows, a.1.2)); spelled = record { shows = false; spelled = refl }; first = k.2 };
+        words = ap (λ (v : List (ℕ × ℕ)). line_words (event.Step p) (told.Named n None) v) (sym (ap (λ (x : Option (List (ℕ × ℕ))). unwrap_or x []) k.1));
+      }
+  choose_for (Renamed (Stepped p (Ok step.Spent))) b a = plain (Renamed (Stepped p (Ok step.Spent))) b a tt tt
+  choose_for (Renamed (Stepped p (Err why))) b a = plain (Renamed (Stepped p (Err why))) b a tt tt
+  choose_for (Slotted (Pooled (Entered p (Ok done)))) b a = plain (Slotted (Pooled (Entered p (Ok done)))) b a tt tt
+  choose_for (Slotted (Pooled (Entered p (Err why)))) b a = plain (Slotted (Pooled (Entered p (Err why)))) b a tt tt
+  choose_for (Slotted (Pooled (Probed p (Ok probe.Missed)))) b a = plain (Slotted (Pooled (Probed p (Ok probe.Missed)))) b a tt tt
+  choose_for (Slotted (Pooled (Probed p (Ok (probe.Got n))))) b a = plain (Slotted (Pooled (Probed p (Ok (probe.Got n))))) b a tt tt
+  choose_for (Slotted (Pooled (Probed p (Err why)))) b a = plain (Slotted (Pooled (Probed p (Err why)))) b a tt tt
+  choose_for (Slotted (Pooled (Left p (Ok n)))) b a = plain (Slotted (Pooled (Left p (Ok n)))) b a tt tt
+  choose_for (Slotted (Pooled (Left p (Err why)))) b a = plain (Slotted (Pooled (Left p (Err why)))) b a tt tt
+  choose_for (Slotted (Pooled (Widened more (Ok done)))) b a = plain (Slotted (Pooled (Widened more (Ok done)))) b a tt tt
+  choose_for (Slotted (Pooled (Widened more (Err why)))) b a = plain (Slotted (Pooled (Widened more (Err why)))) b a tt tt
+  choose_for (Slotted (Stored p value (Ok done))) b a = plain (Slotted (Stored p value (Ok done))) b a tt tt
+  choose_for (Slotted (Stored p value (Err why))) b a = plain (Slotted (Stored p value (Err why))) b a tt tt
+  choose_for (Slotted (Fetched p (Ok v))) b a = plain (Slotted (Fetched p (Ok v))) b a tt tt
+  choose_for (Slotted (Fetched p (Err why))) b a = plain (Slotted (Fetched p (Err why))) b a tt tt
+  choose_for (Slotted (Extended more v (Ok done))) b a = plain (Slotted (Extended more v (Ok done))) b a tt tt
+  choose_for (Slotted (Extended more v (Err why))) b a = plain (Slotted (Extended more v (Err why))) b a tt tt
+
+  choose : (l : Line) → CanFollow terms o l → Chosen terms o f l
+  choose l k = subst (Chosen terms o f) k.spelled.spelled (choose_for k.call k.spelled.shows k.allowed)
+
+-- ---- what is kept of first moments
+
+-- what changes no moment changes no first one
+module _ (f : Firsts) (o : RenameObject) (begun : ℕ → Bool) (many : ℕ) (place name : ℕ → Option ℕ) (spent : ℕ → Bool) (count : ℕ → ℕ) where
+  abbrev with_these : RenameObject
+  with_these = record { begun = begun; many = many; place = place; name = name; spent = spent; last = o.last; moment = o.moment; since = o.since; count = count }
+
+  before : (p i : ℕ) → IsRecent with_these p i → IsRecent o p i
+  before p i r = record { no_earlier = r.no_earlier; no_later = r.no_later }
+
+  elsewhere : HoldsFirsts f o → HoldsFirsts f with_these
+  elsewhere h = record {
+    present = h.present;
+    since = h.since;
+    same = (λ p i r. h.same p i (before p i r));
+    found = (λ p. elim (view_at f p) as (λ x. MatchOption x (NeverSole o p) (λ w. HasFirst o p w) → MatchOption x (NeverSole with_these p) (λ w. HasFirst with_these p w)) [
+      | None ↦ λ never i n r s. never i n (before p i r) s
+      | Some w ↦ λ k.
+          let s = k.first.shows in
+          record {
+            number = k.number;
+            first = record {
+              shows = record { index = s.index; recent = record { no_earlier = s.recent.no_earlier; no_later = s.recent.no_later }; is = s.is; sole = s.sole };
+              first = (λ i r alone. k.first.first i (before p i r) alone);
+            };
+          }
+    ] (h.found p));
+  }
+
+unchanged : (f f' : Firsts) (o : RenameObject) → f' ≡ f → HoldsFirsts f o → HoldsFirsts f' o
+unchanged f f' o e h = subst (λ (x : Firsts). HoldsFirsts x o) (sym e) h
+
+firsts_after : (f f' : Firsts) (o : DeskObject) (c : DeskCall) (b : Bool) → HoldsFirsts f o.names → GoesOn (proposal_of (exchange_of c).event (told_of b (exchange_of c).reply)) f f' → HoldsFirsts f' (after_call o c).names
+firsts_after f f' o (Renamed (Began p (Ok done))) b h g = unchanged f f' _ g (elsewhere f o.names _ _ _ _ _ _ h)
+firsts_after f f' o (Renamed (Began p (Err why))) b h g = unchanged f f' _ g h
+firsts_after f f' o (Renamed (Stepped p (Ok step.Quiet))) b h g = unchanged f f' _ g h
+firsts_after f f' o (Renamed (Stepped p (Ok (step.Placed x)))) b h g = unchanged f f' _ g (elsewhere f o.names _ _ _ _ _ _ h)
+firsts_after f f' o (Renamed (Stepped p (Ok (step.Proposed n)))) b h g = g o.names h
+firsts_after f f' o (Renamed (Stepped p (Ok (step.Saw view)))) b h g = unchanged f f' _ g h
+firsts_after f f' o (Renamed (Stepped p (Ok (step.Named n view)))) b h g = unchanged f f' _ g (elsewhere f o.names _ _ _ _ _ _ h)
+firsts_after f f' o (Renamed (Stepped p (Ok step.Spent))) b h g = unchanged f f' _ g (elsewhere f o.names _ _ _ _ _ _ h)
+firsts_after f f' o (Renamed (Stepped p (Err why))) b h g = unchanged f f' _ g h
+firsts_after f f' o (Slotted (Pooled (Entered p (Ok done)))) b h g = unchanged f f' _ g h
+firsts_after f f' o (Slotted (Pooled (Entered p (Err why)))) b h g = unchanged f f' _ g h
+firsts_after f f' o (Slotted (Pooled (Probed p (Ok probe.Missed)))) b h g = unchanged f f' _ g h
+firsts_after f f' o (Slotted (Pooled (Probed p (Ok (probe.Got n))))) b h g = unchanged f f' _ g h
+firsts_after f f' o (Slotted (Pooled (Probed p (Err why)))) b h g = unchanged f f' _ g h
+firsts_after f f' o (Slotted (Pooled (Left p (Ok n)))) b h g = unchanged f f' _ g h
+firsts_after f f' o (Slotted (Pooled (Left p (Err why)))) b h g = unchanged f f' _ g h
+firsts_after f f' o (Slotted (Pooled (Widened more (Ok done)))) b h g = unchanged f f' _ g h
+firsts_after f f' o (Slotted (Pooled (Widened more (Err why)))) b h g = unchanged f f' _ g h
+firsts_after f f' o (Slotted (Stored p value (Ok done))) b h g = unchanged f f' _ g h
+firsts_after f f' o (Slotted (Stored p value (Err why))) b h g = unchanged f f' _ g h
+firsts_after f f' o (Slotted (Fetched p (Ok v))) b h g = unchanged f f' _ g h
+firsts_after f f' o (Slotted (Fetched p (Err why))) b h g = unchanged f f' _ g h
+firsts_after f f' o (Slotted (Extended more v (Ok done))) b h g = unchanged f f' _ g h
+firsts_after f f' o (Slotted (Extended more v (Err why))) b h g = unchanged f f' _ g h
+
+pub firsts_next : (f f' : Firsts) (o : DeskObject) (c : DeskCall) (l : Line) → IsLineOf (exchange_of c) l → HoldsFirsts f o.names → GoesOn (proposal_of l.event l.told) f f' → HoldsFirsts f' (after_call o c).names
+firsts_next f f' o c l w h g = firsts_after f f' o c w.shows h (subst (λ (x : Line). GoesOn (proposal_of x.event x.told) f f') (sym w.spelled) g)
+
+-- ---- one more line
+
+-- what is told leads where its lines do
+tellings_follow : (terms : RenameTerms) (o end : DeskObject) (ts : List Telling) → Run after_telling (IsTelling terms) o ts end → Run after_line (CanFollow terms) o (map (λ t. t.line) ts) end
+tellings_follow terms o end [] r = r
+tellings_follow terms o end (t ∷ ts) r = (
+  record { call = t.call; spelled = r.0.spelled; allowed = r.0.allowed },
+  subst (λ (x : DeskObject). Run after_line (CanFollow terms) x (map (λ s. s.line) ts) end) (after_is terms o t.call t.line r.0.spelled r.0.allowed) (tellings_follow terms (after_telling o t) end ts r.1),
+)
+
+-- the text has one more line
+text_more : (c : Config) (ts : List Telling) (t : Telling) (text : List ℕ) → text ≡ record_text c (exchanges_in ts) → text ++ exchange_line (exchange_of t.call) ≡ record_text c (exchanges_in (ts ++ t ∷ []))
+text_more c ts t text is =
+    let xs = exchanges_in ts in
+    let more : exchanges_in (ts ++ t ∷ []) ≡ xs ++ exchange_of t.call ∷ [] = map-append (λ (s : Telling). exchange_of s.call) ts (t ∷ []) in
+    ap (λ (l : List ℕ). l ++ exchange_line (exchange_of t.call)) is
+    ∙ append_assoc (header_line c) (flat_map exchange_line xs) (exchange_line (exchange_of t.call))
+    ∙ ap (λ (l : List ℕ). header_line c ++ (flat_map exchange_line xs ++ l)) (sym (append-nil (exchange_line (exchange_of t.call))))
+    ∙ ap (λ (l : List ℕ). header_line c ++ l) (sym (flat_map-append exchange_line xs (exchange_of t.call ∷ [])))
+    ∙ ap (record_text c) (sym more)
+
+pub gathers_more : (l : Line) (m m' : Migration) → m'.text ≡ m.text ++ line_words l.event l.told (shown_in m.firsts l.event l.told) → GoesOn (proposal_of l.event l.told) m.firsts m'.firsts → GathersMore l m m'
+gathers_more l m m' text goes c lines o h follows =
+    let s = h.so_far in
+    let terms = terms_of c in
+    let start = fresh_desk_object c.k in
+    let parts = run_splits after_line (CanFollow terms) start lines (l ∷ []) o follows in
+    let so_far : Run after_line (CanFollow terms) start lines s.object = subst (λ (x : List Line). Run after_line (CanFollow terms) start x s.object) s.lines_are (tellings_follow terms start s.object s.tellings s.run) in
+    let same : parts.0 ≡ s.object = run_one after_line (CanFollow terms) start lines parts.0 s.object parts.1 so_far in
+    let can : CanFollow terms s.object l = subst (λ (x : DeskObject). CanFollow terms x l) same parts.2.0 in
+    let k = choose terms s.object m.firsts h.firsts l can in
+    let t : Telling = record { line = l; call = k.call } in
+    record {
+      so_far = record {
+        tellings = s.tellings ++ t ∷ [];
+        lines_are = map-append (λ (x : Telling). x.line) s.tellings (t ∷ []) ∙ ap (λ (x : List Line). x ++ l ∷ []) s.lines_are;
+        object = after_telling s.object t;
+        run = run_more after_telling (IsTelling terms) start s.tellings s.object t s.run k.telling;
+        text_is = text ∙ ap (λ (x : List ℕ). m.text ++ x) (sym k.words) ∙ text_more c s.tellings t m.text s.text_is;
+      };
+      firsts = firsts_next m.firsts m'.firsts s.object k.call l k.telling.spelled h.firsts goes;
+    }

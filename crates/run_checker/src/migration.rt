@@ -1,0 +1,100 @@
+//! From the lines of a record to those of its version 2.
+
+ghost use Rattle.std.specs.Prelude.{◌≡◌, [], IfOk, OnOk};
+ghost use Rattle.run_checker.specs.Migrated.{first_of, proposal_of, shown_in, GoesOn, HasMigrated, GathersMore};
+
+use crate::compact::{put_header, put_line};
+use crate::firsts::Firsts;
+use crate::line::Line;
+use crate::text::Text;
+use crate::told::Told;
+use desk::Event;
+use rename_core::Config;
+use std::alloc::{AllocError, Global};
+
+/// What is gathered of the lines of a record: their text in version 2, and the first moments by which names may have been
+/// given.
+#[derive(Drop)]
+pub struct Migration {
+    firsts: Firsts,
+    text: Text,
+}
+
+/// Who proposes in a line, and which number.
+fn proposal(line: &Line) -> Option<(u64, u64)>
+    ensures { result ≡ proposal_of line.now.event line.now.told }
+{
+    let Event::Step(id) = line.event else {
+        return None;
+    };
+    match &line.told {
+        Told::Proposed(number) => Some((id, *number)),
+        _ => None,
+    }
+}
+
+/// The view that is kept of who steps in an event.
+fn first_view(firsts: &Firsts, event: Event) -> &[(u64, u64)]
+    ensures { result.now ≡ first_of firsts.now event }
+{
+    let Event::Step(id) = event else {
+        return &[];
+    };
+    match firsts.view_of(id) {
+        Some(view) => view.as_slice(),
+        None => &[],
+    }
+}
+
+/// The view by which a line tells that a name was given: the one that is written, or the first that there was.
+fn shown<'a>(firsts: &'a Firsts, line: &'a Line) -> &'a [(u64, u64)]
+    ensures { result.now ≡ shown_in firsts.now line.now.event line.now.told }
+{
+    match &line.told {
+        Told::Named(_, Some(view)) => view.as_slice(),
+        Told::Named(_, None) => first_view(firsts, line.event),
+        _ => &[],
+    }
+}
+
+/// What is kept of first moments is changed by a line.
+fn follow(firsts: &mut Firsts, line: &Line) -> Result<(), AllocError>
+    ensures { OnOk result (GoesOn (proposal_of line.now.event line.now.told) firsts.old firsts.new) }
+{
+    match proposal(line) {
+        Some((id, number)) => firsts.propose(id, number),
+        None => Ok(()),
+    }
+}
+
+impl Migration {
+    /// No line yet, of a record of this config. An error where a growth was refused.
+    pub fn new(alloc: Global, config: Config) -> Result<Migration, AllocError>
+        ensures { IfOk result (HasMigrated config []) }
+    {
+        let mut text = Text::new(alloc);
+        put_header(config, &mut text)?;
+        Ok(Migration {
+            firsts: Firsts::new(alloc),
+            text,
+        })
+    }
+
+    /// One more line, which can follow those before it. An error where a growth was refused; then what is gathered is of no
+    /// more use.
+    pub fn take(&mut self, line: &Line) -> Result<(), AllocError>
+        ensures { OnOk result (GathersMore line.now self.old self.new) }
+    {
+        put_line(line, shown(&self.firsts, line), &mut self.text)?;
+        follow(&mut self.firsts, line)?;
+        Ok(())
+    }
+
+    /// The text of all lines.
+    pub fn into_text(self) -> Text
+        ensures { result ≡ self.text }
+    {
+        let Migration { firsts: _, text } = self;
+        text
+    }
+}

@@ -1,0 +1,72 @@
+//! A text that grows.
+
+ghost use Rattle.std.specs.Prelude.{◌≡◌, List, ℕ, [], ◌++◌, OnOk, decimal};
+ghost use Rattle.schedule_player.specs.Replies.{pair_word};
+
+use itoa::Buffer;
+use std::alloc::{AllocError, Global};
+use std::marker::Model;
+
+/// Bytes that are gathered before any of them is written. Contracts see the list.
+#[derive(Drop)]
+pub struct Text {
+    bytes: Vec<u8>,
+}
+
+impl Model for Text {
+    ghost Value = { List ℕ };
+
+    ghost view = { λ t. t.bytes.items };
+}
+
+impl Text {
+    /// No bytes.
+    pub fn new(alloc: Global) -> Text
+        ensures { result ≡ [] }
+    {
+        Text {
+            bytes: Vec::new(alloc),
+        }
+    }
+
+    /// The bytes.
+    pub fn as_slice(&self) -> &[u8]
+        ensures { result.now ≡ self.now }
+    {
+        &self.bytes
+    }
+
+    /// Appends these bytes. An error where a growth was refused; then the text is of no more use.
+    pub fn put(&mut self, bytes: &[u8]) -> Result<(), AllocError>
+        ensures { OnOk result (self.new ≡ self.old ++ bytes.now) }
+    {
+        self.bytes.extend_from_slice(bytes)?;
+        Ok(())
+    }
+
+    /// Appends a number in decimal.
+    pub fn put_number(&mut self, number: u64) -> Result<(), AllocError>
+        ensures { OnOk result (self.new ≡ self.old ++ decimal number) }
+    {
+        self.put(Buffer::new().format(number).as_bytes())
+    }
+
+    /// Appends a word with its space, and a number in decimal.
+    pub fn put_word(&mut self, word: &[u8], number: u64) -> Result<(), AllocError>
+        ensures { OnOk result (self.new ≡ self.old ++ (word.now ++ decimal number)) }
+    {
+        self.put(word)?;
+        self.put_number(number)?;
+        Ok(())
+    }
+
+    /// Appends an identity and its number.
+    pub fn put_pair(&mut self, pair: (u64, u64)) -> Result<(), AllocError>
+        ensures { OnOk result (self.new ≡ self.old ++ pair_word pair) }
+    {
+        self.put_number(pair.0)?;
+        self.put(b":")?;
+        self.put_number(pair.1)?;
+        Ok(())
+    }
+}
