@@ -1,11 +1,12 @@
 -- when no config, run or drawing has the matched options
-use Rattle.std.proofs.Common.{ap, sym, subst, ◌≡◌, ◌∙◌, ◌<◌, ◌≤◌, ◌^◌, ℕ, List, Option, Some, None, Result, Ok, Err, IfOk, IsOk, ◌↔◌, Bool, MatchOption, IfSome, IsSome, codes, refl, true, false}
+use Rattle.std.proofs.Common.{ap, sym, subst, ◌≡◌, ◌∙◌, ◌<◌, ◌≤◌, ◌^◌, ℕ, List, Option, Some, None, Result, Ok, Err, IfOk, IsOk, ◌↔◌, Bool, MatchOption, IfSome, IsSome, codes, refl, true, false, arith}
 use Rattle.std.specs.Prelude.{option_and_then}
 use Rattle.std.specs.Str.Parse.{ParsesUnsigned, digits_value, without_leading_plus}
 use Rattle.clap.specs.Words.{ReadsOne, Row, first_of, one_of}
 use Rattle.std.specs.Result.{result_ok}
 use Rattle.std.proofs.lemmas.Option.{same_Some}
 use Rattle.rename_core.specs.Ranges.{IsConfigRange}
+use Rattle.rename_core.proofs.MostIn.{few_take_part}
 use Rattle.step_memory.specs.declared.refusal.Refusal.{Refusal}
 use Rattle.rename_core.specs.declared.config.Config.{Config}
 use Rattle.rename_core.specs.declared.config.WorldKind.{WorldKind}
@@ -64,10 +65,18 @@ same_number rows id m n h g =
     let same : h.0 ≡ g.0 = same_Some h.0 g.0 (sym h.1 ∙ g.1) in
     sym h.2.1 ∙ ap (λ t. digits_value 10 (without_leading_plus t)) same ∙ g.2.1
 
+-- two worlds that are matched there are one
+same_world : (rows : List Row) (w u : WorldKind) → HasWorld rows w → HasWorld rows u → w ≡ u
+same_world rows w u h g = same_Some w u (sym h ∙ g)
+
+-- a config's most participants are a number that is read
+pub most_fits : (c : Config) → c.m < 2 ^ 64
+most_fits c = let few = few_take_part c in omega arith
+
 -- what is made of the matched world and numbers is the config, where there is one
 pub made : (rows : List Row) (w : WorldKind) (m k limit : ℕ) (r : Result Config Refusal)
     → HasWorld rows w → HasNumber rows (codes "m") m → HasNumber rows (codes "k") k → HasNumber rows (codes "limit") limit
-    → IfOk r (λ c. (c.world ≡ w) × (c.m ≡ m) × (c.k ≡ k) × (c.limit ≡ limit)) → (IsOk r ↔ IsConfigRange m k limit)
+    → IfOk r (λ c. (c.world ≡ w) × (c.m ≡ m) × (c.k ≡ k) × (c.limit ≡ limit)) → (IsOk r ↔ IsConfigRange w m k limit)
     → MatchOption (result_ok r) ((c : Config) → IsConfigOf rows c → ⊥) (IsConfigOf rows)
 made rows w m k limit (Ok c) world has_m has_k has_limit values range = record {
   world = world ∙ ap Some (sym values.0);
@@ -80,12 +89,8 @@ made rows w m k limit (Err e) world has_m has_k has_limit values range = λ c h.
     let same_k : c.k ≡ k = same_number rows (codes "k") c.k k h.k has_k in
     let same_limit : c.limit ≡ limit = same_number rows (codes "limit") c.limit limit h.limit has_limit in
     let fits = c.in_range in
-    let bad : false ≡ true = range.1 (rw (same_m, same_k, same_limit) at fits) in
+    let bad : false ≡ true = range.1 (rw (same_world rows c.world w h.world world, same_m, same_k, same_limit) at fits) in
     cc
-
--- two worlds that are matched there are one
-same_world : (rows : List Row) (w u : WorldKind) → HasWorld rows w → HasWorld rows u → w ≡ u
-same_world rows w u h g = same_Some w u (sym h ∙ g)
 
 -- what is made of the matched config and flag is the run, where there is one
 pub played : (rows : List Row) (config : Config) (recorded : Bool) (o : Option Playing) → IsConfigOf rows config → recorded ≡ asks_record rows
@@ -99,14 +104,14 @@ played rows config recorded None has asks values written = λ p h.
     cc
 
 -- a config in its range is made
-pub config_made : (rows : List Row) (m limit : ℕ) (r : Result Config Refusal) → HasNumber rows (codes "m") m → HasNumber rows (codes "limit") limit → (IsOk r ↔ IsConfigRange m 4 limit) →
+pub config_made : (rows : List Row) (w : WorldKind) (m limit : ℕ) (r : Result Config Refusal) → HasWorld rows w → HasNumber rows (codes "m") m → HasNumber rows (codes "limit") limit → (IsOk r ↔ IsConfigRange w m 4 limit) →
     result_ok r ≡ None → (d : Drawing) → IsDrawingOf rows d → ⊥
-config_made rows m limit (Ok c) has_m has_limit range none d h = absurd cc
-config_made rows m limit (Err e) has_m has_limit range none d h =
+config_made rows w m limit (Ok c) world has_m has_limit range none d h = absurd cc
+config_made rows w m limit (Err e) world has_m has_limit range none d h =
     let same_m : d.config.m ≡ m = same_number rows (codes "m") d.config.m m h.m has_m in
     let same_limit : d.config.limit ≡ limit = same_number rows (codes "limit") d.config.limit limit h.limit has_limit in
     let fits = d.config.in_range in
-    let bad : false ≡ true = range.1 (rw (same_m, h.k, same_limit) at fits) in
+    let bad : false ≡ true = range.1 (rw (same_world rows d.config.world w h.world world, same_m, h.k, same_limit) at fits) in
     cc
 
 -- what is made of the matched numbers and the config is the drawing, where there is one

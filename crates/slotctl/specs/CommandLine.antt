@@ -23,9 +23,9 @@ number_option name least most text = record (new_rule name) {
   defaults = text ∷ [];
 }
 
--- `--m NUMBER`, from 1 to 16, or 4; `--k NUMBER`, from 1 to 64, or 4; `--limit NUMBER`, from 1 to 1,000,000, or 1000
+-- `--m NUMBER`, from 1 to 64 (to 16 outside the world `tree`, which the config says), or 4; `--k NUMBER`, from 1 to 64, or 4; `--limit NUMBER`, from 1 to 1,000,000, or 1000
 abbrev pub m_option : Rule
-m_option = number_option (codes "m") 1 16 (codes "4")
+m_option = number_option (codes "m") 1 64 (codes "4")
 
 abbrev pub k_option : Rule
 k_option = number_option (codes "k") 1 64 (codes "4")
@@ -43,13 +43,13 @@ needed_option name least most = record (new_rule name) {
   parser = Some (Unsigned least most);
 }
 
--- `--seed NUMBER`, of 64 bits, `--ids NUMBER`, from 1 to 16, and `--steps NUMBER`, at most 1,000,000, all to be given;
+-- `--seed NUMBER`, of 64 bits, `--ids NUMBER`, from 1 to 64, and `--steps NUMBER`, at most 1,000,000, all to be given;
 -- `--runs NUMBER`, at most 1,000, or 0
 abbrev pub seed_option : Rule
 seed_option = needed_option (codes "seed") 0 18446744073709551615
 
 abbrev pub ids_option : Rule
-ids_option = needed_option (codes "ids") 1 16
+ids_option = needed_option (codes "ids") 1 64
 
 abbrev pub steps_option : Rule
 steps_option = needed_option (codes "steps") 0 1000000

@@ -52,7 +52,7 @@ impl Playing {
 pub struct Drawing {
     /// The seed of the first.
     pub seed: u64,
-    /// How many identities there are, from 1 to 16.
+    /// How many identities there are, from 1 to 64.
     pub ids: u64,
     /// How many steps are taken, at most 1,000,000.
     pub steps: u64,
@@ -69,7 +69,7 @@ impl Drawing {
         ensures values { IfSome result (λ d. (d.seed ≡ seed) × (d.ids ≡ ids) × (d.steps ≡ steps) × (d.runs ≡ runs) × (d.config ≡ config)) }
         ensures range { IsSome result ↔ IsDrawingRange seed ids steps runs config.world }
     {
-        if ids < 1 || 16 < ids || 1_000_000 < steps || 1_000 < runs {
+        if ids < 1 || 64 < ids || 1_000_000 < steps || 1_000 < runs {
             return None;
         }
         match config.world {

@@ -66,9 +66,9 @@ fn m_option<'a>(alloc: Global) -> Arg<'a>
         alloc,
         "m",
         1,
-        16,
+        64,
         "4",
-        "the most participants, from 1 to 16",
+        "the most participants, from 1 to 16, or to 64 in the world tree",
     )
 }
 
@@ -136,7 +136,7 @@ fn draw_needs<'a>(alloc: Global) -> Result<Command<'a>, AllocError>
     Command::new(alloc, "draw")
         .about("Draws schedules, and writes one, or a line for each of many that are played")
         .arg(needed_option(alloc, "seed", 0, u64::MAX, "the seed of the generator"))?
-        .arg(needed_option(alloc, "ids", 1, 16, "how many identities, from 1 to 16"))?
+        .arg(needed_option(alloc, "ids", 1, 64, "how many identities, from 1 to 64"))?
         .arg(needed_option(
             alloc,
             "steps",

@@ -43,15 +43,16 @@ fn words_of(alloc: Global, line: &str) -> Result<Vec<&str>, Fail> {
     Ok(line.split(' ').collect(alloc)?)
 }
 
-const NO_DRAWINGS: [&str; 12] = [
+const NO_DRAWINGS: [&str; 13] = [
     "slotctl draw --ids 0 --seed 1 --steps 1",
-    "slotctl draw --ids 17 --seed 1 --steps 1",
+    "slotctl draw --ids 65 --seed 1 --steps 1",
     "slotctl draw --ids 1 --seed 1 --steps 1000001",
     "slotctl draw --ids 1 --seed 18446744073709551616 --steps 1",
     "slotctl draw --ids 1 --seed 1 --steps 1 --runs 1001",
     "slotctl draw --ids 1 --seed 1 --steps 1 --world grid",
     "slotctl draw --ids 1 --seed 1 --steps 1 --world splitter",
     "slotctl draw --ids 1 --seed 1 --steps 1 --m 17",
+    "slotctl draw --ids 1 --seed 1 --steps 1 --m 65 --world tree",
     "slotctl draw --ids 1 --seed 1 --steps 1 --k 4",
     "slotctl draw --ids 1 --seed 1",
     "slotctl draw --ids 1 --steps 1",
@@ -67,8 +68,8 @@ fn drawings_are_read(rt: HostRuntime) -> Result<(), Fail> {
             (7, 1, 3, 0, WorldKind::Rename),
         ),
         (
-            "slotctl draw --world tree --runs 1000 --steps 1000000 --ids 16 --seed 18446744073709551615",
-            (u64::MAX, 16, 1_000_000, 1_000, WorldKind::Tree),
+            "slotctl draw --world tree --runs 1000 --steps 1000000 --ids 64 --m 64 --seed 18446744073709551615",
+            (u64::MAX, 64, 1_000_000, 1_000, WorldKind::Tree),
         ),
     ] {
         let words = words_of(alloc, line)?;
@@ -191,6 +192,10 @@ fn options_are_read(rt: HostRuntime) -> Result<(), Fail> {
             (WorldKind::Rename, 16, 64, 1_000_000),
         ),
         (
+            "slotctl play --m 64 --world tree",
+            (WorldKind::Tree, 64, 4, 1000),
+        ),
+        (
             "slotctl play --m 1 --k 2 --limit 3",
             (WorldKind::Rename, 1, 2, 3),
         ),
@@ -224,6 +229,20 @@ fn numbers_are_refused(rt: HostRuntime) {
             assert!(rt;
                 matches!(ask(rt.alloc(), words.as_slice()), Err(Misuse::Words(_))),
                 "at {option} {text}"
+            );
+        }
+    }
+}
+
+#[test]
+fn more_than_sixteen_only_over_a_tree(rt: HostRuntime) {
+    for (world, most) in [("splitter", 16), ("grid", 16), ("rename", 16), ("tree", 64)] {
+        for (text, m) in [("16", 16), ("17", 17), ("64", 64), ("65", 65)] {
+            let words = ["slotctl", "play", "--world", world, "--m", text];
+            assert_eq!(rt;
+                is_refused(rt.alloc(), words.as_slice()),
+                most < m,
+                "{text} in {world}"
             );
         }
     }
@@ -564,13 +583,13 @@ const HELP: &[u8] =
     b"Plays schedules of shared-memory algorithms, one access a step\n\nUsage: slotctl <COMMAND>\n\nCommands:\n  play   Plays the commands of the standard input, and writes a reply to each\n  check  Checks the record of the standard input, and writes its verdict\n  draw   Draws schedules, and writes one, or a line for each of many that are played\n  serve  Serves the commands of connections to 127.0.0.1, over one hall\n  help   Print this message or the help of the given subcommand(s)\n\nOptions:\n  -h, --help  Print help\n";
 
 const PLAY_HELP: &[u8] =
-    b"Plays the commands of the standard input, and writes a reply to each\n\nUsage: slotctl play [OPTIONS]\n\nOptions:\n      --world <NAME>    what is played: splitter, grid, rename or tree [default: rename]\n      --m <NUMBER>      the most participants, from 1 to 16 [default: 4]\n      --k <NUMBER>      the size of the pool, from 1 to 64 [default: 4]\n      --limit <NUMBER>  the most proposals of each participant, from 1 to 1000000 [default: 1000]\n      --record          writes the record of the run in place of the replies\n  -h, --help            Print help\n";
+    b"Plays the commands of the standard input, and writes a reply to each\n\nUsage: slotctl play [OPTIONS]\n\nOptions:\n      --world <NAME>    what is played: splitter, grid, rename or tree [default: rename]\n      --m <NUMBER>      the most participants, from 1 to 16, or to 64 in the world tree [default: 4]\n      --k <NUMBER>      the size of the pool, from 1 to 64 [default: 4]\n      --limit <NUMBER>  the most proposals of each participant, from 1 to 1000000 [default: 1000]\n      --record          writes the record of the run in place of the replies\n  -h, --help            Print help\n";
 
 const NO_SUBCOMMAND: &[u8] =
     b"error: 'slotctl' requires a subcommand but one was not provided\n  [subcommands: play, check, draw, serve, help]\n\nUsage: slotctl <COMMAND>\n\nFor more information, try '--help'.\n";
 
 const TOO_MANY: &[u8] =
-    b"error: invalid value '17' for '--m <NUMBER>': 17 is not in 1..=16\n\nFor more information, try '--help'.\n";
+    b"error: invalid value '65' for '--m <NUMBER>': 65 is not in 1..=64\n\nFor more information, try '--help'.\n";
 
 const NO_NUMBER: &[u8] =
     b"error: invalid value '0' for '--limit <NUMBER>': 0 is not in 1..=1000000\n\nFor more information, try '--help'.\n";
@@ -604,16 +623,22 @@ fn run_of<R: Read + Drop>(
 fn statuses_and_texts_are_those_of_the_protocol(rt: HostRuntime) {
     let alloc = rt.alloc();
     let none = b"".as_slice();
-    let rows: [(&[&str], u8, &[u8], &[u8]); 9] = [
+    let rows: [(&[&str], u8, &[u8], &[u8]); 10] = [
         (&["slotctl", "--help"], 0, HELP, none),
         (&["slotctl", "help"], 0, HELP, none),
         (&["slotctl", "play", "--help"], 0, PLAY_HELP, none),
         (&["slotctl"], 2, none, NO_SUBCOMMAND),
         (
-            &["slotctl", "play", "--world", "grid", "--m", "17"],
+            &["slotctl", "play", "--world", "tree", "--m", "65"],
             2,
             none,
             TOO_MANY,
+        ),
+        (
+            &["slotctl", "play", "--world", "grid", "--m", "17"],
+            2,
+            none,
+            NO_WORLD,
         ),
         (&["slotctl", "play", "--limit", "0"], 2, none, NO_NUMBER),
         (&["slotctl", "play", "--world", "ring"], 2, none, NO_WORLD),

@@ -1,13 +1,13 @@
 use Rattle.std.proofs.Common.{arith}
 use Rattle.clap.specs.Words.{found_of, rows_of}
-use Rattle.slotctl.proofs.ConfigLemmas.{made, unless_some}
+use Rattle.slotctl.proofs.ConfigLemmas.{made, most_fits, unless_some}
 use Rattle.slotctl.proofs.words.config_given.Goals as goal
 
 pub returns-in_err-world : goal.returns-in_err-world
 returns-in_err-world c = unless_some c.from_residual.result _ _ c.from_residual.ensures (λ given h. c.in_err-world.ensures given.world h.world)
 
 pub returns-in_err-m : goal.returns-in_err-m
-returns-in_err-m c = unless_some c.from_residual-in_err-m.result _ _ c.from_residual-in_err-m.ensures (λ given h. c.in_err-m.ensures given.m (let fits = given.in_range in omega arith) h.m)
+returns-in_err-m c = unless_some c.from_residual-in_err-m.result _ _ c.from_residual-in_err-m.ensures (λ given h. c.in_err-m.ensures given.m (most_fits given) h.m)
 
 pub returns-in_err-k : goal.returns-in_err-k
 returns-in_err-k c = unless_some c.from_residual-in_err-k.result _ _ c.from_residual-in_err-k.ensures (λ given h. c.in_err-k.ensures given.k (let fits = given.in_range in omega arith) h.k)

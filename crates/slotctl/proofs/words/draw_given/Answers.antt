@@ -1,6 +1,6 @@
 use Rattle.std.proofs.Common.{arith, sym, ◌∙◌}
 use Rattle.clap.specs.Words.{found_of, rows_of}
-use Rattle.slotctl.proofs.ConfigLemmas.{config_made, drawn, unless_some, value_is}
+use Rattle.slotctl.proofs.ConfigLemmas.{config_made, drawn, most_fits, unless_some, value_is}
 use Rattle.slotctl.proofs.words.draw_given.Goals as goal
 
 pub returns-in_err-seed : goal.returns-in_err-seed
@@ -19,7 +19,7 @@ pub returns-in_err-world : goal.returns-in_err-world
 returns-in_err-world c = unless_some c.from_residual-in_err-world.result _ _ c.from_residual-in_err-world.ensures (λ given h. c.in_err-world.ensures given.config.world h.world)
 
 pub returns-in_err-m : goal.returns-in_err-m
-returns-in_err-m c = unless_some c.from_residual-in_err-m.result _ _ c.from_residual-in_err-m.ensures (λ given h. c.in_err-m.ensures given.config.m (let fits = given.config.in_range in omega arith) h.m)
+returns-in_err-m c = unless_some c.from_residual-in_err-m.result _ _ c.from_residual-in_err-m.ensures (λ given h. c.in_err-m.ensures given.config.m (most_fits given.config) h.m)
 
 pub returns-in_err-limit : goal.returns-in_err-limit
 returns-in_err-limit c = unless_some c.from_residual-in_err-limit.result _ _ c.from_residual-in_err-limit.ensures (λ given h. c.in_err-limit.ensures given.config.limit (let fits = given.config.in_range in omega arith) h.limit)
@@ -27,7 +27,7 @@ returns-in_err-limit c = unless_some c.from_residual-in_err-limit.result _ _ c.f
 pub returns-in_err-config : goal.returns-in_err-config
 returns-in_err-config c =
     unless_some c.from_residual-in_err-config.result _ _ c.from_residual-in_err-config.ensures
-    (config_made (rows_of (found_of c.args.matches.now)) c.in_ok-m.m c.in_ok-limit.limit c.new.result c.in_ok-m.ensures c.in_ok-limit.ensures c.new.ensures.range (sym c.ok.ensures.value ∙ c.in_err-config.was))
+    (config_made (rows_of (found_of c.args.matches.now)) c.in_ok-world.world c.in_ok-m.m c.in_ok-limit.limit c.new.result c.in_ok-world.ensures c.in_ok-m.ensures c.in_ok-limit.ensures c.new.ensures.range (sym c.ok.ensures.value ∙ c.in_err-config.was))
 
 pub returns : goal.returns
 returns c =
