@@ -38,7 +38,7 @@ use Rattle.run_checker.specs.RecordLine.{IsEventLine, IsHeaderLine}
 use Rattle.run_checker.specs.Recorded.{IsRecordOf, IsYes}
 use Rattle.run_checker.specs.ReplyText.{if_below, number_below, number_of, told_in, told_of_words, plain_of, word_alone, word_with, owner_of, saw_of, pairs_in, told_with, told_by}
 use Rattle.run_checker.specs.Verdict.{record_lines, lines_left, AreRead, SpellRun, IsSaid}
-use Rattle.run_checker.proofs.ConfigBounds.{most_seated}
+use Rattle.rename_core.proofs.MostIn.{few_take_part}
 use Rattle.run_checker.proofs.NarrowRuns.{FitsPlace, AreWritable, run_narrow}
 use Rattle.run_checker.proofs.Recording.{yes_by}
 use Rattle.run_checker.proofs.RowRuns.{RowsSoFar, all_rows, next_row, row_few, row_judged}
@@ -217,7 +217,7 @@ module _ (h : Header) (head : List ℕ) (says : IsHeaderLine head h) (rows : Lis
       let ts = map Answered xs in
       let same : exchanges ts ≡ xs = answered_exchanges xs in
       let whole : record_of c ts ≡ text = ap (λ (l : List ℕ). header_line c ++ l) (answered_lines xs) ∙ sym a.migration.text_is in
-      let narrow = run_narrow (terms_of c) (most_seated c) c.k c.in_range.3 xs is_run written in
+      let narrow = run_narrow (terms_of c) (few_take_part c) c.k c.in_range.3 xs is_run written in
       subst (λ (l : List ℕ). IsRecordOf c xs l) whole (subst (λ (ys : List Exchange). IsRecordOf c ys (record_of c ts)) same (record_is c (header_named head h says) ts (rw same narrow)))
 
   few : length xs ≤ 1000000

@@ -5,7 +5,7 @@ use Rattle.run_checker.specs.Config.{terms_of}
 use Rattle.run_checker.specs.Migrated.{AreMigrated}
 use Rattle.run_checker.specs.RecordLine.{IsEventLine}
 use Rattle.run_checker.specs.Verdict.{lines_left}
-use Rattle.run_checker.proofs.ConfigBounds.{most_seated}
+use Rattle.rename_core.proofs.MostIn.{few_take_part}
 use Rattle.run_checker.proofs.MigratedRecords.{MigratedSoFar, all_migrated, row_migrated, migrated_here}
 use Rattle.run_checker.proofs.RowRuns.{bad_row, line_read, row_at_fault}
 use Rattle.run_checker.proofs.migrating.migrated_rows.Goals.{in-Some+in_default-next_line, in_default}
@@ -23,7 +23,7 @@ loop-left-init c =
         read = tt;
         many = refl;
         few = omega arith;
-        taken = c.in_ok-checker.ensures (terms_of config) (λ i. record { most = config.m; limit = config.limit; grows = sym c.is_tree-grows.ensures i }) (most_seated config) r.4 r.5 r.2 r.3;
+        taken = c.in_ok-checker.ensures (terms_of config) (λ i. record { most = config.m; limit = config.limit; grows = sym c.is_tree-grows.ensures i }) (few_take_part config) r.4 r.5 r.2 r.3;
         at = refl;
       };
       gathered = c.in_ok-migration.ensures;
