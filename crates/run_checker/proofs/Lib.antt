@@ -16,6 +16,7 @@ mod JsonLemmas
 mod RecordLines
 mod RowRuns
 mod WrittenTexts
+mod PlainLines
 mod WrittenNumbers
 mod Pieces
 mod WrittenWords

@@ -12,7 +12,8 @@ use Rattle.step_memory.specs.declared.refusal.Refusal.{Refusal}
 use Rattle.step_memory.specs.declared.refusal.Refusal.TheVariants.{ZeroIdentity, AlreadyBegun, Full, NotBegun}
 use Rattle.rename_core.specs.declared.reply.Reply.{Reply as StepReply}
 use Rattle.rename_core.specs.declared.reply.Reply.TheVariants as step
-use Rattle.rename_core.specs.RenameObject.{RenameTerms, RenameObject, no_begin, no_step, AllowsStep, ShowsConflict}
+use Rattle.rename_core.specs.RenameObject.{RenameTerms, RenameObject, no_begin, no_step, AllowsStep}
+use Rattle.snapshot_core.specs.Snapshot.{IsMoment}
 use Rattle.bit_allocator.specs.Calls.Call.{Entered, Probed, Left, Widened}
 use Rattle.bit_allocator.specs.PoolObject.{competes, number_in}
 use Rattle.bit_allocator.specs.declared.probe.Probe.TheVariants as probe
@@ -211,17 +212,18 @@ may_step o p e = elim (o.begun p) as (λ b. o.begun p ≡ b → o.begun p ≡ tr
 ] refl
 
 module _ (terms : RenameTerms) (fits : terms.most ≤ 16) where
-  view_short : (o : DeskObject) → IsNarrowObject terms.most o → (p : ℕ) (view : List (ℕ × ℕ)) → ShowsConflict o.names p view → IsShort view
-  view_short o h p view s =
-      let at = λ (q n : ℕ) (e : value_of q view ≡ Some n). h.shown s.index q n (sym (s.is.values q) ∙ e) in
-      let in_who = each_by (λ q n. IsIn q h.who) view s.is.rising (λ q n e. h.listed q (at q n e).0) in
+  -- the view of a moment in which somebody proposes
+  moment_short : (o : DeskObject) → IsNarrowObject terms.most o → (i p number : ℕ) (view : List (ℕ × ℕ)) → IsMoment view (o.names.moment i) → o.names.moment i p ≡ Some number → IsShort view
+  moment_short o h i p number view is own =
+      let at = λ (q n : ℕ) (e : value_of q view ≡ Some n). h.shown i q n (sym (is.values q) ∙ e) in
+      let in_who = each_by (λ q n. IsIn q h.who) view is.rising (λ q n e. h.listed q (at q n e).0) in
       let room = h.room in
       record {
-        some = λ none. absurd (let no : None ≡ Some s.conflict.number = (ap (λ (v : List (ℕ × ℕ)). value_of p v) (sym none)) ∙ s.is.values p ∙ s.conflict.own in cc);
-        few = omega (arith, few_pairs view h.who s.is.rising in_who);
-        above = above_none view (each_by (λ q n. 0 < q) view s.is.rising (λ q n e. (h.narrow q (at q n e).0).0));
-        rising = s.is.rising;
-        narrow = narrow_pairs view (each_by (λ q n. (q < 2 ^ 64) × (n < 2 ^ 64)) view s.is.rising (λ q n e. ((h.narrow q (at q n e).0).1, (at q n e).1)));
+        some = λ none. absurd (let no : None ≡ Some number = (ap (λ (v : List (ℕ × ℕ)). value_of p v) (sym none)) ∙ is.values p ∙ own in cc);
+        few = omega (arith, few_pairs view h.who is.rising in_who);
+        above = above_none view (each_by (λ q n. 0 < q) view is.rising (λ q n e. (h.narrow q (at q n e).0).0));
+        rising = is.rising;
+        narrow = narrow_pairs view (each_by (λ q n. (q < 2 ^ 64) × (n < 2 ^ 64)) view is.rising (λ q n e. ((h.narrow q (at q n e).0).1, (at q n e).1)));
       }
 
   few_names : (o : DeskObject) → IsNarrowObject terms.most o → (n : ℕ) → n ≤ 2 * o.names.many - 1 → n < 2 ^ 64
@@ -346,8 +348,8 @@ module _ (terms : RenameTerms) (fits : terms.most ≤ 16) where
     said_narrow p step.Quiet a f = tt
     said_narrow p (step.Placed place) a f = f
     said_narrow p (step.Proposed n) a f = few_names o h n a.small
-    said_narrow p (step.Saw view) a f = view_short o h p view a.2
-    said_narrow p (step.Named n view) a f = few_names o h n a.2.small
+    said_narrow p (step.Saw view) a f = let s = a.2 in moment_short o h s.index p s.conflict.number view s.is s.conflict.own
+    said_narrow p (step.Named n view) a f = let s = a.1 in (few_names o h n a.2.small, moment_short o h s.index p n view s.is s.sole.own)
     said_narrow p step.Spent a f = tt
 
     reply_narrow : (call : DeskCall) → AllowsCall terms o call → FitsPlace (exchange_of call).reply → IsNarrowReply (exchange_of call).reply

@@ -1,7 +1,7 @@
 -- the lines of a record, as they are written, are read as the objects of their words
-use Rattle.std.proofs.Common.{◌≡◌, ℕ, ◌<◌, ◌≤◌, ◌^◌, Bool, true, ◌&&◌, ◌==◌, not, List, [], ◌∷◌, ◌++◌, Option, Some, option_and_then, refl, sym, ap, ◌∙◌, arith, append_assoc, append-nil, codes, decimal, IsUtf8}
+use Rattle.std.proofs.Common.{◌≡◌, ℕ, ◌<◌, ◌≤◌, ◌^◌, true, List, [], ◌∷◌, ◌++◌, Option, Some, None, option_and_then, refl, sym, ap, ◌∙◌, arith, append_assoc, append-nil, codes, decimal, IsUtf8}
 use Rattle.std.specs.List.{list_all}
-use Rattle.std.specs.Prelude.{nat_le, nat_lt}
+use Rattle.std.specs.Prelude.{nat_lt}
 use Rattle.std.proofs.lemmas.Bool.{and_parts}
 use Rattle.std.proofs.lemmas.Bool.Decides.{nat_tests}
 use Rattle.json.specs.Token.{Token}
@@ -20,17 +20,19 @@ use Rattle.serde_json.proofs.Numbers.{number_of-decimal}
 use Rattle.std.proofs.lemmas.Fmt.{decimal_digit}
 use Rattle.serde_json.specs.Written.{outline, compact_text}
 use Rattle.serde_json.proofs.Texts.{print-outline}
+use Rattle.run_checker.specs.Json.{is_plain}
 
--- what stands for itself in a JSON text
-abbrev pub is_plain : ℕ → Bool
-is_plain b = nat_le 32 b && (nat_le b 126 && (not (b == 34) && not (b == 92)))
+-- the object of an event's line, with a view or without one, and its text
+abbrev pub line_data : List ℕ → List ℕ → Option (List ℕ) → Data
+line_data command reply None = object (member (codes "command") (string command) (member (codes "reply") (string reply) no_members))
+line_data command reply (Some view) = object (member (codes "command") (string command) (member (codes "reply") (string reply) (member (codes "view") (string view) no_members)))
 
--- the object of an event's line, and its text
-abbrev pub line_data : List ℕ → List ℕ → Data
-line_data command reply = object (member (codes "command") (string command) (member (codes "reply") (string reply) no_members))
+abbrev pub shown_text : Option (List ℕ) → List ℕ
+shown_text None = []
+shown_text (Some view) = codes ",\"view\":\"" ++ view ++ codes "\""
 
-abbrev pub line_text : List ℕ → List ℕ → List ℕ
-line_text command reply = codes "{\"command\":\"" ++ command ++ codes "\",\"reply\":\"" ++ reply ++ codes "\"}"
+abbrev pub line_text : List ℕ → List ℕ → Option (List ℕ) → List ℕ
+line_text command reply shown = codes "{\"command\":\"" ++ command ++ codes "\",\"reply\":\"" ++ reply ++ codes "\"" ++ shown_text shown ++ codes "}"
 
 -- the object of a header, and its text
 abbrev pub header_data : ℕ → ℕ → ℕ → List ℕ → Data
@@ -39,13 +41,13 @@ header_data k limit m name =
     (member (codes "k") (number (unsigned k))
     (member (codes "limit") (number (unsigned limit))
     (member (codes "m") (number (unsigned m))
-    (member (codes "version") (number (unsigned 1))
+    (member (codes "version") (number (unsigned 2))
     (member (codes "world") (string name) no_members))))))
 
 abbrev pub header_text : ℕ → ℕ → ℕ → List ℕ → List ℕ
 header_text k limit m name =
     codes "{\"format\":\"slot-record\",\"k\":" ++ decimal k ++ codes ",\"limit\":" ++ decimal limit ++ codes ",\"m\":" ++ decimal m
-    ++ codes ",\"version\":1,\"world\":\"" ++ name ++ codes "\"}"
+    ++ codes ",\"version\":2,\"world\":\"" ++ name ++ codes "\"}"
 
 -- plain bytes are written as they stand
 no_quote : (b : ℕ) → is_plain b ≡ true → b ≡ 34 → ⊥
@@ -71,15 +73,29 @@ read_compact d numbers shallow same =
     ap (λ (l : List Token). option_and_then of_json (option_and_then (λ p. json.if_last p.0 p.1) (json.value 127 l))) text
     ∙ ap (λ (o : Option (json.Json × List Token)). option_and_then of_json (option_and_then (λ p. json.if_last p.0 p.1) o)) (value-json_tokens (outline d) 127 [] shallow) ∙ same
 
-grouped : (a c b r z : List ℕ) → a ++ ((c ++ 34 ∷ []) ++ (b ++ ((r ++ 34 ∷ []) ++ z))) ≡ (((a ++ c) ++ 34 ∷ b) ++ r) ++ 34 ∷ z
-grouped a c b r z = simp append_assoc
+-- the view, where there is one, is plain
+abbrev pub IsPlainView : Option (List ℕ) → Type 0
+IsPlainView None = Unit {0}
+IsPlainView (Some view) = list_all is_plain view ≡ true
 
-compact_line : (c r : List ℕ) → list_all is_plain c ≡ true → list_all is_plain r ≡ true → compact_text (line_data c r) ≡ line_text c r
+grouped : (q a c b r z : List ℕ) → a ++ ((c ++ q) ++ (b ++ ((r ++ q) ++ z))) ≡ (((((a ++ c) ++ (q ++ b)) ++ r) ++ q) ++ []) ++ z
+grouped q a c b r z = simp append_assoc
+
+grouped_with : (q a c b r w v z : List ℕ) → a ++ ((c ++ q) ++ (b ++ ((r ++ q) ++ (w ++ ((v ++ q) ++ z))))) ≡ (((((a ++ c) ++ (q ++ b)) ++ r) ++ q) ++ ((w ++ v) ++ q)) ++ z
+grouped_with q a c b r w v z = simp append_assoc
+
+compact_line : (c r : List ℕ) (shown : Option (List ℕ)) → list_all is_plain c ≡ true → list_all is_plain r ≡ true → IsPlainView shown → compact_text (line_data c r shown) ≡ line_text c r shown
 unfolding escape_byte
-compact_line c r hc hr = rw (escape_plain c hc, escape_plain r hr) (grouped (codes "{\"command\":\"") c (codes ",\"reply\":\"") r (codes "}"))
+compact_line c r None hc hr hv = rw (escape_plain c hc, escape_plain r hr) (grouped (codes "\"") (codes "{\"command\":\"") c (codes ",\"reply\":\"") r (codes "}"))
+compact_line c r (Some v) hc hr hv =
+    rw (escape_plain c hc, escape_plain r hr, escape_plain v hv) (grouped_with (codes "\"") (codes "{\"command\":\"") c (codes ",\"reply\":\"") r (codes ",\"view\":\"") v (codes "}"))
 
-pub read_line_text : (c r : List ℕ) → list_all is_plain c ≡ true → list_all is_plain r ≡ true → read (line_text c r) ≡ Some (line_data c r)
-read_line_text c r hc hr = ap read (sym (compact_line c r hc hr)) ∙ read_compact (line_data c r) (tt, (tt, tt)) (omega arith) refl
+read_data : (c r : List ℕ) (shown : Option (List ℕ)) → read (compact_text (line_data c r shown)) ≡ Some (line_data c r shown)
+read_data c r None = read_compact (line_data c r None) (tt, (tt, tt)) (omega arith) refl
+read_data c r (Some v) = read_compact (line_data c r (Some v)) (tt, (tt, (tt, tt))) (omega arith) refl
+
+pub read_line_text : (c r : List ℕ) (shown : Option (List ℕ)) → list_all is_plain c ≡ true → list_all is_plain r ≡ true → IsPlainView shown → read (line_text c r shown) ≡ Some (line_data c r shown)
+read_line_text c r shown hc hr hv = ap read (sym (compact_line c r shown hc hr hv)) ∙ read_data c r shown
 
 grouped_header : (a k b l c m d v e n z : List ℕ) → a ++ (k ++ (b ++ (l ++ (c ++ (m ++ (d ++ (v ++ (e ++ ((n ++ 34 ∷ []) ++ z))))))))) ≡ (((((((a ++ k) ++ b) ++ l) ++ c) ++ m) ++ (d ++ (v ++ e))) ++ n) ++ 34 ∷ z
 grouped_header a k b l c m d v e n z = simp append_assoc
@@ -87,15 +103,15 @@ grouped_header a k b l c m d v e n z = simp append_assoc
 compact_header : (k limit m : ℕ) (name : List ℕ) → list_all is_plain name ≡ true → compact_text (header_data k limit m name) ≡ header_text k limit m name
 unfolding escape_byte
 compact_header k limit m name h =
-    rw (escape_plain name h, decimal_digit 1 (omega arith))
-    (grouped_header (codes "{\"format\":\"slot-record\",\"k\":") (decimal k) (codes ",\"limit\":") (decimal limit) (codes ",\"m\":") (decimal m) (codes ",\"version\":") (49 ∷ []) (codes ",\"world\":\"") name (codes "}"))
+    rw (escape_plain name h, decimal_digit 2 (omega arith))
+    (grouped_header (codes "{\"format\":\"slot-record\",\"k\":") (decimal k) (codes ",\"limit\":") (decimal limit) (codes ",\"m\":") (decimal m) (codes ",\"version\":") (50 ∷ []) (codes ",\"world\":\"") name (codes "}"))
 
 header_of_json : (k limit m : ℕ) (name : List ℕ) → k < 2 ^ 64 → limit < 2 ^ 64 → m < 2 ^ 64 → of_json (outline (header_data k limit m name)) ≡ Some (header_data k limit m name)
-header_of_json k limit m name hk hl hm = rw (number_of-decimal k hk, number_of-decimal limit hl, number_of-decimal m hm, number_of-decimal 1 (omega arith)) refl
+header_of_json k limit m name hk hl hm = rw (number_of-decimal k hk, number_of-decimal limit hl, number_of-decimal m hm, number_of-decimal 2 (omega arith)) refl
 
 pub read_header_text : (k limit m : ℕ) (name : List ℕ) → k < 2 ^ 64 → limit < 2 ^ 64 → m < 2 ^ 64 → list_all is_plain name ≡ true → read (header_text k limit m name) ≡ Some (header_data k limit m name)
 read_header_text k limit m name hk hl hm h =
-    let numbers : tree.HasNumbers (outline (header_data k limit m name)) = (tt, (IsNumber-decimal k hk, (IsNumber-decimal limit hl, (IsNumber-decimal m hm, (IsNumber-decimal 1 (omega arith), (tt, tt)))))) in
+    let numbers : tree.HasNumbers (outline (header_data k limit m name)) = (tt, (IsNumber-decimal k hk, (IsNumber-decimal limit hl, (IsNumber-decimal m hm, (IsNumber-decimal 2 (omega arith), (tt, tt)))))) in
     ap read (sym (compact_header k limit m name h)) ∙ read_compact (header_data k limit m name) numbers (omega arith) (header_of_json k limit m name hk hl hm)
 
 -- and they are UTF-8

@@ -20,7 +20,7 @@ use Rattle.schedule_player.specs.Lines.{pieces_from, has_no_lf}
 use Rattle.schedule_player.specs.Meaning.{is_digit, is_printable, words, has_desk, command_in, meaning}
 use Rattle.run_checker.proofs.Pieces.{lacks, pieces-last, pieces-cut}
 use Rattle.run_checker.proofs.WrittenNumbers.{decimal_digits, number_in-decimal}
-use Rattle.run_checker.proofs.WrittenTexts.{is_plain}
+use Rattle.run_checker.specs.Json.{is_plain}
 
 -- the numbers of an event are below 2^64
 abbrev pub IsNarrowEvent : Event → Type 0
@@ -56,7 +56,7 @@ IsNarrowReply reply.Down = Unit {0}
 IsNarrowReply (reply.Place place) = place < 2 ^ 128
 IsNarrowReply (reply.Proposed number) = number < 2 ^ 64
 IsNarrowReply (reply.Saw view) = IsShort view
-IsNarrowReply (reply.Named name view) = name < 2 ^ 64
+IsNarrowReply (reply.Named name view) = (name < 2 ^ 64) × IsShort view
 IsNarrowReply reply.Spent = Unit {0}
 IsNarrowReply reply.Missed = Unit {0}
 IsNarrowReply (reply.Got number) = number < 2 ^ 64

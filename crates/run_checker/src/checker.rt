@@ -140,7 +140,7 @@ impl Checker {
 
     /// A participant that may step is told a name.
     fn name(&mut self, id: u64, name: u64, shown: Option<&Pairs>) -> Result<(), Fault>
-        ensures { Judges (MayStep id) self.old (line (event.Step id) (told.Named name (option_copied shown))) result self.new }
+        ensures { Judges (MayStep id) self.old (line (event.Step id) (told.Named name (option_copied shown.entry))) result self.new }
     {
         if !self.names.may_name(id, name, shown) {
             return Err(Fault::Unlawful(Reason::Name));

@@ -358,7 +358,7 @@ impl Names {
     /// Whether an identity that may step may be given a name, by the view that is shown where one is.
     pub fn may_name(&self, id: u64, name: u64, shown: Option<&Pairs>) -> bool
         ensures { (terms : RenameTerms) (o : RenameObject) → HoldsNames terms self.now o → no_step o id ≡ None →
-            IsTrue result ↔ MayBeNamed o id name (option_copied shown) }
+            IsTrue result ↔ MayBeNamed o id name (option_copied shown.entry) }
     {
         let Some(standing) = find(&self.participants, id) else {
             return false;

@@ -368,7 +368,11 @@ fn crowded_names(rt: HostRuntime) -> Result<(), Fail> {
     let config = Config::new(WorldKind::Rename, 2, 3, 5)?;
     for (first, second, fault) in [
         (Told::Proposed(2), Told::Named(1, None), None),
-        (Told::Proposed(1), Told::Named(1, None), Some((4, Reason::Name))),
+        (
+            Told::Proposed(1),
+            Told::Named(1, None),
+            Some((4, Reason::Name)),
+        ),
     ] {
         judge(
             &rt,

@@ -1,11 +1,13 @@
--- records (this project's profile), version 1: a line of JSON for the config, and one for each event with its reply
+-- records (this project's profile), version 2: a line of JSON for the config, and one for each event with its reply
 use Rattle.std.specs.Prelude.{ℕ, List, [], ◌++◌, flat_map, codes, decimal}
 use Rattle.desk.specs.declared.exchange.Exchange.{Exchange}
+use Rattle.desk.specs.declared.reply.Reply.{Reply}
+use Rattle.desk.specs.declared.reply.Reply.TheVariants as reply
 use Rattle.rename_core.specs.declared.config.Config.{Config}
 use Rattle.rename_core.specs.declared.config.WorldKind.{WorldKind}
 use Rattle.rename_core.specs.declared.config.WorldKind.TheVariants.{Splitter, Grid, Rename, Tree}
 use Rattle.schedule_player.specs.Events.{event_words}
-use Rattle.schedule_player.specs.Replies.{reply_words}
+use Rattle.schedule_player.specs.Replies.{reply_words, view_words}
 use Rattle.schedule_player.specs.Turns.{Turn}
 use Rattle.schedule_player.specs.Turns.Turn.{Answered, Told, Ended, Misread}
 
@@ -20,11 +22,17 @@ world_name Tree = codes "tree"
 abbrev pub header_line : Config → List ℕ
 header_line c =
     codes "{\"format\":\"slot-record\",\"k\":" ++ decimal c.k ++ codes ",\"limit\":" ++ decimal c.limit ++ codes ",\"m\":" ++ decimal c.m
-    ++ codes ",\"version\":1,\"world\":\"" ++ world_name c.world ++ codes "\"}\n"
+    ++ codes ",\"version\":2,\"world\":\"" ++ world_name c.world ++ codes "\"}\n"
+
+-- after a name, and after no other reply, the view by which it was given
+abbrev pub name_view : Reply → List ℕ
+name_view (reply.Named name view) = codes ",\"view\":\"" ++ view_words view ++ codes "\""
+name_view r = []
 
 -- the line of an event and its reply; no word of either needs an escape
 abbrev pub exchange_line : Exchange → List ℕ
-exchange_line x = codes "{\"command\":\"" ++ event_words x.event ++ codes "\",\"reply\":\"" ++ reply_words x.reply ++ codes "\"}\n"
+exchange_line x =
+    codes "{\"command\":\"" ++ event_words x.event ++ codes "\",\"reply\":\"" ++ reply_words x.reply ++ codes "\"" ++ name_view x.reply ++ codes "}\n"
 
 -- what is recorded of a turn: an event, with its reply, be it a refusal, and nothing else
 abbrev pub turn_record : Turn → List ℕ

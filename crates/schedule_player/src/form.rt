@@ -11,8 +11,8 @@ use desk::{Event, ShortReply};
 use std::alloc::Allocator;
 use step_memory::View;
 
-/// What is written of no turn has more bytes: the longest is the record of a view of 64 pairs.
-pub const TURN_ROOM: usize = 2_762;
+/// What is written of no turn has more bytes: a command, a reply, and a view of 64 pairs beside it.
+pub const TURN_ROOM: usize = 5_460;
 
 /// How the turns of a run are written.
 pub trait Form: Drop {

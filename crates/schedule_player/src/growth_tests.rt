@@ -59,9 +59,10 @@ fn written(
     kept: bool,
     asked: &[u8],
     said: &[u8],
+    views: &[u8],
 ) -> Result<Vec<u8>, Fail> {
     if kept {
-        return record_text(alloc, config, asked, said);
+        return record_text(alloc, config, asked, said, views);
     }
     let mut text = Vec::new(alloc);
     text.extend_from_slice(said)?;
@@ -115,7 +116,8 @@ fn growths_refused_in_turn(
     let config = Config::new(row.world, row.m, row.k, row.limit)?;
     let asked = spelled(alloc, row.asked)?;
     let said = spelled(alloc, row.said)?;
-    let text = written(alloc, config, kept, &asked, &said)?;
+    let views = spelled(alloc, row.views)?;
+    let text = written(alloc, config, kept, &asked, &said, &views)?;
     let mut refused = 0usize;
     for growth in 1..MOST_GROWTHS {
         let p = refusing(alloc, config, kept, &asked, growth);
@@ -137,7 +139,7 @@ fn growths_refused_in_turn(
         let again = with_line(alloc, &asked, line, None)?;
         let told = with_line(alloc, &said, line, Some(b"refused 12"))?;
         let p = refusing(alloc, config, kept, &again, growth);
-        let want = written(alloc, config, kept, &again, &told)?;
+        let want = written(alloc, config, kept, &again, &told, &views)?;
         assert!(rt; p.fault.is_none() && p.text == want, "at {growth}");
     }
     panic!(rt; "there are more growths");
@@ -170,6 +172,7 @@ fn each_growth_of_a_splitter_and_a_grid_is_refused_in_turn(rt: HostRuntime) -> R
                 limit: 1000,
                 asked: "begin 7, step 7, quit",
                 said: "ok, quiet, ok",
+                views: "",
             };
             assert_eq!(rt; growths_refused_in_turn(&rt, rt.alloc(), &row, false)?, 0);
         }

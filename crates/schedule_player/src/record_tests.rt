@@ -23,12 +23,38 @@ pub(crate) fn recorded<A: Allocator + Clone>(
     what_is_left(outcome, reader, writer)
 }
 
-/// The record that these lines and the replies to them make, where no line is bad.
+/// Appends the line of an event, with the view by which a name was given where it is one.
+fn put_line(
+    text: &mut Vec<u8>,
+    event: &[u8],
+    reply: &[u8],
+    view: Option<&[u8]>,
+) -> Result<(), Fail> {
+    for piece in [
+        b"{\"command\":\"".as_slice(),
+        event,
+        b"\",\"reply\":\"",
+        reply,
+        b"\"",
+    ] {
+        text.extend_from_slice(piece)?;
+    }
+    if let Some(pairs) = view {
+        text.extend_from_slice(b",\"view\":\"")?;
+        text.extend_from_slice(pairs)?;
+        text.extend_from_slice(b"\"")?;
+    }
+    text.extend_from_slice(b"}\n")?;
+    Ok(())
+}
+
+/// The record that these lines and the replies to them make, with the views of the names in order, where no line is bad.
 pub(crate) fn record_text(
     alloc: Global,
     config: Config,
     asked: &[u8],
     said: &[u8],
+    views: &[u8],
 ) -> Result<Vec<u8>, Fail> {
     let world = if config.world == WorldKind::Tree {
         "tree"
@@ -36,26 +62,24 @@ pub(crate) fn record_text(
         "rename"
     };
     let header = format!(in alloc;
-        "{{\"format\":\"slot-record\",\"k\":{},\"limit\":{},\"m\":{},\"version\":1,\"world\":\"{world}\"}}\n",
+        "{{\"format\":\"slot-record\",\"k\":{},\"limit\":{},\"m\":{},\"version\":2,\"world\":\"{world}\"}}\n",
         config.k, config.limit, config.m
     )?;
     let mut text = Vec::new(alloc);
     text.extend_from_slice(header.as_bytes())?;
     let lines = asked.split(|byte| *byte == b'\n');
     let replies = said.split(|byte| *byte == b'\n');
+    let mut shown = views.split(|byte| *byte == b'\n');
     for (line, reply) in lines.zip(replies) {
         if line.is_empty() || line.starts_with(b"owner") {
             continue;
         }
-        for piece in [
-            b"{\"command\":\"".as_slice(),
-            line,
-            b"\",\"reply\":\"",
-            reply,
-            b"\"}\n",
-        ] {
-            text.extend_from_slice(piece)?;
-        }
+        let view = if reply.starts_with(b"named ") {
+            shown.next()
+        } else {
+            None
+        };
+        put_line(&mut text, line, reply, view)?;
     }
     Ok(text)
 }
@@ -66,7 +90,8 @@ fn the_record_of_a_row_is_its_events_with_their_replies(rt: HostRuntime) -> Resu
         let config = Config::new(row.world, row.m, row.k, row.limit)?;
         let asked = spelled(rt.alloc(), row.asked)?;
         let said = spelled(rt.alloc(), row.said)?;
-        let text = record_text(rt.alloc(), config, &asked, &said)?;
+        let views = spelled(rt.alloc(), row.views)?;
+        let text = record_text(rt.alloc(), config, &asked, &said, &views)?;
         for piece in [1, 7, READ_BYTES] {
             let p = recorded(
                 config,
@@ -85,7 +110,7 @@ fn the_record_of_a_row_is_its_events_with_their_replies(rt: HostRuntime) -> Resu
 const LINES: &[u8] = b"begin 7\nstep 7\nstep 9\nowner 1\nSTEP 7\n\nenter 7\nquit\nstep 7\n";
 
 const RECORD: &[u8] =
-    b"{\"format\":\"slot-record\",\"k\":4,\"limit\":1000,\"m\":2,\"version\":1,\"world\":\"rename\"}
+    b"{\"format\":\"slot-record\",\"k\":4,\"limit\":1000,\"m\":2,\"version\":2,\"world\":\"rename\"}
 {\"command\":\"begin 7\",\"reply\":\"ok\"}
 {\"command\":\"step 7\",\"reply\":\"quiet\"}
 {\"command\":\"step 9\",\"reply\":\"refused 4\"}

@@ -15,6 +15,8 @@ pub(crate) struct Row {
     pub(crate) limit: u64,
     pub(crate) asked: &'static str,
     pub(crate) said: &'static str,
+    /// The views by which names were given, in order.
+    pub(crate) views: &'static str,
 }
 
 /// The pool gets more numbers while the last is held.
@@ -35,6 +37,7 @@ pub(crate) const ROWS: [Row; 17] = [
         limit: 1000,
         asked: "begin 7, step 7*10, owner 1, owner 2",
         said: "ok, quiet*3, place 0, quiet*2, proposed 1, quiet, named 1, refused 5, owner 7, refused 14",
+        views: "7:1",
     },
     // One alone in a world for two.
     Row {
@@ -44,6 +47,7 @@ pub(crate) const ROWS: [Row; 17] = [
         limit: 1000,
         asked: "begin 7, step 7*17",
         said: "ok, quiet*3, place 0, quiet*6, proposed 1, quiet*5, named 1",
+        views: "7:1",
     },
     // The name 2b - 1 is reached.
     Row {
@@ -57,6 +61,7 @@ pub(crate) const ROWS: [Row; 17] = [
         said: "ok*2, quiet*7, place 0, quiet*3, place 2, quiet*12, proposed 1*2, quiet*5, saw 10:1 20:1, \
             quiet*5, saw 10:1 20:1, quiet*6, proposed 2, quiet*6, proposed 3, quiet*5, named 2, quiet*5, \
             named 3",
+        views: "10:2 20:3, 10:2 20:3",
     },
     // A view is borrowed.
     Row {
@@ -69,6 +74,7 @@ pub(crate) const ROWS: [Row; 17] = [
         said: "ok*2, quiet*3, place 0, quiet*5, place 1, quiet*6, proposed 1, quiet*9, proposed 1, quiet*8, \
             saw 10:1 20:1, quiet*6, proposed 3, quiet, saw 10:1 20:1, quiet*6, proposed 2, quiet*5, \
             named 2, quiet*5, named 3",
+        views: "10:2 20:3, 10:2 20:3",
     },
     // The largest identity.
     Row {
@@ -80,6 +86,7 @@ pub(crate) const ROWS: [Row; 17] = [
             step 18446744073709551615*7, step 1*7, step 18446744073709551615*19, step 1*6",
         said: "ok*2, refused 1, quiet*3, place 0, quiet*5, place 1, quiet*6, proposed 1, quiet*6, proposed 1, \
             quiet*5, saw 1:1 18446744073709551615:1, quiet*6, proposed 3, quiet*5, named 3, quiet*5, named 1",
+        views: "1:1 18446744073709551615:3, 1:1 18446744073709551615:3",
     },
     // A round limit of 1.
     Row {
@@ -90,6 +97,7 @@ pub(crate) const ROWS: [Row; 17] = [
         asked: "begin 10, begin 20, step 10*4, step 20*13, step 10*6, step 20*4, step 10*8, step 20*2",
         said: "ok*2, quiet*3, place 0, quiet*5, place 1, quiet*6, proposed 1, quiet*10, proposed 1, quiet*5, \
             spent, refused 6, quiet, named 1",
+        views: "20:1",
     },
     // Refusals of renaming.
     Row {
@@ -100,6 +108,7 @@ pub(crate) const ROWS: [Row; 17] = [
         asked: "begin 5, step 5, begin 5, step 5*3, begin 6, begin 7, step 7, begin 0, owner 1, owner 4",
         said: "ok, quiet, refused 2, quiet*2, place 0, ok, refused 3, refused 4, refused 1, owner none, \
             refused 14",
+        views: "",
     },
     // A pool of one number.
     Row {
@@ -109,6 +118,7 @@ pub(crate) const ROWS: [Row; 17] = [
         limit: 1000,
         asked: "enter 5, probe 5, enter 6, enter 5, leave 5, enter 6",
         said: "ok, got 1, refused 7, refused 9, left 1, ok",
+        views: "",
     },
     // A bit that is freed behind a prober.
     Row {
@@ -119,6 +129,7 @@ pub(crate) const ROWS: [Row; 17] = [
         asked: "enter 5, probe 5, enter 6, probe 6*2, enter 7, probe 7, leave 5, probe 7, enter 8, probe 8, \
             enter 9",
         said: "ok, got 1, ok, missed, got 2, ok, missed, left 1, got 3, ok, got 1, refused 7",
+        views: "",
     },
     // Slots keep their values.
     Row {
@@ -129,6 +140,7 @@ pub(crate) const ROWS: [Row; 17] = [
         asked: "enter 5, leave 5, probe 5*2, put 5 77, get 5, leave 5, get 5, enter 6, get 6, probe 6, get 6",
         said: "ok, refused 11, got 1, refused 10, ok, value 77, left 1, refused 8, ok, refused 11, got 1, \
             value 77",
+        views: "",
     },
     // Refusals of the pool, and a value that the next holder gets.
     Row {
@@ -139,6 +151,7 @@ pub(crate) const ROWS: [Row; 17] = [
         asked: "probe 5, enter 0, enter 5, leave 5, probe 5, enter 6, probe 6, put 6 9, leave 6, enter 7, \
             probe 7, get 7",
         said: "refused 8, refused 1, ok, refused 11, got 1, ok, got 2, ok, left 2, ok, got 2, value 9",
+        views: "",
     },
     // A pool that widens while its last number is held.
     Row {
@@ -148,6 +161,7 @@ pub(crate) const ROWS: [Row; 17] = [
         limit: 1000,
         asked: WIDENED,
         said: WIDENED_SAID,
+        views: "",
     },
     Row {
         world: WorldKind::Tree,
@@ -156,6 +170,7 @@ pub(crate) const ROWS: [Row; 17] = [
         limit: 1000,
         asked: WIDENED,
         said: WIDENED_SAID,
+        views: "",
     },
     // A pool of one number that widens before it is held.
     Row {
@@ -165,6 +180,7 @@ pub(crate) const ROWS: [Row; 17] = [
         limit: 1000,
         asked: "enter 5, widen 2, probe 5, enter 6, probe 6",
         said: "ok*2, got 1, ok, got 2",
+        views: "",
     },
     // A pool widens at most to 64 numbers, and each new slot holds 0.
     Row {
@@ -174,6 +190,7 @@ pub(crate) const ROWS: [Row; 17] = [
         limit: 1000,
         asked: "widen 0, widen 1, widen 65, widen 64, widen 64, enter 5, probe 5, put 5 9, enter 6, probe 6*2, get 6",
         said: "refused 14*3, ok, refused 14, ok, got 1, ok*2, missed, got 2, value 0",
+        views: "",
     },
     // One alone in a tree.
     Row {
@@ -183,6 +200,7 @@ pub(crate) const ROWS: [Row; 17] = [
         limit: 1000,
         asked: "begin 7, step 7*23",
         said: "ok, quiet*4, place 1, quiet*8, proposed 1, quiet*7, named 1, refused 5",
+        views: "7:1",
     },
     // Two in a tree.
     Row {
@@ -193,6 +211,7 @@ pub(crate) const ROWS: [Row; 17] = [
         asked: "begin 10, begin 20, step 10*5, step 20*37, step 10*58",
         said: "ok*2, quiet*4, place 1, quiet*7, place 3, quiet*14, proposed 1, quiet*13, named 1, quiet*14, \
             proposed 1, quiet*13, saw 10:1 20:1, quiet*14, proposed 2, quiet*13, named 2",
+        views: "20:1, 10:2 20:1",
     },
 ];
 

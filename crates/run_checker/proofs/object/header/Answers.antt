@@ -16,3 +16,6 @@ returns-in-Err c = λ h says.
     let range : IsConfigRange c.in-Some.sizes.m c.in-Some.sizes.k c.in-Some.sizes.limit =
     subst (λ (x : ℕ). IsConfigRange c.in-Some.sizes.m c.in-Some.sizes.k x) l (subst (λ (x : ℕ). IsConfigRange c.in-Some.sizes.m x d.limit) k (subst (λ (x : ℕ). IsConfigRange x d.k d.limit) m d.in_range)) in
     false≢true (c.in-Err.ensures.range.1 range)
+
+pub returns-in_default : goal.returns-in_default
+returns-in_default c = λ h says. c.in_default.ensures h.version h.config.world h.config.m h.config.k h.config.limit says.sizes

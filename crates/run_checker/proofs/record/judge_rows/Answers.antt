@@ -64,6 +64,26 @@ loop-left-preserved-in_default-3 c =
     let says = line_read header.config.world header.version row c.in_ok-line.field-0 c.in-Some-2.line c.in-Some-2.is c.in_ok-line.ensures in
     row_taken header rows c.loop-left.checker c.judge.new.self c.loop-left.number row more c.in-Some-2.line c.in_ok-reason.field-0 s c.if-number-ge-LINES_END.false says c.in_ok-reason.ensures c.in_default-3.is
 
+pub loop-left-preserved-in_default-3-2 : goal.loop-left-preserved-in_default-3-2
+loop-left-preserved-in_default-3-2 c =
+    let header = c.args.header in
+    let row = c.in-Some-next_line.row.now in
+    let more = lines_left (option_copied c.in-Some-next_line.rest) in
+    let rows = lines_left (option_copied c.args.rows) in
+    let s = row_here header rows (option_copied c.loop-left.left) c.in-Some.bytes.now row more c.loop-left.checker c.loop-left.number c.loop-left.invariant (ap (λ o. option_copied o) c.in-Some.is) c.in-Some-next_line.ensures.lines in
+    let says = line_read header.config.world header.version row c.in_ok-line.field-0 c.in-Some-2.line c.in-Some-2.is c.in_ok-line.ensures in
+    row_taken header rows c.loop-left.checker c.judge.new.self c.loop-left.number row more c.in-Some-2.line c.in_ok-reason.field-0 s c.if-number-ge-LINES_END.false says c.in_ok-reason.ensures c.in_default-3.is
+
+pub loop-left-preserved-in_default-3-3 : goal.loop-left-preserved-in_default-3-3
+loop-left-preserved-in_default-3-3 c =
+    let header = c.args.header in
+    let row = c.in-Some-next_line.row.now in
+    let more = lines_left (option_copied c.in-Some-next_line.rest) in
+    let rows = lines_left (option_copied c.args.rows) in
+    let s = row_here header rows (option_copied c.loop-left.left) c.in-Some.bytes.now row more c.loop-left.checker c.loop-left.number c.loop-left.invariant (ap (λ o. option_copied o) c.in-Some.is) c.in-Some-next_line.ensures.lines in
+    let says = line_read header.config.world header.version row c.in_ok-line.field-0 c.in-Some-2.line c.in-Some-2.is c.in_ok-line.ensures in
+    row_taken header rows c.loop-left.checker c.judge.new.self c.loop-left.number row more c.in-Some-2.line c.in_ok-reason.field-0 s c.if-number-ge-LINES_END.false says c.in_ok-reason.ensures c.in_default-3.is
+
 pub loop-left-preserved : goal.loop-left-preserved
 loop-left-preserved c =
     let header = c.args.header in
