@@ -11,6 +11,7 @@ mod Judging
 mod Following
 mod RecordRuns
 mod DeskRuns
+mod FirstBytes
 mod WordLemmas
 mod JsonLemmas
 mod RecordLines
