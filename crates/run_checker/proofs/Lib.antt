@@ -14,11 +14,13 @@ mod Judging
 mod Following
 mod RecordRuns
 mod DeskRuns
+mod FirstBytes
 mod WordLemmas
 mod JsonLemmas
 mod RecordLines
 mod RowRuns
 mod WrittenTexts
+mod PlainLines
 mod WrittenNumbers
 mod Pieces
 mod WrittenWords

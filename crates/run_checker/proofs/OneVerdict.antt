@@ -12,16 +12,14 @@ use Rattle.run_checker.specs.declared.line.Line.{Line}
 use Rattle.run_checker.specs.declared.verdict.Verdict.{Verdict}
 use Rattle.run_checker.specs.declared.verdict.Verdict.TheVariants.{Yes, No, BadRecord, NoMemory}
 use Rattle.run_checker.specs.Config.{terms_of}
-use Rattle.run_checker.specs.Json.{text_count, HasViewText, SaysSizes}
+use Rattle.run_checker.specs.Json.{SaysSizes}
 use Rattle.run_checker.specs.Lines.{AreLinesOfRun}
 use Rattle.run_checker.specs.RecordLine.{SaysLine, IsEventLine, IsHeaderLine}
 use Rattle.run_checker.specs.ReplyText.{told_by}
 use Rattle.run_checker.specs.Verdict.{AreRead, SpellRun, IsFaultyRow, IsBadRow, IsSaidOfRows, IsSaidAfter, LacksHeader, IsSaid}
+use Rattle.run_checker.proofs.PlainLines.{some_text, one_view}
 use Rattle.run_checker.proofs.RecordLines.{one_value}
 use Rattle.run_checker.proofs.RecordRuns.{at_fault}
-
-some_text : (a b : List ℕ) → Some a ≡ Some b → a ≡ b
-some_text a b e = cc
 
 some_number : (a b : ℕ) → Some a ≡ Some b → a ≡ b
 some_number a b e = cc
@@ -31,13 +29,6 @@ some_version a b e = cc
 
 some_world : (a b : WorldKind) → Some a ≡ Some b → a ≡ b
 some_world a b e = cc
-
--- a view is written or not, and is one text
-one_view : (d : Data) (a b : Option (List ℕ)) → Some (text_count a) ≡ Some (text_count b) → HasViewText d a → HasViewText d b → a ≡ b
-one_view d None None e x y = refl
-one_view d None (Some t) e x y = absurd (cc)
-one_view d (Some t) None e x y = absurd (cc)
-one_view d (Some t) (Some u) e x y = sym x ∙ y
 
 module _ (kind : WorldKind) (version : Version) where
   said_once : (d : Data) (l k : Line) → SaysLine kind version d l → SaysLine kind version d k → l ≡ k

@@ -25,7 +25,7 @@ use Rattle.run_checker.specs.declared.told.Told.{Told as Words}
 use Rattle.run_checker.specs.ReplyText.{told_with}
 use Rattle.run_checker.specs.declared.verdict.Verdict.TheVariants.{Yes}
 use Rattle.run_checker.specs.Config.{terms_of}
-use Rattle.run_checker.specs.Json.{AreTexts, SaysSizes}
+use Rattle.run_checker.specs.Json.{AreTexts, SaysSizes, is_plain}
 use Rattle.run_checker.specs.Lines.{line_of}
 use Rattle.run_checker.specs.ObjectRun.{IsObjectRun}
 use Rattle.run_checker.specs.RecordLine.{IsEventLine, IsHeaderLine}
@@ -33,7 +33,7 @@ use Rattle.run_checker.specs.Recorded.{IsRecordOf}
 use Rattle.run_checker.specs.Verdict.{record_lines, AreRead, IsSaidAfter}
 use Rattle.run_checker.proofs.Pieces.{lines_cut}
 use Rattle.run_checker.proofs.RecordRuns.{lines_of_all}
-use Rattle.run_checker.proofs.WrittenTexts.{is_plain, IsPlainView, shown_text, line_data, line_text, header_data, header_text, read_line_text, read_header_text, plain_utf8}
+use Rattle.run_checker.proofs.WrittenTexts.{IsPlainView, shown_text, line_data, line_text, header_data, header_text, read_line_text, read_header_text, plain_utf8}
 use Rattle.run_checker.proofs.WrittenWords.{IsNarrowEvent, IsNarrowReply, event_means, event_plain, event_short, plain_decimal, plain_has_no_lf, short_decimal, no_lf_both}
 use Rattle.run_checker.proofs.WrittenReplies.{reply_tells, reply_plain, reply_short, shown_of, shown_tells, shown_plain, shown_short}
 

@@ -1,5 +1,5 @@
 -- what a line of a record has as JSON
-use Rattle.std.specs.Prelude.{◌≡◌, ℕ, zero, suc, ◌≤◌, ◌==◌, if◌then◌else◌, List, Option, Some, None, option_map, option_and_then, codes}
+use Rattle.std.specs.Prelude.{◌≡◌, ℕ, zero, suc, ◌≤◌, ◌==◌, Bool, nat_le, ◌&&◌, not, if◌then◌else◌, List, Option, Some, None, option_map, option_and_then, codes}
 use Rattle.schedule_player.specs.Meaning.{same_bytes}
 use Rattle.serde_json.specs.Data.{Data, Members, no_members, member}
 use Rattle.serde_json.specs.Find.{get, as_str, as_number, as_u64, as_object}
@@ -77,3 +77,7 @@ SaysNoSizes d = (v : Version) (world : WorldKind) (m k limit : ℕ) → SaysSize
 pub record IsHeader (d : Data) (h : Header) : Type 0 where
   pub sizes : SaysSizes d h.version h.config.world h.config.m h.config.k h.config.limit
   pub fits : FitsVersion h.version h.config.m
+
+-- what stands for itself in a JSON text
+abbrev pub is_plain : ℕ → Bool
+is_plain b = nat_le 32 b && (nat_le b 126 && (not (b == 34) && not (b == 92)))

@@ -30,6 +30,17 @@ pub record SaysLine (kind : WorldKind) (version : Version) (d : Data) (l : Line)
   pub event_is : meaning kind asked ≡ Ok (command.Event l.event)
   pub told_is : told_by version replied shown ≡ Some l.told
 
+-- these texts say it
+pub record SaysByTexts (kind : WorldKind) (version : Version) (asked replied : List ℕ) (shown : Option (List ℕ)) (l : Line) : Type 0 where
+  pub event_is : meaning kind asked ≡ Ok (command.Event l.event)
+  pub told_is : told_by version replied shown ≡ Some l.told
+
+-- the bytes are read as an object of these texts
+pub record SpellsTexts (bytes : List ℕ) (asked replied : List ℕ) (shown : Option (List ℕ)) : Type 0 where
+  pub value : Data
+  pub json : IsJson bytes value
+  pub texts : AreTexts value asked replied shown
+
 -- a line of at most 8,192 bytes, without its LF
 pub record IsEventLine (kind : WorldKind) (version : Version) (bytes : List ℕ) (l : Line) : Type 0 where
   pub short : length bytes ≤ 8192

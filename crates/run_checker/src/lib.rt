@@ -49,6 +49,7 @@ mod names;
 pub mod object;
 pub mod pairs;
 mod people;
+mod plain_line;
 pub mod reason;
 pub mod record;
 pub mod record_line;

@@ -41,11 +41,11 @@ fn number(value: &Value, key: &str) -> Option<u64>
 #[derive(Clone, Copy, Debug, Drop)]
 pub struct LineTexts<'a> {
     /// The command.
-    pub command: &'a str,
+    pub command: &'a [u8],
     /// What it was answered.
-    pub reply: &'a str,
+    pub reply: &'a [u8],
     /// The view by which a name was given, where one is written.
-    pub view: Option<&'a str>,
+    pub view: Option<&'a [u8]>,
 }
 
 /// The command, the reply and the view of an event's line.
@@ -53,8 +53,8 @@ pub fn texts(value: &Value) -> Option<LineTexts<'_>>
     ensures { MatchOption result ((c r : List ℕ) (v : Option (List ℕ)) → AreTexts (view value.now) c r v → ⊥)
         (λ t. AreTexts (view value.now) t.command.now t.reply.now (option_copied t.view)) }
 {
-    let command = text(value, "command")?;
-    let reply = text(value, "reply")?;
+    let command = text(value, "command")?.as_bytes();
+    let reply = text(value, "reply")?.as_bytes();
     match keys(value)? {
         2 => Some(LineTexts {
             command,
@@ -64,7 +64,7 @@ pub fn texts(value: &Value) -> Option<LineTexts<'_>>
         3 => Some(LineTexts {
             command,
             reply,
-            view: Some(text(value, "view")?),
+            view: Some(text(value, "view")?.as_bytes()),
         }),
         _ => None,
     }

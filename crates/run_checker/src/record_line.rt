@@ -1,6 +1,6 @@
 //! From the bytes of a record's line to what it says.
 
-ghost use Rattle.std.specs.Prelude.{◌≡◌, IfOk, MatchOption, Some, None, Ok};
+ghost use Rattle.std.specs.Prelude.{◌≡◌, ◌≤◌, IfOk, MatchOption, Some, None, Ok, length};
 ghost use Rattle.std.specs.Option.{option_copied};
 ghost use Rattle.desk.specs.declared.event.Event.{Event};
 ghost use Rattle.schedule_player.specs.declared.command.Command.TheVariants as command;
@@ -11,11 +11,12 @@ ghost use Rattle.run_checker.specs.declared.header.Header.{Header};
 ghost use Rattle.run_checker.specs.declared.header.Version.TheVariants.{Two};
 ghost use Rattle.run_checker.specs.declared.line.Line.{Line};
 ghost use Rattle.run_checker.specs.ReplyText.{told_with, told_by};
-ghost use Rattle.run_checker.specs.RecordLine.{IsJson, IsEventOf, SaysLine, IsEventLine, IsHeaderLine};
+ghost use Rattle.run_checker.specs.RecordLine.{IsJson, IsEventOf, SaysByTexts, SaysLine, IsEventLine, IsHeaderLine};
 
 use crate::header::{Header, Version};
 use crate::line::Line;
-use crate::object::{header, texts};
+use crate::object::{LineTexts, header, texts};
+use crate::plain_line::plain_texts;
 use crate::reply_text::{pairs, read_reply};
 use crate::told::Told;
 use desk::Event;
@@ -39,10 +40,10 @@ fn value_of(alloc: Global, bytes: &[u8]) -> Result<Option<Value>, AllocError>
 }
 
 /// The event that a command's line is, in the world of this kind.
-fn event_of(text: &str, kind: WorldKind) -> Option<Event>
+fn event_of(text: &[u8], kind: WorldKind) -> Option<Event>
     ensures { MatchOption result ((e : Event) → IsEventOf kind text.now e → ⊥) (IsEventOf kind text.now) }
 {
-    match parse_line(text.as_bytes(), kind) {
+    match parse_line(text, kind) {
         Ok(Command::Event(event)) => Some(event),
         Ok(Command::Owner(_)) => None,
         Ok(Command::Quit) => None,
@@ -62,11 +63,11 @@ fn without_view(version: Version, told: Told) -> Option<Told>
 
 /// What is told of a reply beside which the pairs of this text are written, in a record of version 2. An error where a growth
 /// was refused.
-fn with_view(alloc: Global, told: Told, text: &str) -> Result<Option<Told>, AllocError>
+fn with_view(alloc: Global, told: Told, text: &[u8]) -> Result<Option<Told>, AllocError>
     ensures { IfOk result (λ r. r ≡ told_with Two told (Some text.now)) }
 {
     match told {
-        Told::Named(name, _) => match pairs(alloc, text.as_bytes())? {
+        Told::Named(name, _) => match pairs(alloc, text)? {
             Some(view) => Ok(Some(Told::Named(name, Some(view)))),
             None => Ok(None),
         },
@@ -78,12 +79,12 @@ fn with_view(alloc: Global, told: Told, text: &str) -> Result<Option<Told>, Allo
 fn told_of(
     alloc: Global,
     version: Version,
-    reply: &str,
-    view: Option<&str>,
+    reply: &[u8],
+    view: Option<&[u8]>,
 ) -> Result<Option<Told>, AllocError>
     ensures { IfOk result (λ r. r ≡ told_by version reply.now (option_copied view.entry)) }
 {
-    let Some(told) = read_reply(alloc, reply.as_bytes())? else {
+    let Some(told) = read_reply(alloc, reply)? else {
         return Ok(None);
     };
     let Some(text) = view else {
@@ -93,6 +94,25 @@ fn told_of(
         Version::One => Ok(None),
         Version::Two => with_view(alloc, told, text),
     }
+}
+
+/// The line that these texts say, in the world of this kind and a record of this version. An error where a growth was refused.
+fn line_by(
+    alloc: Global,
+    kind: WorldKind,
+    version: Version,
+    texts: LineTexts<'_>,
+) -> Result<Option<Line>, AllocError>
+    ensures { IfOk result (λ r. MatchOption r ((l : Line) → SaysByTexts kind version texts.entry.command.now texts.entry.reply.now (option_copied texts.entry.view) l → ⊥)
+        (λ l. SaysByTexts kind version texts.entry.command.now texts.entry.reply.now (option_copied texts.entry.view) l)) }
+{
+    let Some(event) = event_of(texts.command, kind) else {
+        return Ok(None);
+    };
+    let Some(told) = told_of(alloc, version, texts.reply, texts.view)? else {
+        return Ok(None);
+    };
+    Ok(Some(Line { event, told }))
 }
 
 /// The line that a value says, in the world of this kind and a record of this version. An error where a growth was refused.
@@ -108,13 +128,24 @@ fn line_of(
     let Some(texts) = texts(value) else {
         return Ok(None);
     };
-    let Some(event) = event_of(texts.command, kind) else {
+    line_by(alloc, kind, version, texts)
+}
+
+/// As `read_line`, by a reader of JSON.
+fn read_json_line(
+    alloc: Global,
+    kind: WorldKind,
+    version: Version,
+    bytes: &[u8],
+) -> Result<Option<Line>, AllocError>
+    requires { length bytes.now ≤ 8192 }
+    ensures { IfOk result (λ r. MatchOption r ((l : Line) → IsEventLine kind version bytes.now l → ⊥)
+        (λ l. IsEventLine kind version bytes.now l)) }
+{
+    let Some(value) = value_of(alloc, bytes)? else {
         return Ok(None);
     };
-    let Some(told) = told_of(alloc, version, texts.reply, texts.view)? else {
-        return Ok(None);
-    };
-    Ok(Some(Line { event, told }))
+    line_of(alloc, kind, version, &value)
 }
 
 /// What an event's line says, without its LF, in the world of this kind and a record of this version; `None` where it is no
@@ -131,10 +162,10 @@ pub fn read_line(
     if LINE_MOST < bytes.len() {
         return Ok(None);
     }
-    let Some(value) = value_of(alloc, bytes)? else {
-        return Ok(None);
-    };
-    line_of(alloc, kind, version, &value)
+    match plain_texts(bytes) {
+        Some(texts) => line_by(alloc, kind, version, texts),
+        None => read_json_line(alloc, kind, version, bytes),
+    }
 }
 
 /// What the first line of a record says, without its LF; `None` where it is no header. An error where a growth was refused.

@@ -7,11 +7,13 @@ ghost use Rattle.schedule_player.specs.Lines.{pieces_from};
 ghost use Rattle.schedule_player.specs.Meaning.{is_digit, decimal_from, same_bytes};
 ghost use Rattle.run_checker.specs.ReplyText.{if_below, number_below, number_of, pair_in, pieces_left, left_length};
 
+use memchr::memchr;
+
 /// Where a byte stands first.
 fn first_of(bytes: &[u8], wanted: u8) -> Option<usize>
     ensures { result ≡ position (λ byte. byte == wanted) bytes.now }
 {
-    bytes.iter().position(|byte| *byte == wanted)
+    memchr(wanted, bytes)
 }
 
 /// The first piece of these bytes, and what follows its separator, if one ends it.
