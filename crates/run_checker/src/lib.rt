@@ -78,6 +78,8 @@ pub use told::Told;
 pub use verdict::Verdict;
 
 #[cfg(test)]
+mod migrating_tests;
+#[cfg(test)]
 mod record_tests;
 #[cfg(test)]
 mod recording_tests;
