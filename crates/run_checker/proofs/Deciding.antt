@@ -14,7 +14,7 @@ use Rattle.run_checker.specs.declared.standing.Turn.{Turn}
 use Rattle.run_checker.specs.Moments.{crowded, SomeSince}
 use Rattle.run_checker.specs.Standing.{turn_of, count_of, since_of, told_in, Stands, HoldsNames, turns_in}
 use Rattle.run_checker.specs.Reasons.{MayBeNamed}
-use Rattle.run_checker.proofs.Crowds.{own, conflict_crowds, crowd_conflicts, sole_quiet, quiet_sole}
+use Rattle.run_checker.proofs.seats.Crowds.{own, conflict_crowds, crowd_conflicts, sole_quiet, quiet_sole}
 
 -- the view of a moment: the pairs of those of whom it says something
 abbrev with_told : List (ℕ × ℕ) → ℕ → Option ℕ → List (ℕ × ℕ)

@@ -19,8 +19,8 @@ use Rattle.run_checker.specs.declared.stays.Stay.{Stay}
 use Rattle.run_checker.specs.declared.stays.Stays.{Stays}
 use Rattle.run_checker.specs.Standing.{is_held, Apart}
 use Rattle.run_checker.specs.Stays.{held_by, last_probe, HoldsSlots, widened_to}
-use Rattle.run_checker.proofs.PeopleLemmas.{program_of-push, program_of-put, apart_push, apart_put, any_passes, passes_any, seen_kept, seen_set}
-use Rattle.run_checker.proofs.NamesLemmas.{held_is, is_held_by}
+use Rattle.run_checker.proofs.seats.People.{program_of-push, program_of-put, apart_push, apart_put, any_passes, passes_any, seen_kept, seen_set}
+use Rattle.run_checker.proofs.seats.Names.{held_is, is_held_by}
 
 -- who is in the list of identities is found
 competes_is : (cs : List (Participant Stay)) (q : ℕ) → list_any (λ x. x == q) (map (λ v. v.identity) cs) ≡ is_some (program_of q cs)

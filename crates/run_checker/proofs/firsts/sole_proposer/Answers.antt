@@ -1,5 +1,5 @@
 use Rattle.std.proofs.Common.{◌∙◌, sym}
-use Rattle.run_checker.proofs.FirstLemmas.{sole_here, many_here}
+use Rattle.run_checker.proofs.seats.Firsts.{sole_here, many_here}
 use Rattle.run_checker.proofs.firsts.sole_proposer.Goals as goal
 
 pub returns-then-is_proposed : goal.returns-then-is_proposed

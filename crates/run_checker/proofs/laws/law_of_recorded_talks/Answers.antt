@@ -1,4 +1,4 @@
-use Rattle.run_checker.proofs.Recording.{talk_record, talk_said, talk_yes}
+use Rattle.run_checker.proofs.records.Recording.{talk_record, talk_said, talk_yes}
 use Rattle.run_checker.proofs.laws.law_of_recorded_talks.Goals as goal
 
 pub returns-clause-says : goal.returns-clause-says

@@ -1,5 +1,5 @@
 use Rattle.schedule_player.specs.Played.{reading, writing}
-use Rattle.run_checker.proofs.Recording.{recorded, recorded_yes}
+use Rattle.run_checker.proofs.records.Recording.{recorded, recorded_yes}
 use Rattle.run_checker.proofs.laws.law_of_recording.Goals as goal
 
 pub returns-clause-says : goal.returns-clause-says

@@ -1,4 +1,4 @@
-use Rattle.run_checker.proofs.RecordRuns.{run_follows, follows_run, at_fault}
+use Rattle.run_checker.proofs.records.Runs.{run_follows, follows_run, at_fault}
 use Rattle.run_checker.proofs.laws.law_of_records.Goals as goal
 
 pub returns-clause-run : goal.returns-clause-run

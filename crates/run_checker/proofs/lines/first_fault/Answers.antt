@@ -5,7 +5,7 @@ use Rattle.run_checker.specs.declared.reason.Reason.{Reason}
 use Rattle.run_checker.specs.Config.{terms_of}
 use Rattle.run_checker.specs.Judged.{HasTaken, IsFaultAfter, TakesOn}
 use Rattle.rename_core.proofs.MostIn.{few_take_part}
-use Rattle.run_checker.proofs.RecordRuns.{follows_run, first_at, not_run}
+use Rattle.run_checker.proofs.records.Runs.{follows_run, first_at, not_run}
 use Rattle.run_checker.proofs.lines.first_fault.Goals as goal
 
 pub loop-i-init : goal.loop-i-init

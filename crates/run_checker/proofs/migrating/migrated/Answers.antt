@@ -6,7 +6,7 @@ use Rattle.run_checker.specs.declared.verdict.Verdict.{Verdict}
 use Rattle.run_checker.specs.Migrated.{AreMigrated, IsMigratedTo, IsOther}
 use Rattle.run_checker.specs.RecordLine.{IsHeaderLine}
 use Rattle.run_checker.specs.Verdict.{lines_left, record_lines, IsSaid, IsSaidOfRows}
-use Rattle.run_checker.proofs.MigratedRecords.{migrates}
+use Rattle.run_checker.proofs.records.Migrated.{migrates}
 use Rattle.run_checker.proofs.migrating.migrated.Goals as goal
 
 said : {E : Type 0} (bytes head : List ℕ) (rows : List (List ℕ)) (header : Header) → record_lines bytes ≡ head ∷ rows → IsHeaderLine head header → (r : Result (Result (List ℕ) Verdict) E) →

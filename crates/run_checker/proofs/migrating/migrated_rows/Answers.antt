@@ -6,8 +6,8 @@ use Rattle.run_checker.specs.Migrated.{AreMigrated}
 use Rattle.run_checker.specs.RecordLine.{IsEventLine}
 use Rattle.run_checker.specs.Verdict.{lines_left}
 use Rattle.rename_core.proofs.MostIn.{few_take_part}
-use Rattle.run_checker.proofs.MigratedRecords.{MigratedSoFar, all_migrated, row_migrated, migrated_here}
-use Rattle.run_checker.proofs.RowRuns.{bad_row, line_read, row_at_fault}
+use Rattle.run_checker.proofs.records.Migrated.{MigratedSoFar, all_migrated, row_migrated, migrated_here}
+use Rattle.run_checker.proofs.records.Rows.{bad_row, line_read, row_at_fault}
 use Rattle.run_checker.proofs.migrating.migrated_rows.Goals.{in-Some+in_default-next_line, in_default}
 use Rattle.run_checker.proofs.migrating.migrated_rows.Goals as goal
 

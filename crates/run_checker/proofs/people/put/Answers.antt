@@ -1,6 +1,6 @@
 use Rattle.std.proofs.Common.{◌≡◌, ◌<◌, length, get_or, sym, ap, ◌∙◌, arith}
 use Rattle.step_memory.specs.Participant.{beginner}
-use Rattle.run_checker.proofs.PeopleLemmas.{put_here}
+use Rattle.run_checker.proofs.seats.People.{put_here}
 use Rattle.run_checker.proofs.people.put.Goals as goal
 
 pub returns-then-index-id : goal.returns-then-index-id

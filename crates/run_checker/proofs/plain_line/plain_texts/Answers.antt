@@ -1,6 +1,6 @@
 use Rattle.std.proofs.Common.{◌≡◌, ℕ, List, ◌++◌, Some, None, sym, ap, ◌∙◌}
 use Rattle.run_checker.proofs.JsonLemmas.{same_is}
-use Rattle.run_checker.proofs.PlainLines.{front, to_reply, to_view, close, texts_spelled}
+use Rattle.run_checker.proofs.written.PlainLines.{front, to_reply, to_view, close, texts_spelled}
 use Rattle.run_checker.proofs.plain_line.plain_texts.Goals as goal
 
 pub returns-then-is_word : goal.returns-then-is_word

@@ -5,7 +5,7 @@ use Rattle.run_checker.specs.Config.{terms_of}
 use Rattle.run_checker.specs.RecordLine.{IsEventLine}
 use Rattle.run_checker.specs.Verdict.{lines_left}
 use Rattle.rename_core.proofs.MostIn.{few_take_part}
-use Rattle.run_checker.proofs.RowRuns.{RowsSoFar, all_rows, bad_row, row_here, line_read, row_at_fault, row_taken}
+use Rattle.run_checker.proofs.records.Rows.{RowsSoFar, all_rows, bad_row, row_here, line_read, row_at_fault, row_taken}
 use Rattle.run_checker.proofs.record.judge_rows.Goals.{in-Some+in_default-next_line, in_default}
 use Rattle.run_checker.proofs.record.judge_rows.Goals as goal
 

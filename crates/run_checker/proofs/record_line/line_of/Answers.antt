@@ -1,4 +1,4 @@
-use Rattle.run_checker.proofs.PlainLines.{value_said}
+use Rattle.run_checker.proofs.written.PlainLines.{value_said}
 use Rattle.serde_json.specs.View.{view}
 use Rattle.run_checker.proofs.record_line.line_of.Goals as goal
 

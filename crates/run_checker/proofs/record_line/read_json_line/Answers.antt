@@ -1,4 +1,4 @@
-use Rattle.run_checker.proofs.RecordLines.{json_some, json_none, line_said}
+use Rattle.run_checker.proofs.records.Lines.{json_some, json_none, line_said}
 use Rattle.serde_json.specs.View.{view}
 use Rattle.run_checker.proofs.record_line.read_json_line.Goals as goal
 

@@ -1,5 +1,5 @@
-use Rattle.run_checker.proofs.RecordLines.{line_said}
-use Rattle.run_checker.proofs.PlainLines.{value_said}
+use Rattle.run_checker.proofs.records.Lines.{line_said}
+use Rattle.run_checker.proofs.written.PlainLines.{value_said}
 use Rattle.run_checker.proofs.record_line.read_line.Goals as goal
 
 pub returns-in-Some : goal.returns-in-Some

@@ -1,7 +1,7 @@
 use Rattle.std.proofs.Common.{sym, ◌∙◌}
 use Rattle.std.proofs.lemmas.Bool.{false≢true}
 use Rattle.std.specs.Option.{option_copied}
-use Rattle.run_checker.proofs.RowRuns.{one_line, no_line}
+use Rattle.run_checker.proofs.records.Rows.{one_line, no_line}
 use Rattle.run_checker.proofs.rows.next_line.Goals as goal
 
 pub returns-clause-lines : goal.returns-clause-lines

@@ -1,4 +1,4 @@
-use Rattle.run_checker.proofs.RecordRuns.{taken_on, told_fault}
+use Rattle.run_checker.proofs.records.Runs.{taken_on, told_fault}
 use Rattle.run_checker.proofs.checker.Checker.judge.Goals as goal
 
 pub returns-in-Ok : goal.returns-in-Ok

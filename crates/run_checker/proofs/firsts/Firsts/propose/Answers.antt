@@ -2,7 +2,7 @@ use Rattle.std.proofs.Common.{◌≡◌, ◌∙◌, ◌==◌, ◌⊎◌, inl, in
 use Rattle.step_memory.specs.View.{value_of, inserted}
 use Rattle.run_checker.specs.declared.firsts.Firsts.{Firsts}
 use Rattle.run_checker.specs.Firsts.{view_at}
-use Rattle.run_checker.proofs.FirstLemmas.{IsKept, none_noted, note_one, goes_on}
+use Rattle.run_checker.proofs.seats.Firsts.{IsKept, none_noted, note_one, goes_on}
 use Rattle.run_checker.proofs.firsts.Firsts.propose.Goals as goal
 
 pub returns-in_ok-note-2 : goal.returns-in_ok-note-2

@@ -1,6 +1,6 @@
 use Rattle.std.proofs.Common.{◌∙◌, ◌++◌, ℕ, List, ap}
 use Rattle.run_checker.specs.Compact.{line_words}
-use Rattle.run_checker.proofs.MigrationLemmas.{gathers_more}
+use Rattle.run_checker.proofs.records.Migration.{gathers_more}
 use Rattle.run_checker.proofs.migration.Migration.take.Goals as goal
 
 pub returns : goal.returns

@@ -1,6 +1,6 @@
 use Rattle.std.proofs.Common.{refl, arith, sym}
 use Rattle.std.proofs.lemmas.Bool.{le-ltb}
-use Rattle.run_checker.proofs.Past.{shown_by}
+use Rattle.run_checker.proofs.seats.Past.{shown_by}
 use Rattle.run_checker.proofs.moments.Moments.has_shown.Goals as goal
 
 pub returns-in-Some : goal.returns-in-Some

@@ -1,7 +1,7 @@
 use Rattle.std.proofs.Common.{ℕ, List, cond, Some, ap, ◌∙◌, refl, nat_eq, replicate}
 use Rattle.std.specs.Map.{lookup}
 use Rattle.std.specs.Cmp.Lexicographic.{pointwise}
-use Rattle.run_checker.proofs.Turned.{first}
+use Rattle.run_checker.proofs.seats.Turned.{first}
 use Rattle.run_checker.proofs.moments.Moments.new.Goals as goal
 
 pub returns : goal.returns

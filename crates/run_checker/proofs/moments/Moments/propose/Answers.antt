@@ -3,7 +3,7 @@ use Rattle.std.specs.Cmp.Lexicographic.{pointwise}
 use Rattle.std.specs.HashMap.{get}
 use Rattle.run_checker.specs.Moments.{turned_at}
 use Rattle.run_checker.specs.declared.moments.Moments.{Moments}
-use Rattle.run_checker.proofs.Turned.{proposed}
+use Rattle.run_checker.proofs.seats.Turned.{proposed}
 use Rattle.run_checker.proofs.moments.Moments.propose.Goals as goal
 
 pub returns : goal.returns

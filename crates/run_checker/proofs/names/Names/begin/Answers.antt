@@ -1,6 +1,6 @@
 use Rattle.std.proofs.Common.{◌≡◌, ◌++◌, ◌∷◌, [], length, refl, ap, ◌∙◌}
 use Rattle.step_memory.specs.Participant.{beginner}
-use Rattle.run_checker.proofs.NamesLemmas.{first_standing, begun}
+use Rattle.run_checker.proofs.seats.Names.{first_standing, begun}
 use Rattle.run_checker.proofs.names.Names.begin.Goals as goal
 
 pub returns : goal.returns

@@ -6,7 +6,7 @@ use Rattle.rename_core.specs.RenameObject.{IsFreeName, ShowsSole}
 use Rattle.run_checker.specs.Reasons.{MayBeNamed}
 use Rattle.run_checker.specs.Standing.{is_held}
 use Rattle.run_checker.proofs.Deciding.{count_is, stand, sole_told}
-use Rattle.run_checker.proofs.NamesLemmas.{nobody_named, somebody_named}
+use Rattle.run_checker.proofs.seats.Names.{nobody_named, somebody_named}
 use Rattle.run_checker.proofs.names.Names.may_name.Goals as goal
 
 pub returns-then-is_named : goal.returns-then-is_named

@@ -1,6 +1,6 @@
 use Rattle.std.proofs.Common.{◌≡◌, ◌∙◌, Some, [], sym, ap, refl}
 use Rattle.step_memory.specs.Participant.{program_of}
-use Rattle.run_checker.proofs.NamesLemmas.{named}
+use Rattle.run_checker.proofs.seats.Names.{named}
 use Rattle.run_checker.proofs.names.Names.name.Goals as goal
 
 pub returns : goal.returns

@@ -1,5 +1,5 @@
 use Rattle.std.proofs.Common.{sym, arith}
-use Rattle.run_checker.proofs.NamesLemmas.{none_begun}
+use Rattle.run_checker.proofs.seats.Names.{none_begun}
 use Rattle.run_checker.proofs.names.Names.new.Goals as goal
 
 pub returns : goal.returns

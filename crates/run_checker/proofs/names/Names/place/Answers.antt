@@ -2,7 +2,7 @@ use Rattle.std.proofs.Common.{◌≡◌, ◌∙◌, refl, sym, ap, Some, None, O
 use Rattle.std.specs.List.{list_any}
 use Rattle.step_memory.specs.Participant.{program_of}
 use Rattle.run_checker.specs.Standing.{is_held, place_of}
-use Rattle.run_checker.proofs.NamesLemmas.{placed, free_place, no_free_place}
+use Rattle.run_checker.proofs.seats.Names.{placed, free_place, no_free_place}
 use Rattle.run_checker.proofs.names.Names.place.Goals as goal
 
 some_not_none : (o : Option ℕ) → is_some o ≡ true → o ≡ None → ⊥

@@ -6,7 +6,7 @@ use Rattle.run_checker.specs.declared.standing.Standing.{Standing}
 use Rattle.run_checker.specs.declared.names.Names.{Names}
 use Rattle.run_checker.specs.Moments.{HoldsMoments}
 use Rattle.run_checker.specs.Standing.{turn_of, count_of}
-use Rattle.run_checker.proofs.NamesLemmas.{has_proposed}
+use Rattle.run_checker.proofs.seats.Names.{has_proposed}
 use Rattle.run_checker.proofs.names.Names.propose.Goals as goal
 
 pub returns : goal.returns

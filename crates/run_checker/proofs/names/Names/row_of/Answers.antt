@@ -2,7 +2,7 @@ use Rattle.std.proofs.Common.{◌≡◌, ℕ, ◌-◌, ◌<◌, ◌∷◌, lengt
 use Rattle.std.proofs.Math.Seq.{drop-length}
 use Rattle.run_checker.specs.Rows.{HasPair, LacksPair, IsRowOf}
 use Rattle.run_checker.specs.Standing.{turns_in}
-use Rattle.run_checker.proofs.RowLemmas.{no_moment, no_pair, one_pair, row_tells}
+use Rattle.run_checker.proofs.seats.Rows.{no_moment, no_pair, one_pair, row_tells}
 use Rattle.run_checker.proofs.names.Names.row_of.Goals as goal
 
 pub loop-i-init : goal.loop-i-init

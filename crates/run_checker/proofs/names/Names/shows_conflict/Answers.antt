@@ -2,7 +2,7 @@ use Rattle.std.proofs.Common.{◌≡◌, ◌∙◌, Some, None, sym, ap, subst, 
 use Rattle.std.proofs.lemmas.Bool.{false≢true}
 use Rattle.step_memory.specs.Participant.{program_of}
 use Rattle.run_checker.specs.Rows.{TellsSince}
-use Rattle.run_checker.proofs.RowLemmas.{shows, was_shown, no_conflict}
+use Rattle.run_checker.proofs.seats.Rows.{shows, was_shown, no_conflict}
 use Rattle.run_checker.proofs.names.Names.shows_conflict.Goals as goal
 
 pub returns-in-Some-row_since : goal.returns-in-Some-row_since

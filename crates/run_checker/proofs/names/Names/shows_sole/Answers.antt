@@ -3,7 +3,7 @@ use Rattle.std.proofs.lemmas.Bool.{false≢true}
 use Rattle.step_memory.specs.Participant.{program_of}
 use Rattle.rename_core.specs.RenameObject.{ShowsSole}
 use Rattle.run_checker.specs.Rows.{TellsSince}
-use Rattle.run_checker.proofs.RowLemmas.{shows_alone, was_alone, no_sole, sole_number}
+use Rattle.run_checker.proofs.seats.Rows.{shows_alone, was_alone, no_sole, sole_number}
 use Rattle.run_checker.proofs.names.Names.shows_sole.Goals as goal
 
 not_true : (b : Bool) → not b ≡ true → b ≡ false

@@ -1,6 +1,6 @@
 use Rattle.std.proofs.Common.{◌≡◌, ◌∙◌, Some, sym, ap, refl}
 use Rattle.step_memory.specs.Participant.{program_of}
-use Rattle.run_checker.proofs.NamesLemmas.{has_spent}
+use Rattle.run_checker.proofs.seats.Names.{has_spent}
 use Rattle.run_checker.proofs.names.Names.spend.Goals as goal
 
 pub returns : goal.returns

@@ -17,9 +17,9 @@ use Rattle.run_checker.specs.Lines.{AreLinesOfRun}
 use Rattle.run_checker.specs.RecordLine.{SaysLine, IsEventLine, IsHeaderLine}
 use Rattle.run_checker.specs.ReplyText.{told_by}
 use Rattle.run_checker.specs.Verdict.{AreRead, SpellRun, IsFaultyRow, IsBadRow, IsSaidOfRows, IsSaidAfter, LacksHeader, IsSaid}
-use Rattle.run_checker.proofs.PlainLines.{some_text, one_view}
-use Rattle.run_checker.proofs.RecordLines.{one_value}
-use Rattle.run_checker.proofs.RecordRuns.{at_fault}
+use Rattle.run_checker.proofs.written.PlainLines.{some_text, one_view}
+use Rattle.run_checker.proofs.records.Lines.{one_value}
+use Rattle.run_checker.proofs.records.Runs.{at_fault}
 
 some_number : (a b : ℕ) → Some a ≡ Some b → a ≡ b
 some_number a b e = cc

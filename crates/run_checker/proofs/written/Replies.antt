@@ -16,10 +16,10 @@ use Rattle.run_checker.specs.Lines.{told_of}
 use Rattle.run_checker.specs.declared.header.Version.TheVariants.{Two}
 use Rattle.run_checker.specs.ReplyText.{pair_in, pair_of, pairs_after, pairs_in, told_in, told_of_words, told_with, saw_of}
 use Rattle.run_checker.proofs.Pieces.{lacks, pieces-pass, pieces-last, pieces-cut}
-use Rattle.run_checker.proofs.WrittenNumbers.{read_decimal, number_of-decimal}
+use Rattle.run_checker.proofs.written.Numbers.{read_decimal, number_of-decimal}
 use Rattle.run_checker.specs.Json.{is_plain}
-use Rattle.run_checker.proofs.WrittenTexts.{IsPlainView, shown_text}
-use Rattle.run_checker.proofs.WrittenWords.{AreNarrow, IsShort, IsNarrowReply, lacks_both, no_space, no_colon, number_word, plain_both, plain_decimal, short_decimal, word_plain}
+use Rattle.run_checker.proofs.written.Texts.{IsPlainView, shown_text}
+use Rattle.run_checker.proofs.written.Words.{AreNarrow, IsShort, IsNarrowReply, lacks_both, no_space, no_colon, number_word, plain_both, plain_decimal, short_decimal, word_plain}
 
 pair_lacks : (pair : ℕ × ℕ) → pair.0 < 10 ^ 64 → pair.1 < 10 ^ 64 → lacks 32 (pair_word pair) ≡ true
 pair_lacks pair h k = lacks_both 32 (decimal pair.0 ++ codes ":") (decimal pair.1) (lacks_both 32 (decimal pair.0) (codes ":") (no_space pair.0 h) refl) (no_space pair.1 k)

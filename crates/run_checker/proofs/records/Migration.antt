@@ -30,7 +30,7 @@ use Rattle.run_checker.specs.Firsts.{IsFirstSole, NeverSole, view_at, HasFirst, 
 use Rattle.run_checker.specs.Lines.{told_of, line_of, IsLineOf, CanFollow, after_line}
 use Rattle.run_checker.specs.Migrated.{Telling, ShowsFirst, IsTelling, after_telling, exchanges_in, record_text, proposal_of, shown_in, GoesOn, GathersMore}
 use Rattle.run_checker.specs.ObjectRun.{DeskObject, fresh_desk_object, AllowsCall, after_call}
-use Rattle.run_checker.proofs.RecordRuns.{after_is}
+use Rattle.run_checker.proofs.records.Runs.{after_is}
 
 -- ---- the text of a line
 

@@ -10,7 +10,7 @@ use Rattle.std.specs.HashMap.{get}
 use Rattle.step_memory.specs.SetAt.{set_at}
 use Rattle.run_checker.specs.declared.moments.Moments.{Moments}
 use Rattle.run_checker.specs.Moments.{crowded, turned_at, IsPast, HoldsMoments}
-use Rattle.run_checker.proofs.Past.{same_row}
+use Rattle.run_checker.proofs.seats.Past.{same_row}
 
 beq-true : (b c : Bool) → beq b c ≡ true → b ≡ c
 beq-true true true h = refl

@@ -15,7 +15,7 @@ use Rattle.run_checker.specs.RecordLine.{IsEventLine}
 use Rattle.run_checker.specs.ReplyText.{pieces_left}
 use Rattle.run_checker.specs.Verdict.{lines_from, lines_of, record_lines, lines_left, AreRead, SpellRun, IsFaultyRow, IsBadRow}
 use Rattle.run_checker.proofs.WordLemmas.{HasPiece, some_piece}
-use Rattle.run_checker.proofs.RecordRuns.{follows_run}
+use Rattle.run_checker.proofs.records.Runs.{follows_run}
 
 -- a line, and those that are left
 pub one_line : (bytes line : List ℕ) (rest : Option (List ℕ)) → pieces_from 10 [] bytes ≡ line ∷ pieces_left 10 rest → ((line ≡ []) × (rest ≡ None) → ⊥) → record_lines bytes ≡ line ∷ lines_left rest

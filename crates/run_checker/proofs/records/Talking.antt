@@ -26,7 +26,7 @@ use Rattle.schedule_player.specs.Turns.{Turn, asked, exchanges}
 use Rattle.schedule_player.specs.Turns.Turn.{Answered, Told, Ended, Misread}
 use Rattle.run_checker.proofs.LowPlaces.{desk_low}
 use Rattle.run_checker.proofs.NarrowRuns.{FitsPlace, AreWritable}
-use Rattle.run_checker.proofs.WrittenWords.{IsNarrowEvent}
+use Rattle.run_checker.proofs.written.Words.{IsNarrowEvent}
 
 -- ---- what lines ask
 

@@ -17,9 +17,9 @@ use Rattle.run_checker.specs.declared.names.Names.{Names}
 use Rattle.run_checker.specs.declared.standing.Standing.{Standing}
 use Rattle.run_checker.specs.Moments.{HoldsMoments}
 use Rattle.run_checker.specs.Standing.{place_of, name_of, spent_of, turn_of, is_held, Apart, HoldsPeople, HoldsTurns, turns_in, HoldsNames}
-use Rattle.run_checker.proofs.PeopleLemmas.{program_of-push, program_of-put, apart_push, apart_put, any_passes, passes_any, seen_kept, seen_set}
-use Rattle.run_checker.proofs.Turned.{zero_at}
-use Rattle.run_checker.proofs.TurnLemmas.{first_turn, turns_begun, next_turn, turns_proposed}
+use Rattle.run_checker.proofs.seats.People.{program_of-push, program_of-put, apart_push, apart_put, any_passes, passes_any, seen_kept, seen_set}
+use Rattle.run_checker.proofs.seats.Turned.{zero_at}
+use Rattle.run_checker.proofs.seats.Turns.{first_turn, turns_begun, next_turn, turns_proposed}
 
 -- who may begin has not begun, and there is room
 pub may_begin : (terms : RenameTerms) (s : Names) (o : RenameObject) (p : ℕ) → HoldsNames terms s o → no_begin terms o p ≡ None →

@@ -13,7 +13,7 @@ use Rattle.run_checker.specs.declared.header.Version.{Version}
 use Rattle.run_checker.specs.declared.line.Line.{Line}
 use Rattle.run_checker.specs.Json.{is_plain, AreTexts, HasViewText, text_count}
 use Rattle.run_checker.specs.RecordLine.{SaysByTexts, SaysLine, SpellsTexts}
-use Rattle.run_checker.proofs.WrittenTexts.{IsPlainView, line_data, line_text, read_line_text, plain_utf8}
+use Rattle.run_checker.proofs.written.Texts.{IsPlainView, line_data, line_text, read_line_text, plain_utf8}
 
 abbrev pub front : List ℕ
 front = codes "{\"command\":\""

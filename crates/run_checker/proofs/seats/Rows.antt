@@ -15,8 +15,8 @@ use Rattle.run_checker.specs.declared.standing.Turn.{Turn}
 use Rattle.run_checker.specs.Moments.{crowded, SomeSince}
 use Rattle.run_checker.specs.Rows.{HasPair, LacksPair, IsRowOf, TellsMoments, TellsSince}
 use Rattle.run_checker.specs.Standing.{number_told, told_in, HoldsNames, turns_in}
-use Rattle.run_checker.proofs.Turned.{zero_at}
-use Rattle.run_checker.proofs.Crowds.{number_some, some_number}
+use Rattle.run_checker.proofs.seats.Turned.{zero_at}
+use Rattle.run_checker.proofs.seats.Crowds.{number_some, some_number}
 use Rattle.run_checker.proofs.Deciding.{recent, since_of_recent, conflicts, crowds, sole, quiet, own_is}
 
 -- no identity of a rising list comes again

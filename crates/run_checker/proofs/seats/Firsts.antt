@@ -13,7 +13,7 @@ use Rattle.rename_core.specs.RenameObject.{RenameObject, IsRecent, IsSole}
 use Rattle.run_checker.specs.declared.firsts.Firsts.{Firsts}
 use Rattle.run_checker.specs.Firsts.{NeverSole, sole_in, view_at, if_none, is_one, noted, HasFirst, HoldsFirsts}
 use Rattle.run_checker.specs.Standing.{proposed_by}
-use Rattle.run_checker.proofs.Turned.{earlier, new_or_not}
+use Rattle.run_checker.proofs.seats.Turned.{earlier, new_or_not}
 
 -- ---- who alone proposes a number
 

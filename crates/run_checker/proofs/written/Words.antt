@@ -19,7 +19,7 @@ use Rattle.schedule_player.specs.Events.{event_words}
 use Rattle.schedule_player.specs.Lines.{pieces_from, has_no_lf}
 use Rattle.schedule_player.specs.Meaning.{is_digit, is_printable, words, has_desk, command_in, meaning}
 use Rattle.run_checker.proofs.Pieces.{lacks, pieces-last, pieces-cut}
-use Rattle.run_checker.proofs.WrittenNumbers.{decimal_digits, number_in-decimal}
+use Rattle.run_checker.proofs.written.Numbers.{decimal_digits, number_in-decimal}
 use Rattle.run_checker.specs.Json.{is_plain}
 
 -- the numbers of an event are below 2^64

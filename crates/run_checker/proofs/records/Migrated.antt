@@ -40,11 +40,11 @@ use Rattle.run_checker.specs.ReplyText.{if_below, number_below, number_of, told_
 use Rattle.run_checker.specs.Verdict.{record_lines, lines_left, AreRead, SpellRun, IsSaid}
 use Rattle.rename_core.proofs.MostIn.{few_take_part}
 use Rattle.run_checker.proofs.NarrowRuns.{FitsPlace, AreWritable, run_narrow}
-use Rattle.run_checker.proofs.Recording.{yes_by}
-use Rattle.run_checker.proofs.RowRuns.{RowsSoFar, all_rows, next_row, row_few, row_judged}
-use Rattle.run_checker.proofs.Talking.{IsNarrow, line_narrow}
-use Rattle.run_checker.proofs.WrittenLines.{record_is, record_said}
-use Rattle.run_checker.proofs.WrittenWords.{IsNarrowEvent}
+use Rattle.run_checker.proofs.records.Recording.{yes_by}
+use Rattle.run_checker.proofs.records.Rows.{RowsSoFar, all_rows, next_row, row_few, row_judged}
+use Rattle.run_checker.proofs.records.Talking.{IsNarrow, line_narrow}
+use Rattle.run_checker.proofs.written.Lines.{record_is, record_said}
+use Rattle.run_checker.proofs.written.Words.{IsNarrowEvent}
 
 -- ---- what is read fits a record
 

@@ -32,10 +32,10 @@ use Rattle.run_checker.specs.RecordLine.{IsEventLine, IsHeaderLine}
 use Rattle.run_checker.specs.Recorded.{IsRecordOf}
 use Rattle.run_checker.specs.Verdict.{record_lines, AreRead, IsSaidAfter}
 use Rattle.run_checker.proofs.Pieces.{lines_cut}
-use Rattle.run_checker.proofs.RecordRuns.{lines_of_all}
-use Rattle.run_checker.proofs.WrittenTexts.{IsPlainView, shown_text, line_data, line_text, header_data, header_text, read_line_text, read_header_text, plain_utf8}
-use Rattle.run_checker.proofs.WrittenWords.{IsNarrowEvent, IsNarrowReply, event_means, event_plain, event_short, plain_decimal, plain_has_no_lf, short_decimal, no_lf_both}
-use Rattle.run_checker.proofs.WrittenReplies.{reply_tells, reply_plain, reply_short, shown_of, shown_tells, shown_plain, shown_short}
+use Rattle.run_checker.proofs.records.Runs.{lines_of_all}
+use Rattle.run_checker.proofs.written.Texts.{IsPlainView, shown_text, line_data, line_text, header_data, header_text, read_line_text, read_header_text, plain_utf8}
+use Rattle.run_checker.proofs.written.Words.{IsNarrowEvent, IsNarrowReply, event_means, event_plain, event_short, plain_decimal, plain_has_no_lf, short_decimal, no_lf_both}
+use Rattle.run_checker.proofs.written.Replies.{reply_tells, reply_plain, reply_short, shown_of, shown_tells, shown_plain, shown_short}
 
 -- exchanges with numbers that a record can write
 abbrev pub AreNarrowExchanges : List Exchange → Type 0

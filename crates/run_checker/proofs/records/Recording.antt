@@ -25,9 +25,9 @@ use Rattle.run_checker.specs.Verdict.{record_lines, IsSaid, IsSaidAfter}
 use Rattle.rename_core.proofs.MostIn.{few_take_part}
 use Rattle.run_checker.proofs.DeskRuns.{desk_run}
 use Rattle.run_checker.proofs.NarrowRuns.{AreWritable, run_narrow}
-use Rattle.run_checker.proofs.OneVerdict.{one_verdict}
-use Rattle.run_checker.proofs.Talking.{asked_narrow, turns_fit}
-use Rattle.run_checker.proofs.WrittenLines.{record_is, record_said}
+use Rattle.run_checker.proofs.records.OneVerdict.{one_verdict}
+use Rattle.run_checker.proofs.records.Talking.{asked_narrow, turns_fit}
+use Rattle.run_checker.proofs.written.Lines.{record_is, record_said}
 
 -- in a world with names a talk is one of a desk
 desk_talk : (kind : WorldKind) (c : Config) (ts : List Turn) → gives_names kind ≡ true → IsTalkByKind kind c ts → IsTalkOf (IsDeskRunOf c) c.m (IsFreshDesk c) DeskWorldMay ts

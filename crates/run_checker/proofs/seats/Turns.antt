@@ -8,8 +8,8 @@ use Rattle.run_checker.specs.declared.moments.Moments.{Moments}
 use Rattle.run_checker.specs.declared.standing.Turn.{Turn}
 use Rattle.run_checker.specs.Moments.{HoldsMoments}
 use Rattle.run_checker.specs.Standing.{count_of, since_of, number_told, told_in, Stands, HoldsTurns}
-use Rattle.run_checker.proofs.PeopleLemmas.{seen_kept, seen_set}
-use Rattle.run_checker.proofs.Turned.{earlier, later, new_or_not}
+use Rattle.run_checker.proofs.seats.People.{seen_kept, seen_set}
+use Rattle.run_checker.proofs.seats.Turned.{earlier, later, new_or_not}
 
 -- who has been given something
 put_or_not : (turns : ℕ → Option Turn) (p : ℕ) (new : Turn) (q : ℕ) (t : Turn) → set_at turns p (Some new) q ≡ Some t → ((q ≡ p) × (new ≡ t)) ⊎ ((q ≡ p → ⊥) × (turns q ≡ Some t))

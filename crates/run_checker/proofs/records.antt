@@ -1,0 +1,9 @@
+-- records as a whole
+pub mod Migration
+pub mod Runs
+pub mod Lines
+pub mod Rows
+pub mod OneVerdict
+pub mod Talking
+pub mod Recording
+pub mod Migrated
