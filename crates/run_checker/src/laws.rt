@@ -1,6 +1,6 @@
 //! What the verdicts stand on.
 
-ghost use Rattle.std.specs.Prelude.{◌↔◌, ◌∷◌, ◌++◌, ℕ, Bool, List, map};
+ghost use Rattle.std.specs.Prelude.{◌≡◌, ◌↔◌, ◌∷◌, ◌++◌, ℕ, Bool, List, map};
 ghost use Rattle.snapshot_core.specs.Snapshot.{SnapBounds};
 ghost use Rattle.rename_core.specs.RenameObject.{RenameTerms};
 ghost use Rattle.rename_core.specs.declared.config.Config.{Config};
@@ -16,8 +16,9 @@ ghost use Rattle.run_checker.specs.Lines.{AreLinesOfRun, CanFollow, Follow, line
 ghost use Rattle.run_checker.specs.declared.reason.Reason.{Reason};
 ghost use Rattle.run_checker.specs.Reasons.{KeepsAll};
 ghost use Rattle.run_checker.specs.Recorded.{HasRecorded, IsRecordOf, IsShortTalk, IsYes, RecordsTalk};
+ghost use Rattle.run_checker.specs.declared.verdict.Verdict.{Verdict};
 ghost use Rattle.run_checker.specs.declared.verdict.Verdict.TheVariants.{Yes};
-ghost use Rattle.run_checker.specs.Verdict.{IsSaid, record_lines};
+ghost use Rattle.run_checker.specs.Verdict.{IsSaid, IsSaidAfter, record_lines};
 
 use schedule_player::{Sink, Source};
 
@@ -27,12 +28,14 @@ pub fn law_of_reasons()
 {}
 
 /// A law, which runs nothing: lines are those of a run, for some choice of the views that are not written, exactly where each
-/// can follow those before it; and where one after these is at fault, they and it are not, whatever comes after.
+/// can follow those before it; and where one after these is at fault, they and it are not, whatever comes after. Of a record of
+/// which `Yes` is said nothing else is.
 pub fn law_of_records()
     ensures run { (terms : RenameTerms) (size : ℕ) (lines : List Line) → AreLinesOfRun terms size lines → (o : DeskObject) × Follow terms size lines o }
     ensures follow { (terms : RenameTerms) (size : ℕ) (lines : List Line) (o : DeskObject) → Follow terms size lines o → AreLinesOfRun terms size lines }
     ensures fault { (terms : RenameTerms) (size : ℕ) (before : List Line) (l : Line) (more : List Line) (why : Reason) →
         IsFaultAfter terms size before l why → AreLinesOfRun terms size (before ++ l ∷ more) → ⊥ }
+    ensures yes { (lines : List (List ℕ)) (v : Verdict) → IsSaidAfter lines Yes → IsSaid lines v → v ≡ Yes }
 {}
 
 /// A law, which runs nothing: the exchanges of a desk's run, which also keeps its counts of steps, are ones that the objects can

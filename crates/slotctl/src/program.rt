@@ -39,8 +39,8 @@ pub fn program<S: AsStr, R: Source, W: Sink, E: Write>(
     }
 }
 
-// Does what the words ask for, but to serve.
-fn done<S: AsStr, R: Source, W: Sink>(
+/// Does what the words ask for, but to serve.
+pub fn done<S: AsStr, R: Source, W: Sink>(
     alloc: Global,
     words: &[S],
     input: &mut R,

@@ -1,3 +1,4 @@
+use Rattle.run_checker.proofs.records.OneVerdict.{one_verdict}
 use Rattle.run_checker.proofs.records.Runs.{run_follows, follows_run, at_fault}
 use Rattle.run_checker.proofs.laws.law_of_records.Goals as goal
 
@@ -9,3 +10,6 @@ returns-clause-follow c = follows_run
 
 pub returns-clause-fault : goal.returns-clause-fault
 returns-clause-fault c = at_fault
+
+pub returns-clause-yes : goal.returns-clause-yes
+returns-clause-yes c = λ lines v said also. one_verdict lines said v also
