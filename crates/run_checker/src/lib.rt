@@ -6,6 +6,9 @@
 //! - `Yes`: the first line is a header, the others, at most 1,000,000, spell events with replies, and those are a run of the
 //!   renaming object, the pool and the slots, for some choice of the views that are not written. The header's size of the pool
 //!   is that at the start: a `widen` that is answered `ok` changes it for the lines after it.
+//!
+//!   There are two versions of records. In version 2 the view by which a name was given is written beside it, as the key `view`
+//!   of that line and of no other; in version 1 it is not, and there are at most 16 participants.
 //! - `No` of a line and a reason: the lines before it are read and follow one another; it is read too and can't follow, for this
 //!   reason of seven and for no lesser one.
 //! - `BadRecord` of a line: the lines before it are read and follow one another, and it is none of a record.
@@ -24,9 +27,9 @@
 //! A caller:
 //!
 //! ```text
-//! let bytes = b"{\"format\":\"slot-record\",\"k\":4,\"limit\":1000,\"m\":1,\"version\":1,\"world\":\"rename\"}\n\
+//! let bytes = b"{\"format\":\"slot-record\",\"k\":4,\"limit\":1000,\"m\":1,\"version\":2,\"world\":\"rename\"}\n\
 //!               {\"command\":\"begin 7\",\"reply\":\"ok\"}\n\
-//!               {\"command\":\"step 7\",\"reply\":\"named 1\"}\n";
+//!               {\"command\":\"step 7\",\"reply\":\"named 1\",\"view\":\"7:1\"}\n";
 //! check(alloc, bytes);                    // No(3, Reason::Name): 7 has proposed nothing
 //! ```
 #![tactic(auto)]

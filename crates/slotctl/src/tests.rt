@@ -342,11 +342,28 @@ fn done(
 }
 
 // Words, an input and what is written for it.
-const PLAYED: [(&str, &[u8], &[u8]); 8] = [
+const PLAYED: [(&str, &[u8], &[u8]); 9] = [
     (
         "slotctl play --record --m 2",
         b"begin 10\nbegin 10\nbad\nowner 1\nstep 10",
-        b"{\"format\":\"slot-record\",\"k\":4,\"limit\":1000,\"m\":2,\"version\":1,\"world\":\"rename\"}\n{\"command\":\"begin 10\",\"reply\":\"ok\"}\n{\"command\":\"begin 10\",\"reply\":\"refused 2\"}\n{\"command\":\"step 10\",\"reply\":\"quiet\"}\n",
+        b"{\"format\":\"slot-record\",\"k\":4,\"limit\":1000,\"m\":2,\"version\":2,\"world\":\"rename\"}\n{\"command\":\"begin 10\",\"reply\":\"ok\"}\n{\"command\":\"begin 10\",\"reply\":\"refused 2\"}\n{\"command\":\"step 10\",\"reply\":\"quiet\"}\n",
+    ),
+    (
+        "slotctl play --record --m 1 --limit 1",
+        b"begin 7\nstep 7\nstep 7\nstep 7\nstep 7\nstep 7\nstep 7\nstep 7\nstep 7\nstep 7\nenter 7",
+        b"{\"format\":\"slot-record\",\"k\":4,\"limit\":1,\"m\":1,\"version\":2,\"world\":\"rename\"}
+{\"command\":\"begin 7\",\"reply\":\"ok\"}
+{\"command\":\"step 7\",\"reply\":\"quiet\"}
+{\"command\":\"step 7\",\"reply\":\"quiet\"}
+{\"command\":\"step 7\",\"reply\":\"quiet\"}
+{\"command\":\"step 7\",\"reply\":\"place 0\"}
+{\"command\":\"step 7\",\"reply\":\"quiet\"}
+{\"command\":\"step 7\",\"reply\":\"quiet\"}
+{\"command\":\"step 7\",\"reply\":\"proposed 1\"}
+{\"command\":\"step 7\",\"reply\":\"quiet\"}
+{\"command\":\"step 7\",\"reply\":\"named 1\",\"view\":\"7:1\"}
+{\"command\":\"enter 7\",\"reply\":\"ok\"}
+",
     ),
     ("slotctl play --world splitter --m 2", b"", b""),
     (
@@ -424,6 +441,39 @@ fn records_are_checked(rt: HostRuntime) -> Result<(), Fail> {
         let (told, written) = verdict_on(rt.alloc(), lines)?;
         assert_eq!(rt; told, status);
         assert_eq!(rt; written.as_slice(), text);
+    }
+    Ok(())
+}
+
+// A record of six lines in which 10 is named, with or without a view.
+fn verdict_on_name(alloc: Global, version: &str, view: &str) -> Result<(u8, Vec<u8>), Fail> {
+    let record = format!(in alloc;
+        "{{\"format\":\"slot-record\",\"k\":4,\"limit\":1000,\"m\":2,\"version\":{version},\"world\":\"rename\"}}
+{{\"command\":\"begin 10\",\"reply\":\"ok\"}}
+{{\"command\":\"begin 20\",\"reply\":\"ok\"}}
+{{\"command\":\"step 10\",\"reply\":\"proposed 1\"}}
+{{\"command\":\"step 10\",\"reply\":\"named 1\"{view}}}
+{{\"command\":\"step 20\",\"reply\":\"proposed 1\"}}
+"
+    )?;
+    let (outcome, written) = done(alloc, &["slotctl", "check"], record.as_bytes())?;
+    Ok((outcome?, written))
+}
+
+#[test]
+fn views_of_names_are_checked(rt: HostRuntime) -> Result<(), Fail> {
+    let rows: [(&str, &str, u8, &[u8]); 6] = [
+        ("1", "", 0, b"yes\n"),
+        ("1", ",\"view\":\"10:1\"", 1, b"bad record 5\n"),
+        ("2", ",\"view\":\"10:1\"", 0, b"yes\n"),
+        ("2", ",\"view\":\"10:1 20:1\"", 1, b"no 5 6\n"),
+        ("2", "", 1, b"bad record 5\n"),
+        ("3", ",\"view\":\"10:1\"", 1, b"bad record 1\n"),
+    ];
+    for (version, view, status, text) in rows {
+        let (told, written) = verdict_on_name(rt.alloc(), version, view)?;
+        assert_eq!(rt; told, status, "{version} {view}");
+        assert_eq!(rt; written.as_slice(), text, "{version} {view}");
     }
     Ok(())
 }
