@@ -86,7 +86,7 @@ pub record IsMigratedTo (bytes text : List ℕ) : Type 0 where
 -- what `migrate` answers of a record: its verdict, with the text to which it is migrated written where that is Yes, and nothing
 -- written elsewhere; or that a write failed, with a beginning of that text written
 abbrev pub IsMigrated : {W : Type 0} → Writing W → List ℕ → W → W → Result Verdict Fault → Type 0
-IsMigrated writing bytes w w' (Ok Yes) = (text : List ℕ) × IsMigratedTo bytes text × Appends (writing.contents w) (writing.contents w') text
+IsMigrated writing bytes w w' (Ok Yes) = (writing.failed w' ≡ writing.failed w) × ((text : List ℕ) × IsMigratedTo bytes text × Appends (writing.contents w) (writing.contents w') text)
 IsMigrated writing bytes w w' (Ok v) = IsVerdict bytes v × (w' ≡ w)
 IsMigrated writing bytes w w' (Err fault) = (fault ≡ Write) × (writing.failed w < writing.failed w') × ((text : List ℕ) × IsMigratedTo bytes text × HasPartOf (writing.contents w) (writing.contents w') text)
 

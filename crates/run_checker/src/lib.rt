@@ -21,6 +21,12 @@
 //! What `record` of `schedule_player` writes of an input with at most 1,000,000 events is the record of a talk to its lines, and `check`
 //! answers `Yes` to it, or `NoMemory`: `law_of_recording`, and over talks alone `law_of_recorded_talks`.
 //!
+//! `migrate` writes a record again in version 2 where it is one of a run, in the compact spelling. A view by which a name was given
+//! that is not written is the first moment since the identity's last proposal in which no other proposed the same. What is proved
+//! (`IsMigrated`): the lines are those of exchanges that the objects can make, with each such view the first; what is written is their
+//! record of version 2, of which nothing but `Yes` is said, or at a write fault a beginning of it; with another verdict nothing is
+//! written.
+//!
 //! `NoMemory` says nothing of the record, and no clause says when a growth is refused: that a verdict comes where memory is given is
 //! tested.
 //!

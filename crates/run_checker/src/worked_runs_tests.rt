@@ -1,6 +1,6 @@
 //! Records of worked runs, as `record` writes them.
 
-use crate::{Verdict, check};
+use crate::{Verdict, check, migrate};
 use rename_core::{Config, WorldKind};
 use schedule_player::{Tried, record};
 use std::alloc::Global;
@@ -78,7 +78,7 @@ fn spelled(alloc: Global, text: &str) -> Result<Vec<u8>, Fail> {
     Ok(lines)
 }
 
-/// The record of each run is one of a run, in both worlds; with one more line, which can follow nothing, it is none.
+/// The record of each run is one of a run, in both worlds, and is migrated to itself; with one more line, which can follow nothing, it is none.
 #[test]
 fn records_of_worked_runs(rt: HostRuntime) -> Result<(), Fail> {
     let alloc = rt.alloc();
@@ -94,6 +94,10 @@ fn records_of_worked_runs(rt: HostRuntime) -> Result<(), Fail> {
             );
             let mut bytes = writer.into_inner();
             assert_eq!(rt; check(alloc, &bytes), Verdict::Yes, "{text}");
+            let mut again = Tried::new(Vec::new(alloc));
+            let migrated = migrate(alloc, &bytes, &mut again).expect(&rt, "a verdict");
+            assert_eq!(rt; migrated, Verdict::Yes, "{text}");
+            assert_eq!(rt; again.into_inner(), bytes, "{text}");
             bytes.extend_from_slice(b"{\"command\":\"begin 0\",\"reply\":\"ok\"}")?;
             assert!(rt; matches!(check(alloc, &bytes), Verdict::No(_, _)), "{text}");
         }
