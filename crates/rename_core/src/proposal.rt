@@ -1,6 +1,6 @@
 //! Which number is proposed next.
 
-ghost use Rattle.std.specs.Prelude.{◌≡◌, ◌≤◌, length};
+ghost use Rattle.std.specs.Prelude.{◌≡◌, ℕ, ◌<◌, ◌≤◌, false, get_or, length};
 ghost use Rattle.rename_core.specs.Proposals.{is_taken, rank, nth_free, next_proposal};
 
 use step_memory::View;
@@ -19,17 +19,34 @@ fn rank(pairs: &[(u64, u64)], id: u64) -> usize
     pairs.iter().filter(|pair| pair.0 <= id).count()
 }
 
+/// Which numbers up to 128 other identities propose, by these pairs. With at most 64 pairs no greater one is proposed next.
+fn taken_numbers(pairs: &[(u64, u64)], id: u64) -> [bool; 129]
+    ensures { (n : ℕ) → n < 129 → get_or result n false ≡ is_taken id pairs.now n }
+{
+    let mut taken = [false; 129];
+    let mut i = pairs.len();
+    while i > 0 {
+        i -= 1;
+        let (other, number) = pairs[i];
+        if other != id && number < 129 {
+            taken[number as usize] = true;
+        }
+    }
+    taken
+}
+
 /// The `rank`-th positive number that no other identity proposes.
 fn nth_free(pairs: &[(u64, u64)], id: u64, rank: usize) -> u64
     requires few { length pairs.now ≤ 64 }
     requires low { rank ≤ 64 }
     ensures { result ≡ nth_free id pairs.now rank }
 {
+    let taken = taken_numbers(pairs, id);
     let mut left = rank;
     let mut at: u64 = 0;
     while 0 < left {
         at += 1;
-        if !is_taken_in(pairs, id, at) {
+        if !taken[at as usize] {
             left -= 1;
         }
     }

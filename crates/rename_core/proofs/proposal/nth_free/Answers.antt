@@ -1,7 +1,14 @@
-use Rattle.std.proofs.Common.{rules, ◌<◌, ◌+◌, length, sym, arith}
-use Rattle.rename_core.specs.Proposals.{is_taken}
+use Rattle.std.proofs.Common.{rules, ◌≡◌, ◌≤◌, ◌<◌, ℕ, List, ◌+◌, true, false, length, sym, ◌∙◌, arith}
+use Rattle.rename_core.specs.Proposals.{is_taken, free_up_to}
 use Rattle.rename_core.proofs.rounds.Numbers.{free_or_taken, others_few, least_is}
 use Rattle.rename_core.proofs.proposal.nth_free.Goals as goal
+
+-- the next number that is looked at has a mark
+in_table : (id : ℕ) (view : List (ℕ × ℕ)) (rank left at : ℕ) → length view ≤ 64 → rank ≤ 64 → left + free_up_to (is_taken id view) at ≡ rank → 0 < left → at + 1 < 129
+in_table id view rank left at few low count more =
+    let a = free_or_taken id view at in
+    let b = others_few id view in
+    omega arith
 
 pub overflow_add-at : goal.overflow_add-at
 overflow_add-at c =
@@ -13,8 +20,8 @@ overflow_add-at c =
     let l : c.loop-left.at + 1 < 1000 = omega arith in
     search rules
 
-pub loop-left-smaller-then-not-is_taken_in : goal.loop-left-smaller-then-not-is_taken_in
-loop-left-smaller-then-not-is_taken_in c =
+pub loop-left-smaller-then-not-taken-at : goal.loop-left-smaller-then-not-taken-at
+loop-left-smaller-then-not-taken-at c =
     let a = free_or_taken c.args.id c.args.pairs.now c.loop-left.at in
     let b = others_few c.args.id c.args.pairs.now in
     let d = c.loop-left.invariant.count in
@@ -28,6 +35,19 @@ loop-left-smaller c =
     let d = c.loop-left.invariant.count in
     let t = c.loop-left-test.true in
     omega arith
+
+pub bounds-taken-at : goal.bounds-taken-at
+bounds-taken-at c = in_table c.args.id c.args.pairs.now c.args.rank c.loop-left.left c.loop-left.at c.requires.few c.requires.low c.loop-left.invariant.count c.loop-left-test.true
+
+pub loop-left-preserved-then-not-taken-at : goal.loop-left-preserved-then-not-taken-at
+loop-left-preserved-then-not-taken-at c =
+    let free : is_taken c.args.id c.args.pairs.now (c.loop-left.at + 1) ≡ false = sym (c.taken_numbers-taken.ensures (c.loop-left.at + 1) (in_table c.args.id c.args.pairs.now c.args.rank c.loop-left.left c.loop-left.at c.requires.few c.requires.low c.loop-left.invariant.count c.loop-left-test.true)) ∙ c.if-not-taken-at.true in
+    search rules
+
+pub loop-left-preserved : goal.loop-left-preserved
+loop-left-preserved c =
+    let held : is_taken c.args.id c.args.pairs.now (c.loop-left.at + 1) ≡ true = sym (c.taken_numbers-taken.ensures (c.loop-left.at + 1) (in_table c.args.id c.args.pairs.now c.args.rank c.loop-left.left c.loop-left.at c.requires.few c.requires.low c.loop-left.invariant.count c.loop-left-test.true)) ∙ c.if-not-taken-at.false in
+    search rules
 
 pub returns : goal.returns
 returns c =
