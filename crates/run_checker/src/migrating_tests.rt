@@ -62,7 +62,10 @@ fn a_record_of_version_1(rt: HostRuntime) -> Result<(), Fail> {
 #[test]
 fn what_was_migrated_stays(rt: HostRuntime) -> Result<(), Fail> {
     migrates(&rt, &NEW, Verdict::Yes, &NEW)?;
-    assert_eq!(&rt; check(rt.alloc(), &record_of(rt.alloc(), &NEW)?), Verdict::Yes);
+    assert_eq!(&rt;
+        check(rt.alloc(), &record_of(rt.alloc(), &NEW)?),
+        Verdict::Yes
+    );
     Ok(())
 }
 

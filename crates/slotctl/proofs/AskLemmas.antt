@@ -9,7 +9,7 @@ use Rattle.clap.specs.declared.error.kind.ErrorKind.{ErrorKind}
 use Rattle.clap.specs.declared.error.kind.ErrorKind.TheVariants.{OutOfMemory}
 use Rattle.clap.proofs.OnLiterals.{clap_on_literals}
 use Rattle.slotctl.specs.declared.asked.Ask.{Ask}
-use Rattle.slotctl.specs.declared.asked.Ask.TheVariants.{Play, Check, Draw, Serve}
+use Rattle.slotctl.specs.declared.asked.Ask.TheVariants.{Play, Check, Migrate, Draw, Serve}
 use Rattle.slotctl.specs.declared.asked.Drawing.{Drawing}
 use Rattle.slotctl.specs.declared.asked.Playing.{Playing}
 use Rattle.slotctl.specs.declared.asked.Serving.{Serving}
@@ -72,6 +72,15 @@ check_is_not_draw same = let first : 99 ≡ 100 = ap (λ l. get_or l 0 0) same i
 serve_is_not_check : codes "serve" ≡ codes "check" → ⊥
 serve_is_not_check same = let first : 115 ≡ 99 = ap (λ l. get_or l 0 0) same in omega (arith, first)
 
+migrate_is_not_play : codes "migrate" ≡ codes "play" → ⊥
+migrate_is_not_play same = let first : 109 ≡ 112 = ap (λ l. get_or l 0 0) same in omega (arith, first)
+
+migrate_is_not_draw : codes "migrate" ≡ codes "draw" → ⊥
+migrate_is_not_draw same = let first : 109 ≡ 100 = ap (λ l. get_or l 0 0) same in omega (arith, first)
+
+serve_is_not_migrate : codes "serve" ≡ codes "migrate" → ⊥
+serve_is_not_migrate same = let first : 115 ≡ 109 = ap (λ l. get_or l 0 0) same in omega (arith, first)
+
 -- a subcommand that was met with these rows is the one that was met
 met_name : (met : Option (List ℕ × List Row)) (a b : List ℕ) (rows others : List Row) → met ≡ Some (a, rows) → met ≡ Some (b, others) → a ≡ b
 met_name met a b rows others is that = ap (λ (p : List ℕ × List Row). p.0) (same_Some (a, rows) (b, others) (sym is ∙ that))
@@ -83,6 +92,7 @@ met_rows met a b rows others is that = ap (λ (p : List ℕ × List Row). p.1) (
 pub nothing_played : (met : Option (List ℕ × List Row)) (rows : List Row) → met ≡ Some (codes "play", rows) → ((p : Playing) → IsPlayingOf rows p → ⊥) → (a : Ask) → IsAsked met a → ⊥
 nothing_played met rows is none (Play p) h = none p (subst (λ (r : List Row). IsPlayingOf r p) (sym (met_rows met (codes "play") (codes "play") rows h.0 is h.1)) h.2)
 nothing_played met rows is none Check h = check_is_not_play (sym (met_name met (codes "play") (codes "check") rows h.0 is h.1))
+nothing_played met rows is none Migrate h = migrate_is_not_play (sym (met_name met (codes "play") (codes "migrate") rows h.0 is h.1))
 nothing_played met rows is none (Draw d) h = other_name (sym (met_name met (codes "play") (codes "draw") rows h.0 is h.1))
 nothing_played met rows is none (Serve s) h = serve_is_not_play (sym (met_name met (codes "play") (codes "serve") rows h.0 is h.1))
 
@@ -90,6 +100,7 @@ nothing_played met rows is none (Serve s) h = serve_is_not_play (sym (met_name m
 pub nothing_drawn : (met : Option (List ℕ × List Row)) (rows : List Row) → met ≡ Some (codes "draw", rows) → ((d : Drawing) → IsDrawingOf rows d → ⊥) → (a : Ask) → IsAsked met a → ⊥
 nothing_drawn met rows is none (Play playing) h = other_name (met_name met (codes "draw") (codes "play") rows h.0 is h.1)
 nothing_drawn met rows is none Check h = check_is_not_draw (sym (met_name met (codes "draw") (codes "check") rows h.0 is h.1))
+nothing_drawn met rows is none Migrate h = migrate_is_not_draw (sym (met_name met (codes "draw") (codes "migrate") rows h.0 is h.1))
 nothing_drawn met rows is none (Draw d) h = none d (subst (λ (r : List Row). IsDrawingOf r d) (sym (met_rows met (codes "draw") (codes "draw") rows h.0 is h.1)) h.2)
 nothing_drawn met rows is none (Serve s) h = serve_is_not_draw (sym (met_name met (codes "draw") (codes "serve") rows h.0 is h.1))
 
@@ -97,5 +108,6 @@ nothing_drawn met rows is none (Serve s) h = serve_is_not_draw (sym (met_name me
 pub nothing_served : (met : Option (List ℕ × List Row)) (rows : List Row) → met ≡ Some (codes "serve", rows) → ((s : Serving) → IsServingOf rows s → ⊥) → (a : Ask) → IsAsked met a → ⊥
 nothing_served met rows is none (Play playing) h = serve_is_not_play (met_name met (codes "serve") (codes "play") rows h.0 is h.1)
 nothing_served met rows is none Check h = serve_is_not_check (met_name met (codes "serve") (codes "check") rows h.0 is h.1)
+nothing_served met rows is none Migrate h = serve_is_not_migrate (met_name met (codes "serve") (codes "migrate") rows h.0 is h.1)
 nothing_served met rows is none (Draw d) h = serve_is_not_draw (met_name met (codes "serve") (codes "draw") rows h.0 is h.1)
 nothing_served met rows is none (Serve s) h = none s (subst (λ (r : List Row). IsServingOf r s) (sym (met_rows met (codes "serve") (codes "serve") rows h.0 is h.1)) h.2)

@@ -2,3 +2,4 @@ mod ConfigLemmas
 mod AskLemmas
 mod ReadLemmas
 mod CheckLemmas
+mod MigrateLemmas

@@ -13,7 +13,7 @@ use Rattle.rename_core.specs.declared.config.WorldKind.{WorldKind}
 use Rattle.rename_core.specs.declared.config.WorldKind.TheVariants.{Splitter, Grid, Rename, Tree}
 use Rattle.slotctl.specs.CommandLine.{slotctl_app}
 use Rattle.slotctl.specs.declared.asked.Ask.{Ask}
-use Rattle.slotctl.specs.declared.asked.Ask.TheVariants.{Play, Check, Draw, Serve}
+use Rattle.slotctl.specs.declared.asked.Ask.TheVariants.{Play, Check, Migrate, Draw, Serve}
 use Rattle.slotctl.specs.declared.asked.Drawing.{Drawing}
 use Rattle.slotctl.specs.declared.asked.Serving.{Serving}
 use Rattle.slotctl.specs.declared.asked.Playing.{Playing}
@@ -81,6 +81,7 @@ pub record IsServingOf (rows : List Row) (s : Serving) : Type 0 where
 abbrev pub IsAsked : Option (List ℕ × List Row) → Ask → Type 0
 IsAsked met (Play playing) = (rows : List Row) × (met ≡ Some (codes "play", rows)) × IsPlayingOf rows playing
 IsAsked met Check = (rows : List Row) × (met ≡ Some (codes "check", rows))
+IsAsked met Migrate = (rows : List Row) × (met ≡ Some (codes "migrate", rows))
 IsAsked met (Draw drawing) = (rows : List Row) × (met ≡ Some (codes "draw", rows)) × IsDrawingOf rows drawing
 IsAsked met (Serve serving) = (rows : List Row) × (met ≡ Some (codes "serve", rows)) × IsServingOf rows serving
 

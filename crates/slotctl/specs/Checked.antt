@@ -1,6 +1,7 @@
 -- what is told of a record that a reader gives
 use Rattle.std.specs.Prelude.{◌≡◌, ◌≢◌, ◌⊎◌, ◌+◌, ◌<◌, ◌≤◌, ◌++◌, ◌∷◌, ℕ, List, [], Result, Err, IfOk, codes, decimal}
 use Rattle.std.specs.Io.KnownBytes.{Appends, Consumes}
+use Rattle.run_checker.specs.Migrated.{IsMigratedTo}
 use Rattle.run_checker.specs.Reasons.{reason_number}
 use Rattle.run_checker.specs.Verdict.{IsVerdict}
 use Rattle.run_checker.specs.declared.verdict.Verdict.{Verdict}
@@ -35,20 +36,39 @@ pub record IsWhole {R : Type 0} (reading : Reading R) (r r' : R) (input : List �
 abbrev pub HasFailedRead : {R : Type 0} → Reading R → R → R → Type 0
 HasFailedRead reading r r' = (reading.failed r' ≡ reading.failed r + 1) ⊎ ((reading.calls r' ≡ reading.calls r + MOST_READS) × (reading.failed r' ≡ reading.failed r))
 
--- of the whole input this is the verdict, and what is written of its line meets this
-pub record IsToldOf {R : Type 0} (reading : Reading R) (r r' : R) (Wrote : List ℕ → Type 0) (v : Verdict) : Type 0 where
+-- what is told of an input with this verdict: its line
+abbrev pub IsVerdictText : List ℕ → Verdict → List ℕ → Type 0
+IsVerdictText input v text = text ≡ verdict_text v
+
+-- the same, but where it is yes the record of version 2
+abbrev pub IsRecordText : List ℕ → Verdict → List ℕ → Type 0
+IsRecordText input Yes text = IsMigratedTo input text
+IsRecordText input v text = text ≡ verdict_text v
+
+-- of the whole input this is the verdict, and what is written of the text that tells of it meets this
+pub record IsToldOf {R : Type 0} (Tells : List ℕ → Verdict → List ℕ → Type 0) (reading : Reading R) (r r' : R) (Wrote : List ℕ → Type 0) (v : Verdict) : Type 0 where
   pub input : List ℕ
   pub whole : IsWhole reading r r' input
   pub verdict : IsVerdict input v
   pub some : v ≢ NoMemory
-  pub wrote : Wrote (verdict_text v)
+  pub text : List ℕ
+  pub tells : Tells input v text
+  pub wrote : Wrote text
 
--- a record is read to its end and checked, and its verdict is written: with its status; at a write fault a beginning of it; and
--- nothing where a read failed or memory was refused
-pub record IsChecked {R W : Type 0} (reading : Reading R) (writing : Writing W) (r r' : R) (w w' : W) (result : Result ℕ Fault) : Type 0 where
-  pub ok : IfOk result (λ status. (v : Verdict) × (status ≡ verdict_status v) × IsToldOf reading r r' (Appends (writing.contents w) (writing.contents w')) v)
+-- a record is read to its end and judged, and the text that tells of it is written: with the status of its verdict; at a write
+-- fault a beginning of it; and nothing where a read failed or memory was refused
+pub record IsJudged {R W : Type 0} (Tells : List ℕ → Verdict → List ℕ → Type 0) (reading : Reading R) (writing : Writing W) (r r' : R) (w w' : W) (result : Result ℕ Fault) : Type 0 where
+  pub ok : IfOk result (λ status. (v : Verdict) × (status ≡ verdict_status v) × IsToldOf Tells reading r r' (Appends (writing.contents w) (writing.contents w')) v)
   pub no_write_failed : IfOk result (λ status. writing.failed w' ≡ writing.failed w)
-  pub write_fault : result ≡ Err Write → (writing.failed w < writing.failed w') × ((v : Verdict) × IsToldOf reading r r' (HasPartOf (writing.contents w) (writing.contents w')) v)
+  pub write_fault : result ≡ Err Write → (writing.failed w < writing.failed w') × ((v : Verdict) × IsToldOf Tells reading r r' (HasPartOf (writing.contents w) (writing.contents w')) v)
   pub read_fault : result ≡ Err Read → HasFailedRead reading r r' × (w' ≡ w)
   pub memory : result ≡ Err Memory → w' ≡ w
   pub reads : reading.calls r' ≤ reading.calls r + MOST_READS
+
+-- a record is checked: its verdict is written
+abbrev pub IsChecked : {R W : Type 0} → Reading R → Writing W → R → R → W → W → Result ℕ Fault → Type 0
+IsChecked reading writing r r' w w' result = IsJudged IsVerdictText reading writing r r' w w' result
+
+-- a record is written again in version 2, or its verdict where that is another than yes
+abbrev pub IsRewritten : {R W : Type 0} → Reading R → Writing W → R → R → W → W → Result ℕ Fault → Type 0
+IsRewritten reading writing r r' w w' result = IsJudged IsRecordText reading writing r r' w w' result

@@ -92,8 +92,13 @@ draw_app = with_rule (with_rule (with_rule (with_rule draw_needs_app runs_option
 abbrev pub check_app : App
 check_app = new_app (codes "check")
 
+-- nor has `migrate`
+abbrev pub migrate_app : App
+migrate_app = new_app (codes "migrate")
+
 -- the program with its subcommands, one of which has to be given
 abbrev pub slotctl_app : App
 slotctl_app =
     let program = new_app (codes "slotctl") in
-    with_subcommand (with_subcommand (with_subcommand (with_subcommand (record program { top = record program.top { subcommand_required = true } }) play_app.top) check_app.top) draw_app.top) serve_app.top
+    let needed = record program { top = record program.top { subcommand_required = true } } in
+    with_subcommand (with_subcommand (with_subcommand (with_subcommand (with_subcommand needed play_app.top) check_app.top) migrate_app.top) draw_app.top) serve_app.top

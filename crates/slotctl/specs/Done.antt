@@ -15,14 +15,14 @@ use Rattle.schedule_player.specs.Recorded.{IsRecorded}
 use Rattle.schedule_player.specs.Texts.{replies_of}
 use Rattle.rename_core.specs.declared.config.Config.{Config}
 use Rattle.slotctl.specs.declared.asked.Ask.{Ask}
-use Rattle.slotctl.specs.declared.asked.Ask.TheVariants.{Play, Check, Draw, Serve}
+use Rattle.slotctl.specs.declared.asked.Ask.TheVariants.{Play, Check, Migrate, Draw, Serve}
 use Rattle.slotctl.specs.declared.asked.Drawing.{Drawing}
 use Rattle.slotctl.specs.declared.failure.Failure.{Failure}
 use Rattle.slotctl.specs.declared.failure.Failure.TheVariants as failure
 use Rattle.slotctl.specs.declared.misuse.Misuse.{Misuse}
 use Rattle.slotctl.specs.declared.outcome.Outcome.{Outcome}
 use Rattle.slotctl.specs.declared.outcome.Outcome.TheVariants as outcome
-use Rattle.slotctl.specs.Checked.{IsChecked}
+use Rattle.slotctl.specs.Checked.{IsChecked, IsRewritten}
 use Rattle.slotctl.specs.Statuses.{status_after}
 
 -- a status is answered, and a fault is a failure
@@ -58,14 +58,16 @@ IsPlayedBy true config reading writing r r' w w' status =
 abbrev pub is_served : Ask → Bool
 is_served (Play config) = false
 is_served Check = false
+is_served Migrate = false
 is_served (Draw drawing) = false
 is_served (Serve serving) = true
 
 -- what was asked for, which is not to serve, is done, and answers this status: a run is
--- played; or a record is checked; or nothing is read, and a drawing is written
+-- played; or a record is checked, or written again; or nothing is read, and a drawing is written
 abbrev pub IsWorked : {R W : Type 0} → Ask → Reading R → Writing W → R → R → W → W → Result ℕ Fault → Type 0
 IsWorked (Play playing) reading writing r r' w w' status = IsPlayedBy playing.recorded playing.config reading writing r r' w w' status
 IsWorked Check reading writing r r' w w' status = IsChecked reading writing r r' w w' status
+IsWorked Migrate reading writing r r' w w' status = IsRewritten reading writing r r' w w' status
 IsWorked (Draw drawing) reading writing r r' w w' status = (r' ≡ r) × IsDrawnBy drawing writing w w' status
 IsWorked (Serve serving) reading writing r r' w w' status = ⊥
 
@@ -77,6 +79,7 @@ HasWorked ask reading writing r r' w w' result = (status : Result ℕ Fault) × 
 abbrev pub IsDoneFor : {R W : Type 0} → Ask → Reading R → Writing W → R → R → W → W → Result Outcome Failure → Type 0
 IsDoneFor (Play config) reading writing r r' w w' result = HasWorked (Play config) reading writing r r' w w' result
 IsDoneFor Check reading writing r r' w w' result = HasWorked Check reading writing r r' w w' result
+IsDoneFor Migrate reading writing r r' w w' result = HasWorked Migrate reading writing r r' w w' result
 IsDoneFor (Draw drawing) reading writing r r' w w' result = HasWorked (Draw drawing) reading writing r r' w w' result
 IsDoneFor (Serve serving) reading writing r r' w w' result = (result ≡ Ok (outcome.Serve serving)) × (r' ≡ r) × (w' ≡ w)
 

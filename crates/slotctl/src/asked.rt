@@ -13,6 +13,8 @@ pub enum Ask {
     Play(Playing),
     /// The check of a record.
     Check,
+    /// A record that is written again in version 2.
+    Migrate,
     /// Drawn schedules.
     Draw(Drawing),
     /// Connections that are served.

@@ -11,8 +11,12 @@ use schedule_player::sink::put_all;
 use schedule_player::{Fault, MOST_READS, READ_BYTES, Replies, Sink, Source, put_word};
 use std::alloc::{Allocator, Global};
 
-// All that the reader gives, read by way of a chunk.
-fn read_whole<R: Source>(alloc: Global, reader: &mut R, chunk: &mut [u8]) -> Result<Vec<u8>, Fault>
+/// All that the reader gives, read by way of a chunk.
+pub fn read_whole<R: Source>(
+    alloc: Global,
+    reader: &mut R,
+    chunk: &mut [u8],
+) -> Result<Vec<u8>, Fault>
     requires reads { R.calls reader.old < 2 ^ 64 }
     requires chunk { length chunk.old ≡ READ_BYTES }
     ensures whole { IfOk result (λ bytes. IsWhole (reading R.remaining R.calls R.failed) reader.old reader.new bytes.items) }
@@ -37,8 +41,8 @@ fn read_whole<R: Source>(alloc: Global, reader: &mut R, chunk: &mut [u8]) -> Res
     Err(Fault::Read)
 }
 
-// Appends the line of a verdict.
-fn put_verdict<A: Allocator>(verdict: Verdict, out: &mut Replies<A>)
+/// Appends the line of a verdict.
+pub fn put_verdict<A: Allocator>(verdict: Verdict, out: &mut Replies<A>)
     requires { out.old ≡ [] }
     ensures { out.new ≡ verdict_text verdict }
 {

@@ -3,7 +3,7 @@
 ghost use Rattle.std.specs.Prelude.{◌≡◌, false, IfOk};
 ghost use Rattle.clap.specs.Words.{app_of, rule_of};
 ghost use Rattle.clap.specs.declared.builder.command.Command.TheViews.{out-Command};
-ghost use Rattle.slotctl.specs.CommandLine.{check_app, config_app, draw_app, draw_needs_app, limit_option, m_option, needed_option, number_option, play_app, record_flag, serve_app, slotctl_app, world_option};
+ghost use Rattle.slotctl.specs.CommandLine.{check_app, config_app, draw_app, draw_needs_app, limit_option, m_option, migrate_app, needed_option, number_option, play_app, record_flag, serve_app, slotctl_app, world_option};
 
 use clap::builder::ValueParser;
 use clap::{Arg, ArgAction, Command};
@@ -175,6 +175,16 @@ fn check_command<'a>(alloc: Global) -> Command<'a>
     )
 }
 
+// The subcommand `migrate`, which has no options.
+fn migrate_command<'a>(alloc: Global) -> Command<'a>
+    ensures app { app_of result ≡ migrate_app }
+    ensures local { (out-Command result).has_globals ≡ false }
+{
+    Command::new(alloc, "migrate").about(
+        "Writes the record of the standard input again, in version 2",
+    )
+}
+
 // The subcommand `serve` with its options.
 fn serve_command<'a>(alloc: Global) -> Result<Command<'a>, AllocError>
     ensures app { IfOk result (λ c. app_of c ≡ serve_app) }
@@ -223,6 +233,7 @@ pub fn slotctl_command<'a>(alloc: Global) -> Result<Command<'a>, AllocError>
         .subcommand_required(true)
         .subcommand(play)?
         .subcommand(check_command(alloc))?
+        .subcommand(migrate_command(alloc))?
         .subcommand(draw)?
         .subcommand(serve)
 }

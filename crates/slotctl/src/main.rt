@@ -11,6 +11,7 @@ mod asked;
 mod checking;
 mod command_line;
 mod failure;
+mod migrating;
 mod misuse;
 mod outcome;
 mod program;

@@ -23,7 +23,7 @@ fn chosen(alloc: Global, words: &[&str]) -> Result<Option<(WorldKind, u64, u64, 
             let config = playing.config;
             Ok(Some((config.world, config.m, config.k, config.limit)))
         }
-        Ask::Check | Ask::Draw(_) | Ask::Serve(_) => Ok(None),
+        Ask::Check | Ask::Migrate | Ask::Draw(_) | Ask::Serve(_) => Ok(None),
     }
 }
 
@@ -33,7 +33,7 @@ fn drawing(
     words: &[&str],
 ) -> Result<Option<(u64, u64, u64, u64, WorldKind)>, Misuse> {
     match ask(alloc, words)? {
-        Ask::Play(_) | Ask::Check | Ask::Serve(_) => Ok(None),
+        Ask::Play(_) | Ask::Check | Ask::Migrate | Ask::Serve(_) => Ok(None),
         Ask::Draw(d) => Ok(Some((d.seed, d.ids, d.steps, d.runs, d.config.world))),
     }
 }
@@ -86,7 +86,7 @@ fn drawings_are_read(rt: HostRuntime) -> Result<(), Fail> {
 fn serving(alloc: Global, words: &[&str]) -> Result<Option<(WorldKind, u64, u64, u64)>, Misuse> {
     match ask(alloc, words)? {
         Ask::Serve(s) => Ok(Some((s.config.world, s.port, s.workers, s.count))),
-        Ask::Play(_) | Ask::Check | Ask::Draw(_) => Ok(None),
+        Ask::Play(_) | Ask::Check | Ask::Migrate | Ask::Draw(_) => Ok(None),
     }
 }
 
@@ -497,6 +497,26 @@ fn views_of_names_are_checked(rt: HostRuntime) -> Result<(), Fail> {
     Ok(())
 }
 
+/// A record is written again with status 0, and where it is none of a run told as by `check`; a write that fails is a fault.
+#[test]
+fn records_are_migrated(rt: HostRuntime) -> Result<(), Fail> {
+    let alloc = rt.alloc();
+    let old =
+        b"{\"format\":\"slot-record\",\"k\":4,\"limit\":1000,\"m\":2,\"version\":1,\"world\":\"rename\"}\n{\"command\":\"begin 10\",\"reply\":\"ok\"}\n";
+    let new =
+        b"{\"format\":\"slot-record\",\"k\":4,\"limit\":1000,\"m\":2,\"version\":2,\"world\":\"rename\"}\n{\"command\":\"begin 10\",\"reply\":\"ok\"}\n";
+    for (record, status, text) in [
+        (old.as_slice(), 0, new.as_slice()),
+        (b"{}\n", 1, b"bad record 1\n"),
+        (&old[..100], 1, b"bad record 2\n"),
+    ] {
+        let (outcome, written) = done(alloc, &["slotctl", "migrate"], record)?;
+        assert_eq!(rt; outcome?, status);
+        assert_eq!(rt; written.as_slice(), text);
+    }
+    Ok(())
+}
+
 #[test]
 fn a_record_of_play_is_checked(rt: HostRuntime) -> Result<(), Fail> {
     let alloc = rt.alloc();
@@ -580,13 +600,13 @@ fn a_write_fault_ends_the_run(rt: HostRuntime) -> Result<(), Fail> {
 }
 
 const HELP: &[u8] =
-    b"Plays schedules of shared-memory algorithms, one access a step\n\nUsage: slotctl <COMMAND>\n\nCommands:\n  play   Plays the commands of the standard input, and writes a reply to each\n  check  Checks the record of the standard input, and writes its verdict\n  draw   Draws schedules, and writes one, or a line for each of many that are played\n  serve  Serves the commands of connections to 127.0.0.1, over one hall\n  help   Print this message or the help of the given subcommand(s)\n\nOptions:\n  -h, --help  Print help\n";
+    b"Plays schedules of shared-memory algorithms, one access a step\n\nUsage: slotctl <COMMAND>\n\nCommands:\n  play     Plays the commands of the standard input, and writes a reply to each\n  check    Checks the record of the standard input, and writes its verdict\n  migrate  Writes the record of the standard input again, in version 2\n  draw     Draws schedules, and writes one, or a line for each of many that are played\n  serve    Serves the commands of connections to 127.0.0.1, over one hall\n  help     Print this message or the help of the given subcommand(s)\n\nOptions:\n  -h, --help  Print help\n";
 
 const PLAY_HELP: &[u8] =
     b"Plays the commands of the standard input, and writes a reply to each\n\nUsage: slotctl play [OPTIONS]\n\nOptions:\n      --world <NAME>    what is played: splitter, grid, rename or tree [default: rename]\n      --m <NUMBER>      the most participants, from 1 to 16, or to 64 in the world tree [default: 4]\n      --k <NUMBER>      the size of the pool, from 1 to 64 [default: 4]\n      --limit <NUMBER>  the most proposals of each participant, from 1 to 1000000 [default: 1000]\n      --record          writes the record of the run in place of the replies\n  -h, --help            Print help\n";
 
 const NO_SUBCOMMAND: &[u8] =
-    b"error: 'slotctl' requires a subcommand but one was not provided\n  [subcommands: play, check, draw, serve, help]\n\nUsage: slotctl <COMMAND>\n\nFor more information, try '--help'.\n";
+    b"error: 'slotctl' requires a subcommand but one was not provided\n  [subcommands: play, check, migrate, draw, serve, help]\n\nUsage: slotctl <COMMAND>\n\nFor more information, try '--help'.\n";
 
 const TOO_MANY: &[u8] =
     b"error: invalid value '65' for '--m <NUMBER>': 65 is not in 1..=64\n\nFor more information, try '--help'.\n";

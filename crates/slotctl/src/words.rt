@@ -114,6 +114,7 @@ fn asked(matches: &ArgMatches<'_>) -> Option<Ask>
     match matches.subcommand() {
         Some(("play", options)) => Some(Ask::Play(play_given(options)?)),
         Some(("check", _)) => Some(Ask::Check),
+        Some(("migrate", _)) => Some(Ask::Migrate),
         Some(("draw", options)) => Some(Ask::Draw(draw_given(options)?)),
         Some(("serve", options)) => Some(Ask::Serve(serve_given(options)?)),
         _ => None,

@@ -6,6 +6,7 @@ ghost use Rattle.slotctl.specs.Done.{IsWorked, IsDrawnBy, IsPlayedBy, is_served}
 
 use crate::asked::{Ask, Drawing, Playing};
 use crate::checking::check_for;
+use crate::migrating::migrate_for;
 use drawn_schedules::{draw, play_drawn};
 use schedule_player::{Fault, Sink, Source, play, record};
 use std::alloc::{Allocator, Global};
@@ -59,12 +60,12 @@ fn play_for<R: Source, W: Sink, A: Allocator + Clone>(
     }
 }
 
-/// Does what was asked for, over this input and this output, and answers the status of the program: 0, but 1 where `check` says
-/// other than yes.
+/// Does what was asked for, over this input and this output, and answers the status of the program: 0, but 1 where the
+/// verdict of `check` or of `migrate` is other than yes.
 ///
 /// `play` writes the replies to the commands that it reads, or with `--record` the record of the run; `check` reads to the end and
-/// writes a verdict; `draw` reads nothing. Answers `Fault::Read` where the reader failed or the limit of reads was reached,
-/// `Fault::Write` where the writer failed or took no byte, and `Fault::Memory` where memory was refused: by `play` with nothing read and nothing written, and by `check` with nothing written. To serve is not done here.
+/// writes a verdict; `migrate` reads to the end too, and writes the record again in version 2; `draw` reads nothing. Answers `Fault::Read` where the reader failed or the limit of reads was reached,
+/// `Fault::Write` where the writer failed or took no byte, and `Fault::Memory` where memory was refused: by `play` with nothing read and nothing written, and by `check` and `migrate` with nothing written. To serve is not done here.
 pub fn work<R: Source, W: Sink>(
     alloc: Global,
     ask: Ask,
@@ -79,6 +80,7 @@ pub fn work<R: Source, W: Sink>(
     match ask {
         Ask::Play(playing) => play_for(alloc, playing, reader, writer),
         Ask::Check => check_for(alloc, reader, writer),
+        Ask::Migrate => migrate_for(alloc, reader, writer),
         Ask::Draw(drawing) => draw_for(alloc, drawing, writer),
         Ask::Serve(_) => unreachable!(),
     }
