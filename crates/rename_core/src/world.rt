@@ -19,7 +19,7 @@ use crate::short_reply::ShortReply;
 use snapshot_core::{Known, SnapWorld};
 use std::alloc::Allocator;
 use std::marker::Model;
-use step_memory::{Participant, Refusal, View};
+use step_memory::{Participant, Refusal, View, find as find_participant};
 
 /// Participants that get names by rounds of proposals, over places.
 #[derive(Drop)]
@@ -44,12 +44,7 @@ impl<W: RenamePlaces<A>, A: Allocator> Model for RenameWorld<W, A> {
 fn find(rounds: &[Participant<Round>], id: u64) -> Option<usize>
     ensures { result ≡ index_of id rounds.now }
 {
-    for (i, participant) in rounds.iter().enumerate() {
-        if participant.identity == id {
-            return Some(i);
-        }
-    }
-    None
+    find_participant(rounds, id)
 }
 
 /// Puts the proposal of a participant into a view, where it has made one.

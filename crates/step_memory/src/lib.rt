@@ -49,4 +49,4 @@ pub use record::{Record, Segment};
 pub use refusal::{NoMemory, Refusal};
 pub use shortcut::Shortcut;
 pub use view::View;
-pub use world::World;
+pub use world::{World, find};

@@ -1,6 +1,6 @@
 //! Participants that take steps on one memory.
 
-ghost use Rattle.std.specs.Prelude.{◌≡◌, ◌≢◌, ℕ, ◌<◌, ◌≤◌, [], ◌∷◌, ◌++◌, true, false, length, option_copied, IfOk, IfSome, OnErr, OnOk, IsOk, Err, Ok, Option, is_some};
+ghost use Rattle.std.specs.Prelude.{◌≡◌, ◌≢◌, ℕ, ◌<◌, ◌≤◌, [], ◌∷◌, ◌++◌, true, false, length, option_copied, drop, option_map, IfOk, IfSome, OnErr, OnOk, IsOk, Err, Ok, Some, Option, is_some, ◌+◌};
 ghost use Rattle.step_memory.specs.Participant.{index_of, participant_of, program_of};
 ghost use Rattle.step_memory.specs.World.{begin_refusal, done_unless, after_begin, step_answer, after_step, may_refuse_step, set_answer, after_set, CanAsk, after_asked};
 ghost use Rattle.step_memory.specs.WorldState.{WorldState};
@@ -34,17 +34,56 @@ impl<P, S, A: Allocator> Model for World<P, S, A> {
     ghost invariant = { λ w. w.most ≤ vec_capacity w.participants };
 }
 
-/// Where the participant of an identity stands.
-fn find<P>(participants: &[Participant<P>], id: u64) -> Option<usize>
+/// Whether another participant stands here, so that the search for an identity goes on after it.
+#[inline(always)]
+fn is_other<P>(participants: &[Participant<P>], at: usize, id: u64) -> bool
+    requires { at < length participants.now }
+    ensures here { result ≡ false → index_of id (drop at participants.now) ≡ Some 0 }
+    ensures next { result ≡ true → index_of id (drop at participants.now) ≡ option_map (λ k. k + 1) (index_of id (drop (at + 1) participants.now)) }
+{
+    participants[at].identity != id
+}
+
+/// Where the participant of an identity stands, who is none of those before this place.
+#[inline(always)]
+fn find_from<P>(participants: &[Participant<P>], start: usize, id: u64) -> Option<usize>
+    requires inside { start ≤ length participants.now }
+    requires before { index_of id participants.now ≡ option_map (λ k. start + k) (index_of id (drop start participants.now)) }
     ensures answer { result ≡ index_of id participants.now }
     ensures inside { IfSome result (λ i. i < length participants.now) }
 {
-    for (i, participant) in participants.iter().enumerate() {
-        if participant.identity == id {
-            return Some(i);
+    let mut at = start;
+    while at < participants.len() {
+        if !is_other(participants, at, id) {
+            return Some(at);
         }
+        at += 1;
     }
     None
+}
+
+/// Where the participant of an identity stands. It looks at four a turn.
+pub fn find<P>(participants: &[Participant<P>], id: u64) -> Option<usize>
+    ensures answer { result ≡ index_of id participants.now }
+    ensures inside { IfSome result (λ i. i < length participants.now) }
+{
+    let mut at = 0;
+    while at + 4 <= participants.len() {
+        if !is_other(participants, at, id) {
+            return Some(at);
+        }
+        if !is_other(participants, at + 1, id) {
+            return Some(at + 1);
+        }
+        if !is_other(participants, at + 2, id) {
+            return Some(at + 2);
+        }
+        if !is_other(participants, at + 3, id) {
+            return Some(at + 3);
+        }
+        at += 4;
+    }
+    find_from(participants, at, id)
 }
 
 impl<

@@ -1,7 +1,10 @@
-use Rattle.std.proofs.Common.{◌≡◌, ◌+◌, drop}
+use Rattle.std.proofs.Common.{◌≡◌, ◌+◌, ◌-◌, ◌≤◌, drop, length}
 use Rattle.std.specs.Prelude.{option_map}
 use Rattle.step_memory.specs.Participant.{index_of}
 use Rattle.step_memory.proofs.world.find.Given as goal
 
-abbrev pub invariant-loop-i : goal.invariant-loop-i
-invariant-loop-i g l = index_of l.id l.participants ≡ option_map (λ k. l.i + k) (index_of l.id (drop l.i l.participants))
+abbrev pub invariant-loop-at : goal.invariant-loop-at
+invariant-loop-at g l = (l.at ≤ length l.participants) × (index_of l.id l.participants ≡ option_map (λ k. l.at + k) (index_of l.id (drop l.at l.participants)))
+
+abbrev pub decreases-loop-at : goal.decreases-loop-at
+decreases-loop-at g l = length l.participants - l.at
