@@ -82,16 +82,3 @@ pub use record::check;
 pub use reply_text::read_reply;
 pub use told::Told;
 pub use verdict::Verdict;
-
-#[cfg(test)]
-mod migrating_tests;
-#[cfg(test)]
-mod record_tests;
-#[cfg(test)]
-mod recording_tests;
-#[cfg(test)]
-mod tests;
-#[cfg(test)]
-mod version_tests;
-#[cfg(test)]
-mod worked_runs_tests;

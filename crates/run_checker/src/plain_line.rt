@@ -68,30 +68,3 @@ pub fn plain_texts(bytes: &[u8]) -> Option<LineTexts<'_>>
         view: Some(view),
     })
 }
-
-#[cfg(test)]
-mod tests {
-    use super::*;
-
-    #[test]
-    fn other_spellings_are_left(rt: HostRuntime) {
-        let line = b"{\"command\":\"step 7\",\"reply\":\"named 1\",\"view\":\"7:1\"}".as_slice();
-        let Some(texts) = plain_texts(line) else {
-            panic!(rt; "a line with a view is not read");
-        };
-        assert_eq!(rt; texts.command, b"step 7".as_slice());
-        assert_eq!(rt; texts.reply, b"named 1".as_slice());
-        assert_eq!(rt; texts.view, Some(b"7:1".as_slice()));
-        for other in [
-            b"{\"command\":\"step 7\", \"reply\":\"quiet\"}".as_slice(),
-            b"{\"command\":\"st\\u0065p 7\",\"reply\":\"quiet\"}".as_slice(),
-            b"{\"reply\":\"quiet\",\"command\":\"step 7\"}".as_slice(),
-            b"{\"command\":\"step 7\",\"reply\":\"quiet\"}\r".as_slice(),
-            b"{\"command\":\"step 7\",\"reply\":\"quiet\",\"view\":7}".as_slice(),
-            b"{\"command\":\"step 7\",\"reply\":\"quiet".as_slice(),
-            b"".as_slice(),
-        ] {
-            assert!(rt; plain_texts(other).is_none());
-        }
-    }
-}

@@ -37,5 +37,3 @@ pub mod Stands
 pub mod Played
 pub mod Recorded
 pub mod IsRun
-pub mod Toys
-pub mod ToyProofs

@@ -34,8 +34,6 @@ pub mod events;
 pub mod fault;
 pub mod form;
 mod grid_world;
-#[cfg(test)]
-mod growth_tests;
 pub mod laws;
 pub mod line_buffer;
 mod outcomes;
@@ -44,8 +42,6 @@ pub mod player;
 pub mod playing;
 pub mod print;
 mod quick;
-#[cfg(test)]
-mod record_tests;
 pub mod recording;
 pub mod replies;
 pub mod service;
@@ -53,14 +49,8 @@ pub mod sink;
 pub mod source;
 mod splitter_world;
 pub mod summary;
-#[cfg(test)]
-mod tests;
-#[cfg(test)]
-mod toys;
 pub mod tried;
 pub mod world;
-#[cfg(test)]
-mod worlds_tests;
 
 pub use as_record::{AsRecord, HEADER_ROOM, print_header};
 pub use as_replies::AsReplies;

@@ -1,6 +1,6 @@
 //! Records of both versions: which lines have a view, and which views a name may be given by.
 
-use crate::{Reason, Verdict, check};
+use run_checker::{Reason, Verdict, check};
 use std::alloc::{AllocError, Global};
 use std::test::Fail;
 

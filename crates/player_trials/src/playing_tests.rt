@@ -5,11 +5,11 @@ ghost use Rattle.schedule_player.specs.Requests.Request.{Take};
 
 use crate::toys::{Coin, Shelf};
 use crate::worlds_tests::{ROWS, spelled};
-use crate::{
+use desk::Desk;
+use schedule_player::{
     Config, Event, Fault, MOST_READS, READ_BYTES, Reply, Service, Summary, Tried, World, WorldKind,
     law_of_growths, law_of_lines, law_of_play, law_of_world, play, play_in, play_on,
 };
-use desk::Desk;
 use splitter::SplitterWorld;
 use splitter_grid::GridWorld;
 use std::alloc::{Allocator, Global};

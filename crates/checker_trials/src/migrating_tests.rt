@@ -1,6 +1,6 @@
 //! Records that are written again.
 
-use crate::{Reason, Verdict, check, migrate};
+use run_checker::{Reason, Verdict, check, migrate};
 use schedule_player::{Fault, Tried};
 use std::alloc::{AllocError, Global};
 use std::process::Abort;

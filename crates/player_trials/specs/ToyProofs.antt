@@ -9,7 +9,7 @@ use Rattle.schedule_player.specs.Requests.{Request}
 use Rattle.schedule_player.specs.Requests.Request.{Take, OwnerOf}
 use Rattle.schedule_player.specs.Runs.{Runs}
 use Rattle.schedule_player.specs.RunProofs.{runs-cut}
-use Rattle.schedule_player.specs.Toys.{ShelfMay, IsShelfRun, IsSide}
+use Rattle.player_trials.specs.Toys.{ShelfMay, IsShelfRun, IsSide}
 use Rattle.schedule_player.specs.Turns.{Turn, exchanges}
 use Rattle.schedule_player.specs.Turns.Turn.{Answered, Told, Ended, Misread}
 use Rattle.schedule_player.specs.Visits.{knows_visits}

@@ -1,7 +1,7 @@
 //! Records of worked runs, as `record` writes them.
 
-use crate::{Verdict, check, migrate};
 use rename_core::{Config, WorldKind};
+use run_checker::{Verdict, check, migrate};
 use schedule_player::{Tried, record};
 use std::alloc::Global;
 use std::test::Fail;

@@ -1,4 +1,4 @@
-use crate::{Reason, Verdict, check};
+use run_checker::{Reason, Verdict, check};
 use std::alloc::{AllocError, Global};
 use std::process::Abort;
 use std::test::Fail;

@@ -1,9 +1,9 @@
-use crate::{
-    Line, Pairs, Reason, Told, first_fault, law_of_desk_runs, law_of_reasons, law_of_records,
-};
 use desk::Event;
 use desk::Event::{Begin, Enter, Get, Leave, Probe, Put, Step, Widen};
 use rename_core::{Config, WorldKind};
+use run_checker::{
+    Line, Pairs, Reason, Told, first_fault, law_of_desk_runs, law_of_reasons, law_of_records,
+};
 use std::alloc::{AllocError, Global};
 use std::process::Abort;
 use std::test::Fail;

@@ -1,9 +1,9 @@
 //! Runs in which one growth is refused, each in turn.
 
+use crate::playing_tests::{Played, run_of};
 use crate::record_tests::{record_text, recorded};
-use crate::tests::{Played, run_of};
 use crate::worlds_tests::{ROWS, Row, spelled};
-use crate::{Config, Fault, WorldKind};
+use schedule_player::{Config, Fault, WorldKind};
 use std::alloc::Global;
 use std::process::Abort;
 use std::test::Fail;

@@ -4,8 +4,8 @@ ghost use Rattle.std.specs.Prelude.{◌≡◌, ◌≤◌, ◌⊎◌, true, IfOk}
 ghost use Rattle.desk.specs.Desk.{gives_names};
 ghost use Rattle.run_checker.specs.Recorded.{events_in};
 
-use crate::{Verdict, check, law_of_recording};
 use rename_core::{Config, WorldKind};
+use run_checker::{Verdict, check, law_of_recording};
 use schedule_player::{Fault, Tried, record};
 use std::alloc::Global;
 use std::test::Fail;

@@ -1,7 +1,7 @@
 //! Runs of renaming, over a grid's places and a tree's, with a pool and slots.
 
-use crate::tests::run_of;
-use crate::{Config, READ_BYTES, WorldKind};
+use crate::playing_tests::run_of;
+use schedule_player::{Config, READ_BYTES, WorldKind};
 use std::alloc::Global;
 use std::test::Fail;
 use test_doubles::{Cup, Drip};

@@ -1,8 +1,8 @@
 //! Records of runs.
 
-use crate::tests::{Played, what_is_left};
+use crate::playing_tests::{Played, what_is_left};
 use crate::worlds_tests::{ROWS, spelled};
-use crate::{Config, Fault, READ_BYTES, Tried, WorldKind, record};
+use schedule_player::{Config, Fault, READ_BYTES, Tried, WorldKind, record};
 use std::alloc::{Allocator, Global};
 use std::test::Fail;
 use test_doubles::{Cup, Drip};

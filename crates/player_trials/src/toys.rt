@@ -2,14 +2,13 @@
 
 ghost use Rattle.std.specs.Prelude.{ℕ, true, ◌≡◌};
 ghost use Rattle.schedule_player.specs.Kinds.{is_splitter, splitter_meant};
-ghost use Rattle.schedule_player.specs.Toys.{ShelfMay, IsShelfRun, IsSide};
-ghost use Rattle.schedule_player.specs.ToyProofs.{shelf_answers, shelf_lawful, shelf_tells, one_shelf_fresh, one_shelf_reply, coin_answers};
+ghost use Rattle.player_trials.specs.Toys.{ShelfMay, IsShelfRun, IsSide};
+ghost use Rattle.player_trials.specs.ToyProofs.{shelf_answers, shelf_lawful, shelf_tells, one_shelf_fresh, one_shelf_reply, coin_answers};
 ghost use Rattle.schedule_player.specs.Visits.{knows_visits};
 
-use crate::service::Service;
-use crate::world::World;
 use desk::{Event, Reply, ShortReply};
 use rename_core::Config;
+use schedule_player::{Service, World};
 use std::marker::Model;
 use step_memory::{Refusal, View};
 

@@ -1,0 +1,2 @@
+pub mod Toys
+pub mod ToyProofs

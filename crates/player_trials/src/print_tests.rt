@@ -1,0 +1,78 @@
+//! The texts of replies and of bad lines.
+
+use desk::{Reply, ShortReply};
+use schedule_player::{Bad, REPLY_ROOM, Replies, print_bad, print_reply};
+use std::test::Fail;
+use step_memory::{Refusal, View};
+
+#[test]
+fn replies_have_their_texts(rt: HostRuntime) -> Result<(), Fail> {
+    let mut view = View::new();
+    view.insert(u64::MAX, 3);
+    view.insert(1, 1);
+    for (reply, want) in [
+        (Reply::Ok, b"ok\n".as_slice()),
+        (Reply::Quiet, b"quiet\n"),
+        (Reply::Stop, b"stop\n"),
+        (Reply::Right, b"right\n"),
+        (Reply::Down, b"down\n"),
+        (Reply::Place(0), b"place 0\n"),
+        (
+            Reply::Place(u128::MAX),
+            b"place 340282366920938463463374607431768211455\n",
+        ),
+        (
+            Reply::Proposed(u64::MAX),
+            b"proposed 18446744073709551615\n",
+        ),
+        (Reply::Saw(view), b"saw 1:1 18446744073709551615:3\n"),
+        (Reply::Named(3, view), b"named 3\n"),
+        (Reply::Spent, b"spent\n"),
+        (Reply::Missed, b"missed\n"),
+        (Reply::Got(64), b"got 64\n"),
+        (Reply::Left(1), b"left 1\n"),
+        (Reply::Value(0), b"value 0\n"),
+        (Reply::Owner(None), b"owner none\n"),
+        (Reply::Owner(Some(7)), b"owner 7\n"),
+        (Reply::Refused(Refusal::ZeroIdentity), b"refused 1\n"),
+        (Reply::Refused(Refusal::NoMemory), b"refused 12\n"),
+        (Reply::Refused(Refusal::OutOfRange), b"refused 14\n"),
+    ] {
+        let mut out = Replies::new(rt.alloc())?;
+        let mut beside = View::new();
+        let short = reply.shorten(&mut beside);
+        print_reply(short, &beside, &mut out);
+        assert_eq!(rt; out.as_slice(), want);
+    }
+    Ok(())
+}
+
+#[test]
+fn bad_lines_have_their_texts(rt: HostRuntime) -> Result<(), Fail> {
+    for (bad, want) in [
+        (Bad::TooLong, b"bad 1\n".as_slice()),
+        (Bad::NotPrintable, b"bad 2\n"),
+        (Bad::UnknownWord, b"bad 3\n"),
+        (Bad::WrongCount, b"bad 4\n"),
+        (Bad::BadNumber, b"bad 5\n"),
+    ] {
+        let mut out = Replies::new(rt.alloc())?;
+        print_bad(bad, &mut out);
+        assert_eq!(rt; out.as_slice(), want);
+    }
+    Ok(())
+}
+
+#[test]
+fn the_longest_reply_has_its_room(rt: HostRuntime) -> Result<(), Fail> {
+    let mut view = View::new();
+    for i in 0..64 {
+        if !view.is_full() {
+            view.insert(u64::MAX - i, u64::MAX);
+        }
+    }
+    let mut out = Replies::new(rt.alloc())?;
+    print_reply(ShortReply::Saw, &view, &mut out);
+    assert_eq!(rt; out.len(), REPLY_ROOM);
+    Ok(())
+}
