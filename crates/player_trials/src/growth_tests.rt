@@ -4,7 +4,7 @@ use crate::playing_tests::{Played, run_of};
 use crate::record_tests::{record_text, recorded};
 use crate::worlds_tests::{ROWS, Row, spelled};
 use schedule_player::{Config, Fault, WorldKind};
-use std::alloc::Global;
+use std::alloc::{AllocError, Global};
 use std::process::Abort;
 use std::test::Fail;
 use test_doubles::{Cup, Drip, Refusing};
@@ -89,7 +89,7 @@ fn with_line(
     lines: &[u8],
     number: usize,
     more: Option<&[u8]>,
-) -> Result<Vec<u8>, Fail> {
+) -> Result<Vec<u8>, AllocError> {
     let mut all = Vec::new(alloc);
     for (at, line) in lines.split(|byte| *byte == b'\n').enumerate() {
         if line.is_empty() {

@@ -69,29 +69,27 @@ const LINES_TEXT: &[u8] =
     b"bad 3\nbad 3\nbad 1\nbad 4\nbad 5\nbad 3\nbad 4\nbad 5\nbad 2\nrefused 4\n";
 
 /// Inputs and the texts that they are answered by, with two participants.
-fn rows() -> [(&'static [u8], &'static [u8]); 6] {
-    [
-        (b"", b""),
-        (
-            b"begin 10\nstep 10\nstep 10\nstep 10\nstep 10\nbegin 20\nstep 20\nstep 20\nstep 20\n",
-            b"ok\nquiet\nquiet\nquiet\nstop\nok\nquiet\nright\nrefused 5\n",
-        ),
-        (
-            b"begin 10\nbegin 20\nstep 10\nstep 20\nstep 10\nstep 20\nstep 10\nstep 20\nstep 10\nstep 20\n",
-            b"ok\nok\nquiet\nquiet\nquiet\nquiet\nquiet\nquiet\ndown\nstop\n",
-        ),
-        (
-            b"enter 5\nstep 9\nbegin 0\nbegin 9\nquit\nbegin 8\n",
-            b"bad 3\nrefused 4\nrefused 1\nok\nok\n",
-        ),
-        (b"begin 7\nquit\nbegin 8", b"ok\nok\n"),
-        (LINES, LINES_TEXT),
-    ]
-}
+const INPUTS: [(&[u8], &[u8]); 6] = [
+    (b"", b""),
+    (
+        b"begin 10\nstep 10\nstep 10\nstep 10\nstep 10\nbegin 20\nstep 20\nstep 20\nstep 20\n",
+        b"ok\nquiet\nquiet\nquiet\nstop\nok\nquiet\nright\nrefused 5\n",
+    ),
+    (
+        b"begin 10\nbegin 20\nstep 10\nstep 20\nstep 10\nstep 20\nstep 10\nstep 20\nstep 10\nstep 20\n",
+        b"ok\nok\nquiet\nquiet\nquiet\nquiet\nquiet\nquiet\ndown\nstop\n",
+    ),
+    (
+        b"enter 5\nstep 9\nbegin 0\nbegin 9\nquit\nbegin 8\n",
+        b"bad 3\nrefused 4\nrefused 1\nok\nok\n",
+    ),
+    (b"begin 7\nquit\nbegin 8", b"ok\nok\n"),
+    (LINES, LINES_TEXT),
+];
 
 #[test]
 fn the_text_is_the_same_however_the_bytes_are_cut(rt: HostRuntime) -> Result<(), Fail> {
-    for (input, text) in rows() {
+    for (input, text) in INPUTS {
         for piece in [1, 3, READ_BYTES] {
             let p = play_by(
                 rt.alloc(),
@@ -115,7 +113,7 @@ fn the_summary_counts_each_line(rt: HostRuntime) -> Result<(), Fail> {
         (2, 2, 0, 0),
         (10, 0, 1, 9),
     ];
-    for ((input, _), (lines, accepted, refused, bad)) in rows().into_iter().zip(counts) {
+    for ((input, _), (lines, accepted, refused, bad)) in INPUTS.into_iter().zip(counts) {
         let p = play_by(
             rt.alloc(),
             Drip::new(input, 7, 0),
@@ -202,24 +200,17 @@ fn writes_fail_in_turn(rt: &impl Abort, alloc: Global, config: Config, input: &[
 fn each_read_and_each_write_fails_once(rt: HostRuntime) -> Result<(), Fail> {
     let alloc = rt.alloc();
     let splitter = Config::new(WorldKind::Splitter, 2, 4, 1000)?;
-    for (input, text) in rows() {
+    for (input, text) in INPUTS {
         reads_fail_in_turn(&rt, alloc, splitter, input, text);
         writes_fail_in_turn(&rt, alloc, splitter, input, text);
     }
     let rename = Config::new(WorldKind::Rename, 2, 4, 1000)?;
-    for (input, text) in [
-        (
-            spelled(alloc, ROWS[2].asked)?,
-            spelled(alloc, ROWS[2].said)?,
-        ),
-        (
-            Vec::from_slice(alloc, LINES)?,
-            Vec::from_slice(alloc, LINES_TEXT)?,
-        ),
-    ] {
-        reads_fail_in_turn(&rt, alloc, rename, &input, &text);
-        writes_fail_in_turn(&rt, alloc, rename, &input, &text);
-    }
+    reads_fail_in_turn(&rt, alloc, rename, LINES, LINES_TEXT);
+    writes_fail_in_turn(&rt, alloc, rename, LINES, LINES_TEXT);
+    let asked = spelled(alloc, ROWS[2].asked)?;
+    let said = spelled(alloc, ROWS[2].said)?;
+    reads_fail_in_turn(&rt, alloc, rename, &asked, &said);
+    writes_fail_in_turn(&rt, alloc, rename, &asked, &said);
     Ok(())
 }
 
@@ -262,24 +253,22 @@ fn a_line_of_a_million_bytes_is_bad(rt: HostRuntime) -> Result<(), Fail> {
 }
 
 /// Inputs in a grid for two participants, and the texts that they are answered by.
-fn grid_rows() -> [(u64, &'static [u8], &'static [u8]); 2] {
-    [
-        (
-            3,
-            b"begin 10\nbegin 20\nbegin 30\nstep 10\nstep 10\nstep 10\nstep 10\nstep 20\nstep 20\nstep 20\nstep 20\nstep 20\nstep 20\nstep 30\nstep 30\nstep 30\nstep 30\nstep 30\nstep 30\nstep 30\nstep 30\nstep 30\n",
-            b"ok\nok\nok\nquiet\nquiet\nquiet\nplace 0\nquiet\nquiet\nquiet\nquiet\nquiet\nplace 1\nquiet\nquiet\nquiet\nquiet\nquiet\nquiet\nquiet\nplace 3\nrefused 5\n",
-        ),
-        (
-            2,
-            b"begin 10\nbegin 20\nstep 10\nstep 10\nstep 10\nstep 20\nstep 20\nstep 20\nstep 20\nstep 20\nstep 20\nstep 10\nstep 10\nstep 10\nstep 10\nstep 10\n",
-            b"ok\nok\nquiet\nquiet\nquiet\nquiet\nquiet\nquiet\nquiet\nquiet\nplace 1\nquiet\nquiet\nquiet\nquiet\nplace 2\n",
-        ),
-    ]
-}
+const GRID_INPUTS: [(u64, &[u8], &[u8]); 2] = [
+    (
+        3,
+        b"begin 10\nbegin 20\nbegin 30\nstep 10\nstep 10\nstep 10\nstep 10\nstep 20\nstep 20\nstep 20\nstep 20\nstep 20\nstep 20\nstep 30\nstep 30\nstep 30\nstep 30\nstep 30\nstep 30\nstep 30\nstep 30\nstep 30\n",
+        b"ok\nok\nok\nquiet\nquiet\nquiet\nplace 0\nquiet\nquiet\nquiet\nquiet\nquiet\nplace 1\nquiet\nquiet\nquiet\nquiet\nquiet\nquiet\nquiet\nplace 3\nrefused 5\n",
+    ),
+    (
+        2,
+        b"begin 10\nbegin 20\nstep 10\nstep 10\nstep 10\nstep 20\nstep 20\nstep 20\nstep 20\nstep 20\nstep 20\nstep 10\nstep 10\nstep 10\nstep 10\nstep 10\n",
+        b"ok\nok\nquiet\nquiet\nquiet\nquiet\nquiet\nquiet\nquiet\nquiet\nplace 1\nquiet\nquiet\nquiet\nquiet\nplace 2\n",
+    ),
+];
 
 #[test]
 fn walks_in_a_grid_end_at_places(rt: HostRuntime) -> Result<(), Fail> {
-    for (m, input, text) in grid_rows() {
+    for (m, input, text) in GRID_INPUTS {
         for piece in [1, READ_BYTES] {
             let p = run_of(
                 Config::new(WorldKind::Grid, m, 4, 1000)?,

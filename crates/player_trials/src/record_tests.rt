@@ -3,7 +3,7 @@
 use crate::playing_tests::{Played, what_is_left};
 use crate::worlds_tests::{ROWS, spelled};
 use schedule_player::{Config, Fault, READ_BYTES, Tried, WorldKind, record};
-use std::alloc::{Allocator, Global};
+use std::alloc::{AllocError, Allocator, Global};
 use std::test::Fail;
 use test_doubles::{Cup, Drip};
 
@@ -29,7 +29,7 @@ fn put_line(
     event: &[u8],
     reply: &[u8],
     view: Option<&[u8]>,
-) -> Result<(), Fail> {
+) -> Result<(), AllocError> {
     for piece in [
         b"{\"command\":\"".as_slice(),
         event,
