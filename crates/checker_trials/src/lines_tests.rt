@@ -1,10 +1,13 @@
+//! Lines that were read already, judged one after another.
+
 use desk::Event;
-use desk::Event::{Begin, Enter, Get, Leave, Probe, Put, Step, Widen};
 use rename_core::{Config, WorldKind};
 use run_checker::{
     Line, Pairs, Reason, Told, first_fault, law_of_desk_runs, law_of_reasons, law_of_records,
+    read_reply,
 };
-use std::alloc::{AllocError, Global};
+use schedule_player::{Command, parse_line};
+use std::alloc::AllocError;
 use std::process::Abort;
 use std::test::Fail;
 
@@ -13,51 +16,66 @@ fn small(world: WorldKind) -> Result<Config, Fail> {
     Ok(Config::new(world, 2, 3, 2)?)
 }
 
-/// A view.
-fn saw(alloc: Global, pairs: &[(u64, u64)]) -> Result<Told, AllocError> {
-    let mut view = Pairs::new(alloc);
-    for (id, number) in pairs {
-        view.push(*id, *number)?;
-    }
-    Ok(Told::Saw(view))
+/// The line of a command and a reply.
+fn line<R: Abort + AllocGlobal>(rt: &R, command: &str, reply: &str) -> Result<Line, AllocError> {
+    let Ok(Command::Event(event)) = parse_line(command.as_bytes(), WorldKind::Rename) else {
+        panic!(rt; "{command}");
+    };
+    let Some(told) = read_reply(rt.alloc(), reply.as_bytes())? else {
+        panic!(rt; "{reply}");
+    };
+    Ok(Line { event, told })
 }
 
-/// Judges lines, and compares the first fault.
-fn judge<R: Abort + AllocGlobal, const N: usize>(
+/// The lines of a text, each a command and a reply with a colon between them.
+fn lines<R: Abort + AllocGlobal>(rt: &R, text: &str) -> Result<Vec<Line>, AllocError> {
+    let mut lines = Vec::new(rt.alloc());
+    for piece in text.split(", ") {
+        let Some((command, reply)) = piece.split_once(':') else {
+            panic!(rt; "{piece}");
+        };
+        lines.push(line(rt, command, reply)?)?;
+    }
+    Ok(lines)
+}
+
+/// Judges the lines of a text and a last one, and compares the first fault.
+fn judge_line<R: Abort + AllocGlobal>(
     rt: &R,
     config: Config,
-    rows: [(Event, Told); N],
+    before: &str,
+    last: Line,
     fault: Option<(usize, Reason)>,
-) -> Result<(), Fail> {
-    let mut lines = Vec::new(rt.alloc());
-    for (event, told) in Vec::from_array(rt.alloc(), rows)? {
-        lines.push(Line { event, told })?;
-    }
+) -> Result<(), AllocError> {
+    let mut lines = lines(rt, before)?;
+    lines.push(last)?;
     assert!(rt; lines.len() <= 1_000_000);
     let found = first_fault(rt.alloc(), config, &lines)?;
     assert!(rt; found == fault, "{found:?} for {lines:?}");
     Ok(())
 }
 
+/// As `judge_line`, with the last line's words.
+fn judge<R: Abort + AllocGlobal>(
+    rt: &R,
+    config: Config,
+    before: &str,
+    last: (&str, &str),
+    fault: Option<(usize, Reason)>,
+) -> Result<(), AllocError> {
+    judge_line(rt, config, before, line(rt, last.0, last.1)?, fault)
+}
+
 /// A name that is another's.
 #[test]
 fn a_small_record(rt: HostRuntime) -> Result<(), Fail> {
     let config = Config::new(WorldKind::Rename, 2, 4, 1000)?;
-    for (told, fault) in [
-        (Told::Named(1, None), Some((5, Reason::Name))),
-        (Told::Quiet, None),
-    ] {
+    for (said, fault) in [("named 1", Some((5, Reason::Name))), ("quiet", None)] {
         judge(
             &rt,
             config,
-            [
-                (Begin(10), Told::Ok),
-                (Begin(20), Told::Ok),
-                (Step(10), Told::Proposed(1)),
-                (Step(10), Told::Named(1, None)),
-                (Step(20), Told::Proposed(1)),
-                (Step(20), told),
-            ],
+            "begin 10:ok, begin 20:ok, step 10:proposed 1, step 10:named 1, step 20:proposed 1",
+            ("step 20", said),
             fault,
         )?;
     }
@@ -68,15 +86,15 @@ fn a_small_record(rt: HostRuntime) -> Result<(), Fail> {
 #[test]
 fn a_high_proposal(rt: HostRuntime) -> Result<(), Fail> {
     let config = Config::new(WorldKind::Rename, 2, 4, 1000)?;
-    for (number, fault) in [(4, Some((2, Reason::Proposal))), (3, None)] {
+    for (said, fault) in [
+        ("proposed 4", Some((2, Reason::Proposal))),
+        ("proposed 3", None),
+    ] {
         judge(
             &rt,
             config,
-            [
-                (Begin(10), Told::Ok),
-                (Begin(20), Told::Ok),
-                (Step(10), Told::Proposed(number)),
-            ],
+            "begin 10:ok, begin 20:ok",
+            ("step 10", said),
             fault,
         )?;
     }
@@ -87,20 +105,15 @@ fn a_high_proposal(rt: HostRuntime) -> Result<(), Fail> {
 #[test]
 fn a_view_from_before(rt: HostRuntime) -> Result<(), Fail> {
     let config = Config::new(WorldKind::Rename, 2, 4, 1000)?;
-    for (view, fault) in [
-        (saw(rt.alloc(), &[(20, 1)])?, Some((4, Reason::View))),
-        (saw(rt.alloc(), &[(10, 1), (20, 1)])?, None),
+    for (said, fault) in [
+        ("saw 20:1", Some((4, Reason::View))),
+        ("saw 10:1 20:1", None),
     ] {
         judge(
             &rt,
             config,
-            [
-                (Begin(10), Told::Ok),
-                (Begin(20), Told::Ok),
-                (Step(20), Told::Proposed(1)),
-                (Step(10), Told::Proposed(1)),
-                (Step(10), view),
-            ],
+            "begin 10:ok, begin 20:ok, step 20:proposed 1, step 10:proposed 1",
+            ("step 10", said),
             fault,
         )?;
     }
@@ -111,68 +124,60 @@ fn a_view_from_before(rt: HostRuntime) -> Result<(), Fail> {
 #[test]
 fn who_has_begun(rt: HostRuntime) -> Result<(), Fail> {
     let config = small(WorldKind::Rename)?;
-    for (refused, second, fault) in [
-        (Told::Refused(1), Told::Proposed(1), None),
+    for (before, command, said, fault) in [
         (
-            Told::Refused(1),
-            Told::Proposed(2),
+            "begin 10:ok, begin 0:refused 1",
+            "step 10",
+            "proposed 1",
+            None,
+        ),
+        (
+            "begin 10:ok, begin 0:refused 1",
+            "step 10",
+            "proposed 2",
             Some((2, Reason::Proposal)),
         ),
         (
-            Told::Refused(2),
-            Told::Proposed(1),
+            "begin 10:ok, begin 0:refused 2",
+            "step 10",
+            "proposed 1",
             Some((1, Reason::Refusal)),
         ),
+        (
+            "begin 10:ok, begin 10:refused 2, begin 20:ok, begin 30:refused 3, step 30:refused 4",
+            "begin 30",
+            "ok",
+            Some((5, Reason::Refusal)),
+        ),
     ] {
-        judge(
-            &rt,
-            config,
-            [
-                (Begin(10), Told::Ok),
-                (Begin(0), refused),
-                (Step(10), second),
-            ],
-            fault,
-        )?;
+        judge(&rt, config, before, (command, said), fault)?;
     }
-    judge(
-        &rt,
-        config,
-        [
-            (Begin(10), Told::Ok),
-            (Begin(10), Told::Refused(2)),
-            (Begin(20), Told::Ok),
-            (Begin(30), Told::Refused(3)),
-            (Step(30), Told::Refused(4)),
-            (Begin(30), Told::Ok),
-        ],
-        Some((5, Reason::Refusal)),
-    )
+    Ok(())
 }
 
 /// Replies of other commands, and refusals that are not due.
 #[test]
 fn replies_and_refusals(rt: HostRuntime) -> Result<(), Fail> {
     let config = small(WorldKind::Rename)?;
-    for (told, fault) in [
-        (Told::Quiet, None),
-        (Told::Ok, Some((1, Reason::Reply))),
-        (Told::Stop, Some((1, Reason::Reply))),
-        (Told::Right, Some((1, Reason::Reply))),
-        (Told::Down, Some((1, Reason::Reply))),
-        (Told::Owner(None), Some((1, Reason::Reply))),
-        (Told::Owner(Some(10)), Some((1, Reason::Reply))),
-        (Told::Missed, Some((1, Reason::Reply))),
-        (Told::Got(1), Some((1, Reason::Reply))),
-        (Told::Left(1), Some((1, Reason::Reply))),
-        (Told::Value(0), Some((1, Reason::Reply))),
-        (Told::Refused(0), Some((1, Reason::Refusal))),
-        (Told::Refused(5), Some((1, Reason::Refusal))),
-        (Told::Refused(12), Some((1, Reason::Refusal))),
-        (Told::Refused(13), Some((1, Reason::Refusal))),
-        (Told::Refused(u64::MAX), Some((1, Reason::Refusal))),
+    for (said, fault) in [
+        ("quiet", None),
+        ("ok", Some((1, Reason::Reply))),
+        ("stop", Some((1, Reason::Reply))),
+        ("right", Some((1, Reason::Reply))),
+        ("down", Some((1, Reason::Reply))),
+        ("owner none", Some((1, Reason::Reply))),
+        ("owner 10", Some((1, Reason::Reply))),
+        ("missed", Some((1, Reason::Reply))),
+        ("got 1", Some((1, Reason::Reply))),
+        ("left 1", Some((1, Reason::Reply))),
+        ("value 0", Some((1, Reason::Reply))),
+        ("refused 0", Some((1, Reason::Refusal))),
+        ("refused 5", Some((1, Reason::Refusal))),
+        ("refused 12", Some((1, Reason::Refusal))),
+        ("refused 13", Some((1, Reason::Refusal))),
+        ("refused 18446744073709551615", Some((1, Reason::Refusal))),
     ] {
-        judge(&rt, config, [(Begin(7), Told::Ok), (Step(7), told)], fault)?;
+        judge(&rt, config, "begin 7:ok", ("step 7", said), fault)?;
     }
     Ok(())
 }
@@ -181,18 +186,13 @@ fn replies_and_refusals(rt: HostRuntime) -> Result<(), Fail> {
 #[test]
 fn wants_of_memory(rt: HostRuntime) -> Result<(), Fail> {
     let tree = small(WorldKind::Tree)?;
-    for (event, fault) in [
-        (Step(7), None),
-        (Begin(8), Some((1, Reason::Refusal))),
-        (Step(8), Some((1, Reason::Refusal))),
-        (Enter(7), Some((1, Reason::Refusal))),
+    for (command, fault) in [
+        ("step 7", None),
+        ("begin 8", Some((1, Reason::Refusal))),
+        ("step 8", Some((1, Reason::Refusal))),
+        ("enter 7", Some((1, Reason::Refusal))),
     ] {
-        judge(
-            &rt,
-            tree,
-            [(Begin(7), Told::Ok), (event, Told::Refused(12))],
-            fault,
-        )?;
+        judge(&rt, tree, "begin 7:ok", (command, "refused 12"), fault)?;
     }
     Ok(())
 }
@@ -201,21 +201,21 @@ fn wants_of_memory(rt: HostRuntime) -> Result<(), Fail> {
 #[test]
 fn places(rt: HostRuntime) -> Result<(), Fail> {
     let config = small(WorldKind::Rename)?;
-    for (event, place, fault) in [
-        (Step(20), 1, None),
-        (Step(20), u128::MAX, None),
-        (Step(20), 0, Some((3, Reason::Place))),
-        (Step(10), 1, Some((3, Reason::Place))),
+    for (command, said, fault) in [
+        ("step 20", "place 1", None),
+        (
+            "step 20",
+            "place 340282366920938463463374607431768211455",
+            None,
+        ),
+        ("step 20", "place 0", Some((3, Reason::Place))),
+        ("step 10", "place 1", Some((3, Reason::Place))),
     ] {
         judge(
             &rt,
             config,
-            [
-                (Begin(10), Told::Ok),
-                (Begin(20), Told::Ok),
-                (Step(10), Told::Place(0)),
-                (event, Told::Place(place)),
-            ],
+            "begin 10:ok, begin 20:ok, step 10:place 0",
+            (command, said),
             fault,
         )?;
     }
@@ -226,34 +226,26 @@ fn places(rt: HostRuntime) -> Result<(), Fail> {
 #[test]
 fn proposals(rt: HostRuntime) -> Result<(), Fail> {
     let config = small(WorldKind::Rename)?;
-    for (told, fault) in [
-        (Told::Proposed(1), None),
-        (Told::Proposed(0), Some((1, Reason::Proposal))),
-        (Told::Proposed(2), Some((1, Reason::Proposal))),
-        (Told::Proposed(u64::MAX), Some((1, Reason::Proposal))),
-        (Told::Spent, Some((1, Reason::Proposal))),
-        (saw(rt.alloc(), &[(7, 1)])?, Some((1, Reason::Proposal))),
-        (Told::Named(1, None), Some((1, Reason::Name))),
+    let first = "begin 7:ok";
+    let third = "begin 7:ok, step 7:proposed 1, step 7:proposed 1";
+    for (before, said, fault) in [
+        (first, "proposed 1", None),
+        (first, "proposed 0", Some((1, Reason::Proposal))),
+        (first, "proposed 2", Some((1, Reason::Proposal))),
+        (
+            first,
+            "proposed 18446744073709551615",
+            Some((1, Reason::Proposal)),
+        ),
+        (first, "spent", Some((1, Reason::Proposal))),
+        (first, "saw 7:1", Some((1, Reason::Proposal))),
+        (first, "named 1", Some((1, Reason::Name))),
+        (third, "spent", Some((3, Reason::View))),
+        (third, "proposed 1", Some((3, Reason::Proposal))),
+        (third, "saw 7:1", Some((3, Reason::Proposal))),
+        (third, "named 1", None),
     ] {
-        judge(&rt, config, [(Begin(7), Told::Ok), (Step(7), told)], fault)?;
-    }
-    for (told, fault) in [
-        (Told::Spent, Some((3, Reason::View))),
-        (Told::Proposed(1), Some((3, Reason::Proposal))),
-        (saw(rt.alloc(), &[(7, 1)])?, Some((3, Reason::Proposal))),
-        (Told::Named(1, None), None),
-    ] {
-        judge(
-            &rt,
-            config,
-            [
-                (Begin(7), Told::Ok),
-                (Step(7), Told::Proposed(1)),
-                (Step(7), Told::Proposed(1)),
-                (Step(7), told),
-            ],
-            fault,
-        )?;
+        judge(&rt, config, before, ("step 7", said), fault)?;
     }
     Ok(())
 }
@@ -261,73 +253,63 @@ fn proposals(rt: HostRuntime) -> Result<(), Fail> {
 /// Judges a view of 10, after each of two has proposed 2 and 1 in the other order.
 fn judge_view<R: Abort + AllocGlobal>(
     rt: &R,
-    told: Told,
+    view: Pairs,
     fault: Option<(usize, Reason)>,
 ) -> Result<(), Fail> {
-    judge(
-        rt,
-        Config::new(WorldKind::Tree, 3, 3, 3)?,
-        [
-            (Begin(10), Told::Ok),
-            (Begin(20), Told::Ok),
-            (Begin(30), Told::Ok),
-            (Step(10), Told::Proposed(2)),
-            (Step(20), Told::Proposed(1)),
-            (Step(10), Told::Proposed(1)),
-            (Step(20), Told::Proposed(2)),
-            (Step(10), told),
-        ],
-        fault,
-    )
+    let config = Config::new(WorldKind::Tree, 3, 3, 3)?;
+    let last = Line {
+        event: Event::Step(10),
+        told: Told::Saw(view),
+    };
+    let before =
+        "begin 10:ok, begin 20:ok, begin 30:ok, step 10:proposed 2, step 20:proposed 1, step 10:proposed 1, \
+        step 20:proposed 2";
+    Ok(judge_line(rt, config, before, last, fault)?)
 }
 
 /// Views are moments since the last proposal, in which another proposes the same.
 #[test]
 fn views(rt: HostRuntime) -> Result<(), Fail> {
-    let alloc = rt.alloc();
-    judge_view(&rt, saw(alloc, &[(10, 1), (20, 1)])?, None)?;
-    for view in [
-        saw(alloc, &[(10, 1)])?,
-        saw(alloc, &[(20, 1)])?,
-        saw(alloc, &[(10, 1), (20, 2)])?,
-        saw(alloc, &[(20, 1), (10, 1)])?,
-        saw(alloc, &[(10, 1), (10, 1)])?,
-        saw(alloc, &[(10, 2), (20, 1)])?,
-        saw(alloc, &[(10, 1), (40, 1)])?,
-        saw(alloc, &[(10, 1), (20, 257)])?,
-        saw(alloc, &[(10, 0), (20, 1)])?,
-        saw(alloc, &[])?,
+    for (pairs, fault) in [
+        ([(10, 1), (20, 1)].as_slice(), None),
+        (&[(10, 1)], Some((7, Reason::View))),
+        (&[(20, 1)], Some((7, Reason::View))),
+        (&[(10, 1), (20, 2)], Some((7, Reason::View))),
+        (&[(20, 1), (10, 1)], Some((7, Reason::View))),
+        (&[(10, 1), (10, 1)], Some((7, Reason::View))),
+        (&[(10, 2), (20, 1)], Some((7, Reason::View))),
+        (&[(10, 1), (40, 1)], Some((7, Reason::View))),
+        (&[(10, 1), (20, 257)], Some((7, Reason::View))),
+        (&[(10, 0), (20, 1)], Some((7, Reason::View))),
+        (&[], Some((7, Reason::View))),
     ] {
-        judge_view(&rt, view, Some((7, Reason::View)))?;
+        let mut view = Pairs::new(rt.alloc());
+        for (id, number) in pairs {
+            view.push(*id, *number)?;
+        }
+        judge_view(&rt, view, fault)?;
     }
-    let mut long = Pairs::new(alloc);
+    let mut long = Pairs::new(rt.alloc());
     for id in 0..70 {
         long.push(id + 1, 1)?;
     }
-    judge_view(&rt, Told::Saw(long), Some((7, Reason::View)))
+    judge_view(&rt, long, Some((7, Reason::View)))
 }
 
 /// Who is spent has seen another propose the same, and takes no more steps.
 #[test]
 fn spent(rt: HostRuntime) -> Result<(), Fail> {
     let config = Config::new(WorldKind::Rename, 2, 3, 1)?;
-    for (told, fault) in [
-        (Told::Refused(6), None),
-        (Told::Quiet, Some((6, Reason::Refusal))),
-        (Told::Refused(5), Some((6, Reason::Refusal))),
+    for (said, fault) in [
+        ("refused 6", None),
+        ("quiet", Some((6, Reason::Refusal))),
+        ("refused 5", Some((6, Reason::Refusal))),
     ] {
         judge(
             &rt,
             config,
-            [
-                (Begin(10), Told::Ok),
-                (Begin(20), Told::Ok),
-                (Step(10), Told::Proposed(1)),
-                (Step(20), Told::Proposed(1)),
-                (Step(10), Told::Spent),
-                (Step(10), Told::Refused(6)),
-                (Step(10), told),
-            ],
+            "begin 10:ok, begin 20:ok, step 10:proposed 1, step 20:proposed 1, step 10:spent, step 10:refused 6",
+            ("step 10", said),
             fault,
         )?;
     }
@@ -338,24 +320,18 @@ fn spent(rt: HostRuntime) -> Result<(), Fail> {
 #[test]
 fn names(rt: HostRuntime) -> Result<(), Fail> {
     let config = Config::new(WorldKind::Rename, 2, 3, 5)?;
-    for (told, fault) in [
-        (Told::Named(3, None), None),
-        (Told::Named(2, None), Some((5, Reason::Name))),
-        (Told::Named(1, None), Some((5, Reason::Name))),
-        (Told::Named(0, None), Some((5, Reason::Name))),
-        (Told::Named(u64::MAX, None), Some((5, Reason::Name))),
+    for (said, fault) in [
+        ("named 3", None),
+        ("named 2", Some((5, Reason::Name))),
+        ("named 1", Some((5, Reason::Name))),
+        ("named 0", Some((5, Reason::Name))),
+        ("named 18446744073709551615", Some((5, Reason::Name))),
     ] {
         judge(
             &rt,
             config,
-            [
-                (Begin(10), Told::Ok),
-                (Begin(20), Told::Ok),
-                (Step(10), Told::Proposed(2)),
-                (Step(10), Told::Proposed(3)),
-                (Step(20), Told::Proposed(2)),
-                (Step(10), told),
-            ],
+            "begin 10:ok, begin 20:ok, step 10:proposed 2, step 10:proposed 3, step 20:proposed 2",
+            ("step 10", said),
             fault,
         )?;
     }
@@ -366,81 +342,52 @@ fn names(rt: HostRuntime) -> Result<(), Fail> {
 #[test]
 fn crowded_names(rt: HostRuntime) -> Result<(), Fail> {
     let config = Config::new(WorldKind::Rename, 2, 3, 5)?;
-    for (first, second, fault) in [
-        (Told::Proposed(2), Told::Named(1, None), None),
+    for (before, fault) in [
         (
-            Told::Proposed(1),
-            Told::Named(1, None),
+            "begin 10:ok, begin 20:ok, step 20:proposed 2, step 10:proposed 1",
+            None,
+        ),
+        (
+            "begin 10:ok, begin 20:ok, step 20:proposed 1, step 10:proposed 1",
             Some((4, Reason::Name)),
         ),
     ] {
-        judge(
-            &rt,
-            config,
-            [
-                (Begin(10), Told::Ok),
-                (Begin(20), Told::Ok),
-                (Step(20), first),
-                (Step(10), Told::Proposed(1)),
-                (Step(10), second),
-            ],
-            fault,
-        )?;
+        judge(&rt, config, before, ("step 10", "named 1"), fault)?;
     }
     Ok(())
 }
 
-/// Judges an event while 5 holds the number 2, with 9 in its slot, and 6 has probed once.
-fn judge_pool<R: Abort + AllocGlobal>(
-    rt: &R,
-    event: Event,
-    told: Told,
-    fault: Option<(usize, Reason)>,
-) -> Result<(), Fail> {
-    judge(
-        rt,
-        small(WorldKind::Rename)?,
-        [
-            (Enter(5), Told::Ok),
-            (Probe(5), Told::Got(2)),
-            (Put(5, 9), Told::Ok),
-            (Enter(6), Told::Ok),
-            (Probe(6), Told::Missed),
-            (Get(5), Told::Value(9)),
-            (event, told),
-        ],
-        fault,
-    )
-}
-
-/// Numbers of the pool, and what stands in their slots.
+/// Numbers of the pool, and what stands in their slots, while 5 holds the number 2, with 9 in its slot, and 6 has probed once.
 #[test]
 fn pool_and_slots(rt: HostRuntime) -> Result<(), Fail> {
-    for (event, told, fault) in [
-        (Probe(6), Told::Got(1), None),
-        (Probe(6), Told::Got(3), None),
-        (Probe(6), Told::Got(2), Some((6, Reason::Pool))),
-        (Probe(6), Told::Got(0), Some((6, Reason::Pool))),
-        (Probe(6), Told::Got(4), Some((6, Reason::Pool))),
-        (Probe(6), Told::Got(256), Some((6, Reason::Pool))),
-        (Probe(6), Told::Missed, Some((6, Reason::Pool))),
-        (Probe(5), Told::Refused(10), None),
-        (Probe(7), Told::Refused(8), None),
-        (Leave(5), Told::Left(2), None),
-        (Leave(5), Told::Left(1), Some((6, Reason::Pool))),
-        (Leave(6), Told::Refused(11), None),
-        (Leave(6), Told::Left(2), Some((6, Reason::Refusal))),
-        (Get(5), Told::Value(9), None),
-        (Get(5), Told::Value(0), Some((6, Reason::Pool))),
-        (Get(6), Told::Refused(11), None),
-        (Put(7, 1), Told::Refused(8), None),
-        (Put(7, 1), Told::Ok, Some((6, Reason::Refusal))),
-        (Enter(5), Told::Refused(9), None),
-        (Enter(0), Told::Refused(1), None),
-        (Enter(7), Told::Ok, None),
-        (Enter(7), Told::Refused(7), Some((6, Reason::Refusal))),
+    let config = small(WorldKind::Rename)?;
+    for (command, said, fault) in [
+        ("probe 6", "got 1", None),
+        ("probe 6", "got 3", None),
+        ("probe 6", "got 2", Some((6, Reason::Pool))),
+        ("probe 6", "got 0", Some((6, Reason::Pool))),
+        ("probe 6", "got 4", Some((6, Reason::Pool))),
+        ("probe 6", "got 256", Some((6, Reason::Pool))),
+        ("probe 6", "missed", Some((6, Reason::Pool))),
+        ("probe 5", "refused 10", None),
+        ("probe 7", "refused 8", None),
+        ("leave 5", "left 2", None),
+        ("leave 5", "left 1", Some((6, Reason::Pool))),
+        ("leave 6", "refused 11", None),
+        ("leave 6", "left 2", Some((6, Reason::Refusal))),
+        ("get 5", "value 9", None),
+        ("get 5", "value 0", Some((6, Reason::Pool))),
+        ("get 6", "refused 11", None),
+        ("put 7 1", "refused 8", None),
+        ("put 7 1", "ok", Some((6, Reason::Refusal))),
+        ("enter 5", "refused 9", None),
+        ("enter 0", "refused 1", None),
+        ("enter 7", "ok", None),
+        ("enter 7", "refused 7", Some((6, Reason::Refusal))),
     ] {
-        judge_pool(&rt, event, told, fault)?;
+        let before =
+            "enter 5:ok, probe 5:got 2, put 5 9:ok, enter 6:ok, probe 6:missed, get 5:value 9";
+        judge(&rt, config, before, (command, said), fault)?;
     }
     Ok(())
 }
@@ -451,96 +398,57 @@ fn one_number(rt: HostRuntime) -> Result<(), Fail> {
     judge(
         &rt,
         Config::new(WorldKind::Tree, 1, 1, 1)?,
-        [
-            (Enter(5), Told::Ok),
-            (Enter(6), Told::Refused(7)),
-            (Probe(5), Told::Got(1)),
-            (Put(5, 3), Told::Ok),
-            (Leave(5), Told::Left(1)),
-            (Get(5), Told::Refused(8)),
-            (Enter(6), Told::Ok),
-            (Probe(6), Told::Got(1)),
-            (Get(6), Told::Value(3)),
-            (Leave(6), Told::Left(1)),
-            (Enter(5), Told::Ok),
-            (Probe(5), Told::Missed),
-        ],
+        "enter 5:ok, enter 6:refused 7, probe 5:got 1, put 5 3:ok, leave 5:left 1, get 5:refused 8, enter 6:ok, probe 6:got 1, \
+            get 6:value 3, leave 6:left 1, enter 5:ok",
+        ("probe 5", "missed"),
         Some((11, Reason::Pool)),
-    )
+    )?;
+    Ok(())
 }
 
 /// A pool of two numbers, both held, that gets two more.
 #[test]
 fn a_pool_that_widens(rt: HostRuntime) -> Result<(), Fail> {
-    for (event, told, fault) in [
-        (Widen(2), Told::Refused(14), None),
-        (Widen(2), Told::Ok, Some((5, Reason::Refusal))),
-        (Widen(4), Told::Refused(14), Some((5, Reason::Refusal))),
-        (Widen(4), Told::Refused(7), Some((5, Reason::Refusal))),
-        (Widen(4), Told::Left(2), Some((5, Reason::Reply))),
-        (Widen(64), Told::Ok, None),
-        (Widen(65), Told::Refused(14), None),
-        (Widen(65), Told::Ok, Some((5, Reason::Refusal))),
-        (Widen(0), Told::Refused(14), None),
+    let config = Config::new(WorldKind::Rename, 1, 2, 1)?;
+    for (command, said, fault) in [
+        ("widen 2", "refused 14", None),
+        ("widen 2", "ok", Some((5, Reason::Refusal))),
+        ("widen 4", "refused 14", Some((5, Reason::Refusal))),
+        ("widen 4", "refused 7", Some((5, Reason::Refusal))),
+        ("widen 4", "left 2", Some((5, Reason::Reply))),
+        ("widen 64", "ok", None),
+        ("widen 65", "refused 14", None),
+        ("widen 65", "ok", Some((5, Reason::Refusal))),
+        ("widen 0", "refused 14", None),
     ] {
-        judge(
-            &rt,
-            Config::new(WorldKind::Rename, 1, 2, 1)?,
-            [
-                (Enter(5), Told::Ok),
-                (Probe(5), Told::Got(1)),
-                (Enter(6), Told::Ok),
-                (Probe(6), Told::Got(2)),
-                (Enter(7), Told::Refused(7)),
-                (event, told),
-            ],
-            fault,
-        )?;
+        let before = "enter 5:ok, probe 5:got 1, enter 6:ok, probe 6:got 2, enter 7:refused 7";
+        judge(&rt, config, before, (command, said), fault)?;
     }
     Ok(())
 }
 
-/// Judges an event of a pool that had one number, held by 5 with 9 in its slot, and has three; 6 has probed once since.
-fn judge_wider<R: Abort + AllocGlobal>(
-    rt: &R,
-    event: Event,
-    told: Told,
-    fault: Option<(usize, Reason)>,
-) -> Result<(), Fail> {
-    judge(
-        rt,
-        Config::new(WorldKind::Tree, 1, 1, 1)?,
-        [
-            (Enter(5), Told::Ok),
-            (Probe(5), Told::Got(1)),
-            (Put(5, 9), Told::Ok),
-            (Widen(3), Told::Ok),
-            (Enter(6), Told::Ok),
-            (Probe(6), Told::Missed),
-            (event, told),
-        ],
-        fault,
-    )
-}
-
-/// The present size says who is let in, which numbers are given and which probe is not missed.
+/// The present size says who is let in, which numbers are given and which probe is not missed: the pool had one number, held by 5
+/// with 9 in its slot, and has three; 6 has probed once since.
 #[test]
 fn a_wider_pool(rt: HostRuntime) -> Result<(), Fail> {
-    for (event, told, fault) in [
-        (Enter(7), Told::Ok, None),
-        (Enter(7), Told::Refused(7), Some((6, Reason::Refusal))),
-        (Probe(6), Told::Got(2), None),
-        (Probe(6), Told::Got(3), None),
-        (Probe(6), Told::Got(1), Some((6, Reason::Pool))),
-        (Probe(6), Told::Got(4), Some((6, Reason::Pool))),
-        (Probe(6), Told::Missed, Some((6, Reason::Pool))),
-        (Get(5), Told::Value(9), None),
-        (Get(5), Told::Value(0), Some((6, Reason::Pool))),
-        (Leave(5), Told::Left(1), None),
-        (Widen(3), Told::Refused(14), None),
-        (Widen(4), Told::Ok, None),
+    let config = Config::new(WorldKind::Tree, 1, 1, 1)?;
+    for (command, said, fault) in [
+        ("enter 7", "ok", None),
+        ("enter 7", "refused 7", Some((6, Reason::Refusal))),
+        ("probe 6", "got 2", None),
+        ("probe 6", "got 3", None),
+        ("probe 6", "got 1", Some((6, Reason::Pool))),
+        ("probe 6", "got 4", Some((6, Reason::Pool))),
+        ("probe 6", "missed", Some((6, Reason::Pool))),
+        ("get 5", "value 9", None),
+        ("get 5", "value 0", Some((6, Reason::Pool))),
+        ("leave 5", "left 1", None),
+        ("widen 3", "refused 14", None),
+        ("widen 4", "ok", None),
     ] {
-        judge_wider(&rt, event, told, fault)?;
+        let before =
+            "enter 5:ok, probe 5:got 1, put 5 9:ok, widen 3:ok, enter 6:ok, probe 6:missed";
+        judge(&rt, config, before, (command, said), fault)?;
     }
     Ok(())
 }
