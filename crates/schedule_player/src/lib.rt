@@ -43,7 +43,7 @@ pub mod parse;
 pub mod player;
 pub mod playing;
 pub mod print;
-mod quick;
+pub mod quick;
 #[cfg(test)]
 mod record_tests;
 pub mod recording;
@@ -75,6 +75,7 @@ pub use line_buffer::LineBuffer;
 pub use parse::parse_line;
 pub use playing::{MOST_READS, READ_BYTES, play, play_in, play_on};
 pub use print::{REPLY_ROOM, print_bad, print_reply, print_words, put_number, put_word};
+pub use quick::quick_command;
 pub use recording::record;
 pub use rename_core::{Config, WorldKind};
 pub use replies::{HELD_REPLIES, Replies};
