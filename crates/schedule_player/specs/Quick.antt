@@ -21,6 +21,7 @@ pub record IsNumberBefore (end : ℕ) (text : List ℕ) (value count : ℕ) : Ty
   pub few : count ≤ 20
   pub inside : count < length text
   pub ends : slice_index text count ≡ end
+  pub digits : list_all is_digit (take count text) ≡ true
   pub number : number_in (take count text) ≡ Some value
 
 -- they do so in each world that is a desk

@@ -75,7 +75,7 @@ pub use line_buffer::LineBuffer;
 pub use parse::parse_line;
 pub use playing::{MOST_READS, READ_BYTES, play, play_in, play_on};
 pub use print::{REPLY_ROOM, print_bad, print_reply, print_words, put_number, put_word};
-pub use quick::quick_command;
+pub use quick::{quick_command, quick_number};
 pub use recording::record;
 pub use rename_core::{Config, WorldKind};
 pub use replies::{HELD_REPLIES, Replies};

@@ -66,9 +66,9 @@ fn quick_desk_command(bytes: &[u8], end: u8) -> Option<(Command, usize)>
 /// The most digits whose number surely fits in 64 bits.
 const SURE_DIGITS: usize = 19;
 
-/// The number that digits before this byte write, and how many they are.
+/// The number that digits before this byte write, and how many they are. `None` says nothing of the text.
 #[inline(always)]
-fn quick_number(text: &[u8], end: u8) -> Option<(u64, usize)>
+pub fn quick_number(text: &[u8], end: u8) -> Option<(u64, usize)>
     ensures { IfSome result (λ r. IsNumberBefore end text.now r.0 r.1) }
 {
     // Where a letter stands fifth, as that of the next line's word after one to three digits, there are few.
