@@ -9,6 +9,7 @@ mod DeskRuns
 mod FirstBytes
 mod WordLemmas
 mod JsonLemmas
+mod QuickLines
 mod written
 mod Pieces
 mod NarrowRuns

@@ -6,6 +6,7 @@ pub mod Told
 pub mod ReplyText
 pub mod Json
 pub mod RecordLine
+pub mod QuickLine
 pub mod Verdict
 pub mod Config
 pub mod ObjectRun

@@ -38,7 +38,8 @@ fn split_plain(bytes: &[u8]) -> (&[u8], &[u8])
 }
 
 /// What follows these bytes at the beginning.
-fn after<'a>(bytes: &'a [u8], front: &[u8]) -> Option<&'a [u8]>
+#[inline(always)]
+pub fn after<'a>(bytes: &'a [u8], front: &[u8]) -> Option<&'a [u8]>
     ensures { IfSome result (λ rest. bytes.now ≡ front.now ++ rest.now) }
 {
     bytes.strip_prefix(front)

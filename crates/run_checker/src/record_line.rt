@@ -17,6 +17,7 @@ use crate::header::{Header, Version};
 use crate::line::Line;
 use crate::object::{LineTexts, header, texts};
 use crate::plain_line::plain_texts;
+use crate::quick_line::quick_line;
 use crate::reply_text::{pairs, read_reply};
 use crate::told::Told;
 use desk::Event;
@@ -161,6 +162,9 @@ pub fn read_line(
 {
     if LINE_MOST < bytes.len() {
         return Ok(None);
+    }
+    if let Some(line) = quick_line(kind, version, bytes) {
+        return Ok(Some(line));
     }
     match plain_texts(bytes) {
         Some(texts) => line_by(alloc, kind, version, texts),

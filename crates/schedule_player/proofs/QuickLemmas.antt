@@ -9,7 +9,7 @@ use Rattle.std.proofs.Math.Nat.{pow-suc, pow-le-pow_right}
 use Rattle.rename_core.specs.declared.config.WorldKind.{WorldKind}
 use Rattle.schedule_player.specs.declared.command.Command.{Command}
 use Rattle.schedule_player.specs.Digits.{DigitsSoFar}
-use Rattle.schedule_player.specs.Quick.{IsNumberBefore, IsFirstLine}
+use Rattle.schedule_player.specs.Quick.{IsNumberBefore, IsCommandBefore, is_of_words}
 use Rattle.schedule_player.specs.Lines.{pieces_from}
 use Rattle.schedule_player.specs.Meaning.{meaning, words, command_of, number_in, is_digit, is_printable, decimal_from, if_fits}
 use Rattle.schedule_player.proofs.LineLemmas.{both, not_true}
@@ -158,13 +158,31 @@ at-past (b ∷ head) rest n =
     let one : length (b ∷ head) + n ≡ suc (length head + n) = omega arith in
     rw one (at-past head rest n)
 
--- the first line ends at the first LF past its beginning
-pub first_line : (world : WorldKind) (head rest : List ℕ) (command : Command) (count end : ℕ) → end ≡ length head + count → count < length rest → get_or rest count 0 ≡ 10 → meaning world (head ++ take count rest) ≡ Ok command →
-    IsFirstLine world (head ++ rest) command end
-first_line world head rest command count end is lt lf means =
+digit-of_words : (b : ℕ) → is_digit b ≡ true → is_of_words b ≡ true
+digit-of_words b d = let r = digit_range b d in grind (arith, nat_tests)
+
+digits-of_words : (word : List ℕ) → list_all is_digit word ≡ true → list_all is_of_words word ≡ true
+digits-of_words [] h = refl
+digits-of_words (b ∷ bs) h =
+    let parts = both (is_digit b) (list_all is_digit bs) h in
+    rw (digit-of_words b parts.0) (digits-of_words bs parts.1)
+
+number-of_words : (digits : List ℕ) (n : ℕ) → number_in digits ≡ Some n → list_all is_of_words digits ≡ true
+number-of_words digits n is = digits-of_words digits (number-digits digits n is)
+
+-- a word, its space and more
+words-joined : (word others : List ℕ) → list_all is_of_words word ≡ true → list_all is_of_words others ≡ true → list_all is_of_words (word ++ 32 ∷ others) ≡ true
+words-joined word others h more = list_all-append is_of_words word (32 ∷ others) ∙ rw (h, more) refl
+
+-- a command ends at a byte past its beginning
+pub first_command : (by : ℕ) (world : WorldKind) (head rest : List ℕ) (command : Command) (count end : ℕ) → end ≡ length head + count → count < length rest → get_or rest count 0 ≡ by →
+    list_all is_of_words (head ++ take count rest) ≡ true → meaning world (head ++ take count rest) ≡ Ok command →
+    IsCommandBefore by world (head ++ rest) command end
+first_command by world head rest command count end is lt stands of_words means =
     rw is (record {
       inside = omega (arith, length-append head rest);
-      ends = at-past head rest count ∙ lf;
+      ends = at-past head rest count ∙ stands;
+      of_words = ap (list_all is_of_words) (take-past head rest count) ∙ of_words;
       means = ap (meaning world) (take-past head rest count) ∙ means;
     })
 
@@ -185,30 +203,32 @@ six_and_more _ a b c d e f le ea eb ec ed ee ef = absurd (omega arith)
 pub rest_of-slice : (bytes : List ℕ) (n : ℕ) → n ≤ length bytes → take (length bytes - n) (drop n bytes) ≡ drop n bytes
 rest_of-slice bytes n le = take_all (length bytes - n) (drop n bytes) (omega (arith, length-drop n bytes))
 
--- the line of a word and a number, where these bytes are a word with its space and others
-pub first_of_one : (world : WorldKind) (word bytes rest : List ℕ) (command : ℕ → Command) (value count end : ℕ) → bytes ≡ word ++ 32 ∷ rest → end ≡ suc (length word) + count →
-    length word ≤ 5 → list_all is_printable word ≡ true → no_space word ≡ true → ((digits : List ℕ) → number_in digits ≡ Some value → command_of world word (digits ∷ []) ≡ Ok (command value)) →
-    IsNumberBefore 10 rest value count → IsFirstLine world bytes (command value) end
-first_of_one world word bytes rest command value count end split end_is short plain whole means n =
+-- the command of a word and a number, where these bytes are a word with its space and others
+pub first_of_one : (by : ℕ) (world : WorldKind) (word bytes rest : List ℕ) (command : ℕ → Command) (value count end : ℕ) → bytes ≡ word ++ 32 ∷ rest → end ≡ suc (length word) + count →
+    length word ≤ 5 → list_all is_printable word ≡ true → no_space word ≡ true → list_all is_of_words word ≡ true → ((digits : List ℕ) → number_in digits ≡ Some value → command_of world word (digits ∷ []) ≡ Ok (command value)) →
+    IsNumberBefore by rest value count → IsCommandBefore by world bytes (command value) end
+first_of_one by world word bytes rest command value count end split end_is short plain whole letters means n =
     let head : List ℕ = word ++ 32 ∷ [] in
     let joined : head ++ rest ≡ bytes = append_assoc word (32 ∷ []) rest ∙ sym split in
     let long : end ≡ length head + count = end_is ∙ omega (arith, length-append word (32 ∷ [])) in
     let digits : List ℕ = take count rest in
     let few : length digits ≤ 20 = omega (arith, n.few, length-take-le count rest) in
     let said : meaning world (head ++ digits) ≡ Ok (command value) = ap (meaning world) (append_assoc word (32 ∷ []) digits) ∙ one-means world word digits value short plain whole n.number few ∙ means digits n.number in
-    subst (λ (l : List ℕ). IsFirstLine world l (command value) end) joined (first_line world head rest (command value) count end long n.inside n.ends said)
+    let of_words : list_all is_of_words (head ++ digits) ≡ true =
+    ap (list_all is_of_words) (append_assoc word (32 ∷ []) digits) ∙ words-joined word digits letters (number-of_words digits value n.number) in
+    subst (λ (l : List ℕ). IsCommandBefore by world l (command value) end) joined (first_command by world head rest (command value) count end long n.inside n.ends of_words said)
 
 split_at : (rest : List ℕ) (i x : ℕ) → i < length rest → get_or rest i 0 ≡ x → take i rest ++ x ∷ drop (suc i) rest ≡ rest
 split_at [] i x lt is = absurd (omega arith)
 split_at (b ∷ bs) zero x lt is = ap (λ y. y ∷ bs) (sym is)
 split_at (b ∷ bs) (suc i) x lt is = ap (λ l. b ∷ l) (split_at bs i x (omega arith) is)
 
--- the line of a word and two numbers
-pub first_of_two : (world : WorldKind) (word bytes rest : List ℕ) (command : Command) (one other first second end : ℕ) → bytes ≡ word ++ 32 ∷ rest → end ≡ suc (length word) + (suc first + second) →
-    length word ≤ 5 → list_all is_printable word ≡ true → no_space word ≡ true →
+-- the command of a word and two numbers
+pub first_of_two : (by : ℕ) (world : WorldKind) (word bytes rest : List ℕ) (command : Command) (one other first second end : ℕ) → bytes ≡ word ++ 32 ∷ rest → end ≡ suc (length word) + (suc first + second) →
+    length word ≤ 5 → list_all is_printable word ≡ true → no_space word ≡ true → list_all is_of_words word ≡ true →
     ((m n : List ℕ) → number_in m ≡ Some one → number_in n ≡ Some other → command_of world word (m ∷ n ∷ []) ≡ Ok command) →
-    IsNumberBefore 32 rest one first → IsNumberBefore 10 (drop (suc first) rest) other second → IsFirstLine world bytes command end
-first_of_two world word bytes rest command one other first second end split end_is short plain whole means a b =
+    IsNumberBefore 32 rest one first → IsNumberBefore by (drop (suc first) rest) other second → IsCommandBefore by world bytes command end
+first_of_two by world word bytes rest command one other first second end split end_is short plain whole letters means a b =
     let m : List ℕ = take first rest in
     let past : List ℕ = drop (suc first) rest in
     let n : List ℕ = take second past in
@@ -222,4 +242,7 @@ first_of_two world word bytes rest command one other first second end split end_
     ap (meaning world) (append_assoc word (32 ∷ (m ++ 32 ∷ [])) n ∙ ap (λ l. word ++ 32 ∷ l) (append_assoc m (32 ∷ []) n))
     ∙ two-means world word m n one other short plain whole a.number (omega (arith, a.few)) b.number (omega (arith, b.few, length-take-le second past))
     ∙ means m n a.number b.number in
-    subst (λ (l : List ℕ). IsFirstLine world l command end) joined (first_line world head past command second end long b.inside b.ends said)
+    let of_words : list_all is_of_words (head ++ n) ≡ true =
+    ap (list_all is_of_words) (append_assoc word (32 ∷ (m ++ 32 ∷ [])) n ∙ ap (λ l. word ++ 32 ∷ l) (append_assoc m (32 ∷ []) n))
+    ∙ words-joined word (m ++ 32 ∷ n) letters (words-joined m n (number-of_words m one a.number) (number-of_words n other b.number)) in
+    subst (λ (l : List ℕ). IsCommandBefore by world l command end) joined (first_command by world head past command second end long b.inside b.ends of_words said)

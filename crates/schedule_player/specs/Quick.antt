@@ -1,13 +1,19 @@
--- the first line of some bytes
-use Rattle.std.specs.Prelude.{◌≡◌, ℕ, ◌<◌, ◌≤◌, true, List, length, take, slice_index, Some, Ok}
+-- the first command of some bytes
+use Rattle.std.specs.Prelude.{◌≡◌, ℕ, ◌<◌, ◌≤◌, ◌==◌, ◌&&◌, ◌||◌, nat_le, Bool, true, List, length, take, slice_index, Some, Ok}
+use Rattle.std.specs.List.{list_all}
 use Rattle.schedule_player.specs.declared.command.Command.{Command}
 use Rattle.rename_core.specs.declared.config.WorldKind.{WorldKind}
-use Rattle.schedule_player.specs.Meaning.{meaning, has_desk, number_in}
+use Rattle.schedule_player.specs.Meaning.{meaning, has_desk, is_digit, number_in}
 
--- the first line of these bytes ends there, by an LF, and means this command
-pub record IsFirstLine (world : WorldKind) (bytes : List ℕ) (command : Command) (end : ℕ) : Type 0 where
+-- what words of letters, and numbers, are written with
+abbrev pub is_of_words : ℕ → Bool
+is_of_words b = (b == 32) || (is_digit b || (nat_le 97 b && nat_le b 122))
+
+-- this byte stands there, and those before it, all of them letters, digits and spaces, mean this command
+pub record IsCommandBefore (by : ℕ) (world : WorldKind) (bytes : List ℕ) (command : Command) (end : ℕ) : Type 0 where
   pub inside : end < length bytes
-  pub ends : slice_index bytes end ≡ 10
+  pub ends : slice_index bytes end ≡ by
+  pub of_words : list_all is_of_words (take end bytes) ≡ true
   pub means : meaning world (take end bytes) ≡ Ok command
 
 -- these bytes begin with so many digits and then this byte, and the digits write this number
@@ -15,8 +21,9 @@ pub record IsNumberBefore (end : ℕ) (text : List ℕ) (value count : ℕ) : Ty
   pub few : count ≤ 20
   pub inside : count < length text
   pub ends : slice_index text count ≡ end
+  pub digits : list_all is_digit (take count text) ≡ true
   pub number : number_in (take count text) ≡ Some value
 
--- the first line of these bytes, in each world that is a desk
-abbrev pub IsFirstAtDesk : List ℕ → Command → ℕ → Type 0
-IsFirstAtDesk bytes command end = (world : WorldKind) → has_desk world ≡ true → IsFirstLine world bytes command end
+-- they do so in each world that is a desk
+abbrev pub IsDeskCommandBefore : ℕ → List ℕ → Command → ℕ → Type 0
+IsDeskCommandBefore by bytes command end = (world : WorldKind) → has_desk world ≡ true → IsCommandBefore by world bytes command end

@@ -223,7 +223,7 @@ impl<A: Allocator, F: Form> Player<A, F> {
             return bytes.len();
         }
         if self.line.is_empty() {
-            if let Some((command, end)) = quick_command(bytes, self.kind) {
+            if let Some((command, end)) = quick_command(bytes, self.kind, LF) {
                 self.answer(rt, world, view, Ok(command));
                 return end + 1;
             }

@@ -1,66 +1,63 @@
-//! The lines that most inputs are made of, in one pass over their bytes.
+//! The commands that most inputs are made of, in one pass over their bytes.
 
 ghost use Rattle.std.specs.Prelude.{◌≡◌, ◌+◌, ◌≤◌, ◌<◌, true, length, IfSome};
 ghost use Rattle.std.specs.List.{list_all};
 ghost use Rattle.schedule_player.specs.Meaning.{is_digit};
 ghost use Rattle.schedule_player.specs.Digits.{DigitsSoFar};
-ghost use Rattle.schedule_player.specs.Quick.{IsFirstLine, IsFirstAtDesk, IsNumberBefore};
+ghost use Rattle.schedule_player.specs.Quick.{IsCommandBefore, IsDeskCommandBefore, IsNumberBefore};
 
 use crate::command::Command;
 use crate::parse::has_desk;
 use desk::Event;
 use rename_core::WorldKind;
 
-/// What ends a line.
-const LF: u8 = 10;
-
 /// What stands between words.
 const SPACE: u8 = 32;
 
-/// The command that the first line of these bytes means, and where its LF stands, where that takes one look at each byte.
-/// `None` says nothing of the line.
+/// The command that the bytes before the first of this byte mean, and where that stands, where it takes one look at each byte.
+/// `None` says nothing of the bytes.
 #[inline(always)]
-pub(crate) fn quick_command(bytes: &[u8], world: WorldKind) -> Option<(Command, usize)>
-    ensures { IfSome result (λ r. IsFirstLine world bytes.now r.0 r.1) }
+pub fn quick_command(bytes: &[u8], world: WorldKind, end: u8) -> Option<(Command, usize)>
+    ensures { IfSome result (λ r. IsCommandBefore end world bytes.now r.0 r.1) }
 {
     if let [b's', b't', b'e', b'p', b' ', number @ ..] = bytes {
-        let (id, count) = quick_number(number, LF)?;
+        let (id, count) = quick_number(number, end)?;
         return Some((Command::Event(Event::Step(id)), count + 5));
     }
     if let [b'b', b'e', b'g', b'i', b'n', b' ', number @ ..] = bytes {
-        let (id, count) = quick_number(number, LF)?;
+        let (id, count) = quick_number(number, end)?;
         return Some((Command::Event(Event::Begin(id)), count + 6));
     }
     if has_desk(world) {
-        return quick_desk_command(bytes);
+        return quick_desk_command(bytes, end);
     }
     None
 }
 
 /// As `quick_command`, of the words that only a desk knows.
 #[inline(never)]
-fn quick_desk_command(bytes: &[u8]) -> Option<(Command, usize)>
-    ensures { IfSome result (λ r. IsFirstAtDesk bytes.now r.0 r.1) }
+fn quick_desk_command(bytes: &[u8], end: u8) -> Option<(Command, usize)>
+    ensures { IfSome result (λ r. IsDeskCommandBefore end bytes.now r.0 r.1) }
 {
     if let [b'e', b'n', b't', b'e', b'r', b' ', number @ ..] = bytes {
-        let (id, count) = quick_number(number, LF)?;
+        let (id, count) = quick_number(number, end)?;
         return Some((Command::Event(Event::Enter(id)), count + 6));
     }
     if let [b'p', b'r', b'o', b'b', b'e', b' ', number @ ..] = bytes {
-        let (id, count) = quick_number(number, LF)?;
+        let (id, count) = quick_number(number, end)?;
         return Some((Command::Event(Event::Probe(id)), count + 6));
     }
     if let [b'l', b'e', b'a', b'v', b'e', b' ', number @ ..] = bytes {
-        let (id, count) = quick_number(number, LF)?;
+        let (id, count) = quick_number(number, end)?;
         return Some((Command::Event(Event::Leave(id)), count + 6));
     }
     if let [b'g', b'e', b't', b' ', number @ ..] = bytes {
-        let (id, count) = quick_number(number, LF)?;
+        let (id, count) = quick_number(number, end)?;
         return Some((Command::Event(Event::Get(id)), count + 4));
     }
     if let [b'p', b'u', b't', b' ', numbers @ ..] = bytes {
         let (id, first) = quick_number(numbers, SPACE)?;
-        let (value, second) = quick_number(&numbers[first + 1..], LF)?;
+        let (value, second) = quick_number(&numbers[first + 1..], end)?;
         return Some((Command::Event(Event::Put(id, value)), first + second + 5));
     }
     None
@@ -69,9 +66,9 @@ fn quick_desk_command(bytes: &[u8]) -> Option<(Command, usize)>
 /// The most digits whose number surely fits in 64 bits.
 const SURE_DIGITS: usize = 19;
 
-/// The number that digits before this byte write, and how many they are.
+/// The number that digits before this byte write, and how many they are. `None` says nothing of the text.
 #[inline(always)]
-fn quick_number(text: &[u8], end: u8) -> Option<(u64, usize)>
+pub fn quick_number(text: &[u8], end: u8) -> Option<(u64, usize)>
     ensures { IfSome result (λ r. IsNumberBefore end text.now r.0 r.1) }
 {
     // Where a letter stands fifth, as that of the next line's word after one to three digits, there are few.

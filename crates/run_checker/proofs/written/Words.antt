@@ -66,17 +66,17 @@ IsNarrowReply (reply.Owner owner) = ⊥
 IsNarrowReply (reply.Refused why) = Unit {0}
 
 -- a test that follows from another
-all_by : (p q : ℕ → Bool) → ((b : ℕ) → p b ≡ true → q b ≡ true) → (xs : List ℕ) → list_all p xs ≡ true → list_all q xs ≡ true
+pub all_by : (p q : ℕ → Bool) → ((b : ℕ) → p b ≡ true → q b ≡ true) → (xs : List ℕ) → list_all p xs ≡ true → list_all q xs ≡ true
 all_by p q by [] h = refl
 all_by p q by (x ∷ xs) h = let parts = and_parts (p x) (list_all p xs) h in rw (by x parts.0) (all_by p q by xs parts.1)
 
 both_all : (p : ℕ → Bool) (xs ys : List ℕ) → list_all p xs ≡ true → list_all p ys ≡ true → list_all p (xs ++ ys) ≡ true
 both_all p xs ys a b = list_all-append p xs ys ∙ rw (a, b) refl
 
-digit_plain : (b : ℕ) → is_digit b ≡ true → is_plain b ≡ true
+pub digit_plain : (b : ℕ) → is_digit b ≡ true → is_plain b ≡ true
 digit_plain b h = grind (arith, nat_tests)
 
-digit_no_space : (b : ℕ) → is_digit b ≡ true → not (b == 32) ≡ true
+pub digit_no_space : (b : ℕ) → is_digit b ≡ true → not (b == 32) ≡ true
 digit_no_space b h = grind (arith, nat_tests)
 
 digit_no_colon : (b : ℕ) → is_digit b ≡ true → not (b == 58) ≡ true

@@ -8,12 +8,12 @@ pub returns-in-115 : goal.returns-in-115
 returns-in-115 c =
     let bytes = c.args.bytes.now in
     let number = rw (rest_of-slice bytes 5 (omega arith)) at c.in_ok-id.ensures in
-    first_of_one c.args.world (codes "step") bytes (drop 5 bytes) (λ id. command.Event (Step id)) c.in_ok-id.id c.in_ok-id.count (c.in_ok-id.count + 5)
-    (five_and_more bytes 115 116 101 112 32 (omega arith) (omega arith) (omega arith) (omega arith) (omega arith) (omega arith)) (omega arith) (omega arith) refl refl (λ digits is. rw is refl) number
+    first_of_one c.args.end c.args.world (codes "step") bytes (drop 5 bytes) (λ id. command.Event (Step id)) c.in_ok-id.id c.in_ok-id.count (c.in_ok-id.count + 5)
+    (five_and_more bytes 115 116 101 112 32 (omega arith) (omega arith) (omega arith) (omega arith) (omega arith) (omega arith)) (omega arith) (omega arith) refl refl refl (λ digits is. rw is refl) number
 
 pub returns-in-98 : goal.returns-in-98
 returns-in-98 c =
     let bytes = c.args.bytes.now in
     let number = rw (rest_of-slice bytes 6 (omega arith)) at c.in_ok-id-2.ensures in
-    first_of_one c.args.world (codes "begin") bytes (drop 6 bytes) (λ id. command.Event (Begin id)) c.in_ok-id-2.id c.in_ok-id-2.count (c.in_ok-id-2.count + 6)
-    (six_and_more bytes 98 101 103 105 110 32 (omega arith) (omega arith) (omega arith) (omega arith) (omega arith) (omega arith) (omega arith)) (omega arith) (omega arith) refl refl (λ digits is. rw is refl) number
+    first_of_one c.args.end c.args.world (codes "begin") bytes (drop 6 bytes) (λ id. command.Event (Begin id)) c.in_ok-id-2.id c.in_ok-id-2.count (c.in_ok-id-2.count + 6)
+    (six_and_more bytes 98 101 103 105 110 32 (omega arith) (omega arith) (omega arith) (omega arith) (omega arith) (omega arith) (omega arith)) (omega arith) (omega arith) refl refl refl (λ digits is. rw is refl) number

@@ -1,0 +1,79 @@
+//! Lines of the commonest words, in the spelling in which records are written, in one pass over their bytes.
+
+ghost use Rattle.std.specs.Prelude.{◌≡◌, IfSome};
+ghost use Rattle.run_checker.specs.QuickLine.{SpellsLine, SpellsReply, SpellsLastNumber};
+
+use crate::header::Version;
+use crate::line::Line;
+use crate::plain_line::after;
+use crate::told::Told;
+use crate::words::is_word;
+use rename_core::WorldKind;
+use schedule_player::{Command, quick_command, quick_number};
+
+/// What an event's line says, in the world of this kind, where it takes one look at each byte: with no space between its parts, its
+/// keys in order and words that are common, none of which is told otherwise in another version. `None` says nothing of the bytes.
+#[inline(always)]
+pub fn quick_line(kind: WorldKind, version: Version, bytes: &[u8]) -> Option<Line>
+    ensures { IfSome result (λ l. SpellsLine kind version bytes.now l) }
+{
+    let text = after(bytes, b"{\"command\":\"")?;
+    let (command, end) = quick_command(text, kind, b'"')?;
+    let Command::Event(event) = command else {
+        return None;
+    };
+    let reply = after(&text[end..], b"\",\"reply\":\"")?;
+    let told = quick_told(reply)?;
+    Some(Line { event, told })
+}
+
+/// What the reply tells with which a line ends.
+#[inline(always)]
+fn quick_told(text: &[u8]) -> Option<Told>
+    ensures { IfSome result (λ t. SpellsReply text.now t) }
+{
+    if is_word(text, b"quiet\"}") {
+        return Some(Told::Quiet);
+    }
+    if is_word(text, b"ok\"}") {
+        return Some(Told::Ok);
+    }
+    if is_word(text, b"missed\"}") {
+        return Some(Told::Missed);
+    }
+    quick_number_told(text)
+}
+
+/// As `quick_told`, of a word and a number.
+fn quick_number_told(text: &[u8]) -> Option<Told>
+    ensures { IfSome result (λ t. SpellsReply text.now t) }
+{
+    if let Some(number) = after(text, b"proposed ") {
+        return Some(Told::Proposed(last_number(number)?));
+    }
+    if let Some(number) = after(text, b"refused ") {
+        return Some(Told::Refused(last_number(number)?));
+    }
+    if let Some(number) = after(text, b"got ") {
+        return Some(Told::Got(last_number(number)?));
+    }
+    if let Some(number) = after(text, b"left ") {
+        return Some(Told::Left(last_number(number)?));
+    }
+    if let Some(number) = after(text, b"value ") {
+        return Some(Told::Value(last_number(number)?));
+    }
+    None
+}
+
+/// The number with which a line ends.
+#[inline(always)]
+fn last_number(text: &[u8]) -> Option<u64>
+    ensures { IfSome result (λ n. SpellsLastNumber text.now n) }
+{
+    let (number, count) = quick_number(text, b'"')?;
+    if !is_word(&text[count..], b"\"}") {
+        return None;
+    }
+    Some(number)
+}
