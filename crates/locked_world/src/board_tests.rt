@@ -1,8 +1,9 @@
 ghost use Rattle.std.specs.Prelude.{◌≡◌, All, IfSome};
 
+use crate::tests::{begins, closed, opened, with};
 use crate::{Closed, HallLock, Session, agrees, post_name};
 use raw_parts::{Board, Grant, ReaderSeat};
-use rename_core::{Config, WorldKind};
+use rename_core::WorldKind;
 use std::alloc::Global;
 use std::marker::Brand;
 use std::process::Abort;
@@ -16,17 +17,49 @@ fn granted(grant: &Option<Grant>) -> Option<(u64, u64)> {
     grant.as_ref().map(|grant| (grant.name(), grant.identity()))
 }
 
+/// Looks whether a name is an identity's, and compares what is told.
+fn looks(
+    rt: &impl Abort,
+    board: &Board<Global>,
+    seat: &mut ReaderSeat,
+    word: (u64, u64),
+    is_so: bool,
+)
+    requires { seat.old ≡ board.now }
+    ensures { seat.new ≡ board.now }
+{
+    let told = granted(&board.confirm(seat, word.0, word.1));
+    assert_eq!(rt; told, is_so.then_some(word), "{word:?}");
+}
+
 /// What a third seat is told, on a board where 1 is 10's, 3 is 20's and 2 is free.
 fn looks_at_names(rt: &impl Abort, board: &Board<Global>, seat: &mut ReaderSeat)
     requires { seat.old ≡ board.now }
     ensures { seat.new ≡ board.now }
 {
-    assert_eq!(rt; granted(&board.confirm(seat, 3, 20)), Some((3, 20)));
-    assert!(rt; board.confirm(seat, 1, 20).is_none());
-    assert!(rt; board.confirm(seat, 2, 10).is_none());
-    assert!(rt; board.confirm(seat, 9, 10).is_none());
-    assert!(rt; board.confirm(seat, 2, 0).is_none());
+    looks(rt, board, seat, (3, 20), true);
+    looks(rt, board, seat, (1, 20), false);
+    looks(rt, board, seat, (2, 10), false);
+    looks(rt, board, seat, (9, 10), false);
+    looks(rt, board, seat, (2, 0), false);
     assert_eq!(rt; (board.owner(3), board.owner(2)), (Some(20), None));
+}
+
+/// Posts a name that a session must have.
+fn posts<L: Ledger>(
+    rt: &impl Abort,
+    board: &Board<Global>,
+    session: &Session<L>,
+    seat: &mut ReaderSeat,
+    want: (u64, u64),
+) -> Grant
+    requires { seat.old ≡ board.now }
+    ensures seat { seat.new ≡ board.now }
+    ensures grant { result.board ≡ board.now }
+{
+    let grant = post_name(session, board, seat).expect(rt, "a session that is named");
+    assert_eq!(rt; (grant.name(), grant.identity()), want);
+    grant
 }
 
 /// 10 is named by its 17th step, and posts its name; before, it had none.
@@ -36,16 +69,14 @@ fn ten_is_named<L: Ledger, R: Abort + Wait>(
     board: &Board<Global>,
     session: &mut Session<L>,
     seat: &mut ReaderSeat,
-) -> Option<Grant>
+) -> Grant
     requires { seat.old ≡ board.now }
     ensures seat { seat.new ≡ board.now }
-    ensures grant { IfSome result (λ g. g.board ≡ board.now) }
+    ensures grant { result.board ≡ board.now }
 {
     assert!(rt; post_name(session, board, seat).is_none());
     assert_eq!(rt; lock.rename(rt, session, 17), Ok(Some(1)));
-    let grant = post_name(session, board, seat);
-    assert_eq!(rt; granted(&grant), Some((1, 10)));
-    grant
+    posts(rt, board, session, seat, (1, 10))
 }
 
 /// 20 is named by its 32nd step, and posts its name twice; 10's name it doesn't get.
@@ -55,56 +86,57 @@ fn twenty_is_named<L: Ledger, R: Abort + Wait>(
     board: &Board<Global>,
     session: &mut Session<L>,
     seat: &mut ReaderSeat,
-) -> Option<Grant>
+) -> Grant
     requires { seat.old ≡ board.now }
     ensures seat { seat.new ≡ board.now }
-    ensures grant { IfSome result (λ g. g.board ≡ board.now) }
+    ensures grant { result.board ≡ board.now }
 {
     assert_eq!(rt; lock.rename(rt, session, 100), Ok(Some(3)));
     assert_eq!(rt; session.count(), 33);
     assert!(rt; board.post(seat, 1, 20).is_none());
-    assert_eq!(rt; granted(&post_name(session, board, seat)), Some((3, 20)));
-    post_name(session, board, seat)
+    let _ = posts(rt, board, session, seat, (3, 20));
+    posts(rt, board, session, seat, (3, 20))
 }
 
 /// The words of the closed board agree with the closed history, and so do free ones; others do not.
 fn words_agree(rt: &impl Abort, closed: &Closed, words: &[u64]) {
     assert_eq!(rt; words, [10, 0, 20].as_slice());
-    assert!(rt; agrees(closed, words));
-    assert!(rt; agrees(closed, &[0, 0, 0]));
-    assert!(rt; !agrees(closed, &[10, 20, 0]));
-    assert!(rt; !agrees(closed, &[10, 0, 20, 30]));
+    for (words, agree) in [
+        (words, true),
+        (&[0, 0, 0], true),
+        (&[10, 20, 0], false),
+        (&[10, 0, 20, 30], false),
+    ] {
+        assert_eq!(rt; agrees(closed, words), agree, "{words:?}");
+    }
 }
 
 /// Two sessions post their names on a board of three. How many events the closed history has.
-fn two_sessions<L: Ledger, R: Abort + Wait>(rt: &R, alloc: Global, blank: Blank) -> Option<usize>
+fn two_sessions<L: Ledger, R: Abort + Wait>(rt: &R, alloc: Global, blank: Blank) -> usize
     requires name { blank.name ≡ L.name }
     requires parts { (blank.parts ≡ L.parts) × (L.parts ≡ 1000001) }
 {
-    let config = Config::new(WorldKind::Rename, 2, 4, 1000).ok()?;
-    let lock = HallLock::<L>::new(alloc, config, blank).ok()?;
-    let (board, mut first) = Board::new(alloc, 3).ok()?;
+    let lock = opened::<L, _>(rt, alloc, (WorldKind::Rename, 2, 4), blank);
+    let (board, mut first) = Board::new(alloc, 3).expect(rt, "room for a board");
     let mut second = board.reader(&mut first);
     let mut third = board.reader(&mut first);
-    let mut ten = lock.session(rt, alloc, 10).ok()?;
-    let mut one = ten_is_named(rt, &lock, &board, &mut ten, &mut first)?;
-    let mut twenty = lock.session(rt, alloc, 20).ok()?;
-    let mut two = twenty_is_named(rt, &lock, &board, &mut twenty, &mut second)?;
+    let mut ten = begins(rt, alloc, &lock, 10);
+    let mut one = ten_is_named(rt, &lock, &board, &mut ten, &mut first);
+    let mut twenty = begins(rt, alloc, &lock, 20);
+    let mut two = twenty_is_named(rt, &lock, &board, &mut twenty, &mut second);
     looks_at_names(rt, &board, &mut third);
     board.meet(&mut one, &mut two);
-    let mut sessions = Vec::new(alloc);
-    sessions.push(ten).ok()?;
-    sessions.push(twenty).ok()?;
-    let closed = lock.close(alloc, sessions, Vec::new(alloc)).ok()?;
-    let words = board.close(two).ok()?;
+    let sessions = with(rt, with(rt, Vec::new(alloc), ten), twenty);
+    let closed = closed(rt, alloc, lock, sessions, Vec::new(alloc));
+    let words = board.close(two).expect(rt, "room for the words");
     words_agree(rt, &closed, &words);
-    Some(closed.hall.len())
+    closed.hall.len()
 }
 
 #[test]
 fn two_sessions_post_their_names(rt: HostRuntime) {
     let length = two_sessions::<Brand, _>(&rt, rt.alloc(), Blank::new(1_000_001));
-    assert_eq!(rt; length, Some(51));
+    assert_eq!(rt; length, 51);
 }
 
 /// What a thread is given: a session, and a seat of the board.
@@ -155,17 +187,18 @@ fn all_posted<L: Ledger + Send + Sync, R: Threads + Wait + Sync>(
 
 /// Takes what one thread handed back: its session is put beside the others, and its grant is answered.
 fn take_one<L: Ledger>(
+    rt: &impl Abort,
     board: &Board<Global>,
     done: &mut Vec<Posted<L>>,
     sessions: &mut Vec<Session<L>>,
-) -> Option<Grant>
+) -> Grant
     requires { All (λ p. IfSome p.grant (λ g. g.board ≡ board.now)) done.old.items }
     ensures rest { All (λ p. IfSome p.grant (λ g. g.board ≡ board.now)) done.new.items }
-    ensures grant { IfSome result (λ g. g.board ≡ board.now) }
+    ensures grant { result.board ≡ board.now }
 {
-    let Posted { session, grant } = done.pop()?;
-    sessions.push(session).ok()?;
-    grant
+    let Posted { session, grant } = done.pop().expect(rt, "one for each thread");
+    sessions.push(session).ok().expect(rt, "room for a session");
+    grant.expect(rt, "one that is named posts its name")
 }
 
 /// A session and a seat for each of four identities.
@@ -190,42 +223,54 @@ fn four_jobs<L: Ledger, R: Wait>(
     Some(jobs)
 }
 
+/// Every two of four grants meet.
+fn all_meet(
+    board: &Board<Global>,
+    one: &mut Grant,
+    two: &mut Grant,
+    three: &mut Grant,
+    four: &mut Grant,
+)
+    requires { (one.old.board ≡ board.now) × (two.old.board ≡ board.now) × (three.old.board ≡ board.now) × (four.old.board ≡ board.now) }
+    ensures { four.new.board ≡ board.now }
+{
+    board.meet(one, two);
+    board.meet(one, three);
+    board.meet(one, four);
+    board.meet(two, three);
+    board.meet(two, four);
+    board.meet(three, four);
+}
+
 /// Four threads are named and post their names; then every two grants meet. Whether the words are those four, and agree with
 /// the closed history.
-fn four_post<L: Ledger + Send + Sync, R: Threads + Wait + Sync>(
+fn four_post<L: Ledger + Send + Sync, R: Abort + Threads + Wait + Sync>(
     rt: &R,
     alloc: Global,
     blank: Blank,
-) -> Option<bool>
+) -> bool
     requires name { blank.name ≡ L.name }
     requires parts { (blank.parts ≡ L.parts) × (L.parts ≡ 1000001) }
 {
-    let config = Config::new(WorldKind::Rename, 4, 4, 1000).ok()?;
-    let lock = HallLock::<L>::new(alloc, config, blank).ok()?;
-    let (board, mut seat) = Board::new(alloc, 7).ok()?;
-    let jobs = four_jobs(rt, alloc, &lock, &board, &mut seat)?;
-    let mut done = all_posted(rt, &lock, &board, jobs)?;
+    let lock = opened::<L, _>(rt, alloc, (WorldKind::Rename, 4, 4), blank);
+    let (board, mut seat) = Board::new(alloc, 7).expect(rt, "room for a board");
+    let jobs = four_jobs(rt, alloc, &lock, &board, &mut seat).expect(rt, "four sessions");
+    let mut done = all_posted(rt, &lock, &board, jobs).expect(rt, "room for what threads answer");
     let mut sessions = Vec::new(alloc);
-    let mut one = take_one(&board, &mut done, &mut sessions)?;
-    let mut two = take_one(&board, &mut done, &mut sessions)?;
-    let mut three = take_one(&board, &mut done, &mut sessions)?;
-    let mut four = take_one(&board, &mut done, &mut sessions)?;
-    board.meet(&mut one, &mut two);
-    board.meet(&mut one, &mut three);
-    board.meet(&mut one, &mut four);
-    board.meet(&mut two, &mut three);
-    board.meet(&mut two, &mut four);
-    board.meet(&mut three, &mut four);
-    let words = board.close(four).ok()?;
+    let mut one = take_one(rt, &board, &mut done, &mut sessions);
+    let mut two = take_one(rt, &board, &mut done, &mut sessions);
+    let mut three = take_one(rt, &board, &mut done, &mut sessions);
+    let mut four = take_one(rt, &board, &mut done, &mut sessions);
+    all_meet(&board, &mut one, &mut two, &mut three, &mut four);
+    let words = board.close(four).expect(rt, "room for the words");
+    let closed = closed(rt, alloc, lock, sessions, Vec::new(alloc));
     let posted = words.iter().filter(|word| **word != 0).count();
-    let closed = lock.close(alloc, sessions, Vec::new(alloc)).ok()?;
-    Some(posted == 4 && agrees(&closed, &words))
+    posted == 4 && agrees(&closed, &words)
 }
 
 #[test]
 fn four_threads_post_their_names(rt: HostRuntime) {
     for _ in 0..20 {
-        let good = four_post::<Brand, _>(&rt, rt.alloc(), Blank::new(1_000_001));
-        assert_eq!(rt; good, Some(true));
+        assert!(rt; four_post::<Brand, _>(&rt, rt.alloc(), Blank::new(1_000_001)));
     }
 }
