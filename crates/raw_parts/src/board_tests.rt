@@ -9,29 +9,25 @@ use std::thread::{Threads, join};
 use step_memory::Refusal;
 
 /// Whose name it is, by a grant, if there is one.
-fn granted(grant: &Option<Grant>) -> Option<(u64, u64)> {
-    grant.as_ref().map(|grant| (grant.name(), grant.identity()))
+fn granted(grant: Option<Grant>) -> Option<(u64, u64)> {
+    grant.map(|grant| (grant.name(), grant.identity()))
 }
 
 #[test]
 fn one_to_127_names(rt: HostRuntime) -> Result<(), Fail> {
     for names in [0, 128] {
-        let Err(refusal) = Board::new(rt.alloc(), names) else {
-            panic!(rt; "accepted");
-        };
-        assert_eq!(rt; refusal, Refusal::OutOfRange);
+        let refused = Board::new(rt.alloc(), names).err();
+        assert_eq!(rt; refused, Some(Refusal::OutOfRange));
     }
     for names in 1..=127 {
         let (board, mut seat) = Board::new(rt.alloc(), names)?;
-        assert_eq!(rt; board.names(), names);
-        let first = board.post(&mut seat, 1, 5);
-        assert_eq!(rt; granted(&first), Some((1, 5)));
-        assert_eq!(rt; granted(&board.post(&mut seat, names + 1, 7)), None);
-        let last = board.post(&mut seat, names, 7);
-        assert_eq!(rt;
-            granted(&last),
-            if names == 1 { None } else { Some((names, 7)) }
-        );
+        let told = [
+            granted(board.post(&mut seat, 1, 5)),
+            granted(board.post(&mut seat, names + 1, 7)),
+            granted(board.post(&mut seat, names, 7)),
+        ];
+        let last = if names == 1 { None } else { Some((names, 7)) };
+        assert_eq!(rt; (board.names(), told), (names, [Some((1, 5)), None, last]));
     }
     Ok(())
 }
@@ -45,34 +41,44 @@ fn two_post_their_names(rt: HostRuntime) -> Result<(), Fail> {
     let Some(mut one) = board.post(&mut seat, 1, 10) else {
         panic!(rt; "1 was free");
     };
-    assert_eq!(rt; granted(&board.post(&mut second, 1, 20)), None);
+    let beside = granted(board.post(&mut second, 1, 20));
     let Some(mut two) = board.post(&mut second, 3, 20) else {
         panic!(rt; "3 was free");
     };
-    assert_eq!(rt; granted(&board.post(&mut second, 3, 20)), Some((3, 20)));
-    assert_eq!(rt; granted(&board.confirm(&mut third, 3, 20)), Some((3, 20)));
-    // Held by another, free, past the last, the least that is no name, and nobody's.
-    assert_eq!(rt; granted(&board.confirm(&mut third, 1, 20)), None);
-    assert_eq!(rt; granted(&board.confirm(&mut third, 2, 10)), None);
-    assert_eq!(rt; granted(&board.confirm(&mut third, 9, 10)), None);
-    assert_eq!(rt; granted(&board.confirm(&mut third, 0, 10)), None);
-    assert_eq!(rt; granted(&board.confirm(&mut third, 2, 0)), None);
-    assert_eq!(rt; granted(&board.post(&mut third, 0, 10)), None);
-    assert_eq!(rt; granted(&board.post(&mut third, 4, 10)), None);
-    assert_eq!(rt; granted(&board.post(&mut third, 2, 0)), None);
+    let told = [
+        beside,
+        granted(board.post(&mut second, 3, 20)),
+        granted(board.confirm(&mut third, 3, 20)),
+        // Held by another, free, past the last, the least that is no name, and nobody's.
+        granted(board.confirm(&mut third, 1, 20)),
+        granted(board.confirm(&mut third, 2, 10)),
+        granted(board.confirm(&mut third, 9, 10)),
+        granted(board.confirm(&mut third, 0, 10)),
+        granted(board.confirm(&mut third, 2, 0)),
+        granted(board.post(&mut third, 0, 10)),
+        granted(board.post(&mut third, 4, 10)),
+        granted(board.post(&mut third, 2, 0)),
+    ];
+    let held = Some((3, 20));
+    assert_eq!(rt;
+        told,
+        [
+            None, held, held, None, None, None, None, None, None, None, None
+        ]
+    );
     board.meet(&mut one, &mut two);
     assert_eq!(rt;
-        ((one.name(), one.identity()), (two.name(), two.identity())),
-        ((1, 10), (3, 20))
+        [(one.name(), one.identity()), (two.name(), two.identity())],
+        [(1, 10), (3, 20)]
     );
     assert_eq!(rt;
-        (
+        [
             board.owner(3),
             board.owner(2),
             board.owner(0),
             board.owner(4)
-        ),
-        (Some(20), None, None, None)
+        ],
+        [Some(20), None, None, None]
     );
     let words = board.close(one)?;
     assert_eq!(rt; words.as_slice(), [10, 0, 20].as_slice());

@@ -30,8 +30,10 @@ fn the_first_of_a_pair_stops(rt: HostRuntime) -> Result<(), Fail> {
     let (mut other, second_way) = splitter.enter(second);
     splitter.meet(&mut one, &mut other);
     assert_eq!(rt; (first_way, second_way), (Way::Stop, Way::Right));
-    assert_eq!(rt; (one.number(), one.way()), (0, Way::Stop));
-    assert_eq!(rt; (other.number(), other.way()), (1, Way::Right));
+    assert_eq!(rt;
+        [(one.number(), one.way()), (other.number(), other.way())],
+        [(0, Way::Stop), (1, Way::Right)]
+    );
     Ok(())
 }
 
@@ -57,12 +59,12 @@ fn the_first_of_three_stops(rt: HostRuntime) -> Result<(), Fail> {
     splitter.meet(&mut first, &mut third);
     splitter.meet(&mut second, &mut third);
     assert_eq!(rt;
-        (first.number(), second.number(), third.number()),
-        (0, 1, 2)
-    );
-    assert_eq!(rt;
-        (first_way, second_way, third_way),
-        (Way::Right, Way::Stop, Way::Right)
+        [
+            (first.number(), first_way),
+            (second.number(), second_way),
+            (third.number(), third_way)
+        ],
+        [(0, Way::Right), (1, Way::Stop), (2, Way::Right)]
     );
     Ok(())
 }
@@ -70,10 +72,8 @@ fn the_first_of_three_stops(rt: HostRuntime) -> Result<(), Fail> {
 #[test]
 fn one_to_sixty_four_seats(rt: HostRuntime) -> Result<(), Fail> {
     for seats in [0, 65] {
-        let Err(refusal) = RawSplitter::new(rt.alloc(), seats) else {
-            panic!(rt; "accepted");
-        };
-        assert_eq!(rt; refusal, Refusal::OutOfRange);
+        let refused = RawSplitter::new(rt.alloc(), seats).err();
+        assert_eq!(rt; refused, Some(Refusal::OutOfRange));
     }
     for count in 1..65u64 {
         let (_splitter, seats) = RawSplitter::new(rt.alloc(), count)?;
@@ -110,6 +110,16 @@ fn two_threads_are_split(rt: HostRuntime) -> Result<(), Fail> {
     Ok(())
 }
 
+/// Whether a splitter was made: if not, then for want of memory.
+fn is_made<T: Drop>(rt: &impl Abort, made: Result<T, Refusal>) -> bool {
+    let refused = made.err();
+    assert!(rt;
+        matches!(refused, None | Some(Refusal::NoMemory)),
+        "{refused:?}"
+    );
+    refused.is_none()
+}
+
 #[test]
 fn each_want_of_memory_is_told(rt: HostRuntime) -> Result<(), Fail> {
     // A heap gives a growth at least 16 bytes, so each in turn is the first that finds no room.
@@ -118,19 +128,15 @@ fn each_want_of_memory_is_told(rt: HostRuntime) -> Result<(), Fail> {
     for blocks in 0..80 {
         let heap = LocalHeap::new(rt.alloc(), 1_280)?;
         let others = Vec::<u8, &LocalHeap>::with_capacity(&heap, 1_280 - 16 * blocks)?;
-        match RawSplitter::new(&heap, 64) {
-            Ok(_) => made.0 = true,
-            Err(refusal) => {
-                assert_eq!(rt; refusal, Refusal::NoMemory);
-                refused.0 = true;
-            }
+        if is_made(&rt, RawSplitter::new(&heap, 64)) {
+            made.0 = true;
+        } else {
+            refused.0 = true;
         }
-        match RawSplitter::pair(&heap) {
-            Ok(_) => made.1 = true,
-            Err(refusal) => {
-                assert_eq!(rt; refusal, Refusal::NoMemory);
-                refused.1 = true;
-            }
+        if is_made(&rt, RawSplitter::pair(&heap)) {
+            made.1 = true;
+        } else {
+            refused.1 = true;
         }
         drop(others);
     }
