@@ -16,31 +16,34 @@ use std::test::Fail;
 use std::time::{Clock, Duration};
 use test_doubles::{Cup, Drip, Refusing};
 
-// The world and the numbers of the config that the words ask to play.
-fn chosen(alloc: Global, words: &[&str]) -> Result<Option<(WorldKind, u64, u64, u64)>, Misuse> {
-    match ask(alloc, words)? {
-        Ask::Play(playing) => {
+// What the words of a line ask for.
+fn asked_by(alloc: Global, line: &str) -> Result<Ask, Misuse> {
+    let words: Vec<&str> = line.split(' ').collect(alloc)?;
+    ask(alloc, words.as_slice())
+}
+
+// That the words of a line are refused.
+fn refuses(alloc: Global, line: &str) -> bool {
+    matches!(asked_by(alloc, line), Err(Misuse::Words(_)))
+}
+
+// The world and the numbers of the config that the words of a line ask to play.
+fn chosen(alloc: Global, line: &str) -> Option<(WorldKind, u64, u64, u64)> {
+    match asked_by(alloc, line) {
+        Ok(Ask::Play(playing)) => {
             let config = playing.config;
-            Ok(Some((config.world, config.m, config.k, config.limit)))
+            Some((config.world, config.m, config.k, config.limit))
         }
-        Ask::Check | Ask::Migrate | Ask::Draw(_) | Ask::Serve(_) => Ok(None),
+        _ => None,
     }
 }
 
-// The seed, the identities, the steps, the runs, and the world of what the words ask to draw.
-fn drawing(
-    alloc: Global,
-    words: &[&str],
-) -> Result<Option<(u64, u64, u64, u64, WorldKind)>, Misuse> {
-    match ask(alloc, words)? {
-        Ask::Play(_) | Ask::Check | Ask::Migrate | Ask::Serve(_) => Ok(None),
-        Ask::Draw(d) => Ok(Some((d.seed, d.ids, d.steps, d.runs, d.config.world))),
+// The seed, the identities, the steps, the runs, and the world of what the words of a line ask to draw.
+fn drawing(alloc: Global, line: &str) -> Option<(u64, u64, u64, u64, WorldKind)> {
+    match asked_by(alloc, line) {
+        Ok(Ask::Draw(d)) => Some((d.seed, d.ids, d.steps, d.runs, d.config.world)),
+        _ => None,
     }
-}
-
-// The words of a line.
-fn words_of(alloc: Global, line: &str) -> Result<Vec<&str>, Fail> {
-    Ok(line.split(' ').collect(alloc)?)
 }
 
 const NO_DRAWINGS: [&str; 13] = [
@@ -60,8 +63,7 @@ const NO_DRAWINGS: [&str; 13] = [
 ];
 
 #[test]
-fn drawings_are_read(rt: HostRuntime) -> Result<(), Fail> {
-    let alloc = rt.alloc();
+fn drawings_are_read(rt: HostRuntime) {
     for (line, want) in [
         (
             "slotctl draw --seed 7 --ids 1 --steps 3",
@@ -72,103 +74,79 @@ fn drawings_are_read(rt: HostRuntime) -> Result<(), Fail> {
             (u64::MAX, 64, 1_000_000, 1_000, WorldKind::Tree),
         ),
     ] {
-        let words = words_of(alloc, line)?;
-        assert_eq!(rt; drawing(alloc, words.as_slice())?, Some(want), "{line}");
+        assert_eq!(rt; drawing(rt.alloc(), line), Some(want), "{line}");
     }
     for line in NO_DRAWINGS {
-        let words = words_of(alloc, line)?;
-        assert!(rt; is_refused(alloc, words.as_slice()), "{line}");
+        assert!(rt; refuses(rt.alloc(), line), "{line}");
     }
-    Ok(())
 }
 
-// The world, the port, the workers and the count of what the words ask to serve.
-fn serving(alloc: Global, words: &[&str]) -> Result<Option<(WorldKind, u64, u64, u64)>, Misuse> {
-    match ask(alloc, words)? {
-        Ask::Serve(s) => Ok(Some((s.config.world, s.port, s.workers, s.count))),
-        Ask::Play(_) | Ask::Check | Ask::Migrate | Ask::Draw(_) => Ok(None),
+// The world, the port, the workers and the count of what the words of a line ask to serve.
+fn serving(alloc: Global, line: &str) -> Option<(WorldKind, u64, u64, u64)> {
+    match asked_by(alloc, line) {
+        Ok(Ask::Serve(s)) => Some((s.config.world, s.port, s.workers, s.count)),
+        _ => None,
     }
 }
 
 #[test]
-fn servings_are_read(rt: HostRuntime) -> Result<(), Fail> {
-    let alloc = rt.alloc();
-    assert_eq!(rt;
-        serving(alloc, &["slotctl", "serve"])?,
-        Some((WorldKind::Rename, 0, 2, 1))
-    );
-    let words = [
-        "slotctl",
-        "serve",
-        "--count",
-        "1000000",
-        "--workers",
-        "16",
-        "--port",
-        "65535",
-        "--world",
-        "tree",
-    ];
-    assert_eq!(rt;
-        serving(alloc, words.as_slice())?,
-        Some((WorldKind::Tree, 65_535, 16, 1_000_000))
-    );
-    for (option, value) in [
-        ("--port", "65536"),
-        ("--workers", "0"),
-        ("--workers", "17"),
-        ("--count", "0"),
-        ("--count", "1000001"),
-        ("--world", "grid"),
-        ("--world", "splitter"),
-        ("--m", "17"),
-        ("--seed", "1"),
+fn servings_are_read(rt: HostRuntime) {
+    for (line, want) in [
+        ("slotctl serve", (WorldKind::Rename, 0, 2, 1)),
+        (
+            "slotctl serve --count 1000000 --workers 16 --port 65535 --world tree",
+            (WorldKind::Tree, 65_535, 16, 1_000_000),
+        ),
     ] {
-        let words = ["slotctl", "serve", option, value];
-        assert!(rt; is_refused(alloc, words.as_slice()), "{option} {value}");
+        assert_eq!(rt; serving(rt.alloc(), line), Some(want), "{line}");
     }
-    Ok(())
+    for line in [
+        "slotctl serve --port 65536",
+        "slotctl serve --workers 0",
+        "slotctl serve --workers 17",
+        "slotctl serve --count 0",
+        "slotctl serve --count 1000001",
+        "slotctl serve --world grid",
+        "slotctl serve --world splitter",
+        "slotctl serve --m 17",
+        "slotctl serve --seed 1",
+    ] {
+        assert!(rt; refuses(rt.alloc(), line), "{line}");
+    }
 }
 
 // To serve is left to the caller, with nothing read or written.
 #[test]
 fn serving_is_left(rt: HostRuntime) {
-    let (status, written, errors) = run_of(
+    let left = runs(
         rt.alloc(),
         &["slotctl", "serve", "--m", "1"],
         b"begin 7\n".as_slice(),
         taking_all(rt.alloc()),
+        (100, b"", b""),
     );
-    assert_eq!(rt; status, 100);
-    assert!(rt; written.is_empty() && errors.is_empty());
+    assert!(rt; left);
 }
 
 #[test]
-fn schedules_are_drawn(rt: HostRuntime) -> Result<(), Fail> {
-    let alloc = rt.alloc();
-    let schedule = [
-        "slotctl", "draw", "--seed", "7", "--ids", "1", "--steps", "3",
-    ];
-    let runs = [
-        "slotctl", "draw", "--seed", "7", "--ids", "1", "--steps", "9", "--runs", "2", "--m", "1",
-    ];
-    let rows: [(&[&str], &[u8]); 2] = [
-        (&schedule, b"begin 1\nstep 1\nstep 1\nstep 1\n"),
+fn schedules_are_drawn(rt: HostRuntime) {
+    let rows: [(&str, &[u8]); 2] = [
         (
-            &runs,
+            "slotctl draw --seed 7 --ids 1 --steps 3",
+            b"begin 1\nstep 1\nstep 1\nstep 1\n",
+        ),
+        (
+            "slotctl draw --seed 7 --ids 1 --steps 9 --runs 2 --m 1",
             b"run 0 begun 1 named 1 spent 0\nrun 1 begun 1 named 1 spent 0\n",
         ),
     ];
-    for (words, text) in rows {
-        let (outcome, written) = done(alloc, words, b"begin 8\n")?;
-        assert!(rt; matches!(outcome, Ok(0)));
-        assert_eq!(rt; written.as_slice(), text);
+    for (line, text) in rows {
+        assert!(rt; writes(rt.alloc(), line, b"begin 8\n", 0, text), "{line}");
     }
-    Ok(())
 }
 
 #[test]
-fn options_are_read(rt: HostRuntime) -> Result<(), Fail> {
+fn options_are_read(rt: HostRuntime) {
     for (line, want) in [
         ("slotctl play", (WorldKind::Rename, 4, 4, 1000)),
         (
@@ -205,10 +183,8 @@ fn options_are_read(rt: HostRuntime) -> Result<(), Fail> {
         ),
         ("slotctl play --limit 007", (WorldKind::Rename, 4, 4, 7)),
     ] {
-        let words = words_of(rt.alloc(), line)?;
-        assert_eq!(rt; chosen(rt.alloc(), words.as_slice())?, Some(want), "{line}");
+        assert_eq!(rt; chosen(rt.alloc(), line), Some(want), "{line}");
     }
-    Ok(())
 }
 
 #[test]
@@ -227,7 +203,7 @@ fn numbers_are_refused(rt: HostRuntime) {
         ] {
             let words = ["slotctl", "play", option, text];
             assert!(rt;
-                matches!(ask(rt.alloc(), words.as_slice()), Err(Misuse::Words(_))),
+                is_refused(rt.alloc(), words.as_slice()),
                 "at {option} {text}"
             );
         }
@@ -253,50 +229,36 @@ fn is_refused(alloc: Global, words: &[&str]) -> bool {
     matches!(ask(alloc, words), Err(Misuse::Words(_)))
 }
 
+const NO_WORDS: [&str; 16] = [
+    "slotctl",
+    "slotctl replay",
+    "slotctl replay --help",
+    "slotctl play --seed 2",
+    "slotctl play --record --record",
+    "slotctl play --record=true",
+    "slotctl play --record --world splitter",
+    "slotctl play --world grid --record",
+    "slotctl play --world",
+    "slotctl play --world ring",
+    "slotctl play --world Splitter",
+    "slotctl play --world splitter --world splitter",
+    "slotctl play --world splitter --m 2 --m 2",
+    "slotctl play --world splitter 2",
+    "slotctl play --workers 2 --help",
+    "slotctl play --k 2 --k 2",
+];
+
 #[test]
 fn words_are_refused(rt: HostRuntime) {
-    let alloc = rt.alloc();
-    assert!(rt; is_refused(alloc, &[]));
-    assert!(rt; is_refused(alloc, &["slotctl"]));
-    assert!(rt; is_refused(alloc, &["slotctl", "replay"]));
-    assert!(rt; is_refused(alloc, &["slotctl", "replay", "--help"]));
-    assert!(rt; is_refused(alloc, &["slotctl", "play", "--seed", "2"]));
-    assert!(rt; is_refused(alloc, &["slotctl", "play", "--record", "--record"]));
-    assert!(rt; is_refused(alloc, &["slotctl", "play", "--record=true"]));
-    assert!(rt;
-        is_refused(
-            alloc,
-            &["slotctl", "play", "--record", "--world", "splitter"]
-        )
-    );
-    assert!(rt; is_refused(alloc, &["slotctl", "play", "--world", "grid", "--record"]));
-    assert!(rt; is_refused(alloc, &["slotctl", "play", "--world"]));
-    assert!(rt; is_refused(alloc, &["slotctl", "play", "--world", "ring"]));
-    assert!(rt; is_refused(alloc, &["slotctl", "play", "--world", "Splitter"]));
-    assert!(rt;
-        is_refused(
-            alloc,
-            &[
-                "slotctl", "play", "--world", "splitter", "--world", "splitter"
-            ]
-        )
-    );
-    assert!(rt;
-        is_refused(
-            alloc,
-            &[
-                "slotctl", "play", "--world", "splitter", "--m", "2", "--m", "2"
-            ]
-        )
-    );
-    assert!(rt; is_refused(alloc, &["slotctl", "play", "--world", "splitter", "2"]));
-    assert!(rt; is_refused(alloc, &["slotctl", "play", "--workers", "2", "--help"]));
-    assert!(rt; is_refused(alloc, &["slotctl", "play", "--k", "2", "--k", "2"]));
+    assert!(rt; is_refused(rt.alloc(), &[]));
+    for line in NO_WORDS {
+        assert!(rt; refuses(rt.alloc(), line), "{line}");
+    }
 }
 
-// That the words ask for help, whose text has this line of usage.
-fn shows_usage(alloc: Global, words: &[&str], usage: &str) -> bool {
-    match ask(alloc, words) {
+// That the words of a line ask for help, whose text has this line of usage.
+fn shows_usage(alloc: Global, line: &str, usage: &str) -> bool {
+    match asked_by(alloc, line) {
         Err(Misuse::Help(text)) => text.as_str().contains(usage),
         _ => false,
     }
@@ -304,24 +266,15 @@ fn shows_usage(alloc: Global, words: &[&str], usage: &str) -> bool {
 
 #[test]
 fn help_is_shown(rt: HostRuntime) {
-    let alloc = rt.alloc();
-    assert!(rt; shows_usage(alloc, &["slotctl", "--help"], "Usage: slotctl <COMMAND>\n"));
-    assert!(rt; shows_usage(alloc, &["slotctl", "-h"], "Usage: slotctl <COMMAND>\n"));
-    assert!(rt; shows_usage(alloc, &["slotctl", "help"], "Usage: slotctl <COMMAND>\n"));
-    assert!(rt;
-        shows_usage(
-            alloc,
-            &["slotctl", "play", "--help"],
-            "Usage: slotctl play [OPTIONS]\n"
-        )
-    );
-    assert!(rt;
-        shows_usage(
-            alloc,
-            &["slotctl", "play", "--m", "3", "--help"],
-            "--m <NUMBER>"
-        )
-    );
+    for (line, usage) in [
+        ("slotctl --help", "Usage: slotctl <COMMAND>\n"),
+        ("slotctl -h", "Usage: slotctl <COMMAND>\n"),
+        ("slotctl help", "Usage: slotctl <COMMAND>\n"),
+        ("slotctl play --help", "Usage: slotctl play [OPTIONS]\n"),
+        ("slotctl play --m 3 --help", "--m <NUMBER>"),
+    ] {
+        assert!(rt; shows_usage(rt.alloc(), line, usage), "{line}");
+    }
 }
 
 #[test]
@@ -344,13 +297,9 @@ fn failures_are_told(rt: HostRuntime) -> Result<(), Fail> {
     Ok(())
 }
 
-// What is done for the words over this input, and what is written.
-fn done(
-    alloc: Global,
-    words: &[&str],
-    input: &[u8],
-) -> Result<(Result<u8, Fault>, Vec<u8>), Misuse> {
-    let asked = ask(alloc, words)?;
+// What is done for the words of a line over this input, and what is written.
+fn done(alloc: Global, line: &str, input: &[u8]) -> Result<(Result<u8, Fault>, Vec<u8>), Misuse> {
+    let asked = asked_by(alloc, line)?;
     let mut reader = Tried::new(input);
     let mut writer = Tried::new(Vec::new(alloc));
     if let Ask::Serve(_) = asked {
@@ -358,6 +307,14 @@ fn done(
     }
     let outcome = work(alloc, asked, &mut reader, &mut writer);
     Ok((outcome, writer.into_inner()))
+}
+
+// That the words of a line end with this status over this input, and write this text.
+fn writes(alloc: Global, line: &str, input: &[u8], status: u8, text: &[u8]) -> bool {
+    match done(alloc, line, input) {
+        Ok((Ok(ended), written)) => ended == status && written.as_slice() == text,
+        _ => false,
+    }
 }
 
 // Words, an input and what is written for it.
@@ -418,27 +375,22 @@ const PLAYED: [(&str, &[u8], &[u8]); 9] = [
 ];
 
 #[test]
-fn commands_are_played(rt: HostRuntime) -> Result<(), Fail> {
+fn commands_are_played(rt: HostRuntime) {
     for (line, input, text) in PLAYED {
-        let words = words_of(rt.alloc(), line)?;
-        let (outcome, written) = done(rt.alloc(), words.as_slice(), input)?;
-        assert!(rt; matches!(outcome, Ok(0)), "{line}");
-        assert_eq!(rt; written.as_slice(), text, "{line}");
+        assert!(rt; writes(rt.alloc(), line, input, 0, text), "{line}");
     }
-    Ok(())
+}
+
+// That a record of the header and of these lines is told so by `check`.
+fn is_checked(alloc: Global, lines: &[u8], status: u8, text: &[u8]) -> Result<bool, Fail> {
+    let mut record = Vec::new(alloc);
+    record.extend_from_slice(HEADER)?;
+    record.extend_from_slice(lines)?;
+    Ok(writes(alloc, "slotctl check", record.as_slice(), status, text))
 }
 
 const HEADER: &[u8] =
     b"{\"format\":\"slot-record\",\"k\":4,\"limit\":1000,\"m\":2,\"version\":1,\"world\":\"rename\"}\n";
-
-// What is told of a record that is this header and these lines.
-fn verdict_on(alloc: Global, lines: &[u8]) -> Result<(u8, Vec<u8>), Fail> {
-    let mut record = Vec::new(alloc);
-    record.extend_from_slice(HEADER)?;
-    record.extend_from_slice(lines)?;
-    let (outcome, written) = done(alloc, &["slotctl", "check"], record.as_slice())?;
-    Ok((outcome?, written))
-}
 
 #[test]
 fn records_are_checked(rt: HostRuntime) -> Result<(), Fail> {
@@ -457,15 +409,19 @@ fn records_are_checked(rt: HostRuntime) -> Result<(), Fail> {
         (b"{\"command\":\"begin 10\"", 1, b"bad record 2\n"),
     ];
     for (lines, status, text) in rows {
-        let (told, written) = verdict_on(rt.alloc(), lines)?;
-        assert_eq!(rt; told, status);
-        assert_eq!(rt; written.as_slice(), text);
+        assert!(rt; is_checked(rt.alloc(), lines, status, text)?, "{lines:?}");
     }
     Ok(())
 }
 
-// A record of six lines in which 10 is named, with or without a view.
-fn verdict_on_name(alloc: Global, version: &str, view: &str) -> Result<(u8, Vec<u8>), Fail> {
+// A record of six lines in which 10 is named, with or without a view, is told so by `check`.
+fn is_checked_with(
+    alloc: Global,
+    version: &str,
+    view: &str,
+    status: u8,
+    text: &[u8],
+) -> Result<bool, Fail> {
     let record = format!(in alloc;
         "{{\"format\":\"slot-record\",\"k\":4,\"limit\":1000,\"m\":2,\"version\":{version},\"world\":\"rename\"}}
 {{\"command\":\"begin 10\",\"reply\":\"ok\"}}
@@ -475,8 +431,7 @@ fn verdict_on_name(alloc: Global, version: &str, view: &str) -> Result<(u8, Vec<
 {{\"command\":\"step 20\",\"reply\":\"proposed 1\"}}
 "
     )?;
-    let (outcome, written) = done(alloc, &["slotctl", "check"], record.as_bytes())?;
-    Ok((outcome?, written))
+    Ok(writes(alloc, "slotctl check", record.as_bytes(), status, text))
 }
 
 #[test]
@@ -490,17 +445,15 @@ fn views_of_names_are_checked(rt: HostRuntime) -> Result<(), Fail> {
         ("3", ",\"view\":\"10:1\"", 1, b"bad record 1\n"),
     ];
     for (version, view, status, text) in rows {
-        let (told, written) = verdict_on_name(rt.alloc(), version, view)?;
-        assert_eq!(rt; told, status, "{version} {view}");
-        assert_eq!(rt; written.as_slice(), text, "{version} {view}");
+        let checked = is_checked_with(rt.alloc(), version, view, status, text)?;
+        assert!(rt; checked, "{version} {view}");
     }
     Ok(())
 }
 
 /// A record is written again with status 0, and where it is none of a run told as by `check`; a write that fails is a fault.
 #[test]
-fn records_are_migrated(rt: HostRuntime) -> Result<(), Fail> {
-    let alloc = rt.alloc();
+fn records_are_migrated(rt: HostRuntime) {
     let old =
         b"{\"format\":\"slot-record\",\"k\":4,\"limit\":1000,\"m\":2,\"version\":1,\"world\":\"rename\"}\n{\"command\":\"begin 10\",\"reply\":\"ok\"}\n";
     let new =
@@ -510,29 +463,35 @@ fn records_are_migrated(rt: HostRuntime) -> Result<(), Fail> {
         (b"{}\n", 1, b"bad record 1\n"),
         (&old[..100], 1, b"bad record 2\n"),
     ] {
-        let (outcome, written) = done(alloc, &["slotctl", "migrate"], record)?;
-        assert_eq!(rt; outcome?, status);
-        assert_eq!(rt; written.as_slice(), text);
+        assert!(rt;
+            writes(rt.alloc(), "slotctl migrate", record, status, text),
+            "{text:?}"
+        );
     }
-    Ok(())
+}
+
+// The record that the words of a line ask for, over what two do.
+fn recorded(alloc: Global, line: &str) -> Result<Vec<u8>, Fail> {
+    let mut input = Vec::new(alloc);
+    input.extend_from_slice(
+        b"begin 10\nbegin 20\nbegin 10\nenter 5\nprobe 5\nput 5 9\nget 5\nleave 5\n",
+    )?;
+    for _ in 0..200u64 {
+        input.extend_from_slice(b"step 10\nstep 20\n")?;
+    }
+    let (_, record) = done(alloc, line, input.as_slice())?;
+    Ok(record)
 }
 
 #[test]
 fn a_record_of_play_is_checked(rt: HostRuntime) -> Result<(), Fail> {
-    let alloc = rt.alloc();
-    for world in ["rename", "tree"] {
-        let words = ["slotctl", "play", "--record", "--world", world, "--m", "2"];
-        let mut input = Vec::new(alloc);
-        input.extend_from_slice(
-            b"begin 10\nbegin 20\nbegin 10\nenter 5\nprobe 5\nput 5 9\nget 5\nleave 5\n",
-        )?;
-        for _ in 0..200u64 {
-            input.extend_from_slice(b"step 10\nstep 20\n")?;
-        }
-        let (_, record) = done(alloc, words.as_slice(), input.as_slice())?;
-        let (outcome, written) = done(alloc, &["slotctl", "check"], record.as_slice())?;
-        assert!(rt; matches!(outcome, Ok(0)), "in {world}");
-        assert_eq!(rt; written.as_slice(), b"yes\n".as_slice());
+    for line in [
+        "slotctl play --record --world rename --m 2",
+        "slotctl play --record --world tree --m 2",
+    ] {
+        let record = recorded(rt.alloc(), line)?;
+        let checked = writes(rt.alloc(), "slotctl check", record.as_slice(), 0, b"yes\n");
+        assert!(rt; checked, "{line}");
     }
     Ok(())
 }
@@ -621,22 +580,24 @@ fn taking_all(alloc: Global) -> Cup {
     Cup::new(alloc, 100_000, 0, false)
 }
 
-// The status of the program with these words, what it wrote, and what it told on the standard error.
-fn run_of<R: Read + Drop>(
+// That the program with these words ends with this status, or with 100 is left to serve, and what it writes and tells on
+// the standard error are these texts.
+fn runs<R: Read + Drop>(
     alloc: Global,
     words: &[&str],
     input: R,
     output: Cup,
-) -> (u8, Vec<u8>, Vec<u8>) {
+    (status, text, told): (u8, &[u8], &[u8]),
+) -> bool {
     let mut reader = Tried::new(input);
     let mut writer = Tried::new(output);
     let mut errors = Vec::new(alloc);
     let outcome = program(alloc, words, &mut reader, &mut writer, &mut errors);
-    let status = match outcome {
+    let ended = match outcome {
         Outcome::Ended(status) => status,
         Outcome::Serve(_) => 100,
     };
-    (status, writer.into_inner().taken, errors)
+    ended == status && writer.into_inner().taken.as_slice() == text && errors.as_slice() == told
 }
 
 #[test]
@@ -671,50 +632,32 @@ fn statuses_and_texts_are_those_of_the_protocol(rt: HostRuntime) {
         ),
     ];
     for (words, status, text, told) in rows {
-        let (ended, written, errors) = run_of(
-            alloc,
-            words,
-            b"begin 7\nstep 7".as_slice(),
-            taking_all(alloc),
-        );
-        assert_eq!(rt; ended, status, "at {words:?}");
-        assert_eq!(rt; written.as_slice(), text, "at {words:?}");
-        assert_eq!(rt; errors.as_slice(), told, "at {words:?}");
+        let input = b"begin 7\nstep 7".as_slice();
+        let right = runs(alloc, words, input, taking_all(alloc), (status, text, told));
+        assert!(rt; right, "at {words:?}");
     }
 }
 
 #[test]
 fn faults_have_status_3_and_a_text(rt: HostRuntime) {
-    let alloc = rt.alloc();
     let words = ["slotctl", "play", "--world", "splitter"];
     let input = b"begin 7\nstep 7\nstep 7";
-    let (status, written, errors) = run_of(
-        alloc,
-        words.as_slice(),
-        Drip::new(input, 1, 22),
-        taking_all(alloc),
-    );
-    assert_eq!(rt; status, 3);
-    assert_eq!(rt; written.as_slice(), b"ok\nquiet\n".as_slice());
-    assert_eq!(rt; errors.as_slice(), b"slotctl: read fault\n".as_slice());
-    let (status, written, errors) = run_of(
-        alloc,
-        words.as_slice(),
-        input.as_slice(),
-        Cup::new(alloc, 7, 2, false),
-    );
-    assert_eq!(rt; status, 3);
-    assert_eq!(rt; written.as_slice(), b"ok\nquie".as_slice());
-    assert_eq!(rt; errors.as_slice(), b"slotctl: write fault\n".as_slice());
-    let (status, written, errors) = run_of(
-        alloc,
-        &["slotctl", "--help"],
-        input.as_slice(),
-        Cup::new(alloc, 7, 2, false),
-    );
-    assert_eq!(rt; status, 3);
-    assert_eq!(rt; written.as_slice(), b"Plays s".as_slice());
-    assert_eq!(rt; errors.as_slice(), b"slotctl: write fault\n".as_slice());
+    let read = b"slotctl: read fault\n".as_slice();
+    let write = b"slotctl: write fault\n".as_slice();
+    // How much each read gives at most and which fails, and the same of the writes.
+    let rows: [(&[&str], (usize, u64), (usize, u64), &[u8], &[u8]); 3] = [
+        (&words, (1, 22), (100_000, 0), b"ok\nquiet\n", read),
+        (&words, (100, 0), (7, 2), b"ok\nquie", write),
+        (&["slotctl", "--help"], (100, 0), (7, 2), b"Plays s", write),
+    ];
+    for (words, reads, writes, text, told) in rows {
+        let input = Drip::new(input, reads.0, reads.1);
+        let output = Cup::new(rt.alloc(), writes.0, writes.1, false);
+        assert!(rt;
+            runs(rt.alloc(), words, input, output, (3, text, told)),
+            "{words:?}"
+        );
+    }
 }
 
 // A clock by which work is done after so many sleeps.

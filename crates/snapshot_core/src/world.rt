@@ -211,6 +211,7 @@ mod tests {
     use crate::client::Pending;
     use crate::fixed::Fixed;
     use crate::scan::Scan;
+    use crate::tests::{Call, Told, plays};
     use std::alloc::Global;
     use std::test::Fail;
 
@@ -233,16 +234,21 @@ mod tests {
     #[test]
     fn a_million_updates_and_no_more(rt: HostRuntime) -> Result<(), Fail> {
         let mut snap = asked(rt.alloc(), 999_999)?;
-        assert_eq!(rt; snap.update(10, 5), Ok(()));
-        for _ in 0..4 {
-            assert!(rt; matches!(snap.step(10), Ok(SnapReply::Quiet)));
-        }
-        assert!(rt; matches!(snap.step(10), Ok(SnapReply::Written)));
-        assert_eq!(rt; snap.update(10, 6), Err(Refusal::Spent));
-        assert_eq!(rt; snap.scan(10), Ok(()));
-        assert_eq!(rt; snap.update(10, 6), Err(Refusal::AlreadyBegun));
+        plays(
+            &rt,
+            &mut snap,
+            &[
+                (10, Call::Update(5), Told::Done),
+                (10, Call::Steps(5), Told::Written),
+                (10, Call::Update(6), Told::Refused(Refusal::Spent)),
+                (10, Call::Scan, Told::Done),
+                (10, Call::Update(6), Told::Refused(Refusal::AlreadyBegun)),
+            ],
+        );
+        drop(snap);
         let mut snap = asked(rt.alloc(), 1_000_000)?;
-        assert_eq!(rt; snap.update(10, 5), Err(Refusal::Spent));
+        let refused = Told::Refused(Refusal::Spent);
+        plays(&rt, &mut snap, &[(10, Call::Update(5), refused)]);
         Ok(())
     }
 }

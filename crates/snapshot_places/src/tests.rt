@@ -1,106 +1,147 @@
 use crate::{Grid, TreePlaces, grid_snapshot_law, tree_snapshot_law};
 use linked_list_allocator::LocalHeap;
 use snapshot_core::{Fixed, Places, SnapReply, SnapWorld, law_of_clients, law_of_snapshot_calls};
-use std::alloc::{Allocator, Global};
+use std::alloc::{AllocError, Allocator, Global};
+use std::process::Abort;
 use std::test::Fail;
-use step_memory::{Place, Refusal, View};
+use step_memory::{Place, Refusal};
 
-/// Whether so many steps of a participant say nothing, over any places.
-fn quiet<W: Places + Drop, A: Allocator>(world: &mut SnapWorld<W, A>, id: u64, steps: usize) -> bool
+/// A call: of steps so many, of which those before the last are quiet.
+#[derive(Clone, Copy, Debug, Drop)]
+enum Call {
+    Begin,
+    Update(u64),
+    Scan,
+    Steps(usize),
+}
+
+/// What a call answers, of steps the last: of a view that it has this pair alone.
+#[derive(Clone, Copy, Debug, Drop)]
+enum Told {
+    Done,
+    Quiet,
+    Placed(Place),
+    Written,
+    Shown(u64, u64),
+    Refused(Refusal),
+}
+
+/// Whether a call that only asks is told so.
+fn is_asked(answer: Result<(), Refusal>, told: Told) -> bool {
+    match told {
+        Told::Done => answer == Ok(()),
+        Told::Refused(refusal) => answer == Err(refusal),
+        _ => false,
+    }
+}
+
+/// Whether a step is told so.
+fn is_stepped(answer: &Result<SnapReply, Refusal>, told: Told) -> bool {
+    match (answer, told) {
+        (Ok(SnapReply::Quiet), Told::Quiet) => true,
+        (Ok(SnapReply::Placed(place)), Told::Placed(want)) => *place == want,
+        (Ok(SnapReply::Written), Told::Written) => true,
+        (Ok(SnapReply::View(view)), Told::Shown(id, value)) => {
+            view.pairs() == [(id, value)].as_slice()
+        }
+        (Err(refusal), Told::Refused(want)) => *refusal == want,
+        _ => false,
+    }
+}
+
+/// Whether a call of a participant is told so, over any places.
+fn answers<W: Places + Drop, A: Allocator>(
+    world: &mut SnapWorld<W, A>,
+    id: u64,
+    call: Call,
+    told: Told,
+) -> bool
 where
     W::Walker: Copy,
     W::Walk: Copy,
     W::Value: Drop,
 {
-    for _ in 0..steps {
-        if !matches!(world.step(id), Ok(SnapReply::Quiet)) {
+    let count = match call {
+        Call::Begin => return is_asked(world.begin(id), told),
+        Call::Update(value) => return is_asked(world.update(id, value), told),
+        Call::Scan => return is_asked(world.scan(id), told),
+        Call::Steps(count) => count,
+    };
+    for _ in 1..count {
+        if !is_stepped(&world.step(id), Told::Quiet) {
             return false;
         }
     }
-    true
+    is_stepped(&world.step(id), told)
 }
 
-/// The place that a step tells.
-fn placed<W: Places + Drop, A: Allocator>(world: &mut SnapWorld<W, A>, id: u64) -> Option<Place>
+/// Makes these calls, each of which answers what stands beside it.
+fn plays<W: Places + Drop, A: Allocator>(
+    rt: &impl Abort,
+    world: &mut SnapWorld<W, A>,
+    calls: &[(u64, Call, Told)],
+)
 where
     W::Walker: Copy,
     W::Walk: Copy,
     W::Value: Drop,
 {
-    match world.step(id) {
-        Ok(SnapReply::Placed(place)) => Some(place),
-        _ => None,
+    for (id, call, told) in calls {
+        assert!(rt;
+            answers(world, *id, *call, *told),
+            "{id} {call:?}: {told:?}"
+        );
     }
 }
 
-/// Whether a step is the write of an update.
-fn writes<W: Places + Drop, A: Allocator>(world: &mut SnapWorld<W, A>, id: u64) -> bool
+/// A participant alone, 7, updates with 3 and finds this as it scans; each collect makes so many reads.
+fn finds<W: Places + Drop>(rt: &impl Abort, world: &mut SnapWorld<W, Global>, reads: usize)
 where
     W::Walker: Copy,
     W::Walk: Copy,
     W::Value: Drop,
 {
-    matches!(world.step(id), Ok(SnapReply::Written))
-}
-
-/// The view that a step shows.
-fn shown<W: Places + Drop, A: Allocator>(world: &mut SnapWorld<W, A>, id: u64) -> Option<View>
-where
-    W::Walker: Copy,
-    W::Walk: Copy,
-    W::Value: Drop,
-{
-    let Ok(reply) = world.step(id) else {
-        return None;
-    };
-    reply.view()
-}
-
-/// The value that a participant alone finds at its own identity, 7: it updates with 3 and scans, and each collect makes so
-/// many reads.
-fn found<W: Places + Drop>(world: &mut SnapWorld<W, Global>, reads: usize) -> Option<u64>
-where
-    W::Walker: Copy,
-    W::Walk: Copy,
-    W::Value: Drop,
-{
-    let Ok(()) = world.update(7, 3) else {
-        return None;
-    };
-    if !quiet(world, 7, reads) || !quiet(world, 7, reads) || !writes(world, 7) {
-        return None;
-    }
-    let Ok(()) = world.scan(7) else {
-        return None;
-    };
-    if !quiet(world, 7, reads) || !quiet(world, 7, reads.saturating_sub(1)) {
-        return None;
-    }
-    shown(world, 7)?.get(7)
+    plays(
+        rt,
+        world,
+        &[
+            (7, Call::Update(3), Told::Done),
+            (7, Call::Steps(reads), Told::Quiet),
+            (7, Call::Steps(reads), Told::Quiet),
+            (7, Call::Steps(1), Told::Written),
+            (7, Call::Scan, Told::Done),
+            (7, Call::Steps(reads), Told::Quiet),
+            (7, Call::Steps(reads), Told::Shown(7, 3)),
+        ],
+    );
 }
 
 #[test]
 fn alone_over_a_grid(rt: HostRuntime) -> Result<(), Fail> {
+    let calls = [
+        (7, Call::Begin, Told::Done),
+        (7, Call::Steps(4), Told::Placed(0)),
+    ];
     let mut segments = 0usize;
     for most in 1..=16usize {
         segments = segments.saturating_add(most);
         let mut world = SnapWorld::new(rt.alloc(), Grid::new(rt.alloc(), most)?)?;
-        assert_eq!(rt; world.begin(7), Ok(()));
-        assert!(rt; quiet(&mut world, 7, 3));
-        assert_eq!(rt; placed(&mut world, 7), Some(0));
-        assert_eq!(rt; found(&mut world, segments), Some(3));
+        plays(&rt, &mut world, &calls);
+        finds(&rt, &mut world, segments);
     }
     Ok(())
 }
 
 #[test]
 fn alone_over_a_tree(rt: HostRuntime) -> Result<(), Fail> {
+    let calls = [
+        (7, Call::Begin, Told::Done),
+        (7, Call::Steps(5), Told::Placed(1)),
+    ];
     for most in 1..=64 {
         let mut world = SnapWorld::new(rt.alloc(), TreePlaces::new(rt.alloc(), most)?)?;
-        assert_eq!(rt; world.begin(7), Ok(()));
-        assert!(rt; quiet(&mut world, 7, 4));
-        assert_eq!(rt; placed(&mut world, 7), Some(1));
-        assert_eq!(rt; found(&mut world, 4), Some(3));
+        plays(&rt, &mut world, &calls);
+        finds(&rt, &mut world, 4);
     }
     Ok(())
 }
@@ -109,8 +150,8 @@ fn alone_over_a_tree(rt: HostRuntime) -> Result<(), Fail> {
 fn alone_over_a_row(rt: HostRuntime) -> Result<(), Fail> {
     for most in 1..=16 {
         let mut world = SnapWorld::new(rt.alloc(), Fixed::new(rt.alloc(), most)?)?;
-        assert_eq!(rt; world.begin(7), Ok(()));
-        assert_eq!(rt; found(&mut world, most), Some(3));
+        plays(&rt, &mut world, &[(7, Call::Begin, Told::Done)]);
+        finds(&rt, &mut world, most);
     }
     Ok(())
 }
@@ -118,29 +159,29 @@ fn alone_over_a_row(rt: HostRuntime) -> Result<(), Fail> {
 #[test]
 fn two_over_a_grid(rt: HostRuntime) -> Result<(), Fail> {
     let mut world = SnapWorld::new(rt.alloc(), Grid::new(rt.alloc(), 2)?)?;
-    assert_eq!(rt; world.begin(10), Ok(()));
-    assert_eq!(rt; world.begin(20), Ok(()));
-    assert_eq!(rt; world.scan(10), Err(Refusal::AlreadyBegun));
-    assert!(rt; quiet(&mut world, 10, 3));
-    assert_eq!(rt; placed(&mut world, 10), Some(0));
-    assert!(rt; quiet(&mut world, 20, 5));
-    assert_eq!(rt; placed(&mut world, 20), Some(1));
-    assert_eq!(rt; world.scan(10), Ok(()));
-    assert!(rt; quiet(&mut world, 10, 3));
-    assert_eq!(rt; world.update(20, 5), Ok(()));
-    assert!(rt; quiet(&mut world, 20, 6));
-    assert!(rt; writes(&mut world, 20));
-    assert!(rt; quiet(&mut world, 10, 5));
-    let Some(view) = shown(&mut world, 10) else {
-        panic!(rt; "no view");
-    };
-    assert_eq!(rt; view.pairs(), [(20, 5)].as_slice());
-    let Some(segment) = world.places().segment_at(1) else {
-        panic!(rt; "no record");
-    };
-    assert_eq!(rt; segment.value, 5);
-    assert!(rt; world.places().segment_at(0).is_none());
-    assert!(rt; world.places().segment_at(3).is_none());
+    plays(
+        &rt,
+        &mut world,
+        &[
+            (10, Call::Begin, Told::Done),
+            (20, Call::Begin, Told::Done),
+            (10, Call::Scan, Told::Refused(Refusal::AlreadyBegun)),
+            (10, Call::Steps(4), Told::Placed(0)),
+            (20, Call::Steps(6), Told::Placed(1)),
+            (10, Call::Scan, Told::Done),
+            (10, Call::Steps(3), Told::Quiet),
+            (20, Call::Update(5), Told::Done),
+            (20, Call::Steps(7), Told::Written),
+            (10, Call::Steps(6), Told::Shown(20, 5)),
+        ],
+    );
+    for (place, want) in [(1, Some(5)), (0, None), (3, None)] {
+        let value = world
+            .places()
+            .segment_at(place)
+            .map(|segment| segment.value);
+        assert_eq!(rt; value, want, "at {place}");
+    }
     grid_snapshot_law(&world);
     law_of_snapshot_calls::<Grid<Global>>();
     law_of_clients::<Grid<Global>>();
@@ -150,22 +191,21 @@ fn two_over_a_grid(rt: HostRuntime) -> Result<(), Fail> {
 #[test]
 fn two_over_a_tree(rt: HostRuntime) -> Result<(), Fail> {
     let mut world = SnapWorld::new(rt.alloc(), TreePlaces::new(rt.alloc(), 2)?)?;
-    assert_eq!(rt; world.begin(10), Ok(()));
-    assert_eq!(rt; world.begin(20), Ok(()));
-    assert!(rt; quiet(&mut world, 10, 4));
-    assert_eq!(rt; placed(&mut world, 10), Some(1));
-    assert_eq!(rt; world.scan(10), Ok(()));
-    assert!(rt; quiet(&mut world, 10, 4));
-    assert!(rt; quiet(&mut world, 20, 7));
-    assert_eq!(rt; placed(&mut world, 20), Some(3));
-    assert_eq!(rt; world.update(20, 5), Ok(()));
-    assert!(rt; quiet(&mut world, 20, 14));
-    assert!(rt; writes(&mut world, 20));
-    assert!(rt; quiet(&mut world, 10, 13));
-    let Some(view) = shown(&mut world, 10) else {
-        panic!(rt; "no view");
-    };
-    assert_eq!(rt; view.pairs(), [(20, 5)].as_slice());
+    plays(
+        &rt,
+        &mut world,
+        &[
+            (10, Call::Begin, Told::Done),
+            (20, Call::Begin, Told::Done),
+            (10, Call::Steps(5), Told::Placed(1)),
+            (10, Call::Scan, Told::Done),
+            (10, Call::Steps(4), Told::Quiet),
+            (20, Call::Steps(8), Told::Placed(3)),
+            (20, Call::Update(5), Told::Done),
+            (20, Call::Steps(15), Told::Written),
+            (10, Call::Steps(14), Told::Shown(20, 5)),
+        ],
+    );
     tree_snapshot_law(&world);
     law_of_snapshot_calls::<TreePlaces<Global>>();
     law_of_clients::<TreePlaces<Global>>();
@@ -174,30 +214,56 @@ fn two_over_a_tree(rt: HostRuntime) -> Result<(), Fail> {
 
 #[test]
 fn sizes_out_of_range(rt: HostRuntime) {
-    assert!(rt; matches!(Grid::new(rt.alloc(), 0), Err(Refusal::OutOfRange)));
-    assert!(rt; matches!(Grid::new(rt.alloc(), 17), Err(Refusal::OutOfRange)));
-    assert!(rt; matches!(TreePlaces::new(rt.alloc(), 0), Err(Refusal::OutOfRange)));
-    assert!(rt; matches!(TreePlaces::new(rt.alloc(), 65), Err(Refusal::OutOfRange)));
+    for most in [0, 17] {
+        let made = Grid::new(rt.alloc(), most);
+        assert!(rt;
+            matches!(made, Err(Refusal::OutOfRange)),
+            "a grid for {most}"
+        );
+    }
+    for most in [0, 65] {
+        let made = TreePlaces::new(rt.alloc(), most);
+        assert!(rt;
+            matches!(made, Err(Refusal::OutOfRange)),
+            "a tree for {most}"
+        );
+    }
+}
+
+/// Boxes that take what the heap has left.
+fn filling(alloc: Global, heap: &LocalHeap) -> Result<Vec<Box<[u64; 2], &LocalHeap>>, AllocError> {
+    let mut boxes = Vec::new(alloc);
+    for _ in 0..512 {
+        if let Ok(filled) = Box::new(heap, [0u64; 2]) {
+            boxes.push(filled)?;
+        }
+    }
+    Ok(boxes)
 }
 
 #[test]
 fn want_of_memory_on_the_way(rt: HostRuntime) -> Result<(), Fail> {
     let heap = LocalHeap::new(rt.alloc(), 4096)?;
     let mut world = SnapWorld::new(rt.alloc(), TreePlaces::new(&heap, 1)?)?;
-    assert_eq!(rt; world.begin(10), Ok(()));
-    let mut boxes = Vec::new(rt.alloc());
-    for _ in 0..512 {
-        if let Ok(filled) = Box::new(&heap, [0u64; 2]) {
-            boxes.push(filled)?;
-        }
-    }
-    assert!(rt; matches!(world.step(10), Err(Refusal::NoMemory)));
-    assert!(rt; matches!(world.step(10), Err(Refusal::NoMemory)));
+    plays(&rt, &mut world, &[(10, Call::Begin, Told::Done)]);
+    let boxes = filling(rt.alloc(), &heap).expect(&rt, "the room for the boxes");
+    plays(
+        &rt,
+        &mut world,
+        &[
+            (10, Call::Steps(1), Told::Refused(Refusal::NoMemory)),
+            (10, Call::Steps(1), Told::Refused(Refusal::NoMemory)),
+        ],
+    );
     drop(boxes);
-    assert!(rt; quiet(&mut world, 10, 4));
-    assert_eq!(rt; placed(&mut world, 10), Some(1));
-    assert_eq!(rt; world.update(10, 2), Ok(()));
-    assert!(rt; quiet(&mut world, 10, 8));
-    assert!(rt; writes(&mut world, 10));
+    plays(
+        &rt,
+        &mut world,
+        &[
+            (10, Call::Steps(5), Told::Placed(1)),
+            (10, Call::Update(2), Told::Done),
+            (10, Call::Steps(9), Told::Written),
+        ],
+    );
     Ok(())
 }

@@ -5,82 +5,155 @@ use crate::laws::{law_of_doors_and_walks, law_of_grid_calls};
 use crate::walker::Walker;
 use crate::world::GridWorld;
 use std::alloc::Allocator;
+use std::process::Abort;
 use std::test::Fail;
-use step_memory::{Access, Answer, Note, Refusal, StepProgram};
+use step_memory::{Access, Answer, Note, Place, Refusal, StepProgram};
 
-/// So many steps that answer nothing, and one that gives the place.
-fn walks_to<A: Allocator + Clone>(
-    world: &mut GridWorld<A>,
-    id: u64,
-    quiet: usize,
-    place: u128,
-) -> bool {
-    for _ in 0..quiet {
-        if world.step(id) != Ok(None) {
-            return false;
-        }
+/// A call: of steps so many, of which those before the last are quiet.
+#[derive(Clone, Copy, Debug, Drop)]
+enum Call {
+    Begin,
+    Steps(usize),
+    Place,
+    /// How many doors were entered, whoever asks.
+    Doors,
+}
+
+/// What a call answers, of steps the last.
+#[derive(Clone, Copy, Debug, Drop, PartialEq)]
+enum Told {
+    Done,
+    Quiet,
+    Placed(Place),
+    Entered(u64),
+    Refused(Refusal),
+}
+
+/// What a call that gives a place tells.
+fn walked(answer: Result<Option<Place>, Refusal>) -> Told {
+    match answer {
+        Ok(None) => Told::Quiet,
+        Ok(Some(place)) => Told::Placed(place),
+        Err(refusal) => Told::Refused(refusal),
     }
-    world.step(id) == Ok(Some(place))
+}
+
+/// What a call of a participant tells; of steps that are not quiet before the last that they are done.
+fn answer_of<A: Allocator + Clone>(world: &mut GridWorld<A>, id: u64, call: Call) -> Told {
+    match call {
+        Call::Begin => match world.begin(id) {
+            Ok(()) => Told::Done,
+            Err(refusal) => Told::Refused(refusal),
+        },
+        Call::Steps(count) => {
+            for _ in 1..count {
+                if world.step(id) != Ok(None) {
+                    return Told::Done;
+                }
+            }
+            walked(world.step(id))
+        }
+        Call::Place => walked(Ok(world.place_of(id))),
+        Call::Doors => Told::Entered(world.doors_entered()),
+    }
+}
+
+/// Makes these calls, each of which tells what stands beside it.
+fn plays<A: Allocator + Clone>(
+    rt: &impl Abort,
+    world: &mut GridWorld<A>,
+    calls: &[(u64, Call, Told)],
+) {
+    for (id, call, want) in calls {
+        assert_eq!(rt; answer_of(world, *id, *call), *want, "{id} {call:?}");
+    }
 }
 
 #[test]
 fn three_one_after_another(rt: HostRuntime) -> Result<(), Fail> {
     let mut world = GridWorld::new(rt.alloc(), 3)?;
-    for id in [10, 20, 30] {
-        assert_eq!(rt; world.begin(id), Ok(()));
+    plays(
+        &rt,
+        &mut world,
+        &[
+            (10, Call::Begin, Told::Done),
+            (20, Call::Begin, Told::Done),
+            (30, Call::Begin, Told::Done),
+            (0, Call::Doors, Told::Entered(0)),
+        ],
+    );
+    for (id, steps, place) in [(10, 4, 0), (20, 6, 1), (30, 8, 3)] {
+        plays(
+            &rt,
+            &mut world,
+            &[
+                (id, Call::Place, Told::Quiet),
+                (id, Call::Steps(steps), Told::Placed(place)),
+                (id, Call::Place, Told::Placed(place)),
+                (id, Call::Steps(1), Told::Refused(Refusal::Finished)),
+            ],
+        );
     }
-    assert_eq!(rt; world.doors_entered(), 0);
-    for (id, quiet, place) in [(10, 3, 0), (20, 5, 1), (30, 7, 3)] {
-        assert_eq!(rt; world.place_of(id), None);
-        assert!(rt; walks_to(&mut world, id, quiet, place));
-        assert_eq!(rt; world.place_of(id), Some(place));
-        assert_eq!(rt; world.step(id), Err(Refusal::Finished));
-    }
-    assert_eq!(rt; world.doors_entered(), 3);
+    plays(&rt, &mut world, &[(0, Call::Doors, Told::Entered(3))]);
     Ok(())
 }
 
 #[test]
 fn a_late_waker_goes_down(rt: HostRuntime) -> Result<(), Fail> {
     let mut world = GridWorld::new(rt.alloc(), 2)?;
-    assert_eq!(rt; world.begin(10), Ok(()));
-    assert_eq!(rt; world.begin(20), Ok(()));
-    for _ in 0..3 {
-        assert_eq!(rt; world.step(10), Ok(None));
-    }
-    assert!(rt; walks_to(&mut world, 20, 5, 1));
-    assert!(rt; walks_to(&mut world, 10, 4, 2));
-    assert_eq!(rt; world.doors_entered(), 3);
+    plays(
+        &rt,
+        &mut world,
+        &[
+            (10, Call::Begin, Told::Done),
+            (20, Call::Begin, Told::Done),
+            (10, Call::Steps(3), Told::Quiet),
+            (20, Call::Steps(6), Told::Placed(1)),
+            (10, Call::Steps(5), Told::Placed(2)),
+            (0, Call::Doors, Told::Entered(3)),
+        ],
+    );
     Ok(())
 }
 
 #[test]
 fn a_move_is_no_access(rt: HostRuntime) -> Result<(), Fail> {
     let mut world = GridWorld::new(rt.alloc(), 2)?;
-    assert_eq!(rt; world.begin(10), Ok(()));
-    assert!(rt; walks_to(&mut world, 10, 3, 0));
-    assert_eq!(rt; world.begin(20), Ok(()));
-    assert_eq!(rt; world.step(20), Ok(None));
-    assert_eq!(rt; world.step(20), Ok(None));
-    assert_eq!(rt; world.doors_entered(), 1);
-    assert_eq!(rt; world.step(20), Ok(None));
-    assert_eq!(rt; world.doors_entered(), 2);
+    plays(
+        &rt,
+        &mut world,
+        &[
+            (10, Call::Begin, Told::Done),
+            (10, Call::Steps(4), Told::Placed(0)),
+            (20, Call::Begin, Told::Done),
+            (20, Call::Steps(2), Told::Quiet),
+            (0, Call::Doors, Told::Entered(1)),
+            (20, Call::Steps(1), Told::Quiet),
+            (0, Call::Doors, Told::Entered(2)),
+        ],
+    );
     Ok(())
 }
 
 #[test]
 fn refusals_in_their_order(rt: HostRuntime) -> Result<(), Fail> {
     let mut world = GridWorld::new(rt.alloc(), 1)?;
-    assert_eq!(rt; world.step(7), Err(Refusal::NotBegun));
-    assert_eq!(rt; world.begin(0), Err(Refusal::ZeroIdentity));
-    assert_eq!(rt; world.begin(7), Ok(()));
-    assert_eq!(rt; world.begin(0), Err(Refusal::ZeroIdentity));
-    assert_eq!(rt; world.begin(7), Err(Refusal::AlreadyBegun));
-    assert_eq!(rt; world.begin(8), Err(Refusal::Full));
-    assert_eq!(rt; world.step(8), Err(Refusal::NotBegun));
-    assert_eq!(rt; world.place_of(8), None);
-    assert!(rt; walks_to(&mut world, 7, 3, 0));
-    assert_eq!(rt; world.step(7), Err(Refusal::Finished));
+    plays(
+        &rt,
+        &mut world,
+        &[
+            (7, Call::Steps(1), Told::Refused(Refusal::NotBegun)),
+            (0, Call::Begin, Told::Refused(Refusal::ZeroIdentity)),
+            (7, Call::Begin, Told::Done),
+            (0, Call::Begin, Told::Refused(Refusal::ZeroIdentity)),
+            (7, Call::Begin, Told::Refused(Refusal::AlreadyBegun)),
+            (8, Call::Begin, Told::Refused(Refusal::Full)),
+            (8, Call::Steps(1), Told::Refused(Refusal::NotBegun)),
+            (8, Call::Place, Told::Quiet),
+            (7, Call::Steps(4), Told::Placed(0)),
+            (7, Call::Steps(1), Told::Refused(Refusal::Finished)),
+        ],
+    );
     Ok(())
 }
 
@@ -102,15 +175,16 @@ fn ranges_of_a_grid(rt: HostRuntime) {
 fn sixteen_one_after_another(rt: HostRuntime) -> Result<(), Fail> {
     let mut world = GridWorld::new(rt.alloc(), 16)?;
     for id in 1..17 {
-        assert_eq!(rt; world.begin(id), Ok(()));
+        plays(&rt, &mut world, &[(id, Call::Begin, Told::Done)]);
         for _ in 0..64 {
             let _ = world.step(id);
         }
     }
     for id in 1..17u64 {
-        assert_eq!(rt; world.place_of(id), Some(u128::from(id * (id - 1) / 2)));
+        let place = Told::Placed(u128::from(id * (id - 1) / 2));
+        plays(&rt, &mut world, &[(id, Call::Place, place)]);
     }
-    assert_eq!(rt; world.doors_entered(), 16);
+    plays(&rt, &mut world, &[(0, Call::Doors, Told::Entered(16))]);
     Ok(())
 }
 
@@ -143,10 +217,13 @@ fn a_walk_as_a_program(rt: HostRuntime) {
     law_of_doors_and_walks();
     law_of_grid_calls();
     let mut walker = Walker::new(9, Door::corner());
-    assert_eq!(rt; walker.next(), Access::Write(0, 9));
-    assert_eq!(rt; take(&mut walker, Answer::Done), Note::Quiet);
-    assert_eq!(rt; walker.next(), Access::Read(1));
-    assert_eq!(rt; take(&mut walker, Answer::Value(1)), Note::Quiet);
+    for (access, got) in [
+        (Access::Write(0, 9), Answer::Done),
+        (Access::Read(1), Answer::Value(1)),
+    ] {
+        assert_eq!(rt; walker.next(), access);
+        assert_eq!(rt; take(&mut walker, got), Note::Quiet, "{access:?}");
+    }
     assert_eq!(rt; walker, Walker::new(9, Door::corner().right()));
     assert_eq!(rt; walker.next(), Access::Write(2, 9));
     assert_eq!(rt; walker.place(), None);

@@ -7,98 +7,192 @@ use crate::{
     law_of_tree_calls, law_of_tree_memory,
 };
 use linked_list_allocator::LocalHeap;
-use std::alloc::Allocator;
+use std::alloc::{AllocError, Allocator, Global};
+use std::process::Abort;
 use std::test::Fail;
-use step_memory::{Access, Answer, Note, Refusal, StepProgram};
+use step_memory::{Access, Answer, Note, Place, Refusal, StepProgram, View};
 
-/// So many steps that answer nothing, and one that gives the place.
-fn walks_to<A: Allocator + Clone>(
+/// A call: of steps so many, of which those before the last are quiet.
+#[derive(Clone, Copy, Debug, Drop)]
+enum Call {
+    Begin,
+    Steps(usize),
+    Place,
+    Store(u64),
+    Collect,
+    CollectSteps(usize),
+}
+
+/// What a call answers, of steps the last.
+#[derive(Clone, Copy, Debug, Drop)]
+enum Told {
+    Done,
+    Quiet,
+    Placed(Place),
+    Shown(&'static [(u64, u64)]),
+    Refused(Refusal),
+}
+
+/// Whether a call that only asks is told so.
+fn is_asked(answer: Result<(), Refusal>, told: Told) -> bool {
+    match told {
+        Told::Done => answer == Ok(()),
+        Told::Refused(refusal) => answer == Err(refusal),
+        _ => false,
+    }
+}
+
+/// Whether a step to a place is told so.
+fn is_walked(answer: Result<Option<Place>, Refusal>, told: Told) -> bool {
+    match told {
+        Told::Quiet => answer == Ok(None),
+        Told::Placed(place) => answer == Ok(Some(place)),
+        Told::Refused(refusal) => answer == Err(refusal),
+        _ => false,
+    }
+}
+
+/// Whether a step of a collect is told so.
+fn is_collected(answer: &Result<Option<View>, Refusal>, told: Told) -> bool {
+    match (answer, told) {
+        (Ok(None), Told::Quiet) => true,
+        (Ok(Some(view)), Told::Shown(pairs)) => view.pairs() == pairs,
+        (Err(refusal), Told::Refused(want)) => *refusal == want,
+        _ => false,
+    }
+}
+
+/// Whether so many steps are quiet, but for the last, which is told so.
+fn walks<A: Allocator + Clone>(
     world: &mut TreeWorld<A>,
     id: u64,
-    quiet: usize,
-    place: u128,
+    count: usize,
+    told: Told,
 ) -> bool {
-    for _ in 0..quiet {
-        if world.step(id) != Ok(None) {
+    for _ in 1..count {
+        if !is_walked(world.step(id), Told::Quiet) {
             return false;
         }
     }
-    world.step(id) == Ok(Some(place))
+    is_walked(world.step(id), told)
 }
 
-/// So many steps of a collect that answer nothing, and one that gives a view of these pairs.
+/// The same of steps of a collect.
 fn collects<A: Allocator + Clone>(
     world: &mut TreeWorld<A>,
     id: u64,
-    quiet: usize,
-    pairs: &[(u64, u64)],
+    count: usize,
+    told: Told,
 ) -> bool {
-    for _ in 0..quiet {
-        if !matches!(world.collect_step(id), Ok(None)) {
+    for _ in 1..count {
+        if !is_collected(&world.collect_step(id), Told::Quiet) {
             return false;
         }
     }
-    match world.collect_step(id) {
-        Ok(Some(view)) => view.pairs() == pairs,
-        Ok(None) => false,
-        Err(_) => false,
+    is_collected(&world.collect_step(id), told)
+}
+
+/// Whether a call of a participant is told so.
+fn answers<A: Allocator + Clone>(
+    world: &mut TreeWorld<A>,
+    id: u64,
+    call: Call,
+    told: Told,
+) -> bool {
+    match call {
+        Call::Begin => is_asked(world.begin(id), told),
+        Call::Steps(count) => walks(world, id, count, told),
+        Call::Place => is_walked(Ok(world.place_of(id)), told),
+        Call::Store(value) => is_asked(world.store(id, value), told),
+        Call::Collect => is_asked(world.collect_begin(id), told),
+        Call::CollectSteps(count) => collects(world, id, count, told),
+    }
+}
+
+/// Makes these calls, each of which answers what stands beside it.
+fn plays<A: Allocator + Clone>(
+    rt: &impl Abort,
+    world: &mut TreeWorld<A>,
+    calls: &[(u64, Call, Told)],
+) {
+    for (id, call, told) in calls {
+        assert!(rt;
+            answers(world, *id, *call, *told),
+            "{id} {call:?}: {told:?}"
+        );
     }
 }
 
 #[test]
 fn one_who_stores_and_collects(rt: HostRuntime) -> Result<(), Fail> {
     let mut world = TreeWorld::new(rt.alloc(), 2)?;
-    assert_eq!(rt; world.begin(10), Ok(()));
-    assert_eq!(rt; world.place_of(10), None);
-    assert!(rt; walks_to(&mut world, 10, 4, 1));
-    assert_eq!(rt; world.place_of(10), Some(1));
-    assert_eq!(rt; world.step(10), Err(Refusal::Finished));
-    assert_eq!(rt; world.store(10, 5), Ok(()));
-    assert_eq!(rt; world.collect_begin(10), Ok(()));
-    assert_eq!(rt; world.step(10), Err(Refusal::Finished));
-    assert!(rt; collects(&mut world, 10, 3, &[(10, 5)]));
-    assert!(rt; matches!(world.collect_step(10), Err(Refusal::Finished)));
-    assert_eq!(rt; world.begin(20), Ok(()));
-    assert_eq!(rt; world.store(20, 1), Err(Refusal::AlreadyBegun));
-    assert_eq!(rt; world.collect_begin(20), Err(Refusal::AlreadyBegun));
-    assert_eq!(rt; world.collect_begin(30), Err(Refusal::NotBegun));
+    plays(
+        &rt,
+        &mut world,
+        &[
+            (10, Call::Begin, Told::Done),
+            (10, Call::Place, Told::Quiet),
+            (10, Call::Steps(5), Told::Placed(1)),
+            (10, Call::Place, Told::Placed(1)),
+            (10, Call::Steps(1), Told::Refused(Refusal::Finished)),
+            (10, Call::Store(5), Told::Done),
+            (10, Call::Collect, Told::Done),
+            (10, Call::Steps(1), Told::Refused(Refusal::Finished)),
+            (10, Call::CollectSteps(4), Told::Shown(&[(10, 5)])),
+            (10, Call::CollectSteps(1), Told::Refused(Refusal::Finished)),
+            (20, Call::Begin, Told::Done),
+            (20, Call::Store(1), Told::Refused(Refusal::AlreadyBegun)),
+            (20, Call::Collect, Told::Refused(Refusal::AlreadyBegun)),
+            (30, Call::Collect, Told::Refused(Refusal::NotBegun)),
+        ],
+    );
     Ok(())
 }
 
 #[test]
 fn two_who_collect_each_other(rt: HostRuntime) -> Result<(), Fail> {
     let mut world = TreeWorld::new(rt.alloc(), 2)?;
-    assert_eq!(rt; world.begin(20), Ok(()));
-    assert_eq!(rt; world.begin(10), Ok(()));
-    for _ in 0..3 {
-        assert_eq!(rt; world.step(20), Ok(None));
-    }
-    assert!(rt; walks_to(&mut world, 10, 4, 1));
-    assert!(rt; walks_to(&mut world, 20, 6, 2));
-    assert_eq!(rt; world.store(10, 7), Ok(()));
-    assert_eq!(rt; world.collect_begin(20), Ok(()));
-    assert!(rt; matches!(world.collect_step(20), Ok(None)));
-    assert_eq!(rt; world.store(20, 8), Err(Refusal::AlreadyBegun));
-    assert!(rt; collects(&mut world, 20, 5, &[(10, 7)]));
-    assert_eq!(rt; world.store(20, 8), Ok(()));
-    assert_eq!(rt; world.collect_begin(10), Ok(()));
-    assert!(rt; collects(&mut world, 10, 6, &[(10, 7), (20, 8)]));
+    plays(
+        &rt,
+        &mut world,
+        &[
+            (20, Call::Begin, Told::Done),
+            (10, Call::Begin, Told::Done),
+            (20, Call::Steps(3), Told::Quiet),
+            (10, Call::Steps(5), Told::Placed(1)),
+            (20, Call::Steps(7), Told::Placed(2)),
+            (10, Call::Store(7), Told::Done),
+            (20, Call::Collect, Told::Done),
+            (20, Call::CollectSteps(1), Told::Quiet),
+            (20, Call::Store(8), Told::Refused(Refusal::AlreadyBegun)),
+            (20, Call::CollectSteps(6), Told::Shown(&[(10, 7)])),
+            (20, Call::Store(8), Told::Done),
+            (10, Call::Collect, Told::Done),
+            (10, Call::CollectSteps(7), Told::Shown(&[(10, 7), (20, 8)])),
+        ],
+    );
     Ok(())
 }
 
 #[test]
 fn refusals_in_their_order(rt: HostRuntime) -> Result<(), Fail> {
     let mut world = TreeWorld::new(rt.alloc(), 1)?;
-    assert_eq!(rt; world.step(7), Err(Refusal::NotBegun));
-    assert_eq!(rt; world.store(7, 1), Err(Refusal::NotBegun));
-    assert!(rt; matches!(world.collect_step(7), Err(Refusal::NotBegun)));
-    assert_eq!(rt; world.begin(0), Err(Refusal::ZeroIdentity));
-    assert_eq!(rt; world.begin(7), Ok(()));
-    assert_eq!(rt; world.begin(0), Err(Refusal::ZeroIdentity));
-    assert_eq!(rt; world.begin(7), Err(Refusal::AlreadyBegun));
-    assert_eq!(rt; world.begin(8), Err(Refusal::Full));
-    assert!(rt; matches!(world.collect_step(7), Err(Refusal::Finished)));
-    assert_eq!(rt; world.place_of(8), None);
+    plays(
+        &rt,
+        &mut world,
+        &[
+            (7, Call::Steps(1), Told::Refused(Refusal::NotBegun)),
+            (7, Call::Store(1), Told::Refused(Refusal::NotBegun)),
+            (7, Call::CollectSteps(1), Told::Refused(Refusal::NotBegun)),
+            (0, Call::Begin, Told::Refused(Refusal::ZeroIdentity)),
+            (7, Call::Begin, Told::Done),
+            (0, Call::Begin, Told::Refused(Refusal::ZeroIdentity)),
+            (7, Call::Begin, Told::Refused(Refusal::AlreadyBegun)),
+            (8, Call::Begin, Told::Refused(Refusal::Full)),
+            (7, Call::CollectSteps(1), Told::Refused(Refusal::Finished)),
+            (8, Call::Place, Told::Quiet),
+        ],
+    );
     Ok(())
 }
 
@@ -130,38 +224,63 @@ fn sixty_four_down_the_deepest_walk(rt: HostRuntime) -> Result<(), Fail> {
     let mut place = 1u128;
     for passed in 0..64usize {
         let id = passed as u64 + 1;
-        assert_eq!(rt; world.begin(id), Ok(()));
-        assert!(rt; walks_to(&mut world, id, 3 * passed + 4, place));
-        assert_eq!(rt; world.step(id), Err(Refusal::Finished));
+        plays(
+            &rt,
+            &mut world,
+            &[
+                (id, Call::Begin, Told::Done),
+                (id, Call::Steps(3 * passed + 5), Told::Placed(place)),
+                (id, Call::Steps(1), Told::Refused(Refusal::Finished)),
+            ],
+        );
         place = place.saturating_mul(2).saturating_add(1);
     }
     assert_eq!(rt; world.place_of(64), Some(18_446_744_073_709_551_615));
     Ok(())
 }
 
+/// Boxes that take what the heap has left.
+pub fn filling(
+    alloc: Global,
+    heap: &LocalHeap,
+) -> Result<Vec<Box<[u64; 2], &LocalHeap>>, AllocError> {
+    let mut boxes = Vec::new(alloc);
+    for _ in 0..512 {
+        if let Ok(filled) = Box::new(heap, [0u64; 2]) {
+            boxes.push(filled)?;
+        }
+    }
+    Ok(boxes)
+}
+
 #[test]
 fn a_node_that_was_refused_is_made_later(rt: HostRuntime) -> Result<(), Fail> {
     let heap = LocalHeap::new(rt.alloc(), 8_192)?;
     let mut world = TreeWorld::new(&heap, 2)?;
-    assert_eq!(rt; world.begin(10), Ok(()));
-    assert_eq!(rt; world.begin(20), Ok(()));
-    assert!(rt; walks_to(&mut world, 10, 4, 1));
-    let mut boxes = Vec::new(rt.alloc());
-    for _ in 0..512 {
-        if let Ok(filled) = Box::new(&heap, [0u64; 2]) {
-            boxes.push(filled)?;
-        }
-    }
-    for _ in 0..3 {
-        assert_eq!(rt; world.step(20), Ok(None));
-    }
-    assert_eq!(rt; world.step(20), Err(Refusal::NoMemory));
-    assert_eq!(rt; world.step(20), Err(Refusal::NoMemory));
+    plays(
+        &rt,
+        &mut world,
+        &[
+            (10, Call::Begin, Told::Done),
+            (20, Call::Begin, Told::Done),
+            (10, Call::Steps(5), Told::Placed(1)),
+        ],
+    );
+    let boxes = filling(rt.alloc(), &heap).expect(&rt, "the room for the boxes");
+    plays(
+        &rt,
+        &mut world,
+        &[
+            (20, Call::Steps(3), Told::Quiet),
+            (20, Call::Steps(1), Told::Refused(Refusal::NoMemory)),
+            (20, Call::Steps(1), Told::Refused(Refusal::NoMemory)),
+        ],
+    );
     assert!(rt; world.tree().registers_at(3).is_none());
     drop(boxes);
-    assert_eq!(rt; world.step(20), Ok(None));
+    plays(&rt, &mut world, &[(20, Call::Steps(1), Told::Quiet)]);
     assert!(rt; world.tree().registers_at(3).is_some());
-    assert!(rt; walks_to(&mut world, 20, 3, 3));
+    plays(&rt, &mut world, &[(20, Call::Steps(4), Told::Placed(3))]);
     Ok(())
 }
 
@@ -170,36 +289,29 @@ fn take<P: StepProgram>(program: &mut P, got: Answer<P::Value>) -> Note<P::Outpu
     program.resume(got)
 }
 
+/// Whether an access writes this word to the register, or with none reads it.
+fn is_access(access: Access<TreeRegister, TreeValue>, at: TreeRegister, word: Option<u64>) -> bool {
+    match access {
+        Access::Write(register, TreeValue::Word(it)) => register == at && word == Some(it),
+        Access::Read(register) => register == at && word.is_none(),
+        _ => false,
+    }
+}
+
 #[test]
 fn a_walk_as_a_program(rt: HostRuntime) {
     let mut walker = Walker::new(9);
     let mut client = Client::new(9);
-    assert!(rt;
-        matches!(
-            walker.next(),
-            Access::Write(TreeRegister::Mark(1), TreeValue::Word(1))
-        )
-    );
-    assert_eq!(rt; take(&mut walker, Answer::Done), Note::Quiet);
     assert!(rt; matches!(take(&mut client, Answer::Done), Note::Quiet));
-    assert!(rt;
-        matches!(
-            walker.next(),
-            Access::Write(TreeRegister::X(1), TreeValue::Word(9))
-        )
-    );
-    assert_eq!(rt; take(&mut walker, Answer::Done), Note::Quiet);
-    assert!(rt; matches!(walker.next(), Access::Read(TreeRegister::Y(1))));
-    assert_eq!(rt;
-        take(&mut walker, Answer::Value(TreeValue::Word(1))),
-        Note::Quiet
-    );
-    assert!(rt;
-        matches!(
-            walker.next(),
-            Access::Write(TreeRegister::Mark(3), TreeValue::Word(1))
-        )
-    );
+    for (at, word, got) in [
+        (TreeRegister::Mark(1), Some(1), Answer::Done),
+        (TreeRegister::X(1), Some(9), Answer::Done),
+        (TreeRegister::Y(1), None, Answer::Value(TreeValue::Word(1))),
+    ] {
+        assert!(rt; is_access(walker.next(), at, word), "{at:?}");
+        assert_eq!(rt; take(&mut walker, got), Note::Quiet, "{at:?}");
+    }
+    assert!(rt; is_access(walker.next(), TreeRegister::Mark(3), Some(1)));
     assert_eq!(rt; walker.place(), None);
     assert!(rt; client.is_placing());
 }

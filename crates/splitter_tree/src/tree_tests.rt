@@ -3,6 +3,7 @@
 use crate::law_of_tree_memory;
 use crate::node_registers::NodeRegisters;
 use crate::register::{TreeRegister, TreeValue};
+use crate::tests::filling;
 use crate::tree::Tree;
 use linked_list_allocator::LocalHeap;
 use std::test::Fail;
@@ -95,16 +96,11 @@ fn a_growth_that_was_refused(rt: HostRuntime) -> Result<(), Fail> {
     let heap = LocalHeap::new(rt.alloc(), 8_192)?;
     let mut tree = Tree::new(&heap);
     assert!(rt; !refuses(&mut tree, TreeRegister::Mark(1), 1));
-    let mut boxes = Vec::new(rt.alloc());
-    for _ in 0..512 {
-        if let Ok(filled) = Box::new(&heap, [0u64; 2]) {
-            boxes.push(filled)?;
-        }
+    let boxes = filling(rt.alloc(), &heap).expect(&rt, "the room for the boxes");
+    for (place, refused) in [(3, true), (3, true), (1, false), (6, false)] {
+        let told = refuses(&mut tree, TreeRegister::Mark(place), 1);
+        assert_eq!(rt; told, refused, "at {place}");
     }
-    assert!(rt; refuses(&mut tree, TreeRegister::Mark(3), 1));
-    assert!(rt; refuses(&mut tree, TreeRegister::Mark(3), 1));
-    assert!(rt; !refuses(&mut tree, TreeRegister::Mark(1), 1));
-    assert!(rt; !refuses(&mut tree, TreeRegister::Mark(6), 1));
     assert!(rt; tree.registers_at(3).is_none());
     drop(boxes);
     assert!(rt; !refuses(&mut tree, TreeRegister::Mark(3), 1));

@@ -10,7 +10,8 @@ use crate::{
     law_of_participants, law_of_refusals, law_of_replies, law_of_rosters, law_of_runs,
     law_of_steps, law_of_told_outcomes, law_of_views, law_of_what_is_seen, law_of_worlds,
 };
-use std::alloc::AllocError;
+use std::alloc::{AllocError, Global};
+use std::process::Abort;
 use std::test::Fail;
 
 /// A program of one access, which ends with its answer.
@@ -102,7 +103,7 @@ impl StepProgram for Watch {
 
 /// Whether a step is a read after which the program goes on, through the bounds of a world.
 fn reads_on<P: StepProgram + Drop, S: StepMemory<Reg = P::Reg, Value = P::Value> + Drop>(
-    world: &mut World<P, S, std::alloc::Global>,
+    world: &mut World<P, S, Global>,
     id: u64,
 ) -> bool {
     world.read_on(id)
@@ -110,90 +111,145 @@ fn reads_on<P: StepProgram + Drop, S: StepMemory<Reg = P::Reg, Value = P::Value>
 
 /// One step through the bounds of a world.
 fn stepped<P: StepProgram + Drop, S: StepMemory<Reg = P::Reg, Value = P::Value> + Drop>(
-    world: &mut World<P, S, std::alloc::Global>,
+    world: &mut World<P, S, Global>,
     id: u64,
 ) -> Result<Note<P::Output>, Refusal> {
     world.step(id)
 }
 
+/// A call of a world whose programs make one access: to begin, to be set or to be asked for it, a step, or a look at a
+/// register of values or of bits.
+#[derive(Clone, Copy, Debug, Drop)]
+enum Call {
+    Begin(Access<usize, u64>),
+    Set(Access<usize, u64>),
+    Ask(Access<usize, u64>),
+    Step,
+    Value(usize),
+    Bit(usize),
+}
+
+/// What a call answers; one that only asks says nothing.
+type Told = Result<Note<Answer<u64>>, Refusal>;
+
+/// What a call that only asks answers.
+fn asked(answer: Result<(), Refusal>) -> Told {
+    match answer {
+        Ok(()) => Ok(Note::Quiet),
+        Err(refusal) => Err(refusal),
+    }
+}
+
+fn told(world: &mut World<Once, Memory<u64, Global>, Global>, id: u64, call: Call) -> Told {
+    match call {
+        Call::Begin(access) => asked(world.begin(id, making(access))),
+        Call::Set(access) => asked(world.set(id, making(access))),
+        Call::Ask(access) => asked(world.ask(id, Instead { access })),
+        Call::Step => stepped(world, id),
+        Call::Value(r) => Ok(Note::Ended(Answer::Value(world.memory().value(r)))),
+        Call::Bit(r) => Ok(Note::Ended(Answer::WasSet(world.memory().bit(r)))),
+    }
+}
+
+/// Makes these calls, each of which answers what stands beside it.
+fn plays(
+    rt: &impl Abort,
+    world: &mut World<Once, Memory<u64, Global>, Global>,
+    calls: &[(u64, Call, Told)],
+) {
+    for (id, call, want) in calls {
+        assert_eq!(rt; told(world, *id, *call), *want, "{id} {call:?}");
+    }
+}
+
+const DONE: Told = Ok(Note::Quiet);
+
 #[test]
 fn each_call_and_each_refusal(rt: HostRuntime) -> Result<(), Fail> {
     let mut world = World::new(rt.alloc(), Memory::new(rt.alloc(), 3, 2, 2)?, 2)?;
-    assert_eq!(rt;
-        world.begin(0, making(Access::Nothing)),
-        Err(Refusal::ZeroIdentity)
+    plays(
+        &rt,
+        &mut world,
+        &[
+            (0, Call::Begin(Access::Nothing), Err(Refusal::ZeroIdentity)),
+            (10, Call::Begin(Access::Write(0, 7)), DONE),
+            (10, Call::Begin(Access::Nothing), Err(Refusal::AlreadyBegun)),
+            (20, Call::Begin(Access::Read(0)), DONE),
+            (30, Call::Begin(Access::Nothing), Err(Refusal::Full)),
+            (0, Call::Begin(Access::Nothing), Err(Refusal::ZeroIdentity)),
+            (30, Call::Step, Err(Refusal::NotBegun)),
+            (0, Call::Value(0), Ok(Note::Ended(Answer::Value(3)))),
+            (10, Call::Step, Ok(Note::Ended(Answer::Done))),
+            (10, Call::Step, Err(Refusal::Finished)),
+            (20, Call::Step, Ok(Note::Ended(Answer::Value(7)))),
+            (30, Call::Set(Access::Nothing), Err(Refusal::NotBegun)),
+            (10, Call::Set(Access::TestAndSet(1)), DONE),
+            (10, Call::Step, Ok(Note::Ended(Answer::WasSet(false)))),
+            (0, Call::Bit(1), Ok(Note::Ended(Answer::WasSet(true)))),
+            (10, Call::Set(Access::TestAndSet(1)), DONE),
+            (10, Call::Step, Ok(Note::Ended(Answer::WasSet(true)))),
+            (0, Call::Bit(1), Ok(Note::Ended(Answer::WasSet(true)))),
+            (10, Call::Set(Access::Clear(1)), DONE),
+            (10, Call::Step, Ok(Note::Ended(Answer::Done))),
+            (0, Call::Bit(1), Ok(Note::Ended(Answer::WasSet(false)))),
+        ],
     );
-    assert_eq!(rt; world.begin(10, making(Access::Write(0, 7))), Ok(()));
-    assert_eq!(rt;
-        world.begin(10, making(Access::Nothing)),
-        Err(Refusal::AlreadyBegun)
-    );
-    assert_eq!(rt; world.begin(20, making(Access::Read(0))), Ok(()));
-    assert_eq!(rt;
-        world.begin(30, making(Access::Nothing)),
-        Err(Refusal::Full)
-    );
-    assert_eq!(rt;
-        world.begin(0, making(Access::Nothing)),
-        Err(Refusal::ZeroIdentity)
-    );
-    assert_eq!(rt; stepped(&mut world, 30), Err(Refusal::NotBegun));
-    assert_eq!(rt; world.memory().value(0), 3);
-    assert_eq!(rt; stepped(&mut world, 10), Ok(Note::Ended(Answer::Done)));
-    assert_eq!(rt; stepped(&mut world, 10), Err(Refusal::Finished));
-    assert_eq!(rt; stepped(&mut world, 20), Ok(Note::Ended(Answer::Value(7))));
-    assert_eq!(rt;
-        world.set(30, making(Access::Nothing)),
-        Err(Refusal::NotBegun)
-    );
-    for was in [false, true] {
-        assert_eq!(rt; world.set(10, making(Access::TestAndSet(1))), Ok(()));
-        assert_eq!(rt;
-            stepped(&mut world, 10),
-            Ok(Note::Ended(Answer::WasSet(was)))
-        );
-        assert!(rt; world.memory().bit(1));
+    for (id, want) in [(10, Some(making(Access::Clear(1)))), (30, None)] {
+        assert_eq!(rt; world.program(id).copied(), want, "{id}");
     }
-    assert_eq!(rt; world.set(10, making(Access::Clear(1))), Ok(()));
-    assert_eq!(rt; stepped(&mut world, 10), Ok(Note::Ended(Answer::Done)));
-    assert!(rt; !world.memory().bit(1));
-    assert!(rt; matches!(world.program(10), Some(program) if *program == making(Access::Clear(1))));
-    assert!(rt; world.program(30).is_none());
     assert_eq!(rt; world.participants().len(), 2);
     Ok(())
+}
+
+/// One who watches register 0, in which 3 stands.
+fn watches(rt: &impl Abort, world: &mut World<Watch, Memory<u64, Global>, Global>) {
+    assert!(rt; !reads_on(world, 10));
+    assert_eq!(rt; world.begin(10, Watch), Ok(()));
+    for _ in 0..2 {
+        assert!(rt; reads_on(world, 10));
+        assert_eq!(rt; stepped(world, 10), Ok(Note::Quiet));
+    }
+    assert_eq!(rt; world.memory().look(&0), Some(&3));
+    assert_eq!(rt; world.memory().look(&1), None);
+}
+
+/// One who reads a register once goes on in no step.
+fn reads_once(rt: &impl Abort, world: &mut World<Once, Memory<u64, Global>, Global>) {
+    for (call, want) in [
+        (Call::Begin(Access::Read(0)), DONE),
+        (Call::Step, Ok(Note::Ended(Answer::Value(3)))),
+    ] {
+        assert_eq!(rt; told(world, 10, call), want, "{call:?}");
+        assert!(rt; !reads_on(world, 10), "{call:?}");
+    }
 }
 
 #[test]
 fn values_are_read_where_they_stand(rt: HostRuntime) -> Result<(), Fail> {
     let mut world = World::new(rt.alloc(), Memory::new(rt.alloc(), 3, 1, 0)?, 1)?;
-    assert!(rt; !reads_on(&mut world, 10));
-    assert_eq!(rt; world.begin(10, Watch), Ok(()));
-    for _ in 0..2 {
-        assert!(rt; reads_on(&mut world, 10));
-        assert_eq!(rt; stepped(&mut world, 10), Ok(Note::Quiet));
-    }
-    assert_eq!(rt; world.memory().look(&0), Some(&3));
-    assert_eq!(rt; world.memory().look(&1), None);
+    watches(&rt, &mut world);
+    drop(world);
     let mut world = World::new(rt.alloc(), Memory::new(rt.alloc(), 3, 1, 0)?, 1)?;
-    assert_eq!(rt; world.begin(10, making(Access::Read(0))), Ok(()));
-    assert!(rt; !reads_on(&mut world, 10));
-    assert_eq!(rt; stepped(&mut world, 10), Ok(Note::Ended(Answer::Value(3))));
-    assert!(rt; !reads_on(&mut world, 10));
+    reads_once(&rt, &mut world);
     Ok(())
 }
 
 #[test]
 fn programs_are_asked_where_they_stand(rt: HostRuntime) -> Result<(), Fail> {
-    let instead = Instead {
-        access: Access::Write(0, 7),
-    };
     let mut world = World::new(rt.alloc(), Memory::new(rt.alloc(), 3, 1, 0)?, 1)?;
-    assert_eq!(rt; world.ask(10, instead), Err(Refusal::NotBegun));
-    assert_eq!(rt; world.begin(10, making(Access::Read(0))), Ok(()));
-    assert_eq!(rt; stepped(&mut world, 10), Ok(Note::Ended(Answer::Value(3))));
-    assert_eq!(rt; world.ask(10, instead), Ok(()));
-    assert_eq!(rt; stepped(&mut world, 10), Ok(Note::Ended(Answer::Done)));
-    assert_eq!(rt; world.memory().value(0), 7);
+    let instead = Call::Ask(Access::Write(0, 7));
+    plays(
+        &rt,
+        &mut world,
+        &[
+            (10, instead, Err(Refusal::NotBegun)),
+            (10, Call::Begin(Access::Read(0)), DONE),
+            (10, Call::Step, Ok(Note::Ended(Answer::Value(3)))),
+            (10, instead, DONE),
+            (10, Call::Step, Ok(Note::Ended(Answer::Done))),
+            (0, Call::Value(0), Ok(Note::Ended(Answer::Value(7)))),
+        ],
+    );
     Ok(())
 }
 
@@ -285,8 +341,9 @@ fn views_are_kept_in_order(rt: HostRuntime) -> Result<(), Fail> {
     view.insert(20, 5);
     assert_eq!(rt; view.pairs(), [(10, 1), (20, 5), (30, 3)].as_slice());
     assert_eq!(rt; view.len(), 3);
-    assert_eq!(rt; view.get(20), Some(5));
-    assert_eq!(rt; view.get(25), None);
+    for (id, want) in [(20, Some(5)), (25, None)] {
+        assert_eq!(rt; view.get(id), want, "{id}");
+    }
     assert!(rt; !view.is_full());
     let mut other = View::new();
     assert!(rt; view != other);
