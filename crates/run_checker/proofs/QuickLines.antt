@@ -1,10 +1,8 @@
 -- lines that are read in one pass over their bytes
-use Rattle.std.proofs.Common.{◌≡◌, ℕ, ◌-◌, ◌≤◌, ◌==◌, true, false, not, Bool, List, [], ◌∷◌, ◌++◌, length, take, drop, Option, Some, None, refl, sym, ap, ◌∙◌, arith, codes, append_assoc}
+use Rattle.std.proofs.Common.{◌≡◌, ℕ, ◌-◌, ◌≤◌, ◌==◌, true, false, not, List, [], ◌∷◌, ◌++◌, length, take, drop, Some, None, refl, ap, ◌∙◌, arith, codes, append_assoc}
 use Rattle.std.specs.List.{list_all}
-use Rattle.std.proofs.lemmas.Bool.{and_parts}
 use Rattle.std.proofs.lemmas.Bool.Decides.{nat_tests}
 use Rattle.std.proofs.lemmas.List.{take_all, length-drop}
-use Rattle.schedule_player.specs.Lines.{pieces_from}
 use Rattle.schedule_player.specs.Meaning.{words, is_digit, number_in, same_bytes}
 use Rattle.schedule_player.specs.Quick.{is_of_words}
 use Rattle.run_checker.specs.declared.header.Version.{Version}
