@@ -10,6 +10,8 @@ mod lines_tests;
 #[cfg(test)]
 mod migrating_tests;
 #[cfg(test)]
+mod quick_line_tests;
+#[cfg(test)]
 mod record_tests;
 #[cfg(test)]
 mod recording_tests;

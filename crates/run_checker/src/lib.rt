@@ -56,7 +56,7 @@ pub mod object;
 pub mod pairs;
 mod people;
 mod plain_line;
-mod quick_line;
+pub mod quick_line;
 pub mod reason;
 pub mod record;
 pub mod record_line;
