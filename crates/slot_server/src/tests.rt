@@ -3,7 +3,7 @@
 ghost use Rattle.std.specs.Prelude.{◌≡◌};
 
 use crate::{Gate, Served, ServerFault, Watched, serve_many, serve_one};
-use locked_world::{Hall, HallLock, ServingClerk, law_of_serving};
+use locked_world::{Clerk, Hall, HallLock, ServingClerk, law_of_serving};
 use schedule_player::{Config, Event, Fault, Summary, Tried, WorldKind};
 use std::alloc::Global;
 use std::io::{Read, Write};
@@ -13,29 +13,38 @@ use std::process::Abort;
 use std::sync::Wait;
 use std::sync::atomic::{AtomicU64, Ordering};
 use std::sync::ledger::{Blank, Ledger};
-use std::test::Fail;
+use std::thread;
 use std::thread::Threads;
-use std::{io, thread};
 use test_doubles::{Cup, Drip};
 
-/// What a hall for one participant was asked, what came of it, and its history.
+/// A config for one participant, with so many numbers.
+fn config(rt: &impl Abort, world: WorldKind, k: u64) -> Config {
+    Config::new(world, 1, k, 1000).expect(rt, "a config in range")
+}
+
+/// A hall for one participant.
+fn hall(rt: &impl Abort, alloc: Global, world: WorldKind) -> Hall {
+    Hall::new(alloc, config(rt, world, 4)).expect(rt, "room for a hall")
+}
+
+/// The fault of a run over a hall for one participant, what went out, and the history.
 #[derive(Drop)]
 struct Run {
-    outcome: Result<Summary, Fault>,
+    fault: Option<Fault>,
     text: Vec<u8>,
     hall: Hall,
 }
 
-fn over_a_hall<R>(rt: &R, alloc: Global, input: Drip<'_>, output: Cup) -> Result<Run, Fail> {
-    let mut hall = Hall::new(alloc, Config::new(WorldKind::Rename, 1, 4, 1000)?)?;
+fn over_a_hall<R: Abort>(rt: &R, alloc: Global, input: Drip<'_>, output: Cup) -> Run {
+    let mut hall = hall(rt, alloc, WorldKind::Rename);
     let mut reader = Tried::new(input);
     let mut writer = Tried::new(output);
     let outcome = serve_one(rt, alloc, &mut reader, &mut writer, &mut hall);
-    Ok(Run {
-        outcome,
+    Run {
+        fault: outcome.err(),
         text: writer.into_inner().taken,
         hall,
-    })
+    }
 }
 
 /// Whether the history of a hall has just these events.
@@ -52,36 +61,37 @@ fn has_just(hall: &Hall, events: &[Event]) -> bool {
     true
 }
 
+/// Compares a run over a hall: its fault, what went out, and the events of the history.
+fn is_run(rt: &impl Abort, run: &Run, fault: Option<Fault>, text: &[u8], events: &[Event]) {
+    assert_eq!(rt; (run.fault, run.text.as_slice()), (fault, text));
+    assert!(rt; has_just(&run.hall, events));
+}
+
 /// A read fault: the whole lines before it are answered, and stand in the history. An end in its place is the end of a line.
 #[test]
-fn a_read_fault_over_a_hall(rt: HostRuntime) -> Result<(), Fail> {
+fn a_read_fault_over_a_hall(rt: HostRuntime) {
     let alloc = rt.alloc();
     law_of_serving();
-    for (fails, text, count) in [(true, b"ok\n".as_slice(), 1), (false, b"ok\nquiet\n", 2)] {
-        for (piece, end) in [(1, 15), (2, 8), (100, 2)] {
-            let input = Drip::new(b"begin 7\nstep 7", piece, if fails { end } else { 0 });
-            let run = over_a_hall(&rt, alloc, input, Cup::new(alloc, 1000, 0, false))?;
-            assert_eq!(rt; run.outcome.is_err(), fails);
-            assert_eq!(rt;
-                run.outcome.err(),
-                if fails { Some(Fault::Read) } else { None }
-            );
-            assert_eq!(rt; run.text.as_slice(), text);
-            assert!(rt; has_just(&run.hall, &[Event::Begin(7), Event::Step(7)][..count]));
+    let both = [Event::Begin(7), Event::Step(7)];
+    for (piece, end) in [(1, 15), (2, 8), (100, 2)] {
+        for (fails_at, fault, text, events) in [
+            (end, Some(Fault::Read), b"ok\n".as_slice(), &both[..1]),
+            (0, None, b"ok\nquiet\n", both.as_slice()),
+        ] {
+            let input = Drip::new(b"begin 7\nstep 7", piece, fails_at);
+            let run = over_a_hall(&rt, alloc, input, Cup::new(alloc, 1000, 0, false));
+            is_run(&rt, &run, fault, text, events);
         }
     }
-    Ok(())
 }
 
 /// A write fault: what went out is a beginning of the text, and what was answered stands in the history.
 #[test]
-fn a_write_fault_over_a_hall(rt: HostRuntime) -> Result<(), Fail> {
+fn a_write_fault_over_a_hall(rt: HostRuntime) {
     let input = Drip::new(b"begin 7\nstep 7\n", 100, 0);
-    let run = over_a_hall(&rt, rt.alloc(), input, Cup::new(rt.alloc(), 3, 2, false))?;
-    assert_eq!(rt; run.outcome.err(), Some(Fault::Write));
-    assert_eq!(rt; run.text.as_slice(), b"ok\n".as_slice());
-    assert!(rt; has_just(&run.hall, &[Event::Begin(7), Event::Step(7)]));
-    Ok(())
+    let run = over_a_hall(&rt, rt.alloc(), input, Cup::new(rt.alloc(), 3, 2, false));
+    let both = [Event::Begin(7), Event::Step(7)];
+    is_run(&rt, &run, Some(Fault::Write), b"ok\n", &both);
 }
 
 /// Counts what it is told.
@@ -112,58 +122,74 @@ impl<R> Gate<R> for Counting {
     }
 }
 
+/// Serves a text that is cut into such pieces: how many lines there were, and how often the gate was told of a line, of a
+/// reply, and of other connections.
+fn is_told(rt: &impl Abort, alloc: Global, input: &[u8], piece: usize) -> (u64, u64, u64, u64) {
+    let gate = Counting {
+        read: AtomicU64::new(0),
+        answered: AtomicU64::new(0),
+        other: AtomicU64::new(0),
+    };
+    let mut hall = hall(rt, alloc, WorldKind::Tree);
+    let mut reader = Watched::new(rt, &gate, 3, Tried::new(Drip::new(input, piece, 0)));
+    let mut writer = Watched::new(rt, &gate, 3, Tried::new(Vec::new(alloc)));
+    let summary = serve_one(rt, alloc, &mut reader, &mut writer, &mut hall);
+    (
+        summary.expect(rt, "a run with no fault").lines,
+        gate.read.load(Ordering::SeqCst),
+        gate.answered.load(Ordering::SeqCst),
+        gate.other.load(Ordering::SeqCst),
+    )
+}
+
 /// However the bytes are cut, a gate is told of each line once, the last with no LF too, and of each reply once.
 #[test]
-fn a_gate_is_told_of_lines_and_replies(rt: HostRuntime) -> Result<(), Fail> {
-    let alloc = rt.alloc();
+fn a_gate_is_told_of_lines_and_replies(rt: HostRuntime) {
     for piece in [1, 3, 8, 100] {
         for (input, lines) in [
             (b"begin 7\n\nstep 7\nowner 1".as_slice(), 4),
             (b"begin 7\n".as_slice(), 1),
             (b"".as_slice(), 0),
         ] {
-            let gate = Counting {
-                read: AtomicU64::new(0),
-                answered: AtomicU64::new(0),
-                other: AtomicU64::new(0),
-            };
-            let mut hall = Hall::new(alloc, Config::new(WorldKind::Tree, 1, 4, 1000)?)?;
-            let given = Drip::new(input, piece, 0);
-            let mut reader = Watched::new(&rt, &gate, 3, Tried::new(given));
-            let mut writer = Watched::new(&rt, &gate, 3, Tried::new(Vec::new(alloc)));
-            let summary = serve_one(&rt, alloc, &mut reader, &mut writer, &mut hall)?;
-            assert_eq!(rt; summary.lines, lines);
-            assert_eq!(rt; gate.read.load(Ordering::SeqCst), lines);
-            assert_eq!(rt; gate.answered.load(Ordering::SeqCst), lines);
-            assert_eq!(rt; gate.other.load(Ordering::SeqCst), 0);
+            let told = is_told(&rt, rt.alloc(), input, piece);
+            assert_eq!(rt; told, (lines, lines, lines, 0), "{piece} {input:?}");
         }
     }
-    Ok(())
 }
 
-/// What a clerk answers to these lines, and how many of its events were accepted.
-fn by_clerk<L: Ledger, R: Wait>(
-    rt: &R,
-    alloc: Global,
-    blank: Blank,
-    config: Config,
-    input: &[u8],
-) -> Option<(Vec<u8>, usize)>
+/// A lock round a hall for one participant, with so many numbers.
+fn opened<L: Ledger>(rt: &impl Abort, alloc: Global, blank: Blank, k: u64) -> HallLock<L>
     requires name { blank.name ≡ L.name }
     requires parts { (blank.parts ≡ L.parts) × (L.parts ≡ 1000001) }
 {
-    let lock = HallLock::<L>::new(alloc, config, blank).ok()?;
-    let clerk = lock.clerk(rt, alloc).ok()?;
+    let config = config(rt, WorldKind::Rename, k);
+    HallLock::<L>::new(alloc, config, blank).expect(rt, "room for a hall")
+}
+
+/// What a clerk answers to these lines, and how many of its events were accepted.
+fn by_clerk<L: Ledger, R: Abort + Wait>(
+    rt: &R,
+    alloc: Global,
+    blank: Blank,
+    k: u64,
+    input: &[u8],
+) -> (Vec<u8>, usize)
+    requires name { blank.name ≡ L.name }
+    requires parts { (blank.parts ≡ L.parts) × (L.parts ≡ 1000001) }
+{
+    let lock = opened::<L>(rt, alloc, blank, k);
+    let clerk = lock.clerk(rt, alloc).expect(rt, "room for a clerk");
     let mut service = ServingClerk::new(&lock, clerk);
     let mut reader = Tried::new(input);
     let mut writer = Tried::new(Vec::new(alloc));
-    serve_one(rt, alloc, &mut reader, &mut writer, &mut service).ok()?;
-    Some((writer.into_inner(), service.into_clerk().count()))
+    let outcome = serve_one(rt, alloc, &mut reader, &mut writer, &mut service);
+    outcome.expect(rt, "a run with no fault");
+    (writer.into_inner(), service.into_clerk().count())
 }
 
 /// The rows of one participant, of the pool and of the slots, through a clerk.
 #[test]
-fn rows_through_a_clerk(rt: HostRuntime) -> Result<(), Fail> {
+fn rows_through_a_clerk(rt: HostRuntime) {
     let rows: [(u64, &[u8], &[u8], usize); 4] = [
         (
             4,
@@ -191,15 +217,15 @@ fn rows_through_a_clerk(rt: HostRuntime) -> Result<(), Fail> {
         ),
     ];
     for (k, input, text, count) in rows {
-        let config = Config::new(WorldKind::Rename, 1, k, 1000)?;
-        let done = by_clerk::<Brand, _>(&rt, rt.alloc(), Blank::new(1_000_001), config, input);
-        let Some((written, kept)) = done else {
-            return Err(Fault::Memory.into());
-        };
-        assert_eq!(rt; written.as_slice(), text);
-        assert_eq!(rt; kept, count);
+        let (written, kept) = by_clerk::<Brand, _>(
+            &rt,
+            rt.alloc(),
+            Blank::new(1_000_001),
+            k,
+            input,
+        );
+        assert_eq!(rt; (written.as_slice(), kept), (text, count));
     }
-    Ok(())
 }
 
 /// Holds connection 0 until connection 1 was answered, for so many looks at most.
@@ -230,23 +256,35 @@ impl<R> Gate<R> for Holding {
     }
 }
 
+/// Sends a line, and that no more come.
+fn sends(rt: &impl Abort, stream: &TcpStream, line: &[u8]) {
+    (&mut &*stream).write_all(line).expect(rt, "a line is sent");
+    stream
+        .shutdown(Shutdown::Write)
+        .expect(rt, "an end is sent");
+}
+
+/// All that comes, to the end.
+fn reads(rt: &impl Abort, alloc: Global, stream: &TcpStream) -> Vec<u8> {
+    let mut text = Vec::new(alloc);
+    (&mut &*stream)
+        .read_to_end(&mut text)
+        .expect(rt, "an end comes");
+    text
+}
+
 /// Two clients, of which the first connects first: each sends its line, and reads to the end.
-fn two_clients<R: Net<Listener = TcpListener, Stream = TcpStream>>(
+fn two_clients<R: Abort + Net<Listener = TcpListener, Stream = TcpStream>>(
     rt: &R,
     alloc: Global,
     port: u16,
-) -> io::Result<(Vec<u8>, Vec<u8>)> {
-    let first = TcpStream::connect(rt, ("127.0.0.1", port))?;
-    let second = TcpStream::connect(rt, ("127.0.0.1", port))?;
-    (&first).write_all(b"begin 7\n")?;
-    (&second).write_all(b"enter 5\n")?;
-    first.shutdown(Shutdown::Write)?;
-    second.shutdown(Shutdown::Write)?;
-    let mut one = Vec::new(alloc);
-    let mut two = Vec::new(alloc);
-    (&mut &second).read_to_end(&mut two)?;
-    (&mut &first).read_to_end(&mut one)?;
-    Ok((one, two))
+) -> (Vec<u8>, Vec<u8>) {
+    let first = TcpStream::connect(rt, ("127.0.0.1", port)).expect(rt, "the first connects");
+    let second = TcpStream::connect(rt, ("127.0.0.1", port)).expect(rt, "the second connects");
+    sends(rt, &first, b"begin 7\n");
+    sends(rt, &second, b"enter 5\n");
+    let two = reads(rt, alloc, &second);
+    (reads(rt, alloc, &first), two)
 }
 
 /// Both replies, what was served, and the closed history, with a gate that holds the first connection.
@@ -259,22 +297,33 @@ struct HeldRun {
     hall: Hall,
 }
 
-fn held<L, R>(rt: &R, alloc: Global, blank: Blank, gate: &Holding) -> Option<HeldRun>
+/// Two clerks of a lock.
+fn two_clerks<L: Ledger, R: Abort + Wait>(
+    rt: &R,
+    alloc: Global,
+    lock: &HallLock<L>,
+) -> Vec<Clerk<L>> {
+    let mut clerks = Vec::new(alloc);
+    for _ in 0..2 {
+        let clerk = lock.clerk(rt, alloc).expect(rt, "room for a clerk");
+        clerks.push(clerk).ok().expect(rt, "room for one more");
+    }
+    clerks
+}
+
+fn held<L, R>(rt: &R, alloc: Global, blank: Blank, gate: &Holding) -> HeldRun
 where
     L: Ledger + Send + Sync,
-    R: Threads + Wait + Sync + Net<Listener = TcpListener, Stream = TcpStream>,
+    R: Abort + Threads + Wait + Sync + Net<Listener = TcpListener, Stream = TcpStream>,
     requires name { blank.name ≡ L.name }
     requires parts { (blank.parts ≡ L.parts) × (L.parts ≡ 1000001) }
 {
-    let config = Config::new(WorldKind::Rename, 1, 4, 1000).ok()?;
-    let lock = HallLock::<L>::new(alloc, config, blank).ok()?;
-    let mut clerks = Vec::new(alloc);
-    clerks.push(lock.clerk(rt, alloc).ok()?).ok()?;
-    clerks.push(lock.clerk(rt, alloc).ok()?).ok()?;
-    let listener = TcpListener::bind(rt, ("127.0.0.1", 0u16)).ok()?;
-    let port = listener.local_addr().ok()?.port();
+    let lock = opened::<L>(rt, alloc, blank, 4);
+    let clerks = two_clerks(rt, alloc, &lock);
+    let listener = TcpListener::bind(rt, ("127.0.0.1", 0u16)).expect(rt, "a port");
+    let port = listener.local_addr().expect(rt, "a bound listener").port();
     let (shared, listening) = (&lock, &listener);
-    let (asked, served) = thread::join(
+    let ((one, two), served) = thread::join(
         rt,
         move || two_clients(rt, alloc, port),
         move || serve_many(rt, alloc, listening, shared, gate, clerks, 2),
@@ -284,15 +333,14 @@ where
         clerks,
         fault,
     } = served;
-    let (one, two) = asked.ok()?;
-    let closed = lock.close(alloc, Vec::new(alloc), clerks).ok()?;
-    Some(HeldRun {
+    let closed = lock.close(alloc, Vec::new(alloc), clerks).ok();
+    HeldRun {
         one,
         two,
         served,
         fault,
-        hall: closed.hall,
-    })
+        hall: closed.expect(rt, "both clerks are handed in").hall,
+    }
 }
 
 /// A connection that is held does not hold another: the second is answered first.
@@ -303,11 +351,9 @@ fn a_held_connection_holds_no_other(rt: HostRuntime) {
         gave_up: AtomicU64::new(0),
     };
     let done = held::<Brand, _>(&rt, rt.alloc(), Blank::new(1_000_001), &gate);
-    let done = done.expect(&rt, "two connections are served");
-    assert_eq!(rt; gate.gave_up.load(Ordering::SeqCst), 0);
-    assert_eq!(rt; done.one.as_slice(), b"ok\n".as_slice());
-    assert_eq!(rt; done.two.as_slice(), b"ok\n".as_slice());
-    assert_eq!(rt; done.served, 2);
-    assert_eq!(rt; done.fault, None);
+    let told = (gate.gave_up.load(Ordering::SeqCst), done.served, done.fault);
+    assert_eq!(rt; told, (0, 2, None));
+    let answers = (done.one.as_slice(), done.two.as_slice());
+    assert_eq!(rt; answers, (b"ok\n".as_slice(), b"ok\n".as_slice()));
     assert!(rt; has_just(&done.hall, &[Event::Enter(5), Event::Begin(7)]));
 }
