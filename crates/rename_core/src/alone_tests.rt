@@ -26,10 +26,11 @@ where
 
 /// At most so many steps of a participant, until it is named. How many there were.
 fn goes<W: RenamePlaces<Global> + Drop>(
+    rt: &impl Abort,
     world: &mut RenameWorld<W, Global>,
     id: u64,
     most: u64,
-) -> Result<u64, Fail>
+) -> u64
 where
     W::Walker: Copy,
     W::Walk: Copy,
@@ -37,11 +38,11 @@ where
 {
     for steps in 0..most {
         if world.name_of(id).is_some() {
-            return Ok(steps);
+            return steps;
         }
-        world.step(id)?;
+        assert!(rt; world.step(id).is_ok(), "step {steps} of {id}");
     }
-    Ok(most)
+    most
 }
 
 /// For how many steps of another, which then stops, so many steps of one who is then alone give it this name.
@@ -50,6 +51,24 @@ struct Alone {
     stopped: [u64; 2],
     steps: u64,
     name: u64,
+}
+
+/// How many steps the first of two makes, up to so many; then how many the other makes alone, and its name.
+fn goes_alone<W: RenamePlaces<Global> + Drop>(
+    rt: &impl Abort,
+    alloc: Global,
+    kind: WorldKind,
+    stopped: u64,
+) -> Result<(u64, u64, Option<u64>), Fail>
+where
+    W::Walker: Copy,
+    W::Walk: Copy,
+    W::Value: Drop,
+{
+    let mut world = begun::<W>(alloc, kind, 2)?;
+    let went = goes(rt, &mut world, 10, stopped);
+    let alone = goes(rt, &mut world, 20, 1_000);
+    Ok((went, alone, world.name_of(20)))
 }
 
 /// Two participants, of whom one stops after each number of steps up to that at which it is named.
@@ -66,10 +85,9 @@ where
 {
     for row in table {
         for stopped in row.stopped[0]..=row.stopped[1] {
-            let mut world = begun::<W>(alloc, kind, 2)?;
-            assert_eq!(rt; goes(&mut world, 10, stopped)?, stopped, "at {stopped}");
-            assert_eq!(rt; goes(&mut world, 20, 1_000)?, row.steps, "at {stopped}");
-            assert_eq!(rt; world.name_of(20), Some(row.name), "at {stopped}");
+            let went = goes_alone::<W>(rt, alloc, kind, stopped)?;
+            let want = (stopped, row.steps, Some(row.name));
+            assert_eq!(rt; went, want, "at {stopped}");
         }
     }
     Ok(())
@@ -119,6 +137,46 @@ fn one_stops_in_a_tree(rt: HostRuntime) -> Result<(), Fail> {
     one_stops::<TreePlaces<Global>>(&rt, rt.alloc(), WorldKind::Tree, &table)
 }
 
+/// Two of three participants stop after these numbers of steps, or earlier, at their names: how far they went. Then the third
+/// is named within so many steps, and the others go on: their names.
+fn goes_past_two<W: RenamePlaces<Global> + Drop>(
+    rt: &impl Abort,
+    alloc: Global,
+    kind: WorldKind,
+    stopped: (u64, u64),
+    most: u64,
+) -> Result<(u64, u64, [Option<u64>; 3]), Fail>
+where
+    W::Walker: Copy,
+    W::Walk: Copy,
+    W::Value: Drop,
+{
+    let mut world = begun::<W>(alloc, kind, 3)?;
+    let first = goes(rt, &mut world, 10, stopped.0);
+    let second = goes(rt, &mut world, 20, stopped.1);
+    goes(rt, &mut world, 30, most);
+    let name = world.name_of(30);
+    goes(rt, &mut world, 20, 1_000);
+    goes(rt, &mut world, 10, 1_000);
+    let names = [world.name_of(10), world.name_of(20), name];
+    Ok((first, second, names))
+}
+
+/// Whether all three are named, no two alike and none above 5.
+fn are_apart(names: &[Option<u64>; 3]) -> bool {
+    let mut seen = [false; 6];
+    for name in names {
+        let Some(here) = name.and_then(|name| seen.get_mut(name as usize)) else {
+            return false;
+        };
+        if *here {
+            return false;
+        }
+        *here = true;
+    }
+    true
+}
+
 /// Three participants, of whom two stop after each two numbers of steps up to those at which they are named: the third is named
 /// within this many steps. Then the others go on: no two have one name, and none is above 5.
 fn two_stop<W: RenamePlaces<Global> + Drop>(
@@ -134,26 +192,12 @@ where
 {
     for first in 0..most {
         for second in 0..most {
-            let mut world = begun::<W>(alloc, kind, 3)?;
-            let went = (goes(&mut world, 10, first)?, goes(&mut world, 20, second)?);
-            goes(&mut world, 30, most)?;
-            let name = world.name_of(30);
-            goes(&mut world, 20, 1_000)?;
-            goes(&mut world, 10, 1_000)?;
-            let names = [world.name_of(10), world.name_of(20), name];
-            let mut seen = [false; 6];
-            for name in names {
-                let here = name.and_then(|name| seen.get_mut(name as usize));
-                let Some(here) = here else {
-                    panic!(rt; "at {first} and {second}: {names:?}");
-                };
-                assert!(rt; !*here, "at {first} and {second}: {names:?}");
-                *here = true;
-            }
-            if went.1 < second {
+            let (one, other, names) = goes_past_two::<W>(rt, alloc, kind, (first, second), most)?;
+            assert!(rt; are_apart(&names), "at {first} and {second}: {names:?}");
+            if other < second {
                 break;
             }
-            if went.0 < first {
+            if one < first {
                 return Ok(());
             }
         }

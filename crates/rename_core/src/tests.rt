@@ -1,5 +1,7 @@
 //! Worked schedules: two participants over segments in a row, over a grid and over a tree.
 
+ghost use Rattle.std.specs.Prelude.{◌<◌};
+
 use crate::{
     Config, RenamePlaces, RenameWorld, Reply, WorldKind, fixed_rename_law, grid_rename_law,
     next_proposal, tree_rename_law,
@@ -13,7 +15,7 @@ use std::test::Fail;
 use step_memory::{Place, Refusal, View};
 
 /// What the last of some steps answers; those before it are quiet.
-#[derive(Clone, Copy, Debug, Drop)]
+#[derive(Clone, Copy, Drop)]
 enum Last<'a> {
     Quiet,
     Placed(Place),
@@ -24,20 +26,19 @@ enum Last<'a> {
     Refused(Refusal),
 }
 
-/// The view that a step shows.
-fn shown<W: RenamePlaces<A> + Drop, A: Allocator>(
-    world: &mut RenameWorld<W, A>,
-    id: u64,
-) -> Option<View>
-where
-    W::Walker: Copy,
-    W::Walk: Copy,
-    W::Value: Drop,
-{
-    let Ok(reply) = world.step(id) else {
-        return None;
-    };
-    reply.view()
+/// Whether a step answers this, after which its participant has this name.
+fn fits(reply: &Result<Reply, Refusal>, name: Option<u64>, last: &Last<'_>) -> bool {
+    match *last {
+        Last::Quiet => matches!(reply, Ok(Reply::Quiet)),
+        Last::Placed(place) => matches!(reply, Ok(Reply::Placed(p)) if *p == place),
+        Last::Proposed(number) => matches!(reply, Ok(Reply::Proposed(n)) if *n == number),
+        Last::Saw(pairs) => matches!(reply, Ok(Reply::Saw(view)) if view.pairs() == pairs),
+        Last::Named(number) => {
+            matches!(reply, Ok(Reply::Named(n, _)) if *n == number) && name == Some(number)
+        }
+        Last::Spent => matches!(reply, Ok(Reply::Spent)),
+        Last::Refused(refusal) => matches!(reply, Err(r) if *r == refusal),
+    }
 }
 
 /// Takes the rows of a schedule in turn: who steps, how often, and what the last of these steps answers.
@@ -53,41 +54,64 @@ where
 {
     for (i, (id, steps, last)) in rows.iter().enumerate() {
         for _ in 1..*steps {
-            assert!(rt; matches!(world.step(*id), Ok(Reply::Quiet)), "row {i}");
+            let reply = world.step(*id);
+            assert!(rt; matches!(reply, Ok(Reply::Quiet)), "row {i}");
         }
-        match *last {
-            Last::Quiet => assert!(rt; matches!(world.step(*id), Ok(Reply::Quiet)), "row {i}"),
-            Last::Placed(place) => {
-                assert!(rt;
-                    matches!(world.step(*id), Ok(Reply::Placed(p)) if p == place),
-                    "row {i}"
-                );
-            }
-            Last::Proposed(number) => {
-                assert!(rt;
-                    matches!(world.step(*id), Ok(Reply::Proposed(n)) if n == number),
-                    "row {i}"
-                );
-            }
-            Last::Saw(pairs) => {
-                let Some(view) = shown(world, *id) else {
-                    panic!(rt; "row {i}");
-                };
-                assert_eq!(rt; view.pairs(), pairs, "row {i}");
-            }
-            Last::Named(name) => {
-                assert!(rt; shown(world, *id).is_some(), "row {i}");
-                assert_eq!(rt; world.name_of(*id), Some(name), "row {i}");
-            }
-            Last::Spent => assert!(rt; matches!(world.step(*id), Ok(Reply::Spent)), "row {i}"),
-            Last::Refused(refusal) => {
-                assert!(rt;
-                    matches!(world.step(*id), Err(r) if r == refusal),
-                    "row {i}"
-                );
-            }
-        }
+        let reply = world.step(*id);
+        assert!(rt; fits(&reply, world.name_of(*id), last), "row {i}");
     }
+}
+
+/// Begins participants one by one, and compares what is answered.
+fn begin<W: RenamePlaces<A> + Drop, A: Allocator>(
+    rt: &impl Abort,
+    world: &mut RenameWorld<W, A>,
+    rows: &[(u64, Result<(), Refusal>)],
+)
+where
+    W::Walker: Copy,
+    W::Walk: Copy,
+    W::Value: Drop,
+{
+    for (id, want) in rows {
+        assert_eq!(rt; world.begin(*id), *want, "{id}");
+    }
+}
+
+/// A world in which participants have begun, and taken the rows of a schedule.
+fn played<W: RenamePlaces<A> + Drop, A: Allocator>(
+    rt: &impl Abort,
+    made: Result<RenameWorld<W, A>, Refusal>,
+    begins: &[(u64, Result<(), Refusal>)],
+    rows: &[(u64, usize, Last<'_>)],
+) -> Result<RenameWorld<W, A>, Refusal>
+where
+    W::Walker: Copy,
+    W::Walk: Copy,
+    W::Value: Drop,
+{
+    let mut world = made?;
+    begin(rt, &mut world, begins);
+    play(rt, &mut world, rows);
+    Ok(world)
+}
+
+/// Compares who has some names, and the proposals.
+fn told<W: RenamePlaces<A> + Drop, A: Allocator>(
+    rt: &impl Abort,
+    world: &RenameWorld<W, A>,
+    owners: &[(u64, Option<u64>)],
+    proposals: &[(u64, u64)],
+)
+where
+    W::Walker: Copy,
+    W::Walk: Copy,
+    W::Value: Drop,
+{
+    for (name, want) in owners {
+        assert_eq!(rt; world.owner_of(*name), *want, "{name}");
+    }
+    assert_eq!(rt; world.proposals().pairs(), proposals);
 }
 
 /// A world of so many participants, each with so many proposals.
@@ -105,88 +129,88 @@ fn fixed(alloc: Global, m: u64, limit: u64) -> Result<RenameWorld<Fixed<Global>,
 
 #[test]
 fn one_alone_where_nobody_else_may_be(rt: HostRuntime) -> Result<(), Fail> {
-    let mut world = grid(rt.alloc(), 1, 1000)?;
-    assert_eq!(rt; world.begin(7), Ok(()));
-    play(
+    let world = played(
         &rt,
-        &mut world,
+        grid(rt.alloc(), 1, 1000),
+        &[(7, Ok(()))],
         &[
             (7, 4, Last::Placed(0)),
             (7, 3, Last::Proposed(1)),
             (7, 2, Last::Named(1)),
             (7, 1, Last::Refused(Refusal::Finished)),
         ],
-    );
+    )?;
     assert_eq!(rt; world.name_of(7), Some(1));
-    assert_eq!(rt; world.owner_of(1), Some(7));
-    assert_eq!(rt; world.owner_of(2), None);
-    assert_eq!(rt; world.proposals().pairs(), [(7, 1)].as_slice());
+    told(&rt, &world, &[(1, Some(7)), (2, None)], &[(7, 1)]);
     grid_rename_law(&world);
     Ok(())
 }
 
+/// What the first to begin is answered in a new world.
+fn begun<W: RenamePlaces<Global> + Drop>(
+    made: Result<RenameWorld<W, Global>, Refusal>,
+) -> Result<(), Refusal>
+where
+    W::Walker: Copy,
+    W::Walk: Copy,
+    W::Value: Drop,
+{
+    made?.begin(7)
+}
+
 #[test]
-fn worlds_of_every_size(rt: HostRuntime) -> Result<(), Fail> {
+fn worlds_of_every_size(rt: HostRuntime) {
     for m in 1..=16 {
-        assert_eq!(rt; grid(rt.alloc(), m, 1)?.begin(7), Ok(()), "at {m}");
-        assert_eq!(rt; fixed(rt.alloc(), m, 1)?.begin(7), Ok(()), "at {m}");
+        assert_eq!(rt; begun(grid(rt.alloc(), m, 1)), Ok(()), "at {m}");
+        assert_eq!(rt; begun(fixed(rt.alloc(), m, 1)), Ok(()), "at {m}");
     }
     for m in 1..=64 {
-        assert_eq!(rt; tree(rt.alloc(), m)?.begin(7), Ok(()), "at {m}");
+        assert_eq!(rt; begun(tree(rt.alloc(), m)), Ok(()), "at {m}");
     }
-    Ok(())
 }
 
 #[test]
 fn one_alone_where_another_may_come(rt: HostRuntime) -> Result<(), Fail> {
-    let mut world = grid(rt.alloc(), 2, 1000)?;
-    assert_eq!(rt; world.begin(7), Ok(()));
-    play(
+    played(
         &rt,
-        &mut world,
+        grid(rt.alloc(), 2, 1000),
+        &[(7, Ok(()))],
         &[
             (7, 4, Last::Placed(0)),
             (7, 7, Last::Proposed(1)),
             (7, 6, Last::Named(1)),
         ],
-    );
+    )?;
     Ok(())
 }
 
 #[test]
 fn begins_and_steps_that_are_refused(rt: HostRuntime) -> Result<(), Fail> {
-    let mut world = grid(rt.alloc(), 2, 1000)?;
-    assert_eq!(rt; world.begin(5), Ok(()));
-    play(&rt, &mut world, &[(5, 1, Last::Quiet)]);
-    assert_eq!(rt; world.begin(5), Err(Refusal::AlreadyBegun));
+    let made = grid(rt.alloc(), 2, 1000);
+    let mut world = played(&rt, made, &[(5, Ok(()))], &[(5, 1, Last::Quiet)])?;
+    begin(&rt, &mut world, &[(5, Err(Refusal::AlreadyBegun))]);
     play(&rt, &mut world, &[(5, 3, Last::Placed(0))]);
-    assert_eq!(rt; world.begin(6), Ok(()));
-    assert_eq!(rt; world.begin(7), Err(Refusal::Full));
+    begin(&rt, &mut world, &[(6, Ok(())), (7, Err(Refusal::Full))]);
     play(&rt, &mut world, &[(7, 1, Last::Refused(Refusal::NotBegun))]);
-    assert_eq!(rt; world.begin(0), Err(Refusal::ZeroIdentity));
-    assert_eq!(rt; world.name_of(5), None);
-    assert_eq!(rt; world.name_of(7), None);
-    assert_eq!(rt; world.owner_of(1), None);
-    assert!(rt; world.proposals().is_empty());
+    begin(&rt, &mut world, &[(0, Err(Refusal::ZeroIdentity))]);
+    assert_eq!(rt; (world.name_of(5), world.name_of(7)), (None, None));
+    told(&rt, &world, &[(1, None)], &[]);
     Ok(())
 }
 
 #[test]
 fn the_largest_name_is_reached(rt: HostRuntime) -> Result<(), Fail> {
-    let mut world = grid(rt.alloc(), 2, 1000)?;
-    world.begin(10)?;
-    world.begin(20)?;
-    for _ in 0..3 {
-        play(
-            &rt,
-            &mut world,
-            &[(10, 1, Last::Quiet), (20, 1, Last::Quiet)],
-        );
-    }
-    play(
+    let world = played(
         &rt,
-        &mut world,
+        grid(rt.alloc(), 2, 1000),
+        &[(10, Ok(())), (20, Ok(()))],
         &[
+            (10, 1, Last::Quiet),
+            (20, 1, Last::Quiet),
+            (10, 1, Last::Quiet),
+            (20, 1, Last::Quiet),
+            (10, 1, Last::Quiet),
+            (20, 1, Last::Quiet),
             (10, 1, Last::Quiet),
             (20, 1, Last::Placed(0)),
             (10, 4, Last::Placed(2)),
@@ -201,22 +225,23 @@ fn the_largest_name_is_reached(rt: HostRuntime) -> Result<(), Fail> {
             (10, 6, Last::Named(2)),
             (20, 6, Last::Named(3)),
         ],
-    );
+    )?;
     assert_eq!(rt; world.name_of(20), Some(3));
-    assert_eq!(rt; world.owner_of(2), Some(10));
-    assert_eq!(rt; world.owner_of(1), None);
-    assert_eq!(rt; world.proposals().pairs(), [(10, 2), (20, 3)].as_slice());
+    told(
+        &rt,
+        &world,
+        &[(2, Some(10)), (1, None)],
+        &[(10, 2), (20, 3)],
+    );
     Ok(())
 }
 
 #[test]
 fn a_borrowed_view(rt: HostRuntime) -> Result<(), Fail> {
-    let mut world = grid(rt.alloc(), 2, 1000)?;
-    world.begin(10)?;
-    world.begin(20)?;
-    play(
+    played(
         &rt,
-        &mut world,
+        grid(rt.alloc(), 2, 1000),
+        &[(10, Ok(())), (20, Ok(()))],
         &[
             (10, 4, Last::Placed(0)),
             (20, 6, Last::Placed(1)),
@@ -231,19 +256,20 @@ fn a_borrowed_view(rt: HostRuntime) -> Result<(), Fail> {
             (10, 6, Last::Named(2)),
             (20, 6, Last::Named(3)),
         ],
-    );
+    )?;
     Ok(())
 }
 
 #[test]
 fn the_largest_identity(rt: HostRuntime) -> Result<(), Fail> {
-    let mut world = grid(rt.alloc(), 2, 1000)?;
-    world.begin(u64::MAX)?;
-    world.begin(1)?;
-    assert_eq!(rt; world.begin(0), Err(Refusal::ZeroIdentity));
-    play(
+    played(
         &rt,
-        &mut world,
+        grid(rt.alloc(), 2, 1000),
+        &[
+            (u64::MAX, Ok(())),
+            (1, Ok(())),
+            (0, Err(Refusal::ZeroIdentity)),
+        ],
         &[
             (u64::MAX, 4, Last::Placed(0)),
             (1, 6, Last::Placed(1)),
@@ -254,18 +280,16 @@ fn the_largest_identity(rt: HostRuntime) -> Result<(), Fail> {
             (u64::MAX, 6, Last::Named(3)),
             (1, 6, Last::Named(1)),
         ],
-    );
+    )?;
     Ok(())
 }
 
 #[test]
 fn a_participant_that_is_spent(rt: HostRuntime) -> Result<(), Fail> {
-    let mut world = grid(rt.alloc(), 2, 1)?;
-    world.begin(10)?;
-    world.begin(20)?;
-    play(
+    let world = played(
         &rt,
-        &mut world,
+        grid(rt.alloc(), 2, 1),
+        &[(10, Ok(())), (20, Ok(()))],
         &[
             (10, 4, Last::Placed(0)),
             (20, 6, Last::Placed(1)),
@@ -277,38 +301,34 @@ fn a_participant_that_is_spent(rt: HostRuntime) -> Result<(), Fail> {
             (10, 1, Last::Refused(Refusal::Spent)),
             (20, 2, Last::Named(1)),
         ],
-    );
-    assert_eq!(rt; world.name_of(10), None);
-    assert_eq!(rt; world.owner_of(1), Some(20));
+    )?;
+    assert_eq!(rt; (world.name_of(10), world.owner_of(1)), (None, Some(20)));
     Ok(())
 }
 
 #[test]
 fn one_alone_in_a_tree(rt: HostRuntime) -> Result<(), Fail> {
-    let mut world = tree(rt.alloc(), 2)?;
-    assert_eq!(rt; world.begin(7), Ok(()));
-    play(
+    let world = played(
         &rt,
-        &mut world,
+        tree(rt.alloc(), 2),
+        &[(7, Ok(()))],
         &[
             (7, 5, Last::Placed(1)),
             (7, 9, Last::Proposed(1)),
             (7, 8, Last::Named(1)),
             (7, 1, Last::Refused(Refusal::Finished)),
         ],
-    );
+    )?;
     tree_rename_law(&world);
     Ok(())
 }
 
 #[test]
 fn two_in_a_tree(rt: HostRuntime) -> Result<(), Fail> {
-    let mut world = tree(rt.alloc(), 2)?;
-    world.begin(10)?;
-    world.begin(20)?;
-    play(
+    let world = played(
         &rt,
-        &mut world,
+        tree(rt.alloc(), 2),
+        &[(10, Ok(())), (20, Ok(()))],
         &[
             (10, 5, Last::Placed(1)),
             (20, 8, Last::Placed(3)),
@@ -319,19 +339,20 @@ fn two_in_a_tree(rt: HostRuntime) -> Result<(), Fail> {
             (10, 15, Last::Proposed(2)),
             (10, 14, Last::Named(2)),
         ],
-    );
-    assert_eq!(rt; world.owner_of(1), Some(20));
-    assert_eq!(rt; world.proposals().pairs(), [(10, 2), (20, 1)].as_slice());
+    )?;
+    told(&rt, &world, &[(1, Some(20))], &[(10, 2), (20, 1)]);
     Ok(())
 }
 
 #[test]
 fn a_node_that_was_refused_is_made_later(rt: HostRuntime) -> Result<(), Fail> {
     let heap = LocalHeap::new(rt.alloc(), 65_536)?;
-    let mut world = tree(&heap, 2)?;
-    world.begin(10)?;
-    world.begin(20)?;
-    play(&rt, &mut world, &[(10, 1, Last::Quiet)]);
+    let mut world = played(
+        &rt,
+        tree(&heap, 2),
+        &[(10, Ok(())), (20, Ok(()))],
+        &[(10, 1, Last::Quiet)],
+    )?;
     let mut boxes = Vec::new(rt.alloc());
     for _ in 0..4_096 {
         if let Ok(filled) = Box::new(&heap, [0u64; 2]) {
@@ -366,12 +387,10 @@ fn a_node_that_was_refused_is_made_later(rt: HostRuntime) -> Result<(), Fail> {
 
 #[test]
 fn two_over_segments_in_a_row(rt: HostRuntime) -> Result<(), Fail> {
-    let mut world = fixed(rt.alloc(), 2, 2)?;
-    world.begin(20)?;
-    world.begin(10)?;
-    play(
+    let world = played(
         &rt,
-        &mut world,
+        fixed(rt.alloc(), 2, 2),
+        &[(20, Ok(())), (10, Ok(()))],
         &[
             (10, 4, Last::Quiet),
             (20, 4, Last::Quiet),
@@ -384,21 +403,34 @@ fn two_over_segments_in_a_row(rt: HostRuntime) -> Result<(), Fail> {
             (10, 4, Last::Named(2)),
             (20, 4, Last::Named(3)),
         ],
-    );
+    )?;
     fixed_rename_law(&world);
     Ok(())
+}
+
+/// Why a new world is refused, if it is.
+fn refusal<W: RenamePlaces<A> + Drop, A: Allocator + Clone>(
+    alloc: A,
+    config: Config,
+) -> Option<Refusal>
+where
+    W::Walker: Copy,
+    W::Walk: Copy,
+    W::Value: Drop,
+{
+    RenameWorld::<W, A>::new(alloc, config).err()
 }
 
 #[test]
 fn worlds_in_which_no_names_are_given(rt: HostRuntime) -> Result<(), Fail> {
     for world in [WorldKind::Splitter, WorldKind::Grid, WorldKind::Tree] {
         let config = Config::new(world, 2, 4, 1000)?;
-        let refused = RenameWorld::<Grid<Global>, Global>::new(rt.alloc(), config).err();
+        let refused = refusal::<Grid<Global>, Global>(rt.alloc(), config);
         assert_eq!(rt; refused, Some(Refusal::OutOfRange));
     }
     for world in [WorldKind::Splitter, WorldKind::Grid, WorldKind::Rename] {
         let config = Config::new(world, 2, 4, 1000)?;
-        let refused = RenameWorld::<TreePlaces<Global>, Global>::new(rt.alloc(), config).err();
+        let refused = refusal::<TreePlaces<Global>, Global>(rt.alloc(), config);
         assert_eq!(rt; refused, Some(Refusal::OutOfRange));
     }
     Ok(())
@@ -432,9 +464,9 @@ fn most_participants_of_each_world(rt: HostRuntime) {
     ] {
         assert_eq!(rt; world.most(), most);
         for m in [16, 17, 64, 65] {
-            let config = Config::new(world, m, 4, 1000);
-            assert_eq!(rt; config.is_ok(), m <= most, "{m} in {world:?}");
-            assert!(rt; config.is_ok() || config == Err(Refusal::OutOfRange));
+            let refused = Config::new(world, m, 4, 1000).err();
+            let want = (most < m).then_some(Refusal::OutOfRange);
+            assert_eq!(rt; refused, want, "{m} in {world:?}");
         }
     }
 }
@@ -443,7 +475,7 @@ fn most_participants_of_each_world(rt: HostRuntime) {
 fn goes_to_its_name(
     world: &mut RenameWorld<TreePlaces<Global>, Global>,
     id: u64,
-) -> Result<(u64, Place, u64), Fail> {
+) -> Result<(u64, Place, u64), Refusal> {
     let mut placed = 0;
     for steps in 1..10_000 {
         match world.step(id)? {
@@ -458,32 +490,34 @@ fn goes_to_its_name(
 #[test]
 fn sixty_four_one_after_another_over_a_tree(rt: HostRuntime) -> Result<(), Fail> {
     let mut world = tree(rt.alloc(), 64)?;
-    for id in 1..=64 {
-        world.begin(id)?;
+    for id in 1..=65 {
+        let want = if id < 65 { Ok(()) } else { Err(Refusal::Full) };
+        assert_eq!(rt; world.begin(id), want, "{id}");
     }
-    assert_eq!(rt; world.begin(65), Err(Refusal::Full));
-    assert_eq!(rt; goes_to_its_name(&mut world, 1)?, (22, 1, 1));
+    assert_eq!(rt; goes_to_its_name(&mut world, 1), Ok((22, 1, 1)));
     let mut place: Place = 1;
     for id in 2..=64u64 {
         place = place.saturating_mul(2).saturating_add(1);
         let steps = id.saturating_mul(27).saturating_add(12);
         let name = id.saturating_mul(2).saturating_sub(1);
-        assert_eq!(rt; goes_to_its_name(&mut world, id)?, (steps, place, name));
+        assert_eq!(rt; goes_to_its_name(&mut world, id), Ok((steps, place, name)));
     }
-    assert_eq!(rt; place, 18_446_744_073_709_551_615);
-    assert_eq!(rt; world.owner_of(127), Some(64));
-    assert_eq!(rt; world.proposals().pairs().len(), 64);
+    assert_eq!(rt;
+        (place, world.owner_of(127), world.proposals().pairs().len()),
+        (18_446_744_073_709_551_615, Some(64), 64)
+    );
     Ok(())
 }
 
-/// A world in the last bytes of a heap.
-fn is_refused<W: RenamePlaces<A> + Drop, A: Allocator + Clone>(alloc: A, config: Config) -> bool
-where
-    W::Walker: Copy,
-    W::Walk: Copy,
-    W::Value: Drop,
+/// Whether a world is refused in a heap where so many times 128 bytes are kept for it.
+fn is_refused_in(alloc: Global, config: Config, kept: usize) -> Result<bool, Fail>
+    requires { kept < 512 }
 {
-    RenameWorld::<W, A>::new(alloc, config).err() == Some(Refusal::NoMemory)
+    let heap = LocalHeap::new(alloc, 65_536)?;
+    let others = Vec::<u8, &LocalHeap>::with_capacity(&heap, 65_408 - 128 * kept)?;
+    let refused = refusal::<Grid<&LocalHeap>, &LocalHeap>(&heap, config);
+    drop(others);
+    Ok(refused == Some(Refusal::NoMemory))
 }
 
 #[test]
@@ -492,14 +526,11 @@ fn each_growth_of_a_new_world_refused(rt: HostRuntime) -> Result<(), Fail> {
     let mut was_refused = false;
     let mut was_made = false;
     for kept in 0..512 {
-        let heap = LocalHeap::new(rt.alloc(), 65_536)?;
-        let others = Vec::<u8, &LocalHeap>::with_capacity(&heap, 65_408 - 128 * kept)?;
-        if is_refused::<Grid<&LocalHeap>, &LocalHeap>(&heap, config) {
+        if is_refused_in(rt.alloc(), config, kept)? {
             was_refused = true;
         } else {
             was_made = true;
         }
-        drop(others);
     }
     assert!(rt; was_refused && was_made);
     Ok(())
@@ -511,7 +542,7 @@ fn the_next_proposal_of_each_rank(rt: HostRuntime) {
     view.insert(10, 1);
     view.insert(20, 1);
     view.insert(30, 4);
-    assert_eq!(rt; next_proposal(&view, 10), 2);
-    assert_eq!(rt; next_proposal(&view, 20), 3);
-    assert_eq!(rt; next_proposal(&view, 30), 4);
+    for (id, want) in [(10, 2), (20, 3), (30, 4)] {
+        assert_eq!(rt; next_proposal(&view, id), want, "{id}");
+    }
 }
