@@ -226,36 +226,51 @@ mod tests {
         Ok(writer.into_inner())
     }
 
+    /// That one alone, in a world for one, takes so many steps in each of so many runs with these lines.
+    fn draws_alone(
+        alloc: Global,
+        world: WorldKind,
+        steps: u32,
+        runs: u64,
+        text: &[u8],
+    ) -> Result<bool, Fail>
+        requires names { gives_names world ≡ true }
+    {
+        let config = Config::new(world, 1, 4, 1000)?;
+        let drawn = lines(alloc, 7, 1, u64::from(steps), runs, config)?;
+        Ok(drawn.as_slice() == text)
+    }
+
     #[test]
     fn one_alone_is_named_at_its_ninth_step(rt: HostRuntime) -> Result<(), Fail> {
-        let config = Config::new(WorldKind::Rename, 1, 4, 1000)?;
-        let named = lines(rt.alloc(), 7, 1, 9, 2, config)?;
-        assert_eq!(rt;
-            named.as_slice(),
-            b"run 0 begun 1 named 1 spent 0\nrun 1 begun 1 named 1 spent 0\n".as_slice()
-        );
-        let unnamed = lines(rt.alloc(), 7, 1, 8, 2, config)?;
-        assert_eq!(rt;
-            unnamed.as_slice(),
-            b"run 0 begun 1 named 0 spent 0\nrun 1 begun 1 named 0 spent 0\n".as_slice()
-        );
+        let named = b"run 0 begun 1 named 1 spent 0\nrun 1 begun 1 named 1 spent 0\n";
+        assert!(rt; draws_alone(rt.alloc(), WorldKind::Rename, 9, 2, named)?);
+        let unnamed = b"run 0 begun 1 named 0 spent 0\nrun 1 begun 1 named 0 spent 0\n";
+        assert!(rt; draws_alone(rt.alloc(), WorldKind::Rename, 8, 2, unnamed)?);
         Ok(())
     }
 
     #[test]
     fn one_alone_is_named_in_a_tree(rt: HostRuntime) -> Result<(), Fail> {
-        let config = Config::new(WorldKind::Tree, 1, 4, 1000)?;
-        let named = lines(rt.alloc(), 7, 1, 22, 1, config)?;
-        assert_eq!(rt;
-            named.as_slice(),
-            b"run 0 begun 1 named 1 spent 0\n".as_slice()
-        );
-        let unnamed = lines(rt.alloc(), 7, 1, 21, 1, config)?;
-        assert_eq!(rt;
-            unnamed.as_slice(),
-            b"run 0 begun 1 named 0 spent 0\n".as_slice()
-        );
+        let named = b"run 0 begun 1 named 1 spent 0\n";
+        assert!(rt; draws_alone(rt.alloc(), WorldKind::Tree, 22, 1, named)?);
+        let unnamed = b"run 0 begun 1 named 0 spent 0\n";
+        assert!(rt; draws_alone(rt.alloc(), WorldKind::Tree, 21, 1, unnamed)?);
         Ok(())
+    }
+
+    /// The line of the run of one seed, with the seed as its number.
+    fn line_of_seed(alloc: Global, seed: u64, config: Config) -> Result<Vec<u8>, Fail>
+        requires names { gives_names config.world ≡ true }
+    {
+        let one = lines(alloc, seed, 4, 200, 1, config)?;
+        let mut line = Vec::new(alloc);
+        if let Some(tail) = one.as_slice().strip_prefix(b"run 0".as_slice()) {
+            line.extend_from_slice(b"run ")?;
+            line.extend_from_slice(Buffer::new().format(seed).as_bytes())?;
+            line.extend_from_slice(tail)?;
+        }
+        Ok(line)
     }
 
     /// The arena between the runs changes nothing: the line of run j is that of the seed j alone.
@@ -264,14 +279,9 @@ mod tests {
         let config = Config::new(WorldKind::Tree, 4, 4, 1000)?;
         let mut want = Vec::new(rt.alloc());
         for seed in 0..100u64 {
-            let one = lines(rt.alloc(), seed, 4, 200, 1, config)?;
-            let Some((head, tail)) = one.as_slice().split_at_checked(5) else {
-                panic!(rt; "seed {seed}: {one:?}");
-            };
-            assert_eq!(rt; head, b"run 0".as_slice());
-            want.extend_from_slice(b"run ")?;
-            want.extend_from_slice(Buffer::new().format(seed).as_bytes())?;
-            want.extend_from_slice(tail)?;
+            let line = line_of_seed(rt.alloc(), seed, config)?;
+            assert!(rt; !line.is_empty(), "seed {seed}");
+            want.extend_from_slice(line.as_slice())?;
         }
         let all = lines(rt.alloc(), 0, 4, 200, 100, config)?;
         assert_eq!(rt; all.as_slice(), want.as_slice());

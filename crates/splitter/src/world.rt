@@ -104,38 +104,73 @@ mod tests {
         law_of_one_access, law_of_one_door, law_of_splitter_calls, law_of_walks, law_of_ways,
     };
     use linked_list_allocator::LocalHeap;
+    use std::alloc::Global;
+    use std::process::Abort;
     use std::test::Fail;
+
+    /// To begin, or a step, and what it answers; to begin answers nothing.
+    type Row = (u64, bool, Result<Option<Way>, Refusal>);
+
+    const BEGIN: bool = true;
+
+    const STEP: bool = false;
+
+    /// Makes these calls, each of which answers what stands beside it.
+    fn plays(rt: &impl Abort, world: &mut SplitterWorld<Global>, calls: &[Row]) {
+        for (id, begins, want) in calls {
+            let told = if *begins {
+                world.begin(*id).map(|_| None)
+            } else {
+                world.step(*id)
+            };
+            assert_eq!(rt; told, *want, "{id}");
+        }
+    }
 
     #[test]
     fn one_after_another(rt: HostRuntime) -> Result<(), Fail> {
         let mut world = SplitterWorld::new(rt.alloc(), 2)?;
-        assert_eq!(rt; world.begin(10), Ok(()));
-        for _ in 0..3 {
-            assert_eq!(rt; world.step(10), Ok(None));
-        }
-        assert_eq!(rt; world.step(10), Ok(Some(Way::Stop)));
-        assert_eq!(rt; world.begin(20), Ok(()));
-        assert_eq!(rt; world.step(20), Ok(None));
-        assert_eq!(rt; world.step(20), Ok(Some(Way::Right)));
-        assert_eq!(rt; world.step(20), Err(Refusal::Finished));
-        assert_eq!(rt; world.begin(0), Err(Refusal::ZeroIdentity));
-        assert_eq!(rt; world.begin(20), Err(Refusal::AlreadyBegun));
-        assert_eq!(rt; world.begin(30), Err(Refusal::Full));
-        assert_eq!(rt; world.step(30), Err(Refusal::NotBegun));
+        plays(
+            &rt,
+            &mut world,
+            &[
+                (10, BEGIN, Ok(None)),
+                (10, STEP, Ok(None)),
+                (10, STEP, Ok(None)),
+                (10, STEP, Ok(None)),
+                (10, STEP, Ok(Some(Way::Stop))),
+                (20, BEGIN, Ok(None)),
+                (20, STEP, Ok(None)),
+                (20, STEP, Ok(Some(Way::Right))),
+                (20, STEP, Err(Refusal::Finished)),
+                (0, BEGIN, Err(Refusal::ZeroIdentity)),
+                (20, BEGIN, Err(Refusal::AlreadyBegun)),
+                (30, BEGIN, Err(Refusal::Full)),
+                (30, STEP, Err(Refusal::NotBegun)),
+            ],
+        );
         Ok(())
     }
 
     #[test]
     fn all_four_accesses_interleaved(rt: HostRuntime) -> Result<(), Fail> {
         let mut world = SplitterWorld::new(rt.alloc(), 2)?;
-        assert_eq!(rt; world.begin(10), Ok(()));
-        assert_eq!(rt; world.begin(20), Ok(()));
-        for _ in 0..3 {
-            assert_eq!(rt; world.step(10), Ok(None));
-            assert_eq!(rt; world.step(20), Ok(None));
-        }
-        assert_eq!(rt; world.step(10), Ok(Some(Way::Down)));
-        assert_eq!(rt; world.step(20), Ok(Some(Way::Stop)));
+        plays(
+            &rt,
+            &mut world,
+            &[
+                (10, BEGIN, Ok(None)),
+                (20, BEGIN, Ok(None)),
+                (10, STEP, Ok(None)),
+                (20, STEP, Ok(None)),
+                (10, STEP, Ok(None)),
+                (20, STEP, Ok(None)),
+                (10, STEP, Ok(None)),
+                (20, STEP, Ok(None)),
+                (10, STEP, Ok(Some(Way::Down))),
+                (20, STEP, Ok(Some(Way::Stop))),
+            ],
+        );
         law_of_one_door();
         law_of_one_access();
         law_of_ways();
@@ -146,11 +181,11 @@ mod tests {
 
     #[test]
     fn ranges_and_want_of_memory(rt: HostRuntime) -> Result<(), Fail> {
-        assert!(rt; matches!(SplitterWorld::new(rt.alloc(), 0), Err(Refusal::OutOfRange)));
-        for most in 1..17 {
-            assert!(rt; SplitterWorld::new(rt.alloc(), most).is_ok(), "at {most}");
+        for most in 0..18 {
+            let refusal = SplitterWorld::new(rt.alloc(), most).err();
+            let due = (most == 0 || most == 17).then_some(Refusal::OutOfRange);
+            assert_eq!(rt; refusal, due, "at {most}");
         }
-        assert!(rt; matches!(SplitterWorld::new(rt.alloc(), 17), Err(Refusal::OutOfRange)));
         // A heap gives a growth at least 16 bytes, so here each in turn is the first that finds no room.
         let mut refused = false;
         let mut made = false;
