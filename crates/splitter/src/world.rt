@@ -119,7 +119,10 @@ mod tests {
     fn plays(rt: &impl Abort, world: &mut SplitterWorld<Global>, calls: &[Row]) {
         for (id, begins, want) in calls {
             let told = if *begins {
-                world.begin(*id).map(|_| None)
+                match world.begin(*id) {
+                    Ok(()) => Ok(None),
+                    Err(refusal) => Err(refusal),
+                }
             } else {
                 world.step(*id)
             };
