@@ -1,5 +1,3 @@
-mod ConfigLemmas
-mod AskLemmas
 mod ReadLemmas
 mod CheckLemmas
 mod MigrateLemmas

@@ -14,12 +14,12 @@ use Rattle.schedule_player.specs.Written.{HasPartOf}
 use Rattle.schedule_player.specs.Recorded.{IsRecorded}
 use Rattle.schedule_player.specs.Texts.{replies_of}
 use Rattle.rename_core.specs.declared.config.Config.{Config}
-use Rattle.slotctl.specs.declared.asked.Ask.{Ask}
-use Rattle.slotctl.specs.declared.asked.Ask.TheVariants.{Play, Check, Migrate, Draw, Serve}
-use Rattle.slotctl.specs.declared.asked.Drawing.{Drawing}
+use Rattle.slot_words.specs.declared.asked.Ask.{Ask}
+use Rattle.slot_words.specs.declared.asked.Ask.TheVariants.{Play, Check, Migrate, Draw, Serve}
+use Rattle.slot_words.specs.declared.asked.Drawing.{Drawing}
 use Rattle.slotctl.specs.declared.failure.Failure.{Failure}
 use Rattle.slotctl.specs.declared.failure.Failure.TheVariants as failure
-use Rattle.slotctl.specs.declared.misuse.Misuse.{Misuse}
+use Rattle.slot_words.specs.declared.misuse.Misuse.{Misuse}
 use Rattle.slotctl.specs.declared.outcome.Outcome.{Outcome}
 use Rattle.slotctl.specs.declared.outcome.Outcome.TheVariants as outcome
 use Rattle.slotctl.specs.Checked.{IsChecked, IsRewritten}

@@ -1,6 +1,3 @@
-pub mod Ranges
-pub mod CommandLine
-pub mod Asked
 pub mod Statuses
 pub mod Checked
 pub mod Done

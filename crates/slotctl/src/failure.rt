@@ -3,9 +3,9 @@
 ghost use Rattle.std.specs.Prelude.{◌≡◌};
 ghost use Rattle.slotctl.specs.Statuses.{status_of};
 
-use crate::misuse::Misuse;
 use schedule_player::Fault;
 use slot_server::ServerFault;
+use slot_words::Misuse;
 use thiserror::Error;
 
 /// Why the program did nothing, or did not come to its end. Its `Display` is the text for the user.

@@ -7,25 +7,21 @@
 //! for want of memory; at 2 and 3 a text on the standard error says why.
 #![tactic(auto)]
 
-mod asked;
 mod checking;
-mod command_line;
 mod failure;
 mod migrating;
-mod misuse;
 mod outcome;
 mod program;
 mod progress;
 mod serving;
 #[cfg(test)]
 mod tests;
-mod words;
 mod working;
 
 use failure::Failure;
-use misuse::Misuse;
 use outcome::Outcome;
 use schedule_player::Tried;
+use slot_words::{Misuse, refused};
 use std::alloc::Global;
 use std::io::{ErrorKind, IsTerminal};
 use std::marker::Brand;
@@ -39,7 +35,7 @@ fn command_words(rt: &HostRuntime) -> Result<Vec<String>, Misuse> {
     match env::args(rt) {
         Ok(args) => Ok(args.collect(alloc)?),
         Err(error) if error.kind() == ErrorKind::OutOfMemory => Err(Misuse::Memory),
-        Err(_) => Err(words::refused(alloc, "error: the words are no text\n")),
+        Err(_) => Err(refused(alloc, "error: the words are no text\n")),
     }
 }
 

@@ -1,6 +1,6 @@
 //! How the program goes on.
 
-use crate::asked::Serving;
+use slot_words::Serving;
 
 /// What is left to do, once the words were read.
 #[derive(Clone, Copy, Drop)]

@@ -3,19 +3,18 @@
 ghost use Rattle.std.specs.Prelude.{◌≡◌, ◌⊎◌, ◌<◌, ◌^◌, Result, map};
 ghost use Rattle.clap.specs.Faults.{fault_of};
 ghost use Rattle.schedule_player.specs.Played.{reading, writing};
-ghost use Rattle.slotctl.specs.Asked.{IsAnswer};
-ghost use Rattle.slotctl.specs.CommandLine.{slotctl_app};
+ghost use Rattle.slot_words.specs.Asked.{IsAnswer};
+ghost use Rattle.slot_words.specs.CommandLine.{slotctl_app};
 ghost use Rattle.slotctl.specs.Done.{IsDone};
-ghost use Rattle.slotctl.specs.declared.asked.Ask.{Ask};
-ghost use Rattle.slotctl.specs.declared.misuse.Misuse.{Misuse};
+ghost use Rattle.slot_words.specs.declared.asked.Ask.{Ask};
+ghost use Rattle.slot_words.specs.declared.misuse.Misuse.{Misuse};
 ghost use Rattle.slotctl.specs.Statuses.{status_of};
 
-use crate::asked::Ask;
 use crate::failure::Failure;
-use crate::misuse::Misuse;
 use crate::outcome::Outcome;
-use crate::{words, working};
+use crate::working;
 use schedule_player::{Fault, Sink, Source};
+use slot_words::{Ask, Misuse, ask};
 use std::alloc::Global;
 use std::convert::AsStr;
 use std::io::Write;
@@ -51,7 +50,7 @@ pub fn done<S: AsStr, R: Source, W: Sink>(
     ensures { (asked : Result Ask Misuse) × IsAnswer (map S.text words.now) (fault_of slotctl_app (map S.text words.now)) asked
         × IsDone (reading R.remaining R.calls R.failed) (writing W.contents W.failed) input.old input.new output.old output.new asked result }
 {
-    let asked = match words::ask(alloc, words) {
+    let asked = match ask(alloc, words) {
         Ok(asked) => asked,
         Err(misuse) => return Err(Failure::Misuse(misuse)),
     };

@@ -4,11 +4,11 @@ ghost use Rattle.std.specs.Prelude.{◌≡◌, ◌<◌, ◌^◌, false};
 ghost use Rattle.schedule_player.specs.Played.{reading, writing};
 ghost use Rattle.slotctl.specs.Done.{IsWorked, IsDrawnBy, IsPlayedBy, is_served};
 
-use crate::asked::{Ask, Drawing, Playing};
 use crate::checking::check_for;
 use crate::migrating::migrate_for;
 use drawn_schedules::{draw, play_drawn};
 use schedule_player::{Fault, Sink, Source, play, record};
+use slot_words::{Ask, Drawing, Playing};
 use std::alloc::{Allocator, Global};
 
 // Writes what is drawn: a schedule, or the lines of runs.

@@ -1,0 +1,2 @@
+mod ConfigLemmas
+mod AskLemmas

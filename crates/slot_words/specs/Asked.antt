@@ -1,0 +1,125 @@
+-- what words ask for
+use Rattle.std.specs.Prelude.{◌≡◌, ◌⊎◌, ℕ, Bool, true, false, not, ⊤, List, [], Option, Some, None, option_and_then, codes, if◌then◌else◌}
+use Rattle.std.specs.Prelude.{Result, Ok, Err}
+use Rattle.std.specs.Str.{bytes_eq}
+use Rattle.std.specs.Str.Parse.{IsNumeral, digits_value, without_leading_plus}
+use Rattle.std.specs.List.{list_any}
+use Rattle.std.specs.Option.{option_map_or}
+use Rattle.clap.specs.Words.{Kinds, Row, first_of, one_of, subcommand_of}
+use Rattle.clap.specs.declared.error.kind.ErrorKind.{ErrorKind}
+use Rattle.clap.specs.declared.error.kind.ErrorKind.TheVariants.{DisplayHelp, DisplayHelpOnMissingArgumentOrSubcommand, OutOfMemory}
+use Rattle.rename_core.specs.declared.config.Config.{Config}
+use Rattle.rename_core.specs.declared.config.WorldKind.{WorldKind}
+use Rattle.rename_core.specs.declared.config.WorldKind.TheVariants.{Splitter, Grid, Rename, Tree}
+use Rattle.slot_words.specs.CommandLine.{slotctl_app}
+use Rattle.slot_words.specs.declared.asked.Ask.{Ask}
+use Rattle.slot_words.specs.declared.asked.Ask.TheVariants.{Play, Check, Migrate, Draw, Serve}
+use Rattle.slot_words.specs.declared.asked.Drawing.{Drawing}
+use Rattle.slot_words.specs.declared.asked.Serving.{Serving}
+use Rattle.slot_words.specs.declared.asked.Playing.{Playing}
+use Rattle.slot_words.specs.declared.misuse.Misuse.{Misuse}
+use Rattle.slot_words.specs.declared.misuse.Misuse.TheVariants.{Help, Words, Memory}
+
+-- the world of a name
+abbrev pub world_named : List ℕ → Option WorldKind
+world_named name =
+    if bytes_eq name (codes "splitter") then Some Splitter
+    else if bytes_eq name (codes "grid") then Some Grid
+    else if bytes_eq name (codes "rename") then Some Rename
+    else if bytes_eq name (codes "tree") then Some Tree
+    else None
+
+-- the text is decimal digits of this number, and a plus may stand first
+abbrev pub WritesNumber : List ℕ → ℕ → Type 0
+WritesNumber text n = IsNumeral 10 (without_leading_plus text) × (digits_value 10 (without_leading_plus text) ≡ n)
+
+-- an option's value among what clap matched is a text of this number
+abbrev pub HasNumber : List Row → List ℕ → ℕ → Type 0
+HasNumber rows id n = (text : List ℕ) × (one_of id rows ≡ Some text) × WritesNumber text n
+
+-- the world of the name among what clap matched
+abbrev pub HasWorld : List Row → WorldKind → Type 0
+HasWorld rows world = option_and_then world_named (first_of (codes "world") rows) ≡ Some world
+
+-- the config that the options of `play` and of `serve` give: the world's name and the numbers as clap matched them, each number in its
+-- range
+pub record IsConfigOf (rows : List Row) (c : Config) : Type 0 where
+  pub world : HasWorld rows c.world
+  pub m : HasNumber rows (codes "m") c.m
+  pub k : HasNumber rows (codes "k") c.k
+  pub limit : HasNumber rows (codes "limit") c.limit
+
+-- whether `--record` is among what clap matched, which gives the text `true` to a flag that is
+abbrev pub asks_record : List Row → Bool
+asks_record rows = option_map_or (λ text. bytes_eq text (codes "true")) (first_of (codes "record") rows) false
+
+-- the run that the options of `play` give
+pub record IsPlayingOf (rows : List Row) (p : Playing) : Type 0 where
+  pub config : IsConfigOf rows p.config
+  pub recorded : p.recorded ≡ asks_record rows
+
+-- the drawing that the options of `draw` give, as clap matched them, each number in its range; the pool, which no drawn
+-- event uses, has four numbers
+pub record IsDrawingOf (rows : List Row) (d : Drawing) : Type 0 where
+  pub seed : HasNumber rows (codes "seed") d.seed
+  pub ids : HasNumber rows (codes "ids") d.ids
+  pub steps : HasNumber rows (codes "steps") d.steps
+  pub runs : HasNumber rows (codes "runs") d.runs
+  pub world : HasWorld rows d.config.world
+  pub m : HasNumber rows (codes "m") d.config.m
+  pub limit : HasNumber rows (codes "limit") d.config.limit
+  pub k : d.config.k ≡ 4
+
+-- the serving that the options of `serve` give, as clap matched them, each number in its range
+pub record IsServingOf (rows : List Row) (s : Serving) : Type 0 where
+  pub config : IsConfigOf rows s.config
+  pub port : HasNumber rows (codes "port") s.port
+  pub workers : HasNumber rows (codes "workers") s.workers
+  pub count : HasNumber rows (codes "count") s.count
+
+-- the subcommand that clap met, with what it matched there, asks for this
+abbrev pub IsAsked : Option (List ℕ × List Row) → Ask → Type 0
+IsAsked met (Play playing) = (rows : List Row) × (met ≡ Some (codes "play", rows)) × IsPlayingOf rows playing
+IsAsked met Check = (rows : List Row) × (met ≡ Some (codes "check", rows))
+IsAsked met Migrate = (rows : List Row) × (met ≡ Some (codes "migrate", rows))
+IsAsked met (Draw drawing) = (rows : List Row) × (met ≡ Some (codes "draw", rows)) × IsDrawingOf rows drawing
+IsAsked met (Serve serving) = (rows : List Row) × (met ≡ Some (codes "serve", rows)) × IsServingOf rows serving
+
+-- the words ask for this: its options are those that clap matched in the words, or the defaults
+abbrev pub AsksFor : List (List ℕ) → Ask → Type 0
+AsksFor words a = IsAsked (subcommand_of slotctl_app words) a
+
+-- clap answers with help
+abbrev pub is_help : ErrorKind → Bool
+is_help DisplayHelp = true
+is_help DisplayHelpOnMissingArgumentOrSubcommand = true
+is_help _ = false
+
+-- clap refuses the words
+abbrev pub is_refusal : ErrorKind → Bool
+is_refusal OutOfMemory = false
+is_refusal kind = not (is_help kind)
+
+-- an error of this kind is told so
+abbrev pub IsMisuseOf : ErrorKind → Misuse → Type 0
+IsMisuseOf kind (Help text) = is_help kind ≡ true
+IsMisuseOf kind (Words text) = is_refusal kind ≡ true
+IsMisuseOf kind Memory = ⊤
+
+-- the words are refused, where memory is given
+abbrev pub IsRefusal : Misuse → Type 0
+IsRefusal (Help text) = ⊥
+IsRefusal (Words text) = ⊤
+IsRefusal Memory = ⊤
+
+-- the words are misused so, where clap answers with one of these kinds of error, or with none: they ask for help; or clap
+-- refuses them, or what it matched asks for nothing. Memory may be wanting at any words
+abbrev pub IsMisuse : List (List ℕ) → Kinds → Misuse → Type 0
+IsMisuse words kinds (Help text) = list_any is_help kinds ≡ true
+IsMisuse words kinds (Words text) = (list_any is_refusal kinds ≡ true) ⊎ ((kinds ≡ []) × ((a : Ask) → AsksFor words a → ⊥))
+IsMisuse words kinds Memory = ⊤
+
+-- what is answered to words, where clap answers with one of these kinds of error, or with none
+abbrev pub IsAnswer : List (List ℕ) → Kinds → Result Ask Misuse → Type 0
+IsAnswer words kinds (Ok a) = (kinds ≡ []) × AsksFor words a
+IsAnswer words kinds (Err u) = IsMisuse words kinds u

@@ -1,0 +1,239 @@
+//! The command line of the program, for `clap`.
+
+ghost use Rattle.std.specs.Prelude.{◌≡◌, false, IfOk};
+ghost use Rattle.clap.specs.Words.{app_of, rule_of};
+ghost use Rattle.clap.specs.declared.builder.command.Command.TheViews.{out-Command};
+ghost use Rattle.slot_words.specs.CommandLine.{check_app, config_app, draw_app, draw_needs_app, limit_option, m_option, migrate_app, needed_option, number_option, play_app, record_flag, serve_app, slotctl_app, world_option};
+
+use clap::builder::ValueParser;
+use clap::{Arg, ArgAction, Command};
+use std::alloc::{AllocError, Global};
+
+// `--world NAME`.
+fn world_option<'a>(alloc: Global) -> Arg<'a>
+    ensures rule { rule_of result ≡ world_option }
+    ensures local { result.global ≡ false }
+{
+    Arg::new(alloc, "world")
+        .long("world")
+        .action(ArgAction::Set)
+        .default_value("rename")
+        .value_name("NAME")
+        .help("what is played: splitter, grid, rename or tree")
+}
+
+// An option with a number in this range, and a text of the number that it has where it is not given.
+fn number_option<'a>(
+    alloc: Global,
+    name: &'a str,
+    least: u64,
+    most: u64,
+    default: &'a str,
+    help: &'a str,
+) -> Arg<'a>
+    ensures rule { rule_of result ≡ number_option name.now least most default.now }
+    ensures local { result.global ≡ false }
+{
+    Arg::new(alloc, name)
+        .long(name)
+        .action(ArgAction::Set)
+        .value_parser(ValueParser::unsigned(least, most))
+        .default_value(default)
+        .value_name("NUMBER")
+        .help(help)
+}
+
+// An option with a number in this range, which has to be given.
+fn needed_option<'a>(alloc: Global, name: &'a str, least: u64, most: u64, help: &'a str) -> Arg<'a>
+    ensures rule { rule_of result ≡ needed_option name.now least most }
+    ensures local { result.global ≡ false }
+{
+    Arg::new(alloc, name)
+        .long(name)
+        .action(ArgAction::Set)
+        .required(true)
+        .value_parser(ValueParser::unsigned(least, most))
+        .value_name("NUMBER")
+        .help(help)
+}
+
+// `--m NUMBER`.
+fn m_option<'a>(alloc: Global) -> Arg<'a>
+    ensures rule { rule_of result ≡ m_option }
+    ensures local { result.global ≡ false }
+{
+    number_option(
+        alloc,
+        "m",
+        1,
+        64,
+        "4",
+        "the most participants, from 1 to 16, or to 64 in the world tree",
+    )
+}
+
+// `--limit NUMBER`.
+fn limit_option<'a>(alloc: Global) -> Arg<'a>
+    ensures rule { rule_of result ≡ limit_option }
+    ensures local { result.global ≡ false }
+{
+    number_option(
+        alloc,
+        "limit",
+        1,
+        1_000_000,
+        "1000",
+        "the most proposals of each participant, from 1 to 1000000",
+    )
+}
+
+// `--record`.
+fn record_flag<'a>(alloc: Global) -> Arg<'a>
+    ensures rule { rule_of result ≡ record_flag }
+    ensures local { result.global ≡ false }
+{
+    Arg::new(alloc, "record")
+        .long("record")
+        .action(ArgAction::SetTrue)
+        .help("writes the record of the run in place of the replies")
+}
+
+// A subcommand with a world and all its sizes.
+fn config_command<'a>(
+    alloc: Global,
+    name: &'a str,
+    about: &'a str,
+) -> Result<Command<'a>, AllocError>
+    ensures app { IfOk result (λ c. app_of c ≡ config_app name.now) }
+    ensures local { IfOk result (λ c. (out-Command c).has_globals ≡ false) }
+{
+    Command::new(alloc, name)
+        .about(about)
+        .arg(world_option(alloc))?
+        .arg(m_option(alloc))?
+        .arg(number_option(alloc, "k", 1, 64, "4", "the size of the pool, from 1 to 64"))?
+        .arg(limit_option(alloc))
+}
+
+// The subcommand `play` with its options.
+fn play_command<'a>(alloc: Global) -> Result<Command<'a>, AllocError>
+    ensures app { IfOk result (λ c. app_of c ≡ play_app) }
+    ensures local { IfOk result (λ c. (out-Command c).has_globals ≡ false) }
+{
+    config_command(
+        alloc,
+        "play",
+        "Plays the commands of the standard input, and writes a reply to each",
+    )?
+    .arg(record_flag(alloc))
+}
+
+// What `draw` has to be told.
+fn draw_needs<'a>(alloc: Global) -> Result<Command<'a>, AllocError>
+    ensures app { IfOk result (λ c. app_of c ≡ draw_needs_app) }
+    ensures local { IfOk result (λ c. (out-Command c).has_globals ≡ false) }
+{
+    Command::new(alloc, "draw")
+        .about("Draws schedules, and writes one, or a line for each of many that are played")
+        .arg(needed_option(alloc, "seed", 0, u64::MAX, "the seed of the generator"))?
+        .arg(needed_option(alloc, "ids", 1, 64, "how many identities, from 1 to 64"))?
+        .arg(needed_option(
+            alloc,
+            "steps",
+            0,
+            1_000_000,
+            "how many steps, at most 1000000",
+        ))
+}
+
+// The subcommand `draw` with its options.
+fn draw_command<'a>(alloc: Global) -> Result<Command<'a>, AllocError>
+    ensures app { IfOk result (λ c. app_of c ≡ draw_app) }
+    ensures local { IfOk result (λ c. (out-Command c).has_globals ≡ false) }
+{
+    draw_needs(alloc)?
+        .arg(number_option(
+            alloc,
+            "runs",
+            0,
+            1_000,
+            "0",
+            "how many are played, at most 1000",
+        ))?
+        .arg(world_option(alloc))?
+        .arg(m_option(alloc))?
+        .arg(limit_option(alloc))
+}
+
+// The subcommand `check`, which has no options.
+fn check_command<'a>(alloc: Global) -> Command<'a>
+    ensures app { app_of result ≡ check_app }
+    ensures local { (out-Command result).has_globals ≡ false }
+{
+    Command::new(alloc, "check").about(
+        "Checks the record of the standard input, and writes its verdict",
+    )
+}
+
+// The subcommand `migrate`, which has no options.
+fn migrate_command<'a>(alloc: Global) -> Command<'a>
+    ensures app { app_of result ≡ migrate_app }
+    ensures local { (out-Command result).has_globals ≡ false }
+{
+    Command::new(alloc, "migrate").about(
+        "Writes the record of the standard input again, in version 2",
+    )
+}
+
+// The subcommand `serve` with its options.
+fn serve_command<'a>(alloc: Global) -> Result<Command<'a>, AllocError>
+    ensures app { IfOk result (λ c. app_of c ≡ serve_app) }
+    ensures local { IfOk result (λ c. (out-Command c).has_globals ≡ false) }
+{
+    config_command(
+        alloc,
+        "serve",
+        "Serves the commands of connections to 127.0.0.1, over one hall",
+    )?
+    .arg(number_option(
+        alloc,
+        "port",
+        0,
+        65_535,
+        "0",
+        "the port, or 0 for one that is free",
+    ))?
+    .arg(number_option(
+        alloc,
+        "workers",
+        1,
+        16,
+        "2",
+        "how many connections are served at once, from 1 to 16",
+    ))?
+    .arg(number_option(
+        alloc,
+        "count",
+        1,
+        1_000_000,
+        "1",
+        "how many connections are served, from 1 to 1000000",
+    ))
+}
+
+/// The program with its subcommands, one of which has to be given.
+pub fn slotctl_command<'a>(alloc: Global) -> Result<Command<'a>, AllocError>
+    ensures { IfOk result (λ c. app_of c ≡ slotctl_app) }
+{
+    let play = play_command(alloc)?;
+    let draw = draw_command(alloc)?;
+    let serve = serve_command(alloc)?;
+    Command::new(alloc, "slotctl")
+        .about("Plays schedules of shared-memory algorithms, one access a step")
+        .subcommand_required(true)
+        .subcommand(play)?
+        .subcommand(check_command(alloc))?
+        .subcommand(migrate_command(alloc))?
+        .subcommand(draw)?
+        .subcommand(serve)
+}

@@ -1,0 +1,236 @@
+//! What words of a command line are read as.
+
+use crate::{Ask, Misuse, ask};
+use rename_core::WorldKind;
+use std::alloc::Global;
+
+// What the words of a line ask for.
+fn asked_by(alloc: Global, line: &str) -> Result<Ask, Misuse> {
+    let words: Vec<&str> = line.split(' ').collect(alloc)?;
+    ask(alloc, words.as_slice())
+}
+
+// That the words of a line are refused.
+fn refuses(alloc: Global, line: &str) -> bool {
+    matches!(asked_by(alloc, line), Err(Misuse::Words(_)))
+}
+
+// The world and the numbers of the config that the words of a line ask to play.
+fn chosen(alloc: Global, line: &str) -> Option<(WorldKind, u64, u64, u64)> {
+    match asked_by(alloc, line) {
+        Ok(Ask::Play(playing)) => {
+            let config = playing.config;
+            Some((config.world, config.m, config.k, config.limit))
+        }
+        _ => None,
+    }
+}
+
+// The seed, the identities, the steps, the runs, and the world of what the words of a line ask to draw.
+fn drawing(alloc: Global, line: &str) -> Option<(u64, u64, u64, u64, WorldKind)> {
+    match asked_by(alloc, line) {
+        Ok(Ask::Draw(d)) => Some((d.seed, d.ids, d.steps, d.runs, d.config.world)),
+        _ => None,
+    }
+}
+
+const NO_DRAWINGS: [&str; 13] = [
+    "slotctl draw --ids 0 --seed 1 --steps 1",
+    "slotctl draw --ids 65 --seed 1 --steps 1",
+    "slotctl draw --ids 1 --seed 1 --steps 1000001",
+    "slotctl draw --ids 1 --seed 18446744073709551616 --steps 1",
+    "slotctl draw --ids 1 --seed 1 --steps 1 --runs 1001",
+    "slotctl draw --ids 1 --seed 1 --steps 1 --world grid",
+    "slotctl draw --ids 1 --seed 1 --steps 1 --world splitter",
+    "slotctl draw --ids 1 --seed 1 --steps 1 --m 17",
+    "slotctl draw --ids 1 --seed 1 --steps 1 --m 65 --world tree",
+    "slotctl draw --ids 1 --seed 1 --steps 1 --k 4",
+    "slotctl draw --ids 1 --seed 1",
+    "slotctl draw --ids 1 --steps 1",
+    "slotctl draw --seed 1 --steps 1",
+];
+
+#[test]
+fn drawings_are_read(rt: HostRuntime) {
+    for (line, want) in [
+        (
+            "slotctl draw --seed 7 --ids 1 --steps 3",
+            (7, 1, 3, 0, WorldKind::Rename),
+        ),
+        (
+            "slotctl draw --world tree --runs 1000 --steps 1000000 --ids 64 --m 64 --seed 18446744073709551615",
+            (u64::MAX, 64, 1_000_000, 1_000, WorldKind::Tree),
+        ),
+    ] {
+        assert_eq!(rt; drawing(rt.alloc(), line), Some(want), "{line}");
+    }
+    for line in NO_DRAWINGS {
+        assert!(rt; refuses(rt.alloc(), line), "{line}");
+    }
+}
+
+// The world, the port, the workers and the count of what the words of a line ask to serve.
+fn serving(alloc: Global, line: &str) -> Option<(WorldKind, u64, u64, u64)> {
+    match asked_by(alloc, line) {
+        Ok(Ask::Serve(s)) => Some((s.config.world, s.port, s.workers, s.count)),
+        _ => None,
+    }
+}
+
+#[test]
+fn servings_are_read(rt: HostRuntime) {
+    for (line, want) in [
+        ("slotctl serve", (WorldKind::Rename, 0, 2, 1)),
+        (
+            "slotctl serve --count 1000000 --workers 16 --port 65535 --world tree",
+            (WorldKind::Tree, 65_535, 16, 1_000_000),
+        ),
+    ] {
+        assert_eq!(rt; serving(rt.alloc(), line), Some(want), "{line}");
+    }
+    for line in [
+        "slotctl serve --port 65536",
+        "slotctl serve --workers 0",
+        "slotctl serve --workers 17",
+        "slotctl serve --count 0",
+        "slotctl serve --count 1000001",
+        "slotctl serve --world grid",
+        "slotctl serve --world splitter",
+        "slotctl serve --m 17",
+        "slotctl serve --seed 1",
+    ] {
+        assert!(rt; refuses(rt.alloc(), line), "{line}");
+    }
+}
+
+#[test]
+fn options_are_read(rt: HostRuntime) {
+    for (line, want) in [
+        ("slotctl play", (WorldKind::Rename, 4, 4, 1000)),
+        (
+            "slotctl play --world splitter",
+            (WorldKind::Splitter, 4, 4, 1000),
+        ),
+        (
+            "slotctl play --world=grid --m=2",
+            (WorldKind::Grid, 2, 4, 1000),
+        ),
+        (
+            "slotctl play --world rename --k 1",
+            (WorldKind::Rename, 4, 1, 1000),
+        ),
+        (
+            "slotctl play --limit 1 --world tree",
+            (WorldKind::Tree, 4, 4, 1),
+        ),
+        (
+            "slotctl play --m 16 --k 64 --limit 1000000",
+            (WorldKind::Rename, 16, 64, 1_000_000),
+        ),
+        (
+            "slotctl play --m 64 --world tree",
+            (WorldKind::Tree, 64, 4, 1000),
+        ),
+        (
+            "slotctl play --m 1 --k 2 --limit 3",
+            (WorldKind::Rename, 1, 2, 3),
+        ),
+        (
+            "slotctl play --m +4 --k 04",
+            (WorldKind::Rename, 4, 4, 1000),
+        ),
+        ("slotctl play --limit 007", (WorldKind::Rename, 4, 4, 7)),
+    ] {
+        assert_eq!(rt; chosen(rt.alloc(), line), Some(want), "{line}");
+    }
+}
+
+#[test]
+fn numbers_are_refused(rt: HostRuntime) {
+    for (option, above) in [("--m", "17"), ("--k", "65"), ("--limit", "1000001")] {
+        for text in [
+            "0",
+            above,
+            "-1",
+            "",
+            " 4",
+            "4 ",
+            "four",
+            "0x4",
+            "18446744073709551617",
+        ] {
+            let words = ["slotctl", "play", option, text];
+            assert!(rt;
+                is_refused(rt.alloc(), words.as_slice()),
+                "at {option} {text}"
+            );
+        }
+    }
+}
+
+#[test]
+fn more_than_sixteen_only_over_a_tree(rt: HostRuntime) {
+    for (world, most) in [("splitter", 16), ("grid", 16), ("rename", 16), ("tree", 64)] {
+        for (text, m) in [("16", 16), ("17", 17), ("64", 64), ("65", 65)] {
+            let words = ["slotctl", "play", "--world", world, "--m", text];
+            assert_eq!(rt;
+                is_refused(rt.alloc(), words.as_slice()),
+                most < m,
+                "{text} in {world}"
+            );
+        }
+    }
+}
+
+// That the words are refused.
+fn is_refused(alloc: Global, words: &[&str]) -> bool {
+    matches!(ask(alloc, words), Err(Misuse::Words(_)))
+}
+
+const NO_WORDS: [&str; 16] = [
+    "slotctl",
+    "slotctl replay",
+    "slotctl replay --help",
+    "slotctl play --seed 2",
+    "slotctl play --record --record",
+    "slotctl play --record=true",
+    "slotctl play --record --world splitter",
+    "slotctl play --world grid --record",
+    "slotctl play --world",
+    "slotctl play --world ring",
+    "slotctl play --world Splitter",
+    "slotctl play --world splitter --world splitter",
+    "slotctl play --world splitter --m 2 --m 2",
+    "slotctl play --world splitter 2",
+    "slotctl play --workers 2 --help",
+    "slotctl play --k 2 --k 2",
+];
+
+#[test]
+fn words_are_refused(rt: HostRuntime) {
+    assert!(rt; is_refused(rt.alloc(), &[]));
+    for line in NO_WORDS {
+        assert!(rt; refuses(rt.alloc(), line), "{line}");
+    }
+}
+
+// That the words of a line ask for help, whose text has this line of usage.
+fn shows_usage(alloc: Global, line: &str, usage: &str) -> bool {
+    match asked_by(alloc, line) {
+        Err(Misuse::Help(text)) => text.as_str().contains(usage),
+        _ => false,
+    }
+}
+
+#[test]
+fn help_is_shown(rt: HostRuntime) {
+    for (line, usage) in [
+        ("slotctl --help", "Usage: slotctl <COMMAND>\n"),
+        ("slotctl -h", "Usage: slotctl <COMMAND>\n"),
+        ("slotctl help", "Usage: slotctl <COMMAND>\n"),
+        ("slotctl play --help", "Usage: slotctl play [OPTIONS]\n"),
+        ("slotctl play --m 3 --help", "--m <NUMBER>"),
+    ] {
+        assert!(rt; shows_usage(rt.alloc(), line, usage), "{line}");
+    }
+}

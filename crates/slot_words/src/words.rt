@@ -1,0 +1,171 @@
+//! What the words of a command line ask for.
+
+ghost use Rattle.std.specs.Prelude.{◌≡◌, ℕ, Bool, ◌<◌, ◌^◌, MatchOption, map};
+ghost use Rattle.clap.specs.Words.{found_of, kind_of, rows_of, subcommand_rows_of};
+ghost use Rattle.clap.specs.Faults.{fault_of};
+ghost use Rattle.slot_words.specs.CommandLine.{slotctl_app};
+ghost use Rattle.slot_words.specs.Asked.{HasNumber, HasWorld, IsAnswer, IsAsked, IsConfigOf, IsDrawingOf, IsMisuseOf, IsPlayingOf, IsRefusal, IsServingOf, asks_record, world_named};
+ghost use Rattle.rename_core.specs.declared.config.Config.{Config};
+ghost use Rattle.rename_core.specs.declared.config.WorldKind.{WorldKind};
+ghost use Rattle.slot_words.specs.declared.asked.Drawing.{Drawing};
+ghost use Rattle.slot_words.specs.declared.asked.Playing.{Playing};
+ghost use Rattle.slot_words.specs.declared.asked.Serving.{Serving};
+ghost use Rattle.slot_words.specs.declared.asked.Ask.{Ask};
+
+use crate::asked::{Ask, Drawing, Playing, Serving};
+use crate::command_line::slotctl_command;
+use crate::misuse::Misuse;
+use clap::error::ErrorKind;
+use clap::{ArgMatches, Error};
+use rename_core::{Config, WorldKind};
+use std::alloc::Global;
+use std::convert::AsStr;
+
+// The world of a name.
+fn world_named(name: &str) -> Option<WorldKind>
+    ensures { result ≡ world_named name.now }
+{
+    match name {
+        "splitter" => Some(WorldKind::Splitter),
+        "grid" => Some(WorldKind::Grid),
+        "rename" => Some(WorldKind::Rename),
+        "tree" => Some(WorldKind::Tree),
+        _ => None,
+    }
+}
+
+// The world that is matched.
+fn world_given(matches: &ArgMatches<'_>) -> Option<WorldKind>
+    ensures { MatchOption result ((w : WorldKind) → HasWorld (rows_of (found_of matches.now)) w → ⊥) (HasWorld (rows_of (found_of matches.now))) }
+{
+    world_named(matches.get_str("world")?)
+}
+
+// The number that is matched for an option.
+fn number_given(matches: &ArgMatches<'_>, name: &str) -> Option<u64>
+    ensures { MatchOption result ((n : ℕ) → n < 2 ^ 64 → HasNumber (rows_of (found_of matches.now)) name.now n → ⊥)
+        (HasNumber (rows_of (found_of matches.now)) name.now) }
+{
+    matches.get_one::<u64>(name)
+}
+
+// Whether `--record` is matched.
+fn record_given(matches: &ArgMatches<'_>) -> bool
+    ensures { result ≡ asks_record (rows_of (found_of matches.now)) }
+{
+    match matches.get_str("record") {
+        Some(text) => text == "true",
+        None => false,
+    }
+}
+
+// The config that the options of `play` or of `serve` give, where they give one.
+fn config_given(matches: &ArgMatches<'_>) -> Option<Config>
+    ensures { MatchOption result ((c : Config) → IsConfigOf (rows_of (found_of matches.now)) c → ⊥) (IsConfigOf (rows_of (found_of matches.now))) }
+{
+    let world = world_given(matches)?;
+    let m = number_given(matches, "m")?;
+    let k = number_given(matches, "k")?;
+    let limit = number_given(matches, "limit")?;
+    Config::new(world, m, k, limit).ok()
+}
+
+// What the options of `play` give, where they give something.
+fn play_given(matches: &ArgMatches<'_>) -> Option<Playing>
+    ensures { MatchOption result ((p : Playing) → IsPlayingOf (rows_of (found_of matches.now)) p → ⊥) (IsPlayingOf (rows_of (found_of matches.now))) }
+{
+    let config = config_given(matches)?;
+    Playing::new(config, record_given(matches))
+}
+
+/// The size of the pool of a drawn run, which no drawn event uses.
+const DRAWN_POOL: u64 = 4;
+
+// What the options of `draw` give, where they give something.
+fn draw_given(matches: &ArgMatches<'_>) -> Option<Drawing>
+    ensures { MatchOption result ((d : Drawing) → IsDrawingOf (rows_of (found_of matches.now)) d → ⊥) (IsDrawingOf (rows_of (found_of matches.now))) }
+{
+    let seed = number_given(matches, "seed")?;
+    let ids = number_given(matches, "ids")?;
+    let steps = number_given(matches, "steps")?;
+    let runs = number_given(matches, "runs")?;
+    let world = world_given(matches)?;
+    let m = number_given(matches, "m")?;
+    let limit = number_given(matches, "limit")?;
+    let config = Config::new(world, m, DRAWN_POOL, limit).ok()?;
+    Drawing::new(seed, ids, steps, runs, config)
+}
+
+// What the options of `serve` give, where they give something.
+fn serve_given(matches: &ArgMatches<'_>) -> Option<Serving>
+    ensures { MatchOption result ((s : Serving) → IsServingOf (rows_of (found_of matches.now)) s → ⊥) (IsServingOf (rows_of (found_of matches.now))) }
+{
+    let config = config_given(matches)?;
+    let port = number_given(matches, "port")?;
+    let workers = number_given(matches, "workers")?;
+    let count = number_given(matches, "count")?;
+    Serving::new(config, port, workers, count)
+}
+
+// What the matches ask for, where they ask for something.
+fn asked(matches: &ArgMatches<'_>) -> Option<Ask>
+    ensures { MatchOption result ((a : Ask) → IsAsked (subcommand_rows_of matches.now) a → ⊥) (IsAsked (subcommand_rows_of matches.now)) }
+{
+    match matches.subcommand() {
+        Some(("play", options)) => Some(Ask::Play(play_given(options)?)),
+        Some(("check", _)) => Some(Ask::Check),
+        Some(("migrate", _)) => Some(Ask::Migrate),
+        Some(("draw", options)) => Some(Ask::Draw(draw_given(options)?)),
+        Some(("serve", options)) => Some(Ask::Serve(serve_given(options)?)),
+        _ => None,
+    }
+}
+
+/// That the words are refused, for this reason.
+pub fn refused(alloc: Global, why: &str) -> Misuse
+    ensures { IsRefusal result }
+{
+    match String::from_str(alloc, why) {
+        Ok(text) => Misuse::Words(text),
+        Err(_) => Misuse::Memory,
+    }
+}
+
+// What clap answers in place of matches: help, or why it refuses the words.
+fn misuse_of(alloc: Global, error: &Error) -> Misuse
+    ensures { IsMisuseOf (kind_of error.now) result }
+{
+    let kind = error.kind();
+    if kind == ErrorKind::OutOfMemory {
+        return Misuse::Memory;
+    }
+    let Ok(text) = error.to_string(alloc) else {
+        return Misuse::Memory;
+    };
+    match kind {
+        ErrorKind::DisplayHelp | ErrorKind::DisplayHelpOnMissingArgumentOrSubcommand =>
+            Misuse::Help(text),
+        _ => Misuse::Words(text),
+    }
+}
+
+/// What the words of a command line ask for, the first of which is the program's name.
+///
+/// Answers `Misuse::Help` where they ask for help, `Misuse::Words` where they are refused, and `Misuse::Memory` where
+/// memory was refused.
+pub fn ask<S: AsStr>(alloc: Global, words: &[S]) -> Result<Ask, Misuse>
+    ensures { IsAnswer (map S.text words.now) (fault_of slotctl_app (map S.text words.now)) result }
+{
+    let command = slotctl_command(alloc)?;
+    let matches = match command.try_get_matches_from(words) {
+        Ok(matches) => matches,
+        Err(error) => return Err(misuse_of(alloc, &error)),
+    };
+    match asked(&matches) {
+        Some(asked) => Ok(asked),
+        None => Err(refused(
+            alloc,
+            "error: no such world, or a number out of its range\n",
+        )),
+    }
+}
