@@ -35,8 +35,8 @@ fn plays<A: Allocator + Clone>(rt: &impl Abort, desk: &mut Desk<A>, rows: &[(Eve
     }
 }
 
-/// Makes so many steps, of which the last answers this and those before it are quiet.
-fn steps<A: Allocator + Clone>(
+/// Takes so many steps, of which the last answers this and those before it are quiet.
+fn steps_of<A: Allocator + Clone>(
     rt: &impl Abort,
     desk: &mut Desk<A>,
     id: u64,
@@ -49,6 +49,37 @@ fn steps<A: Allocator + Clone>(
     applies(rt, desk, Event::Step(id), last);
 }
 
+/// Takes the rows of a schedule in turn: who steps, how often, and what the last of these steps answers, before which it is
+/// quiet.
+fn steps<A: Allocator + Clone>(rt: &impl Abort, desk: &mut Desk<A>, rows: &[(u64, usize, Reply)]) {
+    for (id, count, last) in rows {
+        steps_of(rt, desk, *id, *count, last);
+    }
+}
+
+/// Asks for the owners of names.
+fn owners<A: Allocator + Clone>(rt: &impl Abort, desk: &Desk<A>, rows: &[(u64, Reply)]) {
+    for (number, want) in rows {
+        let reply = desk.owner(*number);
+        assert!(rt; reply == *want, "{number}: {reply:?}");
+    }
+}
+
+/// Applies events one by one in each world, at a desk of two participants, with a pool of this size. No name is given.
+fn plays_in_both(
+    rt: &impl Abort,
+    alloc: Global,
+    k: u64,
+    rows: &[(Event, Reply)],
+) -> Result<(), Fail> {
+    for world in [WorldKind::Rename, WorldKind::Tree] {
+        let mut desk = pooled(alloc, world, k)?;
+        plays(rt, &mut desk, rows);
+        owners(rt, &desk, &[(1, Reply::Owner(None))]);
+    }
+    Ok(())
+}
+
 /// The view in which one identity has proposed a number.
 fn sole(id: u64, number: u64) -> View {
     let mut view = View::new();
@@ -58,31 +89,25 @@ fn sole(id: u64, number: u64) -> View {
 
 /// The worlds in which names are given have a desk, and the others have none.
 #[test]
-fn a_desk_for_two_worlds(rt: HostRuntime) -> Result<(), Fail> {
+fn a_desk_for_two_worlds(rt: HostRuntime) {
     law_of_desk();
     law_of_names();
-    for (world, given) in [
-        (WorldKind::Splitter, false),
-        (WorldKind::Grid, false),
-        (WorldKind::Rename, true),
-        (WorldKind::Tree, true),
+    for (world, want) in [
+        (WorldKind::Splitter, Some(Refusal::OutOfRange)),
+        (WorldKind::Grid, Some(Refusal::OutOfRange)),
+        (WorldKind::Rename, None),
+        (WorldKind::Tree, None),
     ] {
-        let made = pooled(rt.alloc(), world, 64);
-        assert_eq!(rt; made.is_ok(), given, "{world:?}");
-        let refused = made.err();
-        assert!(rt;
-            given || refused == Some(Refusal::OutOfRange),
-            "{world:?}: {refused:?}"
-        );
+        let refused = pooled(rt.alloc(), world, 64).err();
+        assert_eq!(rt; refused, want, "{world:?}");
     }
-    Ok(())
 }
 
 /// One participant alone, over a grid of one door.
 #[test]
 fn one_is_named_over_a_grid(rt: HostRuntime) -> Result<(), Fail> {
     let mut desk = Desk::new(rt.alloc(), Config::new(WorldKind::Rename, 1, 4, 1000)?)?;
-    assert!(rt; desk.owner(1) == Reply::Owner(None));
+    owners(&rt, &desk, &[(1, Reply::Owner(None))]);
     plays(
         &rt,
         &mut desk,
@@ -94,13 +119,25 @@ fn one_is_named_over_a_grid(rt: HostRuntime) -> Result<(), Fail> {
             (Event::Begin(8), Reply::Refused(Refusal::Full)),
         ],
     );
-    steps(&rt, &mut desk, 7, 4, &Reply::Place(0));
-    steps(&rt, &mut desk, 7, 3, &Reply::Proposed(1));
-    steps(&rt, &mut desk, 7, 2, &Reply::Named(1, sole(7, 1)));
-    steps(&rt, &mut desk, 7, 1, &Reply::Refused(Refusal::Finished));
-    assert!(rt; desk.owner(1) == Reply::Owner(Some(7)));
-    assert!(rt; desk.owner(2) == Reply::Refused(Refusal::OutOfRange));
-    assert!(rt; desk.owner(0) == Reply::Refused(Refusal::OutOfRange));
+    steps(
+        &rt,
+        &mut desk,
+        &[
+            (7, 4, Reply::Place(0)),
+            (7, 3, Reply::Proposed(1)),
+            (7, 2, Reply::Named(1, sole(7, 1))),
+            (7, 1, Reply::Refused(Refusal::Finished)),
+        ],
+    );
+    owners(
+        &rt,
+        &desk,
+        &[
+            (1, Reply::Owner(Some(7))),
+            (2, Reply::Refused(Refusal::OutOfRange)),
+            (0, Reply::Refused(Refusal::OutOfRange)),
+        ],
+    );
     Ok(())
 }
 
@@ -109,13 +146,25 @@ fn one_is_named_over_a_grid(rt: HostRuntime) -> Result<(), Fail> {
 fn one_is_named_over_a_tree(rt: HostRuntime) -> Result<(), Fail> {
     let mut desk = pooled(rt.alloc(), WorldKind::Tree, 4)?;
     plays(&rt, &mut desk, &[(Event::Begin(7), Reply::Ok)]);
-    steps(&rt, &mut desk, 7, 5, &Reply::Place(1));
-    steps(&rt, &mut desk, 7, 9, &Reply::Proposed(1));
-    steps(&rt, &mut desk, 7, 8, &Reply::Named(1, sole(7, 1)));
-    steps(&rt, &mut desk, 7, 1, &Reply::Refused(Refusal::Finished));
-    assert!(rt; desk.owner(1) == Reply::Owner(Some(7)));
-    assert!(rt; desk.owner(3) == Reply::Owner(None));
-    assert!(rt; desk.owner(4) == Reply::Refused(Refusal::OutOfRange));
+    steps(
+        &rt,
+        &mut desk,
+        &[
+            (7, 5, Reply::Place(1)),
+            (7, 9, Reply::Proposed(1)),
+            (7, 8, Reply::Named(1, sole(7, 1))),
+            (7, 1, Reply::Refused(Refusal::Finished)),
+        ],
+    );
+    owners(
+        &rt,
+        &desk,
+        &[
+            (1, Reply::Owner(Some(7))),
+            (3, Reply::Owner(None)),
+            (4, Reply::Refused(Refusal::OutOfRange)),
+        ],
+    );
     Ok(())
 }
 
@@ -125,20 +174,26 @@ fn a_view_beside_its_reply(rt: HostRuntime) -> Result<(), Fail> {
     let mut desk = pooled(rt.alloc(), WorldKind::Tree, 4)?;
     let mut view = View::new();
     let begun = desk.apply_short(Event::Begin(7), &mut view);
-    assert_eq!(rt; begun, ShortReply::Ok);
     for _ in 0..21 {
         desk.apply_short(Event::Step(7), &mut view);
         assert!(rt; view == View::new());
     }
     let named = desk.apply_short(Event::Step(7), &mut view);
-    assert_eq!(rt; named, ShortReply::Named(1));
-    assert!(rt; named.with(&view) == Reply::Named(1, sole(7, 1)));
+    let whole = named.with(&view);
     let refused = desk.apply_short(Event::Step(7), &mut view);
-    assert_eq!(rt; refused, ShortReply::Refused(Refusal::Finished));
-    assert!(rt; refused.is_refusal() && !named.is_refusal());
     let mut beside = View::new();
-    assert_eq!(rt; named.with(&view).shorten(&mut beside), named);
-    assert!(rt; beside == sole(7, 1));
+    let again = named.with(&view).shorten(&mut beside);
+    assert_eq!(rt;
+        [begun, named, refused, again],
+        [
+            ShortReply::Ok,
+            ShortReply::Named(1),
+            ShortReply::Refused(Refusal::Finished),
+            named
+        ]
+    );
+    assert!(rt; whole == Reply::Named(1, sole(7, 1)) && beside == sole(7, 1));
+    assert!(rt; refused.is_refusal() && !named.is_refusal());
     Ok(())
 }
 
@@ -151,15 +206,21 @@ fn one_is_spent(rt: HostRuntime) -> Result<(), Fail> {
         &mut desk,
         &[(Event::Begin(10), Reply::Ok), (Event::Begin(20), Reply::Ok)],
     );
-    steps(&rt, &mut desk, 10, 4, &Reply::Place(0));
-    steps(&rt, &mut desk, 20, 6, &Reply::Place(1));
-    steps(&rt, &mut desk, 20, 7, &Reply::Proposed(1));
-    steps(&rt, &mut desk, 10, 6, &Reply::Quiet);
-    steps(&rt, &mut desk, 20, 4, &Reply::Quiet);
-    steps(&rt, &mut desk, 10, 1, &Reply::Proposed(1));
-    steps(&rt, &mut desk, 10, 6, &Reply::Spent);
-    steps(&rt, &mut desk, 10, 1, &Reply::Refused(Refusal::Spent));
-    steps(&rt, &mut desk, 20, 2, &Reply::Named(1, sole(20, 1)));
+    steps(
+        &rt,
+        &mut desk,
+        &[
+            (10, 4, Reply::Place(0)),
+            (20, 6, Reply::Place(1)),
+            (20, 7, Reply::Proposed(1)),
+            (10, 6, Reply::Quiet),
+            (20, 4, Reply::Quiet),
+            (10, 1, Reply::Proposed(1)),
+            (10, 6, Reply::Spent),
+            (10, 1, Reply::Refused(Refusal::Spent)),
+            (20, 2, Reply::Named(1, sole(20, 1))),
+        ],
+    );
     Ok(())
 }
 
@@ -173,181 +234,168 @@ fn a_node_is_refused(rt: HostRuntime) -> Result<(), Fail> {
         &mut desk,
         &[(Event::Begin(10), Reply::Ok), (Event::Begin(20), Reply::Ok)],
     );
-    steps(&rt, &mut desk, 10, 1, &Reply::Quiet);
+    steps(&rt, &mut desk, &[(10, 1, Reply::Quiet)]);
     let mut boxes = Vec::new(rt.alloc());
     for _ in 0..4_096 {
         if let Ok(filled) = Box::new(&heap, [0u64; 2]) {
             boxes.push(filled)?;
         }
     }
-    steps(&rt, &mut desk, 10, 4, &Reply::Place(1));
-    steps(&rt, &mut desk, 20, 4, &Reply::Refused(Refusal::NoMemory));
-    steps(&rt, &mut desk, 20, 1, &Reply::Refused(Refusal::NoMemory));
+    steps(
+        &rt,
+        &mut desk,
+        &[
+            (10, 4, Reply::Place(1)),
+            (20, 4, Reply::Refused(Refusal::NoMemory)),
+            (20, 1, Reply::Refused(Refusal::NoMemory)),
+        ],
+    );
     drop(boxes);
-    steps(&rt, &mut desk, 20, 5, &Reply::Place(3));
+    steps(&rt, &mut desk, &[(20, 5, Reply::Place(3))]);
     Ok(())
 }
 
 /// A pool of one number.
 #[test]
 fn one_number(rt: HostRuntime) -> Result<(), Fail> {
-    for world in [WorldKind::Rename, WorldKind::Tree] {
-        let mut desk = pooled(rt.alloc(), world, 1)?;
-        plays(
-            &rt,
-            &mut desk,
-            &[
-                (Event::Enter(5), Reply::Ok),
-                (Event::Probe(5), Reply::Got(1)),
-                (Event::Enter(6), Reply::Refused(Refusal::Crowded)),
-                (Event::Enter(5), Reply::Refused(Refusal::AlreadyCompeting)),
-                (Event::Leave(5), Reply::Left(1)),
-                (Event::Enter(6), Reply::Ok),
-            ],
-        );
-    }
-    Ok(())
+    plays_in_both(
+        &rt,
+        rt.alloc(),
+        1,
+        &[
+            (Event::Enter(5), Reply::Ok),
+            (Event::Probe(5), Reply::Got(1)),
+            (Event::Enter(6), Reply::Refused(Refusal::Crowded)),
+            (Event::Enter(5), Reply::Refused(Refusal::AlreadyCompeting)),
+            (Event::Leave(5), Reply::Left(1)),
+            (Event::Enter(6), Reply::Ok),
+        ],
+    )
 }
 
 /// A bit that is freed behind a prober.
 #[test]
 fn a_bit_freed_behind_a_prober(rt: HostRuntime) -> Result<(), Fail> {
-    for world in [WorldKind::Rename, WorldKind::Tree] {
-        let mut desk = pooled(rt.alloc(), world, 3)?;
-        plays(
-            &rt,
-            &mut desk,
-            &[
-                (Event::Enter(5), Reply::Ok),
-                (Event::Probe(5), Reply::Got(1)),
-                (Event::Enter(6), Reply::Ok),
-                (Event::Probe(6), Reply::Missed),
-                (Event::Probe(6), Reply::Got(2)),
-                (Event::Enter(7), Reply::Ok),
-                (Event::Probe(7), Reply::Missed),
-                (Event::Leave(5), Reply::Left(1)),
-                (Event::Probe(7), Reply::Got(3)),
-                (Event::Enter(8), Reply::Ok),
-                (Event::Probe(8), Reply::Got(1)),
-                (Event::Enter(9), Reply::Refused(Refusal::Crowded)),
-            ],
-        );
-        assert!(rt; desk.owner(1) == Reply::Owner(None));
-    }
-    Ok(())
+    plays_in_both(
+        &rt,
+        rt.alloc(),
+        3,
+        &[
+            (Event::Enter(5), Reply::Ok),
+            (Event::Probe(5), Reply::Got(1)),
+            (Event::Enter(6), Reply::Ok),
+            (Event::Probe(6), Reply::Missed),
+            (Event::Probe(6), Reply::Got(2)),
+            (Event::Enter(7), Reply::Ok),
+            (Event::Probe(7), Reply::Missed),
+            (Event::Leave(5), Reply::Left(1)),
+            (Event::Probe(7), Reply::Got(3)),
+            (Event::Enter(8), Reply::Ok),
+            (Event::Probe(8), Reply::Got(1)),
+            (Event::Enter(9), Reply::Refused(Refusal::Crowded)),
+        ],
+    )
 }
 
 /// A slot keeps its value over its holders.
 #[test]
 fn a_slot_keeps_its_value(rt: HostRuntime) -> Result<(), Fail> {
-    for world in [WorldKind::Rename, WorldKind::Tree] {
-        let mut desk = pooled(rt.alloc(), world, 2)?;
-        plays(
-            &rt,
-            &mut desk,
-            &[
-                (Event::Enter(5), Reply::Ok),
-                (Event::Leave(5), Reply::Refused(Refusal::NotHolding)),
-                (Event::Probe(5), Reply::Got(1)),
-                (Event::Probe(5), Reply::Refused(Refusal::Holding)),
-                (Event::Get(5), Reply::Value(0)),
-                (Event::Put(5, 77), Reply::Ok),
-                (Event::Get(5), Reply::Value(77)),
-                (Event::Leave(5), Reply::Left(1)),
-                (Event::Get(5), Reply::Refused(Refusal::NotCompeting)),
-                (Event::Enter(6), Reply::Ok),
-                (Event::Get(6), Reply::Refused(Refusal::NotHolding)),
-                (Event::Put(6, 1), Reply::Refused(Refusal::NotHolding)),
-                (Event::Probe(6), Reply::Got(1)),
-                (Event::Get(6), Reply::Value(77)),
-            ],
-        );
-    }
-    Ok(())
+    plays_in_both(
+        &rt,
+        rt.alloc(),
+        2,
+        &[
+            (Event::Enter(5), Reply::Ok),
+            (Event::Leave(5), Reply::Refused(Refusal::NotHolding)),
+            (Event::Probe(5), Reply::Got(1)),
+            (Event::Probe(5), Reply::Refused(Refusal::Holding)),
+            (Event::Get(5), Reply::Value(0)),
+            (Event::Put(5, 77), Reply::Ok),
+            (Event::Get(5), Reply::Value(77)),
+            (Event::Leave(5), Reply::Left(1)),
+            (Event::Get(5), Reply::Refused(Refusal::NotCompeting)),
+            (Event::Enter(6), Reply::Ok),
+            (Event::Get(6), Reply::Refused(Refusal::NotHolding)),
+            (Event::Put(6, 1), Reply::Refused(Refusal::NotHolding)),
+            (Event::Probe(6), Reply::Got(1)),
+            (Event::Get(6), Reply::Value(77)),
+        ],
+    )
 }
 
 /// The value in the last slot, which has no bit, is found by who comes next.
 #[test]
 fn the_last_slot(rt: HostRuntime) -> Result<(), Fail> {
-    for world in [WorldKind::Rename, WorldKind::Tree] {
-        let mut desk = pooled(rt.alloc(), world, 2)?;
-        plays(
-            &rt,
-            &mut desk,
-            &[
-                (Event::Probe(5), Reply::Refused(Refusal::NotCompeting)),
-                (Event::Enter(0), Reply::Refused(Refusal::ZeroIdentity)),
-                (Event::Enter(5), Reply::Ok),
-                (Event::Leave(5), Reply::Refused(Refusal::NotHolding)),
-                (Event::Probe(5), Reply::Got(1)),
-                (Event::Enter(6), Reply::Ok),
-                (Event::Probe(6), Reply::Got(2)),
-                (Event::Put(6, 9), Reply::Ok),
-                (Event::Leave(6), Reply::Left(2)),
-                (Event::Enter(7), Reply::Ok),
-                (Event::Probe(7), Reply::Got(2)),
-                (Event::Get(7), Reply::Value(9)),
-            ],
-        );
-    }
-    Ok(())
+    plays_in_both(
+        &rt,
+        rt.alloc(),
+        2,
+        &[
+            (Event::Probe(5), Reply::Refused(Refusal::NotCompeting)),
+            (Event::Enter(0), Reply::Refused(Refusal::ZeroIdentity)),
+            (Event::Enter(5), Reply::Ok),
+            (Event::Leave(5), Reply::Refused(Refusal::NotHolding)),
+            (Event::Probe(5), Reply::Got(1)),
+            (Event::Enter(6), Reply::Ok),
+            (Event::Probe(6), Reply::Got(2)),
+            (Event::Put(6, 9), Reply::Ok),
+            (Event::Leave(6), Reply::Left(2)),
+            (Event::Enter(7), Reply::Ok),
+            (Event::Probe(7), Reply::Got(2)),
+            (Event::Get(7), Reply::Value(9)),
+        ],
+    )
 }
 
 /// The pool gets more numbers while the last is held, and the new slots hold 0.
 #[test]
 fn a_pool_that_widens(rt: HostRuntime) -> Result<(), Fail> {
-    for world in [WorldKind::Rename, WorldKind::Tree] {
-        let mut desk = pooled(rt.alloc(), world, 2)?;
-        plays(
-            &rt,
-            &mut desk,
-            &[
-                (Event::Enter(5), Reply::Ok),
-                (Event::Probe(5), Reply::Got(1)),
-                (Event::Enter(6), Reply::Ok),
-                (Event::Probe(6), Reply::Got(2)),
-                (Event::Enter(7), Reply::Refused(Refusal::Crowded)),
-                (Event::Widen(2), Reply::Refused(Refusal::OutOfRange)),
-                (Event::Widen(4), Reply::Ok),
-                (Event::Enter(7), Reply::Ok),
-                (Event::Probe(7), Reply::Missed),
-                (Event::Probe(7), Reply::Missed),
-                (Event::Leave(6), Reply::Left(2)),
-                (Event::Probe(7), Reply::Got(3)),
-                (Event::Enter(8), Reply::Ok),
-                (Event::Probe(8), Reply::Missed),
-                (Event::Probe(8), Reply::Got(2)),
-                (Event::Enter(9), Reply::Ok),
-                (Event::Probe(9), Reply::Missed),
-                (Event::Probe(9), Reply::Missed),
-                (Event::Probe(9), Reply::Got(4)),
-                (Event::Enter(10), Reply::Refused(Refusal::Crowded)),
-                (Event::Get(9), Reply::Value(0)),
-                (Event::Put(9, 5), Reply::Ok),
-                (Event::Get(9), Reply::Value(5)),
-                (Event::Widen(65), Reply::Refused(Refusal::OutOfRange)),
-            ],
-        );
-    }
-    Ok(())
+    plays_in_both(
+        &rt,
+        rt.alloc(),
+        2,
+        &[
+            (Event::Enter(5), Reply::Ok),
+            (Event::Probe(5), Reply::Got(1)),
+            (Event::Enter(6), Reply::Ok),
+            (Event::Probe(6), Reply::Got(2)),
+            (Event::Enter(7), Reply::Refused(Refusal::Crowded)),
+            (Event::Widen(2), Reply::Refused(Refusal::OutOfRange)),
+            (Event::Widen(4), Reply::Ok),
+            (Event::Enter(7), Reply::Ok),
+            (Event::Probe(7), Reply::Missed),
+            (Event::Probe(7), Reply::Missed),
+            (Event::Leave(6), Reply::Left(2)),
+            (Event::Probe(7), Reply::Got(3)),
+            (Event::Enter(8), Reply::Ok),
+            (Event::Probe(8), Reply::Missed),
+            (Event::Probe(8), Reply::Got(2)),
+            (Event::Enter(9), Reply::Ok),
+            (Event::Probe(9), Reply::Missed),
+            (Event::Probe(9), Reply::Missed),
+            (Event::Probe(9), Reply::Got(4)),
+            (Event::Enter(10), Reply::Refused(Refusal::Crowded)),
+            (Event::Get(9), Reply::Value(0)),
+            (Event::Put(9, 5), Reply::Ok),
+            (Event::Get(9), Reply::Value(5)),
+            (Event::Widen(65), Reply::Refused(Refusal::OutOfRange)),
+        ],
+    )
 }
 
 /// A pool of one number widens before it is held.
 #[test]
 fn a_pool_of_one_that_widens(rt: HostRuntime) -> Result<(), Fail> {
-    for world in [WorldKind::Rename, WorldKind::Tree] {
-        let mut desk = pooled(rt.alloc(), world, 1)?;
-        plays(
-            &rt,
-            &mut desk,
-            &[
-                (Event::Enter(5), Reply::Ok),
-                (Event::Widen(2), Reply::Ok),
-                (Event::Probe(5), Reply::Got(1)),
-                (Event::Enter(6), Reply::Ok),
-                (Event::Probe(6), Reply::Got(2)),
-            ],
-        );
-    }
-    Ok(())
+    plays_in_both(
+        &rt,
+        rt.alloc(),
+        1,
+        &[
+            (Event::Enter(5), Reply::Ok),
+            (Event::Widen(2), Reply::Ok),
+            (Event::Probe(5), Reply::Got(1)),
+            (Event::Enter(6), Reply::Ok),
+            (Event::Probe(6), Reply::Got(2)),
+        ],
+    )
 }
