@@ -29,98 +29,103 @@ fn verdict(alloc: Global, pieces: &[&str]) -> Result<Verdict, AllocError> {
     Ok(check(alloc, &bytes))
 }
 
-/// The fifth line of a record of six, and what is said of it in each version.
+/// What is said of a record of six lines by its fifth.
+const BAD: Verdict = Verdict::BadRecord(5);
+
+const NAME: Verdict = Verdict::No(5, Reason::Name);
+
+const VIEW: Verdict = Verdict::No(5, Reason::View);
+
+/// The fifth line, and what is said of it in each version.
+const FIFTH: [(&str, Verdict, Verdict); 17] = [
+    (
+        r#"{"command":"step 10","reply":"named 1"}"#,
+        Verdict::Yes,
+        BAD,
+    ),
+    (
+        r#"{"command":"step 10","reply":"named 1","view":"10:1"}"#,
+        BAD,
+        Verdict::Yes,
+    ),
+    (
+        r#" { "view" : "10\u003a1" , "reply" : "named 1" , "command" : "step 10" } "#,
+        BAD,
+        Verdict::Yes,
+    ),
+    (
+        r#"{"command":"step 10","reply":"named 1","view":"10:1 20:1"}"#,
+        BAD,
+        NAME,
+    ),
+    (
+        r#"{"command":"step 10","reply":"named 1","view":"20:1"}"#,
+        BAD,
+        NAME,
+    ),
+    (
+        r#"{"command":"step 10","reply":"named 2","view":"10:1"}"#,
+        BAD,
+        NAME,
+    ),
+    (
+        r#"{"command":"step 10","reply":"named 1","view":"10:2"}"#,
+        BAD,
+        NAME,
+    ),
+    (
+        r#"{"command":"enter 10","reply":"named 1","view":"10:1"}"#,
+        BAD,
+        Verdict::No(5, Reason::Reply),
+    ),
+    (
+        r#"{"command":"enter 10","reply":"named 1"}"#,
+        Verdict::No(5, Reason::Reply),
+        BAD,
+    ),
+    (
+        r#"{"command":"step 10","reply":"quiet"}"#,
+        Verdict::Yes,
+        Verdict::Yes,
+    ),
+    (
+        r#"{"command":"step 10","reply":"quiet","view":"10:1"}"#,
+        BAD,
+        BAD,
+    ),
+    (r#"{"command":"step 10","reply":"saw 10:1"}"#, VIEW, VIEW),
+    (
+        r#"{"command":"step 10","reply":"saw 10:1","view":"10:1"}"#,
+        BAD,
+        BAD,
+    ),
+    (
+        r#"{"command":"step 10","reply":"named 1","View":"10:1"}"#,
+        BAD,
+        BAD,
+    ),
+    (
+        r#"{"command":"step 10","reply":"named 1","view":"10:1","x":1}"#,
+        BAD,
+        BAD,
+    ),
+    (
+        r#"{"command":"step 10","reply":"named 1","view":1}"#,
+        BAD,
+        BAD,
+    ),
+    (
+        r#"{"command":"step 10","reply":"named 1","view":null}"#,
+        BAD,
+        BAD,
+    ),
+];
+
 #[test]
 fn lines_with_a_view(rt: HostRuntime) -> Result<(), Fail> {
-    let alloc = rt.alloc();
-    let bad = Verdict::BadRecord(5);
-    let name = Verdict::No(5, Reason::Name);
-    let view = Verdict::No(5, Reason::View);
-    for (line, one, two) in [
-        (
-            r#"{"command":"step 10","reply":"named 1"}"#,
-            Verdict::Yes,
-            bad,
-        ),
-        (
-            r#"{"command":"step 10","reply":"named 1","view":"10:1"}"#,
-            bad,
-            Verdict::Yes,
-        ),
-        (
-            r#" { "view" : "10\u003a1" , "reply" : "named 1" , "command" : "step 10" } "#,
-            bad,
-            Verdict::Yes,
-        ),
-        (
-            r#"{"command":"step 10","reply":"named 1","view":"10:1 20:1"}"#,
-            bad,
-            name,
-        ),
-        (
-            r#"{"command":"step 10","reply":"named 1","view":"20:1"}"#,
-            bad,
-            name,
-        ),
-        (
-            r#"{"command":"step 10","reply":"named 2","view":"10:1"}"#,
-            bad,
-            name,
-        ),
-        (
-            r#"{"command":"step 10","reply":"named 1","view":"10:2"}"#,
-            bad,
-            name,
-        ),
-        (
-            r#"{"command":"enter 10","reply":"named 1","view":"10:1"}"#,
-            bad,
-            Verdict::No(5, Reason::Reply),
-        ),
-        (
-            r#"{"command":"enter 10","reply":"named 1"}"#,
-            Verdict::No(5, Reason::Reply),
-            bad,
-        ),
-        (
-            r#"{"command":"step 10","reply":"quiet"}"#,
-            Verdict::Yes,
-            Verdict::Yes,
-        ),
-        (
-            r#"{"command":"step 10","reply":"quiet","view":"10:1"}"#,
-            bad,
-            bad,
-        ),
-        (r#"{"command":"step 10","reply":"saw 10:1"}"#, view, view),
-        (
-            r#"{"command":"step 10","reply":"saw 10:1","view":"10:1"}"#,
-            bad,
-            bad,
-        ),
-        (
-            r#"{"command":"step 10","reply":"named 1","View":"10:1"}"#,
-            bad,
-            bad,
-        ),
-        (
-            r#"{"command":"step 10","reply":"named 1","view":"10:1","x":1}"#,
-            bad,
-            bad,
-        ),
-        (
-            r#"{"command":"step 10","reply":"named 1","view":1}"#,
-            bad,
-            bad,
-        ),
-        (
-            r#"{"command":"step 10","reply":"named 1","view":null}"#,
-            bad,
-            bad,
-        ),
-    ] {
+    for (line, one, two) in FIFTH {
         for (head, want) in [(ONE, one), (TWO, two)] {
-            let found = verdict(alloc, &[head, PROPOSED, line, "\n", LATER])?;
+            let found = verdict(rt.alloc(), &[head, PROPOSED, line, "\n", LATER])?;
             assert!(&rt; found == want, "{head}{line}: {found:?}");
         }
     }
