@@ -32,6 +32,23 @@ fn one_to_127_names(rt: HostRuntime) -> Result<(), Fail> {
     Ok(())
 }
 
+/// What a reader is granted where 1 is held by 10 and 3 by 20, and nothing is due.
+fn tries(board: &Board<Global>, reader: &mut ReaderSeat) -> [Option<(u64, u64)>; 8]
+    requires { reader.old ≡ board.now }
+{
+    // Held by another, free, past the last, the least that is no name, and nobody's.
+    [
+        granted(board.confirm(reader, 1, 20)),
+        granted(board.confirm(reader, 2, 10)),
+        granted(board.confirm(reader, 9, 10)),
+        granted(board.confirm(reader, 0, 10)),
+        granted(board.confirm(reader, 2, 0)),
+        granted(board.post(reader, 0, 10)),
+        granted(board.post(reader, 4, 10)),
+        granted(board.post(reader, 2, 0)),
+    ]
+}
+
 /// Two names on a board of three, posted, confirmed and closed.
 #[test]
 fn two_post_their_names(rt: HostRuntime) -> Result<(), Fail> {
@@ -49,22 +66,11 @@ fn two_post_their_names(rt: HostRuntime) -> Result<(), Fail> {
         beside,
         granted(board.post(&mut second, 3, 20)),
         granted(board.confirm(&mut third, 3, 20)),
-        // Held by another, free, past the last, the least that is no name, and nobody's.
-        granted(board.confirm(&mut third, 1, 20)),
-        granted(board.confirm(&mut third, 2, 10)),
-        granted(board.confirm(&mut third, 9, 10)),
-        granted(board.confirm(&mut third, 0, 10)),
-        granted(board.confirm(&mut third, 2, 0)),
-        granted(board.post(&mut third, 0, 10)),
-        granted(board.post(&mut third, 4, 10)),
-        granted(board.post(&mut third, 2, 0)),
     ];
     let held = Some((3, 20));
     assert_eq!(rt;
-        told,
-        [
-            None, held, held, None, None, None, None, None, None, None, None
-        ]
+        (told, tries(&board, &mut third)),
+        ([None, held, held], [None; 8])
     );
     board.meet(&mut one, &mut two);
     assert_eq!(rt;
