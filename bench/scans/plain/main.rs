@@ -153,6 +153,7 @@ impl Grid {
         c.start(Pending::Update(value));
         Ok(())
     }
+    #[inline(always)]
     fn step(&mut self, id: u64) -> Result<Reply, Refusal> {
         let i = self.find(id)?;
         let Grid {
@@ -373,6 +374,7 @@ struct Renaming {
 }
 
 impl Renaming {
+    #[inline(always)]
     fn step(&mut self, id: u64) -> Result<Told, Refusal> {
         let Some(r) = self.rounds.iter_mut().find(|r| r.identity == id) else {
             return Err(Refusal::NotBegun);
@@ -464,9 +466,53 @@ fn named() -> u64 {
     steps
 }
 
+/// A run of so many drawn steps of sixteen: how many have begun, were named and were spent.
+fn drawn(seed: u64, steps: u64) -> (u64, u64, u64) {
+    let mut w = Renaming {
+        grid: Grid::new(16),
+        rounds: Vec::with_capacity(16),
+        limit: 1000,
+    };
+    for id in 1..17 {
+        w.grid.begin(id);
+        w.rounds.push(Round {
+            identity: id,
+            count: 0,
+            proposal: 0,
+            stage: Stage::Placing,
+        });
+    }
+    let (mut named, mut spent) = (0, 0);
+    let mut state = seed;
+    for _ in 0..steps {
+        let old = state;
+        state = old
+            .wrapping_mul(6364136223846793005)
+            .wrapping_add(1442695040888963407);
+        let word = ((((old >> 18) ^ old) >> 27) as u32).rotate_right((old >> 59) as u32);
+        match w.step(std::hint::black_box(1 + u64::from(word) % 16)) {
+            Ok(Told::Named(_, _)) => named += 1,
+            Ok(Told::Spent) => spent += 1,
+            _ => {}
+        }
+    }
+    (16, named, spent)
+}
+
+/// The lines of so many drawn runs, as `slotctl draw --runs` writes them; the words are those of another seed.
+fn draws(steps: u64, runs: u64) {
+    for run in 0..runs {
+        let (begun, named, spent) = drawn(7 + run, steps);
+        println!("run {run} begun {begun} named {named} spent {spent}");
+    }
+}
+
 fn main() {
     let words: Vec<String> = env::args().collect();
     let turns: u64 = words[2].parse().unwrap();
+    if words[1] == "draws" {
+        return draws(turns, words[3].parse().unwrap());
+    }
     let n = match words[1].as_str() {
         "scans" => scans(turns).unwrap(),
         "updates" => updates(turns).unwrap(),
