@@ -1,4 +1,4 @@
-//! The same by plain code: a snapshot object and renaming over a grid of doors, as one would write it in Rust by hand.
+//! The same by plain code: a snapshot object and renaming over a grid or a tree of doors, as one would write it in Rust by hand.
 
 // What a reply holds is for its caller, and the loops below read none of it.
 #![allow(dead_code)]
@@ -57,36 +57,301 @@ enum Reply {
     View(View),
 }
 
-enum Pending {
+/// What a step of a scan reads: a mark, or the segment of a place.
+enum Read<'a> {
+    Mark(bool),
+    Segment(usize, Option<&'a Record>),
+}
+
+/// Places that participants find, and the segments that stand there.
+trait Places {
+    /// Where a participant stands on its way to a place.
+    type Way;
+    /// Where a collect stands.
+    type Walk: Copy;
+
+    fn new(m: usize) -> Self;
+    fn way() -> Self::Way;
+    /// One access on the way; the place at its end.
+    fn place(&mut self, way: &mut Self::Way, identity: u64) -> Option<usize>;
+    fn walk() -> Self::Walk;
+    fn read(&self, walk: Self::Walk) -> Read<'_>;
+    /// Where the collect goes on after it has read, if it does; a mark was found, or a segment read.
+    fn next(&self, walk: Self::Walk, found: bool) -> Option<Self::Walk>;
+    fn write(&mut self, place: usize, record: Record);
+}
+
+struct Door {
+    door: usize,
+    row: usize,
+    column: usize,
+    stage: u8,
+}
+
+/// A grid of doors.
+struct Grid {
+    x: Vec<u64>,
+    y: Vec<u64>,
+    segments: Vec<Option<Record>>,
+}
+
+impl Places for Grid {
+    type Way = Door;
+    type Walk = usize;
+
+    fn new(m: usize) -> Self {
+        let n = m * (m + 1) / 2;
+        Grid {
+            x: vec![0; n],
+            y: vec![0; n],
+            segments: vec![None; n],
+        }
+    }
+    fn way() -> Door {
+        Door {
+            door: 0,
+            row: 0,
+            column: 0,
+            stage: 0,
+        }
+    }
+    #[inline(always)]
+    fn place(&mut self, way: &mut Door, identity: u64) -> Option<usize> {
+        match way.stage {
+            0 => {
+                self.x[way.door] = identity;
+                way.stage = 1;
+                return None;
+            }
+            1 => {
+                if self.y[way.door] == 0 {
+                    way.stage = 2;
+                    return None;
+                }
+                way.row += 1;
+            }
+            2 => {
+                self.y[way.door] = 1;
+                way.stage = 3;
+                return None;
+            }
+            _ => {
+                if self.x[way.door] == identity {
+                    return Some(way.door);
+                }
+                way.column += 1;
+            }
+        }
+        let depth = way.row + way.column;
+        way.door = depth * (depth + 1) / 2 + way.column;
+        way.stage = 0;
+        None
+    }
+    fn walk() -> usize {
+        0
+    }
+    #[inline(always)]
+    fn read(&self, walk: usize) -> Read<'_> {
+        Read::Segment(walk, self.segments[walk].as_ref())
+    }
+    #[inline(always)]
+    fn next(&self, walk: usize, _: bool) -> Option<usize> {
+        Some(walk + 1).filter(|it| *it < self.segments.len())
+    }
+    fn write(&mut self, place: usize, record: Record) {
+        self.segments[place] = Some(record);
+    }
+}
+
+const NONE: usize = usize::MAX;
+
+struct Node {
+    mark: bool,
+    x: u64,
+    y: bool,
+    segment: Option<Record>,
+    parent: usize,
+    side: usize,
+    children: [usize; 2],
+}
+
+/// A tree of doors, whose nodes are made as participants come.
+struct Tree {
+    nodes: Vec<Node>,
+}
+
+struct Branch {
+    parent: usize,
+    side: usize,
+    node: usize,
+    stage: u8,
+}
+
+#[derive(Clone, Copy)]
+struct TreeWalk {
+    parent: usize,
+    side: usize,
+    node: usize,
+    reads_mark: bool,
+}
+
+impl Tree {
+    fn child(&self, parent: usize, side: usize) -> usize {
+        match self.nodes.get(parent) {
+            Some(node) => node.children[side],
+            None if self.nodes.is_empty() => NONE,
+            None => 0,
+        }
+    }
+}
+
+impl Places for Tree {
+    type Way = Branch;
+    type Walk = TreeWalk;
+
+    fn new(m: usize) -> Self {
+        Tree {
+            nodes: Vec::with_capacity(2 * m),
+        }
+    }
+    fn way() -> Branch {
+        Branch {
+            parent: NONE,
+            side: 0,
+            node: NONE,
+            stage: 0,
+        }
+    }
+    #[inline(always)]
+    fn place(&mut self, way: &mut Branch, identity: u64) -> Option<usize> {
+        if way.stage == 0 {
+            way.node = self.child(way.parent, way.side);
+            if way.node == NONE {
+                way.node = self.nodes.len();
+                self.nodes.push(Node {
+                    mark: false,
+                    x: 0,
+                    y: false,
+                    segment: None,
+                    parent: way.parent,
+                    side: way.side,
+                    children: [NONE; 2],
+                });
+                if let Some(parent) = self.nodes.get_mut(way.parent) {
+                    parent.children[way.side] = way.node;
+                }
+            }
+            self.nodes[way.node].mark = true;
+            way.stage = 1;
+            return None;
+        }
+        let node = &mut self.nodes[way.node];
+        match way.stage {
+            1 => {
+                node.x = identity;
+                way.stage = 2;
+                return None;
+            }
+            2 => {
+                if !node.y {
+                    way.stage = 3;
+                    return None;
+                }
+                way.side = 1;
+            }
+            3 => {
+                node.y = true;
+                way.stage = 4;
+                return None;
+            }
+            _ => {
+                if node.x == identity {
+                    return Some(way.node);
+                }
+                way.side = 0;
+            }
+        }
+        way.parent = way.node;
+        way.stage = 0;
+        None
+    }
+    fn walk() -> TreeWalk {
+        TreeWalk {
+            parent: NONE,
+            side: 1,
+            node: 0,
+            reads_mark: true,
+        }
+    }
+    #[inline(always)]
+    fn read(&self, walk: TreeWalk) -> Read<'_> {
+        if walk.reads_mark {
+            let node = self.child(walk.parent, walk.side);
+            return Read::Mark(self.nodes.get(node).is_some_and(|it| it.mark));
+        }
+        Read::Segment(walk.node, self.nodes[walk.node].segment.as_ref())
+    }
+    #[inline(always)]
+    fn next(&self, walk: TreeWalk, found: bool) -> Option<TreeWalk> {
+        let node = self.child(walk.parent, walk.side);
+        if !walk.reads_mark {
+            return Some(TreeWalk {
+                parent: node,
+                side: 0,
+                node: NONE,
+                reads_mark: true,
+            });
+        }
+        if found {
+            return Some(TreeWalk {
+                node,
+                reads_mark: false,
+                ..walk
+            });
+        }
+        let (mut parent, mut side) = (walk.parent, walk.side);
+        while parent != NONE && side == 1 {
+            side = self.nodes[parent].side;
+            parent = self.nodes[parent].parent;
+            if parent == NONE {
+                return None;
+            }
+        }
+        Some(TreeWalk {
+            parent,
+            side: 1,
+            node: NONE,
+            reads_mark: true,
+        })
+        .filter(|it| it.parent != NONE)
+    }
+    fn write(&mut self, place: usize, record: Record) {
+        self.nodes[place].segment = Some(record);
+    }
+}
+
+enum Pending<W> {
     Nothing,
-    Placing {
-        door: usize,
-        row: usize,
-        column: usize,
-        stage: u8,
-    },
+    Placing(W),
     Scan,
     Update(u64),
     Write(u64, View),
 }
 
-struct Client {
+struct Client<P: Places> {
     identity: u64,
     place: usize,
     updates: u32,
-    pending: Pending,
-    at: usize,
+    pending: Pending<P::Way>,
+    at: P::Walk,
     first: bool,
     differs: bool,
     seen: Vec<Sighting>,
 }
 
-struct Grid {
-    x: Vec<u64>,
-    y: Vec<u64>,
-    segments: Vec<Option<Record>>,
-    clients: Vec<Client>,
-    m: usize,
+struct Snapshot<P: Places> {
+    places: P,
+    clients: Vec<Client<P>>,
 }
 
 #[derive(Debug)]
@@ -97,15 +362,11 @@ enum Refusal {
     Spent,
 }
 
-impl Grid {
+impl<P: Places> Snapshot<P> {
     fn new(m: usize) -> Self {
-        let n = m * (m + 1) / 2;
-        Grid {
-            x: vec![0; n],
-            y: vec![0; n],
-            segments: vec![None; n],
+        Snapshot {
+            places: P::new(m),
             clients: Vec::with_capacity(m),
-            m,
         }
     }
     fn begin(&mut self, identity: u64) {
@@ -113,13 +374,8 @@ impl Grid {
             identity,
             place: 0,
             updates: 0,
-            pending: Pending::Placing {
-                door: 0,
-                row: 0,
-                column: 0,
-                stage: 0,
-            },
-            at: 0,
+            pending: Pending::Placing(P::way()),
+            at: P::walk(),
             first: true,
             differs: false,
             seen: Vec::with_capacity(64),
@@ -156,56 +412,19 @@ impl Grid {
     #[inline(always)]
     fn step(&mut self, id: u64) -> Result<Reply, Refusal> {
         let i = self.find(id)?;
-        let Grid {
-            x,
-            y,
-            segments,
-            clients,
-            ..
-        } = self;
+        let Snapshot { places, clients } = self;
         let c = &mut clients[i];
         match &mut c.pending {
             Pending::Nothing => Err(Refusal::Finished),
-            Pending::Placing {
-                door,
-                row,
-                column,
-                stage,
-            } => {
-                match *stage {
-                    0 => {
-                        x[*door] = c.identity;
-                        *stage = 1;
-                        return Ok(Reply::Quiet);
-                    }
-                    1 => {
-                        if y[*door] == 0 {
-                            *stage = 2;
-                            return Ok(Reply::Quiet);
-                        }
-                        *row += 1;
-                    }
-                    2 => {
-                        y[*door] = 1;
-                        *stage = 3;
-                        return Ok(Reply::Quiet);
-                    }
-                    _ => {
-                        if x[*door] == c.identity {
-                            c.place = *door;
-                            let place = c.place;
-                            c.pending = Pending::Nothing;
-                            return Ok(Reply::Placed(place));
-                        }
-                        *column += 1;
-                    }
-                }
-                let depth = *row + *column;
-                *door = depth * (depth + 1) / 2 + *column;
-                *stage = 0;
-                Ok(Reply::Quiet)
+            Pending::Placing(way) => {
+                let Some(place) = places.place(way, c.identity) else {
+                    return Ok(Reply::Quiet);
+                };
+                c.place = place;
+                c.pending = Pending::Nothing;
+                Ok(Reply::Placed(place))
             }
-            Pending::Scan => Ok(match c.read(segments) {
+            Pending::Scan => Ok(match c.read(places) {
                 Some(view) => {
                     c.pending = Pending::Nothing;
                     Reply::View(view)
@@ -214,19 +433,19 @@ impl Grid {
             }),
             Pending::Update(value) => {
                 let value = *value;
-                if let Some(view) = c.read(segments) {
+                if let Some(view) = c.read(places) {
                     c.pending = Pending::Write(value, view);
                 }
                 Ok(Reply::Quiet)
             }
             Pending::Write(value, view) => {
-                let place = c.place;
-                segments[place] = Some(Record {
+                let record = Record {
                     identity: c.identity,
                     value: *value,
                     number: c.updates,
                     view: *view,
-                });
+                };
+                places.write(c.place, record);
                 c.pending = Pending::Nothing;
                 Ok(Reply::Written)
             }
@@ -234,19 +453,21 @@ impl Grid {
     }
 }
 
-impl Client {
-    fn start(&mut self, pending: Pending) {
+impl<P: Places> Client<P> {
+    fn start(&mut self, pending: Pending<P::Way>) {
         self.pending = pending;
-        self.at = 0;
+        self.at = P::walk();
         self.first = true;
         self.differs = false;
         self.seen.clear();
     }
     #[inline(always)]
-    fn read(&mut self, segments: &[Option<Record>]) -> Option<View> {
-        let at = self.at;
-        if let Some(found) = &segments[at] {
-            match self.seen.iter_mut().find(|s| s.place == at) {
+    fn read(&mut self, places: &P) -> Option<View> {
+        let mut found_one = true;
+        match places.read(self.at) {
+            Read::Mark(mark) => found_one = mark,
+            Read::Segment(_, None) => {}
+            Read::Segment(at, Some(found)) => match self.seen.iter_mut().find(|s| s.place == at) {
                 Some(s) => {
                     if !self.first && s.before != found.number {
                         if s.changed {
@@ -263,7 +484,7 @@ impl Client {
                     let changed = !self.first;
                     self.differs |= changed;
                     self.seen.push(Sighting {
-                        place: self.at,
+                        place: at,
                         before: 0,
                         now: found.number,
                         changed,
@@ -271,10 +492,10 @@ impl Client {
                         value: found.value,
                     });
                 }
-            }
+            },
         }
-        self.at += 1;
-        if self.at < segments.len() {
+        if let Some(next) = places.next(self.at, found_one) {
+            self.at = next;
             return None;
         }
         if !self.first && !self.differs {
@@ -286,7 +507,7 @@ impl Client {
             }
             return Some(view);
         }
-        self.at = 0;
+        self.at = P::walk();
         self.first = false;
         self.differs = false;
         for s in &mut self.seen {
@@ -297,7 +518,7 @@ impl Client {
     }
 }
 
-fn finish(g: &mut Grid, id: u64) -> Result<u64, Refusal> {
+fn finish(g: &mut Snapshot<Grid>, id: u64) -> Result<u64, Refusal> {
     for steps in 0..5000 {
         match g.step(id)? {
             Reply::Quiet => {}
@@ -307,8 +528,8 @@ fn finish(g: &mut Grid, id: u64) -> Result<u64, Refusal> {
     Ok(5000)
 }
 
-fn written() -> Result<Grid, Refusal> {
-    let mut g = Grid::new(16);
+fn written() -> Result<Snapshot<Grid>, Refusal> {
+    let mut g = Snapshot::new(16);
     for id in 1..17 {
         g.begin(id);
         finish(&mut g, id)?;
@@ -367,13 +588,31 @@ struct Round {
     stage: Stage,
 }
 
-struct Renaming {
-    grid: Grid,
+struct Renaming<P: Places> {
+    snapshot: Snapshot<P>,
     rounds: Vec<Round>,
     limit: u64,
 }
 
-impl Renaming {
+impl<P: Places> Renaming<P> {
+    /// Sixteen that have begun.
+    fn sixteen() -> Self {
+        let mut w = Renaming {
+            snapshot: Snapshot::new(16),
+            rounds: Vec::with_capacity(16),
+            limit: 1000,
+        };
+        for id in 1..17 {
+            w.snapshot.begin(id);
+            w.rounds.push(Round {
+                identity: id,
+                count: 0,
+                proposal: 0,
+                stage: Stage::Placing,
+            });
+        }
+        w
+    }
     #[inline(always)]
     fn step(&mut self, id: u64) -> Result<Told, Refusal> {
         let Some(r) = self.rounds.iter_mut().find(|r| r.identity == id) else {
@@ -384,11 +623,11 @@ impl Renaming {
             Stage::Over => return Err(Refusal::Spent),
             _ => {}
         }
-        match self.grid.step(id)? {
+        match self.snapshot.step(id)? {
             Reply::Quiet => Ok(Told::Quiet),
             Reply::Placed(place) => {
                 r.stage = Stage::Proposing(1);
-                self.grid.update(id, 1)?;
+                self.snapshot.update(id, 1)?;
                 Ok(Told::Placed(place))
             }
             Reply::Written => {
@@ -398,7 +637,7 @@ impl Renaming {
                 r.count += 1;
                 r.proposal = n;
                 r.stage = Stage::Looking;
-                self.grid.scan(id)?;
+                self.snapshot.scan(id)?;
                 Ok(Told::Proposed(n))
             }
             Reply::View(view) => {
@@ -421,7 +660,7 @@ impl Renaming {
                     }
                 }
                 r.stage = Stage::Proposing(n);
-                self.grid.update(id, n)?;
+                self.snapshot.update(id, n)?;
                 Ok(Told::Saw(view))
             }
         }
@@ -434,20 +673,7 @@ impl Renaming {
 }
 
 fn named() -> u64 {
-    let mut w = Renaming {
-        grid: Grid::new(16),
-        rounds: Vec::with_capacity(16),
-        limit: 1000,
-    };
-    for id in 1..17 {
-        w.grid.begin(id);
-        w.rounds.push(Round {
-            identity: id,
-            count: 0,
-            proposal: 0,
-            stage: Stage::Placing,
-        });
-    }
+    let mut w = Renaming::<Grid>::sixteen();
     let mut steps = 0;
     for turn in 0..1000000u64 {
         let id = 1 + turn % 16;
@@ -467,21 +693,8 @@ fn named() -> u64 {
 }
 
 /// A run of so many drawn steps of sixteen: how many have begun, were named and were spent.
-fn drawn(seed: u64, steps: u64) -> (u64, u64, u64) {
-    let mut w = Renaming {
-        grid: Grid::new(16),
-        rounds: Vec::with_capacity(16),
-        limit: 1000,
-    };
-    for id in 1..17 {
-        w.grid.begin(id);
-        w.rounds.push(Round {
-            identity: id,
-            count: 0,
-            proposal: 0,
-            stage: Stage::Placing,
-        });
-    }
+fn drawn<P: Places>(seed: u64, steps: u64) -> (u64, u64, u64) {
+    let mut w = Renaming::<P>::sixteen();
     let (mut named, mut spent) = (0, 0);
     let mut state = seed;
     for _ in 0..steps {
@@ -500,9 +713,9 @@ fn drawn(seed: u64, steps: u64) -> (u64, u64, u64) {
 }
 
 /// The lines of so many drawn runs, as `slotctl draw --runs` writes them; the words are those of another seed.
-fn draws(steps: u64, runs: u64) {
+fn draws<P: Places>(steps: u64, runs: u64) {
     for run in 0..runs {
-        let (begun, named, spent) = drawn(7 + run, steps);
+        let (begun, named, spent) = drawn::<P>(7 + run, steps);
         println!("run {run} begun {begun} named {named} spent {spent}");
     }
 }
@@ -510,8 +723,10 @@ fn draws(steps: u64, runs: u64) {
 fn main() {
     let words: Vec<String> = env::args().collect();
     let turns: u64 = words[2].parse().unwrap();
-    if words[1] == "draws" {
-        return draws(turns, words[3].parse().unwrap());
+    match words[1].as_str() {
+        "draws" => return draws::<Grid>(turns, words[3].parse().unwrap()),
+        "tree" => return draws::<Tree>(turns, words[3].parse().unwrap()),
+        _ => {}
     }
     let n = match words[1].as_str() {
         "scans" => scans(turns).unwrap(),
