@@ -43,8 +43,6 @@ pub mod laws;
 pub mod places;
 pub mod scan;
 pub mod sightings;
-#[cfg(test)]
-mod tests;
 pub mod walk;
 pub mod world;
 

@@ -35,8 +35,6 @@ pub mod grid_register;
 pub mod grid_walk;
 pub mod grid_walker;
 pub mod laws;
-#[cfg(test)]
-mod tests;
 pub mod tree;
 pub mod tree_walk;
 pub mod tree_walker;

@@ -25,8 +25,6 @@
 
 pub mod door;
 pub mod laws;
-#[cfg(test)]
-mod tests;
 pub mod walker;
 pub mod world;
 

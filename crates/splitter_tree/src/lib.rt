@@ -39,11 +39,7 @@ pub mod laws;
 pub mod node;
 pub mod node_registers;
 pub mod register;
-#[cfg(test)]
-mod tests;
 pub mod tree;
-#[cfg(test)]
-mod tree_tests;
 pub mod walker;
 pub mod world;
 

@@ -29,8 +29,6 @@ pub mod program;
 pub mod record;
 pub mod refusal;
 pub mod shortcut;
-#[cfg(test)]
-mod tests;
 pub mod view;
 pub mod world;
 

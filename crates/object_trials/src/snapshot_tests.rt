@@ -1,4 +1,6 @@
-use crate::{
+//! Updates and scans over segments in a row, and what plays calls of a snapshot object.
+
+use snapshot_core::{
     Fixed, Places, SnapReply, SnapWorld, law_of_clients, law_of_snapshot_calls, snapshot_law,
 };
 use std::alloc::{Allocator, Global};

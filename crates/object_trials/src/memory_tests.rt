@@ -1,18 +1,18 @@
-//! Worlds run by hand.
+//! Worlds of `step_memory` run by hand.
 
 ghost use Rattle.std.specs.Prelude.{◌≡◌, IsErr, Some, true};
 ghost use Rattle.step_memory.specs.declared.access.Access.TheVariants as access;
 ghost use Rattle.step_memory.specs.declared.note.Note.TheVariants as note;
 
-use crate::{
+use std::alloc::{AllocError, Global};
+use std::process::Abort;
+use std::test::Fail;
+use step_memory::{
     Access, Answer, Memory, NoMemory, Note, Refusal, Request, StepMemory, StepProgram, View, World,
     law_of_beginners, law_of_call_counts, law_of_counts, law_of_locality, law_of_one_place,
     law_of_participants, law_of_refusals, law_of_replies, law_of_rosters, law_of_runs,
     law_of_steps, law_of_told_outcomes, law_of_views, law_of_what_is_seen, law_of_worlds,
 };
-use std::alloc::{AllocError, Global};
-use std::process::Abort;
-use std::test::Fail;
 
 /// A program of one access, which ends with its answer.
 #[derive(Clone, Copy, Debug, Drop, PartialEq, Eq)]

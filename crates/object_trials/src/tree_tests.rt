@@ -1,13 +1,13 @@
-//! Worked examples: walks, stores and collects of one to three participants, refusals, and want of memory.
+//! Worked examples of `splitter_tree`: walks, stores and collects of one to three participants, refusals, and want of memory.
 
-use crate::world::TreeWorld;
-use crate::{
-    Client, TreeRegister, TreeValue, Walker, law_of_collect_calls, law_of_collects,
+use crate::full_heap::filling;
+use linked_list_allocator::LocalHeap;
+use splitter_tree::{
+    Client, TreeRegister, TreeValue, TreeWorld, Walker, law_of_collect_calls, law_of_collects,
     law_of_collects_at_places, law_of_nodes_and_walks, law_of_own_accesses, law_of_places,
     law_of_tree_calls, law_of_tree_memory,
 };
-use linked_list_allocator::LocalHeap;
-use std::alloc::{AllocError, Allocator, Global};
+use std::alloc::Allocator;
 use std::process::Abort;
 use std::test::Fail;
 use step_memory::{Access, Answer, Note, Place, Refusal, StepProgram, View};
@@ -237,20 +237,6 @@ fn sixty_four_down_the_deepest_walk(rt: HostRuntime) -> Result<(), Fail> {
     }
     assert_eq!(rt; world.place_of(64), Some(18_446_744_073_709_551_615));
     Ok(())
-}
-
-/// Boxes that take what the heap has left.
-pub fn filling(
-    alloc: Global,
-    heap: &LocalHeap,
-) -> Result<Vec<Box<[u64; 2], &LocalHeap>>, AllocError> {
-    let mut boxes = Vec::new(alloc);
-    for _ in 0..512 {
-        if let Ok(filled) = Box::new(heap, [0u64; 2]) {
-            boxes.push(filled)?;
-        }
-    }
-    Ok(boxes)
 }
 
 #[test]

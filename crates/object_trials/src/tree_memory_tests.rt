@@ -1,11 +1,8 @@
 //! Examples of accesses to a tree: what is there, what is lost, and want of memory.
 
-use crate::law_of_tree_memory;
-use crate::node_registers::NodeRegisters;
-use crate::register::{TreeRegister, TreeValue};
-use crate::tests::filling;
-use crate::tree::Tree;
+use crate::full_heap::filling;
 use linked_list_allocator::LocalHeap;
+use splitter_tree::{NodeRegisters, Tree, TreeRegister, TreeValue, law_of_tree_memory};
 use std::test::Fail;
 use step_memory::{Access, Answer, NoMemory, Place, StepMemory};
 

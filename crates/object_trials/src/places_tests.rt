@@ -1,98 +1,14 @@
-use crate::{Grid, TreePlaces, grid_snapshot_law, tree_snapshot_law};
+//! Updates and scans over a grid, a tree and segments in a row.
+
+use crate::full_heap::filling;
+use crate::snapshot_tests::{Call, Told, plays};
 use linked_list_allocator::LocalHeap;
-use snapshot_core::{Fixed, Places, SnapReply, SnapWorld, law_of_clients, law_of_snapshot_calls};
-use std::alloc::{AllocError, Allocator, Global};
+use snapshot_core::{Fixed, Places, SnapWorld, law_of_clients, law_of_snapshot_calls};
+use snapshot_places::{Grid, TreePlaces, grid_snapshot_law, tree_snapshot_law};
+use std::alloc::Global;
 use std::process::Abort;
 use std::test::Fail;
-use step_memory::{Place, Refusal};
-
-/// A call: of steps so many, of which those before the last are quiet.
-#[derive(Clone, Copy, Debug, Drop)]
-enum Call {
-    Begin,
-    Update(u64),
-    Scan,
-    Steps(usize),
-}
-
-/// What a call answers, of steps the last: of a view that it has this pair alone.
-#[derive(Clone, Copy, Debug, Drop)]
-enum Told {
-    Done,
-    Quiet,
-    Placed(Place),
-    Written,
-    Shown(u64, u64),
-    Refused(Refusal),
-}
-
-/// Whether a call that only asks is told so.
-fn is_asked(answer: Result<(), Refusal>, told: Told) -> bool {
-    match told {
-        Told::Done => answer == Ok(()),
-        Told::Refused(refusal) => answer == Err(refusal),
-        _ => false,
-    }
-}
-
-/// Whether a step is told so.
-fn is_stepped(answer: &Result<SnapReply, Refusal>, told: Told) -> bool {
-    match (answer, told) {
-        (Ok(SnapReply::Quiet), Told::Quiet) => true,
-        (Ok(SnapReply::Placed(place)), Told::Placed(want)) => *place == want,
-        (Ok(SnapReply::Written), Told::Written) => true,
-        (Ok(SnapReply::View(view)), Told::Shown(id, value)) => {
-            view.pairs() == [(id, value)].as_slice()
-        }
-        (Err(refusal), Told::Refused(want)) => *refusal == want,
-        _ => false,
-    }
-}
-
-/// Whether a call of a participant is told so, over any places.
-fn answers<W: Places + Drop, A: Allocator>(
-    world: &mut SnapWorld<W, A>,
-    id: u64,
-    call: Call,
-    told: Told,
-) -> bool
-where
-    W::Walker: Copy,
-    W::Walk: Copy,
-    W::Value: Drop,
-{
-    let count = match call {
-        Call::Begin => return is_asked(world.begin(id), told),
-        Call::Update(value) => return is_asked(world.update(id, value), told),
-        Call::Scan => return is_asked(world.scan(id), told),
-        Call::Steps(count) => count,
-    };
-    for _ in 1..count {
-        if !is_stepped(&world.step(id), Told::Quiet) {
-            return false;
-        }
-    }
-    is_stepped(&world.step(id), told)
-}
-
-/// Makes these calls, each of which answers what stands beside it.
-fn plays<W: Places + Drop, A: Allocator>(
-    rt: &impl Abort,
-    world: &mut SnapWorld<W, A>,
-    calls: &[(u64, Call, Told)],
-)
-where
-    W::Walker: Copy,
-    W::Walk: Copy,
-    W::Value: Drop,
-{
-    for (id, call, told) in calls {
-        assert!(rt;
-            answers(world, *id, *call, *told),
-            "{id} {call:?}: {told:?}"
-        );
-    }
-}
+use step_memory::Refusal;
 
 /// A participant alone, 7, updates with 3 and finds this as it scans; each collect makes so many reads.
 fn finds<W: Places + Drop>(rt: &impl Abort, world: &mut SnapWorld<W, Global>, reads: usize)
@@ -111,7 +27,7 @@ where
             (7, Call::Steps(1), Told::Written),
             (7, Call::Scan, Told::Done),
             (7, Call::Steps(reads), Told::Quiet),
-            (7, Call::Steps(reads), Told::Shown(7, 3)),
+            (7, Call::Steps(reads), Told::Shown(&[(7, 3)])),
         ],
     );
 }
@@ -172,7 +88,7 @@ fn two_over_a_grid(rt: HostRuntime) -> Result<(), Fail> {
             (10, Call::Steps(3), Told::Quiet),
             (20, Call::Update(5), Told::Done),
             (20, Call::Steps(7), Told::Written),
-            (10, Call::Steps(6), Told::Shown(20, 5)),
+            (10, Call::Steps(6), Told::Shown(&[(20, 5)])),
         ],
     );
     for (place, want) in [(1, Some(5)), (0, None), (3, None)] {
@@ -203,7 +119,7 @@ fn two_over_a_tree(rt: HostRuntime) -> Result<(), Fail> {
             (20, Call::Steps(8), Told::Placed(3)),
             (20, Call::Update(5), Told::Done),
             (20, Call::Steps(15), Told::Written),
-            (10, Call::Steps(14), Told::Shown(20, 5)),
+            (10, Call::Steps(14), Told::Shown(&[(20, 5)])),
         ],
     );
     tree_snapshot_law(&world);
@@ -228,17 +144,6 @@ fn sizes_out_of_range(rt: HostRuntime) {
             "a tree for {most}"
         );
     }
-}
-
-/// Boxes that take what the heap has left.
-fn filling(alloc: Global, heap: &LocalHeap) -> Result<Vec<Box<[u64; 2], &LocalHeap>>, AllocError> {
-    let mut boxes = Vec::new(alloc);
-    for _ in 0..512 {
-        if let Ok(filled) = Box::new(heap, [0u64; 2]) {
-            boxes.push(filled)?;
-        }
-    }
-    Ok(boxes)
 }
 
 #[test]

@@ -1,9 +1,6 @@
-//! Worked examples: walks of one to three participants, refusals, and want of memory.
+//! Worked examples of `splitter_grid`: walks of one to three participants, refusals, and want of memory.
 
-use crate::door::Door;
-use crate::laws::{law_of_doors_and_walks, law_of_grid_calls};
-use crate::walker::Walker;
-use crate::world::GridWorld;
+use splitter_grid::{Door, GridWorld, Walker, law_of_doors_and_walks, law_of_grid_calls};
 use std::alloc::Allocator;
 use std::process::Abort;
 use std::test::Fail;

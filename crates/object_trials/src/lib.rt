@@ -1,0 +1,29 @@
+//! Trials of the objects through their public calls, from a memory taken step by step to the places of a snapshot: rows
+//! worked by hand, each refusal, the ends of each range, and heaps that have no room left.
+//!
+//! They stand in a crate of their own, as a package's integration tests do, so that proving them does not prove the objects
+//! again. A trial that is proved returns and breaks no caller's condition; that it passes is seen by running it.
+#![tactic(auto)]
+
+#[cfg(test)]
+mod collect_walk_tests;
+#[cfg(test)]
+mod full_heap;
+#[cfg(test)]
+mod grid_tests;
+#[cfg(test)]
+mod memory_tests;
+#[cfg(test)]
+mod places_tests;
+#[cfg(test)]
+mod pool_tests;
+#[cfg(test)]
+mod slots_tests;
+#[cfg(test)]
+mod snapshot_tests;
+#[cfg(test)]
+mod splitter_tests;
+#[cfg(test)]
+mod tree_memory_tests;
+#[cfg(test)]
+mod tree_tests;
