@@ -6,6 +6,8 @@
 #![tactic(auto)]
 
 #[cfg(test)]
+mod board_tests;
+#[cfg(test)]
 mod collect_walk_tests;
 #[cfg(test)]
 mod full_heap;
@@ -17,6 +19,8 @@ mod memory_tests;
 mod places_tests;
 #[cfg(test)]
 mod pool_tests;
+#[cfg(test)]
+mod raw_splitter_tests;
 #[cfg(test)]
 mod slots_tests;
 #[cfg(test)]

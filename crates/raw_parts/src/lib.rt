@@ -59,8 +59,3 @@ pub use board_seats::{Grant, ReaderSeat};
 pub use laws::{law_of_the_board, law_of_the_rule};
 pub use raw_splitter::RawSplitter;
 pub use seats::{EnteredSeat, FreshSeat};
-
-#[cfg(test)]
-mod board_tests;
-#[cfg(test)]
-mod tests;

@@ -1,7 +1,9 @@
+//! Visits of a raw splitter, one after another and by threads at once.
+
 ghost use Rattle.std.specs.Prelude.{◌≡◌};
 
-use crate::{EnteredSeat, RawSplitter};
 use linked_list_allocator::LocalHeap;
+use raw_parts::{EnteredSeat, RawSplitter};
 use splitter::Way;
 use std::alloc::Global;
 use std::process::Abort;

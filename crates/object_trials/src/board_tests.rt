@@ -1,7 +1,9 @@
+//! Posts and looks on a name board, one after another and by threads at once.
+
 ghost use Rattle.std.specs.Prelude.{◌≡◌, IfSome};
 
-use crate::{Board, Grant, ReaderSeat};
 use linked_list_allocator::LocalHeap;
+use raw_parts::{Board, Grant, ReaderSeat};
 use std::alloc::Global;
 use std::process::Abort;
 use std::test::Fail;
