@@ -5,6 +5,7 @@ use Rattle.std.specs.Str.{bytes_eq}
 use Rattle.std.specs.Str.Parse.{IsNumeral, digits_value, without_leading_plus}
 use Rattle.std.specs.List.{list_any}
 use Rattle.std.specs.Option.{option_map_or}
+use Rattle.clap.specs.Faults.{fault_of}
 use Rattle.clap.specs.Words.{Kinds, Row, first_of, one_of, subcommand_of}
 use Rattle.clap.specs.declared.error.kind.ErrorKind.{ErrorKind}
 use Rattle.clap.specs.declared.error.kind.ErrorKind.TheVariants.{DisplayHelp, DisplayHelpOnMissingArgumentOrSubcommand, OutOfMemory}
@@ -123,3 +124,7 @@ IsMisuse words kinds Memory = ⊤
 abbrev pub IsAnswer : List (List ℕ) → Kinds → Result Ask Misuse → Type 0
 IsAnswer words kinds (Ok a) = (kinds ≡ []) × AsksFor words a
 IsAnswer words kinds (Err u) = IsMisuse words kinds u
+
+-- what is answered to words, with the kinds of error with which clap answers them
+abbrev pub IsRead : List (List ℕ) → Result Ask Misuse → Type 0
+IsRead words asked = IsAnswer words (fault_of slotctl_app words) asked

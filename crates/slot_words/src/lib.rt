@@ -1,7 +1,7 @@
 //! What the words of a command line ask `slotctl` for.
 //!
 //! `ask` has clap match the words with the program's command line (`slotctl_command`), and answers what was matched as an `Ask`, whose
-//! parts are in their ranges, or why the words ask for nothing (`Misuse`). What is proved (`IsAnswer`): an `Ask` is one that the options
+//! parts are in their ranges, or why the words ask for nothing (`Misuse`). What is proved (`IsRead`): an `Ask` is one that the options
 //! matched mean, by clap's own definition of what words match; help comes where clap shows help, and words are refused where clap refuses
 //! them, or where a world or a number is none that is allowed.
 //!

@@ -2,9 +2,7 @@
 
 ghost use Rattle.std.specs.Prelude.{◌≡◌, ℕ, Bool, ◌<◌, ◌^◌, MatchOption, map};
 ghost use Rattle.clap.specs.Words.{found_of, kind_of, rows_of, subcommand_rows_of};
-ghost use Rattle.clap.specs.Faults.{fault_of};
-ghost use Rattle.slot_words.specs.CommandLine.{slotctl_app};
-ghost use Rattle.slot_words.specs.Asked.{HasNumber, HasWorld, IsAnswer, IsAsked, IsConfigOf, IsDrawingOf, IsMisuseOf, IsPlayingOf, IsRefusal, IsServingOf, asks_record, world_named};
+ghost use Rattle.slot_words.specs.Asked.{HasNumber, HasWorld, IsAsked, IsConfigOf, IsDrawingOf, IsMisuseOf, IsPlayingOf, IsRead, IsRefusal, IsServingOf, asks_record, world_named};
 ghost use Rattle.rename_core.specs.declared.config.Config.{Config};
 ghost use Rattle.rename_core.specs.declared.config.WorldKind.{WorldKind};
 ghost use Rattle.slot_words.specs.declared.asked.Drawing.{Drawing};
@@ -154,7 +152,7 @@ fn misuse_of(alloc: Global, error: &Error) -> Misuse
 /// Answers `Misuse::Help` where they ask for help, `Misuse::Words` where they are refused, and `Misuse::Memory` where
 /// memory was refused.
 pub fn ask<S: AsStr>(alloc: Global, words: &[S]) -> Result<Ask, Misuse>
-    ensures { IsAnswer (map S.text words.now) (fault_of slotctl_app (map S.text words.now)) result }
+    ensures { IsRead (map S.text words.now) result }
 {
     let command = slotctl_command(alloc)?;
     let matches = match command.try_get_matches_from(words) {

@@ -1,27 +1,17 @@
 //! The program `slotctl`: plays schedules of shared-memory algorithms, one access a step.
 //!
 //! `slotctl play --world splitter --m 2` reads commands from the standard input, one a line, and writes a reply to each to
-//! the standard output. `slotctl serve` answers the commands of connections over one hall. The words of the command line are
-//! read by `ask`, and what they ask for is done by `work`, over any reader and writer, but to serve; `program` is both, with what
-//! is told and the status, and `main` alone serves. The status is 0 where it was done and for help, 2 where the words are refused, and 3 at a fault or
-//! for want of memory; at 2 and 3 a text on the standard error says why.
+//! the standard output. `slotctl serve` answers the commands of connections over one hall. What the words of the command line ask for
+//! is done by `program` of `slot_work`, over any reader and writer, but to serve, which is done here. The status is 0 where it was done
+//! and for help, 2 where the words are refused, and 3 at a fault or for want of memory; at 2 and 3 a text on the standard error says why.
 #![tactic(auto)]
 
-mod checking;
-mod failure;
-mod migrating;
-mod outcome;
-mod program;
-mod progress;
 mod serving;
-#[cfg(test)]
-mod tests;
-mod working;
 
-use failure::Failure;
-use outcome::Outcome;
 use schedule_player::Tried;
 use slot_words::{Misuse, refused};
+use slot_work::program::{program, report};
+use slot_work::{Failure, Outcome, in_sight, may_take_long};
 use std::alloc::Global;
 use std::io::{ErrorKind, IsTerminal};
 use std::marker::Brand;
@@ -43,7 +33,7 @@ fn command_words(rt: &HostRuntime) -> Result<Vec<String>, Misuse> {
 fn by_words(rt: &HostRuntime, alloc: Global, words: &[String]) -> Outcome {
     let mut input = Tried::new(rt.stdin());
     let mut output = Tried::new(rt.stdout());
-    program::program(alloc, words, &mut input, &mut output, &mut rt.stderr())
+    program(alloc, words, &mut input, &mut output, &mut rt.stderr())
 }
 
 fn main(rt: HostRuntime) -> ExitCode {
@@ -51,15 +41,11 @@ fn main(rt: HostRuntime) -> ExitCode {
     let mut output = Tried::new(rt.stdout());
     let mut errors = rt.stderr();
     let outcome = match command_words(&rt) {
-        Ok(words) if errors.is_terminal() && progress::may_take_long(&words) => {
-            progress::in_sight(&rt, rt.stderr(), || by_words(&rt, alloc, &words))
+        Ok(words) if errors.is_terminal() && may_take_long(&words) => {
+            in_sight(&rt, rt.stderr(), || by_words(&rt, alloc, &words))
         }
         Ok(words) => by_words(&rt, alloc, &words),
-        Err(misuse) => Outcome::Ended(program::report(
-            Failure::Misuse(misuse),
-            &mut output,
-            &mut errors,
-        )),
+        Err(misuse) => Outcome::Ended(report(Failure::Misuse(misuse), &mut output, &mut errors)),
     };
     let status = match outcome {
         Outcome::Ended(status) => status,
@@ -67,7 +53,7 @@ fn main(rt: HostRuntime) -> ExitCode {
             let blank = Blank::new(1_000_001);
             match serving::serve::<Brand, _, _>(&rt, alloc, serving, &mut output, blank) {
                 Ok(()) => 0,
-                Err(failure) => program::report(failure, &mut output, &mut errors),
+                Err(failure) => report(failure, &mut output, &mut errors),
             }
         }
     };

@@ -3,11 +3,11 @@
 ghost use Rattle.std.specs.String.{string_bytes};
 ghost use Rattle.std.specs.Prelude.{◌≡◌, ◌++◌, codes, decimal, IfOk};
 
-use crate::failure::Failure;
 use locked_world::{Clerk, HallLock};
 use schedule_player::Fault;
 use slot_server::{OpenGate, ServerFault, serve_many};
 use slot_words::Serving;
+use slot_work::Failure;
 use std::alloc::{AllocError, Global};
 use std::io;
 use std::io::{ErrorKind, Write};

@@ -1,7 +1,7 @@
 //! Why the program did not do what it was asked.
 
 ghost use Rattle.std.specs.Prelude.{◌≡◌};
-ghost use Rattle.slotctl.specs.Statuses.{status_of};
+ghost use Rattle.slot_work.specs.Statuses.{status_of};
 
 use schedule_player::Fault;
 use slot_server::ServerFault;

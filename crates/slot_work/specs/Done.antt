@@ -17,13 +17,13 @@ use Rattle.rename_core.specs.declared.config.Config.{Config}
 use Rattle.slot_words.specs.declared.asked.Ask.{Ask}
 use Rattle.slot_words.specs.declared.asked.Ask.TheVariants.{Play, Check, Migrate, Draw, Serve}
 use Rattle.slot_words.specs.declared.asked.Drawing.{Drawing}
-use Rattle.slotctl.specs.declared.failure.Failure.{Failure}
-use Rattle.slotctl.specs.declared.failure.Failure.TheVariants as failure
+use Rattle.slot_work.specs.declared.failure.Failure.{Failure}
+use Rattle.slot_work.specs.declared.failure.Failure.TheVariants as failure
 use Rattle.slot_words.specs.declared.misuse.Misuse.{Misuse}
-use Rattle.slotctl.specs.declared.outcome.Outcome.{Outcome}
-use Rattle.slotctl.specs.declared.outcome.Outcome.TheVariants as outcome
-use Rattle.slotctl.specs.Checked.{IsChecked, IsRewritten}
-use Rattle.slotctl.specs.Statuses.{status_after}
+use Rattle.slot_work.specs.declared.outcome.Outcome.{Outcome}
+use Rattle.slot_work.specs.declared.outcome.Outcome.TheVariants as outcome
+use Rattle.slot_work.specs.Checked.{IsChecked, IsRewritten}
+use Rattle.slot_work.specs.Statuses.{status_after}
 
 -- a status is answered, and a fault is a failure
 abbrev pub outcome_of : Result ℕ Fault → Result Outcome Failure

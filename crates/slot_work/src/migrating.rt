@@ -2,7 +2,7 @@
 
 ghost use Rattle.std.specs.Prelude.{◌<◌, ◌^◌};
 ghost use Rattle.schedule_player.specs.Played.{reading, writing};
-ghost use Rattle.slotctl.specs.Checked.{IsRewritten};
+ghost use Rattle.slot_work.specs.Checked.{IsRewritten};
 
 use crate::checking::{put_verdict, read_whole};
 use run_checker::{Verdict, migrate};

@@ -4,7 +4,7 @@ ghost use Rattle.std.specs.Prelude.{◌≡◌, ◌⊎◌, ◌+◌, ◌^◌, ◌<
 ghost use Rattle.schedule_player.specs.Played.{reading, writing};
 ghost use Rattle.run_checker.specs.declared.verdict.Verdict.{Verdict};
 ghost use Rattle.run_checker.specs.declared.verdict.Verdict.TheVariants.{NoMemory};
-ghost use Rattle.slotctl.specs.Checked.{HasFailedRead, IsChecked, IsWhole, verdict_status, verdict_text};
+ghost use Rattle.slot_work.specs.Checked.{HasFailedRead, IsChecked, IsWhole, verdict_status, verdict_text};
 
 use run_checker::{Verdict, check};
 use schedule_player::sink::put_all;

@@ -6,10 +6,10 @@ use Rattle.run_checker.specs.declared.verdict.Verdict.TheVariants.{Yes, NoMemory
 use Rattle.schedule_player.specs.Played.{reading, writing}
 use Rattle.schedule_player.specs.Written.{HasPartOf}
 use Rattle.schedule_player.specs.declared.fault.Fault.TheVariants.{Memory}
-use Rattle.slotctl.specs.Checked.{verdict_text, IsJudged, IsRecordText}
-use Rattle.slotctl.proofs.CheckLemmas.{half_told, unread}
-use Rattle.slotctl.proofs.MigrateLemmas.{unwritten, line_tells, status_one}
-use Rattle.slotctl.proofs.migrating.migrate_for.Goals as goal
+use Rattle.slot_work.specs.Checked.{verdict_text, IsJudged, IsRecordText}
+use Rattle.slot_work.proofs.CheckLemmas.{half_told, unread}
+use Rattle.slot_work.proofs.MigrateLemmas.{unwritten, line_tells, status_one}
+use Rattle.slot_work.proofs.migrating.migrate_for.Goals as goal
 
 pub returns-in_err-bytes : goal.returns-in_err-bytes
 returns-in_err-bytes g c =

@@ -2,7 +2,7 @@
 
 ghost use Rattle.std.specs.Prelude.{◌≡◌, ◌<◌, ◌^◌, false};
 ghost use Rattle.schedule_player.specs.Played.{reading, writing};
-ghost use Rattle.slotctl.specs.Done.{IsWorked, IsDrawnBy, IsPlayedBy, is_served};
+ghost use Rattle.slot_work.specs.Done.{IsWorked, IsDrawnBy, IsPlayedBy, is_served};
 
 use crate::checking::check_for;
 use crate::migrating::migrate_for;

@@ -1,7 +1,7 @@
 use Rattle.std.proofs.Common.{◌≡◌, ◌+◌, length}
 use Rattle.std.specs.Io.KnownBytes.{Consumes}
 use Rattle.schedule_player.specs.declared.playing.TheConstants.{READ_BYTES}
-use Rattle.slotctl.proofs.checking.read_whole.Given as goal
+use Rattle.slot_work.proofs.checking.read_whole.Given as goal
 
 abbrev pub invariant-loop-reads : goal.invariant-loop-reads
 invariant-loop-reads g l = record {

@@ -4,9 +4,9 @@ use Rattle.run_checker.specs.Verdict.{IsVerdict}
 use Rattle.run_checker.specs.declared.verdict.Verdict.TheVariants.{NoMemory}
 use Rattle.schedule_player.specs.Played.{reading, writing}
 use Rattle.schedule_player.specs.Written.{HasPartOf}
-use Rattle.slotctl.specs.Checked.{verdict_text, IsVerdictText}
-use Rattle.slotctl.proofs.CheckLemmas.{half_told, unread}
-use Rattle.slotctl.proofs.checking.check_for.Goals as goal
+use Rattle.slot_work.specs.Checked.{verdict_text, IsVerdictText}
+use Rattle.slot_work.proofs.CheckLemmas.{half_told, unread}
+use Rattle.slot_work.proofs.checking.check_for.Goals as goal
 
 pub returns-in_err-bytes : goal.returns-in_err-bytes
 returns-in_err-bytes g c =

@@ -6,7 +6,7 @@ use Rattle.schedule_player.specs.Written.{HasPartOf}
 use Rattle.schedule_player.specs.declared.fault.Fault.{Fault}
 use Rattle.schedule_player.specs.declared.fault.Fault.TheVariants.{Read, Write, Memory}
 use Rattle.schedule_player.specs.declared.playing.TheConstants.{MOST_READS}
-use Rattle.slotctl.specs.Checked.{HasFailedRead, IsJudged, IsToldOf}
+use Rattle.slot_work.specs.Checked.{HasFailedRead, IsJudged, IsToldOf}
 
 not_of_write : (fault : Fault) → (fault ≡ Read) ⊎ (fault ≡ Memory) → (let o : Result ℕ Fault = Err fault in o ≡ Err Write) → ⊥
 not_of_write fault (inl is) at = cc

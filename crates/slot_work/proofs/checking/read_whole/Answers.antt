@@ -1,8 +1,8 @@
 use Rattle.std.proofs.Common.{◌≡◌, ◌+◌, ◌++◌, [], arith, refl, take, subst, ℕ, rules}
 use Rattle.std.proofs.lemmas.List.{append-nil}
 use Rattle.std.specs.Io.KnownBytes.{Consumes}
-use Rattle.slotctl.proofs.ReadLemmas.{nothing_read, read_more, read_all}
-use Rattle.slotctl.proofs.checking.read_whole.Goals as goal
+use Rattle.slot_work.proofs.ReadLemmas.{nothing_read, read_more, read_all}
+use Rattle.slot_work.proofs.checking.read_whole.Goals as goal
 
 pub loop-reads-init : goal.loop-reads-init
 loop-reads-init g c = record {

@@ -1,14 +1,12 @@
 //! The program, over any streams.
 
 ghost use Rattle.std.specs.Prelude.{◌≡◌, ◌⊎◌, ◌<◌, ◌^◌, Result, map};
-ghost use Rattle.clap.specs.Faults.{fault_of};
 ghost use Rattle.schedule_player.specs.Played.{reading, writing};
-ghost use Rattle.slot_words.specs.Asked.{IsAnswer};
-ghost use Rattle.slot_words.specs.CommandLine.{slotctl_app};
-ghost use Rattle.slotctl.specs.Done.{IsDone};
+ghost use Rattle.slot_words.specs.Asked.{IsRead};
+ghost use Rattle.slot_work.specs.Done.{IsDone};
 ghost use Rattle.slot_words.specs.declared.asked.Ask.{Ask};
 ghost use Rattle.slot_words.specs.declared.misuse.Misuse.{Misuse};
-ghost use Rattle.slotctl.specs.Statuses.{status_of};
+ghost use Rattle.slot_work.specs.Statuses.{status_of};
 
 use crate::failure::Failure;
 use crate::outcome::Outcome;
@@ -47,7 +45,7 @@ pub fn done<S: AsStr, R: Source, W: Sink>(
 ) -> Result<Outcome, Failure>
     requires reads { R.calls input.old < 2 ^ 64 }
     requires writes { W.calls output.old < 2 ^ 64 }
-    ensures { (asked : Result Ask Misuse) × IsAnswer (map S.text words.now) (fault_of slotctl_app (map S.text words.now)) asked
+    ensures { (asked : Result Ask Misuse) × IsRead (map S.text words.now) asked
         × IsDone (reading R.remaining R.calls R.failed) (writing W.contents W.failed) input.old input.new output.old output.new asked result }
 {
     let asked = match ask(alloc, words) {

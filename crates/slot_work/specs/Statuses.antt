@@ -1,8 +1,8 @@
 -- the status of the program (this project's profile)
 use Rattle.std.specs.Prelude.{ℕ, Result, Ok, Err}
 use Rattle.schedule_player.specs.declared.fault.Fault.{Fault}
-use Rattle.slotctl.specs.declared.failure.Failure.{Failure}
-use Rattle.slotctl.specs.declared.failure.Failure.TheVariants as failure
+use Rattle.slot_work.specs.declared.failure.Failure.{Failure}
+use Rattle.slot_work.specs.declared.failure.Failure.TheVariants as failure
 use Rattle.slot_words.specs.declared.misuse.Misuse.TheVariants.{Help, Words, Memory}
 
 -- 0 for help, 2 for words that are refused, and 3 for a fault or want of memory
