@@ -1,12 +1,11 @@
 //! Runs in which one growth is refused, each in turn.
 
-use crate::playing_tests::{Played, run_of};
+use crate::playing_tests::{Played, config, run_of};
 use crate::record_tests::{record_text, recorded};
 use crate::worlds_tests::{ROWS, Row, spelled};
 use schedule_player::{Config, Fault, WorldKind};
 use std::alloc::{AllocError, Global};
 use std::process::Abort;
-use std::test::Fail;
 use test_doubles::{Cup, Drip, Refusing};
 
 /// No run here makes as many growths.
@@ -53,20 +52,11 @@ fn refusing(alloc: Global, config: Config, kept: bool, input: &[u8], growth: u64
 }
 
 /// What a run, or its record, writes for lines that are answered so.
-fn written(
-    alloc: Global,
-    config: Config,
-    kept: bool,
-    asked: &[u8],
-    said: &[u8],
-    views: &[u8],
-) -> Result<Vec<u8>, Fail> {
-    if kept {
-        return record_text(alloc, config, asked, said, views);
+fn written(rt: &impl Abort, alloc: Global, case: &Case, asked: &[u8], said: &[u8]) -> Vec<u8> {
+    if case.is_kept {
+        return record_text(rt, alloc, case.config, asked, said, &case.views);
     }
-    let mut text = Vec::new(alloc);
-    text.extend_from_slice(said)?;
-    Ok(text)
+    Vec::from_slice(alloc, said).expect(rt, "room for replies")
 }
 
 /// The line, counted from 0, in which two texts first differ.
@@ -83,115 +73,172 @@ fn line_of_difference(one: &[u8], other: &[u8]) -> usize {
     line
 }
 
+/// Appends a line.
+fn put_line(lines: &mut Vec<u8>, line: &[u8]) -> Result<(), AllocError> {
+    lines.extend_from_slice(line)?;
+    lines.push(b'\n')?;
+    Ok(())
+}
+
 /// Lines with one more before the line of this number, counted from 0: this one, or where there is none that line again.
 fn with_line(
+    rt: &impl Abort,
     alloc: Global,
     lines: &[u8],
     number: usize,
     more: Option<&[u8]>,
-) -> Result<Vec<u8>, AllocError> {
+) -> Vec<u8> {
     let mut all = Vec::new(alloc);
     for (at, line) in lines.split(|byte| *byte == b'\n').enumerate() {
         if line.is_empty() {
             continue;
         }
         if at == number {
-            all.extend_from_slice(more.unwrap_or(line))?;
-            all.push(b'\n')?;
+            put_line(&mut all, more.unwrap_or(line)).expect(rt, "room for one more line");
         }
-        all.extend_from_slice(line)?;
-        all.push(b'\n')?;
+        put_line(&mut all, line).expect(rt, "room for a line");
     }
-    Ok(all)
+    all
 }
 
-/// Plays a row, or records it, with each growth refused in turn. Before the first read that is a fault. Later one line is refused;
-/// asked again, it is answered as if nothing had been. How many lines were refused so.
-fn growths_refused_in_turn(
+/// A row that is played, or recorded where it is kept.
+#[derive(Drop)]
+struct Case {
+    config: Config,
+    is_kept: bool,
+    asked: Vec<u8>,
+    said: Vec<u8>,
+    views: Vec<u8>,
+}
+
+impl Case {
+    fn new(rt: &impl Abort, alloc: Global, row: &Row, is_kept: bool) -> Case {
+        Case {
+            config: row.config(rt),
+            is_kept,
+            asked: spelled(rt, alloc, row.asked),
+            said: spelled(rt, alloc, row.said),
+            views: spelled(rt, alloc, row.views),
+        }
+    }
+}
+
+/// What a refused growth comes to.
+#[derive(Clone, Copy, Drop)]
+enum Came {
+    /// The run did not come to it.
+    Nowhere,
+    /// It is a fault, before the first read.
+    Fault,
+    /// A line is refused.
+    Refusal,
+}
+
+/// One line was refused, so that this was written: asked again, it is answered as if nothing had been.
+fn is_answered_again(
     rt: &impl Abort,
     alloc: Global,
-    row: &Row,
-    kept: bool,
-) -> Result<usize, Fail> {
-    let config = Config::new(row.world, row.m, row.k, row.limit)?;
-    let asked = spelled(alloc, row.asked)?;
-    let said = spelled(alloc, row.said)?;
-    let views = spelled(alloc, row.views)?;
-    let text = written(alloc, config, kept, &asked, &said, &views)?;
+    case: &Case,
+    growth: u64,
+    text: &[u8],
+    whole: &[u8],
+) {
+    let header = if case.is_kept { 1 } else { 0 };
+    let line = line_of_difference(text, whole).saturating_sub(header);
+    let again = with_line(rt, alloc, &case.asked, line, None);
+    let told = with_line(rt, alloc, &case.said, line, Some(b"refused 12"));
+    let want = written(rt, alloc, case, &again, &told);
+    let p = refusing(alloc, case.config, case.is_kept, &again, growth);
+    assert!(rt; p.fault.is_none() && p.text == want, "at {growth}");
+}
+
+/// Plays a row, or records it, with one growth refused. Before the first read that is a fault. Later one line is refused.
+fn one_growth_is_refused(rt: &impl Abort, alloc: Global, case: &Case, growth: u64) -> Came {
+    let whole = written(rt, alloc, case, &case.asked, &case.said);
+    let p = refusing(alloc, case.config, case.is_kept, &case.asked, growth);
+    if !p.came_to_it {
+        let is_whole = growth > 1 && p.fault.is_none() && p.text == whole;
+        assert!(rt; is_whole, "at {growth}");
+        return Came::Nowhere;
+    }
+    if p.fault.is_some() {
+        assert!(rt;
+            p.fault == Some(Fault::Memory) && p.untouched,
+            "at {growth}"
+        );
+        return Came::Fault;
+    }
+    is_answered_again(rt, alloc, case, growth, &p.text, &whole);
+    Came::Refusal
+}
+
+/// Plays a row, or records it, with each growth refused in turn. How many lines were refused so.
+fn growths_refused_in_turn(rt: &impl Abort, alloc: Global, row: &Row, is_kept: bool) -> usize {
+    let case = Case::new(rt, alloc, row, is_kept);
     let mut refused = 0usize;
     for growth in 1..MOST_GROWTHS {
-        let p = refusing(alloc, config, kept, &asked, growth);
-        if !p.came_to_it {
-            assert!(rt;
-                growth > 1 && p.fault.is_none() && p.text == text,
-                "at {growth}"
-            );
-            return Ok(refused);
+        match one_growth_is_refused(rt, alloc, &case, growth) {
+            Came::Nowhere => return refused,
+            Came::Fault => {}
+            Came::Refusal => refused = refused.saturating_add(1),
         }
-        if p.fault.is_some() {
-            assert_eq!(rt; p.fault, Some(Fault::Memory), "at {growth}");
-            assert!(rt; p.untouched, "at {growth}");
-            continue;
-        }
-        refused = refused.saturating_add(1);
-        let header = if kept { 1 } else { 0 };
-        let line = line_of_difference(&p.text, &text).saturating_sub(header);
-        let again = with_line(alloc, &asked, line, None)?;
-        let told = with_line(alloc, &said, line, Some(b"refused 12"))?;
-        let p = refusing(alloc, config, kept, &again, growth);
-        let want = written(alloc, config, kept, &again, &told, &views)?;
-        assert!(rt; p.fault.is_none() && p.text == want, "at {growth}");
     }
     panic!(rt; "there are more growths");
 }
 
 #[test]
-fn each_growth_of_a_row_is_refused_in_turn(rt: HostRuntime) -> Result<(), Fail> {
+fn each_growth_of_a_row_is_refused_in_turn(rt: HostRuntime) {
     for row in &ROWS {
-        for kept in [false, true] {
-            let refused = growths_refused_in_turn(&rt, rt.alloc(), row, kept)?;
-            assert_eq!(rt;
-                refused > 0,
-                row.world == WorldKind::Tree && row.asked.starts_with("begin"),
-                "at {}",
-                row.asked
-            );
+        let grows = row.world == WorldKind::Tree && row.asked.starts_with("begin");
+        for is_kept in [false, true] {
+            let refused = growths_refused_in_turn(&rt, rt.alloc(), row, is_kept);
+            assert_eq!(rt; refused > 0, grows, "at {}", row.asked);
         }
     }
-    Ok(())
+}
+
+/// A row in this world for so many participants, of whom one takes a step.
+fn short_row(world: WorldKind, m: u64) -> Row {
+    Row {
+        world,
+        m,
+        k: 4,
+        limit: 1000,
+        asked: "begin 7, step 7, quit",
+        said: "ok, quiet, ok",
+        views: "",
+    }
 }
 
 #[test]
-fn each_growth_of_a_splitter_and_a_grid_is_refused_in_turn(rt: HostRuntime) -> Result<(), Fail> {
-    for world in [WorldKind::Splitter, WorldKind::Grid] {
-        for m in [2, 16] {
-            let row = Row {
-                world,
-                m,
-                k: 4,
-                limit: 1000,
-                asked: "begin 7, step 7, quit",
-                said: "ok, quiet, ok",
-                views: "",
-            };
-            assert_eq!(rt; growths_refused_in_turn(&rt, rt.alloc(), &row, false)?, 0);
-        }
+fn each_growth_of_a_splitter_and_a_grid_is_refused_in_turn(rt: HostRuntime) {
+    for (world, m) in [
+        (WorldKind::Splitter, 2),
+        (WorldKind::Splitter, 16),
+        (WorldKind::Grid, 2),
+        (WorldKind::Grid, 16),
+    ] {
+        let row = short_row(world, m);
+        assert_eq!(rt; growths_refused_in_turn(&rt, rt.alloc(), &row, false), 0);
     }
-    Ok(())
+}
+
+/// Whether a growth that is refused is no fault, so that this is written.
+fn is_no_fault(rt: &impl Abort, alloc: Global, asked: &[u8], said: &[u8], growth: u64) -> bool {
+    let p = refusing(alloc, config(rt, WorldKind::Tree, 2), false, asked, growth);
+    let is_no_fault = p.fault.is_none();
+    assert!(rt; !is_no_fault || p.text.as_slice() == said, "at {growth}");
+    is_no_fault
 }
 
 /// The growth of the root of a tree is refused once.
 #[test]
-fn a_root_that_is_refused_is_made_when_asked_again(rt: HostRuntime) -> Result<(), Fail> {
-    let alloc = rt.alloc();
-    let config = Config::new(WorldKind::Tree, 2, 4, 1000)?;
-    let asked = spelled(alloc, "begin 7, step 7*6")?;
-    let said = spelled(alloc, "ok, refused 12, quiet*4, place 1")?;
+fn a_root_that_is_refused_is_made_when_asked_again(rt: HostRuntime) {
+    let asked = spelled(&rt, rt.alloc(), "begin 7, step 7*6");
+    let said = spelled(&rt, rt.alloc(), "ok, refused 12, quiet*4, place 1");
     for growth in 1..MOST_GROWTHS {
-        let p = refusing(alloc, config, false, &asked, growth);
-        if p.fault.is_none() {
-            assert_eq!(rt; p.text.as_slice(), said.as_slice());
-            return Ok(());
+        if is_no_fault(&rt, rt.alloc(), &asked, &said, growth) {
+            return;
         }
     }
     panic!(rt; "the root is not refused");

@@ -14,7 +14,6 @@ use splitter::SplitterWorld;
 use splitter_grid::GridWorld;
 use std::alloc::{Allocator, Global};
 use std::process::Abort;
-use std::test::Fail;
 use step_memory::View;
 use test_doubles::{Cup, Drip, Refusing};
 
@@ -27,10 +26,11 @@ pub(crate) struct Played<T> {
     pub(crate) writes: u64,
 }
 
-/// In a splitter for two participants.
-fn play_by(alloc: Global, reader: Drip<'_>, writer: Cup) -> Result<Played<Summary>, Fail> {
-    let config = Config::new(WorldKind::Splitter, 2, 4, 1000)?;
-    Ok(run_of(config, alloc, reader, writer))
+/// A config of this world for so many participants.
+pub(crate) fn config(rt: &impl Abort, world: WorldKind, m: u64) -> Config
+    ensures { result.world ≡ world }
+{
+    Config::new(world, m, 4, 1000).expect(rt, "a config in range")
 }
 
 pub(crate) fn run_of<A: Allocator + Clone>(
@@ -87,45 +87,67 @@ const INPUTS: [(&[u8], &[u8]); 6] = [
     (LINES, LINES_TEXT),
 ];
 
-#[test]
-fn the_text_is_the_same_however_the_bytes_are_cut(rt: HostRuntime) -> Result<(), Fail> {
-    for (input, text) in INPUTS {
-        for piece in [1, 3, READ_BYTES] {
-            let p = play_by(
-                rt.alloc(),
-                Drip::new(input, piece, 0),
-                Cup::new(rt.alloc(), piece, 0, false),
-            )?;
-            assert!(rt; p.outcome.is_ok());
-            assert_eq!(rt; p.text.as_slice(), text);
-        }
+/// Plays an input that is read and written in pieces of so many bytes, and compares what is written.
+fn is_played_by(rt: &impl Abort, alloc: Global, config: Config, row: (&[u8], &[u8]), piece: usize) {
+    let (input, text) = row;
+    let p = run_of(
+        config,
+        alloc,
+        Drip::new(input, piece, 0),
+        Cup::new(alloc, piece, 0, false),
+    );
+    assert!(rt;
+        p.outcome.is_ok() && p.text.as_slice() == text,
+        "{piece} {input:?}"
+    );
+}
+
+/// The same however the bytes are cut.
+pub(crate) fn is_played(rt: &impl Abort, alloc: Global, config: Config, row: (&[u8], &[u8])) {
+    for piece in [1, 3, 7, READ_BYTES] {
+        is_played_by(rt, alloc, config, row, piece);
     }
-    Ok(())
 }
 
 #[test]
-fn the_summary_counts_each_line(rt: HostRuntime) -> Result<(), Fail> {
-    let counts = [
-        (0, 0, 0, 0),
-        (9, 8, 1, 0),
-        (10, 10, 0, 0),
-        (5, 2, 2, 1),
-        (2, 2, 0, 0),
-        (10, 0, 1, 9),
-    ];
-    for ((input, _), (lines, accepted, refused, bad)) in INPUTS.into_iter().zip(counts) {
-        let p = play_by(
-            rt.alloc(),
-            Drip::new(input, 7, 0),
-            Cup::new(rt.alloc(), 7, 0, false),
-        )?;
-        let summary = p.outcome?;
-        assert_eq!(rt; summary.lines, lines);
-        assert_eq!(rt; summary.accepted, accepted);
-        assert_eq!(rt; summary.refused, refused);
-        assert_eq!(rt; summary.bad, bad);
+fn the_text_is_the_same_however_the_bytes_are_cut(rt: HostRuntime) {
+    let config = config(&rt, WorldKind::Splitter, 2);
+    for row in INPUTS {
+        is_played(&rt, rt.alloc(), config, row);
     }
-    Ok(())
+}
+
+/// How many lines a run counts, and how many of them were accepted, refused and bad.
+fn counted(rt: &impl Abort, alloc: Global, config: Config, input: &[u8]) -> [u64; 4] {
+    let p = run_of(
+        config,
+        alloc,
+        Drip::new(input, 7, 0),
+        Cup::new(alloc, 7, 0, false),
+    );
+    let Summary {
+        lines,
+        accepted,
+        refused,
+        bad,
+    } = p.outcome.expect(rt, "a run with no fault");
+    [lines, accepted, refused, bad]
+}
+
+#[test]
+fn the_summary_counts_each_line(rt: HostRuntime) {
+    let config = config(&rt, WorldKind::Splitter, 2);
+    let counts = [
+        [0, 0, 0, 0],
+        [9, 8, 1, 0],
+        [10, 10, 0, 0],
+        [5, 2, 2, 1],
+        [2, 2, 0, 0],
+        [10, 0, 1, 9],
+    ];
+    for ((input, _), counts) in INPUTS.into_iter().zip(counts) {
+        assert_eq!(rt; counted(&rt, rt.alloc(), config, input), counts);
+    }
 }
 
 /// The first lines of a text, so many.
@@ -142,114 +164,108 @@ fn first_lines(text: &[u8], count: usize) -> &[u8] {
     text
 }
 
-/// Each read of a run fails in turn: the whole lines before it are answered.
-fn reads_fail_in_turn(rt: &impl Abort, alloc: Global, config: Config, input: &[u8], text: &[u8]) {
-    let whole = run_of(
+/// One read of a run fails: the whole lines before it are answered.
+fn one_read_fails(rt: &impl Abort, alloc: Global, config: Config, row: (&[u8], &[u8]), at: u64) {
+    let (input, text) = row;
+    let p = run_of(
         config,
         alloc,
-        Drip::new(input, 4, 0),
+        Drip::new(input, 4, at),
         Cup::new(alloc, 64, 0, false),
     );
-    for fails_at in 1..=whole.reads {
-        let p = run_of(
-            config,
-            alloc,
-            Drip::new(input, 4, fails_at),
-            Cup::new(alloc, 64, 0, false),
-        );
-        assert!(rt; matches!(p.outcome, Err(Fault::Read)), "at {fails_at}");
-        let given = (fails_at as usize).saturating_sub(1).saturating_mul(4);
-        let lines = input
-            .iter()
-            .take(given)
-            .filter(|byte| **byte == b'\n')
-            .count();
-        assert_eq!(rt;
-            p.text.as_slice(),
-            first_lines(text, lines),
-            "at {fails_at}"
-        );
-    }
+    let given = (at as usize).saturating_sub(1).saturating_mul(4);
+    let lines = input
+        .iter()
+        .take(given)
+        .filter(|byte| **byte == b'\n')
+        .count();
+    let answered = p.text.as_slice() == first_lines(text, lines);
+    assert!(rt; p.outcome.err() == Some(Fault::Read) && answered, "at {at}");
 }
 
-/// Each write of a run fails in turn: a beginning of the text is written.
-fn writes_fail_in_turn(rt: &impl Abort, alloc: Global, config: Config, input: &[u8], text: &[u8]) {
-    let whole = run_of(
+/// One write of a run fails: a beginning of the text is written.
+fn one_write_fails(
+    rt: &impl Abort,
+    alloc: Global,
+    config: Config,
+    row: (&[u8], &[u8]),
+    (at, takes_nothing): (u64, bool),
+) {
+    let (input, text) = row;
+    let p = run_of(
         config,
         alloc,
         Drip::new(input, 4, 0),
+        Cup::new(alloc, 3, at, takes_nothing),
+    );
+    let is_part = text.starts_with(&p.text) && p.text.len() < text.len();
+    assert!(rt; p.outcome.err() == Some(Fault::Write) && is_part, "at {at}");
+}
+
+/// Each read of a run fails in turn, and each write, by an error and by taking nothing.
+fn calls_fail_in_turn(rt: &impl Abort, alloc: Global, config: Config, row: (&[u8], &[u8])) {
+    let whole = run_of(
+        config,
+        alloc,
+        Drip::new(row.0, 4, 0),
         Cup::new(alloc, 3, 0, false),
     );
-    for takes_nothing in [false, true] {
-        for fails_at in 1..=whole.writes {
-            let p = run_of(
-                config,
-                alloc,
-                Drip::new(input, 4, 0),
-                Cup::new(alloc, 3, fails_at, takes_nothing),
-            );
-            assert!(rt; matches!(p.outcome, Err(Fault::Write)), "at {fails_at}");
-            assert!(rt; text.starts_with(p.text.as_slice()), "at {fails_at}");
-            assert!(rt; p.text.len() < text.len(), "at {fails_at}");
-        }
+    let (reads, writes) = (whole.reads, whole.writes);
+    for at in 1..=reads {
+        one_read_fails(rt, alloc, config, row, at);
+    }
+    for at in 1..=writes {
+        one_write_fails(rt, alloc, config, row, (at, false));
+        one_write_fails(rt, alloc, config, row, (at, true));
     }
 }
 
 /// In a splitter each row, and in a world of names the row of bad lines and the one in which the name 2b - 1 is reached.
 #[test]
-fn each_read_and_each_write_fails_once(rt: HostRuntime) -> Result<(), Fail> {
+fn each_read_and_each_write_fails_once(rt: HostRuntime) {
     let alloc = rt.alloc();
-    let splitter = Config::new(WorldKind::Splitter, 2, 4, 1000)?;
-    for (input, text) in INPUTS {
-        reads_fail_in_turn(&rt, alloc, splitter, input, text);
-        writes_fail_in_turn(&rt, alloc, splitter, input, text);
+    let splitter = config(&rt, WorldKind::Splitter, 2);
+    for row in INPUTS {
+        calls_fail_in_turn(&rt, alloc, splitter, row);
     }
-    let rename = Config::new(WorldKind::Rename, 2, 4, 1000)?;
-    reads_fail_in_turn(&rt, alloc, rename, LINES, LINES_TEXT);
-    writes_fail_in_turn(&rt, alloc, rename, LINES, LINES_TEXT);
-    let asked = spelled(alloc, ROWS[2].asked)?;
-    let said = spelled(alloc, ROWS[2].said)?;
-    reads_fail_in_turn(&rt, alloc, rename, &asked, &said);
-    writes_fail_in_turn(&rt, alloc, rename, &asked, &said);
-    Ok(())
+    let rename = config(&rt, WorldKind::Rename, 2);
+    calls_fail_in_turn(&rt, alloc, rename, (LINES, LINES_TEXT));
+    let asked = spelled(&rt, alloc, ROWS[2].asked);
+    let said = spelled(&rt, alloc, ROWS[2].said);
+    calls_fail_in_turn(&rt, alloc, rename, (&asked, &said));
 }
 
 #[test]
-fn a_line_that_a_read_fault_cuts_is_not_run(rt: HostRuntime) -> Result<(), Fail> {
-    let p = play_by(
+fn a_line_that_a_read_fault_cuts_is_not_run(rt: HostRuntime) {
+    let p = run_of(
+        config(&rt, WorldKind::Splitter, 2),
         rt.alloc(),
-        Drip::new(b"begin 7\nstep 7".as_slice(), 64, 2),
+        Drip::new(b"begin 7\nstep 7", 64, 2),
         Cup::new(rt.alloc(), 64, 0, false),
-    )?;
-    assert!(rt; matches!(p.outcome, Err(Fault::Read)));
-    assert_eq!(rt; p.text.as_slice(), b"ok\n".as_slice());
-    Ok(())
+    );
+    assert!(rt; p.outcome.err() == Some(Fault::Read) && p.text.as_slice() == b"ok\n".as_slice());
+}
+
+/// Plays an input byte by byte, and compares what is written. How many growths it leaves of as many as there may be.
+fn growths_left(rt: &impl Abort, alloc: Global, input: &[u8], text: &[u8]) -> u64 {
+    let heap = Refusing::new(alloc, u64::MAX);
+    let p = run_of(
+        config(rt, WorldKind::Splitter, 2),
+        &heap,
+        Drip::new(input, 1, 0),
+        Cup::new(alloc, 64, 0, false),
+    );
+    assert!(rt; p.outcome.is_ok() && p.text.as_slice() == text);
+    heap.left()
 }
 
 /// However long a line is, no more growths are made than for a short one.
 #[test]
-fn a_line_of_a_million_bytes_is_bad(rt: HostRuntime) -> Result<(), Fail> {
-    let alloc = rt.alloc();
-    let config = Config::new(WorldKind::Splitter, 2, 4, 1000)?;
-    let long = vec![in alloc; b'a'; 1_000_000]?;
-    let mut left = [0, 0];
-    for (left, (input, text)) in left.iter_mut().zip([
-        (long.as_slice(), b"bad 1\n".as_slice()),
-        (b"a", b"bad 3\n"),
-    ]) {
-        let heap = Refusing::new(alloc, u64::MAX);
-        let p = run_of(
-            config,
-            &heap,
-            Drip::new(input, 1, 0),
-            Cup::new(alloc, 64, 0, false),
-        );
-        assert!(rt; p.outcome.is_ok());
-        assert_eq!(rt; p.text.as_slice(), text);
-        *left = heap.left();
-    }
-    assert_eq!(rt; left[0], left[1]);
-    Ok(())
+fn a_line_of_a_million_bytes_is_bad(rt: HostRuntime) {
+    let long = vec![in rt.alloc(); b'a'; 1_000_000].expect(&rt, "room for a long line");
+    let many = growths_left(&rt, rt.alloc(), &long, b"bad 1\n");
+    let few = growths_left(&rt, rt.alloc(), b"a", b"bad 3\n");
+    assert_eq!(rt; many, few);
 }
 
 /// Inputs in a grid for two participants, and the texts that they are answered by.
@@ -267,20 +283,11 @@ const GRID_INPUTS: [(u64, &[u8], &[u8]); 2] = [
 ];
 
 #[test]
-fn walks_in_a_grid_end_at_places(rt: HostRuntime) -> Result<(), Fail> {
+fn walks_in_a_grid_end_at_places(rt: HostRuntime) {
     for (m, input, text) in GRID_INPUTS {
-        for piece in [1, READ_BYTES] {
-            let p = run_of(
-                Config::new(WorldKind::Grid, m, 4, 1000)?,
-                rt.alloc(),
-                Drip::new(input, piece, 0),
-                Cup::new(rt.alloc(), piece, 0, false),
-            );
-            assert!(rt; p.outcome.is_ok());
-            assert_eq!(rt; p.text.as_slice(), text);
-        }
+        let config = config(&rt, WorldKind::Grid, m);
+        is_played(&rt, rt.alloc(), config, (input, text));
     }
-    Ok(())
 }
 
 /// One event through the bound.
@@ -292,86 +299,109 @@ fn answered<D: Service<()>>(world: &mut D, event: Event) -> Reply
 }
 
 #[test]
-fn a_world_answers_through_its_bound(rt: HostRuntime) -> Result<(), Fail> {
-    let mut world = SplitterWorld::new(rt.alloc(), 1)?;
-    assert_eq!(rt; answered(&mut world, Event::Begin(3)), Reply::Ok);
-    assert_eq!(rt; answered(&mut world, Event::Step(3)), Reply::Quiet);
-    let mut world = GridWorld::new(rt.alloc(), 1)?;
-    assert_eq!(rt; answered(&mut world, Event::Begin(3)), Reply::Ok);
-    assert_eq!(rt; answered(&mut world, Event::Step(3)), Reply::Quiet);
-    let mut world = Desk::new(rt.alloc(), Config::new(WorldKind::Tree, 1, 4, 1000)?)?;
-    assert_eq!(rt; answered(&mut world, Event::Enter(3)), Reply::Ok);
-    assert_eq!(rt; answered(&mut world, Event::Probe(3)), Reply::Got(1));
-    assert!(rt; MOST_READS == 1 << 40);
-    Ok(())
+fn a_splitter_answers_through_its_bound(rt: HostRuntime) {
+    let mut world = SplitterWorld::new(rt.alloc(), 1).expect(&rt, "room for a splitter");
+    let begun = answered(&mut world, Event::Begin(3));
+    let quiet = answered(&mut world, Event::Step(3));
+    assert!(rt; begun == Reply::Ok && quiet == Reply::Quiet);
 }
 
 #[test]
-fn a_world_that_refuses_growths_takes_the_event_when_asked_again(
-    rt: HostRuntime,
-) -> Result<(), Fail> {
-    let config = Config::new(WorldKind::Splitter, 4, 4, 1000)?;
+fn a_grid_answers_through_its_bound(rt: HostRuntime) {
+    let mut world = GridWorld::new(rt.alloc(), 1).expect(&rt, "room for a grid");
+    let begun = answered(&mut world, Event::Begin(3));
+    let quiet = answered(&mut world, Event::Step(3));
+    assert!(rt; begun == Reply::Ok && quiet == Reply::Quiet);
+}
+
+#[test]
+fn a_desk_answers_through_its_bound(rt: HostRuntime) {
+    let config = config(&rt, WorldKind::Tree, 1);
+    let mut world = Desk::new(rt.alloc(), config).expect(&rt, "room for a desk");
+    let entered = answered(&mut world, Event::Enter(3));
+    let got = answered(&mut world, Event::Probe(3));
+    assert!(rt; entered == Reply::Ok && got == Reply::Got(1));
+}
+
+#[test]
+fn a_world_that_refuses_growths_takes_the_event_when_asked_again(rt: HostRuntime) {
+    let config = config(&rt, WorldKind::Splitter, 4);
     let mut reader = Tried::new(
         b"begin 1\nbegin 2\nbegin 3\nbegin 3\nstep 9\nstep 9\nquit\n".as_slice(),
     );
     let mut writer = Tried::new(Vec::new(rt.alloc()));
-    let mut shelf = <Shelf as World<Global, ()>>::open(rt.alloc(), config)?;
-    let summary = play_in(
+    let mut shelf = <Shelf as World<Global, ()>>::open(rt.alloc(), config).expect(&rt, "a shelf");
+    let outcome = play_in(
         rt.alloc(),
         &(),
         &mut shelf,
         config,
         &mut reader,
         &mut writer,
-    )?;
+    );
+    let summary = outcome.expect(&rt, "a run with no fault");
+    assert_eq!(rt; (summary.accepted, summary.refused), (5, 2));
     assert_eq!(rt;
         writer.into_inner().as_slice(),
         b"ok\nok\nrefused 12\nok\nok\nrefused 12\nok\n".as_slice()
     );
-    assert_eq!(rt; (summary.accepted, summary.refused), (5, 2));
     law_of_world::<Shelf, Global, ()>();
-    Ok(())
+}
+
+/// Plays a coin over a reader that fails at this read: whether there was no fault and whether `stop` is next, after this text.
+fn coin_is_played(rt: &impl Abort, alloc: Global, fails_at: u64, text: &[u8]) -> (bool, bool) {
+    let mut coin = Coin { stops: false };
+    let mut reader = Tried::new(Drip::new(b"begin 1\nstep 1\nowner 1\nenter 1\n", 8, fails_at));
+    let mut writer = Tried::new(Vec::new(alloc));
+    let outcome = play_on(
+        alloc,
+        &(),
+        &mut coin,
+        WorldKind::Rename,
+        &mut reader,
+        &mut writer,
+    );
+    assert_eq!(rt; writer.into_inner().as_slice(), text);
+    (outcome.is_ok(), coin.stops)
 }
 
 #[test]
-fn a_world_whose_replies_vary_is_played_and_left_where_the_replies_went_out(
-    rt: HostRuntime,
-) -> Result<(), Fail> {
-    for (fails_at, stops, text) in [
-        (0, true, b"right\nstop\nowner none\nright\n".as_slice()),
-        (4, false, b"right\nstop\nowner none\n"),
+fn a_world_whose_replies_vary_is_played_and_left_where_the_replies_went_out(rt: HostRuntime) {
+    for (fails_at, is_left, text) in [
+        (
+            0,
+            (true, true),
+            b"right\nstop\nowner none\nright\n".as_slice(),
+        ),
+        (4, (false, false), b"right\nstop\nowner none\n"),
     ] {
-        let mut coin = Coin { stops: false };
-        let mut reader = Tried::new(Drip::new(b"begin 1\nstep 1\nowner 1\nenter 1\n", 8, fails_at));
-        let mut writer = Tried::new(Vec::new(rt.alloc()));
-        let outcome = play_on(
-            rt.alloc(),
-            &(),
-            &mut coin,
-            WorldKind::Rename,
-            &mut reader,
-            &mut writer,
-        );
-        assert_eq!(rt; outcome.is_ok(), fails_at == 0);
-        assert_eq!(rt; writer.into_inner().as_slice(), text);
-        assert_eq!(rt; coin.stops, stops);
+        assert_eq!(rt; coin_is_played(&rt, rt.alloc(), fails_at, text), is_left);
     }
-    Ok(())
+}
+
+/// How often a run calls its reader and its writer that is given so many bytes a read.
+fn calls_of(rt: &impl Abort, alloc: Global, input: &[u8], piece: usize) -> (u64, u64) {
+    let p = run_of(
+        config(rt, WorldKind::Splitter, 2),
+        alloc,
+        Drip::new(input, piece, 0),
+        Cup::new(alloc, READ_BYTES, 0, false),
+    );
+    assert!(rt; p.outcome.is_ok());
+    (p.reads, p.writes)
 }
 
 #[test]
-fn reads_and_writes_are_few(rt: HostRuntime) -> Result<(), Fail> {
+fn reads_and_writes_are_few(rt: HostRuntime) {
     let input = b"begin 7\nstep 7\nstep 7\nstep 7\nstep 7\nquit\nbegin 8\n".as_slice();
-    for (piece, reads, writes) in [(READ_BYTES, 1, 1), (8, 6, 6), (1, 41, 6)] {
-        let p = play_by(
-            rt.alloc(),
-            Drip::new(input, piece, 0),
-            Cup::new(rt.alloc(), READ_BYTES, 0, false),
-        )?;
-        assert!(rt; p.outcome.is_ok());
-        assert_eq!(rt; (p.reads, p.writes), (reads, writes), "at {piece} bytes");
+    for (piece, calls) in [(READ_BYTES, (1, 1)), (8, (6, 6)), (1, (41, 6))] {
+        assert_eq!(rt;
+            calls_of(&rt, rt.alloc(), input, piece),
+            calls,
+            "at {piece} bytes"
+        );
     }
-    Ok(())
+    assert_eq!(rt; MOST_READS, 1 << 40);
 }
 
 #[test]

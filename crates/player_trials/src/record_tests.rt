@@ -1,10 +1,10 @@
 //! Records of runs.
 
-use crate::playing_tests::{Played, what_is_left};
-use crate::worlds_tests::{ROWS, spelled};
+use crate::playing_tests::{Played, config, what_is_left};
+use crate::worlds_tests::{ROWS, Row, spelled};
 use schedule_player::{Config, Fault, READ_BYTES, Tried, WorldKind, record};
 use std::alloc::{AllocError, Allocator, Global};
-use std::test::Fail;
+use std::process::Abort;
 use test_doubles::{Cup, Drip};
 
 /// A run whose record is written; one in a world without names is none.
@@ -48,25 +48,14 @@ fn put_line(
     Ok(())
 }
 
-/// The record that these lines and the replies to them make, with the views of the names in order, where no line is bad.
-pub(crate) fn record_text(
-    alloc: Global,
-    config: Config,
+/// Appends the lines that these lines and the replies to them make, with the views of the names in order, where no line is
+/// bad.
+fn put_lines(
+    text: &mut Vec<u8>,
     asked: &[u8],
     said: &[u8],
     views: &[u8],
-) -> Result<Vec<u8>, Fail> {
-    let world = if config.world == WorldKind::Tree {
-        "tree"
-    } else {
-        "rename"
-    };
-    let header = format!(in alloc;
-        "{{\"format\":\"slot-record\",\"k\":{},\"limit\":{},\"m\":{},\"version\":2,\"world\":\"{world}\"}}\n",
-        config.k, config.limit, config.m
-    )?;
-    let mut text = Vec::new(alloc);
-    text.extend_from_slice(header.as_bytes())?;
+) -> Result<(), AllocError> {
     let lines = asked.split(|byte| *byte == b'\n');
     let replies = said.split(|byte| *byte == b'\n');
     let mut shown = views.split(|byte| *byte == b'\n');
@@ -79,31 +68,76 @@ pub(crate) fn record_text(
         } else {
             None
         };
-        put_line(&mut text, line, reply, view)?;
+        put_line(text, line, reply, view)?;
     }
-    Ok(text)
+    Ok(())
+}
+
+/// The header of a record of this config.
+fn header(rt: &impl Abort, alloc: Global, config: Config) -> String {
+    let world = if config.world == WorldKind::Tree {
+        "tree"
+    } else {
+        "rename"
+    };
+    let header = format!(in alloc;
+        "{{\"format\":\"slot-record\",\"k\":{},\"limit\":{},\"m\":{},\"version\":2,\"world\":\"{world}\"}}\n",
+        config.k, config.limit, config.m
+    );
+    header.expect(rt, "room for a header")
+}
+
+/// The record that these lines and the replies to them make.
+pub(crate) fn record_text(
+    rt: &impl Abort,
+    alloc: Global,
+    config: Config,
+    asked: &[u8],
+    said: &[u8],
+    views: &[u8],
+) -> Vec<u8> {
+    let mut text = header(rt, alloc, config).into_bytes();
+    put_lines(&mut text, asked, said, views).expect(rt, "room for a record");
+    text
+}
+
+/// Compares the record of a run that is read and written in pieces of so many bytes.
+fn is_recorded(
+    rt: &impl Abort,
+    alloc: Global,
+    config: Config,
+    (input, text): (&[u8], &[u8]),
+    piece: usize,
+) {
+    let p = recorded(
+        config,
+        alloc,
+        Drip::new(input, piece, 0),
+        Cup::new(alloc, piece, 0, false),
+    );
+    assert!(rt;
+        p.outcome.is_ok() && p.text.as_slice() == text,
+        "{piece} {input:?}"
+    );
+}
+
+/// Records a row however the bytes are cut.
+fn row_is_recorded(rt: &impl Abort, alloc: Global, row: &Row) {
+    let config = row.config(rt);
+    let asked = spelled(rt, alloc, row.asked);
+    let said = spelled(rt, alloc, row.said);
+    let views = spelled(rt, alloc, row.views);
+    let text = record_text(rt, alloc, config, &asked, &said, &views);
+    for piece in [1, 7, READ_BYTES] {
+        is_recorded(rt, alloc, config, (&asked, &text), piece);
+    }
 }
 
 #[test]
-fn the_record_of_a_row_is_its_events_with_their_replies(rt: HostRuntime) -> Result<(), Fail> {
+fn the_record_of_a_row_is_its_events_with_their_replies(rt: HostRuntime) {
     for row in &ROWS {
-        let config = Config::new(row.world, row.m, row.k, row.limit)?;
-        let asked = spelled(rt.alloc(), row.asked)?;
-        let said = spelled(rt.alloc(), row.said)?;
-        let views = spelled(rt.alloc(), row.views)?;
-        let text = record_text(rt.alloc(), config, &asked, &said, &views)?;
-        for piece in [1, 7, READ_BYTES] {
-            let p = recorded(
-                config,
-                rt.alloc(),
-                Drip::new(&asked, piece, 0),
-                Cup::new(rt.alloc(), piece, 0, false),
-            );
-            assert!(rt; p.outcome.is_ok(), "at {}", row.asked);
-            assert!(rt; p.text == text, "at {}", row.asked);
-        }
+        row_is_recorded(&rt, rt.alloc(), row);
     }
-    Ok(())
 }
 
 /// Lines of each kind, and the record of those that are recorded.
@@ -117,71 +151,63 @@ const RECORD: &[u8] =
 {\"command\":\"enter 7\",\"reply\":\"ok\"}
 ";
 
-fn lines_by(alloc: Global, reader: Drip<'_>, writer: Cup) -> Result<Played<()>, Fail> {
-    let config = Config::new(WorldKind::Rename, 2, 4, 1000)?;
-    Ok(recorded(config, alloc, reader, writer))
-}
+const HEADER: &[u8] =
+    b"{\"format\":\"slot-record\",\"k\":4,\"limit\":1000,\"m\":2,\"version\":2,\"world\":\"rename\"}\n";
 
 #[test]
-fn owners_bad_lines_and_quit_are_not_recorded(rt: HostRuntime) -> Result<(), Fail> {
-    let p = lines_by(
-        rt.alloc(),
-        Drip::new(LINES, 4, 0),
-        Cup::new(rt.alloc(), 64, 0, false),
-    )?;
-    assert!(rt; p.outcome.is_ok());
-    assert_eq!(rt; p.text.as_slice(), RECORD);
-    let p = lines_by(
-        rt.alloc(),
-        Drip::new(b"", 4, 0),
-        Cup::new(rt.alloc(), 64, 0, false),
-    )?;
-    assert!(rt; p.outcome.is_ok());
-    assert!(rt; RECORD.starts_with(p.text.as_slice()));
-    assert_eq!(rt; p.text.iter().filter(|byte| **byte == b'\n').count(), 1);
-    Ok(())
+fn owners_bad_lines_and_quit_are_not_recorded(rt: HostRuntime) {
+    let config = config(&rt, WorldKind::Rename, 2);
+    is_recorded(&rt, rt.alloc(), config, (LINES, RECORD), 4);
+    is_recorded(&rt, rt.alloc(), config, (b"", HEADER), 4);
 }
 
-#[test]
-fn each_read_of_a_record_fails_once(rt: HostRuntime) -> Result<(), Fail> {
-    let whole = lines_by(
-        rt.alloc(),
-        Drip::new(LINES, 4, 0),
-        Cup::new(rt.alloc(), 64, 0, false),
-    )?;
-    for fails_at in 1..whole.reads {
-        let p = lines_by(
-            rt.alloc(),
-            Drip::new(LINES, 4, fails_at),
-            Cup::new(rt.alloc(), 64, 0, false),
-        )?;
-        assert!(rt; matches!(p.outcome, Err(Fault::Read)));
-        assert!(rt; RECORD.starts_with(p.text.as_slice()) && p.text.ends_with(b"}\n"));
-    }
-    Ok(())
+/// A read of a record fails: whole lines were written.
+fn one_read_fails(rt: &impl Abort, alloc: Global, config: Config, at: u64) {
+    let p = recorded(
+        config,
+        alloc,
+        Drip::new(LINES, 4, at),
+        Cup::new(alloc, 64, 0, false),
+    );
+    let is_part = RECORD.starts_with(&p.text) && p.text.ends_with(b"}\n");
+    assert!(rt; p.outcome.err() == Some(Fault::Read) && is_part, "at {at}");
 }
 
-#[test]
-fn each_write_of_a_record_fails_once(rt: HostRuntime) -> Result<(), Fail> {
-    let whole = lines_by(
-        rt.alloc(),
+/// A write of a record fails: a beginning of it was written, and where that is less than the header, nothing was read.
+fn one_write_fails(rt: &impl Abort, alloc: Global, config: Config, at: u64, takes_nothing: bool) {
+    let p = recorded(
+        config,
+        alloc,
         Drip::new(LINES, 4, 0),
-        Cup::new(rt.alloc(), 3, 0, false),
-    )?;
-    for takes_nothing in [false, true] {
-        for fails_at in 1..whole.writes {
-            let p = lines_by(
-                rt.alloc(),
-                Drip::new(LINES, 4, 0),
-                Cup::new(rt.alloc(), 3, fails_at, takes_nothing),
-            )?;
-            assert!(rt; matches!(p.outcome, Err(Fault::Write)));
-            assert!(rt; RECORD.starts_with(p.text.as_slice()) && p.text.len() < RECORD.len());
-            assert_eq!(rt; p.reads == 0, fails_at <= HEADER_WRITES, "at {fails_at}");
-        }
-    }
-    Ok(())
+        Cup::new(alloc, 3, at, takes_nothing),
+    );
+    let is_part = RECORD.starts_with(&p.text) && p.text.len() < RECORD.len();
+    let is_unread = (p.reads == 0) == (at <= HEADER_WRITES);
+    assert!(rt;
+        p.outcome.err() == Some(Fault::Write) && is_part && is_unread,
+        "at {at}"
+    );
 }
 
 /// How many writes of three bytes the header of `RECORD` takes.
 const HEADER_WRITES: u64 = 27;
+
+#[test]
+fn each_read_and_each_write_of_a_record_fails_once(rt: HostRuntime) {
+    let alloc = rt.alloc();
+    let config = config(&rt, WorldKind::Rename, 2);
+    let whole = recorded(
+        config,
+        alloc,
+        Drip::new(LINES, 4, 0),
+        Cup::new(alloc, 3, 0, false),
+    );
+    let (reads, writes) = (whole.reads, whole.writes);
+    for at in 1..reads {
+        one_read_fails(&rt, alloc, config, at);
+    }
+    for at in 1..writes {
+        one_write_fails(&rt, alloc, config, at, false);
+        one_write_fails(&rt, alloc, config, at, true);
+    }
+}

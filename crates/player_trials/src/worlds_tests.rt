@@ -1,10 +1,9 @@
 //! Runs of renaming, over a grid's places and a tree's, with a pool and slots.
 
-use crate::playing_tests::run_of;
-use schedule_player::{Config, READ_BYTES, WorldKind};
-use std::alloc::Global;
-use std::test::Fail;
-use test_doubles::{Cup, Drip};
+use crate::playing_tests::is_played;
+use schedule_player::{Config, WorldKind};
+use std::alloc::{AllocError, Global};
+use std::process::Abort;
 
 /// An input and what is written for it: lines, in order, each with how often it comes.
 #[derive(Drop)]
@@ -215,38 +214,50 @@ pub(crate) const ROWS: [Row; 17] = [
     },
 ];
 
+impl Row {
+    /// What the row is a run of.
+    pub(crate) fn config(&self, rt: &impl Abort) -> Config {
+        Config::new(self.world, self.m, self.k, self.limit).expect(rt, "a config in range")
+    }
+}
+
+/// Appends a line so often.
+fn put_lines(lines: &mut Vec<u8>, line: &[u8], count: usize) -> Result<(), AllocError> {
+    for _ in 0..count {
+        lines.extend_from_slice(line)?;
+        lines.push(b'\n')?;
+    }
+    Ok(())
+}
+
+/// A line, and how often it comes.
+fn counted_line<'a>(rt: &impl Abort, piece: &'a str) -> (&'a str, usize) {
+    match piece.split_once('*') {
+        Some((line, count)) => (line, count.parse::<usize>().expect(rt, "a count")),
+        None => (piece, 1),
+    }
+}
+
 /// The lines that a text of a row stands for.
-pub(crate) fn spelled(alloc: Global, text: &str) -> Result<Vec<u8>, Fail> {
+pub(crate) fn spelled(rt: &impl Abort, alloc: Global, text: &str) -> Vec<u8> {
     let mut lines = Vec::new(alloc);
     for piece in text.split(", ") {
-        let (line, count) = match piece.split_once('*') {
-            Some((line, count)) => (line, count.parse::<usize>()?),
-            None => (piece, 1),
-        };
-        for _ in 0..count {
-            lines.extend_from_slice(line.as_bytes())?;
-            lines.push(b'\n')?;
-        }
+        let (line, count) = counted_line(rt, piece);
+        put_lines(&mut lines, line.as_bytes(), count).expect(rt, "room for lines");
     }
-    Ok(lines)
+    lines
+}
+
+/// Plays a row however the bytes are cut.
+fn row_is_played(rt: &impl Abort, alloc: Global, row: &Row) {
+    let input = spelled(rt, alloc, row.asked);
+    let text = spelled(rt, alloc, row.said);
+    is_played(rt, alloc, row.config(rt), (&input, &text));
 }
 
 #[test]
-fn names_places_numbers_and_values_are_told(rt: HostRuntime) -> Result<(), Fail> {
+fn names_places_numbers_and_values_are_told(rt: HostRuntime) {
     for row in &ROWS {
-        let config = Config::new(row.world, row.m, row.k, row.limit)?;
-        let input = spelled(rt.alloc(), row.asked)?;
-        let text = spelled(rt.alloc(), row.said)?;
-        for piece in [1, 7, READ_BYTES] {
-            let p = run_of(
-                config,
-                rt.alloc(),
-                Drip::new(&input, piece, 0),
-                Cup::new(rt.alloc(), piece, 0, false),
-            );
-            assert!(rt; p.outcome.is_ok(), "at {}", row.asked);
-            assert!(rt; p.text == text, "at {}", row.asked);
-        }
+        row_is_played(&rt, rt.alloc(), row);
     }
-    Ok(())
 }
