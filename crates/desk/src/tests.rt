@@ -6,9 +6,269 @@ use std::process::Abort;
 use std::test::Fail;
 use step_memory::{Refusal, View};
 
-/// A desk of two participants, in this world, with a pool of this size.
-fn pooled(alloc: Global, world: WorldKind, k: u64) -> Result<Desk<Global>, Refusal> {
-    Desk::new(alloc, Config::new(world, 2, k, 1000)?)
+/// A row of a schedule: an event, and its reply without a view; so many steps of one participant, of which the last answers
+/// this and those before it are quiet; as many steps, of which the last gives this name, by a view of the participant alone;
+/// or who has a name.
+#[derive(Clone, Copy, Drop)]
+enum Row {
+    Does(Event, ShortReply),
+    Steps(u64, usize, ShortReply),
+    Named(u64, usize, u64),
+    Owner(u64, ShortReply),
+}
+
+/// A schedule in each of these worlds, of so many participants and rounds, with a pool of this size.
+#[derive(Drop)]
+struct Schedule {
+    title: &'static str,
+    worlds: &'static [WorldKind],
+    m: u64,
+    k: u64,
+    limit: u64,
+    rows: &'static [Row],
+}
+
+const GRID: &[WorldKind] = &[WorldKind::Rename];
+
+const TREE: &[WorldKind] = &[WorldKind::Tree];
+
+const BOTH: &[WorldKind] = &[WorldKind::Rename, WorldKind::Tree];
+
+const OK: ShortReply = ShortReply::Ok;
+
+const MISSED: ShortReply = ShortReply::Missed;
+
+const FULL: ShortReply = ShortReply::Refused(Refusal::Full);
+
+const FINISHED: ShortReply = ShortReply::Refused(Refusal::Finished);
+
+const CROWDED: ShortReply = ShortReply::Refused(Refusal::Crowded);
+
+const NOT_BEGUN: ShortReply = ShortReply::Refused(Refusal::NotBegun);
+
+const ZERO: ShortReply = ShortReply::Refused(Refusal::ZeroIdentity);
+
+const BEGUN: ShortReply = ShortReply::Refused(Refusal::AlreadyBegun);
+
+const SPENT: ShortReply = ShortReply::Refused(Refusal::Spent);
+
+const NO_MEMORY: ShortReply = ShortReply::Refused(Refusal::NoMemory);
+
+const OUT_OF_RANGE: ShortReply = ShortReply::Refused(Refusal::OutOfRange);
+
+const COMPETING: ShortReply = ShortReply::Refused(Refusal::AlreadyCompeting);
+
+const NOT_COMPETING: ShortReply = ShortReply::Refused(Refusal::NotCompeting);
+
+const HOLDING: ShortReply = ShortReply::Refused(Refusal::Holding);
+
+const NOT_HOLDING: ShortReply = ShortReply::Refused(Refusal::NotHolding);
+
+const NOBODY: ShortReply = ShortReply::Owner(None);
+
+const NAMES: [Schedule; 3] = [
+    Schedule {
+        title: "one alone, over a grid of one door",
+        worlds: GRID,
+        m: 1,
+        k: 4,
+        limit: 1000,
+        rows: &[
+            Row::Owner(1, NOBODY),
+            Row::Does(Event::Step(7), NOT_BEGUN),
+            Row::Does(Event::Begin(0), ZERO),
+            Row::Does(Event::Begin(7), OK),
+            Row::Does(Event::Begin(7), BEGUN),
+            Row::Does(Event::Begin(8), FULL),
+            Row::Steps(7, 4, ShortReply::Place(0)),
+            Row::Steps(7, 3, ShortReply::Proposed(1)),
+            Row::Named(7, 2, 1),
+            Row::Steps(7, 1, FINISHED),
+            Row::Owner(1, ShortReply::Owner(Some(7))),
+            Row::Owner(2, OUT_OF_RANGE),
+            Row::Owner(0, OUT_OF_RANGE),
+        ],
+    },
+    Schedule {
+        title: "one alone, in a tree",
+        worlds: TREE,
+        m: 2,
+        k: 4,
+        limit: 1000,
+        rows: &[
+            Row::Does(Event::Begin(7), OK),
+            Row::Steps(7, 5, ShortReply::Place(1)),
+            Row::Steps(7, 9, ShortReply::Proposed(1)),
+            Row::Named(7, 8, 1),
+            Row::Steps(7, 1, FINISHED),
+            Row::Owner(1, ShortReply::Owner(Some(7))),
+            Row::Owner(3, NOBODY),
+            Row::Owner(4, OUT_OF_RANGE),
+        ],
+    },
+    Schedule {
+        title: "with one round each, one of two is spent",
+        worlds: GRID,
+        m: 2,
+        k: 4,
+        limit: 1,
+        rows: &[
+            Row::Does(Event::Begin(10), OK),
+            Row::Does(Event::Begin(20), OK),
+            Row::Steps(10, 4, ShortReply::Place(0)),
+            Row::Steps(20, 6, ShortReply::Place(1)),
+            Row::Steps(20, 7, ShortReply::Proposed(1)),
+            Row::Steps(10, 6, ShortReply::Quiet),
+            Row::Steps(20, 4, ShortReply::Quiet),
+            Row::Steps(10, 1, ShortReply::Proposed(1)),
+            Row::Steps(10, 6, ShortReply::Spent),
+            Row::Steps(10, 1, SPENT),
+            Row::Named(20, 2, 1),
+        ],
+    },
+];
+
+const NUMBERS: [Schedule; 6] = [
+    Schedule {
+        title: "a pool of one number",
+        worlds: BOTH,
+        m: 2,
+        k: 1,
+        limit: 1000,
+        rows: &[
+            Row::Does(Event::Enter(5), OK),
+            Row::Does(Event::Probe(5), ShortReply::Got(1)),
+            Row::Does(Event::Enter(6), CROWDED),
+            Row::Does(Event::Enter(5), COMPETING),
+            Row::Does(Event::Leave(5), ShortReply::Left(1)),
+            Row::Does(Event::Enter(6), OK),
+            Row::Owner(1, NOBODY),
+        ],
+    },
+    Schedule {
+        title: "a bit that is freed behind a prober",
+        worlds: BOTH,
+        m: 2,
+        k: 3,
+        limit: 1000,
+        rows: &[
+            Row::Does(Event::Enter(5), OK),
+            Row::Does(Event::Probe(5), ShortReply::Got(1)),
+            Row::Does(Event::Enter(6), OK),
+            Row::Does(Event::Probe(6), MISSED),
+            Row::Does(Event::Probe(6), ShortReply::Got(2)),
+            Row::Does(Event::Enter(7), OK),
+            Row::Does(Event::Probe(7), MISSED),
+            Row::Does(Event::Leave(5), ShortReply::Left(1)),
+            Row::Does(Event::Probe(7), ShortReply::Got(3)),
+            Row::Does(Event::Enter(8), OK),
+            Row::Does(Event::Probe(8), ShortReply::Got(1)),
+            Row::Does(Event::Enter(9), CROWDED),
+            Row::Owner(1, NOBODY),
+        ],
+    },
+    Schedule {
+        title: "a slot keeps its value over its holders",
+        worlds: BOTH,
+        m: 2,
+        k: 2,
+        limit: 1000,
+        rows: &[
+            Row::Does(Event::Enter(5), OK),
+            Row::Does(Event::Leave(5), NOT_HOLDING),
+            Row::Does(Event::Probe(5), ShortReply::Got(1)),
+            Row::Does(Event::Probe(5), HOLDING),
+            Row::Does(Event::Get(5), ShortReply::Value(0)),
+            Row::Does(Event::Put(5, 77), OK),
+            Row::Does(Event::Get(5), ShortReply::Value(77)),
+            Row::Does(Event::Leave(5), ShortReply::Left(1)),
+            Row::Does(Event::Get(5), NOT_COMPETING),
+            Row::Does(Event::Enter(6), OK),
+            Row::Does(Event::Get(6), NOT_HOLDING),
+            Row::Does(Event::Put(6, 1), NOT_HOLDING),
+            Row::Does(Event::Probe(6), ShortReply::Got(1)),
+            Row::Does(Event::Get(6), ShortReply::Value(77)),
+            Row::Owner(1, NOBODY),
+        ],
+    },
+    Schedule {
+        title: "the value in the last slot, which has no bit, is found by who comes next",
+        worlds: BOTH,
+        m: 2,
+        k: 2,
+        limit: 1000,
+        rows: &[
+            Row::Does(Event::Probe(5), NOT_COMPETING),
+            Row::Does(Event::Enter(0), ZERO),
+            Row::Does(Event::Enter(5), OK),
+            Row::Does(Event::Leave(5), NOT_HOLDING),
+            Row::Does(Event::Probe(5), ShortReply::Got(1)),
+            Row::Does(Event::Enter(6), OK),
+            Row::Does(Event::Probe(6), ShortReply::Got(2)),
+            Row::Does(Event::Put(6, 9), OK),
+            Row::Does(Event::Leave(6), ShortReply::Left(2)),
+            Row::Does(Event::Enter(7), OK),
+            Row::Does(Event::Probe(7), ShortReply::Got(2)),
+            Row::Does(Event::Get(7), ShortReply::Value(9)),
+            Row::Owner(1, NOBODY),
+        ],
+    },
+    Schedule {
+        title: "the pool gets more numbers while the last is held, and the new slots hold 0",
+        worlds: BOTH,
+        m: 2,
+        k: 2,
+        limit: 1000,
+        rows: &[
+            Row::Does(Event::Enter(5), OK),
+            Row::Does(Event::Probe(5), ShortReply::Got(1)),
+            Row::Does(Event::Enter(6), OK),
+            Row::Does(Event::Probe(6), ShortReply::Got(2)),
+            Row::Does(Event::Enter(7), CROWDED),
+            Row::Does(Event::Widen(2), OUT_OF_RANGE),
+            Row::Does(Event::Widen(4), OK),
+            Row::Does(Event::Enter(7), OK),
+            Row::Does(Event::Probe(7), MISSED),
+            Row::Does(Event::Probe(7), MISSED),
+            Row::Does(Event::Leave(6), ShortReply::Left(2)),
+            Row::Does(Event::Probe(7), ShortReply::Got(3)),
+            Row::Does(Event::Enter(8), OK),
+            Row::Does(Event::Probe(8), MISSED),
+            Row::Does(Event::Probe(8), ShortReply::Got(2)),
+            Row::Does(Event::Enter(9), OK),
+            Row::Does(Event::Probe(9), MISSED),
+            Row::Does(Event::Probe(9), MISSED),
+            Row::Does(Event::Probe(9), ShortReply::Got(4)),
+            Row::Does(Event::Enter(10), CROWDED),
+            Row::Does(Event::Get(9), ShortReply::Value(0)),
+            Row::Does(Event::Put(9, 5), OK),
+            Row::Does(Event::Get(9), ShortReply::Value(5)),
+            Row::Does(Event::Widen(65), OUT_OF_RANGE),
+            Row::Owner(1, NOBODY),
+        ],
+    },
+    Schedule {
+        title: "a pool of one number gets more before that one is held",
+        worlds: BOTH,
+        m: 2,
+        k: 1,
+        limit: 1000,
+        rows: &[
+            Row::Does(Event::Enter(5), OK),
+            Row::Does(Event::Widen(2), OK),
+            Row::Does(Event::Probe(5), ShortReply::Got(1)),
+            Row::Does(Event::Enter(6), OK),
+            Row::Does(Event::Probe(6), ShortReply::Got(2)),
+            Row::Owner(1, NOBODY),
+        ],
+    },
+];
+
+/// The view in which one identity has proposed a number.
+fn sole(id: u64, number: u64) -> View {
+    let mut view = View::new();
+    view.insert(id, number);
+    view
 }
 
 /// Why a reply is a refusal, want of memory aside.
@@ -20,71 +280,73 @@ fn refusal_in(reply: &Reply) -> Option<Refusal> {
     }
 }
 
-/// Applies an event, and compares its reply, and what would be refused with what is.
-fn applies<A: Allocator + Clone>(rt: &impl Abort, desk: &mut Desk<A>, event: Event, want: &Reply) {
+/// Whether an event is answered so, and would be refused where it is.
+fn applies<A: Allocator + Clone>(desk: &mut Desk<A>, event: Event, want: &Reply) -> bool {
     let due = desk.refusal(event);
     let reply = desk.apply(event);
-    assert!(rt; reply == *want, "{event:?}: {reply:?}");
-    assert_eq!(rt; refusal_in(&reply), due, "{event:?}");
+    reply == *want && refusal_in(&reply) == due
 }
 
-/// Applies events one by one.
-fn plays<A: Allocator + Clone>(rt: &impl Abort, desk: &mut Desk<A>, rows: &[(Event, Reply)]) {
-    for (event, want) in rows {
-        applies(rt, desk, *event, want);
-    }
-}
-
-/// Takes so many steps, of which the last answers this and those before it are quiet.
-fn steps_of<A: Allocator + Clone>(
-    rt: &impl Abort,
-    desk: &mut Desk<A>,
-    id: u64,
-    count: usize,
-    last: &Reply,
-) {
+/// Whether a row is answered as it says.
+fn answers<A: Allocator + Clone>(desk: &mut Desk<A>, row: &Row) -> bool {
+    let none = View::new();
+    let (id, count, last) = match *row {
+        Row::Does(event, want) => return applies(desk, event, &want.with(&none)),
+        Row::Owner(name, want) => return desk.owner(name) == want.with(&none),
+        Row::Steps(id, count, last) => (id, count, last.with(&none)),
+        Row::Named(id, count, name) => (id, count, Reply::Named(name, sole(id, name))),
+    };
     for _ in 1..count {
-        applies(rt, desk, Event::Step(id), &Reply::Quiet);
+        if !applies(desk, Event::Step(id), &Reply::Quiet) {
+            return false;
+        }
     }
-    applies(rt, desk, Event::Step(id), last);
+    applies(desk, Event::Step(id), &last)
 }
 
-/// Takes the rows of a schedule in turn: who steps, how often, and what the last of these steps answers, before which it is
-/// quiet.
-fn steps<A: Allocator + Clone>(rt: &impl Abort, desk: &mut Desk<A>, rows: &[(u64, usize, Reply)]) {
-    for (id, count, last) in rows {
-        steps_of(rt, desk, *id, *count, last);
-    }
-}
-
-/// Asks for the owners of names.
-fn owners<A: Allocator + Clone>(rt: &impl Abort, desk: &Desk<A>, rows: &[(u64, Reply)]) {
-    for (number, want) in rows {
-        let reply = desk.owner(*number);
-        assert!(rt; reply == *want, "{number}: {reply:?}");
+/// Takes the rows of a schedule in turn.
+fn play<A: Allocator + Clone>(rt: &impl Abort, desk: &mut Desk<A>, title: &str, rows: &[Row]) {
+    for (i, row) in rows.iter().enumerate() {
+        assert!(rt; answers(desk, row), "{title}: row {i}");
     }
 }
 
-/// Applies events one by one in each world, at a desk of two participants, with a pool of this size. No name is given.
-fn plays_in_both(
-    rt: &impl Abort,
-    alloc: Global,
-    k: u64,
-    rows: &[(Event, Reply)],
-) -> Result<(), Fail> {
-    for world in [WorldKind::Rename, WorldKind::Tree] {
-        let mut desk = pooled(alloc, world, k)?;
-        plays(rt, &mut desk, rows);
-        owners(rt, &desk, &[(1, Reply::Owner(None))]);
+/// Plays a schedule at a new desk in each of its worlds.
+fn plays(rt: &impl Abort, alloc: Global, schedule: &Schedule) -> Result<(), Refusal> {
+    for world in schedule.worlds {
+        let config = Config::new(*world, schedule.m, schedule.k, schedule.limit)?;
+        let mut desk = Desk::new(alloc, config)?;
+        play(rt, &mut desk, schedule.title, schedule.rows);
     }
     Ok(())
 }
 
-/// The view in which one identity has proposed a number.
-fn sole(id: u64, number: u64) -> View {
-    let mut view = View::new();
-    view.insert(id, number);
-    view
+/// Plays schedules one by one.
+fn plays_all(rt: &impl Abort, alloc: Global, schedules: &[Schedule]) -> Result<(), Refusal> {
+    for schedule in schedules {
+        plays(rt, alloc, schedule)?;
+    }
+    Ok(())
+}
+
+/// Participants are named, and spent.
+#[test]
+fn names_are_given(rt: HostRuntime) -> Result<(), Fail> {
+    plays_all(&rt, rt.alloc(), &NAMES)?;
+    Ok(())
+}
+
+/// Numbers are taken and given back, and the slots keep their values.
+#[test]
+fn numbers_are_taken(rt: HostRuntime) -> Result<(), Fail> {
+    plays_all(&rt, rt.alloc(), &NUMBERS)?;
+    Ok(())
+}
+
+/// Why a desk of this world is refused, if it is.
+fn refusal_of(rt: &impl Abort, alloc: Global, world: WorldKind) -> Option<Refusal> {
+    let config = Config::new(world, 2, 64, 1000).expect(rt, "in range");
+    Desk::new(alloc, config).err()
 }
 
 /// The worlds in which names are given have a desk, and the others have none.
@@ -98,80 +360,14 @@ fn a_desk_for_two_worlds(rt: HostRuntime) {
         (WorldKind::Rename, None),
         (WorldKind::Tree, None),
     ] {
-        let refused = pooled(rt.alloc(), world, 64).err();
-        assert_eq!(rt; refused, want, "{world:?}");
+        assert_eq!(rt; refusal_of(&rt, rt.alloc(), world), want, "{world:?}");
     }
-}
-
-/// One participant alone, over a grid of one door.
-#[test]
-fn one_is_named_over_a_grid(rt: HostRuntime) -> Result<(), Fail> {
-    let mut desk = Desk::new(rt.alloc(), Config::new(WorldKind::Rename, 1, 4, 1000)?)?;
-    owners(&rt, &desk, &[(1, Reply::Owner(None))]);
-    plays(
-        &rt,
-        &mut desk,
-        &[
-            (Event::Step(7), Reply::Refused(Refusal::NotBegun)),
-            (Event::Begin(0), Reply::Refused(Refusal::ZeroIdentity)),
-            (Event::Begin(7), Reply::Ok),
-            (Event::Begin(7), Reply::Refused(Refusal::AlreadyBegun)),
-            (Event::Begin(8), Reply::Refused(Refusal::Full)),
-        ],
-    );
-    steps(
-        &rt,
-        &mut desk,
-        &[
-            (7, 4, Reply::Place(0)),
-            (7, 3, Reply::Proposed(1)),
-            (7, 2, Reply::Named(1, sole(7, 1))),
-            (7, 1, Reply::Refused(Refusal::Finished)),
-        ],
-    );
-    owners(
-        &rt,
-        &desk,
-        &[
-            (1, Reply::Owner(Some(7))),
-            (2, Reply::Refused(Refusal::OutOfRange)),
-            (0, Reply::Refused(Refusal::OutOfRange)),
-        ],
-    );
-    Ok(())
-}
-
-/// One participant alone, in a tree.
-#[test]
-fn one_is_named_over_a_tree(rt: HostRuntime) -> Result<(), Fail> {
-    let mut desk = pooled(rt.alloc(), WorldKind::Tree, 4)?;
-    plays(&rt, &mut desk, &[(Event::Begin(7), Reply::Ok)]);
-    steps(
-        &rt,
-        &mut desk,
-        &[
-            (7, 5, Reply::Place(1)),
-            (7, 9, Reply::Proposed(1)),
-            (7, 8, Reply::Named(1, sole(7, 1))),
-            (7, 1, Reply::Refused(Refusal::Finished)),
-        ],
-    );
-    owners(
-        &rt,
-        &desk,
-        &[
-            (1, Reply::Owner(Some(7))),
-            (3, Reply::Owner(None)),
-            (4, Reply::Refused(Refusal::OutOfRange)),
-        ],
-    );
-    Ok(())
 }
 
 /// A reply of a few bytes has its view beside it, and with it is the whole reply.
 #[test]
 fn a_view_beside_its_reply(rt: HostRuntime) -> Result<(), Fail> {
-    let mut desk = pooled(rt.alloc(), WorldKind::Tree, 4)?;
+    let mut desk = Desk::new(rt.alloc(), Config::new(WorldKind::Tree, 2, 4, 1000)?)?;
     let mut view = View::new();
     let begun = desk.apply_short(Event::Begin(7), &mut view);
     for _ in 0..21 {
@@ -185,217 +381,42 @@ fn a_view_beside_its_reply(rt: HostRuntime) -> Result<(), Fail> {
     let again = named.with(&view).shorten(&mut beside);
     assert_eq!(rt;
         [begun, named, refused, again],
-        [
-            ShortReply::Ok,
-            ShortReply::Named(1),
-            ShortReply::Refused(Refusal::Finished),
-            named
-        ]
+        [OK, ShortReply::Named(1), FINISHED, named]
     );
     assert!(rt; whole == Reply::Named(1, sole(7, 1)) && beside == sole(7, 1));
     assert!(rt; refused.is_refusal() && !named.is_refusal());
     Ok(())
 }
 
-/// With one round each, one of two is spent.
-#[test]
-fn one_is_spent(rt: HostRuntime) -> Result<(), Fail> {
-    let mut desk = Desk::new(rt.alloc(), Config::new(WorldKind::Rename, 2, 4, 1)?)?;
-    plays(
-        &rt,
-        &mut desk,
-        &[(Event::Begin(10), Reply::Ok), (Event::Begin(20), Reply::Ok)],
-    );
-    steps(
-        &rt,
-        &mut desk,
-        &[
-            (10, 4, Reply::Place(0)),
-            (20, 6, Reply::Place(1)),
-            (20, 7, Reply::Proposed(1)),
-            (10, 6, Reply::Quiet),
-            (20, 4, Reply::Quiet),
-            (10, 1, Reply::Proposed(1)),
-            (10, 6, Reply::Spent),
-            (10, 1, Reply::Refused(Refusal::Spent)),
-            (20, 2, Reply::Named(1, sole(20, 1))),
-        ],
-    );
-    Ok(())
-}
+/// Before the heap is full.
+const BEFORE: [Row; 3] = [
+    Row::Does(Event::Begin(10), OK),
+    Row::Does(Event::Begin(20), OK),
+    Row::Steps(10, 1, ShortReply::Quiet),
+];
+
+/// While it is full.
+const WHILE_FULL: [Row; 3] = [
+    Row::Steps(10, 4, ShortReply::Place(1)),
+    Row::Steps(20, 4, NO_MEMORY),
+    Row::Steps(20, 1, NO_MEMORY),
+];
 
 /// A node of the tree for which there is no room, and then there is.
 #[test]
 fn a_node_is_refused(rt: HostRuntime) -> Result<(), Fail> {
     let heap = LocalHeap::new(rt.alloc(), 65_536)?;
     let mut desk = Desk::new(&heap, Config::new(WorldKind::Tree, 2, 4, 1000)?)?;
-    plays(
-        &rt,
-        &mut desk,
-        &[(Event::Begin(10), Reply::Ok), (Event::Begin(20), Reply::Ok)],
-    );
-    steps(&rt, &mut desk, &[(10, 1, Reply::Quiet)]);
+    play(&rt, &mut desk, "before", &BEFORE);
     let mut boxes = Vec::new(rt.alloc());
     for _ in 0..4_096 {
         if let Ok(filled) = Box::new(&heap, [0u64; 2]) {
             boxes.push(filled)?;
         }
     }
-    steps(
-        &rt,
-        &mut desk,
-        &[
-            (10, 4, Reply::Place(1)),
-            (20, 4, Reply::Refused(Refusal::NoMemory)),
-            (20, 1, Reply::Refused(Refusal::NoMemory)),
-        ],
-    );
+    play(&rt, &mut desk, "while the heap is full", &WHILE_FULL);
     drop(boxes);
-    steps(&rt, &mut desk, &[(20, 5, Reply::Place(3))]);
+    let placed = [Row::Steps(20, 5, ShortReply::Place(3))];
+    play(&rt, &mut desk, "with memory again", &placed);
     Ok(())
-}
-
-/// A pool of one number.
-#[test]
-fn one_number(rt: HostRuntime) -> Result<(), Fail> {
-    plays_in_both(
-        &rt,
-        rt.alloc(),
-        1,
-        &[
-            (Event::Enter(5), Reply::Ok),
-            (Event::Probe(5), Reply::Got(1)),
-            (Event::Enter(6), Reply::Refused(Refusal::Crowded)),
-            (Event::Enter(5), Reply::Refused(Refusal::AlreadyCompeting)),
-            (Event::Leave(5), Reply::Left(1)),
-            (Event::Enter(6), Reply::Ok),
-        ],
-    )
-}
-
-/// A bit that is freed behind a prober.
-#[test]
-fn a_bit_freed_behind_a_prober(rt: HostRuntime) -> Result<(), Fail> {
-    plays_in_both(
-        &rt,
-        rt.alloc(),
-        3,
-        &[
-            (Event::Enter(5), Reply::Ok),
-            (Event::Probe(5), Reply::Got(1)),
-            (Event::Enter(6), Reply::Ok),
-            (Event::Probe(6), Reply::Missed),
-            (Event::Probe(6), Reply::Got(2)),
-            (Event::Enter(7), Reply::Ok),
-            (Event::Probe(7), Reply::Missed),
-            (Event::Leave(5), Reply::Left(1)),
-            (Event::Probe(7), Reply::Got(3)),
-            (Event::Enter(8), Reply::Ok),
-            (Event::Probe(8), Reply::Got(1)),
-            (Event::Enter(9), Reply::Refused(Refusal::Crowded)),
-        ],
-    )
-}
-
-/// A slot keeps its value over its holders.
-#[test]
-fn a_slot_keeps_its_value(rt: HostRuntime) -> Result<(), Fail> {
-    plays_in_both(
-        &rt,
-        rt.alloc(),
-        2,
-        &[
-            (Event::Enter(5), Reply::Ok),
-            (Event::Leave(5), Reply::Refused(Refusal::NotHolding)),
-            (Event::Probe(5), Reply::Got(1)),
-            (Event::Probe(5), Reply::Refused(Refusal::Holding)),
-            (Event::Get(5), Reply::Value(0)),
-            (Event::Put(5, 77), Reply::Ok),
-            (Event::Get(5), Reply::Value(77)),
-            (Event::Leave(5), Reply::Left(1)),
-            (Event::Get(5), Reply::Refused(Refusal::NotCompeting)),
-            (Event::Enter(6), Reply::Ok),
-            (Event::Get(6), Reply::Refused(Refusal::NotHolding)),
-            (Event::Put(6, 1), Reply::Refused(Refusal::NotHolding)),
-            (Event::Probe(6), Reply::Got(1)),
-            (Event::Get(6), Reply::Value(77)),
-        ],
-    )
-}
-
-/// The value in the last slot, which has no bit, is found by who comes next.
-#[test]
-fn the_last_slot(rt: HostRuntime) -> Result<(), Fail> {
-    plays_in_both(
-        &rt,
-        rt.alloc(),
-        2,
-        &[
-            (Event::Probe(5), Reply::Refused(Refusal::NotCompeting)),
-            (Event::Enter(0), Reply::Refused(Refusal::ZeroIdentity)),
-            (Event::Enter(5), Reply::Ok),
-            (Event::Leave(5), Reply::Refused(Refusal::NotHolding)),
-            (Event::Probe(5), Reply::Got(1)),
-            (Event::Enter(6), Reply::Ok),
-            (Event::Probe(6), Reply::Got(2)),
-            (Event::Put(6, 9), Reply::Ok),
-            (Event::Leave(6), Reply::Left(2)),
-            (Event::Enter(7), Reply::Ok),
-            (Event::Probe(7), Reply::Got(2)),
-            (Event::Get(7), Reply::Value(9)),
-        ],
-    )
-}
-
-/// The pool gets more numbers while the last is held, and the new slots hold 0.
-#[test]
-fn a_pool_that_widens(rt: HostRuntime) -> Result<(), Fail> {
-    plays_in_both(
-        &rt,
-        rt.alloc(),
-        2,
-        &[
-            (Event::Enter(5), Reply::Ok),
-            (Event::Probe(5), Reply::Got(1)),
-            (Event::Enter(6), Reply::Ok),
-            (Event::Probe(6), Reply::Got(2)),
-            (Event::Enter(7), Reply::Refused(Refusal::Crowded)),
-            (Event::Widen(2), Reply::Refused(Refusal::OutOfRange)),
-            (Event::Widen(4), Reply::Ok),
-            (Event::Enter(7), Reply::Ok),
-            (Event::Probe(7), Reply::Missed),
-            (Event::Probe(7), Reply::Missed),
-            (Event::Leave(6), Reply::Left(2)),
-            (Event::Probe(7), Reply::Got(3)),
-            (Event::Enter(8), Reply::Ok),
-            (Event::Probe(8), Reply::Missed),
-            (Event::Probe(8), Reply::Got(2)),
-            (Event::Enter(9), Reply::Ok),
-            (Event::Probe(9), Reply::Missed),
-            (Event::Probe(9), Reply::Missed),
-            (Event::Probe(9), Reply::Got(4)),
-            (Event::Enter(10), Reply::Refused(Refusal::Crowded)),
-            (Event::Get(9), Reply::Value(0)),
-            (Event::Put(9, 5), Reply::Ok),
-            (Event::Get(9), Reply::Value(5)),
-            (Event::Widen(65), Reply::Refused(Refusal::OutOfRange)),
-        ],
-    )
-}
-
-/// A pool of one number widens before it is held.
-#[test]
-fn a_pool_of_one_that_widens(rt: HostRuntime) -> Result<(), Fail> {
-    plays_in_both(
-        &rt,
-        rt.alloc(),
-        1,
-        &[
-            (Event::Enter(5), Reply::Ok),
-            (Event::Widen(2), Reply::Ok),
-            (Event::Probe(5), Reply::Got(1)),
-            (Event::Enter(6), Reply::Ok),
-            (Event::Probe(6), Reply::Got(2)),
-        ],
-    )
 }

@@ -4,14 +4,14 @@ use crate::{Config, RenamePlaces, RenameWorld, WorldKind};
 use snapshot_places::{Grid, TreePlaces};
 use std::alloc::Global;
 use std::process::Abort;
-use std::test::Fail;
+use step_memory::Refusal;
 
 /// A world in which the participants 10, 20 and on, so many, have begun.
 fn begun<W: RenamePlaces<Global> + Drop>(
     alloc: Global,
     world: WorldKind,
     count: u64,
-) -> Result<RenameWorld<W, Global>, Fail>
+) -> Result<RenameWorld<W, Global>, Refusal>
 where
     W::Walker: Copy,
     W::Walk: Copy,
@@ -59,7 +59,7 @@ fn goes_alone<W: RenamePlaces<Global> + Drop>(
     alloc: Global,
     kind: WorldKind,
     stopped: u64,
-) -> Result<(u64, u64, Option<u64>), Fail>
+) -> Result<(u64, u64, Option<u64>), Refusal>
 where
     W::Walker: Copy,
     W::Walk: Copy,
@@ -71,70 +71,88 @@ where
     Ok((went, alone, world.name_of(20)))
 }
 
+/// Whether one goes alone as this row says, wherever in its range the other stops.
+fn is_so<W: RenamePlaces<Global> + Drop>(
+    rt: &impl Abort,
+    alloc: Global,
+    kind: WorldKind,
+    row: &Alone,
+) -> Result<bool, Refusal>
+where
+    W::Walker: Copy,
+    W::Walk: Copy,
+    W::Value: Drop,
+{
+    for stopped in row.stopped[0]..=row.stopped[1] {
+        let went = goes_alone::<W>(rt, alloc, kind, stopped)?;
+        if went != (stopped, row.steps, Some(row.name)) {
+            return Ok(false);
+        }
+    }
+    Ok(true)
+}
+
 /// Two participants, of whom one stops after each number of steps up to that at which it is named.
 fn one_stops<W: RenamePlaces<Global> + Drop>(
     rt: &impl Abort,
     alloc: Global,
     kind: WorldKind,
     table: &[Alone],
-) -> Result<(), Fail>
+)
 where
     W::Walker: Copy,
     W::Walk: Copy,
     W::Value: Drop,
 {
-    for row in table {
-        for stopped in row.stopped[0]..=row.stopped[1] {
-            let went = goes_alone::<W>(rt, alloc, kind, stopped)?;
-            let want = (stopped, row.steps, Some(row.name));
-            assert_eq!(rt; went, want, "at {stopped}");
-        }
+    for (i, row) in table.iter().enumerate() {
+        assert!(rt; is_so::<W>(rt, alloc, kind, row) == Ok(true), "row {i}");
     }
-    Ok(())
 }
 
-#[test]
-fn one_stops_in_a_grid(rt: HostRuntime) -> Result<(), Fail> {
-    let table = [
-        Alone {
-            stopped: [0, 2],
-            steps: 17,
-            name: 1,
-        },
-        Alone {
-            stopped: [3, 10],
-            steps: 19,
-            name: 1,
-        },
-        Alone {
-            stopped: [11, 17],
-            steps: 32,
-            name: 3,
-        },
-    ];
-    one_stops::<Grid<Global>>(&rt, rt.alloc(), WorldKind::Rename, &table)
-}
+const IN_A_GRID: [Alone; 3] = [
+    Alone {
+        stopped: [0, 2],
+        steps: 17,
+        name: 1,
+    },
+    Alone {
+        stopped: [3, 10],
+        steps: 19,
+        name: 1,
+    },
+    Alone {
+        stopped: [11, 17],
+        steps: 32,
+        name: 3,
+    },
+];
 
 #[test]
-fn one_stops_in_a_tree(rt: HostRuntime) -> Result<(), Fail> {
-    let table = [
-        Alone {
-            stopped: [0, 3],
-            steps: 22,
-            name: 1,
-        },
-        Alone {
-            stopped: [4, 13],
-            steps: 37,
-            name: 1,
-        },
-        Alone {
-            stopped: [14, 22],
-            steps: 66,
-            name: 3,
-        },
-    ];
-    one_stops::<TreePlaces<Global>>(&rt, rt.alloc(), WorldKind::Tree, &table)
+fn one_stops_in_a_grid(rt: HostRuntime) {
+    one_stops::<Grid<Global>>(&rt, rt.alloc(), WorldKind::Rename, &IN_A_GRID);
+}
+
+const IN_A_TREE: [Alone; 3] = [
+    Alone {
+        stopped: [0, 3],
+        steps: 22,
+        name: 1,
+    },
+    Alone {
+        stopped: [4, 13],
+        steps: 37,
+        name: 1,
+    },
+    Alone {
+        stopped: [14, 22],
+        steps: 66,
+        name: 3,
+    },
+];
+
+#[test]
+fn one_stops_in_a_tree(rt: HostRuntime) {
+    one_stops::<TreePlaces<Global>>(&rt, rt.alloc(), WorldKind::Tree, &IN_A_TREE);
 }
 
 /// Two of three participants stop after these numbers of steps, or earlier, at their names: how far they went. Then the third
@@ -145,7 +163,7 @@ fn goes_past_two<W: RenamePlaces<Global> + Drop>(
     kind: WorldKind,
     stopped: (u64, u64),
     most: u64,
-) -> Result<(u64, u64, [Option<u64>; 3]), Fail>
+) -> Result<(u64, u64, [Option<u64>; 3]), Refusal>
 where
     W::Walker: Copy,
     W::Walk: Copy,
@@ -184,7 +202,7 @@ fn two_stop<W: RenamePlaces<Global> + Drop>(
     alloc: Global,
     kind: WorldKind,
     most: u64,
-) -> Result<(), Fail>
+) -> Result<(), Refusal>
 where
     W::Walker: Copy,
     W::Walk: Copy,
@@ -206,11 +224,13 @@ where
 }
 
 #[test]
-fn two_stop_in_a_grid(rt: HostRuntime) -> Result<(), Fail> {
-    two_stop::<Grid<Global>>(&rt, rt.alloc(), WorldKind::Rename, 79)
+fn two_stop_in_a_grid(rt: HostRuntime) {
+    let stopped = two_stop::<Grid<Global>>(&rt, rt.alloc(), WorldKind::Rename, 79);
+    assert!(rt; stopped == Ok(()));
 }
 
 #[test]
-fn two_stop_in_a_tree(rt: HostRuntime) -> Result<(), Fail> {
-    two_stop::<TreePlaces<Global>>(&rt, rt.alloc(), WorldKind::Tree, 192)
+fn two_stop_in_a_tree(rt: HostRuntime) {
+    let stopped = two_stop::<TreePlaces<Global>>(&rt, rt.alloc(), WorldKind::Tree, 192);
+    assert!(rt; stopped == Ok(()));
 }

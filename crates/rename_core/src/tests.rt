@@ -3,8 +3,8 @@
 ghost use Rattle.std.specs.Prelude.{◌<◌};
 
 use crate::{
-    Config, RenamePlaces, RenameWorld, Reply, WorldKind, fixed_rename_law, grid_rename_law,
-    next_proposal, tree_rename_law,
+    Config, RenamePlaces, RenameWorld, Reply, ShortReply, WorldKind, fixed_rename_law,
+    grid_rename_law, next_proposal, tree_rename_law,
 };
 use linked_list_allocator::LocalHeap;
 use snapshot_core::Fixed;
@@ -16,459 +16,586 @@ use step_memory::{Place, Refusal, View};
 
 /// What the last of some steps answers; those before it are quiet.
 #[derive(Clone, Copy, Drop)]
-enum Last<'a> {
+enum Last {
     Quiet,
     Placed(Place),
     Proposed(u64),
-    Saw(&'a [(u64, u64)]),
+    Saw(&'static [(u64, u64)]),
     Named(u64),
     Spent,
     Refused(Refusal),
 }
 
-/// Whether a step answers this, after which its participant has this name.
-fn fits(reply: &Result<Reply, Refusal>, name: Option<u64>, last: &Last<'_>) -> bool {
-    match *last {
-        Last::Quiet => matches!(reply, Ok(Reply::Quiet)),
-        Last::Placed(place) => matches!(reply, Ok(Reply::Placed(p)) if *p == place),
-        Last::Proposed(number) => matches!(reply, Ok(Reply::Proposed(n)) if *n == number),
-        Last::Saw(pairs) => matches!(reply, Ok(Reply::Saw(view)) if view.pairs() == pairs),
-        Last::Named(number) => {
-            matches!(reply, Ok(Reply::Named(n, _)) if *n == number) && name == Some(number)
+/// A row of a schedule: one begins, and is answered this, or takes so many steps.
+#[derive(Clone, Copy, Drop)]
+enum Row {
+    Begins(u64, Result<(), Refusal>),
+    Steps(u64, usize, Last),
+}
+
+/// A schedule in a world of so many participants, each with so many proposals; then the names that the world tells of
+/// participants, the owners that it tells of names, and the proposals.
+#[derive(Drop)]
+struct Schedule {
+    title: &'static str,
+    m: u64,
+    limit: u64,
+    rows: &'static [Row],
+    names: &'static [(u64, Option<u64>)],
+    owners: &'static [(u64, Option<u64>)],
+    proposals: &'static [(u64, u64)],
+}
+
+/// Two begin, 10 and then 20.
+const BEGINS_10: Row = Row::Begins(10, Ok(()));
+
+const BEGINS_20: Row = Row::Begins(20, Ok(()));
+
+/// A view in which both propose 1.
+const BOTH: &[(u64, u64)] = &[(10, 1), (20, 1)];
+
+const GRID: [Schedule; 7] = [
+    Schedule {
+        title: "one alone where nobody else may be",
+        m: 1,
+        limit: 1000,
+        rows: &[
+            Row::Begins(7, Ok(())),
+            Row::Steps(7, 4, Last::Placed(0)),
+            Row::Steps(7, 3, Last::Proposed(1)),
+            Row::Steps(7, 2, Last::Named(1)),
+            Row::Steps(7, 1, Last::Refused(Refusal::Finished)),
+        ],
+        names: &[(7, Some(1))],
+        owners: &[(1, Some(7)), (2, None)],
+        proposals: &[(7, 1)],
+    },
+    Schedule {
+        title: "one alone where another may come",
+        m: 2,
+        limit: 1000,
+        rows: &[
+            Row::Begins(7, Ok(())),
+            Row::Steps(7, 4, Last::Placed(0)),
+            Row::Steps(7, 7, Last::Proposed(1)),
+            Row::Steps(7, 6, Last::Named(1)),
+        ],
+        names: &[(7, Some(1))],
+        owners: &[(1, Some(7))],
+        proposals: &[(7, 1)],
+    },
+    Schedule {
+        title: "begins and steps that are refused",
+        m: 2,
+        limit: 1000,
+        rows: &[
+            Row::Begins(5, Ok(())),
+            Row::Steps(5, 1, Last::Quiet),
+            Row::Begins(5, Err(Refusal::AlreadyBegun)),
+            Row::Steps(5, 3, Last::Placed(0)),
+            Row::Begins(6, Ok(())),
+            Row::Begins(7, Err(Refusal::Full)),
+            Row::Steps(7, 1, Last::Refused(Refusal::NotBegun)),
+            Row::Begins(0, Err(Refusal::ZeroIdentity)),
+        ],
+        names: &[(5, None), (7, None)],
+        owners: &[(1, None)],
+        proposals: &[],
+    },
+    Schedule {
+        title: "the largest name is reached",
+        m: 2,
+        limit: 1000,
+        rows: &[
+            BEGINS_10,
+            BEGINS_20,
+            Row::Steps(10, 1, Last::Quiet),
+            Row::Steps(20, 1, Last::Quiet),
+            Row::Steps(10, 1, Last::Quiet),
+            Row::Steps(20, 1, Last::Quiet),
+            Row::Steps(10, 1, Last::Quiet),
+            Row::Steps(20, 1, Last::Quiet),
+            Row::Steps(10, 1, Last::Quiet),
+            Row::Steps(20, 1, Last::Placed(0)),
+            Row::Steps(10, 4, Last::Placed(2)),
+            Row::Steps(10, 6, Last::Quiet),
+            Row::Steps(20, 6, Last::Quiet),
+            Row::Steps(10, 1, Last::Proposed(1)),
+            Row::Steps(20, 1, Last::Proposed(1)),
+            Row::Steps(10, 6, Last::Saw(BOTH)),
+            Row::Steps(20, 6, Last::Saw(BOTH)),
+            Row::Steps(10, 7, Last::Proposed(2)),
+            Row::Steps(20, 7, Last::Proposed(3)),
+            Row::Steps(10, 6, Last::Named(2)),
+            Row::Steps(20, 6, Last::Named(3)),
+        ],
+        names: &[(10, Some(2)), (20, Some(3))],
+        owners: &[(2, Some(10)), (1, None)],
+        proposals: &[(10, 2), (20, 3)],
+    },
+    Schedule {
+        title: "a borrowed view",
+        m: 2,
+        limit: 1000,
+        rows: &[
+            BEGINS_10,
+            BEGINS_20,
+            Row::Steps(10, 4, Last::Placed(0)),
+            Row::Steps(20, 6, Last::Placed(1)),
+            Row::Steps(10, 7, Last::Proposed(1)),
+            Row::Steps(10, 3, Last::Quiet),
+            Row::Steps(20, 7, Last::Proposed(1)),
+            Row::Steps(10, 3, Last::Quiet),
+            Row::Steps(20, 6, Last::Saw(BOTH)),
+            Row::Steps(20, 7, Last::Proposed(3)),
+            Row::Steps(10, 2, Last::Saw(BOTH)),
+            Row::Steps(10, 7, Last::Proposed(2)),
+            Row::Steps(10, 6, Last::Named(2)),
+            Row::Steps(20, 6, Last::Named(3)),
+        ],
+        names: &[(10, Some(2)), (20, Some(3))],
+        owners: &[],
+        proposals: &[(10, 2), (20, 3)],
+    },
+    Schedule {
+        title: "the largest identity",
+        m: 2,
+        limit: 1000,
+        rows: &[
+            Row::Begins(u64::MAX, Ok(())),
+            Row::Begins(1, Ok(())),
+            Row::Begins(0, Err(Refusal::ZeroIdentity)),
+            Row::Steps(u64::MAX, 4, Last::Placed(0)),
+            Row::Steps(1, 6, Last::Placed(1)),
+            Row::Steps(u64::MAX, 7, Last::Proposed(1)),
+            Row::Steps(1, 7, Last::Proposed(1)),
+            Row::Steps(u64::MAX, 6, Last::Saw(&[(1, 1), (u64::MAX, 1)])),
+            Row::Steps(u64::MAX, 7, Last::Proposed(3)),
+            Row::Steps(u64::MAX, 6, Last::Named(3)),
+            Row::Steps(1, 6, Last::Named(1)),
+        ],
+        names: &[(u64::MAX, Some(3)), (1, Some(1))],
+        owners: &[],
+        proposals: &[(1, 1), (u64::MAX, 3)],
+    },
+    Schedule {
+        title: "a participant that is spent",
+        m: 2,
+        limit: 1,
+        rows: &[
+            BEGINS_10,
+            BEGINS_20,
+            Row::Steps(10, 4, Last::Placed(0)),
+            Row::Steps(20, 6, Last::Placed(1)),
+            Row::Steps(20, 7, Last::Proposed(1)),
+            Row::Steps(10, 6, Last::Quiet),
+            Row::Steps(20, 4, Last::Quiet),
+            Row::Steps(10, 1, Last::Proposed(1)),
+            Row::Steps(10, 6, Last::Spent),
+            Row::Steps(10, 1, Last::Refused(Refusal::Spent)),
+            Row::Steps(20, 2, Last::Named(1)),
+        ],
+        names: &[(10, None)],
+        owners: &[(1, Some(20))],
+        proposals: BOTH,
+    },
+];
+
+const TREE: [Schedule; 2] = [
+    Schedule {
+        title: "one alone",
+        m: 2,
+        limit: 1000,
+        rows: &[
+            Row::Begins(7, Ok(())),
+            Row::Steps(7, 5, Last::Placed(1)),
+            Row::Steps(7, 9, Last::Proposed(1)),
+            Row::Steps(7, 8, Last::Named(1)),
+            Row::Steps(7, 1, Last::Refused(Refusal::Finished)),
+        ],
+        names: &[(7, Some(1))],
+        owners: &[],
+        proposals: &[(7, 1)],
+    },
+    Schedule {
+        title: "two",
+        m: 2,
+        limit: 1000,
+        rows: &[
+            BEGINS_10,
+            BEGINS_20,
+            Row::Steps(10, 5, Last::Placed(1)),
+            Row::Steps(20, 8, Last::Placed(3)),
+            Row::Steps(20, 15, Last::Proposed(1)),
+            Row::Steps(20, 14, Last::Named(1)),
+            Row::Steps(10, 15, Last::Proposed(1)),
+            Row::Steps(10, 14, Last::Saw(BOTH)),
+            Row::Steps(10, 15, Last::Proposed(2)),
+            Row::Steps(10, 14, Last::Named(2)),
+        ],
+        names: &[(10, Some(2)), (20, Some(1))],
+        owners: &[(1, Some(20))],
+        proposals: &[(10, 2), (20, 1)],
+    },
+];
+
+const SEGMENTS: [Schedule; 1] = [Schedule {
+    title: "two, of whom the second to begin steps first",
+    m: 2,
+    limit: 2,
+    rows: &[
+        BEGINS_20,
+        BEGINS_10,
+        Row::Steps(10, 4, Last::Quiet),
+        Row::Steps(20, 4, Last::Quiet),
+        Row::Steps(10, 1, Last::Proposed(1)),
+        Row::Steps(20, 1, Last::Proposed(1)),
+        Row::Steps(10, 4, Last::Saw(BOTH)),
+        Row::Steps(20, 4, Last::Saw(BOTH)),
+        Row::Steps(10, 5, Last::Proposed(2)),
+        Row::Steps(20, 5, Last::Proposed(3)),
+        Row::Steps(10, 4, Last::Named(2)),
+        Row::Steps(20, 4, Last::Named(3)),
+    ],
+    names: &[(10, Some(2)), (20, Some(3))],
+    owners: &[],
+    proposals: &[(10, 2), (20, 3)],
+}];
+
+/// Up to where memory is refused to 20, over a tree.
+const BEFORE_MEMORY: [Row; 5] = [
+    Row::Steps(10, 4, Last::Placed(1)),
+    Row::Steps(10, 9, Last::Proposed(1)),
+    Row::Steps(10, 8, Last::Named(1)),
+    Row::Steps(20, 4, Last::Refused(Refusal::NoMemory)),
+    Row::Steps(20, 1, Last::Refused(Refusal::NoMemory)),
+];
+
+/// From where there is memory again.
+const WITH_MEMORY: [Row; 5] = [
+    Row::Steps(20, 5, Last::Placed(3)),
+    Row::Steps(20, 15, Last::Proposed(1)),
+    Row::Steps(20, 14, Last::Saw(BOTH)),
+    Row::Steps(20, 15, Last::Proposed(3)),
+    Row::Steps(20, 14, Last::Named(3)),
+];
+
+impl Last {
+    /// The outcome without the view.
+    fn outcome(&self) -> Result<ShortReply, Refusal> {
+        match *self {
+            Last::Quiet => Ok(ShortReply::Quiet),
+            Last::Placed(place) => Ok(ShortReply::Placed(place)),
+            Last::Proposed(number) => Ok(ShortReply::Proposed(number)),
+            Last::Saw(_) => Ok(ShortReply::Saw),
+            Last::Named(number) => Ok(ShortReply::Named(number)),
+            Last::Spent => Ok(ShortReply::Spent),
+            Last::Refused(refusal) => Err(refusal),
         }
-        Last::Spent => matches!(reply, Ok(Reply::Spent)),
-        Last::Refused(refusal) => matches!(reply, Err(r) if *r == refusal),
     }
 }
 
-/// Takes the rows of a schedule in turn: who steps, how often, and what the last of these steps answers.
+/// An outcome without the view, which is put beside it.
+fn shortened(reply: Result<Reply, Refusal>, view: &mut View) -> Result<ShortReply, Refusal> {
+    Ok(reply?.shorten(view))
+}
+
+/// Whether a step answers this, after which its participant has this name.
+fn fits(reply: Result<Reply, Refusal>, name: Option<u64>, last: &Last) -> bool {
+    let mut view = View::new();
+    if shortened(reply, &mut view) != last.outcome() {
+        return false;
+    }
+    match *last {
+        Last::Saw(pairs) => view.pairs() == pairs,
+        Last::Named(number) => name == Some(number),
+        _ => true,
+    }
+}
+
+/// Whether a row is answered as it says.
+fn answers<W: RenamePlaces<A> + Drop, A: Allocator>(
+    world: &mut RenameWorld<W, A>,
+    row: &Row,
+) -> bool
+where
+    W::Walker: Copy,
+    W::Walk: Copy,
+    W::Value: Drop,
+{
+    let (id, count, last) = match row {
+        Row::Begins(id, want) => return world.begin(*id) == *want,
+        Row::Steps(id, count, last) => (*id, *count, last),
+    };
+    for _ in 1..count {
+        if !matches!(world.step(id), Ok(Reply::Quiet)) {
+            return false;
+        }
+    }
+    let reply = world.step(id);
+    fits(reply, world.name_of(id), last)
+}
+
+/// Takes the rows of a schedule in turn.
 fn play<W: RenamePlaces<A> + Drop, A: Allocator>(
     rt: &impl Abort,
     world: &mut RenameWorld<W, A>,
-    rows: &[(u64, usize, Last<'_>)],
+    title: &str,
+    rows: &[Row],
 )
 where
     W::Walker: Copy,
     W::Walk: Copy,
     W::Value: Drop,
 {
-    for (i, (id, steps, last)) in rows.iter().enumerate() {
-        for _ in 1..*steps {
-            let reply = world.step(*id);
-            assert!(rt; matches!(reply, Ok(Reply::Quiet)), "row {i}");
+    for (i, row) in rows.iter().enumerate() {
+        assert!(rt; answers(world, row), "{title}: row {i}");
+    }
+}
+
+/// Whether a world tells these names.
+fn names_are<W: RenamePlaces<A> + Drop, A: Allocator>(
+    world: &RenameWorld<W, A>,
+    names: &[(u64, Option<u64>)],
+) -> bool
+where
+    W::Walker: Copy,
+    W::Walk: Copy,
+    W::Value: Drop,
+{
+    for (id, want) in names {
+        if world.name_of(*id) != *want {
+            return false;
         }
-        let reply = world.step(*id);
-        assert!(rt; fits(&reply, world.name_of(*id), last), "row {i}");
     }
+    true
 }
 
-/// Begins participants one by one, and compares what is answered.
-fn begin<W: RenamePlaces<A> + Drop, A: Allocator>(
-    rt: &impl Abort,
-    world: &mut RenameWorld<W, A>,
-    rows: &[(u64, Result<(), Refusal>)],
-)
-where
-    W::Walker: Copy,
-    W::Walk: Copy,
-    W::Value: Drop,
-{
-    for (id, want) in rows {
-        assert_eq!(rt; world.begin(*id), *want, "{id}");
-    }
-}
-
-/// A world in which participants have begun, and taken the rows of a schedule.
-fn played<W: RenamePlaces<A> + Drop, A: Allocator>(
-    rt: &impl Abort,
-    made: Result<RenameWorld<W, A>, Refusal>,
-    begins: &[(u64, Result<(), Refusal>)],
-    rows: &[(u64, usize, Last<'_>)],
-) -> Result<RenameWorld<W, A>, Refusal>
-where
-    W::Walker: Copy,
-    W::Walk: Copy,
-    W::Value: Drop,
-{
-    let mut world = made?;
-    begin(rt, &mut world, begins);
-    play(rt, &mut world, rows);
-    Ok(world)
-}
-
-/// Compares who has some names, and the proposals.
-fn told<W: RenamePlaces<A> + Drop, A: Allocator>(
-    rt: &impl Abort,
+/// Whether a world tells these owners of names.
+fn owners_are<W: RenamePlaces<A> + Drop, A: Allocator>(
     world: &RenameWorld<W, A>,
     owners: &[(u64, Option<u64>)],
-    proposals: &[(u64, u64)],
-)
+) -> bool
 where
     W::Walker: Copy,
     W::Walk: Copy,
     W::Value: Drop,
 {
     for (name, want) in owners {
-        assert_eq!(rt; world.owner_of(*name), *want, "{name}");
+        if world.owner_of(*name) != *want {
+            return false;
+        }
     }
-    assert_eq!(rt; world.proposals().pairs(), proposals);
+    true
 }
 
-/// A world of so many participants, each with so many proposals.
-fn grid(alloc: Global, m: u64, limit: u64) -> Result<RenameWorld<Grid<Global>, Global>, Refusal> {
-    RenameWorld::new(alloc, Config::new(WorldKind::Rename, m, 4, limit)?)
+/// Plays a schedule in a new world: whether it then tells what it should.
+fn plays<W: RenamePlaces<Global> + Drop>(
+    rt: &impl Abort,
+    alloc: Global,
+    kind: WorldKind,
+    schedule: &Schedule,
+) -> Result<bool, Refusal>
+where
+    W::Walker: Copy,
+    W::Walk: Copy,
+    W::Value: Drop,
+{
+    let config = Config::new(kind, schedule.m, 4, schedule.limit)?;
+    let mut world = RenameWorld::<W, Global>::new(alloc, config)?;
+    play(rt, &mut world, schedule.title, schedule.rows);
+    let names = names_are(&world, schedule.names);
+    let owners = owners_are(&world, schedule.owners);
+    Ok(names && owners && world.proposals().pairs() == schedule.proposals)
 }
 
-fn tree<A: Allocator + Clone>(alloc: A, m: u64) -> Result<RenameWorld<TreePlaces<A>, A>, Refusal> {
-    RenameWorld::new(alloc, Config::new(WorldKind::Tree, m, 4, 1000)?)
-}
-
-fn fixed(alloc: Global, m: u64, limit: u64) -> Result<RenameWorld<Fixed<Global>, Global>, Refusal> {
-    RenameWorld::new(alloc, Config::new(WorldKind::Rename, m, 4, limit)?)
+/// Plays schedules one by one, each in a new world.
+fn plays_all<W: RenamePlaces<Global> + Drop>(
+    rt: &impl Abort,
+    alloc: Global,
+    kind: WorldKind,
+    schedules: &[Schedule],
+)
+where
+    W::Walker: Copy,
+    W::Walk: Copy,
+    W::Value: Drop,
+{
+    for schedule in schedules {
+        let told = plays::<W>(rt, alloc, kind, schedule);
+        assert!(rt; told == Ok(true), "{}", schedule.title);
+    }
 }
 
 #[test]
-fn one_alone_where_nobody_else_may_be(rt: HostRuntime) -> Result<(), Fail> {
-    let world = played(
-        &rt,
-        grid(rt.alloc(), 1, 1000),
-        &[(7, Ok(()))],
-        &[
-            (7, 4, Last::Placed(0)),
-            (7, 3, Last::Proposed(1)),
-            (7, 2, Last::Named(1)),
-            (7, 1, Last::Refused(Refusal::Finished)),
-        ],
-    )?;
-    assert_eq!(rt; world.name_of(7), Some(1));
-    told(&rt, &world, &[(1, Some(7)), (2, None)], &[(7, 1)]);
+fn schedules_over_a_grid(rt: HostRuntime) {
+    plays_all::<Grid<Global>>(&rt, rt.alloc(), WorldKind::Rename, &GRID);
+}
+
+#[test]
+fn schedules_over_a_tree(rt: HostRuntime) {
+    plays_all::<TreePlaces<Global>>(&rt, rt.alloc(), WorldKind::Tree, &TREE);
+}
+
+#[test]
+fn schedules_over_segments_in_a_row(rt: HostRuntime) {
+    plays_all::<Fixed<Global>>(&rt, rt.alloc(), WorldKind::Rename, &SEGMENTS);
+}
+
+/// The law of a new world over a grid.
+fn law_over_a_grid(alloc: Global, config: Config) -> Result<(), Refusal> {
+    let world = RenameWorld::<Grid<Global>, Global>::new(alloc, config)?;
     grid_rename_law(&world);
     Ok(())
 }
 
-/// What the first to begin is answered in a new world.
-fn begun<W: RenamePlaces<Global> + Drop>(
-    made: Result<RenameWorld<W, Global>, Refusal>,
+/// The law of a new world over segments in a row.
+fn law_over_segments(alloc: Global, config: Config) -> Result<(), Refusal> {
+    let world = RenameWorld::<Fixed<Global>, Global>::new(alloc, config)?;
+    fixed_rename_law(&world);
+    Ok(())
+}
+
+/// The law of a new world over a tree.
+fn law_over_a_tree(alloc: Global, config: Config) -> Result<(), Refusal> {
+    let world = RenameWorld::<TreePlaces<Global>, Global>::new(alloc, config)?;
+    tree_rename_law(&world);
+    Ok(())
+}
+
+/// A config of so many participants and rounds.
+fn config_of(rt: &impl Abort, kind: WorldKind, m: u64, limit: u64) -> Config {
+    Config::new(kind, m, 4, limit).expect(rt, "a config in range")
+}
+
+#[test]
+fn laws_of_worlds(rt: HostRuntime) {
+    let config = config_of(&rt, WorldKind::Rename, 2, 1000);
+    assert!(rt; law_over_a_grid(rt.alloc(), config) == Ok(()));
+    assert!(rt; law_over_segments(rt.alloc(), config) == Ok(()));
+    let config = config_of(&rt, WorldKind::Tree, 2, 1000);
+    assert!(rt; law_over_a_tree(rt.alloc(), config) == Ok(()));
+}
+
+/// What the first to begin is answered in a new world, or why there is none.
+fn begun<W: RenamePlaces<A> + Drop, A: Allocator + Clone>(
+    alloc: A,
+    config: Config,
 ) -> Result<(), Refusal>
 where
     W::Walker: Copy,
     W::Walk: Copy,
     W::Value: Drop,
 {
-    made?.begin(7)
+    let mut world = RenameWorld::<W, A>::new(alloc, config)?;
+    world.begin(7)
+}
+
+/// One begins in a world of each size.
+fn begins_in_each<W: RenamePlaces<Global> + Drop>(
+    rt: &impl Abort,
+    alloc: Global,
+    kind: WorldKind,
+    limit: u64,
+)
+where
+    W::Walker: Copy,
+    W::Walk: Copy,
+    W::Value: Drop,
+{
+    for m in 1..=kind.most() {
+        let config = config_of(rt, kind, m, limit);
+        assert!(rt; begun::<W, Global>(alloc, config) == Ok(()), "at {m}");
+    }
 }
 
 #[test]
 fn worlds_of_every_size(rt: HostRuntime) {
-    for m in 1..=16 {
-        assert_eq!(rt; begun(grid(rt.alloc(), m, 1)), Ok(()), "at {m}");
-        assert_eq!(rt; begun(fixed(rt.alloc(), m, 1)), Ok(()), "at {m}");
-    }
-    for m in 1..=64 {
-        assert_eq!(rt; begun(tree(rt.alloc(), m)), Ok(()), "at {m}");
-    }
-}
-
-#[test]
-fn one_alone_where_another_may_come(rt: HostRuntime) -> Result<(), Fail> {
-    played(
-        &rt,
-        grid(rt.alloc(), 2, 1000),
-        &[(7, Ok(()))],
-        &[
-            (7, 4, Last::Placed(0)),
-            (7, 7, Last::Proposed(1)),
-            (7, 6, Last::Named(1)),
-        ],
-    )?;
-    Ok(())
-}
-
-#[test]
-fn begins_and_steps_that_are_refused(rt: HostRuntime) -> Result<(), Fail> {
-    let made = grid(rt.alloc(), 2, 1000);
-    let mut world = played(&rt, made, &[(5, Ok(()))], &[(5, 1, Last::Quiet)])?;
-    begin(&rt, &mut world, &[(5, Err(Refusal::AlreadyBegun))]);
-    play(&rt, &mut world, &[(5, 3, Last::Placed(0))]);
-    begin(&rt, &mut world, &[(6, Ok(())), (7, Err(Refusal::Full))]);
-    play(&rt, &mut world, &[(7, 1, Last::Refused(Refusal::NotBegun))]);
-    begin(&rt, &mut world, &[(0, Err(Refusal::ZeroIdentity))]);
-    assert_eq!(rt; (world.name_of(5), world.name_of(7)), (None, None));
-    told(&rt, &world, &[(1, None)], &[]);
-    Ok(())
-}
-
-#[test]
-fn the_largest_name_is_reached(rt: HostRuntime) -> Result<(), Fail> {
-    let world = played(
-        &rt,
-        grid(rt.alloc(), 2, 1000),
-        &[(10, Ok(())), (20, Ok(()))],
-        &[
-            (10, 1, Last::Quiet),
-            (20, 1, Last::Quiet),
-            (10, 1, Last::Quiet),
-            (20, 1, Last::Quiet),
-            (10, 1, Last::Quiet),
-            (20, 1, Last::Quiet),
-            (10, 1, Last::Quiet),
-            (20, 1, Last::Placed(0)),
-            (10, 4, Last::Placed(2)),
-            (10, 6, Last::Quiet),
-            (20, 6, Last::Quiet),
-            (10, 1, Last::Proposed(1)),
-            (20, 1, Last::Proposed(1)),
-            (10, 6, Last::Saw(&[(10, 1), (20, 1)])),
-            (20, 6, Last::Saw(&[(10, 1), (20, 1)])),
-            (10, 7, Last::Proposed(2)),
-            (20, 7, Last::Proposed(3)),
-            (10, 6, Last::Named(2)),
-            (20, 6, Last::Named(3)),
-        ],
-    )?;
-    assert_eq!(rt; world.name_of(20), Some(3));
-    told(
-        &rt,
-        &world,
-        &[(2, Some(10)), (1, None)],
-        &[(10, 2), (20, 3)],
-    );
-    Ok(())
-}
-
-#[test]
-fn a_borrowed_view(rt: HostRuntime) -> Result<(), Fail> {
-    played(
-        &rt,
-        grid(rt.alloc(), 2, 1000),
-        &[(10, Ok(())), (20, Ok(()))],
-        &[
-            (10, 4, Last::Placed(0)),
-            (20, 6, Last::Placed(1)),
-            (10, 7, Last::Proposed(1)),
-            (10, 3, Last::Quiet),
-            (20, 7, Last::Proposed(1)),
-            (10, 3, Last::Quiet),
-            (20, 6, Last::Saw(&[(10, 1), (20, 1)])),
-            (20, 7, Last::Proposed(3)),
-            (10, 2, Last::Saw(&[(10, 1), (20, 1)])),
-            (10, 7, Last::Proposed(2)),
-            (10, 6, Last::Named(2)),
-            (20, 6, Last::Named(3)),
-        ],
-    )?;
-    Ok(())
-}
-
-#[test]
-fn the_largest_identity(rt: HostRuntime) -> Result<(), Fail> {
-    played(
-        &rt,
-        grid(rt.alloc(), 2, 1000),
-        &[
-            (u64::MAX, Ok(())),
-            (1, Ok(())),
-            (0, Err(Refusal::ZeroIdentity)),
-        ],
-        &[
-            (u64::MAX, 4, Last::Placed(0)),
-            (1, 6, Last::Placed(1)),
-            (u64::MAX, 7, Last::Proposed(1)),
-            (1, 7, Last::Proposed(1)),
-            (u64::MAX, 6, Last::Saw(&[(1, 1), (u64::MAX, 1)])),
-            (u64::MAX, 7, Last::Proposed(3)),
-            (u64::MAX, 6, Last::Named(3)),
-            (1, 6, Last::Named(1)),
-        ],
-    )?;
-    Ok(())
-}
-
-#[test]
-fn a_participant_that_is_spent(rt: HostRuntime) -> Result<(), Fail> {
-    let world = played(
-        &rt,
-        grid(rt.alloc(), 2, 1),
-        &[(10, Ok(())), (20, Ok(()))],
-        &[
-            (10, 4, Last::Placed(0)),
-            (20, 6, Last::Placed(1)),
-            (20, 7, Last::Proposed(1)),
-            (10, 6, Last::Quiet),
-            (20, 4, Last::Quiet),
-            (10, 1, Last::Proposed(1)),
-            (10, 6, Last::Spent),
-            (10, 1, Last::Refused(Refusal::Spent)),
-            (20, 2, Last::Named(1)),
-        ],
-    )?;
-    assert_eq!(rt; (world.name_of(10), world.owner_of(1)), (None, Some(20)));
-    Ok(())
-}
-
-#[test]
-fn one_alone_in_a_tree(rt: HostRuntime) -> Result<(), Fail> {
-    let world = played(
-        &rt,
-        tree(rt.alloc(), 2),
-        &[(7, Ok(()))],
-        &[
-            (7, 5, Last::Placed(1)),
-            (7, 9, Last::Proposed(1)),
-            (7, 8, Last::Named(1)),
-            (7, 1, Last::Refused(Refusal::Finished)),
-        ],
-    )?;
-    tree_rename_law(&world);
-    Ok(())
-}
-
-#[test]
-fn two_in_a_tree(rt: HostRuntime) -> Result<(), Fail> {
-    let world = played(
-        &rt,
-        tree(rt.alloc(), 2),
-        &[(10, Ok(())), (20, Ok(()))],
-        &[
-            (10, 5, Last::Placed(1)),
-            (20, 8, Last::Placed(3)),
-            (20, 15, Last::Proposed(1)),
-            (20, 14, Last::Named(1)),
-            (10, 15, Last::Proposed(1)),
-            (10, 14, Last::Saw(&[(10, 1), (20, 1)])),
-            (10, 15, Last::Proposed(2)),
-            (10, 14, Last::Named(2)),
-        ],
-    )?;
-    told(&rt, &world, &[(1, Some(20))], &[(10, 2), (20, 1)]);
-    Ok(())
+    begins_in_each::<Grid<Global>>(&rt, rt.alloc(), WorldKind::Rename, 1);
+    begins_in_each::<Fixed<Global>>(&rt, rt.alloc(), WorldKind::Rename, 1);
+    begins_in_each::<TreePlaces<Global>>(&rt, rt.alloc(), WorldKind::Tree, 1000);
 }
 
 #[test]
 fn a_node_that_was_refused_is_made_later(rt: HostRuntime) -> Result<(), Fail> {
+    let config = config_of(&rt, WorldKind::Tree, 2, 1000);
     let heap = LocalHeap::new(rt.alloc(), 65_536)?;
-    let mut world = played(
-        &rt,
-        tree(&heap, 2),
-        &[(10, Ok(())), (20, Ok(()))],
-        &[(10, 1, Last::Quiet)],
-    )?;
+    let mut world = RenameWorld::<TreePlaces<&LocalHeap>, &LocalHeap>::new(&heap, config)?;
+    let begun = [BEGINS_10, BEGINS_20, Row::Steps(10, 1, Last::Quiet)];
+    play(&rt, &mut world, "before the heap is full", &begun);
     let mut boxes = Vec::new(rt.alloc());
     for _ in 0..4_096 {
         if let Ok(filled) = Box::new(&heap, [0u64; 2]) {
             boxes.push(filled)?;
         }
     }
-    play(
-        &rt,
-        &mut world,
-        &[
-            (10, 4, Last::Placed(1)),
-            (10, 9, Last::Proposed(1)),
-            (10, 8, Last::Named(1)),
-            (20, 4, Last::Refused(Refusal::NoMemory)),
-            (20, 1, Last::Refused(Refusal::NoMemory)),
-        ],
-    );
+    play(&rt, &mut world, "while the heap is full", &BEFORE_MEMORY);
     drop(boxes);
-    play(
-        &rt,
-        &mut world,
-        &[
-            (20, 5, Last::Placed(3)),
-            (20, 15, Last::Proposed(1)),
-            (20, 14, Last::Saw(&[(10, 1), (20, 1)])),
-            (20, 15, Last::Proposed(3)),
-            (20, 14, Last::Named(3)),
-        ],
-    );
+    play(&rt, &mut world, "with memory again", &WITH_MEMORY);
     Ok(())
 }
 
-#[test]
-fn two_over_segments_in_a_row(rt: HostRuntime) -> Result<(), Fail> {
-    let world = played(
-        &rt,
-        fixed(rt.alloc(), 2, 2),
-        &[(20, Ok(())), (10, Ok(()))],
-        &[
-            (10, 4, Last::Quiet),
-            (20, 4, Last::Quiet),
-            (10, 1, Last::Proposed(1)),
-            (20, 1, Last::Proposed(1)),
-            (10, 4, Last::Saw(&[(10, 1), (20, 1)])),
-            (20, 4, Last::Saw(&[(10, 1), (20, 1)])),
-            (10, 5, Last::Proposed(2)),
-            (20, 5, Last::Proposed(3)),
-            (10, 4, Last::Named(2)),
-            (20, 4, Last::Named(3)),
-        ],
-    )?;
-    fixed_rename_law(&world);
-    Ok(())
-}
-
-/// Why a new world is refused, if it is.
-fn refusal<W: RenamePlaces<A> + Drop, A: Allocator + Clone>(
-    alloc: A,
-    config: Config,
-) -> Option<Refusal>
+/// No world of any of these kinds is made over these places.
+fn is_none_of<W: RenamePlaces<Global> + Drop>(rt: &impl Abort, alloc: Global, kinds: &[WorldKind])
 where
     W::Walker: Copy,
     W::Walk: Copy,
     W::Value: Drop,
 {
-    RenameWorld::<W, A>::new(alloc, config).err()
+    for kind in kinds {
+        let config = config_of(rt, *kind, 2, 1000);
+        let outcome = begun::<W, Global>(alloc, config);
+        assert!(rt; outcome == Err(Refusal::OutOfRange), "{kind:?}");
+    }
 }
 
+/// The worlds that are not played over a grid, and those that are not played over a tree.
+const NOT_A_GRIDS: [WorldKind; 3] = [WorldKind::Splitter, WorldKind::Grid, WorldKind::Tree];
+
+const NOT_A_TREES: [WorldKind; 3] = [WorldKind::Splitter, WorldKind::Grid, WorldKind::Rename];
+
 #[test]
-fn worlds_in_which_no_names_are_given(rt: HostRuntime) -> Result<(), Fail> {
-    for world in [WorldKind::Splitter, WorldKind::Grid, WorldKind::Tree] {
-        let config = Config::new(world, 2, 4, 1000)?;
-        let refused = refusal::<Grid<Global>, Global>(rt.alloc(), config);
-        assert_eq!(rt; refused, Some(Refusal::OutOfRange));
-    }
-    for world in [WorldKind::Splitter, WorldKind::Grid, WorldKind::Rename] {
-        let config = Config::new(world, 2, 4, 1000)?;
-        let refused = refusal::<TreePlaces<Global>, Global>(rt.alloc(), config);
-        assert_eq!(rt; refused, Some(Refusal::OutOfRange));
-    }
-    Ok(())
+fn worlds_in_which_no_names_are_given(rt: HostRuntime) {
+    is_none_of::<Grid<Global>>(&rt, rt.alloc(), &NOT_A_GRIDS);
+    is_none_of::<TreePlaces<Global>>(&rt, rt.alloc(), &NOT_A_TREES);
 }
+
+/// Sizes of which one is out of range: most participants, the pool's size, and the round limit.
+const OUT_OF_RANGE: [(u64, u64, u64); 5] = [
+    (0, 4, 1000),
+    (4, 0, 1000),
+    (4, 65, 1000),
+    (4, 4, 0),
+    (4, 4, 1_000_001),
+];
 
 #[test]
 fn configs_out_of_range(rt: HostRuntime) {
-    for (m, k, limit) in [
-        (0, 4, 1000),
-        (4, 0, 1000),
-        (4, 65, 1000),
-        (4, 4, 0),
-        (4, 4, 1_000_001),
-    ] {
-        assert_eq!(rt;
-            Config::new(WorldKind::Rename, m, k, limit),
-            Err(Refusal::OutOfRange)
-        );
+    for (m, k, limit) in &OUT_OF_RANGE {
+        let made = Config::new(WorldKind::Rename, *m, *k, *limit);
+        assert!(rt; made == Err(Refusal::OutOfRange), "{m} {k} {limit}");
     }
     assert!(rt; Config::new(WorldKind::Tree, 64, 64, 1_000_000).is_ok());
     assert!(rt; Config::new(WorldKind::Splitter, 1, 1, 1).is_ok());
 }
 
-#[test]
-fn most_participants_of_each_world(rt: HostRuntime) {
-    for (world, most) in [
-        (WorldKind::Splitter, 16),
-        (WorldKind::Grid, 16),
-        (WorldKind::Rename, 16),
-        (WorldKind::Tree, 64),
-    ] {
-        assert_eq!(rt; world.most(), most);
-        for m in [16, 17, 64, 65] {
-            let refused = Config::new(world, m, 4, 1000).err();
-            let want = (most < m).then_some(Refusal::OutOfRange);
-            assert_eq!(rt; refused, want, "{m} in {world:?}");
+/// Whether just so many may take part in a world: sizes round 16 and 64 are tried.
+fn takes_at_most(world: WorldKind, most: u64) -> bool {
+    for m in [16, 17, 64, 65] {
+        let refused = Config::new(world, m, 4, 1000).err();
+        if refused != (most < m).then_some(Refusal::OutOfRange) {
+            return false;
         }
     }
+    world.most() == most
+}
+
+#[test]
+fn most_participants_of_each_world(rt: HostRuntime) {
+    assert!(rt; takes_at_most(WorldKind::Splitter, 16));
+    assert!(rt; takes_at_most(WorldKind::Grid, 16));
+    assert!(rt; takes_at_most(WorldKind::Rename, 16));
+    assert!(rt; takes_at_most(WorldKind::Tree, 64));
 }
 
 /// A participant steps until it is named: how many steps these are, its place, and its name.
@@ -487,26 +614,40 @@ fn goes_to_its_name(
     Ok((10_000, placed, 0))
 }
 
-#[test]
-fn sixty_four_one_after_another_over_a_tree(rt: HostRuntime) -> Result<(), Fail> {
-    let mut world = tree(rt.alloc(), 64)?;
-    for id in 1..=65 {
-        let want = if id < 65 { Ok(()) } else { Err(Refusal::Full) };
-        assert_eq!(rt; world.begin(id), want, "{id}");
+/// Sixty-four begin, and no other.
+fn sixty_four_begin(world: &mut RenameWorld<TreePlaces<Global>, Global>) -> bool {
+    for id in 1..=64 {
+        if world.begin(id) != Ok(()) {
+            return false;
+        }
     }
-    assert_eq!(rt; goes_to_its_name(&mut world, 1), Ok((22, 1, 1)));
+    world.begin(65) == Err(Refusal::Full)
+}
+
+/// Each but the first goes to its name, in turn: the place of the last.
+fn others_are_named(rt: &impl Abort, world: &mut RenameWorld<TreePlaces<Global>, Global>) -> Place {
     let mut place: Place = 1;
     for id in 2..=64u64 {
         place = place.saturating_mul(2).saturating_add(1);
         let steps = id.saturating_mul(27).saturating_add(12);
         let name = id.saturating_mul(2).saturating_sub(1);
-        assert_eq!(rt; goes_to_its_name(&mut world, id), Ok((steps, place, name)));
+        assert!(rt;
+            goes_to_its_name(world, id) == Ok((steps, place, name)),
+            "{id}"
+        );
     }
-    assert_eq!(rt;
-        (place, world.owner_of(127), world.proposals().pairs().len()),
-        (18_446_744_073_709_551_615, Some(64), 64)
-    );
-    Ok(())
+    place
+}
+
+#[test]
+fn sixty_four_one_after_another_over_a_tree(rt: HostRuntime) {
+    let config = config_of(&rt, WorldKind::Tree, 64, 1000);
+    let made = RenameWorld::<TreePlaces<Global>, Global>::new(rt.alloc(), config);
+    let mut world = made.expect(&rt, "a world");
+    assert!(rt; sixty_four_begin(&mut world));
+    assert!(rt; goes_to_its_name(&mut world, 1) == Ok((22, 1, 1)));
+    assert!(rt; others_are_named(&rt, &mut world) == 18_446_744_073_709_551_615);
+    assert!(rt; world.owner_of(127) == Some(64) && world.proposals().pairs().len() == 64);
 }
 
 /// Whether a world is refused in a heap where so many times 128 bytes are kept for it.
@@ -515,9 +656,9 @@ fn is_refused_in(alloc: Global, config: Config, kept: usize) -> Result<bool, Fai
 {
     let heap = LocalHeap::new(alloc, 65_536)?;
     let others = Vec::<u8, &LocalHeap>::with_capacity(&heap, 65_408 - 128 * kept)?;
-    let refused = refusal::<Grid<&LocalHeap>, &LocalHeap>(&heap, config);
+    let outcome = begun::<Grid<&LocalHeap>, &LocalHeap>(&heap, config);
     drop(others);
-    Ok(refused == Some(Refusal::NoMemory))
+    Ok(outcome == Err(Refusal::NoMemory))
 }
 
 #[test]

@@ -91,18 +91,13 @@ where
         let Some(i) = find(&self.rounds, id) else {
             return Some(Err(Refusal::NotBegun));
         };
-        let round = self.rounds[i].program;
-        if let Some(refusal) = round.stage.refusal() {
+        if let Some(refusal) = self.rounds[i].program.stage.refusal() {
             return Some(Err(refusal));
         }
         if !self.snap.read_on(id) {
             return None;
         }
-        self.rounds[i] = Participant {
-            identity: id,
-            program: round,
-            ended: false,
-        };
+        self.rounds[i].ended = false;
         Some(Ok(ShortReply::Quiet))
     }
 

@@ -1,6 +1,6 @@
-use Rattle.std.proofs.Common.{rules, ◌≡◌, true, false, Some, None, Ok, get_or, set, refl, sym, ap, ◌∙◌, arith}
+use Rattle.std.proofs.Common.{rules, ◌≡◌, ◌<◌, true, false, Some, None, Ok, get_or, set, refl, sym, ap, ◌∙◌, arith, length}
 use Rattle.std.specs.Prelude.{is_some}
-use Rattle.std.proofs.lemmas.List.{length-set}
+use Rattle.std.proofs.lemmas.List.{length-set, get_or_default}
 use Rattle.step_memory.specs.Participant.{index_of, participant_of, with_participant, beginner}
 use Rattle.step_memory.proofs.Found.{Found, found, none-index_of, index_of-below}
 use Rattle.snapshot_core.specs.declared.client.SnapReply.TheVariants.{Quiet}
@@ -12,7 +12,7 @@ use Rattle.rename_core.proofs.rounds.StepCases.{absent_answer, absent_state, clo
 use Rattle.snapshot_core.specs.Places.{KnownPlaces, places_by}
 use Rattle.rename_core.proofs.world.RenameWorld.take_quick.Given.{Over}
 use Rattle.rename_core.proofs.world.RenameWorld.take_quick.Goals as goal
-use Rattle.rename_core.proofs.world.RenameWorld.take_quick.Goals.{In_default, After-index, After-read_on}
+use Rattle.rename_core.proofs.world.RenameWorld.take_quick.Goals.{In_default, After-index, After-read_on, After-index_mut}
 
 abbrev known : (g : Over) → KnownPlaces g.row.W.Denot g.row.W-Reg.Denot g.row.W-Value.Denot g.row.W-Walker.Denot g.row.W-Walk.Denot
 known g = places_by g.W.Walker.StepProgram.steps g.W.Walker.PlaceWalker.place_of g.W.Walk.SegmentWalk.walks g.W.StepMemory.steps g.W.Places.most_of g.W.Places.walker_from g.W.Places.walk_from g.W.Places.ties
@@ -76,6 +76,14 @@ goes g c read =
       stepped = rw (← s) (c.read_on.ensures.state read);
     }
 
+-- it goes on as it stood
+goes_on : (g : _) (c : After-index_mut g) → c.index.result.now.identity ≡ c.args.id → record { identity = c.index_mut.result.now.identity; program = c.index_mut.result.now.program; ended = false } ≡ beginner c.args.id c.index.result.now.program
+goes_on g c same_identity =
+    let n : Some c.in-Some.i ≡ index_of c.args.id c.deref.result.now = c.in-Some.ensures in
+    let below : c.in-Some.i < length c.self.inside.rounds.items = rw (← c.deref.ensures.value) (index_of-below c.args.id c.deref.result.now c.in-Some.i n) in
+    let same : c.index_mut.result.now ≡ c.index.result.now = c.index_mut.ensures.value ∙ get_or_default c.self.inside.rounds.items c.in-Some.i _ _ below ∙ sym c.index.ensures in
+    rw (same, same_identity) refl
+
 pub returns-clause-answer : goal.returns-clause-answer
 returns-clause-answer g c = λ view.
     let f = there g (goal.at.returns-clause-answer g c).After-index in
@@ -90,7 +98,8 @@ returns-clause-state g c =
     let v : c.self.inside.rounds.items ≡ c.args.self.now.rounds = ap (λ w. w.rounds) c.self.view_is in
     let put : with_participant (beginner c.args.id c.index.result.now.program) c.args.self.now.rounds ≡ set c.args.self.now.rounds c.in-Some.i (beginner c.args.id c.index.result.now.program) = f.put (beginner c.args.id c.index.result.now.program) refl in
     let end = told_state (known g) c.args.self.now c.args.id c.index.result.now f.is Quiet w.none w.told in
-    rw (w.stepped, v, l) (rw (← put) end)
+    let on = goes_on g (goal.at.returns-clause-state g c).After-index_mut f.identity in
+    rw (w.stepped, v, l, on) (rw (← put) end)
 
 pub invariant_of-self : goal.invariant_of-self
 invariant_of-self g c =
@@ -106,4 +115,6 @@ invariant_of-self-2 g c =
     let many = l.many in
     let old = rw s at c.self.invariant in
     let size = length-set c.self.inside.rounds.items c.in-Some.i (beginner c.args.id c.index.result.now.program) in
-    rw w.stepped (rw most old.0, rw most old.1, size ∙ old.2 ∙ sym many, rw (most, size) old.3)
+    let f = there g (goal.at.invariant_of-self-2 g c).After-index in
+    let on = goes_on g (goal.at.invariant_of-self-2 g c).After-index_mut f.identity in
+    rw (w.stepped, on) (rw most old.0, rw most old.1, size ∙ old.2 ∙ sym many, rw (most, size) old.3)
