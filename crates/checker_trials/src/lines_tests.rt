@@ -7,123 +7,129 @@ use run_checker::{
     read_reply,
 };
 use schedule_player::{Command, parse_line};
-use std::alloc::AllocError;
+use std::alloc::{AllocError, Global};
 use std::process::Abort;
-use std::test::Fail;
 
-/// Two participants, a pool of three numbers and two rounds.
-fn small(world: WorldKind) -> Result<Config, Fail> {
-    Ok(Config::new(world, 2, 3, 2)?)
+/// A config of this world, for so many participants, numbers and rounds.
+fn config(rt: &impl Abort, world: WorldKind, (m, k, limit): (u64, u64, u64)) -> Config {
+    Config::new(world, m, k, limit).expect(rt, "a config in range")
 }
 
+/// Two participants, a pool of three numbers and two rounds.
+const SMALL: (u64, u64, u64) = (2, 3, 2);
+
 /// The line of a command and a reply.
-fn line<R: Abort + AllocGlobal>(rt: &R, command: &str, reply: &str) -> Result<Line, AllocError> {
+fn line(rt: &impl Abort, alloc: Global, (command, reply): (&str, &str)) -> Line {
     let Ok(Command::Event(event)) = parse_line(command.as_bytes(), WorldKind::Rename) else {
         panic!(rt; "{command}");
     };
-    let Some(told) = read_reply(rt.alloc(), reply.as_bytes())? else {
-        panic!(rt; "{reply}");
-    };
-    Ok(Line { event, told })
+    let read = read_reply(alloc, reply.as_bytes()).expect(rt, "room for a reply");
+    Line {
+        event,
+        told: read.expect(rt, "a reply"),
+    }
 }
 
-/// The lines of a text, each a command and a reply with a colon between them.
-fn lines<R: Abort + AllocGlobal>(rt: &R, text: &str) -> Result<Vec<Line>, AllocError> {
-    let mut lines = Vec::new(rt.alloc());
+/// Appends the lines of a text, each a command and a reply with a colon between them.
+fn put_lines(rt: &impl Abort, alloc: Global, lines: &mut Vec<Line>, text: &str) {
     for piece in text.split(", ") {
-        let Some((command, reply)) = piece.split_once(':') else {
-            panic!(rt; "{piece}");
-        };
-        lines.push(line(rt, command, reply)?)?;
+        let words = piece.split_once(':').expect(rt, "a command and a reply");
+        let pushed = lines.push(line(rt, alloc, words)).ok();
+        pushed.expect(rt, "room for a line");
     }
-    Ok(lines)
 }
 
 /// Judges the lines of a text and a last one, and compares the first fault.
-fn judge_line<R: Abort + AllocGlobal>(
-    rt: &R,
+fn judge_line(
+    rt: &impl Abort,
+    alloc: Global,
     config: Config,
-    before: &str,
-    last: Line,
+    (before, last): (&str, Line),
     fault: Option<(usize, Reason)>,
-) -> Result<(), AllocError> {
-    let mut lines = lines(rt, before)?;
-    lines.push(last)?;
+) {
+    let mut lines = Vec::new(alloc);
+    put_lines(rt, alloc, &mut lines, before);
+    lines.push(last).ok().expect(rt, "room for one more");
     assert!(rt; lines.len() <= 1_000_000);
-    let found = first_fault(rt.alloc(), config, &lines)?;
+    let found = first_fault(alloc, config, &lines).expect(rt, "room for a desk");
     assert!(rt; found == fault, "{found:?} for {lines:?}");
-    Ok(())
 }
 
 /// As `judge_line`, with the last line's words.
-fn judge<R: Abort + AllocGlobal>(
-    rt: &R,
+fn judge(
+    rt: &impl Abort,
+    alloc: Global,
     config: Config,
-    before: &str,
-    last: (&str, &str),
+    (before, command, reply): (&str, &str, &str),
     fault: Option<(usize, Reason)>,
-) -> Result<(), AllocError> {
-    judge_line(rt, config, before, line(rt, last.0, last.1)?, fault)
+) {
+    let last = line(rt, alloc, (command, reply));
+    judge_line(rt, alloc, config, (before, last), fault);
 }
 
 /// A name that is another's.
 #[test]
-fn a_small_record(rt: HostRuntime) -> Result<(), Fail> {
-    let config = Config::new(WorldKind::Rename, 2, 4, 1000)?;
+fn a_small_record(rt: HostRuntime) {
+    let config = config(&rt, WorldKind::Rename, (2, 4, 1000));
     for (said, fault) in [("named 1", Some((5, Reason::Name))), ("quiet", None)] {
         judge(
             &rt,
+            rt.alloc(),
             config,
-            "begin 10:ok, begin 20:ok, step 10:proposed 1, step 10:named 1, step 20:proposed 1",
-            ("step 20", said),
+            (
+                "begin 10:ok, begin 20:ok, step 10:proposed 1, step 10:named 1, step 20:proposed 1",
+                "step 20",
+                said,
+            ),
             fault,
-        )?;
+        );
     }
-    Ok(())
 }
 
 /// A number above what two may propose.
 #[test]
-fn a_high_proposal(rt: HostRuntime) -> Result<(), Fail> {
-    let config = Config::new(WorldKind::Rename, 2, 4, 1000)?;
+fn a_high_proposal(rt: HostRuntime) {
+    let config = config(&rt, WorldKind::Rename, (2, 4, 1000));
     for (said, fault) in [
         ("proposed 4", Some((2, Reason::Proposal))),
         ("proposed 3", None),
     ] {
         judge(
             &rt,
+            rt.alloc(),
             config,
-            "begin 10:ok, begin 20:ok",
-            ("step 10", said),
+            ("begin 10:ok, begin 20:ok", "step 10", said),
             fault,
-        )?;
+        );
     }
-    Ok(())
 }
 
 /// A view in which who sees it proposes nothing.
 #[test]
-fn a_view_from_before(rt: HostRuntime) -> Result<(), Fail> {
-    let config = Config::new(WorldKind::Rename, 2, 4, 1000)?;
+fn a_view_from_before(rt: HostRuntime) {
+    let config = config(&rt, WorldKind::Rename, (2, 4, 1000));
     for (said, fault) in [
         ("saw 20:1", Some((4, Reason::View))),
         ("saw 10:1 20:1", None),
     ] {
         judge(
             &rt,
+            rt.alloc(),
             config,
-            "begin 10:ok, begin 20:ok, step 20:proposed 1, step 10:proposed 1",
-            ("step 10", said),
+            (
+                "begin 10:ok, begin 20:ok, step 20:proposed 1, step 10:proposed 1",
+                "step 10",
+                said,
+            ),
             fault,
-        )?;
+        );
     }
-    Ok(())
 }
 
 /// A refused `begin` does not count.
 #[test]
-fn who_has_begun(rt: HostRuntime) -> Result<(), Fail> {
-    let config = small(WorldKind::Rename)?;
+fn who_has_begun(rt: HostRuntime) {
+    let config = config(&rt, WorldKind::Rename, SMALL);
     for (before, command, said, fault) in [
         (
             "begin 10:ok, begin 0:refused 1",
@@ -150,15 +156,14 @@ fn who_has_begun(rt: HostRuntime) -> Result<(), Fail> {
             Some((5, Reason::Refusal)),
         ),
     ] {
-        judge(&rt, config, before, (command, said), fault)?;
+        judge(&rt, rt.alloc(), config, (before, command, said), fault);
     }
-    Ok(())
 }
 
 /// Replies of other commands, and refusals that are not due.
 #[test]
-fn replies_and_refusals(rt: HostRuntime) -> Result<(), Fail> {
-    let config = small(WorldKind::Rename)?;
+fn replies_and_refusals(rt: HostRuntime) {
+    let config = config(&rt, WorldKind::Rename, SMALL);
     for (said, fault) in [
         ("quiet", None),
         ("ok", Some((1, Reason::Reply))),
@@ -177,30 +182,40 @@ fn replies_and_refusals(rt: HostRuntime) -> Result<(), Fail> {
         ("refused 13", Some((1, Reason::Refusal))),
         ("refused 18446744073709551615", Some((1, Reason::Refusal))),
     ] {
-        judge(&rt, config, "begin 7:ok", ("step 7", said), fault)?;
+        judge(
+            &rt,
+            rt.alloc(),
+            config,
+            ("begin 7:ok", "step 7", said),
+            fault,
+        );
     }
-    Ok(())
 }
 
 /// Want of memory may be told of a step over a tree.
 #[test]
-fn wants_of_memory(rt: HostRuntime) -> Result<(), Fail> {
-    let tree = small(WorldKind::Tree)?;
+fn wants_of_memory(rt: HostRuntime) {
+    let tree = config(&rt, WorldKind::Tree, SMALL);
     for (command, fault) in [
         ("step 7", None),
         ("begin 8", Some((1, Reason::Refusal))),
         ("step 8", Some((1, Reason::Refusal))),
         ("enter 7", Some((1, Reason::Refusal))),
     ] {
-        judge(&rt, tree, "begin 7:ok", (command, "refused 12"), fault)?;
+        judge(
+            &rt,
+            rt.alloc(),
+            tree,
+            ("begin 7:ok", command, "refused 12"),
+            fault,
+        );
     }
-    Ok(())
 }
 
 /// Places are given once.
 #[test]
-fn places(rt: HostRuntime) -> Result<(), Fail> {
-    let config = small(WorldKind::Rename)?;
+fn places(rt: HostRuntime) {
+    let config = config(&rt, WorldKind::Rename, SMALL);
     for (command, said, fault) in [
         ("step 20", "place 1", None),
         (
@@ -213,19 +228,18 @@ fn places(rt: HostRuntime) -> Result<(), Fail> {
     ] {
         judge(
             &rt,
+            rt.alloc(),
             config,
-            "begin 10:ok, begin 20:ok, step 10:place 0",
-            (command, said),
+            ("begin 10:ok, begin 20:ok, step 10:place 0", command, said),
             fault,
-        )?;
+        );
     }
-    Ok(())
 }
 
 /// How many proposals there may be, and where in them views and the end come.
 #[test]
-fn proposals(rt: HostRuntime) -> Result<(), Fail> {
-    let config = small(WorldKind::Rename)?;
+fn proposals(rt: HostRuntime) {
+    let config = config(&rt, WorldKind::Rename, SMALL);
     let first = "begin 7:ok";
     let third = "begin 7:ok, step 7:proposed 1, step 7:proposed 1";
     for (before, said, fault) in [
@@ -245,31 +259,47 @@ fn proposals(rt: HostRuntime) -> Result<(), Fail> {
         (third, "saw 7:1", Some((3, Reason::Proposal))),
         (third, "named 1", None),
     ] {
-        judge(&rt, config, before, ("step 7", said), fault)?;
+        judge(&rt, rt.alloc(), config, (before, "step 7", said), fault);
+    }
+}
+
+/// Appends pairs to a view.
+fn put_pairs(view: &mut Pairs, pairs: &[(u64, u64)]) -> Result<(), AllocError> {
+    for (id, number) in pairs {
+        view.push(*id, *number)?;
     }
     Ok(())
 }
 
-/// Judges a view of 10, after each of two has proposed 2 and 1 in the other order.
-fn judge_view<R: Abort + AllocGlobal>(
-    rt: &R,
-    view: Pairs,
+/// Lines in which each of two proposes 2 and 1 in the other order.
+const CROSSED: &str =
+    "begin 10:ok, begin 20:ok, begin 30:ok, step 10:proposed 2, step 20:proposed 1, step 10:proposed 1, \
+    step 20:proposed 2";
+
+/// Judges a view of 10 after these lines.
+fn judge_view(
+    rt: &impl Abort,
+    alloc: Global,
+    pairs: &[(u64, u64)],
     fault: Option<(usize, Reason)>,
-) -> Result<(), Fail> {
-    let config = Config::new(WorldKind::Tree, 3, 3, 3)?;
+) {
+    let mut view = Pairs::new(alloc);
+    put_pairs(&mut view, pairs).expect(rt, "room for a view");
     let last = Line {
         event: Event::Step(10),
         told: Told::Saw(view),
     };
-    let before =
-        "begin 10:ok, begin 20:ok, begin 30:ok, step 10:proposed 2, step 20:proposed 1, step 10:proposed 1, \
-        step 20:proposed 2";
-    Ok(judge_line(rt, config, before, last, fault)?)
+    let config = config(rt, WorldKind::Tree, (3, 3, 3));
+    judge_line(rt, alloc, config, (CROSSED, last), fault);
 }
 
 /// Views are moments since the last proposal, in which another proposes the same.
 #[test]
-fn views(rt: HostRuntime) -> Result<(), Fail> {
+fn views(rt: HostRuntime) {
+    let mut long = [(0, 1); 70];
+    for (id, pair) in (1u64..=70).zip(long.iter_mut()) {
+        pair.0 = id;
+    }
     for (pairs, fault) in [
         ([(10, 1), (20, 1)].as_slice(), None),
         (&[(10, 1)], Some((7, Reason::View))),
@@ -282,24 +312,16 @@ fn views(rt: HostRuntime) -> Result<(), Fail> {
         (&[(10, 1), (20, 257)], Some((7, Reason::View))),
         (&[(10, 0), (20, 1)], Some((7, Reason::View))),
         (&[], Some((7, Reason::View))),
+        (&long, Some((7, Reason::View))),
     ] {
-        let mut view = Pairs::new(rt.alloc());
-        for (id, number) in pairs {
-            view.push(*id, *number)?;
-        }
-        judge_view(&rt, view, fault)?;
+        judge_view(&rt, rt.alloc(), pairs, fault);
     }
-    let mut long = Pairs::new(rt.alloc());
-    for id in 0..70 {
-        long.push(id + 1, 1)?;
-    }
-    judge_view(&rt, long, Some((7, Reason::View)))
 }
 
 /// Who is spent has seen another propose the same, and takes no more steps.
 #[test]
-fn spent(rt: HostRuntime) -> Result<(), Fail> {
-    let config = Config::new(WorldKind::Rename, 2, 3, 1)?;
+fn spent(rt: HostRuntime) {
+    let config = config(&rt, WorldKind::Rename, (2, 3, 1));
     for (said, fault) in [
         ("refused 6", None),
         ("quiet", Some((6, Reason::Refusal))),
@@ -307,19 +329,22 @@ fn spent(rt: HostRuntime) -> Result<(), Fail> {
     ] {
         judge(
             &rt,
+            rt.alloc(),
             config,
-            "begin 10:ok, begin 20:ok, step 10:proposed 1, step 20:proposed 1, step 10:spent, step 10:refused 6",
-            ("step 10", said),
+            (
+                "begin 10:ok, begin 20:ok, step 10:proposed 1, step 20:proposed 1, step 10:spent, step 10:refused 6",
+                "step 10",
+                said,
+            ),
             fault,
-        )?;
+        );
     }
-    Ok(())
 }
 
 /// Names are what was proposed last, alone at some moment since, and nobody else's.
 #[test]
-fn names(rt: HostRuntime) -> Result<(), Fail> {
-    let config = Config::new(WorldKind::Rename, 2, 3, 5)?;
+fn names(rt: HostRuntime) {
+    let config = config(&rt, WorldKind::Rename, (2, 3, 5));
     for (said, fault) in [
         ("named 3", None),
         ("named 2", Some((5, Reason::Name))),
@@ -329,19 +354,22 @@ fn names(rt: HostRuntime) -> Result<(), Fail> {
     ] {
         judge(
             &rt,
+            rt.alloc(),
             config,
-            "begin 10:ok, begin 20:ok, step 10:proposed 2, step 10:proposed 3, step 20:proposed 2",
-            ("step 10", said),
+            (
+                "begin 10:ok, begin 20:ok, step 10:proposed 2, step 10:proposed 3, step 20:proposed 2",
+                "step 10",
+                said,
+            ),
             fault,
-        )?;
+        );
     }
-    Ok(())
 }
 
 /// A name that another proposes at every moment since.
 #[test]
-fn crowded_names(rt: HostRuntime) -> Result<(), Fail> {
-    let config = Config::new(WorldKind::Rename, 2, 3, 5)?;
+fn crowded_names(rt: HostRuntime) {
+    let config = config(&rt, WorldKind::Rename, (2, 3, 5));
     for (before, fault) in [
         (
             "begin 10:ok, begin 20:ok, step 20:proposed 2, step 10:proposed 1",
@@ -352,15 +380,20 @@ fn crowded_names(rt: HostRuntime) -> Result<(), Fail> {
             Some((4, Reason::Name)),
         ),
     ] {
-        judge(&rt, config, before, ("step 10", "named 1"), fault)?;
+        judge(
+            &rt,
+            rt.alloc(),
+            config,
+            (before, "step 10", "named 1"),
+            fault,
+        );
     }
-    Ok(())
 }
 
 /// Numbers of the pool, and what stands in their slots, while 5 holds the number 2, with 9 in its slot, and 6 has probed once.
 #[test]
-fn pool_and_slots(rt: HostRuntime) -> Result<(), Fail> {
-    let config = small(WorldKind::Rename)?;
+fn pool_and_slots(rt: HostRuntime) {
+    let config = config(&rt, WorldKind::Rename, SMALL);
     for (command, said, fault) in [
         ("probe 6", "got 1", None),
         ("probe 6", "got 3", None),
@@ -387,29 +420,31 @@ fn pool_and_slots(rt: HostRuntime) -> Result<(), Fail> {
     ] {
         let before =
             "enter 5:ok, probe 5:got 2, put 5 9:ok, enter 6:ok, probe 6:missed, get 5:value 9";
-        judge(&rt, config, before, (command, said), fault)?;
+        judge(&rt, rt.alloc(), config, (before, command, said), fault);
     }
-    Ok(())
 }
 
 /// A pool of one number, whose slot keeps its value from one holder to the next.
 #[test]
-fn one_number(rt: HostRuntime) -> Result<(), Fail> {
+fn one_number(rt: HostRuntime) {
+    let config = config(&rt, WorldKind::Tree, (1, 1, 1));
+    let before =
+        "enter 5:ok, enter 6:refused 7, probe 5:got 1, put 5 3:ok, leave 5:left 1, get 5:refused 8, enter 6:ok, probe 6:got 1, \
+        get 6:value 3, leave 6:left 1, enter 5:ok";
+    let fault = Some((11, Reason::Pool));
     judge(
         &rt,
-        Config::new(WorldKind::Tree, 1, 1, 1)?,
-        "enter 5:ok, enter 6:refused 7, probe 5:got 1, put 5 3:ok, leave 5:left 1, get 5:refused 8, enter 6:ok, probe 6:got 1, \
-            get 6:value 3, leave 6:left 1, enter 5:ok",
-        ("probe 5", "missed"),
-        Some((11, Reason::Pool)),
-    )?;
-    Ok(())
+        rt.alloc(),
+        config,
+        (before, "probe 5", "missed"),
+        fault,
+    );
 }
 
 /// A pool of two numbers, both held, that gets two more.
 #[test]
-fn a_pool_that_widens(rt: HostRuntime) -> Result<(), Fail> {
-    let config = Config::new(WorldKind::Rename, 1, 2, 1)?;
+fn a_pool_that_widens(rt: HostRuntime) {
+    let config = config(&rt, WorldKind::Rename, (1, 2, 1));
     for (command, said, fault) in [
         ("widen 2", "refused 14", None),
         ("widen 2", "ok", Some((5, Reason::Refusal))),
@@ -422,16 +457,15 @@ fn a_pool_that_widens(rt: HostRuntime) -> Result<(), Fail> {
         ("widen 0", "refused 14", None),
     ] {
         let before = "enter 5:ok, probe 5:got 1, enter 6:ok, probe 6:got 2, enter 7:refused 7";
-        judge(&rt, config, before, (command, said), fault)?;
+        judge(&rt, rt.alloc(), config, (before, command, said), fault);
     }
-    Ok(())
 }
 
 /// The present size says who is let in, which numbers are given and which probe is not missed: the pool had one number, held by 5
 /// with 9 in its slot, and has three; 6 has probed once since.
 #[test]
-fn a_wider_pool(rt: HostRuntime) -> Result<(), Fail> {
-    let config = Config::new(WorldKind::Tree, 1, 1, 1)?;
+fn a_wider_pool(rt: HostRuntime) {
+    let config = config(&rt, WorldKind::Tree, (1, 1, 1));
     for (command, said, fault) in [
         ("enter 7", "ok", None),
         ("enter 7", "refused 7", Some((6, Reason::Refusal))),
@@ -448,15 +482,13 @@ fn a_wider_pool(rt: HostRuntime) -> Result<(), Fail> {
     ] {
         let before =
             "enter 5:ok, probe 5:got 1, put 5 9:ok, widen 3:ok, enter 6:ok, probe 6:missed";
-        judge(&rt, config, before, (command, said), fault)?;
+        judge(&rt, rt.alloc(), config, (before, command, said), fault);
     }
-    Ok(())
 }
 
 #[test]
 fn reasons_have_numbers(rt: HostRuntime) {
-    assert_eq!(rt; Reason::Reply.number(), 1);
-    assert_eq!(rt; Reason::Pool.number(), 7);
+    assert_eq!(rt; (Reason::Reply.number(), Reason::Pool.number()), (1, 7));
     law_of_reasons();
     law_of_records();
     law_of_desk_runs();

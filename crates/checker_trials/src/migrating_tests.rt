@@ -4,7 +4,6 @@ use run_checker::{Reason, Verdict, check, migrate};
 use schedule_player::{Fault, Tried};
 use std::alloc::{AllocError, Global};
 use std::process::Abort;
-use std::test::Fail;
 use test_doubles::Cup;
 
 /// A record of version 1.
@@ -27,54 +26,49 @@ const NEW: [&str; 6] = [
     r#"{"command":"step 20","reply":"proposed 1"}"#,
 ];
 
-/// These lines, each ended by LF.
-fn record_of(alloc: Global, lines: &[&str]) -> Result<Vec<u8>, AllocError> {
-    let mut bytes = Vec::new(alloc);
+/// Appends these lines, each ended by LF.
+fn put_lines(bytes: &mut Vec<u8>, lines: &[&str]) -> Result<(), AllocError> {
     for line in lines {
         bytes.extend_from_slice(line.as_bytes())?;
         bytes.push(b'\n')?;
     }
-    Ok(bytes)
+    Ok(())
+}
+
+/// The record of these lines.
+fn record_of(rt: &impl Abort, alloc: Global, lines: &[&str]) -> Vec<u8> {
+    let mut bytes = Vec::new(alloc);
+    put_lines(&mut bytes, lines).expect(rt, "room for a record");
+    bytes
 }
 
 /// These lines are migrated with this verdict to these others.
-fn migrates<R: Abort + AllocGlobal>(
-    rt: &R,
-    lines: &[&str],
-    want: Verdict,
-    written: &[&str],
-) -> Result<(), Fail> {
-    let alloc = rt.alloc();
-    let bytes = record_of(alloc, lines)?;
+fn migrates(rt: &impl Abort, alloc: Global, lines: &[&str], want: Verdict, written: &[&str]) {
+    let bytes = record_of(rt, alloc, lines);
+    let text = record_of(rt, alloc, written);
     let mut writer = Tried::new(Vec::new(alloc));
     let verdict = migrate(alloc, &bytes, &mut writer).expect(rt, "a verdict");
-    assert_eq!(rt; verdict, want);
-    assert_eq!(rt; verdict, check(alloc, &bytes));
-    assert_eq!(rt; writer.into_inner(), record_of(alloc, written)?);
-    Ok(())
+    assert_eq!(rt; (verdict, check(alloc, &bytes)), (want, want));
+    assert_eq!(rt; writer.into_inner(), text);
 }
 
 #[test]
-fn a_record_of_version_1(rt: HostRuntime) -> Result<(), Fail> {
-    migrates(&rt, &OLD, Verdict::Yes, &NEW)
+fn a_record_of_version_1(rt: HostRuntime) {
+    migrates(&rt, rt.alloc(), &OLD, Verdict::Yes, &NEW);
 }
 
 #[test]
-fn what_was_migrated_stays(rt: HostRuntime) -> Result<(), Fail> {
-    migrates(&rt, &NEW, Verdict::Yes, &NEW)?;
-    assert_eq!(&rt;
-        check(rt.alloc(), &record_of(rt.alloc(), &NEW)?),
-        Verdict::Yes
-    );
-    Ok(())
+fn what_was_migrated_stays(rt: HostRuntime) {
+    migrates(&rt, rt.alloc(), &NEW, Verdict::Yes, &NEW);
 }
 
 /// Each kind of line, in another spelling, is written in the compact one.
 #[test]
-fn other_spellings(rt: HostRuntime) -> Result<(), Fail> {
+fn other_spellings(rt: HostRuntime) {
     let head = NEW[0];
     migrates(
         &rt,
+        rt.alloc(),
         &[
             r#" {"world":"rename", "version":2, "m":2, "limit":1000, "k":4, "format":"slot\u002drecord"}"#,
             r#"{ "reply" : "ok" , "command" : "begin 7" }"#,
@@ -109,7 +103,7 @@ fn other_spellings(rt: HostRuntime) -> Result<(), Fail> {
 
 /// The first moment in which a proposal stands alone is not that of the proposal, nor the last.
 #[test]
-fn a_first_moment_of_another(rt: HostRuntime) -> Result<(), Fail> {
+fn a_first_moment_of_another(rt: HostRuntime) {
     let begun = [OLD[1], OLD[2]];
     let steps = [
         r#"{"command":"step 10","reply":"proposed 1"}"#,
@@ -124,6 +118,7 @@ fn a_first_moment_of_another(rt: HostRuntime) -> Result<(), Fail> {
     let seen = r#"{"command":"step 10","reply":"named 3","view":"10:3 20:1"}"#;
     migrates(
         &rt,
+        rt.alloc(),
         &[
             OLD[0],
             begun[0],
@@ -155,38 +150,49 @@ fn a_first_moment_of_another(rt: HostRuntime) -> Result<(), Fail> {
 }
 
 #[test]
-fn another_verdict_writes_nothing(rt: HostRuntime) -> Result<(), Fail> {
+fn another_verdict_writes_nothing(rt: HostRuntime) {
     let wrong = r#"{"command":"step 20","reply":"named 1"}"#;
     let [head, first, second, third, fourth, fifth] = OLD;
-    migrates(
-        &rt,
-        &[head, first, second, third, fourth, fifth, wrong],
-        Verdict::No(7, Reason::Name),
-        &[],
-    )?;
-    migrates(&rt, &[head, first, ""], Verdict::BadRecord(3), &[])?;
-    migrates(&rt, &[], Verdict::BadRecord(1), &[])
+    for (lines, want) in [
+        (
+            [head, first, second, third, fourth, fifth, wrong].as_slice(),
+            Verdict::No(7, Reason::Name),
+        ),
+        (&[head, first, ""], Verdict::BadRecord(3)),
+        (&[], Verdict::BadRecord(1)),
+    ] {
+        migrates(&rt, rt.alloc(), lines, want, &[]);
+    }
 }
 
-/// Each write fails in turn, by an error or by taking nothing: a beginning of the text is written.
+/// Migrates a record over a writer that takes 40 bytes a write and fails at this one: a beginning of the text is written.
+fn one_write_fails(
+    rt: &impl Abort,
+    alloc: Global,
+    (bytes, text): (&[u8], &[u8]),
+    at: u64,
+    takes_nothing: bool,
+) {
+    let mut writer = Tried::new(Cup::new(alloc, 40, at, takes_nothing));
+    let outcome = migrate(alloc, bytes, &mut writer);
+    let taken = writer.into_inner().taken;
+    let most = (at as usize).saturating_sub(1).saturating_mul(40);
+    let want = if text.len() <= most {
+        Ok(Verdict::Yes)
+    } else {
+        Err(Fault::Write)
+    };
+    assert_eq!(rt; outcome, want, "at {at}");
+    assert_eq!(rt; taken.as_slice(), &text[..most.min(text.len())], "at {at}");
+}
+
+/// Each write fails in turn, by an error or by taking nothing.
 #[test]
-fn writes_that_fail(rt: HostRuntime) -> Result<(), Fail> {
-    let alloc = rt.alloc();
-    let bytes = record_of(alloc, &OLD)?;
-    let text = record_of(alloc, &NEW)?;
-    for takes_nothing in [false, true] {
-        for at in 1..10usize {
-            let mut writer = Tried::new(Cup::new(alloc, 40, at as u64, takes_nothing));
-            let outcome = migrate(alloc, &bytes, &mut writer);
-            let taken = writer.into_inner().taken;
-            if text.len() <= 40 * (at - 1) {
-                assert_eq!(&rt; outcome, Ok(Verdict::Yes));
-                assert_eq!(&rt; taken, text);
-            } else {
-                assert_eq!(&rt; outcome, Err(Fault::Write));
-                assert_eq!(&rt; taken.as_slice(), &text[..40 * (at - 1)]);
-            }
-        }
+fn writes_that_fail(rt: HostRuntime) {
+    let bytes = record_of(&rt, rt.alloc(), &OLD);
+    let text = record_of(&rt, rt.alloc(), &NEW);
+    for at in 1..10u64 {
+        one_write_fails(&rt, rt.alloc(), (&bytes, &text), at, false);
+        one_write_fails(&rt, rt.alloc(), (&bytes, &text), at, true);
     }
-    Ok(())
 }

@@ -1,7 +1,8 @@
+ghost use Rattle.std.specs.Prelude.{◌≤◌, length};
+
 use run_checker::{Reason, Verdict, check};
 use std::alloc::{AllocError, Global};
 use std::process::Abort;
-use std::test::Fail;
 
 /// A header, and its LF: two participants, two rounds and a pool of three numbers.
 const HEAD: &str = r#"{"format":"slot-record","k":3,"limit":2,"m":2,"version":1,"world":"rename"}"#;
@@ -9,20 +10,25 @@ const HEAD: &str = r#"{"format":"slot-record","k":3,"limit":2,"m":2,"version":1,
 /// The event by which a line of the tests below can follow.
 const ENTER: &str = r#"{"command":"enter 5","reply":"ok"}"#;
 
-/// The verdict on a record of these lines, each ended by LF.
-fn verdict(alloc: Global, lines: &[&str]) -> Result<Verdict, AllocError> {
-    let mut bytes = Vec::new(alloc);
+/// Appends these lines, each ended by LF.
+fn put_lines(bytes: &mut Vec<u8>, lines: &[&str]) -> Result<(), AllocError> {
     for line in lines {
         bytes.extend_from_slice(line.as_bytes())?;
         bytes.push(b'\n')?;
     }
-    Ok(check(alloc, &bytes))
+    Ok(())
 }
 
-/// The verdict on a record of these events and replies, after a header.
-fn verdict_on(alloc: Global, head: &str, rows: &[(&str, &str)]) -> Result<Verdict, AllocError> {
+/// Compares the verdict on a record of these lines, each ended by LF.
+fn is_judged(rt: &impl Abort, alloc: Global, lines: &[&str], want: Verdict) {
     let mut bytes = Vec::new(alloc);
-    bytes.extend_from_slice(head.as_bytes())?;
+    put_lines(&mut bytes, lines).expect(rt, "room for a record");
+    let found = check(alloc, &bytes);
+    assert!(rt; found == want, "{lines:?}: {found:?}");
+}
+
+/// Appends the lines of these events and replies, each after an LF.
+fn put_rows(bytes: &mut Vec<u8>, rows: &[(&str, &str)]) -> Result<(), AllocError> {
     for (command, reply) in rows {
         bytes.extend_from_slice(b"\n{\"command\":\"")?;
         bytes.extend_from_slice(command.as_bytes())?;
@@ -30,45 +36,55 @@ fn verdict_on(alloc: Global, head: &str, rows: &[(&str, &str)]) -> Result<Verdic
         bytes.extend_from_slice(reply.as_bytes())?;
         bytes.extend_from_slice(b"\"}")?;
     }
-    Ok(check(alloc, &bytes))
-}
-
-/// After two lines that follow, a third that follows with the one reply, and for this reason not with the other.
-fn follows<R: Abort + AllocGlobal>(
-    rt: &R,
-    before: [(&str, &str); 2],
-    command: &str,
-    replies: (&str, &str),
-    reason: Reason,
-) -> Result<(), Fail> {
-    let [first, second] = before;
-    let right = verdict_on(rt.alloc(), HEAD, &[first, second, (command, replies.0)])?;
-    assert!(rt; right == Verdict::Yes, "{command} {replies:?}: {right:?}");
-    let wrong = verdict_on(rt.alloc(), HEAD, &[first, second, (command, replies.1)])?;
-    assert!(rt;
-        wrong == Verdict::No(4, reason),
-        "{command} {replies:?}: {wrong:?}"
-    );
     Ok(())
 }
 
+/// Compares the verdict on a record of these events and replies, after a header.
+fn is_judged_on(rt: &impl Abort, alloc: Global, head: &str, rows: &[(&str, &str)], want: Verdict) {
+    let mut bytes = Vec::from_slice(alloc, head.as_bytes()).expect(rt, "room for a header");
+    put_rows(&mut bytes, rows).expect(rt, "room for a record");
+    let found = check(alloc, &bytes);
+    assert!(rt; found == want, "{rows:?}: {found:?}");
+}
+
+/// After two lines that follow, a third that follows with the one reply, and for this reason not with the other.
+fn follows(
+    rt: &impl Abort,
+    alloc: Global,
+    [first, second]: [(&str, &str); 2],
+    (command, right, wrong): (&str, &str, &str),
+    reason: Reason,
+) {
+    let rows = [first, second, (command, right)];
+    is_judged_on(rt, alloc, HEAD, &rows, Verdict::Yes);
+    let rows = [first, second, (command, wrong)];
+    is_judged_on(rt, alloc, HEAD, &rows, Verdict::No(4, reason));
+}
+
+const PLACED: [(&str, &str); 2] = [("begin 7", "ok"), ("step 7", "place 4")];
+
+const PROPOSED: [(&str, &str); 2] = [("begin 7", "ok"), ("step 7", "proposed 1")];
+
+const GOT: [(&str, &str); 2] = [("enter 7", "ok"), ("probe 7", "got 2")];
+
 /// Each reason, beside a record that differs in that reply alone and is a run's.
 #[test]
-fn each_reason(rt: HostRuntime) -> Result<(), Fail> {
-    let placed = [("begin 7", "ok"), ("step 7", "place 4")];
-    let proposed = [("begin 7", "ok"), ("step 7", "proposed 1")];
-    let got = [("enter 7", "ok"), ("probe 7", "got 2")];
-    for (replies, reason) in [
-        (("quiet", "ok"), Reason::Reply),
-        (("quiet", "refused 5"), Reason::Refusal),
-        (("proposed 1", "proposed 2"), Reason::Proposal),
-        (("named 1", "saw 7:1"), Reason::View),
-        (("named 1", "named 2"), Reason::Name),
+fn each_reason(rt: HostRuntime) {
+    for (before, last, reason) in [
+        (PROPOSED, ("step 7", "quiet", "ok"), Reason::Reply),
+        (PROPOSED, ("step 7", "quiet", "refused 5"), Reason::Refusal),
+        (
+            PROPOSED,
+            ("step 7", "proposed 1", "proposed 2"),
+            Reason::Proposal,
+        ),
+        (PROPOSED, ("step 7", "named 1", "saw 7:1"), Reason::View),
+        (PROPOSED, ("step 7", "named 1", "named 2"), Reason::Name),
+        (PLACED, ("step 7", "quiet", "place 5"), Reason::Place),
+        (GOT, ("leave 7", "left 2", "left 1"), Reason::Pool),
     ] {
-        follows(&rt, proposed, "step 7", replies, reason)?;
+        follows(&rt, rt.alloc(), before, last, reason);
     }
-    follows(&rt, placed, "step 7", ("quiet", "place 5"), Reason::Place)?;
-    follows(&rt, got, "leave 7", ("left 2", "left 1"), Reason::Pool)
 }
 
 /// The header of a pool of two numbers, which gets two more in the record below; without its LF.
@@ -102,11 +118,20 @@ const WIDENED: [(&str, &str); 23] = [
     ("widen 65", "refused 14"),
 ];
 
+/// Compares the verdict on the record of a pool that widens, with one reply in the place of another.
+fn is_widened_so(rt: &impl Abort, alloc: Global, at: usize, reply: &'static str, reason: Reason) {
+    let mut rows = WIDENED;
+    if let Some(row) = rows.get_mut(at) {
+        row.1 = reply;
+    }
+    let want = Verdict::No((at as u64).saturating_add(2), reason);
+    is_judged_on(rt, alloc, TWO_NUMBERS, &rows, want);
+}
+
 /// The record of a pool that widens, and the same with one reply that can't be.
 #[test]
-fn a_record_of_a_pool_that_widens(rt: HostRuntime) -> Result<(), Fail> {
-    let right = verdict_on(rt.alloc(), TWO_NUMBERS, &WIDENED)?;
-    assert_eq!(rt; right, Verdict::Yes);
+fn a_record_of_a_pool_that_widens(rt: HostRuntime) {
+    is_judged_on(&rt, rt.alloc(), TWO_NUMBERS, &WIDENED, Verdict::Yes);
     for (at, reply, reason) in [
         (5, "ok", Reason::Refusal),
         (6, "refused 14", Reason::Refusal),
@@ -117,44 +142,38 @@ fn a_record_of_a_pool_that_widens(rt: HostRuntime) -> Result<(), Fail> {
         (18, "missed", Reason::Pool),
         (22, "refused 13", Reason::Refusal),
     ] {
-        assert!(rt; at < 23);
-        let mut rows = WIDENED;
-        rows[at].1 = reply;
-        let wrong = verdict_on(rt.alloc(), TWO_NUMBERS, &rows)?;
-        assert!(rt;
-            wrong == Verdict::No(at as u64 + 2, reason),
-            "{at} {reply}: {wrong:?}"
-        );
+        is_widened_so(&rt, rt.alloc(), at, reply, reason);
     }
-    Ok(())
 }
+
+const WRONG: &str = r#"{"command":"probe 5","reply":"got 4"}"#;
+
+const OTHER: &str = r#"{"command":"leave 5","reply":"ok"}"#;
 
 /// The first fault of either kind decides: a line that can't follow, or one that is none of a record.
 #[test]
-fn the_first_fault(rt: HostRuntime) -> Result<(), Fail> {
-    let alloc = rt.alloc();
-    let wrong = r#"{"command":"probe 5","reply":"got 4"}"#;
-    let other = r#"{"command":"leave 5","reply":"ok"}"#;
+fn the_first_fault(rt: HostRuntime) {
     for (lines, want) in [
-        ([HEAD, ENTER, wrong, "x"], Verdict::No(3, Reason::Pool)),
-        ([HEAD, ENTER, "x", wrong], Verdict::BadRecord(3)),
-        ([HEAD, ENTER, "", ENTER], Verdict::BadRecord(3)),
-        ([HEAD, ENTER, wrong, other], Verdict::No(3, Reason::Pool)),
-        ([HEAD, ENTER, other, wrong], Verdict::No(3, Reason::Reply)),
-        (["x", ENTER, wrong, "x"], Verdict::BadRecord(1)),
+        (
+            [HEAD, ENTER, WRONG, "x"].as_slice(),
+            Verdict::No(3, Reason::Pool),
+        ),
+        (&[HEAD, ENTER, "x", WRONG], Verdict::BadRecord(3)),
+        (&[HEAD, ENTER, "", ENTER], Verdict::BadRecord(3)),
+        (&[HEAD, ENTER, WRONG, OTHER], Verdict::No(3, Reason::Pool)),
+        (&[HEAD, ENTER, OTHER, WRONG], Verdict::No(3, Reason::Reply)),
+        (&["x", ENTER, WRONG, "x"], Verdict::BadRecord(1)),
+        (&[HEAD], Verdict::Yes),
+        (&[], Verdict::BadRecord(1)),
+        (&[""], Verdict::BadRecord(1)),
     ] {
-        let found = verdict(alloc, &lines)?;
-        assert!(&rt; found == want, "{lines:?}: {found:?}");
+        is_judged(&rt, rt.alloc(), lines, want);
     }
-    assert_eq!(&rt; verdict(alloc, &[HEAD])?, Verdict::Yes);
-    assert_eq!(&rt; verdict(alloc, &[])?, Verdict::BadRecord(1));
-    assert_eq!(&rt; verdict(alloc, &[""])?, Verdict::BadRecord(1));
-    Ok(())
 }
 
 /// What a header may be, and what it may not.
 #[test]
-fn headers(rt: HostRuntime) -> Result<(), Fail> {
+fn headers(rt: HostRuntime) {
     for head in [
         HEAD,
         r#"{"world":"tree","version":1,"m":16,"limit":1000000,"k":64,"format":"slot-record"}"#,
@@ -162,15 +181,13 @@ fn headers(rt: HostRuntime) -> Result<(), Fail> {
         r#"{"format":"slot-record","k":3,"limit":2,"m":9,"m":2,"version":1,"world":"rename"}"#,
         r#"{"format":"slot-record","k":3,"limit":2,"m":16,"version":2,"world":"rename"}"#,
     ] {
-        let found = verdict(rt.alloc(), &[head, ENTER])?;
-        assert!(&rt; found == Verdict::Yes, "{head}: {found:?}");
+        is_judged(&rt, rt.alloc(), &[head, ENTER], Verdict::Yes);
     }
-    Ok(())
 }
 
 /// A first line that is no header, each by one place in which it differs from one.
 #[test]
-fn no_headers(rt: HostRuntime) -> Result<(), Fail> {
+fn no_headers(rt: HostRuntime) {
     for head in [
         "",
         "{}",
@@ -204,15 +221,13 @@ fn no_headers(rt: HostRuntime) -> Result<(), Fail> {
         r#"{"format":"slot-record","k":[3],"limit":2,"m":2,"version":1,"world":"rename"}"#,
         r#"{"format":"slot-record","k":3,"limit":18446744073709551616,"m":2,"version":1,"world":"rename"}"#,
     ] {
-        let found = verdict(rt.alloc(), &[head, ENTER])?;
-        assert!(&rt; found == Verdict::BadRecord(1), "{head}: {found:?}");
+        is_judged(&rt, rt.alloc(), &[head, ENTER], Verdict::BadRecord(1));
     }
-    Ok(())
 }
 
 /// An event's line in other spellings of JSON.
 #[test]
-fn spellings_of_a_line(rt: HostRuntime) -> Result<(), Fail> {
+fn spellings_of_a_line(rt: HostRuntime) {
     for line in [
         ENTER,
         r#"{"reply":"ok","command":"enter 5"}"#,
@@ -225,15 +240,13 @@ fn spellings_of_a_line(rt: HostRuntime) -> Result<(), Fail> {
         r#"{"command":[[{"a":null}],true],"command":"enter 5","reply":"ok"}"#,
         r#"{"command":"\ud83d\ude00","command":"enter 5","reply":"ok"}"#,
     ] {
-        let found = verdict(rt.alloc(), &[HEAD, line])?;
-        assert!(&rt; found == Verdict::Yes, "{line}: {found:?}");
+        is_judged(&rt, rt.alloc(), &[HEAD, line], Verdict::Yes);
     }
-    Ok(())
 }
 
 /// Lines that are no JSON, or no object of a command and a reply.
 #[test]
-fn no_event_lines(rt: HostRuntime) -> Result<(), Fail> {
+fn no_event_lines(rt: HostRuntime) {
     for line in [
         "",
         "\r",
@@ -260,15 +273,13 @@ fn no_event_lines(rt: HostRuntime) -> Result<(), Fail> {
         "{\"command\":\"enter\t5\",\"reply\":\"ok\"}",
         "{\"command\":\"enter 5\",\"reply\":\"ok\"",
     ] {
-        let found = verdict(rt.alloc(), &[HEAD, line, ENTER])?;
-        assert!(&rt; found == Verdict::BadRecord(2), "{line}: {found:?}");
+        is_judged(&rt, rt.alloc(), &[HEAD, line, ENTER], Verdict::BadRecord(2));
     }
-    Ok(())
 }
 
 /// Commands that are no event's line.
 #[test]
-fn no_commands(rt: HostRuntime) -> Result<(), Fail> {
+fn no_commands(rt: HostRuntime) {
     for command in [
         "",
         "quit",
@@ -288,20 +299,25 @@ fn no_commands(rt: HostRuntime) -> Result<(), Fail> {
         "stop 5",
         "0123456789012345678901234567890123456789012345678901234567890123456789012345678901234567890123456789",
     ] {
-        let found = verdict_on(rt.alloc(), HEAD, &[(command, "ok")])?;
-        assert!(&rt; found == Verdict::BadRecord(2), "{command}: {found:?}");
+        is_judged_on(
+            &rt,
+            rt.alloc(),
+            HEAD,
+            &[(command, "ok")],
+            Verdict::BadRecord(2),
+        );
     }
-    Ok(())
 }
 
-/// The verdict on a record whose third line is a step of 7 with this reply.
-fn verdict_on_step(alloc: Global, reply: &str) -> Result<Verdict, AllocError> {
-    verdict_on(alloc, HEAD, &[("begin 7", "ok"), ("step 7", reply)])
+/// Compares the verdict on a record whose third line is a step of 7 with this reply.
+fn is_judged_at_step(rt: &impl Abort, alloc: Global, reply: &str, want: Verdict) {
+    let rows = [("begin 7", "ok"), ("step 7", reply)];
+    is_judged_on(rt, alloc, HEAD, &rows, want);
 }
 
 /// Replies that are not well spelled.
 #[test]
-fn no_replies(rt: HostRuntime) -> Result<(), Fail> {
+fn no_replies(rt: HostRuntime) {
     for reply in [
         "",
         "Quiet",
@@ -328,15 +344,13 @@ fn no_replies(rt: HostRuntime) -> Result<(), Fail> {
         "named 1 7:1",
         "spent 1",
     ] {
-        let found = verdict_on_step(rt.alloc(), reply)?;
-        assert!(&rt; found == Verdict::BadRecord(3), "{reply}: {found:?}");
+        is_judged_at_step(&rt, rt.alloc(), reply, Verdict::BadRecord(3));
     }
-    Ok(())
 }
 
 /// Replies that are well spelled, whether they can follow or not.
 #[test]
-fn replies(rt: HostRuntime) -> Result<(), Fail> {
+fn replies(rt: HostRuntime) {
     let other = Verdict::No(3, Reason::Reply);
     let proposal = Verdict::No(3, Reason::Proposal);
     for (reply, want) in [
@@ -360,70 +374,82 @@ fn replies(rt: HostRuntime) -> Result<(), Fail> {
         ("named 1", Verdict::No(3, Reason::Name)),
         ("spent", proposal),
     ] {
-        let found = verdict_on_step(rt.alloc(), reply)?;
-        assert!(&rt; found == want, "{reply}: {found:?}");
+        is_judged_at_step(&rt, rt.alloc(), reply, want);
+    }
+}
+
+/// Appends a view of 65 participants.
+fn put_long_view(reply: &mut String, alloc: Global) -> Result<(), AllocError> {
+    for id in 1..=65u64 {
+        reply.push_str(format!(in alloc; " {id}:1")?.as_str())?;
     }
     Ok(())
 }
 
 /// A view of more pairs than there may be participants is well spelled.
 #[test]
-fn a_long_view(rt: HostRuntime) -> Result<(), Fail> {
-    let alloc = rt.alloc();
-    let mut reply = String::new(alloc);
-    reply.push_str("saw")?;
-    for id in 1..=65u64 {
-        reply.push_str(format!(in alloc; " {id}:1")?.as_str())?;
-    }
+fn a_long_view(rt: HostRuntime) {
+    let mut reply = String::from_str(rt.alloc(), "saw").expect(&rt, "room for a reply");
+    put_long_view(&mut reply, rt.alloc()).expect(&rt, "room for a view");
     let rows = [
         ("begin 7", "ok"),
         ("step 7", "proposed 1"),
         ("step 7", reply.as_str()),
     ];
-    assert_eq!(&rt;
-        verdict_on(alloc, HEAD, &rows)?,
-        Verdict::No(4, Reason::View)
-    );
-    Ok(())
+    is_judged_on(&rt, rt.alloc(), HEAD, &rows, Verdict::No(4, Reason::View));
 }
 
-/// These bytes, and spaces behind them up to this length.
-fn padded(alloc: Global, line: &str, length: usize) -> Result<Vec<u8>, AllocError> {
-    let mut bytes = Vec::new(alloc);
-    bytes.extend_from_slice(line.as_bytes())?;
+/// Appends these bytes, and spaces behind them up to this length.
+fn put_padded(bytes: &mut Vec<u8>, line: &[u8], length: usize) -> Result<(), AllocError> {
+    bytes.extend_from_slice(line)?;
     for _ in line.len()..length {
         bytes.push(b' ')?;
     }
-    Ok(bytes)
+    Ok(())
+}
+
+/// Appends lines, each padded up to its length, and with its end.
+fn put_all_padded(bytes: &mut Vec<u8>, lines: &[(&str, usize, &str)]) -> Result<(), AllocError> {
+    for (line, length, end) in lines {
+        put_padded(bytes, line.as_bytes(), *length)?;
+        bytes.extend_from_slice(end.as_bytes())?;
+    }
+    Ok(())
+}
+
+/// Compares the verdict on a record of lines, each padded up to its length, and with its end.
+fn is_judged_padded(rt: &impl Abort, alloc: Global, lines: &[(&str, usize, &str)], want: Verdict) {
+    let mut bytes = Vec::new(alloc);
+    put_all_padded(&mut bytes, lines).expect(rt, "room for lines");
+    let found = check(alloc, &bytes);
+    assert!(rt; found == want, "{lines:?}: {found:?}");
 }
 
 /// A line has at most 8,192 bytes without its LF, and the last LF may be missing.
 #[test]
-fn long_lines(rt: HostRuntime) -> Result<(), Fail> {
-    let alloc = rt.alloc();
-    for (length, want) in [(8_192, Verdict::Yes), (8_193, Verdict::BadRecord(2))] {
-        let mut bytes = padded(alloc, HEAD, 100)?;
-        bytes.push(b'\n')?;
-        bytes.extend_from_slice(&padded(alloc, ENTER, length)?)?;
-        assert_eq!(&rt; check(alloc, &bytes), want);
-        bytes.push(b'\n')?;
-        assert_eq!(&rt; check(alloc, &bytes), want);
+fn long_lines(rt: HostRuntime) {
+    let head = (HEAD, 100, "\n");
+    for (lines, want) in [
+        ([head, (ENTER, 8_192, "")].as_slice(), Verdict::Yes),
+        (&[head, (ENTER, 8_192, "\n")], Verdict::Yes),
+        (&[head, (ENTER, 8_193, "")], Verdict::BadRecord(2)),
+        (&[head, (ENTER, 8_193, "\n")], Verdict::BadRecord(2)),
+        (&[(HEAD, 8_192, "")], Verdict::Yes),
+        (&[(HEAD, 8_193, "")], Verdict::BadRecord(1)),
+    ] {
+        is_judged_padded(&rt, rt.alloc(), lines, want);
     }
-    for (length, want) in [(8_192, Verdict::Yes), (8_193, Verdict::BadRecord(1))] {
-        let bytes = padded(alloc, HEAD, length)?;
-        assert_eq!(&rt; check(alloc, &bytes), want);
-    }
-    Ok(())
 }
+
+/// A record of two lines, of which the second is no UTF-8.
+const NO_TEXT: &[u8] =
+    b"{\"format\":\"slot-record\",\"k\":3,\"limit\":2,\"m\":2,\"version\":1,\"world\":\"rename\"}
+{\"command\":\"\xff\",\"command\":\"enter 5\",\"reply\":\"ok\"}";
 
 /// Bytes that are no UTF-8.
 #[test]
-fn no_text(rt: HostRuntime) -> Result<(), Fail> {
-    let alloc = rt.alloc();
-    let mut bytes = padded(alloc, HEAD, 0)?;
-    bytes.extend_from_slice(b"\n{\"command\":\"\xff\",\"command\":\"enter 5\",\"reply\":\"ok\"}")?;
-    assert_eq!(&rt; check(alloc, &bytes), Verdict::BadRecord(2));
-    Ok(())
+fn no_text(rt: HostRuntime) {
+    assert_eq!(rt; check(rt.alloc(), NO_TEXT), Verdict::BadRecord(2));
 }
 
 /// What is said of this record, cut after so many bytes: at an end of a line, before or after its LF, it is a run's; inside a line
@@ -446,28 +472,31 @@ fn said_of_cut(bytes: &[u8], at: usize) -> Verdict {
     }
 }
 
+/// A record of six lines.
+const SIX: [&str; 6] = [
+    HEAD,
+    r#"{"command":"begin 10","reply":"ok"}"#,
+    r#"{"command":"begin 20","reply":"ok"}"#,
+    r#"{"command":"step 10","reply":"proposed 1"}"#,
+    r#"{"command":"step 10","reply":"named 1"}"#,
+    r#"{"command":"step 20","reply":"proposed 1"}"#,
+];
+
+/// Compares the verdict on this record, cut after so many bytes.
+fn is_cut_so(rt: &impl Abort, alloc: Global, bytes: &[u8], at: usize)
+    requires { at ≤ length bytes.now }
+{
+    let found = check(alloc, &bytes[..at]);
+    let want = said_of_cut(bytes, at);
+    assert!(rt; found == want, "cut after {at}: {found:?}");
+}
+
 /// A record of six lines, cut after each byte.
 #[test]
-fn a_record_that_is_cut(rt: HostRuntime) -> Result<(), Fail> {
-    let alloc = rt.alloc();
-    let mut bytes = Vec::new(alloc);
-    for line in [
-        HEAD,
-        r#"{"command":"begin 10","reply":"ok"}"#,
-        r#"{"command":"begin 20","reply":"ok"}"#,
-        r#"{"command":"step 10","reply":"proposed 1"}"#,
-        r#"{"command":"step 10","reply":"named 1"}"#,
-        r#"{"command":"step 20","reply":"proposed 1"}"#,
-    ] {
-        bytes.extend_from_slice(line.as_bytes())?;
-        bytes.push(b'\n')?;
-    }
+fn a_record_that_is_cut(rt: HostRuntime) {
+    let mut bytes = Vec::new(rt.alloc());
+    put_lines(&mut bytes, &SIX).expect(&rt, "room for a record");
     for at in 0..=bytes.len() {
-        let found = check(alloc, &bytes[..at]);
-        assert!(&rt;
-            found == said_of_cut(&bytes, at),
-            "cut after {at}: {found:?}"
-        );
+        is_cut_so(&rt, rt.alloc(), &bytes, at);
     }
-    Ok(())
 }

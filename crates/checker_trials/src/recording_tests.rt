@@ -8,7 +8,7 @@ use rename_core::{Config, WorldKind};
 use run_checker::{Verdict, check, law_of_recording};
 use schedule_player::{Fault, Tried, record};
 use std::alloc::Global;
-use std::test::Fail;
+use std::process::Abort;
 
 /// The verdict on the record of the run of an input: `Yes` where it asks for at most a million events and memory is given.
 fn checked_record(alloc: Global, config: Config, input: &[u8]) -> Result<Verdict, Fault>
@@ -23,32 +23,29 @@ fn checked_record(alloc: Global, config: Config, input: &[u8]) -> Result<Verdict
     Ok(check(alloc, &bytes))
 }
 
-#[test]
-fn a_recorded_run_is_checked_yes(rt: HostRuntime) -> Result<(), Fail> {
-    let input =
-        b"begin 1\nbegin 20\nstep 1\nstep 3\nenter 20\nprobe 20\nput 20 5\nget 20\nowner 1\nno\nleave 20\nquit\nstep 1\n";
+/// The record of the run of an input, with so many numbers in the pool, is checked yes in both worlds.
+fn is_checked_yes(rt: &impl Abort, alloc: Global, k: u64, input: &[u8]) {
     for world in [WorldKind::Rename, WorldKind::Tree] {
-        let config = Config::new(world, 2, 4, 1000).expect(&rt, "a config");
-        let verdict = checked_record(rt.alloc(), config, input).expect(&rt, "a record");
+        let config = Config::new(world, 2, k, 1000).expect(rt, "a config");
+        let verdict = checked_record(alloc, config, input).expect(rt, "a record");
         assert_eq!(rt; verdict, Verdict::Yes);
     }
-    Ok(())
+}
+
+#[test]
+fn a_recorded_run_is_checked_yes(rt: HostRuntime) {
+    let input =
+        b"begin 1\nbegin 20\nstep 1\nstep 3\nenter 20\nprobe 20\nput 20 5\nget 20\nowner 1\nno\nleave 20\nquit\nstep 1\n";
+    is_checked_yes(&rt, rt.alloc(), 4, input);
 }
 
 /// Runs in which the pool gets more numbers, the last of which is held or free.
 #[test]
-fn recorded_runs_of_a_pool_that_widens(rt: HostRuntime) -> Result<(), Fail> {
+fn recorded_runs_of_a_pool_that_widens(rt: HostRuntime) {
     let held =
         b"enter 5\nprobe 5\nenter 6\nprobe 6\nenter 7\nwiden 2\nwiden 4\nenter 7\nprobe 7\nprobe 7\nleave 6\nprobe 7\n\
                  enter 8\nprobe 8\nprobe 8\nenter 9\nprobe 9\nprobe 9\nprobe 9\nenter 10\nput 9 5\nget 9\nwiden 65\n";
     let free = b"enter 5\nwiden 2\nprobe 5\nenter 6\nprobe 6\n";
-    for world in [WorldKind::Rename, WorldKind::Tree] {
-        let two = Config::new(world, 2, 2, 1000).expect(&rt, "a config");
-        let one = Config::new(world, 2, 1, 1000).expect(&rt, "a config");
-        let verdict = checked_record(rt.alloc(), two, held).expect(&rt, "a record");
-        assert_eq!(rt; verdict, Verdict::Yes);
-        let verdict = checked_record(rt.alloc(), one, free).expect(&rt, "a record");
-        assert_eq!(rt; verdict, Verdict::Yes);
-    }
-    Ok(())
+    is_checked_yes(&rt, rt.alloc(), 2, held);
+    is_checked_yes(&rt, rt.alloc(), 1, free);
 }

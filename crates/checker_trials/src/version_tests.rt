@@ -2,7 +2,7 @@
 
 use run_checker::{Reason, Verdict, check};
 use std::alloc::{AllocError, Global};
-use std::test::Fail;
+use std::process::Abort;
 
 /// Headers of the two versions: two participants, a pool of four numbers; each with its LF.
 const ONE: &str =
@@ -20,13 +20,20 @@ const PROPOSED: &str = "{\"command\":\"begin 10\",\"reply\":\"ok\"}
 /// An event line after the name, and its LF.
 const LATER: &str = "{\"command\":\"step 20\",\"reply\":\"proposed 1\"}\n";
 
-/// The verdict on these pieces of a record.
-fn verdict(alloc: Global, pieces: &[&str]) -> Result<Verdict, AllocError> {
-    let mut bytes = Vec::new(alloc);
+/// Appends these pieces.
+fn put_pieces(bytes: &mut Vec<u8>, pieces: &[&str]) -> Result<(), AllocError> {
     for piece in pieces {
         bytes.extend_from_slice(piece.as_bytes())?;
     }
-    Ok(check(alloc, &bytes))
+    Ok(())
+}
+
+/// Compares the verdict on these pieces of a record.
+fn is_judged(rt: &impl Abort, alloc: Global, pieces: &[&str], want: Verdict) {
+    let mut bytes = Vec::new(alloc);
+    put_pieces(&mut bytes, pieces).expect(rt, "room for a record");
+    let found = check(alloc, &bytes);
+    assert!(rt; found == want, "{pieces:?}: {found:?}");
 }
 
 /// What is said of a record of six lines by its fifth.
@@ -122,19 +129,17 @@ const FIFTH: [(&str, Verdict, Verdict); 17] = [
 ];
 
 #[test]
-fn lines_with_a_view(rt: HostRuntime) -> Result<(), Fail> {
+fn lines_with_a_view(rt: HostRuntime) {
     for (line, one, two) in FIFTH {
-        for (head, want) in [(ONE, one), (TWO, two)] {
-            let found = verdict(rt.alloc(), &[head, PROPOSED, line, "\n", LATER])?;
-            assert!(&rt; found == want, "{head}{line}: {found:?}");
-        }
+        is_judged(&rt, rt.alloc(), &[ONE, PROPOSED, line, "\n", LATER], one);
+        is_judged(&rt, rt.alloc(), &[TWO, PROPOSED, line, "\n", LATER], two);
     }
-    Ok(())
 }
 
 /// Views that are not well spelled.
 #[test]
-fn no_views(rt: HostRuntime) -> Result<(), Fail> {
+fn no_views(rt: HostRuntime) {
+    let line = "{\"command\":\"step 10\",\"reply\":\"named 1\",\"view\":\"";
     for view in [
         "",
         " ",
@@ -150,69 +155,66 @@ fn no_views(rt: HostRuntime) -> Result<(), Fail> {
         "10:18446744073709551616",
         "saw 10:1",
     ] {
-        let found = verdict(
-            rt.alloc(),
-            &[
-                TWO,
-                PROPOSED,
-                "{\"command\":\"step 10\",\"reply\":\"named 1\",\"view\":\"",
-                view,
-                "\"}",
-            ],
-        )?;
-        assert!(&rt; found == Verdict::BadRecord(5), "{view}: {found:?}");
+        let pieces = [TWO, PROPOSED, line, view, "\"}"];
+        is_judged(&rt, rt.alloc(), &pieces, Verdict::BadRecord(5));
     }
-    Ok(())
 }
 
-/// A view that was a moment before the last proposal, and one of a moment after it.
-#[test]
-fn views_from_before_and_after(rt: HostRuntime) -> Result<(), Fail> {
-    let alloc = rt.alloc();
-    let rows = "{\"command\":\"step 20\",\"reply\":\"proposed 1\"}
+/// Lines after which 10 may be named by two of its views.
+const ROWS: &str = "{\"command\":\"step 20\",\"reply\":\"proposed 1\"}
 {\"command\":\"step 10\",\"reply\":\"saw 10:1 20:1\"}
 {\"command\":\"step 10\",\"reply\":\"proposed 2\"}
 {\"command\":\"step 20\",\"reply\":\"proposed 3\"}
 {\"command\":\"step 10\",\"reply\":\"named 2\",\"view\":\"";
-    for (shown, want) in [
-        ("10:2 20:1", Verdict::Yes),
-        ("10:2 20:3", Verdict::Yes),
-        ("10:2", Verdict::No(9, Reason::Name)),
-        ("10:1 20:1", Verdict::No(9, Reason::Name)),
-        ("10:2 20:1 30:1", Verdict::No(9, Reason::Name)),
-    ] {
-        let found = verdict(alloc, &[TWO, PROPOSED, rows, shown, "\"}\n"])?;
-        assert!(&rt; found == want, "{shown}: {found:?}");
-    }
-    let again = "{\"command\":\"step 20\",\"reply\":\"proposed 2\"}
+
+/// Lines in which each of two proposes the same more than once.
+const AGAIN: &str = "{\"command\":\"step 20\",\"reply\":\"proposed 2\"}
 {\"command\":\"step 20\",\"reply\":\"proposed 1\"}
 {\"command\":\"step 10\",\"reply\":\"proposed 2\"}
 {\"command\":\"step 10\",\"reply\":\"proposed 1\"}
 {\"command\":\"step 20\",\"reply\":\"proposed 3\"}
 {\"command\":\"step 10\",\"reply\":\"named 1\",\"view\":\"";
-    for (shown, want) in [
-        ("10:1 20:3", Verdict::Yes),
-        ("10:1", Verdict::No(10, Reason::Name)),
-        ("10:1 20:1", Verdict::No(10, Reason::Name)),
-        ("10:1 20:2", Verdict::No(10, Reason::Name)),
+
+/// A view that was a moment before the last proposal, and one of a moment after it.
+#[test]
+fn views_from_before_and_after(rt: HostRuntime) {
+    let ninth = Verdict::No(9, Reason::Name);
+    let tenth = Verdict::No(10, Reason::Name);
+    for (rows, shown, want) in [
+        (ROWS, "10:2 20:1", Verdict::Yes),
+        (ROWS, "10:2 20:3", Verdict::Yes),
+        (ROWS, "10:2", ninth),
+        (ROWS, "10:1 20:1", ninth),
+        (ROWS, "10:2 20:1 30:1", ninth),
+        (AGAIN, "10:1 20:3", Verdict::Yes),
+        (AGAIN, "10:1", tenth),
+        (AGAIN, "10:1 20:1", tenth),
+        (AGAIN, "10:1 20:2", tenth),
     ] {
-        let found = verdict(alloc, &[TWO, PROPOSED, again, shown, "\"}\n"])?;
-        assert!(&rt; found == want, "{shown}: {found:?}");
+        is_judged(
+            &rt,
+            rt.alloc(),
+            &[TWO, PROPOSED, rows, shown, "\"}\n"],
+            want,
+        );
+    }
+}
+
+/// Appends a view of 65 participants.
+fn put_long_view(view: &mut String, alloc: Global) -> Result<(), AllocError> {
+    view.push_str("1:1")?;
+    for id in 2..=65u64 {
+        view.push_str(format!(in alloc; " {id}:1")?.as_str())?;
     }
     Ok(())
 }
 
 /// A view of more pairs than there may be participants is well spelled.
 #[test]
-fn a_long_view_of_a_name(rt: HostRuntime) -> Result<(), Fail> {
-    let alloc = rt.alloc();
-    let mut view = String::new(alloc);
-    view.push_str("1:1")?;
-    for id in 2..=65u64 {
-        view.push_str(format!(in alloc; " {id}:1")?.as_str())?;
-    }
+fn a_long_view_of_a_name(rt: HostRuntime) {
+    let mut view = String::new(rt.alloc());
+    put_long_view(&mut view, rt.alloc()).expect(&rt, "room for a view");
     let line = "{\"command\":\"step 10\",\"reply\":\"named 1\",\"view\":\"";
-    let found = verdict(alloc, &[TWO, PROPOSED, line, view.as_str(), "\"}"])?;
-    assert_eq!(&rt; found, Verdict::No(5, Reason::Name));
-    Ok(())
+    let pieces = [TWO, PROPOSED, line, view.as_str(), "\"}"];
+    is_judged(&rt, rt.alloc(), &pieces, Verdict::No(5, Reason::Name));
 }
