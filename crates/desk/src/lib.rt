@@ -47,6 +47,3 @@ pub use exchange::Exchange;
 pub use laws::{law_of_desk, law_of_names};
 pub use reply::Reply;
 pub use short_reply::ShortReply;
-
-#[cfg(test)]
-mod tests;

@@ -1,4 +1,4 @@
-//! Trials of the objects through their public calls, from a memory taken step by step to the places of a snapshot: rows
+//! Trials of the objects through their public calls, from a memory taken step by step to a desk: rows
 //! worked by hand, each refusal, the ends of each range, and heaps that have no room left.
 //!
 //! They stand in a crate of their own, as a package's integration tests do, so that proving them does not prove the objects
@@ -6,9 +6,13 @@
 #![tactic(auto)]
 
 #[cfg(test)]
+mod alone_tests;
+#[cfg(test)]
 mod board_tests;
 #[cfg(test)]
 mod collect_walk_tests;
+#[cfg(test)]
+mod desk_tests;
 #[cfg(test)]
 mod full_heap;
 #[cfg(test)]
@@ -21,6 +25,8 @@ mod places_tests;
 mod pool_tests;
 #[cfg(test)]
 mod raw_splitter_tests;
+#[cfg(test)]
+mod renaming_tests;
 #[cfg(test)]
 mod slots_tests;
 #[cfg(test)]

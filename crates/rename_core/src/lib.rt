@@ -43,8 +43,6 @@
 //! ```
 #![tactic(auto)]
 
-#[cfg(test)]
-mod alone_tests;
 pub mod config;
 pub mod laws;
 pub mod places;
@@ -52,8 +50,6 @@ pub mod proposal;
 pub mod reply;
 pub mod round;
 pub mod short_reply;
-#[cfg(test)]
-mod tests;
 pub mod world;
 
 pub use config::{Config, WorldKind};

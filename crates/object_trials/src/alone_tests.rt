@@ -1,6 +1,6 @@
 //! One who steps alone, wherever the others have stopped.
 
-use crate::{Config, RenamePlaces, RenameWorld, WorldKind};
+use rename_core::{Config, RenamePlaces, RenameWorld, WorldKind};
 use snapshot_places::{Grid, TreePlaces};
 use std::alloc::Global;
 use std::process::Abort;

@@ -2,11 +2,11 @@
 
 ghost use Rattle.std.specs.Prelude.{◌<◌};
 
-use crate::{
+use linked_list_allocator::LocalHeap;
+use rename_core::{
     Config, RenamePlaces, RenameWorld, Reply, ShortReply, WorldKind, fixed_rename_law,
     grid_rename_law, next_proposal, tree_rename_law,
 };
-use linked_list_allocator::LocalHeap;
 use snapshot_core::Fixed;
 use snapshot_places::{Grid, TreePlaces};
 use std::alloc::{Allocator, Global};

@@ -1,4 +1,6 @@
-use crate::{Desk, Event, Reply, ShortReply, law_of_desk, law_of_names};
+//! Schedules of names, of a pool and of its slots, played on one desk.
+
+use desk::{Desk, Event, Reply, ShortReply, law_of_desk, law_of_names};
 use linked_list_allocator::LocalHeap;
 use rename_core::{Config, WorldKind};
 use std::alloc::{Allocator, Global};
