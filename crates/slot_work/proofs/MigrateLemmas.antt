@@ -1,7 +1,6 @@
 -- how the migration of a record ends
-use Rattle.std.proofs.Common.{◌≡◌, ◌≢◌, ◌∙◌, ◌<◌, inl, inr, refl, sym, ap, subst, ℕ, List, Result, Ok, Err}
-use Rattle.std.specs.Io.KnownBytes.{Appends}
-use Rattle.run_checker.specs.Migrated.{IsMigrated, IsMigratedTo}
+use Rattle.std.proofs.Common.{◌≡◌, ◌≢◌, refl, ℕ, List, Ok}
+use Rattle.run_checker.specs.Migrated.{IsMigrated}
 use Rattle.run_checker.specs.Verdict.{IsVerdict}
 use Rattle.run_checker.specs.declared.verdict.Verdict.{Verdict}
 use Rattle.run_checker.specs.declared.verdict.Verdict.TheVariants.{Yes, No, BadRecord, NoMemory}

@@ -1,7 +1,7 @@
 -- what was read of an input
-use Rattle.std.proofs.Common.{◌≡◌, ◌∙◌, ◌++◌, ap, append_assoc, refl, sym, ℕ, List, [], Option, Some, None}
+use Rattle.std.proofs.Common.{◌∙◌, ◌++◌, ap, append_assoc, refl, sym, ℕ, List, [], Option, Some, None}
 use Rattle.std.proofs.lemmas.List.{append-nil}
-use Rattle.std.specs.Io.KnownBytes.{Consumes, IsAtEnd, Keeps}
+use Rattle.std.specs.Io.KnownBytes.{Consumes, IsAtEnd}
 use Rattle.schedule_player.specs.Played.{IsInput}
 
 pub nothing_read : (had : Option (List ℕ)) → Consumes had had []

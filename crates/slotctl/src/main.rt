@@ -13,11 +13,11 @@ use slot_words::{Misuse, refused};
 use slot_work::program::{program, report};
 use slot_work::{Failure, Outcome, in_sight, may_take_long};
 use std::alloc::Global;
+use std::env;
 use std::io::{ErrorKind, IsTerminal};
 use std::marker::Brand;
 use std::process::ExitCode;
 use std::sync::ledger::Blank;
-use std::{env, thread};
 
 // The words of the command line.
 fn command_words(rt: &HostRuntime) -> Result<Vec<String>, Misuse> {

@@ -1,4 +1,4 @@
-use Rattle.std.proofs.Common.{rules, ◌≡◌, ◌≢◌, subst, ap, refl, List, ℕ, Err}
+use Rattle.std.proofs.Common.{rules, ◌≡◌, ◌≢◌, subst, refl, List, ℕ, Err}
 use Rattle.std.specs.Io.KnownBytes.{Appends}
 use Rattle.run_checker.specs.Verdict.{IsVerdict}
 use Rattle.run_checker.specs.declared.verdict.Verdict.TheVariants.{NoMemory}

@@ -1,4 +1,4 @@
-use Rattle.std.proofs.Common.{◌≡◌, ◌+◌, ◌++◌, [], arith, refl, take, subst, ℕ, rules}
+use Rattle.std.proofs.Common.{◌≡◌, ◌++◌, [], arith, refl, take, subst, ℕ, rules}
 use Rattle.std.proofs.lemmas.List.{append-nil}
 use Rattle.std.specs.Io.KnownBytes.{Consumes}
 use Rattle.slot_work.proofs.ReadLemmas.{nothing_read, read_more, read_all}

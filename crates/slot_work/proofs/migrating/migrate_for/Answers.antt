@@ -1,4 +1,4 @@
-use Rattle.std.proofs.Common.{rules, ◌≡◌, ◌≢◌, ◌+◌, ◌^◌, ◌<◌, ◌≤◌, inl, inr, refl, sym, subst, ap, length, List, ℕ, Ok, Err}
+use Rattle.std.proofs.Common.{rules, ◌≡◌, ◌≢◌, ◌+◌, ◌^◌, ◌<◌, ◌≤◌, inr, refl, sym, subst, length, List, ℕ, Ok, Err}
 use Rattle.std.specs.Io.KnownBytes.{Appends}
 use Rattle.run_checker.specs.Migrated.{IsMigrated}
 use Rattle.run_checker.specs.declared.verdict.Verdict.{Verdict}
