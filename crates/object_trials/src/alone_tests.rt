@@ -109,6 +109,7 @@ where
     }
 }
 
+/// One of two over a grid.
 const IN_A_GRID: [Alone; 3] = [
     Alone {
         stopped: [0, 2],
@@ -132,6 +133,7 @@ fn one_stops_in_a_grid(rt: HostRuntime) {
     one_stops::<Grid<Global>>(&rt, rt.alloc(), WorldKind::Rename, &IN_A_GRID);
 }
 
+/// One of two over a tree.
 const IN_A_TREE: [Alone; 3] = [
     Alone {
         stopped: [0, 3],

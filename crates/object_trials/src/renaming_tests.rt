@@ -46,14 +46,16 @@ struct Schedule {
     proposals: &'static [(u64, u64)],
 }
 
-/// Two begin, 10 and then 20.
+/// 10 begins.
 const BEGINS_10: Row = Row::Begins(10, Ok(()));
 
+/// 20 begins.
 const BEGINS_20: Row = Row::Begins(20, Ok(()));
 
 /// A view in which both propose 1.
 const BOTH: &[(u64, u64)] = &[(10, 1), (20, 1)];
 
+/// Schedules over a grid.
 const GRID: [Schedule; 7] = [
     Schedule {
         title: "one alone where nobody else may be",
@@ -201,6 +203,7 @@ const GRID: [Schedule; 7] = [
     },
 ];
 
+/// Schedules over a tree.
 const TREE: [Schedule; 2] = [
     Schedule {
         title: "one alone",
@@ -239,6 +242,7 @@ const TREE: [Schedule; 2] = [
     },
 ];
 
+/// A schedule over segments in a row.
 const SEGMENTS: [Schedule; 1] = [Schedule {
     title: "two, of whom the second to begin steps first",
     m: 2,
@@ -262,7 +266,7 @@ const SEGMENTS: [Schedule; 1] = [Schedule {
     proposals: &[(10, 2), (20, 3)],
 }];
 
-/// Up to where memory is refused to 20, over a tree.
+/// Over a tree whose nodes are in a full heap: 20 is refused one.
 const BEFORE_MEMORY: [Row; 5] = [
     Row::Steps(10, 4, Last::Placed(1)),
     Row::Steps(10, 9, Last::Proposed(1)),
@@ -271,7 +275,7 @@ const BEFORE_MEMORY: [Row; 5] = [
     Row::Steps(20, 1, Last::Refused(Refusal::NoMemory)),
 ];
 
-/// From where there is memory again.
+/// With memory again.
 const WITH_MEMORY: [Row; 5] = [
     Row::Steps(20, 5, Last::Placed(3)),
     Row::Steps(20, 15, Last::Proposed(1)),
@@ -281,7 +285,7 @@ const WITH_MEMORY: [Row; 5] = [
 ];
 
 impl Last {
-    /// The outcome without the view.
+    /// What the step answers, without the view.
     fn outcome(&self) -> Result<ShortReply, Refusal> {
         match *self {
             Last::Quiet => Ok(ShortReply::Quiet),
@@ -549,9 +553,10 @@ where
     }
 }
 
-/// The worlds that are not played over a grid, and those that are not played over a tree.
+/// The worlds that are not played over a grid.
 const NOT_A_GRIDS: [WorldKind; 3] = [WorldKind::Splitter, WorldKind::Grid, WorldKind::Tree];
 
+/// The worlds that are not played over a tree.
 const NOT_A_TREES: [WorldKind; 3] = [WorldKind::Splitter, WorldKind::Grid, WorldKind::Rename];
 
 #[test]
