@@ -18,8 +18,6 @@
 pub mod asked;
 pub mod command_line;
 pub mod misuse;
-#[cfg(test)]
-mod tests;
 pub mod words;
 
 pub use asked::{Ask, Drawing, Playing, Serving};

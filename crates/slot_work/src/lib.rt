@@ -33,6 +33,8 @@ pub mod program;
 pub mod progress;
 #[cfg(test)]
 mod tests;
+#[cfg(test)]
+mod words_tests;
 pub mod working;
 
 pub use checking::check_for;

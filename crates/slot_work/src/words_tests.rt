@@ -1,7 +1,7 @@
 //! What words of a command line are read as.
 
-use crate::{Ask, Misuse, ask};
 use rename_core::WorldKind;
+use slot_words::{Ask, Misuse, ask};
 use std::alloc::Global;
 
 // What the words of a line ask for.
