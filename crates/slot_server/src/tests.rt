@@ -27,26 +27,6 @@ fn hall(rt: &impl Abort, alloc: Global, world: WorldKind) -> Hall {
     Hall::new(alloc, config(rt, world, 4)).expect(rt, "room for a hall")
 }
 
-/// The fault of a run over a hall for one participant, what went out, and the history.
-#[derive(Drop)]
-struct Run {
-    fault: Option<Fault>,
-    text: Vec<u8>,
-    hall: Hall,
-}
-
-fn over_a_hall<R: Abort>(rt: &R, alloc: Global, input: Drip<'_>, output: Cup) -> Run {
-    let mut hall = hall(rt, alloc, WorldKind::Rename);
-    let mut reader = Tried::new(input);
-    let mut writer = Tried::new(output);
-    let outcome = serve_one(rt, alloc, &mut reader, &mut writer, &mut hall);
-    Run {
-        fault: outcome.err(),
-        text: writer.into_inner().taken,
-        hall,
-    }
-}
-
 /// Whether the history of a hall has just these events.
 fn has_just(hall: &Hall, events: &[Event]) -> bool {
     if hall.len() != events.len() {
@@ -61,27 +41,46 @@ fn has_just(hall: &Hall, events: &[Event]) -> bool {
     true
 }
 
-/// Compares a run over a hall: its fault, what went out, and the events of the history.
-fn is_run(rt: &impl Abort, run: &Run, fault: Option<Fault>, text: &[u8], events: &[Event]) {
-    assert_eq!(rt; (run.fault, run.text.as_slice()), (fault, text));
-    assert!(rt; has_just(&run.hall, events));
+/// Serves an input over a hall for one participant, and compares the fault, what went out, and the events of the history.
+fn is_served(
+    rt: &impl Abort,
+    alloc: Global,
+    (input, output): (Drip<'_>, Cup),
+    (fault, text): (Option<Fault>, &[u8]),
+    events: &[Event],
+) {
+    let mut hall = hall(rt, alloc, WorldKind::Rename);
+    let mut reader = Tried::new(input);
+    let mut writer = Tried::new(output);
+    let outcome = serve_one(rt, alloc, &mut reader, &mut writer, &mut hall);
+    let taken = writer.into_inner().taken;
+    let is_so = outcome.err() == fault && taken.as_slice() == text;
+    assert!(rt; is_so && has_just(&hall, events));
 }
+
+/// What a run over a hall is asked, with no LF at its end.
+const ASKED: &[u8] = b"begin 7\nstep 7";
+
+/// Its events.
+const BOTH: [Event; 2] = [Event::Begin(7), Event::Step(7)];
 
 /// A read fault: the whole lines before it are answered, and stand in the history. An end in its place is the end of a line.
 #[test]
 fn a_read_fault_over_a_hall(rt: HostRuntime) {
-    let alloc = rt.alloc();
     law_of_serving();
-    let both = [Event::Begin(7), Event::Step(7)];
-    for (piece, end) in [(1, 15), (2, 8), (100, 2)] {
-        for (fails_at, fault, text, events) in [
-            (end, Some(Fault::Read), b"ok\n".as_slice(), &both[..1]),
-            (0, None, b"ok\nquiet\n", both.as_slice()),
-        ] {
-            let input = Drip::new(b"begin 7\nstep 7", piece, fails_at);
-            let run = over_a_hall(&rt, alloc, input, Cup::new(alloc, 1000, 0, false));
-            is_run(&rt, &run, fault, text, events);
-        }
+    let misread = (Some(Fault::Read), b"ok\n".as_slice());
+    let whole = (None, b"ok\nquiet\n".as_slice());
+    for (piece, fails_at, said, events) in [
+        (1, 15, misread, &BOTH[..1]),
+        (1, 0, whole, &BOTH),
+        (2, 8, misread, &BOTH[..1]),
+        (2, 0, whole, &BOTH),
+        (100, 2, misread, &BOTH[..1]),
+        (100, 0, whole, &BOTH),
+    ] {
+        let input = Drip::new(ASKED, piece, fails_at);
+        let output = Cup::new(rt.alloc(), 1000, 0, false);
+        is_served(&rt, rt.alloc(), (input, output), said, events);
     }
 }
 
@@ -89,9 +88,9 @@ fn a_read_fault_over_a_hall(rt: HostRuntime) {
 #[test]
 fn a_write_fault_over_a_hall(rt: HostRuntime) {
     let input = Drip::new(b"begin 7\nstep 7\n", 100, 0);
-    let run = over_a_hall(&rt, rt.alloc(), input, Cup::new(rt.alloc(), 3, 2, false));
-    let both = [Event::Begin(7), Event::Step(7)];
-    is_run(&rt, &run, Some(Fault::Write), b"ok\n", &both);
+    let output = Cup::new(rt.alloc(), 3, 2, false);
+    let said = (Some(Fault::Write), b"ok\n".as_slice());
+    is_served(&rt, rt.alloc(), (input, output), said, &BOTH);
 }
 
 /// Counts what it is told.
@@ -142,18 +141,23 @@ fn is_told(rt: &impl Abort, alloc: Global, input: &[u8], piece: usize) -> (u64, 
     )
 }
 
+/// Compares what a gate is told where bytes come in such pieces.
+fn are_told(rt: &impl Abort, alloc: Global, piece: usize) {
+    for (input, lines) in [
+        (b"begin 7\n\nstep 7\nowner 1".as_slice(), 4),
+        (b"begin 7\n", 1),
+        (b"", 0),
+    ] {
+        let told = is_told(rt, alloc, input, piece);
+        assert_eq!(rt; told, (lines, lines, lines, 0), "{piece} {input:?}");
+    }
+}
+
 /// However the bytes are cut, a gate is told of each line once, the last with no LF too, and of each reply once.
 #[test]
 fn a_gate_is_told_of_lines_and_replies(rt: HostRuntime) {
     for piece in [1, 3, 8, 100] {
-        for (input, lines) in [
-            (b"begin 7\n\nstep 7\nowner 1".as_slice(), 4),
-            (b"begin 7\n".as_slice(), 1),
-            (b"".as_slice(), 0),
-        ] {
-            let told = is_told(&rt, rt.alloc(), input, piece);
-            assert_eq!(rt; told, (lines, lines, lines, 0), "{piece} {input:?}");
-        }
+        are_told(&rt, rt.alloc(), piece);
     }
 }
 
