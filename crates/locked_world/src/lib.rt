@@ -56,8 +56,3 @@ pub use laws::{law_of_hall, law_of_serving};
 pub use names::{agrees, post_name};
 pub use parts::{Clerk, HallLock, Session};
 pub use serving_clerk::ServingClerk;
-
-#[cfg(test)]
-mod board_tests;
-#[cfg(test)]
-mod tests;

@@ -34,8 +34,6 @@ pub mod connections;
 pub mod gate;
 pub mod server_fault;
 pub mod serving;
-#[cfg(test)]
-mod tests;
 pub mod watched;
 pub mod workers;
 

@@ -1,0 +1,11 @@
+use Rattle.std.proofs.Common.{rules, ◌≡◌, ◌++◌, [], ◌∷◌}
+use Rattle.std.proofs.lemmas.List.Elements.{All-push}
+use Rattle.hall_trials.proofs.board_tests.four_jobs.Goals as goal
+
+pub loop-id-preserved : goal.loop-id-preserved
+loop-id-preserved g c =
+    let longer : c.push.new.self.items ≡ c.loop-id.jobs.items ++ record { session = c.in_ok-session.session; seat = c.reader-seat.result } ∷ [] = c.in-Ok.ensures.items in
+    record {
+      own = search rules;
+      seats = rw longer (All-push (λ j. j.seat ≡ c.args.board.now) c.loop-id.jobs.items (record { session = c.in_ok-session.session; seat = c.reader-seat.result }) c.loop-id.invariant.seats c.reader-seat.ensures.new);
+    }

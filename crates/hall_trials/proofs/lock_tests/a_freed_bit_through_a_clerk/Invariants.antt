@@ -1,0 +1,4 @@
+use Rattle.hall_trials.proofs.lock_tests.a_freed_bit_through_a_clerk.Given as goal
+
+abbrev pub ghosts-pool_by_clerk : goal.ghosts-pool_by_clerk
+ghosts-pool_by_clerk g a = record { name = a.blank.name; parts = a.blank.parts }

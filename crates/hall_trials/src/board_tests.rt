@@ -1,0 +1,278 @@
+//! Sessions of a lock that post their names on a board.
+
+ghost use Rattle.std.specs.Prelude.{◌≡◌, All, IfSome};
+
+use crate::lock_tests::{begins, closed, opened, with};
+use locked_world::{Closed, HallLock, Session, agrees, post_name};
+use raw_parts::{Board, Grant, ReaderSeat};
+use rename_core::WorldKind;
+use std::alloc::Global;
+use std::marker::Brand;
+use std::process::Abort;
+use std::sync::Wait;
+use std::sync::ledger::{Blank, Ledger};
+use std::thread;
+use std::thread::Threads;
+
+/// Whose name it is, by a grant, if there is one.
+fn granted(grant: &Option<Grant>) -> Option<(u64, u64)> {
+    grant.as_ref().map(|grant| (grant.name(), grant.identity()))
+}
+
+/// Looks whether a name is an identity's, and compares what is told.
+fn looks(
+    rt: &impl Abort,
+    board: &Board<Global>,
+    seat: &mut ReaderSeat,
+    word: (u64, u64),
+    is_so: bool,
+)
+    requires { seat.old ≡ board.now }
+    ensures { seat.new ≡ board.now }
+{
+    let told = granted(&board.confirm(seat, word.0, word.1));
+    assert_eq!(rt; told, is_so.then_some(word), "{word:?}");
+}
+
+/// What a third seat is told, on a board where 1 is 10's, 3 is 20's and 2 is free.
+fn looks_at_names(rt: &impl Abort, board: &Board<Global>, seat: &mut ReaderSeat)
+    requires { seat.old ≡ board.now }
+    ensures { seat.new ≡ board.now }
+{
+    looks(rt, board, seat, (3, 20), true);
+    looks(rt, board, seat, (1, 20), false);
+    looks(rt, board, seat, (2, 10), false);
+    looks(rt, board, seat, (9, 10), false);
+    looks(rt, board, seat, (2, 0), false);
+    assert_eq!(rt; (board.owner(3), board.owner(2)), (Some(20), None));
+}
+
+/// Posts a name that a session must have.
+fn posts<L: Ledger>(
+    rt: &impl Abort,
+    board: &Board<Global>,
+    session: &Session<L>,
+    seat: &mut ReaderSeat,
+    want: (u64, u64),
+) -> Grant
+    requires { seat.old ≡ board.now }
+    ensures seat { seat.new ≡ board.now }
+    ensures grant { result.board ≡ board.now }
+{
+    let grant = post_name(session, board, seat).expect(rt, "a session that is named");
+    assert_eq!(rt; (grant.name(), grant.identity()), want);
+    grant
+}
+
+/// 10 is named by its 17th step, and posts its name; before, it had none.
+fn ten_is_named<L: Ledger, R: Abort + Wait>(
+    rt: &R,
+    lock: &HallLock<L>,
+    board: &Board<Global>,
+    session: &mut Session<L>,
+    seat: &mut ReaderSeat,
+) -> Grant
+    requires { seat.old ≡ board.now }
+    ensures seat { seat.new ≡ board.now }
+    ensures grant { result.board ≡ board.now }
+{
+    assert!(rt; post_name(session, board, seat).is_none());
+    assert_eq!(rt; lock.rename(rt, session, 17), Ok(Some(1)));
+    posts(rt, board, session, seat, (1, 10))
+}
+
+/// 20 is named by its 32nd step, and posts its name twice; 10's name it doesn't get.
+fn twenty_is_named<L: Ledger, R: Abort + Wait>(
+    rt: &R,
+    lock: &HallLock<L>,
+    board: &Board<Global>,
+    session: &mut Session<L>,
+    seat: &mut ReaderSeat,
+) -> Grant
+    requires { seat.old ≡ board.now }
+    ensures seat { seat.new ≡ board.now }
+    ensures grant { result.board ≡ board.now }
+{
+    assert_eq!(rt; lock.rename(rt, session, 100), Ok(Some(3)));
+    assert_eq!(rt; session.count(), 33);
+    assert!(rt; board.post(seat, 1, 20).is_none());
+    let _ = posts(rt, board, session, seat, (3, 20));
+    posts(rt, board, session, seat, (3, 20))
+}
+
+/// The words of the closed board agree with the closed history, and so do free ones; others do not.
+fn words_agree(rt: &impl Abort, closed: &Closed, words: &[u64]) {
+    assert_eq!(rt; words, [10, 0, 20].as_slice());
+    for (words, agree) in [
+        (words, true),
+        (&[0, 0, 0], true),
+        (&[10, 20, 0], false),
+        (&[10, 0, 20, 30], false),
+    ] {
+        assert_eq!(rt; agrees(closed, words), agree, "{words:?}");
+    }
+}
+
+/// Two sessions post their names on a board of three. How many events the closed history has.
+fn two_sessions<L: Ledger, R: Abort + Wait>(rt: &R, alloc: Global, blank: Blank) -> usize
+    requires name { blank.name ≡ L.name }
+    requires parts { (blank.parts ≡ L.parts) × (L.parts ≡ 1000001) }
+{
+    let lock = opened::<L, _>(rt, alloc, (WorldKind::Rename, 2, 4), blank);
+    let (board, mut first) = Board::new(alloc, 3).expect(rt, "room for a board");
+    let mut second = board.reader(&mut first);
+    let mut third = board.reader(&mut first);
+    let mut ten = begins(rt, alloc, &lock, 10);
+    let mut one = ten_is_named(rt, &lock, &board, &mut ten, &mut first);
+    let mut twenty = begins(rt, alloc, &lock, 20);
+    let mut two = twenty_is_named(rt, &lock, &board, &mut twenty, &mut second);
+    looks_at_names(rt, &board, &mut third);
+    board.meet(&mut one, &mut two);
+    let sessions = with(rt, with(rt, Vec::new(alloc), ten), twenty);
+    let closed = closed(rt, alloc, lock, sessions, Vec::new(alloc));
+    let words = board.close(two).expect(rt, "room for the words");
+    words_agree(rt, &closed, &words);
+    closed.hall.len()
+}
+
+#[test]
+fn two_sessions_post_their_names(rt: HostRuntime) {
+    let length = two_sessions::<Brand, _>(&rt, rt.alloc(), Blank::new(1_000_001));
+    assert_eq!(rt; length, 51);
+}
+
+/// What a thread is given: a session, and a seat of the board.
+#[derive(Drop)]
+struct Job<L: Ledger> {
+    session: Session<L>,
+    seat: ReaderSeat,
+}
+
+/// What a thread hands back: its session, and the grant of its name.
+#[derive(Drop)]
+struct Posted<L: Ledger> {
+    session: Session<L>,
+    grant: Option<Grant>,
+}
+
+/// Steps until the session is named, and posts the name, once the lock was released.
+fn rename_and_post<L: Ledger, R: Wait>(
+    rt: &R,
+    lock: &HallLock<L>,
+    board: &Board<Global>,
+    job: Job<L>,
+) -> Posted<L>
+    requires { job.seat ≡ board.now }
+    ensures { IfSome result.grant (λ g. g.board ≡ board.now) }
+{
+    let Job {
+        mut session,
+        mut seat,
+    } = job;
+    let _ = lock.rename(rt, &mut session, 100_000);
+    let grant = post_name(&session, board, &mut seat);
+    Posted { session, grant }
+}
+
+/// The same by as many threads.
+fn all_posted<L: Ledger + Send + Sync, R: Threads + Wait + Sync>(
+    rt: &R,
+    lock: &HallLock<L>,
+    board: &Board<Global>,
+    jobs: Vec<Job<L>>,
+) -> Option<Vec<Posted<L>>>
+    requires { All (λ j. j.seat ≡ board.now) jobs.items }
+    ensures { IfSome result (λ v. All (λ p. IfSome p.grant (λ g. g.board ≡ board.now)) v.items) }
+{
+    thread::map_vec(rt, jobs, &|job| rename_and_post(rt, lock, board, job)).ok()
+}
+
+/// Takes what one thread handed back: its session is put beside the others, and its grant is answered.
+fn take_one<L: Ledger>(
+    rt: &impl Abort,
+    board: &Board<Global>,
+    done: &mut Vec<Posted<L>>,
+    sessions: &mut Vec<Session<L>>,
+) -> Grant
+    requires { All (λ p. IfSome p.grant (λ g. g.board ≡ board.now)) done.old.items }
+    ensures rest { All (λ p. IfSome p.grant (λ g. g.board ≡ board.now)) done.new.items }
+    ensures grant { result.board ≡ board.now }
+{
+    let Posted { session, grant } = done.pop().expect(rt, "one for each thread");
+    sessions.push(session).ok().expect(rt, "room for a session");
+    grant.expect(rt, "one that is named posts its name")
+}
+
+/// A session and a seat for each of four identities.
+fn four_jobs<L: Ledger, R: Wait>(
+    rt: &R,
+    alloc: Global,
+    lock: &HallLock<L>,
+    board: &Board<Global>,
+    seat: &mut ReaderSeat,
+) -> Option<Vec<Job<L>>>
+    requires { seat.old ≡ board.now }
+    ensures { IfSome result (λ v. All (λ j. j.seat ≡ board.now) v.items) }
+{
+    let mut jobs = Vec::new(alloc);
+    for id in 1..=4u64 {
+        let session = lock.session(rt, alloc, id).ok()?;
+        let seat = board.reader(seat);
+        let Ok(()) = jobs.push(Job { session, seat }) else {
+            return None;
+        };
+    }
+    Some(jobs)
+}
+
+/// Every two of four grants meet.
+fn all_meet(
+    board: &Board<Global>,
+    one: &mut Grant,
+    two: &mut Grant,
+    three: &mut Grant,
+    four: &mut Grant,
+)
+    requires { (one.old.board ≡ board.now) × (two.old.board ≡ board.now) × (three.old.board ≡ board.now) × (four.old.board ≡ board.now) }
+    ensures { four.new.board ≡ board.now }
+{
+    board.meet(one, two);
+    board.meet(one, three);
+    board.meet(one, four);
+    board.meet(two, three);
+    board.meet(two, four);
+    board.meet(three, four);
+}
+
+/// Four threads are named and post their names; then every two grants meet. Whether the words are those four, and agree with
+/// the closed history.
+fn four_post<L: Ledger + Send + Sync, R: Abort + Threads + Wait + Sync>(
+    rt: &R,
+    alloc: Global,
+    blank: Blank,
+) -> bool
+    requires name { blank.name ≡ L.name }
+    requires parts { (blank.parts ≡ L.parts) × (L.parts ≡ 1000001) }
+{
+    let lock = opened::<L, _>(rt, alloc, (WorldKind::Rename, 4, 4), blank);
+    let (board, mut seat) = Board::new(alloc, 7).expect(rt, "room for a board");
+    let jobs = four_jobs(rt, alloc, &lock, &board, &mut seat).expect(rt, "four sessions");
+    let mut done = all_posted(rt, &lock, &board, jobs).expect(rt, "room for what threads answer");
+    let mut sessions = Vec::new(alloc);
+    let mut one = take_one(rt, &board, &mut done, &mut sessions);
+    let mut two = take_one(rt, &board, &mut done, &mut sessions);
+    let mut three = take_one(rt, &board, &mut done, &mut sessions);
+    let mut four = take_one(rt, &board, &mut done, &mut sessions);
+    all_meet(&board, &mut one, &mut two, &mut three, &mut four);
+    let words = board.close(four).expect(rt, "room for the words");
+    let closed = closed(rt, alloc, lock, sessions, Vec::new(alloc));
+    let posted = words.iter().filter(|word| **word != 0).count();
+    posted == 4 && agrees(&closed, &words)
+}
+
+#[test]
+fn four_threads_post_their_names(rt: HostRuntime) {
+    for _ in 0..20 {
+        assert!(rt; four_post::<Brand, _>(&rt, rt.alloc(), Blank::new(1_000_001)));
+    }
+}

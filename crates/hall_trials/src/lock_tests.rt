@@ -1,0 +1,552 @@
+//! Halls, and locks round them, through sessions and clerks, one after another and by threads at once.
+
+ghost use Rattle.std.specs.Prelude.{◌≡◌};
+
+use desk::{Event, Reply};
+use locked_world::{Act, Clerk, Closed, Hall, HallLock, Missing, Session, law_of_hall};
+use rename_core::{Config, WorldKind};
+use std::alloc::Global;
+use std::marker::Brand;
+use std::process::Abort;
+use std::sync::Wait;
+use std::sync::ledger::{Blank, Ledger};
+use std::thread;
+use std::thread::Threads;
+use step_memory::{Refusal, View};
+
+/// The view in which one identity has proposed a number.
+fn sole(id: u64, number: u64) -> View {
+    let mut view = View::new();
+    view.insert(id, number);
+    view
+}
+
+/// A config of this world, for so many participants and numbers.
+fn config(rt: &impl Abort, (world, m, k): (WorldKind, u64, u64)) -> Config {
+    Config::new(world, m, k, 1000).expect(rt, "a config in range")
+}
+
+/// A hall of this world, for so many participants and numbers.
+fn hall(rt: &impl Abort, alloc: Global, shape: (WorldKind, u64, u64)) -> Hall {
+    Hall::new(alloc, config(rt, shape)).expect(rt, "room for a hall")
+}
+
+/// Applies an event to a hall and compares its reply, what would be refused with what is, and what is stored.
+fn applies(rt: &impl Abort, hall: &mut Hall, event: Event, want: &Reply) {
+    let before = hall.len();
+    let due = hall.refusal(event);
+    let reply = hall.apply(event);
+    assert!(rt; reply == *want, "{event:?}: {reply:?}");
+    if let Reply::Refused(refusal) = reply {
+        assert_eq!(rt; (due, hall.len()), (Some(refusal), before), "{event:?}");
+        return;
+    }
+    assert_eq!(rt;
+        (due, Some(hall.len())),
+        (None, before.checked_add(1)),
+        "{event:?}"
+    );
+    let stored = hall.get(before).expect(rt, "an accepted event is stored");
+    assert!(rt; stored.event == event && stored.reply == reply, "{event:?}");
+}
+
+/// Applies events to a hall, with these replies. How long the history is then.
+fn all_apply(rt: &impl Abort, hall: &mut Hall, rows: &[(Event, Reply)]) -> usize {
+    for (event, want) in rows {
+        applies(rt, hall, *event, want);
+    }
+    hall.len()
+}
+
+/// Makes so many steps of 7, of which the last answers this and those before it are quiet.
+fn steps(rt: &impl Abort, hall: &mut Hall, count: usize, last: &Reply) {
+    for _ in 1..count {
+        applies(rt, hall, Event::Step(7), &Reply::Quiet);
+    }
+    applies(rt, hall, Event::Step(7), last);
+}
+
+/// The way of 7 in a hall: after how many steps each what is answered.
+fn seven_goes(rt: &impl Abort, hall: &mut Hall, rows: &[(usize, Reply)]) {
+    applies(rt, hall, Event::Step(7), &Reply::Refused(Refusal::NotBegun));
+    applies(rt, hall, Event::Begin(7), &Reply::Ok);
+    for (count, last) in rows {
+        steps(rt, hall, *count, last);
+    }
+}
+
+/// Compares what is told of a name.
+fn is_told(rt: &impl Abort, name: u64, reply: &Reply, want: &Reply) {
+    assert!(rt; *reply == *want, "{name}: {reply:?}");
+}
+
+/// Compares who has these names in a hall.
+fn owners_are(rt: &impl Abort, hall: &Hall, rows: &[(u64, Reply)]) {
+    for (name, want) in rows {
+        is_told(rt, *name, &hall.owner(*name), want);
+    }
+}
+
+/// 7 goes its way alone in a hall of this world, and then names have these owners. How long the history is then.
+fn one_goes(
+    rt: &impl Abort,
+    alloc: Global,
+    shape: (WorldKind, u64, u64),
+    steps: &[(usize, Reply)],
+    owners: &[(u64, Reply)],
+) -> usize {
+    let mut hall = hall(rt, alloc, shape);
+    seven_goes(rt, &mut hall, steps);
+    owners_are(rt, &hall, owners);
+    let length = hall.len();
+    law_of_hall(&hall);
+    length
+}
+
+/// One participant alone, in both worlds: a refused event leaves no trace in the history.
+#[test]
+fn one_in_a_hall(rt: HostRuntime) {
+    let steps = [
+        (4, Reply::Place(0)),
+        (3, Reply::Proposed(1)),
+        (2, Reply::Named(1, sole(7, 1))),
+        (1, Reply::Refused(Refusal::Finished)),
+    ];
+    let owners = [
+        (1, Reply::Owner(Some(7))),
+        (2, Reply::Refused(Refusal::OutOfRange)),
+    ];
+    let grid = one_goes(&rt, rt.alloc(), (WorldKind::Rename, 1, 4), &steps, &owners);
+    let steps = [
+        (5, Reply::Place(1)),
+        (9, Reply::Proposed(1)),
+        (8, Reply::Named(1, sole(7, 1))),
+    ];
+    let owners = [(3, Reply::Owner(None))];
+    let tree = one_goes(&rt, rt.alloc(), (WorldKind::Tree, 2, 4), &steps, &owners);
+    assert_eq!(rt; (grid, tree), (10, 23));
+}
+
+/// The pool of a hall widens while its last number is held, and the history has that too.
+#[test]
+fn a_hall_whose_pool_widens(rt: HostRuntime) {
+    let mut hall = hall(&rt, rt.alloc(), (WorldKind::Tree, 4, 2));
+    let rows = [
+        (Event::Enter(5), Reply::Ok),
+        (Event::Probe(5), Reply::Got(1)),
+        (Event::Enter(6), Reply::Ok),
+        (Event::Probe(6), Reply::Got(2)),
+        (Event::Enter(7), Reply::Refused(Refusal::Crowded)),
+        (Event::Widen(2), Reply::Refused(Refusal::OutOfRange)),
+        (Event::Widen(4), Reply::Ok),
+        (Event::Enter(7), Reply::Ok),
+        (Event::Probe(7), Reply::Missed),
+        (Event::Probe(7), Reply::Missed),
+        (Event::Leave(6), Reply::Left(2)),
+        (Event::Probe(7), Reply::Got(3)),
+        (Event::Enter(8), Reply::Ok),
+        (Event::Probe(8), Reply::Missed),
+        (Event::Probe(8), Reply::Got(2)),
+        (Event::Enter(9), Reply::Ok),
+        (Event::Probe(9), Reply::Missed),
+        (Event::Probe(9), Reply::Missed),
+        (Event::Probe(9), Reply::Got(4)),
+        (Event::Enter(10), Reply::Refused(Refusal::Crowded)),
+        (Event::Put(9, 5), Reply::Ok),
+        (Event::Get(9), Reply::Value(5)),
+        (Event::Widen(65), Reply::Refused(Refusal::OutOfRange)),
+    ];
+    assert_eq!(rt; all_apply(&rt, &mut hall, &rows), 19);
+}
+
+/// Halls are opened where names are given alone.
+#[test]
+fn worlds_of_halls(rt: HostRuntime) {
+    for (world, given) in [
+        (WorldKind::Splitter, false),
+        (WorldKind::Grid, false),
+        (WorldKind::Rename, true),
+        (WorldKind::Tree, true),
+    ] {
+        let is_made = Hall::new(rt.alloc(), config(&rt, (world, 2, 4))).is_ok();
+        assert_eq!(rt; is_made, given, "{world:?}");
+    }
+}
+
+/// A history of a million events is full, which is said where nothing else is due.
+#[test]
+fn a_full_history(rt: HostRuntime) {
+    let mut hall = hall(&rt, rt.alloc(), (WorldKind::Rename, 1, 1));
+    hall.apply(Event::Enter(5));
+    hall.apply(Event::Probe(5));
+    for value in 2..1_000_000 {
+        hall.apply(Event::Put(5, value));
+    }
+    assert_eq!(rt; hall.len(), 1_000_000);
+    for (event, refusal) in [
+        (Event::Get(5), Refusal::HistoryFull),
+        (Event::Leave(5), Refusal::HistoryFull),
+        (Event::Begin(7), Refusal::HistoryFull),
+        (Event::Widen(2), Refusal::HistoryFull),
+        (Event::Widen(1), Refusal::OutOfRange),
+        (Event::Get(6), Refusal::NotCompeting),
+        (Event::Begin(0), Refusal::ZeroIdentity),
+    ] {
+        applies(&rt, &mut hall, event, &Reply::Refused(refusal));
+    }
+}
+
+/// A lock round a hall of this world, for so many participants and numbers.
+pub(crate) fn opened<L: Ledger, R: Abort>(
+    rt: &R,
+    alloc: Global,
+    shape: (WorldKind, u64, u64),
+    blank: Blank,
+) -> HallLock<L>
+    requires name { blank.name ≡ L.name }
+    requires parts { (blank.parts ≡ L.parts) × (L.parts ≡ 1000001) }
+{
+    HallLock::<L>::new(alloc, config(rt, shape), blank).expect(rt, "room for a hall")
+}
+
+/// The closed history of a lock, where these are all its callers.
+pub(crate) fn closed<L: Ledger>(
+    rt: &impl Abort,
+    alloc: Global,
+    lock: HallLock<L>,
+    sessions: Vec<Session<L>>,
+    clerks: Vec<Clerk<L>>,
+) -> Closed {
+    let closed = lock.close(alloc, sessions, clerks).ok();
+    closed.expect(rt, "each caller is handed in")
+}
+
+/// A list of one more.
+pub(crate) fn with<T: Drop>(rt: &impl Abort, list: Vec<T>, one: T) -> Vec<T> {
+    let mut list = list;
+    list.push(one).ok().expect(rt, "room for one more");
+    list
+}
+
+/// A clerk applies events, with these replies.
+fn clerk_applies<L: Ledger, R: Abort + Wait>(
+    rt: &R,
+    lock: &HallLock<L>,
+    clerk: &mut Clerk<L>,
+    rows: &[(Event, Reply)],
+) {
+    for (event, want) in rows {
+        let reply = lock.apply(rt, clerk, *event);
+        assert!(rt; reply == *want, "{event:?}: {reply:?}");
+    }
+}
+
+/// The row of one participant alone, through a clerk. How many events the closed history has.
+fn one_by_clerk<L: Ledger, R: Abort + Wait>(rt: &R, alloc: Global, blank: Blank) -> usize
+    requires name { blank.name ≡ L.name }
+    requires parts { (blank.parts ≡ L.parts) × (L.parts ≡ 1000001) }
+{
+    let lock = opened::<L, _>(rt, alloc, (WorldKind::Rename, 1, 4), blank);
+    let mut clerk = lock.clerk(rt, alloc).expect(rt, "room for a clerk");
+    let step = Event::Step(7);
+    let rows = [
+        (Event::Begin(7), Reply::Ok),
+        (step, Reply::Quiet),
+        (step, Reply::Quiet),
+        (step, Reply::Quiet),
+        (step, Reply::Place(0)),
+        (step, Reply::Quiet),
+        (step, Reply::Quiet),
+        (step, Reply::Proposed(1)),
+        (step, Reply::Quiet),
+        (step, Reply::Named(1, sole(7, 1))),
+        (step, Reply::Refused(Refusal::Finished)),
+    ];
+    clerk_applies(rt, &lock, &mut clerk, &rows);
+    is_told(rt, 1, &lock.owner(rt, 1), &Reply::Owner(Some(7)));
+    is_told(
+        rt,
+        2,
+        &lock.owner(rt, 2),
+        &Reply::Refused(Refusal::OutOfRange),
+    );
+    let clerks = with(rt, Vec::new(alloc), clerk);
+    closed(rt, alloc, lock, Vec::new(alloc), clerks).hall.len()
+}
+
+#[test]
+fn one_through_a_clerk(rt: HostRuntime) {
+    let length = one_by_clerk::<Brand, _>(&rt, rt.alloc(), Blank::new(1_000_001));
+    assert_eq!(rt; length, 10);
+}
+
+/// A row of the pool, through a clerk, with so many numbers.
+fn pool_by_clerk<L: Ledger, R: Abort + Wait>(
+    rt: &R,
+    alloc: Global,
+    blank: Blank,
+    k: u64,
+    rows: &[(Event, Reply)],
+) -> usize
+    requires name { blank.name ≡ L.name }
+    requires parts { (blank.parts ≡ L.parts) × (L.parts ≡ 1000001) }
+{
+    let lock = opened::<L, _>(rt, alloc, (WorldKind::Tree, 2, k), blank);
+    let mut clerk = lock.clerk(rt, alloc).expect(rt, "room for a clerk");
+    clerk_applies(rt, &lock, &mut clerk, rows);
+    clerk.count()
+}
+
+#[test]
+fn one_number_through_a_clerk(rt: HostRuntime) {
+    let rows = [
+        (Event::Enter(5), Reply::Ok),
+        (Event::Probe(5), Reply::Got(1)),
+        (Event::Enter(6), Reply::Refused(Refusal::Crowded)),
+        (Event::Enter(5), Reply::Refused(Refusal::AlreadyCompeting)),
+        (Event::Leave(5), Reply::Left(1)),
+        (Event::Enter(6), Reply::Ok),
+    ];
+    let count = pool_by_clerk::<Brand, _>(&rt, rt.alloc(), Blank::new(1_000_001), 1, &rows);
+    assert_eq!(rt; count, 4);
+}
+
+#[test]
+fn a_freed_bit_through_a_clerk(rt: HostRuntime) {
+    let rows = [
+        (Event::Enter(5), Reply::Ok),
+        (Event::Probe(5), Reply::Got(1)),
+        (Event::Enter(6), Reply::Ok),
+        (Event::Probe(6), Reply::Missed),
+        (Event::Probe(6), Reply::Got(2)),
+        (Event::Enter(7), Reply::Ok),
+        (Event::Probe(7), Reply::Missed),
+        (Event::Leave(5), Reply::Left(1)),
+        (Event::Probe(7), Reply::Got(3)),
+        (Event::Enter(8), Reply::Ok),
+        (Event::Probe(8), Reply::Got(1)),
+        (Event::Enter(9), Reply::Refused(Refusal::Crowded)),
+    ];
+    let count = pool_by_clerk::<Brand, _>(&rt, rt.alloc(), Blank::new(1_000_001), 3, &rows);
+    assert_eq!(rt; count, 11);
+}
+
+#[test]
+fn a_wider_pool_through_a_clerk(rt: HostRuntime) {
+    let rows = [
+        (Event::Enter(5), Reply::Ok),
+        (Event::Widen(2), Reply::Ok),
+        (Event::Probe(5), Reply::Got(1)),
+        (Event::Enter(6), Reply::Ok),
+        (Event::Probe(6), Reply::Got(2)),
+        (Event::Widen(2), Reply::Refused(Refusal::OutOfRange)),
+    ];
+    let count = pool_by_clerk::<Brand, _>(&rt, rt.alloc(), Blank::new(1_000_001), 1, &rows);
+    assert_eq!(rt; count, 5);
+}
+
+#[test]
+fn a_slot_through_a_clerk(rt: HostRuntime) {
+    let rows = [
+        (Event::Enter(5), Reply::Ok),
+        (Event::Leave(5), Reply::Refused(Refusal::NotHolding)),
+        (Event::Probe(5), Reply::Got(1)),
+        (Event::Probe(5), Reply::Refused(Refusal::Holding)),
+        (Event::Put(5, 77), Reply::Ok),
+        (Event::Get(5), Reply::Value(77)),
+        (Event::Leave(5), Reply::Left(1)),
+        (Event::Get(5), Reply::Refused(Refusal::NotCompeting)),
+        (Event::Enter(6), Reply::Ok),
+        (Event::Get(6), Reply::Refused(Refusal::NotHolding)),
+        (Event::Probe(6), Reply::Got(1)),
+        (Event::Get(6), Reply::Value(77)),
+    ];
+    let count = pool_by_clerk::<Brand, _>(&rt, rt.alloc(), Blank::new(1_000_001), 2, &rows);
+    assert_eq!(rt; count, 8);
+}
+
+/// A session acts, with these replies.
+fn session_acts<L: Ledger, R: Abort + Wait>(
+    rt: &R,
+    lock: &HallLock<L>,
+    session: &mut Session<L>,
+    rows: &[(Act, Reply)],
+) {
+    for (act, want) in rows {
+        let reply = lock.act(rt, session, *act);
+        assert!(rt; reply == *want, "{act:?}: {reply:?}");
+    }
+}
+
+/// A session makes at most so many steps until it is named, with these answers.
+fn session_renames<L: Ledger, R: Abort + Wait>(
+    rt: &R,
+    lock: &HallLock<L>,
+    session: &mut Session<L>,
+    rows: &[(u64, Result<Option<u64>, Refusal>)],
+) {
+    for (turns, want) in rows {
+        let renamed = lock.rename(rt, session, *turns);
+        assert_eq!(rt; renamed, *want, "{turns}");
+    }
+}
+
+/// Closes a lock whose only session is not handed in, which answers all that was, and then with the session.
+fn closes_with<L: Ledger>(
+    rt: &impl Abort,
+    alloc: Global,
+    lock: HallLock<L>,
+    session: Session<L>,
+) -> Closed {
+    let missing = lock.close(alloc, Vec::new(alloc), Vec::new(alloc)).err();
+    let Missing {
+        lock,
+        sessions,
+        clerks,
+    } = missing.expect(rt, "a session is missing");
+    closed(rt, alloc, lock, with(rt, sessions, session), clerks)
+}
+
+/// One session, which closes first without and then with itself. The length of the history.
+fn one_session<L: Ledger, R: Abort + Wait>(rt: &R, alloc: Global, blank: Blank) -> usize
+    requires name { blank.name ≡ L.name }
+    requires parts { (blank.parts ≡ L.parts) × (L.parts ≡ 1000001) }
+{
+    let lock = opened::<L, _>(rt, alloc, (WorldKind::Rename, 1, 4), blank);
+    let mut session = begins(rt, alloc, &lock, 7);
+    cannot_begin(rt, alloc, &lock, 7, Refusal::AlreadyBegun);
+    steps_quietly(rt, &lock, &mut session);
+    let acts = [
+        (Act::Enter, Reply::Ok),
+        (Act::Probe, Reply::Got(1)),
+        (Act::Put(5), Reply::Ok),
+        (Act::Get, Reply::Value(5)),
+        (Act::Leave, Reply::Left(1)),
+        (Act::Step, Reply::Quiet),
+    ];
+    session_acts(rt, &lock, &mut session, &acts);
+    let renamed = [
+        (6, Ok(None)),
+        (0, Ok(None)),
+        (1, Ok(Some(1))),
+        (1, Err(Refusal::Finished)),
+    ];
+    session_renames(rt, &lock, &mut session, &renamed);
+    assert_eq!(rt; session.count(), 15);
+    closes_with(rt, alloc, lock, session).hall.len()
+}
+
+/// A session that is opened for an identity.
+pub(crate) fn begins<L: Ledger, R: Abort + Wait>(
+    rt: &R,
+    alloc: Global,
+    lock: &HallLock<L>,
+    id: u64,
+) -> Session<L> {
+    lock.session(rt, alloc, id).expect(rt, "room for a session")
+}
+
+/// A session that is refused, and why.
+fn cannot_begin<L: Ledger, R: Abort + Wait>(
+    rt: &R,
+    alloc: Global,
+    lock: &HallLock<L>,
+    id: u64,
+    why: Refusal,
+) {
+    let refused = lock.session(rt, alloc, id).err();
+    assert_eq!(rt; refused, Some(why), "{id}");
+}
+
+/// One step of a session, which tells nothing yet.
+fn steps_quietly<L: Ledger, R: Abort + Wait>(rt: &R, lock: &HallLock<L>, session: &mut Session<L>) {
+    assert!(rt; lock.step(rt, session) == Reply::Quiet);
+}
+
+#[test]
+fn the_row_of_a_session(rt: HostRuntime) {
+    let length = one_session::<Brand, _>(&rt, rt.alloc(), Blank::new(1_000_001));
+    assert_eq!(rt; length, 15);
+}
+
+/// The name with which a session's list ends, or 0.
+fn name_of<L: Ledger>(session: &Session<L>) -> u64 {
+    match session.get(session.count().wrapping_sub(1)) {
+        Some(kept) => name_in(&kept.exchange.reply),
+        None => 0,
+    }
+}
+
+/// The name that a reply gives, or 0.
+fn name_in(reply: &Reply) -> u64 {
+    match reply {
+        Reply::Named(name, _) => *name,
+        _ => 0,
+    }
+}
+
+/// A session of a thread, once it has its name or its turns are used.
+fn renamed<L: Ledger, R: Wait>(rt: &R, lock: &HallLock<L>, session: Session<L>) -> Session<L> {
+    let mut session = session;
+    let _ = lock.rename(rt, &mut session, 100_000);
+    session
+}
+
+/// The sessions of as many threads.
+fn all_renamed<L: Ledger + Send + Sync, R: Threads + Wait + Sync>(
+    rt: &R,
+    lock: &HallLock<L>,
+    sessions: Vec<Session<L>>,
+) -> Option<Vec<Session<L>>> {
+    thread::map_vec(rt, sessions, &|session| renamed(rt, lock, session)).ok()
+}
+
+/// Whether each of these has a name of its own, from 1 to 7, or none.
+fn names_apart<L: Ledger>(sessions: &Vec<Session<L>>) -> bool {
+    let mut seen = [false; 8];
+    for session in sessions {
+        let name = name_of(session);
+        if name > 7 || name > 0 && seen[name as usize] {
+            return false;
+        }
+        seen[name as usize] = true;
+    }
+    true
+}
+
+/// How long their lists are together.
+fn kept_by<L: Ledger>(sessions: &Vec<Session<L>>) -> usize {
+    let mut kept = 0usize;
+    for session in sessions {
+        kept = kept.wrapping_add(session.count());
+    }
+    kept
+}
+
+/// Four threads with a session each: whether each has a name of its own, from 1 to 7, or none; and whether the history is as
+/// long as their lists together.
+fn four_threads<L: Ledger + Send + Sync, R: Abort + Threads + Wait + Sync>(
+    rt: &R,
+    alloc: Global,
+    blank: Blank,
+) -> (bool, bool)
+    requires name { blank.name ≡ L.name }
+    requires parts { (blank.parts ≡ L.parts) × (L.parts ≡ 1000001) }
+{
+    let lock = opened::<L, _>(rt, alloc, (WorldKind::Rename, 4, 4), blank);
+    let mut sessions = Vec::new(alloc);
+    for id in 1..=4u64 {
+        sessions = with(rt, sessions, begins(rt, alloc, &lock, id));
+    }
+    let sessions = all_renamed(rt, &lock, sessions).expect(rt, "room for what threads answer");
+    let apart = names_apart(&sessions);
+    let kept = kept_by(&sessions);
+    let closed = closed(rt, alloc, lock, sessions, Vec::new(alloc));
+    (apart, closed.hall.len() == kept)
+}
+
+#[test]
+fn four_threads_get_names(rt: HostRuntime) {
+    let good = four_threads::<Brand, _>(&rt, rt.alloc(), Blank::new(1_000_001));
+    assert_eq!(rt; good, (true, true));
+}
