@@ -1,5 +1,4 @@
 mod rounds
-mod Participants
 mod ShortReplies
 mod Large
 pub mod Sizes

@@ -1,5 +1,6 @@
 pub mod Roster
 pub mod Found
+pub mod DistinctParticipants
 pub mod SetAtLemmas
 pub mod CountLemmas
 pub mod ParticipantLemmas

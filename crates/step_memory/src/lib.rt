@@ -20,6 +20,7 @@
 #![tactic(auto)]
 
 pub mod access;
+pub mod hints;
 pub mod laws;
 pub mod memory;
 pub mod note;
@@ -33,6 +34,7 @@ pub mod view;
 pub mod world;
 
 pub use access::{Access, Answer};
+pub use hints::Hints;
 pub use laws::{
     law_of_beginners, law_of_call_counts, law_of_counts, law_of_locality, law_of_one_place,
     law_of_participants, law_of_refusals, law_of_replies, law_of_rosters, law_of_runs,
@@ -47,4 +49,4 @@ pub use record::{Record, Segment};
 pub use refusal::{NoMemory, Refusal};
 pub use shortcut::Shortcut;
 pub use view::View;
-pub use world::{World, find};
+pub use world::World;

@@ -1,11 +1,12 @@
 //! Participants that take steps on one memory.
 
-ghost use Rattle.std.specs.Prelude.{◌≡◌, ◌≢◌, ℕ, ◌<◌, ◌≤◌, [], ◌∷◌, ◌++◌, true, false, length, option_copied, drop, option_map, IfOk, IfSome, OnErr, OnOk, IsOk, Err, Ok, Some, Option, is_some, ◌+◌};
-ghost use Rattle.step_memory.specs.Participant.{index_of, participant_of, program_of};
+ghost use Rattle.std.specs.Prelude.{◌≡◌, ◌≢◌, [], true, false, option_copied, IfOk, OnErr, Err, Ok, is_some};
+ghost use Rattle.step_memory.specs.Participant.{participant_of, program_of};
 ghost use Rattle.step_memory.specs.World.{begin_refusal, done_unless, after_begin, step_answer, after_step, may_refuse_step, set_answer, after_set, CanAsk, after_asked};
 ghost use Rattle.step_memory.specs.WorldState.{WorldState};
 ghost use Rattle.step_memory.specs.Locality.{IsLocal, IsAnsweredAlike, ReadsNext, IsTaken};
 
+use crate::hints::Hints;
 use crate::memory::StepMemory;
 use crate::note::Note;
 use crate::participant::Participant;
@@ -21,69 +22,19 @@ pub struct World<P, S, A: Allocator> {
     memory: S,
     most: usize,
     participants: Vec<Participant<P>, A>,
+    hints: Hints,
 }
 
 impl<P, S, A: Allocator> Model for World<P, S, A> {
     ghost use Rattle.std.specs.Prelude.{◌≤◌, vec_capacity};
+    ghost use Rattle.step_memory.specs.Participant.{AreDistinct};
     ghost use Rattle.step_memory.specs.WorldState.{WorldState};
 
     ghost Value = { WorldState S P };
 
     ghost view = { λ w. record { memory = w.memory; most = w.most; participants = w.participants.items } };
 
-    ghost invariant = { λ w. w.most ≤ vec_capacity w.participants };
-}
-
-/// Whether another participant stands here, so that the search for an identity goes on after it.
-#[inline(always)]
-fn is_other<P>(participants: &[Participant<P>], at: usize, id: u64) -> bool
-    requires { at < length participants.now }
-    ensures here { result ≡ false → index_of id (drop at participants.now) ≡ Some 0 }
-    ensures next { result ≡ true → index_of id (drop at participants.now) ≡ option_map (λ k. k + 1) (index_of id (drop (at + 1) participants.now)) }
-{
-    participants[at].identity != id
-}
-
-/// Where the participant of an identity stands, who is none of those before this place.
-#[inline(always)]
-fn find_from<P>(participants: &[Participant<P>], start: usize, id: u64) -> Option<usize>
-    requires inside { start ≤ length participants.now }
-    requires before { index_of id participants.now ≡ option_map (λ k. start + k) (index_of id (drop start participants.now)) }
-    ensures answer { result ≡ index_of id participants.now }
-    ensures inside { IfSome result (λ i. i < length participants.now) }
-{
-    let mut at = start;
-    while at < participants.len() {
-        if !is_other(participants, at, id) {
-            return Some(at);
-        }
-        at += 1;
-    }
-    None
-}
-
-/// Where the participant of an identity stands. It looks at four a turn.
-pub fn find<P>(participants: &[Participant<P>], id: u64) -> Option<usize>
-    ensures answer { result ≡ index_of id participants.now }
-    ensures inside { IfSome result (λ i. i < length participants.now) }
-{
-    let mut at = 0;
-    while at + 4 <= participants.len() {
-        if !is_other(participants, at, id) {
-            return Some(at);
-        }
-        if !is_other(participants, at + 1, id) {
-            return Some(at + 1);
-        }
-        if !is_other(participants, at + 2, id) {
-            return Some(at + 2);
-        }
-        if !is_other(participants, at + 3, id) {
-            return Some(at + 3);
-        }
-        at += 4;
-    }
-    find_from(participants, at, id)
+    ghost invariant = { λ w. (w.most ≤ vec_capacity w.participants) × AreDistinct w.participants.items };
 }
 
 impl<
@@ -100,6 +51,7 @@ impl<
                 memory,
                 most,
                 participants,
+                hints: Hints::new(),
             }),
             Err(_) => Err(NoMemory),
         }
@@ -109,7 +61,7 @@ impl<
     fn has_begun(&self, id: u64) -> bool
         ensures { result ≡ is_some (participant_of id self.now.participants) }
     {
-        find(&self.participants, id).is_some()
+        self.hints.find(&self.participants, id).is_some()
     }
 
     /// Why an identity may not begin: what `begin` would be refused. It changes nothing.
@@ -137,6 +89,7 @@ impl<
         if let Some(refusal) = self.begin_refusal(id) {
             return Err(refusal);
         }
+        self.hints.note(id, self.participants.len());
         self.participants.push_reserved(Participant {
             identity: id,
             program,
@@ -161,7 +114,7 @@ impl<
         // too: that is a law (`law_of_locality`).
         ensures alike { result ≢ Err Refusal.NoMemory → IsAnsweredAlike P.steps S.steps id self.old result }
     {
-        let Some(i) = find(&self.participants, id) else {
+        let Some(i) = self.hints.find(&self.participants, id) else {
             return Err(Refusal::NotBegun);
         };
         let participant = &self.participants[i];
@@ -183,7 +136,7 @@ impl<
         ensures after { result ≡ true → self.new ≡ after_step P.steps S.steps self.old id }
         ensures kept { result ≡ false → self.new ≡ self.old }
     {
-        let Some(i) = find(&self.participants, id) else {
+        let Some(i) = self.hints.find(&self.participants, id) else {
             return false;
         };
         let reader = &self.participants[i];
@@ -208,7 +161,7 @@ impl<
         ensures after { result ≡ true → self.new ≡ after_step P.steps S.steps self.old id }
         ensures kept { result ≡ false → self.new ≡ self.old }
     {
-        let Some(i) = find(&self.participants, id) else {
+        let Some(i) = self.hints.find(&self.participants, id) else {
             return false;
         };
         let walker = &self.participants[i];
@@ -222,7 +175,7 @@ impl<
     pub fn program(&self, id: u64) -> Option<&P>
         ensures { option_copied result ≡ program_of id self.now.participants }
     {
-        let Some(i) = find(&self.participants, id) else {
+        let Some(i) = self.hints.find(&self.participants, id) else {
             return None;
         };
         Some(&self.participants[i].program)
@@ -246,7 +199,7 @@ impl<
         ensures after { self.new ≡ after_asked (Q.asked request) self.old id }
         ensures refused { OnErr result (self.new ≡ self.old) }
     {
-        let Some(i) = find(&self.participants, id) else {
+        let Some(i) = self.hints.find(&self.participants, id) else {
             return Err(Refusal::NotBegun);
         };
         self.participants[i].ask(request);

@@ -32,7 +32,7 @@ use Rattle.snapshot_core.specs.Standing.{StandsAt}
 use Rattle.snapshot_core.proofs.Clients.{goes_idle}
 use Rattle.rename_core.proofs.Large.{update_large}
 use Rattle.rename_core.proofs.rounds.Tied.{IsAtStage, IsCounted, IsTied, Carries, counted_on, stage_on}
-use Rattle.rename_core.proofs.Participants.{distinct_push}
+use Rattle.step_memory.proofs.DistinctParticipants.{distinct_push}
 use Rattle.rename_core.proofs.rounds.Stepping.{since_kept}
 use Rattle.rename_core.proofs.rounds.Keeping.{Goes}
 

@@ -3,7 +3,7 @@ use Rattle.std.proofs.Common.{suc, ◌<◌, get_or, drop, drop-cons, ◌≡◌, 
 use Rattle.std.specs.Prelude.{option_map, option_and_then}
 use Rattle.std.proofs.lemmas.Bool.Decides.{eqb_tells}
 use Rattle.step_memory.specs.declared.participant.Participant.{Participant}
-use Rattle.step_memory.specs.Participant.{participant_of, program_of}
+use Rattle.step_memory.specs.Participant.{AreDistinct, participant_of, program_of}
 use Rattle.step_memory.specs.View.{IsRising, value_of}
 use Rattle.step_memory.proofs.ViewLemmas.{IsRising-inserted, value_of-inserted, length-inserted}
 use Rattle.rename_core.specs.declared.round.Round.{Round}
@@ -11,7 +11,6 @@ use Rattle.rename_core.specs.declared.round.Stage.{Stage}
 use Rattle.rename_core.specs.declared.round.Stage.TheVariants.{Placing, Proposing, Looking, Settled, Over}
 use Rattle.rename_core.specs.RenameWorld.{name_by, owner_by, shown_with, shown_by}
 use Rattle.rename_core.specs.Round.{name_at, has_name, standing_by}
-use Rattle.rename_core.proofs.Participants.{AreDistinct}
 
 -- the proposal of an identity that stands in the memory
 abbrev pub standing_of : ℕ → List (Participant Round) → Option ℕ

@@ -5,7 +5,7 @@ use Rattle.std.proofs.lemmas.Bool.Decides.{eqb_tells}
 use Rattle.step_memory.specs.SetAt.{set_at}
 use Rattle.step_memory.proofs.SetAtLemmas.{set_at-same, set_at-other}
 use Rattle.step_memory.specs.declared.participant.Participant.{Participant}
-use Rattle.step_memory.specs.Participant.{participant_of, with_participant, beginner}
+use Rattle.step_memory.specs.Participant.{AreDistinct, participant_of, with_participant, beginner}
 use Rattle.step_memory.proofs.ParticipantLemmas.{participant_of-put, length-with_participant}
 use Rattle.snapshot_core.specs.SnapWorld.{SnapState}
 use Rattle.snapshot_core.specs.Snapshot.{SnapObject, since_of}
@@ -21,7 +21,7 @@ use Rattle.rename_core.specs.RenameWorld.{world_with}
 use Rattle.rename_core.specs.Round.{standing_by}
 use Rattle.snapshot_core.specs.Standing.{StandsAt}
 use Rattle.rename_core.proofs.Large.{IsAsLarge}
-use Rattle.rename_core.proofs.Participants.{AreDistinct, distinct_put}
+use Rattle.step_memory.proofs.DistinctParticipants.{distinct_put}
 use Rattle.rename_core.proofs.rounds.Standing.{IsStanding}
 
 -- p has neither a name nor used up its rounds

@@ -3,6 +3,7 @@ use Rattle.std.specs.Prelude.{option_map}
 use Rattle.step_memory.specs.Participant.{participant_of, program_of, beginner}
 use Rattle.step_memory.proofs.Found.{Found}
 use Rattle.step_memory.proofs.Roster as roster
+use Rattle.step_memory.proofs.DistinctParticipants.{distinct_there}
 use Rattle.step_memory.proofs.world.World.ask.Goals as goal
 use Rattle.step_memory.proofs.world.World.ask.Goals.{In_default, After-index_mut}
 
@@ -37,3 +38,8 @@ returns-clause-after g c =
     let new : c.ask.new.self ≡ beginner c.args.id (g.Q.Request.asked c.args.request c.index_mut.result.now.program) = c.ask.ensures ∙ ap (λ n. beginner n (g.Q.Request.asked c.args.request c.index_mut.result.now.program)) f.identity in
     let put = f.put (beginner c.args.id (g.Q.Request.asked c.args.request c.index_mut.result.now.program)) refl in
     rw (t, put, new, ← c.self.view_is) refl
+
+pub invariant_of-self : goal.invariant_of-self
+invariant_of-self g c =
+    let own : c.ask.new.self.identity ≡ c.index_mut.result.now.identity = ap (λ p. p.identity) c.ask.ensures in
+    (c.self.invariant.0, distinct_there c.args.id c.in-Some.i c.index_mut.result.now c.ask.new.self c.deref.ensures.value c.in-Some.ensures.answer c.index_mut.ensures.value own c.self.invariant.1)

@@ -1,4 +1,4 @@
-use Rattle.std.proofs.Common.{◌≡◌, ◌<◌, Ok, set, refl, sym, ap, ◌∙◌, length}
+use Rattle.std.proofs.Common.{◌≡◌, ◌<◌, true, false, Ok, set, refl, sym, ap, ◌∙◌, length}
 use Rattle.std.proofs.lemmas.List.{get_or_default}
 use Rattle.step_memory.specs.declared.access.Access.TheVariants.{Read}
 use Rattle.step_memory.specs.declared.access.Answer.TheVariants.{Value}
@@ -8,6 +8,7 @@ use Rattle.step_memory.proofs.LocalityLemmas.{step_local}
 use Rattle.step_memory.proofs.Found.{Found}
 use Rattle.step_memory.proofs.Roster as roster
 use Rattle.step_memory.proofs.StepLemmas.{going_answer, going_after}
+use Rattle.step_memory.proofs.DistinctParticipants.{distinct_there}
 use Rattle.step_memory.proofs.world.World.read_on.Goals as goal
 use Rattle.step_memory.proofs.world.World.read_on.Goals.{After-index-reader, After-read_on}
 
@@ -64,3 +65,13 @@ pub returns-clause-reads : goal.returns-clause-reads
 returns-clause-reads g c = λ _.
     let f = found_participant g (goal.at.returns-clause-reads g c).After-index-reader in
     (c.index-reader.result.now, c.in-Some-reads.register, f.is, c.in-Some-reads.ensures)
+
+pub invariant_of-self : goal.invariant_of-self
+invariant_of-self g c =
+    let own : c.read_on.new.self.identity ≡ c.index_mut.result.now.identity =
+    elim c.read_on.result as (λ b. c.read_on.result ≡ b → c.read_on.new.self.identity ≡ c.index_mut.result.now.identity) [
+      | true ↦ λ e. ap (λ p. p.identity) (c.read_on.ensures.after e)
+      | false ↦ λ e. ap (λ p. p.identity) (c.read_on.ensures.kept e)
+    ] refl
+    in
+    (c.self.invariant.0, distinct_there c.args.id c.in-Some.i c.index_mut.result.now c.read_on.new.self c.deref.ensures.value c.in-Some.ensures.answer c.index_mut.ensures.value own c.self.invariant.1)

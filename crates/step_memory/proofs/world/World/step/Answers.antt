@@ -6,6 +6,7 @@ use Rattle.step_memory.proofs.Found.{Found}
 use Rattle.step_memory.proofs.Roster as roster
 use Rattle.step_memory.proofs.LocalityLemmas.{step_local, answers_alike}
 use Rattle.step_memory.proofs.StepLemmas.{absent_answer, absent_after, ended_answer, ended_after, going_answer, going_after, going_refused}
+use Rattle.step_memory.proofs.DistinctParticipants.{distinct_there}
 use Rattle.step_memory.proofs.world.World.step.Goals as goal
 use Rattle.step_memory.proofs.world.World.step.Goals.{In_default, After-index-participant, After-resume}
 
@@ -98,3 +99,8 @@ pub returns-clause-local : goal.returns-clause-local
 returns-clause-local g c =
     let e = returns-clause-after g c (λ no. cc) in
     rw e (step_local g.P.StepProgram.steps g.S.StepMemory.steps g.met.S.StepMemory.others c.args.self.now c.args.id)
+
+pub invariant_of-self-2 : goal.invariant_of-self-2
+invariant_of-self-2 g c =
+    let own : c.resume.new.self.identity ≡ c.index_mut.result.now.identity = ap (λ p. p.identity) c.resume.ensures.after in
+    (c.self.invariant.0, distinct_there c.args.id c.in-Some.i c.index_mut.result.now c.resume.new.self c.deref.ensures.value c.in-Some.ensures.answer c.index_mut.ensures.value own c.self.invariant.1)

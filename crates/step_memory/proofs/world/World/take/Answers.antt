@@ -1,4 +1,4 @@
-use Rattle.std.proofs.Common.{◌≡◌, ◌<◌, Ok, set, refl, sym, ap, ◌∙◌, length}
+use Rattle.std.proofs.Common.{◌≡◌, ◌<◌, true, false, Ok, set, refl, sym, ap, ◌∙◌, length}
 use Rattle.std.proofs.lemmas.List.{get_or_default}
 use Rattle.step_memory.specs.Participant.{resumed, with_participant}
 use Rattle.step_memory.specs.World.{got_by}
@@ -6,6 +6,7 @@ use Rattle.step_memory.proofs.LocalityLemmas.{step_local}
 use Rattle.step_memory.proofs.Found.{Found}
 use Rattle.step_memory.proofs.Roster as roster
 use Rattle.step_memory.proofs.StepLemmas.{going_answer, going_after}
+use Rattle.step_memory.proofs.DistinctParticipants.{distinct_there}
 use Rattle.step_memory.proofs.world.World.take.Goals as goal
 use Rattle.step_memory.proofs.world.World.take.Goals.{After-index-walker, After-take}
 
@@ -58,3 +59,13 @@ pub returns-clause-local : goal.returns-clause-local
 returns-clause-local g c = λ goes.
     let e = returns-clause-after g c goes in
     rw e (step_local g.P.StepProgram.steps g.S.StepMemory.steps g.met.S.StepMemory.others c.args.self.now c.args.id)
+
+pub invariant_of-self : goal.invariant_of-self
+invariant_of-self g c =
+    let own : c.take.new.self.identity ≡ c.index_mut.result.now.identity =
+    elim c.take.result as (λ b. c.take.result ≡ b → c.take.new.self.identity ≡ c.index_mut.result.now.identity) [
+      | true ↦ λ e. ap (λ p. p.identity) (c.take.ensures.after e)
+      | false ↦ λ e. ap (λ p. p.identity) (c.take.ensures.kept e)
+    ] refl
+    in
+    (c.self.invariant.0, distinct_there c.args.id c.in-Some.i c.index_mut.result.now c.take.new.self c.deref.ensures.value c.in-Some.ensures.answer c.index_mut.ensures.value own c.self.invariant.1)

@@ -1,7 +1,7 @@
 use Rattle.std.proofs.Common.{◌≡◌, ◌+◌, ◌-◌, ◌≤◌, drop, length}
 use Rattle.std.specs.Prelude.{option_map}
 use Rattle.step_memory.specs.Participant.{index_of}
-use Rattle.step_memory.proofs.world.find_from.Given as goal
+use Rattle.step_memory.proofs.hints.search_from.Given as goal
 
 abbrev pub invariant-loop-at : goal.invariant-loop-at
 invariant-loop-at g l = (l.at ≤ length l.participants) × (index_of l.id l.participants ≡ option_map (λ k. l.at + k) (index_of l.id (drop l.at l.participants)))

@@ -1,13 +1,11 @@
 -- participants of distinct identities
-use Rattle.std.proofs.Common.{◌≡◌, ◌≢◌, ℕ, ◌==◌, false, List, [], ◌∷◌, ◌++◌, Some, None, inl, inr, refl, sym, ap, ◌∙◌}
+use Rattle.std.proofs.Common.{◌≡◌, ◌≢◌, ◌<◌, ℕ, zero, suc, ◌==◌, true, false, List, [], ◌∷◌, ◌++◌, Some, None, length, get_or, set, inl, inr, refl, sym, ap, ◌∙◌, arith, add-one}
+use Rattle.std.specs.Prelude.{is_some}
 use Rattle.std.proofs.lemmas.Bool.Decides.{eqb_tells}
 use Rattle.step_memory.specs.declared.participant.Participant.{Participant}
-use Rattle.step_memory.specs.Participant.{participant_of, with_participant}
-
--- no identity stands twice
-abbrev pub AreDistinct : {P : Type 0} → List (Participant P) → Type 0
-AreDistinct [] = Unit {0}
-AreDistinct (v ∷ vs) = (participant_of v.identity vs ≡ None) × AreDistinct vs
+use Rattle.step_memory.specs.Participant.{AreDistinct, index_of, participant_of, with_participant}
+use Rattle.step_memory.proofs.Found.{is_some-index_of}
+use Rattle.step_memory.proofs.Roster as roster
 
 -- who is not found is not found where another was put in
 absent_put : {P : Type 0} (id : ℕ) (vs : List (Participant P)) (new : Participant P) → participant_of id vs ≡ None → participant_of id (with_participant new vs) ≡ None
@@ -43,3 +41,21 @@ distinct_push (v ∷ vs) new h d = elim (eqb_tells v.identity new.identity) [
   | inl e ↦ absurd (let no : Some v ≡ None = rw e.0 at h in cc)
   | inr e ↦ (absent_push v.identity vs new d.0 (λ k. e.1 (sym k)), distinct_push vs new (rw e.0 at h) d.1)
 ]
+
+-- another of its identity is put where a participant was found
+pub distinct_there : {P : Type 0} (id : ℕ) {shown items : List (Participant P)} (i : ℕ) (p new : Participant P) → shown ≡ items → Some i ≡ index_of id shown → p ≡ get_or items i p →
+    new.identity ≡ p.identity → AreDistinct items → AreDistinct (set items i new)
+distinct_there id {shown} {items} i p new a h e own d =
+    let f = roster.found (λ v. v.identity) (λ v. v) id items i p a refl h e in
+    rw (← f.put new (own ∙ f.identity)) (distinct_put items new d)
+
+-- one who is met anywhere is the first of its identity
+pub first_at : {P : Type 0} (id : ℕ) (ps : List (Participant P)) (i : ℕ) (p : Participant P) → AreDistinct ps → i < length ps → (get_or ps i p).identity ≡ id → index_of id ps ≡ Some i
+first_at id [] i p d h own = absurd (omega (arith, h))
+first_at id (v ∷ vs) zero p d h own = elim (eqb_tells v.identity id) [ inl e ↦ rw e.0 refl | inr e ↦ absurd (e.1 own) ]
+first_at id (v ∷ vs) (suc k) p d h own =
+    let there : index_of id vs ≡ Some k = first_at id vs k p d.1 (omega (arith, h)) own in
+    elim (eqb_tells v.identity id) [
+      | inl e ↦ absurd (let known : true ≡ is_some (participant_of id vs) = ap is_some (sym there) ∙ is_some-index_of id vs in let no : participant_of id vs ≡ None = rw e.1 at d.0 in cc)
+      | inr e ↦ rw (e.0, there) (ap Some (add-one k))
+    ]

@@ -1,0 +1,91 @@
+//! Where a search for a participant begins.
+
+ghost use Rattle.std.specs.Prelude.{◌≡◌, ◌<◌, ◌≤◌, true, false, length, drop, option_map, IfSome, Some, ◌+◌};
+ghost use Rattle.step_memory.specs.Participant.{index_of, AreDistinct};
+
+use crate::participant::Participant;
+
+/// Whether another participant stands here, so that the search for an identity goes on after it.
+#[inline(always)]
+fn is_other<P>(participants: &[Participant<P>], at: usize, id: u64) -> bool
+    requires { at < length participants.now }
+    ensures here { result ≡ false → index_of id (drop at participants.now) ≡ Some 0 }
+    ensures next { result ≡ true → index_of id (drop at participants.now) ≡ option_map (λ k. k + 1) (index_of id (drop (at + 1) participants.now)) }
+{
+    participants[at].identity != id
+}
+
+/// Where the participant of an identity stands, who is none of those before this place.
+#[inline(always)]
+fn search_from<P>(participants: &[Participant<P>], start: usize, id: u64) -> Option<usize>
+    requires inside { start ≤ length participants.now }
+    requires before { index_of id participants.now ≡ option_map (λ k. start + k) (index_of id (drop start participants.now)) }
+    ensures answer { result ≡ index_of id participants.now }
+    ensures inside { IfSome result (λ i. i < length participants.now) }
+{
+    let mut at = start;
+    while at < participants.len() {
+        if !is_other(participants, at, id) {
+            return Some(at);
+        }
+        at += 1;
+    }
+    None
+}
+
+/// Where the participant of an identity stands. It looks at four a turn.
+fn search<P>(participants: &[Participant<P>], id: u64) -> Option<usize>
+    ensures answer { result ≡ index_of id participants.now }
+    ensures inside { IfSome result (λ i. i < length participants.now) }
+{
+    let mut at = 0;
+    while at + 4 <= participants.len() {
+        if !is_other(participants, at, id) {
+            return Some(at);
+        }
+        if !is_other(participants, at + 1, id) {
+            return Some(at + 1);
+        }
+        if !is_other(participants, at + 2, id) {
+            return Some(at + 2);
+        }
+        if !is_other(participants, at + 3, id) {
+            return Some(at + 3);
+        }
+        at += 4;
+    }
+    search_from(participants, at, id)
+}
+
+/// For each value of six bits of an identity the index at which such a participant was put last: where a search looks
+/// first. A hint may be wrong; then the search goes through all.
+#[derive(Clone, Copy, Debug, Drop)]
+pub struct Hints {
+    places: [u8; 64],
+}
+
+impl Hints {
+    /// Every search looks at the first participant first.
+    pub fn new() -> Self {
+        Hints { places: [0; 64] }
+    }
+
+    /// A participant of this identity is put at this index.
+    pub fn note(&mut self, id: u64, at: usize) {
+        self.places[(id % 64) as usize] = (at % 64) as u8;
+    }
+
+    /// Where the participant of an identity stands.
+    #[inline(always)]
+    pub fn find<P>(&self, participants: &[Participant<P>], id: u64) -> Option<usize>
+        requires { AreDistinct participants.now }
+        ensures answer { result ≡ index_of id participants.now }
+        ensures inside { IfSome result (λ i. i < length participants.now) }
+    {
+        let hint = usize::from(self.places[(id % 64) as usize]);
+        if hint < participants.len() && participants[hint].identity == id {
+            return Some(hint);
+        }
+        search(participants, id)
+    }
+}
