@@ -1,7 +1,7 @@
 //! A renaming world, taken step by step.
 
 ghost use Rattle.std.specs.Prelude.{◌≡◌, ◌≢◌, ℕ, ◌<◌, ◌≤◌, ◌⊎◌, ◌↔◌, List, [], length, IfOk, IfErr, IfSome, OnErr, Some, None, Err, Ok, true, false};
-ghost use Rattle.step_memory.specs.Participant.{index_of, program_of};
+ghost use Rattle.step_memory.specs.Participant.{program_of};
 ghost use Rattle.step_memory.specs.World.{begin_refusal, done_unless};
 ghost use Rattle.step_memory.specs.Calls.Call.{Began, Stepped};
 ghost use Rattle.rename_core.specs.Config.{is_played_over};
@@ -19,32 +19,27 @@ use crate::short_reply::ShortReply;
 use snapshot_core::{Known, SnapWorld};
 use std::alloc::Allocator;
 use std::marker::Model;
-use step_memory::{Participant, Refusal, View, find as find_participant};
+use step_memory::{Hints, Participant, Refusal, View};
 
 /// Participants that get names by rounds of proposals, over places.
 #[derive(Drop)]
 pub struct RenameWorld<W: RenamePlaces<A>, A: Allocator> {
     snap: SnapWorld<W, A>,
     rounds: Vec<Participant<Round>, A>,
+    hints: Hints,
     limit: u64,
 }
 
 impl<W: RenamePlaces<A>, A: Allocator> Model for RenameWorld<W, A> {
     ghost use Rattle.std.specs.Prelude.{vec_capacity};
     ghost use Rattle.rename_core.specs.RenameState.{RenameState, HasRoom};
+    ghost use Rattle.step_memory.specs.Participant.{AreDistinct};
 
     ghost Value = { RenameState W W.Walker W.Walk };
 
     ghost view = { λ w. record { snap = w.snap; rounds = w.rounds.items; limit = w.limit } };
 
-    ghost invariant = { λ w. HasRoom (vec_capacity w.rounds) w.snap w.rounds.items };
-}
-
-/// Where the round of an identity stands.
-fn find(rounds: &[Participant<Round>], id: u64) -> Option<usize>
-    ensures { result ≡ index_of id rounds.now }
-{
-    find_participant(rounds, id)
+    ghost invariant = { λ w. HasRoom (vec_capacity w.rounds) w.snap w.rounds.items × AreDistinct w.rounds.items };
 }
 
 /// Puts the proposal of a participant into a view, where it has made one.
@@ -88,7 +83,7 @@ where
         ensures sure { result ≢ Some (Err Refusal.NoMemory) }
         ensures kept { result ≡ None → self.new ≡ self.old }
     {
-        let Some(i) = find(&self.rounds, id) else {
+        let Some(i) = self.hints.find(&self.rounds, id) else {
             return Some(Err(Refusal::NotBegun));
         };
         if let Some(refusal) = self.rounds[i].program.stage.refusal() {
@@ -109,7 +104,7 @@ where
         ensures refused { OnErr result (self.new ≡ self.old) }
         ensures no_memory { result ≡ Err Refusal.NoMemory → LacksMemory ⟦<W as Known>⟧.places self.old id }
     {
-        let Some(i) = find(&self.rounds, id) else {
+        let Some(i) = self.hints.find(&self.rounds, id) else {
             return Err(Refusal::NotBegun);
         };
         let round = self.rounds[i].program;
@@ -197,7 +192,7 @@ where
     fn round(&self, id: u64) -> Option<Round>
         ensures { result ≡ program_of id self.now.rounds }
     {
-        let Some(i) = find(&self.rounds, id) else {
+        let Some(i) = self.hints.find(&self.rounds, id) else {
             return None;
         };
         Some(self.rounds[i].program)
@@ -284,6 +279,7 @@ where
         self.snap.begin(id)?;
         let placed = self.snap.place_of(id).is_some();
         ask(&mut self.snap, id, Wish::first(placed));
+        self.hints.note(id, self.rounds.len());
         self.rounds.push_reserved(Participant {
             identity: id,
             program: Round::first(placed),
@@ -330,6 +326,7 @@ where
         Ok(RenameWorld {
             snap: SnapWorld::new(alloc.clone()?, places)?,
             rounds: Vec::with_capacity(alloc, most)?,
+            hints: Hints::new(),
             limit: config.limit,
         })
     }

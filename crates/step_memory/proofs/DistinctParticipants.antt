@@ -1,10 +1,10 @@
--- participants of distinct identities
+-- the identities of participants, and that they are distinct
 use Rattle.std.proofs.Common.{◌≡◌, ◌≢◌, ◌<◌, ℕ, zero, suc, ◌==◌, true, false, List, [], ◌∷◌, ◌++◌, Some, None, length, get_or, set, inl, inr, refl, sym, ap, ◌∙◌, arith, add-one}
 use Rattle.std.specs.Prelude.{is_some}
 use Rattle.std.proofs.lemmas.Bool.Decides.{eqb_tells}
 use Rattle.step_memory.specs.declared.participant.Participant.{Participant}
-use Rattle.step_memory.specs.Participant.{AreDistinct, index_of, participant_of, with_participant}
-use Rattle.step_memory.proofs.Found.{is_some-index_of}
+use Rattle.step_memory.specs.Participant.{AreDistinct, identities, index_of, participant_of, with_participant}
+use Rattle.step_memory.proofs.Found.{Found, is_some-index_of}
 use Rattle.step_memory.proofs.Roster as roster
 
 -- who is not found is not found where another was put in
@@ -42,12 +42,42 @@ distinct_push (v ∷ vs) new h d = elim (eqb_tells v.identity new.identity) [
   | inr e ↦ (absent_push v.identity vs new d.0 (λ k. e.1 (sym k)), distinct_push vs new (rw e.0 at h) d.1)
 ]
 
--- another of its identity is put where a participant was found
+-- another of its identity is put where a participant stands
+pub distinct_set : {P : Type 0} (id : ℕ) (ps : List (Participant P)) (i : ℕ) (p new : Participant P) → Found id ps i p → new.identity ≡ id → AreDistinct ps → AreDistinct (set ps i new)
+distinct_set id ps i p new f own d = rw (← f.put new own) (distinct_put ps new d)
+
+-- or where one was found
 pub distinct_there : {P : Type 0} (id : ℕ) {shown items : List (Participant P)} (i : ℕ) (p new : Participant P) → shown ≡ items → Some i ≡ index_of id shown → p ≡ get_or items i p →
     new.identity ≡ p.identity → AreDistinct items → AreDistinct (set items i new)
 distinct_there id {shown} {items} i p new a h e own d =
     let f = roster.found (λ v. v.identity) (λ v. v) id items i p a refl h e in
-    rw (← f.put new (own ∙ f.identity)) (distinct_put items new d)
+    distinct_set id items i p new f (own ∙ f.identity) d
+
+pub identities-put : {P : Type 0} (ps : List (Participant P)) (new : Participant P) → identities (with_participant new ps) ≡ identities ps
+identities-put [] new = refl
+identities-put (p ∷ ps) new = elim (eqb_tells p.identity new.identity) [
+  | inl e ↦ rw e.0 (ap (λ id. id ∷ identities ps) (sym e.1))
+  | inr e ↦ rw e.0 (ap (λ ids. p.identity ∷ ids) (identities-put ps new))
+]
+
+pub identities-set : {P : Type 0} (id : ℕ) (ps : List (Participant P)) (i : ℕ) (p new : Participant P) → Found id ps i p → new.identity ≡ id → identities (set ps i new) ≡ identities ps
+identities-set id ps i p new f own = rw (← f.put new own) (identities-put ps new)
+
+pub identities-push : {P : Type 0} (ps : List (Participant P)) (new : Participant P) → identities (ps ++ new ∷ []) ≡ identities ps ++ new.identity ∷ []
+identities-push [] new = refl
+identities-push (p ∷ ps) new = ap (λ ids. p.identity ∷ ids) (identities-push ps new)
+
+-- who is not among participants is not among others of the same identities
+pub absent_alike : {P Q : Type 0} (id : ℕ) (ps : List (Participant P)) (qs : List (Participant Q)) → identities qs ≡ identities ps → participant_of id ps ≡ None → participant_of id qs ≡ None
+absent_alike id ps [] e h = refl
+absent_alike id [] (q ∷ qs) e h = absurd (cc)
+absent_alike id (p ∷ ps) (q ∷ qs) e h =
+    let own : q.identity ≡ p.identity = cc in
+    let rest : identities qs ≡ identities ps = cc in
+    elim (eqb_tells p.identity id) [
+      | inl w ↦ absurd (let no : Some p ≡ None = rw w.0 at h in cc)
+      | inr w ↦ let other : (q.identity == id) ≡ false = rw own w.0 in rw other (absent_alike id ps qs rest (rw w.0 at h))
+    ]
 
 -- one who is met anywhere is the first of its identity
 pub first_at : {P : Type 0} (id : ℕ) (ps : List (Participant P)) (i : ℕ) (p : Participant P) → AreDistinct ps → i < length ps → (get_or ps i p).identity ≡ id → index_of id ps ≡ Some i

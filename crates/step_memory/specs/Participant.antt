@@ -1,5 +1,5 @@
 -- participants, by their identities
-use Rattle.std.specs.Prelude.{◌≡◌, ℕ, false, List, [], ◌∷◌, ◌+◌, Option, Some, None, ◌==◌, if◌then◌else◌, option_map}
+use Rattle.std.specs.Prelude.{◌≡◌, ℕ, false, List, [], ◌∷◌, ◌+◌, map, Option, Some, None, ◌==◌, if◌then◌else◌, option_map}
 use Rattle.step_memory.specs.declared.access.Answer.{Answer}
 use Rattle.step_memory.specs.declared.participant.Participant.{Participant}
 use Rattle.step_memory.specs.Note.{ends}
@@ -31,6 +31,10 @@ program_of id ps = option_map (λ p. p.program) (participant_of id ps)
 abbrev pub with_participant : {P : Type 0} → Participant P → List (Participant P) → List (Participant P)
 with_participant new [] = []
 with_participant new (p ∷ ps) = if p.identity == new.identity then new ∷ ps else p ∷ with_participant new ps
+
+-- the identities, in the order of the participants
+abbrev pub identities : {P : Type 0} → List (Participant P) → List ℕ
+identities ps = map (λ p. p.identity) ps
 
 -- no identity stands twice
 abbrev pub AreDistinct : {P : Type 0} → List (Participant P) → Type 0
