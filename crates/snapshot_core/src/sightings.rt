@@ -179,6 +179,6 @@ impl Sightings {
     pub fn carry_over(&mut self)
         ensures { self.new ≡ map carried_over self.old }
     {
-        carry_over_all(&mut self.entries);
+        carry_over_all(&mut self.entries[..self.len]);
     }
 }
