@@ -1,7 +1,7 @@
-use Rattle.std.proofs.Common.{◌≡◌, ◌<◌, Some, None, take, set, ◌++◌, ◌∷◌, [], ◌+◌, sym, subst, ◌∙◌, arith, rules, length}
+use Rattle.std.proofs.Common.{◌≡◌, ◌<◌, Some, None, take, set, ◌+◌, sym, ◌∙◌, arith, rules, length}
 use Rattle.std.proofs.lemmas.List.{length-take-le, length-set, take_more_set}
 use Rattle.std.proofs.Math.Seq.{take-set-lt}
-use Rattle.snapshot_core.specs.Sightings.{index_of, noted, AreDistinct}
+use Rattle.snapshot_core.specs.Sightings.{index_of, noted}
 use Rattle.snapshot_core.proofs.SightingLemmas.{noted_at, noted-some, noted-none, distinct-noted}
 use Rattle.snapshot_core.proofs.sightings.Sightings.put.Goals as goal
 use Rattle.snapshot_core.proofs.sightings.Sightings.put.Goals.{In-Some, Then-self-lt64}
