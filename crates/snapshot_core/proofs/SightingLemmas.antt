@@ -1,10 +1,10 @@
 -- what is known of segments, by their places
-use Rattle.std.proofs.Common.{◌≡◌, ℕ, suc, ◌+◌, ◌<◌, ◌==◌, Bool, true, false, cond, List, [], ◌∷◌, ◌++◌, Option, Some, None, inl, inr, length, get_or, set, map, refl, sym, ap, subst, ◌∙◌, arith, add-one}
+use Rattle.std.proofs.Common.{◌≡◌, ℕ, zero, suc, ◌+◌, ◌<◌, ◌==◌, Bool, true, false, cond, List, [], ◌∷◌, ◌++◌, Option, Some, None, inl, inr, length, get_or, set, map, refl, sym, ap, subst, ◌∙◌, arith, add-one}
 use Rattle.std.specs.Prelude.{option_map, is_some, nat_lt, ◌||◌}
 use Rattle.std.proofs.lemmas.Bool.Decides.{Decides-eqb, eqb_tells}
 use Rattle.step_memory.specs.SetAt.{set_at}
 use Rattle.snapshot_core.specs.declared.sightings.Sighting.{Sighting}
-use Rattle.snapshot_core.specs.Sightings.{unknown, sighting_of, index_of, with_sighting, noted, carried_over}
+use Rattle.snapshot_core.specs.Sightings.{unknown, sighting_of, index_of, AreDistinct, with_sighting, noted, carried_over}
 
 -- a segment is noted where its index says, and is noted there anew
 pub record IsNotedAt (place : ℕ) (ss : List Sighting) (i : ℕ) : Type 0 where
@@ -148,3 +148,30 @@ sighting_of-carried (s ∷ ss) x = elim (eqb_tells s.place x) [ inl e ↦ rw e.0
 pub is_known-carried : (ss : List Sighting) (x : ℕ) → is_known (map carried_over ss) x ≡ is_known ss x
 is_known-carried [] x = refl
 is_known-carried (s ∷ ss) x = elim (eqb_tells s.place x) [ inl e ↦ rw e.0 refl | inr e ↦ rw e.0 (known_there (index_of x (map carried_over ss)) ∙ is_known-carried ss x ∙ sym (known_there (index_of x ss))) ]
+
+-- no place stands twice after another, or itself, was noted
+distinct-with : (new : Sighting) (ss : List Sighting) → AreDistinct ss → AreDistinct (with_sighting new ss)
+distinct-with new [] d = (refl, tt)
+distinct-with new (s ∷ ss) d = elim (eqb_tells s.place new.place) [
+  | inl e ↦ rw e.0 (ap (is_known ss) (sym e.1) ∙ d.0, d.1)
+  | inr e ↦ rw e.0 (is_known-with new ss s.place ∙ rw e.0 d.0, distinct-with new ss d.1)
+]
+
+pub distinct-noted : (new : Sighting) (ss : List Sighting) → AreDistinct ss → AreDistinct (noted new ss)
+distinct-noted new ss d =
+    elim (is_known ss new.place || nat_lt (length ss) 64) as (λ b. AreDistinct (cond b (with_sighting new ss) ss)) [ true ↦ distinct-with new ss d | false ↦ d ]
+
+pub distinct-carried : (ss : List Sighting) → AreDistinct ss → AreDistinct (map carried_over ss)
+distinct-carried [] d = tt
+distinct-carried (s ∷ ss) d = (is_known-carried ss s.place ∙ d.0, distinct-carried ss d.1)
+
+-- where no place stands twice, each segment is found where it is noted
+pub index_of-distinct : (ss : List Sighting) (i : ℕ) (d : Sighting) → AreDistinct ss → i < length ss → index_of (get_or ss i d).place ss ≡ Some i
+index_of-distinct [] i d h l = absurd (omega (arith, l))
+index_of-distinct (s ∷ ss) zero d h l = let own : (s.place == s.place) ≡ true = (Decides-eqb s.place s.place).1 refl in rw own refl
+index_of-distinct (s ∷ ss) (suc i) d h l =
+    let rest : index_of (get_or ss i d).place ss ≡ Some i = index_of-distinct ss i d h.1 (omega (arith, l)) in
+    elim (eqb_tells s.place (get_or ss i d).place) [
+      | inl e ↦ absurd (let found : index_of s.place ss ≡ Some i = ap (λ p. index_of p ss) e.1 ∙ rest in let no : true ≡ false = rw found at h.0 in cc)
+      | inr e ↦ rw (e.0, rest) (ap (λ (n : ℕ). Some n) (add-one i))
+    ]

@@ -1,5 +1,5 @@
 -- what a scan knows of segments, by their places
-use Rattle.std.specs.Prelude.{ℕ, ◌+◌, ◌==◌, nat_lt, if◌then◌else◌, false, List, [], ◌∷◌, length, Option, Some, None, option_map, is_some, ◌||◌}
+use Rattle.std.specs.Prelude.{◌≡◌, ℕ, ◌+◌, ◌==◌, nat_lt, if◌then◌else◌, false, List, [], ◌∷◌, length, Option, Some, None, option_map, is_some, ◌||◌}
 use Rattle.step_memory.specs.declared.record.Record.{Record}
 use Rattle.step_memory.specs.View.{inserted}
 use Rattle.snapshot_core.specs.declared.sightings.Met.{Met}
@@ -25,6 +25,11 @@ sighting_of place (s ∷ ss) = if s.place == place then s else sighting_of place
 abbrev pub index_of : ℕ → List Sighting → Option ℕ
 index_of place [] = None
 index_of place (s ∷ ss) = if s.place == place then Some 0 else option_map (λ k. k + 1) (index_of place ss)
+
+-- no place stands twice
+abbrev pub AreDistinct : List Sighting → Type 0
+AreDistinct [] = Unit {0}
+AreDistinct (s ∷ ss) = (is_some (index_of s.place ss) ≡ false) × AreDistinct ss
 
 -- the list with this in place of what was known of the segment, or at its end
 abbrev pub with_sighting : Sighting → List Sighting → List Sighting

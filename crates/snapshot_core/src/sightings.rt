@@ -68,17 +68,20 @@ impl Sighting {
 pub struct Sightings {
     entries: [Sighting; 64],
     len: usize,
+    // Where `find` looks first: after the entry that was put last, since each collect meets the segments in one order.
+    next: usize,
 }
 
 impl Model for Sightings {
     ghost use Rattle.std.specs.Prelude.{List, length, take, ◌≤◌, ◌≡◌};
     ghost use Rattle.snapshot_core.specs.declared.sightings.Sighting.{Sighting};
+    ghost use Rattle.snapshot_core.specs.Sightings.{AreDistinct};
 
     ghost Value = { List Sighting };
 
     ghost view = { λ s. take s.len s.entries };
 
-    ghost invariant = { λ s. (s.len ≤ 64) × (length s.entries ≡ 64) };
+    ghost invariant = { λ s. (s.len ≤ 64) × (length s.entries ≡ 64) × AreDistinct (take s.len s.entries) };
 }
 
 /// Where the segment at a place is noted.
@@ -120,6 +123,7 @@ impl Sightings {
         Sightings {
             entries: [Sighting::unknown(0); 64],
             len: 0,
+            next: 0,
         }
     }
 
@@ -127,6 +131,9 @@ impl Sightings {
     pub fn find(&self, place: Place) -> Option<usize>
         ensures { result ≡ index_of place self.now }
     {
+        if self.next < self.len && self.entries[self.next].place == place {
+            return Some(self.next);
+        }
         find(&self.entries[..self.len], place)
     }
 
@@ -147,11 +154,15 @@ impl Sightings {
         ensures { self.new ≡ noted sighting self.old }
     {
         match at {
-            Some(i) => self.entries[i] = sighting,
+            Some(i) => {
+                self.entries[i] = sighting;
+                self.next = i + 1;
+            }
             None => {
                 if self.len < 64 {
                     self.entries[self.len] = sighting;
                     self.len += 1;
+                    self.next = self.len;
                 }
             }
         }
@@ -162,6 +173,7 @@ impl Sightings {
         ensures { self.new ≡ [] }
     {
         self.len = 0;
+        self.next = 0;
     }
 
     /// The view that the present collect met.
@@ -179,6 +191,7 @@ impl Sightings {
     pub fn carry_over(&mut self)
         ensures { self.new ≡ map carried_over self.old }
     {
-        carry_over_all(&mut self.entries);
+        carry_over_all(&mut self.entries[..self.len]);
+        self.next = 0;
     }
 }
