@@ -33,13 +33,12 @@ pub struct RenameWorld<W: RenamePlaces<A>, A: Allocator> {
 impl<W: RenamePlaces<A>, A: Allocator> Model for RenameWorld<W, A> {
     ghost use Rattle.std.specs.Prelude.{vec_capacity};
     ghost use Rattle.rename_core.specs.RenameState.{RenameState, HasRoom};
-    ghost use Rattle.step_memory.specs.Participant.{AreDistinct};
 
     ghost Value = { RenameState W W.Walker W.Walk };
 
     ghost view = { λ w. record { snap = w.snap; rounds = w.rounds.items; limit = w.limit } };
 
-    ghost invariant = { λ w. HasRoom (vec_capacity w.rounds) w.snap w.rounds.items × AreDistinct w.rounds.items };
+    ghost invariant = { λ w. HasRoom (vec_capacity w.rounds) w.snap w.rounds.items };
 }
 
 /// Puts the proposal of a participant into a view, where it has made one.

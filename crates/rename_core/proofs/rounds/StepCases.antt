@@ -4,8 +4,9 @@ use Rattle.std.specs.Prelude.{option_map, is_some}
 use Rattle.step_memory.specs.declared.participant.Participant.{Participant}
 use Rattle.step_memory.specs.declared.refusal.Refusal.{Refusal}
 use Rattle.step_memory.specs.declared.refusal.Refusal.TheVariants.{NotBegun}
-use Rattle.step_memory.specs.Participant.{participant_of, program_of, beginner}
+use Rattle.step_memory.specs.Participant.{participant_of, program_of, identities, beginner}
 use Rattle.step_memory.specs.World.{begin_refusal, done_unless}
+use Rattle.step_memory.proofs.DistinctParticipants.{identities-push}
 use Rattle.std.proofs.lemmas.List.{length-append}
 use Rattle.snapshot_core.specs.declared.client.SnapReply.{SnapReply}
 use Rattle.snapshot_core.specs.SnapWorld.{SnapState, beginner_at}
@@ -19,7 +20,7 @@ use Rattle.rename_core.specs.declared.round.Wish.TheVariants.{Nothing, Update, S
 use Rattle.rename_core.proofs.Large.{IsAsLarge, scan_large, update_large, snap_large}
 
 pub wish_large : {S U K : Type 0} (w : SnapState S U K) (p : ℕ) (wish : Wish) → IsAsLarge w (after_wish w p wish)
-wish_large w p Nothing = record { most = refl; many = refl }
+wish_large w p Nothing = record { most = refl; many = refl; same = refl }
 wish_large w p (Update value) = update_large w p value
 wish_large w p Scan = scan_large w p
 
@@ -32,17 +33,18 @@ was_begun None done h = refl
 was_begun (Some why) done h = absurd (cc)
 
 -- one more takes part after an accepted `begin`
-pub record IsOneMore {S U K : Type 0} (w new : SnapState S U K) : Type 0 where
+pub record IsOneMore {S U K : Type 0} (p : ℕ) (w new : SnapState S U K) : Type 0 where
   pub most : new.most ≡ w.most
   pub many : length new.participants ≡ length w.participants + 1
+  pub known : identities new.participants ≡ identities w.participants ++ p ∷ []
 
-pub begun_large : {S R V U K : Type 0} (W : KnownPlaces S R V U K) (w : RenameState S U K) (p : ℕ) (wish : Wish) → begin_refusal w.snap p ≡ None → IsOneMore w.snap (after_wish (begun_snap W w p) p wish)
+pub begun_large : {S R V U K : Type 0} (W : KnownPlaces S R V U K) (w : RenameState S U K) (p : ℕ) (wish : Wish) → begin_refusal w.snap p ≡ None → IsOneMore p w.snap (after_wish (begun_snap W w p) p wish)
 begun_large W w p wish goes =
     let b = wish_large (begun_snap W w p) p wish in
     let most : (begun_snap W w p).most ≡ w.snap.most = rw goes refl in
     let new = beginner p (beginner_at W w.snap p) in
     let all : (begun_snap W w p).participants ≡ w.snap.participants ++ new ∷ [] = rw goes refl in
-    record { most = b.most ∙ most; many = b.many ∙ ap length all ∙ length-append w.snap.participants (new ∷ []) }
+    record { most = b.most ∙ most; many = b.many ∙ ap length all ∙ length-append w.snap.participants (new ∷ []); known = b.same ∙ ap identities all ∙ identities-push w.snap.participants new }
 
 module _ {S R V U K : Type 0} (W : KnownPlaces S R V U K) (w : RenameState S U K) (p : ℕ) where
   pub absent_answer : participant_of p w.rounds ≡ None → Err NotBegun ≡ rename_answer W w p
@@ -81,4 +83,4 @@ module _ {S R V U K : Type 0} (W : KnownPlaces S R V U K) (w : RenameState S U K
   step_large wish =
       let a = snap_large W w.snap p in
       let b = wish_large (snap_step W w p) p wish in
-      record { most = b.most ∙ a.most; many = b.many ∙ a.many }
+      record { most = b.most ∙ a.most; many = b.many ∙ a.many; same = b.same ∙ a.same }

@@ -50,7 +50,7 @@ same_moment : (m n : ℕ → ℕ → Option ℕ) (l k : ℕ) (t : Task) (p value
 same_moment m n l k t p value e f g = rw (e, f, g) refl
 
 both_large : {S U K : Type 0} (a b c : SnapState S U K) → IsAsLarge a b → IsAsLarge b c → IsAsLarge a c
-both_large a b c h k = record { most = k.most ∙ h.most; many = k.many ∙ h.many }
+both_large a b c h k = record { most = k.most ∙ h.most; many = k.many ∙ h.many; same = k.same ∙ h.same }
 
 -- who has made proposals, the last of them stands in the memory
 pub standing_made : (count proposal : ℕ) (stage : Stage) → 1 ≤ count → standing_by (record { count = count; proposal = proposal; stage = stage }) ≡ Some proposal

@@ -1,10 +1,11 @@
-use Rattle.std.proofs.Common.{arith, ◌≡◌, ◌+◌, ◌∷◌, [], None, length, sym, ap, ◌∙◌}
+use Rattle.std.proofs.Common.{arith, ◌≡◌, ◌∷◌, ◌++◌, [], None, length, sym, ap, ◌∙◌}
 use Rattle.std.specs.Prelude.{vec_capacity}
-use Rattle.std.proofs.lemmas.List.{length-append}
+use Rattle.std.proofs.lemmas.List.{length-append, length-map}
 use Rattle.step_memory.specs.Participant.{beginner}
 use Rattle.step_memory.specs.World.{begin_refusal}
 use Rattle.snapshot_core.specs.SnapWorld.{after_snap_begin}
 use Rattle.rename_core.specs.RenameWorld.{after_wish}
+use Rattle.step_memory.proofs.DistinctParticipants.{absent_alike, distinct_push, identities-push}
 use Rattle.step_memory.proofs.WorldKeeps.{let_in}
 use Rattle.rename_core.proofs.rounds.StepCases.{was_begun, begun_large}
 use Rattle.snapshot_core.specs.Places.{KnownPlaces, places_by}
@@ -21,11 +22,15 @@ invariant_of-self-2 g c =
     let asked : c.ask.new.snap ≡ after_wish (after_snap_begin (known g) c.self.inside.snap c.args.id) c.args.id c.first.result = rw (← state) c.ask.ensures in
     let l = begun_large (known g) (record { snap = c.self.inside.snap; rounds = c.self.inside.rounds.items; limit = c.self.inside.limit }) c.args.id c.first.result goes in
     let most = l.most in
-    let many = l.many in
     let old = c.self.invariant in
-    let pushed : length c.push_reserved.new.self.items ≡ length c.self.inside.rounds.items + 1 = ap length c.push_reserved.ensures.items ∙ length-append c.self.inside.rounds.items (beginner c.args.id c.first-2.result ∷ []) in
+    let new = beginner c.args.id c.first-2.result in
+    let items : c.push_reserved.new.self.items ≡ c.self.inside.rounds.items ++ new ∷ [] = c.push_reserved.ensures.items in
     let room : vec_capacity c.push_reserved.new.self ≡ vec_capacity c.self.inside.rounds = c.push_reserved.ensures.capacity in
     let inside = let_in c.self.inside.snap c.args.id goes in
     let free = inside.room in
-    let one_more : length c.push_reserved.new.self.items ≡ length c.self.inside.snap.participants + 1 = pushed ∙ ap (λ n. n + 1) old.2 in
-    rw asked (rw (most, room) old.0, rw most old.1, one_more ∙ sym many, rw (most, one_more) (omega arith))
+    let known_in : length c.self.inside.rounds.items ≡ length c.self.inside.snap.participants = sym (length-map c.self.inside.rounds.items (λ p. p.identity)) ∙ ap length old.2 ∙ length-map c.self.inside.snap.participants (λ p. p.identity) in
+    let size = length-append c.self.inside.rounds.items (new ∷ []) in
+    let same = identities-push c.self.inside.rounds.items new ∙ ap (λ ids. ids ++ c.args.id ∷ []) old.2 ∙ sym l.known in
+    let absent = absent_alike c.args.id c.self.inside.snap.participants c.self.inside.rounds.items old.2 inside.absent in
+    let distinct = distinct_push c.self.inside.rounds.items new absent old.4 in
+    rw (asked, items) (rw (most, room) old.0, rw most old.1, same, rw (most, size) (omega (arith, free, known_in)), distinct)

@@ -1,7 +1,8 @@
-use Rattle.std.proofs.Common.{rules, ◌≡◌, false, Some, None, Ok, Err, get_or, set, refl, sym, ap, ◌∙◌, arith}
+use Rattle.std.proofs.Common.{rules, ◌≡◌, Some, None, Ok, Err, get_or, set, refl, sym, ap, ◌∙◌}
 use Rattle.std.proofs.lemmas.List.{length-set}
 use Rattle.step_memory.specs.Participant.{index_of, participant_of, with_participant, beginner}
-use Rattle.step_memory.proofs.Found.{Found, found, none-index_of, index_of-below}
+use Rattle.step_memory.proofs.DistinctParticipants.{distinct_set, identities-set}
+use Rattle.step_memory.proofs.Found.{Found, found, none-index_of}
 use Rattle.snapshot_core.specs.SnapWorld.{after_snap_step}
 use Rattle.step_memory.specs.declared.refusal.Refusal.TheVariants.{NoMemory}
 use Rattle.rename_core.specs.declared.round.Follow.{Follow}
@@ -20,7 +21,7 @@ known g = places_by g.W.Walker.StepProgram.steps g.W.Walker.PlaceWalker.place_of
 absent : (g : _) (c : In_default g) → participant_of c.args.id c.args.self.now.rounds ≡ None
 absent g c =
     let v : c.self.inside.rounds.items ≡ c.args.self.now.rounds = ap (λ w. w.rounds) c.self.view_is in
-    let n : None ≡ index_of c.args.id c.deref.result.now = c.in_default.ensures in
+    let n : None ≡ index_of c.args.id c.deref.result.now = c.in_default.ensures.answer in
     let e : index_of c.args.id c.args.self.now.rounds ≡ None = cc in
     none-index_of c.args.id c.args.self.now.rounds e
 
@@ -30,18 +31,18 @@ returns-in_default-clause-answer g c = λ _. absent_answer (known g) c.args.self
 pub returns-in_default-clause-state : goal.returns-in_default-clause-state
 returns-in_default-clause-state g c = λ _. absent_state (known g) c.args.self.now c.args.id (absent g c)
 
-pub index-requires : goal.index-requires
-index-requires g c =
-    let n : Some c.in-Some.i ≡ index_of c.args.id c.deref.result.now = c.in-Some.ensures in
-    omega (arith, index_of-below c.args.id c.deref.result.now c.in-Some.i n, c.deref.ensures.len)
-
 there : (g : _) (c : After-index g) → Found c.args.id c.args.self.now.rounds c.in-Some.i c.index.result.now
 there g c =
     let v : c.self.inside.rounds.items ≡ c.args.self.now.rounds = ap (λ w. w.rounds) c.self.view_is in
-    let n : Some c.in-Some.i ≡ index_of c.args.id c.deref.result.now = c.in-Some.ensures in
+    let n : Some c.in-Some.i ≡ index_of c.args.id c.deref.result.now = c.in-Some.ensures.answer in
     let e : Some c.in-Some.i ≡ index_of c.args.id c.args.self.now.rounds = cc in
     let p : c.index.result.now ≡ get_or c.args.self.now.rounds c.in-Some.i c.index.result.now = rw (← v) c.index.ensures in
     found c.args.id c.args.self.now.rounds c.in-Some.i c.index.result.now e p
+
+-- it stands there among the rounds as they are kept
+kept_there : (g : _) (c : After-index g) → Found c.args.id c.self.inside.rounds.items c.in-Some.i c.index.result.now
+kept_there g c =
+    found c.args.id c.self.inside.rounds.items c.in-Some.i c.index.result.now (c.in-Some.ensures.answer ∙ ap (index_of c.args.id) c.deref.ensures.value) c.index.ensures
 
 pub returns-in-Some-refusal-clause-answer : goal.returns-in-Some-refusal-clause-answer
 returns-in-Some-refusal-clause-answer g c = λ _.
@@ -74,11 +75,6 @@ returns-in_err-step-clause-no_memory g c = λ e.
     let same : c.in_err-step.field-0.0 ≡ NoMemory = cc in
     (open_refusal (known g) c.args.self.now c.args.id c.index.result.now f.is none, rw (← s) (c.in_err-step.ensures.no_memory (ap Err same)))
 
-pub index_mut-requires : goal.index_mut-requires
-index_mut-requires g c =
-    let n : Some c.in-Some.i ≡ index_of c.args.id c.deref.result.now = c.in-Some.ensures in
-    omega (arith, index_of-below c.args.id c.deref.result.now c.in-Some.i n, c.deref.ensures.len)
-
 pub returns-clause-answer : goal.returns-clause-answer
 returns-clause-answer g c = λ _.
     let f = there g (goal.at.returns-clause-answer g c).After-index in
@@ -100,12 +96,15 @@ asked g c =
 pub invariant_of-self-2 : goal.invariant_of-self-2
 invariant_of-self-2 g c =
     let a = asked g (goal.at.invariant_of-self-2 g c).After-ask in
+    let f = kept_there g (goal.at.invariant_of-self-2 g c).After-index in
     let l = step_large (known g) (record { snap = c.self.inside.snap; rounds = c.self.inside.rounds.items; limit = c.self.inside.limit }) c.args.id c.followed-follow.result.wish in
     let most = l.most in
-    let many = l.many in
     let old = c.self.invariant in
-    let size = length-set c.self.inside.rounds.items c.in-Some.i (record { identity = c.args.id; program = c.followed-follow.result.round; ended = false }) in
-    rw a (rw most old.0, rw most old.1, size ∙ old.2 ∙ sym many, rw (most, size) old.3)
+    let new = beginner c.args.id c.followed-follow.result.round in
+    let size = length-set c.self.inside.rounds.items c.in-Some.i new in
+    let same = identities-set c.args.id c.self.inside.rounds.items c.in-Some.i c.index.result.now new f refl in
+    let distinct = distinct_set c.args.id c.self.inside.rounds.items c.in-Some.i c.index.result.now new f refl old.4 in
+    rw a (rw most old.0, rw most old.1, same ∙ old.2 ∙ sym l.same, rw (most, size) old.3, distinct)
 
 pub returns-clause-state : goal.returns-clause-state
 returns-clause-state g c = λ _.

@@ -1,7 +1,8 @@
-use Rattle.std.proofs.Common.{rules, ◌≡◌, ◌<◌, true, false, Some, None, Ok, get_or, set, refl, sym, ap, ◌∙◌, arith, length}
+use Rattle.std.proofs.Common.{rules, ◌≡◌, ◌<◌, true, false, Some, None, Ok, get_or, set, refl, sym, ap, ◌∙◌, length}
 use Rattle.std.specs.Prelude.{is_some}
 use Rattle.std.proofs.lemmas.List.{length-set, get_or_default}
 use Rattle.step_memory.specs.Participant.{index_of, participant_of, with_participant, beginner}
+use Rattle.step_memory.proofs.DistinctParticipants.{distinct_set, identities-set}
 use Rattle.step_memory.proofs.Found.{Found, found, none-index_of, index_of-below}
 use Rattle.snapshot_core.specs.declared.client.SnapReply.TheVariants.{Quiet}
 use Rattle.snapshot_core.specs.SnapWorld.{after_snap_step}
@@ -20,7 +21,7 @@ known g = places_by g.W.Walker.StepProgram.steps g.W.Walker.PlaceWalker.place_of
 absent : (g : _) (c : In_default g) → participant_of c.args.id c.args.self.now.rounds ≡ None
 absent g c =
     let v : c.self.inside.rounds.items ≡ c.args.self.now.rounds = ap (λ w. w.rounds) c.self.view_is in
-    let n : None ≡ index_of c.args.id c.deref.result.now = c.in_default.ensures in
+    let n : None ≡ index_of c.args.id c.deref.result.now = c.in_default.ensures.answer in
     let e : index_of c.args.id c.args.self.now.rounds ≡ None = cc in
     none-index_of c.args.id c.args.self.now.rounds e
 
@@ -30,23 +31,18 @@ returns-in_default-clause-answer g c = λ view. absent_answer (known g) c.args.s
 pub returns-in_default-clause-state : goal.returns-in_default-clause-state
 returns-in_default-clause-state g c = absent_state (known g) c.args.self.now c.args.id (absent g c)
 
-pub index-requires : goal.index-requires
-index-requires g c =
-    let n : Some c.in-Some.i ≡ index_of c.args.id c.deref.result.now = c.in-Some.ensures in
-    omega (arith, index_of-below c.args.id c.deref.result.now c.in-Some.i n, c.deref.ensures.len)
-
 there : (g : _) (c : After-index g) → Found c.args.id c.args.self.now.rounds c.in-Some.i c.index.result.now
 there g c =
     let v : c.self.inside.rounds.items ≡ c.args.self.now.rounds = ap (λ w. w.rounds) c.self.view_is in
-    let n : Some c.in-Some.i ≡ index_of c.args.id c.deref.result.now = c.in-Some.ensures in
+    let n : Some c.in-Some.i ≡ index_of c.args.id c.deref.result.now = c.in-Some.ensures.answer in
     let e : Some c.in-Some.i ≡ index_of c.args.id c.args.self.now.rounds = cc in
     let p : c.index.result.now ≡ get_or c.args.self.now.rounds c.in-Some.i c.index.result.now = rw (← v) c.index.ensures in
     found c.args.id c.args.self.now.rounds c.in-Some.i c.index.result.now e p
 
-pub index_mut-requires : goal.index_mut-requires
-index_mut-requires g c =
-    let n : Some c.in-Some.i ≡ index_of c.args.id c.deref.result.now = c.in-Some.ensures in
-    omega (arith, index_of-below c.args.id c.deref.result.now c.in-Some.i n, c.deref.ensures.len)
+-- it stands there among the rounds as they are kept
+kept_there : (g : _) (c : After-index g) → Found c.args.id c.self.inside.rounds.items c.in-Some.i c.index.result.now
+kept_there g c =
+    found c.args.id c.self.inside.rounds.items c.in-Some.i c.index.result.now (c.in-Some.ensures.answer ∙ ap (index_of c.args.id) c.deref.ensures.value) c.index.ensures
 
 pub returns-in-Some-refusal-clause-answer : goal.returns-in-Some-refusal-clause-answer
 returns-in-Some-refusal-clause-answer g c = λ view.
@@ -79,7 +75,7 @@ goes g c read =
 -- it goes on as it stood
 goes_on : (g : _) (c : After-index_mut g) → c.index.result.now.identity ≡ c.args.id → record { identity = c.index_mut.result.now.identity; program = c.index_mut.result.now.program; ended = false } ≡ beginner c.args.id c.index.result.now.program
 goes_on g c same_identity =
-    let n : Some c.in-Some.i ≡ index_of c.args.id c.deref.result.now = c.in-Some.ensures in
+    let n : Some c.in-Some.i ≡ index_of c.args.id c.deref.result.now = c.in-Some.ensures.answer in
     let below : c.in-Some.i < length c.self.inside.rounds.items = rw (← c.deref.ensures.value) (index_of-below c.args.id c.deref.result.now c.in-Some.i n) in
     let same : c.index_mut.result.now ≡ c.index.result.now = c.index_mut.ensures.value ∙ get_or_default c.self.inside.rounds.items c.in-Some.i _ _ below ∙ sym c.index.ensures in
     rw (same, same_identity) refl
@@ -112,9 +108,11 @@ invariant_of-self-2 g c =
     let s : c.self.inside.snap ≡ c.args.self.now.snap = ap (λ w. w.snap) c.self.view_is in
     let l = step_large (known g) c.args.self.now c.args.id Nothing in
     let most = l.most in
-    let many = l.many in
     let old = rw s at c.self.invariant in
-    let size = length-set c.self.inside.rounds.items c.in-Some.i (beginner c.args.id c.index.result.now.program) in
-    let f = there g (goal.at.invariant_of-self-2 g c).After-index in
+    let f = kept_there g (goal.at.invariant_of-self-2 g c).After-index in
+    let new = beginner c.args.id c.index.result.now.program in
+    let size = length-set c.self.inside.rounds.items c.in-Some.i new in
+    let same = identities-set c.args.id c.self.inside.rounds.items c.in-Some.i c.index.result.now new f refl in
+    let distinct = distinct_set c.args.id c.self.inside.rounds.items c.in-Some.i c.index.result.now new f refl old.4 in
     let on = goes_on g (goal.at.invariant_of-self-2 g c).After-index_mut f.identity in
-    rw (w.stepped, on) (rw most old.0, rw most old.1, size ∙ old.2 ∙ sym many, rw (most, size) old.3)
+    rw (w.stepped, on) (rw most old.0, rw most old.1, same ∙ old.2 ∙ sym l.same, rw (most, size) old.3, distinct)
