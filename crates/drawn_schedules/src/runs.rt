@@ -22,6 +22,7 @@ use step_memory::{Refusal, View};
 const LINE_ROOM: usize = 106;
 
 /// Takes one event and counts it; `Fault::Memory` where the desk was refused memory.
+#[inline(always)]
 fn take<A: Allocator + Clone>(
     desk: &mut Desk<A>,
     event: Event,

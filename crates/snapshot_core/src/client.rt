@@ -198,8 +198,7 @@ where
         match self.pending {
             Pending::Nothing => None,
             Pending::Placing => None,
-            Pending::Scan => Some(self.scan.walk.next()),
-            Pending::Update(_) => Some(self.scan.walk.next()),
+            Pending::Scan | Pending::Update(_) => Some(self.scan.walk.next()),
             Pending::Write(_, _) => None,
         }
     }
@@ -212,8 +211,7 @@ where
         match self.pending {
             Pending::Nothing => false,
             Pending::Placing => false,
-            Pending::Scan => self.scan.read_on(got, self.walk),
-            Pending::Update(_) => self.scan.read_on(got, self.walk),
+            Pending::Scan | Pending::Update(_) => self.scan.read_on(got, self.walk),
             Pending::Write(_, _) => false,
         }
     }

@@ -49,6 +49,7 @@ impl<K: SegmentWalk + Copy> Scan<K> {
     /// compare each segment as it is met tells what a comparison of all numbers at the collect's end would, in which one
     /// that was not reached counts as 0: a segment that one collect met was written before the next began, and a walk meets
     /// it again.)
+    #[inline(never)]
     fn meet(&mut self, place: Place, found: &Record) -> bool
         ensures after { self.new ≡ met self.old place found.now }
         ensures answer { result ≡ not (is_second_change self.old place found.now) }
@@ -72,6 +73,7 @@ impl<K: SegmentWalk + Copy> Scan<K> {
 
     /// Meets the segment that was read, where it is one and was written. False where it is seen to have changed twice: then
     /// nothing has changed.
+    #[inline(always)]
     fn meet_read(&mut self, got: &K::Value) -> bool
         ensures after { self.new ≡ met_at K.walks self.old (K.walks.place self.old.walk) (K.walks.content got.now) }
         ensures answer { result ≡ not (is_some (view_at K.walks self.old (K.walks.place self.old.walk) (K.walks.content got.now))) }
@@ -86,7 +88,8 @@ impl<K: SegmentWalk + Copy> Scan<K> {
         self.meet(place, found)
     }
 
-    /// Another collect begins, which takes this walk.
+    /// Another collect begins, which takes this walk. A function of its own, since few reads end a collect.
+    #[inline(never)]
     fn begin_collect(&mut self, walk: K)
         ensures { self.new ≡ next_collect self.old walk }
     {
@@ -129,6 +132,7 @@ impl<K: SegmentWalk + Copy> Scan<K> {
 
     /// Takes what the walk's next read gave, where the scan goes on. Tells whether it did; where not, nothing has changed,
     /// and `resume` takes it.
+    #[inline(always)]
     pub fn read_on(&mut self, got: &K::Value, walk: K) -> bool
         ensures after { result ≡ true → self.new ≡ scan_after K.walks self.old got.now walk }
         ensures goes { result ≡ true → scan_view K.walks self.old got.now ≡ None }

@@ -119,6 +119,7 @@ where
     /// One step of a participant, if it is a read of a scan that goes on, or a step of a way that goes on: it copies no
     /// segment, and answers `Quiet`. Tells whether it was made; where not, nothing has changed, and `step` makes it or
     /// refuses it.
+    #[inline(always)]
     pub fn read_on(&mut self, id: u64) -> bool
         ensures answer { result ≡ true → snap_answer ⟦<W as Known>⟧.places self.old id ≡ Ok SnapReply.Quiet }
         ensures state { result ≡ true → self.new ≡ after_snap_step ⟦<W as Known>⟧.places self.old id }
