@@ -30,7 +30,13 @@ fn goes_right(place: Place, depth: u32) -> bool
     requires within { depth < 128 }
     ensures { result ≡ is_right place depth }
 {
-    (place >> (depth - 1)) % 2 == 1
+    if depth <= 64 {
+        let low = (place % (1 << 64)) as u64;
+        (low >> (depth - 1)) % 2 == 1
+    } else {
+        let high = (place >> 64) as u64;
+        (high >> (depth - 65)) % 2 == 1
+    }
 }
 
 /// What a node holds that lies so many levels below a link, where it is there.
@@ -39,15 +45,22 @@ fn find_below<A: Allocator>(link: &Link<A>, place: Place, depth: u32) -> Option<
     requires number { 0 < place / 2 ^ depth }
     ensures { option_copied result ≡ registers_below (place / 2 ^ depth) link.now place }
 {
-    let Some(node) = link else {
-        return None;
-    };
-    if depth == 0 {
-        Some(&node.registers)
-    } else if goes_right(place, depth) {
-        find_below(&node.right, place, depth - 1)
-    } else {
-        find_below(&node.left, place, depth - 1)
+    let mut link = link;
+    let mut depth = depth;
+    while 0 < depth {
+        let Some(node) = link else {
+            return None;
+        };
+        if goes_right(place, depth) {
+            link = &node.right;
+        } else {
+            link = &node.left;
+        }
+        depth -= 1;
+    }
+    match link {
+        Some(node) => Some(&node.registers),
+        None => None,
     }
 }
 
