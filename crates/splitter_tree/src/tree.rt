@@ -12,7 +12,7 @@ ghost use Rattle.splitter_tree.specs.Walk.{next_access, walker_after, walker_not
 
 use crate::node::{Link, find_from, write_from};
 use crate::node_registers::NodeRegisters;
-use crate::register::{TreeRegister, TreeValue};
+use crate::register::{TreeRegister, TreeValue, WrittenValue};
 use crate::walker::Walker;
 use std::alloc::Allocator;
 use std::marker::Model;
@@ -124,7 +124,7 @@ impl<A: Allocator + Clone> Tree<A> {
                     &mut self.root,
                     &self.alloc,
                     register,
-                    TreeValue::Word(word),
+                    WrittenValue::Word(word),
                 ).is_err()
                 {
                     return false;
@@ -174,7 +174,7 @@ impl<A: Allocator + Clone> StepMemory for Tree<A> {
         Ok(match a {
             Access::Read(register) => Answer::Value(self.read(register)),
             Access::Write(register, value) => {
-                write_from(&mut self.root, &self.alloc, register, value)?;
+                write_from(&mut self.root, &self.alloc, register, value.to_write())?;
                 Answer::Done
             }
             Access::TestAndSet(_) => Answer::WasSet(false),
