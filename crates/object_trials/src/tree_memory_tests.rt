@@ -2,7 +2,9 @@
 
 use crate::full_heap::filling;
 use linked_list_allocator::LocalHeap;
-use splitter_tree::{NodeRegisters, Tree, TreeRegister, TreeValue, law_of_tree_memory};
+use splitter_tree::{
+    NodeRegisters, Tree, TreeRegister, TreeValue, WrittenValue, law_of_tree_memory,
+};
 use std::test::Fail;
 use step_memory::{Access, Answer, NoMemory, Place, StepMemory};
 
@@ -67,7 +69,7 @@ fn a_node_keeps_its_own_words(rt: HostRuntime) {
         assert_eq!(rt; y, Some(if place == 3 { 1 } else { 0 }));
     }
     let mut registers = NodeRegisters::new();
-    registers.write(TreeRegister::X(3), TreeValue::Word(30));
+    registers.write(TreeRegister::X(3), WrittenValue::Word(30));
     assert!(rt; matches!(registers.read(TreeRegister::X(3)), TreeValue::Word(30)));
     assert!(rt;
         matches!(

@@ -12,6 +12,8 @@ use Rattle.splitter_tree.specs.declared.register.TreeRegister.{TreeRegister}
 use Rattle.splitter_tree.specs.declared.register.TreeRegister.TheVariants.{Mark, X, Y, Contents}
 use Rattle.splitter_tree.specs.declared.register.TreeValue.{TreeValue}
 use Rattle.splitter_tree.specs.declared.register.TreeValue.TheVariants as value
+use Rattle.splitter_tree.specs.declared.register.WrittenValue.{WrittenValue}
+use Rattle.splitter_tree.specs.declared.register.WrittenValue.TheVariants as to_write
 
 -- the nodes that are there, by their numbers
 abbrev pub NodeMap : Type 0
@@ -38,6 +40,11 @@ value_in (Y p) None = value.Word 0
 value_in (Y p) (Some registers) = value.Word registers.y
 value_in (Contents p) None = value.Contents None
 value_in (Contents p) (Some registers) = value.Contents registers.segment
+
+-- the value that is to be written
+abbrev pub value_of : WrittenValue → TreeValue
+value_of (to_write.Word w) = value.Word w
+value_of (to_write.Contents s) = value.Contents s.now
 
 -- the value that stands in a register; there is no bit
 abbrev pub register_of : NodeMap → TreeRegister → TreeValue × Bool

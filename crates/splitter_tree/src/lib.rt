@@ -53,7 +53,7 @@ pub use laws::{
 };
 pub use node::{Link, Node};
 pub use node_registers::NodeRegisters;
-pub use register::{TreeRegister, TreeValue};
+pub use register::{TreeRegister, TreeValue, WrittenValue};
 pub use tree::Tree;
 pub use walker::Walker;
 pub use world::TreeWorld;

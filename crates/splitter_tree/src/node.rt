@@ -4,10 +4,10 @@ ghost use Rattle.std.specs.Prelude.{◌≡◌, ◌<◌, ◌/◌, ◌^◌, ℕ, O
 ghost use Rattle.std.specs.FinMap as map;
 ghost use Rattle.step_memory.specs.SetAt.{set_at};
 ghost use Rattle.splitter_tree.specs.Nodes.{registers_below, nodes_of, grown, is_lacking, is_right, IsWritten, IsGrown};
-ghost use Rattle.splitter_tree.specs.TreeSteps.{number_in, written, fresh_registers, after_write, makes_node};
+ghost use Rattle.splitter_tree.specs.TreeSteps.{number_in, written, fresh_registers, after_write, makes_node, value_of};
 
 use crate::node_registers::NodeRegisters;
-use crate::register::{TreeRegister, TreeValue};
+use crate::register::{TreeRegister, WrittenValue};
 use std::alloc::Allocator;
 use step_memory::{NoMemory, Place};
 
@@ -30,7 +30,13 @@ fn goes_right(place: Place, depth: u32) -> bool
     requires within { depth < 128 }
     ensures { result ≡ is_right place depth }
 {
-    (place >> (depth - 1)) % 2 == 1
+    if depth <= 64 {
+        let low = (place % (1 << 64)) as u64;
+        (low >> (depth - 1)) % 2 == 1
+    } else {
+        let high = (place >> 64) as u64;
+        (high >> (depth - 65)) % 2 == 1
+    }
 }
 
 /// What a node holds that lies so many levels below a link, where it is there.
@@ -39,15 +45,22 @@ fn find_below<A: Allocator>(link: &Link<A>, place: Place, depth: u32) -> Option<
     requires number { 0 < place / 2 ^ depth }
     ensures { option_copied result ≡ registers_below (place / 2 ^ depth) link.now place }
 {
-    let Some(node) = link else {
-        return None;
-    };
-    if depth == 0 {
-        Some(&node.registers)
-    } else if goes_right(place, depth) {
-        find_below(&node.right, place, depth - 1)
-    } else {
-        find_below(&node.left, place, depth - 1)
+    let mut link = link;
+    let mut depth = depth;
+    while 0 < depth {
+        let Some(node) = link else {
+            return None;
+        };
+        if goes_right(place, depth) {
+            link = &node.right;
+        } else {
+            link = &node.left;
+        }
+        depth -= 1;
+    }
+    match link {
+        Some(node) => Some(&node.registers),
+        None => None,
     }
 }
 
@@ -56,17 +69,17 @@ fn write_below<A: Allocator>(
     link: &mut Link<A>,
     depth: u32,
     register: TreeRegister,
-    value: &TreeValue,
+    value: WrittenValue,
 )
     requires within { depth < 128 }
     requires number { 0 < number_in register / 2 ^ depth }
-    ensures { let top = number_in register / 2 ^ depth in IsWritten (registers_below top link.old) (registers_below top link.new) register value.now }
+    ensures { let top = number_in register / 2 ^ depth in IsWritten (registers_below top link.old) (registers_below top link.new) register (value_of value.entry) }
 {
     let Some(node) = link else {
         return;
     };
     if depth == 0 {
-        node.registers.write(register, *value);
+        node.registers.write(register, value);
     } else if goes_right(register.node(), depth) {
         write_below(&mut node.right, depth - 1, register, value);
     } else {
@@ -142,21 +155,21 @@ pub(crate) fn write_from<A: Allocator + Clone>(
     root: &mut Link<A>,
     alloc: &A,
     register: TreeRegister,
-    value: TreeValue,
+    value: WrittenValue,
 ) -> Result<(), NoMemory>
-    ensures after { OnOk result (nodes_of root.new ≡ after_write (nodes_of root.old) register value) }
+    ensures after { OnOk result (nodes_of root.new ≡ after_write (nodes_of root.old) register (value_of value.entry)) }
     ensures refused { OnErr result (root.new ≡ root.old) }
-    ensures no_memory { OnErr result (makes_node (nodes_of root.old) register value ≡ true) }
+    ensures no_memory { OnErr result (makes_node (nodes_of root.old) register (value_of value.entry) ≡ true) }
 {
     let place = register.node();
     if place == 0 {
         return Ok(());
     }
     let depth = place.ilog2();
-    if register.is_set_by(&value) {
+    if register.is_set_by(value) {
         grow_below(root, alloc, place, depth)
     } else {
-        write_below(root, depth, register, &value);
+        write_below(root, depth, register, value);
         Ok(())
     }
 }

@@ -2,10 +2,10 @@
 
 ghost use Rattle.std.specs.Prelude.{◌≡◌, Some, IfSome};
 ghost use Rattle.splitter_tree.specs.declared.register.TreeValue.TheVariants as value;
-ghost use Rattle.splitter_tree.specs.TreeSteps.{fresh_registers, value_in, registers_after_write};
+ghost use Rattle.splitter_tree.specs.TreeSteps.{fresh_registers, value_in, value_of, registers_after_write};
 
 use crate::kept_segment::KeptSegment;
-use crate::register::{TreeRegister, TreeValue};
+use crate::register::{TreeRegister, TreeValue, WrittenValue};
 
 /// What a node of the tree holds: its splitter's X and Y, and its segment. Its mark is set as long as the node is there.
 #[derive(Clone, Copy, Debug, Drop)]
@@ -55,20 +55,20 @@ impl NodeRegisters {
     }
 
     /// Writes into a register of this node. A mark that is set stays set, and a value of the other kind is lost.
-    pub fn write(&mut self, register: TreeRegister, value: TreeValue)
-        ensures { self.new ≡ registers_after_write register value self.old }
+    pub fn write(&mut self, register: TreeRegister, value: WrittenValue)
+        ensures { self.new ≡ registers_after_write register (value_of value.entry) self.old }
     {
         match (register, value) {
-            (TreeRegister::X(_), TreeValue::Word(word)) => self.x = word,
-            (TreeRegister::Y(_), TreeValue::Word(word)) => self.y = word,
-            (TreeRegister::Contents(_), TreeValue::Contents(segment)) => {
-                self.segment = KeptSegment::of(segment);
+            (TreeRegister::X(_), WrittenValue::Word(word)) => self.x = word,
+            (TreeRegister::Y(_), WrittenValue::Word(word)) => self.y = word,
+            (TreeRegister::Contents(_), WrittenValue::Contents(segment)) => {
+                self.segment = KeptSegment::of(*segment);
             }
-            (TreeRegister::Mark(_), TreeValue::Word(_)) => {}
-            (TreeRegister::Mark(_), TreeValue::Contents(_)) => {}
-            (TreeRegister::X(_), TreeValue::Contents(_)) => {}
-            (TreeRegister::Y(_), TreeValue::Contents(_)) => {}
-            (TreeRegister::Contents(_), TreeValue::Word(_)) => {}
+            (TreeRegister::Mark(_), WrittenValue::Word(_)) => {}
+            (TreeRegister::Mark(_), WrittenValue::Contents(_)) => {}
+            (TreeRegister::X(_), WrittenValue::Contents(_)) => {}
+            (TreeRegister::Y(_), WrittenValue::Contents(_)) => {}
+            (TreeRegister::Contents(_), WrittenValue::Word(_)) => {}
         }
     }
 }

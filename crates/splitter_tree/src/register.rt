@@ -1,7 +1,7 @@
 //! What the registers of a tree are called, and what stands in them.
 
 ghost use Rattle.std.specs.Prelude.{◌≡◌};
-ghost use Rattle.splitter_tree.specs.TreeSteps.{number_in, sets_mark};
+ghost use Rattle.splitter_tree.specs.TreeSteps.{number_in, sets_mark, value_of};
 
 use step_memory::{Place, Segment};
 
@@ -28,6 +28,27 @@ pub enum TreeValue {
     Contents(Segment),
 }
 
+/// A value that is to be written: a segment is large, and so it is lent.
+#[derive(Clone, Copy, Drop)]
+pub enum WrittenValue<'a> {
+    /// What is to stand in a mark, in X or in Y.
+    Word(u64),
+    /// What is to stand in a segment.
+    Contents(&'a Segment),
+}
+
+impl TreeValue {
+    /// This value, to be written.
+    pub fn to_write(&self) -> WrittenValue
+        ensures { value_of result ≡ self.now }
+    {
+        match self {
+            TreeValue::Word(word) => WrittenValue::Word(*word),
+            TreeValue::Contents(segment) => WrittenValue::Contents(segment),
+        }
+    }
+}
+
 impl TreeRegister {
     /// The number of the node whose register it is.
     pub fn node(self) -> Place
@@ -42,17 +63,12 @@ impl TreeRegister {
     }
 
     /// Whether it is a mark, and this value sets it.
-    pub fn is_set_by(self, value: &TreeValue) -> bool
-        ensures { result ≡ sets_mark self value.now }
+    pub fn is_set_by(self, value: WrittenValue) -> bool
+        ensures { result ≡ sets_mark self (value_of value.entry) }
     {
-        match self {
-            TreeRegister::Mark(_) => match value {
-                TreeValue::Word(word) => *word == 1,
-                TreeValue::Contents(_) => false,
-            },
-            TreeRegister::X(_) => false,
-            TreeRegister::Y(_) => false,
-            TreeRegister::Contents(_) => false,
+        match (self, value) {
+            (TreeRegister::Mark(_), WrittenValue::Word(word)) => word == 1,
+            _ => false,
         }
     }
 }

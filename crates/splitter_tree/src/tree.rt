@@ -2,7 +2,7 @@
 
 ghost use Rattle.std.specs.Prelude.{◌≡◌, OnOk, OnErr, IfOk, IfSome, true, false, option_copied};
 ghost use Rattle.std.specs.FinMap as map;
-ghost use Rattle.splitter_tree.specs.TreeSteps.{tree_steps, empty_tree, value_in, answer_of, after_access, may_refuse, number_in};
+ghost use Rattle.splitter_tree.specs.TreeSteps.{tree_steps, empty_tree, value_in, value_of, is_missing, makes_node, answer_of, after_access, may_refuse, number_in};
 ghost use Rattle.splitter_tree.specs.TreeProofs.{others_kept};
 ghost use Rattle.step_memory.specs.declared.access.Access.{Access};
 ghost use Rattle.step_memory.specs.declared.access.Access.TheVariants.{Read};
@@ -12,8 +12,8 @@ ghost use Rattle.splitter_tree.specs.Walk.{next_access, walker_after, walker_not
 
 use crate::node::{Link, find_from, write_from};
 use crate::node_registers::NodeRegisters;
-use crate::register::{TreeRegister, TreeValue};
-use crate::walker::Walker;
+use crate::register::{TreeRegister, TreeValue, WrittenValue};
+use crate::walker::{MARKED, Walker};
 use std::alloc::Allocator;
 use std::marker::Model;
 use step_memory::{Access, Answer, NoMemory, Place, StepMemory, StepProgram};
@@ -24,6 +24,8 @@ use step_memory::{Access, Answer, NoMemory, Place, StepMemory, StepProgram};
 pub struct Tree<A: Allocator> {
     root: Link<A>,
     alloc: A,
+    /// Whether room for a node was refused to `walk_on`, which the access that then follows tells.
+    is_refused: bool,
     /// What stands in a mark that is set, to be lent.
     set: TreeValue,
     /// What stands in one that is not.
@@ -57,6 +59,7 @@ impl<A: Allocator> Tree<A> {
         Tree {
             root: None,
             alloc,
+            is_refused: false,
             set: TreeValue::Word(1),
             clear: TreeValue::Word(0),
         }
@@ -97,6 +100,25 @@ impl<A: Allocator + Clone> Tree<A> {
         }
     }
 
+    /// Whether a node is not there and can be made.
+    fn is_missing(&self, place: Place) -> bool
+        ensures { result ≡ is_missing self.now place }
+    {
+        self.registers_at(place).is_none() && (place == 1 || self.registers_at(place / 2).is_some())
+    }
+
+    /// Whether this write makes a node for which room was refused to `walk_on` just now. A refusal is told once.
+    fn tells_refusal(&mut self, register: TreeRegister, value: WrittenValue) -> bool
+        ensures makes { result ≡ true → makes_node self.old register (value_of value.entry) ≡ true }
+        ensures kept { self.new ≡ self.old }
+    {
+        if !self.is_refused {
+            return false;
+        }
+        self.is_refused = false;
+        register.is_set_by(value) && self.is_missing(register.node())
+    }
+
     /// Takes a step of a visit, as `walk_on` does.
     fn visit_on(&mut self, walker: &mut Walker) -> bool
         requires { walker.old.is_marking ≡ false }
@@ -124,8 +146,9 @@ impl<A: Allocator + Clone> Tree<A> {
                     &mut self.root,
                     &self.alloc,
                     register,
-                    TreeValue::Word(word),
-                ).is_err()
+                    WrittenValue::Word(word),
+                )
+                .is_err()
                 {
                     return false;
                 }
@@ -138,8 +161,9 @@ impl<A: Allocator + Clone> Tree<A> {
         true
     }
 
-    /// Takes the next step of a walk where it stands, so that no segment is copied, if it makes no node and the walk then
-    /// goes on and says nothing. Tells whether it did; where not, nothing has changed, and the step is still to be taken.
+    /// Takes the next step of a walk where it stands, so that no segment is copied, if the walk then goes on and says
+    /// nothing. Tells whether it did; where not, nothing has changed, and the step is still to be taken. So it is where the
+    /// step makes a node and room for that was refused: `access` then tells so, and doesn't ask for the room again.
     pub fn walk_on(&mut self, walker: &mut Walker) -> bool
         ensures after { result ≡ true → walker.new ≡ walker_after walker.old (answer_of self.old (next_access walker.old)) }
         ensures quiet { result ≡ true → walker_note walker.old (answer_of self.old (next_access walker.old)) ≡ Quiet }
@@ -150,7 +174,16 @@ impl<A: Allocator + Clone> Tree<A> {
         if !walker.is_marking {
             return self.visit_on(walker);
         }
-        if self.registers_at(walker.place).is_none() {
+        let mark = TreeRegister::Mark(walker.place);
+        if write_from(
+            &mut self.root,
+            &self.alloc,
+            mark,
+            WrittenValue::Word(MARKED),
+        )
+        .is_err()
+        {
+            self.is_refused = true;
             return false;
         }
         walker.is_marking = false;
@@ -174,7 +207,11 @@ impl<A: Allocator + Clone> StepMemory for Tree<A> {
         Ok(match a {
             Access::Read(register) => Answer::Value(self.read(register)),
             Access::Write(register, value) => {
-                write_from(&mut self.root, &self.alloc, register, value)?;
+                let written = value.to_write();
+                if self.tells_refusal(register, written) {
+                    return Err(NoMemory);
+                }
+                write_from(&mut self.root, &self.alloc, register, written)?;
                 Answer::Done
             }
             Access::TestAndSet(_) => Answer::WasSet(false),

@@ -13,7 +13,7 @@ use step_memory::{Access, Answer, Note, Place, StepProgram};
 const ROOT: Place = 1;
 
 /// What stands in the mark of a node once anyone has come to it; 0 stands there before.
-const MARKED: u64 = 1;
+pub(crate) const MARKED: u64 = 1;
 
 /// The node that down leads to. No tree is as deep as the numbers of places go.
 fn left_child(place: Place) -> Place

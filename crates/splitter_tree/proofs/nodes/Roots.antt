@@ -8,7 +8,6 @@ use Rattle.std.proofs.lemmas.Cmp.{nat_cmp_total}
 use Rattle.std.proofs.lemmas.Bool.Decides.{eqb_tells, Decides-eqb, same_from_decides}
 use Rattle.std.proofs.lemmas.Nat.{le-div, div_below, pow_below, pow_pos}
 use Rattle.step_memory.specs.SetAt.{set_at}
-use Rattle.step_memory.proofs.SetAtLemmas.{set_at-as_is}
 use Rattle.splitter_tree.specs.declared.node_registers.NodeRegisters.{NodeRegisters}
 use Rattle.splitter_tree.specs.declared.node.Node.{Node}
 use Rattle.splitter_tree.specs.declared.register.TreeRegister.{TreeRegister}
@@ -84,17 +83,6 @@ after_zero old r v e =
     let whole : is_missing m (number_in r) ≡ false = rw (here, parent, below) refl in
     sym (ap (λ b. cond b (map.insert m (number_in r) fresh_registers) (with_registers m (number_in r) (written r v (map.get m (number_in r))))) (ap (λ b. sets_mark r v && b) whole ∙ and_false (sets_mark r v))
     ∙ ap (λ o. with_registers m (number_in r) (written r v o)) here)
-
-mark_stays : (p : ℕ) (missing : Bool) (o : Option NodeRegisters) → is_some o ≡ true → cond (sets_mark (Mark p) (value.Word 1) && (not (is_some o) && missing)) (Some fresh_registers) (written (Mark p) (value.Word 1) o) ≡ o
-mark_stays p missing None there = absurd (cc)
-mark_stays p missing (Some registers) there = refl
-
--- to set the mark of a node that is there changes nothing
-pub after_mark : (m : NodeMap) (p : ℕ) → is_some (map.get m p) ≡ true → after_write m (Mark p) (value.Word 1) ≡ m
-after_mark m p there = map.same_map nat_cmp_total nat_cmp-IsAntisymmetric (after_write m (Mark p) (value.Word 1)) m (λ q.
-    get_written m (Mark p) (value.Word 1) q
-    ∙ ap (λ o. set_at (map.get m) p o q) (mark_stays p ((p == 1) || is_some (map.get m (p / 2))) (map.get m p) there)
-    ∙ ap (λ (f : ℕ → Option NodeRegisters). f q) (set_at-as_is (map.get m) p (map.get m p) refl))
 
 module _ {A : Type 0} (old new : Option (Box (Node A) A)) (r : TreeRegister) (v : TreeValue) (depth : ℕ) (low : 2 ^ depth ≤ number_in r) (high : number_in r < 2 * 2 ^ depth) where
   made : sets_mark r v ≡ true → is_lacking (registers_below (number_in r / 2 ^ depth) old) (number_in r) depth ≡ makes_node (nodes_of old) r v

@@ -1,6 +1,7 @@
 -- which node lies below which, by their numbers
 use Rattle.std.proofs.Common.{◌≡◌, ◌≢◌, ℕ, ◌+◌, ◌*◌, ◌-◌, ◌/◌, ◌%◌, ◌^◌, ◌<◌, ◌≤◌, true, false, inl, inr, refl, sym, ap, ◌∙◌, arith}
 use Rattle.std.proofs.lemmas.Nat.{shr-shr, shr_le}
+use Rattle.std.proofs.Math.Pow.{field, mod-mod-pow}
 use Rattle.std.proofs.lemmas.Bool.Decides.{Decides-eqb, eqb_tells, leb_tells, not_from_Decides}
 use Rattle.splitter_tree.specs.Nodes.{is_right}
 
@@ -49,6 +50,16 @@ not_both p q o h k = let le : 2 * (2 * p) ≤ 2 * p + 1 = apart (2 * p) (2 * p +
 
 pub not_above : (p c q : ℕ) → 0 < p → 2 * p ≤ c → IsFrom c q → q ≢ p
 not_above p c q o l h e = let le = from_le c q h in omega (arith, le, e)
+
+-- a digit of a place, taken from the half of the place that has it
+pub from_low : (place by : ℕ) → by < 64 → place % 2 ^ 64 / 2 ^ by % 2 ≡ place / 2 ^ by % 2
+from_low place by h =
+    let more : ℕ = 63 - by in
+    let digits : 64 ≡ (more + 1) + by = omega arith in
+    ap (λ (n : ℕ). place % 2 ^ n / 2 ^ by % 2) digits ∙ ap (λ (n : ℕ). n % 2) (field place (more + 1) by) ∙ mod-mod-pow (place / 2 ^ by) more 1
+
+pub from_high : (place by : ℕ) → 64 ≤ by → place / 2 ^ 64 / 2 ^ (by - 64) % 2 ≡ place / 2 ^ by % 2
+from_high place by h = ap (λ (n : ℕ). n % 2) (shr-shr place 64 (by - 64) ∙ ap (λ (n : ℕ). place / 2 ^ n) (let e : 64 + (by - 64) ≡ by = omega arith in e))
 
 -- one level nearer to a place
 nearer : (place depth : ℕ) → 0 < depth → place / 2 ^ depth ≡ place / 2 ^ (depth - 1) / 2

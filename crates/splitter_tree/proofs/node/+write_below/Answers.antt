@@ -1,6 +1,6 @@
 use Rattle.std.proofs.Common.{◌≡◌, ℕ, true, false, arith, ◌∙◌, sym, ap}
 use Rattle.splitter_tree.specs.Nodes.{is_right}
-use Rattle.splitter_tree.specs.TreeSteps.{number_in, written}
+use Rattle.splitter_tree.specs.TreeSteps.{number_in, written, value_of}
 use Rattle.splitter_tree.proofs.nodes.Ways.{number_nearer}
 use Rattle.splitter_tree.proofs.nodes.Steps.{change_right, change_left}
 use Rattle.splitter_tree.proofs.node.+write_below.Goals as goal
@@ -14,11 +14,11 @@ returns-then-goes_right g t c =
     let place = number_in c.args.register in
     let test : true ≡ is_right c.node.result c.args.depth = c.if-goes_right.ensures in
     let way : is_right place c.args.depth ≡ true = ap (λ (n : ℕ). is_right n c.args.depth) (sym c.node.ensures) ∙ sym test in
-    change_right g.row.A.Denot c.args.link.now c.in-Some.node _ c.in-Some.is c.deref_mut-then-goes_right.ensures.value place c.args.depth (omega arith) c.requires.number way _ (written c.args.register c.args.value.now) c.write_below.ensures
+    change_right g.row.A.Denot c.args.link.now c.in-Some.node _ c.in-Some.is c.deref_mut-then-goes_right.ensures.value place c.args.depth (omega arith) c.requires.number way _ (written c.args.register (value_of c.args.value)) c.write_below.ensures
 
 pub returns-else-goes_right : goal.returns-else-goes_right
 returns-else-goes_right g t c =
     let place = number_in c.args.register in
     let test : false ≡ is_right c.node.result c.args.depth = c.if-goes_right.ensures in
     let way : is_right place c.args.depth ≡ false = ap (λ (n : ℕ). is_right n c.args.depth) (sym c.node.ensures) ∙ sym test in
-    change_left g.row.A.Denot c.args.link.now c.in-Some.node _ c.in-Some.is c.deref_mut-else-goes_right.ensures.value place c.args.depth (omega arith) c.requires.number way _ (written c.args.register c.args.value.now) c.write_below-else-goes_right.ensures
+    change_left g.row.A.Denot c.args.link.now c.in-Some.node _ c.in-Some.is c.deref_mut-else-goes_right.ensures.value place c.args.depth (omega arith) c.requires.number way _ (written c.args.register (value_of c.args.value)) c.write_below-else-goes_right.ensures
