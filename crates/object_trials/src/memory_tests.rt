@@ -201,6 +201,28 @@ fn each_call_and_each_refusal(rt: HostRuntime) -> Result<(), Fail> {
     Ok(())
 }
 
+/// 1, 65 and 129 have one hint, which says where 129 stands, and 193 has it too.
+#[test]
+fn those_of_one_hint_are_told_apart(rt: HostRuntime) -> Result<(), Fail> {
+    let mut world = World::new(rt.alloc(), Memory::new(rt.alloc(), 3, 3, 0)?, 3)?;
+    plays(
+        &rt,
+        &mut world,
+        &[
+            (1, Call::Begin(Access::Write(0, 7)), DONE),
+            (65, Call::Begin(Access::Read(0)), DONE),
+            (129, Call::Begin(Access::Read(1)), DONE),
+            (65, Call::Begin(Access::Nothing), Err(Refusal::AlreadyBegun)),
+            (193, Call::Step, Err(Refusal::NotBegun)),
+            (129, Call::Step, Ok(Note::Ended(Answer::Value(3)))),
+            (1, Call::Step, Ok(Note::Ended(Answer::Done))),
+            (65, Call::Step, Ok(Note::Ended(Answer::Value(7)))),
+            (1, Call::Step, Err(Refusal::Finished)),
+        ],
+    );
+    Ok(())
+}
+
 /// One who watches register 0, in which 3 stands.
 fn watches(rt: &impl Abort, world: &mut World<Watch, Memory<u64, Global>, Global>) {
     assert!(rt; !reads_on(world, 10));
