@@ -46,7 +46,8 @@ fn take<A: Allocator + Clone>(
     Ok(())
 }
 
-/// So many participants begin.
+/// So many participants begin. A function of its own, so that a step has no room of a participant to clear.
+#[inline(never)]
 fn take_begins<A: Allocator + Clone>(
     desk: &mut Desk<A>,
     ids: u64,
