@@ -2,7 +2,7 @@
 use Rattle.splitter_tree.specs.declared.register.TreeValue.{TreeValue}
 use Rattle.splitter_tree.specs.declared.register.TreeRegister.{TreeRegister}
 use Rattle.step_memory.specs.SetAt.{set_at}
-use Rattle.std.specs.Prelude.{ℕ, ◌+◌, ◌*◌, ◌-◌, ◌/◌, ◌%◌, ◌^◌, List, [], ◌∷◌, ◌++◌, Bool, ◌&&◌, ◌||◌, not, ◌==◌, if◌then◌else◌, Option, Some, None, is_some, Box, ◌≡◌}
+use Rattle.std.specs.Prelude.{ℕ, ◌<◌, ◌+◌, ◌*◌, ◌-◌, ◌/◌, ◌%◌, ◌^◌, List, [], ◌∷◌, ◌++◌, Bool, ◌&&◌, ◌||◌, not, ◌==◌, if◌then◌else◌, Option, Some, None, is_some, Box, ◌≡◌}
 use Rattle.std.specs.Ordering.{nat_cmp}
 use Rattle.std.specs.FinMap as map
 use Rattle.splitter_tree.specs.declared.node_registers.NodeRegisters.{NodeRegisters}
@@ -26,6 +26,11 @@ entries_below p (Some b) = entries_in p b.value
 -- the node with number q, where it is there from this link on, whose node has number p
 abbrev pub registers_below : {A B : Type 0} → ℕ → Option (Box (Node A) B) → ℕ → Option NodeRegisters
 registers_below p link q = map.find nat_cmp q (entries_below p link)
+
+-- a way of so many levels, told by the last digits of `way`, leads from one link to another: at a place with these digits,
+-- so many of its own before its last, is found from there what is found from here
+abbrev pub LeadsTo : {A B C : Type 0} → Option (Box (Node A) B) → Option (Box (Node A) C) → ℕ → ℕ → Type 0
+LeadsTo from to way depth = (place by : ℕ) → place / 2 ^ by % 2 ^ 64 ≡ way → 0 < place / 2 ^ (by + depth) → registers_below (place / 2 ^ by) to place ≡ registers_below (place / 2 ^ (by + depth)) from place
 
 -- the nodes of a tree with this root
 abbrev pub nodes_of : {A B : Type 0} → Option (Box (Node A) B) → NodeMap

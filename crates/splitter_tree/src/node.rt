@@ -1,9 +1,9 @@
 //! Nodes, and what lies below them.
 
-ghost use Rattle.std.specs.Prelude.{◌≡◌, ◌<◌, ◌/◌, ◌^◌, ℕ, OnOk, OnErr, IfOk, true, option_copied, Some, None};
+ghost use Rattle.std.specs.Prelude.{◌≡◌, ◌<◌, ◌≤◌, ◌/◌, ◌^◌, ℕ, OnOk, OnErr, IfOk, true, option_copied, Some, None};
 ghost use Rattle.std.specs.FinMap as map;
 ghost use Rattle.step_memory.specs.SetAt.{set_at};
-ghost use Rattle.splitter_tree.specs.Nodes.{registers_below, nodes_of, grown, is_lacking, is_right, IsWritten, IsGrown};
+ghost use Rattle.splitter_tree.specs.Nodes.{registers_below, nodes_of, grown, is_lacking, is_right, LeadsTo, IsWritten, IsGrown};
 ghost use Rattle.splitter_tree.specs.TreeSteps.{number_in, written, fresh_registers, after_write, makes_node, value_of};
 
 use crate::node_registers::NodeRegisters;
@@ -39,29 +39,26 @@ fn goes_right(place: Place, depth: u32) -> bool
     }
 }
 
-/// What a node holds that lies so many levels below a link, where it is there.
-fn find_below<A: Allocator>(link: &Link<A>, place: Place, depth: u32) -> Option<&NodeRegisters>
-    requires within { depth < 128 }
-    requires number { 0 < place / 2 ^ depth }
-    ensures { option_copied result ≡ registers_below (place / 2 ^ depth) link.now place }
+/// The link to which a way leads that goes so many levels down from this one, by the last digits of `way`: 1 is right. An
+/// empty link on the way, where there is one.
+fn follow<A: Allocator>(link: &Link<A>, way: u64, depth: u32) -> &Link<A>
+    requires within { depth ≤ 64 }
+    ensures { LeadsTo link.now result.now way depth }
 {
     let mut link = link;
     let mut depth = depth;
     while 0 < depth {
         let Some(node) = link else {
-            return None;
+            return link;
         };
-        if goes_right(place, depth) {
+        depth -= 1;
+        if (way >> depth) % 2 == 1 {
             link = &node.right;
         } else {
             link = &node.left;
         }
-        depth -= 1;
     }
-    match link {
-        Some(node) => Some(&node.registers),
-        None => None,
-    }
+    link
 }
 
 /// Writes into a register of a node that lies so many levels below a link, where it is there.
@@ -143,9 +140,19 @@ pub(crate) fn find_from<A: Allocator>(root: &Link<A>, place: Place) -> Option<&N
     ensures { option_copied result ≡ map.get (nodes_of root.now) place }
 {
     if place == 0 {
-        None
+        return None;
+    }
+    let depth = place.ilog2();
+    let low = (place % (1 << 64)) as u64;
+    let link = if depth < 64 {
+        follow(root, low, depth)
     } else {
-        find_below(root, place, place.ilog2())
+        let high = (place >> 64) as u64;
+        follow(follow(root, high, depth - 64), low, 64)
+    };
+    match link {
+        Some(node) => Some(&node.registers),
+        None => None,
     }
 }
 

@@ -1,12 +1,13 @@
 -- a tree from its root, which has number 1
-use Rattle.std.proofs.Common.{◌≡◌, ℕ, ◌*◌, ◌/◌, ◌^◌, ◌<◌, ◌≤◌, Bool, true, false, not, ◌&&◌, ◌||◌, cond, Option, Some, None, inl, inr, refl, sym, ap, subst, ◌∙◌, arith, ne_eqb}
+use Rattle.std.proofs.Common.{◌≡◌, ℕ, ◌+◌, ◌-◌, ◌*◌, ◌/◌, ◌%◌, ◌^◌, ◌<◌, ◌≤◌, Bool, true, false, not, ◌&&◌, ◌||◌, cond, Option, Some, None, inl, inr, refl, sym, ap, subst, ◌∙◌, arith, ne_eqb}
 use Rattle.std.proofs.Math.Path.{fun_ext}
 use Rattle.std.specs.Prelude.{Box, ◌==◌, is_some}
 use Rattle.std.specs.FinMap as map
 use Rattle.std.specs.FinMap.{nat_cmp-IsAntisymmetric}
 use Rattle.std.proofs.lemmas.Cmp.{nat_cmp_total}
 use Rattle.std.proofs.lemmas.Bool.Decides.{eqb_tells, Decides-eqb, same_from_decides}
-use Rattle.std.proofs.lemmas.Nat.{le-div, div_below, pow_below, pow_pos}
+use Rattle.std.proofs.lemmas.Nat.{le-div, div_below, pow_below, pow_pos, shr-shr, shr_le}
+use Rattle.std.proofs.Math.Pow.{shr_mod}
 use Rattle.step_memory.specs.SetAt.{set_at}
 use Rattle.splitter_tree.specs.declared.node_registers.NodeRegisters.{NodeRegisters}
 use Rattle.splitter_tree.specs.declared.node.Node.{Node}
@@ -14,7 +15,7 @@ use Rattle.splitter_tree.specs.declared.register.TreeRegister.{TreeRegister}
 use Rattle.splitter_tree.specs.declared.register.TreeRegister.TheVariants.{Mark, X, Y, Contents}
 use Rattle.splitter_tree.specs.declared.register.TreeValue.{TreeValue}
 use Rattle.splitter_tree.specs.declared.register.TreeValue.TheVariants as value
-use Rattle.splitter_tree.specs.Nodes.{entries_below, registers_below, nodes_of, is_lacking, grown}
+use Rattle.splitter_tree.specs.Nodes.{entries_below, registers_below, LeadsTo, nodes_of, is_lacking, grown}
 use Rattle.splitter_tree.specs.TreeSteps.{NodeMap, number_in, fresh_registers, sets_mark, is_missing, makes_node, with_registers, written, after_write}
 use Rattle.splitter_tree.specs.TreeProofs.{get_written}
 use Rattle.splitter_tree.proofs.nodes.Ways.{from_le}
@@ -53,6 +54,28 @@ module _ {A : Type 0} (root : Option (Box (Node A) A)) where
 
   pub get_at : (place depth : ℕ) → 2 ^ depth ≤ place → place < 2 * 2 ^ depth → (q : ℕ) → registers_below (place / 2 ^ depth) root q ≡ map.get (nodes_of root) q
   get_at place depth low high q = ap (λ (p : ℕ). registers_below p root q) (root_number place depth low high) ∙ sym (get_root q)
+
+  number_at : (place depth : ℕ) → 2 ^ depth ≤ place → place < 2 * 2 ^ depth → 0 < place / 2 ^ depth
+  number_at place depth low high = let one = root_number place depth low high in omega (arith, one)
+
+  -- what a place holds stands at the end of its way from the root: one word of the way
+  pub get_near : (link : Option (Box (Node A) A)) (place depth : ℕ) → 2 ^ depth ≤ place → place < 2 * 2 ^ depth → LeadsTo root link (place % 2 ^ 64) depth → registers_below (place / 2 ^ 0) link place ≡ map.get (nodes_of root) place
+  get_near link place depth low high leads =
+      let all : 0 + depth ≡ depth = omega arith in
+      leads place 0 (let e : place / 2 ^ 0 % 2 ^ 64 ≡ place % 2 ^ 64 = omega arith in e) (subst (λ (n : ℕ). 0 < place / 2 ^ n) (sym all) (number_at place depth low high))
+      ∙ ap (λ (n : ℕ). registers_below (place / 2 ^ n) root place) all
+      ∙ get_at place depth low high place
+
+  -- and two
+  pub get_far : (middle link : Option (Box (Node A) A)) (place depth : ℕ) → 2 ^ depth ≤ place → place < 2 * 2 ^ depth → place < 2 ^ 128 → 64 ≤ depth → LeadsTo root middle (place / 2 ^ 64) (depth - 64) → LeadsTo middle link (place % 2 ^ 64) 64 → registers_below (place / 2 ^ 0) link place ≡ map.get (nodes_of root) place
+  get_far middle link place depth low high fits deep first last =
+      let all : 64 + (depth - 64) ≡ depth = omega arith in
+      let number : 0 < place / 2 ^ (64 + (depth - 64)) = subst (λ (n : ℕ). 0 < place / 2 ^ n) (sym all) (number_at place depth low high) in
+      let on : 0 < place / 2 ^ 64 = let le = shr_le (place / 2 ^ 64) (depth - 64) in let e = shr-shr place 64 (depth - 64) in omega (arith, le, e, number) in
+      last place 0 (let e : place / 2 ^ 0 % 2 ^ 64 ≡ place % 2 ^ 64 = omega arith in e) on
+      ∙ first place 64 (shr_mod 64 64 fits) number
+      ∙ ap (λ (n : ℕ). registers_below (place / 2 ^ n) root place) all
+      ∙ get_at place depth low high place
 
   -- whether a node is to be made, by its number
   lacking_missing : (place depth : ℕ) → 2 ^ depth ≤ place → place < 2 * 2 ^ depth → is_lacking (registers_below (place / 2 ^ depth) root) place depth ≡ is_missing (nodes_of root) place

@@ -3,6 +3,7 @@ use Rattle.std.proofs.Common.{◌≡◌, ◌≢◌, ℕ, ◌+◌, ◌*◌, ◌-�
 use Rattle.std.proofs.lemmas.Nat.{shr-shr, shr_le}
 use Rattle.std.proofs.Math.Pow.{field, mod-mod-pow}
 use Rattle.std.proofs.lemmas.Bool.Decides.{Decides-eqb, eqb_tells, leb_tells, not_from_Decides}
+use Rattle.std.specs.Prelude.{◌==◌}
 use Rattle.splitter_tree.specs.Nodes.{is_right}
 
 -- node q is node p or lies below it
@@ -60,6 +61,15 @@ from_low place by h =
 
 pub from_high : (place by : ℕ) → 64 ≤ by → place / 2 ^ 64 / 2 ^ (by - 64) % 2 ≡ place / 2 ^ by % 2
 from_high place by h = ap (λ (n : ℕ). n % 2) (shr-shr place 64 (by - 64) ∙ ap (λ (n : ℕ). place / 2 ^ n) (let e : 64 + (by - 64) ≡ by = omega arith in e))
+
+-- the way goes right where the last digits of a number on it say so
+pub right_by : (place by way depth : ℕ) → place / 2 ^ by % 2 ^ 64 ≡ way → 0 < depth → depth ≤ 64 → is_right place (by + depth) ≡ (way / 2 ^ (depth - 1) % 2 == 1)
+right_by place by way depth is o few =
+    let level : by + (depth - 1) ≡ by + depth - 1 = omega arith in
+    sym (ap (λ (n : ℕ). n == 1) (
+      ap (λ (n : ℕ). n / 2 ^ (depth - 1) % 2) (sym is) ∙ from_low (place / 2 ^ by) (depth - 1) (omega arith)
+      ∙ ap (λ (n : ℕ). n % 2) (shr-shr place by (depth - 1) ∙ ap (λ (n : ℕ). place / 2 ^ n) level)
+    ))
 
 -- one level nearer to a place
 nearer : (place depth : ℕ) → 0 < depth → place / 2 ^ depth ≡ place / 2 ^ (depth - 1) / 2
