@@ -67,8 +67,8 @@ pub right_by : (place by way depth : ℕ) → place / 2 ^ by % 2 ^ 64 ≡ way �
 right_by place by way depth is o few =
     let level : by + (depth - 1) ≡ by + depth - 1 = omega arith in
     sym (ap (λ (n : ℕ). n == 1) (
-      ap (λ (n : ℕ). n / 2 ^ (depth - 1) % 2) (sym is) ∙ from_low (place / 2 ^ by) (depth - 1) (omega arith)
-      ∙ ap (λ (n : ℕ). n % 2) (shr-shr place by (depth - 1) ∙ ap (λ (n : ℕ). place / 2 ^ n) level)
+    ap (λ (n : ℕ). n / 2 ^ (depth - 1) % 2) (sym is) ∙ from_low (place / 2 ^ by) (depth - 1) (omega arith)
+    ∙ ap (λ (n : ℕ). n % 2) (shr-shr place by (depth - 1) ∙ ap (λ (n : ℕ). place / 2 ^ n) level)
     ))
 
 -- one level nearer to a place
