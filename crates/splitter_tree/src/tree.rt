@@ -2,11 +2,12 @@
 
 ghost use Rattle.std.specs.Prelude.{◌≡◌, OnOk, OnErr, IfOk, IfSome, true, false, option_copied};
 ghost use Rattle.std.specs.FinMap as map;
-ghost use Rattle.splitter_tree.specs.TreeSteps.{tree_steps, empty_tree, value_in, value_of, is_missing, makes_node, answer_of, after_access, may_refuse, number_in};
+ghost use Rattle.splitter_tree.specs.TreeSteps.{tree_steps, empty_tree, value_in, value_of, is_missing, makes_node, answer_of, after_access, after_write, may_refuse, number_in};
 ghost use Rattle.splitter_tree.specs.TreeProofs.{others_kept};
 ghost use Rattle.step_memory.specs.declared.access.Access.{Access};
 ghost use Rattle.step_memory.specs.declared.access.Access.TheVariants.{Read};
 ghost use Rattle.step_memory.specs.declared.note.Note.TheVariants.{Quiet};
+ghost use Rattle.splitter_tree.specs.declared.register.TreeRegister.TheVariants.{Mark};
 ghost use Rattle.splitter_tree.specs.declared.register.TreeValue.TheVariants as value;
 ghost use Rattle.splitter_tree.specs.Walk.{next_access, walker_after, walker_note};
 
@@ -119,6 +120,20 @@ impl<A: Allocator + Clone> Tree<A> {
         register.is_set_by(value) && self.is_missing(register.node())
     }
 
+    /// Sets the mark of a node, which makes it where it is not there and can be made.
+    fn mark(&mut self, place: Place) -> Result<(), NoMemory>
+        ensures after { OnOk result (self.new ≡ after_write self.old (Mark place) (value.Word 1)) }
+        ensures refused { OnErr result (self.new ≡ self.old) }
+    {
+        let mark = TreeRegister::Mark(place);
+        write_from(
+            &mut self.root,
+            &self.alloc,
+            mark,
+            WrittenValue::Word(MARKED),
+        )
+    }
+
     /// Takes a step of a visit, as `walk_on` does.
     fn visit_on(&mut self, walker: &mut Walker) -> bool
         requires { walker.old.is_marking ≡ false }
@@ -163,7 +178,7 @@ impl<A: Allocator + Clone> Tree<A> {
 
     /// Takes the next step of a walk where it stands, so that no segment is copied, if the walk then goes on and says
     /// nothing. Tells whether it did; where not, nothing has changed, and the step is still to be taken. So it is where the
-    /// step makes a node and room for that was refused: `access` then tells so, and doesn't ask for the room again.
+    /// step makes a node and room for that was refused: until `access` has told so, nothing asks for the room again.
     pub fn walk_on(&mut self, walker: &mut Walker) -> bool
         ensures after { result ≡ true → walker.new ≡ walker_after walker.old (answer_of self.old (next_access walker.old)) }
         ensures quiet { result ≡ true → walker_note walker.old (answer_of self.old (next_access walker.old)) ≡ Quiet }
@@ -174,15 +189,7 @@ impl<A: Allocator + Clone> Tree<A> {
         if !walker.is_marking {
             return self.visit_on(walker);
         }
-        let mark = TreeRegister::Mark(walker.place);
-        if write_from(
-            &mut self.root,
-            &self.alloc,
-            mark,
-            WrittenValue::Word(MARKED),
-        )
-        .is_err()
-        {
+        if self.is_refused || self.mark(walker.place).is_err() {
             self.is_refused = true;
             return false;
         }
