@@ -57,8 +57,8 @@ fn search<P>(participants: &[Participant<P>], id: u64) -> Option<usize>
     search_from(participants, at, id)
 }
 
-/// For each value of six bits of an identity the index at which such a participant was put last: where a search looks
-/// first. A hint may be wrong; then the search goes through all.
+/// For each value of the lowest six bits of an identity the index at which such a participant was put last: where a search
+/// looks first. A hint may be wrong; then the search goes through all, so that contracts see no hint.
 #[derive(Clone, Copy, Debug, Drop)]
 pub struct Hints {
     places: [u8; 64],
