@@ -1,14 +1,14 @@
 //! A renaming world, taken step by step.
 
 ghost use Rattle.std.specs.Prelude.{◌≡◌, ◌≢◌, ℕ, ◌<◌, ◌≤◌, ◌⊎◌, ◌↔◌, List, [], length, IfOk, IfErr, IfSome, OnErr, Some, None, Err, Ok, true, false};
-ghost use Rattle.step_memory.specs.Participant.{program_of};
+ghost use Rattle.step_memory.specs.Participant.{program_of, beginner};
 ghost use Rattle.step_memory.specs.World.{begin_refusal, done_unless};
 ghost use Rattle.step_memory.specs.Calls.Call.{Began, Stepped};
 ghost use Rattle.rename_core.specs.Config.{is_played_over};
 ghost use Rattle.rename_core.specs.Locality.{IsLocal};
 ghost use Rattle.rename_core.specs.RenameCalls.{IsAfter, LeadsOn, IsFresh, IsLawful, MakesOwnAccess, IsName, IsOwnerOf, IsLastMoment};
-ghost use Rattle.rename_core.specs.Round.{standing_by};
-ghost use Rattle.rename_core.specs.Reply.{outcome_with};
+ghost use Rattle.rename_core.specs.Round.{standing_by, followed};
+ghost use Rattle.rename_core.specs.Reply.{outcome_with, with_view};
 ghost use Rattle.rename_core.specs.RenameWorld.{fresh_world, step_refusal, after_wish, name_in, owner_by, shown_with, shown_by, after_rename_begin, rename_answer, after_rename_step, LacksMemory};
 
 use crate::config::Config;
@@ -16,7 +16,7 @@ use crate::places::RenamePlaces;
 use crate::reply::Reply;
 use crate::round::{Round, Wish};
 use crate::short_reply::ShortReply;
-use snapshot_core::{Known, SnapWorld};
+use snapshot_core::{Known, SnapReply, SnapWorld};
 use std::alloc::Allocator;
 use std::marker::Model;
 use step_memory::{Hints, Participant, Refusal, View};
@@ -67,16 +67,42 @@ where
     };
 }
 
+/// What follows a step in which the snapshot object told this: what the round then asks for, where it then stands, and
+/// what it answers. A function of its own, so that a step of which nothing follows has no room of a view to clear.
+#[inline(never)]
+fn follow<W: RenamePlaces<A> + Drop, A: Allocator>(
+    snap: &mut SnapWorld<W, A>,
+    participant: &mut Participant<Round>,
+    told: SnapReply,
+    limit: u64,
+    view: &mut View,
+) -> ShortReply
+where
+    W::Walker: Copy,
+    W::Walk: Copy,
+    W::Value: Drop,
+    ensures reply { with_view result view.new ≡ (followed participant.old.program participant.old.identity told limit).reply }
+    ensures asked { snap.new ≡ after_wish snap.old participant.old.identity (followed participant.old.program participant.old.identity told limit).wish }
+    ensures round { participant.new ≡ beginner participant.old.identity (followed participant.old.program participant.old.identity told limit).round }
+{
+    let id = participant.identity;
+    let follow = participant.program.followed(id, told, limit);
+    ask(snap, id, follow.wish);
+    participant.program = follow.round;
+    participant.ended = false;
+    follow.reply.shorten(view)
+}
+
 impl<W: RenamePlaces<A> + Drop, A: Allocator> RenameWorld<W, A>
 where
     W::Walker: Copy,
     W::Walk: Copy,
     W::Value: Drop,
 {
-    /// A step that is refused before its access, or that reads for a scan that goes on, after which nothing follows: its
-    /// outcome. `None` at any other step, with nothing changed.
-    fn take_quick(&mut self, id: u64) -> Option<Result<ShortReply, Refusal>>
-        ensures answer { IfSome result (λ r. (view : List (ℕ × ℕ)) → outcome_with r view ≡ rename_answer ⟦<W as Known>⟧.places self.old id) }
+    /// A step that is refused before its access, a step of a way, or one that reads for a scan that goes on: its outcome.
+    /// `None` at any other step, with nothing changed.
+    fn take_quick(&mut self, id: u64, view: &mut View) -> Option<Result<ShortReply, Refusal>>
+        ensures answer { IfSome result (λ r. outcome_with r view.new ≡ rename_answer ⟦<W as Known>⟧.places self.old id) }
         ensures state { IfSome result (λ r. self.new ≡ after_rename_step ⟦<W as Known>⟧.places self.old id) }
         ensures refused { IfSome result (λ r. OnErr r (self.new ≡ self.old)) }
         ensures sure { result ≢ Some (Err Refusal.NoMemory) }
@@ -88,11 +114,15 @@ where
         if let Some(refusal) = self.rounds[i].program.stage.refusal() {
             return Some(Err(refusal));
         }
-        if !self.snap.read_on(id) {
+        let Some(note) = self.snap.step_on(id) else {
             return None;
+        };
+        if note.is_quiet() {
+            self.rounds[i].ended = false;
+            return Some(Ok(ShortReply::Quiet));
         }
-        self.rounds[i].ended = false;
-        Some(Ok(ShortReply::Quiet))
+        let told = SnapReply::of_way(note);
+        Some(Ok(follow(&mut self.snap, &mut self.rounds[i], told, self.limit, view)))
     }
 
     /// Any other step, and what follows it. A function of its own, so that a read has no room of a segment to clear.
@@ -106,18 +136,11 @@ where
         let Some(i) = self.hints.find(&self.rounds, id) else {
             return Err(Refusal::NotBegun);
         };
-        let round = self.rounds[i].program;
-        if let Some(refusal) = round.stage.refusal() {
+        if let Some(refusal) = self.rounds[i].program.stage.refusal() {
             return Err(refusal);
         }
-        let follow = round.followed(id, self.snap.step(id)?, self.limit);
-        ask(&mut self.snap, id, follow.wish);
-        self.rounds[i] = Participant {
-            identity: id,
-            program: follow.round,
-            ended: false,
-        };
-        Ok(follow.reply.shorten(view))
+        let told = self.snap.step(id)?;
+        Ok(follow(&mut self.snap, &mut self.rounds[i], told, self.limit, view))
     }
 
     /// A step, and what follows it.
@@ -128,7 +151,7 @@ where
         ensures refused { OnErr result (self.new ≡ self.old) }
         ensures no_memory { result ≡ Err Refusal.NoMemory → LacksMemory ⟦<W as Known>⟧.places self.old id }
     {
-        if let Some(outcome) = self.take_quick(id) {
+        if let Some(outcome) = self.take_quick(id, view) {
             return outcome;
         }
         self.take_other(id, view)

@@ -99,7 +99,7 @@ module _ {S R V U K : Type 0} (t : KnownPlaces S R V U K) where
     idle : is_idle after.pending ≡ not (is_quiet (told note))
     updates : after.updates ≡ c.updates
 
-  placed_moves : (c : Client U K) (got : Answer V) → c.pending ≡ Placing → (n : Note ℕ) → Moves c (record c { walker = t.walker.resumed c.walker got; pending = cond (is_placed t.walker n) Nothing c.pending }) (placed_note t.walker n)
+  placed_moves : (c : Client U K) (got : Answer V) → c.pending ≡ Placing → (n : Note ℕ) → Moves c (record c { walker = t.walker.resumed c.walker got; pending = cond (is_placed n) Nothing c.pending }) (placed_note n)
   placed_moves c got e Quiet = record { goes = refl; idle = ap is_idle e; updates = refl }
   placed_moves c got e (Said place) = record { goes = refl; idle = ap is_idle e; updates = refl }
   placed_moves c got e (Ended place) = record { goes = refl; idle = refl; updates = refl }

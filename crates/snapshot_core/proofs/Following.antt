@@ -418,16 +418,16 @@ module _ {S R V U K : Type 0} (t : LawfulPlaces S R V U K) (w : SnapState S U K)
         ] refl
 
         place_by_note : (n : Note ℕ) → t.known.walker.note u answer_now ≡ n →
-            Allows (bounds_with t w.most scans) o (Stepped id (Ok (told (placed_note t.known.walker n))))
+            Allows (bounds_with t w.most scans) o (Stepped id (Ok (told (placed_note n))))
             × IsTied t (record {
               memory = later;
               most = w.most;
               participants = with_participant (record {
                 identity = v.identity;
-                program = walked (cond (is_placed t.known.walker n) Nothing v.program.pending);
-                ended = ends (placed_note t.known.walker n);
+                program = walked (cond (is_placed n) Nothing v.program.pending);
+                ended = ends (placed_note n);
               }) w.participants;
-            }) (observed o (Stepped id (Ok (told (placed_note t.known.walker n)))))
+            }) (observed o (Stepped id (Ok (told (placed_note n)))))
         place_by_note Quiet e = let s = stays (no_place Quiet e (λ x h. absurd (cc))) in (rw k.0 s.0, rw (own_name, pending) s.1)
         place_by_note (Said y) e = let s = stays (no_place (Said y) e (λ x h. absurd (cc))) in (rw k.0 s.0, rw (own_name, pending) s.1)
         place_by_note (Ended x) e = let s = arrives x ((gone.ended x).0 e) in (s.0, rw own_name s.1)

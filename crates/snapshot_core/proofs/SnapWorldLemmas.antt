@@ -2,6 +2,7 @@
 use Rattle.std.proofs.Common.{◌≡◌, ◌≢◌, ◌<◌, ◌≤◌, ℕ, true, false, cond, Option, Some, None, Result, Ok, Err, inl, inr, refl, sym, ap, ◌∙◌}
 use Rattle.snapshot_core.specs.declared.client.Pending.{Pending}
 use Rattle.snapshot_core.specs.declared.client.Pending.TheVariants.{Nothing, Placing, Scan, Update, Write as Writing}
+use Rattle.step_memory.specs.declared.note.Note.{Note}
 use Rattle.step_memory.specs.declared.note.Note.TheVariants.{Quiet}
 use Rattle.step_memory.specs.declared.access.Access.TheVariants.{Read}
 use Rattle.step_memory.specs.declared.refusal.Refusal.{Refusal}
@@ -142,8 +143,8 @@ module _ {S R V U K : Type 0} (t : KnownPlaces S R V U K) where
       let here : Some h.0.program ≡ program_of id w.participants = sym (ap (option_map (λ (v : Participant (Client U K)). v.program)) h.1) in
       busy_state w id h.0.program here (ap is_idle h.2)
 
-  pub way_answer : (w : SnapState S U K) (id : ℕ) → IsTaken (λ c. c.pending ≡ Placing) w id → step_answer (clients_over t) t.memory w id ≡ Ok Quiet → snap_answer t w id ≡ Ok (told Quiet)
-  way_answer w id h e =
+  pub way_answer : (w : SnapState S U K) (id : ℕ) (note : Note SnapReply) → IsTaken (λ c. c.pending ≡ Placing) w id → step_answer (clients_over t) t.memory w id ≡ Ok note → snap_answer t w id ≡ Ok (told note)
+  way_answer w id note h e =
       let here : Some h.0.program ≡ program_of id w.participants = sym (ap (option_map (λ (v : Participant (Client U K)). v.program)) h.1) in
       busy_answer w id h.0.program here (ap is_idle h.2) ∙ ap (reply_of told) e
 

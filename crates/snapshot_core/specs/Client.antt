@@ -53,17 +53,19 @@ record_of c value view = record { identity = c.identity; value = value; number =
 abbrev pub with_pending : {U K : Type 0} → Client U K → Pending → Client U K
 with_pending c pending = record c { pending = pending }
 
+-- whether a way has come to its place, by what it says
+abbrev pub is_placed : Note ℕ → Bool
+is_placed Quiet = false
+is_placed (Said place) = false
+is_placed (Ended place) = true
+
+-- what is then said of the step
+abbrev pub placed_note : Note ℕ → Note SnapReply
+placed_note Quiet = Quiet
+placed_note (Said place) = Quiet
+placed_note (Ended place) = Said (Placed place)
+
 module _ {U R V : Type 0} (walker : ProgramSteps U R V ℕ) where
-  abbrev pub is_placed : Note ℕ → Bool
-  is_placed Quiet = false
-  is_placed (Said place) = false
-  is_placed (Ended place) = true
-
-  abbrev pub placed_note : Note ℕ → Note SnapReply
-  placed_note Quiet = Quiet
-  placed_note (Said place) = Quiet
-  placed_note (Ended place) = Said (Placed place)
-
   abbrev pub placing_resumed : {K : Type 0} → Client U K → Answer V → Client U K
   placing_resumed c got = record c { walker = walker.resumed c.walker got; pending = if is_placed (walker.note c.walker got) then Nothing else c.pending }
 

@@ -19,7 +19,7 @@ use Rattle.snapshot_core.specs.declared.client.Pending.TheVariants.{Nothing, Pla
 use Rattle.snapshot_core.specs.declared.client.SnapReply.{SnapReply}
 use Rattle.snapshot_core.specs.declared.client.SnapReply.TheVariants.{Quiet as Silent}
 use Rattle.snapshot_core.specs.Places.{KnownPlaces}
-use Rattle.snapshot_core.specs.Client.{client_at, client_steps, is_idle, scanning, updating, record_of}
+use Rattle.snapshot_core.specs.Client.{client_at, client_steps, is_idle, scanning, updating, record_of, placed_note}
 
 -- a memory of type S, and participants on ways U whose scans take walks K
 abbrev pub SnapState : Type 0 → Type 0 → Type 0 → Type 0
@@ -81,6 +81,10 @@ abbrev pub told : Note SnapReply → SnapReply
 told Quiet = Silent
 told (Said reply) = reply
 told (Ended reply) = reply
+
+-- and of a way that says this
+abbrev pub told_of_way : Note ℕ → SnapReply
+told_of_way note = told (placed_note note)
 
 module _ {S R V U K : Type 0} (t : KnownPlaces S R V U K) where
   -- the participants' programs

@@ -5,7 +5,8 @@ ghost use Rattle.step_memory.specs.declared.access.Access.TheVariants.{Read};
 ghost use Rattle.step_memory.specs.declared.access.Answer.TheVariants.{Value};
 ghost use Rattle.step_memory.specs.declared.note.Note.TheVariants as note;
 ghost use Rattle.snapshot_core.specs.declared.client.Pending.TheVariants.{Placing};
-ghost use Rattle.snapshot_core.specs.Client.{view_told, is_idle, client_at, client_steps, updating, scanning, next_access, client_after, client_note, scan_resumed, scan_note, placing_resumed, placing_note};
+ghost use Rattle.snapshot_core.specs.Client.{view_told, is_idle, client_at, client_steps, updating, scanning, next_access, client_after, client_note, scan_resumed, scan_note, placing_resumed, placing_note, placed_note};
+ghost use Rattle.snapshot_core.specs.SnapWorld.{told_of_way};
 
 use crate::places::{PlaceWalker, Places};
 use crate::scan::Scan;
@@ -26,6 +27,17 @@ pub enum SnapReply {
 }
 
 impl SnapReply {
+    /// What a step of a way tells, of which the way says this.
+    pub fn of_way(note: Note<Place>) -> Self
+        ensures { result ≡ told_of_way note }
+    {
+        match note {
+            Note::Quiet => SnapReply::Quiet,
+            Note::Said(_) => SnapReply::Quiet,
+            Note::Ended(place) => SnapReply::Placed(place),
+        }
+    }
+
     /// The view with which a scan has ended.
     pub fn view(&self) -> Option<View>
         ensures { result ≡ view_told self.now }
@@ -265,15 +277,27 @@ where
     W::Walk: Copy,
     W::Value: Drop,
 {
+    type Told = Note<Place>;
+
     ghost takes = { λ c. c.pending ≡ Placing };
 
-    fn take(program: &mut Client<W::Walker, W::Walk>, memory: &mut W) -> bool {
+    ghost note = { placed_note };
+
+    fn take(program: &mut Client<W::Walker, W::Walk>, memory: &mut W) -> Option<Note<Place>> {
         match program.pending {
-            Pending::Nothing => false,
-            Pending::Placing => memory.walk_on(&mut program.walker),
-            Pending::Scan => false,
-            Pending::Update(_) => false,
-            Pending::Write(_, _) => false,
+            Pending::Nothing => None,
+            Pending::Placing => {
+                let Some(note) = memory.walk_on(&mut program.walker) else {
+                    return None;
+                };
+                if note.ends() {
+                    program.pending = Pending::Nothing;
+                }
+                Some(note)
+            }
+            Pending::Scan => None,
+            Pending::Update(_) => None,
+            Pending::Write(_, _) => None,
         }
     }
 }

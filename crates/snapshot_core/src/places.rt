@@ -1,12 +1,11 @@
 //! What gives participants places.
 
-ghost use Rattle.std.specs.Prelude.{◌≡◌, ℕ, Option, true, false};
+ghost use Rattle.std.specs.Prelude.{◌≡◌, ℕ, Option, None, IfSome};
 ghost use Rattle.step_memory.specs.Steps.{answer_from};
-ghost use Rattle.step_memory.specs.declared.note.Note.TheVariants.{Quiet};
 ghost use Rattle.snapshot_core.specs.Places.{PlaceTies, KnownPlaces, places_by, PlacesLaws};
 
 use crate::walk::SegmentWalk;
-use step_memory::{Place, StepMemory, StepProgram};
+use step_memory::{Note, Place, StepMemory, StepProgram};
 
 /// A way to a place.
 pub trait PlaceWalker: StepProgram<Output = Place> {
@@ -51,16 +50,16 @@ pub trait Places: StepMemory {
     fn walk(&self) -> Self::Walk
         ensures { result ≡ walk_from self.now };
 
-    /// Takes the next step of a way where it stands, so that no value is copied, if the way then goes on and says nothing.
-    /// Tells whether it did; where not, nothing has changed, and the step is still to be taken.
-    fn walk_on(&mut self, _walker: &mut Self::Walker) -> bool
-        ensures after { result ≡ true → _walker.new ≡ Self.Walker.steps.resumed _walker.old (answer_from (Self.steps.register self.old) (Self.Walker.steps.next _walker.old)) }
-        ensures quiet { result ≡ true → Self.Walker.steps.note _walker.old (answer_from (Self.steps.register self.old) (Self.Walker.steps.next _walker.old)) ≡ Quiet }
-        ensures memory { result ≡ true → self.new ≡ Self.steps.after self.old (Self.Walker.steps.next _walker.old) }
-        ensures kept { result ≡ false → _walker.new ≡ _walker.old }
-        ensures memory_kept { result ≡ false → self.new ≡ self.old }
+    /// Takes the next step of a way where it stands, so that no value is copied, and gives what the way says. `None` where it
+    /// did not: then nothing has changed, and the step is still to be taken.
+    fn walk_on(&mut self, _walker: &mut Self::Walker) -> Option<Note<Place>>
+        ensures note { IfSome result (λ note. note ≡ Self.Walker.steps.note _walker.old (answer_from (Self.steps.register self.old) (Self.Walker.steps.next _walker.old))) }
+        ensures after { IfSome result (λ _. _walker.new ≡ Self.Walker.steps.resumed _walker.old (answer_from (Self.steps.register self.old) (Self.Walker.steps.next _walker.old))) }
+        ensures memory { IfSome result (λ _. self.new ≡ Self.steps.after self.old (Self.Walker.steps.next _walker.old)) }
+        ensures kept { result ≡ None → _walker.new ≡ _walker.old }
+        ensures memory_kept { result ≡ None → self.new ≡ self.old }
     {
-        false
+        None
     }
 
     /// Places are distinct, a way comes to its place, and a walk meets each segment that was written before it began.

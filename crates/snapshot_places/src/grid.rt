@@ -16,7 +16,7 @@ use splitter_grid::{Door, Walker};
 use std::alloc::Allocator;
 use std::marker::Model;
 use step_memory::{
-    Access, Answer, Memory, NoMemory, Place, Refusal, Segment, StepMemory, StepProgram,
+    Access, Answer, Memory, NoMemory, Note, Place, Refusal, Segment, StepMemory, StepProgram,
 };
 
 /// The doors of a grid, and a segment for each. A segment is kept as the value of its register, so that it can be lent.
@@ -180,27 +180,20 @@ impl<A: Allocator> Places for Grid<A> {
         }
     }
 
-    fn walk_on(&mut self, walker: &mut GridWalker) -> bool {
-        let mut next = walker.walker;
-        match next.next() {
+    fn walk_on(&mut self, walker: &mut GridWalker) -> Option<Note<Place>> {
+        match walker.walker.next() {
             Access::Read(r) => {
                 let word = self.doors.value(r);
-                if !next.resume(Answer::Value(word)).is_quiet() {
-                    return false;
-                }
+                Some(walker.walker.resume(Answer::Value(word)))
             }
             Access::Write(r, word) => {
-                if !next.resume(Answer::Done).is_quiet() {
-                    return false;
-                }
                 let _done = self.doors.access(Access::Write(r, word));
+                Some(walker.walker.resume(Answer::Done))
             }
-            Access::TestAndSet(_) => return false,
-            Access::Clear(_) => return false,
-            Access::Nothing => return false,
+            Access::TestAndSet(_) => None,
+            Access::Clear(_) => None,
+            Access::Nothing => None,
         }
-        walker.walker = next;
-        true
     }
 
     ghost laws = { grid_laws };

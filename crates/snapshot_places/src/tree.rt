@@ -14,7 +14,7 @@ use snapshot_core::{PlaceWalker, Places, SegmentWalk};
 use splitter_tree::{CollectWalk, Tree, TreeRegister, TreeValue, Walker};
 use std::alloc::Allocator;
 use std::marker::Model;
-use step_memory::{Access, Answer, NoMemory, Refusal, StepMemory};
+use step_memory::{Access, Answer, NoMemory, Note, Place, Refusal, StepMemory};
 
 /// A tree of splitters with a segment at each node. Nodes are made one at a time, as ways come to them. Whoever begins
 /// walks down from the root, and the node at which it stops is its place.
@@ -111,7 +111,7 @@ impl<A: Allocator + Clone> Places for TreePlaces<A> {
         }
     }
 
-    fn walk_on(&mut self, walker: &mut TreeWalker) -> bool {
+    fn walk_on(&mut self, walker: &mut TreeWalker) -> Option<Note<Place>> {
         self.tree.walk_on(&mut walker.walker)
     }
 

@@ -65,18 +65,18 @@ fn follow<A: Allocator>(link: &Link<A>, way: u64, depth: u32) -> &Link<A>
 fn write_below<A: Allocator>(
     link: &mut Link<A>,
     depth: u32,
-    register: TreeRegister,
+    register: &TreeRegister,
     value: WrittenValue,
 )
     requires within { depth < 128 }
-    requires number { 0 < number_in register / 2 ^ depth }
-    ensures { let top = number_in register / 2 ^ depth in IsWritten (registers_below top link.old) (registers_below top link.new) register (value_of value.entry) }
+    requires number { 0 < number_in register.now / 2 ^ depth }
+    ensures { let top = number_in register.now / 2 ^ depth in IsWritten (registers_below top link.old) (registers_below top link.new) register.now (value_of value.entry) }
 {
     let Some(node) = link else {
         return;
     };
     if depth == 0 {
-        node.registers.write(register, value);
+        node.registers.write(*register, value);
     } else if goes_right(register.node(), depth) {
         write_below(&mut node.right, depth - 1, register, value);
     } else {
@@ -176,7 +176,7 @@ pub(crate) fn write_from<A: Allocator + Clone>(
     if register.is_set_by(value) {
         grow_below(root, alloc, place, depth)
     } else {
-        write_below(root, depth, register, value);
+        write_below(root, depth, &register, value);
         Ok(())
     }
 }

@@ -1,12 +1,11 @@
 //! A tree of nodes as a memory.
 
-ghost use Rattle.std.specs.Prelude.{◌≡◌, OnOk, OnErr, IfOk, IfSome, true, false, option_copied};
+ghost use Rattle.std.specs.Prelude.{◌≡◌, OnOk, OnErr, IfOk, IfSome, None, true, false, option_copied};
 ghost use Rattle.std.specs.FinMap as map;
 ghost use Rattle.splitter_tree.specs.TreeSteps.{tree_steps, empty_tree, value_in, value_of, is_missing, makes_node, answer_of, after_access, after_write, may_refuse, number_in};
 ghost use Rattle.splitter_tree.specs.TreeProofs.{others_kept};
 ghost use Rattle.step_memory.specs.declared.access.Access.{Access};
 ghost use Rattle.step_memory.specs.declared.access.Access.TheVariants.{Read};
-ghost use Rattle.step_memory.specs.declared.note.Note.TheVariants.{Quiet};
 ghost use Rattle.splitter_tree.specs.declared.register.TreeRegister.TheVariants.{Mark};
 ghost use Rattle.splitter_tree.specs.declared.register.TreeValue.TheVariants as value;
 ghost use Rattle.splitter_tree.specs.Walk.{next_access, walker_after, walker_note};
@@ -17,7 +16,7 @@ use crate::register::{TreeRegister, TreeValue, WrittenValue};
 use crate::walker::{MARKED, Walker};
 use std::alloc::Allocator;
 use std::marker::Model;
-use step_memory::{Access, Answer, NoMemory, Place, StepMemory, StepProgram};
+use step_memory::{Access, Answer, NoMemory, Note, Place, StepMemory, StepProgram};
 
 /// Nodes, under an allocator of which each takes its room when it is made. Contracts see the nodes that are there by
 /// their numbers.
@@ -135,66 +134,53 @@ impl<A: Allocator + Clone> Tree<A> {
     }
 
     /// Takes a step of a visit, as `walk_on` does.
-    fn visit_on(&mut self, walker: &mut Walker) -> bool
+    fn visit_on(&mut self, walker: &mut Walker) -> Option<Note<Place>>
         requires { walker.old.is_marking ≡ false }
-        ensures after { result ≡ true → walker.new ≡ walker_after walker.old (answer_of self.old (next_access walker.old)) }
-        ensures quiet { result ≡ true → walker_note walker.old (answer_of self.old (next_access walker.old)) ≡ Quiet }
-        ensures memory { result ≡ true → self.new ≡ after_access self.old (next_access walker.old) }
-        ensures kept { result ≡ false → walker.new ≡ walker.old }
-        ensures memory_kept { result ≡ false → self.new ≡ self.old }
+        ensures note { IfSome result (λ note. note ≡ walker_note walker.old (answer_of self.old (next_access walker.old))) }
+        ensures after { IfSome result (λ _. walker.new ≡ walker_after walker.old (answer_of self.old (next_access walker.old))) }
+        ensures memory { IfSome result (λ _. self.new ≡ after_access self.old (next_access walker.old)) }
+        ensures kept { result ≡ None → walker.new ≡ walker.old }
+        ensures memory_kept { result ≡ None → self.new ≡ self.old }
     {
-        let mut next = *walker;
         match walker.visitor.next() {
             Access::Read(register) => {
                 let Some(word) = self.word(register) else {
-                    return false;
+                    return None;
                 };
-                if !next.resume_visit(Answer::Value(word)).is_quiet() {
-                    return false;
-                }
+                Some(walker.resume_visit(Answer::Value(word)))
             }
             Access::Write(register, word) => {
-                if !next.resume_visit(Answer::Done).is_quiet() {
-                    return false;
+                let written = WrittenValue::Word(word);
+                if write_from(&mut self.root, &self.alloc, register, written).is_err() {
+                    return None;
                 }
-                if write_from(
-                    &mut self.root,
-                    &self.alloc,
-                    register,
-                    WrittenValue::Word(word),
-                )
-                .is_err()
-                {
-                    return false;
-                }
+                Some(walker.resume_visit(Answer::Done))
             }
-            Access::TestAndSet(_) => return false,
-            Access::Clear(_) => return false,
-            Access::Nothing => return false,
+            Access::TestAndSet(_) => None,
+            Access::Clear(_) => None,
+            Access::Nothing => None,
         }
-        *walker = next;
-        true
     }
 
-    /// Takes the next step of a walk where it stands, so that no segment is copied, if the walk then goes on and says
-    /// nothing. Tells whether it did; where not, nothing has changed, and the step is still to be taken. So it is where the
-    /// step makes a node and room for that was refused: until `access` has told so, nothing asks for the room again.
-    pub fn walk_on(&mut self, walker: &mut Walker) -> bool
-        ensures after { result ≡ true → walker.new ≡ walker_after walker.old (answer_of self.old (next_access walker.old)) }
-        ensures quiet { result ≡ true → walker_note walker.old (answer_of self.old (next_access walker.old)) ≡ Quiet }
-        ensures memory { result ≡ true → self.new ≡ after_access self.old (next_access walker.old) }
-        ensures kept { result ≡ false → walker.new ≡ walker.old }
-        ensures memory_kept { result ≡ false → self.new ≡ self.old }
+    /// Takes the next step of a walk where it stands, so that no segment is copied, and gives what the walk says. `None` where it
+    /// did not: then nothing has changed, and the step is still to be taken. So it is where the step makes a node and room for
+    /// that was refused: until `access` has told so, nothing asks for the room again.
+    pub fn walk_on(&mut self, walker: &mut Walker) -> Option<Note<Place>>
+        ensures note { IfSome result (λ note. note ≡ walker_note walker.old (answer_of self.old (next_access walker.old))) }
+        ensures after { IfSome result (λ _. walker.new ≡ walker_after walker.old (answer_of self.old (next_access walker.old))) }
+        ensures memory { IfSome result (λ _. self.new ≡ after_access self.old (next_access walker.old)) }
+        ensures kept { result ≡ None → walker.new ≡ walker.old }
+        ensures memory_kept { result ≡ None → self.new ≡ self.old }
     {
         if !walker.is_marking {
             return self.visit_on(walker);
         }
         if self.is_refused || self.mark(walker.place).is_err() {
             self.is_refused = true;
-            return false;
+            return None;
         }
         walker.is_marking = false;
-        true
+        Some(Note::Quiet)
     }
 }
 

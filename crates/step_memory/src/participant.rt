@@ -1,6 +1,6 @@
 //! One participant of a world.
 
-ghost use Rattle.std.specs.Prelude.{◌≡◌, true, false};
+ghost use Rattle.std.specs.Prelude.{◌≡◌, true, false, IfSome, None};
 ghost use Rattle.step_memory.specs.Participant.{resumed, beginner};
 ghost use Rattle.step_memory.specs.Steps.{answer_from};
 ghost use Rattle.step_memory.specs.declared.access.Answer.TheVariants.{Value};
@@ -44,23 +44,23 @@ impl<P: StepProgram> Participant<P> {
         true
     }
 
-    /// Takes its program's step by this shortcut. Tells whether it did; where not, nothing has changed.
+    /// Takes its program's step by this shortcut. What that tells; `None` where it did not: then nothing has changed.
     pub fn take<Q: Shortcut<P, S>, S: StepMemory<Reg = P::Reg, Value = P::Value>>(
         &mut self,
         memory: &mut S,
-    ) -> bool
-        ensures takes { result ≡ true → Q.takes self.old.program }
-        ensures after { result ≡ true → self.new ≡ resumed P.steps self.old (answer_from (S.steps.register memory.old) (P.steps.next self.old.program)) }
-        ensures quiet { result ≡ true → P.steps.note self.old.program (answer_from (S.steps.register memory.old) (P.steps.next self.old.program)) ≡ Quiet }
-        ensures memory { result ≡ true → memory.new ≡ S.steps.after memory.old (P.steps.next self.old.program) }
-        ensures kept { result ≡ false → self.new ≡ self.old }
-        ensures memory_kept { result ≡ false → memory.new ≡ memory.old }
+    ) -> Option<Q::Told>
+        ensures takes { IfSome result (λ _. Q.takes self.old.program) }
+        ensures after { IfSome result (λ _. self.new ≡ resumed P.steps self.old (answer_from (S.steps.register memory.old) (P.steps.next self.old.program))) }
+        ensures note { IfSome result (λ told. P.steps.note self.old.program (answer_from (S.steps.register memory.old) (P.steps.next self.old.program)) ≡ Q.note told) }
+        ensures memory { IfSome result (λ _. memory.new ≡ S.steps.after memory.old (P.steps.next self.old.program)) }
+        ensures kept { result ≡ None → self.new ≡ self.old }
+        ensures memory_kept { result ≡ None → memory.new ≡ memory.old }
     {
-        if !Q::take(&mut self.program, memory) {
-            return false;
-        }
+        let Some(told) = Q::take(&mut self.program, memory) else {
+            return None;
+        };
         self.ended = false;
-        true
+        Some(told)
     }
 }
 

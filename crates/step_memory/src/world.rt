@@ -1,6 +1,6 @@
 //! Participants that take steps on one memory.
 
-ghost use Rattle.std.specs.Prelude.{◌≡◌, ◌≢◌, [], true, false, option_copied, IfOk, OnErr, Err, Ok, is_some};
+ghost use Rattle.std.specs.Prelude.{◌≡◌, ◌≢◌, [], true, false, option_copied, IfOk, IfSome, OnErr, Err, Ok, None, is_some};
 ghost use Rattle.step_memory.specs.Participant.{participant_of, program_of};
 ghost use Rattle.step_memory.specs.World.{begin_refusal, done_unless, after_begin, step_answer, after_step, may_refuse_step, set_answer, after_set, CanAsk, after_asked};
 ghost use Rattle.step_memory.specs.WorldState.{WorldState};
@@ -152,21 +152,21 @@ impl<
         self.participants[i].read_on(value)
     }
 
-    /// One step of a participant by a shortcut, if that takes it: nothing is copied. Tells whether it was made; where not,
-    /// nothing has changed, and `step` makes it or refuses it.
-    pub fn take<Q: Shortcut<P, S>>(&mut self, id: u64) -> bool
-        ensures answer { result ≡ true → step_answer P.steps S.steps self.old id ≡ Ok Note.Quiet }
-        ensures takes { result ≡ true → IsTaken Q.takes self.old id }
-        ensures local { result ≡ true → IsLocal P.steps S.steps id self.old self.new }
-        ensures after { result ≡ true → self.new ≡ after_step P.steps S.steps self.old id }
-        ensures kept { result ≡ false → self.new ≡ self.old }
+    /// One step of a participant by a shortcut, if that takes it: nothing is copied. What the shortcut tells; `None` where it
+    /// was not made: then nothing has changed, and `step` makes it or refuses it.
+    pub fn take<Q: Shortcut<P, S>>(&mut self, id: u64) -> Option<Q::Told>
+        ensures answer { IfSome result (λ told. step_answer P.steps S.steps self.old id ≡ Ok (Q.note told)) }
+        ensures takes { IfSome result (λ _. IsTaken Q.takes self.old id) }
+        ensures local { IfSome result (λ _. IsLocal P.steps S.steps id self.old self.new) }
+        ensures after { IfSome result (λ _. self.new ≡ after_step P.steps S.steps self.old id) }
+        ensures kept { result ≡ None → self.new ≡ self.old }
     {
         let Some(i) = self.hints.find(&self.participants, id) else {
-            return false;
+            return None;
         };
         let walker = &self.participants[i];
         if walker.ended {
-            return false;
+            return None;
         }
         self.participants[i].take::<Q, S>(&mut self.memory)
     }

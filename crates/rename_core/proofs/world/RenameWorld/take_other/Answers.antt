@@ -1,8 +1,8 @@
-use Rattle.std.proofs.Common.{rules, ◌≡◌, Some, None, Ok, Err, get_or, set, refl, sym, ap, ◌∙◌}
-use Rattle.std.proofs.lemmas.List.{length-set}
+use Rattle.std.proofs.Common.{rules, ◌≡◌, ◌<◌, Some, None, Ok, Err, get_or, set, refl, sym, ap, ◌∙◌, length}
+use Rattle.std.proofs.lemmas.List.{length-set, get_or_default}
 use Rattle.step_memory.specs.Participant.{index_of, participant_of, with_participant, beginner}
 use Rattle.step_memory.proofs.DistinctParticipants.{distinct_set, identities-set}
-use Rattle.step_memory.proofs.Found.{Found, found, none-index_of}
+use Rattle.step_memory.proofs.Found.{Found, found, none-index_of, index_of-below}
 use Rattle.snapshot_core.specs.SnapWorld.{after_snap_step}
 use Rattle.step_memory.specs.declared.refusal.Refusal.TheVariants.{NoMemory}
 use Rattle.rename_core.specs.declared.round.Follow.{Follow}
@@ -13,7 +13,7 @@ use Rattle.rename_core.proofs.rounds.StepCases.{absent_answer, absent_state, clo
 use Rattle.snapshot_core.specs.Places.{KnownPlaces, places_by}
 use Rattle.rename_core.proofs.world.RenameWorld.take_other.Given.{Over}
 use Rattle.rename_core.proofs.world.RenameWorld.take_other.Goals as goal
-use Rattle.rename_core.proofs.world.RenameWorld.take_other.Goals.{In_default, After-index, After-ask}
+use Rattle.rename_core.proofs.world.RenameWorld.take_other.Goals.{In_default, After-index, After-index_mut, After-follow}
 
 abbrev pub known : (g : Over) → KnownPlaces g.row.W.Denot g.row.W-Reg.Denot g.row.W-Value.Denot g.row.W-Walker.Denot g.row.W-Walk.Denot
 known g = places_by g.W.Walker.StepProgram.steps g.W.Walker.PlaceWalker.place_of g.W.Walk.SegmentWalk.walks g.W.StepMemory.steps g.W.Places.most_of g.W.Places.walker_from g.W.Places.walk_from g.W.Places.ties
@@ -56,77 +56,96 @@ returns-in-Some-refusal-clause-state g c = λ _.
     let why : stage_refusal c.index.result.now.program.stage ≡ Some c.in-Some-refusal.refusal = sym c.in-Some-refusal.ensures in
     closed_state (known g) c.args.self.now c.args.id c.index.result.now f.is c.in-Some-refusal.refusal why
 
-pub returns-in_err-step-clause-answer : goal.returns-in_err-step-clause-answer
-returns-in_err-step-clause-answer g c = λ goes.
-    let f = there g (goal.at.returns-in_err-step-clause-answer g c).After-index in
+pub returns-in_err-told-clause-answer : goal.returns-in_err-told-clause-answer
+returns-in_err-told-clause-answer g c = λ goes.
+    let f = there g (goal.at.returns-in_err-told-clause-answer g c).After-index in
     let none : stage_refusal c.index.result.now.program.stage ≡ None = sym c.in_default-refusal.ensures in
-    let is : c.from_residual.result ≡ Err c.in_err-step.field-0.0 = search rules in
+    let is : c.from_residual.result ≡ Err c.in_err-told.field-0.0 = search rules in
     let s : c.self.inside.snap ≡ c.args.self.now.snap = ap (λ w. w.snap) c.self.view_is in
-    let k : Err c.in_err-step.field-0.0 ≡ snap_told (known g) c.args.self.now c.args.id =
-    rw (← s) (c.in_err-step.ensures.answer (λ e. let same : c.in_err-step.field-0.0 ≡ NoMemory = cc in goes (is ∙ ap Err same))) in
-    ap (λ x. outcome_with x c.args.view.now) is ∙ refused_answer (known g) c.args.self.now c.args.id c.index.result.now f.is c.in_err-step.field-0.0 none k
+    let k : Err c.in_err-told.field-0.0 ≡ snap_told (known g) c.args.self.now c.args.id =
+    rw (← s) (c.in_err-told.ensures.answer (λ e. let same : c.in_err-told.field-0.0 ≡ NoMemory = cc in goes (is ∙ ap Err same))) in
+    ap (λ x. outcome_with x c.args.view.now) is ∙ refused_answer (known g) c.args.self.now c.args.id c.index.result.now f.is c.in_err-told.field-0.0 none k
 
-pub returns-in_err-step-clause-no_memory : goal.returns-in_err-step-clause-no_memory
-returns-in_err-step-clause-no_memory g c = λ e.
-    let f = there g (goal.at.returns-in_err-step-clause-no_memory g c).After-index in
+pub returns-in_err-told-clause-no_memory : goal.returns-in_err-told-clause-no_memory
+returns-in_err-told-clause-no_memory g c = λ e.
+    let f = there g (goal.at.returns-in_err-told-clause-no_memory g c).After-index in
     let none : stage_refusal c.index.result.now.program.stage ≡ None = sym c.in_default-refusal.ensures in
-    let is : c.from_residual.result ≡ Err c.in_err-step.field-0.0 = search rules in
+    let is : c.from_residual.result ≡ Err c.in_err-told.field-0.0 = search rules in
     let s : c.self.inside.snap ≡ c.args.self.now.snap = ap (λ w. w.snap) c.self.view_is in
-    let same : c.in_err-step.field-0.0 ≡ NoMemory = cc in
-    (open_refusal (known g) c.args.self.now c.args.id c.index.result.now f.is none, rw (← s) (c.in_err-step.ensures.no_memory (ap Err same)))
+    let same : c.in_err-told.field-0.0 ≡ NoMemory = cc in
+    (open_refusal (known g) c.args.self.now c.args.id c.index.result.now f.is none, rw (← s) (c.in_err-told.ensures.no_memory (ap Err same)))
+
+-- the round that was handed on
+handed : (g : _) (c : After-index_mut g) → c.index_mut.result.now ≡ c.index.result.now
+handed g c =
+    let n : Some c.in-Some.i ≡ index_of c.args.id c.deref.result.now = c.in-Some.ensures.answer in
+    let below : c.in-Some.i < length c.self.inside.rounds.items = rw (← c.deref.ensures.value) (index_of-below c.args.id c.deref.result.now c.in-Some.i n) in
+    c.index_mut.ensures.value ∙ get_or_default c.self.inside.rounds.items c.in-Some.i _ _ below ∙ sym c.index.ensures
+
+-- what follows for it
+abbrev following : (g : _) (c : After-follow g) → Follow
+following g c = followed c.index.result.now.program c.args.id c.in_ok-told.told c.args.self.now.limit
+
+record Followed (g : _) (c : After-follow g) : Type 0 where
+  reply : with_view c.follow.result c.follow.new.view ≡ (following g c).reply
+  asked : c.follow.new.snap ≡ after_wish (after_snap_step (known g) c.self.inside.snap c.args.id) c.args.id (following g c).wish
+  round : c.follow.new.participant ≡ beginner c.args.id (following g c).round
+
+followed_on : (g : _) (c : After-follow g) → c.index_mut.result.now ≡ c.index.result.now → c.index.result.now.identity ≡ c.args.id → Followed g c
+followed_on g c same identity =
+    let stepped : c.step.new.self ≡ after_snap_step (known g) c.self.inside.snap c.args.id = c.in_ok-told.ensures.state (λ e. absurd (cc)) in
+    let limit : c.self.inside.limit ≡ c.args.self.now.limit = ap (λ w. w.limit) c.self.view_is in
+    record {
+      reply = rw (same, identity, limit) at c.follow.ensures.reply;
+      asked = rw (← stepped) (rw (same, identity, limit) at c.follow.ensures.asked);
+      round = rw (same, identity, limit) at c.follow.ensures.round;
+    }
 
 pub returns-clause-answer : goal.returns-clause-answer
 returns-clause-answer g c = λ _.
     let f = there g (goal.at.returns-clause-answer g c).After-index in
+    let w = followed_on g (goal.at.returns-clause-answer g c).After-follow (handed g (goal.at.returns-clause-answer g c).After-index_mut) f.identity in
     let none : stage_refusal c.index.result.now.program.stage ≡ None = sym c.in_default-refusal.ensures in
     let s : c.self.inside.snap ≡ c.args.self.now.snap = ap (λ w. w.snap) c.self.view_is in
-    let l : c.self.inside.limit ≡ c.args.self.now.limit = ap (λ w. w.limit) c.self.view_is in
-    let k : Ok c.in_ok-step.field-0 ≡ snap_told (known g) c.args.self.now c.args.id =
-    rw (← s) (c.in_ok-step.ensures.answer (λ e. absurd (cc))) in
-    let follow : c.followed-follow.result ≡ followed c.index.result.now.program c.args.id c.in_ok-step.field-0 c.args.self.now.limit = rw (← l) c.followed-follow.ensures in
-    let shown : Ok (with_view c.shorten.result c.shorten.new.view) ≡ Ok c.followed-follow.result.reply = ap Ok c.shorten.ensures in
-    shown ∙ ap (λ (x : Follow). Ok x.reply) follow ∙ told_answer (known g) c.args.self.now c.args.id c.index.result.now f.is c.in_ok-step.field-0 none k
-
--- what the snapshot object has come to
-asked : (g : _) (c : After-ask g) → c.ask.new.snap ≡ after_wish (after_snap_step (known g) c.self.inside.snap c.args.id) c.args.id c.followed-follow.result.wish
-asked g c =
-    let stepped : c.step.new.self ≡ after_snap_step (known g) c.self.inside.snap c.args.id = c.in_ok-step.ensures.state (λ e. absurd (cc)) in
-    rw (← stepped) c.ask.ensures
+    let k : Ok c.in_ok-told.told ≡ snap_told (known g) c.args.self.now c.args.id =
+    rw (← s) (c.in_ok-told.ensures.answer (λ e. absurd (cc))) in
+    ap Ok w.reply ∙ told_answer (known g) c.args.self.now c.args.id c.index.result.now f.is c.in_ok-told.told none k
 
 pub invariant_of-self-2 : goal.invariant_of-self-2
 invariant_of-self-2 g c =
-    let a = asked g (goal.at.invariant_of-self-2 g c).After-ask in
     let f = kept_there g (goal.at.invariant_of-self-2 g c).After-index in
-    let l = step_large (known g) (record { snap = c.self.inside.snap; rounds = c.self.inside.rounds.items; limit = c.self.inside.limit }) c.args.id c.followed-follow.result.wish in
+    let w = followed_on g (goal.at.invariant_of-self-2 g c).After-follow (handed g (goal.at.invariant_of-self-2 g c).After-index_mut) f.identity in
+    let follow = following g (goal.at.invariant_of-self-2 g c).After-follow in
+    let l = step_large (known g) (record { snap = c.self.inside.snap; rounds = c.self.inside.rounds.items; limit = c.self.inside.limit }) c.args.id follow.wish in
     let most = l.most in
     let old = c.self.invariant in
-    let new = beginner c.args.id c.followed-follow.result.round in
+    let new = beginner c.args.id follow.round in
     let size = length-set c.self.inside.rounds.items c.in-Some.i new in
     let same = identities-set c.args.id c.self.inside.rounds.items c.in-Some.i c.index.result.now new f refl in
     let distinct = distinct_set c.args.id c.self.inside.rounds.items c.in-Some.i c.index.result.now new f refl old.4 in
-    rw a (rw most old.0, rw most old.1, same ∙ old.2 ∙ sym l.same, rw (most, size) old.3, distinct)
+    rw (w.asked, w.round) (rw most old.0, rw most old.1, same ∙ old.2 ∙ sym l.same, rw (most, size) old.3, distinct)
 
 pub returns-clause-state : goal.returns-clause-state
 returns-clause-state g c = λ _.
     let f = there g (goal.at.returns-clause-state g c).After-index in
-    let a = asked g (goal.at.returns-clause-state g c).After-ask in
+    let w = followed_on g (goal.at.returns-clause-state g c).After-follow (handed g (goal.at.returns-clause-state g c).After-index_mut) f.identity in
+    let follow = following g (goal.at.returns-clause-state g c).After-follow in
     let none : stage_refusal c.index.result.now.program.stage ≡ None = sym c.in_default-refusal.ensures in
     let s : c.self.inside.snap ≡ c.args.self.now.snap = ap (λ w. w.snap) c.self.view_is in
     let l : c.self.inside.limit ≡ c.args.self.now.limit = ap (λ w. w.limit) c.self.view_is in
     let v : c.self.inside.rounds.items ≡ c.args.self.now.rounds = ap (λ w. w.rounds) c.self.view_is in
-    let k : Ok c.in_ok-step.field-0 ≡ snap_told (known g) c.args.self.now c.args.id =
-    rw (← s) (c.in_ok-step.ensures.answer (λ e. absurd (cc))) in
-    let follow : c.followed-follow.result ≡ followed c.index.result.now.program c.args.id c.in_ok-step.field-0 c.args.self.now.limit = rw (← l) c.followed-follow.ensures in
-    let put : with_participant (beginner c.args.id c.followed-follow.result.round) c.args.self.now.rounds ≡ set c.args.self.now.rounds c.in-Some.i (beginner c.args.id c.followed-follow.result.round) = f.put (beginner c.args.id c.followed-follow.result.round) refl in
-    let end = told_state (known g) c.args.self.now c.args.id c.index.result.now f.is c.in_ok-step.field-0 none k in
-    rw (a, v, l, s) (rw (← put, follow) end)
+    let k : Ok c.in_ok-told.told ≡ snap_told (known g) c.args.self.now c.args.id =
+    rw (← s) (c.in_ok-told.ensures.answer (λ e. absurd (cc))) in
+    let put : with_participant (beginner c.args.id follow.round) c.args.self.now.rounds ≡ set c.args.self.now.rounds c.in-Some.i (beginner c.args.id follow.round) = f.put (beginner c.args.id follow.round) refl in
+    let end = told_state (known g) c.args.self.now c.args.id c.index.result.now f.is c.in_ok-told.told none k in
+    rw (w.asked, w.round, v, l, s) (rw (← put) end)
 
-pub returns-in_err-step-clause-state : goal.returns-in_err-step-clause-state
-returns-in_err-step-clause-state g c = λ goes.
-    let f = there g (goal.at.returns-in_err-step-clause-state g c).After-index in
+pub returns-in_err-told-clause-state : goal.returns-in_err-told-clause-state
+returns-in_err-told-clause-state g c = λ goes.
+    let f = there g (goal.at.returns-in_err-told-clause-state g c).After-index in
     let none : stage_refusal c.index.result.now.program.stage ≡ None = sym c.in_default-refusal.ensures in
-    let is : c.from_residual.result ≡ Err c.in_err-step.field-0.0 = search rules in
+    let is : c.from_residual.result ≡ Err c.in_err-told.field-0.0 = search rules in
     let s : c.self.inside.snap ≡ c.args.self.now.snap = ap (λ w. w.snap) c.self.view_is in
-    let k : Err c.in_err-step.field-0.0 ≡ snap_told (known g) c.args.self.now c.args.id = rw (← s) (c.in_err-step.ensures.answer (λ e. let same : c.in_err-step.field-0.0 ≡ NoMemory = cc in goes (is ∙ ap Err same))) in
-    let kept : c.step.new.self ≡ c.self.inside.snap = c.in_err-step.ensures.refused in
-    ap (λ z. record { snap = z; rounds = c.self.inside.rounds.items; limit = c.self.inside.limit }) kept ∙ c.self.view_is ∙ refused_state (known g) c.args.self.now c.args.id c.index.result.now f.is c.in_err-step.field-0.0 none k
+    let k : Err c.in_err-told.field-0.0 ≡ snap_told (known g) c.args.self.now c.args.id = rw (← s) (c.in_err-told.ensures.answer (λ e. let same : c.in_err-told.field-0.0 ≡ NoMemory = cc in goes (is ∙ ap Err same))) in
+    let kept : c.step.new.self ≡ c.self.inside.snap = c.in_err-told.ensures.refused in
+    ap (λ z. record { snap = z; rounds = c.self.inside.rounds.items; limit = c.self.inside.limit }) kept ∙ c.self.view_is ∙ refused_state (known g) c.args.self.now c.args.id c.index.result.now f.is c.in_err-told.field-0.0 none k

@@ -1,4 +1,5 @@
-use Rattle.std.proofs.Common.{◌≡◌, ◌<◌, true, false, Ok, set, refl, sym, ap, ◌∙◌, length}
+use Rattle.std.proofs.Common.{◌≡◌, ◌<◌, Ok, IfSome, Option, Some, None, set, refl, sym, ap, ◌∙◌, length}
+use Rattle.std.proofs.lemmas.Option.{IfSome_then}
 use Rattle.std.proofs.lemmas.List.{get_or_default}
 use Rattle.step_memory.specs.Participant.{resumed, with_participant}
 use Rattle.step_memory.specs.World.{got_by}
@@ -28,44 +29,52 @@ taken g c =
       memory = ap (λ w. w.memory) c.self.view_is;
     }
 
+-- two things that hold of what is told, if anything is
+both_some : {X : Type 0} {P Q S : Type 0} (r : Option X) → IfSome r (λ _. P) → IfSome r (λ _. Q) → (P → Q → S) → IfSome r (λ _. S)
+both_some None p q f = tt
+both_some (Some x) p q f = f p q
+
 pub returns-clause-answer : goal.returns-clause-answer
-returns-clause-answer g c = λ goes.
+returns-clause-answer g c =
     let f = found_participant g (goal.at.returns-clause-answer g c).After-index-walker in
     let w = taken g (goal.at.returns-clause-answer g c).After-take in
+    IfSome_then c.take.result c.take.ensures.note (λ told said.
     going_answer g.P.StepProgram.steps g.S.StepMemory.steps c.args.self.now c.args.id c.index-walker.result.now f.is c.if-walker.false
-    ∙ ap Ok (rw (← w.memory, ← w.same) (c.take.ensures.quiet goes))
+    ∙ ap Ok (rw (← w.memory, ← w.same) said))
 
 pub returns-clause-takes : goal.returns-clause-takes
-returns-clause-takes g c = λ goes.
+returns-clause-takes g c =
     let f = found_participant g (goal.at.returns-clause-takes g c).After-index-walker in
     let w = taken g (goal.at.returns-clause-takes g c).After-take in
-    (c.index-walker.result.now, f.is, rw (← w.same) (c.take.ensures.takes goes))
+    IfSome_then c.take.result c.take.ensures.takes (λ told takes. (c.index-walker.result.now, f.is, rw (← w.same) takes))
 
 pub returns-clause-after : goal.returns-clause-after
-returns-clause-after g c = λ goes.
+returns-clause-after g c =
     let f = found_participant g (goal.at.returns-clause-after g c).After-index-walker in
     let w = taken g (goal.at.returns-clause-after g c).After-take in
     let m : c.self.inside.most ≡ c.args.self.now.most = ap (λ w. w.most) c.self.view_is in
     let v : c.self.inside.participants.items ≡ c.args.self.now.participants = ap (λ w. w.participants) c.self.view_is in
     let got = got_by g.P.StepProgram.steps g.S.StepMemory.steps c.args.self.now.memory c.index-walker.result.now in
-    let participant : c.take.new.self ≡ resumed g.P.StepProgram.steps c.index-walker.result.now got = rw (← w.memory, ← w.same) (c.take.ensures.after goes) in
-    let memory : c.take.new.memory ≡ g.S.StepMemory.steps.after c.args.self.now.memory (g.P.StepProgram.steps.next c.index-walker.result.now.program) = rw (← w.memory, ← w.same) (c.take.ensures.memory goes) in
+    both_some c.take.result c.take.ensures.after c.take.ensures.memory (λ after changed.
+    let participant : c.take.new.self ≡ resumed g.P.StepProgram.steps c.index-walker.result.now got = rw (← w.memory, ← w.same) after in
+    let memory : c.take.new.memory ≡ g.S.StepMemory.steps.after c.args.self.now.memory (g.P.StepProgram.steps.next c.index-walker.result.now.program) = rw (← w.memory, ← w.same) changed in
     let identity : c.take.new.self.identity ≡ c.args.id = ap (λ p. p.identity) participant ∙ f.identity in
     let put : with_participant c.take.new.self c.args.self.now.participants ≡ set c.args.self.now.participants c.in-Some.i c.take.new.self = f.put c.take.new.self identity in
     sym (going_after g.P.StepProgram.steps g.S.StepMemory.steps c.args.self.now c.args.id c.index-walker.result.now f.is c.if-walker.false
-    ∙ rw (← participant, put, ← memory, ← v, ← m) refl)
+    ∙ rw (← participant, put, ← memory, ← v, ← m) refl))
 
 pub returns-clause-local : goal.returns-clause-local
-returns-clause-local g c = λ goes.
-    let e = returns-clause-after g c goes in
-    rw e (step_local g.P.StepProgram.steps g.S.StepMemory.steps g.met.S.StepMemory.others c.args.self.now c.args.id)
+returns-clause-local g c =
+    IfSome_then c.take.result (returns-clause-after g c) (λ told e.
+    rw e (step_local g.P.StepProgram.steps g.S.StepMemory.steps g.met.S.StepMemory.others c.args.self.now c.args.id))
 
 pub invariant_of-self : goal.invariant_of-self
 invariant_of-self g c =
+    let told : IfSome c.take.result (λ _. c.take.new.self.identity ≡ c.index_mut.result.now.identity) = IfSome_then c.take.result c.take.ensures.after (λ told after. ap (λ p. p.identity) after) in
     let own : c.take.new.self.identity ≡ c.index_mut.result.now.identity =
-    elim c.take.result as (λ b. c.take.result ≡ b → c.take.new.self.identity ≡ c.index_mut.result.now.identity) [
-      | true ↦ λ e. ap (λ p. p.identity) (c.take.ensures.after e)
-      | false ↦ λ e. ap (λ p. p.identity) (c.take.ensures.kept e)
-    ] refl
+    elim c.take.result as (λ o. (o ≡ None → c.take.new.self ≡ c.index_mut.result.now) → IfSome o (λ _. c.take.new.self.identity ≡ c.index_mut.result.now.identity) → c.take.new.self.identity ≡ c.index_mut.result.now.identity) [
+      | None ↦ λ kept same. ap (λ p. p.identity) (kept refl)
+      | Some x ↦ λ kept same. same
+    ] c.take.ensures.kept told
     in
     (c.self.invariant.0, distinct_there c.args.id c.in-Some.i c.index_mut.result.now c.take.new.self c.deref.ensures.value c.in-Some.ensures.answer c.index_mut.ensures.value own c.self.invariant.1)
