@@ -99,9 +99,31 @@ where
     W::Walk: Copy,
     W::Value: Drop,
 {
-    /// A step that is refused before its access, a step of a way, or one that reads for a scan that goes on: its outcome.
-    /// `None` at any other step, with nothing changed.
-    fn take_quick(&mut self, id: u64, view: &mut View) -> Option<Result<ShortReply, Refusal>>
+    /// A step that is refused before its access, or that reads for a scan that goes on, after which nothing follows: its
+    /// outcome. `None` at any other step, with nothing changed.
+    fn take_quick(&mut self, id: u64) -> Option<Result<ShortReply, Refusal>>
+        ensures answer { IfSome result (λ r. (view : List (ℕ × ℕ)) → outcome_with r view ≡ rename_answer ⟦<W as Known>⟧.places self.old id) }
+        ensures state { IfSome result (λ r. self.new ≡ after_rename_step ⟦<W as Known>⟧.places self.old id) }
+        ensures refused { IfSome result (λ r. OnErr r (self.new ≡ self.old)) }
+        ensures sure { result ≢ Some (Err Refusal.NoMemory) }
+        ensures kept { result ≡ None → self.new ≡ self.old }
+    {
+        let Some(i) = self.hints.find(&self.rounds, id) else {
+            return Some(Err(Refusal::NotBegun));
+        };
+        if let Some(refusal) = self.rounds[i].program.stage.refusal() {
+            return Some(Err(refusal));
+        }
+        if !self.snap.read_on(id) {
+            return None;
+        }
+        self.rounds[i].ended = false;
+        Some(Ok(ShortReply::Quiet))
+    }
+
+    /// A step that is refused before its access, or a step on the way to a place, and what follows it: its outcome. `None` at
+    /// any other step, with nothing changed.
+    fn take_walk(&mut self, id: u64, view: &mut View) -> Option<Result<ShortReply, Refusal>>
         ensures answer { IfSome result (λ r. outcome_with r view.new ≡ rename_answer ⟦<W as Known>⟧.places self.old id) }
         ensures state { IfSome result (λ r. self.new ≡ after_rename_step ⟦<W as Known>⟧.places self.old id) }
         ensures refused { IfSome result (λ r. OnErr r (self.new ≡ self.old)) }
@@ -114,7 +136,7 @@ where
         if let Some(refusal) = self.rounds[i].program.stage.refusal() {
             return Some(Err(refusal));
         }
-        let Some(note) = self.snap.step_on(id) else {
+        let Some(note) = self.snap.walk_on(id) else {
             return None;
         };
         if note.is_quiet() {
@@ -143,6 +165,20 @@ where
         Ok(follow(&mut self.snap, &mut self.rounds[i], told, self.limit, view))
     }
 
+    /// A step on the way to a place or any other, and what follows it. A function of its own, as `take_other` is.
+    #[inline(never)]
+    fn take_slow(&mut self, id: u64, view: &mut View) -> Result<ShortReply, Refusal>
+        ensures answer { result ≢ Err Refusal.NoMemory → outcome_with result view.new ≡ rename_answer ⟦<W as Known>⟧.places self.old id }
+        ensures state { result ≢ Err Refusal.NoMemory → self.new ≡ after_rename_step ⟦<W as Known>⟧.places self.old id }
+        ensures refused { OnErr result (self.new ≡ self.old) }
+        ensures no_memory { result ≡ Err Refusal.NoMemory → LacksMemory ⟦<W as Known>⟧.places self.old id }
+    {
+        if let Some(outcome) = self.take_walk(id, view) {
+            return outcome;
+        }
+        self.take_other(id, view)
+    }
+
     /// A step, and what follows it.
     #[inline(always)]
     fn take_step(&mut self, id: u64, view: &mut View) -> Result<ShortReply, Refusal>
@@ -151,10 +187,10 @@ where
         ensures refused { OnErr result (self.new ≡ self.old) }
         ensures no_memory { result ≡ Err Refusal.NoMemory → LacksMemory ⟦<W as Known>⟧.places self.old id }
     {
-        if let Some(outcome) = self.take_quick(id, view) {
+        if let Some(outcome) = self.take_quick(id) {
             return outcome;
         }
-        self.take_other(id, view)
+        self.take_slow(id, view)
     }
 
     /// One step of a participant: one access, and what follows it. Refused where the identity has not begun, then where it

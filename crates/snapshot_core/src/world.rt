@@ -1,6 +1,6 @@
 //! A snapshot object, taken step by step.
 
-ghost use Rattle.std.specs.Prelude.{◌≡◌, ◌≢◌, [], IfOk, IfSome, OnErr, Err, Ok, None, true};
+ghost use Rattle.std.specs.Prelude.{◌≡◌, ◌≢◌, [], IfOk, IfSome, OnErr, Err, Ok, None, true, false};
 ghost use Rattle.step_memory.specs.Locality.{IsLocal};
 ghost use Rattle.step_memory.specs.World.{begin_refusal, done_unless};
 ghost use Rattle.snapshot_core.specs.Snapshot.{IsLawful};
@@ -116,11 +116,23 @@ where
         self.world.ask(id, ToScan)
     }
 
-    /// One step of a participant, if it is a read of a scan that goes on, or a step of a way: it copies no segment. What the
-    /// way says; of a scan nothing. `None` where the step was not made: then nothing has changed, and `step` makes it or
-    /// refuses it.
+    /// One step of a participant, if it is a read of a scan that goes on: it copies no segment, and answers `Quiet`. Tells
+    /// whether it was made; where not, nothing has changed, and `walk_on` or `step` makes it, or `step` refuses it.
     #[inline(always)]
-    pub fn step_on(&mut self, id: u64) -> Option<Note<Place>>
+    pub fn read_on(&mut self, id: u64) -> bool
+        ensures answer { result ≡ true → snap_answer ⟦<W as Known>⟧.places self.old id ≡ Ok SnapReply.Quiet }
+        ensures state { result ≡ true → self.new ≡ after_snap_step ⟦<W as Known>⟧.places self.old id }
+        ensures kept { result ≡ false → self.new ≡ self.old }
+        ensures local { result ≡ true → IsLocal (clients_over ⟦<W as Known>⟧.places) W.steps id self.old self.new }
+        ensures after { result ≡ true → LeadsOn ⟦<W as Known>⟧.places self.old self.new (Stepped id (Ok SnapReply.Quiet)) }
+        ensures law { IsLawful ⟦<W as Known>⟧.places self.new }
+    {
+        self.world.read_on(id)
+    }
+
+    /// One step of a participant, if it is one of its way to its place: it copies no segment. What the way says; `None` where
+    /// the step was not made: then nothing has changed, and `step` makes it or refuses it.
+    pub fn walk_on(&mut self, id: u64) -> Option<Note<Place>>
         ensures answer { IfSome result (λ note. snap_answer ⟦<W as Known>⟧.places self.old id ≡ Ok (told_of_way note)) }
         ensures state { IfSome result (λ _. self.new ≡ after_snap_step ⟦<W as Known>⟧.places self.old id) }
         ensures kept { result ≡ None → self.new ≡ self.old }
@@ -128,9 +140,6 @@ where
         ensures after { IfSome result (λ note. LeadsOn ⟦<W as Known>⟧.places self.old self.new (Stepped id (Ok (told_of_way note)))) }
         ensures law { IsLawful ⟦<W as Known>⟧.places self.new }
     {
-        if self.world.read_on(id) {
-            return Some(Note::Quiet);
-        }
         self.world.take::<OnWay>(id)
     }
 
@@ -178,7 +187,10 @@ where
         ensures stands_alike { result ≢ Err Refusal.NoMemory → StaysAlike ⟦<W as Known>⟧.places self.old self.new id }
         ensures own { MakesOwnAccess ⟦<W as Known>⟧.places self.old id }
     {
-        if let Some(note) = self.step_on(id) {
+        if self.read_on(id) {
+            return Ok(SnapReply::Quiet);
+        }
+        if let Some(note) = self.walk_on(id) {
             return Ok(SnapReply::of_way(note));
         }
         self.take_step(id)
