@@ -43,7 +43,7 @@ use Rattle.rename_core.specs.RenameWorld.{after_wish, begun_snap, begun_unless, 
 use Rattle.rename_core.specs.Round.{stage_refusal, followed, decided, named_by, spent_by, saw_by, number_of, written_round, first_round, first_wish}
 use Rattle.rename_core.proofs.LocalSteps.{wish_becomes}
 use Rattle.rename_core.proofs.rounds.Numbers.{next_free}
-use Rattle.rename_core.proofs.rounds.StepCases.{told_answer, told_state, closed_answer}
+use Rattle.rename_core.proofs.rounds.StepCases.{told_answer, told_state, refusal_here, closed_answer}
 use Rattle.rename_core.proofs.rounds.Stepping.{HasGone, placing_gone, proposing_gone, looking_gone, standing_made}
 use Rattle.rename_core.proofs.rounds.Tied.{IsAtStage, IsPlacing, IsProposing, IsLooking, IsTied}
 use Rattle.rename_core.proofs.rounds.Views.{taken_not}
@@ -383,7 +383,7 @@ module _ {S R V U K : Type 0} (W : KnownPlaces S R V U K) (terms : RenameTerms) 
         nearer_at Looking e h left =
             let k : GoesBusy W w.snap p v.program.count = goes_busy W w.snap p v.program.count h.stands in
             conclude k.reply k.answer (ap stage_refusal e) (looking_on h e left k.reply k.answer (looking_gone W terms bounds Tie tie_goes w o t i p v here h e k))
-        nearer_at Settled e h left = absurd (let two : Ok said ≡ Err Finished = said_is ∙ sym (closed_answer W w p v here Finished (ap stage_refusal e)) in cc)
+        nearer_at Settled e h left = absurd (let two : Ok said ≡ Err Finished = said_is ∙ sym (closed_answer W w p Finished (refusal_here w p v here ∙ ap stage_refusal e)) in cc)
         nearer_at Over e h left = absurd left
 
     -- calls of others

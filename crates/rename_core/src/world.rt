@@ -1,7 +1,7 @@
 //! A renaming world, taken step by step.
 
 ghost use Rattle.std.specs.Prelude.{◌≡◌, ◌≢◌, ℕ, ◌<◌, ◌≤◌, ◌⊎◌, ◌↔◌, List, [], length, IfOk, IfErr, IfSome, OnErr, Some, None, Err, Ok, true, false};
-ghost use Rattle.step_memory.specs.Participant.{program_of, beginner};
+ghost use Rattle.step_memory.specs.Participant.{index_of, program_of, beginner};
 ghost use Rattle.step_memory.specs.World.{begin_refusal, done_unless};
 ghost use Rattle.step_memory.specs.Calls.Call.{Began, Stepped};
 ghost use Rattle.rename_core.specs.Config.{is_played_over};
@@ -99,84 +99,55 @@ where
     W::Walk: Copy,
     W::Value: Drop,
 {
-    /// A step that is refused before its access, or that reads for a scan that goes on, after which nothing follows: its
-    /// outcome. `None` at any other step, with nothing changed.
-    fn take_quick(&mut self, id: u64) -> Option<Result<ShortReply, Refusal>>
-        ensures answer { IfSome result (λ r. (view : List (ℕ × ℕ)) → outcome_with r view ≡ rename_answer ⟦<W as Known>⟧.places self.old id) }
-        ensures state { IfSome result (λ r. self.new ≡ after_rename_step ⟦<W as Known>⟧.places self.old id) }
-        ensures refused { IfSome result (λ r. OnErr r (self.new ≡ self.old)) }
-        ensures sure { result ≢ Some (Err Refusal.NoMemory) }
-        ensures kept { result ≡ None → self.new ≡ self.old }
-    {
-        let Some(i) = self.hints.find(&self.rounds, id) else {
-            return Some(Err(Refusal::NotBegun));
-        };
-        if let Some(refusal) = self.rounds[i].program.stage.refusal() {
-            return Some(Err(refusal));
-        }
-        if !self.snap.read_on(id) {
-            return None;
-        }
-        self.rounds[i].ended = false;
-        Some(Ok(ShortReply::Quiet))
-    }
-
-    /// A step that is refused before its access, or a step on the way to a place, and what follows it: its outcome. `None` at
-    /// any other step, with nothing changed.
-    fn take_walk(&mut self, id: u64, view: &mut View) -> Option<Result<ShortReply, Refusal>>
-        ensures answer { IfSome result (λ r. outcome_with r view.new ≡ rename_answer ⟦<W as Known>⟧.places self.old id) }
-        ensures state { IfSome result (λ r. self.new ≡ after_rename_step ⟦<W as Known>⟧.places self.old id) }
-        ensures refused { IfSome result (λ r. OnErr r (self.new ≡ self.old)) }
-        ensures sure { result ≢ Some (Err Refusal.NoMemory) }
-        ensures kept { result ≡ None → self.new ≡ self.old }
-    {
-        let Some(i) = self.hints.find(&self.rounds, id) else {
-            return Some(Err(Refusal::NotBegun));
-        };
-        if let Some(refusal) = self.rounds[i].program.stage.refusal() {
-            return Some(Err(refusal));
-        }
-        let Some(note) = self.snap.walk_on(id) else {
-            return None;
-        };
-        if note.is_quiet() {
-            self.rounds[i].ended = false;
-            return Some(Ok(ShortReply::Quiet));
-        }
-        let told = SnapReply::of_way(note);
-        Some(Ok(follow(&mut self.snap, &mut self.rounds[i], told, self.limit, view)))
-    }
-
-    /// Any other step, and what follows it. A function of its own, so that a read has no room of a segment to clear.
-    #[inline(never)]
-    fn take_other(&mut self, id: u64, view: &mut View) -> Result<ShortReply, Refusal>
-        ensures answer { result ≢ Err Refusal.NoMemory → outcome_with result view.new ≡ rename_answer ⟦<W as Known>⟧.places self.old id }
-        ensures state { result ≢ Err Refusal.NoMemory → self.new ≡ after_rename_step ⟦<W as Known>⟧.places self.old id }
-        ensures refused { OnErr result (self.new ≡ self.old) }
-        ensures no_memory { result ≡ Err Refusal.NoMemory → LacksMemory ⟦<W as Known>⟧.places self.old id }
+    /// Where the round of an identity stands that may take a step; why it may take none, want of memory aside.
+    #[inline(always)]
+    fn open_round(&self, id: u64) -> Result<usize, Refusal>
+        ensures ready { IfOk result (λ i. (Some i ≡ index_of id self.now.rounds) × (step_refusal self.now id ≡ None)) }
+        ensures closed { IfErr result (λ why. step_refusal self.now id ≡ Some why) }
     {
         let Some(i) = self.hints.find(&self.rounds, id) else {
             return Err(Refusal::NotBegun);
         };
-        if let Some(refusal) = self.rounds[i].program.stage.refusal() {
-            return Err(refusal);
+        match self.rounds[i].program.stage.refusal() {
+            None => Ok(i),
+            Some(refusal) => Err(refusal),
         }
-        let told = self.snap.step(id)?;
-        Ok(follow(&mut self.snap, &mut self.rounds[i], told, self.limit, view))
     }
 
-    /// A step on the way to a place or any other, and what follows it. A function of its own, as `take_other` is.
+    /// A step that is none on the way to a place, and what follows it. A function of its own, so that other steps have no
+    /// room of a segment to clear.
     #[inline(never)]
-    fn take_slow(&mut self, id: u64, view: &mut View) -> Result<ShortReply, Refusal>
+    fn take_other(&mut self, at: usize, id: u64, view: &mut View) -> Result<ShortReply, Refusal>
+        requires there { Some at ≡ index_of id self.old.rounds }
+        requires ready { step_refusal self.old id ≡ None }
         ensures answer { result ≢ Err Refusal.NoMemory → outcome_with result view.new ≡ rename_answer ⟦<W as Known>⟧.places self.old id }
         ensures state { result ≢ Err Refusal.NoMemory → self.new ≡ after_rename_step ⟦<W as Known>⟧.places self.old id }
         ensures refused { OnErr result (self.new ≡ self.old) }
         ensures no_memory { result ≡ Err Refusal.NoMemory → LacksMemory ⟦<W as Known>⟧.places self.old id }
     {
-        if let Some(outcome) = self.take_walk(id, view) {
-            return outcome;
+        let told = self.snap.step(id)?;
+        Ok(follow(&mut self.snap, &mut self.rounds[at], told, self.limit, view))
+    }
+
+    /// A step that is no read of a scan that goes on, and what follows it. A function of its own, as `take_other` is.
+    #[inline(never)]
+    fn take_slow(&mut self, at: usize, id: u64, view: &mut View) -> Result<ShortReply, Refusal>
+        requires there { Some at ≡ index_of id self.old.rounds }
+        requires ready { step_refusal self.old id ≡ None }
+        ensures answer { result ≢ Err Refusal.NoMemory → outcome_with result view.new ≡ rename_answer ⟦<W as Known>⟧.places self.old id }
+        ensures state { result ≢ Err Refusal.NoMemory → self.new ≡ after_rename_step ⟦<W as Known>⟧.places self.old id }
+        ensures refused { OnErr result (self.new ≡ self.old) }
+        ensures no_memory { result ≡ Err Refusal.NoMemory → LacksMemory ⟦<W as Known>⟧.places self.old id }
+    {
+        let Some(note) = self.snap.walk_on(id) else {
+            return self.take_other(at, id, view);
+        };
+        if note.is_quiet() {
+            self.rounds[at].ended = false;
+            return Ok(ShortReply::Quiet);
         }
-        self.take_other(id, view)
+        let told = SnapReply::of_way(note);
+        Ok(follow(&mut self.snap, &mut self.rounds[at], told, self.limit, view))
     }
 
     /// A step, and what follows it.
@@ -187,10 +158,12 @@ where
         ensures refused { OnErr result (self.new ≡ self.old) }
         ensures no_memory { result ≡ Err Refusal.NoMemory → LacksMemory ⟦<W as Known>⟧.places self.old id }
     {
-        if let Some(outcome) = self.take_quick(id) {
-            return outcome;
+        let at = self.open_round(id)?;
+        if !self.snap.read_on(id) {
+            return self.take_slow(at, id, view);
         }
-        self.take_slow(id, view)
+        self.rounds[at].ended = false;
+        Ok(ShortReply::Quiet)
     }
 
     /// One step of a participant: one access, and what follows it. Refused where the identity has not begun, then where it
@@ -260,10 +233,7 @@ where
     pub fn step_refusal(&self, id: u64) -> Option<Refusal>
         ensures { result ≡ step_refusal self.now id }
     {
-        match self.round(id) {
-            None => Some(Refusal::NotBegun),
-            Some(round) => round.stage.refusal(),
-        }
+        self.open_round(id).err()
     }
 
     /// The name that the round of an identity has ended with.

@@ -1,20 +1,21 @@
 -- a step of a renaming world by cases on who takes it
-use Rattle.std.proofs.Common.{◌≡◌, false, ℕ, ◌+◌, [], ◌∷◌, ◌++◌, length, Option, Some, None, Ok, Err, refl, sym, ap, ◌∙◌}
-use Rattle.std.specs.Prelude.{option_map, is_some}
+use Rattle.std.proofs.Common.{◌≡◌, ℕ, ◌+◌, [], ◌∷◌, ◌++◌, length, get_or, set, Option, Some, None, Ok, Err, refl, sym, ap, ◌∙◌}
+use Rattle.std.specs.Prelude.{option_map}
 use Rattle.step_memory.specs.declared.participant.Participant.{Participant}
 use Rattle.step_memory.specs.declared.refusal.Refusal.{Refusal}
 use Rattle.step_memory.specs.declared.refusal.Refusal.TheVariants.{NotBegun}
-use Rattle.step_memory.specs.Participant.{participant_of, program_of, identities, beginner}
+use Rattle.step_memory.specs.Participant.{index_of, participant_of, program_of, identities, beginner}
 use Rattle.step_memory.specs.World.{begin_refusal, done_unless}
-use Rattle.step_memory.proofs.DistinctParticipants.{identities-push}
-use Rattle.std.proofs.lemmas.List.{length-append}
+use Rattle.step_memory.proofs.DistinctParticipants.{distinct_set, identities-push, identities-set}
+use Rattle.step_memory.proofs.Found.{Found, found, none-index_of, index_of-below}
+use Rattle.std.proofs.lemmas.List.{length-append, length-set, get_or_default}
 use Rattle.snapshot_core.specs.declared.client.SnapReply.{SnapReply}
 use Rattle.snapshot_core.specs.SnapWorld.{SnapState, beginner_at}
 use Rattle.rename_core.specs.declared.round.Round.{Round}
 use Rattle.rename_core.specs.Round.{stage_refusal, followed}
-use Rattle.rename_core.specs.RenameState.{RenameState}
+use Rattle.rename_core.specs.RenameState.{RenameState, HasRoom}
 use Rattle.snapshot_core.specs.Places.{KnownPlaces}
-use Rattle.rename_core.specs.RenameWorld.{after_wish, snap_step, snap_told, after_follow, begun_snap, rename_answer, after_rename_step, step_refusal}
+use Rattle.rename_core.specs.RenameWorld.{after_wish, snap_step, snap_told, after_follow, begun_snap, refusal_by, step_refusal, answer_by, after_by, rename_answer, after_rename_step}
 use Rattle.rename_core.specs.declared.round.Wish.{Wish}
 use Rattle.rename_core.specs.declared.round.Wish.TheVariants.{Nothing, Update, Scan}
 use Rattle.rename_core.proofs.Large.{IsAsLarge, scan_large, update_large, snap_large}
@@ -23,10 +24,6 @@ pub wish_large : {S U K : Type 0} (w : SnapState S U K) (p : ℕ) (wish : Wish) 
 wish_large w p Nothing = record { most = refl; many = refl; same = refl }
 wish_large w p (Update value) = update_large w p value
 wish_large w p Scan = scan_large w p
-
-pub not_refused : (why : Option Refusal) → is_some why ≡ false → why ≡ None
-not_refused None h = refl
-not_refused (Some why) h = absurd (cc)
 
 pub was_begun : (why : Option Refusal) (done : Unit {0}) → Ok done ≡ done_unless why → why ≡ None
 was_begun None done h = refl
@@ -46,37 +43,46 @@ begun_large W w p wish goes =
     let all : (begun_snap W w p).participants ≡ w.snap.participants ++ new ∷ [] = rw goes refl in
     record { most = b.most ∙ most; many = b.many ∙ ap length all ∙ length-append w.snap.participants (new ∷ []); known = b.same ∙ ap identities all ∙ identities-push w.snap.participants new }
 
+-- why a step is refused, by where the round stands among the rounds
+module _ {S U K : Type 0} (w : RenameState S U K) (p : ℕ) where
+  pub absent_refusal : index_of p w.rounds ≡ None → step_refusal w p ≡ Some NotBegun
+  absent_refusal h = let none = none-index_of p w.rounds h in rw none refl
+
+  pub refusal_here : (v : Participant Round) → participant_of p w.rounds ≡ Some v → step_refusal w p ≡ stage_refusal v.program.stage
+  refusal_here v here = rw here refl
+
+  pub refusal_at : (i : ℕ) (v : Participant Round) → Some i ≡ index_of p w.rounds → v ≡ get_or w.rounds i v → step_refusal w p ≡ stage_refusal v.program.stage
+  refusal_at i v at is = refusal_here v (found p w.rounds i v at is).is
+
 module _ {S R V U K : Type 0} (W : KnownPlaces S R V U K) (w : RenameState S U K) (p : ℕ) where
-  pub absent_answer : participant_of p w.rounds ≡ None → Err NotBegun ≡ rename_answer W w p
-  absent_answer h = rw h refl
+  closed_answer_by : (r : Option Round) (why : Refusal) → refusal_by r ≡ Some why → Err why ≡ answer_by W w p r
+  closed_answer_by None why e = let same : NotBegun ≡ why = cc in ap Err (sym same)
+  closed_answer_by (Some r) why e = rw e refl
 
-  pub absent_state : participant_of p w.rounds ≡ None → w ≡ after_rename_step W w p
-  absent_state h = rw h refl
+  closed_state_by : (r : Option Round) (why : Refusal) → refusal_by r ≡ Some why → w ≡ after_by W w p r
+  closed_state_by None why e = refl
+  closed_state_by (Some r) why e = rw e refl
 
-  module _ (v : Participant Round) (here : participant_of p w.rounds ≡ Some v) where
-    there : program_of p w.rounds ≡ Some v.program
-    there = ap (option_map (λ u. u.program)) here
+  pub closed_answer : (why : Refusal) → step_refusal w p ≡ Some why → Err why ≡ rename_answer W w p
+  closed_answer = closed_answer_by (program_of p w.rounds)
 
-    pub closed_answer : (why : Refusal) → stage_refusal v.program.stage ≡ Some why → Err why ≡ rename_answer W w p
-    closed_answer why e = rw (there, e) refl
+  pub closed_state : (why : Refusal) → step_refusal w p ≡ Some why → w ≡ after_rename_step W w p
+  closed_state = closed_state_by (program_of p w.rounds)
 
-    pub closed_state : (why : Refusal) → stage_refusal v.program.stage ≡ Some why → w ≡ after_rename_step W w p
-    closed_state why e = rw (there, e) refl
+  refused_answer_by : (r : Option Round) (why : Refusal) → refusal_by r ≡ None → Err why ≡ snap_told W w p → Err why ≡ answer_by W w p r
+  refused_answer_by None why e k = absurd (cc)
+  refused_answer_by (Some r) why e k = let a = sym k in rw (e, a) refl
 
-    pub open_refusal : stage_refusal v.program.stage ≡ None → step_refusal w p ≡ None
-    open_refusal e = rw there e
+  refused_state_by : (r : Option Round) (why : Refusal) → refusal_by r ≡ None → Err why ≡ snap_told W w p → w ≡ after_by W w p r
+  refused_state_by None why e k = absurd (cc)
+  refused_state_by (Some r) why e k = let a = sym k in rw (e, a) refl
 
-    pub refused_answer : (why : Refusal) → stage_refusal v.program.stage ≡ None → Err why ≡ snap_told W w p → Err why ≡ rename_answer W w p
-    refused_answer why e k = let a = sym k in rw (there, e, a) refl
+  -- the snapshot object refuses the step
+  pub refused_answer : (why : Refusal) → step_refusal w p ≡ None → Err why ≡ snap_told W w p → Err why ≡ rename_answer W w p
+  refused_answer = refused_answer_by (program_of p w.rounds)
 
-    pub refused_state : (why : Refusal) → stage_refusal v.program.stage ≡ None → Err why ≡ snap_told W w p → w ≡ after_rename_step W w p
-    refused_state why e k = let a = sym k in rw (there, e, a) refl
-
-    pub told_answer : (reply : SnapReply) → stage_refusal v.program.stage ≡ None → Ok reply ≡ snap_told W w p → Ok (followed v.program p reply w.limit).reply ≡ rename_answer W w p
-    told_answer reply e k = let a = sym k in rw (there, e, a) refl
-
-    pub told_state : (reply : SnapReply) → stage_refusal v.program.stage ≡ None → Ok reply ≡ snap_told W w p → after_follow W w p (followed v.program p reply w.limit) ≡ after_rename_step W w p
-    told_state reply e k = let a = sym k in rw (there, e, a) refl
+  pub refused_state : (why : Refusal) → step_refusal w p ≡ None → Err why ≡ snap_told W w p → w ≡ after_rename_step W w p
+  refused_state = refused_state_by (program_of p w.rounds)
 
   -- as many take part after the step and what is asked for after it
   pub step_large : (wish : Wish) → IsAsLarge w.snap (after_wish (snap_step W w p) p wish)
@@ -84,3 +90,44 @@ module _ {S R V U K : Type 0} (W : KnownPlaces S R V U K) (w : RenameState S U K
       let a = snap_large W w.snap p in
       let b = wish_large (snap_step W w p) p wish in
       record { most = b.most ∙ a.most; many = b.many ∙ a.many; same = b.same ∙ a.same }
+
+  module _ (v : Participant Round) (here : participant_of p w.rounds ≡ Some v) where
+    there : program_of p w.rounds ≡ Some v.program
+    there = ap (option_map (λ u. u.program)) here
+
+    pub told_answer : (reply : SnapReply) → stage_refusal v.program.stage ≡ None → Ok reply ≡ snap_told W w p → Ok (followed v.program p reply w.limit).reply ≡ rename_answer W w p
+    told_answer reply e k = let a = sym k in rw (there, e, a) refl
+
+    pub told_state : (reply : SnapReply) → stage_refusal v.program.stage ≡ None → Ok reply ≡ snap_told W w p → after_follow W w p (followed v.program p reply w.limit) ≡ after_rename_step W w p
+    told_state reply e k = let a = sym k in rw (there, e, a) refl
+
+  -- a round that may go on, by its place among the rounds
+  module _ (i : ℕ) (v other : Participant Round) (at : Some i ≡ index_of p w.rounds) (is : v ≡ get_or w.rounds i other) where
+    stands : Found p w.rounds i v
+    stands = found p w.rounds i v at (is ∙ get_or_default w.rounds i other v (index_of-below p w.rounds i at))
+
+    pub followed_answer : (reply : SnapReply) → step_refusal w p ≡ None → Ok reply ≡ snap_told W w p → Ok (followed v.program v.identity reply w.limit).reply ≡ rename_answer W w p
+    followed_answer reply ready k =
+        let own = stands.identity in
+        rw own (told_answer v stands.is reply (sym (refusal_here w p v stands.is) ∙ ready) k)
+
+    -- what follows what the snapshot object told is asked for, and the round that follows is put in its place
+    pub followed_state : (reply : SnapReply) (snap : SnapState S U K) (new : Participant Round) → step_refusal w p ≡ None → Ok reply ≡ snap_told W w p →
+        snap ≡ after_wish (snap_step W w p) v.identity (followed v.program v.identity reply w.limit).wish → new ≡ beginner v.identity (followed v.program v.identity reply w.limit).round →
+        record { snap = snap; rounds = set w.rounds i new; limit = w.limit } ≡ after_rename_step W w p
+    followed_state reply snap new ready k asked round =
+        let own = stands.identity in
+        let put = stands.put (beginner p (followed v.program p reply w.limit).round) refl in
+        rw (asked, round, own) (rw (← put) (told_state v stands.is reply (sym (refusal_here w p v stands.is) ∙ ready) k))
+
+    pub followed_room : (capacity : ℕ) (wish : Wish) (snap : SnapState S U K) (new : Participant Round) → snap ≡ after_wish (snap_step W w p) v.identity wish → new.identity ≡ v.identity →
+        HasRoom capacity w.snap w.rounds → HasRoom capacity snap (set w.rounds i new)
+    followed_room capacity wish snap new asked name old =
+        let own = name ∙ stands.identity in
+        let l = step_large wish in
+        let most = l.most in
+        let size = length-set w.rounds i new in
+        let same = identities-set p w.rounds i v new stands own in
+        let distinct = distinct_set p w.rounds i v new stands own old.4 in
+        let is = asked ∙ ap (λ id. after_wish (snap_step W w p) id wish) stands.identity in
+        rw is (rw most old.0, rw most old.1, same ∙ old.2 ∙ sym l.same, rw (most, size) old.3, distinct)
