@@ -8,7 +8,7 @@ use Rattle.step_memory.specs.View.{value_of}
 use Rattle.step_memory.specs.declared.participant.Participant.{Participant}
 use Rattle.step_memory.specs.declared.refusal.Refusal.{Refusal}
 use Rattle.step_memory.specs.declared.refusal.Refusal.TheVariants.{Finished, NoMemory}
-use Rattle.step_memory.specs.Participant.{participant_of, program_of, beginner}
+use Rattle.step_memory.specs.Participant.{participant_of, beginner}
 use Rattle.step_memory.proofs.ParticipantLemmas.{participant_of-put, participant_of-push}
 use Rattle.step_memory.specs.Calls.{Call, lacked_memory, steps_by}
 use Rattle.step_memory.specs.Calls.Call.{Began, Stepped}
@@ -39,11 +39,11 @@ use Rattle.rename_core.specs.Proposals.{is_taken, next_proposal}
 use Rattle.rename_core.specs.RenameCalls.{next, IsReply}
 use Rattle.rename_core.specs.RenameObject.{RenameTerms, RenameObject, IsRecent, IsConflict, Allows, after, after_step, no_step}
 use Rattle.rename_core.specs.RenameState.{RenameState}
-use Rattle.rename_core.specs.RenameWorld.{after_wish, begun_snap, begun_unless, has_place, world_with, snap_step, snap_told, after_told, after_open, after_by, answer_told, answer_open, answer_by, rename_answer, after_rename_step}
+use Rattle.rename_core.specs.RenameWorld.{after_wish, begun_snap, begun_unless, has_place, world_with, snap_step, rename_answer, after_rename_step}
 use Rattle.rename_core.specs.Round.{stage_refusal, followed, decided, named_by, spent_by, saw_by, number_of, written_round, first_round, first_wish}
 use Rattle.rename_core.proofs.LocalSteps.{wish_becomes}
 use Rattle.rename_core.proofs.rounds.Numbers.{next_free}
-use Rattle.rename_core.proofs.rounds.StepCases.{told_answer, told_state, refusal_here, closed_answer}
+use Rattle.rename_core.proofs.rounds.StepCases.{told_answer, told_state, refusal_here, closed_answer, step_refused}
 use Rattle.rename_core.proofs.rounds.Stepping.{HasGone, placing_gone, proposing_gone, looking_gone, standing_made}
 use Rattle.rename_core.proofs.rounds.Tied.{IsAtStage, IsPlacing, IsProposing, IsLooking, IsTied}
 use Rattle.rename_core.proofs.rounds.Views.{taken_not}
@@ -51,23 +51,6 @@ use Rattle.rename_core.proofs.rounds.Views.{taken_not}
 -- in the last moment no other proposes n
 abbrev IsFree : RenameObject → ℕ → ℕ → Type 0
 IsFree o p n = (q : ℕ) → q ≢ p → o.moment o.last q ≢ Some n
-
--- a step that is refused changes nothing
-module _ {S R V U K : Type 0} (W : KnownPlaces S R V U K) (w : RenameState S U K) (q : ℕ) (why : Refusal) where
-  told_refused : (r : Round) (told : _) → answer_told W w q r told ≡ Err why → after_told W w q r told ≡ w
-  told_refused r (Ok reply) e = absurd (cc)
-  told_refused r (Err other) e = refl
-
-  open_refused : (r : Round) (z : Option Refusal) → answer_open W w q r z ≡ Err why → after_open W w q r z ≡ w
-  open_refused r None e = told_refused r (snap_told W w q) e
-  open_refused r (Some other) e = refl
-
-  by_refused : (z : Option Round) → answer_by W w q z ≡ Err why → after_by W w q z ≡ w
-  by_refused None e = refl
-  by_refused (Some r) e = open_refused r (stage_refusal r.stage) e
-
-  step_refused : rename_answer W w q ≡ Err why → after_rename_step W w q ≡ w
-  step_refused e = by_refused (program_of q w.rounds) e
 
 -- only who looks is shown a view
 view_phase : (bounds : SnapBounds) (t : Pace) (p : ℕ) (r : Round) (view : List (ℕ × ℕ)) (limit : ℕ) → IsInTime bounds t p (decided r p view limit).reply → t.phase p ≡ ToLook

@@ -15,7 +15,7 @@ use Rattle.rename_core.specs.declared.round.Round.{Round}
 use Rattle.rename_core.specs.Round.{stage_refusal, followed}
 use Rattle.rename_core.specs.RenameState.{RenameState, HasRoom}
 use Rattle.snapshot_core.specs.Places.{KnownPlaces}
-use Rattle.rename_core.specs.RenameWorld.{after_wish, snap_step, snap_told, after_follow, begun_snap, refusal_by, step_refusal, answer_by, after_by, rename_answer, after_rename_step}
+use Rattle.rename_core.specs.RenameWorld.{after_wish, snap_step, snap_told, after_follow, begun_snap, refusal_by, step_refusal, answer_told, answer_open, answer_by, after_told, after_open, after_by, rename_answer, after_rename_step}
 use Rattle.rename_core.specs.declared.round.Wish.{Wish}
 use Rattle.rename_core.specs.declared.round.Wish.TheVariants.{Nothing, Update, Scan}
 use Rattle.rename_core.proofs.Large.{IsAsLarge, scan_large, update_large, snap_large}
@@ -54,35 +54,38 @@ module _ {S U K : Type 0} (w : RenameState S U K) (p : ℕ) where
   pub refusal_at : (i : ℕ) (v : Participant Round) → Some i ≡ index_of p w.rounds → v ≡ get_or w.rounds i v → step_refusal w p ≡ stage_refusal v.program.stage
   refusal_at i v at is = refusal_here v (found p w.rounds i v at is).is
 
+-- a step that is refused changes nothing
+module _ {S R V U K : Type 0} (W : KnownPlaces S R V U K) (w : RenameState S U K) (p : ℕ) (why : Refusal) where
+  told_refused : (r : Round) (told : _) → answer_told W w p r told ≡ Err why → after_told W w p r told ≡ w
+  told_refused r (Ok reply) e = absurd (cc)
+  told_refused r (Err other) e = refl
+
+  open_refused : (r : Round) (z : Option Refusal) → answer_open W w p r z ≡ Err why → after_open W w p r z ≡ w
+  open_refused r None e = told_refused r (snap_told W w p) e
+  open_refused r (Some other) e = refl
+
+  by_refused : (z : Option Round) → answer_by W w p z ≡ Err why → after_by W w p z ≡ w
+  by_refused None e = refl
+  by_refused (Some r) e = open_refused r (stage_refusal r.stage) e
+
+  pub step_refused : rename_answer W w p ≡ Err why → after_rename_step W w p ≡ w
+  step_refused e = by_refused (program_of p w.rounds) e
+
 module _ {S R V U K : Type 0} (W : KnownPlaces S R V U K) (w : RenameState S U K) (p : ℕ) where
   closed_answer_by : (r : Option Round) (why : Refusal) → refusal_by r ≡ Some why → Err why ≡ answer_by W w p r
   closed_answer_by None why e = let same : NotBegun ≡ why = cc in ap Err (sym same)
   closed_answer_by (Some r) why e = rw e refl
 
-  closed_state_by : (r : Option Round) (why : Refusal) → refusal_by r ≡ Some why → w ≡ after_by W w p r
-  closed_state_by None why e = refl
-  closed_state_by (Some r) why e = rw e refl
-
   pub closed_answer : (why : Refusal) → step_refusal w p ≡ Some why → Err why ≡ rename_answer W w p
   closed_answer = closed_answer_by (program_of p w.rounds)
-
-  pub closed_state : (why : Refusal) → step_refusal w p ≡ Some why → w ≡ after_rename_step W w p
-  closed_state = closed_state_by (program_of p w.rounds)
 
   refused_answer_by : (r : Option Round) (why : Refusal) → refusal_by r ≡ None → Err why ≡ snap_told W w p → Err why ≡ answer_by W w p r
   refused_answer_by None why e k = absurd (cc)
   refused_answer_by (Some r) why e k = let a = sym k in rw (e, a) refl
 
-  refused_state_by : (r : Option Round) (why : Refusal) → refusal_by r ≡ None → Err why ≡ snap_told W w p → w ≡ after_by W w p r
-  refused_state_by None why e k = absurd (cc)
-  refused_state_by (Some r) why e k = let a = sym k in rw (e, a) refl
-
   -- the snapshot object refuses the step
   pub refused_answer : (why : Refusal) → step_refusal w p ≡ None → Err why ≡ snap_told W w p → Err why ≡ rename_answer W w p
   refused_answer = refused_answer_by (program_of p w.rounds)
-
-  pub refused_state : (why : Refusal) → step_refusal w p ≡ None → Err why ≡ snap_told W w p → w ≡ after_rename_step W w p
-  refused_state = refused_state_by (program_of p w.rounds)
 
   -- as many take part after the step and what is asked for after it
   pub step_large : (wish : Wish) → IsAsLarge w.snap (after_wish (snap_step W w p) p wish)

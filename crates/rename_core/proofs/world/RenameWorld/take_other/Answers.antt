@@ -1,4 +1,4 @@
-use Rattle.std.proofs.Common.{arith, rules, ◌≡◌, Some, None, Ok, Err, ap, ◌∙◌}
+use Rattle.std.proofs.Common.{arith, rules, ◌≡◌, Some, None, Ok, Err, sym, ap, ◌∙◌}
 use Rattle.step_memory.specs.Participant.{index_of}
 use Rattle.step_memory.specs.declared.refusal.Refusal.TheVariants.{NoMemory}
 use Rattle.step_memory.proofs.Found.{index_of-below}
@@ -9,7 +9,7 @@ use Rattle.rename_core.specs.Reply.{outcome_with}
 use Rattle.rename_core.specs.RenameState.{RenameState}
 use Rattle.rename_core.specs.RenameWorld.{after_wish, snap_told, step_refusal}
 use Rattle.rename_core.specs.Round.{followed}
-use Rattle.rename_core.proofs.rounds.StepCases.{refused_answer, refused_state, followed_answer, followed_state, followed_room}
+use Rattle.rename_core.proofs.rounds.StepCases.{step_refused, refused_answer, followed_answer, followed_state, followed_room}
 use Rattle.rename_core.proofs.world.RenameWorld.take_other.Given.{Over}
 use Rattle.rename_core.proofs.world.RenameWorld.take_other.Goals as goal
 use Rattle.rename_core.proofs.world.RenameWorld.take_other.Goals.{After-step, After-follow}
@@ -47,7 +47,9 @@ returns-in_err-told-clause-state g c = λ goes.
     let k : Err c.in_err-told.field-0.0 ≡ snap_told (known g) (before g (goal.at.returns-in_err-told-clause-state g c).After-step) c.args.id =
     c.in_err-told.ensures.answer (λ e. let same : c.in_err-told.field-0.0 ≡ NoMemory = cc in goes (is ∙ ap Err same)) in
     let kept : c.step.new.self ≡ c.self.inside.snap = c.in_err-told.ensures.refused in
-    rw (kept, ← c.self.view_is) (refused_state (known g) (before g (goal.at.returns-in_err-told-clause-state g c).After-step) c.args.id c.in_err-told.field-0.0 (ready g (goal.at.returns-in_err-told-clause-state g c).After-step) k)
+    let s = (goal.at.returns-in_err-told-clause-state g c).After-step in
+    let answer = refused_answer (known g) (before g s) c.args.id c.in_err-told.field-0.0 (ready g s) k in
+    rw (kept, ← c.self.view_is) (sym (step_refused (known g) (before g s) c.args.id c.in_err-told.field-0.0 (sym answer)))
 
 pub returns-in_err-told-clause-no_memory : goal.returns-in_err-told-clause-no_memory
 returns-in_err-told-clause-no_memory g c = λ e.

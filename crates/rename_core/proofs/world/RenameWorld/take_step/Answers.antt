@@ -7,7 +7,7 @@ use Rattle.rename_core.specs.declared.round.Wish.TheVariants.{Nothing}
 use Rattle.rename_core.specs.Reply.{outcome_with}
 use Rattle.rename_core.specs.RenameState.{RenameState}
 use Rattle.rename_core.specs.RenameWorld.{snap_told, step_refusal}
-use Rattle.rename_core.proofs.rounds.StepCases.{closed_answer, closed_state, followed_answer, followed_state, followed_room}
+use Rattle.rename_core.proofs.rounds.StepCases.{step_refused, closed_answer, followed_answer, followed_state, followed_room}
 use Rattle.rename_core.proofs.world.RenameWorld.take_step.Given.{Over}
 use Rattle.rename_core.proofs.world.RenameWorld.take_step.Goals as goal
 use Rattle.rename_core.proofs.world.RenameWorld.take_step.Goals.{After-read_on}
@@ -34,7 +34,9 @@ returns-in_err-at-clause-answer g c = λ _.
     ap (λ x. outcome_with x c.args.view.now) is ∙ closed_answer (known g) c.args.self.now c.args.id c.in_err-at.field-0.0 c.in_err-at.ensures.closed
 
 pub returns-in_err-at-clause-state : goal.returns-in_err-at-clause-state
-returns-in_err-at-clause-state g c = λ _. closed_state (known g) c.args.self.now c.args.id c.in_err-at.field-0.0 c.in_err-at.ensures.closed
+returns-in_err-at-clause-state g c = λ _.
+    let why = c.in_err-at.field-0.0 in
+    sym (step_refused (known g) c.args.self.now c.args.id why (sym (closed_answer (known g) c.args.self.now c.args.id why c.in_err-at.ensures.closed)))
 
 pub returns-clause-answer : goal.returns-clause-answer
 returns-clause-answer g c = λ _.
