@@ -31,10 +31,6 @@ pub mod migrating;
 pub mod outcome;
 pub mod program;
 pub mod progress;
-#[cfg(test)]
-mod tests;
-#[cfg(test)]
-mod words_tests;
 pub mod working;
 
 pub use checking::check_for;

@@ -1,11 +1,11 @@
-use crate::failure::Failure;
-use crate::outcome::Outcome;
-use crate::program::program;
-use crate::progress::{may_take_long, tell_until};
-use crate::working::work;
+//! What is done for the words of a command line.
+
 use run_checker::{Verdict, check};
 use schedule_player::{Config, Fault, Tried, WorldKind, record};
 use slot_words::{Ask, Misuse, ask};
+use slot_work::program::program;
+use slot_work::progress::tell_until;
+use slot_work::{Failure, Outcome, may_take_long, work};
 use std::alloc::Global;
 use std::io;
 use std::io::Read;
