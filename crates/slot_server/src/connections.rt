@@ -27,6 +27,17 @@ impl Connections {
         }
     }
 
+    /// Why not all of so many were accepted: one could not be, or nobody was there to accept it. None where all were.
+    pub(crate) fn lack(&self, count: u64) -> Option<ServerFault>
+        ensures { IfNone result (self.now.accepted ≡ count) }
+    {
+        if self.accepted == count {
+            None
+        } else {
+            Some(self.fault.unwrap_or(ServerFault::Network))
+        }
+    }
+
     /// The next connection with its number, counted from 0. None where all were accepted, or one could not be: then none is
     /// from there on.
     pub(crate) fn accept<N: OpenListener>(&mut self, listener: &N) -> Option<(u64, N::Stream)>

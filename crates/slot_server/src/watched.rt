@@ -24,7 +24,8 @@ pub struct Watched<'a, R, G, T> {
 impl<'a, R, G: Gate<R>, T> Watched<'a, R, G, T> {
     /// This reader or writer, of this connection.
     pub fn new(rt: &'a R, gate: &'a G, connection: u64, inner: T) -> Watched<'a, R, G, T>
-        ensures { result.inner ≡ inner }
+        ensures inner { result.inner ≡ inner }
+        ensures connection { result.connection ≡ connection }
     {
         Watched {
             rt,

@@ -1,6 +1,6 @@
 //! Workers, one for each clerk, that serve the connections of a listener.
 
-ghost use Rattle.std.specs.Prelude.{◌≡◌, ◌≢◌, Some, vec_len};
+ghost use Rattle.std.specs.Prelude.{◌≡◌, ◌≢◌, IfNone, Some, vec_len};
 
 use crate::connections::Connections;
 use crate::gate::Gate;
@@ -92,7 +92,8 @@ fn work<R: Wait, L: Ledger, G: Gate<R>>(
 /// acceptance, is served whole by one worker: a client that is slow or silent holds that one, and no lock of the hall. A
 /// fault of one connection ends it alone. A worker for which no thread can be made runs in the caller's.
 ///
-/// All clerks come back, but at `ServerFault::Memory`; `ServerFault::Network` where no further connection could be accepted.
+/// All clerks come back, but at `ServerFault::Memory`; `ServerFault::Network` where no further connection could be accepted, or
+/// no clerk was there to serve it. With no fault as many were served as were asked for.
 pub fn serve_many<L, R, G>(
     rt: &R,
     alloc: Global,
@@ -107,6 +108,7 @@ where
     R: Threads + Wait + Sync,
     G: Gate<R> + Sync,
     ensures clerks { result.fault ≢ Some ServerFault.Memory → vec_len result.clerks ≡ vec_len clerks }
+    ensures all { IfNone result.fault (result.served ≡ count) }
 {
     let connections = Mutex::new(Connections::new(count));
     let shared = &connections;
@@ -115,19 +117,15 @@ where
         clerks,
         &|clerk| { work(rt, alloc, listener, lock, gate, shared, clerk) },
     );
-    let Connections {
-        accepted,
-        fault,
-        ..
-    } = connections.into_inner();
+    let connections = connections.into_inner();
     match back {
         Ok(clerks) => Served {
-            served: accepted,
+            served: connections.accepted,
             clerks,
-            fault,
+            fault: connections.lack(count),
         },
         Err(_) => Served {
-            served: accepted,
+            served: connections.accepted,
             clerks: Vec::new(alloc),
             fault: Some(ServerFault::Memory),
         },
