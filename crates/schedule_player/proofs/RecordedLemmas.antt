@@ -1,5 +1,5 @@
 -- from what a run has written after the header to the theorem of a recorded run
-use Rattle.std.proofs.Common.{◌≡◌, true, List, flat_map, Result, Ok, Err, inl, refl, arith, ◌≤◌, ◌+◌}
+use Rattle.std.proofs.Common.{◌≡◌, true, flat_map, Result, Err, inl, refl, arith}
 use Rattle.std.specs.Io.KnownBytes.{Appends}
 use Rattle.desk.specs.Desk.{gives_names, IsFreshDesk}
 use Rattle.desk.specs.DeskValue.{DeskValue}

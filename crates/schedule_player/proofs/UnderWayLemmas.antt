@@ -1,9 +1,9 @@
 -- texts on their way to a writer
-use Rattle.std.proofs.Common.{◌≡◌, ℕ, ◌++◌, List, [], length, take, Option, Some, None, refl, sym, ap, subst, ◌∙◌, append_assoc, length-append, arith, ◌+◌}
-use Rattle.std.proofs.lemmas.List.{append-nil, take-append-le}
+use Rattle.std.proofs.Common.{◌≡◌, ℕ, ◌++◌, List, [], length, take, Option, refl, sym, ap, subst, ◌∙◌, append_assoc, length-append, arith, ◌+◌}
+use Rattle.std.proofs.lemmas.List.{take-append-le}
 use Rattle.std.proofs.Math.Seq.{take-append-add}
 use Rattle.std.specs.Io.KnownBytes.{Appends}
-use Rattle.schedule_player.specs.UnderWay.{IsUnderWay, GoesFrom, GoesPast, StopsWithin}
+use Rattle.schedule_player.specs.UnderWay.{IsUnderWay}
 use Rattle.schedule_player.specs.Written.{HasPartOf}
 use Rattle.schedule_player.proofs.WrittenLemmas.{appends_more}
 

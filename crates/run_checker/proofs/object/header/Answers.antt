@@ -1,7 +1,6 @@
-use Rattle.std.proofs.Common.{◌≡◌, ℕ, Some, sym, ◌∙◌}
+use Rattle.std.proofs.Common.{◌≡◌, sym, ◌∙◌}
 use Rattle.std.proofs.lemmas.Bool.{false≢true}
 use Rattle.std.proofs.lemmas.Option.{same_Some}
-use Rattle.rename_core.specs.declared.config.WorldKind.{WorldKind}
 use Rattle.run_checker.proofs.object.header.Goals as goal
 
 pub returns-in-Err : goal.returns-in-Err

@@ -1,4 +1,4 @@
-use Rattle.std.proofs.Common.{◌≡◌, Ok, sym, ◌∙◌}
+use Rattle.std.proofs.Common.{Ok, sym, ◌∙◌}
 use Rattle.snapshot_core.specs.declared.client.SnapReply.TheVariants.{Quiet}
 use Rattle.snapshot_core.proofs.SnapWorldLemmas.{after_stepped, reads_state, reads_answer}
 use Rattle.snapshot_core.proofs.Following.{law_holds}

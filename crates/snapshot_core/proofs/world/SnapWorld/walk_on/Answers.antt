@@ -1,4 +1,4 @@
-use Rattle.std.proofs.Common.{◌≡◌, Ok, IfSome, Option, Some, None, sym, ◌∙◌}
+use Rattle.std.proofs.Common.{Ok, IfSome, Option, Some, None, sym, ◌∙◌}
 use Rattle.snapshot_core.specs.SnapWorld.{told_of_way}
 use Rattle.snapshot_core.proofs.SnapWorldLemmas.{after_stepped, way_state, way_answer}
 use Rattle.snapshot_core.proofs.Following.{law_holds}
