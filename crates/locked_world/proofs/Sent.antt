@@ -95,4 +95,4 @@ locked_send L g =
 
 -- so threads may share its lock
 pub lock_sync : (L : RattleType) (g : _) → IsSync (lock.the_row L g)
-lock_sync L g = recorded_sync (lock.the_field L g).row _ _ (lock.the_type L g).to_one (struct_sync (shape (lock.the_type L g)) (mutex_sent.the_sync _ (locked_send L g), tt))
+lock_sync L g = recorded_sync (lock.the_field L g).row _ _ (lock.the_type L g).to_one (struct_sync (shape (lock.the_type L g)) (mutex_sent.the_sync _ (locked_send L g), (config_sent.the_field_sync, tt)))

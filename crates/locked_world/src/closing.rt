@@ -9,7 +9,7 @@ use crate::hall::Hall;
 use crate::kept::Kept;
 use crate::kept_log::KeptLog;
 use crate::parts::{Clerk, HallLock, Locked, Session};
-use crate::same::is_same;
+use crate::same::{is_same, is_same_config};
 use std::alloc::Global;
 use std::sync::Mutex;
 use std::sync::ledger::Ledger;
@@ -164,8 +164,8 @@ fn is_just<L: Ledger>(
 
 impl<L: Ledger> HallLock<L> {
     /// Ends a lock. Where every caller that was opened is handed in, the history is compared with what they kept: each place
-    /// was kept by just one of them, with its event and reply, and there is no other. Otherwise all is handed back, and so
-    /// it is where the room for the comparison is refused.
+    /// was kept by just one of them, with its event and reply, and there is no other. The hall is compared with the config that
+    /// the lock was made for. Otherwise all is handed back, and so it is where the room for the comparison is refused.
     pub fn close(
         self,
         alloc: Global,
@@ -173,22 +173,28 @@ impl<L: Ledger> HallLock<L> {
         clerks: Vec<Clerk<L>>,
     ) -> Result<Closed, Missing<L>>
         ensures lawful { IfOk result (λ c. IsLawful c.hall) }
+        ensures config { IfOk result (λ c. c.hall.config ≡ self.config) }
         ensures just { IfOk result (λ c. IsJust c.hall.history (map (λ s. s.clerk.kept.items) sessions.items ++ map (λ c. c.kept.items) clerks.items)) }
         ensures sessions { IfErr result (λ m. m.sessions ≡ sessions) }
         ensures clerks { IfErr result (λ m. m.clerks ≡ clerks) }
+        ensures lock { IfErr result (λ m. m.lock.config ≡ self.config) }
     {
-        let HallLock { locked } = self;
+        let HallLock { locked, config } = self;
         let locked = locked.into_inner();
         let _ = locked.hall.len();
         let opened = locked.opened as usize;
         let all_given = sessions.len() <= opened && clerks.len() == opened - sessions.len();
-        if all_given && is_just(&locked.hall, alloc, &sessions, &clerks) {
+        if all_given
+            && is_same_config(locked.hall.config(), config)
+            && is_just(&locked.hall, alloc, &sessions, &clerks)
+        {
             let Locked { hall, .. } = locked;
             return Ok(Closed { hall });
         }
         Err(Missing {
             lock: HallLock {
                 locked: Mutex::new(locked),
+                config,
             },
             sessions,
             clerks,

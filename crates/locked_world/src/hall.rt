@@ -59,6 +59,13 @@ impl Hall {
         })
     }
 
+    /// What the hall was opened for.
+    pub fn config(&self) -> Config
+        ensures { result ≡ self.now.config }
+    {
+        self.config
+    }
+
     /// How many events the history holds.
     pub fn len(&self) -> usize
         ensures count { result ≡ length self.now.history }

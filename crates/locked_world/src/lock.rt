@@ -121,6 +121,7 @@ impl<L: Ledger> HallLock<L> {
     pub fn new(alloc: Global, config: Config, blank: Blank) -> Result<HallLock<L>, Refusal>
         requires name { blank.name ≡ L.name }
         requires parts { (blank.parts ≡ L.parts) × (L.parts ≡ 1000001) }
+        ensures config { IfOk result (λ l. l.config ≡ config) }
         ensures out_of_range { result ≡ Err Refusal.OutOfRange ↔ (gives_names config.world ≡ false) }
         ensures only { IfErr result (λ why. (why ≡ Refusal.NoMemory) ⊎ (why ≡ Refusal.OutOfRange)) }
     {
@@ -133,6 +134,7 @@ impl<L: Ledger> HallLock<L> {
                 rest,
                 opened: 0,
             }),
+            config,
         })
     }
 

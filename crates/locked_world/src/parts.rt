@@ -5,6 +5,7 @@ ghost use Rattle.locked_world.specs.Kepts.{rises};
 
 use crate::hall::Hall;
 use crate::kept_log::KeptLog;
+use rename_core::Config;
 use std::sync::Mutex;
 use std::sync::ledger::{Book, Ledger, Share};
 
@@ -29,6 +30,7 @@ pub(crate) struct Locked<L: Ledger> {
 #[derive(Drop)]
 pub struct HallLock<L: Ledger> {
     pub(crate) locked: Mutex<Locked<L>>,
+    pub(crate) config: Config,
 }
 
 /// One caller of a lock, with its accepted events in order. What it holds counts them in the lock's ledger.
