@@ -4,7 +4,7 @@ ghost use Rattle.std.specs.Prelude.{◌≡◌};
 
 use locked_world::{Clerk, Hall, HallLock, ServingClerk, law_of_serving};
 use schedule_player::{Config, Event, Fault, Summary, Tried, WorldKind};
-use slot_server::{Gate, OpenGate, Served, ServerFault, Watched, serve_many, serve_one};
+use slot_server::{Gate, Served, ServerFault, Watched, serve_many, serve_one};
 use std::alloc::Global;
 use std::io::{Read, Write};
 use std::marker::Brand;
@@ -360,25 +360,4 @@ fn a_held_connection_holds_no_other(rt: HostRuntime) {
     let answers = (done.one.as_slice(), done.two.as_slice());
     assert_eq!(rt; answers, (b"ok\n".as_slice(), b"ok\n".as_slice()));
     assert!(rt; has_just(&done.hall, &[Event::Enter(5), Event::Begin(7)]));
-}
-
-/// What is told of two connections that no clerk is there to serve.
-fn unserved<L, R>(rt: &R, alloc: Global, blank: Blank) -> (u64, Option<ServerFault>)
-where
-    L: Ledger + Send + Sync,
-    R: Abort + Threads + Wait + Sync + Net<Listener = TcpListener, Stream = TcpStream>,
-    requires name { blank.name ≡ L.name }
-    requires parts { (blank.parts ≡ L.parts) × (L.parts ≡ 1000001) }
-{
-    let lock = opened::<L>(rt, alloc, blank, 4);
-    let listener = TcpListener::bind(rt, ("127.0.0.1", 0u16)).expect(rt, "a port");
-    let clerks = Vec::new(alloc);
-    let served = serve_many(rt, alloc, &listener, &lock, &OpenGate, clerks, 2);
-    (served.served, served.fault)
-}
-
-#[test]
-fn a_fault_is_told_where_nobody_serves(rt: HostRuntime) {
-    let told = unserved::<Brand, _>(&rt, rt.alloc(), Blank::new(1_000_001));
-    assert_eq!(rt; told, (0, Some(ServerFault::Network)));
 }
