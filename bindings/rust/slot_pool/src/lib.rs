@@ -28,6 +28,12 @@
 //! assert_eq!(total, 4000);
 //! ```
 //!
+//! # Building
+//!
+//! Two variables of the environment name folders, for `build.rs`: `SLOT_POOL_LIB` that of `libslot_pool_c.a`, which is `out` in
+//! `crates/slot_pool_c` after `rt lib` there, and `RATTLE_C` the folder `c` of the Rattle kit, with `liblibc_c.a`, its heap. Both
+//! are whole paths. docs/USING.md of the repository has the commands.
+//!
 //! # What is proved, and what is not
 //!
 //! Proved, of the library: a call of `acquire` gives a number of `1..=k` that no other identity holds, or none exactly
