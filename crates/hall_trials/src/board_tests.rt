@@ -129,7 +129,7 @@ fn two_sessions<L: Ledger, R: Abort + Wait>(rt: &R, alloc: Global, blank: Blank)
     looks_at_names(rt, &board, &mut third);
     board.meet(&mut one, &mut two);
     let sessions = with(rt, with(rt, Vec::new(alloc), ten), twenty);
-    let closed = closed(rt, alloc, lock, sessions, Vec::new(alloc));
+    let closed = closed(rt, lock, sessions, Vec::new(alloc));
     let words = board.close(two).expect(rt, "room for the words");
     words_agree(rt, &closed, &words);
     closed.hall.len()
@@ -265,7 +265,7 @@ fn four_post<L: Ledger + Send + Sync, R: Abort + Threads + Wait + Sync>(
     let mut four = take_one(rt, &board, &mut done, &mut sessions);
     all_meet(&board, &mut one, &mut two, &mut three, &mut four);
     let words = board.close(four).expect(rt, "room for the words");
-    let closed = closed(rt, alloc, lock, sessions, Vec::new(alloc));
+    let closed = closed(rt, lock, sessions, Vec::new(alloc));
     let posted = words.iter().filter(|word| **word != 0).count();
     posted == 4 && agrees(&closed, &words)
 }

@@ -212,12 +212,11 @@ pub(crate) fn opened<L: Ledger, R: Abort>(
 /// The closed history of a lock, where these are all its callers.
 pub(crate) fn closed<L: Ledger>(
     rt: &impl Abort,
-    alloc: Global,
     lock: HallLock<L>,
     sessions: Vec<Session<L>>,
     clerks: Vec<Clerk<L>>,
 ) -> Closed {
-    let closed = lock.close(alloc, sessions, clerks).ok();
+    let closed = lock.close(sessions, clerks).ok();
     closed.expect(rt, "each caller is handed in")
 }
 
@@ -271,7 +270,7 @@ fn one_by_clerk<L: Ledger, R: Abort + Wait>(rt: &R, alloc: Global, blank: Blank)
         &Reply::Refused(Refusal::OutOfRange),
     );
     let clerks = with(rt, Vec::new(alloc), clerk);
-    closed(rt, alloc, lock, Vec::new(alloc), clerks).hall.len()
+    closed(rt, lock, Vec::new(alloc), clerks).hall.len()
 }
 
 #[test]
@@ -398,13 +397,13 @@ fn closes_with<L: Ledger>(
     lock: HallLock<L>,
     session: Session<L>,
 ) -> Closed {
-    let missing = lock.close(alloc, Vec::new(alloc), Vec::new(alloc)).err();
+    let missing = lock.close(Vec::new(alloc), Vec::new(alloc)).err();
     let Missing {
         lock,
         sessions,
         clerks,
     } = missing.expect(rt, "a session is missing");
-    closed(rt, alloc, lock, with(rt, sessions, session), clerks)
+    closed(rt, lock, with(rt, sessions, session), clerks)
 }
 
 /// One session, which closes first without and then with itself. The length of the history.
@@ -485,20 +484,33 @@ fn name_in(reply: &Reply) -> u64 {
     }
 }
 
-/// A session of a thread, once it has its name or its turns are used.
-fn renamed<L: Ledger, R: Wait>(rt: &R, lock: &HallLock<L>, session: Session<L>) -> Session<L> {
-    let mut session = session;
-    let _ = lock.rename(rt, &mut session, 100_000);
-    session
-}
-
-/// The sessions of as many threads.
-fn all_renamed<L: Ledger + Send + Sync, R: Threads + Wait + Sync>(
+/// A session of a thread, once it has its name or its turns are used; none where it was refused.
+fn renamed<L: Ledger, R: Wait>(
     rt: &R,
     lock: &HallLock<L>,
+    session: Session<L>,
+) -> Option<Session<L>> {
+    let mut session = session;
+    match lock.rename(rt, &mut session, 100_000) {
+        Ok(_) => Some(session),
+        Err(_) => None,
+    }
+}
+
+/// The sessions of as many threads, of which none is refused.
+fn all_renamed<L: Ledger + Send + Sync, R: Abort + Threads + Wait + Sync>(
+    rt: &R,
+    alloc: Global,
+    lock: &HallLock<L>,
     sessions: Vec<Session<L>>,
-) -> Option<Vec<Session<L>>> {
-    thread::map_vec(rt, sessions, &|session| renamed(rt, lock, session)).ok()
+) -> Vec<Session<L>> {
+    let answers = thread::map_vec(rt, sessions, &|session| renamed(rt, lock, session)).ok();
+    let mut answers = answers.expect(rt, "room for what threads answer");
+    let mut named = Vec::new(alloc);
+    while let Some(answer) = answers.pop() {
+        named = with(rt, named, answer.expect(rt, "a name or none"));
+    }
+    named
 }
 
 /// Whether each of these has a name of its own, from 1 to 7, or none.
@@ -538,10 +550,10 @@ fn four_threads<L: Ledger + Send + Sync, R: Abort + Threads + Wait + Sync>(
     for id in 1..=4u64 {
         sessions = with(rt, sessions, begins(rt, alloc, &lock, id));
     }
-    let sessions = all_renamed(rt, &lock, sessions).expect(rt, "room for what threads answer");
+    let sessions = all_renamed(rt, alloc, &lock, sessions);
     let apart = names_apart(&sessions);
     let kept = kept_by(&sessions);
-    let closed = closed(rt, alloc, lock, sessions, Vec::new(alloc));
+    let closed = closed(rt, lock, sessions, Vec::new(alloc));
     (apart, closed.hall.len() == kept)
 }
 

@@ -337,7 +337,7 @@ where
         clerks,
         fault,
     } = served;
-    let closed = lock.close(alloc, Vec::new(alloc), clerks).ok();
+    let closed = lock.close(Vec::new(alloc), clerks).ok();
     HeldRun {
         one,
         two,

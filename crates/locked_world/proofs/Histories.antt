@@ -4,17 +4,20 @@ use Rattle.std.proofs.lemmas.List.{append-nil}
 use Rattle.std.proofs.lemmas.Bool.Decides.{leb_tells}
 use Rattle.step_memory.specs.declared.refusal.Refusal.{Refusal}
 use Rattle.step_memory.specs.declared.refusal.Refusal.TheVariants as refusal
+use Rattle.step_memory.specs.World.{begin_refusal, done_unless}
 use Rattle.rename_core.specs.declared.config.Config.{Config}
 use Rattle.desk.specs.declared.event.Event.{Event}
+use Rattle.desk.specs.declared.event.Event.TheVariants.{Begin}
 use Rattle.desk.specs.declared.exchange.Exchange.{Exchange}
 use Rattle.desk.specs.declared.reply.Reply.{Reply}
 use Rattle.desk.specs.declared.reply.Reply.TheVariants as reply
 use Rattle.desk.specs.declared.reply.Reply.TheVariants.{Ok, Quiet, Stop, Right, Down, Place, Proposed, Saw, Named, Spent, Missed, Got, Left, Value, Owner, Refused}
-use Rattle.desk.specs.Replies.{is_refusal}
+use Rattle.desk.specs.Replies.{is_refusal, done_reply}
 use Rattle.desk.specs.Desk.{fresh_desk, desk_rules, desk_reply, desk_after, desk_refusal, IsAfterDesk}
 use Rattle.desk.specs.DeskCalls.{DeskCall, exchange, exchange_of}
 use Rattle.desk.specs.DeskRun.{IsDeskRunOf}
 use Rattle.desk.specs.DeskValue.{DeskValue}
+use Rattle.desk.specs.DeskValue.DeskValue.{OverGrid, OverTree}
 use Rattle.desk.specs.Owner.{IsOwnerReply}
 use Rattle.desk.specs.Rules.{may_by}
 use Rattle.desk.specs.Desk.{owner_reply}
@@ -172,3 +175,20 @@ accepted_by r h = by_test (is_refusal r) (λ refused. let why = refused_by r ref
   by_test : (b : Bool) → (b ≡ true → ⊥) → b ≡ false
   by_test true h = absurd (h refl)
   by_test false h = refl
+
+-- and `begin` is accepted by `ok` alone
+done_ok : (o : Option Refusal) → is_refusal (done_reply (done_unless o)) ≡ false → done_reply (done_unless o) ≡ Ok
+done_ok None accepted = refl
+done_ok (Some why) accepted = absurd (cc)
+
+begin_ok : (w : DeskValue) (id : ℕ) → is_refusal (desk_reply w (Begin id)) ≡ false → desk_reply w (Begin id) ≡ Ok
+begin_ok (OverGrid w) id accepted = done_ok (begin_refusal w.names.snap id) accepted
+begin_ok (OverTree w) id accepted = done_ok (begin_refusal w.names.snap id) accepted
+
+begun_ok : (h : HallState) (id : ℕ) (o : Option Refusal) → is_refusal (reply_unless o h (Begin id)) ≡ false → reply_unless o h (Begin id) ≡ Ok
+begun_ok h id None accepted = begin_ok (desk_of h) id accepted
+begun_ok h id (Some why) accepted = absurd (cc)
+
+pub begins_ok : (h u : HallState) (id : ℕ) (r : Reply) → HallMay h (Begin id) r u → is_refusal r ≡ false → r ≡ Ok
+begins_ok h u id r (inl m) accepted = m.0 ∙ begun_ok h id (hall_refusal h (Begin id)) (sym (ap is_refusal m.0) ∙ accepted)
+begins_ok h u id r (inr m) accepted = absurd (let no : true ≡ false = ap is_refusal (sym m.0) ∙ accepted in cc)

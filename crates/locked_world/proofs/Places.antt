@@ -5,10 +5,12 @@ use Rattle.std.proofs.lemmas.Bool.Decides.{nat_tests}
 use Rattle.desk.specs.declared.event.Event.{Event}
 use Rattle.desk.specs.declared.event.Event.TheVariants.{Begin}
 use Rattle.desk.specs.declared.reply.Reply.{Reply}
+use Rattle.desk.specs.declared.reply.Reply.TheVariants.{Ok}
 use Rattle.desk.specs.DeskCalls.{exchange}
 use Rattle.desk.specs.Replies.{is_refusal}
 use Rattle.locked_world.specs.declared.kept.Kept.{Kept}
-use Rattle.locked_world.specs.Kepts.{rises, IsKept, Keeps, IsOpened}
+use Rattle.locked_world.specs.Answers.{IsSomeAnswer}
+use Rattle.locked_world.specs.Kepts.{rises, Keeps, IsOpened}
 use Rattle.locked_world.specs.KeptLogs.{kept_of}
 
 pub rises_more : (from : ℕ) (ks : List Kept) (next : ℕ) (k : Kept) → rises from ks next ≡ true → next ≤ k.place → rises from (ks ++ k ∷ []) (k.place + 1) ≡ true
@@ -31,12 +33,6 @@ pub keeps_accepted : (ks : List Kept) (next place : ℕ) (e : Event) (r : Reply)
 keeps_accepted ks next place e r new h l same accepted =
     rw accepted (record { place = place; above = All-weaker (λ k. k.place < next) (λ k. k.place < place) (λ k b. omega arith) ks (rises_below 0 ks next h); is = same })
 
--- and a refused one changes nothing
-pub keeps_refused : (ks : List Kept) (e : Event) (r : Reply) (new : List Kept) → new ≡ ks → is_refusal r ≡ true → Keeps ks e r new
-keeps_refused ks e r new same refused = rw refused same
-
 -- the first event of a session
-pub opened : (id : ℕ) (ks new : List Kept) (r : Reply) → ks ≡ [] → Keeps ks (Begin id) r new → is_refusal r ≡ false → IsOpened id new
-opened id ks new r none keeps accepted =
-    let kept : IsKept ks (Begin id) r new = rw accepted at keeps in
-    record { place = kept.place; reply = r; accepted = accepted; is = kept.is ∙ ap (λ xs. xs ++ kept_of kept.place (exchange (Begin id) r) ∷ []) none }
+pub opened : (id : ℕ) (ks new : List Kept) → ks ≡ [] → Keeps ks (Begin id) Ok new → IsSomeAnswer 0 (Begin id) Ok → IsOpened id new
+opened id ks new none kept answer = record { place = kept.place; is = kept.is ∙ ap (λ xs. xs ++ kept_of kept.place (exchange (Begin id) Ok) ∷ []) none; answer = answer }

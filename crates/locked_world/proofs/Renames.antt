@@ -1,20 +1,22 @@
 -- steps that are added
-use Rattle.std.proofs.Common.{◌≡◌, ℕ, ◌+◌, true, false, List, [], ◌∷◌, ◌++◌, refl, sym, ap, ◌∙◌, arith, append_assoc, length-append}
+use Rattle.std.proofs.Common.{◌≡◌, ℕ, ◌+◌, ◌≤◌, length, true, false, List, [], ◌∷◌, ◌++◌, refl, sym, ap, ◌∙◌, arith, append_assoc, length-append}
 use Rattle.std.proofs.lemmas.List.Elements.{All-nil, All-push}
 use Rattle.std.proofs.lemmas.List.{append-nil}
 use Rattle.step_memory.specs.declared.refusal.Refusal.{Refusal}
+use Rattle.desk.specs.declared.event.Event.{Event}
 use Rattle.desk.specs.declared.event.Event.TheVariants.{Step}
 use Rattle.desk.specs.declared.reply.Reply.{Reply}
 use Rattle.desk.specs.declared.reply.Reply.TheVariants.{Ok, Quiet, Stop, Right, Down, Place, Proposed, Saw, Named, Spent, Missed, Got, Left, Value, Owner, Refused}
 use Rattle.desk.specs.DeskCalls.{exchange}
 use Rattle.desk.specs.Replies.{is_refusal}
 use Rattle.locked_world.specs.declared.kept.Kept.{Kept}
+use Rattle.locked_world.specs.Answers.{IsSomeAnswer}
 use Rattle.locked_world.specs.Kepts.{IsKept, Keeps}
 use Rattle.locked_world.specs.KeptLogs.{kept_of}
 use Rattle.locked_world.specs.Renamed.{goes_on, IsStepped, IsPlainStep}
 
 pub stepped_not : (id : ℕ) (ks : List Kept) → IsStepped id 0 ks ks
-stepped_not id ks = record { added = []; longer = sym (append-nil ks); counted = refl; plain = All-nil (IsPlainStep id) }
+stepped_not id ks = record { added = []; longer = sym (append-nil ks); counted = refl; plain = All-nil _ }
 
 -- who is not named, spent or refused goes on
 pub plain_by : (r : Reply) → ((name : ℕ) (view : List (ℕ × ℕ)) → r ≡ Named name view → ⊥) → (r ≡ Spent → ⊥) → ((why : Refusal) → r ≡ Refused why → ⊥) → (goes_on r ≡ true) × (is_refusal r ≡ false)
@@ -35,14 +37,18 @@ plain_by (Value value) named spent refused = (refl, refl)
 plain_by (Owner owner) named spent refused = (refl, refl)
 plain_by (Refused why) named spent refused = absurd (refused why refl)
 
+-- what a hall answers that is longer
+pub at_least : {least more : ℕ} {e : Event} {r : Reply} → least ≤ more → IsSomeAnswer more e r → IsSomeAnswer least e r
+at_least l a = let long = a.long in record { hall = a.hall; lawful = a.lawful; long = omega arith; after = a.after; answer = a.answer }
+
 -- one more step after which it goes on
-pub stepped_more : (id count : ℕ) (ks mid new : List Kept) (r : Reply) → IsStepped id count ks mid → Keeps mid (Step id) r new → goes_on r ≡ true → is_refusal r ≡ false → IsStepped id (count + 1) ks new
-stepped_more id count ks mid new r h keeps plain accepted =
+pub stepped_more : (id count : ℕ) (ks mid new : List Kept) (r : Reply) → IsStepped id count ks mid → Keeps mid (Step id) r new → IsSomeAnswer (length mid) (Step id) r → goes_on r ≡ true → is_refusal r ≡ false → IsStepped id (count + 1) ks new
+stepped_more id count ks mid new r h keeps answer plain accepted =
     let kept : IsKept mid (Step id) r new = rw accepted at keeps in
     let one = kept_of kept.place (exchange (Step id) r) in
     record {
       added = h.added ++ one ∷ [];
       longer = kept.is ∙ ap (λ xs. xs ++ one ∷ []) h.longer ∙ append_assoc ks h.added (one ∷ []);
       counted = omega (arith, length-append h.added (one ∷ []), h.counted);
-      plain = All-push (IsPlainStep id) h.added one h.plain (record { event = refl; plain = plain });
+      plain = All-push (IsPlainStep (length ks) id) h.added one h.plain (record { event = refl; plain = plain; answer = at_least (omega (arith, ap length h.longer, length-append ks h.added)) answer });
     }

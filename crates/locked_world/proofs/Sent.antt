@@ -51,6 +51,7 @@ use Rattle.snapshot_places.specs.contracts.tree_walker.TreeWalker as tree_walker
 use Rattle.snapshot_places.specs.contracts.tree_walk.TreeWalk as tree_walk
 use Rattle.splitter_tree.specs.contracts.register.TreeRegister as tree_register
 use Rattle.splitter_tree.specs.contracts.register.TreeValue as tree_value
+use Rattle.std.proofs.vec.Vec.TheSendSync as vec_sent
 use Rattle.std.proofs.sync.ledger.Book.TheSendSync as book_sent
 use Rattle.std.proofs.sync.ledger.Share.TheSendSync as share_sent
 use Rattle.std.proofs.sync.Mutex.TheSendSync as mutex_sent
@@ -91,7 +92,7 @@ hall_send =
 locked_send : (L : RattleType) (g : _) → IsSend (locked.the_row L g)
 locked_send L g =
     recorded_send (locked.the_field L g).row _ _ (locked.the_type L g).to_one
-    (struct_send (shape (locked.the_type L g)) (hall_send, (book_sent.the_send L g, (share_sent.the_send L g, (search sendable, tt)))))
+    (struct_send (shape (locked.the_type L g)) (hall_send, (vec_sent.the_send denote.Builtin.bool heap_row heap_ghosts (search sendable) heap.the_send frees, (book_sent.the_send L g, (share_sent.the_send L g, (search sendable, tt))))))
 
 -- so threads may share its lock
 pub lock_sync : (L : RattleType) (g : _) → IsSync (lock.the_row L g)

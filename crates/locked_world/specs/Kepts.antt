@@ -4,9 +4,11 @@ use Rattle.desk.specs.declared.event.Event.{Event}
 use Rattle.desk.specs.declared.event.Event.TheVariants.{Begin}
 use Rattle.desk.specs.declared.exchange.Exchange.{Exchange}
 use Rattle.desk.specs.declared.reply.Reply.{Reply}
+use Rattle.desk.specs.declared.reply.Reply.TheVariants.{Ok}
 use Rattle.desk.specs.DeskCalls.{exchange}
 use Rattle.desk.specs.Replies.{is_refusal}
 use Rattle.locked_world.specs.declared.kept.Kept.{Kept}
+use Rattle.locked_world.specs.Answers.{IsSomeAnswer}
 use Rattle.locked_world.specs.KeptLogs.{kept_of}
 
 -- the places rise, from the first bound on, and stay below the second
@@ -41,9 +43,8 @@ pub record IsJust (history : List Exchange) (kepts : List (List Kept)) : Type 0 
   pub fits : All (λ ks. Fits history ks) kepts
   pub counted : sum_by (λ ks. length ks) kepts ≡ length history
 
--- a session that has only begun
+-- a session that has only begun, as some hall lets it
 pub record IsOpened (id : ℕ) (ks : List Kept) : Type 0 where
   pub place : ℕ
-  pub reply : Reply
-  pub accepted : is_refusal reply ≡ false
-  pub is : ks ≡ kept_of place (exchange (Begin id) reply) ∷ []
+  pub is : ks ≡ kept_of place (exchange (Begin id) Ok) ∷ []
+  pub answer : IsSomeAnswer 0 (Begin id) Ok

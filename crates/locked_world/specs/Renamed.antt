@@ -29,17 +29,18 @@ goes_on (reply.Value value) = true
 goes_on (reply.Owner owner) = true
 goes_on (reply.Refused refusal) = false
 
--- a step of this identity after which it went on
-pub record IsPlainStep (id : ℕ) (k : Kept) : Type 0 where
+-- a step of this identity after which it went on, answered as by some hall at least so long
+pub record IsPlainStep (least id : ℕ) (k : Kept) : Type 0 where
   pub event : k.exchange.event ≡ Step id
   pub plain : goes_on k.exchange.reply ≡ true
+  pub answer : IsSomeAnswer least (Step id) k.exchange.reply
 
 -- so many such steps were added
 pub record IsStepped (id count : ℕ) (ks new : List Kept) : Type 0 where
   pub added : List Kept
   pub longer : new ≡ ks ++ added
   pub counted : length added ≡ count
-  pub plain : All (IsPlainStep id) added
+  pub plain : All (IsPlainStep (length ks) id) added
 
 -- fewer than so many were added, and then a step that was answered so
 pub record EndsWith (id turns : ℕ) (ks : List Kept) (r : Reply) (new : List Kept) : Type 0 where
@@ -49,6 +50,7 @@ pub record EndsWith (id turns : ℕ) (ks : List Kept) (r : Reply) (new : List Ke
   pub fewer : count + 1 ≤ turns
   pub stepped : IsStepped id count ks before
   pub is : new ≡ before ++ kept_of place (exchange (Step id) r) ∷ []
+  pub answer : IsSomeAnswer (length before) (Step id) r
 
 -- fewer than so many were added, and then a step was refused so
 pub record EndsRefused (id turns : ℕ) (ks : List Kept) (why : Refusal) (new : List Kept) : Type 0 where

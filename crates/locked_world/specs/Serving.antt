@@ -1,9 +1,8 @@
 -- what a hall, and a clerk at its lock, may answer as services
-use Rattle.std.specs.Prelude.{◌≡◌, ◌⊎◌, List, [], ◌∷◌, ◌++◌, map, length, Bool, true, false, if◌then◌else◌}
+use Rattle.std.specs.Prelude.{◌≡◌, List, [], ◌∷◌, ◌++◌, map, length, Bool, true, false, if◌then◌else◌}
 use Rattle.step_memory.specs.declared.refusal.Refusal.{Refusal}
 use Rattle.step_memory.specs.declared.refusal.Refusal.TheVariants as refusal
 use Rattle.rename_core.specs.declared.config.Config.{Config}
-use Rattle.desk.specs.declared.event.Event.{Event}
 use Rattle.desk.specs.declared.exchange.Exchange.{Exchange}
 use Rattle.desk.specs.declared.reply.Reply.{Reply}
 use Rattle.desk.specs.declared.reply.Reply.TheVariants as reply
@@ -25,14 +24,10 @@ abbrev pub HallServes : HallState → Request → Reply → HallState → Type 0
 HallServes h (Take e) r u = HallMay h e r u
 HallServes h (OwnerOf n) r u = (r ≡ owner_reply (desk_of h) n) × (u ≡ h)
 
--- what some hall of a lawful history answers, at least as long as what the clerk had kept; or its own list could not grow
-abbrev pub IsClerkReply : List Kept → Event → Reply → Type 0
-IsClerkReply ks e r = IsSomeAnswer (length ks) e r ⊎ (r ≡ reply.Refused refusal.NoMemory)
-
--- a clerk, by what it has kept: an accepted event is kept with its reply, a refused one changes nothing. Who has a name is
--- told as some hall tells it
+-- a clerk, by what it has kept: it answers what some hall of a lawful history does, at least as long as what it had kept. An
+-- accepted event is kept with its reply, a refused one changes nothing. Who has a name is told as some hall tells it
 abbrev pub ClerkServes : List Kept → Request → Reply → List Kept → Type 0
-ClerkServes ks (Take e) r new = IsClerkReply ks e r × Keeps ks e r new
+ClerkServes ks (Take e) r new = IsSomeAnswer (length ks) e r × Keeps ks e r new
 ClerkServes ks (OwnerOf n) r new = IsSomeOwner n r × (new ≡ ks)
 
 -- a growth was refused, or the history was full

@@ -10,7 +10,7 @@ use crate::kept::Kept;
 use crate::kept_log::KeptLog;
 use crate::parts::{Clerk, HallLock, Locked, Session};
 use crate::same::{is_same, is_same_config};
-use std::alloc::Global;
+use rename_core::Config;
 use std::sync::Mutex;
 use std::sync::ledger::Ledger;
 
@@ -147,28 +147,12 @@ fn mark_callers<L: Ledger>(
     all_marked(marks)
 }
 
-/// Whether each place of the history was kept by just one of these, and no other place. `false` also where memory ran out.
-fn is_just<L: Ledger>(
-    hall: &Hall,
-    alloc: Global,
-    sessions: &Vec<Session<L>>,
-    clerks: &Vec<Clerk<L>>,
-) -> bool
-    ensures { result ≡ true → IsJust hall.now.history (map (λ s. s.clerk.kept.items) sessions.now.items ++ map (λ c. c.kept.items) clerks.now.items) }
-{
-    match Vec::from_elem(alloc, false, hall.len()) {
-        Ok(mut marks) => mark_callers(hall, &mut marks, sessions, clerks),
-        Err(_) => false,
-    }
-}
-
 impl<L: Ledger> HallLock<L> {
-    /// Ends a lock. Where every caller that was opened is handed in, the history is compared with what they kept: each place
-    /// was kept by just one of them, with its event and reply, and there is no other. The hall is compared with the config that
-    /// the lock was made for. Otherwise all is handed back, and so it is where the room for the comparison is refused.
+    /// Ends a lock, which takes no memory. Where every caller that was opened is handed in, the history is compared with what
+    /// they kept: each place was kept by just one of them, with its event and reply, and there is no other. The hall is compared
+    /// with the config that the lock was made for. Otherwise all is handed back.
     pub fn close(
         self,
-        alloc: Global,
         sessions: Vec<Session<L>>,
         clerks: Vec<Clerk<L>>,
     ) -> Result<Closed, Missing<L>>
@@ -180,14 +164,10 @@ impl<L: Ledger> HallLock<L> {
         ensures lock { IfErr result (λ m. m.lock.config ≡ self.config) }
     {
         let HallLock { locked, config } = self;
-        let locked = locked.into_inner();
-        let _ = locked.hall.len();
+        let mut locked = locked.into_inner();
         let opened = locked.opened as usize;
         let all_given = sessions.len() <= opened && clerks.len() == opened - sessions.len();
-        if all_given
-            && is_same_config(locked.hall.config(), config)
-            && is_just(&locked.hall, alloc, &sessions, &clerks)
-        {
+        if all_given && locked.agrees(config, &sessions, &clerks) {
             let Locked { hall, .. } = locked;
             return Ok(Closed { hall });
         }
@@ -199,5 +179,22 @@ impl<L: Ledger> HallLock<L> {
             sessions,
             clerks,
         })
+    }
+}
+
+impl<L: Ledger> Locked<L> {
+    /// Whether the hall is of this config, and each place of its history was kept by just one of these callers, and no other
+    /// place.
+    fn agrees(&mut self, config: Config, sessions: &Vec<Session<L>>, clerks: &Vec<Clerk<L>>) -> bool
+        ensures lawful { IsLawful self.new.hall }
+        ensures hall { self.new.hall ≡ self.old.hall }
+        ensures config { result ≡ true → self.new.hall.config ≡ config }
+        ensures just { result ≡ true → IsJust self.new.hall.history (map (λ s. s.clerk.kept.items) sessions.now.items ++ map (λ c. c.kept.items) clerks.now.items) }
+    {
+        let Locked { hall, marks, .. } = self;
+        let agrees = is_same_config(hall.config(), config)
+            && mark_callers(hall, marks, sessions, clerks);
+        marks.fill(false);
+        agrees
     }
 }

@@ -61,7 +61,8 @@ impl Hall {
 
     /// What the hall was opened for.
     pub fn config(&self) -> Config
-        ensures { result ≡ self.now.config }
+        ensures config { result ≡ self.now.config }
+        ensures lawful { IsLawful self.now }
     {
         self.config
     }

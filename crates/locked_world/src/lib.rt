@@ -23,7 +23,7 @@
 //! let name = lock.rename(rt, &mut session, 1000)?;            // Some(1), where nobody else begins
 //! let mut sessions = Vec::new(alloc);
 //! sessions.push(session)?;
-//! match lock.close(alloc, sessions, Vec::new(alloc)) {
+//! match lock.close(sessions, Vec::new(alloc)) {
 //!     Ok(closed) => closed.hall.len(),                        // as many as the callers kept
 //!     Err(missing) => ..                                      // lock, sessions and clerks again
 //! }

@@ -1,9 +1,11 @@
 //! A hall under a lock.
 
-ghost use Rattle.std.specs.Prelude.{◌≡◌, ◌+◌, ◌<◌, ◌≤◌, ◌⊎◌, ◌↔◌, [], IfOk, IfErr, IfSome, IfNone, length, Err, false};
+ghost use Rattle.std.specs.Prelude.{◌≡◌, ◌+◌, ◌-◌, ◌<◌, ◌≤◌, ◌⊎◌, ◌↔◌, [], IfOk, IfErr, IfSome, IfNone, length, Err, true, false};
 ghost use Rattle.desk.specs.Desk.{gives_names};
 ghost use Rattle.locked_world.specs.Acts.{event_of};
+ghost use Rattle.desk.specs.Replies.{is_refusal};
 ghost use Rattle.locked_world.specs.Answers.{IsSomeAnswer, IsSomeOwner};
+ghost use Rattle.locked_world.specs.Halls.{HallMay};
 ghost use Rattle.locked_world.specs.Kepts.{Keeps, IsOpened};
 
 use crate::act::Act;
@@ -33,15 +35,23 @@ impl<L: Ledger> Clerk<L> {
 }
 
 impl<L: Ledger> Locked<L> {
-    /// One event of a clerk: the event is stored and kept where it is accepted. `None`, with nothing done, where the history
-    /// is not longer than the last place that was kept, which never comes.
+    /// One event of a clerk, which the hall answers: it is stored and kept where it is accepted. `None`, with nothing done, where
+    /// the history is not longer than the last place that was kept, which never comes.
     pub(crate) fn apply(&mut self, clerk: &mut Clerk<L>, event: Event) -> Option<Reply>
         ensures reply { IfSome result (λ r. IsSomeAnswer (length clerk.old.kept.items) event r) }
+        ensures hall { IfSome result (λ r. HallMay self.old.hall event r self.new.hall) }
         ensures kept { IfSome result (λ r. Keeps clerk.old.kept.items event r clerk.new.kept.items) }
-        ensures none { IfNone result (clerk.new.kept.items ≡ clerk.old.kept.items) }
-        ensures never { IfNone result (0 < clerk.old.next) }
+        ensures refused { IfSome result (λ r. is_refusal r ≡ true → self.new.hall ≡ self.old.hall) }
+        ensures opened { self.new.opened ≡ self.old.opened }
+        ensures none { IfNone result ((self.new.hall ≡ self.old.hall) × (clerk.new.kept.items ≡ clerk.old.kept.items)) }
+        ensures never { IfNone result (length self.old.hall.history < clerk.old.next) }
     {
-        let Locked { hall, book, .. } = self;
+        let Locked {
+            hall,
+            book,
+            marks,
+            ..
+        } = self;
         let Clerk { kept, next, share } = clerk;
         book.audit(share);
         let place = hall.len();
@@ -51,7 +61,7 @@ impl<L: Ledger> Locked<L> {
         if let Some(refusal) = hall.refusal(event) {
             return Some(Reply::Refused(refusal));
         }
-        if !kept.reserve() {
+        if !kept.reserve() || marks.reserve(1).is_err() {
             return Some(Reply::Refused(Refusal::NoMemory));
         }
         let reply = hall.apply(event);
@@ -63,14 +73,18 @@ impl<L: Ledger> Locked<L> {
             place,
             exchange: Exchange { event, reply },
         });
+        marks.push_reserved(false);
         *next = place + 1;
         Some(reply)
     }
 
     /// Opens one more clerk.
     fn open(&mut self, alloc: Global) -> Result<Clerk<L>, Refusal>
-        ensures new { IfOk result (λ c. (c.kept.items ≡ []) × (c.next ≡ 0)) }
+        ensures new { IfOk result (λ c. (c.kept.items ≡ []) × (c.next ≡ 0) × (self.new.opened ≡ self.old.opened + 1)) }
         ensures refused { IfErr result (λ why. (why ≡ Refusal.Full) ⊎ (why ≡ Refusal.NoMemory)) }
+        ensures full { result ≡ Err Refusal.Full ↔ (1000000 ≤ self.old.opened) }
+        ensures same { IfErr result (λ why. self.new.opened ≡ self.old.opened) }
+        ensures hall { self.new.hall ≡ self.old.hall }
     {
         if self.opened >= MOST_CALLERS {
             return Err(Refusal::Full);
@@ -85,6 +99,8 @@ impl<L: Ledger> Locked<L> {
     /// Takes back a clerk that has kept nothing.
     fn put_back(&mut self, clerk: Clerk<L>)
         requires { clerk.kept.items ≡ [] }
+        ensures opened { self.new.opened ≡ self.old.opened - 1 }
+        ensures hall { self.new.hall ≡ self.old.hall }
     {
         let Clerk {
             kept: _,
@@ -98,9 +114,11 @@ impl<L: Ledger> Locked<L> {
         }
     }
 
-    /// Opens a session, whose identity begins.
+    /// Opens a session, whose identity begins. Where it does not, nothing is changed.
     fn begin(&mut self, alloc: Global, id: u64) -> Result<Session<L>, Refusal>
         ensures opened { IfOk result (λ s. (s.id ≡ id) × IsOpened id s.clerk.kept.items) }
+        ensures hall { IfOk result (λ s. HallMay self.old.hall (Event.Begin id) Reply.Ok self.new.hall) }
+        ensures same { IfErr result (λ why. (self.new.hall ≡ self.old.hall) × (self.new.opened ≡ self.old.opened)) }
         ensures refused { IfErr result (λ why. (why ≡ Refusal.Full) ⊎ (why ≡ Refusal.NoMemory) ⊎ IsSomeAnswer 0 (Event.Begin id) (Reply.Refused why)) }
     {
         let mut clerk = self.open(alloc)?;
@@ -130,6 +148,7 @@ impl<L: Ledger> HallLock<L> {
         Ok(HallLock {
             locked: Mutex::new(Locked {
                 hall,
+                marks: Vec::new(alloc),
                 book,
                 rest,
                 opened: 0,

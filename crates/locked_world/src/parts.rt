@@ -1,6 +1,6 @@
 //! What lies under the lock, and what a caller has of its own.
 
-ghost use Rattle.std.specs.Prelude.{◌≡◌, ◌+◌, ◌≤◌, length, true};
+ghost use Rattle.std.specs.Prelude.{◌≡◌, ◌+◌, ◌≤◌, length, true, false, replicate};
 ghost use Rattle.locked_world.specs.Kepts.{rises};
 
 use crate::hall::Hall;
@@ -13,14 +13,17 @@ use std::sync::ledger::{Book, Ledger, Share};
 pub const MOST_CALLERS: u64 = 1_000_000;
 
 /// A hall with the count of its events, and the shares of that count that were not given out. There is one share for each
-/// caller that may still be opened, and one more.
+/// caller that may still be opened, and one more. For each event there is a mark, by which `close` compares the history: its
+/// room is made with the event's, so that the end of a lock takes no memory.
 #[derive(Drop)]
 pub(crate) struct Locked<L: Ledger> {
     pub(crate) hall: Hall,
+    pub(crate) marks: Vec<bool>,
     pub(crate) book: Book<L>,
     pub(crate) rest: Share<L>,
     pub(crate) opened: u64,
     ghost counted: { length hall.history ≡ book.total },
+    ghost clear: { marks.items ≡ replicate (length hall.history) false },
     ghost parts: { rest.parts + opened ≡ 1000001 },
     ghost few: { opened ≤ 1000000 },
     ghost none: { rest.amount ≡ 0 },

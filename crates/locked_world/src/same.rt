@@ -54,12 +54,11 @@ pub(crate) fn is_same(a: &Exchange, b: &Exchange) -> bool
 fn is_same_world(a: WorldKind, b: WorldKind) -> bool
     ensures { result ≡ true → a ≡ b }
 {
-    match (a, b) {
-        (WorldKind::Splitter, WorldKind::Splitter) => true,
-        (WorldKind::Grid, WorldKind::Grid) => true,
-        (WorldKind::Rename, WorldKind::Rename) => true,
-        (WorldKind::Tree, WorldKind::Tree) => true,
-        _ => false,
+    match a {
+        WorldKind::Splitter => matches!(b, WorldKind::Splitter),
+        WorldKind::Grid => matches!(b, WorldKind::Grid),
+        WorldKind::Rename => matches!(b, WorldKind::Rename),
+        WorldKind::Tree => matches!(b, WorldKind::Tree),
     }
 }
 

@@ -26,7 +26,7 @@
 //! clerks.push(lock.clerk(rt, alloc)?)?;                       // and another
 //! let served = serve_many(rt, alloc, &listener, &lock, &OpenGate, clerks, 10);
 //! served.served;                                              // 10, where no fault is told
-//! lock.close(alloc, Vec::new(alloc), served.clerks)?;         // the history of what all clients did
+//! lock.close(Vec::new(alloc), served.clerks)?;         // the history of what all clients did
 //! ```
 #![tactic(auto)]
 

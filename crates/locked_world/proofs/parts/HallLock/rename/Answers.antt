@@ -1,5 +1,6 @@
-use Rattle.std.proofs.Common.{rules, subst, ◌∙◌, ℕ}
+use Rattle.std.proofs.Common.{rules, subst, ◌∙◌, ℕ, length}
 use Rattle.desk.specs.declared.event.Event.TheVariants.{Step}
+use Rattle.locked_world.specs.Answers.{IsSomeAnswer}
 use Rattle.locked_world.specs.Kepts.{Keeps}
 use Rattle.locked_world.proofs.Renames.{stepped_not, stepped_more, plain_by}
 use Rattle.locked_world.proofs.parts.HallLock.rename.Goals as goal
@@ -15,7 +16,9 @@ loop-turn-preserved g c =
     let plain = plain_by r c.in_default.not-Named c.in_default-reply.not-Spent c.in_default-reply-2.not-Refused in
     let keeps : Keeps s.clerk.kept.items (Step c.args.session.now.id) r new.clerk.kept.items =
     subst (λ (id : ℕ). Keeps s.clerk.kept.items (Step id) r new.clerk.kept.items) c.loop-turn.invariant.same c.step-reply.ensures.kept in
+    let answer : IsSomeAnswer (length s.clerk.kept.items) (Step c.args.session.now.id) r =
+    subst (λ (id : ℕ). IsSomeAnswer (length s.clerk.kept.items) (Step id) r) c.loop-turn.invariant.same c.step-reply.ensures.reply in
     record {
       same = c.step-reply.ensures.same ∙ c.loop-turn.invariant.same;
-      stepped = stepped_more c.args.session.now.id c.loop-turn.turn c.args.session.now.clerk.kept.items s.clerk.kept.items new.clerk.kept.items r c.loop-turn.invariant.stepped keeps plain.0 plain.1;
+      stepped = stepped_more c.args.session.now.id c.loop-turn.turn c.args.session.now.clerk.kept.items s.clerk.kept.items new.clerk.kept.items r c.loop-turn.invariant.stepped keeps answer plain.0 plain.1;
     }

@@ -32,16 +32,17 @@ returns-then-not-reserve-clause-reply g c =
       answer = lacks_so h c.args.event due;
     }
 
-pub invariant_of-self-then-is_refusal : goal.invariant_of-self-then-is_refusal
-invariant_of-self-then-is_refusal g c =
+pub invariant_of-self-then-is_refusal-clause-counted : goal.invariant_of-self-then-is_refusal-clause-counted
+invariant_of-self-then-is_refusal-clause-counted g c =
     let refused : is_refusal c.apply-reply.result ≡ true = search rules in
     let same : c.apply-reply.new.self ≡ c.args.self.now.hall = kept_refused c.args.self.now.hall c.apply-reply.new.self c.args.event c.apply-reply.result c.len-place.ensures.lawful c.apply-reply.ensures refused in
-    record {
-      counted = ap (λ (h : HallState). length h.history) same ∙ c.args.self.now.counted ∙ sym c.audit.ensures.total;
-      parts = c.args.self.now.parts;
-      few = c.args.self.now.few;
-      none = c.args.self.now.none;
-    }
+    ap (λ (h : HallState). length h.history) same ∙ c.args.self.now.counted ∙ sym c.audit.ensures.total
+
+pub invariant_of-self-then-is_refusal-clause-clear : goal.invariant_of-self-then-is_refusal-clause-clear
+invariant_of-self-then-is_refusal-clause-clear g c =
+    let refused : is_refusal c.apply-reply.result ≡ true = search rules in
+    let same : c.apply-reply.new.self ≡ c.args.self.now.hall = kept_refused c.args.self.now.hall c.apply-reply.new.self c.args.event c.apply-reply.result c.len-place.ensures.lawful c.apply-reply.ensures refused in
+    rw same (search rules)
 
 pub returns-then-is_refusal-clause-reply : goal.returns-then-is_refusal-clause-reply
 returns-then-is_refusal-clause-reply g c = record {
