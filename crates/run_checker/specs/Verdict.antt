@@ -60,8 +60,8 @@ pub record IsFaultyRow (h : Header) (rows : List (List ℕ)) (number : ℕ) (why
   pub fault : IsFaultAfter (terms_of h.config) h.config.k lines line why
   pub at : number ≡ length before + 2
 
--- the line of this number is the first that is none: those before it are read and follow one another, and it says no event, or
--- a million were before it
+-- the line of this number is the first that is none: those before it, at most a million, are read and follow one another, and
+-- it says no event, or a million were before it
 pub record IsBadRow (h : Header) (rows : List (List ℕ)) (number : ℕ) : Type 0 where
   pub before : List (List ℕ)
   pub row : List ℕ
@@ -69,6 +69,7 @@ pub record IsBadRow (h : Header) (rows : List (List ℕ)) (number : ℕ) : Type 
   pub is : before ++ row ∷ after ≡ rows
   pub lines : List Line
   pub read : AreRead h.config.world h.version before lines
+  pub few : length before ≤ 1000000
   pub run : AreLinesOfRun (terms_of h.config) h.config.k lines
   pub bad : length before < 1000000 → (l : Line) → IsEventLine h.config.world h.version row l → ⊥
   pub at : number ≡ length before + 2

@@ -67,7 +67,7 @@ module _ (h : Header) (rows : List (List ℕ)) (checker : Checker) (number : ℕ
   faulty_row row more l why s few says fault = record { before = s.before; row = row; after = more; is = s.is; lines = s.lines; read = s.read; few = few; line = l; says = says; fault = fault; at = s.at }
 
   pub bad_row : (row : List ℕ) (more : List (List ℕ)) → (s : RowsSoFar h rows (row ∷ more) checker number) → (length s.before < 1000000 → (l : Line) → IsEventLine h.config.world h.version row l → ⊥) → IsBadRow h rows number
-  bad_row row more s bad = record { before = s.before; row = row; after = more; is = s.is; lines = s.lines; read = s.read; run = follows_run (terms_of h.config) h.config.k s.lines s.taken.object s.taken.run; bad = bad; at = s.at }
+  bad_row row more s bad = record { before = s.before; row = row; after = more; is = s.is; lines = s.lines; read = s.read; few = s.few; run = follows_run (terms_of h.config) h.config.k s.lines s.taken.object s.taken.run; bad = bad; at = s.at }
 
   abbrev pub next_row : (row : List ℕ) (more : List (List ℕ)) (l : Line) (new : Checker) → (s : RowsSoFar h rows (row ∷ more) checker number) → length s.before < 1000000 → IsEventLine h.config.world h.version row l →
       HasTaken (terms_of h.config) h.config.k (s.lines ++ l ∷ []) new → RowsSoFar h rows more new (number + 1)
