@@ -1,6 +1,6 @@
 -- how many keys an object has
 use Rattle.std.proofs.Common.{◌≡◌, ℕ, suc, true, inl, inr, List, [], ◌∷◌, length, refl, ap}
-use Rattle.std.proofs.lemmas.Bool.{false≢true, eq-eqb}
+use Rattle.std.proofs.lemmas.Bool.{false≢true}
 use Rattle.std.proofs.lemmas.Bool.Decides.{eqb_tells}
 use Rattle.schedule_player.specs.Meaning.{same_bytes}
 use Rattle.std.specs.Prelude.{String}
@@ -22,7 +22,3 @@ same_is (x ∷ xs) (y ∷ ys) h = elim (eqb_tells x y) [
   | inl k ↦ let t : same_bytes xs ys ≡ true = rw k.0 at h in λ i. k.1 i ∷ same_is xs ys t i
   | inr k ↦ absurd (false≢true (rw k.0 at h))
 ]
-
-pub same_self : (xs : List ℕ) → same_bytes xs xs ≡ true
-same_self [] = refl
-same_self (x ∷ xs) = rw (eq-eqb x x refl) (same_self xs)

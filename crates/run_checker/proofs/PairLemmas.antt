@@ -72,9 +72,6 @@ module _ (xs : List (ℕ × ℕ)) (new : ℕ × ℕ) (at : ℕ) (is : at ≡ unw
   at_place : at ≡ place new.0 xs
   at_place = is ∙ place_is new.0 xs
 
-  pub within : at ≤ length xs
-  within = (let e = at_place in let l = no_further new.0 xs in omega arith)
-
   pub put_over : HasAt xs at new.0 → set xs at new ≡ inserted xs new
   put_over h = ap (λ (j : ℕ). set xs j new) at_place ∙ replaced xs new (subst (λ (j : ℕ). HasAt xs j new.0) at_place h)
 

@@ -8,9 +8,6 @@ ghost use Rattle.run_checker.specs.Moments.{crowded, turned_at, SomeSince, Holds
 use std::alloc::{AllocError, Global};
 use std::collections::HashMap;
 
-/// How many participants a row has room for: the most of a config.
-pub const ROOM: usize = 64;
-
 /// How many numbers there are from 0 on: with so many participants each proposal is below twice as many.
 pub const NUMBERS: usize = 128;
 

@@ -4,7 +4,7 @@ ghost use Rattle.std.specs.Prelude.{◌≡◌, ◌↔◌, List, ℕ, [], ◌∷�
 ghost use Rattle.step_memory.specs.View.{inserted};
 ghost use Rattle.run_checker.specs.Pairs.{HasAt};
 
-use std::alloc::{AllocError, AllocFailed, Global};
+use std::alloc::{AllocError, Global};
 use std::marker::Model;
 
 /// Pairs of an identity and a number, as many as are written. Contracts see the list.

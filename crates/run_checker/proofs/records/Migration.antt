@@ -19,12 +19,11 @@ use Rattle.desk.specs.declared.reply.Reply.TheVariants as reply
 use Rattle.desk.specs.DeskCalls.{DeskCall, exchange_of}
 use Rattle.desk.specs.DeskCalls.DeskCall.{Renamed, Slotted}
 use Rattle.schedule_player.specs.Records.{header_line, exchange_line}
-use Rattle.schedule_player.specs.Replies.{reply_words}
 use Rattle.run_checker.specs.declared.firsts.Firsts.{Firsts}
 use Rattle.run_checker.specs.declared.line.Line.{Line}
 use Rattle.run_checker.specs.declared.migration.Migration.{Migration}
 use Rattle.run_checker.specs.declared.told.Told.TheVariants as told
-use Rattle.run_checker.specs.Compact.{told_words, line_words}
+use Rattle.run_checker.specs.Compact.{line_words}
 use Rattle.run_checker.specs.Config.{terms_of}
 use Rattle.run_checker.specs.Firsts.{IsFirstSole, NeverSole, view_at, HasFirst, HoldsFirsts}
 use Rattle.run_checker.specs.Lines.{told_of, line_of, IsLineOf, CanFollow, after_line}
@@ -33,25 +32,6 @@ use Rattle.run_checker.specs.ObjectRun.{DeskObject, fresh_desk_object, AllowsCal
 use Rattle.run_checker.proofs.records.Runs.{after_is}
 
 -- ---- the text of a line
-
--- the words of a reply are those of what is told of it
-words_told : (b : Bool) (r : Reply) → reply_words r ≡ told_words (told_of b r)
-words_told b reply.Ok = refl
-words_told b reply.Quiet = refl
-words_told b reply.Stop = refl
-words_told b reply.Right = refl
-words_told b reply.Down = refl
-words_told b (reply.Place place) = refl
-words_told b (reply.Proposed number) = refl
-words_told b (reply.Saw view) = refl
-words_told b (reply.Named name view) = refl
-words_told b reply.Spent = refl
-words_told b reply.Missed = refl
-words_told b (reply.Got number) = refl
-words_told b (reply.Left number) = refl
-words_told b (reply.Value value) = refl
-words_told b (reply.Owner owner) = refl
-words_told b (reply.Refused why) = refl
 
 -- what is shown is the view of a name
 abbrev IsShown : Reply → List (ℕ × ℕ) → Type 0

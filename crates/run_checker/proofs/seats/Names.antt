@@ -12,7 +12,7 @@ use Rattle.step_memory.specs.SetAt.{set_at}
 use Rattle.step_memory.proofs.ParticipantLemmas.{length-with_participant}
 use Rattle.step_memory.proofs.SetAtLemmas.{set_at-map}
 use Rattle.rename_core.specs.declared.reply.Reply.TheVariants as step
-use Rattle.rename_core.specs.RenameObject.{RenameTerms, RenameObject, new_object, no_begin, no_step, after, after_step, IsFreePlace}
+use Rattle.rename_core.specs.RenameObject.{RenameTerms, RenameObject, new_object, no_begin, after, after_step, IsFreePlace}
 use Rattle.run_checker.specs.declared.names.Names.{Names}
 use Rattle.run_checker.specs.declared.standing.Standing.{Standing}
 use Rattle.run_checker.specs.Moments.{HoldsMoments}
@@ -38,12 +38,6 @@ may_begin terms s o p h none = elim (cases_Bool (p == 0)) [
     absent : (x : Option Standing) → is_some x ≡ false → x ≡ None
     absent None e = refl
     absent (Some y) e = cc
-
--- who may step has begun
-pub may_step : (terms : RenameTerms) (s : Names) (o : RenameObject) (p : ℕ) → HoldsNames terms s o → no_step o p ≡ None → program_of p s.participants.items ≡ None → ⊥
-may_step terms s o p h none absent =
-    let b : o.begun p ≡ false = h.people.begun p ∙ ap is_some absent in
-    let k = rw b at none in cc
 
 -- one who begins
 abbrev pub first_standing : ℕ → Standing
