@@ -1,5 +1,5 @@
 -- what a line of a record says
-use Rattle.std.specs.Prelude.{◌≡◌, ℕ, ◌≤◌, List, length, Option, Some, Ok, IsUtf8}
+use Rattle.std.specs.Prelude.{◌≡◌, ℕ, ◌≤◌, List, length, Option, Some, Ok, MatchOption, IsUtf8}
 use Rattle.serde_json.specs.Data.{Data}
 use Rattle.serde_json.specs.Read.{read}
 use Rattle.rename_core.specs.declared.config.WorldKind.{WorldKind}
@@ -34,6 +34,10 @@ pub record SaysLine (kind : WorldKind) (version : Version) (d : Data) (l : Line)
 pub record SaysByTexts (kind : WorldKind) (version : Version) (asked replied : List ℕ) (shown : Option (List ℕ)) (l : Line) : Type 0 where
   pub event_is : meaning kind asked ≡ Ok (command.Event l.event)
   pub told_is : told_by version replied shown ≡ Some l.told
+
+-- the line that is found says this; where none is found, no line does
+abbrev pub FindsLine : (Line → Type 0) → Option Line → Type 0
+FindsLine Says found = MatchOption found ((l : Line) → Says l → ⊥) Says
 
 -- the bytes are read as an object of these texts
 pub record SpellsTexts (bytes : List ℕ) (asked replied : List ℕ) (shown : Option (List ℕ)) : Type 0 where

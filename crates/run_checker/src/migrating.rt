@@ -25,7 +25,8 @@ fn migrated_rows(
     header: Header,
     rows: Option<&[u8]>,
 ) -> Result<Result<Text, Verdict>, AllocError>
-    ensures { IfOk result (λ r. MatchResult r (AreMigrated header (lines_left (option_copied rows.entry))) (IsOther (IsSaidOfRows header (lines_left (option_copied rows.entry))))) }
+    ensures { IfOk result (λ r. MatchResult r (AreMigrated header (lines_left (option_copied rows.entry)))
+        (IsOther (IsSaidOfRows header (lines_left (option_copied rows.entry))))) }
 {
     let config = header.config;
     let grows = config.world.is_tree();

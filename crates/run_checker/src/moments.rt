@@ -68,14 +68,14 @@ impl Moments {
 
     /// The number of the last moment; the first is numbered 0.
     pub fn last(&self) -> usize
-        ensures { (last : ℕ) (rows : ℕ → List ℕ) → HoldsMoments self.now last rows → result ≡ last }
+        ensures { OfMoments self.now (λ last rows. result ≡ last) }
     {
         self.last
     }
 
     /// Whether some moment from `since` on is this row.
     pub fn has_shown(&self, since: usize, row: &Row) -> bool
-        ensures { (last : ℕ) (rows : ℕ → List ℕ) → HoldsMoments self.now last rows → IsTrue result ↔ SomeSince (λ i. rows i ≡ row.now) since last }
+        ensures { OfMoments self.now (λ last rows. IsTrue result ↔ SomeSince (λ i. rows i ≡ row.now) since last) }
     {
         match self.seen.get(row) {
             Some(past) => since < *past,
@@ -98,14 +98,16 @@ impl Moments {
 
     /// Whether in some moment from `since` on two or more propose a number.
     pub fn was_crowded(&self, since: usize, number: u8) -> bool
-        ensures { OfMoments self.now (λ last rows. since ≤ last → number < 128 → IsTrue result ↔ SomeSince (λ i. crowded number (rows i) ≡ true) since last) }
+        ensures { OfMoments self.now (λ last rows. since ≤ last → number < 128 →
+            IsTrue result ↔ SomeSince (λ i. crowded number (rows i) ≡ true) since last) }
     {
         is_crowded(&self.present, number) || since < self.turned(number)
     }
 
     /// Whether in some moment from `since` on at most one proposes a number.
     pub fn was_quiet(&self, since: usize, number: u8) -> bool
-        ensures { OfMoments self.now (λ last rows. since ≤ last → number < 128 → IsTrue result ↔ SomeSince (λ i. crowded number (rows i) ≡ false) since last) }
+        ensures { OfMoments self.now (λ last rows. since ≤ last → number < 128 →
+            IsTrue result ↔ SomeSince (λ i. crowded number (rows i) ≡ false) since last) }
     {
         !is_crowded(&self.present, number) || since < self.turned(number)
     }
@@ -125,8 +127,8 @@ impl Moments {
     /// One more moment: the last one, with this number at a seat. An error where a growth was refused; then the moments are
     /// of no more use.
     pub fn propose(&mut self, seat: usize, number: u8) -> Result<(), AllocError>
-        ensures { OnOk result ((last : ℕ) (rows : ℕ → List ℕ) → last < 2 ^ 62 → HoldsMoments self.old last rows →
-            HoldsMoments self.new (last + 1) (with_row last seat number rows)) }
+        ensures { OnOk result (OfMoments self.old (λ last rows. last < 2 ^ 62 →
+            HoldsMoments self.new (last + 1) (with_row last seat number rows))) }
     {
         let next = with_number(&self.present, seat, number);
         let at = self.last.saturating_add(1);

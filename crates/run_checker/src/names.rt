@@ -107,7 +107,7 @@ impl Names {
 
     /// Why `begin` of an identity is to be refused.
     pub fn begin_refusal(&self, id: u64) -> Option<Refusal>
-        ensures { (terms : RenameTerms) (o : RenameObject) → HoldsNames terms self.now o → result ≡ no_begin terms o id }
+        ensures { OfNames self.now (λ terms o. result ≡ no_begin terms o id) }
     {
         if id == 0 {
             Some(Refusal::ZeroIdentity)
@@ -122,7 +122,7 @@ impl Names {
 
     /// Why a step of an identity is to be refused, want of memory aside.
     pub fn step_refusal(&self, id: u64) -> Option<Refusal>
-        ensures { (terms : RenameTerms) (o : RenameObject) → HoldsNames terms self.now o → result ≡ no_step o id }
+        ensures { OfNames self.now (λ terms o. result ≡ no_step o id) }
     {
         let Some(standing) = find(&self.participants, id) else {
             return Some(Refusal::NotBegun);
@@ -162,8 +162,9 @@ impl Names {
 
     /// Gives an identity that may step a place; tells whether it may have this one. Else nothing changes.
     pub fn place(&mut self, id: u64, place: Place) -> bool
-        ensures told { (terms : RenameTerms) (o : RenameObject) → HoldsNames terms self.old o → no_step o id ≡ None → IsTrue result ↔ IsFreePlace o id place }
-        ensures after { OfNames self.old (λ terms o. no_step o id ≡ None → IsTrue result → HoldsNames terms self.new (after_step o id (step.Placed place))) }
+        ensures told { OfNames self.old (λ terms o. no_step o id ≡ None → IsTrue result ↔ IsFreePlace o id place) }
+        ensures after { OfNames self.old (λ terms o. no_step o id ≡ None → IsTrue result →
+            HoldsNames terms self.new (after_step o id (step.Placed place))) }
     {
         let Some(standing) = find(&self.participants, id) else {
             return false;
@@ -184,7 +185,7 @@ impl Names {
 
     /// Whether an identity has proposed and has proposals left.
     pub fn has_turns(&self, id: u64) -> bool
-        ensures { (terms : RenameTerms) (o : RenameObject) → HoldsNames terms self.now o → IsTrue result ↔ (1 ≤ o.count id) × (o.count id < terms.limit) }
+        ensures { OfNames self.now (λ terms o. IsTrue result ↔ (1 ≤ o.count id) × (o.count id < terms.limit)) }
     {
         match find(&self.participants, id) {
             Some(standing) => 1 <= standing.turn.count && standing.turn.count < self.limit,
@@ -194,7 +195,7 @@ impl Names {
 
     /// Whether an identity that has begun has made its last proposal.
     pub fn is_last_turn(&self, id: u64) -> bool
-        ensures { (terms : RenameTerms) (o : RenameObject) → HoldsNames terms self.now o → no_step o id ≡ None → IsTrue result ↔ (o.count id ≡ terms.limit) }
+        ensures { OfNames self.now (λ terms o. no_step o id ≡ None → IsTrue result ↔ (o.count id ≡ terms.limit)) }
     {
         match find(&self.participants, id) {
             Some(standing) => standing.turn.count == self.limit,
@@ -204,7 +205,7 @@ impl Names {
 
     /// Whether an identity that may step may propose a number.
     pub fn may_propose(&self, id: u64, number: u64) -> bool
-        ensures { (terms : RenameTerms) (o : RenameObject) → HoldsNames terms self.now o → no_step o id ≡ None → IsTrue result ↔ MayPropose terms o id number }
+        ensures { OfNames self.now (λ terms o. no_step o id ≡ None → IsTrue result ↔ MayPropose terms o id number) }
     {
         let Some(standing) = find(&self.participants, id) else {
             return false;
@@ -243,7 +244,7 @@ impl Names {
 
     /// Whether in some moment since the last proposal of an identity that has made one another proposes the same.
     pub fn has_conflict(&self, id: u64) -> bool
-        ensures { (terms : RenameTerms) (o : RenameObject) → HoldsNames terms self.now o → 1 ≤ o.count id → IsTrue result ↔ HasConflict o id }
+        ensures { OfNames self.now (λ terms o. 1 ≤ o.count id → IsTrue result ↔ HasConflict o id) }
     {
         match find(&self.participants, id) {
             Some(standing) => self
@@ -328,7 +329,7 @@ impl Names {
     /// Whether a view is a moment since the last proposal of an identity that has made one, in which another proposes the
     /// same.
     pub fn shows_conflict(&self, id: u64, view: &[(u64, u64)]) -> bool
-        ensures { (terms : RenameTerms) (o : RenameObject) → HoldsNames terms self.now o → 1 ≤ o.count id → IsTrue result ↔ ShowsConflict o id view.now }
+        ensures { OfNames self.now (λ terms o. 1 ≤ o.count id → IsTrue result ↔ ShowsConflict o id view.now) }
     {
         let Some(standing) = find(&self.participants, id) else {
             return false;
@@ -343,7 +344,7 @@ impl Names {
     /// Whether a view is a moment since the last proposal of an identity that has made one, in which it proposes this number
     /// and no other does.
     fn shows_sole(&self, id: u64, number: u64, view: &[(u64, u64)]) -> bool
-        ensures { (terms : RenameTerms) (o : RenameObject) → HoldsNames terms self.now o → 1 ≤ o.count id → IsTrue result ↔ ShowsSole o id number view.now }
+        ensures { OfNames self.now (λ terms o. 1 ≤ o.count id → IsTrue result ↔ ShowsSole o id number view.now) }
     {
         let Some(standing) = find(&self.participants, id) else {
             return false;
@@ -360,8 +361,7 @@ impl Names {
 
     /// Whether an identity that may step may be given a name, by the view that is shown where one is.
     pub fn may_name(&self, id: u64, name: u64, shown: Option<&Pairs>) -> bool
-        ensures { (terms : RenameTerms) (o : RenameObject) → HoldsNames terms self.now o → no_step o id ≡ None →
-            IsTrue result ↔ MayBeNamed o id name (option_copied shown.entry) }
+        ensures { OfNames self.now (λ terms o. no_step o id ≡ None → IsTrue result ↔ MayBeNamed o id name (option_copied shown.entry)) }
     {
         let Some(standing) = find(&self.participants, id) else {
             return false;

@@ -11,7 +11,7 @@ ghost use Rattle.run_checker.specs.declared.header.Header.{Header};
 ghost use Rattle.run_checker.specs.declared.header.Version.TheVariants.{Two};
 ghost use Rattle.run_checker.specs.declared.line.Line.{Line};
 ghost use Rattle.run_checker.specs.ReplyText.{told_with, told_by};
-ghost use Rattle.run_checker.specs.RecordLine.{IsJson, IsEventOf, SaysByTexts, SaysLine, IsEventLine, IsHeaderLine};
+ghost use Rattle.run_checker.specs.RecordLine.{IsJson, IsEventOf, FindsLine, SaysByTexts, SaysLine, IsEventLine, IsHeaderLine};
 
 use crate::header::{Header, Version};
 use crate::line::Line;
@@ -104,8 +104,7 @@ fn line_by(
     version: Version,
     texts: LineTexts<'_>,
 ) -> Result<Option<Line>, AllocError>
-    ensures { IfOk result (λ r. MatchOption r ((l : Line) → SaysByTexts kind version texts.entry.command.now texts.entry.reply.now (option_copied texts.entry.view) l → ⊥)
-        (λ l. SaysByTexts kind version texts.entry.command.now texts.entry.reply.now (option_copied texts.entry.view) l)) }
+    ensures { IfOk result (FindsLine (SaysByTexts kind version texts.entry.command.now texts.entry.reply.now (option_copied texts.entry.view))) }
 {
     let Some(event) = event_of(texts.command, kind) else {
         return Ok(None);
@@ -123,8 +122,7 @@ fn line_of(
     version: Version,
     value: &Value,
 ) -> Result<Option<Line>, AllocError>
-    ensures { IfOk result (λ r. MatchOption r ((l : Line) → SaysLine kind version (view value.now) l → ⊥)
-        (λ l. SaysLine kind version (view value.now) l)) }
+    ensures { IfOk result (FindsLine (SaysLine kind version (view value.now))) }
 {
     let Some(texts) = texts(value) else {
         return Ok(None);
@@ -140,8 +138,7 @@ fn read_json_line(
     bytes: &[u8],
 ) -> Result<Option<Line>, AllocError>
     requires { length bytes.now ≤ 8192 }
-    ensures { IfOk result (λ r. MatchOption r ((l : Line) → IsEventLine kind version bytes.now l → ⊥)
-        (λ l. IsEventLine kind version bytes.now l)) }
+    ensures { IfOk result (FindsLine (IsEventLine kind version bytes.now)) }
 {
     let Some(value) = value_of(alloc, bytes)? else {
         return Ok(None);
@@ -157,8 +154,7 @@ pub fn read_line(
     version: Version,
     bytes: &[u8],
 ) -> Result<Option<Line>, AllocError>
-    ensures { IfOk result (λ r. MatchOption r ((l : Line) → IsEventLine kind version bytes.now l → ⊥)
-        (λ l. IsEventLine kind version bytes.now l)) }
+    ensures { IfOk result (FindsLine (IsEventLine kind version bytes.now)) }
 {
     if LINE_MOST < bytes.len() {
         return Ok(None);

@@ -58,7 +58,7 @@ impl Stays {
 
     /// Why `enter` of an identity is to be refused.
     pub fn enter_refusal(&self, id: u64) -> Option<Refusal>
-        ensures { (o : SlotsObject ℕ) → HoldsSlots self.now o → result ≡ no_entry o.pool id }
+        ensures { OfSlots self.now (λ o. result ≡ no_entry o.pool id) }
     {
         if id == 0 {
             Some(Refusal::ZeroIdentity)
@@ -73,7 +73,7 @@ impl Stays {
 
     /// Why `probe` of an identity is to be refused.
     pub fn probe_refusal(&self, id: u64) -> Option<Refusal>
-        ensures { (o : SlotsObject ℕ) → HoldsSlots self.now o → result ≡ no_probe o.pool id }
+        ensures { OfSlots self.now (λ o. result ≡ no_probe o.pool id) }
     {
         match find(&self.competitors, id) {
             None => Some(Refusal::NotCompeting),
@@ -86,7 +86,7 @@ impl Stays {
 
     /// The number that an identity holds, or why `leave`, `put` and `get` of it are to be refused.
     pub fn number_of(&self, id: u64) -> Result<u64, Refusal>
-        ensures { (o : SlotsObject ℕ) → HoldsSlots self.now o → result ≡ number_in o.pool id }
+        ensures { OfSlots self.now (λ o. result ≡ number_in o.pool id) }
     {
         match find(&self.competitors, id) {
             None => Err(Refusal::NotCompeting),
@@ -99,7 +99,7 @@ impl Stays {
 
     /// Why a widening to so many numbers is to be refused.
     pub fn widen_refusal(&self, more: u64) -> Option<Refusal>
-        ensures { (o : SlotsObject ℕ) → HoldsSlots self.now o → result ≡ widen_refusal o.pool.size more }
+        ensures { OfSlots self.now (λ o. result ≡ widen_refusal o.pool.size more) }
     {
         if more <= self.size || 64 < more {
             Some(Refusal::OutOfRange)
@@ -126,7 +126,7 @@ impl Stays {
 
     /// Whether the next probe of an identity that may probe may be missed.
     pub fn may_miss(&self, id: u64) -> bool
-        ensures { (o : SlotsObject ℕ) → HoldsSlots self.now o → no_probe o.pool id ≡ None → IsTrue result ↔ (o.pool.probes id + 1 ≢ max 1 (o.pool.size - 1)) }
+        ensures { OfSlots self.now (λ o. no_probe o.pool id ≡ None → IsTrue result ↔ (o.pool.probes id + 1 ≢ max 1 (o.pool.size - 1))) }
     {
         match find(&self.competitors, id) {
             Some(stay) => stay.probes.saturating_add(1) != self.size.saturating_sub(1).max(1),
@@ -136,7 +136,8 @@ impl Stays {
 
     /// An identity that may misses a probe.
     pub fn miss(&mut self, id: u64)
-        ensures { OfSlots self.old (λ o. no_probe o.pool id ≡ None → o.pool.probes id + 1 ≢ max 1 (o.pool.size - 1) → HoldsSlots self.new (missed_by id o)) }
+        ensures { OfSlots self.old (λ o. no_probe o.pool id ≡ None → o.pool.probes id + 1 ≢ max 1 (o.pool.size - 1) →
+            HoldsSlots self.new (missed_by id o)) }
     {
         let Some(stay) = find(&self.competitors, id) else {
             return;
@@ -150,7 +151,7 @@ impl Stays {
 
     /// Whether a number is one of the pool that nobody holds.
     pub fn is_free(&self, number: u64) -> bool
-        ensures { (o : SlotsObject ℕ) → HoldsSlots self.now o → IsTrue result ↔ IsFree o.pool number }
+        ensures { OfSlots self.now (λ o. IsTrue result ↔ IsFree o.pool number) }
     {
         if number < 1 {
             return false;
@@ -177,7 +178,7 @@ impl Stays {
 
     /// An identity gives back the number that it holds.
     pub fn leave(&mut self, id: u64)
-        ensures { (o : SlotsObject ℕ) (n : ℕ) → HoldsSlots self.old o → number_in o.pool id ≡ Ok n → HoldsSlots self.new (left_by id n o) }
+        ensures { OfSlots self.old (λ o. (n : ℕ) → number_in o.pool id ≡ Ok n → HoldsSlots self.new (left_by id n o)) }
     {
         self.competitors
             .retain(|competitor| competitor.identity != id);
@@ -185,7 +186,7 @@ impl Stays {
 
     /// The holder of a number puts a value into its slot.
     pub fn store(&mut self, number: u64, value: u64)
-        ensures { (o : SlotsObject ℕ) (id : ℕ) → HoldsSlots self.old o → number_in o.pool id ≡ Ok number → HoldsSlots self.new (stored_by id value o) }
+        ensures { OfSlots self.old (λ o. (id : ℕ) → number_in o.pool id ≡ Ok number → HoldsSlots self.new (stored_by id value o)) }
     {
         let place = number.saturating_sub(1) as usize;
         if place < self.values.len() {
@@ -195,7 +196,7 @@ impl Stays {
 
     /// Whether the slot of a number has a value.
     pub fn has_value(&self, number: u64, value: u64) -> bool
-        ensures { (o : SlotsObject ℕ) → HoldsSlots self.now o → IsTrue result ↔ IsFetched o.values (Ok number) (Ok value) }
+        ensures { OfSlots self.now (λ o. IsTrue result ↔ IsFetched o.values (Ok number) (Ok value)) }
     {
         let place = number.saturating_sub(1) as usize;
         place < self.values.len() && self.values[place] == value

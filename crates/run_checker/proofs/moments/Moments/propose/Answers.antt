@@ -7,7 +7,7 @@ use Rattle.run_checker.proofs.seats.Turned.{proposed}
 use Rattle.run_checker.proofs.moments.Moments.propose.Goals as goal
 
 pub returns : goal.returns
-returns c = λ last rows few h.
+returns c = λ last rows h few.
     let m : Moments = c.args.self.now in
     let next : c.with_number-next.result ≡ slice_set m.present c.args.seat c.args.number = c.with_number-next.ensures in
     let low : m.last ≡ last = h.last_is in

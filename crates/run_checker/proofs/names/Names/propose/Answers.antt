@@ -22,7 +22,7 @@ returns c = λ terms o h none few may.
     let small : c.args.number < 128 = omega arith in
     let number : c.min-number.result ≡ c.args.number = grind (arith, c.min-number.ensures, small) in
     let held : HoldsMoments c.propose.new.self (o.last + 1) (set_at h.turns.rows (o.last + 1) (slice_set (h.turns.rows o.last) old.turn.seat c.min-number.result)) =
-    c.in_ok-propose.ensures o.last h.turns.rows few h.turns.held in
+    c.in_ok-propose.ensures o.last h.turns.rows h.turns.held few in
     let last : c.last.result ≡ o.last + 1 = c.last.ensures (o.last + 1) _ held in
     let count : o.count c.args.id ≡ old.turn.count = h.turns.count c.args.id ∙ ap (λ x. count_of (turn_of x)) there in
     let left = may.rounds in
