@@ -1,16 +1,13 @@
 //! Judges lines one after the other.
 
-ghost use Rattle.std.specs.Prelude.{◌≡◌, ℕ, ◌+◌, ◌*◌, ◌<◌, ◌≤◌, ◌^◌, ◌&&◌, true, List, [], length, None, Ok, Err, IfOk};
+ghost use Rattle.std.specs.Prelude.{◌≡◌, ◌&&◌, Ok, IfOk};
 ghost use Rattle.std.specs.Option.{option_copied};
-ghost use Rattle.step_memory.specs.declared.refusal.Refusal.{Refusal};
-ghost use Rattle.rename_core.specs.RenameObject.{RenameTerms, no_begin, no_step};
-ghost use Rattle.bit_allocator.specs.PoolObject.{no_entry, no_probe, number_in};
+ghost use Rattle.rename_core.specs.RenameObject.{RenameTerms};
 ghost use Rattle.desk.specs.declared.event.Event.TheVariants as event;
-ghost use Rattle.run_checker.specs.declared.line.Line.{Line};
 ghost use Rattle.run_checker.specs.declared.told.Told.TheVariants as told;
 ghost use Rattle.run_checker.specs.ObjectRun.{DeskObject};
-ghost use Rattle.run_checker.specs.Told.{is_step, is_reply_of};
-ghost use Rattle.run_checker.specs.Reasons.{why_of, refusal_due, is_told_rightly, is_refused_as_due};
+ghost use Rattle.run_checker.specs.Told.{is_step};
+ghost use Rattle.run_checker.specs.Reasons.{refusal_due, is_told_rightly, is_refused_as_due};
 ghost use Rattle.run_checker.specs.Lines.{line};
 ghost use Rattle.run_checker.specs.Judged.{HoldsDesk, Judges, JudgesWithRoom, HasRoom, HasTakenNone, TakesMore};
 ghost use Rattle.run_checker.specs.Judged.{MayBegin, MayStep, MayEnter, MayProbe, MayWiden, HoldsNumber, IsDueSo};

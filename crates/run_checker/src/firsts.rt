@@ -1,6 +1,6 @@
 //! The first moments in which proposals stand alone.
 
-ghost use Rattle.std.specs.Prelude.{◌≡◌, ◌==◌, List, ℕ, OnOk};
+ghost use Rattle.std.specs.Prelude.{◌≡◌, ◌==◌, ℕ, OnOk};
 ghost use Rattle.std.specs.List.{list_any};
 ghost use Rattle.std.specs.Option.{option_copied};
 ghost use Rattle.step_memory.specs.View.{value_of};

@@ -1,6 +1,6 @@
 //! Goes over a list of lines.
 
-ghost use Rattle.std.specs.Prelude.{◌≡◌, ◌≤◌, ◌↔◌, ℕ, List, length, IfOk, MatchOption, None};
+ghost use Rattle.std.specs.Prelude.{◌≡◌, ◌≤◌, ◌↔◌, length, IfOk, None};
 ghost use Rattle.run_checker.specs.Config.{terms_of};
 ghost use Rattle.run_checker.specs.Lines.{AreLinesOfRun};
 ghost use Rattle.run_checker.specs.Judged.{IsFirstFaultOrNone};

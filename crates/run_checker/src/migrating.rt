@@ -1,6 +1,6 @@
 //! A record is written again, in version 2.
 
-ghost use Rattle.std.specs.Prelude.{◌≡◌, ◌≤◌, ◌<◌, ◌^◌, IfOk, MatchResult};
+ghost use Rattle.std.specs.Prelude.{◌<◌, ◌^◌, IfOk, MatchResult};
 ghost use Rattle.std.specs.Option.{option_copied};
 ghost use Rattle.schedule_player.specs.Played.{writing};
 ghost use Rattle.run_checker.specs.Migrated.{AreMigrated, IsMigratedTo, IsMigrated, IsOther};

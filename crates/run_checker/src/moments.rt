@@ -1,8 +1,6 @@
 //! The moments of the renaming object, by tables.
 
-ghost use Rattle.std.specs.Prelude.{◌≡◌, ℕ, List, ◌+◌, ◌<◌, ◌≤◌, ◌==◌, ◌^◌, ◌↔◌, true, false, nat_lt};
-ghost use Rattle.std.specs.Prelude.{replicate, count_by, slice_set, slice_index, IfOk, OnOk, IsTrue};
-ghost use Rattle.step_memory.specs.SetAt.{set_at};
+ghost use Rattle.std.specs.Prelude.{◌≡◌, ◌+◌, ◌<◌, ◌≤◌, ◌^◌, ◌↔◌, true, false, replicate, slice_set, slice_index, IfOk, OnOk, IsTrue};
 ghost use Rattle.run_checker.specs.Moments.{crowded, turned_at, SomeSince, HoldsMoments, OfMoments, with_row};
 
 use std::alloc::{AllocError, Global};

@@ -1,10 +1,9 @@
 //! What is kept of the renaming object.
 
-ghost use Rattle.std.specs.Prelude.{◌≡◌, ℕ, ◌<◌, ◌≤◌, ◌+◌, ◌^◌, ◌↔◌, OnOk, IfOk, IsTrue, IsSome, None, Ok, List, [], MatchOption};
+ghost use Rattle.std.specs.Prelude.{◌≡◌, ◌<◌, ◌≤◌, ◌^◌, ◌↔◌, OnOk, IfOk, IsTrue, None, Ok, [], MatchOption};
 ghost use Rattle.std.specs.List.{list_any};
 ghost use Rattle.step_memory.specs.Calls.Call.{Began};
-ghost use Rattle.step_memory.specs.declared.participant.Participant.{Participant};
-ghost use Rattle.rename_core.specs.RenameObject.{RenameTerms, RenameObject, new_object, no_begin, no_step, after, after_step};
+ghost use Rattle.rename_core.specs.RenameObject.{RenameTerms, RenameObject, no_begin, no_step, after, after_step};
 ghost use Rattle.std.specs.Option.{option_copied};
 ghost use Rattle.rename_core.specs.RenameObject.{IsFreePlace, MayPropose, HasConflict, ShowsConflict, ShowsSole};
 ghost use Rattle.rename_core.specs.declared.reply.Reply.TheVariants as step;

@@ -1,8 +1,7 @@
 //! The lines of a record as JSON values.
 
-ghost use Rattle.std.specs.Prelude.{◌≡◌, ℕ, List, MatchOption, Option, option_map, Some, codes};
+ghost use Rattle.std.specs.Prelude.{◌≡◌, ℕ, List, MatchOption, Option, option_map};
 ghost use Rattle.std.specs.Option.{option_copied};
-ghost use Rattle.rename_core.specs.declared.config.WorldKind.{WorldKind};
 ghost use Rattle.serde_json.specs.View.{view};
 ghost use Rattle.run_checker.specs.Json.{keys_of, text_at, number_at, world_in, AreTexts, HasFormat, SaysSizes, SaysNoSizes, IsHeader};
 ghost use Rattle.run_checker.specs.declared.header.Header.{Header};

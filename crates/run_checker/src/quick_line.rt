@@ -1,6 +1,6 @@
 //! Lines of the commonest words, in the spelling in which records are written, in one pass over their bytes.
 
-ghost use Rattle.std.specs.Prelude.{◌≡◌, IfSome};
+ghost use Rattle.std.specs.Prelude.{IfSome};
 ghost use Rattle.run_checker.specs.QuickLine.{SpellsLine, SpellsReply, SpellsLastNumber};
 
 use crate::header::Version;

@@ -1,6 +1,6 @@
 //! The verdict on a record.
 
-ghost use Rattle.std.specs.Prelude.{◌≡◌, IfOk};
+ghost use Rattle.std.specs.Prelude.{IfOk};
 ghost use Rattle.std.specs.Option.{option_copied};
 ghost use Rattle.run_checker.specs.Verdict.{lines_left, record_lines, IsSaid, IsSaidOfRows, IsVerdict};
 

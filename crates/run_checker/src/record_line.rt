@@ -1,15 +1,13 @@
 //! From the bytes of a record's line to what it says.
 
-ghost use Rattle.std.specs.Prelude.{◌≡◌, ◌≤◌, IfOk, MatchOption, Some, None, Ok, length};
+ghost use Rattle.std.specs.Prelude.{◌≡◌, ◌≤◌, IfOk, MatchOption, Some, None, length};
 ghost use Rattle.std.specs.Option.{option_copied};
 ghost use Rattle.desk.specs.declared.event.Event.{Event};
 ghost use Rattle.schedule_player.specs.declared.command.Command.TheVariants as command;
-ghost use Rattle.schedule_player.specs.Meaning.{meaning};
 ghost use Rattle.serde_json.specs.Data.{Data};
 ghost use Rattle.serde_json.specs.View.{view};
 ghost use Rattle.run_checker.specs.declared.header.Header.{Header};
 ghost use Rattle.run_checker.specs.declared.header.Version.TheVariants.{Two};
-ghost use Rattle.run_checker.specs.declared.line.Line.{Line};
 ghost use Rattle.run_checker.specs.ReplyText.{told_with, told_by};
 ghost use Rattle.run_checker.specs.RecordLine.{IsJson, IsEventOf, FindsLine, SaysByTexts, SaysLine, IsEventLine, IsHeaderLine};
 

@@ -1,10 +1,8 @@
 //! From the text of a reply to what it tells.
 
-ghost use Rattle.std.specs.Prelude.{◌≡◌, ℕ, List, IfOk, option_map};
+ghost use Rattle.std.specs.Prelude.{◌≡◌, IfOk};
 ghost use Rattle.std.specs.Option.{option_copied};
-ghost use Rattle.schedule_player.specs.Meaning.{words};
-ghost use Rattle.run_checker.specs.declared.told.Told.TheVariants as told;
-ghost use Rattle.run_checker.specs.ReplyText.{pair_in, pairs_in, saw_of, word_alone, owner_of, word_with, plain_of, told_in, pieces_left};
+ghost use Rattle.run_checker.specs.ReplyText.{pair_in, pairs_in, word_alone, owner_of, word_with, plain_of, told_in, pieces_left};
 
 use crate::pairs::Pairs;
 use crate::told::Told;

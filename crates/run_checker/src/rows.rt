@@ -1,6 +1,6 @@
 //! The lines of a record, one after the other.
 
-ghost use Rattle.std.specs.Prelude.{◌≡◌, ◌∷◌, [], ◌≤◌, ◌+◌, length, MatchOption, IsTrue, ◌↔◌, None};
+ghost use Rattle.std.specs.Prelude.{◌≡◌, ◌∷◌, [], ◌≤◌, length, MatchOption, IsTrue, ◌↔◌, None};
 ghost use Rattle.std.specs.Option.{option_copied};
 ghost use Rattle.run_checker.specs.ReplyText.{left_length};
 ghost use Rattle.run_checker.specs.Verdict.{record_lines, lines_left};

@@ -1,14 +1,13 @@
 //! What is kept of the pool and the slots.
 
-ghost use Rattle.std.specs.Prelude.{◌≡◌, ◌≢◌, ℕ, ◌+◌, ◌-◌, ◌≤◌, ◌↔◌, max, replicate, IfOk, OnOk, IsTrue, None, Ok, Err};
+ghost use Rattle.std.specs.Prelude.{◌≡◌, ◌≢◌, ℕ, ◌+◌, ◌-◌, ◌≤◌, ◌↔◌, max, replicate, IfOk, OnOk, IsTrue, None, Ok};
 ghost use Rattle.std.specs.List.{list_any};
-ghost use Rattle.bit_allocator.specs.Calls.Call.{Entered, Probed, Left};
+ghost use Rattle.bit_allocator.specs.Calls.Call.{Entered};
 ghost use Rattle.bit_allocator.specs.PoolObject.{no_entry, no_probe, number_in, IsFree};
-ghost use Rattle.bit_allocator.specs.declared.probe.Probe.TheVariants as probe;
 ghost use Rattle.bit_allocator.specs.Widening.{widen_refusal};
-ghost use Rattle.slot_array.specs.SlotCalls.SlotCall.{Pooled, Stored};
+ghost use Rattle.slot_array.specs.SlotCalls.SlotCall.{Pooled};
 ghost use Rattle.slot_array.specs.Slots.{IsFetched};
-ghost use Rattle.slot_array.specs.SlotsObject.{SlotsObject, fresh_slots, slots_after};
+ghost use Rattle.slot_array.specs.SlotsObject.{fresh_slots, slots_after};
 ghost use Rattle.run_checker.specs.Standing.{is_held};
 ghost use Rattle.run_checker.specs.Stays.{HoldsSlots, OfSlots, missed_by, got_by, left_by, stored_by, widened_to};
 

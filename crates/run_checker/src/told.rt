@@ -1,7 +1,7 @@
 //! What a record tells of an event.
 
 ghost use Rattle.std.specs.Prelude.{◌≡◌};
-ghost use Rattle.run_checker.specs.Told.{is_name, is_step, is_probe, is_leave, is_get, is_done, is_reply_of};
+ghost use Rattle.run_checker.specs.Told.{is_name, is_step, is_done, is_reply_of};
 
 use crate::pairs::Pairs;
 use desk::Event;

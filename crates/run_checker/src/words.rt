@@ -1,11 +1,11 @@
 //! Words, and the numbers that they write.
 
-ghost use Rattle.std.specs.Prelude.{◌≡◌, ◌∷◌, ◌+◌, ◌<◌, ◌≤◌, ◌^◌, ◌==◌, ℕ, [], position, true, length};
+ghost use Rattle.std.specs.Prelude.{◌≡◌, ◌∷◌, ◌≤◌, ◌^◌, ◌==◌, [], position, true, length};
 ghost use Rattle.std.specs.List.{list_all};
 ghost use Rattle.std.specs.Option.{option_copied};
 ghost use Rattle.schedule_player.specs.Lines.{pieces_from};
 ghost use Rattle.schedule_player.specs.Meaning.{is_digit, decimal_from, same_bytes};
-ghost use Rattle.run_checker.specs.ReplyText.{if_below, number_below, number_of, pair_in, pieces_left, left_length};
+ghost use Rattle.run_checker.specs.ReplyText.{if_below, number_below, number_of, pieces_left, left_length};
 
 use memchr::memchr;
 
