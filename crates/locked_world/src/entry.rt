@@ -28,23 +28,23 @@ pub(crate) struct Entry {
 }
 
 /// What stands for a reply, which is put apart where it is long.
-pub(crate) fn shorten<A: Allocator>(apart: &mut Vec<Reply, A>, reply: Reply) -> Short
+pub(crate) fn shorten<A: Allocator>(apart: &mut Vec<Reply, A>, reply: &Reply) -> Short
     requires { vec_len apart.old < vec_capacity apart.old }
-    ensures shown { reply_shown apart.new.items result ≡ reply }
+    ensures shown { reply_shown apart.new.items result ≡ reply.now }
     ensures inside { is_inside (vec_len apart.new) result ≡ true }
     ensures longer { (more : List Reply) × (apart.new.items ≡ apart.old.items ++ more) }
 {
     match reply {
         Reply::Ok => Short::Ok,
         Reply::Quiet => Short::Quiet,
-        Reply::Proposed(number) => Short::Proposed(number),
+        Reply::Proposed(number) => Short::Proposed(*number),
         Reply::Missed => Short::Missed,
-        Reply::Got(number) => Short::Got(number),
-        Reply::Left(number) => Short::Left(number),
-        Reply::Value(value) => Short::Value(value),
-        long => {
+        Reply::Got(number) => Short::Got(*number),
+        Reply::Left(number) => Short::Left(*number),
+        Reply::Value(value) => Short::Value(*value),
+        _ => {
             let at = apart.len();
-            apart.push_reserved(long);
+            apart.push_reserved(*reply);
             Short::Apart(at)
         }
     }

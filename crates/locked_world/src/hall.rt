@@ -110,7 +110,7 @@ impl Hall {
         }
         let reply = self.held.desk.apply(event);
         if !reply.is_refusal() {
-            self.history.push_reserved(Exchange { event, reply });
+            self.history.push_reserved(event, &reply);
         }
         reply
     }

@@ -1,11 +1,13 @@
 //! What a caller has kept, in order.
 
 ghost use Rattle.std.specs.Prelude.{◌≡◌, ◌++◌, [], ◌∷◌, length, slice_get, true, IfOk};
+ghost use Rattle.desk.specs.DeskCalls.{exchange};
+ghost use Rattle.locked_world.specs.KeptLogs.{kept_of};
 ghost use Rattle.locked_world.specs.KeptNames.{name_given, name_kept};
 
 use crate::kept::Kept;
 use crate::log::Log;
-use desk::Reply;
+use desk::{Event, Reply};
 use std::alloc::Global;
 use std::marker::Model;
 use step_memory::NoMemory;
@@ -91,12 +93,12 @@ impl KeptLog {
     }
 
     /// Puts one behind the others, where there is room.
-    pub(crate) fn push_reserved(&mut self, kept: Kept)
+    pub(crate) fn push_reserved(&mut self, place: usize, event: Event, reply: &Reply)
         requires { self.old.room ≡ true }
-        ensures { self.new.items ≡ self.old.items ++ kept ∷ [] }
+        ensures { self.new.items ≡ self.old.items ++ kept_of place (exchange event reply.now) ∷ [] }
     {
-        self.name = self.name.or(name_given(&kept.exchange.reply));
-        self.places.push_reserved(kept.place);
-        self.log.push_reserved(kept.exchange);
+        self.name = self.name.or(name_given(reply));
+        self.places.push_reserved(place);
+        self.log.push_reserved(event, reply);
     }
 }

@@ -10,10 +10,9 @@ ghost use Rattle.locked_world.specs.Kepts.{Keeps, IsOpened};
 
 use crate::act::Act;
 use crate::hall::Hall;
-use crate::kept::Kept;
 use crate::kept_log::KeptLog;
 use crate::parts::{Clerk, HallLock, Locked, MOST_CALLERS, Session};
-use desk::{Event, Exchange, Reply};
+use desk::{Event, Reply};
 use rename_core::Config;
 use std::alloc::Global;
 use std::sync::ledger::{Blank, Ledger, Share};
@@ -69,10 +68,7 @@ impl<L: Ledger> Locked<L> {
             return Some(reply);
         }
         book.add(share, 1);
-        kept.push_reserved(Kept {
-            place,
-            exchange: Exchange { event, reply },
-        });
+        kept.push_reserved(place, event, &reply);
         marks.push_reserved(false);
         *next = place + 1;
         Some(reply)

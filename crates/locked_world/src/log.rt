@@ -1,10 +1,11 @@
 //! Exchanges in order, in which views stand apart.
 
 ghost use Rattle.std.specs.Prelude.{◌≡◌, ◌<◌, ◌++◌, [], ◌∷◌, length, slice_get, true, IfOk};
+ghost use Rattle.desk.specs.DeskCalls.{exchange};
 ghost use Rattle.locked_world.specs.Logs.{log_of, all_inside};
 
 use crate::entry::{Entry, shorten, shown};
-use desk::{Exchange, Reply};
+use desk::{Event, Exchange, Reply};
 use std::alloc::Allocator;
 use std::marker::Model;
 use step_memory::NoMemory;
@@ -73,14 +74,11 @@ impl<A: Allocator> Log<A> {
     }
 
     /// Puts one behind the others, where there is room.
-    pub(crate) fn push_reserved(&mut self, exchange: Exchange)
+    pub(crate) fn push_reserved(&mut self, event: Event, reply: &Reply)
         requires { self.old.room ≡ true }
-        ensures { self.new.items ≡ self.old.items ++ exchange ∷ [] }
+        ensures { self.new.items ≡ self.old.items ++ exchange event reply.now ∷ [] }
     {
-        let reply = shorten(&mut self.apart, exchange.reply);
-        self.entries.push_reserved(Entry {
-            event: exchange.event,
-            reply,
-        });
+        let reply = shorten(&mut self.apart, reply);
+        self.entries.push_reserved(Entry { event, reply });
     }
 }

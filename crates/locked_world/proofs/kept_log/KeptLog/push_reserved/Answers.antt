@@ -1,6 +1,7 @@
 use Rattle.std.proofs.Common.{◌≡◌, ◌++◌, [], ◌∷◌, ap, sym, ◌∙◌, length, length-append, arith}
 use Rattle.std.specs.Option.{option_or}
-use Rattle.locked_world.specs.KeptLogs.{side_by_side}
+use Rattle.desk.specs.DeskCalls.{exchange}
+use Rattle.locked_world.specs.KeptLogs.{kept_of, side_by_side}
 use Rattle.locked_world.specs.KeptNames.{name_kept, name_given}
 use Rattle.locked_world.specs.KeptState.{KeptState}
 use Rattle.locked_world.proofs.Keeping.{kept_push}
@@ -8,10 +9,10 @@ use Rattle.locked_world.proofs.Naming.{name_more}
 use Rattle.locked_world.proofs.kept_log.KeptLog.push_reserved.Goals as goal
 use Rattle.locked_world.proofs.kept_log.KeptLog.push_reserved.Goals.{After-push_reserved-2}
 
-longer : (c : After-push_reserved-2) → side_by_side c.push_reserved.new.self.items c.push_reserved-2.new.self.items ≡ side_by_side c.self.inside.places.items c.self.inside.log.items ++ c.args.kept ∷ []
+longer : (c : After-push_reserved-2) → side_by_side c.push_reserved.new.self.items c.push_reserved-2.new.self.items ≡ side_by_side c.self.inside.places.items c.self.inside.log.items ++ kept_of c.args.place (exchange c.args.event c.args.reply.now) ∷ []
 longer c =
     let i = c.self.inside in
-    let k = c.args.kept in
+    let k = kept_of c.args.place (exchange c.args.event c.args.reply.now) in
     ap (λ ps. side_by_side ps c.push_reserved-2.new.self.items) c.push_reserved.ensures.items
     ∙ ap (λ xs. side_by_side (i.places.items ++ k.place ∷ []) xs) c.push_reserved-2.ensures
     ∙ kept_push i.places.items i.log.items k.place k.exchange c.self.invariant.0
@@ -19,7 +20,7 @@ longer c =
 pub invariant_of-self : goal.invariant_of-self
 invariant_of-self c =
     let i = c.self.inside in
-    let k = c.args.kept in
+    let k = kept_of c.args.place (exchange c.args.event c.args.reply.now) in
     let many : length c.push_reserved.new.self.items ≡ length c.push_reserved-2.new.self.items = omega (
       arith,
       c.self.invariant.0,
@@ -33,4 +34,4 @@ invariant_of-self c =
     (many, name ∙ sym (name_more (side_by_side i.places.items i.log.items) k) ∙ sym (ap name_kept (longer c)))
 
 pub returns : goal.returns
-returns c = longer c ∙ ap (λ (w : KeptState). w.items ++ c.args.kept ∷ []) c.self.view_is
+returns c = longer c ∙ ap (λ (w : KeptState). w.items ++ kept_of c.args.place (exchange c.args.event c.args.reply.now) ∷ []) c.self.view_is

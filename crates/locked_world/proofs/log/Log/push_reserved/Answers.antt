@@ -1,4 +1,5 @@
 use Rattle.std.proofs.Common.{◌≡◌, ◌++◌, [], ◌∷◌, true, length, ap, ◌∙◌, sym}
+use Rattle.desk.specs.DeskCalls.{exchange}
 use Rattle.locked_world.specs.Logs.{is_inside, put_together}
 use Rattle.locked_world.specs.LogState.{LogState}
 use Rattle.locked_world.proofs.Logging.{put_push, inside_push}
@@ -9,11 +10,11 @@ invariant_of-self g c =
     let i = c.self.inside in
     let apart = c.shorten-reply.new.apart in
     let one : is_inside (length apart.items) c.shorten-reply.result ≡ true = ap (λ k. is_inside k c.shorten-reply.result) (sym apart.ok.0) ∙ c.shorten-reply.ensures.inside in
-    inside_push i.apart.items apart.items i.entries.items c.push_reserved.new.self.items c.args.exchange.event c.shorten-reply.result c.shorten-reply.ensures.longer c.self.invariant c.push_reserved.ensures.items one
+    inside_push i.apart.items apart.items i.entries.items c.push_reserved.new.self.items c.args.event c.shorten-reply.result c.shorten-reply.ensures.longer c.self.invariant c.push_reserved.ensures.items one
 
 pub returns : goal.returns
 returns g c =
     let i = c.self.inside in
     let old : put_together i.apart.items i.entries.items ≡ c.args.self.now.items = ap (λ (w : LogState). w.items) c.self.view_is in
-    put_push i.apart.items c.shorten-reply.new.apart.items i.entries.items c.push_reserved.new.self.items c.args.exchange.event c.shorten-reply.result c.shorten-reply.ensures.longer c.self.invariant c.push_reserved.ensures.items c.args.exchange.reply c.shorten-reply.ensures.shown
-    ∙ ap (λ j. j ++ c.args.exchange ∷ []) old
+    put_push i.apart.items c.shorten-reply.new.apart.items i.entries.items c.push_reserved.new.self.items c.args.event c.shorten-reply.result c.shorten-reply.ensures.longer c.self.invariant c.push_reserved.ensures.items c.args.reply.now c.shorten-reply.ensures.shown
+    ∙ ap (λ j. j ++ exchange c.args.event c.args.reply.now ∷ []) old
