@@ -1,5 +1,5 @@
 -- what a checker says of a line, and keeps after it
-use Rattle.std.specs.Prelude.{◌≡◌, ℕ, ◌<◌, ◌≤◌, ◌^◌, Bool, List, [], ◌∷◌, ◌++◌, length, take, slice_get, Option, Some, None, Result, Ok, Err}
+use Rattle.std.specs.Prelude.{◌≡◌, ℕ, ◌<◌, ◌≤◌, ◌^◌, List, [], ◌∷◌, ◌++◌, length, take, slice_get, Option, Some, None, Result, Ok, Err}
 use Rattle.desk.specs.declared.event.Event.{Event}
 use Rattle.bit_allocator.specs.PoolObject.{no_entry, no_probe, number_in}
 use Rattle.bit_allocator.specs.Widening.{widen_refusal}
@@ -96,11 +96,6 @@ pub record IsFirstFault (terms : RenameTerms) (size : ℕ) (lines : List Line) (
   pub line : Line
   pub at : slice_get lines k ≡ Some line
   pub fault : IsFaultAfter terms size (take k lines) line why
-
--- no line was taken yet, where the sizes are in range
-abbrev pub HasTakenNone : ℕ → ℕ → ℕ → Bool → Checker → Type 0
-HasTakenNone most limit size grows c =
-    (terms : RenameTerms) → terms ≡ record { most = most; limit = limit; grows = grows } → most ≤ 64 → 1 ≤ limit → limit ≤ 1000000 → 1 ≤ size → size ≤ 64 → HasTaken terms size [] c
 
 -- after any lines that were taken this one is, or it is the first at fault
 abbrev pub TakesMore : Line → Checker → Option Reason → Checker → Type 0

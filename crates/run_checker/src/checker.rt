@@ -1,15 +1,16 @@
 //! Judges lines one after the other.
 
-ghost use Rattle.std.specs.Prelude.{◌≡◌, ◌&&◌, Ok, IfOk};
+ghost use Rattle.std.specs.Prelude.{◌≡◌, ◌&&◌, [], Ok, IfOk};
 ghost use Rattle.std.specs.Option.{option_copied};
 ghost use Rattle.rename_core.specs.RenameObject.{RenameTerms};
 ghost use Rattle.desk.specs.declared.event.Event.TheVariants as event;
 ghost use Rattle.run_checker.specs.declared.told.Told.TheVariants as told;
+ghost use Rattle.run_checker.specs.Config.{terms_of};
 ghost use Rattle.run_checker.specs.ObjectRun.{DeskObject};
 ghost use Rattle.run_checker.specs.Told.{is_step};
 ghost use Rattle.run_checker.specs.Reasons.{refusal_due, is_told_rightly, is_refused_as_due};
 ghost use Rattle.run_checker.specs.Lines.{line};
-ghost use Rattle.run_checker.specs.Judged.{HoldsDesk, Judges, JudgesWithRoom, HasRoom, HasTakenNone, TakesMore};
+ghost use Rattle.run_checker.specs.Judged.{HoldsDesk, Judges, JudgesWithRoom, HasRoom, HasTaken, TakesMore};
 ghost use Rattle.run_checker.specs.Judged.{MayBegin, MayStep, MayEnter, MayProbe, MayWiden, HoldsNumber, IsDueSo};
 
 use crate::fault::Fault;
@@ -20,6 +21,7 @@ use crate::reason::Reason;
 use crate::stays::Stays;
 use crate::told::{Told, is_step};
 use desk::Event;
+use rename_core::Config;
 use std::alloc::{AllocError, Global};
 use step_memory::{Place, Refusal};
 
@@ -52,23 +54,15 @@ fn is_refused_as_due(due: Option<Refusal>, lacks: bool, told: &Told) -> bool
 }
 
 impl Checker {
-    /// Nothing was done, by at most `most` participants (1 to 64) with `limit` proposals each (1 to 1,000,000) and a pool of
-    /// `size` numbers (1 to 64) at the start; with room for what so many lines ask to be kept. An error where a growth was
-    /// refused.
-    pub fn new(
-        alloc: Global,
-        most: u64,
-        limit: u64,
-        size: u64,
-        grows: bool,
-        lines: usize,
-    ) -> Result<Checker, AllocError>
-        ensures { IfOk result (λ c. HasTakenNone most limit size grows c) }
+    /// No line was taken yet, of a record with this config; with room for what so many lines ask to be kept. An error where a
+    /// growth was refused.
+    pub fn new(alloc: Global, config: Config, lines: usize) -> Result<Checker, AllocError>
+        ensures { IfOk result (HasTaken (terms_of config) config.k []) }
     {
         Ok(Checker {
-            names: Names::new(alloc, most, limit, lines)?,
-            stays: Stays::new(alloc, size)?,
-            grows,
+            names: Names::new(alloc, config.m, config.limit, lines)?,
+            stays: Stays::new(alloc, config.k)?,
+            grows: config.world.is_tree(),
         })
     }
 

@@ -24,9 +24,7 @@ pub fn first_fault(
     // None is found exactly where the lines are those of a run.
     ensures none { IfOk result (λ r. (r ≡ None) ↔ AreLinesOfRun (terms_of config) config.k lines.now) }
 {
-    let grows = config.world.is_tree();
-    let room = lines.len();
-    let mut checker = Checker::new(alloc, config.m, config.limit, config.k, grows, room)?;
+    let mut checker = Checker::new(alloc, config, lines.len())?;
     for (i, line) in lines.iter().enumerate() {
         if let Some(reason) = checker.judge(line)? {
             return Ok(Some((i, reason)));

@@ -29,9 +29,7 @@ fn migrated_rows(
         (IsOther (IsSaidOfRows header (lines_left (option_copied rows.entry))))) }
 {
     let config = header.config;
-    let grows = config.world.is_tree();
-    let room = room_for(rows);
-    let mut checker = Checker::new(alloc, config.m, config.limit, config.k, grows, room)?;
+    let mut checker = Checker::new(alloc, config, room_for(rows))?;
     let mut migration = Migration::new(alloc, config)?;
     let mut number: u64 = 2;
     let mut left = rows;

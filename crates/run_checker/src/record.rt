@@ -44,9 +44,7 @@ fn judge_rows(alloc: Global, header: Header, rows: Option<&[u8]>) -> Result<Verd
     ensures { IfOk result (IsSaidOfRows header (lines_left (option_copied rows.entry))) }
 {
     let config = header.config;
-    let grows = config.world.is_tree();
-    let room = room_for(rows);
-    let mut checker = Checker::new(alloc, config.m, config.limit, config.k, grows, room)?;
+    let mut checker = Checker::new(alloc, config, room_for(rows))?;
     let mut number: u64 = 2;
     let mut left = rows;
     while let Some(bytes) = left {

@@ -4,14 +4,11 @@ use Rattle.run_checker.specs.declared.line.Line.{Line}
 use Rattle.run_checker.specs.declared.reason.Reason.{Reason}
 use Rattle.run_checker.specs.Config.{terms_of}
 use Rattle.run_checker.specs.Judged.{HasTaken, IsFaultAfter, TakesOn}
-use Rattle.rename_core.proofs.MostIn.{few_take_part}
 use Rattle.run_checker.proofs.records.Runs.{follows_run, first_at, not_run}
 use Rattle.run_checker.proofs.lines.first_fault.Goals as goal
 
 pub loop-i-init : goal.loop-i-init
-loop-i-init c =
-    let r = c.args.config.in_range in
-    c.in_ok-checker.ensures (terms_of c.args.config) (λ i. record { most = c.args.config.m; limit = c.args.config.limit; grows = sym c.is_tree-grows.ensures i }) (few_take_part c.args.config) r.4 r.5 r.2 r.3
+loop-i-init c = c.in_ok-checker.ensures
 
 few_taken : (lines : List Line) (i : ℕ) → i < length lines → length lines < 1000001 → length (take i lines) < 2 ^ 62
 few_taken lines i l few = let e = length-take-le i lines (omega arith) in omega arith

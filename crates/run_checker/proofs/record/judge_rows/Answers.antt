@@ -1,28 +1,23 @@
-use Rattle.std.proofs.Common.{◌≡◌, ℕ, List, [], ◌∷◌, Option, Some, MatchOption, refl, sym, ap, ◌∙◌, subst, arith}
+use Rattle.std.proofs.Common.{◌≡◌, ℕ, List, [], ◌∷◌, Option, Some, MatchOption, refl, ap, ◌∙◌, subst, arith}
 use Rattle.std.specs.Option.{option_copied}
 use Rattle.run_checker.specs.declared.line.Line.{Line}
-use Rattle.run_checker.specs.Config.{terms_of}
 use Rattle.run_checker.specs.RecordLine.{IsEventLine}
 use Rattle.run_checker.specs.Verdict.{lines_left}
-use Rattle.rename_core.proofs.MostIn.{few_take_part}
 use Rattle.run_checker.proofs.records.Rows.{RowsSoFar, all_rows, bad_row, row_here, line_read, row_at_fault, row_taken}
 use Rattle.run_checker.proofs.record.judge_rows.Goals.{in-Some+in_default-next_line, in_default}
 use Rattle.run_checker.proofs.record.judge_rows.Goals as goal
 
 pub loop-left-init : goal.loop-left-init
-loop-left-init c =
-    let config = c.args.header.config in
-    let r = config.in_range in
-    record {
-      before = [];
-      lines = [];
-      is = refl;
-      read = tt;
-      many = refl;
-      few = omega arith;
-      taken = c.in_ok-checker.ensures (terms_of config) (λ i. record { most = config.m; limit = config.limit; grows = sym c.is_tree-grows.ensures i }) (few_take_part config) r.4 r.5 r.2 r.3;
-      at = refl;
-    }
+loop-left-init c = record {
+  before = [];
+  lines = [];
+  is = refl;
+  read = tt;
+  many = refl;
+  few = omega arith;
+  taken = c.in_ok-checker.ensures;
+  at = refl;
+}
 
 pub returns-then-number-ge-LINES_END : goal.returns-then-number-ge-LINES_END
 returns-then-number-ge-LINES_END c =

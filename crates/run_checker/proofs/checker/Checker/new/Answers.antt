@@ -1,15 +1,20 @@
-use Rattle.std.proofs.Common.{ap, refl, sym, arith}
+use Rattle.std.proofs.Common.{refl, arith}
+use Rattle.rename_core.proofs.MostIn.{few_take_part}
+use Rattle.run_checker.specs.Config.{terms_of}
 use Rattle.run_checker.specs.ObjectRun.{fresh_desk_object}
 use Rattle.run_checker.proofs.checker.Checker.new.Goals as goal
 
 pub returns : goal.returns
-returns c = λ terms e most low high small size. record {
-  object = fresh_desk_object c.args.size;
-  run = refl;
-  held = record {
-    names = c.in_ok-new.ensures terms (ap (λ t. t.most) e) (ap (λ t. t.limit) e) most low high;
-    slots = c.in_ok-new-2.ensures small size;
-    grows_is = sym (ap (λ t. t.grows) e);
-  };
-  few = omega arith;
-}
+returns c =
+    let config = c.args.config in
+    let r = config.in_range in
+    record {
+      object = fresh_desk_object config.k;
+      run = refl;
+      held = record {
+        names = c.in_ok-new.ensures (terms_of config) refl refl (few_take_part config) r.4 r.5;
+        slots = c.in_ok-new-2.ensures r.2 r.3;
+        grows_is = c.is_tree.ensures;
+      };
+      few = omega arith;
+    }
