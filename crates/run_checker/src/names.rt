@@ -32,20 +32,14 @@ pub struct Names {
 fn is_place(held: Option<Place>, place: Place) -> bool
     ensures { result ≡ is_held place held }
 {
-    match held {
-        Some(other) => other == place,
-        None => false,
-    }
+    held == Some(place)
 }
 
 /// Whether what may be held is this number.
 pub fn is_number(held: Option<u64>, number: u64) -> bool
     ensures { result ≡ is_held number held }
 {
-    match held {
-        Some(other) => other == number,
-        None => false,
-    }
+    held == Some(number)
 }
 
 /// Whether someone has this place.
