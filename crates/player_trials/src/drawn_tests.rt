@@ -8,8 +8,9 @@ use itoa::Buffer;
 use rename_core::{Config, WorldKind};
 use schedule_player::{Fault, Tried};
 use std::alloc::Global;
+use std::process::Abort;
 use std::test::Fail;
-use test_doubles::Refusing;
+use test_doubles::{Cup, Refusing};
 
 #[test]
 fn one_identity_takes_every_step(rt: HostRuntime) -> Result<(), Fail> {
@@ -136,6 +137,55 @@ fn each_run_is_that_of_its_seed(rt: HostRuntime) -> Result<(), Fail> {
     }
     let all = lines(rt.alloc(), 0, 4, 200, 100, config)?;
     assert_eq!(rt; all.as_slice(), want.as_slice());
+    Ok(())
+}
+
+/// How many bytes a writer below takes a write.
+const PIECE: usize = 3;
+
+/// Compares what was written by a writer that failed at this write: all that it took before.
+fn is_cut_before(rt: &impl Abort, outcome: Result<(), Fault>, taken: &[u8], all: &[u8], at: u64) {
+    let before = (at as usize).saturating_sub(1).saturating_mul(PIECE);
+    let is_cut = all.starts_with(taken) && taken.len() == before;
+    assert!(rt; outcome == Err(Fault::Write) && is_cut, "at {at}");
+}
+
+/// How many writes a text takes.
+fn writes_of(text: &[u8]) -> u64 {
+    text.len().div_ceil(PIECE) as u64
+}
+
+/// Each write of a schedule fails in turn, by an error and by taking nothing.
+#[test]
+fn each_write_of_a_schedule_fails_once(rt: HostRuntime) {
+    let alloc = rt.alloc();
+    let mut writer = Tried::new(Vec::new(alloc));
+    assert!(rt; draw(alloc, 7, 4, 200, &mut writer).is_ok());
+    let all = writer.into_inner();
+    for at in 1..=writes_of(&all) {
+        for takes_nothing in [false, true] {
+            let mut writer = Tried::new(Cup::new(alloc, PIECE, at, takes_nothing));
+            let outcome = draw(alloc, 7, 4, 200, &mut writer);
+            is_cut_before(&rt, outcome, &writer.into_inner().taken, &all, at);
+        }
+    }
+}
+
+/// Each write of drawn runs fails in turn, by an error and by taking nothing.
+#[test]
+fn each_write_of_drawn_runs_fails_once(rt: HostRuntime) -> Result<(), Fail> {
+    let alloc = rt.alloc();
+    for world in [WorldKind::Rename, WorldKind::Tree] {
+        let config = Config::new(world, 4, 4, 1000)?;
+        let all = lines(alloc, 7, 4, 200, 3, config)?;
+        for at in 1..=writes_of(&all) {
+            for takes_nothing in [false, true] {
+                let mut writer = Tried::new(Cup::new(alloc, PIECE, at, takes_nothing));
+                let outcome = play_drawn(alloc, 7, 4, 200, 3, config, &mut writer);
+                is_cut_before(&rt, outcome, &writer.into_inner().taken, &all, at);
+            }
+        }
+    }
     Ok(())
 }
 
