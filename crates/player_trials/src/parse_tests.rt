@@ -1,5 +1,6 @@
 //! What lines mean.
 
+use crate::playing_tests::WORLDS;
 use desk::Event;
 use schedule_player::{Bad, Command, WorldKind, parse_line};
 
@@ -37,12 +38,7 @@ fn lines_have_their_meanings(rt: HostRuntime) {
         (b"quit\x7f", Err(Bad::NotPrintable)),
         (b"quit\x1f", Err(Bad::NotPrintable)),
     ] {
-        for world in [
-            WorldKind::Splitter,
-            WorldKind::Grid,
-            WorldKind::Rename,
-            WorldKind::Tree,
-        ] {
+        for world in WORLDS {
             assert_eq!(rt; parse_line(line, world), want, "at {line:?}");
         }
     }

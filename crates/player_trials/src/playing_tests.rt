@@ -68,9 +68,23 @@ const LINES: &[u8] =
 const LINES_TEXT: &[u8] =
     b"bad 3\nbad 3\nbad 1\nbad 4\nbad 5\nbad 3\nbad 4\nbad 5\nbad 2\nrefused 4\n";
 
-/// Inputs and the texts that they are answered by, with two participants.
-const INPUTS: [(&[u8], &[u8]); 6] = [
+/// The worlds that are played.
+pub(crate) const WORLDS: [WorldKind; 4] = [
+    WorldKind::Splitter,
+    WorldKind::Grid,
+    WorldKind::Rename,
+    WorldKind::Tree,
+];
+
+/// Inputs, and the texts that they are answered by in every world for two participants.
+const INPUTS: [(&[u8], &[u8]); 3] = [
     (b"", b""),
+    (b"begin 7\nquit\nbegin 8", b"ok\nok\n"),
+    (LINES, LINES_TEXT),
+];
+
+/// Inputs of a splitter for two participants, and the texts that they are answered by.
+const VISITS: [(&[u8], &[u8]); 3] = [
     (
         b"begin 10\nstep 10\nstep 10\nstep 10\nstep 10\nbegin 20\nstep 20\nstep 20\nstep 20\n",
         b"ok\nquiet\nquiet\nquiet\nstop\nok\nquiet\nright\nrefused 5\n",
@@ -83,8 +97,6 @@ const INPUTS: [(&[u8], &[u8]); 6] = [
         b"enter 5\nstep 9\nbegin 0\nbegin 9\nquit\nbegin 8\n",
         b"bad 3\nrefused 4\nrefused 1\nok\nok\n",
     ),
-    (b"begin 7\nquit\nbegin 8", b"ok\nok\n"),
-    (LINES, LINES_TEXT),
 ];
 
 /// Plays an input that is read and written in pieces of so many bytes, and compares what is written.
@@ -111,8 +123,18 @@ pub(crate) fn is_played(rt: &impl Abort, alloc: Global, config: Config, row: (&[
 
 #[test]
 fn the_text_is_the_same_however_the_bytes_are_cut(rt: HostRuntime) {
+    for world in WORLDS {
+        let config = config(&rt, world, 2);
+        for row in INPUTS {
+            is_played(&rt, rt.alloc(), config, row);
+        }
+    }
+}
+
+#[test]
+fn visits_of_a_splitter_end_by_a_way(rt: HostRuntime) {
     let config = config(&rt, WorldKind::Splitter, 2);
-    for row in INPUTS {
+    for row in VISITS {
         is_played(&rt, rt.alloc(), config, row);
     }
 }
@@ -136,17 +158,17 @@ fn counted(rt: &impl Abort, alloc: Global, config: Config, input: &[u8]) -> [u64
 
 #[test]
 fn the_summary_counts_each_line(rt: HostRuntime) {
-    let config = config(&rt, WorldKind::Splitter, 2);
-    let counts = [
-        [0, 0, 0, 0],
-        [9, 8, 1, 0],
-        [10, 10, 0, 0],
-        [5, 2, 2, 1],
-        [2, 2, 0, 0],
-        [10, 0, 1, 9],
-    ];
-    for ((input, _), counts) in INPUTS.into_iter().zip(counts) {
-        assert_eq!(rt; counted(&rt, rt.alloc(), config, input), counts);
+    let counts = [[0, 0, 0, 0], [2, 2, 0, 0], [10, 0, 1, 9]];
+    for world in WORLDS {
+        let config = config(&rt, world, 2);
+        for ((input, _), counts) in INPUTS.into_iter().zip(counts) {
+            assert_eq!(rt; counted(&rt, rt.alloc(), config, input), counts);
+        }
+    }
+    let splitter = config(&rt, WorldKind::Splitter, 2);
+    let counts = [[9, 8, 1, 0], [10, 10, 0, 0], [5, 2, 2, 1]];
+    for ((input, _), counts) in VISITS.into_iter().zip(counts) {
+        assert_eq!(rt; counted(&rt, rt.alloc(), splitter, input), counts);
     }
 }
 
@@ -202,7 +224,7 @@ fn one_write_fails(
     assert!(rt; p.outcome.err() == Some(Fault::Write) && is_part, "at {at}");
 }
 
-/// Each read of a run fails in turn, and each write, by an error and by taking nothing.
+/// A run without a fault writes the whole text; each read of it fails in turn, and each write, by an error and by taking nothing.
 fn calls_fail_in_turn(rt: &impl Abort, alloc: Global, config: Config, row: (&[u8], &[u8])) {
     let whole = run_of(
         config,
@@ -210,6 +232,7 @@ fn calls_fail_in_turn(rt: &impl Abort, alloc: Global, config: Config, row: (&[u8
         Drip::new(row.0, 4, 0),
         Cup::new(alloc, 3, 0, false),
     );
+    assert!(rt; whole.outcome.is_ok() && whole.text.as_slice() == row.1);
     let (reads, writes) = (whole.reads, whole.writes);
     for at in 1..=reads {
         one_read_fails(rt, alloc, config, row, at);
@@ -220,30 +243,59 @@ fn calls_fail_in_turn(rt: &impl Abort, alloc: Global, config: Config, row: (&[u8
     }
 }
 
-/// In a splitter each row, and in a world of names the row of bad lines and the one in which the name 2b - 1 is reached.
+/// In each world the rows that it answers as every other does, in a splitter its visits too, and in a world of names the row in
+/// which the name 2b - 1 is reached.
 #[test]
 fn each_read_and_each_write_fails_once(rt: HostRuntime) {
     let alloc = rt.alloc();
+    for world in WORLDS {
+        let config = config(&rt, world, 2);
+        for row in INPUTS {
+            calls_fail_in_turn(&rt, alloc, config, row);
+        }
+    }
     let splitter = config(&rt, WorldKind::Splitter, 2);
-    for row in INPUTS {
+    for row in VISITS {
         calls_fail_in_turn(&rt, alloc, splitter, row);
     }
     let rename = config(&rt, WorldKind::Rename, 2);
-    calls_fail_in_turn(&rt, alloc, rename, (LINES, LINES_TEXT));
     let asked = spelled(&rt, alloc, ROWS[2].asked);
     let said = spelled(&rt, alloc, ROWS[2].said);
     calls_fail_in_turn(&rt, alloc, rename, (&asked, &said));
 }
 
+/// One begins and takes a step, over a reader that fails at this read and a writer that fails at this byte: in each world the
+/// run ends with this fault, after this text.
+fn step_is_cut(
+    rt: &impl Abort,
+    alloc: Global,
+    (read, byte): (u64, u64),
+    fault: Option<Fault>,
+    text: &[u8],
+) {
+    for world in WORLDS {
+        let p = run_of(
+            config(rt, world, 2),
+            alloc,
+            Drip::new(b"begin 7\nstep 7", 64, read),
+            Cup::new(alloc, 1, byte, false),
+        );
+        let is_written = p.text.as_slice() == text;
+        assert!(rt; p.outcome.err() == fault && is_written, "in {world:?}");
+    }
+}
+
+/// A line that the end of the input ends is run, and one that a fault cuts is not.
 #[test]
 fn a_line_that_a_read_fault_cuts_is_not_run(rt: HostRuntime) {
-    let p = run_of(
-        config(&rt, WorldKind::Splitter, 2),
-        rt.alloc(),
-        Drip::new(b"begin 7\nstep 7", 64, 2),
-        Cup::new(rt.alloc(), 64, 0, false),
-    );
-    assert!(rt; p.outcome.err() == Some(Fault::Read) && p.text.as_slice() == b"ok\n".as_slice());
+    step_is_cut(&rt, rt.alloc(), (0, 0), None, b"ok\nquiet\n");
+    step_is_cut(&rt, rt.alloc(), (2, 0), Some(Fault::Read), b"ok\n");
+}
+
+#[test]
+fn a_reply_that_a_write_fault_cuts_is_a_beginning(rt: HostRuntime) {
+    step_is_cut(&rt, rt.alloc(), (0, 4), Some(Fault::Write), b"ok\n");
+    step_is_cut(&rt, rt.alloc(), (0, 8), Some(Fault::Write), b"ok\nquie");
 }
 
 /// Plays an input byte by byte, and compares what is written. How many growths it leaves of as many as there may be.
