@@ -162,8 +162,8 @@ fn put_run<A: Allocator>(run: u64, tally: Tally, held: &mut Replies<A>)
 /// desk of this config, and writes a line for each: `run J begun B named N spent S`, with how many have begun, were named and
 /// were spent. The memory of a run is given back before the next.
 ///
-/// `Fault::Memory` where memory was refused, `Fault::Write` where the writer failed or took nothing: then a beginning of the
-/// lines of the runs so far is written.
+/// `Fault::Memory` where memory was refused and no write failed, `Fault::Write` where the writer failed or took nothing: then a
+/// beginning of the lines of the runs so far is written.
 pub fn play_drawn<A: Allocator + Clone, W: Sink>(
     alloc: A,
     seed: u64,
@@ -182,6 +182,7 @@ pub fn play_drawn<A: Allocator + Clone, W: Sink>(
     ensures part { OnErr result (HasDrawnPart config seed ids n runs (W.contents writer.old) (W.contents writer.new)) }
     ensures only { IfErr result (λ fault. (fault ≡ Fault.Write) ⊎ (fault ≡ Fault.Memory)) }
     ensures failed { result ≡ Err Fault.Write → W.failed writer.old < W.failed writer.new }
+    ensures memory { result ≡ Err Fault.Memory → W.failed writer.new ≡ W.failed writer.old }
     ensures unfailed { OnOk result (W.failed writer.new ≡ W.failed writer.old) }
 {
     let Ok(other) = alloc.clone() else {
