@@ -497,20 +497,29 @@ fn renamed<L: Ledger, R: Wait>(
     }
 }
 
-/// The sessions of as many threads, of which none is refused.
-fn all_renamed<L: Ledger + Send + Sync, R: Abort + Threads + Wait + Sync>(
+/// The sessions of as many threads.
+fn all_renamed<L: Ledger + Send + Sync, R: Threads + Wait + Sync>(
     rt: &R,
-    alloc: Global,
     lock: &HallLock<L>,
     sessions: Vec<Session<L>>,
+) -> Option<Vec<Option<Session<L>>>> {
+    thread::map_vec(rt, sessions, &|session| renamed(rt, lock, session)).ok()
+}
+
+/// The sessions of threads of which none was refused.
+fn not_refused<L: Ledger>(
+    rt: &impl Abort,
+    alloc: Global,
+    answers: Vec<Option<Session<L>>>,
 ) -> Vec<Session<L>> {
-    let answers = thread::map_vec(rt, sessions, &|session| renamed(rt, lock, session)).ok();
-    let mut answers = answers.expect(rt, "room for what threads answer");
-    let mut named = Vec::new(alloc);
-    while let Some(answer) = answers.pop() {
-        named = with(rt, named, answer.expect(rt, "a name or none"));
+    let mut answers = answers;
+    let mut sessions = Vec::new(alloc);
+    for _ in 0..answers.len() {
+        if let Some(answer) = answers.pop() {
+            sessions = with(rt, sessions, answer.expect(rt, "a name or none"));
+        }
     }
-    named
+    sessions
 }
 
 /// Whether each of these has a name of its own, from 1 to 7, or none.
@@ -550,7 +559,8 @@ fn four_threads<L: Ledger + Send + Sync, R: Abort + Threads + Wait + Sync>(
     for id in 1..=4u64 {
         sessions = with(rt, sessions, begins(rt, alloc, &lock, id));
     }
-    let sessions = all_renamed(rt, alloc, &lock, sessions);
+    let answers = all_renamed(rt, &lock, sessions).expect(rt, "room for what threads answer");
+    let sessions = not_refused(rt, alloc, answers);
     let apart = names_apart(&sessions);
     let kept = kept_by(&sessions);
     let closed = closed(rt, lock, sessions, Vec::new(alloc));

@@ -10,7 +10,8 @@
 //! above the places before. What is proved: the reply is one that some hall of a lawful history gives, at least as long as what
 //! the caller had kept (`HallLock::{apply, act, step, session}`); `rename` adds at most its turns, and exactly its turns where
 //! they are used up; `close` gives a history of the config that the lock was made for, each place of which was kept by just one
-//! caller, with the event and the reply that stand there, or hands all back. So the accepted replies that the callers got are one run, each once, in each caller's order.
+//! caller, with the event and the reply that stand there, or hands all back. So the accepted replies that the callers got are one
+//! run, each once, in each caller's order.
 //!
 //! Not promised: that a lock is got, an order between threads, an end; nor that a refusal, or an owner that is told, is of this
 //! very hall.
