@@ -109,10 +109,6 @@ pub plays_on : (this one that : List Event) (w mid u : DeskValue) (t s t' : Tall
 plays_on this one that w mid u t s t' a b = λ config done all rest played is.
     (let first = a config done all rest played is in b config first.0 all (that ++ rest) first.1 (ap (λ l. first.0 ++ l) (sym (append_assoc one that rest)) ∙ first.2))
 
--- before any of them
-pub plays_first : (this : List Event) (w : DeskValue) (t : Tally) → PlaysFrom this w t this w t
-plays_first this w t = λ config done all rest played is. (done, played, is)
-
 -- the next who begins
 pub begins_next : (ids b : ℕ) → b < ids → begins_from (b + 1) (ids - b) ≡ event.Begin (b + 1) ∷ begins_from (b + 1 + 1) (ids - (b + 1))
 begins_next ids b lt = let left : ids - b ≡ suc (ids - (b + 1)) = omega arith in rw left refl

@@ -15,16 +15,10 @@ event_lines-append (e ∷ events) more = ap (λ l. (event_words e ++ 10 ∷ []) 
 pub begins_more : (ids b : ℕ) → b < ids → event_lines (begins_from (b + 1) (ids - b)) ≡ (event_words (event.Begin (b + 1)) ++ 10 ∷ []) ++ event_lines (begins_from (b + 1 + 1) (ids - (b + 1)))
 begins_more ids b lt = let left : ids - b ≡ suc (ids - (b + 1)) = omega arith in rw left refl
 
-pub begins_over : (ids b : ℕ) → ids - b ≡ 0 → event_lines (begins_from (b + 1) (ids - b)) ≡ []
-begins_over ids b none = rw none refl
-
 -- the next step
 pub steps_more : (ids n k : ℕ) (g : Lcg) → k < n →
     event_lines (steps_drawn ids (n - k) g) ≡ (event_words (event.Step (1 + (pcg32 g).0 % ids)) ++ 10 ∷ []) ++ event_lines (steps_drawn ids (n - (k + 1)) (pcg32 g).1)
 steps_more ids n k g lt = let left : n - k ≡ suc (n - (k + 1)) = omega arith in rw left refl
-
-pub steps_over : (ids n k : ℕ) (g : Lcg) → n - k ≡ 0 → event_lines (steps_drawn ids (n - k) g) ≡ []
-steps_over ids n k g none = rw none refl
 
 -- the text of a schedule
 pub schedule_lines : (seed ids n : ℕ) → event_lines (schedule seed ids n) ≡ event_lines (begins_from 1 ids) ++ event_lines (steps_drawn ids n (opened seed))

@@ -15,6 +15,9 @@ use rand_pcg::Lcg64Xsh32;
 use schedule_player::{EVENT_ROOM, Fault, Replies, Sink, print_event};
 use std::alloc::Allocator;
 
+/// The line of no event has more bytes.
+const LINE_ROOM: usize = EVENT_ROOM + 1;
+
 /// The generator of a seed.
 pub(crate) fn generator(seed: u64) -> Lcg64Xsh32
     ensures { result ≡ opened seed }
@@ -45,9 +48,9 @@ fn put_line<A: Allocator, W: Sink>(
     ensures only { IfErr result (λ fault. fault ≡ Fault.Write) }
     ensures failed { OnErr result (W.failed writer.old < W.failed writer.new) }
     ensures unfailed { OnOk result (W.failed writer.new ≡ W.failed writer.old) }
-    ensures calls { OnOk result (W.calls writer.new + length held.new ≤ W.calls writer.old + length held.old + 46) }
+    ensures calls { OnOk result (W.calls writer.new + length held.new ≤ W.calls writer.old + length held.old + LINE_ROOM) }
 {
-    held.make_room(EVENT_ROOM + 1, writer)?;
+    held.make_room(LINE_ROOM, writer)?;
     print_event(event, held);
     held.put(b"\n");
     Ok(())
@@ -60,13 +63,13 @@ fn draw_begins<A: Allocator, W: Sink>(
     writer: &mut W,
 ) -> Result<(), Fault>
     requires few { ids ≤ 64 }
-    requires calls { W.calls writer.old + length held.old + 46 * ids ≤ 2 ^ 100 }
+    requires calls { W.calls writer.old + length held.old + LINE_ROOM * ids ≤ 2 ^ 100 }
     ensures on { OnOk result (GoesPast (event_lines (begins_from 1 ids)) (W.contents writer.old) held.old (W.contents writer.new) held.new) }
     ensures within { OnErr result (StopsWithin (event_lines (begins_from 1 ids)) (W.contents writer.old) held.old (W.contents writer.new)) }
     ensures only { IfErr result (λ fault. fault ≡ Fault.Write) }
     ensures failed { OnErr result (W.failed writer.old < W.failed writer.new) }
     ensures unfailed { OnOk result (W.failed writer.new ≡ W.failed writer.old) }
-    ensures calls { OnOk result (W.calls writer.new + length held.new ≤ W.calls writer.old + length held.old + 46 * ids) }
+    ensures calls { OnOk result (W.calls writer.new + length held.new ≤ W.calls writer.old + length held.old + LINE_ROOM * ids) }
 {
     for before in 0..ids {
         put_line(Event::Begin(before + 1), held, writer)?;
@@ -84,13 +87,13 @@ fn draw_steps<A: Allocator, W: Sink>(
 ) -> Result<(), Fault>
     requires some { 1 ≤ ids }
     requires few { ids ≤ 64 }
-    requires calls { W.calls writer.old + length held.old + 46 * n ≤ 2 ^ 100 }
+    requires calls { W.calls writer.old + length held.old + LINE_ROOM * n ≤ 2 ^ 100 }
     ensures on { OnOk result (GoesPast (event_lines (steps_drawn ids n words)) (W.contents writer.old) held.old (W.contents writer.new) held.new) }
     ensures within { OnErr result (StopsWithin (event_lines (steps_drawn ids n words)) (W.contents writer.old) held.old (W.contents writer.new)) }
     ensures only { IfErr result (λ fault. fault ≡ Fault.Write) }
     ensures failed { OnErr result (W.failed writer.old < W.failed writer.new) }
     ensures unfailed { OnOk result (W.failed writer.new ≡ W.failed writer.old) }
-    ensures calls { OnOk result (W.calls writer.new + length held.new ≤ W.calls writer.old + length held.old + 46 * n) }
+    ensures calls { OnOk result (W.calls writer.new + length held.new ≤ W.calls writer.old + length held.old + LINE_ROOM * n) }
 {
     let mut words = words;
     for _done in 0..n {

@@ -1,6 +1,6 @@
 //! The numbers of a run.
 
-ghost use Rattle.std.specs.Prelude.{◌≡◌, ℕ, ◌+◌, ◌<◌, ◌≤◌, ◌^◌, List, []};
+ghost use Rattle.std.specs.Prelude.{◌≡◌, ℕ, ◌+◌, ◌<◌, ◌^◌, List, []};
 ghost use Rattle.desk.specs.Names.{begun_more};
 ghost use Rattle.desk.specs.Replies.{with_view};
 ghost use Rattle.drawn_schedules.specs.Tally.{IsTallyOf, is_named, is_spent, one_more_if};
