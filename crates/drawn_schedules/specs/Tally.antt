@@ -6,41 +6,14 @@ use Rattle.desk.specs.declared.reply.Reply.TheVariants as reply
 use Rattle.desk.specs.Names.{begun_in}
 use Rattle.drawn_schedules.specs.declared.tally.Tally.{Tally}
 
+-- whether a name is given, and whether someone has used up the rounds
 abbrev pub is_named : Reply → Bool
-is_named reply.Ok = false
-is_named reply.Quiet = false
-is_named reply.Stop = false
-is_named reply.Right = false
-is_named reply.Down = false
-is_named (reply.Place place) = false
-is_named (reply.Proposed number) = false
-is_named (reply.Saw view) = false
 is_named (reply.Named name view) = true
-is_named reply.Spent = false
-is_named reply.Missed = false
-is_named (reply.Got number) = false
-is_named (reply.Left number) = false
-is_named (reply.Value value) = false
-is_named (reply.Owner owner) = false
-is_named (reply.Refused why) = false
+is_named r = false
 
 abbrev pub is_spent : Reply → Bool
-is_spent reply.Ok = false
-is_spent reply.Quiet = false
-is_spent reply.Stop = false
-is_spent reply.Right = false
-is_spent reply.Down = false
-is_spent (reply.Place place) = false
-is_spent (reply.Proposed number) = false
-is_spent (reply.Saw view) = false
-is_spent (reply.Named name view) = false
 is_spent reply.Spent = true
-is_spent reply.Missed = false
-is_spent (reply.Got number) = false
-is_spent (reply.Left number) = false
-is_spent (reply.Value value) = false
-is_spent (reply.Owner owner) = false
-is_spent (reply.Refused why) = false
+is_spent r = false
 
 -- one more, where this is so
 abbrev pub one_more_if : Bool → ℕ → ℕ
