@@ -111,11 +111,6 @@ count-none f (c ∷ cs) apart none =
     ]) in
     rw head (omega (arith, rest))
 
--- fewer pass a harder test
-pub count-less : (f g : Competitor → Bool) → ((c : Competitor) → one (f c) ≤ one (g c)) → (cs : List Competitor) → count f cs ≤ count g cs
-count-less f g less [] = omega arith
-count-less f g less (c ∷ cs) = omega (arith, less c, count-less f g less cs)
-
 pub count-length : (f : Competitor → Bool) (cs : List Competitor) → count f cs ≤ length cs
 count-length f [] = omega arith
 count-length f (c ∷ cs) = let i = count-length f cs in elim (f c) as (λ b. one b + count f cs ≤ suc (length cs)) [ true ↦ omega arith | false ↦ omega arith ]

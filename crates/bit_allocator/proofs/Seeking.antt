@@ -12,9 +12,6 @@ pub record Missed (size : ℕ) (first : Registers (Unit {0})) (bit : ℕ) (now :
   pub onward : (bit < size) ⊎ (size ≤ bit) × (bit ≡ 1) → (n : ℕ) (new : Registers (Unit {0})) → Gets size bit now n new → Gets size 1 first n new
   pub past : size ≤ bit → 1 < bit → Gets size 1 first size now
 
-pub missed_none : (size : ℕ) (first : Registers (Unit {0})) → Missed size first 1 first
-missed_none size first = record { onward = λ h n new gets. gets; past = λ h more. absurd (omega arith) }
-
 module _ (size : ℕ) (first : Registers (Unit {0})) (bit : ℕ) (now : Registers (Unit {0})) (m : Missed size first bit now) where
   -- where the bit is clear the probe gets its number
   pub got_bit : bit < size → get_or now.bits bit false ≡ false → Gets size 1 first bit (after_access now (TestAndSet bit))

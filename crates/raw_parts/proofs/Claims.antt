@@ -1,5 +1,5 @@
 -- each step of a name board keeps its rule
-use Rattle.std.proofs.Common.{◌≡◌, ◌≢◌, ℕ, zero, suc, ◌+◌, ◌<◌, ◌⊎◌, inl, inr, ⊎_elim, cond, eqb, eq-eqb, ne_eqb, ◌||◌, subst, sym, refl, ap, ◌∙◌, arith, List, [], ◌∷◌, ◌++◌, length, set, slice_set, slice_index}
+use Rattle.std.proofs.Common.{◌≡◌, ◌≢◌, ℕ, zero, suc, ◌+◌, ◌<◌, ⊎_elim, cond, eqb, eq-eqb, ne_eqb, ◌||◌, subst, sym, refl, ap, ◌∙◌, arith, List, [], ◌∷◌, ◌++◌, length, set, slice_set, slice_index}
 use Rattle.std.proofs.lemmas.List.{set-get_or, length-set}
 use mathlib.Core.Option.{some, none, some-ne-none, some-injective}
 use mathlib.Core.Logic.{dite}
@@ -110,15 +110,6 @@ granted_is_so count words views c kept has = is_so words c has.view.claims (kept
 pub granted_one : (count : ℕ) (words : List ℕ) (views : List BoardView) (c d : Claim) → KeepsBoard count words views → IsGranted views c → IsGranted views d → c.word ≡ d.word → c.identity ≡ d.identity
 granted_one count words views c d kept has others same =
     some-injective c.identity d.identity (sym (granted_is_so count words views c kept has).0 ∙ ap (λ (k : ℕ). get_elem? words k) same ∙ (granted_is_so count words views d kept others).0)
-
--- two claims of one word are of one identity
-pub one_identity : (w a z b : ℕ) (words : List ℕ) → AreSo words (claim w a ∷ claim z b ∷ []) → w ≡ z → a ≡ b
-one_identity w a z b words h e = some-injective a b (sym h.0.0 ∙ ap (λ (k : ℕ). get_elem? words k) e ∙ h.1.0.0)
-
--- where the word was 0 or held the identity, the seat has the claim
-pub gained : (found word who : ℕ) (cs : List Claim) → (found ≡ 0) ⊎ (found ≡ who) → cond (eqb found 0 || eqb found who) (claims_of (claim word who ∷ cs)) (claims_of cs) ≡ claims_of (claim word who ∷ cs)
-gained found word who cs (inl e) = let a = eq-eqb found 0 e in rw a refl
-gained found word who cs (inr e) = dite (ℕ_discrete found 0) (λ z. let a = eq-eqb found 0 z in rw a refl) (λ z. let a = ne_eqb found 0 z in let b = eq-eqb found who e in rw (a, b) refl)
 
 before : (l m : List ℕ) (k : ℕ) → k < length l → get_elem? (l ++ m) k ≡ get_elem? l k
 before [] m k h = absurd (omega arith)

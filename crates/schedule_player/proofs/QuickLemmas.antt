@@ -1,10 +1,10 @@
 -- numbers and lines that are read in one pass
-use Rattle.std.proofs.Common.{◌≡◌, ℕ, zero, suc, ◌+◌, ◌-◌, ◌*◌, ◌^◌, ◌<◌, ◌≤◌, Bool, true, false, cond, not, eqb, List, [], ◌∷◌, ◌++◌, length, take, drop, get_or, subst, Some, None, Ok, refl, sym, ap, ◌∙◌, inl, inr, arith, append_assoc, length-append, add-one}
+use Rattle.std.proofs.Common.{◌≡◌, ℕ, zero, suc, ◌+◌, ◌-◌, ◌*◌, ◌^◌, ◌<◌, ◌≤◌, Bool, true, false, cond, not, eqb, List, [], ◌∷◌, ◌++◌, length, take, drop, get_or, subst, Some, None, Ok, refl, sym, ap, ◌∙◌, arith, append_assoc, length-append, add-one}
 use Rattle.std.specs.List.{list_all}
 use Rattle.std.specs.Prelude.{nat_lt}
 use Rattle.std.proofs.lemmas.List.{append-nil, take_more, take_all, length-take-le, length-drop}
 use Rattle.std.proofs.lemmas.List.Folds.{list_all-append}
-use Rattle.std.proofs.lemmas.Bool.Decides.{nat_tests, eqb_tells}
+use Rattle.std.proofs.lemmas.Bool.Decides.{nat_tests}
 use Rattle.std.proofs.Math.Nat.{pow-suc, pow-le-pow_right}
 use Rattle.rename_core.specs.declared.config.WorldKind.{WorldKind}
 use Rattle.schedule_player.specs.declared.command.Command.{Command}
@@ -13,7 +13,6 @@ use Rattle.schedule_player.specs.Quick.{IsNumberBefore, IsCommandBefore, is_of_w
 use Rattle.schedule_player.specs.Lines.{pieces_from}
 use Rattle.schedule_player.specs.Meaning.{meaning, words, command_of, number_in, is_digit, is_printable, decimal_from, if_fits}
 use Rattle.schedule_player.proofs.LineLemmas.{both, not_true}
-use Rattle.schedule_player.proofs.NumberLemmas.{if_fits-small}
 
 decimal_from-push : (n : ℕ) (xs : List ℕ) (x : ℕ) → decimal_from n (xs ++ x ∷ []) ≡ decimal_from n xs * 10 + (x - 48)
 decimal_from-push n [] x = refl
@@ -27,9 +26,6 @@ digit_range b d = (grind (arith, nat_tests), grind (arith, nat_tests))
 
 pub digit_in_range : (b : ℕ) → 48 ≤ b → b ≤ 57 → is_digit b ≡ true
 digit_in_range b low high = grind (arith, nat_tests)
-
-pub no_digits : (text : List ℕ) → DigitsSoFar text 0 0
-no_digits text = record { inside = omega arith; digits = refl; value_is = refl; small = omega arith }
 
 pub one_digit_more : (text : List ℕ) (value count new : ℕ) → DigitsSoFar text value count → count < length text → is_digit (get_or text count 0) ≡ true → new ≡ value * 10 + (get_or text count 0 - 48) → DigitsSoFar text new (count + 1)
 one_digit_more text value count new d lt digit is =
@@ -56,22 +52,6 @@ pub digit_at : (text : List ℕ) (i : ℕ) → list_all is_digit text ≡ true �
 digit_at [] i all lt = absurd (omega arith)
 digit_at (b ∷ bs) zero all lt = (both (is_digit b) (list_all is_digit bs) all).0
 digit_at (b ∷ bs) (suc i) all lt = digit_at bs i (both (is_digit b) (list_all is_digit bs) all).1 (omega arith)
-
-number_all : (b : ℕ) (bs : List ℕ) (value : ℕ) → list_all is_digit (b ∷ bs) ≡ true → value ≡ decimal_from 0 (b ∷ bs) → value < 2 ^ 64 → (b ≡ 48 → bs ≡ []) → number_in (b ∷ bs) ≡ Some value
-number_all b bs value digits is fits alone =
-    rw digits (elim (eqb_tells b 48) [
-      | inl e ↦ rw e.0 (
-          let none : bs ≡ [] = alone e.1 in
-          let zero_value : value ≡ 0 = is ∙ ap (λ l. decimal_from 0 (b ∷ l)) none ∙ omega (arith, e.1) in
-          rw (none, zero_value) refl)
-      | inr e ↦ rw e.0 (rw (← is) (if_fits-small value fits))
-    ])
-
-pub number_of_digits : (text : List ℕ) (value count : ℕ) → DigitsSoFar text value count → value < 2 ^ 64 → 0 < count → (get_or text 0 0 ≡ 48 → count ≡ 1) → number_in (take count text) ≡ Some value
-number_of_digits [] value count d fits some alone = absurd (let i = d.inside in omega arith)
-number_of_digits (b ∷ bs) value zero d fits some alone = absurd (omega arith)
-number_of_digits (b ∷ bs) value (suc n) d fits some alone =
-    number_all b (take n bs) value d.digits d.value_is fits (λ e. let one : n ≡ 0 = omega (arith, alone e) in rw one refl)
 
 -- a number is of digits
 number-digits : (word : List ℕ) (n : ℕ) → number_in word ≡ Some n → list_all is_digit word ≡ true

@@ -8,14 +8,6 @@ use Rattle.schedule_player.specs.Written.{HasPartOf}
 use Rattle.schedule_player.proofs.WrittenLemmas.{appends_more}
 
 module _ (text : List ℕ) (before : Option (List ℕ)) where
-  -- more of it is held
-  pub held_more : (now : Option (List ℕ)) (held more rest held' : List ℕ) → IsUnderWay text before now held (more ++ rest) → held' ≡ held ++ more → IsUnderWay text before now held' rest
-  held_more now held more rest held' way is = record {
-    written = way.written;
-    gained = way.gained;
-    whole = way.whole ∙ ap (λ l. way.written ++ l) (sym (append_assoc held more rest) ∙ ap (λ l. l ++ rest) (sym is));
-  }
-
   -- what was held is written
   pub sent_all : (old now : Option (List ℕ)) (held rest held' : List ℕ) → IsUnderWay text before old held rest → Appends old now held → held' ≡ [] → IsUnderWay text before now held' rest
   sent_all old now held rest held' way sent is = record {

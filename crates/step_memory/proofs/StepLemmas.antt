@@ -1,7 +1,5 @@
 -- a step by cases on who takes it
-use Rattle.std.proofs.Common.{◌≡◌, ◌≢◌, ℕ, true, false, ◌⊎◌, inl, inr, refl, Some, None, Result, Ok, Err, ◌==◌, ◌<◌, ◌≤◌, length, arith}
-use Rattle.std.specs.Prelude.{nat_le, is_some}
-use Rattle.std.proofs.lemmas.Bool.Decides.{nat_tests}
+use Rattle.std.proofs.Common.{◌≡◌, ◌≢◌, ℕ, true, false, ◌⊎◌, inl, inr, refl, Some, None, Result, Ok, Err}
 use Rattle.step_memory.specs.declared.note.Note.{Note}
 use Rattle.step_memory.specs.declared.refusal.Refusal.{Refusal}
 use Rattle.step_memory.specs.declared.refusal.Refusal.TheVariants.{ZeroIdentity, AlreadyBegun, Full, NotBegun, Finished, Spent, Crowded, NotCompeting, AlreadyCompeting, Holding, NotHolding, NoMemory, HistoryFull, OutOfRange}
@@ -10,7 +8,7 @@ use Rattle.step_memory.specs.declared.participant.Participant.{Participant}
 use Rattle.step_memory.specs.Steps.{ProgramSteps, MemorySteps}
 use Rattle.step_memory.specs.WorldState.{WorldState}
 use Rattle.step_memory.specs.Participant.{participant_of, with_participant, resumed}
-use Rattle.step_memory.specs.World.{begin_refusal, step_answer, step_answer_by, after_step, after_step_by, may_refuse_step, got_by}
+use Rattle.step_memory.specs.World.{step_answer, step_answer_by, after_step, after_step_by, may_refuse_step, got_by}
 
 module _ {P S R V O : Type 0} (program : ProgramSteps P R V O) (memory : MemorySteps S R V) where
   pub absent_answer : (w : WorldState S P) (id : ℕ) → participant_of id w.participants ≡ None → step_answer program memory w id ≡ Err NotBegun
@@ -61,21 +59,3 @@ lacks_or_not (Err Holding) = inr (λ h. absurd (cc))
 lacks_or_not (Err NotHolding) = inr (λ h. absurd (cc))
 lacks_or_not (Err HistoryFull) = inr (λ h. absurd (cc))
 lacks_or_not (Err OutOfRange) = inr (λ h. absurd (cc))
-
-eqb_false : (a b : ℕ) → a ≢ b → (a == b) ≡ false
-eqb_false a b h = grind (arith, nat_tests)
-
-le_true : (a b : ℕ) → a ≤ b → nat_le a b ≡ true
-le_true a b h = grind (arith, nat_tests)
-
-le_false : (a b : ℕ) → b < a → nat_le a b ≡ false
-le_false a b h = grind (arith, nat_tests)
-
-pub begun_refusal : {S P : Type 0} → (w : WorldState S P) (id : ℕ) → id ≢ 0 → is_some (participant_of id w.participants) ≡ true → begin_refusal w id ≡ Some AlreadyBegun
-begun_refusal w id z h = rw (eqb_false id 0 z, h)
-
-pub full_refusal : {S P : Type 0} → (w : WorldState S P) (id : ℕ) → id ≢ 0 → is_some (participant_of id w.participants) ≡ false → w.most ≤ length w.participants → begin_refusal w id ≡ Some Full
-full_refusal w id z h l = rw (eqb_false id 0 z, h, le_true w.most (length w.participants) l)
-
-pub no_refusal : {S P : Type 0} → (w : WorldState S P) (id : ℕ) → id ≢ 0 → is_some (participant_of id w.participants) ≡ false → length w.participants < w.most → begin_refusal w id ≡ None
-no_refusal w id z h l = rw (eqb_false id 0 z, h, le_false w.most (length w.participants) l)

@@ -16,9 +16,6 @@ module _ (taken : ℕ → Bool) where
   pub free_taken : (n : ℕ) → taken (suc n) ≡ true → free_up_to taken (suc n) ≡ free_up_to taken n
   free_taken n h = rw h (omega arith)
 
-  pub free_free : (n : ℕ) → taken (suc n) ≡ false → free_up_to taken (suc n) ≡ free_up_to taken n + 1
-  free_free n h = rw h (omega arith)
-
   pub free_next : (n : ℕ) → (free_up_to taken n ≤ free_up_to taken (suc n)) × (free_up_to taken (suc n) ≤ free_up_to taken n + 1)
   free_next n = elim (taken (suc n)) as (λ b. (free_up_to taken n ≤ cond b 0 1 + free_up_to taken n) × (cond b 0 1 + free_up_to taken n ≤ free_up_to taken n + 1)) [ true ↦ (omega arith, omega arith) | false ↦ (omega arith, omega arith) ]
 

@@ -91,13 +91,6 @@ module _ {A B C : Type 0} (p : ℕ) (d : NodeRegisters) (l : Option (Box (Node A
       split q (not_above p (2 * p + 1) q o (omega arith) h)
       ∙ ap (λ e. either e (registers_below (2 * p + 1) r q)) (absent_below (2 * p) q l (λ k. not_both p q o k h))
 
-  pub set_node : (x : NodeRegisters) (q : ℕ) → found q (parts p x l r) ≡ set_at (λ k. found k (parts p d l r)) p (Some x) q
-  set_node x q =
-      elim (eqb_tells q p) [
-        | inl w ↦ found_here q p x _ w.1 ∙ sym (ap (set_at (λ k. found k (parts p d l r)) p (Some x)) w.1 ∙ set_at-same (λ k. found k (parts p d l r)) p (Some x))
-        | inr w ↦ found_there q p x _ w.1 ∙ sym (found_there q p d _ w.1) ∙ sym (set_at-other (λ k. found k (parts p d l r)) p (Some x) q w.1)
-      ]
-
 -- what changes at a place below a child changes at that place below the node, and nowhere else
 pub set_left : {A B C D : Type 0} (p : ℕ) (d : NodeRegisters) (l : Option (Box (Node A) B)) (new : Option (Box (Node A) D)) (r : Option (Box (Node A) C)) (k : ℕ) (x : Option NodeRegisters) → 0 < p → IsFrom (2 * p) k → ((q : ℕ) → registers_below (2 * p) new q ≡ set_at (registers_below (2 * p) l) k x q) → (q : ℕ) → found q (parts p d new r) ≡ set_at (λ j. found j (parts p d l r)) k x q
 set_left p d l new r k x o h is q =
