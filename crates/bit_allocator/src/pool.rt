@@ -1,6 +1,6 @@
 //! The pool.
 
-ghost use Rattle.std.specs.Prelude.{◌≡◌, ◌≤◌, ◌<◌, ◌⊎◌, ℕ, List, [], ◌∷◌, ◌++◌, IfOk, IfErr, IfSome, IfNone, IsOk, OnErr, Err, length};
+ghost use Rattle.std.specs.Prelude.{◌≡◌, ◌≤◌, ◌<◌, ◌⊎◌, ℕ, List, [], IfOk, IfErr, IfSome, IfNone, IsOk, OnErr, Err, length};
 ghost use Rattle.bit_allocator.specs.Competitors.{index_of, stay_of, holder_in, identities};
 ghost use Rattle.bit_allocator.specs.Stay.{IsWithin};
 ghost use Rattle.bit_allocator.specs.PoolState.{PoolState};

@@ -4,7 +4,7 @@ ghost use Rattle.std.specs.Prelude.{[], ◌≡◌, ◌≢◌, ◌<◌, ◌≤◌
 ghost use lib.ListN.{get_elem?};
 ghost use Rattle.std.specs.Mem.Slots.{slots_items, slots_len, IsFull};
 ghost use Rattle.raw_parts.specs.BoardView.{lone_claim};
-ghost use Rattle.raw_parts.specs.Boards.{GrantId, grant_of};
+ghost use Rattle.raw_parts.specs.Boards.{grant_of};
 
 use crate::board_seats::{Grant, ReaderSeat};
 use crate::board_steps::{Boarding, Find, Hand, LookOn, Part, Post, Unite};

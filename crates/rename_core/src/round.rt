@@ -1,6 +1,6 @@
 //! Rounds of proposals.
 
-ghost use Rattle.std.specs.Prelude.{◌≡◌, ◌<◌};
+ghost use Rattle.std.specs.Prelude.{◌≡◌};
 ghost use Rattle.rename_core.specs.Round.{name_at, has_name, number_of, standing_by, at_stage, written_round, followed, decided, stage_refusal, first_round, first_wish};
 
 use crate::proposal::{is_taken, next_proposal};

@@ -1,6 +1,6 @@
 //! A renaming world, taken step by step.
 
-ghost use Rattle.std.specs.Prelude.{◌≡◌, ◌≢◌, ◌<◌, ◌≤◌, ◌⊎◌, ◌↔◌, [], length, IfOk, IfErr, OnErr, Some, None, Err, Ok, false};
+ghost use Rattle.std.specs.Prelude.{◌≡◌, ◌≢◌, ◌<◌, ◌≤◌, ◌⊎◌, ◌↔◌, [], length, IfOk, IfErr, OnErr, Some, None, Err, false};
 ghost use Rattle.step_memory.specs.Participant.{index_of, program_of, beginner};
 ghost use Rattle.step_memory.specs.World.{begin_refusal, done_unless};
 ghost use Rattle.step_memory.specs.Calls.Call.{Began, Stepped};

@@ -1,9 +1,8 @@
 //! A run under way: bytes in, replies out.
 
-ghost use Rattle.std.specs.Prelude.{◌≡◌, true, ◌+◌, ◌*◌, ◌^◌, ◌<◌, ◌≤◌, [], length, take, Ok, Err, IfOk, IfErr, OnOk, OnErr};
+ghost use Rattle.std.specs.Prelude.{◌≡◌, true, ◌+◌, ◌*◌, ◌^◌, ◌<◌, ◌≤◌, [], length, take, IfOk, IfErr, OnOk, OnErr};
 ghost use Rattle.desk.specs.declared.reply.Reply.{Reply as DeskReply};
 ghost use Rattle.desk.specs.Replies.{with_view};
-ghost use Rattle.schedule_player.specs.HeldLine.{held};
 ghost use Rattle.schedule_player.specs.Knows.{Knows, KnowsMeant};
 ghost use Rattle.schedule_player.specs.Progress.{after_meaning, after_line, after_bytes, after_end};
 ghost use Rattle.schedule_player.specs.Requests.Request.{OwnerOf};

@@ -4,7 +4,6 @@ ghost use Rattle.std.specs.Prelude.{◌≡◌, ◌≢◌, true, Err, ◌^◌, �
 ghost use Rattle.schedule_player.specs.IsRun.{IsTalk};
 ghost use Rattle.schedule_player.specs.Knows.{Knows};
 ghost use Rattle.schedule_player.specs.Played.{IsPlayed, reading, writing};
-ghost use Rattle.schedule_player.specs.Progress.{at_start};
 ghost use Rattle.schedule_player.specs.Runs.{IsRunTo, CanRun};
 ghost use Rattle.schedule_player.specs.Stands.{IsFresh};
 ghost use Rattle.schedule_player.specs.Talks.{IsTalkOf};

@@ -1,6 +1,6 @@
 //! The replies that are not written yet.
 
-ghost use Rattle.std.specs.Prelude.{◌≡◌, ℕ, ◌+◌, ◌≤◌, ◌<◌, ◌^◌, ◌++◌, List, Option, [], length, IfOk, IfErr, OnOk, OnErr};
+ghost use Rattle.std.specs.Prelude.{◌≡◌, ℕ, ◌+◌, ◌≤◌, ◌<◌, ◌^◌, ◌++◌, List, [], length, IfOk, IfErr, OnOk, OnErr};
 ghost use Rattle.schedule_player.specs.UnderWay.{GoesPast, StopsWithin};
 
 use crate::fault::Fault;

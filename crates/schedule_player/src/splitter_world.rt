@@ -1,7 +1,5 @@
 //! A splitter's world answers events.
 
-ghost use Rattle.std.specs.Prelude.{◌≡◌, true, false};
-ghost use Rattle.rename_core.specs.declared.config.WorldKind.TheVariants as kind;
 ghost use Rattle.schedule_player.specs.Kinds.{is_splitter, splitter_meant};
 ghost use Rattle.schedule_player.specs.Visits.{visit_may, knows_visits};
 ghost use Rattle.schedule_player.specs.VisitProofs.{visit_answers, one_visit, visits_tell};

@@ -2,7 +2,6 @@
 
 ghost use Rattle.slot_array.specs.Laws.{IsFresh, CallLeadsOn, HasSlot, FrontsKeepLaw, AnswersAreDue, LeadsToOne};
 ghost use Rattle.slot_array.specs.After.{IsLawful};
-ghost use Rattle.slot_array.specs.Slots.{slot};
 ghost use Rattle.slot_array.specs.SlotsState.{SlotsState};
 
 /// A law, which runs nothing: new slots are after no call, each call takes slots after some calls to slots after these and

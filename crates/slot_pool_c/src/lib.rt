@@ -24,7 +24,7 @@
 //! ```
 #![tactic(auto)]
 
-ghost use Rattle.std.specs.Prelude.{◌≡◌, ◌≢◌, ◌≤◌, ◌<◌, None, Some, Err, IsErr, IsSomeAnd, MatchResult, false, true};
+ghost use Rattle.std.specs.Prelude.{◌≡◌, ◌≢◌, ◌≤◌, None, Some, IsErr, IsSomeAnd, MatchResult, false, true};
 ghost use Rattle.bit_allocator.specs.Acquired.{IsAcquired};
 ghost use Rattle.bit_allocator.specs.Pool.{after_leave, enter_answer, fresh_pool, number_answer};
 ghost use Rattle.bit_allocator.specs.PoolState.{PoolState};

@@ -1,6 +1,6 @@
 //! What the program can be asked for.
 
-ghost use Rattle.std.specs.Prelude.{◌≡◌, ◌≤◌, IfSome, IsSome, ◌↔◌, Bool};
+ghost use Rattle.std.specs.Prelude.{◌≡◌, IfSome, IsSome, ◌↔◌};
 ghost use Rattle.slot_words.specs.Ranges.{IsDrawingRange, IsServingRange, CanBeWritten};
 
 use rename_core::{Config, WorldKind};

@@ -1,6 +1,6 @@
 //! What the words of a command line ask for.
 
-ghost use Rattle.std.specs.Prelude.{◌≡◌, ℕ, Bool, ◌<◌, ◌^◌, MatchOption, map};
+ghost use Rattle.std.specs.Prelude.{◌≡◌, ℕ, ◌<◌, ◌^◌, MatchOption, map};
 ghost use Rattle.clap.specs.Words.{found_of, kind_of, rows_of, subcommand_rows_of};
 ghost use Rattle.slot_words.specs.Asked.{HasNumber, HasWorld, IsAsked, IsConfigOf, IsDrawingOf, IsMisuseOf, IsPlayingOf, IsRead, IsRefusal, IsServingOf, asks_record, world_named};
 ghost use Rattle.rename_core.specs.declared.config.Config.{Config};

@@ -1,6 +1,6 @@
 //! Segments in a row.
 
-ghost use Rattle.std.specs.Prelude.{◌≡◌, ◌<◌, ◌≤◌, ℕ, OnOk, OnErr, IfOk, IfErr, IfSome, Err, IsOk, true, false, replicate, Some, None, length};
+ghost use Rattle.std.specs.Prelude.{◌≡◌, ◌<◌, ◌≤◌, OnOk, IfOk, IfErr, IfSome, Err, IsOk, replicate, None, length};
 ghost use Rattle.step_memory.specs.declared.access.Access.{Access};
 ghost use Rattle.step_memory.specs.declared.access.Access.TheVariants.{Read};
 ghost use Rattle.step_memory.specs.Steps.{answer_from};

@@ -1,6 +1,5 @@
 //! A walk over the segments of a grid.
 
-ghost use Rattle.std.specs.Prelude.{◌≡◌, ◌<◌, ◌≤◌};
 ghost use Rattle.snapshot_places.specs.Grid.{grid_walks};
 
 use crate::grid_register::{GridRegister, GridValue};

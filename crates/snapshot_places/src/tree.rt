@@ -1,7 +1,6 @@
 //! Places in a tree that grows.
 
 ghost use Rattle.std.specs.Prelude.{◌≡◌, ◌≤◌, ◌<◌, OnOk, OnErr, IfOk, IfSome, IsOk, Err, true};
-ghost use Rattle.step_memory.specs.declared.access.Access.{Access};
 ghost use Rattle.step_memory.specs.declared.access.Access.TheVariants.{Read};
 ghost use Rattle.step_memory.specs.Steps.{answer_from};
 ghost use Rattle.snapshot_places.specs.Tree.{new_tree, register_in, tree_after, tree_refuses, tree_places_steps, tree_most, tree_walker, tree_walk};

@@ -1,11 +1,9 @@
 //! A world whose participants visit one splitter.
 
-ghost use Rattle.std.specs.Prelude.{◌≡◌, ◌≢◌, ℕ, ◌∷◌, [], ◌++◌, List, IfOk, IfErr, IsOk, OnErr, Err, ◌≤◌, ◌<◌, ◌⊎◌, ◌↔◌, Option};
+ghost use Rattle.std.specs.Prelude.{◌≡◌, [], IfOk, IfErr, IsOk, OnErr, Err, ◌≤◌, ◌<◌, ◌⊎◌, ◌↔◌};
 ghost use Rattle.splitter.specs.Laws.{StaysAlike};
-ghost use Rattle.splitter.specs.declared.way.Way.{Way};
 ghost use Rattle.splitter.specs.SplitterWorld.{After, IsLawful, LeadsOn, RefusesWhereDue, SplitterState, fresh, visit_of, step_reply, world_after_step};
 ghost use Rattle.splitter.specs.Visitor.{visitor_steps};
-ghost use Rattle.step_memory.specs.Calls.{Call};
 ghost use Rattle.step_memory.specs.Calls.Call.{Began, Stepped};
 ghost use Rattle.step_memory.specs.Locality.{IsLocal, LookAlike};
 ghost use Rattle.step_memory.specs.Registers.{memory_steps};

@@ -1,15 +1,13 @@
 //! A world whose participants walk through one grid.
 
-ghost use Rattle.std.specs.Prelude.{◌≡◌, ◌≢◌, ℕ, ◌+◌, ◌*◌, ◌∷◌, [], ◌++◌, List, IfOk, IfErr, IsOk, OnErr, Ok, Err, Some, true, false, is_some, ◌≤◌, ◌<◌, ◌⊎◌, ◌↔◌, Option};
+ghost use Rattle.std.specs.Prelude.{◌≡◌, ℕ, ◌+◌, ◌*◌, [], List, IfOk, IfErr, IsOk, OnErr, Err, ◌≤◌, ◌<◌, ◌⊎◌, ◌↔◌, Option};
 ghost use Rattle.splitter_grid.specs.Laws.{StaysAlike};
 ghost use Rattle.splitter_grid.specs.Door.{IsDoorWithin};
 ghost use Rattle.splitter_grid.specs.Entered.{WasEntered, ShowsWhatWasEntered};
 ghost use Rattle.splitter_grid.specs.GridWorld.{After, GridState, IsLawful, LeadsOn, RefusesWhereDue, fresh, step_reply, world_after_step, place_in, entered_count};
-ghost use Rattle.splitter_grid.specs.Law.{KeepsGridLaw};
 ghost use Rattle.splitter_grid.specs.Walk.{walk_of, walker_steps};
 ghost use Rattle.step_memory.specs.Calls.{Call, outcome_of, begun_in};
 ghost use Rattle.step_memory.specs.Calls.Call.{Began, Stepped};
-ghost use Rattle.step_memory.specs.Due.{RefusesAsDue};
 ghost use Rattle.step_memory.specs.declared.refusal.Refusal.{Refusal};
 ghost use Rattle.step_memory.specs.Locality.{IsLocal, LookAlike};
 ghost use Rattle.step_memory.specs.Registers.{memory_steps};

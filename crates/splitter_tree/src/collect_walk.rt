@@ -1,6 +1,6 @@
 //! The walk of a collect.
 
-ghost use Rattle.std.specs.Prelude.{◌≡◌, ◌<◌, ◌≤◌, ℕ, option_copied};
+ghost use Rattle.std.specs.Prelude.{◌≡◌, option_copied};
 ghost use Rattle.splitter_tree.specs.CollectWalk.{first_walk, register_read, place_read, walk_resumed, walk_is_over, node_after, node_next, finds_mark};
 ghost use Rattle.splitter_tree.specs.TreeMemory.{segment_in};
 

@@ -3,8 +3,8 @@
 ghost use Rattle.std.specs.Prelude.{◌≡◌, ◌<◌, ◌≤◌, ◌/◌, ◌^◌, ℕ, OnOk, OnErr, IfOk, true, option_copied, Some, None};
 ghost use Rattle.std.specs.FinMap as map;
 ghost use Rattle.step_memory.specs.SetAt.{set_at};
-ghost use Rattle.splitter_tree.specs.Nodes.{registers_below, nodes_of, grown, is_lacking, is_right, LeadsTo, IsWritten, IsGrown};
-ghost use Rattle.splitter_tree.specs.TreeSteps.{number_in, written, fresh_registers, after_write, makes_node, value_of};
+ghost use Rattle.splitter_tree.specs.Nodes.{registers_below, nodes_of, is_lacking, is_right, LeadsTo, IsWritten, IsGrown};
+ghost use Rattle.splitter_tree.specs.TreeSteps.{number_in, fresh_registers, after_write, makes_node, value_of};
 
 use crate::node_registers::NodeRegisters;
 use crate::register::{TreeRegister, WrittenValue};

@@ -1,6 +1,6 @@
 //! A world whose participants walk down one tree, store values at their places, and collect them.
 
-ghost use Rattle.std.specs.Prelude.{◌≡◌, ◌≢◌, ℕ, [], ◌∷◌, ◌++◌, List, IfOk, IfErr, IsOk, Err, OnErr, true, ◌≤◌, ◌<◌, ◌⊎◌, ◌↔◌, option_and_then};
+ghost use Rattle.std.specs.Prelude.{◌≡◌, ◌≢◌, [], List, IfOk, IfErr, IsOk, Err, OnErr, true, ◌≤◌, ◌<◌, ◌⊎◌, ◌↔◌, option_and_then};
 ghost use Rattle.splitter_tree.specs.Laws.{AnswersPlaceAlike, StaysAlikeOnWay, StaysAlikeCollecting};
 ghost use Rattle.splitter_tree.specs.Client.{client_steps};
 ghost use Rattle.splitter_tree.specs.TreeCalls.{TreeCall};

@@ -1,6 +1,6 @@
 //! Registers.
 
-ghost use Rattle.std.specs.Prelude.{◌≡◌, ℕ, OnOk, OnErr, IfOk, IsOk, IfSome, true, false, replicate};
+ghost use Rattle.std.specs.Prelude.{◌≡◌, OnOk, OnErr, IfOk, IsOk, IfSome, true, false, replicate};
 ghost use Rattle.step_memory.specs.Steps.{MemorySteps, answer_from, Spares};
 ghost use Rattle.step_memory.specs.Registers.{memory_steps, register_of, answer_of, after_access};
 ghost use Rattle.step_memory.specs.declared.access.Access.{Access};
