@@ -149,6 +149,8 @@ impl<A: Allocator> Board<A> {
         if found == 0 {
             return None;
         }
+        // Split off before the test, whatever stands there: else the seat would still claim what it found, and it must claim
+        // nothing again.
         let given = self.table.shared.split_seat::<Hand>(seat);
         if found != identity {
             return None;

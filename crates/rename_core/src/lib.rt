@@ -18,11 +18,12 @@
 //! makes a node of a tree.
 //!
 //! Names are given over the places of a grid, of a tree that grows, or of segments in a row (`RenamePlaces`), by the same
-//! functions, to at most 64 over a tree and to 16 elsewhere (`WorldKind::most`). Over a grid of G doors a place comes within 4b steps and a view within G(G + 1); over a tree within 5b and
-//! (b + 1)(6b - 2); a proposal takes one step more than a view (`grid_rename_law`, `tree_rename_law`). It is not promised
-//! that rounds end while others step. But who steps alone from any point on, with two proposals left, is named within
-//! 4m + 11G + 1 steps over a grid, and 5m + 11(6m - 2) + 1 over a tree, where at most m take part (`specs/Alone.antt`,
-//! `law_of_steps_alone`): wherever the others stopped.
+//! functions, to at most 64 over a tree and to 16 elsewhere (`WorldKind::most`). Over a grid of G doors a place comes
+//! within 4b steps and a view within G(G + 1); over a tree within 5b and (b + 1)(6b - 2); a proposal takes one step more
+//! than a view (`grid_rename_law`, `tree_rename_law`). It is not promised that rounds end while others step. But who steps
+//! alone from any point on, with two proposals left, is named within 4m + 11G + 1 steps over a grid, and
+//! 5m + 11(6m - 2) + 1 over a tree, where at most m take part (`specs/Alone.antt`, `law_of_steps_alone`): wherever the
+//! others stopped.
 //!
 //! `step_short` is `step` with a reply of a few bytes: the view that it shows, which takes a kilobyte, is put beside it.
 //!

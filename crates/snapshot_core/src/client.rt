@@ -69,11 +69,15 @@ pub enum Pending {
 /// A participant: its way to its place, what it has still to do, and how many updates it was asked for.
 #[derive(Debug, Drop)]
 pub struct Client<U, K> {
+    /// Who it is.
     pub identity: u64,
+    /// Its way to its place.
     pub walker: U,
     /// A walk from its beginning, which each collect takes.
     pub walk: K,
+    /// How many updates it was asked for.
     pub updates: u32,
+    /// What it has still to do.
     pub pending: Pending,
     /// The scan under way, where there is one.
     pub scan: Scan<K>,
@@ -249,6 +253,7 @@ impl<U, K: SegmentWalk + Copy> Request<Client<U, K>> for ToScan {
 /// The request of an update of one's segment with a value.
 #[derive(Clone, Copy, Debug, Drop, PartialEq, Eq)]
 pub struct ToUpdate {
+    /// What is to be written.
     pub value: u64,
 }
 

@@ -9,8 +9,11 @@ use step_memory::{Place, Record, View};
 /// What a collect met in a segment: the identity, the value and the sequence number of its record.
 #[derive(Clone, Copy, Debug, Drop)]
 pub struct Met {
+    /// Whose record it was.
     pub identity: u64,
+    /// The value.
     pub value: u64,
+    /// Which write of the segment it was.
     pub number: u32,
 }
 
@@ -27,14 +30,16 @@ impl Met {
     }
 }
 
-/// What a scan knows of the segment at a place: its sequence number in the collect before (0 where it was empty or not
-/// reached), what the present collect met in it (`None` where it was empty or is not reached), and whether it was seen to
-/// change.
+/// What a scan knows of the segment at a place.
 #[derive(Clone, Copy, Debug, Drop)]
 pub struct Sighting {
+    /// The place of the segment.
     pub place: Place,
+    /// Its sequence number in the collect before; 0 where it was empty or not reached.
     pub before: u32,
+    /// What the present collect met in it; `None` where it was empty or is not reached.
     pub now: Option<Met>,
+    /// Whether it was seen to change.
     pub changed: bool,
 }
 

@@ -19,9 +19,13 @@ const SET: u64 = 1;
 /// 4. Read X. Where the identity stands there the visit stops, else it ends down.
 #[derive(Clone, Copy, Debug, Drop, PartialEq, Eq)]
 pub struct Visitor<R> {
+    /// Who visits.
     pub identity: u64,
+    /// The register that is the splitter's X.
     pub x: R,
+    /// The register that is its Y.
     pub y: R,
+    /// How far the visit has come.
     pub stage: Stage,
 }
 

@@ -163,7 +163,8 @@ impl<A: Allocator + Clone> Tree<A> {
 
     /// Takes the next step of a walk where it stands, so that no segment is copied, and gives what the walk says. `None` where it
     /// did not: then nothing has changed, and the step is still to be taken. So it is where the step makes a node and room for
-    /// that was refused: until `access` has told so, nothing asks for the room again.
+    /// that was refused: until `access` has told so, nothing asks for the room again. A refusal which this could not tell is
+    /// told by the next access that makes a missing node (`tells_refusal`).
     pub fn walk_on(&mut self, walker: &mut Walker) -> Option<Note<Place>>
         ensures note { IfSome result (λ note. note ≡ walker_note walker.old (answer_of self.old (next_access walker.old))) }
         ensures after { IfSome result (λ _. walker.new ≡ walker_after walker.old (answer_of self.old (next_access walker.old))) }

@@ -12,11 +12,14 @@ use crate::note::Note;
 use crate::program::{Request, StepProgram};
 use crate::shortcut::Shortcut;
 
-/// A participant: its identity, which is not 0, its program, and whether its program has ended.
+/// A participant of a world.
 #[derive(Debug, Drop)]
 pub struct Participant<P> {
+    /// Who it is; not 0.
     pub identity: u64,
+    /// Its program, where it stands.
     pub program: P,
+    /// Whether its program has ended.
     pub ended: bool,
 }
 
@@ -30,6 +33,7 @@ impl<P: StepProgram> Participant<P> {
         self.ended = note.ends();
         note
     }
+
     /// Takes the value that the access of its program reads, where it stands, if the program then goes on and says nothing.
     /// Tells whether it did; where not, nothing has changed.
     pub fn read_on(&mut self, got: &P::Value) -> bool

@@ -6,9 +6,13 @@ use crate::view::View;
 /// (counted from 1), and the view that the update scanned, which helps scans under way.
 #[derive(Clone, Copy, Debug, Drop)]
 pub struct Record {
+    /// Whose it is.
     pub identity: u64,
+    /// What was written.
     pub value: u64,
+    /// Which write of the segment it is.
     pub number: u32,
+    /// The view that the update scanned.
     pub view: View,
 }
 
