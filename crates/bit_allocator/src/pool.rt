@@ -101,7 +101,7 @@ impl<A: Allocator + Clone> Pool<A> {
         ensures out_of_range { result ≡ Err Refusal.OutOfRange → (1 ≤ size → 64 < size) }
         ensures only { IfErr result (λ r. (r ≡ Refusal.NoMemory) ⊎ (r ≡ Refusal.OutOfRange)) }
     {
-        if size < 1 || 64 < size {
+        if size < 1 || size > MOST_NUMBERS as u64 {
             return Err(Refusal::OutOfRange);
         }
         let Ok(other) = alloc.clone() else {
@@ -294,7 +294,7 @@ impl<A: Allocator> Pool<A> {
         ensures answer { result ≡ widen_refusal self.now.size size }
         ensures more { IfNone result ((self.now.size < size) × (size ≤ 64)) }
     {
-        if size <= self.size() || 64 < size {
+        if size <= self.size() || size > MOST_NUMBERS as u64 {
             Some(Refusal::OutOfRange)
         } else {
             None

@@ -5,6 +5,7 @@ ghost use Rattle.step_memory.specs.declared.access.Access.TheVariants.{Read};
 ghost use Rattle.step_memory.specs.declared.access.Answer.TheVariants.{Value};
 ghost use Rattle.step_memory.specs.declared.note.Note.TheVariants as note;
 ghost use Rattle.snapshot_core.specs.declared.client.Pending.TheVariants.{Placing};
+ghost use Rattle.snapshot_core.specs.declared.client.TheConstants.{MOST_UPDATES};
 ghost use Rattle.snapshot_core.specs.Client.{view_told, is_idle, client_at, client_steps, updating, scanning, next_access, client_after, client_note, scan_resumed, scan_note, placing_resumed, placing_note, placed_note};
 ghost use Rattle.snapshot_core.specs.SnapWorld.{told_of_way};
 
@@ -12,6 +13,9 @@ use crate::places::{PlaceWalker, Places};
 use crate::scan::Scan;
 use crate::walk::SegmentWalk;
 use step_memory::{Access, Answer, Note, Place, Record, Request, Shortcut, StepProgram, View};
+
+/// The most updates for which one participant may be asked.
+pub const MOST_UPDATES: u32 = 1_000_000;
 
 /// What a step of a snapshot object tells.
 #[derive(Clone, Copy, Debug, Drop)]
@@ -258,12 +262,12 @@ pub struct ToUpdate {
 }
 
 impl<U, K: SegmentWalk + Copy> Request<Client<U, K>> for ToUpdate {
-    ghost can_ask = { λ _ c. c.updates < 1000000 };
+    ghost can_ask = { λ _ c. c.updates < MOST_UPDATES };
 
     ghost asked = { λ q c. updating c q.value };
 
     fn ask(self, program: &mut Client<U, K>)
-        requires { program.old.updates < 1000000 }
+        requires { program.old.updates < MOST_UPDATES }
         ensures { program.new ≡ updating program.old self.value }
     {
         program.updates += 1;

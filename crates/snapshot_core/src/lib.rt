@@ -46,7 +46,7 @@ pub mod sightings;
 pub mod walk;
 pub mod world;
 
-pub use client::{Client, Pending, SnapReply, ToScan, ToUpdate};
+pub use client::{Client, MOST_UPDATES, Pending, SnapReply, ToScan, ToUpdate};
 pub use fixed::{Fixed, FixedWalk, FixedWalker};
 pub use laws::{law_of_clients, law_of_snapshot_calls, law_of_steps_alone, snapshot_law};
 pub use places::{Known, PlaceWalker, Places};

@@ -8,7 +8,7 @@ ghost use Rattle.snapshot_core.specs.SnapWorld.{place_in, after_snap_begin, scan
 ghost use Rattle.snapshot_core.specs.SnapCalls.{fresh_over, IsAfter, LeadsOn, MakesOwnAccess, HasDistinctPlaces, KeepsTold};
 ghost use Rattle.snapshot_core.specs.SnapCalls.SnapCall.{Began, Updated, Scanned, Stepped};
 
-use crate::client::{Client, OnWay, SnapReply, ToScan, ToUpdate};
+use crate::client::{Client, MOST_UPDATES, OnWay, SnapReply, ToScan, ToUpdate};
 use crate::places::{Known, PlaceWalker, Places};
 use std::alloc::Allocator;
 use std::marker::Model;
@@ -92,7 +92,7 @@ where
         if !client.is_idle() {
             return Err(Refusal::AlreadyBegun);
         }
-        if 1_000_000 <= client.updates {
+        if MOST_UPDATES <= client.updates {
             return Err(Refusal::Spent);
         }
         self.world.ask(id, ToUpdate { value })

@@ -4,7 +4,7 @@ ghost use Rattle.std.specs.Prelude.{◌≡◌, option_copied};
 ghost use Rattle.splitter_tree.specs.CollectWalk.{first_walk, register_read, place_read, walk_resumed, walk_is_over, node_after, node_next, finds_mark};
 ghost use Rattle.splitter_tree.specs.TreeMemory.{segment_in};
 
-use crate::register::{TreeRegister, TreeValue};
+use crate::register::{MARKED, ROOT, TreeRegister, TreeValue};
 use step_memory::{Place, Record};
 
 /// A walk over the nodes that were made, each before its left subtree and that before its right one. It reads the mark
@@ -24,10 +24,10 @@ fn after_subtree(place: Place) -> Option<Place>
     ensures { result ≡ node_after place }
 {
     let mut at = place;
-    while at % 2 == 1 && 1 < at {
+    while at % 2 == 1 && ROOT < at {
         at /= 2;
     }
-    if at <= 1 { None } else { Some(at + 1) }
+    if at <= ROOT { None } else { Some(at + 1) }
 }
 
 impl CollectWalk {
@@ -36,7 +36,7 @@ impl CollectWalk {
         ensures { result ≡ first_walk }
     {
         CollectWalk {
-            at: 1,
+            at: ROOT,
             is_reading_contents: false,
         }
     }
@@ -71,7 +71,7 @@ impl CollectWalk {
             return false;
         }
         match got {
-            TreeValue::Word(word) => *word == 1,
+            TreeValue::Word(word) => *word == MARKED,
             TreeValue::Contents(_) => false,
         }
     }

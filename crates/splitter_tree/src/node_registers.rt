@@ -5,7 +5,7 @@ ghost use Rattle.splitter_tree.specs.declared.register.TreeValue.TheVariants as 
 ghost use Rattle.splitter_tree.specs.TreeSteps.{fresh_registers, value_in, value_of, registers_after_write};
 
 use crate::kept_segment::KeptSegment;
-use crate::register::{TreeRegister, TreeValue, WrittenValue};
+use crate::register::{MARKED, TreeRegister, TreeValue, WrittenValue};
 
 /// What a node of the tree holds: its splitter's X and Y, and its segment. Its mark is set as long as the node is there.
 #[derive(Clone, Copy, Debug, Drop)]
@@ -35,7 +35,7 @@ impl NodeRegisters {
         ensures { result ≡ value_in register (Some self.now) }
     {
         match register {
-            TreeRegister::Mark(_) => TreeValue::Word(1),
+            TreeRegister::Mark(_) => TreeValue::Word(MARKED),
             TreeRegister::X(_) => TreeValue::Word(self.x),
             TreeRegister::Y(_) => TreeValue::Word(self.y),
             TreeRegister::Contents(_) => *self.segment.value(),
@@ -47,7 +47,7 @@ impl NodeRegisters {
         ensures { IfSome result (λ word. value_in register (Some self.now) ≡ value.Word word) }
     {
         match register {
-            TreeRegister::Mark(_) => Some(1),
+            TreeRegister::Mark(_) => Some(MARKED),
             TreeRegister::X(_) => Some(self.x),
             TreeRegister::Y(_) => Some(self.y),
             TreeRegister::Contents(_) => None,

@@ -5,6 +5,12 @@ ghost use Rattle.splitter_tree.specs.TreeSteps.{number_in, sets_mark, value_of};
 
 use step_memory::{Place, Segment};
 
+/// The node at which every walk begins, which is above all others.
+pub(crate) const ROOT: Place = 1;
+
+/// What stands in the mark of a node once anyone has come to it; 0 stands there before.
+pub(crate) const MARKED: u64 = 1;
+
 /// A register of the node with this number. The root has number 1; the children of node p are 2p, which down leads to,
 /// and 2p + 1, to the right.
 #[derive(Clone, Copy, Debug, Drop, PartialEq, Eq)]
@@ -67,7 +73,7 @@ impl TreeRegister {
         ensures { result ≡ sets_mark self (value_of value.entry) }
     {
         match (self, value) {
-            (TreeRegister::Mark(_), WrittenValue::Word(word)) => word == 1,
+            (TreeRegister::Mark(_), WrittenValue::Word(word)) => word == MARKED,
             _ => false,
         }
     }

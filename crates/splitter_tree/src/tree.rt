@@ -11,8 +11,8 @@ ghost use Rattle.splitter_tree.specs.Walk.{next_access, walker_after, walker_not
 
 use crate::node::{Link, find_from, write_from};
 use crate::node_registers::NodeRegisters;
-use crate::register::{TreeRegister, TreeValue, WrittenValue};
-use crate::walker::{MARKED, Walker};
+use crate::register::{MARKED, ROOT, TreeRegister, TreeValue, WrittenValue};
+use crate::walker::Walker;
 use std::alloc::Allocator;
 use std::marker::Model;
 use step_memory::{Access, Answer, NoMemory, Note, Place, StepMemory, StepProgram};
@@ -59,7 +59,7 @@ impl<A: Allocator> Tree<A> {
             root: None,
             alloc,
             is_refused: false,
-            set: TreeValue::Word(1),
+            set: TreeValue::Word(MARKED),
             clear: TreeValue::Word(0),
         }
     }
@@ -103,7 +103,8 @@ impl<A: Allocator + Clone> Tree<A> {
     fn is_missing(&self, place: Place) -> bool
         ensures { result ≡ is_missing self.now place }
     {
-        self.registers_at(place).is_none() && (place == 1 || self.registers_at(place / 2).is_some())
+        self.registers_at(place).is_none()
+            && (place == ROOT || self.registers_at(place / 2).is_some())
     }
 
     /// Whether this write makes a node for which room was refused to `walk_on` just now. A refusal is told once.

@@ -5,15 +5,9 @@ ghost use Rattle.splitter_tree.specs.Walk.{left_child, right_child, in_words, to
 ghost use Rattle.splitter.specs.Visitor.{stage_by};
 ghost use Rattle.splitter.specs.Walk.{note_at_door};
 
-use crate::register::{TreeRegister, TreeValue};
+use crate::register::{MARKED, ROOT, TreeRegister, TreeValue};
 use splitter::{Visitor, Way};
 use step_memory::{Access, Answer, Note, Place, StepProgram};
-
-/// The node at which every walk begins.
-const ROOT: Place = 1;
-
-/// What stands in the mark of a node once anyone has come to it; 0 stands there before.
-pub(crate) const MARKED: u64 = 1;
 
 /// The node that down leads to. No tree is as deep as the numbers of places go.
 fn left_child(place: Place) -> Place

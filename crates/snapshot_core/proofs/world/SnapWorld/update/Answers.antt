@@ -26,18 +26,18 @@ returns-then-not-is_idle-clause-after g c =
     let goes = update_busy c.args.self.now c.args.id c.args.value c.in-Some.client.now some busy in
     after_call (known g) c.args.self.now c.args.self.now (Updated c.args.id c.args.value (Err AlreadyBegun)) goes.state goes.answer
 
-pub returns-then-client-ge1000000-clause-after : goal.returns-then-client-ge1000000-clause-after
-returns-then-client-ge1000000-clause-after g c =
+pub returns-then-client-ge-MOST_UPDATES-clause-after : goal.returns-then-client-ge-MOST_UPDATES-clause-after
+returns-then-client-ge-MOST_UPDATES-clause-after g c =
     let some : Some c.in-Some.client.now ≡ program_of c.args.id c.args.self.now.participants = rw (← c.self.view_is) c.in-Some.ensures in
     let idle : is_idle c.in-Some.client.now.pending ≡ true = sym c.is_idle.ensures ∙ c.if-not-is_idle.false in
-    let goes = update_spent c.args.self.now c.args.id c.args.value c.in-Some.client.now some idle c.if-client-ge1000000.true in
+    let goes = update_spent c.args.self.now c.args.id c.args.value c.in-Some.client.now some idle c.if-client-ge-MOST_UPDATES.true in
     after_call (known g) c.args.self.now c.args.self.now (Updated c.args.id c.args.value (Err Spent)) goes.state goes.answer
 
 pub returns-clause-after : goal.returns-clause-after
 returns-clause-after g c =
     let some : Some c.in-Some.client.now ≡ program_of c.args.id c.args.self.now.participants = rw (← c.self.view_is) c.in-Some.ensures in
     let idle : is_idle c.in-Some.client.now.pending ≡ true = sym c.is_idle.ensures ∙ c.if-not-is_idle.false in
-    let goes = update_goes c.args.self.now c.args.id c.args.value c.in-Some.client.now some idle c.if-client-ge1000000.false in
+    let goes = update_goes c.args.self.now c.args.id c.args.value c.in-Some.client.now some idle c.if-client-ge-MOST_UPDATES.false in
     let reply : c.ask.result ≡ Ok tt = rw c.self.view_is at c.ask.ensures.answer ∙ set_goes c.args.self.now c.args.id c.in-Some.client.now some in
     let state : c.ask.new.self ≡ after_set c.args.self.now c.args.id (updating c.in-Some.client.now c.args.value) = rw (c.self.view_is, ← some) at c.ask.ensures.after in
     after_call (known g) c.args.self.now c.ask.new.self (Updated c.args.id c.args.value c.ask.result) (state ∙ goes.state) (reply ∙ goes.answer)
@@ -48,8 +48,8 @@ returns-in_default-clause-law g c = law_holds (known g) g.met.W.Places.laws c.ar
 pub returns-then-not-is_idle-clause-law : goal.returns-then-not-is_idle-clause-law
 returns-then-not-is_idle-clause-law g c = law_holds (known g) g.met.W.Places.laws c.args.self.now
 
-pub returns-then-client-ge1000000-clause-law : goal.returns-then-client-ge1000000-clause-law
-returns-then-client-ge1000000-clause-law g c = law_holds (known g) g.met.W.Places.laws c.args.self.now
+pub returns-then-client-ge-MOST_UPDATES-clause-law : goal.returns-then-client-ge-MOST_UPDATES-clause-law
+returns-then-client-ge-MOST_UPDATES-clause-law g c = law_holds (known g) g.met.W.Places.laws c.args.self.now
 
 pub returns-clause-law : goal.returns-clause-law
 returns-clause-law g c = law_holds (known g) g.met.W.Places.laws c.ask.new.self
