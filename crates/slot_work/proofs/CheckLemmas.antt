@@ -15,18 +15,22 @@ not_of_write fault (inr is) at = cc
 of_read : (fault : Fault) → (let o : Result ℕ Fault = Err fault in o ≡ Err Read) → fault ≡ Read
 of_read fault at = cc
 
+of_memory : (fault : Fault) → (let o : Result ℕ Fault = Err fault in o ≡ Err Memory) → fault ≡ Memory
+of_memory fault at = cc
+
 not_of_others : (fault other : Fault) → fault ≡ Write → (other ≡ Write → ⊥) → (let o : Result ℕ Fault = Err fault in o ≡ Err other) → ⊥
 not_of_others fault other is differs at = differs (let same : fault ≡ other = cc in sym same ∙ is)
 
 module _ {R W : Type 0} (Tells : List ℕ → Verdict → List ℕ → Type 0) (reading : Reading R) (writing : Writing W) (r r' : R) (reads : reading.calls r' ≤ reading.calls r + MOST_READS) where
   -- the record was not read to its end, and nothing is written
-  pub unread : (w : W) (result : Result ℕ Fault) (fault : Fault) → result ≡ Err fault → (fault ≡ Read) ⊎ (fault ≡ Memory) → (fault ≡ Read → HasFailedRead reading r r') → IsJudged Tells reading writing r r' w w result
-  unread w result fault is only failed = subst (λ (o : Result ℕ Fault). IsJudged Tells reading writing r r' w w o) (sym is) (record {
+  pub unread : (w : W) (result : Result ℕ Fault) (fault : Fault) → result ≡ Err fault → (fault ≡ Read) ⊎ (fault ≡ Memory) → (fault ≡ Read → HasFailedRead reading r r') → (fault ≡ Memory → reading.failed r' ≡ reading.failed r)
+      → IsJudged Tells reading writing r r' w w result
+  unread w result fault is only failed unfailed = subst (λ (o : Result ℕ Fault). IsJudged Tells reading writing r r' w w o) (sym is) (record {
     ok = tt;
     no_write_failed = tt;
     write_fault = λ at. absurd (not_of_write fault only at);
     read_fault = λ at. (failed (of_read fault at), refl);
-    memory = λ at. refl;
+    memory = λ at. (refl, unfailed (of_memory fault at));
     reads = reads;
   })
 

@@ -56,13 +56,13 @@ pub record IsToldOf {R : Type 0} (Tells : List ℕ → Verdict → List ℕ → 
   pub wrote : Wrote text
 
 -- a record is read to its end and judged, and the text that tells of it is written: with the status of its verdict; at a write
--- fault a beginning of it; and nothing where a read failed or memory was refused
+-- fault a beginning of it; and nothing where a read failed, or where none did and memory was refused
 pub record IsJudged {R W : Type 0} (Tells : List ℕ → Verdict → List ℕ → Type 0) (reading : Reading R) (writing : Writing W) (r r' : R) (w w' : W) (result : Result ℕ Fault) : Type 0 where
   pub ok : IfOk result (λ status. (v : Verdict) × (status ≡ verdict_status v) × IsToldOf Tells reading r r' (Appends (writing.contents w) (writing.contents w')) v)
   pub no_write_failed : IfOk result (λ status. writing.failed w' ≡ writing.failed w)
   pub write_fault : result ≡ Err Write → (writing.failed w < writing.failed w') × ((v : Verdict) × IsToldOf Tells reading r r' (HasPartOf (writing.contents w) (writing.contents w')) v)
   pub read_fault : result ≡ Err Read → HasFailedRead reading r r' × (w' ≡ w)
-  pub memory : result ≡ Err Memory → w' ≡ w
+  pub memory : result ≡ Err Memory → (w' ≡ w) × (reading.failed r' ≡ reading.failed r)
   pub reads : reading.calls r' ≤ reading.calls r + MOST_READS
 
 -- a record is checked: its verdict is written

@@ -43,7 +43,7 @@ IsPartDrawn (suc more) d before now = HasDrawnPart d.config d.seed d.ids d.steps
 pub record IsDrawnBy {W : Type 0} (d : Drawing) (writing : Writing W) (w w' : W) (result : Result ℕ Fault) : Type 0 where
   pub ok : IfOk result (λ status. (status ≡ 0) × IsDrawn d.runs d (Appends (writing.contents w) (writing.contents w')) × (writing.failed w' ≡ writing.failed w))
   pub write_fault : result ≡ Err Write → IsPartDrawn d.runs d (writing.contents w) (writing.contents w') × (writing.failed w < writing.failed w')
-  pub memory : result ≡ Err Memory → IsPartDrawn d.runs d (writing.contents w) (writing.contents w')
+  pub memory : result ≡ Err Memory → IsPartDrawn d.runs d (writing.contents w) (writing.contents w') × (writing.failed w' ≡ writing.failed w)
   pub only : IfErr result (λ fault. (fault ≡ Write) ⊎ (fault ≡ Memory))
 
 -- a config is played, with the theorem of a run whose replies are written, or whose record is

@@ -21,6 +21,7 @@ pub fn read_whole<R: Source>(
     requires chunk { length chunk.old ≡ READ_BYTES }
     ensures whole { IfOk result (λ bytes. IsWhole (reading R.remaining R.calls R.failed) reader.old reader.new bytes.items) }
     ensures read_fault { result ≡ Err Fault.Read → HasFailedRead (reading R.remaining R.calls R.failed) reader.old reader.new }
+    ensures memory { result ≡ Err Fault.Memory → R.failed reader.new ≡ R.failed reader.old }
     ensures only { IfErr result (λ fault. (fault ≡ Fault.Read) ⊎ (fault ≡ Fault.Memory)) }
     ensures reads { R.calls reader.new ≤ R.calls reader.old + MOST_READS }
 {

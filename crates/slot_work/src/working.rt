@@ -64,8 +64,12 @@ fn play_for<R: Source, W: Sink, A: Allocator + Clone>(
 /// verdict of `check` or of `migrate` is other than yes.
 ///
 /// `play` writes the replies to the commands that it reads, or with `--record` the record of the run; `check` reads to the end and
-/// writes a verdict; `migrate` reads to the end too, and writes the record again in version 2; `draw` reads nothing. Answers `Fault::Read` where the reader failed or the limit of reads was reached,
-/// `Fault::Write` where the writer failed or took no byte, and `Fault::Memory` where memory was refused: by `play` with nothing read and nothing written, and by `check` and `migrate` with nothing written. To serve is not done here.
+/// writes a verdict; `migrate` reads to the end too, and writes the record again in version 2; `draw` reads nothing. To serve is
+/// not done here.
+///
+/// Answers `Fault::Read` where the reader failed or the limit of reads was reached, `Fault::Write` where the writer failed or took
+/// no byte, and `Fault::Memory` where memory was refused: by `play` with nothing read and nothing written, and by `check` and
+/// `migrate` with nothing written.
 pub fn work<R: Source, W: Sink>(
     alloc: Global,
     ask: Ask,

@@ -13,6 +13,7 @@ returns-in_err-bytes g c =
     let fault : c.from_residual.result ≡ Err c.in_err-bytes.field-0.0 = search rules in
     unread IsVerdictText (reading g.R.Read.remaining g.R.Source.calls g.R.Source.failed) (writing g.W.Write.contents g.W.Sink.failed) c.args.reader.now c.read_whole.new.reader c.read_whole.ensures.reads
     c.args.writer.now c.from_residual.result c.in_err-bytes.field-0.0 fault c.in_err-bytes.ensures.only (λ is. c.in_err-bytes.ensures.read_fault (let same : c.in_err-bytes.field-0.0 ≡ _ = is in cc))
+    (λ is. c.in_err-bytes.ensures.memory (let same : c.in_err-bytes.field-0.0 ≡ _ = is in cc))
 
 pub returns-in_err-put_all : goal.returns-in_err-put_all
 returns-in_err-put_all g c =

@@ -16,6 +16,7 @@ returns-in_err-bytes g c =
     let fault : c.from_residual.result ≡ Err c.in_err-bytes.field-0.0 = search rules in
     unread IsRecordText (reading g.R.Read.remaining g.R.Source.calls g.R.Source.failed) (writing g.W.Write.contents g.W.Sink.failed) c.args.reader.now c.read_whole.new.reader c.read_whole.ensures.reads
     c.args.writer.now c.from_residual.result c.in_err-bytes.field-0.0 fault c.in_err-bytes.ensures.only (λ is. c.in_err-bytes.ensures.read_fault (let same : c.in_err-bytes.field-0.0 ≡ _ = is in cc))
+    (λ is. c.in_err-bytes.ensures.memory (let same : c.in_err-bytes.field-0.0 ≡ _ = is in cc))
 
 pub returns-in_err-verdict : goal.returns-in_err-verdict
 returns-in_err-verdict g c =
@@ -68,7 +69,7 @@ returns-then-eq-2 g c =
     let other : c.in_ok-verdict.verdict ≢ Yes = search rules in
     let k = unwritten writes c.as_slice.result.now c.args.writer.now c.migrate.new.writer c.in_ok-verdict.verdict other c.in_ok-verdict.ensures in
     subst (λ w. IsJudged IsRecordText reads writes c.args.reader.now c.read_whole.new.reader c.args.writer.now w (Err Memory)) (sym k.1)
-    (unread IsRecordText reads writes c.args.reader.now c.read_whole.new.reader c.read_whole.ensures.reads c.args.writer.now (Err Memory) Memory refl (inr refl) (λ e. absurd cc))
+    (unread IsRecordText reads writes c.args.reader.now c.read_whole.new.reader c.read_whole.ensures.reads c.args.writer.now (Err Memory) Memory refl (inr refl) (λ e. absurd cc) (λ e. c.in_ok-bytes.ensures.whole.no_read_failed))
 
 pub put_all-requires : goal.put_all-requires
 put_all-requires g c =
