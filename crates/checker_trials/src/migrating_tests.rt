@@ -104,47 +104,23 @@ fn other_spellings(rt: HostRuntime) {
 /// The first moment in which a proposal stands alone is not that of the proposal, nor the last.
 #[test]
 fn a_first_moment_of_another(rt: HostRuntime) {
-    let begun = [OLD[1], OLD[2]];
-    let steps = [
-        r#"{"command":"step 10","reply":"proposed 1"}"#,
-        r#"{"command":"step 20","reply":"proposed 1"}"#,
-        r#"{"command":"step 10","reply":"saw 10:1 20:1"}"#,
-        r#"{"command":"step 10","reply":"proposed 2"}"#,
-        r#"{"command":"step 10","reply":"proposed 1"}"#,
-        r#"{"command":"step 10","reply":"proposed 3"}"#,
-        r#"{"command":"step 10","reply":"named 3"}"#,
-    ];
-    let [one, two, saw, left, again, away, named] = steps;
+    let [old, ten, twenty, one, _, two] = OLD;
+    let saw = r#"{"command":"step 10","reply":"saw 10:1 20:1"}"#;
+    let left = r#"{"command":"step 10","reply":"proposed 2"}"#;
+    let away = r#"{"command":"step 10","reply":"proposed 3"}"#;
+    let named = r#"{"command":"step 10","reply":"named 3"}"#;
+    let last = r#"{"command":"step 20","reply":"named 1"}"#;
     let seen = r#"{"command":"step 10","reply":"named 3","view":"10:3 20:1"}"#;
+    let shown = r#"{"command":"step 20","reply":"named 1","view":"10:2 20:1"}"#;
     migrates(
         &rt,
         rt.alloc(),
         &[
-            OLD[0],
-            begun[0],
-            begun[1],
-            one,
-            two,
-            saw,
-            left,
-            again,
-            away,
-            named,
-            r#"{"command":"step 20","reply":"named 1"}"#,
+            old, ten, twenty, one, two, saw, left, one, away, named, last,
         ],
         Verdict::Yes,
         &[
-            NEW[0],
-            begun[0],
-            begun[1],
-            one,
-            two,
-            saw,
-            left,
-            again,
-            away,
-            seen,
-            r#"{"command":"step 20","reply":"named 1","view":"10:2 20:1"}"#,
+            NEW[0], ten, twenty, one, two, saw, left, one, away, seen, shown,
         ],
     )
 }

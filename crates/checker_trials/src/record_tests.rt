@@ -1,3 +1,5 @@
+//! Records as bytes: headers, lines in other spellings, lines that are none, and records that are cut.
+
 ghost use Rattle.std.specs.Prelude.{◌≤◌, length};
 
 use run_checker::{Reason, Verdict, check};
@@ -143,6 +145,42 @@ fn a_record_of_a_pool_that_widens(rt: HostRuntime) {
         (22, "refused 13", Reason::Refusal),
     ] {
         is_widened_so(&rt, rt.alloc(), at, reply, reason);
+    }
+}
+
+/// A record of six lines, of a pool of four numbers and many rounds.
+const SIX: [&str; 6] = [
+    r#"{"format":"slot-record","k":4,"limit":1000,"m":2,"version":1,"world":"rename"}"#,
+    r#"{"command":"begin 10","reply":"ok"}"#,
+    r#"{"command":"begin 20","reply":"ok"}"#,
+    r#"{"command":"step 10","reply":"proposed 1"}"#,
+    r#"{"command":"step 10","reply":"named 1"}"#,
+    r#"{"command":"step 20","reply":"proposed 1"}"#,
+];
+
+/// That record, with one more line, and with others behind its first three.
+#[test]
+fn a_record_that_goes_on_otherwise(rt: HostRuntime) {
+    let [head, ten, twenty, first, named, second] = SIX;
+    let again = r#"{"command":"step 20","reply":"named 1"}"#;
+    let high = r#"{"command":"step 10","reply":"proposed 4"}"#;
+    let saw = r#"{"command":"step 10","reply":"saw 20:1"}"#;
+    let torn = r#"{"command":"step 10""#;
+    for (lines, want) in [
+        (SIX.as_slice(), Verdict::Yes),
+        (
+            &[head, ten, twenty, first, named, second, again],
+            Verdict::No(7, Reason::Name),
+        ),
+        (&[head, ten, twenty, high], Verdict::No(4, Reason::Proposal)),
+        (
+            &[head, ten, twenty, second, first, saw],
+            Verdict::No(6, Reason::View),
+        ),
+        (&[head, ten, twenty, torn], Verdict::BadRecord(4)),
+        (&[], Verdict::BadRecord(1)),
+    ] {
+        is_judged(&rt, rt.alloc(), lines, want);
     }
 }
 
@@ -471,16 +509,6 @@ fn said_of_cut(bytes: &[u8], at: usize) -> Verdict {
         Verdict::BadRecord(number)
     }
 }
-
-/// A record of six lines.
-const SIX: [&str; 6] = [
-    HEAD,
-    r#"{"command":"begin 10","reply":"ok"}"#,
-    r#"{"command":"begin 20","reply":"ok"}"#,
-    r#"{"command":"step 10","reply":"proposed 1"}"#,
-    r#"{"command":"step 10","reply":"named 1"}"#,
-    r#"{"command":"step 20","reply":"proposed 1"}"#,
-];
 
 /// Compares the verdict on this record, cut after so many bytes.
 fn is_cut_so(rt: &impl Abort, alloc: Global, bytes: &[u8], at: usize)

@@ -91,7 +91,7 @@ fn writes(alloc: Global, line: &str, input: &[u8], status: u8, text: &[u8]) -> b
 }
 
 // Words, an input and what is written for it.
-const PLAYED: [(&str, &[u8], &[u8]); 9] = [
+const PLAYED: [(&str, &[u8], &[u8]); 10] = [
     (
         "slotctl play --record --m 2",
         b"begin 10\nbegin 10\nbad\nowner 1\nstep 10",
@@ -130,6 +130,7 @@ const PLAYED: [(&str, &[u8], &[u8]); 9] = [
         b"begin 7\nquit\nbegin 8",
         b"ok\nok\n",
     ),
+    ("slotctl play --m 2", b"begin 7\nquit\nbegin 8", b"ok\nok\n"),
     (
         "slotctl play --m 1 --k 1",
         b"enter 5\nprobe 5\nput 5 9\nenter 6\nbegin 7\nstep 7\nowner 1\nowner 2\nget 5",
@@ -310,24 +311,24 @@ fn a_read_fault_ends_the_run(rt: HostRuntime) -> Result<(), Fail> {
     Ok(())
 }
 
-#[test]
-fn a_write_fault_ends_the_run(rt: HostRuntime) -> Result<(), Fail> {
-    let alloc = rt.alloc();
-    let asked = ask(
-        alloc,
-        &["slotctl", "play", "--world", "splitter", "--m", "2"],
-    )?;
+// That a run by the words of a line, over a writer that takes seven bytes and then fails, ends at the fault after those.
+fn is_cut_by_a_write_fault(alloc: Global, line: &str) -> Result<bool, Fail> {
+    let asked = asked_by(alloc, line)?;
     if let Ask::Serve(_) = asked {
-        panic!(rt; "to serve is asked for");
+        return Ok(false);
     }
     let mut reader = Tried::new(b"begin 7\nstep 7\n".as_slice());
     let mut writer = Tried::new(Cup::new(alloc, 7, 2, false));
     let outcome = work(alloc, asked, &mut reader, &mut writer);
-    assert!(rt; matches!(outcome, Err(Fault::Write)));
-    assert_eq!(rt;
-        writer.into_inner().taken.as_slice(),
-        b"ok\nquie".as_slice()
-    );
+    let is_cut = writer.into_inner().taken.as_slice() == b"ok\nquie".as_slice();
+    Ok(matches!(outcome, Err(Fault::Write)) && is_cut)
+}
+
+#[test]
+fn a_write_fault_ends_the_run(rt: HostRuntime) -> Result<(), Fail> {
+    for line in ["slotctl play --world splitter --m 2", "slotctl play --m 2"] {
+        assert!(rt; is_cut_by_a_write_fault(rt.alloc(), line)?, "{line}");
+    }
     Ok(())
 }
 
@@ -473,7 +474,20 @@ fn long_work_shows_that_it_goes_on(rt: HostRuntime) -> Result<(), Fail> {
         tell_until(&work, &work.done, &mut errors);
         assert_eq!(rt; errors.as_slice(), text, "after {sleeps}");
     }
-    assert!(rt; may_take_long(&["slotctl", "check"]) && may_take_long(&["slotctl", "draw"]));
-    assert!(rt; !may_take_long(&["slotctl", "play"]) && !may_take_long(&["slotctl"]));
     Ok(())
+}
+
+#[test]
+fn checks_migrations_and_drawings_may_take_long(rt: HostRuntime) {
+    for (words, want) in [
+        (["slotctl", "check"].as_slice(), true),
+        (&["slotctl", "migrate"], true),
+        (&["slotctl", "draw", "--seed", "7"], true),
+        (&["slotctl", "play", "check"], false),
+        (&["slotctl", "serve"], false),
+        (&["slotctl"], false),
+        (&[], false),
+    ] {
+        assert_eq!(rt; may_take_long(words), want, "{words:?}");
+    }
 }
