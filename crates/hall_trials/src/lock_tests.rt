@@ -371,8 +371,9 @@ fn session_acts<L: Ledger, R: Abort + Wait>(
     session: &mut Session<L>,
     rows: &[(Act, Reply)],
 ) {
+    let mut view = View::new();
     for (act, want) in rows {
-        let reply = lock.act(rt, session, *act);
+        let reply = lock.act_short(rt, session, *act, &mut view).with(&view);
         assert!(rt; reply == *want, "{act:?}: {reply:?}");
     }
 }

@@ -6,9 +6,10 @@ use Rattle.step_memory.specs.declared.refusal.Refusal.{Refusal}
 use Rattle.desk.specs.declared.event.Event.{Event}
 use Rattle.desk.specs.declared.event.Event.TheVariants.{Step}
 use Rattle.desk.specs.declared.reply.Reply.{Reply}
-use Rattle.desk.specs.declared.reply.Reply.TheVariants.{Ok, Quiet, Stop, Right, Down, Place, Proposed, Saw, Named, Spent, Missed, Got, Left, Value, Owner, Refused}
+use Rattle.desk.specs.declared.short_reply.ShortReply.{ShortReply}
+use Rattle.desk.specs.declared.short_reply.ShortReply.TheVariants.{Ok, Quiet, Stop, Right, Down, Place, Proposed, Saw, Named, Spent, Missed, Got, Left, Value, Owner, Refused}
 use Rattle.desk.specs.DeskCalls.{exchange}
-use Rattle.desk.specs.Replies.{is_refusal}
+use Rattle.desk.specs.Replies.{is_refusal, with_view}
 use Rattle.locked_world.specs.declared.kept.Kept.{Kept}
 use Rattle.locked_world.specs.Answers.{IsSomeAnswer}
 use Rattle.locked_world.specs.Kepts.{IsKept, Keeps}
@@ -18,24 +19,43 @@ use Rattle.locked_world.specs.Renamed.{goes_on, IsStepped, IsPlainStep}
 pub stepped_not : (id : ℕ) (ks : List Kept) → IsStepped id 0 ks ks
 stepped_not id ks = record { added = []; longer = sym (append-nil ks); counted = refl; plain = All-nil _ }
 
--- who is not named, spent or refused goes on
-pub plain_by : (r : Reply) → ((name : ℕ) (view : List (ℕ × ℕ)) → r ≡ Named name view → ⊥) → (r ≡ Spent → ⊥) → ((why : Refusal) → r ≡ Refused why → ⊥) → (goes_on r ≡ true) × (is_refusal r ≡ false)
-plain_by Ok named spent refused = (refl, refl)
-plain_by Quiet named spent refused = (refl, refl)
-plain_by Stop named spent refused = (refl, refl)
-plain_by Right named spent refused = (refl, refl)
-plain_by Down named spent refused = (refl, refl)
-plain_by (Place place) named spent refused = (refl, refl)
-plain_by (Proposed number) named spent refused = (refl, refl)
-plain_by (Saw view) named spent refused = (refl, refl)
-plain_by (Named name view) named spent refused = absurd (named name view refl)
-plain_by Spent named spent refused = absurd (spent refl)
-plain_by Missed named spent refused = (refl, refl)
-plain_by (Got number) named spent refused = (refl, refl)
-plain_by (Left number) named spent refused = (refl, refl)
-plain_by (Value value) named spent refused = (refl, refl)
-plain_by (Owner owner) named spent refused = (refl, refl)
-plain_by (Refused why) named spent refused = absurd (refused why refl)
+-- a short reply that is none of the refusals is accepted
+pub taken_by : (r : ShortReply) (view : List (ℕ × ℕ)) → ((why : Refusal) → r ≡ Refused why → ⊥) → is_refusal (with_view r view) ≡ false
+taken_by Ok view refused = refl
+taken_by Quiet view refused = refl
+taken_by Stop view refused = refl
+taken_by Right view refused = refl
+taken_by Down view refused = refl
+taken_by (Place place) view refused = refl
+taken_by (Proposed number) view refused = refl
+taken_by Saw view refused = refl
+taken_by (Named name) view refused = refl
+taken_by Spent view refused = refl
+taken_by Missed view refused = refl
+taken_by (Got number) view refused = refl
+taken_by (Left number) view refused = refl
+taken_by (Value value) view refused = refl
+taken_by (Owner owner) view refused = refl
+taken_by (Refused why) view refused = absurd (refused why refl)
+
+-- and who is not named, spent or refused goes on
+pub plain_by : (r : ShortReply) (view : List (ℕ × ℕ)) → ((name : ℕ) → r ≡ Named name → ⊥) → (r ≡ Spent → ⊥) → ((why : Refusal) → r ≡ Refused why → ⊥) → goes_on (with_view r view) ≡ true
+plain_by Ok view named spent refused = refl
+plain_by Quiet view named spent refused = refl
+plain_by Stop view named spent refused = refl
+plain_by Right view named spent refused = refl
+plain_by Down view named spent refused = refl
+plain_by (Place place) view named spent refused = refl
+plain_by (Proposed number) view named spent refused = refl
+plain_by Saw view named spent refused = refl
+plain_by (Named name) view named spent refused = absurd (named name refl)
+plain_by Spent view named spent refused = absurd (spent refl)
+plain_by Missed view named spent refused = refl
+plain_by (Got number) view named spent refused = refl
+plain_by (Left number) view named spent refused = refl
+plain_by (Value value) view named spent refused = refl
+plain_by (Owner owner) view named spent refused = refl
+plain_by (Refused why) view named spent refused = absurd (refused why refl)
 
 -- what a hall answers that is longer
 pub at_least : {least more : ℕ} {e : Event} {r : Reply} → least ≤ more → IsSomeAnswer more e r → IsSomeAnswer least e r

@@ -3,9 +3,11 @@
 ghost use Rattle.std.specs.Prelude.{◌≡◌, ◌<◌, ◌++◌, List, true, vec_len, vec_capacity};
 ghost use Rattle.locked_world.specs.Logs.{reply_shown, is_inside};
 ghost use Rattle.desk.specs.declared.reply.Reply.{Reply};
+ghost use Rattle.desk.specs.Replies.{with_view};
 
-use desk::{Event, Reply};
+use desk::{Event, Reply, ShortReply};
 use std::alloc::Allocator;
+use step_memory::View;
 
 /// A reply of few bytes, or where one with a view or of a rare kind stands apart.
 #[derive(Clone, Copy, Drop)]
@@ -27,24 +29,28 @@ pub(crate) struct Entry {
     pub(crate) reply: Short,
 }
 
-/// What stands for a reply, which is put apart where it is long.
-pub(crate) fn shorten<A: Allocator>(apart: &mut Vec<Reply, A>, reply: &Reply) -> Short
+/// What stands for a reply with the view beside it, which is put apart where it is long.
+pub(crate) fn shorten<A: Allocator>(
+    apart: &mut Vec<Reply, A>,
+    reply: ShortReply,
+    view: &View,
+) -> Short
     requires { vec_len apart.old < vec_capacity apart.old }
-    ensures shown { reply_shown apart.new.items result ≡ reply.now }
+    ensures shown { reply_shown apart.new.items result ≡ with_view reply view.now }
     ensures inside { is_inside (vec_len apart.new) result ≡ true }
     ensures longer { (more : List Reply) × (apart.new.items ≡ apart.old.items ++ more) }
 {
     match reply {
-        Reply::Ok => Short::Ok,
-        Reply::Quiet => Short::Quiet,
-        Reply::Proposed(number) => Short::Proposed(*number),
-        Reply::Missed => Short::Missed,
-        Reply::Got(number) => Short::Got(*number),
-        Reply::Left(number) => Short::Left(*number),
-        Reply::Value(value) => Short::Value(*value),
+        ShortReply::Ok => Short::Ok,
+        ShortReply::Quiet => Short::Quiet,
+        ShortReply::Proposed(number) => Short::Proposed(number),
+        ShortReply::Missed => Short::Missed,
+        ShortReply::Got(number) => Short::Got(number),
+        ShortReply::Left(number) => Short::Left(number),
+        ShortReply::Value(value) => Short::Value(value),
         _ => {
             let at = apart.len();
-            apart.push_reserved(*reply);
+            apart.push_reserved(reply.with(view));
             Short::Apart(at)
         }
     }

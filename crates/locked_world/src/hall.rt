@@ -3,14 +3,15 @@
 ghost use Rattle.std.specs.Prelude.{◌≡◌, ◌⊎◌, ◌↔◌, [], length, slice_get, IfOk, IfErr, Err, false};
 ghost use Rattle.desk.specs.Desk.{gives_names, owner_reply};
 ghost use Rattle.desk.specs.Owner.{IsOwnerReply};
+ghost use Rattle.desk.specs.Replies.{with_view};
 ghost use Rattle.locked_world.specs.Halls.{hall_of, desk_of, IsLawful, hall_refusal, HallMay};
 
 use crate::log::Log;
-use desk::{Desk, Event, Exchange, Reply};
+use desk::{Desk, Event, Exchange, Reply, ShortReply};
 use rename_core::Config;
 use std::alloc::Global;
 use std::marker::Model;
-use step_memory::Refusal;
+use step_memory::{Refusal, View};
 
 /// The most events that a history holds.
 pub const MOST_EVENTS: usize = 1_000_000;
@@ -102,15 +103,23 @@ impl Hall {
     pub fn apply(&mut self, event: Event) -> Reply
         ensures { HallMay self.old event result self.new }
     {
+        let mut view = View::new();
+        self.apply_short(event, &mut view).with(&view)
+    }
+
+    /// As `apply`, with a reply of a few bytes, and its view where it shows one.
+    pub fn apply_short(&mut self, event: Event, view: &mut View) -> ShortReply
+        ensures { HallMay self.old event (with_view result view.new) self.new }
+    {
         if let Some(refusal) = self.refusal(event) {
-            return Reply::Refused(refusal);
+            return ShortReply::Refused(refusal);
         }
         if !self.history.reserve() {
-            return Reply::Refused(Refusal::NoMemory);
+            return ShortReply::Refused(Refusal::NoMemory);
         }
-        let reply = self.held.desk.apply(event);
+        let reply = self.held.desk.apply_short(event, view);
         if !reply.is_refusal() {
-            self.history.push_reserved(event, &reply);
+            self.history.push_reserved(event, reply, view);
         }
         reply
     }

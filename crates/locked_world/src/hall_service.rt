@@ -17,7 +17,7 @@ impl<R> Service<R> for Hall {
     ghost answers = { λ h q known. hall_answers h q };
 
     fn apply(&mut self, _rt: &R, event: Event, view: &mut View) -> ShortReply {
-        Hall::apply(self, event).shorten(view)
+        self.apply_short(event, view)
     }
 
     fn owner(&mut self, _rt: &R, n: u64) -> Reply {

@@ -1,16 +1,17 @@
 //! What a caller has kept, in order.
 
-ghost use Rattle.std.specs.Prelude.{◌≡◌, ◌++◌, [], ◌∷◌, length, slice_get, true, IfOk};
+ghost use Rattle.std.specs.Prelude.{◌≡◌, ◌++◌, ℕ, List, [], ◌∷◌, length, slice_get, true, IfOk};
 ghost use Rattle.desk.specs.DeskCalls.{exchange};
+ghost use Rattle.desk.specs.Replies.{with_view};
 ghost use Rattle.locked_world.specs.KeptLogs.{kept_of};
 ghost use Rattle.locked_world.specs.KeptNames.{name_given, name_kept};
 
 use crate::kept::Kept;
 use crate::log::Log;
-use desk::{Event, Reply};
+use desk::{Event, ShortReply};
 use std::alloc::Global;
 use std::marker::Model;
-use step_memory::NoMemory;
+use step_memory::{NoMemory, View};
 
 /// Kept events in order: 48 bytes each, and their views apart; and the first name among them.
 #[derive(Drop)]
@@ -35,11 +36,11 @@ impl Model for KeptLog {
 }
 
 /// The name that a reply gives.
-fn name_given(reply: &Reply) -> Option<u64>
-    ensures { result ≡ name_given reply.now }
+fn name_given(reply: ShortReply) -> Option<u64>
+    ensures { (view : List (ℕ × ℕ)) → result ≡ name_given (with_view reply view) }
 {
     match reply {
-        Reply::Named(name, _) => Some(*name),
+        ShortReply::Named(name) => Some(name),
         _ => None,
     }
 }
@@ -92,13 +93,19 @@ impl KeptLog {
         self.places.reserve(1).is_ok() && self.log.reserve()
     }
 
-    /// Puts one behind the others, where there is room.
-    pub(crate) fn push_reserved(&mut self, place: usize, event: Event, reply: &Reply)
+    /// Puts one behind the others, where there is room: an event with its place and its reply, and the view beside that.
+    pub(crate) fn push_reserved(
+        &mut self,
+        place: usize,
+        event: Event,
+        reply: ShortReply,
+        view: &View,
+    )
         requires { self.old.room ≡ true }
-        ensures { self.new.items ≡ self.old.items ++ kept_of place (exchange event reply.now) ∷ [] }
+        ensures { self.new.items ≡ self.old.items ++ kept_of place (exchange event (with_view reply view.now)) ∷ [] }
     {
         self.name = self.name.or(name_given(reply));
         self.places.push_reserved(place);
-        self.log.push_reserved(event, reply);
+        self.log.push_reserved(event, reply, view);
     }
 }

@@ -3,7 +3,7 @@
 ghost use Rattle.std.specs.Prelude.{◌≡◌, ◌+◌, ◌-◌, ◌<◌, ◌≤◌, ◌⊎◌, ◌↔◌, [], IfOk, IfErr, IfSome, IfNone, length, Err, true, false};
 ghost use Rattle.desk.specs.Desk.{gives_names};
 ghost use Rattle.locked_world.specs.Acts.{event_of};
-ghost use Rattle.desk.specs.Replies.{is_refusal};
+ghost use Rattle.desk.specs.Replies.{is_refusal, with_view};
 ghost use Rattle.locked_world.specs.Answers.{IsSomeAnswer, IsSomeOwner};
 ghost use Rattle.locked_world.specs.Halls.{HallMay};
 ghost use Rattle.locked_world.specs.Kepts.{Keeps, IsOpened};
@@ -12,12 +12,12 @@ use crate::act::Act;
 use crate::hall::Hall;
 use crate::kept_log::KeptLog;
 use crate::parts::{Clerk, HallLock, Locked, MOST_CALLERS, Session};
-use desk::{Event, Reply};
+use desk::{Event, Reply, ShortReply};
 use rename_core::Config;
 use std::alloc::Global;
 use std::sync::ledger::{Blank, Ledger, Share};
 use std::sync::{Mutex, Wait};
-use step_memory::{NoMemory, Refusal};
+use step_memory::{NoMemory, Refusal, View};
 
 impl<L: Ledger> Clerk<L> {
     /// One who has kept nothing.
@@ -34,13 +34,14 @@ impl<L: Ledger> Clerk<L> {
 }
 
 impl<L: Ledger> Locked<L> {
-    /// One event of a clerk, which the hall answers: it is stored and kept where it is accepted. `None`, with nothing done, where
-    /// the history is not longer than the last place that was kept, which never comes.
-    pub(crate) fn apply(&mut self, clerk: &mut Clerk<L>, event: Event) -> Option<Reply>
-        ensures reply { IfSome result (λ r. IsSomeAnswer (length clerk.old.kept.items) event r) }
-        ensures hall { IfSome result (λ r. HallMay self.old.hall event r self.new.hall) }
-        ensures kept { IfSome result (λ r. Keeps clerk.old.kept.items event r clerk.new.kept.items) }
-        ensures refused { IfSome result (λ r. is_refusal r ≡ true → self.new.hall ≡ self.old.hall) }
+    /// One event of a clerk, which the hall answers: it is stored and kept where it is accepted. The view of the reply is put
+    /// beside it. `None`, with nothing done, where the history is not longer than the last place that was kept, which never
+    /// comes.
+    fn apply(&mut self, clerk: &mut Clerk<L>, event: Event, view: &mut View) -> Option<ShortReply>
+        ensures reply { IfSome result (λ r. IsSomeAnswer (length clerk.old.kept.items) event (with_view r view.new)) }
+        ensures hall { IfSome result (λ r. HallMay self.old.hall event (with_view r view.new) self.new.hall) }
+        ensures kept { IfSome result (λ r. Keeps clerk.old.kept.items event (with_view r view.new) clerk.new.kept.items) }
+        ensures refused { IfSome result (λ r. is_refusal (with_view r view.new) ≡ true → self.new.hall ≡ self.old.hall) }
         ensures opened { self.new.opened ≡ self.old.opened }
         ensures none { IfNone result ((self.new.hall ≡ self.old.hall) × (clerk.new.kept.items ≡ clerk.old.kept.items)) }
         ensures never { IfNone result (length self.old.hall.history < clerk.old.next) }
@@ -58,17 +59,17 @@ impl<L: Ledger> Locked<L> {
             return None;
         }
         if let Some(refusal) = hall.refusal(event) {
-            return Some(Reply::Refused(refusal));
+            return Some(ShortReply::Refused(refusal));
         }
         if !kept.reserve() || marks.reserve(1).is_err() {
-            return Some(Reply::Refused(Refusal::NoMemory));
+            return Some(ShortReply::Refused(Refusal::NoMemory));
         }
-        let reply = hall.apply(event);
+        let reply = hall.apply_short(event, view);
         if reply.is_refusal() {
             return Some(reply);
         }
         book.add(share, 1);
-        kept.push_reserved(place, event, &reply);
+        kept.push_reserved(place, event, reply, view);
         marks.push_reserved(false);
         *next = place + 1;
         Some(reply)
@@ -118,10 +119,11 @@ impl<L: Ledger> Locked<L> {
         ensures refused { IfErr result (λ why. (why ≡ Refusal.Full) ⊎ (why ≡ Refusal.NoMemory) ⊎ IsSomeAnswer 0 (Event.Begin id) (Reply.Refused why)) }
     {
         let mut clerk = self.open(alloc)?;
-        let Some(reply) = self.apply(&mut clerk, Event::Begin(id)) else {
+        let mut view = View::new();
+        let Some(reply) = self.apply(&mut clerk, Event::Begin(id), &mut view) else {
             unreachable!()
         };
-        if let Reply::Refused(refusal) = reply {
+        if let ShortReply::Refused(refusal) = reply {
             self.put_back(clerk);
             return Err(refusal);
         }
@@ -177,8 +179,23 @@ impl<L: Ledger> HallLock<L> {
         ensures reply { IsSomeAnswer (length clerk.old.kept.items) event result }
         ensures kept { Keeps clerk.old.kept.items event result clerk.new.kept.items }
     {
+        let mut view = View::new();
+        self.apply_short(rt, clerk, event, &mut view).with(&view)
+    }
+
+    /// As `apply`, with a reply of a few bytes, and its view where it shows one: so no call on the way clears a kilobyte.
+    pub fn apply_short<R: Wait>(
+        &self,
+        rt: &R,
+        clerk: &mut Clerk<L>,
+        event: Event,
+        view: &mut View,
+    ) -> ShortReply
+        ensures reply { IsSomeAnswer (length clerk.old.kept.items) event (with_view result view.new) }
+        ensures kept { Keeps clerk.old.kept.items event (with_view result view.new) clerk.new.kept.items }
+    {
         for _ in rt.forever() {
-            if let Some(reply) = self.locked.lock(rt).apply(clerk, event) {
+            if let Some(reply) = self.locked.lock(rt).apply(clerk, event, view) {
                 return reply;
             }
         }
@@ -191,7 +208,23 @@ impl<L: Ledger> HallLock<L> {
         ensures kept { Keeps session.old.clerk.kept.items (event_of act session.old.id) result session.new.clerk.kept.items }
         ensures same { session.new.id ≡ session.old.id }
     {
-        self.apply(rt, &mut session.clerk, act.event(session.id))
+        let mut view = View::new();
+        self.act_short(rt, session, act, &mut view).with(&view)
+    }
+
+    /// As `act`, with a reply of a few bytes, and its view where it shows one.
+    pub fn act_short<R: Wait>(
+        &self,
+        rt: &R,
+        session: &mut Session<L>,
+        act: Act,
+        view: &mut View,
+    ) -> ShortReply
+        ensures reply { IsSomeAnswer (length session.old.clerk.kept.items) (event_of act session.old.id) (with_view result view.new) }
+        ensures kept { Keeps session.old.clerk.kept.items (event_of act session.old.id) (with_view result view.new) session.new.clerk.kept.items }
+        ensures same { session.new.id ≡ session.old.id }
+    {
+        self.apply_short(rt, &mut session.clerk, act.event(session.id), view)
     }
 
     /// One step of a session, as `apply`.
@@ -200,7 +233,7 @@ impl<L: Ledger> HallLock<L> {
         ensures kept { Keeps session.old.clerk.kept.items (Event.Step session.old.id) result session.new.clerk.kept.items }
         ensures same { session.new.id ≡ session.old.id }
     {
-        self.apply(rt, &mut session.clerk, Event::Step(session.id))
+        self.act(rt, session, Act::Step)
     }
 
     /// Who has a name, or that nobody has it, as some hall of a lawful history tells it.

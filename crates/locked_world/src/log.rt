@@ -2,13 +2,14 @@
 
 ghost use Rattle.std.specs.Prelude.{◌≡◌, ◌<◌, ◌++◌, [], ◌∷◌, length, slice_get, true, IfOk};
 ghost use Rattle.desk.specs.DeskCalls.{exchange};
+ghost use Rattle.desk.specs.Replies.{with_view};
 ghost use Rattle.locked_world.specs.Logs.{log_of, all_inside};
 
 use crate::entry::{Entry, shorten, shown};
-use desk::{Event, Exchange, Reply};
+use desk::{Event, Exchange, Reply, ShortReply};
 use std::alloc::Allocator;
 use std::marker::Model;
-use step_memory::NoMemory;
+use step_memory::{NoMemory, View};
 
 /// Exchanges in order: 40 bytes each, and their views apart.
 #[derive(Drop)]
@@ -73,12 +74,12 @@ impl<A: Allocator> Log<A> {
         self.entries.reserve(1).is_ok() && self.apart.reserve(1).is_ok()
     }
 
-    /// Puts one behind the others, where there is room.
-    pub(crate) fn push_reserved(&mut self, event: Event, reply: &Reply)
+    /// Puts one behind the others, where there is room: an event with its reply, and the view beside that.
+    pub(crate) fn push_reserved(&mut self, event: Event, reply: ShortReply, view: &View)
         requires { self.old.room ≡ true }
-        ensures { self.new.items ≡ self.old.items ++ exchange event reply.now ∷ [] }
+        ensures { self.new.items ≡ self.old.items ++ exchange event (with_view reply view.now) ∷ [] }
     {
-        let reply = shorten(&mut self.apart, reply);
+        let reply = shorten(&mut self.apart, reply, view);
         self.entries.push_reserved(Entry { event, reply });
     }
 }

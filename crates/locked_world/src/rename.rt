@@ -3,11 +3,12 @@
 ghost use Rattle.std.specs.Prelude.{◌≡◌};
 ghost use Rattle.locked_world.specs.Renamed.{IsRenamed};
 
+use crate::act::Act;
 use crate::parts::{HallLock, Session};
-use desk::Reply;
+use desk::ShortReply;
 use std::sync::Wait;
 use std::sync::ledger::Ledger;
-use step_memory::Refusal;
+use step_memory::{Refusal, View};
 
 impl<L: Ledger> HallLock<L> {
     /// Makes steps of a session until it is named, is spent, is refused, or has made so many. Each takes the lock once.
@@ -21,16 +22,17 @@ impl<L: Ledger> HallLock<L> {
         ensures renamed { IsRenamed session.old.id turns session.old.clerk.kept.items result session.new.clerk.kept.items }
         ensures same { session.new.id ≡ session.old.id }
     {
+        let mut view = View::new();
         for turn in 0..turns {
             let _ = turn;
-            let reply = self.step(rt, session);
-            if let Reply::Named(name, _) = reply {
+            let reply = self.act_short(rt, session, Act::Step, &mut view);
+            if let ShortReply::Named(name) = reply {
                 return Ok(Some(name));
             }
-            if let Reply::Spent = reply {
+            if let ShortReply::Spent = reply {
                 return Err(Refusal::Spent);
             }
-            if let Reply::Refused(refusal) = reply {
+            if let ShortReply::Refused(refusal) = reply {
                 return Err(refusal);
             }
         }

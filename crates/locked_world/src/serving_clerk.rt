@@ -54,7 +54,7 @@ impl<'a, L: Ledger, R: Wait> Service<R> for ServingClerk<'a, L> {
 
     fn apply(&mut self, rt: &R, event: Event, view: &mut View) -> ShortReply {
         let ServingClerk { lock, clerk } = self;
-        lock.apply(rt, clerk, event).shorten(view)
+        lock.apply_short(rt, clerk, event, view)
     }
 
     fn owner(&mut self, rt: &R, n: u64) -> Reply {

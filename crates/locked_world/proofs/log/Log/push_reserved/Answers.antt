@@ -1,5 +1,6 @@
 use Rattle.std.proofs.Common.{◌≡◌, ◌++◌, [], ◌∷◌, true, length, ap, ◌∙◌, sym}
 use Rattle.desk.specs.DeskCalls.{exchange}
+use Rattle.desk.specs.Replies.{with_view}
 use Rattle.locked_world.specs.Logs.{is_inside, put_together}
 use Rattle.locked_world.specs.LogState.{LogState}
 use Rattle.locked_world.proofs.Logging.{put_push, inside_push}
@@ -16,5 +17,5 @@ pub returns : goal.returns
 returns g c =
     let i = c.self.inside in
     let old : put_together i.apart.items i.entries.items ≡ c.args.self.now.items = ap (λ (w : LogState). w.items) c.self.view_is in
-    put_push i.apart.items c.shorten-reply.new.apart.items i.entries.items c.push_reserved.new.self.items c.args.event c.shorten-reply.result c.shorten-reply.ensures.longer c.self.invariant c.push_reserved.ensures.items c.args.reply.now c.shorten-reply.ensures.shown
-    ∙ ap (λ j. j ++ exchange c.args.event c.args.reply.now ∷ []) old
+    put_push i.apart.items c.shorten-reply.new.apart.items i.entries.items c.push_reserved.new.self.items c.args.event c.shorten-reply.result c.shorten-reply.ensures.longer c.self.invariant c.push_reserved.ensures.items (with_view c.args.reply c.args.view.now) c.shorten-reply.ensures.shown
+    ∙ ap (λ j. j ++ exchange c.args.event (with_view c.args.reply c.args.view.now) ∷ []) old

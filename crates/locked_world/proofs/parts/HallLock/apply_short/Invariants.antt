@@ -1,5 +1,5 @@
 use Rattle.std.proofs.Common.{◌≡◌}
-use Rattle.locked_world.proofs.parts.HallLock.apply.Given as goal
+use Rattle.locked_world.proofs.parts.HallLock.apply_short.Given as goal
 
 abbrev pub invariant-loop : goal.invariant-loop
 invariant-loop g l = record {
