@@ -6,7 +6,6 @@ mod StayLemmas
 mod Judging
 mod Following
 mod DeskRuns
-mod FirstBytes
 mod WordLemmas
 mod JsonLemmas
 mod QuickLines

@@ -10,7 +10,7 @@ use Rattle.run_checker.specs.declared.header.Version.TheVariants.{One, Two}
 use Rattle.run_checker.specs.declared.told.Told.{Told}
 use Rattle.run_checker.specs.Json.{is_plain}
 use Rattle.run_checker.specs.QuickLine.{SpellsReply, SpellsLastNumber}
-use Rattle.run_checker.specs.ReplyText.{number_of, told_by, told_with, told_in, told_of_words, word_with}
+use Rattle.run_checker.specs.ReplyText.{told_by, told_with, told_in, told_of_words, word_with}
 use Rattle.run_checker.proofs.Pieces.{lacks, pieces-last, pieces-cut}
 use Rattle.run_checker.proofs.written.PlainLines.{close}
 use Rattle.run_checker.proofs.written.Words.{all_by, plain_both, digit_plain, digit_no_space}
@@ -24,10 +24,6 @@ words_plain xs h = all_by is_of_words is_plain of_words_plain xs h
 -- the bytes past a beginning, as a slice gives them
 pub rest_of-slice : (bytes : List ℕ) (n : ℕ) → n ≤ length bytes → take (length bytes - n) (drop n bytes) ≡ drop n bytes
 rest_of-slice bytes n le = take_all (length bytes - n) (drop n bytes) (omega (arith, length-drop n bytes))
-
-pub same_number : (word : List ℕ) → number_of word ≡ number_in word
-same_number [] = refl
-same_number (b ∷ bs) = refl
 
 -- what is told in each version
 in_both : (t : Told) → told_with One t None ≡ Some t → told_with Two t None ≡ Some t → (version : Version) → told_with version t None ≡ Some t
@@ -43,7 +39,7 @@ word_spelled text replied t written plain is one two = record { replied = replie
 
 -- a reply of a word and a number
 pub number_spelled : (text word rest : List ℕ) (t : Told) (n : ℕ) → text ≡ (word ++ 32 ∷ []) ++ rest → SpellsLastNumber rest n → list_all is_plain word ≡ true → lacks 32 word ≡ true → same_bytes word (codes "saw") ≡ false →
-    ((digits : List ℕ) → number_of digits ≡ Some n → word_with word digits ≡ Some t) → told_with One t None ≡ Some t → told_with Two t None ≡ Some t → SpellsReply text t
+    ((digits : List ℕ) → number_in digits ≡ Some n → word_with word digits ≡ Some t) → told_with One t None ≡ Some t → told_with Two t None ≡ Some t → SpellsReply text t
 number_spelled text word rest t n split s plain whole other tells one two =
     let replied : List ℕ = word ++ 32 ∷ s.digits in
     let cut : words replied ≡ word ∷ s.digits ∷ [] =

@@ -1,26 +1,12 @@
 -- what reply a text tells (the command language: this project's profile). Numbers are not bounded by what could be answered,
 -- only by their width: a place has 128 bits, any other number 64
-use Rattle.std.specs.Prelude.{ℕ, ◌+◌, ◌^◌, ◌==◌, nat_lt, if◌then◌else◌, List, [], ◌∷◌, ◌++◌, length, Option, Some, None, option_map, option_and_then, codes}
-use Rattle.std.specs.List.{list_all}
+use Rattle.std.specs.Prelude.{ℕ, ◌^◌, nat_lt, if◌then◌else◌, List, [], ◌∷◌, ◌++◌, Option, Some, None, option_map, option_and_then, codes}
 use Rattle.schedule_player.specs.Lines.{pieces_from}
-use Rattle.schedule_player.specs.Meaning.{words, is_digit, decimal_from, same_bytes}
+use Rattle.schedule_player.specs.Meaning.{words, number_below, number_in, same_bytes}
 use Rattle.run_checker.specs.declared.header.Version.{Version}
 use Rattle.run_checker.specs.declared.header.Version.TheVariants.{One, Two}
 use Rattle.run_checker.specs.declared.told.Told.{Told}
 use Rattle.run_checker.specs.declared.told.Told.TheVariants.{Ok, Quiet, Stop, Right, Down, Place, Proposed, Saw, Named, Spent, Missed, Got, Left, Value, Owner, Refused}
-
-abbrev pub if_below : ℕ → ℕ → Option ℕ
-if_below bound n = if nat_lt n bound then Some n else None
-
--- the number that a word writes: `0`, or digits without a leading zero, below this bound
-abbrev pub number_below : ℕ → List ℕ → Option ℕ
-number_below bound [] = None
-number_below bound (b ∷ bs) =
-    if list_all is_digit (b ∷ bs) then (if b == 48 then (if length bs == 0 then Some 0 else None) else if_below bound (decimal_from 0 (b ∷ bs)))
-    else None
-
-abbrev pub number_of : List ℕ → Option ℕ
-number_of word = number_below (2 ^ 64) word
 
 abbrev pub pair_by : Option ℕ → Option ℕ → Option (ℕ × ℕ)
 pair_by None number = None
@@ -30,7 +16,7 @@ pair_by (Some id) (Some number) = Some (id, number)
 abbrev pub pair_of : List (List ℕ) → Option (ℕ × ℕ)
 pair_of [] = None
 pair_of (id ∷ []) = None
-pair_of (id ∷ number ∷ []) = pair_by (number_of id) (number_of number)
+pair_of (id ∷ number ∷ []) = pair_by (number_in id) (number_in number)
 pair_of (id ∷ number ∷ other ∷ more) = None
 
 -- the pair that a word writes: an identity and a number, with a colon between them
@@ -69,18 +55,18 @@ word_alone word =
     else None
 
 abbrev pub owner_of : List ℕ → Option Told
-owner_of other = if same_bytes other (codes "none") then Some (Owner None) else option_map (λ id. Owner (Some id)) (number_of other)
+owner_of other = if same_bytes other (codes "none") then Some (Owner None) else option_map (λ id. Owner (Some id)) (number_in other)
 
 -- the reply of a word and another
 abbrev pub word_with : List ℕ → List ℕ → Option Told
 word_with word other =
     if same_bytes word (codes "place") then option_map Place (number_below (2 ^ 128) other)
-    else if same_bytes word (codes "proposed") then option_map Proposed (number_of other)
-    else if same_bytes word (codes "named") then option_map (λ name. Named name None) (number_of other)
-    else if same_bytes word (codes "got") then option_map Got (number_of other)
-    else if same_bytes word (codes "left") then option_map Left (number_of other)
-    else if same_bytes word (codes "value") then option_map Value (number_of other)
-    else if same_bytes word (codes "refused") then option_map Refused (number_of other)
+    else if same_bytes word (codes "proposed") then option_map Proposed (number_in other)
+    else if same_bytes word (codes "named") then option_map (λ name. Named name None) (number_in other)
+    else if same_bytes word (codes "got") then option_map Got (number_in other)
+    else if same_bytes word (codes "left") then option_map Left (number_in other)
+    else if same_bytes word (codes "value") then option_map Value (number_in other)
+    else if same_bytes word (codes "refused") then option_map Refused (number_in other)
     else if same_bytes word (codes "owner") then owner_of other
     else None
 
@@ -109,16 +95,6 @@ told_with Two t (Some text) = None
 -- what these texts tell of a reply
 abbrev pub told_by : Version → List ℕ → Option (List ℕ) → Option Told
 told_by version text shown = option_and_then (λ t. told_with version t shown) (told_in text)
-
--- the pieces of the bytes that are left, none where nothing follows a separator
-abbrev pub pieces_left : ℕ → Option (List ℕ) → List (List ℕ)
-pieces_left separator None = []
-pieces_left separator (Some bytes) = pieces_from separator [] bytes
-
--- how much is left to read
-abbrev pub left_length : Option (List ℕ) → ℕ
-left_length None = 0
-left_length (Some bytes) = length bytes + 1
 
 -- what was read so far, with what is read of the rest
 abbrev pub after_pairs : List (ℕ × ℕ) → Option (List (ℕ × ℕ)) → Option (List (ℕ × ℕ))

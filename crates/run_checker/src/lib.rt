@@ -67,7 +67,6 @@ mod stays;
 mod text;
 pub mod told;
 pub mod verdict;
-mod words;
 
 pub use checker::Checker;
 pub use header::{Header, Version};

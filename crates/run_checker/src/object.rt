@@ -8,8 +8,8 @@ ghost use Rattle.run_checker.specs.declared.header.Header.{Header};
 ghost use Rattle.run_checker.specs.declared.header.Version.{Version};
 
 use crate::header::{Header, Version};
-use crate::words::is_word;
 use rename_core::{Config, WorldKind};
+use schedule_player::words::is_word;
 use serde_json::Value;
 
 /// How many keys an object has.

@@ -7,7 +7,7 @@ ghost use Rattle.run_checker.specs.Json.{is_plain};
 ghost use Rattle.run_checker.specs.RecordLine.{SpellsTexts};
 
 use crate::object::LineTexts;
-use crate::words::is_word;
+use schedule_player::words::is_word;
 
 /// Whether a byte stands for itself in a text of JSON.
 fn is_plain(byte: u8) -> bool

@@ -7,8 +7,8 @@ use crate::header::Version;
 use crate::line::Line;
 use crate::plain_line::after;
 use crate::told::Told;
-use crate::words::is_word;
 use rename_core::WorldKind;
+use schedule_player::words::is_word;
 use schedule_player::{Command, quick_command, quick_number};
 
 /// What an event's line says, in the world of this kind, where it takes one look at each byte: with no space between its parts, its

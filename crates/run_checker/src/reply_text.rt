@@ -2,11 +2,12 @@
 
 ghost use Rattle.std.specs.Prelude.{◌≡◌, IfOk};
 ghost use Rattle.std.specs.Option.{option_copied};
-ghost use Rattle.run_checker.specs.ReplyText.{pair_in, pairs_in, word_alone, owner_of, word_with, plain_of, told_in, pieces_left};
+ghost use Rattle.schedule_player.specs.Lines.{pieces_left};
+ghost use Rattle.run_checker.specs.ReplyText.{pair_in, pairs_in, word_alone, owner_of, word_with, plain_of, told_in};
 
 use crate::pairs::Pairs;
 use crate::told::Told;
-use crate::words::{cut, is_word, number, wide_number};
+use schedule_player::words::{cut, is_word, number, wide_number};
 use std::alloc::{AllocError, Global};
 
 /// The pair that a word writes: an identity and a number, with a colon between them.

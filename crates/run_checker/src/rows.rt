@@ -2,10 +2,10 @@
 
 ghost use Rattle.std.specs.Prelude.{◌≡◌, ◌∷◌, [], ◌≤◌, length, MatchOption, IsTrue, ◌↔◌, None};
 ghost use Rattle.std.specs.Option.{option_copied};
-ghost use Rattle.run_checker.specs.ReplyText.{left_length};
+ghost use Rattle.schedule_player.specs.Lines.{left_length};
 ghost use Rattle.run_checker.specs.Verdict.{record_lines, lines_left};
 
-use crate::words::cut;
+use schedule_player::words::cut;
 
 /// Whether this is what stands after the last LF, with nothing in it.
 fn is_end(line: &[u8], rest: Option<&[u8]>) -> bool

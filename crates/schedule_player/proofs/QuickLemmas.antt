@@ -11,7 +11,7 @@ use Rattle.schedule_player.specs.declared.command.Command.{Command}
 use Rattle.schedule_player.specs.Digits.{DigitsSoFar}
 use Rattle.schedule_player.specs.Quick.{IsNumberBefore, IsCommandBefore, is_of_words}
 use Rattle.schedule_player.specs.Lines.{pieces_from}
-use Rattle.schedule_player.specs.Meaning.{meaning, words, command_of, number_in, is_digit, is_printable, decimal_from, if_fits}
+use Rattle.schedule_player.specs.Meaning.{meaning, words, command_of, number_in, is_digit, is_printable, decimal_from, if_below}
 use Rattle.schedule_player.proofs.LineLemmas.{both, not_true}
 
 decimal_from-push : (n : ℕ) (xs : List ℕ) (x : ℕ) → decimal_from n (xs ++ x ∷ []) ≡ decimal_from n xs * 10 + (x - 48)
@@ -57,7 +57,7 @@ digit_at (b ∷ bs) (suc i) all lt = digit_at bs i (both (is_digit b) (list_all 
 number-digits : (word : List ℕ) (n : ℕ) → number_in word ≡ Some n → list_all is_digit word ≡ true
 number-digits [] n = λ is. absurd cc
 number-digits (b ∷ bs) n =
-    elim (list_all is_digit (b ∷ bs)) as (λ t. cond t (cond (eqb b 48) (cond (eqb (length bs) 0) (Some 0) None) (if_fits (decimal_from 0 (b ∷ bs)))) None ≡ Some n → t ≡ true) [
+    elim (list_all is_digit (b ∷ bs)) as (λ t. cond t (cond (eqb b 48) (cond (eqb (length bs) 0) (Some 0) None) (if_below (2 ^ 64) (decimal_from 0 (b ∷ bs)))) None ≡ Some n → t ≡ true) [
       | true ↦ λ is. refl
       | false ↦ λ is. absurd cc
     ]

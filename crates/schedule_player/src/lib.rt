@@ -53,6 +53,7 @@ pub mod source;
 mod splitter_world;
 pub mod summary;
 pub mod tried;
+pub mod words;
 pub mod world;
 
 pub use as_record::{AsRecord, HEADER_ROOM, print_header};

@@ -14,7 +14,7 @@ use Rattle.desk.specs.declared.reply.Reply.{Reply}
 use Rattle.desk.specs.declared.reply.Reply.TheVariants as reply
 use Rattle.desk.specs.Desk.{gives_names}
 use Rattle.desk.specs.DeskCalls.{exchange_of}
-use Rattle.schedule_player.specs.Meaning.{is_digit, decimal_from, same_bytes, words}
+use Rattle.schedule_player.specs.Meaning.{is_digit, decimal_from, same_bytes, words, if_below, number_below, number_in}
 use Rattle.schedule_player.specs.Records.{exchange_line, turn_record, record_of, header_line}
 use Rattle.schedule_player.specs.Turns.{exchanges}
 use Rattle.schedule_player.specs.Turns.Turn.{Answered}
@@ -36,7 +36,7 @@ use Rattle.run_checker.specs.Migrated.{Telling, IsTelling, after_telling, exchan
 use Rattle.run_checker.specs.ObjectRun.{DeskObject, fresh_desk_object, AllowsCall, after_call, IsObjectRun}
 use Rattle.run_checker.specs.RecordLine.{IsEventLine, IsHeaderLine}
 use Rattle.run_checker.specs.Recorded.{IsRecordOf, IsYes}
-use Rattle.run_checker.specs.ReplyText.{if_below, number_below, number_of, told_in, told_of_words, plain_of, word_alone, word_with, owner_of, saw_of, pairs_in, told_with, told_by}
+use Rattle.run_checker.specs.ReplyText.{told_in, told_of_words, plain_of, word_alone, word_with, owner_of, saw_of, pairs_in, told_with, told_by}
 use Rattle.run_checker.specs.Verdict.{record_lines, lines_left, AreRead, SpellRun, IsSaid}
 use Rattle.rename_core.proofs.MostIn.{few_take_part}
 use Rattle.run_checker.proofs.NarrowRuns.{FitsPlace, AreWritable, run_narrow}
@@ -83,17 +83,17 @@ place_fits (b ∷ bs) =
     (place_if (b == 48) (if length bs == 0 then Some 0 else None) (if_below (2 ^ 128) (decimal_from 0 (b ∷ bs))) (place_if (length bs == 0) (Some 0) None (omega arith) tt) (below_fits (decimal_from 0 (b ∷ bs)))) tt
 
 owner_fits : (other : List ℕ) → IfFits (owner_of other)
-owner_fits other = either_fits (same_bytes other (codes "none")) _ _ tt (other_fits (λ id. told.Owner (Some id)) (λ id. tt) (number_of other))
+owner_fits other = either_fits (same_bytes other (codes "none")) _ _ tt (other_fits (λ id. told.Owner (Some id)) (λ id. tt) (number_in other))
 
 with_fits : (word other : List ℕ) → IfFits (word_with word other)
 with_fits word other =
     either_fits (same_bytes word (codes "place")) _ _ (place_fits other)
-    (either_fits (same_bytes word (codes "proposed")) _ _ (other_fits told.Proposed (λ n. tt) (number_of other))
-    (either_fits (same_bytes word (codes "named")) _ _ (other_fits (λ n. told.Named n None) (λ n. tt) (number_of other))
-    (either_fits (same_bytes word (codes "got")) _ _ (other_fits told.Got (λ n. tt) (number_of other))
-    (either_fits (same_bytes word (codes "left")) _ _ (other_fits told.Left (λ n. tt) (number_of other))
-    (either_fits (same_bytes word (codes "value")) _ _ (other_fits told.Value (λ n. tt) (number_of other))
-    (either_fits (same_bytes word (codes "refused")) _ _ (other_fits told.Refused (λ n. tt) (number_of other))
+    (either_fits (same_bytes word (codes "proposed")) _ _ (other_fits told.Proposed (λ n. tt) (number_in other))
+    (either_fits (same_bytes word (codes "named")) _ _ (other_fits (λ n. told.Named n None) (λ n. tt) (number_in other))
+    (either_fits (same_bytes word (codes "got")) _ _ (other_fits told.Got (λ n. tt) (number_in other))
+    (either_fits (same_bytes word (codes "left")) _ _ (other_fits told.Left (λ n. tt) (number_in other))
+    (either_fits (same_bytes word (codes "value")) _ _ (other_fits told.Value (λ n. tt) (number_in other))
+    (either_fits (same_bytes word (codes "refused")) _ _ (other_fits told.Refused (λ n. tt) (number_in other))
     (either_fits (same_bytes word (codes "owner")) (owner_of other) None (owner_fits other) tt)))))))
 
 alone_fits : (word : List ℕ) → IfFits (word_alone word)

@@ -2,7 +2,7 @@
 use Rattle.std.proofs.Common.{◌≡◌, ℕ, ◌+◌, ◌<◌, ◌≤◌, List, [], ◌∷◌, ◌++◌, length, Option, Some, None, refl, sym, ap, ◌∙◌, subst, arith, length-append, append_assoc}
 use Rattle.std.proofs.lemmas.List.{append-nil}
 use Rattle.std.specs.Prelude.{MatchOption}
-use Rattle.schedule_player.specs.Lines.{pieces_from}
+use Rattle.schedule_player.specs.Lines.{pieces_from, pieces_left}
 use Rattle.rename_core.specs.declared.config.WorldKind.{WorldKind}
 use Rattle.run_checker.specs.declared.checker.Checker.{Checker}
 use Rattle.run_checker.specs.declared.header.Header.{Header}
@@ -12,7 +12,6 @@ use Rattle.run_checker.specs.declared.reason.Reason.{Reason}
 use Rattle.run_checker.specs.Config.{terms_of}
 use Rattle.run_checker.specs.Judged.{HasTaken, IsFaultAfter, TakesOn, TakesMore}
 use Rattle.run_checker.specs.RecordLine.{IsEventLine}
-use Rattle.run_checker.specs.ReplyText.{pieces_left}
 use Rattle.run_checker.specs.Verdict.{lines_from, lines_of, record_lines, lines_left, AreRead, SpellRun, IsFaultyRow, IsBadRow}
 use Rattle.run_checker.proofs.WordLemmas.{HasPiece, some_piece}
 use Rattle.run_checker.proofs.records.Runs.{follows_run}

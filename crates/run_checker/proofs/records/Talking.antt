@@ -20,7 +20,7 @@ use Rattle.schedule_player.specs.declared.command.Command.{Command}
 use Rattle.schedule_player.specs.declared.command.Command.TheVariants as command
 use Rattle.schedule_player.specs.Asked.{until_quit, asked_by}
 use Rattle.schedule_player.specs.DeskWorld.{DeskWorldMay}
-use Rattle.schedule_player.specs.Meaning.{is_digit, is_printable, decimal_from, if_fits, number_in, same_bytes, command_if, command_of_one, event_of_one, event_if_both, event_of_two, quit_of, has_desk, desk_command_of, command_in, words, meaning}
+use Rattle.schedule_player.specs.Meaning.{is_digit, is_printable, decimal_from, if_below, number_in, same_bytes, command_if, command_of_one, event_of_one, event_if_both, event_of_two, quit_of, has_desk, desk_command_of, command_in, words, meaning}
 use Rattle.schedule_player.specs.Runs.{Runs}
 use Rattle.schedule_player.specs.Turns.{Turn, asked, exchanges}
 use Rattle.schedule_player.specs.Turns.Turn.{Answered, Told, Ended, Misread}
@@ -49,7 +49,7 @@ either_below : (b : Bool) (x y : Option ℕ) → IsBelow x → IsBelow y → IsB
 either_below true x y h k = h
 either_below false x y h k = k
 
-fits_below : (n : ℕ) → IsBelow (if_fits n)
+fits_below : (n : ℕ) → IsBelow (if_below (2 ^ 64) n)
 fits_below n = elim (leb_tells (suc n) (2 ^ 64)) [
   | inl e ↦ rw e.0 (let small = e.1 in omega arith)
   | inr e ↦ rw e.0 tt
@@ -59,7 +59,7 @@ number_below : (word : List ℕ) → IsBelow (number_in word)
 number_below [] = tt
 number_below (b ∷ bs) =
     either_below (list_all is_digit (b ∷ bs)) _ None
-    (either_below (b == 48) (if length bs == 0 then Some 0 else None) (if_fits (decimal_from 0 (b ∷ bs))) (either_below (length bs == 0) (Some 0) None (omega arith) tt) (fits_below (decimal_from 0 (b ∷ bs)))) tt
+    (either_below (b == 48) (if length bs == 0 then Some 0 else None) (if_below (2 ^ 64) (decimal_from 0 (b ∷ bs))) (either_below (length bs == 0) (Some 0) None (omega arith) tt) (fits_below (decimal_from 0 (b ∷ bs)))) tt
 
 one_by : (event : ℕ → Event) → ((n : ℕ) → n < 2 ^ 64 → IsNarrowEvent (event n)) → (o : Option ℕ) → IsBelow o → IsNarrow (command_if (λ n. command.Event (event n)) o)
 one_by event narrow None h = tt

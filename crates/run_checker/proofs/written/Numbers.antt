@@ -5,8 +5,7 @@ use Rattle.std.proofs.lemmas.Bool.Decides.{nat_tests}
 use Rattle.std.proofs.lemmas.Bool.{ne_eqb, lt-ltb}
 use Rattle.std.proofs.lemmas.Fmt.{decimal_digit, decimal_by_steps_wide}
 use Rattle.std.proofs.lemmas.List.Folds.{list_all-append}
-use Rattle.schedule_player.specs.Meaning.{is_digit, decimal_from, number_in}
-use Rattle.run_checker.specs.ReplyText.{number_below, number_of}
+use Rattle.schedule_player.specs.Meaning.{is_digit, decimal_from, number_in, number_below}
 
 -- digits that write this number, with no leading zero but of 0
 pub record AreDigitsOf (n : ℕ) (ds : List ℕ) : Type 0 where
@@ -56,12 +55,5 @@ pub read_decimal : (bound n : ℕ) → n < bound → n < 10 ^ 64 → number_belo
 read_decimal bound zero below small = rw (decimal_digit 0 (omega arith)) refl
 read_decimal bound (suc n) below small = read_digits bound (suc n) (decimal (suc n)) (decimal_digits (suc n) small) (omega arith) below
 
-number_in-number_of : (word : List ℕ) → number_in word ≡ number_of word
-number_in-number_of [] = refl
-number_in-number_of (b ∷ bs) = refl
-
 pub number_in-decimal : (n : ℕ) → n < 2 ^ 64 → number_in (decimal n) ≡ Some n
-number_in-decimal n h = number_in-number_of (decimal n) ∙ read_decimal (2 ^ 64) n h (omega arith)
-
-pub number_of-decimal : (n : ℕ) → n < 2 ^ 64 → number_of (decimal n) ≡ Some n
-number_of-decimal n h = read_decimal (2 ^ 64) n h (omega arith)
+number_in-decimal n h = read_decimal (2 ^ 64) n h (omega arith)

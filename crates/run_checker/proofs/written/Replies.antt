@@ -16,7 +16,7 @@ use Rattle.run_checker.specs.Lines.{told_of}
 use Rattle.run_checker.specs.declared.header.Version.TheVariants.{Two}
 use Rattle.run_checker.specs.ReplyText.{pair_in, pair_of, pairs_after, pairs_in, told_in, told_of_words, told_with, saw_of}
 use Rattle.run_checker.proofs.Pieces.{lacks, pieces-pass, pieces-last, pieces-cut}
-use Rattle.run_checker.proofs.written.Numbers.{read_decimal, number_of-decimal}
+use Rattle.run_checker.proofs.written.Numbers.{read_decimal, number_in-decimal}
 use Rattle.run_checker.specs.Json.{is_plain}
 use Rattle.run_checker.proofs.written.Texts.{IsPlainView, shown_text}
 use Rattle.run_checker.proofs.written.Words.{AreNarrow, IsShort, IsNarrowReply, lacks_both, no_space, no_colon, number_word, plain_both, plain_decimal, short_decimal, word_plain}
@@ -38,7 +38,7 @@ pair_read pair h k =
     let cut : pieces_from 58 [] (pair_word pair) ≡ decimal pair.0 ∷ decimal pair.1 ∷ [] =
     ap (pieces_from 58 []) (append_assoc (decimal pair.0) (codes ":") (decimal pair.1)) ∙ pieces-cut 58 [] (decimal pair.0) (decimal pair.1) (no_colon pair.0 (omega arith))
     ∙ ap (λ (l : List (List ℕ)). decimal pair.0 ∷ l) (pieces-last 58 [] (decimal pair.1) (no_colon pair.1 (omega arith))) in
-    ap pair_of cut ∙ rw (number_of-decimal pair.0 h, number_of-decimal pair.1 k) refl
+    ap pair_of cut ∙ rw (number_in-decimal pair.0 h, number_in-decimal pair.1 k) refl
 
 read_pairs : (above : ℕ) (view : List (ℕ × ℕ)) → AreNarrow view → IsAbove above view → IsRising view → pairs_after above (map pair_word view) ≡ Some view
 read_pairs above [] n a r = refl
@@ -72,20 +72,20 @@ reply_tells reply.Stop h = refl
 reply_tells reply.Right h = refl
 reply_tells reply.Down h = refl
 reply_tells (reply.Place place) h = ap (λ (l : List (List ℕ)). told_of_words (codes "place" ∷ l)) (number_word [] place (omega arith)) ∙ rw (read_decimal (2 ^ 128) place h (omega arith)) refl
-reply_tells (reply.Proposed number) h = ap (λ (l : List (List ℕ)). told_of_words (codes "proposed" ∷ l)) (number_word [] number (omega arith)) ∙ rw (number_of-decimal number h) refl
+reply_tells (reply.Proposed number) h = ap (λ (l : List (List ℕ)). told_of_words (codes "proposed" ∷ l)) (number_word [] number (omega arith)) ∙ rw (number_in-decimal number h) refl
 reply_tells (reply.Saw view) h = ap told_of_words (pieces_of_pairs (codes "saw") view h.narrow) ∙ saw_read view h
 reply_tells (reply.Named name view) h =
     let small = h.0 in
-    ap (λ (l : List (List ℕ)). told_of_words (codes "named" ∷ l)) (number_word [] name (omega arith)) ∙ rw (number_of-decimal name h.0) refl
+    ap (λ (l : List (List ℕ)). told_of_words (codes "named" ∷ l)) (number_word [] name (omega arith)) ∙ rw (number_in-decimal name h.0) refl
 reply_tells reply.Spent h = refl
 reply_tells reply.Missed h = refl
-reply_tells (reply.Got number) h = ap (λ (l : List (List ℕ)). told_of_words (codes "got" ∷ l)) (number_word [] number (omega arith)) ∙ rw (number_of-decimal number h) refl
-reply_tells (reply.Left number) h = ap (λ (l : List (List ℕ)). told_of_words (codes "left" ∷ l)) (number_word [] number (omega arith)) ∙ rw (number_of-decimal number h) refl
-reply_tells (reply.Value value) h = ap (λ (l : List (List ℕ)). told_of_words (codes "value" ∷ l)) (number_word [] value (omega arith)) ∙ rw (number_of-decimal value h) refl
+reply_tells (reply.Got number) h = ap (λ (l : List (List ℕ)). told_of_words (codes "got" ∷ l)) (number_word [] number (omega arith)) ∙ rw (number_in-decimal number h) refl
+reply_tells (reply.Left number) h = ap (λ (l : List (List ℕ)). told_of_words (codes "left" ∷ l)) (number_word [] number (omega arith)) ∙ rw (number_in-decimal number h) refl
+reply_tells (reply.Value value) h = ap (λ (l : List (List ℕ)). told_of_words (codes "value" ∷ l)) (number_word [] value (omega arith)) ∙ rw (number_in-decimal value h) refl
 reply_tells (reply.Owner owner) h = absurd h
 reply_tells (reply.Refused why) h =
     let small = refusal_small why in
-    ap (λ (l : List (List ℕ)). told_of_words (codes "refused" ∷ l)) (number_word [] (refusal_number why) (omega arith)) ∙ rw (number_of-decimal (refusal_number why) (omega arith)) refl
+    ap (λ (l : List (List ℕ)). told_of_words (codes "refused" ∷ l)) (number_word [] (refusal_number why) (omega arith)) ∙ rw (number_in-decimal (refusal_number why) (omega arith)) refl
 
 pairs_plain : (view : List (ℕ × ℕ)) → AreNarrow view → list_all is_plain (pair_words view) ≡ true
 pairs_plain [] h = refl

@@ -1,7 +1,7 @@
 use Rattle.std.proofs.Common.{◌≡◌, ◌++◌, take, drop, sym, ap, ◌∙◌, arith}
 use Rattle.std.proofs.lemmas.List.{take-append-drop}
 use Rattle.run_checker.proofs.JsonLemmas.{same_is}
-use Rattle.run_checker.proofs.QuickLines.{rest_of-slice, same_number}
+use Rattle.run_checker.proofs.QuickLines.{rest_of-slice}
 use Rattle.run_checker.proofs.written.PlainLines.{close}
 use Rattle.run_checker.proofs.quick_line.last_number.Goals as goal
 
@@ -16,5 +16,5 @@ returns c =
       digits = take count text;
       written = sym (take-append-drop count text) ∙ ap (λ l. take count text ++ l) ends;
       are_digits = n.digits;
-      number = same_number (take count text) ∙ n.number;
+      number = n.number;
     }

@@ -1,5 +1,5 @@
 use Rattle.std.specs.Option.{option_copied}
-use Rattle.run_checker.specs.ReplyText.{left_length}
+use Rattle.schedule_player.specs.Lines.{left_length}
 use Rattle.run_checker.specs.Verdict.{lines_left}
 use Rattle.run_checker.proofs.records.Rows.{RowsSoFar}
 use Rattle.run_checker.proofs.record.judge_rows.Given as goal

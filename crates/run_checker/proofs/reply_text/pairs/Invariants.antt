@@ -1,7 +1,8 @@
 use Rattle.std.proofs.Common.{◌≡◌}
 use Rattle.std.specs.Option.{option_copied}
 use Rattle.schedule_player.specs.Meaning.{words}
-use Rattle.run_checker.specs.ReplyText.{pairs_after, pieces_left, left_length, after_pairs}
+use Rattle.schedule_player.specs.Lines.{pieces_left, left_length}
+use Rattle.run_checker.specs.ReplyText.{pairs_after, after_pairs}
 use Rattle.run_checker.proofs.reply_text.pairs.Given as goal
 
 -- what was read so far, with what is left to read, is all

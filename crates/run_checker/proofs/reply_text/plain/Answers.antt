@@ -1,6 +1,6 @@
 use Rattle.std.proofs.Common.{◌≡◌, ◌∷◌, [], ℕ, List, refl, ap, ◌∙◌}
 use Rattle.std.specs.Option.{option_copied}
-use Rattle.run_checker.specs.ReplyText.{pieces_left}
+use Rattle.schedule_player.specs.Lines.{pieces_left}
 use Rattle.run_checker.proofs.WordLemmas.{some_piece}
 use Rattle.run_checker.proofs.reply_text.plain.Goals as goal
 

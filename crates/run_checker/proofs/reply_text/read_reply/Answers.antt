@@ -3,7 +3,8 @@ use Rattle.std.specs.Prelude.{option_map, codes}
 use Rattle.std.specs.Option.{option_copied}
 use Rattle.schedule_player.specs.Meaning.{words, same_bytes}
 use Rattle.run_checker.specs.declared.told.Told.TheVariants.{Saw}
-use Rattle.run_checker.specs.ReplyText.{pieces_left, pairs_after, saw_of, told_of_words}
+use Rattle.schedule_player.specs.Lines.{pieces_left}
+use Rattle.run_checker.specs.ReplyText.{pairs_after, saw_of, told_of_words}
 use Rattle.run_checker.proofs.WordLemmas.{some_piece, saw_pieces}
 use Rattle.run_checker.proofs.reply_text.read_reply.Goals as goal
 

@@ -1,7 +1,7 @@
 use Rattle.std.proofs.Common.{◌≡◌, ◌+◌, ◌-◌, length, take, drop, sym, length-drop}
 use Rattle.std.proofs.Math.Seq.{take-length}
-use Rattle.run_checker.proofs.WordLemmas.{pieces-at_end, pieces-no_end}
-use Rattle.run_checker.proofs.words.cut.Goals as goal
+use Rattle.schedule_player.proofs.WordLemmas.{pieces-at_end, pieces-no_end}
+use Rattle.schedule_player.proofs.words.cut.Goals as goal
 
 pub returns-in-Some-clause-pieces : goal.returns-in-Some-clause-pieces
 returns-in-Some-clause-pieces c =

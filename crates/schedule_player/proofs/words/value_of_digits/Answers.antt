@@ -1,6 +1,6 @@
 use Rattle.std.proofs.Common.{◌∙◌, ◌^◌, arith}
-use Rattle.run_checker.proofs.WordLemmas.{if_below-too_large, if_below-all}
-use Rattle.run_checker.proofs.words.value_of_digits.Goals as goal
+use Rattle.schedule_player.proofs.NumberLemmas.{if_below-too_large, if_below-all}
+use Rattle.schedule_player.proofs.words.value_of_digits.Goals as goal
 
 pub returns-in_err-checked_mul : goal.returns-in_err-checked_mul
 returns-in_err-checked_mul c =

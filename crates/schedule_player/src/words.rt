@@ -3,9 +3,8 @@
 ghost use Rattle.std.specs.Prelude.{◌≡◌, ◌∷◌, ◌≤◌, ◌^◌, ◌==◌, [], position, true, length};
 ghost use Rattle.std.specs.List.{list_all};
 ghost use Rattle.std.specs.Option.{option_copied};
-ghost use Rattle.schedule_player.specs.Lines.{pieces_from};
-ghost use Rattle.schedule_player.specs.Meaning.{is_digit, decimal_from, same_bytes};
-ghost use Rattle.run_checker.specs.ReplyText.{if_below, number_below, number_of, pieces_left, left_length};
+ghost use Rattle.schedule_player.specs.Lines.{pieces_from, pieces_left, left_length};
+ghost use Rattle.schedule_player.specs.Meaning.{is_digit, decimal_from, same_bytes, if_below, number_below, number_in};
 
 use memchr::memchr;
 
@@ -16,7 +15,7 @@ fn first_of(bytes: &[u8], wanted: u8) -> Option<usize>
     memchr(wanted, bytes)
 }
 
-/// The first piece of these bytes, and what follows its separator, if one ends it.
+/// The first piece of these bytes, which ends before the first separator, and what follows that; `None` where there is none.
 pub fn cut(bytes: &[u8], separator: u8) -> (&[u8], Option<&[u8]>)
     ensures pieces { pieces_from separator [] bytes.now ≡ result.0.now ∷ pieces_left separator (option_copied result.1) }
     ensures shorter { left_length (option_copied result.1) ≤ length bytes.now }
@@ -27,7 +26,7 @@ pub fn cut(bytes: &[u8], separator: u8) -> (&[u8], Option<&[u8]>)
     }
 }
 
-/// Whether this is the word of that name.
+/// Whether a word is this name, byte by byte.
 pub fn is_word(word: &[u8], name: &[u8]) -> bool
     ensures { result ≡ same_bytes word.now name.now }
 {
@@ -67,9 +66,10 @@ fn wide_value_of_digits(digits: &[u8]) -> Option<u128>
     Some(value)
 }
 
-/// The number that a word writes: `0`, or digits without a leading zero, below 2^64.
+/// The number that a word writes: `0`, or decimal digits without a leading zero, below 2^64. `None` for every other word (this
+/// project's profile).
 pub fn number(word: &[u8]) -> Option<u64>
-    ensures { result ≡ number_of word.now }
+    ensures { result ≡ number_in word.now }
 {
     if !is_all_digits(word) || word.is_empty() {
         return None;
@@ -80,7 +80,7 @@ pub fn number(word: &[u8]) -> Option<u64>
     value_of_digits(word)
 }
 
-/// The same, below 2^128.
+/// As `number`, below 2^128.
 pub fn wide_number(word: &[u8]) -> Option<u128>
     ensures { result ≡ number_below (2 ^ 128) word.now }
 {
@@ -88,7 +88,7 @@ pub fn wide_number(word: &[u8]) -> Option<u128>
         return None;
     }
     if word[0] == b'0' {
-        return (word.len() == 1).then_some(0);
+        return (word.len() == 1).then_some(0u128);
     }
     wide_value_of_digits(word)
 }
