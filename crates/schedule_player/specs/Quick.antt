@@ -1,9 +1,10 @@
 -- the first command of some bytes
 use Rattle.std.specs.Prelude.{◌≡◌, ℕ, ◌<◌, ◌≤◌, ◌==◌, ◌&&◌, ◌||◌, nat_le, Bool, true, List, length, take, slice_index, Some, Ok}
 use Rattle.std.specs.List.{list_all}
+use Rattle.desk.specs.Desk.{gives_names}
 use Rattle.schedule_player.specs.declared.command.Command.{Command}
 use Rattle.rename_core.specs.declared.config.WorldKind.{WorldKind}
-use Rattle.schedule_player.specs.Meaning.{meaning, has_desk, is_digit, number_in}
+use Rattle.schedule_player.specs.Meaning.{meaning, is_digit, number_in}
 
 -- what words of letters, and numbers, are written with
 abbrev pub is_of_words : ℕ → Bool
@@ -26,4 +27,4 @@ pub record IsNumberBefore (end : ℕ) (text : List ℕ) (value count : ℕ) : Ty
 
 -- they do so in each world that is a desk
 abbrev pub IsDeskCommandBefore : ℕ → List ℕ → Command → ℕ → Type 0
-IsDeskCommandBefore by bytes command end = (world : WorldKind) → has_desk world ≡ true → IsCommandBefore by world bytes command end
+IsDeskCommandBefore by bytes command end = (world : WorldKind) → gives_names world ≡ true → IsCommandBefore by world bytes command end

@@ -13,12 +13,13 @@ use Rattle.desk.specs.declared.reply.Reply.{Reply}
 use Rattle.desk.specs.declared.reply.Reply.TheVariants as reply
 use Rattle.desk.specs.Owner.{IsOwnerReply}
 use Rattle.desk.specs.Replies.{done_reply}
+use Rattle.desk.specs.Desk.{gives_names}
 use Rattle.schedule_player.specs.declared.bad.Bad.{Bad}
 use Rattle.schedule_player.specs.declared.bad.Bad.TheVariants.{TooLong, NotPrintable, UnknownWord}
 use Rattle.schedule_player.specs.declared.command.Command.{Command}
 use Rattle.schedule_player.specs.declared.command.Command.TheVariants as command
 use Rattle.schedule_player.specs.Knows.{Knows}
-use Rattle.schedule_player.specs.Meaning.{meaning, command_in, command_of_one, command_if, quit_of, number_in, same_bytes, has_desk, desk_command_of, is_printable, words}
+use Rattle.schedule_player.specs.Meaning.{meaning, command_in, command_of_one, command_if, quit_of, number_in, same_bytes, desk_command_of, is_printable, words}
 use Rattle.schedule_player.specs.Owners.{AreOwnersTold}
 use Rattle.schedule_player.specs.Requests.{Request, as_command}
 use Rattle.schedule_player.specs.Requests.Request.{Take, OwnerOf}
@@ -49,19 +50,19 @@ visit_if : (b : Bool) (x y : Result Command Bad) → IsVisit x → IsVisit y →
 visit_if true x y p q = p
 visit_if false x y p q = q
 
-visit_of_words : (kind : WorldKind) → has_desk kind ≡ false → (ws : List (List ℕ)) → IsVisit (command_in kind ws)
+visit_of_words : (kind : WorldKind) → gives_names kind ≡ false → (ws : List (List ℕ)) → IsVisit (command_in kind ws)
 visit_of_words kind none [] = tt
 visit_of_words kind none (word ∷ others) =
     let begin : Result Command Bad = command_of_one (λ n. command.Event (Begin n)) others in
     let step : Result Command Bad = command_of_one (λ n. command.Event (Step n)) others in
-    let rest : Result Command Bad = cond (has_desk kind) (desk_command_of word others) (Err UnknownWord) in
+    let rest : Result Command Bad = cond (gives_names kind) (desk_command_of word others) (Err UnknownWord) in
     let unknown : IsVisit rest = subst (λ b. IsVisit (cond b (desk_command_of word others) (Err UnknownWord))) (sym none) tt in
     let quit : Result Command Bad = cond (same_bytes word (codes "quit")) (quit_of others) rest in
     visit_if (same_bytes word (codes "begin")) begin (cond (same_bytes word (codes "step")) step quit) (visit_of_one Begin (λ n. refl) others)
     (visit_if (same_bytes word (codes "step")) step quit (visit_of_one Step (λ n. refl) others)
     (visit_if (same_bytes word (codes "quit")) (quit_of others) rest (quit_is_visit others) unknown))
 
-visit_of_line : (kind : WorldKind) → has_desk kind ≡ false → (line : List ℕ) → IsVisit (meaning kind line)
+visit_of_line : (kind : WorldKind) → gives_names kind ≡ false → (line : List ℕ) → IsVisit (meaning kind line)
 visit_of_line kind none line =
     let all : Result Command Bad = command_in kind (words line) in
     let printable : Result Command Bad = cond (not (list_all is_printable line)) (Err NotPrintable) all in
@@ -73,7 +74,7 @@ visit_known (Take e) visit = visit
 visit_known (OwnerOf n) visit = absurd visit
 
 -- what lines of such a kind mean is known
-pub visits_meant : (kind : WorldKind) → has_desk kind ≡ false → Knows knows_visits kind
+pub visits_meant : (kind : WorldKind) → gives_names kind ≡ false → Knows knows_visits kind
 visits_meant kind none line q is = visit_known q (subst IsVisit is (visit_of_line kind none line))
 
 -- a name that is asked for where none are given is answered so

@@ -7,7 +7,7 @@ ghost use Rattle.schedule_player.specs.Digits.{DigitsSoFar};
 ghost use Rattle.schedule_player.specs.Quick.{IsCommandBefore, IsDeskCommandBefore, IsNumberBefore};
 
 use crate::command::Command;
-use crate::parse::has_desk;
+use crate::parse::gives_names;
 use desk::Event;
 use rename_core::WorldKind;
 
@@ -28,7 +28,7 @@ pub fn quick_command(bytes: &[u8], world: WorldKind, end: u8) -> Option<(Command
         let (id, count) = quick_number(number, end)?;
         return Some((Command::Event(Event::Begin(id)), count + 6));
     }
-    if has_desk(world) {
+    if gives_names(world) {
         return quick_desk_command(bytes, end);
     }
     None

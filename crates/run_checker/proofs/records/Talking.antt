@@ -9,7 +9,7 @@ use Rattle.desk.specs.declared.event.Event.{Event}
 use Rattle.desk.specs.declared.event.Event.TheVariants.{Begin, Step, Enter, Probe, Leave, Put, Get, Widen}
 use Rattle.desk.specs.declared.reply.Reply.{Reply}
 use Rattle.desk.specs.declared.reply.Reply.TheVariants as reply
-use Rattle.desk.specs.Desk.{desk_rules, IsAfterDesk}
+use Rattle.desk.specs.Desk.{gives_names, desk_rules, IsAfterDesk}
 use Rattle.desk.specs.DeskCalls.{DeskCall}
 use Rattle.desk.specs.DeskValue.{DeskValue}
 use Rattle.desk.specs.Rules.{may_by}
@@ -20,7 +20,7 @@ use Rattle.schedule_player.specs.declared.command.Command.{Command}
 use Rattle.schedule_player.specs.declared.command.Command.TheVariants as command
 use Rattle.schedule_player.specs.Asked.{until_quit, asked_by}
 use Rattle.schedule_player.specs.DeskWorld.{DeskWorldMay}
-use Rattle.schedule_player.specs.Meaning.{is_digit, is_printable, decimal_from, if_below, number_in, same_bytes, command_if, command_of_one, event_of_one, event_if_both, event_of_two, quit_of, has_desk, desk_command_of, command_in, words, meaning}
+use Rattle.schedule_player.specs.Meaning.{is_digit, is_printable, decimal_from, if_below, number_in, same_bytes, command_if, command_of_one, event_of_one, event_if_both, event_of_two, quit_of, desk_command_of, command_in, words, meaning}
 use Rattle.schedule_player.specs.Runs.{Runs}
 use Rattle.schedule_player.specs.Turns.{Turn, asked, exchanges}
 use Rattle.schedule_player.specs.Turns.Turn.{Answered, Told, Ended, Misread}
@@ -110,7 +110,7 @@ words_narrow kind (word ∷ others) =
     either_narrow (same_bytes word (codes "begin")) (event_of_one Begin others) _ (one_narrow Begin (λ n h. h) others)
     (either_narrow (same_bytes word (codes "step")) (event_of_one Step others) _ (one_narrow Step (λ n h. h) others)
     (either_narrow (same_bytes word (codes "quit")) (quit_of others) _ (quit_narrow others)
-    (either_narrow (has_desk kind) (desk_command_of word others) (Err UnknownWord) (desk_narrow word others) tt)))
+    (either_narrow (gives_names kind) (desk_command_of word others) (Err UnknownWord) (desk_narrow word others) tt)))
 
 pub line_narrow : (kind : WorldKind) (line : List ℕ) → IsNarrow (meaning kind line)
 line_narrow kind line =

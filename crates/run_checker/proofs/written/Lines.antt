@@ -14,7 +14,6 @@ use Rattle.desk.specs.declared.reply.Reply.TheVariants as reply
 use Rattle.desk.specs.Desk.{gives_names}
 use Rattle.schedule_player.specs.Events.{event_words}
 use Rattle.schedule_player.specs.Lines.{has_no_lf, with_ends}
-use Rattle.schedule_player.specs.Meaning.{has_desk}
 use Rattle.schedule_player.specs.Records.{world_name, header_line, name_view, exchange_line, turn_record, record_of}
 use Rattle.schedule_player.specs.Replies.{reply_words}
 use Rattle.schedule_player.specs.Turns.{Turn, exchanges}
@@ -48,12 +47,6 @@ row_of x = line_text (event_words x.event) (reply_words x.reply) (shown_of x.rep
 
 abbrev head_of : Config → List ℕ
 head_of c = header_text c.k c.limit c.m (world_name c.world)
-
-desk_named : (kind : WorldKind) → gives_names kind ≡ true → has_desk kind ≡ true
-desk_named Splitter h = absurd cc
-desk_named Grid h = absurd cc
-desk_named Rename h = refl
-desk_named Tree h = refl
 
 ascii_text : (xs : List ℕ) → are_ascii xs ≡ true → IsUtf8 xs
 ascii_text xs h = IsUtf8-are_ascii xs h
@@ -108,7 +101,7 @@ has_texts c r None = record { keys = refl; command_is = refl; reply_is = refl; v
 has_texts c r (Some view) = record { keys = refl; command_is = refl; reply_is = refl; view_is = refl }
 
 -- the line of an exchange says it
-module _ (kind : WorldKind) (desk : has_desk kind ≡ true) where
+module _ (kind : WorldKind) (desk : gives_names kind ≡ true) where
   row_says : (x : Exchange) → IsNarrowEvent x.event → IsNarrowReply x.reply → IsEventLine kind Two (row_of x) (line_of true x)
   row_says x e r =
       let asked = event_words x.event in
@@ -259,7 +252,7 @@ module _ (c : Config) (named : gives_names c.world ≡ true) (ts : List Turn) (n
     rows = map row_of (exchanges ts);
     is = record_cut;
     header = head_says c named;
-    read = rows_read c.world (desk_named c.world named) (exchanges ts) narrow;
+    read = rows_read c.world named (exchanges ts) narrow;
   }
 
 -- as many rows are read as lines

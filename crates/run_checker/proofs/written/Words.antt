@@ -12,12 +12,13 @@ use Rattle.desk.specs.declared.event.Event.{Event}
 use Rattle.desk.specs.declared.event.Event.TheVariants.{Begin, Step, Enter, Probe, Leave, Put, Get, Widen}
 use Rattle.desk.specs.declared.reply.Reply.{Reply}
 use Rattle.desk.specs.declared.reply.Reply.TheVariants as reply
+use Rattle.desk.specs.Desk.{gives_names}
 use Rattle.schedule_player.specs.declared.bad.Bad.{Bad}
 use Rattle.schedule_player.specs.declared.command.Command.{Command}
 use Rattle.schedule_player.specs.declared.command.Command.TheVariants as command
 use Rattle.schedule_player.specs.Events.{event_words}
 use Rattle.schedule_player.specs.Lines.{pieces_from, has_no_lf}
-use Rattle.schedule_player.specs.Meaning.{is_digit, is_printable, words, has_desk, command_in, meaning}
+use Rattle.schedule_player.specs.Meaning.{is_digit, is_printable, words, command_in, meaning}
 use Rattle.run_checker.proofs.Pieces.{lacks, pieces-last, pieces-cut}
 use Rattle.run_checker.proofs.written.Numbers.{decimal_digits, number_in-decimal}
 use Rattle.run_checker.specs.Json.{is_plain}
@@ -142,13 +143,13 @@ put_plain p value hp hv = plain_both ((codes "put " ++ decimal p) ++ codes " ") 
 put_short : (p value : ℕ) → p < 2 ^ 64 → value < 2 ^ 64 → length (event_words (Put p value)) ≤ 45
 put_short p value hp hv = omega (arith, short_decimal p hp, short_decimal value hv, length-append (decimal p ++ codes " ") (decimal value), length-append (decimal p) (codes " "))
 
-is_put : (kind : WorldKind) (desk : has_desk kind ≡ true) (p value : ℕ) → p < 2 ^ 64 → value < 2 ^ 64 → meaning kind (event_words (Put p value)) ≡ Ok (command.Event (Put p value))
+is_put : (kind : WorldKind) (desk : gives_names kind ≡ true) (p value : ℕ) → p < 2 ^ 64 → value < 2 ^ 64 → meaning kind (event_words (Put p value)) ≡ Ok (command.Event (Put p value))
 is_put kind desk p value hp hv =
     means_by kind (event_words (Put p value)) (codes "put" ∷ decimal p ∷ decimal value ∷ []) _ (omega (arith, put_short p value hp hv)) (put_plain p value (omega arith) (omega arith))
     (ap (λ (k : List (List ℕ)). codes "put" ∷ k) (two_words p value (omega arith) (omega arith))) (rw (desk, number_in-decimal p hp, number_in-decimal value hv) refl)
 
 -- the words of an event mean it
-pub event_means : (kind : WorldKind) → has_desk kind ≡ true → (e : Event) → IsNarrowEvent e → meaning kind (event_words e) ≡ Ok (command.Event e)
+pub event_means : (kind : WorldKind) → gives_names kind ≡ true → (e : Event) → IsNarrowEvent e → meaning kind (event_words e) ≡ Ok (command.Event e)
 event_means kind desk (Begin p) h = means_one kind p h (codes "begin") (Ok (command.Event (Begin p))) refl refl (omega arith) (rw (number_in-decimal p h) refl)
 event_means kind desk (Step p) h = means_one kind p h (codes "step") (Ok (command.Event (Step p))) refl refl (omega arith) (rw (number_in-decimal p h) refl)
 event_means kind desk (Enter p) h = means_one kind p h (codes "enter") (Ok (command.Event (Enter p))) refl refl (omega arith) (rw (desk, number_in-decimal p h) refl)
