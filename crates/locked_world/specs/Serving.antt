@@ -30,6 +30,10 @@ abbrev pub ClerkServes : List Kept → Request → Reply → List Kept → Type 
 ClerkServes ks (Take e) r new = IsSomeAnswer (length ks) e r × Keeps ks e r new
 ClerkServes ks (OwnerOf n) r new = IsSomeOwner n r × (new ≡ ks)
 
+-- a clerk that had kept these has come to keep those by turns that it answered
+abbrev pub ClerkGoesOn : List Kept → List Kept → Type 0
+ClerkGoesOn ks new = (ts : List Turn) × Runs ClerkServes ks ts new
+
 -- a growth was refused, or the history was full
 abbrev pub is_of_room : Refusal → Bool
 is_of_room refusal.NoMemory = true

@@ -8,8 +8,9 @@
 //!
 //! `serve_many` accepts so many connections, numbers them from 0 in order of acceptance (`Connections::accept`), and has one worker
 //! for each clerk serve them, each connection whole. No lock of the hall is held while a client is waited for. A fault of
-//! one connection ends it alone. All clerks come back but for want of memory (`clerks`), so that the lock can be closed with
-//! what they kept, and where no fault is told as many were served as were asked for (`all`).
+//! one connection ends it alone. All clerks come back but for want of memory (`clerks`), each with what it had kept and, behind
+//! that, the accepted events of turns that it answered (`kept`, by `law_of_serving`), so that the lock can be closed with them; and
+//! where no fault is told as many were served as were asked for (`all`).
 //!
 //! A `Gate` is told of each line that was read whole before it is applied, and of each reply that was written whole (`Watched`):
 //! a test holds a worker there. `OpenGate` does nothing.

@@ -1,6 +1,8 @@
 //! Workers, one for each clerk, that serve the connections of a listener.
 
-ghost use Rattle.std.specs.Prelude.{◌≡◌, ◌≢◌, IfNone, Some, vec_len};
+ghost use Rattle.std.specs.Prelude.{◌≡◌, ◌≢◌, IfNone, Some, map, vec_len};
+ghost use Rattle.locked_world.specs.Serving.{ClerkGoesOn};
+ghost use Rattle.slot_server.specs.Clerks.{ClerksGoOn};
 
 use crate::connections::Connections;
 use crate::gate::Gate;
@@ -59,7 +61,9 @@ fn serve_stream<R: Wait, L: Ledger, G: Gate<R>>(
     service: &mut ServingClerk<'_, L>,
     gate: &G,
     connection: u64,
-) {
+)
+    ensures { ClerkGoesOn service.old service.new }
+{
     let mut reader = Watched::new(rt, gate, connection, Tried::new(stream));
     let mut writer = Watched::new(rt, gate, connection, Tried::new(stream));
     if serve_one(rt, alloc, &mut reader, &mut writer, service).is_ok() {
@@ -76,7 +80,9 @@ fn work<R: Wait, L: Ledger, G: Gate<R>>(
     gate: &G,
     connections: &Mutex<Connections>,
     clerk: Clerk<L>,
-) -> Clerk<L> {
+) -> Clerk<L>
+    ensures { ClerkGoesOn clerk.kept.items result.kept.items }
+{
     let mut service = ServingClerk::new(lock, clerk);
     for _ in rt.forever() {
         let next = connections.lock(rt).accept(listener);
@@ -92,8 +98,9 @@ fn work<R: Wait, L: Ledger, G: Gate<R>>(
 /// acceptance, is served whole by one worker: a client that is slow or silent holds that one, and no lock of the hall. A
 /// fault of one connection ends it alone. A worker for which no thread can be made runs in the caller's.
 ///
-/// All clerks come back, but at `ServerFault::Memory`; `ServerFault::Network` where no further connection could be accepted, or
-/// no clerk was there to serve it. With no fault as many were served as were asked for.
+/// All clerks come back, each with what it had kept and what it answered since, but at `ServerFault::Memory`;
+/// `ServerFault::Network` where no further connection could be accepted, or no clerk was there to serve it. With no fault as
+/// many were served as were asked for.
 pub fn serve_many<L, R, G>(
     rt: &R,
     alloc: Global,
@@ -109,13 +116,16 @@ where
     G: Gate<R> + Sync,
     ensures clerks { result.fault ≢ Some ServerFault.Memory → vec_len result.clerks ≡ vec_len clerks }
     ensures all { IfNone result.fault (result.served ≡ count) }
+    ensures kept { result.fault ≢ Some ServerFault.Memory → ClerksGoOn (map (λ c. c.kept.items) clerks.items) (map (λ c. c.kept.items) result.clerks.items) }
 {
     let connections = Mutex::new(Connections::new(count));
     let shared = &connections;
     let back = thread::map_vec(
         rt,
         clerks,
-        &|clerk| { work(rt, alloc, listener, lock, gate, shared, clerk) },
+        &|clerk: Clerk<L>| -> Clerk<L>
+            ensures { ClerkGoesOn clerk.kept.items result.kept.items }
+        { work(rt, alloc, listener, lock, gate, shared, clerk) },
     );
     let connections = connections.into_inner();
     match back {

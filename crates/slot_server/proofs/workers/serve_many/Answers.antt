@@ -4,6 +4,7 @@ use Rattle.std.proofs.alloc.Global.TheSendSync as heap
 use Rattle.std.proofs.net.tcp.TcpListener.TheSendSync as listener
 use Rattle.std.proofs.sync.Mutex.TheSendSync as mutex
 use Rattle.locked_world.proofs.Sent.{lock_sync}
+use Rattle.slot_server.proofs.GoingOn.{all_go_on}
 use Rattle.slot_server.proofs.connections.Connections.TheSendSync as connections
 use Rattle.slot_server.proofs.workers.serve_many.Lts as lts
 use Rattle.slot_server.proofs.workers.serve_many.Goals as goal
@@ -37,3 +38,8 @@ map_vec-back-requires-sync-F g c κs within =
       );
     } in
     param_sync 4 _ closure
+
+-- each clerk that comes back is what its worker made of it
+pub returns-in-Ok-clause-kept : goal.returns-in-Ok-clause-kept
+returns-in-Ok-clause-kept g c unlost =
+    all_go_on (λ k. k.kept.items) c.args.clerks.items c.in-Ok.clerks.items (λ i d lt. let one = (c.in-Ok.ensures.each i d lt).1 in (one.job, one.job_is, one.call.met))

@@ -1,0 +1,10 @@
+use Rattle.std.proofs.Common.{rules}
+use Rattle.slot_server.proofs.GoingOn.{goes_further}
+use Rattle.slot_server.proofs.workers.work.Goals as goal
+
+pub loop-preserved : goal.loop-preserved
+loop-preserved g c = record {
+  can = search rules;
+  ends = search rules;
+  gone = goes_further _ _ _ c.loop.invariant.gone c.serve_stream.ensures;
+}
