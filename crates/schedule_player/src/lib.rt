@@ -11,7 +11,8 @@
 //! parameter of the player (`Form`: `AsReplies`, `AsRecord`).
 //!
 //! What a line means is `meaning`, which `parse_line` answers of every line; `quick_command` and `quick_number` answer it of the commonest
-//! commands and of numbers in one pass, up to any byte that ends them, for whoever reads commands out of other text.
+//! commands and of numbers in one pass, up to any byte that ends them, for whoever reads commands out of other text. `words` cuts
+//! bytes at a separator, and reads the numbers that words write.
 //!
 //! A service answers events and tells owners by rules (`Service`), and a world is a service that is opened from a config
 //! (`World`). `play_in` plays in any world, and `play_on` on any service.
