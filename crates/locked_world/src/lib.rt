@@ -8,10 +8,10 @@
 //! A `HallLock` is a hall under a lock. *Sessions*, each of one participant, and *clerks*, who apply any event, are its callers.
 //! A call takes the lock once and is one event; its caller keeps the event with its reply where it is accepted, at a place
 //! above the places before. What is proved: the reply is one that some hall of a lawful history gives, at least as long as what
-//! the caller had kept (`HallLock::{apply, act, step, session}` and their fellows); `rename` adds at most its turns, and exactly its turns where
-//! they are used up; `close` gives a history of the config that the lock was made for, each place of which was kept by just one
-//! caller, with the event and the reply that stand there, or hands all back. So the accepted replies that the callers got are one
-//! run, each once, in each caller's order.
+//! the caller had kept (`HallLock::{apply, act, step, session}` and their fellows); `rename` adds at most its turns, and exactly
+//! its turns where they are used up; `close` gives a history of the config that the lock was made for, each place of which was
+//! kept by just one caller, with the event and the reply that stand there, or hands all back. So the accepted replies that the
+//! callers got are one run, each once, in each caller's order.
 //!
 //! A reply may show a view, which takes a kilobyte. Where events are many, `Hall::apply_short` and `HallLock::{apply_short, act_short}`
 //! answer in a few bytes and put the view beside.

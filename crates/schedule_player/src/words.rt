@@ -8,7 +8,7 @@ ghost use Rattle.schedule_player.specs.Meaning.{is_digit, decimal_from, same_byt
 
 use memchr::memchr;
 
-/// Where a byte stands first.
+// Where a byte stands first.
 fn first_of(bytes: &[u8], wanted: u8) -> Option<usize>
     ensures { result ≡ position (λ byte. byte == wanted) bytes.now }
 {
@@ -33,14 +33,14 @@ pub fn is_word(word: &[u8], name: &[u8]) -> bool
     word == name
 }
 
-/// Whether each byte is a decimal digit.
+// Whether each byte is a decimal digit.
 fn is_all_digits(word: &[u8]) -> bool
     ensures { result ≡ list_all is_digit word.now }
 {
     word.iter().all(|byte| byte.is_ascii_digit())
 }
 
-/// The number that digits write, if it is below 2^64.
+// The number that digits write, if it is below 2^64.
 fn value_of_digits(digits: &[u8]) -> Option<u64>
     requires { list_all is_digit digits.now ≡ true }
     ensures { result ≡ if_below (2 ^ 64) (decimal_from 0 digits.now) }
@@ -52,7 +52,7 @@ fn value_of_digits(digits: &[u8]) -> Option<u64>
     Some(value)
 }
 
-/// The number that digits write, if it is below 2^128.
+// The number that digits write, if it is below 2^128.
 fn wide_value_of_digits(digits: &[u8]) -> Option<u128>
     requires { list_all is_digit digits.now ≡ true }
     ensures { result ≡ if_below (2 ^ 128) (decimal_from 0 digits.now) }
