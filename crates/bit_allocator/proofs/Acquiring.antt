@@ -16,7 +16,8 @@ use Rattle.bit_allocator.specs.PoolState.{PoolState}
 use Rattle.bit_allocator.specs.Pool.{fresh_pool, enter_refusal, after_probe, probe_answer}
 use Rattle.bit_allocator.specs.Calls.{Call}
 use Rattle.bit_allocator.specs.Calls.Call.{Probed}
-use Rattle.bit_allocator.specs.After.{After, next, IsReply}
+use Rattle.bit_allocator.specs.Machine.{next, IsReply, pool}
+use Rattle.step_memory.specs.Machine.{After}
 use Rattle.bit_allocator.specs.Acquired.{stay_calls, IsAcquired, GetsAfter, Gets}
 use Rattle.bit_allocator.proofs.Counts.{competitor}
 use Rattle.bit_allocator.proofs.StayOfLemmas.{stay_of-push, stay_of-with_stay}
@@ -82,5 +83,5 @@ acquired w id n bits may gets =
     }
 
 -- so a pool after some calls is after these and a stay
-pub acquired_after : (size : ℕ) (w new : PoolState) (r : List Call) (id n : ℕ) (a : IsAcquired w id n new) → After size w r → After size new (r ++ stay_calls id a.misses n)
-acquired_after size w new r id n a after = record { first = after.first; last = after.last; run = run_on next IsReply (fresh_pool size) w new r (stay_calls id a.misses n) after.run a.run }
+pub acquired_after : (size : ℕ) (w new : PoolState) (r : List Call) (id n : ℕ) (a : IsAcquired w id n new) → After pool size w r → After pool size new (r ++ stay_calls id a.misses n)
+acquired_after size w new r id n a after = record { started = after.started; run = run_on next IsReply (fresh_pool size) w new r (stay_calls id a.misses n) after.run a.run }

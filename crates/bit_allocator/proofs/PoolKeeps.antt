@@ -7,7 +7,7 @@ use Rattle.step_memory.specs.declared.refusal.Refusal.TheVariants.{OutOfRange, Z
 use Rattle.step_memory.specs.World.{done_unless}
 use Rattle.step_memory.specs.declared.access.Access.TheVariants.{TestAndSet, Nothing}
 use Rattle.step_memory.specs.Registers.{after_access}
-use Rattle.step_memory.proofs.RunLemmas.{run_more, run_keeps, run_one, run_splits}
+use Rattle.step_memory.proofs.RunLemmas.{run_more, run_one, run_answers}
 use Rattle.bit_allocator.specs.declared.competitor.Competitor.{Competitor}
 use Rattle.bit_allocator.specs.declared.probe.Probe.TheVariants.{Missed, Got}
 use Rattle.bit_allocator.specs.declared.stay.Stay.{Stay}
@@ -20,8 +20,9 @@ use Rattle.bit_allocator.specs.Widening.{widen_refusal, widen_access}
 use Rattle.bit_allocator.specs.Calls.{Call}
 use Rattle.bit_allocator.specs.Calls.Call.{Entered, Probed, Left, Widened}
 use Rattle.bit_allocator.specs.PoolObject.{PoolObject, fresh_object, no_entry, no_probe, number_in, IsFree, Answers, after, IsRun}
-use Rattle.bit_allocator.specs.Law.{KeepsPoolLaw}
-use Rattle.bit_allocator.specs.After.{After, next, IsReply}
+use Rattle.bit_allocator.specs.Machine.{next, IsReply, pool}
+use Rattle.step_memory.specs.Machine.{After, Always, IsLawful, RefusesWhereDue, IsProved}
+use Rattle.step_memory.proofs.MachineLemmas.{always_by, machine_proved}
 use Rattle.bit_allocator.proofs.StayOfLemmas.{length-identities}
 use Rattle.bit_allocator.proofs.Counts.{one, count, is_of, holds, count-one, count-two}
 use Rattle.bit_allocator.proofs.Balanced.{IsPlaced, IsBalanced, NobodyHolds, held_once, balanced_widened, balanced_fresh, balanced_entered, balanced_probed, balanced_left, free_clear, probed_clear, probed_missed, free_last, probed_last, free_only, probed_only}
@@ -234,15 +235,15 @@ next_keeps first w r (Left id reply) s is = rw is (leave_keeps first w r s id)
 next_keeps first w r (Widened more reply) s is = rw is (widen_keeps first w r s more)
 
 -- so it is after any calls
-pub stands : (first : ℕ) (w : PoolState) (r : List Call) → After first w r → Stands first w r
-stands first w r a =
-    let fresh : Stands first (fresh_pool first) [] = record { object = fresh_object first; run = refl; tied = tied_fresh first; balanced = balanced_fresh first a.first a.last } in
-    run_keeps next IsReply (Stands first) (next_keeps first) (fresh_pool first) [] r w fresh a.run
+pub stands : (w : PoolState) → Always pool (λ first r. Stands first w r) w
+stands w first r a =
+    let fresh : Stands first (fresh_pool first) [] = record { object = fresh_object first; run = refl; tied = tied_fresh first; balanced = balanced_fresh first a.started.0 a.started.1 } in
+    always_by pool (Stands first) (next_keeps first) first fresh w r a
 
 -- the law
-pub law_after : (first : ℕ) (w : PoolState) (r : List Call) → After first w r → KeepsPoolLaw first r
-law_after first w r a =
-    let s = stands first w r a in
+pub pool_law : (w : PoolState) → IsLawful pool w
+pool_law w first r a =
+    let s = stands w first r a in
     let placed : (p n : ℕ) → s.object.held p ≡ Some n → (stay_of p w.competitors ≡ Some (Settled n)) × (1 ≤ n) × (n ≤ w.size) =
     λ p n h.
     let k = settled_at w.competitors p n (sym (s.tied.held p) ∙ h) in
@@ -266,35 +267,20 @@ law_after first w r a =
       ];
     }
 
--- one more call
-pub after_call : (first : ℕ) (w new : PoolState) (r : List Call) (h : Call) → new ≡ next w h → IsReply w h → After first w r → After first new (r ++ h ∷ [])
-after_call first w new r h e is a = record { first = a.first; last = a.last; run = rw e (run_more next IsReply (fresh_pool first) r w h a.run is) }
-
--- a pool in which no one competes is after no call
-pub after_none : (size : ℕ) → 1 ≤ size → size ≤ 64 → After size (fresh_pool size) []
-after_none size first last = record { first = first; last = last; run = refl }
-
--- every front of the calls keeps the law
-pub front_lawful : (size : ℕ) (w : PoolState) (r t : List Call) → After size w (r ++ t) → KeepsPoolLaw size r
-front_lawful size w r t a =
-    let cut = run_splits next IsReply (fresh_pool size) r t w a.run in
-    law_after size cut.0 r (record { first = a.first; last = a.last; run = cut.1 })
-
 -- each call is answered as the object that those before it make may answer it
-pub due_after : (size : ℕ) (w : PoolState) (r before rest : List Call) (h : Call) → After size w r → r ≡ before ++ h ∷ rest → (o : PoolObject) × IsRun size before o × Answers o h
-due_after size w r before rest h a e =
-    let law = law_after size w r a in
-    let cut = run_splits after Answers (fresh_object size) before (h ∷ rest) law.object (subst (λ (xs : List Call). IsRun size xs law.object) e law.run) in
-    (cut.0, cut.1, cut.2.0)
+due_always : (w : PoolState) → RefusesWhereDue pool w
+due_always w size r a =
+    let law = pool_law w size r a in
+    run_answers after Answers (fresh_object size) r law.object law.run
 
--- two pools after one list are the same
-pub one_after : (size : ℕ) (w other : PoolState) (r : List Call) → After size w r → After size other r → w ≡ other
-one_after size w other r a b = run_one next IsReply (fresh_pool size) r w other a.run b.run
+-- so the pool is proved
+pub pool_proved : IsProved pool
+pool_proved = machine_proved pool pool_law due_always
 
 -- what is seen of the object
-pub tied_after : (first : ℕ) (w : PoolState) (r : List Call) (o : PoolObject) → After first w r → IsRun first r o → IsTied w.size w.competitors o
+pub tied_after : (first : ℕ) (w : PoolState) (r : List Call) (o : PoolObject) → After pool first w r → IsRun first r o → IsTied w.size w.competitors o
 tied_after first w r o a is =
-    let s = stands first w r a in
+    let s = stands w first r a in
     let e : s.object ≡ o = run_one after Answers (fresh_object first) r s.object o s.run is in
     subst (λ (x : PoolObject). IsTied w.size w.competitors x) e s.tied
 
@@ -335,16 +321,16 @@ holder_none (c ∷ cs) n h q k =
       ]
     ]
 
-pub holder_after : (first : ℕ) (w : PoolState) (r : List Call) (o : PoolObject) → After first w r → IsRun first r o → (n : ℕ) →
+pub holder_after : (first : ℕ) (w : PoolState) (r : List Call) (o : PoolObject) → After pool first w r → IsRun first r o → (n : ℕ) →
     MatchOption (holder_in n w.competitors) ((p : ℕ) → o.held p ≢ Some n) (λ p. o.held p ≡ Some n)
 holder_after first w r o a is n =
     let t = tied_after first w r o a is in
-    let b = (stands first w r a).balanced in
+    let b = (stands w first r a).balanced in
     elim (holder_in n w.competitors) as (λ h. holder_in n w.competitors ≡ h → MatchOption h ((p : ℕ) → o.held p ≢ Some n) (λ p. o.held p ≡ Some n)) [
       | None ↦ λ h p k. holder_none w.competitors n h p (sym (t.held p) ∙ k)
       | Some p ↦ λ h. t.held p ∙ holder_holds w.competitors n p b.apart h
     ] refl
 
 -- what is answered of a number that is held is what the object says
-pub number_after : (first : ℕ) (w : PoolState) (r : List Call) (o : PoolObject) → After first w r → IsRun first r o → (p : ℕ) → number_answer w p ≡ number_in o p
+pub number_after : (first : ℕ) (w : PoolState) (r : List Call) (o : PoolObject) → After pool first w r → IsRun first r o → (p : ℕ) → number_answer w p ≡ number_in o p
 number_after first w r o a is p = sym (number_in-is w.size w.competitors o (tied_after first w r o a is) p)

@@ -7,7 +7,6 @@ pub mod Locality
 pub mod Calls
 pub mod PoolObject
 pub mod Law
-pub mod After
+pub mod Machine
 pub mod Acquired
-pub mod Sound
-pub mod Laws
+pub mod Invariant

@@ -10,7 +10,8 @@ ghost use Rattle.bit_allocator.specs.Locality.{IsLocal, IsWidened, LookAlike, St
 ghost use Rattle.bit_allocator.specs.Calls.{Call};
 ghost use Rattle.bit_allocator.specs.Calls.Call.{Entered, Probed, Left, Widened};
 ghost use Rattle.bit_allocator.specs.PoolObject.{PoolObject, IsRun, number_in, IsHolderIn};
-ghost use Rattle.bit_allocator.specs.After.{After, IsLawful, LeadsOn};
+ghost use Rattle.bit_allocator.specs.Machine.{pool};
+ghost use Rattle.step_memory.specs.Machine.{After, Always, IsLawful, LeadsOn};
 ghost use Rattle.bit_allocator.specs.Acquired.{IsAcquired, LeadsByStay, was_clear, Gets};
 
 use crate::competitor::Competitor;
@@ -34,7 +35,7 @@ pub struct Pool<A: Allocator> {
 impl<A: Allocator> Model for Pool<A> {
     ghost use Rattle.std.specs.Prelude.{◌≤◌, vec_capacity};
     ghost use Rattle.bit_allocator.specs.PoolState.{PoolState};
-    ghost use Rattle.bit_allocator.specs.Sound.{IsSound};
+    ghost use Rattle.bit_allocator.specs.Invariant.{IsSound};
 
     ghost Value = { PoolState };
 
@@ -94,7 +95,7 @@ impl<A: Allocator + Clone> Pool<A> {
     /// A pool of the numbers from 1 to `size`, which is from 1 to 64. All its room is taken here.
     pub fn new(alloc: A, size: u64) -> Result<Self, Refusal>
         ensures fresh { IfOk result (λ p. p ≡ fresh_pool size) }
-        ensures after { IfOk result (λ p. After size p []) }
+        ensures after { IfOk result (λ p. After pool size p []) }
         ensures range { IsOk result → (1 ≤ size) × (size ≤ 64) }
         ensures below { size ≡ 0 → result ≡ Err Refusal.OutOfRange }
         ensures above { 64 < size → result ≡ Err Refusal.OutOfRange }
@@ -133,7 +134,7 @@ impl<A: Allocator> Pool<A> {
     /// Those who compete, in the order of entering.
     pub fn competitors(&self) -> &[Competitor]
         ensures value { result.now ≡ self.now.competitors }
-        ensures law { (size : ℕ) (r : List Call) (o : PoolObject) → After size self.now r → IsRun size r o → identities result.now ≡ o.competing }
+        ensures law { Always pool (λ size r. (o : PoolObject) → IsRun size r o → identities result.now ≡ o.competing) self.now }
     {
         self.competitors.as_slice()
     }
@@ -153,7 +154,7 @@ impl<A: Allocator> Pool<A> {
     pub fn number_of(&self, id: u64) -> Result<u8, Refusal>
         ensures answer { result ≡ number_answer self.now id }
         ensures range { IfOk result (λ n. (1 ≤ n) × (n ≤ self.now.size)) }
-        ensures law { (size : ℕ) (r : List Call) (o : PoolObject) → After size self.now r → IsRun size r o → result ≡ number_in o id }
+        ensures law { Always pool (λ size r. (o : PoolObject) → IsRun size r o → result ≡ number_in o id) self.now }
     {
         match self.stay_of(id) {
             None => Err(Refusal::NotCompeting),
@@ -165,7 +166,7 @@ impl<A: Allocator> Pool<A> {
     /// Who holds a number.
     pub fn holder_of(&self, number: u8) -> Option<u64>
         ensures value { result ≡ holder_in number self.now.competitors }
-        ensures law { (size : ℕ) (r : List Call) (o : PoolObject) → After size self.now r → IsRun size r o → IsHolderIn o number result }
+        ensures law { Always pool (λ size r. (o : PoolObject) → IsRun size r o → IsHolderIn o number result) self.now }
     {
         holder(&self.competitors, number)
     }
@@ -187,12 +188,13 @@ impl<A: Allocator> Pool<A> {
 
     /// An identity begins to compete, with no access. Refused where it is 0, then where it competes, then where as many
     /// compete as there are numbers.
+    #[tactic(auto, using(crate::proofs::PoolKeeps::pool_law))]
     pub fn enter(&mut self, id: u64) -> Result<(), Refusal>
         ensures answer { result ≡ enter_answer self.old id }
         ensures state { self.new ≡ after_enter self.old id }
         ensures refused { OnErr result (self.new ≡ self.old) }
-        ensures after { LeadsOn self.old self.new (Entered id result) }
-        ensures law { IsLawful self.new }
+        ensures after { LeadsOn pool self.old self.new (Entered id result) }
+        ensures law { IsLawful pool self.new }
     {
         if let Some(refusal) = self.enter_refusal(id) {
             return Err(refusal);
@@ -218,12 +220,13 @@ impl<A: Allocator> Pool<A> {
     /// One probe, which is at most one access: the `i`-th of a stay tests and sets bit `i`. It gets the number `i` where
     /// the bit was clear, and where it was set it gets the last number if there is no further bit. Refused where the
     /// identity does not compete, then where it holds a number.
+    #[tactic(auto, using(crate::proofs::PoolKeeps::pool_law))]
     pub fn probe(&mut self, id: u64) -> Result<Probe, Refusal>
         ensures answer { result ≡ probe_answer self.old id }
         ensures state { self.new ≡ after_probe self.old id }
         ensures refused { OnErr result (self.new ≡ self.old) }
-        ensures after { LeadsOn self.old self.new (Probed id result) }
-        ensures law { IsLawful self.new }
+        ensures after { LeadsOn pool self.old self.new (Probed id result) }
+        ensures law { IsLawful pool self.new }
 
         // Nothing of the pool changes but this competitor and the bit that it names.
         ensures local { IsLocal probe_steps id self.old self.new result }
@@ -247,12 +250,13 @@ impl<A: Allocator> Pool<A> {
 
     /// A whole stay at once: an identity begins to compete and probes until it gets a number, at the probe numbered
     /// max(1, size - 1) or earlier. Refused, with nothing changed, where `enter` is. It looks for the identity once.
+    #[tactic(auto, using(crate::proofs::PoolKeeps::pool_law))]
     pub fn acquire(&mut self, id: u64) -> Result<u8, Refusal>
         ensures acquired { IfOk result (λ n. IsAcquired self.old id n self.new) }
         ensures refused { IfErr result (λ why. (enter_answer self.old id ≡ Err why) × (self.new ≡ self.old)) }
         ensures range { IfOk result (λ n. (1 ≤ n) × (n ≤ self.new.size)) }
         ensures after { LeadsByStay id self.old self.new result }
-        ensures law { IsLawful self.new }
+        ensures law { IsLawful pool self.new }
     {
         if let Some(refusal) = self.enter_refusal(id) {
             return Err(refusal);
@@ -267,12 +271,13 @@ impl<A: Allocator> Pool<A> {
 
     /// Gives back the number that an identity holds, which competes no more: at most one access, which clears the
     /// number's bit. Refused where the identity does not compete, then where it holds no number.
+    #[tactic(auto, using(crate::proofs::PoolKeeps::pool_law))]
     pub fn leave(&mut self, id: u64) -> Result<u8, Refusal>
         ensures answer { result ≡ number_answer self.old id }
         ensures state { self.new ≡ after_leave self.old id }
         ensures refused { OnErr result (self.new ≡ self.old) }
-        ensures after { LeadsOn self.old self.new (Left id result) }
-        ensures law { IsLawful self.new }
+        ensures after { LeadsOn pool self.old self.new (Left id result) }
+        ensures law { IsLawful pool self.new }
 
         // Nothing of the pool changes but this competitor and the bit that it names.
         ensures local { IsLocal leave_steps id self.old self.new result }
@@ -304,12 +309,13 @@ impl<A: Allocator> Pool<A> {
     /// The pool gets more numbers: from now on those from 1 to `size`, which is above the present size and at most 64. All
     /// that is held stays held. What was the last number had no bit: where it is held this makes one access, which sets its
     /// bit, and else none. Refused where the size is out of that range. It takes no memory.
+    #[tactic(auto, using(crate::proofs::PoolKeeps::pool_law))]
     pub fn widen(&mut self, size: u64) -> Result<(), Refusal>
         ensures answer { result ≡ widen_answer self.old size }
         ensures state { self.new ≡ after_widen self.old size }
         ensures refused { OnErr result (self.new ≡ self.old) }
-        ensures after { LeadsOn self.old self.new (Widened size result) }
-        ensures law { IsLawful self.new }
+        ensures after { LeadsOn pool self.old self.new (Widened size result) }
+        ensures law { IsLawful pool self.new }
 
         // No competitor stands elsewhere, and no bit changes but that of what was the last number.
         ensures local { IsWidened self.old self.new result }

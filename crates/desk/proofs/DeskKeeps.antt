@@ -9,20 +9,20 @@ use Rattle.step_memory.specs.World.{begin_refusal, done_unless}
 use Rattle.snapshot_core.specs.Places.{KnownPlaces}
 use Rattle.snapshot_core.specs.Snapshot.{SnapBounds}
 use Rattle.rename_core.specs.declared.reply.Reply.{Reply as StepReply}
-use Rattle.rename_core.specs.RenameCalls.{next, IsReply, IsAfter, IsLawfulWithin}
+use Rattle.step_memory.specs.Machine.{After}
+use Rattle.step_memory.proofs.MachineLemmas.{call_leads_on}
+use Rattle.rename_core.specs.Machine.{next, IsReply, renaming, IsLawfulWithin}
 use Rattle.rename_core.specs.Config.{is_tree}
 use Rattle.rename_core.specs.Law.{KeepsRenameLaw}
 use Rattle.rename_core.specs.declared.config.WorldKind.{WorldKind}
 use Rattle.rename_core.specs.RenameWorld.{rename_answer, step_refusal, may_lack}
-use Rattle.rename_core.proofs.AfterCalls.{leads_on}
-use Rattle.rename_core.proofs.Sizes.{next_limit, next_most}
 use Rattle.bit_allocator.specs.Pool.{enter_answer, probe_answer, number_answer, widen_answer}
 use Rattle.bit_allocator.specs.Calls.Call.{Entered, Probed, Left}
 use Rattle.slot_array.specs.SlotCalls.{SlotCall}
 use Rattle.slot_array.specs.SlotCalls.SlotCall.{Pooled, Stored, Fetched, Extended}
 use Rattle.slot_array.specs.Slots.{stored_reply, IsFetched}
-use Rattle.slot_array.specs.After.{AfterSlots, slots_next, IsSlotReply}
-use Rattle.slot_array.proofs.SlotsKeep.{after_slots_call, slot_there, law_after_slots}
+use Rattle.slot_array.specs.Machine.{slots, slots_next, IsSlotReply}
+use Rattle.slot_array.proofs.SlotsKeep.{slots_law, slot_there}
 use Rattle.desk.specs.declared.event.Event.{Event}
 use Rattle.desk.specs.declared.event.Event.TheVariants.{Begin, Step, Enter, Probe, Leave, Put, Get, Widen}
 use Rattle.desk.specs.declared.reply.Reply.{Reply}
@@ -67,35 +67,36 @@ index_of-get [] i v h = absurd (cc)
 index_of-get (x ∷ xs) zero v h = cc
 index_of-get (x ∷ xs) (suc i) v h = index_of-get xs i v h
 
-module _ {S R V U K : Type 0} (W : KnownPlaces S R V U K) (most limit size : ℕ) (w : DeskState S U K) (calls : List DeskCall) (a : AfterDesk W most limit size w calls) where
-  renamed_after : (h : Call StepReply) → IsReply W w.names h → AfterDesk W most limit size (next_over W w (Renamed h)) (calls ++ Renamed h ∷ [])
+module _ {S R V U K : Type 0} (W : KnownPlaces S R V U K) (kind : WorldKind) (most limit size : ℕ) (w : DeskState S U K) (calls : List DeskCall) (a : AfterDesk W kind most limit size w calls) where
+  renamed_after : (h : Call StepReply) → IsReply W w.names h → AfterDesk W kind most limit size (next_over W w (Renamed h)) (calls ++ Renamed h ∷ [])
   renamed_after h is = record {
-    names = subst (λ (xs : List (Call StepReply)). IsAfter W (next W w.names h) xs) (sym (rename_calls-renamed calls h)) (leads_on W w.names (next W w.names h) h refl is (rename_calls calls) a.names);
-    slots = subst (λ (xs : List (SlotCall ℕ)). AfterSlots size (replicate size 0) w.slots xs) (sym (slot_calls-renamed calls h)) a.slots;
+    first = a.first;
+    room = a.room;
+    names = subst (λ (xs : List (Call StepReply)). After (renaming W kind) (a.first, limit) (next W w.names h) xs) (sym (rename_calls-renamed calls h))
+        (call_leads_on (renaming W kind) w.names (next W w.names h) h refl is (a.first, limit) (rename_calls calls) a.names);
+    slots = subst (λ (xs : List (SlotCall ℕ)). After slots (size, replicate size 0) w.slots xs) (sym (slot_calls-renamed calls h)) a.slots;
     new_slots = subst (λ (xs : List (SlotCall ℕ)). BeginSlots xs) (sym (slot_calls-renamed calls h)) a.new_slots;
-    most_is = next_most W w.names h ∙ a.most_is;
-    limit_is = next_limit W w.names h ∙ a.limit_is;
   }
 
-  slotted_after : (h : SlotCall ℕ) → IsSlotReply w.slots h → BeginsSlots h → AfterDesk W most limit size (next_over W w (Slotted h)) (calls ++ Slotted h ∷ [])
+  slotted_after : (h : SlotCall ℕ) → IsSlotReply w.slots h → BeginsSlots h → AfterDesk W kind most limit size (next_over W w (Slotted h)) (calls ++ Slotted h ∷ [])
   slotted_after h is new = record {
-    names = subst (λ (xs : List (Call StepReply)). IsAfter W w.names xs) (sym (rename_calls-slotted calls h)) a.names;
-    slots = subst (λ (xs : List (SlotCall ℕ)). AfterSlots size (replicate size 0) (slots_next w.slots h) xs) (sym (slot_calls-slotted calls h))
-        (after_slots_call size (replicate size 0) w.slots (slots_next w.slots h) (slot_calls calls) h refl is a.slots);
+    first = a.first;
+    room = a.room;
+    names = subst (λ (xs : List (Call StepReply)). After (renaming W kind) (a.first, limit) w.names xs) (sym (rename_calls-slotted calls h)) a.names;
+    slots = subst (λ (xs : List (SlotCall ℕ)). After slots (size, replicate size 0) (slots_next w.slots h) xs) (sym (slot_calls-slotted calls h))
+        (call_leads_on slots w.slots (slots_next w.slots h) h refl is (size, replicate size 0) (slot_calls calls) a.slots);
     new_slots = subst (λ (xs : List (SlotCall ℕ)). BeginSlots xs) (sym (slot_calls-slotted calls h)) (begin_more (slot_calls calls) h a.new_slots new);
-    most_is = a.most_is;
-    limit_is = a.limit_is;
   }
 
   -- what a holder gets stands in its slot
   fetched_is : (p : ℕ) (held : Result ℕ Refusal) → number_answer w.slots.pool p ≡ held → IsFetched w.slots.values held (fetched w.slots.values held)
   fetched_is p (Ok n) holds =
-      let there = slot_there size (replicate size 0) w.slots (slot_calls calls) p n a.slots holds in
+      let there = slot_there w.slots p n holds (size, replicate size 0) (slot_calls calls) a.slots in
       there.1 ∙ ap Some (sym (index_of-get w.slots.values (n - 1) there.0 there.1))
   fetched_is p (Err why) holds = refl
 
   -- the call that an event is leads on
-  call_after : (e : Event) → AfterDesk W most limit size (after_over W w e) (calls ++ call_for W w e ∷ [])
+  call_after : (e : Event) → AfterDesk W kind most limit size (after_over W w e) (calls ++ call_for W w e ∷ [])
   call_after (Begin p) = renamed_after (Began p (done_unless (begin_refusal w.names.snap p))) refl
   call_after (Step p) = renamed_after (Stepped p (rename_answer W w.names p)) (inl refl)
   call_after (Enter p) = slotted_after (Pooled (Entered p (enter_answer w.slots.pool p))) refl tt
@@ -117,13 +118,13 @@ module _ {S R V U K : Type 0} (W : KnownPlaces S R V U K) (most limit size : ℕ
   call_spelled (Widen more) = refl
 
   -- a step for which a growth was refused is a call too
-  lacking : (p : ℕ) → grows_over W w (Step p) ≡ true → AfterDesk W most limit size w (calls ++ Renamed (Stepped p (Err refusal.NoMemory)) ∷ [])
-  lacking p h = elim (step_refusal w.names p) as (λ o. step_refusal w.names p ≡ o → grows_by o (may_lack W w.names p) ≡ true → AfterDesk W most limit size w (calls ++ Renamed (Stepped p (Err refusal.NoMemory)) ∷ [])) [
+  lacking : (p : ℕ) → grows_over W w (Step p) ≡ true → AfterDesk W kind most limit size w (calls ++ Renamed (Stepped p (Err refusal.NoMemory)) ∷ [])
+  lacking p h = elim (step_refusal w.names p) as (λ o. step_refusal w.names p ≡ o → grows_by o (may_lack W w.names p) ≡ true → AfterDesk W kind most limit size w (calls ++ Renamed (Stepped p (Err refusal.NoMemory)) ∷ [])) [
     | None ↦ λ none may. renamed_after (Stepped p (Err refusal.NoMemory)) (inr (refl, (none, may)))
     | Some why ↦ λ some may. absurd (cc)
   ] refl h
 
-  lack_leads : (e : Event) → grows_over W w e ≡ true → LeadsBy W most limit size calls e (reply.Refused refusal.NoMemory) w
+  lack_leads : (e : Event) → grows_over W w e ≡ true → LeadsBy W kind most limit size calls e (reply.Refused refusal.NoMemory) w
   lack_leads (Begin p) h = absurd (cc)
   lack_leads (Step p) h = record { call = Renamed (Stepped p (Err refusal.NoMemory)); spelled = refl; after = lacking p h }
   lack_leads (Enter p) h = absurd (cc)
@@ -134,25 +135,23 @@ module _ {S R V U K : Type 0} (W : KnownPlaces S R V U K) (most limit size : ℕ
   lack_leads (Widen more) h = absurd (cc)
 
   -- so calls lead on by whatever a desk may answer
-  pub goes_on : (e : Event) (r : Reply) (u : DeskState S U K) → may_by (rules_over W) w e r u → LeadsBy W most limit size calls e r u
+  pub goes_on : (e : Event) (r : Reply) (u : DeskState S U K) → may_by (rules_over W) w e r u → LeadsBy W kind most limit size calls e r u
   goes_on e r u (inl m) = record {
     call = call_for W w e;
     spelled = call_spelled e ∙ ap (λ (x : Reply). exchange e x) (sym m.0);
-    after = subst (λ (x : DeskState S U K). AfterDesk W most limit size x (calls ++ call_for W w e ∷ [])) (sym m.1) (call_after e);
+    after = subst (λ (x : DeskState S U K). AfterDesk W kind most limit size x (calls ++ call_for W w e ∷ [])) (sym m.1) (call_after e);
   }
   goes_on e r u (inr m) =
-      subst (λ (x : DeskState S U K). LeadsBy W most limit size calls e r x) (sym m.1)
-      (subst (λ (x : Reply). LeadsBy W most limit size calls e x w) (sym m.0) (lack_leads e m.2))
+      subst (λ (x : DeskState S U K). LeadsBy W kind most limit size calls e r x) (sym m.1)
+      (subst (λ (x : Reply). LeadsBy W kind most limit size calls e x w) (sym m.0) (lack_leads e m.2))
 
 -- the exchanges of a desk's calls are a run, where its renaming world keeps the law within these bounds
 unfoldable pub is_run : {S R V U K : Type 0} (W : KnownPlaces S R V U K) (kind : WorldKind) (bounds : ℕ → SnapBounds) (most limit size : ℕ) (w : DeskState S U K) (calls : List DeskCall) →
-    IsLawfulWithin W kind (bounds w.names.snap.most) w.names → AfterDesk W most limit size w calls → IsDeskRun (desk_terms most limit (is_tree kind)) (bounds most) size (map exchange_of calls)
+    IsLawfulWithin W kind bounds w.names → AfterDesk W kind most limit size w calls → IsDeskRun (desk_terms most limit (is_tree kind)) (bounds most) size (map exchange_of calls)
 is_run W kind bounds most limit size w calls lawful a = record {
   calls = calls;
   spelled = refl;
-  names = subst (λ (m : ℕ). KeepsRenameLaw (desk_terms m limit (is_tree kind)) (bounds m) (rename_calls calls)) a.most_is
-      (subst (λ (l : ℕ). KeepsRenameLaw (desk_terms w.names.snap.most l (is_tree kind)) (bounds w.names.snap.most) (rename_calls calls)) a.limit_is
-      (lawful (rename_calls calls) a.names));
-  slots = law_after_slots size (replicate size 0) w.slots (slot_calls calls) a.slots;
+  names = subst (λ (m : ℕ). KeepsRenameLaw (desk_terms m limit (is_tree kind)) (bounds m) (rename_calls calls)) a.room (lawful (a.first, limit) (rename_calls calls) a.names);
+  slots = slots_law w.slots (size, replicate size 0) (slot_calls calls) a.slots;
   new_slots = a.new_slots;
 }

@@ -1,5 +1,5 @@
 -- a desk of either world keeps its laws
-use Rattle.std.proofs.Common.{◌≡◌, ℕ, ◌-◌, ◌*◌, ◌≤◌, true, inl, inr, List, [], map, Option, refl, sym, ap, subst, ◌∙◌, arith}
+use Rattle.std.proofs.Common.{◌≡◌, ℕ, ◌-◌, ◌*◌, ◌≤◌, true, inl, inr, List, [], map, replicate, Option, refl, sym, ap, subst, ◌∙◌, arith}
 use Rattle.std.proofs.Math.ListN.{length-replicate}
 use Rattle.std.proofs.lemmas.Bool.Decides.{eqb_tells, leb_tells}
 use Rattle.snapshot_core.specs.Places.{KnownPlaces, PlacesLaws}
@@ -19,7 +19,9 @@ use Rattle.rename_core.specs.declared.config.WorldKind.{WorldKind}
 use Rattle.rename_core.specs.declared.config.WorldKind.TheVariants.{Splitter, Grid, Rename, Tree}
 use Rattle.rename_core.specs.NamedPlaces.{PlacesAtOnce, GrowsAsTree}
 use Rattle.rename_core.specs.Ranges.{most_in}
-use Rattle.rename_core.specs.RenameCalls.{IsLawfulWithin}
+use Rattle.rename_core.specs.Machine.{IsLawfulWithin, fresh_over as fresh_names}
+use Rattle.rename_core.proofs.Sizes.{most_after}
+use Rattle.slot_array.proofs.SlotsKeep.{slots_proved}
 use Rattle.rename_core.specs.RenameWorld.{fresh_world, owner_by}
 use Rattle.rename_core.proofs.NamedPlaces.{owner_is, answers_unrefused}
 use Rattle.rename_core.proofs.PlacesLaw.{grid_lawful, tree_lawful}
@@ -58,31 +60,32 @@ told_right most n r owner is = elim (eqb_tells n 0) [
 -- over places of one kind
 module _ {S R V U K : Type 0} (W : KnownPlaces S R V U K) where
   fresh_places : (kind : WorldKind) (made : ℕ → S) → AreEmptyFor W kind made → (c : Config) → c.world ≡ kind →
-      AfterDesk W c.m c.limit c.k (fresh_over (made c.m) c.m c.limit c.k) []
+      AfterDesk W kind c.m c.limit c.k (fresh_over (made c.m) c.m c.limit c.k) []
   fresh_places kind made empty c serves =
       let e = empty c.m (subst (λ (k : WorldKind). c.m ≤ most_in k) serves c.in_range.1) in
       record {
-        names = record { first = made c.m; new = e.0; low = c.in_range.4; high = c.in_range.5; run = ap (λ (n : ℕ). fresh_world (made c.m) n c.limit) (sym e.1) };
-        slots = record { first = c.in_range.2; last = c.in_range.3; many = length-replicate c.k 0; run = refl };
+        first = made c.m;
+        room = e.1;
+        names = record { started = record { new = e.0; low = c.in_range.4; high = c.in_range.5 }; run = ap (λ (n : ℕ). fresh_world (made c.m) n c.limit) (sym e.1) };
+        slots = slots_proved.fresh (c.k, replicate c.k 0) (c.in_range.2, c.in_range.3, length-replicate c.k 0);
         new_slots = tt;
-        most_is = refl;
-        limit_is = refl;
       }
 
   -- the owner of a name was given it, among these exchanges
   owner_given : (kind : WorldKind) (bounds : ℕ → SnapBounds) (laws : PlacesLaws W) (may_grow : GrowsAsTree W kind) (at_once : PlacesAtOnce W) (most limit size : ℕ) (w : DeskState S U K) (calls : List DeskCall) →
-      IsLawfulWithin W kind (bounds w.names.snap.most) w.names → AfterDesk W most limit size w calls → (n : ℕ) → IsOwnerReply most (map exchange_of calls) n (owner_over w n)
+      IsLawfulWithin W kind bounds w.names → AfterDesk W kind most limit size w calls → (n : ℕ) → IsOwnerReply most (map exchange_of calls) n (owner_over w n)
   unfolding over.is_run
   owner_given kind bounds laws may_grow at_once most limit size w calls lawful a n =
-      let own : AfterDesk W w.names.snap.most w.names.limit size w calls = record { names = a.names; slots = a.slots; new_slots = a.new_slots; most_is = refl; limit_is = refl } in
-      let run = over.is_run W kind bounds w.names.snap.most w.names.limit size w calls lawful own in
-      let owns = owner_is W laws kind may_grow at_once w.names (rename_calls calls) a.names run.names.object run.names.run n in
-      let is = given.owner_is (desk_terms w.names.snap.most w.names.limit (is_tree kind)) (bounds w.names.snap.most) size (map exchange_of calls) run n (owner_by n w.names.rounds) owns in
-      subst (λ (m : ℕ). IsOwnerReply m (map exchange_of calls) n (owner_over w n)) a.most_is (told_right w.names.snap.most n (map exchange_of calls) (owner_by n w.names.rounds) is)
+      let own : AfterDesk W kind (W.most_of a.first) limit size w calls = record { first = a.first; room = refl; names = a.names; slots = a.slots; new_slots = a.new_slots } in
+      let run = over.is_run W kind bounds (W.most_of a.first) limit size w calls lawful own in
+      let owns = owner_is W laws kind may_grow at_once w.names n (a.first, limit) (rename_calls calls) a.names run.names.object run.names.run in
+      let is = given.owner_is (desk_terms (W.most_of a.first) limit (is_tree kind)) (bounds (W.most_of a.first)) size (map exchange_of calls) run n (owner_by n w.names.rounds) owns in
+      let room : w.names.snap.most ≡ most = most_after W (fresh_names W (a.first, limit)) (rename_calls calls) w.names a.names.run ∙ a.room in
+      subst (λ (m : ℕ). IsOwnerReply m (map exchange_of calls) n (owner_over w n)) room (told_right w.names.snap.most n (map exchange_of calls) (owner_by n w.names.rounds) is)
 
 pub fresh : BeginsDesk
-fresh c (OverGrid w) is = (is.0, subst (λ (x : _). AfterDesk grid_places c.m c.limit c.k x []) (sym is.1) (fresh_places grid_places Rename fresh_grid grid_empty c is.0))
-fresh c (OverTree w) is = (is.0, subst (λ (x : _). AfterDesk tree_places c.m c.limit c.k x []) (sym is.1) (fresh_places tree_places Tree new_tree tree_empty c is.0))
+fresh c (OverGrid w) is = (is.0, subst (λ (x : _). AfterDesk grid_places Rename c.m c.limit c.k x []) (sym is.1) (fresh_places grid_places Rename fresh_grid grid_empty c is.0))
+fresh c (OverTree w) is = (is.0, subst (λ (x : _). AfterDesk tree_places Tree c.m c.limit c.k x []) (sym is.1) (fresh_places tree_places Tree new_tree tree_empty c is.0))
 
 -- the fresh desk of a world in which names are given
 fresh_of : (c : Config) (kind : WorldKind) → c.world ≡ kind → gives_names kind ≡ true → IsFreshDesk c (fresh_in kind c)
@@ -106,14 +109,14 @@ one_fresh c (OverTree w) (OverTree u) is that = ap OverTree (is.1 ∙ sym that.1
 
 pub goes_on : DeskGoesOn
 goes_on c (OverGrid w) calls a e r u (inl m) =
-    let l = over.goes_on grid_places c.m c.limit c.k w calls a.1 e r (after_over grid_places w e) (inl (m.0, refl)) in
+    let l = over.goes_on grid_places Rename c.m c.limit c.k w calls a.1 e r (after_over grid_places w e) (inl (m.0, refl)) in
     subst (λ (x : DeskValue). LeadsDesk c calls e r x) (sym m.1) (record { call = l.call; spelled = l.spelled; after = (a.0, l.after) })
 goes_on c (OverGrid w) calls a e r u (inr m) = absurd (let no = m.2 in cc)
 goes_on c (OverTree w) calls a e r u (inl m) =
-    let l = over.goes_on tree_places c.m c.limit c.k w calls a.1 e r (after_over tree_places w e) (inl (m.0, refl)) in
+    let l = over.goes_on tree_places Tree c.m c.limit c.k w calls a.1 e r (after_over tree_places w e) (inl (m.0, refl)) in
     subst (λ (x : DeskValue). LeadsDesk c calls e r x) (sym m.1) (record { call = l.call; spelled = l.spelled; after = (a.0, l.after) })
 goes_on c (OverTree w) calls a e r u (inr m) =
-    let l = over.goes_on tree_places c.m c.limit c.k w calls a.1 e r w (inr (m.0, refl, m.2)) in
+    let l = over.goes_on tree_places Tree c.m c.limit c.k w calls a.1 e r w (inr (m.0, refl, m.2)) in
     subst (λ (x : DeskValue). LeadsDesk c calls e r x) (sym m.1) (record { call = l.call; spelled = l.spelled; after = (a.0, l.after) })
 
 -- the run's numbers are those of the config's world
@@ -135,8 +138,8 @@ owner (OverGrid w) n c calls a = owner_given grid_places Rename grid_bounds grid
 owner (OverTree w) n c calls a = owner_given tree_places Tree tree_bounds tree_laws tree_grows (λ b q. refl) c.m c.limit c.k w calls (tree_lawful w.names) a.1 n
 
 pub refusal : DeskRefusesAsSaid
-refusal (OverGrid w) e c calls a = refuses_as_said grid_places w (λ p. answers_unrefused grid_places grid_laws Rename grid_grows (λ b q. refl) w.names p (rename_calls calls) a.1.names) e
-refusal (OverTree w) e c calls a = refuses_as_said tree_places w (λ p. answers_unrefused tree_places tree_laws Tree tree_grows (λ b q. refl) w.names p (rename_calls calls) a.1.names) e
+refusal (OverGrid w) e c calls a = refuses_as_said grid_places w (λ p. answers_unrefused grid_places grid_laws Rename grid_grows (λ b q. refl) w.names p (a.1.first, c.limit) (rename_calls calls) a.1.names) e
+refusal (OverTree w) e c calls a = refuses_as_said tree_places w (λ p. answers_unrefused tree_places tree_laws Tree tree_grows (λ b q. refl) w.names p (a.1.first, c.limit) (rename_calls calls) a.1.names) e
 
 pub determined : IsDeskDetermined
 determined = one_by_rules desk_rules

@@ -79,8 +79,8 @@ IsFreshDesk config (OverTree w) = (config.world ≡ Tree) × (w ≡ fresh_over (
 
 -- a desk of this config after these calls
 abbrev pub IsAfterDesk : Config → DeskValue → List DeskCall → Type 0
-IsAfterDesk config (OverGrid w) calls = (config.world ≡ Rename) × AfterDesk grid_places config.m config.limit config.k w calls
-IsAfterDesk config (OverTree w) calls = (config.world ≡ Tree) × AfterDesk tree_places config.m config.limit config.k w calls
+IsAfterDesk config (OverGrid w) calls = (config.world ≡ Rename) × AfterDesk grid_places Rename config.m config.limit config.k w calls
+IsAfterDesk config (OverTree w) calls = (config.world ≡ Tree) × AfterDesk tree_places Tree config.m config.limit config.k w calls
 
 -- calls lead on to this desk by one that is this exchange
 pub record LeadsDesk (config : Config) (calls : List DeskCall) (e : Event) (r : Reply) (new : DeskValue) : Type 0 where

@@ -4,11 +4,13 @@ use Rattle.step_memory.specs.Calls.{Call}
 use Rattle.step_memory.specs.Calls.Call.{Began, Stepped}
 use Rattle.snapshot_core.specs.Places.{KnownPlaces}
 use Rattle.rename_core.specs.declared.reply.Reply.{Reply as StepReply}
-use Rattle.rename_core.specs.RenameCalls.{IsAfter}
+use Rattle.rename_core.specs.declared.config.WorldKind.{WorldKind}
+use Rattle.rename_core.specs.Machine.{renaming}
+use Rattle.step_memory.specs.Machine.{After}
 use Rattle.bit_allocator.specs.Calls.Call.{Entered, Probed, Left, Widened}
 use Rattle.slot_array.specs.SlotCalls.{SlotCall}
 use Rattle.slot_array.specs.SlotCalls.SlotCall.{Pooled, Stored, Fetched, Extended}
-use Rattle.slot_array.specs.After.{AfterSlots}
+use Rattle.slot_array.specs.Machine.{slots}
 use Rattle.desk.specs.declared.event.Event.{Event}
 use Rattle.desk.specs.declared.event.Event.TheVariants as event
 use Rattle.desk.specs.declared.exchange.Exchange.{Exchange}
@@ -62,15 +64,15 @@ BeginSlots (h ∷ r) = BeginsSlots h × BeginSlots r
 
 -- the desk is after these calls, for so many participants, rounds and numbers at the start: its renaming world is after
 -- those of renaming, and its slots, each 0 when it is new, after theirs
-pub record AfterDesk {S R V U K : Type 0} (W : KnownPlaces S R V U K) (most limit size : ℕ) (w : DeskState S U K) (calls : List DeskCall) : Type 0 where
-  pub names : IsAfter W w.names (rename_calls calls)
-  pub slots : AfterSlots size (replicate size 0) w.slots (slot_calls calls)
+pub record AfterDesk {S R V U K : Type 0} (W : KnownPlaces S R V U K) (kind : WorldKind) (most limit size : ℕ) (w : DeskState S U K) (calls : List DeskCall) : Type 0 where
+  pub first : S
+  pub room : W.most_of first ≡ most
+  pub names : After (renaming W kind) (first, limit) w.names (rename_calls calls)
+  pub slots : After slots (size, replicate size 0) w.slots (slot_calls calls)
   pub new_slots : BeginSlots (slot_calls calls)
-  pub most_is : w.names.snap.most ≡ most
-  pub limit_is : w.names.limit ≡ limit
 
 -- calls lead on by one that is this exchange
-pub record LeadsBy {S R V U K : Type 0} (W : KnownPlaces S R V U K) (most limit size : ℕ) (calls : List DeskCall) (e : Event) (r : Reply) (new : DeskState S U K) : Type 0 where
+pub record LeadsBy {S R V U K : Type 0} (W : KnownPlaces S R V U K) (kind : WorldKind) (most limit size : ℕ) (calls : List DeskCall) (e : Event) (r : Reply) (new : DeskState S U K) : Type 0 where
   pub call : DeskCall
   pub spelled : exchange_of call ≡ exchange e r
-  pub after : AfterDesk W most limit size new (calls ++ call ∷ [])
+  pub after : AfterDesk W kind most limit size new (calls ++ call ∷ [])

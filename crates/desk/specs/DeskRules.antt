@@ -4,14 +4,14 @@ use Rattle.step_memory.specs.declared.refusal.Refusal.{Refusal}
 use Rattle.step_memory.specs.Calls.Call.{Began, Stepped}
 use Rattle.step_memory.specs.World.{begin_refusal, done_unless}
 use Rattle.snapshot_core.specs.Places.{KnownPlaces}
-use Rattle.rename_core.specs.RenameCalls.{next}
+use Rattle.rename_core.specs.Machine.{next}
 use Rattle.rename_core.specs.RenameWorld.{fresh_world, rename_answer, step_refusal, may_lack}
 use Rattle.bit_allocator.specs.Pool.{enter_refusal, enter_answer, probe_refusal, probe_answer, number_answer, widen_answer, fresh_pool}
 use Rattle.bit_allocator.specs.Widening.{widen_refusal}
 use Rattle.bit_allocator.specs.Calls.Call.{Entered, Probed, Left}
 use Rattle.slot_array.specs.SlotCalls.SlotCall.{Pooled, Stored, Fetched, Extended}
 use Rattle.slot_array.specs.Slots.{stored_reply}
-use Rattle.slot_array.specs.After.{slots_next}
+use Rattle.slot_array.specs.Machine.{slots_next}
 use Rattle.desk.specs.declared.event.Event.{Event}
 use Rattle.desk.specs.declared.event.Event.TheVariants.{Begin, Step, Enter, Probe, Leave, Put, Get, Widen}
 use Rattle.desk.specs.declared.reply.Reply.{Reply}

@@ -10,8 +10,8 @@ use std::test::Fail;
 use step_memory::{
     Access, Answer, Memory, NoMemory, Note, Refusal, Request, StepMemory, StepProgram, View, World,
     law_of_beginners, law_of_call_counts, law_of_counts, law_of_locality, law_of_one_place,
-    law_of_participants, law_of_refusals, law_of_replies, law_of_rosters, law_of_runs,
-    law_of_steps, law_of_told_outcomes, law_of_views, law_of_what_is_seen, law_of_worlds,
+    law_of_participants, law_of_refusals, law_of_replies, law_of_rosters, law_of_steps,
+    law_of_told_outcomes, law_of_views, law_of_what_is_seen, law_of_worlds,
 };
 
 /// A program of one access, which ends with its answer.
@@ -347,8 +347,7 @@ fn refusals_have_numbers(rt: HostRuntime) -> Result<(), Fail> {
     law_of_rosters::<u64, bool>();
     law_of_worlds::<Once, u64, usize, u64, u64, u64>();
     law_of_locality::<Once, u64, usize, u64, u64>();
-    law_of_runs::<Once, u64, usize, u64, u64, u64>();
-    law_of_refusals::<Once, u64, usize, u64, u64, u64>();
+    law_of_refusals::<u64, u64, u64>();
     law_of_views();
     Ok(())
 }

@@ -36,7 +36,7 @@ use Rattle.rename_core.specs.Alone.{LeavesAlone, HasTwoLeft, steps_alone}
 use Rattle.rename_core.specs.Pace.{Pace, IsInTime, most_steps, paced, paced_step}
 use Rattle.rename_core.specs.Pace.Phase.{ToPlace as ToGo, ToPropose, ToLook}
 use Rattle.rename_core.specs.Proposals.{is_taken, next_proposal}
-use Rattle.rename_core.specs.RenameCalls.{next, IsReply}
+use Rattle.rename_core.specs.Machine.{next, IsReply}
 use Rattle.rename_core.specs.RenameObject.{RenameTerms, RenameObject, IsRecent, IsConflict, Allows, after, after_step, no_step}
 use Rattle.rename_core.specs.RenameState.{RenameState}
 use Rattle.rename_core.specs.RenameWorld.{after_wish, begun_snap, begun_unless, has_place, world_with, snap_step, rename_answer, after_rename_step}

@@ -2,7 +2,7 @@
 use Rattle.std.proofs.Common.{◌≡◌, ℕ, ◌+◌, ◌≤◌, true, false, ◌⊎◌, List, [], ◌∷◌, ◌++◌, inl, inr, refl, sym, ap, subst, ◌∙◌, arith}
 use Rattle.std.proofs.lemmas.Bool.Decides.{eqb_tells}
 use Rattle.step_memory.specs.Calls.{Call, steps_of, steps_by}
-use Rattle.step_memory.proofs.RunLemmas.{run_more}
+use Rattle.step_memory.proofs.RunLemmas.{run_more, run_one}
 use Rattle.step_memory.proofs.WorldKeeps.{steps_of-push}
 use Rattle.snapshot_core.specs.Places.{KnownPlaces}
 use Rattle.snapshot_core.specs.SnapCalls.{SnapCall, next as snap_next, IsReply as IsSnapReply}
@@ -11,12 +11,11 @@ use Rattle.snapshot_core.specs.SnapWorld.{SnapState}
 use Rattle.rename_core.specs.declared.reply.Reply.{Reply}
 use Rattle.rename_core.specs.Alone.{LeavesAlone, StepsAlone, HasTwoLeft, steps_alone, IsNamedWithin, IsNamedAlone}
 use Rattle.rename_core.specs.Pace.{Pace, paced}
-use Rattle.rename_core.specs.RenameCalls.{next, IsReply}
+use Rattle.rename_core.specs.Machine.{next, IsReply}
 use Rattle.rename_core.specs.RenameObject.{RenameTerms, RenameObject, new_object, Allows, after, IsRun}
 use Rattle.rename_core.specs.RenameState.{RenameState}
 use Rattle.rename_core.proofs.Alone.{Grounds, LeftAlone, starts_alone, goes_alone, ends_named, call_alone}
 use Rattle.rename_core.proofs.rounds.Keeping.{Goes}
-use Rattle.rename_core.proofs.rounds.Snapping.{run_ends}
 use Rattle.rename_core.proofs.rounds.Tied.{IsTied}
 
 only_cell : {X : Type 0} (x h : X) (before more : List X) → x ≡ h → before ++ more ≡ [] → (more ≡ []) × (x ∷ before ≡ h ∷ [])
@@ -60,7 +59,7 @@ module _ {S R V U K : Type 0} (W : KnownPlaces S R V U K) (terms : RenameTerms) 
   alone_more w r o t i run kept h is g before more p then e past two alone = elim (split_last before more r h e) [
     | inl k ↦
         let whole : IsRun terms (r ++ h ∷ []) (after o h) = run_more after (Allows terms) new_object r o h run g.allowed in
-        let same : then ≡ after o h = run_ends after (Allows terms) new_object (r ++ h ∷ []) then (after o h) (subst (λ (x : List (Call Reply)). IsRun terms x then) k.1 past) whole in
+        let same : then ≡ after o h = run_one after (Allows terms) new_object (r ++ h ∷ []) then (after o h) (subst (λ (x : List (Call Reply)). IsRun terms x then) k.1 past) whole in
         let left : LeftAlone W terms bounds (next W w h) (after o h) (paced bounds t h) p (steps_alone bounds) =
         starts_alone W terms bounds Tie tie_goes grounds (next W w h) (after o h) (paced bounds t h) g.tied p (subst (λ (x : RenameObject). HasTwoLeft terms x p) same two) in
         let none : steps_of p more ≡ 0 = ap (steps_of p) k.0 in
@@ -79,7 +78,7 @@ module _ {S R V U K : Type 0} (W : KnownPlaces S R V U K) (terms : RenameTerms) 
   alone_named w r o t i run kept before more then now p e past present two alone =
       let k = kept before more p then e past two alone in
       let l = k.1 in
-      let same : o ≡ now = run_ends after (Allows terms) new_object r o now run present in
+      let same : o ≡ now = run_one after (Allows terms) new_object r o now run present in
       subst (λ (x : RenameObject). IsNamedWithin (steps_alone bounds) x p more) same (elim (goes_alone W terms bounds Tie tie_goes grounds w o t i p k.0 k.2) [
         | inl named ↦ inl named
         | inr unspent ↦ elim (eqb_tells k.0 0) [

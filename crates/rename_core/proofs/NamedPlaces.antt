@@ -1,41 +1,53 @@
 -- places that names are given over, by their trait
-use Rattle.std.proofs.Common.{◌≡◌, ℕ, ◌+◌, ◌*◌, ◌==◌, true, List, [], arith}
+use Rattle.std.proofs.Common.{◌≡◌, ℕ, ◌+◌, ◌*◌, ◌==◌, true, [], arith}
 use Rattle.std.specs.Prelude.{is_some}
 use Rattle.snapshot_core.specs.Places.{PlacesLaws}
-use Rattle.snapshot_core.specs.Snapshot.{IsMoment}
 use Rattle.snapshot_core.specs.SnapWorld.{SnapState, may_lack_memory}
 use Rattle.snapshot_core.specs.Places.{KnownPlaces}
 use Rattle.rename_core.specs.Config.{is_tree}
 use Rattle.rename_core.specs.declared.config.WorldKind.{WorldKind}
-use Rattle.rename_core.specs.declared.reply.Reply.{Reply}
-use Rattle.rename_core.specs.RenameCalls.{IsAfter, IsLawful, AnswersUnrefused, MakesOwnAccess, terms_of}
-use Rattle.rename_core.specs.RenameObject.{RenameObject, IsRun, IsOwner}
+use Rattle.step_memory.specs.Machine.{IsLawful, RefusesWhereDue, IsProved}
+use Rattle.step_memory.proofs.MachineLemmas.{machine_proved}
+use Rattle.step_memory.proofs.RunLemmas.{run_answers}
+use Rattle.rename_core.specs.Machine.{renaming, IsName, IsOwnerOf, IsLastMoment, AnswersUnrefused, MakesOwnAccess, terms_of}
+use Rattle.rename_core.specs.RenameObject.{Allows, after, new_object}
 use Rattle.rename_core.specs.RenameState.{RenameState}
 use Rattle.rename_core.specs.RenameWorld.{name_in, owner_by, shown_by}
-use Rattle.step_memory.specs.Calls.{Call}
 use Rattle.rename_core.proofs.Names.{MayBeNamed, rename_law, name_law, owner_law, shown_law, answered_law, own_law}
 
 module _ {S R V U K : Type 0} (W : KnownPlaces S R V U K) (laws : PlacesLaws W) (kind : WorldKind)
     (may_grow : (s : SnapState S U K) (p : ℕ) → may_lack_memory W s p ≡ true → is_tree kind ≡ true)
     (at_once : (b q : ℕ) → is_some (W.place_of (W.walker_from b q)) ≡ (W.ties.placing 1 == 0)) where
+  abbrev all_reads : ℕ → ℕ → ℕ
+  all_reads most b = (b + 1) * W.ties.reads most b
+
   -- as many collects as have begun and one more, of as many reads as there may be
-  by_collects : (most : ℕ) → MayBeNamed W (is_tree kind) most (λ b. (b + 1) * W.ties.reads most b)
+  by_collects : (most : ℕ) → MayBeNamed W (is_tree kind) most (all_reads most)
   by_collects most = record { laws = laws; fits = λ b some l. omega arith; may_grow = λ s p h. may_grow s.snap p h; at_once = at_once }
 
-  pub is_lawful : (w : RenameState S U K) → IsLawful W kind w
-  is_lawful w r a = rename_law W kind (λ b. (b + 1) * W.ties.reads w.snap.most b) w (by_collects w.snap.most) r a
+  pub law_always : (w : RenameState S U K) → IsLawful (renaming W kind) w
+  law_always w first r a = rename_law W kind (all_reads (W.most_of first.0)) first (by_collects (W.most_of first.0)) w r a
 
-  pub name_is : (w : RenameState S U K) (r : List (Call Reply)) → IsAfter W w r → (o : RenameObject) → IsRun (terms_of W kind w) r o → (p : ℕ) → name_in w p ≡ o.name p
-  name_is w r a = name_law W kind (λ b. (b + 1) * W.ties.reads w.snap.most b) w (by_collects w.snap.most) r a
+  due_always : (w : RenameState S U K) → RefusesWhereDue (renaming W kind) w
+  due_always w first r a =
+      let law = law_always w first r a in
+      run_answers after (Allows (terms_of W kind first)) new_object r law.object law.run
 
-  pub owner_is : (w : RenameState S U K) (r : List (Call Reply)) → IsAfter W w r → (o : RenameObject) → IsRun (terms_of W kind w) r o → (n : ℕ) → IsOwner o n (owner_by n w.rounds)
-  owner_is w r a = owner_law W kind (λ b. (b + 1) * W.ties.reads w.snap.most b) w (by_collects w.snap.most) r a
+  -- so renaming is proved
+  pub renaming_proved : IsProved (renaming W kind)
+  renaming_proved = machine_proved (renaming W kind) law_always due_always
 
-  pub last_moment : (w : RenameState S U K) (r : List (Call Reply)) → IsAfter W w r → (o : RenameObject) → IsRun (terms_of W kind w) r o → IsMoment (shown_by [] w.rounds) (o.moment o.last)
-  last_moment w r a = shown_law W kind (λ b. (b + 1) * W.ties.reads w.snap.most b) w (by_collects w.snap.most) r a
+  pub name_is : (w : RenameState S U K) (p : ℕ) → IsName W kind w p (name_in w p)
+  name_is w p first r a o run = name_law W kind (all_reads (W.most_of first.0)) first (by_collects (W.most_of first.0)) w r a o run p
 
-  pub answers_unrefused : (w : RenameState S U K) (p : ℕ) → AnswersUnrefused W w p
-  answers_unrefused w p r a = answered_law W kind (λ b. (b + 1) * W.ties.reads w.snap.most b) w (by_collects w.snap.most) r a p
+  pub owner_is : (w : RenameState S U K) (n : ℕ) → IsOwnerOf W kind w n (owner_by n w.rounds)
+  owner_is w n first r a o run = owner_law W kind (all_reads (W.most_of first.0)) first (by_collects (W.most_of first.0)) w r a o run n
 
-  pub own_access : (w : RenameState S U K) (p : ℕ) → MakesOwnAccess W w p
-  own_access w p r a = own_law W kind (λ b. (b + 1) * W.ties.reads w.snap.most b) w (by_collects w.snap.most) r a p
+  pub last_moment : (w : RenameState S U K) → IsLastMoment W kind w (shown_by [] w.rounds)
+  last_moment w first r a = shown_law W kind (all_reads (W.most_of first.0)) first (by_collects (W.most_of first.0)) w r a
+
+  pub answers_unrefused : (w : RenameState S U K) (p : ℕ) → AnswersUnrefused W kind w p
+  answers_unrefused w p first r a = answered_law W kind (all_reads (W.most_of first.0)) first (by_collects (W.most_of first.0)) w r a p
+
+  pub own_access : (w : RenameState S U K) (p : ℕ) → MakesOwnAccess W kind w p
+  own_access w p first r a = own_law W kind (all_reads (W.most_of first.0)) first (by_collects (W.most_of first.0)) w r a p

@@ -1,5 +1,5 @@
 -- every renaming world keeps the law of renaming
-use Rattle.std.proofs.Common.{None, is_some, IsOk, ◌≡◌, ◌+◌, false, ℕ, ◌≤◌, ◌==◌, Bool, true, List, [], ◌∷◌, ◌++◌, Option, Some, inl, inr, refl, sym, ap, subst, ◌∙◌, arith}
+use Rattle.std.proofs.Common.{None, is_some, IsOk, ◌≡◌, ◌+◌, false, ℕ, ◌≤◌, ◌==◌, Bool, true, List, [], ◌∷◌, ◌++◌, Option, Some, inl, inr, refl, sym, ap, ◌∙◌, arith}
 use Rattle.std.specs.Prelude.{option_map, option_and_then}
 use Rattle.std.proofs.lemmas.Bool.Decides.{eqb_tells, leb_tells}
 use Rattle.step_memory.specs.Calls.{Call}
@@ -8,7 +8,7 @@ use Rattle.step_memory.specs.declared.participant.Participant.{Participant}
 use Rattle.step_memory.specs.declared.refusal.Refusal.TheVariants.{NotBegun}
 use Rattle.step_memory.specs.Participant.{participant_of}
 use Rattle.step_memory.specs.Runs.{Run}
-use Rattle.step_memory.proofs.RunLemmas.{run_more, run_keeps}
+use Rattle.step_memory.proofs.RunLemmas.{run_more, run_keeps, run_one}
 use Rattle.snapshot_core.specs.Places.{PlacesLaws, BoundsScans}
 use Rattle.snapshot_core.specs.declared.client.Client.{Client}
 use Rattle.snapshot_core.specs.SnapWorld.{SnapState, IsAccessFor}
@@ -16,7 +16,8 @@ use Rattle.snapshot_core.specs.Standing.{StandsAt, GoesBusy}
 use Rattle.snapshot_core.proofs.Clients.{goes_busy}
 use Rattle.snapshot_core.proofs.Following.{own_access_holds}
 use Rattle.rename_core.specs.Locality.{client_of, access_of}
-use Rattle.snapshot_core.specs.SnapCalls.{SnapCall, next as snap_next, IsReply as IsSnapReply, IsAfter as IsSnapAfter}
+use Rattle.snapshot_core.specs.Machine.{snapshot}
+use Rattle.snapshot_core.specs.SnapCalls.{SnapCall, next as snap_next, IsReply as IsSnapReply}
 use Rattle.snapshot_core.specs.Snapshot.{IsMoment, SnapObject, SnapBounds, bounds_over, observed, Allows as SnapAllows, new_object as new_snap}
 use Rattle.rename_core.specs.Config.{is_tree}
 use Rattle.rename_core.specs.declared.config.WorldKind.{WorldKind}
@@ -27,7 +28,8 @@ use Rattle.rename_core.specs.declared.round.Stage.TheVariants.{Placing, Proposin
 use Rattle.rename_core.specs.Law.{KeepsRenameLaw}
 use Rattle.rename_core.specs.Pace.{Pace, InTime, new_pace, paced, IsPaced}
 use Rattle.snapshot_core.specs.Places.{KnownPlaces}
-use Rattle.rename_core.specs.RenameCalls.{next, IsReply, IsAfter, terms_of}
+use Rattle.step_memory.specs.Machine.{After}
+use Rattle.rename_core.specs.Machine.{next, IsReply, fresh_over, renaming, terms_of}
 use Rattle.rename_core.specs.RenameObject.{RenameTerms, RenameObject, new_object, IsRecent, Allows, after, IsRun, IsOwner}
 use Rattle.rename_core.specs.RenameState.{RenameState}
 use Rattle.rename_core.specs.RenameWorld.{name_in, name_by, owner_by, shown_by, step_refusal, rename_answer, fresh_world, may_lack}
@@ -39,7 +41,7 @@ use Rattle.rename_core.proofs.rounds.Beginning.{begin_goes}
 use Rattle.rename_core.proofs.rounds.Keeping.{Goes, step_goes}
 use Rattle.rename_core.proofs.rounds.Shown.{standing_of, shown_rising, shown_is, Owns, owner_is}
 use Rattle.rename_core.proofs.Sizes.{most_after}
-use Rattle.rename_core.proofs.rounds.Snapping.{run_ends, AreAfter, after_none, after_more}
+use Rattle.rename_core.proofs.rounds.Snapping.{AreAfter, after_none, after_more}
 use Rattle.rename_core.proofs.rounds.Standing.{IsStanding, standing_fresh, same_in, name_small}
 use Rattle.rename_core.proofs.rounds.Tied.{IsAtStage, IsTied}
 
@@ -83,7 +85,7 @@ module _ {S R V U K : Type 0} (W : KnownPlaces S R V U K) (terms : RenameTerms) 
 
   pub grounds : Grounds W terms bounds Tie
   grounds = record {
-    soon = λ w o p k. ends_soon_alone W named.laws w p first k.calls new k.world bounds (o, k.object);
+    soon = λ w o p k. ends_soon_alone W named.laws w p first k.calls k.world new bounds (o, k.object);
     collects = rw most refl;
     full = most;
     farther = named.laws.farther;
@@ -169,7 +171,7 @@ module _ {S R V U K : Type 0} (W : KnownPlaces S R V U K) (terms : RenameTerms) 
   pub name_held : (w : RenameState S U K) (r : List (Call Reply)) → Run (next W) (IsReply W) fresh r w → (o : RenameObject) → IsRun terms r o → (p : ℕ) → name_in w p ≡ o.name p
   name_held w r a o run p =
       let k = holds w r a in
-      let same : k.object ≡ o = run_ends after (Allows terms) new_object r k.object o k.run run in
+      let same : k.object ≡ o = run_one after (Allows terms) new_object r k.object o k.run run in
       let now : name_in w p ≡ k.object.name p = (elim (participant_of p w.rounds) as (λ z. participant_of p w.rounds ≡ z → name_by (option_map (λ u. u.program) z) ≡ k.object.name p) [
         | None ↦ λ h. sym (k.tied.absent p h).1
         | Some v ↦ λ h. name_at_stage w k.object k.paces.0 k.tied p v.program v.program.stage (k.tied.stages p v h)
@@ -195,7 +197,7 @@ module _ {S R V U K : Type 0} (W : KnownPlaces S R V U K) (terms : RenameTerms) 
   pub shown_held : (w : RenameState S U K) (r : List (Call Reply)) → Run (next W) (IsReply W) fresh r w → (o : RenameObject) → IsRun terms r o → IsMoment (shown_by [] w.rounds) (o.moment o.last)
   shown_held w r a o run =
       let k = holds w r a in
-      let same : k.object ≡ o = run_ends after (Allows terms) new_object r k.object o k.run run in
+      let same : k.object ≡ o = run_one after (Allows terms) new_object r k.object o k.run run in
       record {
         rising = shown_rising [] w.rounds tt;
         values = λ q. shown_is q w.rounds k.tied.distinct ∙ shown_at w k.object k.paces.0 k.tied q ∙ ap (λ (x : RenameObject). x.moment x.last q) same;
@@ -206,7 +208,7 @@ module _ {S R V U K : Type 0} (W : KnownPlaces S R V U K) (terms : RenameTerms) 
   joined_held w r a p = let k = holds w r a in k.tied.joined p
 
   -- the calls of the snapshot object that have led to this
-  pub snap_calls : (w : RenameState S U K) (r : List (Call Reply)) → Run (next W) (IsReply W) fresh r w → (calls : List SnapCall) × IsSnapAfter W first w.snap calls
+  pub snap_calls : (w : RenameState S U K) (r : List (Call Reply)) → Run (next W) (IsReply W) fresh r w → (calls : List SnapCall) × After (snapshot W) first w.snap calls
   snap_calls w r a = let k = holds w r a in (k.tied.tie.calls, k.tied.tie.world)
 
   -- a step of one who has something to do is answered
@@ -233,34 +235,35 @@ module _ {S R V U K : Type 0} (W : KnownPlaces S R V U K) (terms : RenameTerms) 
 
   -- its accesses are those of the snapshot object
   pub own_held : (w : RenameState S U K) (r : List (Call Reply)) → Run (next W) (IsReply W) fresh r w → (p : ℕ) (c : Client U K) → client_of p w ≡ Some c → IsAccessFor W c c.pending (access_of W c)
-  own_held w r a p c h = let k = holds w r a in own_access_holds W named.laws w.snap p first k.tied.tie.calls new k.tied.tie.world c h
+  own_held w r a p c h = let k = holds w r a in own_access_holds W named.laws w.snap p first k.tied.tie.calls k.tied.tie.world new c h
 
 -- every world after some calls keeps the law
-module _ {S R V U K : Type 0} (W : KnownPlaces S R V U K) (kind : WorldKind) (scanning : ℕ → ℕ) (w : RenameState S U K) (named : MayBeNamed W (is_tree kind) w.snap.most scanning) (r : List (Call Reply)) (a : IsAfter W w r) where
+module _ {S R V U K : Type 0} (W : KnownPlaces S R V U K) (kind : WorldKind) (scanning : ℕ → ℕ) (first : S × ℕ) (named : MayBeNamed W (is_tree kind) (W.most_of first.0) scanning)
+    (w : RenameState S U K) (r : List (Call Reply)) (a : After (renaming W kind) first w r) where
   -- the world has room for as many as its places have
-  pub most_is : W.most_of a.first ≡ w.snap.most
-  most_is = sym (most_after W (fresh_world a.first (W.most_of a.first) w.limit) r w a.run)
+  pub most_is : W.most_of first.0 ≡ w.snap.most
+  most_is = sym (most_after W (fresh_over W first) r w a.run)
 
-  pub rename_law : KeepsRenameLaw (terms_of W kind w) (record { most = w.snap.most; placing = W.ties.placing; scanning = scanning; collecting = W.ties.reads w.snap.most w.snap.most }) r
-  rename_law = subst (λ (m : ℕ). KeepsRenameLaw (terms_of W kind w) (record { most = m; placing = W.ties.placing; scanning = scanning; collecting = W.ties.reads m m }) r) most_is (law_held W (terms_of W kind w) scanning named a.first a.new most_is a.low a.high w r a.run)
+  pub rename_law : KeepsRenameLaw (terms_of W kind first) (bounds_over W first.0 scanning) r
+  rename_law = law_held W (terms_of W kind first) scanning named first.0 a.started.new refl a.started.low a.started.high w r a.run
 
-  pub name_law : (o : RenameObject) → IsRun (terms_of W kind w) r o → (p : ℕ) → name_in w p ≡ o.name p
-  name_law = name_held W (terms_of W kind w) scanning named a.first a.new most_is a.low a.high w r a.run
+  pub name_law : (o : RenameObject) → IsRun (terms_of W kind first) r o → (p : ℕ) → name_in w p ≡ o.name p
+  name_law = name_held W (terms_of W kind first) scanning named first.0 a.started.new refl a.started.low a.started.high w r a.run
 
-  pub owner_law : (o : RenameObject) → IsRun (terms_of W kind w) r o → (n : ℕ) → IsOwner o n (owner_by n w.rounds)
-  owner_law = owner_held W (terms_of W kind w) scanning named a.first a.new most_is a.low a.high w r a.run
+  pub owner_law : (o : RenameObject) → IsRun (terms_of W kind first) r o → (n : ℕ) → IsOwner o n (owner_by n w.rounds)
+  owner_law = owner_held W (terms_of W kind first) scanning named first.0 a.started.new refl a.started.low a.started.high w r a.run
 
-  pub shown_law : (o : RenameObject) → IsRun (terms_of W kind w) r o → IsMoment (shown_by [] w.rounds) (o.moment o.last)
-  shown_law = shown_held W (terms_of W kind w) scanning named a.first a.new most_is a.low a.high w r a.run
+  pub shown_law : (o : RenameObject) → IsRun (terms_of W kind first) r o → IsMoment (shown_by [] w.rounds) (o.moment o.last)
+  shown_law = shown_held W (terms_of W kind first) scanning named first.0 a.started.new refl a.started.low a.started.high w r a.run
 
   pub answered_law : (p : ℕ) → step_refusal w p ≡ None → IsOk (rename_answer W w p)
-  answered_law = answered_held W (terms_of W kind w) scanning named a.first a.new most_is a.low a.high w r a.run
+  answered_law = answered_held W (terms_of W kind first) scanning named first.0 a.started.new refl a.started.low a.started.high w r a.run
 
   pub own_law : (p : ℕ) (c : Client U K) → client_of p w ≡ Some c → IsAccessFor W c c.pending (access_of W c)
-  own_law = own_held W (terms_of W kind w) scanning named a.first a.new most_is a.low a.high w r a.run
+  own_law = own_held W (terms_of W kind first) scanning named first.0 a.started.new refl a.started.low a.started.high w r a.run
 
-  pub snap_after : (calls : List SnapCall) × IsSnapAfter W a.first w.snap calls
-  snap_after = snap_calls W (terms_of W kind w) scanning named a.first a.new most_is a.low a.high w r a.run
+  pub snap_after : (calls : List SnapCall) × After (snapshot W) first.0 w.snap calls
+  snap_after = snap_calls W (terms_of W kind first) scanning named first.0 a.started.new refl a.started.low a.started.high w r a.run
 
   pub joined_law : (p : ℕ) → is_some (participant_of p w.snap.participants) ≡ is_some (participant_of p w.rounds)
-  joined_law = joined_held W (terms_of W kind w) scanning named a.first a.new most_is a.low a.high w r a.run
+  joined_law = joined_held W (terms_of W kind first) scanning named first.0 a.started.new refl a.started.low a.started.high w r a.run

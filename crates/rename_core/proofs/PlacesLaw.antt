@@ -1,6 +1,7 @@
 -- the law of renaming over a grid, over a tree and over segments in a row
 use Rattle.std.proofs.Common.{◌≡◌, ℕ, ◌≤◌, true, false, List, Option, refl, ap, subst, ◌∙◌}
-use Rattle.snapshot_core.specs.SnapCalls.{IsAfter as IsSnapAfter}
+use Rattle.step_memory.specs.Machine.{After}
+use Rattle.snapshot_core.specs.Machine.{snapshot}
 use Rattle.snapshot_core.specs.FixedTies.{fixed_places, fixed_bounds}
 use Rattle.snapshot_core.specs.FixedProofs.{fixed_laws}
 use Rattle.snapshot_places.specs.Bounds.{grid_bounds, tree_bounds}
@@ -23,7 +24,7 @@ use Rattle.snapshot_core.specs.declared.fixed.FixedWalker.{FixedWalker}
 use Rattle.step_memory.specs.declared.record.Record.{Record}
 use Rattle.rename_core.specs.Ample.{fixed_ample, grid_ample}
 use Rattle.rename_core.specs.declared.config.WorldKind.TheVariants.{Rename, Tree}
-use Rattle.rename_core.specs.RenameCalls.{IsLawfulWithin, LacksOnly, BeginsTheSame}
+use Rattle.rename_core.specs.Machine.{IsLawfulWithin, LacksOnly, BeginsTheSame}
 use Rattle.rename_core.specs.RenameState.{RenameState}
 use Rattle.rename_core.proofs.rounds.Beginners.{begins_alike}
 use Rattle.rename_core.proofs.Names.{MayBeNamed, rename_law, most_is, snap_after}
@@ -31,32 +32,34 @@ use Rattle.rename_core.proofs.Names.{MayBeNamed, rename_law, most_is, snap_after
 grid_named : (most : ℕ) → MayBeNamed grid_places false most (grid_bounds most).scanning
 grid_named most = record { laws = grid_laws; fits = fits_grid most; may_grow = λ s p h. grid_ample s.snap p h; at_once = λ b q. refl }
 
-pub grid_lawful : (w : RenameState GridState GridWalker GridWalk) → IsLawfulWithin grid_places Rename (grid_bounds w.snap.most) w
-grid_lawful w r a = rename_law grid_places Rename (grid_bounds w.snap.most).scanning w (grid_named w.snap.most) r a
+pub grid_lawful : (w : RenameState GridState GridWalker GridWalk) → IsLawfulWithin grid_places Rename grid_bounds w
+grid_lawful w first r a = rename_law grid_places Rename (grid_bounds (grid_places.most_of first.0)).scanning first (grid_named (grid_places.most_of first.0)) w r a
 
-pub grid_begins_alike : (p : ℕ) → BeginsTheSame grid_places p
+pub grid_begins_alike : (p : ℕ) → BeginsTheSame grid_places Rename p
 grid_begins_alike = begins_alike grid_places grid_laws Rename (λ m. (grid_bounds m).scanning) grid_named grid_alike
 
 tree_named : (most : ℕ) → MayBeNamed tree_places true most (tree_bounds most).scanning
 tree_named most = record { laws = tree_laws; fits = fits_tree most; may_grow = λ s p h. refl; at_once = λ b q. refl }
 
-pub tree_lawful : (w : RenameState TreeState TreeWalker TreeWalk) → IsLawfulWithin tree_places Tree (tree_bounds w.snap.most) w
-tree_lawful w r a = rename_law tree_places Tree (tree_bounds w.snap.most).scanning w (tree_named w.snap.most) r a
+pub tree_lawful : (w : RenameState TreeState TreeWalker TreeWalk) → IsLawfulWithin tree_places Tree tree_bounds w
+tree_lawful w first r a = rename_law tree_places Tree (tree_bounds (tree_places.most_of first.0)).scanning first (tree_named (tree_places.most_of first.0)) w r a
 
-pub tree_begins_alike : (p : ℕ) → BeginsTheSame tree_places p
+pub tree_begins_alike : (p : ℕ) → BeginsTheSame tree_places Tree p
 tree_begins_alike = begins_alike tree_places tree_laws Tree (λ m. (tree_bounds m).scanning) tree_named tree_alike
 
 fixed_named : (most : ℕ) → MayBeNamed fixed_places false most (fixed_bounds most).scanning
 fixed_named most = record { laws = fixed_laws; fits = fits_row most; may_grow = λ s p h. fixed_ample s.snap p h; at_once = λ b q. refl }
 
-pub fixed_lawful : (w : RenameState (List (Option Record)) FixedWalker FixedWalk) → IsLawfulWithin fixed_places Rename (fixed_bounds w.snap.most) w
-fixed_lawful w r a = rename_law fixed_places Rename (fixed_bounds w.snap.most).scanning w (fixed_named w.snap.most) r a
+pub fixed_lawful : (w : RenameState (List (Option Record)) FixedWalker FixedWalk) → IsLawfulWithin fixed_places Rename fixed_bounds w
+fixed_lawful w first r a = rename_law fixed_places Rename (fixed_bounds (fixed_places.most_of first.0)).scanning first (fixed_named (fixed_places.most_of first.0)) w r a
 
 -- only a step that makes a node may want memory
-pub tree_lacks : (w : RenameState TreeState TreeWalker TreeWalk) (p : ℕ) → LacksOnly tree_places w p (MakesNode w.snap p)
-tree_lacks w p r a may =
-    let size : a.first.most ≡ w.snap.most = most_is tree_places Tree (tree_bounds w.snap.most).scanning w (tree_named w.snap.most) r a in
-    let first : a.first ≡ new_tree w.snap.most = ap (λ (n : _). record { nodes = n; most = a.first.most }) a.new.empty ∙ ap new_tree size in
-    let calls = snap_after tree_places Tree (tree_bounds w.snap.most).scanning w (tree_named w.snap.most) r a in
-    let few : w.snap.most ≤ 64 = rw (← size) a.new.few in
-    tree_makes w.snap (few, calls.0, subst (λ (t : TreeState). IsSnapAfter tree_places t w.snap calls.0) first calls.1) p may
+pub tree_lacks : (w : RenameState TreeState TreeWalker TreeWalk) (p : ℕ) → LacksOnly tree_places Tree w p (MakesNode w.snap p)
+tree_lacks w p first r a may =
+    let named = tree_named (tree_places.most_of first.0) in
+    let scanning = (tree_bounds (tree_places.most_of first.0)).scanning in
+    let size : first.0.most ≡ w.snap.most = most_is tree_places Tree scanning first named w r a in
+    let new : first.0 ≡ new_tree w.snap.most = ap (λ (n : _). record { nodes = n; most = first.0.most }) a.started.new.empty ∙ ap new_tree size in
+    let calls = snap_after tree_places Tree scanning first named w r a in
+    let few : w.snap.most ≤ 64 = rw (← size) a.started.new.few in
+    tree_makes w.snap (few, calls.0, subst (λ (t : TreeState). After (snapshot tree_places) t w.snap calls.0) new calls.1) p may

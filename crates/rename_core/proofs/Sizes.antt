@@ -10,7 +10,7 @@ use Rattle.snapshot_core.specs.declared.client.SnapReply.{SnapReply}
 use Rattle.rename_core.specs.declared.reply.Reply.{Reply}
 use Rattle.rename_core.specs.declared.round.Round.{Round}
 use Rattle.snapshot_core.specs.Places.{KnownPlaces}
-use Rattle.rename_core.specs.RenameCalls.{next, IsReply}
+use Rattle.rename_core.specs.Machine.{next, IsReply}
 use Rattle.rename_core.specs.RenameState.{RenameState}
 use Rattle.rename_core.specs.RenameWorld.{begun_unless, has_place, after_told, after_open, after_by, after_rename_step, snap_told}
 use Rattle.rename_core.specs.Round.{stage_refusal, followed, first_wish}

@@ -10,7 +10,7 @@ pub mod Reply
 pub mod RenameState
 pub mod RenameWorld
 pub mod NamedPlaces
-pub mod RenameCalls
+pub mod Machine
 pub mod Locality
 pub mod Ample
 pub mod EmptyPlaces

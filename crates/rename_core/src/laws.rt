@@ -8,7 +8,8 @@ ghost use Rattle.snapshot_places.specs.GridTies.{grid_places};
 ghost use Rattle.snapshot_places.specs.Made.{MakesNode};
 ghost use Rattle.snapshot_places.specs.TreeTies.{tree_places};
 ghost use Rattle.rename_core.specs.Alone.{steps_alone};
-ghost use Rattle.rename_core.specs.RenameCalls.{CallLeadsOn, KeepsSizes, IsLawful, AnswersUnrefused, IsLawfulWithin, LacksOnly, BeginsTheSame};
+ghost use Rattle.rename_core.specs.Machine.{renaming, KeepsSizes, AnswersUnrefused, IsLawfulWithin, LacksOnly, BeginsTheSame};
+ghost use Rattle.step_memory.specs.Machine.{IsProved};
 ghost use Rattle.rename_core.specs.RenameState.{RenameState};
 ghost use Rattle.rename_core.specs.RenameWorld.{may_lack};
 ghost use Rattle.rename_core.specs.declared.reply.Reply.{Reply};
@@ -22,14 +23,14 @@ use snapshot_core::{Fixed, Known, Places};
 use snapshot_places::{Grid, TreePlaces};
 use std::alloc::Allocator;
 
-/// A law, which runs nothing: one more call, with a reply that it may get, leads on, and keeps the world's sizes; and every
-/// list of calls that leads to a world keeps the law of renaming. After such a list a step is refused, want of memory aside,
-/// only where its round is ended or its participant has not begun.
+/// A law, which runs nothing: renaming is a machine whose calls lead on, whose lists of calls, with every prefix of them, keep
+/// the law of renaming, and each of whose calls is answered as the object that those before it make may answer it. A call
+/// keeps the world's sizes. After a list of calls a step is refused, want of memory aside, only where its round is ended or
+/// its participant has not begun.
 pub fn law_of_renaming_calls<W: RenamePlaces<A>, A: Allocator>()
-    ensures call { (w new : RenameState W W.Walker W.Walk) (h : Call Reply) → CallLeadsOn ⟦<W as Known>⟧.places w new h }
+    ensures machine { IsProved (renaming ⟦<W as Known>⟧.places W.world) }
     ensures kept { (w : RenameState W W.Walker W.Walk) (h : Call Reply) → KeepsSizes ⟦<W as Known>⟧.places w h }
-    ensures answered { (w : RenameState W W.Walker W.Walk) (p : ℕ) → AnswersUnrefused ⟦<W as Known>⟧.places w p }
-    ensures law { (w : RenameState W W.Walker W.Walk) → IsLawful ⟦<W as Known>⟧.places W.world w }
+    ensures answered { (w : RenameState W W.Walker W.Walk) (p : ℕ) → AnswersUnrefused ⟦<W as Known>⟧.places W.world w p }
 {}
 
 /// A law, which runs nothing. Over a grid the calls of a renaming world with their replies keep the law of renaming, after
@@ -37,9 +38,9 @@ pub fn law_of_renaming_calls<W: RenamePlaces<A>, A: Allocator>()
 /// a proposal within one step more; and of m, one who steps alone is named within 4m + 11G + 1. No step wants memory, and
 /// what `begin` gives is a function of the identity and of the most participants alone.
 pub fn grid_rename_law<A: Allocator + Clone>(world: &RenameWorld<Grid<A>, A>)
-    ensures law { IsLawfulWithin grid_places kind.Rename (grid_bounds world.now.snap.most) world.now }
+    ensures law { IsLawfulWithin grid_places kind.Rename grid_bounds world.now }
     ensures ample { (id : ℕ) → may_lack grid_places world.now id ≡ false }
-    ensures alike { (id : ℕ) → BeginsTheSame grid_places id }
+    ensures alike { (id : ℕ) → BeginsTheSame grid_places kind.Rename id }
 {
     let _world = world;
 }
@@ -49,9 +50,9 @@ pub fn grid_rename_law<A: Allocator + Clone>(world: &RenameWorld<Grid<A>, A>)
 /// within one step more; and of m, one who steps alone is named within 5m + 11(6m - 2) + 1. Only a step that makes a node
 /// may want memory, and what `begin` gives is a function of the identity and of the most participants alone.
 pub fn tree_rename_law<A: Allocator + Clone>(world: &RenameWorld<TreePlaces<A>, A>)
-    ensures law { IsLawfulWithin tree_places kind.Tree (tree_bounds world.now.snap.most) world.now }
-    ensures makes { (id : ℕ) → LacksOnly tree_places world.now id (MakesNode world.now.snap id) }
-    ensures alike { (id : ℕ) → BeginsTheSame tree_places id }
+    ensures law { IsLawfulWithin tree_places kind.Tree tree_bounds world.now }
+    ensures makes { (id : ℕ) → LacksOnly tree_places kind.Tree world.now id (MakesNode world.now.snap id) }
+    ensures alike { (id : ℕ) → BeginsTheSame tree_places kind.Tree id }
 {
     let _world = world;
 }
@@ -60,7 +61,7 @@ pub fn tree_rename_law<A: Allocator + Clone>(world: &RenameWorld<TreePlaces<A>, 
 /// renaming, after every list of calls: nobody takes a step to its place, and a view comes within m(m + 1) steps. No step
 /// wants memory.
 pub fn fixed_rename_law<A: Allocator>(world: &RenameWorld<Fixed<A>, A>)
-    ensures law { IsLawfulWithin fixed_places kind.Rename (fixed_bounds world.now.snap.most) world.now }
+    ensures law { IsLawfulWithin fixed_places kind.Rename fixed_bounds world.now }
     ensures ample { (id : ℕ) → may_lack fixed_places world.now id ≡ false }
 {
     let _world = world;

@@ -6,7 +6,8 @@ ghost use Rattle.step_memory.specs.World.{begin_refusal, done_unless};
 ghost use Rattle.step_memory.specs.Calls.Call.{Began, Stepped};
 ghost use Rattle.rename_core.specs.Config.{is_played_over};
 ghost use Rattle.rename_core.specs.Locality.{IsLocal};
-ghost use Rattle.rename_core.specs.RenameCalls.{IsAfter, LeadsOn, IsFresh, IsLawful, MakesOwnAccess, IsName, IsOwnerOf, IsLastMoment};
+ghost use Rattle.rename_core.specs.Machine.{renaming, IsFresh, MakesOwnAccess, IsName, IsOwnerOf, IsLastMoment};
+ghost use Rattle.step_memory.specs.Machine.{After, IsLawful, LeadsOn};
 ghost use Rattle.rename_core.specs.Round.{standing_by, followed};
 ghost use Rattle.rename_core.specs.Reply.{outcome_with, with_view};
 ghost use Rattle.rename_core.specs.RenameWorld.{fresh_world, step_refusal, after_wish, name_in, owner_by, shown_with, shown_by, after_rename_begin, rename_answer, after_rename_step, LacksMemory};
@@ -175,14 +176,14 @@ where
         ensures no_memory { result ≡ Err Refusal.NoMemory → LacksMemory ⟦<W as Known>⟧.places self.old id }
 
         // The law, over every list of calls and replies that the world may be after.
-        ensures after { LeadsOn ⟦<W as Known>⟧.places self.old self.new (Stepped id result) }
-        ensures law { IsLawful ⟦<W as Known>⟧.places W.world self.new }
+        ensures after { LeadsOn (renaming ⟦<W as Known>⟧.places W.world) self.old self.new (Stepped id result) }
+        ensures law { IsLawful (renaming ⟦<W as Known>⟧.places W.world) self.new }
 
         // Reply and own state are functions of the own state and the access's answer, and nothing else changes. After every
         // list of calls the access is one for what the participant does: on its way to a place a read, a write or none, in
         // a scan a read, at the end of an update the write of its own segment.
         ensures local { IsLocal ⟦<W as Known>⟧.places id self.old self.new result }
-        ensures own { MakesOwnAccess ⟦<W as Known>⟧.places self.old id }
+        ensures own { MakesOwnAccess ⟦<W as Known>⟧.places W.world self.old id }
     {
         let mut view = View::new();
         let outcome = self.step_short(id, &mut view);
@@ -196,10 +197,10 @@ where
         ensures state { result ≢ Err Refusal.NoMemory → self.new ≡ after_rename_step ⟦<W as Known>⟧.places self.old id }
         ensures refused { OnErr result (self.new ≡ self.old) }
         ensures no_memory { result ≡ Err Refusal.NoMemory → LacksMemory ⟦<W as Known>⟧.places self.old id }
-        ensures after { LeadsOn ⟦<W as Known>⟧.places self.old self.new (Stepped id (outcome_with result view.new)) }
-        ensures law { IsLawful ⟦<W as Known>⟧.places W.world self.new }
+        ensures after { LeadsOn (renaming ⟦<W as Known>⟧.places W.world) self.old self.new (Stepped id (outcome_with result view.new)) }
+        ensures law { IsLawful (renaming ⟦<W as Known>⟧.places W.world) self.new }
         ensures local { IsLocal ⟦<W as Known>⟧.places id self.old self.new (outcome_with result view.new) }
-        ensures own { MakesOwnAccess ⟦<W as Known>⟧.places self.old id }
+        ensures own { MakesOwnAccess ⟦<W as Known>⟧.places W.world self.old id }
     {
         self.take_step(id, view)
     }
@@ -323,8 +324,8 @@ where
         ensures state { self.new ≡ after_rename_begin ⟦<W as Known>⟧.places self.old id }
 
         // The law, over every list of calls and replies that the world may be after.
-        ensures after { LeadsOn ⟦<W as Known>⟧.places self.old self.new (Began id result) }
-        ensures law { IsLawful ⟦<W as Known>⟧.places W.world self.new }
+        ensures after { LeadsOn (renaming ⟦<W as Known>⟧.places W.world) self.old self.new (Began id result) }
+        ensures law { IsLawful (renaming ⟦<W as Known>⟧.places W.world) self.new }
     {
         self.take_begin(id)
     }
@@ -343,8 +344,8 @@ where
         ensures fresh { IfOk result (λ w. IsFresh ⟦<W as Known>⟧.places config.m config.limit w) }
         ensures out_of_range { result ≡ Err Refusal.OutOfRange ↔ (is_played_over config.world W.world ≡ false) }
         ensures only { IfErr result (λ why. (why ≡ Refusal.NoMemory) ⊎ (why ≡ Refusal.OutOfRange)) }
-        ensures after { IfOk result (λ w. IsAfter ⟦<W as Known>⟧.places w []) }
-        ensures law { IfOk result (λ w. IsLawful ⟦<W as Known>⟧.places W.world w) }
+        ensures after { IfOk result (λ w. After (renaming ⟦<W as Known>⟧.places W.world) (W.empty_for config.m, config.limit) w []) }
+        ensures law { IfOk result (λ w. IsLawful (renaming ⟦<W as Known>⟧.places W.world) w) }
     {
         if !config.world.is_played_over(W::world()) {
             return Err(Refusal::OutOfRange);

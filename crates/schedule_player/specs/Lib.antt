@@ -32,6 +32,7 @@ pub mod VisitProofs
 pub mod DeskWorld
 pub mod DeskWorldProofs
 pub mod Kinds
+pub mod WorldRuns
 pub mod WorldProofs
 pub mod Stands
 pub mod Played

@@ -1,12 +1,11 @@
 -- each call of slots keeps the law
-use Rattle.std.proofs.Common.{◌≡◌, ◌≤◌, ℕ, zero, suc, ◌-◌, ◌<◌, true, false, not, cond, List, [], ◌∷◌, ◌++◌, Some, None, Ok, Err, Result, length, replicate, refl, sym, ap, subst, ◌∙◌, arith}
+use Rattle.std.proofs.Common.{◌≡◌, ℕ, zero, suc, ◌-◌, ◌<◌, true, false, not, cond, List, [], ◌∷◌, ◌++◌, Some, None, Ok, Err, Result, length, replicate, refl, sym, ap, subst, ◌∙◌, arith}
 use Rattle.std.specs.Prelude.{slice_get, ok_or}
 use Rattle.step_memory.specs.declared.refusal.Refusal.TheVariants.{NotCompeting, NotHolding}
-use Rattle.std.proofs.lemmas.List.{length-set, length-append, length-replicate}
+use Rattle.std.proofs.lemmas.List.{append-nil, length-set, length-append, length-replicate}
 use Rattle.step_memory.specs.declared.refusal.Refusal.{Refusal}
 use Rattle.step_memory.specs.World.{done_unless}
-use Rattle.step_memory.specs.Runs.{Run}
-use Rattle.step_memory.proofs.RunLemmas.{run_more, run_keeps, run_one, run_splits}
+use Rattle.step_memory.proofs.RunLemmas.{run_more, run_one, run_splits, run_answers}
 use Rattle.bit_allocator.specs.Pool.{fresh_pool, number_answer, widen_answer, after_widen}
 use Rattle.bit_allocator.specs.Widening.{widen_refusal}
 use Rattle.bit_allocator.specs.PoolState.{PoolState}
@@ -14,45 +13,29 @@ use Rattle.bit_allocator.specs.declared.probe.Probe.TheVariants.{Missed, Got}
 use Rattle.bit_allocator.specs.Calls.{Call}
 use Rattle.bit_allocator.specs.Calls.Call.{Entered, Probed, Left, Widened}
 use Rattle.bit_allocator.specs.PoolObject.{PoolObject, competes, fresh_object, Answers, after, number_in, IsRun}
-use Rattle.bit_allocator.specs.After.{After, next, IsReply}
-use Rattle.bit_allocator.proofs.PoolKeeps.{law_after, number_after}
+use Rattle.bit_allocator.specs.Machine.{next, IsReply, pool}
+use Rattle.step_memory.specs.Machine.{After, Always, IsLawful, RefusesWhereDue, IsProved}
+use Rattle.step_memory.proofs.MachineLemmas.{always_by, machine_proved}
+use Rattle.bit_allocator.proofs.PoolKeeps.{pool_proved, number_after}
 use Rattle.slot_array.specs.SlotsState.{SlotsState}
 use Rattle.slot_array.specs.SlotCalls.{SlotCall, pool_calls}
 use Rattle.slot_array.specs.SlotCalls.SlotCall.{Pooled, Stored, Fetched, Extended}
 use Rattle.slot_array.specs.Slots.{slot, stored_reply, stored_in, IsFetched, after_put, extended_in, after_extend}
 use Rattle.slot_array.specs.SlotsObject.{SlotsObject, fresh_slots, PoolAnswers, SlotAnswers, slots_after, IsSlotsRun}
-use Rattle.slot_array.specs.Law.{KeepsSlotsLaw}
-use Rattle.slot_array.specs.After.{AfterSlots, slots_next, IsPoolReply, IsSlotReply}
+use Rattle.slot_array.specs.Machine.{slots, slots_next, IsPoolReply, IsSlotReply}
 use Rattle.slot_array.proofs.SlotLemmas.{wider}
 
--- the pool's part of one more call
-pool_calls-pooled : {T : Type 0} (r : List (SlotCall T)) (h : Call) → pool_calls (r ++ Pooled h ∷ []) ≡ pool_calls r ++ h ∷ []
-pool_calls-pooled [] h = refl
-pool_calls-pooled (Pooled k ∷ r) h = ap (λ xs. k ∷ xs) (pool_calls-pooled r h)
-pool_calls-pooled (Stored p v reply ∷ r) h = pool_calls-pooled r h
-pool_calls-pooled (Fetched p reply ∷ r) h = pool_calls-pooled r h
-pool_calls-pooled (Extended more v reply ∷ r) h = ap (λ xs. Widened more reply ∷ xs) (pool_calls-pooled r h)
+-- the pool's part of two lists, one after the other
+pool_calls-append : {T : Type 0} (r t : List (SlotCall T)) → pool_calls (r ++ t) ≡ pool_calls r ++ pool_calls t
+pool_calls-append [] t = refl
+pool_calls-append (Pooled h ∷ r) t = ap (λ xs. h ∷ xs) (pool_calls-append r t)
+pool_calls-append (Stored p v reply ∷ r) t = pool_calls-append r t
+pool_calls-append (Fetched p reply ∷ r) t = pool_calls-append r t
+pool_calls-append (Extended more v reply ∷ r) t = ap (λ xs. Widened more reply ∷ xs) (pool_calls-append r t)
 
-pool_calls-stored : {T : Type 0} (r : List (SlotCall T)) (p : ℕ) (value : T) (reply : Result (Unit {0}) Refusal) → pool_calls (r ++ Stored p value reply ∷ []) ≡ pool_calls r
-pool_calls-stored [] p value reply = refl
-pool_calls-stored (Pooled k ∷ r) p value reply = ap (λ xs. k ∷ xs) (pool_calls-stored r p value reply)
-pool_calls-stored (Stored q v e ∷ r) p value reply = pool_calls-stored r p value reply
-pool_calls-stored (Fetched q e ∷ r) p value reply = pool_calls-stored r p value reply
-pool_calls-stored (Extended more v e ∷ r) p value reply = ap (λ xs. Widened more e ∷ xs) (pool_calls-stored r p value reply)
-
-pool_calls-fetched : {T : Type 0} (r : List (SlotCall T)) (p : ℕ) (reply : Result T Refusal) → pool_calls (r ++ Fetched p reply ∷ []) ≡ pool_calls r
-pool_calls-fetched [] p reply = refl
-pool_calls-fetched (Pooled k ∷ r) p reply = ap (λ xs. k ∷ xs) (pool_calls-fetched r p reply)
-pool_calls-fetched (Stored q v e ∷ r) p reply = pool_calls-fetched r p reply
-pool_calls-fetched (Fetched q e ∷ r) p reply = pool_calls-fetched r p reply
-pool_calls-fetched (Extended more v e ∷ r) p reply = ap (λ xs. Widened more e ∷ xs) (pool_calls-fetched r p reply)
-
-pool_calls-extended : {T : Type 0} (r : List (SlotCall T)) (more : ℕ) (value : T) (reply : Result (Unit {0}) Refusal) → pool_calls (r ++ Extended more value reply ∷ []) ≡ pool_calls r ++ Widened more reply ∷ []
-pool_calls-extended [] more value reply = refl
-pool_calls-extended (Pooled k ∷ r) more value reply = ap (λ xs. k ∷ xs) (pool_calls-extended r more value reply)
-pool_calls-extended (Stored q v e ∷ r) more value reply = pool_calls-extended r more value reply
-pool_calls-extended (Fetched q e ∷ r) more value reply = pool_calls-extended r more value reply
-pool_calls-extended (Extended n v e ∷ r) more value reply = ap (λ xs. Widened n e ∷ xs) (pool_calls-extended r more value reply)
+-- a call in which the pool has no part
+pool_calls-other : {T : Type 0} (r : List (SlotCall T)) (h : SlotCall T) → pool_calls (h ∷ []) ≡ [] → pool_calls (r ++ h ∷ []) ≡ pool_calls r
+pool_calls-other r h none = pool_calls-append r (h ∷ []) ∙ ap (λ xs. pool_calls r ++ xs) none ∙ append-nil (pool_calls r)
 
 -- `put` keeps as many slots
 length-stored_in : {T : Type 0} (held : Result ℕ Refusal) (value : T) (values : List T) → length (stored_in held value values) ≡ length values
@@ -63,7 +46,7 @@ length-stored_in (Err refusal) value values = refl
 record Stands {T : Type 0} (size : ℕ) (first : List T) (s : SlotsState T) (r : List (SlotCall T)) : Type 0 where
   object : SlotsObject T
   run : IsSlotsRun size first r object
-  pool : After size s.pool (pool_calls r)
+  pool : After pool size s.pool (pool_calls r)
   pool_run : IsRun size (pool_calls r) object.pool
   values : object.values ≡ s.values
   many : length object.values ≡ object.pool.size
@@ -108,12 +91,12 @@ module _ {T : Type 0} (size : ℕ) (first : List T) (s : SlotsState T) (r : List
   held_is p = number_after size s.pool (pool_calls r) t.object.pool t.pool t.pool_run p
 
   -- the pool and its object go on by a call of the pool
-  pool_on : (h : Call) → IsReply s.pool h → After size (next s.pool h) (pool_calls r ++ h ∷ [])
-  pool_on h is = record { first = t.pool.first; last = t.pool.last; run = run_more next IsReply (fresh_pool size) (pool_calls r) s.pool h t.pool.run is }
+  pool_on : (h : Call) → IsReply s.pool h → After pool size (next s.pool h) (pool_calls r ++ h ∷ [])
+  pool_on h is = pool_proved.call s.pool (next s.pool h) h refl is size (pool_calls r) t.pool
 
   pool_right : (h : Call) → IsReply s.pool h → Answers t.object.pool h
   pool_right h is =
-      let law = law_after size (next s.pool h) (pool_calls r ++ h ∷ []) (pool_on h is) in
+      let law = pool_proved.law (next s.pool h) size (pool_calls r ++ h ∷ []) (pool_on h is) in
       let l = run_splits after Answers (fresh_object size) (pool_calls r) (h ∷ []) law.object law.run in
       let same : l.0 ≡ t.object.pool = run_one after Answers (fresh_object size) (pool_calls r) l.0 t.object.pool l.1 t.pool_run in
       subst (λ (x : PoolObject). Answers x h) same l.2.0
@@ -127,8 +110,8 @@ module _ {T : Type 0} (size : ℕ) (first : List T) (s : SlotsState T) (r : List
       record {
         object = slots_after t.object (Pooled h);
         run = gone_on (Pooled h) (pool_answers s.pool t.object.pool h own (pool_right h is));
-        pool = subst (λ (xs : List Call). After size (next s.pool h) xs) (sym (pool_calls-pooled r h)) (pool_on h is);
-        pool_run = subst (λ (xs : List Call). IsRun size xs (after t.object.pool h)) (sym (pool_calls-pooled r h)) (pool_run_on h is);
+        pool = subst (λ (xs : List Call). After pool size (next s.pool h) xs) (sym (pool_calls-append r (Pooled h ∷ []))) (pool_on h is);
+        pool_run = subst (λ (xs : List Call). IsRun size xs (after t.object.pool h)) (sym (pool_calls-append r (Pooled h ∷ []))) (pool_run_on h is);
         values = t.values;
         many = t.many ∙ sym (size_kept s.pool t.object.pool h own);
       }
@@ -140,8 +123,8 @@ module _ {T : Type 0} (size : ℕ) (first : List T) (s : SlotsState T) (r : List
       record {
         object = slots_after t.object (Extended more value reply);
         run = gone_on (Extended more value reply) right;
-        pool = subst (λ (xs : List Call). After size (after_widen s.pool more) xs) (sym (pool_calls-extended r more value reply)) (pool_on h is);
-        pool_run = subst (λ (xs : List Call). IsRun size xs (after t.object.pool h)) (sym (pool_calls-extended r more value reply)) (pool_run_on h is);
+        pool = subst (λ (xs : List Call). After pool size (after_widen s.pool more) xs) (sym (pool_calls-append r (Extended more value reply ∷ []))) (pool_on h is);
+        pool_run = subst (λ (xs : List Call). IsRun size xs (after t.object.pool h)) (sym (pool_calls-append r (Extended more value reply ∷ []))) (pool_run_on h is);
         values = ap (λ (xs : List T). extended_in reply more value xs) t.values ∙ ap (λ (k : Result (Unit {0}) Refusal). extended_in k more value s.values) is;
         many = many_extended t.object.pool more value t.object.values reply t.many right;
       }
@@ -152,8 +135,8 @@ module _ {T : Type 0} (size : ℕ) (first : List T) (s : SlotsState T) (r : List
       record {
         object = slots_after t.object (Stored p value reply);
         run = gone_on (Stored p value reply) (is ∙ ap stored_reply held);
-        pool = subst (λ (xs : List Call). After size s.pool xs) (sym (pool_calls-stored r p value reply)) t.pool;
-        pool_run = subst (λ (xs : List Call). IsRun size xs t.object.pool) (sym (pool_calls-stored r p value reply)) t.pool_run;
+        pool = subst (λ (xs : List Call). After pool size s.pool xs) (sym (pool_calls-other r (Stored p value reply) refl)) t.pool;
+        pool_run = subst (λ (xs : List Call). IsRun size xs t.object.pool) (sym (pool_calls-other r (Stored p value reply) refl)) t.pool_run;
         values = ap (λ (xs : List T). stored_in (number_in t.object.pool p) value xs) t.values ∙ ap (λ (k : Result ℕ Refusal). stored_in k value s.values) (sym held);
         many = length-stored_in (number_in t.object.pool p) value t.object.values ∙ t.many;
       }
@@ -165,8 +148,8 @@ module _ {T : Type 0} (size : ℕ) (first : List T) (s : SlotsState T) (r : List
       record {
         object = t.object;
         run = gone_on (Fetched p reply) right;
-        pool = subst (λ (xs : List Call). After size s.pool xs) (sym (pool_calls-fetched r p reply)) t.pool;
-        pool_run = subst (λ (xs : List Call). IsRun size xs t.object.pool) (sym (pool_calls-fetched r p reply)) t.pool_run;
+        pool = subst (λ (xs : List Call). After pool size s.pool xs) (sym (pool_calls-other r (Fetched p reply) refl)) t.pool;
+        pool_run = subst (λ (xs : List Call). IsRun size xs t.object.pool) (sym (pool_calls-other r (Fetched p reply) refl)) t.pool_run;
         values = t.values;
         many = t.many;
       }
@@ -178,58 +161,38 @@ next_keeps size first s r (Fetched p reply) t is = fetched_keeps size first s r 
 next_keeps size first s r (Extended more value reply) t is = extended_keeps size first s r t more value reply is
 
 -- so it is after any calls
-stands : {T : Type 0} (size : ℕ) (first : List T) (s : SlotsState T) (r : List (SlotCall T)) → AfterSlots size first s r → Stands size first s r
-stands {T} size first s r a =
-    let fresh : SlotsState T = record { pool = fresh_pool size; values = first } in
-    let begun : Stands size first fresh [] = record {
-      object = fresh_slots size first;
+stands : {T : Type 0} (s : SlotsState T) → Always slots (λ first r. Stands first.0 first.1 s r) s
+stands {T} s first r a =
+    let fresh : SlotsState T = record { pool = fresh_pool first.0; values = first.1 } in
+    let begun : Stands first.0 first.1 fresh [] = record {
+      object = fresh_slots first.0 first.1;
       run = refl;
-      pool = record { first = a.first; last = a.last; run = refl };
+      pool = pool_proved.fresh first.0 (a.started.0, a.started.1);
       pool_run = refl;
       values = refl;
-      many = a.many;
+      many = a.started.2;
     } in
-    run_keeps slots_next IsSlotReply (Stands size first) (next_keeps size first) fresh [] r s begun a.run
+    always_by slots (Stands first.0 first.1) (next_keeps first.0 first.1) first begun s r a
 
 -- the law
-pub law_after_slots : {T : Type 0} (size : ℕ) (first : List T) (s : SlotsState T) (r : List (SlotCall T)) → AfterSlots size first s r → KeepsSlotsLaw size first r
-law_after_slots size first s r a =
-    let t = stands size first s r a in
-    record { object = t.object; run = t.run; pool = law_after size s.pool (pool_calls r) t.pool; slots = t.many }
-
--- the pool is after its part of the calls
-pub pool_after : {T : Type 0} (size : ℕ) (first : List T) (s : SlotsState T) (r : List (SlotCall T)) → AfterSlots size first s r → After size s.pool (pool_calls r)
-pool_after size first s r a = (stands size first s r a).pool
-
--- one more call
-pub after_slots_call : {T : Type 0} (size : ℕ) (first : List T) (s new : SlotsState T) (r : List (SlotCall T)) (h : SlotCall T) → new ≡ slots_next s h → IsSlotReply s h → AfterSlots size first s r → AfterSlots size first new (r ++ h ∷ [])
-after_slots_call {T} size first s new r h e is a = record {
-  first = a.first;
-  last = a.last;
-  many = a.many;
-  run = subst (λ (x : SlotsState T). Run slots_next IsSlotReply (record { pool = fresh_pool size; values = first }) (r ++ h ∷ []) x) (sym e) (run_more slots_next IsSlotReply (record { pool = fresh_pool size; values = first }) r s h a.run is);
-}
-
--- new slots are after no call
-pub after_none : {T : Type 0} (size : ℕ) (values : List T) → 1 ≤ size → size ≤ 64 → length values ≡ size → AfterSlots size values (record { pool = fresh_pool size; values = values }) []
-after_none size values first last many = record { first = first; last = last; many = many; run = refl }
-
--- every front of the calls keeps the law
-pub front_lawful : {T : Type 0} (size : ℕ) (values : List T) (s : SlotsState T) (r t : List (SlotCall T)) → AfterSlots size values s (r ++ t) → KeepsSlotsLaw size values r
-front_lawful size values s r t a =
-    let cut = run_splits slots_next IsSlotReply (record { pool = fresh_pool size; values = values }) r t s a.run in
-    law_after_slots size values cut.0 r (record { first = a.first; last = a.last; many = a.many; run = cut.1 })
+pub slots_law : {T : Type 0} (s : SlotsState T) → IsLawful slots s
+slots_law s first r a =
+    let t = stands s first r a in
+    record { object = t.object; run = t.run; pool = pool_proved.law s.pool first.0 (pool_calls r) t.pool; slots = t.many }
 
 -- each call is answered as the object that those before it make may answer it
-pub due_after : {T : Type 0} (size : ℕ) (values : List T) (s : SlotsState T) (r before rest : List (SlotCall T)) (h : SlotCall T) → AfterSlots size values s r → r ≡ before ++ h ∷ rest → (o : SlotsObject T) × IsSlotsRun size values before o × SlotAnswers o h
-due_after {T} size values s r before rest h a e =
-    let law = law_after_slots size values s r a in
-    let cut = run_splits slots_after SlotAnswers (fresh_slots size values) before (h ∷ rest) law.object (subst (λ (xs : List (SlotCall T)). IsSlotsRun size values xs law.object) e law.run) in
-    (cut.0, cut.1, cut.2.0)
+slots_due : {T : Type 0} (s : SlotsState T) → RefusesWhereDue slots s
+slots_due s first r a =
+    let law = slots_law s first r a in
+    run_answers slots_after SlotAnswers (fresh_slots first.0 first.1) r law.object law.run
 
--- two slots after one list are the same
-pub one_after : {T : Type 0} (size : ℕ) (values : List T) (s other : SlotsState T) (r : List (SlotCall T)) → AfterSlots size values s r → AfterSlots size values other r → s ≡ other
-one_after size values s other r a b = run_one slots_next IsSlotReply (record { pool = fresh_pool size; values = values }) r s other a.run b.run
+-- so slots are proved
+pub slots_proved : {T : Type 0} → IsProved (slots {T = T})
+slots_proved = machine_proved slots slots_law slots_due
+
+-- the pool is after its part of the calls
+pub pool_after : {T : Type 0} (s : SlotsState T) → Always slots (λ first r. After pool first.0 s.pool (pool_calls r)) s
+pool_after s first r a = (stands s first r a).pool
 
 -- a list has something at each place below its length
 something_at : {T : Type 0} (xs : List T) (i : ℕ) → i < length xs → (v : T) × (slice_get xs i ≡ Some v)
@@ -244,10 +207,11 @@ held_of o p n h = elim (competes o p) as (λ b. cond (not b) (Err NotCompeting) 
 ] h
 
 -- a number that is held has a slot
-pub slot_there : {T : Type 0} (size : ℕ) (first : List T) (s : SlotsState T) (r : List (SlotCall T)) (id n : ℕ) → AfterSlots size first s r → number_answer s.pool id ≡ Ok n → (v : T) × (slot n s.values ≡ Some v)
-slot_there size first s r id n a holds =
-    let t = stands size first s r a in
-    let law = law_after size s.pool (pool_calls r) t.pool in
+pub slot_there : {T : Type 0} (s : SlotsState T) (id n : ℕ) → number_answer s.pool id ≡ Ok n → Always slots (λ first r. (v : T) × (slot n s.values ≡ Some v)) s
+slot_there s id n holds first r a =
+    let size = first.0 in
+    let t = stands s first r a in
+    let law = pool_proved.law s.pool size (pool_calls r) t.pool in
     let held : law.object.held id ≡ Some n = held_of law.object id n (sym (number_after size s.pool (pool_calls r) law.object t.pool law.run id) ∙ holds) in
     let range = law.in_range id n held in
     let same : law.object ≡ t.object.pool = run_one after Answers (fresh_object size) (pool_calls r) law.object t.object.pool law.run t.pool_run in

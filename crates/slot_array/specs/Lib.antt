@@ -3,5 +3,5 @@ pub mod SlotCalls
 pub mod Slots
 pub mod SlotsObject
 pub mod Law
-pub mod After
+pub mod Machine
 pub mod Laws

@@ -1,16 +1,17 @@
 //! Slots over a pool.
 
-ghost use Rattle.std.specs.Prelude.{◌≡◌, ℕ, ◌+◌, List, [], ◌++◌, replicate, ◌≤◌, IfOk, IsOk, OnErr, vec_len, vec_capacity};
+ghost use Rattle.std.specs.Prelude.{◌≡◌, ℕ, ◌+◌, [], ◌++◌, replicate, ◌≤◌, IfOk, IsOk, OnErr, vec_len, vec_capacity};
 ghost use Rattle.std.specs.Result.{result_map_both};
 ghost use Rattle.bit_allocator.specs.Calls.Call.{Entered, Probed, Left};
 ghost use Rattle.bit_allocator.specs.Pool.{enter_answer, after_enter, probe_answer, after_probe, number_answer, after_leave, widen_answer};
-ghost use Rattle.bit_allocator.specs.After.{After};
+ghost use Rattle.bit_allocator.specs.Machine.{pool as pool_machine};
+ghost use Rattle.step_memory.specs.Machine.{After, Always, IsLawful, LeadsOn};
 ghost use Rattle.bit_allocator.specs.Locality.{IsLocal, IsWidened, LookAlike, StandAlike, probe_steps, leave_steps};
 ghost use Rattle.bit_allocator.specs.PoolState.{PoolState};
-ghost use Rattle.slot_array.specs.SlotCalls.{SlotCall, pool_calls};
+ghost use Rattle.slot_array.specs.SlotCalls.{pool_calls};
 ghost use Rattle.slot_array.specs.SlotCalls.SlotCall.{Pooled, Stored, Fetched, Extended};
 ghost use Rattle.slot_array.specs.Slots.{stored_reply, IsFetched, after_put, ChangesOwnSlot, after_extend, FillsNewSlots};
-ghost use Rattle.slot_array.specs.After.{AfterSlots, IsLawful, LeadsOn};
+ghost use Rattle.slot_array.specs.Machine.{slots};
 
 use bit_allocator::{MOST_NUMBERS, Pool, Probe};
 use std::alloc::Allocator;
@@ -52,7 +53,7 @@ impl<T: Drop, A: Allocator> Slots<T, A> {
     pub fn new(pool: Pool<A>, values: Vec<T, A>) -> Result<Self, NoMemory>
         requires { vec_len values ≡ pool.size }
         ensures state { IfOk result (λ s. s ≡ record { pool = pool; values = values.items }) }
-        ensures after { IfOk result (λ s. (size : ℕ) → After size pool [] → AfterSlots size values.items s []) }
+        ensures after { IfOk result (λ s. (size : ℕ) → After pool_machine size pool [] → After slots (size, values.items) s []) }
         ensures room { 64 ≤ vec_capacity values → IsOk result }
     {
         let mut values = values;
@@ -66,29 +67,31 @@ impl<T: Drop, A: Allocator> Slots<T, A> {
     /// The pool.
     pub fn pool(&self) -> &Pool<A>
         ensures pool { result.now ≡ self.now.pool }
-        ensures after { (size : ℕ) (values : List T) (r : List (SlotCall T)) → AfterSlots size values self.now r → After size result.now (pool_calls r) }
+        ensures after { Always slots (λ first r. After pool_machine first.0 result.now (pool_calls r)) self.now }
     {
         &self.pool
     }
 
     /// An identity begins to compete, as in the pool.
+    #[tactic(auto, using(crate::proofs::SlotsKeep::slots_law))]
     pub fn enter(&mut self, id: u64) -> Result<(), Refusal>
         ensures answer { result ≡ enter_answer self.old.pool id }
         ensures state { self.new ≡ record self.old { pool = after_enter self.old.pool id } }
         ensures refused { OnErr result (self.new ≡ self.old) }
-        ensures after { LeadsOn self.old self.new (Pooled (Entered id result)) }
-        ensures law { IsLawful self.new }
+        ensures after { LeadsOn slots self.old self.new (Pooled (Entered id result)) }
+        ensures law { IsLawful slots self.new }
     {
         self.pool.enter(id)
     }
 
     /// One probe, as in the pool.
+    #[tactic(auto, using(crate::proofs::SlotsKeep::slots_law))]
     pub fn probe(&mut self, id: u64) -> Result<Probe, Refusal>
         ensures answer { result ≡ probe_answer self.old.pool id }
         ensures state { self.new ≡ record self.old { pool = after_probe self.old.pool id } }
         ensures refused { OnErr result (self.new ≡ self.old) }
-        ensures after { LeadsOn self.old self.new (Pooled (Probed id result)) }
-        ensures law { IsLawful self.new }
+        ensures after { LeadsOn slots self.old self.new (Pooled (Probed id result)) }
+        ensures law { IsLawful slots self.new }
 
         // Nothing of the pool changes but this competitor and the bit that it names, and in another pool that looks alike to
         // this competitor the answer is the same, and where it then stands.
@@ -100,12 +103,13 @@ impl<T: Drop, A: Allocator> Slots<T, A> {
     }
 
     /// Gives back the number that an identity holds, as in the pool. The number's slot keeps its value.
+    #[tactic(auto, using(crate::proofs::SlotsKeep::slots_law))]
     pub fn leave(&mut self, id: u64) -> Result<u8, Refusal>
         ensures answer { result ≡ number_answer self.old.pool id }
         ensures state { self.new ≡ record self.old { pool = after_leave self.old.pool id } }
         ensures refused { OnErr result (self.new ≡ self.old) }
-        ensures after { LeadsOn self.old self.new (Pooled (Left id result)) }
-        ensures law { IsLawful self.new }
+        ensures after { LeadsOn slots self.old self.new (Pooled (Left id result)) }
+        ensures law { IsLawful slots self.new }
 
         // Nothing of the pool changes but this competitor and the bit that it names, and in another pool that looks alike to
         // this competitor the answer is the same, and where it then stands.
@@ -118,13 +122,14 @@ impl<T: Drop, A: Allocator> Slots<T, A> {
 
     /// Puts a value into the slot of the number that an identity holds. Refused where the identity does not compete, then
     /// where it holds no number.
+    #[tactic(auto, using(crate::proofs::SlotsKeep::slots_law))]
     pub fn put(&mut self, id: u64, value: T) -> Result<(), Refusal>
         ensures answer { result ≡ stored_reply (number_answer self.old.pool id) }
         ensures state { self.new ≡ after_put self.old id value }
         ensures changes { ChangesOwnSlot id value self.old self.new }
         ensures refused { OnErr result (self.new ≡ self.old) }
-        ensures after { LeadsOn self.old self.new (Stored id value result) }
-        ensures law { IsLawful self.new }
+        ensures after { LeadsOn slots self.old self.new (Stored id value result) }
+        ensures law { IsLawful slots self.new }
     {
         let number = self.pool.number_of(id)?;
         self.values[usize::from(number) - 1] = value;
@@ -133,10 +138,11 @@ impl<T: Drop, A: Allocator> Slots<T, A> {
 
     /// The value in the slot of the number that an identity holds. Refused where the identity does not compete, then where
     /// it holds no number.
+    #[tactic(auto, using(crate::proofs::SlotsKeep::slots_law))]
     pub fn get(&self, id: u64) -> Result<&T, Refusal>
         ensures answer { IsFetched self.now.values (number_answer self.now.pool id) (result_map_both (λ value. value.now) (λ refusal. refusal) result) }
-        ensures after { LeadsOn self.now self.now (Fetched id (result_map_both (λ value. value.now) (λ refusal. refusal) result)) }
-        ensures law { IsLawful self.now }
+        ensures after { LeadsOn slots self.now self.now (Fetched id (result_map_both (λ value. value.now) (λ refusal. refusal) result)) }
+        ensures law { IsLawful slots self.now }
     {
         let number = self.pool.number_of(id)?;
         Ok(&self.values[usize::from(number) - 1])
@@ -146,13 +152,14 @@ impl<T: Drop, A: Allocator> Slots<T, A> {
 impl<T: Copy, A: Allocator> Slots<T, A> {
     /// The pool gets more numbers, as in the pool, and each new slot holds this value; the others keep theirs. Refused where
     /// the pool refuses the size. It takes no memory.
+    #[tactic(auto, using(crate::proofs::SlotsKeep::slots_law))]
     pub fn widen(&mut self, size: u64, value: T) -> Result<(), Refusal>
         ensures answer { result ≡ widen_answer self.old.pool size }
         ensures state { self.new ≡ after_extend self.old size value }
         ensures fills { IfOk result (λ done. FillsNewSlots size value self.old self.new) }
         ensures refused { OnErr result (self.new ≡ self.old) }
-        ensures after { LeadsOn self.old self.new (Extended size value result) }
-        ensures law { IsLawful self.new }
+        ensures after { LeadsOn slots self.old self.new (Extended size value result) }
+        ensures law { IsLawful slots self.new }
 
         // No competitor stands elsewhere, and no bit changes but that of what was the last number.
         ensures local { IsWidened self.old.pool self.new.pool result }

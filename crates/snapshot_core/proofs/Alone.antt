@@ -25,7 +25,9 @@ use Rattle.snapshot_core.specs.Alone.{EndsAlone, most_reads, EndsSoon, EndsSoonA
 use Rattle.snapshot_core.specs.Client.{is_idle, access_for, after_for, note_for, note_after, pending_after}
 use Rattle.snapshot_core.specs.Places.{KnownPlaces, PlacesLaws, value_for}
 use Rattle.snapshot_core.specs.Scan.{scan_after, scan_view}
-use Rattle.snapshot_core.specs.SnapCalls.{SnapCall, IsAfter}
+use Rattle.snapshot_core.specs.SnapCalls.{SnapCall}
+use Rattle.snapshot_core.specs.Machine.{snapshot}
+use Rattle.step_memory.specs.Machine.{After}
 use Rattle.snapshot_core.specs.SnapCalls.SnapCall.{Stepped}
 use Rattle.snapshot_core.specs.Snapshot.{SnapObject, new_object, observed, Allows}
 use Rattle.snapshot_core.specs.Snapshot.Task.{Absent, Idle, Placing, Scanning, Updating}
@@ -242,7 +244,7 @@ module _ {S R V U K : Type 0} (known : KnownPlaces S R V U K) (laws : PlacesLaws
   t = record { known = known; laws = laws }
 
   module _ (first : S) (is_new : known.ties.IsNew first) (p : ℕ) where
-    ends_by : (c n : ℕ) (w : SnapState S U K) (r : List SnapCall) → IsAfter known first w r → most_reads known w ≡ c → (v : Participant (Client U K)) → participant_of p w.participants ≡ Some v →
+    ends_by : (c n : ℕ) (w : SnapState S U K) (r : List SnapCall) → After (snapshot known) first w r → most_reads known w ≡ c → (v : Participant (Client U K)) → participant_of p w.participants ≡ Some v →
         LeftFor t c w.memory v.program v.program.pending n → EndsAlone known w p n
     ends_by c zero w r a most v there left =
         let k = after_all known laws w first r is_new a in
@@ -259,7 +261,7 @@ module _ {S R V U K : Type 0} (known : KnownPlaces S R V U K) (laws : PlacesLaws
               (after_stepped known w (after t w k.object k.tied p v there c most) p (Ok reply) (sym state) (sym answer) first r a) most (new t w k.object k.tied p v there c most) (there_after t w k.object k.tied p v there c most) on))
         ]
 
-    module _ (w : SnapState S U K) (r : List SnapCall) (a : IsAfter known first w r) where
+    module _ (w : SnapState S U K) (r : List SnapCall) (a : After (snapshot known) first w r) where
       abbrev c : ℕ
       c = most_reads known w
 
@@ -305,7 +307,7 @@ module _ {S R V U K : Type 0} (known : KnownPlaces S R V U K) (laws : PlacesLaws
         }
 
   pub ends_soon_alone : (w : SnapState S U K) (p : ℕ) → EndsSoonAlone known w p
-  ends_soon_alone w p first r is_new a bounds law =
+  ends_soon_alone w p first r a is_new bounds law =
       let k = after_all known laws w first r is_new a in
       let same : k.object ≡ law.0 = run_replays observed (Allows (bounds_with t (known.most_of first) (all_reads known laws first))) new_object r k.object k.run ∙ sym (run_replays observed (Allows bounds) new_object r law.0 law.1) in
       subst (λ (o : SnapObject). EndsSoon known w o p) same (ends_soon first is_new p w r a k)

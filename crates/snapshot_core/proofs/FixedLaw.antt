@@ -9,7 +9,8 @@ use Rattle.snapshot_core.specs.FixedTies.{IsEmptyRow, fixed_places, fresh_row, f
 use Rattle.snapshot_core.specs.FixedProofs.{fixed_laws}
 use Rattle.snapshot_core.specs.Places.{BoundsScans}
 use Rattle.snapshot_core.specs.SnapWorld.{SnapState}
-use Rattle.snapshot_core.specs.Snapshot.{KeepsSnapshotLaw, IsLawfulFrom}
+use Rattle.snapshot_core.specs.Snapshot.{KeepsSnapshotLaw}
+use Rattle.snapshot_core.specs.Machine.{IsLawfulFrom}
 use Rattle.snapshot_core.proofs.Following.{law_holds}
 
 pub empty_at : (m x : ℕ) → get_or (replicate m None) x None ≡ (let nothing : Option Record = None in nothing)
@@ -30,4 +31,4 @@ pub fixed_law : (w : SnapState (List (Option Record)) FixedWalker FixedWalk) →
 fixed_law w few r a =
     let many : length (fresh_row w.most) ≡ w.most = length-replicate w.most (let nothing : Option Record = None in nothing) in
     subst (λ (m : ℕ). KeepsSnapshotLaw (record { most = m; placing = λ b. 0; scanning = λ b. w.most * (w.most + 1); collecting = m }) r) many
-    (law_holds fixed_places fixed_laws w (fresh_row w.most) (λ b. w.most * (w.most + 1)) (empty_row w.most few) (rw many (fits_row w.most)) r a)
+    (law_holds fixed_places fixed_laws w (fresh_row w.most) r a (empty_row w.most few) (λ b. w.most * (w.most + 1)) (rw many (fits_row w.most)))

@@ -21,7 +21,7 @@ use Rattle.step_memory.specs.World.{begin_refusal, begun_unless, done_unless}
 use Rattle.step_memory.specs.Calls.{lacked_memory, reply_of}
 use Rattle.step_memory.specs.Runs.{Run}
 use Rattle.step_memory.proofs.StepLemmas.{going_answer, going_after}
-use Rattle.step_memory.proofs.RunLemmas.{run_more, run_keeps}
+use Rattle.step_memory.proofs.RunLemmas.{run_more, run_keeps, run_answers}
 use Rattle.step_memory.proofs.WorldKeeps.{let_in}
 use Rattle.snapshot_core.specs.declared.scan.Scan.{Scan}
 use Rattle.snapshot_core.specs.declared.client.Client.{Client}
@@ -32,10 +32,13 @@ use Rattle.snapshot_core.specs.declared.client.SnapReply.TheVariants.{Quiet as S
 use Rattle.snapshot_core.specs.Scan.{scan_from, scan_after, scan_view}
 use Rattle.snapshot_core.specs.Client.{first_pending, is_idle, scanning, updating, record_of, with_pending, is_placed, placed_note, pending_after, note_after, access_for, after_for, note_for}
 use Rattle.snapshot_core.specs.SnapWorld.{SnapState, place_in, beginner_at, scan_refusal, update_refusal, scan_refusal_by, update_refusal_by, asked, after_scan, after_update, told, clients_over, snap_answer, after_snap_step, way_now, ways_of}
-use Rattle.snapshot_core.specs.SnapCalls.{SnapCall, next, IsReply, IsAfter, MakesOwnAccess, BeginsTheSame, HasDistinctPlaces, IsConsistentAfter, KeepsTold}
+use Rattle.snapshot_core.specs.SnapCalls.{SnapCall, next, IsReply}
+use Rattle.snapshot_core.specs.Machine.{snapshot, MakesOwnAccess, BeginsTheSame, HasDistinctPlaces, IsConsistentAfter, KeepsTold}
+use Rattle.step_memory.specs.Machine.{After, IsLawful, RefusesWhereDue, IsProved}
+use Rattle.step_memory.proofs.MachineLemmas.{machine_proved}
 use Rattle.snapshot_core.specs.SnapCalls.SnapCall.{Began, Updated, Scanned, Stepped}
 use Rattle.snapshot_core.specs.Places.{KnownPlaces, PlacesLaws, BeginsAlike, BoundsScans, KeepsWalks, HasGoneOn, value_for}
-use Rattle.snapshot_core.specs.Snapshot.{SnapObject, SnapBounds, IsMoment, new_object, since_of, with_task, with_update, observed, Allows, IsLawful}
+use Rattle.snapshot_core.specs.Snapshot.{SnapObject, SnapBounds, IsMoment, new_object, since_of, with_task, with_update, observed, Allows, bounds_over}
 use Rattle.snapshot_core.specs.Snapshot.Task.{Idle, Placing, Scanning, Updating}
 use Rattle.snapshot_core.proofs.SnapWorldLemmas.{absent_state, absent_answer, idle_state, idle_answer, busy_state, busy_answer, most_kept}
 use Rattle.snapshot_core.proofs.LawfulPlaces.{LawfulPlaces}
@@ -556,10 +559,10 @@ module _ {S R V U K : Type 0} (t : LawfulPlaces S R V U K) (scans : ℕ → ℕ)
         ];
       }
 
-  pub holds_after : (first : S) → t.known.ties.IsNew first → BoundsScans t.known (t.known.most_of first) scans → (w : SnapState S U K) (r : List SnapCall) → IsAfter t.known first w r → Holds (t.known.most_of first) w r
+  pub holds_after : (first : S) → t.known.ties.IsNew first → BoundsScans t.known (t.known.most_of first) scans → (w : SnapState S U K) (r : List SnapCall) → After (snapshot t.known) first w r → Holds (t.known.most_of first) w r
   holds_after first new fits w r a =
       let start : Holds (t.known.most_of first) (record { memory = first; most = t.known.most_of first; participants = [] }) [] = record { object = new_object; run = refl; tied = tied_new t first new; same_most = refl; answered = λ p x c. absurd (let l = c.1 in omega arith) } in
-      run_keeps next_of IsReplyOf (Holds (t.known.most_of first)) (holds_on (t.known.most_of first) fits) (record { memory = first; most = t.known.most_of first; participants = [] }) [] r w start a
+      run_keeps next_of IsReplyOf (Holds (t.known.most_of first)) (holds_on (t.known.most_of first) fits) (record { memory = first; most = t.known.most_of first; participants = [] }) [] r w start a.run
 
   -- the place of a participant is that of its way
   place_is : (w : SnapState S U K) (o : SnapObject) (i : IsTied t w o) (p : ℕ) → place_in t.known w p ≡ i.place p
@@ -574,35 +577,44 @@ module _ {S R V U K : Type 0} (known : KnownPlaces S R V U K) (laws : PlacesLaws
   all_reads first b = (b + 1) * known.ties.reads (known.most_of first) b
 
   -- after every list of calls
-  pub after_all : (w : SnapState S U K) (first : S) (r : List SnapCall) → known.ties.IsNew first → IsAfter known first w r → Holds lawful (all_reads first) (known.most_of first) w r
+  pub after_all : (w : SnapState S U K) (first : S) (r : List SnapCall) → known.ties.IsNew first → After (snapshot known) first w r → Holds lawful (all_reads first) (known.most_of first) w r
   after_all w first r new a = holds_after lawful (all_reads first) first new (λ b some l. omega arith) w r a
 
-  pub law_holds : (w : SnapState S U K) → IsLawful known w
-  law_holds w first scans new fits r a = let k = holds_after lawful scans first new fits w r a in (k.object, k.run)
+  pub law_holds : (w : SnapState S U K) → IsLawful (snapshot known) w
+  law_holds w first r a new scans fits = let k = holds_after lawful scans first new fits w r a in (k.object, k.run)
+
+  due_holds : (w : SnapState S U K) → RefusesWhereDue (snapshot known) w
+  due_holds w first r a new scans fits =
+      let k = holds_after lawful scans first new fits w r a in
+      run_answers observed (Allows (bounds_over known first scans)) new_object r k.object k.run
+
+  -- so it is proved
+  pub snapshot_proved : IsProved (snapshot known)
+  snapshot_proved = machine_proved (snapshot known) law_holds due_holds
 
   pub all_distinct : (w : SnapState S U K) → HasDistinctPlaces known w
-  all_distinct w first r new a p q x mine theirs =
+  all_distinct w first r a new p q x mine theirs =
       let k = after_all w first r new a in
       k.tied.history.distinct p q x (sym (place_is lawful (all_reads first) w k.object k.tied p) ∙ mine) (sym (place_is lawful (all_reads first) w k.object k.tied q) ∙ theirs)
 
   pub told_holds : (w : SnapState S U K) (p : ℕ) → KeepsTold known w p
-  told_holds w p first r new a x c =
+  told_holds w p first r a new x c =
       let k = after_all w first r new a in
       place_is lawful (all_reads first) w k.object k.tied p ∙ k.tied.told p x (k.answered p x c)
 
   -- the memory agrees with those who have begun
   pub consistent_holds : (w : SnapState S U K) → IsConsistentAfter known w
-  consistent_holds w first r new a = let k = after_all w first r new a in k.tied.consistent
+  consistent_holds w first r a new = let k = after_all w first r new a in k.tied.consistent
 
   pub own_access_holds : (w : SnapState S U K) (p : ℕ) → MakesOwnAccess known w p
-  own_access_holds w p first r new a c is = let k = after_all w first r new a in access_tied lawful w k.object k.tied p c is
+  own_access_holds w p first r a new c is = let k = after_all w first r new a in access_tied lawful w k.object k.tied p c is
 
-  size_kept : (w : SnapState S U K) (first : S) (r : List SnapCall) → known.ties.IsNew first → IsAfter known first w r → known.most_of w.memory ≡ known.most_of first
+  size_kept : (w : SnapState S U K) (first : S) (r : List SnapCall) → known.ties.IsNew first → After (snapshot known) first w r → known.most_of w.memory ≡ known.most_of first
   size_kept w first r new a = let k = after_all w first r new a in sym k.tied.most ∙ k.same_most
 
   -- who begins is the same after any calls
   pub begins_the_same : BeginsAlike known → (p : ℕ) → BeginsTheSame known p
   begins_the_same alike p first other w x r s new new' size a b =
       let sizes : known.most_of w.memory ≡ known.most_of x.memory = size_kept w first r new a ∙ size ∙ sym (size_kept x other s new' b) in
-      let walks = alike.walk w.memory x.memory (length w.participants) (length x.participants) (ways_of w.participants) (ways_of x.participants) (consistent_holds w first r new a) (consistent_holds x other s new' b) sizes in
+      let walks = alike.walk w.memory x.memory (length w.participants) (length x.participants) (ways_of w.participants) (ways_of x.participants) (consistent_holds w first r a new) (consistent_holds x other s b new') sizes in
       rw (alike.way (length w.participants) (length x.participants) p, walks) refl

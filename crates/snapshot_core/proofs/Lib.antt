@@ -14,6 +14,5 @@ mod OwnAccesses
 pub mod Following
 mod ScanAlone
 pub mod Alone
-mod Fronts
 pub mod Clients
 pub mod FixedLaw

@@ -12,7 +12,9 @@ use Rattle.step_memory.specs.World.{begin_refusal, begun_unless, done_unless, se
 use Rattle.step_memory.specs.Calls.{lacked_memory, reply_of}
 use Rattle.std.proofs.lemmas.Bool.{lt-ltb, le-ltb}
 use Rattle.step_memory.proofs.StepLemmas.{most_stepped, lacks_none, lacks_or_not}
-use Rattle.step_memory.proofs.RunLemmas.{run_more}
+use Rattle.step_memory.specs.Machine.{LeadsOn}
+use Rattle.step_memory.proofs.MachineLemmas.{call_leads_on}
+use Rattle.snapshot_core.specs.Machine.{snapshot}
 use Rattle.std.specs.Prelude.{option_map}
 use Rattle.step_memory.specs.Locality.{LookAlike, StandAlike, ReadsNext, IsTaken}
 use Rattle.step_memory.specs.declared.participant.Participant.{Participant}
@@ -22,7 +24,7 @@ use Rattle.snapshot_core.specs.declared.client.SnapReply.{SnapReply}
 use Rattle.snapshot_core.specs.Places.{KnownPlaces}
 use Rattle.snapshot_core.specs.Client.{is_idle, scanning, updating, access_for}
 use Rattle.snapshot_core.specs.SnapWorld.{SnapState, beginner_at, scan_refusal, update_refusal, asked, after_scan, after_update, told, clients_over, snap_answer, snap_answer_by, after_snap_step, after_snap_by, may_lack_memory, StaysAlike}
-use Rattle.snapshot_core.specs.SnapCalls.{SnapCall, fresh_over, next, IsReply, LeadsOn}
+use Rattle.snapshot_core.specs.SnapCalls.{SnapCall, next}
 use Rattle.snapshot_core.specs.SnapCalls.SnapCall.{Began, Updated, Scanned, Stepped}
 
 -- what a call answers and leaves, where it is refused for this reason or for none
@@ -74,30 +76,26 @@ module _ {S R V U K : Type 0} (t : KnownPlaces S R V U K) where
   most_kept w (Scanned id reply) = most_asked w id scanning (program_of id w.participants) (scan_refusal w id)
   most_kept w (Stepped id reply) = elim (lacked_memory reply) as (λ b. (cond b w (after_snap_step t w id)).most ≡ w.most) [ true ↦ refl | false ↦ most_snap w id (program_of id w.participants) ]
 
-  -- one more call
-  pub after_call : (w new : SnapState S U K) (h : SnapCall) → new ≡ next t w h → IsReply t w h → LeadsOn t w new h
-  after_call w new h e is = λ first r a. rw e (run_more (next t) (IsReply t) (fresh_over t first) r w h a is)
-
   snap_lacks_none : (w : SnapState S U K) (id : ℕ) (o : Option (Client U K)) → lacked_memory (snap_answer_by t w id o) ≡ false
   snap_lacks_none w id None = refl
   snap_lacks_none w id (Some c) = elim (is_idle c.pending) as (λ b. lacked_memory (cond b (Err Finished) (reply_of told (step_answer (clients_over t) t.memory w id))) ≡ false) [ true ↦ refl | false ↦ lacks_none (clients_over t) t.memory told w id ]
 
   -- one more step for which no growth was refused
-  pub after_stepped : (w new : SnapState S U K) (id : ℕ) (reply : Result SnapReply Refusal) → new ≡ after_snap_step t w id → reply ≡ snap_answer t w id → LeadsOn t w new (Stepped id reply)
+  pub after_stepped : (w new : SnapState S U K) (id : ℕ) (reply : Result SnapReply Refusal) → new ≡ after_snap_step t w id → reply ≡ snap_answer t w id → LeadsOn (snapshot t) w new (Stepped id reply)
   after_stepped w new id reply e is =
       let goes : lacked_memory reply ≡ false = ap lacked_memory is ∙ snap_lacks_none w id (program_of id w.participants) in
-      after_call w new (Stepped id reply) (e ∙ rw goes refl) (inl is)
+      call_leads_on (snapshot t) w new (Stepped id reply) (e ∙ rw goes refl) (inl is)
 
   -- one more step
   pub after_step_call : (w new : SnapState S U K) (id : ℕ) (reply : Result SnapReply Refusal) →
       (reply ≢ Err NoMemory → new ≡ after_snap_step t w id) → (reply ≢ Err NoMemory → reply ≡ snap_answer t w id) →
-      (reply ≡ Err NoMemory → (new ≡ w) × (may_lack_memory t w id ≡ true)) → LeadsOn t w new (Stepped id reply)
+      (reply ≡ Err NoMemory → (new ≡ w) × (may_lack_memory t w id ≡ true)) → LeadsOn (snapshot t) w new (Stepped id reply)
   after_step_call w new id reply e is lack = elim (lacks_or_not reply) [
     | inr goes ↦ after_stepped w new id reply (e goes) (is goes)
     | inl h ↦
         let refused = lack h in
         let lacked : lacked_memory reply ≡ true = rw h refl in
-        after_call w new (Stepped id reply) (refused.0 ∙ rw lacked refl) (inr (h, refused.1))
+        call_leads_on (snapshot t) w new (Stepped id reply) (refused.0 ∙ rw lacked refl) (inr (h, refused.1))
   ]
 
   pub absent_state : (w : SnapState S U K) (id : ℕ) → None ≡ program_of id w.participants → w ≡ after_snap_step t w id

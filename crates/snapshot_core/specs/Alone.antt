@@ -1,9 +1,9 @@
 -- how soon one ends what it does while no other steps (this project's profile)
-use Rattle.std.specs.Prelude.{◌≡◌, ◌≢◌, ◌≤◌, ℕ, zero, suc, ◌+◌, ◌-◌, ◌*◌, false, ◌⊎◌, List, Ok}
+use Rattle.std.specs.Prelude.{◌≡◌, ◌≢◌, ◌≤◌, ℕ, zero, suc, ◌+◌, ◌-◌, ◌*◌, false, ◌⊎◌, Ok}
 use Rattle.step_memory.specs.Participant.{participant_of}
 use Rattle.snapshot_core.specs.declared.client.SnapReply.{SnapReply}
 use Rattle.snapshot_core.specs.Places.{KnownPlaces}
-use Rattle.snapshot_core.specs.SnapCalls.{SnapCall, IsAfter}
+use Rattle.snapshot_core.specs.Machine.{AlwaysFromNew}
 use Rattle.snapshot_core.specs.Snapshot.{SnapObject, SnapBounds, KeepsSnapshotLaw}
 use Rattle.snapshot_core.specs.Snapshot.Task.{Absent, Scanning, Updating}
 use Rattle.snapshot_core.specs.SnapWorld.{SnapState, snap_answer, after_snap_step}
@@ -34,8 +34,7 @@ module _ {S R V U K : Type 0} (t : KnownPlaces S R V U K) where
 
   -- after every list of calls
   abbrev pub EndsSoonAlone : SnapState S U K → ℕ → Type 0
-  EndsSoonAlone w p = (first : S) (r : List SnapCall) → t.ties.IsNew first → IsAfter t first w r →
-      (bounds : SnapBounds) (law : KeepsSnapshotLaw bounds r) → EndsSoon w law.0 p
+  EndsSoonAlone w p = AlwaysFromNew t (λ first r. (bounds : SnapBounds) (law : KeepsSnapshotLaw bounds r) → EndsSoon w law.0 p) w
 
   -- what others do meanwhile changes nothing of this, where they write nothing
   abbrev pub EndsAlike : SnapState S U K → SnapState S U K → ℕ → Type 0

@@ -10,4 +10,5 @@ pub mod SnapWorld
 pub mod SnapCalls
 pub mod Standing
 pub mod Snapshot
+pub mod Machine
 pub mod Alone

@@ -10,9 +10,8 @@ use Rattle.step_memory.specs.Runs.{Run}
 use Rattle.snapshot_core.specs.declared.client.SnapReply.{SnapReply}
 use Rattle.snapshot_core.specs.declared.client.SnapReply.TheVariants.{Quiet, Placed, Written, View as Viewed}
 use Rattle.step_memory.specs.View.{IsRising, value_of}
-use Rattle.snapshot_core.specs.Places.{KnownPlaces, BoundsScans}
-use Rattle.snapshot_core.specs.SnapWorld.{SnapState}
-use Rattle.snapshot_core.specs.SnapCalls.{SnapCall, IsAfter}
+use Rattle.snapshot_core.specs.Places.{KnownPlaces}
+use Rattle.snapshot_core.specs.SnapCalls.{SnapCall}
 use Rattle.snapshot_core.specs.SnapCalls.SnapCall.{Began, Updated, Scanned, Stepped}
 
 -- whether an identity has begun, and what it was asked for and has not done yet
@@ -199,10 +198,6 @@ Allows bounds o (Stepped p (Err why)) = (step_due bounds o p ≡ Some why) ⊎ L
 abbrev pub KeepsSnapshotLaw : SnapBounds → List SnapCall → Type 0
 KeepsSnapshotLaw bounds r = (o : SnapObject) × Run observed (Allows bounds) new_object r o
 
--- every list of calls that leads to this object from a fresh one over this memory keeps the law within these bounds
-abbrev pub IsLawfulFrom : {S R V U K : Type 0} → KnownPlaces S R V U K → S → SnapBounds → SnapState S U K → Type 0
-IsLawfulFrom t first bounds w = (r : List SnapCall) → IsAfter t first w r → KeepsSnapshotLaw bounds r
-
 -- the bounds over these places, with this one on scans
 abbrev pub bounds_over : {S R V U K : Type 0} → KnownPlaces S R V U K → S → (ℕ → ℕ) → SnapBounds
 bounds_over t first scanning = record {
@@ -212,11 +207,6 @@ bounds_over t first scanning = record {
   collecting = t.ties.reads (t.most_of first) (t.most_of first);
 }
 
--- every list of calls that leads to this object, from places in which nothing was written, keeps the law: where a bound on
--- scans leaves room for as many collects as there may be
-abbrev pub IsLawful : {S R V U K : Type 0} → KnownPlaces S R V U K → SnapState S U K → Type 0
-IsLawful {S} t w = (first : S) (scanning : ℕ → ℕ) → t.ties.IsNew first → BoundsScans t (t.most_of first) scanning → IsLawfulFrom t first (bounds_over t first scanning) w
-
--- every front of a list that keeps the law within these bounds keeps it
-abbrev pub HoldsOfFronts : SnapBounds → Type 0
-HoldsOfFronts bounds = (r more : List SnapCall) → KeepsSnapshotLaw bounds (r ++ more) → KeepsSnapshotLaw bounds r
+-- every prefix of a list that keeps the law within these bounds keeps it
+abbrev pub HoldsOfPrefixes : SnapBounds → Type 0
+HoldsOfPrefixes bounds = (r more : List SnapCall) → KeepsSnapshotLaw bounds (r ++ more) → KeepsSnapshotLaw bounds r

@@ -1,11 +1,12 @@
 //! Laws of the snapshot object, which run nothing.
 
-ghost use Rattle.std.specs.Prelude.{◌≡◌, ◌≤◌, ℕ, [], false};
+ghost use Rattle.std.specs.Prelude.{◌≡◌, ◌≤◌, ℕ, false};
 ghost use Rattle.snapshot_core.specs.Alone.{EndsSoonAlone, EndsAlike};
 ghost use Rattle.snapshot_core.specs.FixedTies.{fixed_places, fresh_row, fixed_bounds};
 ghost use Rattle.snapshot_core.specs.Places.{BeginsAlike, BoundsScans};
-ghost use Rattle.snapshot_core.specs.SnapCalls.{SnapCall, fresh_over, IsAfter, CallLeadsOn, MakesOwnAccess, BeginsTheSame, HasDistinctPlaces, IsConsistentAfter};
-ghost use Rattle.snapshot_core.specs.Snapshot.{SnapBounds, IsLawful, IsLawfulFrom, HoldsOfFronts};
+ghost use Rattle.snapshot_core.specs.Machine.{snapshot, IsLawfulFrom, MakesOwnAccess, BeginsTheSame, HasDistinctPlaces, IsConsistentAfter};
+ghost use Rattle.snapshot_core.specs.Snapshot.{SnapBounds, HoldsOfPrefixes};
+ghost use Rattle.step_memory.specs.Machine.{IsProved};
 ghost use Rattle.snapshot_core.specs.SnapWorld.{SnapState, may_lack_memory, LacksOnWay};
 ghost use Rattle.snapshot_core.specs.Standing.{BeginsSo, GoesSoIdle, GoesSoBusy};
 
@@ -27,17 +28,14 @@ pub fn snapshot_law<A: Allocator>(world: &SnapWorld<Fixed<A>, A>)
     let _world = world;
 }
 
-/// What structures over a snapshot object stand on, over any places: a new object is after no call, each call with its
-/// reply leads from one that is after some to one that is after these and itself, and calls that an object may be after
-/// keep the law, where nothing was written at first and the bound on scans leaves room for as many collects as have begun
-/// and one more. Every front of a list that keeps the law keeps it. No two have one place, the memory agrees with the ways
-/// of those who have begun, only a step on a way to a place may want memory, and each access is one for what its
+/// What structures over a snapshot object stand on, over any places: it is a machine whose calls lead on, and whose lists of
+/// calls keep the law, where nothing was written at first and the bound on scans leaves room for as many collects as have
+/// begun and one more. Every prefix of a list that keeps the law keeps it. No two have one place, the memory agrees with the
+/// ways of those who have begun, only a step on a way to a place may want memory, and each access is one for what its
 /// participant has to do. Over places that do not go by the order of beginning, all who begin under one identity are alike.
 pub fn law_of_snapshot_calls<W: Places>()
-    ensures fresh { (first : W) → IsAfter ⟦<W as Known>⟧.places first (fresh_over ⟦<W as Known>⟧.places first) [] }
-    ensures call { (w : SnapState W W.Walker W.Walk) (call : SnapCall) → CallLeadsOn ⟦<W as Known>⟧.places w call }
-    ensures law { (w : SnapState W W.Walker W.Walk) → IsLawful ⟦<W as Known>⟧.places w }
-    ensures front { (bounds : SnapBounds) → HoldsOfFronts bounds }
+    ensures machine { IsProved (snapshot ⟦<W as Known>⟧.places) }
+    ensures prefix { (bounds : SnapBounds) → HoldsOfPrefixes bounds }
     ensures distinct { (w : SnapState W W.Walker W.Walk) → HasDistinctPlaces ⟦<W as Known>⟧.places w }
     ensures consistent { (w : SnapState W W.Walker W.Walk) → IsConsistentAfter ⟦<W as Known>⟧.places w }
     ensures sure { (w : SnapState W W.Walker W.Walk) (p : ℕ) → LacksOnWay ⟦<W as Known>⟧.places w p }

@@ -7,7 +7,7 @@
 //! then holds a view that was scanned within this scan. Which registers a collect reads, and in which order, is the
 //! business of the *places* (`Places`): what it reads next may depend on what it read.
 //!
-//! The law, over every list of calls with their replies and over each of its fronts: *moments* are the maps from identity
+//! The law, over every list of calls with their replies and over each of its prefixes: *moments* are the maps from identity
 //! to value, the empty one first and a new one for each write. A view that a scan shows is a moment, at or after the one
 //! that was the last at the scan's first read, and no later than its last read; it has no more pairs than have begun. Where
 //! b have begun, of whom walks over the segments make at most r reads, a scan takes at most (b + 1)r steps whatever the

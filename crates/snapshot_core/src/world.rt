@@ -3,9 +3,10 @@
 ghost use Rattle.std.specs.Prelude.{◌≡◌, ◌≢◌, [], IfOk, IfSome, OnErr, Err, Ok, None, true, false};
 ghost use Rattle.step_memory.specs.Locality.{IsLocal};
 ghost use Rattle.step_memory.specs.World.{begin_refusal, done_unless};
-ghost use Rattle.snapshot_core.specs.Snapshot.{IsLawful};
 ghost use Rattle.snapshot_core.specs.SnapWorld.{place_in, after_snap_begin, scan_refusal, update_refusal, after_scan, after_update, clients_over, snap_answer, after_snap_step, may_lack_memory, IsOnWay, AnswersAlike, StaysAlike, told_of_way};
-ghost use Rattle.snapshot_core.specs.SnapCalls.{fresh_over, IsAfter, LeadsOn, MakesOwnAccess, HasDistinctPlaces, KeepsTold};
+ghost use Rattle.snapshot_core.specs.Machine.{snapshot, MakesOwnAccess, HasDistinctPlaces, KeepsTold};
+ghost use Rattle.snapshot_core.specs.SnapCalls.{fresh_over};
+ghost use Rattle.step_memory.specs.Machine.{After, IsLawful, LeadsOn};
 ghost use Rattle.snapshot_core.specs.SnapCalls.SnapCall.{Began, Updated, Scanned, Stepped};
 
 use crate::client::{Client, MOST_UPDATES, OnWay, SnapReply, ToScan, ToUpdate};
@@ -39,8 +40,8 @@ where
     /// refused.
     pub fn new(alloc: A, places: W) -> Result<Self, Refusal>
         ensures fresh { IfOk result (λ w. w ≡ fresh_over ⟦<W as Known>⟧.places places) }
-        ensures after { IfOk result (λ w. IsAfter ⟦<W as Known>⟧.places places w []) }
-        ensures law { IfOk result (λ w. IsLawful ⟦<W as Known>⟧.places w) }
+        ensures after { IfOk result (λ w. After (snapshot ⟦<W as Known>⟧.places) places w []) }
+        ensures law { IfOk result (λ w. IsLawful (snapshot ⟦<W as Known>⟧.places) w) }
         ensures no_memory { OnErr result (result ≡ Err Refusal.NoMemory) }
     {
         let most = places.most();
@@ -68,8 +69,8 @@ where
         ensures answer { result ≡ done_unless (begin_refusal self.old id) }
         ensures state { self.new ≡ after_snap_begin ⟦<W as Known>⟧.places self.old id }
         ensures refused { OnErr result (self.new ≡ self.old) }
-        ensures after { LeadsOn ⟦<W as Known>⟧.places self.old self.new (Began id result) }
-        ensures law { IsLawful ⟦<W as Known>⟧.places self.new }
+        ensures after { LeadsOn (snapshot ⟦<W as Known>⟧.places) self.old self.new (Began id result) }
+        ensures law { IsLawful (snapshot ⟦<W as Known>⟧.places) self.new }
     {
         let begun = self.world.participants().len();
         let places = self.world.memory();
@@ -83,8 +84,8 @@ where
         ensures answer { result ≡ done_unless (update_refusal self.old id) }
         ensures state { self.new ≡ after_update self.old id value }
         ensures refused { OnErr result (self.new ≡ self.old) }
-        ensures after { LeadsOn ⟦<W as Known>⟧.places self.old self.new (Updated id value result) }
-        ensures law { IsLawful ⟦<W as Known>⟧.places self.new }
+        ensures after { LeadsOn (snapshot ⟦<W as Known>⟧.places) self.old self.new (Updated id value result) }
+        ensures law { IsLawful (snapshot ⟦<W as Known>⟧.places) self.new }
     {
         let Some(client) = self.world.program(id) else {
             return Err(Refusal::NotBegun);
@@ -104,8 +105,8 @@ where
         ensures answer { result ≡ done_unless (scan_refusal self.old id) }
         ensures state { self.new ≡ after_scan self.old id }
         ensures refused { OnErr result (self.new ≡ self.old) }
-        ensures after { LeadsOn ⟦<W as Known>⟧.places self.old self.new (Scanned id result) }
-        ensures law { IsLawful ⟦<W as Known>⟧.places self.new }
+        ensures after { LeadsOn (snapshot ⟦<W as Known>⟧.places) self.old self.new (Scanned id result) }
+        ensures law { IsLawful (snapshot ⟦<W as Known>⟧.places) self.new }
     {
         let Some(client) = self.world.program(id) else {
             return Err(Refusal::NotBegun);
@@ -124,8 +125,8 @@ where
         ensures state { result ≡ true → self.new ≡ after_snap_step ⟦<W as Known>⟧.places self.old id }
         ensures kept { result ≡ false → self.new ≡ self.old }
         ensures local { result ≡ true → IsLocal (clients_over ⟦<W as Known>⟧.places) W.steps id self.old self.new }
-        ensures after { result ≡ true → LeadsOn ⟦<W as Known>⟧.places self.old self.new (Stepped id (Ok SnapReply.Quiet)) }
-        ensures law { IsLawful ⟦<W as Known>⟧.places self.new }
+        ensures after { result ≡ true → LeadsOn (snapshot ⟦<W as Known>⟧.places) self.old self.new (Stepped id (Ok SnapReply.Quiet)) }
+        ensures law { IsLawful (snapshot ⟦<W as Known>⟧.places) self.new }
     {
         self.world.read_on(id)
     }
@@ -137,8 +138,8 @@ where
         ensures state { IfSome result (λ _. self.new ≡ after_snap_step ⟦<W as Known>⟧.places self.old id) }
         ensures kept { result ≡ None → self.new ≡ self.old }
         ensures local { IfSome result (λ _. IsLocal (clients_over ⟦<W as Known>⟧.places) W.steps id self.old self.new) }
-        ensures after { IfSome result (λ note. LeadsOn ⟦<W as Known>⟧.places self.old self.new (Stepped id (Ok (told_of_way note)))) }
-        ensures law { IsLawful ⟦<W as Known>⟧.places self.new }
+        ensures after { IfSome result (λ note. LeadsOn (snapshot ⟦<W as Known>⟧.places) self.old self.new (Stepped id (Ok (told_of_way note)))) }
+        ensures law { IsLawful (snapshot ⟦<W as Known>⟧.places) self.new }
     {
         self.world.take::<OnWay>(id)
     }
@@ -175,8 +176,8 @@ where
         ensures refused { OnErr result (self.new ≡ self.old) }
         ensures on_way { result ≡ Err Refusal.NoMemory → IsOnWay ⟦<W as Known>⟧.places self.old id }
         ensures no_memory { result ≡ Err Refusal.NoMemory → may_lack_memory ⟦<W as Known>⟧.places self.old id ≡ true }
-        ensures after { LeadsOn ⟦<W as Known>⟧.places self.old self.new (Stepped id result) }
-        ensures law { IsLawful ⟦<W as Known>⟧.places self.new }
+        ensures after { LeadsOn (snapshot ⟦<W as Known>⟧.places) self.old self.new (Stepped id result) }
+        ensures law { IsLawful (snapshot ⟦<W as Known>⟧.places) self.new }
 
         // Nothing of the object changes but this participant and the register that it names, and in another one that
         // looks alike to this participant the answer is the same, and where the participant then stands. The access is

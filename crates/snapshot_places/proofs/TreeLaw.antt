@@ -4,7 +4,7 @@ use Rattle.std.specs.Prelude.{option_map}
 use Rattle.step_memory.specs.Participant.{participant_of}
 use Rattle.step_memory.specs.World.{may_refuse_by}
 use Rattle.splitter_tree.specs.TreeSteps.{tree_steps}
-use Rattle.splitter_tree.specs.Consistent.{IsConsistent}
+use Rattle.splitter_tree.specs.Invariant.{IsConsistent}
 use Rattle.splitter_tree.specs.Walk.{next_access}
 use Rattle.splitter_tree.proofs.nodes.ConsistentKept.{refused}
 use Rattle.splitter_tree.proofs.nodes.TreeLaw.{tree_law as law_of_tree}
@@ -20,7 +20,7 @@ use Rattle.snapshot_core.specs.declared.client.Client.{Client}
 use Rattle.snapshot_core.specs.declared.client.Pending.TheVariants.{Placing}
 use Rattle.snapshot_core.specs.Places.{BeginsAlike, BoundsScans}
 use Rattle.snapshot_core.specs.SnapWorld.{SnapState, clients_over, ways_of}
-use Rattle.snapshot_core.specs.Snapshot.{IsLawfulFrom}
+use Rattle.snapshot_core.specs.Machine.{IsLawfulFrom}
 use Rattle.snapshot_core.proofs.Following.{law_holds, consistent_holds}
 use Rattle.snapshot_core.proofs.SureSteps.{lacks_on_way}
 
@@ -39,11 +39,11 @@ tree_alike = record { way = λ b c p. refl; walk = λ t other b c ways others i 
 
 module _ (w : SnapState TreeState TreeWalker TreeWalk) where
   pub tree_law : w.most ≤ 64 → IsLawfulFrom tree_places (new_tree w.most) (tree_bounds w.most) w
-  tree_law few = law_holds tree_places tree_laws w (new_tree w.most) (λ b. (b + 1) * (6 * b - 2)) (is_new w.most few) (fits_tree w.most)
+  tree_law few r a = law_holds tree_places tree_laws w (new_tree w.most) r a (is_new w.most few) (λ b. (b + 1) * (6 * b - 2)) (fits_tree w.most)
 
 module _ (w : SnapState TreeState TreeWalker TreeWalk) (new : IsFromNewTree w) where
   consistent : IsConsistent tree_steps w.memory.most (length w.participants) w.memory.nodes (walks_of (ways_of w.participants))
-  consistent = consistent_holds tree_places tree_laws w (new_tree w.most) new.1 (is_new w.most new.0) new.2
+  consistent = consistent_holds tree_places tree_laws w (new_tree w.most) new.1 new.2 (is_new w.most new.0)
 
   -- the tree's law holds of the nodes and the walks
   pub tree_nodes : KeepsTree w

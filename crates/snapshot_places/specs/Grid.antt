@@ -10,7 +10,7 @@ use Rattle.step_memory.specs.RegisterState.{Registers}
 use Rattle.step_memory.specs.declared.record.Record.{Record}
 use Rattle.splitter.specs.Visitor.{word_of}
 use Rattle.splitter_grid.specs.Walk as walk
-use Rattle.splitter_grid.specs.GridWorld.{empty_doors}
+use Rattle.splitter_grid.specs.Machine.{empty_doors}
 use Rattle.snapshot_places.specs.declared.grid_register.GridRegister.{GridRegister}
 use Rattle.snapshot_places.specs.declared.grid_register.GridRegister.TheVariants.{Door, Segment}
 use Rattle.snapshot_places.specs.declared.grid_register.GridValue.{GridValue}

@@ -1,8 +1,8 @@
 -- what ties a grid with segments to places and walks
 use Rattle.std.specs.Prelude.{◌≡◌, ℕ, ◌*◌, ◌<◌, ◌≤◌, length, option_map, Option, None, slice_index_or}
 use Rattle.splitter_grid.specs.declared.walker.Walker.{Walker}
-use Rattle.splitter_grid.specs.Consistent.{IsConsistent}
-use Rattle.splitter_grid.specs.GridWorld.{empty_doors}
+use Rattle.splitter_grid.specs.Invariant.{IsConsistent}
+use Rattle.splitter_grid.specs.Machine.{empty_doors}
 use Rattle.splitter_grid.specs.Walk as walk
 use Rattle.snapshot_places.specs.declared.grid_register.GridRegister.{GridRegister}
 use Rattle.snapshot_places.specs.declared.grid_register.GridValue.{GridValue}

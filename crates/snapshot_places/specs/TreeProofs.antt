@@ -22,7 +22,7 @@ use Rattle.splitter_tree.specs.TreeProofs.{others_kept}
 use Rattle.splitter_tree.specs.TreeMemory.{word_in, segment_in}
 use Rattle.splitter_tree.specs.Walk.{in_words, next_access, place_of, place_by}
 use Rattle.splitter_tree.specs.CollectWalk.{finds_mark}
-use Rattle.splitter_tree.specs.Consistent.{IsConsistent, IsTree}
+use Rattle.splitter_tree.specs.Invariant.{IsConsistent, IsTree}
 use Rattle.splitter_tree.specs.Ahead.{marked_in, found_by, HasGrown}
 use Rattle.splitter_tree.proofs.nodes.ConsistentKept.{consistent_new, begun, gone_on, elsewhere, segments}
 use Rattle.splitter_tree.proofs.nodes.TreeLaw.{tree_law, nearer, unplaced}

@@ -4,7 +4,7 @@ use Rattle.splitter_tree.specs.declared.register.TreeRegister.{TreeRegister}
 use Rattle.splitter_tree.specs.declared.register.TreeValue.{TreeValue}
 use Rattle.splitter_tree.specs.declared.walker.Walker.{Walker}
 use Rattle.splitter_tree.specs.TreeSteps.{tree_steps, empty_tree}
-use Rattle.splitter_tree.specs.Consistent.{IsConsistent, accesses_of}
+use Rattle.splitter_tree.specs.Invariant.{IsConsistent, accesses_of}
 use Rattle.splitter_tree.specs.Ahead.{marked_in, IsUpcoming, IsAhead, HasRead}
 use Rattle.snapshot_places.specs.declared.tree_walker.TreeWalker.{TreeWalker}
 use Rattle.snapshot_places.specs.declared.tree_walk.TreeWalk.{TreeWalk}

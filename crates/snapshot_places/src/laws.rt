@@ -2,8 +2,7 @@
 
 ghost use Rattle.std.specs.Prelude.{◌≡◌, ◌≤◌, ℕ, false};
 ghost use Rattle.snapshot_core.specs.Places.{BeginsAlike, BoundsScans};
-ghost use Rattle.snapshot_core.specs.SnapCalls.{HasDistinctPlaces};
-ghost use Rattle.snapshot_core.specs.Snapshot.{IsLawfulFrom};
+ghost use Rattle.snapshot_core.specs.Machine.{HasDistinctPlaces, IsLawfulFrom};
 ghost use Rattle.snapshot_core.specs.SnapWorld.{may_lack_memory, LacksOnWay};
 ghost use Rattle.snapshot_places.specs.Bounds.{grid_bounds, tree_bounds};
 ghost use Rattle.snapshot_places.specs.Grid.{fresh_grid};

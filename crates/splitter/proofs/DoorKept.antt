@@ -5,7 +5,7 @@ use Rattle.splitter.specs.declared.way.Way.TheVariants.{Stop, Right, Down}
 use Rattle.splitter.specs.declared.stage.Stage.{Stage}
 use Rattle.splitter.specs.declared.stage.Stage.TheVariants.{Outside, WroteX, SawClear, WroteY, Gone}
 use Rattle.splitter.specs.Stage.{has_entered, has_set, is_between, has_stopped, went_right, went_down, x_after, y_after, stage_after}
-use Rattle.splitter.specs.Door.{DoorIsLawful, IsSplitter}
+use Rattle.splitter.specs.Invariant.{DoorIsLawful, IsSplitter}
 use Rattle.step_memory.specs.SetAt.{set_at}
 use Rattle.step_memory.proofs.SetAtLemmas.{set_at-same, set_at-other, set_at-cases, set_at-as_is}
 use Rattle.splitter.proofs.Changed.{passed_before, passes_still, passes_too, fails_still}

@@ -1,5 +1,5 @@
 -- what ties a splitter's world to the calls that it is after
-use Rattle.std.proofs.Common.{◌≡◌, ◌≢◌, ℕ, ◌+◌, ◌<◌, ◌≤◌, true, false, cond, ◌==◌, inl, inr, List, [], ◌∷◌, ◌++◌, length, Option, Some, None, Ok, Err, refl, sym, ap, subst, ◌∙◌, arith}
+use Rattle.std.proofs.Common.{◌≡◌, ◌≢◌, ℕ, ◌+◌, ◌<◌, ◌≤◌, true, false, cond, ◌==◌, inl, inr, List, [], ◌∷◌, ◌++◌, length, Option, Some, None, Result, Ok, Err, refl, sym, ap, subst, ◌∙◌, arith}
 use Rattle.std.specs.Prelude.{is_some, option_map, IsSome}
 use Rattle.std.proofs.Math.Path.{fun_ext}
 use Rattle.std.proofs.lemmas.Bool.Decides.{eqb_tells}
@@ -12,11 +12,16 @@ use Rattle.step_memory.specs.Calls.{Call, steps_of, steps_by, outcome_of, outcom
 use Rattle.step_memory.specs.Calls.Call.{Began, Stepped}
 use Rattle.step_memory.proofs.SetAtLemmas.{set_at-cases}
 use Rattle.step_memory.proofs.ParticipantLemmas.{participant_of-push, participant_of-put}
-use Rattle.step_memory.proofs.WorldKeeps.{IsLetIn, IsKept, world_keeps, moved, stepped, after_began, after_stepped, after_splits}
+use Rattle.step_memory.proofs.WorldKeeps.{IsLetIn, IsKept, moved, stepped}
 use Rattle.step_memory.specs.Told.{Tells}
 use Rattle.step_memory.proofs.ToldLemmas.{told_quiet, told_stepped}
 use Rattle.step_memory.specs.Due.{EndsOnce}
-use Rattle.step_memory.proofs.DueLemmas.{world_counted, ends_once, outcomes_tell, never_grows}
+use Rattle.step_memory.proofs.DueLemmas.{outcomes_tell, never_grows}
+use Rattle.step_memory.specs.Machine.{IsProved, IsLawful, RefusesWhereDue, LeadsOn}
+use Rattle.step_memory.proofs.WorldMachineLemmas.{world_proved, begin_leads_on, step_leads_on, stays_alike}
+use Rattle.splitter.specs.Laws.{StaysAlike}
+use Rattle.step_memory.specs.World.{after_begin, begin_refusal, done_unless}
+use Rattle.step_memory.specs.declared.refusal.Refusal.{Refusal}
 use Rattle.splitter.specs.declared.way.Way.{Way}
 use Rattle.splitter.specs.declared.way.Way.TheVariants.{Stop, Right, Down}
 use Rattle.splitter.specs.declared.stage.Stage.{Stage}
@@ -24,10 +29,9 @@ use Rattle.splitter.specs.declared.stage.Stage.TheVariants.{Outside, WroteX, Saw
 use Rattle.splitter.specs.declared.visitor.Visitor.{Visitor}
 use Rattle.splitter.specs.Stage.{has_entered, is_gone, x_after, y_after, stage_after}
 use Rattle.splitter.specs.Visitor.{visitor_steps, access_of, stage_by, note_at, note_after, word_of, IsAccessOf}
-use Rattle.splitter.specs.Door.{DoorIsLawful, IsSplitter}
+use Rattle.splitter.specs.Invariant.{DoorIsLawful, IsSplitter}
 use Rattle.splitter.specs.Law.{IsSplit, HasEntered, WentBy, KeepsSplitterLaw}
-use Rattle.splitter.specs.SplitterWorld.{SplitterState, After, fresh, visit_of, empty_door, step_reply, world_after_step, RefusesWhereDue}
-use Rattle.step_memory.specs.World.{after_begin, begin_refusal, done_unless}
+use Rattle.splitter.specs.Machine.{SplitterState, fresh, visit_of, splitter, splitter_parts, step_reply, world_after_step}
 use Rattle.splitter.proofs.DoorKept.{kept, law_of, lawful_new}
 use Rattle.splitter.proofs.VisitorAccess.{is_access_of}
 
@@ -285,29 +289,24 @@ tied_law w r t once =
       ends_once = once;
     }
 
--- each call is refused where those before it make it due
-pub due_after : (w : SplitterState) → RefusesWhereDue w
-due_after w r a = (world_counted visitor_steps memory_steps outcome_in visit_of is_some false w.most outcomes_tell never_grows empty_door w r refl a).due
+-- so a splitter's world is proved
+pub splitter_proved : IsProved splitter
+splitter_proved = world_proved splitter_parts IsTied (record { tells = outcomes_tell; grows = never_grows; new = λ most may. tied_new most; kept = tie_kept; law = tied_law })
 
--- a world that is after these calls shows that they keep the law
-pub law_after : (w : SplitterState) (r : List (Call (Option Way))) → After w r → KeepsSplitterLaw r
-law_after w r a =
-    tied_law w r (world_keeps visitor_steps memory_steps outcome_in visit_of IsTied tie_kept empty_door w r (tied_new w.most) a)
-    (ends_once is_some w.most false r (due_after w r a))
+pub splitter_law : (w : SplitterState) → IsLawful splitter w
+splitter_law w = splitter_proved.law w
 
--- and so does every front of the calls
-pub front_lawful : (w : SplitterState) (r t : List (Call (Option Way))) → After w (r ++ t) → KeepsSplitterLaw r
-front_lawful w r t a =
-    let mid = after_splits visitor_steps memory_steps outcome_in visit_of empty_door w r t a in
-    law_after mid.0 r mid.2
+pub splitter_due : (w : SplitterState) → RefusesWhereDue splitter w
+splitter_due w = splitter_proved.due w
 
--- a splitter that no one has entered is after no call
-pub after_none : (most : ℕ) → After (fresh most) []
-after_none most = refl
+pub splitter_begins : (w new : SplitterState) (id : ℕ) (reply : Result (Unit {0}) Refusal) → new ≡ after_begin w id (visit_of id) → reply ≡ done_unless (begin_refusal w id) → LeadsOn splitter w new (Began id reply)
+splitter_begins = begin_leads_on splitter_parts
 
--- and each call goes on
-pub after_begun : (w : SplitterState) (r : List (Call (Option Way))) (id : ℕ) → After w r → After (after_begin w id (visit_of id)) (r ++ Began id (done_unless (begin_refusal w id)) ∷ [])
-after_begun w r id a = after_began visitor_steps memory_steps outcome_in visit_of empty_door w (after_begin w id (visit_of id)) r id (done_unless (begin_refusal w id)) refl refl a
+pub splitter_steps : (w new : SplitterState) (id : ℕ) (reply : Result (Option Way) Refusal) → new ≡ world_after_step w id → reply ≡ step_reply w id → LeadsOn splitter w new (Stepped id reply)
+splitter_steps = step_leads_on splitter_parts
 
-pub after_step_of : (w : SplitterState) (r : List (Call (Option Way))) (id : ℕ) → After w r → After (world_after_step w id) (r ++ Stepped id (step_reply w id) ∷ [])
-after_step_of w r id a = after_stepped visitor_steps memory_steps outcome_in visit_of empty_door w (world_after_step w id) r id (step_reply w id) refl refl a
+pub splitter_stays : (w new : SplitterState) (id : ℕ) → new ≡ world_after_step w id → StaysAlike w new id
+splitter_stays = stays_alike splitter_parts
+
+-- what the contracts of its calls are proved by
+pub ruleset splitter_contracts = (splitter_law, splitter_due, splitter_begins, splitter_steps, splitter_stays)

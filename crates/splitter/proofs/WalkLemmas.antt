@@ -7,7 +7,7 @@ use Rattle.step_memory.specs.Calls.{outcome_in}
 use Rattle.splitter.specs.declared.way.Way.TheVariants.{Stop, Right, Down}
 use Rattle.splitter.specs.declared.stage.Stage.{Stage}
 use Rattle.splitter.specs.declared.stage.Stage.TheVariants.{Outside, WroteX, SawClear, WroteY, Gone}
-use Rattle.splitter.specs.Door.{DoorIsLawful}
+use Rattle.splitter.specs.Invariant.{DoorIsLawful}
 use Rattle.splitter.specs.Stage.{went_right, went_down, stage_after}
 use Rattle.splitter.specs.Walk.{gone_on, note_at_door, place_at_door, accesses_at}
 

@@ -2,19 +2,16 @@
 use Rattle.splitter.specs.Visitor.{visitor_steps}
 use Rattle.step_memory.specs.Registers.{memory_steps}
 use Rattle.step_memory.specs.Locality.{LookAlike, StandAlike}
-use Rattle.std.specs.Prelude.{◌≡◌, ◌+◌, ◌≤◌, ◌⊎◌, false, ℕ, List, [], ◌∷◌, ◌++◌, Option, Some, None, IsSome}
+use Rattle.std.specs.Prelude.{◌≡◌, ◌+◌, ◌≤◌, ◌⊎◌, false, ℕ, Option, Some, None, IsSome}
 use Rattle.splitter.specs.declared.stage.Stage.{Stage}
 use Rattle.splitter.specs.declared.stage.Stage.TheVariants.{Gone}
-use Rattle.splitter.specs.declared.way.Way.{Way}
 use Rattle.splitter.specs.declared.way.Way.TheVariants.{Right, Down}
 use Rattle.splitter.specs.Walk.{gone_on, note_at_door, place_at_door, accesses_at}
-use Rattle.splitter.specs.Door.{DoorIsLawful}
-use Rattle.splitter.specs.SplitterWorld.{After, SplitterState, visit_of, step_reply, world_after_step}
+use Rattle.splitter.specs.Invariant.{DoorIsLawful}
+use Rattle.splitter.specs.Machine.{SplitterState, world_after_step}
 use Rattle.splitter.specs.Stage.{went_right, went_down, x_after, y_after, stage_after}
-use Rattle.step_memory.specs.Calls.{Call, outcome_in}
-use Rattle.step_memory.specs.Calls.Call.{Began, Stepped}
+use Rattle.step_memory.specs.Calls.{outcome_in}
 use Rattle.step_memory.specs.SetAt.{set_at}
-use Rattle.step_memory.specs.World.{after_begin, begin_refusal, done_unless}
 
 -- an access of a visit keeps the law of its splitter
 abbrev pub KeepsDoorLaw : Type 0
@@ -50,17 +47,6 @@ abbrev pub CountsOneMore : Type 0
 CountsOneMore =
     (p : ℕ) (s : Stage) (x y k : ℕ) → place_at_door k s ≡ None → went_right s ≡ false → went_down s ≡ false →
     (accesses_at s + 1 ≤ accesses_at (stage_after p s x y)) × (accesses_at s ≤ 3)
-
--- a beginning leads on
-abbrev pub BeginLeadsOn : Type 0
-BeginLeadsOn =
-    (w : SplitterState) (r : List (Call (Option Way))) (id : ℕ) → After w r →
-    After (after_begin w id (visit_of id)) (r ++ Began id (done_unless (begin_refusal w id)) ∷ [])
-
--- a step leads on
-abbrev pub StepLeadsOn : Type 0
-StepLeadsOn =
-    (w : SplitterState) (r : List (Call (Option Way))) (id : ℕ) → After w r → After (world_after_step w id) (r ++ Stepped id (step_reply w id) ∷ [])
 
 -- who stands in the new world stands alike after its step in each world that looks alike to it
 abbrev pub StaysAlike : SplitterState → SplitterState → ℕ → Type 0

@@ -1,7 +1,7 @@
 pub mod Law
 pub mod Stage
-pub mod Door
+pub mod Invariant
 pub mod Visitor
 pub mod Walk
-pub mod SplitterWorld
+pub mod Machine
 pub mod Laws

@@ -1,17 +1,17 @@
 //! Laws of the splitter, which run nothing: of one splitter, whoever uses it, and of the calls of its world.
 
-ghost use Rattle.std.specs.Prelude.{◌≡◌, ◌≢◌, ◌↔◌, ℕ, ◌<◌, ◌≤◌, true, length, List, [], ◌++◌, Option, Some};
-ghost use Rattle.splitter.specs.Laws.{KeepsDoorLaw, BeginLeadsOn, StepLeadsOn, GoesOn, TellsPlace, HasOneAtPlace, FourthPlaces, CountsOneMore};
+ghost use Rattle.std.specs.Prelude.{◌≡◌, ◌≢◌, ◌↔◌, ℕ, ◌<◌, ◌≤◌, true, length, Option, Some};
+ghost use Rattle.splitter.specs.Laws.{KeepsDoorLaw, GoesOn, TellsPlace, HasOneAtPlace, FourthPlaces, CountsOneMore};
 ghost use Rattle.splitter.specs.declared.stage.Stage.{Stage};
 ghost use Rattle.splitter.specs.declared.visitor.Visitor.{Visitor};
 ghost use Rattle.splitter.specs.declared.way.Way.{Way};
-ghost use Rattle.splitter.specs.Door.{DoorIsLawful, IsSplitter};
-ghost use Rattle.splitter.specs.Law.{KeepsSplitterLaw};
-ghost use Rattle.splitter.specs.SplitterWorld.{After, RefusesWhereDue, SplitterState, fresh};
+ghost use Rattle.splitter.specs.Invariant.{DoorIsLawful, IsSplitter};
+ghost use Rattle.splitter.specs.Machine.{splitter};
 ghost use Rattle.splitter.specs.Stage.{went_down, went_right};
 ghost use Rattle.splitter.specs.Visitor.{IsAccessOf, access_of};
 ghost use Rattle.splitter.specs.Walk.{accesses_at, place_at_door};
-ghost use Rattle.step_memory.specs.Calls.{Call, outcome_in};
+ghost use Rattle.step_memory.specs.Calls.{outcome_in};
+ghost use Rattle.step_memory.specs.Machine.{IsProved};
 ghost use Rattle.step_memory.specs.RegisterState.{Registers};
 ghost use Rattle.step_memory.specs.Steps.{ReadsOrWrites};
 ghost use Rattle.step_memory.specs.declared.note.Note.{Note};
@@ -52,14 +52,8 @@ pub fn law_of_one_access()
     ensures access { (m : Registers ℕ) (v : Visitor ℕ) → v.x ≢ v.y → v.x < length m.values → v.y < length m.values → IsAccessOf m v }
 {}
 
-/// A law, which runs nothing: a splitter that no one has entered is after no call, each call takes a world after some
-/// calls to one after these and itself, and calls that a world may be after, and every front of them, keep the law of the
-/// splitter. Each is refused exactly where those before it make it due.
+/// A law, which runs nothing: a splitter is a machine whose calls lead on, whose lists of calls, with every prefix of them,
+/// keep the law of the splitter, and each of whose calls is refused exactly where those before it make it due.
 pub fn law_of_splitter_calls()
-    ensures fresh { (most : ℕ) → After (fresh most) [] }
-    ensures begun { BeginLeadsOn }
-    ensures stepped { StepLeadsOn }
-    ensures law { (w : SplitterState) (r : List (Call (Option Way))) → After w r → KeepsSplitterLaw r }
-    ensures front { (w : SplitterState) (r t : List (Call (Option Way))) → After w (r ++ t) → KeepsSplitterLaw r }
-    ensures due { (w : SplitterState) → RefusesWhereDue w }
+    ensures { IsProved splitter }
 {}

@@ -2,10 +2,11 @@
 
 ghost use Rattle.std.specs.Prelude.{◌≡◌, [], IfOk, IfErr, IsOk, OnErr, Err, ◌≤◌, ◌<◌, ◌⊎◌, ◌↔◌};
 ghost use Rattle.splitter.specs.Laws.{StaysAlike};
-ghost use Rattle.splitter.specs.SplitterWorld.{After, IsLawful, LeadsOn, RefusesWhereDue, SplitterState, fresh, visit_of, step_reply, world_after_step};
+ghost use Rattle.splitter.specs.Machine.{SplitterState, fresh, splitter, visit_of, step_reply, world_after_step};
 ghost use Rattle.splitter.specs.Visitor.{visitor_steps};
 ghost use Rattle.step_memory.specs.Calls.Call.{Began, Stepped};
 ghost use Rattle.step_memory.specs.Locality.{IsLocal, LookAlike};
+ghost use Rattle.step_memory.specs.Machine.{After, IsLawful, LeadsOn, RefusesWhereDue};
 ghost use Rattle.step_memory.specs.Registers.{memory_steps};
 ghost use Rattle.step_memory.specs.World.{after_begin, begin_refusal, done_unless};
 
@@ -22,7 +23,7 @@ pub struct SplitterWorld<A: Allocator> {
 }
 
 impl<A: Allocator> Model for SplitterWorld<A> {
-    ghost use Rattle.splitter.specs.SplitterWorld.{SplitterState};
+    ghost use Rattle.splitter.specs.Machine.{SplitterState};
 
     ghost Value = { SplitterState };
 
@@ -32,10 +33,11 @@ impl<A: Allocator> Model for SplitterWorld<A> {
 impl<A: Allocator + Clone> SplitterWorld<A> {
     /// A splitter that no one has entered, for at most `most` participants, from 1 to 16; `OutOfRange` elsewhere. All
     /// the memory that its calls want is taken here.
+    #[tactic(auto, using(crate::proofs::SplitterTied::splitter_contracts))]
     pub fn new(alloc: A, most: usize) -> Result<Self, Refusal>
         ensures fresh { IfOk result (λ w. w ≡ fresh most) }
-        ensures after { IfOk result (λ w. After w []) }
-        ensures law { IfOk result (λ w. IsLawful w) }
+        ensures after { IfOk result (λ w. After splitter most w []) }
+        ensures law { IfOk result (λ w. IsLawful splitter w) }
         ensures range { IsOk result → (1 ≤ most) × (most ≤ 16) }
         ensures out_of_range { result ≡ Err Refusal.OutOfRange ↔ ((most < 1) ⊎ (16 < most)) }
         ensures only { IfErr result (λ r. (r ≡ Refusal.NoMemory) ⊎ (r ≡ Refusal.OutOfRange)) }
@@ -57,21 +59,23 @@ impl<A: Allocator + Clone> SplitterWorld<A> {
 
     /// A participant begins: its visit has made no access. Refused where the identity is 0, then where it has begun,
     /// then where as many have begun as there may be.
+    #[tactic(auto, using(crate::proofs::SplitterTied::splitter_contracts))]
     pub fn begin(&mut self, id: u64) -> Result<(), Refusal>
         ensures answer { result ≡ done_unless (begin_refusal self.old id) }
         ensures state { self.new ≡ after_begin self.old id (visit_of id) }
         ensures refused { OnErr result (self.new ≡ self.old) }
 
         // The law, over every list of calls and replies that the world may be after.
-        ensures after { LeadsOn self.old self.new (Began id result) }
-        ensures law { IsLawful self.new }
-        ensures due { RefusesWhereDue self.new }
+        ensures after { LeadsOn splitter self.old self.new (Began id result) }
+        ensures law { IsLawful splitter self.new }
+        ensures due { RefusesWhereDue splitter self.new }
     {
         self.world.begin(id, Visitor::new(id, 0, 1))
     }
 
     /// One step of a visit, which is one access; the way, once the visit ends. Refused where the identity has not
     /// begun, then where its visit has ended.
+    #[tactic(auto, using(crate::proofs::SplitterTied::splitter_contracts))]
     pub fn step(&mut self, id: u64) -> Result<Option<Way>, Refusal>
         ensures answer { result ≡ step_reply self.old id }
         ensures state { self.new ≡ world_after_step self.old id }
@@ -84,9 +88,9 @@ impl<A: Allocator + Clone> SplitterWorld<A> {
         ensures stands_alike { StaysAlike self.old self.new id }
 
         // The law, over every list of calls and replies that the world may be after.
-        ensures after { LeadsOn self.old self.new (Stepped id result) }
-        ensures law { IsLawful self.new }
-        ensures due { RefusesWhereDue self.new }
+        ensures after { LeadsOn splitter self.old self.new (Stepped id result) }
+        ensures law { IsLawful splitter self.new }
+        ensures due { RefusesWhereDue splitter self.new }
     {
         match self.world.step(id)? {
             Note::Ended(way) => Ok(Some(way)),

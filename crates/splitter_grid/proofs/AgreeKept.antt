@@ -7,12 +7,12 @@ use Rattle.splitter.specs.declared.way.Way.TheVariants.{Stop, Right, Down}
 use Rattle.splitter.specs.declared.stage.Stage.{Stage}
 use Rattle.splitter.specs.declared.stage.Stage.TheVariants.{Outside, WroteX, SawClear, WroteY, Gone}
 use Rattle.splitter.specs.Stage.{has_entered, went_right, went_down, x_after, y_after, stage_after}
-use Rattle.splitter.specs.Door.{DoorIsLawful}
+use Rattle.splitter.specs.Invariant.{DoorIsLawful}
 use Rattle.splitter.proofs.DoorKept.{kept, lawful_new}
 use Rattle.splitter_grid.specs.declared.walker.Walker.{Walker}
 use Rattle.splitter_grid.specs.Door.{door_number, number_of, door_at}
 use Rattle.splitter_grid.specs.Walk.{walker_at, walk_of, visit_on}
-use Rattle.splitter_grid.specs.Consistent.{StandsAt, IsWalkOf, DoorsAgree}
+use Rattle.splitter_grid.specs.Invariant.{StandsAt, IsWalkOf, DoorsAgree}
 use Rattle.splitter_grid.proofs.DepthBound.{tightened}
 use Rattle.splitter_grid.proofs.Numbers.{number_depth, number_column}
 

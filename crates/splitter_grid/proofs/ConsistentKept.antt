@@ -16,8 +16,8 @@ use Rattle.splitter.proofs.WalkLemmas.{goes_on}
 use Rattle.splitter_grid.specs.declared.walker.Walker.{Walker}
 use Rattle.splitter_grid.specs.Door.{number_of, door_at, right_of, down_of, deeper}
 use Rattle.splitter_grid.specs.Walk.{walker_at, walk_of, visit_on, walked_to, walker_after, next_access}
-use Rattle.splitter_grid.specs.Consistent.{x_in, y_in, DoorsAgree, IsConsistent}
-use Rattle.splitter_grid.specs.GridWorld.{empty_doors}
+use Rattle.splitter_grid.specs.Invariant.{x_in, y_in, DoorsAgree, IsConsistent}
+use Rattle.splitter_grid.specs.Machine.{empty_doors}
 use Rattle.splitter_grid.proofs.Numbers.{number_below}
 use Rattle.splitter_grid.proofs.AgreeKept.{stayed, moved_on, joined, agree_new}
 
@@ -26,7 +26,7 @@ pub deeper_is : (n : ℕ) → n < 255 → deeper n ≡ suc n
 deeper_is n l = omega arith
 
 -- the walk that an access leaves, by how far its visit has come
-module _ (b : ℕ) (few : b ≤ 16) (x_of y_of : ℕ → ℕ) (walker : ℕ → Option Walker) (g : DoorsAgree b b x_of y_of walker) (p : ℕ) (u : Walker) (is : walker p ≡ Some u) where
+module _ (b : ℕ) (few : b ≤ 255) (x_of y_of : ℕ → ℕ) (walker : ℕ → Option Walker) (g : DoorsAgree b b x_of y_of walker) (p : ℕ) (u : Walker) (is : walker p ≡ Some u) where
   abbrev door : ℕ
   door = number_of u.door
 
@@ -60,6 +60,11 @@ module _ (b : ℕ) (few : b ≤ 16) (x_of y_of : ℕ → ℕ) (walker : ℕ → 
     | inl e ↦ subst AgreesWith (sym e.2) (stays s k e.0 e.1)
     | inr o ↦ elim o [ inl e ↦ subst AgreesWith (sym e.1) (goes_right (k ∙ e.0)) | inr e ↦ subst AgreesWith (sym e.1) (goes_down (k ∙ e.0)) ]
   ]
+
+  -- doors and walks agree after an access of a walk, whatever the doors stand on
+  pub agrees_after : DoorsAgree b b (set_at x_of (number_of u.door) (x_after p u.visitor.stage (x_of (number_of u.door)))) (set_at y_of (number_of u.door) (y_after u.visitor.stage (y_of (number_of u.door))))
+      (set_at walker p (Some (walked_to u (stage_after p u.visitor.stage (x_of (number_of u.door)) (y_of (number_of u.door))))))
+  agrees_after = agrees_next (stage_after p u.visitor.stage (x_of (number_of u.door)) (y_of (number_of u.door))) refl
 
 -- what an access of a walk does to X and Y of the doors
 module _ (m : Registers ℕ) (p : ℕ) (u : Walker) (identity : u.visitor.identity ≡ p) (x_is : u.visitor.x ≡ 2 * number_of u.door) (y_is : u.visitor.y ≡ 2 * number_of u.door + 1) (below : 2 * number_of u.door + 1 < length m.values) where
@@ -98,7 +103,7 @@ module _ (most b : ℕ) (m : Registers ℕ) (walker : ℕ → Option Walker) (c 
   gone_on p u is =
       let walk = c.agree.walks p u is in
       let below = registers_in p u is in
-      let few : b ≤ 16 = (let f = c.few in let r = c.room in omega arith) in
+      let few : b ≤ 255 = (let f = c.few in let r = c.room in omega arith) in
       let stage = reaches m p u walk.identity walk.x walk.y below in
       let next = agrees_next b few (x_in m) (y_in m) walker c.agree p u is (stage_by u.visitor (answer_of m (next_access u))) (sym stage) in
       record {

@@ -13,6 +13,8 @@ use Rattle.step_memory.specs.SetAt.{set_at}
 use Rattle.step_memory.specs.World.{begin_refusal, begun_unless, after_begin, after_step_by, step_answer_by, may_refuse_by}
 use Rattle.step_memory.specs.Calls.{Call, next, IsReply, outcome_in, reply_of, lacked_memory}
 use Rattle.step_memory.specs.Calls.Call.{Began, Stepped}
+use Rattle.step_memory.specs.Machine.{After}
+use Rattle.step_memory.proofs.MachineLemmas.{after_none, call_leads_on}
 use Rattle.step_memory.proofs.RunLemmas.{run_gathers}
 use Rattle.step_memory.proofs.WorldKeeps.{stepped}
 use Rattle.splitter.specs.declared.stage.Stage.{Stage}
@@ -21,11 +23,11 @@ use Rattle.splitter.specs.Stage.{has_entered, x_after}
 use Rattle.splitter_grid.specs.declared.walker.Walker.{Walker}
 use Rattle.splitter_grid.specs.Door.{number_of}
 use Rattle.splitter_grid.specs.Walk.{walk_of, walker_steps, walker_note, next_access}
-use Rattle.splitter_grid.specs.Consistent.{x_in, IsConsistent}
-use Rattle.splitter_grid.specs.GridWorld.{GridState, After, fresh, empty_doors}
-use Rattle.splitter_grid.specs.Entered.{Enters, WasEntered}
+use Rattle.splitter_grid.specs.Invariant.{x_in, IsConsistent}
+use Rattle.splitter_grid.specs.Machine.{GridState, fresh, grid, empty_doors}
+use Rattle.splitter_grid.specs.Entered.{Enters, ShowsWhatWasEntered}
 use Rattle.splitter_grid.proofs.ConsistentKept.{xs, registers_in, get_or-replicate_same}
-use Rattle.splitter_grid.proofs.GridTied.{IsTied, tied_after, walkers, after_next}
+use Rattle.splitter_grid.proofs.GridTied.{IsTied, tied_always, walkers}
 
 module _ (most b : ℕ) (m : Registers ℕ) (walker : ℕ → Option Walker) (c : IsConsistent most b m walker) where
   -- where anyone has entered, an identity stands in X
@@ -120,9 +122,9 @@ module _ (w : GridState) (past : List (Call (Option ℕ))) (t : IsTied w past) w
   one_call (Stepped id reply) (inr is) k = absurd (let yes_may : false ≡ true = sym (never_lacks id) ∙ is.1 in cc)
 
 -- an identity stands in X of just the doors that were entered
-pub written_entered : (w : GridState) (r : List (Call (Option ℕ))) → After w r → (k : ℕ) → (x_in w.memory k ≢ 0) ↔ WasEntered w.most r k
-written_entered w r a k =
-    let over = run_gathers next_of IsReplyOf After (λ u past h b is. after_next u past h is b) (λ u h. Enters u h k) (λ u. x_in u.memory k ≢ 0)
-    (λ u past h b is. one_call u past (tied_after u past b) h is k) (fresh w.most) [] r w (a.0, refl) a.1 in
-    let unwritten : x_in (empty_doors w.most) k ≡ 0 = get_or-replicate_same (w.most * (w.most + 1)) (2 * k) 0 in
+pub written_entered : (w : GridState) → ShowsWhatWasEntered w
+written_entered w most r a k =
+    let over = run_gathers next_of IsReplyOf (After grid most) (λ u past h b is. call_leads_on grid u (next_of u h) h refl is most past b) (λ u h. Enters u h k) (λ u. x_in u.memory k ≢ 0)
+    (λ u past h b is. one_call u past (tied_always u most past b) h is k) (fresh most) [] r w (after_none grid most a.started) a.run in
+    let unwritten : x_in (empty_doors most) k ≡ 0 = get_or-replicate_same (most * (most + 1)) (2 * k) 0 in
     (λ some. elim (over.0 some) [ inl yes_entered ↦ yes_entered | inr written ↦ absurd (written unwritten) ], λ yes_entered. over.1 (inl yes_entered))

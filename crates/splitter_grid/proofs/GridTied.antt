@@ -1,5 +1,5 @@
 -- what ties a grid's world to the calls that it is after
-use Rattle.std.proofs.Common.{◌≡◌, ℕ, suc, ◌≤◌, true, false, List, [], ◌∷◌, ◌++◌, length, Option, Some, None, Ok, Err, refl, sym, ap, subst, ◌∙◌, arith, length-append}
+use Rattle.std.proofs.Common.{◌≡◌, ℕ, suc, ◌≤◌, true, false, List, [], ◌∷◌, ◌++◌, length, Option, Some, None, Result, Ok, Err, refl, sym, ap, subst, ◌∙◌, arith, length-append}
 use Rattle.std.specs.Prelude.{is_some, option_map}
 use Rattle.std.proofs.Math.Path.{fun_ext}
 use Rattle.step_memory.specs.declared.access.Answer.{Answer}
@@ -8,24 +8,28 @@ use Rattle.step_memory.specs.Note.{ends}
 use Rattle.step_memory.specs.Participant.{participant_of, program_of, with_participant, beginner}
 use Rattle.step_memory.specs.Registers.{answer_of, memory_steps}
 use Rattle.step_memory.specs.SetAt.{set_at}
-use Rattle.step_memory.specs.World.{after_begin, begin_refusal, done_unless}
-use Rattle.step_memory.specs.Calls.{Call, next, IsReply, steps_by, outcome_of, outcome_by, outcome_in, begun_in, begun_by, IsAfter}
+use Rattle.step_memory.specs.Calls.{Call, steps_by, outcome_of, outcome_by, outcome_in, begun_in, begun_by}
 use Rattle.step_memory.specs.Calls.Call.{Began, Stepped}
 use Rattle.step_memory.proofs.SetAtLemmas.{set_at-cases, set_at-map}
 use Rattle.step_memory.proofs.ParticipantLemmas.{participant_of-push, participant_of-put, length-with_participant}
-use Rattle.step_memory.proofs.WorldKeeps.{begun_in-push, IsLetIn, IsKept, world_keeps, after_call, after_stepped, after_splits, most_kept, moved, stepped}
+use Rattle.step_memory.proofs.WorldKeeps.{begun_in-push, IsLetIn, IsKept, moved, stepped}
 use Rattle.step_memory.specs.Told.{Tells}
 use Rattle.step_memory.proofs.ToldLemmas.{told_quiet, told_begun, told_stepped}
 use Rattle.step_memory.specs.Due.{EndsOnce}
-use Rattle.step_memory.proofs.DueLemmas.{world_counted, ends_once, outcomes_tell, never_grows, no_second_end}
+use Rattle.step_memory.proofs.DueLemmas.{outcomes_tell, never_grows, no_second_end}
+use Rattle.step_memory.specs.Machine.{Always, IsProved, IsLawful, RefusesWhereDue, LeadsOn}
+use Rattle.step_memory.proofs.WorldMachineLemmas.{IsTie, tied_after, world_proved, begin_leads_on, step_leads_on, stays_alike}
+use Rattle.step_memory.specs.World.{after_begin, begin_refusal, done_unless}
+use Rattle.step_memory.specs.declared.refusal.Refusal.{Refusal}
+use Rattle.splitter_grid.specs.Laws.{StaysAlike}
 use Rattle.splitter.specs.declared.stage.Stage.{Stage}
 use Rattle.splitter.specs.Walk.{note_at_door}
 use Rattle.splitter.specs.Visitor.{stage_by}
 use Rattle.splitter_grid.specs.declared.walker.Walker.{Walker}
 use Rattle.splitter_grid.specs.Door.{number_of}
 use Rattle.splitter_grid.specs.Walk.{walk_of, walker_steps, walked_to, walker_after, walker_note, next_access, place_of, place_by, accesses_by}
-use Rattle.splitter_grid.specs.Consistent.{IsConsistent, IsGrid}
-use Rattle.splitter_grid.specs.GridWorld.{GridState, After, fresh, empty_doors, place_in, step_reply, world_after_step, RefusesWhereDue}
+use Rattle.splitter_grid.specs.Invariant.{IsConsistent, IsGrid}
+use Rattle.splitter_grid.specs.Machine.{GridState, fresh, grid, grid_parts, place_in, step_reply, world_after_step}
 use Rattle.splitter_grid.specs.Law.{KeepsGridLaw}
 use Rattle.splitter_grid.proofs.ConsistentKept.{consistent_new, begun, gone_on}
 use Rattle.splitter_grid.proofs.GridLaw.{grid_law, nearer, place_told}
@@ -126,10 +130,6 @@ tied_new most few = record {
   told = record { outcomes = λ p. refl; at_least = λ p. omega arith; at_most = λ p. omega arith };
 }
 
--- a world that is after these calls is tied to them
-pub tied_after : (w : GridState) (r : List (Call (Option ℕ))) → After w r → IsTied w r
-tied_after w r a = world_keeps walker_steps memory_steps outcome_in walk_of IsTied tie_kept (empty_doors w.most) w r (tied_new w.most a.0) a.1
-
 -- the steps of one are at most the accesses that its walk may have made, so the law of the walks is that of the calls
 tied_law : (w : GridState) (r : List (Call (Option ℕ))) → IsTied w r → EndsOnce is_some r → KeepsGridLaw r
 tied_law w r t once =
@@ -142,49 +142,44 @@ tied_law w r t once =
       ends_once = once;
     }
 
--- each call is refused where those before it make it due
-pub due_after : (w : GridState) → RefusesWhereDue w
-due_after w r a = (world_counted walker_steps memory_steps outcome_in walk_of is_some false w.most outcomes_tell never_grows (empty_doors w.most) w r refl a.1).due
+tie : IsTie grid_parts IsTied
+tie = record { tells = outcomes_tell; grows = never_grows; new = tied_new; kept = tie_kept; law = tied_law }
 
--- a world that is after these calls shows that they keep the law
-pub law_after : (w : GridState) (r : List (Call (Option ℕ))) → After w r → KeepsGridLaw r
-law_after w r a = tied_law w r (tied_after w r a) (ends_once is_some w.most false r (due_after w r a))
+-- so a grid's world is proved, and what it is after is tied to it
+pub grid_proved : IsProved grid
+grid_proved = world_proved grid_parts IsTied tie
 
--- and so does every front of the calls
-pub front_lawful : (w : GridState) (r t : List (Call (Option ℕ))) → After w (r ++ t) → KeepsGridLaw r
-front_lawful w r t a =
-    let mid = after_splits walker_steps memory_steps outcome_in walk_of (empty_doors w.most) w r t a.1 in
-    law_after mid.0 r (subst (λ (n : ℕ). (n ≤ 16) × IsAfter walker_steps memory_steps outcome_in walk_of (empty_doors n) mid.0 r) (sym mid.1) (a.0, mid.2))
+pub tied_always : (w : GridState) → Always grid (λ most r. IsTied w r) w
+tied_always w = λ most r a. tied_after grid_parts IsTied tie most w r a
 
 -- nobody is told a second place
 pub one_place_told : (p a b : ℕ) (before between rest : List (Call (Option ℕ))) → KeepsGridLaw (before ++ Stepped p (Ok (Some a)) ∷ (between ++ Stepped p (Ok (Some b)) ∷ rest)) → ⊥
 one_place_told p a b before between rest law = no_second_end is_some p (Some a) (Some b) before between rest refl law.ends_once
 
 -- the place at which a walk has ended is the one that was answered
-pub place_after : (w : GridState) (r : List (Call (Option ℕ))) → After w r → (p : ℕ) → place_in w p ≡ outcome_of p r
-place_after w r a p = sym ((tied_after w r a).told.outcomes p)
+pub place_always : (w : GridState) (p : ℕ) → Always grid (λ most r. place_in w p ≡ outcome_of p r) w
+place_always w p most r a = sym ((tied_always w most r a).told.outcomes p)
 
 -- the law of the doors
-pub grid_after : (w : GridState) (r : List (Call (Option ℕ))) → After w r → IsGrid (begun_in r) w.memory (walkers w.participants)
-grid_after w r a =
-    let t = tied_after w r a in
+pub grid_always : (w : GridState) → Always grid (λ most r. IsGrid (begun_in r) w.memory (walkers w.participants)) w
+grid_always w most r a =
+    let t = tied_always w most r a in
     rw t.begun_is (grid_law w.most (length w.participants) w.memory (walkers w.participants) t.consistent)
 
--- a grid that no one has entered is after no call
-pub after_none : (most : ℕ) → most ≤ 16 → After (fresh most) []
-after_none most few = (few, refl)
+pub grid_law_of : (w : GridState) → IsLawful grid w
+grid_law_of w = grid_proved.law w
 
--- and each call goes on: the most participants stay the same
-after_with : (w new : GridState) (r : List (Call (Option ℕ))) (h : Call (Option ℕ)) → After w r → new.most ≡ w.most → IsAfter walker_steps memory_steps outcome_in walk_of (empty_doors w.most) new (r ++ h ∷ []) → After new (r ++ h ∷ [])
-after_with w new r h a same is = subst (λ (x : ℕ). (x ≤ 16) × IsAfter walker_steps memory_steps outcome_in walk_of (empty_doors x) new (r ++ h ∷ [])) (sym same) (a.0, is)
+pub grid_due : (w : GridState) → RefusesWhereDue grid w
+grid_due w = grid_proved.due w
 
-pub after_next : (w : GridState) (r : List (Call (Option ℕ))) (h : Call (Option ℕ)) → IsReply walker_steps memory_steps outcome_in walk_of w h → After w r → After (next walker_steps memory_steps outcome_in walk_of w h) (r ++ h ∷ [])
-after_next w r h is a = after_with w (next walker_steps memory_steps outcome_in walk_of w h) r h a (most_kept walker_steps memory_steps outcome_in walk_of w h) (after_call walker_steps memory_steps outcome_in walk_of (empty_doors w.most) w (next walker_steps memory_steps outcome_in walk_of w h) r h refl is a.1)
+pub grid_begins : (w new : GridState) (id : ℕ) (reply : Result (Unit {0}) Refusal) → new ≡ after_begin w id (walk_of id) → reply ≡ done_unless (begin_refusal w id) → LeadsOn grid w new (Began id reply)
+grid_begins = begin_leads_on grid_parts
 
-pub after_begun : (w : GridState) (r : List (Call (Option ℕ))) (id : ℕ) → After w r → After (after_begin w id (walk_of id)) (r ++ Began id (done_unless (begin_refusal w id)) ∷ [])
-after_begun w r id a = after_next w r (Began id (done_unless (begin_refusal w id))) refl a
+pub grid_steps : (w new : GridState) (id : ℕ) (reply : Result (Option ℕ) Refusal) → new ≡ world_after_step w id → reply ≡ step_reply w id → LeadsOn grid w new (Stepped id reply)
+grid_steps = step_leads_on grid_parts
 
-pub after_step_of : (w : GridState) (r : List (Call (Option ℕ))) (id : ℕ) → After w r → After (world_after_step w id) (r ++ Stepped id (step_reply w id) ∷ [])
-after_step_of w r id a = after_with w (world_after_step w id) r (Stepped id (step_reply w id)) a
-    (most_kept walker_steps memory_steps outcome_in walk_of w (Stepped id (Ok None)))
-    (after_stepped walker_steps memory_steps outcome_in walk_of (empty_doors w.most) w (world_after_step w id) r id (step_reply w id) refl refl a.1)
+pub grid_stays : (w new : GridState) (id : ℕ) → new ≡ world_after_step w id → StaysAlike w new id
+grid_stays = stays_alike grid_parts
+
+-- what the contracts of its calls are proved by
+pub ruleset grid_contracts = (grid_law_of, grid_due, grid_steps, grid_stays)

@@ -1,7 +1,7 @@
 pub mod Numbers
 mod Diagonals
 mod DepthBound
-mod AgreeKept
+pub mod AgreeKept
 pub mod ConsistentKept
 pub mod GridLaw
 pub mod GridTied

@@ -3,14 +3,15 @@
 use Rattle.std.specs.Prelude.{◌≡◌, ◌≢◌, ◌↔◌, ℕ, List, Option, Some, Ok, Err}
 use Rattle.step_memory.specs.Participant.{program_of}
 use Rattle.step_memory.specs.Registers.{memory_steps}
+use Rattle.step_memory.specs.Machine.{Always}
 use Rattle.step_memory.specs.Runs.{HappensFrom}
 use Rattle.step_memory.specs.Calls.{Call, next, outcome_in}
 use Rattle.step_memory.specs.Calls.Call.{Began, Stepped}
 use Rattle.splitter_grid.specs.declared.walker.Walker.{Walker}
 use Rattle.splitter_grid.specs.Door.{number_of}
 use Rattle.splitter_grid.specs.Walk.{walk_of, walker_steps}
-use Rattle.splitter_grid.specs.Consistent.{x_in}
-use Rattle.splitter_grid.specs.GridWorld.{GridState, After, fresh}
+use Rattle.splitter_grid.specs.Invariant.{x_in}
+use Rattle.splitter_grid.specs.Machine.{GridState, fresh, grid}
 
 -- the call is an accepted step, made by one who stands at door k
 abbrev pub Enters : GridState → Call (Option ℕ) → ℕ → Type 0
@@ -28,4 +29,4 @@ WasEntered most r k = EntersFrom (fresh most) r k
 
 -- after any calls that lead to this world X of a door is not 0 exactly where the door was entered
 abbrev pub ShowsWhatWasEntered : GridState → Type 0
-ShowsWhatWasEntered w = (r : List (Call (Option ℕ))) → After w r → (k : ℕ) → (x_in w.memory k ≢ 0) ↔ WasEntered w.most r k
+ShowsWhatWasEntered w = Always grid (λ most r. (k : ℕ) → (x_in w.memory k ≢ 0) ↔ WasEntered most r k) w

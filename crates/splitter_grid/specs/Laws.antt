@@ -1,9 +1,9 @@
 -- what the laws of this crate say, each under a name
 use Rattle.step_memory.specs.Locality.{LookAlike, StandAlike}
-use Rattle.std.specs.Prelude.{◌≡◌, ◌≢◌, ℕ, ◌+◌, ◌*◌, ◌≤◌, ◌<◌, length, Option, Some, None, ◌∷◌, [], ◌++◌, List, Ok, Err, false, is_some}
+use Rattle.std.specs.Prelude.{◌≡◌, ◌≢◌, ℕ, ◌+◌, ◌*◌, ◌≤◌, ◌<◌, length, Option, Some, None, ◌∷◌, ◌++◌, List, Ok, Err, false, is_some}
 use Rattle.splitter.specs.Visitor.{word_of}
-use Rattle.splitter_grid.specs.Consistent.{IsConsistent}
-use Rattle.splitter_grid.specs.GridWorld.{After, GridState, step_reply, world_after_step}
+use Rattle.splitter_grid.specs.Invariant.{IsConsistent}
+use Rattle.splitter_grid.specs.Machine.{GridState, world_after_step}
 use Rattle.splitter_grid.specs.Law.{KeepsGridLaw}
 use Rattle.splitter_grid.specs.Walk.{walk_of, next_access, walker_after, accesses_of, place_of, walker_steps}
 use Rattle.splitter_grid.specs.declared.walker.Walker.{Walker}
@@ -13,7 +13,6 @@ use Rattle.step_memory.specs.Due.{RefusesAsDue}
 use Rattle.step_memory.specs.RegisterState.{Registers}
 use Rattle.step_memory.specs.Registers.{answer_of, after_access, memory_steps}
 use Rattle.step_memory.specs.SetAt.{set_at}
-use Rattle.step_memory.specs.World.{after_begin, begin_refusal, done_unless}
 use Rattle.step_memory.specs.declared.access.Answer.{Answer}
 use Rattle.step_memory.specs.declared.refusal.Refusal.{Refusal}
 
@@ -50,17 +49,6 @@ HasAccessesLeft =
 -- where one walks somebody has begun
 abbrev pub HasBegun : Type 0
 HasBegun = (most b : ℕ) (m : Registers ℕ) (walker : ℕ → Option Walker) (p : ℕ) (u : Walker) → IsConsistent most b m walker → walker p ≡ Some u → 1 ≤ b
-
--- a beginning leads on
-abbrev pub BeginLeadsOn : Type 0
-BeginLeadsOn =
-    (w : GridState) (r : List (Call (Option ℕ))) (id : ℕ) → After w r →
-    After (after_begin w id (walk_of id)) (r ++ Began id (done_unless (begin_refusal w id)) ∷ [])
-
--- a step leads on
-abbrev pub StepLeadsOn : Type 0
-StepLeadsOn =
-    (w : GridState) (r : List (Call (Option ℕ))) (id : ℕ) → After w r → After (world_after_step w id) (r ++ Stepped id (step_reply w id) ∷ [])
 
 -- nobody is told a second place
 abbrev pub TellsOnePlace : Type 0

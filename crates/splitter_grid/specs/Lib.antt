@@ -1,7 +1,7 @@
 pub mod Law
 pub mod Door
 pub mod Walk
-pub mod Consistent
-pub mod GridWorld
+pub mod Invariant
+pub mod Machine
 pub mod Entered
 pub mod Laws

@@ -1,14 +1,14 @@
 //! Laws of the grid, which run nothing: of its registers and the walks alone, and of the calls of its world.
 
-ghost use Rattle.std.specs.Prelude.{◌≡◌, ◌↔◌, ℕ, ◌+◌, ◌*◌, ◌/◌, ◌≤◌, ◌<◌, Option, Some, None, [], ◌++◌, List};
-ghost use Rattle.splitter_grid.specs.Laws.{AgreesWithBeginner, AgreesAfterAccess, AgreesElsewhere, ComesNearer, HasAccessesLeft, HasBegun, BeginLeadsOn, StepLeadsOn, TellsOnePlace, LetsTheFirstIn};
-ghost use Rattle.splitter_grid.specs.Consistent.{IsConsistent, IsGrid};
+ghost use Rattle.std.specs.Prelude.{◌≡◌, ◌↔◌, ℕ, ◌+◌, ◌*◌, ◌/◌, ◌≤◌, ◌<◌, Option, Some, None};
+ghost use Rattle.splitter_grid.specs.Laws.{AgreesWithBeginner, AgreesAfterAccess, AgreesElsewhere, ComesNearer, HasAccessesLeft, HasBegun, TellsOnePlace, LetsTheFirstIn};
+ghost use Rattle.splitter_grid.specs.Invariant.{IsConsistent, IsGrid};
 ghost use Rattle.splitter_grid.specs.Door.{IsDoorWithin};
-ghost use Rattle.splitter_grid.specs.GridWorld.{empty_doors, After, GridState, RefusesWhereDue, fresh, place_in};
-ghost use Rattle.splitter_grid.specs.Law.{KeepsGridLaw};
+ghost use Rattle.splitter_grid.specs.Machine.{empty_doors, GridState, grid, place_in};
 ghost use Rattle.splitter_grid.specs.Walk.{next_access, walker_after, walker_note, place_of};
 ghost use Rattle.splitter_grid.specs.declared.walker.Walker.{Walker};
-ghost use Rattle.step_memory.specs.Calls.{Call, outcome_of};
+ghost use Rattle.step_memory.specs.Calls.{outcome_of};
+ghost use Rattle.step_memory.specs.Machine.{Always, IsProved};
 ghost use Rattle.step_memory.specs.RegisterState.{Registers};
 ghost use Rattle.step_memory.specs.Steps.{ReadsOrWrites};
 ghost use Rattle.step_memory.specs.declared.access.Answer.{Answer};
@@ -33,20 +33,14 @@ pub fn law_of_doors_and_walks()
     ensures low { (b k : ℕ) → IsDoorWithin b k → k < b * (b + 1) / 2 }
 {}
 
-/// A law, which runs nothing: a grid that no one has entered is after no call, each call takes a world after some calls
-/// to one after these and itself, and calls that a world may be after, and every front of them, keep the law of the grid.
-/// Each is refused exactly where those before it make it due. The places that were answered are those at which walks have
-/// ended. An access of a walk reads or writes a register, or reaches none. A list that tells somebody a second place keeps
-/// no law of the grid, nor is one that refuses whoever comes first refused where it is due.
+/// A law, which runs nothing: a grid is a machine whose calls lead on, whose lists of calls, with every prefix of them, keep the
+/// law of the grid, and each of whose calls is refused exactly where those before it make it due. The places that were
+/// answered are those at which walks have ended. An access of a walk reads or writes a register, or reaches none. A list that
+/// tells somebody a second place keeps no law of the grid, nor is one that refuses whoever comes first refused where it is due.
 pub fn law_of_grid_calls()
-    ensures fresh { (most : ℕ) → most ≤ 16 → After (fresh most) [] }
-    ensures begun { BeginLeadsOn }
-    ensures stepped { StepLeadsOn }
-    ensures law { (w : GridState) (r : List (Call (Option ℕ))) → After w r → KeepsGridLaw r }
-    ensures front { (w : GridState) (r t : List (Call (Option ℕ))) → After w (r ++ t) → KeepsGridLaw r }
-    ensures due { (w : GridState) → RefusesWhereDue w }
+    ensures machine { IsProved grid }
     ensures own { (u : Walker) → ReadsOrWrites (next_access u) }
     ensures one_place { TellsOnePlace }
     ensures not_refused { LetsTheFirstIn }
-    ensures places { (w : GridState) (r : List (Call (Option ℕ))) (id : ℕ) → After w r → place_in w id ≡ outcome_of id r }
+    ensures places { (w : GridState) (id : ℕ) → Always grid (λ most r. place_in w id ≡ outcome_of id r) w }
 {}

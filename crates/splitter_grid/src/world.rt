@@ -1,15 +1,16 @@
 //! A world whose participants walk through one grid.
 
-ghost use Rattle.std.specs.Prelude.{◌≡◌, ℕ, ◌+◌, ◌*◌, [], List, IfOk, IfErr, IsOk, OnErr, Err, ◌≤◌, ◌<◌, ◌⊎◌, ◌↔◌, Option};
+ghost use Rattle.std.specs.Prelude.{◌≡◌, ℕ, ◌+◌, ◌*◌, [], IfOk, IfErr, IsOk, OnErr, Err, ◌≤◌, ◌<◌, ◌⊎◌, ◌↔◌};
 ghost use Rattle.splitter_grid.specs.Laws.{StaysAlike};
 ghost use Rattle.splitter_grid.specs.Door.{IsDoorWithin};
 ghost use Rattle.splitter_grid.specs.Entered.{WasEntered, ShowsWhatWasEntered};
-ghost use Rattle.splitter_grid.specs.GridWorld.{After, GridState, IsLawful, LeadsOn, RefusesWhereDue, fresh, step_reply, world_after_step, place_in, entered_count};
+ghost use Rattle.splitter_grid.specs.Machine.{GridState, fresh, grid, step_reply, world_after_step, place_in, entered_count};
 ghost use Rattle.splitter_grid.specs.Walk.{walk_of, walker_steps};
-ghost use Rattle.step_memory.specs.Calls.{Call, outcome_of, begun_in};
+ghost use Rattle.step_memory.specs.Calls.{outcome_of, begun_in};
 ghost use Rattle.step_memory.specs.Calls.Call.{Began, Stepped};
 ghost use Rattle.step_memory.specs.declared.refusal.Refusal.{Refusal};
 ghost use Rattle.step_memory.specs.Locality.{IsLocal, LookAlike};
+ghost use Rattle.step_memory.specs.Machine.{After, Always, IsLawful, LeadsOn, RefusesWhereDue};
 ghost use Rattle.step_memory.specs.Registers.{memory_steps};
 ghost use Rattle.step_memory.specs.World.{after_begin, begin_refusal, done_unless};
 
@@ -28,7 +29,7 @@ pub struct GridWorld<A: Allocator> {
 
 impl<A: Allocator> Model for GridWorld<A> {
     ghost use Rattle.std.specs.Prelude.{◌≡◌, ◌≤◌};
-    ghost use Rattle.splitter_grid.specs.GridWorld.{GridState, doors_for};
+    ghost use Rattle.splitter_grid.specs.Machine.{GridState, doors_for};
 
     ghost Value = { GridState };
 
@@ -40,10 +41,11 @@ impl<A: Allocator> Model for GridWorld<A> {
 impl<A: Allocator + Clone> GridWorld<A> {
     /// A grid that no one has entered, for at most `most` participants, from 1 to 16; `OutOfRange` elsewhere. All the
     /// memory that its calls want is taken here.
+    #[tactic(auto, using(crate::proofs::GridTied::grid_contracts))]
     pub fn new(alloc: A, most: usize) -> Result<Self, Refusal>
         ensures fresh { IfOk result (λ w. w ≡ fresh most) }
-        ensures after { IfOk result (λ w. After w []) }
-        ensures law { IfOk result (λ w. IsLawful w) }
+        ensures after { IfOk result (λ w. After grid most w []) }
+        ensures law { IfOk result (λ w. IsLawful grid w) }
         ensures range { IsOk result → (1 ≤ most) × (most ≤ 16) }
         ensures out_of_range { result ≡ Err Refusal.OutOfRange ↔ ((most < 1) ⊎ (16 < most)) }
         ensures only { IfErr result (λ r. (r ≡ Refusal.NoMemory) ⊎ (r ≡ Refusal.OutOfRange)) }
@@ -69,21 +71,23 @@ impl<A: Allocator + Clone> GridWorld<A> {
 
     /// A participant begins: it stands before the door in the corner and has made no access. Refused where the identity
     /// is 0, then where it has begun, then where as many have begun as there may be.
+    #[tactic(auto, using(crate::proofs::GridTied::grid_contracts))]
     pub fn begin(&mut self, id: u64) -> Result<(), Refusal>
         ensures answer { result ≡ done_unless (begin_refusal self.old id) }
         ensures state { self.new ≡ after_begin self.old id (walk_of id) }
         ensures refused { OnErr result (self.new ≡ self.old) }
 
         // The law, over every list of calls and replies that the world may be after.
-        ensures after { LeadsOn self.old self.new (Began id result) }
-        ensures law { IsLawful self.new }
-        ensures due { RefusesWhereDue self.new }
+        ensures after { LeadsOn grid self.old self.new (Began id result) }
+        ensures law { IsLawful grid self.new }
+        ensures due { RefusesWhereDue grid self.new }
     {
         self.world.begin(id, Walker::new(id, Door::corner()))
     }
 
     /// One step of a walk, which is one access; the place, once the walk ends. Refused where the identity has not begun,
     /// then where its walk has ended.
+    #[tactic(auto, using(crate::proofs::GridTied::grid_contracts))]
     pub fn step(&mut self, id: u64) -> Result<Option<Place>, Refusal>
         ensures answer { result ≡ step_reply self.old id }
         ensures state { self.new ≡ world_after_step self.old id }
@@ -96,9 +100,9 @@ impl<A: Allocator + Clone> GridWorld<A> {
         ensures stands_alike { StaysAlike self.old self.new id }
 
         // The law, over every list of calls and replies that the world may be after.
-        ensures after { LeadsOn self.old self.new (Stepped id result) }
-        ensures law { IsLawful self.new }
-        ensures due { RefusesWhereDue self.new }
+        ensures after { LeadsOn grid self.old self.new (Stepped id result) }
+        ensures law { IsLawful grid self.new }
+        ensures due { RefusesWhereDue grid self.new }
     {
         match self.world.step(id)? {
             Note::Ended(place) => Ok(Some(place)),
@@ -109,7 +113,7 @@ impl<A: Allocator + Clone> GridWorld<A> {
     /// The place of a participant, once its walk has ended: the one that was answered.
     pub fn place_of(&self, id: u64) -> Option<Place>
         ensures value { result ≡ place_in self.now id }
-        ensures answered { (r : List (Call (Option ℕ))) → After self.now r → result ≡ outcome_of id r }
+        ensures answered { Always grid (λ most r. result ≡ outcome_of id r) self.now }
     {
         let Some(walker) = self.world.program(id) else {
             return None;
@@ -124,8 +128,8 @@ impl<A: Allocator + Clone> GridWorld<A> {
         // The law, over every list of calls and replies that the world may be after: the doors counted are those that
         // were entered, and all of them lie on the first diagonals, as many as participants have begun.
         ensures entered { ShowsWhatWasEntered self.now }
-        ensures within { (r : List (Call (Option ℕ))) → After self.now r → (k : ℕ) → WasEntered self.now.most r k → IsDoorWithin (begun_in r) k }
-        ensures few { (r : List (Call (Option ℕ))) → After self.now r → 2 * result ≤ begun_in r * (begun_in r + 1) }
+        ensures within { Always grid (λ most r. (k : ℕ) → WasEntered most r k → IsDoorWithin (begun_in r) k) self.now }
+        ensures few { Always grid (λ most r. 2 * result ≤ begun_in r * (begun_in r + 1)) self.now }
     {
         let memory = self.world.memory();
         let mut entered = 0;

@@ -39,14 +39,15 @@ use Rattle.splitter_tree.specs.Walk.{place_of, place_by, walker_note}
 use Rattle.splitter_tree.specs.Client.{client_of, client_steps, client_access, client_note, access_for, after_for, note_for, is_placing, is_idle, is_collecting, is_placed, place_told, view_told, storing, collecting, with_task, write_at, record_of, task_after, collected_note}
 use Rattle.splitter_tree.specs.Collect.{collect_after, collect_view}
 use Rattle.splitter_tree.specs.TreeWorld.{TreeState, asking_refusal, place_answer, after_store, after_collect_begin, view_answer, after_collecting, may_lack_memory}
-use Rattle.splitter_tree.specs.TreeCalls.{TreeCall, next, IsReply, IsAfter}
+use Rattle.splitter_tree.specs.Machine.{fresh_over}
+use Rattle.splitter_tree.specs.TreeCalls.{TreeCall, next, IsReply}
 use Rattle.splitter_tree.specs.TreeCalls.TreeCall.{Began as TreeBegan, Stepped as TreeStepped, Stored, CollectBegan, CollectStepped}
 use Rattle.splitter_tree.specs.PlacesLaw.{way_calls, walkers, KeepsPlacesLaw}
 use Rattle.splitter_tree.specs.TreeDue.{collects_after, collects_from, collects, has_place, asking_due, IsTreeRefusedAsDue, TreeRefusesAsDue}
 use Rattle.std.proofs.lemmas.Bool.{cases_Bool}
 use Rattle.splitter_tree.proofs.TreeCallLemmas.{absent_place, placed_place, going_place, absent_view, idle_view, going_view, most_kept}
 use Rattle.splitter_tree.proofs.CallCases.{stepped_by, step_cases, store_cases, collect_begin_cases, collect_step_cases}
-use Rattle.splitter_tree.proofs.nodes.PlacesTied.{IsTied, way_calls-more, call_kept, tied_new, all_go, placing_goes, put_twice, law_of_tied}
+use Rattle.splitter_tree.proofs.nodes.PlacesTied.{IsTied, way_calls-append, call_kept, tied_new, all_go, placing_goes, put_twice, law_of_tied}
 
 not_not : (a : Bool) → not (not a) ≡ a
 not_not true = refl
@@ -58,11 +59,11 @@ collects_from-push p before [] h = refl
 collects_from-push p before (k ∷ r) h = collects_from-push p (collects_after p before k) r h
 
 way_more : (most : ℕ) (r : List TreeCall) (h : TreeCall) → RefusesAsDue is_some most true (way_calls r) → IsTreeRefusedAsDue most r h → RefusesAsDue is_some most true (way_calls (r ++ h ∷ []))
-way_more most r (TreeBegan id reply) way is = rw (way_calls-more r (TreeBegan id reply)) (due_more is_some most true (way_calls r) (Began id reply) way is)
-way_more most r (TreeStepped id reply) way is = rw (way_calls-more r (TreeStepped id reply)) (due_more is_some most true (way_calls r) (Stepped id reply) way is)
-way_more most r (Stored id value reply) way is = rw (way_calls-more r (Stored id value reply), append-nil (way_calls r)) way
-way_more most r (CollectBegan id reply) way is = rw (way_calls-more r (CollectBegan id reply), append-nil (way_calls r)) way
-way_more most r (CollectStepped id reply) way is = rw (way_calls-more r (CollectStepped id reply), append-nil (way_calls r)) way
+way_more most r (TreeBegan id reply) way is = rw (way_calls-append r (TreeBegan id reply ∷ [])) (due_more is_some most true (way_calls r) (Began id reply) way is)
+way_more most r (TreeStepped id reply) way is = rw (way_calls-append r (TreeStepped id reply ∷ [])) (due_more is_some most true (way_calls r) (Stepped id reply) way is)
+way_more most r (Stored id value reply) way is = rw (way_calls-append r (Stored id value reply ∷ []), append-nil (way_calls r)) way
+way_more most r (CollectBegan id reply) way is = rw (way_calls-append r (CollectBegan id reply ∷ []), append-nil (way_calls r)) way
+way_more most r (CollectStepped id reply) way is = rw (way_calls-append r (CollectStepped id reply ∷ []), append-nil (way_calls r)) way
 
 tree_due_more : (most : ℕ) (r : List TreeCall) (h : TreeCall) → TreeRefusesAsDue most r → IsTreeRefusedAsDue most r h → TreeRefusesAsDue most (r ++ h ∷ [])
 tree_due_more most r h all one = λ before k rest e. elim (cut r h before k rest e) [
@@ -157,7 +158,7 @@ module _ {S : Type 0} (memory : MemorySteps S TreeRegister TreeValue) (tree : Is
         ∙ set_at-cases (λ q. participant_of q w.participants) id who (λ o. is_some o ≡ (has_begun p (way_calls r) || has_begun p (way_calls (h ∷ [])))) p
         (λ e. rw e one.begun)
         (λ n. t.begun p ∙ sym (ap (λ b. has_begun p (way_calls r) || b) (one.not_begun p n) ∙ or-false (has_begun p (way_calls r))))
-        ∙ sym (ap (has_begun p) (way_calls-more r h) ∙ has_begun-append p (way_calls r) (way_calls (h ∷ [])));
+        ∙ sym (ap (has_begun p) (way_calls-append r (h ∷ [])) ∙ has_begun-append p (way_calls r) (way_calls (h ∷ [])));
     collecting = λ p. ap collecting_in (one.stands p)
         ∙ set_at-cases (λ q. participant_of q w.participants) id who (λ o. collecting_in o ≡ collects_after p (collects p r) h) p
         (λ e. rw e one.collecting)
@@ -422,13 +423,11 @@ module _ {S : Type 0} (memory : MemorySteps S TreeRegister TreeValue) (tree : Is
     due = λ before h rest e. absurd (nothing_cut before h rest e);
   }
 
-  pub world_counted : (first : S) (w : TreeState S) (r : List TreeCall) → IsEmptyTree memory first → most ≤ 64 → w.most ≡ most → IsAfter memory first w r → IsCounted w r
-  world_counted first w r empty few same a =
-      run_keeps (next memory) (IsReply memory) IsCounted call_counted (record { memory = first; most = most; participants = [] }) [] r w (counted_new first empty few)
-      (subst (λ (n : ℕ). Run (next memory) (IsReply memory) (record { memory = first; most = n; participants = [] }) r w) same a)
+  pub world_counted : (first : S) (w : TreeState S) (r : List TreeCall) → IsEmptyTree memory first → most ≤ 64 → Run (next memory) (IsReply memory) (fresh_over memory (first, most)) r w → IsCounted w r
+  world_counted first w r empty few a = run_keeps (next memory) (IsReply memory) IsCounted call_counted (fresh_over memory (first, most)) [] r w (counted_new first empty few) a
 
   -- the law of the places
-  pub places_law : (first : S) (w : TreeState S) (r : List TreeCall) → IsEmptyTree memory first → most ≤ 64 → w.most ≡ most → IsAfter memory first w r → KeepsPlacesLaw r
-  places_law first w r empty few same a =
-      let t = world_counted first w r empty few same a in
+  pub places_law : (first : S) (w : TreeState S) (r : List TreeCall) → IsEmptyTree memory first → most ≤ 64 → Run (next memory) (IsReply memory) (fresh_over memory (first, most)) r w → KeepsPlacesLaw r
+  places_law first w r empty few a =
+      let t = world_counted first w r empty few a in
       law_of_tied memory tree w r t.tied (ends_once is_some most true (way_calls r) t.way)

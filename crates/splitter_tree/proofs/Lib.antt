@@ -3,10 +3,9 @@ pub mod nodes
 pub mod TreeMemoryLemmas
 mod CallCases
 mod TreeCallLemmas
-mod AfterLemmas
 mod StoreLemmas
 mod LocalStore
-mod LawsAfter
 mod DueTied
+mod TreeProved
 mod StandAlike
 mod OwnAccesses

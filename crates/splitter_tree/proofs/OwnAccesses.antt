@@ -1,5 +1,5 @@
 -- the accesses of a participant
-use Rattle.std.proofs.Common.{◌≡◌, ℕ, Bool, true, false, cond, List, Option, Some, None, refl, sym, ap, ◌∙◌}
+use Rattle.std.proofs.Common.{◌≡◌, ℕ, Bool, true, false, cond, Option, Some, None, refl, sym, ap, ◌∙◌}
 use Rattle.step_memory.specs.declared.access.Access.TheVariants.{Write}
 use Rattle.step_memory.specs.declared.participant.Participant.{Participant}
 use Rattle.step_memory.specs.declared.record.Record.{Record}
@@ -18,9 +18,10 @@ use Rattle.splitter_tree.specs.declared.client.Task.{Task}
 use Rattle.splitter_tree.specs.declared.client.Task.TheVariants.{Placing, Nothing, Storing, Collecting}
 use Rattle.splitter_tree.specs.Walk.{in_words, place_of, StandsAtNode}
 use Rattle.splitter_tree.specs.Client.{access_for, write_at, record_of}
-use Rattle.splitter_tree.specs.Run.{After, TreeWorldState}
-use Rattle.splitter_tree.specs.TreeCalls.{TreeCall}
-use Rattle.splitter_tree.proofs.LawsAfter.{tied}
+use Rattle.splitter_tree.specs.Machine.{TreeWorldState, tree}
+use Rattle.splitter_tree.specs.TreeSteps.{tree_steps}
+use Rattle.step_memory.specs.Machine.{Always}
+use Rattle.splitter_tree.proofs.TreeProved.{tied}
 
 own_words : (id : ℕ) (x y : TreeRegister) (s : Stage) → ReadsOrWrites (in_words (access_at id x y s))
 own_words id x y Outside = tt
@@ -70,7 +71,7 @@ own_segment c Nothing place value stands h = absurd (cc)
 own_segment c (Storing x) place value stands h = at_its_place (place_of c.walker) (record_of c x) place value h
 own_segment c (Collecting collect) place value stands h = absurd (cc)
 
-pub all_stand : (w : TreeWorldState) (r : List TreeCall) (p : ℕ) (v : Participant Client) → After w r → participant_of p w.participants ≡ Some v → StandsAtNode v.program.walker
-all_stand w r p v a here =
-    let walk = (tied w r a).consistent.agree.walks p v.program.walker (rw here refl) in
+pub all_stand : (w : TreeWorldState) (p : ℕ) (v : Participant Client) → participant_of p w.participants ≡ Some v → Always tree (λ first r. StandsAtNode v.program.walker) w
+all_stand w p v here first r a =
+    let walk = (tied tree_steps w first r a).consistent.agree.walks p v.program.walker (rw here refl) in
     record { x = walk.x; y = walk.y }

@@ -1,19 +1,21 @@
 -- the calls of a tree's world
-use Rattle.std.proofs.Common.{◌≡◌, ◌≢◌, ℕ, Bool, true, false, cond, List, [], ◌∷◌, ◌++◌, Option, Some, None, Result, Ok, Err, inl, inr, refl, sym, ap, ◌∙◌}
+use Rattle.std.proofs.Common.{◌≡◌, ◌≢◌, ℕ, Bool, true, false, cond, Option, Some, None, Result, Ok, Err, inl, inr, refl, sym, ap, ◌∙◌}
 use Rattle.step_memory.specs.declared.refusal.Refusal.{Refusal}
 use Rattle.step_memory.specs.declared.refusal.Refusal.TheVariants.{AlreadyBegun, NotBegun, Finished, NoMemory}
 use Rattle.step_memory.specs.Participant.{participant_of, program_of}
 use Rattle.step_memory.specs.Steps.{MemorySteps}
 use Rattle.step_memory.specs.World.{begin_refusal, begun_unless, done_unless, set_answer, set_answer_by, after_set, step_answer, after_step}
 use Rattle.step_memory.specs.Calls.{lacked_memory, reply_of}
-use Rattle.step_memory.proofs.RunLemmas.{run_more}
+use Rattle.step_memory.specs.Machine.{LeadsOn}
+use Rattle.step_memory.proofs.MachineLemmas.{call_leads_on}
 use Rattle.step_memory.proofs.StepLemmas.{most_stepped, lacks_none, lacks_or_not}
 use Rattle.splitter_tree.specs.declared.register.TreeRegister.{TreeRegister}
 use Rattle.splitter_tree.specs.declared.register.TreeValue.{TreeValue}
 use Rattle.splitter_tree.specs.declared.client.Client.{Client}
 use Rattle.splitter_tree.specs.Client.{client_of, client_steps, is_placing, is_idle, is_collecting, storing, collecting, place_told, view_told}
 use Rattle.splitter_tree.specs.TreeWorld.{TreeState, asking_refusal, place_answer, place_answer_by, after_placing, after_placing_by, may_lack_memory, after_store, after_store_by, after_collect_begin, after_collect_begin_by, view_answer, after_collecting, after_collecting_by}
-use Rattle.splitter_tree.specs.TreeCalls.{TreeCall, next, IsReply, IsAfter}
+use Rattle.splitter_tree.specs.Machine.{tree_over}
+use Rattle.splitter_tree.specs.TreeCalls.{TreeCall, next}
 use Rattle.splitter_tree.specs.TreeCalls.TreeCall.{Began, Stepped, Stored, CollectBegan, CollectStepped}
 
 -- what a call answers and leaves, where it is refused for this reason or for none
@@ -65,33 +67,22 @@ module _ {S : Type 0} (memory : MemorySteps S TreeRegister TreeValue) where
   most_kept w (CollectBegan id reply) = most_collect w id (program_of id w.participants)
   most_kept w (CollectStepped id reply) = most_collecting w id (program_of id w.participants)
 
-  -- one more call
-  pub after_call : (first : S) (w new : TreeState S) (r : List TreeCall) (h : TreeCall) → new ≡ next memory w h → IsReply memory w h → IsAfter memory first w r → IsAfter memory first new (r ++ h ∷ [])
-  after_call first w new r h e is a = rw (e, most_kept w h) (run_more (next memory) (IsReply memory) (record { memory = first; most = w.most; participants = [] }) r w h a is)
-
   lacks_no_place : (w : TreeState S) (id : ℕ) (o : Option Client) → lacked_memory (place_answer_by memory w id o) ≡ false
   lacks_no_place w id None = refl
   lacks_no_place w id (Some c) = elim (is_placing c.task) as (λ b. lacked_memory (cond b (reply_of place_told (step_answer client_steps memory w id)) (Err Finished)) ≡ false) [ true ↦ lacks_none client_steps memory place_told w id | false ↦ refl ]
 
   -- one more step on the way to a place, for which a growth was refused or not
-  pub after_step_call : (first : S) (w new : TreeState S) (r : List TreeCall) (id : ℕ) (reply : Result (Option ℕ) Refusal) →
+  pub placing_leads_on : (w new : TreeState S) (id : ℕ) (reply : Result (Option ℕ) Refusal) →
       (reply ≢ Err NoMemory → new ≡ after_placing memory w id) → (reply ≢ Err NoMemory → reply ≡ place_answer memory w id) →
-      (reply ≡ Err NoMemory → (new ≡ w) × (may_lack_memory memory w id ≡ true)) →
-      IsAfter memory first w r → IsAfter memory first new (r ++ Stepped id reply ∷ [])
-  after_step_call first w new r id reply e is lack a = elim (lacks_or_not reply) [
+      (reply ≡ Err NoMemory → (new ≡ w) × (may_lack_memory memory w id ≡ true)) → LeadsOn (tree_over memory) w new (Stepped id reply)
+  placing_leads_on w new id reply e is lack = elim (lacks_or_not reply) [
     | inr goes ↦
         let fine : lacked_memory reply ≡ false = ap lacked_memory (is goes) ∙ lacks_no_place w id (program_of id w.participants) in
-        after_call first w new r (Stepped id reply) (e goes ∙ rw fine refl) (inl (is goes)) a
+        call_leads_on (tree_over memory) w new (Stepped id reply) (e goes ∙ rw fine refl) (inl (is goes))
     | inl h ↦
         let refused = lack h in
         let lacked : lacked_memory reply ≡ true = rw h refl in
-        after_call first w new r (Stepped id reply) (refused.0 ∙ rw lacked refl) (inr (h, refused.1)) a
-  ]
-
-  pub most_of_after : (w new : TreeState S) (id : ℕ) (reply : Result (Option ℕ) Refusal) → (reply ≢ Err NoMemory → new ≡ after_placing memory w id) → (reply ≡ Err NoMemory → new ≡ w) → new.most ≡ w.most
-  most_of_after w new id reply e kept = elim (lacks_or_not reply) [
-    | inr goes ↦ ap (λ v. v.most) (e goes) ∙ most_placing w id (program_of id w.participants)
-    | inl h ↦ ap (λ v. v.most) (kept h)
+        call_leads_on (tree_over memory) w new (Stepped id reply) (refused.0 ∙ rw lacked refl) (inr (h, refused.1))
   ]
 
   pub absent_place : (w : TreeState S) (id : ℕ) → None ≡ program_of id w.participants → (Err NotBegun ≡ place_answer memory w id) × (w ≡ after_placing memory w id)

@@ -2,18 +2,19 @@
 use Rattle.step_memory.specs.declared.refusal.Refusal.{Refusal}
 use Rattle.splitter_tree.specs.TreeSteps.{tree_steps}
 use Rattle.step_memory.specs.Locality.{LookAlike, StandAlike}
-use Rattle.std.specs.Prelude.{◌≡◌, ◌≢◌, ℕ, ◌+◌, ◌*◌, ◌≤◌, ◌<◌, true, ◌⊎◌, ◌↔◌, Option, Some, None, ◌-◌, Bool, false, if◌then◌else◌, List, not, is_some, length, [], ◌∷◌, ◌++◌, Ok, Err, Result}
+use Rattle.std.specs.Prelude.{◌≡◌, ◌≢◌, ℕ, ◌+◌, ◌*◌, ◌≤◌, ◌<◌, true, ◌⊎◌, ◌↔◌, Option, Some, None, ◌-◌, Bool, false, if◌then◌else◌, List, not, is_some, length, ◌∷◌, ◌++◌, Ok, Err, Result}
 use Rattle.splitter_tree.specs.Ahead.{HasGrown, HasRead, marked_in, IsAhead, IsUpcoming, Sees}
 use Rattle.splitter_tree.specs.Client.{is_placing, client_access, client_steps}
-use Rattle.splitter_tree.specs.CollectLaw.{Allows, CollectObject, KeepsCollectLaw, new_object, observed}
+use Rattle.splitter_tree.specs.CollectLaw.{Allows, CollectObject, new_object, observed}
 use Rattle.splitter_tree.specs.CollectWalk.{first_walk, place_read, finds_mark, walk_resumed, walk_is_over}
-use Rattle.splitter_tree.specs.Consistent.{IsConsistent, IsTree, accesses_of}
+use Rattle.splitter_tree.specs.Invariant.{IsConsistent, IsTree, accesses_of}
 use Rattle.step_memory.specs.Count.{count_to}
 use Rattle.splitter_tree.specs.Depth.{IsNodeWithin}
 use Rattle.splitter_tree.specs.Made.{WasMade}
 use Rattle.splitter_tree.specs.PlacesLaw.{way_calls, KeepsPlacesLaw, walkers}
-use Rattle.splitter_tree.specs.Run.{After, TreeWorldState}
-use Rattle.splitter_tree.specs.TreeCalls.{TreeCall, IsAfter, IsReply, next}
+use Rattle.splitter_tree.specs.Machine.{TreeWorldState, tree, tree_over}
+use Rattle.step_memory.specs.Machine.{Always, IsProved}
+use Rattle.splitter_tree.specs.TreeCalls.{TreeCall}
 use Rattle.splitter_tree.specs.TreeCalls.TreeCall.{Began, Stepped}
 use Rattle.splitter_tree.specs.TreeDue.{TreeRefusesAsDue}
 use Rattle.splitter_tree.specs.TreeMemory.{IsTreeMemory, IsEmptyTree, mark_at, x_at, y_at, segment_at}
@@ -60,10 +61,6 @@ AgreesAfterAccess S =
 -- the segment that a walk reads next is upcoming
 abbrev pub IsUpcomingWhenRead : Type 0
 IsUpcomingWhenRead = (marked : ℕ → Bool) (w : CollectWalk) (nodes reads q : ℕ) → HasRead marked w nodes reads → place_read w ≡ Some q → IsUpcoming w q
-
--- a call that gets a right reply leads on
-abbrev pub CallLeadsOn : Type 0
-CallLeadsOn = (w : TreeWorldState) (r : List TreeCall) (h : TreeCall) → IsReply tree_steps w h → After w r → After (next tree_steps w h) (r ++ h ∷ [])
 
 -- the first to begin is not refused
 abbrev pub LetsTheFirstIn : Type 0
@@ -166,76 +163,58 @@ WriteAddsMarks S =
     (memory : MemorySteps S TreeRegister TreeValue) (s : S) (k : ℕ) (segment : Option Record) → IsTreeMemory memory →
     HasGrown (marked_in memory s) (marked_in memory (memory.after s (Write (Contents k) (Held segment))))
 
--- the calls of a tree keep the law of collects
-abbrev pub CollectsAreLawful : (S : Type 0) → Type 0
-CollectsAreLawful S =
-    (memory : MemorySteps S TreeRegister TreeValue) (first : S) (w : TreeState S) (r : List TreeCall) → IsTreeMemory memory →
-    IsEmptyTree memory first → w.most ≤ 64 → IsAfter memory first w r → KeepsCollectLaw r
+-- the world over any memory that is a tree is proved
+abbrev pub TreesAreProved : (S : Type 0) → Type 0
+TreesAreProved S = (memory : MemorySteps S TreeRegister TreeValue) → IsProved (tree_over memory)
 
 -- a collect under way has read as its steps say
 abbrev pub CollectHasRead : (S : Type 0) → Type 0
 CollectHasRead S =
-    (memory : MemorySteps S TreeRegister TreeValue) (first : S) (w : TreeState S) (r : List TreeCall) (o : CollectObject) (p : ℕ) (v : Participant Client) (c : Collect) →
-    IsTreeMemory memory → IsEmptyTree memory first → w.most ≤ 64 → IsAfter memory first w r → Run observed Allows new_object r o →
+    (memory : MemorySteps S TreeRegister TreeValue) (w : TreeState S) (o : CollectObject) (p : ℕ) (v : Participant Client) (c : Collect) →
     participant_of p w.participants ≡ Some v → v.program.task ≡ Collecting c →
-    (nodes : ℕ) × HasRead (marked_in memory w.memory) c.walk nodes (o.steps p) × (o.steps p + 1 ≤ 3 * nodes + 1)
+    Always (tree_over memory) (λ first r. Run observed Allows new_object r o → (nodes : ℕ) × HasRead (marked_in memory w.memory) c.walk nodes (o.steps p) × (o.steps p + 1 ≤ 3 * nodes + 1)) w
 
--- the calls of a tree keep the law of places
-abbrev pub PlacesAreLawful : (S : Type 0) → Type 0
-PlacesAreLawful S =
-    (memory : MemorySteps S TreeRegister TreeValue) (first : S) (w : TreeState S) (r : List TreeCall) → IsTreeMemory memory →
-    IsEmptyTree memory first → w.most ≤ 64 → IsAfter memory first w r → KeepsPlacesLaw r
-
--- nodes and walks agree after them
+-- nodes and walks agree
 abbrev pub NodesAgreeWithWalks : (S : Type 0) → Type 0
 NodesAgreeWithWalks S =
-    (memory : MemorySteps S TreeRegister TreeValue) (first : S) (w : TreeState S) (r : List TreeCall) → IsTreeMemory memory →
-    IsEmptyTree memory first → w.most ≤ 64 → IsAfter memory first w r →
-    IsConsistent memory w.most (length w.participants) w.memory (walkers w.participants)
+    (memory : MemorySteps S TreeRegister TreeValue) (w : TreeState S) →
+    Always (tree_over memory) (λ first r. IsConsistent memory w.most (length w.participants) w.memory (walkers w.participants)) w
 
 -- the nodes are a tree for as many as have begun
 abbrev pub NodesAreTree : (S : Type 0) → Type 0
 NodesAreTree S =
-    (memory : MemorySteps S TreeRegister TreeValue) (first : S) (w : TreeState S) (r : List TreeCall) → IsTreeMemory memory →
-    IsEmptyTree memory first → w.most ≤ 64 → IsAfter memory first w r → IsTree memory (begun_in (way_calls r)) w.memory (walkers w.participants)
+    (memory : MemorySteps S TreeRegister TreeValue) (w : TreeState S) →
+    Always (tree_over memory) (λ first r. IsTree memory (begun_in (way_calls r)) w.memory (walkers w.participants)) w
 
 -- who has a place was told it
 abbrev pub PlacesAreTold : (S : Type 0) → Type 0
 PlacesAreTold S =
-    (memory : MemorySteps S TreeRegister TreeValue) (first : S) (w : TreeState S) (r : List TreeCall) (p : ℕ) → IsTreeMemory memory →
-    IsEmptyTree memory first → w.most ≤ 64 → IsAfter memory first w r → place_by (walkers w.participants p) ≡ outcome_of p (way_calls r)
+    (memory : MemorySteps S TreeRegister TreeValue) (w : TreeState S) (p : ℕ) →
+    Always (tree_over memory) (λ first r. place_by (walkers w.participants p) ≡ outcome_of p (way_calls r)) w
 
 -- who has no place is on its way
 abbrev pub IsOnTheWay : (S : Type 0) → Type 0
 IsOnTheWay S =
-    (memory : MemorySteps S TreeRegister TreeValue) (first : S) (w : TreeState S) (r : List TreeCall) (p : ℕ) (v : Participant Client) →
-    IsTreeMemory memory → IsEmptyTree memory first → w.most ≤ 64 → IsAfter memory first w r → participant_of p w.participants ≡ Some v →
-    is_placing v.program.task ≡ not (is_some (place_of v.program.walker))
+    (memory : MemorySteps S TreeRegister TreeValue) (w : TreeState S) (p : ℕ) (v : Participant Client) → participant_of p w.participants ≡ Some v →
+    Always (tree_over memory) (λ first r. is_placing v.program.task ≡ not (is_some (place_of v.program.walker))) w
 
 -- a client of a tree never ends
 abbrev pub NeverEnds : (S : Type 0) → Type 0
 NeverEnds S =
-    (memory : MemorySteps S TreeRegister TreeValue) (first : S) (w : TreeState S) (r : List TreeCall) (p : ℕ) (v : Participant Client) →
-    IsTreeMemory memory → IsEmptyTree memory first → w.most ≤ 64 → IsAfter memory first w r → participant_of p w.participants ≡ Some v →
-    v.ended ≡ false
-
--- each call is refused exactly where that is due
-abbrev pub RefusalsAreDue : (S : Type 0) → Type 0
-RefusalsAreDue S =
-    (memory : MemorySteps S TreeRegister TreeValue) (first : S) (w : TreeState S) (r : List TreeCall) → IsTreeMemory memory →
-    IsEmptyTree memory first → w.most ≤ 64 → IsAfter memory first w r → TreeRefusesAsDue w.most r
+    (memory : MemorySteps S TreeRegister TreeValue) (w : TreeState S) (p : ℕ) (v : Participant Client) → participant_of p w.participants ≡ Some v →
+    Always (tree_over memory) (λ first r. v.ended ≡ false) w
 
 -- a node is marked exactly where a call has made it
 abbrev pub MarksWhatWasMade : (S : Type 0) → Type 0
 MarksWhatWasMade S =
-    (memory : MemorySteps S TreeRegister TreeValue) (first : S) (w : TreeState S) (r : List TreeCall) (k : ℕ) → IsTreeMemory memory →
-    IsEmptyTree memory first → w.most ≤ 64 → IsAfter memory first w r → (mark_at memory w.memory k ≡ 1) ↔ WasMade memory first w.most r k
+    (memory : MemorySteps S TreeRegister TreeValue) (w : TreeState S) (k : ℕ) →
+    Always (tree_over memory) (λ first r. (mark_at memory w.memory k ≡ 1) ↔ WasMade memory first.0 first.1 r k) w
 
 -- nodes are made within the bound of as many as have begun
 abbrev pub MakesNodesWithin : (S : Type 0) → Type 0
 MakesNodesWithin S =
-    (memory : MemorySteps S TreeRegister TreeValue) (first : S) (w : TreeState S) (r : List TreeCall) (k : ℕ) → IsTreeMemory memory →
-    IsEmptyTree memory first → w.most ≤ 64 → IsAfter memory first w r → WasMade memory first w.most r k → IsNodeWithin (begun_in (way_calls r)) k
+    (memory : MemorySteps S TreeRegister TreeValue) (w : TreeState S) (k : ℕ) →
+    Always (tree_over memory) (λ first r. WasMade memory first.0 first.1 r k → IsNodeWithin (begun_in (way_calls r)) k) w
 
 -- nobody is told a second place
 abbrev pub TellsOnePlace : Type 0
@@ -252,8 +231,8 @@ WritesOwnSegment =
 -- after every list of calls each walk stands at its node
 abbrev pub StandsAtItsNode : Type 0
 StandsAtItsNode =
-    (w : TreeWorldState) (r : List TreeCall) (p : ℕ) (v : Participant Client) → After w r → participant_of p w.participants ≡ Some v →
-    StandsAtNode v.program.walker
+    (w : TreeWorldState) (p : ℕ) (v : Participant Client) → participant_of p w.participants ≡ Some v →
+    Always tree (λ first r. StandsAtNode v.program.walker) w
 
 -- what a step to a place answers is answered in each world that looks alike to the client
 abbrev pub AnswersPlaceAlike : TreeWorldState → ℕ → Result (Option ℕ) Refusal → Type 0

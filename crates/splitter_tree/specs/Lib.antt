@@ -3,7 +3,7 @@ pub mod Depth
 pub mod NodeOrder
 pub mod TreeMemory
 pub mod Walk
-pub mod Consistent
+pub mod Invariant
 pub mod CollectWalk
 pub mod Collect
 pub mod Ahead
@@ -13,7 +13,7 @@ pub mod Nodes
 pub mod TreeProofs
 pub mod TreeWorld
 pub mod TreeCalls
-pub mod Run
+pub mod Machine
 pub mod PlacesLaw
 pub mod TreeDue
 pub mod CollectLaw

@@ -1,11 +1,10 @@
 -- the calls of a tree's world with their replies, and the machine that they run on
-use Rattle.std.specs.Prelude.{◌≡◌, ℕ, true, ◌⊎◌, List, [], Option, Result, Err, if◌then◌else◌}
+use Rattle.std.specs.Prelude.{◌≡◌, ℕ, true, ◌⊎◌, List, Option, Result, Err, if◌then◌else◌}
 use Rattle.step_memory.specs.declared.refusal.Refusal.{Refusal}
 use Rattle.step_memory.specs.declared.refusal.Refusal.TheVariants.{NoMemory}
 use Rattle.step_memory.specs.Steps.{MemorySteps}
 use Rattle.step_memory.specs.World.{begin_refusal, done_unless}
 use Rattle.step_memory.specs.Calls.{lacked_memory}
-use Rattle.step_memory.specs.Runs.{Run}
 use Rattle.splitter_tree.specs.declared.register.TreeRegister.{TreeRegister}
 use Rattle.splitter_tree.specs.declared.register.TreeValue.{TreeValue}
 use Rattle.splitter_tree.specs.TreeWorld.{TreeState, after_tree_begin, asking_refusal, place_answer, after_placing, may_lack_memory, after_store, after_collect_begin, view_answer, after_collecting}
@@ -34,7 +33,3 @@ module _ {S : Type 0} (memory : MemorySteps S TreeRegister TreeValue) where
   IsReply w (Stored id value reply) = reply ≡ done_unless (asking_refusal w id)
   IsReply w (CollectBegan id reply) = reply ≡ done_unless (asking_refusal w id)
   IsReply w (CollectStepped id reply) = reply ≡ view_answer memory w id
-
-  -- the world is after these calls with these replies, from a fresh one over this memory
-  abbrev pub IsAfter : S → TreeState S → List TreeCall → Type 0
-  IsAfter first w r = Run next IsReply (record { memory = first; most = w.most; participants = [] }) r w

@@ -1,12 +1,12 @@
 //! Laws of the tree, which run nothing: of its registers and the walks alone, of collects, and of the calls of its world.
 
-ghost use Rattle.std.specs.Prelude.{◌≡◌, ℕ, ◌+◌, ◌*◌, ◌≤◌, Some, Bool, List, [], ◌++◌};
-ghost use Rattle.splitter_tree.specs.Laws.{IsUpcomingWhenRead, CallLeadsOn, LetsTheFirstIn, AgreesWhenEmpty, AgreesWithBeginner, AgreesAfterAccess, AgreesElsewhere, WalksKeepTreeLaw, ComesNearer, HasAccessesLeft, EndsAtPlace, WalkKeepsSegments, WalkMarksItsNode, RefusedAtNewNode, ReadsWhatIsAhead, KeepsReads, CountsOneRead, FindsFewNodes, PlacesAreAhead, ReadsFew, WalkAddsMarks, WriteAddsMarks, CollectsAreLawful, CollectHasRead, PlacesAreLawful, NodesAgreeWithWalks, NodesAreTree, PlacesAreTold, IsOnTheWay, NeverEnds, RefusalsAreDue, MarksWhatWasMade, MakesNodesWithin, TellsOnePlace, WritesOwnSegment, StandsAtItsNode};
+ghost use Rattle.std.specs.Prelude.{◌≡◌, ℕ, ◌+◌, ◌*◌, ◌≤◌, Some, Bool, []};
+ghost use Rattle.splitter_tree.specs.Laws.{IsUpcomingWhenRead, LetsTheFirstIn, AgreesWhenEmpty, AgreesWithBeginner, AgreesAfterAccess, AgreesElsewhere, WalksKeepTreeLaw, ComesNearer, HasAccessesLeft, EndsAtPlace, WalkKeepsSegments, WalkMarksItsNode, RefusedAtNewNode, ReadsWhatIsAhead, KeepsReads, CountsOneRead, FindsFewNodes, PlacesAreAhead, ReadsFew, WalkAddsMarks, WriteAddsMarks, TreesAreProved, CollectHasRead, NodesAgreeWithWalks, NodesAreTree, PlacesAreTold, IsOnTheWay, NeverEnds, MarksWhatWasMade, MakesNodesWithin, TellsOnePlace, WritesOwnSegment, StandsAtItsNode};
 ghost use Rattle.splitter_tree.specs.Ahead.{HasGrown, HasRead, marked_in, found_by, IsAhead, IsPathMarked, IsUpcoming, Sees};
 ghost use Rattle.splitter_tree.specs.Client.{client_access};
 ghost use Rattle.splitter_tree.specs.CollectWalk.{first_walk, register_read, place_read, walk_resumed};
-ghost use Rattle.splitter_tree.specs.Run.{After, IsLawful, KeepsTreeCallsLaw, RefusesWhereDue, TreeWorldState};
-ghost use Rattle.splitter_tree.specs.TreeCalls.{TreeCall};
+ghost use Rattle.splitter_tree.specs.Machine.{fresh_over, tree};
+ghost use Rattle.step_memory.specs.Machine.{After, IsProved};
 ghost use Rattle.splitter_tree.specs.TreeMemory.{IsTreeMemory, IsEmptyTree};
 ghost use Rattle.splitter_tree.specs.TreeSteps.{empty_tree, tree_steps};
 ghost use Rattle.splitter_tree.specs.declared.client.Client.{Client};
@@ -78,42 +78,37 @@ pub fn law_of_collects_at_places<S>()
     ensures written { WriteAddsMarks S }
 {}
 
-/// A law, which runs nothing: over any memory that is a tree, the calls that its world may be after, with their replies,
-/// keep the law of collects. A view shows what each had stored last at some moment of the collect, and whoever had stored
-/// before it began; and where b have begun, a collect takes at most 6b - 2 steps. One that is under way, and has found
-/// `nodes` nodes marked, comes with its next step to at most `3 nodes + 1` of them.
+/// A law, which runs nothing, of a collect that is under way over any memory that is a tree: where it has found `nodes`
+/// nodes marked, it comes with its next step to at most `3 nodes + 1` of them.
 pub fn law_of_collect_calls<S>()
-    ensures law { CollectsAreLawful S }
-    ensures reads { CollectHasRead S }
+    ensures { CollectHasRead S }
 {}
 
-/// A law, which runs nothing, of every world of a tree of no nodes after any calls: the calls keep the law of the places;
-/// nodes and walks are consistent, so the law of the tree holds of them; the places that were answered are those at which
-/// walks have ended; a participant is on its way just while it has no place, and never ends; each call is refused
-/// exactly where those before it make it due; and just the nodes are marked that were made,
-/// all of depths below the number of those who have begun.
+/// A law, which runs nothing: the world over any memory that is a tree is a machine whose calls lead on, whose lists of
+/// calls, with every prefix of them, keep the law of the places and that of collects, and each of whose calls is refused
+/// exactly where those before it make it due. A view shows what each had stored last at some moment of the collect, and
+/// whoever had stored before it began; and where b have begun, a collect takes at most 6b - 2 steps. After every list of
+/// calls nodes and walks are consistent, so the law of the tree holds of them; the places that were answered are those at
+/// which walks have ended; a participant is on its way just while it has no place, and never ends; and just the nodes are
+/// marked that were made, all of depths below the number of those who have begun.
 pub fn law_of_places<S>()
-    ensures law { PlacesAreLawful S }
+    ensures machine { TreesAreProved S }
     ensures consistent { NodesAgreeWithWalks S }
     ensures tree { NodesAreTree S }
     ensures places { PlacesAreTold S }
     ensures on_the_way { IsOnTheWay S }
     ensures never_ends { NeverEnds S }
-    ensures due { RefusalsAreDue S }
     ensures made { MarksWhatWasMade S }
     ensures made_within { MakesNodesWithin S }
 {}
 
-/// A law, which runs nothing: a tree of no nodes is after no call, each call takes a world after some calls to one after
-/// these and itself, and calls that a world may be after, and every front of them, keep the law. Each is refused exactly
-/// where those before it make it due. A list that tells somebody a second place keeps no law of the places, and one that
-/// refuses whoever comes first is refused where nothing is due.
+/// A law, which runs nothing: a tree is a machine whose calls lead on, whose lists of calls, with every prefix of them, keep
+/// the law, and each of whose calls is refused exactly where those before it make it due; it may start with no node and with
+/// room for at most 64. A list that tells somebody a second place keeps no law of the places, and one that refuses whoever
+/// comes first is refused where nothing is due.
 pub fn law_of_tree_calls()
-    ensures fresh { (most : ℕ) → most ≤ 64 → After (record { memory = empty_tree; most = most; participants = [] }) [] }
-    ensures next { CallLeadsOn }
-    ensures law { (w : TreeWorldState) → IsLawful w }
-    ensures front { (w : TreeWorldState) (r t : List TreeCall) → After w (r ++ t) → KeepsTreeCallsLaw r }
-    ensures due { (w : TreeWorldState) → RefusesWhereDue w }
+    ensures fresh { (most : ℕ) → most ≤ 64 → After tree (empty_tree, most) (fresh_over tree_steps (empty_tree, most)) [] }
+    ensures machine { IsProved tree }
     ensures one_place { TellsOnePlace }
     ensures not_refused { LetsTheFirstIn }
 {}

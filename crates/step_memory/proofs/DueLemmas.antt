@@ -17,7 +17,7 @@ use Rattle.step_memory.specs.Registers.{memory_steps}
 use Rattle.step_memory.specs.SetAt.{set_at}
 use Rattle.step_memory.specs.Participant.{participant_of, with_participant, beginner}
 use Rattle.step_memory.specs.World.{begin_refusal, begun_unless, done_unless, after_step, after_step_by, step_answer, step_answer_by, may_refuse_by, may_refuse_step, got_by}
-use Rattle.step_memory.specs.Calls.{Call, next, IsReply, IsAfter, begun_in, begun_by, outcome_of, outcome_by, first_of, outcome_in, reply_of, lacked_memory}
+use Rattle.step_memory.specs.Calls.{Call, next, IsReply, begun_in, begun_by, outcome_of, outcome_by, first_of, outcome_in, reply_of, lacked_memory}
 use Rattle.step_memory.specs.Calls.Call.{Began, Stepped}
 use Rattle.step_memory.specs.Runs.{Run}
 use Rattle.step_memory.specs.Due.{begins, has_begun, ends_by, has_ended, begin_due, step_due, IsRefusedAsDue, RefusesAsDue, EndsOnce, TellsTheEnd, GrowsOnly}
@@ -221,10 +221,9 @@ module _ {P S R V O X : Type 0} (program : ProgramSteps P R V O) (memory : Memor
     due = λ before h rest e. absurd (nothing_cut before h rest e);
   }
 
-  pub world_counted : (first : S) (w : WorldState S P) (r : List (Call X)) → w.most ≡ most → IsAfter program memory shown start first w r → IsCounted w r
-  world_counted first w r same a =
-      run_keeps (next program memory shown start) (IsReply program memory shown start) IsCounted next_counted (record { memory = first; most = most; participants = [] }) [] r w (counted_new first)
-      (subst (λ (n : ℕ). Run (next program memory shown start) (IsReply program memory shown start) (record { memory = first; most = n; participants = [] }) r w) same a)
+  pub world_counted : (first : S) (w : WorldState S P) (r : List (Call X)) → Run (next program memory shown start) (IsReply program memory shown start) (record { memory = first; most = most; participants = [] }) r w → IsCounted w r
+  world_counted first w r a =
+      run_keeps (next program memory shown start) (IsReply program memory shown start) IsCounted next_counted (record { memory = first; most = most; participants = [] }) [] r w (counted_new first) a
 
 -- as many have begun as there are participants
 module _ {P S R V O X : Type 0} (program : ProgramSteps P R V O) (memory : MemorySteps S R V) (shown : Note O → X) (start : ℕ → P) where
@@ -241,8 +240,8 @@ module _ {P S R V O X : Type 0} (program : ProgramSteps P R V O) (memory : Memor
         ∙ sym (length-with_participant w.participants (moved program memory shown start w.memory v));
   }
 
-  pub many_begun : (first : S) (w : WorldState S P) (r : List (Call X)) → IsAfter program memory shown start first w r → begun_in r ≡ length w.participants
-  many_begun first w r a = world_keeps program memory shown start HasAsMany many_kept first w r refl a
+  pub many_begun : (first : S) (most : ℕ) (w : WorldState S P) (r : List (Call X)) → Run (next program memory shown start) (IsReply program memory shown start) (record { memory = first; most = most; participants = [] }) r w → begun_in r ≡ length w.participants
+  many_begun first most w r a = world_keeps program memory shown start HasAsMany many_kept (record { memory = first; most = most; participants = [] }) refl w r a
 
 -- what is answered where a program ends with its outcome tells the end
 pub outcomes_tell : {O : Type 0} → TellsTheEnd {O = O} outcome_in is_some

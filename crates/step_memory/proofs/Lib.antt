@@ -7,7 +7,9 @@ pub mod ParticipantLemmas
 pub mod StepLemmas
 pub mod LocalityLemmas
 pub mod RunLemmas
+pub mod MachineLemmas
 pub mod WorldKeeps
 pub mod ToldLemmas
 pub mod DueLemmas
+pub mod WorldMachineLemmas
 pub mod ViewLemmas

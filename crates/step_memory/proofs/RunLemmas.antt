@@ -1,8 +1,7 @@
 -- runs, one call after another
 use Rattle.std.proofs.Common.{◌≡◌, ◌↔◌, ◌⊎◌, inl, inr, List, [], ◌∷◌, ◌++◌, refl, sym, ap, subst, ◌∙◌, append_assoc}
 use Rattle.std.proofs.lemmas.List.{append-nil}
-use Rattle.step_memory.specs.Runs.{Run, HappensFrom}
-use Rattle.step_memory.specs.Replay.{replay_from}
+use Rattle.step_memory.specs.Runs.{Run, HappensFrom, AnswersAsDue, replay_from}
 
 module _ {S H : Type 0} (next : S → H → S) (Right : S → H → Type 0) where
   -- a run goes on by one call
@@ -37,6 +36,12 @@ module _ {S H : Type 0} (next : S → H → S) (Right : S → H → Type 0) wher
   pub run_splits : (s : S) (r t : List H) (end : S) → Run next Right s (r ++ t) end → (mid : S) × Run next Right s r mid × Run next Right mid t end
   run_splits s [] t end e = (s, refl, e)
   run_splits s (h ∷ r) t end e = let rest = run_splits (next s h) r t end e.1 in (rest.0, (e.0, rest.1), rest.2)
+
+  -- so each call gets a right reply after those before it
+  pub run_answers : (s : S) (r : List H) (end : S) → Run next Right s r end → AnswersAsDue next Right s r
+  run_answers s r end run before h rest e =
+      let cut = run_splits s before (h ∷ rest) end (subst (λ (xs : List H). Run next Right s xs end) e run) in
+      (cut.0, cut.1, cut.2.0)
 
   -- it ends where the list leads
   pub run_replays : (s : S) (r : List H) (end : S) → Run next Right s r end → end ≡ replay_from next s r

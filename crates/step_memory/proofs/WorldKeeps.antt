@@ -1,5 +1,5 @@
 -- what holds after every run of a world: four cases to prove
-use Rattle.std.proofs.Common.{◌≡◌, ◌≢◌, ℕ, ◌+◌, ◌<◌, true, false, cond, List, [], ◌∷◌, ◌++◌, length, Option, Some, None, Ok, Err, Result, inl, inr, refl, sym, ap, ◌∙◌, arith}
+use Rattle.std.proofs.Common.{◌≡◌, ◌≢◌, ℕ, ◌+◌, ◌<◌, true, false, cond, List, [], ◌∷◌, ◌++◌, length, Option, Some, None, Ok, Err, inl, inr, refl, ap, ◌∙◌, arith}
 use Rattle.std.proofs.lemmas.Bool.Decides.{eqb_tells, leb_tells}
 use Rattle.step_memory.specs.declared.note.Note.{Note}
 use Rattle.step_memory.specs.declared.refusal.Refusal.{Refusal}
@@ -8,13 +8,12 @@ use Rattle.step_memory.specs.declared.participant.Participant.{Participant}
 use Rattle.step_memory.specs.Steps.{ProgramSteps, MemorySteps}
 use Rattle.step_memory.specs.WorldState.{WorldState}
 use Rattle.step_memory.specs.Participant.{participant_of, with_participant, beginner, resumed}
-use Rattle.step_memory.specs.World.{begin_refusal, begun_unless, done_unless, after_begin, after_step, after_step_by, step_answer, step_answer_by, got_by}
-use Rattle.step_memory.specs.Calls.{Call, next, IsReply, IsAfter, steps_of, steps_by, outcome_of, outcome_by, first_of, begun_in, begun_by, reply_of, lacked_memory}
+use Rattle.step_memory.specs.World.{begin_refusal, begun_unless, done_unless, after_step, after_step_by, step_answer, step_answer_by, got_by}
+use Rattle.step_memory.specs.Calls.{Call, next, IsReply, steps_of, steps_by, outcome_of, outcome_by, first_of, begun_in, begun_by, reply_of, lacked_memory}
 use Rattle.step_memory.specs.Calls.Call.{Began, Stepped}
 use Rattle.step_memory.specs.Runs.{Run}
-use Rattle.step_memory.specs.Replay.{replay}
-use Rattle.step_memory.proofs.RunLemmas.{run_more, run_keeps, run_splits, run_replays}
-use Rattle.step_memory.proofs.StepLemmas.{most_stepped, lacks_none}
+use Rattle.step_memory.proofs.RunLemmas.{run_keeps}
+use Rattle.step_memory.proofs.StepLemmas.{most_stepped}
 
 -- lists of calls, one more at the end
 pub steps_of-push : {X : Type 0} (p : ℕ) (r : List (Call X)) (h : Call X) → steps_of p (r ++ h ∷ []) ≡ steps_of p r + steps_by p h
@@ -97,43 +96,14 @@ module _ {P S R V O X : Type 0} (program : ProgramSteps P R V O) (memory : Memor
     next_keeps w r (Stepped id reply) t (inr is) = rw is.0 (kept.refused_step w r id NoMemory t)
 
     -- it holds after every run
-    pub world_keeps : (first : S) (w : WorldState S P) (r : List (Call X)) → Holds (record { memory = first; most = w.most; participants = [] }) [] → IsAfter program memory shown start first w r → Holds w r
-    world_keeps first w r t a = run_keeps (next program memory shown start) (IsReply program memory shown start) Holds next_keeps (record { memory = first; most = w.most; participants = [] }) [] r w t a
+    pub world_keeps : (s : WorldState S P) → Holds s [] → (w : WorldState S P) (r : List (Call X)) → Run (next program memory shown start) (IsReply program memory shown start) s r w → Holds w r
+    world_keeps s t w r a = run_keeps (next program memory shown start) (IsReply program memory shown start) Holds next_keeps s [] r w t a
 
   pub most_kept : (w : WorldState S P) (h : Call X) → (next program memory shown start w h).most ≡ w.most
   most_kept w (Began id reply) = elim (begin_refusal w id) as (λ o. (begun_unless o w id (start id)).most ≡ w.most) [ Some why ↦ refl | None ↦ refl ]
   most_kept w (Stepped id reply) = elim (lacked_memory reply) as (λ b. (cond b w (after_step program memory w id)).most ≡ w.most) [ true ↦ refl | false ↦ most_stepped program memory w id ]
 
-  -- one more call
-  pub after_call : (first : S) (w new : WorldState S P) (r : List (Call X)) (h : Call X) → new ≡ next program memory shown start w h → IsReply program memory shown start w h → IsAfter program memory shown start first w r → IsAfter program memory shown start first new (r ++ h ∷ [])
-  after_call first w new r h e is a = rw (e, most_kept w h) (run_more (next program memory shown start) (IsReply program memory shown start) (record { memory = first; most = w.most; participants = [] }) r w h a is)
-
-  -- one more begin
-  pub after_began : (first : S) (w new : WorldState S P) (r : List (Call X)) (id : ℕ) (reply : Result (Unit {0}) Refusal) → new ≡ after_begin w id (start id) → reply ≡ done_unless (begin_refusal w id) → IsAfter program memory shown start first w r → IsAfter program memory shown start first new (r ++ Began id reply ∷ [])
-  after_began first w new r id reply e is a = after_call first w new r (Began id reply) e is a
-
-  -- one more step for which no growth was refused
-  pub after_stepped : (first : S) (w new : WorldState S P) (r : List (Call X)) (id : ℕ) (reply : Result X Refusal) → new ≡ after_step program memory w id → reply ≡ reply_of shown (step_answer program memory w id) → IsAfter program memory shown start first w r → IsAfter program memory shown start first new (r ++ Stepped id reply ∷ [])
-  after_stepped first w new r id reply e is a =
-      let goes : lacked_memory reply ≡ false = ap lacked_memory is ∙ lacks_none program memory shown w id in
-      after_call first w new r (Stepped id reply) (e ∙ rw goes refl) (inl is) a
-
-  -- the world that a list leads to
-  pub after_replays : (first : S) (w : WorldState S P) (r : List (Call X)) → IsAfter program memory shown start first w r → w ≡ replay program memory shown start first w.most r
-  after_replays first w r a = run_replays (next program memory shown start) (IsReply program memory shown start) (record { memory = first; most = w.most; participants = [] }) r w a
-
-  pub after_one : (first : S) (w other : WorldState S P) (r : List (Call X)) → w.most ≡ other.most → IsAfter program memory shown start first w r → IsAfter program memory shown start first other r → w ≡ other
-  after_one first w other r same a b =
-      after_replays first w r a ∙ ap (λ most. replay program memory shown start first most r) same ∙ sym (after_replays first other r b)
-
-  run_most : (s : WorldState S P) (r : List (Call X)) (end : WorldState S P) → Run (next program memory shown start) (IsReply program memory shown start) s r end → end.most ≡ s.most
+  -- no call makes more room
+  pub run_most : (s : WorldState S P) (r : List (Call X)) (end : WorldState S P) → Run (next program memory shown start) (IsReply program memory shown start) s r end → end.most ≡ s.most
   run_most s [] end e = ap (λ w. w.most) e
   run_most s (h ∷ r) end e = run_most (next program memory shown start s h) r end e.1 ∙ most_kept s h
-
-  -- the world between two lists
-  pub after_splits : (first : S) (w : WorldState S P) (r t : List (Call X)) → IsAfter program memory shown start first w (r ++ t) →
-      (mid : WorldState S P) × (mid.most ≡ w.most) × IsAfter program memory shown start first mid r × Run (next program memory shown start) (IsReply program memory shown start) mid t w
-  after_splits first w r t a =
-      let cut = run_splits (next program memory shown start) (IsReply program memory shown start) (record { memory = first; most = w.most; participants = [] }) r t w a in
-      let same : cut.0.most ≡ w.most = run_most (record { memory = first; most = w.most; participants = [] }) r cut.0 cut.1 in
-      (cut.0, same, rw same cut.1, cut.2)

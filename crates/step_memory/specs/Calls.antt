@@ -8,7 +8,6 @@ use Rattle.step_memory.specs.Refusal.{refusal_number}
 use Rattle.step_memory.specs.Steps.{ProgramSteps, MemorySteps}
 use Rattle.step_memory.specs.WorldState.{WorldState}
 use Rattle.step_memory.specs.World.{begin_refusal, done_unless, after_begin, step_answer, after_step, may_refuse_step}
-use Rattle.step_memory.specs.Runs.{Run}
 
 -- a call with its reply, where an accepted step answers an X
 pub data Call (X : Type 0) : Type 0 where
@@ -87,7 +86,3 @@ module _ {P S R V O X : Type 0} (program : ProgramSteps P R V O) (memory : Memor
   IsReply w (Stepped id reply) =
       (reply ≡ reply_of shown (step_answer program memory w id))
       ⊎ ((reply ≡ Err NoMemory) × (may_refuse_step program memory w id ≡ true))
-
-  -- the world is after these calls with these replies, from a fresh world over this memory
-  abbrev pub IsAfter : S → WorldState S P → List (Call X) → Type 0
-  IsAfter first w r = Run next IsReply (record { memory = first; most = w.most; participants = [] }) r w

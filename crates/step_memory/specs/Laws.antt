@@ -7,14 +7,14 @@ use Rattle.step_memory.specs.Roster.{index_by, seen_by, replaced_by, StandsAt}
 use Rattle.step_memory.specs.Participant.{participant_of, with_participant, resumed}
 use Rattle.step_memory.specs.Steps.{ProgramSteps, MemorySteps}
 use Rattle.step_memory.specs.WorldState.{WorldState}
-use Rattle.step_memory.specs.World.{begin_refusal, done_unless, after_begin, step_answer, after_step, got_by}
-use Rattle.step_memory.specs.Calls.{Call, next, IsReply, IsAfter, begun_in, reply_of, lacked_memory, steps_by, outcome_of, outcome_by, first_of}
+use Rattle.step_memory.specs.World.{begin_refusal, step_answer, after_step, got_by}
+use Rattle.step_memory.specs.Calls.{Call, next, begun_in, reply_of, lacked_memory, steps_by, outcome_of, outcome_by, first_of}
 use Rattle.step_memory.specs.Calls.Call.{Began, Stepped}
 use Rattle.step_memory.specs.Locality.{LookAlike, StandAlike}
-use Rattle.step_memory.specs.Runs.{Run}
-use Rattle.step_memory.specs.Replay.{replay}
+use Rattle.step_memory.specs.Machine.{Always, IsProved, LeadsOn}
+use Rattle.step_memory.specs.WorldMachine.{any_world}
 use Rattle.step_memory.specs.Told.{Tells}
-use Rattle.step_memory.specs.Due.{RefusesAsDue, EndsOnce, TellsTheEnd, GrowsOnly}
+use Rattle.step_memory.specs.Due.{RefusesAsDue, EndsOnce}
 use Rattle.step_memory.specs.View.{IsRising, value_of, inserted}
 use Rattle.step_memory.specs.declared.note.Note.{Note}
 use Rattle.step_memory.specs.declared.participant.Participant.{Participant}
@@ -122,28 +122,18 @@ TellsOfStep Z O =
     (id : ℕ) (new : Z) (said : Option O) → say (stands id) ≡ None → said ≡ say new → least new ≤ least (stands id) + 1 →
     most (stands id) + 1 ≤ most new → Tells say least most (set_at stands id new) (r ++ Stepped id (Ok said) ∷ [])
 
--- a call that gets a right reply leads on
-abbrev pub CallLeadsOn : (P S R V O X : Type 0) → Type 0
-CallLeadsOn P S R V O X =
-    (program : ProgramSteps P R V O) (memory : MemorySteps S R V) (shown : Note O → X) (start : ℕ →
-    P) (first : S) (w new : WorldState S P) (r : List (Call X)) (h : Call X) → new ≡ next program memory shown start w h →
-    IsReply program memory shown start w h → IsAfter program memory shown start first w r → IsAfter program memory shown start first new (r ++ h ∷ [])
+-- any world is a machine that is proved
+abbrev pub WorldsAreProved : (P S R V O X : Type 0) → Type 0
+WorldsAreProved P S R V O X =
+    (program : ProgramSteps P R V O) (memory : MemorySteps S R V) (shown : Note O → X) (start : ℕ → P) (last : X → Bool) (grows : Bool) →
+    IsProved (any_world program memory shown start last grows)
 
--- so does a beginning
-abbrev pub BeginLeadsOn : (P S R V O X : Type 0) → Type 0
-BeginLeadsOn P S R V O X =
-    (program : ProgramSteps P R V O) (memory : MemorySteps S R V) (shown : Note O → X) (start : ℕ →
-    P) (first : S) (w new : WorldState S P) (r : List (Call X)) (id : ℕ) (reply : Result (Unit {0}) Refusal) → new ≡ after_begin w id (start id) →
-    reply ≡ done_unless (begin_refusal w id) → IsAfter program memory shown start first w r →
-    IsAfter program memory shown start first new (r ++ Began id reply ∷ [])
-
--- and a step
+-- a step for which no growth was refused leads on
 abbrev pub StepLeadsOn : (P S R V O X : Type 0) → Type 0
 StepLeadsOn P S R V O X =
-    (program : ProgramSteps P R V O) (memory : MemorySteps S R V) (shown : Note O → X) (start : ℕ →
-    P) (first : S) (w new : WorldState S P) (r : List (Call X)) (id : ℕ) (reply : Result X Refusal) → new ≡ after_step program memory w id →
-    reply ≡ reply_of shown (step_answer program memory w id) → IsAfter program memory shown start first w r →
-    IsAfter program memory shown start first new (r ++ Stepped id reply ∷ [])
+    (program : ProgramSteps P R V O) (memory : MemorySteps S R V) (shown : Note O → X) (start : ℕ → P) (last : X → Bool) (grows : Bool) →
+    (w new : WorldState S P) (id : ℕ) (reply : Result X Refusal) → new ≡ after_step program memory w id →
+    reply ≡ reply_of shown (step_answer program memory w id) → LeadsOn (any_world program memory shown start last grows) w new (Stepped id reply)
 
 -- no call makes more room for participants
 abbrev pub CallKeepsMost : (P S R V O X : Type 0) → Type 0
@@ -157,18 +147,11 @@ IsNoLonger =
     (pairs : List (ℕ × ℕ)) (identities : List ℕ) → IsRising pairs → ((q : ℕ) → IsSome (value_of q pairs) → Contains identities q) →
     length pairs ≤ length identities
 
--- after every list of calls that leads to a world each call was refused exactly where that was due
-abbrev pub RefusesWhereDue : (P S R V O X : Type 0) → Type 0
-RefusesWhereDue P S R V O X =
-    (program : ProgramSteps P R V O) (memory : MemorySteps S R V) (shown : Note O → X) (start : ℕ → P) (first : S) (last : X → Bool) (grows : Bool) →
-    TellsTheEnd shown last → GrowsOnly memory grows → (w : WorldState S P) (r : List (Call X)) → IsAfter program memory shown start first w r →
-    RefusesAsDue last w.most grows r
-
 -- as many have begun in the calls as take part in the world
 abbrev pub CountsBegun : (P S R V O X : Type 0) → Type 0
 CountsBegun P S R V O X =
-    (program : ProgramSteps P R V O) (memory : MemorySteps S R V) (shown : Note O → X) (start : ℕ →
-    P) (first : S) (w : WorldState S P) (r : List (Call X)) → IsAfter program memory shown start first w r → begun_in r ≡ length w.participants
+    (program : ProgramSteps P R V O) (memory : MemorySteps S R V) (shown : Note O → X) (start : ℕ → P) (last : X → Bool) (grows : Bool) →
+    (w : WorldState S P) → Always (any_world program memory shown start last grows) (λ first r. begun_in r ≡ length w.participants) w
 
 -- who was told its end is not told another
 abbrev pub HasNoSecondEnd : (X : Type 0) → Type 0
@@ -181,36 +164,6 @@ abbrev pub LetsTheFirstIn : (X : Type 0) → Type 0
 LetsTheFirstIn X =
     (last : X → Bool) (most : ℕ) (grows : Bool) (p : ℕ) (why : Refusal) (rest : List (Call X)) → 1 ≤ most → p ≢ 0 →
     RefusesAsDue last most grows (Began p (Err why) ∷ rest) → ⊥
-
--- a world is the one that its calls lead to
-abbrev pub IsReplayed : (P S R V O X : Type 0) → Type 0
-IsReplayed P S R V O X =
-    (program : ProgramSteps P R V O) (memory : MemorySteps S R V) (shown : Note O → X) (start : ℕ →
-    P) (first : S) (w : WorldState S P) (r : List (Call X)) → IsAfter program memory shown start first w r →
-    w ≡ replay program memory shown start first w.most r
-
--- one list of calls leads to one world alone
-abbrev pub LeadsToOne : (P S R V O X : Type 0) → Type 0
-LeadsToOne P S R V O X =
-    (program : ProgramSteps P R V O) (memory : MemorySteps S R V) (shown : Note O → X) (start : ℕ →
-    P) (first : S) (w other : WorldState S P) (r : List (Call X)) → w.most ≡ other.most → IsAfter program memory shown start first w r →
-    IsAfter program memory shown start first other r → w ≡ other
-
--- between calls and those after them a world stands
-abbrev pub StandsBetween : (P S R V O X : Type 0) → Type 0
-StandsBetween P S R V O X =
-    (program : ProgramSteps P R V O) (memory : MemorySteps S R V) (shown : Note O → X) (start : ℕ →
-    P) (first : S) (w : WorldState S P) (r t : List (Call X)) → IsAfter program memory shown start first w (r ++ t) → (mid : WorldState S P)
-    × (mid.most ≡ w.most) × IsAfter program memory shown start first mid r
-    × Run (next program memory shown start) (IsReply program memory shown start) mid t w
-
--- before the last call a world stands
-abbrev pub StandsBeforeLast : (P S R V O X : Type 0) → Type 0
-StandsBeforeLast P S R V O X =
-    (program : ProgramSteps P R V O) (memory : MemorySteps S R V) (shown : Note O → X) (start : ℕ →
-    P) (first : S) (w : WorldState S P) (r : List (Call X)) (h : Call X) → IsAfter program memory shown start first w (r ++ h ∷ []) →
-    (mid : WorldState S P) × (mid.most ≡ w.most) × IsAfter program memory shown start first mid r × IsReply program memory shown start mid h
-    × (w ≡ next program memory shown start mid h)
 
 -- the outcome of p's program is the one that was told before one more call, else the one that this tells
 abbrev pub KeepsTheFirstOutcome : (X : Type 0) → Type 0

@@ -10,13 +10,14 @@ pub mod WorldState
 pub mod World
 pub mod Locality
 pub mod Runs
+pub mod Machine
 pub mod SetAt
 pub mod Count
 pub mod Distinct
 pub mod Calls
 pub mod Told
 pub mod Due
-pub mod Replay
+pub mod WorldMachine
 pub mod View
 pub mod ViewInside
 pub mod ViewEq

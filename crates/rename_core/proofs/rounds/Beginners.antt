@@ -17,7 +17,8 @@ use Rattle.rename_core.specs.declared.config.WorldKind.{WorldKind}
 use Rattle.rename_core.specs.declared.reply.Reply.{Reply}
 use Rattle.rename_core.specs.declared.round.Round.{Round}
 use Rattle.rename_core.specs.Locality.{client_of, round_of, wished}
-use Rattle.rename_core.specs.RenameCalls.{IsAfter, BeginsTheSame}
+use Rattle.rename_core.specs.Machine.{renaming, BeginsTheSame}
+use Rattle.step_memory.specs.Machine.{After}
 use Rattle.rename_core.specs.RenameState.{RenameState}
 use Rattle.rename_core.specs.RenameWorld.{begun_snap, has_place, after_rename_begin}
 use Rattle.rename_core.specs.Round.{first_round, first_wish}
@@ -45,18 +46,18 @@ module _ {S R V U K : Type 0} (W : KnownPlaces S R V U K) (w : RenameState S U K
       rw goes (ap (option_map (λ u. u.program)) there ∙ ap (λ (b : Bool). Some (first_round b)) placed_is)
 
 module _ {S R V U K : Type 0} (W : KnownPlaces S R V U K) (laws : PlacesLaws W) (kind : WorldKind) (scanning : ℕ → ℕ → ℕ) (named : (most : ℕ) → MayBeNamed W (is_tree kind) most (scanning most)) where
-  absent_round : (w : RenameState S U K) (r : List (Call Reply)) → IsAfter W w r → (p : ℕ) → begin_refusal w.snap p ≡ None → participant_of p w.rounds ≡ None
-  absent_round w r a p goes = elim (participant_of p w.rounds) as (λ z. participant_of p w.rounds ≡ z → z ≡ None) [
+  absent_round : (w : RenameState S U K) (first : S × ℕ) (r : List (Call Reply)) → After (renaming W kind) first w r → (p : ℕ) → begin_refusal w.snap p ≡ None → participant_of p w.rounds ≡ None
+  absent_round w first r a p goes = elim (participant_of p w.rounds) as (λ z. participant_of p w.rounds ≡ z → z ≡ None) [
     | None ↦ λ _. refl
-    | Some v ↦ λ e. absurd (let no : false ≡ true = sym (ap is_some (let_in w.snap p goes).absent) ∙ joined_law W kind (scanning w.snap.most) w (named w.snap.most) r a p ∙ ap is_some e in cc)
+    | Some v ↦ λ e. absurd (let no : false ≡ true = sym (ap is_some (let_in w.snap p goes).absent) ∙ joined_law W kind (scanning (W.most_of first.0)) first (named (W.most_of first.0)) w r a p ∙ ap is_some e in cc)
   ] refl
 
-  pub begins_alike : BeginsAlike W → (p : ℕ) → BeginsTheSame W p
-  begins_alike alike p w x r s a b size goes too =
-      let one = snap_after W kind (scanning w.snap.most) w (named w.snap.most) r a in
-      let other = snap_after W kind (scanning x.snap.most) x (named x.snap.most) s b in
-      let sizes : W.most_of a.first ≡ W.most_of b.first = most_is W kind (scanning w.snap.most) w (named w.snap.most) r a ∙ size ∙ sym (most_is W kind (scanning x.snap.most) x (named x.snap.most) s b) in
-      let same : beginner_at W w.snap p ≡ beginner_at W x.snap p = begins_the_same W laws alike p a.first b.first w.snap x.snap one.0 other.0 a.new b.new sizes one.1 other.1 in (
-        begun_client W w p goes (absent_round w r a p goes) ∙ ap (λ (d : Client U K). Some (wished (first_wish (is_some (W.place_of d.walker))) d)) same ∙ sym (begun_client W x p too (absent_round x s b p too)),
-        begun_round W w p goes (absent_round w r a p goes) ∙ ap (λ (d : Client U K). Some (first_round (is_some (W.place_of d.walker)))) same ∙ sym (begun_round W x p too (absent_round x s b p too)),
+  pub begins_alike : BeginsAlike W → (p : ℕ) → BeginsTheSame W kind p
+  begins_alike alike p w x first second r s a b size goes too =
+      let one = snap_after W kind (scanning (W.most_of first.0)) first (named (W.most_of first.0)) w r a in
+      let other = snap_after W kind (scanning (W.most_of second.0)) second (named (W.most_of second.0)) x s b in
+      let sizes : W.most_of first.0 ≡ W.most_of second.0 = most_is W kind (scanning (W.most_of first.0)) first (named (W.most_of first.0)) w r a ∙ size ∙ sym (most_is W kind (scanning (W.most_of second.0)) second (named (W.most_of second.0)) x s b) in
+      let same : beginner_at W w.snap p ≡ beginner_at W x.snap p = begins_the_same W laws alike p first.0 second.0 w.snap x.snap one.0 other.0 a.started.new b.started.new sizes one.1 other.1 in (
+        begun_client W w p goes (absent_round w first r a p goes) ∙ ap (λ (d : Client U K). Some (wished (first_wish (is_some (W.place_of d.walker))) d)) same ∙ sym (begun_client W x p too (absent_round x second s b p too)),
+        begun_round W w p goes (absent_round w first r a p goes) ∙ ap (λ (d : Client U K). Some (first_round (is_some (W.place_of d.walker)))) same ∙ sym (begun_round W x p too (absent_round x second s b p too)),
       )

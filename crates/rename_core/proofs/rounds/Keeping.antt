@@ -20,7 +20,7 @@ use Rattle.rename_core.specs.Round.{stage_refusal, followed}
 use Rattle.rename_core.specs.RenameState.{RenameState}
 use Rattle.snapshot_core.specs.Places.{KnownPlaces}
 use Rattle.rename_core.specs.Pace.{Pace, InTime, paced}
-use Rattle.rename_core.specs.RenameCalls.{next, IsReply}
+use Rattle.rename_core.specs.Machine.{next, IsReply}
 use Rattle.rename_core.specs.RenameWorld.{after_follow, rename_answer, after_rename_step, step_refusal, may_lack}
 use Rattle.rename_core.specs.RenameObject.{RenameTerms, RenameObject, no_step, Allows, after}
 use Rattle.snapshot_core.specs.Standing.{GoesBusy}

@@ -1,19 +1,17 @@
 -- a snapshot object and the object of its law after the same calls
-use Rattle.std.proofs.Common.{◌≡◌, ℕ, List, [], ◌∷◌, ◌++◌, refl, sym, subst, ◌∙◌}
+use Rattle.std.proofs.Common.{◌≡◌, ℕ, List, [], ◌∷◌, ◌++◌, refl, subst}
 use Rattle.step_memory.specs.Runs.{Run}
-use Rattle.step_memory.proofs.RunLemmas.{run_more}
+use Rattle.step_memory.proofs.RunLemmas.{run_more, run_one}
+use Rattle.step_memory.specs.Machine.{After}
+use Rattle.step_memory.proofs.MachineLemmas.{call_leads_on}
 use Rattle.snapshot_core.specs.Places.{KnownPlaces, PlacesLaws, BoundsScans}
 use Rattle.snapshot_core.specs.SnapWorld.{SnapState}
-use Rattle.snapshot_core.specs.SnapCalls.{SnapCall, fresh_over, next, IsReply, IsAfter}
+use Rattle.snapshot_core.specs.SnapCalls.{SnapCall, fresh_over, next, IsReply}
+use Rattle.snapshot_core.specs.Machine.{snapshot}
 use Rattle.snapshot_core.specs.Snapshot.{SnapObject, SnapBounds, bounds_over, new_object, observed, Allows, KeepsSnapshotLaw}
 use Rattle.snapshot_core.proofs.Following.{law_holds}
 
 module _ {S H : Type 0} (next : S → H → S) (Right : S → H → Type 0) where
-  -- a run leads to one state
-  pub run_ends : (s : S) (r : List H) (a b : S) → Run next Right s r a → Run next Right s r b → a ≡ b
-  run_ends s [] a b h k = h ∙ sym k
-  run_ends s (x ∷ r) a b h k = run_ends (next s x) r a b h.1 k.1
-
   -- the last call of a run
   pub record LastCall (s : S) (r : List H) (h : H) (end : S) : Type 0 where
     pub mid : S
@@ -29,11 +27,11 @@ module _ {S R V U K : Type 0} (W : KnownPlaces S R V U K) (laws : PlacesLaws W) 
   -- both are after the same calls
   pub record AreAfter (bounds : SnapBounds) (first : S) (w : SnapState S U K) (o : SnapObject) : Type 0 where
     pub calls : List SnapCall
-    pub world : IsAfter W first w calls
+    pub world : After (snapshot W) first w calls
     pub object : Run observed (Allows bounds) new_object calls o
 
   pub after_none : (bounds : SnapBounds) (first : S) → AreAfter bounds first (fresh_over W first) new_object
-  after_none bounds first = record { calls = []; world = refl; object = refl }
+  after_none bounds first = record { calls = []; world = record { started = tt; run = refl }; object = refl }
 
   -- one more call: the object allows it
   pub after_more : (first : S) (scanning : ℕ → ℕ) → W.ties.IsNew first → BoundsScans W (W.most_of first) scanning → (w : SnapState S U K) (o : SnapObject) (h : SnapCall) →
@@ -41,9 +39,9 @@ module _ {S R V U K : Type 0} (W : KnownPlaces S R V U K) (laws : PlacesLaws W) 
       AreAfter (bounds_over W first scanning) first (next W w h) (observed o h) × Allows (bounds_over W first scanning) o h
   after_more first scanning new fits w o h k is =
       let bounds : SnapBounds = bounds_over W first scanning in
-      let more : IsAfter W first (next W w h) (k.calls ++ h ∷ []) = run_more (next W) (IsReply W) (fresh_over W first) k.calls w h k.world is in
-      let law : KeepsSnapshotLaw bounds (k.calls ++ h ∷ []) = law_holds W laws (next W w h) first scanning new fits (k.calls ++ h ∷ []) more in
+      let more : After (snapshot W) first (next W w h) (k.calls ++ h ∷ []) = call_leads_on (snapshot W) w (next W w h) h refl is first k.calls k.world in
+      let law : KeepsSnapshotLaw bounds (k.calls ++ h ∷ []) = law_holds W laws (next W w h) first (k.calls ++ h ∷ []) more new scanning fits in
       let l : LastCall observed (Allows bounds) new_object k.calls h law.0 = run_last observed (Allows bounds) new_object k.calls h law.0 law.1 in
-      let same : l.mid ≡ o = run_ends observed (Allows bounds) new_object k.calls l.mid o l.run k.object in
+      let same : l.mid ≡ o = run_one observed (Allows bounds) new_object k.calls l.mid o l.run k.object in
       let right : Allows bounds o h = subst (λ (x : SnapObject). Allows bounds x h) same l.right in
       (record { calls = k.calls ++ h ∷ []; world = more; object = run_more observed (Allows bounds) new_object k.calls o h k.object right }, right)

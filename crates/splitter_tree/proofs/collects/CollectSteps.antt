@@ -33,7 +33,8 @@ use Rattle.splitter_tree.specs.Collect.{collect_reads, first_collect, collect_af
 use Rattle.splitter_tree.specs.CollectWalk.{walk_is_over}
 use Rattle.splitter_tree.specs.Client.{client_of, client_steps, client_access, client_after, client_note, is_placing, is_idle, is_collecting, is_placed, storing, collecting, record_of, write_at, collected_note, task_after, view_told}
 use Rattle.splitter_tree.specs.TreeWorld.{TreeState, asking_refusal, after_placing, after_store, after_collect_begin, view_answer, after_collecting}
-use Rattle.splitter_tree.specs.TreeCalls.{TreeCall, next, IsReply, IsAfter}
+use Rattle.splitter_tree.specs.Machine.{fresh_over}
+use Rattle.splitter_tree.specs.TreeCalls.{TreeCall, next, IsReply}
 use Rattle.splitter_tree.specs.TreeCalls.TreeCall.{Began, Stepped, Stored, CollectBegan, CollectStepped}
 use Rattle.splitter_tree.specs.CollectLaw.{CollectObject, new_object, one_begun, with_moment, collect_begun, collect_stepped, goes_on, observed, ShowsValues, most_steps, AllowsStep, Allows, KeepsCollectLaw}
 use Rattle.splitter_tree.specs.Ahead.{marked_in, HasRead}
@@ -393,15 +394,15 @@ module _ {S : Type 0} (memory : MemorySteps S TreeRegister TreeValue) (tree : Is
   }
 
   -- calls that a world may be after keep the law of collects
-  pub collect_law : (first : S) (w : TreeState S) (r : List TreeCall) → w.most ≤ 64 → IsEmptyTree memory first → IsAfter memory first w r → KeepsCollectLaw r
-  collect_law first w r few empty after = let kept = run_keeps r (record { memory = first; most = w.most; participants = [] }) w new_object (tied_new w.most first few empty) after in (kept.0, kept.1)
+  pub collect_law : (first : S) (most : ℕ) (w : TreeState S) (r : List TreeCall) → most ≤ 64 → IsEmptyTree memory first → Run (next memory) (IsReply memory) (fresh_over memory (first, most)) r w → KeepsCollectLaw r
+  collect_law first most w r few empty after = let kept = run_keeps r (fresh_over memory (first, most)) w new_object (tied_new most first few empty) after in (kept.0, kept.1)
 
   -- a collect that is under way has made so many steps, and found so many nodes marked
-  pub collect_reads_few : (first : S) (w : TreeState S) (r : List TreeCall) (o : CollectObject) (p : ℕ) (v : Participant Client) (c : Collect) → w.most ≤ 64 → IsEmptyTree memory first → IsAfter memory first w r →
+  pub collect_reads_few : (first : S) (most : ℕ) (w : TreeState S) (r : List TreeCall) (o : CollectObject) (p : ℕ) (v : Participant Client) (c : Collect) → most ≤ 64 → IsEmptyTree memory first → Run (next memory) (IsReply memory) (fresh_over memory (first, most)) r w →
       Run observed Allows new_object r o → participant_of p w.participants ≡ Some v → v.program.task ≡ Collecting c →
       (nodes : ℕ) × HasRead (marked_in memory w.memory) c.walk nodes (o.steps p) × (o.steps p + 1 ≤ 3 * nodes + 1)
-  collect_reads_few first w r o p v c few empty after run here task =
-      let kept = run_keeps r (record { memory = first; most = w.most; participants = [] }) w new_object (tied_new w.most first few empty) after in
+  collect_reads_few first most w r o p v c few empty after run here task =
+      let kept = run_keeps r (fresh_over memory (first, most)) w new_object (tied_new most first few empty) after in
       let same : kept.0 ≡ o = run_replays observed Allows new_object r kept.0 kept.1 ∙ sym (run_replays observed Allows new_object r o run) in
       let way = kept.2.under_way p c (rw (here, task) refl) in
       let reads : HasRead (marked_in memory w.memory) c.walk way.nodes (o.steps p) = subst (λ (x : CollectObject). HasRead (marked_in memory w.memory) c.walk way.nodes (x.steps p)) same way.reads in

@@ -20,7 +20,7 @@ use Rattle.splitter_tree.specs.declared.client.Task.{Task}
 use Rattle.splitter_tree.specs.declared.client.Task.TheVariants.{Placing, Nothing, Storing, Collecting}
 use Rattle.splitter_tree.specs.TreeMemory.{IsTreeMemory, segment_at, segment_in, word_in}
 use Rattle.splitter_tree.specs.Walk.{walk_of, next_access, walker_after, place_of, place_by}
-use Rattle.splitter_tree.specs.Consistent.{IsConsistent, IsTree}
+use Rattle.splitter_tree.specs.Invariant.{IsConsistent, IsTree}
 use Rattle.step_memory.specs.Count.{count_to}
 use Rattle.splitter_tree.specs.CollectWalk.{place_read}
 use Rattle.splitter_tree.specs.Collect.{collect_reads}

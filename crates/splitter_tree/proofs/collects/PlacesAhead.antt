@@ -12,7 +12,7 @@ use Rattle.splitter_tree.specs.declared.walker.Walker.{Walker}
 use Rattle.splitter_tree.specs.declared.collect_walk.CollectWalk.{CollectWalk}
 use Rattle.splitter_tree.specs.TreeMemory.{IsTreeMemory, mark_at, word_in}
 use Rattle.splitter_tree.specs.Walk.{next_access, place_by}
-use Rattle.splitter_tree.specs.Consistent.{IsConsistent, IsTree, was_made}
+use Rattle.splitter_tree.specs.Invariant.{IsConsistent, IsTree, was_made}
 use Rattle.step_memory.specs.Count.{count_to}
 use Rattle.splitter_tree.specs.CollectWalk.{first_walk}
 use Rattle.splitter_tree.specs.Ahead.{marked_in, found_by, Sees, HasGrown, HasRead, IsPathMarked, IsAhead}

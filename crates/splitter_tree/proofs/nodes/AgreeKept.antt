@@ -7,11 +7,11 @@ use Rattle.splitter.specs.declared.way.Way.TheVariants.{Stop, Right, Down}
 use Rattle.splitter.specs.declared.stage.Stage.{Stage}
 use Rattle.splitter.specs.declared.stage.Stage.TheVariants.{Outside, WroteX, SawClear, WroteY, Gone}
 use Rattle.splitter.specs.Stage.{has_entered, went_right, went_down, x_after, y_after, stage_after}
-use Rattle.splitter.specs.Door.{DoorIsLawful}
+use Rattle.splitter.specs.Invariant.{DoorIsLawful}
 use Rattle.splitter.proofs.DoorKept.{kept, lawful_new}
 use Rattle.splitter_tree.specs.declared.walker.Walker.{Walker}
 use Rattle.splitter_tree.specs.Walk.{walker_at, walk_of, visit_on}
-use Rattle.splitter_tree.specs.Consistent.{IsWalkOf, NodesAgree}
+use Rattle.splitter_tree.specs.Invariant.{IsWalkOf, NodesAgree}
 use Rattle.splitter_tree.proofs.nodes.VisitsKept.{with_visit, with_visit-node, with_visit-other_node, with_visit-own, with_visit-other, with_comer, with_comer-has, with_comer-keeps, with_comer-cases}
 
 pub right_entered : (s : Stage) → went_right s ≡ true → has_entered s ≡ true

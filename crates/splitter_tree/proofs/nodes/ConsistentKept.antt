@@ -22,7 +22,7 @@ use Rattle.splitter_tree.specs.declared.register.TreeValue.TheVariants.{Word}
 use Rattle.splitter_tree.specs.declared.walker.Walker.{Walker}
 use Rattle.splitter_tree.specs.TreeMemory.{word_in, segment_in, mark_at, x_at, y_at, segment_at, IsWithinReach, IsTreeMemory, IsEmptyTree}
 use Rattle.splitter_tree.specs.Walk.{left_child, right_child, walker_at, walk_of, in_words, told, next_access, visit_on, walked_to, walker_after}
-use Rattle.splitter_tree.specs.Consistent.{NodesAgree, IsConsistent}
+use Rattle.splitter_tree.specs.Invariant.{NodesAgree, IsConsistent}
 use Rattle.splitter_tree.proofs.nodes.AgreeKept.{right_entered, down_entered, marked_node, stayed, moved_down, moved_right, joined, agree_new}
 use Rattle.splitter_tree.proofs.nodes.DepthBound.{halves, small_place}
 use Rattle.std.proofs.lemmas.Bool.{cases_Bool}

@@ -7,13 +7,13 @@ use Rattle.splitter.proofs.StageLemmas.{gone_right, gone_down}
 use Rattle.std.proofs.lemmas.Bool.Decides.{eqb_tells, leb_tells}
 use Rattle.splitter.specs.declared.way.Way.TheVariants.{Right, Down}
 use Rattle.splitter.specs.declared.stage.Stage.TheVariants.{Gone}
-use Rattle.splitter.specs.Door.{IsSplitter}
+use Rattle.splitter.specs.Invariant.{IsSplitter}
 use Rattle.splitter.proofs.DoorKept.{law_of}
 use Rattle.splitter_tree.specs.declared.walker.Walker.{Walker}
 use Rattle.splitter_tree.specs.Walk.{left_child, right_child}
 use Rattle.step_memory.specs.Count.{count_to}
 use Rattle.splitter_tree.specs.Depth.{depth_in, depth_of}
-use Rattle.splitter_tree.specs.Consistent.{NodesAgree}
+use Rattle.splitter_tree.specs.Invariant.{NodesAgree}
 use Rattle.splitter_tree.proofs.nodes.AgreeKept.{right_entered, down_entered}
 
 -- how many of a list pass a test

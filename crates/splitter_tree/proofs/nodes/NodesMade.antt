@@ -16,7 +16,9 @@ use Rattle.splitter_tree.specs.TreeMemory.{mark_at, IsTreeMemory, IsEmptyTree}
 use Rattle.splitter_tree.specs.Walk.{next_access, place_of}
 use Rattle.splitter_tree.specs.Client.{client_of, client_access, write_at, record_of, storing}
 use Rattle.splitter_tree.specs.TreeWorld.{TreeState, place_answer, after_placing, after_store, after_collect_begin, after_collecting}
-use Rattle.splitter_tree.specs.TreeCalls.{TreeCall, next, IsReply, IsAfter}
+use Rattle.step_memory.specs.Runs.{Run}
+use Rattle.splitter_tree.specs.Machine.{fresh_over}
+use Rattle.splitter_tree.specs.TreeCalls.{TreeCall, next, IsReply}
 use Rattle.splitter_tree.specs.TreeCalls.TreeCall.{Began, Stepped, Stored, CollectBegan, CollectStepped}
 use Rattle.splitter_tree.specs.Depth.{IsNodeWithin}
 use Rattle.splitter_tree.specs.PlacesLaw.{way_calls, walkers}
@@ -88,14 +90,14 @@ module _ {S : Type 0} (memory : MemorySteps S TreeRegister TreeValue) (tree : Is
               ap (λ (y : TreeState S). mark_at memory y.memory) x.after ∙ (words_spared memory tree w.memory (client_access x.who.program) (λ j. spares (Mark j)) (λ j. spares (X j)) (λ j. spares (Y j))).0
         ]) (λ never. never)
 
-  pub marked_made : (first : S) (w : TreeState S) (r : List TreeCall) → IsEmptyTree memory first → w.most ≤ 64 → IsAfter memory first w r → (k : ℕ) → (mark_at memory w.memory k ≡ 1) ↔ WasMade memory first w.most r k
-  marked_made first w r empty few a k =
+  pub marked_made : (first : S) (most : ℕ) (w : TreeState S) (r : List TreeCall) → IsEmptyTree memory first → most ≤ 64 → Run (next memory) (IsReply memory) (fresh_over memory (first, most)) r w → (k : ℕ) → (mark_at memory w.memory k ≡ 1) ↔ WasMade memory first most r k
+  marked_made first most w r empty few a k =
       let over = run_gathers (next memory) (IsReply memory) (IsTied memory tree) (call_kept memory tree) (λ u h. Marks memory u h k) (λ u. mark_at memory u.memory k ≡ 1)
-      (λ u past h t is. one_call u past t h is k) (record { memory = first; most = w.most; participants = [] }) [] r w (tied_new memory tree first w.most empty few) a in
+      (λ u past h t is. one_call u past t h is k) (fresh_over memory (first, most)) [] r w (tied_new memory tree first most empty few) a in
       (λ some. elim (over.0 some) [ inl was ↦ was | inr stood ↦ absurd (let none = empty.unmarked k in let both : 0 ≡ 1 = sym none ∙ stood in cc) ], λ was. over.1 (inl was))
 
   -- of these, all lie at depths below the number of those who have begun
-  pub made_within : (first : S) (w : TreeState S) (r : List TreeCall) → IsEmptyTree memory first → w.most ≤ 64 → IsAfter memory first w r → (k : ℕ) → WasMade memory first w.most r k → IsNodeWithin (begun_in (way_calls r)) k
-  made_within first w r empty few a k was =
-      let set : mark_at memory w.memory k ≡ 1 = (marked_made first w r empty few a k).1 was in
-      (tree_of_tied memory tree w r (tied_after memory tree first w r empty few a)).made k (λ e. absurd (let both : 0 ≡ 1 = sym e ∙ set in cc))
+  pub made_within : (first : S) (most : ℕ) (w : TreeState S) (r : List TreeCall) → IsEmptyTree memory first → most ≤ 64 → Run (next memory) (IsReply memory) (fresh_over memory (first, most)) r w → (k : ℕ) → WasMade memory first most r k → IsNodeWithin (begun_in (way_calls r)) k
+  made_within first most w r empty few a k was =
+      let set : mark_at memory w.memory k ≡ 1 = (marked_made first most w r empty few a k).1 was in
+      (tree_of_tied memory tree w r (tied_after memory tree first most w r empty few a)).made k (λ e. absurd (let both : 0 ≡ 1 = sym e ∙ set in cc))

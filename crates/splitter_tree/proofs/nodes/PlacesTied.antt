@@ -43,9 +43,11 @@ use Rattle.splitter_tree.specs.Walk.{walk_of, next_access, told, walker_after, w
 use Rattle.splitter_tree.specs.Client.{client_of, client_steps, client_access, client_note, access_for, after_for, note_for, is_placing, is_idle, is_collecting, is_placed, placing_after, placed_note, place_told, storing, collecting, with_task, write_at, record_of, task_after, collected_note}
 use Rattle.splitter_tree.specs.Collect.{collect_after, collect_view}
 use Rattle.splitter_tree.specs.TreeWorld.{TreeState, asking_refusal, place_answer, after_placing, after_store, after_collect_begin, view_answer, after_collecting}
-use Rattle.splitter_tree.specs.TreeCalls.{TreeCall, next, IsReply, IsAfter}
+use Rattle.step_memory.specs.Runs.{Run}
+use Rattle.splitter_tree.specs.Machine.{fresh_over}
+use Rattle.splitter_tree.specs.TreeCalls.{TreeCall, next, IsReply}
 use Rattle.splitter_tree.specs.TreeCalls.TreeCall.{Began as TreeBegan, Stepped as TreeStepped, Stored, CollectBegan, CollectStepped}
-use Rattle.splitter_tree.specs.Consistent.{IsConsistent, IsTree, accesses_by}
+use Rattle.splitter_tree.specs.Invariant.{IsConsistent, IsTree, accesses_by}
 use Rattle.splitter_tree.specs.PlacesLaw.{way_calls, KeepsPlacesLaw, walker_in, walkers}
 use Rattle.std.proofs.lemmas.Bool.{cases_Bool}
 use Rattle.splitter_tree.proofs.nodes.ConsistentKept.{consistent_new, begun, gone_on, elsewhere}
@@ -59,18 +61,18 @@ pub record IsClientOf (p : ℕ) (v : Participant Client) : Type 0 where
   pub goes : v.ended ≡ false
   pub task : is_placing v.program.task ≡ not (is_some (place_of v.program.walker))
 
--- the way to the places of calls, one more at the end
-pub way_calls-more : (r : List TreeCall) (h : TreeCall) → way_calls (r ++ h ∷ []) ≡ way_calls r ++ way_calls (h ∷ [])
-way_calls-more [] h = refl
-way_calls-more (TreeBegan id reply ∷ r) h = ap (λ (c : List (Call (Option ℕ))). Began id reply ∷ c) (way_calls-more r h)
-way_calls-more (TreeStepped id reply ∷ r) h = ap (λ (c : List (Call (Option ℕ))). Stepped id reply ∷ c) (way_calls-more r h)
-way_calls-more (Stored id value reply ∷ r) h = way_calls-more r h
-way_calls-more (CollectBegan id reply ∷ r) h = way_calls-more r h
-way_calls-more (CollectStepped id reply ∷ r) h = way_calls-more r h
+-- the way's part of two lists, one after the other
+pub way_calls-append : (r t : List TreeCall) → way_calls (r ++ t) ≡ way_calls r ++ way_calls t
+way_calls-append [] t = refl
+way_calls-append (TreeBegan id reply ∷ r) t = ap (λ (c : List (Call (Option ℕ))). Began id reply ∷ c) (way_calls-append r t)
+way_calls-append (TreeStepped id reply ∷ r) t = ap (λ (c : List (Call (Option ℕ))). Stepped id reply ∷ c) (way_calls-append r t)
+way_calls-append (Stored id value reply ∷ r) t = way_calls-append r t
+way_calls-append (CollectBegan id reply ∷ r) t = way_calls-append r t
+way_calls-append (CollectStepped id reply ∷ r) t = way_calls-append r t
 
 -- a call that is no part of the way leaves it
 no_way : (r : List TreeCall) (h : TreeCall) → way_calls (h ∷ []) ≡ [] → way_calls (r ++ h ∷ []) ≡ way_calls r
-no_way r h none = way_calls-more r h ∙ ap (λ c. way_calls r ++ c) none ∙ append-nil (way_calls r)
+no_way r h none = way_calls-append r (h ∷ []) ∙ ap (λ c. way_calls r ++ c) none ∙ append-nil (way_calls r)
 
 -- what one does who is on its way
 pub placing_access : (c : Client) (t : Task) → is_placing t ≡ true → access_for c t ≡ next_access c.walker
@@ -172,7 +174,7 @@ module _ {S : Type 0} (memory : MemorySteps S TreeRegister TreeValue) (tree : Is
   -- a call of `begin` or `step` that is refused
   refused_way : (w : TreeState S) (r : List TreeCall) (h : TreeCall) (k : Call (Option ℕ)) → way_calls (h ∷ []) ≡ k ∷ [] → ((p : ℕ) → steps_by p k ≡ 0) → ((p : ℕ) → outcome_by p k ≡ None) → begun_by k ≡ 0 → IsTied w r → IsTied w (r ++ h ∷ [])
   refused_way w r h k is none quiet nobody t =
-      let way : way_calls (r ++ h ∷ []) ≡ way_calls r ++ k ∷ [] = way_calls-more r h ∙ ap (λ c. way_calls r ++ c) is in
+      let way : way_calls (r ++ h ∷ []) ≡ way_calls r ++ k ∷ [] = way_calls-append r (h ∷ []) ∙ ap (λ c. way_calls r ++ c) is in
       record {
         consistent = t.consistent;
         begun_is = rw way (omega (arith, begun_in-push (way_calls r) k, nobody, t.begun_is));
@@ -227,7 +229,7 @@ module _ {S : Type 0} (memory : MemorySteps S TreeRegister TreeValue) (tree : Is
   begun_kept w r id in_ t =
       let all : List (Participant Client) = w.participants ++ beginner id (client_of id) ∷ [] in
       let call : Call (Option ℕ) = Began id (Ok tt) in
-      let way : way_calls (r ++ TreeBegan id (Ok tt) ∷ []) ≡ way_calls r ++ call ∷ [] = way_calls-more r (TreeBegan id (Ok tt)) in
+      let way : way_calls (r ++ TreeBegan id (Ok tt) ∷ []) ≡ way_calls r ++ call ∷ [] = way_calls-append r (TreeBegan id (Ok tt) ∷ []) in
       let push = participant_of-push w.participants (beginner id (client_of id)) in_.absent in
       let longer : length all ≡ suc (length w.participants) = omega (arith, length-append w.participants (beginner id (client_of id) ∷ [])) in
       let walks : walkers all ≡ set_at (walkers w.participants) id (Some (walk_of id)) = fun_ext (λ q. ap walker_in (push q) ∙ set_at-map walker_in (λ u. participant_of u w.participants) id (Some (beginner id (client_of id))) q) in
@@ -260,7 +262,7 @@ module _ {S : Type 0} (memory : MemorySteps S TreeRegister TreeValue) (tree : Is
       let told_is : place_told (client_note v.program got) ≡ place_of (walker_after u got) = ap place_told goes.1 ∙ place_is_told u got on in
       let all : List (Participant Client) = with_participant new w.participants in
       let call : Call (Option ℕ) = Stepped id (Ok (place_told (client_note v.program got))) in
-      let way : way_calls (r ++ TreeStepped id (Ok (place_told (client_note v.program got))) ∷ []) ≡ way_calls r ++ call ∷ [] = way_calls-more r (TreeStepped id (Ok (place_told (client_note v.program got)))) in
+      let way : way_calls (r ++ TreeStepped id (Ok (place_told (client_note v.program got))) ∷ []) ≡ way_calls r ++ call ∷ [] = way_calls-append r (TreeStepped id (Ok (place_told (client_note v.program got))) ∷ []) in
       let there : is_some (participant_of v.identity w.participants) ≡ true = rw (client.own, here) refl in
       let put : (q : ℕ) → participant_of q all ≡ set_at (λ u. participant_of u w.participants) id (Some new) q = (λ q. participant_of-put w.participants new there q ∙ rw client.own refl) in
       let walks : walkers all ≡ set_at (walkers w.participants) id (Some (walker_after u got)) = walks_put w id v new here all put ∙ ap (λ (x : Walker). set_at (walkers w.participants) id (Some x)) walk_is in
@@ -416,8 +418,8 @@ module _ {S : Type 0} (memory : MemorySteps S TreeRegister TreeValue) (tree : Is
   }
 
   -- a world that is after these calls is tied to them
-  pub tied_after : (first : S) (w : TreeState S) (r : List TreeCall) → IsEmptyTree memory first → w.most ≤ 64 → IsAfter memory first w r → IsTied w r
-  tied_after first w r empty few a = run_keeps (next memory) (IsReply memory) IsTied (λ s past h i is. call_kept s past h i is) (record { memory = first; most = w.most; participants = [] }) [] r w (tied_new first w.most empty few) a
+  pub tied_after : (first : S) (most : ℕ) (w : TreeState S) (r : List TreeCall) → IsEmptyTree memory first → most ≤ 64 → Run (next memory) (IsReply memory) (fresh_over memory (first, most)) r w → IsTied w r
+  tied_after first most w r empty few a = run_keeps (next memory) (IsReply memory) IsTied (λ s past h i is. call_kept s past h i is) (fresh_over memory (first, most)) [] r w (tied_new first most empty few) a
 
   -- the nodes and walks of a world that is tied keep the law of the tree
   pub tree_of_tied : (w : TreeState S) (r : List TreeCall) → IsTied w r → IsTree memory (begun_in (way_calls r)) w.memory (walkers w.participants)

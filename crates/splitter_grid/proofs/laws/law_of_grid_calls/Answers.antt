@@ -1,29 +1,14 @@
-use Rattle.splitter_grid.proofs.GridTied.{after_none, after_begun, after_step_of, law_after, place_after, front_lawful, due_after, one_place_told}
+use Rattle.splitter_grid.proofs.GridTied.{grid_proved, place_always, one_place_told}
 use Rattle.std.specs.Prelude.{is_some, false}
 use Rattle.step_memory.proofs.DueLemmas.{not_first_refused}
 use Rattle.splitter.proofs.VisitorAccess.{own_access}
 use Rattle.splitter_grid.proofs.laws.law_of_grid_calls.Goals as goal
 
-pub returns-clause-fresh : goal.returns-clause-fresh
-returns-clause-fresh c = after_none
-
-pub returns-clause-begun : goal.returns-clause-begun
-returns-clause-begun c = after_begun
-
-pub returns-clause-stepped : goal.returns-clause-stepped
-returns-clause-stepped c = after_step_of
-
-pub returns-clause-law : goal.returns-clause-law
-returns-clause-law c = law_after
+pub returns-clause-machine : goal.returns-clause-machine
+returns-clause-machine c = grid_proved
 
 pub returns-clause-places : goal.returns-clause-places
-returns-clause-places c = λ w r id a. place_after w r a id
-
-pub returns-clause-front : goal.returns-clause-front
-returns-clause-front c = front_lawful
-
-pub returns-clause-due : goal.returns-clause-due
-returns-clause-due c = due_after
+returns-clause-places c = place_always
 
 pub returns-clause-one_place : goal.returns-clause-one_place
 returns-clause-one_place c = one_place_told

@@ -1,15 +1,9 @@
-use Rattle.std.proofs.Common.{refl, sym}
-use Rattle.step_memory.proofs.DueLemmas.{world_counted, ends_once, ended_with_outcome, many_begun, no_second_end, not_first_refused, outcomes_tell, never_grows}
+use Rattle.std.proofs.Common.{sym}
+use Rattle.step_memory.proofs.DueLemmas.{ends_once, ended_with_outcome, no_second_end, not_first_refused, outcomes_tell, never_grows}
 use Rattle.step_memory.proofs.laws.law_of_refusals.Goals as goal
-
-pub returns-clause-due : goal.returns-clause-due
-returns-clause-due g c = λ program memory shown start first last grows tells may w r a. (world_counted program memory shown start last grows w.most tells may first w r refl a).due
 
 pub returns-clause-once : goal.returns-clause-once
 returns-clause-once g c = ends_once
-
-pub returns-clause-begun : goal.returns-clause-begun
-returns-clause-begun g c = many_begun
 
 pub returns-clause-outcome : goal.returns-clause-outcome
 returns-clause-outcome g c = λ p r. sym (ended_with_outcome p r)

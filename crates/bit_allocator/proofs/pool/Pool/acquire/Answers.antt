@@ -2,17 +2,14 @@ use Rattle.std.proofs.Common.{◌≡◌, Some, None, Err, refl, sym, ap, ◌∙�
 use Rattle.bit_allocator.specs.Pool.{enter_refusal}
 use Rattle.bit_allocator.specs.Calls.Call.{Entered}
 use Rattle.bit_allocator.specs.Acquired.{Gets}
-use Rattle.bit_allocator.proofs.PoolKeeps.{after_call, law_after}
+use Rattle.bit_allocator.proofs.PoolKeeps.{pool_proved}
 use Rattle.bit_allocator.proofs.Acquiring.{acquired, acquired_after}
 use Rattle.bit_allocator.proofs.pool.Pool.acquire.Goals as goal
 
 pub returns-in-Some-clause-after : goal.returns-in-Some-clause-after
-returns-in-Some-clause-after g c = λ size r a.
+returns-in-Some-clause-after g c =
     let refusal : enter_refusal c.args.self.now c.args.id ≡ Some c.in-Some.refusal = sym c.enter_refusal.ensures ∙ c.in-Some.is in
-    after_call size c.args.self.now c.args.self.now r (Entered c.args.id (Err c.in-Some.refusal)) (rw refusal refl) (rw refusal refl) a
-
-pub returns-in-Some-clause-law : goal.returns-in-Some-clause-law
-returns-in-Some-clause-law g c = λ size r a. law_after size _ r a
+    pool_proved.call c.args.self.now c.args.self.now (Entered c.args.id (Err c.in-Some.refusal)) (rw refusal refl) (rw refusal refl)
 
 pub returns-clause-acquired : goal.returns-clause-acquired
 returns-clause-acquired g c =
@@ -27,6 +24,3 @@ pub returns-clause-after : goal.returns-clause-after
 returns-clause-after g c = λ size r a.
     let is = returns-clause-acquired g c in
     (is.misses, acquired_after size c.args.self.now _ r c.args.id c.seek-number.result is a)
-
-pub returns-clause-law : goal.returns-clause-law
-returns-clause-law g c = λ size r a. law_after size _ r a

@@ -4,26 +4,20 @@ use Rattle.step_memory.specs.declared.refusal.Refusal.{Refusal}
 use Rattle.bit_allocator.specs.PoolState.{PoolState}
 use Rattle.bit_allocator.specs.Pool.{enter_answer, after_enter}
 use Rattle.bit_allocator.specs.Calls.Call.{Entered}
-use Rattle.bit_allocator.proofs.PoolKeeps.{after_call, law_after}
+use Rattle.bit_allocator.proofs.PoolKeeps.{pool_proved}
 use Rattle.bit_allocator.proofs.pool.Pool.enter.Goals as goal
 
 pub returns-in-Some-clause-after : goal.returns-in-Some-clause-after
-returns-in-Some-clause-after g c = λ size r a.
+returns-in-Some-clause-after g c =
     let reply : Result (Unit {0}) Refusal = Err c.in-Some.refusal in
     let state : c.args.self.now ≡ after_enter c.args.self.now c.args.id = search rules in
     let is : reply ≡ enter_answer c.args.self.now c.args.id = search rules in
-    after_call size c.args.self.now c.args.self.now r (Entered c.args.id reply) state is a
-
-pub returns-in-Some-clause-law : goal.returns-in-Some-clause-law
-returns-in-Some-clause-law g c = λ size r a. law_after size _ r a
+    pool_proved.call c.args.self.now c.args.self.now (Entered c.args.id reply) state is
 
 pub returns-clause-after : goal.returns-clause-after
-returns-clause-after g c = λ size r a.
+returns-clause-after g c =
     let reply : Result (Unit {0}) Refusal = Ok tt in
     let new : PoolState = record { size = c.self.inside.size; bits = c.self.inside.bits; competitors = c.push_reserved.new.self.items } in
     let state : new ≡ after_enter c.args.self.now c.args.id = search rules in
     let is : reply ≡ enter_answer c.args.self.now c.args.id = search rules in
-    after_call size c.args.self.now new r (Entered c.args.id reply) state is a
-
-pub returns-clause-law : goal.returns-clause-law
-returns-clause-law g c = λ size r a. law_after size _ r a
+    pool_proved.call c.args.self.now new (Entered c.args.id reply) state is

@@ -11,20 +11,17 @@ use Rattle.bit_allocator.specs.Calls.Call.{Left}
 use Rattle.bit_allocator.proofs.CallLemmas.{settled_by, unsettled_after}
 use Rattle.bit_allocator.proofs.LocalityLemmas.{leave_local, leave_stands}
 use Rattle.bit_allocator.specs.PoolState.{PoolState}
-use Rattle.bit_allocator.proofs.PoolKeeps.{after_call, law_after}
+use Rattle.bit_allocator.proofs.PoolKeeps.{pool_proved}
 use Rattle.bit_allocator.proofs.pool.Pool.leave.Goals as goal
 use Rattle.bit_allocator.proofs.pool.Pool.leave.Goals.{After-retain}
 
 pub returns-in_err-number-clause-after : goal.returns-in_err-number-clause-after
-returns-in_err-number-clause-after g c = λ size r a.
+returns-in_err-number-clause-after g c =
     let is : c.from_residual.result ≡ number_answer c.args.self.now c.args.id = search rules in
     let why : Refusal = c.in_err-number.field-0.0 in
     let held : Err why ≡ number_answer c.args.self.now c.args.id = c.in_err-number.ensures.answer in
     let state : c.args.self.now ≡ after_leave c.args.self.now c.args.id = unsettled_after c.args.self.now c.args.id why held in
-    after_call size c.args.self.now c.args.self.now r (Left c.args.id c.from_residual.result) state is a
-
-pub returns-in_err-number-clause-law : goal.returns-in_err-number-clause-law
-returns-in_err-number-clause-law g c = λ size r a. law_after size _ r a
+    pool_proved.call c.args.self.now c.args.self.now (Left c.args.id c.from_residual.result) state is
 
 -- what is left of the competitors
 left : (g : _) (c : After-retain g) → c.retain.new.self.items ≡ without c.args.id c.self.inside.competitors.items
@@ -52,11 +49,8 @@ returns-clause-state g c =
     rw s (rw (here, bits, z, v) refl)
 
 pub returns-clause-after : goal.returns-clause-after
-returns-clause-after g c = λ size r a.
-    after_call size c.args.self.now _ r (Left c.args.id (Ok c.in_ok-number.number)) (returns-clause-state g c) c.in_ok-number.ensures.answer a
-
-pub returns-clause-law : goal.returns-clause-law
-returns-clause-law g c = λ size r a. law_after size _ r a
+returns-clause-after g c =
+    pool_proved.call c.args.self.now _ (Left c.args.id (Ok c.in_ok-number.number)) (returns-clause-state g c) c.in_ok-number.ensures.answer
 
 pub returns-clause-local : goal.returns-clause-local
 returns-clause-local g c =

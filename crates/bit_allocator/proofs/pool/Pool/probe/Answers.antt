@@ -11,7 +11,7 @@ use Rattle.step_memory.proofs.Roster as roster
 use Rattle.bit_allocator.proofs.Counts.{competitor}
 use Rattle.bit_allocator.proofs.LocalityLemmas.{probe_local, probe_alike, probe_stands}
 use Rattle.bit_allocator.specs.PoolState.{PoolState}
-use Rattle.bit_allocator.proofs.PoolKeeps.{after_call, law_after}
+use Rattle.bit_allocator.proofs.PoolKeeps.{pool_proved}
 use Rattle.bit_allocator.proofs.pool.Pool.probe.Goals as goal
 use Rattle.bit_allocator.proofs.pool.Pool.probe.Goals.{In_default, After-index, After-probed-stay}
 
@@ -25,11 +25,8 @@ pub returns-in_default-clause-state : goal.returns-in_default-clause-state
 returns-in_default-clause-state g c = rw (absent g c) refl
 
 pub returns-in_default-clause-after : goal.returns-in_default-clause-after
-returns-in_default-clause-after g c = λ size r a.
-    after_call size c.args.self.now c.args.self.now r (Probed c.args.id (Err NotCompeting)) (returns-in_default-clause-state g c) (returns-in_default-clause-answer g c) a
-
-pub returns-in_default-clause-law : goal.returns-in_default-clause-law
-returns-in_default-clause-law g c = λ size r a. law_after size _ r a
+returns-in_default-clause-after g c =
+    pool_proved.call c.args.self.now c.args.self.now (Probed c.args.id (Err NotCompeting)) (returns-in_default-clause-state g c) (returns-in_default-clause-answer g c)
 
 pub returns-in_default-clause-alike : goal.returns-in_default-clause-alike
 returns-in_default-clause-alike g c = λ other h. returns-in_default-clause-answer g c ∙ probe_alike c.args.id c.args.self.now other h
@@ -51,11 +48,8 @@ returns-in-Settled-clause-state g c =
     rw (f.is, c.in-Settled.is) refl
 
 pub returns-in-Settled-clause-after : goal.returns-in-Settled-clause-after
-returns-in-Settled-clause-after g c = λ size r a.
-    after_call size c.args.self.now c.args.self.now r (Probed c.args.id (Err Holding)) (returns-in-Settled-clause-state g c) (returns-in-Settled-clause-answer g c) a
-
-pub returns-in-Settled-clause-law : goal.returns-in-Settled-clause-law
-returns-in-Settled-clause-law g c = λ size r a. law_after size _ r a
+returns-in-Settled-clause-after g c =
+    pool_proved.call c.args.self.now c.args.self.now (Probed c.args.id (Err Holding)) (returns-in-Settled-clause-state g c) (returns-in-Settled-clause-answer g c)
 
 pub returns-in-Settled-clause-alike : goal.returns-in-Settled-clause-alike
 returns-in-Settled-clause-alike g c = λ other h. returns-in-Settled-clause-answer g c ∙ probe_alike c.args.id c.args.self.now other h
@@ -93,11 +87,8 @@ returns-clause-state g c =
     rw (going_after c.args.self.now c.args.id c.index.result.now.stay f.is c.in_default-stay.not-Settled) (rw (put, w.bits, z, v, w.stay) refl)
 
 pub returns-clause-after : goal.returns-clause-after
-returns-clause-after g c = λ size r a.
-    after_call size c.args.self.now _ r (Probed c.args.id (Ok c.probe_reply.result)) (returns-clause-state g c) (returns-clause-answer g c) a
-
-pub returns-clause-law : goal.returns-clause-law
-returns-clause-law g c = λ size r a. law_after size _ r a
+returns-clause-after g c =
+    pool_proved.call c.args.self.now _ (Probed c.args.id (Ok c.probe_reply.result)) (returns-clause-state g c) (returns-clause-answer g c)
 
 pub returns-clause-alike : goal.returns-clause-alike
 returns-clause-alike g c = λ other h. returns-clause-answer g c ∙ probe_alike c.args.id c.args.self.now other h

@@ -4,26 +4,20 @@ use Rattle.step_memory.specs.declared.refusal.Refusal.{Refusal}
 use Rattle.bit_allocator.specs.PoolState.{PoolState}
 use Rattle.bit_allocator.specs.Pool.{widen_answer, after_widen}
 use Rattle.bit_allocator.specs.Calls.Call.{Widened}
-use Rattle.bit_allocator.proofs.PoolKeeps.{after_call, law_after}
+use Rattle.bit_allocator.proofs.PoolKeeps.{pool_proved}
 use Rattle.bit_allocator.proofs.pool.Pool.widen.Goals as goal
 
 pub returns-in-Some-clause-after : goal.returns-in-Some-clause-after
-returns-in-Some-clause-after g c = λ size r a.
+returns-in-Some-clause-after g c =
     let reply : Result (Unit {0}) Refusal = Err c.in-Some.refusal in
     let state : c.args.self.now ≡ after_widen c.args.self.now c.args.size = search rules in
     let is : reply ≡ widen_answer c.args.self.now c.args.size = search rules in
-    after_call size c.args.self.now c.args.self.now r (Widened c.args.size reply) state is a
-
-pub returns-in-Some-clause-law : goal.returns-in-Some-clause-law
-returns-in-Some-clause-law g c = λ size r a. law_after size _ r a
+    pool_proved.call c.args.self.now c.args.self.now (Widened c.args.size reply) state is
 
 pub returns-clause-after : goal.returns-clause-after
-returns-clause-after g c = λ size r a.
+returns-clause-after g c =
     let reply : Result (Unit {0}) Refusal = Ok tt in
     let new : PoolState = record { size = c.args.size; bits = c.access.new.self; competitors = c.self.inside.competitors.items } in
     let state : new ≡ after_widen c.args.self.now c.args.size = search rules in
     let is : reply ≡ widen_answer c.args.self.now c.args.size = search rules in
-    after_call size c.args.self.now new r (Widened c.args.size reply) state is a
-
-pub returns-clause-law : goal.returns-clause-law
-returns-clause-law g c = λ size r a. law_after size _ r a
+    pool_proved.call c.args.self.now new (Widened c.args.size reply) state is

@@ -1,5 +1,7 @@
-use Rattle.rename_core.proofs.AfterCalls.{begin_leads_on}
-use Rattle.rename_core.proofs.NamedPlaces.{is_lawful}
+use Rattle.step_memory.specs.Calls.Call.{Began}
+use Rattle.step_memory.proofs.MachineLemmas.{call_leads_on}
+use Rattle.rename_core.specs.Machine.{renaming}
+use Rattle.rename_core.proofs.NamedPlaces.{law_always}
 use Rattle.snapshot_core.specs.Places.{KnownPlaces, places_by}
 use Rattle.rename_core.proofs.world.RenameWorld.begin.Given.{Over}
 use Rattle.rename_core.proofs.world.RenameWorld.begin.Goals as goal
@@ -8,7 +10,7 @@ abbrev pub known : (g : Over) → KnownPlaces g.row.W.Denot g.row.W-Reg.Denot g.
 known g = places_by g.W.Walker.StepProgram.steps g.W.Walker.PlaceWalker.place_of g.W.Walk.SegmentWalk.walks g.W.StepMemory.steps g.W.Places.most_of g.W.Places.walker_from g.W.Places.walk_from g.W.Places.ties
 
 pub returns-clause-after : goal.returns-clause-after
-returns-clause-after g c = begin_leads_on (known g) c.args.self.now c.take_begin.new.self c.args.id c.take_begin.result c.take_begin.ensures.state c.take_begin.ensures.answer
+returns-clause-after g c = call_leads_on (renaming (known g) g.W.RenamePlaces.world) c.args.self.now c.take_begin.new.self (Began c.args.id c.take_begin.result) c.take_begin.ensures.state c.take_begin.ensures.answer
 
 pub returns-clause-law : goal.returns-clause-law
-returns-clause-law g c = is_lawful (known g) g.met.W.Places.laws g.W.RenamePlaces.world g.met.W.RenamePlaces.may_grow g.met.W.RenamePlaces.at_once c.take_begin.new.self
+returns-clause-law g c = law_always (known g) g.met.W.Places.laws g.W.RenamePlaces.world g.met.W.RenamePlaces.may_grow g.met.W.RenamePlaces.at_once c.take_begin.new.self

@@ -1,11 +1,6 @@
 use Rattle.std.proofs.Common.{◌∙◌}
 use Rattle.rename_core.proofs.NamedPlaces.{name_is}
-use Rattle.snapshot_core.specs.Places.{KnownPlaces, places_by}
-use Rattle.rename_core.proofs.world.RenameWorld.name_of.Given.{Over}
 use Rattle.rename_core.proofs.world.RenameWorld.name_of.Goals as goal
 
-abbrev pub known : (g : Over) → KnownPlaces g.row.W.Denot g.row.W-Reg.Denot g.row.W-Value.Denot g.row.W-Walker.Denot g.row.W-Walk.Denot
-known g = places_by g.W.Walker.StepProgram.steps g.W.Walker.PlaceWalker.place_of g.W.Walk.SegmentWalk.walks g.W.StepMemory.steps g.W.Places.most_of g.W.Places.walker_from g.W.Places.walk_from g.W.Places.ties
-
 pub returns-clause-law : goal.returns-clause-law
-returns-clause-law g c = λ r a o run. c.round_name.ensures ∙ name_is (known g) g.met.W.Places.laws g.W.RenamePlaces.world g.met.W.RenamePlaces.may_grow g.met.W.RenamePlaces.at_once c.args.self.now r a o run c.args.id
+returns-clause-law g c = λ first r a o run. c.round_name.ensures ∙ name_is _ g.met.W.Places.laws g.W.RenamePlaces.world g.met.W.RenamePlaces.may_grow g.met.W.RenamePlaces.at_once c.args.self.now c.args.id first r a o run

@@ -1,12 +1,7 @@
-use Rattle.rename_core.proofs.NamedPlaces.{is_lawful}
-use Rattle.snapshot_core.specs.Places.{KnownPlaces, places_by}
-use Rattle.rename_core.proofs.world.RenameWorld.new.Given.{Over}
+use Rattle.rename_core.proofs.NamedPlaces.{law_always}
 use Rattle.rename_core.proofs.world.RenameWorld.new.Goals as goal
-
-abbrev pub known : (g : Over) → KnownPlaces g.row.W.Denot g.row.W-Reg.Denot g.row.W-Value.Denot g.row.W-Walker.Denot g.row.W-Walk.Denot
-known g = places_by g.W.Walker.StepProgram.steps g.W.Walker.PlaceWalker.place_of g.W.Walk.SegmentWalk.walks g.W.StepMemory.steps g.W.Places.most_of g.W.Places.walker_from g.W.Places.walk_from g.W.Places.ties
 
 pub returns-clause-law : goal.returns-clause-law
 returns-clause-law g c =
-    is_lawful (known g) g.met.W.Places.laws g.W.RenamePlaces.world g.met.W.RenamePlaces.may_grow g.met.W.RenamePlaces.at_once
+    law_always _ g.met.W.Places.laws g.W.RenamePlaces.world g.met.W.RenamePlaces.may_grow g.met.W.RenamePlaces.at_once
     (record { snap = c.in_ok-new.field-0; rounds = c.in_ok-with_capacity.field-0.items; limit = c.args.config.limit })

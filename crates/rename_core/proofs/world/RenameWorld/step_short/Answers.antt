@@ -3,7 +3,7 @@ use Rattle.step_memory.specs.declared.refusal.Refusal.TheVariants.{NoMemory}
 use Rattle.rename_core.specs.Reply.{outcome_with}
 use Rattle.rename_core.proofs.AfterCalls.{step_leads_on}
 use Rattle.rename_core.proofs.ShortReplies.{refused_short, accepted_short}
-use Rattle.rename_core.proofs.NamedPlaces.{is_lawful, own_access}
+use Rattle.rename_core.proofs.NamedPlaces.{law_always, own_access}
 use Rattle.rename_core.proofs.LocalSteps.{local_call}
 use Rattle.snapshot_core.specs.Places.{KnownPlaces, places_by}
 use Rattle.rename_core.proofs.world.RenameWorld.step_short.Given.{Over}
@@ -18,11 +18,11 @@ returns-clause-after g c =
     let short = refused_short c.take_step.result c.take_step.new.view NoMemory in
     let goes = accepted_short c.take_step.result c.take_step.new.view NoMemory in
     let kept : told ≡ Err NoMemory → c.take_step.new.self ≡ c.args.self.now = λ e. let is = short e in search rules in
-    step_leads_on (known g) c.args.self.now c.take_step.new.self c.args.id told
+    step_leads_on (known g) g.W.RenamePlaces.world c.args.self.now c.take_step.new.self c.args.id told
     (λ e. c.take_step.ensures.state (goes e)) (λ e. c.take_step.ensures.answer (goes e)) (λ e. let m = c.take_step.ensures.no_memory (short e) in (kept e, m.0, m.1))
 
 pub returns-clause-law : goal.returns-clause-law
-returns-clause-law g c = is_lawful (known g) g.met.W.Places.laws g.W.RenamePlaces.world g.met.W.RenamePlaces.may_grow g.met.W.RenamePlaces.at_once c.take_step.new.self
+returns-clause-law g c = law_always (known g) g.met.W.Places.laws g.W.RenamePlaces.world g.met.W.RenamePlaces.may_grow g.met.W.RenamePlaces.at_once c.take_step.new.self
 
 pub returns-clause-local : goal.returns-clause-local
 returns-clause-local g c =

@@ -6,17 +6,15 @@ use Rattle.step_memory.specs.declared.refusal.Refusal.{Refusal}
 use Rattle.bit_allocator.specs.Pool.{number_answer}
 use Rattle.slot_array.specs.SlotCalls.SlotCall.{Fetched}
 use Rattle.slot_array.specs.Slots.{IsFetched}
-use Rattle.slot_array.proofs.SlotsKeep.{after_slots_call, law_after_slots}
+use Rattle.step_memory.proofs.MachineLemmas.{call_leads_on}
+use Rattle.slot_array.specs.Machine.{slots}
 use Rattle.slot_array.proofs.slots.Slots.get.Goals as goal
 
 pub returns-in_err-number-clause-after : goal.returns-in_err-number-clause-after
-returns-in_err-number-clause-after g c = λ size values r a.
+returns-in_err-number-clause-after g c =
     let reply : Result g.row.T.Denot Refusal = result_map_both (λ value. value.now) (λ refusal. refusal) c.from_residual.result in
     let is : IsFetched c.args.self.now.values (number_answer c.args.self.now.pool c.args.id) reply = search rules in
-    after_slots_call size values c.args.self.now c.args.self.now r (Fetched c.args.id reply) refl is a
-
-pub returns-in_err-number-clause-law : goal.returns-in_err-number-clause-law
-returns-in_err-number-clause-law g c = λ size values r a. law_after_slots size values _ r a
+    call_leads_on slots c.args.self.now c.args.self.now (Fetched c.args.id reply) refl is
 
 pub returns-clause-answer : goal.returns-clause-answer
 returns-clause-answer g c =
@@ -32,8 +30,5 @@ returns-clause-answer g c =
     rw (← held) at
 
 pub returns-clause-after : goal.returns-clause-after
-returns-clause-after g c = λ size values r a.
-    after_slots_call size values c.args.self.now c.args.self.now r (Fetched c.args.id (Ok c.index.result.now)) refl (returns-clause-answer g c) a
-
-pub returns-clause-law : goal.returns-clause-law
-returns-clause-law g c = λ size values r a. law_after_slots size values _ r a
+returns-clause-after g c =
+    call_leads_on slots c.args.self.now c.args.self.now (Fetched c.args.id (Ok c.index.result.now)) refl (returns-clause-answer g c)

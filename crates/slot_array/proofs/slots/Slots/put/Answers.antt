@@ -3,17 +3,15 @@ use Rattle.bit_allocator.specs.Pool.{number_answer}
 use Rattle.slot_array.specs.SlotCalls.SlotCall.{Stored}
 use Rattle.slot_array.specs.Slots.{stored_reply, after_put}
 use Rattle.slot_array.proofs.SlotLemmas.{changes_own}
-use Rattle.slot_array.proofs.SlotsKeep.{after_slots_call, law_after_slots}
+use Rattle.step_memory.proofs.MachineLemmas.{call_leads_on}
+use Rattle.slot_array.specs.Machine.{slots}
 use Rattle.slot_array.proofs.slots.Slots.put.Goals as goal
 
 pub returns-in_err-number-clause-after : goal.returns-in_err-number-clause-after
-returns-in_err-number-clause-after g c = λ size values r a.
+returns-in_err-number-clause-after g c =
     let reply : c.from_residual.result ≡ stored_reply (number_answer c.args.self.now.pool c.args.id) = search rules in
     let state : c.args.self.now ≡ after_put c.args.self.now c.args.id c.args.value = search rules in
-    after_slots_call size values c.args.self.now c.args.self.now r (Stored c.args.id c.args.value c.from_residual.result) state reply a
-
-pub returns-in_err-number-clause-law : goal.returns-in_err-number-clause-law
-returns-in_err-number-clause-law g c = λ size values r a. law_after_slots size values _ r a
+    call_leads_on slots c.args.self.now c.args.self.now (Stored c.args.id c.args.value c.from_residual.result) state reply
 
 pub returns-clause-state : goal.returns-clause-state
 returns-clause-state g c = search rules
@@ -32,9 +30,6 @@ returns-clause-changes g c =
     rw (returns-clause-state g c) (changes_own c.args.self.now c.args.id c.args.value within)
 
 pub returns-clause-after : goal.returns-clause-after
-returns-clause-after g c = λ size values r a.
+returns-clause-after g c =
     let reply : Ok tt ≡ stored_reply (number_answer c.args.self.now.pool c.args.id) = search rules in
-    after_slots_call size values c.args.self.now _ r (Stored c.args.id c.args.value (Ok tt)) (returns-clause-state g c) reply a
-
-pub returns-clause-law : goal.returns-clause-law
-returns-clause-law g c = λ size values r a. law_after_slots size values _ r a
+    call_leads_on slots c.args.self.now _ (Stored c.args.id c.args.value (Ok tt)) (returns-clause-state g c) reply

@@ -4,18 +4,16 @@ use Rattle.slot_array.specs.SlotsState.{SlotsState}
 use Rattle.slot_array.specs.SlotCalls.SlotCall.{Extended}
 use Rattle.slot_array.specs.Slots.{after_extend}
 use Rattle.slot_array.proofs.SlotLemmas.{fills_new}
-use Rattle.slot_array.proofs.SlotsKeep.{after_slots_call, law_after_slots}
+use Rattle.step_memory.proofs.MachineLemmas.{call_leads_on}
+use Rattle.slot_array.specs.Machine.{slots}
 use Rattle.slot_array.proofs.slots.Slots.widen.Goals as goal
 
 pub returns-in_err-widen-clause-after : goal.returns-in_err-widen-clause-after
-returns-in_err-widen-clause-after g c = λ size values r a.
+returns-in_err-widen-clause-after g c =
     let new : SlotsState g.row.T.Denot = record { pool = c.widen.new.self; values = c.self.inside.values.items } in
     let state : new ≡ after_extend c.args.self.now c.args.size c.args.value = search rules in
     let reply : c.from_residual.result ≡ widen_answer c.args.self.now.pool c.args.size = search rules in
-    after_slots_call size values c.args.self.now new r (Extended c.args.size c.args.value c.from_residual.result) state reply a
-
-pub returns-in_err-widen-clause-law : goal.returns-in_err-widen-clause-law
-returns-in_err-widen-clause-law g c = λ size values r a. law_after_slots size values _ r a
+    call_leads_on slots c.args.self.now new (Extended c.args.size c.args.value c.from_residual.result) state reply
 
 pub returns-clause-state : goal.returns-clause-state
 returns-clause-state g c = search rules
@@ -29,9 +27,6 @@ returns-clause-fills g c =
     rw (returns-clause-state g c) (fills_new c.args.self.now c.args.size c.args.value many done)
 
 pub returns-clause-after : goal.returns-clause-after
-returns-clause-after g c = λ size values r a.
+returns-clause-after g c =
     let reply : Ok tt ≡ widen_answer c.args.self.now.pool c.args.size = search rules in
-    after_slots_call size values c.args.self.now _ r (Extended c.args.size c.args.value (Ok tt)) (returns-clause-state g c) reply a
-
-pub returns-clause-law : goal.returns-clause-law
-returns-clause-law g c = λ size values r a. law_after_slots size values _ r a
+    call_leads_on slots c.args.self.now _ (Extended c.args.size c.args.value (Ok tt)) (returns-clause-state g c) reply

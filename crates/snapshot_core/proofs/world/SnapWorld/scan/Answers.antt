@@ -4,8 +4,10 @@ use Rattle.step_memory.specs.Participant.{program_of}
 use Rattle.step_memory.specs.World.{after_set}
 use Rattle.snapshot_core.specs.Client.{is_idle, scanning}
 use Rattle.snapshot_core.specs.SnapCalls.SnapCall.{Scanned}
-use Rattle.snapshot_core.proofs.SnapWorldLemmas.{after_call, scan_absent, scan_busy, scan_goes, set_goes}
+use Rattle.snapshot_core.proofs.SnapWorldLemmas.{scan_absent, scan_busy, scan_goes, set_goes}
 use Rattle.snapshot_core.proofs.Following.{law_holds}
+use Rattle.step_memory.proofs.MachineLemmas.{call_leads_on}
+use Rattle.snapshot_core.specs.Machine.{snapshot}
 use Rattle.snapshot_core.specs.Places.{KnownPlaces, places_by}
 use Rattle.snapshot_core.proofs.world.SnapWorld.scan.Given.{Over}
 use Rattle.snapshot_core.proofs.world.SnapWorld.scan.Goals as goal
@@ -17,14 +19,14 @@ pub returns-in_default-clause-after : goal.returns-in_default-clause-after
 returns-in_default-clause-after g c =
     let none : None ≡ program_of c.args.id c.args.self.now.participants = rw (← c.self.view_is) c.in_default.ensures in
     let goes = scan_absent c.args.self.now c.args.id none in
-    after_call (known g) c.args.self.now c.args.self.now (Scanned c.args.id (Err NotBegun)) goes.state goes.answer
+    call_leads_on (snapshot (known g)) c.args.self.now c.args.self.now (Scanned c.args.id (Err NotBegun)) goes.state goes.answer
 
 pub returns-then-not-is_idle-clause-after : goal.returns-then-not-is_idle-clause-after
 returns-then-not-is_idle-clause-after g c =
     let some : Some c.in-Some.client.now ≡ program_of c.args.id c.args.self.now.participants = rw (← c.self.view_is) c.in-Some.ensures in
     let busy : is_idle c.in-Some.client.now.pending ≡ false = sym c.is_idle.ensures ∙ c.if-not-is_idle.true in
     let goes = scan_busy c.args.self.now c.args.id c.in-Some.client.now some busy in
-    after_call (known g) c.args.self.now c.args.self.now (Scanned c.args.id (Err AlreadyBegun)) goes.state goes.answer
+    call_leads_on (snapshot (known g)) c.args.self.now c.args.self.now (Scanned c.args.id (Err AlreadyBegun)) goes.state goes.answer
 
 pub returns-clause-after : goal.returns-clause-after
 returns-clause-after g c =
@@ -33,7 +35,7 @@ returns-clause-after g c =
     let goes = scan_goes c.args.self.now c.args.id c.in-Some.client.now some idle in
     let reply : c.ask.result ≡ Ok tt = rw c.self.view_is at c.ask.ensures.answer ∙ set_goes c.args.self.now c.args.id c.in-Some.client.now some in
     let state : c.ask.new.self ≡ after_set c.args.self.now c.args.id (scanning c.in-Some.client.now) = rw (c.self.view_is, ← some) at c.ask.ensures.after in
-    after_call (known g) c.args.self.now c.ask.new.self (Scanned c.args.id c.ask.result) (state ∙ goes.state) (reply ∙ goes.answer)
+    call_leads_on (snapshot (known g)) c.args.self.now c.ask.new.self (Scanned c.args.id c.ask.result) (state ∙ goes.state) (reply ∙ goes.answer)
 
 pub returns-in_default-clause-law : goal.returns-in_default-clause-law
 returns-in_default-clause-law g c = law_holds (known g) g.met.W.Places.laws c.args.self.now

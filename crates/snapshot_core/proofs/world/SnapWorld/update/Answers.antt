@@ -4,8 +4,10 @@ use Rattle.step_memory.specs.Participant.{program_of}
 use Rattle.step_memory.specs.World.{after_set}
 use Rattle.snapshot_core.specs.Client.{is_idle, updating}
 use Rattle.snapshot_core.specs.SnapCalls.SnapCall.{Updated}
-use Rattle.snapshot_core.proofs.SnapWorldLemmas.{after_call, update_absent, update_busy, update_goes, update_spent, set_goes}
+use Rattle.snapshot_core.proofs.SnapWorldLemmas.{update_absent, update_busy, update_goes, update_spent, set_goes}
 use Rattle.snapshot_core.proofs.Following.{law_holds}
+use Rattle.step_memory.proofs.MachineLemmas.{call_leads_on}
+use Rattle.snapshot_core.specs.Machine.{snapshot}
 use Rattle.snapshot_core.specs.Places.{KnownPlaces, places_by}
 use Rattle.snapshot_core.proofs.world.SnapWorld.update.Given.{Over}
 use Rattle.snapshot_core.proofs.world.SnapWorld.update.Goals as goal
@@ -17,21 +19,21 @@ pub returns-in_default-clause-after : goal.returns-in_default-clause-after
 returns-in_default-clause-after g c =
     let none : None ≡ program_of c.args.id c.args.self.now.participants = rw (← c.self.view_is) c.in_default.ensures in
     let goes = update_absent c.args.self.now c.args.id c.args.value none in
-    after_call (known g) c.args.self.now c.args.self.now (Updated c.args.id c.args.value (Err NotBegun)) goes.state goes.answer
+    call_leads_on (snapshot (known g)) c.args.self.now c.args.self.now (Updated c.args.id c.args.value (Err NotBegun)) goes.state goes.answer
 
 pub returns-then-not-is_idle-clause-after : goal.returns-then-not-is_idle-clause-after
 returns-then-not-is_idle-clause-after g c =
     let some : Some c.in-Some.client.now ≡ program_of c.args.id c.args.self.now.participants = rw (← c.self.view_is) c.in-Some.ensures in
     let busy : is_idle c.in-Some.client.now.pending ≡ false = sym c.is_idle.ensures ∙ c.if-not-is_idle.true in
     let goes = update_busy c.args.self.now c.args.id c.args.value c.in-Some.client.now some busy in
-    after_call (known g) c.args.self.now c.args.self.now (Updated c.args.id c.args.value (Err AlreadyBegun)) goes.state goes.answer
+    call_leads_on (snapshot (known g)) c.args.self.now c.args.self.now (Updated c.args.id c.args.value (Err AlreadyBegun)) goes.state goes.answer
 
 pub returns-then-client-ge-MOST_UPDATES-clause-after : goal.returns-then-client-ge-MOST_UPDATES-clause-after
 returns-then-client-ge-MOST_UPDATES-clause-after g c =
     let some : Some c.in-Some.client.now ≡ program_of c.args.id c.args.self.now.participants = rw (← c.self.view_is) c.in-Some.ensures in
     let idle : is_idle c.in-Some.client.now.pending ≡ true = sym c.is_idle.ensures ∙ c.if-not-is_idle.false in
     let goes = update_spent c.args.self.now c.args.id c.args.value c.in-Some.client.now some idle c.if-client-ge-MOST_UPDATES.true in
-    after_call (known g) c.args.self.now c.args.self.now (Updated c.args.id c.args.value (Err Spent)) goes.state goes.answer
+    call_leads_on (snapshot (known g)) c.args.self.now c.args.self.now (Updated c.args.id c.args.value (Err Spent)) goes.state goes.answer
 
 pub returns-clause-after : goal.returns-clause-after
 returns-clause-after g c =
@@ -40,7 +42,7 @@ returns-clause-after g c =
     let goes = update_goes c.args.self.now c.args.id c.args.value c.in-Some.client.now some idle c.if-client-ge-MOST_UPDATES.false in
     let reply : c.ask.result ≡ Ok tt = rw c.self.view_is at c.ask.ensures.answer ∙ set_goes c.args.self.now c.args.id c.in-Some.client.now some in
     let state : c.ask.new.self ≡ after_set c.args.self.now c.args.id (updating c.in-Some.client.now c.args.value) = rw (c.self.view_is, ← some) at c.ask.ensures.after in
-    after_call (known g) c.args.self.now c.ask.new.self (Updated c.args.id c.args.value c.ask.result) (state ∙ goes.state) (reply ∙ goes.answer)
+    call_leads_on (snapshot (known g)) c.args.self.now c.ask.new.self (Updated c.args.id c.args.value c.ask.result) (state ∙ goes.state) (reply ∙ goes.answer)
 
 pub returns-in_default-clause-law : goal.returns-in_default-clause-law
 returns-in_default-clause-law g c = law_holds (known g) g.met.W.Places.laws c.args.self.now

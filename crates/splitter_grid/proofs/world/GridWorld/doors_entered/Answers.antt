@@ -1,19 +1,19 @@
 use Rattle.std.proofs.Common.{◌≡◌, ℕ, ap, subst, ◌∙◌}
 use Rattle.step_memory.specs.RegisterState.{Registers}
-use Rattle.splitter_grid.specs.Consistent.{was_entered}
+use Rattle.splitter_grid.specs.Invariant.{was_entered}
 use Rattle.step_memory.specs.Count.{count_to}
-use Rattle.splitter_grid.proofs.GridTied.{grid_after}
+use Rattle.splitter_grid.proofs.GridTied.{grid_always}
 use Rattle.splitter_grid.proofs.EnteredDoors.{written_entered}
 use Rattle.splitter_grid.proofs.world.GridWorld.doors_entered.Goals as goal
 
 pub returns-clause-entered : goal.returns-clause-entered
-returns-clause-entered g c = λ r a k. written_entered c.args.self.now r a k
+returns-clause-entered g c = written_entered c.args.self.now
 
 pub returns-clause-within : goal.returns-clause-within
-returns-clause-within g c = λ r a k entered. (grid_after c.args.self.now r a).entered k ((written_entered c.args.self.now r a k).1 entered)
+returns-clause-within g c = λ most r a k entered. (grid_always c.args.self.now most r a).entered k ((written_entered c.args.self.now most r a k).1 entered)
 
 pub returns-clause-few : goal.returns-clause-few
-returns-clause-few g c = λ r a.
+returns-clause-few g c = λ most r a.
     let same : c.memory-memory.result.now ≡ c.args.self.now.memory = c.memory-memory.ensures ∙ ap (λ w. w.memory) c.self.view_is in
     let counted : c.loop-k.entered ≡ count_to (was_entered c.args.self.now.memory) c.loop-k.k = subst (λ (m : Registers ℕ). c.loop-k.entered ≡ count_to (was_entered m) c.loop-k.k) same c.loop-k.invariant.counted in
-    rw counted ((grid_after c.args.self.now r a).few_entered c.loop-k.k)
+    rw counted ((grid_always c.args.self.now most r a).few_entered c.loop-k.k)

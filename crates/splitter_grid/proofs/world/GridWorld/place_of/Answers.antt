@@ -1,14 +1,14 @@
 use Rattle.std.proofs.Common.{rules, ◌≡◌, None, ◌∙◌}
-use Rattle.splitter_grid.specs.GridWorld.{place_in}
-use Rattle.splitter_grid.proofs.GridTied.{place_after}
+use Rattle.splitter_grid.specs.Machine.{place_in}
+use Rattle.splitter_grid.proofs.GridTied.{place_always}
 use Rattle.splitter_grid.proofs.world.GridWorld.place_of.Goals as goal
 
 pub returns-in_default-clause-answered : goal.returns-in_default-clause-answered
-returns-in_default-clause-answered g c = λ r a.
+returns-in_default-clause-answered g c = λ most r a.
     let value : None ≡ place_in c.args.self.now c.args.id = search rules in
-    value ∙ place_after c.args.self.now r a c.args.id
+    value ∙ place_always c.args.self.now c.args.id most r a
 
 pub returns-clause-answered : goal.returns-clause-answered
-returns-clause-answered g c = λ r a.
+returns-clause-answered g c = λ most r a.
     let value : c.place.result ≡ place_in c.args.self.now c.args.id = search rules in
-    value ∙ place_after c.args.self.now r a c.args.id
+    value ∙ place_always c.args.self.now c.args.id most r a

@@ -4,26 +4,27 @@ use Rattle.step_memory.specs.Participant.{program_of}
 use Rattle.step_memory.specs.World.{after_set, after_step}
 use Rattle.splitter_tree.specs.Client.{client_steps, is_idle, storing}
 use Rattle.splitter_tree.specs.TreeSteps.{tree_steps}
-use Rattle.splitter_tree.proofs.AfterLemmas.{after_store_call}
+use Rattle.step_memory.proofs.MachineLemmas.{call_leads_on}
+use Rattle.splitter_tree.specs.Machine.{tree}
+use Rattle.splitter_tree.specs.TreeCalls.TreeCall.{Stored}
 use Rattle.splitter_tree.proofs.TreeCallLemmas.{absent_store, busy_store, going_store}
 use Rattle.splitter_tree.proofs.LocalStore.{local_store}
 use Rattle.splitter_tree.proofs.StoreLemmas.{store_goes_well}
-use Rattle.splitter_tree.proofs.LawsAfter.{law_after, due_after}
 use Rattle.splitter_tree.proofs.world.TreeWorld.store.Goals as goal
 use Rattle.splitter_tree.proofs.world.TreeWorld.store.Given.{Over}
 
 pub returns-in_default-clause-after : goal.returns-in_default-clause-after
-returns-in_default-clause-after g c = λ r a.
+returns-in_default-clause-after g c =
     let none : None ≡ program_of c.args.id c.args.self.now.participants = rw (← c.self.view_is) c.in_default.ensures in
     let goes = absent_store tree_steps c.args.self.now c.args.id c.args.value none in
-    after_store_call c.args.self.now r a c.args.self.now c.args.id c.args.value (Err NotBegun) goes.state goes.answer
+    call_leads_on tree c.args.self.now c.args.self.now (Stored c.args.id c.args.value (Err NotBegun)) goes.state goes.answer
 
 pub returns-then-not-is_idle-clause-after : goal.returns-then-not-is_idle-clause-after
-returns-then-not-is_idle-clause-after g c = λ r a.
+returns-then-not-is_idle-clause-after g c =
     let some : Some c.in-Some.client.now ≡ program_of c.args.id c.args.self.now.participants = rw (← c.self.view_is) c.in-Some.ensures in
     let busy : is_idle c.in-Some.client.now.task ≡ false = sym c.is_idle.ensures ∙ c.if-not-is_idle.true in
     let goes = busy_store tree_steps c.args.self.now c.args.id c.args.value c.in-Some.client.now some busy in
-    after_store_call c.args.self.now r a c.args.self.now c.args.id c.args.value (Err AlreadyBegun) goes.state goes.answer
+    call_leads_on tree c.args.self.now c.args.self.now (Stored c.args.id c.args.value (Err AlreadyBegun)) goes.state goes.answer
 
 -- the step of a store has no error
 no_error : (g : Over) (c : goal.After-from_residual-in_err-step g) → ⊥
@@ -42,38 +43,14 @@ pub returns-in_err-step-clause-after : goal.returns-in_err-step-clause-after
 returns-in_err-step-clause-after g c = absurd (no_error g c)
 
 pub returns-clause-after : goal.returns-clause-after
-returns-clause-after g c = λ r a.
+returns-clause-after g c =
     let some : Some c.in-Some.client.now ≡ program_of c.args.id c.args.self.now.participants = rw (← c.self.view_is) c.in-Some.ensures in
     let idle : is_idle c.in-Some.client.now.task ≡ true = sym c.is_idle.ensures ∙ c.if-not-is_idle.false in
     let goes = going_store tree_steps c.args.self.now c.args.id c.args.value c.in-Some.client.now some idle in
     let asked : c.set.new.self ≡ after_set c.args.self.now c.args.id (storing c.in-Some.client.now c.args.value) = rw (c.storing-client.ensures, c.self.view_is) at c.set.ensures.after in
     let fine : c.step.result ≢ Err NoMemory = λ h. (let ok = c.in_ok-step.was in absurd (cc)) in
     let state : c.step.new.self ≡ after_step client_steps tree_steps (after_set c.args.self.now c.args.id (storing c.in-Some.client.now c.args.value)) c.args.id = rw asked at (c.step.ensures.after fine) in
-    after_store_call c.args.self.now r a c.step.new.self c.args.id c.args.value (Ok tt) (state ∙ goes.state) goes.answer
-
-pub returns-in_default-clause-law : goal.returns-in_default-clause-law
-returns-in_default-clause-law g c = law_after c.args.self.now
-
-pub returns-in_default-clause-due : goal.returns-in_default-clause-due
-returns-in_default-clause-due g c = due_after c.args.self.now
-
-pub returns-then-not-is_idle-clause-law : goal.returns-then-not-is_idle-clause-law
-returns-then-not-is_idle-clause-law g c = law_after c.args.self.now
-
-pub returns-then-not-is_idle-clause-due : goal.returns-then-not-is_idle-clause-due
-returns-then-not-is_idle-clause-due g c = due_after c.args.self.now
-
-pub returns-in_err-step-clause-law : goal.returns-in_err-step-clause-law
-returns-in_err-step-clause-law g c = law_after c.step.new.self
-
-pub returns-in_err-step-clause-due : goal.returns-in_err-step-clause-due
-returns-in_err-step-clause-due g c = due_after c.step.new.self
-
-pub returns-clause-law : goal.returns-clause-law
-returns-clause-law g c = law_after c.step.new.self
-
-pub returns-clause-due : goal.returns-clause-due
-returns-clause-due g c = due_after c.step.new.self
+    call_leads_on tree c.args.self.now c.step.new.self (Stored c.args.id c.args.value (Ok tt)) (state ∙ goes.state) goes.answer
 
 pub returns-in_err-step-clause-local : goal.returns-in_err-step-clause-local
 returns-in_err-step-clause-local g c = absurd (no_error g c)

@@ -1,0 +1,93 @@
+-- what ties the doors of a grid to the walks in it: the relation that structures over the grid stand on
+use Rattle.std.specs.Prelude.{◌≡◌, ◌≢◌, ℕ, ◌+◌, ◌*◌, ◌<◌, ◌≤◌, Bool, true, false, not, ◌==◌, ◌⊎◌, List, length, Option, Some, None, IsSome}
+use Rattle.std.proofs.Common.{suc, get_or}
+use Rattle.step_memory.specs.RegisterState.{Registers}
+use Rattle.splitter.specs.declared.stage.Stage.{Stage}
+use Rattle.splitter.specs.declared.stage.Stage.TheVariants.{Outside}
+use Rattle.splitter.specs.Stage.{has_entered, went_right, went_down}
+use Rattle.splitter.specs.Invariant.{DoorIsLawful}
+use Rattle.splitter.specs.Visitor.{word_of}
+use Rattle.splitter_grid.specs.declared.walker.Walker.{Walker}
+use Rattle.splitter_grid.specs.Door.{door_number, number_of, IsDoorWithin}
+use Rattle.splitter_grid.specs.Walk.{place_by, accesses_by}
+use Rattle.splitter_grid.specs.Law.{AreDistinct}
+use Rattle.step_memory.specs.Count.{count_to}
+
+-- what stands in X of door k
+abbrev pub x_in : Registers ℕ → ℕ → ℕ
+x_in m k = word_of m (2 * k)
+
+-- what stands in Y of door k
+abbrev pub y_in : Registers ℕ → ℕ → ℕ
+y_in m k = word_of m (2 * k + 1)
+
+-- whether anyone has entered door k: then an identity, which is not 0, stands in its X
+abbrev pub was_entered : Registers ℕ → ℕ → Bool
+was_entered m k = not (x_in m k == 0)
+
+-- p stands before this door, or in it
+pub record StandsAt (walker : ℕ → Option Walker) (p depth column : ℕ) : Type 0 where
+  pub walk : Walker
+  pub is : walker p ≡ Some walk
+  pub depth_is : walk.door.depth ≡ depth
+  pub column_is : walk.door.column ≡ column
+
+-- the walk of p agrees with the visits: it stands at a door that was reached, has not left it, and has entered no door
+-- that lies deeper
+pub record IsWalkOf (stage : ℕ → ℕ → Stage) (reached : ℕ → ℕ → Bool) (p : ℕ) (u : Walker) : Type 0 where
+  pub identity : u.visitor.identity ≡ p
+  pub x : u.visitor.x ≡ 2 * number_of u.door
+  pub y : u.visitor.y ≡ 2 * number_of u.door + 1
+  pub inside : u.door.column ≤ u.door.depth
+  pub here : stage (number_of u.door) p ≡ u.visitor.stage
+  pub arrived : reached u.door.depth u.door.column ≡ true
+  pub not_right : went_right u.visitor.stage ≡ false
+  pub not_down : went_down u.visitor.stage ≡ false
+  pub below : (d c : ℕ) → c ≤ d → u.door.depth < d → stage (door_number d c) p ≡ Outside
+
+-- b have begun, and all doors that anyone reached lie on the first `limit` diagonals. In door k this stands in X and that in Y.
+-- The past is in two of the fields: how far p's visit to door k came, and which doors, by depth and column, were reached
+pub record DoorsAgree (limit b : ℕ) (x_of y_of : ℕ → ℕ) (walker : ℕ → Option Walker) : Type 0 where
+  pub stage : ℕ → ℕ → Stage
+  pub reached : ℕ → ℕ → Bool
+  -- who has begun
+  pub identities : List ℕ
+  pub many : length identities ≡ b
+  pub listed : (p : ℕ) (u : Walker) → walker p ≡ Some u → (i : ℕ) × (i < length identities) × (get_or identities i 0 ≡ p)
+  pub nobody : walker 0 ≡ None
+  -- each walk agrees with the visits, and who has not begun made none
+  pub walks : (p : ℕ) (u : Walker) → walker p ≡ Some u → IsWalkOf stage reached p u
+  pub absent : (p : ℕ) → walker p ≡ None → (k : ℕ) → stage k p ≡ Outside
+  -- each door is a lawful splitter, and who stands in its X has entered
+  pub doors : (k : ℕ) → DoorIsLawful (x_of k) (y_of k) (stage k)
+  pub entered : (k : ℕ) → x_of k ≢ 0 → has_entered (stage k (x_of k)) ≡ true
+  -- who entered a door stands there still, or has left it for a door that was reached
+  pub left : (d c p : ℕ) → c ≤ d → has_entered (stage (door_number d c) p) ≡ true →
+      StandsAt walker p d c
+      ⊎ (((went_right (stage (door_number d c) p) ≡ true) × (reached (suc d) c ≡ true))
+      ⊎ ((went_down (stage (door_number d c) p) ≡ true) × (reached (suc d) (suc c) ≡ true)))
+  -- at a door that was reached someone stands, or someone has entered it
+  pub here : (d c : ℕ) → reached d c ≡ true → ((p : ℕ) × StandsAt walker p d c) ⊎ ((p : ℕ) × (has_entered (stage (door_number d c) p) ≡ true))
+  -- it was reached from the diagonal before
+  pub comes : (d c : ℕ) → c ≤ suc d → reached (suc d) c ≡ true → (e : ℕ) × (e ≤ d) × (reached d e ≡ true)
+  pub inside : (d c : ℕ) → reached d c ≡ true → c ≤ d
+  pub within : (d c : ℕ) → reached d c ≡ true → d < limit
+  pub root : 0 < b → reached 0 0 ≡ true
+
+-- of at most `most` participants, b have begun, and the doors in these registers and the walks agree
+pub record IsConsistent (most b : ℕ) (m : Registers ℕ) (walker : ℕ → Option Walker) : Type 0 where
+  pub few : most ≤ 16
+  pub room : b ≤ most
+  pub registers : length m.values ≡ most * (most + 1)
+  pub agree : DoorsAgree b b (x_in m) (y_in m) walker
+
+-- the law of the grid, of b walks and the doors in these registers: the places at which walks have ended are distinct;
+-- they, and all doors that anyone entered, are on the first b diagonals; nobody makes more than 4b accesses, and who has
+-- made so many, and any, has a place
+pub record IsGrid (b : ℕ) (m : Registers ℕ) (walker : ℕ → Option Walker) : Type 0 where
+  pub distinct : AreDistinct (λ p. place_by (walker p))
+  pub within : (p place : ℕ) → place_by (walker p) ≡ Some place → IsDoorWithin b place
+  pub entered : (k : ℕ) → x_in m k ≢ 0 → IsDoorWithin b k
+  pub few_entered : (n : ℕ) → 2 * count_to (was_entered m) n ≤ b * (b + 1)
+  pub at_most : (p : ℕ) → accesses_by (walker p) ≤ 4 * b
+  pub last_places : (p : ℕ) → 0 < accesses_by (walker p) → accesses_by (walker p) ≡ 4 * b → IsSome (place_by (walker p))

@@ -1,0 +1,65 @@
+-- what the calls of a grid's world answer and leave
+use Rattle.std.specs.Prelude.{◌≤◌, ℕ, ◌+◌, ◌*◌, ◌/◌, false, [], Option, Result, replicate, is_some}
+use Rattle.step_memory.specs.declared.refusal.Refusal.{Refusal}
+use Rattle.step_memory.specs.RegisterState.{Registers}
+use Rattle.step_memory.specs.Registers.{memory_steps}
+use Rattle.step_memory.specs.WorldState.{WorldState}
+use Rattle.step_memory.specs.World.{step_answer, after_step}
+use Rattle.step_memory.specs.Participant.{program_of}
+use Rattle.step_memory.specs.Calls.{Call, outcome_in, reply_of}
+use Rattle.step_memory.specs.Machine.{Machine}
+use Rattle.step_memory.specs.WorldMachine.{WorldParts, world_machine}
+use Rattle.splitter_grid.specs.Law.{KeepsGridLaw}
+use Rattle.splitter_grid.specs.declared.walker.Walker.{Walker}
+use Rattle.splitter_grid.specs.Walk.{walk_of, walker_steps, place_by}
+use Rattle.step_memory.specs.Count.{count_to}
+use Rattle.splitter_grid.specs.Invariant.{was_entered}
+
+-- the registers, the most participants, and their walks
+abbrev pub GridState : Type 0
+GridState = WorldState (Registers ℕ) Walker
+
+-- two registers for each door: X holds 0, and Y is clear
+abbrev pub empty_doors : ℕ → Registers ℕ
+empty_doors most = record { first = 0; values = replicate (most * (most + 1)) 0; bits = replicate 0 false }
+
+-- a grid that no one has entered
+abbrev pub fresh : ℕ → GridState
+fresh most = record { memory = empty_doors most; most = most; participants = [] }
+
+-- what a step answers: the place, once the walk ends
+abbrev pub step_reply : GridState → ℕ → Result (Option ℕ) Refusal
+step_reply w id = reply_of outcome_in (step_answer walker_steps memory_steps w id)
+
+-- the world after a step
+abbrev pub world_after_step : GridState → ℕ → GridState
+world_after_step w id = after_step walker_steps memory_steps w id
+
+-- a grid's world, of at most 16 participants, and what it keeps
+abbrev pub grid_parts : WorldParts Walker (Registers ℕ) ℕ ℕ ℕ (Option ℕ)
+grid_parts = record {
+  program = walker_steps;
+  memory = memory_steps;
+  shown = outcome_in;
+  start = walk_of;
+  last = is_some;
+  grows = false;
+  MayStart = λ most. most ≤ 16;
+  empty = empty_doors;
+  KeepsLaw = KeepsGridLaw;
+}
+
+abbrev pub grid : Machine ℕ GridState (Call (Option ℕ))
+grid = world_machine grid_parts
+
+-- the place at which the walk of an identity has ended
+abbrev pub place_in : GridState → ℕ → Option ℕ
+place_in w id = place_by (program_of id w.participants)
+
+-- the doors of a grid for so many participants
+abbrev pub doors_for : ℕ → ℕ
+doors_for most = most * (most + 1) / 2
+
+-- how many doors were entered
+abbrev pub entered_count : GridState → ℕ
+entered_count w = count_to (was_entered w.memory) (doors_for w.most)

@@ -1,0 +1,102 @@
+-- the world of a tree is proved
+use Rattle.std.proofs.Common.{◌≡◌, ◌≢◌, ◌≤◌, ◌==◌, ℕ, false, inl, inr, List, [], ◌∷◌, ◌++◌, Option, Some, None, Result, Ok, Err, refl, sym, ap, subst, ◌∙◌, arith}
+use Rattle.std.specs.Prelude.{option_map, option_and_then, is_some, nat_le}
+use Rattle.std.proofs.lemmas.Bool.Decides.{eqb_tells, leb_tells}
+use Rattle.splitter_tree.specs.PlacesLaw.{KeepsPlacesLaw, way_calls, walker_in}
+use Rattle.splitter_tree.specs.Machine.{TreeWorldState, HasLawfulNodes, fresh_over, tree, tree_over}
+use Rattle.splitter_tree.specs.TreeCalls.{TreeCall}
+use Rattle.splitter_tree.specs.TreeCalls.TreeCall.{Began, Stepped}
+use Rattle.splitter_tree.specs.TreeSteps.{tree_steps, empty_tree}
+use Rattle.splitter_tree.specs.TreeWorld.{TreeState, after_tree_begin, after_placing, after_collecting}
+use Rattle.splitter_tree.specs.declared.register.TreeRegister.{TreeRegister}
+use Rattle.splitter_tree.specs.declared.register.TreeValue.{TreeValue}
+use Rattle.splitter_tree.proofs.collects.CollectSteps.{collect_law}
+use Rattle.splitter_tree.proofs.nodes.PlacesTied.{IsTied, tied_after, tree_of_tied, way_calls-append}
+use Rattle.splitter_tree.proofs.DueTied.{world_counted, places_law}
+use Rattle.splitter_tree.specs.TreeDue.{TreeRefusesAsDue}
+use Rattle.splitter_tree.proofs.TreeMemoryLemmas.{tree_memory, tree_empty}
+use Rattle.splitter_tree.specs.Walk.{place_of, place_by}
+use Rattle.splitter_tree.specs.declared.client.Client.{Client}
+use Rattle.step_memory.specs.Calls.{Call, outcome_of}
+use Rattle.step_memory.specs.Calls.Call.{Stepped as WayStepped}
+use Rattle.step_memory.specs.Due.{EndsOnce}
+use Rattle.step_memory.specs.Machine.{After, Always, IsLawful, LeadsOn, RefusesWhereDue, IsProved}
+use Rattle.step_memory.specs.World.{begin_refusal, done_unless}
+use Rattle.splitter_tree.specs.Laws.{StaysAlikeOnWay, StaysAlikeCollecting}
+use Rattle.splitter_tree.proofs.StandAlike.{placing_stands, collecting_stands}
+use Rattle.step_memory.specs.Steps.{MemorySteps}
+use Rattle.step_memory.specs.declared.refusal.Refusal.{Refusal}
+use Rattle.step_memory.proofs.DueLemmas.{no_second_end}
+use Rattle.step_memory.proofs.MachineLemmas.{call_leads_on, machine_proved}
+use Rattle.step_memory.specs.Participant.{participant_of, program_of}
+use Rattle.step_memory.specs.declared.participant.Participant.{Participant}
+
+module _ {S : Type 0} (memory : MemorySteps S TreeRegister TreeValue) where
+  -- a world is tied to its calls
+  pub tied : (w : TreeState S) (first : S × ℕ) (r : List TreeCall) (a : After (tree_over memory) first w r) → IsTied memory a.started.tree w r
+  tied w first r a = tied_after memory a.started.tree first.0 first.1 w r a.started.empty a.started.few a.run
+
+  law_always : (w : TreeState S) → IsLawful (tree_over memory) w
+  law_always w first r a = record {
+    places = places_law memory a.started.tree first.1 first.0 w r a.started.empty a.started.few a.run;
+    collects = collect_law memory a.started.tree first.0 first.1 w r a.started.few a.started.empty a.run;
+  }
+
+  due_always : (w : TreeState S) → RefusesWhereDue (tree_over memory) w
+  due_always w first r a = (world_counted memory a.started.tree first.1 first.0 w r a.started.empty a.started.few a.run).due
+
+  pub trees_proved : IsProved (tree_over memory)
+  trees_proved = machine_proved (tree_over memory) law_always due_always
+
+pub tree_law : (w : TreeWorldState) → IsLawful tree w
+tree_law = law_always tree_steps
+
+pub tree_due : (w : TreeWorldState) → RefusesWhereDue tree w
+tree_due = due_always tree_steps
+
+pub tree_nodes : (w : TreeWorldState) → HasLawfulNodes w
+tree_nodes w first r a = tree_of_tied tree_steps a.started.tree w r (tied tree_steps w first r a)
+
+-- a beginning leads on
+pub tree_begins : (w new : TreeWorldState) (id : ℕ) (reply : Result (Unit {0}) Refusal) → new ≡ after_tree_begin w id → reply ≡ done_unless (begin_refusal w id) → LeadsOn tree w new (Began id reply)
+tree_begins w new id reply e is = call_leads_on tree w new (Began id reply) e is
+
+-- who stands in the new world after its step stands alike in each world that looked alike to it
+pub tree_stays : (w new : TreeWorldState) (id : ℕ) → new ≡ after_placing tree_steps w id → StaysAlikeOnWay w new id
+tree_stays w new id e other h = ap (λ (v : TreeWorldState). participant_of id v.participants) e ∙ placing_stands tree_steps w other id h
+
+pub tree_stays_collecting : (w new : TreeWorldState) (id : ℕ) → new ≡ after_collecting tree_steps w id → StaysAlikeCollecting w new id
+tree_stays_collecting w new id e other h = ap (λ (v : TreeWorldState). participant_of id v.participants) e ∙ collecting_stands tree_steps w other id h
+
+-- what the contracts of its calls are proved by
+pub ruleset tree_contracts = (tree_law, tree_due, tree_nodes, tree_begins, tree_stays, tree_stays_collecting)
+
+-- a tree of no nodes is after no call
+pub tree_starts : (most : ℕ) (w : TreeWorldState) → w ≡ fresh_over tree_steps (empty_tree, most) → most ≤ 64 → After tree (empty_tree, most) w []
+tree_starts most w is few = record { started = record { tree = tree_memory; empty = tree_empty; few = few }; run = is }
+
+place_by_walk : (o : Option (Participant Client)) → option_and_then (λ c. place_of c.walker) (option_map (λ p. p.program) o) ≡ place_by (walker_in o)
+place_by_walk None = refl
+place_by_walk (Some p) = refl
+
+-- the place of a participant is the one that was answered
+pub place_answered : (w : TreeWorldState) (id : ℕ) → Always tree (λ first r. option_and_then (λ c. place_of c.walker) (program_of id w.participants) ≡ outcome_of id (way_calls r)) w
+place_answered w id first r a = place_by_walk (participant_of id w.participants) ∙ sym ((tied tree_steps w first r a).told.outcomes id)
+
+-- nobody is told a second place
+pub one_place_told : (p a b : ℕ) (before between rest : List TreeCall) → KeepsPlacesLaw (before ++ Stepped p (Ok (Some a)) ∷ (between ++ Stepped p (Ok (Some b)) ∷ rest)) → ⊥
+one_place_told p a b before between rest law =
+    let later : TreeCall = Stepped p (Ok (Some b)) in
+    let way : way_calls (before ++ Stepped p (Ok (Some a)) ∷ (between ++ later ∷ rest)) ≡ way_calls before ++ WayStepped p (Ok (Some a)) ∷ (way_calls between ++ WayStepped p (Ok (Some b)) ∷ way_calls rest) =
+    way_calls-append before (Stepped p (Ok (Some a)) ∷ (between ++ later ∷ rest))
+    ∙ ap (λ (c : List (Call (Option ℕ))). way_calls before ++ WayStepped p (Ok (Some a)) ∷ c) (way_calls-append between (later ∷ rest)) in
+    no_second_end is_some p (Some a) (Some b) (way_calls before) (way_calls between) (way_calls rest) refl (subst (λ (c : List (Call (Option ℕ))). EndsOnce is_some c) way law.ends_once)
+
+-- nor is whoever comes first refused
+pub not_first_refused : (most p : ℕ) (why : Refusal) (rest : List TreeCall) → 1 ≤ most → p ≢ 0 → TreeRefusesAsDue most (Began p (Err why) ∷ rest) → ⊥
+not_first_refused most p why rest room some due =
+    let is = due [] (Began p (Err why)) rest refl in
+    let nonzero : (p == 0) ≡ false = (elim (eqb_tells p 0) [ inl e ↦ absurd (some e.1) | inr e ↦ e.0 ]) in
+    let free : nat_le most 0 ≡ false = (elim (leb_tells most 0) [ inl l ↦ absurd (let k = l.1 in omega arith) | inr l ↦ l.0 ]) in
+    let never : Err why ≡ Ok tt = rw (nonzero, free) at is in
+    cc

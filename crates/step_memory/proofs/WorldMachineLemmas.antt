@@ -1,0 +1,73 @@
+-- what follows for every world that is a machine
+use Rattle.std.proofs.Common.{◌≡◌, ℕ, List, [], Result, inl, refl, ap, ◌∙◌, Bool, false}
+use Rattle.step_memory.specs.declared.note.Note.{Note}
+use Rattle.step_memory.specs.declared.refusal.Refusal.{Refusal}
+use Rattle.step_memory.specs.Steps.{ProgramSteps, MemorySteps}
+use Rattle.step_memory.specs.WorldState.{WorldState}
+use Rattle.step_memory.specs.World.{begin_refusal, done_unless, after_begin, after_step, step_answer}
+use Rattle.step_memory.specs.Calls.{Call, reply_of, lacked_memory}
+use Rattle.step_memory.specs.Calls.Call.{Began, Stepped}
+use Rattle.step_memory.specs.Locality.{LookAlike, StandAlike}
+use Rattle.step_memory.specs.Participant.{participant_of}
+use Rattle.step_memory.proofs.LocalityLemmas.{stand_alike}
+use Rattle.step_memory.specs.Due.{TellsTheEnd, GrowsOnly, EndsOnce}
+use Rattle.step_memory.specs.Machine.{After, LeadsOn, RefusesWhereDue, IsProved}
+use Rattle.step_memory.specs.WorldMachine.{WorldParts, world_machine, fresh_world, any_world}
+use Rattle.step_memory.proofs.MachineLemmas.{call_leads_on, machine_proved}
+use Rattle.step_memory.proofs.StepLemmas.{lacks_none}
+use Rattle.step_memory.proofs.DueLemmas.{world_counted, ends_once}
+use Rattle.step_memory.proofs.WorldKeeps.{IsKept, world_keeps}
+
+-- any world is proved
+module _ {P S R V O X : Type 0} (program : ProgramSteps P R V O) (memory : MemorySteps S R V) (shown : Note O → X) (start : ℕ → P) (last : X → Bool) (grows : Bool) where
+  any_due : (w : WorldState S P) → RefusesWhereDue (any_world program memory shown start last grows) w
+  any_due w first r a = λ tells may. (world_counted program memory shown start last grows first.1 tells may first.0 w r a.run).due
+
+  pub any_world_proved : IsProved (any_world program memory shown start last grows)
+  any_world_proved = machine_proved (any_world program memory shown start last grows) (λ w first r a tells may. ends_once last first.1 grows r (any_due w first r a tells may)) any_due
+
+  -- a step for which no growth was refused leads on
+  pub any_step_leads_on : (w new : WorldState S P) (id : ℕ) (reply : Result X Refusal) → new ≡ after_step program memory w id → reply ≡ reply_of shown (step_answer program memory w id) →
+      LeadsOn (any_world program memory shown start last grows) w new (Stepped id reply)
+  any_step_leads_on w new id reply e is =
+      let goes : lacked_memory reply ≡ false = ap lacked_memory is ∙ lacks_none program memory shown w id in
+      call_leads_on (any_world program memory shown start last grows) w new (Stepped id reply) (e ∙ rw goes refl) (inl is)
+
+module _ {P S R V O X : Type 0} (parts : WorldParts P S R V O X) where
+  -- a beginning leads on
+  pub begin_leads_on : (w new : WorldState S P) (id : ℕ) (reply : Result (Unit {0}) Refusal) → new ≡ after_begin w id (parts.start id) → reply ≡ done_unless (begin_refusal w id) →
+      LeadsOn (world_machine parts) w new (Began id reply)
+  begin_leads_on w new id reply e is = call_leads_on (world_machine parts) w new (Began id reply) e is
+
+  -- so does a step for which no growth was refused
+  pub step_leads_on : (w new : WorldState S P) (id : ℕ) (reply : Result X Refusal) → new ≡ after_step parts.program parts.memory w id →
+      reply ≡ reply_of parts.shown (step_answer parts.program parts.memory w id) → LeadsOn (world_machine parts) w new (Stepped id reply)
+  step_leads_on w new id reply e is =
+      let goes : lacked_memory reply ≡ false = ap lacked_memory is ∙ lacks_none parts.program parts.memory parts.shown w id in
+      call_leads_on (world_machine parts) w new (Stepped id reply) (e ∙ rw goes refl) (inl is)
+
+  -- who stands in the new world stands alike in each world that looked alike to it
+  pub stays_alike : (w new : WorldState S P) (id : ℕ) → new ≡ after_step parts.program parts.memory w id → (other : WorldState S P) → LookAlike parts.program parts.memory id w other →
+      StandAlike id new (after_step parts.program parts.memory other id)
+  stays_alike w new id e other h = ap (λ u. participant_of id u.participants) e ∙ stand_alike parts.program parts.memory id w other h
+
+  -- each call is refused where that is due
+  pub due_always : TellsTheEnd parts.shown parts.last → GrowsOnly parts.memory parts.grows → (w : WorldState S P) → RefusesWhereDue (world_machine parts) w
+  due_always tells grows w most r a = (world_counted parts.program parts.memory parts.shown parts.start parts.last parts.grows most tells grows (parts.empty most) w r a.run).due
+
+  -- a fact that the four kinds of call keep, and of which the law follows, proves the world
+  pub record IsTie (Tied : WorldState S P → List (Call X) → Type 0) : Type 0 where
+    pub tells : TellsTheEnd parts.shown parts.last
+    pub grows : GrowsOnly parts.memory parts.grows
+    pub new : (most : ℕ) → parts.MayStart most → Tied (fresh_world parts most) []
+    pub kept : IsKept parts.program parts.memory parts.shown parts.start Tied
+    pub law : (w : WorldState S P) (r : List (Call X)) → Tied w r → EndsOnce parts.last r → parts.KeepsLaw r
+
+  module _ (Tied : WorldState S P → List (Call X) → Type 0) (tie : IsTie Tied) where
+    pub tied_after : (most : ℕ) (w : WorldState S P) (r : List (Call X)) → After (world_machine parts) most w r → Tied w r
+    tied_after most w r a = world_keeps parts.program parts.memory parts.shown parts.start Tied tie.kept (fresh_world parts most) (tie.new most a.started) w r a.run
+
+    pub world_proved : IsProved (world_machine parts)
+    world_proved = machine_proved (world_machine parts)
+        (λ w most r a. tie.law w r (tied_after most w r a) (ends_once parts.last most parts.grows r (due_always tie.tells tie.grows w most r a)))
+        (due_always tie.tells tie.grows)

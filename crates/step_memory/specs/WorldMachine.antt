@@ -1,0 +1,52 @@
+-- worlds as machines
+use Rattle.std.specs.Prelude.{ℕ, Bool, List, []}
+use Rattle.step_memory.specs.declared.note.Note.{Note}
+use Rattle.step_memory.specs.Steps.{ProgramSteps, MemorySteps}
+use Rattle.step_memory.specs.WorldState.{WorldState}
+use Rattle.step_memory.specs.Calls.{Call, next, IsReply}
+use Rattle.step_memory.specs.Due.{RefusesAsDue, EndsOnce, TellsTheEnd, GrowsOnly}
+use Rattle.step_memory.specs.Machine.{Machine}
+
+-- a world of any programs over any memory, which starts with a memory and with room for so many. Where `last` tells the end
+-- of a program, and only `grows` lets the memory refuse a growth: nothing comes after the end, and calls are refused where
+-- that is due
+module _ {P S R V O X : Type 0} (program : ProgramSteps P R V O) (memory : MemorySteps S R V) (shown : Note O → X) (start : ℕ → P) (last : X → Bool) (grows : Bool) where
+  abbrev pub any_world : Machine (S × ℕ) (WorldState S P) (Call X)
+  any_world = record {
+    MayStart = λ first. Unit {0};
+    first = λ first. record { memory = first.0; most = first.1; participants = [] };
+    next = next program memory shown start;
+    IsReply = IsReply program memory shown start;
+    KeepsLaw = λ first r. TellsTheEnd shown last → GrowsOnly memory grows → EndsOnce last r;
+    RefusesAsDue = λ first r. TellsTheEnd shown last → GrowsOnly memory grows → RefusesAsDue last first.1 grows r;
+  }
+
+-- what a world of one kind is made of: the programs of those who take part, its memory, what it shows of a note and whether
+-- that is a participant's last, and the law over its calls
+pub record WorldParts (P S R V O X : Type 0) : Type 1 where
+  pub program : ProgramSteps P R V O
+  pub memory : MemorySteps S R V
+  pub shown : Note O → X
+  pub start : ℕ → P
+  pub last : X → Bool
+  -- whether a growth may be refused
+  pub grows : Bool
+  -- the most participants that there may be, and the memory for so many
+  pub MayStart : ℕ → Type 0
+  pub empty : ℕ → S
+  pub KeepsLaw : List (Call X) → Type 0
+
+module _ {P S R V O X : Type 0} (parts : WorldParts P S R V O X) where
+  -- a world for so many in which nobody has begun
+  abbrev pub fresh_world : ℕ → WorldState S P
+  fresh_world most = record { memory = parts.empty most; most = most; participants = [] }
+
+  abbrev pub world_machine : Machine ℕ (WorldState S P) (Call X)
+  world_machine = record {
+    MayStart = parts.MayStart;
+    first = fresh_world;
+    next = next parts.program parts.memory parts.shown parts.start;
+    IsReply = IsReply parts.program parts.memory parts.shown parts.start;
+    KeepsLaw = λ most r. parts.KeepsLaw r;
+    RefusesAsDue = λ most r. RefusesAsDue parts.last most parts.grows r;
+  }
