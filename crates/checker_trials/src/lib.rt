@@ -10,7 +10,7 @@ mod lines_tests;
 #[cfg(test)]
 mod migrating_tests;
 #[cfg(test)]
-mod quick_line_tests;
+mod plain_line_tests;
 #[cfg(test)]
 mod record_tests;
 #[cfg(test)]

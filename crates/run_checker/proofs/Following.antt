@@ -21,14 +21,15 @@ use Rattle.desk.specs.declared.exchange.Exchange.{Exchange}
 use Rattle.desk.specs.declared.reply.Reply.TheVariants as reply
 use Rattle.desk.specs.DeskCalls.{DeskCall, exchange_of}
 use Rattle.desk.specs.DeskCalls.DeskCall.{Renamed, Slotted}
-use Rattle.run_checker.specs.declared.line.Line.{Line}
+use Rattle.record_lines.specs.declared.line.Line.{Line}
 use Rattle.run_checker.specs.declared.reason.Reason.TheVariants as reason
-use Rattle.run_checker.specs.declared.told.Told.{Told}
-use Rattle.run_checker.specs.declared.told.Told.TheVariants.{Ok as Accepted, Quiet, Place, Proposed, Saw, Named, Spent, Missed, Got, Left, Value, Refused}
+use Rattle.record_lines.specs.declared.told.Told.{Told}
+use Rattle.record_lines.specs.declared.told.Told.TheVariants.{Ok as Accepted, Quiet, Place, Proposed, Saw, Named, Spent, Missed, Got, Left, Value, Refused}
 use Rattle.run_checker.specs.ObjectRun.{DeskObject, AllowsCall, after_call}
-use Rattle.run_checker.specs.Told.{is_reply_of}
+use Rattle.record_lines.specs.Told.{is_reply_of}
 use Rattle.run_checker.specs.Reasons.{why_of, is_told_rightly, Keeps, KeepsAll, IsWritten, MayBeNamed}
-use Rattle.run_checker.specs.Lines.{shown_where, told_of, line, line_of, IsLineOf, CanFollow, after_line}
+use Rattle.record_lines.specs.Lines.{shown_where, told_of, line, line_of, IsLineOf}
+use Rattle.run_checker.specs.Lines.{CanFollow, after_line}
 use Rattle.run_checker.proofs.Judging.{for_all, none_due}
 
 none_of : (o : Option Refusal) → is_none o ≡ true → o ≡ None

@@ -1,15 +1,9 @@
 mod seats
 mod Deciding
-mod PairLemmas
 mod records
 mod StayLemmas
 mod Judging
 mod Following
 mod DeskRuns
-mod WordLemmas
-mod JsonLemmas
-mod QuickLines
-mod written
-mod Pieces
 mod NarrowRuns
 mod LowPlaces

@@ -12,12 +12,14 @@ use Rattle.step_memory.specs.Runs.{Run}
 use Rattle.step_memory.specs.World.{begin_refusal, done_unless}
 use Rattle.step_memory.specs.declared.participant.Participant.{Participant}
 use Rattle.step_memory.specs.declared.refusal.Refusal.{Refusal}
-use Rattle.step_memory.proofs.RunLemmas.{run_more}
+use Rattle.step_memory.specs.Machine.{After}
+use Rattle.step_memory.proofs.MachineLemmas.{call_leads_on}
+use Rattle.snapshot_core.specs.Machine.{snapshot}
 use Rattle.snapshot_core.specs.declared.client.Client.{Client}
 use Rattle.snapshot_core.specs.declared.client.SnapReply.{SnapReply}
 use Rattle.snapshot_core.specs.declared.client.SnapReply.TheVariants as snap
 use Rattle.snapshot_core.specs.Places.{KnownPlaces, PlacesLaws}
-use Rattle.snapshot_core.specs.SnapCalls.{SnapCall, fresh_over, next as snap_next, IsReply as IsSnapReply, IsAfter as IsSnapAfter}
+use Rattle.snapshot_core.specs.SnapCalls.{SnapCall, next as snap_next, IsReply as IsSnapReply}
 use Rattle.snapshot_core.specs.SnapCalls.SnapCall.{Began as SnapBegan, Updated, Scanned, Stepped as SnapStepped}
 use Rattle.snapshot_core.specs.SnapWorld.{SnapState, place_in, ways_of, way_now, scan_refusal, update_refusal, after_snap_step}
 use Rattle.snapshot_core.proofs.Following.{told_holds, consistent_holds}
@@ -42,7 +44,9 @@ use Rattle.rename_core.specs.declared.reply.Reply.TheVariants as step
 use Rattle.rename_core.specs.declared.round.Round.{Round}
 use Rattle.rename_core.specs.declared.round.Wish.{Wish}
 use Rattle.rename_core.specs.declared.round.Wish.TheVariants.{Nothing, Update, Scan}
-use Rattle.rename_core.specs.RenameCalls.{next, IsReply, IsAfter}
+use Rattle.rename_core.specs.declared.config.WorldKind.{WorldKind}
+use Rattle.rename_core.specs.declared.config.WorldKind.TheVariants as world
+use Rattle.rename_core.specs.Machine.{next, IsReply, renaming}
 use Rattle.rename_core.specs.RenameState.{RenameState}
 use Rattle.rename_core.specs.RenameWorld.{after_wish, begun_unless, snap_told, answer_told, answer_open, answer_by, rename_answer, after_told, after_open, after_by, after_rename_step}
 use Rattle.rename_core.specs.Round.{stage_refusal, followed, decided, spent_by, saw_by, named_by}
@@ -84,10 +88,10 @@ module _ {S R V U K : Type 0} (W : KnownPlaces S R V U K) (laws : PlacesLaws W) 
   -- some calls of the snapshot object lead here
   record ComesFrom (first : S) (s : SnapState S U K) : Type 0 where
     calls : List SnapCall
-    after : IsSnapAfter W first s calls
+    after : After (snapshot W) first s calls
 
   called : (first : S) (s : SnapState S U K) (h : SnapCall) → ComesFrom first s → IsSnapReply W s h → ComesFrom first (snap_next W s h)
-  called first s h k right = record { calls = k.calls ++ h ∷ []; after = run_more (snap_next W) (IsSnapReply W) (fresh_over W first) k.calls s h k.after right }
+  called first s h k right = record { calls = k.calls ++ h ∷ []; after = call_leads_on (snapshot W) s (snap_next W s h) h refl right first k.calls k.after }
 
   wished : (first : S) (s : SnapState S U K) (p : ℕ) (wish : Wish) → ComesFrom first s → ComesFrom first (after_wish s p wish)
   wished first s p Nothing k = k
@@ -121,8 +125,8 @@ module _ {S R V U K : Type 0} (W : KnownPlaces S R V U K) (laws : PlacesLaws W) 
   run_so first w u [] k e = subst (λ (x : RenameState S U K). ComesFrom first x.snap) (sym e) k
   run_so first w u (h ∷ r) k e = run_so first (next W w h) u r (next_so first w h k) e.1
 
-  after_so : (w : RenameState S U K) (r : List (Call StepReply)) (a : IsAfter W w r) → ComesFrom a.first w.snap
-  after_so w r a = run_so a.first _ w r (record { calls = []; after = refl }) a.run
+  after_so : (kind : WorldKind) (w : RenameState S U K) (first : S × ℕ) (r : List (Call StepReply)) → After (renaming W kind) first w r → ComesFrom first.0 w.snap
+  after_so kind w first r a = run_so first.0 _ w r (record { calls = []; after = record { started = tt; run = refl } }) a.run
 
   -- a step that tells a place is one of the snapshot object that does
   decided_other : (r : Round) (p place : ℕ) (view : List (ℕ × ℕ)) (limit : ℕ) → (decided r p view limit).reply ≡ step.Placed place → ⊥
@@ -159,16 +163,16 @@ module _ {S R V U K : Type 0} (W : KnownPlaces S R V U K) (laws : PlacesLaws W) 
           | Some v ↦ λ is e. low s.memory (length s.participants) (ways_of s.participants) consistent p v.program.walker (ap way_now is) place e
         ] refl
 
-    place_low : (w : RenameState S U K) (r : List (Call StepReply)) → IsAfter W w r → (p place : ℕ) → rename_answer W w p ≡ Ok (step.Placed place) → place < 2 ^ 64
+    place_low : (kind : WorldKind) (w : RenameState S U K) (first : S × ℕ) (r : List (Call StepReply)) → After (renaming W kind) first w r → (p place : ℕ) → rename_answer W w p ≡ Ok (step.Placed place) → place < 2 ^ 64
     unfolding called
-    place_low w r a p place e =
+    place_low kind w first r a p place e =
         let told : snap_told W w p ≡ Ok (snap.Placed place) = answer_place w p place (program_of p w.rounds) e in
-        let k = after_so w r a in
+        let k = after_so kind w first r a in
         let h : SnapCall = SnapStepped p (Ok (snap.Placed place)) in
-        let now = called a.first w.snap h k (inl (sym told)) in
+        let now = called first.0 w.snap h k (inl (sym told)) in
         let there : Contains (k.calls ++ h ∷ []) h = Contains-append_right k.calls (h ∷ []) h (0, omega arith, refl) in
-        let is = told_holds W laws (after_snap_step W w.snap p) p a.first (k.calls ++ h ∷ []) a.new now.after place there in
-        way_low (after_snap_step W w.snap p) (consistent_holds W laws (after_snap_step W w.snap p) a.first (k.calls ++ h ∷ []) a.new now.after) p place is
+        let is = told_holds W laws (after_snap_step W w.snap p) p first.0 (k.calls ++ h ∷ []) now.after a.started.new place there in
+        way_low (after_snap_step W w.snap p) (consistent_holds W laws (after_snap_step W w.snap p) first.0 (k.calls ++ h ∷ []) now.after a.started.new) p place is
 
     step_low : (place : ℕ) (answer : Result StepReply Refusal) → step_reply answer ≡ reply.Place place → answer ≡ Ok (step.Placed place)
     step_low place (Ok step.Quiet) e = absurd (cc)
@@ -179,15 +183,15 @@ module _ {S R V U K : Type 0} (W : KnownPlaces S R V U K) (laws : PlacesLaws W) 
     step_low place (Ok step.Spent) e = absurd (cc)
     step_low place (Err why) e = absurd (cc)
 
-    over_low : (most limit size : ℕ) (w : DeskState S U K) (calls : List DeskCall) → AfterDesk W most limit size w calls → (e : Event) (place : ℕ) → reply_over W w e ≡ reply.Place place → place < 2 ^ 64
-    over_low most limit size w calls a (event.Begin p) place e = absurd (done_other (done_unless (begin_refusal w.names.snap p)) place e)
-    over_low most limit size w calls a (event.Step p) place e = place_low w.names (rename_calls calls) a.names p place (step_low place (rename_answer W w.names p) e)
-    over_low most limit size w calls a (event.Enter p) place e = absurd (done_other (enter_answer w.slots.pool p) place e)
-    over_low most limit size w calls a (event.Probe p) place e = absurd (probe_other (probe_answer w.slots.pool p) place e)
-    over_low most limit size w calls a (event.Leave p) place e = absurd (left_other (number_answer w.slots.pool p) place e)
-    over_low most limit size w calls a (event.Put p value) place e = absurd (done_other (stored_reply (number_answer w.slots.pool p)) place e)
-    over_low most limit size w calls a (event.Get p) place e = absurd (value_other (fetched w.slots.values (number_answer w.slots.pool p)) place e)
-    over_low most limit size w calls a (event.Widen more) place e = absurd (done_other (widen_answer w.slots.pool more) place e)
+    over_low : (kind : WorldKind) (most limit size : ℕ) (w : DeskState S U K) (calls : List DeskCall) → AfterDesk W kind most limit size w calls → (e : Event) (place : ℕ) → reply_over W w e ≡ reply.Place place → place < 2 ^ 64
+    over_low kind most limit size w calls a (event.Begin p) place e = absurd (done_other (done_unless (begin_refusal w.names.snap p)) place e)
+    over_low kind most limit size w calls a (event.Step p) place e = place_low kind w.names (a.first, limit) (rename_calls calls) a.names p place (step_low place (rename_answer W w.names p) e)
+    over_low kind most limit size w calls a (event.Enter p) place e = absurd (done_other (enter_answer w.slots.pool p) place e)
+    over_low kind most limit size w calls a (event.Probe p) place e = absurd (probe_other (probe_answer w.slots.pool p) place e)
+    over_low kind most limit size w calls a (event.Leave p) place e = absurd (left_other (number_answer w.slots.pool p) place e)
+    over_low kind most limit size w calls a (event.Put p value) place e = absurd (done_other (stored_reply (number_answer w.slots.pool p)) place e)
+    over_low kind most limit size w calls a (event.Get p) place e = absurd (value_other (fetched w.slots.values (number_answer w.slots.pool p)) place e)
+    over_low kind most limit size w calls a (event.Widen more) place e = absurd (done_other (widen_answer w.slots.pool more) place e)
 
 -- the doors of a grid, and the nodes of a tree
 few_doors : (b : ℕ) → b ≤ 16 → b * (b + 1) ≤ 272
@@ -216,5 +220,5 @@ tree_low s b ways c p u is place at =
 
 -- each place that a desk tells after some calls
 pub desk_low : (c : Config) (w : DeskValue) (calls : List DeskCall) → IsAfterDesk c w calls → (e : Event) (place : ℕ) → desk_reply w e ≡ reply.Place place → place < 2 ^ 64
-desk_low c (OverGrid w) calls a e place is = over_low grid_places grid_laws grid_low c.m c.limit c.k w calls a.1 e place is
-desk_low c (OverTree w) calls a e place is = over_low tree_places tree_laws tree_low c.m c.limit c.k w calls a.1 e place is
+desk_low c (OverGrid w) calls a e place is = over_low grid_places grid_laws grid_low world.Rename c.m c.limit c.k w calls a.1 e place is
+desk_low c (OverTree w) calls a e place is = over_low tree_places tree_laws tree_low world.Tree c.m c.limit c.k w calls a.1 e place is

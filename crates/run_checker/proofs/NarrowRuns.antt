@@ -28,8 +28,7 @@ use Rattle.desk.specs.DeskCalls.DeskCall.{Renamed, Slotted}
 use Rattle.desk.specs.Replies.{done_reply, value_reply}
 use Rattle.run_checker.specs.ObjectRun.{DeskObject, fresh_desk_object, AllowsCall, after_call, IsObjectRun}
 use Rattle.run_checker.proofs.Following.{none_by}
-use Rattle.run_checker.proofs.written.Words.{IsNarrowEvent, AreNarrow, IsShort, IsNarrowReply}
-use Rattle.run_checker.proofs.written.Lines.{AreNarrowExchanges}
+use Rattle.record_lines.specs.Narrow.{IsNarrowEvent, AreNarrow, IsShort, IsNarrowReply, AreNarrowExchanges}
 
 -- a place has at most 128 bits
 abbrev pub FitsPlace : Reply → Type 0

@@ -1,8 +1,8 @@
 -- records as a whole
 pub mod Migration
 pub mod Runs
-pub mod Lines
 pub mod Rows
+pub mod Gathered
 pub mod OneVerdict
 pub mod Talking
 pub mod Recording

@@ -7,10 +7,10 @@ use Rattle.rename_core.specs.RenameObject.{RenameTerms, no_begin, no_step}
 use Rattle.run_checker.specs.declared.checker.Checker.{Checker}
 use Rattle.run_checker.specs.declared.fault.Fault.{Fault}
 use Rattle.run_checker.specs.declared.fault.Fault.TheVariants.{Unlawful, NoMemory}
-use Rattle.run_checker.specs.declared.line.Line.{Line}
+use Rattle.record_lines.specs.declared.line.Line.{Line}
 use Rattle.run_checker.specs.declared.reason.Reason.{Reason}
 use Rattle.run_checker.specs.declared.reason.Reason.TheVariants as reason
-use Rattle.run_checker.specs.declared.told.Told.{Told}
+use Rattle.record_lines.specs.declared.told.Told.{Told}
 use Rattle.run_checker.specs.ObjectRun.{DeskObject}
 use Rattle.run_checker.specs.Lines.{after_line, Follow, AreLinesOfRun}
 use Rattle.run_checker.specs.Reasons.{Keeps, KeepsAll, IsLeastReason, why_of}
@@ -45,7 +45,8 @@ Judges P old l said new = (terms : RenameTerms) (o : DeskObject) → HoldsDesk t
 
 -- the same, of objects with fewer moments than a sequence number counts
 abbrev pub JudgesWithRoom : (RenameTerms → DeskObject → Type 0) → Checker → Line → Result (Unit {0}) Fault → Checker → Type 0
-JudgesWithRoom P old l said new = (terms : RenameTerms) (o : DeskObject) → HoldsDesk terms old o → P terms o → o.names.last < 2 ^ 62 → IsJudged terms o l said new
+JudgesWithRoom P old l said new =
+    (terms : RenameTerms) (o : DeskObject) → HoldsDesk terms old o → P terms o → o.names.last < 2 ^ 62 → IsJudged terms o l said new
 
 abbrev pub HasRoom : RenameTerms → DeskObject → Type 0
 HasRoom terms o = o.names.last < 2 ^ 62
@@ -99,7 +100,8 @@ pub record IsFirstFault (terms : RenameTerms) (size : ℕ) (lines : List Line) (
 
 -- after any lines that were taken this one is, or it is the first at fault
 abbrev pub TakesMore : Line → Checker → Option Reason → Checker → Type 0
-TakesMore l old said new = (terms : RenameTerms) (size : ℕ) (lines : List Line) → HasTaken terms size lines old → length lines < 2 ^ 62 → TakesOn terms size lines l said new
+TakesMore l old said new =
+    (terms : RenameTerms) (size : ℕ) (lines : List Line) → HasTaken terms size lines old → length lines < 2 ^ 62 → TakesOn terms size lines l said new
 
 -- the first line that can't follow, or that the lines are those of a run
 abbrev pub IsFirstFaultOrNone : RenameTerms → ℕ → List Line → Option (ℕ × Reason) → Type 0

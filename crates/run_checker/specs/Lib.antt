@@ -2,11 +2,6 @@ pub mod Moments
 pub mod Standing
 pub mod Rows
 pub mod Stays
-pub mod Told
-pub mod ReplyText
-pub mod Json
-pub mod RecordLine
-pub mod QuickLine
 pub mod Verdict
 pub mod Config
 pub mod ObjectRun
@@ -14,8 +9,7 @@ pub mod Reasons
 pub mod Fault
 pub mod Lines
 pub mod Judged
-pub mod Pairs
 pub mod Firsts
+pub mod Gathered
 pub mod Recorded
-pub mod Compact
 pub mod Migrated

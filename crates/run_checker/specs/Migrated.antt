@@ -1,5 +1,5 @@
 -- what a record is migrated to
-use Rattle.std.specs.Prelude.{◌≡◌, ◌≢◌, ℕ, ◌<◌, ◌≤◌, List, [], ◌∷◌, ◌++◌, map, flat_map, length, Option, Some, None, Result, Ok, Err, unwrap_or}
+use Rattle.std.specs.Prelude.{◌≡◌, ◌≢◌, ℕ, ◌<◌, List, [], ◌∷◌, ◌++◌, map, flat_map, Option, Some, None, Result, Ok, Err, unwrap_or}
 use Rattle.std.specs.Io.KnownBytes.{Appends}
 use Rattle.step_memory.specs.Runs.{Run}
 use Rattle.rename_core.specs.RenameObject.{RenameTerms, RenameObject}
@@ -16,21 +16,22 @@ use Rattle.schedule_player.specs.Played.{Writing}
 use Rattle.schedule_player.specs.declared.fault.Fault.{Fault}
 use Rattle.schedule_player.specs.declared.fault.Fault.TheVariants.{Write}
 use Rattle.run_checker.specs.declared.firsts.Firsts.{Firsts}
-use Rattle.run_checker.specs.declared.header.Header.{Header}
-use Rattle.run_checker.specs.declared.line.Line.{Line}
+use Rattle.record_lines.specs.declared.header.Header.{Header}
+use Rattle.record_lines.specs.declared.line.Line.{Line}
 use Rattle.run_checker.specs.declared.migration.Migration.{Migration}
-use Rattle.run_checker.specs.declared.told.Told.{Told}
-use Rattle.run_checker.specs.declared.told.Told.TheVariants as told
+use Rattle.record_lines.specs.declared.told.Told.{Told}
+use Rattle.record_lines.specs.declared.told.Told.TheVariants as told
 use Rattle.run_checker.specs.declared.verdict.Verdict.{Verdict}
 use Rattle.run_checker.specs.declared.verdict.Verdict.TheVariants.{Yes}
 use Rattle.run_checker.specs.Config.{terms_of}
 use Rattle.run_checker.specs.Firsts.{IsFirstSole, view_at, HoldsFirsts}
-use Rattle.run_checker.specs.Lines.{IsLineOf, AreLinesOfRun, Follow}
+use Rattle.record_lines.specs.Lines.{IsLineOf}
 use Rattle.run_checker.specs.ObjectRun.{DeskObject, fresh_desk_object, AllowsCall, after_call}
-use Rattle.run_checker.specs.RecordLine.{IsHeaderLine}
+use Rattle.record_lines.specs.RecordLine.{IsHeaderLine}
 use Rattle.run_checker.specs.Recorded.{IsYes}
 use Rattle.run_checker.specs.Standing.{proposed_by}
-use Rattle.run_checker.specs.Verdict.{record_lines, AreRead, IsVerdict}
+use Rattle.record_lines.specs.Records.{record_lines, AreRead}
+use Rattle.run_checker.specs.Verdict.{IsVerdict}
 
 -- ---- what is written of a record
 
@@ -83,12 +84,20 @@ pub record IsMigratedTo (bytes text : List ℕ) : Type 0 where
   pub migration : IsMigration header.config lines text
   pub yes : IsYes text
 
+-- gained was a text to which the record is migrated
+abbrev pub GainsMigrated : Option (List ℕ) → Option (List ℕ) → List ℕ → Type 0
+GainsMigrated before now bytes = (text : List ℕ) × IsMigratedTo bytes text × Appends before now text
+
+-- or a beginning of one
+abbrev pub GainsPart : Option (List ℕ) → Option (List ℕ) → List ℕ → Type 0
+GainsPart before now bytes = (text : List ℕ) × IsMigratedTo bytes text × HasPartOf before now text
+
 -- what `migrate` answers of a record: its verdict, with the text to which it is migrated written where that is Yes, and nothing
 -- written elsewhere; or that a write failed, with a beginning of that text written
 abbrev pub IsMigrated : {W : Type 0} → Writing W → List ℕ → W → W → Result Verdict Fault → Type 0
-IsMigrated writing bytes w w' (Ok Yes) = (writing.failed w' ≡ writing.failed w) × ((text : List ℕ) × IsMigratedTo bytes text × Appends (writing.contents w) (writing.contents w') text)
+IsMigrated writing bytes w w' (Ok Yes) = (writing.failed w' ≡ writing.failed w) × GainsMigrated (writing.contents w) (writing.contents w') bytes
 IsMigrated writing bytes w w' (Ok v) = IsVerdict bytes v × (w' ≡ w)
-IsMigrated writing bytes w w' (Err fault) = (fault ≡ Write) × (writing.failed w < writing.failed w') × ((text : List ℕ) × IsMigratedTo bytes text × HasPartOf (writing.contents w) (writing.contents w') text)
+IsMigrated writing bytes w w' (Err fault) = (fault ≡ Write) × (writing.failed w < writing.failed w') × GainsPart (writing.contents w) (writing.contents w') bytes
 
 -- ---- what is gathered of the lines so far
 
@@ -117,18 +126,6 @@ GoesOn (Some x) f f' = (o : RenameObject) → HoldsFirsts f o → HoldsFirsts f'
 pub record HasMigrated (c : Config) (lines : List Line) (m : Migration) : Type 0 where
   pub so_far : IsMigration c lines m.text
   pub firsts : HoldsFirsts m.firsts so_far.object.names
-
--- one more line was gathered, which can follow those before it
-abbrev pub GathersMore : Line → Migration → Migration → Type 0
-GathersMore l m m' = (c : Config) (lines : List Line) (o : DeskObject) → HasMigrated c lines m → Follow (terms_of c) c.k (lines ++ l ∷ []) o → HasMigrated c (lines ++ l ∷ []) m'
-
--- the event lines of a record are migrated to this text
-pub record AreMigrated (h : Header) (rows : List (List ℕ)) (text : List ℕ) : Type 0 where
-  pub lines : List Line
-  pub read : AreRead h.config.world h.version rows lines
-  pub few : length rows ≤ 1000000
-  pub run : AreLinesOfRun (terms_of h.config) h.config.k lines
-  pub migration : IsMigration h.config lines text
 
 -- another verdict than Yes
 abbrev pub IsOther : (Verdict → Type 0) → Verdict → Type 0

@@ -11,9 +11,9 @@ use Rattle.desk.specs.declared.event.Event.{Event}
 use Rattle.desk.specs.declared.event.Event.TheVariants.{Begin, Step, Enter, Probe, Leave, Put, Get, Widen}
 use Rattle.run_checker.specs.declared.reason.Reason.{Reason}
 use Rattle.run_checker.specs.declared.reason.Reason.TheVariants as reason
-use Rattle.run_checker.specs.declared.told.Told.{Told}
-use Rattle.run_checker.specs.declared.told.Told.TheVariants.{Place, Proposed, Saw, Named, Spent, Missed, Got, Left, Value, Refused}
-use Rattle.run_checker.specs.Told.{identity_of, is_step, is_reply_of}
+use Rattle.record_lines.specs.declared.told.Told.{Told}
+use Rattle.record_lines.specs.declared.told.Told.TheVariants.{Place, Proposed, Saw, Named, Spent, Missed, Got, Left, Value, Refused}
+use Rattle.record_lines.specs.Told.{identity_of, is_step, is_reply_of}
 use Rattle.run_checker.specs.ObjectRun.{DeskObject}
 
 abbrev pub reason_number : Reason → ℕ

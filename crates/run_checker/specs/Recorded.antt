@@ -2,7 +2,6 @@
 use Rattle.std.specs.Prelude.{◌≡◌, ◌⊎◌, ℕ, ◌+◌, ◌≤◌, true, List, [], ◌∷◌, map, length, Some, Result, Ok, Err}
 use Rattle.rename_core.specs.declared.config.Config.{Config}
 use Rattle.rename_core.specs.declared.config.WorldKind.{WorldKind}
-use Rattle.desk.specs.declared.exchange.Exchange.{Exchange}
 use Rattle.desk.specs.Desk.{gives_names}
 use Rattle.schedule_player.specs.declared.bad.Bad.{Bad}
 use Rattle.schedule_player.specs.declared.command.Command.{Command}
@@ -13,21 +12,10 @@ use Rattle.schedule_player.specs.Lines.{lines}
 use Rattle.schedule_player.specs.Played.{Reading, Writing}
 use Rattle.schedule_player.specs.Recorded.{IsRecorded}
 use Rattle.schedule_player.specs.Turns.{Turn, asked, exchanges}
-use Rattle.run_checker.specs.declared.header.Version.TheVariants.{Two}
 use Rattle.run_checker.specs.declared.verdict.Verdict.{Verdict}
 use Rattle.run_checker.specs.declared.verdict.Verdict.TheVariants.{Yes, NoMemory}
-use Rattle.run_checker.specs.Lines.{line_of}
-use Rattle.run_checker.specs.RecordLine.{IsHeaderLine}
-use Rattle.run_checker.specs.Verdict.{record_lines, AreRead, IsVerdict}
-
--- the bytes are a header of version 2 and of this config, and a line for each of these exchanges, in order, which says it with the
--- view of a name
-pub record IsRecordOf (c : Config) (r : List Exchange) (bytes : List ℕ) : Type 0 where
-  pub head : List ℕ
-  pub rows : List (List ℕ)
-  pub is : record_lines bytes ≡ head ∷ rows
-  pub header : IsHeaderLine head (record { version = Two; config = c })
-  pub read : AreRead c.world Two rows (map (line_of true) r)
+use Rattle.run_checker.specs.Verdict.{IsVerdict}
+use Rattle.record_lines.specs.Records.{IsRecordOf}
 
 -- a talk of this config, in whose world names are given, to what these lines ask, with at most a million events
 pub record IsShortTalk (c : Config) (ls : List (List ℕ)) (ts : List Turn) : Type 0 where

@@ -112,7 +112,8 @@ OfNames s P = (terms : RenameTerms) (o : RenameObject) → HoldsNames terms s o 
 
 -- nobody has begun, where the sizes are in range
 abbrev pub HoldsNone : ℕ → ℕ → Names → Type 0
-HoldsNone most limit s = (terms : RenameTerms) → terms.most ≡ most → terms.limit ≡ limit → most ≤ 64 → 1 ≤ limit → limit ≤ 1000000 → HoldsNames terms s new_object
+HoldsNone most limit s =
+    (terms : RenameTerms) → terms.most ≡ most → terms.limit ≡ limit → most ≤ 64 → 1 ≤ limit → limit ≤ 1000000 → HoldsNames terms s new_object
 
 -- the object after an identity has proposed a number
 abbrev pub proposed_by : ℕ → ℕ → RenameObject → RenameObject

@@ -1,42 +1,15 @@
 -- what is said of a record
-use Rattle.std.specs.Prelude.{◌≡◌, ◌⊎◌, ℕ, ◌+◌, ◌<◌, ◌≤◌, List, [], ◌∷◌, ◌++◌, length, Option, Some, None}
-use Rattle.schedule_player.specs.Lines.{pieces_from, unless_empty}
-use Rattle.rename_core.specs.declared.config.WorldKind.{WorldKind}
-use Rattle.run_checker.specs.declared.header.Header.{Header}
-use Rattle.run_checker.specs.declared.header.Version.{Version}
-use Rattle.run_checker.specs.declared.line.Line.{Line}
+use Rattle.std.specs.Prelude.{◌≡◌, ◌⊎◌, ℕ, ◌+◌, ◌<◌, ◌≤◌, List, [], ◌∷◌, ◌++◌, length}
+use Rattle.record_lines.specs.declared.header.Header.{Header}
+use Rattle.record_lines.specs.declared.line.Line.{Line}
 use Rattle.run_checker.specs.declared.reason.Reason.{Reason}
 use Rattle.run_checker.specs.declared.verdict.Verdict.{Verdict}
 use Rattle.run_checker.specs.declared.verdict.Verdict.TheVariants.{Yes, No, BadRecord, NoMemory}
 use Rattle.run_checker.specs.Config.{terms_of}
 use Rattle.run_checker.specs.Lines.{AreLinesOfRun}
 use Rattle.run_checker.specs.Judged.{IsFaultAfter}
-use Rattle.run_checker.specs.RecordLine.{IsEventLine, IsHeaderLine}
-
--- what stands after the last LF is a line where it is not empty
-abbrev pub lines_from : List ℕ → List (List ℕ) → List (List ℕ)
-lines_from piece [] = unless_empty piece
-lines_from piece (next ∷ more) = piece ∷ lines_from next more
-
-abbrev pub lines_of : List (List ℕ) → List (List ℕ)
-lines_of [] = []
-lines_of (piece ∷ more) = lines_from piece more
-
--- the lines of a record, without their LFs
-abbrev pub record_lines : List ℕ → List (List ℕ)
-record_lines bytes = lines_of (pieces_from 10 [] bytes)
-
--- the lines that are left, none where nothing follows an LF
-abbrev pub lines_left : Option (List ℕ) → List (List ℕ)
-lines_left None = []
-lines_left (Some bytes) = record_lines bytes
-
--- rows are read as these lines, one by one
-abbrev pub AreRead : WorldKind → Version → List (List ℕ) → List Line → Type 0
-AreRead kind version [] [] = Unit {0}
-AreRead kind version [] (l ∷ ls) = ⊥
-AreRead kind version (row ∷ rows) [] = ⊥
-AreRead kind version (row ∷ rows) (l ∷ ls) = IsEventLine kind version row l × AreRead kind version rows ls
+use Rattle.record_lines.specs.RecordLine.{IsEventLine, IsHeaderLine}
+use Rattle.record_lines.specs.Records.{record_lines, AreRead}
 
 -- the event lines of a record spell a run of this header, and there are at most a million
 pub record SpellRun (h : Header) (rows : List (List ℕ)) : Type 0 where
@@ -80,6 +53,12 @@ IsSaidOfRows h rows Yes = SpellRun h rows
 IsSaidOfRows h rows (No number why) = IsFaultyRow h rows number why
 IsSaidOfRows h rows (BadRecord number) = IsBadRow h rows number
 IsSaidOfRows h rows NoMemory = ⊥
+
+-- the first line is this header, and these are the others
+pub record HasHeader (lines : List (List ℕ)) (h : Header) (rows : List (List ℕ)) : Type 0 where
+  pub head : List ℕ
+  pub is : lines ≡ head ∷ rows
+  pub says : IsHeaderLine head h
 
 -- the first line is a header, and this is said of the others
 pub record IsSaidAfter (lines : List (List ℕ)) (v : Verdict) : Type 0 where

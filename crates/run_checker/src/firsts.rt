@@ -8,7 +8,7 @@ ghost use Rattle.rename_core.specs.RenameObject.{RenameObject, new_object};
 ghost use Rattle.run_checker.specs.Firsts.{sole_in, view_at, noted, HoldsFirsts};
 ghost use Rattle.run_checker.specs.Standing.{proposed_by};
 
-use crate::pairs::Pairs;
+use record_lines::Pairs;
 use std::alloc::{AllocError, Global};
 use std::collections::HashMap;
 

@@ -9,16 +9,18 @@ ghost use Rattle.desk.specs.DeskRun.{IsDeskRun};
 ghost use Rattle.schedule_player.specs.Played.{reading, writing};
 ghost use Rattle.schedule_player.specs.Records.{record_of};
 ghost use Rattle.schedule_player.specs.Turns.{Turn, exchanges};
-ghost use Rattle.run_checker.specs.declared.line.Line.{Line};
+ghost use Rattle.record_lines.specs.declared.line.Line.{Line};
 ghost use Rattle.run_checker.specs.ObjectRun.{DeskObject, IsObjectRun};
 ghost use Rattle.run_checker.specs.Judged.{IsFaultAfter};
-ghost use Rattle.run_checker.specs.Lines.{AreLinesOfRun, CanFollow, Follow, line_of};
+ghost use Rattle.run_checker.specs.Lines.{AreLinesOfRun, CanFollow, Follow};
+ghost use Rattle.record_lines.specs.Lines.{line_of};
 ghost use Rattle.run_checker.specs.declared.reason.Reason.{Reason};
 ghost use Rattle.run_checker.specs.Reasons.{KeepsAll};
-ghost use Rattle.run_checker.specs.Recorded.{HasRecorded, IsRecordOf, IsShortTalk, IsYes, RecordsTalk};
+ghost use Rattle.run_checker.specs.Recorded.{HasRecorded, IsShortTalk, IsYes, RecordsTalk};
+ghost use Rattle.record_lines.specs.Records.{IsRecordOf, record_lines};
 ghost use Rattle.run_checker.specs.declared.verdict.Verdict.{Verdict};
 ghost use Rattle.run_checker.specs.declared.verdict.Verdict.TheVariants.{Yes};
-ghost use Rattle.run_checker.specs.Verdict.{IsSaid, IsSaidAfter, record_lines};
+ghost use Rattle.run_checker.specs.Verdict.{IsSaid, IsSaidAfter};
 
 use schedule_player::{Sink, Source};
 

@@ -15,8 +15,8 @@
 //!
 //! So the first fault decides, of whichever kind. That a line can follow exactly where no reason fits is `law_of_reasons`; that a
 //! list is one of a run exactly where each of its lines can follow, `law_of_records`; that what a desk answers is always one,
-//! `law_of_desk_runs`. `first_fault` judges lines that were read already, and `Checker::judge` one line after the other. `read_header`,
-//! `read_line`, `read_reply` and `next_line` read exactly what the definitions of `specs/` say.
+//! `law_of_desk_runs`. `first_fault` judges lines that were read already, and `Checker::judge` one line after the other. What a
+//! line says is read by `record_lines`, whose `Line`, `Told`, `Pairs`, `Header`, `Version` and `read_reply` can be named here too.
 //!
 //! What `record` of `schedule_player` writes of an input with at most 1,000,000 events is the record of a talk to its lines, and `check`
 //! answers `Yes` to it, or `NoMemory`: `law_of_recording`, and over talks alone `law_of_recorded_talks`.
@@ -41,44 +41,29 @@
 #![tactic(auto)]
 
 pub mod checker;
-mod compact;
 mod fault;
 mod firsts;
-pub mod header;
+pub mod gather;
 pub mod laws;
-pub mod line;
 pub mod lines;
 pub mod migrating;
 mod migration;
 mod moments;
 mod names;
-pub mod object;
-pub mod pairs;
 mod people;
-mod plain_line;
-pub mod quick_line;
 pub mod reason;
 pub mod record;
-pub mod record_line;
-pub mod reply_text;
-mod rows;
 mod standing;
 mod stays;
-mod text;
-pub mod told;
 pub mod verdict;
 
 pub use checker::Checker;
-pub use header::{Header, Version};
 pub use laws::{
     law_of_desk_runs, law_of_reasons, law_of_recorded_talks, law_of_recording, law_of_records,
 };
-pub use line::Line;
 pub use lines::first_fault;
 pub use migrating::migrate;
-pub use pairs::Pairs;
 pub use reason::Reason;
 pub use record::check;
-pub use reply_text::read_reply;
-pub use told::Told;
+pub use record_lines::{Header, Line, Pairs, Told, Version, read_reply};
 pub use verdict::Verdict;

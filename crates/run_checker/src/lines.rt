@@ -6,8 +6,8 @@ ghost use Rattle.run_checker.specs.Lines.{AreLinesOfRun};
 ghost use Rattle.run_checker.specs.Judged.{IsFirstFaultOrNone};
 
 use crate::checker::Checker;
-use crate::line::Line;
 use crate::reason::Reason;
+use record_lines::Line;
 use rename_core::Config;
 use std::alloc::{AllocError, Global};
 

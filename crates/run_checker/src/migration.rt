@@ -1,14 +1,12 @@
 //! From the lines of a record to those of its version 2.
 
 ghost use Rattle.std.specs.Prelude.{◌≡◌, [], IfOk, OnOk};
-ghost use Rattle.run_checker.specs.Migrated.{first_of, proposal_of, shown_in, GoesOn, HasMigrated, GathersMore};
+ghost use Rattle.run_checker.specs.Migrated.{first_of, proposal_of, shown_in, GoesOn, HasMigrated};
 
-use crate::compact::{put_header, put_line};
 use crate::firsts::Firsts;
-use crate::line::Line;
-use crate::text::Text;
-use crate::told::Told;
+use crate::gather::Gather;
 use desk::Event;
+use record_lines::{Line, Text, Told, put_header, put_line};
 use rename_core::Config;
 use std::alloc::{AllocError, Global};
 
@@ -80,21 +78,21 @@ impl Migration {
         })
     }
 
-    /// One more line, which can follow those before it. An error where a growth was refused; then what is gathered is of no
-    /// more use.
-    pub fn take(&mut self, line: &Line) -> Result<(), AllocError>
-        ensures { OnOk result (GathersMore line.now self.old self.new) }
-    {
-        put_line(line, shown(&self.firsts, line), &mut self.text)?;
-        follow(&mut self.firsts, line)?;
-        Ok(())
-    }
-
     /// The text of all lines.
     pub fn into_text(self) -> Text
         ensures { result ≡ self.text }
     {
         let Migration { firsts: _, text } = self;
         text
+    }
+}
+
+impl Gather for Migration {
+    ghost is_of = { HasMigrated };
+
+    fn take(&mut self, line: &Line) -> Result<(), AllocError> {
+        put_line(line, shown(&self.firsts, line), &mut self.text)?;
+        follow(&mut self.firsts, line)?;
+        Ok(())
     }
 }

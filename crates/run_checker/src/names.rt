@@ -3,9 +3,8 @@
 ghost use Rattle.std.specs.Prelude.{◌≡◌, ◌<◌, ◌≤◌, ◌^◌, ◌↔◌, OnOk, IfOk, IsTrue, None, Ok, [], MatchOption};
 ghost use Rattle.std.specs.List.{list_any};
 ghost use Rattle.step_memory.specs.Calls.Call.{Began};
-ghost use Rattle.rename_core.specs.RenameObject.{RenameTerms, RenameObject, no_begin, no_step, after, after_step};
+ghost use Rattle.rename_core.specs.RenameObject.{RenameTerms, RenameObject, no_begin, no_step, after, after_step, IsFreePlace, MayPropose, HasConflict, ShowsConflict, ShowsSole};
 ghost use Rattle.std.specs.Option.{option_copied};
-ghost use Rattle.rename_core.specs.RenameObject.{IsFreePlace, MayPropose, HasConflict, ShowsConflict, ShowsSole};
 ghost use Rattle.rename_core.specs.declared.reply.Reply.TheVariants as step;
 ghost use Rattle.step_memory.specs.View.{IsAbove, IsRising};
 ghost use Rattle.run_checker.specs.Rows.{HasPair, LacksPair, TellsMoments, TellsSince};
@@ -13,9 +12,9 @@ ghost use Rattle.run_checker.specs.Standing.{is_held, turns_in, HoldsNames, OfNa
 ghost use Rattle.run_checker.specs.Reasons.{MayBeNamed};
 
 use crate::moments::{Moments, NUMBERS, Row, is_crowded, with_number};
-use crate::pairs::Pairs;
 use crate::people::{find, put};
 use crate::standing::{Standing, Turn};
+use record_lines::Pairs;
 use std::alloc::{AllocError, Global};
 use step_memory::{Participant, Place, Refusal};
 

@@ -1,14 +1,16 @@
 //! The verdict on a record.
 
-ghost use Rattle.std.specs.Prelude.{IfOk};
+ghost use Rattle.std.specs.Prelude.{◌≡◌, [], IfOk, MatchOption};
 ghost use Rattle.std.specs.Option.{option_copied};
-ghost use Rattle.run_checker.specs.Verdict.{lines_left, record_lines, IsSaid, IsSaidOfRows, IsVerdict};
+ghost use Rattle.record_lines.specs.Records.{lines_left, record_lines};
+ghost use Rattle.run_checker.specs.declared.verdict.Verdict.TheVariants.{Yes};
+ghost use Rattle.run_checker.specs.Gathered.{AreGathered};
+ghost use Rattle.run_checker.specs.Verdict.{HasHeader, IsSaid, IsSaidOfRows, IsVerdict, LacksHeader};
 
 use crate::checker::Checker;
-use crate::header::Header;
-use crate::record_line::{read_header, read_line};
-use crate::rows::next_line;
+use crate::gather::{Gather, Nothing};
 use crate::verdict::Verdict;
+use record_lines::{Header, next_line, read_header, read_line};
 use std::alloc::{AllocError, Global};
 
 /// The number of the first line that is one too many: a header and a million lines come before it.
@@ -39,9 +41,32 @@ pub fn room_for(rows: Option<&[u8]>) -> usize {
     lines.min(1_000_000)
 }
 
-/// What is said of the event lines of a record with this header. An error where a growth was refused.
-fn judge_rows(alloc: Global, header: Header, rows: Option<&[u8]>) -> Result<Verdict, AllocError>
-    ensures { IfOk result (IsSaidOfRows header (lines_left (option_copied rows.entry))) }
+/// What the first line of a record says, and the bytes of its others; `None` where there is none, or it is no header. An error where
+/// a growth was refused.
+pub fn opened(alloc: Global, bytes: &[u8]) -> Result<Option<(Header, Option<&[u8]>)>, AllocError>
+    ensures { IfOk result (λ r. MatchOption r (LacksHeader (record_lines bytes.now))
+        (λ o. HasHeader (record_lines bytes.now) o.0 (lines_left (option_copied o.1)))) }
+{
+    let Some((head, rows)) = next_line(bytes) else {
+        return Ok(None);
+    };
+    match read_header(alloc, head)? {
+        Some(header) => Ok(Some((header, rows))),
+        None => Ok(None),
+    }
+}
+
+/// What is said of the event lines of a record with this header. Each that can follow those before it is gathered, up to the first
+/// that can't. An error where a growth was refused.
+pub fn judge_rows<G: Gather>(
+    alloc: Global,
+    header: Header,
+    rows: Option<&[u8]>,
+    gathered: &mut G,
+) -> Result<Verdict, AllocError>
+    ensures said { IfOk result (IsSaidOfRows header (lines_left (option_copied rows.entry))) }
+    ensures gathered { IfOk result (λ v. v ≡ Yes → G.is_of header.config [] gathered.old →
+        AreGathered header (lines_left (option_copied rows.entry)) (λ lines. G.is_of header.config lines gathered.new)) }
 {
     let config = header.config;
     let mut checker = Checker::new(alloc, config, room_for(rows))?;
@@ -60,6 +85,7 @@ fn judge_rows(alloc: Global, header: Header, rows: Option<&[u8]>) -> Result<Verd
         if let Some(reason) = checker.judge(&line)? {
             return Ok(Verdict::No(number, reason));
         }
+        gathered.take(&line)?;
         number += 1;
         left = rest;
     }
@@ -70,13 +96,10 @@ fn judge_rows(alloc: Global, header: Header, rows: Option<&[u8]>) -> Result<Verd
 fn judge_record(alloc: Global, bytes: &[u8]) -> Result<Verdict, AllocError>
     ensures { IfOk result (IsSaid (record_lines bytes.now)) }
 {
-    let Some((head, rows)) = next_line(bytes) else {
-        return Ok(Verdict::BadRecord(1));
-    };
-    let Some(header) = read_header(alloc, head)? else {
-        return Ok(Verdict::BadRecord(1));
-    };
-    judge_rows(alloc, header, rows)
+    match opened(alloc, bytes)? {
+        Some((header, rows)) => judge_rows(alloc, header, rows, &mut Nothing),
+        None => Ok(Verdict::BadRecord(1)),
+    }
 }
 
 /// The verdict on a record: whether its lines spell a run the objects can have had, and where they first don't; `NoMemory` where

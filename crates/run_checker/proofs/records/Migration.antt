@@ -12,49 +12,21 @@ use Rattle.rename_core.specs.RenameObject.{RenameTerms, RenameObject, IsRecent, 
 use Rattle.bit_allocator.specs.declared.probe.Probe.TheVariants as probe
 use Rattle.bit_allocator.specs.Calls.Call.{Entered, Probed, Left, Widened}
 use Rattle.slot_array.specs.SlotCalls.SlotCall.{Pooled, Stored, Fetched, Extended}
-use Rattle.desk.specs.declared.event.Event.{Event}
-use Rattle.desk.specs.declared.event.Event.TheVariants as event
-use Rattle.desk.specs.declared.reply.Reply.{Reply}
-use Rattle.desk.specs.declared.reply.Reply.TheVariants as reply
+use Rattle.desk.specs.declared.exchange.Exchange.{Exchange}
 use Rattle.desk.specs.DeskCalls.{DeskCall, exchange_of}
 use Rattle.desk.specs.DeskCalls.DeskCall.{Renamed, Slotted}
 use Rattle.schedule_player.specs.Records.{header_line, exchange_line}
 use Rattle.run_checker.specs.declared.firsts.Firsts.{Firsts}
-use Rattle.run_checker.specs.declared.line.Line.{Line}
+use Rattle.record_lines.specs.declared.line.Line.{Line}
 use Rattle.run_checker.specs.declared.migration.Migration.{Migration}
-use Rattle.run_checker.specs.declared.told.Told.TheVariants as told
-use Rattle.run_checker.specs.Compact.{line_words}
 use Rattle.run_checker.specs.Config.{terms_of}
 use Rattle.run_checker.specs.Firsts.{IsFirstSole, NeverSole, view_at, HasFirst, HoldsFirsts}
-use Rattle.run_checker.specs.Lines.{told_of, line_of, IsLineOf, CanFollow, after_line}
-use Rattle.run_checker.specs.Migrated.{Telling, ShowsFirst, IsTelling, after_telling, exchanges_in, record_text, proposal_of, shown_in, GoesOn, GathersMore}
+use Rattle.record_lines.specs.Lines.{IsShown, told_of, line_of, IsLineOf}
+use Rattle.run_checker.specs.Lines.{CanFollow, after_line}
+use Rattle.run_checker.specs.Gathered.{Gathers}
+use Rattle.run_checker.specs.Migrated.{Telling, ShowsFirst, IsTelling, after_telling, exchanges_in, record_text, proposal_of, shown_in, GoesOn, HasMigrated}
 use Rattle.run_checker.specs.ObjectRun.{DeskObject, fresh_desk_object, AllowsCall, after_call}
 use Rattle.run_checker.proofs.records.Runs.{after_is}
-
--- ---- the text of a line
-
--- what is shown is the view of a name
-abbrev IsShown : Reply → List (ℕ × ℕ) → Type 0
-IsShown (reply.Named name view) shown = shown ≡ view
-IsShown r shown = Unit {0}
-
-same_line : (e : Event) (b : Bool) (r : Reply) (shown : List (ℕ × ℕ)) → IsShown r shown → exchange_line (record { event = e; reply = r }) ≡ line_words e (told_of b r) shown
-same_line e b reply.Ok shown h = refl
-same_line e b reply.Quiet shown h = refl
-same_line e b reply.Stop shown h = refl
-same_line e b reply.Right shown h = refl
-same_line e b reply.Down shown h = refl
-same_line e b (reply.Place place) shown h = refl
-same_line e b (reply.Proposed number) shown h = refl
-same_line e b (reply.Saw view) shown h = refl
-same_line e b (reply.Named name view) shown h = ap (λ (v : List (ℕ × ℕ)). line_words e (told_of b (reply.Named name view)) v) (sym h)
-same_line e b reply.Spent shown h = refl
-same_line e b reply.Missed shown h = refl
-same_line e b (reply.Got number) shown h = refl
-same_line e b (reply.Left number) shown h = refl
-same_line e b (reply.Value value) shown h = refl
-same_line e b (reply.Owner owner) shown h = refl
-same_line e b (reply.Refused why) shown h = refl
 
 -- ---- the call that a line is taken for
 
@@ -62,7 +34,7 @@ same_line e b (reply.Refused why) shown h = refl
 record Chosen (terms : RenameTerms) (o : DeskObject) (f : Firsts) (l : Line) : Type 0 where
   call : DeskCall
   telling : IsTelling terms o (record { line = l; call = call })
-  words : exchange_line (exchange_of call) ≡ line_words l.event l.told (shown_in f l.event l.told)
+  shown : IsShown (exchange_of call).reply (shown_in f l.event l.told)
 
 -- the first view of a name that may be given
 first_view : (o : RenameObject) (f : Firsts) (p n : ℕ) (view : List (ℕ × ℕ)) → HoldsFirsts f o → ShowsSole o p n view → (w : List (ℕ × ℕ)) × (view_at f p ≡ Some w) × IsFirstSole o p n w
@@ -80,7 +52,7 @@ module _ (terms : RenameTerms) (o : DeskObject) (f : Firsts) (h : HoldsFirsts f 
   plain c b a first shown = record {
     call = c;
     telling = record { allowed = a; spelled = record { shows = b; spelled = refl }; first = first };
-    words = same_line (exchange_of c).event b (exchange_of c).reply (shown_in f (exchange_of c).event (told_of b (exchange_of c).reply)) shown;
+    shown = shown;
   }
 
   choose_for : (c : DeskCall) (b : Bool) → AllowsCall terms o c → Chosen terms o f (line_of b (exchange_of c))
@@ -96,7 +68,7 @@ module _ (terms : RenameTerms) (o : DeskObject) (f : Firsts) (h : HoldsFirsts f 
       record {
         call = Renamed (Stepped p (Ok (step.Named n k.0)));
         telling = record { allowed = (a.0, (a.1.0, k.2.shows, a.1.2)); spelled = record { shows = false; spelled = refl }; first = k.2 };
-        words = ap (λ (v : List (ℕ × ℕ)). line_words (event.Step p) (told.Named n None) v) (sym (ap (λ (x : Option (List (ℕ × ℕ))). unwrap_or x []) k.1));
+        shown = ap (λ (x : Option (List (ℕ × ℕ))). unwrap_or x []) k.1;
       }
   choose_for (Renamed (Stepped p (Ok step.Spent))) b a = plain (Renamed (Stepped p (Ok step.Spent))) b a tt tt
   choose_for (Renamed (Stepped p (Err why))) b a = plain (Renamed (Stepped p (Err why))) b a tt tt
@@ -201,7 +173,8 @@ text_more c ts t text is =
     ∙ ap (λ (l : List ℕ). header_line c ++ l) (sym (flat_map-append exchange_line xs (exchange_of t.call ∷ [])))
     ∙ ap (record_text c) (sym more)
 
-pub gathers_more : (l : Line) (m m' : Migration) → m'.text ≡ m.text ++ line_words l.event l.told (shown_in m.firsts l.event l.told) → GoesOn (proposal_of l.event l.told) m.firsts m'.firsts → GathersMore l m m'
+pub gathers_more : (l : Line) (m m' : Migration) → ((x : Exchange) → IsLineOf x l → IsShown x.reply (shown_in m.firsts l.event l.told) → m'.text ≡ m.text ++ exchange_line x) → GoesOn (proposal_of l.event l.told) m.firsts m'.firsts →
+    Gathers HasMigrated l m m'
 gathers_more l m m' text goes c lines o h follows =
     let s = h.so_far in
     let terms = terms_of c in
@@ -218,7 +191,7 @@ gathers_more l m m' text goes c lines o h follows =
         lines_are = map-append (λ (x : Telling). x.line) s.tellings (t ∷ []) ∙ ap (λ (x : List Line). x ++ l ∷ []) s.lines_are;
         object = after_telling s.object t;
         run = run_more after_telling (IsTelling terms) start s.tellings s.object t s.run k.telling;
-        text_is = text ∙ ap (λ (x : List ℕ). m.text ++ x) (sym k.words) ∙ text_more c s.tellings t m.text s.text_is;
+        text_is = text (exchange_of k.call) k.telling.spelled k.shown ∙ text_more c s.tellings t m.text s.text_is;
       };
       firsts = firsts_next m.firsts m'.firsts s.object k.call l k.telling.spelled h.firsts goes;
     }

@@ -1,62 +1,34 @@
 -- of a record that spells a run nothing else is said
-use Rattle.std.proofs.Common.{◌≡◌, ℕ, List, [], ◌∷◌, ◌++◌, length, Some, Ok, refl, sym, ap, ◌∙◌, subst, inl, inr, arith, length-append}
+use Rattle.std.proofs.Common.{◌≡◌, ℕ, List, [], ◌∷◌, ◌++◌, length, refl, sym, ap, ◌∙◌, subst, inl, inr, arith, length-append}
 use Rattle.rename_core.specs.declared.config.WorldKind.{WorldKind}
 use Rattle.rename_core.specs.Config.{is_tree}
 use Rattle.rename_core.specs.RenameObject.{RenameTerms}
-use Rattle.serde_json.specs.Data.{Data}
-use Rattle.schedule_player.specs.declared.command.Command.TheVariants as command
-use Rattle.schedule_player.specs.Meaning.{meaning}
-use Rattle.run_checker.specs.declared.header.Header.{Header}
-use Rattle.run_checker.specs.declared.header.Version.{Version}
-use Rattle.run_checker.specs.declared.line.Line.{Line}
+use Rattle.record_lines.specs.declared.header.Header.{Header}
+use Rattle.record_lines.specs.declared.header.Version.{Version}
+use Rattle.record_lines.specs.declared.line.Line.{Line}
 use Rattle.run_checker.specs.declared.verdict.Verdict.{Verdict}
 use Rattle.run_checker.specs.declared.verdict.Verdict.TheVariants.{Yes, No, BadRecord, NoMemory}
 use Rattle.run_checker.specs.Config.{terms_of}
-use Rattle.run_checker.specs.Json.{SaysSizes}
 use Rattle.run_checker.specs.Lines.{AreLinesOfRun}
-use Rattle.run_checker.specs.RecordLine.{SaysLine, IsEventLine, IsHeaderLine}
-use Rattle.run_checker.specs.ReplyText.{told_by}
-use Rattle.run_checker.specs.Verdict.{AreRead, SpellRun, IsFaultyRow, IsBadRow, IsSaidOfRows, IsSaidAfter, LacksHeader, IsSaid}
-use Rattle.run_checker.proofs.written.PlainLines.{some_text, one_view}
-use Rattle.run_checker.proofs.records.Lines.{one_value}
+use Rattle.record_lines.specs.RecordLine.{IsEventLine, IsHeaderLine}
+use Rattle.record_lines.specs.Records.{AreRead}
+use Rattle.run_checker.specs.Verdict.{SpellRun, IsFaultyRow, IsBadRow, IsSaidOfRows, IsSaidAfter, LacksHeader, IsSaid}
+use Rattle.record_lines.specs.Records.{AreSame}
+use Rattle.record_lines.proofs.Once.{line_once, header_once}
 use Rattle.run_checker.proofs.records.Runs.{at_fault}
 
-some_number : (a b : ℕ) → Some a ≡ Some b → a ≡ b
-some_number a b e = cc
-
-some_version : (a b : Version) → Some a ≡ Some b → a ≡ b
-some_version a b e = cc
-
-some_world : (a b : WorldKind) → Some a ≡ Some b → a ≡ b
-some_world a b e = cc
-
 module _ (kind : WorldKind) (version : Version) where
-  said_once : (d : Data) (l k : Line) → SaysLine kind version d l → SaysLine kind version d k → l ≡ k
-  said_once d l k x y =
-      let asked : x.asked ≡ y.asked = some_text _ _ (sym x.texts.command_is ∙ y.texts.command_is) in
-      let replied : x.replied ≡ y.replied = some_text _ _ (sym x.texts.reply_is ∙ y.texts.reply_is) in
-      let events : Ok (command.Event l.event) ≡ Ok (command.Event k.event) = sym x.event_is ∙ ap (meaning kind) asked ∙ y.event_is in
-      let shown : x.shown ≡ y.shown = one_view d x.shown y.shown (sym x.texts.keys ∙ y.texts.keys) x.texts.view_is y.texts.view_is in
-      let tolds : Some l.told ≡ Some k.told = sym x.told_is ∙ (λ i. told_by version (replied i) (shown i)) ∙ y.told_is in
-      let event : l.event ≡ k.event = cc in
-      let told : l.told ≡ k.told = cc in
-      λ i. record { event = event i; told = told i }
-
-  -- bytes are one line alone
-  line_once : (row : List ℕ) (l k : Line) → IsEventLine kind version row l → IsEventLine kind version row k → l ≡ k
-  line_once row l k x y = said_once x.value l k x.says (subst (λ (d : Data). SaysLine kind version d k) (one_value row y.value x.value y.json x.json) y.says)
-
   -- the lines that rows are read as begin with those that their front is
   read_on : (before : List (List ℕ)) (row : List ℕ) (more : List (List ℕ)) (lines front : List Line) (l : Line) → AreRead kind version (before ++ row ∷ more) lines → AreRead kind version before front → IsEventLine kind version row l →
       (rest : List Line) × (lines ≡ front ++ l ∷ rest)
   read_on [] row more [] [] l r f says = absurd r
-  read_on [] row more (k ∷ ks) [] l r f says = (ks, ap (λ (x : Line). x ∷ ks) (line_once row k l r.0 says))
+  read_on [] row more (k ∷ ks) [] l r f says = (ks, ap (λ (x : Line). x ∷ ks) (line_once kind version row k l r.0 says))
   read_on [] row more lines (m ∷ ms) l r f says = absurd f
   read_on (x ∷ xs) row more lines [] l r f says = absurd f
   read_on (x ∷ xs) row more [] (m ∷ ms) l r f says = absurd r
   read_on (x ∷ xs) row more (k ∷ ks) (m ∷ ms) l r f says =
       let rest = read_on xs row more ks ms l r.1 f.1 says in
-      let first : k ≡ m = line_once x k m r.0 f.0 in
+      let first : k ≡ m = line_once kind version x k m r.0 f.0 in
       let others = rest.1 in
       (rest.0, λ i. first i ∷ others i)
 
@@ -88,27 +60,6 @@ module _ (h : Header) (rows : List (List ℕ)) (s : SpellRun h rows) where
   only_yes (No number why) said = absurd (no_fault number why said)
   only_yes (BadRecord number) said = absurd (none_bad number said)
   only_yes NoMemory said = absurd said
-
--- a header says one version and one config
-record AreSame (g h : Header) : Type 0 where
-  version : g.version ≡ h.version
-  world : g.config.world ≡ h.config.world
-  m : g.config.m ≡ h.config.m
-  k : g.config.k ≡ h.config.k
-  limit : g.config.limit ≡ h.config.limit
-
-header_once : (head : List ℕ) (g h : Header) → IsHeaderLine head g → IsHeaderLine head h → AreSame g h
-header_once head g h x y =
-    let same = one_value head y.value x.value y.json x.json in
-    let a = x.says.sizes in
-    let b : SaysSizes x.value h.version h.config.world h.config.m h.config.k h.config.limit = subst (λ (v : Data). SaysSizes v h.version h.config.world h.config.m h.config.k h.config.limit) same y.says.sizes in
-    record {
-      version = some_version _ _ (sym a.format.version ∙ b.format.version);
-      world = some_world _ _ (sym a.world_is ∙ b.world_is);
-      m = some_number _ _ (sym a.m_is ∙ b.m_is);
-      k = some_number _ _ (sym a.k_is ∙ b.k_is);
-      limit = some_number _ _ (sym a.limit_is ∙ b.limit_is);
-    }
 
 -- and what rows spell for one header they spell for another of the same version and numbers
 spelled_too : (g h : Header) (rows : List (List ℕ)) → AreSame g h → SpellRun g rows → SpellRun h rows

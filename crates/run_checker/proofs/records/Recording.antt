@@ -1,5 +1,5 @@
 -- what `record` writes spells the run that was played
-use Rattle.std.proofs.Common.{◌≡◌, ℕ, true, List, [], ◌∷◌, map, length, Option, Some, Ok, Err, inl, inr, refl, sym, ap, ◌∙◌, subst, arith}
+use Rattle.std.proofs.Common.{◌≡◌, ℕ, true, List, [], ◌∷◌, map, length, Option, Some, Ok, Err, inl, inr, refl, sym, ap, ◌∙◌, subst, arith, ◌≤◌}
 use Rattle.std.specs.Io.KnownBytes.{Appends}
 use Rattle.rename_core.specs.declared.config.Config.{Config}
 use Rattle.rename_core.specs.declared.config.WorldKind.{WorldKind}
@@ -20,14 +20,38 @@ use Rattle.schedule_player.specs.Turns.{Turn, asked, exchanges}
 use Rattle.schedule_player.specs.Turns.Turn.{Answered, Told, Ended, Misread}
 use Rattle.run_checker.specs.declared.verdict.Verdict.TheVariants.{Yes}
 use Rattle.run_checker.specs.Config.{terms_of}
-use Rattle.run_checker.specs.Recorded.{IsRecordOf, IsShortTalk, HasRecorded, RecordsTalk, events_among, events_in, IsYes}
-use Rattle.run_checker.specs.Verdict.{record_lines, IsSaid, IsSaidAfter}
+use Rattle.run_checker.proofs.records.Rows.{read_length}
+use Rattle.run_checker.proofs.records.Runs.{lines_of_all}
+use Rattle.record_lines.specs.Records.{IsRecordOf, record_lines}
+use Rattle.run_checker.specs.Recorded.{IsShortTalk, HasRecorded, RecordsTalk, events_among, events_in, IsYes}
+use Rattle.run_checker.specs.Verdict.{IsSaid, IsSaidAfter}
 use Rattle.rename_core.proofs.MostIn.{few_take_part}
 use Rattle.run_checker.proofs.DeskRuns.{desk_run}
 use Rattle.run_checker.proofs.NarrowRuns.{AreWritable, run_narrow}
 use Rattle.run_checker.proofs.records.OneVerdict.{one_verdict}
 use Rattle.run_checker.proofs.records.Talking.{asked_narrow, turns_fit}
-use Rattle.run_checker.proofs.written.Lines.{record_is, record_said}
+use Rattle.record_lines.proofs.written.Lines.{record_is}
+use Rattle.std.proofs.lemmas.List.{length-map}
+use Rattle.desk.specs.declared.exchange.Exchange.{Exchange}
+use Rattle.record_lines.specs.declared.header.Version.TheVariants.{Two}
+use Rattle.record_lines.specs.Lines.{line_of}
+use Rattle.run_checker.specs.ObjectRun.{IsObjectRun}
+
+-- where the exchanges are a run that is not too long, their record spells one
+pub record_said : (c : Config) (r : List Exchange) (bytes : List ℕ) → IsRecordOf c r bytes → IsObjectRun (terms_of c) c.k r → length r ≤ 1000000 → IsSaidAfter (record_lines bytes) Yes
+record_said c r bytes b run few = record {
+  head = b.head;
+  rows = b.rows;
+  is = b.is;
+  header = record { version = Two; config = c };
+  says = b.header;
+  said = record {
+    lines = map (line_of true) r;
+    read = b.read;
+    few = omega (arith, read_length c.world Two b.rows (map (line_of true) r) b.read, length-map r (line_of true));
+    run = record { exchanges = r; spelled = lines_of_all true r; run = run };
+  };
+}
 
 -- in a world with names a talk is one of a desk
 desk_talk : (kind : WorldKind) (c : Config) (ts : List Turn) → gives_names kind ≡ true → IsTalkByKind kind c ts → IsTalkOf (IsDeskRunOf c) c.m (IsFreshDesk c) DeskWorldMay ts

@@ -14,13 +14,14 @@ use Rattle.run_checker.specs.declared.checker.Checker.{Checker}
 use Rattle.run_checker.specs.declared.fault.Fault.{Fault}
 use Rattle.run_checker.specs.declared.fault.Fault.TheVariants.{Unlawful, NoMemory}
 use Rattle.run_checker.specs.Fault.{told_by}
-use Rattle.run_checker.specs.declared.line.Line.{Line}
+use Rattle.record_lines.specs.declared.line.Line.{Line}
 use Rattle.run_checker.specs.declared.reason.Reason.{Reason}
-use Rattle.run_checker.specs.declared.told.Told.{Told}
-use Rattle.run_checker.specs.declared.told.Told.TheVariants.{Ok as Accepted, Place, Proposed, Named, Spent, Missed, Got, Left}
+use Rattle.record_lines.specs.declared.told.Told.{Told}
+use Rattle.record_lines.specs.declared.told.Told.TheVariants.{Ok as Accepted, Place, Proposed, Named, Spent, Missed, Got, Left}
 use Rattle.run_checker.specs.ObjectRun.{DeskObject, fresh_desk_object, AllowsCall, after_call}
 use Rattle.run_checker.specs.Reasons.{KeepsAll, IsLeastReason}
-use Rattle.run_checker.specs.Lines.{line_of, IsLineOf, AreLinesOf, AreLinesOfRun, CanFollow, after_told, after_line, Follow}
+use Rattle.record_lines.specs.Lines.{line_of, IsLineOf, AreLinesOf}
+use Rattle.run_checker.specs.Lines.{AreLinesOfRun, CanFollow, after_told, after_line, Follow}
 use Rattle.run_checker.specs.Judged.{HoldsDesk, IsTaken, IsJudged, HasTaken, IsFaultAfter, TakesOn, IsFirstFault}
 use Rattle.run_checker.proofs.Following.{can_follow, follows_keeps, same_after}
 

@@ -1,5 +1,5 @@
 use Rattle.std.proofs.Common.{◌≡◌, ◌∙◌, Bool, true, ◌&&◌, sym, ap}
-use Rattle.run_checker.specs.Told.{is_step}
+use Rattle.record_lines.specs.Told.{is_step}
 use Rattle.run_checker.specs.Reasons.{refusal_due, is_refused_as_due}
 use Rattle.run_checker.proofs.checker.Checker.take_line.Goals as goal
 

@@ -1,0 +1,12 @@
+mod PairLemmas
+mod WordLemmas
+mod ToldWords
+mod JsonLemmas
+mod QuickReplies
+pub mod written
+mod Pieces
+mod Cut
+mod Values
+pub mod Once
+pub mod Headers
+pub mod Narrow

@@ -1,0 +1,53 @@
+-- bytes say one thing
+use Rattle.std.proofs.Common.{◌≡◌, ℕ, List, Some, Ok, sym, ap, ◌∙◌, subst}
+use Rattle.rename_core.specs.declared.config.WorldKind.{WorldKind}
+use Rattle.serde_json.specs.Data.{Data}
+use Rattle.schedule_player.specs.declared.command.Command.TheVariants as command
+use Rattle.schedule_player.specs.Meaning.{meaning}
+use Rattle.record_lines.specs.declared.header.Header.{Header}
+use Rattle.record_lines.specs.declared.header.Version.{Version}
+use Rattle.record_lines.specs.declared.line.Line.{Line}
+use Rattle.record_lines.specs.Json.{SaysSizes}
+use Rattle.record_lines.specs.RecordLine.{SaysLine, IsEventLine, IsHeaderLine}
+use Rattle.record_lines.specs.Records.{AreSame}
+use Rattle.record_lines.specs.ReplyText.{told_by}
+use Rattle.record_lines.proofs.written.PlainLines.{some_text, one_view}
+use Rattle.record_lines.proofs.Values.{one_value}
+
+some_number : (a b : ℕ) → Some a ≡ Some b → a ≡ b
+some_number a b e = cc
+
+some_version : (a b : Version) → Some a ≡ Some b → a ≡ b
+some_version a b e = cc
+
+some_world : (a b : WorldKind) → Some a ≡ Some b → a ≡ b
+some_world a b e = cc
+
+module _ (kind : WorldKind) (version : Version) where
+  said_once : (d : Data) (l k : Line) → SaysLine kind version d l → SaysLine kind version d k → l ≡ k
+  said_once d l k x y =
+      let asked : x.asked ≡ y.asked = some_text _ _ (sym x.texts.command_is ∙ y.texts.command_is) in
+      let replied : x.replied ≡ y.replied = some_text _ _ (sym x.texts.reply_is ∙ y.texts.reply_is) in
+      let events : Ok (command.Event l.event) ≡ Ok (command.Event k.event) = sym x.event_is ∙ ap (meaning kind) asked ∙ y.event_is in
+      let shown : x.shown ≡ y.shown = one_view d x.shown y.shown (sym x.texts.keys ∙ y.texts.keys) x.texts.view_is y.texts.view_is in
+      let tolds : Some l.told ≡ Some k.told = sym x.told_is ∙ (λ i. told_by version (replied i) (shown i)) ∙ y.told_is in
+      let event : l.event ≡ k.event = cc in
+      let told : l.told ≡ k.told = cc in
+      λ i. record { event = event i; told = told i }
+
+  -- bytes are one line alone
+  pub line_once : (row : List ℕ) (l k : Line) → IsEventLine kind version row l → IsEventLine kind version row k → l ≡ k
+  line_once row l k x y = said_once x.value l k x.says (subst (λ (d : Data). SaysLine kind version d k) (one_value row y.value x.value y.json x.json) y.says)
+
+pub header_once : (head : List ℕ) (g h : Header) → IsHeaderLine head g → IsHeaderLine head h → AreSame g h
+header_once head g h x y =
+    let same = one_value head y.value x.value y.json x.json in
+    let a = x.says.sizes in
+    let b : SaysSizes x.value h.version h.config.world h.config.m h.config.k h.config.limit = subst (λ (v : Data). SaysSizes v h.version h.config.world h.config.m h.config.k h.config.limit) same y.says.sizes in
+    record {
+      version = some_version _ _ (sym a.format.version ∙ b.format.version);
+      world = some_world _ _ (sym a.world_is ∙ b.world_is);
+      m = some_number _ _ (sym a.m_is ∙ b.m_is);
+      k = some_number _ _ (sym a.k_is ∙ b.k_is);
+      limit = some_number _ _ (sym a.limit_is ∙ b.limit_is);
+    }

@@ -1,0 +1,49 @@
+-- lines that are read in one pass over their bytes
+use Rattle.std.proofs.Common.{◌≡◌, ℕ, ◌-◌, ◌≤◌, ◌==◌, true, false, not, List, [], ◌∷◌, ◌++◌, length, take, drop, Some, None, refl, ap, ◌∙◌, arith, codes, append_assoc}
+use Rattle.std.specs.List.{list_all}
+use Rattle.std.proofs.lemmas.Bool.Decides.{nat_tests}
+use Rattle.std.proofs.lemmas.List.{take_all, length-drop}
+use Rattle.schedule_player.specs.Meaning.{words, is_digit, number_in, same_bytes}
+use Rattle.schedule_player.specs.Quick.{is_of_words}
+use Rattle.record_lines.specs.declared.header.Version.{Version}
+use Rattle.record_lines.specs.declared.header.Version.TheVariants.{One, Two}
+use Rattle.record_lines.specs.declared.told.Told.{Told}
+use Rattle.record_lines.specs.Json.{is_plain}
+use Rattle.record_lines.specs.PlainLine.{SpellsReply, SpellsLastNumber}
+use Rattle.record_lines.specs.ReplyText.{told_by, told_with, told_in, told_of_words, word_with}
+use Rattle.record_lines.proofs.Pieces.{lacks, pieces-last, pieces-cut}
+use Rattle.record_lines.proofs.written.PlainLines.{close}
+use Rattle.record_lines.proofs.written.Words.{all_by, plain_both, digit_plain, digit_no_space}
+
+of_words_plain : (b : ℕ) → is_of_words b ≡ true → is_plain b ≡ true
+of_words_plain b h = grind (arith, nat_tests)
+
+pub words_plain : (xs : List ℕ) → list_all is_of_words xs ≡ true → list_all is_plain xs ≡ true
+words_plain xs h = all_by is_of_words is_plain of_words_plain xs h
+
+-- the bytes past a beginning, as a slice gives them
+pub rest_of-slice : (bytes : List ℕ) (n : ℕ) → n ≤ length bytes → take (length bytes - n) (drop n bytes) ≡ drop n bytes
+rest_of-slice bytes n le = take_all (length bytes - n) (drop n bytes) (omega (arith, length-drop n bytes))
+
+-- what is told in each version
+in_both : (t : Told) → told_with One t None ≡ Some t → told_with Two t None ≡ Some t → (version : Version) → told_with version t None ≡ Some t
+in_both t one two One = one
+in_both t one two Two = two
+
+told_in_both : (replied : List ℕ) (t : Told) → told_in replied ≡ Some t → told_with One t None ≡ Some t → told_with Two t None ≡ Some t → (version : Version) → told_by version replied None ≡ Some t
+told_in_both replied t is one two version = rw is (in_both t one two version)
+
+-- a reply of one word
+pub word_spelled : (text replied : List ℕ) (t : Told) → text ≡ replied ++ close → list_all is_plain replied ≡ true → told_in replied ≡ Some t → told_with One t None ≡ Some t → told_with Two t None ≡ Some t → SpellsReply text t
+word_spelled text replied t written plain is one two = record { replied = replied; end = record { written = written; plain = plain; plain_view = tt }; tells = told_in_both replied t is one two }
+
+-- a reply of a word and a number
+pub number_spelled : (text word rest : List ℕ) (t : Told) (n : ℕ) → text ≡ (word ++ 32 ∷ []) ++ rest → SpellsLastNumber rest n → list_all is_plain word ≡ true → lacks 32 word ≡ true → same_bytes word (codes "saw") ≡ false →
+    ((digits : List ℕ) → number_in digits ≡ Some n → word_with word digits ≡ Some t) → told_with One t None ≡ Some t → told_with Two t None ≡ Some t → SpellsReply text t
+number_spelled text word rest t n split s plain whole other tells one two =
+    let replied : List ℕ = word ++ 32 ∷ s.digits in
+    let cut : words replied ≡ word ∷ s.digits ∷ [] =
+    pieces-cut 32 [] word s.digits whole ∙ ap (λ (l : List (List ℕ)). word ∷ l) (pieces-last 32 [] s.digits (all_by is_digit (λ b. not (b == 32)) digit_no_space s.digits s.are_digits)) in
+    let means : told_of_words (word ∷ s.digits ∷ []) ≡ Some t = rw other (tells s.digits s.number) in
+    let written : text ≡ replied ++ close = split ∙ ap (λ (l : List ℕ). (word ++ 32 ∷ []) ++ l) s.written ∙ simp append_assoc in
+    word_spelled text replied t written (plain_both word (32 ∷ s.digits) plain (plain_both (32 ∷ []) s.digits refl (all_by is_digit is_plain digit_plain s.digits s.are_digits))) (ap told_of_words cut ∙ means) one two

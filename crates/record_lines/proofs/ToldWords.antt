@@ -1,0 +1,49 @@
+-- what is told of replies is written as they are
+use Rattle.std.proofs.Common.{◌≡◌, ℕ, Bool, List, ◌++◌, Result, Ok, Err, OnOk, codes, decimal, refl, sym, ap, ◌∙◌}
+use Rattle.desk.specs.declared.reply.Reply.{Reply}
+use Rattle.desk.specs.declared.reply.Reply.TheVariants as reply
+use Rattle.schedule_player.specs.Replies.{owner_words, pair_words, reply_words}
+use Rattle.record_lines.specs.declared.told.Told.{Told}
+use Rattle.record_lines.specs.declared.told.Told.TheVariants.{Ok as Accepted, Quiet, Stop, Right, Down, Place, Proposed, Saw, Named, Spent, Missed, Got, Left, Value, Owner, Refused}
+use Rattle.record_lines.specs.Lines.{told_of}
+
+-- the words of each reply of which this is told
+abbrev told_words : Told → List ℕ
+told_words Accepted = codes "ok"
+told_words Quiet = codes "quiet"
+told_words Stop = codes "stop"
+told_words Right = codes "right"
+told_words Down = codes "down"
+told_words (Place place) = codes "place " ++ decimal place
+told_words (Proposed number) = codes "proposed " ++ decimal number
+told_words (Saw view) = codes "saw" ++ pair_words view
+told_words (Named name shown) = codes "named " ++ decimal name
+told_words Spent = codes "spent"
+told_words Missed = codes "missed"
+told_words (Got number) = codes "got " ++ decimal number
+told_words (Left number) = codes "left " ++ decimal number
+told_words (Value value) = codes "value " ++ decimal value
+told_words (Owner owner) = owner_words owner
+told_words (Refused number) = codes "refused " ++ decimal number
+
+same_words : (shows : Bool) (r : Reply) → reply_words r ≡ told_words (told_of shows r)
+same_words shows reply.Ok = refl
+same_words shows reply.Quiet = refl
+same_words shows reply.Stop = refl
+same_words shows reply.Right = refl
+same_words shows reply.Down = refl
+same_words shows (reply.Place place) = refl
+same_words shows (reply.Proposed number) = refl
+same_words shows (reply.Saw view) = refl
+same_words shows (reply.Named name view) = refl
+same_words shows reply.Spent = refl
+same_words shows reply.Missed = refl
+same_words shows (reply.Got number) = refl
+same_words shows (reply.Left number) = refl
+same_words shows (reply.Value value) = refl
+same_words shows (reply.Owner owner) = refl
+same_words shows (reply.Refused why) = refl
+
+pub spelled : {E : Type 0} (x : Result (Unit {0}) E) (t : Told) (old new : List ℕ) → OnOk x (new ≡ old ++ told_words t) → OnOk x ((shows : Bool) (r : Reply) → told_of shows r ≡ t → new ≡ old ++ reply_words r)
+spelled (Ok done) t old new h = λ shows r is. h ∙ ap (λ (l : List ℕ). old ++ l) (sym (same_words shows r ∙ ap told_words is))
+spelled (Err e) t old new h = tt

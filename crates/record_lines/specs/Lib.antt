@@ -1,0 +1,9 @@
+pub mod Told
+pub mod ReplyText
+pub mod Json
+pub mod RecordLine
+pub mod PlainLine
+pub mod Lines
+pub mod Records
+pub mod Narrow
+pub mod Pairs

@@ -1,0 +1,58 @@
+-- what lines a record has of exchanges
+use Rattle.std.specs.Prelude.{◌≡◌, ℕ, Bool, true, false, List, [], ◌∷◌, Option, Some, None}
+use Rattle.step_memory.specs.Refusal.{refusal_number}
+use Rattle.desk.specs.declared.event.Event.{Event}
+use Rattle.desk.specs.declared.exchange.Exchange.{Exchange}
+use Rattle.desk.specs.declared.reply.Reply.{Reply}
+use Rattle.desk.specs.declared.reply.Reply.TheVariants as reply
+use Rattle.record_lines.specs.declared.line.Line.{Line}
+use Rattle.record_lines.specs.declared.told.Told.{Told}
+use Rattle.record_lines.specs.declared.told.Told.TheVariants as told
+
+-- the view by which a name was given, where it is shown
+abbrev pub shown_where : Bool → List (ℕ × ℕ) → Option (List (ℕ × ℕ))
+shown_where true view = Some view
+shown_where false view = None
+
+-- how a reply is told: the view by which a name was given is shown or left out
+abbrev pub told_of : Bool → Reply → Told
+told_of shows reply.Ok = told.Ok
+told_of shows reply.Quiet = told.Quiet
+told_of shows reply.Stop = told.Stop
+told_of shows reply.Right = told.Right
+told_of shows reply.Down = told.Down
+told_of shows (reply.Place place) = told.Place place
+told_of shows (reply.Proposed number) = told.Proposed number
+told_of shows (reply.Saw view) = told.Saw view
+told_of shows (reply.Named name view) = told.Named name (shown_where shows view)
+told_of shows reply.Spent = told.Spent
+told_of shows reply.Missed = told.Missed
+told_of shows (reply.Got number) = told.Got number
+told_of shows (reply.Left number) = told.Left number
+told_of shows (reply.Value value) = told.Value value
+told_of shows (reply.Owner owner) = told.Owner owner
+told_of shows (reply.Refused why) = told.Refused (refusal_number why)
+
+abbrev pub line : Event → Told → Line
+line e t = record { event = e; told = t }
+
+-- the line of an exchange, with the view by which a name was given or without it
+abbrev pub line_of : Bool → Exchange → Line
+line_of shows x = line x.event (told_of shows x.reply)
+
+-- a line is that of an exchange, told in full or without the view by which a name was given
+pub record IsLineOf (x : Exchange) (l : Line) : Type 0 where
+  pub shows : Bool
+  pub spelled : line_of shows x ≡ l
+
+-- line by line
+abbrev pub AreLinesOf : List Exchange → List Line → Type 0
+AreLinesOf [] [] = Unit {0}
+AreLinesOf [] (l ∷ lines) = ⊥
+AreLinesOf (x ∷ exchanges) [] = ⊥
+AreLinesOf (x ∷ exchanges) (l ∷ lines) = IsLineOf x l × AreLinesOf exchanges lines
+
+-- of a name, this is the view by which it was given
+abbrev pub IsShown : Reply → List (ℕ × ℕ) → Type 0
+IsShown (reply.Named name view) shown = shown ≡ view
+IsShown r shown = Unit {0}

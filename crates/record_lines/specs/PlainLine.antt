@@ -1,0 +1,63 @@
+-- lines that are spelled as records are written: with no space between their parts, their keys in order, and texts in which each byte
+-- stands for itself
+use Rattle.std.specs.Prelude.{◌≡◌, ℕ, true, List, ◌++◌, Option, Some, None, Ok, codes}
+use Rattle.std.specs.List.{list_all}
+use Rattle.serde_json.specs.Data.{Data}
+use Rattle.rename_core.specs.declared.config.WorldKind.{WorldKind}
+use Rattle.desk.specs.declared.event.Event.{Event}
+use Rattle.schedule_player.specs.declared.command.Command.TheVariants as command
+use Rattle.schedule_player.specs.Meaning.{is_digit, meaning, number_in}
+use Rattle.record_lines.specs.declared.header.Version.{Version}
+use Rattle.record_lines.specs.declared.line.Line.{Line}
+use Rattle.record_lines.specs.declared.told.Told.{Told}
+use Rattle.record_lines.specs.Json.{is_plain}
+use Rattle.record_lines.specs.RecordLine.{IsJson, SaysLine}
+use Rattle.record_lines.specs.ReplyText.{told_by}
+
+-- the bytes are read as a value that says this line
+pub record SpellsLine (kind : WorldKind) (version : Version) (bytes : List ℕ) (l : Line) : Type 0 where
+  pub value : Data
+  pub json : IsJson bytes value
+  pub says : SaysLine kind version value l
+
+-- a line begins so, with words that mean this event, and the rest stands from its reply on
+pub record SpellsEvent (kind : WorldKind) (bytes : List ℕ) (e : Event) (rest : List ℕ) : Type 0 where
+  pub asked : List ℕ
+  pub written : bytes ≡ codes "{\"command\":\"" ++ (asked ++ (codes "\",\"reply\":\"" ++ rest))
+  pub plain : list_all is_plain asked ≡ true
+  pub means : meaning kind asked ≡ Ok (command.Event e)
+
+-- what follows a reply, with a view beside it or none
+abbrev pub ending : Option (List ℕ) → List ℕ
+ending None = codes "\"}"
+ending (Some view) = codes "\",\"view\":\"" ++ (view ++ codes "\"}")
+
+abbrev pub IsPlainView : Option (List ℕ) → Type 0
+IsPlainView None = Unit {0}
+IsPlainView (Some view) = list_all is_plain view ≡ true
+
+-- a line ends so, with this reply and the view beside it
+pub record SpellsEnd (text replied : List ℕ) (shown : Option (List ℕ)) : Type 0 where
+  pub written : text ≡ replied ++ ending shown
+  pub plain : list_all is_plain replied ≡ true
+  pub plain_view : IsPlainView shown
+
+-- what it ends with tells this in this version
+pub record SpellsTold (version : Version) (text : List ℕ) (t : Told) : Type 0 where
+  pub replied : List ℕ
+  pub shown : Option (List ℕ)
+  pub end : SpellsEnd text replied shown
+  pub tells : told_by version replied shown ≡ Some t
+
+-- with no view beside it, it tells this in each version
+pub record SpellsReply (text : List ℕ) (t : Told) : Type 0 where
+  pub replied : List ℕ
+  pub end : SpellsEnd text replied None
+  pub tells : (version : Version) → told_by version replied None ≡ Some t
+
+-- a line ends so, with digits that write this number
+pub record SpellsLastNumber (text : List ℕ) (n : ℕ) : Type 0 where
+  pub digits : List ℕ
+  pub written : text ≡ digits ++ codes "\"}"
+  pub are_digits : list_all is_digit digits ≡ true
+  pub number : number_in digits ≡ Some n

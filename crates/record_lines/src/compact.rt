@@ -1,0 +1,167 @@
+//! The compact spelling of the lines of a record, as they are written.
+
+ghost use Rattle.std.specs.Prelude.{◌≡◌, ◌++◌, Bool, OnOk, codes, decimal};
+ghost use Rattle.desk.specs.declared.exchange.Exchange.{Exchange};
+ghost use Rattle.desk.specs.declared.reply.Reply.{Reply};
+ghost use Rattle.schedule_player.specs.Events.{event_words};
+ghost use Rattle.schedule_player.specs.Records.{exchange_line, header_line, name_view, world_name};
+ghost use Rattle.schedule_player.specs.Replies.{owner_words, pair_words, reply_words, view_words};
+ghost use Rattle.record_lines.specs.Lines.{IsLineOf, IsShown, told_of};
+
+use crate::line::Line;
+use crate::text::Text;
+use crate::told::Told;
+use desk::Event;
+use itoa::Buffer;
+use rename_core::{Config, WorldKind};
+use std::alloc::AllocError;
+use step_memory::Place;
+
+/// Appends the words of the line that asks for an event.
+fn put_event(event: Event, out: &mut Text) -> Result<(), AllocError>
+    ensures { OnOk result (out.new ≡ out.old ++ event_words event) }
+{
+    match event {
+        Event::Begin(id) => out.put_word(b"begin ", id),
+        Event::Step(id) => out.put_word(b"step ", id),
+        Event::Enter(id) => out.put_word(b"enter ", id),
+        Event::Probe(id) => out.put_word(b"probe ", id),
+        Event::Leave(id) => out.put_word(b"leave ", id),
+        Event::Put(id, value) => {
+            out.put_word(b"put ", id)?;
+            out.put_word(b" ", value)?;
+            Ok(())
+        }
+        Event::Get(id) => out.put_word(b"get ", id),
+        Event::Widen(size) => out.put_word(b"widen ", size),
+    }
+}
+
+/// Appends the words of a place.
+fn put_place(place: Place, out: &mut Text) -> Result<(), AllocError>
+    ensures { OnOk result (out.new ≡ out.old ++ (codes "place " ++ decimal place)) }
+{
+    out.put(b"place ")?;
+    out.put(Buffer::new().format(place).as_bytes())?;
+    Ok(())
+}
+
+/// Appends pairs, each after a space.
+fn put_pairs(pairs: &[(u64, u64)], out: &mut Text) -> Result<(), AllocError>
+    ensures { OnOk result (out.new ≡ out.old ++ pair_words pairs.now) }
+{
+    for pair in pairs {
+        out.put(b" ")?;
+        out.put_pair(*pair)?;
+    }
+    Ok(())
+}
+
+/// Appends the words of what a view shows.
+fn put_view(pairs: &[(u64, u64)], out: &mut Text) -> Result<(), AllocError>
+    ensures { OnOk result (out.new ≡ out.old ++ (codes "saw" ++ pair_words pairs.now)) }
+{
+    out.put(b"saw")?;
+    put_pairs(pairs, out)?;
+    Ok(())
+}
+
+/// Appends who has a name.
+fn put_owner(owner: Option<u64>, out: &mut Text) -> Result<(), AllocError>
+    ensures { OnOk result (out.new ≡ out.old ++ owner_words owner) }
+{
+    match owner {
+        Some(id) => out.put_word(b"owner ", id),
+        None => out.put(b"owner none"),
+    }
+}
+
+/// Appends the words of each reply of which this is told.
+#[tactic(auto, using(crate::proofs::ToldWords::spelled))]
+fn put_told(told: &Told, out: &mut Text) -> Result<(), AllocError>
+    ensures { OnOk result ((shows : Bool) (r : Reply) → told_of shows r ≡ told.now → out.new ≡ out.old ++ reply_words r) }
+{
+    match told {
+        Told::Ok => out.put(b"ok"),
+        Told::Quiet => out.put(b"quiet"),
+        Told::Stop => out.put(b"stop"),
+        Told::Right => out.put(b"right"),
+        Told::Down => out.put(b"down"),
+        Told::Place(place) => put_place(*place, out),
+        Told::Proposed(number) => out.put_word(b"proposed ", *number),
+        Told::Saw(view) => put_view(view.as_slice(), out),
+        Told::Named(name, _) => out.put_word(b"named ", *name),
+        Told::Spent => out.put(b"spent"),
+        Told::Missed => out.put(b"missed"),
+        Told::Got(number) => out.put_word(b"got ", *number),
+        Told::Left(number) => out.put_word(b"left ", *number),
+        Told::Value(value) => out.put_word(b"value ", *value),
+        Told::Owner(owner) => put_owner(*owner, out),
+        Told::Refused(number) => out.put_word(b"refused ", *number),
+    }
+}
+
+/// Appends the pairs of a view, with a space between them.
+fn put_shown(pairs: &[(u64, u64)], out: &mut Text) -> Result<(), AllocError>
+    ensures { OnOk result (out.new ≡ out.old ++ view_words pairs.now) }
+{
+    match pairs {
+        [] => Ok(()),
+        [first, more @ ..] => {
+            out.put_pair(*first)?;
+            put_pairs(more, out)
+        }
+    }
+}
+
+/// Appends the view by which a name was given, and nothing where none was.
+fn put_named_by(told: &Told, view: &[(u64, u64)], out: &mut Text) -> Result<(), AllocError>
+    ensures { OnOk result ((shows : Bool) (r : Reply) → told_of shows r ≡ told.now → IsShown r view.now → out.new ≡ out.old ++ name_view r) }
+{
+    if !told.is_name() {
+        return Ok(());
+    }
+    out.put(b",\"view\":\"")?;
+    put_shown(view, out)?;
+    out.put(b"\"")?;
+    Ok(())
+}
+
+/// Appends the line of each exchange that this line tells, with this view by which a name was given.
+pub fn put_line(line: &Line, view: &[(u64, u64)], out: &mut Text) -> Result<(), AllocError>
+    ensures { OnOk result ((x : Exchange) → IsLineOf x line.now → IsShown x.reply view.now → out.new ≡ out.old ++ exchange_line x) }
+{
+    out.put(b"{\"command\":\"")?;
+    put_event(line.event, out)?;
+    out.put(b"\",\"reply\":\"")?;
+    put_told(&line.told, out)?;
+    out.put(b"\"")?;
+    put_named_by(&line.told, view, out)?;
+    out.put(b"}\n")?;
+    Ok(())
+}
+
+/// Appends the name of a world.
+fn put_world(world: WorldKind, out: &mut Text) -> Result<(), AllocError>
+    ensures { OnOk result (out.new ≡ out.old ++ world_name world) }
+{
+    match world {
+        WorldKind::Splitter => out.put(b"splitter"),
+        WorldKind::Grid => out.put(b"grid"),
+        WorldKind::Rename => out.put(b"rename"),
+        WorldKind::Tree => out.put(b"tree"),
+    }
+}
+
+/// Appends the first line of a record.
+pub fn put_header(config: Config, out: &mut Text) -> Result<(), AllocError>
+    ensures { OnOk result (out.new ≡ out.old ++ header_line config) }
+{
+    out.put_word(b"{\"format\":\"slot-record\",\"k\":", config.k)?;
+    out.put_word(b",\"limit\":", config.limit)?;
+    out.put_word(b",\"m\":", config.m)?;
+    out.put(b",\"version\":2,\"world\":\"")?;
+    put_world(config.world, out)?;
+    out.put(b"\"}\n")?;
+    Ok(())
+}

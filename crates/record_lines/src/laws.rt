@@ -1,0 +1,34 @@
+//! What a checker of records stands on.
+
+ghost use Rattle.std.specs.Prelude.{◌≡◌, ℕ, true, List};
+ghost use Rattle.rename_core.specs.declared.config.Config.{Config};
+ghost use Rattle.rename_core.specs.declared.config.WorldKind.{WorldKind};
+ghost use Rattle.desk.specs.Desk.{gives_names};
+ghost use Rattle.schedule_player.specs.Meaning.{meaning};
+ghost use Rattle.schedule_player.specs.Records.{record_of};
+ghost use Rattle.schedule_player.specs.Turns.{Turn, exchanges};
+ghost use Rattle.record_lines.specs.declared.header.Header.{Header};
+ghost use Rattle.record_lines.specs.declared.header.Version.{Version};
+ghost use Rattle.record_lines.specs.declared.line.Line.{Line};
+ghost use Rattle.record_lines.specs.Narrow.{IsNarrowEvent, AreNarrowExchanges, IsNarrow, FitsTold};
+ghost use Rattle.record_lines.specs.RecordLine.{IsEventLine, IsHeaderLine};
+ghost use Rattle.record_lines.specs.Records.{IsRecordOf, AreSame};
+
+/// A law, which runs nothing: bytes are one line of an event alone, and as a header they say one version, one world and one size of
+/// each; the world of a header gives names. What a line asks and tells fits a record: numbers below 2^64, and places below 2^128.
+pub fn law_of_lines()
+    ensures line { (kind : WorldKind) (version : Version) (row : List ℕ) (l k : Line) →
+        IsEventLine kind version row l → IsEventLine kind version row k → l ≡ k }
+    ensures header { (head : List ℕ) (g h : Header) → IsHeaderLine head g → IsHeaderLine head h → AreSame g h }
+    ensures names { (head : List ℕ) (h : Header) → IsHeaderLine head h → gives_names h.config.world ≡ true }
+    ensures asked { (kind : WorldKind) (line : List ℕ) → IsNarrow (meaning kind line) }
+    ensures narrow { (kind : WorldKind) (version : Version) (row : List ℕ) (l : Line) →
+        IsEventLine kind version row l → IsNarrowEvent l.event × FitsTold l.told }
+{}
+
+/// A law, which runs nothing, of the worlds with names: what `record` of `schedule_player` writes of turns whose numbers fit is a
+/// header of version 2 and, for each exchange in order, a line that is read as it, with the view of a name.
+pub fn law_of_written_records()
+    ensures { (c : Config) → gives_names c.world ≡ true → (ts : List Turn) → AreNarrowExchanges (exchanges ts) →
+        IsRecordOf c (exchanges ts) (record_of c ts) }
+{}

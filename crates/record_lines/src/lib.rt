@@ -1,0 +1,46 @@
+//! The lines of a record, read and written.
+//!
+//! A record is lines of JSON: a header, which says of what a run it is, and then an event with its reply as each line. There are two
+//! versions. In version 2 the view by which a name was given is written beside it, as the key `view` of that line and of no other; in
+//! version 1 it is not, and there are at most 16 participants.
+//!
+//! `next_line` cuts the bytes of a record into lines, `read_header` and `read_line` read one line each, and `read_reply` the text of a
+//! reply: just what the definitions of `specs/` say. `put_header` and `put_line` write lines of version 2 in the compact spelling, into
+//! a `Text`. A version ends where a line is read: what a `Line` tells does not know of it.
+//!
+//! Which lines follow one another is not asked here: `run_checker` judges.
+//!
+//! A caller:
+//!
+//! ```text
+//! let Some((head, rows)) = next_line(bytes) else { .. };      // no line
+//! let Some(header) = read_header(alloc, head)? else { .. };   // no header
+//! let (row, rest) = next_line(rows?)?;
+//! read_line(alloc, header.config.world, header.version, row)? // the event and what is told of its reply
+//! ```
+#![tactic(auto)]
+
+pub mod compact;
+pub mod header;
+pub mod laws;
+pub mod line;
+pub mod object;
+pub mod pairs;
+pub mod plain_line;
+mod quick_reply;
+pub mod record_line;
+pub mod reply_text;
+pub mod rows;
+pub mod text;
+pub mod told;
+
+pub use compact::{put_header, put_line};
+pub use header::{Header, Version};
+pub use laws::{law_of_lines, law_of_written_records};
+pub use line::Line;
+pub use pairs::Pairs;
+pub use record_line::{read_header, read_line};
+pub use reply_text::read_reply;
+pub use rows::next_line;
+pub use text::Text;
+pub use told::Told;

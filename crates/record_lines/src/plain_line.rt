@@ -1,0 +1,119 @@
+//! Lines in the spelling in which records are written, read without a reader of JSON.
+
+ghost use Rattle.std.specs.Prelude.{◌≡◌, ◌≤◌, ◌++◌, IfOk, IfSome, length, take, true};
+ghost use Rattle.std.specs.List.{list_all};
+ghost use Rattle.std.specs.Option.{option_copied};
+ghost use Rattle.record_lines.specs.Json.{is_plain};
+ghost use Rattle.record_lines.specs.PlainLine.{SpellsEvent, SpellsEnd, SpellsLine, SpellsTold};
+
+use crate::header::Version;
+use crate::line::Line;
+use crate::quick_reply::quick_told;
+use crate::reply_text::told_of;
+use crate::told::Told;
+use desk::Event;
+use rename_core::WorldKind;
+use schedule_player::words::is_word;
+use schedule_player::{Command, quick_command};
+use std::alloc::{AllocError, Global};
+
+/// Whether a byte stands for itself in a text of JSON.
+fn is_plain(byte: u8) -> bool
+    ensures { result ≡ is_plain byte }
+{
+    b' ' <= byte && byte <= b'~' && byte != b'"' && byte != b'\\'
+}
+
+/// How many bytes stand for themselves before the first that does not.
+fn plain_length(bytes: &[u8]) -> usize
+    ensures within { result ≤ length bytes.now }
+    ensures plain { list_all is_plain (take result bytes.now) ≡ true }
+{
+    for (i, byte) in bytes.iter().enumerate() {
+        if !is_plain(*byte) {
+            return i;
+        }
+    }
+    bytes.len()
+}
+
+/// The bytes that stand for themselves, and those from the first on that does not.
+fn split_plain(bytes: &[u8]) -> (&[u8], &[u8])
+    ensures whole { bytes.now ≡ result.0.now ++ result.1.now }
+    ensures plain { list_all is_plain result.0.now ≡ true }
+{
+    bytes.split_at(plain_length(bytes))
+}
+
+/// What follows these bytes at the beginning.
+#[inline(always)]
+pub fn after<'a>(bytes: &'a [u8], front: &[u8]) -> Option<&'a [u8]>
+    ensures { IfSome result (λ rest. bytes.now ≡ front.now ++ rest.now) }
+{
+    bytes.strip_prefix(front)
+}
+
+/// The event with which a line begins, in the world of this kind, and what stands from its reply on, where it takes one look at each
+/// byte. `None` says nothing of the bytes.
+#[inline(always)]
+fn plain_event(kind: WorldKind, bytes: &[u8]) -> Option<(Event, &[u8])>
+    ensures { IfSome result (λ r. SpellsEvent kind bytes.now r.0 r.1.now) }
+{
+    let text = after(bytes, b"{\"command\":\"")?;
+    let (command, end) = quick_command(text, kind, b'"')?;
+    let Command::Event(event) = command else {
+        return None;
+    };
+    Some((event, after(&text[end..], b"\",\"reply\":\"")?))
+}
+
+/// The reply with which a line ends, and the view beside it, where both are texts in which each byte stands for itself.
+fn plain_end(text: &[u8]) -> Option<(&[u8], Option<&[u8]>)>
+    ensures { IfSome result (λ r. SpellsEnd text.now r.0.now (option_copied r.1)) }
+{
+    let (reply, rest) = split_plain(text);
+    if is_word(rest, b"\"}") {
+        return Some((reply, None));
+    }
+    let (view, rest) = split_plain(after(rest, b"\",\"view\":\"")?);
+    if !is_word(rest, b"\"}") {
+        return None;
+    }
+    Some((reply, Some(view)))
+}
+
+/// What is told by the reply with which a line of a record of this version ends, and by the view beside it. `None` says nothing of the
+/// bytes. An error where a growth was refused.
+#[inline(never)]
+fn plain_told(alloc: Global, version: Version, text: &[u8]) -> Result<Option<Told>, AllocError>
+    ensures { IfOk result (λ r. IfSome r (SpellsTold version text.now)) }
+{
+    match plain_end(text) {
+        Some((reply, view)) => told_of(alloc, version, reply, view),
+        None => Ok(None),
+    }
+}
+
+/// What an event's line says, in the world of this kind and a record of this version, where it is spelled as records are written: with
+/// no space between its parts, its keys in order, and texts in which each byte stands for itself. `None` says nothing of the bytes. An
+/// error where a growth was refused.
+#[inline(always)]
+pub fn plain_line(
+    alloc: Global,
+    kind: WorldKind,
+    version: Version,
+    bytes: &[u8],
+) -> Result<Option<Line>, AllocError>
+    ensures { IfOk result (λ r. IfSome r (SpellsLine kind version bytes.now)) }
+{
+    let Some((event, text)) = plain_event(kind, bytes) else {
+        return Ok(None);
+    };
+    if let Some(told) = quick_told(text) {
+        return Ok(Some(Line { event, told }));
+    }
+    match plain_told(alloc, version, text)? {
+        Some(told) => Ok(Some(Line { event, told })),
+        None => Ok(None),
+    }
+}

@@ -1,0 +1,61 @@
+//! Replies of the commonest words, with which lines end in the spelling in which records are written, in one pass over their bytes.
+
+ghost use Rattle.std.specs.Prelude.{IfSome};
+ghost use Rattle.record_lines.specs.PlainLine.{SpellsReply, SpellsLastNumber};
+
+use crate::plain_line::after;
+use crate::told::Told;
+use schedule_player::quick_number;
+use schedule_player::words::is_word;
+
+/// What the reply tells with which a line ends, where its word is common and told alike in each version. `None` says nothing of the
+/// bytes.
+#[inline(always)]
+pub fn quick_told(text: &[u8]) -> Option<Told>
+    ensures { IfSome result (λ t. SpellsReply text.now t) }
+{
+    if is_word(text, b"quiet\"}") {
+        return Some(Told::Quiet);
+    }
+    if is_word(text, b"ok\"}") {
+        return Some(Told::Ok);
+    }
+    if is_word(text, b"missed\"}") {
+        return Some(Told::Missed);
+    }
+    quick_number_told(text)
+}
+
+/// As `quick_told`, of a word and a number.
+fn quick_number_told(text: &[u8]) -> Option<Told>
+    ensures { IfSome result (λ t. SpellsReply text.now t) }
+{
+    if let Some(number) = after(text, b"proposed ") {
+        return Some(Told::Proposed(last_number(number)?));
+    }
+    if let Some(number) = after(text, b"refused ") {
+        return Some(Told::Refused(last_number(number)?));
+    }
+    if let Some(number) = after(text, b"got ") {
+        return Some(Told::Got(last_number(number)?));
+    }
+    if let Some(number) = after(text, b"left ") {
+        return Some(Told::Left(last_number(number)?));
+    }
+    if let Some(number) = after(text, b"value ") {
+        return Some(Told::Value(last_number(number)?));
+    }
+    None
+}
+
+/// The number with which a line ends.
+#[inline(always)]
+fn last_number(text: &[u8]) -> Option<u64>
+    ensures { IfSome result (λ n. SpellsLastNumber text.now n) }
+{
+    let (number, count) = quick_number(text, b'"')?;
+    if !is_word(&text[count..], b"\"}") {
+        return None;
+    }
+    Some(number)
+}

@@ -1,0 +1,115 @@
+//! From the bytes of a record's line to what it says.
+
+ghost use Rattle.std.specs.Prelude.{◌≡◌, ◌≤◌, IfOk, MatchOption, Ok, length};
+ghost use Rattle.desk.specs.declared.event.Event.{Event};
+ghost use Rattle.schedule_player.specs.declared.command.Command.TheVariants as command;
+ghost use Rattle.serde_json.specs.Data.{Data};
+ghost use Rattle.serde_json.specs.View.{view};
+ghost use Rattle.record_lines.specs.declared.header.Header.{Header};
+ghost use Rattle.record_lines.specs.RecordLine.{IsJson, IsEventOf, FindsLine, SaysLine, IsEventLine, IsHeaderLine};
+
+use crate::header::{Header, Version};
+use crate::line::Line;
+use crate::object::{header, texts};
+use crate::plain_line::plain_line;
+use crate::reply_text::told_of;
+use desk::Event;
+use rename_core::WorldKind;
+use schedule_player::{Command, parse_line};
+use serde_json::Value;
+use std::alloc::{AllocError, Global};
+
+/// The most bytes of a record's line, without its LF.
+pub const LINE_MOST: usize = 8192;
+
+/// The value that a text is read as; `None` where it is no JSON.
+fn value_of(alloc: Global, bytes: &[u8]) -> Result<Option<Value>, AllocError>
+    ensures { IfOk result (λ r. MatchOption r ((d : Data) → IsJson bytes.now d → ⊥) (λ v. IsJson bytes.now (view v))) }
+{
+    match Value::from_slice(alloc, bytes) {
+        Ok(value) => Ok(Some(value)),
+        Err(error) if error.is_memory() => Err(AllocError),
+        Err(_) => Ok(None),
+    }
+}
+
+/// The event that a command's line is, in the world of this kind.
+fn event_of(text: &[u8], kind: WorldKind) -> Option<Event>
+    ensures { MatchOption result ((e : Event) → IsEventOf kind text.now e → ⊥) (IsEventOf kind text.now) }
+{
+    match parse_line(text, kind) {
+        Ok(Command::Event(event)) => Some(event),
+        Ok(Command::Owner(_)) => None,
+        Ok(Command::Quit) => None,
+        Err(_) => None,
+    }
+}
+
+/// The line that a value says, in the world of this kind and a record of this version. An error where a growth was refused.
+fn line_of(
+    alloc: Global,
+    kind: WorldKind,
+    version: Version,
+    value: &Value,
+) -> Result<Option<Line>, AllocError>
+    ensures { IfOk result (FindsLine (SaysLine kind version (view value.now))) }
+{
+    let Some(texts) = texts(value) else {
+        return Ok(None);
+    };
+    let Some(event) = event_of(texts.command, kind) else {
+        return Ok(None);
+    };
+    match told_of(alloc, version, texts.reply, texts.view)? {
+        Some(told) => Ok(Some(Line { event, told })),
+        None => Ok(None),
+    }
+}
+
+/// As `read_line`, by a reader of JSON.
+fn read_json_line(
+    alloc: Global,
+    kind: WorldKind,
+    version: Version,
+    bytes: &[u8],
+) -> Result<Option<Line>, AllocError>
+    requires { length bytes.now ≤ 8192 }
+    ensures { IfOk result (FindsLine (IsEventLine kind version bytes.now)) }
+{
+    let Some(value) = value_of(alloc, bytes)? else {
+        return Ok(None);
+    };
+    line_of(alloc, kind, version, &value)
+}
+
+/// What an event's line says, without its LF, in the world of this kind and a record of this version; `None` where it is no
+/// event's line. An error where a growth was refused.
+pub fn read_line(
+    alloc: Global,
+    kind: WorldKind,
+    version: Version,
+    bytes: &[u8],
+) -> Result<Option<Line>, AllocError>
+    ensures { IfOk result (FindsLine (IsEventLine kind version bytes.now)) }
+{
+    if LINE_MOST < bytes.len() {
+        return Ok(None);
+    }
+    if let Some(line) = plain_line(alloc, kind, version, bytes)? {
+        return Ok(Some(line));
+    }
+    read_json_line(alloc, kind, version, bytes)
+}
+
+/// What the first line of a record says, without its LF; `None` where it is no header. An error where a growth was refused.
+pub fn read_header(alloc: Global, bytes: &[u8]) -> Result<Option<Header>, AllocError>
+    ensures { IfOk result (λ r. MatchOption r ((h : Header) → IsHeaderLine bytes.now h → ⊥) (λ h. IsHeaderLine bytes.now h)) }
+{
+    if LINE_MOST < bytes.len() {
+        return Ok(None);
+    }
+    let Some(value) = value_of(alloc, bytes)? else {
+        return Ok(None);
+    };
+    Ok(header(&value))
+}

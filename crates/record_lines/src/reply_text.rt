@@ -1,0 +1,181 @@
+//! From the text of a reply to what it tells.
+
+ghost use Rattle.std.specs.Prelude.{◌≡◌, IfOk, None, Some};
+ghost use Rattle.std.specs.Option.{option_copied};
+ghost use Rattle.schedule_player.specs.Lines.{pieces_left};
+ghost use Rattle.record_lines.specs.declared.header.Version.TheVariants.{Two};
+ghost use Rattle.record_lines.specs.ReplyText.{pair_in, pairs_in, word_alone, owner_of, word_with, plain_of, told_in, told_with, told_by};
+
+use crate::header::Version;
+use crate::pairs::Pairs;
+use crate::told::Told;
+use schedule_player::words::{cut, is_word, number, wide_number};
+use std::alloc::{AllocError, Global};
+
+/// The pair that a word writes: an identity and a number, with a colon between them.
+fn pair(word: &[u8]) -> Option<(u64, u64)>
+    ensures { result ≡ pair_in word.now }
+{
+    let (id, rest) = cut(word, b':');
+    let (number_word, more) = cut(rest?, b':');
+    if let Some(_) = more {
+        return None;
+    }
+    Some((number(id)?, number(number_word)?))
+}
+
+/// The pairs that the words of a text write, by strictly rising identity from 1 on.
+pub fn pairs(alloc: Global, text: &[u8]) -> Result<Option<Pairs>, AllocError>
+    ensures { IfOk result (λ r. r ≡ pairs_in text.now) }
+{
+    let mut view = Pairs::new(alloc);
+    let mut above = 0;
+    let mut left = Some(text);
+    while let Some(bytes) = left {
+        let (word, rest) = cut(bytes, b' ');
+        let Some((id, number)) = pair(word) else {
+            return Ok(None);
+        };
+        if id <= above {
+            return Ok(None);
+        }
+        view.push(id, number)?;
+        above = id;
+        left = rest;
+    }
+    Ok(Some(view))
+}
+
+/// The reply of one word.
+fn alone(word: &[u8]) -> Option<Told>
+    ensures { result ≡ word_alone word.now }
+{
+    if is_word(word, b"ok") {
+        Some(Told::Ok)
+    } else if is_word(word, b"quiet") {
+        Some(Told::Quiet)
+    } else if is_word(word, b"stop") {
+        Some(Told::Stop)
+    } else if is_word(word, b"right") {
+        Some(Told::Right)
+    } else if is_word(word, b"down") {
+        Some(Told::Down)
+    } else if is_word(word, b"spent") {
+        Some(Told::Spent)
+    } else if is_word(word, b"missed") {
+        Some(Told::Missed)
+    } else {
+        None
+    }
+}
+
+/// Who has a name, or that no one has.
+fn owner(other: &[u8]) -> Option<Told>
+    ensures { result ≡ owner_of other.now }
+{
+    if is_word(other, b"none") {
+        return Some(Told::Owner(None));
+    }
+    Some(Told::Owner(Some(number(other)?)))
+}
+
+/// The reply of a word and another.
+fn with(word: &[u8], other: &[u8]) -> Option<Told>
+    ensures { result ≡ word_with word.now other.now }
+{
+    if is_word(word, b"place") {
+        Some(Told::Place(wide_number(other)?))
+    } else if is_word(word, b"proposed") {
+        Some(Told::Proposed(number(other)?))
+    } else if is_word(word, b"named") {
+        Some(Told::Named(number(other)?, None))
+    } else if is_word(word, b"got") {
+        Some(Told::Got(number(other)?))
+    } else if is_word(word, b"left") {
+        Some(Told::Left(number(other)?))
+    } else if is_word(word, b"value") {
+        Some(Told::Value(number(other)?))
+    } else if is_word(word, b"refused") {
+        Some(Told::Refused(number(other)?))
+    } else if is_word(word, b"owner") {
+        owner(other)
+    } else {
+        None
+    }
+}
+
+/// The reply of a word and the others, which are no pairs.
+fn plain(word: &[u8], others: Option<&[u8]>) -> Option<Told>
+    ensures { result ≡ plain_of word.now (pieces_left 32 (option_copied others.entry)) }
+{
+    let Some(text) = others else {
+        return alone(word);
+    };
+    let (other, more) = cut(text, b' ');
+    if let Some(_) = more {
+        return None;
+    }
+    with(word, other)
+}
+
+/// The reply that a text tells, without its LF; `None` where it is no reply. An error where a growth was refused.
+pub fn read_reply(alloc: Global, text: &[u8]) -> Result<Option<Told>, AllocError>
+    ensures { IfOk result (λ r. r ≡ told_in text.now) }
+{
+    let (word, others) = cut(text, b' ');
+    if !is_word(word, b"saw") {
+        return Ok(plain(word, others));
+    }
+    let Some(text) = others else {
+        return Ok(None);
+    };
+    match pairs(alloc, text)? {
+        Some(view) => Ok(Some(Told::Saw(view))),
+        None => Ok(None),
+    }
+}
+
+/// What is told of a reply beside which no view is written, in a record of this version.
+fn without_view(version: Version, told: Told) -> Option<Told>
+    ensures { result ≡ told_with version told None }
+{
+    match (version, &told) {
+        (Version::Two, Told::Named(_, _)) => None,
+        _ => Some(told),
+    }
+}
+
+/// What is told of a reply beside which the pairs of this text are written, in a record of version 2. An error where a growth
+/// was refused.
+fn with_view(alloc: Global, told: Told, text: &[u8]) -> Result<Option<Told>, AllocError>
+    ensures { IfOk result (λ r. r ≡ told_with Two told (Some text.now)) }
+{
+    match told {
+        Told::Named(name, _) => match pairs(alloc, text)? {
+            Some(view) => Ok(Some(Told::Named(name, Some(view)))),
+            None => Ok(None),
+        },
+        _ => Ok(None),
+    }
+}
+
+/// What a reply and the view beside it tell, in a record of this version. An error where a growth was refused.
+pub fn told_of(
+    alloc: Global,
+    version: Version,
+    reply: &[u8],
+    view: Option<&[u8]>,
+) -> Result<Option<Told>, AllocError>
+    ensures { IfOk result (λ r. r ≡ told_by version reply.now (option_copied view.entry)) }
+{
+    let Some(told) = read_reply(alloc, reply)? else {
+        return Ok(None);
+    };
+    let Some(text) = view else {
+        return Ok(without_view(version, told));
+    };
+    match version {
+        Version::One => Ok(None),
+        Version::Two => with_view(alloc, told, text),
+    }
+}

@@ -1,0 +1,96 @@
+//! What a record tells of an event.
+
+ghost use Rattle.std.specs.Prelude.{◌≡◌};
+ghost use Rattle.record_lines.specs.Told.{is_name, is_step, is_done, is_reply_of};
+
+use crate::pairs::Pairs;
+use desk::Event;
+use step_memory::Place;
+
+/// A reply as a record spells it: what numbers and views it has is not bounded by what any object could answer, and the view
+/// by which a name was given is written or not.
+#[derive(Debug, Drop)]
+pub enum Told {
+    /// `ok`
+    Ok,
+    /// `quiet`
+    Quiet,
+    /// `stop`
+    Stop,
+    /// `right`
+    Right,
+    /// `down`
+    Down,
+    /// `place P`
+    Place(Place),
+    /// `proposed S`
+    Proposed(u64),
+    /// `saw ID:S ID:S ..`
+    Saw(Pairs),
+    /// `named N`, and the pairs of the view by which the name was given where they are written
+    Named(u64, Option<Pairs>),
+    /// `spent`
+    Spent,
+    /// `missed`
+    Missed,
+    /// `got N`
+    Got(u64),
+    /// `left N`
+    Left(u64),
+    /// `value V`
+    Value(u64),
+    /// `owner ID` or `owner none`
+    Owner(Option<u64>),
+    /// `refused N`
+    Refused(u64),
+}
+
+/// Whether an event is a step.
+pub fn is_step(event: Event) -> bool
+    ensures { result ≡ is_step event }
+{
+    matches!(event, Event::Step(_))
+}
+
+/// Whether an event is answered `ok` where it is accepted.
+fn is_done(event: Event) -> bool
+    ensures { result ≡ is_done event }
+{
+    matches!(
+        event,
+        Event::Begin(_) | Event::Enter(_) | Event::Put(_, _) | Event::Widen(_)
+    )
+}
+
+impl Told {
+    /// Whether it is a name.
+    pub fn is_name(&self) -> bool
+        ensures { result ≡ is_name self.now }
+    {
+        matches!(self, Told::Named(_, _))
+    }
+
+    /// Whether this is a reply of the event's command: one of its own, or a refusal.
+    pub fn is_reply_of(&self, event: Event) -> bool
+        ensures { result ≡ is_reply_of self.now event }
+    {
+        match self {
+            Told::Ok => is_done(event),
+            Told::Quiet => is_step(event),
+            Told::Stop => false,
+            Told::Right => false,
+            Told::Down => false,
+            Told::Place(_) => is_step(event),
+            Told::Proposed(_) => is_step(event),
+            Told::Saw(_) => is_step(event),
+            Told::Named(_, _) => is_step(event),
+            Told::Spent => is_step(event),
+            Told::Missed => matches!(event, Event::Probe(_)),
+            Told::Got(_) => matches!(event, Event::Probe(_)),
+            Told::Left(_) => matches!(event, Event::Leave(_)),
+            Told::Value(_) => matches!(event, Event::Get(_)),
+            Told::Owner(_) => false,
+            Told::Refused(_) => true,
+        }
+    }
+}

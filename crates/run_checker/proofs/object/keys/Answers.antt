@@ -1,8 +1,0 @@
-use Rattle.std.proofs.Common.{Some, sym, ap, ◌∙◌}
-use Rattle.std.specs.Prelude.{option_map}
-use Rattle.run_checker.specs.Json.{count_members}
-use Rattle.run_checker.proofs.JsonLemmas.{count-members_view}
-use Rattle.run_checker.proofs.object.keys.Goals as goal
-
-pub returns-in-Some : goal.returns-in-Some
-returns-in-Some c = ap Some (c.len.ensures.len ∙ sym (count-members_view c.in-Some.members.now.entries)) ∙ ap (option_map count_members) c.in-Some.ensures

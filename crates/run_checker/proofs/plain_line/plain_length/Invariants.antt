@@ -1,7 +1,0 @@
-use Rattle.std.proofs.Common.{◌≡◌, take, true}
-use Rattle.std.specs.List.{list_all}
-use Rattle.run_checker.specs.Json.{is_plain}
-use Rattle.run_checker.proofs.plain_line.plain_length.Given as goal
-
-abbrev pub invariant-loop-i : goal.invariant-loop-i
-invariant-loop-i l = list_all is_plain (take l.i l.bytes) ≡ true

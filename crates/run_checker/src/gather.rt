@@ -1,0 +1,33 @@
+//! What is done with lines that were taken.
+
+ghost use Rattle.std.specs.Prelude.{List, OnOk};
+ghost use Rattle.rename_core.specs.declared.config.Config.{Config};
+ghost use Rattle.record_lines.specs.declared.line.Line.{Line};
+ghost use Rattle.run_checker.specs.Gathered.{Gathers};
+
+use record_lines::Line;
+use std::alloc::AllocError;
+
+/// What is done with each line that can follow those before it.
+pub trait Gather {
+    /// What is gathered is of these lines, of a record of this config.
+    ghost is_of: { Config → List Line → Self → Type 0 };
+
+    /// One more line, which can follow those before it. An error where a growth was refused; then what is gathered is of no more
+    /// use.
+    fn take(&mut self, line: &Line) -> Result<(), AllocError>
+        ensures { OnOk result (Gathers is_of line.now self.old self.new) };
+}
+
+/// Nothing is gathered.
+#[derive(Drop)]
+pub struct Nothing;
+
+impl Gather for Nothing {
+    ghost is_of = { λ c lines n. Unit {0} };
+
+    #[inline(always)]
+    fn take(&mut self, _line: &Line) -> Result<(), AllocError> {
+        Ok(())
+    }
+}
