@@ -2,15 +2,15 @@
 
 ghost use Rattle.std.specs.Prelude.{◌≡◌, All, IfSome};
 
-use crate::lock_tests::{begins, closed, opened, with};
-use locked_world::{Closed, HallLock, Session, agrees, post_name};
+use crate::lock_tests::{begins, closed, with};
+use crate::opening::{Opening, opened};
+use locked_world::{Closed, HallLock, LockName, Session, agrees, post_name};
 use raw_parts::{Board, Grant, ReaderSeat};
 use rename_core::WorldKind;
 use std::alloc::Global;
 use std::marker::Brand;
 use std::process::Abort;
 use std::sync::Wait;
-use std::sync::ledger::{Blank, Ledger};
 use std::thread;
 use std::thread::Threads;
 
@@ -48,7 +48,7 @@ fn looks_at_names(rt: &impl Abort, board: &Board<Global>, seat: &mut ReaderSeat)
 }
 
 /// Posts a name that a session must have.
-fn posts<L: Ledger>(
+fn posts<L: LockName>(
     rt: &impl Abort,
     board: &Board<Global>,
     session: &Session<L>,
@@ -65,7 +65,7 @@ fn posts<L: Ledger>(
 }
 
 /// 10 is named by its 17th step, and posts its name; before, it had none.
-fn ten_is_named<L: Ledger, R: Abort + Wait>(
+fn ten_is_named<L: LockName, R: Abort + Wait>(
     rt: &R,
     lock: &HallLock<L>,
     board: &Board<Global>,
@@ -82,7 +82,7 @@ fn ten_is_named<L: Ledger, R: Abort + Wait>(
 }
 
 /// 20 is named by its 32nd step, and posts its name twice; 10's name it doesn't get.
-fn twenty_is_named<L: Ledger, R: Abort + Wait>(
+fn twenty_is_named<L: LockName, R: Abort + Wait>(
     rt: &R,
     lock: &HallLock<L>,
     board: &Board<Global>,
@@ -101,7 +101,7 @@ fn twenty_is_named<L: Ledger, R: Abort + Wait>(
 }
 
 /// The words of the closed board agree with the closed history, and so do free ones; others do not.
-fn words_agree(rt: &impl Abort, closed: &Closed, words: &[u64]) {
+fn words_agree<L: LockName>(rt: &impl Abort, closed: &Closed<L>, words: &[u64]) {
     assert_eq!(rt; words, [10, 0, 20].as_slice());
     for (words, agree) in [
         (words, true),
@@ -114,11 +114,12 @@ fn words_agree(rt: &impl Abort, closed: &Closed, words: &[u64]) {
 }
 
 /// Two sessions post their names on a board of three. How many events the closed history has.
-fn two_sessions<L: Ledger, R: Abort + Wait>(rt: &R, alloc: Global, blank: Blank) -> usize
-    requires name { blank.name ≡ L.name }
-    requires parts { (blank.parts ≡ L.parts) × (L.parts ≡ 1000001) }
+fn two_sessions<L: LockName, R: Abort + Wait>(rt: &R, alloc: Global, opening: Opening) -> usize
+    requires name { (opening.blank.name ≡ L.name) × (opening.blank.parts ≡ L.parts) }
+    requires book { opening.history.seen.book ≡ L.book }
+    requires config { opening.config ≡ L.config }
 {
-    let lock = opened::<L, _>(rt, alloc, (WorldKind::Rename, 2, 4), blank);
+    let lock = opened::<L>(rt, alloc, opening);
     let (board, mut first) = Board::new(alloc, 3).expect(rt, "room for a board");
     let mut second = board.reader(&mut first);
     let mut third = board.reader(&mut first);
@@ -137,26 +138,30 @@ fn two_sessions<L: Ledger, R: Abort + Wait>(rt: &R, alloc: Global, blank: Blank)
 
 #[test]
 fn two_sessions_post_their_names(rt: HostRuntime) {
-    let length = two_sessions::<Brand, _>(&rt, rt.alloc(), Blank::new(1_000_001));
+    let length = two_sessions::<Brand, _>(
+        &rt,
+        rt.alloc(),
+        Opening::new(&rt, WorldKind::Rename, 2, 4),
+    );
     assert_eq!(rt; length, 51);
 }
 
 /// What a thread is given: a session, and a seat of the board.
 #[derive(Drop)]
-struct Job<L: Ledger> {
+struct Job<L: LockName> {
     session: Session<L>,
     seat: ReaderSeat,
 }
 
 /// What a thread hands back: its session, and the grant of its name.
 #[derive(Drop)]
-struct Posted<L: Ledger> {
+struct Posted<L: LockName> {
     session: Session<L>,
     grant: Option<Grant>,
 }
 
 /// Steps until the session is named, and posts the name, once the lock was released.
-fn rename_and_post<L: Ledger, R: Wait>(
+fn rename_and_post<L: LockName, R: Wait>(
     rt: &R,
     lock: &HallLock<L>,
     board: &Board<Global>,
@@ -175,7 +180,7 @@ fn rename_and_post<L: Ledger, R: Wait>(
 }
 
 /// The same by as many threads.
-fn all_posted<L: Ledger + Send + Sync, R: Threads + Wait + Sync>(
+fn all_posted<L: LockName + Send + Sync, R: Threads + Wait + Sync>(
     rt: &R,
     lock: &HallLock<L>,
     board: &Board<Global>,
@@ -188,7 +193,7 @@ fn all_posted<L: Ledger + Send + Sync, R: Threads + Wait + Sync>(
 }
 
 /// Takes what one thread handed back: its session is put beside the others, and its grant is answered.
-fn take_one<L: Ledger>(
+fn take_one<L: LockName>(
     rt: &impl Abort,
     board: &Board<Global>,
     done: &mut Vec<Posted<L>>,
@@ -204,7 +209,7 @@ fn take_one<L: Ledger>(
 }
 
 /// A session and a seat for each of four identities.
-fn four_jobs<L: Ledger, R: Wait>(
+fn four_jobs<L: LockName, R: Wait>(
     rt: &R,
     alloc: Global,
     lock: &HallLock<L>,
@@ -246,15 +251,16 @@ fn all_meet(
 
 /// Four threads are named and post their names; then every two grants meet. Whether the words are those four, and agree with
 /// the closed history.
-fn four_post<L: Ledger + Send + Sync, R: Abort + Threads + Wait + Sync>(
+fn four_post<L: LockName + Send + Sync, R: Abort + Threads + Wait + Sync>(
     rt: &R,
     alloc: Global,
-    blank: Blank,
+    opening: Opening,
 ) -> bool
-    requires name { blank.name ≡ L.name }
-    requires parts { (blank.parts ≡ L.parts) × (L.parts ≡ 1000001) }
+    requires name { (opening.blank.name ≡ L.name) × (opening.blank.parts ≡ L.parts) }
+    requires book { opening.history.seen.book ≡ L.book }
+    requires config { opening.config ≡ L.config }
 {
-    let lock = opened::<L, _>(rt, alloc, (WorldKind::Rename, 4, 4), blank);
+    let lock = opened::<L>(rt, alloc, opening);
     let (board, mut seat) = Board::new(alloc, 7).expect(rt, "room for a board");
     let jobs = four_jobs(rt, alloc, &lock, &board, &mut seat).expect(rt, "four sessions");
     let mut done = all_posted(rt, &lock, &board, jobs).expect(rt, "room for what threads answer");
@@ -273,6 +279,8 @@ fn four_post<L: Ledger + Send + Sync, R: Abort + Threads + Wait + Sync>(
 #[test]
 fn four_threads_post_their_names(rt: HostRuntime) {
     for _ in 0..20 {
-        assert!(rt; four_post::<Brand, _>(&rt, rt.alloc(), Blank::new(1_000_001)));
+        assert!(rt;
+            four_post::<Brand, _>(&rt, rt.alloc(), Opening::new(&rt, WorldKind::Rename, 4, 4))
+        );
     }
 }

@@ -10,4 +10,6 @@ mod board_tests;
 #[cfg(test)]
 mod lock_tests;
 #[cfg(test)]
+mod opening;
+#[cfg(test)]
 mod server_tests;

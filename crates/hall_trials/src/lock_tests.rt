@@ -2,14 +2,14 @@
 
 ghost use Rattle.std.specs.Prelude.{◌≡◌};
 
+use crate::opening::{Opening, opened};
 use desk::{Event, Reply};
-use locked_world::{Act, Clerk, Closed, Hall, HallLock, Missing, Session, law_of_hall};
+use locked_world::{Act, Clerk, Closed, Hall, HallLock, LockName, Missing, Session, law_of_hall};
 use rename_core::{Config, WorldKind};
 use std::alloc::Global;
 use std::marker::Brand;
 use std::process::Abort;
 use std::sync::Wait;
-use std::sync::ledger::{Blank, Ledger};
 use std::thread;
 use std::thread::Threads;
 use step_memory::{Refusal, View};
@@ -196,26 +196,13 @@ fn a_full_history(rt: HostRuntime) {
     }
 }
 
-/// A lock round a hall of this world, for so many participants and numbers.
-pub(crate) fn opened<L: Ledger, R: Abort>(
-    rt: &R,
-    alloc: Global,
-    shape: (WorldKind, u64, u64),
-    blank: Blank,
-) -> HallLock<L>
-    requires name { blank.name ≡ L.name }
-    requires parts { (blank.parts ≡ L.parts) × (L.parts ≡ 1000001) }
-{
-    HallLock::<L>::new(alloc, config(rt, shape), blank).expect(rt, "room for a hall")
-}
-
 /// The closed history of a lock, where these are all its callers.
-pub(crate) fn closed<L: Ledger>(
+pub(crate) fn closed<L: LockName>(
     rt: &impl Abort,
     lock: HallLock<L>,
     sessions: Vec<Session<L>>,
     clerks: Vec<Clerk<L>>,
-) -> Closed {
+) -> Closed<L> {
     let closed = lock.close(sessions, clerks).ok();
     closed.expect(rt, "each caller is handed in")
 }
@@ -228,7 +215,7 @@ pub(crate) fn with<T: Drop>(rt: &impl Abort, list: Vec<T>, one: T) -> Vec<T> {
 }
 
 /// A clerk applies events, with these replies.
-fn clerk_applies<L: Ledger, R: Abort + Wait>(
+fn clerk_applies<L: LockName, R: Abort + Wait>(
     rt: &R,
     lock: &HallLock<L>,
     clerk: &mut Clerk<L>,
@@ -241,11 +228,12 @@ fn clerk_applies<L: Ledger, R: Abort + Wait>(
 }
 
 /// The row of one participant alone, through a clerk. How many events the closed history has.
-fn one_by_clerk<L: Ledger, R: Abort + Wait>(rt: &R, alloc: Global, blank: Blank) -> usize
-    requires name { blank.name ≡ L.name }
-    requires parts { (blank.parts ≡ L.parts) × (L.parts ≡ 1000001) }
+fn one_by_clerk<L: LockName, R: Abort + Wait>(rt: &R, alloc: Global, opening: Opening) -> usize
+    requires name { (opening.blank.name ≡ L.name) × (opening.blank.parts ≡ L.parts) }
+    requires book { opening.history.seen.book ≡ L.book }
+    requires config { opening.config ≡ L.config }
 {
-    let lock = opened::<L, _>(rt, alloc, (WorldKind::Rename, 1, 4), blank);
+    let lock = opened::<L>(rt, alloc, opening);
     let mut clerk = lock.clerk(rt, alloc).expect(rt, "room for a clerk");
     let step = Event::Step(7);
     let rows = [
@@ -275,22 +263,26 @@ fn one_by_clerk<L: Ledger, R: Abort + Wait>(rt: &R, alloc: Global, blank: Blank)
 
 #[test]
 fn one_through_a_clerk(rt: HostRuntime) {
-    let length = one_by_clerk::<Brand, _>(&rt, rt.alloc(), Blank::new(1_000_001));
+    let length = one_by_clerk::<Brand, _>(
+        &rt,
+        rt.alloc(),
+        Opening::new(&rt, WorldKind::Rename, 1, 4),
+    );
     assert_eq!(rt; length, 10);
 }
 
-/// A row of the pool, through a clerk, with so many numbers.
-fn pool_by_clerk<L: Ledger, R: Abort + Wait>(
+/// A row of the pool, through a clerk.
+fn pool_by_clerk<L: LockName, R: Abort + Wait>(
     rt: &R,
     alloc: Global,
-    blank: Blank,
-    k: u64,
+    opening: Opening,
     rows: &[(Event, Reply)],
 ) -> usize
-    requires name { blank.name ≡ L.name }
-    requires parts { (blank.parts ≡ L.parts) × (L.parts ≡ 1000001) }
+    requires name { (opening.blank.name ≡ L.name) × (opening.blank.parts ≡ L.parts) }
+    requires book { opening.history.seen.book ≡ L.book }
+    requires config { opening.config ≡ L.config }
 {
-    let lock = opened::<L, _>(rt, alloc, (WorldKind::Tree, 2, k), blank);
+    let lock = opened::<L>(rt, alloc, opening);
     let mut clerk = lock.clerk(rt, alloc).expect(rt, "room for a clerk");
     clerk_applies(rt, &lock, &mut clerk, rows);
     clerk.count()
@@ -306,7 +298,12 @@ fn one_number_through_a_clerk(rt: HostRuntime) {
         (Event::Leave(5), Reply::Left(1)),
         (Event::Enter(6), Reply::Ok),
     ];
-    let count = pool_by_clerk::<Brand, _>(&rt, rt.alloc(), Blank::new(1_000_001), 1, &rows);
+    let count = pool_by_clerk::<Brand, _>(
+        &rt,
+        rt.alloc(),
+        Opening::new(&rt, WorldKind::Tree, 2, 1),
+        &rows,
+    );
     assert_eq!(rt; count, 4);
 }
 
@@ -326,7 +323,12 @@ fn a_freed_bit_through_a_clerk(rt: HostRuntime) {
         (Event::Probe(8), Reply::Got(1)),
         (Event::Enter(9), Reply::Refused(Refusal::Crowded)),
     ];
-    let count = pool_by_clerk::<Brand, _>(&rt, rt.alloc(), Blank::new(1_000_001), 3, &rows);
+    let count = pool_by_clerk::<Brand, _>(
+        &rt,
+        rt.alloc(),
+        Opening::new(&rt, WorldKind::Tree, 2, 3),
+        &rows,
+    );
     assert_eq!(rt; count, 11);
 }
 
@@ -340,7 +342,12 @@ fn a_wider_pool_through_a_clerk(rt: HostRuntime) {
         (Event::Probe(6), Reply::Got(2)),
         (Event::Widen(2), Reply::Refused(Refusal::OutOfRange)),
     ];
-    let count = pool_by_clerk::<Brand, _>(&rt, rt.alloc(), Blank::new(1_000_001), 1, &rows);
+    let count = pool_by_clerk::<Brand, _>(
+        &rt,
+        rt.alloc(),
+        Opening::new(&rt, WorldKind::Tree, 2, 1),
+        &rows,
+    );
     assert_eq!(rt; count, 5);
 }
 
@@ -360,12 +367,17 @@ fn a_slot_through_a_clerk(rt: HostRuntime) {
         (Event::Probe(6), Reply::Got(1)),
         (Event::Get(6), Reply::Value(77)),
     ];
-    let count = pool_by_clerk::<Brand, _>(&rt, rt.alloc(), Blank::new(1_000_001), 2, &rows);
+    let count = pool_by_clerk::<Brand, _>(
+        &rt,
+        rt.alloc(),
+        Opening::new(&rt, WorldKind::Tree, 2, 2),
+        &rows,
+    );
     assert_eq!(rt; count, 8);
 }
 
 /// A session acts, with these replies.
-fn session_acts<L: Ledger, R: Abort + Wait>(
+fn session_acts<L: LockName, R: Abort + Wait>(
     rt: &R,
     lock: &HallLock<L>,
     session: &mut Session<L>,
@@ -379,7 +391,7 @@ fn session_acts<L: Ledger, R: Abort + Wait>(
 }
 
 /// A session makes at most so many steps until it is named, with these answers.
-fn session_renames<L: Ledger, R: Abort + Wait>(
+fn session_renames<L: LockName, R: Abort + Wait>(
     rt: &R,
     lock: &HallLock<L>,
     session: &mut Session<L>,
@@ -392,12 +404,12 @@ fn session_renames<L: Ledger, R: Abort + Wait>(
 }
 
 /// Closes a lock whose only session is not handed in, which answers all that was, and then with the session.
-fn closes_with<L: Ledger>(
+fn closes_with<L: LockName>(
     rt: &impl Abort,
     alloc: Global,
     lock: HallLock<L>,
     session: Session<L>,
-) -> Closed {
+) -> Closed<L> {
     let missing = lock.close(Vec::new(alloc), Vec::new(alloc)).err();
     let Missing {
         lock,
@@ -408,11 +420,12 @@ fn closes_with<L: Ledger>(
 }
 
 /// One session, which closes first without and then with itself. The length of the history.
-fn one_session<L: Ledger, R: Abort + Wait>(rt: &R, alloc: Global, blank: Blank) -> usize
-    requires name { blank.name ≡ L.name }
-    requires parts { (blank.parts ≡ L.parts) × (L.parts ≡ 1000001) }
+fn one_session<L: LockName, R: Abort + Wait>(rt: &R, alloc: Global, opening: Opening) -> usize
+    requires name { (opening.blank.name ≡ L.name) × (opening.blank.parts ≡ L.parts) }
+    requires book { opening.history.seen.book ≡ L.book }
+    requires config { opening.config ≡ L.config }
 {
-    let lock = opened::<L, _>(rt, alloc, (WorldKind::Rename, 1, 4), blank);
+    let lock = opened::<L>(rt, alloc, opening);
     let mut session = begins(rt, alloc, &lock, 7);
     cannot_begin(rt, alloc, &lock, 7, Refusal::AlreadyBegun);
     steps_quietly(rt, &lock, &mut session);
@@ -437,7 +450,7 @@ fn one_session<L: Ledger, R: Abort + Wait>(rt: &R, alloc: Global, blank: Blank) 
 }
 
 /// A session that is opened for an identity.
-pub(crate) fn begins<L: Ledger, R: Abort + Wait>(
+pub(crate) fn begins<L: LockName, R: Abort + Wait>(
     rt: &R,
     alloc: Global,
     lock: &HallLock<L>,
@@ -447,7 +460,7 @@ pub(crate) fn begins<L: Ledger, R: Abort + Wait>(
 }
 
 /// A session that is refused, and why.
-fn cannot_begin<L: Ledger, R: Abort + Wait>(
+fn cannot_begin<L: LockName, R: Abort + Wait>(
     rt: &R,
     alloc: Global,
     lock: &HallLock<L>,
@@ -459,18 +472,26 @@ fn cannot_begin<L: Ledger, R: Abort + Wait>(
 }
 
 /// One step of a session, which tells nothing yet.
-fn steps_quietly<L: Ledger, R: Abort + Wait>(rt: &R, lock: &HallLock<L>, session: &mut Session<L>) {
+fn steps_quietly<L: LockName, R: Abort + Wait>(
+    rt: &R,
+    lock: &HallLock<L>,
+    session: &mut Session<L>,
+) {
     assert!(rt; lock.step(rt, session) == Reply::Quiet);
 }
 
 #[test]
 fn the_row_of_a_session(rt: HostRuntime) {
-    let length = one_session::<Brand, _>(&rt, rt.alloc(), Blank::new(1_000_001));
+    let length = one_session::<Brand, _>(
+        &rt,
+        rt.alloc(),
+        Opening::new(&rt, WorldKind::Rename, 1, 4),
+    );
     assert_eq!(rt; length, 15);
 }
 
 /// The name with which a session's list ends, or 0.
-fn name_of<L: Ledger>(session: &Session<L>) -> u64 {
+fn name_of<L: LockName>(session: &Session<L>) -> u64 {
     match session.get(session.count().wrapping_sub(1)) {
         Some(kept) => name_in(&kept.exchange.reply),
         None => 0,
@@ -486,7 +507,7 @@ fn name_in(reply: &Reply) -> u64 {
 }
 
 /// A session of a thread, once it has its name or its turns are used; none where it was refused.
-fn renamed<L: Ledger, R: Wait>(
+fn renamed<L: LockName, R: Wait>(
     rt: &R,
     lock: &HallLock<L>,
     session: Session<L>,
@@ -499,7 +520,7 @@ fn renamed<L: Ledger, R: Wait>(
 }
 
 /// The sessions of as many threads.
-fn all_renamed<L: Ledger + Send + Sync, R: Threads + Wait + Sync>(
+fn all_renamed<L: LockName + Send + Sync, R: Threads + Wait + Sync>(
     rt: &R,
     lock: &HallLock<L>,
     sessions: Vec<Session<L>>,
@@ -508,7 +529,7 @@ fn all_renamed<L: Ledger + Send + Sync, R: Threads + Wait + Sync>(
 }
 
 /// The sessions of threads of which none was refused.
-fn not_refused<L: Ledger>(
+fn not_refused<L: LockName>(
     rt: &impl Abort,
     alloc: Global,
     answers: Vec<Option<Session<L>>>,
@@ -524,7 +545,7 @@ fn not_refused<L: Ledger>(
 }
 
 /// Whether each of these has a name of its own, from 1 to 7, or none.
-fn names_apart<L: Ledger>(sessions: &Vec<Session<L>>) -> bool {
+fn names_apart<L: LockName>(sessions: &Vec<Session<L>>) -> bool {
     let mut seen = [false; 8];
     for session in sessions {
         let name = name_of(session);
@@ -537,7 +558,7 @@ fn names_apart<L: Ledger>(sessions: &Vec<Session<L>>) -> bool {
 }
 
 /// How long their lists are together.
-fn kept_by<L: Ledger>(sessions: &Vec<Session<L>>) -> usize {
+fn kept_by<L: LockName>(sessions: &Vec<Session<L>>) -> usize {
     let mut kept = 0usize;
     for session in sessions {
         kept = kept.wrapping_add(session.count());
@@ -547,15 +568,16 @@ fn kept_by<L: Ledger>(sessions: &Vec<Session<L>>) -> usize {
 
 /// Four threads with a session each: whether each has a name of its own, from 1 to 7, or none; and whether the history is as
 /// long as their lists together.
-fn four_threads<L: Ledger + Send + Sync, R: Abort + Threads + Wait + Sync>(
+fn four_threads<L: LockName + Send + Sync, R: Abort + Threads + Wait + Sync>(
     rt: &R,
     alloc: Global,
-    blank: Blank,
+    opening: Opening,
 ) -> (bool, bool)
-    requires name { blank.name ≡ L.name }
-    requires parts { (blank.parts ≡ L.parts) × (L.parts ≡ 1000001) }
+    requires name { (opening.blank.name ≡ L.name) × (opening.blank.parts ≡ L.parts) }
+    requires book { opening.history.seen.book ≡ L.book }
+    requires config { opening.config ≡ L.config }
 {
-    let lock = opened::<L, _>(rt, alloc, (WorldKind::Rename, 4, 4), blank);
+    let lock = opened::<L>(rt, alloc, opening);
     let mut sessions = Vec::new(alloc);
     for id in 1..=4u64 {
         sessions = with(rt, sessions, begins(rt, alloc, &lock, id));
@@ -570,6 +592,10 @@ fn four_threads<L: Ledger + Send + Sync, R: Abort + Threads + Wait + Sync>(
 
 #[test]
 fn four_threads_get_names(rt: HostRuntime) {
-    let good = four_threads::<Brand, _>(&rt, rt.alloc(), Blank::new(1_000_001));
+    let good = four_threads::<Brand, _>(
+        &rt,
+        rt.alloc(),
+        Opening::new(&rt, WorldKind::Rename, 4, 4),
+    );
     assert_eq!(rt; good, (true, true));
 }

@@ -2,7 +2,8 @@
 
 ghost use Rattle.std.specs.Prelude.{◌≡◌};
 
-use locked_world::{Clerk, Hall, HallLock, ServingClerk, law_of_serving};
+use crate::opening::{Opening, opened};
+use locked_world::{Clerk, Hall, HallLock, LockName, ServingClerk, law_of_serving};
 use schedule_player::{Config, Event, Fault, Summary, Tried, WorldKind};
 use slot_server::{Gate, Served, ServerFault, Watched, serve_many, serve_one};
 use std::alloc::Global;
@@ -12,7 +13,6 @@ use std::net::{Net, Shutdown, TcpListener, TcpStream};
 use std::process::Abort;
 use std::sync::Wait;
 use std::sync::atomic::{AtomicU64, Ordering};
-use std::sync::ledger::{Blank, Ledger};
 use std::thread;
 use std::thread::Threads;
 use test_doubles::{Cup, Drip};
@@ -161,27 +161,18 @@ fn a_gate_is_told_of_lines_and_replies(rt: HostRuntime) {
     }
 }
 
-/// A lock round a hall for one participant, with so many numbers.
-fn opened<L: Ledger>(rt: &impl Abort, alloc: Global, blank: Blank, k: u64) -> HallLock<L>
-    requires name { blank.name ≡ L.name }
-    requires parts { (blank.parts ≡ L.parts) × (L.parts ≡ 1000001) }
-{
-    let config = config(rt, WorldKind::Rename, k);
-    HallLock::<L>::new(alloc, config, blank).expect(rt, "room for a hall")
-}
-
 /// What a clerk answers to these lines, and how many of its events were accepted.
-fn by_clerk<L: Ledger, R: Abort + Wait>(
+fn by_clerk<L: LockName, R: Abort + Wait>(
     rt: &R,
     alloc: Global,
-    blank: Blank,
-    k: u64,
+    opening: Opening,
     input: &[u8],
 ) -> (Vec<u8>, usize)
-    requires name { blank.name ≡ L.name }
-    requires parts { (blank.parts ≡ L.parts) × (L.parts ≡ 1000001) }
+    requires name { (opening.blank.name ≡ L.name) × (opening.blank.parts ≡ L.parts) }
+    requires book { opening.history.seen.book ≡ L.book }
+    requires config { opening.config ≡ L.config }
 {
-    let lock = opened::<L>(rt, alloc, blank, k);
+    let lock = opened::<L>(rt, alloc, opening);
     let clerk = lock.clerk(rt, alloc).expect(rt, "room for a clerk");
     let mut service = ServingClerk::new(&lock, clerk);
     let mut reader = Tried::new(input);
@@ -224,8 +215,7 @@ fn rows_through_a_clerk(rt: HostRuntime) {
         let (written, kept) = by_clerk::<Brand, _>(
             &rt,
             rt.alloc(),
-            Blank::new(1_000_001),
-            k,
+            Opening::new(&rt, WorldKind::Rename, 1, k),
             input,
         );
         assert_eq!(rt; (written.as_slice(), kept), (text, count));
@@ -302,7 +292,7 @@ struct HeldRun {
 }
 
 /// Two clerks of a lock.
-fn two_clerks<L: Ledger, R: Abort + Wait>(
+fn two_clerks<L: LockName, R: Abort + Wait>(
     rt: &R,
     alloc: Global,
     lock: &HallLock<L>,
@@ -315,14 +305,15 @@ fn two_clerks<L: Ledger, R: Abort + Wait>(
     clerks
 }
 
-fn held<L, R>(rt: &R, alloc: Global, blank: Blank, gate: &Holding) -> HeldRun
+fn held<L, R>(rt: &R, alloc: Global, opening: Opening, gate: &Holding) -> HeldRun
 where
-    L: Ledger + Send + Sync,
+    L: LockName + Send + Sync,
     R: Abort + Threads + Wait + Sync + Net<Listener = TcpListener, Stream = TcpStream>,
-    requires name { blank.name ≡ L.name }
-    requires parts { (blank.parts ≡ L.parts) × (L.parts ≡ 1000001) }
+    requires name { (opening.blank.name ≡ L.name) × (opening.blank.parts ≡ L.parts) }
+    requires book { opening.history.seen.book ≡ L.book }
+    requires config { opening.config ≡ L.config }
 {
-    let lock = opened::<L>(rt, alloc, blank, 4);
+    let lock = opened::<L>(rt, alloc, opening);
     let clerks = two_clerks(rt, alloc, &lock);
     let listener = TcpListener::bind(rt, ("127.0.0.1", 0u16)).expect(rt, "a port");
     let port = listener.local_addr().expect(rt, "a bound listener").port();
@@ -354,7 +345,12 @@ fn a_held_connection_holds_no_other(rt: HostRuntime) {
         answered: AtomicU64::new(0),
         gave_up: AtomicU64::new(0),
     };
-    let done = held::<Brand, _>(&rt, rt.alloc(), Blank::new(1_000_001), &gate);
+    let done = held::<Brand, _>(
+        &rt,
+        rt.alloc(),
+        Opening::new(&rt, WorldKind::Rename, 1, 4),
+        &gate,
+    );
     let told = (gate.gave_up.load(Ordering::SeqCst), done.served, done.fault);
     assert_eq!(rt; told, (0, 2, None));
     let answers = (done.one.as_slice(), done.two.as_slice());

@@ -8,3 +8,5 @@ mod Naming
 pub mod Sent
 mod Staying
 mod Serves
+pub mod Standing
+mod Keepers

@@ -1,17 +1,23 @@
 -- places that rise
-use Rattle.std.proofs.Common.{◌≡◌, ℕ, ◌+◌, ◌<◌, ◌≤◌, List, [], ◌∷◌, ◌++◌, ap, ◌∙◌, arith, true, false, All}
+use Rattle.std.proofs.Common.{◌≡◌, ℕ, ◌+◌, ◌<◌, ◌≤◌, List, [], ◌∷◌, ◌++◌, refl, ap, ◌∙◌, arith, true, false, All}
 use Rattle.std.proofs.lemmas.List.Elements.{All-nil, All-cons, All-weaker}
 use Rattle.std.proofs.lemmas.Bool.Decides.{nat_tests}
+use Rattle.rename_core.specs.declared.config.Config.{Config}
 use Rattle.desk.specs.declared.event.Event.{Event}
+use Rattle.desk.specs.declared.exchange.Exchange.{Exchange}
 use Rattle.desk.specs.declared.event.Event.TheVariants.{Begin}
 use Rattle.desk.specs.declared.reply.Reply.{Reply}
 use Rattle.desk.specs.declared.reply.Reply.TheVariants.{Ok}
 use Rattle.desk.specs.DeskCalls.{exchange}
-use Rattle.desk.specs.Replies.{is_refusal}
 use Rattle.locked_world.specs.declared.kept.Kept.{Kept}
-use Rattle.locked_world.specs.Answers.{IsSomeAnswer}
-use Rattle.locked_world.specs.Kepts.{rises, Keeps, IsOpened}
+use Rattle.locked_world.specs.Answers.{IsAnswered}
+use Rattle.locked_world.specs.CallerState.{CallerState}
+use Rattle.locked_world.specs.Kepts.{rises, IsKept, IsOpened, IsTaken}
 use Rattle.locked_world.specs.KeptLogs.{kept_of}
+
+-- who had seen nothing is answered as one who had seen something
+pub from_nothing : (c : Config) (seen : List Exchange) (e : Event) (r : Reply) (now : List Exchange) → IsAnswered c seen e r now → IsAnswered c [] e r now
+from_nothing c seen e r now a = record { history = a.history; lawful = a.lawful; longer = (a.history, refl); answer = a.answer }
 
 pub rises_more : (from : ℕ) (ks : List Kept) (next : ℕ) (k : Kept) → rises from ks next ≡ true → next ≤ k.place → rises from (ks ++ k ∷ []) (k.place + 1) ≡ true
 rises_more from [] next k h l = grind (arith, nat_tests)
@@ -28,11 +34,12 @@ rises_below from (j ∷ ks) next h =
     let b = rises_bound (j.place + 1) ks next tail in
     All-cons (λ k. k.place < next) j ks (omega arith) (rises_below (j.place + 1) ks next tail)
 
--- so an accepted event is kept
-pub keeps_accepted : (ks : List Kept) (next place : ℕ) (e : Event) (r : Reply) (new : List Kept) → rises 0 ks next ≡ true → next ≤ place → new ≡ ks ++ kept_of place (exchange e r) ∷ [] → is_refusal r ≡ false → Keeps ks e r new
-keeps_accepted ks next place e r new h l same accepted =
-    rw accepted (record { place = place; above = All-weaker (λ k. k.place < next) (λ k. k.place < place) (λ k b. omega arith) ks (rises_below 0 ks next h); is = same })
-
 -- the first event of a session
-pub opened : (id : ℕ) (ks new : List Kept) → ks ≡ [] → Keeps ks (Begin id) Ok new → IsSomeAnswer 0 (Begin id) Ok → IsOpened id new
-opened id ks new none kept answer = record { place = kept.place; is = kept.is ∙ ap (λ xs. xs ++ kept_of kept.place (exchange (Begin id) Ok) ∷ []) none; answer = answer }
+pub opened : (c : Config) (id : ℕ) (s t : CallerState) → s.kept ≡ [] → IsTaken c s (Begin id) Ok t → IsOpened c id t
+opened c id s t none one =
+    let kept : IsKept s.kept (Begin id) Ok t.kept = one.kept in
+    record {
+      place = kept.place;
+      is = kept.is ∙ ap (λ xs. xs ++ kept_of kept.place (exchange (Begin id) Ok) ∷ []) none;
+      answer = from_nothing c s.seen (Begin id) Ok t.seen one.answer;
+    }

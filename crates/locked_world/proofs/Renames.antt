@@ -3,7 +3,7 @@ use Rattle.std.proofs.Common.{◌≡◌, ℕ, ◌+◌, ◌≤◌, length, true, 
 use Rattle.std.proofs.lemmas.List.Elements.{All-nil, All-push}
 use Rattle.std.proofs.lemmas.List.{append-nil}
 use Rattle.step_memory.specs.declared.refusal.Refusal.{Refusal}
-use Rattle.desk.specs.declared.event.Event.{Event}
+use Rattle.rename_core.specs.declared.config.Config.{Config}
 use Rattle.desk.specs.declared.event.Event.TheVariants.{Step}
 use Rattle.desk.specs.declared.reply.Reply.{Reply}
 use Rattle.desk.specs.declared.short_reply.ShortReply.{ShortReply}
@@ -11,13 +11,15 @@ use Rattle.desk.specs.declared.short_reply.ShortReply.TheVariants.{Ok, Quiet, St
 use Rattle.desk.specs.DeskCalls.{exchange}
 use Rattle.desk.specs.Replies.{is_refusal, with_view}
 use Rattle.locked_world.specs.declared.kept.Kept.{Kept}
-use Rattle.locked_world.specs.Answers.{IsSomeAnswer}
-use Rattle.locked_world.specs.Kepts.{IsKept, Keeps}
+use Rattle.locked_world.specs.CallerState.{CallerState}
+use Rattle.locked_world.specs.Kepts.{IsKept, IsTaken, IsSound}
 use Rattle.locked_world.specs.KeptLogs.{kept_of}
 use Rattle.locked_world.specs.Renamed.{goes_on, IsStepped, IsPlainStep}
+use Rattle.history_book.proofs.Fronts.{prefix_self, prefix_trans}
+use Rattle.locked_world.proofs.Standing.{sound_after, seen_after}
 
-pub stepped_not : (id : ℕ) (ks : List Kept) → IsStepped id 0 ks ks
-stepped_not id ks = record { added = []; longer = sym (append-nil ks); counted = refl; plain = All-nil _ }
+pub stepped_not : (c : Config) (id : ℕ) (s : CallerState) → IsStepped c id 0 s s
+stepped_not c id s = record { added = []; longer = sym (append-nil s.kept); counted = refl; plain = All-nil _; seen = prefix_self s.seen; sound = λ sound. sound }
 
 -- a short reply that is none of the refusals is accepted
 pub taken_by : (r : ShortReply) (view : List (ℕ × ℕ)) → ((why : Refusal) → r ≡ Refused why → ⊥) → is_refusal (with_view r view) ≡ false
@@ -57,18 +59,16 @@ plain_by (Value value) view named spent refused = refl
 plain_by (Owner owner) view named spent refused = refl
 plain_by (Refused why) view named spent refused = absurd (refused why refl)
 
--- what a hall answers that is longer
-pub at_least : {least more : ℕ} {e : Event} {r : Reply} → least ≤ more → IsSomeAnswer more e r → IsSomeAnswer least e r
-at_least l a = let long = a.long in record { hall = a.hall; lawful = a.lawful; long = omega arith; after = a.after; answer = a.answer }
-
 -- one more step after which it goes on
-pub stepped_more : (id count : ℕ) (ks mid new : List Kept) (r : Reply) → IsStepped id count ks mid → Keeps mid (Step id) r new → IsSomeAnswer (length mid) (Step id) r → goes_on r ≡ true → is_refusal r ≡ false → IsStepped id (count + 1) ks new
-stepped_more id count ks mid new r h keeps answer plain accepted =
-    let kept : IsKept mid (Step id) r new = rw accepted at keeps in
-    let one = kept_of kept.place (exchange (Step id) r) in
+pub stepped_more : (c : Config) (id count : ℕ) (s mid t : CallerState) (r : Reply) → IsStepped c id count s mid → IsTaken c mid (Step id) r t → goes_on r ≡ true → is_refusal r ≡ false → IsStepped c id (count + 1) s t
+stepped_more c id count s mid t r h one plain taken =
+    let kept : IsKept mid.kept (Step id) r t.kept = let keeps = one.kept in rw taken at keeps in
+    let k = kept_of kept.place (exchange (Step id) r) in
     record {
-      added = h.added ++ one ∷ [];
-      longer = kept.is ∙ ap (λ xs. xs ++ one ∷ []) h.longer ∙ append_assoc ks h.added (one ∷ []);
-      counted = omega (arith, length-append h.added (one ∷ []), h.counted);
-      plain = All-push (IsPlainStep (length ks) id) h.added one h.plain (record { event = refl; plain = plain; answer = at_least (omega (arith, ap length h.longer, length-append ks h.added)) answer });
+      added = h.added ++ k ∷ [];
+      longer = kept.is ∙ ap (λ xs. xs ++ k ∷ []) h.longer ∙ append_assoc s.kept h.added (k ∷ []);
+      counted = omega (arith, length-append h.added (k ∷ []), h.counted);
+      plain = All-push (IsPlainStep id) h.added k h.plain (record { event = refl; plain = plain });
+      seen = prefix_trans s.seen mid.seen t.seen h.seen (seen_after c mid t (Step id) r one);
+      sound = λ sound. sound_after c mid t (Step id) r one;
     }

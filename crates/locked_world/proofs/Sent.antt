@@ -52,7 +52,10 @@ use Rattle.snapshot_places.specs.contracts.tree_walk.TreeWalk as tree_walk
 use Rattle.splitter_tree.specs.contracts.register.TreeRegister as tree_register
 use Rattle.splitter_tree.specs.contracts.register.TreeValue as tree_value
 use Rattle.std.proofs.vec.Vec.TheSendSync as vec_sent
-use Rattle.std.proofs.sync.ledger.Book.TheSendSync as book_sent
+use Rattle.std.proofs.sync.ledger.Book.TheSendSync as count_sent
+use Rattle.history_book.proofs.book.Book.TheSendSync as book_sent
+use Rattle.history_book.proofs.book.Front.TheSendSync as front_sent
+use Rattle.desk.specs.contracts.exchange.Exchange as exchange
 use Rattle.std.proofs.sync.ledger.Share.TheSendSync as share_sent
 use Rattle.std.proofs.sync.Mutex.TheSendSync as mutex_sent
 use Rattle.locked_world.specs.contracts.parts.Locked as locked
@@ -89,11 +92,11 @@ hall_send =
     view_send hall_inside.the_row _ _ _ _
     (recorded_send (hall_inside.the_field).row _ _ (hall_inside.the_type).to_one (struct_send (shape (hall_inside.the_type)) (config_sent.the_field_send, (held_sent.the_field_send _ desk_send, (log_sent.the_send heap_row heap_ghosts heap.the_send frees, tt)))))
 
-locked_send : (L : RattleType) (g : _) → IsSend (locked.the_row L g)
-locked_send L g =
-    recorded_send (locked.the_field L g).row _ _ (locked.the_type L g).to_one
-    (struct_send (shape (locked.the_type L g)) (hall_send, (vec_sent.the_send denote.Builtin.bool heap_row heap_ghosts (search sendable) heap.the_send frees, (book_sent.the_send L g, (share_sent.the_send L g, (search sendable, tt))))))
+locked_send : (L : RattleType) (g n l : _) → IsSend (locked.the_row L g n l)
+locked_send L g n l =
+    recorded_send (locked.the_field L g n l).row _ _ (locked.the_type L g n l).to_one
+    (struct_send (shape (locked.the_type L g n l)) (hall_send, (vec_sent.the_send denote.Builtin.bool heap_row heap_ghosts (search sendable) heap.the_send frees, (count_sent.the_send L l, (share_sent.the_send L l, (search sendable, (book_sent.the_field_send L exchange.the_row n, (front_sent.the_send L exchange.the_row n, tt))))))))
 
 -- so threads may share its lock
-pub lock_sync : (L : RattleType) (g : _) → IsSync (lock.the_row L g)
-lock_sync L g = recorded_sync (lock.the_field L g).row _ _ (lock.the_type L g).to_one (struct_sync (shape (lock.the_type L g)) (mutex_sent.the_sync _ (locked_send L g), (config_sent.the_field_sync, tt)))
+pub lock_sync : (L : RattleType) (g n l : _) → IsSync (lock.the_row L g n l)
+lock_sync L g n l = recorded_sync (lock.the_field L g n l).row _ _ (lock.the_type L g n l).to_one (struct_sync (shape (lock.the_type L g n l)) (mutex_sent.the_sync _ (locked_send L g n l), tt))

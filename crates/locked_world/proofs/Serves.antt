@@ -28,7 +28,7 @@ use Rattle.locked_world.specs.Halls.{hall_of, desk_of, IsLawful, full_unless, ha
 use Rattle.locked_world.specs.HallState.{HallState}
 use Rattle.locked_world.specs.KeptLogs.{kept_of}
 use Rattle.locked_world.specs.Kepts.{KeepsUnless, Keeps}
-use Rattle.locked_world.specs.Serving.{ClerkServes, HallServes, is_of_room, wants_room, with_room, accepted, exchange_kept}
+use Rattle.locked_world.specs.Serving.{HallServes, is_of_room, wants_room, with_room, accepted, exchange_kept}
 use Rattle.locked_world.proofs.Histories.{grows, not_refused, refused_so, none_of_full, accepted_by}
 use Rattle.locked_world.proofs.Staying.{stays}
 
@@ -52,10 +52,10 @@ not_wanting (reply.Owner owner) h = refl
 
 -- over one event: the hall stays lawful; and room was wanting and the desk is the same, or the desk answered; the history
 -- gains the event where it was accepted, and nothing else
-record Moves (h : HallState) (e : Event) (r : Reply) (u : HallState) : Type 0 where
-  lawful : IsLawful u
-  desk : ((wants_room r ≡ true) × (desk_of u ≡ desk_of h)) ⊎ ((wants_room r ≡ false) × DeskWorldMay (desk_of h) (Take e) r (desk_of u))
-  history : u.history ≡ h.history ++ accepted (exchange e r ∷ [])
+pub record Moves (h : HallState) (e : Event) (r : Reply) (u : HallState) : Type 0 where
+  pub lawful : IsLawful u
+  pub desk : ((wants_room r ≡ true) × (desk_of u ≡ desk_of h)) ⊎ ((wants_room r ≡ false) × DeskWorldMay (desk_of h) (Take e) r (desk_of u))
+  pub history : u.history ≡ h.history ++ accepted (exchange e r ∷ [])
 
 -- where nothing else is due a hall refuses for want of room
 full_is : (count : ℕ) (why : Refusal) → full_unless None count ≡ Some why → is_of_room why ≡ true
@@ -105,7 +105,7 @@ module _ (h : HallState) (e : Event) (lawful : IsLawful h) where
     | Some why ↦ λ p. moves_full why (full_is (length h.history) why p)
   ] refl
 
-  moves : (r : Reply) (u : HallState) → HallMay h e r u → Moves h e r u
+  pub moves : (r : Reply) (u : HallState) → HallMay h e r u → Moves h e r u
   moves r u (inl m) = rw (m.0, m.1) (moves_by (desk_refusal (desk_of h) e) refl refl)
   moves r u (inr m) = rw (m.0, m.1) (moves_full refusal.NoMemory refl)
 
@@ -135,7 +135,7 @@ talk c named u ts run =
     let fresh = (desk.fresh_is c (fresh_desk c)).1 (record { named = named; is = refl }) in
     talk_by c c.world named (fresh_desk c) (desk_of u) (with_room ts) fresh (desk_runs (hall_of c []) u ts (record { named = named; accepted = tt }) run)
 
-accepted-one : (x : Exchange) (xs : List Exchange) → accepted (x ∷ xs) ≡ accepted (x ∷ []) ++ accepted xs
+pub accepted-one : (x : Exchange) (xs : List Exchange) → accepted (x ∷ xs) ≡ accepted (x ∷ []) ++ accepted xs
 accepted-one x xs = elim (is_refusal x.reply) as (λ b. cond b (accepted xs) (x ∷ accepted xs) ≡ cond b [] (x ∷ []) ++ accepted xs) [
   | true ↦ refl
   | false ↦ refl
@@ -156,18 +156,9 @@ history h u (Ended ∷ ts) lawful run = history h u ts lawful run
 history h u (Misread bad ∷ ts) lawful run = history h u ts lawful run
 
 -- and so does what a clerk has kept
-kept_one : (ks new : List Kept) (x : Exchange) → Keeps ks x.event x.reply new → map exchange_kept new ≡ map exchange_kept ks ++ accepted (x ∷ [])
+pub kept_one : (ks new : List Kept) (x : Exchange) → Keeps ks x.event x.reply new → map exchange_kept new ≡ map exchange_kept ks ++ accepted (x ∷ [])
 kept_one ks new x keeps =
     elim (is_refusal x.reply) as (λ b. KeepsUnless b ks x.event x.reply new → map exchange_kept new ≡ map exchange_kept ks ++ cond b [] (x ∷ [])) [
       | true ↦ λ same. ap (map exchange_kept) same ∙ sym (append-nil (map exchange_kept ks))
       | false ↦ λ kept. ap (map exchange_kept) kept.is ∙ map-append exchange_kept ks (kept_of kept.place x ∷ [])
     ] keeps
-
-pub kept : (ks new : List Kept) (ts : List Turn) → Runs ClerkServes ks ts new → map exchange_kept new ≡ map exchange_kept ks ++ accepted (exchanges ts)
-kept ks new [] run = ap (map exchange_kept) (sym run) ∙ sym (append-nil (map exchange_kept ks))
-kept ks new (Answered x ∷ ts) run =
-    kept run.0 new ts run.2 ∙ ap (λ (l : List Exchange). l ++ accepted (exchanges ts)) (kept_one ks run.0 x run.1.1)
-    ∙ append_assoc (map exchange_kept ks) (accepted (x ∷ [])) (accepted (exchanges ts)) ∙ ap (λ (l : List Exchange). map exchange_kept ks ++ l) (sym (accepted-one x (exchanges ts)))
-kept ks new (Told n r ∷ ts) run = kept run.0 new ts run.2 ∙ ap (λ (l : List Kept). map exchange_kept l ++ accepted (exchanges ts)) run.1.1
-kept ks new (Ended ∷ ts) run = kept ks new ts run
-kept ks new (Misread bad ∷ ts) run = kept ks new ts run

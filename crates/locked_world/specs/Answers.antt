@@ -1,21 +1,31 @@
--- what a caller knows of an answer: that some lawful hall gives it
-use Rattle.std.specs.Prelude.{◌≡◌, ℕ, ◌≤◌, length}
+-- what a caller of a lock is answered (this project's profile; a history of one object: Herlihy and Wing 1990)
+use Rattle.std.specs.Prelude.{◌≡◌, ℕ, List, [], Option, Some}
+use mathlib.Core.List.{IsPrefix}
+use Rattle.step_memory.specs.declared.refusal.Refusal.{Refusal}
+use Rattle.rename_core.specs.declared.config.Config.{Config}
 use Rattle.desk.specs.declared.event.Event.{Event}
+use Rattle.desk.specs.declared.event.Event.TheVariants.{Begin}
+use Rattle.desk.specs.declared.exchange.Exchange.{Exchange}
 use Rattle.desk.specs.declared.reply.Reply.{Reply}
+use Rattle.desk.specs.declared.reply.Reply.TheVariants as reply
 use Rattle.desk.specs.Desk.{owner_reply}
-use Rattle.locked_world.specs.Halls.{desk_of, IsLawful, HallMay}
-use Rattle.locked_world.specs.HallState.{HallState}
+use Rattle.locked_world.specs.Halls.{hall_of, desk_of, IsLawful, HallMay}
 
--- some hall of a lawful history, at least so long, gives this reply to the event
-pub record IsSomeAnswer (least : ℕ) (e : Event) (r : Reply) : Type 0 where
-  pub hall : HallState
-  pub lawful : IsLawful hall
-  pub long : least ≤ length hall.history
-  pub after : HallState
-  pub answer : HallMay hall e r after
+-- The lock's history was lawful for its config, and what the caller had seen was a prefix of it; the hall of that history gives this
+-- reply to the event, and the caller has now seen what its history is then
+pub record IsAnswered (c : Config) (seen : List Exchange) (e : Event) (r : Reply) (now : List Exchange) : Type 0 where
+  pub history : List Exchange
+  pub lawful : IsLawful (hall_of c history)
+  pub longer : IsPrefix seen history
+  pub answer : HallMay (hall_of c history) e r (hall_of c now)
 
--- some hall of a lawful history tells this of a name
-pub record IsSomeOwner (number : ℕ) (r : Reply) : Type 0 where
-  pub hall : HallState
-  pub lawful : IsLawful hall
-  pub answer : r ≡ owner_reply (desk_of hall) number
+-- a session was refused its begin by the lock's hall, whose history was then this one
+pub record IsRefusedBegin (c : Config) (id : ℕ) (why : Refusal) : Type 0 where
+  pub now : List Exchange
+  pub answer : IsAnswered c [] (Begin id) (reply.Refused why) now
+
+-- some hall of a lawful history, of this config, tells this of a name
+pub record IsSomeOwner (c : Config) (number : ℕ) (r : Reply) : Type 0 where
+  pub history : List Exchange
+  pub lawful : IsLawful (hall_of c history)
+  pub answer : r ≡ owner_reply (desk_of (hall_of c history)) number

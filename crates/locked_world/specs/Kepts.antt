@@ -8,7 +8,12 @@ use Rattle.desk.specs.declared.reply.Reply.TheVariants.{Ok}
 use Rattle.desk.specs.DeskCalls.{exchange}
 use Rattle.desk.specs.Replies.{is_refusal}
 use Rattle.locked_world.specs.declared.kept.Kept.{Kept}
-use Rattle.locked_world.specs.Answers.{IsSomeAnswer}
+use mathlib.Core.List.{IsPrefix}
+use Rattle.rename_core.specs.declared.config.Config.{Config}
+use Rattle.desk.specs.Desk.{owner_reply}
+use Rattle.locked_world.specs.Answers.{IsAnswered}
+use Rattle.locked_world.specs.CallerState.{CallerState}
+use Rattle.locked_world.specs.Halls.{hall_of, desk_of, IsLawful}
 use Rattle.locked_world.specs.KeptLogs.{kept_of}
 
 -- the places rise, from the first bound on, and stay below the second
@@ -43,8 +48,28 @@ pub record IsJust (history : List Exchange) (kepts : List (List Kept)) : Type 0 
   pub fits : All (λ ks. Fits history ks) kepts
   pub counted : sum_by (λ ks. length ks) kepts ≡ length history
 
--- a session that has only begun, as some hall lets it
-pub record IsOpened (id : ℕ) (ks : List Kept) : Type 0 where
+-- a session that has only begun, as the lock's hall let it
+pub record IsOpened (c : Config) (id : ℕ) (s : CallerState) : Type 0 where
   pub place : ℕ
-  pub is : ks ≡ kept_of place (exchange (Begin id) Ok) ∷ []
-  pub answer : IsSomeAnswer 0 (Begin id) Ok
+  pub is : s.kept ≡ kept_of place (exchange (Begin id) Ok) ∷ []
+  pub answer : IsAnswered c [] (Begin id) Ok s.seen
+
+-- One event of a caller, by one taking of the lock: the lock's hall answered it, and the caller keeps it with its reply where it was
+-- accepted. All that the caller has kept stands in the history that it has seen, each at its place
+pub record IsTaken (c : Config) (s : CallerState) (e : Event) (r : Reply) (t : CallerState) : Type 0 where
+  pub answer : IsAnswered c s.seen e r t.seen
+  pub kept : Keeps s.kept e r t.kept
+  pub stands : Fits t.seen t.kept
+
+-- who has a name was told to a caller as the lock's hall tells it, whose history the caller has now seen
+pub record IsTold (c : Config) (s : CallerState) (number : ℕ) (r : Reply) (t : CallerState) : Type 0 where
+  pub lawful : IsLawful (hall_of c t.seen)
+  pub longer : IsPrefix s.seen t.seen
+  pub answer : r ≡ owner_reply (desk_of (hall_of c t.seen)) number
+  pub same : t.kept ≡ s.kept
+  pub stands : Fits t.seen t.kept
+
+-- what a caller has seen is a lawful history of this config, in which all that it has kept stands at its place
+pub record IsSound (c : Config) (s : CallerState) : Type 0 where
+  pub lawful : IsLawful (hall_of c s.seen)
+  pub stands : Fits s.seen s.kept

@@ -6,6 +6,8 @@ pub mod Replay
 pub mod HallState
 pub mod Halls
 pub mod Acts
+pub mod CallerState
+pub mod Configs
 pub mod Kepts
 pub mod Answers
 pub mod Marks

@@ -1,14 +1,15 @@
 -- what `rename` adds to a session's list
 use Rattle.std.specs.Prelude.{◌≡◌, ℕ, ◌+◌, ◌≤◌, ◌⊎◌, List, [], ◌∷◌, ◌++◌, length, Bool, true, false, All, Option, Some, None, Result, Ok, Err}
+use mathlib.Core.List.{IsPrefix}
 use Rattle.step_memory.specs.declared.refusal.Refusal.{Refusal}
 use Rattle.step_memory.specs.declared.refusal.Refusal.TheVariants as refusal
+use Rattle.rename_core.specs.declared.config.Config.{Config}
 use Rattle.desk.specs.declared.event.Event.TheVariants.{Step}
 use Rattle.desk.specs.declared.reply.Reply.{Reply}
 use Rattle.desk.specs.declared.reply.Reply.TheVariants as reply
-use Rattle.desk.specs.DeskCalls.{exchange}
 use Rattle.locked_world.specs.declared.kept.Kept.{Kept}
-use Rattle.locked_world.specs.Answers.{IsSomeAnswer}
-use Rattle.locked_world.specs.KeptLogs.{kept_of}
+use Rattle.locked_world.specs.CallerState.{CallerState}
+use Rattle.locked_world.specs.Kepts.{IsTaken, IsSound}
 
 -- whether a participant goes on after this reply to its step
 abbrev pub goes_on : Reply → Bool
@@ -29,48 +30,41 @@ goes_on (reply.Value value) = true
 goes_on (reply.Owner owner) = true
 goes_on (reply.Refused refusal) = false
 
--- a step of this identity after which it went on, answered as by some hall at least so long
-pub record IsPlainStep (least id : ℕ) (k : Kept) : Type 0 where
+-- a step of this identity after which it went on
+pub record IsPlainStep (id : ℕ) (k : Kept) : Type 0 where
   pub event : k.exchange.event ≡ Step id
   pub plain : goes_on k.exchange.reply ≡ true
-  pub answer : IsSomeAnswer least (Step id) k.exchange.reply
 
--- so many such steps were added
-pub record IsStepped (id count : ℕ) (ks new : List Kept) : Type 0 where
+-- So many such steps were added. What was seen is a prefix of what is seen now, and is a lawful history, in which all that was kept stands
+-- at its place, where it was one before: so each reply is the one that was due there
+pub record IsStepped (c : Config) (id count : ℕ) (s t : CallerState) : Type 0 where
   pub added : List Kept
-  pub longer : new ≡ ks ++ added
+  pub longer : t.kept ≡ s.kept ++ added
   pub counted : length added ≡ count
-  pub plain : All (IsPlainStep (length ks) id) added
+  pub plain : All (IsPlainStep id) added
+  pub seen : IsPrefix s.seen t.seen
+  pub sound : IsSound c s → IsSound c t
 
 -- fewer than so many were added, and then a step that was answered so
-pub record EndsWith (id turns : ℕ) (ks : List Kept) (r : Reply) (new : List Kept) : Type 0 where
+pub record EndsWith (c : Config) (id turns : ℕ) (s : CallerState) (r : Reply) (t : CallerState) : Type 0 where
   pub count : ℕ
-  pub place : ℕ
-  pub before : List Kept
+  pub mid : CallerState
   pub fewer : count + 1 ≤ turns
-  pub stepped : IsStepped id count ks before
-  pub is : new ≡ before ++ kept_of place (exchange (Step id) r) ∷ []
-  pub answer : IsSomeAnswer (length before) (Step id) r
-
--- fewer than so many were added, and then a step was refused so
-pub record EndsRefused (id turns : ℕ) (ks : List Kept) (why : Refusal) (new : List Kept) : Type 0 where
-  pub count : ℕ
-  pub fewer : count + 1 ≤ turns
-  pub stepped : IsStepped id count ks new
-  pub answer : IsSomeAnswer (length new) (Step id) (reply.Refused why)
+  pub stepped : IsStepped c id count s mid
+  pub last : IsTaken c mid (Step id) r t
 
 -- the last step named the participant so
-pub record EndsNamed (id turns : ℕ) (ks : List Kept) (name : ℕ) (new : List Kept) : Type 0 where
+pub record EndsNamed (c : Config) (id turns : ℕ) (s : CallerState) (name : ℕ) (t : CallerState) : Type 0 where
   pub view : List (ℕ × ℕ)
-  pub ends : EndsWith id turns ks (reply.Named name view) new
+  pub ends : EndsWith c id turns s (reply.Named name view) t
 
 -- the last step left the participant spent
-pub record EndsSpent (id turns : ℕ) (ks : List Kept) (why : Refusal) (new : List Kept) : Type 0 where
+pub record EndsSpent (c : Config) (id turns : ℕ) (s : CallerState) (why : Refusal) (t : CallerState) : Type 0 where
   pub why_is : why ≡ refusal.Spent
-  pub ends : EndsWith id turns ks reply.Spent new
+  pub ends : EndsWith c id turns s reply.Spent t
 
 -- what a call adds, by its outcome: all its turns; or some and then the step that named, spent or was refused
-abbrev pub IsRenamed : ℕ → ℕ → List Kept → Result (Option ℕ) Refusal → List Kept → Type 0
-IsRenamed id turns ks (Ok None) new = IsStepped id turns ks new
-IsRenamed id turns ks (Ok (Some name)) new = EndsNamed id turns ks name new
-IsRenamed id turns ks (Err why) new = EndsRefused id turns ks why new ⊎ EndsSpent id turns ks why new
+abbrev pub IsRenamed : Config → ℕ → ℕ → CallerState → Result (Option ℕ) Refusal → CallerState → Type 0
+IsRenamed c id turns s (Ok None) t = IsStepped c id turns s t
+IsRenamed c id turns s (Ok (Some name)) t = EndsNamed c id turns s name t
+IsRenamed c id turns s (Err why) t = EndsWith c id turns s (reply.Refused why) t ⊎ EndsSpent c id turns s why t

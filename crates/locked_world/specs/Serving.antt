@@ -14,25 +14,24 @@ use Rattle.schedule_player.specs.Runs.{Runs}
 use Rattle.schedule_player.specs.Turns.{Turn}
 use Rattle.schedule_player.specs.Turns.Turn.{Answered, Told, Ended, Misread}
 use Rattle.locked_world.specs.declared.kept.Kept.{Kept}
-use Rattle.locked_world.specs.Answers.{IsSomeAnswer, IsSomeOwner}
+use Rattle.locked_world.specs.CallerState.{CallerState}
 use Rattle.locked_world.specs.Halls.{hall_of, desk_of, HallMay}
 use Rattle.locked_world.specs.HallState.{HallState}
-use Rattle.locked_world.specs.Kepts.{Keeps}
+use Rattle.locked_world.specs.Kepts.{IsTaken, IsTold, IsSound}
 
 -- a hall takes an event by its rules, and tells who has a name with nothing changed
 abbrev pub HallServes : HallState → Request → Reply → HallState → Type 0
 HallServes h (Take e) r u = HallMay h e r u
 HallServes h (OwnerOf n) r u = (r ≡ owner_reply (desk_of h) n) × (u ≡ h)
 
--- a clerk, by what it has kept: it answers what some hall of a lawful history does, at least as long as what it had kept. An
--- accepted event is kept with its reply, a refused one changes nothing. Who has a name is told as some hall tells it
-abbrev pub ClerkServes : List Kept → Request → Reply → List Kept → Type 0
-ClerkServes ks (Take e) r new = IsSomeAnswer (length ks) e r × Keeps ks e r new
-ClerkServes ks (OwnerOf n) r new = IsSomeOwner n r × (new ≡ ks)
+-- a clerk at its lock, which has seen a lawful history: an event is taken as any caller's is, and who has a name is told as to any caller
+abbrev pub ClerkServes : Config → CallerState → Request → Reply → CallerState → Type 0
+ClerkServes c s (Take e) r t = IsSound c s → IsTaken c s e r t
+ClerkServes c s (OwnerOf n) r t = IsSound c s → IsTold c s n r t
 
--- a clerk that had kept these has come to keep those by turns that it answered
-abbrev pub ClerkGoesOn : List Kept → List Kept → Type 0
-ClerkGoesOn ks new = (ts : List Turn) × Runs ClerkServes ks ts new
+-- a clerk of which this held has come to hold that by turns that it answered
+abbrev pub ClerkGoesOn : Config → CallerState → CallerState → Type 0
+ClerkGoesOn c s t = (ts : List Turn) × Runs (ClerkServes c) s ts t
 
 -- a growth was refused, or the history was full
 abbrev pub is_of_room : Refusal → Bool

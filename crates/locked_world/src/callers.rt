@@ -1,28 +1,29 @@
 //! What a caller tells of itself.
 
 ghost use Rattle.std.specs.Prelude.{◌≡◌, length, slice_get};
+ghost use Rattle.locked_world.specs.Kepts.{IsSound};
 
 use crate::kept::Kept;
-use crate::parts::{Clerk, Session};
-use std::sync::ledger::Ledger;
+use crate::parts::{Clerk, LockName, Session};
 
-impl<L: Ledger> Clerk<L> {
-    /// How many of its events were accepted.
+impl<L: LockName> Clerk<L> {
+    /// How many of its events were accepted. Each stands at its place in the history that the caller has seen, which is lawful.
     pub fn count(&self) -> usize
-        ensures { result ≡ length self.now.kept.items }
+        ensures count { result ≡ length self.now.kept }
+        ensures sound { IsSound L.config self.now }
     {
         self.kept.len()
     }
 
     /// One of its accepted events, in order.
     pub fn get(&self, at: usize) -> Option<Kept>
-        ensures { result ≡ slice_get self.now.kept.items at }
+        ensures { result ≡ slice_get self.now.kept at }
     {
         self.kept.get(at)
     }
 }
 
-impl<L: Ledger> Session<L> {
+impl<L: LockName> Session<L> {
     /// The identity.
     pub fn id(&self) -> u64
         ensures { result ≡ self.now.id }
@@ -30,16 +31,18 @@ impl<L: Ledger> Session<L> {
         self.id
     }
 
-    /// How many of its events were accepted, its `begin` among them.
+    /// How many of its events were accepted, its `begin` among them. Each stands at its place in the history that the caller has
+    /// seen, which is lawful.
     pub fn count(&self) -> usize
-        ensures { result ≡ length self.now.clerk.kept.items }
+        ensures count { result ≡ length self.now.clerk.kept }
+        ensures sound { IsSound L.config self.now.clerk }
     {
         self.clerk.count()
     }
 
     /// One of its accepted events, in order.
     pub fn get(&self, at: usize) -> Option<Kept>
-        ensures { result ≡ slice_get self.now.clerk.kept.items at }
+        ensures { result ≡ slice_get self.now.clerk.kept at }
     {
         self.clerk.get(at)
     }

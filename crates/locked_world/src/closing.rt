@@ -8,22 +8,55 @@ ghost use Rattle.locked_world.specs.Halls.{IsLawful};
 use crate::hall::Hall;
 use crate::kept::Kept;
 use crate::kept_log::KeptLog;
-use crate::parts::{Clerk, HallLock, Locked, Session};
-use crate::same::{is_same, is_same_config};
-use rename_core::Config;
+use crate::parts::{Clerk, HallLock, LockName, Locked, Session};
+use crate::same::is_same;
 use std::sync::Mutex;
-use std::sync::ledger::Ledger;
+use std::sync::ledger::Share;
 
-/// A history that is closed.
+/// A history that is closed, with all 1,000,001 parts of its lock's ledger, of which each caller that was opened had one: so none was left out.
 #[derive(Drop)]
-pub struct Closed {
+pub struct Closed<L: LockName> {
     /// The hall with the history.
     pub hall: Hall,
+    whole: Share<L>,
+}
+
+/// All that is left of a share, and those of these clerks.
+fn with_clerks<L: LockName>(rest: Share<L>, clerks: Vec<Clerk<L>>) -> Share<L>
+    ensures { result.parts ≡ rest.parts + vec_len clerks }
+{
+    let mut whole = rest;
+    for clerk in clerks {
+        whole.merge(clerk.into_share());
+    }
+    whole
+}
+
+/// All that is left of a share, and those of these sessions.
+fn with_sessions<L: LockName>(rest: Share<L>, sessions: Vec<Session<L>>) -> Share<L>
+    ensures { result.parts ≡ rest.parts + vec_len sessions }
+{
+    let mut whole = rest;
+    for session in sessions {
+        let Session { id: _, clerk } = session;
+        whole.merge(clerk.into_share());
+    }
+    whole
+}
+
+impl<L: LockName> Clerk<L> {
+    /// Its share of the lock's count.
+    fn into_share(self) -> Share<L>
+        ensures { result.parts ≡ 1 }
+    {
+        let Clerk { share, .. } = self;
+        share
+    }
 }
 
 /// What was handed in, of which something is missing.
 #[derive(Drop)]
-pub struct Missing<L: Ledger> {
+pub struct Missing<L: LockName> {
     /// The lock.
     pub lock: HallLock<L>,
     /// The sessions.
@@ -85,14 +118,14 @@ fn mark_list(hall: &Hall, marks: &mut [bool], left: usize, kept: &KeptLog) -> Op
 }
 
 /// Marks what sessions kept, and tells how many are left.
-fn mark_sessions<L: Ledger>(
+fn mark_sessions<L: LockName>(
     hall: &Hall,
     marks: &mut [bool],
     left: usize,
     sessions: &Vec<Session<L>>,
 ) -> Option<usize>
     requires { length marks.old ≡ length hall.now.history }
-    ensures { IfSome result (λ n. AreMarked hall.now.history marks.old marks.new left n (map (λ s. s.clerk.kept.items) sessions.now.items)) }
+    ensures { IfSome result (λ n. AreMarked hall.now.history marks.old marks.new left n (map (λ s. s.clerk.kept) sessions.now.items)) }
 {
     let mut now = left;
     for session in sessions {
@@ -102,14 +135,14 @@ fn mark_sessions<L: Ledger>(
 }
 
 /// Marks what clerks kept, and tells how many are left.
-fn mark_clerks<L: Ledger>(
+fn mark_clerks<L: LockName>(
     hall: &Hall,
     marks: &mut [bool],
     left: usize,
     clerks: &Vec<Clerk<L>>,
 ) -> Option<usize>
     requires { length marks.old ≡ length hall.now.history }
-    ensures { IfSome result (λ n. AreMarked hall.now.history marks.old marks.new left n (map (λ c. c.kept.items) clerks.now.items)) }
+    ensures { IfSome result (λ n. AreMarked hall.now.history marks.old marks.new left n (map (λ c. c.kept) clerks.now.items)) }
 {
     let mut now = left;
     for clerk in clerks {
@@ -126,14 +159,14 @@ fn all_marked(marks: &[bool]) -> bool
 }
 
 /// Whether each place of the history was kept by just one of these, and no other place, where no place was marked.
-fn mark_callers<L: Ledger>(
+fn mark_callers<L: LockName>(
     hall: &Hall,
     marks: &mut [bool],
     sessions: &Vec<Session<L>>,
     clerks: &Vec<Clerk<L>>,
 ) -> bool
     requires { marks.old ≡ replicate (length hall.now.history) false }
-    ensures { result ≡ true → IsJust hall.now.history (map (λ s. s.clerk.kept.items) sessions.now.items ++ map (λ c. c.kept.items) clerks.now.items) }
+    ensures { result ≡ true → IsJust hall.now.history (map (λ s. s.clerk.kept) sessions.now.items ++ map (λ c. c.kept) clerks.now.items) }
 {
     let Some(middle) = mark_sessions(hall, marks, hall.len(), sessions) else {
         return false;
@@ -147,34 +180,32 @@ fn mark_callers<L: Ledger>(
     all_marked(marks)
 }
 
-impl<L: Ledger> HallLock<L> {
+impl<L: LockName> HallLock<L> {
     /// Ends a lock, which takes no memory. Where every caller that was opened is handed in, the history is compared with what
-    /// they kept: each place was kept by just one of them, with its event and reply, and there is no other. The hall is compared
-    /// with the config that the lock was made for. Otherwise all is handed back.
+    /// they kept: each place was kept by just one of them, with its event and reply, and there is no other. Otherwise
+    /// all is handed back.
     pub fn close(
         self,
         sessions: Vec<Session<L>>,
         clerks: Vec<Clerk<L>>,
-    ) -> Result<Closed, Missing<L>>
+    ) -> Result<Closed<L>, Missing<L>>
         ensures lawful { IfOk result (λ c. IsLawful c.hall) }
-        ensures config { IfOk result (λ c. c.hall.config ≡ self.config) }
-        ensures just { IfOk result (λ c. IsJust c.hall.history (map (λ s. s.clerk.kept.items) sessions.items ++ map (λ c. c.kept.items) clerks.items)) }
+        ensures config { IfOk result (λ c. c.hall.config ≡ L.config) }
+        ensures all { IfOk result (λ c. c.whole.parts ≡ 1000001) }
+        ensures just { IfOk result (λ c. IsJust c.hall.history (map (λ s. s.clerk.kept) sessions.items ++ map (λ c. c.kept) clerks.items)) }
         ensures sessions { IfErr result (λ m. m.sessions ≡ sessions) }
         ensures clerks { IfErr result (λ m. m.clerks ≡ clerks) }
-        ensures lock { IfErr result (λ m. m.lock.config ≡ self.config) }
     {
-        let HallLock { locked, config } = self;
+        let HallLock { locked } = self;
         let mut locked = locked.into_inner();
         let opened = locked.opened as usize;
         let all_given = sessions.len() <= opened && clerks.len() == opened - sessions.len();
-        if all_given && locked.agrees(config, &sessions, &clerks) {
-            let Locked { hall, .. } = locked;
-            return Ok(Closed { hall });
+        if all_given && locked.agrees(&sessions, &clerks) {
+            return Ok(locked.closed(sessions, clerks));
         }
         Err(Missing {
             lock: HallLock {
                 locked: Mutex::new(locked),
-                config,
             },
             sessions,
             clerks,
@@ -182,18 +213,28 @@ impl<L: Ledger> HallLock<L> {
     }
 }
 
-impl<L: Ledger> Locked<L> {
-    /// Whether the hall is of this config, and each place of its history was kept by just one of these callers, and no other
-    /// place.
-    fn agrees(&mut self, config: Config, sessions: &Vec<Session<L>>, clerks: &Vec<Clerk<L>>) -> bool
+impl<L: LockName> Locked<L> {
+    /// The history, where these are all the callers that were opened.
+    fn closed(self, sessions: Vec<Session<L>>, clerks: Vec<Clerk<L>>) -> Closed<L>
+        requires { vec_len sessions + vec_len clerks ≡ self.opened }
+        ensures hall { result.hall ≡ self.hall }
+        ensures all { result.whole.parts ≡ 1000001 }
+    {
+        let Locked { hall, rest, .. } = self;
+        let whole = with_clerks(with_sessions(rest, sessions), clerks);
+        Closed { hall, whole }
+    }
+
+    /// Whether each place of the history was kept by just one of these callers, and no other place.
+    fn agrees(&mut self, sessions: &Vec<Session<L>>, clerks: &Vec<Clerk<L>>) -> bool
         ensures lawful { IsLawful self.new.hall }
         ensures hall { self.new.hall ≡ self.old.hall }
-        ensures config { result ≡ true → self.new.hall.config ≡ config }
-        ensures just { result ≡ true → IsJust self.new.hall.history (map (λ s. s.clerk.kept.items) sessions.now.items ++ map (λ c. c.kept.items) clerks.now.items) }
+        ensures opened { self.new.opened ≡ self.old.opened }
+        ensures just { result ≡ true → IsJust self.new.hall.history (map (λ s. s.clerk.kept) sessions.now.items ++ map (λ c. c.kept) clerks.now.items) }
     {
         let Locked { hall, marks, .. } = self;
-        let agrees = is_same_config(hall.config(), config)
-            && mark_callers(hall, marks, sessions, clerks);
+        let _ = hall.len();
+        let agrees = mark_callers(hall, marks, sessions, clerks);
         marks.fill(false);
         agrees
     }

@@ -9,7 +9,8 @@ ghost use Rattle.schedule_player.specs.Runs.{Runs};
 ghost use Rattle.schedule_player.specs.Turns.{Turn, exchanges};
 ghost use Rattle.locked_world.specs.Halls.{IsLawful};
 ghost use Rattle.locked_world.specs.HallState.{HallState};
-ghost use Rattle.locked_world.specs.declared.kept.Kept.{Kept};
+ghost use Rattle.locked_world.specs.CallerState.{CallerState};
+ghost use Rattle.locked_world.specs.Kepts.{IsSound};
 ghost use Rattle.locked_world.specs.Serving.{ClerkServes, HallServes, HasServed, KeepsAccepted, with_room, accepted};
 
 use crate::hall::Hall;
@@ -27,5 +28,5 @@ pub fn law_of_hall(hall: &Hall)
 pub fn law_of_serving()
     ensures talk { (c : Config) → gives_names c.world ≡ true → (u : HallState) (ts : List Turn) → HasServed c ts u → IsTalk c (with_room ts) }
     ensures history { (h u : HallState) (ts : List Turn) → IsLawful h → Runs HallServes h ts u → u.history ≡ h.history ++ accepted (exchanges ts) }
-    ensures kept { (ks new : List Kept) (ts : List Turn) → Runs ClerkServes ks ts new → KeepsAccepted ks (exchanges ts) new }
+    ensures kept { (c : Config) (s t : CallerState) (ts : List Turn) → IsSound c s → Runs (ClerkServes c) s ts t → KeepsAccepted s.kept (exchanges ts) t.kept }
 {}

@@ -6,23 +6,22 @@
 //! (`Hall::apply`). A history holds at most 1,000,000 events, 40 bytes each, and their views apart.
 //!
 //! A `HallLock` is a hall under a lock. *Sessions*, each of one participant, and *clerks*, who apply any event, are its callers.
-//! A call takes the lock once and is one event; its caller keeps the event with its reply where it is accepted, at a place
-//! above the places before. What is proved: the reply is one that some hall of a lawful history gives, at least as long as what
-//! the caller had kept (`HallLock::{apply, act, step, session}` and their fellows); `rename` adds at most its turns, and exactly
-//! its turns where they are used up; `close` gives a history of the config that the lock was made for, each place of which was
-//! kept by just one caller, with the event and the reply that stand there, or hands all back. So the accepted replies that the
-//! callers got are one run, each once, in each caller's order.
+//! A call takes the lock once and is one event; its caller keeps the event with its reply where it is accepted, at its place in the
+//! history. What is proved (`IsTaken`): the reply is that of a hall of the config that the lock was made for, with a lawful history that
+//! goes on from what the caller had seen when it was last answered; all that the caller has kept stands in that history at its
+//! place (`HallLock::{apply, act, step, session}` and their fellows); `rename` adds at most its turns, and exactly its turns where they
+//! are used up; `close` gives a history of that config, each place of which was kept by just one caller, with the event and the reply
+//! that stand there, or hands all back. So the accepted replies that the callers got are one run, each once, in each caller's order.
 //!
 //! A reply may show a view, which takes a kilobyte. Where events are many, `Hall::apply_short` and `HallLock::{apply_short, act_short}`
 //! answer in a few bytes and put the view beside.
 //!
-//! Not promised: that a lock is got, an order between threads, an end; nor that a refusal, or an owner that is told, is of this
-//! very hall.
+//! Not promised: that a lock is got, an order between threads that never meet, an end.
 //!
-//! A caller, in a function over `L: Ledger` that is called with `Brand`:
+//! A caller, in a function over `L: LockName` that is called with `Brand`, which picks config, blank and book:
 //!
 //! ```text
-//! let lock = HallLock::<L>::new(alloc, config, blank)?;       // a blank of 1,000,001 parts
+//! let lock = HallLock::<L>::new(alloc, config, blank, Opened::new())?;    // a blank of 1,000,001 parts
 //! let mut session = lock.session(rt, alloc, 7)?;
 //! let name = lock.rename(rt, &mut session, 1000)?;            // Some(1), where nobody else begins
 //! let mut sessions = Vec::new(alloc);
@@ -50,6 +49,7 @@ pub mod parts;
 pub mod rename;
 mod same;
 pub mod serving_clerk;
+mod telling;
 
 pub use act::Act;
 pub use closing::{Closed, Missing};
@@ -58,5 +58,5 @@ pub use kept::Kept;
 pub use kept_log::KeptLog;
 pub use laws::{law_of_hall, law_of_serving};
 pub use names::{agrees, post_name};
-pub use parts::{Clerk, HallLock, Session};
+pub use parts::{Clerk, HallLock, LockName, Session};
 pub use serving_clerk::ServingClerk;

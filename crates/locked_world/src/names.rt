@@ -8,15 +8,14 @@ ghost use Rattle.locked_world.specs.Words.{IsOwnerOrNone, Agree};
 
 use crate::closing::Closed;
 use crate::hall::Hall;
-use crate::parts::Session;
+use crate::parts::{LockName, Session};
 use desk::Reply;
 use raw_parts::{Board, Grant, ReaderSeat};
 use std::alloc::Allocator;
-use std::sync::ledger::Ledger;
 
 /// Posts a session's identity at the name that it kept, as `Board::post` does; the first of them, if it kept several. None
 /// where it kept none, and where `post` gives none. The seat is of this board. It takes no lock.
-pub fn post_name<L: Ledger, A: Allocator>(
+pub fn post_name<L: LockName, A: Allocator>(
     session: &Session<L>,
     board: &Board<A>,
     seat: &mut ReaderSeat,
@@ -24,7 +23,7 @@ pub fn post_name<L: Ledger, A: Allocator>(
     requires { seat.old ≡ board.now }
     ensures seat { seat.new ≡ board.now }
     ensures board { IfSome result (λ g. g.board ≡ board.now) }
-    ensures name { IfSome result (λ g. name_kept session.now.clerk.kept.items ≡ Some g.name) }
+    ensures name { IfSome result (λ g. name_kept session.now.clerk.kept ≡ Some g.name) }
     ensures identity { IfSome result (λ g. g.identity ≡ session.now.id) }
 {
     let name = session.clerk.kept.name()?;
@@ -49,7 +48,7 @@ fn is_owner(hall: &Hall, number: u64, identity: u64) -> bool
 }
 
 /// Whether each word that is not 0 is who has the name of its number in the closed history; the first word's number is 1.
-pub fn agrees(closed: &Closed, words: &[u64]) -> bool
+pub fn agrees<L: LockName>(closed: &Closed<L>, words: &[u64]) -> bool
     ensures { result ≡ true ↔ Agree (desk_of closed.now.hall) words.now }
 {
     for place in 0..words.len() {

@@ -1,55 +1,88 @@
 //! What lies under the lock, and what a caller has of its own.
 
 ghost use Rattle.std.specs.Prelude.{◌≡◌, ◌+◌, ◌≤◌, length, true, false, replicate};
-ghost use Rattle.locked_world.specs.Kepts.{rises};
 
 use crate::hall::Hall;
 use crate::kept_log::KeptLog;
-use rename_core::Config;
+use desk::Exchange;
+use history_book::{Book, Front, Naming};
+use std::marker::{Brand, Model};
 use std::sync::Mutex;
-use std::sync::ledger::{Book, Ledger, Share};
+use std::sync::ledger::{Book as Count, Ledger, Share};
 
 /// The most callers that a lock is opened for.
 pub const MOST_CALLERS: u64 = 1_000_000;
 
+/// Which lock it is: the ledger that counts what its callers keep, the book of its history, and the config that it was made for. A
+/// call picks all three, by `Brand`.
+pub trait LockName: Ledger + Naming {
+    ghost use Rattle.rename_core.specs.declared.config.Config.{Config};
+
+    ghost config: { Config };
+}
+
+impl LockName for Brand {
+    ghost use Rattle.locked_world.specs.Configs.{some_config};
+
+    ghost config = { some_config };
+}
+
 /// A hall with the count of its events, and the shares of that count that were not given out. There is one share for each
 /// caller that may still be opened, and one more. For each event there is a mark, by which `close` compares the history: its
-/// room is made with the event's, so that the end of a lock takes no memory.
+/// room is made with the event's, so that the end of a lock takes no memory. The history is that of the lock's book, which only
+/// grows and is no other's: so what a caller was once told stands in it for good.
 #[derive(Drop)]
-pub(crate) struct Locked<L: Ledger> {
+pub(crate) struct Locked<L: LockName> {
     pub(crate) hall: Hall,
     pub(crate) marks: Vec<bool>,
-    pub(crate) book: Book<L>,
+    pub(crate) count: Count<L>,
     pub(crate) rest: Share<L>,
     pub(crate) opened: u64,
-    ghost counted: { length hall.history ≡ book.total },
+    pub(crate) book: Book<L, Exchange>,
+    pub(crate) front: Front<L, Exchange>,
+    ghost counted: { length hall.history ≡ count.total },
     ghost clear: { marks.items ≡ replicate (length hall.history) false },
     ghost parts: { rest.parts + opened ≡ 1000001 },
     ghost few: { opened ≤ 1000000 },
     ghost none: { rest.amount ≡ 0 },
+    ghost config: { hall.config ≡ L.config },
+    ghost whole: { front ≡ hall.history },
 }
 
 /// A hall under a lock, which threads share.
 #[derive(Drop)]
-pub struct HallLock<L: Ledger> {
+pub struct HallLock<L: LockName> {
     pub(crate) locked: Mutex<Locked<L>>,
-    pub(crate) config: Config,
 }
 
-/// One caller of a lock, with its accepted events in order. What it holds counts them in the lock's ledger.
+/// One caller of a lock, with its accepted events in order, and the history as it was when the lock last answered it. Contracts see
+/// it as these two. What it holds counts its events in the lock's ledger.
 #[derive(Drop)]
-pub struct Clerk<L: Ledger> {
+pub struct Clerk<L: LockName> {
     pub(crate) kept: KeptLog,
     pub(crate) next: usize,
     pub(crate) share: Share<L>,
-    ghost one_part: { share.parts ≡ 1 },
-    ghost counted: { share.amount ≡ length kept.items },
-    ghost rising: { rises 0 kept.items next ≡ true },
+    pub(crate) seen: Front<L, Exchange>,
+}
+
+impl<L: LockName> Model for Clerk<L> {
+    ghost use Rattle.locked_world.specs.CallerState.{CallerState};
+
+    ghost Value = { CallerState };
+
+    ghost use Rattle.std.specs.Prelude.{◌≡◌, ◌≤◌, length, true};
+    ghost use Rattle.locked_world.specs.CallerState.{caller_of};
+    ghost use Rattle.locked_world.specs.Halls.{IsLawful, hall_of};
+    ghost use Rattle.locked_world.specs.Kepts.{Fits, rises};
+
+    ghost view = { λ c. caller_of c.kept.items c.seen };
+
+    ghost invariant = { λ c. (c.share.parts ≡ 1) × (c.share.amount ≡ length c.kept.items) × (rises 0 c.kept.items c.next ≡ true) × (c.next ≤ length c.seen) × Fits c.seen c.kept.items × IsLawful (hall_of L.config c.seen) };
 }
 
 /// One participant of a lock, with its accepted events.
 #[derive(Drop)]
-pub struct Session<L: Ledger> {
+pub struct Session<L: LockName> {
     pub(crate) id: u64,
     pub(crate) clerk: Clerk<L>,
 }

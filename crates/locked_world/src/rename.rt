@@ -4,13 +4,12 @@ ghost use Rattle.std.specs.Prelude.{◌≡◌};
 ghost use Rattle.locked_world.specs.Renamed.{IsRenamed};
 
 use crate::act::Act;
-use crate::parts::{HallLock, Session};
+use crate::parts::{HallLock, LockName, Session};
 use desk::ShortReply;
 use std::sync::Wait;
-use std::sync::ledger::Ledger;
 use step_memory::{Refusal, View};
 
-impl<L: Ledger> HallLock<L> {
+impl<L: LockName> HallLock<L> {
     /// Makes steps of a session until it is named, is spent, is refused, or has made so many. Each takes the lock once.
     /// `Spent` also where a step answered that the participant is.
     pub fn rename<R: Wait>(
@@ -19,7 +18,7 @@ impl<L: Ledger> HallLock<L> {
         session: &mut Session<L>,
         turns: u64,
     ) -> Result<Option<u64>, Refusal>
-        ensures renamed { IsRenamed session.old.id turns session.old.clerk.kept.items result session.new.clerk.kept.items }
+        ensures renamed { IsRenamed L.config session.old.id turns session.old.clerk result session.new.clerk }
         ensures same { session.new.id ≡ session.old.id }
     {
         let mut view = View::new();

@@ -1,9 +1,8 @@
-//! Whether two exchanges, or two configs, are one.
+//! Whether two exchanges are one.
 
 ghost use Rattle.std.specs.Prelude.{◌≡◌, true};
 
 use desk::{Event, Exchange, Reply};
-use rename_core::{Config, WorldKind};
 
 /// Whether two events are one. `true` is said only where they are.
 fn is_same_event(a: Event, b: Event) -> bool
@@ -48,23 +47,4 @@ pub(crate) fn is_same(a: &Exchange, b: &Exchange) -> bool
     ensures { result ≡ true → a.now ≡ b.now }
 {
     is_same_event(a.event, b.event) && is_same_reply(&a.reply, &b.reply)
-}
-
-/// Whether two worlds are one. `true` is said only where they are.
-fn is_same_world(a: WorldKind, b: WorldKind) -> bool
-    ensures { result ≡ true → a ≡ b }
-{
-    match a {
-        WorldKind::Splitter => matches!(b, WorldKind::Splitter),
-        WorldKind::Grid => matches!(b, WorldKind::Grid),
-        WorldKind::Rename => matches!(b, WorldKind::Rename),
-        WorldKind::Tree => matches!(b, WorldKind::Tree),
-    }
-}
-
-/// Whether two configs are one. `true` is said only where they are.
-pub(crate) fn is_same_config(a: Config, b: Config) -> bool
-    ensures { result ≡ true → a ≡ b }
-{
-    is_same_world(a.world, b.world) && a.m == b.m && a.k == b.k && a.limit == b.limit
 }

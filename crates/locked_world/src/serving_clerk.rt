@@ -4,53 +4,51 @@ ghost use Rattle.std.specs.Prelude.{◌≡◌, true};
 ghost use Rattle.locked_world.specs.Serving.{ClerkServes};
 ghost use Rattle.locked_world.specs.ServingProofs.{clerk_answers};
 
-use crate::parts::{Clerk, HallLock};
+use crate::parts::{Clerk, HallLock, LockName};
 use desk::{Event, Reply, ShortReply};
 use schedule_player::Service;
 use std::marker::Model;
 use std::sync::Wait;
-use std::sync::ledger::Ledger;
 use step_memory::View;
 
 /// A clerk with its lock: it answers each event by one taking of the lock.
 #[derive(Drop)]
-pub struct ServingClerk<'a, L: Ledger> {
+pub struct ServingClerk<'a, L: LockName> {
     lock: &'a HallLock<L>,
     clerk: Clerk<L>,
 }
 
-impl<'a, L: Ledger> Model for ServingClerk<'a, L> {
-    ghost use Rattle.std.specs.Prelude.{List};
-    ghost use Rattle.locked_world.specs.declared.kept.Kept.{Kept};
+impl<'a, L: LockName> Model for ServingClerk<'a, L> {
+    ghost use Rattle.locked_world.specs.CallerState.{CallerState};
 
-    ghost Value = { List Kept };
+    ghost Value = { CallerState };
 
-    ghost view = { λ s. s.clerk.kept.items };
+    ghost view = { λ s. s.clerk };
 }
 
-impl<'a, L: Ledger> ServingClerk<'a, L> {
+impl<'a, L: LockName> ServingClerk<'a, L> {
     /// A clerk with its lock.
     pub fn new(lock: &'a HallLock<L>, clerk: Clerk<L>) -> ServingClerk<'a, L>
-        ensures { result ≡ clerk.kept.items }
+        ensures { result ≡ clerk }
     {
         ServingClerk { lock, clerk }
     }
 
     /// The clerk.
     pub fn into_clerk(self) -> Clerk<L>
-        ensures { result.kept.items ≡ self.entry }
+        ensures { result ≡ self.entry }
     {
         let ServingClerk { lock: _, clerk } = self;
         clerk
     }
 }
 
-impl<'a, L: Ledger, R: Wait> Service<R> for ServingClerk<'a, L> {
+impl<'a, L: LockName, R: Wait> Service<R> for ServingClerk<'a, L> {
     ghost knows = { λ q. true };
 
-    ghost may = { ClerkServes };
+    ghost may = { ClerkServes L.config };
 
-    ghost answers = { λ ks q known. clerk_answers ks q };
+    ghost answers = { λ s q known. clerk_answers L.config s q };
 
     fn apply(&mut self, rt: &R, event: Event, view: &mut View) -> ShortReply {
         let ServingClerk { lock, clerk } = self;
@@ -58,6 +56,7 @@ impl<'a, L: Ledger, R: Wait> Service<R> for ServingClerk<'a, L> {
     }
 
     fn owner(&mut self, rt: &R, n: u64) -> Reply {
-        self.lock.owner(rt, n)
+        let ServingClerk { lock, clerk } = self;
+        lock.tell_owner(rt, clerk, n)
     }
 }

@@ -1,4 +1,4 @@
-mod Views
+pub mod Views
 mod Accesses
 mod Dealing
 mod Meeting

@@ -8,7 +8,7 @@ use Rattle.splitter.specs.declared.way.Way.TheVariants.{Stop, Right, Down}
 use Rattle.splitter.specs.declared.stage.Stage.{Stage}
 use Rattle.splitter.specs.declared.stage.Stage.TheVariants.{Outside, WroteX, SawClear, WroteY, Gone}
 use Rattle.splitter.specs.Law.{AtMostOneStopped, NotAllTook, IsSplit}
-use Rattle.splitter.specs.Door.{IsSplitter}
+use Rattle.splitter.specs.Invariant.{IsSplitter}
 use Rattle.splitter.specs.Stage.{has_entered, has_set, went_right}
 use Rattle.splitter.proofs.DoorKept.{law_of}
 use Rattle.raw_parts.specs.declared.splitter_view.SplitterView.{SplitterView}

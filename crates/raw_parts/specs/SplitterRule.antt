@@ -9,7 +9,7 @@ use lib.ListN.{get_elem?}
 use Rattle.atomic_table.specs.Table.{State}
 use Rattle.splitter.specs.declared.stage.Stage.{Stage}
 use Rattle.splitter.specs.Stage.{has_entered}
-use Rattle.splitter.specs.Door.{DoorIsLawful}
+use Rattle.splitter.specs.Invariant.{DoorIsLawful}
 use Rattle.raw_parts.specs.declared.splitter_view.Visit.{Visit}
 use Rattle.raw_parts.specs.declared.splitter_view.SplitterView.{SplitterView}
 use Rattle.raw_parts.specs.SplitterView.{own_word}

@@ -1,7 +1,7 @@
 //! What the rules of the two tables say, which run nothing.
 
 ghost use Rattle.std.specs.Prelude.{ℕ, List};
-ghost use Rattle.splitter.specs.Door.{IsSplitter};
+ghost use Rattle.splitter.specs.Invariant.{IsSplitter};
 ghost use Rattle.raw_parts.specs.BoardRule.{HoldsWhatIsClaimed, HasOneIdentity};
 ghost use Rattle.raw_parts.specs.SplitterRule.{IsKept};
 ghost use Rattle.raw_parts.specs.declared.splitter_view.SplitterView.{SplitterView};

@@ -15,6 +15,9 @@
 //! A `Gate` is told of each line that was read whole before it is applied, and of each reply that was written whole (`Watched`):
 //! a test holds a worker there. `OpenGate` does nothing.
 //!
+//! `serve` is a whole server by a `Plan`: it makes the hall's lock, listens on 127.0.0.1, and tells in two lines its port and how many it
+//! served.
+//!
 //! Not promised, and shown by tests: that connections are served at once, that a worker ends, what sockets carry.
 //!
 //! A caller, in a function over `L: Ledger` that is called with `Brand`:
@@ -33,13 +36,15 @@
 
 pub mod connections;
 pub mod gate;
+pub mod server;
 pub mod server_fault;
 pub mod serving;
 pub mod watched;
 pub mod workers;
 
 pub use gate::{Gate, OpenGate};
-pub use server_fault::ServerFault;
+pub use server::{Plan, serve};
+pub use server_fault::{ServeFault, ServerFault};
 pub use serving::serve_one;
 pub use watched::Watched;
 pub use workers::{Served, serve_many};

@@ -1,5 +1,6 @@
 //! Why a server did not come to its end.
 
+use std::alloc::AllocError;
 use std::error::Error;
 use std::fmt;
 
@@ -22,3 +23,18 @@ impl fmt::Display for ServerFault {
 }
 
 impl Error for ServerFault {}
+
+/// Why a server that tells what it does did not come to its end.
+#[derive(Clone, Copy, Debug, Drop, PartialEq, Eq)]
+pub enum ServeFault {
+    /// It could not serve all its connections.
+    Server(ServerFault),
+    /// What it tells was not taken.
+    Write,
+}
+
+impl From<AllocError> for ServeFault {
+    fn from(_refused: AllocError) -> ServeFault {
+        ServeFault::Server(ServerFault::Memory)
+    }
+}

@@ -1,6 +1,6 @@
 //! Workers, one for each clerk, that serve the connections of a listener.
 
-ghost use Rattle.std.specs.Prelude.{◌≡◌, ◌≢◌, IfNone, Some, map, vec_len};
+ghost use Rattle.std.specs.Prelude.{◌≡◌, ◌≢◌, IfNone, Some, vec_len};
 ghost use Rattle.locked_world.specs.Serving.{ClerkGoesOn};
 ghost use Rattle.slot_server.specs.Clerks.{ClerksGoOn};
 
@@ -9,12 +9,11 @@ use crate::gate::Gate;
 use crate::server_fault::ServerFault;
 use crate::serving::serve_one;
 use crate::watched::Watched;
-use locked_world::{Clerk, HallLock, ServingClerk};
+use locked_world::{Clerk, HallLock, LockName, ServingClerk};
 use schedule_player::Tried;
 use std::alloc::Global;
 use std::io::Read;
 use std::net::{Shutdown, TcpListener, TcpStream};
-use std::sync::ledger::Ledger;
 use std::sync::{Mutex, Wait};
 use std::thread;
 use std::thread::Threads;
@@ -22,7 +21,7 @@ use std::time::Duration;
 
 /// What was served.
 #[derive(Drop)]
-pub struct Served<L: Ledger> {
+pub struct Served<L: LockName> {
     /// How many connections were served, those that ended by a fault of their own among them.
     pub served: u64,
     /// The clerks, with all that they have kept.
@@ -54,7 +53,7 @@ fn end(stream: &TcpStream) {
 }
 
 // Serves one connection to its end. A fault of it ends it alone.
-fn serve_stream<R: Wait, L: Ledger, G: Gate<R>>(
+fn serve_stream<R: Wait, L: LockName, G: Gate<R>>(
     rt: &R,
     alloc: Global,
     stream: &TcpStream,
@@ -62,7 +61,7 @@ fn serve_stream<R: Wait, L: Ledger, G: Gate<R>>(
     gate: &G,
     connection: u64,
 )
-    ensures { ClerkGoesOn service.old service.new }
+    ensures { ClerkGoesOn L.config service.old service.new }
 {
     let mut reader = Watched::new(rt, gate, connection, Tried::new(stream));
     let mut writer = Watched::new(rt, gate, connection, Tried::new(stream));
@@ -72,7 +71,7 @@ fn serve_stream<R: Wait, L: Ledger, G: Gate<R>>(
 }
 
 // Serves connections as long as there are some.
-fn work<R: Wait, L: Ledger, G: Gate<R>>(
+fn work<R: Wait, L: LockName, G: Gate<R>>(
     rt: &R,
     alloc: Global,
     listener: &TcpListener,
@@ -81,7 +80,7 @@ fn work<R: Wait, L: Ledger, G: Gate<R>>(
     connections: &Mutex<Connections>,
     clerk: Clerk<L>,
 ) -> Clerk<L>
-    ensures { ClerkGoesOn clerk.kept.items result.kept.items }
+    ensures { ClerkGoesOn L.config clerk result }
 {
     let mut service = ServingClerk::new(lock, clerk);
     for _ in rt.forever() {
@@ -111,12 +110,12 @@ pub fn serve_many<L, R, G>(
     count: u64,
 ) -> Served<L>
 where
-    L: Ledger + Send + Sync,
+    L: LockName + Send + Sync,
     R: Threads + Wait + Sync,
     G: Gate<R> + Sync,
     ensures clerks { result.fault ≢ Some ServerFault.Memory → vec_len result.clerks ≡ vec_len clerks }
     ensures all { IfNone result.fault (result.served ≡ count) }
-    ensures kept { result.fault ≢ Some ServerFault.Memory → ClerksGoOn (map (λ c. c.kept.items) clerks.items) (map (λ c. c.kept.items) result.clerks.items) }
+    ensures kept { result.fault ≢ Some ServerFault.Memory → ClerksGoOn L.config clerks.items result.clerks.items }
 {
     let connections = Mutex::new(Connections::new(count));
     let shared = &connections;
@@ -124,7 +123,7 @@ where
         rt,
         clerks,
         &|clerk: Clerk<L>| -> Clerk<L>
-            ensures { ClerkGoesOn clerk.kept.items result.kept.items }
+            ensures { ClerkGoesOn L.config clerk result }
         { work(rt, alloc, listener, lock, gate, shared, clerk) },
     );
     let connections = connections.into_inner();

@@ -2,14 +2,15 @@
 //!
 //! `slotctl play --world splitter --m 2` reads commands from the standard input, one a line, and writes a reply to each to
 //! the standard output. `slotctl serve` answers the commands of connections over one hall. What the words of the command line ask for
-//! is done by `program` of `slot_work`, over any reader and writer, but to serve, which is done here. The status is 0 where it was done
-//! and for help, 2 where the words are refused, and 3 at a fault or for want of memory; at 2 and 3 a text on the standard error says why.
+//! is done by `program` of `slot_work`, over any reader and writer, but to serve, which is `serve` of `slot_server`. The status is 0
+//! where it was done and for help, 2 where the words are refused, and 3 at a fault or for want of memory; at 2 and 3 a text on the
+//! standard error says why.
 #![tactic(auto)]
 
-mod serving;
-
-use schedule_player::Tried;
-use slot_words::{Misuse, refused};
+use history_book::Opened;
+use schedule_player::{Fault, Tried};
+use slot_server::{Plan, ServeFault, serve};
+use slot_words::{Misuse, Serving, refused};
 use slot_work::program::{program, report};
 use slot_work::{Failure, Outcome, in_sight, may_take_long};
 use std::alloc::Global;
@@ -36,6 +37,24 @@ fn by_words(rt: &HostRuntime, alloc: Global, words: &[String]) -> Outcome {
     program(alloc, words, &mut input, &mut output, &mut rt.stderr())
 }
 
+// What is to be served.
+fn plan_of(serving: Serving) -> Plan {
+    Plan {
+        config: serving.config,
+        port: serving.port as u16,
+        workers: serving.workers,
+        count: serving.count,
+    }
+}
+
+// Why not all was served, as a failure of the program.
+fn failure_of(fault: ServeFault) -> Failure {
+    match fault {
+        ServeFault::Server(fault) => Failure::Server(fault),
+        ServeFault::Write => Failure::Fault(Fault::Write),
+    }
+}
+
 fn main(rt: HostRuntime) -> ExitCode {
     let alloc = rt.alloc();
     let mut output = Tried::new(rt.stdout());
@@ -51,9 +70,10 @@ fn main(rt: HostRuntime) -> ExitCode {
         Outcome::Ended(status) => status,
         Outcome::Serve(serving) => {
             let blank = Blank::new(1_000_001);
-            match serving::serve::<Brand, _, _>(&rt, alloc, serving, &mut output, blank) {
+            let history = Opened::new();
+            match serve::<Brand, _, _>(&rt, alloc, plan_of(serving), &mut output, blank, history) {
                 Ok(()) => 0,
-                Err(failure) => report(failure, &mut output, &mut errors),
+                Err(fault) => report(failure_of(fault), &mut output, &mut errors),
             }
         }
     };

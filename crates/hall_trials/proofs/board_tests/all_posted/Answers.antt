@@ -15,7 +15,7 @@ board_sync = board_sent.the_sync heap_row heap_ghosts heap.the_send heap.the_syn
 
 pub map_vec-requires-sync-F : goal.map_vec-requires-sync-F
 map_vec-requires-sync-F g c κs within =
-    let shared = lock_sync (param 0 g.row.L) g.L.Ledger in
-    let closure : IsSync (lts.arg-0-4 g.row.L g.row.R g.L.laws g.R.laws g.L.Ledger g.L.Ledger-dict g.R.Threads g.R.Threads-dict g.R.Wait g.R.Wait-dict κs) =
+    let shared = lock_sync (param 0 g.row.L) g.L.LockName g.L.Naming g.L.Ledger in
+    let closure : IsSync (lts.arg-0-4 g.row.L g.row.R g.L.laws g.R.laws g.L.LockName g.L.LockName-dict g.L.Ledger g.L.Ledger-dict g.L.Naming g.L.Naming-dict g.R.Threads g.R.Threads-dict g.R.Wait g.R.Wait-dict κs) =
     record { shared = λ x b o κ. ((((λ q. tt), c.type_bounds.sync-R.shared x.0.now x.0.ref_ptr.0 x.0.ref_ptr.1 _), (((λ q. tt), shared.shared x.1.now x.1.ref_ptr.0 x.1.ref_ptr.1 _), (((λ q. tt), board_sync.shared x.2.now x.2.ref_ptr.0 x.2.ref_ptr.1 _), tt))), λ q. tt) } in
     param_sync 4 _ closure

@@ -1,4 +1,10 @@
 use Rattle.hall_trials.proofs.lock_tests.a_freed_bit_through_a_clerk.Given as goal
 
-abbrev pub ghosts-pool_by_clerk : goal.ghosts-pool_by_clerk
-ghosts-pool_by_clerk g a = record { name = a.blank.name; parts = a.blank.parts }
+abbrev pub ghosts-pool_by_clerk-L-Ledger : goal.ghosts-pool_by_clerk-L-Ledger
+ghosts-pool_by_clerk-L-Ledger g a = record { name = a.opening.blank.name; parts = a.opening.blank.parts }
+
+abbrev pub ghosts-pool_by_clerk-L-Naming : goal.ghosts-pool_by_clerk-L-Naming
+ghosts-pool_by_clerk-L-Naming g a = record { book = a.opening.history.seen.book }
+
+abbrev pub ghosts-pool_by_clerk-L-LockName : goal.ghosts-pool_by_clerk-L-LockName
+ghosts-pool_by_clerk-L-LockName g a = record { config = a.opening.config }

@@ -1,4 +1,6 @@
-use Rattle.std.proofs.Common.{◌≡◌, ◌+◌, length}
+use Rattle.std.proofs.Common.{◌≡◌, ◌+◌, length, subst, ap}
+use Rattle.locked_world.specs.CallerState.{CallerState}
+use Rattle.locked_world.specs.Marks.{IsMarked}
 use Rattle.locked_world.proofs.Marking.{are_none, are_more, map_more}
 use Rattle.locked_world.proofs.closing.mark_sessions.Goals as goal
 
@@ -8,7 +10,7 @@ loop-session-init g c = are_none _ _ _
 pub loop-session-preserved : goal.loop-session-preserved
 loop-session-preserved g c =
     let x = c.session-item.result in
-    let e = c.in_ok-now.ensures in
-    let count : c.in_ok-now.now + length x.clerk.kept.items ≡ c.loop-session.now = e.1 in
-    rw (map_more (λ s. s.clerk.kept.items) c.args.sessions.now.items c.deref-session-items.result.now c.loop-session.session-index x c.deref-session-items.ensures.value c.loop-session-test.true c.session-item.is)
-    (are_more _ _ _ _ _ _ _ _ _ c.loop-session.invariant e.0 count)
+    let e : IsMarked c.args.hall.now.history c.loop-session.marks c.mark_list.new.marks x.clerk.kept × (c.in_ok-now.now + length x.clerk.kept ≡ c.loop-session.now) =
+    subst (λ (v : CallerState). IsMarked c.args.hall.now.history c.loop-session.marks c.mark_list.new.marks v.kept × (c.in_ok-now.now + length v.kept ≡ c.loop-session.now)) (ap (λ s. s.clerk) c.session.view_is) c.in_ok-now.ensures in
+    rw (map_more (λ s. s.clerk.kept) c.args.sessions.now.items c.deref-session-items.result.now c.loop-session.session-index x c.deref-session-items.ensures.value c.loop-session-test.true c.session-item.is)
+    (are_more _ _ _ _ _ _ _ _ _ c.loop-session.invariant e.0 e.1)

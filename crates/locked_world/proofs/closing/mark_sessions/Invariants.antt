@@ -3,4 +3,4 @@ use Rattle.locked_world.specs.Marks.{AreMarked}
 use Rattle.locked_world.proofs.closing.mark_sessions.Given as goal
 
 abbrev pub invariant-loop-session : goal.invariant-loop-session
-invariant-loop-session g l = AreMarked l.hall.history l.initial.marks l.marks l.left l.now (map (λ s. s.clerk.kept.items) (take l.session-index l.sessions.items))
+invariant-loop-session g l = AreMarked l.hall.history l.initial.marks l.marks l.left l.now (map (λ s. s.clerk.kept) (take l.session-index l.sessions.items))

@@ -1,4 +1,5 @@
-use Rattle.locked_world.proofs.Serves.{talk, history, kept}
+use Rattle.locked_world.proofs.Serves.{talk, history}
+use Rattle.locked_world.proofs.Keepers.{kept}
 use Rattle.locked_world.proofs.laws.law_of_serving.Goals as goal
 
 pub returns : goal.returns

@@ -11,8 +11,8 @@ use Rattle.slot_server.proofs.workers.serve_many.Goals as goal
 
 pub map_vec-back-requires-sync-F : goal.map_vec-back-requires-sync-F
 map_vec-back-requires-sync-F g c κs within =
-    let lock = lock_sync (param 0 g.row.L) g.L.Ledger in
-    let closure : IsSync (lts.arg-2-4 g.row.L g.row.R g.row.G g.L.laws g.R.laws g.G.laws g.L.Ledger g.L.Ledger-dict g.R.Threads g.R.Threads-dict g.R.Wait g.R.Wait-dict g.G.Gate g.G.Gate-dict κs) =
+    let lock = lock_sync (param 0 g.row.L) g.L.LockName g.L.Naming g.L.Ledger in
+    let closure : IsSync (lts.arg-2-4 g.row.L g.row.R g.row.G g.L.laws g.R.laws g.G.laws g.L.LockName g.L.LockName-dict g.L.Ledger g.L.Ledger-dict g.L.Naming g.L.Naming-dict g.R.Threads g.R.Threads-dict g.R.Wait g.R.Wait-dict g.G.Gate g.G.Gate-dict κs) =
     record {
       shared = λ x b o κ. (
         (
@@ -42,4 +42,4 @@ map_vec-back-requires-sync-F g c κs within =
 -- each clerk that comes back is what its worker made of it
 pub returns-in-Ok-clause-kept : goal.returns-in-Ok-clause-kept
 returns-in-Ok-clause-kept g c unlost =
-    all_go_on (λ k. k.kept.items) c.args.clerks.items c.in-Ok.clerks.items (λ i d lt. let one = (c.in-Ok.ensures.each i d lt).1 in (one.job, one.job_is, one.call.met))
+    all_go_on _ c.args.clerks.items c.in-Ok.clerks.items (λ i d lt. let one = (c.in-Ok.ensures.each i d lt).1 in (one.job, one.job_is, one.call.met))

@@ -6,5 +6,5 @@ pub loop-preserved : goal.loop-preserved
 loop-preserved g c = record {
   can = search rules;
   ends = search rules;
-  gone = goes_further _ _ _ c.loop.invariant.gone c.serve_stream.ensures;
+  gone = goes_further _ _ _ _ c.loop.invariant.gone c.serve_stream.ensures;
 }

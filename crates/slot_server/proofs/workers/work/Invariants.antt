@@ -5,5 +5,5 @@ abbrev pub invariant-loop : goal.invariant-loop
 invariant-loop g l = record {
   can : (goal.iterator-loop g).can_next l.iterator';
   ends : (goal.iterator-loop g).is_finite l.iterator';
-  gone : ClerkGoesOn l.initial.service l.service;
+  gone : ClerkGoesOn g.L.LockName.config l.initial.service l.service;
 }

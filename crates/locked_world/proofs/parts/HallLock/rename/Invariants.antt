@@ -5,5 +5,5 @@ use Rattle.locked_world.proofs.parts.HallLock.rename.Given as goal
 abbrev pub invariant-loop-turn : goal.invariant-loop-turn
 invariant-loop-turn g l = record {
   same : l.session.id ≡ l.initial.session.id;
-  stepped : IsStepped l.initial.session.id l.turn l.initial.session.clerk.kept.items l.session.clerk.kept.items;
+  stepped : IsStepped g.L.LockName.config l.initial.session.id l.turn l.initial.session.clerk l.session.clerk;
 }

@@ -1,90 +1,98 @@
-use Rattle.std.proofs.Common.{rules, ◌≡◌, ◌++◌, [], ◌∷◌, None, Some, false, true, ap, sym, ◌∙◌, length, arith, length-append}
+use Rattle.std.proofs.Common.{rules, ◌≡◌, ◌≤◌, ◌+◌, ◌++◌, [], ◌∷◌, None, false, true, ap, sym, subst, ◌∙◌, length, arith, length-append, List}
+use mathlib.Core.List.{IsPrefix}
+use Rattle.desk.specs.declared.exchange.Exchange.{Exchange}
 use Rattle.desk.specs.DeskCalls.{exchange}
 use Rattle.desk.specs.Replies.{is_refusal, with_view}
+use Rattle.locked_world.specs.CallerState.{CallerState, caller_of}
 use Rattle.locked_world.specs.Halls.{hall_refusal}
 use Rattle.locked_world.specs.HallState.{HallState}
+use Rattle.locked_world.specs.Kepts.{Fits}
 use Rattle.locked_world.specs.KeptLogs.{kept_of}
-use Rattle.locked_world.proofs.Histories.{none_of, refuses_so, lacks_so, kept_refused, room_left}
-use Rattle.locked_world.proofs.Places.{rises_more, keeps_accepted}
+use Rattle.history_book.proofs.Fronts.{prefix_length}
+use Rattle.locked_world.proofs.Histories.{none_of, kept_refused, room_left}
+use Rattle.locked_world.proofs.Places.{rises_more}
+use Rattle.locked_world.proofs.Standing.{goes_by, stays_by, taken_refused, taken_accepted, stands_seen, stands_kept}
 use Rattle.locked_world.proofs.parts.Locked.apply.Goals as goal
 
-pub returns-in-Some-clause-reply : goal.returns-in-Some-clause-reply
-returns-in-Some-clause-reply g c =
-    let h = c.args.self.now.hall in
-    let due : hall_refusal h c.args.event ≡ Some c.in-Some.refusal = sym c.in-Some.ensures in
+pub invariant_of-self-then-is_refusal : goal.invariant_of-self-then-is_refusal
+invariant_of-self-then-is_refusal g c =
+    let old = c.args.self.now in
+    let refused : is_refusal (with_view c.apply_short-reply.result c.apply_short-reply.new.view) ≡ true = search (rules, c.is_refusal.ensures c.apply_short-reply.new.view) in
+    let same : c.apply_short-reply.new.self ≡ old.hall = kept_refused old.hall c.apply_short-reply.new.self c.args.event (with_view c.apply_short-reply.result c.apply_short-reply.new.view) c.len-place.ensures.lawful c.apply_short-reply.ensures refused in
     record {
-      hall = h;
-      lawful = c.len-place.ensures.lawful;
-      long = omega (arith, c.audit.ensures.bound, c.args.clerk.now.counted, c.args.self.now.counted);
-      after = h;
-      answer = refuses_so h c.args.event c.in-Some.refusal due;
+      counted = ap (λ (h : HallState). length h.history) same ∙ old.counted;
+      clear = rw same (search rules);
+      parts = old.parts;
+      few = old.few;
+      none = old.none;
+      config = ap (λ (h : HallState). h.config) same ∙ old.config;
+      whole = old.whole ∙ sym (ap (λ (h : HallState). h.history) same);
     }
 
-pub returns-then-not-reserve-clause-reply : goal.returns-then-not-reserve-clause-reply
-returns-then-not-reserve-clause-reply g c =
+pub invariant_of-clerk-then-is_refusal : goal.invariant_of-clerk-then-is_refusal
+invariant_of-clerk-then-is_refusal g c =
+    let k = c.clerk.inside in
+    let h = c.args.self.now.hall in
+    let inv = c.clerk.invariant in
+    let longer : IsPrefix k.seen h.history = subst (λ (l : List Exchange). IsPrefix k.seen l) c.args.self.now.whole c.begins.ensures in
+    let s = stands_seen g.L.LockName.config h k.seen k.kept.items k.next c.args.self.now.config c.len-place.ensures.lawful longer inv.4 inv.3 in
+    rw (c.reserve.ensures.same, c.again.ensures, c.args.self.now.whole) (inv.0, inv.1, inv.2, s.within, s.fits, s.lawful)
+
+pub returns-then-is_refusal-clause-taken : goal.returns-then-is_refusal-clause-taken
+returns-then-is_refusal-clause-taken g c =
+    let h = c.args.self.now.hall in
+    let u = c.apply_short-reply.new.self in
+    let r = with_view c.apply_short-reply.result c.apply_short-reply.new.view in
+    let refused : is_refusal r ≡ true = search (rules, c.is_refusal.ensures c.apply_short-reply.new.view) in
+    let longer : IsPrefix c.args.clerk.now.seen h.history = subst (λ (v : CallerState). IsPrefix v.seen h.history) c.clerk.view_is (subst (λ (l : List Exchange). IsPrefix c.clerk.inside.seen l) c.args.self.now.whole c.begins.ensures) in
+    let fits = subst (λ (v : CallerState). Fits v.seen v.kept) c.clerk.view_is c.clerk.invariant.4 in
+    let stays = stays_by h c.args.event r u c.len-place.ensures.lawful c.apply_short-reply.ensures refused in
+    taken_refused g.L.LockName.config h c.args.event r u c.args.clerk.now (caller_of c.reserve.new.self.items c.again.result) c.args.self.now.config c.len-place.ensures.lawful longer fits c.apply_short-reply.ensures refused
+    (c.again.ensures ∙ c.args.self.now.whole ∙ sym stays)
+    (c.reserve.ensures.same ∙ ap (λ (v : CallerState). v.kept) c.clerk.view_is)
+
+pub tell-requires : goal.tell-requires
+tell-requires g c =
     let h = c.args.self.now.hall in
     let due : hall_refusal h c.args.event ≡ None = sym c.refusal.ensures ∙ none_of c.refusal.result c.in_default.not-Some in
-    record {
-      hall = h;
-      lawful = c.len-place.ensures.lawful;
-      long = omega (arith, c.audit.ensures.bound, c.args.clerk.now.counted, c.args.self.now.counted);
-      after = h;
-      answer = lacks_so h c.args.event due;
-    }
-
-pub invariant_of-self-then-is_refusal-clause-counted : goal.invariant_of-self-then-is_refusal-clause-counted
-invariant_of-self-then-is_refusal-clause-counted g c =
-    let refused : is_refusal (with_view c.apply_short-reply.result c.apply_short-reply.new.view) ≡ true = search (rules, c.is_refusal.ensures c.apply_short-reply.new.view) in
-    let same : c.apply_short-reply.new.self ≡ c.args.self.now.hall = kept_refused c.args.self.now.hall c.apply_short-reply.new.self c.args.event (with_view c.apply_short-reply.result c.apply_short-reply.new.view) c.len-place.ensures.lawful c.apply_short-reply.ensures refused in
-    ap (λ (h : HallState). length h.history) same ∙ c.args.self.now.counted ∙ sym c.audit.ensures.total
-
-pub invariant_of-self-then-is_refusal-clause-clear : goal.invariant_of-self-then-is_refusal-clause-clear
-invariant_of-self-then-is_refusal-clause-clear g c =
-    let refused : is_refusal (with_view c.apply_short-reply.result c.apply_short-reply.new.view) ≡ true = search (rules, c.is_refusal.ensures c.apply_short-reply.new.view) in
-    let same : c.apply_short-reply.new.self ≡ c.args.self.now.hall = kept_refused c.args.self.now.hall c.apply_short-reply.new.self c.args.event (with_view c.apply_short-reply.result c.apply_short-reply.new.view) c.len-place.ensures.lawful c.apply_short-reply.ensures refused in
-    rw same (search rules)
-
-pub returns-then-is_refusal-clause-reply : goal.returns-then-is_refusal-clause-reply
-returns-then-is_refusal-clause-reply g c = record {
-  hall = c.args.self.now.hall;
-  lawful = c.len-place.ensures.lawful;
-  long = omega (arith, c.audit.ensures.bound, c.args.clerk.now.counted, c.args.self.now.counted);
-  after = c.apply_short-reply.new.self;
-  answer = c.apply_short-reply.ensures;
-}
-
-pub overflow_add-next : goal.overflow_add-next
-overflow_add-next g c =
-    let h = c.args.self.now.hall in
-    let due : hall_refusal h c.args.event ≡ None = sym c.refusal.ensures ∙ none_of c.refusal.result c.in_default.not-Some in
-    let room = room_left h c.args.event due in
-    omega (arith, room, c.len-place.ensures.count)
+    omega (arith, room_left h c.args.event due, ap length c.args.self.now.whole)
 
 pub invariant_of-clerk-2 : goal.invariant_of-clerk-2
 invariant_of-clerk-2 g c =
-    let k = c.args.clerk.now in
+    let k = c.clerk.inside in
+    let h = c.args.self.now.hall in
+    let inv = c.clerk.invariant in
     let place = c.len-place.result in
-    let one = kept_of place (exchange c.args.event (with_view c.apply_short-reply.result c.apply_short-reply.new.view)) in
+    let at : place ≡ length h.history = c.len-place.ensures.count in
+    let r = with_view c.apply_short-reply.result c.apply_short-reply.new.view in
+    let x = exchange c.args.event r in
+    let one = kept_of place x in
+    let accepted : is_refusal r ≡ false = search (rules, c.is_refusal.ensures c.apply_short-reply.new.view) in
+    let longer : IsPrefix k.seen h.history = subst (λ (l : List Exchange). IsPrefix k.seen l) c.args.self.now.whole c.begins.ensures in
+    let s = stands_kept g.L.LockName.config h k.seen k.kept.items k.next c.args.self.now.config c.len-place.ensures.lawful longer inv.4 inv.3 c.args.event r c.apply_short-reply.new.self c.apply_short-reply.ensures accepted in
     let items : c.push_reserved.new.self.items ≡ k.kept.items ++ one ∷ [] = c.push_reserved.ensures ∙ ap (λ j. j ++ one ∷ []) c.reserve.ensures.same in
-    record {
-      one_part = search rules;
-      counted = omega (arith, ap length items, length-append k.kept.items (one ∷ []));
-      rising = rw items (rises_more 0 k.kept.items k.next one k.rising (omega arith));
-    }
+    let seen : c.again-2.result ≡ h.history ++ x ∷ [] = c.again-2.ensures ∙ c.tell.ensures ∙ ap (λ l. l ++ x ∷ []) c.args.self.now.whole in
+    let below : k.next ≤ place = omega (arith, at, inv.3, prefix_length k.seen h.history longer) in
+    rw (items, seen) (
+      search rules,
+      omega (arith, c.add.ensures.amount, inv.1, length-append k.kept.items (one ∷ [])),
+      rises_more 0 k.kept.items k.next one inv.2 below,
+      omega (arith, at, length-append h.history (x ∷ [])),
+      rw at s.fits,
+      s.lawful,
+    )
 
-pub returns-clause-reply : goal.returns-clause-reply
-returns-clause-reply g c = record {
-  hall = c.args.self.now.hall;
-  lawful = c.len-place.ensures.lawful;
-  long = omega (arith, c.audit.ensures.bound, c.args.clerk.now.counted, c.args.self.now.counted);
-  after = c.apply_short-reply.new.self;
-  answer = c.apply_short-reply.ensures;
-}
-
-pub returns-clause-kept : goal.returns-clause-kept
-returns-clause-kept g c =
-    let k = c.args.clerk.now in
-    let place = c.len-place.result in
-    let accepted : is_refusal (with_view c.apply_short-reply.result c.apply_short-reply.new.view) ≡ false = search (rules, c.is_refusal.ensures c.apply_short-reply.new.view) in
-    let items : c.push_reserved.new.self.items ≡ k.kept.items ++ kept_of place (exchange c.args.event (with_view c.apply_short-reply.result c.apply_short-reply.new.view)) ∷ [] = c.push_reserved.ensures ∙ ap (λ j. j ++ kept_of place (exchange c.args.event (with_view c.apply_short-reply.result c.apply_short-reply.new.view)) ∷ []) c.reserve.ensures.same in
-    keeps_accepted k.kept.items k.next place c.args.event (with_view c.apply_short-reply.result c.apply_short-reply.new.view) c.push_reserved.new.self.items k.rising (omega arith) items accepted
+pub returns-clause-taken : goal.returns-clause-taken
+returns-clause-taken g c =
+    let h = c.args.self.now.hall in
+    let u = c.apply_short-reply.new.self in
+    let r = with_view c.apply_short-reply.result c.apply_short-reply.new.view in
+    let x = exchange c.args.event r in
+    let accepted : is_refusal r ≡ false = search (rules, c.is_refusal.ensures c.apply_short-reply.new.view) in
+    let longer : IsPrefix c.args.clerk.now.seen h.history = subst (λ (v : CallerState). IsPrefix v.seen h.history) c.clerk.view_is (subst (λ (l : List Exchange). IsPrefix c.clerk.inside.seen l) c.args.self.now.whole c.begins.ensures) in
+    let fits = subst (λ (v : CallerState). Fits v.seen v.kept) c.clerk.view_is c.clerk.invariant.4 in
+    let seen : c.again-2.result ≡ h.history ++ x ∷ [] = c.again-2.ensures ∙ c.tell.ensures ∙ ap (λ l. l ++ x ∷ []) c.args.self.now.whole in
+    let kept : c.push_reserved.new.self.items ≡ c.args.clerk.now.kept ++ kept_of c.len-place.result x ∷ [] = c.push_reserved.ensures ∙ ap (λ j. j ++ kept_of c.len-place.result x ∷ []) (c.reserve.ensures.same ∙ ap (λ (v : CallerState). v.kept) c.clerk.view_is) in
+    taken_accepted g.L.LockName.config h c.args.event r u c.args.clerk.now (caller_of c.push_reserved.new.self.items c.again-2.result) c.args.self.now.config c.len-place.ensures.lawful longer fits c.apply_short-reply.ensures accepted
+    (seen ∙ sym (goes_by h c.args.event r u c.len-place.ensures.lawful c.apply_short-reply.ensures accepted))
+    (kept ∙ ap (λ n. c.args.clerk.now.kept ++ kept_of n x ∷ []) c.len-place.ensures.count)

@@ -1,0 +1,27 @@
+-- what a clerk comes to keep while it serves
+use Rattle.std.proofs.Common.{◌≡◌, ◌++◌, List, [], ◌∷◌, map, refl, sym, ap, ◌∙◌, append_assoc}
+use Rattle.std.proofs.lemmas.List.{append-nil}
+use Rattle.rename_core.specs.declared.config.Config.{Config}
+use Rattle.desk.specs.declared.exchange.Exchange.{Exchange}
+use Rattle.schedule_player.specs.Runs.{Runs}
+use Rattle.schedule_player.specs.Turns.{Turn, exchanges}
+use Rattle.schedule_player.specs.Turns.Turn.{Answered, Told, Ended, Misread}
+use Rattle.locked_world.specs.declared.kept.Kept.{Kept}
+use Rattle.locked_world.specs.CallerState.{CallerState}
+use Rattle.locked_world.specs.Kepts.{IsTaken, IsTold, IsSound}
+use Rattle.locked_world.specs.Serving.{ClerkServes, accepted, exchange_kept}
+use Rattle.locked_world.proofs.Serves.{accepted-one, kept_one}
+use Rattle.locked_world.proofs.Standing.{sound_after}
+
+-- a clerk keeps the accepted events of its turns
+pub kept : (c : Config) (s t : CallerState) (ts : List Turn) → IsSound c s → Runs (ClerkServes c) s ts t → map exchange_kept t.kept ≡ map exchange_kept s.kept ++ accepted (exchanges ts)
+kept c s t [] sound run = ap (λ (u : CallerState). map exchange_kept u.kept) (sym run) ∙ sym (append-nil (map exchange_kept s.kept))
+kept c s t (Answered x ∷ ts) sound run =
+    let one : IsTaken c s x.event x.reply run.0 = run.1 sound in
+    kept c run.0 t ts (sound_after c s run.0 x.event x.reply one) run.2 ∙ ap (λ (l : List Exchange). l ++ accepted (exchanges ts)) (kept_one s.kept run.0.kept x one.kept)
+    ∙ append_assoc (map exchange_kept s.kept) (accepted (x ∷ [])) (accepted (exchanges ts)) ∙ ap (λ (l : List Exchange). map exchange_kept s.kept ++ l) (sym (accepted-one x (exchanges ts)))
+kept c s t (Told n r ∷ ts) sound run =
+    let one : IsTold c s n r run.0 = run.1 sound in
+    kept c run.0 t ts (record { lawful = one.lawful; stands = one.stands }) run.2 ∙ ap (λ (l : List Kept). map exchange_kept l ++ accepted (exchanges ts)) one.same
+kept c s t (Ended ∷ ts) sound run = kept c s t ts sound run
+kept c s t (Misread bad ∷ ts) sound run = kept c s t ts sound run

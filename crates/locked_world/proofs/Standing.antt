@@ -1,0 +1,138 @@
+-- what callers kept stands in the history, which goes on
+use Rattle.std.proofs.Common.{◌≡◌, ◌≢◌, ℕ, ◌+◌, ◌<◌, ◌≤◌, inl, inr, Bool, true, false, cond, List, [], ◌∷◌, ◌++◌, All, length, Option, Some, None, slice_get, refl, sym, ap, subst, ◌∙◌, arith, length-append}
+use Rattle.std.proofs.lemmas.List.{append-nil}
+use Rattle.std.proofs.lemmas.List.Elements.{All-push, All-weaker}
+use Rattle.std.proofs.lemmas.Option.{slice_get_within}
+use mathlib.Core.List.{IsPrefix}
+use Rattle.history_book.proofs.Fronts.{prefix_self, prefix_trans, prefix_get, prefix_length}
+use Rattle.step_memory.specs.declared.refusal.Refusal.{Refusal}
+use Rattle.rename_core.specs.declared.config.Config.{Config}
+use Rattle.desk.specs.declared.event.Event.{Event}
+use Rattle.desk.specs.declared.exchange.Exchange.{Exchange}
+use Rattle.desk.specs.declared.reply.Reply.{Reply}
+use Rattle.desk.specs.DeskCalls.{exchange}
+use Rattle.desk.specs.Replies.{is_refusal}
+use Rattle.locked_world.specs.declared.kept.Kept.{Kept}
+use Rattle.locked_world.specs.CallerState.{CallerState, caller_of}
+use Rattle.locked_world.specs.Halls.{hall_of, IsLawful, hall_refusal, after_unless, HallMay}
+use Rattle.locked_world.specs.HallState.{HallState}
+use Rattle.locked_world.specs.KeptLogs.{kept_of}
+use Rattle.locked_world.specs.Kepts.{Fits, Keeps, KeepsUnless, IsTaken, IsSound}
+use Rattle.locked_world.specs.Serving.{accepted}
+use Rattle.locked_world.proofs.Serves.{Moves, moves}
+
+-- the place behind a history is above all that stands in it
+pub above_all : (history : List Exchange) (ks : List Kept) → Fits history ks → All (λ k. k.place < length history) ks
+above_all history ks fits = All-weaker (λ (k : Kept). slice_get history k.place ≡ Some k.exchange) (λ (k : Kept). k.place < length history) (λ k is. slice_get_within history k.place k.exchange is) ks fits
+
+-- what stands in a prefix stands in the whole
+pub fits_longer : (xs ys : List Exchange) (ks : List Kept) → IsPrefix xs ys → Fits xs ks → Fits ys ks
+fits_longer xs ys ks longer fits = All-weaker (λ (k : Kept). slice_get xs k.place ≡ Some k.exchange) (λ (k : Kept). slice_get ys k.place ≡ Some k.exchange) (λ k is. prefix_get xs ys k.place k.exchange longer is) ks fits
+
+-- the entry behind a list stands at its length
+stands_last : (xs : List Exchange) (x : Exchange) → slice_get (xs ++ x ∷ []) (length xs) ≡ Some x
+stands_last [] x = refl
+stands_last (y ∷ xs) x = stands_last xs x
+
+-- one entry more, and one more that is kept of it
+fits_more : (xs : List Exchange) (ks : List Kept) (x : Exchange) → Fits xs ks → Fits (xs ++ x ∷ []) (ks ++ kept_of (length xs) x ∷ [])
+fits_more xs ks x fits =
+    All-push (λ (k : Kept). slice_get (xs ++ x ∷ []) k.place ≡ Some k.exchange) ks (kept_of (length xs) x) (fits_longer xs (xs ++ x ∷ []) ks (x ∷ [], refl) fits) (stands_last xs x)
+
+config_kept : (o : Option Refusal) (h : HallState) (e : Event) → hall_of h.config (after_unless o h e).history ≡ after_unless o h e
+config_kept None h e = refl
+config_kept (Some why) h e = refl
+
+-- a hall stays of its config
+pub of_config : (h : HallState) (e : Event) (u : HallState) (r : Reply) → HallMay h e r u → hall_of h.config u.history ≡ u
+of_config h e u r (inl m) = rw m.1 (config_kept (hall_refusal h e) h e)
+of_config h e u r (inr m) = rw m.1 refl
+
+-- the history goes on by the event where it was accepted
+pub goes_by : (h : HallState) (e : Event) (r : Reply) (u : HallState) → IsLawful h → HallMay h e r u → is_refusal r ≡ false → u.history ≡ h.history ++ exchange e r ∷ []
+goes_by h e r u lawful may taken =
+    let m : Moves h e r u = moves h e lawful r u may in
+    m.history ∙ ap (λ b. h.history ++ cond b [] (exchange e r ∷ [])) taken
+
+pub stays_by : (h : HallState) (e : Event) (r : Reply) (u : HallState) → IsLawful h → HallMay h e r u → is_refusal r ≡ true → u.history ≡ h.history
+stays_by h e r u lawful may refused =
+    let m : Moves h e r u = moves h e lawful r u may in
+    m.history ∙ ap (λ b. h.history ++ cond b [] (exchange e r ∷ [])) refused ∙ append-nil h.history
+
+-- what was kept stands in the history of the hall that answered, with what is kept of the answer
+pub stands_by : (h : HallState) (e : Event) (r : Reply) (u : HallState) (ks : List Kept) → IsLawful h → Fits h.history ks → HallMay h e r u → Fits u.history (cond (is_refusal r) ks (ks ++ kept_of (length h.history) (exchange e r) ∷ []))
+stands_by h e r u ks lawful fits may =
+    elim (is_refusal r) as (λ b. is_refusal r ≡ b → Fits u.history (cond b ks (ks ++ kept_of (length h.history) (exchange e r) ∷ []))) [
+      | true ↦ λ is. rw (stays_by h e r u lawful may is) fits
+      | false ↦ λ is. rw (goes_by h e r u lawful may is) (fits_more h.history ks (exchange e r) fits)
+    ] refl
+
+keeps_by : (refused : Bool) (ks : List Kept) (place : ℕ) (e : Event) (r : Reply) → All (λ k. k.place < place) ks → KeepsUnless refused ks e r (cond refused ks (ks ++ kept_of place (exchange e r) ∷ []))
+keeps_by true ks place e r above = refl
+keeps_by false ks place e r above = record { place = place; above = above; is = refl }
+
+module _ (c : Config) (h : HallState) (e : Event) (r : Reply) (u : HallState) (s t : CallerState) where
+  -- the hall of a lawful history, of which a caller has seen a prefix, answers it
+  pub taken : h.config ≡ c → IsLawful h → IsPrefix s.seen h.history → Fits s.seen s.kept → HallMay h e r u → t.seen ≡ u.history → t.kept ≡ cond (is_refusal r) s.kept (s.kept ++ kept_of (length h.history) (exchange e r) ∷ []) → IsTaken c s e r t
+  taken of lawful longer fits may seen kept =
+      let stand : Fits h.history s.kept = fits_longer s.seen h.history s.kept longer fits in
+      let before : hall_of c h.history ≡ h = ap (λ (d : Config). hall_of d h.history) (sym of) in
+      let after : hall_of c u.history ≡ u = ap (λ (d : Config). hall_of d u.history) (sym of) ∙ of_config h e u r may in
+      record {
+        answer = record {
+          history = h.history;
+          lawful = subst IsLawful (sym before) lawful;
+          longer = longer;
+          answer = subst (λ (k : HallState). HallMay k e r (hall_of c t.seen)) (sym before) (subst (λ (k : HallState). HallMay h e r k) (sym (ap (hall_of c) seen ∙ after)) may);
+        };
+        kept = rw kept (keeps_by (is_refusal r) s.kept (length h.history) e r (above_all h.history s.kept stand));
+        stands = rw (seen, kept) (stands_by h e r u s.kept lawful stand may);
+      }
+
+  pub taken_refused : h.config ≡ c → IsLawful h → IsPrefix s.seen h.history → Fits s.seen s.kept → HallMay h e r u → is_refusal r ≡ true → t.seen ≡ u.history → t.kept ≡ s.kept → IsTaken c s e r t
+  taken_refused of lawful longer fits may refused seen kept =
+      taken of lawful longer fits may seen (kept ∙ ap (λ (b : Bool). cond b s.kept (s.kept ++ kept_of (length h.history) (exchange e r) ∷ [])) (sym refused))
+
+  pub taken_accepted : h.config ≡ c → IsLawful h → IsPrefix s.seen h.history → Fits s.seen s.kept → HallMay h e r u → is_refusal r ≡ false → t.seen ≡ u.history → t.kept ≡ s.kept ++ kept_of (length h.history) (exchange e r) ∷ [] → IsTaken c s e r t
+  taken_accepted of lawful longer fits may accepted seen kept =
+      taken of lawful longer fits may seen (kept ∙ ap (λ (b : Bool). cond b s.kept (s.kept ++ kept_of (length h.history) (exchange e r) ∷ [])) (sym accepted))
+
+-- a caller that was answered has seen a lawful history, which goes on from what it had seen
+pub sound_after : (c : Config) (s t : CallerState) (e : Event) (r : Reply) → IsTaken c s e r t → IsSound c t
+sound_after c s t e r one =
+    let m : Moves (hall_of c one.answer.history) e r (hall_of c t.seen) = moves (hall_of c one.answer.history) e one.answer.lawful r (hall_of c t.seen) one.answer.answer in
+    record { lawful = m.lawful; stands = one.stands }
+
+pub seen_after : (c : Config) (s t : CallerState) (e : Event) (r : Reply) → IsTaken c s e r t → IsPrefix s.seen t.seen
+seen_after c s t e r one =
+    let m : Moves (hall_of c one.answer.history) e r (hall_of c t.seen) = moves (hall_of c one.answer.history) e one.answer.lawful r (hall_of c t.seen) one.answer.answer in
+    prefix_trans s.seen one.answer.history t.seen one.answer.longer (accepted (exchange e r ∷ []), sym m.history)
+
+pub lawful_of : (c : Config) (h : HallState) → h.config ≡ c → IsLawful h → IsLawful (hall_of c h.history)
+lawful_of c h of lawful = subst IsLawful (ap (λ (d : Config). hall_of d h.history) of) lawful
+
+-- what a caller's type says of what it has kept and seen
+pub record Stands (c : Config) (seen : List Exchange) (ks : List Kept) (next : ℕ) : Type 0 where
+  pub within : next ≤ length seen
+  pub fits : Fits seen ks
+  pub lawful : IsLawful (hall_of c seen)
+
+module _ (c : Config) (h : HallState) (seen : List Exchange) (ks : List Kept) (next : ℕ) (of : h.config ≡ c) (lawful : IsLawful h) (longer : IsPrefix seen h.history) (fits : Fits seen ks) (within : next ≤ length seen) where
+  -- it has seen the whole history
+  pub stands_seen : Stands c h.history ks next
+  stands_seen = record {
+    within = omega (arith, within, prefix_length seen h.history longer);
+    fits = fits_longer seen h.history ks longer fits;
+    lawful = lawful_of c h of lawful;
+  }
+
+  -- and an event that was accepted, which it keeps
+  pub stands_kept : (e : Event) (r : Reply) (u : HallState) → HallMay h e r u → is_refusal r ≡ false → Stands c (h.history ++ exchange e r ∷ []) (ks ++ kept_of (length h.history) (exchange e r) ∷ []) (length h.history + 1)
+  stands_kept e r u may accepted =
+      let m : Moves h e r u = moves h e lawful r u may in
+      let of' : u.config ≡ c = sym (ap (λ (k : HallState). k.config) (of_config h e u r may)) ∙ of in
+      record {
+        within = omega (arith, length-append h.history (exchange e r ∷ []));
+        fits = fits_more h.history ks (exchange e r) (fits_longer seen h.history ks longer fits);
+        lawful = subst (λ (l : List Exchange). IsLawful (hall_of c l)) (goes_by h e r u lawful may accepted) (lawful_of c u of' m.lawful);
+      }

@@ -1,0 +1,70 @@
+//! The history of a lock's book, and what its callers have seen of it.
+//!
+//! A lock alone adds to its book, and whoever is answered under the lock has seen the history of then. So the history goes on by
+//! what is added, and begins with whatever a caller has seen. A proof knows of the book what its type says, and not that no one else
+//! adds: so each of these asks, and would wait for ever where it were otherwise, which never comes.
+
+ghost use Rattle.std.specs.Prelude.{◌≡◌, ◌++◌, ◌∷◌, ◌<◌, ◌^◌, [], length};
+ghost use mathlib.Core.List.{IsPrefix};
+ghost use Rattle.desk.specs.DeskCalls.{exchange};
+ghost use Rattle.desk.specs.Replies.{with_view};
+
+use crate::parts::LockName;
+use desk::{Event, Exchange, ShortReply};
+use history_book::{Book, Front};
+use logbook::Plain;
+use std::sync::Wait;
+use step_memory::View;
+
+/// An event with its reply, and the view beside that.
+#[derive(Drop)]
+pub(crate) struct Told<'a> {
+    pub(crate) event: Event,
+    pub(crate) reply: ShortReply,
+    pub(crate) view: &'a View,
+}
+
+/// The entry of what was told: the event with its whole reply.
+pub(crate) struct Telling;
+
+impl<'a> Plain<Told<'a>, Exchange, u64> for Telling {
+    ghost use Rattle.std.specs.Prelude.{None};
+    ghost use Rattle.desk.specs.DeskCalls.{exchange};
+    ghost use Rattle.desk.specs.Replies.{with_view};
+
+    ghost ask = { λ t. exchange t.event (with_view t.reply t.view.now) };
+
+    ghost state = { λ t. None };
+}
+
+/// Adds an event with its reply to the history.
+pub(crate) fn tell<L: LockName, R: Wait>(
+    rt: &R,
+    book: &Book<L, Exchange>,
+    front: &mut Front<L, Exchange>,
+    told: &Told<'_>,
+)
+    requires { length front.old < 2 ^ 62 }
+    ensures { front.new ≡ front.old ++ exchange told.now.event (with_view told.now.reply told.now.view.now) ∷ [] }
+{
+    if front.add::<Told<'_>, Telling>(book, told) {
+        return;
+    }
+    for _ in rt.forever() {}
+    unreachable!()
+}
+
+/// Sees that the history begins with what a caller has seen.
+pub(crate) fn begins<L: LockName, R: Wait>(
+    rt: &R,
+    front: &Front<L, Exchange>,
+    seen: &Front<L, Exchange>,
+)
+    ensures { IsPrefix seen.now front.now }
+{
+    if front.begins_with(seen) {
+        return;
+    }
+    for _ in rt.forever() {}
+    unreachable!()
+}

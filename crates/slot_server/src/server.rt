@@ -1,0 +1,123 @@
+//! A whole server: a listener, a lock over one hall, and a worker for each of its clerks.
+
+ghost use Rattle.std.specs.String.{string_bytes};
+ghost use Rattle.std.specs.Prelude.{◌≡◌, ◌++◌, codes, decimal, IfOk};
+
+use crate::gate::OpenGate;
+use crate::server_fault::{ServeFault, ServerFault};
+use crate::workers::serve_many;
+use desk::Exchange;
+use history_book::Opened;
+use locked_world::{Clerk, HallLock, LockName};
+use rename_core::Config;
+use std::alloc::{AllocError, Global};
+use std::io;
+use std::io::{ErrorKind, Write};
+use std::net::{Net, TcpListener, TcpStream};
+use std::sync::Wait;
+use std::sync::ledger::Blank;
+use std::thread::Threads;
+
+/// What is to be served, over one hall.
+#[derive(Clone, Copy, Drop)]
+pub struct Plan {
+    /// The world of the hall, in which names are given, and its sizes.
+    pub config: Config,
+    /// The port that is listened on; with 0 any that is free.
+    pub port: u16,
+    /// How many connections are served at once.
+    pub workers: u64,
+    /// How many are served.
+    pub count: u64,
+}
+
+// A line of a word and a number.
+fn line_of(alloc: Global, word: &str, number: u64) -> Result<String, AllocError>
+    ensures { IfOk result (λ line. string_bytes line ≡ word.now ++ (codes " " ++ (decimal number ++ codes "\n"))) }
+{
+    format!(in alloc; "{word} {number}\n")
+}
+
+// Writes such a line, at once.
+fn tell<W: Write>(
+    alloc: Global,
+    word: &str,
+    number: u64,
+    output: &mut W,
+) -> Result<(), ServeFault> {
+    let line = line_of(alloc, word, number)?;
+    if output.write_all(line.as_bytes()).is_err() || output.flush().is_err() {
+        return Err(ServeFault::Write);
+    }
+    Ok(())
+}
+
+// A fault of sockets.
+fn fault_of(error: &io::Error) -> ServeFault {
+    if error.kind() == ErrorKind::OutOfMemory {
+        ServeFault::Server(ServerFault::Memory)
+    } else {
+        ServeFault::Server(ServerFault::Network)
+    }
+}
+
+// A listener, and the port that it got.
+fn listening<R: Net<Listener = TcpListener, Stream = TcpStream>>(
+    rt: &R,
+    port: u16,
+) -> Result<(TcpListener, u16), ServeFault> {
+    let listener = match TcpListener::bind(rt, ("127.0.0.1", port)) {
+        Ok(listener) => listener,
+        Err(error) => return Err(fault_of(&error)),
+    };
+    match listener.local_addr() {
+        Ok(address) => Ok((listener, address.port())),
+        Err(error) => Err(fault_of(&error)),
+    }
+}
+
+// As many clerks of a lock.
+fn clerks_of<L: LockName, R: Wait>(
+    rt: &R,
+    alloc: Global,
+    lock: &HallLock<L>,
+    count: u64,
+) -> Option<Vec<Clerk<L>>> {
+    let mut clerks = Vec::new(alloc);
+    for _ in 0..count {
+        clerks.push(lock.clerk(rt, alloc).ok()?).ok()?;
+    }
+    Some(clerks)
+}
+
+/// Serves connections to 127.0.0.1 over one hall, by threads. Before the first it writes a line with the port that it listens on,
+/// behind the last one with how many it served.
+pub fn serve<L: LockName + Send + Sync, R, W: Write>(
+    rt: &R,
+    alloc: Global,
+    plan: Plan,
+    output: &mut W,
+    blank: Blank,
+    history: Opened<Exchange>,
+) -> Result<(), ServeFault>
+where
+    R: Net<Listener = TcpListener, Stream = TcpStream> + Threads + Wait + Sync,
+    requires name { blank.name ≡ L.name }
+    requires parts { (blank.parts ≡ L.parts) × (L.parts ≡ 1000001) }
+    requires book { history.seen.book ≡ L.book }
+    requires config { plan.config ≡ L.config }
+{
+    let Ok(lock) = HallLock::<L>::new(alloc, plan.config, blank, history) else {
+        return Err(ServeFault::Server(ServerFault::Memory));
+    };
+    let Some(clerks) = clerks_of(rt, alloc, &lock, plan.workers) else {
+        return Err(ServeFault::Server(ServerFault::Memory));
+    };
+    let (listener, port) = listening(rt, plan.port)?;
+    tell(alloc, "listening", u64::from(port), output)?;
+    let served = serve_many(rt, alloc, &listener, &lock, &OpenGate, clerks, plan.count);
+    if let Some(fault) = served.fault {
+        return Err(ServeFault::Server(fault));
+    }
+    tell(alloc, "served", served.served, output)
+}
