@@ -43,7 +43,9 @@
 
 #![warn(missing_docs)]
 
+use std::cell::Cell;
 use std::fmt;
+use std::marker::PhantomData;
 use std::num::NonZeroU8;
 use std::sync::{Mutex, MutexGuard, PoisonError};
 
@@ -123,6 +125,7 @@ impl SlotPool {
             pool: self,
             identity,
             number,
+            one_thread: PhantomData,
         })
     }
 
@@ -138,12 +141,20 @@ impl fmt::Debug for SlotPool {
     }
 }
 
-/// A number that is held, and given back when this is dropped, in a panic too.
+/// A number that is held, and given back when this is dropped, in a panic too. It may go to another thread, but two threads can't share
+/// one slot, so its place of an array is one thread's at a time:
+///
+/// ```compile_fail
+/// fn shares<T: Sync>() {}
+/// shares::<slot_pool::Slot<'static>>();
+/// ```
 #[derive(Debug)]
 pub struct Slot<'pool> {
     pool: &'pool SlotPool,
     identity: u64,
     number: NonZeroU8,
+    // A cell is not `Sync`, and so neither is a slot.
+    one_thread: PhantomData<Cell<()>>,
 }
 
 impl Slot<'_> {

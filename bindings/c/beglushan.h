@@ -1,0 +1,50 @@
+/* Small numbers for threads, with no lock: the proved pool over raw words as a C library.
+ *
+ * Link `libword_pool_c.a` and the kit's `liblibc_c.a`; `bindings/c/test` shows how.
+ *
+ * Each thread has a handle of its own; those that were joined share one pool. A handle holds at most one number at a time,
+ * and nobody else has that number until it is given back. What a caller owes: a handle is used by one call at a time; it is
+ * made of zero bytes before `word_pool_new`, or before it is the second handle of `word_pool_join`; and it holds a pool
+ * where any other call is given it. */
+#ifndef BEGLUSHAN_H
+#define BEGLUSHAN_H
+
+#include <stdbool.h>
+#include <stdint.h>
+
+#ifdef __cplusplus
+extern "C" {
+#endif
+
+/* Zero: no pool. */
+struct word_pool {
+    void *at;
+};
+
+/* Makes a pool of the numbers from 1 to `size`, which is from 1 to 4096. False, with nothing made, elsewhere and where
+ * memory was refused. */
+bool word_pool_new(struct word_pool *pool, uint64_t size);
+
+/* A handle of the same pool for one more thread. False, with none made, where memory was refused. */
+bool word_pool_join(struct word_pool *pool, struct word_pool *other);
+
+/* Takes the least number that a walk from 1 upward finds free, by at most two accesses for each number that it tries.
+ * 0 where it met each number held, and where this handle holds one already. */
+uint64_t word_pool_acquire(struct word_pool *pool);
+
+/* The same, but it tries the number of a hint first. */
+uint64_t word_pool_acquire_near(struct word_pool *pool, uint64_t hint);
+
+/* Gives back the number that this handle holds, and tells it. 0 where it holds none. */
+uint64_t word_pool_release(struct word_pool *pool);
+
+/* Ends this handle: its number is given back, and with the last handle the pool's memory. */
+void word_pool_free(struct word_pool *pool);
+
+/* The grid of splitters comes here. */
+
+#ifdef __cplusplus
+}
+#endif
+
+#endif

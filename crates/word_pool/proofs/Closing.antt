@@ -1,0 +1,55 @@
+-- the words of a pool at its end
+use Rattle.std.proofs.Common.{◌≡◌, ℕ, zero, suc, ◌+◌, ◌*◌, ◌<◌, ◌≤◌, sym, refl, ap, ◌∙◌, arith, List, [], ◌∷◌, ◌++◌, length, slice_index}
+use mathlib.Core.Option.{some, some-ne-none, some-injective}
+use mathlib.Core.Logic.{dite}
+use native.Mathlib.Decide.{ℕ_discrete}
+use lib.ListN.{get_elem?}
+use Rattle.atomic_table.specs.Table.{Final, Seen}
+use Rattle.atomic_table.proofs.Lists.{at_last}
+use Rattle.word_pool.specs.declared.pool_view.PoolView.{PoolView}
+use Rattle.word_pool.specs.Tally.{own, holding}
+use Rattle.word_pool.specs.PoolRule.{KeepsPoolRule}
+use Rattle.word_pool.proofs.Keeping.{at_most_one}
+use Rattle.word_pool.proofs.Tallies.{tally_has}
+
+before : (l m : List ℕ) (k : ℕ) → k < length l → get_elem? (l ++ m) k ≡ get_elem? l k
+before [] m k h = absurd (omega arith)
+before (x ∷ xs) m zero h = refl
+before (x ∷ xs) m (suc k) h = before xs m k (omega arith)
+
+-- one word more is read out, of those that `at` tells
+pub read_more : (out words : List ℕ) (at : ℕ → ℕ) (i x : ℕ) → length out ≡ i → ((k : ℕ) → k < i → get_elem? out k ≡ get_elem? words (at k)) → get_elem? words (at i) ≡ some x →
+    (k : ℕ) → k < i + 1 → get_elem? (out ++ x ∷ []) k ≡ get_elem? words (at k)
+read_more out words at i x n h e k lt = dite (ℕ_discrete k i)
+    (λ z. ap (λ (j : ℕ). get_elem? (out ++ x ∷ []) j) (z ∙ sym n) ∙ at_last out x (length out) refl ∙ sym e ∙ ap (λ (j : ℕ). get_elem? words (at j)) (sym z))
+    (λ z. before out (x ∷ []) k (omega arith) ∙ h k (omega arith))
+
+-- two lists with the same at two places
+pub same_index : (ls ms : List ℕ) (i j : ℕ) → get_elem? ls i ≡ get_elem? ms j → slice_index ls i ≡ slice_index ms j
+same_index [] [] i j e = refl
+same_index [] (b ∷ ms) i zero e = absurd (some-ne-none b (sym e))
+same_index [] (b ∷ ms) i (suc j) e = same_index [] ms i j e
+same_index (a ∷ ls) [] zero j e = absurd (some-ne-none a e)
+same_index (a ∷ ls) [] (suc i) j e = same_index ls [] i j e
+same_index (a ∷ ls) (b ∷ ms) zero zero e = some-injective a b e
+same_index (a ∷ ls) (b ∷ ms) zero (suc j) e = same_index (a ∷ ls) ms zero j e
+same_index (a ∷ ls) (b ∷ ms) (suc i) zero e = same_index ls (b ∷ ms) i zero e
+same_index (a ∷ ls) (b ∷ ms) (suc i) (suc j) e = same_index (a ∷ ls) ms (suc i) j e
+
+module _ (S : Type 0) (count seat : ℕ) (v : PoolView) (ws : List ℕ) (xs : List S) (out : List ℕ) (last : Final (Seen (KeepsPoolRule {S = S} count) seat v) ws xs)
+    (p : ℕ) (lt : p < count) (read : get_elem? out p ≡ get_elem? ws (p * 8)) where
+  is_word : slice_index out p ≡ slice_index last.0.words (p * 8)
+  is_word = same_index out ws p (p * 8) read ∙ ap (λ (l : List ℕ). slice_index l (p * 8)) (sym last.2)
+
+  -- each word is 0 or 1 at the end
+  pub bits_at_end : slice_index out p ≤ 1
+  bits_at_end = let a = at_most_one count last.0.words last.0.views last.1.0 p lt in let b = is_word in omega arith
+
+  -- and 1 where the last seat holds the place
+  pub held_at_end : 1 ≤ own (holding p) v → slice_index out p ≡ 1
+  held_at_end h =
+      let a = at_most_one count last.0.words last.0.views last.1.0 p lt in
+      let b = is_word in
+      let c = last.1.0.held p lt in
+      let d = tally_has (holding p) last.0.views seat v last.1.1 in
+      omega arith

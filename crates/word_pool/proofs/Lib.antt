@@ -1,0 +1,6 @@
+mod Tallies
+mod Keeping
+mod Closing
+mod Crowding
+mod Lining
+mod LineClosing

@@ -1,0 +1,9 @@
+use Rattle.word_pool.proofs.Crowding.{adaptive}
+use Rattle.word_pool.proofs.Lining.{stands}
+use Rattle.word_pool.proofs.laws.law_of_the_line.Goals as goal
+
+pub returns-clause-stands : goal.returns-clause-stands
+returns-clause-stands c = λ count words views place seat v kept there h. stands count words views kept place seat v there h
+
+pub returns-clause-small : goal.returns-clause-small
+returns-clause-small c = λ count words views seat call past kept there is. adaptive views kept.crowd seat call past there is

@@ -1,0 +1,46 @@
+-- what each kind of step tells the seat that makes it. Each is one access, and its call counts it.
+use Rattle.std.specs.Prelude.{◌≡◌, ℕ, List, ◌∷◌}
+use mathlib.Core.Option.{some}
+use lib.ListN.{get_elem?}
+use Rattle.atomic_table.specs.Table.{Me, Step}
+use Rattle.word_pool.specs.declared.pool_view.PoolView.{PoolView}
+use Rattle.word_pool.specs.PoolView.{at_rest, lone, call_of, coming, spent, looked, swapped, swapped_hint, going}
+use Rattle.word_pool.specs.PoolRule.{KeepsPool, word_of}
+
+-- a call comes, by a look at the first place
+abbrev pub Comes : {S : Type 0} → Step S → Me S PoolView → ℕ → Me S PoolView → Type 0
+Comes s before found after = (moment : ℕ) × (after ≡ (lone (looked found (coming moment (call_of before.0))) before.0.past, before.1))
+
+-- a call looks at its place
+abbrev pub Looks : {S : Type 0} → Step S → Me S PoolView → ℕ → Me S PoolView → Type 0
+Looks s before found after = after ≡ (lone (looked found (call_of before.0)) before.0.past, before.1)
+
+-- a call swaps 1 into the word of its place
+abbrev pub Takes : {S : Type 0} → Step S → Me S PoolView → ℕ → Me S PoolView → Type 0
+Takes s before found after = (moment : ℕ) × (after ≡ (lone (swapped moment found (call_of before.0)) before.0.past, before.1))
+
+-- a call at rest looks at the place of a hint
+abbrev pub LooksAside : {S : Type 0} → Step S → Me S PoolView → ℕ → Me S PoolView → Type 0
+LooksAside s before found after = after ≡ (lone (spent (call_of before.0)) before.0.past, before.1)
+
+-- a call at rest swaps 1 into the word of the place of a hint
+abbrev pub TakesAside : {S : Type 0} → Step S → Me S PoolView → ℕ → Me S PoolView → Type 0
+TakesAside s before found after =
+    (place : ℕ) × (s.word ≡ word_of place) × (moment : ℕ) × (after ≡ (lone (swapped_hint place moment found (call_of before.0)) before.0.past, before.1))
+
+-- a call stores 0 into the word of its place: it has ended, and the seat may begin another
+abbrev pub Frees : {S : Type 0} → Step S → Me S PoolView → ℕ → Me S PoolView → Type 0
+Frees s before found after = (moment : ℕ) × (after ≡ (lone at_rest (going moment (call_of before.0) ∷ before.0.past), before.1))
+
+-- this view is a seat's in a table that keeps the rule
+pub record IsUnderRule (v : PoolView) : Type 0 where
+  pub count : ℕ
+  pub words : List ℕ
+  pub views : List PoolView
+  pub kept : KeepsPool count words views
+  pub seat : ℕ
+  pub there : get_elem? views seat ≡ some v
+
+-- a load that changes nothing, and shows what the seat holds under the rule
+abbrev pub LooksOn : {S : Type 0} → Step S → Me S PoolView → ℕ → Me S PoolView → Type 0
+LooksOn s before found after = (after ≡ before) × IsUnderRule after.0

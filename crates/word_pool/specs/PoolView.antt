@@ -1,0 +1,114 @@
+-- what a seat of a pool knows, and how a call goes on by its accesses
+use Rattle.std.specs.Prelude.{◌≡◌, ◌≢◌, ◌≤◌, ◌==◌, ℕ, zero, suc, List, [], ◌∷◌, ◌++◌, true, false, if◌then◌else◌}
+use Rattle.word_pool.specs.declared.pool_view.Stage.{Stage}
+use Rattle.word_pool.specs.declared.pool_view.Stage.TheVariants.{AtRest, Seeking, Holding, Ended}
+use Rattle.word_pool.specs.declared.pool_view.Call.{Call}
+use Rattle.word_pool.specs.declared.pool_view.PoolView.{PoolView}
+
+-- a call that has not begun
+abbrev pub at_rest : Call
+at_rest = record { stage = AtRest; place = 0; met = []; accesses = 0; hinted = false; came = 0; took = 0; went = 0 }
+
+-- it comes to the first place, at this moment
+abbrev pub coming : ℕ → Call → Call
+coming moment c = record { stage = Seeking; place = 0; met = []; accesses = c.accesses; hinted = false; came = moment; took = 0; went = 0 }
+
+-- one access more, which changes nothing else
+abbrev pub spent : Call → Call
+spent c = record { stage = c.stage; place = c.place; met = c.met; accesses = suc c.accesses; hinted = c.hinted; came = c.came; took = c.took; went = c.went }
+
+-- an access that met its place held: it goes on to the next
+abbrev pub passing : Call → Call
+passing c = record { stage = Seeking; place = suc c.place; met = c.place ∷ c.met; accesses = suc c.accesses; hinted = c.hinted; came = c.came; took = c.took; went = c.went }
+
+-- an access that took its place, at this moment
+abbrev pub taking : ℕ → Call → Call
+taking moment c = record { stage = Holding; place = c.place; met = c.met; accesses = suc c.accesses; hinted = c.hinted; came = c.came; took = moment; went = 0 }
+
+-- an access of a call at rest that took this place, at this moment
+abbrev pub taking_hint : ℕ → ℕ → Call → Call
+taking_hint place moment c = record { stage = Holding; place = place; met = []; accesses = suc c.accesses; hinted = true; came = moment; took = moment; went = 0 }
+
+-- the access that gave its place back, at this moment
+abbrev pub going : ℕ → Call → Call
+going moment c = record { stage = Ended; place = c.place; met = c.met; accesses = suc c.accesses; hinted = c.hinted; came = c.came; took = c.took; went = moment }
+
+-- a look at its place found this
+abbrev pub looked : ℕ → Call → Call
+looked found c = if found == 0 then spent c else passing c
+
+-- a swap of 1 into its place found this
+abbrev pub swapped : ℕ → ℕ → Call → Call
+swapped moment found c = if found == 0 then taking moment c else passing c
+
+-- a swap of 1 into this place by a call at rest found this
+abbrev pub swapped_hint : ℕ → ℕ → ℕ → Call → Call
+swapped_hint place moment found c = if found == 0 then taking_hint place moment c else spent c
+
+abbrev pub view_of : List Call → List Call → PoolView
+view_of calls past = record { calls = calls; past = past }
+
+-- the view of a seat that has no call
+abbrev pub no_call : PoolView
+no_call = view_of [] []
+
+-- the view of a seat that has the calls of two
+abbrev pub united : PoolView → PoolView → PoolView
+united v w = view_of (v.calls ++ w.calls) (v.past ++ w.past)
+
+-- the view of a seat with one call
+abbrev pub lone : Call → List Call → PoolView
+lone c past = view_of (c ∷ []) past
+
+-- the view of a seat whose call has not begun
+abbrev pub resting : List Call → PoolView
+resting past = lone at_rest past
+
+-- the first of some calls, or one that has not begun
+abbrev pub first_of : List Call → Call
+first_of [] = at_rest
+first_of (c ∷ cs) = c
+
+-- the call of a seat, and those that it has ended
+abbrev pub call_of : PoolView → Call
+call_of v = first_of v.calls
+
+-- the same of the view of a badge, where it has one
+abbrev pub call_in : List PoolView → Call
+call_in [] = at_rest
+call_in (v ∷ vs) = call_of v
+
+abbrev pub past_in : List PoolView → List Call
+past_in [] = []
+past_in (v ∷ vs) = v.past
+
+-- so many places from the first on, the newest first
+abbrev pub first_places : ℕ → List ℕ
+first_places zero = []
+first_places (suc count) = count ∷ first_places count
+
+-- the view of a seat with one call, of this stage, at this place: its walk has met all places below held, and it has made at
+-- most so many accesses
+pub record IsAt (stage : Stage) (place most : ℕ) (v : PoolView) : Type 0 where
+  pub view_is : v ≡ lone (call_of v) v.past
+  pub stage_is : (call_of v).stage ≡ stage
+  pub place_is : (call_of v).place ≡ place
+  pub met_are : (call_of v).met ≡ first_places place
+  pub walked : (call_of v).hinted ≡ false
+  pub few : (call_of v).accesses ≤ most
+
+abbrev pub IsSeeking : ℕ → ℕ → PoolView → Type 0
+IsSeeking = IsAt Seeking
+
+abbrev pub IsHolding : ℕ → ℕ → PoolView → Type 0
+IsHolding = IsAt Holding
+
+-- the view of a seat with one call, which has not begun, and has made at most so many accesses
+pub record IsResting (most : ℕ) (v : PoolView) : Type 0 where
+  pub view_is : v ≡ lone (call_of v) v.past
+  pub stage_is : (call_of v).stage ≡ AtRest
+  pub few : (call_of v).accesses ≤ most
+
+-- a seat's call has looked at this place, and found this: where it was held it stands at the next
+abbrev pub HasLooked : ℕ → ℕ → ℕ → PoolView → Type 0
+HasLooked found place most v = (found ≡ 0 → IsSeeking place most v) × (found ≢ 0 → IsSeeking (suc place) most v)

@@ -1,0 +1,84 @@
+//! What a call of a pool gives: a number that is held, word that all were held, and a receipt for a number given back.
+
+ghost use Rattle.std.specs.Prelude.{◌≡◌, ◌≤◌, ◌<◌, suc, [], ◌∷◌};
+ghost use Rattle.word_pool.specs.PoolRule.{word_of};
+ghost use Rattle.word_pool.specs.PoolView.{call_of};
+ghost use Rattle.word_pool.specs.Pools.{IsHeldAt, call_id};
+
+use crate::pool_view::PoolView;
+use atomic_table::{Badge, Seat};
+use std::marker::Model;
+
+/// A number of a pool that nobody else holds. It has no bytes but the number. Where it is dropped the number stays held for
+/// good: give it to `release`.
+#[derive(Drop)]
+pub struct Held {
+    pub(crate) place: u64,
+    pub(crate) badge: Badge<PoolView>,
+}
+
+impl Model for Held {
+    ghost use Rattle.std.specs.Prelude.{◌≡◌, ◌<◌, suc};
+    ghost use Rattle.word_pool.specs.PoolRule.{word_of};
+    ghost use Rattle.word_pool.specs.PoolView.{call_in};
+    ghost use Rattle.word_pool.specs.Pools.{CallId, IsHeldAt, call_id};
+
+    ghost Value = { CallId };
+
+    ghost view = { λ h. call_id h.badge.table_id (suc h.place) (call_in h.badge.views) };
+
+    ghost invariant = { λ h. IsHeldAt h.place h.badge.views × (h.place < 4096) × (word_of h.place < h.badge.table_id.words) };
+}
+
+impl Held {
+    /// The number of a seat whose call holds this place.
+    pub(crate) fn of(seat: Seat<u8, PoolView>, place: u64) -> Held
+        requires held { IsHeldAt place (seat.me.0 ∷ []) × (seat.me.1 ≡ []) }
+        requires range { (place < 4096) × (word_of place < seat.table_id.words) }
+        ensures { result ≡ call_id seat.table_id (suc place) (call_of seat.me.0) }
+    {
+        Held {
+            place,
+            badge: seat.into_badge(),
+        }
+    }
+
+    /// The number, from 1.
+    pub fn number(&self) -> u64
+        ensures number { result ≡ self.now.number }
+        ensures range { (1 ≤ result) × (result ≤ 4096) }
+    {
+        self.place + 1
+    }
+}
+
+/// That a call met each number of a pool held, one after another. It has no bytes.
+#[derive(Drop)]
+pub struct AllHeld {
+    pub(crate) badge: Badge<PoolView>,
+}
+
+impl Model for AllHeld {
+    ghost use Rattle.word_pool.specs.PoolView.{call_in};
+    ghost use Rattle.word_pool.specs.Pools.{CallId, call_id};
+
+    ghost Value = { CallId };
+
+    ghost view = { λ a. call_id a.badge.table_id 0 (call_in a.badge.views) };
+}
+
+/// That a number was given back. It has no bytes.
+#[derive(Drop)]
+pub struct Released {
+    pub(crate) badge: Badge<PoolView>,
+}
+
+impl Model for Released {
+    ghost use Rattle.std.specs.Prelude.{suc};
+    ghost use Rattle.word_pool.specs.PoolView.{first_of, past_in};
+    ghost use Rattle.word_pool.specs.Pools.{CallId, call_id};
+
+    ghost Value = { CallId };
+
+    ghost view = { λ r. call_id r.badge.table_id (suc (first_of (past_in r.badge.views)).place) (first_of (past_in r.badge.views)) };
+}

@@ -1,0 +1,33 @@
+//! The rule of a line's table, and the kinds of step that only a line has.
+
+ghost use Rattle.std.specs.Prelude.{[], take, drop};
+ghost use Rattle.word_pool.specs.LineRule.{KeepsLineRule, NeverComes, undealt};
+ghost use Rattle.word_pool.specs.PoolView.{view_of};
+
+use crate::pool_view::PoolView;
+use atomic_table::{Play, Split, TableRule};
+
+/// The rule of a line of so many numbers and tickets.
+pub struct Lining;
+
+impl<S> TableRule<S, PoolView, u64> for Lining {
+    ghost holds = { KeepsLineRule };
+
+    ghost first = { λ count. view_of (undealt count) [] };
+}
+
+/// No seat makes this step.
+pub struct Never;
+
+impl<S> Play<S, PoolView> for Never {
+    ghost then = { NeverComes };
+}
+
+/// The first call goes to a new seat.
+pub struct Deal;
+
+impl Split<PoolView> for Deal {
+    ghost left = { λ v. view_of (drop 1 v.calls) v.past };
+
+    ghost right = { λ v. view_of (take 1 v.calls) [] };
+}

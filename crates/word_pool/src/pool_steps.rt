@@ -1,0 +1,85 @@
+//! The rule of a pool's table, and the kinds of step that keep it.
+
+ghost use Rattle.std.specs.Prelude.{take, drop, []};
+ghost use Rattle.word_pool.specs.PoolRule.{KeepsPoolRule};
+ghost use Rattle.word_pool.specs.PoolSteps.{Comes, Looks, Takes, LooksAside, TakesAside, Frees, LooksOn};
+ghost use Rattle.word_pool.specs.PoolView.{resting, view_of, no_call, united};
+
+use crate::pool_view::PoolView;
+use atomic_table::{Join, Play, Split, TableRule};
+
+/// The rule of a pool of so many numbers.
+pub struct Pooling;
+
+impl<S> TableRule<S, PoolView, u64> for Pooling {
+    ghost holds = { KeepsPoolRule };
+
+    ghost first = { λ count. resting [] };
+}
+
+/// A call comes, and looks at the first place.
+pub struct Come;
+
+impl<S> Play<S, PoolView> for Come {
+    ghost then = { Comes };
+}
+
+/// A call looks at its place.
+pub struct Look;
+
+impl<S> Play<S, PoolView> for Look {
+    ghost then = { Looks };
+}
+
+/// A call swaps 1 into the word of its place, and holds it where it was clear.
+pub struct Take;
+
+impl<S> Play<S, PoolView> for Take {
+    ghost then = { Takes };
+}
+
+/// A call at rest looks at the place of a hint.
+pub struct LookAside;
+
+impl<S> Play<S, PoolView> for LookAside {
+    ghost then = { LooksAside };
+}
+
+/// A call at rest swaps 1 into the word of the place of a hint, and holds it where it was clear.
+pub struct TakeAside;
+
+impl<S> Play<S, PoolView> for TakeAside {
+    ghost then = { TakesAside };
+}
+
+/// The holder clears its word.
+pub struct Free;
+
+impl<S> Play<S, PoolView> for Free {
+    ghost then = { Frees };
+}
+
+/// A load that changes nothing, and shows that what the seat holds stands under the rule.
+pub struct LookOn;
+
+impl<S> Play<S, PoolView> for LookOn {
+    ghost then = { LooksOn };
+}
+
+/// Two seats become one, which has the calls of both. The other is spent.
+pub struct Unite;
+
+impl Join<PoolView> for Unite {
+    ghost both = { united };
+
+    ghost spent = { no_call };
+}
+
+/// The first call stays, with what has ended; the others go to a new seat.
+pub struct Sever;
+
+impl Split<PoolView> for Sever {
+    ghost left = { λ v. view_of (take 1 v.calls) v.past };
+
+    ghost right = { λ v. view_of (drop 1 v.calls) [] };
+}

@@ -1,0 +1,39 @@
+//! What a seat of a pool knows. No value of these types is made: they exist in proofs alone.
+
+use std::collections::LinkedList;
+
+/// How far a call has come.
+pub enum Stage {
+    /// It competes for no number: it has not begun, or has only tried a hint.
+    AtRest,
+    /// It walks from number 1 upward.
+    Seeking,
+    /// It has its number.
+    Holding,
+    /// Its number was given back.
+    Ended,
+}
+
+/// One stay in the pool: from the first access that seeks a number to the one that gives it back.
+pub struct Call {
+    pub stage: Stage,
+    /// The place that it tries next, or that it holds: the number less one.
+    pub place: u64,
+    /// The places that its walk met held, the newest first.
+    pub met: LinkedList<u64>,
+    /// How many accesses it has made.
+    pub accesses: u64,
+    /// Whether it got its number by a hint, past the walk.
+    pub hinted: bool,
+    /// After how many comings and goings of calls it came, took its number, and went.
+    pub came: u64,
+    pub took: u64,
+    pub went: u64,
+}
+
+/// The calls that are this seat's to make: none, one, two while two holders meet, or more where tickets are dealt out. And
+/// the calls that have ended.
+pub struct PoolView {
+    pub calls: LinkedList<Call>,
+    pub past: LinkedList<Call>,
+}

@@ -1,0 +1,131 @@
+//! A pool of numbers over raw words as a static library, for threads that are not Rattle's, with no lock.
+//!
+//! Each thread has a handle of its own. The first is made by `word_pool_new`, a further one by `word_pool_join` of another;
+//! all share one pool. A handle holds at most one number at a time. A thread that takes a number from 1 to the pool's size
+//! may use slot `number` of an array as long as the pool, until it gives the number back; nobody else holds it meanwhile.
+//!
+//! What a caller has to see to, since nothing checks it: a handle is used by one call at a time, is given to
+//! `word_pool_new`, or as the second to `word_pool_join`, only while it holds no pool, and to the other calls only while it
+//! holds one; a handle of zero bytes holds none. Nothing is passed for a parameter of type `Global`, which takes no bytes.
+#![tactic(auto)]
+
+ghost use Rattle.std.specs.Prelude.{◌≡◌, ◌≢◌, ◌≤◌, IsSome, IsSomeAnd, None, Some, true, false};
+ghost use Rattle.std.specs.Arc.{arc_value};
+ghost use Rattle.word_pool_c.specs.declared.member.Member.{Member};
+
+pub mod handle;
+pub mod member;
+pub mod parts;
+
+pub use handle::Handle;
+use member::Member;
+use std::alloc::Global;
+use std::mem;
+use std::sync::Arc;
+use word_pool::WordPool;
+
+fn open_pool(alloc: Global, size: u64) -> Option<Box<Member, Global>>
+    ensures size { IsSome result → (1 ≤ size) × (size ≤ 4096) }
+{
+    let pool = WordPool::new(alloc, size).ok()?;
+    let pool = Arc::new(alloc, pool).ok()?;
+    Box::new(alloc, Member { pool, held: None }).ok()
+}
+
+/// Makes a pool of the numbers from 1 to `size`, which is from 1 to 4096, at a handle that holds none. False, with nothing
+/// made, where the size is outside that range or memory was refused.
+#[unsafe(no_mangle)]
+pub extern "C" fn word_pool_new(alloc: Global, handle: &mut Handle, size: u64) -> bool
+    requires empty { handle.old.pool ≡ None }
+    ensures made { result ≡ true → IsSome handle.new.pool }
+    ensures range { result ≡ true → (1 ≤ size) × (size ≤ 4096) }
+    ensures none { result ≡ false → handle.new.pool ≡ None }
+{
+    match open_pool(alloc, size) {
+        Some(whole) => {
+            *handle = Handle::of(whole);
+            true
+        }
+        None => false,
+    }
+}
+
+/// A handle for one more thread. False, with none made, where memory was refused.
+#[unsafe(no_mangle)]
+pub extern "C" fn word_pool_join(alloc: Global, handle: &mut Handle, other: &mut Handle) -> bool
+    ghost pool: { Member }
+    requires held { handle.old.pool ≡ Some pool }
+    requires empty { other.old.pool ≡ None }
+    ensures held { handle.new.pool ≡ Some pool }
+    ensures joined { result ≡ true → IsSomeAnd other.new.pool (λ m. arc_value m.pool ≡ arc_value pool.pool) }
+    ensures none { result ≡ false → other.new.pool ≡ None }
+{
+    let whole = mem::replace(handle, Handle::blank(alloc)).into_box();
+    let theirs = Arc::try_clone(&whole.pool);
+    *handle = Handle::of(whole);
+    let Ok(pool) = theirs else {
+        return false;
+    };
+    match Box::new(alloc, Member { pool, held: None }) {
+        Ok(whole) => {
+            *other = Handle::of(whole);
+            true
+        }
+        Err(_) => false,
+    }
+}
+
+/// Takes the least number that a walk from 1 upward finds free: at most two accesses for each number that it tries. 0 where
+/// it met each number held, and where the handle holds one already.
+#[unsafe(no_mangle)]
+pub extern "C" fn word_pool_acquire(alloc: Global, handle: &mut Handle) -> u64
+    ghost pool: { Member }
+    requires held { handle.old.pool ≡ Some pool }
+    ensures number { result ≢ 0 → IsSomeAnd handle.new.pool (λ m. IsSomeAnd m.held (λ h. h.number ≡ result) × (result ≤ (arc_value m.pool).numbers)) }
+    ensures kept { result ≡ 0 → IsSomeAnd handle.new.pool (λ m. m.held ≡ pool.held) }
+{
+    let mut whole = mem::replace(handle, Handle::blank(alloc)).into_box();
+    let number = whole.acquire(1);
+    *handle = Handle::of(whole);
+    number
+}
+
+/// The same, but it tries the number of a hint first.
+#[unsafe(no_mangle)]
+pub extern "C" fn word_pool_acquire_near(alloc: Global, handle: &mut Handle, hint: u64) -> u64
+    ghost pool: { Member }
+    requires held { handle.old.pool ≡ Some pool }
+    ensures number { result ≢ 0 → IsSomeAnd handle.new.pool (λ m. IsSomeAnd m.held (λ h. h.number ≡ result) × (result ≤ (arc_value m.pool).numbers)) }
+    ensures kept { result ≡ 0 → IsSomeAnd handle.new.pool (λ m. m.held ≡ pool.held) }
+{
+    let mut whole = mem::replace(handle, Handle::blank(alloc)).into_box();
+    let number = whole.acquire(hint);
+    *handle = Handle::of(whole);
+    number
+}
+
+/// Gives back the number that the handle holds, by one access, and tells it. 0 where it holds none.
+#[unsafe(no_mangle)]
+pub extern "C" fn word_pool_release(alloc: Global, handle: &mut Handle) -> u64
+    ghost pool: { Member }
+    requires held { handle.old.pool ≡ Some pool }
+    ensures none { IsSomeAnd handle.new.pool (λ m. m.held ≡ None) }
+    ensures number { result ≢ 0 → IsSomeAnd pool.held (λ h. h.number ≡ result) }
+{
+    let mut whole = mem::replace(handle, Handle::blank(alloc)).into_box();
+    let number = whole.release();
+    *handle = Handle::of(whole);
+    number
+}
+
+/// Ends a handle: its number is given back, and with the last handle the pool's memory.
+#[unsafe(no_mangle)]
+pub extern "C" fn word_pool_free(alloc: Global, handle: &mut Handle)
+    ghost pool: { Member }
+    requires held { handle.old.pool ≡ Some pool }
+    ensures none { handle.new.pool ≡ None }
+{
+    let mut whole = mem::replace(handle, Handle::blank(alloc)).into_box();
+    whole.release();
+    drop(whole);
+}

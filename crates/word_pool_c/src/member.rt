@@ -1,0 +1,54 @@
+//! One thread's part in a shared pool.
+
+ghost use Rattle.std.specs.Prelude.{◌≡◌, ◌≢◌, ◌≤◌, IfSome, IsSomeAnd, None};
+ghost use Rattle.std.specs.Arc.{arc_value};
+ghost use Rattle.std.proofs.Props.{props};
+
+use std::alloc::Global;
+use std::sync::Arc;
+use word_pool::{Held, WordPool};
+
+/// The pool, which all members share, and what this one holds.
+#[derive(Drop)]
+pub struct Member {
+    pub(crate) pool: Arc<WordPool<Global>, Global>,
+    pub(crate) held: Option<Held>,
+    ghost ours: { IfSome held (λ h. h.pool ≡ (arc_value pool).table) } by { Prim.hlevel props },
+}
+
+impl Member {
+    /// Takes the number of the hint where it is free, else the least that a walk from 1 finds free, and holds it. 0 where
+    /// the walk met each number held, and where one is held already.
+    pub fn acquire(&mut self, hint: u64) -> u64
+        ensures held { result ≢ 0 → IsSomeAnd self.new.held (λ h. h.number ≡ result) }
+        ensures range { result ≢ 0 → result ≤ (arc_value self.new.pool).numbers }
+        ensures kept { result ≡ 0 → self.new.held ≡ self.old.held }
+    {
+        if self.held.is_some() {
+            return 0;
+        }
+        match self.pool.acquire_near(hint) {
+            Ok(held) => {
+                let number = held.number();
+                self.held = Some(held);
+                number
+            }
+            Err(_) => 0,
+        }
+    }
+
+    /// Gives back the number that is held, and tells it. 0 where none is.
+    pub fn release(&mut self) -> u64
+        ensures none { self.new.held ≡ None }
+        ensures number { result ≢ 0 → IsSomeAnd self.old.held (λ h. h.number ≡ result) }
+    {
+        match self.held.take() {
+            Some(held) => {
+                let number = held.number();
+                self.pool.release(held);
+                number
+            }
+            None => 0,
+        }
+    }
+}

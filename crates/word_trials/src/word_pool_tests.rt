@@ -1,0 +1,126 @@
+//! Stays in a pool of words, one after another and by threads at once.
+
+ghost use Rattle.std.specs.Prelude.{◌≡◌};
+
+use std::alloc::Global;
+use std::sync::atomic::AtomicU64;
+use std::sync::atomic::Ordering::SeqCst;
+use std::test::Fail;
+use std::thread::join;
+use step_memory::Refusal;
+use word_pool::WordPool;
+
+#[test]
+fn none_and_too_many_are_refused(rt: HostRuntime) -> Result<(), Fail> {
+    for numbers in [0, 4097, u64::MAX] {
+        let refused = WordPool::new(rt.alloc(), numbers).err();
+        assert_eq!(rt; refused, Some(Refusal::OutOfRange));
+    }
+    Ok(())
+}
+
+#[test]
+fn each_number_is_given_in_turn(rt: HostRuntime) -> Result<(), Fail> {
+    for numbers in [1, 2, 63, 64, 65, 4096u64] {
+        let pool = WordPool::new(rt.alloc(), numbers)?;
+        assert_eq!(rt; pool.numbers(), numbers);
+        for due in 1..=numbers {
+            let got = pool.acquire().map(|held| held.number()).ok();
+            assert_eq!(rt; got, Some(due));
+        }
+        assert!(rt; pool.acquire().is_err(), "one number too many");
+        let words = pool.close(rt.alloc(), Vec::new(rt.alloc()))?;
+        assert_eq!(rt; words.len(), numbers as usize);
+        assert!(rt; words.iter().all(|word| *word == 1), "all are out");
+    }
+    Ok(())
+}
+
+#[test]
+fn the_least_free_is_given(rt: HostRuntime) -> Result<(), Fail> {
+    let pool = WordPool::new(rt.alloc(), 3)?;
+    let (Ok(mut one), Ok(two), Ok(mut three)) = (pool.acquire(), pool.acquire(), pool.acquire())
+    else {
+        panic!(rt; "three are free");
+    };
+    pool.meet(&mut one, &mut three);
+    pool.release(two);
+    let Ok(again) = pool.acquire() else {
+        panic!(rt; "2 is free");
+    };
+    assert_eq!(rt; (one.number(), again.number(), three.number()), (1, 2, 3));
+    pool.release(one);
+    pool.release(again);
+    let mut out = Vec::new(rt.alloc());
+    out.push(three)?;
+    let words = pool.close(rt.alloc(), out)?;
+    assert!(rt; words.as_slice() == [0, 0, 1].as_slice(), "3 is out");
+    Ok(())
+}
+
+#[test]
+fn a_hint_is_tried_first(rt: HostRuntime) -> Result<(), Fail> {
+    let pool = WordPool::new(rt.alloc(), 4)?;
+    for (hint, due) in [(3, 3), (3, 1), (0, 2), (5, 4)] {
+        let got = pool.acquire_near(hint).map(|held| held.number()).ok();
+        assert_eq!(rt; got, Some(due));
+    }
+    assert!(rt; pool.acquire_near(2).is_err(), "all are held");
+    Ok(())
+}
+
+/// How often a stay of many found its number in another's hands, or none.
+fn clashes(pool: &WordPool<Global>, marks: &[AtomicU64], near: bool) -> u64 {
+    let mut clashes = 0u64;
+    let mut hint = 0;
+    for _ in 0..20_000 {
+        let Ok(held) = pool.acquire_near(if near { hint } else { 1 }) else {
+            clashes = clashes.saturating_add(1);
+            continue;
+        };
+        hint = held.number();
+        if let Some(mark) = marks.get(hint as usize) {
+            if mark.swap(1, SeqCst) != 0 {
+                clashes = clashes.saturating_add(1);
+            }
+            mark.store(0, SeqCst);
+        }
+        pool.release(held);
+    }
+    clashes
+}
+
+#[test]
+fn four_threads_have_distinct_numbers(rt: HostRuntime) -> Result<(), Fail> {
+    for numbers in [4, 5, 64] {
+        for near in [false, true] {
+            let pool = WordPool::new(rt.alloc(), numbers)?;
+            let mut marks = Vec::new(rt.alloc());
+            for _ in 0..=numbers {
+                marks.push(AtomicU64::new(0))?;
+            }
+            let (shared, seen) = (&pool, marks.as_slice());
+            let ((a, b), (c, d)) = join(
+                &rt,
+                || {
+                    join(
+                        &rt,
+                        || clashes(shared, seen, near),
+                        || clashes(shared, seen, near),
+                    )
+                },
+                || {
+                    join(
+                        &rt,
+                        || clashes(shared, seen, near),
+                        || clashes(shared, seen, near),
+                    )
+                },
+            );
+            assert_eq!(rt; [a, b, c, d], [0, 0, 0, 0]);
+            let words = pool.close(rt.alloc(), Vec::new(rt.alloc()))?;
+            assert!(rt; words.iter().all(|word| *word == 0), "a word is still set");
+        }
+    }
+    Ok(())
+}
