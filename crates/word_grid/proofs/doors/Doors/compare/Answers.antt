@@ -1,0 +1,34 @@
+use Rattle.std.proofs.Common.{arith, ap, sym, refl, ◌≡◌, ◌∷◌, ◌++◌, [], ◌∙◌}
+use mathlib.Core.Option.{none}
+use Rattle.atomic_table.specs.Table.{step}
+use Rattle.splitter_grid.proofs.Numbers.{number_below}
+use Rattle.word_grid.specs.GridView.{view_of}
+use Rattle.word_grid.specs.Seats.{GridId}
+use Rattle.word_grid.proofs.Claiming.{may_learn, may_forget}
+use Rattle.word_grid.proofs.Dealing.{may_look}
+use Rattle.word_grid.proofs.doors.Doors.compare.Goals as goal
+
+pub join_seat-requires : goal.join_seat-requires
+join_seat-requires g c =
+    let words = c.self.invariant.3 in
+    let first = number_below 0 0 c.self.inside.most (omega arith) (omega (arith, c.self.invariant.0)) in
+    let table = ap (λ (w : GridId). w.table) (sym c.self.view_is) in
+    (c.requires.ours.1 ∙ table, c.requires.ours.0 ∙ table, rw c.requires.left.1 refl, omega arith, rw (c.requires.left.1, c.requires.right.1) (may_learn _ _ _ _ _ _))
+
+pub load-requires : goal.load-requires
+load-requires g c =
+    let words = c.self.invariant.3 in
+    let first = number_below 0 0 c.self.inside.most (omega arith) (omega (arith, c.self.invariant.0)) in
+    let table = ap (λ (w : GridId). w.table) (sym c.self.view_is) in
+    let united : c.join_seat.new.seat.me ≡ (view_of c.args.self.now.most [] (c.requires.left.0 ∷ c.requires.right.0 ∷ []), []) =
+    c.join_seat.ensures.2 ∙ (λ i. (view_of (c.requires.right.1 i).0.most (c.requires.right.1 i).0.walks ((c.requires.left.1 i).0.endings ++ (c.requires.right.1 i).0.endings), (c.requires.right.1 i).1)) in
+    (c.join_seat.ensures.0 ∙ c.requires.ours.1 ∙ table, omega arith, rw united (may_look _ _ (view_of c.args.self.now.most [] (c.requires.left.0 ∷ c.requires.right.0 ∷ [])) _ _ (step 0 0 0 0 none) (λ s b w x. x.endings.0.seats_are) tt))
+
+pub split_seat-left-requires : goal.split_seat-left-requires
+split_seat-left-requires g c =
+    let words = c.self.invariant.3 in
+    let first = number_below 0 0 c.self.inside.most (omega arith) (omega (arith, c.self.invariant.0)) in
+    let table = ap (λ (w : GridId). w.table) (sym c.self.view_is) in
+    let united : c.join_seat.new.seat.me ≡ (view_of c.args.self.now.most [] (c.requires.left.0 ∷ c.requires.right.0 ∷ []), []) =
+    c.join_seat.ensures.2 ∙ (λ i. (view_of (c.requires.right.1 i).0.most (c.requires.right.1 i).0.walks ((c.requires.left.1 i).0.endings ++ (c.requires.right.1 i).0.endings), (c.requires.right.1 i).1)) in
+    (c.load.ensures.0 ∙ c.join_seat.ensures.0 ∙ c.requires.ours.1 ∙ table, omega arith, rw (c.load.ensures.2.0, united) (may_forget _ _ _ _ _))

@@ -1,0 +1,5 @@
+pub mod GridView
+pub mod GridRule
+pub mod GridSteps
+pub mod Seats
+pub mod Law
