@@ -1,0 +1,19 @@
+#![doc = include_str!("../README.md")]
+#![deny(missing_docs, unsafe_op_in_unsafe_fn)]
+
+mod error;
+mod member;
+mod padded;
+mod per_thread;
+mod pool;
+mod shared_slots;
+mod slot;
+mod slots;
+mod waiting;
+
+pub use error::{Error, Full};
+pub use per_thread::PerThread;
+pub use pool::{Pool, MOST_NUMBERS};
+pub use shared_slots::SharedSlots;
+pub use slot::{OwnedSlot, Slot, SlotOf};
+pub use slots::Slots;

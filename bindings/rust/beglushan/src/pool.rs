@@ -1,0 +1,179 @@
+//! A pool of numbers that threads share.
+
+use crate::error::Error;
+use crate::member::Member;
+use crate::padded::Padded;
+use crate::slot::{OwnedSlot, Slot, SlotOf};
+use crate::waiting::Waiting;
+use std::cell::RefCell;
+use std::fmt;
+use std::num::NonZeroUsize;
+use std::ops::Deref;
+use std::sync::atomic::{AtomicBool, AtomicU64, Ordering::Relaxed};
+use std::sync::{Arc, Mutex, PoisonError};
+use std::time::Duration;
+
+/// The most numbers of a pool.
+pub const MOST_NUMBERS: usize = 4096;
+
+/// How many members a thread keeps for its next calls, of all pools together.
+const MOST_SPARE: usize = 8;
+
+/// Tells pools apart. No key is used twice.
+static NEXT_KEY: AtomicU64 = AtomicU64::new(1);
+
+thread_local! {
+    /// Members of pools that this thread used, each with the key of its pool.
+    static SPARE: RefCell<Vec<(u64, Member)>> = const { RefCell::new(Vec::new()) };
+}
+
+/// Numbers from 1 to the pool's size, each held by one at a time, which any threads share with no lock.
+///
+/// A call walks over at most `size` words and never waits for another thread, but for [`acquire_timeout`](Pool::acquire_timeout).
+/// A thread's first call of a pool, and a call while it holds a number of the pool already, makes a *member*: that takes a
+/// little memory and, for that moment, a mutex that only such calls take. Later calls use the thread's member again.
+pub struct Pool {
+    first: Mutex<Member>,
+    held: Box<[Padded<AtomicBool>]>,
+    key: u64,
+    waiting: Waiting,
+}
+
+impl Pool {
+    /// A pool of `size` numbers, from 1 to [`MOST_NUMBERS`], of which none is held.
+    ///
+    /// # Errors
+    /// [`Error::Size`] outside that range, [`Error::NoMemory`] where the library was refused memory.
+    pub fn new(size: usize) -> Result<Pool, Error> {
+        if size == 0 || MOST_NUMBERS < size {
+            return Err(Error::Size(size));
+        }
+        let first = Member::first(size as u64).ok_or(Error::NoMemory)?;
+        Ok(Pool {
+            first: Mutex::new(first),
+            held: (0..size).map(|_| Padded(AtomicBool::new(false))).collect(),
+            key: NEXT_KEY.fetch_add(1, Relaxed),
+            waiting: Waiting::default(),
+        })
+    }
+
+    /// How many numbers there are.
+    #[must_use]
+    pub fn size(&self) -> usize {
+        self.held.len()
+    }
+
+    /// How many numbers are held. While others take and give back it is a number that was so for some of them at some time;
+    /// it looks at each.
+    #[must_use]
+    pub fn len(&self) -> usize {
+        self.held.iter().filter(|held| held.0.load(Relaxed)).count()
+    }
+
+    /// Whether no number is held.
+    #[must_use]
+    pub fn is_empty(&self) -> bool {
+        self.len() == 0
+    }
+
+    /// The least number that a walk from 1 upward finds free, until the slot is dropped. None where the walk met each number
+    /// held, one after another, or where the library was refused memory for a member. The walk does not turn back: where others
+    /// take and give back numbers meanwhile, it may meet each held, though never all were at one moment. With twice as many
+    /// numbers as threads that is rare; [`acquire_timeout`](Pool::acquire_timeout) tries again.
+    #[must_use]
+    pub fn acquire(&self) -> Option<Slot<'_>> {
+        SlotOf::take(self, Member::acquire).ok()
+    }
+
+    /// The same, but the number `hint` is tried first: a thread that asks for the number it had last touches no word that others
+    /// use. Any hint is taken; one that is no number of the pool is as good as 1.
+    #[must_use]
+    pub fn acquire_near(&self, hint: usize) -> Option<Slot<'_>> {
+        SlotOf::take(self, |member| member.acquire_near(hint)).ok()
+    }
+
+    /// [`acquire`](Pool::acquire) with a slot that keeps the pool, for threads that outlive the place where the pool was made.
+    #[must_use]
+    pub fn acquire_owned(self: &Arc<Self>) -> Option<OwnedSlot> {
+        SlotOf::take(Arc::clone(self), Member::acquire).ok()
+    }
+
+    /// [`acquire`](Pool::acquire), which waits where all numbers are held, for at most so long. **The one call that waits.** Each
+    /// slot that is dropped wakes one that waits.
+    #[must_use]
+    pub fn acquire_timeout(&self, most: Duration) -> Option<Slot<'_>> {
+        self.acquire()
+            .or_else(|| self.waiting.until(most, || self.acquire()))
+    }
+
+    /// Which pool this is.
+    pub(crate) fn key(&self) -> u64 {
+        self.key
+    }
+
+    /// A member of this pool that no call has: one that this thread kept, else a new one.
+    pub(crate) fn member(&self) -> Option<Member> {
+        let kept = SPARE.try_with(|spare| {
+            let mut spare = spare.borrow_mut();
+            let place = spare.iter().rposition(|(key, _)| *key == self.key)?;
+            Some(spare.swap_remove(place).1)
+        });
+        match kept {
+            Ok(Some(member)) => Some(member),
+            // Nothing panics while the mutex is held, so it is never poisoned.
+            _ => self
+                .first
+                .lock()
+                .unwrap_or_else(PoisonError::into_inner)
+                .join(),
+        }
+    }
+
+    /// Keeps a member that holds nothing for this thread's next call.
+    pub(crate) fn keep(&self, member: Member) {
+        let mut oldest = None;
+        // Where the thread is about to end, the member is dropped with the closure.
+        let _ = SPARE.try_with(|spare| {
+            let mut spare = spare.borrow_mut();
+            if spare.len() == MOST_SPARE {
+                oldest = Some(spare.remove(0));
+            }
+            spare.push((self.key, member));
+        });
+        drop(oldest);
+    }
+
+    pub(crate) fn is_taken(&self, number: NonZeroUsize) {
+        self.held[number.get() - 1].0.store(true, Relaxed);
+    }
+
+    /// Gives back what a member holds.
+    pub(crate) fn give_back(&self, mut member: Member, number: NonZeroUsize) {
+        self.held[number.get() - 1].0.store(false, Relaxed);
+        member.release();
+        self.keep(member);
+        self.waiting.wake();
+    }
+}
+
+impl Drop for Pool {
+    fn drop(&mut self) {
+        // What other threads kept goes when they end or use other pools.
+        let _ = SPARE.try_with(|spare| spare.borrow_mut().retain(|(key, _)| *key != self.key));
+    }
+}
+
+impl fmt::Debug for Pool {
+    fn fmt(&self, f: &mut fmt::Formatter<'_>) -> fmt::Result {
+        f.debug_struct("Pool")
+            .field("size", &self.size())
+            .field("len", &self.len())
+            .finish()
+    }
+}
+
+/// How a slot has its pool: by reference or by a count.
+pub trait Lent: Deref<Target = Pool> {}
+
+impl Lent for &Pool {}
+impl Lent for Arc<Pool> {}
