@@ -41,7 +41,33 @@ uint64_t word_pool_release(struct word_pool *pool);
 /* Ends this handle: its number is given back, and with the last handle the pool's memory. */
 void word_pool_free(struct word_pool *pool);
 
-/* The grid of splitters comes here. */
+/* A grid of splitters: each thread that enters gets a place of its own, by reads and writes alone, with no lock and no wait.
+ *
+ * Each thread has a handle of its own, with one seat; those that were joined share one grid, so `word_grid_enter` may run in
+ * all of them at once. What a caller owes is as above: a handle is used by one call at a time; it is made of zero bytes
+ * before `word_grid_new`, or before it is the second handle of `word_grid_join`; and it holds a grid where any other call is
+ * given it. A null pointer, or a handle of zero bytes there, is not answered. */
+
+/* Zero: no grid. */
+struct word_grid {
+    void *at;
+};
+
+/* Makes a grid of `most` seats, from 1 to 64, and deals this handle the first. False, with nothing made, elsewhere and where
+ * memory was refused. */
+bool word_grid_new(struct word_grid *grid, uint64_t most);
+
+/* A handle for one more thread, with the next seat. `grid` is the handle that `word_grid_new` made. False, with none made,
+ * where all seats are dealt, where `grid` is another handle, and where memory was refused; a seat dealt then may be lost. */
+bool word_grid_join(struct word_grid *grid, struct word_grid *other);
+
+/* Walks from the corner with this handle's seat until it stops, and tells the place, from 1: where `b` had entered until then,
+ * itself among them, it is at most b(b + 1)/2, by at most 4b accesses. No two handles of a grid have one place. 0 where this
+ * handle has entered already. */
+uint64_t word_grid_enter(struct word_grid *grid);
+
+/* Ends this handle, and with the last one the grid's memory. */
+void word_grid_free(struct word_grid *grid);
 
 #ifdef __cplusplus
 }

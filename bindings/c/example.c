@@ -1,11 +1,12 @@
-/* Four threads take numbers of one pool and give them back. No two have one number at once. */
+/* Four threads take numbers of one pool and give them back: no two have one number at once. Then 64 threads enter a grid,
+ * round after round: no two have one place. */
 #include "beglushan.h"
 
 #include <pthread.h>
 #include <stdatomic.h>
 #include <stdio.h>
 
-enum { THREADS = 4, STAYS = 100000 };
+enum { THREADS = 4, STAYS = 100000, SEATS = 64, PLACES = SEATS * (SEATS + 1) / 2, ROUNDS = 100 };
 
 static atomic_bool taken[THREADS + 1];
 static atomic_int clashes;
@@ -27,6 +28,65 @@ static void *stay_often(void *handle)
         }
     }
     return NULL;
+}
+
+static uint64_t places[SEATS];
+
+struct visitor {
+    struct word_grid grid;
+    int seat;
+};
+
+static void *enter(void *given)
+{
+    struct visitor *visitor = given;
+    places[visitor->seat] = word_grid_enter(&visitor->grid);
+    return NULL;
+}
+
+static bool enter_together(void)
+{
+    struct visitor visitors[SEATS] = {{{0}, 0}};
+    pthread_t threads[SEATS];
+    bool seen[PLACES + 1] = {false};
+    struct word_grid none = {0};
+    bool good = word_grid_new(&visitors[0].grid, SEATS);
+    for (int i = 1; good && i < SEATS; i++) {
+        visitors[i].seat = i;
+        good = word_grid_join(&visitors[0].grid, &visitors[i].grid);
+    }
+    if (!good || word_grid_join(&visitors[0].grid, &none)) {
+        return false;
+    }
+    for (int i = 0; i < SEATS; i++) {
+        if (pthread_create(&threads[i], NULL, enter, &visitors[i]) != 0) {
+            return false;
+        }
+    }
+    for (int i = 0; i < SEATS; i++) {
+        pthread_join(threads[i], NULL);
+    }
+    for (int i = 0; i < SEATS; i++) {
+        uint64_t place = places[i];
+        if (place < 1 || PLACES < place || seen[place] || word_grid_enter(&visitors[i].grid) != 0) {
+            good = false;
+        } else {
+            seen[place] = true;
+        }
+        word_grid_free(&visitors[i].grid);
+    }
+    return good;
+}
+
+static bool enter_alone(void)
+{
+    struct word_grid grid = {0};
+    if (word_grid_new(&grid, 0) || word_grid_new(&grid, SEATS + 1) || !word_grid_new(&grid, SEATS)) {
+        return false;
+    }
+    bool good = word_grid_enter(&grid) == 1;
+    word_grid_free(&grid);
+    return good;
 }
 
 int main(void)
@@ -59,5 +119,10 @@ int main(void)
         word_pool_free(&pools[i]);
     }
     printf("%d threads, %d stays each, %d clashes\n", THREADS, STAYS, clashes);
-    return clashes != 0;
+    int bad = !enter_alone();
+    for (int round = 0; round < ROUNDS; round++) {
+        bad += !enter_together();
+    }
+    printf("%d threads through a grid, %d rounds, %d bad\n", SEATS, ROUNDS, bad);
+    return clashes != 0 || bad != 0;
 }

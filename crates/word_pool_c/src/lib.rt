@@ -1,4 +1,4 @@
-//! A pool of numbers over raw words as a static library, for threads that are not Rattle's, with no lock.
+//! A pool of numbers and a grid of splitters over raw words as a static library, for threads that are not Rattle's, with no lock.
 //!
 //! Each thread has a handle of its own. The first is made by `word_pool_new`, a further one by `word_pool_join` of another;
 //! all share one pool. A handle holds at most one number at a time. A thread that takes a number from 1 to the pool's size
@@ -7,16 +7,23 @@
 //! What a caller has to see to, since nothing checks it: a handle is used by one call at a time, is given to
 //! `word_pool_new`, or as the second to `word_pool_join`, only while it holds no pool, and to the other calls only while it
 //! holds one; a handle of zero bytes holds none. Nothing is passed for a parameter of type `Global`, which takes no bytes.
+//!
+//! A grid's handles are of the same kind: the first is made by `word_grid_new`, the others by `word_grid_join` of it, one for
+//! each seat. C can share no handle by `&`, since nothing that holds atomic words may cross to it so.
 #![tactic(auto)]
 
 ghost use Rattle.std.specs.Prelude.{◌≡◌, ◌≢◌, ◌≤◌, IsSome, IsSomeAnd, None, Some, true, false};
 ghost use Rattle.std.specs.Arc.{arc_value};
 ghost use Rattle.word_pool_c.specs.declared.member.Member.{Member};
 
+pub mod grid;
+pub mod grid_handle;
+pub mod grid_member;
 pub mod handle;
 pub mod member;
 pub mod parts;
 
+pub use grid_handle::GridHandle;
 pub use handle::Handle;
 use member::Member;
 use std::alloc::Global;
