@@ -46,7 +46,7 @@ void word_pool_free(struct word_pool *pool);
  * Each thread has a handle of its own, with one seat; those that were joined share one grid, so `word_grid_enter` may run in
  * all of them at once. What a caller owes is as above: a handle is used by one call at a time; it is made of zero bytes
  * before `word_grid_new`, or before it is the second handle of `word_grid_join`; and it holds a grid where any other call is
- * given it. A null pointer, or a handle of zero bytes there, is not answered. */
+ * given it. The functions at the end answer a null pointer, and a handle of zero bytes there. */
 
 /* Zero: no grid. */
 struct word_grid {
@@ -68,6 +68,63 @@ uint64_t word_grid_enter(struct word_grid *grid);
 
 /* Ends this handle, and with the last one the grid's memory. */
 void word_grid_free(struct word_grid *grid);
+
+/* The same calls for who can't be sure of his handles: a null pointer, or a handle that holds nothing where one has to, is
+ * answered by false, 0 or nothing at all; and a handle that holds a pool or grid is not made anew. */
+
+static inline bool beglushan_pool_new(struct word_pool *pool, uint64_t size)
+{
+    return pool && !pool->at && word_pool_new(pool, size);
+}
+
+static inline bool beglushan_pool_join(struct word_pool *pool, struct word_pool *other)
+{
+    return pool && pool->at && other && !other->at && word_pool_join(pool, other);
+}
+
+static inline uint64_t beglushan_pool_acquire(struct word_pool *pool)
+{
+    return pool && pool->at ? word_pool_acquire(pool) : 0;
+}
+
+static inline uint64_t beglushan_pool_acquire_near(struct word_pool *pool, uint64_t hint)
+{
+    return pool && pool->at ? word_pool_acquire_near(pool, hint) : 0;
+}
+
+static inline uint64_t beglushan_pool_release(struct word_pool *pool)
+{
+    return pool && pool->at ? word_pool_release(pool) : 0;
+}
+
+static inline void beglushan_pool_free(struct word_pool *pool)
+{
+    if (pool && pool->at) {
+        word_pool_free(pool);
+    }
+}
+
+static inline bool beglushan_grid_new(struct word_grid *grid, uint64_t most)
+{
+    return grid && !grid->at && word_grid_new(grid, most);
+}
+
+static inline bool beglushan_grid_join(struct word_grid *grid, struct word_grid *other)
+{
+    return grid && grid->at && other && !other->at && word_grid_join(grid, other);
+}
+
+static inline uint64_t beglushan_grid_enter(struct word_grid *grid)
+{
+    return grid && grid->at ? word_grid_enter(grid) : 0;
+}
+
+static inline void beglushan_grid_free(struct word_grid *grid)
+{
+    if (grid && grid->at) {
+        word_grid_free(grid);
+    }
+}
 
 #ifdef __cplusplus
 }

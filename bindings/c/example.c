@@ -89,8 +89,33 @@ static bool enter_alone(void)
     return good;
 }
 
+/* Null pointers and handles that hold nothing are answered, and a handle that holds a pool is not made anew. */
+static bool answers_what_is_missing(void)
+{
+    struct word_pool pool = {0}, blank = {0};
+    struct word_grid grid = {0}, empty = {0};
+    bool none = !beglushan_pool_new(NULL, 1) && !beglushan_pool_join(NULL, &blank) && !beglushan_pool_join(&blank, &pool)
+        && beglushan_pool_acquire(NULL) + beglushan_pool_acquire(&blank) + beglushan_pool_acquire_near(NULL, 1) == 0
+        && beglushan_pool_acquire_near(&blank, 1) + beglushan_pool_release(NULL) + beglushan_pool_release(&blank) == 0
+        && !beglushan_grid_new(NULL, 1) && !beglushan_grid_join(NULL, &empty) && !beglushan_grid_join(&empty, &grid)
+        && beglushan_grid_enter(NULL) + beglushan_grid_enter(&empty) == 0;
+    beglushan_pool_free(NULL);
+    beglushan_pool_free(&blank);
+    beglushan_grid_free(NULL);
+    beglushan_grid_free(&empty);
+    bool some = beglushan_pool_new(&pool, 1) && !beglushan_pool_new(&pool, 1) && !beglushan_pool_join(&pool, &pool)
+        && beglushan_pool_acquire(&pool) == 1 && beglushan_pool_release(&pool) == 1
+        && beglushan_grid_new(&grid, 1) && !beglushan_grid_new(&grid, 1) && beglushan_grid_enter(&grid) == 1;
+    beglushan_pool_free(&pool);
+    beglushan_grid_free(&grid);
+    return none && some && pool.at == NULL && grid.at == NULL;
+}
+
 int main(void)
 {
+    if (!answers_what_is_missing()) {
+        return 1;
+    }
     struct word_pool pools[THREADS] = {{0}};
     pthread_t threads[THREADS];
     struct word_pool none = {0};

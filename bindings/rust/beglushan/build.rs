@@ -9,7 +9,15 @@ use std::time::SystemTime;
 const LIBRARY: &str = "libword_pool_c.a";
 const HEAP: &str = "liblibc_c.a";
 /// The crates whose sources the library is made of.
-const SOURCES: [&str; 3] = ["word_pool_c", "word_pool", "step_memory"];
+const SOURCES: [&str; 7] = [
+    "word_pool_c",
+    "word_pool",
+    "word_grid",
+    "raw_parts",
+    "splitter_grid",
+    "splitter",
+    "step_memory",
+];
 
 fn main() {
     println!("cargo:rerun-if-env-changed=BEGLUSHAN_LIB");

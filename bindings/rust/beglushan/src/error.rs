@@ -1,14 +1,18 @@
 //! What is refused.
 
-use crate::pool::MOST_NUMBERS;
 use std::fmt;
 
-/// Why there is no pool.
+/// Why there is no pool, or no grid.
 #[derive(Debug, Clone, Copy, PartialEq, Eq)]
 #[non_exhaustive]
 pub enum Error {
-    /// A pool has from 1 to [`MOST_NUMBERS`] numbers; this many were asked for.
-    Size(usize),
+    /// There are from 1 to `most`, and another number was asked for.
+    Size {
+        /// How many were asked for.
+        asked: usize,
+        /// How many there may be.
+        most: usize,
+    },
     /// The library was refused memory.
     NoMemory,
 }
@@ -16,11 +20,8 @@ pub enum Error {
 impl fmt::Display for Error {
     fn fmt(&self, f: &mut fmt::Formatter<'_>) -> fmt::Result {
         match self {
-            Error::Size(size) => write!(
-                f,
-                "a pool has from 1 to {MOST_NUMBERS} numbers, and not {size}"
-            ),
-            Error::NoMemory => f.write_str("no memory for a pool"),
+            Error::Size { asked, most } => write!(f, "from 1 to {most}, and not {asked}"),
+            Error::NoMemory => f.write_str("no memory"),
         }
     }
 }

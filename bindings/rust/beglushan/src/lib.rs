@@ -3,15 +3,18 @@
 
 mod error;
 mod member;
+mod names;
 mod padded;
 mod per_thread;
 mod pool;
 mod shared_slots;
 mod slot;
 mod slots;
+mod spare;
 mod waiting;
 
 pub use error::{Error, Full};
+pub use names::{Names, Seat};
 pub use per_thread::PerThread;
 pub use pool::{Pool, MOST_NUMBERS};
 pub use shared_slots::SharedSlots;

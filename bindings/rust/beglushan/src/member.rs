@@ -41,18 +41,21 @@ impl Member {
     }
 
     /// The least number that is found free, from 1. None where each was met held, and where this member holds one.
+    #[inline]
     pub(crate) fn acquire(&mut self) -> Option<NonZeroUsize> {
         // SAFETY: a member holds a pool from when it is made until it is dropped.
         number(unsafe { word_pool_acquire(self) })
     }
 
     /// The same, but the number of the hint is tried first.
+    #[inline]
     pub(crate) fn acquire_near(&mut self, hint: usize) -> Option<NonZeroUsize> {
         // SAFETY: as above; any hint is answered.
         number(unsafe { word_pool_acquire_near(self, hint as u64) })
     }
 
     /// Gives back the number that this member holds.
+    #[inline]
     pub(crate) fn release(&mut self) {
         // SAFETY: as above.
         unsafe { word_pool_release(self) };

@@ -109,6 +109,7 @@ impl<T> PerThread<T> {
     /// # Errors
     /// [`Full`] where as many other threads have a place as there are, where this thread is about to end and has given its own
     /// back, and where memory was refused at its first use.
+    #[inline]
     pub fn get_or(&self, make: impl FnOnce() -> T) -> Result<&T, Full> {
         let place = self.place()?;
         Ok(self.values[place].0.get_or_init(make))
@@ -118,6 +119,7 @@ impl<T> PerThread<T> {
     ///
     /// # Errors
     /// As [`get_or`](PerThread::get_or).
+    #[inline]
     pub fn with<R>(&self, use_it: impl FnOnce(&T) -> R) -> Result<R, Full>
     where
         T: Default,
@@ -135,6 +137,7 @@ impl<T> PerThread<T> {
         self.iter().map(count).sum()
     }
 
+    #[inline]
     fn place(&self) -> Result<usize, Full> {
         let key = self.pool.key();
         let (kept, index) = QUICK_PLACES.with(|quick| quick[key as usize % QUICK].get());

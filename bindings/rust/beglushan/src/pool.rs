@@ -4,8 +4,8 @@ use crate::error::Error;
 use crate::member::Member;
 use crate::padded::Padded;
 use crate::slot::{OwnedSlot, Slot, SlotOf};
+use crate::spare;
 use crate::waiting::Waiting;
-use std::cell::RefCell;
 use std::fmt;
 use std::num::NonZeroUsize;
 use std::ops::Deref;
@@ -16,16 +16,8 @@ use std::time::Duration;
 /// The most numbers of a pool.
 pub const MOST_NUMBERS: usize = 4096;
 
-/// How many members a thread keeps for its next calls, of all pools together.
-const MOST_SPARE: usize = 8;
-
 /// Tells pools apart. No key is used twice.
 static NEXT_KEY: AtomicU64 = AtomicU64::new(1);
-
-thread_local! {
-    /// Members of pools that this thread used, each with the key of its pool.
-    static SPARE: RefCell<Vec<(u64, Member)>> = const { RefCell::new(Vec::new()) };
-}
 
 /// Numbers from 1 to the pool's size, each held by one at a time, which any threads share with no lock.
 ///
@@ -46,7 +38,10 @@ impl Pool {
     /// [`Error::Size`] outside that range, [`Error::NoMemory`] where the library was refused memory.
     pub fn new(size: usize) -> Result<Pool, Error> {
         if size == 0 || MOST_NUMBERS < size {
-            return Err(Error::Size(size));
+            return Err(Error::Size {
+                asked: size,
+                most: MOST_NUMBERS,
+            });
         }
         let first = Member::first(size as u64).ok_or(Error::NoMemory)?;
         Ok(Pool {
@@ -81,6 +76,7 @@ impl Pool {
     /// take and give back numbers meanwhile, it may meet each held, though never all were at one moment. With twice as many
     /// numbers as threads that is rare; [`acquire_timeout`](Pool::acquire_timeout) tries again.
     #[must_use]
+    #[inline]
     pub fn acquire(&self) -> Option<Slot<'_>> {
         SlotOf::take(self, Member::acquire).ok()
     }
@@ -88,12 +84,14 @@ impl Pool {
     /// The same, but the number `hint` is tried first: a thread that asks for the number it had last touches no word that others
     /// use. Any hint is taken; one that is no number of the pool is as good as 1.
     #[must_use]
+    #[inline]
     pub fn acquire_near(&self, hint: usize) -> Option<Slot<'_>> {
         SlotOf::take(self, |member| member.acquire_near(hint)).ok()
     }
 
     /// [`acquire`](Pool::acquire) with a slot that keeps the pool, for threads that outlive the place where the pool was made.
     #[must_use]
+    #[inline]
     pub fn acquire_owned(self: &Arc<Self>) -> Option<OwnedSlot> {
         SlotOf::take(Arc::clone(self), Member::acquire).ok()
     }
@@ -107,47 +105,39 @@ impl Pool {
     }
 
     /// Which pool this is.
+    #[inline]
     pub(crate) fn key(&self) -> u64 {
         self.key
     }
 
     /// A member of this pool that no call has: one that this thread kept, else a new one.
+    #[inline]
     pub(crate) fn member(&self) -> Option<Member> {
-        let kept = SPARE.try_with(|spare| {
-            let mut spare = spare.borrow_mut();
-            let place = spare.iter().rposition(|(key, _)| *key == self.key)?;
-            Some(spare.swap_remove(place).1)
-        });
-        match kept {
-            Ok(Some(member)) => Some(member),
-            // Nothing panics while the mutex is held, so it is never poisoned.
-            _ => self
-                .first
-                .lock()
-                .unwrap_or_else(PoisonError::into_inner)
-                .join(),
-        }
+        spare::take(self.key).or_else(|| self.new_member())
+    }
+
+    #[cold]
+    fn new_member(&self) -> Option<Member> {
+        // Nothing panics while the mutex is held, so it is never poisoned.
+        self.first
+            .lock()
+            .unwrap_or_else(PoisonError::into_inner)
+            .join()
     }
 
     /// Keeps a member that holds nothing for this thread's next call.
+    #[inline]
     pub(crate) fn keep(&self, member: Member) {
-        let mut oldest = None;
-        // Where the thread is about to end, the member is dropped with the closure.
-        let _ = SPARE.try_with(|spare| {
-            let mut spare = spare.borrow_mut();
-            if spare.len() == MOST_SPARE {
-                oldest = Some(spare.remove(0));
-            }
-            spare.push((self.key, member));
-        });
-        drop(oldest);
+        spare::keep(self.key, member);
     }
 
+    #[inline]
     pub(crate) fn is_taken(&self, number: NonZeroUsize) {
         self.held[number.get() - 1].0.store(true, Relaxed);
     }
 
     /// Gives back what a member holds.
+    #[inline]
     pub(crate) fn give_back(&self, mut member: Member, number: NonZeroUsize) {
         self.held[number.get() - 1].0.store(false, Relaxed);
         member.release();
@@ -159,7 +149,7 @@ impl Pool {
 impl Drop for Pool {
     fn drop(&mut self) {
         // What other threads kept goes when they end or use other pools.
-        let _ = SPARE.try_with(|spare| spare.borrow_mut().retain(|(key, _)| *key != self.key));
+        spare::forget(self.key);
     }
 }
 

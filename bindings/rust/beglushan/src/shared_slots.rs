@@ -40,6 +40,7 @@ impl<T> SharedSlots<T> {
     /// # Panics
     /// Where the slot is of another pool than the array was made for.
     #[must_use]
+    #[inline]
     pub fn get<P: Lent>(&self, slot: &SlotOf<P>) -> &T {
         assert_eq!(slot.pool().key(), self.key, "a slot of another pool");
         &self.elements[slot.index()].0

@@ -46,6 +46,7 @@ pub(crate) enum Missed {
 
 impl<P: Lent> SlotOf<P> {
     /// A slot with the number that a member of the pool is given.
+    #[inline]
     pub(crate) fn take(
         pool: P,
         ask: impl FnOnce(&mut Member) -> Option<NonZeroUsize>,
@@ -66,12 +67,14 @@ impl<P: Lent> SlotOf<P> {
 
     /// The number, from 1 to the pool's size.
     #[must_use]
+    #[inline]
     pub fn number(&self) -> usize {
         self.number.get()
     }
 
     /// The number less one: a place of an array as long as the pool.
     #[must_use]
+    #[inline]
     pub fn index(&self) -> usize {
         self.number.get() - 1
     }
@@ -84,6 +87,7 @@ impl<P: Lent> SlotOf<P> {
 }
 
 impl<P: Lent> Drop for SlotOf<P> {
+    #[inline]
     fn drop(&mut self) {
         if let Some(member) = self.member.take() {
             self.pool.give_back(member, self.number);

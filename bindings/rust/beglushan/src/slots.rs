@@ -51,6 +51,7 @@ impl<T> Slots<T> {
     ///
     /// # Panics
     /// Where the slot is of another pool than the array was made for.
+    #[inline]
     pub fn get<'a, P: Lent>(&'a self, slot: &'a mut SlotOf<P>) -> &'a mut T {
         assert_eq!(slot.pool().key(), self.key, "a slot of another pool");
         let element = self.elements[slot.index()].0.get();

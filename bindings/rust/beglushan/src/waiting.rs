@@ -1,6 +1,6 @@
 //! Threads that wait until a number is given back.
 
-use std::sync::atomic::{fence, AtomicUsize, Ordering::SeqCst};
+use std::sync::atomic::{AtomicUsize, Ordering::SeqCst};
 use std::sync::{Condvar, Mutex, PoisonError};
 use std::time::{Duration, Instant};
 
@@ -14,13 +14,20 @@ pub(crate) struct Waiting {
 
 impl Waiting {
     /// Wakes one that waits, after a number was given back.
+    #[inline]
     pub(crate) fn wake(&self) {
-        // Either this sees who waits, or who waits is counted later and its next try sees the number.
-        fence(SeqCst);
+        // The library's accesses are sequentially consistent, as these are: either this sees who waits, or who waits is counted
+        // after the number was given back, and its next try sees that.
         if self.count.load(SeqCst) > 0 {
-            drop(self.door.lock().unwrap_or_else(PoisonError::into_inner));
-            self.released.notify_one();
+            self.wake_one();
         }
+    }
+
+    #[cold]
+    fn wake_one(&self) {
+        // Who was counted waits already once this has the lock, or tries again before it does.
+        drop(self.door.lock().unwrap_or_else(PoisonError::into_inner));
+        self.released.notify_one();
     }
 
     /// Tries until it is given something or the time is over.
@@ -31,7 +38,6 @@ impl Waiting {
     ) -> Option<T> {
         let end = Instant::now().checked_add(most);
         self.count.fetch_add(1, SeqCst);
-        fence(SeqCst);
         let mut door = self.door.lock().unwrap_or_else(PoisonError::into_inner);
         let given = loop {
             if let Some(given) = attempt() {

@@ -14,11 +14,17 @@ fn sizes() {
         assert_eq!(Pool::new(size).unwrap().size(), size);
     }
     for size in [0, MOST_NUMBERS + 1, usize::MAX] {
-        assert_eq!(Pool::new(size).unwrap_err(), Error::Size(size));
+        assert_eq!(
+            Pool::new(size).unwrap_err(),
+            Error::Size {
+                asked: size,
+                most: MOST_NUMBERS
+            }
+        );
     }
     assert_eq!(
-        Error::Size(0).to_string(),
-        "a pool has from 1 to 4096 numbers, and not 0"
+        Pool::new(0).unwrap_err().to_string(),
+        "from 1 to 4096, and not 0"
     );
 }
 
