@@ -59,6 +59,7 @@ fn from_the_clone() -> Vec<PathBuf> {
     }
     let folder = crates.join("word_pool_c");
     let library = folder.join("out").join(LIBRARY);
+    println!("cargo:rerun-if-changed={}", library.display());
     let made = fs::metadata(&library).and_then(|file| file.modified());
     if made.map_or(true, |made| made < newest) {
         let done = Command::new("rt").arg("lib").current_dir(&folder).output();
