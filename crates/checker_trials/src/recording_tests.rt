@@ -9,6 +9,7 @@ use run_checker::{Verdict, check, law_of_recording};
 use schedule_player::{Fault, Tried, record};
 use std::alloc::Global;
 use std::process::Abort;
+use std::test::Fail;
 
 /// The verdict on the record of the run of an input: `Yes` where it asks for at most a million events and memory is given.
 fn checked_record(alloc: Global, config: Config, input: &[u8]) -> Result<Verdict, Fault>
@@ -48,4 +49,39 @@ fn recorded_runs_of_a_pool_that_widens(rt: HostRuntime) {
     let free = b"enter 5\nwiden 2\nprobe 5\nenter 6\nprobe 6\n";
     is_checked_yes(&rt, rt.alloc(), 2, held);
     is_checked_yes(&rt, rt.alloc(), 1, free);
+}
+
+/// The commands by which so many are named one after another, each by so many steps, compete for the pool, and leave it.
+fn crowd(alloc: Global, config: Config, steps: u64) -> Result<Vec<u8>, Fail> {
+    let mut input = Vec::new(alloc);
+    for id in 1..=config.m {
+        input.extend_from_slice(format!(in alloc; "begin {id}\n")?.as_bytes())?;
+        let step = format!(in alloc; "step {id}\n")?;
+        for _ in 0..steps {
+            input.extend_from_slice(step.as_bytes())?;
+        }
+    }
+    for id in 1..=config.k {
+        let stay = format!(in alloc; "enter {id}\nprobe {id}\nput {id} {id}\nleave {id}\n")?;
+        input.extend_from_slice(stay.as_bytes())?;
+    }
+    Ok(input)
+}
+
+/// Records of worlds of many sizes: the first is named 1, the last is the last that began, with the greatest name of all.
+#[test]
+fn recorded_runs_of_every_size(rt: HostRuntime) -> Result<(), Fail> {
+    for (world, m, k, limit, steps) in [
+        (WorldKind::Rename, 1, 64, 1, 20),
+        (WorldKind::Rename, 13, 63, 999_999, 600),
+        (WorldKind::Rename, 16, 13, 1_000_000, 900),
+        (WorldKind::Tree, 17, 2, 64, 600),
+        (WorldKind::Tree, 63, 1, 63, 100),
+    ] {
+        let config = Config::new(world, m, k, limit)?;
+        let input = crowd(rt.alloc(), config, steps)?;
+        let verdict = checked_record(rt.alloc(), config, &input).expect(&rt, "a record");
+        assert_eq!(rt; verdict, Verdict::Yes, "{config:?}");
+    }
+    Ok(())
 }

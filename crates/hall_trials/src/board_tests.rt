@@ -153,10 +153,11 @@ struct Job<L: LockName> {
     seat: ReaderSeat,
 }
 
-/// What a thread hands back: its session, and the grant of its name.
+/// What a thread hands back: its session, the name that it was told, and the grant of it.
 #[derive(Drop)]
 struct Posted<L: LockName> {
     session: Session<L>,
+    name: Option<u64>,
     grant: Option<Grant>,
 }
 
@@ -174,9 +175,13 @@ fn rename_and_post<L: LockName, R: Wait>(
         mut session,
         mut seat,
     } = job;
-    let _ = lock.rename(rt, &mut session, 100_000);
+    let name = lock.rename(rt, &mut session, 100_000).unwrap_or(None);
     let grant = post_name(&session, board, &mut seat);
-    Posted { session, grant }
+    Posted {
+        session,
+        name,
+        grant,
+    }
 }
 
 /// The same by as many threads.
@@ -203,9 +208,15 @@ fn take_one<L: LockName>(
     ensures rest { All (λ p. IfSome p.grant (λ g. g.board ≡ board.now)) done.new.items }
     ensures grant { result.board ≡ board.now }
 {
-    let Posted { session, grant } = done.pop().expect(rt, "one for each thread");
+    let Posted {
+        session,
+        name,
+        grant,
+    } = done.pop().expect(rt, "one for each thread");
     sessions.push(session).ok().expect(rt, "room for a session");
-    grant.expect(rt, "one that is named posts its name")
+    let grant = grant.expect(rt, "one that is named posts its name");
+    assert_eq!(rt; Some(grant.name()), name);
+    grant
 }
 
 /// A session and a seat for each of four identities.

@@ -383,9 +383,8 @@ fn session_acts<L: LockName, R: Abort + Wait>(
     session: &mut Session<L>,
     rows: &[(Act, Reply)],
 ) {
-    let mut view = View::new();
     for (act, want) in rows {
-        let reply = lock.act_short(rt, session, *act, &mut view).with(&view);
+        let reply = lock.act(rt, session, *act);
         assert!(rt; reply == *want, "{act:?}: {reply:?}");
     }
 }
@@ -506,7 +505,8 @@ fn name_in(reply: &Reply) -> u64 {
     }
 }
 
-/// A session of a thread, once it has its name or its turns are used; none where it was refused.
+/// A session of a thread, once `rename` answered the name with which its list ends, or none where its turns are used; none
+/// where it was refused or answered another.
 fn renamed<L: LockName, R: Wait>(
     rt: &R,
     lock: &HallLock<L>,
@@ -514,8 +514,8 @@ fn renamed<L: LockName, R: Wait>(
 ) -> Option<Session<L>> {
     let mut session = session;
     match lock.rename(rt, &mut session, 100_000) {
-        Ok(_) => Some(session),
-        Err(_) => None,
+        Ok(name) if name.unwrap_or(0) == name_of(&session) => Some(session),
+        _ => None,
     }
 }
 

@@ -93,6 +93,20 @@ fn two_post_their_names(rt: HostRuntime) -> Result<(), Fail> {
     Ok(())
 }
 
+/// Whoever an identity is, odd or the greatest: its word is it, and nobody else's.
+#[test]
+fn owners_are_told_whole(rt: HostRuntime) -> Result<(), Fail> {
+    let identities = [11, u64::MAX, 1, 0x8000_0000_0000_0001];
+    let (board, mut seat) = Board::new(rt.alloc(), 4)?;
+    for (name, identity) in (1..=4).zip(identities) {
+        let posted = granted(board.post(&mut seat, name, identity));
+        let another = granted(board.confirm(&mut seat, name, identity - 1));
+        let told = (posted, another, board.owner(name));
+        assert_eq!(rt; told, (Some((name, identity)), None, Some(identity)));
+    }
+    Ok(())
+}
+
 /// Two threads post at one name at once: one of them gets it, and both are told so.
 fn race<R: Threads + Sync>(rt: &R, alloc: Global) -> Result<(Option<u64>, Option<u64>), Refusal> {
     let (board, mut one) = Board::new(alloc, 1)?;

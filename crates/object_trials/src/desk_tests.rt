@@ -345,6 +345,47 @@ fn numbers_are_taken(rt: HostRuntime) -> Result<(), Fail> {
     Ok(())
 }
 
+/// A desk of this config is made, takes as many to be named and as many to compete for its pool as it is for, and nobody more.
+fn takes_all(rt: &impl Abort, alloc: Global, config: Config) {
+    let mut desk = Desk::new(alloc, config).expect(rt, "room for a desk");
+    for id in 1..=config.m {
+        assert!(rt; applies(&mut desk, Event::Begin(id), &Reply::Ok), "{config:?}: begin {id}");
+    }
+    for id in 1..=config.k {
+        assert!(rt; applies(&mut desk, Event::Enter(id), &Reply::Ok), "{config:?}: enter {id}");
+    }
+    let full = Reply::Refused(Refusal::Full);
+    assert!(rt; applies(&mut desk, Event::Begin(config.m + 1), &full), "{config:?}");
+    let crowded = Reply::Refused(Refusal::Crowded);
+    assert!(rt; applies(&mut desk, Event::Enter(config.k + 1), &crowded), "{config:?}");
+}
+
+/// Numbers of participants and sizes of a pool: the ends of each range, and some between them.
+const SIZES: [u64; 9] = [1, 2, 7, 8, 13, 16, 17, 63, 64];
+
+#[test]
+fn desks_of_every_size(rt: HostRuntime) {
+    for world in [WorldKind::Rename, WorldKind::Tree] {
+        for m in SIZES {
+            for k in SIZES {
+                if let Ok(config) = Config::new(world, m, k, 1_000) {
+                    takes_all(&rt, rt.alloc(), config);
+                }
+            }
+        }
+    }
+}
+
+#[test]
+fn desks_of_every_limit(rt: HostRuntime) {
+    for world in [WorldKind::Rename, WorldKind::Tree] {
+        for limit in [1, 2, 13, 63, 64, 999_999, 1_000_000] {
+            let config = Config::new(world, 13, 13, limit).expect(&rt, "a config in range");
+            takes_all(&rt, rt.alloc(), config);
+        }
+    }
+}
+
 /// Why a desk of this world is refused, if it is.
 fn refusal_of(rt: &impl Abort, alloc: Global, world: WorldKind) -> Option<Refusal> {
     let config = Config::new(world, 2, 64, 1000).expect(rt, "in range");

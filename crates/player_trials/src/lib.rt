@@ -9,6 +9,8 @@
 #[cfg(test)]
 mod drawn_tests;
 #[cfg(test)]
+mod fault_tests;
+#[cfg(test)]
 mod growth_tests;
 #[cfg(test)]
 mod line_buffer_tests;

@@ -453,12 +453,5 @@ fn reads_and_writes_are_few(rt: HostRuntime) {
             "at {piece} bytes"
         );
     }
-    assert_eq!(rt; MOST_READS, 1 << 40);
-}
-
-#[test]
-fn laws_are_called() {
-    law_of_growths();
-    law_of_lines();
-    law_of_play::<Global>();
+    assert_eq!(rt; (READ_BYTES, MOST_READS), (65_536, 1 << 40));
 }

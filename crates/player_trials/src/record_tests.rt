@@ -203,10 +203,10 @@ fn each_read_and_each_write_of_a_record_fails_once(rt: HostRuntime) {
         Cup::new(alloc, 3, 0, false),
     );
     let (reads, writes) = (whole.reads, whole.writes);
-    for at in 1..reads {
+    for at in 1..=reads {
         one_read_fails(&rt, alloc, config, at);
     }
-    for at in 1..writes {
+    for at in 1..=writes {
         one_write_fails(&rt, alloc, config, at, false);
         one_write_fails(&rt, alloc, config, at, true);
     }

@@ -9,8 +9,13 @@ use clap::builder::ValueParser;
 use clap::{Arg, ArgAction, Command};
 use std::alloc::{AllocError, Global};
 
-// `--world NAME`.
-fn world_option<'a>(alloc: Global) -> Arg<'a>
+// What `play` may be told of its world, and what those are told that give names.
+const ANY_WORLD: &str = "what is played: splitter, grid, rename or tree";
+
+const WORLD_OF_NAMES: &str = "where names are given: rename or tree";
+
+// `--world NAME`, of one of the worlds that the help names.
+fn world_option<'a>(alloc: Global, help: &'a str) -> Arg<'a>
     ensures rule { rule_of result ≡ world_option }
     ensures local { result.global ≡ false }
 {
@@ -19,7 +24,7 @@ fn world_option<'a>(alloc: Global) -> Arg<'a>
         .action(ArgAction::Set)
         .default_value("rename")
         .value_name("NAME")
-        .help("what is played: splitter, grid, rename or tree")
+        .help(help)
 }
 
 // An option with a number in this range, and a text of the number that it has where it is not given.
@@ -103,13 +108,14 @@ fn config_command<'a>(
     alloc: Global,
     name: &'a str,
     about: &'a str,
+    worlds: &'a str,
 ) -> Result<Command<'a>, AllocError>
     ensures app { IfOk result (λ c. app_of c ≡ config_app name.now) }
     ensures local { IfOk result (λ c. (out-Command c).has_globals ≡ false) }
 {
     Command::new(alloc, name)
         .about(about)
-        .arg(world_option(alloc))?
+        .arg(world_option(alloc, worlds))?
         .arg(m_option(alloc))?
         .arg(number_option(alloc, "k", 1, 64, "4", "the size of the pool, from 1 to 64"))?
         .arg(limit_option(alloc))
@@ -124,6 +130,7 @@ fn play_command<'a>(alloc: Global) -> Result<Command<'a>, AllocError>
         alloc,
         "play",
         "Plays the commands of the standard input, and writes a reply to each",
+        ANY_WORLD,
     )?
     .arg(record_flag(alloc))
 }
@@ -160,7 +167,7 @@ fn draw_command<'a>(alloc: Global) -> Result<Command<'a>, AllocError>
             "0",
             "how many are played, at most 1000",
         ))?
-        .arg(world_option(alloc))?
+        .arg(world_option(alloc, WORLD_OF_NAMES))?
         .arg(m_option(alloc))?
         .arg(limit_option(alloc))
 }
@@ -194,6 +201,7 @@ fn serve_command<'a>(alloc: Global) -> Result<Command<'a>, AllocError>
         alloc,
         "serve",
         "Serves the commands of connections to 127.0.0.1, over one hall",
+        WORLD_OF_NAMES,
     )?
     .arg(number_option(
         alloc,

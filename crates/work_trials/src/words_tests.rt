@@ -209,6 +209,7 @@ const NO_WORDS: [&str; 16] = [
 #[test]
 fn words_are_refused(rt: HostRuntime) {
     assert!(rt; is_refused(rt.alloc(), &[]));
+    assert!(rt; is_refused(rt.alloc(), &["slotctl"; 64]));
     for line in NO_WORDS {
         assert!(rt; refuses(rt.alloc(), line), "{line}");
     }

@@ -225,7 +225,7 @@ fn views_of_names_are_checked(rt: HostRuntime) -> Result<(), Fail> {
     Ok(())
 }
 
-/// A record is written again with status 0, and where it is none of a run told as by `check`; a write that fails is a fault.
+/// A record is written again with status 0, and where it is none of a run told as by `check`.
 #[test]
 fn records_are_migrated(rt: HostRuntime) {
     let old =
@@ -430,6 +430,27 @@ fn faults_have_status_3_and_a_text(rt: HostRuntime) {
         assert!(rt;
             runs(rt.alloc(), words, input, output, (3, text, told)),
             "{words:?}"
+        );
+    }
+}
+
+/// A record that can't be read to its end is neither judged nor migrated, and one that can't be written is cut.
+#[test]
+fn faults_of_a_record_have_status_3(rt: HostRuntime) {
+    let read = b"slotctl: read fault\n".as_slice();
+    let write = b"slotctl: write fault\n".as_slice();
+    let rows: [(&str, u64, u64, &[u8], &[u8]); 4] = [
+        ("check", 5, 0, b"", read),
+        ("check", 0, 1, b"", write),
+        ("migrate", 5, 0, b"", read),
+        ("migrate", 0, 3, b"{\"format\":\"slo", write),
+    ];
+    for (word, read_at, write_at, text, told) in rows {
+        let input = Drip::new(HEADER, 16, read_at);
+        let output = Cup::new(rt.alloc(), 7, write_at, false);
+        assert!(rt;
+            runs(rt.alloc(), &["slotctl", word], input, output, (3, text, told)),
+            "{word} {read_at} {write_at}"
         );
     }
 }
