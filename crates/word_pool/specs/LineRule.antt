@@ -9,11 +9,11 @@ use Rattle.word_pool.specs.declared.pool_view.Stage.{Stage}
 use Rattle.word_pool.specs.declared.pool_view.Stage.TheVariants.{AtRest, Seeking, Holding, Ended}
 use Rattle.word_pool.specs.declared.pool_view.Call.{Call}
 use Rattle.word_pool.specs.declared.pool_view.PoolView.{PoolView}
-use Rattle.word_pool.specs.PoolView.{lone}
-use Rattle.word_pool.specs.PoolView.{at_rest}
+use Rattle.word_pool.specs.PoolView.{at_rest, lone, call_of}
+use Rattle.word_pool.specs.PoolSteps.{Takes}
 use Rattle.word_pool.specs.Tally.{own, tally}
 use Rattle.word_pool.specs.PoolRule.{KeepsPool}
-use Rattle.word_pool.specs.Crowd.{KeepsCrowd, IsAdaptive}
+use Rattle.word_pool.specs.Crowd.{now, moved_by, log_of_call, IsSmall, KeepsCrowd}
 
 -- one of two numbers: for a call that rests, and for one that competes; 0 for one that has ended
 abbrev pub by_stage : Stage → ℕ → ℕ → ℕ
@@ -52,9 +52,17 @@ StandsInLine = (count : ℕ) (words : List ℕ) (views : List PoolView) (place s
 abbrev pub NeverComes : {S : Type 0} → Step S → Me S PoolView → ℕ → Me S PoolView → Type 0
 NeverComes s before found after = ⊥
 
--- where the rule is kept, the number of a call that holds one is at most the most calls that competed, held or sought, at one
--- moment from its coming to its taking of the number
+-- a call of a line swaps 1 into the word of its place: where it has taken it, its number is small
+abbrev pub TakesInLine : {S : Type 0} → Step S → Me S PoolView → ℕ → Me S PoolView → Type 0
+TakesInLine s before found after = Takes s before found after × (found ≡ 0 → IsSmall (call_of after.0))
+
+-- where the rule is kept, what a call that holds a number has kept in its view is how many competed, held or sought, at each
+-- moment from its coming to its taking of the number, and its number is at most the most of them
 abbrev pub IsSmallAmongFew : Type 0
 IsSmallAmongFew =
     (count : ℕ) (words : List ℕ) (views : List PoolView) (seat : ℕ) (c : Call) (past : List Call) → KeepsLine count words views → get_elem? views seat ≡ some (lone c past) →
-    c.stage ≡ Holding → IsAdaptive views c
+    c.stage ≡ Holding → (c.crowds ≡ log_of_call views c) × IsSmall c
+
+-- where the rule is kept, moment t is the t-th coming or going of a call, so it is of one call
+abbrev pub IsMomentOfOne : Type 0
+IsMomentOfOne = (count : ℕ) (words : List ℕ) (views : List PoolView) (t : ℕ) → KeepsLine count words views → t ≤ now views → tally (moved_by t) views ≡ t

@@ -17,7 +17,7 @@ Looks s before found after = after ≡ (lone (looked found (call_of before.0)) b
 
 -- a call swaps 1 into the word of its place
 abbrev pub Takes : {S : Type 0} → Step S → Me S PoolView → ℕ → Me S PoolView → Type 0
-Takes s before found after = (moment : ℕ) × (after ≡ (lone (swapped moment found (call_of before.0)) before.0.past, before.1))
+Takes s before found after = (moment : ℕ) × (crowds : List ℕ) × (after ≡ (lone (swapped moment crowds found (call_of before.0)) before.0.past, before.1))
 
 -- a call at rest looks at the place of a hint
 abbrev pub LooksAside : {S : Type 0} → Step S → Me S PoolView → ℕ → Me S PoolView → Type 0

@@ -4,14 +4,15 @@ ghost use Rattle.std.specs.Prelude.{[], ◌∷◌, ◌≡◌, ◌≢◌, ◌<◌
 ghost use Rattle.word_pool.specs.PoolRule.{word_of};
 ghost use Rattle.word_pool.specs.PoolView.{call_of, first_places, IsSeeking, IsHolding, HasLooked};
 ghost use Rattle.word_pool.specs.Pools.{CallId, IsHeldAt};
+ghost use Rattle.word_pool.specs.Crowd.{greatest};
 ghost use Rattle.word_pool.specs.LineRule.{rests};
 ghost use Rattle.word_pool.specs.Tally.{holding, own, sum_below};
 ghost use lib.ListN.{get_elem?};
 ghost use mathlib.Core.Option.{some};
 
 use crate::held::Held;
-use crate::line_steps::{Deal, Lining, Never};
-use crate::pool_steps::{Come, Free, Look, LookOn, Sever, Take, Unite};
+use crate::line_steps::{Deal, Lining, Never, TakeInLine};
+use crate::pool_steps::{Come, Free, Look, LookOn, Sever, Unite};
 use crate::pool_view::PoolView;
 use crate::ticket::{Ticket, Tickets};
 use crate::word_pool::{MOST_NUMBERS, STRIDE, read_out};
@@ -102,13 +103,16 @@ impl<A: Allocator> LinePool<A> {
 
     /// A number that nobody else holds, always: the least that a walk from 1 upward finds free. It looks at each word before
     /// it swaps 1 into it, so it makes at most two accesses for each number that it tries; and it leaves a number behind only
-    /// where an access met it held. The ticket is of this line, and comes back with `release`.
+    /// where an access met it held. The ticket is of this line, and comes back with `release`. The number is at most the most
+    /// calls that competed, held or sought, at one moment of this one (Moir and Anderson 1995): `crowds` is how many did at
+    /// each moment, as `law_of_the_line` says of any call that holds.
     pub fn acquire(&self, ticket: Ticket) -> Held
         requires ours { ticket.pool ≡ self.now.table }
         ensures ours { result.pool ≡ self.now.table }
         ensures range { (1 ≤ result.number) × (result.number ≤ self.now.numbers) }
         ensures below { result.call.met ≡ first_places (result.number - 1) }
         ensures accesses { result.call.accesses ≤ 2 * result.number }
+        ensures small { result.number ≤ greatest result.call.crowds }
     {
         let Ticket { badge } = ticket;
         let mut seat = badge.into_seat::<u8>();
@@ -125,6 +129,7 @@ impl<A: Allocator> LinePool<A> {
         ensures range { (1 ≤ result.number) × (result.number ≤ self.now.numbers) }
         ensures below { result.call.met ≡ first_places (result.number - 1) }
         ensures accesses { result.call.accesses + 1 ≤ (call_of seat.me.0).accesses + 2 * result.number }
+        ensures small { result.number ≤ greatest result.call.crowds }
     {
         if self.settle(&mut seat, 0, found) {
             return Held::of(seat, 0);
@@ -152,6 +157,7 @@ impl<A: Allocator> LinePool<A> {
         ensures ours { seat.new.table_id ≡ self.now.table }
         ensures slots { seat.new.me.1 ≡ [] }
         ensures held { result ≡ true → IsHolding place (suc (call_of seat.old.me.0).accesses) seat.new.me.0 }
+        ensures small { result ≡ true → suc place ≤ greatest (call_of seat.new.me.0).crowds }
         ensures range { result ≡ true → (place < 4096) × (word_of place < seat.new.table_id.words) }
         ensures passed { result ≡ false → IsSeeking (suc place) (suc (call_of seat.old.me.0).accesses) seat.new.me.0 }
     {
@@ -161,7 +167,7 @@ impl<A: Allocator> LinePool<A> {
         let at_swap = self
             .table
             .shared
-            .swap::<Take>(seat, (place * STRIDE) as usize, 1);
+            .swap::<TakeInLine>(seat, (place * STRIDE) as usize, 1);
         at_swap == 0
     }
 
