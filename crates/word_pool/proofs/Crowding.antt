@@ -336,6 +336,29 @@ two_beyond views p seat c past there is here held =
 pub adaptive : (views : List PoolView) → KeepsCrowd views → (seat : ℕ) (c : Call) (past : List Call) → get_elem? views seat ≡ some (lone c past) → c.stage ≡ Holding → (c.crowds ≡ log_of_call views c) × IsSmall c
 adaptive views kept seat c past there is = let h = subst (λ (s : Stage). crowded_at s views c) is (kept.crowd seat (lone c past) there).0 in (h.2, h.3)
 
--- and each moment is of one call
-pub of_one_call : (views : List PoolView) → KeepsCrowd views → (t : ℕ) → t ≤ now views → tally (moved_by t) views ≡ t
-of_one_call views kept t le = let k = kept.clock t in omega arith
+-- a call that competes has moved once, and that is its coming
+moved_once : (stage : Stage) (came went t : ℕ) → by_each stage 0 1 1 0 ≡ 1 → (by_each stage 0 1 1 2 ≡ 1) × (by_each stage 0 (1 - (came - t)) (1 - (came - t)) ((1 - (came - t)) + (1 - (went - t))) ≡ 1 - (came - t))
+moved_once AtRest came went t e = absurd (omega arith)
+moved_once Seeking came went t e = (refl, refl)
+moved_once Holding came went t e = (refl, refl)
+moved_once Ended came went t e = absurd (omega arith)
+
+-- so it has come at the moment after the last
+pub comes_next : (views : List PoolView) → KeepsCrowd views → (seat : ℕ) (c d : Call) (past : List Call) → get_elem? views seat ≡ some (lone c past) → c.stage ≡ AtRest → competes d ≡ 1 → KeepsCrowd (set views seat (lone d past)) → d.came ≡ suc (now views)
+comes_next views kept seat c d past there rests comes after =
+    let changed : (f : Call → ℕ) → tally f (set views seat (lone d past)) + f c ≡ tally f views + f d = (λ f. let a = tally_set f views seat (lone c past) (lone d past) there in omega arith) in
+    let still : (t : ℕ) → (moves c ≡ 0) × (moved_by t c ≡ 0) = (λ t. (rw rests refl, rw rests refl)) in
+    let once : (t : ℕ) → (moves d ≡ 1) × (moved_by t d ≡ 1 - (d.came - t)) = (λ t. moved_once d.stage d.came d.went t comes) in
+    let last : ℕ = now views in
+    let count = changed moves in
+    let a = changed (moved_by last) in
+    let b = changed (moved_by (suc last)) in
+    let before = kept.clock last in
+    let before' = kept.clock (suc last) in
+    let after' = after.clock last in
+    let after'' = after.clock (suc last) in
+    let x = still last in
+    let x' = still (suc last) in
+    let y = once last in
+    let y' = once (suc last) in
+    omega (arith, x.0, x.1, x'.1, y.0, y.1, y'.1)

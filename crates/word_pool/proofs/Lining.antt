@@ -85,9 +85,9 @@ module _ {S : Type 0} (count slots seat : ℕ) where
   module _ (past : List Call) where
     pub may_come_in_line : (st : Step S) → 0 < count → Allows {S = S} {V = PoolView} (KeepsLineRule count) slots seat (resting past, []) 0 (λ n. n) (Comes st (resting past, []))
     may_come_in_line st some_number s h _ e _ =
-        let moment : ℕ = suc (now s.views) in
+        let arrival : ℕ = suc (now s.views) in
         let found : ℕ = slice_index s.words 0 in
-        let come : Call = coming moment at_rest in
+        let come : Call = coming arrival at_rest in
         let new : PoolView = lone (looked found come) past in
         let come_views : List PoolView = set s.views seat (lone come past) in
         let stands : Stands count (set s.views seat new) = dite (ℕ_discrete found 0)
@@ -97,7 +97,7 @@ module _ {S : Type 0} (count slots seat : ℕ) where
         let t = tally_set (holding 0) s.views seat (resting past) (lone come past) e in
         let two = two_beyond come_views 0 seat come past (come_there s.views h.crowd seat at_rest past e refl) refl refl (omega arith) in
         rw a (one_further count s.words s.views h seat at_rest (passing come) past e 0 some_number refl (λ q. omega arith) (λ q. refl) z, comes_and_passes s.views h.crowd seat at_rest past e refl two)) in
-        (new, keeps, tt, record { pool = come_kept count slots seat at_rest past moment s refl h.pool e; line = stands.0; crowd = stands.1 }, (moment, refl))
+        (new, keeps, tt, record { pool = come_kept count slots seat at_rest past arrival s refl h.pool e; line = stands.0; crowd = stands.1 }, (arrival, refl))
 
     -- no seat has met all numbers held
     pub never : (c : Call) (st : Step S) → c.stage ≡ Seeking → c.place ≡ count → Allows {S = S} {V = PoolView} (KeepsLineRule count) slots seat (lone c past, []) 0 (λ f. f) (NeverComes st (lone c past, []))

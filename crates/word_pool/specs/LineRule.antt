@@ -1,7 +1,7 @@
 -- The rule of a pool whose numbers are sought from 1 upward by as many tickets as there are numbers (Moir and Anderson 1995):
 -- that of a pool; of the tickets at most `count - place` stand at a place with `place` others below it, or further on; and
 -- whoever holds a number is one of a crowd that was as large.
-use Rattle.std.specs.Prelude.{◌≡◌, ◌≤◌, ◌<◌, ◌-◌, ℕ, zero, suc, List, [], ◌∷◌}
+use Rattle.std.specs.Prelude.{◌≡◌, ◌≤◌, ◌<◌, ◌-◌, ℕ, zero, suc, List, [], ◌∷◌, set}
 use mathlib.Core.Option.{some}
 use lib.ListN.{get_elem?}
 use Rattle.atomic_table.specs.Table.{State, Me, Step}
@@ -13,7 +13,7 @@ use Rattle.word_pool.specs.PoolView.{at_rest, lone, call_of}
 use Rattle.word_pool.specs.PoolSteps.{Takes}
 use Rattle.word_pool.specs.Tally.{own, tally}
 use Rattle.word_pool.specs.PoolRule.{KeepsPool}
-use Rattle.word_pool.specs.Crowd.{now, moved_by, log_of_call, IsSmall, KeepsCrowd}
+use Rattle.word_pool.specs.Crowd.{competes, now, log_of_call, IsSmall, KeepsCrowd}
 
 -- one of two numbers: for a call that rests, and for one that competes; 0 for one that has ended
 abbrev pub by_stage : Stage → ℕ → ℕ → ℕ
@@ -63,6 +63,8 @@ IsSmallAmongFew =
     (count : ℕ) (words : List ℕ) (views : List PoolView) (seat : ℕ) (c : Call) (past : List Call) → KeepsLine count words views → get_elem? views seat ≡ some (lone c past) →
     c.stage ≡ Holding → (c.crowds ≡ log_of_call views c) × IsSmall c
 
--- where the rule is kept, moment t is the t-th coming or going of a call, so it is of one call
-abbrev pub IsMomentOfOne : Type 0
-IsMomentOfOne = (count : ℕ) (words : List ℕ) (views : List PoolView) (t : ℕ) → KeepsLine count words views → t ≤ now views → tally (moved_by t) views ≡ t
+-- where the rule is kept before and after, a call that rested and then competes has come at the moment after the last
+abbrev pub ComesAtTheNext : Type 0
+ComesAtTheNext =
+    (count : ℕ) (words next : List ℕ) (views : List PoolView) (seat : ℕ) (c d : Call) (past : List Call) → KeepsLine count words views → get_elem? views seat ≡ some (lone c past) →
+    c.stage ≡ AtRest → competes d ≡ 1 → KeepsLine count next (set views seat (lone d past)) → d.came ≡ suc (now views)

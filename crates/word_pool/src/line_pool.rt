@@ -2,8 +2,8 @@
 
 ghost use Rattle.std.specs.Prelude.{[], ◌∷◌, ◌≡◌, ◌≢◌, ◌<◌, ◌≤◌, ◌+◌, ◌-◌, ◌*◌, ◌⊎◌, ◌↔◌, ℕ, suc, true, false, Err, IfErr, IfOk, IfSome, IsOk, IsSome, vec_len, slice_index};
 ghost use Rattle.word_pool.specs.PoolRule.{word_of};
-ghost use Rattle.word_pool.specs.PoolView.{call_of, first_places, IsSeeking, IsHolding, HasLooked};
-ghost use Rattle.word_pool.specs.Pools.{CallId, IsHeldAt};
+ghost use Rattle.word_pool.specs.PoolView.{call_of, first_of, first_places, going, IsSeeking, IsHolding, HasLooked};
+ghost use Rattle.word_pool.specs.Pools.{CallId, IsHeldAt, IsStill};
 ghost use Rattle.word_pool.specs.Crowd.{greatest};
 ghost use Rattle.word_pool.specs.LineRule.{rests};
 ghost use Rattle.word_pool.specs.Tally.{holding, own, sum_below};
@@ -105,10 +105,11 @@ impl<A: Allocator> LinePool<A> {
     /// it swaps 1 into it, so it makes at most two accesses for each number that it tries; and it leaves a number behind only
     /// where an access met it held. The ticket is of this line, and comes back with `release`. The number is at most the most
     /// calls that competed, held or sought, at one moment of this one (Moir and Anderson 1995): `crowds` is how many did at
-    /// each moment, as `law_of_the_line` says of any call that holds.
+    /// each moment, as `law_of_the_line` says of any call that holds; and this call is the next of the ticket's seat.
     pub fn acquire(&self, ticket: Ticket) -> Held
         requires ours { ticket.pool ≡ self.now.table }
         ensures ours { result.pool ≡ self.now.table }
+        ensures this_call { (result.seat ≡ ticket.seat) × (result.past ≡ ticket.past) }
         ensures range { (1 ≤ result.number) × (result.number ≤ self.now.numbers) }
         ensures below { result.call.met ≡ first_places (result.number - 1) }
         ensures accesses { result.call.accesses ≤ 2 * result.number }
@@ -126,6 +127,7 @@ impl<A: Allocator> LinePool<A> {
         requires some { 0 < self.now.numbers }
         requires looked { HasLooked found 0 (call_of seat.me.0).accesses seat.me.0 × (seat.me.1 ≡ []) }
         ensures ours { result.pool ≡ self.now.table }
+        ensures this_call { (result.seat ≡ seat.id) × (result.past ≡ seat.me.0.past) }
         ensures range { (1 ≤ result.number) × (result.number ≤ self.now.numbers) }
         ensures below { result.call.met ≡ first_places (result.number - 1) }
         ensures accesses { result.call.accesses + 1 ≤ (call_of seat.me.0).accesses + 2 * result.number }
@@ -155,6 +157,7 @@ impl<A: Allocator> LinePool<A> {
         requires place { place < self.now.numbers }
         requires looked { HasLooked found place (call_of seat.old.me.0).accesses seat.old.me.0 × (seat.old.me.1 ≡ []) }
         ensures ours { seat.new.table_id ≡ self.now.table }
+        ensures this_call { (seat.new.id ≡ seat.old.id) × (seat.new.me.0.past ≡ seat.old.me.0.past) }
         ensures slots { seat.new.me.1 ≡ [] }
         ensures held { result ≡ true → IsHolding place (suc (call_of seat.old.me.0).accesses) seat.new.me.0 }
         ensures small { result ≡ true → suc place ≤ greatest (call_of seat.new.me.0).crowds }
@@ -174,9 +177,10 @@ impl<A: Allocator> LinePool<A> {
     /// Gives a number back, by one access, and has a ticket again. It is of this line.
     pub fn release(&self, held: Held) -> Ticket
         requires ours { held.pool ≡ self.now.table }
-        ensures ours { result.pool ≡ self.now.table }
-        ensures number { suc result.last.place ≡ held.number }
-        ensures accesses { result.last.accesses ≡ held.call.accesses + 1 }
+        ensures ours { (result.pool ≡ self.now.table) × (result.seat ≡ held.seat) }
+        ensures past { (moment : ℕ) × (result.past ≡ going moment held.call ∷ held.past) }
+        ensures number { suc (first_of result.past).place ≡ held.number }
+        ensures accesses { (first_of result.past).accesses ≡ held.call.accesses + 1 }
     {
         let Held { place, badge } = held;
         let mut seat = badge.into_seat::<u8>();
@@ -192,8 +196,8 @@ impl<A: Allocator> LinePool<A> {
     pub fn meet(&self, one: &mut Held, other: &mut Held)
         requires one { one.old.pool ≡ self.now.table }
         requires other { other.old.pool ≡ self.now.table }
-        ensures one { one.new ≡ one.old }
-        ensures other { other.new ≡ other.old }
+        ensures one { IsStill one.old one.new }
+        ensures other { IsStill other.old other.new }
         ensures apart { one.old.number ≢ other.old.number }
     {
         let left = mem::replace(&mut one.badge, Badge::blank()).into_seat::<u8>();

@@ -7,7 +7,7 @@ ghost use Rattle.word_pool.specs.Tally.{own, holding};
 ghost use Rattle.std.specs.Mem.Slots.{slots_items, slots_len, IsFull};
 ghost use Rattle.word_pool.specs.PoolRule.{word_of};
 ghost use Rattle.word_pool.specs.PoolView.{call_of, first_places, lone, IsSeeking, IsHolding, IsResting, HasLooked};
-ghost use Rattle.word_pool.specs.Pools.{CallId, IsHeldAt};
+ghost use Rattle.word_pool.specs.Pools.{CallId, IsHeldAt, IsStill};
 
 use crate::held::{AllHeld, Held, Released};
 use crate::pool_steps::{
@@ -217,8 +217,8 @@ impl<A: Allocator> WordPool<A> {
     pub fn meet(&self, one: &mut Held, other: &mut Held)
         requires one { one.old.pool ≡ self.now.table }
         requires other { other.old.pool ≡ self.now.table }
-        ensures one { one.new ≡ one.old }
-        ensures other { other.new ≡ other.old }
+        ensures one { IsStill one.old one.new }
+        ensures other { IsStill other.old other.new }
         ensures apart { one.old.number ≢ other.old.number }
     {
         let left = mem::replace(&mut one.badge, Badge::blank()).into_seat::<u8>();
