@@ -46,7 +46,9 @@ KeepsLineRule count s = KeepsLine count s.words s.views
 -- where the rule is kept, a seat one of whose calls stands at a place or further on has one of the numbers, or seeks one: so
 -- no seat has met all numbers held
 abbrev pub StandsInLine : Type 0
-StandsInLine = (count : ℕ) (words : List ℕ) (views : List PoolView) (place seat : ℕ) (v : PoolView) → KeepsLine count words views → get_elem? views seat ≡ some v → 1 ≤ own (from place) v → place < count
+StandsInLine =
+    (count : ℕ) (words : List ℕ) (views : List PoolView) (place seat : ℕ) (v : PoolView) → KeepsLine count words views →
+    get_elem? views seat ≡ some v → 1 ≤ own (from place) v → place < count
 
 -- a step that no seat can make
 abbrev pub NeverComes : {S : Type 0} → Step S → Me S PoolView → ℕ → Me S PoolView → Type 0
@@ -60,11 +62,12 @@ TakesInLine s before found after = Takes s before found after × (found ≡ 0 �
 -- moment from its coming to its taking of the number, and its number is at most the most of them
 abbrev pub IsSmallAmongFew : Type 0
 IsSmallAmongFew =
-    (count : ℕ) (words : List ℕ) (views : List PoolView) (seat : ℕ) (c : Call) (past : List Call) → KeepsLine count words views → get_elem? views seat ≡ some (lone c past) →
-    c.stage ≡ Holding → (c.crowds ≡ log_of_call views c) × IsSmall c
+    (count : ℕ) (words : List ℕ) (views : List PoolView) (seat : ℕ) (c : Call) (past : List Call) → KeepsLine count words views →
+    get_elem? views seat ≡ some (lone c past) → c.stage ≡ Holding → (c.crowds ≡ log_of_call views c) × IsSmall c
 
 -- where the rule is kept before and after, a call that rested and then competes has come at the moment after the last
 abbrev pub ComesAtTheNext : Type 0
 ComesAtTheNext =
-    (count : ℕ) (words next : List ℕ) (views : List PoolView) (seat : ℕ) (c d : Call) (past : List Call) → KeepsLine count words views → get_elem? views seat ≡ some (lone c past) →
-    c.stage ≡ AtRest → competes d ≡ 1 → KeepsLine count next (set views seat (lone d past)) → d.came ≡ suc (now views)
+    (count : ℕ) (words next : List ℕ) (views : List PoolView) (seat : ℕ) (c d : Call) (past : List Call) → KeepsLine count words views →
+    get_elem? views seat ≡ some (lone c past) → c.stage ≡ AtRest → competes d ≡ 1 → KeepsLine count next (set views seat (lone d past)) →
+    d.came ≡ suc (now views)

@@ -15,11 +15,33 @@ coming moment c = record { stage = Seeking; place = 0; met = []; accesses = c.ac
 
 -- one access more, which changes nothing else
 abbrev pub spent : Call → Call
-spent c = record { stage = c.stage; place = c.place; met = c.met; accesses = suc c.accesses; hinted = c.hinted; came = c.came; took = c.took; went = c.went; crowds = c.crowds }
+spent c =
+    record {
+      stage = c.stage;
+      place = c.place;
+      met = c.met;
+      accesses = suc c.accesses;
+      hinted = c.hinted;
+      came = c.came;
+      took = c.took;
+      went = c.went;
+      crowds = c.crowds;
+    }
 
 -- an access that met its place held: it goes on to the next
 abbrev pub passing : Call → Call
-passing c = record { stage = Seeking; place = suc c.place; met = c.place ∷ c.met; accesses = suc c.accesses; hinted = c.hinted; came = c.came; took = c.took; went = c.went; crowds = c.crowds }
+passing c =
+    record {
+      stage = Seeking;
+      place = suc c.place;
+      met = c.place ∷ c.met;
+      accesses = suc c.accesses;
+      hinted = c.hinted;
+      came = c.came;
+      took = c.took;
+      went = c.went;
+      crowds = c.crowds;
+    }
 
 -- an access that took its place, at this moment: with how many competed at each moment till then
 abbrev pub taking : ℕ → List ℕ → Call → Call
@@ -28,11 +50,23 @@ taking moment crowds c =
 
 -- an access of a call at rest that took this place, at this moment
 abbrev pub taking_hint : ℕ → ℕ → Call → Call
-taking_hint place moment c = record { stage = Holding; place = place; met = []; accesses = suc c.accesses; hinted = true; came = moment; took = moment; went = 0; crowds = [] }
+taking_hint place moment c =
+    record { stage = Holding; place = place; met = []; accesses = suc c.accesses; hinted = true; came = moment; took = moment; went = 0; crowds = [] }
 
 -- the access that gave its place back, at this moment
 abbrev pub going : ℕ → Call → Call
-going moment c = record { stage = Ended; place = c.place; met = c.met; accesses = suc c.accesses; hinted = c.hinted; came = c.came; took = c.took; went = moment; crowds = c.crowds }
+going moment c =
+    record {
+      stage = Ended;
+      place = c.place;
+      met = c.met;
+      accesses = suc c.accesses;
+      hinted = c.hinted;
+      came = c.came;
+      took = c.took;
+      went = moment;
+      crowds = c.crowds;
+    }
 
 -- a look at its place found this
 abbrev pub looked : ℕ → Call → Call

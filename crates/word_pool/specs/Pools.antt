@@ -1,10 +1,12 @@
 -- pools and what is held of them, as callers see them
-use Rattle.std.specs.Prelude.{◌≡◌, ℕ, suc, List, [], ◌∷◌, drop}
+use Rattle.std.specs.Prelude.{◌≡◌, ◌<◌, ◌≤◌, ◌-◌, ℕ, suc, List, [], ◌∷◌, drop}
 use Rattle.atomic_table.specs.Seated.{TableId}
 use Rattle.word_pool.specs.declared.pool_view.Stage.TheVariants.{Holding}
 use Rattle.word_pool.specs.declared.pool_view.Call.{Call}
 use Rattle.word_pool.specs.declared.pool_view.PoolView.{PoolView}
-use Rattle.word_pool.specs.PoolView.{lone, call_in, past_in, first_of}
+use Rattle.word_pool.specs.PoolView.{lone, call_in, past_in, first_of, first_places}
+use Rattle.word_pool.specs.PoolRule.{word_of}
+use Rattle.word_pool.specs.Tally.{own, holding}
 
 -- which pool it is, and how many numbers it has
 pub record PoolId : Type 0 where
@@ -42,6 +44,18 @@ pub record TicketId : Type 0 where
 
 abbrev pub ticket_id : TableId → ℕ → List Call → TicketId
 ticket_id pool seat past = record { pool = pool; seat = seat; past = past }
+
+-- a call met each number of the pool held, one after another, from 1 on
+abbrev pub HasMetAllHeld : PoolId → CallId → Type 0
+HasMetAllHeld p a = (a.pool ≡ p.table) × (a.call.met ≡ first_places p.numbers)
+
+-- a table that has a word for each of so many numbers, and no slots, and knows how many they are
+abbrev pub IsTableOf : ℕ → TableId → ℕ → Type 0
+IsTableOf numbers table key = (table.words ≡ word_of numbers) × (key ≡ numbers) × (1 ≤ numbers) × (numbers ≤ 4096) × (table.slots ≡ 0)
+
+-- this view, of a seat of this table, has the number that a call holds
+abbrev pub HasNumberOf : TableId → PoolView → CallId → Type 0
+HasNumberOf table v h = (1 ≤ own (holding (h.number - 1)) v) × (word_of (h.number - 1) < table.words)
 
 -- the view of a badge is that of a seat whose call holds this place
 pub record IsHeldAt (place : ℕ) (views : List PoolView) : Type 0 where

@@ -3,7 +3,7 @@
 ghost use Rattle.std.specs.Prelude.{[], ◌∷◌, ◌≡◌, ◌≢◌, ◌<◌, ◌≤◌, ◌+◌, ◌-◌, ◌*◌, ◌⊎◌, ◌↔◌, ℕ, suc, true, false, Err, IfErr, IfOk, IfSome, IsOk, IsSome, vec_len, slice_index};
 ghost use Rattle.word_pool.specs.PoolRule.{word_of};
 ghost use Rattle.word_pool.specs.PoolView.{call_of, first_of, first_places, going, IsSeeking, IsHolding, HasLooked};
-ghost use Rattle.word_pool.specs.Pools.{CallId, IsHeldAt, IsStill};
+ghost use Rattle.word_pool.specs.Pools.{CallId, HasNumberOf, IsHeldAt, IsStill};
 ghost use Rattle.word_pool.specs.Crowd.{greatest};
 ghost use Rattle.word_pool.specs.LineRule.{rests};
 ghost use Rattle.word_pool.specs.Tally.{holding, own, sum_below};
@@ -31,15 +31,13 @@ pub struct LinePool<A: Allocator> {
 }
 
 impl<A: Allocator> Model for LinePool<A> {
-    ghost use Rattle.std.specs.Prelude.{◌≡◌, ◌≤◌};
-    ghost use Rattle.word_pool.specs.PoolRule.{word_of};
-    ghost use Rattle.word_pool.specs.Pools.{PoolId, pool_of};
+    ghost use Rattle.word_pool.specs.Pools.{IsTableOf, PoolId, pool_of};
 
     ghost Value = { PoolId };
 
     ghost view = { λ p. pool_of p.table.shared.table_id p.numbers };
 
-    ghost invariant = { λ p. (p.table.shared.table_id.words ≡ word_of p.numbers) × (p.table.shared.key ≡ p.numbers) × (1 ≤ p.numbers) × (p.numbers ≤ 4096) × (p.table.shared.table_id.slots ≡ 0) };
+    ghost invariant = { λ p. IsTableOf p.numbers p.table.shared.table_id p.table.shared.key };
 }
 
 impl<A: Allocator + Clone> LinePool<A> {
@@ -263,7 +261,7 @@ impl<A: Allocator> LinePool<A> {
         requires out { (i : ℕ) (h : CallId) → get_elem? out.items i ≡ some h → h.pool ≡ self.now.table }
         ensures ours { (seat.new.table_id ≡ self.now.table) × (seat.new.me.1 ≡ []) }
         ensures rests { own rests seat.old.me.0 ≤ own rests seat.new.me.0 }
-        ensures held { (i : ℕ) (h : CallId) → get_elem? out.items i ≡ some h → (1 ≤ own (holding (h.number - 1)) seat.new.me.0) × (word_of (h.number - 1) < self.now.table.words) }
+        ensures held { (i : ℕ) (h : CallId) → get_elem? out.items i ≡ some h → HasNumberOf self.now.table seat.new.me.0 h }
     {
         while let Some(held) = out.pop() {
             self.gather(seat, held);
@@ -277,7 +275,7 @@ impl<A: Allocator> LinePool<A> {
         ensures ours { (seat.new.table_id ≡ self.now.table) × (seat.new.me.1 ≡ []) }
         ensures more { (place : ℕ) → own (holding place) seat.old.me.0 ≤ own (holding place) seat.new.me.0 }
         ensures rests { own rests seat.old.me.0 ≤ own rests seat.new.me.0 }
-        ensures held { (1 ≤ own (holding (held.number - 1)) seat.new.me.0) × (word_of (held.number - 1) < self.now.table.words) }
+        ensures held { HasNumberOf self.now.table seat.new.me.0 held }
     {
         let Held { place: _, badge } = held;
         self.table

@@ -12,8 +12,9 @@
 //! each seat. C can share no handle by `&`, since nothing that holds atomic words may cross to it so.
 #![tactic(auto)]
 
-ghost use Rattle.std.specs.Prelude.{◌≡◌, ◌≢◌, ◌≤◌, IsSome, IsSomeAnd, None, Some, true, false};
+ghost use Rattle.std.specs.Prelude.{◌≡◌, ◌≢◌, ◌≤◌, ◌⊎◌, IsSome, IsSomeAnd, None, Some, true, false};
 ghost use Rattle.std.specs.Arc.{arc_value};
+ghost use Rattle.word_pool_c.specs.Told.{HoldsNumber, WasRefused};
 ghost use Rattle.word_pool_c.specs.declared.member.Member.{Member};
 
 pub mod grid;
@@ -36,7 +37,7 @@ fn open_pool(alloc: Global, size: u64) -> Option<Box<Member, Global>>
 {
     let pool = WordPool::new(alloc, size).ok()?;
     let pool = Arc::new(alloc, pool).ok()?;
-    Box::new(alloc, Member { pool, held: None }).ok()
+    Box::new(alloc, Member::of(pool)).ok()
 }
 
 /// Makes a pool of the numbers from 1 to `size`, which is from 1 to 4096, at a handle that holds none. False, with nothing
@@ -73,7 +74,7 @@ pub extern "C" fn word_pool_join(alloc: Global, handle: &mut Handle, other: &mut
     let Ok(pool) = theirs else {
         return false;
     };
-    match Box::new(alloc, Member { pool, held: None }) {
+    match Box::new(alloc, Member::of(pool)) {
         Ok(whole) => {
             *other = Handle::of(whole);
             true
@@ -88,8 +89,9 @@ pub extern "C" fn word_pool_join(alloc: Global, handle: &mut Handle, other: &mut
 pub extern "C" fn word_pool_acquire(alloc: Global, handle: &mut Handle) -> u64
     ghost pool: { Member }
     requires held { handle.old.pool ≡ Some pool }
-    ensures number { result ≢ 0 → IsSomeAnd handle.new.pool (λ m. IsSomeAnd m.held (λ h. h.number ≡ result) × (result ≤ (arc_value m.pool).numbers)) }
+    ensures number { result ≢ 0 → IsSomeAnd handle.new.pool (HoldsNumber result) }
     ensures kept { result ≡ 0 → IsSomeAnd handle.new.pool (λ m. m.held ≡ pool.held) }
+    ensures none { result ≡ 0 → IsSome pool.held ⊎ IsSomeAnd handle.new.pool WasRefused }
 {
     let mut whole = mem::replace(handle, Handle::blank(alloc)).into_box();
     let number = whole.acquire(1);
@@ -102,8 +104,9 @@ pub extern "C" fn word_pool_acquire(alloc: Global, handle: &mut Handle) -> u64
 pub extern "C" fn word_pool_acquire_near(alloc: Global, handle: &mut Handle, hint: u64) -> u64
     ghost pool: { Member }
     requires held { handle.old.pool ≡ Some pool }
-    ensures number { result ≢ 0 → IsSomeAnd handle.new.pool (λ m. IsSomeAnd m.held (λ h. h.number ≡ result) × (result ≤ (arc_value m.pool).numbers)) }
+    ensures number { result ≢ 0 → IsSomeAnd handle.new.pool (HoldsNumber result) }
     ensures kept { result ≡ 0 → IsSomeAnd handle.new.pool (λ m. m.held ≡ pool.held) }
+    ensures none { result ≡ 0 → IsSome pool.held ⊎ IsSomeAnd handle.new.pool WasRefused }
 {
     let mut whole = mem::replace(handle, Handle::blank(alloc)).into_box();
     let number = whole.acquire(hint);
