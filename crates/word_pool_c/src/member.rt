@@ -34,6 +34,7 @@ impl Member {
     /// Takes the number of the hint where it is free, else the least that a walk from 1 finds free, and holds it. 0 where
     /// the walk met each number held, and where one is held already.
     pub fn acquire(&mut self, hint: u64) -> u64
+        ensures pool { arc_value self.new.pool ≡ arc_value self.old.pool }
         ensures held { result ≢ 0 → IsSomeAnd self.new.held (λ h. h.number ≡ result) }
         ensures range { result ≢ 0 → result ≤ (arc_value self.new.pool).numbers }
         ensures kept { result ≡ 0 → self.new.held ≡ self.old.held }
@@ -58,8 +59,10 @@ impl Member {
 
     /// Gives back the number that is held, and tells it. 0 where none is.
     pub fn release(&mut self) -> u64
+        ensures pool { arc_value self.new.pool ≡ arc_value self.old.pool }
         ensures none { self.new.held ≡ None }
         ensures number { result ≢ 0 → IsSomeAnd self.old.held (λ h. h.number ≡ result) }
+        ensures zero { result ≡ 0 → self.old.held ≡ None }
     {
         match self.held.take() {
             Some(held) => {
