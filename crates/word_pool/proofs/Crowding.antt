@@ -1,5 +1,5 @@
 -- each step keeps the law of a crowd
-use Rattle.std.proofs.Common.{◌≡◌, ◌≢◌, ℕ, zero, suc, ◌+◌, ◌-◌, ◌≤◌, ⊎_elim, subst, sym, refl, ap, ◌∙◌, eqb, eq-eqb, ne_eqb, arith, List, [], ◌∷◌, ◌++◌, set}
+use Rattle.std.proofs.Common.{◌≡◌, ◌≢◌, ℕ, zero, suc, ◌+◌, ◌-◌, ◌≤◌, ◌<◌, ⊎_elim, subst, sym, refl, ap, ◌∙◌, eqb, eq-eqb, ne_eqb, arith, List, [], ◌∷◌, ◌++◌, set}
 use mathlib.Core.Option.{some, some-ne-none, some-injective}
 use mathlib.Core.Logic.{dite}
 use native.Mathlib.Decide.{ℕ_discrete}
@@ -11,23 +11,34 @@ use Rattle.word_pool.specs.declared.pool_view.Call.{Call}
 use Rattle.word_pool.specs.declared.pool_view.PoolView.{PoolView}
 use Rattle.word_pool.specs.PoolView.{at_rest, coming, spent, passing, taking, going, lone, view_of, no_call, united}
 use Rattle.word_pool.specs.Tally.{sum_of, tally, one_if, if_holding, holding}
-use Rattle.word_pool.specs.Crowd.{by_each, competes, beyond, moves, now, competed, WasCrowded, IsAdaptive, crowded_at, Each, KeepsCrowd}
+use Rattle.word_pool.specs.Crowd.{by_each, competes, beyond, moves, now, competed, moved_by, log_of, log_of_call, greatest, IsSmall, WasCrowded, crowded_at, Each, KeepsCrowd}
 use Rattle.word_pool.specs.LineRule.{undealt}
 use Rattle.word_pool.proofs.Tallies.{tally_set, tally_has, tally_sum}
 
 -- what was, stays so, and what is claimed of seekers goes on
+module _ (views next : List PoolView) (same : (t : ℕ) → t ≤ now views → tally (competed t) next ≡ tally (competed t) views) where
+  log_stays : (first n : ℕ) → first + n ≤ suc (now views) → log_of views first n ≡ log_of next first n
+  log_stays first zero le = refl
+  log_stays first (suc n) le = let a = same (first + n) (omega arith) in let b = log_stays first n (omega arith) in cc
+
 module _ (views next : List PoolView) (up : now views ≤ now next) (same : (t : ℕ) → t ≤ now views → tally (competed t) next ≡ tally (competed t) views)
     (goes_on : (came m : ℕ) → came ≤ now views → ((j : ℕ) → j ≤ m → WasCrowded views came j) → (j : ℕ) → j ≤ m → WasCrowded next came j) where
   lift_at : (stage : Stage) (c : Call) → crowded_at stage views c → crowded_at stage next c
   lift_at AtRest c h = tt
   lift_at Seeking c h = (omega (arith, h.0), goes_on c.came c.place h.0 h.1)
-  lift_at Holding c h = let e = same h.2.moment (let a = h.2.before in let b = h.1 in omega arith) in
-      (omega (arith, h.0), omega (arith, h.1), record { moment = h.2.moment; after = h.2.after; before = h.2.before; many = let m = h.2.many in omega arith })
+  lift_at Holding c h = (omega (arith, h.0), omega (arith, h.1), h.2 ∙ log_stays views next same c.came (suc c.took - c.came) (omega (arith, h.0, h.1)), h.3)
   lift_at Ended c h = tt
 
   pub lift_each : (cs : List Call) → Each (λ c. crowded_at c.stage views c) cs → Each (λ c. crowded_at c.stage next c) cs
   lift_each [] h = tt
   lift_each (c ∷ cs) h = (lift_at c.stage c h.0, lift_each cs h.1)
+
+-- each number of a log is at most the greatest
+in_log : (views : List PoolView) (first n t : ℕ) → first ≤ t → t < first + n → tally (competed t) views ≤ greatest (log_of views first n)
+in_log views first zero t from lt = absurd (omega arith)
+in_log views first (suc n) t from lt = dite (ℕ_discrete t (first + n))
+    (λ e. let same : tally (competed t) views ≡ tally (competed (first + n)) views = ap (λ (k : ℕ). tally (competed k) views) e in omega arith)
+    (λ ne. let a = in_log views first n t from (omega arith) in omega arith)
 
 -- what is claimed of a seeker stays so where no more stand anywhere
 module _ (views next : List PoolView) (up : now views ≤ now next) (same : (t : ℕ) → t ≤ now views → tally (competed t) next ≡ tally (competed t) views) where
@@ -46,10 +57,12 @@ module _ (views : List PoolView) (kept : KeepsCrowd views) (seat : ℕ) (u v : P
   -- a step of one seat
   step_crowd : (up : now views ≤ now after) (same : (t : ℕ) → t ≤ now views → tally (competed t) after ≡ tally (competed t) views)
       (goes_on : (came m : ℕ) → came ≤ now views → ((j : ℕ) → j ≤ m → WasCrowded views came j) → (j : ℕ) → j ≤ m → WasCrowded after came j)
+      → ((t : ℕ) → tally (moved_by t) after ≡ t - (t - now after))
       → ((t : ℕ) → now after ≤ t → tally (competed t) after ≡ tally competes after)
       → Each (λ c. crowded_at c.stage after c) v.calls
       → KeepsCrowd after
-  step_crowd up same goes_on present mine = record {
+  step_crowd up same goes_on clock present mine = record {
+    clock = clock;
     present = present;
     crowd = λ k w e. ⊎_elim
         (λ t. subst (λ (x : PoolView). Each (λ c. crowded_at c.stage after c) x.calls) t.1 mine)
@@ -95,6 +108,7 @@ module _ (views : List PoolView) (kept : KeepsCrowd views) (seat : ℕ) (c : Cal
       (λ since m le h j lt. dite (ℕ_discrete j 0)
       (λ z. subst (λ (k : ℕ). WasCrowded came since k) (sym z) (first since (omega arith)))
       (λ ne. let a = moved (beyond j) (rw is refl) in keeps_at views came up same since j j (h j lt) (omega arith)))
+      (λ t. let a = moved (moved_by t) (rw is refl) in let k = kept.clock t in omega arith)
       present
       ((omega arith, λ place le. subst (λ (k : ℕ). WasCrowded came (suc (now views)) k) (let z : 0 ≡ place = omega arith in z) (first (suc (now views)) (omega arith))), tt)
 
@@ -121,6 +135,7 @@ module _ (views : List PoolView) (kept : KeepsCrowd views) (seat : ℕ) (c : Cal
         let claims : (since m : ℕ) → since ≤ now views → ((j : ℕ) → j ≤ m → WasCrowded views since j) → (j : ℕ) → j ≤ m → WasCrowded n since j =
         (λ since m le h j lt. let a = all (beyond j) refl in keeps_at views n up same since j j (h j lt) (omega arith)) in
         step_crowd views kept seat (lone c past) (lone (spent c) past) there up same claims
+        (λ t. let a = all (moved_by t) refl in let k = kept.clock t in omega arith)
         (λ t le. let a = all (competed t) refl in let b = all competes refl in let k = kept.present t (omega arith) in omega arith)
         (subst (λ (s : Stage). crowded_at s n (spent c)) (sym is) (let o = own_claim.0 in omega arith, claims c.came c.place own_claim.0 own_claim.1), tt)
 
@@ -141,25 +156,39 @@ module _ (views : List PoolView) (kept : KeepsCrowd views) (seat : ℕ) (c : Cal
         (λ ne. let a = changed (passing c) past (beyond j) in let b = before j in keeps_at views n up same since j j (here ne) (omega arith))) in
         step_crowd views kept seat (lone c past) (lone (passing c) past) there up same
         (λ since m le h j lt. one since j (λ i le' _. h i (omega arith)) (λ ne. h j lt))
+        (λ t. let a = all (moved_by t) (rw is refl) in let k = kept.clock t in omega arith)
         (λ t le. let a = all (competed t) (rw is refl) in let b = all competes (rw is refl) in let k = kept.present t (omega arith) in omega arith)
         ((let o = own_claim.0 in omega arith, λ place le. one c.came place (λ i le' low. own_claim.1 i low) (λ ne. own_claim.1 place (omega arith))), tt)
 
+    -- how many competed at each of its moments so far
+    abbrev pub log_so_far : List ℕ
+    log_so_far = log_of views c.came (suc (now views) - c.came)
+
+    -- at one of them as many as the number of its place says
+    pub small_so_far : suc c.place ≤ greatest log_so_far
+    small_so_far =
+        let w = own_claim.1 c.place (omega arith) in
+        let x : beyond c.place c ≡ 1 = rw is (omega arith) in
+        let here = tally_has (beyond c.place) views seat (lone c past) there in
+        let many = w.many in
+        let most = in_log views c.came (suc (now views) - c.came) w.moment w.after (omega (arith, w.before)) in
+        omega arith
+
     -- it takes its place
-    pub taking_crowd : KeepsCrowd (next (taking (now views) c) past)
+    pub taking_crowd : KeepsCrowd (next (taking (now views) log_so_far c) past)
     taking_crowd =
-        let d : Call = taking (now views) c in
+        let d : Call = taking (now views) log_so_far c in
         let n : List PoolView = next d past in
         let all : (f : Call → ℕ) → f d ≡ f c → tally f n ≡ tally f views = (λ f e. let a = changed d past f in omega arith) in
         let clock = all moves (rw is refl) in
         let up : now views ≤ now n = omega arith in
         let same : (t : ℕ) → t ≤ now views → tally (competed t) n ≡ tally (competed t) views = (λ t le. all (competed t) (rw is refl)) in
-        let w = own_claim.1 c.place (omega arith) in
-        let x : beyond c.place c ≡ 1 = rw is (omega arith) in
-        let here = tally_has (beyond c.place) views seat (lone c past) there in
+        let o = own_claim.0 in
         step_crowd views kept seat (lone c past) (lone d past) there up same
         (λ since m le h j lt. let a = all (beyond j) (rw is refl) in keeps_at views n up same since j j (h j lt) (omega arith))
+        (λ t. let a = all (moved_by t) (rw is refl) in let k = kept.clock t in omega arith)
         (λ t le. let a = all (competed t) (rw is refl) in let b = all competes (rw is refl) in let k = kept.present t (omega arith) in omega arith)
-        ((let o = own_claim.0 in omega arith, omega arith, record { moment = w.moment; after = w.after; before = w.before; many = let e = same w.moment w.before in let m = w.many in omega arith }), tt)
+        ((omega arith, omega arith, log_stays views n same c.came (suc (now views) - c.came) (omega arith), small_so_far), tt)
 
   -- it gives its place back
   pub going_crowd : c.stage ≡ Holding → KeepsCrowd (next at_rest (going (suc (now views)) c ∷ past))
@@ -177,6 +206,7 @@ module _ (views : List PoolView) (kept : KeepsCrowd views) (seat : ℕ) (c : Cal
       let came = o.0 in
       step_crowd views kept seat (lone c past) (lone at_rest (d ∷ past)) there up same
       (λ since m le h j lt. let a = all (beyond j) in keeps_at views n up same since j j (h j lt) (omega arith))
+      (λ t. let a = all (moved_by t) in let w : moved_by t c ≡ 1 - (c.came - t) = rw is refl in let k = kept.clock t in omega arith)
       (λ t le. let a = all (competed t) in let w = was t in let b = all competes in let k = kept.present t (omega arith) in omega arith)
       (tt, tt)
 
@@ -206,6 +236,9 @@ module _ (views : List PoolView) (kept : KeepsCrowd views) (seat : ℕ) (c : Cal
 
 -- calls change seats
 module _ (views next : List PoolView) (kept : KeepsCrowd views) (all : (f : Call → ℕ) → tally f next ≡ tally f views) where
+  pub stays_clock : (t : ℕ) → tally (moved_by t) next ≡ t - (t - now next)
+  stays_clock t = let a = all moves in let b = all (moved_by t) in let k = kept.clock t in omega arith
+
   pub stays_present : (t : ℕ) → now next ≤ t → tally (competed t) next ≡ tally competes next
   stays_present t le = let a = all moves in let b = all (competed t) in let d = all competes in let k = kept.present t (omega arith) in omega arith
 
@@ -227,6 +260,7 @@ unites_crowd views kept seat other u w there apart there' all =
     let keep = stays views next kept all in
     let theirs : get_elem? views other ≡ some w = sym (set_else views seat other (united u w) apart) ∙ there' in
     record {
+      clock = stays_clock views next kept all;
       present = stays_present views next kept all;
       crowd = λ k v e. ⊎_elim
           (λ t. subst (λ (x : PoolView). Each (λ c. crowded_at c.stage next c) x.calls) t.1 tt)
@@ -245,6 +279,7 @@ parts_crowd views kept seat left right all l r =
     let next : List PoolView = set views seat left ++ right ∷ [] in
     let keep = stays views next kept all in
     record {
+      clock = stays_clock views next kept all;
       present = stays_present views next kept all;
       crowd = λ k v e. ⊎_elim
           (λ t. ⊎_elim
@@ -265,6 +300,7 @@ sum_undealt f z (suc n) = let a = sum_undealt f z n in omega arith
 
 pub crowd_opens : (n : ℕ) → KeepsCrowd (view_of (undealt n) [] ∷ [])
 crowd_opens n = record {
+  clock = λ t. let a = sum_undealt (moved_by t) refl n in let b = sum_undealt moves refl n in omega arith;
   present = λ t le. let a = sum_undealt (competed t) refl n in let b = sum_undealt competes refl n in omega arith;
   crowd = λ k v e. lone_seat k v e;
 } where
@@ -296,6 +332,33 @@ two_beyond views p seat c past there is here held =
     let e = tally_sum (λ x. beyond (suc p) x + holding p x) (beyond (suc p)) (holding p) (λ x. refl) views in
     omega arith
 
--- a law of all views: a call that holds a number is one of a crowd that was as large
-pub adaptive : (views : List PoolView) → KeepsCrowd views → (seat : ℕ) (c : Call) (past : List Call) → get_elem? views seat ≡ some (lone c past) → c.stage ≡ Holding → IsAdaptive views c
-adaptive views kept seat c past there is = (subst (λ (s : Stage). crowded_at s views c) is (kept.crowd seat (lone c past) there).0).2
+-- a law of all views: what a call that holds a number has kept is so, and its number is small
+pub adaptive : (views : List PoolView) → KeepsCrowd views → (seat : ℕ) (c : Call) (past : List Call) → get_elem? views seat ≡ some (lone c past) → c.stage ≡ Holding → (c.crowds ≡ log_of_call views c) × IsSmall c
+adaptive views kept seat c past there is = let h = subst (λ (s : Stage). crowded_at s views c) is (kept.crowd seat (lone c past) there).0 in (h.2, h.3)
+
+-- a call that competes has moved once, and that is its coming
+moved_once : (stage : Stage) (came went t : ℕ) → by_each stage 0 1 1 0 ≡ 1 → (by_each stage 0 1 1 2 ≡ 1) × (by_each stage 0 (1 - (came - t)) (1 - (came - t)) ((1 - (came - t)) + (1 - (went - t))) ≡ 1 - (came - t))
+moved_once AtRest came went t e = absurd (omega arith)
+moved_once Seeking came went t e = (refl, refl)
+moved_once Holding came went t e = (refl, refl)
+moved_once Ended came went t e = absurd (omega arith)
+
+-- so it has come at the moment after the last
+pub comes_next : (views : List PoolView) → KeepsCrowd views → (seat : ℕ) (c d : Call) (past : List Call) → get_elem? views seat ≡ some (lone c past) → c.stage ≡ AtRest → competes d ≡ 1 → KeepsCrowd (set views seat (lone d past)) → d.came ≡ suc (now views)
+comes_next views kept seat c d past there rests comes after =
+    let changed : (f : Call → ℕ) → tally f (set views seat (lone d past)) + f c ≡ tally f views + f d = (λ f. let a = tally_set f views seat (lone c past) (lone d past) there in omega arith) in
+    let still : (t : ℕ) → (moves c ≡ 0) × (moved_by t c ≡ 0) = (λ t. (rw rests refl, rw rests refl)) in
+    let once : (t : ℕ) → (moves d ≡ 1) × (moved_by t d ≡ 1 - (d.came - t)) = (λ t. moved_once d.stage d.came d.went t comes) in
+    let last : ℕ = now views in
+    let count = changed moves in
+    let a = changed (moved_by last) in
+    let b = changed (moved_by (suc last)) in
+    let before = kept.clock last in
+    let before' = kept.clock (suc last) in
+    let after' = after.clock last in
+    let after'' = after.clock (suc last) in
+    let x = still last in
+    let x' = still (suc last) in
+    let y = once last in
+    let y' = once (suc last) in
+    omega (arith, x.0, x.1, x'.1, y.0, y.1, y'.1)

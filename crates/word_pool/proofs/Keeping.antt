@@ -159,14 +159,14 @@ module _ {S : Type 0} (count slots : ℕ) where
         (λ q ne. let x = none_held q in let y = missed z q in omega arith))
 
     -- a call swaps 1 into the word of its place
-    pub take_kept : (moment p : ℕ) (s : State S PoolView) → p < count → c.stage ≡ Seeking → c.place ≡ p → KeepsPoolRule count s → get_elem? s.views seat ≡ some (lone c past)
-        → KeepsPool count (set s.words (p * 8) 1) (set s.views seat (lone (swapped moment (slice_index s.words (p * 8)) c) past))
-    take_kept moment p s within is here h e = swap_kept s h e p (swapped moment (slice_index s.words (p * 8)) c) within (λ q. seeks_none q c is)
+    pub take_kept : (moment : ℕ) (crowds : List ℕ) (p : ℕ) (s : State S PoolView) → p < count → c.stage ≡ Seeking → c.place ≡ p → KeepsPoolRule count s → get_elem? s.views seat ≡ some (lone c past)
+        → KeepsPool count (set s.words (p * 8) 1) (set s.views seat (lone (swapped moment crowds (slice_index s.words (p * 8)) c) past))
+    take_kept moment crowds p s within is here h e = swap_kept s h e p (swapped moment crowds (slice_index s.words (p * 8)) c) within (λ q. seeks_none q c is)
         (λ z. let a = eq-eqb (slice_index s.words (p * 8)) 0 z in rw a (refl, here))
         (λ z q. let a = ne_eqb (slice_index s.words (p * 8)) 0 z in rw a refl)
 
     pub may_take : (p : ℕ) (st : Step S) → p < count → c.stage ≡ Seeking → c.place ≡ p → Allows {S = S} {V = PoolView} (KeepsPoolRule count) slots seat (lone c past, []) (p * 8) (λ _. 1) (Takes st (lone c past, []))
-    may_take p st within is here s h _ e _ = (lone (swapped 1 (slice_index s.words (p * 8)) c) past, keeps, tt, take_kept 1 p s within is here h e, (1, refl))
+    may_take p st within is here s h _ e _ = (lone (swapped 1 [] (slice_index s.words (p * 8)) c) past, keeps, tt, take_kept 1 [] p s within is here h e, (1, [], refl))
 
     pub may_take_aside : (p n a b : ℕ) (o : Option S) → p < count → c.stage ≡ AtRest → Allows {S = S} {V = PoolView} (KeepsPoolRule count) slots seat (lone c past, []) (p * 8) (λ _. 1) (TakesAside (step n (p * 8) a b o) (lone c past, []))
     may_take_aside p n a b o within is s h _ e _ =

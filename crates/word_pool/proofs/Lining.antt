@@ -12,8 +12,8 @@ use Rattle.word_pool.specs.declared.pool_view.PoolView.{PoolView}
 use Rattle.word_pool.specs.PoolView.{at_rest, coming, spent, passing, taking, going, lone, resting, view_of}
 use Rattle.word_pool.specs.Tally.{sum_of, own, tally, one_if, if_holding, holding}
 use Rattle.atomic_table.proofs.Lists.{set_again}
-use Rattle.word_pool.specs.PoolSteps.{Comes, Looks, Takes, Frees, LooksOn}
-use Rattle.word_pool.specs.LineRule.{by_stage, from, rests, undealt, KeepsLine, KeepsLineRule, NeverComes}
+use Rattle.word_pool.specs.PoolSteps.{Comes, Looks, Frees, LooksOn}
+use Rattle.word_pool.specs.LineRule.{by_stage, from, rests, undealt, KeepsLine, KeepsLineRule, TakesInLine, NeverComes}
 use Rattle.atomic_table.specs.Table.{Joins}
 use Rattle.word_pool.proofs.Keeping.{both, may_unite, may_sever, united_own, apart_own}
 use Rattle.word_pool.specs.PoolView.{no_call}
@@ -22,8 +22,8 @@ use Rattle.word_pool.specs.PoolView.{looked}
 use Rattle.word_pool.specs.PoolView.{swapped}
 use Rattle.atomic_table.specs.Table.{keeps}
 use Rattle.std.proofs.Common.{slice_set}
-use Rattle.word_pool.specs.Crowd.{now, KeepsCrowd}
-use Rattle.word_pool.proofs.Crowding.{two_beyond, come_there, comes_and_looks, comes_and_passes, spent_crowd, passing_crowd, taking_crowd, going_crowd, unites_crowd, parts_crowd, each_undealt, crowd_opens}
+use Rattle.word_pool.specs.Crowd.{now, IsSmall, KeepsCrowd}
+use Rattle.word_pool.proofs.Crowding.{two_beyond, come_there, comes_and_looks, comes_and_passes, spent_crowd, passing_crowd, log_so_far, small_so_far, taking_crowd, going_crowd, unites_crowd, parts_crowd, each_undealt, crowd_opens}
 use Rattle.word_pool.proofs.Tallies.{tally_set, tally_snoc, tally_has, tally_sum}
 use Rattle.word_pool.proofs.Keeping.{come_kept, look_kept, take_kept, free_kept, reread, seeks_none, opens}
 
@@ -85,9 +85,9 @@ module _ {S : Type 0} (count slots seat : ℕ) where
   module _ (past : List Call) where
     pub may_come_in_line : (st : Step S) → 0 < count → Allows {S = S} {V = PoolView} (KeepsLineRule count) slots seat (resting past, []) 0 (λ n. n) (Comes st (resting past, []))
     may_come_in_line st some_number s h _ e _ =
-        let moment : ℕ = suc (now s.views) in
+        let arrival : ℕ = suc (now s.views) in
         let found : ℕ = slice_index s.words 0 in
-        let come : Call = coming moment at_rest in
+        let come : Call = coming arrival at_rest in
         let new : PoolView = lone (looked found come) past in
         let come_views : List PoolView = set s.views seat (lone come past) in
         let stands : Stands count (set s.views seat new) = dite (ℕ_discrete found 0)
@@ -97,7 +97,7 @@ module _ {S : Type 0} (count slots seat : ℕ) where
         let t = tally_set (holding 0) s.views seat (resting past) (lone come past) e in
         let two = two_beyond come_views 0 seat come past (come_there s.views h.crowd seat at_rest past e refl) refl refl (omega arith) in
         rw a (one_further count s.words s.views h seat at_rest (passing come) past e 0 some_number refl (λ q. omega arith) (λ q. refl) z, comes_and_passes s.views h.crowd seat at_rest past e refl two)) in
-        (new, keeps, tt, record { pool = come_kept count slots seat at_rest past moment s refl h.pool e; line = stands.0; crowd = stands.1 }, (moment, refl))
+        (new, keeps, tt, record { pool = come_kept count slots seat at_rest past arrival s refl h.pool e; line = stands.0; crowd = stands.1 }, (arrival, refl))
 
     -- no seat has met all numbers held
     pub never : (c : Call) (st : Step S) → c.stage ≡ Seeking → c.place ≡ count → Allows {S = S} {V = PoolView} (KeepsLineRule count) slots seat (lone c past, []) 0 (λ f. f) (NeverComes st (lone c past, []))
@@ -125,15 +125,17 @@ module _ {S : Type 0} (count slots seat : ℕ) where
           (λ z. let a = ne_eqb found 0 z in rw a (passes s h e is z)) in
           (new, keeps, tt, record { pool = look_kept count slots seat c past (p * 8) s is h.pool e; line = stands.0; crowd = stands.1 }, refl)
 
-      pub may_take_in_line : (st : Step S) → c.stage ≡ Seeking → Allows {S = S} {V = PoolView} (KeepsLineRule count) slots seat (lone c past, []) (p * 8) (λ _. 1) (Takes st (lone c past, []))
+      pub may_take_in_line : (st : Step S) → c.stage ≡ Seeking → Allows {S = S} {V = PoolView} (KeepsLineRule count) slots seat (lone c past, []) (p * 8) (λ _. 1) (TakesInLine st (lone c past, []))
       may_take_in_line st is s h _ e _ =
           let moment : ℕ = now s.views in
+          let log : List ℕ = log_so_far s.views h.crowd seat c past e is in
           let found : ℕ = slice_index s.words (p * 8) in
-          let new : PoolView = lone (swapped moment found c) past in
+          let new : PoolView = lone (swapped moment log found c) past in
           let stands : Stands count (set s.views seat new) = dite (ℕ_discrete found 0)
-          (λ z. let a = eq-eqb found 0 z in rw a (no_further count s.words s.views h seat c (taking moment c) past past e (λ q. let x : from q c ≡ 1 - (q - c.place) = rw is refl in omega arith), taking_crowd s.views h.crowd seat c past e is))
+          (λ z. let a = eq-eqb found 0 z in rw a (no_further count s.words s.views h seat c (taking moment log c) past past e (λ q. let x : from q c ≡ 1 - (q - c.place) = rw is refl in omega arith), taking_crowd s.views h.crowd seat c past e is))
           (λ z. let a = ne_eqb found 0 z in rw a (passes s h e is z)) in
-          (new, keeps, tt, record { pool = take_kept count slots seat c past moment p s within is here h.pool e; line = stands.0; crowd = stands.1 }, (moment, refl))
+          let small : found ≡ 0 → IsSmall (swapped moment log found c) = (λ z. let a = eq-eqb found 0 z in rw a (small_so_far s.views h.crowd seat c past e is)) in
+          (new, keeps, tt, record { pool = take_kept count slots seat c past moment log p s within is here h.pool e; line = stands.0; crowd = stands.1 }, ((moment, log, refl), small))
 
       pub may_free_in_line : (st : Step S) → c.stage ≡ Holding → Allows {S = S} {V = PoolView} (KeepsLineRule count) slots seat (lone c past, []) (p * 8) (λ _. 0) (λ _. Frees st (lone c past, []) 0)
       may_free_in_line st is s h _ e _ =

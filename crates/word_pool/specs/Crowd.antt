@@ -2,7 +2,7 @@
 -- sought, at one moment of it (Moir and Anderson 1995, of long-lived renaming by test-and-set).
 -- A moment is told by how many comings and goings of calls were before it. Who competed at a moment is told by when calls
 -- came and went, which stays in the views of their seats.
-use Rattle.std.specs.Prelude.{◌≡◌, ◌≤◌, ◌+◌, ◌-◌, ℕ, suc, List, [], ◌∷◌}
+use Rattle.std.specs.Prelude.{◌≡◌, ◌≤◌, ◌+◌, ◌-◌, ℕ, zero, suc, max, List, [], ◌∷◌}
 use mathlib.Core.Option.{some}
 use lib.ListN.{get_elem?}
 use Rattle.word_pool.specs.declared.pool_view.Stage.{Stage}
@@ -38,6 +38,28 @@ now views = tally moves views
 abbrev pub competed : ℕ → Call → ℕ
 competed t c = by_each c.stage 0 (1 - (c.came - t)) (1 - (c.came - t)) ((1 - (c.came - t)) - (1 - (c.went - t)))
 
+-- how often it had come and gone by this moment
+abbrev pub moved_by : ℕ → Call → ℕ
+moved_by t c = by_each c.stage 0 (1 - (c.came - t)) (1 - (c.came - t)) ((1 - (c.came - t)) + (1 - (c.went - t)))
+
+-- the log: how many competed at each of so many moments from the first on, the newest first
+abbrev pub log_of : List PoolView → ℕ → ℕ → List ℕ
+log_of views first zero = []
+log_of views first (suc n) = tally (competed (first + n)) views ∷ log_of views first n
+
+-- the part of the log from a call's coming to its taking of the number
+abbrev pub log_of_call : List PoolView → Call → List ℕ
+log_of_call views c = log_of views c.came (suc c.took - c.came)
+
+-- the greatest of some numbers
+abbrev pub greatest : List ℕ → ℕ
+greatest [] = 0
+greatest (n ∷ ns) = max n (greatest ns)
+
+-- the number of a call is at most the most that competed at one of its moments, as its view has kept them
+abbrev pub IsSmall : Call → Type 0
+IsSmall c = suc c.place ≤ greatest c.crowds
+
 -- at some moment since this one as many competed as stand at the place or further on, and `place` more
 pub record WasCrowded (views : List PoolView) (since place : ℕ) : Type 0 where
   pub moment : ℕ
@@ -45,17 +67,10 @@ pub record WasCrowded (views : List PoolView) (since place : ℕ) : Type 0 where
   pub before : moment ≤ now views
   pub many : tally (beyond place) views + place ≤ tally (competed moment) views
 
--- at some moment from its coming to its taking of the number, as many competed as the number says
-pub record IsAdaptive (views : List PoolView) (c : Call) : Type 0 where
-  pub moment : ℕ
-  pub after : c.came ≤ moment
-  pub before : moment ≤ c.took
-  pub many : suc c.place ≤ tally (competed moment) views
-
 abbrev pub crowded_at : Stage → List PoolView → Call → Type 0
 crowded_at AtRest views c = Unit {0}
 crowded_at Seeking views c = (c.came ≤ now views) × ((place : ℕ) → place ≤ c.place → WasCrowded views c.came place)
-crowded_at Holding views c = (c.came ≤ now views) × (c.took ≤ now views) × IsAdaptive views c
+crowded_at Holding views c = (c.came ≤ now views) × (c.took ≤ now views) × (c.crowds ≡ log_of_call views c) × IsSmall c
 crowded_at Ended views c = Unit {0}
 
 abbrev pub Each : (Call → Type 0) → List Call → Type 0
@@ -63,6 +78,8 @@ Each P [] = Unit {0}
 Each P (c ∷ cs) = P c × Each P cs
 
 pub record KeepsCrowd (views : List PoolView) : Type 0 where
+  -- each moment is one coming or going of one call
+  pub clock : (t : ℕ) → tally (moved_by t) views ≡ t - (t - now views)
   -- who competes now is who competed at the last moment
   pub present : (t : ℕ) → now views ≤ t → tally (competed t) views ≡ tally competes views
   pub crowd : (seat : ℕ) (v : PoolView) → get_elem? views seat ≡ some v → Each (λ c. crowded_at c.stage views c) v.calls

@@ -29,12 +29,18 @@ pub record IsHolder (views : List PoolView) (place seat : ℕ) : Type 0 where
 
 -- where the rule is kept, no two seats hold one place
 abbrev pub HasOneHolder : Type 0
-HasOneHolder = (count : ℕ) (words : List ℕ) (views : List PoolView) (place one other : ℕ) → KeepsPool count words views → IsHolder views place one → IsHolder views place other → one ≡ other
+HasOneHolder =
+    (count : ℕ) (words : List ℕ) (views : List PoolView) (place one other : ℕ) → KeepsPool count words views →
+    IsHolder views place one → IsHolder views place other → one ≡ other
 
 -- where the rule is kept, the word of a place is 1 where a seat holds it
 abbrev pub IsSetByHolder : Type 0
-IsSetByHolder = (count : ℕ) (words : List ℕ) (views : List PoolView) (place seat : ℕ) → KeepsPool count words views → place < count → IsHolder views place seat → slice_index words (word_of place) ≡ 1
+IsSetByHolder =
+    (count : ℕ) (words : List ℕ) (views : List PoolView) (place seat : ℕ) → KeepsPool count words views →
+    place < count → IsHolder views place seat → slice_index words (word_of place) ≡ 1
 
 -- and where it is not 0 some seat holds it: so a place that a walk met held was held, at that moment
 abbrev pub HasHolderWhereSet : Type 0
-HasHolderWhereSet = (count : ℕ) (words : List ℕ) (views : List PoolView) (place : ℕ) → KeepsPool count words views → place < count → ¬ (slice_index words (word_of place) ≡ 0) → (seat : ℕ) × IsHolder views place seat
+HasHolderWhereSet =
+    (count : ℕ) (words : List ℕ) (views : List PoolView) (place : ℕ) → KeepsPool count words views →
+    place < count → ¬ (slice_index words (word_of place) ≡ 0) → (seat : ℕ) × IsHolder views place seat

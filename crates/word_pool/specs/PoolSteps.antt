@@ -17,7 +17,8 @@ Looks s before found after = after ≡ (lone (looked found (call_of before.0)) b
 
 -- a call swaps 1 into the word of its place
 abbrev pub Takes : {S : Type 0} → Step S → Me S PoolView → ℕ → Me S PoolView → Type 0
-Takes s before found after = (moment : ℕ) × (after ≡ (lone (swapped moment found (call_of before.0)) before.0.past, before.1))
+Takes s before found after =
+    (moment : ℕ) × (crowds : List ℕ) × (after ≡ (lone (swapped moment crowds found (call_of before.0)) before.0.past, before.1))
 
 -- a call at rest looks at the place of a hint
 abbrev pub LooksAside : {S : Type 0} → Step S → Me S PoolView → ℕ → Me S PoolView → Type 0
@@ -26,7 +27,8 @@ LooksAside s before found after = after ≡ (lone (spent (call_of before.0)) bef
 -- a call at rest swaps 1 into the word of the place of a hint
 abbrev pub TakesAside : {S : Type 0} → Step S → Me S PoolView → ℕ → Me S PoolView → Type 0
 TakesAside s before found after =
-    (place : ℕ) × (s.word ≡ word_of place) × (moment : ℕ) × (after ≡ (lone (swapped_hint place moment found (call_of before.0)) before.0.past, before.1))
+    (place : ℕ) × (s.word ≡ word_of place) × (moment : ℕ) ×
+    (after ≡ (lone (swapped_hint place moment found (call_of before.0)) before.0.past, before.1))
 
 -- a call stores 0 into the word of its place: it has ended, and the seat may begin another
 abbrev pub Frees : {S : Type 0} → Step S → Me S PoolView → ℕ → Me S PoolView → Type 0

@@ -7,39 +7,74 @@ use Rattle.word_pool.specs.declared.pool_view.PoolView.{PoolView}
 
 -- a call that has not begun
 abbrev pub at_rest : Call
-at_rest = record { stage = AtRest; place = 0; met = []; accesses = 0; hinted = false; came = 0; took = 0; went = 0 }
+at_rest = record { stage = AtRest; place = 0; met = []; accesses = 0; hinted = false; came = 0; took = 0; went = 0; crowds = [] }
 
 -- it comes to the first place, at this moment
 abbrev pub coming : ℕ → Call → Call
-coming moment c = record { stage = Seeking; place = 0; met = []; accesses = c.accesses; hinted = false; came = moment; took = 0; went = 0 }
+coming moment c = record { stage = Seeking; place = 0; met = []; accesses = c.accesses; hinted = false; came = moment; took = 0; went = 0; crowds = [] }
 
 -- one access more, which changes nothing else
 abbrev pub spent : Call → Call
-spent c = record { stage = c.stage; place = c.place; met = c.met; accesses = suc c.accesses; hinted = c.hinted; came = c.came; took = c.took; went = c.went }
+spent c =
+    record {
+      stage = c.stage;
+      place = c.place;
+      met = c.met;
+      accesses = suc c.accesses;
+      hinted = c.hinted;
+      came = c.came;
+      took = c.took;
+      went = c.went;
+      crowds = c.crowds;
+    }
 
 -- an access that met its place held: it goes on to the next
 abbrev pub passing : Call → Call
-passing c = record { stage = Seeking; place = suc c.place; met = c.place ∷ c.met; accesses = suc c.accesses; hinted = c.hinted; came = c.came; took = c.took; went = c.went }
+passing c =
+    record {
+      stage = Seeking;
+      place = suc c.place;
+      met = c.place ∷ c.met;
+      accesses = suc c.accesses;
+      hinted = c.hinted;
+      came = c.came;
+      took = c.took;
+      went = c.went;
+      crowds = c.crowds;
+    }
 
--- an access that took its place, at this moment
-abbrev pub taking : ℕ → Call → Call
-taking moment c = record { stage = Holding; place = c.place; met = c.met; accesses = suc c.accesses; hinted = c.hinted; came = c.came; took = moment; went = 0 }
+-- an access that took its place, at this moment: with how many competed at each moment till then
+abbrev pub taking : ℕ → List ℕ → Call → Call
+taking moment crowds c =
+    record { stage = Holding; place = c.place; met = c.met; accesses = suc c.accesses; hinted = c.hinted; came = c.came; took = moment; went = 0; crowds = crowds }
 
 -- an access of a call at rest that took this place, at this moment
 abbrev pub taking_hint : ℕ → ℕ → Call → Call
-taking_hint place moment c = record { stage = Holding; place = place; met = []; accesses = suc c.accesses; hinted = true; came = moment; took = moment; went = 0 }
+taking_hint place moment c =
+    record { stage = Holding; place = place; met = []; accesses = suc c.accesses; hinted = true; came = moment; took = moment; went = 0; crowds = [] }
 
 -- the access that gave its place back, at this moment
 abbrev pub going : ℕ → Call → Call
-going moment c = record { stage = Ended; place = c.place; met = c.met; accesses = suc c.accesses; hinted = c.hinted; came = c.came; took = c.took; went = moment }
+going moment c =
+    record {
+      stage = Ended;
+      place = c.place;
+      met = c.met;
+      accesses = suc c.accesses;
+      hinted = c.hinted;
+      came = c.came;
+      took = c.took;
+      went = moment;
+      crowds = c.crowds;
+    }
 
 -- a look at its place found this
 abbrev pub looked : ℕ → Call → Call
 looked found c = if found == 0 then spent c else passing c
 
 -- a swap of 1 into its place found this
-abbrev pub swapped : ℕ → ℕ → Call → Call
-swapped moment found c = if found == 0 then taking moment c else passing c
+abbrev pub swapped : ℕ → List ℕ → ℕ → Call → Call
+swapped moment crowds found c = if found == 0 then taking moment crowds c else passing c
 
 -- a swap of 1 into this place by a call at rest found this
 abbrev pub swapped_hint : ℕ → ℕ → ℕ → Call → Call

@@ -1,35 +1,61 @@
 -- pools and what is held of them, as callers see them
-use Rattle.std.specs.Prelude.{◌≡◌, ℕ, List, [], ◌∷◌}
+use Rattle.std.specs.Prelude.{◌≡◌, ◌<◌, ◌≤◌, ◌-◌, ℕ, suc, List, [], ◌∷◌, drop}
 use Rattle.atomic_table.specs.Seated.{TableId}
 use Rattle.word_pool.specs.declared.pool_view.Stage.TheVariants.{Holding}
 use Rattle.word_pool.specs.declared.pool_view.Call.{Call}
 use Rattle.word_pool.specs.declared.pool_view.PoolView.{PoolView}
-use Rattle.word_pool.specs.PoolView.{lone, call_in, past_in}
+use Rattle.word_pool.specs.PoolView.{lone, call_in, past_in, first_of, first_places}
+use Rattle.word_pool.specs.PoolRule.{word_of}
+use Rattle.word_pool.specs.Tally.{own, holding}
 
 -- which pool it is, and how many numbers it has
 pub record PoolId : Type 0 where
   pub table : TableId
   pub numbers : ℕ
 
--- a call of a pool: of which, and how far it has come
+-- a call of a pool: of which, how far it has come, whose seat makes it, and what that has ended before, the newest first
 pub record CallId : Type 0 where
   pub pool : TableId
   pub number : ℕ
   pub call : Call
+  pub seat : ℕ
+  pub past : List Call
 
 abbrev pub pool_of : TableId → ℕ → PoolId
 pool_of table numbers = record { table = table; numbers = numbers }
 
-abbrev pub call_id : TableId → ℕ → Call → CallId
-call_id pool number call = record { pool = pool; number = number; call = call }
+-- the call that the view of a badge has
+abbrev pub call_id : TableId → ℕ → ℕ → List PoolView → CallId
+call_id pool seat number views = record { pool = pool; number = number; call = call_in views; seat = seat; past = past_in views }
 
--- a ticket: of which line, and the call that last came back with it
+-- the call that a seat has ended last
+abbrev pub ended_id : TableId → ℕ → List Call → CallId
+ended_id pool seat past = record { pool = pool; number = suc (first_of past).place; call = first_of past; seat = seat; past = drop 1 past }
+
+-- the same number is held by the same call, in whichever seat
+abbrev pub IsStill : CallId → CallId → Type 0
+IsStill before after = (after.pool ≡ before.pool) × (after.number ≡ before.number) × (after.call ≡ before.call)
+
+-- a ticket: of which line, which seat, and what that has ended, the newest first
 pub record TicketId : Type 0 where
   pub pool : TableId
-  pub last : Call
+  pub seat : ℕ
+  pub past : List Call
 
-abbrev pub ticket_id : TableId → Call → TicketId
-ticket_id pool last = record { pool = pool; last = last }
+abbrev pub ticket_id : TableId → ℕ → List Call → TicketId
+ticket_id pool seat past = record { pool = pool; seat = seat; past = past }
+
+-- a call met each number of the pool held, one after another, from 1 on
+abbrev pub HasMetAllHeld : PoolId → CallId → Type 0
+HasMetAllHeld p a = (a.pool ≡ p.table) × (a.call.met ≡ first_places p.numbers)
+
+-- a table that has a word for each of so many numbers, and no slots, and knows how many they are
+abbrev pub IsTableOf : ℕ → TableId → ℕ → Type 0
+IsTableOf numbers table key = (table.words ≡ word_of numbers) × (key ≡ numbers) × (1 ≤ numbers) × (numbers ≤ 4096) × (table.slots ≡ 0)
+
+-- this view, of a seat of this table, has the number that a call holds
+abbrev pub HasNumberOf : TableId → PoolView → CallId → Type 0
+HasNumberOf table v h = (1 ≤ own (holding (h.number - 1)) v) × (word_of (h.number - 1) < table.words)
 
 -- the view of a badge is that of a seat whose call holds this place
 pub record IsHeldAt (place : ℕ) (views : List PoolView) : Type 0 where

@@ -2,7 +2,6 @@
 
 ghost use Rattle.std.specs.Prelude.{◌≡◌, ◌≤◌, ◌<◌, suc, [], ◌∷◌};
 ghost use Rattle.word_pool.specs.PoolRule.{word_of};
-ghost use Rattle.word_pool.specs.PoolView.{call_of};
 ghost use Rattle.word_pool.specs.Pools.{IsHeldAt, call_id};
 
 use crate::pool_view::PoolView;
@@ -20,12 +19,11 @@ pub struct Held {
 impl Model for Held {
     ghost use Rattle.std.specs.Prelude.{◌≡◌, ◌<◌, suc};
     ghost use Rattle.word_pool.specs.PoolRule.{word_of};
-    ghost use Rattle.word_pool.specs.PoolView.{call_in};
     ghost use Rattle.word_pool.specs.Pools.{CallId, IsHeldAt, call_id};
 
     ghost Value = { CallId };
 
-    ghost view = { λ h. call_id h.badge.table_id (suc h.place) (call_in h.badge.views) };
+    ghost view = { λ h. call_id h.badge.table_id h.badge.id (suc h.place) h.badge.views };
 
     ghost invariant = { λ h. IsHeldAt h.place h.badge.views × (h.place < 4096) × (word_of h.place < h.badge.table_id.words) };
 }
@@ -35,7 +33,7 @@ impl Held {
     pub(crate) fn of(seat: Seat<u8, PoolView>, place: u64) -> Held
         requires held { IsHeldAt place (seat.me.0 ∷ []) × (seat.me.1 ≡ []) }
         requires range { (place < 4096) × (word_of place < seat.table_id.words) }
-        ensures { result ≡ call_id seat.table_id (suc place) (call_of seat.me.0) }
+        ensures { result ≡ call_id seat.table_id seat.id (suc place) (seat.me.0 ∷ []) }
     {
         Held {
             place,
@@ -59,12 +57,11 @@ pub struct AllHeld {
 }
 
 impl Model for AllHeld {
-    ghost use Rattle.word_pool.specs.PoolView.{call_in};
     ghost use Rattle.word_pool.specs.Pools.{CallId, call_id};
 
     ghost Value = { CallId };
 
-    ghost view = { λ a. call_id a.badge.table_id 0 (call_in a.badge.views) };
+    ghost view = { λ a. call_id a.badge.table_id a.badge.id 0 a.badge.views };
 }
 
 /// That a number was given back. It has no bytes.
@@ -74,11 +71,10 @@ pub struct Released {
 }
 
 impl Model for Released {
-    ghost use Rattle.std.specs.Prelude.{suc};
-    ghost use Rattle.word_pool.specs.PoolView.{first_of, past_in};
-    ghost use Rattle.word_pool.specs.Pools.{CallId, call_id};
+    ghost use Rattle.word_pool.specs.PoolView.{past_in};
+    ghost use Rattle.word_pool.specs.Pools.{CallId, ended_id};
 
     ghost Value = { CallId };
 
-    ghost view = { λ r. call_id r.badge.table_id (suc (first_of (past_in r.badge.views)).place) (first_of (past_in r.badge.views)) };
+    ghost view = { λ r. ended_id r.badge.table_id r.badge.id (past_in r.badge.views) };
 }

@@ -9,8 +9,8 @@
 //! - `acquire` gives a number with all below it met held, in order, by at most two accesses for each that it tried. A pool of
 //!   words tells by `AllHeld` that it met all held so; `acquire_near` tries one number before, by at most two accesses.
 //! - `LinePool::acquire` always gives a number: there are as many tickets as numbers.
-//! - In a line the number is at most the most calls that competed, held or sought, at one moment of the call
-//!   (`law_of_the_line`). In a pool of words this is not so where hints are used, and not proved.
+//! - In a line the number is at most the most calls that competed, held or sought, at one moment of the call: `Held` carries
+//!   what its seat saw of that (`law_of_the_line`). In a pool of words this is not so where hints are used, and not proved.
 //! - `release` makes one access. `close` tells the words; a line's says that no more are held than tickets are dealt out.
 //!
 //! What is not promised: that a thread gets on with its accesses; and that a number that was dropped comes back.

@@ -2,16 +2,17 @@
 
 ghost use Rattle.std.specs.Prelude.{[], ◌∷◌, ◌≡◌, ◌≢◌, ◌<◌, ◌≤◌, ◌+◌, ◌-◌, ◌*◌, ◌⊎◌, ◌↔◌, ℕ, suc, true, false, Err, IfErr, IfOk, IfSome, IsOk, IsSome, vec_len, slice_index};
 ghost use Rattle.word_pool.specs.PoolRule.{word_of};
-ghost use Rattle.word_pool.specs.PoolView.{call_of, first_places, IsSeeking, IsHolding, HasLooked};
-ghost use Rattle.word_pool.specs.Pools.{CallId, IsHeldAt};
+ghost use Rattle.word_pool.specs.PoolView.{call_of, first_of, first_places, going, IsSeeking, IsHolding, HasLooked};
+ghost use Rattle.word_pool.specs.Pools.{CallId, HasNumberOf, IsHeldAt, IsStill};
+ghost use Rattle.word_pool.specs.Crowd.{greatest};
 ghost use Rattle.word_pool.specs.LineRule.{rests};
 ghost use Rattle.word_pool.specs.Tally.{holding, own, sum_below};
 ghost use lib.ListN.{get_elem?};
 ghost use mathlib.Core.Option.{some};
 
 use crate::held::Held;
-use crate::line_steps::{Deal, Lining, Never};
-use crate::pool_steps::{Come, Free, Look, LookOn, Sever, Take, Unite};
+use crate::line_steps::{Deal, Lining, Never, TakeInLine};
+use crate::pool_steps::{Come, Free, Look, LookOn, Sever, Unite};
 use crate::pool_view::PoolView;
 use crate::ticket::{Ticket, Tickets};
 use crate::word_pool::{MOST_NUMBERS, STRIDE, read_out};
@@ -30,15 +31,13 @@ pub struct LinePool<A: Allocator> {
 }
 
 impl<A: Allocator> Model for LinePool<A> {
-    ghost use Rattle.std.specs.Prelude.{◌≡◌, ◌≤◌};
-    ghost use Rattle.word_pool.specs.PoolRule.{word_of};
-    ghost use Rattle.word_pool.specs.Pools.{PoolId, pool_of};
+    ghost use Rattle.word_pool.specs.Pools.{IsTableOf, PoolId, pool_of};
 
     ghost Value = { PoolId };
 
     ghost view = { λ p. pool_of p.table.shared.table_id p.numbers };
 
-    ghost invariant = { λ p. (p.table.shared.table_id.words ≡ word_of p.numbers) × (p.table.shared.key ≡ p.numbers) × (1 ≤ p.numbers) × (p.numbers ≤ 4096) × (p.table.shared.table_id.slots ≡ 0) };
+    ghost invariant = { λ p. IsTableOf p.numbers p.table.shared.table_id p.table.shared.key };
 }
 
 impl<A: Allocator + Clone> LinePool<A> {
@@ -102,13 +101,17 @@ impl<A: Allocator> LinePool<A> {
 
     /// A number that nobody else holds, always: the least that a walk from 1 upward finds free. It looks at each word before
     /// it swaps 1 into it, so it makes at most two accesses for each number that it tries; and it leaves a number behind only
-    /// where an access met it held. The ticket is of this line, and comes back with `release`.
+    /// where an access met it held. The ticket is of this line, and comes back with `release`. The number is at most the most
+    /// calls that competed, held or sought, at one moment of this one (Moir and Anderson 1995): `crowds` is how many did at
+    /// each moment, as `law_of_the_line` says of any call that holds; and this call is the next of the ticket's seat.
     pub fn acquire(&self, ticket: Ticket) -> Held
         requires ours { ticket.pool ≡ self.now.table }
         ensures ours { result.pool ≡ self.now.table }
+        ensures this_call { (result.seat ≡ ticket.seat) × (result.past ≡ ticket.past) }
         ensures range { (1 ≤ result.number) × (result.number ≤ self.now.numbers) }
         ensures below { result.call.met ≡ first_places (result.number - 1) }
         ensures accesses { result.call.accesses ≤ 2 * result.number }
+        ensures small { result.number ≤ greatest result.call.crowds }
     {
         let Ticket { badge } = ticket;
         let mut seat = badge.into_seat::<u8>();
@@ -122,9 +125,11 @@ impl<A: Allocator> LinePool<A> {
         requires some { 0 < self.now.numbers }
         requires looked { HasLooked found 0 (call_of seat.me.0).accesses seat.me.0 × (seat.me.1 ≡ []) }
         ensures ours { result.pool ≡ self.now.table }
+        ensures this_call { (result.seat ≡ seat.id) × (result.past ≡ seat.me.0.past) }
         ensures range { (1 ≤ result.number) × (result.number ≤ self.now.numbers) }
         ensures below { result.call.met ≡ first_places (result.number - 1) }
         ensures accesses { result.call.accesses + 1 ≤ (call_of seat.me.0).accesses + 2 * result.number }
+        ensures small { result.number ≤ greatest result.call.crowds }
     {
         if self.settle(&mut seat, 0, found) {
             return Held::of(seat, 0);
@@ -150,8 +155,10 @@ impl<A: Allocator> LinePool<A> {
         requires place { place < self.now.numbers }
         requires looked { HasLooked found place (call_of seat.old.me.0).accesses seat.old.me.0 × (seat.old.me.1 ≡ []) }
         ensures ours { seat.new.table_id ≡ self.now.table }
+        ensures this_call { (seat.new.id ≡ seat.old.id) × (seat.new.me.0.past ≡ seat.old.me.0.past) }
         ensures slots { seat.new.me.1 ≡ [] }
         ensures held { result ≡ true → IsHolding place (suc (call_of seat.old.me.0).accesses) seat.new.me.0 }
+        ensures small { result ≡ true → suc place ≤ greatest (call_of seat.new.me.0).crowds }
         ensures range { result ≡ true → (place < 4096) × (word_of place < seat.new.table_id.words) }
         ensures passed { result ≡ false → IsSeeking (suc place) (suc (call_of seat.old.me.0).accesses) seat.new.me.0 }
     {
@@ -161,16 +168,17 @@ impl<A: Allocator> LinePool<A> {
         let at_swap = self
             .table
             .shared
-            .swap::<Take>(seat, (place * STRIDE) as usize, 1);
+            .swap::<TakeInLine>(seat, (place * STRIDE) as usize, 1);
         at_swap == 0
     }
 
     /// Gives a number back, by one access, and has a ticket again. It is of this line.
     pub fn release(&self, held: Held) -> Ticket
         requires ours { held.pool ≡ self.now.table }
-        ensures ours { result.pool ≡ self.now.table }
-        ensures number { suc result.last.place ≡ held.number }
-        ensures accesses { result.last.accesses ≡ held.call.accesses + 1 }
+        ensures ours { (result.pool ≡ self.now.table) × (result.seat ≡ held.seat) }
+        ensures past { (moment : ℕ) × (result.past ≡ going moment held.call ∷ held.past) }
+        ensures number { suc (first_of result.past).place ≡ held.number }
+        ensures accesses { (first_of result.past).accesses ≡ held.call.accesses + 1 }
     {
         let Held { place, badge } = held;
         let mut seat = badge.into_seat::<u8>();
@@ -186,8 +194,8 @@ impl<A: Allocator> LinePool<A> {
     pub fn meet(&self, one: &mut Held, other: &mut Held)
         requires one { one.old.pool ≡ self.now.table }
         requires other { other.old.pool ≡ self.now.table }
-        ensures one { one.new ≡ one.old }
-        ensures other { other.new ≡ other.old }
+        ensures one { IsStill one.old one.new }
+        ensures other { IsStill other.old other.new }
         ensures apart { one.old.number ≢ other.old.number }
     {
         let left = mem::replace(&mut one.badge, Badge::blank()).into_seat::<u8>();
@@ -253,7 +261,7 @@ impl<A: Allocator> LinePool<A> {
         requires out { (i : ℕ) (h : CallId) → get_elem? out.items i ≡ some h → h.pool ≡ self.now.table }
         ensures ours { (seat.new.table_id ≡ self.now.table) × (seat.new.me.1 ≡ []) }
         ensures rests { own rests seat.old.me.0 ≤ own rests seat.new.me.0 }
-        ensures held { (i : ℕ) (h : CallId) → get_elem? out.items i ≡ some h → (1 ≤ own (holding (h.number - 1)) seat.new.me.0) × (word_of (h.number - 1) < self.now.table.words) }
+        ensures held { (i : ℕ) (h : CallId) → get_elem? out.items i ≡ some h → HasNumberOf self.now.table seat.new.me.0 h }
     {
         while let Some(held) = out.pop() {
             self.gather(seat, held);
@@ -267,7 +275,7 @@ impl<A: Allocator> LinePool<A> {
         ensures ours { (seat.new.table_id ≡ self.now.table) × (seat.new.me.1 ≡ []) }
         ensures more { (place : ℕ) → own (holding place) seat.old.me.0 ≤ own (holding place) seat.new.me.0 }
         ensures rests { own rests seat.old.me.0 ≤ own rests seat.new.me.0 }
-        ensures held { (1 ≤ own (holding (held.number - 1)) seat.new.me.0) × (word_of (held.number - 1) < self.now.table.words) }
+        ensures held { HasNumberOf self.now.table seat.new.me.0 held }
     {
         let Held { place: _, badge } = held;
         self.table

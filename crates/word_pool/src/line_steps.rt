@@ -1,7 +1,7 @@
 //! The rule of a line's table, and the kinds of step that only a line has.
 
 ghost use Rattle.std.specs.Prelude.{[], take, drop};
-ghost use Rattle.word_pool.specs.LineRule.{KeepsLineRule, NeverComes, undealt};
+ghost use Rattle.word_pool.specs.LineRule.{KeepsLineRule, TakesInLine, NeverComes, undealt};
 ghost use Rattle.word_pool.specs.PoolView.{view_of};
 
 use crate::pool_view::PoolView;
@@ -14,6 +14,13 @@ impl<S> TableRule<S, PoolView, u64> for Lining {
     ghost holds = { KeepsLineRule };
 
     ghost first = { λ count. view_of (undealt count) [] };
+}
+
+/// A call swaps 1 into the word of its place, and holds it where it was clear: then its number is small.
+pub struct TakeInLine;
+
+impl<S> Play<S, PoolView> for TakeInLine {
+    ghost then = { TakesInLine };
 }
 
 /// No seat makes this step.

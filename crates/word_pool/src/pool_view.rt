@@ -29,6 +29,9 @@ pub struct Call {
     pub came: u64,
     pub took: u64,
     pub went: u64,
+    /// In a line, of a call that has got its number: how many competed at each moment from its coming to its taking, the
+    /// newest first.
+    pub crowds: LinkedList<u64>,
 }
 
 /// The calls that are this seat's to make: none, one, two while two holders meet, or more where tickets are dealt out. And

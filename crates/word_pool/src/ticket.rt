@@ -15,12 +15,12 @@ pub struct Ticket {
 
 impl Model for Ticket {
     ghost use Rattle.std.specs.Prelude.{◌≡◌, [], ◌∷◌};
-    ghost use Rattle.word_pool.specs.PoolView.{resting, past_in, first_of};
+    ghost use Rattle.word_pool.specs.PoolView.{resting, past_in};
     ghost use Rattle.word_pool.specs.Pools.{TicketId, ticket_id};
 
     ghost Value = { TicketId };
 
-    ghost view = { λ t. ticket_id t.badge.table_id (first_of (past_in t.badge.views)) };
+    ghost view = { λ t. ticket_id t.badge.table_id t.badge.id (past_in t.badge.views) };
 
     ghost invariant = { λ t. t.badge.views ≡ resting (past_in t.badge.views) ∷ [] };
 }

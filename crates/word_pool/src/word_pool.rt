@@ -7,7 +7,7 @@ ghost use Rattle.word_pool.specs.Tally.{own, holding};
 ghost use Rattle.std.specs.Mem.Slots.{slots_items, slots_len, IsFull};
 ghost use Rattle.word_pool.specs.PoolRule.{word_of};
 ghost use Rattle.word_pool.specs.PoolView.{call_of, first_places, lone, IsSeeking, IsHolding, IsResting, HasLooked};
-ghost use Rattle.word_pool.specs.Pools.{CallId, IsHeldAt};
+ghost use Rattle.word_pool.specs.Pools.{CallId, HasMetAllHeld, HasNumberOf, IsHeldAt, IsStill};
 
 use crate::held::{AllHeld, Held, Released};
 use crate::pool_steps::{
@@ -35,15 +35,13 @@ pub struct WordPool<A: Allocator> {
 }
 
 impl<A: Allocator> Model for WordPool<A> {
-    ghost use Rattle.std.specs.Prelude.{◌≡◌, ◌≤◌};
-    ghost use Rattle.word_pool.specs.PoolRule.{word_of};
-    ghost use Rattle.word_pool.specs.Pools.{PoolId, pool_of};
+    ghost use Rattle.word_pool.specs.Pools.{IsTableOf, PoolId, pool_of};
 
     ghost Value = { PoolId };
 
     ghost view = { λ p. pool_of p.table.shared.table_id p.numbers };
 
-    ghost invariant = { λ p. (p.table.shared.table_id.words ≡ word_of p.numbers) × (p.table.shared.key ≡ p.numbers) × (1 ≤ p.numbers) × (p.numbers ≤ 4096) × (p.table.shared.table_id.slots ≡ 0) };
+    ghost invariant = { λ p. IsTableOf p.numbers p.table.shared.table_id p.table.shared.key };
 }
 
 impl<A: Allocator + Clone> WordPool<A> {
@@ -91,7 +89,7 @@ impl<A: Allocator> WordPool<A> {
         ensures range { IfOk result (λ h. (1 ≤ h.number) × (h.number ≤ self.now.numbers)) }
         ensures below { IfOk result (λ h. (h.call.met ≡ first_places (h.number - 1)) × (h.call.hinted ≡ false)) }
         ensures accesses { IfOk result (λ h. h.call.accesses ≤ 2 * h.number) }
-        ensures all_held { IfErr result (λ a. (a.pool ≡ self.now.table) × (a.call.met ≡ first_places self.now.numbers)) }
+        ensures all_held { IfErr result (λ a. HasMetAllHeld self.now a) }
         ensures accesses_in_vain { IfErr result (λ a. a.call.accesses ≤ 2 * self.now.numbers) }
     {
         let (found, seat) = self.table.shared.load_new_seat::<Come>(0);
@@ -107,7 +105,7 @@ impl<A: Allocator> WordPool<A> {
         ensures range { IfOk result (λ h. (1 ≤ h.number) × (h.number ≤ self.now.numbers)) }
         ensures below { IfOk result (λ h. (h.call.met ≡ first_places (h.number - 1)) × (h.call.hinted ≡ false)) }
         ensures accesses { IfOk result (λ h. h.call.accesses + 1 ≤ (call_of seat.me.0).accesses + 2 * h.number) }
-        ensures all_held { IfErr result (λ a. (a.pool ≡ self.now.table) × (a.call.met ≡ first_places self.now.numbers)) }
+        ensures all_held { IfErr result (λ a. HasMetAllHeld self.now a) }
         ensures accesses_in_vain { IfErr result (λ a. a.call.accesses + 1 ≤ (call_of seat.me.0).accesses + 2 * self.now.numbers) }
     {
         if self.settle(&mut seat, 0, found) {
@@ -157,7 +155,7 @@ impl<A: Allocator> WordPool<A> {
         ensures hint { IfOk result (λ h. h.call.hinted ≡ true → (h.number ≡ hint) × (h.call.accesses ≡ 2)) }
         ensures below { IfOk result (λ h. h.call.hinted ≡ false → h.call.met ≡ first_places (h.number - 1)) }
         ensures accesses { IfOk result (λ h. h.call.hinted ≡ false → h.call.accesses ≤ 2 + 2 * h.number) }
-        ensures all_held { IfErr result (λ a. (a.pool ≡ self.now.table) × (a.call.met ≡ first_places self.now.numbers)) }
+        ensures all_held { IfErr result (λ a. HasMetAllHeld self.now a) }
         ensures accesses_in_vain { IfErr result (λ a. a.call.accesses ≤ 2 + 2 * self.now.numbers) }
     {
         if hint <= 1 || self.numbers < hint {
@@ -217,8 +215,8 @@ impl<A: Allocator> WordPool<A> {
     pub fn meet(&self, one: &mut Held, other: &mut Held)
         requires one { one.old.pool ≡ self.now.table }
         requires other { other.old.pool ≡ self.now.table }
-        ensures one { one.new ≡ one.old }
-        ensures other { other.new ≡ other.old }
+        ensures one { IsStill one.old one.new }
+        ensures other { IsStill other.old other.new }
         ensures apart { one.old.number ≢ other.old.number }
     {
         let left = mem::replace(&mut one.badge, Badge::blank()).into_seat::<u8>();
@@ -280,7 +278,7 @@ impl<A: Allocator> WordPool<A> {
         requires ours { (seat.old.table_id ≡ self.now.table) × (seat.old.me.1 ≡ []) }
         requires out { (i : ℕ) (h : CallId) → get_elem? out.items i ≡ some h → h.pool ≡ self.now.table }
         ensures ours { (seat.new.table_id ≡ self.now.table) × (seat.new.me.1 ≡ []) }
-        ensures held { (i : ℕ) (h : CallId) → get_elem? out.items i ≡ some h → (1 ≤ own (holding (h.number - 1)) seat.new.me.0) × (word_of (h.number - 1) < self.now.table.words) }
+        ensures held { (i : ℕ) (h : CallId) → get_elem? out.items i ≡ some h → HasNumberOf self.now.table seat.new.me.0 h }
     {
         while let Some(held) = out.pop() {
             self.gather(seat, held);
@@ -293,7 +291,7 @@ impl<A: Allocator> WordPool<A> {
         requires held { held.pool ≡ self.now.table }
         ensures ours { (seat.new.table_id ≡ self.now.table) × (seat.new.me.1 ≡ []) }
         ensures more { (place : ℕ) → own (holding place) seat.old.me.0 ≤ own (holding place) seat.new.me.0 }
-        ensures held { (1 ≤ own (holding (held.number - 1)) seat.new.me.0) × (word_of (held.number - 1) < self.now.table.words) }
+        ensures held { HasNumberOf self.now.table seat.new.me.0 held }
     {
         let Held { place: _, badge } = held;
         self.table

@@ -1,9 +1,8 @@
 //! The grid's functions. Each thread has a handle of its own, with one seat.
 
-ghost use Rattle.std.specs.Prelude.{◌≡◌, ◌≢◌, ◌≤◌, ◌+◌, IfSome, IsSome, IsSomeAnd, None, Some, true, false};
+ghost use Rattle.std.specs.Prelude.{◌≡◌, ◌≢◌, ◌≤◌, IfSome, IsSome, IsSomeAnd, None, Some, true, false};
 ghost use Rattle.std.specs.Arc.{arc_value};
-ghost use Rattle.word_grid.specs.Law.{KeepsWalkLaw};
-ghost use Rattle.word_grid.specs.Seats.{place_of};
+ghost use Rattle.word_pool_c.specs.Told.{IsToldAs};
 ghost use Rattle.word_pool_c.specs.declared.grid_member.GridMember.{GridMember};
 
 use crate::grid_handle::GridHandle;
@@ -108,7 +107,7 @@ pub extern "C" fn word_grid_join(
 pub extern "C" fn word_grid_enter(alloc: Global, handle: &mut GridHandle) -> u64
     ghost grid: { GridMember }
     requires held { handle.old.grid ≡ Some grid }
-    ensures place { result ≢ 0 → IsSomeAnd handle.new.grid (λ m. IsSomeAnd m.entered (λ e. (place_of e + 1 ≡ result) × (e.grid ≡ arc_value grid.grid) × KeepsWalkLaw e)) }
+    ensures place { result ≢ 0 → IsSomeAnd handle.new.grid (λ m. IsSomeAnd m.entered (IsToldAs result (arc_value grid.grid))) }
     ensures some { result ≢ 0 → IsSome grid.seat }
     ensures spent { IsSomeAnd handle.new.grid (λ m. m.seat ≡ None) }
     ensures none { result ≡ 0 → grid.seat ≡ None }

@@ -1,10 +1,9 @@
 //! One thread's part in a shared grid.
 
-ghost use Rattle.std.specs.Prelude.{◌≡◌, ◌≢◌, ◌+◌, IfSome, IsSome, IsSomeAnd, None};
+ghost use Rattle.std.specs.Prelude.{◌≡◌, ◌≢◌, IfSome, IsSome, IsSomeAnd, None};
 ghost use Rattle.std.specs.Arc.{arc_value};
 ghost use Rattle.std.proofs.Props.{props};
-ghost use Rattle.word_grid.specs.Law.{KeepsWalkLaw};
-ghost use Rattle.word_grid.specs.Seats.{place_of};
+ghost use Rattle.word_pool_c.specs.Told.{IsToldAs};
 
 use std::alloc::Global;
 use std::sync::Arc;
@@ -41,7 +40,7 @@ impl GridMember {
     pub fn enter(&mut self) -> u64
         ensures grid { arc_value self.new.grid ≡ arc_value self.old.grid }
         ensures spent { self.new.seat ≡ None }
-        ensures place { result ≢ 0 → IsSomeAnd self.new.entered (λ e. (place_of e + 1 ≡ result) × (e.grid ≡ arc_value self.new.grid) × KeepsWalkLaw e) }
+        ensures place { result ≢ 0 → IsSomeAnd self.new.entered (IsToldAs result (arc_value self.new.grid)) }
         ensures some { result ≢ 0 → IsSomeAnd self.old.seat (λ s. IsSomeAnd self.new.entered (λ e. e.number ≡ s.number)) }
         ensures none { result ≡ 0 → (self.old.seat ≡ None) × (self.new.entered ≡ self.old.entered) }
     {

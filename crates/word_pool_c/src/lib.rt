@@ -12,8 +12,9 @@
 //! each seat. C can share no handle by `&`, since nothing that holds atomic words may cross to it so.
 #![tactic(auto)]
 
-ghost use Rattle.std.specs.Prelude.{◌≡◌, ◌≢◌, ◌≤◌, IsSome, IsSomeAnd, None, Some, true, false};
+ghost use Rattle.std.specs.Prelude.{◌≡◌, ◌≢◌, ◌≤◌, ◌⊎◌, IfSome, IsSome, IsSomeAnd, None, Some, true, false};
 ghost use Rattle.std.specs.Arc.{arc_value};
+ghost use Rattle.word_pool_c.specs.Told.{HoldsNumber, WasRefused};
 ghost use Rattle.word_pool_c.specs.declared.member.Member.{Member};
 
 pub mod grid;
@@ -33,10 +34,11 @@ use word_pool::WordPool;
 
 fn open_pool(alloc: Global, size: u64) -> Option<Box<Member, Global>>
     ensures size { IsSome result → (1 ≤ size) × (size ≤ 4096) }
+    ensures pool { IfSome result (λ b. ((arc_value b.value.pool).numbers ≡ size) × (b.value.held ≡ None)) }
 {
     let pool = WordPool::new(alloc, size).ok()?;
     let pool = Arc::new(alloc, pool).ok()?;
-    Box::new(alloc, Member { pool, held: None }).ok()
+    Box::new(alloc, Member::of(pool)).ok()
 }
 
 /// Makes a pool of the numbers from 1 to `size`, which is from 1 to 4096, at a handle that holds none. False, with nothing
@@ -44,7 +46,7 @@ fn open_pool(alloc: Global, size: u64) -> Option<Box<Member, Global>>
 #[unsafe(no_mangle)]
 pub extern "C" fn word_pool_new(alloc: Global, handle: &mut Handle, size: u64) -> bool
     requires empty { handle.old.pool ≡ None }
-    ensures made { result ≡ true → IsSome handle.new.pool }
+    ensures made { result ≡ true → IsSomeAnd handle.new.pool (λ m. ((arc_value m.pool).numbers ≡ size) × (m.held ≡ None)) }
     ensures range { result ≡ true → (1 ≤ size) × (size ≤ 4096) }
     ensures none { result ≡ false → handle.new.pool ≡ None }
 {
@@ -64,7 +66,7 @@ pub extern "C" fn word_pool_join(alloc: Global, handle: &mut Handle, other: &mut
     requires held { handle.old.pool ≡ Some pool }
     requires empty { other.old.pool ≡ None }
     ensures held { handle.new.pool ≡ Some pool }
-    ensures joined { result ≡ true → IsSomeAnd other.new.pool (λ m. arc_value m.pool ≡ arc_value pool.pool) }
+    ensures joined { result ≡ true → IsSomeAnd other.new.pool (λ m. (arc_value m.pool ≡ arc_value pool.pool) × (m.held ≡ None)) }
     ensures none { result ≡ false → other.new.pool ≡ None }
 {
     let whole = mem::replace(handle, Handle::blank(alloc)).into_box();
@@ -73,7 +75,7 @@ pub extern "C" fn word_pool_join(alloc: Global, handle: &mut Handle, other: &mut
     let Ok(pool) = theirs else {
         return false;
     };
-    match Box::new(alloc, Member { pool, held: None }) {
+    match Box::new(alloc, Member::of(pool)) {
         Ok(whole) => {
             *other = Handle::of(whole);
             true
@@ -88,8 +90,10 @@ pub extern "C" fn word_pool_join(alloc: Global, handle: &mut Handle, other: &mut
 pub extern "C" fn word_pool_acquire(alloc: Global, handle: &mut Handle) -> u64
     ghost pool: { Member }
     requires held { handle.old.pool ≡ Some pool }
-    ensures number { result ≢ 0 → IsSomeAnd handle.new.pool (λ m. IsSomeAnd m.held (λ h. h.number ≡ result) × (result ≤ (arc_value m.pool).numbers)) }
+    ensures pool { IsSomeAnd handle.new.pool (λ m. arc_value m.pool ≡ arc_value pool.pool) }
+    ensures number { result ≢ 0 → IsSomeAnd handle.new.pool (HoldsNumber result) }
     ensures kept { result ≡ 0 → IsSomeAnd handle.new.pool (λ m. m.held ≡ pool.held) }
+    ensures none { result ≡ 0 → IsSome pool.held ⊎ IsSomeAnd handle.new.pool WasRefused }
 {
     let mut whole = mem::replace(handle, Handle::blank(alloc)).into_box();
     let number = whole.acquire(1);
@@ -102,8 +106,10 @@ pub extern "C" fn word_pool_acquire(alloc: Global, handle: &mut Handle) -> u64
 pub extern "C" fn word_pool_acquire_near(alloc: Global, handle: &mut Handle, hint: u64) -> u64
     ghost pool: { Member }
     requires held { handle.old.pool ≡ Some pool }
-    ensures number { result ≢ 0 → IsSomeAnd handle.new.pool (λ m. IsSomeAnd m.held (λ h. h.number ≡ result) × (result ≤ (arc_value m.pool).numbers)) }
+    ensures pool { IsSomeAnd handle.new.pool (λ m. arc_value m.pool ≡ arc_value pool.pool) }
+    ensures number { result ≢ 0 → IsSomeAnd handle.new.pool (HoldsNumber result) }
     ensures kept { result ≡ 0 → IsSomeAnd handle.new.pool (λ m. m.held ≡ pool.held) }
+    ensures none { result ≡ 0 → IsSome pool.held ⊎ IsSomeAnd handle.new.pool WasRefused }
 {
     let mut whole = mem::replace(handle, Handle::blank(alloc)).into_box();
     let number = whole.acquire(hint);
@@ -116,8 +122,9 @@ pub extern "C" fn word_pool_acquire_near(alloc: Global, handle: &mut Handle, hin
 pub extern "C" fn word_pool_release(alloc: Global, handle: &mut Handle) -> u64
     ghost pool: { Member }
     requires held { handle.old.pool ≡ Some pool }
-    ensures none { IsSomeAnd handle.new.pool (λ m. m.held ≡ None) }
+    ensures none { IsSomeAnd handle.new.pool (λ m. (arc_value m.pool ≡ arc_value pool.pool) × (m.held ≡ None)) }
     ensures number { result ≢ 0 → IsSomeAnd pool.held (λ h. h.number ≡ result) }
+    ensures zero { result ≡ 0 → pool.held ≡ None }
 {
     let mut whole = mem::replace(handle, Handle::blank(alloc)).into_box();
     let number = whole.release();

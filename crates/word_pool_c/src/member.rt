@@ -1,28 +1,44 @@
 //! One thread's part in a shared pool.
 
-ghost use Rattle.std.specs.Prelude.{◌≡◌, ◌≢◌, ◌≤◌, IfSome, IsSomeAnd, None};
+ghost use Rattle.std.specs.Prelude.{◌≡◌, ◌≢◌, ◌≤◌, ◌⊎◌, IfSome, IsSome, IsSomeAnd, None};
 ghost use Rattle.std.specs.Arc.{arc_value};
+ghost use Rattle.word_pool.specs.Pools.{HasMetAllHeld};
 ghost use Rattle.std.proofs.Props.{props};
 
 use std::alloc::Global;
 use std::sync::Arc;
-use word_pool::{Held, WordPool};
+use word_pool::{AllHeld, Held, WordPool};
 
-/// The pool, which all members share, and what this one holds.
+/// The pool, which all members share, what this one holds, and what its last walk met, where that got no number.
 #[derive(Drop)]
 pub struct Member {
     pub(crate) pool: Arc<WordPool<Global>, Global>,
     pub(crate) held: Option<Held>,
+    pub(crate) refused: Option<AllHeld>,
     ghost ours: { IfSome held (λ h. h.pool ≡ (arc_value pool).table) } by { Prim.hlevel props },
 }
 
 impl Member {
+    /// A member that holds no number.
+    pub(crate) fn of(pool: Arc<WordPool<Global>, Global>) -> Member
+        ensures pool { arc_value result.pool ≡ arc_value pool }
+        ensures none { result.held ≡ None }
+    {
+        Member {
+            pool,
+            held: None,
+            refused: None,
+        }
+    }
+
     /// Takes the number of the hint where it is free, else the least that a walk from 1 finds free, and holds it. 0 where
     /// the walk met each number held, and where one is held already.
     pub fn acquire(&mut self, hint: u64) -> u64
+        ensures pool { arc_value self.new.pool ≡ arc_value self.old.pool }
         ensures held { result ≢ 0 → IsSomeAnd self.new.held (λ h. h.number ≡ result) }
         ensures range { result ≢ 0 → result ≤ (arc_value self.new.pool).numbers }
         ensures kept { result ≡ 0 → self.new.held ≡ self.old.held }
+        ensures none { result ≡ 0 → IsSome self.old.held ⊎ IsSomeAnd self.new.refused (HasMetAllHeld (arc_value self.new.pool)) }
     {
         if self.held.is_some() {
             return 0;
@@ -31,16 +47,22 @@ impl Member {
             Ok(held) => {
                 let number = held.number();
                 self.held = Some(held);
+                self.refused = None;
                 number
             }
-            Err(_) => 0,
+            Err(all_held) => {
+                self.refused = Some(all_held);
+                0
+            }
         }
     }
 
     /// Gives back the number that is held, and tells it. 0 where none is.
     pub fn release(&mut self) -> u64
+        ensures pool { arc_value self.new.pool ≡ arc_value self.old.pool }
         ensures none { self.new.held ≡ None }
         ensures number { result ≢ 0 → IsSomeAnd self.old.held (λ h. h.number ≡ result) }
+        ensures zero { result ≡ 0 → self.old.held ≡ None }
     {
         match self.held.take() {
             Some(held) => {

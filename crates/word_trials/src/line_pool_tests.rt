@@ -6,9 +6,9 @@ use std::alloc::Global;
 use std::sync::atomic::AtomicU64;
 use std::sync::atomic::Ordering::SeqCst;
 use std::test::Fail;
-use std::thread::join;
+use std::thread::{self, Threads};
 use step_memory::Refusal;
-use word_pool::{LinePool, Ticket};
+use word_pool::{LinePool, Ticket, Tickets};
 
 #[test]
 fn none_and_too_many_are_refused(rt: HostRuntime) -> Result<(), Fail> {
@@ -70,45 +70,102 @@ fn a_line_is_closed_with_its_tickets(rt: HostRuntime) -> Result<(), Fail> {
     Ok(())
 }
 
-/// How often a stay of many found its number in another's hands.
-fn clashes(line: &LinePool<Global>, ticket: Ticket, marks: &[AtomicU64]) -> u64
-    requires ours { ticket.pool ≡ line.now.table }
-{
-    let mut ticket = ticket;
+/// A thread's part: the line, a ticket of it, and a mark for each number.
+#[derive(Drop)]
+struct Stayer<'a> {
+    line: &'a LinePool<Global>,
+    ticket: Ticket,
+    marks: &'a [AtomicU64],
+    ghost ours: { ticket.pool ≡ line.now.table },
+}
+
+/// What a thread saw: how often it found its number in another's hands, and its greatest number.
+#[derive(Drop, PartialEq, Eq, Debug)]
+struct Stays {
+    clashes: u64,
+    greatest: u64,
+}
+
+/// Many stays, one after another.
+fn stay_often(stayer: Stayer<'_>) -> Stays {
+    let Stayer {
+        line,
+        mut ticket,
+        marks,
+    } = stayer;
     let mut clashes = 0u64;
+    let mut greatest = 0u64;
     for _ in 0..20_000 {
         let held = line.acquire(ticket);
-        if let Some(mark) = marks.get(held.number() as usize) {
-            if mark.swap(1, SeqCst) != 0 {
-                clashes = clashes.saturating_add(1);
-            }
-            mark.store(0, SeqCst);
+        greatest = greatest.max(held.number());
+        let Some(mark) = marks.get(held.number() as usize) else {
+            return Stays { clashes, greatest };
+        };
+        if mark.swap(1, SeqCst) != 0 {
+            clashes = clashes.saturating_add(1);
         }
+        mark.store(0, SeqCst);
         ticket = line.release(held);
     }
-    clashes
+    Stays { clashes, greatest }
+}
+
+/// So many stayers in a line, each with a ticket of its own, or none where there are fewer tickets or no memory.
+fn stayers_of<'a>(
+    alloc: Global,
+    line: &'a LinePool<Global>,
+    tickets: &mut Tickets,
+    marks: &'a [AtomicU64],
+    count: usize,
+) -> Option<Vec<Stayer<'a>, Global>>
+    requires ours { tickets.old.table ≡ line.now.table }
+    ensures ours { tickets.new.table ≡ line.now.table }
+{
+    let mut stayers = Vec::with_capacity(alloc, count).ok()?;
+    for _ in 0..count {
+        let ticket = line.deal(tickets)?;
+        stayers
+            .push(Stayer {
+                line,
+                ticket,
+                marks,
+            })
+            .ok()?;
+    }
+    Some(stayers)
+}
+
+/// What so many threads saw that stayed at once in a line of so many numbers, and the line's words when all had ended; none
+/// where there are fewer tickets or no memory.
+fn stay_at_once<R: Threads + Sync>(
+    rt: &R,
+    alloc: Global,
+    numbers: u64,
+    threads: usize,
+) -> Option<(Vec<Stays, Global>, Vec<u64, Global>)> {
+    let (line, mut tickets) = LinePool::new(alloc, numbers).ok()?;
+    let mut marks = Vec::new(alloc);
+    for _ in 0..=numbers {
+        marks.push(AtomicU64::new(0)).ok()?;
+    }
+    let stayers = stayers_of(alloc, &line, &mut tickets, marks.as_slice(), threads)?;
+    let seen = thread::map_vec(rt, stayers, &|stayer| stay_often(stayer)).ok()?;
+    let words = line.close(alloc, tickets, Vec::new(alloc)).ok()?;
+    Some((seen, words))
 }
 
 #[test]
-fn two_threads_have_distinct_numbers(rt: HostRuntime) -> Result<(), Fail> {
-    let (line, mut tickets) = LinePool::new(rt.alloc(), 2)?;
-    let mut marks = Vec::new(rt.alloc());
-    for _ in 0..3 {
-        marks.push(AtomicU64::new(0))?;
+fn threads_have_distinct_small_numbers_and_give_them_back(rt: HostRuntime) {
+    for (numbers, threads) in [(2, 2), (8, 8), (64, 8), (4096, 3)] {
+        let Some((seen, words)) = stay_at_once(&rt, rt.alloc(), numbers, threads) else {
+            panic!(rt; "no line of {numbers}");
+        };
+        assert_eq!(rt; seen.len(), threads);
+        assert!(rt;
+            seen.iter().all(|stays| stays.clashes == 0 && stays.greatest <= threads as u64),
+            "{threads} threads in a line of {numbers}: {seen:?}"
+        );
+        assert_eq!(rt; words.len(), numbers as usize);
+        assert!(rt; words.iter().all(|word| *word == 0), "a word is still set");
     }
-    let (Some(one), Some(other)) = (line.deal(&mut tickets), line.deal(&mut tickets)) else {
-        panic!(rt; "too few tickets");
-    };
-    let (shared, seen) = (&line, marks.as_slice());
-    let (a, b) = join(
-        &rt,
-        move || -> u64
-            requires { one.pool ≡ shared.now.table }
-        { clashes(shared, one, seen) },
-        move || -> u64
-            requires { other.pool ≡ shared.now.table }
-        { clashes(shared, other, seen) },
-    );
-    assert_eq!(rt; [a, b], [0, 0]);
-    Ok(())
 }

@@ -6,7 +6,7 @@ use std::alloc::Global;
 use std::sync::atomic::AtomicU64;
 use std::sync::atomic::Ordering::SeqCst;
 use std::test::Fail;
-use std::thread::join;
+use std::thread::{self, Threads};
 use step_memory::Refusal;
 use word_pool::WordPool;
 
@@ -69,13 +69,14 @@ fn a_hint_is_tried_first(rt: HostRuntime) -> Result<(), Fail> {
     Ok(())
 }
 
-/// How often a stay of many found its number in another's hands, or none.
+/// How often a stay of many found its number in another's hands, or none at a walk from 1, which finds one wherever no more
+/// threads stay than there are numbers. After a hint that was in vain a walk may miss what is given back behind it.
 fn clashes(pool: &WordPool<Global>, marks: &[AtomicU64], near: bool) -> u64 {
     let mut clashes = 0u64;
     let mut hint = 0;
     for _ in 0..20_000 {
         let Ok(held) = pool.acquire_near(if near { hint } else { 1 }) else {
-            clashes = clashes.saturating_add(1);
+            clashes = clashes.saturating_add(u64::from(!near));
             continue;
         };
         hint = held.number();
@@ -90,37 +91,39 @@ fn clashes(pool: &WordPool<Global>, marks: &[AtomicU64], near: bool) -> u64 {
     clashes
 }
 
+/// How often threads that stayed at once in a pool of so many numbers found their numbers in another's hands, and the pool's
+/// words when all had ended; none where memory was refused.
+fn stay_at_once<R: Threads + Sync>(
+    rt: &R,
+    alloc: Global,
+    numbers: u64,
+    threads: usize,
+    near: bool,
+) -> Option<(Vec<u64, Global>, Vec<u64, Global>)> {
+    let pool = WordPool::new(alloc, numbers).ok()?;
+    let mut marks = Vec::new(alloc);
+    for _ in 0..=numbers {
+        marks.push(AtomicU64::new(0)).ok()?;
+    }
+    let (shared, seen) = (&pool, marks.as_slice());
+    let clashes = thread::map_indices(rt, alloc, threads, &|_| clashes(shared, seen, near)).ok()?;
+    let words = pool.close(alloc, Vec::new(alloc)).ok()?;
+    Some((clashes, words))
+}
+
 #[test]
-fn four_threads_have_distinct_numbers(rt: HostRuntime) -> Result<(), Fail> {
-    for numbers in [4, 5, 64] {
+fn eight_threads_have_distinct_numbers_and_give_them_back(rt: HostRuntime) {
+    for numbers in [8, 9, 64] {
         for near in [false, true] {
-            let pool = WordPool::new(rt.alloc(), numbers)?;
-            let mut marks = Vec::new(rt.alloc());
-            for _ in 0..=numbers {
-                marks.push(AtomicU64::new(0))?;
-            }
-            let (shared, seen) = (&pool, marks.as_slice());
-            let ((a, b), (c, d)) = join(
-                &rt,
-                || {
-                    join(
-                        &rt,
-                        || clashes(shared, seen, near),
-                        || clashes(shared, seen, near),
-                    )
-                },
-                || {
-                    join(
-                        &rt,
-                        || clashes(shared, seen, near),
-                        || clashes(shared, seen, near),
-                    )
-                },
+            let Some((clashes, words)) = stay_at_once(&rt, rt.alloc(), numbers, 8, near) else {
+                panic!(rt; "no pool of {numbers}");
+            };
+            assert!(rt;
+                clashes.as_slice() == [0; 8].as_slice(),
+                "a pool of {numbers}: {clashes:?}"
             );
-            assert_eq!(rt; [a, b, c, d], [0, 0, 0, 0]);
-            let words = pool.close(rt.alloc(), Vec::new(rt.alloc()))?;
+            assert_eq!(rt; words.len(), numbers as usize);
             assert!(rt; words.iter().all(|word| *word == 0), "a word is still set");
         }
     }
-    Ok(())
 }

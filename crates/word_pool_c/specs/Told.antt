@@ -1,0 +1,19 @@
+-- what the numbers say that cross to C
+use Rattle.std.specs.Prelude.{◌≡◌, ◌≤◌, ◌+◌, ℕ, IsSomeAnd}
+use Rattle.std.specs.Arc.{arc_value}
+use Rattle.word_pool.specs.Pools.{HasMetAllHeld}
+use Rattle.word_grid.specs.Law.{KeepsWalkLaw}
+use Rattle.word_grid.specs.Seats.{EndedWalk, GridId, place_of}
+use Rattle.word_pool_c.specs.declared.member.Member.{Member}
+
+-- a member holds this number of its pool
+abbrev pub HoldsNumber : ℕ → Member → Type 0
+HoldsNumber number m = IsSomeAnd m.held (λ h. h.number ≡ number) × (number ≤ (arc_value m.pool).numbers)
+
+-- a member's last walk met each number of its pool held, one after another, from 1 on
+abbrev pub WasRefused : Member → Type 0
+WasRefused m = IsSomeAnd m.refused (HasMetAllHeld (arc_value m.pool))
+
+-- a walk has ended in this grid at the place of which this is the number, from 1, as its law says
+abbrev pub IsToldAs : ℕ → GridId → EndedWalk → Type 0
+IsToldAs number grid e = (place_of e + 1 ≡ number) × (e.grid ≡ grid) × KeepsWalkLaw e
