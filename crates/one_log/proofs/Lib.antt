@@ -1,0 +1,2 @@
+mod LogPlaces
+mod Once
