@@ -17,6 +17,8 @@ same_trans first between last one two = record {
 pub adds_once : (first between last : ℕ → List ℕ → Type 0) (at : ℕ) (batch : List ℕ) → Same first between → Adds between at batch last → AddsOnce first batch last
 adds_once first between last at batch same adds = record {
   at = at;
-  keeps = λ place entry h. adds.keeps place entry (same.keeps place entry h);
-  only = λ place entry h. elim (adds.only place entry h) [ inl old ↦ inl (same.only place entry old) | inr new ↦ inr new ];
+  adds = record {
+    keeps = λ place entry h. adds.keeps place entry (same.keeps place entry h);
+    only = λ place entry h. elim (adds.only place entry h) [ inl old ↦ inl (same.only place entry old) | inr new ↦ inr new ];
+  };
 }

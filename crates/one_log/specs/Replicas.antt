@@ -1,5 +1,6 @@
 -- Replicas of a machine that apply the entries of one log (state machine replication: Schneider 1990).
-use Rattle.std.specs.Prelude.{◌≡◌, ℕ, List, [], ◌∷◌, ◌++◌, Some, slice_get, ◌⊎◌}
+use Rattle.std.specs.Prelude.{◌≡◌, ℕ, List, [], ◌∷◌, ◌++◌, Some, slice_get}
+use Rattle.one_log.specs.Places.{Adds}
 
 -- each entry that was applied stands at its place, the first at place 0
 abbrev pub Follows : (ℕ → List ℕ → Type 0) → List (List ℕ) → Type 0
@@ -19,5 +20,4 @@ pub record IsAnswered (due : List (List ℕ) → List ℕ → List ℕ) (old : L
 -- all that stood stands, and beside it at most a batch, at one place
 pub record AddsOnce (before : ℕ → List ℕ → Type 0) (batch : List ℕ) (after : ℕ → List ℕ → Type 0) : Type 0 where
   pub at : ℕ
-  pub keeps : (place : ℕ) (entry : List ℕ) → before place entry → after place entry
-  pub only : (place : ℕ) (entry : List ℕ) → after place entry → before place entry ⊎ ((place ≡ at) × (entry ≡ batch))
+  pub adds : Adds before at batch after

@@ -21,6 +21,7 @@
 //! ```
 #![tactic(auto)]
 
+pub mod group;
 pub mod machine;
 pub mod memory_store;
 pub mod replica;
@@ -28,6 +29,7 @@ pub mod serve_fault;
 pub mod store;
 pub mod store_fault;
 
+pub use group::Group;
 pub use machine::Machine;
 pub use memory_store::MemoryStore;
 pub use replica::{MOST_BATCH, MOST_STEPS, Replica, Step};
