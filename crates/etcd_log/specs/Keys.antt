@@ -1,0 +1,16 @@
+-- The key of a place.
+use Rattle.std.specs.Prelude.{ℕ, zero, suc, ◌+◌, ◌-◌, ◌*◌, ◌/◌, ◌%◌, List, [], ◌∷◌, ◌++◌}
+
+-- the last so many decimal digits of a number
+abbrev pub digits : ℕ → ℕ → List ℕ
+digits zero n = []
+digits (suc k) n = digits k (n / 10) ++ (48 + n % 10) ∷ []
+
+-- a prefix, and the place in 16 digits: keys come in the order of their places
+abbrev pub key_of : List ℕ → ℕ → List ℕ
+key_of prefix place = prefix ++ digits 16 place
+
+-- the number that digits say
+abbrev pub number_from : ℕ → List ℕ → ℕ
+number_from n [] = n
+number_from n (d ∷ ds) = number_from (n * 10 + (d - 48)) ds

@@ -1,0 +1,5 @@
+pub mod Answers
+pub mod Faults
+pub mod Found
+pub mod Keys
+pub mod Requests

@@ -1,0 +1,50 @@
+-- What etcd is asked, and what its answers say. Its gateway has keys and values in base64, and leaves out what is false or empty.
+use Rattle.std.specs.Prelude.{◌≡◌, ℕ, List, Some, codes, Ok}
+use Rattle.json.specs.Json.{Json, string, array, object, no_items, item, no_members, member, document}
+use Rattle.base64.specs.Engines.{standard}
+use Rattle.base64.specs.GeneralPurpose.{decode_of}
+use Rattle.etcd_log.specs.Keys.{key_of}
+
+-- an object of one member, and a list of one item
+abbrev pub only : List ℕ → Json → Json
+only name value = object (member name value no_members)
+
+abbrev pub alone : Json → Json
+alone value = array (item value no_items)
+
+-- the key was never created: its create revision is 0
+abbrev pub never_created : List ℕ → Json
+never_created key =
+    object (member (codes "key") (string key) (
+    member (codes "target") (string (codes "CREATE")) (
+    member (codes "result") (string (codes "EQUAL")) (
+    member (codes "create_revision") (string (codes "0")) no_members))))
+
+abbrev pub pair : List ℕ → List ℕ → Json
+pair key value =
+    object (member (codes "key") (string key) (
+    member (codes "value") (string value) no_members))
+
+-- if the key was never created, put the value there
+abbrev pub put_request : List ℕ → List ℕ → Json
+put_request key value =
+    object (member (codes "compare") (alone (never_created key)) (
+    member (codes "success") (alone (only (codes "request_put") (pair key value))) no_members))
+
+-- get the key
+abbrev pub get_request : List ℕ → Json
+get_request key = only (codes "key") (string key)
+
+-- a text is the request that puts an entry at a place under a prefix
+pub record SaysPut (text prefix : List ℕ) (place : ℕ) (entry : List ℕ) : Type 0 where
+  pub key : List ℕ
+  pub value : List ℕ
+  pub says : document text ≡ Some (put_request key value)
+  pub at : decode_of standard key ≡ Ok (key_of prefix place)
+  pub holds : decode_of standard value ≡ Ok entry
+
+-- a text is the request that gets what stands at a place under a prefix
+pub record SaysGet (text prefix : List ℕ) (place : ℕ) : Type 0 where
+  pub key : List ℕ
+  pub says : document text ≡ Some (get_request key)
+  pub at : decode_of standard key ≡ Ok (key_of prefix place)

@@ -1,0 +1,137 @@
+//! Places in etcd.
+
+ghost use Rattle.std.specs.Prelude.{◌≡◌, ℕ, List, ⊤, IfErr};
+ghost use Rattle.etcd_log.specs.Faults.{IsOverNetwork};
+
+use crate::answer::{read_get, read_put};
+use crate::dial::Dial;
+use crate::exchange::exchange;
+use crate::request::{get_text, put_text};
+use http1::{Client, Limits};
+use one_log::{Put, Store, StoreFault};
+use std::alloc::Global;
+
+/// The status of a response that answers.
+const ANSWERED: u16 = 200;
+
+// A connection that is kept.
+#[derive(Drop)]
+struct Kept<S: Drop> {
+    stream: S,
+    client: Client,
+}
+
+/// The places under a prefix in etcd, whose members are asked in turn: after a fault the next one. Nothing is ever deleted there,
+/// since a place that was deleted could be written again: let each log have a prefix of its own.
+#[derive(Drop)]
+pub struct EtcdStore<D: Dial> {
+    alloc: Global,
+    dial: D,
+    member: usize,
+    kept: Option<Kept<D::Stream>>,
+    prefix: String,
+}
+
+impl<D: Dial> EtcdStore<D> {
+    /// The places under a prefix.
+    pub fn new(alloc: Global, dial: D, prefix: String) -> EtcdStore<D> {
+        EtcdStore {
+            alloc,
+            dial,
+            member: 0,
+            kept: None,
+            prefix,
+        }
+    }
+
+    // The connection that is kept, or a new one to the member whose turn it is.
+    fn connection(&mut self) -> Option<Kept<D::Stream>> {
+        if let Some(kept) = self.kept.take() {
+            return Some(kept);
+        }
+        let members = self.dial.members();
+        if members == 0 {
+            return None;
+        }
+        let stream = self.dial.dial(self.member % members)?;
+        Some(Kept {
+            stream,
+            client: Client::new(Limits::default()),
+        })
+    }
+
+    // Asks one member once, and gives the body of its answer.
+    fn ask_once(&mut self, target: &[u8], text: &[u8]) -> Result<Vec<u8>, StoreFault>
+        ensures { IfErr result IsOverNetwork }
+    {
+        let Some(mut kept) = self.connection() else {
+            return Err(StoreFault::Lost);
+        };
+        let response = match exchange(
+            self.alloc,
+            &mut kept.client,
+            &mut kept.stream,
+            target,
+            text,
+        ) {
+            Ok(response) => response,
+            Err(fault) => return Err(fault),
+        };
+        if response.status != ANSWERED {
+            return Err(StoreFault::Lost);
+        }
+        if kept.client.is_idle() {
+            self.kept = Some(kept);
+        }
+        Ok(response.body)
+    }
+
+    // Asks the members in turn, each twice at most.
+    fn ask(&mut self, target: &[u8], text: &[u8]) -> Result<Vec<u8>, StoreFault>
+        ensures { IfErr result IsOverNetwork }
+    {
+        let tries = self.dial.members().saturating_mul(2);
+        for _ in 0..tries {
+            match self.ask_once(target, text) {
+                Ok(body) => return Ok(body),
+                Err(StoreFault::Memory) => return Err(StoreFault::Memory),
+                Err(_) => self.member = self.member.wrapping_add(1),
+            }
+        }
+        Err(StoreFault::Lost)
+    }
+}
+
+impl<D: Dial> Store for EtcdStore<D> {
+    ghost stands = { λ store place entry. ⊤ };
+
+    ghost fails = { IsOverNetwork };
+
+    fn put(&mut self, place: u64, entry: &[u8]) -> Result<Put, StoreFault> {
+        let Ok(text) = put_text(self.alloc, self.prefix.as_str(), place, entry) else {
+            return Err(StoreFault::Memory);
+        };
+        match self.ask(b"/v3/kv/txn", &text) {
+            Ok(body) => read_put(self.alloc, &body),
+            Err(fault) => Err(fault),
+        }
+    }
+
+    fn get(&mut self, place: u64, entry: &mut Vec<u8>) -> Result<bool, StoreFault> {
+        let Ok(text) = get_text(self.alloc, self.prefix.as_str(), place) else {
+            return Err(StoreFault::Memory);
+        };
+        let body = match self.ask(b"/v3/kv/range", &text) {
+            Ok(body) => body,
+            Err(fault) => return Err(fault),
+        };
+        match read_get(self.alloc, &body, self.prefix.as_str(), place) {
+            Ok(Some(found)) => {
+                *entry = found;
+                Ok(true)
+            }
+            Ok(None) => Ok(false),
+            Err(fault) => Err(fault),
+        }
+    }
+}

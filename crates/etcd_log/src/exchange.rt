@@ -1,0 +1,160 @@
+//! One request and its response, over any stream.
+
+ghost use Rattle.std.specs.Prelude.{◌≡◌, ◌≤◌, length, IfOk, IfErr, OnOk, vec_len};
+ghost use Rattle.etcd_log.specs.Faults.{IsOverNetwork};
+
+use http1::{BodySize, Client, Event, Header};
+use httparse::spans::EMPTY_HEADER_SPAN;
+use one_log::StoreFault;
+use std::alloc::Global;
+use std::io::{Read, Write};
+
+/// How many bytes the body of a response has at most.
+pub const MOST_BODY: usize = 1_048_576;
+
+/// How many events are read of one response, at most.
+const MOST_EVENTS: u64 = 1_000_000;
+
+/// A response.
+#[derive(Drop)]
+pub struct Response {
+    /// The status.
+    pub status: u16,
+    /// The body.
+    pub body: Vec<u8>,
+}
+
+// What is to be done after an event.
+enum Next {
+    // Read the next event.
+    Event,
+    // Have more bytes.
+    Bytes,
+    // The response has ended.
+    Nothing,
+}
+
+// The bytes of a request.
+fn request_text(alloc: Global, client: &mut Client, target: &[u8], body: &[u8]) -> Option<Vec<u8>> {
+    let mut output = Vec::new(alloc);
+    let headers = [
+        Header {
+            name: b"host",
+            value: b"etcd",
+        },
+        Header {
+            name: b"content-type",
+            value: b"application/json",
+        },
+    ];
+    let size = BodySize::Known(body.len() as u64);
+    client
+        .write_request(&mut output, b"POST", target, &headers, size)
+        .ok()?;
+    client.write_data(&mut output, body).ok()?;
+    client.write_end(&mut output, &[]).ok()?;
+    Some(output)
+}
+
+// Reads an event of the bytes that are unread, and tells how many it took.
+fn read_event(
+    client: &mut Client,
+    unread: &[u8],
+    response: &mut Response,
+) -> Result<(usize, Next), StoreFault>
+    ensures within { IfOk result (λ read. read.0 ≤ length unread.now) }
+    ensures fault { IfErr result IsOverNetwork }
+{
+    let mut spans = [EMPTY_HEADER_SPAN; 32];
+    let Ok(read) = client.read(unread, &mut spans) else {
+        return Err(StoreFault::Wrong);
+    };
+    match read.event {
+        Event::NeedMore => Ok((read.consumed, Next::Bytes)),
+        Event::Head(head) => {
+            response.status = head.code;
+            Ok((read.consumed, Next::Event))
+        }
+        Event::Informational(_) => Ok((read.consumed, Next::Event)),
+        Event::Data(span) => {
+            let piece = span.of(unread);
+            if MOST_BODY < piece.len() || MOST_BODY - piece.len() < response.body.len() {
+                return Err(StoreFault::Wrong);
+            }
+            match response.body.extend_from_slice(piece) {
+                Ok(()) => Ok((read.consumed, Next::Event)),
+                Err(_) => Err(StoreFault::Memory),
+            }
+        }
+        Event::End(_) => Ok((read.consumed, Next::Nothing)),
+        Event::Paused | Event::Upgraded | Event::Closed => Err(StoreFault::Lost),
+    }
+}
+
+// Appends what a stream gives next. An error where it gives nothing.
+fn fill<S: Read>(stream: &mut S, input: &mut Vec<u8>) -> Result<(), StoreFault>
+    ensures longer { vec_len input.old ≤ vec_len input.new }
+    ensures fault { IfErr result IsOverNetwork }
+{
+    let mut chunk = [0u8; 16384];
+    match stream.read(&mut chunk) {
+        Ok(0) | Err(_) => Err(StoreFault::Lost),
+        Ok(count) => match input.extend_from_slice(&chunk[..count]) {
+            Ok(()) => Ok(()),
+            Err(_) => Err(StoreFault::Memory),
+        },
+    }
+}
+
+// Reads a response to its end, behind which no byte may stand.
+fn receive<S: Read>(
+    alloc: Global,
+    client: &mut Client,
+    stream: &mut S,
+) -> Result<Response, StoreFault>
+    ensures { IfErr result IsOverNetwork }
+{
+    let mut input: Vec<u8> = Vec::new(alloc);
+    let mut from = 0;
+    let mut response = Response {
+        status: 0,
+        body: Vec::new(alloc),
+    };
+    for _ in 0..MOST_EVENTS {
+        let (consumed, next) = match read_event(client, &input[from..], &mut response) {
+            Ok(read) => read,
+            Err(fault) => return Err(fault),
+        };
+        from += consumed;
+        match next {
+            Next::Event => {}
+            Next::Bytes => {
+                if let Err(fault) = fill(stream, &mut input) {
+                    return Err(fault);
+                }
+            }
+            Next::Nothing if from == input.len() => return Ok(response),
+            Next::Nothing => return Err(StoreFault::Wrong),
+        }
+    }
+    Err(StoreFault::Wrong)
+}
+
+/// Sends a request, and reads the response to its end. At a fault the connection is of no more use.
+pub fn exchange<S: Read + Write>(
+    alloc: Global,
+    client: &mut Client,
+    stream: &mut S,
+    target: &[u8],
+    body: &[u8],
+) -> Result<Response, StoreFault>
+    ensures { IfErr result IsOverNetwork }
+{
+    let Some(output) = request_text(alloc, client, target, body) else {
+        return Err(StoreFault::Memory);
+    };
+    if stream.write_all(&output).is_err() {
+        return Err(StoreFault::Lost);
+    }
+    receive(alloc, client, stream)
+}

@@ -1,0 +1,44 @@
+//! The key of a place.
+
+ghost use Rattle.std.specs.Prelude.{◌≡◌, ◌<◌, ◌^◌, ◌++◌, ℕ, List, Ok, IfOk, OnOk, string_bytes};
+ghost use Rattle.base64.specs.Engines.{standard};
+ghost use Rattle.base64.specs.GeneralPurpose.{decode_of};
+ghost use Rattle.etcd_log.specs.Keys.{digits, key_of, number_from};
+
+use base64::engine::general_purpose::STANDARD;
+use std::alloc::{AllocError, Global};
+
+// Appends the last so many decimal digits of a number.
+fn push_digits(text: &mut Vec<u8>, count: u32, number: u64) -> Result<(), AllocError>
+    ensures { OnOk result (text.new.items ≡ text.old.items ++ digits count number) }
+{
+    if count == 0 {
+        return Ok(());
+    }
+    push_digits(text, count - 1, number / 10)?;
+    match text.push(b'0' + (number % 10) as u8) {
+        Ok(()) => Ok(()),
+        Err(_) => Err(AllocError),
+    }
+}
+
+/// The key of a place under a prefix: the prefix, and the place in 16 digits.
+pub fn key(alloc: Global, prefix: &str, place: u64) -> Result<Vec<u8>, AllocError>
+    ensures { IfOk result (λ key. key.items ≡ key_of prefix.now place) }
+{
+    let mut key = Vec::from_slice(alloc, prefix.as_bytes())?;
+    push_digits(&mut key, 16, place)?;
+    Ok(key)
+}
+
+/// The key of a place under a prefix in base64, as etcd's gateway has it.
+pub fn key64(alloc: Global, prefix: &str, place: u64) -> Result<String, AllocError>
+    ensures { IfOk result (λ text. decode_of standard (string_bytes text) ≡ Ok (key_of prefix.now place)) }
+{
+    STANDARD.encode(alloc, &key(alloc, prefix, place)?)
+}
+
+/// A law, which runs nothing: under one prefix two places have two keys.
+pub fn law_of_keys()
+    ensures { (prefix : List ℕ) (p q : ℕ) → p < 10 ^ 16 → q < 10 ^ 16 → key_of prefix p ≡ key_of prefix q → p ≡ q }
+{}

@@ -1,0 +1,3 @@
+mod LogPlaces
+mod Once
+mod Shared

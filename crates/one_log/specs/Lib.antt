@@ -1,0 +1,5 @@
+pub mod Causes
+pub mod Groups
+pub mod GroupState
+pub mod Places
+pub mod Replicas

@@ -1,0 +1,16 @@
+-- Places that are written once: what stands where, before and after a call.
+use Rattle.std.specs.Prelude.{◌≡◌, ℕ, List, Some, slice_get, ◌⊎◌}
+
+-- what stands at the places of a log, which is its entries in order
+abbrev pub stands_in : List (List ℕ) → ℕ → List ℕ → Type 0
+stands_in log place entry = slice_get log place ≡ Some entry
+
+-- the same stands at each place
+pub record Same (before after : ℕ → List ℕ → Type 0) : Type 0 where
+  pub keeps : (place : ℕ) (entry : List ℕ) → before place entry → after place entry
+  pub only : (place : ℕ) (entry : List ℕ) → after place entry → before place entry
+
+-- all that stood stands, and beside it at most this entry at this place
+pub record Adds (before : ℕ → List ℕ → Type 0) (at : ℕ) (written : List ℕ) (after : ℕ → List ℕ → Type 0) : Type 0 where
+  pub keeps : (place : ℕ) (entry : List ℕ) → before place entry → after place entry
+  pub only : (place : ℕ) (entry : List ℕ) → after place entry → before place entry ⊎ ((place ≡ at) × (entry ≡ written))

@@ -1,0 +1,38 @@
+//! One log that several machines share, and a replica of a machine that follows it.
+//!
+//! A `Store` has places, each of which is written at most once, by whoever comes first: what stands there in order is the log. A
+//! `Replica` applies the entries of the log to its `Machine`, each once, in their order. `Replica::serve` has a batch come to stand in
+//! the log, behind all that stands there, and gives the replies that are due there. So each reply is told at one place of one
+//! history, whichever replica told it (state machine replication).
+//!
+//! What a store over a network holds no contract can say. So `Store::stands` says what the store's own value tells: of a `MemoryStore`
+//! everything, and of a store that is reached over sockets nothing. A replica is proved once, for every store.
+//!
+//! At a fault nothing is answered, and the fate of the batch is not known (`ServeFault::Unknown`). The same replica can be asked to
+//! serve the same bytes again: it reads what stands at the place before it offers them once more, and takes an entry of equal bytes
+//! for its own. So two batches that are to be two entries differ in their bytes: let each begin with a token of its own.
+//!
+//! ```text
+//! let mut store = MemoryStore::new(alloc);
+//! let mut one = Replica::new(alloc, machine);
+//! let mut two = Replica::new(alloc, other);           // a machine of the same type
+//! one.serve(&mut store, b"1 first", &mut replies)?;   // the replies due at place 0
+//! two.serve(&mut store, b"2 second", &mut replies)?;  // it applies the first, and then its own: those due at place 1
+//! ```
+#![tactic(auto)]
+
+pub mod group;
+pub mod machine;
+pub mod memory_store;
+pub mod replica;
+pub mod serve_fault;
+pub mod store;
+pub mod store_fault;
+
+pub use group::Group;
+pub use machine::Machine;
+pub use memory_store::MemoryStore;
+pub use replica::{MOST_BATCH, MOST_STEPS, Replica, Step};
+pub use serve_fault::{Cause, ServeFault};
+pub use store::{MOST_PLACES, Put, Store};
+pub use store_fault::StoreFault;
