@@ -23,7 +23,7 @@ use Rattle.word_pool.specs.PoolView.{swapped}
 use Rattle.atomic_table.specs.Table.{keeps}
 use Rattle.std.proofs.Common.{slice_set}
 use Rattle.word_pool.specs.Crowd.{now, IsSmall, KeepsCrowd}
-use Rattle.word_pool.proofs.Crowding.{two_beyond, come_there, comes_and_looks, comes_and_passes, spent_crowd, passing_crowd, log_so_far, small_so_far, taking_crowd, going_crowd, unites_crowd, parts_crowd, each_undealt, crowd_opens}
+use Rattle.word_pool.proofs.Crowding.{two_beyond, come_there, comes_and_looks, comes_and_passes, spent_crowd, passing_crowd, log_so_far, small_so_far, taking_crowd, there_set, going_crowd, unites_crowd, parts_crowd, each_undealt, crowd_opens}
 use Rattle.word_pool.proofs.Tallies.{tally_set, tally_snoc, tally_has, tally_sum}
 use Rattle.word_pool.proofs.Keeping.{come_kept, look_kept, take_kept, free_kept, reread, seeks_none, opens}
 
@@ -135,7 +135,10 @@ module _ {S : Type 0} (count slots seat : ℕ) where
           (λ z. let a = eq-eqb found 0 z in rw a (no_further count s.words s.views h seat c (taking moment log c) past past e (λ q. let x : from q c ≡ 1 - (q - c.place) = rw is refl in omega arith), taking_crowd s.views h.crowd seat c past e is))
           (λ z. let a = ne_eqb found 0 z in rw a (passes s h e is z)) in
           let small : found ≡ 0 → IsSmall (swapped moment log found c) = (λ z. let a = eq-eqb found 0 z in rw a (small_so_far s.views h.crowd seat c past e is)) in
-          (new, keeps, tt, record { pool = take_kept count slots seat c past moment log p s within is here h.pool e; line = stands.0; crowd = stands.1 }, ((moment, log, refl), small))
+          let next : List PoolView = set s.views seat new in
+          let kept : KeepsLine count (slice_set s.words (p * 8) 1) next = record { pool = take_kept count slots seat c past moment log p s within is here h.pool e; line = stands.0; crowd = stands.1 } in
+          let there : get_elem? next seat ≡ some new = there_set s.views seat new (lone c past) e in
+          (new, keeps, tt, kept, ((moment, log, refl), small, record { count = count; words = slice_set s.words (p * 8) 1; views = next; kept = kept; seat = seat; there = there }))
 
       pub may_free_in_line : (st : Step S) → c.stage ≡ Holding → Allows {S = S} {V = PoolView} (KeepsLineRule count) slots seat (lone c past, []) (p * 8) (λ _. 0) (λ _. Frees st (lone c past, []) 0)
       may_free_in_line st is s h _ e _ =

@@ -54,9 +54,18 @@ StandsInLine =
 abbrev pub NeverComes : {S : Type 0} → Step S → Me S PoolView → ℕ → Me S PoolView → Type 0
 NeverComes s before found after = ⊥
 
+-- this view is a seat's in a table that keeps the rule of a line
+pub record IsInLine (v : PoolView) : Type 0 where
+  pub count : ℕ
+  pub words : List ℕ
+  pub views : List PoolView
+  pub kept : KeepsLine count words views
+  pub seat : ℕ
+  pub there : get_elem? views seat ≡ some v
+
 -- a call of a line swaps 1 into the word of its place: where it has taken it, its number is small
 abbrev pub TakesInLine : {S : Type 0} → Step S → Me S PoolView → ℕ → Me S PoolView → Type 0
-TakesInLine s before found after = Takes s before found after × (found ≡ 0 → IsSmall (call_of after.0))
+TakesInLine s before found after = Takes s before found after × (found ≡ 0 → IsSmall (call_of after.0)) × IsInLine after.0
 
 -- where the rule is kept, what a call that holds a number has kept in its view is how many competed, held or sought, at each
 -- moment from its coming to its taking of the number, and its number is at most the most of them

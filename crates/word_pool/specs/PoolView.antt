@@ -46,7 +46,17 @@ passing c =
 -- an access that took its place, at this moment: with how many competed at each moment till then
 abbrev pub taking : ℕ → List ℕ → Call → Call
 taking moment crowds c =
-    record { stage = Holding; place = c.place; met = c.met; accesses = suc c.accesses; hinted = c.hinted; came = c.came; took = moment; went = 0; crowds = crowds }
+    record {
+      stage = Holding;
+      place = c.place;
+      met = c.met;
+      accesses = suc c.accesses;
+      hinted = c.hinted;
+      came = c.came;
+      took = moment;
+      went = 0;
+      crowds = crowds;
+    }
 
 -- an access of a call at rest that took this place, at this moment
 abbrev pub taking_hint : ℕ → ℕ → Call → Call

@@ -2,10 +2,10 @@
 
 ghost use Rattle.std.specs.Prelude.{[], ◌∷◌, ◌≡◌, ◌≢◌, ◌<◌, ◌≤◌, ◌+◌, ◌-◌, ◌*◌, ◌⊎◌, ◌↔◌, ℕ, suc, true, false, Err, IfErr, IfOk, IfSome, IsOk, IsSome, vec_len, slice_index};
 ghost use Rattle.word_pool.specs.PoolRule.{word_of};
-ghost use Rattle.word_pool.specs.PoolView.{call_of, first_of, first_places, going, IsSeeking, IsHolding, HasLooked};
+ghost use Rattle.word_pool.specs.PoolView.{call_of, first_of, first_places, going, lone, IsSeeking, IsHolding, HasLooked};
 ghost use Rattle.word_pool.specs.Pools.{CallId, HasNumberOf, IsHeldAt, IsStill};
 ghost use Rattle.word_pool.specs.Crowd.{greatest};
-ghost use Rattle.word_pool.specs.LineRule.{rests};
+ghost use Rattle.word_pool.specs.LineRule.{rests, IsInLine};
 ghost use Rattle.word_pool.specs.Tally.{holding, own, sum_below};
 ghost use lib.ListN.{get_elem?};
 ghost use mathlib.Core.Option.{some};
@@ -103,7 +103,8 @@ impl<A: Allocator> LinePool<A> {
     /// it swaps 1 into it, so it makes at most two accesses for each number that it tries; and it leaves a number behind only
     /// where an access met it held. The ticket is of this line, and comes back with `release`. The number is at most the most
     /// calls that competed, held or sought, at one moment of this one (Moir and Anderson 1995): `crowds` is how many did at
-    /// each moment, as `law_of_the_line` says of any call that holds; and this call is the next of the ticket's seat.
+    /// each moment, as `law_of_the_line` says of any call that holds in a table that keeps the rule, as `in_line` says of
+    /// this one; and this call is the next of the ticket's seat.
     pub fn acquire(&self, ticket: Ticket) -> Held
         requires ours { ticket.pool ≡ self.now.table }
         ensures ours { result.pool ≡ self.now.table }
@@ -112,6 +113,7 @@ impl<A: Allocator> LinePool<A> {
         ensures below { result.call.met ≡ first_places (result.number - 1) }
         ensures accesses { result.call.accesses ≤ 2 * result.number }
         ensures small { result.number ≤ greatest result.call.crowds }
+        ensures in_line { IsInLine (lone result.call result.past) }
     {
         let Ticket { badge } = ticket;
         let mut seat = badge.into_seat::<u8>();
@@ -130,6 +132,7 @@ impl<A: Allocator> LinePool<A> {
         ensures below { result.call.met ≡ first_places (result.number - 1) }
         ensures accesses { result.call.accesses + 1 ≤ (call_of seat.me.0).accesses + 2 * result.number }
         ensures small { result.number ≤ greatest result.call.crowds }
+        ensures in_line { IsInLine (lone result.call result.past) }
     {
         if self.settle(&mut seat, 0, found) {
             return Held::of(seat, 0);
@@ -159,6 +162,7 @@ impl<A: Allocator> LinePool<A> {
         ensures slots { seat.new.me.1 ≡ [] }
         ensures held { result ≡ true → IsHolding place (suc (call_of seat.old.me.0).accesses) seat.new.me.0 }
         ensures small { result ≡ true → suc place ≤ greatest (call_of seat.new.me.0).crowds }
+        ensures in_line { result ≡ true → IsInLine seat.new.me.0 }
         ensures range { result ≡ true → (place < 4096) × (word_of place < seat.new.table_id.words) }
         ensures passed { result ≡ false → IsSeeking (suc place) (suc (call_of seat.old.me.0).accesses) seat.new.me.0 }
     {
