@@ -91,7 +91,7 @@ fn clerks_of<L: LockName, R: Wait>(
 }
 
 /// Serves connections to 127.0.0.1 over one hall, by threads. Before the first it writes a line with the port that it listens on,
-/// behind the last one with how many it served.
+/// behind the last one, once the hall was closed against all that its clerks answered, with how many it served.
 pub fn serve<L: LockName + Send + Sync, R, W: Write>(
     rt: &R,
     alloc: Global,
@@ -118,6 +118,9 @@ where
     let served = serve_many(rt, alloc, &listener, &lock, &OpenGate, clerks, plan.count);
     if let Some(fault) = served.fault {
         return Err(ServeFault::Server(fault));
+    }
+    if lock.close(Vec::new(alloc), served.clerks).is_err() {
+        return Err(ServeFault::Server(ServerFault::History));
     }
     tell(alloc, "served", served.served, output)
 }

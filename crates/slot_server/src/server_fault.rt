@@ -11,6 +11,8 @@ pub enum ServerFault {
     Memory = 3,
     /// To listen or to accept failed.
     Network = 4,
+    /// The history at the end is not what the clients were told: some event in it was not answered, or not so.
+    History = 5,
 }
 
 impl fmt::Display for ServerFault {
@@ -18,6 +20,7 @@ impl fmt::Display for ServerFault {
         f.write_str(match self {
             ServerFault::Memory => "no memory",
             ServerFault::Network => "network fault",
+            ServerFault::History => "history fault",
         })
     }
 }
