@@ -78,7 +78,7 @@ Each P [] = Unit {0}
 Each P (c ∷ cs) = P c × Each P cs
 
 pub record KeepsCrowd (views : List PoolView) : Type 0 where
-  -- each moment is one coming or going of one call
+  -- by moment t there were t comings and goings, or all if there are fewer: so each moment is of one call
   pub clock : (t : ℕ) → tally (moved_by t) views ≡ t - (t - now views)
   -- who competes now is who competed at the last moment
   pub present : (t : ℕ) → now views ≤ t → tally (competed t) views ≡ tally competes views

@@ -1,14 +1,14 @@
 //! Stays in a pool of words, one after another and by threads at once.
 
-ghost use Rattle.std.specs.Prelude.{◌≡◌};
+ghost use Rattle.std.specs.Prelude.{◌≡◌, IfOk};
 
 use std::alloc::Global;
 use std::sync::atomic::AtomicU64;
 use std::sync::atomic::Ordering::SeqCst;
 use std::test::Fail;
-use std::thread::{self, Threads};
+use std::thread::{self, Threads, join};
 use step_memory::Refusal;
-use word_pool::WordPool;
+use word_pool::{AllHeld, Held, WordPool};
 
 #[test]
 fn none_and_too_many_are_refused(rt: HostRuntime) -> Result<(), Fail> {
@@ -67,6 +67,37 @@ fn a_hint_is_tried_first(rt: HostRuntime) -> Result<(), Fail> {
     }
     assert!(rt; pool.acquire_near(2).is_err(), "all are held");
     Ok(())
+}
+
+/// What a thread of its own took is given back here: the words of the pool then.
+fn give_back<R: Threads + Sync>(rt: &R, alloc: Global) -> Option<Vec<u64, Global>> {
+    let pool = WordPool::new(alloc, 2).ok()?;
+    let shared = &pool;
+    let (one, other) = join(
+        rt,
+        move || -> Result<Held, AllHeld>
+            ensures { IfOk result (λ h. h.pool ≡ shared.entry.now.table) }
+        { shared.acquire() },
+        move || -> Result<Held, AllHeld>
+            ensures { IfOk result (λ h. h.pool ≡ shared.entry.now.table) }
+        { shared.acquire() },
+    );
+    let (mut one, mut other) = (one.ok()?, other.ok()?);
+    pool.meet(&mut one, &mut other);
+    pool.release(one);
+    pool.release(other);
+    pool.close(alloc, Vec::new(alloc)).ok()
+}
+
+#[test]
+fn a_number_is_given_back_by_another_thread(rt: HostRuntime) {
+    let Some(words) = give_back(&rt, rt.alloc()) else {
+        panic!(rt; "two are free");
+    };
+    assert!(rt;
+        words.as_slice() == [0, 0].as_slice(),
+        "a word is still set"
+    );
 }
 
 /// How often a stay of many found its number in another's hands, or none at a walk from 1, which finds one wherever no more
