@@ -1,0 +1,115 @@
+//! A small machine, and a store and streams that fail.
+
+ghost use Rattle.std.specs.Prelude.{◌≡◌};
+
+use etcd_log::Dial;
+use one_log::{Machine, MemoryStore, Put, Store, StoreFault};
+use std::alloc::{AllocError, Global};
+use std::io;
+use std::io::{Read, Write};
+
+/// Keeps its entries. The replies to one are its place, modulo 256, and its bytes.
+#[derive(Drop)]
+pub(crate) struct Tape {
+    pub(crate) alloc: Global,
+    pub(crate) entries: Vec<Vec<u8>>,
+    pub(crate) refusals: u64,
+}
+
+impl Machine for Tape {
+    ghost use Rattle.std.specs.Prelude.{◌%◌, ◌∷◌, length, map};
+
+    ghost applied = { λ t. map (λ e. e.items) t.entries.items };
+
+    ghost due = { λ before entry. (length before % 256) ∷ entry };
+
+    fn apply(&mut self, entry: &[u8], replies: &mut Vec<u8>) -> Result<(), AllocError> {
+        if self.refusals > 0 {
+            self.refusals -= 1;
+            return Err(AllocError);
+        }
+        let copy = Vec::from_slice(self.alloc, entry)?;
+        let place = (self.entries.len() % 256) as u8;
+        replies.clear();
+        replies.push(place)?;
+        replies.extend_from_slice(entry)?;
+        self.entries.push(copy)?;
+        Ok(())
+    }
+}
+
+/// A store that writes, and then loses so many answers.
+#[derive(Drop)]
+pub(crate) struct Lossy {
+    pub(crate) store: MemoryStore,
+    pub(crate) losses: u64,
+}
+
+impl Store for Lossy {
+    ghost use Rattle.std.specs.Prelude.{⊤};
+    ghost use Rattle.one_log.specs.Places.{stands_in};
+
+    ghost stands = { λ s. stands_in s.store };
+
+    ghost fails = { λ fault. ⊤ };
+
+    fn put(&mut self, place: u64, entry: &[u8]) -> Result<Put, StoreFault> {
+        let answer = self.store.put(place, entry);
+        if self.losses > 0 {
+            self.losses -= 1;
+            return Err(StoreFault::Lost);
+        }
+        answer
+    }
+
+    fn get(&mut self, place: u64, entry: &mut Vec<u8>) -> Result<bool, StoreFault> {
+        self.store.get(place, entry)
+    }
+}
+
+/// Streams, of which each gives the next of some texts and ends.
+#[derive(Drop)]
+pub(crate) struct Script<'a> {
+    pub(crate) texts: &'a [&'a [u8]],
+    pub(crate) dialed: usize,
+}
+
+/// A stream that gives a text and takes what is written.
+#[derive(Drop)]
+pub(crate) struct Lines<'a> {
+    text: &'a [u8],
+}
+
+impl Read for Lines<'_> {
+    fn read(&mut self, buf: &mut [u8]) -> io::Result<usize> {
+        let count = self.text.len().min(buf.len());
+        let (given, left) = self.text.split_at(count);
+        buf[..count].copy_from_slice(given);
+        self.text = left;
+        Ok(count)
+    }
+}
+
+impl Write for Lines<'_> {
+    fn write(&mut self, buf: &[u8]) -> io::Result<usize> {
+        Ok(buf.len())
+    }
+
+    fn flush(&mut self) -> io::Result<()> {
+        Ok(())
+    }
+}
+
+impl<'a> Dial for Script<'a> {
+    type Stream = Lines<'a>;
+
+    fn members(&self) -> usize {
+        2
+    }
+
+    fn dial(&mut self, _member: usize) -> Option<Lines<'a>> {
+        let text = *self.texts.get(self.dialed)?;
+        self.dialed = self.dialed.wrapping_add(1);
+        Some(Lines { text })
+    }
+}
