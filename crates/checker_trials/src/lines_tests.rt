@@ -1,7 +1,6 @@
 //! Lines that were read already, judged one after another.
 
-use desk::Event;
-use rename_core::{Config, WorldKind};
+use commands::{Config, Event, WorldKind};
 use run_checker::{
     Line, Pairs, Reason, Told, first_fault, law_of_desk_runs, law_of_reasons, law_of_records,
     read_reply,

@@ -1,8 +1,8 @@
 //! Lines that are spelled as records are written, which are read without a reader of JSON.
 
+use commands::WorldKind;
 use record_lines::Version;
 use record_lines::plain_line::plain_line;
-use rename_core::WorldKind;
 use std::alloc::AllocError;
 
 /// Whether a line of a record of version 2 is read so.

@@ -1,10 +1,10 @@
 //! A run whose record is written and checked.
 
 ghost use Rattle.std.specs.Prelude.{◌≡◌, ◌≤◌, ◌⊎◌, true, IfOk};
-ghost use Rattle.desk.specs.Desk.{gives_names};
+ghost use Rattle.commands.specs.Config.{gives_names};
 ghost use Rattle.run_checker.specs.Recorded.{events_in};
 
-use rename_core::{Config, WorldKind};
+use commands::{Config, WorldKind};
 use run_checker::{Verdict, check, law_of_recording};
 use schedule_player::{Fault, Tried, record};
 use std::alloc::Global;

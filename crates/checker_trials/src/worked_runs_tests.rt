@@ -1,9 +1,9 @@
 //! Records of worked runs, as `record` writes them.
 
 ghost use Rattle.std.specs.Prelude.{◌≡◌, true};
-ghost use Rattle.desk.specs.Desk.{gives_names};
+ghost use Rattle.commands.specs.Config.{gives_names};
 
-use rename_core::{Config, WorldKind};
+use commands::{Config, WorldKind};
 use run_checker::{Verdict, check, migrate};
 use schedule_player::{Tried, record};
 use std::alloc::{AllocError, Global};

@@ -12,9 +12,9 @@ use Rattle.rename_core.specs.declared.reply.Reply.{Reply as StepReply}
 use Rattle.step_memory.specs.Machine.{After}
 use Rattle.step_memory.proofs.MachineLemmas.{call_leads_on}
 use Rattle.rename_core.specs.Machine.{next, IsReply, renaming, IsLawfulWithin}
-use Rattle.rename_core.specs.Config.{is_tree}
+use Rattle.commands.specs.Config.{is_tree}
 use Rattle.rename_core.specs.Law.{KeepsRenameLaw}
-use Rattle.rename_core.specs.declared.config.WorldKind.{WorldKind}
+use Rattle.commands.specs.declared.kind.WorldKind.{WorldKind}
 use Rattle.rename_core.specs.RenameWorld.{rename_answer, step_refusal, may_lack}
 use Rattle.bit_allocator.specs.Pool.{enter_answer, probe_answer, number_answer, widen_answer}
 use Rattle.bit_allocator.specs.Calls.Call.{Entered, Probed, Left}
@@ -23,10 +23,10 @@ use Rattle.slot_array.specs.SlotCalls.SlotCall.{Pooled, Stored, Fetched, Extende
 use Rattle.slot_array.specs.Slots.{stored_reply, IsFetched}
 use Rattle.slot_array.specs.Machine.{slots, slots_next, IsSlotReply}
 use Rattle.slot_array.proofs.SlotsKeep.{slots_law, slot_there}
-use Rattle.desk.specs.declared.event.Event.{Event}
-use Rattle.desk.specs.declared.event.Event.TheVariants.{Begin, Step, Enter, Probe, Leave, Put, Get, Widen}
-use Rattle.desk.specs.declared.reply.Reply.{Reply}
-use Rattle.desk.specs.declared.reply.Reply.TheVariants as reply
+use Rattle.commands.specs.declared.event.Event.{Event}
+use Rattle.commands.specs.declared.event.Event.TheVariants.{Begin, Step, Enter, Probe, Leave, Put, Get, Widen}
+use Rattle.commands.specs.declared.reply.Reply.{Reply}
+use Rattle.commands.specs.declared.reply.Reply.TheVariants as reply
 use Rattle.desk.specs.DeskState.{DeskState}
 use Rattle.desk.specs.DeskRun.{IsDeskRun, desk_terms}
 use Rattle.desk.specs.DeskCalls.{DeskCall, rename_calls, slot_calls, exchange, exchange_of, BeginsSlots, BeginSlots, AfterDesk, LeadsBy}

@@ -12,21 +12,21 @@ use Rattle.snapshot_places.specs.Tree.{new_tree}
 use Rattle.snapshot_places.specs.TreeProofs.{tree_laws}
 use Rattle.snapshot_places.specs.TreeTies.{tree_places}
 use Rattle.rename_core.specs.Ample.{grid_ample}
-use Rattle.rename_core.specs.Config.{is_tree}
+use Rattle.commands.specs.Config.{is_tree, gives_names}
 use Rattle.rename_core.specs.EmptyPlaces.{AreEmptyFor, grid_empty, tree_empty}
-use Rattle.rename_core.specs.declared.config.Config.{Config}
-use Rattle.rename_core.specs.declared.config.WorldKind.{WorldKind}
-use Rattle.rename_core.specs.declared.config.WorldKind.TheVariants.{Splitter, Grid, Rename, Tree}
+use Rattle.commands.specs.declared.config.Config.{Config}
+use Rattle.commands.specs.declared.kind.WorldKind.{WorldKind}
+use Rattle.commands.specs.declared.kind.WorldKind.TheVariants.{Splitter, Grid, Rename, Tree}
 use Rattle.rename_core.specs.NamedPlaces.{PlacesAtOnce, GrowsAsTree}
-use Rattle.rename_core.specs.Ranges.{most_in}
+use Rattle.commands.specs.Ranges.{most_in}
 use Rattle.rename_core.specs.Machine.{IsLawfulWithin, fresh_over as fresh_names}
 use Rattle.rename_core.proofs.Sizes.{most_after}
 use Rattle.slot_array.proofs.SlotsKeep.{slots_proved}
 use Rattle.rename_core.specs.RenameWorld.{fresh_world, owner_by}
 use Rattle.rename_core.proofs.NamedPlaces.{owner_is, answers_unrefused}
 use Rattle.rename_core.proofs.PlacesLaw.{grid_lawful, tree_lawful}
-use Rattle.desk.specs.declared.exchange.Exchange.{Exchange}
-use Rattle.desk.specs.Desk.{gives_names, fresh_in, desk_rules, owner_told, owner_over, IsFreshDesk, LeadsDesk}
+use Rattle.commands.specs.declared.exchange.Exchange.{Exchange}
+use Rattle.desk.specs.Desk.{fresh_in, desk_rules, owner_told, owner_over, IsFreshDesk, LeadsDesk}
 use Rattle.desk.specs.DeskCalls.{DeskCall, rename_calls, exchange_of, AfterDesk}
 use Rattle.desk.specs.DeskRules.{fresh_over, after_over}
 use Rattle.desk.specs.DeskRun.{IsDeskRun, IsDeskRunOf, desk_terms, desk_bounds}

@@ -13,14 +13,15 @@ use Rattle.rename_core.specs.RenameObject.{RenameTerms, RenameObject, new_object
 use Rattle.bit_allocator.specs.Calls.Call.{Entered, Probed, Left, Widened}
 use Rattle.slot_array.specs.SlotCalls.{SlotCall}
 use Rattle.slot_array.specs.SlotCalls.SlotCall.{Pooled, Stored, Fetched, Extended}
-use Rattle.desk.specs.declared.event.Event.{Event}
-use Rattle.desk.specs.declared.event.Event.TheVariants as event
-use Rattle.desk.specs.declared.exchange.Exchange.{Exchange}
-use Rattle.desk.specs.declared.reply.Reply.TheVariants as reply
+use Rattle.commands.specs.declared.event.Event.{Event}
+use Rattle.commands.specs.declared.event.Event.TheVariants as event
+use Rattle.commands.specs.declared.exchange.Exchange.{Exchange}
+use Rattle.commands.specs.declared.reply.Reply.TheVariants as reply
 use Rattle.desk.specs.DeskCalls.{DeskCall, rename_calls, exchange, exchange_of}
 use Rattle.desk.specs.DeskCalls.DeskCall.{Renamed, Slotted}
 use Rattle.desk.specs.NamedAlone.{IsAmong, HasBegun, WasSpent, proposed_more, proposals_of, stepped_more, steps_of, StepsAlone, HasTwoLeft, HasName, NamesSoonAlone}
-use Rattle.desk.specs.Replies.{is_refusal, shown_step}
+use Rattle.commands.specs.Replies.{is_refusal}
+use Rattle.desk.specs.Replies.{shown_step}
 use Rattle.desk.proofs.NamesGiven.{was_given, shown_by, has_named}
 
 -- where a list of calls is shown as two parts of exchanges, it has two parts

@@ -19,11 +19,12 @@ use Rattle.bit_allocator.specs.Pool.{enter_refusal, probe_answer_by, probe_refus
 use Rattle.bit_allocator.specs.PoolState.{PoolState}
 use Rattle.bit_allocator.specs.Widening.{widen_refusal}
 use Rattle.slot_array.specs.Slots.{stored_reply}
-use Rattle.desk.specs.declared.event.Event.{Event}
-use Rattle.desk.specs.declared.event.Event.TheVariants.{Begin, Step, Enter, Probe as Probing, Leave, Put, Get, Widen}
-use Rattle.desk.specs.declared.reply.Reply.{Reply}
-use Rattle.desk.specs.declared.reply.Reply.TheVariants.{Refused}
-use Rattle.desk.specs.Replies.{done_reply, shown_step, step_reply, shown_probe, probe_reply, left_reply, value_reply}
+use Rattle.commands.specs.declared.event.Event.{Event}
+use Rattle.commands.specs.declared.event.Event.TheVariants.{Begin, Step, Enter, Probe as Probing, Leave, Put, Get, Widen}
+use Rattle.commands.specs.declared.reply.Reply.{Reply}
+use Rattle.commands.specs.declared.reply.Reply.TheVariants.{Refused}
+use Rattle.commands.specs.Replies.{done_reply, left_reply, value_reply}
+use Rattle.desk.specs.Replies.{shown_step, step_reply, shown_probe, probe_reply}
 use Rattle.desk.specs.DeskRules.{fetched, refusal_of, refusal_over, reply_over}
 use Rattle.desk.specs.DeskState.{DeskState}
 

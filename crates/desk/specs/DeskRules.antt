@@ -12,9 +12,9 @@ use Rattle.bit_allocator.specs.Calls.Call.{Entered, Probed, Left}
 use Rattle.slot_array.specs.SlotCalls.SlotCall.{Pooled, Stored, Fetched, Extended}
 use Rattle.slot_array.specs.Slots.{stored_reply}
 use Rattle.slot_array.specs.Machine.{slots_next}
-use Rattle.desk.specs.declared.event.Event.{Event}
-use Rattle.desk.specs.declared.event.Event.TheVariants.{Begin, Step, Enter, Probe, Leave, Put, Get, Widen}
-use Rattle.desk.specs.declared.reply.Reply.{Reply}
+use Rattle.commands.specs.declared.event.Event.{Event}
+use Rattle.commands.specs.declared.event.Event.TheVariants.{Begin, Step, Enter, Probe, Leave, Put, Get, Widen}
+use Rattle.commands.specs.declared.reply.Reply.{Reply}
 use Rattle.desk.specs.DeskCalls.{DeskCall, exchange_of}
 use Rattle.desk.specs.DeskCalls.DeskCall.{Renamed, Slotted}
 use Rattle.desk.specs.DeskState.{DeskState}

@@ -3,12 +3,12 @@
 use Rattle.std.specs.Prelude.{◌≡◌, ℕ, if◌then◌else◌, Bool, List, map, replicate}
 use Rattle.snapshot_core.specs.Snapshot.{SnapBounds}
 use Rattle.snapshot_places.specs.Bounds.{grid_bounds, tree_bounds}
-use Rattle.rename_core.specs.declared.config.Config.{Config}
-use Rattle.rename_core.specs.Config.{is_tree}
+use Rattle.commands.specs.declared.config.Config.{Config}
+use Rattle.commands.specs.Config.{is_tree}
 use Rattle.rename_core.specs.Law.{KeepsRenameLaw}
 use Rattle.rename_core.specs.RenameObject.{RenameTerms}
 use Rattle.slot_array.specs.Law.{KeepsSlotsLaw}
-use Rattle.desk.specs.declared.exchange.Exchange.{Exchange}
+use Rattle.commands.specs.declared.exchange.Exchange.{Exchange}
 use Rattle.desk.specs.DeskCalls.{DeskCall, rename_calls, slot_calls, exchange_of, BeginSlots}
 
 -- The exchanges are calls of renaming, pool and slots. Those of renaming keep its law: no two have one name, where b have

@@ -3,13 +3,14 @@ use Rattle.std.specs.Prelude.{◌≡◌, ◌≢◌, ◌↔◌, ℕ, true, List, 
 use Rattle.step_memory.specs.declared.refusal.Refusal.{Refusal}
 use Rattle.step_memory.specs.declared.refusal.Refusal.TheVariants as refusal
 use Rattle.snapshot_core.specs.Snapshot.{SnapBounds}
-use Rattle.rename_core.specs.declared.config.Config.{Config}
+use Rattle.commands.specs.declared.config.Config.{Config}
 use Rattle.rename_core.specs.RenameObject.{RenameTerms}
-use Rattle.desk.specs.declared.event.Event.{Event}
-use Rattle.desk.specs.declared.exchange.Exchange.{Exchange}
-use Rattle.desk.specs.declared.reply.Reply.{Reply}
-use Rattle.desk.specs.declared.reply.Reply.TheVariants as reply
-use Rattle.desk.specs.Desk.{gives_names, fresh_desk, desk_reply, desk_rules, desk_refusal, owner_reply, IsFreshDesk, IsAfterDesk, LeadsDesk}
+use Rattle.commands.specs.declared.event.Event.{Event}
+use Rattle.commands.specs.declared.exchange.Exchange.{Exchange}
+use Rattle.commands.specs.declared.reply.Reply.{Reply}
+use Rattle.commands.specs.declared.reply.Reply.TheVariants as reply
+use Rattle.commands.specs.Config.{gives_names}
+use Rattle.desk.specs.Desk.{fresh_desk, desk_reply, desk_rules, desk_refusal, owner_reply, IsFreshDesk, IsAfterDesk, LeadsDesk}
 use Rattle.desk.specs.DeskCalls.{DeskCall, exchange_of}
 use Rattle.desk.specs.DeskRun.{IsDeskRun, IsDeskRunOf}
 use Rattle.desk.specs.DeskValue.{DeskValue}

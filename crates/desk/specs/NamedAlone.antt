@@ -3,15 +3,15 @@ use Rattle.std.specs.Prelude.{◌≡◌, ℕ, ◌+◌, ◌<◌, ◌≤◌, ◌==
 use Rattle.snapshot_core.specs.Snapshot.{SnapBounds}
 use Rattle.rename_core.specs.Alone.{steps_alone}
 use Rattle.rename_core.specs.RenameObject.{RenameTerms}
-use Rattle.desk.specs.declared.event.Event.{Event}
-use Rattle.desk.specs.declared.event.Event.TheVariants.{Begin, Step}
-use Rattle.desk.specs.declared.exchange.Exchange.{Exchange}
-use Rattle.desk.specs.declared.reply.Reply.{Reply}
-use Rattle.desk.specs.declared.reply.Reply.TheVariants.{Ok, Proposed, Spent}
+use Rattle.commands.specs.declared.event.Event.{Event}
+use Rattle.commands.specs.declared.event.Event.TheVariants.{Begin, Step}
+use Rattle.commands.specs.declared.exchange.Exchange.{Exchange}
+use Rattle.commands.specs.declared.reply.Reply.{Reply}
+use Rattle.commands.specs.declared.reply.Reply.TheVariants.{Ok, Proposed, Spent}
 use Rattle.desk.specs.DeskCalls.{exchange}
 use Rattle.desk.specs.DeskRun.{IsDeskRun}
 use Rattle.desk.specs.Names.{WasNamed}
-use Rattle.desk.specs.Replies.{is_refusal}
+use Rattle.commands.specs.Replies.{is_refusal}
 
 -- this exchange is among these
 abbrev pub IsAmong : Exchange → List Exchange → Type 0

@@ -1,9 +1,9 @@
 -- rules by which a structure answers events
 use Rattle.std.proofs.Common.{◌≡◌, ◌≢◌, Bool, true, ◌⊎◌, inl, inr, sym, ◌∙◌}
 use Rattle.step_memory.specs.declared.refusal.Refusal.TheVariants as refusal
-use Rattle.desk.specs.declared.event.Event.{Event}
-use Rattle.desk.specs.declared.reply.Reply.{Reply}
-use Rattle.desk.specs.declared.reply.Reply.TheVariants as reply
+use Rattle.commands.specs.declared.event.Event.{Event}
+use Rattle.commands.specs.declared.reply.Reply.{Reply}
+use Rattle.commands.specs.declared.reply.Reply.TheVariants as reply
 
 -- the reply to an event and the state after it, and whether it may be refused for want of memory instead
 pub record Rules (T : Type 0) : Type 0 where

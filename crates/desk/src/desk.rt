@@ -1,16 +1,14 @@
 //! A desk of either world.
 
 ghost use Rattle.std.specs.Prelude.{◌≡◌, ◌⊎◌, ◌↔◌, IfOk, IfErr, Err, false};
-ghost use Rattle.desk.specs.Desk.{gives_names, desk_rules, desk_refusal, owner_reply, IsFreshDesk};
+ghost use Rattle.commands.specs.Config.{gives_names};
+ghost use Rattle.desk.specs.Desk.{desk_rules, desk_refusal, owner_reply, IsFreshDesk};
 ghost use Rattle.desk.specs.Laws.{TellsOwners, RefusesAsSaid};
-ghost use Rattle.desk.specs.Replies.{with_view};
+ghost use Rattle.commands.specs.Replies.{with_view};
 ghost use Rattle.desk.specs.Rules.{may_by};
 
-use crate::event::Event;
 use crate::over::DeskOver;
-use crate::reply::Reply;
-use crate::short_reply::ShortReply;
-use rename_core::Config;
+use commands::{Config, Event, Reply, ShortReply};
 use snapshot_places::{Grid, TreePlaces};
 use std::alloc::Allocator;
 use std::marker::Model;

@@ -34,16 +34,10 @@
 #![tactic(auto)]
 
 pub mod desk;
-pub mod event;
-pub mod exchange;
 pub mod laws;
+mod outcomes;
 mod over;
-pub mod reply;
-pub mod short_reply;
 
+pub use commands::{Event, Exchange, Reply, ShortReply};
 pub use desk::Desk;
-pub use event::Event;
-pub use exchange::Exchange;
 pub use laws::{law_of_desk, law_of_names};
-pub use reply::Reply;
-pub use short_reply::ShortReply;

@@ -3,15 +3,14 @@
 ghost use Rattle.std.specs.Prelude.{◌≡◌, ◌⊎◌, ◌↔◌, IfOk, IfErr, Err, false};
 ghost use Rattle.desk.specs.Desk.{owner_over};
 ghost use Rattle.desk.specs.DeskRules.{fresh_over, rules_over, refusal_over};
-ghost use Rattle.desk.specs.Replies.{with_view};
+ghost use Rattle.commands.specs.Replies.{with_view};
 ghost use Rattle.desk.specs.Rules.{may_by};
-ghost use Rattle.rename_core.specs.Config.{is_played_over};
+ghost use Rattle.commands.specs.Config.{is_played_over};
 
-use crate::event::Event;
-use crate::reply::Reply;
-use crate::short_reply::ShortReply;
+use crate::outcomes::{of_probe, of_step};
 use bit_allocator::Pool;
-use rename_core::{Config, RenamePlaces, RenameWorld};
+use commands::{Config, Event, Reply, ShortReply};
+use rename_core::{RenamePlaces, RenameWorld};
 use slot_array::Slots;
 use snapshot_core::{Known, Places};
 use std::alloc::Allocator;
@@ -71,9 +70,9 @@ where
     {
         match event {
             Event::Begin(id) => ShortReply::of_done(self.names.begin(id)),
-            Event::Step(id) => ShortReply::of_step(self.names.step_short(id, view)),
+            Event::Step(id) => of_step(self.names.step_short(id, view)),
             Event::Enter(id) => ShortReply::of_done(self.slots.enter(id)),
-            Event::Probe(id) => ShortReply::of_probe(self.slots.probe(id)),
+            Event::Probe(id) => of_probe(self.slots.probe(id)),
             Event::Leave(id) => ShortReply::of_leave(self.slots.leave(id)),
             Event::Put(id, value) => ShortReply::of_done(self.slots.put(id, value)),
             Event::Get(id) => ShortReply::of_value(self.slots.get(id).copied()),

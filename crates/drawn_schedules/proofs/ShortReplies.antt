@@ -1,10 +1,10 @@
 -- replies of a few bytes, with a view beside them
 use Rattle.std.proofs.Common.{◌≡◌, ◌≢◌, ℕ, List}
 use Rattle.step_memory.specs.declared.refusal.Refusal.{Refusal}
-use Rattle.desk.specs.declared.reply.Reply.TheVariants as reply
-use Rattle.desk.specs.declared.short_reply.ShortReply.{ShortReply}
-use Rattle.desk.specs.declared.short_reply.ShortReply.TheVariants as short
-use Rattle.desk.specs.Replies.{with_view}
+use Rattle.commands.specs.declared.reply.Reply.TheVariants as reply
+use Rattle.commands.specs.declared.short_reply.ShortReply.{ShortReply}
+use Rattle.commands.specs.declared.short_reply.ShortReply.TheVariants as short
+use Rattle.commands.specs.Replies.{with_view}
 
 -- a view beside it makes no refusal
 refused_short : (said : ShortReply) (view : List (ℕ × ℕ)) (why : Refusal) → with_view said view ≡ reply.Refused why → said ≡ short.Refused why

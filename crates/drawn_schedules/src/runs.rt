@@ -2,8 +2,8 @@
 
 ghost use Rattle.std.specs.Prelude.{◌≡◌, ◌<◌, ◌≤◌, ◌+◌, ◌^◌, ◌⊎◌, [], ◌∷◌, ◌++◌, List, Err, length, true, IfOk, IfErr, OnOk, OnErr};
 ghost use Rattle.std.specs.Io.KnownBytes.{Appends};
-ghost use Rattle.desk.specs.declared.exchange.Exchange.{Exchange};
-ghost use Rattle.desk.specs.Desk.{gives_names};
+ghost use Rattle.commands.specs.declared.exchange.Exchange.{Exchange};
+ghost use Rattle.commands.specs.Config.{gives_names};
 ghost use Rattle.drawn_schedules.specs.Schedule.{begins_from, steps_drawn};
 ghost use Rattle.drawn_schedules.specs.Runs.{HasDrawn, HasDrawnPart, IsDrawnRun, PlaysFrom, numbers_line};
 ghost use Rattle.drawn_schedules.specs.Tally.{IsTallyOf};
@@ -11,9 +11,9 @@ ghost use Rattle.drawn_schedules.specs.Tally.{IsTallyOf};
 use crate::schedule::{draw_one, generator};
 use crate::tally::Tally;
 use bumpalo::Bump;
-use desk::{Desk, Event, ShortReply};
+use commands::{Config, Event, ShortReply};
+use desk::Desk;
 use rand_pcg::Lcg64Xsh32;
-use rename_core::Config;
 use schedule_player::{Fault, HELD_REPLIES, Replies, Sink, put_word};
 use std::alloc::Allocator;
 use step_memory::{Refusal, View};

@@ -8,7 +8,7 @@ ghost use Rattle.schedule_player.specs.Events.{event_lines, event_words};
 ghost use Rattle.schedule_player.specs.UnderWay.{GoesPast, StopsWithin};
 ghost use Rattle.schedule_player.specs.Written.{HasPartOf};
 
-use desk::Event;
+use commands::Event;
 use rand_core::SeedableRng;
 use rand_core::utils::NextWord;
 use rand_pcg::Lcg64Xsh32;

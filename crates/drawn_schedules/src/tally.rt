@@ -2,10 +2,10 @@
 
 ghost use Rattle.std.specs.Prelude.{◌≡◌, ℕ, ◌+◌, ◌<◌, ◌^◌, List, []};
 ghost use Rattle.desk.specs.Names.{begun_more};
-ghost use Rattle.desk.specs.Replies.{with_view};
+ghost use Rattle.commands.specs.Replies.{with_view};
 ghost use Rattle.drawn_schedules.specs.Tally.{IsTallyOf, is_named, is_spent, one_more_if};
 
-use desk::{Event, ShortReply};
+use commands::{Event, ShortReply};
 
 /// How many participants have begun in a run, were named and were spent.
 #[derive(Clone, Copy, Debug, Drop, PartialEq, Eq)]

@@ -4,9 +4,9 @@ ghost use Rattle.std.specs.Prelude.{◌≡◌, All, IfSome};
 
 use crate::lock_tests::{begins, closed, with};
 use crate::opening::{Opening, opened};
+use commands::WorldKind;
 use locked_world::{Closed, HallLock, LockName, Session, agrees, post_name};
 use raw_parts::{Board, Grant, ReaderSeat};
-use rename_core::WorldKind;
 use std::alloc::Global;
 use std::marker::Brand;
 use std::process::Abort;

@@ -3,9 +3,8 @@
 ghost use Rattle.std.specs.Prelude.{◌≡◌};
 
 use crate::opening::{Opening, opened};
-use desk::{Event, Reply};
+use commands::{Config, Event, Reply, WorldKind};
 use locked_world::{Act, Clerk, Closed, Hall, HallLock, LockName, Missing, Session, law_of_hall};
-use rename_core::{Config, WorldKind};
 use std::alloc::Global;
 use std::marker::Brand;
 use std::process::Abort;

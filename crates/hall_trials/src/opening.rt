@@ -2,10 +2,9 @@
 
 ghost use Rattle.std.specs.Prelude.{◌≡◌};
 
-use desk::Exchange;
+use commands::{Config, Exchange, WorldKind};
 use history_book::Opened;
 use locked_world::{HallLock, LockName};
-use rename_core::{Config, WorldKind};
 use std::alloc::Global;
 use std::process::Abort;
 use std::sync::ledger::Blank;

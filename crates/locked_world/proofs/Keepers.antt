@@ -1,8 +1,8 @@
 -- what a clerk comes to keep while it serves
 use Rattle.std.proofs.Common.{◌≡◌, ◌++◌, List, [], ◌∷◌, map, refl, sym, ap, ◌∙◌, append_assoc}
 use Rattle.std.proofs.lemmas.List.{append-nil}
-use Rattle.rename_core.specs.declared.config.Config.{Config}
-use Rattle.desk.specs.declared.exchange.Exchange.{Exchange}
+use Rattle.commands.specs.declared.config.Config.{Config}
+use Rattle.commands.specs.declared.exchange.Exchange.{Exchange}
 use Rattle.schedule_player.specs.Runs.{Runs}
 use Rattle.schedule_player.specs.Turns.{Turn, exchanges}
 use Rattle.schedule_player.specs.Turns.Turn.{Answered, Told, Ended, Misread}

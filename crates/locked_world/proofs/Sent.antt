@@ -27,7 +27,7 @@ use Rattle.snapshot_places.proofs.grid_walker.GridWalker.TheSendSync as grid_wal
 use Rattle.snapshot_places.proofs.grid_walk.GridWalk.TheSendSync as grid_walk_sent
 use Rattle.snapshot_places.proofs.tree_walker.TreeWalker.TheSendSync as tree_walker_sent
 use Rattle.snapshot_places.proofs.tree_walk.TreeWalk.TheSendSync as tree_walk_sent
-use Rattle.rename_core.proofs.config.Config.TheSendSync as config_sent
+use Rattle.commands.proofs.config.Config.TheSendSync as config_sent
 use Rattle.desk.specs.contracts.desk.Desk as desk
 use Rattle.desk.specs.contracts.desk.Desk.TheInside as desk_inside
 use Rattle.rename_core.specs.contracts.places.GridRenamePlaces.TheImpl as grid_named
@@ -55,7 +55,7 @@ use Rattle.std.proofs.vec.Vec.TheSendSync as vec_sent
 use Rattle.std.proofs.sync.ledger.Book.TheSendSync as count_sent
 use Rattle.history_book.proofs.book.Book.TheSendSync as book_sent
 use Rattle.history_book.proofs.book.Front.TheSendSync as front_sent
-use Rattle.desk.specs.contracts.exchange.Exchange as exchange
+use Rattle.commands.specs.contracts.exchange.Exchange as exchange
 use Rattle.std.proofs.sync.ledger.Share.TheSendSync as share_sent
 use Rattle.std.proofs.sync.Mutex.TheSendSync as mutex_sent
 use Rattle.locked_world.specs.contracts.parts.Locked as locked

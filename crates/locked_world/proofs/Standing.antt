@@ -6,12 +6,12 @@ use Rattle.std.proofs.lemmas.Option.{slice_get_within}
 use mathlib.Core.List.{IsPrefix}
 use Rattle.history_book.proofs.Fronts.{prefix_self, prefix_trans, prefix_get, prefix_length}
 use Rattle.step_memory.specs.declared.refusal.Refusal.{Refusal}
-use Rattle.rename_core.specs.declared.config.Config.{Config}
-use Rattle.desk.specs.declared.event.Event.{Event}
-use Rattle.desk.specs.declared.exchange.Exchange.{Exchange}
-use Rattle.desk.specs.declared.reply.Reply.{Reply}
+use Rattle.commands.specs.declared.config.Config.{Config}
+use Rattle.commands.specs.declared.event.Event.{Event}
+use Rattle.commands.specs.declared.exchange.Exchange.{Exchange}
+use Rattle.commands.specs.declared.reply.Reply.{Reply}
 use Rattle.desk.specs.DeskCalls.{exchange}
-use Rattle.desk.specs.Replies.{is_refusal}
+use Rattle.commands.specs.Replies.{is_refusal}
 use Rattle.locked_world.specs.declared.kept.Kept.{Kept}
 use Rattle.locked_world.specs.CallerState.{CallerState, caller_of}
 use Rattle.locked_world.specs.Halls.{hall_of, IsLawful, hall_refusal, after_unless, HallMay}

@@ -16,8 +16,8 @@ use Rattle.bit_allocator.specs.PoolState.{PoolState}
 use Rattle.slot_array.specs.Slots.{stored_in, extended_in}
 use Rattle.step_memory.specs.Participant.{program_of}
 use Rattle.step_memory.specs.World.{done_unless}
-use Rattle.desk.specs.declared.event.Event.{Event}
-use Rattle.desk.specs.declared.event.Event.TheVariants.{Begin, Step, Enter, Probe, Leave, Put, Get, Widen}
+use Rattle.commands.specs.declared.event.Event.{Event}
+use Rattle.commands.specs.declared.event.Event.TheVariants.{Begin, Step, Enter, Probe, Leave, Put, Get, Widen}
 use Rattle.desk.specs.Desk.{desk_refusal, desk_after}
 use Rattle.desk.specs.DeskRules.{refusal_of, refusal_over, after_over}
 use Rattle.desk.specs.DeskState.{DeskState}

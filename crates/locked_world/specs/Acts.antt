@@ -1,7 +1,7 @@
 -- the events of a session
 use Rattle.std.specs.Prelude.{ℕ}
-use Rattle.desk.specs.declared.event.Event.{Event}
-use Rattle.desk.specs.declared.event.Event.TheVariants as event
+use Rattle.commands.specs.declared.event.Event.{Event}
+use Rattle.commands.specs.declared.event.Event.TheVariants as event
 use Rattle.locked_world.specs.declared.act.Act.{Act}
 use Rattle.locked_world.specs.declared.act.Act.TheVariants.{Step, Enter, Probe, Leave, Put, Get}
 

@@ -2,12 +2,12 @@
 use Rattle.std.specs.Prelude.{◌≡◌, ℕ, List, [], Option, Some}
 use mathlib.Core.List.{IsPrefix}
 use Rattle.step_memory.specs.declared.refusal.Refusal.{Refusal}
-use Rattle.rename_core.specs.declared.config.Config.{Config}
-use Rattle.desk.specs.declared.event.Event.{Event}
-use Rattle.desk.specs.declared.event.Event.TheVariants.{Begin}
-use Rattle.desk.specs.declared.exchange.Exchange.{Exchange}
-use Rattle.desk.specs.declared.reply.Reply.{Reply}
-use Rattle.desk.specs.declared.reply.Reply.TheVariants as reply
+use Rattle.commands.specs.declared.config.Config.{Config}
+use Rattle.commands.specs.declared.event.Event.{Event}
+use Rattle.commands.specs.declared.event.Event.TheVariants.{Begin}
+use Rattle.commands.specs.declared.exchange.Exchange.{Exchange}
+use Rattle.commands.specs.declared.reply.Reply.{Reply}
+use Rattle.commands.specs.declared.reply.Reply.TheVariants as reply
 use Rattle.desk.specs.Desk.{owner_reply}
 use Rattle.locked_world.specs.Halls.{hall_of, desk_of, IsLawful, HallMay}
 

@@ -1,6 +1,6 @@
 -- a caller of a lock, as contracts see it
 use Rattle.std.specs.Prelude.{List}
-use Rattle.desk.specs.declared.exchange.Exchange.{Exchange}
+use Rattle.commands.specs.declared.exchange.Exchange.{Exchange}
 use Rattle.locked_world.specs.declared.kept.Kept.{Kept}
 
 -- its accepted events with their replies and places, in order; and the history as it was when the lock last answered it

@@ -1,7 +1,7 @@
 -- what a contract sees of a hall
 use Rattle.std.specs.Prelude.{List}
-use Rattle.rename_core.specs.declared.config.Config.{Config}
-use Rattle.desk.specs.declared.exchange.Exchange.{Exchange}
+use Rattle.commands.specs.declared.config.Config.{Config}
+use Rattle.commands.specs.declared.exchange.Exchange.{Exchange}
 
 -- what it was opened for, and its accepted events with their replies
 pub record HallState : Type 0 where

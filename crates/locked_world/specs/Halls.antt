@@ -2,12 +2,13 @@
 use Rattle.std.specs.Prelude.{◌≡◌, ◌⊎◌, ℕ, List, [], ◌∷◌, ◌++◌, length, true, nat_le, if◌then◌else◌, Option, Some, None}
 use Rattle.step_memory.specs.declared.refusal.Refusal.{Refusal}
 use Rattle.step_memory.specs.declared.refusal.Refusal.TheVariants as refusal
-use Rattle.rename_core.specs.declared.config.Config.{Config}
-use Rattle.desk.specs.declared.event.Event.{Event}
-use Rattle.desk.specs.declared.exchange.Exchange.{Exchange}
-use Rattle.desk.specs.declared.reply.Reply.{Reply}
-use Rattle.desk.specs.declared.reply.Reply.TheVariants as reply
-use Rattle.desk.specs.Desk.{gives_names, fresh_desk, desk_reply, desk_refusal}
+use Rattle.commands.specs.declared.config.Config.{Config}
+use Rattle.commands.specs.declared.event.Event.{Event}
+use Rattle.commands.specs.declared.exchange.Exchange.{Exchange}
+use Rattle.commands.specs.declared.reply.Reply.{Reply}
+use Rattle.commands.specs.declared.reply.Reply.TheVariants as reply
+use Rattle.commands.specs.Config.{gives_names}
+use Rattle.desk.specs.Desk.{fresh_desk, desk_reply, desk_refusal}
 use Rattle.desk.specs.DeskCalls.{exchange}
 use Rattle.desk.specs.DeskValue.{DeskValue}
 use Rattle.locked_world.specs.HallState.{HallState}

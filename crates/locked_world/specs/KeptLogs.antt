@@ -1,6 +1,6 @@
 -- places beside exchanges
 use Rattle.std.specs.Prelude.{ℕ, List, [], ◌∷◌, Bool}
-use Rattle.desk.specs.declared.exchange.Exchange.{Exchange}
+use Rattle.commands.specs.declared.exchange.Exchange.{Exchange}
 use Rattle.locked_world.specs.declared.kept.Kept.{Kept}
 use Rattle.locked_world.specs.KeptState.{KeptState}
 

@@ -1,15 +1,15 @@
 -- what callers keep: their accepted events, with replies and places that rise
 use Rattle.std.specs.Prelude.{◌≡◌, ℕ, ◌+◌, ◌<◌, ◌==◌, List, [], ◌∷◌, ◌++◌, length, Bool, true, false, ◌&&◌, nat_le, nat_lt, sum_by, count_by, All, if◌then◌else◌, Some, slice_get}
-use Rattle.desk.specs.declared.event.Event.{Event}
-use Rattle.desk.specs.declared.event.Event.TheVariants.{Begin}
-use Rattle.desk.specs.declared.exchange.Exchange.{Exchange}
-use Rattle.desk.specs.declared.reply.Reply.{Reply}
-use Rattle.desk.specs.declared.reply.Reply.TheVariants.{Ok}
+use Rattle.commands.specs.declared.event.Event.{Event}
+use Rattle.commands.specs.declared.event.Event.TheVariants.{Begin}
+use Rattle.commands.specs.declared.exchange.Exchange.{Exchange}
+use Rattle.commands.specs.declared.reply.Reply.{Reply}
+use Rattle.commands.specs.declared.reply.Reply.TheVariants.{Ok}
 use Rattle.desk.specs.DeskCalls.{exchange}
-use Rattle.desk.specs.Replies.{is_refusal}
+use Rattle.commands.specs.Replies.{is_refusal}
 use Rattle.locked_world.specs.declared.kept.Kept.{Kept}
 use mathlib.Core.List.{IsPrefix}
-use Rattle.rename_core.specs.declared.config.Config.{Config}
+use Rattle.commands.specs.declared.config.Config.{Config}
 use Rattle.desk.specs.Desk.{owner_reply}
 use Rattle.locked_world.specs.Answers.{IsAnswered}
 use Rattle.locked_world.specs.CallerState.{CallerState}

@@ -1,6 +1,6 @@
 -- what a contract sees of exchanges in order
 use Rattle.std.specs.Prelude.{List, Bool}
-use Rattle.desk.specs.declared.exchange.Exchange.{Exchange}
+use Rattle.commands.specs.declared.exchange.Exchange.{Exchange}
 
 -- the exchanges, and whether there is room for one more
 pub record LogState : Type 0 where

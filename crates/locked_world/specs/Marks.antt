@@ -1,6 +1,6 @@
 -- marks at the places of a history
 use Rattle.std.specs.Prelude.{◌≡◌, ℕ, ◌+◌, ◌==◌, List, length, Bool, false, sum_by, count_by, All, if◌then◌else◌, slice_index_or}
-use Rattle.desk.specs.declared.exchange.Exchange.{Exchange}
+use Rattle.commands.specs.declared.exchange.Exchange.{Exchange}
 use Rattle.locked_world.specs.declared.kept.Kept.{Kept}
 use Rattle.locked_world.specs.Kepts.{times, Fits}
 

@@ -1,6 +1,6 @@
 -- the desk that a list of accepted exchanges leads to
 use Rattle.std.specs.Prelude.{◌≡◌, List, [], ◌∷◌, None}
-use Rattle.desk.specs.declared.exchange.Exchange.{Exchange}
+use Rattle.commands.specs.declared.exchange.Exchange.{Exchange}
 use Rattle.desk.specs.Desk.{desk_reply, desk_after, desk_refusal}
 use Rattle.desk.specs.DeskValue.{DeskValue}
 

@@ -2,14 +2,14 @@
 use Rattle.std.specs.Prelude.{◌≡◌, List, [], ◌∷◌, ◌++◌, map, length, Bool, true, false, if◌then◌else◌}
 use Rattle.step_memory.specs.declared.refusal.Refusal.{Refusal}
 use Rattle.step_memory.specs.declared.refusal.Refusal.TheVariants as refusal
-use Rattle.rename_core.specs.declared.config.Config.{Config}
-use Rattle.desk.specs.declared.exchange.Exchange.{Exchange}
-use Rattle.desk.specs.declared.reply.Reply.{Reply}
-use Rattle.desk.specs.declared.reply.Reply.TheVariants as reply
+use Rattle.commands.specs.declared.config.Config.{Config}
+use Rattle.commands.specs.declared.exchange.Exchange.{Exchange}
+use Rattle.commands.specs.declared.reply.Reply.{Reply}
+use Rattle.commands.specs.declared.reply.Reply.TheVariants as reply
 use Rattle.desk.specs.Desk.{owner_reply}
-use Rattle.desk.specs.Replies.{is_refusal}
-use Rattle.schedule_player.specs.Requests.{Request}
-use Rattle.schedule_player.specs.Requests.Request.{Take, OwnerOf}
+use Rattle.commands.specs.Replies.{is_refusal}
+use Rattle.commands.specs.Requests.{Request}
+use Rattle.commands.specs.Requests.Request.{Take, OwnerOf}
 use Rattle.schedule_player.specs.Runs.{Runs}
 use Rattle.schedule_player.specs.Turns.{Turn}
 use Rattle.schedule_player.specs.Turns.Turn.{Answered, Told, Ended, Misread}

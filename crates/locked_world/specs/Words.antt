@@ -1,6 +1,6 @@
 -- words of a name board beside who has which name
 use Rattle.std.specs.Prelude.{◌≡◌, ◌≢◌, ℕ, ◌+◌, List, Some, slice_get}
-use Rattle.desk.specs.declared.reply.Reply.TheVariants.{Owner}
+use Rattle.commands.specs.declared.reply.Reply.TheVariants.{Owner}
 use Rattle.desk.specs.Desk.{owner_reply}
 use Rattle.desk.specs.DeskValue.{DeskValue}
 

@@ -3,7 +3,7 @@
 ghost use Rattle.std.specs.Prelude.{◌≡◌};
 ghost use Rattle.locked_world.specs.Acts.{event_of};
 
-use desk::Event;
+use commands::Event;
 
 /// What a session does, under its own identity.
 #[derive(Clone, Copy, Debug, Drop, PartialEq, Eq)]

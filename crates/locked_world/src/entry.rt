@@ -2,10 +2,10 @@
 
 ghost use Rattle.std.specs.Prelude.{◌≡◌, ◌<◌, ◌++◌, List, true, vec_len, vec_capacity};
 ghost use Rattle.locked_world.specs.Logs.{reply_shown, is_inside};
-ghost use Rattle.desk.specs.declared.reply.Reply.{Reply};
-ghost use Rattle.desk.specs.Replies.{with_view};
+ghost use Rattle.commands.specs.declared.reply.Reply.{Reply};
+ghost use Rattle.commands.specs.Replies.{with_view};
 
-use desk::{Event, Reply, ShortReply};
+use commands::{Event, Reply, ShortReply};
 use std::alloc::Allocator;
 use step_memory::View;
 

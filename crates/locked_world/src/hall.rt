@@ -1,14 +1,15 @@
 //! A desk with its history.
 
 ghost use Rattle.std.specs.Prelude.{◌≡◌, ◌⊎◌, ◌↔◌, [], length, slice_get, IfOk, IfErr, Err, false};
-ghost use Rattle.desk.specs.Desk.{gives_names, owner_reply};
+ghost use Rattle.commands.specs.Config.{gives_names};
+ghost use Rattle.desk.specs.Desk.{owner_reply};
 ghost use Rattle.desk.specs.Owner.{IsOwnerReply};
-ghost use Rattle.desk.specs.Replies.{with_view};
+ghost use Rattle.commands.specs.Replies.{with_view};
 ghost use Rattle.locked_world.specs.Halls.{hall_of, desk_of, IsLawful, hall_refusal, HallMay};
 
 use crate::log::Log;
-use desk::{Desk, Event, Exchange, Reply, ShortReply};
-use rename_core::Config;
+use commands::{Config, Event, Exchange, Reply, ShortReply};
+use desk::Desk;
 use std::alloc::Global;
 use std::marker::Model;
 use step_memory::{Refusal, View};

@@ -5,7 +5,7 @@ ghost use Rattle.locked_world.specs.Serving.{HallServes};
 ghost use Rattle.locked_world.specs.ServingProofs.{hall_answers};
 
 use crate::hall::Hall;
-use desk::{Event, Reply, ShortReply};
+use commands::{Event, Reply, ShortReply};
 use schedule_player::Service;
 use step_memory::View;
 

@@ -1,6 +1,6 @@
 //! What a caller keeps of an event.
 
-use desk::Exchange;
+use commands::Exchange;
 
 /// An accepted event with its reply, and its place in the history, counted from 0.
 #[derive(Clone, Copy, Debug, Drop, PartialEq, Eq)]

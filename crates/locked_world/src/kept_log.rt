@@ -2,13 +2,13 @@
 
 ghost use Rattle.std.specs.Prelude.{◌≡◌, ◌++◌, ℕ, List, [], ◌∷◌, length, slice_get, true, IfOk};
 ghost use Rattle.desk.specs.DeskCalls.{exchange};
-ghost use Rattle.desk.specs.Replies.{with_view};
+ghost use Rattle.commands.specs.Replies.{with_view};
 ghost use Rattle.locked_world.specs.KeptLogs.{kept_of};
 ghost use Rattle.locked_world.specs.KeptNames.{name_given, name_kept};
 
 use crate::kept::Kept;
 use crate::log::Log;
-use desk::{Event, ShortReply};
+use commands::{Event, ShortReply};
 use std::alloc::Global;
 use std::marker::Model;
 use step_memory::{NoMemory, View};

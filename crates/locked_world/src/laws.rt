@@ -1,9 +1,9 @@
 //! What halls stand on.
 
 ghost use Rattle.std.specs.Prelude.{◌≡◌, ◌++◌, List, true};
-ghost use Rattle.desk.specs.Desk.{gives_names};
+ghost use Rattle.commands.specs.Config.{gives_names};
 ghost use Rattle.desk.specs.DeskRun.{IsDeskRunOf};
-ghost use Rattle.rename_core.specs.declared.config.Config.{Config};
+ghost use Rattle.commands.specs.declared.config.Config.{Config};
 ghost use Rattle.schedule_player.specs.IsRun.{IsTalk};
 ghost use Rattle.schedule_player.specs.Runs.{Runs};
 ghost use Rattle.schedule_player.specs.Turns.{Turn, exchanges};

@@ -1,9 +1,9 @@
 //! A hall under a lock.
 
 ghost use Rattle.std.specs.Prelude.{◌≡◌, ◌+◌, ◌-◌, ◌<◌, ◌≤◌, ◌⊎◌, ◌↔◌, [], IfOk, IfErr, length, Err, true, false};
-ghost use Rattle.desk.specs.Desk.{gives_names};
+ghost use Rattle.commands.specs.Config.{gives_names};
 ghost use Rattle.locked_world.specs.Acts.{event_of};
-ghost use Rattle.desk.specs.Replies.{is_refusal, with_view};
+ghost use Rattle.commands.specs.Replies.{is_refusal, with_view};
 ghost use Rattle.locked_world.specs.Answers.{IsRefusedBegin, IsSomeOwner};
 ghost use Rattle.locked_world.specs.CallerState.{caller_of};
 ghost use Rattle.locked_world.specs.Halls.{hall_of, HallMay, IsLawful};
@@ -14,9 +14,8 @@ use crate::hall::Hall;
 use crate::kept_log::KeptLog;
 use crate::parts::{Clerk, HallLock, LockName, Locked, MOST_CALLERS, Session};
 use crate::telling::{Told, begins, tell};
-use desk::{Event, Exchange, Reply, ShortReply};
+use commands::{Config, Event, Exchange, Reply, ShortReply};
 use history_book::{Front, Opened};
-use rename_core::Config;
 use std::alloc::Global;
 use std::sync::ledger::{Blank, Share};
 use std::sync::{Mutex, Wait};

@@ -2,11 +2,11 @@
 
 ghost use Rattle.std.specs.Prelude.{◌≡◌, ◌<◌, ◌++◌, [], ◌∷◌, length, slice_get, true, IfOk};
 ghost use Rattle.desk.specs.DeskCalls.{exchange};
-ghost use Rattle.desk.specs.Replies.{with_view};
+ghost use Rattle.commands.specs.Replies.{with_view};
 ghost use Rattle.locked_world.specs.Logs.{log_of, all_inside};
 
 use crate::entry::{Entry, shorten, shown};
-use desk::{Event, Exchange, Reply, ShortReply};
+use commands::{Event, Exchange, Reply, ShortReply};
 use std::alloc::Allocator;
 use std::marker::Model;
 use step_memory::{NoMemory, View};

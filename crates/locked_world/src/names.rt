@@ -9,7 +9,7 @@ ghost use Rattle.locked_world.specs.Words.{IsOwnerOrNone, Agree};
 use crate::closing::Closed;
 use crate::hall::Hall;
 use crate::parts::{LockName, Session};
-use desk::Reply;
+use commands::Reply;
 use raw_parts::{Board, Grant, ReaderSeat};
 use std::alloc::Allocator;
 

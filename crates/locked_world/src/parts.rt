@@ -4,7 +4,7 @@ ghost use Rattle.std.specs.Prelude.{◌≡◌, ◌+◌, ◌≤◌, length, true,
 
 use crate::hall::Hall;
 use crate::kept_log::KeptLog;
-use desk::Exchange;
+use commands::Exchange;
 use history_book::{Book, Front, Naming};
 use std::marker::{Brand, Model};
 use std::sync::Mutex;
@@ -16,7 +16,7 @@ pub const MOST_CALLERS: u64 = 1_000_000;
 /// Which lock it is: the ledger that counts what its callers keep, the book of its history, and the config that it was made for. A
 /// call picks all three, by `Brand`.
 pub trait LockName: Ledger + Naming {
-    ghost use Rattle.rename_core.specs.declared.config.Config.{Config};
+    ghost use Rattle.commands.specs.declared.config.Config.{Config};
 
     ghost config: { Config };
 }

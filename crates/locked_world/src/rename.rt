@@ -5,7 +5,7 @@ ghost use Rattle.locked_world.specs.Renamed.{IsRenamed};
 
 use crate::act::Act;
 use crate::parts::{HallLock, LockName, Session};
-use desk::ShortReply;
+use commands::ShortReply;
 use std::sync::Wait;
 use step_memory::{Refusal, View};
 

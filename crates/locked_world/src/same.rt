@@ -2,7 +2,7 @@
 
 ghost use Rattle.std.specs.Prelude.{◌≡◌, true};
 
-use desk::{Event, Exchange, Reply};
+use commands::{Event, Exchange, Reply};
 
 /// Whether two events are one. `true` is said only where they are.
 fn is_same_event(a: Event, b: Event) -> bool

@@ -5,7 +5,7 @@ ghost use Rattle.locked_world.specs.Serving.{ClerkServes};
 ghost use Rattle.locked_world.specs.ServingProofs.{clerk_answers};
 
 use crate::parts::{Clerk, HallLock, LockName};
-use desk::{Event, Reply, ShortReply};
+use commands::{Event, Reply, ShortReply};
 use schedule_player::Service;
 use std::marker::Model;
 use std::sync::Wait;

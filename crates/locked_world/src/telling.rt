@@ -7,10 +7,10 @@
 ghost use Rattle.std.specs.Prelude.{◌≡◌, ◌++◌, ◌∷◌, ◌<◌, ◌^◌, [], length};
 ghost use mathlib.Core.List.{IsPrefix};
 ghost use Rattle.desk.specs.DeskCalls.{exchange};
-ghost use Rattle.desk.specs.Replies.{with_view};
+ghost use Rattle.commands.specs.Replies.{with_view};
 
 use crate::parts::LockName;
-use desk::{Event, Exchange, ShortReply};
+use commands::{Event, Exchange, ShortReply};
 use history_book::{Book, Front};
 use logbook::Plain;
 use std::sync::Wait;
@@ -30,7 +30,7 @@ pub(crate) struct Telling;
 impl<'a> Plain<Told<'a>, Exchange, u64> for Telling {
     ghost use Rattle.std.specs.Prelude.{None};
     ghost use Rattle.desk.specs.DeskCalls.{exchange};
-    ghost use Rattle.desk.specs.Replies.{with_view};
+    ghost use Rattle.commands.specs.Replies.{with_view};
 
     ghost ask = { λ t. exchange t.event (with_view t.reply t.view.now) };
 

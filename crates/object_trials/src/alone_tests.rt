@@ -1,6 +1,7 @@
 //! One who steps alone, wherever the others have stopped.
 
-use rename_core::{Config, RenamePlaces, RenameWorld, WorldKind};
+use commands::{Config, WorldKind};
+use rename_core::{RenamePlaces, RenameWorld};
 use snapshot_places::{Grid, TreePlaces};
 use std::alloc::Global;
 use std::process::Abort;

@@ -1,8 +1,8 @@
 //! Schedules of names, of a pool and of its slots, played on one desk.
 
-use desk::{Desk, Event, Reply, ShortReply, law_of_desk, law_of_names};
+use commands::{Config, Event, Reply, ShortReply, WorldKind};
+use desk::{Desk, law_of_desk, law_of_names};
 use linked_list_allocator::LocalHeap;
-use rename_core::{Config, WorldKind};
 use std::alloc::{Allocator, Global};
 use std::process::Abort;
 use std::test::Fail;

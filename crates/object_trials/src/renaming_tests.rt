@@ -2,10 +2,11 @@
 
 ghost use Rattle.std.specs.Prelude.{◌<◌};
 
+use commands::{Config, WorldKind};
 use linked_list_allocator::LocalHeap;
 use rename_core::{
-    Config, RenamePlaces, RenameWorld, Reply, ShortReply, WorldKind, fixed_rename_law,
-    grid_rename_law, next_proposal, tree_rename_law,
+    RenamePlaces, RenameWorld, Reply, ShortReply, fixed_rename_law, grid_rename_law, next_proposal,
+    tree_rename_law,
 };
 use snapshot_core::Fixed;
 use snapshot_places::{Grid, TreePlaces};

@@ -1,12 +1,12 @@
 -- the tests' services keep their rules
 use Rattle.std.proofs.Common.{◌≡◌, ◌≢◌, ℕ, ◌+◌, true, ◌⊎◌, inl, inr, List, [], ◌∷◌, None, refl, sym, ◌∙◌, subst}
 use Rattle.step_memory.specs.declared.refusal.Refusal.TheVariants as refusal
-use Rattle.desk.specs.declared.event.Event.{Event}
-use Rattle.desk.specs.declared.reply.Reply.{Reply}
-use Rattle.desk.specs.declared.reply.Reply.TheVariants as reply
+use Rattle.commands.specs.declared.event.Event.{Event}
+use Rattle.commands.specs.declared.reply.Reply.{Reply}
+use Rattle.commands.specs.declared.reply.Reply.TheVariants as reply
 use Rattle.schedule_player.specs.Owners.{AreOwnersTold}
-use Rattle.schedule_player.specs.Requests.{Request}
-use Rattle.schedule_player.specs.Requests.Request.{Take, OwnerOf}
+use Rattle.commands.specs.Requests.{Request}
+use Rattle.commands.specs.Requests.Request.{Take, OwnerOf}
 use Rattle.schedule_player.specs.Runs.{Runs}
 use Rattle.schedule_player.specs.RunProofs.{runs-cut}
 use Rattle.player_trials.specs.Toys.{ShelfMay, IsShelfRun, IsSide}

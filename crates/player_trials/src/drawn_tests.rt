@@ -1,11 +1,11 @@
 //! Drawn schedules and what becomes of their participants, as `drawn_schedules` writes them.
 
 ghost use Rattle.std.specs.Prelude.{◌≡◌, ◌<◌, ◌≤◌, ◌+◌, ◌^◌, true};
-ghost use Rattle.desk.specs.Desk.{gives_names};
+ghost use Rattle.commands.specs.Config.{gives_names};
 
+use commands::{Config, WorldKind};
 use drawn_schedules::{draw, play_drawn};
 use itoa::Buffer;
-use rename_core::{Config, WorldKind};
 use schedule_player::{Fault, Tried};
 use std::alloc::Global;
 use std::process::Abort;

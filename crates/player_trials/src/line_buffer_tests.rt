@@ -1,6 +1,6 @@
 //! The bytes of a line, as they come.
 
-use desk::Event;
+use commands::Event;
 use schedule_player::{Bad, Command, LineBuffer, WorldKind};
 use std::test::Fail;
 use test_doubles::Refusing;

@@ -1,7 +1,7 @@
 //! What lines mean.
 
 use crate::playing_tests::WORLDS;
-use desk::Event;
+use commands::Event;
 use schedule_player::{Bad, Command, WorldKind, parse_line};
 
 #[test]

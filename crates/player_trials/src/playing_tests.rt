@@ -1,7 +1,7 @@
 //! Runs of commands over readers and writers in memory.
 
 ghost use Rattle.std.specs.Prelude.{◌≡◌, true};
-ghost use Rattle.schedule_player.specs.Requests.Request.{Take};
+ghost use Rattle.commands.specs.Requests.Request.{Take};
 
 use crate::toys::{Coin, Shelf};
 use crate::worlds_tests::{ROWS, spelled};

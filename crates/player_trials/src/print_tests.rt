@@ -1,6 +1,6 @@
 //! The texts of replies and of bad lines.
 
-use desk::{Reply, ShortReply};
+use commands::{Reply, ShortReply};
 use schedule_player::{Bad, REPLY_ROOM, Replies, print_bad, print_reply};
 use std::test::Fail;
 use step_memory::{Refusal, View};

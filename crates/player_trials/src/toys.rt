@@ -6,8 +6,7 @@ ghost use Rattle.player_trials.specs.Toys.{ShelfMay, IsShelfRun, IsSide};
 ghost use Rattle.player_trials.specs.ToyProofs.{shelf_answers, shelf_lawful, shelf_tells, one_shelf_fresh, one_shelf_reply, coin_answers};
 ghost use Rattle.schedule_player.specs.Visits.{knows_visits};
 
-use desk::{Event, Reply, ShortReply};
-use rename_core::Config;
+use commands::{Config, Event, Reply, ShortReply};
 use schedule_player::{Service, World};
 use std::marker::Model;
 use step_memory::{Refusal, View};

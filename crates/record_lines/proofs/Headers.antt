@@ -1,9 +1,9 @@
 -- the worlds of records give names
 use Rattle.std.proofs.Common.{◌≡◌, ℕ, Bool, true, false, List, codes, Option, Some, None, sym, ap}
 use Rattle.std.specs.Prelude.{if◌then◌else◌, option_and_then}
-use Rattle.rename_core.specs.declared.config.WorldKind.{WorldKind}
-use Rattle.rename_core.specs.declared.config.WorldKind.TheVariants.{Rename, Tree}
-use Rattle.desk.specs.Desk.{gives_names}
+use Rattle.commands.specs.declared.kind.WorldKind.{WorldKind}
+use Rattle.commands.specs.declared.kind.WorldKind.TheVariants.{Rename, Tree}
+use Rattle.commands.specs.Config.{gives_names}
 use Rattle.schedule_player.specs.Meaning.{same_bytes}
 use Rattle.record_lines.specs.declared.header.Header.{Header}
 use Rattle.record_lines.specs.Json.{text_at, world_in}

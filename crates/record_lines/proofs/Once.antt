@@ -1,8 +1,8 @@
 -- bytes say one thing
 use Rattle.std.proofs.Common.{◌≡◌, ℕ, List, Some, Ok, sym, ap, ◌∙◌, subst}
-use Rattle.rename_core.specs.declared.config.WorldKind.{WorldKind}
+use Rattle.commands.specs.declared.kind.WorldKind.{WorldKind}
 use Rattle.serde_json.specs.Data.{Data}
-use Rattle.schedule_player.specs.declared.command.Command.TheVariants as command
+use Rattle.commands.specs.declared.command.Command.TheVariants as command
 use Rattle.schedule_player.specs.Meaning.{meaning}
 use Rattle.record_lines.specs.declared.header.Header.{Header}
 use Rattle.record_lines.specs.declared.header.Version.{Version}

@@ -1,10 +1,10 @@
 -- what lines a record has of exchanges
 use Rattle.std.specs.Prelude.{◌≡◌, ℕ, Bool, true, false, List, [], ◌∷◌, Option, Some, None}
 use Rattle.step_memory.specs.Refusal.{refusal_number}
-use Rattle.desk.specs.declared.event.Event.{Event}
-use Rattle.desk.specs.declared.exchange.Exchange.{Exchange}
-use Rattle.desk.specs.declared.reply.Reply.{Reply}
-use Rattle.desk.specs.declared.reply.Reply.TheVariants as reply
+use Rattle.commands.specs.declared.event.Event.{Event}
+use Rattle.commands.specs.declared.exchange.Exchange.{Exchange}
+use Rattle.commands.specs.declared.reply.Reply.{Reply}
+use Rattle.commands.specs.declared.reply.Reply.TheVariants as reply
 use Rattle.record_lines.specs.declared.line.Line.{Line}
 use Rattle.record_lines.specs.declared.told.Told.{Told}
 use Rattle.record_lines.specs.declared.told.Told.TheVariants as told

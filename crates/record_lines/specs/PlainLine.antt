@@ -3,9 +3,9 @@
 use Rattle.std.specs.Prelude.{◌≡◌, ℕ, true, List, ◌++◌, Option, Some, None, Ok, codes}
 use Rattle.std.specs.List.{list_all}
 use Rattle.serde_json.specs.Data.{Data}
-use Rattle.rename_core.specs.declared.config.WorldKind.{WorldKind}
-use Rattle.desk.specs.declared.event.Event.{Event}
-use Rattle.schedule_player.specs.declared.command.Command.TheVariants as command
+use Rattle.commands.specs.declared.kind.WorldKind.{WorldKind}
+use Rattle.commands.specs.declared.event.Event.{Event}
+use Rattle.commands.specs.declared.command.Command.TheVariants as command
 use Rattle.schedule_player.specs.Meaning.{is_digit, meaning, number_in}
 use Rattle.record_lines.specs.declared.header.Version.{Version}
 use Rattle.record_lines.specs.declared.line.Line.{Line}

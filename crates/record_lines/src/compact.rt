@@ -1,19 +1,19 @@
 //! The compact spelling of the lines of a record, as they are written.
 
 ghost use Rattle.std.specs.Prelude.{◌≡◌, ◌++◌, Bool, OnOk, codes, decimal};
-ghost use Rattle.desk.specs.declared.exchange.Exchange.{Exchange};
-ghost use Rattle.desk.specs.declared.reply.Reply.{Reply};
+ghost use Rattle.commands.specs.declared.exchange.Exchange.{Exchange};
+ghost use Rattle.commands.specs.declared.reply.Reply.{Reply};
 ghost use Rattle.schedule_player.specs.Events.{event_words};
-ghost use Rattle.schedule_player.specs.Records.{exchange_line, header_line, name_view, world_name};
+ghost use Rattle.commands.specs.Config.{world_name};
+ghost use Rattle.schedule_player.specs.Records.{exchange_line, header_line, name_view};
 ghost use Rattle.schedule_player.specs.Replies.{owner_words, pair_words, reply_words, view_words};
 ghost use Rattle.record_lines.specs.Lines.{IsLineOf, IsShown, told_of};
 
 use crate::line::Line;
 use crate::text::Text;
 use crate::told::Told;
-use desk::Event;
+use commands::{Config, Event, WorldKind};
 use itoa::Buffer;
-use rename_core::{Config, WorldKind};
 use std::alloc::AllocError;
 use step_memory::Place;
 
@@ -145,12 +145,7 @@ pub fn put_line(line: &Line, view: &[(u64, u64)], out: &mut Text) -> Result<(), 
 fn put_world(world: WorldKind, out: &mut Text) -> Result<(), AllocError>
     ensures { OnOk result (out.new ≡ out.old ++ world_name world) }
 {
-    match world {
-        WorldKind::Splitter => out.put(b"splitter"),
-        WorldKind::Grid => out.put(b"grid"),
-        WorldKind::Rename => out.put(b"rename"),
-        WorldKind::Tree => out.put(b"tree"),
-    }
+    out.put(world.name().as_bytes())
 }
 
 /// Appends the first line of a record.

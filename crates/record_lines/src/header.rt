@@ -3,7 +3,7 @@
 ghost use Rattle.std.specs.Prelude.{◌≡◌, ◌↔◌, IsTrue};
 ghost use Rattle.record_lines.specs.Json.{version_of, FitsVersion};
 
-use rename_core::Config;
+use commands::Config;
 
 /// The most participants of a record of version 1.
 const MOST_OF_ONE: u64 = 16;

@@ -1,9 +1,9 @@
 //! What a checker of records stands on.
 
 ghost use Rattle.std.specs.Prelude.{◌≡◌, ℕ, true, List};
-ghost use Rattle.rename_core.specs.declared.config.Config.{Config};
-ghost use Rattle.rename_core.specs.declared.config.WorldKind.{WorldKind};
-ghost use Rattle.desk.specs.Desk.{gives_names};
+ghost use Rattle.commands.specs.declared.config.Config.{Config};
+ghost use Rattle.commands.specs.declared.kind.WorldKind.{WorldKind};
+ghost use Rattle.commands.specs.Config.{gives_names};
 ghost use Rattle.schedule_player.specs.Meaning.{meaning};
 ghost use Rattle.schedule_player.specs.Records.{record_of};
 ghost use Rattle.schedule_player.specs.Turns.{Turn, exchanges};

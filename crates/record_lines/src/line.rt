@@ -1,7 +1,7 @@
 //! A line of a record.
 
 use crate::told::Told;
-use desk::Event;
+use commands::Event;
 
 /// An event and what the record tells of its reply.
 #[derive(Debug, Drop)]

@@ -8,7 +8,7 @@ ghost use Rattle.record_lines.specs.declared.header.Header.{Header};
 ghost use Rattle.record_lines.specs.declared.header.Version.{Version};
 
 use crate::header::{Header, Version};
-use rename_core::{Config, WorldKind};
+use commands::{Config, WorldKind};
 use schedule_player::words::is_word;
 use serde_json::Value;
 

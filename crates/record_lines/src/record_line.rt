@@ -1,8 +1,8 @@
 //! From the bytes of a record's line to what it says.
 
 ghost use Rattle.std.specs.Prelude.{◌≡◌, ◌≤◌, IfOk, MatchOption, Ok, length};
-ghost use Rattle.desk.specs.declared.event.Event.{Event};
-ghost use Rattle.schedule_player.specs.declared.command.Command.TheVariants as command;
+ghost use Rattle.commands.specs.declared.event.Event.{Event};
+ghost use Rattle.commands.specs.declared.command.Command.TheVariants as command;
 ghost use Rattle.serde_json.specs.Data.{Data};
 ghost use Rattle.serde_json.specs.View.{view};
 ghost use Rattle.record_lines.specs.declared.header.Header.{Header};
@@ -13,8 +13,7 @@ use crate::line::Line;
 use crate::object::{header, texts};
 use crate::plain_line::plain_line;
 use crate::reply_text::told_of;
-use desk::Event;
-use rename_core::WorldKind;
+use commands::{Event, WorldKind};
 use schedule_player::{Command, parse_line};
 use serde_json::Value;
 use std::alloc::{AllocError, Global};

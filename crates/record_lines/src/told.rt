@@ -4,7 +4,7 @@ ghost use Rattle.std.specs.Prelude.{◌≡◌};
 ghost use Rattle.record_lines.specs.Told.{is_name, is_step, is_done, is_reply_of};
 
 use crate::pairs::Pairs;
-use desk::Event;
+use commands::Event;
 use step_memory::Place;
 
 /// A reply as a record spells it: what numbers and views it has is not bounded by what any object could answer, and the view

@@ -10,7 +10,7 @@ use Rattle.step_memory.proofs.StepLemmas.{lacks_or_not}
 use Rattle.rename_core.specs.declared.reply.Reply.{Reply}
 use Rattle.rename_core.specs.RenameState.{RenameState}
 use Rattle.snapshot_core.specs.Places.{KnownPlaces}
-use Rattle.rename_core.specs.declared.config.WorldKind.{WorldKind}
+use Rattle.commands.specs.declared.kind.WorldKind.{WorldKind}
 use Rattle.rename_core.specs.Machine.{renaming}
 use Rattle.rename_core.specs.RenameWorld.{rename_answer, after_rename_step, step_refusal, may_lack}
 

@@ -1,9 +1,9 @@
 -- how many may take part
 use Rattle.std.proofs.Common.{◌≤◌, arith}
-use Rattle.rename_core.specs.Ranges.{most_in}
-use Rattle.rename_core.specs.declared.config.Config.{Config}
-use Rattle.rename_core.specs.declared.config.WorldKind.{WorldKind}
-use Rattle.rename_core.specs.declared.config.WorldKind.TheVariants.{Splitter, Grid, Rename, Tree}
+use Rattle.commands.specs.Ranges.{most_in}
+use Rattle.commands.specs.declared.config.Config.{Config}
+use Rattle.commands.specs.declared.kind.WorldKind.{WorldKind}
+use Rattle.commands.specs.declared.kind.WorldKind.TheVariants.{Splitter, Grid, Rename, Tree}
 
 -- in no world more than a view has room for
 most_is_shown : (world : WorldKind) → most_in world ≤ 64

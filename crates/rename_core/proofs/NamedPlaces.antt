@@ -4,8 +4,8 @@ use Rattle.std.specs.Prelude.{is_some}
 use Rattle.snapshot_core.specs.Places.{PlacesLaws}
 use Rattle.snapshot_core.specs.SnapWorld.{SnapState, may_lack_memory}
 use Rattle.snapshot_core.specs.Places.{KnownPlaces}
-use Rattle.rename_core.specs.Config.{is_tree}
-use Rattle.rename_core.specs.declared.config.WorldKind.{WorldKind}
+use Rattle.commands.specs.Config.{is_tree}
+use Rattle.commands.specs.declared.kind.WorldKind.{WorldKind}
 use Rattle.step_memory.specs.Machine.{IsLawful, RefusesWhereDue, IsProved}
 use Rattle.step_memory.proofs.MachineLemmas.{machine_proved}
 use Rattle.step_memory.proofs.RunLemmas.{run_answers}

@@ -19,8 +19,8 @@ use Rattle.rename_core.specs.Locality.{client_of, access_of}
 use Rattle.snapshot_core.specs.Machine.{snapshot}
 use Rattle.snapshot_core.specs.SnapCalls.{SnapCall, next as snap_next, IsReply as IsSnapReply}
 use Rattle.snapshot_core.specs.Snapshot.{IsMoment, SnapObject, SnapBounds, bounds_over, observed, Allows as SnapAllows, new_object as new_snap}
-use Rattle.rename_core.specs.Config.{is_tree}
-use Rattle.rename_core.specs.declared.config.WorldKind.{WorldKind}
+use Rattle.commands.specs.Config.{is_tree}
+use Rattle.commands.specs.declared.kind.WorldKind.{WorldKind}
 use Rattle.rename_core.specs.declared.reply.Reply.{Reply}
 use Rattle.rename_core.specs.declared.round.Round.{Round}
 use Rattle.rename_core.specs.declared.round.Stage.{Stage}

@@ -23,7 +23,7 @@ use Rattle.snapshot_core.specs.declared.fixed.FixedWalk.{FixedWalk}
 use Rattle.snapshot_core.specs.declared.fixed.FixedWalker.{FixedWalker}
 use Rattle.step_memory.specs.declared.record.Record.{Record}
 use Rattle.rename_core.specs.Ample.{fixed_ample, grid_ample}
-use Rattle.rename_core.specs.declared.config.WorldKind.TheVariants.{Rename, Tree}
+use Rattle.commands.specs.declared.kind.WorldKind.TheVariants.{Rename, Tree}
 use Rattle.rename_core.specs.Machine.{IsLawfulWithin, LacksOnly, BeginsTheSame}
 use Rattle.rename_core.specs.RenameState.{RenameState}
 use Rattle.rename_core.proofs.rounds.Beginners.{begins_alike}

@@ -11,9 +11,9 @@ use Rattle.snapshot_places.specs.Tree.{new_tree}
 use Rattle.snapshot_places.specs.TreeTies.{tree_places}
 use Rattle.snapshot_places.proofs.GridLaw.{empty_grid}
 use Rattle.snapshot_places.proofs.TreeLaw.{is_new}
-use Rattle.rename_core.specs.Ranges.{most_in}
-use Rattle.rename_core.specs.declared.config.WorldKind.{WorldKind}
-use Rattle.rename_core.specs.declared.config.WorldKind.TheVariants.{Rename, Tree}
+use Rattle.commands.specs.Ranges.{most_in}
+use Rattle.commands.specs.declared.kind.WorldKind.{WorldKind}
+use Rattle.commands.specs.declared.kind.WorldKind.TheVariants.{Rename, Tree}
 
 -- for as many participants as the world takes, these are such places
 abbrev pub AreEmptyFor : {S R V U K : Type 0} → KnownPlaces S R V U K → WorldKind → (ℕ → S) → Type 0

@@ -3,8 +3,6 @@ pub mod RenameObject
 pub mod Pace
 pub mod Alone
 pub mod Law
-pub mod Ranges
-pub mod Config
 pub mod Round
 pub mod Reply
 pub mod RenameState

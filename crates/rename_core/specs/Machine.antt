@@ -9,9 +9,9 @@ use Rattle.step_memory.specs.Runs.{AnswersAsDue}
 use Rattle.snapshot_core.specs.declared.client.Client.{Client}
 use Rattle.snapshot_core.specs.Snapshot.{SnapBounds, IsMoment, bounds_over}
 use Rattle.snapshot_core.specs.SnapWorld.{IsAccessFor}
-use Rattle.rename_core.specs.declared.config.WorldKind.{WorldKind}
+use Rattle.commands.specs.declared.kind.WorldKind.{WorldKind}
 use Rattle.rename_core.specs.declared.reply.Reply.{Reply}
-use Rattle.rename_core.specs.Config.{is_tree}
+use Rattle.commands.specs.Config.{is_tree}
 use Rattle.rename_core.specs.Locality.{client_of, round_of, access_of}
 use Rattle.rename_core.specs.Law.{KeepsRenameLaw}
 use Rattle.snapshot_core.specs.Places.{KnownPlaces}

@@ -2,8 +2,8 @@
 use Rattle.std.specs.Prelude.{◌≡◌, ℕ, ◌==◌, is_some, true}
 use Rattle.snapshot_core.specs.Places.{KnownPlaces}
 use Rattle.snapshot_core.specs.SnapWorld.{SnapState, may_lack_memory}
-use Rattle.rename_core.specs.Config.{is_tree}
-use Rattle.rename_core.specs.declared.config.WorldKind.{WorldKind}
+use Rattle.commands.specs.Config.{is_tree}
+use Rattle.commands.specs.declared.kind.WorldKind.{WorldKind}
 
 module _ {S R V U K : Type 0} (t : KnownPlaces S R V U K) where
   -- who begins has a place at once just where no step is needed to one

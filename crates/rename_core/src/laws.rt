@@ -13,8 +13,8 @@ ghost use Rattle.step_memory.specs.Machine.{IsProved};
 ghost use Rattle.rename_core.specs.RenameState.{RenameState};
 ghost use Rattle.rename_core.specs.RenameWorld.{may_lack};
 ghost use Rattle.rename_core.specs.declared.reply.Reply.{Reply};
-ghost use Rattle.rename_core.specs.declared.config.Config.{Config};
-ghost use Rattle.rename_core.specs.declared.config.WorldKind.TheVariants as kind;
+ghost use Rattle.commands.specs.declared.config.Config.{Config};
+ghost use Rattle.commands.specs.declared.kind.WorldKind.TheVariants as kind;
 ghost use Rattle.step_memory.specs.Calls.{Call};
 
 use crate::places::RenamePlaces;

@@ -44,7 +44,6 @@
 //! ```
 #![tactic(auto)]
 
-pub mod config;
 pub mod laws;
 pub mod places;
 pub mod proposal;
@@ -53,7 +52,7 @@ pub mod round;
 pub mod short_reply;
 pub mod world;
 
-pub use config::{Config, WorldKind};
+pub use commands::{Config, WorldKind};
 pub use laws::{
     fixed_rename_law, grid_rename_law, law_of_configs, law_of_renaming_calls, law_of_steps_alone,
     tree_rename_law,

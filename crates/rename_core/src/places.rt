@@ -3,15 +3,15 @@
 ghost use Rattle.std.specs.Prelude.{◌≡◌, ◌≤◌, ℕ, IfOk, IfErr, refl};
 ghost use Rattle.rename_core.specs.Ample.{fixed_ample, grid_ample};
 ghost use Rattle.rename_core.specs.EmptyPlaces.{AreEmptyFor, fixed_empty, grid_empty, tree_empty};
-ghost use Rattle.rename_core.specs.declared.config.WorldKind.{WorldKind};
-ghost use Rattle.rename_core.specs.declared.config.WorldKind.TheVariants as kind;
+ghost use Rattle.commands.specs.declared.kind.WorldKind.{WorldKind};
+ghost use Rattle.commands.specs.declared.kind.WorldKind.TheVariants as kind;
 ghost use Rattle.rename_core.specs.NamedPlaces.{PlacesAtOnce, GrowsAsTree};
-ghost use Rattle.rename_core.specs.Ranges.{most_in};
+ghost use Rattle.commands.specs.Ranges.{most_in};
 ghost use Rattle.snapshot_core.specs.FixedTies.{fresh_row};
 ghost use Rattle.snapshot_places.specs.Grid.{fresh_grid};
 ghost use Rattle.snapshot_places.specs.Tree.{new_tree};
 
-use crate::config::WorldKind;
+use commands::WorldKind;
 use snapshot_core::{Fixed, Known, Places};
 use snapshot_places::{Grid, TreePlaces};
 use std::alloc::Allocator;

@@ -4,7 +4,7 @@ ghost use Rattle.std.specs.Prelude.{◌≡◌, ◌≢◌, ◌<◌, ◌≤◌, �
 ghost use Rattle.step_memory.specs.Participant.{index_of, program_of, beginner};
 ghost use Rattle.step_memory.specs.World.{begin_refusal, done_unless};
 ghost use Rattle.step_memory.specs.Calls.Call.{Began, Stepped};
-ghost use Rattle.rename_core.specs.Config.{is_played_over};
+ghost use Rattle.commands.specs.Config.{is_played_over};
 ghost use Rattle.rename_core.specs.Locality.{IsLocal};
 ghost use Rattle.rename_core.specs.Machine.{renaming, IsFresh, MakesOwnAccess, IsName, IsOwnerOf, IsLastMoment};
 ghost use Rattle.step_memory.specs.Machine.{After, IsLawful, LeadsOn};
@@ -12,11 +12,11 @@ ghost use Rattle.rename_core.specs.Round.{standing_by, followed};
 ghost use Rattle.rename_core.specs.Reply.{outcome_with, with_view};
 ghost use Rattle.rename_core.specs.RenameWorld.{fresh_world, step_refusal, after_wish, name_in, owner_by, shown_with, shown_by, after_rename_begin, rename_answer, after_rename_step, LacksMemory};
 
-use crate::config::Config;
 use crate::places::RenamePlaces;
 use crate::reply::Reply;
 use crate::round::{Round, Wish};
 use crate::short_reply::ShortReply;
+use commands::Config;
 use snapshot_core::{Known, SnapReply, SnapWorld};
 use std::alloc::Allocator;
 use std::marker::Model;

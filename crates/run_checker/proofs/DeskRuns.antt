@@ -7,7 +7,7 @@ use Rattle.snapshot_core.specs.Snapshot.{SnapBounds}
 use Rattle.rename_core.specs.declared.reply.Reply.{Reply as StepReply}
 use Rattle.rename_core.specs.RenameObject.{RenameTerms, RenameObject, Allows, after}
 use Rattle.slot_array.specs.SlotsObject.{SlotsObject, SlotAnswers, slots_after}
-use Rattle.desk.specs.declared.exchange.Exchange.{Exchange}
+use Rattle.commands.specs.declared.exchange.Exchange.{Exchange}
 use Rattle.desk.specs.DeskCalls.{DeskCall, rename_calls, slot_calls, BeginSlots}
 use Rattle.desk.specs.DeskCalls.DeskCall.{Renamed, Slotted}
 use Rattle.desk.specs.DeskRun.{IsDeskRun}

@@ -38,14 +38,14 @@ use Rattle.snapshot_places.specs.GridProofs.{grid_laws}
 use Rattle.snapshot_places.specs.GridTies.{grid_places, walks_of}
 use Rattle.snapshot_places.specs.TreeProofs.{tree_laws}
 use Rattle.snapshot_places.specs.TreeTies.{tree_places, walks_of as tree_walks_of}
-use Rattle.rename_core.specs.declared.config.Config.{Config}
+use Rattle.commands.specs.declared.config.Config.{Config}
 use Rattle.rename_core.specs.declared.reply.Reply.{Reply as StepReply}
 use Rattle.rename_core.specs.declared.reply.Reply.TheVariants as step
 use Rattle.rename_core.specs.declared.round.Round.{Round}
 use Rattle.rename_core.specs.declared.round.Wish.{Wish}
 use Rattle.rename_core.specs.declared.round.Wish.TheVariants.{Nothing, Update, Scan}
-use Rattle.rename_core.specs.declared.config.WorldKind.{WorldKind}
-use Rattle.rename_core.specs.declared.config.WorldKind.TheVariants as world
+use Rattle.commands.specs.declared.kind.WorldKind.{WorldKind}
+use Rattle.commands.specs.declared.kind.WorldKind.TheVariants as world
 use Rattle.rename_core.specs.Machine.{next, IsReply, renaming}
 use Rattle.rename_core.specs.RenameState.{RenameState}
 use Rattle.rename_core.specs.RenameWorld.{after_wish, begun_unless, snap_told, answer_told, answer_open, answer_by, rename_answer, after_told, after_open, after_by, after_rename_step}
@@ -55,16 +55,17 @@ use Rattle.bit_allocator.specs.declared.probe.Probe.{Probe}
 use Rattle.bit_allocator.specs.declared.probe.Probe.TheVariants as probe
 use Rattle.bit_allocator.specs.Pool.{enter_answer, probe_answer, number_answer, widen_answer}
 use Rattle.slot_array.specs.Slots.{stored_reply}
-use Rattle.desk.specs.declared.event.Event.{Event}
-use Rattle.desk.specs.declared.event.Event.TheVariants as event
-use Rattle.desk.specs.declared.reply.Reply.TheVariants as reply
+use Rattle.commands.specs.declared.event.Event.{Event}
+use Rattle.commands.specs.declared.event.Event.TheVariants as event
+use Rattle.commands.specs.declared.reply.Reply.TheVariants as reply
 use Rattle.desk.specs.Desk.{desk_reply, IsAfterDesk}
 use Rattle.desk.specs.DeskCalls.{DeskCall, AfterDesk, rename_calls}
 use Rattle.desk.specs.DeskState.{DeskState}
 use Rattle.desk.specs.DeskValue.{DeskValue}
 use Rattle.desk.specs.DeskValue.DeskValue.{OverGrid, OverTree}
 use Rattle.desk.specs.DeskRules.{reply_over, fetched}
-use Rattle.desk.specs.Replies.{done_reply, step_reply, probe_reply, left_reply, value_reply}
+use Rattle.commands.specs.Replies.{done_reply, left_reply, value_reply}
+use Rattle.desk.specs.Replies.{step_reply, probe_reply}
 
 done_other : (answer : Result (Unit {0}) Refusal) (place : ℕ) → done_reply answer ≡ reply.Place place → ⊥
 done_other (Ok done) place e = cc

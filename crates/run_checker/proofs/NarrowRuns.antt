@@ -20,12 +20,12 @@ use Rattle.bit_allocator.specs.declared.probe.Probe.TheVariants as probe
 use Rattle.bit_allocator.proofs.PoolKeeps.{may_widen}
 use Rattle.slot_array.specs.SlotCalls.SlotCall.{Pooled, Stored, Fetched, Extended}
 use Rattle.slot_array.specs.Slots.{stored_in, IsFetched}
-use Rattle.desk.specs.declared.exchange.Exchange.{Exchange}
-use Rattle.desk.specs.declared.reply.Reply.{Reply}
-use Rattle.desk.specs.declared.reply.Reply.TheVariants as reply
+use Rattle.commands.specs.declared.exchange.Exchange.{Exchange}
+use Rattle.commands.specs.declared.reply.Reply.{Reply}
+use Rattle.commands.specs.declared.reply.Reply.TheVariants as reply
 use Rattle.desk.specs.DeskCalls.{DeskCall, exchange_of}
 use Rattle.desk.specs.DeskCalls.DeskCall.{Renamed, Slotted}
-use Rattle.desk.specs.Replies.{done_reply, value_reply}
+use Rattle.commands.specs.Replies.{done_reply, value_reply}
 use Rattle.run_checker.specs.ObjectRun.{DeskObject, fresh_desk_object, AllowsCall, after_call, IsObjectRun}
 use Rattle.run_checker.proofs.Following.{none_by}
 use Rattle.record_lines.specs.Narrow.{IsNarrowEvent, AreNarrow, IsShort, IsNarrowReply, AreNarrowExchanges}

@@ -1,6 +1,6 @@
 -- what a checker says of a line, and keeps after it
 use Rattle.std.specs.Prelude.{◌≡◌, ℕ, ◌<◌, ◌≤◌, ◌^◌, List, [], ◌∷◌, ◌++◌, length, take, slice_get, Option, Some, None, Result, Ok, Err}
-use Rattle.desk.specs.declared.event.Event.{Event}
+use Rattle.commands.specs.declared.event.Event.{Event}
 use Rattle.bit_allocator.specs.PoolObject.{no_entry, no_probe, number_in}
 use Rattle.bit_allocator.specs.Widening.{widen_refusal}
 use Rattle.rename_core.specs.RenameObject.{RenameTerms, no_begin, no_step}

@@ -7,9 +7,9 @@ use Rattle.rename_core.specs.RenameObject.{RenameTerms}
 use Rattle.bit_allocator.specs.declared.probe.Probe.TheVariants as probe
 use Rattle.bit_allocator.specs.Calls.Call.{Entered, Probed, Left as HasLeft}
 use Rattle.slot_array.specs.SlotCalls.SlotCall.{Pooled, Stored, Extended}
-use Rattle.desk.specs.declared.event.Event.{Event}
-use Rattle.desk.specs.declared.event.Event.TheVariants.{Begin, Step, Enter, Probe, Leave, Put, Widen}
-use Rattle.desk.specs.declared.exchange.Exchange.{Exchange}
+use Rattle.commands.specs.declared.event.Event.{Event}
+use Rattle.commands.specs.declared.event.Event.TheVariants.{Begin, Step, Enter, Probe, Leave, Put, Widen}
+use Rattle.commands.specs.declared.exchange.Exchange.{Exchange}
 use Rattle.desk.specs.DeskCalls.{DeskCall, exchange_of}
 use Rattle.desk.specs.DeskCalls.DeskCall.{Renamed, Slotted}
 use Rattle.record_lines.specs.declared.line.Line.{Line}

@@ -7,8 +7,8 @@ use Rattle.bit_allocator.specs.PoolObject.{no_entry, no_probe, number_in, IsFree
 use Rattle.bit_allocator.specs.Widening.{widen_refusal}
 use Rattle.slot_array.specs.Slots.{IsFetched}
 use Rattle.slot_array.specs.SlotsObject.{SlotsObject}
-use Rattle.desk.specs.declared.event.Event.{Event}
-use Rattle.desk.specs.declared.event.Event.TheVariants.{Begin, Step, Enter, Probe, Leave, Put, Get, Widen}
+use Rattle.commands.specs.declared.event.Event.{Event}
+use Rattle.commands.specs.declared.event.Event.TheVariants.{Begin, Step, Enter, Probe, Leave, Put, Get, Widen}
 use Rattle.run_checker.specs.declared.reason.Reason.{Reason}
 use Rattle.run_checker.specs.declared.reason.Reason.TheVariants as reason
 use Rattle.record_lines.specs.declared.told.Told.{Told}

@@ -3,7 +3,7 @@
 ghost use Rattle.std.specs.Prelude.{◌≡◌, ◌&&◌, [], Ok, IfOk};
 ghost use Rattle.std.specs.Option.{option_copied};
 ghost use Rattle.rename_core.specs.RenameObject.{RenameTerms};
-ghost use Rattle.desk.specs.declared.event.Event.TheVariants as event;
+ghost use Rattle.commands.specs.declared.event.Event.TheVariants as event;
 ghost use Rattle.record_lines.specs.declared.told.Told.TheVariants as told;
 ghost use Rattle.run_checker.specs.Config.{terms_of};
 ghost use Rattle.run_checker.specs.ObjectRun.{DeskObject};
@@ -16,10 +16,9 @@ use crate::fault::Fault;
 use crate::names::Names;
 use crate::reason::Reason;
 use crate::stays::Stays;
-use desk::Event;
+use commands::{Config, Event};
 use record_lines::told::is_step;
 use record_lines::{Line, Pairs, Told};
-use rename_core::Config;
 use std::alloc::{AllocError, Global};
 use step_memory::{Place, Refusal};
 

@@ -1,7 +1,7 @@
 //! What is done with lines that were taken.
 
 ghost use Rattle.std.specs.Prelude.{List, OnOk};
-ghost use Rattle.rename_core.specs.declared.config.Config.{Config};
+ghost use Rattle.commands.specs.declared.config.Config.{Config};
 ghost use Rattle.record_lines.specs.declared.line.Line.{Line};
 ghost use Rattle.run_checker.specs.Gathered.{Gathers};
 

@@ -3,8 +3,8 @@
 ghost use Rattle.std.specs.Prelude.{◌≡◌, ◌↔◌, ◌∷◌, ◌++◌, ℕ, Bool, List, map};
 ghost use Rattle.snapshot_core.specs.Snapshot.{SnapBounds};
 ghost use Rattle.rename_core.specs.RenameObject.{RenameTerms};
-ghost use Rattle.rename_core.specs.declared.config.Config.{Config};
-ghost use Rattle.desk.specs.declared.exchange.Exchange.{Exchange};
+ghost use Rattle.commands.specs.declared.config.Config.{Config};
+ghost use Rattle.commands.specs.declared.exchange.Exchange.{Exchange};
 ghost use Rattle.desk.specs.DeskRun.{IsDeskRun};
 ghost use Rattle.schedule_player.specs.Played.{reading, writing};
 ghost use Rattle.schedule_player.specs.Records.{record_of};

@@ -7,8 +7,8 @@ ghost use Rattle.run_checker.specs.Judged.{IsFirstFaultOrNone};
 
 use crate::checker::Checker;
 use crate::reason::Reason;
+use commands::Config;
 use record_lines::Line;
-use rename_core::Config;
 use std::alloc::{AllocError, Global};
 
 /// The first of at most a million lines that can't follow those before it, from 0, with the least reason that fits; `None`

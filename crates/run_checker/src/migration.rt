@@ -5,9 +5,8 @@ ghost use Rattle.run_checker.specs.Migrated.{first_of, proposal_of, shown_in, Go
 
 use crate::firsts::Firsts;
 use crate::gather::Gather;
-use desk::Event;
+use commands::{Config, Event};
 use record_lines::{Line, Text, Told, put_header, put_line};
-use rename_core::Config;
 use std::alloc::{AllocError, Global};
 
 /// What is gathered of the lines of a record: their text in version 2, and the first moments by which names may have been

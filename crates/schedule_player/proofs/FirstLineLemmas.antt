@@ -3,12 +3,12 @@ use Rattle.std.proofs.Common.{◌≡◌, ℕ, zero, suc, ◌+◌, ◌<◌, ◌==
 use Rattle.std.specs.List.{list_all}
 use Rattle.std.proofs.lemmas.List.{append-nil, take_more}
 use Rattle.memchr.specs.Find.{Nowhere, Passes, is_byte}
-use Rattle.schedule_player.specs.declared.bad.Bad.{Bad}
-use Rattle.schedule_player.specs.declared.command.Command.{Command}
-use Rattle.rename_core.specs.declared.config.WorldKind.{WorldKind}
+use Rattle.commands.specs.declared.bad.Bad.{Bad}
+use Rattle.commands.specs.declared.command.Command.{Command}
+use Rattle.commands.specs.declared.kind.WorldKind.{WorldKind}
 use Rattle.std.proofs.lemmas.Bool.Decides.{nat_tests}
 use Rattle.std.specs.Prelude.{nat_lt}
-use Rattle.schedule_player.specs.declared.bad.Bad.TheVariants.{TooLong, NotPrintable}
+use Rattle.commands.specs.declared.bad.Bad.TheVariants.{TooLong, NotPrintable}
 use Rattle.schedule_player.specs.Meaning.{meaning, is_printable, command_in, words}
 use Rattle.schedule_player.specs.Progress.{Progress, with_line, after_meaning, after_line, after_bytes}
 use Rattle.schedule_player.proofs.ProgressLemmas.{after_bytes-append}

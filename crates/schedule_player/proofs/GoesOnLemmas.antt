@@ -1,19 +1,19 @@
 -- turns that were taken go on to all that was asked
 use Rattle.std.proofs.Common.{◌≡◌, ℕ, Bool, true, List, [], ◌∷◌, ◌++◌, map, Result, Ok, Err, refl, sym, ap, subst, ◌∙◌}
 use Rattle.std.proofs.lemmas.List.{map-append}
-use Rattle.schedule_player.specs.declared.bad.Bad.{Bad}
-use Rattle.schedule_player.specs.declared.command.Command.{Command}
-use Rattle.schedule_player.specs.declared.command.Command.TheVariants as command
-use Rattle.rename_core.specs.declared.config.WorldKind.{WorldKind}
-use Rattle.desk.specs.declared.exchange.Exchange.{Exchange}
-use Rattle.desk.specs.declared.reply.Reply.{Reply}
+use Rattle.commands.specs.declared.bad.Bad.{Bad}
+use Rattle.commands.specs.declared.command.Command.{Command}
+use Rattle.commands.specs.declared.command.Command.TheVariants as command
+use Rattle.commands.specs.declared.kind.WorldKind.{WorldKind}
+use Rattle.commands.specs.declared.exchange.Exchange.{Exchange}
+use Rattle.commands.specs.declared.reply.Reply.{Reply}
 use Rattle.schedule_player.specs.Turns.{Turn}
 use Rattle.schedule_player.specs.Turns.Turn.{Answered, Told, Ended, Misread}
 use Rattle.schedule_player.specs.Asked.{until_quit, asked_by}
 use Rattle.schedule_player.specs.Knows.{Knows}
 use Rattle.schedule_player.specs.Meaning.{meaning}
-use Rattle.schedule_player.specs.Requests.{Request}
-use Rattle.schedule_player.specs.Requests.Request.{Take, OwnerOf}
+use Rattle.commands.specs.Requests.{Request}
+use Rattle.commands.specs.Requests.Request.{Take, OwnerOf}
 use Rattle.schedule_player.specs.Runs.{Runs, CanRun}
 use Rattle.schedule_player.specs.RunProofs.{runs-append}
 use Rattle.schedule_player.specs.Turns.{asked}

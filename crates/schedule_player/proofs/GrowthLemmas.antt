@@ -5,9 +5,9 @@ use Rattle.step_memory.specs.declared.refusal.Refusal.TheVariants as refusal
 use Rattle.step_memory.specs.Participant.{participant_of, program_of}
 use Rattle.step_memory.specs.World.{begin_refusal}
 use Rattle.step_memory.specs.WorldState.{WorldState}
-use Rattle.rename_core.specs.declared.config.Config.{Config}
-use Rattle.rename_core.specs.declared.config.WorldKind.{WorldKind}
-use Rattle.rename_core.specs.declared.config.WorldKind.TheVariants.{Splitter, Grid, Rename, Tree}
+use Rattle.commands.specs.declared.config.Config.{Config}
+use Rattle.commands.specs.declared.kind.WorldKind.{WorldKind}
+use Rattle.commands.specs.declared.kind.WorldKind.TheVariants.{Splitter, Grid, Rename, Tree}
 use Rattle.rename_core.specs.declared.round.Round.{Round}
 use Rattle.rename_core.specs.declared.round.Stage.{Stage}
 use Rattle.rename_core.specs.declared.round.Stage.TheVariants.{Placing, Proposing, Looking, Settled as IsSettled, Over}
@@ -19,11 +19,12 @@ use Rattle.bit_allocator.specs.Competitors.{stay_of}
 use Rattle.bit_allocator.specs.Pool.{enter_refusal, probe_refusal_by, number_by}
 use Rattle.bit_allocator.specs.PoolState.{PoolState}
 use Rattle.bit_allocator.specs.Widening.{widen_refusal}
-use Rattle.desk.specs.declared.event.Event.{Event}
-use Rattle.desk.specs.declared.event.Event.TheVariants.{Begin, Step, Enter, Probe, Leave, Put, Get, Widen}
-use Rattle.desk.specs.declared.reply.Reply.{Reply}
-use Rattle.desk.specs.declared.reply.Reply.TheVariants as reply
-use Rattle.desk.specs.Desk.{desk_rules, desk_refusal, owner_reply, gives_names, IsAfterDesk}
+use Rattle.commands.specs.declared.event.Event.{Event}
+use Rattle.commands.specs.declared.event.Event.TheVariants.{Begin, Step, Enter, Probe, Leave, Put, Get, Widen}
+use Rattle.commands.specs.declared.reply.Reply.{Reply}
+use Rattle.commands.specs.declared.reply.Reply.TheVariants as reply
+use Rattle.commands.specs.Config.{gives_names}
+use Rattle.desk.specs.Desk.{desk_rules, desk_refusal, owner_reply, IsAfterDesk}
 use Rattle.desk.specs.DeskCalls.{DeskCall}
 use Rattle.desk.specs.DeskRules.{refusal_of, refusal_over}
 use Rattle.desk.specs.DeskState.{DeskState}

@@ -6,8 +6,8 @@ use Rattle.std.proofs.lemmas.List.{append-nil, take_more, take_all, length-take-
 use Rattle.std.proofs.lemmas.List.Folds.{list_all-append}
 use Rattle.std.proofs.lemmas.Bool.Decides.{nat_tests}
 use Rattle.std.proofs.Math.Nat.{pow-suc, pow-le-pow_right}
-use Rattle.rename_core.specs.declared.config.WorldKind.{WorldKind}
-use Rattle.schedule_player.specs.declared.command.Command.{Command}
+use Rattle.commands.specs.declared.kind.WorldKind.{WorldKind}
+use Rattle.commands.specs.declared.command.Command.{Command}
 use Rattle.schedule_player.specs.Digits.{DigitsSoFar}
 use Rattle.schedule_player.specs.Quick.{IsNumberBefore, IsCommandBefore, is_of_words}
 use Rattle.schedule_player.specs.Lines.{pieces_from}

@@ -1,9 +1,10 @@
 -- from what a run has written after the header to the theorem of a recorded run
 use Rattle.std.proofs.Common.{◌≡◌, true, flat_map, Result, Err, inl, refl, arith}
 use Rattle.std.specs.Io.KnownBytes.{Appends}
-use Rattle.desk.specs.Desk.{gives_names, IsFreshDesk}
+use Rattle.commands.specs.Config.{gives_names}
+use Rattle.desk.specs.Desk.{IsFreshDesk}
 use Rattle.desk.specs.DeskValue.{DeskValue}
-use Rattle.rename_core.specs.declared.config.Config.{Config}
+use Rattle.commands.specs.declared.config.Config.{Config}
 use Rattle.schedule_player.specs.declared.fault.Fault.{Fault}
 use Rattle.schedule_player.specs.declared.fault.Fault.TheVariants.{Memory}
 use Rattle.schedule_player.specs.declared.summary.Summary.{Summary}

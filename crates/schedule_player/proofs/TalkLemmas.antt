@@ -1,18 +1,19 @@
 -- what rules allow from a fresh world is a talk
 use Rattle.std.proofs.Common.{◌≡◌, ℕ, true, List}
-use Rattle.desk.specs.declared.exchange.Exchange.{Exchange}
-use Rattle.desk.specs.declared.reply.Reply.{Reply}
-use Rattle.desk.specs.Desk.{gives_names, IsFreshDesk}
+use Rattle.commands.specs.declared.exchange.Exchange.{Exchange}
+use Rattle.commands.specs.declared.reply.Reply.{Reply}
+use Rattle.commands.specs.Config.{gives_names}
+use Rattle.desk.specs.Desk.{IsFreshDesk}
 use Rattle.desk.specs.DeskRun.{IsDeskRunOf}
 use Rattle.desk.specs.DeskValue.{DeskValue}
-use Rattle.rename_core.specs.declared.config.Config.{Config}
-use Rattle.rename_core.specs.declared.config.WorldKind.{WorldKind}
-use Rattle.rename_core.specs.declared.config.WorldKind.TheVariants.{Splitter, Grid, Rename, Tree}
+use Rattle.commands.specs.declared.config.Config.{Config}
+use Rattle.commands.specs.declared.kind.WorldKind.{WorldKind}
+use Rattle.commands.specs.declared.kind.WorldKind.TheVariants.{Splitter, Grid, Rename, Tree}
 use Rattle.schedule_player.specs.DeskWorld.{DeskWorldMay}
 use Rattle.schedule_player.specs.DeskWorldProofs.{desk_lawful, desk_tells}
 use Rattle.schedule_player.specs.IsRun.{IsTalkByKind}
 use Rattle.schedule_player.specs.Owners.{AreOwnersTold}
-use Rattle.schedule_player.specs.Requests.{Request}
+use Rattle.commands.specs.Requests.{Request}
 use Rattle.schedule_player.specs.Runs.{Runs}
 use Rattle.schedule_player.specs.Talks.{IsTalkOf}
 use Rattle.schedule_player.specs.Turns.{Turn, exchanges}

@@ -1,11 +1,11 @@
 -- the rules of a desk's world
 use Rattle.std.specs.Prelude.{◌≡◌}
-use Rattle.desk.specs.declared.reply.Reply.{Reply}
+use Rattle.commands.specs.declared.reply.Reply.{Reply}
 use Rattle.desk.specs.Desk.{desk_rules, owner_reply}
 use Rattle.desk.specs.DeskValue.{DeskValue}
 use Rattle.desk.specs.Rules.{may_by}
-use Rattle.schedule_player.specs.Requests.{Request}
-use Rattle.schedule_player.specs.Requests.Request.{Take, OwnerOf}
+use Rattle.commands.specs.Requests.{Request}
+use Rattle.commands.specs.Requests.Request.{Take, OwnerOf}
 
 -- an event is answered by the desk's rules, and who has a name is told with nothing changed
 abbrev pub DeskWorldMay : DeskValue → Request → Reply → DeskValue → Type 0

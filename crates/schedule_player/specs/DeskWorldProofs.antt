@@ -2,10 +2,10 @@
 use Rattle.std.proofs.Common.{◌≡◌, ◌≢◌, inl, List, [], ◌∷◌, ◌++◌, map, refl, sym, ap, subst, ◌∙◌, append_assoc}
 use Rattle.std.proofs.lemmas.List.{append-nil}
 use Rattle.step_memory.specs.declared.refusal.Refusal.TheVariants as refusal
-use Rattle.rename_core.specs.declared.config.Config.{Config}
-use Rattle.desk.specs.declared.exchange.Exchange.{Exchange}
-use Rattle.desk.specs.declared.reply.Reply.{Reply}
-use Rattle.desk.specs.declared.reply.Reply.TheVariants as reply
+use Rattle.commands.specs.declared.config.Config.{Config}
+use Rattle.commands.specs.declared.exchange.Exchange.{Exchange}
+use Rattle.commands.specs.declared.reply.Reply.{Reply}
+use Rattle.commands.specs.declared.reply.Reply.TheVariants as reply
 use Rattle.desk.specs.Desk.{desk_reply, desk_after, owner_reply, IsFreshDesk, IsAfterDesk}
 use Rattle.desk.specs.DeskCalls.{DeskCall, exchange_of}
 use Rattle.desk.specs.DeskRun.{IsDeskRunOf}
@@ -14,8 +14,8 @@ use Rattle.desk.specs.Owner.{IsOwnerReply}
 use Rattle.desk.proofs.DeskLaws as desk
 use Rattle.schedule_player.specs.DeskWorld.{DeskWorldMay}
 use Rattle.schedule_player.specs.Owners.{AreOwnersTold}
-use Rattle.schedule_player.specs.Requests.{Request}
-use Rattle.schedule_player.specs.Requests.Request.{Take, OwnerOf}
+use Rattle.commands.specs.Requests.{Request}
+use Rattle.commands.specs.Requests.Request.{Take, OwnerOf}
 use Rattle.schedule_player.specs.Runs.{Runs}
 use Rattle.schedule_player.specs.RunProofs.{runs-cut}
 use Rattle.schedule_player.specs.Turns.{Turn, exchanges}

@@ -1,7 +1,7 @@
 -- the texts of events (this project's profile): the line that asks for each, without its LF
 use Rattle.std.specs.Prelude.{ℕ, List, [], ◌∷◌, ◌++◌, codes, decimal}
-use Rattle.desk.specs.declared.event.Event.{Event}
-use Rattle.desk.specs.declared.event.Event.TheVariants as event
+use Rattle.commands.specs.declared.event.Event.{Event}
+use Rattle.commands.specs.declared.event.Event.TheVariants as event
 
 abbrev pub event_words : Event → List ℕ
 event_words (event.Begin id) = codes "begin " ++ decimal id

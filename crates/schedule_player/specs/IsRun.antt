@@ -1,9 +1,9 @@
 -- runs and talks by the kind of world
 use Rattle.std.specs.Prelude.{List}
-use Rattle.rename_core.specs.declared.config.Config.{Config}
-use Rattle.rename_core.specs.declared.config.WorldKind.{WorldKind}
-use Rattle.rename_core.specs.declared.config.WorldKind.TheVariants.{Splitter, Grid, Rename, Tree}
-use Rattle.desk.specs.declared.exchange.Exchange.{Exchange}
+use Rattle.commands.specs.declared.config.Config.{Config}
+use Rattle.commands.specs.declared.kind.WorldKind.{WorldKind}
+use Rattle.commands.specs.declared.kind.WorldKind.TheVariants.{Splitter, Grid, Rename, Tree}
+use Rattle.commands.specs.declared.exchange.Exchange.{Exchange}
 use Rattle.desk.specs.Desk.{IsFreshDesk}
 use Rattle.desk.specs.DeskRun.{IsDeskRunOf}
 use Rattle.schedule_player.specs.DeskWorld.{DeskWorldMay}

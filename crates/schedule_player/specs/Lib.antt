@@ -1,4 +1,3 @@
-pub mod Bad
 pub mod Lines
 pub mod Meaning
 pub mod Knows
@@ -6,7 +5,6 @@ pub mod WordsLeft
 pub mod Replies
 pub mod Events
 pub mod Asked
-pub mod Requests
 pub mod Turns
 pub mod Texts
 pub mod Records

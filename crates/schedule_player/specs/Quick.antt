@@ -1,9 +1,9 @@
 -- the first command of some bytes
 use Rattle.std.specs.Prelude.{◌≡◌, ℕ, ◌<◌, ◌≤◌, ◌==◌, ◌&&◌, ◌||◌, nat_le, Bool, true, List, length, take, slice_index, Some, Ok}
 use Rattle.std.specs.List.{list_all}
-use Rattle.desk.specs.Desk.{gives_names}
-use Rattle.schedule_player.specs.declared.command.Command.{Command}
-use Rattle.rename_core.specs.declared.config.WorldKind.{WorldKind}
+use Rattle.commands.specs.Config.{gives_names}
+use Rattle.commands.specs.declared.command.Command.{Command}
+use Rattle.commands.specs.declared.kind.WorldKind.{WorldKind}
 use Rattle.schedule_player.specs.Meaning.{meaning, is_digit, number_in}
 
 -- what words of letters, and numbers, are written with

@@ -1,6 +1,6 @@
 -- the theorem of a run that is recorded
 use Rattle.std.specs.Prelude.{◌≡◌, ◌<◌, ◌⊎◌, Result, Ok, Err}
-use Rattle.rename_core.specs.declared.config.Config.{Config}
+use Rattle.commands.specs.declared.config.Config.{Config}
 use Rattle.schedule_player.specs.declared.fault.Fault.{Fault}
 use Rattle.schedule_player.specs.declared.fault.Fault.TheVariants.{Write}
 use Rattle.schedule_player.specs.declared.summary.Summary.{Summary}

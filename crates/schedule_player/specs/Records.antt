@@ -1,22 +1,14 @@
 -- records (this project's profile), version 2: a line of JSON for the config, and one for each event with its reply
 use Rattle.std.specs.Prelude.{ℕ, List, [], ◌++◌, flat_map, codes, decimal}
-use Rattle.desk.specs.declared.exchange.Exchange.{Exchange}
-use Rattle.desk.specs.declared.reply.Reply.{Reply}
-use Rattle.desk.specs.declared.reply.Reply.TheVariants as reply
-use Rattle.rename_core.specs.declared.config.Config.{Config}
-use Rattle.rename_core.specs.declared.config.WorldKind.{WorldKind}
-use Rattle.rename_core.specs.declared.config.WorldKind.TheVariants.{Splitter, Grid, Rename, Tree}
+use Rattle.commands.specs.Config.{world_name}
+use Rattle.commands.specs.declared.exchange.Exchange.{Exchange}
+use Rattle.commands.specs.declared.reply.Reply.{Reply}
+use Rattle.commands.specs.declared.reply.Reply.TheVariants as reply
+use Rattle.commands.specs.declared.config.Config.{Config}
 use Rattle.schedule_player.specs.Events.{event_words}
 use Rattle.schedule_player.specs.Replies.{reply_words, view_words}
 use Rattle.schedule_player.specs.Turns.{Turn}
 use Rattle.schedule_player.specs.Turns.Turn.{Answered, Told, Ended, Misread}
-
--- the name of a world
-abbrev pub world_name : WorldKind → List ℕ
-world_name Splitter = codes "splitter"
-world_name Grid = codes "grid"
-world_name Rename = codes "rename"
-world_name Tree = codes "tree"
 
 -- the first line: the config, its keys in rising order
 abbrev pub header_line : Config → List ℕ

@@ -1,9 +1,9 @@
 -- talks: what is said in turn in one run
 use Rattle.std.specs.Prelude.{ℕ, List}
-use Rattle.desk.specs.declared.exchange.Exchange.{Exchange}
-use Rattle.desk.specs.declared.reply.Reply.{Reply}
+use Rattle.commands.specs.declared.exchange.Exchange.{Exchange}
+use Rattle.commands.specs.declared.reply.Reply.{Reply}
 use Rattle.schedule_player.specs.Owners.{AreOwnersTold}
-use Rattle.schedule_player.specs.Requests.{Request}
+use Rattle.commands.specs.Requests.{Request}
 use Rattle.schedule_player.specs.Runs.{CouldRun}
 use Rattle.schedule_player.specs.Turns.{Turn, exchanges}
 

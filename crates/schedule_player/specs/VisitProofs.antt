@@ -5,24 +5,24 @@ use Rattle.std.specs.List.{list_all}
 use Rattle.step_memory.specs.declared.refusal.Refusal.TheVariants as refusal
 use Rattle.step_memory.specs.Calls.{Call}
 use Rattle.step_memory.specs.Calls.Call.{Began, Stepped}
-use Rattle.rename_core.specs.declared.config.WorldKind.{WorldKind}
-use Rattle.desk.specs.declared.event.Event.{Event}
-use Rattle.desk.specs.declared.event.Event.TheVariants.{Begin, Step, Enter, Probe, Leave, Put, Get, Widen}
-use Rattle.desk.specs.declared.exchange.Exchange.{Exchange}
-use Rattle.desk.specs.declared.reply.Reply.{Reply}
-use Rattle.desk.specs.declared.reply.Reply.TheVariants as reply
+use Rattle.commands.specs.declared.kind.WorldKind.{WorldKind}
+use Rattle.commands.specs.declared.event.Event.{Event}
+use Rattle.commands.specs.declared.event.Event.TheVariants.{Begin, Step, Enter, Probe, Leave, Put, Get, Widen}
+use Rattle.commands.specs.declared.exchange.Exchange.{Exchange}
+use Rattle.commands.specs.declared.reply.Reply.{Reply}
+use Rattle.commands.specs.declared.reply.Reply.TheVariants as reply
 use Rattle.desk.specs.Owner.{IsOwnerReply}
-use Rattle.desk.specs.Replies.{done_reply}
-use Rattle.desk.specs.Desk.{gives_names}
-use Rattle.schedule_player.specs.declared.bad.Bad.{Bad}
-use Rattle.schedule_player.specs.declared.bad.Bad.TheVariants.{TooLong, NotPrintable, UnknownWord}
-use Rattle.schedule_player.specs.declared.command.Command.{Command}
-use Rattle.schedule_player.specs.declared.command.Command.TheVariants as command
+use Rattle.commands.specs.Replies.{done_reply}
+use Rattle.commands.specs.Config.{gives_names}
+use Rattle.commands.specs.declared.bad.Bad.{Bad}
+use Rattle.commands.specs.declared.bad.Bad.TheVariants.{TooLong, NotPrintable, UnknownWord}
+use Rattle.commands.specs.declared.command.Command.{Command}
+use Rattle.commands.specs.declared.command.Command.TheVariants as command
 use Rattle.schedule_player.specs.Knows.{Knows}
 use Rattle.schedule_player.specs.Meaning.{meaning, command_in, command_of_one, command_if, quit_of, number_in, same_bytes, desk_command_of, is_printable, words}
 use Rattle.schedule_player.specs.Owners.{AreOwnersTold}
-use Rattle.schedule_player.specs.Requests.{Request, as_command}
-use Rattle.schedule_player.specs.Requests.Request.{Take, OwnerOf}
+use Rattle.commands.specs.Requests.{Request, as_command}
+use Rattle.commands.specs.Requests.Request.{Take, OwnerOf}
 use Rattle.schedule_player.specs.Runs.{Runs}
 use Rattle.schedule_player.specs.RunProofs.{runs-cut}
 use Rattle.schedule_player.specs.Turns.{Turn, exchanges}

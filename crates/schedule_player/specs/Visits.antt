@@ -2,12 +2,12 @@
 use Rattle.std.specs.Prelude.{◌≡◌, ◌⊎◌, ℕ, zero, suc, Bool, true, false, Result, Ok, Err}
 use Rattle.step_memory.specs.declared.refusal.Refusal.{Refusal}
 use Rattle.step_memory.specs.declared.refusal.Refusal.TheVariants as refusal
-use Rattle.desk.specs.declared.event.Event.TheVariants.{Begin, Step, Enter, Probe, Leave, Put, Get, Widen}
-use Rattle.desk.specs.declared.reply.Reply.{Reply}
-use Rattle.desk.specs.declared.reply.Reply.TheVariants as reply
-use Rattle.desk.specs.Replies.{done_reply}
-use Rattle.schedule_player.specs.Requests.{Request}
-use Rattle.schedule_player.specs.Requests.Request.{Take, OwnerOf}
+use Rattle.commands.specs.declared.event.Event.TheVariants.{Begin, Step, Enter, Probe, Leave, Put, Get, Widen}
+use Rattle.commands.specs.declared.reply.Reply.{Reply}
+use Rattle.commands.specs.declared.reply.Reply.TheVariants as reply
+use Rattle.commands.specs.Replies.{done_reply}
+use Rattle.commands.specs.Requests.{Request}
+use Rattle.commands.specs.Requests.Request.{Take, OwnerOf}
 
 -- only `begin` and `step` are known, and who has the name 0
 abbrev pub knows_visits : Request → Bool

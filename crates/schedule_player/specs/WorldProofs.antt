@@ -4,9 +4,9 @@ use Rattle.splitter.specs.Machine as splitter
 use Rattle.splitter.proofs.SplitterTied as splitter_law
 use Rattle.splitter_grid.specs.Machine as grid
 use Rattle.splitter_grid.proofs.GridTied as grid_law
-use Rattle.rename_core.specs.Ranges.{most_in}
-use Rattle.rename_core.specs.declared.config.Config.{Config}
-use Rattle.rename_core.specs.declared.config.WorldKind.{WorldKind}
+use Rattle.commands.specs.Ranges.{most_in}
+use Rattle.commands.specs.declared.config.Config.{Config}
+use Rattle.commands.specs.declared.kind.WorldKind.{WorldKind}
 use Rattle.schedule_player.specs.Runs.{Runs}
 use Rattle.schedule_player.specs.Turns.{Turn, exchanges}
 use Rattle.schedule_player.specs.Visits.{visit_may}

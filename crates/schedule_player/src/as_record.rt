@@ -1,16 +1,15 @@
 //! The form of records.
 
 ghost use Rattle.std.specs.Prelude.{◌≡◌, ◌≤◌, ◌+◌, ◌++◌, length};
-ghost use Rattle.desk.specs.Replies.{with_view};
-ghost use Rattle.schedule_player.specs.Records.{header_line, name_view, turn_record, world_name};
+ghost use Rattle.commands.specs.Replies.{with_view};
+ghost use Rattle.commands.specs.Config.{world_name};
+ghost use Rattle.schedule_player.specs.Records.{header_line, name_view, turn_record};
 
-use crate::bad::Bad;
 use crate::events::print_event;
 use crate::form::Form;
 use crate::print::{print_words, put_shown, put_word};
 use crate::replies::{HELD_REPLIES, Replies};
-use desk::{Event, ShortReply};
-use rename_core::{Config, WorldKind};
+use commands::{Bad, Config, Event, ShortReply, WorldKind};
 use std::alloc::Allocator;
 use step_memory::View;
 
@@ -68,12 +67,7 @@ fn put_world<A: Allocator>(world: WorldKind, out: &mut Replies<A>)
     ensures text { out.new ≡ out.old ++ world_name world }
     ensures short { length out.new ≤ length out.old + 8 }
 {
-    match world {
-        WorldKind::Splitter => out.put(b"splitter"),
-        WorldKind::Grid => out.put(b"grid"),
-        WorldKind::Rename => out.put(b"rename"),
-        WorldKind::Tree => out.put(b"tree"),
-    }
+    out.put(world.name().as_bytes());
 }
 
 /// Appends the first line of a record.

@@ -2,11 +2,10 @@
 
 ghost use Rattle.schedule_player.specs.Texts.{turn_reply};
 
-use crate::bad::Bad;
 use crate::form::Form;
 use crate::print::{print_bad, print_reply};
 use crate::replies::Replies;
-use desk::{Event, ShortReply};
+use commands::{Bad, Event, ShortReply};
 use std::alloc::Allocator;
 use step_memory::View;
 

@@ -1,7 +1,8 @@
 //! A desk's world answers events, and tells who has a name.
 
 ghost use Rattle.std.specs.Prelude.{true};
-ghost use Rattle.desk.specs.Desk.{gives_names, IsFreshDesk};
+ghost use Rattle.commands.specs.Config.{gives_names};
+ghost use Rattle.desk.specs.Desk.{IsFreshDesk};
 ghost use Rattle.desk.specs.DeskRun.{IsDeskRunOf};
 ghost use Rattle.schedule_player.specs.DeskWorld.{DeskWorldMay};
 ghost use Rattle.schedule_player.specs.DeskWorldProofs.{desk_answers, desk_lawful, desk_tells, one_desk_fresh, one_desk_reply};
@@ -9,8 +10,8 @@ ghost use Rattle.std.proofs.Common.{refl};
 
 use crate::service::Service;
 use crate::world::World;
-use desk::{Desk, Event, Reply, ShortReply};
-use rename_core::Config;
+use commands::{Config, Event, Reply, ShortReply};
+use desk::Desk;
 use std::alloc::Allocator;
 use step_memory::{Refusal, View};
 

@@ -5,7 +5,7 @@ ghost use Rattle.schedule_player.specs.Events.{event_words};
 
 use crate::print::put_word;
 use crate::replies::{HELD_REPLIES, Replies};
-use desk::Event;
+use commands::Event;
 use std::alloc::Allocator;
 
 /// The words of no event have more bytes.

@@ -1,13 +1,12 @@
 //! How the turns of a run are written.
 
 ghost use Rattle.std.specs.Prelude.{◌≡◌, ◌≤◌, ◌+◌, ◌++◌, ℕ, List, length};
-ghost use Rattle.desk.specs.Replies.{with_view};
+ghost use Rattle.commands.specs.Replies.{with_view};
 ghost use Rattle.schedule_player.specs.Turns.{Turn};
 ghost use Rattle.schedule_player.specs.Turns.Turn.{Answered, Told, Ended, Misread};
 
-use crate::bad::Bad;
 use crate::replies::{HELD_REPLIES, Replies};
-use desk::{Event, ShortReply};
+use commands::{Bad, Event, ShortReply};
 use std::alloc::Allocator;
 use step_memory::View;
 

@@ -9,8 +9,7 @@ ghost use Rattle.schedule_player.specs.WorldProofs.{grid_lawful, one_grid_fresh}
 use crate::outcomes::walk_reply;
 use crate::service::Service;
 use crate::world::World;
-use desk::{Event, Reply, ShortReply};
-use rename_core::Config;
+use commands::{Config, Event, Reply, ShortReply};
 use splitter_grid::GridWorld;
 use std::alloc::Allocator;
 use step_memory::{Refusal, View};

@@ -1,18 +1,18 @@
 //! Laws of what is played, which run nothing.
 
 ghost use Rattle.std.specs.Prelude.{◌≡◌, true, ℕ, List};
-ghost use Rattle.desk.specs.Desk.{gives_names};
+ghost use Rattle.commands.specs.Config.{gives_names};
 ghost use Rattle.schedule_player.specs.Granted.{granted};
 ghost use Rattle.schedule_player.specs.IsRun.{IsTalk};
 ghost use Rattle.schedule_player.specs.Lines.{IsCutInto, IsCutOnce, whole_lines, rest_of};
 ghost use Rattle.schedule_player.specs.OneTalk.{IsOneTalk};
 ghost use Rattle.schedule_player.specs.Runs.{CouldRun, NoneRefusedGrowth};
 ghost use Rattle.schedule_player.specs.Turns.{Turn};
-ghost use Rattle.rename_core.specs.declared.config.Config.{Config};
+ghost use Rattle.commands.specs.declared.config.Config.{Config};
 
 use crate::world::World;
+use commands::WorldKind;
 use desk::Desk;
-use rename_core::WorldKind;
 use splitter::SplitterWorld;
 use splitter_grid::GridWorld;
 use std::alloc::Allocator;

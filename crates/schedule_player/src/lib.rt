@@ -31,8 +31,6 @@
 
 pub mod as_record;
 pub mod as_replies;
-pub mod bad;
-pub mod command;
 mod desk_world;
 pub mod events;
 pub mod fault;
@@ -59,9 +57,7 @@ pub mod world;
 
 pub use as_record::{AsRecord, HEADER_ROOM, print_header};
 pub use as_replies::AsReplies;
-pub use bad::Bad;
-pub use command::Command;
-pub use desk::{Event, Exchange, Reply, ShortReply};
+pub use commands::{Bad, Command, Config, Event, Exchange, Reply, ShortReply, WorldKind};
 pub use events::{EVENT_ROOM, print_event};
 pub use fault::Fault;
 pub use form::{Form, TURN_ROOM};
@@ -72,7 +68,6 @@ pub use playing::{MOST_READS, READ_BYTES, play, play_in, play_on};
 pub use print::{REPLY_ROOM, print_bad, print_reply, print_words, put_number, put_word};
 pub use quick::{quick_command, quick_number};
 pub use recording::record;
-pub use rename_core::{Config, WorldKind};
 pub use replies::{HELD_REPLIES, Replies};
 pub use service::Service;
 pub use sink::Sink;

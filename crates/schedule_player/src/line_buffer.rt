@@ -4,10 +4,8 @@ ghost use Rattle.std.specs.Prelude.{◌≡◌, ◌↔◌, ℕ, List, [], ◌∷�
 ghost use Rattle.schedule_player.specs.HeldLine.{held};
 ghost use Rattle.schedule_player.specs.Meaning.{meaning};
 
-use crate::bad::Bad;
-use crate::command::Command;
 use crate::parse::{LINE_MAX, parse_line};
-use rename_core::WorldKind;
+use commands::{Bad, Command, WorldKind};
 use std::alloc::Allocator;
 use std::marker::Model;
 use step_memory::NoMemory;

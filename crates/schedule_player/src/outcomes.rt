@@ -1,11 +1,11 @@
 //! What the outcomes of a splitter's and a grid's steps are answered as.
 
 ghost use Rattle.std.specs.Prelude.{◌≡◌, ℕ, List};
-ghost use Rattle.desk.specs.Replies.{with_view};
+ghost use Rattle.commands.specs.Replies.{with_view};
 ghost use Rattle.schedule_player.specs.Visits.{said_reply};
 ghost use Rattle.schedule_player.specs.Worlds.{way_reply, place_reply};
 
-use desk::ShortReply;
+use commands::ShortReply;
 use splitter::Way;
 use step_memory::{Place, Refusal};
 

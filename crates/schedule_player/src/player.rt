@@ -1,11 +1,11 @@
 //! A run under way: bytes in, replies out.
 
 ghost use Rattle.std.specs.Prelude.{◌≡◌, true, ◌+◌, ◌*◌, ◌^◌, ◌<◌, ◌≤◌, [], length, take, IfOk, IfErr, OnOk, OnErr};
-ghost use Rattle.desk.specs.declared.reply.Reply.{Reply as DeskReply};
-ghost use Rattle.desk.specs.Replies.{with_view};
+ghost use Rattle.commands.specs.declared.reply.Reply.{Reply as DeskReply};
+ghost use Rattle.commands.specs.Replies.{with_view};
 ghost use Rattle.schedule_player.specs.Knows.{Knows, KnowsMeant};
 ghost use Rattle.schedule_player.specs.Progress.{after_meaning, after_line, after_bytes, after_end};
-ghost use Rattle.schedule_player.specs.Requests.Request.{OwnerOf};
+ghost use Rattle.commands.specs.Requests.Request.{OwnerOf};
 ghost use Rattle.schedule_player.specs.Stands.{Advances, AdvancesOn, AdvancesAfresh, AdvancesWriting, AdvancesInPart, IsHeld, IsFresh, IsSent};
 ghost use Rattle.schedule_player.specs.Records.{header_line};
 ghost use Rattle.schedule_player.specs.Turns.Turn.{Answered, Told, Ended, Misread};
@@ -16,8 +16,6 @@ ghost use Rattle.schedule_player.specs.declared.form.TheConstants.{TURN_ROOM};
 ghost use Rattle.schedule_player.specs.declared.as_record.TheConstants.{HEADER_ROOM};
 
 use crate::as_record::{HEADER_ROOM, print_header};
-use crate::bad::Bad;
-use crate::command::Command;
 use crate::fault::Fault;
 use crate::form::{Form, TURN_ROOM};
 use crate::line_buffer::LineBuffer;
@@ -27,9 +25,8 @@ use crate::replies::{HELD_REPLIES, Replies};
 use crate::service::Service;
 use crate::sink::{Sink, put_all};
 use crate::summary::Summary;
-use desk::{Event, ShortReply};
+use commands::{Bad, Command, Config, Event, ShortReply, WorldKind};
 use memchr::memchr;
-use rename_core::{Config, WorldKind};
 use std::alloc::Allocator;
 use std::marker::{Model, PhantomData};
 use step_memory::{NoMemory, View};

@@ -6,10 +6,8 @@ ghost use Rattle.schedule_player.specs.Meaning.{is_digit};
 ghost use Rattle.schedule_player.specs.Digits.{DigitsSoFar};
 ghost use Rattle.schedule_player.specs.Quick.{IsCommandBefore, IsDeskCommandBefore, IsNumberBefore};
 
-use crate::command::Command;
 use crate::parse::gives_names;
-use desk::Event;
-use rename_core::WorldKind;
+use commands::{Command, Event, WorldKind};
 
 /// What stands between words.
 const SPACE: u8 = 32;

@@ -1,7 +1,7 @@
 //! Runs of a world whose record is written.
 
 ghost use Rattle.std.specs.Prelude.{◌≡◌, true, ◌^◌, ◌<◌};
-ghost use Rattle.desk.specs.Desk.{gives_names};
+ghost use Rattle.commands.specs.Config.{gives_names};
 ghost use Rattle.schedule_player.specs.Played.{reading, writing};
 ghost use Rattle.schedule_player.specs.Recorded.{IsRecorded};
 
@@ -10,8 +10,8 @@ use crate::fault::Fault;
 use crate::playing::{fresh_player, opened, room_for_a_read, run};
 use crate::sink::Sink;
 use crate::source::Source;
+use commands::Config;
 use desk::Desk;
-use rename_core::Config;
 use std::alloc::Allocator;
 
 /// Plays the commands that a reader gives, as `play`, and writes the record of the run in place of the replies: its header

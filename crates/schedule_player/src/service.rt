@@ -1,12 +1,12 @@
 //! What answers events.
 
 ghost use Rattle.std.specs.Prelude.{◌≡◌, Bool, true};
-ghost use Rattle.desk.specs.declared.reply.Reply.{Reply};
-ghost use Rattle.desk.specs.Replies.{with_view};
-ghost use Rattle.schedule_player.specs.Requests.{Request};
-ghost use Rattle.schedule_player.specs.Requests.Request.{Take, OwnerOf};
+ghost use Rattle.commands.specs.declared.reply.Reply.{Reply};
+ghost use Rattle.commands.specs.Replies.{with_view};
+ghost use Rattle.commands.specs.Requests.{Request};
+ghost use Rattle.commands.specs.Requests.Request.{Take, OwnerOf};
 
-use desk::{Event, Reply, ShortReply};
+use commands::{Event, Reply, ShortReply};
 use step_memory::View;
 
 /// What answers events one by one, and tells who has a name, under rules.

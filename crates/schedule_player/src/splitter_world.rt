@@ -9,8 +9,7 @@ ghost use Rattle.schedule_player.specs.WorldProofs.{splitter_lawful, one_splitte
 use crate::outcomes::visit_reply;
 use crate::service::Service;
 use crate::world::World;
-use desk::{Event, Reply, ShortReply};
-use rename_core::Config;
+use commands::{Config, Event, Reply, ShortReply};
 use splitter::SplitterWorld;
 use std::alloc::Allocator;
 use step_memory::{Refusal, View};

@@ -2,19 +2,19 @@
 
 ghost use Rattle.std.specs.Prelude.{◌≡◌, ◌≢◌, List, Bool, true, IfOk, IfErr};
 ghost use Rattle.step_memory.specs.declared.refusal.Refusal.TheVariants as refusal;
-ghost use Rattle.desk.specs.declared.exchange.Exchange.{Exchange};
-ghost use Rattle.desk.specs.declared.reply.Reply.{Reply};
-ghost use Rattle.desk.specs.declared.reply.Reply.TheVariants as reply;
-ghost use Rattle.rename_core.specs.declared.config.Config.{Config};
-ghost use Rattle.rename_core.specs.declared.config.WorldKind.{WorldKind};
+ghost use Rattle.commands.specs.declared.exchange.Exchange.{Exchange};
+ghost use Rattle.commands.specs.declared.reply.Reply.{Reply};
+ghost use Rattle.commands.specs.declared.reply.Reply.TheVariants as reply;
+ghost use Rattle.commands.specs.declared.config.Config.{Config};
+ghost use Rattle.commands.specs.declared.kind.WorldKind.{WorldKind};
 ghost use Rattle.schedule_player.specs.Knows.{Knows};
 ghost use Rattle.schedule_player.specs.Owners.{AreOwnersTold};
-ghost use Rattle.schedule_player.specs.Requests.{Request};
+ghost use Rattle.commands.specs.Requests.{Request};
 ghost use Rattle.schedule_player.specs.Runs.{Runs};
 ghost use Rattle.schedule_player.specs.Turns.{Turn, exchanges};
 
 use crate::service::Service;
-use rename_core::Config;
+use commands::Config;
 use step_memory::Refusal;
 
 /// A world of a config, whose runs keep a law.

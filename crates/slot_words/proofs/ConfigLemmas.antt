@@ -1,16 +1,18 @@
 -- when no config, run or drawing has the matched options
 use Rattle.std.proofs.Common.{ap, sym, subst, ◌≡◌, ◌∙◌, ◌<◌, ◌^◌, ℕ, List, Option, Some, None, Result, Ok, Err, IfOk, IsOk, ◌↔◌, Bool, MatchOption, IfSome, IsSome, codes, refl, true, false, arith}
-use Rattle.std.specs.Prelude.{option_and_then}
+use Rattle.std.specs.Prelude.{IfNone, ◌≢◌}
 use Rattle.std.specs.Str.Parse.{ParsesUnsigned, digits_value, without_leading_plus}
 use Rattle.clap.specs.Words.{ReadsOne, Row, first_of, one_of}
 use Rattle.std.specs.Result.{result_ok}
 use Rattle.std.proofs.lemmas.Option.{same_Some}
-use Rattle.rename_core.specs.Ranges.{IsConfigRange}
+use Rattle.commands.specs.Config.{world_name}
+use Rattle.commands.specs.Ranges.{IsConfigRange}
 use Rattle.rename_core.proofs.MostIn.{few_take_part}
 use Rattle.step_memory.specs.declared.refusal.Refusal.{Refusal}
-use Rattle.rename_core.specs.declared.config.Config.{Config}
-use Rattle.rename_core.specs.declared.config.WorldKind.{WorldKind}
-use Rattle.slot_words.specs.Asked.{HasNumber, HasWorld, IsConfigOf, IsDrawingOf, IsPlayingOf, IsServingOf, asks_record, world_named}
+use Rattle.commands.specs.declared.config.Config.{Config}
+use Rattle.commands.specs.declared.kind.WorldKind.{WorldKind}
+use Rattle.slot_words.specs.Asked.{HasNumber, HasWorld, IsConfigOf, IsDrawingOf, IsPlayingOf, IsServingOf, asks_record}
+use Rattle.slot_words.proofs.WorldNames.{named_apart}
 use Rattle.slot_words.specs.Ranges.{CanBeWritten, IsDrawingRange, IsServingRange}
 use Rattle.slot_words.specs.declared.asked.Drawing.{Drawing}
 use Rattle.slot_words.specs.declared.asked.Playing.{Playing}
@@ -19,10 +21,16 @@ use Rattle.slot_words.specs.declared.asked.Serving.{Serving}
 pub unless_some : {T : Type 0} (o : Option T) (P : Type 0) (Q : T → Type 0) → o ≡ None → P → MatchOption o P Q
 unless_some o P Q e p = subst (λ w. MatchOption w P Q) (sym e) p
 
+-- no name is matched, so no world's is
+pub no_world : (rows : List Row) → None ≡ first_of (codes "world") rows → (w : WorldKind) → HasWorld rows w → ⊥
+no_world rows none w h = let bad : None ≡ Some (world_name w) = none ∙ h in cc
+
 -- what the matched name gives is the world, if there is one
-pub world_told : (rows : List Row) (r : Option WorldKind) → option_and_then world_named (first_of (codes "world") rows) ≡ r → MatchOption r ((w : WorldKind) → HasWorld rows w → ⊥) (HasWorld rows)
-world_told rows None is = λ w h. (let bad : None ≡ Some w = sym is ∙ h in cc)
-world_told rows (Some w) is = is
+pub world_told : (rows : List Row) (word : List ℕ) (r : Option WorldKind) → Some word ≡ first_of (codes "world") rows
+    → IfSome r (λ kind. world_name kind ≡ word) → IfNone r ((kind : WorldKind) → world_name kind ≢ word)
+    → MatchOption r ((w : WorldKind) → HasWorld rows w → ⊥) (HasWorld rows)
+world_told rows word None matched some none = λ w h. none w (sym (same_Some word (world_name w) (matched ∙ h)))
+world_told rows word (Some w) matched some none = sym matched ∙ ap Some (sym some)
 
 -- what `get_one` reads as a `u64`
 abbrev pub Reads : {E : Type 0} → (List ℕ → Result ℕ E → Type 0) → Type 0
@@ -67,7 +75,7 @@ same_number rows id m n h g =
 
 -- two worlds that are matched there are one
 same_world : (rows : List Row) (w u : WorldKind) → HasWorld rows w → HasWorld rows u → w ≡ u
-same_world rows w u h g = same_Some w u (sym h ∙ g)
+same_world rows w u h g = named_apart w u (same_Some (world_name w) (world_name u) (sym h ∙ g))
 
 -- a config's most participants are a number that is read
 pub most_fits : (c : Config) → c.m < 2 ^ 64
@@ -79,7 +87,7 @@ pub made : (rows : List Row) (w : WorldKind) (m k limit : ℕ) (r : Result Confi
     → IfOk r (λ c. (c.world ≡ w) × (c.m ≡ m) × (c.k ≡ k) × (c.limit ≡ limit)) → (IsOk r ↔ IsConfigRange w m k limit)
     → MatchOption (result_ok r) ((c : Config) → IsConfigOf rows c → ⊥) (IsConfigOf rows)
 made rows w m k limit (Ok c) world has_m has_k has_limit values range = record {
-  world = world ∙ ap Some (sym values.0);
+  world = world ∙ ap (λ kind. Some (world_name kind)) (sym values.0);
   m = subst (λ x. HasNumber rows (codes "m") x) (sym values.1) has_m;
   k = subst (λ x. HasNumber rows (codes "k") x) (sym values.2) has_k;
   limit = subst (λ x. HasNumber rows (codes "limit") x) (sym values.3) has_limit;
@@ -126,7 +134,7 @@ drawn rows seed ids steps runs m limit w c (Some d) has_seed has_ids has_steps h
   ids = subst (λ x. HasNumber rows (codes "ids") x) (sym values.1) has_ids;
   steps = subst (λ x. HasNumber rows (codes "steps") x) (sym values.2) has_steps;
   runs = subst (λ x. HasNumber rows (codes "runs") x) (sym values.3) has_runs;
-  world = world ∙ ap Some (sym (ap (λ (x : Config). x.world) values.4 ∙ sizes.0));
+  world = world ∙ ap (λ kind. Some (world_name kind)) (sym (ap (λ (x : Config). x.world) values.4 ∙ sizes.0));
   m = subst (λ x. HasNumber rows (codes "m") x) (sym (ap (λ (x : Config). x.m) values.4 ∙ sizes.1)) has_m;
   limit = subst (λ x. HasNumber rows (codes "limit") x) (sym (ap (λ (x : Config). x.limit) values.4 ∙ sizes.3)) has_limit;
   k = ap (λ (x : Config). x.k) values.4 ∙ sizes.2;
@@ -136,9 +144,9 @@ drawn rows seed ids steps runs m limit w c None has_seed has_ids has_steps has_r
     let same_ids : d.ids ≡ ids = same_number rows (codes "ids") d.ids ids h.ids has_ids in
     let same_steps : d.steps ≡ steps = same_number rows (codes "steps") d.steps steps h.steps has_steps in
     let same_runs : d.runs ≡ runs = same_number rows (codes "runs") d.runs runs h.runs has_runs in
-    let same_world : d.config.world ≡ c.world = same_Some d.config.world w (sym h.world ∙ world) ∙ sym sizes.0 in
+    let same_kind : d.config.world ≡ c.world = same_world rows d.config.world w h.world world ∙ sym sizes.0 in
     let fits = d.in_range in
-    let bad : false ≡ true = range.1 (rw (same_seed, same_ids, same_steps, same_runs, same_world) at fits) in
+    let bad : false ≡ true = range.1 (rw (same_seed, same_ids, same_steps, same_runs, same_kind) at fits) in
     cc
 
 -- what holds of a result's value

@@ -1,2 +1,3 @@
+mod WorldNames
 mod ConfigLemmas
 mod AskLemmas

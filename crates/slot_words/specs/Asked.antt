@@ -1,5 +1,5 @@
 -- what words ask for
-use Rattle.std.specs.Prelude.{◌≡◌, ◌⊎◌, ℕ, Bool, true, false, not, ⊤, List, [], Option, Some, None, option_and_then, codes, if◌then◌else◌}
+use Rattle.std.specs.Prelude.{◌≡◌, ◌⊎◌, ℕ, Bool, true, false, not, ⊤, List, [], Option, Some, codes}
 use Rattle.std.specs.Prelude.{Result, Ok, Err}
 use Rattle.std.specs.Str.{bytes_eq}
 use Rattle.std.specs.Str.Parse.{IsNumeral, digits_value, without_leading_plus}
@@ -9,9 +9,9 @@ use Rattle.clap.specs.Faults.{fault_of}
 use Rattle.clap.specs.Words.{Kinds, Row, first_of, one_of, subcommand_of}
 use Rattle.clap.specs.declared.error.kind.ErrorKind.{ErrorKind}
 use Rattle.clap.specs.declared.error.kind.ErrorKind.TheVariants.{DisplayHelp, DisplayHelpOnMissingArgumentOrSubcommand, OutOfMemory}
-use Rattle.rename_core.specs.declared.config.Config.{Config}
-use Rattle.rename_core.specs.declared.config.WorldKind.{WorldKind}
-use Rattle.rename_core.specs.declared.config.WorldKind.TheVariants.{Splitter, Grid, Rename, Tree}
+use Rattle.commands.specs.Config.{world_name}
+use Rattle.commands.specs.declared.config.Config.{Config}
+use Rattle.commands.specs.declared.kind.WorldKind.{WorldKind}
 use Rattle.slot_words.specs.CommandLine.{slotctl_app}
 use Rattle.slot_words.specs.declared.asked.Ask.{Ask}
 use Rattle.slot_words.specs.declared.asked.Ask.TheVariants.{Play, Check, Migrate, Draw, Serve}
@@ -21,15 +21,6 @@ use Rattle.slot_words.specs.declared.asked.Playing.{Playing}
 use Rattle.slot_words.specs.declared.misuse.Misuse.{Misuse}
 use Rattle.slot_words.specs.declared.misuse.Misuse.TheVariants.{Help, Words, Memory}
 
--- the world of a name
-abbrev pub world_named : List ℕ → Option WorldKind
-world_named name =
-    if bytes_eq name (codes "splitter") then Some Splitter
-    else if bytes_eq name (codes "grid") then Some Grid
-    else if bytes_eq name (codes "rename") then Some Rename
-    else if bytes_eq name (codes "tree") then Some Tree
-    else None
-
 -- the text is decimal digits of this number, and a plus may stand first
 abbrev pub WritesNumber : List ℕ → ℕ → Type 0
 WritesNumber text n = IsNumeral 10 (without_leading_plus text) × (digits_value 10 (without_leading_plus text) ≡ n)
@@ -38,9 +29,9 @@ WritesNumber text n = IsNumeral 10 (without_leading_plus text) × (digits_value 
 abbrev pub HasNumber : List Row → List ℕ → ℕ → Type 0
 HasNumber rows id n = (text : List ℕ) × (one_of id rows ≡ Some text) × WritesNumber text n
 
--- the world of the name among what clap matched
+-- the world's name is among what clap matched
 abbrev pub HasWorld : List Row → WorldKind → Type 0
-HasWorld rows world = option_and_then world_named (first_of (codes "world") rows) ≡ Some world
+HasWorld rows world = first_of (codes "world") rows ≡ Some (world_name world)
 
 -- the config that the options of `play` and of `serve` give: the world's name and the numbers as clap matched them, each number in its
 -- range

@@ -1,7 +1,7 @@
 -- the ranges of what is asked for (this project's profile)
 use Rattle.std.specs.Prelude.{◌≡◌, ℕ, ◌<◌, ◌≤◌, ◌^◌, Bool, true}
-use Rattle.rename_core.specs.declared.config.WorldKind.{WorldKind}
-use Rattle.desk.specs.Desk.{gives_names}
+use Rattle.commands.specs.declared.kind.WorldKind.{WorldKind}
+use Rattle.commands.specs.Config.{gives_names}
 
 -- the seed has 64 bits, the identities are 1 to 64, the steps at most 1,000,000, the runs at most 1,000, and names are given in the world
 abbrev pub IsDrawingRange : ℕ → ℕ → ℕ → ℕ → WorldKind → Type 0

@@ -3,7 +3,7 @@
 ghost use Rattle.std.specs.Prelude.{◌≡◌, IfSome, IsSome, ◌↔◌};
 ghost use Rattle.slot_words.specs.Ranges.{IsDrawingRange, IsServingRange, CanBeWritten};
 
-use rename_core::{Config, WorldKind};
+use commands::{Config, WorldKind};
 
 /// What the words of a command line ask for.
 #[derive(Clone, Copy, Drop)]

@@ -2,9 +2,9 @@
 
 ghost use Rattle.std.specs.Prelude.{◌≡◌, ℕ, ◌<◌, ◌^◌, MatchOption, map};
 ghost use Rattle.clap.specs.Words.{found_of, kind_of, rows_of, subcommand_rows_of};
-ghost use Rattle.slot_words.specs.Asked.{HasNumber, HasWorld, IsAsked, IsConfigOf, IsDrawingOf, IsMisuseOf, IsPlayingOf, IsRead, IsRefusal, IsServingOf, asks_record, world_named};
-ghost use Rattle.rename_core.specs.declared.config.Config.{Config};
-ghost use Rattle.rename_core.specs.declared.config.WorldKind.{WorldKind};
+ghost use Rattle.slot_words.specs.Asked.{HasNumber, HasWorld, IsAsked, IsConfigOf, IsDrawingOf, IsMisuseOf, IsPlayingOf, IsRead, IsRefusal, IsServingOf, asks_record};
+ghost use Rattle.commands.specs.declared.config.Config.{Config};
+ghost use Rattle.commands.specs.declared.kind.WorldKind.{WorldKind};
 ghost use Rattle.slot_words.specs.declared.asked.Drawing.{Drawing};
 ghost use Rattle.slot_words.specs.declared.asked.Playing.{Playing};
 ghost use Rattle.slot_words.specs.declared.asked.Serving.{Serving};
@@ -15,28 +15,15 @@ use crate::command_line::slotctl_command;
 use crate::misuse::Misuse;
 use clap::error::ErrorKind;
 use clap::{ArgMatches, Error};
-use rename_core::{Config, WorldKind};
+use commands::{Config, WorldKind};
 use std::alloc::Global;
 use std::convert::AsStr;
-
-// The world of a name.
-fn world_named(name: &str) -> Option<WorldKind>
-    ensures { result ≡ world_named name.now }
-{
-    match name {
-        "splitter" => Some(WorldKind::Splitter),
-        "grid" => Some(WorldKind::Grid),
-        "rename" => Some(WorldKind::Rename),
-        "tree" => Some(WorldKind::Tree),
-        _ => None,
-    }
-}
 
 // The world that is matched.
 fn world_given(matches: &ArgMatches<'_>) -> Option<WorldKind>
     ensures { MatchOption result ((w : WorldKind) → HasWorld (rows_of (found_of matches.now)) w → ⊥) (HasWorld (rows_of (found_of matches.now))) }
 {
-    world_named(matches.get_str("world")?)
+    WorldKind::named(matches.get_str("world")?)
 }
 
 // The number that is matched for an option.

@@ -12,7 +12,7 @@ use Rattle.schedule_player.specs.declared.fault.Fault.TheVariants.{Write, Memory
 use Rattle.schedule_player.specs.declared.summary.Summary.{Summary}
 use Rattle.schedule_player.specs.Written.{HasPartOf}
 use Rattle.schedule_player.specs.Recorded.{IsRecorded}
-use Rattle.rename_core.specs.declared.config.Config.{Config}
+use Rattle.commands.specs.declared.config.Config.{Config}
 use Rattle.slot_words.specs.declared.asked.Ask.{Ask}
 use Rattle.slot_words.specs.declared.asked.Ask.TheVariants.{Play, Check, Migrate, Draw, Serve}
 use Rattle.slot_words.specs.declared.asked.Drawing.{Drawing}

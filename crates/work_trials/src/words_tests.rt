@@ -1,6 +1,6 @@
 //! What words of a command line are read as.
 
-use rename_core::WorldKind;
+use commands::WorldKind;
 use slot_words::{Ask, Misuse, ask};
 use std::alloc::Global;
 

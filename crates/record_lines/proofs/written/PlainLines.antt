@@ -8,14 +8,14 @@ use Rattle.std.proofs.lemmas.Str.{IsUtf8-append}
 use Rattle.json.proofs.Printed.Utf8.{IsUtf8-are_ascii}
 use Rattle.serde_json.specs.Data.{Data}
 use Rattle.serde_json.specs.Read.{read}
-use Rattle.rename_core.specs.declared.config.WorldKind.{WorldKind}
+use Rattle.commands.specs.declared.kind.WorldKind.{WorldKind}
 use Rattle.record_lines.specs.declared.header.Version.{Version}
 use Rattle.record_lines.specs.declared.line.Line.{Line}
 use Rattle.record_lines.specs.Json.{is_plain, AreTexts, HasViewText, text_count}
 use Rattle.record_lines.specs.RecordLine.{SaysByTexts, SaysLine}
 use Rattle.record_lines.specs.Lines.{line}
 use Rattle.record_lines.specs.declared.told.Told.{Told}
-use Rattle.desk.specs.declared.event.Event.{Event}
+use Rattle.commands.specs.declared.event.Event.{Event}
 use Rattle.record_lines.specs.PlainLine.{SpellsLine, SpellsEvent, ending, IsPlainView, SpellsTold, SpellsReply}
 use Rattle.record_lines.proofs.written.Texts.{line_data, line_text, read_line_text, plain_utf8}
 

@@ -7,8 +7,8 @@ use Rattle.step_memory.specs.View.{IsAbove, IsRising}
 use Rattle.step_memory.specs.Refusal.{refusal_number}
 use Rattle.step_memory.specs.declared.refusal.Refusal.{Refusal}
 use Rattle.step_memory.specs.declared.refusal.Refusal.TheVariants.{ZeroIdentity, AlreadyBegun, Full, NotBegun, Finished, Spent as IsSpent, Crowded, NotCompeting, AlreadyCompeting, Holding, NotHolding, NoMemory, HistoryFull, OutOfRange}
-use Rattle.desk.specs.declared.reply.Reply.{Reply}
-use Rattle.desk.specs.declared.reply.Reply.TheVariants as reply
+use Rattle.commands.specs.declared.reply.Reply.{Reply}
+use Rattle.commands.specs.declared.reply.Reply.TheVariants as reply
 use Rattle.schedule_player.specs.Replies.{pair_word, pair_words, view_words, reply_words}
 use Rattle.schedule_player.specs.Lines.{pieces_from}
 use Rattle.record_lines.specs.declared.told.Told.TheVariants as told

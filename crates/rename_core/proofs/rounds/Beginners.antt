@@ -12,8 +12,8 @@ use Rattle.snapshot_core.specs.declared.client.Client.{Client}
 use Rattle.snapshot_core.specs.Places.{KnownPlaces, PlacesLaws, BeginsAlike}
 use Rattle.snapshot_core.specs.SnapWorld.{beginner_at}
 use Rattle.snapshot_core.proofs.Following.{begins_the_same}
-use Rattle.rename_core.specs.Config.{is_tree}
-use Rattle.rename_core.specs.declared.config.WorldKind.{WorldKind}
+use Rattle.commands.specs.Config.{is_tree}
+use Rattle.commands.specs.declared.kind.WorldKind.{WorldKind}
 use Rattle.rename_core.specs.declared.reply.Reply.{Reply}
 use Rattle.rename_core.specs.declared.round.Round.{Round}
 use Rattle.rename_core.specs.Locality.{client_of, round_of, wished}

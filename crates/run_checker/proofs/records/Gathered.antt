@@ -1,7 +1,7 @@
 -- the lines of a record, with what is gathered of them
 use Rattle.std.proofs.Common.{Bor, MatchOption, ◌≡◌, ℕ, ◌+◌, ◌<◌, List, [], ◌∷◌, ◌++◌, Option, Some, None, ap, ◌∙◌, subst}
 use Rattle.std.specs.Option.{option_copied}
-use Rattle.rename_core.specs.declared.config.Config.{Config}
+use Rattle.commands.specs.declared.config.Config.{Config}
 use Rattle.record_lines.specs.declared.header.Header.{Header}
 use Rattle.record_lines.specs.declared.line.Line.{Line}
 use Rattle.record_lines.specs.RecordLine.{IsEventLine}

@@ -1,10 +1,11 @@
 -- what `record` writes spells the run that was played
 use Rattle.std.proofs.Common.{◌≡◌, ℕ, true, List, [], ◌∷◌, map, length, Option, Some, Ok, Err, inl, inr, refl, sym, ap, ◌∙◌, subst, arith, ◌≤◌}
 use Rattle.std.specs.Io.KnownBytes.{Appends}
-use Rattle.rename_core.specs.declared.config.Config.{Config}
-use Rattle.rename_core.specs.declared.config.WorldKind.{WorldKind}
-use Rattle.rename_core.specs.declared.config.WorldKind.TheVariants.{Splitter, Grid, Rename, Tree}
-use Rattle.desk.specs.Desk.{gives_names, IsFreshDesk}
+use Rattle.commands.specs.declared.config.Config.{Config}
+use Rattle.commands.specs.declared.kind.WorldKind.{WorldKind}
+use Rattle.commands.specs.declared.kind.WorldKind.TheVariants.{Splitter, Grid, Rename, Tree}
+use Rattle.commands.specs.Config.{gives_names}
+use Rattle.desk.specs.Desk.{IsFreshDesk}
 use Rattle.desk.specs.DeskRun.{IsDeskRunOf}
 use Rattle.desk.proofs.DeskLaws as desk
 use Rattle.schedule_player.specs.declared.summary.Summary.{Summary}
@@ -32,7 +33,7 @@ use Rattle.run_checker.proofs.records.OneVerdict.{one_verdict}
 use Rattle.run_checker.proofs.records.Talking.{asked_narrow, turns_fit}
 use Rattle.record_lines.proofs.written.Lines.{record_is}
 use Rattle.std.proofs.lemmas.List.{length-map}
-use Rattle.desk.specs.declared.exchange.Exchange.{Exchange}
+use Rattle.commands.specs.declared.exchange.Exchange.{Exchange}
 use Rattle.record_lines.specs.declared.header.Version.TheVariants.{Two}
 use Rattle.record_lines.specs.Lines.{line_of}
 use Rattle.run_checker.specs.ObjectRun.{IsObjectRun}

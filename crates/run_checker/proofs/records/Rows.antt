@@ -2,7 +2,7 @@
 use Rattle.std.proofs.Common.{◌≡◌, ℕ, suc, ◌+◌, ◌<◌, ◌≤◌, List, [], ◌∷◌, ◌++◌, length, Option, Some, sym, ap, ◌∙◌, subst, arith, length-append, append_assoc, refl}
 use Rattle.std.proofs.lemmas.List.{append-nil}
 use Rattle.std.specs.Prelude.{MatchOption}
-use Rattle.rename_core.specs.declared.config.WorldKind.{WorldKind}
+use Rattle.commands.specs.declared.kind.WorldKind.{WorldKind}
 use Rattle.run_checker.specs.declared.checker.Checker.{Checker}
 use Rattle.record_lines.specs.declared.header.Header.{Header}
 use Rattle.record_lines.specs.declared.header.Version.{Version}

@@ -1,18 +1,18 @@
 -- what a talk tells fits a record
 use Rattle.std.proofs.Common.{◌≡◌, ℕ, ◌^◌, ◌<◌, List, [], ◌∷◌, ◌++◌, map, Result, Ok, Err, inl, inr, sym, subst, arith}
-use Rattle.rename_core.specs.declared.config.Config.{Config}
-use Rattle.rename_core.specs.declared.config.WorldKind.{WorldKind}
-use Rattle.desk.specs.declared.event.Event.{Event}
-use Rattle.desk.specs.declared.reply.Reply.{Reply}
-use Rattle.desk.specs.declared.reply.Reply.TheVariants as reply
+use Rattle.commands.specs.declared.config.Config.{Config}
+use Rattle.commands.specs.declared.kind.WorldKind.{WorldKind}
+use Rattle.commands.specs.declared.event.Event.{Event}
+use Rattle.commands.specs.declared.reply.Reply.{Reply}
+use Rattle.commands.specs.declared.reply.Reply.TheVariants as reply
 use Rattle.desk.specs.Desk.{desk_rules, IsAfterDesk}
 use Rattle.desk.specs.DeskCalls.{DeskCall}
 use Rattle.desk.specs.DeskValue.{DeskValue}
 use Rattle.desk.specs.Rules.{may_by}
 use Rattle.desk.proofs.DeskLaws as desk
-use Rattle.schedule_player.specs.declared.bad.Bad.{Bad}
-use Rattle.schedule_player.specs.declared.command.Command.{Command}
-use Rattle.schedule_player.specs.declared.command.Command.TheVariants as command
+use Rattle.commands.specs.declared.bad.Bad.{Bad}
+use Rattle.commands.specs.declared.command.Command.{Command}
+use Rattle.commands.specs.declared.command.Command.TheVariants as command
 use Rattle.schedule_player.specs.Asked.{until_quit, asked_by}
 use Rattle.schedule_player.specs.DeskWorld.{DeskWorldMay}
 use Rattle.schedule_player.specs.Meaning.{meaning}

@@ -1,7 +1,7 @@
 use Rattle.std.proofs.Common.{rules, ◌≢◌}
 use Rattle.step_memory.specs.declared.refusal.Refusal.TheVariants as refusal
-use Rattle.desk.specs.declared.short_reply.ShortReply.TheVariants as short
-use Rattle.desk.specs.Replies.{with_view}
+use Rattle.commands.specs.declared.short_reply.ShortReply.TheVariants as short
+use Rattle.commands.specs.Replies.{with_view}
 use Rattle.drawn_schedules.proofs.RunLemmas.{plays_one}
 use Rattle.drawn_schedules.proofs.ShortReplies.{not_refused}
 use Rattle.drawn_schedules.proofs.runs.take.Goals as goal

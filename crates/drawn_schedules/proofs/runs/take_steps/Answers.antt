@@ -1,5 +1,5 @@
 use Rattle.std.proofs.Common.{◌+◌, ◌-◌, ◌%◌, ◌∷◌, [], arith}
-use Rattle.desk.specs.declared.event.Event.TheVariants.{Step}
+use Rattle.commands.specs.declared.event.Event.TheVariants.{Step}
 use Rattle.rand_pcg.specs.Pcg.{pcg32}
 use Rattle.drawn_schedules.specs.Schedule.{steps_drawn}
 use Rattle.drawn_schedules.proofs.RunLemmas.{steps_next, steps_none, plays_on}

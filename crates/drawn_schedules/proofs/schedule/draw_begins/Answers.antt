@@ -1,5 +1,5 @@
 use Rattle.std.proofs.Common.{rules, ◌≡◌, Err, ◌+◌, ◌-◌, ◌∷◌, [], ◌++◌, arith}
-use Rattle.desk.specs.declared.event.Event.TheVariants.{Begin}
+use Rattle.commands.specs.declared.event.Event.TheVariants.{Begin}
 use Rattle.drawn_schedules.specs.Schedule.{begins_from}
 use Rattle.schedule_player.specs.Events.{event_words, event_lines}
 use Rattle.drawn_schedules.proofs.ScheduleLemmas.{begins_more}

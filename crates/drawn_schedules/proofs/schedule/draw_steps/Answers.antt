@@ -1,5 +1,5 @@
 use Rattle.std.proofs.Common.{rules, ◌≡◌, Err, ◌+◌, ◌-◌, ◌%◌, ◌∷◌, [], ◌++◌, arith}
-use Rattle.desk.specs.declared.event.Event.TheVariants.{Step}
+use Rattle.commands.specs.declared.event.Event.TheVariants.{Step}
 use Rattle.rand_pcg.specs.Pcg.{pcg32}
 use Rattle.drawn_schedules.specs.Schedule.{steps_drawn}
 use Rattle.schedule_player.specs.Events.{event_words, event_lines}

@@ -1,6 +1,6 @@
 use Rattle.std.proofs.Common.{rules, Err, ◌≡◌, false, true, codes, sym, ◌∙◌}
 use Rattle.std.specs.Option.{option_copied}
-use Rattle.desk.specs.declared.event.Event.TheVariants.{Put}
+use Rattle.commands.specs.declared.event.Event.TheVariants.{Put}
 use Rattle.schedule_player.specs.Meaning.{same_bytes, event_of_two}
 use Rattle.schedule_player.specs.WordsLeft.{words_left}
 use Rattle.schedule_player.proofs.WordLemmas.{event_of_two_numbers, event_of_no_numbers}

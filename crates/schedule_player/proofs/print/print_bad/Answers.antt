@@ -1,8 +1,8 @@
 use Rattle.std.proofs.Common.{◌<◌, sym, arith}
 use Rattle.std.proofs.lemmas.Fmt.{decimal_digit}
-use Rattle.schedule_player.specs.Bad.{bad_number}
-use Rattle.schedule_player.specs.declared.bad.Bad.{Bad}
-use Rattle.schedule_player.specs.declared.bad.Bad.TheVariants.{TooLong, NotPrintable, UnknownWord, WrongCount, BadNumber}
+use Rattle.commands.specs.Bad.{bad_number}
+use Rattle.commands.specs.declared.bad.Bad.{Bad}
+use Rattle.commands.specs.declared.bad.Bad.TheVariants.{TooLong, NotPrintable, UnknownWord, WrongCount, BadNumber}
 use Rattle.schedule_player.proofs.print.print_bad.Goals as goal
 
 -- the number of a bad line is a digit

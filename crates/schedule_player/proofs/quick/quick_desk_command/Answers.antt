@@ -1,6 +1,6 @@
 use Rattle.std.proofs.Common.{◌≡◌, ◌+◌, suc, arith, codes, drop, refl}
-use Rattle.desk.specs.declared.event.Event.TheVariants.{Enter, Probe, Leave, Put, Get}
-use Rattle.schedule_player.specs.declared.command.Command.TheVariants as command
+use Rattle.commands.specs.declared.event.Event.TheVariants.{Enter, Probe, Leave, Put, Get}
+use Rattle.commands.specs.declared.command.Command.TheVariants as command
 use Rattle.schedule_player.proofs.QuickLemmas.{first_of_one, first_of_two, four_and_more, six_and_more, rest_of-slice}
 use Rattle.schedule_player.proofs.quick.quick_desk_command.Goals as goal
 

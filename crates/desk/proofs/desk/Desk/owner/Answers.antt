@@ -1,5 +1,5 @@
 use Rattle.std.proofs.Common.{◌≡◌, sym, subst}
-use Rattle.desk.specs.declared.reply.Reply.{Reply}
+use Rattle.commands.specs.declared.reply.Reply.{Reply}
 use Rattle.desk.specs.Desk.{owner_reply}
 use Rattle.desk.specs.Laws.{TellsOwners}
 use Rattle.desk.proofs.DeskLaws as desk

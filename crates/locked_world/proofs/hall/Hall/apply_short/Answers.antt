@@ -2,8 +2,8 @@ use Rattle.std.proofs.Common.{rules, ◌≡◌, ◌++◌, [], ◌∷◌, None, i
 use Rattle.desk.specs.Desk.{desk_rules, desk_reply}
 use Rattle.desk.specs.DeskCalls.{exchange}
 use Rattle.desk.specs.DeskValue.{DeskValue}
-use Rattle.desk.specs.declared.reply.Reply.{Reply}
-use Rattle.desk.specs.Replies.{is_refusal, with_view}
+use Rattle.commands.specs.declared.reply.Reply.{Reply}
+use Rattle.commands.specs.Replies.{is_refusal, with_view}
 use Rattle.desk.specs.Rules.{may_by}
 use Rattle.locked_world.specs.HallState.{HallState}
 use Rattle.locked_world.specs.Halls.{hall_of, desk_of, hall_refusal}

@@ -1,5 +1,5 @@
 use Rattle.std.proofs.Common.{◌≡◌, sym, subst, ap, ◌∙◌}
-use Rattle.desk.specs.declared.reply.Reply.{Reply}
+use Rattle.commands.specs.declared.reply.Reply.{Reply}
 use Rattle.desk.specs.Desk.{owner_reply}
 use Rattle.desk.specs.Owner.{IsOwnerReply}
 use Rattle.locked_world.specs.Halls.{desk_of, IsLawful}

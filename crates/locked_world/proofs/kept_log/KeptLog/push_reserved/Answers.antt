@@ -1,7 +1,7 @@
 use Rattle.std.proofs.Common.{◌≡◌, ◌++◌, [], ◌∷◌, ap, sym, ◌∙◌, length, length-append, arith}
 use Rattle.std.specs.Option.{option_or}
 use Rattle.desk.specs.DeskCalls.{exchange}
-use Rattle.desk.specs.Replies.{with_view}
+use Rattle.commands.specs.Replies.{with_view}
 use Rattle.locked_world.specs.KeptLogs.{kept_of, side_by_side}
 use Rattle.locked_world.specs.KeptNames.{name_kept, name_given}
 use Rattle.locked_world.specs.KeptState.{KeptState}

@@ -1,8 +1,8 @@
 use Rattle.std.proofs.Common.{rules, ◌≡◌, ◌≤◌, ◌+◌, ◌++◌, [], ◌∷◌, None, false, true, ap, sym, subst, ◌∙◌, length, arith, length-append, List}
 use mathlib.Core.List.{IsPrefix}
-use Rattle.desk.specs.declared.exchange.Exchange.{Exchange}
+use Rattle.commands.specs.declared.exchange.Exchange.{Exchange}
 use Rattle.desk.specs.DeskCalls.{exchange}
-use Rattle.desk.specs.Replies.{is_refusal, with_view}
+use Rattle.commands.specs.Replies.{is_refusal, with_view}
 use Rattle.locked_world.specs.CallerState.{CallerState, caller_of}
 use Rattle.locked_world.specs.Halls.{hall_refusal}
 use Rattle.locked_world.specs.HallState.{HallState}

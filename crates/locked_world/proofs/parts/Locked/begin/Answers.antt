@@ -1,8 +1,8 @@
 use Rattle.std.proofs.Common.{◌≡◌, false, subst, refl, ap}
-use Rattle.desk.specs.declared.event.Event.TheVariants.{Begin}
-use Rattle.desk.specs.declared.reply.Reply.{Reply}
-use Rattle.desk.specs.declared.reply.Reply.TheVariants.{Ok}
-use Rattle.desk.specs.Replies.{is_refusal, with_view}
+use Rattle.commands.specs.declared.event.Event.TheVariants.{Begin}
+use Rattle.commands.specs.declared.reply.Reply.{Reply}
+use Rattle.commands.specs.declared.reply.Reply.TheVariants.{Ok}
+use Rattle.commands.specs.Replies.{is_refusal, with_view}
 use Rattle.locked_world.specs.CallerState.{CallerState}
 use Rattle.locked_world.specs.Halls.{HallMay}
 use Rattle.locked_world.specs.Kepts.{IsTaken}

@@ -1,5 +1,5 @@
 use Rattle.std.proofs.Common.{refl}
-use Rattle.desk.specs.declared.event.Event.TheVariants as event
+use Rattle.commands.specs.declared.event.Event.TheVariants as event
 use Rattle.record_lines.specs.declared.told.Told.TheVariants as told
 use Rattle.run_checker.specs.Reasons.{Keeps}
 use Rattle.run_checker.proofs.Judging.{for_all, none_due}

@@ -1,6 +1,6 @@
 use Rattle.std.proofs.Common.{◌∙◌, refl, sym, subst, ◌↔◌, ℕ, List, IsTrue}
 use Rattle.std.proofs.lemmas.Bool.{false≢true}
-use Rattle.desk.specs.declared.event.Event.TheVariants as event
+use Rattle.commands.specs.declared.event.Event.TheVariants as event
 use Rattle.record_lines.specs.declared.told.Told.TheVariants as told
 use Rattle.rename_core.specs.RenameObject.{ShowsConflict}
 use Rattle.run_checker.specs.Reasons.{Keeps}

@@ -1,6 +1,6 @@
 use Rattle.std.proofs.Common.{◌∙◌, refl, sym, arith}
 use Rattle.std.proofs.lemmas.Bool.{false≢true}
-use Rattle.desk.specs.declared.event.Event.TheVariants as event
+use Rattle.commands.specs.declared.event.Event.TheVariants as event
 use Rattle.record_lines.specs.declared.told.Told.TheVariants as told
 use Rattle.run_checker.specs.Reasons.{Keeps}
 use Rattle.run_checker.proofs.Judging.{for_all, below_view, none_due}

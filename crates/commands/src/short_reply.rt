@@ -1,12 +1,9 @@
 //! What is answered to an event, without the view.
 
 ghost use Rattle.std.specs.Prelude.{◌≡◌, ℕ, List};
-ghost use Rattle.desk.specs.Replies.{is_refusal, with_view, done_reply, step_reply, probe_reply, left_reply, value_reply};
-ghost use Rattle.rename_core.specs.Reply.{outcome_with};
+ghost use Rattle.commands.specs.Replies.{is_refusal, with_view, done_reply, left_reply, value_reply};
 
 use crate::reply::Reply;
-use bit_allocator::Probe;
-use rename_core::ShortReply as ShortStep;
 use step_memory::{Place, Refusal, View};
 
 /// What is answered to an event in a few bytes: the view that it shows, where it shows one, stands beside it.
@@ -89,34 +86,8 @@ impl ShortReply {
         }
     }
 
-    /// What is answered to a step of renaming, by its outcome.
-    pub(crate) fn of_step(outcome: Result<ShortStep, Refusal>) -> Self
-        ensures { (view : List (ℕ × ℕ)) → with_view result view ≡ step_reply (outcome_with outcome view) }
-    {
-        match outcome {
-            Ok(ShortStep::Quiet) => ShortReply::Quiet,
-            Ok(ShortStep::Placed(place)) => ShortReply::Place(place),
-            Ok(ShortStep::Proposed(number)) => ShortReply::Proposed(number),
-            Ok(ShortStep::Saw) => ShortReply::Saw,
-            Ok(ShortStep::Named(name)) => ShortReply::Named(name),
-            Ok(ShortStep::Spent) => ShortReply::Spent,
-            Err(refusal) => ShortReply::Refused(refusal),
-        }
-    }
-
-    /// What is answered to a probe, by its outcome.
-    pub(crate) fn of_probe(outcome: Result<Probe, Refusal>) -> Self
-        ensures { (view : List (ℕ × ℕ)) → with_view result view ≡ probe_reply outcome }
-    {
-        match outcome {
-            Ok(Probe::Missed) => ShortReply::Missed,
-            Ok(Probe::Got(number)) => ShortReply::Got(number),
-            Err(refusal) => ShortReply::Refused(refusal),
-        }
-    }
-
     /// What is answered to one who leaves, by its outcome.
-    pub(crate) fn of_leave(outcome: Result<u8, Refusal>) -> Self
+    pub fn of_leave(outcome: Result<u8, Refusal>) -> Self
         ensures { (view : List (ℕ × ℕ)) → with_view result view ≡ left_reply outcome }
     {
         match outcome {
@@ -126,7 +97,7 @@ impl ShortReply {
     }
 
     /// What is answered to one who gets a value, by its outcome.
-    pub(crate) fn of_value(outcome: Result<u64, Refusal>) -> Self
+    pub fn of_value(outcome: Result<u64, Refusal>) -> Self
         ensures { (view : List (ℕ × ℕ)) → with_view result view ≡ value_reply outcome }
     {
         match outcome {

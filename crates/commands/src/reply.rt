@@ -1,7 +1,7 @@
 //! What is answered to an event.
 
 ghost use Rattle.std.specs.Prelude.{◌≡◌};
-ghost use Rattle.desk.specs.Replies.{is_refusal, with_view};
+ghost use Rattle.commands.specs.Replies.{is_refusal, with_view};
 
 use crate::short_reply::ShortReply;
 use step_memory::{Place, Refusal, View};

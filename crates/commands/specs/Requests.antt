@@ -1,8 +1,8 @@
 -- what a service is asked for
 use Rattle.std.specs.Prelude.{ℕ}
-use Rattle.desk.specs.declared.event.Event.{Event}
-use Rattle.schedule_player.specs.declared.command.Command.{Command}
-use Rattle.schedule_player.specs.declared.command.Command.TheVariants as command
+use Rattle.commands.specs.declared.event.Event.{Event}
+use Rattle.commands.specs.declared.command.Command.{Command}
+use Rattle.commands.specs.declared.command.Command.TheVariants as command
 
 -- to take an event, or to tell who has a name
 pub data Request : Type 0 where

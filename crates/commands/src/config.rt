@@ -1,0 +1,35 @@
+//! What a run is of.
+
+ghost use Rattle.std.specs.Prelude.{◌≡◌, ◌↔◌, IfOk, IfErr, IsOk};
+ghost use Rattle.commands.specs.Ranges.{IsConfigRange};
+
+use crate::kind::WorldKind;
+use step_memory::Refusal;
+
+/// What a run is of: its world and its sizes, each in its range.
+#[derive(Clone, Copy, Debug, Drop, PartialEq, Eq)]
+pub struct Config {
+    /// The world.
+    pub world: WorldKind,
+    /// The most participants, from 1 to 64 where the world is `Tree`, and to 16 elsewhere.
+    pub m: u64,
+    /// The size of the pool, from 1 to 64.
+    pub k: u64,
+    /// The round limit, from 1 to 1,000,000.
+    pub limit: u64,
+    ghost in_range: { IsConfigRange world m k limit },
+}
+
+impl Config {
+    /// A config of these values; `OutOfRange` where one of them is outside its range.
+    pub fn new(world: WorldKind, m: u64, k: u64, limit: u64) -> Result<Config, Refusal>
+        ensures ok { IfOk result (λ c. (c.world ≡ world) × (c.m ≡ m) × (c.k ≡ k) × (c.limit ≡ limit)) }
+        ensures range { IsOk result ↔ IsConfigRange world m k limit }
+        ensures only { IfErr result (λ r. r ≡ Refusal.OutOfRange) }
+    {
+        if m < 1 || world.most() < m || k < 1 || 64 < k || limit < 1 || 1_000_000 < limit {
+            return Err(Refusal::OutOfRange);
+        }
+        Ok(Config { world, m, k, limit })
+    }
+}

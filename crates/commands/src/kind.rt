@@ -1,0 +1,100 @@
+//! The worlds.
+
+ghost use Rattle.std.specs.Prelude.{◌≡◌, ◌≢◌, ◌≤◌, length, Contains, IfSome, IfNone};
+ghost use Rattle.commands.specs.Config.{is_played_over, is_tree, world_name};
+ghost use Rattle.commands.specs.Ranges.{most_in};
+ghost use Rattle.commands.specs.declared.kind.WorldKind.{WorldKind};
+
+/// The worlds that commands are played in.
+#[derive(Clone, Copy, Debug, Drop, PartialEq, Eq)]
+pub enum WorldKind {
+    /// One splitter, which each participant visits once.
+    Splitter,
+    /// A triangular grid of splitters, in which each participant gets a place.
+    Grid,
+    /// Renaming over the places of a triangular grid.
+    Rename,
+    /// Renaming over the places of a tree of splitters, which grows on demand.
+    Tree,
+}
+
+impl WorldKind {
+    /// All of them.
+    pub fn all() -> [WorldKind; 4]
+        ensures { (kind : WorldKind) → Contains result kind }
+    {
+        [
+            WorldKind::Splitter,
+            WorldKind::Grid,
+            WorldKind::Rename,
+            WorldKind::Tree,
+        ]
+    }
+
+    /// What it is called, in the command line and in records: at most 8 letters.
+    pub fn name(self) -> &'static str
+        ensures text { result.now ≡ world_name self }
+        ensures short { length result.now ≤ 8 }
+    {
+        match self {
+            WorldKind::Splitter => "splitter",
+            WorldKind::Grid => "grid",
+            WorldKind::Rename => "rename",
+            WorldKind::Tree => "tree",
+        }
+    }
+
+    /// The world that is called so, or none where no world is.
+    pub fn named(word: &str) -> Option<WorldKind>
+        ensures some { IfSome result (λ kind. world_name kind ≡ word.now) }
+        ensures none { IfNone result ((kind : WorldKind) → world_name kind ≢ word.now) }
+    {
+        if word == WorldKind::Splitter.name() {
+            Some(WorldKind::Splitter)
+        } else if word == WorldKind::Grid.name() {
+            Some(WorldKind::Grid)
+        } else if word == WorldKind::Rename.name() {
+            Some(WorldKind::Rename)
+        } else if word == WorldKind::Tree.name() {
+            Some(WorldKind::Tree)
+        } else {
+            None
+        }
+    }
+
+    /// Whether its participants get their places in a tree, which grows while it is used.
+    pub fn is_tree(self) -> bool
+        ensures { result ≡ is_tree self }
+    {
+        match self {
+            WorldKind::Splitter => false,
+            WorldKind::Grid => false,
+            WorldKind::Rename => false,
+            WorldKind::Tree => true,
+        }
+    }
+
+    /// As many as may take part: 64 where places are in a tree, 16 elsewhere.
+    pub fn most(self) -> u64
+        ensures { result ≡ most_in self }
+    {
+        match self {
+            WorldKind::Splitter => 16,
+            WorldKind::Grid => 16,
+            WorldKind::Rename => 16,
+            WorldKind::Tree => 64,
+        }
+    }
+
+    /// Whether names are given in this world, over places that serve that one.
+    pub fn is_played_over(self, served: WorldKind) -> bool
+        ensures { result ≡ is_played_over self served }
+    {
+        match self {
+            WorldKind::Splitter => false,
+            WorldKind::Grid => false,
+            WorldKind::Rename => !served.is_tree(),
+            WorldKind::Tree => served.is_tree(),
+        }
+    }
+}
