@@ -349,15 +349,27 @@ fn numbers_are_taken(rt: HostRuntime) -> Result<(), Fail> {
 fn takes_all(rt: &impl Abort, alloc: Global, config: Config) {
     let mut desk = Desk::new(alloc, config).expect(rt, "room for a desk");
     for id in 1..=config.m {
-        assert!(rt; applies(&mut desk, Event::Begin(id), &Reply::Ok), "{config:?}: begin {id}");
+        assert!(rt;
+            applies(&mut desk, Event::Begin(id), &Reply::Ok),
+            "{config:?}: begin {id}"
+        );
     }
     for id in 1..=config.k {
-        assert!(rt; applies(&mut desk, Event::Enter(id), &Reply::Ok), "{config:?}: enter {id}");
+        assert!(rt;
+            applies(&mut desk, Event::Enter(id), &Reply::Ok),
+            "{config:?}: enter {id}"
+        );
     }
     let full = Reply::Refused(Refusal::Full);
-    assert!(rt; applies(&mut desk, Event::Begin(config.m + 1), &full), "{config:?}");
+    assert!(rt;
+        applies(&mut desk, Event::Begin(config.m + 1), &full),
+        "{config:?}"
+    );
     let crowded = Reply::Refused(Refusal::Crowded);
-    assert!(rt; applies(&mut desk, Event::Enter(config.k + 1), &crowded), "{config:?}");
+    assert!(rt;
+        applies(&mut desk, Event::Enter(config.k + 1), &crowded),
+        "{config:?}"
+    );
 }
 
 /// Numbers of participants and sizes of a pool: the ends of each range, and some between them.

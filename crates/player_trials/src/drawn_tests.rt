@@ -35,7 +35,10 @@ fn each_word_gives_a_step(rt: HostRuntime) {
     let text = writer.into_inner();
     assert_eq!(rt; text.len(), 4 * 8 + 40_000 * 7);
     for (line, digit) in text[32..].chunks(7).zip(STEPS) {
-        assert_eq!(rt; line, [b's', b't', b'e', b'p', b' ', digit, b'\n'].as_slice());
+        assert_eq!(rt;
+            line,
+            [b's', b't', b'e', b'p', b' ', digit, b'\n'].as_slice()
+        );
     }
 }
 

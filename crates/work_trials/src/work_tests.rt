@@ -449,7 +449,13 @@ fn faults_of_a_record_have_status_3(rt: HostRuntime) {
         let input = Drip::new(HEADER, 16, read_at);
         let output = Cup::new(rt.alloc(), 7, write_at, false);
         assert!(rt;
-            runs(rt.alloc(), &["slotctl", word], input, output, (3, text, told)),
+            runs(
+                rt.alloc(),
+                &["slotctl", word],
+                input,
+                output,
+                (3, text, told)
+            ),
             "{word} {read_at} {write_at}"
         );
     }
