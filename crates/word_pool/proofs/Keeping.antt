@@ -1,5 +1,5 @@
 -- each step of a pool keeps its rule
-use Rattle.std.proofs.Common.{◌≡◌, ◌≢◌, ℕ, zero, suc, ◌+◌, ◌*◌, ◌<◌, ◌≤◌, eq-eqb, ne_eqb, subst, sym, refl, ap, ◌∙◌, arith, List, [], ◌∷◌, ◌++◌, set, slice_set, slice_index, replicate}
+use Rattle.std.proofs.Common.{◌≡◌, ◌≢◌, ℕ, zero, suc, ◌+◌, ◌*◌, ◌<◌, ◌≤◌, eq-eqb, ne_eqb, subst, sym, refl, ap, ◌∙◌, arith, List, [], ◌∷◌, ◌++◌, drop, set, slice_set, slice_index, replicate}
 use Rattle.std.proofs.lemmas.List.{set-get_or, length-set, get_or-set_same, get_or-set_other, length-replicate}
 use mathlib.Core.Option.{Option, some, none}
 use mathlib.Core.Logic.{dite}
@@ -10,10 +10,10 @@ use Rattle.atomic_table.proofs.Lists.{set_again}
 use Rattle.word_pool.specs.declared.pool_view.Stage.TheVariants.{AtRest, Seeking, Holding}
 use Rattle.word_pool.specs.declared.pool_view.Call.{Call}
 use Rattle.word_pool.specs.declared.pool_view.PoolView.{PoolView}
-use Rattle.word_pool.specs.PoolView.{at_rest, coming, spent, passing, going, looked, swapped, swapped_hint, lone, resting, view_of, no_call, united}
+use Rattle.word_pool.specs.PoolView.{at_rest, coming, spent, passing, going, looked, swapped, swapped_hint, lone, resting, view_of, no_call, united, read_at, call_of, first_of}
 use Rattle.word_pool.specs.Tally.{own, tally, one_if, holding}
 use Rattle.word_pool.specs.PoolRule.{KeepsPool, KeepsPoolRule, IsHolder}
-use Rattle.word_pool.specs.PoolSteps.{Comes, Looks, Takes, LooksAside, TakesAside, Frees, LooksOn, IsUnderRule}
+use Rattle.word_pool.specs.PoolSteps.{Comes, Looks, Takes, LooksAside, TakesAside, Frees, LooksOn, ReadsFirst, ReadsOn, IsWordFor, IsUnderRule}
 use Rattle.word_pool.proofs.Tallies.{tally_set, tally_snoc, tally_has, tally_two, tally_finds, sum_both}
 
 -- what a call holds of each place, by its stage
@@ -87,6 +87,17 @@ module _ (count : ℕ) (words : List ℕ) (views : List PoolView) (kept : KeepsP
   pub one_holder : (p one other : ℕ) → IsHolder views p one → IsHolder views p other → one ≡ other
   one_holder p one other has others = dite (ℕ_discrete one other) (λ e. e)
       (λ ne. let a = kept.lone p in let b = tally_two (holding p) views one other has.view others.view ne has.there others.there in let c = has.holds in let d = others.holds in absurd (omega arith))
+
+-- a last look changes nothing of what its call holds
+read_holding : (q p found : ℕ) (c : Call) → holding q (read_at p found c) ≡ holding q c
+read_holding q p found c = dite (ℕ_discrete found 0) (λ z. let a = eq-eqb found 0 z in rw a refl) (λ z. let a = ne_eqb found 0 z in rw a refl)
+
+pub read_accesses : (p found : ℕ) (c : Call) → (read_at p found c).accesses ≡ suc c.accesses
+read_accesses p found c = dite (ℕ_discrete found 0) (λ z. let a = eq-eqb found 0 z in rw a refl) (λ z. let a = ne_eqb found 0 z in rw a refl)
+
+pub read_own : (q p found : ℕ) (cs past : List Call) → own (holding q) (view_of (read_at p found (first_of cs) ∷ drop 1 cs) past) ≡ own (holding q) (view_of cs past)
+read_own q p found [] past = let a = read_holding q p found at_rest in omega arith
+read_own q p found (c ∷ cs) past = let a = read_holding q p found c in omega arith
 
 -- a load leaves the words as they are
 pub reread : (words : List ℕ) (i : ℕ) → slice_set words i (slice_index words i) ≡ words
@@ -198,6 +209,26 @@ module _ {S : Type 0} (count slots : ℕ) where
     may_look_on u st s h _ e _ =
         let kept : KeepsPool count (slice_set s.words 0 (slice_index s.words 0)) (set s.views seat u) = rw (reread s.words 0, set_again s.views seat u e) h in
         (u, keeps, tt, kept, (refl, record { count = count; words = s.words; views = s.views; kept = h; seat = seat; there = e }))
+
+    -- the last call of a pool looks at a place
+    module _ (p i : ℕ) (u : PoolView) (st : Step S) (at : i ≡ p * 8) (word : st.word ≡ p * 8) (lt : p < count) where
+      is_word : (s : State S PoolView) → KeepsPoolRule count s → get_elem? s.views seat ≡ some u → IsWordFor p u (slice_index s.words i)
+      is_word s h e =
+          let a = h.held p lt in
+          let b = h.lone p in
+          let c = tally_has (holding p) s.views seat u e in
+          let d : slice_index s.words i ≡ slice_index s.words (p * 8) = ap (λ (k : ℕ). slice_index s.words k) at in
+          (omega arith, λ has. omega arith)
+
+      pub may_read_first : Allows {S = S} {V = PoolView} (KeepsPoolRule count) slots seat (u, []) i (λ n. n) (ReadsFirst st (u, []))
+      may_read_first s h _ e _ =
+          let v = view_of (read_at p (slice_index s.words i) at_rest ∷ u.calls) u.past in
+          (v, keeps, tt, rw (reread s.words i) (still_kept count s.words s.views h seat u v e (λ q. let a = read_holding q p (slice_index s.words i) at_rest in omega arith)), (p, word, is_word s h e, refl))
+
+      pub may_read_on : Allows {S = S} {V = PoolView} (KeepsPoolRule count) slots seat (u, []) i (λ n. n) (ReadsOn st (u, []))
+      may_read_on s h _ e _ =
+          let v = view_of (read_at p (slice_index s.words i) (call_of u) ∷ drop 1 u.calls) u.past in
+          (v, keeps, tt, rw (reread s.words i) (still_kept count s.words s.views h seat u v e (λ q. read_own q p (slice_index s.words i) u.calls u.past)), (p, word, is_word s h e, refl))
 
     -- another seat's calls come to this one
     pub may_unite : (other : ℕ) (u w : PoolView) → Joins {S = S} {V = PoolView} (KeepsPoolRule count) seat u other w (united u w) no_call

@@ -1,10 +1,11 @@
 -- what each kind of step tells the seat that makes it. Each is one access, and its call counts it.
-use Rattle.std.specs.Prelude.{◌≡◌, ℕ, List, ◌∷◌}
+use Rattle.std.specs.Prelude.{◌≡◌, ◌≤◌, ℕ, List, ◌∷◌, drop}
 use mathlib.Core.Option.{some}
 use lib.ListN.{get_elem?}
 use Rattle.atomic_table.specs.Table.{Me, Step}
 use Rattle.word_pool.specs.declared.pool_view.PoolView.{PoolView}
-use Rattle.word_pool.specs.PoolView.{at_rest, lone, call_of, coming, spent, looked, swapped, swapped_hint, going}
+use Rattle.word_pool.specs.PoolView.{at_rest, lone, call_of, coming, spent, looked, swapped, swapped_hint, going, read_at, view_of}
+use Rattle.word_pool.specs.Tally.{own, holding}
 use Rattle.word_pool.specs.PoolRule.{KeepsPool, word_of}
 
 -- a call comes, by a look at the first place
@@ -46,3 +47,19 @@ pub record IsUnderRule (v : PoolView) : Type 0 where
 -- a load that changes nothing, and shows what the seat holds under the rule
 abbrev pub LooksOn : {S : Type 0} → Step S → Me S PoolView → ℕ → Me S PoolView → Type 0
 LooksOn s before found after = (after ≡ before) × IsUnderRule after.0
+
+-- a word is 0 or 1, and 1 where the seat that looks holds its place
+abbrev pub IsWordFor : ℕ → PoolView → ℕ → Type 0
+IsWordFor place v found = (found ≤ 1) × (1 ≤ own (holding place) v → found ≡ 1)
+
+-- the pool ends: one call more begins, in front of those of the seat, by a look at a place
+abbrev pub ReadsFirst : {S : Type 0} → Step S → Me S PoolView → ℕ → Me S PoolView → Type 0
+ReadsFirst s before found after =
+    (place : ℕ) × (s.word ≡ word_of place) × IsWordFor place before.0 found ×
+    (after ≡ (view_of (read_at place found at_rest ∷ before.0.calls) before.0.past, before.1))
+
+-- and it looks at one place more
+abbrev pub ReadsOn : {S : Type 0} → Step S → Me S PoolView → ℕ → Me S PoolView → Type 0
+ReadsOn s before found after =
+    (place : ℕ) × (s.word ≡ word_of place) × IsWordFor place before.0 found ×
+    (after ≡ (view_of (read_at place found (call_of before.0) ∷ drop 1 before.0.calls) before.0.past, before.1))

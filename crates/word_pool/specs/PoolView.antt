@@ -90,6 +90,25 @@ swapped moment crowds found c = if found == 0 then taking moment crowds c else p
 abbrev pub swapped_hint : ℕ → ℕ → ℕ → Call → Call
 swapped_hint place moment found c = if found == 0 then taking_hint place moment c else spent c
 
+-- one access more, which met this place held
+abbrev pub meeting : ℕ → Call → Call
+meeting place c =
+    record {
+      stage = c.stage;
+      place = c.place;
+      met = place ∷ c.met;
+      accesses = suc c.accesses;
+      hinted = c.hinted;
+      came = c.came;
+      took = c.took;
+      went = c.went;
+      crowds = c.crowds;
+    }
+
+-- a look at this place, when the pool ends, found this
+abbrev pub read_at : ℕ → ℕ → Call → Call
+read_at place found c = if found == 0 then spent c else meeting place c
+
 abbrev pub view_of : List Call → List Call → PoolView
 view_of calls past = record { calls = calls; past = past }
 

@@ -1,5 +1,5 @@
 -- pools and what is held of them, as callers see them
-use Rattle.std.specs.Prelude.{◌≡◌, ◌<◌, ◌≤◌, ◌-◌, ℕ, suc, List, [], ◌∷◌, drop}
+use Rattle.std.specs.Prelude.{◌≡◌, ◌<◌, ◌≤◌, ◌-◌, ◌==◌, ℕ, zero, suc, List, [], ◌∷◌, drop, slice_index, if◌then◌else◌}
 use Rattle.atomic_table.specs.Seated.{TableId}
 use Rattle.word_pool.specs.declared.pool_view.Stage.TheVariants.{Holding}
 use Rattle.word_pool.specs.declared.pool_view.Call.{Call}
@@ -48,6 +48,15 @@ ticket_id pool seat past = record { pool = pool; seat = seat; past = past }
 -- a call met each number of the pool held, one after another, from 1 on
 abbrev pub HasMetAllHeld : PoolId → CallId → Type 0
 HasMetAllHeld p a = (a.pool ≡ p.table) × (a.call.met ≡ first_places p.numbers)
+
+-- the places below this whose words are not 0, the greatest first
+abbrev pub set_places : List ℕ → ℕ → List ℕ
+set_places words zero = []
+set_places words (suc n) = if slice_index words n == 0 then set_places words n else n ∷ set_places words n
+
+-- a call looked at each number of the pool once, and those that it met held are those whose words are not 0
+abbrev pub HasLookedAtAll : PoolId → List ℕ → CallId → Type 0
+HasLookedAtAll p words l = (l.pool ≡ p.table) × (l.call.met ≡ set_places words p.numbers) × (l.call.accesses ≡ p.numbers)
 
 -- a table that has a word for each of so many numbers, and no slots, and knows how many they are
 abbrev pub IsTableOf : ℕ → TableId → ℕ → Type 0

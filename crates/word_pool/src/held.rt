@@ -1,4 +1,5 @@
-//! What a call of a pool gives: a number that is held, word that all were held, and a receipt for a number given back.
+//! What a call of a pool gives: a number that is held, word that all were held, a receipt for a number given back, and what
+//! was held at the end.
 
 ghost use Rattle.std.specs.Prelude.{◌≡◌, ◌≤◌, ◌<◌, suc, [], ◌∷◌};
 ghost use Rattle.word_pool.specs.PoolRule.{word_of};
@@ -62,6 +63,20 @@ impl Model for AllHeld {
     ghost Value = { CallId };
 
     ghost view = { λ a. call_id a.badge.table_id a.badge.id 0 a.badge.views };
+}
+
+/// What a pool's last call met as it looked at each number once, when the pool ended. It has no bytes.
+#[derive(Drop)]
+pub struct LastLook {
+    pub(crate) badge: Badge<PoolView>,
+}
+
+impl Model for LastLook {
+    ghost use Rattle.word_pool.specs.Pools.{CallId, call_id};
+
+    ghost Value = { CallId };
+
+    ghost view = { λ l. call_id l.badge.table_id l.badge.id 0 l.badge.views };
 }
 
 /// That a number was given back. It has no bytes.

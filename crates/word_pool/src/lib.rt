@@ -11,7 +11,8 @@
 //! - `LinePool::acquire` always gives a number: there are as many tickets as numbers.
 //! - In a line the number is at most the most calls that competed, held or sought, at one moment of the call: `Held` carries
 //!   what its seat saw of that (`law_of_the_line`). In a pool of words this is not so where hints are used, and not proved.
-//! - `release` makes one access. `close` tells the words; a line's says that no more are held than tickets are dealt out.
+//! - `release` makes one access. `close` tells the words: of a pool of words each is 1 exactly where a last call met its number
+//!   held (`LastLook`); of a line no more are held than tickets are dealt out.
 //!
 //! What is not promised: that a thread gets on with its accesses; and that a number that was dropped comes back.
 //!
@@ -39,7 +40,7 @@ pub mod pool_view;
 pub mod ticket;
 pub mod word_pool;
 
-pub use held::{AllHeld, Held, Released};
+pub use held::{AllHeld, Held, LastLook, Released};
 pub use laws::{law_of_the_line, law_of_the_pool};
 pub use line_pool::LinePool;
 pub use ticket::{Ticket, Tickets};

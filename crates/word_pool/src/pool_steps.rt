@@ -2,7 +2,7 @@
 
 ghost use Rattle.std.specs.Prelude.{take, drop, []};
 ghost use Rattle.word_pool.specs.PoolRule.{KeepsPoolRule};
-ghost use Rattle.word_pool.specs.PoolSteps.{Comes, Looks, Takes, LooksAside, TakesAside, Frees, LooksOn};
+ghost use Rattle.word_pool.specs.PoolSteps.{Comes, Looks, Takes, LooksAside, TakesAside, Frees, LooksOn, ReadsFirst, ReadsOn};
 ghost use Rattle.word_pool.specs.PoolView.{resting, view_of, no_call, united};
 
 use crate::pool_view::PoolView;
@@ -64,6 +64,20 @@ pub struct LookOn;
 
 impl<S> Play<S, PoolView> for LookOn {
     ghost then = { LooksOn };
+}
+
+/// The last call of a pool begins, by a look at a place.
+pub struct ReadFirst;
+
+impl<S> Play<S, PoolView> for ReadFirst {
+    ghost then = { ReadsFirst };
+}
+
+/// The last call of a pool looks at one place more.
+pub struct ReadOn;
+
+impl<S> Play<S, PoolView> for ReadOn {
+    ghost then = { ReadsOn };
 }
 
 /// Two seats become one, which has the calls of both. The other is spent.

@@ -7,11 +7,12 @@ ghost use Rattle.word_pool.specs.Tally.{own, holding};
 ghost use Rattle.std.specs.Mem.Slots.{slots_items, slots_len, IsFull};
 ghost use Rattle.word_pool.specs.PoolRule.{word_of};
 ghost use Rattle.word_pool.specs.PoolView.{call_of, first_places, lone, IsSeeking, IsHolding, IsResting, HasLooked};
-ghost use Rattle.word_pool.specs.Pools.{CallId, HasMetAllHeld, HasNumberOf, IsHeldAt, IsStill};
+ghost use Rattle.word_pool.specs.PoolSteps.{IsWordFor};
+ghost use Rattle.word_pool.specs.Pools.{CallId, HasLookedAtAll, HasMetAllHeld, HasNumberOf, set_places, IsHeldAt, IsStill};
 
-use crate::held::{AllHeld, Held, Released};
+use crate::held::{AllHeld, Held, LastLook, Released};
 use crate::pool_steps::{
-    Come, Free, Look, LookAside, LookOn, Pooling, Sever, Take, TakeAside, Unite,
+    Come, Free, Look, LookAside, LookOn, Pooling, ReadFirst, ReadOn, Sever, Take, TakeAside, Unite,
 };
 use crate::pool_view::PoolView;
 use atomic_table::{Badge, Closed, Seat, Table};
@@ -250,27 +251,53 @@ impl<A: Allocator> WordPool<A> {
     }
 
     /// Ends the pool, and tells its words by rising number: 1 where the number is still held, else 0. `out` is what was not
-    /// given back, as far as the caller has it; all of it is of this pool.
+    /// given back, as far as the caller has it; all of it is of this pool. The words are what a last call found, which looked
+    /// at each once: `LastLook` keeps which it met held, so that no word is 1 but those. Who holds them, `law_of_the_pool`
+    /// says.
     pub fn close<B: Allocator, C: Allocator>(
         self,
         alloc: B,
         out: Vec<Held, C>,
-    ) -> Result<Vec<u64, B>, AllocError>
+    ) -> Result<(Vec<u64, B>, LastLook), AllocError>
         requires ours { (i : ℕ) (h : CallId) → get_elem? out.items i ≡ some h → h.pool ≡ self.table }
-        ensures count { IfOk result (λ v. vec_len v ≡ self.numbers) }
-        ensures bits { IfOk result (λ v. (place : ℕ) → place < self.numbers → slice_index v.items place ≤ 1) }
-        ensures out { IfOk result (λ v. (i : ℕ) (h : CallId) → get_elem? out.items i ≡ some h → slice_index v.items (h.number - 1) ≡ 1) }
+        ensures count { IfOk result (λ r. vec_len r.0 ≡ self.numbers) }
+        ensures bits { IfOk result (λ r. (place : ℕ) → place < self.numbers → slice_index r.0.items place ≤ 1) }
+        ensures out { IfOk result (λ r. (i : ℕ) (h : CallId) → get_elem? out.items i ≡ some h → slice_index r.0.items (h.number - 1) ≡ 1) }
+        ensures no_others { IfOk result (λ r. HasLookedAtAll self r.0.items r.1) }
     {
         let (_, mut seat) = self.table.shared.load_new_seat::<LookAside>(0);
         self.gather_all(&mut seat, out);
-        let WordPool { numbers, table } = self;
-        let closed = table.close_with(seat);
-        let words = read_out(alloc, &closed, numbers as usize);
-        closed.free();
-        match words {
-            Ok(words) => Ok(words),
-            Err(AllocError) => Err(AllocError),
+        let words = self.look_at_all(alloc, &mut seat)?;
+        let badge = seat.into_badge();
+        Ok((words, LastLook { badge }))
+    }
+
+    /// The words, by a new call of the seat, which looks at each once.
+    fn look_at_all<B: Allocator>(
+        &self,
+        alloc: B,
+        seat: &mut Seat<u8, PoolView>,
+    ) -> Result<Vec<u64, B>, AllocError>
+        requires ours { (seat.old.table_id ≡ self.now.table) × (seat.old.me.1 ≡ []) }
+        requires some { 0 < self.now.numbers }
+        ensures ours { (seat.new.table_id ≡ self.now.table) × (seat.new.me.1 ≡ []) }
+        ensures count { IfOk result (λ v. vec_len v ≡ self.now.numbers) }
+        ensures words { IfOk result (λ v. (place : ℕ) → place < self.now.numbers → IsWordFor place seat.old.me.0 (slice_index v.items place)) }
+        ensures met { IfOk result (λ v. (call_of seat.new.me.0).met ≡ set_places v.items self.now.numbers) }
+        ensures accesses { IsOk result → (call_of seat.new.me.0).accesses ≡ self.now.numbers }
+    {
+        let numbers = self.numbers;
+        let mut words = Vec::with_capacity(alloc, numbers as usize)?;
+        let first = self.table.shared.load::<ReadFirst>(seat, 0);
+        words.push_reserved(first);
+        for place in 1..numbers {
+            let found = self
+                .table
+                .shared
+                .load::<ReadOn>(seat, (place * STRIDE) as usize);
+            words.push_reserved(found);
         }
+        Ok(words)
     }
 
     /// A seat takes over what some numbers are held by.

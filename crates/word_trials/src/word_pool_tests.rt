@@ -29,7 +29,7 @@ fn each_number_is_given_in_turn(rt: HostRuntime) -> Result<(), Fail> {
             assert_eq!(rt; got, Some(due));
         }
         assert!(rt; pool.acquire().is_err(), "one number too many");
-        let words = pool.close(rt.alloc(), Vec::new(rt.alloc()))?;
+        let (words, _) = pool.close(rt.alloc(), Vec::new(rt.alloc()))?;
         assert_eq!(rt; words.len(), numbers as usize);
         assert!(rt; words.iter().all(|word| *word == 1), "all are out");
     }
@@ -53,7 +53,7 @@ fn the_least_free_is_given(rt: HostRuntime) -> Result<(), Fail> {
     pool.release(again);
     let mut out = Vec::new(rt.alloc());
     out.push(three)?;
-    let words = pool.close(rt.alloc(), out)?;
+    let (words, _) = pool.close(rt.alloc(), out)?;
     assert!(rt; words.as_slice() == [0, 0, 1].as_slice(), "3 is out");
     Ok(())
 }
@@ -86,7 +86,8 @@ fn give_back<R: Threads + Sync>(rt: &R, alloc: Global) -> Option<Vec<u64, Global
     pool.meet(&mut one, &mut other);
     pool.release(one);
     pool.release(other);
-    pool.close(alloc, Vec::new(alloc)).ok()
+    let (words, _) = pool.close(alloc, Vec::new(alloc)).ok()?;
+    Some(words)
 }
 
 #[test]
@@ -138,7 +139,7 @@ fn stay_at_once<R: Threads + Sync>(
     }
     let (shared, seen) = (&pool, marks.as_slice());
     let clashes = thread::map_indices(rt, alloc, threads, &|_| clashes(shared, seen, near)).ok()?;
-    let words = pool.close(alloc, Vec::new(alloc)).ok()?;
+    let (words, _) = pool.close(alloc, Vec::new(alloc)).ok()?;
     Some((clashes, words))
 }
 
