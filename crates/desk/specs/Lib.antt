@@ -10,4 +10,5 @@ pub mod NamedAlone
 pub mod Owner
 pub mod Desk
 pub mod DeskParts
+pub mod Coming
 pub mod Laws

@@ -3,10 +3,12 @@
 ghost use Rattle.std.specs.Prelude.{◌≡◌, ◌⊎◌, ◌↔◌, IfOk, IfErr, Err, false};
 ghost use Rattle.commands.specs.Config.{gives_names};
 ghost use Rattle.desk.specs.Desk.{desk_rules, desk_refusal, owner_reply, IsFreshDesk};
+ghost use Rattle.desk.specs.Coming.{coming_of};
 ghost use Rattle.desk.specs.Laws.{TellsOwners, RefusesAsSaid};
 ghost use Rattle.commands.specs.Replies.{with_view};
 ghost use Rattle.desk.specs.Rules.{may_by};
 
+use crate::coming::{Coming, coming_in_grid, coming_in_tree};
 use crate::over::DeskOver;
 use commands::{Config, Event, Reply, ShortReply};
 use snapshot_places::{Grid, TreePlaces};
@@ -90,6 +92,23 @@ impl<A: Allocator + Clone> Desk<A> {
         match &self.parts {
             Parts::Grid(desk) => desk.refusal(event),
             Parts::Tree(desk) => desk.refusal(event),
+        }
+    }
+
+    /// The access that a participant makes next, whatever its event: `None` where the identity has not begun. It changes
+    /// nothing.
+    pub fn coming(&self, id: u64) -> Option<Coming>
+        ensures { result ≡ coming_of self.now id }
+    {
+        match &self.parts {
+            Parts::Grid(desk) => match desk.next_access(id) {
+                Some(access) => Some(coming_in_grid(access)),
+                None => None,
+            },
+            Parts::Tree(desk) => match desk.next_access(id) {
+                Some(access) => Some(coming_in_tree(access)),
+                None => None,
+            },
         }
     }
 

@@ -33,11 +33,13 @@
 //! ```
 #![tactic(auto)]
 
+pub mod coming;
 pub mod desk;
 pub mod laws;
 mod outcomes;
 mod over;
 
+pub use coming::{Coming, Register};
 pub use commands::{Event, Exchange, Reply, ShortReply};
 pub use desk::Desk;
 pub use laws::{law_of_desk, law_of_names};

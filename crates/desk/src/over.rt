@@ -3,6 +3,7 @@
 ghost use Rattle.std.specs.Prelude.{◌≡◌, ◌⊎◌, ◌↔◌, IfOk, IfErr, Err, false};
 ghost use Rattle.desk.specs.Desk.{owner_over};
 ghost use Rattle.desk.specs.DeskRules.{fresh_over, rules_over, refusal_over};
+ghost use Rattle.desk.specs.Coming.{next_over};
 ghost use Rattle.commands.specs.Replies.{with_view};
 ghost use Rattle.desk.specs.Rules.{may_by};
 ghost use Rattle.commands.specs.Config.{is_played_over};
@@ -15,7 +16,7 @@ use slot_array::Slots;
 use snapshot_core::{Known, Places};
 use std::alloc::Allocator;
 use std::marker::Model;
-use step_memory::{Refusal, View};
+use step_memory::{Access, Refusal, StepProgram, View};
 
 /// A renaming world over these places, and slots over a pool.
 #[derive(Drop)]
@@ -93,6 +94,16 @@ where
             Event::Put(id, _) => self.slots.pool().number_of(id).err(),
             Event::Get(id) => self.slots.pool().number_of(id).err(),
             Event::Widen(size) => self.slots.pool().widen_refusal(size),
+        }
+    }
+
+    /// The access that a participant makes next; `None` where the identity has not begun.
+    pub(crate) fn next_access(&self, id: u64) -> Option<Access<W::Reg, W::Value>>
+        ensures { result ≡ next_over ⟦<W as Known>⟧.places self.now id }
+    {
+        match self.names.snap().client(id) {
+            Some(client) => Some(client.next()),
+            None => None,
         }
     }
 

@@ -2,29 +2,10 @@
 use Rattle.std.proofs.Common.{◌≡◌, ℕ, Bool, List, ◌++◌, Result, Ok, Err, OnOk, codes, decimal, refl, sym, ap, ◌∙◌}
 use Rattle.commands.specs.declared.reply.Reply.{Reply}
 use Rattle.commands.specs.declared.reply.Reply.TheVariants as reply
-use Rattle.schedule_player.specs.Replies.{owner_words, pair_words, reply_words}
+use Rattle.schedule_player.specs.Replies.{reply_words}
 use Rattle.record_lines.specs.declared.told.Told.{Told}
-use Rattle.record_lines.specs.declared.told.Told.TheVariants.{Ok as Accepted, Quiet, Stop, Right, Down, Place, Proposed, Saw, Named, Spent, Missed, Got, Left, Value, Owner, Refused}
 use Rattle.record_lines.specs.Lines.{told_of}
-
--- the words of each reply of which this is told
-abbrev told_words : Told → List ℕ
-told_words Accepted = codes "ok"
-told_words Quiet = codes "quiet"
-told_words Stop = codes "stop"
-told_words Right = codes "right"
-told_words Down = codes "down"
-told_words (Place place) = codes "place " ++ decimal place
-told_words (Proposed number) = codes "proposed " ++ decimal number
-told_words (Saw view) = codes "saw" ++ pair_words view
-told_words (Named name shown) = codes "named " ++ decimal name
-told_words Spent = codes "spent"
-told_words Missed = codes "missed"
-told_words (Got number) = codes "got " ++ decimal number
-told_words (Left number) = codes "left " ++ decimal number
-told_words (Value value) = codes "value " ++ decimal value
-told_words (Owner owner) = owner_words owner
-told_words (Refused number) = codes "refused " ++ decimal number
+use Rattle.record_lines.specs.ToldWords.{told_words}
 
 same_words : (shows : Bool) (r : Reply) → reply_words r ≡ told_words (told_of shows r)
 same_words shows reply.Ok = refl

@@ -1,4 +1,5 @@
 pub mod Told
+pub mod ToldWords
 pub mod ReplyText
 pub mod Json
 pub mod RecordLine

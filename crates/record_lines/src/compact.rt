@@ -8,6 +8,7 @@ ghost use Rattle.commands.specs.Config.{world_name};
 ghost use Rattle.schedule_player.specs.Records.{exchange_line, header_line, name_view};
 ghost use Rattle.schedule_player.specs.Replies.{owner_words, pair_words, reply_words, view_words};
 ghost use Rattle.record_lines.specs.Lines.{IsLineOf, IsShown, told_of};
+ghost use Rattle.record_lines.specs.ToldWords.{told_words};
 
 use crate::line::Line;
 use crate::text::Text;
@@ -17,8 +18,8 @@ use itoa::Buffer;
 use std::alloc::AllocError;
 use step_memory::Place;
 
-/// Appends the words of the line that asks for an event.
-fn put_event(event: Event, out: &mut Text) -> Result<(), AllocError>
+/// Appends the words of the line that asks for an event. An error where a growth was refused.
+pub fn put_event(event: Event, out: &mut Text) -> Result<(), AllocError>
     ensures { OnOk result (out.new ≡ out.old ++ event_words event) }
 {
     match event {
@@ -57,8 +58,8 @@ fn put_pairs(pairs: &[(u64, u64)], out: &mut Text) -> Result<(), AllocError>
     Ok(())
 }
 
-/// Appends the words of what a view shows.
-fn put_view(pairs: &[(u64, u64)], out: &mut Text) -> Result<(), AllocError>
+/// Appends the words of what a view shows. An error where a growth was refused.
+pub fn put_view(pairs: &[(u64, u64)], out: &mut Text) -> Result<(), AllocError>
     ensures { OnOk result (out.new ≡ out.old ++ (codes "saw" ++ pair_words pairs.now)) }
 {
     out.put(b"saw")?;
@@ -76,10 +77,11 @@ fn put_owner(owner: Option<u64>, out: &mut Text) -> Result<(), AllocError>
     }
 }
 
-/// Appends the words of each reply of which this is told.
+/// Appends the words of what is told: those of each reply of which it is told. An error where a growth was refused.
 #[tactic(auto, using(crate::proofs::ToldWords::spelled))]
-fn put_told(told: &Told, out: &mut Text) -> Result<(), AllocError>
-    ensures { OnOk result ((shows : Bool) (r : Reply) → told_of shows r ≡ told.now → out.new ≡ out.old ++ reply_words r) }
+pub fn put_told(told: &Told, out: &mut Text) -> Result<(), AllocError>
+    ensures words { OnOk result (out.new ≡ out.old ++ told_words told.now) }
+    ensures spelled { OnOk result ((shows : Bool) (r : Reply) → told_of shows r ≡ told.now → out.new ≡ out.old ++ reply_words r) }
 {
     match told {
         Told::Ok => out.put(b"ok"),

@@ -205,6 +205,13 @@ where
         self.take_step(id, view)
     }
 
+    /// The snapshot object, for what watches from outside.
+    pub fn snap(&self) -> &SnapWorld<W, A>
+        ensures { result.now ≡ self.now.snap }
+    {
+        &self.snap
+    }
+
     /// The most participants, of whom a view has room for.
     pub fn most(&self) -> u64
         ensures value { result ≡ self.now.snap.most }

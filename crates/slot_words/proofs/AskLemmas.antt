@@ -9,14 +9,15 @@ use Rattle.clap.specs.declared.error.kind.ErrorKind.{ErrorKind}
 use Rattle.clap.specs.declared.error.kind.ErrorKind.TheVariants.{OutOfMemory}
 use Rattle.clap.proofs.OnLiterals.{clap_on_literals}
 use Rattle.slot_words.specs.declared.asked.Ask.{Ask}
-use Rattle.slot_words.specs.declared.asked.Ask.TheVariants.{Play, Check, Migrate, Draw, Serve}
+use Rattle.slot_words.specs.declared.asked.Ask.TheVariants.{Play, Check, Migrate, Show, Draw, Serve}
 use Rattle.slot_words.specs.declared.asked.Drawing.{Drawing}
 use Rattle.slot_words.specs.declared.asked.Playing.{Playing}
 use Rattle.slot_words.specs.declared.asked.Serving.{Serving}
+use Rattle.slot_words.specs.declared.asked.Showing.{Showing}
 use Rattle.slot_words.specs.declared.misuse.Misuse.{Misuse}
 use Rattle.slot_words.specs.declared.misuse.Misuse.TheVariants.{Help, Words, Memory}
 use Rattle.slot_words.specs.CommandLine.{slotctl_app}
-use Rattle.slot_words.specs.Asked.{AsksFor, IsAsked, IsDrawingOf, IsPlayingOf, IsMisuse, IsMisuseOf, IsRefusal, IsServingOf, is_help, is_refusal}
+use Rattle.slot_words.specs.Asked.{AsksFor, IsAsked, IsDrawingOf, IsPlayingOf, IsMisuse, IsMisuseOf, IsRefusal, IsServingOf, IsShowingOf, is_help, is_refusal}
 
 pub app_is_simple : is_simple slotctl_app ≡ true
 unfolding clap_on_literals
@@ -81,6 +82,21 @@ migrate_is_not_draw same = let first : 109 ≡ 100 = ap (λ l. get_or l 0 0) sam
 serve_is_not_migrate : codes "serve" ≡ codes "migrate" → ⊥
 serve_is_not_migrate same = let first : 115 ≡ 109 = ap (λ l. get_or l 0 0) same in omega (arith, first)
 
+show_is_not_play : codes "show" ≡ codes "play" → ⊥
+show_is_not_play same = let first : 115 ≡ 112 = ap (λ l. get_or l 0 0) same in omega (arith, first)
+
+show_is_not_check : codes "show" ≡ codes "check" → ⊥
+show_is_not_check same = let first : 115 ≡ 99 = ap (λ l. get_or l 0 0) same in omega (arith, first)
+
+show_is_not_migrate : codes "show" ≡ codes "migrate" → ⊥
+show_is_not_migrate same = let first : 115 ≡ 109 = ap (λ l. get_or l 0 0) same in omega (arith, first)
+
+show_is_not_draw : codes "show" ≡ codes "draw" → ⊥
+show_is_not_draw same = let first : 115 ≡ 100 = ap (λ l. get_or l 0 0) same in omega (arith, first)
+
+serve_is_not_show : codes "serve" ≡ codes "show" → ⊥
+serve_is_not_show same = let second : 101 ≡ 104 = ap (λ l. get_or l 1 0) same in omega (arith, second)
+
 -- a subcommand that was met with these rows is the one that was met
 met_name : (met : Option (List ℕ × List Row)) (a b : List ℕ) (rows others : List Row) → met ≡ Some (a, rows) → met ≡ Some (b, others) → a ≡ b
 met_name met a b rows others is that = ap (λ (p : List ℕ × List Row). p.0) (same_Some (a, rows) (b, others) (sym is ∙ that))
@@ -93,6 +109,7 @@ pub nothing_played : (met : Option (List ℕ × List Row)) (rows : List Row) →
 nothing_played met rows is none (Play p) h = none p (subst (λ (r : List Row). IsPlayingOf r p) (sym (met_rows met (codes "play") (codes "play") rows h.0 is h.1)) h.2)
 nothing_played met rows is none Check h = check_is_not_play (sym (met_name met (codes "play") (codes "check") rows h.0 is h.1))
 nothing_played met rows is none Migrate h = migrate_is_not_play (sym (met_name met (codes "play") (codes "migrate") rows h.0 is h.1))
+nothing_played met rows is none (Show s) h = show_is_not_play (sym (met_name met (codes "play") (codes "show") rows h.0 is h.1))
 nothing_played met rows is none (Draw d) h = other_name (sym (met_name met (codes "play") (codes "draw") rows h.0 is h.1))
 nothing_played met rows is none (Serve s) h = serve_is_not_play (sym (met_name met (codes "play") (codes "serve") rows h.0 is h.1))
 
@@ -101,6 +118,7 @@ pub nothing_drawn : (met : Option (List ℕ × List Row)) (rows : List Row) → 
 nothing_drawn met rows is none (Play playing) h = other_name (met_name met (codes "draw") (codes "play") rows h.0 is h.1)
 nothing_drawn met rows is none Check h = check_is_not_draw (sym (met_name met (codes "draw") (codes "check") rows h.0 is h.1))
 nothing_drawn met rows is none Migrate h = migrate_is_not_draw (sym (met_name met (codes "draw") (codes "migrate") rows h.0 is h.1))
+nothing_drawn met rows is none (Show s) h = show_is_not_draw (sym (met_name met (codes "draw") (codes "show") rows h.0 is h.1))
 nothing_drawn met rows is none (Draw d) h = none d (subst (λ (r : List Row). IsDrawingOf r d) (sym (met_rows met (codes "draw") (codes "draw") rows h.0 is h.1)) h.2)
 nothing_drawn met rows is none (Serve s) h = serve_is_not_draw (sym (met_name met (codes "draw") (codes "serve") rows h.0 is h.1))
 
@@ -109,5 +127,15 @@ pub nothing_served : (met : Option (List ℕ × List Row)) (rows : List Row) →
 nothing_served met rows is none (Play playing) h = serve_is_not_play (met_name met (codes "serve") (codes "play") rows h.0 is h.1)
 nothing_served met rows is none Check h = serve_is_not_check (met_name met (codes "serve") (codes "check") rows h.0 is h.1)
 nothing_served met rows is none Migrate h = serve_is_not_migrate (met_name met (codes "serve") (codes "migrate") rows h.0 is h.1)
+nothing_served met rows is none (Show s) h = serve_is_not_show (met_name met (codes "serve") (codes "show") rows h.0 is h.1)
 nothing_served met rows is none (Draw d) h = serve_is_not_draw (met_name met (codes "serve") (codes "draw") rows h.0 is h.1)
 nothing_served met rows is none (Serve s) h = none s (subst (λ (r : List Row). IsServingOf r s) (sym (met_rows met (codes "serve") (codes "serve") rows h.0 is h.1)) h.2)
+
+-- where `show` was met and gives nothing, nothing is asked for
+pub nothing_shown : (met : Option (List ℕ × List Row)) (rows : List Row) → met ≡ Some (codes "show", rows) → ((s : Showing) → IsShowingOf rows s → ⊥) → (a : Ask) → IsAsked met a → ⊥
+nothing_shown met rows is none (Play playing) h = show_is_not_play (met_name met (codes "show") (codes "play") rows h.0 is h.1)
+nothing_shown met rows is none Check h = show_is_not_check (met_name met (codes "show") (codes "check") rows h.0 is h.1)
+nothing_shown met rows is none Migrate h = show_is_not_migrate (met_name met (codes "show") (codes "migrate") rows h.0 is h.1)
+nothing_shown met rows is none (Show s) h = none s (subst (λ (r : List Row). IsShowingOf r s) (sym (met_rows met (codes "show") (codes "show") rows h.0 is h.1)) h.2)
+nothing_shown met rows is none (Draw d) h = show_is_not_draw (met_name met (codes "show") (codes "draw") rows h.0 is h.1)
+nothing_shown met rows is none (Serve s) h = serve_is_not_show (sym (met_name met (codes "show") (codes "serve") rows h.0 is h.1))

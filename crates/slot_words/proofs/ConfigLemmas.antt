@@ -11,12 +11,13 @@ use Rattle.rename_core.proofs.MostIn.{few_take_part}
 use Rattle.step_memory.specs.declared.refusal.Refusal.{Refusal}
 use Rattle.commands.specs.declared.config.Config.{Config}
 use Rattle.commands.specs.declared.kind.WorldKind.{WorldKind}
-use Rattle.slot_words.specs.Asked.{HasNumber, HasWorld, IsConfigOf, IsDrawingOf, IsPlayingOf, IsServingOf, asks_record}
+use Rattle.slot_words.specs.Asked.{HasNumber, HasWorld, IsConfigOf, IsDrawingOf, IsPlayingOf, IsServingOf, IsShowingOf, asks_record}
 use Rattle.slot_words.proofs.WorldNames.{named_apart}
-use Rattle.slot_words.specs.Ranges.{CanBeWritten, IsDrawingRange, IsServingRange}
+use Rattle.slot_words.specs.Ranges.{CanBeWritten, IsDrawingRange, IsServingRange, IsShowingRange}
 use Rattle.slot_words.specs.declared.asked.Drawing.{Drawing}
 use Rattle.slot_words.specs.declared.asked.Playing.{Playing}
 use Rattle.slot_words.specs.declared.asked.Serving.{Serving}
+use Rattle.slot_words.specs.declared.asked.Showing.{Showing}
 
 pub unless_some : {T : Type 0} (o : Option T) (P : Type 0) (Q : T → Type 0) → o ≡ None → P → MatchOption o P Q
 unless_some o P Q e p = subst (λ w. MatchOption w P Q) (sym e) p
@@ -172,4 +173,18 @@ served rows c port workers count None config has_port has_workers has_count valu
     let same_kind : s.config.world ≡ c.world = same_world rows s.config.world c.world h.config.world config.world in
     let fits = s.in_range in
     let bad : false ≡ true = range.1 (rw (same_port, same_workers, same_count, same_kind) at fits) in
+    cc
+
+-- what is made of the matched numbers is the showing, where there is one
+pub shown : (rows : List Row) (from count : ℕ) (o : Option Showing) → HasNumber rows (codes "from") from → HasNumber rows (codes "count") count
+    → IfSome o (λ s. (s.from ≡ from) × (s.count ≡ count)) → (IsSome o ↔ IsShowingRange from count) → MatchOption o ((s : Showing) → IsShowingOf rows s → ⊥) (IsShowingOf rows)
+shown rows from count (Some s) has_from has_count values range = record {
+  from = subst (λ x. HasNumber rows (codes "from") x) (sym values.0) has_from;
+  count = subst (λ x. HasNumber rows (codes "count") x) (sym values.1) has_count;
+}
+shown rows from count None has_from has_count values range = λ s h.
+    let same_from : s.from ≡ from = same_number rows (codes "from") s.from from h.from has_from in
+    let same_count : s.count ≡ count = same_number rows (codes "count") s.count count h.count has_count in
+    let fits = s.in_range in
+    let bad : false ≡ true = range.1 (rw (same_from, same_count) at fits) in
     cc

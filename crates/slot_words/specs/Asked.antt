@@ -14,10 +14,11 @@ use Rattle.commands.specs.declared.config.Config.{Config}
 use Rattle.commands.specs.declared.kind.WorldKind.{WorldKind}
 use Rattle.slot_words.specs.CommandLine.{slotctl_app}
 use Rattle.slot_words.specs.declared.asked.Ask.{Ask}
-use Rattle.slot_words.specs.declared.asked.Ask.TheVariants.{Play, Check, Migrate, Draw, Serve}
+use Rattle.slot_words.specs.declared.asked.Ask.TheVariants.{Play, Check, Migrate, Show, Draw, Serve}
 use Rattle.slot_words.specs.declared.asked.Drawing.{Drawing}
 use Rattle.slot_words.specs.declared.asked.Serving.{Serving}
 use Rattle.slot_words.specs.declared.asked.Playing.{Playing}
+use Rattle.slot_words.specs.declared.asked.Showing.{Showing}
 use Rattle.slot_words.specs.declared.misuse.Misuse.{Misuse}
 use Rattle.slot_words.specs.declared.misuse.Misuse.TheVariants.{Help, Words, Memory}
 
@@ -62,6 +63,11 @@ pub record IsDrawingOf (rows : List Row) (d : Drawing) : Type 0 where
   pub limit : HasNumber rows (codes "limit") d.config.limit
   pub k : d.config.k ≡ 4
 
+-- the showing that the options of `show` give, as clap matched them, each number in its range
+pub record IsShowingOf (rows : List Row) (s : Showing) : Type 0 where
+  pub from : HasNumber rows (codes "from") s.from
+  pub count : HasNumber rows (codes "count") s.count
+
 -- the serving that the options of `serve` give, as clap matched them, each number in its range
 pub record IsServingOf (rows : List Row) (s : Serving) : Type 0 where
   pub config : IsConfigOf rows s.config
@@ -74,6 +80,7 @@ abbrev pub IsAsked : Option (List ℕ × List Row) → Ask → Type 0
 IsAsked met (Play playing) = (rows : List Row) × (met ≡ Some (codes "play", rows)) × IsPlayingOf rows playing
 IsAsked met Check = (rows : List Row) × (met ≡ Some (codes "check", rows))
 IsAsked met Migrate = (rows : List Row) × (met ≡ Some (codes "migrate", rows))
+IsAsked met (Show showing) = (rows : List Row) × (met ≡ Some (codes "show", rows)) × IsShowingOf rows showing
 IsAsked met (Draw drawing) = (rows : List Row) × (met ≡ Some (codes "draw", rows)) × IsDrawingOf rows drawing
 IsAsked met (Serve serving) = (rows : List Row) × (met ≡ Some (codes "serve", rows)) × IsServingOf rows serving
 

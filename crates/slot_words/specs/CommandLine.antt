@@ -57,6 +57,13 @@ steps_option = needed_option (codes "steps") 0 1000000
 abbrev pub runs_option : Rule
 runs_option = number_option (codes "runs") 0 1000 (codes "0")
 
+-- `--from NUMBER`, from 1 to 1,000,000, or 1; `--count NUMBER`, from 1 to 1,000,000, or 1000
+abbrev pub from_option : Rule
+from_option = number_option (codes "from") 1 1000000 (codes "1")
+
+abbrev pub shown_option : Rule
+shown_option = number_option (codes "count") 1 1000000 (codes "1000")
+
 -- `--port NUMBER`, of 16 bits, or 0; `--workers NUMBER`, from 1 to 16, or 2; `--count NUMBER`, from 1 to 1,000,000, or 1
 abbrev pub port_option : Rule
 port_option = number_option (codes "port") 0 65535 (codes "0")
@@ -96,9 +103,13 @@ check_app = new_app (codes "check")
 abbrev pub migrate_app : App
 migrate_app = new_app (codes "migrate")
 
+abbrev pub show_app : App
+show_app = with_rule (with_rule (new_app (codes "show")) from_option) shown_option
+
 -- the program with its subcommands, one of which has to be given
 abbrev pub slotctl_app : App
 slotctl_app =
     let program = new_app (codes "slotctl") in
     let needed = record program { top = record program.top { subcommand_required = true } } in
-    with_subcommand (with_subcommand (with_subcommand (with_subcommand (with_subcommand needed play_app.top) check_app.top) migrate_app.top) draw_app.top) serve_app.top
+    with_subcommand (with_subcommand (with_subcommand (with_subcommand (with_subcommand (with_subcommand needed play_app.top) check_app.top) migrate_app.top) show_app.top) draw_app.top)
+    serve_app.top

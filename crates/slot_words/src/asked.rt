@@ -1,7 +1,7 @@
 //! What the program can be asked for.
 
 ghost use Rattle.std.specs.Prelude.{◌≡◌, IfSome, IsSome, ◌↔◌};
-ghost use Rattle.slot_words.specs.Ranges.{IsDrawingRange, IsServingRange, CanBeWritten};
+ghost use Rattle.slot_words.specs.Ranges.{IsDrawingRange, IsServingRange, IsShowingRange, CanBeWritten};
 
 use commands::{Config, WorldKind};
 
@@ -14,6 +14,8 @@ pub enum Ask {
     Check,
     /// A record that is written again in version 2.
     Migrate,
+    /// A record as a page that shows its run.
+    Show(Showing),
     /// Drawn schedules.
     Draw(Drawing),
     /// Connections that are served.
@@ -45,6 +47,29 @@ impl Playing {
                 Some(Playing { config, recorded })
             }
         }
+    }
+}
+
+/// The events of a record that are shown.
+#[derive(Clone, Copy, Drop)]
+pub struct Showing {
+    /// The number of the first of them, from 1 to 1,000,000.
+    pub from: u64,
+    /// How many they are at most, from 1 to 1,000,000.
+    pub count: u64,
+    ghost in_range: { IsShowingRange from count },
+}
+
+impl Showing {
+    /// A showing of these values; none where one of them is outside its range.
+    pub fn new(from: u64, count: u64) -> Option<Showing>
+        ensures values { IfSome result (λ s. (s.from ≡ from) × (s.count ≡ count)) }
+        ensures range { IsSome result ↔ IsShowingRange from count }
+    {
+        if from < 1 || 1_000_000 < from || count < 1 || 1_000_000 < count {
+            return None;
+        }
+        Some(Showing { from, count })
     }
 }
 

@@ -3,7 +3,7 @@
 ghost use Rattle.std.specs.Prelude.{◌≡◌, false, IfOk};
 ghost use Rattle.clap.specs.Words.{app_of, rule_of};
 ghost use Rattle.clap.specs.declared.builder.command.Command.TheViews.{out-Command};
-ghost use Rattle.slot_words.specs.CommandLine.{check_app, config_app, draw_app, draw_needs_app, limit_option, m_option, migrate_app, needed_option, number_option, play_app, record_flag, serve_app, slotctl_app, world_option};
+ghost use Rattle.slot_words.specs.CommandLine.{check_app, config_app, draw_app, draw_needs_app, limit_option, m_option, migrate_app, needed_option, number_option, play_app, record_flag, serve_app, show_app, slotctl_app, world_option};
 
 use clap::builder::ValueParser;
 use clap::{Arg, ArgAction, Command};
@@ -192,6 +192,31 @@ fn migrate_command<'a>(alloc: Global) -> Command<'a>
     )
 }
 
+// The subcommand `show` with its options.
+fn show_command<'a>(alloc: Global) -> Result<Command<'a>, AllocError>
+    ensures app { IfOk result (λ c. app_of c ≡ show_app) }
+    ensures local { IfOk result (λ c. (out-Command c).has_globals ≡ false) }
+{
+    Command::new(alloc, "show")
+        .about("Writes the record of the standard input as a page that shows its run")
+        .arg(number_option(
+            alloc,
+            "from",
+            1,
+            1_000_000,
+            "1",
+            "the first event that is shown, from 1 to 1000000",
+        ))?
+        .arg(number_option(
+            alloc,
+            "count",
+            1,
+            1_000_000,
+            "1000",
+            "how many events are shown, from 1 to 1000000",
+        ))
+}
+
 // The subcommand `serve` with its options.
 fn serve_command<'a>(alloc: Global) -> Result<Command<'a>, AllocError>
     ensures app { IfOk result (λ c. app_of c ≡ serve_app) }
@@ -234,6 +259,7 @@ pub fn slotctl_command<'a>(alloc: Global) -> Result<Command<'a>, AllocError>
     ensures { IfOk result (λ c. app_of c ≡ slotctl_app) }
 {
     let play = play_command(alloc)?;
+    let show = show_command(alloc)?;
     let draw = draw_command(alloc)?;
     let serve = serve_command(alloc)?;
     Command::new(alloc, "slotctl")
@@ -242,6 +268,7 @@ pub fn slotctl_command<'a>(alloc: Global) -> Result<Command<'a>, AllocError>
         .subcommand(play)?
         .subcommand(check_command(alloc))?
         .subcommand(migrate_command(alloc))?
+        .subcommand(show)?
         .subcommand(draw)?
         .subcommand(serve)
 }

@@ -2,15 +2,16 @@
 
 ghost use Rattle.std.specs.Prelude.{◌≡◌, ℕ, ◌<◌, ◌^◌, MatchOption, map};
 ghost use Rattle.clap.specs.Words.{found_of, kind_of, rows_of, subcommand_rows_of};
-ghost use Rattle.slot_words.specs.Asked.{HasNumber, HasWorld, IsAsked, IsConfigOf, IsDrawingOf, IsMisuseOf, IsPlayingOf, IsRead, IsRefusal, IsServingOf, asks_record};
+ghost use Rattle.slot_words.specs.Asked.{HasNumber, HasWorld, IsAsked, IsConfigOf, IsDrawingOf, IsMisuseOf, IsPlayingOf, IsRead, IsRefusal, IsServingOf, IsShowingOf, asks_record};
 ghost use Rattle.commands.specs.declared.config.Config.{Config};
 ghost use Rattle.commands.specs.declared.kind.WorldKind.{WorldKind};
 ghost use Rattle.slot_words.specs.declared.asked.Drawing.{Drawing};
 ghost use Rattle.slot_words.specs.declared.asked.Playing.{Playing};
 ghost use Rattle.slot_words.specs.declared.asked.Serving.{Serving};
+ghost use Rattle.slot_words.specs.declared.asked.Showing.{Showing};
 ghost use Rattle.slot_words.specs.declared.asked.Ask.{Ask};
 
-use crate::asked::{Ask, Drawing, Playing, Serving};
+use crate::asked::{Ask, Drawing, Playing, Serving, Showing};
 use crate::command_line::slotctl_command;
 use crate::misuse::Misuse;
 use clap::error::ErrorKind;
@@ -81,6 +82,15 @@ fn draw_given(matches: &ArgMatches<'_>) -> Option<Drawing>
     Drawing::new(seed, ids, steps, runs, config)
 }
 
+// What the options of `show` give, where they give something.
+fn show_given(matches: &ArgMatches<'_>) -> Option<Showing>
+    ensures { MatchOption result ((s : Showing) → IsShowingOf (rows_of (found_of matches.now)) s → ⊥) (IsShowingOf (rows_of (found_of matches.now))) }
+{
+    let from = number_given(matches, "from")?;
+    let count = number_given(matches, "count")?;
+    Showing::new(from, count)
+}
+
 // What the options of `serve` give, where they give something.
 fn serve_given(matches: &ArgMatches<'_>) -> Option<Serving>
     ensures { MatchOption result ((s : Serving) → IsServingOf (rows_of (found_of matches.now)) s → ⊥) (IsServingOf (rows_of (found_of matches.now))) }
@@ -100,6 +110,7 @@ fn asked(matches: &ArgMatches<'_>) -> Option<Ask>
         Some(("play", options)) => Some(Ask::Play(play_given(options)?)),
         Some(("check", _)) => Some(Ask::Check),
         Some(("migrate", _)) => Some(Ask::Migrate),
+        Some(("show", options)) => Some(Ask::Show(show_given(options)?)),
         Some(("draw", options)) => Some(Ask::Draw(draw_given(options)?)),
         Some(("serve", options)) => Some(Ask::Serve(serve_given(options)?)),
         _ => None,

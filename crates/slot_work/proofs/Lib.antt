@@ -1,3 +1,4 @@
 mod ReadLemmas
 mod CheckLemmas
 mod MigrateLemmas
+mod ShowLemmas

@@ -10,18 +10,21 @@ use Rattle.schedule_player.specs.Texts.{replies_of}
 use Rattle.schedule_player.specs.declared.fault.Fault.{Fault}
 use Rattle.schedule_player.specs.declared.fault.Fault.TheVariants.{Write, Memory}
 use Rattle.schedule_player.specs.declared.summary.Summary.{Summary}
+use Rattle.run_checker.specs.declared.verdict.Verdict.{Verdict}
 use Rattle.schedule_player.specs.Written.{HasPartOf}
 use Rattle.schedule_player.specs.Recorded.{IsRecorded}
 use Rattle.commands.specs.declared.config.Config.{Config}
 use Rattle.slot_words.specs.declared.asked.Ask.{Ask}
-use Rattle.slot_words.specs.declared.asked.Ask.TheVariants.{Play, Check, Migrate, Draw, Serve}
+use Rattle.slot_words.specs.declared.asked.Ask.TheVariants.{Play, Check, Migrate, Show, Draw, Serve}
 use Rattle.slot_words.specs.declared.asked.Drawing.{Drawing}
+use Rattle.slot_words.specs.declared.asked.Showing.{Showing}
 use Rattle.slot_work.specs.declared.failure.Failure.{Failure}
 use Rattle.slot_work.specs.declared.failure.Failure.TheVariants as failure
 use Rattle.slot_words.specs.declared.misuse.Misuse.{Misuse}
 use Rattle.slot_work.specs.declared.outcome.Outcome.{Outcome}
 use Rattle.slot_work.specs.declared.outcome.Outcome.TheVariants as outcome
 use Rattle.slot_work.specs.Checked.{IsChecked, IsRewritten}
+use Rattle.slot_work.specs.Shown.{IsShownFor, outcome_shown, stretch_asked}
 use Rattle.slot_work.specs.Statuses.{status_after}
 
 -- a status is answered, and a fault is a failure
@@ -53,32 +56,39 @@ IsPlayedBy false config reading writing r r' w w' status =
 IsPlayedBy true config reading writing r r' w w' status =
     (recorded : Result (Unit {0}) Fault) × (status ≡ status_after recorded) × IsRecorded config reading writing r r' w w' recorded
 
--- connections are to be served
-abbrev pub is_served : Ask → Bool
-is_served (Play config) = false
-is_served Check = false
-is_served Migrate = false
-is_served (Draw drawing) = false
-is_served (Serve serving) = true
+-- it is neither to show a record nor to serve
+abbrev pub is_work : Ask → Bool
+is_work (Play config) = true
+is_work Check = true
+is_work Migrate = true
+is_work (Show showing) = false
+is_work (Draw drawing) = true
+is_work (Serve serving) = false
 
--- what was asked for, which is not to serve, is done, and answers this status: a run is
+-- what was asked for, which is neither to show nor to serve, is done, and answers this status: a run is
 -- played; or a record is checked, or written again; or nothing is read, and a drawing is written
 abbrev pub IsWorked : {R W : Type 0} → Ask → Reading R → Writing W → R → R → W → W → Result ℕ Fault → Type 0
 IsWorked (Play playing) reading writing r r' w w' status = IsPlayedBy playing.recorded playing.config reading writing r r' w w' status
 IsWorked Check reading writing r r' w w' status = IsChecked reading writing r r' w w' status
 IsWorked Migrate reading writing r r' w w' status = IsRewritten reading writing r r' w w' status
 IsWorked (Draw drawing) reading writing r r' w w' status = (r' ≡ r) × IsDrawnBy drawing writing w w' status
+IsWorked (Show showing) reading writing r r' w w' status = ⊥
 IsWorked (Serve serving) reading writing r r' w w' status = ⊥
 
 -- it is done so, and this is the outcome
 abbrev pub HasWorked : {R W : Type 0} → Ask → Reading R → Writing W → R → R → W → W → Result Outcome Failure → Type 0
 HasWorked ask reading writing r r' w w' result = (status : Result ℕ Fault) × (result ≡ outcome_of status) × IsWorked ask reading writing r r' w w' status
 
+-- a record is shown, and this is the outcome
+abbrev pub HasShown : {R W : Type 0} → Showing → Reading R → Writing W → R → R → W → W → Result Outcome Failure → Type 0
+HasShown showing reading writing r r' w w' result = (shown : Result Verdict Fault) × (result ≡ outcome_shown shown) × IsShownFor (stretch_asked showing) reading writing r r' w w' shown
+
 -- to serve is left, with nothing read or written
 abbrev pub IsDoneFor : {R W : Type 0} → Ask → Reading R → Writing W → R → R → W → W → Result Outcome Failure → Type 0
 IsDoneFor (Play config) reading writing r r' w w' result = HasWorked (Play config) reading writing r r' w w' result
 IsDoneFor Check reading writing r r' w w' result = HasWorked Check reading writing r r' w w' result
 IsDoneFor Migrate reading writing r r' w w' result = HasWorked Migrate reading writing r r' w w' result
+IsDoneFor (Show showing) reading writing r r' w w' result = HasShown showing reading writing r r' w w' result
 IsDoneFor (Draw drawing) reading writing r r' w w' result = HasWorked (Draw drawing) reading writing r r' w w' result
 IsDoneFor (Serve serving) reading writing r r' w w' result = (result ≡ Ok (outcome.Serve serving)) × (r' ≡ r) × (w' ≡ w)
 

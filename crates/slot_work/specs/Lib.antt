@@ -1,3 +1,4 @@
 pub mod Statuses
 pub mod Checked
+pub mod Shown
 pub mod Done

@@ -5,11 +5,13 @@ use Rattle.slot_work.specs.declared.failure.Failure.{Failure}
 use Rattle.slot_work.specs.declared.failure.Failure.TheVariants as failure
 use Rattle.slot_words.specs.declared.misuse.Misuse.TheVariants.{Help, Words, Memory}
 
--- 0 for help, 2 for words that are refused, and 3 for a fault or want of memory
+-- 0 for help, 1 for a record that is not shown, 2 for words that are refused, and 3 for a fault or want of memory
 abbrev pub status_of : Failure → ℕ
 status_of (failure.Misuse (Help text)) = 0
 status_of (failure.Misuse (Words text)) = 2
 status_of (failure.Misuse Memory) = 3
+status_of (failure.No number why) = 1
+status_of (failure.BadRecord number) = 1
 status_of (failure.Fault fault) = 3
 status_of (failure.Server fault) = 3
 

@@ -10,6 +10,7 @@ ghost use Rattle.slot_work.specs.Statuses.{status_of};
 
 use crate::failure::Failure;
 use crate::outcome::Outcome;
+use crate::showing::{after_showing, show_for};
 use crate::working;
 use schedule_player::{Fault, Sink, Source};
 use slot_words::{Ask, Misuse, ask};
@@ -18,8 +19,8 @@ use std::convert::AsStr;
 use std::io::Write;
 
 /// Does what the words of a command line ask for, the first of which is the program's name, and answers the status of the
-/// program: 0 where it was done and for help, 2 where the words are refused, 3 at a fault or for want of memory. Help goes
-/// to `output` beside what is done, every other text to `errors`. To serve is left to the caller.
+/// program: 0 where it was done and for help, 1 where a verdict is other than yes, 2 where the words are refused, 3 at a fault or for want
+/// of memory. Help goes to `output` beside what is done, every other text to `errors`. To serve is left to the caller.
 pub fn program<S: AsStr, R: Source, W: Sink, E: Write>(
     alloc: Global,
     words: &[S],
@@ -54,6 +55,9 @@ pub fn done<S: AsStr, R: Source, W: Sink>(
     };
     if let Ask::Serve(serving) = asked {
         return Ok(Outcome::Serve(serving));
+    }
+    if let Ask::Show(showing) = asked {
+        return after_showing(show_for(alloc, showing, input, output));
     }
     match working::work(alloc, asked, input, output) {
         Ok(status) => Ok(Outcome::Ended(status)),

@@ -10,10 +10,10 @@ use std::time::{Clock, Duration};
 /// How many looks at whether the work is done make a second.
 const LOOKS_A_SECOND: u64 = 20;
 
-/// Whether the words ask for work that may take long: a check, a migration, or a drawing.
+/// Whether the words ask for work that may take long: a check, a migration, a page, or a drawing.
 pub fn may_take_long<S: AsStr>(words: &[S]) -> bool {
     match words.get(1) {
-        Some(word) => matches!(word.as_str(), "check" | "migrate" | "draw"),
+        Some(word) => matches!(word.as_str(), "check" | "migrate" | "show" | "draw"),
         None => false,
     }
 }

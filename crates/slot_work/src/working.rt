@@ -1,8 +1,8 @@
 //! What the program does, over any reader and writer.
 
-ghost use Rattle.std.specs.Prelude.{◌≡◌, ◌<◌, ◌^◌, false};
+ghost use Rattle.std.specs.Prelude.{◌≡◌, ◌<◌, ◌^◌, true};
 ghost use Rattle.schedule_player.specs.Played.{reading, writing};
-ghost use Rattle.slot_work.specs.Done.{IsWorked, IsDrawnBy, IsPlayedBy, is_served};
+ghost use Rattle.slot_work.specs.Done.{IsWorked, IsDrawnBy, IsPlayedBy, is_work};
 
 use crate::checking::check_for;
 use crate::migrating::migrate_for;
@@ -64,8 +64,8 @@ fn play_for<R: Source, W: Sink, A: Allocator + Clone>(
 /// verdict of `check` or of `migrate` is other than yes.
 ///
 /// `play` writes the replies to the commands that it reads, or with `--record` the record of the run; `check` reads to the end and
-/// writes a verdict; `migrate` reads to the end too, and writes the record again in version 2; `draw` reads nothing. To serve is
-/// not done here.
+/// writes a verdict; `migrate` reads to the end too, and writes the record again in version 2; `draw` reads nothing. To show
+/// and to serve is not done here.
 ///
 /// Answers `Fault::Read` where the reader failed or the limit of reads was reached, `Fault::Write` where the writer failed or took
 /// no byte, and `Fault::Memory` where memory was refused: by `play` with nothing read and nothing written, and by `check` and
@@ -76,7 +76,7 @@ pub fn work<R: Source, W: Sink>(
     reader: &mut R,
     writer: &mut W,
 ) -> Result<u8, Fault>
-    requires here { is_served ask ≡ false }
+    requires here { is_work ask ≡ true }
     requires reads { R.calls reader.old < 2 ^ 64 }
     requires writes { W.calls writer.old < 2 ^ 64 }
     ensures { IsWorked ask (reading R.remaining R.calls R.failed) (writing W.contents W.failed) reader.old reader.new writer.old writer.new result }
@@ -86,6 +86,7 @@ pub fn work<R: Source, W: Sink>(
         Ask::Check => check_for(alloc, reader, writer),
         Ask::Migrate => migrate_for(alloc, reader, writer),
         Ask::Draw(drawing) => draw_for(alloc, drawing, writer),
+        Ask::Show(_) => unreachable!(),
         Ask::Serve(_) => unreachable!(),
     }
 }

@@ -1,7 +1,9 @@
 //! A snapshot object, taken step by step.
 
 ghost use Rattle.std.specs.Prelude.{◌≡◌, ◌≢◌, [], IfOk, IfSome, OnErr, Err, Ok, None, true, false};
+ghost use Rattle.std.specs.Option.{option_copied};
 ghost use Rattle.step_memory.specs.Locality.{IsLocal};
+ghost use Rattle.step_memory.specs.Participant.{program_of};
 ghost use Rattle.step_memory.specs.World.{begin_refusal, done_unless};
 ghost use Rattle.snapshot_core.specs.SnapWorld.{place_in, after_snap_begin, scan_refusal, update_refusal, after_scan, after_update, clients_over, snap_answer, after_snap_step, may_lack_memory, IsOnWay, AnswersAlike, StaysAlike, told_of_way};
 ghost use Rattle.snapshot_core.specs.Machine.{snapshot, MakesOwnAccess, HasDistinctPlaces, KeepsTold};
@@ -209,6 +211,13 @@ where
             return None;
         };
         client.walker.place()
+    }
+
+    /// A participant, for what watches from outside: `next` says which register it accesses next, and how.
+    pub fn client(&self, id: u64) -> Option<&Client<W::Walker, W::Walk>>
+        ensures { option_copied result ≡ program_of id self.now.participants }
+    {
+        self.world.program(id)
     }
 
     /// The places and their segments, for what watches from outside.

@@ -2,10 +2,10 @@
 
 use run_checker::{Verdict, check};
 use schedule_player::{Config, Fault, Tried, WorldKind, record};
-use slot_words::{Ask, Misuse, ask};
+use slot_words::{Ask, Misuse, Showing, ask};
 use slot_work::program::program;
 use slot_work::progress::tell_until;
-use slot_work::{Failure, Outcome, may_take_long, work};
+use slot_work::{Failure, Outcome, may_take_long, show_for, work};
 use std::alloc::Global;
 use std::io;
 use std::io::Read;
@@ -58,6 +58,8 @@ fn failures_are_told(rt: HostRuntime) -> Result<(), Fail> {
         (Failure::Fault(Fault::Write), 3, "slotctl: write fault\n"),
         (Failure::Fault(Fault::Memory), 3, "slotctl: no memory\n"),
         (Failure::Misuse(Misuse::Memory), 3, "slotctl: no memory\n"),
+        (Failure::No(4, 6), 1, "no 4 6\n"),
+        (Failure::BadRecord(9), 1, "bad record 9\n"),
     ];
     for (failure, status, text) in told {
         assert_eq!(rt; failure.status(), status);
@@ -75,6 +77,9 @@ fn done(alloc: Global, line: &str, input: &[u8]) -> Result<(Result<u8, Fault>, V
     let asked = asked_by(alloc, line)?;
     let mut reader = Tried::new(input);
     let mut writer = Tried::new(Vec::new(alloc));
+    if let Ask::Show(_) = asked {
+        return Ok((Err(Fault::Memory), writer.into_inner()));
+    }
     if let Ask::Serve(_) = asked {
         return Ok((Err(Fault::Memory), writer.into_inner()));
     }
@@ -244,6 +249,38 @@ fn records_are_migrated(rt: HostRuntime) {
     }
 }
 
+// What is said of a record that is shown from this event on, three at most, and how many LFs are written and stand before a bracket.
+fn shown(alloc: Global, record: &[u8], from: u64) -> Option<(Verdict, usize, u64)> {
+    let showing = Showing::new(from, 3)?;
+    let mut reader = Tried::new(record);
+    let mut writer = Tried::new(Vec::new(alloc));
+    let verdict = show_for(alloc, showing, &mut reader, &mut writer).ok()?;
+    let page = writer.into_inner();
+    let mut rows = 0u64;
+    for line in page.split(|byte| *byte == b'\n') {
+        if line.starts_with(b"[\"") {
+            rows = rows.wrapping_add(1);
+        }
+    }
+    Some((verdict, page.len(), rows))
+}
+
+/// A record is shown as a page with a row for each event of the stretch, and where it is none of a run nothing is written.
+#[test]
+fn records_are_shown(rt: HostRuntime) -> Result<(), Fail> {
+    let alloc = rt.alloc();
+    let record = recorded(alloc, "slotctl play --record --m 2")?;
+    for (from, want) in [(1, 3), (407, 2), (500, 0)] {
+        match shown(alloc, record.as_slice(), from) {
+            Some((Verdict::Yes, _, rows)) => assert_eq!(rt; rows, want, "from {from}"),
+            _ => panic!(rt; "it is not shown"),
+        }
+    }
+    let none = shown(alloc, b"{}\n", 1);
+    assert!(rt; matches!(none, Some((Verdict::BadRecord(1), 0, 0))));
+    Ok(())
+}
+
 // The record that the words of a line ask for, over what two do.
 fn recorded(alloc: Global, line: &str) -> Result<Vec<u8>, Fail> {
     let mut input = Vec::new(alloc);
@@ -300,6 +337,9 @@ fn a_record_of_a_run_with_a_refused_growth_is_checked(rt: HostRuntime) -> Result
 fn a_read_fault_ends_the_run(rt: HostRuntime) -> Result<(), Fail> {
     let alloc = rt.alloc();
     let asked = ask(alloc, &["slotctl", "play", "--world", "splitter"])?;
+    if let Ask::Show(_) = asked {
+        panic!(rt; "to show is asked for");
+    }
     if let Ask::Serve(_) = asked {
         panic!(rt; "to serve is asked for");
     }
@@ -314,6 +354,9 @@ fn a_read_fault_ends_the_run(rt: HostRuntime) -> Result<(), Fail> {
 // That a run by the words of a line, over a writer that takes seven bytes and then fails, ends at the fault after those.
 fn is_cut_by_a_write_fault(alloc: Global, line: &str) -> Result<bool, Fail> {
     let asked = asked_by(alloc, line)?;
+    if let Ask::Show(_) = asked {
+        return Ok(false);
+    }
     if let Ask::Serve(_) = asked {
         return Ok(false);
     }
@@ -333,13 +376,13 @@ fn a_write_fault_ends_the_run(rt: HostRuntime) -> Result<(), Fail> {
 }
 
 const HELP: &[u8] =
-    b"Plays schedules of shared-memory algorithms, one access a step\n\nUsage: slotctl <COMMAND>\n\nCommands:\n  play     Plays the commands of the standard input, and writes a reply to each\n  check    Checks the record of the standard input, and writes its verdict\n  migrate  Writes the record of the standard input again, in version 2\n  draw     Draws schedules, and writes one, or a line for each of many that are played\n  serve    Serves the commands of connections to 127.0.0.1, over one hall\n  help     Print this message or the help of the given subcommand(s)\n\nOptions:\n  -h, --help  Print help\n";
+    b"Plays schedules of shared-memory algorithms, one access a step\n\nUsage: slotctl <COMMAND>\n\nCommands:\n  play     Plays the commands of the standard input, and writes a reply to each\n  check    Checks the record of the standard input, and writes its verdict\n  migrate  Writes the record of the standard input again, in version 2\n  show     Writes the record of the standard input as a page that shows its run\n  draw     Draws schedules, and writes one, or a line for each of many that are played\n  serve    Serves the commands of connections to 127.0.0.1, over one hall\n  help     Print this message or the help of the given subcommand(s)\n\nOptions:\n  -h, --help  Print help\n";
 
 const PLAY_HELP: &[u8] =
     b"Plays the commands of the standard input, and writes a reply to each\n\nUsage: slotctl play [OPTIONS]\n\nOptions:\n      --world <NAME>    what is played: splitter, grid, rename or tree [default: rename]\n      --m <NUMBER>      the most participants, from 1 to 16, or to 64 in the world tree [default: 4]\n      --k <NUMBER>      the size of the pool, from 1 to 64 [default: 4]\n      --limit <NUMBER>  the most proposals of each participant, from 1 to 1000000 [default: 1000]\n      --record          writes the record of the run in place of the replies\n  -h, --help            Print help\n";
 
 const NO_SUBCOMMAND: &[u8] =
-    b"error: 'slotctl' requires a subcommand but one was not provided\n  [subcommands: play, check, migrate, draw, serve, help]\n\nUsage: slotctl <COMMAND>\n\nFor more information, try '--help'.\n";
+    b"error: 'slotctl' requires a subcommand but one was not provided\n  [subcommands: play, check, migrate, show, draw, serve, help]\n\nUsage: slotctl <COMMAND>\n\nFor more information, try '--help'.\n";
 
 const TOO_MANY: &[u8] =
     b"error: invalid value '65' for '--m <NUMBER>': 65 is not in 1..=64\n\nFor more information, try '--help'.\n";
@@ -509,6 +552,7 @@ fn checks_migrations_and_drawings_may_take_long(rt: HostRuntime) {
     for (words, want) in [
         (["slotctl", "check"].as_slice(), true),
         (&["slotctl", "migrate"], true),
+        (&["slotctl", "show"], true),
         (&["slotctl", "draw", "--seed", "7"], true),
         (&["slotctl", "play", "check"], false),
         (&["slotctl", "serve"], false),

@@ -14,5 +14,5 @@ returns c = λ x w s.
     let event = ap (λ (l : Line). l.event) w.spelled in
     let told : told_of w.shows x.reply ≡ c.args.line.now.told = ap (λ (l : Line). l.told) w.spelled in
     c.in_ok-put-4.ensures
-    ∙ rw (c.in_ok-put_named_by.ensures w.shows x.reply told s, c.in_ok-put-3.ensures, c.in_ok-put_told.ensures w.shows x.reply told, c.in_ok-put-2.ensures, c.in_ok-put_event.ensures, c.in_ok-put.ensures, event)
+    ∙ rw (c.in_ok-put_named_by.ensures w.shows x.reply told s, c.in_ok-put-3.ensures, c.in_ok-put_told.ensures.spelled w.shows x.reply told, c.in_ok-put-2.ensures, c.in_ok-put_event.ensures, c.in_ok-put.ensures, event)
     (grouped c.args.out.now (codes "{\"command\":\"") (event_words c.args.line.now.event) (codes "\",\"reply\":\"") (reply_words x.reply) (codes "\"") (name_view x.reply) (codes "}\n"))

@@ -12,5 +12,6 @@ returns c =
     let with_play = c.in_ok-subcommand.ensures.shape c.in_ok-play.ensures.local ∙ ap₂ with_subcommand required_is (ap (λ (a : App). a.top) c.in_ok-play.ensures.app) in
     let with_check = c.in_ok-subcommand-2.ensures.shape c.check_command.ensures.local ∙ ap₂ with_subcommand with_play (ap (λ (a : App). a.top) c.check_command.ensures.app) in
     let with_migrate = c.in_ok-subcommand-3.ensures.shape c.migrate_command.ensures.local ∙ ap₂ with_subcommand with_check (ap (λ (a : App). a.top) c.migrate_command.ensures.app) in
-    let with_draw = c.in_ok-subcommand-4.ensures.shape c.in_ok-draw.ensures.local ∙ ap₂ with_subcommand with_migrate (ap (λ (a : App). a.top) c.in_ok-draw.ensures.app) in
-    IfOk-weaker c.subcommand-5.result _ _ (λ r h. h.shape c.in_ok-serve.ensures.local ∙ ap₂ with_subcommand with_draw (ap (λ (a : App). a.top) c.in_ok-serve.ensures.app)) c.subcommand-5.ensures
+    let with_show = c.in_ok-subcommand-4.ensures.shape c.in_ok-show.ensures.local ∙ ap₂ with_subcommand with_migrate (ap (λ (a : App). a.top) c.in_ok-show.ensures.app) in
+    let with_draw = c.in_ok-subcommand-5.ensures.shape c.in_ok-draw.ensures.local ∙ ap₂ with_subcommand with_show (ap (λ (a : App). a.top) c.in_ok-draw.ensures.app) in
+    IfOk-weaker c.subcommand-6.result _ _ (λ r h. h.shape c.in_ok-serve.ensures.local ∙ ap₂ with_subcommand with_draw (ap (λ (a : App). a.top) c.in_ok-serve.ensures.app)) c.subcommand-6.ensures

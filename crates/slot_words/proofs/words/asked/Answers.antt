@@ -1,6 +1,6 @@
 use Rattle.std.proofs.Common.{rules, codes, Some, ◌≡◌}
 use Rattle.clap.specs.Words.{found_of, rows_of, subcommand_rows_of}
-use Rattle.slot_words.proofs.AskLemmas.{nothing_drawn, nothing_played, nothing_served}
+use Rattle.slot_words.proofs.AskLemmas.{nothing_drawn, nothing_played, nothing_served, nothing_shown}
 use Rattle.slot_words.proofs.ConfigLemmas.{unless_some}
 use Rattle.slot_words.proofs.words.asked.Goals as goal
 
@@ -9,6 +9,13 @@ returns-in_err-play_given-in-Some-play-default c =
     let rows = rows_of (found_of c.in-Some-play-default.options.now) in
     let met : subcommand_rows_of c.args.matches.now ≡ Some (codes "play", rows) = search rules in
     unless_some c.from_residual.result _ _ c.from_residual.ensures (nothing_played (subcommand_rows_of c.args.matches.now) rows met c.in_err-play_given-in-Some-play-default.ensures)
+
+pub returns-in_err-show_given-in-Some-show-default : goal.returns-in_err-show_given-in-Some-show-default
+returns-in_err-show_given-in-Some-show-default c =
+    let rows = rows_of (found_of c.in-Some-show-default.options.now) in
+    let met : subcommand_rows_of c.args.matches.now ≡ Some (codes "show", rows) = search rules in
+    unless_some c.from_residual-in_err-show_given-in-Some-show-default.result _ _ c.from_residual-in_err-show_given-in-Some-show-default.ensures
+    (nothing_shown (subcommand_rows_of c.args.matches.now) rows met c.in_err-show_given-in-Some-show-default.ensures)
 
 pub returns-in_err-draw_given-in-Some-draw-default : goal.returns-in_err-draw_given-in-Some-draw-default
 returns-in_err-draw_given-in-Some-draw-default c =

@@ -1,0 +1,13 @@
+use Rattle.std.proofs.Common.{List, ℕ, ◌++◌, [], Option, if◌then◌else◌, refl, rules, ap, ◌∙◌}
+use Rattle.run_page.specs.declared.done.Done.{Done}
+use Rattle.run_page.specs.Row.{row_of}
+use Rattle.run_page.proofs.PageLemmas.{put_more}
+use Rattle.run_page.proofs.sheet.SheetGather.take.Goals as goal
+
+pub returns : goal.returns
+returns c =
+    let line = c.args.line.now in
+    let first = c.args.self.now in
+    let shown = c.has-is_shown.result in
+    let text = c.in_ok-put_where_shown.ensures ∙ ap (λ (d : Option Done). first.text ++ (if shown then row_of line d else [])) c.in_ok-replay.ensures.done in
+    put_more line first (record { desk = c.replay.new.desk; done = c.replay.new.done; stretch = first.stretch; seen = c.in-Some.seen; text = c.put_where_shown.new.out }) shown c.has-is_shown.ensures c.in_ok-replay.ensures.desk refl (search rules) text

@@ -1,0 +1,43 @@
+-- what is shown of a record (this project's profile)
+use Rattle.std.specs.Prelude.{◌≡◌, ◌<◌, ℕ, List, ◌∷◌, Option, Result, Ok, Err}
+use Rattle.std.specs.Io.KnownBytes.{Appends}
+use Rattle.schedule_player.specs.Written.{HasPartOf}
+use Rattle.schedule_player.specs.Played.{Writing}
+use Rattle.schedule_player.specs.declared.fault.Fault.{Fault}
+use Rattle.schedule_player.specs.declared.fault.Fault.TheVariants.{Write}
+use Rattle.record_lines.specs.declared.header.Header.{Header}
+use Rattle.record_lines.specs.declared.line.Line.{Line}
+use Rattle.record_lines.specs.RecordLine.{IsHeaderLine}
+use Rattle.record_lines.specs.Records.{record_lines, AreRead}
+use Rattle.run_checker.specs.declared.verdict.Verdict.{Verdict}
+use Rattle.run_checker.specs.declared.verdict.Verdict.TheVariants.{Yes}
+use Rattle.run_checker.specs.Verdict.{IsVerdict}
+use Rattle.run_page.specs.declared.stretch.Stretch.{Stretch}
+use Rattle.run_page.specs.Page.{page}
+
+-- a record of a run, and its page
+pub record IsPage (bytes : List ℕ) (s : Stretch) (text : List ℕ) : Type 0 where
+  pub head : List ℕ
+  pub rows : List (List ℕ)
+  pub is : record_lines bytes ≡ head ∷ rows
+  pub header : Header
+  pub says : IsHeaderLine head header
+  pub lines : List Line
+  pub read : AreRead header.config.world header.version rows lines
+  pub said : IsVerdict bytes Yes
+  pub text_is : text ≡ page header.config s lines
+
+-- gained was the page of a record
+abbrev pub GainsPage : Option (List ℕ) → Option (List ℕ) → List ℕ → Stretch → Type 0
+GainsPage before now bytes s = (text : List ℕ) × IsPage bytes s text × Appends before now text
+
+-- or a beginning of it
+abbrev pub GainsPart : Option (List ℕ) → Option (List ℕ) → List ℕ → Stretch → Type 0
+GainsPart before now bytes s = (text : List ℕ) × IsPage bytes s text × HasPartOf before now text
+
+-- what `show` answers of a record: its verdict, with the page written where that is Yes, and nothing written elsewhere; or that a
+-- write failed, with a beginning of the page written
+abbrev pub IsShown : {W : Type 0} → Writing W → List ℕ → Stretch → W → W → Result Verdict Fault → Type 0
+IsShown writing bytes s w w' (Ok Yes) = (writing.failed w' ≡ writing.failed w) × GainsPage (writing.contents w) (writing.contents w') bytes s
+IsShown writing bytes s w w' (Ok v) = IsVerdict bytes v × (w' ≡ w)
+IsShown writing bytes s w w' (Err fault) = (fault ≡ Write) × (writing.failed w < writing.failed w') × GainsPart (writing.contents w) (writing.contents w') bytes s

@@ -1,0 +1,113 @@
+//! What a desk does at an event.
+
+ghost use Rattle.std.specs.Prelude.{◌≡◌, IfOk, OnOk};
+ghost use Rattle.desk.specs.Desk.{desk_after, desk_reply};
+ghost use Rattle.record_lines.specs.Told.{identity_of};
+ghost use Rattle.run_page.specs.Row.{access_at, desk_next, done_at, is_refused};
+
+use desk::{Coming, Desk, Event, Reply};
+use record_lines::{Line, Told};
+use std::alloc::{AllocError, Global};
+use step_memory::Refusal;
+
+/// What a desk does at an event.
+#[derive(Clone, Copy, Debug, Drop)]
+pub struct Done {
+    /// What it answers.
+    pub reply: Reply,
+    /// The access that is made by it.
+    pub access: Option<Coming>,
+    /// The access that whose event it is makes next, which says where they stand.
+    pub next: Option<Coming>,
+}
+
+/// Who an event is of; a widening is nobody's, and 0 is nobody.
+fn identity_of(event: Event) -> u64
+    ensures { result ≡ identity_of event }
+{
+    match event {
+        Event::Begin(id) => id,
+        Event::Step(id) => id,
+        Event::Enter(id) => id,
+        Event::Probe(id) => id,
+        Event::Leave(id) => id,
+        Event::Put(id, _) => id,
+        Event::Get(id) => id,
+        Event::Widen(_) => 0,
+    }
+}
+
+/// Whether an event is told to be refused.
+fn is_refused(told: &Told) -> bool
+    ensures { result ≡ is_refused told.now }
+{
+    match told {
+        Told::Ok => false,
+        Told::Quiet => false,
+        Told::Stop => false,
+        Told::Right => false,
+        Told::Down => false,
+        Told::Place(_) => false,
+        Told::Proposed(_) => false,
+        Told::Saw(_) => false,
+        Told::Named(_, _) => false,
+        Told::Spent => false,
+        Told::Missed => false,
+        Told::Got(_) => false,
+        Told::Left(_) => false,
+        Told::Value(_) => false,
+        Told::Owner(_) => false,
+        Told::Refused(_) => true,
+    }
+}
+
+/// The access that an event makes to a register of splitters or segments: a step alone makes one.
+fn access_at(desk: &Desk<Global>, event: Event) -> Option<Coming>
+    ensures { result ≡ access_at desk.now event }
+{
+    match event {
+        Event::Step(id) => desk.coming(id),
+        Event::Begin(_) => None,
+        Event::Enter(_) => None,
+        Event::Probe(_) => None,
+        Event::Leave(_) => None,
+        Event::Put(_, _) => None,
+        Event::Get(_) => None,
+        Event::Widen(_) => None,
+    }
+}
+
+/// Applies an event. An error where a growth was refused, with the desk unchanged.
+fn answered(desk: &mut Desk<Global>, event: Event) -> Result<Reply, AllocError>
+    ensures { IfOk result (λ r. (r ≡ desk_reply desk.old event) × (desk.new ≡ desk_after desk.old event)) }
+{
+    match desk.apply(event) {
+        Reply::Refused(Refusal::NoMemory) => Err(AllocError),
+        reply => Ok(reply),
+    }
+}
+
+/// Replays a line, and keeps what the desk did at it, which is nothing where the line tells a refusal. An error where a growth was
+/// refused; then the desk is of no more use.
+pub(crate) fn replay(
+    desk: &mut Desk<Global>,
+    line: &Line,
+    done: &mut Option<Done>,
+) -> Result<(), AllocError>
+    ensures desk { OnOk result (desk.new ≡ desk_next desk.old line.now) }
+    ensures done { OnOk result (done.new ≡ done_at desk.old line.now) }
+{
+    if is_refused(&line.told) {
+        *done = None;
+        return Ok(());
+    }
+    let access = access_at(desk, line.event);
+    let reply = answered(desk, line.event)?;
+    let next = desk.coming(identity_of(line.event));
+    *done = Some(Done {
+        reply,
+        access,
+        next,
+    });
+    Ok(())
+}

@@ -1,0 +1,32 @@
+//! A run that can be looked at: the page of a record.
+//!
+//! `show` reads a record as `run_checker` does. Where it is one of a run it writes one page of HTML, which needs nothing else: a fixed
+//! head, the data of the record, and a fixed tail with the script that draws them. What is proved (`IsShown`): the page is the head,
+//! then what `page_data` says, then the tail; of any verdict but `Yes` nothing is written; at a write fault what was written is a beginning
+//! of the page. What the data hold has no `<` (`law_of_data`).
+//!
+//! The lines are replayed on a desk of the record's config, and the page has a row for each event of a stretch: the event, the reply of
+//! the record, the reply of the desk, the access that was made, and the access that whose event it was makes next, which says where
+//! they stand. A row tells what changes, so that a page of a thousand events stays small. Another object than a desk may answer
+//! otherwise and be right: then a row has two replies that differ, and the page says so. A line that tells a refusal changes nothing.
+//!
+//! A caller:
+//!
+//! ```text
+//! let stretch = Stretch { from: 1, count: 1000 };
+//! show(alloc, bytes, stretch, &mut writer)?;      // Yes, with the page written
+//! ```
+#![tactic(auto)]
+
+pub mod done;
+pub mod head;
+pub mod laws;
+mod row;
+mod sheet;
+pub mod showing;
+pub mod stretch;
+pub mod tail;
+
+pub use laws::law_of_data;
+pub use showing::show;
+pub use stretch::Stretch;

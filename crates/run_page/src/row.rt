@@ -1,0 +1,143 @@
+//! The rows of a page.
+
+ghost use Rattle.std.specs.Prelude.{◌≡◌, ◌++◌, [], OnOk, codes, decimal, if◌then◌else◌};
+ghost use Rattle.schedule_player.specs.Replies.{owner_words, reply_words};
+ghost use Rattle.run_page.specs.Row.{access_words, done_words, register_words, row_of};
+
+use crate::done::Done;
+use desk::{Coming, Register, Reply};
+use itoa::Buffer;
+use record_lines::{Line, Text, put_event, put_told, put_view};
+use std::alloc::AllocError;
+use step_memory::Place;
+
+/// Appends the number of a place.
+fn put_place(place: Place, out: &mut Text) -> Result<(), AllocError>
+    ensures { OnOk result (out.new ≡ out.old ++ decimal place) }
+{
+    out.put(Buffer::new().format(place).as_bytes())
+}
+
+/// Appends the words of a register.
+fn put_register(register: Register, out: &mut Text) -> Result<(), AllocError>
+    ensures { OnOk result (out.new ≡ out.old ++ register_words register) }
+{
+    match register {
+        Register::X(place) => {
+            out.put(b"X ")?;
+            put_place(place, out)
+        }
+        Register::Y(place) => {
+            out.put(b"Y ")?;
+            put_place(place, out)
+        }
+        Register::Mark(place) => {
+            out.put(b"mark ")?;
+            put_place(place, out)
+        }
+        Register::Segment(place) => {
+            out.put(b"segment ")?;
+            put_place(place, out)
+        }
+    }
+}
+
+/// Appends the words of an access, and nothing where there is none.
+fn put_access(access: Option<Coming>, out: &mut Text) -> Result<(), AllocError>
+    ensures { OnOk result (out.new ≡ out.old ++ access_words access) }
+{
+    match access {
+        None => Ok(()),
+        Some(Coming::Nothing) => Ok(()),
+        Some(Coming::Read(register)) => {
+            out.put(b"read ")?;
+            put_register(register, out)
+        }
+        Some(Coming::Write(register, word)) => {
+            out.put(b"write ")?;
+            put_register(register, out)?;
+            out.put_word(b" ", word)
+        }
+    }
+}
+
+/// Appends who has a name.
+fn put_owner(owner: Option<u64>, out: &mut Text) -> Result<(), AllocError>
+    ensures { OnOk result (out.new ≡ out.old ++ owner_words owner) }
+{
+    match owner {
+        Some(id) => out.put_word(b"owner ", id),
+        None => out.put(b"owner none"),
+    }
+}
+
+/// Appends the words of a reply.
+fn put_reply(reply: &Reply, out: &mut Text) -> Result<(), AllocError>
+    ensures { OnOk result (out.new ≡ out.old ++ reply_words reply.now) }
+{
+    match reply {
+        Reply::Ok => out.put(b"ok"),
+        Reply::Quiet => out.put(b"quiet"),
+        Reply::Stop => out.put(b"stop"),
+        Reply::Right => out.put(b"right"),
+        Reply::Down => out.put(b"down"),
+        Reply::Place(place) => {
+            out.put(b"place ")?;
+            put_place(*place, out)
+        }
+        Reply::Proposed(number) => out.put_word(b"proposed ", *number),
+        Reply::Saw(view) => put_view(view.pairs(), out),
+        Reply::Named(name, _) => out.put_word(b"named ", *name),
+        Reply::Spent => out.put(b"spent"),
+        Reply::Missed => out.put(b"missed"),
+        Reply::Got(number) => out.put_word(b"got ", u64::from(*number)),
+        Reply::Left(number) => out.put_word(b"left ", u64::from(*number)),
+        Reply::Value(value) => out.put_word(b"value ", *value),
+        Reply::Owner(owner) => put_owner(*owner, out),
+        Reply::Refused(refusal) => out.put_word(b"refused ", u64::from(refusal.number())),
+    }
+}
+
+/// Appends the words of what a desk did, with what parts them.
+fn put_done(done: &Option<Done>, out: &mut Text) -> Result<(), AllocError>
+    ensures { OnOk result (out.new ≡ out.old ++ done_words done.now) }
+{
+    match done {
+        None => out.put(b"\",\"\",\""),
+        Some(done) => {
+            put_reply(&done.reply, out)?;
+            out.put(b"\",\"")?;
+            put_access(done.access, out)?;
+            out.put(b"\",\"")?;
+            put_access(done.next, out)
+        }
+    }
+}
+
+/// Appends the row of a line, at which a desk did this.
+fn put_row(line: &Line, done: &Option<Done>, out: &mut Text) -> Result<(), AllocError>
+    ensures { OnOk result (out.new ≡ out.old ++ row_of line.now done.now) }
+{
+    out.put(b"[\"")?;
+    put_event(line.event, out)?;
+    out.put(b"\",\"")?;
+    put_told(&line.told, out)?;
+    out.put(b"\",\"")?;
+    put_done(done, out)?;
+    out.put(b"\"],\n")
+}
+
+/// Appends the row of a line, at which a desk did this, where that is shown. An error where a growth was refused.
+pub(crate) fn put_where_shown(
+    line: &Line,
+    is_shown: bool,
+    done: &Option<Done>,
+    out: &mut Text,
+) -> Result<(), AllocError>
+    ensures { OnOk result (out.new ≡ out.old ++ (if is_shown then row_of line.now done.now else [])) }
+{
+    if is_shown {
+        put_row(line, done, out)?;
+    }
+    Ok(())
+}
