@@ -2,16 +2,15 @@
 
 ghost use Rattle.std.specs.Prelude.{◌≡◌, OnOk, OnErr, IfOk, IfSome, None, true, false, option_copied};
 ghost use Rattle.std.specs.FinMap as map;
-ghost use Rattle.splitter_tree.specs.TreeSteps.{tree_steps, empty_tree, value_in, value_of, is_missing, makes_node, answer_of, after_access, after_write, may_refuse, number_in};
+ghost use Rattle.splitter_tree.specs.TreeSteps.{tree_steps, empty_tree, value_in, answer_of, after_access, may_refuse, number_in};
 ghost use Rattle.splitter_tree.specs.TreeProofs.{others_kept};
 ghost use Rattle.step_memory.specs.declared.access.Access.TheVariants.{Read};
-ghost use Rattle.splitter_tree.specs.declared.register.TreeRegister.TheVariants.{Mark};
 ghost use Rattle.splitter_tree.specs.declared.register.TreeValue.TheVariants as value;
 ghost use Rattle.splitter_tree.specs.Walk.{next_access, walker_after, walker_note};
 
 use crate::node::{Link, find_from, write_from};
 use crate::node_registers::NodeRegisters;
-use crate::register::{MARKED, ROOT, TreeRegister, TreeValue, WrittenValue};
+use crate::register::{MARKED, TreeRegister, TreeValue, WrittenValue};
 use crate::walker::Walker;
 use std::alloc::Allocator;
 use std::marker::Model;
@@ -23,8 +22,6 @@ use step_memory::{Access, Answer, NoMemory, Note, Place, StepMemory, StepProgram
 pub struct Tree<A: Allocator> {
     root: Link<A>,
     alloc: A,
-    /// Whether room for a node was refused to `walk_on`, which the access that then follows tells.
-    is_refused: bool,
     /// What stands in a mark that is set, to be lent.
     set: TreeValue,
     /// What stands in one that is not.
@@ -58,7 +55,6 @@ impl<A: Allocator> Tree<A> {
         Tree {
             root: None,
             alloc,
-            is_refused: false,
             set: TreeValue::Word(MARKED),
             clear: TreeValue::Word(0),
         }
@@ -99,40 +95,6 @@ impl<A: Allocator + Clone> Tree<A> {
         }
     }
 
-    /// Whether a node is not there and can be made.
-    fn is_missing(&self, place: Place) -> bool
-        ensures { result ≡ is_missing self.now place }
-    {
-        self.registers_at(place).is_none()
-            && (place == ROOT || self.registers_at(place / 2).is_some())
-    }
-
-    /// Whether this write makes a node for which room was refused to `walk_on` just now. A refusal is told once.
-    fn tells_refusal(&mut self, register: TreeRegister, value: WrittenValue) -> bool
-        ensures makes { result ≡ true → makes_node self.old register (value_of value.entry) ≡ true }
-        ensures kept { self.new ≡ self.old }
-    {
-        if !self.is_refused {
-            return false;
-        }
-        self.is_refused = false;
-        register.is_set_by(value) && self.is_missing(register.node())
-    }
-
-    /// Sets the mark of a node, which makes it where it is not there and can be made.
-    fn mark(&mut self, place: Place) -> Result<(), NoMemory>
-        ensures after { OnOk result (self.new ≡ after_write self.old (Mark place) (value.Word 1)) }
-        ensures refused { OnErr result (self.new ≡ self.old) }
-    {
-        let mark = TreeRegister::Mark(place);
-        write_from(
-            &mut self.root,
-            &self.alloc,
-            mark,
-            WrittenValue::Word(MARKED),
-        )
-    }
-
     /// Takes a step of a visit, as `walk_on` does.
     fn visit_on(&mut self, walker: &mut Walker) -> Option<Note<Place>>
         requires { walker.old.is_marking ≡ false }
@@ -163,9 +125,8 @@ impl<A: Allocator + Clone> Tree<A> {
     }
 
     /// Takes the next step of a walk where it stands, so that no segment is copied, and gives what the walk says. `None` where it
-    /// did not: then nothing has changed, and the step is still to be taken. So it is where the step makes a node and room for
-    /// that was refused: until `access` has told so, nothing asks for the room again. A refusal which this could not tell is
-    /// told by the next access that makes a missing node (`tells_refusal`).
+    /// did not: then nothing has changed, and the step is still to be taken. It makes no node, so it asks for no room: a step that
+    /// makes one is left to `access`, which tells where room was refused.
     pub fn walk_on(&mut self, walker: &mut Walker) -> Option<Note<Place>>
         ensures note { IfSome result (λ note. note ≡ walker_note walker.old (answer_of self.old (next_access walker.old))) }
         ensures after { IfSome result (λ _. walker.new ≡ walker_after walker.old (answer_of self.old (next_access walker.old))) }
@@ -176,8 +137,7 @@ impl<A: Allocator + Clone> Tree<A> {
         if !walker.is_marking {
             return self.visit_on(walker);
         }
-        if self.is_refused || self.mark(walker.place).is_err() {
-            self.is_refused = true;
+        if self.registers_at(walker.place).is_none() {
             return None;
         }
         walker.is_marking = false;
@@ -201,11 +161,7 @@ impl<A: Allocator + Clone> StepMemory for Tree<A> {
         Ok(match a {
             Access::Read(register) => Answer::Value(self.read(register)),
             Access::Write(register, value) => {
-                let written = value.to_write();
-                if self.tells_refusal(register, written) {
-                    return Err(NoMemory);
-                }
-                write_from(&mut self.root, &self.alloc, register, written)?;
+                write_from(&mut self.root, &self.alloc, register, value.to_write())?;
                 Answer::Done
             }
             Access::TestAndSet(_) => Answer::WasSet(false),
