@@ -19,13 +19,14 @@ use std::alloc::Allocator;
 /// A law, which runs nothing. Over a grid with segments that no one had entered, for at most 16 participants, the calls
 /// of a snapshot object with their replies are those of the object of the law, after every list of calls: where b have
 /// begun, a place comes within 4b steps, and over G segments a scan takes at most G(G + 1) steps and an update one more.
-/// No step wants memory, and all who begin under one identity are alike.
+/// No step wants memory, and all who begin under one identity are alike. A fresh grid is one in which nothing was written.
 pub fn grid_snapshot_law<A: Allocator>(world: &SnapWorld<Grid<A>, A>)
     ensures law { world.now.most ≤ 16 → IsLawfulFrom grid_places (fresh_grid world.now.most) (grid_bounds world.now.most) world.now }
     ensures fits { BoundsScans grid_places world.now.most (grid_bounds world.now.most).scanning }
     ensures distinct { HasDistinctPlaces grid_places world.now }
     ensures ample { (id : ℕ) → may_lack_memory grid_places world.now id ≡ false }
     ensures alike { BeginsAlike grid_places }
+    ensures new { (most : ℕ) → most ≤ 16 → grid_places.ties.IsNew (fresh_grid most) }
 {
     let _world = world;
 }
@@ -33,7 +34,8 @@ pub fn grid_snapshot_law<A: Allocator>(world: &SnapWorld<Grid<A>, A>)
 /// A law, which runs nothing. Over a tree that had no node at first, for at most 64, the calls of a snapshot object with
 /// their replies are those of the object of the law, after every list of calls: where b have begun, a place comes within 5b
 /// steps, a scan takes at most (b + 1)(6b - 2) steps and an update one more. No two have one place, and at most 2b - 1
-/// nodes were made. Only a step that makes a node may want memory, and all who begin under one identity are alike.
+/// nodes were made. Only a step that makes a node may want memory, and all who begin under one identity are alike. A new
+/// tree is one in which nothing was written.
 pub fn tree_snapshot_law<A: Allocator + Clone>(world: &SnapWorld<TreePlaces<A>, A>)
     ensures law { world.now.most ≤ 64 → IsLawfulFrom tree_places (new_tree world.now.most) (tree_bounds world.now.most) world.now }
     ensures fits { BoundsScans tree_places world.now.most (tree_bounds world.now.most).scanning }
@@ -42,6 +44,7 @@ pub fn tree_snapshot_law<A: Allocator + Clone>(world: &SnapWorld<TreePlaces<A>, 
     ensures ample { (id : ℕ) → LacksOnWay tree_places world.now id }
     ensures makes { (id : ℕ) → IsFromNewTree world.now → LacksAtNode world.now id }
     ensures alike { BeginsAlike tree_places }
+    ensures new { (most : ℕ) → most ≤ 64 → tree_places.ties.IsNew (new_tree most) }
 {
     let _world = world;
 }

@@ -1,7 +1,7 @@
 use Rattle.snapshot_core.proofs.Following.{all_distinct}
 use Rattle.snapshot_places.specs.GridTies.{grid_places}
 use Rattle.snapshot_places.specs.GridProofs.{grid_laws}
-use Rattle.snapshot_places.proofs.GridLaw.{grid_law, fits_grid, grid_alike}
+use Rattle.snapshot_places.proofs.GridLaw.{grid_law, fits_grid, grid_alike, empty_grid}
 use Rattle.snapshot_places.proofs.laws.grid_snapshot_law.Goals as goal
 
 pub returns-clause-law : goal.returns-clause-law
@@ -15,3 +15,6 @@ returns-clause-alike g c = grid_alike
 
 pub returns-clause-fits : goal.returns-clause-fits
 returns-clause-fits g c = fits_grid c.args.world.now.most
+
+pub returns-clause-new : goal.returns-clause-new
+returns-clause-new g c = empty_grid

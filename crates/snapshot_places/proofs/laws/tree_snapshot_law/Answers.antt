@@ -2,7 +2,7 @@ use Rattle.snapshot_core.proofs.Following.{all_distinct}
 use Rattle.snapshot_core.proofs.SureSteps.{lacks_on_way}
 use Rattle.snapshot_places.specs.TreeTies.{tree_places}
 use Rattle.snapshot_places.specs.TreeProofs.{tree_laws}
-use Rattle.snapshot_places.proofs.TreeLaw.{tree_law, fits_tree, tree_nodes, tree_makes, tree_alike}
+use Rattle.snapshot_places.proofs.TreeLaw.{tree_law, fits_tree, tree_nodes, tree_makes, tree_alike, is_new}
 use Rattle.snapshot_places.proofs.laws.tree_snapshot_law.Goals as goal
 
 pub returns-clause-law : goal.returns-clause-law
@@ -25,3 +25,6 @@ returns-clause-alike g c = tree_alike
 
 pub returns-clause-fits : goal.returns-clause-fits
 returns-clause-fits g c = fits_tree c.args.world.now.most
+
+pub returns-clause-new : goal.returns-clause-new
+returns-clause-new g c = is_new
