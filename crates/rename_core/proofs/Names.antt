@@ -234,7 +234,7 @@ module _ {S R V U K : Type 0} (W : KnownPlaces S R V U K) (terms : RenameTerms) 
       ] refl
 
   -- its accesses are those of the snapshot object
-  pub own_held : (w : RenameState S U K) (r : List (Call Reply)) → Run (next W) (IsReply W) fresh r w → (p : ℕ) (c : Client U K) → client_of p w ≡ Some c → IsAccessFor W c c.pending (access_of W c)
+  pub own_held : (w : RenameState S U K) (r : List (Call Reply)) → Run (next W) (IsReply W) fresh r w → (p : ℕ) (c : Client U K) → client_of p w ≡ Some c → IsAccessFor W w.snap.memory c c.pending (access_of W c)
   own_held w r a p c h = let k = holds w r a in own_access_holds W named.laws w.snap p first k.tied.tie.calls k.tied.tie.world new c h
 
 -- every world after some calls keeps the law
@@ -259,7 +259,7 @@ module _ {S R V U K : Type 0} (W : KnownPlaces S R V U K) (kind : WorldKind) (sc
   pub answered_law : (p : ℕ) → step_refusal w p ≡ None → IsOk (rename_answer W w p)
   answered_law = answered_held W (terms_of W kind first) scanning named first.0 a.started.new refl a.started.low a.started.high w r a.run
 
-  pub own_law : (p : ℕ) (c : Client U K) → client_of p w ≡ Some c → IsAccessFor W c c.pending (access_of W c)
+  pub own_law : (p : ℕ) (c : Client U K) → client_of p w ≡ Some c → IsAccessFor W w.snap.memory c c.pending (access_of W c)
   own_law = own_held W (terms_of W kind first) scanning named first.0 a.started.new refl a.started.low a.started.high w r a.run
 
   pub snap_after : (calls : List SnapCall) × After (snapshot W) first.0 w.snap calls

@@ -98,7 +98,7 @@ module _ {S R V U K : Type 0} (W : KnownPlaces S R V U K) where
 
     -- p's next access is one for what it has to do
     abbrev pub MakesOwnAccess : RenameState S U K → ℕ → Type 0
-    MakesOwnAccess w p = Always renaming (λ first r. (c : Client U K) → client_of p w ≡ Some c → IsAccessFor W c c.pending (access_of W c)) w
+    MakesOwnAccess w p = Always renaming (λ first r. (c : Client U K) → client_of p w ≡ Some c → IsAccessFor W w.snap.memory c c.pending (access_of W c)) w
 
     -- p's step is answered where its round does not refuse it
     abbrev pub AnswersUnrefused : RenameState S U K → ℕ → Type 0

@@ -59,7 +59,8 @@ where
     W::Walker: Copy,
     W::Walk: Copy,
     W::Value: Drop,
-    ensures { snap.new ≡ after_wish snap.old id wish }
+    ensures state { snap.new ≡ after_wish snap.old id wish }
+    ensures no_access { snap.new.memory ≡ snap.old.memory }
 {
     let _asked = match wish {
         Wish::Nothing => Ok(()),
@@ -180,8 +181,8 @@ where
         ensures law { IsLawful (renaming ⟦<W as Known>⟧.places W.world) self.new }
 
         // Reply and own state are functions of the own state and the access's answer, and nothing else changes. After every
-        // list of calls the access is one for what the participant does: on its way to a place a read, a write or none, in
-        // a scan a read, at the end of an update the write of its own segment.
+        // list of calls the access is one for what the participant does: on its way to a place a read, a write or none, which
+        // leaves each segment as it is, in a scan a read, at the end of an update the write of its own segment.
         ensures local { IsLocal ⟦<W as Known>⟧.places id self.old self.new result }
         ensures own { MakesOwnAccess ⟦<W as Known>⟧.places W.world self.old id }
     {
@@ -311,6 +312,7 @@ where
     fn take_begin(&mut self, id: u64) -> Result<(), Refusal>
         ensures answer { result ≡ done_unless (begin_refusal self.old.snap id) }
         ensures state { self.new ≡ after_rename_begin ⟦<W as Known>⟧.places self.old id }
+        ensures no_access { self.new.snap.memory ≡ self.old.snap.memory }
     {
         self.snap.begin(id)?;
         let placed = self.snap.place_of(id).is_some();
@@ -329,6 +331,7 @@ where
     pub fn begin(&mut self, id: u64) -> Result<(), Refusal>
         ensures answer { result ≡ done_unless (begin_refusal self.old.snap id) }
         ensures state { self.new ≡ after_rename_begin ⟦<W as Known>⟧.places self.old id }
+        ensures no_access { self.new.snap.memory ≡ self.old.snap.memory }
 
         // The law, over every list of calls and replies that the world may be after.
         ensures after { LeadsOn (renaming ⟦<W as Known>⟧.places W.world) self.old self.new (Began id result) }

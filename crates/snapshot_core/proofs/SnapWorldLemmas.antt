@@ -23,7 +23,7 @@ use Rattle.snapshot_core.specs.declared.client.Client.{Client}
 use Rattle.snapshot_core.specs.declared.client.SnapReply.{SnapReply}
 use Rattle.snapshot_core.specs.Places.{KnownPlaces}
 use Rattle.snapshot_core.specs.Client.{is_idle, scanning, updating, access_for}
-use Rattle.snapshot_core.specs.SnapWorld.{SnapState, beginner_at, scan_refusal, update_refusal, asked, after_scan, after_update, told, clients_over, snap_answer, snap_answer_by, after_snap_step, after_snap_by, may_lack_memory, StaysAlike}
+use Rattle.snapshot_core.specs.SnapWorld.{SnapState, beginner_at, after_snap_begin, scan_refusal, update_refusal, asked, after_scan, after_update, told, clients_over, snap_answer, snap_answer_by, after_snap_step, after_snap_by, may_lack_memory, StaysAlike}
 use Rattle.snapshot_core.specs.SnapCalls.{SnapCall, next}
 use Rattle.snapshot_core.specs.SnapCalls.SnapCall.{Began, Updated, Scanned, Stepped}
 
@@ -168,3 +168,7 @@ module _ {S R V U K : Type 0} (t : KnownPlaces S R V U K) where
   stays_alike w new p state other alike =
       let same : program_of p w.participants ≡ program_of p other.participants = ap (option_map (λ (v : Participant (Client U K)). v.program)) alike.participant in
       rw (state, ← same) (stand_by w other p alike (program_of p w.participants))
+
+-- who begins makes no access
+pub begin_spares : {S R V U K : Type 0} (t : KnownPlaces S R V U K) (w : SnapState S U K) (id : ℕ) → (after_snap_begin t w id).memory ≡ w.memory
+begin_spares t w id = elim (begin_refusal w id) as (λ o. (begun_unless o w id (beginner_at t w id)).memory ≡ w.memory) [ None ↦ refl | Some why ↦ refl ]

@@ -38,7 +38,7 @@ module _ {S R V U K : Type 0} (t : KnownPlaces S R V U K) where
 
   -- p's next access is one for what it has to do
   abbrev pub MakesOwnAccess : SnapState S U K → ℕ → Type 0
-  MakesOwnAccess w p = AlwaysFromNew (λ first r. (c : Client U K) → program_of p w.participants ≡ Some c → IsAccessFor t c c.pending ((clients_over t).next c)) w
+  MakesOwnAccess w p = AlwaysFromNew (λ first r. (c : Client U K) → program_of p w.participants ≡ Some c → IsAccessFor t w.memory c c.pending ((clients_over t).next c)) w
 
   -- after every two lists of calls over places of one size, p would begin as the same
   abbrev pub BeginsTheSame : ℕ → Type 0

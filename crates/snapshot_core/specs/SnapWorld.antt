@@ -18,7 +18,7 @@ use Rattle.snapshot_core.specs.declared.client.Pending.{Pending}
 use Rattle.snapshot_core.specs.declared.client.Pending.TheVariants.{Nothing, Placing, Scan, Update, Write as Writing}
 use Rattle.snapshot_core.specs.declared.client.SnapReply.{SnapReply}
 use Rattle.snapshot_core.specs.declared.client.SnapReply.TheVariants.{Quiet as Silent}
-use Rattle.snapshot_core.specs.Places.{KnownPlaces}
+use Rattle.snapshot_core.specs.Places.{KnownPlaces, segment_in}
 use Rattle.snapshot_core.specs.Client.{client_at, client_steps, is_idle, scanning, updating, record_of, placed_note}
 
 -- a memory of type S, and participants on ways U whose scans take walks K
@@ -111,14 +111,18 @@ module _ {S R V U K : Type 0} (t : KnownPlaces S R V U K) where
   abbrev pub may_lack_memory : SnapState S U K → ℕ → Bool
   may_lack_memory w id = may_refuse_step clients_over t.memory w id
 
-  -- an access of a participant that has this to do: on its way to a place a read, a write or none; in a scan a read; and at
-  -- the end of an update the write of its own segment
-  abbrev pub IsAccessFor : Client U K → Pending → Access R V → Type 0
-  IsAccessFor c Nothing a = a ≡ Idle
-  IsAccessFor c Placing a = ReadsOrWrites a
-  IsAccessFor c Scan a = (r : R) × (a ≡ Read r)
-  IsAccessFor c (Update value) a = (r : R) × (a ≡ Read r)
-  IsAccessFor c (Writing value view) a = (place : ℕ) × (t.place_of c.walker ≡ Some place) × (a ≡ Write (t.walks.segment place) (t.walks.stored (Some (record_of c value view))))
+  -- no segment is another after this access
+  abbrev pub SparesSegments : S → Access R V → Type 0
+  SparesSegments s a = (x : ℕ) → segment_in t (t.memory.after s a) x ≡ segment_in t s x
+
+  -- an access to a memory of a participant that has this to do: on its way to a place a read, a write or none, which leaves
+  -- each segment as it is; in a scan a read; and at the end of an update the write of its own segment
+  abbrev pub IsAccessFor : S → Client U K → Pending → Access R V → Type 0
+  IsAccessFor s c Nothing a = a ≡ Idle
+  IsAccessFor s c Placing a = ReadsOrWrites a × SparesSegments s a
+  IsAccessFor s c Scan a = (r : R) × (a ≡ Read r)
+  IsAccessFor s c (Update value) a = (r : R) × (a ≡ Read r)
+  IsAccessFor s c (Writing value view) a = (place : ℕ) × (t.place_of c.walker ≡ Some place) × (a ≡ Write (t.walks.segment place) (t.walks.stored (Some (record_of c value view))))
 
   -- p is on its way to its place
   abbrev pub IsOnWay : SnapState S U K → ℕ → Type 0

@@ -66,11 +66,13 @@ where
         self.world.begin_refusal(id)
     }
 
-    /// A participant begins. Refused where the identity is 0, then where it has begun, then where the object is full.
+    /// A participant begins. Refused where the identity is 0, then where it has begun, then where the object is full. It makes
+    /// no access.
     pub fn begin(&mut self, id: u64) -> Result<(), Refusal>
         ensures answer { result ≡ done_unless (begin_refusal self.old id) }
         ensures state { self.new ≡ after_snap_begin ⟦<W as Known>⟧.places self.old id }
         ensures refused { OnErr result (self.new ≡ self.old) }
+        ensures no_access { self.new.memory ≡ self.old.memory }
         ensures after { LeadsOn (snapshot ⟦<W as Known>⟧.places) self.old self.new (Began id result) }
         ensures law { IsLawful (snapshot ⟦<W as Known>⟧.places) self.new }
     {
@@ -86,6 +88,7 @@ where
         ensures answer { result ≡ done_unless (update_refusal self.old id) }
         ensures state { self.new ≡ after_update self.old id value }
         ensures refused { OnErr result (self.new ≡ self.old) }
+        ensures no_access { self.new.memory ≡ self.old.memory }
         ensures after { LeadsOn (snapshot ⟦<W as Known>⟧.places) self.old self.new (Updated id value result) }
         ensures law { IsLawful (snapshot ⟦<W as Known>⟧.places) self.new }
     {
@@ -107,6 +110,7 @@ where
         ensures answer { result ≡ done_unless (scan_refusal self.old id) }
         ensures state { self.new ≡ after_scan self.old id }
         ensures refused { OnErr result (self.new ≡ self.old) }
+        ensures no_access { self.new.memory ≡ self.old.memory }
         ensures after { LeadsOn (snapshot ⟦<W as Known>⟧.places) self.old self.new (Scanned id result) }
         ensures law { IsLawful (snapshot ⟦<W as Known>⟧.places) self.new }
     {
@@ -183,8 +187,8 @@ where
 
         // Nothing of the object changes but this participant and the register that it names, and in another one that
         // looks alike to this participant the answer is the same, and where the participant then stands. The access is
-        // one for what it has to do: on its way to its place a read, a write or none, in a scan a read, at the end of an
-        // update the write of its own segment.
+        // one for what it has to do: on its way to its place a read, a write or none, which leaves each segment as it is, in
+        // a scan a read, at the end of an update the write of its own segment.
         ensures local { IsLocal (clients_over ⟦<W as Known>⟧.places) W.steps id self.old self.new }
         ensures alike { result ≢ Err Refusal.NoMemory → AnswersAlike ⟦<W as Known>⟧.places self.old id result }
         ensures stands_alike { result ≢ Err Refusal.NoMemory → StaysAlike ⟦<W as Known>⟧.places self.old self.new id }

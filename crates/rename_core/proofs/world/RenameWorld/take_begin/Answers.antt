@@ -19,7 +19,7 @@ pub invariant_of-self-2 : goal.invariant_of-self-2
 invariant_of-self-2 g c =
     let goes : begin_refusal c.self.inside.snap c.args.id ≡ None = was_begun (begin_refusal c.self.inside.snap c.args.id) c.in_ok-begin.field-0 c.in_ok-begin.ensures.answer in
     let state : c.begin.new.self ≡ after_snap_begin (known g) c.self.inside.snap c.args.id = c.in_ok-begin.ensures.state in
-    let asked : c.ask.new.snap ≡ after_wish (after_snap_begin (known g) c.self.inside.snap c.args.id) c.args.id c.first.result = rw (← state) c.ask.ensures in
+    let asked : c.ask.new.snap ≡ after_wish (after_snap_begin (known g) c.self.inside.snap c.args.id) c.args.id c.first.result = rw (← state) c.ask.ensures.state in
     let l = begun_large (known g) (record { snap = c.self.inside.snap; rounds = c.self.inside.rounds.items; limit = c.self.inside.limit }) c.args.id c.first.result goes in
     let most = l.most in
     let old = c.self.invariant in

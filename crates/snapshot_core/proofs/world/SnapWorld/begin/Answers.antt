@@ -3,6 +3,7 @@ use Rattle.step_memory.specs.World.{begin_refusal, done_unless}
 use Rattle.snapshot_core.specs.SnapWorld.{after_snap_begin}
 use Rattle.snapshot_core.specs.SnapCalls.SnapCall.{Began}
 use Rattle.snapshot_core.proofs.Following.{law_holds}
+use Rattle.snapshot_core.proofs.SnapWorldLemmas.{begin_spares}
 use Rattle.step_memory.proofs.MachineLemmas.{call_leads_on}
 use Rattle.snapshot_core.specs.Machine.{snapshot}
 use Rattle.snapshot_core.specs.Places.{KnownPlaces, places_by}
@@ -20,3 +21,8 @@ returns-clause-after g c =
 
 pub returns-clause-law : goal.returns-clause-law
 returns-clause-law g c = law_holds (known g) g.met.W.Places.laws c.begin.new.self
+
+pub returns-clause-no_access : goal.returns-clause-no_access
+returns-clause-no_access g c =
+    let state : c.begin.new.self ≡ after_snap_begin (known g) c.args.self.now c.args.id = search rules in
+    rw state (begin_spares (known g) c.args.self.now c.args.id)

@@ -1,4 +1,4 @@
-use Rattle.std.proofs.Common.{◌≡◌, true, false, Some, None, Ok, Err, sym, ◌∙◌}
+use Rattle.std.proofs.Common.{◌≡◌, true, false, Some, None, Ok, Err, refl, sym, ◌∙◌}
 use Rattle.step_memory.specs.declared.refusal.Refusal.TheVariants.{AlreadyBegun, NotBegun}
 use Rattle.step_memory.specs.Participant.{program_of}
 use Rattle.step_memory.specs.World.{after_set}
@@ -45,3 +45,9 @@ returns-then-not-is_idle-clause-law g c = law_holds (known g) g.met.W.Places.law
 
 pub returns-clause-law : goal.returns-clause-law
 returns-clause-law g c = law_holds (known g) g.met.W.Places.laws c.ask.new.self
+
+pub returns-clause-no_access : goal.returns-clause-no_access
+returns-clause-no_access g c =
+    let some : Some c.in-Some.client.now ≡ program_of c.args.id c.args.self.now.participants = rw (← c.self.view_is) c.in-Some.ensures in
+    let state : c.ask.new.self ≡ after_set c.args.self.now c.args.id (scanning c.in-Some.client.now) = rw (c.self.view_is, ← some) at c.ask.ensures.after in
+    rw state refl

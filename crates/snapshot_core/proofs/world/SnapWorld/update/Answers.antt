@@ -1,4 +1,4 @@
-use Rattle.std.proofs.Common.{◌≡◌, true, false, Some, None, Ok, Err, sym, ◌∙◌}
+use Rattle.std.proofs.Common.{◌≡◌, true, false, Some, None, Ok, Err, refl, sym, ◌∙◌}
 use Rattle.step_memory.specs.declared.refusal.Refusal.TheVariants.{AlreadyBegun, NotBegun, Spent}
 use Rattle.step_memory.specs.Participant.{program_of}
 use Rattle.step_memory.specs.World.{after_set}
@@ -55,3 +55,9 @@ returns-then-client-ge-MOST_UPDATES-clause-law g c = law_holds (known g) g.met.W
 
 pub returns-clause-law : goal.returns-clause-law
 returns-clause-law g c = law_holds (known g) g.met.W.Places.laws c.ask.new.self
+
+pub returns-clause-no_access : goal.returns-clause-no_access
+returns-clause-no_access g c =
+    let some : Some c.in-Some.client.now ≡ program_of c.args.id c.args.self.now.participants = rw (← c.self.view_is) c.in-Some.ensures in
+    let state : c.ask.new.self ≡ after_set c.args.self.now c.args.id (updating c.in-Some.client.now c.args.value) = rw (c.self.view_is, ← some) at c.ask.ensures.after in
+    rw state refl
