@@ -1,6 +1,6 @@
 -- a history is a list of calls of its desk, and goes on by one accepted event
 use Rattle.std.proofs.Common.{◌≡◌, ◌<◌, Bool, length, arith, ℕ, inl, inr, List, [], ◌∷◌, ◌++◌, map, Option, Some, None, refl, sym, ap, subst, ◌∙◌, append_assoc, true, false}
-use Rattle.std.proofs.lemmas.List.{append-nil}
+use Rattle.std.proofs.lemmas.List.{append-nil, length-append}
 use Rattle.std.proofs.lemmas.Bool.Decides.{leb_tells}
 use Rattle.step_memory.specs.declared.refusal.Refusal.{Refusal}
 use Rattle.step_memory.specs.declared.refusal.Refusal.TheVariants as refusal
@@ -86,6 +86,17 @@ pub none_of_full : (o : Option Refusal) (count : ℕ) → full_unless o count �
 none_of_full (Some why) count h = cc
 none_of_full None count h = refl
 
+-- a hall that refuses nothing has room for a place
+room_by : (o : Option Refusal) (count : ℕ) → full_unless o count ≡ None → count < 1000000
+room_by (Some why) count h = absurd (cc)
+room_by None count h = elim (leb_tells 1000000 count) [
+  | inl full ↦ absurd (let no : Some refusal.HistoryFull ≡ None = rw full.0 at h in cc)
+  | inr room ↦ (let below = room.1 in omega arith)
+]
+
+pub room_left : (h : HallState) (e : Event) → hall_refusal h e ≡ None → length h.history < 1000000
+room_left h e due = room_by (desk_refusal (desk_of h) e) (length h.history) due
+
 -- a refusal has its reason
 refused_by : (r : Reply) → is_refusal r ≡ true → (why : Refusal) × (r ≡ reply.Refused why)
 refused_by Ok h = absurd (cc)
@@ -128,12 +139,14 @@ module _ (h : HallState) (e : Event) (r : Reply) (w : DeskValue) (lawful : IsLaw
     | inl m ↦
         let push : desk_of (longer h e) ≡ desk_after (desk_of h) e = replay_push (fresh_desk h.config) h.history (exchange e (desk_reply (desk_of h) e)) in
         let run = accepted_push (fresh_desk h.config) h.history e lawful.accepted free in
+        let one_more = length-append h.history (exchange e (desk_reply (desk_of h) e) ∷ []) in
+        let room = room_left h e due in
         let after : hall_after h e ≡ longer h e = ap (λ o. after_unless o h e) due in
         let told : hall_reply h e ≡ desk_reply (desk_of h) e = ap (λ o. reply_unless o h e) due in
         record {
           reply = m.0;
           desk = m.1 ∙ sym push;
-          lawful = record { named = lawful.named; accepted = run };
+          lawful = record { named = lawful.named; accepted = run; few = (rw one_more (omega arith)) };
           may = inl (m.0 ∙ sym told, sym after);
         }
     | inr m ↦ absurd (let no : true ≡ false = ap is_refusal (sym m.0) ∙ accepted in cc)
@@ -157,17 +170,6 @@ refused_stays h u e r None lawful due told after refused =
 pub kept_refused : (h u : HallState) (e : Event) (r : Reply) → IsLawful h → HallMay h e r u → is_refusal r ≡ true → u ≡ h
 kept_refused h u e r lawful (inl m) refused = refused_stays h u e r (hall_refusal h e) lawful refl m.0 m.1 refused
 kept_refused h u e r lawful (inr m) refused = m.1
-
--- a hall that refuses nothing has room for a place
-room_by : (o : Option Refusal) (count : ℕ) → full_unless o count ≡ None → count < 1000000
-room_by (Some why) count h = absurd (cc)
-room_by None count h = elim (leb_tells 1000000 count) [
-  | inl full ↦ absurd (let no : Some refusal.HistoryFull ≡ None = rw full.0 at h in cc)
-  | inr room ↦ (let below = room.1 in omega arith)
-]
-
-pub room_left : (h : HallState) (e : Event) → hall_refusal h e ≡ None → length h.history < 1000000
-room_left h e due = room_by (desk_refusal (desk_of h) e) (length h.history) due
 
 -- a reply that is none of the refusals is accepted
 pub accepted_by : (r : Reply) → ((why : Refusal) → r ≡ reply.Refused why → ⊥) → is_refusal r ≡ false

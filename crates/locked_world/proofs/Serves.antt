@@ -1,5 +1,5 @@
 -- what a hall, and a clerk, answer in turn
-use Rattle.std.proofs.Common.{◌≡◌, ℕ, ◌⊎◌, ◌++◌, nat_le, Bool, true, false, cond, inl, inr, List, [], ◌∷◌, map, length, Option, Some, None, refl, sym, ap, subst, ◌∙◌, append_assoc}
+use Rattle.std.proofs.Common.{◌≡◌, ℕ, ◌⊎◌, ◌++◌, nat_le, arith, Bool, true, false, cond, inl, inr, List, [], ◌∷◌, map, length, Option, Some, None, refl, sym, ap, subst, ◌∙◌, append_assoc}
 use Rattle.std.proofs.lemmas.List.{append-nil, map-append}
 use Rattle.std.proofs.lemmas.Option.{same_Some}
 use Rattle.step_memory.specs.declared.refusal.Refusal.{Refusal}
@@ -134,7 +134,7 @@ talk_by c Tree named w u ts fresh run = record { run = desk_lawful c w u ts fres
 pub talk : (c : Config) → gives_names c.world ≡ true → (u : HallState) (ts : List Turn) → Runs HallServes (hall_of c []) ts u → IsTalk c (with_room ts)
 talk c named u ts run =
     let fresh = (desk.fresh_is c (fresh_desk c)).1 (record { named = named; is = refl }) in
-    talk_by c c.world named (fresh_desk c) (desk_of u) (with_room ts) fresh (desk_runs (hall_of c []) u ts (record { named = named; accepted = tt }) run)
+    talk_by c c.world named (fresh_desk c) (desk_of u) (with_room ts) fresh (desk_runs (hall_of c []) u ts (record { named = named; accepted = tt; few = (omega arith) }) run)
 
 pub accepted-one : (x : Exchange) (xs : List Exchange) → accepted (x ∷ xs) ≡ accepted (x ∷ []) ++ accepted xs
 accepted-one x xs = elim (is_refusal x.reply) as (λ b. cond b (accepted xs) (x ∷ accepted xs) ≡ cond b [] (x ∷ []) ++ accepted xs) [

@@ -1,5 +1,5 @@
 -- what a hall answers, and what its history is
-use Rattle.std.specs.Prelude.{◌≡◌, ◌⊎◌, ℕ, List, [], ◌∷◌, ◌++◌, length, true, nat_le, if◌then◌else◌, Option, Some, None}
+use Rattle.std.specs.Prelude.{◌≡◌, ◌⊎◌, ℕ, List, [], ◌∷◌, ◌++◌, length, ◌≤◌, true, nat_le, if◌then◌else◌, Option, Some, None}
 use Rattle.step_memory.specs.declared.refusal.Refusal.{Refusal}
 use Rattle.step_memory.specs.declared.refusal.Refusal.TheVariants as refusal
 use Rattle.commands.specs.declared.config.Config.{Config}
@@ -21,10 +21,11 @@ hall_of config history = record { config = config; history = history }
 abbrev pub desk_of : HallState → DeskValue
 desk_of h = replay (fresh_desk h.config) h.history
 
--- names are given in the hall's world, and the history is one of accepted events with the replies that were due
+-- names are given in the hall's world, and the history is one of accepted events with the replies that were due, at most 1,000,000
 pub record IsLawful (h : HallState) : Type 0 where
   pub named : gives_names h.config.world ≡ true
   pub accepted : AreAccepted (fresh_desk h.config) h.history
+  pub few : length h.history ≤ 1000000
 
 -- a history of 1,000,000 events is full: that is said where nothing else is due
 abbrev pub full_unless : Option Refusal → ℕ → Option Refusal

@@ -1,6 +1,6 @@
 //! A desk with its history.
 
-ghost use Rattle.std.specs.Prelude.{◌≡◌, ◌⊎◌, ◌↔◌, [], length, slice_get, IfOk, IfErr, Err, false};
+ghost use Rattle.std.specs.Prelude.{◌≡◌, ◌≤◌, ◌⊎◌, ◌↔◌, [], length, slice_get, IfOk, IfErr, Err, false};
 ghost use Rattle.commands.specs.Config.{gives_names};
 ghost use Rattle.desk.specs.Desk.{owner_reply};
 ghost use Rattle.desk.specs.Owner.{IsOwnerReply};
@@ -69,9 +69,10 @@ impl Hall {
         self.config
     }
 
-    /// How many events the history holds.
+    /// How many events the history holds: at most 1,000,000.
     pub fn len(&self) -> usize
         ensures count { result ≡ length self.now.history }
+        ensures most { result ≤ 1000000 }
         ensures lawful { IsLawful self.now }
     {
         self.history.len()
