@@ -21,9 +21,11 @@
 pub mod done;
 pub mod head;
 pub mod laws;
+pub mod middle;
 mod row;
 mod sheet;
 pub mod showing;
+pub mod still;
 pub mod stretch;
 pub mod tail;
 

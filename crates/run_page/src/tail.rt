@@ -4,8 +4,8 @@ ghost use Rattle.std.specs.Prelude.{◌≡◌};
 ghost use Rattle.run_page.specs.Page.{page_tail};
 
 /// What a page ends with: the script that draws the data.
-pub const TAIL: &str = r#"</pre>
-</details>
+pub const TAIL: &str = r#"</ol>
+</section>
 </main>
 <script>
 'use strict';
@@ -626,7 +626,7 @@ $('last').addEventListener('click', () => move(rows.length));
 $('play').addEventListener('click', toggle);
 document.addEventListener('keydown', pressed);
 $('player').hidden = false;
-$('source').open = false;
+$('still').hidden = true;
 const asked = Number(location.hash.slice(1));
 show(location.hash.length > 1 && asked >= 0 ? asked - offset : rows.length);
 </script>
