@@ -41,7 +41,7 @@ begun_more ids [] l = refl
 begun_more ids (k ∷ ls) l = begun_more (begun_after ids k) ls l
 
 -- how many lines there are after these
-count_after : ℕ → List Line → ℕ
+abbrev count_after : ℕ → List Line → ℕ
 count_after n [] = n
 count_after n (k ∷ ls) = count_after (suc n) ls
 
@@ -118,14 +118,22 @@ before_rows text head line word number rows = simp append_assoc
 pub put_first : (t0 t1 t2 t3 t4 told head line word number rows : List ℕ) → t4 ≡ t3 ++ rows → t3 ≡ t2 ++ (word ++ number) → t2 ≡ t1 ++ line → t1 ≡ t0 ++ told → told ≡ head → t4 ≡ t0 ++ (head ++ (((line ++ word) ++ number) ++ rows))
 put_first t0 t1 t2 t3 t4 told head line word number rows a b c d e = a ∙ rw (b, c, d, e) (before_rows t0 head line word number rows)
 
-after_rows : (text data middle state between listed tail : List ℕ) → (((((text ++ data) ++ middle) ++ state) ++ between) ++ listed) ++ tail ≡ text ++ (((((data ++ middle) ++ state) ++ between) ++ listed) ++ tail)
-after_rows text data middle state between listed tail = simp append_assoc
+after_rows : (text last middle state between listed tail : List ℕ) → (((((text ++ last) ++ middle) ++ state) ++ between) ++ listed) ++ tail ≡ text ++ (((((last ++ middle) ++ state) ++ between) ++ listed) ++ tail)
+after_rows text last middle state between listed tail = simp append_assoc
 
-pub put_last : (t0 t1 t2 t3 t4 t5 t6 told-middle told-between told-listed told-tail data middle state between listed tail : List ℕ) →
-    t6 ≡ t5 ++ told-tail → t5 ≡ t4 ++ told-listed → t4 ≡ t3 ++ told-between → t3 ≡ t2 ++ state → t2 ≡ t1 ++ told-middle → t1 ≡ t0 ++ data → told-middle ≡ middle → told-between ≡ between → told-listed ≡ listed → told-tail ≡ tail →
-    t6 ≡ t0 ++ (((((data ++ middle) ++ state) ++ between) ++ listed) ++ tail)
-put_last t0 t1 t2 t3 t4 t5 t6 m1 b1 l1 e1 data middle state between listed tail a b c d e f g h i j =
-    a ∙ rw (b, c, d, e, f, g, h, i, j) (after_rows t0 data middle state between listed tail)
+pub put_last : (t0 t1 t2 t3 t4 t5 t6 m1 b1 l1 e1 last middle state between listed tail : List ℕ) →
+    t6 ≡ t5 ++ e1 → t5 ≡ t4 ++ l1 → t4 ≡ t3 ++ b1 → t3 ≡ t2 ++ state → t2 ≡ t1 ++ m1 → t1 ≡ t0 ++ last → m1 ≡ middle → b1 ≡ between → l1 ≡ listed → e1 ≡ tail →
+    t6 ≡ t0 ++ (((((last ++ middle) ++ state) ++ between) ++ listed) ++ tail)
+put_last t0 t1 t2 t3 t4 t5 t6 m1 b1 l1 e1 last middle state between listed tail a b c d e f g h i j =
+    a ∙ rw (b, c, d, e, f, g, h, i, j) (after_rows t0 last middle state between listed tail)
+
+-- ---- four parts
+
+four_parts : (t a b d e : List ℕ) → (((t ++ a) ++ b) ++ d) ++ e ≡ t ++ (((a ++ b) ++ d) ++ e)
+four_parts t a b d e = simp append_assoc
+
+pub put_four : (t0 t1 t2 t3 t4 a b d e : List ℕ) → t4 ≡ t3 ++ e → t3 ≡ t2 ++ d → t2 ≡ t1 ++ b → t1 ≡ t0 ++ a → t4 ≡ t0 ++ (((a ++ b) ++ d) ++ e)
+put_four t0 t1 t2 t3 t4 a b d e x y z u = x ∙ rw (y, z, u) (four_parts t0 a b d e)
 
 -- ---- the last state
 
@@ -138,6 +146,7 @@ next_more w ids i lt =
 
 -- one more name
 pub names_more : (w : DeskValue) (before : ℕ) → name_items w (before + 1) ≡ name_items w before ++ name_item (before + 1) (owner_reply w (before + 1))
+unfolding name_items
 names_more w before =
     let is : before + 1 ≡ suc before = omega arith in
     subst (λ (n : ℕ). name_items w n ≡ name_items w before ++ name_item n (owner_reply w n)) (sym is) refl
@@ -162,8 +171,9 @@ fresh_is c d h = fresh_by c.world c d refl h
 -- of nothing there is no text
 none_shown : (s : Stretch) → joined (stretch_of s []) ≡ []
 none_shown s =
-    let none : drop (s.from - 1) ([] {A = List ℕ}) ≡ [] = drop_all (s.from - 1) [] (omega arith) in
-    ap joined (ap (take s.count) none ∙ take_all s.count [] (omega arith))
+    let empty : List (List ℕ) = [] in
+    let none : drop (s.from - 1) empty ≡ [] = drop_all (s.from - 1) empty (omega arith) in
+    ap joined (ap (take s.count) none ∙ take_all s.count empty (omega arith))
 
 pub no_rows : (c : Config) (s : Stretch) → shown_rows c s [] ≡ []
 no_rows c s = none_shown s

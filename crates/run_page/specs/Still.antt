@@ -55,10 +55,14 @@ abbrev pub access_in : Option Done → Option Coming
 access_in None = None
 access_in (Some d) = d.access
 
+abbrev pub item_begin : ℕ → Option ℕ → List ℕ
+item_begin number lane = codes "<li value=\"" ++ decimal number ++ codes "\"" ++ lane_words lane ++ codes ">"
+
+abbrev pub item_words : Line → Option Done → List ℕ
+item_words l d = event_words l.event ++ codes " <b>" ++ access_words (access_in d) ++ codes "</b> " ++ told_words l.told ++ codes "</li>\n"
+
 abbrev pub item_of : List ℕ → ℕ → Line → Option Done → List ℕ
-item_of ids number l d =
-    codes "<li value=\"" ++ decimal number ++ codes "\"" ++ lane_words (lane_of ids l.event) ++ codes ">"
-    ++ event_words l.event ++ codes " <b>" ++ access_words (access_in d) ++ codes "</b> " ++ told_words l.told ++ codes "</li>\n"
+item_of ids number l d = item_begin number (lane_of ids l.event) ++ item_words l d
 
 -- the items of lines that are replayed on a desk, where so many lines were before
 abbrev pub items : List ℕ → ℕ → DeskValue → List Line → List (List ℕ)
@@ -75,9 +79,9 @@ name_item number (reply.Owner (Some p)) = codes "<li>name " ++ decimal number ++
 name_item number r = []
 
 -- the names up to a number
-abbrev pub name_items : DeskValue → ℕ → List ℕ
+unfoldable pub name_items : DeskValue → ℕ → List ℕ
 name_items w zero = []
 name_items w (suc before) = name_items w before ++ name_item (suc before) (owner_reply w (suc before))
 
 abbrev pub last_state : DeskValue → List ℕ → List ℕ
-last_state w ids = flat_map (next_item w) ids ++ name_items w MOST_NAMES.now
+last_state w ids = flat_map (next_item w) ids ++ name_items w MOST_NAMES

@@ -92,6 +92,7 @@ pre { overflow: auto; max-height: 24rem; font: 12px/1.45 ui-monospace, monospace
   margin-left: calc((var(--lane, -1) + 1) * 3.5rem); border-left: 3px solid hsl(var(--hue) 55% 50%);
 }
 .still b:empty { display: none; }
+.still ul b::before { content: "next: "; font-weight: 400; color: var(--soft); }
 @media (max-width: 52rem) { .stage { grid-template-columns: minmax(0, 1fr); } }
 @media print {
   .controls, details { display: none; }

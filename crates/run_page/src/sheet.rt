@@ -64,7 +64,8 @@ fn put_ending(
     put_last_state(desk, begun, out)?;
     out.put(between())?;
     out.put(listed.as_slice())?;
-    out.put(tail())
+    out.put(tail())?;
+    Ok(())
 }
 
 /// A desk of this config on which nothing was done. An error where its room was refused.

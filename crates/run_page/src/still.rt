@@ -2,7 +2,7 @@
 
 ghost use Rattle.std.specs.Prelude.{◌≡◌, ◌++◌, ◌==◌, [], OnOk, decimal, flat_map, if◌then◌else◌, position};
 ghost use Rattle.record_lines.specs.Told.{identity_of};
-ghost use Rattle.run_page.specs.Still.{access_in, beginner_at, begun_after, item_of, lane_of, lane_words, last_state, name_item, name_items, next_item};
+ghost use Rattle.run_page.specs.Still.{access_in, beginner_at, begun_after, item_begin, item_of, item_words, lane_of, lane_words, last_state, name_item, name_items, next_item};
 
 use crate::done::{Done, identity_of, is_refused};
 use crate::row::put_access;
@@ -73,6 +73,29 @@ fn access_in(done: &Option<Done>) -> Option<Coming>
     }
 }
 
+/// Appends what an item of this number and lane begins with.
+fn put_item_begin(number: u64, lane: Option<usize>, out: &mut Text) -> Result<(), AllocError>
+    ensures { OnOk result (out.new ≡ out.old ++ item_begin number lane) }
+{
+    out.put_word(b"<li value=\"", number)?;
+    out.put(b"\"")?;
+    put_lane(lane, out)?;
+    out.put(b">")?;
+    Ok(())
+}
+
+/// Appends the words of the item of a line, at which a desk did this.
+fn put_item_words(line: &Line, done: &Option<Done>, out: &mut Text) -> Result<(), AllocError>
+    ensures { OnOk result (out.new ≡ out.old ++ item_words line.now done.now) }
+{
+    put_event(line.event, out)?;
+    out.put(b" <b>")?;
+    put_access(access_in(done), out)?;
+    out.put(b"</b> ")?;
+    put_told(&line.told, out)?;
+    out.put(b"</li>\n")
+}
+
 /// Appends the item of a line, at which a desk did this.
 fn put_item(
     begun: &[u64],
@@ -83,16 +106,8 @@ fn put_item(
 ) -> Result<(), AllocError>
     ensures { OnOk result (out.new ≡ out.old ++ item_of begun.now number line.now done.now) }
 {
-    out.put_word(b"<li value=\"", number)?;
-    out.put(b"\"")?;
-    put_lane(lane_of(begun, line.event), out)?;
-    out.put(b">")?;
-    put_event(line.event, out)?;
-    out.put(b" <b>")?;
-    put_access(access_in(done), out)?;
-    out.put(b"</b> ")?;
-    put_told(&line.told, out)?;
-    out.put(b"</li>\n")
+    put_item_begin(number, lane_of(begun, line.event), out)?;
+    put_item_words(line, done, out)
 }
 
 /// Appends the item of a line, at which a desk did this, where that is shown. An error where a growth was refused.
@@ -161,11 +176,12 @@ fn put_name(number: u64, reply: &Reply, out: &mut Text) -> Result<(), AllocError
     }
 }
 
-/// Appends who has which name.
-fn put_names(desk: &Desk<Global>, out: &mut Text) -> Result<(), AllocError>
-    ensures { OnOk result (out.new ≡ out.old ++ name_items desk.now MOST_NAMES) }
+/// Appends who has which name, up to this one.
+#[tactic(auto, unfolding(crate::specs::Still::name_items))]
+fn put_names(desk: &Desk<Global>, most: u64, out: &mut Text) -> Result<(), AllocError>
+    ensures { OnOk result (out.new ≡ out.old ++ name_items desk.now most) }
 {
-    for before in 0..MOST_NAMES {
+    for before in 0..most {
         let number = before + 1;
         put_name(number, &desk.owner(number), out)?;
     }
@@ -181,5 +197,6 @@ pub(crate) fn put_last_state(
     ensures { OnOk result (out.new ≡ out.old ++ last_state desk.now begun.now) }
 {
     put_all_next(desk, begun, out)?;
-    put_names(desk, out)
+    put_names(desk, MOST_NAMES, out)?;
+    Ok(())
 }

@@ -38,12 +38,25 @@ function readRow(row) {
   };
 }
 
+// the first access on this page of each who began before it says where they stood
+const before = new Map();
+for (const r of rows) {
+  if (r.access && !r.refused && !before.has(r.id)) before.set(r.id, r.access);
+}
+for (const r of rows) if (r.verb === 'begin' && !r.refused) before.delete(r.id);
+
 // ---- the state after so many rows
 function fresh() {
-  return {
+  const s = {
     people: new Map(), regs: new Map(), names: new Map(), holders: new Map(), slots: new Map(),
     size: Number(config.k), differ: 0, refused: 0, row: null,
   };
+  for (const [id, access] of before) {
+    const p = person(s, id);
+    p.next = access;
+    if (access.reg !== 'segment') p.at = access.place;
+  }
+  return s;
 }
 
 function person(s, id) {

@@ -1,8 +1,8 @@
 use Rattle.run_page.proofs.TagLemmas.{accesses, data_clean, events, number, tells}
 use Rattle.run_page.proofs.laws.law_of_data.Goals as goal
 
-pub returns-clause-data : goal.returns-clause-data
-returns-clause-data c = data_clean
+pub returns-clause-all : goal.returns-clause-all
+returns-clause-all c = data_clean
 
 pub returns-clause-events : goal.returns-clause-events
 returns-clause-events c = events

@@ -9,8 +9,8 @@ returns c =
     let first = opening c.args.config c.args.stretch in
     record {
       desk = c.in_ok-desk.ensures;
-      begun = c.new.ensures;
+      begun = c.new.ensures.items;
       seen = refl;
       text = c.in_ok-put_opening.ensures ∙ ap (λ (t : List ℕ). t ++ first) c.new-text.ensures ∙ sym (ap (λ (t : List ℕ). first ++ t) (no_rows c.args.config c.args.stretch) ∙ append-nil first);
-      listed = c.new-text-2.ensures ∙ sym (no_items c.args.config c.args.stretch);
+      listed = c.new-2.ensures ∙ sym (no_items c.args.config c.args.stretch);
     }
