@@ -195,17 +195,17 @@ module _ (l : Line) (s s' : Sheet) (shown : Bool) (has : (shown ≡ true) ↔ Is
       let number : s'.seen ≡ suc (count_after 0 lines) = omega (arith, seen, h.seen, counted) in
       let row = text ∙ ap (λ (v : DeskValue). s.text ++ (if shown then row_of l (done_at v l) else [])) h.desk in
       let whole =
-          text_more s.stretch (rows w lines) (row_of l (done_at (replayed w lines) l)) s.seen (rows_length w lines ∙ sym h.seen) (opening c s.stretch) s.text s'.text shown has h.text row
-          ∙ ap (λ (all : List (List ℕ)). opening c s.stretch ++ joined (stretch_of s.stretch all)) (sym (rows_more w lines l)) in
+      text_more s.stretch (rows w lines) (row_of l (done_at (replayed w lines) l)) s.seen (rows_length w lines ∙ sym h.seen) (opening c s.stretch) s.text s'.text shown has h.text row
+      ∙ ap (λ (all : List (List ℕ)). opening c s.stretch ++ joined (stretch_of s.stretch all)) (sym (rows_more w lines l)) in
       let item =
-          listed
-          ∙ ap (λ (v : DeskValue). s.listed ++ (if shown then item_of s'.begun.items s'.seen l (done_at v l) else [])) h.desk
-          ∙ ap (λ (ids : List ℕ). s.listed ++ (if shown then item_of ids s'.seen l (done_at (replayed w lines) l) else [])) begun_is
-          ∙ ap (λ (k : ℕ). s.listed ++ (if shown then item_of (begun_after (begun_in [] lines) l) k l (done_at (replayed w lines) l) else [])) number in
+      listed
+      ∙ ap (λ (v : DeskValue). s.listed ++ (if shown then item_of s'.begun.items s'.seen l (done_at v l) else [])) h.desk
+      ∙ ap (λ (ids : List ℕ). s.listed ++ (if shown then item_of ids s'.seen l (done_at (replayed w lines) l) else [])) begun_is
+      ∙ ap (λ (k : ℕ). s.listed ++ (if shown then item_of (begun_after (begun_in [] lines) l) k l (done_at (replayed w lines) l) else [])) number in
       let all_items =
-          text_more s.stretch (items [] 0 w lines) (item_of (begun_after (begun_in [] lines) l) (suc (count_after 0 lines)) l (done_at (replayed w lines) l)) s.seen (items_length [] 0 w lines ∙ sym h.seen)
-          [] s.listed s'.listed shown has h.listed item
-          ∙ ap (λ (all : List (List ℕ)). joined (stretch_of s.stretch all)) (sym (items_more [] 0 w lines l)) in
+      text_more s.stretch (items [] 0 w lines) (item_of (begun_after (begun_in [] lines) l) (suc (count_after 0 lines)) l (done_at (replayed w lines) l)) s.seen (items_length [] 0 w lines ∙ sym h.seen)
+      [] s.listed s'.listed shown has h.listed item
+      ∙ ap (λ (all : List (List ℕ)). joined (stretch_of s.stretch all)) (sym (items_more [] 0 w lines l)) in
       record {
         desk = desk ∙ ap (λ (v : DeskValue). desk_next v l) h.desk ∙ sym (replayed_more w lines l);
         begun = begun_is ∙ sym (begun_more [] lines l);
@@ -229,7 +229,7 @@ is_page bytes stretch h head lines is says s text a p =
     ∙ ap (λ (t : List ℕ). t ++ ending s.desk s.begun.items s.seen s.listed) a.gathered.text
     ∙ rw (a.gathered.desk, a.gathered.begun, a.gathered.seen, a.gathered.listed)
     (grouped page_head (opening_data c s.stretch) (shown_rows c s.stretch a.run.lines) (ending_data (length a.run.lines))
-      page_middle (last_state (replayed (fresh_desk c) a.run.lines) (begun_in [] a.run.lines)) page_between (shown_items c s.stretch a.run.lines) page_tail) in
+    page_middle (last_state (replayed (fresh_desk c) a.run.lines) (begun_in [] a.run.lines)) page_between (shown_items c s.stretch a.run.lines) page_tail) in
     record {
       head = head;
       rows = lines;

@@ -72,9 +72,11 @@ svg .strong { font-weight: 600; }
 .scan { fill: var(--scan); }
 .moment { stroke: var(--ink); stroke-width: 1.5; stroke-dasharray: 2 2; }
 .clash { stroke: var(--now); stroke-width: 1.5; fill: none; }
+.unentered { opacity: .5; }
 .cursor { stroke: var(--now); stroke-width: 2; }
 table { border-collapse: collapse; width: 100%; font-variant-numeric: tabular-nums; }
 th, td { text-align: left; padding: .18rem .6rem .18rem 0; border-bottom: 1px solid var(--line); }
+#people { white-space: nowrap; }
 th { font-weight: 500; color: var(--soft); font-size: .85rem; }
 .cells { display: flex; flex-wrap: wrap; gap: .3rem; margin-bottom: 1rem; }
 .cell {
@@ -128,7 +130,7 @@ pre { overflow: auto; max-height: 24rem; font: 12px/1.45 ui-monospace, monospace
   </section>
   <section class="card" id="state">
     <h2>Participants</h2>
-    <table id="people"><tbody></tbody></table>
+    <div class="wide"><table id="people"><tbody></tbody></table></div>
     <h2 style="margin-top:1rem">Names</h2>
     <div class="cells" id="names"></div>
     <h2>Pool and slots</h2>
