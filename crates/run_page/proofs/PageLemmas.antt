@@ -1,6 +1,6 @@
 -- a page, one line after the other
-use Rattle.std.proofs.Common.{◌≡◌, ◌⊎◌, inl, inr, ℕ, suc, ◌+◌, ◌-◌, ◌<◌, ◌≤◌, Bool, true, false, ◌↔◌, if◌then◌else◌, List, [], ◌∷◌, ◌++◌, length, take, drop, refl, sym, ap, ◌∙◌, subst, append_assoc, arith}
-use Rattle.std.proofs.lemmas.List.{length-drop, take_all, drop_all, take-append-le, drop-append-le, append-nil, length-append}
+use Rattle.std.proofs.Common.{◌≡◌, ◌⊎◌, inl, inr, ℕ, zero, suc, ◌+◌, ◌-◌, ◌<◌, ◌≤◌, Bool, true, false, ◌↔◌, if◌then◌else◌, List, [], ◌∷◌, ◌++◌, length, take, drop, refl, sym, ap, ◌∙◌, subst, append_assoc, get_or, flat_map, arith}
+use Rattle.std.proofs.lemmas.List.{take_more, length-drop, take_all, drop_all, take-append-le, drop-append-le, append-nil, length-append}
 use Rattle.std.proofs.lemmas.Grind.{flat_map-append}
 use Rattle.std.proofs.lemmas.Bool.Decides.{leb_tells}
 use Rattle.commands.specs.declared.config.Config.{Config}
@@ -17,7 +17,9 @@ use Rattle.record_lines.specs.declared.header.Header.{Header}
 use Rattle.record_lines.specs.RecordLine.{IsHeaderLine}
 use Rattle.record_lines.specs.Records.{record_lines}
 use Rattle.run_checker.specs.Gathered.{AreGathered, Gathers}
-use Rattle.run_page.specs.Page.{HasPut, IsPageOf, ending, ending_data, joined, opening, opening_data, page, page_head, page_tail, shown_rows, stretch_of}
+use Rattle.run_page.specs.Page.{HasPut, IsPageOf, ending, ending_data, joined, opening, opening_data, page, page_between, page_head, page_middle, page_tail, shown_items, shown_rows, stretch_of}
+use Rattle.run_page.specs.Still.{begun_after, begun_in, item_of, items, last_state, name_item, name_items, next_item}
+use Rattle.desk.specs.Desk.{owner_reply}
 use Rattle.run_page.specs.Shown.{IsPage}
 
 -- ---- one more line is replayed
@@ -33,6 +35,29 @@ replayed_more w (k ∷ ls) l = replayed_more (desk_next w k) ls l
 pub rows_length : (w : DeskValue) (ls : List Line) → length (rows w ls) ≡ length ls
 rows_length w [] = refl
 rows_length w (k ∷ ls) = ap suc (rows_length (desk_next w k) ls)
+
+begun_more : (ids : List ℕ) (ls : List Line) (l : Line) → begun_in ids (ls ++ l ∷ []) ≡ begun_after (begun_in ids ls) l
+begun_more ids [] l = refl
+begun_more ids (k ∷ ls) l = begun_more (begun_after ids k) ls l
+
+-- how many lines there are after these
+abbrev count_after : ℕ → List Line → ℕ
+count_after n [] = n
+count_after n (k ∷ ls) = count_after (suc n) ls
+
+count_is : (n : ℕ) (ls : List Line) → count_after n ls ≡ n + length ls
+count_is n [] = omega arith
+count_is n (k ∷ ls) = let more = count_is (suc n) ls in omega (arith, more)
+
+items_more : (ids : List ℕ) (n : ℕ) (w : DeskValue) (ls : List Line) (l : Line) →
+    items ids n w (ls ++ l ∷ []) ≡ items ids n w ls ++ item_of (begun_after (begun_in ids ls) l) (suc (count_after n ls)) l (done_at (replayed w ls) l) ∷ []
+items_more ids n w [] l = refl
+items_more ids n w (k ∷ ls) l =
+    ap (λ (is : List (List ℕ)). item_of (begun_after ids k) (suc n) k (done_at w k) ∷ is) (items_more (begun_after ids k) (suc n) (desk_next w k) ls l)
+
+items_length : (ids : List ℕ) (n : ℕ) (w : DeskValue) (ls : List Line) → length (items ids n w ls) ≡ length ls
+items_length ids n w [] = refl
+items_length ids n w (k ∷ ls) = ap suc (items_length (begun_after ids k) (suc n) (desk_next w k) ls)
 
 -- ---- one more member of a list
 
@@ -64,24 +89,26 @@ module _ {X : Type 0} (first count : ℕ) (xs : List X) (x : X) where
 joined_more : (rs : List (List ℕ)) (r : List ℕ) → joined (rs ++ r ∷ []) ≡ joined rs ++ r
 joined_more rs r = flat_map-append (λ (x : List ℕ). x) rs (r ∷ []) ∙ ap (λ (t : List ℕ). joined rs ++ t) (append-nil r)
 
-module _ (c : Config) (s : Stretch) (lines : List Line) (l : Line) where
-  abbrev row_here : List ℕ
-  row_here = row_of l (done_at (replayed (fresh_desk c) lines) l)
+-- the stretch has the event before which there are so many
+abbrev IsInside : Stretch → ℕ → Type 0
+IsInside s n = (s.from - 1 ≤ n) × (n < s.from - 1 + s.count)
 
-  pub shown_in : (s.from - 1 ≤ length lines) × (length lines < s.from - 1 + s.count) → shown_rows c s (lines ++ l ∷ []) ≡ shown_rows c s lines ++ row_here
+module _ (s : Stretch) (rs : List (List ℕ)) (r : List ℕ) (n : ℕ) (so_many : length rs ≡ n) where
+  shown_in : IsInside s n → joined (stretch_of s (rs ++ r ∷ [])) ≡ joined (stretch_of s rs) ++ r
   shown_in inside =
-      let rs = rows (fresh_desk c) lines in
-      let n = rows_length (fresh_desk c) lines in
-      ap (λ (all : List (List ℕ)). joined (stretch_of s all)) (rows_more (fresh_desk c) lines l)
-      ∙ ap joined (cut_in (s.from - 1) s.count rs row_here (omega (arith, inside.0)) (omega (arith, inside.1)))
-      ∙ joined_more (stretch_of s rs) row_here
+      ap joined (cut_in (s.from - 1) s.count rs r (omega (arith, so_many, inside.0)) (omega (arith, so_many, inside.1)))
+      ∙ joined_more (stretch_of s rs) r
 
-  pub shown_out : ((s.from - 1 ≤ length lines) × (length lines < s.from - 1 + s.count) → ⊥) → shown_rows c s (lines ++ l ∷ []) ≡ shown_rows c s lines
-  shown_out outside =
-      let rs = rows (fresh_desk c) lines in
-      let n = rows_length (fresh_desk c) lines in
-      ap (λ (all : List (List ℕ)). joined (stretch_of s all)) (rows_more (fresh_desk c) lines l)
-      ∙ ap joined (cut_out (s.from - 1) s.count rs row_here (λ h. outside (subst (λ (k : ℕ). (s.from - 1 ≤ k) × (k < s.from - 1 + s.count)) n h)))
+  shown_out : (IsInside s n → ⊥) → joined (stretch_of s (rs ++ r ∷ [])) ≡ joined (stretch_of s rs)
+  shown_out outside = ap joined (cut_out (s.from - 1) s.count rs r (λ h. outside (subst (λ (k : ℕ). IsInside s k) so_many h)))
+
+  -- a text has the rows of a stretch so far, and one more where that is shown
+  text_more : (first old new : List ℕ) (shown : Bool) → ((shown ≡ true) ↔ IsInside s n) → old ≡ first ++ joined (stretch_of s rs) → new ≡ old ++ (if shown then r else []) →
+      new ≡ first ++ joined (stretch_of s (rs ++ r ∷ []))
+  text_more first old new true has is text =
+      text ∙ ap (λ (t : List ℕ). t ++ r) is ∙ append_assoc first (joined (stretch_of s rs)) r ∙ ap (λ (t : List ℕ). first ++ t) (sym (shown_in (has.0 refl)))
+  text_more first old new false has is text =
+      text ∙ append-nil old ∙ is ∙ ap (λ (t : List ℕ). first ++ t) (sym (shown_out (λ inside. (let bad : false ≡ true = has.1 inside in cc))))
 
 -- ---- what stands before the rows and after them
 
@@ -91,11 +118,38 @@ before_rows text head line word number rows = simp append_assoc
 pub put_first : (t0 t1 t2 t3 t4 told head line word number rows : List ℕ) → t4 ≡ t3 ++ rows → t3 ≡ t2 ++ (word ++ number) → t2 ≡ t1 ++ line → t1 ≡ t0 ++ told → told ≡ head → t4 ≡ t0 ++ (head ++ (((line ++ word) ++ number) ++ rows))
 put_first t0 t1 t2 t3 t4 told head line word number rows a b c d e = a ∙ rw (b, c, d, e) (before_rows t0 head line word number rows)
 
-after_rows : (text word number close tail : List ℕ) → ((text ++ (word ++ number)) ++ close) ++ tail ≡ text ++ (((word ++ number) ++ close) ++ tail)
-after_rows text word number close tail = simp append_assoc
+after_rows : (text last middle state between listed tail : List ℕ) → (((((text ++ last) ++ middle) ++ state) ++ between) ++ listed) ++ tail ≡ text ++ (((((last ++ middle) ++ state) ++ between) ++ listed) ++ tail)
+after_rows text last middle state between listed tail = simp append_assoc
 
-pub put_last : (t0 t1 t2 t3 told word number close tail : List ℕ) → t3 ≡ t2 ++ told → t2 ≡ t1 ++ close → t1 ≡ t0 ++ (word ++ number) → told ≡ tail → t3 ≡ t0 ++ (((word ++ number) ++ close) ++ tail)
-put_last t0 t1 t2 t3 told word number close tail a b c d = a ∙ rw (b, c, d) (after_rows t0 word number close tail)
+pub put_last : (t0 t1 t2 t3 t4 t5 t6 m1 b1 l1 e1 last middle state between listed tail : List ℕ) →
+    t6 ≡ t5 ++ e1 → t5 ≡ t4 ++ l1 → t4 ≡ t3 ++ b1 → t3 ≡ t2 ++ state → t2 ≡ t1 ++ m1 → t1 ≡ t0 ++ last → m1 ≡ middle → b1 ≡ between → l1 ≡ listed → e1 ≡ tail →
+    t6 ≡ t0 ++ (((((last ++ middle) ++ state) ++ between) ++ listed) ++ tail)
+put_last t0 t1 t2 t3 t4 t5 t6 m1 b1 l1 e1 last middle state between listed tail a b c d e f g h i j =
+    a ∙ rw (b, c, d, e, f, g, h, i, j) (after_rows t0 last middle state between listed tail)
+
+-- ---- four parts
+
+four_parts : (t a b d e : List ℕ) → (((t ++ a) ++ b) ++ d) ++ e ≡ t ++ (((a ++ b) ++ d) ++ e)
+four_parts t a b d e = simp append_assoc
+
+pub put_four : (t0 t1 t2 t3 t4 a b d e : List ℕ) → t4 ≡ t3 ++ e → t3 ≡ t2 ++ d → t2 ≡ t1 ++ b → t1 ≡ t0 ++ a → t4 ≡ t0 ++ (((a ++ b) ++ d) ++ e)
+put_four t0 t1 t2 t3 t4 a b d e x y z u = x ∙ rw (y, z, u) (four_parts t0 a b d e)
+
+-- ---- the last state
+
+-- one more participant
+pub next_more : (w : DeskValue) (ids : List ℕ) (i : ℕ) → i < length ids → flat_map (next_item w) (take (i + 1) ids) ≡ flat_map (next_item w) (take i ids) ++ next_item w (get_or ids i 0)
+next_more w ids i lt =
+    ap (flat_map (next_item w)) (take_more ids i 0 lt)
+    ∙ flat_map-append (next_item w) (take i ids) (get_or ids i 0 ∷ [])
+    ∙ ap (λ (t : List ℕ). flat_map (next_item w) (take i ids) ++ t) (append-nil (next_item w (get_or ids i 0)))
+
+-- one more name
+pub names_more : (w : DeskValue) (before : ℕ) → name_items w (before + 1) ≡ name_items w before ++ name_item (before + 1) (owner_reply w (before + 1))
+unfolding name_items
+names_more w before =
+    let is : before + 1 ≡ suc before = omega arith in
+    subst (λ (n : ℕ). name_items w n ≡ name_items w before ++ name_item n (owner_reply w n)) (sym is) refl
 
 -- ---- the desk of a config
 
@@ -114,43 +168,57 @@ fresh_is c d h = fresh_by c.world c d refl h
 
 -- ---- what is gathered
 
--- of no line there is no row
-pub no_rows : (c : Config) (s : Stretch) → shown_rows c s [] ≡ []
-no_rows c s =
-    let none : drop (s.from - 1) (rows (fresh_desk c) []) ≡ [] = drop_all (s.from - 1) (rows (fresh_desk c) []) (omega arith) in
-    let taken : take s.count (drop (s.from - 1) (rows (fresh_desk c) [])) ≡ [] = ap (take s.count) none ∙ take_all s.count [] (omega arith) in
-    ap joined taken
+-- of nothing there is no text
+none_shown : (s : Stretch) → joined (stretch_of s []) ≡ []
+none_shown s =
+    let empty : List (List ℕ) = [] in
+    let none : drop (s.from - 1) empty ≡ [] = drop_all (s.from - 1) empty (omega arith) in
+    ap joined (ap (take s.count) none ∙ take_all s.count empty (omega arith))
 
--- before and after a line the text is a page so far
-text_more : (c : Config) (s : Stretch) (lines : List Line) (l : Line) (old new : List ℕ) (shown : Bool) → ((shown ≡ true) ↔ ((s.from - 1 ≤ length lines) × (length lines < s.from - 1 + s.count))) →
-    old ≡ opening c s ++ shown_rows c s lines → new ≡ old ++ (if shown then row_of l (done_at (replayed (fresh_desk c) lines) l) else []) → new ≡ opening c s ++ shown_rows c s (lines ++ l ∷ [])
-text_more c s lines l old new true has is text =
-    text
-    ∙ ap (λ (t : List ℕ). t ++ row_of l (done_at (replayed (fresh_desk c) lines) l)) is
-    ∙ append_assoc (opening c s) (shown_rows c s lines) (row_of l (done_at (replayed (fresh_desk c) lines) l))
-    ∙ ap (λ (t : List ℕ). opening c s ++ t) (sym (shown_in c s lines l (has.0 refl)))
-text_more c s lines l old new false has is text =
-    text ∙ append-nil old ∙ is ∙ ap (λ (t : List ℕ). opening c s ++ t) (sym (shown_out c s lines l (λ inside. (let bad : false ≡ true = has.1 inside in cc))))
+pub no_rows : (c : Config) (s : Stretch) → shown_rows c s [] ≡ []
+no_rows c s = none_shown s
+
+pub no_items : (c : Config) (s : Stretch) → shown_items c s [] ≡ []
+no_items c s = none_shown s
 
 -- one more line was replayed
-pub put_more : (l : Line) (s s' : Sheet) (shown : Bool) → ((shown ≡ true) ↔ ((s.stretch.from - 1 ≤ s.seen) × (s.seen < s.stretch.from - 1 + s.stretch.count))) → s'.desk ≡ desk_next s.desk l → s'.stretch ≡ s.stretch → s'.seen ≡ s.seen + 1 →
-    s'.text ≡ s.text ++ (if shown then row_of l (done_at s.desk l) else []) → Gathers HasPut l s s'
-put_more l s s' shown has desk stretch seen text c lines o h follows =
-    let n = length-append lines (l ∷ []) in
-    let m = h.seen in
-    let known = subst (λ (k : ℕ). (shown ≡ true) ↔ ((s.stretch.from - 1 ≤ k) × (k < s.stretch.from - 1 + s.stretch.count))) h.seen has in
-    let row = text ∙ ap (λ (w : DeskValue). s.text ++ (if shown then row_of l (done_at w l) else [])) h.desk in
-    let whole : s'.text ≡ opening c s.stretch ++ shown_rows c s.stretch (lines ++ l ∷ []) = text_more c s.stretch lines l s.text s'.text shown known h.text row in
-    record {
-      desk = desk ∙ ap (λ (w : DeskValue). desk_next w l) h.desk ∙ sym (replayed_more (fresh_desk c) lines l);
-      seen = omega (arith, seen);
-      text = subst (λ (x : Stretch). s'.text ≡ opening c x ++ shown_rows c x (lines ++ l ∷ [])) (sym stretch) whole;
-    }
+module _ (l : Line) (s s' : Sheet) (shown : Bool) (has : (shown ≡ true) ↔ IsInside s.stretch s.seen) where
+  pub put_more : s'.desk ≡ desk_next s.desk l → s'.begun.items ≡ begun_after s.begun.items l → s'.stretch ≡ s.stretch → s'.seen ≡ s.seen + 1 →
+      s'.text ≡ s.text ++ (if shown then row_of l (done_at s.desk l) else []) →
+      s'.listed ≡ s.listed ++ (if shown then item_of s'.begun.items s'.seen l (done_at s.desk l) else []) → Gathers HasPut l s s'
+  put_more desk begun stretch seen text listed c lines o h follows =
+      let w = fresh_desk c in
+      let n = length-append lines (l ∷ []) in
+      let m = h.seen in
+      let counted = count_is 0 lines in
+      let begun_is : s'.begun.items ≡ begun_after (begun_in [] lines) l = begun ∙ ap (λ (ids : List ℕ). begun_after ids l) h.begun in
+      let number : s'.seen ≡ suc (count_after 0 lines) = omega (arith, seen, h.seen, counted) in
+      let row = text ∙ ap (λ (v : DeskValue). s.text ++ (if shown then row_of l (done_at v l) else [])) h.desk in
+      let whole =
+      text_more s.stretch (rows w lines) (row_of l (done_at (replayed w lines) l)) s.seen (rows_length w lines ∙ sym h.seen) (opening c s.stretch) s.text s'.text shown has h.text row
+      ∙ ap (λ (all : List (List ℕ)). opening c s.stretch ++ joined (stretch_of s.stretch all)) (sym (rows_more w lines l)) in
+      let item =
+      listed
+      ∙ ap (λ (v : DeskValue). s.listed ++ (if shown then item_of s'.begun.items s'.seen l (done_at v l) else [])) h.desk
+      ∙ ap (λ (ids : List ℕ). s.listed ++ (if shown then item_of ids s'.seen l (done_at (replayed w lines) l) else [])) begun_is
+      ∙ ap (λ (k : ℕ). s.listed ++ (if shown then item_of (begun_after (begun_in [] lines) l) k l (done_at (replayed w lines) l) else [])) number in
+      let all_items =
+      text_more s.stretch (items [] 0 w lines) (item_of (begun_after (begun_in [] lines) l) (suc (count_after 0 lines)) l (done_at (replayed w lines) l)) s.seen (items_length [] 0 w lines ∙ sym h.seen)
+      [] s.listed s'.listed shown has h.listed item
+      ∙ ap (λ (all : List (List ℕ)). joined (stretch_of s.stretch all)) (sym (items_more [] 0 w lines l)) in
+      record {
+        desk = desk ∙ ap (λ (v : DeskValue). desk_next v l) h.desk ∙ sym (replayed_more w lines l);
+        begun = begun_is ∙ sym (begun_more [] lines l);
+        seen = omega (arith, seen);
+        text = subst (λ (x : Stretch). s'.text ≡ opening c x ++ shown_rows c x (lines ++ l ∷ [])) (sym stretch) whole;
+        listed = subst (λ (x : Stretch). s'.listed ≡ shown_items c x (lines ++ l ∷ [])) (sym stretch) all_items;
+      }
 
 -- ---- the whole page
 
-grouped : (head first rows last tail : List ℕ) → ((head ++ first) ++ rows) ++ (last ++ tail) ≡ (head ++ ((first ++ rows) ++ last)) ++ tail
-grouped head first rows last tail = simp append_assoc
+grouped : (head first rows last middle state between listed tail : List ℕ) →
+    ((head ++ first) ++ rows) ++ (((((last ++ middle) ++ state) ++ between) ++ listed) ++ tail) ≡ (((((head ++ ((first ++ rows) ++ last)) ++ middle) ++ state) ++ between) ++ listed) ++ tail
+grouped head first rows last middle state between listed tail = simp append_assoc
 
 pub is_page : (bytes : List ℕ) (stretch : Stretch) (h : Header) (head : List ℕ) (lines : List (List ℕ)) → record_lines bytes ≡ head ∷ lines → IsHeaderLine head h → (s : Sheet) (text : List ℕ) → AreGathered h lines (λ ls. HasPut h.config ls s) → IsPageOf s stretch text →
     IsPage bytes stretch text
@@ -158,9 +226,10 @@ is_page bytes stretch h head lines is says s text a p =
     let c = h.config in
     let whole : text ≡ page c s.stretch a.run.lines =
     p.text_is
-    ∙ ap (λ (t : List ℕ). t ++ ending s.seen) a.gathered.text
-    ∙ ap (λ (n : ℕ). (opening c s.stretch ++ shown_rows c s.stretch a.run.lines) ++ ending n) a.gathered.seen
-    ∙ grouped page_head (opening_data c s.stretch) (shown_rows c s.stretch a.run.lines) (ending_data (length a.run.lines)) page_tail in
+    ∙ ap (λ (t : List ℕ). t ++ ending s.desk s.begun.items s.seen s.listed) a.gathered.text
+    ∙ rw (a.gathered.desk, a.gathered.begun, a.gathered.seen, a.gathered.listed)
+    (grouped page_head (opening_data c s.stretch) (shown_rows c s.stretch a.run.lines) (ending_data (length a.run.lines))
+    page_middle (last_state (replayed (fresh_desk c) a.run.lines) (begun_in [] a.run.lines)) page_between (shown_items c s.stretch a.run.lines) page_tail) in
     record {
       head = head;
       rows = lines;

@@ -19,7 +19,8 @@ use Rattle.desk.specs.Desk.{fresh_desk}
 use Rattle.desk.specs.DeskValue.{DeskValue}
 use Rattle.step_memory.specs.Refusal.{refusal_number}
 use Rattle.schedule_player.specs.Events.{event_words}
-use Rattle.schedule_player.specs.Records.{header_line, world_name}
+use Rattle.commands.specs.Config.{world_name}
+use Rattle.schedule_player.specs.Records.{header_line}
 use Rattle.schedule_player.specs.Replies.{owner_words, pair_word, pair_words, reply_words}
 use Rattle.record_lines.specs.declared.line.Line.{Line}
 use Rattle.record_lines.specs.declared.told.Told.{Told}
@@ -31,7 +32,7 @@ use Rattle.run_page.specs.Row.{access_words, desk_next, done_at, done_words, reg
 use Rattle.run_page.specs.Page.{page_data, ending_data, has_tag, joined, opening_data, shown_rows, stretch_of}
 
 -- it has none
-abbrev Clean : List ℕ → Type 0
+abbrev pub Clean : List ℕ → Type 0
 Clean text = has_tag text ≡ false
 
 both : (xs ys : List ℕ) → Clean xs → Clean ys → Clean (xs ++ ys)
@@ -67,7 +68,7 @@ digits_clean (suc k) n acc h =
       | false ↦ digits_clean k (n / 10) (digit_glyph false (n % 10) ∷ acc) more
     ]
 
-number : (n : ℕ) → Clean (decimal n)
+pub number : (n : ℕ) → Clean (decimal n)
 unfolding digits
 number n = digits_clean 64 n [] refl
 
@@ -77,7 +78,7 @@ word text n h = both text (decimal n) h (number n)
 
 -- ---- events and replies
 
-events : (e : Event) → Clean (event_words e)
+pub events : (e : Event) → Clean (event_words e)
 events (event.Begin p) = word (codes "begin ") p refl
 events (event.Step p) = word (codes "step ") p refl
 events (event.Enter p) = word (codes "enter ") p refl
@@ -116,7 +117,7 @@ replies (reply.Value n) = word (codes "value ") n refl
 replies (reply.Owner o) = owners o
 replies (reply.Refused why) = word (codes "refused ") (refusal_number why) refl
 
-tells : (t : Told) → Clean (told_words t)
+pub tells : (t : Told) → Clean (told_words t)
 tells told.Ok = refl
 tells told.Quiet = refl
 tells told.Stop = refl
@@ -142,7 +143,7 @@ registers (Y place) = word (codes "Y ") place refl
 registers (Mark place) = word (codes "mark ") place refl
 registers (Segment place) = word (codes "segment ") place refl
 
-accesses : (a : Option Coming) → Clean (access_words a)
+pub accesses : (a : Option Coming) → Clean (access_words a)
 accesses None = refl
 accesses (Some Nothing) = refl
 accesses (Some (Read r)) = both (codes "read ") (register_words r) refl (registers r)

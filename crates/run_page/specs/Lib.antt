@@ -1,3 +1,4 @@
 pub mod Row
+pub mod Still
 pub mod Page
 pub mod Shown

@@ -22,7 +22,7 @@ pub struct Done {
 }
 
 /// Who an event is of; a widening is nobody's, and 0 is nobody.
-fn identity_of(event: Event) -> u64
+pub(crate) fn identity_of(event: Event) -> u64
     ensures { result ≡ identity_of event }
 {
     match event {
@@ -38,7 +38,7 @@ fn identity_of(event: Event) -> u64
 }
 
 /// Whether an event is told to be refused.
-fn is_refused(told: &Told) -> bool
+pub(crate) fn is_refused(told: &Told) -> bool
     ensures { result ≡ is_refused told.now }
 {
     match told {

@@ -72,9 +72,11 @@ svg .strong { font-weight: 600; }
 .scan { fill: var(--scan); }
 .moment { stroke: var(--ink); stroke-width: 1.5; stroke-dasharray: 2 2; }
 .clash { stroke: var(--now); stroke-width: 1.5; fill: none; }
+.unentered { opacity: .5; }
 .cursor { stroke: var(--now); stroke-width: 2; }
 table { border-collapse: collapse; width: 100%; font-variant-numeric: tabular-nums; }
 th, td { text-align: left; padding: .18rem .6rem .18rem 0; border-bottom: 1px solid var(--line); }
+#people { white-space: nowrap; }
 th { font-weight: 500; color: var(--soft); font-size: .85rem; }
 .cells { display: flex; flex-wrap: wrap; gap: .3rem; margin-bottom: 1rem; }
 .cell {
@@ -86,6 +88,13 @@ th { font-weight: 500; color: var(--soft); font-size: .85rem; }
 .key { display: flex; flex-wrap: wrap; gap: .2rem 1.1rem; margin-top: .6rem; color: var(--soft); }
 .key span { display: inline-flex; align-items: center; gap: .3rem; }
 pre { overflow: auto; max-height: 24rem; font: 12px/1.45 ui-monospace, monospace; }
+.still ol { padding: 0; overflow-x: auto; list-style-position: inside; font-variant-numeric: tabular-nums; }
+.still ol li {
+  --hue: calc((var(--lane, -1) + 1) * 67); width: max-content; padding: 0 .5rem;
+  margin-left: calc((var(--lane, -1) + 1) * 3.5rem); border-left: 3px solid hsl(var(--hue) 55% 50%);
+}
+.still b:empty { display: none; }
+.still ul b::before { content: "next: "; font-weight: 400; color: var(--soft); }
 @media (max-width: 52rem) { .stage { grid-template-columns: minmax(0, 1fr); } }
 @media print {
   .controls, details { display: none; }
@@ -93,6 +102,7 @@ pre { overflow: auto; max-height: 24rem; font: 12px/1.45 ui-monospace, monospace
   .card { break-inside: avoid; }
 }
 </style>
+<noscript><style>.stage, #timecard { display: none; }</style></noscript>
 </head>
 <body>
 <header>
@@ -120,14 +130,14 @@ pre { overflow: auto; max-height: 24rem; font: 12px/1.45 ui-monospace, monospace
   </section>
   <section class="card" id="state">
     <h2>Participants</h2>
-    <table id="people"><tbody></tbody></table>
+    <div class="wide"><table id="people"><tbody></tbody></table></div>
     <h2 style="margin-top:1rem">Names</h2>
     <div class="cells" id="names"></div>
     <h2>Pool and slots</h2>
     <div class="cells" id="pool"></div>
   </section>
 </div>
-<section class="card">
+<section class="card" id="timecard">
   <h2 id="when">Space and time</h2>
   <div class="lanes">
     <svg id="lanes" aria-hidden="true"></svg>
@@ -135,7 +145,7 @@ pre { overflow: auto; max-height: 24rem; font: 12px/1.45 ui-monospace, monospace
   </div>
   <div class="key" id="key" aria-label="what the marks mean"></div>
 </section>
-<details class="card" id="source" open>
+<details class="card" id="source">
 <summary>The events as data: event, reply, reply of a desk, access, next access</summary>
 <pre id="run">{"record":"#;
 

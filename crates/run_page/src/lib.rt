@@ -1,9 +1,10 @@
 //! A run that can be looked at: the page of a record.
 //!
 //! `show` reads a record as `run_checker` does. Where it is one of a run it writes one page of HTML, which needs nothing else: a fixed
-//! head, the data of the record, and a fixed tail with the script that draws them. What is proved (`IsShown`): the page is the head,
-//! then what `page_data` says, then the tail; of any verdict but `Yes` nothing is written; at a write fault what was written is a beginning
-//! of the page. What the data hold has no `<` (`law_of_data`).
+//! head, the data of the record, the last state and the events as lists for readers without a script, and a fixed tail with the script that
+//! draws the data. What is proved (`IsShown`): the page is the head, then what `page_data` says, then what `last_state` and `items` say, then
+//! the tail, with two fixed texts between; of any verdict but `Yes` nothing is written; at a write fault what was written is a beginning
+//! of the page. What it has of the record has no `<` (`law_of_data`).
 //!
 //! The lines are replayed on a desk of the record's config, and the page has a row for each event of a stretch: the event, the reply of
 //! the record, the reply of the desk, the access that was made, and the access that whose event it was makes next, which says where
@@ -21,9 +22,11 @@
 pub mod done;
 pub mod head;
 pub mod laws;
+pub mod middle;
 mod row;
 mod sheet;
 pub mod showing;
+pub mod still;
 pub mod stretch;
 pub mod tail;
 

@@ -43,7 +43,7 @@ fn put_register(register: Register, out: &mut Text) -> Result<(), AllocError>
 }
 
 /// Appends the words of an access, and nothing where there is none.
-fn put_access(access: Option<Coming>, out: &mut Text) -> Result<(), AllocError>
+pub(crate) fn put_access(access: Option<Coming>, out: &mut Text) -> Result<(), AllocError>
     ensures { OnOk result (out.new ≡ out.old ++ access_words access) }
 {
     match access {

@@ -1,12 +1,14 @@
 //! From the lines of a record to a page.
 
 ghost use Rattle.std.specs.Prelude.{◌≡◌, [], ◌++◌, IfOk, OnOk};
-ghost use Rattle.run_page.specs.Page.{HasPut, IsPageOf, ending, opening};
+ghost use Rattle.run_page.specs.Page.{HasPut, IsPageOf, ending, ending_data, opening};
 ghost use Rattle.desk.specs.Desk.{fresh_desk};
 
 use crate::done::{Done, replay};
 use crate::head::head;
+use crate::middle::{between, middle};
 use crate::row::put_where_shown;
+use crate::still::{keep_beginner, put_item_where_shown, put_last_state};
 use crate::stretch::Stretch;
 use crate::tail::tail;
 use desk::Desk;
@@ -15,14 +17,17 @@ use rename_core::Config;
 use run_checker::gather::Gather;
 use std::alloc::{AllocError, Global};
 
-/// A page so far, and a desk on which the lines so far were replayed, with what it did at the last of them.
+/// A page so far: up to its rows, and the items that come after them. Beside it a desk on which the lines so far were replayed,
+/// with what it did at the last of them, and who has begun.
 #[derive(Drop)]
 pub(crate) struct Sheet {
     desk: Desk<Global>,
+    begun: Vec<u64>,
     done: Option<Done>,
     stretch: Stretch,
     seen: u64,
     text: Text,
+    listed: Text,
 }
 
 /// Appends what stands before the first row.
@@ -36,12 +41,29 @@ fn put_opening(config: Config, stretch: Stretch, out: &mut Text) -> Result<(), A
     Ok(())
 }
 
-/// Appends what stands after the last row.
-fn put_ending(events: u64, out: &mut Text) -> Result<(), AllocError>
-    ensures { OnOk result (out.new ≡ out.old ++ ending events) }
+/// Appends what ends the data.
+fn put_ending_data(events: u64, out: &mut Text) -> Result<(), AllocError>
+    ensures { OnOk result (out.new ≡ out.old ++ ending_data events) }
 {
     out.put_word(b"null],\"events\":", events)?;
-    out.put(b"}\n")?;
+    out.put(b"}\n")
+}
+
+/// Appends what stands after the last row.
+fn put_ending(
+    desk: &Desk<Global>,
+    begun: &[u64],
+    events: u64,
+    listed: &Text,
+    out: &mut Text,
+) -> Result<(), AllocError>
+    ensures { OnOk result (out.new ≡ out.old ++ ending desk.now begun.now events listed.now) }
+{
+    put_ending_data(events, out)?;
+    out.put(middle())?;
+    put_last_state(desk, begun, out)?;
+    out.put(between())?;
+    out.put(listed.as_slice())?;
     out.put(tail())?;
     Ok(())
 }
@@ -66,10 +88,12 @@ impl Sheet {
         put_opening(config, stretch, &mut text)?;
         Ok(Sheet {
             desk,
+            begun: Vec::new(alloc),
             done: None,
             stretch,
             seen: 0,
             text,
+            listed: Text::new(alloc),
         })
     }
 
@@ -78,17 +102,19 @@ impl Sheet {
         ensures { IfOk result (IsPageOf self stretch) }
     {
         let Sheet {
-            desk: _,
+            desk,
+            begun,
             done: _,
             stretch: kept,
             seen,
             mut text,
+            listed,
         } = self;
         // What gathers lines may change all that it keeps, so it is looked at again.
         if kept.from != stretch.from || kept.count != stretch.count {
             return Err(AllocError);
         }
-        put_ending(seen, &mut text)?;
+        put_ending(&desk, &begun, seen, &listed, &mut text)?;
         Ok(text)
     }
 }
@@ -102,7 +128,16 @@ impl Gather for Sheet {
         };
         let is_shown = self.stretch.has(self.seen);
         replay(&mut self.desk, line, &mut self.done)?;
+        keep_beginner(line, &mut self.begun)?;
         put_where_shown(line, is_shown, &self.done, &mut self.text)?;
+        put_item_where_shown(
+            &self.begun,
+            seen,
+            line,
+            is_shown,
+            &self.done,
+            &mut self.listed,
+        )?;
         self.seen = seen;
         Ok(())
     }

@@ -4,8 +4,8 @@ ghost use Rattle.std.specs.Prelude.{◌≡◌};
 ghost use Rattle.run_page.specs.Page.{page_tail};
 
 /// What a page ends with: the script that draws the data.
-pub const TAIL: &str = r#"</pre>
-</details>
+pub const TAIL: &str = r#"</ol>
+</section>
 </main>
 <script>
 'use strict';
@@ -38,12 +38,25 @@ function readRow(row) {
   };
 }
 
+// the first access on this page of each who began before it says where they stood
+const before = new Map();
+for (const r of rows) {
+  if (r.access && !r.refused && !before.has(r.id)) before.set(r.id, r.access);
+}
+for (const r of rows) if (r.verb === 'begin' && !r.refused) before.delete(r.id);
+
 // ---- the state after so many rows
 function fresh() {
-  return {
+  const s = {
     people: new Map(), regs: new Map(), names: new Map(), holders: new Map(), slots: new Map(),
     size: Number(config.k), differ: 0, refused: 0, row: null,
   };
+  for (const [id, access] of before) {
+    const p = person(s, id);
+    p.next = access;
+    if (access.reg !== 'segment') p.at = access.place;
+  }
+  return s;
 }
 
 function person(s, id) {
@@ -210,6 +223,13 @@ function treeRooms() {
   return rooms;
 }
 
+// the splitters that somebody entered on this page
+const entered = new Set();
+for (const r of rows) {
+  if (r.access && r.access.reg !== 'segment') entered.add(r.access.place);
+  if (r.reply === 'place') entered.add(r.number);
+}
+
 const WIDE = 112;
 const HIGH = 72;
 const rooms = tree ? treeRooms() : gridRooms();
@@ -251,8 +271,8 @@ function buildSpace() {
     if (room.down && rooms.has(room.down)) way(svg, room, rooms.get(room.down), 'down');
   }
   for (const [p, room] of rooms) {
-    const g = put(svg, 'g', { 'data-splitter': p, transform:
-      'translate(' + room.x + ' ' + room.y + ')' });
+    const g = put(svg, 'g', { 'data-splitter': p, class: entered.has(p) ? '' : 'unentered',
+      transform: 'translate(' + room.x + ' ' + room.y + ')' });
     const title = put(g, 'title', {});
     const box = put(g, 'rect', { class: 'room', width: WIDE, height: HIGH, rx: 8 });
     put(g, 'text', { x: 8, y: 16, class: 'label' }, short(p));
@@ -267,7 +287,7 @@ function buildSpace() {
   }
   svg.setAttribute('viewBox', '0 0 ' + wide + ' ' + high);
   svg.style.minWidth = Math.min(wide, Math.max(320, wide * 0.6)) + 'px';
-  svg.style.maxWidth = wide + 'px';
+  svg.style.maxWidth = wide * 1.4 + 'px';
   svg.style.width = '100%';
 }
 
@@ -297,7 +317,7 @@ function drawRoom(s, p, part, here) {
   part.mark.textContent = tree && marked ? '✓' : '';
   part.mark.setAttribute('class', near === 'mark' ? 'fresh' : 'label');
   part.segment.textContent = written !== undefined ? 'proposes ' + written
-    : (home ? 'segment empty' : '');
+    : (home ? 'proposes –' : '');
   part.segment.setAttribute('class', near === 'segment' ? 'fresh' : 'strong');
   part.box.setAttribute('class', near ? 'room now' : 'room');
   part.g.setAttribute('data-x', x);
@@ -344,7 +364,8 @@ function drawPeople(s) {
     const line = document.createElement('tr');
     line.dataset.id = one.id;
     line.dataset.at = one.at === null ? '' : one.at;
-    const who = say(line, 'th', one.id);
+    const who = say(line, 'th', short(one.id));
+    who.title = one.id;
     who.scope = 'row';
     who.style.color = color(one.id);
     who.style.fontWeight = 700;
@@ -358,7 +379,9 @@ function drawPeople(s) {
 function cell(parent, number, text, small) {
   const node = say(parent, 'div', '', text === '' ? 'cell' : 'cell has');
   say(node, 'small', small);
-  node.appendChild(document.createTextNode(text === '' ? '–' : text));
+  node.appendChild(document.createTextNode(text === '' ? '–' : short(text)));
+  node.title = text;
+  if (text !== '') node.style.color = color(text);
   node.dataset.number = number;
   node.dataset.owner = text;
 }
@@ -448,11 +471,13 @@ function drawScan(behind, r, start, end) {
   put(behind, 'line', { class: 'moment', x1: x, x2: x, y1: y - 13, y2: y + 13 });
 }
 
+// where a proposal is that of another too, its lane is joined with theirs
 function joinClash(parent, proposals, id, number, i) {
   for (const [other, found] of proposals) {
     if (other === id || found.number !== number) continue;
-    put(parent, 'path', { class: 'clash', d: 'M' + across(found.i) + ' ' + below(other)
-      + 'L' + across(i) + ' ' + below(id) });
+    const x = across(i);
+    put(parent, 'path', { class: 'clash', d: 'M' + x + ' ' + below(id) + 'V' + below(other) });
+    put(parent, 'circle', { class: 'clash', cx: x, cy: below(other), r: 4 });
   }
 }
 
@@ -525,7 +550,7 @@ function buildKey(used) {
   if (used.has('saw') || used.has('named')) {
     say(key, 'span', '▭ a scan, and dashed in it a moment that its view shows');
   }
-  say(key, 'span', '╱ two propose the same');
+  say(key, 'span', '│ from here on two propose the same, ring and diamond');
 }
 
 // ---- moving
@@ -626,7 +651,7 @@ $('last').addEventListener('click', () => move(rows.length));
 $('play').addEventListener('click', toggle);
 document.addEventListener('keydown', pressed);
 $('player').hidden = false;
-$('source').open = false;
+$('still').hidden = true;
 const asked = Number(location.hash.slice(1));
 show(location.hash.length > 1 && asked >= 0 ? asked - offset : rows.length);
 </script>

@@ -3,8 +3,8 @@
 //! `slotctl play --world splitter --m 2` reads commands from the standard input, one a line, and writes a reply to each to
 //! the standard output. `slotctl serve` answers the commands of connections over one hall. What the words of the command line ask for
 //! is done by `program` of `slot_work`, over any reader and writer, but to serve, which is `serve` of `slot_server`. The status is 0
-//! where it was done and for help, 2 where the words are refused, and 3 at a fault or for want of memory; at 2 and 3 a text on the
-//! standard error says why.
+//! where it was done and for help, 1 where a record is none of a run, 2 where the words are refused, and 3 at a fault or for want of
+//! memory; at 2 and 3, and where a page was asked for at 1, a text on the standard error says why.
 #![tactic(auto)]
 
 use history_book::Opened;

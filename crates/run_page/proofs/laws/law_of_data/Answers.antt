@@ -1,5 +1,17 @@
-use Rattle.run_page.proofs.TagLemmas.{data_clean}
+use Rattle.run_page.proofs.TagLemmas.{accesses, data_clean, events, number, tells}
 use Rattle.run_page.proofs.laws.law_of_data.Goals as goal
 
-pub returns : goal.returns
-returns c = data_clean
+pub returns-clause-all : goal.returns-clause-all
+returns-clause-all c = data_clean
+
+pub returns-clause-events : goal.returns-clause-events
+returns-clause-events c = events
+
+pub returns-clause-accesses : goal.returns-clause-accesses
+returns-clause-accesses c = accesses
+
+pub returns-clause-replies : goal.returns-clause-replies
+returns-clause-replies c = tells
+
+pub returns-clause-numbers : goal.returns-clause-numbers
+returns-clause-numbers c = number

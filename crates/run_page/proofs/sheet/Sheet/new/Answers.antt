@@ -1,7 +1,7 @@
 use Rattle.std.proofs.Common.{List, ℕ, ◌++◌, ◌∙◌, refl, sym, ap}
 use Rattle.std.proofs.lemmas.List.{append-nil}
 use Rattle.run_page.specs.Page.{opening}
-use Rattle.run_page.proofs.PageLemmas.{no_rows}
+use Rattle.run_page.proofs.PageLemmas.{no_items, no_rows}
 use Rattle.run_page.proofs.sheet.Sheet.new.Goals as goal
 
 pub returns : goal.returns
@@ -9,6 +9,8 @@ returns c =
     let first = opening c.args.config c.args.stretch in
     record {
       desk = c.in_ok-desk.ensures;
+      begun = c.new.ensures.items;
       seen = refl;
       text = c.in_ok-put_opening.ensures ∙ ap (λ (t : List ℕ). t ++ first) c.new-text.ensures ∙ sym (ap (λ (t : List ℕ). first ++ t) (no_rows c.args.config c.args.stretch) ∙ append-nil first);
+      listed = c.new-2.ensures ∙ sym (no_items c.args.config c.args.stretch);
     }
