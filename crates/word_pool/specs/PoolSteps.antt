@@ -12,6 +12,12 @@ use Rattle.word_pool.specs.PoolRule.{KeepsPool, word_of}
 abbrev pub Comes : {S : Type 0} → Step S → Me S PoolView → ℕ → Me S PoolView → Type 0
 Comes s before found after = (moment : ℕ) × (after ≡ (lone (looked found (coming moment (call_of before.0))) before.0.past, before.1))
 
+-- a call comes, by a swap of 1 into the word of the first place
+abbrev pub ComesBySwap : {S : Type 0} → Step S → Me S PoolView → ℕ → Me S PoolView → Type 0
+ComesBySwap s before found after =
+    (came : ℕ) × (moment : ℕ) × (crowds : List ℕ) ×
+    (after ≡ (lone (swapped moment crowds found (coming came (call_of before.0))) before.0.past, before.1))
+
 -- a call looks at its place
 abbrev pub Looks : {S : Type 0} → Step S → Me S PoolView → ℕ → Me S PoolView → Type 0
 Looks s before found after = after ≡ (lone (looked found (call_of before.0)) before.0.past, before.1)
