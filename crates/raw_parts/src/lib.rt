@@ -30,7 +30,7 @@
 //! grant: that the word holds this identity, for good. So a name is checked by whoever was told of it, without a lock.
 //!
 //! The law: each grant finds its word equal to its identity, which is not 0. So two grants that meet have two names where
-//! their identities differ, and the words at the end hold the grant with which the board is closed. What is not promised:
+//! their identities differ; and the words at the end are what a last seat read, the grants that are handed in among them. What is not promised:
 //! that a post or a look gives a grant, but that it gives no other than was asked for; anything of `owner`.
 //!
 //! A caller:
@@ -55,7 +55,7 @@ pub mod splitter_steps;
 pub mod splitter_view;
 
 pub use board::Board;
-pub use board_seats::{Grant, ReaderSeat};
+pub use board_seats::{Grant, LastRead, ReaderSeat};
 pub use laws::{law_of_the_board, law_of_the_rule};
 pub use raw_splitter::RawSplitter;
 pub use seats::{EnteredSeat, FreshSeat};
