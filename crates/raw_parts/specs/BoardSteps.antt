@@ -9,8 +9,7 @@ use Rattle.raw_parts.specs.BoardRule.{AreSo}
 -- a post: the seat gains the claim where the word was 0 or held the identity
 abbrev pub Posts : {S : Type 0} → Step S → Me S BoardView → ℕ → Me S BoardView → Type 0
 Posts s before found after =
-    after ≡
-    (
+    after ≡ (
       board_view (if found == 0 || found == s.second then claim s.word s.second ∷ before.0.claims else before.0.claims) (suc before.0.accesses)
           before.0.read,
       before.1,

@@ -1,5 +1,5 @@
 -- each step of a pool keeps its rule
-use Rattle.std.proofs.Common.{◌≡◌, ◌≢◌, ℕ, zero, suc, ◌+◌, ◌*◌, ◌<◌, ◌≤◌, eq-eqb, ne_eqb, subst, sym, refl, ap, ◌∙◌, arith, List, [], ◌∷◌, ◌++◌, drop, set, slice_set, slice_index, replicate}
+use Rattle.std.proofs.Common.{◌≡◌, ◌≢◌, ℕ, zero, suc, ◌+◌, ◌*◌, ◌<◌, ◌≤◌, eq-eqb, ne_eqb, subst, sym, refl, ap, ◌∙◌, arith, List, [], ◌∷◌, ◌++◌, drop, length, set, slice_set, slice_index, replicate}
 use Rattle.std.proofs.lemmas.List.{set-get_or, length-set, get_or-set_same, get_or-set_other, length-replicate}
 use mathlib.Core.Option.{Option, some, none}
 use mathlib.Core.Logic.{dite}
@@ -229,10 +229,10 @@ module _ {S : Type 0} (count slots : ℕ) where
     may_free p st within is here s h _ e _ = (lone at_rest (going 1 c ∷ past), keeps, tt, free_kept 1 p s within is here h e, (1, refl))
 
   module _ (seat : ℕ) where
-    pub may_look_on : (u : PoolView) (st : Step S) → Allows {S = S} {V = PoolView} (KeepsPoolRule count) slots seat (u, []) 0 (λ f. f) (LooksOn st (u, []))
-    may_look_on u st s h _ e _ =
+    pub may_look_on : (u : PoolView) (st : Step S) → length u.calls ≡ 2 → Allows {S = S} {V = PoolView} (KeepsPoolRule count) slots seat (u, []) 0 (λ f. f) (LooksOn st (u, []))
+    may_look_on u st two s h _ e _ =
         let kept : KeepsPool count (slice_set s.words 0 (slice_index s.words 0)) (set s.views seat u) = rw (reread s.words 0, set_again s.views seat u e) h in
-        (u, keeps, tt, kept, (refl, record { count = count; words = s.words; views = s.views; kept = h; seat = seat; there = e }))
+        (u, keeps, tt, kept, (refl, record { count = count; words = s.words; views = s.views; kept = h; seat = seat; there = e }, two))
 
     -- the last call of a pool looks at a place
     module _ (p i : ℕ) (u : PoolView) (st : Step S) (at : i ≡ p * 8) (word : st.word ≡ p * 8) (lt : p < count) where

@@ -1,5 +1,5 @@
 -- each step of a line keeps its rule
-use Rattle.std.proofs.Common.{◌≡◌, ◌≢◌, ℕ, zero, suc, ◌+◌, ◌-◌, ◌*◌, ◌<◌, ◌≤◌, eqb, eq-eqb, ne_eqb, sym, refl, ap, ◌∙◌, arith, List, [], ◌∷◌, ◌++◌, set, slice_index, replicate}
+use Rattle.std.proofs.Common.{◌≡◌, ◌≢◌, ℕ, zero, suc, ◌+◌, ◌-◌, ◌*◌, ◌<◌, ◌≤◌, eqb, eq-eqb, ne_eqb, sym, refl, ap, ◌∙◌, arith, List, [], ◌∷◌, ◌++◌, length, set, slice_index, replicate}
 use mathlib.Core.Option.{some}
 use mathlib.Core.Logic.{dite}
 use native.Mathlib.Decide.{ℕ_discrete}
@@ -228,10 +228,10 @@ module _ {S : Type 0} (count seat : ℕ) where
         (let k = h.crowd.crowd seat (both c d past others) e in (k.0, tt)) (let k = h.crowd.crowd seat (both c d past others) e in k.1);
   }
 
-  pub may_look_on_in_line : (slots : ℕ) (u : PoolView) (st : Step S) → Allows {S = S} {V = PoolView} (KeepsLineRule count) slots seat (u, []) 0 (λ f. f) (LooksOn st (u, []))
-  may_look_on_in_line slots u st s h len e b =
+  pub may_look_on_in_line : (slots : ℕ) (u : PoolView) (st : Step S) → length u.calls ≡ 2 → Allows {S = S} {V = PoolView} (KeepsLineRule count) slots seat (u, []) 0 (λ f. f) (LooksOn st (u, []))
+  may_look_on_in_line slots u st two s h len e b =
       let kept : KeepsLine count (slice_set s.words 0 (slice_index s.words 0)) (set s.views seat u) = rw (reread s.words 0, set_again s.views seat u e) h in
-      (u, keeps, tt, kept, (refl, record { count = count; words = s.words; views = s.views; kept = h.pool; seat = seat; there = e }))
+      (u, keeps, tt, kept, (refl, record { count = count; words = s.words; views = s.views; kept = h.pool; seat = seat; there = e }, two))
 
 pub rests_undealt : (n : ℕ) → sum_of rests (undealt n) ≡ n
 rests_undealt zero = refl

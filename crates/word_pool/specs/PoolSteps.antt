@@ -1,5 +1,5 @@
 -- what each kind of step tells the seat that makes it. Each is one access, and its call counts it.
-use Rattle.std.specs.Prelude.{◌≡◌, ◌≤◌, ℕ, List, ◌∷◌, drop}
+use Rattle.std.specs.Prelude.{◌≡◌, ◌≤◌, ℕ, List, ◌∷◌, drop, length}
 use mathlib.Core.Option.{some}
 use lib.ListN.{get_elem?}
 use Rattle.atomic_table.specs.Table.{Me, Step}
@@ -50,9 +50,10 @@ pub record IsUnderRule (v : PoolView) : Type 0 where
   pub seat : ℕ
   pub there : get_elem? views seat ≡ some v
 
--- a load that changes nothing, and shows what the seat holds under the rule
+-- a load by a seat with two calls, that changes nothing, and shows what the seat holds under the rule; a seat with one call has
+-- no such step, so it makes no access that is not counted
 abbrev pub LooksOn : {S : Type 0} → Step S → Me S PoolView → ℕ → Me S PoolView → Type 0
-LooksOn s before found after = (after ≡ before) × IsUnderRule after.0
+LooksOn s before found after = (after ≡ before) × IsUnderRule after.0 × (length before.0.calls ≡ 2)
 
 -- a word is 0 or 1, and 1 where the seat that looks holds its place
 abbrev pub IsWordFor : ℕ → PoolView → ℕ → Type 0
