@@ -4,7 +4,7 @@ ghost use Rattle.std.specs.Prelude.{◌≡◌, IfSome};
 
 use linked_list_allocator::LocalHeap;
 use raw_parts::{Board, Grant, ReaderSeat};
-use std::alloc::Global;
+use std::alloc::{AllocError, Global};
 use std::process::Abort;
 use std::test::Fail;
 use std::thread::{Threads, join};
@@ -36,7 +36,7 @@ fn one_to_127_names(rt: HostRuntime) -> Result<(), Fail> {
 
 /// What a reader is granted where 1 is held by 10 and 3 by 20, and nothing is due.
 fn tries(board: &Board<Global>, reader: &mut ReaderSeat) -> [Option<(u64, u64)>; 8]
-    requires { reader.old ≡ board.now }
+    requires { reader.old.board ≡ board.now }
 {
     // Held by another, free, past the last, the least that is no name, and nobody's.
     [
@@ -88,15 +88,18 @@ fn two_post_their_names(rt: HostRuntime) -> Result<(), Fail> {
         ],
         [Some(20), None, None, None]
     );
-    let words = board.close(one)?;
+    let mut out = Vec::new(rt.alloc());
+    out.push(one)?;
+    out.push(two)?;
+    let (words, _) = board.close(rt.alloc(), out)?;
     assert_eq!(rt; words.as_slice(), [10, 0, 20].as_slice());
     Ok(())
 }
 
 /// Posts a free name, and tells whether its word is this identity, and not the one below.
 fn is_told_whole(board: &Board<Global>, seat: &mut ReaderSeat, name: u64, identity: u64) -> bool
-    requires { seat.old ≡ board.now }
-    ensures { seat.new ≡ board.now }
+    requires { seat.old.board ≡ board.now }
+    ensures { seat.new.board ≡ board.now }
 {
     let posted = granted(board.post(seat, name, identity));
     let another = granted(board.confirm(seat, name, identity.wrapping_sub(1)));
@@ -122,11 +125,11 @@ fn race<R: Threads + Sync>(rt: &R, alloc: Global) -> Result<(Option<u64>, Option
     let (first, second) = join(
         rt,
         move || -> Option<Grant>
-            requires { one ≡ shared.now }
+            requires { one.board ≡ shared.now }
             ensures { IfSome result (λ g. g.board ≡ shared.entry.now) }
         { shared.post(&mut one, 1, 10) },
         move || -> Option<Grant>
-            requires { other ≡ shared.now }
+            requires { other.board ≡ shared.now }
             ensures { IfSome result (λ g. g.board ≡ shared.entry.now) }
         { shared.post(&mut other, 1, 20) },
     );
@@ -163,15 +166,14 @@ fn each_want_of_memory_is_told(rt: HostRuntime) -> Result<(), Fail> {
                 };
                 // This takes the room that a board wants while it is made.
                 let rest = Vec::<u8, &LocalHeap>::with_capacity(&heap, 128);
-                match board.close(grant) {
-                    Ok(words) => {
+                let mut out = Vec::new(rt.alloc());
+                out.push(grant)?;
+                match board.close(&heap, out) {
+                    Ok((words, _)) => {
                         assert_eq!(rt; words.as_slice().last(), Some(&5));
                         made = true;
                     }
-                    Err(refusal) => {
-                        assert_eq!(rt; refusal, Refusal::NoMemory);
-                        spent = true;
-                    }
+                    Err(AllocError) => spent = true,
                 }
                 drop(rest);
             }
