@@ -2,7 +2,7 @@
 
 ghost use Rattle.std.specs.Prelude.{◌≡◌, ◌≢◌, ◌≤◌, ◌+◌, ◌⊎◌, IfSome, IsSome, IsSomeAnd, None};
 ghost use Rattle.std.specs.Arc.{arc_value};
-ghost use Rattle.word_pool_c.specs.Told.{WasRefused};
+ghost use Rattle.word_pool_c.specs.Refused.{MetAllInTime};
 ghost use Rattle.std.proofs.Props.{props};
 
 use std::alloc::Global;
@@ -38,7 +38,7 @@ impl Member {
         ensures held { result ≢ 0 → IsSomeAnd self.new.held (λ h. (h.number ≡ result) × (h.call.accesses ≤ result + 2)) }
         ensures range { result ≢ 0 → result ≤ (arc_value self.new.pool).numbers }
         ensures kept { result ≡ 0 → self.new.held ≡ self.old.held }
-        ensures none { result ≡ 0 → IsSome self.old.held ⊎ WasRefused self.new }
+        ensures none { result ≡ 0 → IsSome self.old.held ⊎ IsSomeAnd self.new.refused (MetAllInTime (arc_value self.new.pool)) }
     {
         if self.held.is_some() {
             return 0;
