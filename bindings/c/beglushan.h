@@ -28,8 +28,8 @@ bool word_pool_new(struct word_pool *pool, uint64_t size);
 /* A handle of the same pool for one more thread. False, with none made, where memory was refused. */
 bool word_pool_join(struct word_pool *pool, struct word_pool *other);
 
-/* Takes the least number that a walk from 1 upward finds free, by at most two accesses for each number that it tries.
- * 0 where it met each number held, and where this handle holds one already. */
+/* Takes the least number that a walk from 1 upward finds free, by at most two accesses more than the number says. 0 where it
+ * met each number held, by at most two accesses more than there are numbers, and where this handle holds one already. */
 uint64_t word_pool_acquire(struct word_pool *pool);
 
 /* The same, but it tries the number of a hint first. */

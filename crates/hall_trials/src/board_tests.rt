@@ -27,8 +27,8 @@ fn looks(
     word: (u64, u64),
     is_so: bool,
 )
-    requires { seat.old ≡ board.now }
-    ensures { seat.new ≡ board.now }
+    requires { seat.old.board ≡ board.now }
+    ensures { seat.new.board ≡ board.now }
 {
     let told = granted(&board.confirm(seat, word.0, word.1));
     assert_eq!(rt; told, is_so.then_some(word), "{word:?}");
@@ -36,8 +36,8 @@ fn looks(
 
 /// What a third seat is told, on a board where 1 is 10's, 3 is 20's and 2 is free.
 fn looks_at_names(rt: &impl Abort, board: &Board<Global>, seat: &mut ReaderSeat)
-    requires { seat.old ≡ board.now }
-    ensures { seat.new ≡ board.now }
+    requires { seat.old.board ≡ board.now }
+    ensures { seat.new.board ≡ board.now }
 {
     looks(rt, board, seat, (3, 20), true);
     looks(rt, board, seat, (1, 20), false);
@@ -55,8 +55,8 @@ fn posts<L: LockName>(
     seat: &mut ReaderSeat,
     want: (u64, u64),
 ) -> Grant
-    requires { seat.old ≡ board.now }
-    ensures seat { seat.new ≡ board.now }
+    requires { seat.old.board ≡ board.now }
+    ensures seat { seat.new.board ≡ board.now }
     ensures grant { result.board ≡ board.now }
 {
     let grant = post_name(session, board, seat).expect(rt, "a session that is named");
@@ -72,8 +72,8 @@ fn ten_is_named<L: LockName, R: Abort + Wait>(
     session: &mut Session<L>,
     seat: &mut ReaderSeat,
 ) -> Grant
-    requires { seat.old ≡ board.now }
-    ensures seat { seat.new ≡ board.now }
+    requires { seat.old.board ≡ board.now }
+    ensures seat { seat.new.board ≡ board.now }
     ensures grant { result.board ≡ board.now }
 {
     assert!(rt; post_name(session, board, seat).is_none());
@@ -89,8 +89,8 @@ fn twenty_is_named<L: LockName, R: Abort + Wait>(
     session: &mut Session<L>,
     seat: &mut ReaderSeat,
 ) -> Grant
-    requires { seat.old ≡ board.now }
-    ensures seat { seat.new ≡ board.now }
+    requires { seat.old.board ≡ board.now }
+    ensures seat { seat.new.board ≡ board.now }
     ensures grant { result.board ≡ board.now }
 {
     assert_eq!(rt; lock.rename(rt, session, 100), Ok(Some(3)));
@@ -113,6 +113,16 @@ fn words_agree<L: LockName>(rt: &impl Abort, closed: &Closed<L>, words: &[u64]) 
     }
 }
 
+/// The words of a board as it ends, where one grant is handed in.
+fn words_at_end(rt: &impl Abort, alloc: Global, board: Board<Global>, grant: Grant) -> Vec<u64>
+    requires { grant.board ≡ board }
+{
+    let mut out = Vec::new(alloc);
+    out.push(grant).ok().expect(rt, "room for a grant");
+    let (words, _) = board.close(alloc, out).expect(rt, "room for the words");
+    words
+}
+
 /// Two sessions post their names on a board of three. How many events the closed history has.
 fn two_sessions<L: LockName, R: Abort + Wait>(rt: &R, alloc: Global, opening: Opening) -> usize
     requires name { (opening.blank.name ≡ L.name) × (opening.blank.parts ≡ L.parts) }
@@ -131,7 +141,7 @@ fn two_sessions<L: LockName, R: Abort + Wait>(rt: &R, alloc: Global, opening: Op
     board.meet(&mut one, &mut two);
     let sessions = with(rt, with(rt, Vec::new(alloc), ten), twenty);
     let closed = closed(rt, lock, sessions, Vec::new(alloc));
-    let words = board.close(two).expect(rt, "room for the words");
+    let words = words_at_end(rt, alloc, board, two);
     words_agree(rt, &closed, &words);
     closed.hall.len()
 }
@@ -168,7 +178,7 @@ fn rename_and_post<L: LockName, R: Wait>(
     board: &Board<Global>,
     job: Job<L>,
 ) -> Posted<L>
-    requires { job.seat ≡ board.now }
+    requires { job.seat.board ≡ board.now }
     ensures { IfSome result.grant (λ g. g.board ≡ board.now) }
 {
     let Job {
@@ -191,7 +201,7 @@ fn all_posted<L: LockName + Send + Sync, R: Threads + Wait + Sync>(
     board: &Board<Global>,
     jobs: Vec<Job<L>>,
 ) -> Option<Vec<Posted<L>>>
-    requires { All (λ j. j.seat ≡ board.now) jobs.items }
+    requires { All (λ j. j.seat.board ≡ board.now) jobs.items }
     ensures { IfSome result (λ v. All (λ p. IfSome p.grant (λ g. g.board ≡ board.now)) v.items) }
 {
     thread::map_vec(rt, jobs, &|job| rename_and_post(rt, lock, board, job)).ok()
@@ -227,8 +237,8 @@ fn four_jobs<L: LockName, R: Wait>(
     board: &Board<Global>,
     seat: &mut ReaderSeat,
 ) -> Option<Vec<Job<L>>>
-    requires { seat.old ≡ board.now }
-    ensures { IfSome result (λ v. All (λ j. j.seat ≡ board.now) v.items) }
+    requires { seat.old.board ≡ board.now }
+    ensures { IfSome result (λ v. All (λ j. j.seat.board ≡ board.now) v.items) }
 {
     let mut jobs = Vec::new(alloc);
     for id in 1..=4u64 {
@@ -281,7 +291,7 @@ fn four_post<L: LockName + Send + Sync, R: Abort + Threads + Wait + Sync>(
     let mut three = take_one(rt, &board, &mut done, &mut sessions);
     let mut four = take_one(rt, &board, &mut done, &mut sessions);
     all_meet(&board, &mut one, &mut two, &mut three, &mut four);
-    let words = board.close(four).expect(rt, "room for the words");
+    let words = words_at_end(rt, alloc, board, four);
     let closed = closed(rt, lock, sessions, Vec::new(alloc));
     let posted = words.iter().filter(|word| **word != 0).count();
     posted == 4 && agrees(&closed, &words)

@@ -20,8 +20,8 @@ pub fn post_name<L: LockName, A: Allocator>(
     board: &Board<A>,
     seat: &mut ReaderSeat,
 ) -> Option<Grant>
-    requires { seat.old ≡ board.now }
-    ensures seat { seat.new ≡ board.now }
+    requires { seat.old.board ≡ board.now }
+    ensures seat { seat.new.board ≡ board.now }
     ensures board { IfSome result (λ g. g.board ≡ board.now) }
     ensures name { IfSome result (λ g. name_kept session.now.clerk.kept ≡ Some g.name) }
     ensures identity { IfSome result (λ g. g.identity ≡ session.now.id) }

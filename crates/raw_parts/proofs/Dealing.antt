@@ -11,8 +11,8 @@ use Rattle.splitter.specs.declared.stage.Stage.TheVariants.{Outside}
 use Rattle.splitter.proofs.DoorKept.{lawful_new}
 use Rattle.raw_parts.specs.declared.splitter_view.Visit.{Visit}
 use Rattle.raw_parts.specs.declared.splitter_view.SplitterView.{SplitterView}
-use Rattle.raw_parts.specs.SplitterView.{visit_at, view_of, unbegun_from, undealt_from}
-use Rattle.raw_parts.specs.SplitterRule.{IsShown, Each, NoneTwice, IsAmong, Shows, KeepsRule}
+use Rattle.raw_parts.specs.SplitterView.{fresh_visit, view_of, unbegun_from, undealt_from}
+use Rattle.raw_parts.specs.SplitterRule.{IsShown, Each, Meets, NoneTwice, IsAmong, Shows, KeepsRule}
 use Rattle.step_memory.proofs.SetAtLemmas.{set_at-cases, set_at-same, set_at-other}
 use Rattle.raw_parts.proofs.Views.{each_set, each_pushed, HoldsAt, at_after, at_longer_list, at_its_end}
 use Rattle.raw_parts.proofs.Accesses.{each_map, Has}
@@ -21,14 +21,14 @@ use Rattle.raw_parts.proofs.Accesses.{each_map, Has}
 record IsUnbegun (first end : ℕ) (v : Visit) : Type 0 where
   from : first ≤ v.number
   below : v.number < end
-  outside : Outside ≡ v.stage
+  fresh : fresh_visit v.number ≡ v
 
 -- each of them is one
 unbegun : (count first end : ℕ) → first + count ≤ end → Each (IsUnbegun first end) (unbegun_from first count)
 unbegun zero first end h = tt
 unbegun (suc count) first end h = (
-  record { from = omega arith; below = omega arith; outside = refl },
-  each_map (IsUnbegun (first + 1) end) (IsUnbegun first end) (λ v x. record { from = let f = x.from in omega arith; below = x.below; outside = x.outside })
+  record { from = omega arith; below = omega arith; fresh = refl },
+  each_map (IsUnbegun (first + 1) end) (IsUnbegun first end) (λ v x. record { from = let f = x.from in omega arith; below = x.below; fresh = x.fresh })
       (unbegun_from (first + 1) count) (unbegun count (first + 1) end (omega arith)),
 )
 
@@ -47,10 +47,10 @@ all_unbegun zero first number from below = absurd (omega arith)
 all_unbegun (suc count) first number from below = dite (ℕ_discrete first number) inl (λ ne. inr (all_unbegun count (first + 1) number (omega arith) (omega arith)))
 
 -- so what the first seat's view says is so
-shows_opening : (n seat : ℕ) (v : SplitterView) → get_elem? ((undealt_from 0 n) ∷ []) seat ≡ some v → Shows n (λ _. 0) (λ _. Outside) seat v
-shows_opening n zero v e = subst (Shows n (λ _. 0) (λ _. Outside) 0) (some-injective (undealt_from 0 n) v e) (
-  each_map (IsUnbegun 0 n) (IsShown n (λ _. 0) (λ _. Outside) 0 (undealt_from 0 n))
-      (λ t x. record { seats_are = refl; in_range = x.below; own = refl; stage_is = x.outside }) (unbegun_from 0 (n - 0)) (unbegun (n - 0) 0 n (omega arith)),
+shows_opening : (n seat : ℕ) (v : SplitterView) → get_elem? ((undealt_from 0 n) ∷ []) seat ≡ some v → Shows n (λ _. 0) (λ _. Outside) (λ _. 0) seat v
+shows_opening n zero v e = subst (Shows n (λ _. 0) (λ _. Outside) (λ _. 0) 0) (some-injective (undealt_from 0 n) v e) (
+  each_map (IsUnbegun 0 n) (IsShown n (λ _. 0) (λ _. Outside) (λ _. 0) 0 (undealt_from 0 n))
+      (λ t x. record { seats_are = refl; in_range = x.below; own = refl; stage_is = ap (λ (w : Visit). w.stage) x.fresh; turn_is = ap (λ (w : Visit). w.turn) x.fresh; meets = subst (λ (w : Visit). Meets n (λ _. Outside) (λ _. 0) w w.stage) x.fresh refl }) (unbegun_from 0 (n - 0)) (unbegun (n - 0) 0 n (omega arith)),
   none_twice (n - 0) 0,
 )
 shows_opening n (suc seat) v e = absurd (some-ne-none v (sym e))
@@ -63,20 +63,22 @@ opens S n = record {
   words_are = refl;
   stage = λ _. Outside;
   lawful = record { door = lawful_new 0; seated = λ name e. absurd (cc); begun = λ ne. absurd (ne refl) };
+  turn = λ _. 0;
+  last = λ word e. absurd (cc);
   seat_of = λ _. 0;
   held = λ number lt. (undealt_from 0 n, refl, all_unbegun (n - 0) 0 number (omega arith) (omega arith));
   shown = shows_opening n;
 }
 
 -- a visit that another seat makes is shown where only k changes its seat
-pub elsewhere : (n k new seat : ℕ) (seat_of : ℕ → ℕ) (stage : ℕ → Stage) (u : SplitterView) (v : Visit) → v.number ≢ k → IsShown n seat_of stage seat u v → IsShown n (set_at seat_of k new) stage seat u v
-elsewhere n k new seat seat_of stage u v ne x = record { seats_are = x.seats_are; in_range = x.in_range; own = set_at-other seat_of k new v.number ne ∙ x.own; stage_is = x.stage_is }
+pub elsewhere : (n k new seat : ℕ) (seat_of : ℕ → ℕ) (stage : ℕ → Stage) (turn : ℕ → ℕ) (u : SplitterView) (v : Visit) → v.number ≢ k → IsShown n seat_of stage turn seat u v → IsShown n (set_at seat_of k new) stage turn seat u v
+elsewhere n k new seat seat_of stage turn u v ne x = record { seats_are = x.seats_are; in_range = x.in_range; own = set_at-other seat_of k new v.number ne ∙ x.own; stage_is = x.stage_is; turn_is = x.turn_is; meets = x.meets }
 
 -- and so is the whole view of a seat that k does not leave
-pub shows_elsewhere : (n k new seat : ℕ) (seat_of : ℕ → ℕ) (stage : ℕ → Stage) (u : SplitterView) → seat_of k ≢ seat → Shows n seat_of stage seat u → Shows n (set_at seat_of k new) stage seat u
-shows_elsewhere n k new seat seat_of stage u ne s = (
-  each_map (IsShown n seat_of stage seat u) (IsShown n (set_at seat_of k new) stage seat u)
-      (λ t x. elsewhere n k new seat seat_of stage u t (λ e. ne (ap seat_of (sym e) ∙ x.own)) x) u.visits s.0,
+pub shows_elsewhere : (n k new seat : ℕ) (seat_of : ℕ → ℕ) (stage : ℕ → Stage) (turn : ℕ → ℕ) (u : SplitterView) → seat_of k ≢ seat → Shows n seat_of stage turn seat u → Shows n (set_at seat_of k new) stage turn seat u
+shows_elsewhere n k new seat seat_of stage turn u ne s = (
+  each_map (IsShown n seat_of stage turn seat u) (IsShown n (set_at seat_of k new) stage turn seat u)
+      (λ t x. elsewhere n k new seat seat_of stage turn u t (λ e. ne (ap seat_of (sym e) ∙ x.own)) x) u.visits s.0,
   s.1,
 )
 
@@ -86,23 +88,23 @@ each_both P Q R f [] h i = tt
 each_both P Q R f (v ∷ vs) h i = (f v h.0 i.0, each_both P Q R f vs h.1 i.1)
 
 -- the first visit goes to a new seat
-module _ {S : Type 0} (n seat m k : ℕ) (a : Stage) (rest : List Visit) where
-  first_dealt : Splits {S = S} {V = SplitterView} (KeepsRule n) seat (view_of m (visit_at k a ∷ rest)) (view_of m rest) (view_of m (visit_at k a ∷ []))
+module _ {S : Type 0} (n seat m : ℕ) (v : Visit) (rest : List Visit) where
+  first_dealt : Splits {S = S} {V = SplitterView} (KeepsRule n) seat (view_of m (v ∷ rest)) (view_of m rest) (view_of m (v ∷ []))
   first_dealt s h e =
-      let old : Shows n h.seat_of h.stage seat (view_of m (visit_at k a ∷ rest)) = h.shown seat (view_of m (visit_at k a ∷ rest)) e in
+      let old : Shows n h.seat_of h.stage h.turn seat (view_of m (v ∷ rest)) = h.shown seat (view_of m (v ∷ rest)) e in
       let left : SplitterView = view_of m rest in
-      let right : SplitterView = view_of m (visit_at k a ∷ []) in
+      let right : SplitterView = view_of m (v ∷ []) in
       let new : ℕ = length (set s.views seat left) in
-      let seat_of : ℕ → ℕ = set_at h.seat_of k new in
-      let kept_left : Shows n seat_of h.stage seat left = (
-        each_both (IsShown n h.seat_of h.stage seat (view_of m (visit_at k a ∷ rest))) (λ t. t.number ≢ k) (IsShown n seat_of h.stage seat left)
-            (λ t x ne. record { seats_are = x.seats_are; in_range = x.in_range; own = set_at-other h.seat_of k new t.number ne ∙ x.own; stage_is = x.stage_is })
+      let seat_of : ℕ → ℕ = set_at h.seat_of v.number new in
+      let kept_left : Shows n seat_of h.stage h.turn seat left = (
+        each_both (IsShown n h.seat_of h.stage h.turn seat (view_of m (v ∷ rest))) (λ t. t.number ≢ v.number) (IsShown n seat_of h.stage h.turn seat left)
+            (λ t x ne. record { seats_are = x.seats_are; in_range = x.in_range; own = set_at-other h.seat_of v.number new t.number ne ∙ x.own; stage_is = x.stage_is; turn_is = x.turn_is; meets = x.meets })
             rest old.0.1 old.1.0,
         old.1.1,
       ) in
       let moved = old.0.0 in
-      let kept_right : Shows n seat_of h.stage new right = (
-        (record { seats_are = moved.seats_are; in_range = moved.in_range; own = set_at-same h.seat_of k new; stage_is = moved.stage_is }, tt),
+      let kept_right : Shows n seat_of h.stage h.turn new right = (
+        (record { seats_are = moved.seats_are; in_range = moved.in_range; own = set_at-same h.seat_of v.number new; stage_is = moved.stage_is; turn_is = moved.turn_is; meets = moved.meets }, tt),
         (tt, tt),
       ) in
       record {
@@ -111,26 +113,28 @@ module _ {S : Type 0} (n seat m k : ℕ) (a : Stage) (rest : List Visit) where
         words_are = h.words_are;
         stage = h.stage;
         lawful = h.lawful;
+        turn = h.turn;
+        last = h.last;
         seat_of = seat_of;
-        held = λ number lt. set_at-cases h.seat_of k new (HoldsAt (Has number) (set s.views seat left ++ right ∷ [])) number
+        held = λ number lt. set_at-cases h.seat_of v.number new (HoldsAt (Has number) (set s.views seat left ++ right ∷ [])) number
             (λ same. at_its_end (Has number) (set s.views seat left) right (inl (sym same)))
             (λ other. at_longer_list (Has number) (set s.views seat left) right (h.seat_of number)
-            (at_after (Has number) s.views seat (view_of m (visit_at k a ∷ rest)) left e (⊎_elim (λ same. absurd (other (sym same))) (λ among. among)) (h.seat_of number) (h.held number lt)));
-        shown = each_pushed (Shows n seat_of h.stage) (set s.views seat left) right
-            (each_set (Shows n seat_of h.stage) s.views seat left kept_left
-            (λ j u other at. shows_elsewhere n k new j h.seat_of h.stage u (λ z. other (sym z ∙ moved.own)) (h.shown j u at)))
+            (at_after (Has number) s.views seat (view_of m (v ∷ rest)) left e (⊎_elim (λ same. absurd (other (sym same))) (λ among. among)) (h.seat_of number) (h.held number lt)));
+        shown = each_pushed (Shows n seat_of h.stage h.turn) (set s.views seat left) right
+            (each_set (Shows n seat_of h.stage h.turn) s.views seat left kept_left
+            (λ j u other at. shows_elsewhere n v.number new j h.seat_of h.stage h.turn u (λ z. other (sym z ∙ moved.own)) (h.shown j u at)))
             kept_right;
       }
 
 -- the visit of the least number that is not yet dealt out comes first
-pub least_first : (number seats : ℕ) → number < seats → undealt_from number seats ≡ view_of seats (visit_at number Outside ∷ unbegun_from (number + 1) (seats - (number + 1)))
+pub least_first : (number seats : ℕ) → number < seats → undealt_from number seats ≡ view_of seats (fresh_visit number ∷ unbegun_from (number + 1) (seats - (number + 1)))
 least_first number seats h = let e : seats - number ≡ suc (seats - (number + 1)) = omega arith in ap (λ count. view_of seats (unbegun_from number count)) e
 
 module _ (number seats : ℕ) (h : number < seats) (before : Me ℕ SplitterView) (is : before ≡ (undealt_from number seats, [])) where
   -- and it goes to a new seat
   pub may_deal : (n seat : ℕ) → Splits {S = ℕ} {V = SplitterView} (KeepsRule n) seat before.0 (view_of before.0.seats (drop 1 before.0.visits)) (view_of before.0.seats (take 1 before.0.visits))
   may_deal n seat = subst (λ (v : SplitterView). Splits {S = ℕ} {V = SplitterView} (KeepsRule n) seat v (view_of v.seats (drop 1 v.visits)) (view_of v.seats (take 1 v.visits)))
-      (sym (ap (λ (me : Me ℕ SplitterView). me.0) is ∙ least_first number seats h)) (first_dealt n seat seats number Outside (unbegun_from (number + 1) (seats - (number + 1))))
+      (sym (ap (λ (me : Me ℕ SplitterView). me.0) is ∙ least_first number seats h)) (first_dealt n seat seats (fresh_visit number) (unbegun_from (number + 1) (seats - (number + 1))))
 
   -- what is left with the seat that was dealt from
   pub left_over : (after : Me ℕ SplitterView) → after ≡ (view_of before.0.seats (drop 1 before.0.visits), before.1) → after ≡ (undealt_from (number + 1) seats, [])

@@ -1,30 +1,24 @@
 -- what the rule says of visits that ended under it
-use Rattle.std.proofs.Common.{◌≡◌, ◌≢◌, ℕ, ◌-◌, ◌<◌, ◌≤◌, inl, inr, ⊎_elim, true, false, sym, refl, ap, ◌∙◌, subst, arith, List, [], ◌∷◌}
+use Rattle.std.proofs.Common.{◌≡◌, ◌≢◌, ℕ, ◌<◌, ◌≤◌, ne_eqb, inl, inr, ⊎_elim, true, false, sym, refl, ap, ◌∙◌, subst, arith, List, [], ◌∷◌}
 use mathlib.Core.Logic.{dite}
 use native.Mathlib.Decide.{ℕ_discrete}
 use Rattle.atomic_table.specs.Seated.{TableId}
+use Rattle.atomic_table.specs.Table.{Me}
 use Rattle.splitter.specs.declared.way.Way.{Way}
 use Rattle.splitter.specs.declared.way.Way.TheVariants.{Stop, Right, Down}
 use Rattle.splitter.specs.declared.stage.Stage.{Stage}
-use Rattle.splitter.specs.declared.stage.Stage.TheVariants.{Outside, WroteX, SawClear, WroteY, Gone}
+use Rattle.splitter.specs.declared.stage.Stage.TheVariants.{WroteX, Gone}
 use Rattle.splitter.specs.Law.{AtMostOneStopped, NotAllTook, IsSplit}
 use Rattle.splitter.specs.Invariant.{IsSplitter}
-use Rattle.splitter.specs.Stage.{has_entered, has_set, went_right}
+use Rattle.splitter.specs.Stage.{has_entered, has_set}
 use Rattle.splitter.proofs.DoorKept.{law_of}
+use Rattle.raw_parts.specs.declared.splitter_view.Visit.{Visit}
 use Rattle.raw_parts.specs.declared.splitter_view.SplitterView.{SplitterView}
 use Rattle.raw_parts.specs.SplitterView.{own_word, visit_at, view_of, lone_view}
-use Rattle.raw_parts.specs.SplitterRule.{IsShown}
-use Rattle.raw_parts.specs.SplitterSteps.{IsUnderRule, EndsUnderRule, WentRightAfterAnother}
-use Rattle.raw_parts.specs.Seats.{SplitterId, EndedVisit, seats_in, IsEither, EitherTook}
+use Rattle.raw_parts.specs.SplitterRule.{IsShown, Meets}
+use Rattle.raw_parts.specs.SplitterSteps.{IsUnderRule, HasEnded, after_access, accesses_by}
+use Rattle.raw_parts.specs.Seats.{SplitterId, EndedVisit, HasMet, MetBy, IsOfEnded, ended_visit, gone_at, seats_in, visit_in, IsEither, EitherTook}
 use Rattle.raw_parts.proofs.Accesses.{same_number}
-
--- whoever set Y has begun
-set_entered : (s : Stage) → has_set s ≡ true → has_entered s ≡ true
-set_entered Outside h = absurd (cc)
-set_entered WroteX h = absurd (cc)
-set_entered SawClear h = absurd (cc)
-set_entered WroteY h = refl
-set_entered (Gone way) h = refl
 
 -- one that went neither right nor down stopped
 neither : (way : Way) → way ≢ Right → way ≢ Down → way ≡ Stop
@@ -32,54 +26,58 @@ neither Stop r d = refl
 neither Right r d = absurd (r refl)
 neither Down r d = absurd (d refl)
 
-module _ (n k : ℕ) where
-  -- who went right did so where another had set Y
-  pub right_of_another : (way : Way) → EndsUnderRule n k way → way ≡ Right → WentRightAfterAnother n k
-  right_of_another way u is =
-      let ended : EndsUnderRule n k Right = subst (λ (w : Way). EndsUnderRule n k w) is u in
-      let h = ended.kept in
-      let mine : h.stage (own_word k) ≡ Gone Right = (h.shown ended.seat _ ended.there).0.0.stage_is in
-      let writer = h.lawful.door.setter (λ clear. let r : went_right (h.stage (own_word k)) ≡ true = rw mine refl in let no_right = h.lawful.door.none_right clear (own_word k) in cc) in
-      let seated = h.lawful.seated writer.0 (set_entered (h.stage writer.0) writer.1) in
-      let other : ℕ = writer.0 - 1 in
-      let word_is : own_word other ≡ writer.0 = (let s = seated.0 in omega arith) in
-      record {
-        ended = ended;
-        other = other;
-        in_range = (let s = seated.0 in let t = seated.1 in omega arith);
-        another = λ e. let stage_is : h.stage writer.0 ≡ Gone Right = ap h.stage (sym word_is ∙ ap own_word e) ∙ mine in let unset : has_set (h.stage writer.0) ≡ false = rw stage_is refl in let set_y = writer.1 in cc;
-        set_y = subst (λ (q : ℕ). has_set (h.stage q) ≡ true) (sym word_is) writer.1;
-      }
+-- where a seat stands whose visit has ended by this way
+ended_of : (n k : ℕ) (way : Way) (turn met : ℕ) (me : Me ℕ SplitterView) → me ≡ (lone_view n (visit_at k (Gone way) (accesses_by way) turn met), []) → IsUnderRule me.0 → HasEnded {S = ℕ} n k way me
+ended_of n k way turn met me e u = record { turn = turn; met = met; me_is = e; under = subst (λ (x : Me ℕ SplitterView). IsUnderRule x.0) e u }
+
+module _ (n k found fresh setter turn : ℕ) (me : Me ℕ SplitterView) where
+  -- it found Y set
+  pub goes_right : found ≢ 0 → me ≡ (lone_view n (after_access fresh setter found (visit_at k WroteX 1 turn 0)), []) → IsUnderRule me.0 → HasEnded {S = ℕ} n k Right me
+  goes_right ne e u = let b = ne_eqb found 0 ne in ended_of n k Right turn setter me (e ∙ rw b refl) u
+
+-- a visit that ended by this way, in a view under the rule
+module _ (e : EndedVisit) (u : IsUnderRule (lone_view e.splitter.seats (gone_at e))) where
+  shown : IsShown e.splitter.seats u.kept.seat_of u.kept.stage u.kept.turn u.seat (lone_view e.splitter.seats (gone_at e)) (gone_at e)
+  shown = (u.kept.shown u.seat _ u.there).0.0
+
+  met_as : (way : Way) → Meets e.splitter.seats u.kept.stage u.kept.turn (gone_at e) (Gone way) → MetBy e way
+  met_as Stop h = h
+  met_as Right h = h.0
+  met_as Down h = h.0
+
+  -- it met another, or none where it stopped
+  pub met_by : MetBy e e.way
+  met_by = met_as e.way shown.meets
 
   -- the only seat stops
-  pub alone_stops : (way : Way) → n ≡ 1 → EndsUnderRule n k way → way ≡ Stop
-  alone_stops way one u =
+  pub alone_stops : e.splitter.seats ≡ 1 → e.way ≡ Stop
+  alone_stops one =
       let h = u.kept in
-      let shown : IsShown n h.seat_of h.stage u.seat (lone_view n k (Gone way)) (visit_at k (Gone way)) = (h.shown u.seat _ u.there).0.0 in
+      let in_range = shown.in_range in
       let law : IsSplitter h.stage = law_of h.x h.y h.stage h.lawful.door in
-      let entered : has_entered (h.stage (own_word k)) ≡ true = rw shown.stage_is refl in
-      let all : (w : Way) → NotAllTook w (λ p. has_entered (h.stage p) ≡ true) (λ p v. h.stage p ≡ Gone v) → way ≢ w =
-      (λ w not_all e.
-      let r = not_all (own_word k) entered in
+      let entered : has_entered (h.stage (own_word e.number)) ≡ true = ap has_entered shown.stage_is in
+      let all : (w : Way) → NotAllTook w (λ p. has_entered (h.stage p) ≡ true) (λ p v. h.stage p ≡ Gone v) → e.way ≢ w =
+      (λ w not_all is.
+      let r = not_all (own_word e.number) entered in
       let seated = h.lawful.seated r.0 r.1 in
-      let s = seated.0 in let t = seated.1 in let in_range = shown.in_range in
-      let same : r.0 ≡ own_word k = omega arith in
-      r.2 (ap h.stage same ∙ shown.stage_is ∙ ap Gone e)) in
-      neither way (all Right law.not_all_right) (all Down law.not_all_down)
+      let s = seated.0 in let t = seated.1 in
+      let same : r.0 ≡ own_word e.number = omega arith in
+      r.2 (ap h.stage same ∙ shown.stage_is ∙ ap Gone is)) in
+      neither e.way (all Right law.not_all_right) (all Down law.not_all_down)
 
 -- the badge of a seat that has entered has the view of that seat alone
 pub badge_view : (views : List SplitterView) (table : TableId) (number : ℕ) (way : Way) (e : EndedVisit) (s : SplitterId) (v : SplitterView)
-    → views ≡ lone_view (seats_in views) number (Gone way) ∷ []
-    → record { splitter = record { table = table; seats = seats_in views }; number = number; way = way } ≡ e
+    → IsOfEnded number way views
+    → ended_visit table number way views ≡ e
     → e.splitter ≡ s
     → views ≡ v ∷ []
-    → v ≡ lone_view s.seats e.number (Gone e.way)
+    → v ≡ lone_view s.seats (gone_at e)
 badge_view views table number way e s v one is of single =
-    let first : v ≡ lone_view (seats_in views) number (Gone way) = cc in
-    first ∙ ap (λ (x : EndedVisit). lone_view x.splitter.seats x.number (Gone x.way)) is ∙ ap (λ (x : SplitterId). lone_view x.seats e.number (Gone e.way)) of
+    let first : v ≡ lone_view (seats_in views) (gone_at (ended_visit table number way views)) = cc in
+    first ∙ ap (λ (x : EndedVisit). lone_view x.splitter.seats (gone_at x)) is ∙ ap (λ (x : SplitterId). lone_view x.seats (gone_at e)) of
 
 -- two visits that ended, under one rule
-module _ (n : ℕ) (a b : EndedVisit) (u : IsUnderRule (view_of n (visit_at a.number (Gone a.way) ∷ visit_at b.number (Gone b.way) ∷ []))) where
+module _ (n : ℕ) (a b : EndedVisit) (u : IsUnderRule (view_of n (gone_at a ∷ gone_at b ∷ []))) where
   abbrev stage : ℕ → Stage
   stage = u.kept.stage
 
@@ -95,6 +93,28 @@ module _ (n : ℕ) (a b : EndedVisit) (u : IsUnderRule (view_of n (visit_at a.nu
   gone p way = ⊎_elim
       (λ (t : (p ≡ a.number) × (way ≡ a.way)). ap (λ k. stage (own_word k)) t.0 ∙ (u.kept.shown u.seat _ u.there).0.0.stage_is ∙ ap Gone (sym t.1))
       (λ (t : (p ≡ b.number) × (way ≡ b.way)). ap (λ k. stage (own_word k)) t.0 ∙ (u.kept.shown u.seat _ u.there).0.1.0.stage_is ∙ ap Gone (sym t.1))
+
+  -- where one met the other, that one had set Y where it went right, and wrote X after it where it went down
+  met_right : (way : Way) → a.way ≡ way → Meets n stage u.kept.turn (gone_at a) (Gone way) → HasMet a b → way ≡ Right → b.way ≢ Right
+  met_right Stop is h met right went = absurd (cc)
+  met_right Right is h met right went =
+      let there : stage a.met ≡ Gone Right = ap stage met ∙ (u.kept.shown u.seat _ u.there).0.1.0.stage_is ∙ ap Gone went in
+      let clear : has_set (stage a.met) ≡ false = ap has_set there in
+      let is_set = h.1 in cc
+  met_right Down is h met right went = absurd (cc)
+
+  pub right_after : HasMet a b → a.way ≡ Right → b.way ≢ Right
+  right_after met right = met_right a.way refl (u.kept.shown u.seat _ u.there).0.0.meets met right
+
+  met_down : (way : Way) → Meets n stage u.kept.turn (gone_at a) (Gone way) → HasMet a b → way ≡ Down → a.turn < b.turn
+  met_down Stop h met down = absurd (cc)
+  met_down Right h met down = absurd (cc)
+  met_down Down h met down =
+      let theirs : u.kept.turn a.met ≡ b.turn = ap u.kept.turn met ∙ (u.kept.shown u.seat _ u.there).0.1.0.turn_is in
+      let later = h.2 in omega arith
+
+  pub down_before : HasMet a b → a.way ≡ Down → a.turn < b.turn
+  down_before met down = met_down a.way (u.kept.shown u.seat _ u.there).0.0.meets met down
 
   -- they did not both stop
   pub one_stops : AtMostOneStopped (EitherTook a b)

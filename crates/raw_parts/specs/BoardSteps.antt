@@ -1,24 +1,46 @@
 -- what each kind of step tells the seat that makes it
-use Rattle.std.specs.Prelude.{◌≡◌, ℕ, List, ◌∷◌, if◌then◌else◌, ◌==◌, ◌||◌}
+use Rattle.std.specs.Prelude.{◌≡◌, ℕ, suc, List, [], ◌∷◌, length, if◌then◌else◌, ◌==◌, ◌||◌}
 use Rattle.atomic_table.specs.Table.{Me, Step}
+use Rattle.raw_parts.specs.declared.board_view.Claim.{Claim}
 use Rattle.raw_parts.specs.declared.board_view.BoardView.{BoardView}
-use Rattle.raw_parts.specs.BoardView.{claim, claims_of}
+use Rattle.raw_parts.specs.BoardView.{claim, board_view}
 use Rattle.raw_parts.specs.BoardRule.{AreSo}
 
 -- a post: the seat gains the claim where the word was 0 or held the identity
 abbrev pub Posts : {S : Type 0} → Step S → Me S BoardView → ℕ → Me S BoardView → Type 0
 Posts s before found after =
-    after ≡ ((if found == 0 || found == s.second then claims_of (claim s.word s.second ∷ before.0.claims) else before.0), before.1)
+    after ≡ (
+      board_view (if found == 0 || found == s.second then claim s.word s.second ∷ before.0.claims else before.0.claims) (suc before.0.accesses)
+          before.0.read,
+      before.1,
+    )
 
 -- a load: the seat gains the claim of the identity that it found
 abbrev pub Finds : {S : Type 0} → Step S → Me S BoardView → ℕ → Me S BoardView → Type 0
-Finds s before found after = after ≡ ((if found == 0 then before.0 else claims_of (claim s.word found ∷ before.0.claims)), before.1)
+Finds s before found after =
+    after ≡
+    (board_view (if found == 0 then before.0.claims else claim s.word found ∷ before.0.claims) (suc before.0.accesses) before.0.read, before.1)
 
 -- these claims stand together in some words
 pub record AreTogether (v : BoardView) : Type 0 where
   pub words : List ℕ
   pub so : AreSo words v.claims
 
--- a load that changes nothing
+-- a load by a seat with two claims, that changes nothing
 abbrev pub LooksOn : {S : Type 0} → Step S → Me S BoardView → ℕ → Me S BoardView → Type 0
-LooksOn s before found after = (after ≡ before) × AreTogether after.0
+LooksOn s before found after = (after ≡ before) × AreTogether after.0 × (length before.0.claims ≡ 2)
+
+-- a new seat comes, by a load
+abbrev pub Begins : {S : Type 0} → Step S → Me S BoardView → ℕ → Me S BoardView → Type 0
+Begins s before found after = after ≡ (board_view [] 1 [], [])
+
+-- of these claims those of this word are of what was found in it
+abbrev pub AgreeWith : ℕ → ℕ → List Claim → Type 0
+AgreeWith word found [] = Unit {0}
+AgreeWith word found (c ∷ cs) = (c.word ≡ word → found ≡ c.identity) × AgreeWith word found cs
+
+-- the board ends: a seat reads the next word
+abbrev pub Reads : {S : Type 0} → Step S → Me S BoardView → ℕ → Me S BoardView → Type 0
+Reads s before found after =
+    (s.word ≡ length before.0.read) × AgreeWith s.word found before.0.claims ×
+    (after ≡ (board_view before.0.claims (suc before.0.accesses) (found ∷ before.0.read), before.1))

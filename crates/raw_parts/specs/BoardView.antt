@@ -1,18 +1,29 @@
 -- what a seat of a name board knows
-use Rattle.std.specs.Prelude.{ℕ, List, [], ◌∷◌}
+use Rattle.std.specs.Prelude.{ℕ, ◌+◌, List, [], ◌∷◌, ◌++◌}
 use Rattle.raw_parts.specs.declared.board_view.Claim.{Claim}
 use Rattle.raw_parts.specs.declared.board_view.BoardView.{BoardView}
 
 abbrev pub claim : ℕ → ℕ → Claim
 claim word identity = record { word = word; identity = identity }
 
-abbrev pub claims_of : List Claim → BoardView
-claims_of claims = record { claims = claims }
+abbrev pub board_view : List Claim → ℕ → List ℕ → BoardView
+board_view claims accesses read = record { claims = claims; accesses = accesses; read = read }
 
--- the view of a seat that claims nothing
+-- the view of a seat with these claims, which has made no access
+abbrev pub claims_of : List Claim → BoardView
+claims_of claims = board_view claims 0 []
+
+-- the view of a seat that claims nothing, and has made so many accesses
+abbrev pub no_claim_after : ℕ → BoardView
+no_claim_after accesses = board_view [] accesses []
+
 abbrev pub no_claim : BoardView
 no_claim = claims_of []
 
 -- the view of a seat with one claim
 abbrev pub lone_claim : ℕ → ℕ → BoardView
 lone_claim word identity = claims_of (claim word identity ∷ [])
+
+-- the claims of two seats, with the accesses of both; only the first has read
+abbrev pub united : BoardView → BoardView → BoardView
+united v w = board_view (v.claims ++ w.claims) (v.accesses + w.accesses) v.read

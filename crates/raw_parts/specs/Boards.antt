@@ -1,6 +1,9 @@
 -- a name board and its seats, as callers see them
-use Rattle.std.specs.Prelude.{◌≡◌, ◌<◌, ◌≤◌, ℕ}
+use Rattle.std.specs.Prelude.{◌≡◌, ◌<◌, ◌≤◌, ◌+◌, ◌-◌, ℕ, List, [], ◌∷◌, reverse}
 use Rattle.atomic_table.specs.Seated.{TableId}
+use Rattle.raw_parts.specs.declared.board_view.BoardView.{BoardView}
+use Rattle.raw_parts.specs.BoardView.{claim}
+use Rattle.raw_parts.specs.BoardRule.{IsClaimed}
 
 -- the table of a board: from 1 to 127 words, as many as its rule speaks of, and no slots
 abbrev pub IsBoardTable : TableId → ℕ → Type 0
@@ -14,3 +17,30 @@ pub record GrantId : Type 0 where
 
 abbrev pub grant_of : TableId → ℕ → ℕ → GrantId
 grant_of board name identity = record { board = board; name = name; identity = identity }
+
+-- a seat that claims nothing: of which board, and how many accesses it has made
+pub record ReaderId : Type 0 where
+  pub board : TableId
+  pub accesses : ℕ
+
+abbrev pub reader_of : TableId → ℕ → ReaderId
+reader_of board accesses = record { board = board; accesses = accesses }
+
+-- the seat with which a board ended: of which, how many accesses it made, and what it found in one word after another, the
+-- newest first
+pub record LastReading : Type 0 where
+  pub board : TableId
+  pub accesses : ℕ
+  pub read : List ℕ
+
+abbrev pub reading_of : TableId → List BoardView → LastReading
+reading_of board [] = record { board = board; accesses = 0; read = [] }
+reading_of board (v ∷ vs) = record { board = board; accesses = v.accesses; read = v.read }
+
+-- a seat has read each word of the board in its turn, by one access each after that by which it came, and found these
+abbrev pub HasReadAll : TableId → List ℕ → LastReading → Type 0
+HasReadAll board words r = (r.board ≡ board) × (r.read ≡ reverse words) × (r.accesses ≡ board.words + 1)
+
+-- this view has the claim that a grant tells
+abbrev pub HasClaimOf : BoardView → GrantId → Type 0
+HasClaimOf v g = IsClaimed (claim (g.name - 1) g.identity) v.claims × (g.name - 1 < g.board.words)

@@ -9,20 +9,24 @@ use Rattle.raw_parts.specs.declared.splitter_view.SplitterView.{SplitterView}
 abbrev pub own_word : ℕ → ℕ
 own_word number = number + 1
 
-abbrev pub visit_at : ℕ → Stage → Visit
-visit_at number stage = record { number = number; stage = stage }
+abbrev pub visit_at : ℕ → Stage → ℕ → ℕ → ℕ → Visit
+visit_at number stage accesses turn met = record { number = number; stage = stage; accesses = accesses; turn = turn; met = met }
+
+-- a visit that has not begun
+abbrev pub fresh_visit : ℕ → Visit
+fresh_visit number = visit_at number Outside 0 0 0
 
 abbrev pub view_of : ℕ → List Visit → SplitterView
 view_of seats visits = record { seats = seats; visits = visits }
 
 -- the view of a seat with one visit
-abbrev pub lone_view : ℕ → ℕ → Stage → SplitterView
-lone_view seats number stage = view_of seats (visit_at number stage ∷ [])
+abbrev pub lone_view : ℕ → Visit → SplitterView
+lone_view seats visit = view_of seats (visit ∷ [])
 
 -- so many visits that have not begun, by rising number
 abbrev pub unbegun_from : ℕ → ℕ → List Visit
 unbegun_from number zero = []
-unbegun_from number (suc count) = visit_at number Outside ∷ unbegun_from (number + 1) count
+unbegun_from number (suc count) = fresh_visit number ∷ unbegun_from (number + 1) count
 
 -- the view of the seat that the others are dealt from: the visits of a splitter's seats from this number on
 abbrev pub undealt_from : ℕ → ℕ → SplitterView

@@ -1,15 +1,17 @@
 //! The name board.
 
-ghost use Rattle.std.specs.Prelude.{[], ◌≡◌, ◌≢◌, ◌<◌, ◌≤◌, ◌+◌, ◌-◌, ◌⊎◌, ◌↔◌, ℕ, Err, IfErr, IfOk, IfSome, IfNone, IsOk, vec_len, slice_index};
+ghost use Rattle.std.specs.Prelude.{[], ◌≡◌, ◌≢◌, ◌<◌, ◌≤◌, ◌+◌, ◌-◌, ◌⊎◌, ◌↔◌, ℕ, Err, IfErr, IfOk, IfSome, IfNone, IsOk, vec_len, slice_index, reverse};
 ghost use lib.ListN.{get_elem?};
-ghost use Rattle.std.specs.Mem.Slots.{slots_items, slots_len, IsFull};
+ghost use mathlib.Core.Option.{some};
+ghost use Rattle.raw_parts.specs.declared.board_view.Claim.{Claim};
+ghost use Rattle.raw_parts.specs.BoardRule.{IsClaimed};
 ghost use Rattle.raw_parts.specs.BoardView.{lone_claim};
-ghost use Rattle.raw_parts.specs.Boards.{grant_of};
+ghost use Rattle.raw_parts.specs.Boards.{GrantId, HasClaimOf, HasReadAll, grant_of, reader_of};
 
-use crate::board_seats::{Grant, ReaderSeat};
-use crate::board_steps::{Boarding, Find, Hand, LookOn, Part, Post, Unite};
+use crate::board_seats::{Grant, LastRead, ReaderSeat};
+use crate::board_steps::{Begin, Boarding, Find, Hand, LookOn, Part, Post, Read, Unite};
 use crate::board_view::BoardView;
-use atomic_table::{Badge, Closed, Seat, Table};
+use atomic_table::{Badge, Seat, Table};
 use std::alloc::{AllocError, Allocator};
 use std::marker::Model;
 use std::mem;
@@ -23,7 +25,6 @@ const MOST_NAMES: u64 = 127;
 /// Whoever holds a seat of the board may post and look names up at once with all others: no call waits.
 #[derive(Drop)]
 pub struct Board<A: Allocator> {
-    alloc: A,
     // It has no slots, so what a slot holds says nothing.
     table: Table<u8, BoardView, u64, Boarding, A>,
 }
@@ -44,7 +45,7 @@ impl<A: Allocator + Clone> Board<A> {
     /// was refused.
     pub fn new(alloc: A, names: u64) -> Result<(Board<A>, ReaderSeat), Refusal>
         ensures board { IfOk result (λ r. r.0.words ≡ names) }
-        ensures seat { IfOk result (λ r. r.1 ≡ r.0) }
+        ensures seat { IfOk result (λ r. r.1 ≡ reader_of r.0 0) }
         ensures range { IsOk result → (1 ≤ names) × (names ≤ 127) }
         ensures out_of_range { result ≡ Err Refusal.OutOfRange ↔ ((names < 1) ⊎ (127 < names)) }
         ensures only { IfErr result (λ r. (r ≡ Refusal.NoMemory) ⊎ (r ≡ Refusal.OutOfRange)) }
@@ -62,11 +63,11 @@ impl<A: Allocator + Clone> Board<A> {
     fn open(alloc: A, names: u64) -> Result<(Board<A>, ReaderSeat), AllocError>
         requires { (1 ≤ names) × (names ≤ 127) }
         ensures board { IfOk result (λ r. r.0.words ≡ names) }
-        ensures seat { IfOk result (λ r. r.1 ≡ r.0) }
+        ensures seat { IfOk result (λ r. r.1 ≡ reader_of r.0 0) }
     {
         let words = Vec::from_elem(alloc.clone()?, 0u64, names as usize)?;
-        let (table, seat) = Table::of_words(alloc.clone()?, words.as_slice(), &names)?;
-        Ok((Board { alloc, table }, ReaderSeat { seat }))
+        let (table, seat) = Table::of_words(alloc, words.as_slice(), &names)?;
+        Ok((Board { table }, ReaderSeat { seat }))
     }
 }
 
@@ -93,9 +94,9 @@ impl<A: Allocator> Board<A> {
 
     /// A further seat, split off one of this board.
     pub fn reader(&self, seat: &mut ReaderSeat) -> ReaderSeat
-        requires { seat.old ≡ self.now }
-        ensures seat { seat.new ≡ self.now }
-        ensures new { result ≡ self.now }
+        requires { seat.old.board ≡ self.now }
+        ensures seat { seat.new ≡ seat.old }
+        ensures new { result ≡ reader_of self.now 0 }
     {
         let ReaderSeat { seat } = seat;
         ReaderSeat {
@@ -104,11 +105,13 @@ impl<A: Allocator> Board<A> {
     }
 
     /// Posts an identity at a name: one compare-exchange, from 0 to the identity. The grant of just these where the word
-    /// was 0 or held the identity. None where it holds another, where the identity is 0, and where there is no such name.
-    /// The seat is of this board.
+    /// was 0 or held the identity. None where it holds another; and, with no access, where the identity is 0 and where there is
+    /// no such name. The seat is of this board.
     pub fn post(&self, seat: &mut ReaderSeat, name: u64, identity: u64) -> Option<Grant>
-        requires { seat.old ≡ self.now }
-        ensures seat { seat.new ≡ self.now }
+        requires { seat.old.board ≡ self.now }
+        ensures asked { (1 ≤ name) × (name ≤ self.now.words) × (identity ≢ 0) → seat.new ≡ reader_of self.now (seat.old.accesses + 1) }
+        ensures unasked { (name ≡ 0) ⊎ (self.now.words < name) ⊎ (identity ≡ 0) → seat.new ≡ seat.old }
+        ensures seat { seat.new.board ≡ self.now }
         ensures grant { IfSome result (λ g. g ≡ grant_of self.now name identity) }
         ensures range { IfSome result (λ g. (1 ≤ name) × (name ≤ self.now.words) × (identity ≢ 0)) }
     {
@@ -132,11 +135,13 @@ impl<A: Allocator> Board<A> {
         })
     }
 
-    /// Looks a name up: one load. The grant of just these where the word holds the identity. None where it does not, where
-    /// the identity is 0, and where there is no such name. The seat is of this board.
+    /// Looks a name up: one load. The grant of just these where the word holds the identity. None where it does not; and, with
+    /// no access, where the identity is 0 and where there is no such name. The seat is of this board.
     pub fn confirm(&self, seat: &mut ReaderSeat, name: u64, identity: u64) -> Option<Grant>
-        requires { seat.old ≡ self.now }
-        ensures seat { seat.new ≡ self.now }
+        requires { seat.old.board ≡ self.now }
+        ensures asked { (1 ≤ name) × (name ≤ self.now.words) × (identity ≢ 0) → seat.new ≡ reader_of self.now (seat.old.accesses + 1) }
+        ensures unasked { (name ≡ 0) ⊎ (self.now.words < name) ⊎ (identity ≡ 0) → seat.new ≡ seat.old }
+        ensures seat { seat.new.board ≡ self.now }
         ensures grant { IfSome result (λ g. g ≡ grant_of self.now name identity) }
         ensures range { IfSome result (λ g. (1 ≤ name) × (name ≤ self.now.words) × (identity ≢ 0)) }
     {
@@ -217,45 +222,77 @@ impl<A: Allocator> Board<A> {
         (left, right)
     }
 
-    /// Ends the board, and tells its words by rising name, among them the grant's. The grant is of this board. Where room
-    /// for the words is refused, `NoMemory`, and the board is spent.
-    pub fn close(self, grant: Grant) -> Result<Vec<u64, A>, Refusal>
-        requires { grant.board ≡ self }
-        ensures count { IfOk result (λ v. vec_len v ≡ self.words) }
-        ensures grant { IfOk result (λ v. slice_index v.items (grant.name - 1) ≡ grant.identity) }
-        ensures range { (1 ≤ grant.name) × (grant.name ≤ self.words) }
-        ensures only { IfErr result (λ r. r ≡ Refusal.NoMemory) }
+    /// Ends the board, and tells its words by rising name. `out` is the grants that the caller has, each of which finds its
+    /// identity there; all are of this board. The words are what a last seat found, which read each once: `LastRead` keeps that.
+    pub fn close<B: Allocator, C: Allocator>(
+        self,
+        alloc: B,
+        out: Vec<Grant, C>,
+    ) -> Result<(Vec<u64, B>, LastRead), AllocError>
+        requires ours { (i : ℕ) (g : GrantId) → get_elem? out.items i ≡ some g → g.board ≡ self }
+        ensures count { IfOk result (λ r. vec_len r.0 ≡ self.words) }
+        ensures grants { IfOk result (λ r. (i : ℕ) (g : GrantId) → get_elem? out.items i ≡ some g → slice_index r.0.items (g.name - 1) ≡ g.identity) }
+        ensures read { IfOk result (λ r. HasReadAll self r.0.items r.1) }
     {
-        let Board { alloc, table } = self;
+        let (_, mut seat) = self.table.shared.load_new_seat::<Begin>(0);
+        self.gather_all(&mut seat, out);
+        let words = self.read_all(alloc, &mut seat)?;
+        let badge = seat.into_badge();
+        Ok((words, LastRead { badge }))
+    }
+
+    /// A seat takes over the claims of some grants.
+    fn gather_all<C: Allocator>(&self, seat: &mut Seat<u8, BoardView>, mut out: Vec<Grant, C>)
+        requires ours { (seat.old.table_id ≡ self.now) × (seat.old.me.1 ≡ []) }
+        requires out { (i : ℕ) (g : GrantId) → get_elem? out.items i ≡ some g → g.board ≡ self.now }
+        ensures ours { (seat.new.table_id ≡ self.now) × (seat.new.me.1 ≡ []) }
+        ensures same { (seat.new.me.0.accesses ≡ seat.old.me.0.accesses) × (seat.new.me.0.read ≡ seat.old.me.0.read) }
+        ensures claims { (i : ℕ) (g : GrantId) → get_elem? out.items i ≡ some g → HasClaimOf seat.new.me.0 g }
+    {
+        while let Some(grant) = out.pop() {
+            self.gather(seat, grant);
+        }
+    }
+
+    /// A seat takes over the claim of one grant.
+    fn gather(&self, seat: &mut Seat<u8, BoardView>, grant: Grant)
+        requires ours { (seat.old.table_id ≡ self.now) × (seat.old.me.1 ≡ []) }
+        requires grant { grant.board ≡ self.now }
+        ensures ours { (seat.new.table_id ≡ self.now) × (seat.new.me.1 ≡ []) }
+        ensures same { (seat.new.me.0.accesses ≡ seat.old.me.0.accesses) × (seat.new.me.0.read ≡ seat.old.me.0.read) }
+        ensures more { (c : Claim) → IsClaimed c seat.old.me.0.claims → IsClaimed c seat.new.me.0.claims }
+        ensures claim { HasClaimOf seat.new.me.0 grant }
+    {
         let Grant {
             word: _,
             identity: _,
             badge,
         } = grant;
-        let count = table.word_count();
-        let closed = table.close_with(badge.into_seat::<u8>());
-        let words = read_out(alloc, &closed, count);
-        closed.free();
-        match words {
-            Ok(words) => Ok(words),
-            Err(AllocError) => Err(Refusal::NoMemory),
-        }
+        self.table
+            .shared
+            .join_seat::<Unite>(seat, badge.into_seat::<u8>());
     }
-}
 
-/// The words of a table that is closed, in their order.
-fn read_out<A: Allocator, B: Allocator>(
-    alloc: B,
-    closed: &Closed<u8, A>,
-    count: usize,
-) -> Result<Vec<u64, B>, AllocError>
-    requires { (count ≡ slots_len closed.now.words) × IsFull closed.now.words }
-    ensures count { IfOk result (λ v. vec_len v ≡ count) }
-    ensures words { IfOk result (λ v. (i : ℕ) → i < count → get_elem? v.items i ≡ get_elem? (slots_items closed.now.words) i) }
-{
-    let mut words = Vec::with_capacity(alloc, count)?;
-    for i in 0..count {
-        words.push_reserved(closed.word(i));
+    /// The words, each read once by a seat that has read none.
+    fn read_all<B: Allocator>(
+        &self,
+        alloc: B,
+        seat: &mut Seat<u8, BoardView>,
+    ) -> Result<Vec<u64, B>, AllocError>
+        requires ours { (seat.old.table_id ≡ self.now) × (seat.old.me.1 ≡ []) }
+        requires none { seat.old.me.0.read ≡ [] }
+        ensures ours { (seat.new.table_id ≡ self.now) × (seat.new.me.1 ≡ []) }
+        ensures count { IfOk result (λ v. vec_len v ≡ self.now.words) }
+        ensures claims { IfOk result (λ v. (c : Claim) → IsClaimed c seat.old.me.0.claims → c.word < self.now.words → slice_index v.items c.word ≡ c.identity) }
+        ensures read { IfOk result (λ v. seat.new.me.0.read ≡ reverse v.items) }
+        ensures accesses { IsOk result → seat.new.me.0.accesses ≡ seat.old.me.0.accesses + self.now.words }
+    {
+        let count = self.table.word_count();
+        let mut words = Vec::with_capacity(alloc, count)?;
+        for word in 0..count {
+            let found = self.table.shared.load::<Read>(seat, word);
+            words.push_reserved(found);
+        }
+        Ok(words)
     }
-    Ok(words)
 }

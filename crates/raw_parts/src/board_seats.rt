@@ -14,14 +14,28 @@ pub struct ReaderSeat {
 
 impl Model for ReaderSeat {
     ghost use Rattle.std.specs.Prelude.{◌≡◌, []};
-    ghost use Rattle.atomic_table.specs.Seated.{TableId};
-    ghost use Rattle.raw_parts.specs.BoardView.{no_claim};
+    ghost use Rattle.raw_parts.specs.BoardView.{no_claim_after};
+    ghost use Rattle.raw_parts.specs.Boards.{ReaderId, reader_of};
 
-    ghost Value = { TableId };
+    ghost Value = { ReaderId };
 
-    ghost view = { λ r. r.seat.table_id };
+    ghost view = { λ r. reader_of r.seat.table_id r.seat.me.0.accesses };
 
-    ghost invariant = { λ r. r.seat.me ≡ (no_claim, []) };
+    ghost invariant = { λ r. r.seat.me ≡ (no_claim_after r.seat.me.0.accesses, []) };
+}
+
+/// What was found in each word of a board as it ended, one after another. It has no bytes.
+#[derive(Drop)]
+pub struct LastRead {
+    pub(crate) badge: Badge<BoardView>,
+}
+
+impl Model for LastRead {
+    ghost use Rattle.raw_parts.specs.Boards.{LastReading, reading_of};
+
+    ghost Value = { LastReading };
+
+    ghost view = { λ l. reading_of l.badge.table_id l.badge.views };
 }
 
 /// That a name is this identity's, for good: the name's word holds the identity, and will.
@@ -41,7 +55,7 @@ impl Model for Grant {
 
     ghost view = { λ g. grant_of g.badge.table_id (suc g.word) g.identity };
 
-    ghost invariant = { λ g. (g.badge.views ≡ lone_claim g.word g.identity ∷ []) × (g.word < 127) × (g.identity ≢ 0) };
+    ghost invariant = { λ g. (g.badge.views ≡ lone_claim g.word g.identity ∷ []) × (g.word < 127) × (g.identity ≢ 0) × (g.word < g.badge.table_id.words) };
 }
 
 impl Grant {

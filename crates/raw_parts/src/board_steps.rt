@@ -1,9 +1,9 @@
 //! The rule of a name board's table, and the kinds of step that keep it.
 
-ghost use Rattle.std.specs.Prelude.{◌++◌, take, drop};
+ghost use Rattle.std.specs.Prelude.{[], take, drop};
 ghost use Rattle.raw_parts.specs.BoardRule.{KeepsBoardRule};
-ghost use Rattle.raw_parts.specs.BoardSteps.{Posts, Finds, LooksOn};
-ghost use Rattle.raw_parts.specs.BoardView.{claims_of, no_claim};
+ghost use Rattle.raw_parts.specs.BoardSteps.{Posts, Finds, LooksOn, Begins, Reads};
+ghost use Rattle.raw_parts.specs.BoardView.{board_view, claims_of, no_claim, united};
 
 use crate::board_view::BoardView;
 use atomic_table::{Join, Play, Split, TableRule};
@@ -38,20 +38,34 @@ impl<S> Play<S, BoardView> for LookOn {
     ghost then = { LooksOn };
 }
 
-/// The claims go to a new seat.
+/// A new seat comes, by a load.
+pub struct Begin;
+
+impl<S> Play<S, BoardView> for Begin {
+    ghost then = { Begins };
+}
+
+/// The board ends: a seat reads the next word.
+pub struct Read;
+
+impl<S> Play<S, BoardView> for Read {
+    ghost then = { Reads };
+}
+
+/// The claims go to a new seat. Its accesses stay with the first.
 pub struct Hand;
 
 impl Split<BoardView> for Hand {
-    ghost left = { λ v. no_claim };
+    ghost left = { λ v. board_view [] v.accesses v.read };
 
-    ghost right = { λ v. v };
+    ghost right = { λ v. claims_of v.claims };
 }
 
 /// Two seats become one, which has the claims of both. The other is spent: it claims nothing.
 pub struct Unite;
 
 impl Join<BoardView> for Unite {
-    ghost both = { λ v w. claims_of (v.claims ++ w.claims) };
+    ghost both = { united };
 
     ghost spent = { no_claim };
 }
@@ -60,7 +74,7 @@ impl Join<BoardView> for Unite {
 pub struct Part;
 
 impl Split<BoardView> for Part {
-    ghost left = { λ v. claims_of (take 1 v.claims) };
+    ghost left = { λ v. board_view (take 1 v.claims) v.accesses v.read };
 
     ghost right = { λ v. claims_of (drop 1 v.claims) };
 }

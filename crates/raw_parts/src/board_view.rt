@@ -8,7 +8,12 @@ pub struct Claim {
     pub identity: u64,
 }
 
-/// The claims that are this seat's: none, one, or two while two of them meet.
+/// What a seat of a board knows.
 pub struct BoardView {
+    /// The claims that are this seat's: none, one, two while two of them meet, or more when a board ends.
     pub claims: LinkedList<Claim>,
+    /// How many accesses it has made.
+    pub accesses: u64,
+    /// Of the seat with which a board ends: what it found in one word after another, the newest first.
+    pub read: LinkedList<u64>,
 }

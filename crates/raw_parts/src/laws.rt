@@ -3,13 +3,15 @@
 ghost use Rattle.std.specs.Prelude.{ℕ, List};
 ghost use Rattle.splitter.specs.Invariant.{IsSplitter};
 ghost use Rattle.raw_parts.specs.BoardRule.{HoldsWhatIsClaimed, HasOneIdentity};
-ghost use Rattle.raw_parts.specs.SplitterRule.{IsKept};
+ghost use Rattle.raw_parts.specs.SplitterRule.{IsKept, MeetsWhomItNames};
 ghost use Rattle.raw_parts.specs.declared.splitter_view.SplitterView.{SplitterView};
 
 /// A law, which runs nothing: where the rule is kept, the seats of the splitter keep its law. Of those that have entered
-/// at most one stopped, not all went right and not all went down.
+/// at most one stopped, not all went right and not all went down; and a visit that a seat's view has met whom it names there:
+/// where it went right one that has set Y, where it went down one that wrote X after it.
 pub fn law_of_the_rule()
-    ensures { (seats : ℕ) (words : List ℕ) (views : List SplitterView) (kept : IsKept seats words views) → IsSplitter kept.stage }
+    ensures split { (seats : ℕ) (words : List ℕ) (views : List SplitterView) (kept : IsKept seats words views) → IsSplitter kept.stage }
+    ensures met { MeetsWhomItNames }
 {}
 
 /// A law, which runs nothing: where the rule is kept, the word of each claim holds its identity, which is not 0; so two

@@ -9,8 +9,8 @@
 //!
 //! The law, of the seats that have entered: at most one stops; not all go right; not all go down. The table keeps a rule
 //! over its words and over what the seats know, so that each seat that has entered keeps the law with all the others;
-//! two of them that meet show it. What is not promised: anything of seats that never meet, and that a thread gets on
-//! with its four accesses.
+//! two of them that meet show it. A seat that went right or down names another, whom it met: one that had set Y, or one that
+//! wrote X after it. What is not promised: anything else of seats that never meet, and that a thread gets on with its accesses.
 //!
 //! A caller:
 //!
@@ -30,8 +30,8 @@
 //! grant: that the word holds this identity, for good. So a name is checked by whoever was told of it, without a lock.
 //!
 //! The law: each grant finds its word equal to its identity, which is not 0. So two grants that meet have two names where
-//! their identities differ, and the words at the end hold the grant with which the board is closed. What is not promised:
-//! that a post or a look gives a grant, but that it gives no other than was asked for; anything of `owner`.
+//! their identities differ; and the words at the end are what a last seat read, each grant's that is handed in among them. What
+//! is not promised: that a post or a look gives a grant, but that it gives no other than was asked for; anything of `owner`.
 //!
 //! A caller:
 //!
@@ -55,7 +55,7 @@ pub mod splitter_steps;
 pub mod splitter_view;
 
 pub use board::Board;
-pub use board_seats::{Grant, ReaderSeat};
+pub use board_seats::{Grant, LastRead, ReaderSeat};
 pub use laws::{law_of_the_board, law_of_the_rule};
 pub use raw_splitter::RawSplitter;
 pub use seats::{EnteredSeat, FreshSeat};

@@ -2,12 +2,11 @@
 
 ghost use Rattle.std.specs.Prelude.{◌≡◌, ◌≢◌, ◌<◌, ◌≤◌, ◌+◌, [], ◌∷◌, ◌++◌, IfOk, IfErr, IsOk, Err, ◌⊎◌, ◌↔◌};
 ghost use Rattle.splitter.specs.Law.{AtMostOneStopped, IsSplit};
-ghost use Rattle.splitter.specs.declared.stage.Stage.TheVariants.{Outside, Gone};
-ghost use Rattle.splitter.specs.declared.way.Way.TheVariants.{Stop, Right};
+ghost use Rattle.splitter.specs.declared.way.Way.TheVariants.{Stop, Right, Down};
 ghost use Rattle.raw_parts.specs.declared.splitter_view.Visit.{Visit};
-ghost use Rattle.raw_parts.specs.SplitterView.{view_of, lone_view, undealt_from};
-ghost use Rattle.raw_parts.specs.SplitterSteps.{IsUnderRule, EndsUnderRule, WentRightAfterAnother};
-ghost use Rattle.raw_parts.specs.Seats.{seat_of, first_seats, ended_by, IsEither, EitherTook};
+ghost use Rattle.raw_parts.specs.SplitterView.{fresh_visit, view_of, lone_view, undealt_from};
+ghost use Rattle.raw_parts.specs.SplitterSteps.{IsUnderRule, HasEnded, accesses_by};
+ghost use Rattle.raw_parts.specs.Seats.{seat_of, first_seats, gone_at, HasMet, IsVisitOf, MetBy, IsEither, EitherTook};
 
 use crate::seats::{EnteredSeat, FreshSeat};
 use crate::splitter_steps::{Deal, Look, Part, ReadX, ReadY, Splitting, Unite, WriteX, WriteY};
@@ -123,16 +122,18 @@ impl<A: Allocator> RawSplitter<A> {
         FreshSeat { number, seat }
     }
 
-    /// Makes the visit of a seat, of at most four accesses whatever the other seats do, and tells the way that it ended.
-    /// It goes right only where another seat had set Y, and the only seat of a splitter stops. The seat is of this
-    /// splitter.
+    /// Makes the visit of a seat, and tells the way that it ended: by two accesses where it goes right, else by four, whatever
+    /// the other seats do. It names whom it met: it goes right only where another seat of this splitter had set Y, and down only
+    /// where another wrote X after it, and stops where it met none; `law_of_the_rule` says so of each visit of a table that
+    /// keeps the rule, as `lawful` says of this one. The only seat of a splitter stops. The seat is of this splitter.
     pub fn enter(&self, fresh: FreshSeat) -> (EnteredSeat, Way)
         requires ours { fresh.splitter ≡ self.now }
-        ensures seat { result.0 ≡ ended_by fresh result.1 }
+        ensures seat { IsVisitOf fresh result.1 result.0 }
+        ensures accesses { result.0.accesses ≡ accesses_by result.1 }
+        ensures met { MetBy result.0 result.1 }
 
         // The seat is under the rule of the splitter, with all others that enter.
-        ensures lawful { EndsUnderRule self.now.seats fresh.number result.1 }
-        ensures right { result.1 ≡ Right → WentRightAfterAnother self.now.seats fresh.number }
+        ensures lawful { IsUnderRule (lone_view self.now.seats (gone_at result.0)) }
         ensures alone { self.now.seats ≡ 1 → result.1 ≡ Stop }
     {
         let FreshSeat { number, mut seat } = fresh;
@@ -144,11 +145,10 @@ impl<A: Allocator> RawSplitter<A> {
     /// The accesses of a visit, in their order.
     fn visit(&self, seat: &mut Seat<u8, SplitterView>, number: u64) -> Way
         requires ours { seat.old.table_id ≡ self.now.table }
-        requires fresh { seat.old.me ≡ (lone_view self.now.seats number Outside, []) }
+        requires fresh { seat.old.me ≡ (lone_view self.now.seats (fresh_visit number), []) }
         requires few { number < 64 }
         ensures ours { seat.new.table_id ≡ self.now.table }
-        ensures ended { seat.new.me ≡ (lone_view self.now.seats number (Gone result), []) }
-        ensures lawful { EndsUnderRule self.now.seats number result }
+        ensures ended { HasEnded self.now.seats number result seat.new.me }
     {
         let own = number + 1;
         self.table.shared.store::<WriteX>(seat, X, own);
@@ -164,7 +164,8 @@ impl<A: Allocator> RawSplitter<A> {
     }
 
     /// Two seats that have entered meet, and show that they keep the law: they did not both stop, and of a pair they went
-    /// neither both right nor both down. Both are of this splitter, and stay as they are.
+    /// neither both right nor both down; where one met the other, that one did not go right where this did, and wrote X after
+    /// it where this went down. Both are of this splitter, and stay as they are.
     pub fn meet(&self, one: &mut EnteredSeat, other: &mut EnteredSeat)
         requires one { one.old.splitter ≡ self.now }
         requires other { other.old.splitter ≡ self.now }
@@ -172,6 +173,8 @@ impl<A: Allocator> RawSplitter<A> {
         ensures other { other.new ≡ other.old }
         ensures apart { one.old.number ≢ other.old.number }
         ensures one_stops { AtMostOneStopped (EitherTook one.old other.old) }
+        ensures right { HasMet one.old other.old → one.old.way ≡ Right → other.old.way ≢ Right }
+        ensures down { HasMet one.old other.old → one.old.way ≡ Down → one.old.turn < other.old.turn }
 
         // Where the splitter has two seats, the two that met are all that entered.
         ensures split { self.now.seats ≡ 2 → IsSplit (IsEither one.old other.old) (EitherTook one.old other.old) }

@@ -16,15 +16,14 @@ pub struct FreshSeat {
 
 impl Model for FreshSeat {
     ghost use Rattle.std.specs.Prelude.{◌≡◌, ◌<◌, []};
-    ghost use Rattle.splitter.specs.declared.stage.Stage.TheVariants.{Outside};
-    ghost use Rattle.raw_parts.specs.SplitterView.{lone_view};
+    ghost use Rattle.raw_parts.specs.SplitterView.{fresh_visit, lone_view};
     ghost use Rattle.raw_parts.specs.Seats.{SeatId};
 
     ghost Value = { SeatId };
 
     ghost view = { λ f. record { splitter = record { table = f.seat.table_id; seats = f.seat.me.0.seats }; number = f.number } };
 
-    ghost invariant = { λ f. (f.number < 64) × (f.seat.me ≡ (lone_view f.seat.me.0.seats f.number Outside, [])) };
+    ghost invariant = { λ f. (f.number < 64) × (f.seat.me ≡ (lone_view f.seat.me.0.seats (fresh_visit f.number), [])) };
 }
 
 /// A seat that has entered, and the way that its visit ended.
@@ -36,16 +35,13 @@ pub struct EnteredSeat {
 }
 
 impl Model for EnteredSeat {
-    ghost use Rattle.std.specs.Prelude.{◌≡◌, [], ◌∷◌};
-    ghost use Rattle.splitter.specs.declared.stage.Stage.TheVariants.{Gone};
-    ghost use Rattle.raw_parts.specs.SplitterView.{lone_view};
-    ghost use Rattle.raw_parts.specs.Seats.{EndedVisit, seats_in};
+    ghost use Rattle.raw_parts.specs.Seats.{EndedVisit, IsOfEnded, ended_visit};
 
     ghost Value = { EndedVisit };
 
-    ghost view = { λ e. record { splitter = record { table = e.badge.table_id; seats = seats_in e.badge.views }; number = e.number; way = e.way } };
+    ghost view = { λ e. ended_visit e.badge.table_id e.number e.way e.badge.views };
 
-    ghost invariant = { λ e. e.badge.views ≡ lone_view (seats_in e.badge.views) e.number (Gone e.way) ∷ [] };
+    ghost invariant = { λ e. IsOfEnded e.number e.way e.badge.views };
 }
 
 impl EnteredSeat {

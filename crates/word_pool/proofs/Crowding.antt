@@ -9,7 +9,7 @@ use Rattle.word_pool.specs.declared.pool_view.Stage.{Stage}
 use Rattle.word_pool.specs.declared.pool_view.Stage.TheVariants.{AtRest, Seeking, Holding, Ended}
 use Rattle.word_pool.specs.declared.pool_view.Call.{Call}
 use Rattle.word_pool.specs.declared.pool_view.PoolView.{PoolView}
-use Rattle.word_pool.specs.PoolView.{at_rest, coming, spent, passing, taking, going, lone, view_of, no_call, united}
+use Rattle.word_pool.specs.PoolView.{at_rest, coming, sighting, passing, taking, going, lone, view_of, no_call, united}
 use Rattle.word_pool.specs.Tally.{sum_of, tally, one_if, if_holding, holding}
 use Rattle.word_pool.specs.Crowd.{by_each, competes, beyond, moves, now, competed, moved_by, log_of, log_of_call, greatest, IsSmall, WasCrowded, crowded_at, Each, KeepsCrowd}
 use Rattle.word_pool.specs.LineRule.{undealt}
@@ -125,36 +125,36 @@ module _ (views : List PoolView) (kept : KeepsCrowd views) (seat : ℕ) (c : Cal
     own_claim = subst (λ (s : Stage). crowded_at s views c) is (kept.crowd seat (lone c past) there).0
 
     -- it looks at a free place
-    pub spent_crowd : KeepsCrowd (next (spent c) past)
-    spent_crowd =
-        let n : List PoolView = next (spent c) past in
-        let all : (f : Call → ℕ) → f (spent c) ≡ f c → tally f n ≡ tally f views = (λ f e. let a = changed (spent c) past f in omega arith) in
+    pub sighting_crowd : KeepsCrowd (next (sighting c) past)
+    sighting_crowd =
+        let n : List PoolView = next (sighting c) past in
+        let all : (f : Call → ℕ) → f (sighting c) ≡ f c → tally f n ≡ tally f views = (λ f e. let a = changed (sighting c) past f in omega arith) in
         let clock = all moves refl in
         let up : now views ≤ now n = omega arith in
         let same : (t : ℕ) → t ≤ now views → tally (competed t) n ≡ tally (competed t) views = (λ t le. all (competed t) refl) in
         let claims : (since m : ℕ) → since ≤ now views → ((j : ℕ) → j ≤ m → WasCrowded views since j) → (j : ℕ) → j ≤ m → WasCrowded n since j =
         (λ since m le h j lt. let a = all (beyond j) refl in keeps_at views n up same since j j (h j lt) (omega arith)) in
-        step_crowd views kept seat (lone c past) (lone (spent c) past) there up same claims
+        step_crowd views kept seat (lone c past) (lone (sighting c) past) there up same claims
         (λ t. let a = all (moved_by t) refl in let k = kept.clock t in omega arith)
         (λ t le. let a = all (competed t) refl in let b = all competes refl in let k = kept.present t (omega arith) in omega arith)
-        (subst (λ (s : Stage). crowded_at s n (spent c)) (sym is) (let o = own_claim.0 in omega arith, claims c.came c.place own_claim.0 own_claim.1), tt)
+        (subst (λ (s : Stage). crowded_at s n (sighting c)) (sym is) (let o = own_claim.0 in omega arith, claims c.came c.place own_claim.0 own_claim.1), tt)
 
     -- it leaves its place to another, which stands there too
-    pub passing_crowd : tally (beyond (suc c.place)) views + 2 ≤ tally (beyond c.place) views → KeepsCrowd (next (passing c) past)
-    passing_crowd two =
-        let n : List PoolView = next (passing c) past in
-        let all : (f : Call → ℕ) → f (passing c) ≡ f c → tally f n ≡ tally f views = (λ f e. let a = changed (passing c) past f in omega arith) in
+    pub passing_crowd : (lost : ℕ) → tally (beyond (suc c.place)) views + 2 ≤ tally (beyond c.place) views → KeepsCrowd (next (passing lost c) past)
+    passing_crowd lost two =
+        let n : List PoolView = next (passing lost c) past in
+        let all : (f : Call → ℕ) → f (passing lost c) ≡ f c → tally f n ≡ tally f views = (λ f e. let a = changed (passing lost c) past f in omega arith) in
         let clock = all moves (rw is refl) in
         let up : now views ≤ now n = omega arith in
         let same : (t : ℕ) → t ≤ now views → tally (competed t) n ≡ tally (competed t) views = (λ t le. all (competed t) (rw is refl)) in
         let before : (j : ℕ) → beyond j c ≡ 1 - (j - c.place) = (λ j. rw is refl) in
         let one : (since j : ℕ) → ((i : ℕ) → i ≤ j → i ≤ c.place → WasCrowded views since i) → (j ≢ suc c.place → WasCrowded views since j) → WasCrowded n since j =
         (λ since j low here. dite (ℕ_discrete j (suc c.place))
-        (λ e. let a = changed (passing c) past (beyond j) in let b = before j in
+        (λ e. let a = changed (passing lost c) past (beyond j) in let b = before j in
         let x : tally (beyond j) views ≡ tally (beyond (suc c.place)) views = ap (λ (k : ℕ). tally (beyond k) views) e in
         keeps_at views n up same since c.place j (low c.place (omega arith) (omega arith)) (omega arith))
-        (λ ne. let a = changed (passing c) past (beyond j) in let b = before j in keeps_at views n up same since j j (here ne) (omega arith))) in
-        step_crowd views kept seat (lone c past) (lone (passing c) past) there up same
+        (λ ne. let a = changed (passing lost c) past (beyond j) in let b = before j in keeps_at views n up same since j j (here ne) (omega arith))) in
+        step_crowd views kept seat (lone c past) (lone (passing lost c) past) there up same
         (λ since m le h j lt. one since j (λ i le' _. h i (omega arith)) (λ ne. h j lt))
         (λ t. let a = all (moved_by t) (rw is refl) in let k = kept.clock t in omega arith)
         (λ t le. let a = all (competed t) (rw is refl) in let b = all competes (rw is refl) in let k = kept.present t (omega arith) in omega arith)
@@ -222,17 +222,34 @@ set_twice (y ∷ ys) zero a b = refl
 set_twice (y ∷ ys) (suc i) a b = λ k. y ∷ set_twice ys i a b k
 
 module _ (views : List PoolView) (kept : KeepsCrowd views) (seat : ℕ) (c : Call) (past : List Call) (there : get_elem? views seat ≡ some (lone c past)) (is : c.stage ≡ AtRest) where
+  abbrev pub came_views : List PoolView
+  came_views = set views seat (lone (coming (suc (now views)) c) past)
+
+  abbrev pub came_kept : KeepsCrowd came_views
+  came_kept = comes_crowd views kept seat c past there is
+
   pub come_there : get_elem? (set views seat (lone (coming (suc (now views)) c) past)) seat ≡ some (lone (coming (suc (now views)) c) past)
   come_there = there_set views seat (lone (coming (suc (now views)) c) past) (lone c past) there
 
   -- it comes, and finds the first place free
-  pub comes_and_looks : KeepsCrowd (set views seat (lone (spent (coming (suc (now views)) c)) past))
-  comes_and_looks = subst KeepsCrowd (set_twice views seat _ _) (spent_crowd (set views seat (lone (coming (suc (now views)) c) past)) (comes_crowd views kept seat c past there is) seat (coming (suc (now views)) c) past come_there refl)
+  pub comes_and_looks : KeepsCrowd (set views seat (lone (sighting (coming (suc (now views)) c)) past))
+  comes_and_looks = subst KeepsCrowd (set_twice views seat _ _) (sighting_crowd (set views seat (lone (coming (suc (now views)) c) past)) (comes_crowd views kept seat c past there is) seat (coming (suc (now views)) c) past come_there refl)
 
   -- it comes, and finds it held
   pub comes_and_passes : tally (beyond 1) (set views seat (lone (coming (suc (now views)) c) past)) + 2 ≤ tally (beyond 0) (set views seat (lone (coming (suc (now views)) c) past))
-      → KeepsCrowd (set views seat (lone (passing (coming (suc (now views)) c)) past))
-  comes_and_passes two = subst KeepsCrowd (set_twice views seat _ _) (passing_crowd (set views seat (lone (coming (suc (now views)) c) past)) (comes_crowd views kept seat c past there is) seat (coming (suc (now views)) c) past come_there refl two)
+      → KeepsCrowd (set views seat (lone (passing 0 (coming (suc (now views)) c)) past))
+  comes_and_passes two = subst KeepsCrowd (set_twice views seat _ _) (passing_crowd (set views seat (lone (coming (suc (now views)) c) past)) (comes_crowd views kept seat c past there is) seat (coming (suc (now views)) c) past come_there refl 0 two)
+
+  -- how many competed at each of its moments so far: at that of its coming alone
+  abbrev pub log_at_coming : List ℕ
+  log_at_coming = log_so_far came_views came_kept seat (coming (suc (now views)) c) past come_there refl
+
+  -- it comes, and takes the first place
+  pub comes_and_takes : KeepsCrowd (set views seat (lone (taking (now came_views) log_at_coming (coming (suc (now views)) c)) past))
+  comes_and_takes = subst KeepsCrowd (set_twice views seat _ _) (taking_crowd came_views came_kept seat (coming (suc (now views)) c) past come_there refl)
+
+  pub small_at_coming : IsSmall (taking (now came_views) log_at_coming (coming (suc (now views)) c))
+  small_at_coming = small_so_far came_views came_kept seat (coming (suc (now views)) c) past come_there refl
 
 -- calls change seats
 module _ (views next : List PoolView) (kept : KeepsCrowd views) (all : (f : Call → ℕ) → tally f next ≡ tally f views) where

@@ -1,19 +1,19 @@
 -- each step of a pool keeps its rule
-use Rattle.std.proofs.Common.{◌≡◌, ◌≢◌, ℕ, zero, suc, ◌+◌, ◌*◌, ◌<◌, ◌≤◌, eq-eqb, ne_eqb, subst, sym, refl, ap, ◌∙◌, arith, List, [], ◌∷◌, ◌++◌, drop, set, slice_set, slice_index, replicate}
+use Rattle.std.proofs.Common.{◌≡◌, ◌≢◌, ℕ, zero, suc, ◌+◌, ◌*◌, ◌<◌, ◌≤◌, eq-eqb, ne_eqb, subst, sym, refl, ap, ◌∙◌, arith, List, [], ◌∷◌, ◌++◌, drop, length, set, slice_set, slice_index, replicate}
 use Rattle.std.proofs.lemmas.List.{set-get_or, length-set, get_or-set_same, get_or-set_other, length-replicate}
 use mathlib.Core.Option.{Option, some, none}
 use mathlib.Core.Logic.{dite}
 use native.Mathlib.Decide.{ℕ_discrete}
 use lib.ListN.{get_elem?}
-use Rattle.atomic_table.specs.Table.{State, Step, step, Allows, Enters, Joins, Splits, keeps}
+use Rattle.atomic_table.specs.Table.{State, Step, step, Allows, Enters, Arrives, Joins, Splits, keeps}
 use Rattle.atomic_table.proofs.Lists.{set_again}
 use Rattle.word_pool.specs.declared.pool_view.Stage.TheVariants.{AtRest, Seeking, Holding}
 use Rattle.word_pool.specs.declared.pool_view.Call.{Call}
 use Rattle.word_pool.specs.declared.pool_view.PoolView.{PoolView}
-use Rattle.word_pool.specs.PoolView.{at_rest, coming, spent, passing, going, looked, swapped, swapped_hint, lone, resting, view_of, no_call, united, read_at, call_of, first_of}
+use Rattle.word_pool.specs.PoolView.{at_rest, coming, spent, sighting, passing, going, looked, swapped, swapped_hint, lone, resting, view_of, no_call, united, read_at, call_of, first_of}
 use Rattle.word_pool.specs.Tally.{own, tally, one_if, holding}
 use Rattle.word_pool.specs.PoolRule.{KeepsPool, KeepsPoolRule, IsHolder}
-use Rattle.word_pool.specs.PoolSteps.{Comes, Looks, Takes, LooksAside, TakesAside, Frees, LooksOn, ReadsFirst, ReadsOn, IsWordFor, IsUnderRule}
+use Rattle.word_pool.specs.PoolSteps.{Comes, ComesBySwap, Looks, Takes, LooksAside, TakesAside, Frees, LooksOn, ReadsFirst, ReadsOn, IsWordFor, IsUnderRule}
 use Rattle.word_pool.proofs.Tallies.{tally_set, tally_snoc, tally_has, tally_two, tally_finds, sum_both}
 
 -- what a call holds of each place, by its stage
@@ -28,10 +28,6 @@ holds_it q c e p = rw e (ap one_if (eq-eqb c.place q p))
 
 pub holds_other : (q : ℕ) (c : Call) → c.stage ≡ Holding → q ≢ c.place → holding q c ≡ 0
 holds_other q c e ne = rw e (ap one_if (ne_eqb c.place q (λ p. ne (sym p))))
-
--- each look is one access
-pub looked_accesses : (found : ℕ) (c : Call) → (looked found c).accesses ≡ suc c.accesses
-looked_accesses found c = dite (ℕ_discrete found 0) (λ z. let a = eq-eqb found 0 z in rw a refl) (λ z. let a = ne_eqb found 0 z in rw a refl)
 
 module _ (count : ℕ) (words : List ℕ) (views : List PoolView) (kept : KeepsPool count words views) where
   -- a word is 0 or 1
@@ -130,9 +126,27 @@ module _ {S : Type 0} (count slots : ℕ) where
       let found : ℕ = slice_index s.words 0 in
       let new : PoolView = lone (looked found (coming 1 at_rest)) [] in
       let kept : KeepsPool count s.words (s.views ++ new ∷ []) = dite (ℕ_discrete found 0)
-      (λ z. let a = eq-eqb found 0 z in rw a (arrive_kept count s.words s.views h (lone (spent (coming 1 at_rest)) []) (λ q. refl)))
-      (λ z. let a = ne_eqb found 0 z in rw a (arrive_kept count s.words s.views h (lone (passing (coming 1 at_rest)) []) (λ q. refl))) in
+      (λ z. let a = eq-eqb found 0 z in rw a (arrive_kept count s.words s.views h (lone (sighting (coming 1 at_rest)) []) (λ q. refl)))
+      (λ z. let a = ne_eqb found 0 z in rw a (arrive_kept count s.words s.views h (lone (passing 0 (coming 1 at_rest)) []) (λ q. refl))) in
       (new, kept, (1, refl))
+
+  pub may_come_by_swap : 0 < count → Arrives {S = S} {V = PoolView} (KeepsPoolRule count) slots 0 (λ _. 1) (ComesBySwap {S = S} (step slots 0 1 0 none) (resting [], []))
+  may_come_by_swap some_number s h _ _ =
+      let found : ℕ = slice_index s.words 0 in
+      let new : Call = swapped 1 [] found (coming 1 at_rest) in
+      let here : (q : ℕ) → tally (holding q) (s.views ++ lone new [] ∷ []) ≡ tally (holding q) s.views + holding q new = (λ q. let b = tally_snoc (holding q) s.views (lone new []) in omega arith) in
+      let held = h.held 0 some_number in
+      let most = h.lone 0 in
+      let kept : KeepsPool count (set s.words 0 1) (s.views ++ lone new [] ∷ []) = dite (ℕ_discrete found 0)
+      (λ z. let a = eq-eqb found 0 z in
+      let x : holding 0 new ≡ 1 = rw a refl in
+      change_kept count s.words s.views h (s.views ++ lone new [] ∷ []) 0 1 some_number (omega arith) (let b = here 0 in omega arith)
+      (λ q ne. let b = here q in let y : holding q new ≡ 0 = holds_other q new (rw a refl) (λ same. ne (same ∙ rw a refl)) in omega arith))
+      (λ z. let a = ne_eqb found 0 z in
+      let none_held : (q : ℕ) → holding q new ≡ 0 = (λ q. rw a refl) in
+      change_kept count s.words s.views h (s.views ++ lone new [] ∷ []) 0 1 some_number (omega arith) (let b = here 0 in let y = none_held 0 in omega arith)
+      (λ q ne. let b = here q in let y = none_held q in omega arith)) in
+      (lone new [], keeps, tt, kept, (1, 1, [], refl))
 
   pub may_look_aside : (i : ℕ) → Enters {S = S} {V = PoolView} (KeepsPoolRule count) slots i (λ n w. LooksAside {S = S} (step slots i 0 0 none) (resting [], []) n (w, []))
   may_look_aside i s h _ _ = (lone (spent at_rest) [], arrive_kept count s.words s.views h (lone (spent at_rest) []) (λ q. refl), refl)
@@ -142,8 +156,8 @@ module _ {S : Type 0} (count slots : ℕ) where
     pub come_kept : (moment : ℕ) (s : State S PoolView) → c.stage ≡ AtRest → KeepsPoolRule count s → get_elem? s.views seat ≡ some (lone c past)
         → KeepsPool count (slice_set s.words 0 (slice_index s.words 0)) (set s.views seat (lone (looked (slice_index s.words 0) (coming moment c)) past))
     come_kept moment s is h e = rw (reread s.words 0) (dite (ℕ_discrete (slice_index s.words 0) 0)
-        (λ z. let a = eq-eqb (slice_index s.words 0) 0 z in rw a (still_kept count s.words s.views h seat (lone c past) (lone (spent (coming moment c)) past) e (λ q. let b = rests_none q c is in omega arith)))
-        (λ z. let a = ne_eqb (slice_index s.words 0) 0 z in rw a (still_kept count s.words s.views h seat (lone c past) (lone (passing (coming moment c)) past) e (λ q. let b = rests_none q c is in omega arith))))
+        (λ z. let a = eq-eqb (slice_index s.words 0) 0 z in rw a (still_kept count s.words s.views h seat (lone c past) (lone (sighting (coming moment c)) past) e (λ q. let b = rests_none q c is in omega arith)))
+        (λ z. let a = ne_eqb (slice_index s.words 0) 0 z in rw a (still_kept count s.words s.views h seat (lone c past) (lone (passing 0 (coming moment c)) past) e (λ q. let b = rests_none q c is in omega arith))))
 
     pub may_come_back : (st : Step S) → c.stage ≡ AtRest → Allows {S = S} {V = PoolView} (KeepsPoolRule count) slots seat (lone c past, []) 0 (λ n. n) (Comes st (lone c past, []))
     may_come_back st is s h _ e _ = (lone (looked (slice_index s.words 0) (coming 1 c)) past, keeps, tt, come_kept 1 s is h e, (1, refl))
@@ -152,8 +166,8 @@ module _ {S : Type 0} (count slots : ℕ) where
     pub look_kept : (i : ℕ) (s : State S PoolView) → c.stage ≡ Seeking → KeepsPoolRule count s → get_elem? s.views seat ≡ some (lone c past)
         → KeepsPool count (slice_set s.words i (slice_index s.words i)) (set s.views seat (lone (looked (slice_index s.words i) c) past))
     look_kept i s is h e = rw (reread s.words i) (dite (ℕ_discrete (slice_index s.words i) 0)
-        (λ z. let a = eq-eqb (slice_index s.words i) 0 z in rw a (still_kept count s.words s.views h seat (lone c past) (lone (spent c) past) e (λ q. refl)))
-        (λ z. let a = ne_eqb (slice_index s.words i) 0 z in rw a (still_kept count s.words s.views h seat (lone c past) (lone (passing c) past) e (λ q. let b = seeks_none q c is in omega arith))))
+        (λ z. let a = eq-eqb (slice_index s.words i) 0 z in rw a (still_kept count s.words s.views h seat (lone c past) (lone (sighting c) past) e (λ q. refl)))
+        (λ z. let a = ne_eqb (slice_index s.words i) 0 z in rw a (still_kept count s.words s.views h seat (lone c past) (lone (passing c.lost c) past) e (λ q. let b = seeks_none q c is in omega arith))))
 
     pub may_look : (i : ℕ) (st : Step S) → c.stage ≡ Seeking → Allows {S = S} {V = PoolView} (KeepsPoolRule count) slots seat (lone c past, []) i (λ n. n) (Looks st (lone c past, []))
     may_look i st is s h _ e _ = (lone (looked (slice_index s.words i) c) past, keeps, tt, look_kept i s is h e, refl)
@@ -178,6 +192,16 @@ module _ {S : Type 0} (count slots : ℕ) where
 
     pub may_take : (p : ℕ) (st : Step S) → p < count → c.stage ≡ Seeking → c.place ≡ p → Allows {S = S} {V = PoolView} (KeepsPoolRule count) slots seat (lone c past, []) (p * 8) (λ _. 1) (Takes st (lone c past, []))
     may_take p st within is here s h _ e _ = (lone (swapped 1 [] (slice_index s.words (p * 8)) c) past, keeps, tt, take_kept 1 [] p s within is here h e, (1, [], refl))
+
+    -- a call that rests comes, by a swap of 1 into the word of the first place
+    pub come_by_swap_kept : (came moment : ℕ) (crowds : List ℕ) (s : State S PoolView) → 0 < count → c.stage ≡ AtRest → KeepsPoolRule count s → get_elem? s.views seat ≡ some (lone c past)
+        → KeepsPool count (set s.words 0 1) (set s.views seat (lone (swapped moment crowds (slice_index s.words 0) (coming came c)) past))
+    come_by_swap_kept came moment crowds s some_number is h e = swap_kept s h e 0 (swapped moment crowds (slice_index s.words 0) (coming came c)) some_number (λ q. rests_none q c is)
+        (λ z. let a = eq-eqb (slice_index s.words 0) 0 z in rw a (refl, refl))
+        (λ z q. let a = ne_eqb (slice_index s.words 0) 0 z in rw a refl)
+
+    pub may_come_back_by_swap : (st : Step S) → 0 < count → c.stage ≡ AtRest → Allows {S = S} {V = PoolView} (KeepsPoolRule count) slots seat (lone c past, []) 0 (λ _. 1) (ComesBySwap st (lone c past, []))
+    may_come_back_by_swap st some_number is s h _ e _ = (lone (swapped 1 [] (slice_index s.words 0) (coming 1 c)) past, keeps, tt, come_by_swap_kept 1 1 [] s some_number is h e, (1, 1, [], refl))
 
     pub may_take_aside : (p n a b : ℕ) (o : Option S) → p < count → c.stage ≡ AtRest → Allows {S = S} {V = PoolView} (KeepsPoolRule count) slots seat (lone c past, []) (p * 8) (λ _. 1) (TakesAside (step n (p * 8) a b o) (lone c past, []))
     may_take_aside p n a b o within is s h _ e _ =
@@ -205,10 +229,10 @@ module _ {S : Type 0} (count slots : ℕ) where
     may_free p st within is here s h _ e _ = (lone at_rest (going 1 c ∷ past), keeps, tt, free_kept 1 p s within is here h e, (1, refl))
 
   module _ (seat : ℕ) where
-    pub may_look_on : (u : PoolView) (st : Step S) → Allows {S = S} {V = PoolView} (KeepsPoolRule count) slots seat (u, []) 0 (λ f. f) (LooksOn st (u, []))
-    may_look_on u st s h _ e _ =
+    pub may_look_on : (u : PoolView) (st : Step S) → length u.calls ≡ 2 → Allows {S = S} {V = PoolView} (KeepsPoolRule count) slots seat (u, []) 0 (λ f. f) (LooksOn st (u, []))
+    may_look_on u st two s h _ e _ =
         let kept : KeepsPool count (slice_set s.words 0 (slice_index s.words 0)) (set s.views seat u) = rw (reread s.words 0, set_again s.views seat u e) h in
-        (u, keeps, tt, kept, (refl, record { count = count; words = s.words; views = s.views; kept = h; seat = seat; there = e }))
+        (u, keeps, tt, kept, (refl, record { count = count; words = s.words; views = s.views; kept = h; seat = seat; there = e }, two))
 
     -- the last call of a pool looks at a place
     module _ (p i : ℕ) (u : PoolView) (st : Step S) (at : i ≡ p * 8) (word : st.word ≡ p * 8) (lt : p < count) where

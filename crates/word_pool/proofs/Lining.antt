@@ -1,5 +1,5 @@
 -- each step of a line keeps its rule
-use Rattle.std.proofs.Common.{◌≡◌, ◌≢◌, ℕ, zero, suc, ◌+◌, ◌-◌, ◌*◌, ◌<◌, ◌≤◌, eqb, eq-eqb, ne_eqb, sym, refl, ap, ◌∙◌, arith, List, [], ◌∷◌, ◌++◌, set, slice_index, replicate}
+use Rattle.std.proofs.Common.{◌≡◌, ◌≢◌, ℕ, zero, suc, ◌+◌, ◌-◌, ◌*◌, ◌<◌, ◌≤◌, eqb, eq-eqb, ne_eqb, sym, refl, ap, ◌∙◌, arith, List, [], ◌∷◌, ◌++◌, length, set, slice_index, replicate}
 use mathlib.Core.Option.{some}
 use mathlib.Core.Logic.{dite}
 use native.Mathlib.Decide.{ℕ_discrete}
@@ -9,11 +9,11 @@ use Rattle.word_pool.specs.declared.pool_view.Stage.{Stage}
 use Rattle.word_pool.specs.declared.pool_view.Stage.TheVariants.{AtRest, Seeking, Holding, Ended}
 use Rattle.word_pool.specs.declared.pool_view.Call.{Call}
 use Rattle.word_pool.specs.declared.pool_view.PoolView.{PoolView}
-use Rattle.word_pool.specs.PoolView.{at_rest, coming, spent, passing, taking, going, lone, resting, view_of}
+use Rattle.word_pool.specs.PoolView.{at_rest, coming, sighting, passing, races, taking, going, lone, resting, view_of}
 use Rattle.word_pool.specs.Tally.{sum_of, own, tally, one_if, if_holding, holding}
 use Rattle.atomic_table.proofs.Lists.{set_again}
 use Rattle.word_pool.specs.PoolSteps.{Comes, Looks, Frees, LooksOn}
-use Rattle.word_pool.specs.LineRule.{by_stage, from, rests, undealt, KeepsLine, KeepsLineRule, TakesInLine, NeverComes}
+use Rattle.word_pool.specs.LineRule.{by_stage, from, rests, undealt, KeepsLine, KeepsLineRule, ComesBySwapInLine, TakesInLine, NeverComes}
 use Rattle.atomic_table.specs.Table.{Joins}
 use Rattle.word_pool.proofs.Keeping.{both, may_unite, may_sever, united_own, apart_own}
 use Rattle.word_pool.specs.PoolView.{no_call}
@@ -23,9 +23,9 @@ use Rattle.word_pool.specs.PoolView.{swapped}
 use Rattle.atomic_table.specs.Table.{keeps}
 use Rattle.std.proofs.Common.{slice_set}
 use Rattle.word_pool.specs.Crowd.{now, IsSmall, KeepsCrowd}
-use Rattle.word_pool.proofs.Crowding.{two_beyond, come_there, comes_and_looks, comes_and_passes, spent_crowd, passing_crowd, log_so_far, small_so_far, taking_crowd, there_set, going_crowd, unites_crowd, parts_crowd, each_undealt, crowd_opens}
+use Rattle.word_pool.proofs.Crowding.{two_beyond, come_there, comes_and_looks, comes_and_passes, came_views, log_at_coming, comes_and_takes, small_at_coming, sighting_crowd, passing_crowd, log_so_far, small_so_far, taking_crowd, there_set, going_crowd, unites_crowd, parts_crowd, each_undealt, crowd_opens}
 use Rattle.word_pool.proofs.Tallies.{tally_set, tally_snoc, tally_has, tally_sum}
-use Rattle.word_pool.proofs.Keeping.{come_kept, look_kept, take_kept, free_kept, reread, seeks_none, opens}
+use Rattle.word_pool.proofs.Keeping.{come_kept, come_by_swap_kept, look_kept, take_kept, free_kept, reread, seeks_none, opens}
 
 -- who holds a place stands there, and not further on
 holder_here : (stage : Stage) (place p : ℕ) → by_stage stage (1 - suc p) (1 - (suc p - place)) + if_holding stage (one_if (eqb place p)) ≤ by_stage stage (1 - p) (1 - (p - place))
@@ -91,13 +91,35 @@ module _ {S : Type 0} (count slots seat : ℕ) where
         let new : PoolView = lone (looked found come) past in
         let come_views : List PoolView = set s.views seat (lone come past) in
         let stands : Stands count (set s.views seat new) = dite (ℕ_discrete found 0)
-        (λ z. let a = eq-eqb found 0 z in rw a (no_further count s.words s.views h seat at_rest (spent come) past past e (λ q. omega arith), comes_and_looks s.views h.crowd seat at_rest past e refl))
+        (λ z. let a = eq-eqb found 0 z in rw a (no_further count s.words s.views h seat at_rest (sighting come) past past e (λ q. omega arith), comes_and_looks s.views h.crowd seat at_rest past e refl))
         (λ z. let a = ne_eqb found 0 z in
         let held = h.pool.held 0 some_number in
         let t = tally_set (holding 0) s.views seat (resting past) (lone come past) e in
         let two = two_beyond come_views 0 seat come past (come_there s.views h.crowd seat at_rest past e refl) refl refl (omega arith) in
-        rw a (one_further count s.words s.views h seat at_rest (passing come) past e 0 some_number refl (λ q. omega arith) (λ q. refl) z, comes_and_passes s.views h.crowd seat at_rest past e refl two)) in
+        rw a (one_further count s.words s.views h seat at_rest (passing 0 come) past e 0 some_number refl (λ q. omega arith) (λ q. refl) z, comes_and_passes s.views h.crowd seat at_rest past e refl two)) in
         (new, keeps, tt, record { pool = come_kept count slots seat at_rest past arrival s refl h.pool e; line = stands.0; crowd = stands.1 }, (arrival, refl))
+
+    pub may_come_by_swap_in_line : (st : Step S) → 0 < count → Allows {S = S} {V = PoolView} (KeepsLineRule count) slots seat (resting past, []) 0 (λ _. 1) (ComesBySwapInLine st (resting past, []))
+    may_come_by_swap_in_line st some_number s h _ e _ =
+        let came : ℕ = suc (now s.views) in
+        let found : ℕ = slice_index s.words 0 in
+        let come : Call = coming came at_rest in
+        let come_views : List PoolView = came_views s.views h.crowd seat at_rest past e refl in
+        let moment : ℕ = now come_views in
+        let log : List ℕ = log_at_coming s.views h.crowd seat at_rest past e refl in
+        let new : PoolView = lone (swapped moment log found come) past in
+        let stands : Stands count (set s.views seat new) = dite (ℕ_discrete found 0)
+        (λ z. let a = eq-eqb found 0 z in rw a (no_further count s.words s.views h seat at_rest (taking moment log come) past past e (λ q. omega arith), comes_and_takes s.views h.crowd seat at_rest past e refl))
+        (λ z. let a = ne_eqb found 0 z in
+        let held = h.pool.held 0 some_number in
+        let t = tally_set (holding 0) s.views seat (resting past) (lone come past) e in
+        let two = two_beyond come_views 0 seat come past (come_there s.views h.crowd seat at_rest past e refl) refl refl (omega arith) in
+        rw a (one_further count s.words s.views h seat at_rest (passing 0 come) past e 0 some_number refl (λ q. omega arith) (λ q. refl) z, comes_and_passes s.views h.crowd seat at_rest past e refl two)) in
+        let small : found ≡ 0 → IsSmall (swapped moment log found come) = (λ z. let a = eq-eqb found 0 z in rw a (small_at_coming s.views h.crowd seat at_rest past e refl)) in
+        let next : List PoolView = set s.views seat new in
+        let kept : KeepsLine count (slice_set s.words 0 1) next = record { pool = come_by_swap_kept count slots seat at_rest past came moment log s some_number refl h.pool e; line = stands.0; crowd = stands.1 } in
+        let there : get_elem? next seat ≡ some new = there_set s.views seat new (resting past) e in
+        (new, keeps, tt, kept, ((came, moment, log, refl), small, record { count = count; words = slice_set s.words 0 1; views = next; kept = kept; seat = seat; there = there }))
 
     -- no seat has met all numbers held
     pub never : (c : Call) (st : Step S) → c.stage ≡ Seeking → c.place ≡ count → Allows {S = S} {V = PoolView} (KeepsLineRule count) slots seat (lone c past, []) 0 (λ f. f) (NeverComes st (lone c past, []))
@@ -108,12 +130,12 @@ module _ {S : Type 0} (count slots seat : ℕ) where
 
     module _ (c : Call) (p : ℕ) (within : p < count) (here : c.place ≡ p) where
       -- it finds its place held, and goes on
-      passes : (s : State S PoolView) → KeepsLineRule count s → get_elem? s.views seat ≡ some (lone c past) → c.stage ≡ Seeking → slice_index s.words (p * 8) ≢ 0 → Stands count (set s.views seat (lone (passing c) past))
-      passes s h e is z =
+      passes : (lost : ℕ) (s : State S PoolView) → KeepsLineRule count s → get_elem? s.views seat ≡ some (lone c past) → c.stage ≡ Seeking → slice_index s.words (p * 8) ≢ 0 → Stands count (set s.views seat (lone (passing lost c) past))
+      passes lost s h e is z =
           let held = h.pool.held p within in
           let two = two_beyond s.views p seat c past e is here (omega arith) in (
-            one_further count s.words s.views h seat c (passing c) past e p within (seeks_none p c is) (λ q. rw (is, here) refl) (λ q. rw here refl) z,
-            passing_crowd s.views h.crowd seat c past e is (rw here two),
+            one_further count s.words s.views h seat c (passing lost c) past e p within (seeks_none p c is) (λ q. rw (is, here) refl) (λ q. rw here refl) z,
+            passing_crowd s.views h.crowd seat c past e is lost (rw here two),
           )
 
       pub may_look_in_line : (st : Step S) → c.stage ≡ Seeking → Allows {S = S} {V = PoolView} (KeepsLineRule count) slots seat (lone c past, []) (p * 8) (λ n. n) (Looks st (lone c past, []))
@@ -121,8 +143,8 @@ module _ {S : Type 0} (count slots seat : ℕ) where
           let found : ℕ = slice_index s.words (p * 8) in
           let new : PoolView = lone (looked found c) past in
           let stands : Stands count (set s.views seat new) = dite (ℕ_discrete found 0)
-          (λ z. let a = eq-eqb found 0 z in rw a (no_further count s.words s.views h seat c (spent c) past past e (λ q. omega arith), spent_crowd s.views h.crowd seat c past e is))
-          (λ z. let a = ne_eqb found 0 z in rw a (passes s h e is z)) in
+          (λ z. let a = eq-eqb found 0 z in rw a (no_further count s.words s.views h seat c (sighting c) past past e (λ q. omega arith), sighting_crowd s.views h.crowd seat c past e is))
+          (λ z. let a = ne_eqb found 0 z in rw a (passes c.lost s h e is z)) in
           (new, keeps, tt, record { pool = look_kept count slots seat c past (p * 8) s is h.pool e; line = stands.0; crowd = stands.1 }, refl)
 
       pub may_take_in_line : (st : Step S) → c.stage ≡ Seeking → Allows {S = S} {V = PoolView} (KeepsLineRule count) slots seat (lone c past, []) (p * 8) (λ _. 1) (TakesInLine st (lone c past, []))
@@ -133,7 +155,7 @@ module _ {S : Type 0} (count slots seat : ℕ) where
           let new : PoolView = lone (swapped moment log found c) past in
           let stands : Stands count (set s.views seat new) = dite (ℕ_discrete found 0)
           (λ z. let a = eq-eqb found 0 z in rw a (no_further count s.words s.views h seat c (taking moment log c) past past e (λ q. let x : from q c ≡ 1 - (q - c.place) = rw is refl in omega arith), taking_crowd s.views h.crowd seat c past e is))
-          (λ z. let a = ne_eqb found 0 z in rw a (passes s h e is z)) in
+          (λ z. let a = ne_eqb found 0 z in rw a (passes (races c) s h e is z)) in
           let small : found ≡ 0 → IsSmall (swapped moment log found c) = (λ z. let a = eq-eqb found 0 z in rw a (small_so_far s.views h.crowd seat c past e is)) in
           let next : List PoolView = set s.views seat new in
           let kept : KeepsLine count (slice_set s.words (p * 8) 1) next = record { pool = take_kept count slots seat c past moment log p s within is here h.pool e; line = stands.0; crowd = stands.1 } in
@@ -206,10 +228,10 @@ module _ {S : Type 0} (count seat : ℕ) where
         (let k = h.crowd.crowd seat (both c d past others) e in (k.0, tt)) (let k = h.crowd.crowd seat (both c d past others) e in k.1);
   }
 
-  pub may_look_on_in_line : (slots : ℕ) (u : PoolView) (st : Step S) → Allows {S = S} {V = PoolView} (KeepsLineRule count) slots seat (u, []) 0 (λ f. f) (LooksOn st (u, []))
-  may_look_on_in_line slots u st s h len e b =
+  pub may_look_on_in_line : (slots : ℕ) (u : PoolView) (st : Step S) → length u.calls ≡ 2 → Allows {S = S} {V = PoolView} (KeepsLineRule count) slots seat (u, []) 0 (λ f. f) (LooksOn st (u, []))
+  may_look_on_in_line slots u st two s h len e b =
       let kept : KeepsLine count (slice_set s.words 0 (slice_index s.words 0)) (set s.views seat u) = rw (reread s.words 0, set_again s.views seat u e) h in
-      (u, keeps, tt, kept, (refl, record { count = count; words = s.words; views = s.views; kept = h.pool; seat = seat; there = e }))
+      (u, keeps, tt, kept, (refl, record { count = count; words = s.words; views = s.views; kept = h.pool; seat = seat; there = e }, two))
 
 pub rests_undealt : (n : ℕ) → sum_of rests (undealt n) ≡ n
 rests_undealt zero = refl

@@ -10,7 +10,7 @@ use Rattle.word_pool.specs.declared.pool_view.Stage.TheVariants.{AtRest, Seeking
 use Rattle.word_pool.specs.declared.pool_view.Call.{Call}
 use Rattle.word_pool.specs.declared.pool_view.PoolView.{PoolView}
 use Rattle.word_pool.specs.PoolView.{at_rest, lone, call_of}
-use Rattle.word_pool.specs.PoolSteps.{Takes}
+use Rattle.word_pool.specs.PoolSteps.{ComesBySwap, Takes}
 use Rattle.word_pool.specs.Tally.{own, tally}
 use Rattle.word_pool.specs.PoolRule.{KeepsPool}
 use Rattle.word_pool.specs.Crowd.{competes, now, log_of_call, IsSmall, KeepsCrowd}
@@ -66,6 +66,10 @@ pub record IsInLine (v : PoolView) : Type 0 where
 -- a call of a line swaps 1 into the word of its place: where it has taken it, its number is small
 abbrev pub TakesInLine : {S : Type 0} → Step S → Me S PoolView → ℕ → Me S PoolView → Type 0
 TakesInLine s before found after = Takes s before found after × (found ≡ 0 → IsSmall (call_of after.0)) × IsInLine after.0
+
+-- a call of a line comes by such a swap at the first place
+abbrev pub ComesBySwapInLine : {S : Type 0} → Step S → Me S PoolView → ℕ → Me S PoolView → Type 0
+ComesBySwapInLine s before found after = ComesBySwap s before found after × (found ≡ 0 → IsSmall (call_of after.0)) × IsInLine after.0
 
 -- where the rule is kept, what a call that holds a number has kept in its view is how many competed, held or sought, at each
 -- moment from its coming to its taking of the number, and its number is at most the most of them

@@ -1,5 +1,5 @@
 -- what each kind of step tells the seat that makes it. Each is one access, and its call counts it.
-use Rattle.std.specs.Prelude.{◌≡◌, ◌≤◌, ℕ, List, ◌∷◌, drop}
+use Rattle.std.specs.Prelude.{◌≡◌, ◌≤◌, ℕ, List, ◌∷◌, drop, length}
 use mathlib.Core.Option.{some}
 use lib.ListN.{get_elem?}
 use Rattle.atomic_table.specs.Table.{Me, Step}
@@ -11,6 +11,12 @@ use Rattle.word_pool.specs.PoolRule.{KeepsPool, word_of}
 -- a call comes, by a look at the first place
 abbrev pub Comes : {S : Type 0} → Step S → Me S PoolView → ℕ → Me S PoolView → Type 0
 Comes s before found after = (moment : ℕ) × (after ≡ (lone (looked found (coming moment (call_of before.0))) before.0.past, before.1))
+
+-- a call comes, by a swap of 1 into the word of the first place
+abbrev pub ComesBySwap : {S : Type 0} → Step S → Me S PoolView → ℕ → Me S PoolView → Type 0
+ComesBySwap s before found after =
+    (came : ℕ) × (moment : ℕ) × (crowds : List ℕ) ×
+    (after ≡ (lone (swapped moment crowds found (coming came (call_of before.0))) before.0.past, before.1))
 
 -- a call looks at its place
 abbrev pub Looks : {S : Type 0} → Step S → Me S PoolView → ℕ → Me S PoolView → Type 0
@@ -44,9 +50,10 @@ pub record IsUnderRule (v : PoolView) : Type 0 where
   pub seat : ℕ
   pub there : get_elem? views seat ≡ some v
 
--- a load that changes nothing, and shows what the seat holds under the rule
+-- a load by a seat with two calls, that changes nothing, and shows what the seat holds under the rule; a seat with one call has
+-- no such step, so it makes no access that is not counted
 abbrev pub LooksOn : {S : Type 0} → Step S → Me S PoolView → ℕ → Me S PoolView → Type 0
-LooksOn s before found after = (after ≡ before) × IsUnderRule after.0
+LooksOn s before found after = (after ≡ before) × IsUnderRule after.0 × (length before.0.calls ≡ 2)
 
 -- a word is 0 or 1, and 1 where the seat that looks holds its place
 abbrev pub IsWordFor : ℕ → PoolView → ℕ → Type 0

@@ -1,17 +1,44 @@
 -- what a seat of a pool knows, and how a call goes on by its accesses
-use Rattle.std.specs.Prelude.{◌≡◌, ◌≢◌, ◌≤◌, ◌==◌, ℕ, zero, suc, List, [], ◌∷◌, ◌++◌, true, false, if◌then◌else◌}
+use Rattle.std.specs.Prelude.{◌≡◌, ◌≢◌, ◌≤◌, ◌+◌, ◌==◌, ℕ, zero, suc, List, [], ◌∷◌, ◌++◌, true, false, if◌then◌else◌}
 use Rattle.word_pool.specs.declared.pool_view.Stage.{Stage}
 use Rattle.word_pool.specs.declared.pool_view.Stage.TheVariants.{AtRest, Seeking, Holding, Ended}
 use Rattle.word_pool.specs.declared.pool_view.Call.{Call}
 use Rattle.word_pool.specs.declared.pool_view.PoolView.{PoolView}
+use Rattle.word_pool.specs.Tally.{one_if}
 
 -- a call that has not begun
 abbrev pub at_rest : Call
-at_rest = record { stage = AtRest; place = 0; met = []; accesses = 0; hinted = false; came = 0; took = 0; went = 0; crowds = [] }
+at_rest =
+    record {
+      stage = AtRest;
+      place = 0;
+      met = [];
+      accesses = 0;
+      hinted = false;
+      sighted = false;
+      lost = 0;
+      came = 0;
+      took = 0;
+      went = 0;
+      crowds = [];
+    }
 
 -- it comes to the first place, at this moment
 abbrev pub coming : ℕ → Call → Call
-coming moment c = record { stage = Seeking; place = 0; met = []; accesses = c.accesses; hinted = false; came = moment; took = 0; went = 0; crowds = [] }
+coming moment c =
+    record {
+      stage = Seeking;
+      place = 0;
+      met = [];
+      accesses = c.accesses;
+      hinted = false;
+      sighted = false;
+      lost = 0;
+      came = moment;
+      took = 0;
+      went = 0;
+      crowds = [];
+    }
 
 -- one access more, which changes nothing else
 abbrev pub spent : Call → Call
@@ -22,21 +49,42 @@ spent c =
       met = c.met;
       accesses = suc c.accesses;
       hinted = c.hinted;
+      sighted = c.sighted;
+      lost = c.lost;
       came = c.came;
       took = c.took;
       went = c.went;
       crowds = c.crowds;
     }
 
--- an access that met its place held: it goes on to the next
-abbrev pub passing : Call → Call
-passing c =
+-- a look that found its place free
+abbrev pub sighting : Call → Call
+sighting c =
+    record {
+      stage = c.stage;
+      place = c.place;
+      met = c.met;
+      accesses = suc c.accesses;
+      hinted = c.hinted;
+      sighted = true;
+      lost = c.lost;
+      came = c.came;
+      took = c.took;
+      went = c.went;
+      crowds = c.crowds;
+    }
+
+-- an access that met its place held: it goes on to the next, having lost so many races
+abbrev pub passing : ℕ → Call → Call
+passing lost c =
     record {
       stage = Seeking;
       place = suc c.place;
       met = c.place ∷ c.met;
       accesses = suc c.accesses;
       hinted = c.hinted;
+      sighted = false;
+      lost = lost;
       came = c.came;
       took = c.took;
       went = c.went;
@@ -52,6 +100,8 @@ taking moment crowds c =
       met = c.met;
       accesses = suc c.accesses;
       hinted = c.hinted;
+      sighted = false;
+      lost = c.lost;
       came = c.came;
       took = moment;
       went = 0;
@@ -61,7 +111,19 @@ taking moment crowds c =
 -- an access of a call at rest that took this place, at this moment
 abbrev pub taking_hint : ℕ → ℕ → Call → Call
 taking_hint place moment c =
-    record { stage = Holding; place = place; met = []; accesses = suc c.accesses; hinted = true; came = moment; took = moment; went = 0; crowds = [] }
+    record {
+      stage = Holding;
+      place = place;
+      met = [];
+      accesses = suc c.accesses;
+      hinted = true;
+      sighted = false;
+      lost = 0;
+      came = moment;
+      took = moment;
+      went = 0;
+      crowds = [];
+    }
 
 -- the access that gave its place back, at this moment
 abbrev pub going : ℕ → Call → Call
@@ -72,6 +134,8 @@ going moment c =
       met = c.met;
       accesses = suc c.accesses;
       hinted = c.hinted;
+      sighted = false;
+      lost = c.lost;
       came = c.came;
       took = c.took;
       went = moment;
@@ -80,11 +144,15 @@ going moment c =
 
 -- a look at its place found this
 abbrev pub looked : ℕ → Call → Call
-looked found c = if found == 0 then spent c else passing c
+looked found c = if found == 0 then sighting c else passing c.lost c
+
+-- the races that it has lost where a swap meets its place held: one more where the access before was a look that found it free
+abbrev pub races : Call → ℕ
+races c = c.lost + one_if c.sighted
 
 -- a swap of 1 into its place found this
 abbrev pub swapped : ℕ → List ℕ → ℕ → Call → Call
-swapped moment crowds found c = if found == 0 then taking moment crowds c else passing c
+swapped moment crowds found c = if found == 0 then taking moment crowds c else passing (races c) c
 
 -- a swap of 1 into this place by a call at rest found this
 abbrev pub swapped_hint : ℕ → ℕ → ℕ → Call → Call
@@ -99,6 +167,8 @@ meeting place c =
       met = place ∷ c.met;
       accesses = suc c.accesses;
       hinted = c.hinted;
+      sighted = c.sighted;
+      lost = c.lost;
       came = c.came;
       took = c.took;
       went = c.went;
@@ -151,28 +221,29 @@ abbrev pub first_places : ℕ → List ℕ
 first_places zero = []
 first_places (suc count) = count ∷ first_places count
 
--- the view of a seat with one call, of this stage, at this place: its walk has met all places below held, and it has made at
--- most so many accesses
-pub record IsAt (stage : Stage) (place most : ℕ) (v : PoolView) : Type 0 where
+-- the view of a seat with one call, of this stage, at this place: its walk has met all places below held
+pub record IsAt (stage : Stage) (place : ℕ) (v : PoolView) : Type 0 where
   pub view_is : v ≡ lone (call_of v) v.past
   pub stage_is : (call_of v).stage ≡ stage
   pub place_is : (call_of v).place ≡ place
   pub met_are : (call_of v).met ≡ first_places place
   pub walked : (call_of v).hinted ≡ false
-  pub few : (call_of v).accesses ≤ most
 
-abbrev pub IsSeeking : ℕ → ℕ → PoolView → Type 0
+abbrev pub IsSeeking : ℕ → PoolView → Type 0
 IsSeeking = IsAt Seeking
 
-abbrev pub IsHolding : ℕ → ℕ → PoolView → Type 0
+abbrev pub IsHolding : ℕ → PoolView → Type 0
 IsHolding = IsAt Holding
 
--- the view of a seat with one call, which has not begun, and has made at most so many accesses
-pub record IsResting (most : ℕ) (v : PoolView) : Type 0 where
-  pub view_is : v ≡ lone (call_of v) v.past
-  pub stage_is : (call_of v).stage ≡ AtRest
-  pub few : (call_of v).accesses ≤ most
-
 -- a seat's call has looked at this place, and found this: where it was held it stands at the next
-abbrev pub HasLooked : ℕ → ℕ → ℕ → PoolView → Type 0
-HasLooked found place most v = (found ≡ 0 → IsSeeking place most v) × (found ≢ 0 → IsSeeking (suc place) most v)
+abbrev pub HasLooked : ℕ → ℕ → PoolView → Type 0
+HasLooked found place v =
+    (found ≡ 0 → IsSeeking place v × ((call_of v).sighted ≡ true)) × (found ≢ 0 → IsSeeking (suc place) v × ((call_of v).sighted ≡ false))
+
+-- a seat's call has swapped 1 into this place, and found this: where it was held it stands at the next
+abbrev pub HasSwapped : ℕ → ℕ → PoolView → Type 0
+HasSwapped found place v = (found ≡ 0 → IsHolding place v) × (found ≢ 0 → IsSeeking (suc place) v × ((call_of v).sighted ≡ false))
+
+-- a call made at most so many accesses, or one more where it lost a race
+abbrev pub IsWithin : ℕ → Call → Type 0
+IsWithin most c = (c.accesses ≤ most + 1) × (c.lost ≡ 0 → c.accesses ≤ most)

@@ -1,13 +1,15 @@
 //! Small numbers that threads take and give back over raw atomic words, with no lock: long-lived renaming by test-and-set
 //! (Moir and Anderson 1995). A number has a word, 64 bytes from the next: 1 while somebody holds the number, else 0. A call
-//! walks from 1 upward, looks at each word before it swaps 1 into it, and has the number whose word was 0 at the swap. No
+//! walks from 1 upward, looks at each word until it finds one 0, swaps 1 into it, and has the number whose word was 0 at the
+//! swap; where it was not, another was faster, and the call goes on by swaps alone, as it does at the last number. No
 //! call takes a lock, waits for another or repeats an access.
 //!
 //! # What is true of each call
 //!
 //! - A number that is held is nobody else's: two that meet show it (`WordPool::meet`, `LinePool::meet`).
-//! - `acquire` gives a number with all below it met held, in order, by at most two accesses for each that it tried. A pool of
-//!   words tells by `AllHeld` that it met all held so; `acquire_near` tries one number before, by at most two accesses.
+//! - `acquire` gives a number with all below it met held, in order: the number `n` of `k` by at most `n + 1` accesses, and by
+//!   at most `k`, or one more where the call lost a race. A pool of words tells by `AllHeld`, within as many, that it met all
+//!   held so; `acquire_near` tries one number before, by one access more.
 //! - `LinePool::acquire` always gives a number: there are as many tickets as numbers.
 //! - In a line the number is at most the most calls that competed, held or sought, at one moment of the call: `Held` carries
 //!   what its seat saw of that (`law_of_the_line`). In a pool of words this is not so where hints are used, and not proved.

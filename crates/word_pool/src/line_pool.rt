@@ -2,16 +2,16 @@
 
 ghost use Rattle.std.specs.Prelude.{[], ◌∷◌, ◌≡◌, ◌≢◌, ◌<◌, ◌≤◌, ◌+◌, ◌-◌, ◌*◌, ◌⊎◌, ◌↔◌, ℕ, suc, true, false, Err, IfErr, IfOk, IfSome, IsOk, IsSome, vec_len, slice_index};
 ghost use Rattle.word_pool.specs.PoolRule.{word_of};
-ghost use Rattle.word_pool.specs.PoolView.{call_of, first_of, first_places, going, lone, IsSeeking, IsHolding, HasLooked};
+ghost use Rattle.word_pool.specs.PoolView.{call_of, first_of, first_places, going, lone, races, IsSeeking, IsWithin};
 ghost use Rattle.word_pool.specs.Pools.{CallId, HasNumberOf, IsHeldAt, IsStill};
 ghost use Rattle.word_pool.specs.Crowd.{greatest};
 ghost use Rattle.word_pool.specs.LineRule.{rests, IsInLine};
-ghost use Rattle.word_pool.specs.Tally.{holding, own, sum_below};
+ghost use Rattle.word_pool.specs.Tally.{holding, one_if, own, sum_below};
 ghost use lib.ListN.{get_elem?};
 ghost use mathlib.Core.Option.{some};
 
 use crate::held::Held;
-use crate::line_steps::{Deal, Lining, Never, TakeInLine};
+use crate::line_steps::{ComeBySwapInLine, Deal, Lining, Never, TakeInLine};
 use crate::pool_steps::{Come, Free, Look, LookOn, Sever, Unite};
 use crate::pool_view::PoolView;
 use crate::ticket::{Ticket, Tickets};
@@ -99,81 +99,93 @@ impl<A: Allocator> LinePool<A> {
         })
     }
 
-    /// A number that nobody else holds, always: the least that a walk from 1 upward finds free. It looks at each word before
-    /// it swaps 1 into it, so it makes at most two accesses for each number that it tries; and it leaves a number behind only
-    /// where an access met it held. The ticket is of this line, and comes back with `release`. The number is at most the most
-    /// calls that competed, held or sought, at one moment of this one (Moir and Anderson 1995): `crowds` is how many did at
-    /// each moment, as `law_of_the_line` says of any call that holds in a table that keeps the rule, as `in_line` says of
-    /// this one; and this call is the next of the ticket's seat.
+    /// A number that nobody else holds, always: the least that a walk from 1 upward finds free. It leaves a number behind only
+    /// where an access met it held. It makes one access for each that it leaves behind and two, a look and a swap, for the
+    /// first that it finds free. Where that swap loses a race it goes on by swaps alone, and the last number it swaps without
+    /// a look: so it makes at most one access for each number of the line, and one more only where it lost a race. The ticket
+    /// is of this line, and comes back with `release`. The number is at most the most calls that competed, held or sought, at
+    /// one moment of this one (Moir and Anderson 1995): `crowds` is how many did at each moment, as `law_of_the_line` says of
+    /// any call that holds in a table that keeps the rule, as `in_line` says of this one; and this call is the next of the
+    /// ticket's seat.
     pub fn acquire(&self, ticket: Ticket) -> Held
         requires ours { ticket.pool ≡ self.now.table }
         ensures ours { result.pool ≡ self.now.table }
         ensures this_call { (result.seat ≡ ticket.seat) × (result.past ≡ ticket.past) }
         ensures range { (1 ≤ result.number) × (result.number ≤ self.now.numbers) }
         ensures below { result.call.met ≡ first_places (result.number - 1) }
-        ensures accesses { result.call.accesses ≤ 2 * result.number }
+        ensures accesses { (result.call.accesses ≤ result.number + 1) × IsWithin self.now.numbers result.call }
         ensures small { result.number ≤ greatest result.call.crowds }
         ensures in_line { IsInLine (lone result.call result.past) }
     {
         let Ticket { badge } = ticket;
         let mut seat = badge.into_seat::<u8>();
+        if self.numbers == 1 {
+            let found = self.table.shared.swap::<ComeBySwapInLine>(&mut seat, 0, 1);
+            if found == 0 {
+                return Held::of(seat, 0);
+            }
+            return self.take_from(seat, 1);
+        }
         let found = self.table.shared.load::<Come>(&mut seat, 0);
-        self.walk(seat, found)
+        let place = if found == 0 {
+            0
+        } else {
+            self.look_on(&mut seat)
+        };
+        self.take_from(seat, place)
     }
 
-    /// The walk of a seat whose look at the first place found this.
-    fn walk(&self, mut seat: Seat<u8, PoolView>, found: u64) -> Held
-        requires ours { seat.table_id ≡ self.now.table }
-        requires some { 0 < self.now.numbers }
-        requires looked { HasLooked found 0 (call_of seat.me.0).accesses seat.me.0 × (seat.me.1 ≡ []) }
-        ensures ours { result.pool ≡ self.now.table }
-        ensures this_call { (result.seat ≡ seat.id) × (result.past ≡ seat.me.0.past) }
-        ensures range { (1 ≤ result.number) × (result.number ≤ self.now.numbers) }
-        ensures below { result.call.met ≡ first_places (result.number - 1) }
-        ensures accesses { result.call.accesses + 1 ≤ (call_of seat.me.0).accesses + 2 * result.number }
-        ensures small { result.number ≤ greatest result.call.crowds }
-        ensures in_line { IsInLine (lone result.call result.past) }
+    /// Looks at one place after another, from that behind the first, until one is free: that place, or the last, at which it
+    /// does not look.
+    fn look_on(&self, seat: &mut Seat<u8, PoolView>) -> u64
+        requires ours { seat.old.table_id ≡ self.now.table }
+        requires some { 1 < self.now.numbers }
+        requires passed { IsSeeking 1 seat.old.me.0 × ((call_of seat.old.me.0).sighted ≡ false) × (seat.old.me.1 ≡ []) }
+        ensures ours { (seat.new.table_id ≡ self.now.table) × (seat.new.me.1 ≡ []) }
+        ensures this_call { (seat.new.id ≡ seat.old.id) × (seat.new.me.0.past ≡ seat.old.me.0.past) }
+        ensures range { (1 ≤ result) × (result + one_if (call_of seat.new.me.0).sighted < self.now.numbers) }
+        ensures here { IsSeeking result seat.new.me.0 }
+        ensures accesses { (call_of seat.new.me.0).accesses + 1 ≡ (call_of seat.old.me.0).accesses + result + one_if (call_of seat.new.me.0).sighted }
+        ensures lost { (call_of seat.new.me.0).lost ≡ (call_of seat.old.me.0).lost }
     {
-        if self.settle(&mut seat, 0, found) {
-            return Held::of(seat, 0);
-        }
-        for place in 1..self.numbers {
+        for place in 1..self.numbers - 1 {
             let found = self
                 .table
                 .shared
-                .load::<Look>(&mut seat, (place * STRIDE) as usize);
-            if self.settle(&mut seat, place, found) {
+                .load::<Look>(seat, (place * STRIDE) as usize);
+            if found == 0 {
+                return place;
+            }
+        }
+        self.numbers - 1
+    }
+
+    /// Swaps 1 into the word of one place after another, from this on, until one was free.
+    fn take_from(&self, mut seat: Seat<u8, PoolView>, from: u64) -> Held
+        requires ours { seat.table_id ≡ self.now.table }
+        requires range { from ≤ self.now.numbers }
+        requires here { IsSeeking from seat.me.0 × (seat.me.1 ≡ []) }
+        ensures ours { result.pool ≡ self.now.table }
+        ensures this_call { (result.seat ≡ seat.id) × (result.past ≡ seat.me.0.past) }
+        ensures range { (from < result.number) × (result.number ≤ self.now.numbers) }
+        ensures below { result.call.met ≡ first_places (result.number - 1) }
+        ensures accesses { result.call.accesses + from ≡ (call_of seat.me.0).accesses + result.number }
+        ensures races { suc from < result.number → result.call.lost ≡ races (call_of seat.me.0) }
+        ensures small { result.number ≤ greatest result.call.crowds }
+        ensures in_line { IsInLine (lone result.call result.past) }
+    {
+        for place in from..self.numbers {
+            let found = self
+                .table
+                .shared
+                .swap::<TakeInLine>(&mut seat, (place * STRIDE) as usize, 1);
+            if found == 0 {
                 return Held::of(seat, place);
             }
         }
         // No seat stands behind the last number, so this is never reached.
         self.table.shared.load::<Never>(&mut seat, 0);
         unreachable!()
-    }
-
-    /// Takes the place that the seat has just looked at, where that found it free: one swap. False where it was held, at
-    /// the look or at the swap.
-    fn settle(&self, seat: &mut Seat<u8, PoolView>, place: u64, found: u64) -> bool
-        requires ours { seat.old.table_id ≡ self.now.table }
-        requires place { place < self.now.numbers }
-        requires looked { HasLooked found place (call_of seat.old.me.0).accesses seat.old.me.0 × (seat.old.me.1 ≡ []) }
-        ensures ours { seat.new.table_id ≡ self.now.table }
-        ensures this_call { (seat.new.id ≡ seat.old.id) × (seat.new.me.0.past ≡ seat.old.me.0.past) }
-        ensures slots { seat.new.me.1 ≡ [] }
-        ensures held { result ≡ true → IsHolding place (suc (call_of seat.old.me.0).accesses) seat.new.me.0 }
-        ensures small { result ≡ true → suc place ≤ greatest (call_of seat.new.me.0).crowds }
-        ensures in_line { result ≡ true → IsInLine seat.new.me.0 }
-        ensures range { result ≡ true → (place < 4096) × (word_of place < seat.new.table_id.words) }
-        ensures passed { result ≡ false → IsSeeking (suc place) (suc (call_of seat.old.me.0).accesses) seat.new.me.0 }
-    {
-        if found != 0 {
-            return false;
-        }
-        let at_swap = self
-            .table
-            .shared
-            .swap::<TakeInLine>(seat, (place * STRIDE) as usize, 1);
-        at_swap == 0
     }
 
     /// Gives a number back, by one access, and has a ticket again. It is of this line.

@@ -1,7 +1,7 @@
 //! The rule of a line's table, and the kinds of step that only a line has.
 
 ghost use Rattle.std.specs.Prelude.{[], take, drop};
-ghost use Rattle.word_pool.specs.LineRule.{KeepsLineRule, TakesInLine, NeverComes, undealt};
+ghost use Rattle.word_pool.specs.LineRule.{ComesBySwapInLine, KeepsLineRule, TakesInLine, NeverComes, undealt};
 ghost use Rattle.word_pool.specs.PoolView.{view_of};
 
 use crate::pool_view::PoolView;
@@ -21,6 +21,13 @@ pub struct TakeInLine;
 
 impl<S> Play<S, PoolView> for TakeInLine {
     ghost then = { TakesInLine };
+}
+
+/// A call comes by such a swap at the first place.
+pub struct ComeBySwapInLine;
+
+impl<S> Play<S, PoolView> for ComeBySwapInLine {
+    ghost then = { ComesBySwapInLine };
 }
 
 /// No seat makes this step.

@@ -2,7 +2,7 @@
 
 ghost use Rattle.std.specs.Prelude.{take, drop, []};
 ghost use Rattle.word_pool.specs.PoolRule.{KeepsPoolRule};
-ghost use Rattle.word_pool.specs.PoolSteps.{Comes, Looks, Takes, LooksAside, TakesAside, Frees, LooksOn, ReadsFirst, ReadsOn};
+ghost use Rattle.word_pool.specs.PoolSteps.{Comes, ComesBySwap, Looks, Takes, LooksAside, TakesAside, Frees, LooksOn, ReadsFirst, ReadsOn};
 ghost use Rattle.word_pool.specs.PoolView.{resting, view_of, no_call, united};
 
 use crate::pool_view::PoolView;
@@ -22,6 +22,13 @@ pub struct Come;
 
 impl<S> Play<S, PoolView> for Come {
     ghost then = { Comes };
+}
+
+/// A call comes by a swap of 1 into the first place's word, and holds it where it was clear.
+pub struct ComeBySwap;
+
+impl<S> Play<S, PoolView> for ComeBySwap {
+    ghost then = { ComesBySwap };
 }
 
 /// A call looks at its place.

@@ -25,6 +25,10 @@ pub struct Call {
     pub accesses: u64,
     /// Whether it got its number by a hint, past the walk.
     pub hinted: bool,
+    /// Whether its last access was a look of its walk that found its place free.
+    pub sighted: bool,
+    /// How many races its walk has lost: how often a swap met held what the look just before it had found free.
+    pub lost: u64,
     /// After how many comings and goings of calls it came, took its number, and went.
     pub came: u64,
     pub took: u64,

@@ -3,16 +3,17 @@
 ghost use Rattle.std.specs.Prelude.{[], ◌∷◌, ◌≡◌, ◌≢◌, ◌<◌, ◌≤◌, ◌+◌, ◌-◌, ◌*◌, ◌⊎◌, ◌↔◌, ℕ, suc, true, false, Err, IfErr, IfOk, IsOk, vec_len, slice_index};
 ghost use lib.ListN.{get_elem?};
 ghost use mathlib.Core.Option.{some};
-ghost use Rattle.word_pool.specs.Tally.{own, holding};
+ghost use Rattle.word_pool.specs.Tally.{own, holding, one_if};
 ghost use Rattle.std.specs.Mem.Slots.{slots_items, slots_len, IsFull};
 ghost use Rattle.word_pool.specs.PoolRule.{word_of};
-ghost use Rattle.word_pool.specs.PoolView.{call_of, first_places, lone, IsSeeking, IsHolding, IsResting, HasLooked};
+ghost use Rattle.word_pool.specs.PoolView.{call_of, first_places, races, IsSeeking, IsWithin, HasLooked, HasSwapped};
 ghost use Rattle.word_pool.specs.PoolSteps.{IsWordFor};
 ghost use Rattle.word_pool.specs.Pools.{CallId, HasLookedAtAll, HasMetAllHeld, HasNumberOf, set_places, IsHeldAt, IsStill};
 
 use crate::held::{AllHeld, Held, LastLook, Released};
 use crate::pool_steps::{
-    Come, Free, Look, LookAside, LookOn, Pooling, ReadFirst, ReadOn, Sever, Take, TakeAside, Unite,
+    Come, ComeBySwap, Free, Look, LookAside, LookOn, Pooling, ReadFirst, ReadOn, Sever, Take,
+    TakeAside, Unite,
 };
 use crate::pool_view::PoolView;
 use atomic_table::{Badge, Closed, Seat, Table};
@@ -82,42 +83,110 @@ impl<A: Allocator> WordPool<A> {
         self.numbers
     }
 
-    /// A number that nobody else holds: the least that a walk from 1 upward finds free. It looks at each word before it
-    /// swaps 1 into it, so it makes at most two accesses for each number that it tries; and it leaves a number behind only
-    /// where an access met it held. Where it met each number held, in turn, it tells so.
+    /// A number that nobody else holds: the least that a walk from 1 upward finds free. It leaves a number behind only where
+    /// an access met it held, and it tells that all were held where it met each so, in turn. It makes one access for each number
+    /// that it leaves behind and two, a look and a swap, for the first that it finds free. Where that swap loses a race it goes
+    /// on by swaps alone, and the last number it swaps without a look: so it makes at most one access for each number of the
+    /// pool, and one more only where it lost a race.
     pub fn acquire(&self) -> Result<Held, AllHeld>
         ensures ours { IfOk result (λ h. h.pool ≡ self.now.table) }
         ensures range { IfOk result (λ h. (1 ≤ h.number) × (h.number ≤ self.now.numbers)) }
         ensures below { IfOk result (λ h. (h.call.met ≡ first_places (h.number - 1)) × (h.call.hinted ≡ false)) }
-        ensures accesses { IfOk result (λ h. h.call.accesses ≤ 2 * h.number) }
+        ensures accesses { IfOk result (λ h. (h.call.accesses ≤ h.number + 1) × IsWithin self.now.numbers h.call) }
         ensures all_held { IfErr result (λ a. HasMetAllHeld self.now a) }
-        ensures accesses_in_vain { IfErr result (λ a. a.call.accesses ≤ 2 * self.now.numbers) }
+        ensures accesses_in_vain { IfErr result (λ a. IsWithin self.now.numbers a.call) }
     {
+        if self.numbers == 1 {
+            let (found, seat) = self.table.shared.swap_new_seat::<ComeBySwap>(0, 1);
+            return self.walk_by_swaps(seat, found);
+        }
         let (found, seat) = self.table.shared.load_new_seat::<Come>(0);
         self.walk(seat, found)
     }
 
-    /// The walk of a seat whose look at the first place found this.
+    /// The walk of a seat whose look at the first place found this. It looks until it finds a place free.
     fn walk(&self, mut seat: Seat<u8, PoolView>, found: u64) -> Result<Held, AllHeld>
         requires ours { seat.table_id ≡ self.now.table }
-        requires some { 0 < self.now.numbers }
-        requires looked { HasLooked found 0 (call_of seat.me.0).accesses seat.me.0 × (seat.me.1 ≡ []) }
+        requires some { 1 < self.now.numbers }
+        requires looked { HasLooked found 0 seat.me.0 × ((call_of seat.me.0).lost ≡ 0) × (seat.me.1 ≡ []) }
         ensures ours { IfOk result (λ h. h.pool ≡ self.now.table) }
         ensures range { IfOk result (λ h. (1 ≤ h.number) × (h.number ≤ self.now.numbers)) }
         ensures below { IfOk result (λ h. (h.call.met ≡ first_places (h.number - 1)) × (h.call.hinted ≡ false)) }
-        ensures accesses { IfOk result (λ h. h.call.accesses + 1 ≤ (call_of seat.me.0).accesses + 2 * h.number) }
+        ensures accesses { IfOk result (λ h. h.call.accesses ≤ (call_of seat.me.0).accesses + h.number) }
+        ensures within { IfOk result (λ h. IsWithin ((call_of seat.me.0).accesses + self.now.numbers - 1) h.call) }
         ensures all_held { IfErr result (λ a. HasMetAllHeld self.now a) }
-        ensures accesses_in_vain { IfErr result (λ a. a.call.accesses + 1 ≤ (call_of seat.me.0).accesses + 2 * self.now.numbers) }
+        ensures accesses_in_vain { IfErr result (λ a. IsWithin ((call_of seat.me.0).accesses + self.now.numbers - 1) a.call) }
     {
-        if self.settle(&mut seat, 0, found) {
-            return Ok(Held::of(seat, 0));
-        }
-        for place in 1..self.numbers {
+        let place = if found == 0 {
+            0
+        } else {
+            self.look_on(&mut seat)
+        };
+        self.take_from(seat, place)
+    }
+
+    /// Looks at one place after another, from that behind the first, until one is free: that place, or the last, at which it
+    /// does not look.
+    fn look_on(&self, seat: &mut Seat<u8, PoolView>) -> u64
+        requires ours { seat.old.table_id ≡ self.now.table }
+        requires some { 1 < self.now.numbers }
+        requires passed { IsSeeking 1 seat.old.me.0 × ((call_of seat.old.me.0).sighted ≡ false) × (seat.old.me.1 ≡ []) }
+        ensures ours { (seat.new.table_id ≡ self.now.table) × (seat.new.me.1 ≡ []) }
+        ensures range { (1 ≤ result) × (result + one_if (call_of seat.new.me.0).sighted < self.now.numbers) }
+        ensures here { IsSeeking result seat.new.me.0 }
+        ensures accesses { (call_of seat.new.me.0).accesses + 1 ≡ (call_of seat.old.me.0).accesses + result + one_if (call_of seat.new.me.0).sighted }
+        ensures lost { (call_of seat.new.me.0).lost ≡ (call_of seat.old.me.0).lost }
+    {
+        for place in 1..self.numbers - 1 {
             let found = self
                 .table
                 .shared
-                .load::<Look>(&mut seat, (place * STRIDE) as usize);
-            if self.settle(&mut seat, place, found) {
+                .load::<Look>(seat, (place * STRIDE) as usize);
+            if found == 0 {
+                return place;
+            }
+        }
+        self.numbers - 1
+    }
+
+    /// The walk of a seat whose swap at the first place found this. It goes on by swaps alone.
+    fn walk_by_swaps(&self, seat: Seat<u8, PoolView>, found: u64) -> Result<Held, AllHeld>
+        requires ours { seat.table_id ≡ self.now.table }
+        requires some { (0 < self.now.numbers) × (0 < self.now.table.words) }
+        requires swapped { HasSwapped found 0 seat.me.0 × (seat.me.1 ≡ []) }
+        ensures ours { IfOk result (λ h. h.pool ≡ self.now.table) }
+        ensures range { IfOk result (λ h. (1 ≤ h.number) × (h.number ≤ self.now.numbers)) }
+        ensures below { IfOk result (λ h. (h.call.met ≡ first_places (h.number - 1)) × (h.call.hinted ≡ false)) }
+        ensures accesses { IfOk result (λ h. h.call.accesses + 1 ≡ (call_of seat.me.0).accesses + h.number) }
+        ensures all_held { IfErr result (λ a. HasMetAllHeld self.now a) }
+        ensures accesses_in_vain { IfErr result (λ a. a.call.accesses + 1 ≡ (call_of seat.me.0).accesses + self.now.numbers) }
+    {
+        if found == 0 {
+            return Ok(Held::of(seat, 0));
+        }
+        self.take_from(seat, 1)
+    }
+
+    /// Swaps 1 into the word of one place after another, from this on, until one was free.
+    fn take_from(&self, mut seat: Seat<u8, PoolView>, from: u64) -> Result<Held, AllHeld>
+        requires ours { seat.table_id ≡ self.now.table }
+        requires range { from ≤ self.now.numbers }
+        requires here { IsSeeking from seat.me.0 × (seat.me.1 ≡ []) }
+        ensures ours { IfOk result (λ h. h.pool ≡ self.now.table) }
+        ensures range { IfOk result (λ h. (from < h.number) × (h.number ≤ self.now.numbers)) }
+        ensures below { IfOk result (λ h. (h.call.met ≡ first_places (h.number - 1)) × (h.call.hinted ≡ false)) }
+        ensures accesses { IfOk result (λ h. h.call.accesses + from ≡ (call_of seat.me.0).accesses + h.number) }
+        ensures races { IfOk result (λ h. suc from < h.number → h.call.lost ≡ races (call_of seat.me.0)) }
+        ensures all_held { IfErr result (λ a. HasMetAllHeld self.now a) }
+        ensures accesses_in_vain { IfErr result (λ a. a.call.accesses + from ≡ (call_of seat.me.0).accesses + self.now.numbers) }
+        ensures races_in_vain { IfErr result (λ a. from < self.now.numbers → a.call.lost ≡ races (call_of seat.me.0)) }
+    {
+        for place in from..self.numbers {
+            let found = self
+                .table
+                .shared
+                .swap::<Take>(&mut seat, (place * STRIDE) as usize, 1);
+            if found == 0 {
                 return Ok(Held::of(seat, place));
             }
         }
@@ -126,73 +195,34 @@ impl<A: Allocator> WordPool<A> {
         })
     }
 
-    /// Takes the place that the seat has just looked at, where that found it free: one swap. False where it was held, at
-    /// the look or at the swap.
-    fn settle(&self, seat: &mut Seat<u8, PoolView>, place: u64, found: u64) -> bool
-        requires ours { seat.old.table_id ≡ self.now.table }
-        requires place { place < self.now.numbers }
-        requires looked { HasLooked found place (call_of seat.old.me.0).accesses seat.old.me.0 × (seat.old.me.1 ≡ []) }
-        ensures ours { seat.new.table_id ≡ self.now.table }
-        ensures slots { seat.new.me.1 ≡ [] }
-        ensures held { result ≡ true → IsHolding place (suc (call_of seat.old.me.0).accesses) seat.new.me.0 }
-        ensures range { result ≡ true → (place < 4096) × (word_of place < seat.new.table_id.words) }
-        ensures passed { result ≡ false → IsSeeking (suc place) (suc (call_of seat.old.me.0).accesses) seat.new.me.0 }
-    {
-        if found != 0 {
-            return false;
-        }
-        let at_swap = self
-            .table
-            .shared
-            .swap::<Take>(seat, (place * STRIDE) as usize, 1);
-        at_swap == 0
-    }
-
-    /// The same, but it tries the number of a hint first, by at most two accesses. Where that is not free, or no number of
-    /// this pool but 1, it walks from 1 upward.
+    /// The same, but it tries the number of a hint first, by a look and, where that finds it free, a swap. Where it is held it
+    /// walks from 1 upward, by swaps alone where the hint's swap lost a race. A hint that is no number of this pool but 1 is
+    /// none.
     pub fn acquire_near(&self, hint: u64) -> Result<Held, AllHeld>
         ensures ours { IfOk result (λ h. h.pool ≡ self.now.table) }
         ensures range { IfOk result (λ h. (1 ≤ h.number) × (h.number ≤ self.now.numbers)) }
         ensures hint { IfOk result (λ h. h.call.hinted ≡ true → (h.number ≡ hint) × (h.call.accesses ≡ 2)) }
         ensures below { IfOk result (λ h. h.call.hinted ≡ false → h.call.met ≡ first_places (h.number - 1)) }
-        ensures accesses { IfOk result (λ h. h.call.hinted ≡ false → h.call.accesses ≤ 2 + 2 * h.number) }
+        ensures accesses { IfOk result (λ h. h.call.accesses ≤ h.number + 2) }
         ensures all_held { IfErr result (λ a. HasMetAllHeld self.now a) }
-        ensures accesses_in_vain { IfErr result (λ a. a.call.accesses ≤ 2 + 2 * self.now.numbers) }
+        ensures accesses_in_vain { IfErr result (λ a. a.call.accesses ≤ self.now.numbers + 2) }
     {
         if hint <= 1 || self.numbers < hint {
             return self.acquire();
         }
-        match self.try_hint(hint - 1) {
-            Ok(held) => Ok(held),
-            Err(mut seat) => {
-                let found = self.table.shared.load::<Come>(&mut seat, 0);
-                self.walk(seat, found)
-            }
+        let place = hint - 1;
+        let word = (place * STRIDE) as usize;
+        let (aside, mut seat) = self.table.shared.load_new_seat::<LookAside>(word);
+        if aside != 0 {
+            let found = self.table.shared.load::<Come>(&mut seat, 0);
+            return self.walk(seat, found);
         }
-    }
-
-    /// Takes the place of a hint where it is free, by a look and a swap; else gives a seat whose call is at rest.
-    fn try_hint(&self, place: u64) -> Result<Held, Seat<u8, PoolView>>
-        requires place { place < self.now.numbers }
-        ensures held { IfOk result (λ h. (h.pool ≡ self.now.table) × (h.number ≡ suc place) × (h.call.hinted ≡ true) × (h.call.accesses ≡ 2)) }
-        ensures ours { IfErr result (λ s. (s.table_id ≡ self.now.table) × (s.me.1 ≡ [])) }
-        ensures resting { IfErr result (λ s. IsResting 2 s.me.0) }
-    {
-        let (found, mut seat) = self
-            .table
-            .shared
-            .load_new_seat::<LookAside>((place * STRIDE) as usize);
-        if found != 0 {
-            return Err(seat);
+        let at_swap = self.table.shared.swap::<TakeAside>(&mut seat, word, 1);
+        if at_swap == 0 {
+            return Ok(Held::of(seat, place));
         }
-        let at_swap = self
-            .table
-            .shared
-            .swap::<TakeAside>(&mut seat, (place * STRIDE) as usize, 1);
-        if at_swap != 0 {
-            return Err(seat);
-        }
-        Ok(Held::of(seat, place))
+        let found = self.table.shared.swap::<ComeBySwap>(&mut seat, 0, 1);
+        self.walk_by_swaps(seat, found)
     }
 
     /// Gives a number back, by one access. It is of this pool.

@@ -1,18 +1,18 @@
 -- what the numbers say that cross to C
 use Rattle.std.specs.Prelude.{◌≡◌, ◌≤◌, ◌+◌, ℕ, IsSomeAnd}
 use Rattle.std.specs.Arc.{arc_value}
-use Rattle.word_pool.specs.Pools.{HasMetAllHeld}
+use Rattle.word_pool_c.specs.Refused.{MetAllInTime}
 use Rattle.word_grid.specs.Law.{KeepsWalkLaw}
 use Rattle.word_grid.specs.Seats.{EndedWalk, GridId, place_of}
 use Rattle.word_pool_c.specs.declared.member.Member.{Member}
 
--- a member holds this number of its pool
+-- a member holds this number of its pool, which it got by at most so many accesses
 abbrev pub HoldsNumber : ℕ → Member → Type 0
-HoldsNumber number m = IsSomeAnd m.held (λ h. h.number ≡ number) × (number ≤ (arc_value m.pool).numbers)
+HoldsNumber number m = IsSomeAnd m.held (λ h. (h.number ≡ number) × (h.call.accesses ≤ number + 2)) × (number ≤ (arc_value m.pool).numbers)
 
--- a member's last walk met each number of its pool held, one after another, from 1 on
+-- a member's last walk met each number of its pool held, one after another, from 1 on, by at most so many accesses
 abbrev pub WasRefused : Member → Type 0
-WasRefused m = IsSomeAnd m.refused (HasMetAllHeld (arc_value m.pool))
+WasRefused m = IsSomeAnd m.refused (MetAllInTime (arc_value m.pool))
 
 -- a walk has ended in this grid at the place of which this is the number, from 1, as its law says
 abbrev pub IsToldAs : ℕ → GridId → EndedWalk → Type 0

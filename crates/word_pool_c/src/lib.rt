@@ -84,8 +84,8 @@ pub extern "C" fn word_pool_join(alloc: Global, handle: &mut Handle, other: &mut
     }
 }
 
-/// Takes the least number that a walk from 1 upward finds free: at most two accesses for each number that it tries. 0 where
-/// it met each number held, and where the handle holds one already.
+/// Takes the least number that a walk from 1 upward finds free, by at most two accesses more than the number says. 0 where it
+/// met each number held, by at most two accesses more than there are numbers, and where the handle holds one already.
 #[unsafe(no_mangle)]
 pub extern "C" fn word_pool_acquire(alloc: Global, handle: &mut Handle) -> u64
     ghost pool: { Member }

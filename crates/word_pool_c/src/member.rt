@@ -1,8 +1,8 @@
 //! One thread's part in a shared pool.
 
-ghost use Rattle.std.specs.Prelude.{◌≡◌, ◌≢◌, ◌≤◌, ◌⊎◌, IfSome, IsSome, IsSomeAnd, None};
+ghost use Rattle.std.specs.Prelude.{◌≡◌, ◌≢◌, ◌≤◌, ◌+◌, ◌⊎◌, IfSome, IsSome, IsSomeAnd, None};
 ghost use Rattle.std.specs.Arc.{arc_value};
-ghost use Rattle.word_pool.specs.Pools.{HasMetAllHeld};
+ghost use Rattle.word_pool_c.specs.Refused.{MetAllInTime};
 ghost use Rattle.std.proofs.Props.{props};
 
 use std::alloc::Global;
@@ -35,10 +35,10 @@ impl Member {
     /// the walk met each number held, and where one is held already.
     pub fn acquire(&mut self, hint: u64) -> u64
         ensures pool { arc_value self.new.pool ≡ arc_value self.old.pool }
-        ensures held { result ≢ 0 → IsSomeAnd self.new.held (λ h. h.number ≡ result) }
+        ensures held { result ≢ 0 → IsSomeAnd self.new.held (λ h. (h.number ≡ result) × (h.call.accesses ≤ result + 2)) }
         ensures range { result ≢ 0 → result ≤ (arc_value self.new.pool).numbers }
         ensures kept { result ≡ 0 → self.new.held ≡ self.old.held }
-        ensures none { result ≡ 0 → IsSome self.old.held ⊎ IsSomeAnd self.new.refused (HasMetAllHeld (arc_value self.new.pool)) }
+        ensures none { result ≡ 0 → IsSome self.old.held ⊎ IsSomeAnd self.new.refused (MetAllInTime (arc_value self.new.pool)) }
     {
         if self.held.is_some() {
             return 0;

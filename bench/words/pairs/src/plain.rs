@@ -12,18 +12,28 @@ impl PlainWords {
         PlainWords((0..numbers).map(|_| Word(AtomicU64::new(0))).collect())
     }
 
-    fn take(&self, number: u64) -> bool {
-        let word = &self.0[number as usize - 1].0;
-        word.load(SeqCst) == 0 && word.swap(1, SeqCst) == 0
+    fn is_free(&self, number: u64) -> bool {
+        self.0[number as usize - 1].0.load(SeqCst) == 0
     }
 
-    /// The hint where it is free, else the least that a walk finds free; 0 where it met each held.
+    fn take(&self, number: u64) -> bool {
+        self.0[number as usize - 1].0.swap(1, SeqCst) == 0
+    }
+
+    /// The hint where it is free, else the least that a walk finds free; 0 where it met each held. It looks until a number is
+    /// free and swaps from there on, by swaps alone where the hint's swap lost a race.
     #[inline(never)]
     pub fn acquire(&self, hint: u64) -> u64 {
-        if 1 < hint && hint <= self.0.len() as u64 && self.take(hint) {
-            return hint;
-        }
-        (1..=self.0.len() as u64).find(|number| self.take(*number)).unwrap_or(0)
+        let last = self.0.len() as u64;
+        let first = if 1 < hint && hint <= last && self.is_free(hint) {
+            if self.take(hint) {
+                return hint;
+            }
+            1
+        } else {
+            (1..last).find(|number| self.is_free(*number)).unwrap_or(last)
+        };
+        (first..=last).find(|number| self.take(*number)).unwrap_or(0)
     }
 
     #[inline(never)]

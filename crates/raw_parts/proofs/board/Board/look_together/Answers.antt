@@ -1,18 +1,18 @@
 use Rattle.std.proofs.Common.{◌≡◌, ◌∷◌, ◌++◌, [], sym, ◌∙◌, refl}
 use mathlib.Core.Option.{none}
 use Rattle.atomic_table.specs.Table.{step}
-use Rattle.raw_parts.specs.BoardView.{claim, claims_of}
-use Rattle.raw_parts.proofs.Claims.{may_pool, may_look_on, may_divide}
+use Rattle.raw_parts.specs.BoardView.{claim, claims_of, united}
+use Rattle.raw_parts.proofs.Claims.{may_unite, may_look_on, may_divide}
 use Rattle.raw_parts.proofs.board.Board.look_together.Goals as goal
 
 pub join_seat-requires : goal.join_seat-requires
 join_seat-requires g c =
-    (c.requires.ours.0 ∙ sym c.self.view_is, c.requires.ours.1 ∙ sym c.self.view_is, rw c.requires.right refl, c.self.invariant.0, rw (c.requires.left, c.requires.right) (may_pool _ 0 _ _ _ _ _ _))
+    (c.requires.ours.0 ∙ sym c.self.view_is, c.requires.ours.1 ∙ sym c.self.view_is, rw c.requires.right refl, c.self.invariant.0, may_unite _ 0 _ _ _ _)
 
 pub load-requires : goal.load-requires
 load-requires g c =
     let both : c.join_seat.new.seat.me ≡ (claims_of (claim c.args._one.0 c.args._one.1 ∷ claim c.args._other.0 c.args._other.1 ∷ []), []) =
-    c.join_seat.ensures.2 ∙ (λ i. (claims_of ((c.requires.left i).0.claims ++ (c.requires.right i).0.claims), (c.requires.left i).1)) in
+    c.join_seat.ensures.2 ∙ (λ i. (united (c.requires.left i).0 (c.requires.right i).0, (c.requires.left i).1)) in
     (c.join_seat.ensures.0 ∙ c.requires.ours.0 ∙ sym c.self.view_is, c.self.invariant.0, rw both (may_look_on _ _ _ _ _ _ _ (step 0 0 0 0 none)))
 
 pub split_seat-right-requires : goal.split_seat-right-requires

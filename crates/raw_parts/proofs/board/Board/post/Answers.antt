@@ -1,5 +1,6 @@
 use Rattle.std.proofs.Common.{◌≡◌, ◌<◌, ℕ, ap, sym, subst, ◌∙◌, arith}
 use Rattle.atomic_table.specs.Seated.{TableId}
+use Rattle.raw_parts.specs.Boards.{ReaderId}
 use Rattle.raw_parts.proofs.Claims.{may_post, may_hand}
 use Rattle.raw_parts.proofs.board.Board.post.Goals as goal
 
@@ -8,11 +9,11 @@ compare_exchange-found-requires g c =
     let words : c.self.inside.table.shared.table_id.words ≡ c.args.self.now.words = ap (λ (t : TableId). t.words) c.self.view_is in
     let within : c.in_ok-word.word < c.self.inside.table.shared.table_id.words = omega (arith, c.in_ok-word.ensures.word.1, words) in
     let count : c.self.inside.table.shared.key ≡ c.self.inside.table.shared.table_id.words = c.self.invariant.2 in (
-      c.seat.view_is ∙ c.requires ∙ sym c.self.view_is,
+      ap (λ (r : ReaderId). r.board) c.seat.view_is ∙ c.requires ∙ sym c.self.view_is,
       within,
-      rw c.seat.invariant (may_post _ _ _ _ _ (subst (λ (n : ℕ). c.in_ok-word.word < n) (sym count) within) c.if-identity-eq0.false),
+      rw c.seat.invariant (may_post _ _ _ _ _ _ (subst (λ (n : ℕ). c.in_ok-word.word < n) (sym count) within) c.if-identity-eq0.false),
     )
 
 pub split_seat-given-requires : goal.split_seat-given-requires
 split_seat-given-requires g c =
-    (c.compare_exchange-found.ensures.0 ∙ c.seat.view_is ∙ c.requires ∙ sym c.self.view_is, c.self.invariant.0, may_hand _ 0 _ _)
+    (c.compare_exchange-found.ensures.0 ∙ ap (λ (r : ReaderId). r.board) c.seat.view_is ∙ c.requires ∙ sym c.self.view_is, c.self.invariant.0, may_hand _ 0 _ _)

@@ -1,8 +1,8 @@
 use Rattle.std.proofs.Common.{ap, sym, ◌∙◌, [], ◌∷◌}
-use Rattle.splitter.specs.declared.stage.Stage.TheVariants.{Gone}
-use Rattle.raw_parts.specs.SplitterView.{visit_at, view_of}
+use Rattle.raw_parts.specs.SplitterView.{view_of}
+use Rattle.raw_parts.specs.Seats.{gone_at}
 use Rattle.raw_parts.specs.SplitterSteps.{IsUnderRule}
-use Rattle.raw_parts.proofs.Visiting.{badge_view, apart, one_stops, split_of_two}
+use Rattle.raw_parts.proofs.Visiting.{badge_view, apart, right_after, down_before, one_stops, split_of_two}
 use Rattle.raw_parts.proofs.raw_splitter.RawSplitter.meet.Given.{Over}
 use Rattle.raw_parts.proofs.raw_splitter.RawSplitter.meet.Goals.{After-drop-other-inside}
 use Rattle.raw_parts.proofs.raw_splitter.RawSplitter.meet.Goals as goal
@@ -11,16 +11,16 @@ pub look_together-left-requires-clause-left : goal.look_together-left-requires-c
 look_together-left-requires-clause-left g c =
     let view = badge_view _ _ _ _ c.args.one.now c.args.self.now c.into_seat-left.result.me.0 c.one.invariant c.one.view_is c.requires.one
     (ap (λ b. b.views) (sym c.replace.ensures.value) ∙ c.into_seat-left.ensures.2) in
-    (visit_at c.args.one.now.number (Gone c.args.one.now.way), λ i. (view i, c.into_seat-left.ensures.3 i))
+    (gone_at c.args.one.now, λ i. (view i, c.into_seat-left.ensures.3 i))
 
 pub look_together-left-requires-clause-right : goal.look_together-left-requires-clause-right
 look_together-left-requires-clause-right g c =
     let view = badge_view _ _ _ _ c.args.other.now c.args.self.now c.into_seat-right.result.me.0 c.other.invariant c.other.view_is c.requires.other
     (ap (λ b. b.views) (sym c.replace-2.ensures.value) ∙ c.into_seat-right.ensures.2) in
-    (visit_at c.args.other.now.number (Gone c.args.other.now.way), λ i. (view i, c.into_seat-right.ensures.3 i))
+    (gone_at c.args.other.now, λ i. (view i, c.into_seat-right.ensures.3 i))
 
 met : (g : Over) (c : After-drop-other-inside g)
-    → IsUnderRule (view_of c.args.self.now.seats (visit_at c.args.one.now.number (Gone c.args.one.now.way) ∷ visit_at c.args.other.now.number (Gone c.args.other.now.way) ∷ []))
+    → IsUnderRule (view_of c.args.self.now.seats (gone_at c.args.one.now ∷ gone_at c.args.other.now ∷ []))
 met g c =
     let left = badge_view _ _ _ _ c.args.one.now c.args.self.now c.into_seat-left.result.me.0 c.one.invariant c.one.view_is c.requires.one
     (ap (λ b. b.views) (sym c.replace.ensures.value) ∙ c.into_seat-left.ensures.2) in
@@ -36,3 +36,9 @@ returns-clause-one_stops g c = one_stops c.args.self.now.seats c.args.one.now c.
 
 pub returns-clause-split : goal.returns-clause-split
 returns-clause-split g c = split_of_two c.args.self.now.seats c.args.one.now c.args.other.now (met g c)
+
+pub returns-clause-right : goal.returns-clause-right
+returns-clause-right g c = right_after c.args.self.now.seats c.args.one.now c.args.other.now (met g c)
+
+pub returns-clause-down : goal.returns-clause-down
+returns-clause-down g c = down_before c.args.self.now.seats c.args.one.now c.args.other.now (met g c)

@@ -1,36 +1,43 @@
 use Rattle.std.proofs.Common.{arith, ap, sym, ◌≡◌, ◌+◌, ◌∙◌, []}
 use mathlib.Core.Option.{none}
 use Rattle.atomic_table.specs.Table.{step}
-use Rattle.splitter.specs.declared.stage.Stage.TheVariants.{Outside, WroteX, SawClear}
-use Rattle.raw_parts.specs.SplitterView.{lone_view}
-use Rattle.raw_parts.specs.SplitterSteps.{moved_on}
+use Rattle.splitter.specs.declared.stage.Stage.TheVariants.{WroteX, SawClear, WroteY}
+use Rattle.raw_parts.specs.SplitterView.{fresh_visit, lone_view, visit_at}
+use Rattle.raw_parts.specs.SplitterSteps.{after_access}
 use Rattle.raw_parts.proofs.Accesses.{may_write_x, may_read_y, may_write_y, may_read_x, stands_after}
+use Rattle.raw_parts.proofs.Visiting.{goes_right}
 use Rattle.raw_parts.proofs.raw_splitter.RawSplitter.visit.Goals as goal
 
 pub store-requires : goal.store-requires
 store-requires g c =
     let words : c.self.inside.table.shared.table_id.words ≡ 2 = c.self.invariant in
-    (c.requires.ours ∙ ap (λ w. w.table) (sym c.self.view_is), omega arith, rw c.requires.fresh (may_write_x _ _ _ _ _ (step 0 0 0 0 none)))
+    (c.requires.ours ∙ ap (λ w. w.table) (sym c.self.view_is), omega arith, rw c.requires.fresh (may_write_x _ _ _ _ _ _ _ _ (step 0 0 0 0 none)))
 
 pub load-requires : goal.load-requires
 load-requires g c =
     let words : c.self.inside.table.shared.table_id.words ≡ 2 = c.self.invariant in
-    let wrote_x = stands_after _ _ (c.args.number + 1) Outside _ _ c.requires.fresh c.store.ensures.2.0 in
-    (c.store.ensures.0 ∙ c.requires.ours ∙ ap (λ w. w.table) (sym c.self.view_is), omega arith, rw wrote_x (may_read_y _ _ _ _ _ (step 0 0 0 0 none)))
+    let wrote_x = stands_after _ c.store.ensures.2.0 c.store.ensures.2.1 (c.args.number + 1) (fresh_visit c.args.number) _ _ c.requires.fresh c.store.ensures.2.2 in
+    (c.store.ensures.0 ∙ c.requires.ours ∙ ap (λ w. w.table) (sym c.self.view_is), omega arith, rw wrote_x (may_read_y _ _ _ _ _ _ _ _ (step 0 0 0 0 none)))
 
 pub store-requires-2 : goal.store-requires-2
 store-requires-2 g c =
     let words : c.self.inside.table.shared.table_id.words ≡ 2 = c.self.invariant in
-    let wrote_x = stands_after _ _ (c.args.number + 1) Outside _ _ c.requires.fresh c.store.ensures.2.0 in
-    let read_y = stands_after _ _ c.load.result WroteX _ _ wrote_x c.load.ensures.2.0 in
-    let saw_clear = read_y ∙ ap (λ found. (moved_on found (lone_view c.args.self.now.seats c.args.number WroteX), [])) c.if-load-ne0.false in
-    (c.load.ensures.0 ∙ c.store.ensures.0 ∙ c.requires.ours ∙ ap (λ w. w.table) (sym c.self.view_is), omega arith, rw saw_clear (may_write_y _ _ _ _ _ (step 0 0 0 0 none)))
+    let wrote_x = stands_after _ c.store.ensures.2.0 c.store.ensures.2.1 (c.args.number + 1) (fresh_visit c.args.number) _ _ c.requires.fresh c.store.ensures.2.2 in
+    let read_y = stands_after _ c.load.ensures.2.0 c.load.ensures.2.1 c.load.result (visit_at c.args.number WroteX 1 c.store.ensures.2.0 0) _ _ wrote_x c.load.ensures.2.2 in
+    let saw_clear = read_y ∙ ap (λ found. (lone_view c.args.self.now.seats (after_access c.load.ensures.2.0 c.load.ensures.2.1 found (visit_at c.args.number WroteX 1 c.store.ensures.2.0 0)), [])) c.if-load-ne0.false in
+    (c.load.ensures.0 ∙ c.store.ensures.0 ∙ c.requires.ours ∙ ap (λ w. w.table) (sym c.self.view_is), omega arith, rw saw_clear (may_write_y _ _ _ _ _ _ _ _ (step 0 0 0 0 none)))
 
 pub load-requires-2 : goal.load-requires-2
 load-requires-2 g c =
     let words : c.self.inside.table.shared.table_id.words ≡ 2 = c.self.invariant in
-    let wrote_x = stands_after _ _ (c.args.number + 1) Outside _ _ c.requires.fresh c.store.ensures.2.0 in
-    let read_y = stands_after _ _ c.load.result WroteX _ _ wrote_x c.load.ensures.2.0 in
-    let saw_clear = read_y ∙ ap (λ found. (moved_on found (lone_view c.args.self.now.seats c.args.number WroteX), [])) c.if-load-ne0.false in
-    let wrote_y = stands_after _ _ 1 SawClear _ _ saw_clear c.store-2.ensures.2.0 in
-    (c.store-2.ensures.0 ∙ c.load.ensures.0 ∙ c.store.ensures.0 ∙ c.requires.ours ∙ ap (λ w. w.table) (sym c.self.view_is), omega arith, rw wrote_y (may_read_x _ _ _ _ _ (step 0 0 0 0 none)))
+    let wrote_x = stands_after _ c.store.ensures.2.0 c.store.ensures.2.1 (c.args.number + 1) (fresh_visit c.args.number) _ _ c.requires.fresh c.store.ensures.2.2 in
+    let read_y = stands_after _ c.load.ensures.2.0 c.load.ensures.2.1 c.load.result (visit_at c.args.number WroteX 1 c.store.ensures.2.0 0) _ _ wrote_x c.load.ensures.2.2 in
+    let saw_clear = read_y ∙ ap (λ found. (lone_view c.args.self.now.seats (after_access c.load.ensures.2.0 c.load.ensures.2.1 found (visit_at c.args.number WroteX 1 c.store.ensures.2.0 0)), [])) c.if-load-ne0.false in
+    let wrote_y = stands_after _ c.store-2.ensures.2.0 c.store-2.ensures.2.1 1 (visit_at c.args.number SawClear 2 c.store.ensures.2.0 0) _ _ saw_clear c.store-2.ensures.2.2 in
+    (c.store-2.ensures.0 ∙ c.load.ensures.0 ∙ c.store.ensures.0 ∙ c.requires.ours ∙ ap (λ w. w.table) (sym c.self.view_is), omega arith, rw wrote_y (may_read_x _ _ _ _ _ _ _ _ (step 0 0 0 0 none)))
+
+pub returns-then-load-ne0-clause-ended : goal.returns-then-load-ne0-clause-ended
+returns-then-load-ne0-clause-ended g c =
+    let wrote_x = stands_after _ c.store.ensures.2.0 c.store.ensures.2.1 (c.args.number + 1) (fresh_visit c.args.number) _ _ c.requires.fresh c.store.ensures.2.2 in
+    let read_y = stands_after _ c.load.ensures.2.0 c.load.ensures.2.1 c.load.result (visit_at c.args.number WroteX 1 c.store.ensures.2.0 0) _ _ wrote_x c.load.ensures.2.2 in
+    goes_right _ _ _ 0 _ _ _ c.if-load-ne0.true read_y c.load.ensures.2.3

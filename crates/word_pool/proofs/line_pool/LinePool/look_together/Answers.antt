@@ -1,4 +1,4 @@
-use Rattle.std.proofs.Common.{◌≡◌, ◌∷◌, ◌++◌, ℕ, [], sym, ap, ◌∙◌, arith, subst}
+use Rattle.std.proofs.Common.{◌≡◌, ◌∷◌, ◌++◌, ℕ, [], sym, ap, ◌∙◌, arith, subst, refl}
 use mathlib.Core.Option.{none}
 use Rattle.atomic_table.specs.Table.{Me, step}
 use Rattle.word_pool.specs.declared.pool_view.PoolView.{PoolView}
@@ -38,7 +38,7 @@ load-requires g c =
     let table = ap (λ (p : PoolId). p.table) c.self.view_is in
     let words = c.self.invariant.0 in
     let some = c.self.invariant.2 in
-    (c.join_seat.ensures.0 ∙ c.requires.ours.0 ∙ sym table, omega arith, rw (is_both g (goal.at.load-requires g c).After-join_seat) (may_look_on_in_line c.self.inside.table.shared.key _ _ _ (step 0 0 0 0 none)))
+    (c.join_seat.ensures.0 ∙ c.requires.ours.0 ∙ sym table, omega arith, rw (is_both g (goal.at.load-requires g c).After-join_seat) (may_look_on_in_line c.self.inside.table.shared.key _ _ _ (step 0 0 0 0 none) refl))
 
 pub split_seat-right-requires : goal.split_seat-right-requires
 split_seat-right-requires g c =
