@@ -1,0 +1,5 @@
+pub mod Digits
+pub mod LineText
+pub mod TornLemmas
+pub mod Crashes
+pub mod Commits

@@ -1,5 +1,5 @@
 pub mod ChronicleState
 pub mod Chronicles
 pub mod ChronicleProofs
-pub mod DiskState
-pub mod Disks
+pub mod Journals
+pub mod Openings

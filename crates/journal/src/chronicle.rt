@@ -1,13 +1,15 @@
 //! A hall, and the lines of its journal that are not written yet.
 
-ghost use Rattle.std.specs.Prelude.{◌≡◌, ◌≤◌, ◌+◌, ◌<◌, ◌++◌, true, length, IfOk};
-ghost use Rattle.locked_world.specs.Halls.{IsLawful};
+ghost use Rattle.std.specs.Prelude.{◌≡◌, ◌≤◌, ◌+◌, ◌++◌, true, length, IfOk, vec_len, vec_capacity};
+ghost use Rattle.commands.specs.Replies.{with_view};
+ghost use Rattle.desk.specs.DeskCalls.{exchange};
+ghost use Rattle.schedule_player.specs.Records.{exchange_line};
 ghost use Rattle.journal.specs.Chronicles.{ChronicleServes, chronicle_of, waiting_of};
 ghost use Rattle.journal.specs.ChronicleProofs.{chronicle_answers};
 
 use commands::{Event, Reply, ShortReply};
-use locked_world::{Hall, law_of_serving};
-use schedule_player::{AsRecord, Form, HELD_REPLIES, Replies, Service, TURN_ROOM};
+use locked_world::Hall;
+use schedule_player::{AsRecord, Form, Replies, Service, TURN_ROOM};
 use std::alloc::Global;
 use std::marker::Model;
 use step_memory::{NoMemory, Refusal, View};
@@ -21,8 +23,8 @@ pub const MOST_WAITING: usize = 1_048_576;
 pub struct Chronicle {
     hall: Hall,
     told: usize,
-    earlier: Vec<u8>,
-    lines: Replies<Global>,
+    lines: Vec<u8>,
+    line: Replies<Global>,
 }
 
 impl Model for Chronicle {
@@ -30,27 +32,28 @@ impl Model for Chronicle {
 
     ghost Value = { ChronicleState };
 
-    ghost use Rattle.std.specs.Prelude.{◌≡◌, ◌≤◌, ◌++◌, length};
+    ghost use Rattle.std.specs.Prelude.{◌≡◌, ◌≤◌, length};
     ghost use Rattle.journal.specs.Chronicles.{chronicle_of, waiting_of};
 
     ghost view = { λ c. chronicle_of c.hall c.told };
 
-    ghost invariant = { λ c. (c.earlier.items ++ c.lines ≡ waiting_of (chronicle_of c.hall c.told)) × (c.told ≤ length c.hall.history) };
+    ghost invariant = { λ c. (c.lines.items ≡ waiting_of (chronicle_of c.hall c.told)) × (c.told ≤ length c.hall.history) };
 }
 
-/// Makes room for one more line behind those that wait, which stay as they are; `false` where a growth was refused.
-fn has_room(earlier: &mut Vec<u8>, lines: &mut Replies<Global>) -> bool
-    ensures same { earlier.new.items ++ lines.new ≡ earlier.old.items ++ lines.old }
-    ensures room { result ≡ true → length lines.new + TURN_ROOM ≤ HELD_REPLIES }
+/// Puts the line of an event with its reply, and the view beside that, behind others, where there is room.
+fn put_line(
+    event: Event,
+    reply: ShortReply,
+    view: &View,
+    line: &mut Replies<Global>,
+    lines: &mut Vec<u8>,
+)
+    requires { vec_len lines.old + TURN_ROOM ≤ vec_capacity lines.old }
+    ensures { lines.new.items ≡ lines.old.items ++ exchange_line (exchange event (with_view reply view.now)) }
 {
-    if lines.len() <= HELD_REPLIES - TURN_ROOM {
-        return true;
-    }
-    if earlier.extend_from_slice(lines.as_slice()).is_err() {
-        return false;
-    }
-    lines.clear();
-    true
+    line.clear();
+    AsRecord::put_answered(event, reply, view, line);
+    let _ = lines.extend_from_slice(line.as_slice());
 }
 
 impl Chronicle {
@@ -62,8 +65,8 @@ impl Chronicle {
         Ok(Chronicle {
             hall,
             told,
-            earlier: Vec::new(alloc),
-            lines: Replies::new(alloc)?,
+            lines: Vec::new(alloc),
+            line: Replies::new(alloc)?,
         })
     }
 
@@ -74,28 +77,23 @@ impl Chronicle {
         &self.hall
     }
 
-    /// How many bytes wait.
-    pub fn len(&self) -> usize {
-        self.earlier.len().saturating_add(self.lines.len())
-    }
-
-    /// Whether so many bytes wait that an event may be refused for want of room: those that wait are to be handed on first.
-    pub fn is_full(&self) -> bool {
-        MOST_WAITING - TURN_ROOM < self.len()
-    }
-
-    /// The lines that wait, in two parts.
-    pub fn waiting(&self) -> (&[u8], &[u8])
-        ensures { result.0.now ++ result.1.now ≡ waiting_of self.now }
+    /// The lines that wait: those of the events that were not handed on.
+    pub fn waiting(&self) -> &[u8]
+        ensures lines { result.now ≡ waiting_of self.now }
+        ensures few { self.now.told ≤ length self.now.hall.history }
     {
-        (&self.earlier, self.lines.as_slice())
+        &self.lines
+    }
+
+    /// Whether so many bytes wait that an event would be refused for want of room: those that wait are to be handed on first.
+    pub fn is_full(&self) -> bool {
+        MOST_WAITING - TURN_ROOM < self.lines.len()
     }
 
     /// What waited was handed on.
     pub fn hand_on(&mut self)
         ensures { self.new ≡ chronicle_of self.old.hall (length self.old.hall.history) }
     {
-        self.earlier.clear();
         self.lines.clear();
         self.told = self.hall.len();
     }
@@ -109,15 +107,12 @@ impl<R> Service<R> for Chronicle {
     ghost answers = { λ c q known. chronicle_answers c q };
 
     fn apply(&mut self, _rt: &R, event: Event, view: &mut View) -> ShortReply {
-        if let Some(refusal) = self.hall.refusal(event) {
-            return ShortReply::Refused(refusal);
-        }
-        if self.is_full() || !has_room(&mut self.earlier, &mut self.lines) {
-            return ShortReply::Refused(Refusal::NoMemory);
+        if self.is_full() || self.lines.reserve(TURN_ROOM).is_err() {
+            return ShortReply::Refused(self.hall.refusal(event).unwrap_or(Refusal::NoMemory));
         }
         let reply = self.hall.apply_short(event, view);
         if !reply.is_refusal() {
-            AsRecord::put_answered(event, reply, view, &mut self.lines);
+            put_line(event, reply, view, &mut self.line, &mut self.lines);
         }
         reply
     }

@@ -1,5 +1,5 @@
 -- what the calls of a disk do, and what a crash leaves
-use Rattle.std.specs.Prelude.{◌≡◌, ◌⊎◌, ℕ, ◌+◌, ◌≤◌, List, ◌++◌, length, take, Option, Some, Result, Ok, Err, IfOk}
+use Rattle.std.specs.Prelude.{◌≡◌, ◌⊎◌, ℕ, ◌+◌, ◌≤◌, List, ◌++◌, length, take, Option, None, Some, Result, Ok, Err, IfOk}
 use mathlib.Core.List.{IsPrefix}
 use Rattle.std.specs.declared.vec.Vec.{Vec}
 use Rattle.std.specs.declared.alloc.Global.{Global}
@@ -16,9 +16,9 @@ longer_by s bytes = record s { contents = s.contents ++ bytes }
 abbrev pub synced_all : DiskState → DiskState
 synced_all s = record s { synced = length s.contents }
 
--- what is known before a call is known after it, and changed so
+-- what is known before a call is known after it, and changed so; and of nothing else it becomes known
 abbrev pub Changes : (DiskState → DiskState → Type 0) → Option DiskState → Option DiskState → Type 0
-Changes Step old new = (s : DiskState) → old ≡ Some s → (t : DiskState) × (new ≡ Some t) × Step s t
+Changes Step old new = ((s : DiskState) → old ≡ Some s → (t : DiskState) × (new ≡ Some t) × Step s t) × (old ≡ None → new ≡ None)
 
 -- the bytes stand behind the others; where the call failed, a beginning of them does
 abbrev pub IsAppended : {E : Type 0} → List ℕ → Result (Unit {0}) E → DiskState → DiskState → Type 0

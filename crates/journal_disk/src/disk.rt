@@ -19,7 +19,7 @@ pub enum DiskFault {
 /// Bytes that outlast a crash: written behind one another, and surely there once they are synced.
 ///
 /// After a call that failed it is known only what a crash may leave, and whoever writes on may be told that all is well where it is not.
-pub trait Disk {
+pub trait Disk: Drop {
     /// What was written, how much of that is surely there, and how often bytes were cut off; `None` where nothing is known, as of a
     /// file of the system.
     ghost state: { Self → Option DiskState };

@@ -6,7 +6,7 @@ use crate::disk::{Disk, DiskFault};
 use std::alloc::Global;
 use std::fs::{File, TryLockError};
 use std::io;
-use std::io::{ErrorKind, Read, Write};
+use std::io::{ErrorKind, Read, Seek, SeekFrom, Write};
 use std::rt::Files;
 
 /// Why a file is not opened.
@@ -75,6 +75,7 @@ impl Disk for FileDisk {
 
     fn read(&mut self, alloc: Global) -> Result<Vec<u8>, DiskFault> {
         let mut bytes = Vec::new(alloc);
+        told(self.file.seek(SeekFrom::Start(0)))?;
         told(self.file.read_to_end(&mut bytes))?;
         Ok(bytes)
     }
