@@ -1,10 +1,11 @@
 -- what a commit writes
-use Rattle.std.proofs.Common.{◌≡◌, ℕ, ◌≤◌, List, ◌++◌, length, take, drop, flat_map, Some, Option, refl, ap, sym, ◌∙◌, subst, append_assoc, arith}
-use Rattle.std.proofs.lemmas.List.{take-append-drop, take_all}
+use Rattle.std.proofs.Common.{◌≡◌, ℕ, ◌≤◌, List, [], ◌++◌, length, take, drop, flat_map, Some, None, Option, refl, ap, sym, ◌∙◌, subst, append_assoc, arith}
+use Rattle.std.proofs.lemmas.List.{append-nil, take-append-drop, take_all}
 use Rattle.std.proofs.lemmas.Grind.{flat_map-append}
+use Rattle.std.proofs.lemmas.Option.{same_Some}
 use mathlib.Core.List.{IsPrefix}
 use Rattle.journal_disk.specs.DiskState.{DiskState}
-use Rattle.journal_disk.specs.Disks.{longer_by, synced_all, MayLeave}
+use Rattle.journal_disk.specs.Disks.{Changes, longer_by, synced_all, MayLeave}
 use Rattle.schedule_player.specs.Lines.{IsCutOnce}
 use Rattle.schedule_player.specs.Records.{exchange_line, header_line}
 use Rattle.locked_world.specs.HallState.{HallState}
@@ -16,6 +17,9 @@ use Rattle.journal.proofs.Crashes.{leaves}
 whole : {A : Type 0} (xs : List A) → take (length xs) xs ≡ xs
 whole xs = take_all (length xs) xs (omega arith)
 
+prefix_self : (xs : List ℕ) → IsPrefix xs xs
+prefix_self xs = ([], append-nil xs)
+
 -- what was handed on and what waits are the record
 pub told_and_waiting : (c : ChronicleState) → told_record c ++ waiting_of c ≡ record_of_hall c.hall
 told_and_waiting c =
@@ -25,6 +29,13 @@ told_and_waiting c =
 -- of a hall all of whose events were handed on the whole record was
 pub told_all : (h : HallState) → told_record (chronicle_of h (length h.history)) ≡ record_of_hall h
 told_all h = ap (λ xs. header_line h.config ++ flat_map exchange_line xs) (whole h.history)
+
+-- what is known after a call was known before it
+pub known_before : {Step : DiskState → DiskState → Type 0} (old new : Option DiskState) (t : DiskState) → Changes Step old new → new ≡ Some t → (s : DiskState) × (old ≡ Some s) × Step s t
+known_before {Step = Step} None new t changes is = absurd (let no : None ≡ Some t = sym (changes.1 refl) ∙ is in cc)
+known_before {Step = Step} (Some s) new t changes is =
+    let after = changes.0 s refl in
+    (s, refl, subst (λ (x : DiskState). Step s x) (same_Some after.0 t (sym after.1 ∙ is)) after.2)
 
 module _ (once : (bytes : List ℕ) → IsCutOnce bytes) (c : ChronicleState) (s : DiskState) (stands : HasSynced c s) (few : c.told ≤ length c.hall.history) where
   all_synced : take s.synced s.contents ≡ told_record c
@@ -49,3 +60,10 @@ module _ (once : (bytes : List ℕ) → IsCutOnce bytes) (c : ChronicleState) (s
     contents = ap (λ (l : List ℕ). l ++ waiting_of c) stands.contents ∙ told_and_waiting c ∙ sym (told_all c.hall);
     synced = refl;
   })
+
+  -- the same of a call that came to its end, and of one that failed
+  pub keeps_all : (t : DiskState) → t ≡ synced_all (longer_by s (waiting_of c)) → KeepsHandedOn c s t
+  keeps_all t is = keeps (waiting_of c) t (prefix_self (waiting_of c)) (ap (λ (x : DiskState). x.contents) is) (ap (λ (x : DiskState). x.cuts) is)
+
+  pub keeps_part : (t : DiskState) → (part : List ℕ) × IsPrefix part (waiting_of c) × (t ≡ longer_by s part) → KeepsHandedOn c s t
+  keeps_part t w = keeps w.0 t w.1 (ap (λ (x : DiskState). x.contents) w.2) (ap (λ (x : DiskState). x.cuts) w.2)

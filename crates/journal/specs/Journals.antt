@@ -1,6 +1,7 @@
 -- what a journal has, and what a crash leaves of it
-use Rattle.std.specs.Prelude.{◌≡◌, ℕ, ◌≤◌, false, List, length, Option, Some, Result, Ok, Err}
+use Rattle.std.specs.Prelude.{◌≡◌, ◌⊎◌, ℕ, ◌≤◌, false, List, [], ◌++◌, length, take, Option, Some, Result, Ok, Err}
 use Rattle.schedule_player.specs.Lines.{whole_lines, with_ends}
+use Rattle.schedule_player.specs.Records.{header_line}
 use Rattle.locked_world.specs.HallState.{HallState}
 use Rattle.journal_disk.specs.DiskState.{DiskState}
 use Rattle.journal_disk.specs.Disks.{Changes, OnlyGrows, MayLeave, longer_by, synced_all}
@@ -43,3 +44,11 @@ KeepsAtAnyMoment state old new c = Changes (KeepsHandedOn c) (state old.disk) (s
 abbrev pub IsWritten : {E : Type 0} → List ℕ → Result (Unit {0}) E → DiskState → DiskState → Type 0
 IsWritten bytes (Ok done) s t = t ≡ synced_all (longer_by s bytes)
 IsWritten bytes (Err why) s t = (part : List ℕ) × IsPrefix part bytes × (t ≡ longer_by s part)
+
+-- the first bytes are left with what was missing behind them, all of it surely there, of a disk that had so many
+abbrev pub IsMended : ℕ → ℕ → List ℕ → DiskState → DiskState → Type 0
+IsMended total whole missing s t = length s.contents ≡ total → (t.contents ≡ take whole s.contents ++ missing) × (t.synced ≡ length t.contents)
+
+-- the bytes, once their torn line is cut, are the record of this hall; or they are a beginning of its header, and it has no event
+abbrev pub IsHallOf : HallState → List ℕ → Type 0
+IsHallOf h bytes = (without_torn bytes ≡ record_of_hall h) ⊎ (IsPrefix bytes (header_line h.config) × (h.history ≡ []))

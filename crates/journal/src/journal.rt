@@ -1,9 +1,10 @@
 //! The journal of a chronicle, on a disk.
 
-ghost use Rattle.std.specs.Prelude.{◌≡◌, ◌≢◌, true, false, length, Err, OnOk, OnErr};
+ghost use Rattle.std.specs.Prelude.{◌≡◌, ◌≢◌, true, false, length, Err, Some, OnOk, OnErr, IfOk};
 ghost use Rattle.journal_disk.specs.Disks.{Changes};
+ghost use Rattle.journal_disk.specs.DiskState.{DiskState};
 ghost use Rattle.journal.specs.Chronicles.{chronicle_of};
-ghost use Rattle.journal.specs.Journals.{Stands, KeepsAtAnyMoment, IsWritten};
+ghost use Rattle.journal.specs.Journals.{Stands, KeepsAtAnyMoment, IsHallOf, IsMended, IsWritten};
 
 use crate::chronicle::Chronicle;
 use crate::opening::{OpenFault, recovered};
@@ -77,30 +78,38 @@ pub struct Opened<D: Disk> {
     pub chronicle: Chronicle,
 }
 
-/// Leaves a journal's header alone where no line of it is whole, and cuts a torn line else; and waits until that is surely there.
-fn mend<D: Disk>(disk: &mut D, header: &[u8], whole: usize, length: usize) -> Result<(), DiskFault> {
-    if whole < length {
+/// Cuts a disk of so many bytes behind the first ones, puts what is missing behind those, and waits until that is surely there.
+fn mend<D: Disk>(disk: &mut D, total: usize, whole: usize, missing: &[u8]) -> Result<(), DiskFault>
+    ensures { OnOk result (Changes (IsMended total whole missing.now) (D.state disk.old) (D.state disk.new)) }
+{
+    if whole < total {
         disk.cut(whole)?;
     }
-    if whole == 0 {
-        disk.append(header)?;
-    }
+    disk.append(missing)?;
     disk.sync()?;
     Ok(())
 }
 
 impl<D: Disk> Journal<D> {
-    /// Opens a journal, and gives the hall whose record it is. An empty disk gets the header. A last line with no LF, which a crash has torn,
-    /// is cut off; the rest has to be one that `check` says `Yes` of, of this config, with the lines that a hall writes. Nothing
-    /// is changed before all of it was read so.
-    pub fn open(alloc: Global, disk: D, config: Config) -> Result<Opened<D>, OpenFault> {
+    /// Opens a journal, and gives the hall whose record it is. A disk where not even the header is whole gets it, and the hall has no
+    /// event. A last line with no LF, which a crash has torn, is cut off; the rest has to be one that `check` says `Yes` of, of this
+    /// config, with the lines that a hall writes. Nothing is changed before all of it was read so.
+    pub fn open(alloc: Global, disk: D, config: Config) -> Result<Opened<D>, OpenFault>
+        ensures config { IfOk result (λ o. o.chronicle.hall.config ≡ config) }
+        ensures told { IfOk result (λ o. o.chronicle.told ≡ length o.chronicle.hall.history) }
+        ensures stands { IfOk result (λ o. Stands D.state o.journal o.chronicle) }
+
+        // The hall is that of the record that was there, once its torn line is cut.
+        ensures hall { IfOk result (λ o. (s : DiskState) → D.state disk ≡ Some s → IsHallOf o.chronicle.hall s.contents) }
+    {
         let mut disk = disk;
         let bytes = disk.read(alloc)?;
         let mut header = Replies::new(alloc)?;
         print_header(config, &mut header);
         let (hall, whole) = recovered(alloc, config, header.as_slice(), &bytes)?;
         let chronicle = Chronicle::new(alloc, hall)?;
-        mend(&mut disk, header.as_slice(), whole, bytes.len())?;
+        let missing = if whole == 0 { header.as_slice() } else { b"" };
+        mend(&mut disk, bytes.len(), whole, missing)?;
         Ok(Opened {
             journal: Journal { disk, ended: false },
             chronicle,

@@ -5,6 +5,7 @@ ghost use Rattle.commands.specs.declared.exchange.Exchange.{Exchange};
 ghost use Rattle.schedule_player.specs.Lines.{has_no_lf};
 ghost use Rattle.schedule_player.specs.Records.{exchange_line, header_line};
 ghost use Rattle.locked_world.specs.Halls.{hall_of};
+ghost use Rattle.journal.specs.Chronicles.{record_of_hall};
 ghost use Rattle.journal.specs.Openings.{GoesOnBy, HasFollowed, IsRecovered};
 
 use commands::{Config, Event, WorldKind};
