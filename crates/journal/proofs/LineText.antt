@@ -141,7 +141,7 @@ lines_no_lf h = rw (text_no_lf (head_of h.config) (head_text h.config)) (rows_no
 ended : (xs z rest : List ℕ) → (xs ++ (z ++ 10 ∷ [])) ++ rest ≡ (xs ++ z) ++ 10 ∷ rest
 ended xs z rest = simp append_assoc
 
-line_ended : (x : Exchange) (rest : List ℕ) → exchange_line x ++ rest ≡ row_of x ++ 10 ∷ rest
+pub line_ended : (x : Exchange) (rest : List ℕ) → exchange_line x ++ rest ≡ row_of x ++ 10 ∷ rest
 line_ended x rest = ended (codes "{\"command\":\"" ++ event_words x.event ++ codes "\",\"reply\":\"" ++ reply_words x.reply ++ codes "\"" ++ name_view x.reply) (codes "}") rest
 
 pub header_ended : (c : Config) (rest : List ℕ) → header_line c ++ rest ≡ head_of c ++ 10 ∷ rest

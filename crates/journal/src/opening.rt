@@ -1,6 +1,6 @@
 //! From the bytes of a journal to the hall whose record they are.
 
-ghost use Rattle.std.specs.Prelude.{◌≡◌, ◌≤◌, ◌++◌, [], ◌∷◌, ℕ, length, drop, take, flat_map, true, IfOk, OnOk};
+ghost use Rattle.std.specs.Prelude.{◌≡◌, ◌≤◌, ◌++◌, [], ◌∷◌, ℕ, length, drop, take, flat_map, true, IfOk, IfSome, OnOk};
 ghost use Rattle.commands.specs.declared.exchange.Exchange.{Exchange};
 ghost use Rattle.schedule_player.specs.Lines.{has_no_lf};
 ghost use Rattle.schedule_player.specs.Records.{exchange_line, header_line};
@@ -54,6 +54,16 @@ impl From<DiskFault> for OpenFault {
     }
 }
 
+/// What follows these bytes, where others begin with them.
+fn after<'a>(bytes: &'a [u8], front: &[u8]) -> Option<&'a [u8]>
+    ensures { IfSome result (λ rest. bytes.now ≡ front.now ++ rest.now) }
+{
+    match bytes.strip_prefix(front) {
+        Some(rest) => Some(rest),
+        None => None,
+    }
+}
+
 /// How many bytes stand up to the last LF, with it.
 fn whole_length(bytes: &[u8]) -> usize
     ensures within { result ≤ length bytes.now }
@@ -98,7 +108,7 @@ fn follow<'a>(
     }
     line.clear();
     AsRecord::put_answered(event, reply, view, line);
-    match lines.strip_prefix(line.as_slice()) {
+    match after(lines, line.as_slice()) {
         Some(rest) => Ok(rest),
         None => Err(OpenFault::OtherLine(number)),
     }
@@ -144,7 +154,7 @@ fn replayed(
         Verdict::NoMemory => return Err(OpenFault::NoMemory),
         verdict => return Err(OpenFault::Judged(verdict)),
     }
-    let Some(lines) = whole.strip_prefix(header) else {
+    let Some(lines) = after(whole, header) else {
         return Err(OpenFault::OtherConfig);
     };
     let mut hall = fresh(alloc, config)?;
@@ -159,7 +169,7 @@ pub fn recovered(alloc: Global, config: Config, header: &[u8], bytes: &[u8]) -> 
     ensures { IfOk result (λ r. IsRecovered config bytes.now r.0 r.1) }
 {
     let end = whole_length(bytes);
-    if end == 0 && header.starts_with(bytes) {
+    if end == 0 && after(header, bytes).is_some() {
         return Ok((fresh(alloc, config)?, 0));
     }
     let hall = replayed(alloc, config, header, &bytes[..end])?;
