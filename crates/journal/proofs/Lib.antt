@@ -3,3 +3,4 @@ pub mod LineText
 pub mod TornLemmas
 pub mod Crashes
 pub mod Commits
+pub mod WaitingLemmas

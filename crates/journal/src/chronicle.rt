@@ -1,14 +1,15 @@
 //! A hall, and the lines of its journal that are not written yet.
 
-ghost use Rattle.std.specs.Prelude.{◌≡◌, ◌≤◌, ◌+◌, ◌++◌, true, length, IfOk, vec_len, vec_capacity};
-ghost use Rattle.commands.specs.Replies.{with_view};
+ghost use Rattle.std.specs.Prelude.{◌≡◌, ◌≤◌, ◌+◌, ◌++◌, [], ◌∷◌, true, false, length, IfOk, vec_len, vec_capacity};
+ghost use Rattle.commands.specs.Replies.{is_refusal, with_view};
 ghost use Rattle.desk.specs.DeskCalls.{exchange};
+ghost use Rattle.locked_world.specs.Halls.{HallMay};
 ghost use Rattle.schedule_player.specs.Records.{exchange_line};
 ghost use Rattle.journal.specs.Chronicles.{ChronicleServes, chronicle_of, waiting_of};
 ghost use Rattle.journal.specs.ChronicleProofs.{chronicle_answers};
 
 use commands::{Event, Reply, ShortReply};
-use locked_world::Hall;
+use locked_world::{Hall, law_of_serving};
 use schedule_player::{AsRecord, Form, Replies, Service, TURN_ROOM};
 use std::alloc::Global;
 use std::marker::Model;
@@ -38,6 +39,18 @@ impl Model for Chronicle {
     ghost view = { λ c. chronicle_of c.hall c.told };
 
     ghost invariant = { λ c. (c.lines.items ≡ waiting_of (chronicle_of c.hall c.told)) × (c.told ≤ length c.hall.history) };
+}
+
+/// Applies an event to a hall, which takes it into its history where it accepts it, and nothing else.
+pub(crate) fn applied(hall: &mut Hall, event: Event, view: &mut View) -> ShortReply
+    ensures may { HallMay hall.old event (with_view result view.new) hall.new }
+    ensures config { hall.new.config ≡ hall.old.config }
+    ensures accepted { is_refusal (with_view result view.new) ≡ false → hall.new.history ≡ hall.old.history ++ exchange event (with_view result view.new) ∷ [] }
+    ensures refused { is_refusal (with_view result view.new) ≡ true → hall.new.history ≡ hall.old.history }
+{
+    law_of_serving();
+    let _ = hall.len();
+    hall.apply_short(event, view)
 }
 
 /// Puts the line of an event with its reply, and the view beside that, behind others, where there is room.
@@ -110,7 +123,7 @@ impl<R> Service<R> for Chronicle {
         if self.is_full() || self.lines.reserve(TURN_ROOM).is_err() {
             return ShortReply::Refused(self.hall.refusal(event).unwrap_or(Refusal::NoMemory));
         }
-        let reply = self.hall.apply_short(event, view);
+        let reply = applied(&mut self.hall, event, view);
         if !reply.is_refusal() {
             put_line(event, reply, view, &mut self.line, &mut self.lines);
         }

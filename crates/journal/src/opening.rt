@@ -8,6 +8,7 @@ ghost use Rattle.locked_world.specs.Halls.{hall_of};
 ghost use Rattle.journal.specs.Chronicles.{record_of_hall};
 ghost use Rattle.journal.specs.Openings.{GoesOnBy, HasFollowed, IsRecovered};
 
+use crate::chronicle::applied;
 use commands::{Config, Event, WorldKind};
 use journal_disk::DiskFault;
 use locked_world::Hall;
@@ -102,7 +103,7 @@ fn follow<'a>(
     let Some(event) = next_event(alloc, kind, lines)? else {
         return Err(OpenFault::OtherLine(number));
     };
-    let reply = hall.apply_short(event, view);
+    let reply = applied(hall, event, view);
     if reply.is_refusal() {
         return Err(OpenFault::OtherLine(number));
     }
