@@ -4,3 +4,5 @@ pub mod TornLemmas
 pub mod Crashes
 pub mod Commits
 pub mod WaitingLemmas
+pub mod Opened
+pub mod Replays

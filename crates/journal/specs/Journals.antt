@@ -1,5 +1,5 @@
 -- what a journal has, and what a crash leaves of it
-use Rattle.std.specs.Prelude.{◌≡◌, ◌⊎◌, ℕ, ◌≤◌, false, List, [], ◌++◌, length, take, Option, Some, Result, Ok, Err}
+use Rattle.std.specs.Prelude.{◌≡◌, ◌==◌, if◌then◌else◌, ◌⊎◌, ℕ, ◌≤◌, false, List, [], ◌++◌, length, take, Option, Some, Result, Ok, Err}
 use Rattle.schedule_player.specs.Lines.{whole_lines, with_ends}
 use Rattle.schedule_player.specs.Records.{header_line}
 use Rattle.locked_world.specs.HallState.{HallState}
@@ -52,3 +52,7 @@ IsMended total whole missing s t = length s.contents ≡ total → (t.contents �
 -- the bytes, once their torn line is cut, are the record of this hall; or they are a beginning of its header, and it has no event
 abbrev pub IsHallOf : HallState → List ℕ → Type 0
 IsHallOf h bytes = (without_torn bytes ≡ record_of_hall h) ⊎ (IsPrefix bytes (header_line h.config) × (h.history ≡ []))
+
+-- what is missing of a record of which so many bytes are whole: its header, where not even that is
+abbrev pub missing_in : ℕ → List ℕ → List ℕ
+missing_in whole header = if whole == 0 then header else []

@@ -4,13 +4,13 @@ ghost use Rattle.std.specs.Prelude.{◌≡◌, ◌≢◌, true, false, length, E
 ghost use Rattle.journal_disk.specs.Disks.{Changes};
 ghost use Rattle.journal_disk.specs.DiskState.{DiskState};
 ghost use Rattle.journal.specs.Chronicles.{chronicle_of};
-ghost use Rattle.journal.specs.Journals.{Stands, KeepsAtAnyMoment, IsHallOf, IsMended, IsWritten};
+ghost use Rattle.journal.specs.Journals.{Stands, KeepsAtAnyMoment, IsHallOf, IsMended, IsWritten, missing_in};
 
 use crate::chronicle::Chronicle;
 use crate::opening::{OpenFault, recovered};
 use commands::Config;
 use journal_disk::{Disk, DiskFault};
-use schedule_player::{Replies, print_header};
+use schedule_player::{Replies, law_of_lines, print_header};
 use std::alloc::Global;
 
 /// Why nothing more is written.
@@ -53,6 +53,7 @@ impl<D: Disk> Journal<D> {
         ensures over { self.old.ended ≡ true → (result ≡ Err JournalFault.Ended) × (self.new ≡ self.old) }
         ensures goes_on { self.old.ended ≡ false → result ≢ Err JournalFault.Ended }
     {
+        law_of_lines();
         if self.ended {
             return Err(JournalFault::Ended);
         }
@@ -76,6 +77,16 @@ pub struct Opened<D: Disk> {
     pub journal: Journal<D>,
     /// The hall.
     pub chronicle: Chronicle,
+}
+
+/// What is missing of a record of which so many bytes are whole: its header, where not even that is.
+fn missing(header: &[u8], whole: usize) -> &[u8]
+    ensures { result.now ≡ missing_in whole header.now }
+{
+    if whole == 0 {
+        return header;
+    }
+    &header[..0]
 }
 
 /// Cuts a disk of so many bytes behind the first ones, puts what is missing behind those, and waits until that is surely there.
@@ -102,14 +113,14 @@ impl<D: Disk> Journal<D> {
         // The hall is that of the record that was there, once its torn line is cut.
         ensures hall { IfOk result (λ o. (s : DiskState) → D.state disk ≡ Some s → IsHallOf o.chronicle.hall s.contents) }
     {
+        law_of_lines();
         let mut disk = disk;
         let bytes = disk.read(alloc)?;
         let mut header = Replies::new(alloc)?;
         print_header(config, &mut header);
         let (hall, whole) = recovered(alloc, config, header.as_slice(), &bytes)?;
         let chronicle = Chronicle::new(alloc, hall)?;
-        let missing = if whole == 0 { header.as_slice() } else { b"" };
-        mend(&mut disk, bytes.len(), whole, missing)?;
+        mend(&mut disk, bytes.len(), whole, missing(header.as_slice(), whole))?;
         Ok(Opened {
             journal: Journal { disk, ended: false },
             chronicle,

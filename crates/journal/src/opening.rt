@@ -98,7 +98,7 @@ fn follow<'a>(
 ) -> Result<&'a [u8], OpenFault>
     ensures { IfOk result (λ rest. GoesOnBy hall.old hall.new lines.entry.now rest.now) }
 {
-    let number = hall.len() as u64 + 2;
+    let number = (hall.len() as u64).saturating_add(2);
     let kind = hall.config().world;
     let Some(event) = next_event(alloc, kind, lines)? else {
         return Err(OpenFault::OtherLine(number));
@@ -175,7 +175,7 @@ pub fn recovered(alloc: Global, config: Config, header: &[u8], bytes: &[u8]) -> 
     }
     let hall = replayed(alloc, config, header, &bytes[..end])?;
     if bytes[end..].contains(&0) {
-        return Err(OpenFault::OtherLine(hall.len() as u64 + 2));
+        return Err(OpenFault::OtherLine((hall.len() as u64).saturating_add(2)));
     }
     Ok((hall, end))
 }
