@@ -4,5 +4,5 @@ pub mod TornLemmas
 pub mod Crashes
 pub mod Commits
 pub mod WaitingLemmas
-pub mod Opened
+pub mod OpeningLemmas
 pub mod Replays

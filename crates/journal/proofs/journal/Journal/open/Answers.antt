@@ -5,7 +5,7 @@ use Rattle.journal.specs.ChronicleState.{ChronicleState}
 use Rattle.journal.specs.Journals.{HasSynced, IsHallOf, IsMended, missing_in}
 use Rattle.journal.specs.Openings.{IsRecovered}
 use Rattle.journal.proofs.Commits.{known_before}
-use Rattle.journal.proofs.Opened.{hall_of_bytes, synced_record}
+use Rattle.journal.proofs.OpeningLemmas.{hall_of_bytes, synced_record}
 use Rattle.journal.proofs.journal.Journal.open.Goals as goal
 
 pub returns-clause-stands : goal.returns-clause-stands
