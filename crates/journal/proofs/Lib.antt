@@ -6,3 +6,4 @@ pub mod Commits
 pub mod WaitingLemmas
 pub mod OpeningLemmas
 pub mod Replays
+pub mod Restarts

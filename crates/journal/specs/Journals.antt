@@ -56,3 +56,10 @@ IsHallOf h bytes = (without_torn bytes ≡ record_of_hall h) ⊎ (IsPrefix bytes
 -- what is missing of a record of which so many bytes are whole: its header, where not even that is
 abbrev pub missing_in : ℕ → List ℕ → List ℕ
 missing_in whole header = if whole == 0 then header else []
+
+-- a hall has the record of another as that was after some of its events, at least so many
+pub record RecordsHallAfter (h : HallState) (least : ℕ) (u : HallState) : Type 0 where
+  pub count : ℕ
+  pub many : least ≤ count
+  pub few : count ≤ length h.history
+  pub is : record_of_hall u ≡ record_of_hall (hall_after_first count h)

@@ -12,10 +12,12 @@
 
 pub mod chronicle;
 pub mod journal;
+pub mod laws;
 pub mod opening;
 
 pub use chronicle::{Chronicle, MOST_WAITING};
 pub use journal::{Journal, JournalFault, Opened};
+pub use laws::law_of_crashes;
 pub use opening::OpenFault;
 
 #[cfg(test)]

@@ -150,7 +150,8 @@ fn a_crash_after_each_fault_keeps_what_was_committed(rt: HostRuntime) -> Result<
     let alloc = rt.alloc();
     let all = written(&rt, alloc, 6)?;
     for calls in 0..12 {
-        for keep in 0..all.len() + 1 {
+        for part in 0..9 {
+            let keep = all.len() * part / 8;
             let Some((committed, disk)) = run_to_the_fault(&rt, alloc, calls)? else {
                 break;
             };
@@ -228,15 +229,17 @@ fn no_more_than_a_megabyte_waits(rt: HostRuntime) -> Result<(), Fail> {
         mut chronicle,
     } = opened(rt.alloc(), b"")?;
     let mut view = View::new();
-    let mut i = 0;
-    while !chronicle.is_full() && i < 100_000 {
-        assert!(rt; !chronicle.apply(&rt, event(6 * i + 1), &mut view).is_refusal());
-        i += 1;
+    answer(&rt, &mut chronicle, 0, 3);
+    for value in 0..100_000 {
+        if chronicle.is_full() {
+            break;
+        }
+        assert!(rt; !chronicle.apply(&rt, Event::Put(8, value), &mut view).is_refusal());
     }
     assert!(rt; chronicle.is_full());
     assert!(rt; chronicle.waiting().len() <= crate::MOST_WAITING);
-    assert!(rt; chronicle.apply(&rt, Event::Enter(1), &mut view) == ShortReply::Refused(step_memory::Refusal::NoMemory));
+    assert!(rt; chronicle.apply(&rt, Event::Get(8), &mut view) == ShortReply::Refused(step_memory::Refusal::NoMemory));
     assert!(rt; journal.commit(&mut chronicle).is_ok());
-    assert!(rt; chronicle.apply(&rt, Event::Enter(1), &mut view) == ShortReply::Ok);
+    assert!(rt; !chronicle.apply(&rt, Event::Get(8), &mut view).is_refusal());
     Ok(())
 }
