@@ -50,8 +50,8 @@ module _ (once : (bytes : List ℕ) → IsCutOnce bytes) (c : ChronicleState) (s
       record {
         grows = record { front = (part, sym is); none_cut = same };
         leaves = λ left m.
-          let most : left ++ (m.front.0 ++ front.0) ≡ record_of_hall c.hall = sym (append_assoc left m.front.0 front.0) ∙ ap (λ (l : List ℕ). l ++ front.0) m.front.1 ∙ all in
-          leaves once c.hall c.told left few (subst (λ (l : List ℕ). IsPrefix l left) all_synced m.kept) (m.front.0 ++ front.0, most);
+            let most : left ++ (m.front.0 ++ front.0) ≡ record_of_hall c.hall = sym (append_assoc left m.front.0 front.0) ∙ ap (λ (l : List ℕ). l ++ front.0) m.front.1 ∙ all in
+            leaves once c.hall c.told left few (subst (λ (l : List ℕ). IsPrefix l left) all_synced m.kept) (m.front.0 ++ front.0, most);
       }
 
   -- all that waits is written, and is surely there

@@ -98,4 +98,3 @@ all_torn (l ∷ ls) h left m p few least =
 pub torn_lines : (ls : List (List ℕ)) (left : List ℕ) (m : ℕ) → list_all has_no_lf ls ≡ true → IsPrefix left (with_ends ls) → m ≤ length ls → IsPrefix (with_ends (take m ls)) left → IsTornFrom ls m left
 unfolding Torn
 torn_lines ls left m h p few least = all_torn ls h left m p few least
-

@@ -120,7 +120,12 @@ impl<D: Disk> Journal<D> {
         print_header(config, &mut header);
         let (hall, whole) = recovered(alloc, config, header.as_slice(), &bytes)?;
         let chronicle = Chronicle::new(alloc, hall)?;
-        mend(&mut disk, bytes.len(), whole, missing(header.as_slice(), whole))?;
+        mend(
+            &mut disk,
+            bytes.len(),
+            whole,
+            missing(header.as_slice(), whole),
+        )?;
         Ok(Opened {
             journal: Journal { disk, ended: false },
             chronicle,

@@ -141,12 +141,7 @@ fn fresh(alloc: Global, config: Config) -> Result<Hall, OpenFault>
 }
 
 /// The hall whose record stands in these whole lines, with this header.
-fn replayed(
-    alloc: Global,
-    config: Config,
-    header: &[u8],
-    whole: &[u8],
-) -> Result<Hall, OpenFault>
+fn replayed(alloc: Global, config: Config, header: &[u8], whole: &[u8]) -> Result<Hall, OpenFault>
     requires { header.now ≡ header_line config }
     ensures { IfOk result (λ h. (h.config ≡ config) × (whole.now ≡ record_of_hall h)) }
 {
@@ -165,7 +160,12 @@ fn replayed(
 
 /// The hall whose record these bytes are, once their torn line is cut, and how many are left then. Where not even the header is
 /// whole it has no event.
-pub fn recovered(alloc: Global, config: Config, header: &[u8], bytes: &[u8]) -> Result<(Hall, usize), OpenFault>
+pub fn recovered(
+    alloc: Global,
+    config: Config,
+    header: &[u8],
+    bytes: &[u8],
+) -> Result<(Hall, usize), OpenFault>
     requires { header.now ≡ header_line config }
     ensures { IfOk result (λ r. IsRecovered config bytes.now r.0 r.1) }
 {

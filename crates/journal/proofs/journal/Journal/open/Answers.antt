@@ -12,15 +12,15 @@ pub returns-clause-stands : goal.returns-clause-stands
 returns-clause-stands g c = record {
   well = refl;
   known = λ t is.
-    let after = known_before _ _ t c.in_ok-mend.ensures is in
-    let before = known_before _ _ after.0 c.in_ok-bytes.ensures after.1 in
-    let bytes = c.in_ok-bytes.bytes.items in
-    let hall = c.in_ok-hall.hall in
-    let whole = c.in_ok-hall.whole in
-    let r : IsRecovered c.args.config bytes hall whole = subst (λ (l : List ℕ). IsRecovered c.args.config l hall whole) c.deref.ensures.value c.in_ok-hall.ensures in
-    let m : IsMended c.len.result whole (missing_in whole c.as_slice-2.result.now) after.0 t = subst (λ (l : List ℕ). IsMended c.len.result whole l after.0 t) c.missing.ensures after.2 in
-    subst (λ (x : ChronicleState). HasSynced x t) (sym c.in_ok-chronicle.ensures)
-    (synced_record c.args.config bytes c.as_slice-2.result.now hall whole c.len.result after.0 t r (c.as_slice-2.ensures ∙ c.print_header.ensures.text ∙ ap (λ (l : List ℕ). l ++ header_line c.args.config) c.in_ok-header.ensures) (before.2.1 ∙ ap (λ (s : DiskState). s.contents) (sym before.2.0)) (sym (c.len.ensures ∙ c.in_ok-bytes.bytes.ok.0)) m);
+      let after = known_before _ _ t c.in_ok-mend.ensures is in
+      let before = known_before _ _ after.0 c.in_ok-bytes.ensures after.1 in
+      let bytes = c.in_ok-bytes.bytes.items in
+      let hall = c.in_ok-hall.hall in
+      let whole = c.in_ok-hall.whole in
+      let r : IsRecovered c.args.config bytes hall whole = subst (λ (l : List ℕ). IsRecovered c.args.config l hall whole) c.deref.ensures.value c.in_ok-hall.ensures in
+      let m : IsMended c.len.result whole (missing_in whole c.as_slice-2.result.now) after.0 t = subst (λ (l : List ℕ). IsMended c.len.result whole l after.0 t) c.missing.ensures after.2 in
+      subst (λ (x : ChronicleState). HasSynced x t) (sym c.in_ok-chronicle.ensures)
+      (synced_record c.args.config bytes c.as_slice-2.result.now hall whole c.len.result after.0 t r (c.as_slice-2.ensures ∙ c.print_header.ensures.text ∙ ap (λ (l : List ℕ). l ++ header_line c.args.config) c.in_ok-header.ensures) (before.2.1 ∙ ap (λ (s : DiskState). s.contents) (sym before.2.0)) (sym (c.len.ensures ∙ c.in_ok-bytes.bytes.ok.0)) m);
 }
 
 pub returns-clause-hall : goal.returns-clause-hall
