@@ -1,0 +1,9 @@
+pub mod Digits
+pub mod LineText
+pub mod TornLemmas
+pub mod Crashes
+pub mod Commits
+pub mod WaitingLemmas
+pub mod OpeningLemmas
+pub mod Replays
+pub mod Restarts

@@ -1,0 +1,50 @@
+-- what stands on a disk whose journal was opened
+use Rattle.std.proofs.Common.{◌≡◌, ◌==◌, ◌⊎◌, ℕ, ◌+◌, ◌≤◌, List, [], ◌∷◌, ◌++◌, length, take, drop, flat_map, Option, Some, None, inl, inr, refl, ap, sym, ◌∙◌, subst, arith}
+use Rattle.std.proofs.lemmas.Bool.Decides.{eqb_tells}
+use Rattle.std.proofs.lemmas.List.{append-nil, take-append-drop, take_all}
+use mathlib.Core.List.{IsPrefix}
+use Rattle.commands.specs.declared.config.Config.{Config}
+use Rattle.commands.specs.declared.exchange.Exchange.{Exchange}
+use Rattle.schedule_player.specs.Lines.{IsCutOnce}
+use Rattle.schedule_player.specs.Records.{header_line}
+use Rattle.locked_world.specs.HallState.{HallState}
+use Rattle.locked_world.specs.Halls.{hall_of}
+use Rattle.journal_disk.specs.DiskState.{DiskState}
+use Rattle.journal_disk.specs.Disks.{Changes}
+use Rattle.journal.specs.ChronicleState.{ChronicleState}
+use Rattle.journal.specs.Chronicles.{record_of_hall, chronicle_of}
+use Rattle.journal.specs.Journals.{HasSynced, IsHallOf, IsMended, missing_in}
+use Rattle.journal.specs.Openings.{IsRecord, IsFresh, IsRecovered}
+use Rattle.journal.proofs.Commits.{known_before, told_all}
+use Rattle.journal.proofs.Crashes.{cut_record}
+
+no_record : (h : HallState) → [] ≡ record_of_hall h → ⊥
+no_record h is = cc
+
+-- what was whole, with what was missing, is the record
+mended : (c : Config) (bytes : List ℕ) (h : HallState) (whole : ℕ) → IsRecovered c bytes h whole → take whole bytes ++ missing_in whole (header_line c) ≡ record_of_hall h
+mended c bytes h whole (inl r) = elim (eqb_tells whole 0) [
+  | inl e ↦ absurd (no_record h (ap (λ (n : ℕ). take n bytes) (sym e.1) ∙ r.front))
+  | inr e ↦ rw e.0 (append-nil (take whole bytes) ∙ r.front)
+]
+mended c bytes h whole (inr f) =
+    let P : ℕ → Type 0 = λ n. take n bytes ++ missing_in n (header_line c) ≡ record_of_hall h in
+    subst P (sym f.zero) (sym (append-nil (header_line c)) ∙ ap record_of_hall (sym f.none))
+
+-- and the hall is that of the bytes
+pub hall_of_bytes : ((bytes : List ℕ) → IsCutOnce bytes) → (c : Config) (bytes : List ℕ) (h : HallState) (whole : ℕ) → IsRecovered c bytes h whole → IsHallOf h bytes
+hall_of_bytes once c bytes h whole (inl r) = inl (cut_record h bytes (drop whole bytes) once (sym (take-append-drop whole bytes) ∙ ap (λ (l : List ℕ). l ++ drop whole bytes) r.front) r.torn)
+hall_of_bytes once c bytes h whole (inr f) = inr (
+  subst (λ (u : HallState). IsPrefix bytes (header_line u.config)) (sym f.none) f.header,
+  ap (λ (u : HallState). u.history) f.none,
+)
+
+-- after that was put right all of it is surely there
+pub synced_record : (c : Config) (bytes header : List ℕ) (h : HallState) (whole total : ℕ) (s t : DiskState) → IsRecovered c bytes h whole → header ≡ header_line c → bytes ≡ s.contents → length bytes ≡ total →
+    IsMended total whole (missing_in whole header) s t → HasSynced (chronicle_of h (length h.history)) t
+synced_record c bytes header h whole total s t r head same many m =
+    let done = m (ap length (sym same) ∙ many) in
+    record {
+      contents = done.0 ∙ ap (λ (l : List ℕ). take whole l ++ missing_in whole header) (sym same) ∙ ap (λ (l : List ℕ). take whole bytes ++ missing_in whole l) head ∙ mended c bytes h whole r ∙ sym (told_all h);
+      synced = done.1;
+    }

@@ -1,0 +1,50 @@
+-- an event that is accepted waits behind the others
+use Rattle.std.proofs.Common.{◌≡◌, ℕ, ◌+◌, ◌≤◌, Bool, true, false, cond, List, [], ◌∷◌, ◌++◌, length, drop, flat_map, Option, Some, None, inl, inr, refl, ap, sym, ◌∙◌, subst, arith, length-append}
+use Rattle.std.proofs.lemmas.List.{append-nil, drop-append-le}
+use Rattle.std.proofs.lemmas.Grind.{flat_map-append}
+use Rattle.step_memory.specs.declared.refusal.Refusal.{Refusal}
+use Rattle.commands.specs.declared.event.Event.{Event}
+use Rattle.commands.specs.declared.exchange.Exchange.{Exchange}
+use Rattle.commands.specs.declared.reply.Reply.{Reply}
+use Rattle.commands.specs.Replies.{is_refusal}
+use Rattle.schedule_player.specs.Records.{exchange_line}
+use Rattle.locked_world.specs.Halls.{HallMay, hall_refusal, after_unless}
+use Rattle.locked_world.specs.HallState.{HallState}
+use Rattle.locked_world.specs.Serving.{accepted}
+use Rattle.journal.specs.Chronicles.{waiting_of, chronicle_of}
+
+-- the line of an event that was accepted waits behind those that waited
+pub more_waits : (h u : HallState) (told : ℕ) (x : Exchange) (lines : List ℕ) → lines ≡ waiting_of (chronicle_of h told) → told ≤ length h.history → u.history ≡ h.history ++ x ∷ [] →
+    (lines ++ exchange_line x ≡ waiting_of (chronicle_of u told)) × (told ≤ length u.history)
+more_waits h u told x lines wait few is =
+    let left = drop told h.history in
+    let one : flat_map exchange_line (x ∷ []) ≡ exchange_line x = append-nil (exchange_line x) in
+    let all : flat_map exchange_line (left ++ x ∷ []) ≡ flat_map exchange_line left ++ exchange_line x =
+    flat_map-append exchange_line left (x ∷ []) ∙ ap (λ (l : List ℕ). flat_map exchange_line left ++ l) one in
+    let same : drop told u.history ≡ left ++ x ∷ [] = ap (λ xs. drop told xs) is ∙ drop-append-le told h.history (x ∷ []) few in
+    let many = ap length is in
+    let more = length-append h.history (x ∷ []) in
+    (ap (λ (l : List ℕ). l ++ exchange_line x) wait ∙ sym all ∙ ap (flat_map exchange_line) (sym same), omega arith)
+
+-- and where it was refused nothing more does
+pub same_waits : (h u : HallState) (told : ℕ) (lines : List ℕ) → lines ≡ waiting_of (chronicle_of h told) → told ≤ length h.history → u.history ≡ h.history →
+    (lines ≡ waiting_of (chronicle_of u told)) × (told ≤ length u.history)
+same_waits h u told lines wait few is =
+    let many = ap length is in
+    (wait ∙ ap (λ xs. flat_map exchange_line (drop told xs)) (sym is), omega arith)
+
+-- the config of a hall stays
+config_unless : (o : Option Refusal) (h : HallState) (e : Event) → (after_unless o h e).config ≡ h.config
+config_unless None h e = refl
+config_unless (Some why) h e = refl
+
+pub config_stays : (h u : HallState) (e : Event) (r : Reply) → HallMay h e r u → u.config ≡ h.config
+config_stays h u e r (inl m) = ap (λ (v : HallState). v.config) m.1 ∙ config_unless (hall_refusal h e) h e
+config_stays h u e r (inr m) = ap (λ (v : HallState). v.config) m.1
+
+-- what a history gains of one exchange
+pub one_accepted : (x : Exchange) → is_refusal x.reply ≡ false → accepted (x ∷ []) ≡ x ∷ []
+one_accepted x h = rw h refl
+
+pub none_accepted : (x : Exchange) → is_refusal x.reply ≡ true → accepted (x ∷ []) ≡ []
+none_accepted x h = rw h refl

@@ -1,0 +1,8 @@
+use Rattle.journal.proofs.Restarts.{opened, stays}
+use Rattle.journal.proofs.laws.law_of_crashes.Goals as goal
+
+pub returns-clause-between : goal.returns-clause-between
+returns-clause-between c = stays c.law_of_lines.ensures.once
+
+pub returns-clause-opened : goal.returns-clause-opened
+returns-clause-opened c = opened c.law_of_lines.ensures.cut

@@ -1,0 +1,5 @@
+pub mod ChronicleState
+pub mod Chronicles
+pub mod ChronicleProofs
+pub mod Journals
+pub mod Openings

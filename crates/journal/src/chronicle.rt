@@ -1,0 +1,136 @@
+//! A hall, and the lines of its journal that are not written yet.
+
+ghost use Rattle.std.specs.Prelude.{◌≡◌, ◌≤◌, ◌+◌, ◌++◌, [], ◌∷◌, true, false, length, IfOk, vec_len, vec_capacity};
+ghost use Rattle.commands.specs.Replies.{is_refusal, with_view};
+ghost use Rattle.desk.specs.DeskCalls.{exchange};
+ghost use Rattle.locked_world.specs.Halls.{HallMay};
+ghost use Rattle.schedule_player.specs.Records.{exchange_line};
+ghost use Rattle.journal.specs.Chronicles.{ChronicleServes, chronicle_of, waiting_of};
+ghost use Rattle.journal.specs.ChronicleProofs.{chronicle_answers};
+
+use commands::{Event, Reply, ShortReply};
+use locked_world::{Hall, law_of_serving};
+use schedule_player::{AsRecord, Form, Replies, Service, TURN_ROOM};
+use std::alloc::Global;
+use std::marker::Model;
+use step_memory::{NoMemory, Refusal, View};
+
+/// No more bytes of lines wait.
+pub const MOST_WAITING: usize = 1_048_576;
+
+/// A hall that tells each event that it accepts, with its reply, as a line of a record: the lines wait until they are handed on. With
+/// the header, those that were handed on and those that wait are the record of the hall's history.
+#[derive(Drop)]
+pub struct Chronicle {
+    hall: Hall,
+    told: usize,
+    lines: Vec<u8>,
+    line: Replies<Global>,
+}
+
+impl Model for Chronicle {
+    ghost use Rattle.journal.specs.ChronicleState.{ChronicleState};
+
+    ghost Value = { ChronicleState };
+
+    ghost use Rattle.std.specs.Prelude.{◌≡◌, ◌≤◌, length};
+    ghost use Rattle.journal.specs.Chronicles.{chronicle_of, waiting_of};
+
+    ghost view = { λ c. chronicle_of c.hall c.told };
+
+    ghost invariant = { λ c. (c.lines.items ≡ waiting_of (chronicle_of c.hall c.told)) × (c.told ≤ length c.hall.history) };
+}
+
+/// Applies an event to a hall, which takes it into its history where it accepts it, and nothing else.
+pub(crate) fn applied(hall: &mut Hall, event: Event, view: &mut View) -> ShortReply
+    ensures may { HallMay hall.old event (with_view result view.new) hall.new }
+    ensures config { hall.new.config ≡ hall.old.config }
+    ensures accepted { is_refusal (with_view result view.new) ≡ false → hall.new.history ≡ hall.old.history ++ exchange event (with_view result view.new) ∷ [] }
+    ensures refused { is_refusal (with_view result view.new) ≡ true → hall.new.history ≡ hall.old.history }
+{
+    law_of_serving();
+    let _ = hall.len();
+    hall.apply_short(event, view)
+}
+
+/// Puts the line of an event with its reply, and the view beside that, behind others, where there is room.
+fn put_line(
+    event: Event,
+    reply: ShortReply,
+    view: &View,
+    line: &mut Replies<Global>,
+    lines: &mut Vec<u8>,
+)
+    requires { vec_len lines.old + TURN_ROOM ≤ vec_capacity lines.old }
+    ensures { lines.new.items ≡ lines.old.items ++ exchange_line (exchange event (with_view reply view.now)) }
+{
+    line.clear();
+    AsRecord::put_answered(event, reply, view, line);
+    let _ = lines.extend_from_slice(line.as_slice());
+}
+
+impl Chronicle {
+    /// Round a hall all of whose events were handed on; `NoMemory` where room was refused.
+    pub fn new(alloc: Global, hall: Hall) -> Result<Chronicle, NoMemory>
+        ensures { IfOk result (λ c. c ≡ chronicle_of hall (length hall.history)) }
+    {
+        let told = hall.len();
+        Ok(Chronicle {
+            hall,
+            told,
+            lines: Vec::new(alloc),
+            line: Replies::new(alloc)?,
+        })
+    }
+
+    /// The hall.
+    pub fn hall(&self) -> &Hall
+        ensures { result.now ≡ self.now.hall }
+    {
+        &self.hall
+    }
+
+    /// The lines that wait: those of the events that were not handed on.
+    pub fn waiting(&self) -> &[u8]
+        ensures lines { result.now ≡ waiting_of self.now }
+        ensures few { self.now.told ≤ length self.now.hall.history }
+    {
+        &self.lines
+    }
+
+    /// Whether so many bytes wait that an event would be refused for want of room: those that wait are to be handed on first.
+    pub fn is_full(&self) -> bool {
+        MOST_WAITING - TURN_ROOM < self.lines.len()
+    }
+
+    /// What waited was handed on.
+    pub fn hand_on(&mut self)
+        ensures { self.new ≡ chronicle_of self.old.hall (length self.old.hall.history) }
+    {
+        self.lines.clear();
+        self.told = self.hall.len();
+    }
+}
+
+impl<R> Service<R> for Chronicle {
+    ghost knows = { λ q. true };
+
+    ghost may = { ChronicleServes };
+
+    ghost answers = { λ c q known. chronicle_answers c q };
+
+    fn apply(&mut self, _rt: &R, event: Event, view: &mut View) -> ShortReply {
+        if self.is_full() || self.lines.reserve(TURN_ROOM).is_err() {
+            return ShortReply::Refused(self.hall.refusal(event).unwrap_or(Refusal::NoMemory));
+        }
+        let reply = applied(&mut self.hall, event, view);
+        if !reply.is_refusal() {
+            put_line(event, reply, view, &mut self.line, &mut self.lines);
+        }
+        reply
+    }
+
+    fn owner(&mut self, _rt: &R, n: u64) -> Reply {
+        self.hall.owner(n)
+    }
+}

@@ -1,0 +1,145 @@
+//! The journal of a chronicle, on a disk.
+
+ghost use Rattle.std.specs.Prelude.{◌≡◌, ◌≢◌, true, false, length, Err, Some, OnOk, OnErr, IfOk};
+ghost use Rattle.journal_disk.specs.Disks.{Changes};
+ghost use Rattle.journal_disk.specs.DiskState.{DiskState};
+ghost use Rattle.journal.specs.Chronicles.{chronicle_of};
+ghost use Rattle.journal.specs.Journals.{Stands, KeepsAtAnyMoment, IsHallOf, IsMended, IsWritten, missing_in};
+
+use crate::chronicle::Chronicle;
+use crate::opening::{OpenFault, recovered};
+use commands::Config;
+use journal_disk::{Disk, DiskFault};
+use schedule_player::{Replies, law_of_lines, print_header};
+use std::alloc::Global;
+
+/// Why nothing more is written.
+#[derive(Clone, Copy, Debug, Drop, PartialEq, Eq)]
+pub enum JournalFault {
+    /// The disk failed: what waited may be written in part. Now the journal has ended.
+    Disk(DiskFault),
+    /// It has ended before.
+    Ended,
+}
+
+/// A disk with the record of what a chronicle has handed on.
+#[derive(Drop)]
+pub struct Journal<D: Disk> {
+    pub(crate) disk: D,
+    pub(crate) ended: bool,
+}
+
+impl<D: Disk> Journal<D> {
+    /// Writes bytes behind the others, and waits until they are surely there.
+    fn write(&mut self, bytes: &[u8]) -> Result<(), DiskFault>
+        ensures written { Changes (IsWritten bytes.now result) (D.state self.old.disk) (D.state self.new.disk) }
+        ensures same { self.new.ended ≡ self.old.ended }
+    {
+        self.disk.append(bytes)?;
+        self.disk.sync()?;
+        Ok(())
+    }
+
+    /// Writes the lines that wait and waits until they are surely there; then they are handed on. After a fault nothing is ever written
+    /// again, and the chronicle's lines wait for ever: no reply to an event of theirs may be let out.
+    pub fn commit(&mut self, chronicle: &mut Chronicle) -> Result<(), JournalFault>
+        ensures told { OnOk result (chronicle.new ≡ chronicle_of chronicle.old.hall (length chronicle.old.hall.history)) }
+        ensures stands { OnOk result (Stands D.state self.old chronicle.old → Stands D.state self.new chronicle.new) }
+
+        // A crash at any moment of the call leaves all that was handed on before it.
+        ensures any_moment { Stands D.state self.old chronicle.old → KeepsAtAnyMoment D.state self.old self.new chronicle.old }
+        ensures same { OnErr result (chronicle.new ≡ chronicle.old) }
+        ensures ends { OnErr result (self.new.ended ≡ true) }
+        ensures over { self.old.ended ≡ true → (result ≡ Err JournalFault.Ended) × (self.new ≡ self.old) }
+        ensures goes_on { self.old.ended ≡ false → result ≢ Err JournalFault.Ended }
+    {
+        law_of_lines();
+        if self.ended {
+            return Err(JournalFault::Ended);
+        }
+        match self.write(chronicle.waiting()) {
+            Ok(()) => {
+                chronicle.hand_on();
+                Ok(())
+            }
+            Err(fault) => {
+                self.ended = true;
+                Err(JournalFault::Disk(fault))
+            }
+        }
+    }
+}
+
+/// A journal that was opened, with the hall of its record.
+#[derive(Drop)]
+pub struct Opened<D: Disk> {
+    /// The journal.
+    pub journal: Journal<D>,
+    /// The hall.
+    pub chronicle: Chronicle,
+}
+
+/// What is missing of a record of which so many bytes are whole: its header, where not even that is.
+fn missing(header: &[u8], whole: usize) -> &[u8]
+    ensures { result.now ≡ missing_in whole header.now }
+{
+    if whole == 0 {
+        return header;
+    }
+    &header[..0]
+}
+
+/// Cuts a disk of so many bytes behind the first ones, puts what is missing behind those, and waits until that is surely there.
+fn mend<D: Disk>(disk: &mut D, total: usize, whole: usize, missing: &[u8]) -> Result<(), DiskFault>
+    ensures { OnOk result (Changes (IsMended total whole missing.now) (D.state disk.old) (D.state disk.new)) }
+{
+    if whole < total {
+        disk.cut(whole)?;
+    }
+    disk.append(missing)?;
+    disk.sync()?;
+    Ok(())
+}
+
+impl<D: Disk> Journal<D> {
+    /// Opens a journal, and gives the hall whose record it is. A disk where not even the header is whole gets it, and the hall has no
+    /// event. A last line with no LF, which a crash has torn, is cut off; the rest has to be one that `check` says `Yes` of, of this
+    /// config, with the lines that a hall writes. Nothing is changed before all of it was read so.
+    pub fn open(alloc: Global, disk: D, config: Config) -> Result<Opened<D>, OpenFault>
+        ensures config { IfOk result (λ o. o.chronicle.hall.config ≡ config) }
+        ensures told { IfOk result (λ o. o.chronicle.told ≡ length o.chronicle.hall.history) }
+        ensures stands { IfOk result (λ o. Stands D.state o.journal o.chronicle) }
+
+        // The hall is that of the record that was there, once its torn line is cut.
+        ensures hall { IfOk result (λ o. (s : DiskState) → D.state disk ≡ Some s → IsHallOf o.chronicle.hall s.contents) }
+    {
+        law_of_lines();
+        let mut disk = disk;
+        let bytes = disk.read(alloc)?;
+        let mut header = Replies::new(alloc)?;
+        print_header(config, &mut header);
+        let (hall, whole) = recovered(alloc, config, header.as_slice(), &bytes)?;
+        let chronicle = Chronicle::new(alloc, hall)?;
+        mend(
+            &mut disk,
+            bytes.len(),
+            whole,
+            missing(header.as_slice(), whole),
+        )?;
+        Ok(Opened {
+            journal: Journal { disk, ended: false },
+            chronicle,
+        })
+    }
+
+    /// The disk.
+    pub fn disk(&self) -> &D {
+        &self.disk
+    }
+
+    /// The disk, where no more is to be written.
+    pub fn into_disk(self) -> D {
+        let Journal { disk, ended: _ } = self;
+        disk
+    }
+}

@@ -1,0 +1,181 @@
+//! From the bytes of a journal to the hall whose record they are.
+
+ghost use Rattle.std.specs.Prelude.{◌≡◌, ◌≤◌, ◌++◌, [], ◌∷◌, ℕ, length, drop, take, flat_map, true, IfOk, IfSome, OnOk};
+ghost use Rattle.commands.specs.declared.exchange.Exchange.{Exchange};
+ghost use Rattle.schedule_player.specs.Lines.{has_no_lf};
+ghost use Rattle.schedule_player.specs.Records.{exchange_line, header_line};
+ghost use Rattle.locked_world.specs.Halls.{hall_of};
+ghost use Rattle.journal.specs.Chronicles.{record_of_hall};
+ghost use Rattle.journal.specs.Openings.{GoesOnBy, HasFollowed, IsRecovered};
+
+use crate::chronicle::applied;
+use commands::{Config, Event, WorldKind};
+use journal_disk::DiskFault;
+use locked_world::Hall;
+use memchr::memchr;
+use record_lines::{Version, read_line};
+use run_checker::{Verdict, check};
+use schedule_player::{AsRecord, Form, Replies, print_header};
+use std::alloc::{AllocError, Global};
+use step_memory::{NoMemory, Refusal, View};
+
+/// Why a journal is not opened. Lines are numbered from 1, the header's.
+#[derive(Clone, Copy, Debug, Drop, PartialEq, Eq)]
+pub enum OpenFault {
+    /// The disk failed.
+    Disk(DiskFault),
+    /// A growth was refused.
+    NoMemory,
+    /// What is there is no record of a run, as `check` says.
+    Judged(Verdict),
+    /// It is one of another config, or of another version.
+    OtherConfig,
+    /// Its line of this number is none that a hall writes: a refusal, another spelling, what another object answers, or no part of
+    /// a line at all.
+    OtherLine(u64),
+    /// Names are not given in the config's world.
+    NoNames,
+}
+
+impl From<AllocError> for OpenFault {
+    fn from(_refused: AllocError) -> OpenFault {
+        OpenFault::NoMemory
+    }
+}
+
+impl From<NoMemory> for OpenFault {
+    fn from(_refused: NoMemory) -> OpenFault {
+        OpenFault::NoMemory
+    }
+}
+
+impl From<DiskFault> for OpenFault {
+    fn from(fault: DiskFault) -> OpenFault {
+        OpenFault::Disk(fault)
+    }
+}
+
+/// What follows these bytes, where others begin with them.
+fn after<'a>(bytes: &'a [u8], front: &[u8]) -> Option<&'a [u8]>
+    ensures { IfSome result (λ rest. bytes.now ≡ front.now ++ rest.now) }
+{
+    match bytes.strip_prefix(front) {
+        Some(rest) => Some(rest),
+        None => None,
+    }
+}
+
+/// How many bytes stand up to the last LF, with it.
+fn whole_length(bytes: &[u8]) -> usize
+    ensures within { result ≤ length bytes.now }
+    ensures torn { has_no_lf (drop result bytes.now) ≡ true }
+{
+    let mut end = bytes.len();
+    while 0 < end && bytes[end - 1] != b'\n' {
+        end -= 1;
+    }
+    end
+}
+
+/// The event that the first of some lines asks for; `None` where that is no line. An error where a growth was refused.
+fn next_event(alloc: Global, kind: WorldKind, lines: &[u8]) -> Result<Option<Event>, AllocError> {
+    let Some(end) = memchr(b'\n', lines) else {
+        return Ok(None);
+    };
+    match read_line(alloc, kind, Version::Two, &lines[..end])? {
+        Some(line) => Ok(Some(line.event)),
+        None => Ok(None),
+    }
+}
+
+/// Applies the event of the first of some lines, which has to be the line that the hall's answer writes, and tells what follows it.
+fn follow<'a>(
+    alloc: Global,
+    hall: &mut Hall,
+    view: &mut View,
+    line: &mut Replies<Global>,
+    lines: &'a [u8],
+) -> Result<&'a [u8], OpenFault>
+    ensures { IfOk result (λ rest. GoesOnBy hall.old hall.new lines.entry.now rest.now) }
+{
+    let number = (hall.len() as u64).saturating_add(2);
+    let kind = hall.config().world;
+    let Some(event) = next_event(alloc, kind, lines)? else {
+        return Err(OpenFault::OtherLine(number));
+    };
+    let reply = applied(hall, event, view);
+    if reply.is_refusal() {
+        return Err(OpenFault::OtherLine(number));
+    }
+    line.clear();
+    AsRecord::put_answered(event, reply, view, line);
+    match after(lines, line.as_slice()) {
+        Some(rest) => Ok(rest),
+        None => Err(OpenFault::OtherLine(number)),
+    }
+}
+
+/// Applies the events of these lines, each of which has to be the line that the hall's answer writes.
+fn replay(alloc: Global, hall: &mut Hall, lines: &[u8]) -> Result<(), OpenFault>
+    requires { hall.old.history ≡ [] }
+    ensures { OnOk result (HasFollowed hall.old.config hall.new lines.now) }
+{
+    let mut view = View::new();
+    let mut line = Replies::new(alloc)?;
+    let mut left = lines;
+    while !left.is_empty() {
+        left = follow(alloc, hall, &mut view, &mut line, left)?;
+    }
+    Ok(())
+}
+
+/// The hall with no event.
+fn fresh(alloc: Global, config: Config) -> Result<Hall, OpenFault>
+    ensures { IfOk result (λ h. h ≡ hall_of config []) }
+{
+    match Hall::new(alloc, config) {
+        Ok(hall) => Ok(hall),
+        Err(Refusal::NoMemory) => Err(OpenFault::NoMemory),
+        Err(_) => Err(OpenFault::NoNames),
+    }
+}
+
+/// The hall whose record stands in these whole lines, with this header.
+fn replayed(alloc: Global, config: Config, header: &[u8], whole: &[u8]) -> Result<Hall, OpenFault>
+    requires { header.now ≡ header_line config }
+    ensures { IfOk result (λ h. (h.config ≡ config) × (whole.now ≡ record_of_hall h)) }
+{
+    match check(alloc, whole) {
+        Verdict::Yes => {}
+        Verdict::NoMemory => return Err(OpenFault::NoMemory),
+        verdict => return Err(OpenFault::Judged(verdict)),
+    }
+    let Some(lines) = after(whole, header) else {
+        return Err(OpenFault::OtherConfig);
+    };
+    let mut hall = fresh(alloc, config)?;
+    replay(alloc, &mut hall, lines)?;
+    Ok(hall)
+}
+
+/// The hall whose record these bytes are, once their torn line is cut, and how many are left then. Where not even the header is
+/// whole it has no event.
+pub fn recovered(
+    alloc: Global,
+    config: Config,
+    header: &[u8],
+    bytes: &[u8],
+) -> Result<(Hall, usize), OpenFault>
+    requires { header.now ≡ header_line config }
+    ensures { IfOk result (λ r. IsRecovered config bytes.now r.0 r.1) }
+{
+    let end = whole_length(bytes);
+    if end == 0 && after(header, bytes).is_some() {
+        return Ok((fresh(alloc, config)?, 0));
+    }
+    let hall = replayed(alloc, config, header, &bytes[..end])?;
+    if bytes[end..].contains(&0) {
+        return Err(OpenFault::OtherLine((hall.len() as u64).saturating_add(2)));
+    }
+    Ok((hall, end))
+}

@@ -1,0 +1,3 @@
+pub mod DiskState
+pub mod Disks
+pub mod Memories

@@ -1,0 +1,42 @@
+//! What a journal is written to.
+
+ghost use Rattle.std.specs.Prelude.{◌≡◌, IfOk, Option};
+ghost use Rattle.journal_disk.specs.DiskState.{DiskState};
+ghost use Rattle.journal_disk.specs.Disks.{Changes, IsAppended, IsSynced, IsCut, Reads};
+
+use std::alloc::Global;
+use std::io::ErrorKind;
+
+/// Why a call of a disk failed.
+#[derive(Clone, Copy, Debug, Drop, PartialEq, Eq)]
+pub enum DiskFault {
+    /// The device failed, or had no room; so it was told.
+    Failed(ErrorKind),
+    /// A growth was refused.
+    NoMemory,
+}
+
+/// Bytes that outlast a crash: written behind one another, and surely there once they are synced.
+///
+/// After a call that failed it is known only what a crash may leave, and whoever writes on may be told that all is well where it is not.
+pub trait Disk: Drop {
+    /// What was written, how much of that is surely there, and how often bytes were cut off; `None` where nothing is known, as of a
+    /// file of the system.
+    ghost state: { Self → Option DiskState };
+
+    /// Reads all bytes.
+    fn read(&mut self, alloc: Global) -> Result<Vec<u8>, DiskFault>
+        ensures { Changes (Reads result) (state self.old) (state self.new) };
+
+    /// Writes bytes behind the others.
+    fn append(&mut self, bytes: &[u8]) -> Result<(), DiskFault>
+        ensures { Changes (IsAppended bytes.now result) (state self.old) (state self.new) };
+
+    /// Waits until all that was written is surely there.
+    fn sync(&mut self) -> Result<(), DiskFault>
+        ensures { Changes (IsSynced result) (state self.old) (state self.new) };
+
+    /// Cuts off all bytes behind the first so many.
+    fn cut(&mut self, len: usize) -> Result<(), DiskFault>
+        ensures { Changes (IsCut len result) (state self.old) (state self.new) };
+}
