@@ -37,5 +37,8 @@ fn named_on_a_board<L: LockName, R: Wait + Abort>(
 #[test]
 fn a_name_is_shown_on_a_board(rt: HostRuntime) {
     let opening = Opening::new(&rt, WorldKind::Rename, 4, 4);
-    assert_eq!(rt; named_on_a_board::<Brand, _>(&rt, rt.alloc(), opening), Some((1, true)));
+    assert_eq!(rt;
+        named_on_a_board::<Brand, _>(&rt, rt.alloc(), opening),
+        Some((1, true))
+    );
 }

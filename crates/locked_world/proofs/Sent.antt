@@ -70,7 +70,7 @@ node_send A g s f = recorded_send (node.the_field A g).row _ _ (node.the_type A 
 tree_send : (A : RattleType) (g : Ghosts A.Denot) → IsSend A → Frees g g.dealloc_token → IsSend (tree.the_row A g)
 tree_send A g s f =
     view_send (tree_inside.the_row A g) _ _ _ _
-    (recorded_send (tree_inside.the_field A g).row _ _ (tree_inside.the_type A g).to_one (struct_send (shape (tree_inside.the_type A g)) (option.the_field_send _ (boxed.the_send _ A g (node_send A g s f) s f), (s, (search sendable, (value_sent.the_field_send, (value_sent.the_field_send, tt)))))))
+    (recorded_send (tree_inside.the_field A g).row _ _ (tree_inside.the_type A g).to_one (struct_send (shape (tree_inside.the_type A g)) (option.the_field_send _ (boxed.the_send _ A g (node_send A g s f) s f), (s, (value_sent.the_field_send, (value_sent.the_field_send, tt))))))
 
 places_send : (A : RattleType) (g : Ghosts A.Denot) → IsSend A → Frees g g.dealloc_token → IsSend (places.the_row A g)
 places_send A g s f =

@@ -157,7 +157,10 @@ fn nothing_is_read_after_the_end_or_after_quit(rt: HostRuntime) {
         assert_eq!(rt; reads_of(rt.alloc(), config, b""), 1);
         assert_eq!(rt; reads_of(rt.alloc(), config, b"step 70\nstep 7\n"), 5);
         assert_eq!(rt; reads_of(rt.alloc(), config, b"step 70\nstep 77"), 5);
-        assert_eq!(rt; reads_of(rt.alloc(), config, b"begin 7\nquit\nbegin 8\nbegin 9\n"), 4);
+        assert_eq!(rt;
+            reads_of(rt.alloc(), config, b"begin 7\nquit\nbegin 8\nbegin 9\n"),
+            4
+        );
     }
 }
 
