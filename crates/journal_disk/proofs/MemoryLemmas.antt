@@ -23,13 +23,19 @@ pub shortened : (len : ℕ) (contents left : List ℕ) (synced cuts : ℕ) → l
 shortened len contents left synced cuts is s known =
     let old = state_of contents synced cuts in
     let new = state_of left (min synced (length left)) (cuts + 1) in
-    let P : DiskState → Type 0 = λ x. IsShortened len x new × (left ≡ take len x.contents) in
-    (new, refl, subst P (same_Some old s known) (record {
-      front = (drop len contents, ap (λ (l : List ℕ). l ++ drop len contents) is ∙ take-append-drop len contents);
-      kept = subst (λ (l : List ℕ). IsPrefix l left) is (prefix_self left);
-      below = omega arith;
-      counted = refl;
-    }, is))
+    let P : DiskState → Type 0 = λ x. IsShortened len x new × (left ≡ take len x.contents) in (
+      new,
+      refl,
+      subst P (same_Some old s known) (
+        record {
+          front = (drop len contents, ap (λ (l : List ℕ). l ++ drop len contents) is ∙ take-append-drop len contents);
+          kept = subst (λ (l : List ℕ). IsPrefix l left) is (prefix_self left);
+          below = omega arith;
+          counted = refl;
+        },
+        is,
+      ),
+    )
 
 -- a beginning with all that was surely there is what a crash may leave
 pub crash_leaves : (s : DiskState) (kept : ℕ) (left : List ℕ) → left ≡ take kept s.contents → s.synced ≤ kept → MayLeave s s left

@@ -55,7 +55,9 @@ impl MemoryDisk {
         ensures none { keep ≡ 0 → result.bytes.items ≡ take self.synced self.bytes.items }
     {
         let MemoryDisk {
-            mut bytes, synced, ..
+            mut bytes,
+            synced,
+            ..
         } = self;
         let kept = keep.max(synced);
         bytes.truncate(kept);
