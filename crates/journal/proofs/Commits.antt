@@ -5,13 +5,13 @@ use Rattle.std.proofs.lemmas.Grind.{flat_map-append}
 use Rattle.std.proofs.lemmas.Option.{same_Some}
 use mathlib.Core.List.{IsPrefix}
 use Rattle.journal_disk.specs.DiskState.{DiskState}
-use Rattle.journal_disk.specs.Disks.{Changes, longer_by, synced_all, MayLeave}
+use Rattle.journal_disk.specs.Disks.{Changes, longer_by, synced_all}
 use Rattle.schedule_player.specs.Lines.{IsCutOnce}
 use Rattle.schedule_player.specs.Records.{exchange_line, header_line}
 use Rattle.locked_world.specs.HallState.{HallState}
 use Rattle.journal.specs.ChronicleState.{ChronicleState}
-use Rattle.journal.specs.Chronicles.{record_of_hall, hall_after_first, told_record, waiting_of, chronicle_of}
-use Rattle.journal.specs.Journals.{HasSynced, KeepsHandedOn, IsWritten}
+use Rattle.journal.specs.Chronicles.{record_of_hall, told_record, waiting_of, chronicle_of}
+use Rattle.journal.specs.Journals.{HasSynced, KeepsHandedOn}
 use Rattle.journal.proofs.Crashes.{leaves}
 
 whole : {A : Type 0} (xs : List A) → take (length xs) xs ≡ xs

@@ -1,9 +1,9 @@
 -- what a crash leaves of a record
-use Rattle.std.proofs.Common.{◌≡◌, ℕ, zero, suc, ◌+◌, ◌≤◌, true, List, [], ◌∷◌, ◌++◌, length, take, map, refl, ap, sym, ◌∙◌, subst, arith}
+use Rattle.std.proofs.Common.{◌≡◌, ℕ, zero, suc, ◌≤◌, true, List, [], ◌∷◌, ◌++◌, length, take, refl, ap, sym, ◌∙◌, subst, arith}
 use Rattle.std.proofs.lemmas.List.{length-map}
 use mathlib.Core.List.{IsPrefix}
 use Rattle.commands.specs.declared.exchange.Exchange.{Exchange}
-use Rattle.schedule_player.specs.Lines.{IsCutInto, IsCutOnce, has_no_lf, whole_lines, with_ends}
+use Rattle.schedule_player.specs.Lines.{IsCutOnce, has_no_lf, with_ends}
 use Rattle.locked_world.specs.HallState.{HallState}
 use Rattle.journal.specs.Chronicles.{record_of_hall, hall_after_first}
 use Rattle.journal.specs.Journals.{without_torn, LeavesHall}

@@ -1,21 +1,17 @@
 -- what stands on a disk whose journal was opened
-use Rattle.std.proofs.Common.{◌≡◌, ◌==◌, ◌⊎◌, ℕ, ◌+◌, ◌≤◌, List, [], ◌∷◌, ◌++◌, length, take, drop, flat_map, Option, Some, None, inl, inr, refl, ap, sym, ◌∙◌, subst, arith}
+use Rattle.std.proofs.Common.{◌≡◌, ℕ, List, [], ◌++◌, length, take, drop, inl, inr, ap, sym, ◌∙◌, subst}
 use Rattle.std.proofs.lemmas.Bool.Decides.{eqb_tells}
-use Rattle.std.proofs.lemmas.List.{append-nil, take-append-drop, take_all}
+use Rattle.std.proofs.lemmas.List.{append-nil, take-append-drop}
 use mathlib.Core.List.{IsPrefix}
 use Rattle.commands.specs.declared.config.Config.{Config}
-use Rattle.commands.specs.declared.exchange.Exchange.{Exchange}
 use Rattle.schedule_player.specs.Lines.{IsCutOnce}
 use Rattle.schedule_player.specs.Records.{header_line}
 use Rattle.locked_world.specs.HallState.{HallState}
-use Rattle.locked_world.specs.Halls.{hall_of}
 use Rattle.journal_disk.specs.DiskState.{DiskState}
-use Rattle.journal_disk.specs.Disks.{Changes}
-use Rattle.journal.specs.ChronicleState.{ChronicleState}
 use Rattle.journal.specs.Chronicles.{record_of_hall, chronicle_of}
 use Rattle.journal.specs.Journals.{HasSynced, IsHallOf, IsMended, missing_in}
-use Rattle.journal.specs.Openings.{IsRecord, IsFresh, IsRecovered}
-use Rattle.journal.proofs.Commits.{known_before, told_all}
+use Rattle.journal.specs.Openings.{IsRecovered}
+use Rattle.journal.proofs.Commits.{told_all}
 use Rattle.journal.proofs.Crashes.{cut_record}
 
 no_record : (h : HallState) → [] ≡ record_of_hall h → ⊥

@@ -1,8 +1,7 @@
 -- lines that are replayed one by one
-use Rattle.std.proofs.Common.{◌≡◌, ℕ, ◌+◌, ◌<◌, List, [], ◌∷◌, ◌++◌, length, flat_map, ap, sym, ◌∙◌, arith, append_assoc, length-append}
+use Rattle.std.proofs.Common.{◌≡◌, ℕ, ◌<◌, List, [], ◌∷◌, ◌++◌, length, flat_map, ap, sym, ◌∙◌, arith, append_assoc, length-append}
 use Rattle.std.proofs.lemmas.List.{append-nil}
 use Rattle.std.proofs.lemmas.Grind.{flat_map-append}
-use Rattle.commands.specs.declared.exchange.Exchange.{Exchange}
 use Rattle.schedule_player.specs.Records.{exchange_line}
 use Rattle.locked_world.specs.HallState.{HallState}
 use Rattle.journal.specs.Openings.{GoesOnBy}

@@ -1,5 +1,5 @@
 -- the lines of a chronicle, and what it may answer
-use Rattle.std.specs.Prelude.{◌≡◌, ℕ, List, take, drop, flat_map, length}
+use Rattle.std.specs.Prelude.{◌≡◌, ℕ, List, take, drop, flat_map}
 use Rattle.commands.specs.declared.reply.Reply.{Reply}
 use Rattle.commands.specs.Requests.{Request}
 use Rattle.schedule_player.specs.Records.{exchange_line}

@@ -1,4 +1,4 @@
-use Rattle.std.proofs.Common.{◌≡◌, ◌∙◌, sym, ap}
+use Rattle.std.proofs.Common.{◌∙◌, ap}
 use Rattle.locked_world.specs.HallState.{HallState}
 use Rattle.journal.proofs.Replays.{one_more}
 use Rattle.journal.proofs.opening.replay.Goals as goal

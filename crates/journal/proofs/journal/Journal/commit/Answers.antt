@@ -1,6 +1,5 @@
-use Rattle.std.proofs.Common.{◌≡◌, ◌∙◌, ◌++◌, List, ℕ, sym, subst, ap}
+use Rattle.std.proofs.Common.{◌≡◌, ◌∙◌, List, ℕ, sym, subst}
 use mathlib.Core.List.{IsPrefix}
-use Rattle.journal_disk.specs.DiskState.{DiskState}
 use Rattle.journal_disk.specs.Disks.{longer_by, synced_all}
 use Rattle.journal.specs.ChronicleState.{ChronicleState}
 use Rattle.journal.specs.Journals.{HasSynced}

@@ -1,4 +1,4 @@
-use Rattle.std.proofs.Common.{◌≡◌, ◌∙◌, ◌++◌, List, ℕ, length, refl, sym, ap, subst}
+use Rattle.std.proofs.Common.{◌∙◌, ◌++◌, List, ℕ, refl, sym, ap, subst}
 use Rattle.schedule_player.specs.Records.{header_line}
 use Rattle.journal_disk.specs.DiskState.{DiskState}
 use Rattle.journal.specs.ChronicleState.{ChronicleState}

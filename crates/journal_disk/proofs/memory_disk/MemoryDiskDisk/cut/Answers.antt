@@ -1,4 +1,4 @@
-use Rattle.std.proofs.Common.{◌≡◌, ◌∙◌, ◌/◌, ◌++◌, List, ℕ, ◌+◌, Some, min, subst, sym, ap, length, take, vec_len}
+use Rattle.std.proofs.Common.{◌≡◌, ◌∙◌, ℕ, ◌+◌, Some, min, subst, sym, ap, length, take}
 use Rattle.journal_disk.specs.DiskState.{DiskState}
 use Rattle.journal_disk.specs.Disks.{state_of, IsShortened}
 use Rattle.journal_disk.specs.Memories.{memory_state}
