@@ -119,7 +119,7 @@ fn words_at_end(rt: &impl Abort, alloc: Global, board: Board<Global>, grant: Gra
 {
     let mut out = Vec::new(alloc);
     out.push(grant).ok().expect(rt, "room for a grant");
-    let (words, _) = board.close(alloc, out).expect(rt, "room for the words");
+    let (words, _) = board.close_all(alloc, out).expect(rt, "room for the words");
     words
 }
 

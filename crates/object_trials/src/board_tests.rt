@@ -91,7 +91,7 @@ fn two_post_their_names(rt: HostRuntime) -> Result<(), Fail> {
     let mut out = Vec::new(rt.alloc());
     out.push(one)?;
     out.push(two)?;
-    let (words, _) = board.close(rt.alloc(), out)?;
+    let (words, _) = board.close_all(rt.alloc(), out)?;
     assert_eq!(rt; words.as_slice(), [10, 0, 20].as_slice());
     Ok(())
 }
@@ -162,7 +162,7 @@ fn last_at_end<'a>(
 {
     let mut out = Vec::new(alloc);
     out.push(grant).ok()?;
-    let (words, _) = board.close(heap, out).ok()?;
+    let (words, _) = board.close_all(heap, out).ok()?;
     words.as_slice().last().copied()
 }
 

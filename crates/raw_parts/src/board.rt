@@ -25,6 +25,7 @@ const MOST_NAMES: u64 = 127;
 /// Whoever holds a seat of the board may post and look names up at once with all others: no call waits.
 #[derive(Drop)]
 pub struct Board<A: Allocator> {
+    alloc: A,
     // It has no slots, so what a slot holds says nothing.
     table: Table<u8, BoardView, u64, Boarding, A>,
 }
@@ -66,8 +67,28 @@ impl<A: Allocator + Clone> Board<A> {
         ensures seat { IfOk result (λ r. r.1 ≡ reader_of r.0 0) }
     {
         let words = Vec::from_elem(alloc.clone()?, 0u64, names as usize)?;
-        let (table, seat) = Table::of_words(alloc, words.as_slice(), &names)?;
-        Ok((Board { table }, ReaderSeat { seat }))
+        let (table, seat) = Table::of_words(alloc.clone()?, words.as_slice(), &names)?;
+        Ok((Board { alloc, table }, ReaderSeat { seat }))
+    }
+
+    /// Ends the board, and tells its words by rising name, among them the grant's: `close_all` with one grant, whose words stand where
+    /// the board's own memory does. The grant is of this board. Where room for the words is refused, `NoMemory`, and the board is spent.
+    pub fn close(self, grant: Grant) -> Result<Vec<u64, A>, Refusal>
+        requires { grant.board ≡ self }
+        ensures count { IfOk result (λ v. vec_len v ≡ self.words) }
+        ensures grant { IfOk result (λ v. slice_index v.items (grant.name - 1) ≡ grant.identity) }
+        ensures range { (1 ≤ grant.name) × (grant.name ≤ self.words) }
+        ensures only { IfErr result (λ r. r ≡ Refusal.NoMemory) }
+    {
+        let Ok(alloc) = self.alloc.clone() else {
+            return Err(Refusal::NoMemory);
+        };
+        let (_, mut seat) = self.table.shared.load_new_seat::<Begin>(0);
+        self.gather(&mut seat, grant);
+        match self.read_all(alloc, &mut seat) {
+            Ok(words) => Ok(words),
+            Err(AllocError) => Err(Refusal::NoMemory),
+        }
     }
 }
 
@@ -224,7 +245,7 @@ impl<A: Allocator> Board<A> {
 
     /// Ends the board, and tells its words by rising name. `out` is the grants that the caller has, each of which finds its
     /// identity there; all are of this board. The words are what a last seat found, which read each once: `LastRead` keeps that.
-    pub fn close<B: Allocator, C: Allocator>(
+    pub fn close_all<B: Allocator, C: Allocator>(
         self,
         alloc: B,
         out: Vec<Grant, C>,

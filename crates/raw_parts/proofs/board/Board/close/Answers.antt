@@ -7,7 +7,8 @@ use Rattle.raw_parts.proofs.board.Board.close.Goals as goal
 pub load_new_seat-seat-requires : goal.load_new_seat-seat-requires
 load_new_seat-seat-requires g c = (c.self.invariant.0, may_begin c.self.inside.table.shared.key _)
 
-pub returns-clause-grants : goal.returns-clause-grants
-returns-clause-grants g c = λ i h e.
-    let has = c.gather_all.ensures.claims i h e in
-    c.in_ok-words.ensures.claims (claim (h.name - 1) h.identity) has.0 (subst (λ (t : TableId). h.name - 1 < t.words) (c.requires.ours i h e) has.1)
+pub returns-in-Ok-read_all-clause-grant : goal.returns-in-Ok-read_all-clause-grant
+returns-in-Ok-read_all-clause-grant g c =
+    let has = c.gather.ensures.claim in
+    let place = c.args.grant.name - 1 in
+    c.in-Ok-read_all.ensures.claims (claim place c.args.grant.identity) has.0 (subst (λ (t : TableId). place < t.words) c.requires has.1)

@@ -1,0 +1,13 @@
+use Rattle.std.proofs.Common.{◌-◌, ◌<◌, subst}
+use Rattle.atomic_table.specs.Seated.{TableId}
+use Rattle.raw_parts.specs.BoardView.{claim}
+use Rattle.raw_parts.proofs.Claims.{may_begin}
+use Rattle.raw_parts.proofs.board.Board.close_all.Goals as goal
+
+pub load_new_seat-seat-requires : goal.load_new_seat-seat-requires
+load_new_seat-seat-requires g c = (c.self.invariant.0, may_begin c.self.inside.table.shared.key _)
+
+pub returns-clause-grants : goal.returns-clause-grants
+returns-clause-grants g c = λ i h e.
+    let has = c.gather_all.ensures.claims i h e in
+    c.in_ok-words.ensures.claims (claim (h.name - 1) h.identity) has.0 (subst (λ (t : TableId). h.name - 1 < t.words) (c.requires.ours i h e) has.1)
