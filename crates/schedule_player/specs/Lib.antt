@@ -17,6 +17,7 @@ pub mod HeldLine
 pub mod Quick
 pub mod Digits
 pub mod Progress
+pub mod TalkerState
 pub mod PlayerState
 pub mod Granted
 pub mod Runs
@@ -32,6 +33,9 @@ pub mod DeskWorldProofs
 pub mod Kinds
 pub mod WorldRuns
 pub mod WorldProofs
+pub mod Says
+pub mod Shared
+pub mod SharedProofs
 pub mod Stands
 pub mod Played
 pub mod Recorded

@@ -14,6 +14,9 @@
 //! commands and of numbers in one pass, up to any byte that ends them, for whoever reads commands out of other text. `words` cuts
 //! bytes at a separator, and reads the numbers that words write.
 //!
+//! One side of a talk stands by itself (`Talker`): it takes lines, has a service answer them, and adds the replies to room that is lent
+//! to it, so that many can share one service (`law_of_sharing`). `Player` is a talker with its replies.
+//!
 //! A service answers events and tells owners by rules (`Service`), and a world is a service that is opened from a config
 //! (`World`). `play_in` plays in any world, and `play_on` on any service.
 //!
@@ -51,6 +54,7 @@ pub mod sink;
 pub mod source;
 mod splitter_world;
 pub mod summary;
+pub mod talker;
 pub mod tried;
 pub mod words;
 pub mod world;
@@ -61,7 +65,7 @@ pub use commands::{Bad, Command, Config, Event, Exchange, Reply, ShortReply, Wor
 pub use events::{EVENT_ROOM, print_event};
 pub use fault::Fault;
 pub use form::{Form, TURN_ROOM};
-pub use laws::{law_of_growths, law_of_lines, law_of_play, law_of_world};
+pub use laws::{law_of_growths, law_of_lines, law_of_play, law_of_sharing, law_of_world};
 pub use line_buffer::LineBuffer;
 pub use parse::parse_line;
 pub use playing::{MOST_READS, READ_BYTES, play, play_in, play_on};
@@ -73,5 +77,6 @@ pub use service::Service;
 pub use sink::Sink;
 pub use source::Source;
 pub use summary::Summary;
+pub use talker::Talker;
 pub use tried::Tried;
 pub use world::World;

@@ -1,14 +1,10 @@
 //! A run under way: bytes in, replies out.
 
-ghost use Rattle.std.specs.Prelude.{◌≡◌, true, ◌+◌, ◌*◌, ◌^◌, ◌<◌, ◌≤◌, [], length, take, IfOk, IfErr, OnOk, OnErr};
-ghost use Rattle.commands.specs.declared.reply.Reply.{Reply as DeskReply};
-ghost use Rattle.commands.specs.Replies.{with_view};
-ghost use Rattle.schedule_player.specs.Knows.{Knows, KnowsMeant};
-ghost use Rattle.schedule_player.specs.Progress.{after_meaning, after_line, after_bytes, after_end};
-ghost use Rattle.commands.specs.Requests.Request.{OwnerOf};
-ghost use Rattle.schedule_player.specs.Stands.{Advances, AdvancesOn, AdvancesAfresh, AdvancesWriting, AdvancesInPart, IsHeld, IsFresh, IsSent};
+ghost use Rattle.std.specs.Prelude.{◌≡◌, ◌+◌, ◌*◌, ◌^◌, ◌<◌, ◌≤◌, [], length, take, IfOk, IfErr, OnOk, OnErr};
+ghost use Rattle.schedule_player.specs.Knows.{Knows};
+ghost use Rattle.schedule_player.specs.Progress.{after_bytes, after_end};
+ghost use Rattle.schedule_player.specs.Stands.{Advances, AdvancesWriting, AdvancesInPart, IsFresh, IsSent};
 ghost use Rattle.schedule_player.specs.Records.{header_line};
-ghost use Rattle.schedule_player.specs.Turns.Turn.{Answered, Told, Ended, Misread};
 ghost use Rattle.schedule_player.specs.Written.{HasPartOf};
 ghost use Rattle.std.specs.Io.KnownBytes.{Appends};
 ghost use Rattle.schedule_player.specs.declared.replies.TheConstants.{HELD_REPLIES};
@@ -18,40 +14,29 @@ ghost use Rattle.schedule_player.specs.declared.as_record.TheConstants.{HEADER_R
 use crate::as_record::{HEADER_ROOM, print_header};
 use crate::fault::Fault;
 use crate::form::{Form, TURN_ROOM};
-use crate::line_buffer::LineBuffer;
-use crate::parse::parse_line;
-use crate::quick::quick_command;
 use crate::replies::{HELD_REPLIES, Replies};
 use crate::service::Service;
 use crate::sink::{Sink, put_all};
 use crate::summary::Summary;
-use commands::{Bad, Command, Config, Event, ShortReply, WorldKind};
-use memchr::memchr;
+use crate::talker::Talker;
+use commands::{Config, WorldKind};
 use std::alloc::Allocator;
-use std::marker::{Model, PhantomData};
+use std::marker::Model;
 use step_memory::{NoMemory, View};
 
-/// What ends a line.
-const LF: u8 = 10;
-
-/// A run under way: what answers events, the line so far, the replies that are not written yet, the counts, and
-/// whether `quit` was answered.
+/// A run under way: one side of a talk, and the replies that are not written yet.
 #[derive(Drop)]
 pub struct Player<A: Allocator, F: Form> {
-    kind: WorldKind,
-    line: LineBuffer<A>,
+    talker: Talker<A, F>,
     replies: Replies<A>,
-    summary: Summary,
-    over: bool,
-    form: PhantomData<F>,
 }
 
 impl<A: Allocator, F: Form> Model for Player<A, F> {
-    ghost use Rattle.schedule_player.specs.PlayerState.{PlayerState};
+    ghost use Rattle.schedule_player.specs.PlayerState.{PlayerState, player_of};
 
     ghost Value = { PlayerState };
 
-    ghost view = { λ p. record { kind = p.kind; line = p.line; replies = p.replies; summary = p.summary; over = p.over } };
+    ghost view = { λ p. player_of p.talker p.replies };
 }
 
 impl<A: Allocator + Clone, F: Form> Player<A, F> {
@@ -62,16 +47,9 @@ impl<A: Allocator + Clone, F: Form> Player<A, F> {
         let Ok(other) = alloc.clone() else {
             return Err(NoMemory);
         };
-        let line = LineBuffer::new(other)?;
+        let talker = Talker::new(other, kind)?;
         let replies = Replies::new(alloc)?;
-        Ok(Player {
-            kind,
-            line,
-            replies,
-            summary: Summary::new(),
-            over: false,
-            form: PhantomData,
-        })
+        Ok(Player { talker, replies })
     }
 }
 
@@ -80,124 +58,19 @@ impl<A: Allocator, F: Form> Player<A, F> {
     pub fn summary(&self) -> Summary
         ensures { result ≡ self.now.summary }
     {
-        self.summary
+        self.talker.summary()
     }
 
     /// Whether `quit` was answered.
     pub fn is_over(&self) -> bool
         ensures { result ≡ self.now.over }
     {
-        self.over
-    }
-
-    /// Counts the reply to an event, which shows this view where it shows one, and holds the text of both.
-    #[inline(always)]
-    fn hold_answered(&mut self, event: Event, reply: ShortReply, view: &View)
-        requires room { length self.old.replies + TURN_ROOM ≤ HELD_REPLIES }
-        requires count { self.old.summary.lines + 1 < 2 ^ 64 }
-        ensures held { IsHeld F.text self.old (Answered (record { event = event; reply = with_view reply view.now })) self.new }
-        ensures longer { length self.new.replies ≤ length self.old.replies + TURN_ROOM }
-    {
-        F::put_answered(event, reply, view, &mut self.replies);
-        self.summary.count_reply(reply);
-    }
-
-    /// Counts that it was told who has a name, and holds the text of it.
-    #[inline(always)]
-    fn hold_told(&mut self, n: u64, reply: ShortReply, view: &View)
-        requires room { length self.old.replies + TURN_ROOM ≤ HELD_REPLIES }
-        requires count { self.old.summary.lines + 1 < 2 ^ 64 }
-        ensures held { IsHeld F.text self.old (Told n (with_view reply view.now)) self.new }
-        ensures longer { length self.new.replies ≤ length self.old.replies + TURN_ROOM }
-    {
-        F::put_told(n, reply, view, &mut self.replies);
-        self.summary.count_reply(reply);
-    }
-
-    /// Counts `quit` and holds the text of it.
-    fn hold_ended(&mut self)
-        requires room { length self.old.replies + TURN_ROOM ≤ HELD_REPLIES }
-        requires count { self.old.summary.lines + 1 < 2 ^ 64 }
-        ensures held { IsHeld F.text self.old Ended self.new }
-        ensures longer { length self.new.replies ≤ length self.old.replies + TURN_ROOM }
-    {
-        F::put_ended(&mut self.replies);
-        self.summary.count_reply(ShortReply::Ok);
-    }
-
-    /// Counts a bad line and holds the text of it.
-    fn hold_misread(&mut self, bad: Bad)
-        requires room { length self.old.replies + TURN_ROOM ≤ HELD_REPLIES }
-        requires count { self.old.summary.lines + 1 < 2 ^ 64 }
-        ensures held { IsHeld F.text self.old (Misread bad) self.new }
-        ensures longer { length self.new.replies ≤ length self.old.replies + TURN_ROOM }
-    {
-        F::put_misread(bad, &mut self.replies);
-        self.summary.count_bad(bad);
-    }
-
-    /// Tells who has a name, counts the answer and holds the text of it. A function of its own, since a whole reply is a kilobyte.
-    #[inline(never)]
-    fn tell_owner<R, D: Service<R>>(&mut self, rt: &R, world: &mut D, n: u64, view: &mut View)
-        requires knows { D.knows (OwnerOf n) ≡ true }
-        requires room { length self.old.replies + TURN_ROOM ≤ HELD_REPLIES }
-        requires count { self.old.summary.lines + 1 < 2 ^ 64 }
-        ensures told { (reply : DeskReply) × D.may world.old (OwnerOf n) reply world.new × IsHeld F.text self.old (Told n reply) self.new }
-        ensures longer { length self.new.replies ≤ length self.old.replies + TURN_ROOM }
-    {
-        let reply = world.owner(rt, n).shorten(view);
-        self.hold_told(n, reply, view);
-    }
-
-    /// Answers what a line means, counts the answer and holds the text of both. `quit` ends the run.
-    #[inline(always)]
-    fn answer<R, D: Service<R>>(
-        &mut self,
-        rt: &R,
-        world: &mut D,
-        view: &mut View,
-        meaning: Result<Command, Bad>,
-    )
-        requires knows { KnowsMeant D.knows meaning }
-        requires room { length self.old.replies + TURN_ROOM ≤ HELD_REPLIES }
-        requires count { self.old.summary.lines + 1 < 2 ^ 64 }
-        ensures stands { AdvancesAfresh D.may F.text world.old self.old world.new self.new (λ p. after_meaning p meaning) }
-        ensures kept { self.new.kind ≡ self.old.kind }
-        ensures longer { length self.new.replies ≤ length self.old.replies + TURN_ROOM }
-        ensures counted { self.new.summary.lines ≡ self.old.summary.lines + 1 }
-    {
-        match meaning {
-            Ok(Command::Event(event)) => {
-                let reply = world.apply(rt, event, view);
-                self.hold_answered(event, reply, view);
-            }
-            Ok(Command::Owner(n)) => self.tell_owner(rt, world, n, view),
-            Ok(Command::Quit) => {
-                self.over = true;
-                self.hold_ended();
-            }
-            Err(bad) => self.hold_misread(bad),
-        }
-    }
-
-    /// Answers the line so far, which is whole, and begins the next.
-    fn answer_line<R, D: Service<R>>(&mut self, rt: &R, world: &mut D, view: &mut View)
-        requires knows { Knows D.knows self.old.kind }
-        requires room { length self.old.replies + TURN_ROOM ≤ HELD_REPLIES }
-        requires count { self.old.summary.lines + 1 < 2 ^ 64 }
-        ensures stands { AdvancesOn D.may F.text world.old self.old world.new self.new (after_line self.old.kind) }
-        ensures kept { self.new.kind ≡ self.old.kind }
-        ensures longer { length self.new.replies ≤ length self.old.replies + TURN_ROOM }
-        ensures counted { self.new.summary.lines ≡ self.old.summary.lines + 1 }
-    {
-        let meaning = self.line.meaning(self.kind);
-        self.line.clear();
-        self.answer(rt, world, view, meaning);
+        self.talker.is_over()
     }
 
     /// Takes the first line of these bytes with its LF, or all of them where none ends, and says how many bytes it took.
     /// After `quit` nothing is acted on.
-    #[inline(never)]
+    #[inline(always)]
     fn take<R, D: Service<R>>(
         &mut self,
         rt: &R,
@@ -215,49 +88,7 @@ impl<A: Allocator, F: Form> Player<A, F> {
         ensures longer { length self.new.replies ≤ length self.old.replies + TURN_ROOM }
         ensures counted { self.new.summary.lines ≤ self.old.summary.lines + 1 }
     {
-        if self.over {
-            return bytes.len();
-        }
-        if self.line.is_empty() {
-            if let Some((command, end)) = quick_command(bytes, self.kind, LF) {
-                self.answer(rt, world, view, Ok(command));
-                return end + 1;
-            }
-        }
-        self.take_slowly(rt, world, view, bytes)
-    }
-
-    /// As `take`, where the run goes on, for any line: one that lies whole in these bytes is read where it lies.
-    #[inline(never)]
-    fn take_slowly<R, D: Service<R>>(
-        &mut self,
-        rt: &R,
-        world: &mut D,
-        view: &mut View,
-        bytes: &[u8],
-    ) -> usize
-        requires knows { Knows D.knows self.old.kind }
-        requires room { length self.old.replies + TURN_ROOM ≤ HELD_REPLIES }
-        requires count { self.old.summary.lines + 1 < 2 ^ 64 }
-        requires some { 0 < length bytes.now }
-        ensures taken { (0 < result) × (result ≤ length bytes.now) }
-        ensures stands { AdvancesOn D.may F.text world.old self.old world.new self.new (λ p. after_bytes self.old.kind p (take result bytes.now)) }
-        ensures kept { self.new.kind ≡ self.old.kind }
-        ensures longer { length self.new.replies ≤ length self.old.replies + TURN_ROOM }
-        ensures counted { self.new.summary.lines ≤ self.old.summary.lines + 1 }
-    {
-        let Some(end) = memchr(LF, bytes) else {
-            self.line.extend(bytes);
-            return bytes.len();
-        };
-        if self.line.is_empty() {
-            let meaning = parse_line(&bytes[..end], self.kind);
-            self.answer(rt, world, view, meaning);
-            return end + 1;
-        }
-        self.line.extend(&bytes[..end]);
-        self.answer_line(rt, world, view);
-        end + 1
+        self.talker.take(rt, world, view, bytes, &mut self.replies)
     }
 
     /// Writes the replies that are held.
@@ -376,8 +207,6 @@ impl<A: Allocator, F: Form> Player<A, F> {
         ensures stands { Advances D.may F.text world.old self.old world.new self.new (after_end self.old.kind) }
         ensures longer { length self.new.replies ≤ length self.old.replies + TURN_ROOM }
     {
-        if !self.over && !self.line.is_empty() {
-            self.answer_line(rt, world, view);
-        }
+        self.talker.finish(rt, world, view, &mut self.replies);
     }
 }

@@ -1,5 +1,5 @@
 use Rattle.std.proofs.Common.{rules, []}
-use Rattle.schedule_player.proofs.player.Player.hold_ended.Goals as goal
+use Rattle.schedule_player.proofs.talker.Talker.hold_ended.Goals as goal
 
 -- the reply to `quit` shows no view
 pub returns-clause-held : goal.returns-clause-held

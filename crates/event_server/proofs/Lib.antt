@@ -1,0 +1,2 @@
+mod WireLemmas
+mod SeatLemmas

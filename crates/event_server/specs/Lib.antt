@@ -1,0 +1,4 @@
+pub mod WireState
+pub mod Wires
+pub mod Rooms
+pub mod Seats

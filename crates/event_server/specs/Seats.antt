@@ -1,0 +1,85 @@
+-- a turn of the loop, over connections that have seats: what each takes and sends, and the one order of all that was said
+use Rattle.std.specs.Prelude.{◌≡◌, ◌≢◌, ℕ, List, [], length, get_or, Option, Some, None}
+use Rattle.commands.specs.declared.reply.Reply.{Reply}
+use Rattle.commands.specs.Requests.{Request}
+use Rattle.schedule_player.specs.Runs.{Runs}
+use Rattle.schedule_player.specs.Shared.{TurnLog, turns_of, all_turns}
+use Rattle.schedule_player.specs.Turns.{Turn}
+use Rattle.event_server.specs.WireState.{WireState}
+use Rattle.event_server.specs.Wires.{TakesOf, SendsTo}
+
+-- what a contract sees of a connection: what its stream has left to give and has taken, and its wire
+pub record Seating (C : Type 0) : Type 0 where
+  pub left : C → Option (List ℕ)
+  pub gone : C → Option (List ℕ)
+  pub wire : C → WireState
+
+abbrev pub seating : {C : Type 0} → (C → Option (List ℕ)) → (C → Option (List ℕ)) → (C → WireState) → Seating C
+seating left gone wire = record { left = left; gone = gone; wire = wire }
+
+module _ {C : Type 0} (on : Seating C) where
+  -- by these turns a connection takes what came, and nothing is sent; an empty seat stays empty
+  abbrev pub SeatTakes : List Turn → Option C → Option C → Type 0
+  SeatTakes turns None None = turns ≡ []
+  SeatTakes turns None (Some c) = ⊥
+  SeatTakes turns (Some c) None = ⊥
+  SeatTakes turns (Some c) (Some d) = TakesOf turns (on.left c) (on.wire c) (on.left d) (on.wire d) × (on.gone d ≡ on.gone c)
+
+  -- a connection sends some of what waits, and nothing is read
+  abbrev pub SeatSends : Option C → Option C → Type 0
+  SeatSends None None = Unit {0}
+  SeatSends None (Some c) = ⊥
+  SeatSends (Some c) None = ⊥
+  SeatSends (Some c) (Some d) = SendsTo (on.gone c) (on.wire c) (on.gone d) (on.wire d) × (on.left d ≡ on.left c)
+
+  -- the turns of all connections, in the one order of this log, lead the service from w to u, and those of each seat are what its
+  -- connection took
+  pub record TurnsTaken {T : Type 0} (may : T → Request → Reply → T → Type 0) (w : T) (seats : List (Option C)) (log : TurnLog) (u : T) (seats' : List (Option C)) : Type 0 where
+    pub run : Runs may w (all_turns log) u
+    pub each : (i : ℕ) → SeatTakes (turns_of i log) (get_or seats i None) (get_or seats' i None)
+    pub many : length seats' ≡ length seats
+
+  -- each connection has sent some of what waits for it
+  pub record RepliesSent (seats seats' : List (Option C)) : Type 0 where
+    pub each : (i : ℕ) → SeatSends (get_or seats i None) (get_or seats' i None)
+    pub many : length seats' ≡ length seats
+
+  -- nothing was sent to any
+  abbrev pub NoneSent : List (Option C) → List (Option C) → Type 0
+  NoneSent seats seats' = (i : ℕ) (c d : C) → get_or seats i None ≡ Some c → get_or seats' i None ≡ Some d → on.gone d ≡ on.gone c
+
+  -- one connection has its turn
+  pub record SeatTurn {T : Type 0} (may : T → Request → Reply → T → Type 0) (Due : C → Type 0) (key : ℕ) (w : T) (seats : List (Option C)) (u : T) (seats' : List (Option C)) : Type 0 where
+    pub turns : List Turn
+    pub run : Runs may w turns u
+    pub was : C
+    pub is : C
+    pub was_there : get_or seats key None ≡ Some was
+    pub is_there : get_or seats' key None ≡ Some is
+    pub due : Due was
+    pub done : Due is → ⊥
+    pub takes : SeatTakes turns (Some was) (Some is)
+    pub others : (i : ℕ) → i ≢ key → get_or seats' i None ≡ get_or seats i None
+    pub many : length seats' ≡ length seats
+
+  -- one connection sends what waits
+  pub record SeatSent (Due : C → Type 0) (key : ℕ) (seats seats' : List (Option C)) : Type 0 where
+    pub was : C
+    pub is : C
+    pub was_there : get_or seats key None ≡ Some was
+    pub is_there : get_or seats' key None ≡ Some is
+    pub due : Due was
+    pub done : Due is → ⊥
+    pub sends : SeatSends (Some was) (Some is)
+    pub others : (i : ℕ) → i ≢ key → get_or seats' i None ≡ get_or seats i None
+    pub many : length seats' ≡ length seats
+
+  -- a turn of the loop: all turns of all connections, in the one order of a log, lead the service from w to where it was when what it tells
+  -- was kept; only then was anything sent
+  pub record LoopTurn {T : Type 0} (may : T → Request → Reply → T → Type 0) (keeps : T → T → Type 0) (w : T) (seats : List (Option C)) (u : T) (seats' : List (Option C)) : Type 0 where
+    pub log : TurnLog
+    pub told : T
+    pub between : List (Option C)
+    pub taken : TurnsTaken may w seats log told between
+    pub kept : keeps told u
+    pub sent : RepliesSent between seats'

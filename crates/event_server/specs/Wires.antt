@@ -1,0 +1,51 @@
+-- what a connection takes and sends in a turn of the loop
+use Rattle.std.specs.Prelude.{◌≡◌, ◌≤◌, ℕ, ◌++◌, ◌||◌, if◌then◌else◌, List, [], Bool, true, false, length, Option}
+use Rattle.std.specs.Io.KnownBytes.{Appends, Consumes, IsAtEnd}
+use Rattle.commands.specs.declared.kind.WorldKind.{WorldKind}
+use Rattle.schedule_player.specs.Progress.{Progress, after_bytes, after_end}
+use Rattle.schedule_player.specs.Says.{Spoke, IsSilent}
+use Rattle.schedule_player.specs.Texts.{replies_of}
+use Rattle.schedule_player.specs.Turns.{Turn}
+use Rattle.event_server.specs.WireState.{WireState}
+
+-- nothing came, nothing was said
+pub record IsNewWire (kind : WorldKind) (s : WireState) : Type 0 where
+  pub silent : IsSilent kind s.talker
+  pub inbox : s.inbox ≡ []
+  pub outbox : s.outbox ≡ []
+  pub ended : s.ended ≡ false
+  pub broken : s.broken ≡ false
+
+-- where a talk stands once these bytes are taken, and then the end where it came
+abbrev pub after_taken : WorldKind → List ℕ → Bool → Progress → Progress
+after_taken kind taken ends p = if ends then after_end kind (after_bytes kind p taken) else after_bytes kind p taken
+
+-- behind what waited to be taken these bytes came, and the end where it says so. A beginning of all that is taken, by these turns; the
+-- rest waits, and so do the replies to them, behind those that waited to be sent, but where it is at fault
+pub record Takes (turns : List Turn) (came : List ℕ) (ends : Bool) (s s' : WireState) : Type 0 where
+  pub taken : List ℕ
+  pub rest : List ℕ
+  pub parts : s.inbox ++ came ≡ taken ++ rest
+  pub goes_on : (before : List Turn) (p : Progress) → Spoke before s.talker p → Spoke (before ++ turns) s'.talker (after_taken s.talker.kind taken ends p)
+  pub kind_is : s'.talker.kind ≡ s.talker.kind
+  pub ended_is : s'.ended ≡ (s.ended || ends)
+  pub kept : s'.broken ≡ false → (s'.inbox ≡ rest) × (s'.outbox ≡ s.outbox ++ replies_of turns) × (s.broken ≡ false)
+
+-- the same, where the bytes came of a stream that had so much left: at most 64 KiB, and the end only where it had no more
+pub record TakesOf (turns : List Turn) (left : Option (List ℕ)) (s : WireState) (left' : Option (List ℕ)) (s' : WireState) : Type 0 where
+  pub came : List ℕ
+  pub ends : Bool
+  pub few : length came ≤ 65536
+  pub gave : Consumes left left' came
+  pub at_end : ends ≡ true → IsAtEnd left'
+  pub takes : Takes turns came ends s s'
+
+-- a beginning of what waited was sent, and nothing else
+pub record SendsTo (gone : Option (List ℕ)) (s : WireState) (gone' : Option (List ℕ)) (s' : WireState) : Type 0 where
+  pub sent : List ℕ
+  pub gained : Appends gone gone' sent
+  pub parts : s.outbox ≡ sent ++ s'.outbox
+  pub talker_is : s'.talker ≡ s.talker
+  pub inbox_is : s'.inbox ≡ s.inbox
+  pub ended_is : s'.ended ≡ s.ended
+  pub whole : s'.broken ≡ false → s.broken ≡ false

@@ -1,0 +1,286 @@
+//! A server in one thread, by the readiness of its sockets.
+
+ghost use Rattle.std.specs.Prelude.{◌≡◌, true};
+ghost use Rattle.commands.specs.Requests.{Request};
+ghost use Rattle.event_server.specs.Rooms.{IsRoom};
+
+use crate::host_fault::HostFault;
+use crate::house::House;
+use crate::keep::Keep;
+use crate::room::Room;
+use crate::turns::turn;
+use commands::WorldKind;
+use mio::net::TcpListener;
+use mio::unix::SourceFd;
+use mio::{Events, Interest, Poll, Token};
+use schedule_player::Service;
+use std::alloc::Global;
+use std::io::{ErrorKind, Write};
+use std::net::{Net, SocketAddr};
+use std::rt::Clock;
+use std::sync::Wait;
+use std::time::{Duration, Instant};
+
+/// The token of the listener; no seat has it.
+const LISTENER: Token = Token(1 << 60);
+
+/// The token of standard input.
+const STOPPER: Token = Token((1 << 60) + 1);
+
+/// How many events are told at once.
+const EVENTS: usize = 1024;
+
+/// The most connections that are accepted in one turn.
+const MOST_ACCEPTS: u32 = 1024;
+
+/// How many ticks of a tenth of a second are waited at the end for replies to be taken.
+const LAST_TICKS: u64 = 10;
+
+/// What a host serves.
+#[derive(Clone, Copy, Debug, Drop)]
+pub struct HostOptions {
+    /// The address and port that are listened on; with port 0 any that is free.
+    pub address: SocketAddr,
+    /// The world whose commands clients speak.
+    pub kind: WorldKind,
+    /// How many clients are served at once; others wait to be accepted.
+    pub clients: usize,
+    /// After how many seconds a client that says nothing is closed; never, where it is not given.
+    pub idle: Option<u64>,
+}
+
+/// What was served.
+#[derive(Clone, Copy, Debug, Drop, PartialEq, Eq)]
+pub struct Hosted {
+    /// How many connections were served, those that ended by a fault of their own among them.
+    pub served: u64,
+}
+
+/// A server under way.
+#[derive(Drop)]
+struct Hosting {
+    alloc: Global,
+    options: HostOptions,
+    poll: Poll,
+    listener: TcpListener,
+    house: House,
+    start: Instant,
+    tick: u64,
+    /// Whether connections may wait to be accepted.
+    waiting: bool,
+    /// Whether one could not be accepted, until one leaves.
+    full: bool,
+    /// Whether it was said that one could not be accepted.
+    said: bool,
+    stop: bool,
+}
+
+/// Serves clients of one service, each its own talk, in one thread.
+///
+/// A line `listening ADDRESS:PORT` is written first. Each turn takes what clients have sent, keeps what the service tells of it, and only then
+/// sends replies (`turn`). It ends at the end of standard input where that is a pipe, or else never: then replies are sent, as far as
+/// clients take them within a second, and a line `served N` is written.
+pub fn host<R, D: Service<R>, K: Keep<D>, W: Write, E: Write>(
+    rt: &R,
+    alloc: Global,
+    options: HostOptions,
+    service: &mut D,
+    keep: &mut K,
+    output: &mut W,
+    errors: &mut E,
+) -> Result<Hosted, HostFault<K::Fault>>
+where
+    R: Net + Wait + Clock,
+    requires { (q : Request) → D.knows q ≡ true }
+{
+    let mut hosting = Hosting::new(rt, alloc, options)?;
+    let Ok(mut events) = Events::with_capacity(alloc, EVENTS) else {
+        return Err(HostFault::Memory);
+    };
+    let mut room = Room::new(alloc)?;
+    hosting.tell_port(output)?;
+    for _ in rt.forever() {
+        let wait = hosting.next_wait();
+        hosting.wait(rt, &mut events, wait)?;
+        hosting.accept_all(errors)?;
+        hosting.serve(rt, service, keep, &mut room)?;
+        if hosting.stop {
+            break;
+        }
+    }
+    hosting.finish(rt, service, keep, &mut room, &mut events)?;
+    hosting.tell_end(output)
+}
+
+impl Hosting {
+    // Listens.
+    fn new<R: Net + Clock, F>(
+        rt: &R,
+        alloc: Global,
+        options: HostOptions,
+    ) -> Result<Hosting, HostFault<F>> {
+        let poll = Poll::new(rt)?;
+        let mut listener = TcpListener::bind(rt, options.address)?;
+        poll.registry()
+            .register(&mut listener, LISTENER, Interest::READABLE)?;
+        // A file or the null device cannot be waited for, and never stops the server.
+        let _ = poll
+            .registry()
+            .register(&mut SourceFd(&0), STOPPER, Interest::READABLE);
+        let start = Instant::now(rt)?;
+        Ok(Hosting {
+            alloc,
+            options,
+            poll,
+            listener,
+            house: House::new(alloc),
+            start,
+            tick: 0,
+            waiting: false,
+            full: false,
+            said: false,
+            stop: false,
+        })
+    }
+
+    // For how long nothing need be done: no time where connections are due, a second where some are open, else any time.
+    fn next_wait(&self) -> Option<Duration> {
+        if !self.house.ready.is_empty() {
+            Some(Duration::from_millis(0))
+        } else if 0 < self.house.open || self.full {
+            Some(Duration::from_millis(1000))
+        } else {
+            None
+        }
+    }
+
+    // Waits, and notes what the system tells.
+    fn wait<R: Clock, F>(
+        &mut self,
+        rt: &R,
+        events: &mut Events<Global>,
+        wait: Option<Duration>,
+    ) -> Result<(), HostFault<F>> {
+        self.poll.poll(events, wait)?;
+        for event in &*events {
+            match event.token() {
+                LISTENER => self.waiting = true,
+                STOPPER => self.stop = self.stop || event.is_read_closed(),
+                _ => self.house.note(event)?,
+            }
+        }
+        let tick = self.start.elapsed(rt)?.as_secs();
+        if self.tick < tick {
+            self.tick = tick;
+            self.full = false;
+            self.house.sweep(tick, self.options.idle);
+        }
+        Ok(())
+    }
+
+    // Accepts who waits, as far as there is room.
+    fn accept_all<E: Write, F>(&mut self, errors: &mut E) -> Result<(), HostFault<F>> {
+        for _ in 0..MOST_ACCEPTS {
+            if !self.waiting || self.full || self.options.clients <= self.house.open || self.stop {
+                break;
+            }
+            self.accept(errors)?;
+        }
+        Ok(())
+    }
+
+    // Gives each connection that is due its turn.
+    fn serve<R, D: Service<R>, K: Keep<D>>(
+        &mut self,
+        rt: &R,
+        service: &mut D,
+        keep: &mut K,
+        room: &mut Room<Global>,
+    ) -> Result<(), HostFault<K::Fault>>
+        requires knows { (q : Request) → D.knows q ≡ true }
+        requires room { IsRoom room.old }
+        ensures { IsRoom room.new }
+    {
+        let seats = &mut self.house.seats;
+        let called = match turn(rt, service, keep, room, seats, &self.house.ready) {
+            Ok(called) => called,
+            Err(fault) => return Err(HostFault::Keep(fault)),
+        };
+        let before = self.house.open;
+        self.house.settle(called, self.tick)?;
+        self.full = self.full && before <= self.house.open;
+        Ok(())
+    }
+
+    // Accepts one connection, if one waits. Where the system has no room for it, says so once, and waits until another leaves.
+    fn accept<E: Write, F>(&mut self, errors: &mut E) -> Result<(), HostFault<F>> {
+        match self.listener.accept() {
+            Ok((stream, _)) => {
+                self.house.admit(self.alloc, &self.poll, self.options.kind, stream, self.tick)?;
+            }
+            Err(e) => match e.kind() {
+                ErrorKind::WouldBlock => self.waiting = false,
+                ErrorKind::Interrupted | ErrorKind::ConnectionAborted => {}
+                _ => self.pause(errors),
+            },
+        }
+        Ok(())
+    }
+
+    // No more are accepted for now.
+    fn pause<E: Write>(&mut self, errors: &mut E) {
+        self.full = true;
+        if !self.said {
+            self.said = true;
+            let _ = errors.write_all(
+                b"slotctl: no room for more connections; those that wait are accepted as others leave\n",
+            );
+        }
+    }
+
+    // Sends what waits, for about a second.
+    fn finish<R: Clock, D: Service<R>, K: Keep<D>>(
+        &mut self,
+        rt: &R,
+        service: &mut D,
+        keep: &mut K,
+        room: &mut Room<Global>,
+        events: &mut Events<Global>,
+    ) -> Result<(), HostFault<K::Fault>>
+        requires knows { (q : Request) → D.knows q ≡ true }
+        requires room { IsRoom room.old }
+    {
+        for _ in 0..LAST_TICKS {
+            if !self.house.has_unsent() {
+                return Ok(());
+            }
+            self.wait(rt, events, Some(Duration::from_millis(100)))?;
+            self.serve(rt, service, keep, room)?;
+        }
+        Ok(())
+    }
+
+    // Says where clients are listened for.
+    fn tell_port<W: Write, F>(&self, output: &mut W) -> Result<(), HostFault<F>> {
+        let address = self.listener.local_addr()?;
+        let Ok(line) = format!(in self.alloc; "listening {address}\n") else {
+            return Err(HostFault::Memory);
+        };
+        if output.write_all(line.as_bytes()).is_err() || output.flush().is_err() {
+            return Err(HostFault::Output);
+        }
+        Ok(())
+    }
+
+    // Says how many were served: those that have left, and those that are there.
+    fn tell_end<W: Write, F>(&self, output: &mut W) -> Result<Hosted, HostFault<F>> {
+        let served = self.house.served.saturating_add(self.house.open as u64);
+        let Ok(line) = format!(in self.alloc; "served {served}\n") else {
+            return Err(HostFault::Memory);
+        };
+        if output.write_all(line.as_bytes()).is_err() || output.flush().is_err() {
+            return Err(HostFault::Output);
+        }
+        Ok(Hosted { served })
+    }
+}

@@ -1,0 +1,36 @@
+//! Connections that share one service, in one thread.
+//!
+//! A `Wire` is a connection without its stream: one side of a talk (`Talker`), what came and is not taken yet, and what was said and is not
+//! sent yet, at most 64 KiB of each. A `Connection` is a wire with its `Stream`, which does not wait. `turn` is one turn of the loop:
+//! connections that are due take what came (`take_turns`), what the service tells of it is kept (`Keep`), and only then are replies sent
+//! (`send_replies`). Its theorem (`LoopTurn`): there is one order of all turns of all connections (`TurnLog`) in which they are a run of
+//! the service; the turns of each connection are those to the lines that it sent, in order, however the bytes were cut, and it waits for
+//! the replies to them and to no others; of each at most 64 KiB were read; and of what waits for it a beginning is sent. Where what was
+//! told cannot be kept, nothing is sent at all.
+//!
+//! `law_of_sharing` in `schedule_player` makes such turns, one after another, one log.
+//!
+//! `host` is a whole server over sockets: it waits until some are ready (`mio`), gives those their turn, and closes who is at an end or idle.
+//!
+//! Not promised, and shown by running it: that a connection that is due has its turn soon, and what sockets carry.
+#![tactic(auto)]
+
+pub mod connection;
+pub mod host_fault;
+pub mod hosting;
+pub mod house;
+pub mod keep;
+pub mod room;
+pub mod socket;
+pub mod stream;
+pub mod turns;
+pub mod wire;
+
+pub use connection::{Connection, Stage};
+pub use host_fault::HostFault;
+pub use hosting::{HostOptions, Hosted, host};
+pub use keep::Keep;
+pub use room::{READ_ROOM, Room};
+pub use stream::Stream;
+pub use turns::{send_replies, take_turns, turn};
+pub use wire::{MOST_LINES, UNSENT_ROOM, Wire};

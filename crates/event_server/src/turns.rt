@@ -1,0 +1,112 @@
+//! One turn of the loop.
+
+ghost use Rattle.std.specs.Prelude.{◌≡◌, ◌⊎◌, ◌+◌, ◌≤◌, true, length, OnOk, IfOk, OnErr};
+ghost use Rattle.commands.specs.Requests.{Request};
+ghost use Rattle.schedule_player.specs.Shared.{TurnLog};
+ghost use Rattle.event_server.specs.Rooms.{IsRoom};
+ghost use Rattle.event_server.specs.Seats.{seating, TurnsTaken, RepliesSent, NoneSent, SeatTurn, SeatSent, LoopTurn};
+
+use crate::connection::{Connection, Stage};
+use crate::keep::Keep;
+use crate::room::Room;
+use crate::stream::Stream;
+use schedule_player::Service;
+use std::alloc::Allocator;
+
+// The connection of a seat has its turn, where there is one and its turn is due.
+fn take_at<R, D: Service<R>, S: Stream, A: Allocator, B: Allocator>(
+    rt: &R,
+    service: &mut D,
+    room: &mut Room<B>,
+    seats: &mut [Option<Connection<S, A>>],
+    key: usize,
+)
+    requires knows { (q : Request) → D.knows q ≡ true }
+    requires room { IsRoom room.old }
+    ensures took { ((service.new ≡ service.old) × (seats.new ≡ seats.old)) ⊎
+        SeatTurn (seating (λ c. S.left c.stream) (λ c. S.gone c.stream) (λ c. c.wire)) D.may (λ c. c.stage ≡ Stage.Queued) key service.old seats.old service.new seats.new }
+    ensures room { IsRoom room.new }
+{
+    if key < seats.len() {
+        if let Some(connection) = &mut seats[key] {
+            if let Stage::Queued = connection.stage {
+                connection.take(rt, service, room);
+            }
+        }
+    }
+}
+
+/// The connections of these seats have their turns, one after another, until so much is told that it is to be kept. Says how many
+/// of the seats were called. Nothing is sent.
+pub fn take_turns<R, D: Service<R>, K: Keep<D>, S: Stream, A: Allocator, B: Allocator>(
+    rt: &R,
+    service: &mut D,
+    keep: &K,
+    room: &mut Room<B>,
+    seats: &mut [Option<Connection<S, A>>],
+    ready: &[usize],
+) -> usize
+    requires knows { (q : Request) → D.knows q ≡ true }
+    requires room { IsRoom room.old }
+    ensures taken { (log : TurnLog) × TurnsTaken (seating (λ c. S.left c.stream) (λ c. S.gone c.stream) (λ c. c.wire)) D.may service.old seats.old log service.new seats.new }
+    ensures called { result ≤ length ready.now }
+    ensures room { IsRoom room.new }
+{
+    let mut called = 0;
+    while called < ready.len() && !keep.is_full(service) {
+        take_at(rt, service, room, seats, ready[called]);
+        called += 1;
+    }
+    called
+}
+
+// The connection of a seat sends what waits, where there is one and its turn is taken.
+fn send_at<S: Stream, A: Allocator>(seats: &mut [Option<Connection<S, A>>], key: usize)
+    ensures sent { (seats.new ≡ seats.old) ⊎
+        SeatSent (seating (λ c. S.left c.stream) (λ c. S.gone c.stream) (λ c. c.wire)) (λ c. c.stage ≡ Stage.Taken) key seats.old seats.new }
+{
+    if key < seats.len() {
+        if let Some(connection) = &mut seats[key] {
+            if let Stage::Taken = connection.stage {
+                connection.send();
+            }
+        }
+    }
+}
+
+/// The connections of these seats send what waits, as far as their streams take it now.
+pub fn send_replies<S: Stream, A: Allocator>(
+    seats: &mut [Option<Connection<S, A>>],
+    called: &[usize],
+)
+    ensures { RepliesSent (seating (λ c. S.left c.stream) (λ c. S.gone c.stream) (λ c. c.wire)) seats.old seats.new }
+{
+    for key in called {
+        send_at(seats, *key);
+    }
+}
+
+/// One turn of the loop: the connections of these seats take what came, what the service tells of it is kept, and only then are
+/// replies sent. Says how many of the seats were called; the others are to be called in the next turn.
+///
+/// The fault of what keeps, with no byte sent.
+pub fn turn<R, D: Service<R>, K: Keep<D>, S: Stream, A: Allocator, B: Allocator>(
+    rt: &R,
+    service: &mut D,
+    keep: &mut K,
+    room: &mut Room<B>,
+    seats: &mut [Option<Connection<S, A>>],
+    ready: &[usize],
+) -> Result<usize, K::Fault>
+    requires knows { (q : Request) → D.knows q ≡ true }
+    requires room { IsRoom room.old }
+    ensures turned { OnOk result (LoopTurn (seating (λ c. S.left c.stream) (λ c. S.gone c.stream) (λ c. c.wire)) D.may K.keeps service.old seats.old service.new seats.new) }
+    ensures unsent { OnErr result (NoneSent (seating (λ c. S.left c.stream) (λ c. S.gone c.stream) (λ c. c.wire)) seats.old seats.new) }
+    ensures called { IfOk result (λ called. called ≤ length ready.now) }
+    ensures room { IsRoom room.new }
+{
+    let called = take_turns(rt, service, keep, room, seats, ready);
+    keep.keep(service)?;
+    send_replies(seats, &ready[..called]);
+    Ok(called)
+}
