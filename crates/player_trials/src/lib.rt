@@ -15,6 +15,8 @@ mod growth_tests;
 #[cfg(test)]
 mod line_buffer_tests;
 #[cfg(test)]
+mod order_tests;
+#[cfg(test)]
 mod parse_tests;
 #[cfg(test)]
 mod playing_tests;

@@ -139,6 +139,31 @@ fn visits_of_a_splitter_end_by_a_way(rt: HostRuntime) {
     }
 }
 
+/// How often a reader is read that gives four bytes a read.
+fn reads_of(alloc: Global, config: Config, input: &[u8]) -> u64 {
+    let p = run_of(
+        config,
+        alloc,
+        Drip::new(input, 4, 0),
+        Cup::new(alloc, 64, 0, false),
+    );
+    p.reads
+}
+
+#[test]
+fn nothing_is_read_after_the_end_or_after_quit(rt: HostRuntime) {
+    for world in WORLDS {
+        let config = config(&rt, world, 2);
+        assert_eq!(rt; reads_of(rt.alloc(), config, b""), 1);
+        assert_eq!(rt; reads_of(rt.alloc(), config, b"step 70\nstep 7\n"), 5);
+        assert_eq!(rt; reads_of(rt.alloc(), config, b"step 70\nstep 77"), 5);
+        assert_eq!(rt;
+            reads_of(rt.alloc(), config, b"begin 7\nquit\nbegin 8\nbegin 9\n"),
+            4
+        );
+    }
+}
+
 /// How many lines a run counts, and how many of them were accepted, refused and bad.
 fn counted(rt: &impl Abort, alloc: Global, config: Config, input: &[u8]) -> [u64; 4] {
     let p = run_of(
