@@ -1,6 +1,7 @@
 -- Replicas that share one log (state machine replication: Schneider 1990).
 use Rattle.std.specs.Prelude.{◌≡◌, ℕ, List, [], ◌∷◌, ◌++◌, All, Some, slice_get}
 use mathlib.Core.List.{IsPrefix}
+use Rattle.one_log.specs.GroupState.{GroupState}
 use Rattle.one_log.specs.Places.{stands_in}
 use Rattle.one_log.specs.Replicas.{Follows}
 
@@ -19,6 +20,15 @@ pub record IsDueIn (due : List (List ℕ) → List ℕ → List ℕ) (log : List
 pub record IsOneHistory (due : List (List ℕ) → List ℕ → List ℕ) (log : List (List ℕ)) (applied : List (List (List ℕ))) (told : List Told) : Type 0 where
   pub prefixes : All (λ one. IsPrefix one log) applied
   pub answers : All (IsDueIn due log) told
+
+-- one history with all that was told before is one still
+abbrev pub StaysOneHistory : (List (List ℕ) → List ℕ → List ℕ) → GroupState → GroupState → Type 0
+StaysOneHistory due old new = (told : List Told) → IsOneHistory due old.log old.applied told → IsOneHistory due new.log new.applied told
+
+-- and it is one with these replies to a batch told behind all others
+abbrev pub TellsOneMore : (List (List ℕ) → List ℕ → List ℕ) → GroupState → GroupState → List ℕ → List ℕ → Type 0
+TellsOneMore due old new batch replies = (told : List Told) → IsOneHistory due old.log old.applied told →
+    IsOneHistory due new.log new.applied (told ++ record { batch = batch; replies = replies } ∷ [])
 
 -- each replica follows the log
 abbrev pub AllFollow : List (List ℕ) → List (List (List ℕ)) → Type 0

@@ -1,8 +1,8 @@
 //! Several replicas that share one log in memory.
 
-ghost use Rattle.std.specs.Prelude.{◌≡◌, ◌≢◌, ◌<◌, ℕ, List, [], ◌∷◌, ◌++◌, ◌⊎◌, length, slice_get, Ok, Err, Some, OnOk, OnErr, IfOk, IfErr};
+ghost use Rattle.std.specs.Prelude.{◌≡◌, ◌≢◌, ◌<◌, ℕ, [], ◌∷◌, ◌++◌, ◌⊎◌, length, slice_get, Ok, OnOk, OnErr, IfOk, IfErr};
 ghost use Rattle.one_log.specs.Causes.{FailsInMemory, MayCause, MayFail};
-ghost use Rattle.one_log.specs.Groups.{IsOneHistory, Told};
+ghost use Rattle.one_log.specs.Groups.{IsOneHistory, StaysOneHistory, TellsOneMore};
 ghost use Rattle.one_log.specs.declared.replica.Step.TheVariants.{Answered};
 
 use crate::machine::Machine;
@@ -65,7 +65,7 @@ impl<M: Machine + Drop> Group<M> {
         ensures log { self.new.log ≡ self.old.log }
         ensures joined { OnOk result (self.new.applied ≡ self.old.applied ++ [] ∷ []) }
         ensures refused { OnErr result (self.new.applied ≡ self.old.applied) }
-        ensures history { (told : List Told) → IsOneHistory M.due self.old.log self.old.applied told → IsOneHistory M.due self.new.log self.new.applied told }
+        ensures history { StaysOneHistory M.due self.old self.new }
     {
         match self.replicas.push(Replica::new(self.alloc, machine)) {
             Ok(()) => Ok(()),
@@ -79,8 +79,8 @@ impl<M: Machine + Drop> Group<M> {
         ensures log { (self.new.log ≡ self.old.log) ⊎ (self.new.log ≡ self.old.log ++ batch.now ∷ []) }
         ensures others { (other : ℕ) → other ≢ at → slice_get self.new.applied other ≡ slice_get self.old.applied other }
         ensures unanswered { result ≢ Ok Answered → replies.new.items ≡ [] }
-        ensures answered { result ≡ Ok Answered → (told : List Told) → IsOneHistory M.due self.old.log self.old.applied told → IsOneHistory M.due self.new.log self.new.applied (told ++ record { batch = batch.now; replies = replies.new.items } ∷ []) }
-        ensures history { (told : List Told) → IsOneHistory M.due self.old.log self.old.applied told → IsOneHistory M.due self.new.log self.new.applied told }
+        ensures answered { result ≡ Ok Answered → TellsOneMore M.due self.old self.new batch.now replies.new.items }
+        ensures history { StaysOneHistory M.due self.old self.new }
         ensures fault { IfErr result (MayCause FailsInMemory) }
     {
         self.replicas[at].step(&mut self.store, batch, replies)
@@ -97,8 +97,8 @@ impl<M: Machine + Drop> Group<M> {
         ensures log { (self.new.log ≡ self.old.log) ⊎ (self.new.log ≡ self.old.log ++ batch.now ∷ []) }
         ensures others { (other : ℕ) → other ≢ at → slice_get self.new.applied other ≡ slice_get self.old.applied other }
         ensures unanswered { OnErr result (replies.new.items ≡ []) }
-        ensures answered { OnOk result ((told : List Told) → IsOneHistory M.due self.old.log self.old.applied told → IsOneHistory M.due self.new.log self.new.applied (told ++ record { batch = batch.now; replies = replies.new.items } ∷ [])) }
-        ensures history { (told : List Told) → IsOneHistory M.due self.old.log self.old.applied told → IsOneHistory M.due self.new.log self.new.applied told }
+        ensures answered { OnOk result (TellsOneMore M.due self.old self.new batch.now replies.new.items) }
+        ensures history { StaysOneHistory M.due self.old self.new }
         ensures fault { IfErr result (MayFail FailsInMemory) }
     {
         self.replicas[at].serve(&mut self.store, batch, replies)
