@@ -1,8 +1,9 @@
 -- a name board and its seats, as callers see them
-use Rattle.std.specs.Prelude.{◌≡◌, ◌<◌, ◌≤◌, ◌+◌, ◌-◌, ℕ, List, [], ◌∷◌, reverse}
+use Rattle.std.specs.Prelude.{◌≡◌, ◌<◌, ◌≤◌, ◌+◌, ◌-◌, ℕ, List, [], ◌∷◌, reverse, slice_index}
 use Rattle.atomic_table.specs.Seated.{TableId}
 use Rattle.raw_parts.specs.declared.board_view.BoardView.{BoardView}
 use Rattle.raw_parts.specs.BoardView.{claim}
+use Rattle.raw_parts.specs.declared.board_view.Claim.{Claim}
 use Rattle.raw_parts.specs.BoardRule.{IsClaimed}
 
 -- the table of a board: from 1 to 127 words, as many as its rule speaks of, and no slots
@@ -44,3 +45,7 @@ HasReadAll board words r = (r.board ≡ board) × (r.read ≡ reverse words) × 
 -- this view has the claim that a grant tells
 abbrev pub HasClaimOf : BoardView → GrantId → Type 0
 HasClaimOf v g = IsClaimed (claim (g.name - 1) g.identity) v.claims × (g.name - 1 < g.board.words)
+
+-- each claim of this view on one of so many words finds its identity there
+abbrev pub FindsClaims : BoardView → ℕ → List ℕ → Type 0
+FindsClaims v count words = (c : Claim) → IsClaimed c v.claims → c.word < count → slice_index words c.word ≡ c.identity

@@ -6,7 +6,7 @@ ghost use mathlib.Core.Option.{some};
 ghost use Rattle.raw_parts.specs.declared.board_view.Claim.{Claim};
 ghost use Rattle.raw_parts.specs.BoardRule.{IsClaimed};
 ghost use Rattle.raw_parts.specs.BoardView.{lone_claim};
-ghost use Rattle.raw_parts.specs.Boards.{GrantId, HasClaimOf, HasReadAll, grant_of, reader_of};
+ghost use Rattle.raw_parts.specs.Boards.{FindsClaims, GrantId, HasClaimOf, HasReadAll, grant_of, reader_of};
 
 use crate::board_seats::{Grant, LastRead, ReaderSeat};
 use crate::board_steps::{Begin, Boarding, Find, Hand, LookOn, Part, Post, Read, Unite};
@@ -252,7 +252,8 @@ impl<A: Allocator> Board<A> {
     ) -> Result<(Vec<u64, B>, LastRead), AllocError>
         requires ours { (i : ℕ) (g : GrantId) → get_elem? out.items i ≡ some g → g.board ≡ self }
         ensures count { IfOk result (λ r. vec_len r.0 ≡ self.words) }
-        ensures grants { IfOk result (λ r. (i : ℕ) (g : GrantId) → get_elem? out.items i ≡ some g → slice_index r.0.items (g.name - 1) ≡ g.identity) }
+        ensures grants { IfOk result (λ r. (i : ℕ) (g : GrantId) → get_elem? out.items i ≡ some g →
+            slice_index r.0.items (g.name - 1) ≡ g.identity) }
         ensures read { IfOk result (λ r. HasReadAll self r.0.items r.1) }
     {
         let (_, mut seat) = self.table.shared.load_new_seat::<Begin>(0);
@@ -304,7 +305,7 @@ impl<A: Allocator> Board<A> {
         requires none { seat.old.me.0.read ≡ [] }
         ensures ours { (seat.new.table_id ≡ self.now) × (seat.new.me.1 ≡ []) }
         ensures count { IfOk result (λ v. vec_len v ≡ self.now.words) }
-        ensures claims { IfOk result (λ v. (c : Claim) → IsClaimed c seat.old.me.0.claims → c.word < self.now.words → slice_index v.items c.word ≡ c.identity) }
+        ensures claims { IfOk result (λ v. FindsClaims seat.old.me.0 self.now.words v.items) }
         ensures read { IfOk result (λ v. seat.new.me.0.read ≡ reverse v.items) }
         ensures accesses { IsOk result → seat.new.me.0.accesses ≡ seat.old.me.0.accesses + self.now.words }
     {
