@@ -76,10 +76,10 @@ module _ {C : Type 0} (on : Seating C) where
 
   -- a turn of the loop: all turns of all connections, in the one order of a log, lead the service from w to where it was when what it tells
   -- was kept; only then was anything sent
-  pub record LoopTurn {T : Type 0} (may : T → Request → Reply → T → Type 0) (keeps : T → T → Type 0) (w : T) (seats : List (Option C)) (u : T) (seats' : List (Option C)) : Type 0 where
+  pub record LoopTurn {T K : Type 0} (may : T → Request → Reply → T → Type 0) (keeps : K → T → K → T → Type 0) (k : K) (w : T) (seats : List (Option C)) (k' : K) (u : T) (seats' : List (Option C)) : Type 0 where
     pub log : TurnLog
     pub told : T
     pub between : List (Option C)
     pub taken : TurnsTaken may w seats log told between
-    pub kept : keeps told u
+    pub kept : keeps k told k' u
     pub sent : RepliesSent between seats'

@@ -6,7 +6,7 @@ ghost use Rattle.event_server.specs.Rooms.{IsRoom};
 
 use crate::host_fault::HostFault;
 use crate::house::House;
-use crate::keep::Keep;
+use crate::keep::{Keep, Tally};
 use crate::room::Room;
 use crate::turns::turn;
 use commands::WorldKind;
@@ -33,6 +33,9 @@ const EVENTS: usize = 1024;
 /// The most connections that are accepted in one turn.
 const MOST_ACCEPTS: u32 = 1024;
 
+/// How many seconds pass from one report to the next.
+const REPORT_TICKS: u64 = 60;
+
 /// How many ticks of a tenth of a second are waited at the end for replies to be taken.
 const LAST_TICKS: u64 = 10;
 
@@ -47,6 +50,8 @@ pub struct HostOptions {
     pub clients: usize,
     /// After how many seconds a client that says nothing is closed; never, where it is not given.
     pub idle: Option<u64>,
+    /// Whether a line a minute tells how much there is.
+    pub reports: bool,
 }
 
 /// What was served.
@@ -65,7 +70,9 @@ struct Hosting {
     listener: TcpListener,
     house: House,
     start: Instant,
+    /// The second that is under way, and the one at which the next report is due.
     tick: u64,
+    report: u64,
     /// Whether connections may wait to be accepted.
     waiting: bool,
     /// Whether one could not be accepted, until one leaves.
@@ -104,6 +111,7 @@ where
         hosting.wait(rt, &mut events, wait)?;
         hosting.accept_all(errors)?;
         hosting.serve(rt, service, keep, &mut room)?;
+        hosting.tell_tally(keep.tally(service), errors);
         if hosting.stop {
             break;
         }
@@ -136,6 +144,7 @@ impl Hosting {
             house: House::new(alloc),
             start,
             tick: 0,
+            report: REPORT_TICKS,
             waiting: false,
             full: false,
             said: false,
@@ -147,7 +156,7 @@ impl Hosting {
     fn next_wait(&self) -> Option<Duration> {
         if !self.house.ready.is_empty() {
             Some(Duration::from_millis(0))
-        } else if 0 < self.house.open || self.full {
+        } else if 0 < self.house.open || self.full || self.options.reports {
             Some(Duration::from_millis(1000))
         } else {
             None
@@ -235,6 +244,20 @@ impl Hosting {
             let _ = errors.write_all(
                 b"slotctl: no room for more connections; those that wait are accepted as others leave\n",
             );
+        }
+    }
+
+    // Tells how much there is, once a minute where that is wanted.
+    fn tell_tally<E: Write>(&mut self, tally: Tally, errors: &mut E) {
+        if !self.options.reports || self.tick < self.report {
+            return;
+        }
+        self.report = self.tick.saturating_add(REPORT_TICKS);
+        let Tally { events, bytes } = tally;
+        let clients = self.house.open;
+        // Who looks on is told nothing where the text is not taken, and served all the same.
+        if let Ok(line) = format!(in self.alloc; "{clients} clients, {events} events, {bytes} bytes of journal\n") {
+            let _ = errors.write_all(line.as_bytes());
         }
     }
 

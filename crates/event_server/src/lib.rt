@@ -29,7 +29,7 @@ pub mod wire;
 pub use connection::{Connection, Stage};
 pub use host_fault::HostFault;
 pub use hosting::{HostOptions, Hosted, host};
-pub use keep::Keep;
+pub use keep::{Keep, Tally};
 pub use room::{READ_ROOM, Room};
 pub use stream::Stream;
 pub use turns::{send_replies, take_turns, turn};

@@ -100,7 +100,7 @@ pub fn turn<R, D: Service<R>, K: Keep<D>, S: Stream, A: Allocator, B: Allocator>
 ) -> Result<usize, K::Fault>
     requires knows { (q : Request) → D.knows q ≡ true }
     requires room { IsRoom room.old }
-    ensures turned { OnOk result (LoopTurn (seating (λ c. S.left c.stream) (λ c. S.gone c.stream) (λ c. c.wire)) D.may K.keeps service.old seats.old service.new seats.new) }
+    ensures turned { OnOk result (LoopTurn (seating (λ c. S.left c.stream) (λ c. S.gone c.stream) (λ c. c.wire)) D.may K.keeps keep.old service.old seats.old keep.new service.new seats.new) }
     ensures unsent { OnErr result (NoneSent (seating (λ c. S.left c.stream) (λ c. S.gone c.stream) (λ c. c.wire)) seats.old seats.new) }
     ensures called { IfOk result (λ called. called ≤ length ready.now) }
     ensures room { IsRoom room.new }

@@ -98,6 +98,13 @@ impl Chronicle {
         &self.lines
     }
 
+    /// Whether lines wait.
+    pub fn has_waiting(&self) -> bool
+        ensures { result ≡ false → self.now.told ≡ length self.now.hall.history }
+    {
+        self.told < self.hall.len()
+    }
+
     /// Whether so many bytes wait that an event would be refused for want of room: those that wait are to be handed on first.
     pub fn is_full(&self) -> bool {
         MOST_WAITING - TURN_ROOM < self.lines.len()

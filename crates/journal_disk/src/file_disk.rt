@@ -68,6 +68,14 @@ impl FileDisk {
             Err(TryLockError::Error(error)) => Err(FileFault::Failed(error.kind())),
         }
     }
+
+    /// How many bytes the file has, for people; none where the system does not tell.
+    pub fn size(&self) -> u64 {
+        match File::metadata(&self.file) {
+            Ok(data) => data.len(),
+            Err(_) => 0,
+        }
+    }
 }
 
 impl Disk for FileDisk {

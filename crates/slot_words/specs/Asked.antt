@@ -4,7 +4,9 @@ use Rattle.std.specs.Prelude.{Result, Ok, Err}
 use Rattle.std.specs.Str.{bytes_eq}
 use Rattle.std.specs.Str.Parse.{IsNumeral, digits_value, without_leading_plus}
 use Rattle.std.specs.List.{list_any}
-use Rattle.std.specs.Option.{option_map_or}
+use Rattle.std.specs.Option.{option_map, option_map_or}
+use Rattle.std.specs.Net.Grammar.{IsIpText}
+use Rattle.std.specs.declared.net.ip_addr.IpAddr.{IpAddr}
 use Rattle.clap.specs.Faults.{fault_of}
 use Rattle.clap.specs.Words.{Kinds, Row, first_of, one_of, subcommand_of}
 use Rattle.clap.specs.declared.error.kind.ErrorKind.{ErrorKind}
@@ -14,8 +16,9 @@ use Rattle.commands.specs.declared.config.Config.{Config}
 use Rattle.commands.specs.declared.kind.WorldKind.{WorldKind}
 use Rattle.slot_words.specs.CommandLine.{slotctl_app}
 use Rattle.slot_words.specs.declared.asked.Ask.{Ask}
-use Rattle.slot_words.specs.declared.asked.Ask.TheVariants.{Play, Check, Migrate, Show, Draw, Serve}
+use Rattle.slot_words.specs.declared.asked.Ask.TheVariants.{Play, Check, Migrate, Show, Draw, Serve, Host}
 use Rattle.slot_words.specs.declared.asked.Drawing.{Drawing}
+use Rattle.slot_words.specs.declared.asked.Hosting.{Hosting}
 use Rattle.slot_words.specs.declared.asked.Serving.{Serving}
 use Rattle.slot_words.specs.declared.asked.Playing.{Playing}
 use Rattle.slot_words.specs.declared.asked.Showing.{Showing}
@@ -42,14 +45,14 @@ pub record IsConfigOf (rows : List Row) (c : Config) : Type 0 where
   pub k : HasNumber rows (codes "k") c.k
   pub limit : HasNumber rows (codes "limit") c.limit
 
--- whether `--record` is among what clap matched, which gives the text `true` to a flag that is
-abbrev pub asks_record : List Row → Bool
-asks_record rows = option_map_or (λ text. bytes_eq text (codes "true")) (first_of (codes "record") rows) false
+-- whether a flag is among what clap matched, which gives the text `true` to one that is
+abbrev pub asks_flag : List ℕ → List Row → Bool
+asks_flag name rows = option_map_or (λ text. bytes_eq text (codes "true")) (first_of name rows) false
 
 -- the run that the options of `play` give
 pub record IsPlayingOf (rows : List Row) (p : Playing) : Type 0 where
   pub config : IsConfigOf rows p.config
-  pub recorded : p.recorded ≡ asks_record rows
+  pub recorded : p.recorded ≡ asks_flag (codes "record") rows
 
 -- the drawing that the options of `draw` give, as clap matched them, each number in its range; the pool, which no drawn
 -- event uses, has four numbers
@@ -75,6 +78,24 @@ pub record IsServingOf (rows : List Row) (s : Serving) : Type 0 where
   pub workers : HasNumber rows (codes "workers") s.workers
   pub count : HasNumber rows (codes "count") s.count
 
+-- the address's text among what clap matched is one of this address
+abbrev pub HasAddress : List Row → IpAddr → Type 0
+HasAddress rows a = (text : List ℕ) × (first_of (codes "address") rows ≡ Some text) × IsIpText text a
+
+-- the journal's path is among what clap matched, or none is
+abbrev pub HasJournal : List Row → Option (Bor (List ℕ)) → Type 0
+HasJournal rows path = option_map (λ p. p.now) path ≡ first_of (codes "journal") rows
+
+-- the hosting that the options of `host` give, as clap matched them, each number in its range
+pub record IsHostingOf (rows : List Row) (h : Hosting) : Type 0 where
+  pub config : IsConfigOf rows h.config
+  pub address : HasAddress rows h.address
+  pub port : HasNumber rows (codes "port") h.port
+  pub clients : HasNumber rows (codes "clients") h.clients
+  pub idle : HasNumber rows (codes "idle") h.idle
+  pub journal : HasJournal rows h.journal
+  pub verbose : h.verbose ≡ asks_flag (codes "verbose") rows
+
 -- the subcommand that clap met, with what it matched there, asks for this
 abbrev pub IsAsked : Option (List ℕ × List Row) → Ask → Type 0
 IsAsked met (Play playing) = (rows : List Row) × (met ≡ Some (codes "play", rows)) × IsPlayingOf rows playing
@@ -83,6 +104,7 @@ IsAsked met Migrate = (rows : List Row) × (met ≡ Some (codes "migrate", rows)
 IsAsked met (Show showing) = (rows : List Row) × (met ≡ Some (codes "show", rows)) × IsShowingOf rows showing
 IsAsked met (Draw drawing) = (rows : List Row) × (met ≡ Some (codes "draw", rows)) × IsDrawingOf rows drawing
 IsAsked met (Serve serving) = (rows : List Row) × (met ≡ Some (codes "serve", rows)) × IsServingOf rows serving
+IsAsked met (Host hosting) = (rows : List Row) × (met ≡ Some (codes "host", rows)) × IsHostingOf rows hosting
 
 -- the words ask for this: its options are those that clap matched in the words, or the defaults
 abbrev pub AsksFor : List (List ℕ) → Ask → Type 0

@@ -78,15 +78,41 @@ count_option = number_option (codes "count") 1 1000000 (codes "1")
 abbrev pub config_app : List ℕ → App
 config_app name = with_rule (with_rule (with_rule (with_rule (new_app name) world_option) m_option) k_option) limit_option
 
--- `--record`
-abbrev pub record_flag : Rule
-record_flag = record (new_rule (codes "record")) { long = Some (codes "record"); action = Some SetTrue }
+-- an option of this name with no value
+abbrev pub flag : List ℕ → Rule
+flag name = record (new_rule name) { long = Some name; action = Some SetTrue }
 
 abbrev pub play_app : App
-play_app = with_rule (config_app (codes "play")) record_flag
+play_app = with_rule (config_app (codes "play")) (flag (codes "record"))
 
 abbrev pub serve_app : App
 serve_app = with_rule (with_rule (with_rule (config_app (codes "serve")) port_option) workers_option) count_option
+
+-- `--address ADDRESS`, or 127.0.0.1; `--clients NUMBER`, from 1 to 1,000,000, or 10000; `--idle NUMBER`, at most 31,536,000, or 0; `--journal
+-- FILE`, or none
+abbrev pub address_option : Rule
+address_option = record (new_rule (codes "address")) {
+  long = Some (codes "address");
+  action = Some Set;
+  value_names = 1;
+  defaults = codes "127.0.0.1" ∷ [];
+}
+
+abbrev pub clients_option : Rule
+clients_option = number_option (codes "clients") 1 1000000 (codes "10000")
+
+abbrev pub idle_option : Rule
+idle_option = number_option (codes "idle") 0 31536000 (codes "0")
+
+abbrev pub journal_option : Rule
+journal_option = record (new_rule (codes "journal")) { long = Some (codes "journal"); action = Some Set; value_names = 1 }
+
+-- `host` with what is listened on and who is served
+abbrev pub host_network_app : App
+host_network_app = with_rule (with_rule (with_rule (config_app (codes "host")) address_option) port_option) clients_option
+
+abbrev pub host_app : App
+host_app = with_rule (with_rule (with_rule host_network_app idle_option) journal_option) (flag (codes "verbose"))
 
 -- what `draw` has to be told
 abbrev pub draw_needs_app : App
@@ -111,5 +137,5 @@ abbrev pub slotctl_app : App
 slotctl_app =
     let program = new_app (codes "slotctl") in
     let needed = record program { top = record program.top { subcommand_required = true } } in
-    with_subcommand (with_subcommand (with_subcommand (with_subcommand (with_subcommand (with_subcommand needed play_app.top) check_app.top) migrate_app.top) show_app.top) draw_app.top)
-    serve_app.top
+    let of_records = with_subcommand (with_subcommand (with_subcommand (with_subcommand needed play_app.top) check_app.top) migrate_app.top) show_app.top in
+    with_subcommand (with_subcommand (with_subcommand of_records draw_app.top) serve_app.top) host_app.top

@@ -11,6 +11,10 @@ IsDrawingRange seed ids steps runs world = (seed < 2 ^ 64) × (1 ≤ ids) × (id
 abbrev pub IsServingRange : WorldKind → ℕ → ℕ → ℕ → Type 0
 IsServingRange world port workers count = (port ≤ 65535) × (1 ≤ workers) × (workers ≤ 16) × (1 ≤ count) × (count ≤ 1000000) × (gives_names world ≡ true)
 
+-- the port has 16 bits, there are 1 to 1,000,000 clients, one is idle for at most a year, and names are given in the world
+abbrev pub IsHostingRange : WorldKind → ℕ → ℕ → ℕ → Type 0
+IsHostingRange world port clients idle = (port ≤ 65535) × (1 ≤ clients) × (clients ≤ 1000000) × (idle ≤ 31536000) × (gives_names world ≡ true)
+
 -- the first event and how many there are from it on are 1 to 1,000,000
 abbrev pub IsShowingRange : ℕ → ℕ → Type 0
 IsShowingRange from count = (1 ≤ from) × (from ≤ 1000000) × (1 ≤ count) × (count ≤ 1000000)

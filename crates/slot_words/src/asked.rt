@@ -1,13 +1,14 @@
 //! What the program can be asked for.
 
 ghost use Rattle.std.specs.Prelude.{◌≡◌, IfSome, IsSome, ◌↔◌};
-ghost use Rattle.slot_words.specs.Ranges.{IsDrawingRange, IsServingRange, IsShowingRange, CanBeWritten};
+ghost use Rattle.slot_words.specs.Ranges.{IsDrawingRange, IsHostingRange, IsServingRange, IsShowingRange, CanBeWritten};
 
 use commands::{Config, WorldKind};
+use std::net::IpAddr;
 
 /// What the words of a command line ask for.
 #[derive(Clone, Copy, Drop)]
-pub enum Ask {
+pub enum Ask<'a> {
     /// A run of `play`.
     Play(Playing),
     /// The check of a record.
@@ -20,6 +21,8 @@ pub enum Ask {
     Draw(Drawing),
     /// Connections that are served.
     Serve(Serving),
+    /// A hall that is hosted.
+    Host(Hosting<'a>),
 }
 
 /// The run that is played.
@@ -143,6 +146,60 @@ impl Serving {
                 port,
                 workers,
                 count,
+            }),
+        }
+    }
+}
+
+/// The hall that is hosted.
+#[derive(Clone, Copy, Drop)]
+pub struct Hosting<'a> {
+    /// The world of the hall, in which names are given, and its sizes.
+    pub config: Config,
+    /// The address that is listened on.
+    pub address: IpAddr,
+    /// The port that is listened on, at most 65,535; with 0 any that is free.
+    pub port: u64,
+    /// How many clients are served at once, from 1 to 1,000,000.
+    pub clients: u64,
+    /// After how many seconds a client that says nothing is closed, at most 31,536,000; with 0 never.
+    pub idle: u64,
+    /// The file of the journal, where there is one.
+    pub journal: Option<&'a str>,
+    /// Whether it tells once a minute how much there is.
+    pub verbose: bool,
+    ghost in_range: { IsHostingRange config.world port clients idle },
+}
+
+impl<'a> Hosting<'a> {
+    /// A hosting of these values; none where one of them is outside its range.
+    pub fn new(
+        config: Config,
+        address: IpAddr,
+        port: u64,
+        clients: u64,
+        idle: u64,
+        journal: Option<&'a str>,
+        verbose: bool,
+    ) -> Option<Hosting<'a>>
+        ensures sizes { IfSome result (λ h. (h.config ≡ config) × (h.port ≡ port) × (h.clients ≡ clients) × (h.idle ≡ idle)) }
+        ensures others { IfSome result (λ h. (h.address ≡ address) × (h.journal ≡ journal) × (h.verbose ≡ verbose)) }
+        ensures range { IsSome result ↔ IsHostingRange config.world port clients idle }
+    {
+        if 65_535 < port || clients < 1 || 1_000_000 < clients || 31_536_000 < idle {
+            return None;
+        }
+        match config.world {
+            WorldKind::Splitter => None,
+            WorldKind::Grid => None,
+            WorldKind::Rename | WorldKind::Tree => Some(Hosting {
+                config,
+                address,
+                port,
+                clients,
+                idle,
+                journal,
+                verbose,
             }),
         }
     }

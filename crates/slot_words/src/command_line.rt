@@ -3,7 +3,7 @@
 ghost use Rattle.std.specs.Prelude.{◌≡◌, false, IfOk};
 ghost use Rattle.clap.specs.Words.{app_of, rule_of};
 ghost use Rattle.clap.specs.declared.builder.command.Command.TheViews.{out-Command};
-ghost use Rattle.slot_words.specs.CommandLine.{check_app, config_app, draw_app, draw_needs_app, limit_option, m_option, migrate_app, needed_option, number_option, play_app, record_flag, serve_app, show_app, slotctl_app, world_option};
+ghost use Rattle.slot_words.specs.CommandLine.{address_option, check_app, config_app, draw_app, draw_needs_app, flag, host_app, host_network_app, journal_option, limit_option, m_option, migrate_app, needed_option, number_option, play_app, serve_app, show_app, slotctl_app, world_option};
 
 use clap::builder::ValueParser;
 use clap::{Arg, ArgAction, Command};
@@ -92,15 +92,40 @@ fn limit_option<'a>(alloc: Global) -> Arg<'a>
     )
 }
 
-// `--record`.
-fn record_flag<'a>(alloc: Global) -> Arg<'a>
-    ensures rule { rule_of result ≡ record_flag }
+// An option with no value.
+fn flag<'a>(alloc: Global, name: &'a str, help: &'a str) -> Arg<'a>
+    ensures rule { rule_of result ≡ flag name.now }
     ensures local { result.global ≡ false }
 {
-    Arg::new(alloc, "record")
-        .long("record")
+    Arg::new(alloc, name)
+        .long(name)
         .action(ArgAction::SetTrue)
-        .help("writes the record of the run in place of the replies")
+        .help(help)
+}
+
+// `--address ADDRESS`.
+fn address_option<'a>(alloc: Global) -> Arg<'a>
+    ensures rule { rule_of result ≡ address_option }
+    ensures local { result.global ≡ false }
+{
+    Arg::new(alloc, "address")
+        .long("address")
+        .action(ArgAction::Set)
+        .default_value("127.0.0.1")
+        .value_name("ADDRESS")
+        .help("the address; whoever reaches another than this may say everything: no encryption, no authentication")
+}
+
+// `--journal FILE`.
+fn journal_option<'a>(alloc: Global) -> Arg<'a>
+    ensures rule { rule_of result ≡ journal_option }
+    ensures local { result.global ≡ false }
+{
+    Arg::new(alloc, "journal")
+        .long("journal")
+        .action(ArgAction::Set)
+        .value_name("FILE")
+        .help("the file of the journal, made where it is missing; without one the history ends with the program")
 }
 
 // A subcommand with a world and all its sizes.
@@ -132,7 +157,11 @@ fn play_command<'a>(alloc: Global) -> Result<Command<'a>, AllocError>
         "Plays the commands of the standard input, and writes a reply to each",
         ANY_WORLD,
     )?
-    .arg(record_flag(alloc))
+    .arg(flag(
+        alloc,
+        "record",
+        "writes the record of the run in place of the replies",
+    ))
 }
 
 // What `draw` has to be told.
@@ -254,6 +283,58 @@ fn serve_command<'a>(alloc: Global) -> Result<Command<'a>, AllocError>
     ))
 }
 
+// The subcommand `host`, with the options of what is listened on and who is served.
+fn host_network<'a>(alloc: Global) -> Result<Command<'a>, AllocError>
+    ensures app { IfOk result (λ c. app_of c ≡ host_network_app) }
+    ensures local { IfOk result (λ c. (out-Command c).has_globals ≡ false) }
+{
+    config_command(
+        alloc,
+        "host",
+        "Hosts a hall: clients of a socket in one thread, with a journal",
+        WORLD_OF_NAMES,
+    )?
+    .arg(address_option(alloc))?
+    .arg(number_option(
+        alloc,
+        "port",
+        0,
+        65_535,
+        "0",
+        "the port, or 0 for one that is free",
+    ))?
+    .arg(number_option(
+        alloc,
+        "clients",
+        1,
+        1_000_000,
+        "10000",
+        "how many clients are served at once, from 1 to 1000000",
+    ))
+}
+
+// The subcommand `host` with its options.
+fn host_command<'a>(alloc: Global) -> Result<Command<'a>, AllocError>
+    ensures app { IfOk result (λ c. app_of c ≡ host_app) }
+    ensures local { IfOk result (λ c. (out-Command c).has_globals ≡ false) }
+{
+    host_network(alloc)?
+        .arg(number_option(
+            alloc,
+            "idle",
+            0,
+            31_536_000,
+            "0",
+            "after how many seconds a client that says nothing is closed, or 0 for never",
+        ))?
+        .arg(journal_option(alloc))?
+        .arg(flag(
+            alloc,
+            "verbose",
+            "tells on standard error once a minute how many clients, events and bytes there are",
+        ))
+}
+
 /// The program with its subcommands, one of which has to be given.
 pub fn slotctl_command<'a>(alloc: Global) -> Result<Command<'a>, AllocError>
     ensures { IfOk result (λ c. app_of c ≡ slotctl_app) }
@@ -262,6 +343,7 @@ pub fn slotctl_command<'a>(alloc: Global) -> Result<Command<'a>, AllocError>
     let show = show_command(alloc)?;
     let draw = draw_command(alloc)?;
     let serve = serve_command(alloc)?;
+    let host = host_command(alloc)?;
     Command::new(alloc, "slotctl")
         .about("Plays schedules of shared-memory algorithms, one access a step")
         .subcommand_required(true)
@@ -270,5 +352,6 @@ pub fn slotctl_command<'a>(alloc: Global) -> Result<Command<'a>, AllocError>
         .subcommand(migrate_command(alloc))?
         .subcommand(show)?
         .subcommand(draw)?
-        .subcommand(serve)
+        .subcommand(serve)?
+        .subcommand(host)
 }

@@ -2,16 +2,17 @@
 
 ghost use Rattle.std.specs.Prelude.{◌≡◌, ℕ, ◌<◌, ◌^◌, MatchOption, map};
 ghost use Rattle.clap.specs.Words.{found_of, kind_of, rows_of, subcommand_rows_of};
-ghost use Rattle.slot_words.specs.Asked.{HasNumber, HasWorld, IsAsked, IsConfigOf, IsDrawingOf, IsMisuseOf, IsPlayingOf, IsRead, IsRefusal, IsServingOf, IsShowingOf, asks_record};
+ghost use Rattle.slot_words.specs.Asked.{HasNumber, HasWorld, IsAsked, IsConfigOf, HasAddress, HasJournal, IsDrawingOf, IsHostingOf, IsMisuseOf, IsPlayingOf, IsRead, IsRefusal, IsServingOf, IsShowingOf, asks_flag};
 ghost use Rattle.commands.specs.declared.config.Config.{Config};
 ghost use Rattle.commands.specs.declared.kind.WorldKind.{WorldKind};
 ghost use Rattle.slot_words.specs.declared.asked.Drawing.{Drawing};
+ghost use Rattle.slot_words.specs.declared.asked.Hosting.{Hosting};
 ghost use Rattle.slot_words.specs.declared.asked.Playing.{Playing};
 ghost use Rattle.slot_words.specs.declared.asked.Serving.{Serving};
 ghost use Rattle.slot_words.specs.declared.asked.Showing.{Showing};
 ghost use Rattle.slot_words.specs.declared.asked.Ask.{Ask};
 
-use crate::asked::{Ask, Drawing, Playing, Serving, Showing};
+use crate::asked::{Ask, Drawing, Hosting, Playing, Serving, Showing};
 use crate::command_line::slotctl_command;
 use crate::misuse::Misuse;
 use clap::error::ErrorKind;
@@ -19,6 +20,7 @@ use clap::{ArgMatches, Error};
 use commands::{Config, WorldKind};
 use std::alloc::Global;
 use std::convert::AsStr;
+use std::net::IpAddr;
 
 // The world that is matched.
 fn world_given(matches: &ArgMatches<'_>) -> Option<WorldKind>
@@ -35,11 +37,11 @@ fn number_given(matches: &ArgMatches<'_>, name: &str) -> Option<u64>
     matches.get_one::<u64>(name)
 }
 
-// Whether `--record` is matched.
-fn record_given(matches: &ArgMatches<'_>) -> bool
-    ensures { result ≡ asks_record (rows_of (found_of matches.now)) }
+// Whether a flag is matched.
+fn flag_given(matches: &ArgMatches<'_>, name: &str) -> bool
+    ensures { result ≡ asks_flag name.now (rows_of (found_of matches.now)) }
 {
-    match matches.get_str("record") {
+    match matches.get_str(name) {
         Some(text) => text == "true",
         None => false,
     }
@@ -61,7 +63,7 @@ fn play_given(matches: &ArgMatches<'_>) -> Option<Playing>
     ensures { MatchOption result ((p : Playing) → IsPlayingOf (rows_of (found_of matches.now)) p → ⊥) (IsPlayingOf (rows_of (found_of matches.now))) }
 {
     let config = config_given(matches)?;
-    Playing::new(config, record_given(matches))
+    Playing::new(config, flag_given(matches, "record"))
 }
 
 /// The size of the pool of a drawn run, which no drawn event uses.
@@ -102,8 +104,36 @@ fn serve_given(matches: &ArgMatches<'_>) -> Option<Serving>
     Serving::new(config, port, workers, count)
 }
 
+// The address that is matched, where it is one.
+fn address_given(matches: &ArgMatches<'_>) -> Option<IpAddr>
+    ensures { MatchOption result ((a : IpAddr) → HasAddress (rows_of (found_of matches.now)) a → ⊥) (HasAddress (rows_of (found_of matches.now))) }
+{
+    matches.get_str("address")?.parse::<IpAddr>().ok()
+}
+
+// The file of a journal that is matched, where there is one.
+fn journal_given<'a>(matches: &ArgMatches<'a>) -> Option<&'a str>
+    ensures { HasJournal (rows_of (found_of matches.now)) result }
+{
+    matches.get_str("journal")
+}
+
+// What the options of `host` give, where they give something.
+fn host_given<'a>(matches: &ArgMatches<'a>) -> Option<Hosting<'a>>
+    ensures { MatchOption result ((h : Hosting) → IsHostingOf (rows_of (found_of matches.now)) h → ⊥) (IsHostingOf (rows_of (found_of matches.now))) }
+{
+    let config = config_given(matches)?;
+    let address = address_given(matches)?;
+    let port = number_given(matches, "port")?;
+    let clients = number_given(matches, "clients")?;
+    let idle = number_given(matches, "idle")?;
+    let journal = journal_given(matches);
+    let verbose = flag_given(matches, "verbose");
+    Hosting::new(config, address, port, clients, idle, journal, verbose)
+}
+
 // What the matches ask for, where they ask for something.
-fn asked(matches: &ArgMatches<'_>) -> Option<Ask>
+fn asked<'a>(matches: &ArgMatches<'a>) -> Option<Ask<'a>>
     ensures { MatchOption result ((a : Ask) → IsAsked (subcommand_rows_of matches.now) a → ⊥) (IsAsked (subcommand_rows_of matches.now)) }
 {
     match matches.subcommand() {
@@ -113,6 +143,7 @@ fn asked(matches: &ArgMatches<'_>) -> Option<Ask>
         Some(("show", options)) => Some(Ask::Show(show_given(options)?)),
         Some(("draw", options)) => Some(Ask::Draw(draw_given(options)?)),
         Some(("serve", options)) => Some(Ask::Serve(serve_given(options)?)),
+        Some(("host", options)) => Some(Ask::Host(host_given(options)?)),
         _ => None,
     }
 }
@@ -149,7 +180,7 @@ fn misuse_of(alloc: Global, error: &Error) -> Misuse
 ///
 /// Answers `Misuse::Help` where they ask for help, `Misuse::Words` where they are refused, and `Misuse::Memory` where
 /// memory was refused.
-pub fn ask<S: AsStr>(alloc: Global, words: &[S]) -> Result<Ask, Misuse>
+pub fn ask<'a, S: AsStr>(alloc: Global, words: &'a [S]) -> Result<Ask<'a>, Misuse>
     ensures { IsRead (map S.text words.now) result }
 {
     let command = slotctl_command(alloc)?;
@@ -161,7 +192,7 @@ pub fn ask<S: AsStr>(alloc: Global, words: &[S]) -> Result<Ask, Misuse>
         Some(asked) => Ok(asked),
         None => Err(refused(
             alloc,
-            "error: no such world, or a number out of its range\n",
+            "error: no such world or address, or a number out of its range\n",
         )),
     }
 }

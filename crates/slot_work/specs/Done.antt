@@ -15,7 +15,7 @@ use Rattle.schedule_player.specs.Written.{HasPartOf}
 use Rattle.schedule_player.specs.Recorded.{IsRecorded}
 use Rattle.commands.specs.declared.config.Config.{Config}
 use Rattle.slot_words.specs.declared.asked.Ask.{Ask}
-use Rattle.slot_words.specs.declared.asked.Ask.TheVariants.{Play, Check, Migrate, Show, Draw, Serve}
+use Rattle.slot_words.specs.declared.asked.Ask.TheVariants.{Play, Check, Migrate, Show, Draw, Serve, Host}
 use Rattle.slot_words.specs.declared.asked.Drawing.{Drawing}
 use Rattle.slot_words.specs.declared.asked.Showing.{Showing}
 use Rattle.slot_work.specs.declared.failure.Failure.{Failure}
@@ -56,7 +56,7 @@ IsPlayedBy false config reading writing r r' w w' status =
 IsPlayedBy true config reading writing r r' w w' status =
     (recorded : Result (Unit {0}) Fault) × (status ≡ status_after recorded) × IsRecorded config reading writing r r' w w' recorded
 
--- it is neither to show a record nor to serve
+-- it is neither to show a record nor to serve nor to host
 abbrev pub is_work : Ask → Bool
 is_work (Play config) = true
 is_work Check = true
@@ -64,8 +64,9 @@ is_work Migrate = true
 is_work (Show showing) = false
 is_work (Draw drawing) = true
 is_work (Serve serving) = false
+is_work (Host hosting) = false
 
--- what was asked for, which is neither to show nor to serve, is done, and answers this status: a run is
+-- what was asked for, which is neither to show nor to serve nor to host, is done, and answers this status: a run is
 -- played; or a record is checked, or written again; or nothing is read, and a drawing is written
 abbrev pub IsWorked : {R W : Type 0} → Ask → Reading R → Writing W → R → R → W → W → Result ℕ Fault → Type 0
 IsWorked (Play playing) reading writing r r' w w' status = IsPlayedBy playing.recorded playing.config reading writing r r' w w' status
@@ -74,6 +75,7 @@ IsWorked Migrate reading writing r r' w w' status = IsRewritten reading writing 
 IsWorked (Draw drawing) reading writing r r' w w' status = (r' ≡ r) × IsDrawnBy drawing writing w w' status
 IsWorked (Show showing) reading writing r r' w w' status = ⊥
 IsWorked (Serve serving) reading writing r r' w w' status = ⊥
+IsWorked (Host hosting) reading writing r r' w w' status = ⊥
 
 -- it is done so, and this is the outcome
 abbrev pub HasWorked : {R W : Type 0} → Ask → Reading R → Writing W → R → R → W → W → Result Outcome Failure → Type 0
@@ -83,7 +85,7 @@ HasWorked ask reading writing r r' w w' result = (status : Result ℕ Fault) × 
 abbrev pub HasShown : {R W : Type 0} → Showing → Reading R → Writing W → R → R → W → W → Result Outcome Failure → Type 0
 HasShown showing reading writing r r' w w' result = (shown : Result Verdict Fault) × (result ≡ outcome_shown shown) × IsShownFor (stretch_asked showing) reading writing r r' w w' shown
 
--- to serve is left, with nothing read or written
+-- to serve and to host is left, with nothing read or written
 abbrev pub IsDoneFor : {R W : Type 0} → Ask → Reading R → Writing W → R → R → W → W → Result Outcome Failure → Type 0
 IsDoneFor (Play config) reading writing r r' w w' result = HasWorked (Play config) reading writing r r' w w' result
 IsDoneFor Check reading writing r r' w w' result = HasWorked Check reading writing r r' w w' result
@@ -91,6 +93,7 @@ IsDoneFor Migrate reading writing r r' w w' result = HasWorked Migrate reading w
 IsDoneFor (Show showing) reading writing r r' w w' result = HasShown showing reading writing r r' w w' result
 IsDoneFor (Draw drawing) reading writing r r' w w' result = HasWorked (Draw drawing) reading writing r r' w w' result
 IsDoneFor (Serve serving) reading writing r r' w w' result = (result ≡ Ok (outcome.Serve serving)) × (r' ≡ r) × (w' ≡ w)
+IsDoneFor (Host hosting) reading writing r r' w w' result = (result ≡ Ok (outcome.Host hosting)) × (r' ≡ r) × (w' ≡ w)
 
 -- where the words ask for nothing that is done, nothing is read or written; what they ask for is done
 abbrev pub IsDone : {R W : Type 0} → Reading R → Writing W → R → R → W → W → Result Ask Misuse → Result Outcome Failure → Type 0

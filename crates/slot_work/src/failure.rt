@@ -3,6 +3,7 @@
 ghost use Rattle.std.specs.Prelude.{◌≡◌};
 ghost use Rattle.slot_work.specs.Statuses.{status_of};
 
+use hall_host::HostFailure;
 use schedule_player::Fault;
 use slot_server::ServerFault;
 use slot_words::Misuse;
@@ -26,6 +27,9 @@ pub enum Failure {
     /// A fault of what serves connections.
     #[error("slotctl: {0}\n")]
     Server(#[from] ServerFault),
+    /// A fault of what hosts a hall, or a journal that is not opened.
+    #[error("slotctl: {0}\n")]
+    Host(#[from] HostFailure),
 }
 
 impl Failure {
@@ -42,6 +46,7 @@ impl Failure {
             Failure::BadRecord(_) => 1,
             Failure::Fault(_) => 3,
             Failure::Server(_) => 3,
+            Failure::Host(_) => 3,
         }
     }
 }

@@ -20,14 +20,14 @@ use std::io::Write;
 
 /// Does what the words of a command line ask for, the first of which is the program's name, and answers the status of the
 /// program: 0 where it was done and for help, 1 where a verdict is other than yes, 2 where the words are refused, 3 at a fault or for want
-/// of memory. Help goes to `output` beside what is done, every other text to `errors`. To serve is left to the caller.
-pub fn program<S: AsStr, R: Source, W: Sink, E: Write>(
+/// of memory. Help goes to `output` beside what is done, every other text to `errors`. To serve and to host is left to the caller.
+pub fn program<'a, S: AsStr, R: Source, W: Sink, E: Write>(
     alloc: Global,
-    words: &[S],
+    words: &'a [S],
     input: &mut R,
     output: &mut W,
     errors: &mut E,
-) -> Outcome
+) -> Outcome<'a>
     requires reads { R.calls input.old < 2 ^ 64 }
     requires writes { W.calls output.old < 2 ^ 64 }
 {
@@ -37,13 +37,13 @@ pub fn program<S: AsStr, R: Source, W: Sink, E: Write>(
     }
 }
 
-/// Does what the words ask for, but to serve.
-pub fn done<S: AsStr, R: Source, W: Sink>(
+/// Does what the words ask for, but to serve and to host.
+pub fn done<'a, S: AsStr, R: Source, W: Sink>(
     alloc: Global,
-    words: &[S],
+    words: &'a [S],
     input: &mut R,
     output: &mut W,
-) -> Result<Outcome, Failure>
+) -> Result<Outcome<'a>, Failure>
     requires reads { R.calls input.old < 2 ^ 64 }
     requires writes { W.calls output.old < 2 ^ 64 }
     ensures { (asked : Result Ask Misuse) × IsRead (map S.text words.now) asked
@@ -55,6 +55,9 @@ pub fn done<S: AsStr, R: Source, W: Sink>(
     };
     if let Ask::Serve(serving) = asked {
         return Ok(Outcome::Serve(serving));
+    }
+    if let Ask::Host(hosting) = asked {
+        return Ok(Outcome::Host(hosting));
     }
     if let Ask::Show(showing) = asked {
         return after_showing(show_for(alloc, showing, input, output));

@@ -46,7 +46,7 @@ pub fn show_for<R: Source, W: Sink>(
 }
 
 /// How the program ends once a record was shown: a verdict other than yes is a failure.
-pub fn after_showing(shown: Result<Verdict, Fault>) -> Result<Outcome, Failure>
+pub fn after_showing<'a>(shown: Result<Verdict, Fault>) -> Result<Outcome<'a>, Failure>
     ensures { result ≡ outcome_shown shown }
 {
     match shown {

@@ -72,7 +72,7 @@ fn play_for<R: Source, W: Sink, A: Allocator + Clone>(
 /// `migrate` with nothing written.
 pub fn work<R: Source, W: Sink>(
     alloc: Global,
-    ask: Ask,
+    ask: Ask<'_>,
     reader: &mut R,
     writer: &mut W,
 ) -> Result<u8, Fault>
@@ -88,5 +88,6 @@ pub fn work<R: Source, W: Sink>(
         Ask::Draw(drawing) => draw_for(alloc, drawing, writer),
         Ask::Show(_) => unreachable!(),
         Ask::Serve(_) => unreachable!(),
+        Ask::Host(_) => unreachable!(),
     }
 }

@@ -7,10 +7,11 @@
 //! memory; at 2 and 3, and where a page was asked for at 1, a text on the standard error says why.
 #![tactic(auto)]
 
+use hall_host::{HostFailure, HostPlan, host_hall};
 use history_book::Opened;
 use schedule_player::{Fault, Tried};
 use slot_server::{Plan, ServeFault, serve};
-use slot_words::{Misuse, Serving, refused};
+use slot_words::{Hosting, Misuse, Serving, refused};
 use slot_work::program::{program, report};
 use slot_work::{Failure, Outcome, in_sight, may_take_long};
 use std::alloc::Global;
@@ -31,7 +32,7 @@ fn command_words(rt: &HostRuntime) -> Result<Vec<String>, Misuse> {
 }
 
 // What the words ask for, over the standard streams.
-fn by_words(rt: &HostRuntime, alloc: Global, words: &[String]) -> Outcome {
+fn by_words<'a>(rt: &HostRuntime, alloc: Global, words: &'a [String]) -> Outcome<'a> {
     let mut input = Tried::new(rt.stdin());
     let mut output = Tried::new(rt.stdout());
     program(alloc, words, &mut input, &mut output, &mut rt.stderr())
@@ -55,16 +56,44 @@ fn failure_of(fault: ServeFault) -> Failure {
     }
 }
 
+// What is to be hosted, where somebody may look on.
+fn host_plan_of<'a>(hosting: Hosting<'a>, seen: bool) -> HostPlan<'a> {
+    HostPlan {
+        config: hosting.config,
+        address: hosting.address,
+        port: hosting.port as u16,
+        clients: hosting.clients as usize,
+        idle: if hosting.idle == 0 { None } else { Some(hosting.idle) },
+        journal: hosting.journal,
+        reports: hosting.verbose || seen,
+    }
+}
+
+// Why no hall is hosted, as a failure of the program: of a journal that is no record, the line of `check` is told.
+fn host_failure_of(failure: HostFailure) -> Failure {
+    match failure {
+        HostFailure::No(line, reason) => Failure::No(line, reason),
+        HostFailure::BadRecord(line) => Failure::BadRecord(line),
+        HostFailure::Output => Failure::Fault(Fault::Write),
+        HostFailure::Memory => Failure::Fault(Fault::Memory),
+        other => Failure::Host(other),
+    }
+}
+
 fn main(rt: HostRuntime) -> ExitCode {
     let alloc = rt.alloc();
     let mut output = Tried::new(rt.stdout());
     let mut errors = rt.stderr();
-    let outcome = match command_words(&rt) {
-        Ok(words) if errors.is_terminal() && may_take_long(&words) => {
-            in_sight(&rt, rt.stderr(), || by_words(&rt, alloc, &words))
+    let words = match command_words(&rt) {
+        Ok(words) => words,
+        Err(misuse) => {
+            return ExitCode::from(report(Failure::Misuse(misuse), &mut output, &mut errors));
         }
-        Ok(words) => by_words(&rt, alloc, &words),
-        Err(misuse) => Outcome::Ended(report(Failure::Misuse(misuse), &mut output, &mut errors)),
+    };
+    let outcome = if errors.is_terminal() && may_take_long(&words) {
+        in_sight(&rt, rt.stderr(), || by_words(&rt, alloc, &words))
+    } else {
+        by_words(&rt, alloc, &words)
     };
     let status = match outcome {
         Outcome::Ended(status) => status,
@@ -74,6 +103,13 @@ fn main(rt: HostRuntime) -> ExitCode {
             match serve::<Brand, _, _>(&rt, alloc, plan_of(serving), &mut output, blank, history) {
                 Ok(()) => 0,
                 Err(fault) => report(failure_of(fault), &mut output, &mut errors),
+            }
+        }
+        Outcome::Host(hosting) => {
+            let plan = host_plan_of(hosting, errors.is_terminal());
+            match host_hall(&rt, alloc, plan, &mut output, &mut errors) {
+                Ok(()) => 0,
+                Err(failure) => report(host_failure_of(failure), &mut output, &mut errors),
             }
         }
     };

@@ -1,0 +1,105 @@
+//! Why a hall is not hosted, or no more.
+
+use event_server::HostFault;
+use journal::{JournalFault, OpenFault};
+use journal_disk::{DiskFault, FileFault};
+use run_checker::Verdict;
+use step_memory::{NoMemory, Refusal};
+use std::io::ErrorKind;
+use thiserror::Error;
+
+/// Why a hall is not hosted, or no more. Its `Display` is the text for the operator.
+#[derive(Clone, Copy, Debug, Drop, PartialEq, Eq, Error)]
+pub enum HostFailure {
+    /// A growth was refused.
+    #[error("no memory")]
+    Memory,
+    /// To listen or to wait failed.
+    #[error("network fault")]
+    Network,
+    /// What it tells was not taken.
+    #[error("write fault")]
+    Output,
+    /// Names are not given in the config's world.
+    #[error("no names are given in this world")]
+    NoNames,
+    /// Another server has the journal.
+    #[error("journal in use")]
+    InUse,
+    /// The file of the journal failed. What was not synced was not answered.
+    #[error("journal fault: {0}")]
+    Journal(ErrorKind),
+    /// The journal is no record of a run: the number of its first line at fault, and of the reason.
+    #[error("journal: no {0} {1}")]
+    No(u64, u8),
+    /// The line of this number of the journal is none of a record.
+    #[error("journal: bad record {0}")]
+    BadRecord(u64),
+    /// The journal is one of another config, or of an older version.
+    #[error("journal of another config")]
+    OtherConfig,
+    /// The line of this number of the journal is none that a server writes.
+    #[error("journal: line {0} is none of a server")]
+    OtherLine(u64),
+}
+
+impl From<FileFault> for HostFailure {
+    fn from(fault: FileFault) -> HostFailure {
+        match fault {
+            FileFault::InUse => HostFailure::InUse,
+            FileFault::Failed(kind) => HostFailure::Journal(kind),
+        }
+    }
+}
+
+impl From<DiskFault> for HostFailure {
+    fn from(fault: DiskFault) -> HostFailure {
+        match fault {
+            DiskFault::NoMemory => HostFailure::Memory,
+            DiskFault::Failed(kind) => HostFailure::Journal(kind),
+        }
+    }
+}
+
+impl From<OpenFault> for HostFailure {
+    fn from(fault: OpenFault) -> HostFailure {
+        match fault {
+            OpenFault::Disk(fault) => HostFailure::from(fault),
+            OpenFault::NoMemory | OpenFault::Judged(Verdict::NoMemory) => HostFailure::Memory,
+            OpenFault::Judged(Verdict::No(line, reason)) => HostFailure::No(line, reason.number()),
+            OpenFault::Judged(Verdict::BadRecord(line)) => HostFailure::BadRecord(line),
+            // A record of a run, of which a line is none of a server.
+            OpenFault::Judged(Verdict::Yes) => HostFailure::OtherConfig,
+            OpenFault::OtherConfig => HostFailure::OtherConfig,
+            OpenFault::OtherLine(line) => HostFailure::OtherLine(line),
+            OpenFault::NoNames => HostFailure::NoNames,
+        }
+    }
+}
+
+impl From<Refusal> for HostFailure {
+    fn from(why: Refusal) -> HostFailure {
+        match why {
+            Refusal::NoMemory => HostFailure::Memory,
+            _ => HostFailure::NoNames,
+        }
+    }
+}
+
+impl From<NoMemory> for HostFailure {
+    fn from(_refused: NoMemory) -> HostFailure {
+        HostFailure::Memory
+    }
+}
+
+impl From<HostFault<JournalFault>> for HostFailure {
+    fn from(fault: HostFault<JournalFault>) -> HostFailure {
+        match fault {
+            HostFault::Memory => HostFailure::Memory,
+            HostFault::Network => HostFailure::Network,
+            HostFault::Output => HostFailure::Output,
+            HostFault::Keep(JournalFault::Disk(fault)) => HostFailure::from(fault),
+            HostFault::Keep(JournalFault::Ended) => HostFailure::Journal(ErrorKind::Other),
+        }
+    }
+}

@@ -1,0 +1,20 @@
+//! A hall that an operator hosts: clients of a socket in one thread, and a journal of what was accepted.
+//!
+//! `host_hall` opens the journal, where one is named, and has `event_server` serve clients over the hall of its record. `Recorded` keeps what
+//! a chronicle tells of each turn in its journal before a reply of that turn is sent; `Unrecorded` serves a hall whose history ends with
+//! the program.
+//!
+//! The theorem (`law_of_hosting`): after a turn of the loop over a chronicle and its journal the history has gained just the accepted
+//! events of the turn, in one order of all turns of all connections; header and journal are the record of the history and are synced; each
+//! connection was told the replies to its own lines, and what a crash leaves then has each event that was answered.
+//!
+//! Not promised, and shown by running it: that a file of the system is such a disk, what sockets carry, how soon a client is served.
+#![tactic(auto)]
+
+pub mod failure;
+pub mod keepers;
+pub mod start;
+
+pub use failure::HostFailure;
+pub use keepers::{Recorded, Unrecorded};
+pub use start::{HostPlan, host_hall};
