@@ -10,7 +10,7 @@ use Rattle.std.specs.declared.net.ip_addr.IpAddr.{IpAddr}
 use Rattle.clap.specs.Faults.{fault_of}
 use Rattle.clap.specs.Words.{Kinds, Row, first_of, one_of, subcommand_of}
 use Rattle.clap.specs.declared.error.kind.ErrorKind.{ErrorKind}
-use Rattle.clap.specs.declared.error.kind.ErrorKind.TheVariants.{DisplayHelp, DisplayHelpOnMissingArgumentOrSubcommand, OutOfMemory}
+use Rattle.clap.specs.declared.error.kind.ErrorKind.TheVariants.{DisplayHelp, DisplayHelpOnMissingArgumentOrSubcommand, DisplayVersion, OutOfMemory}
 use Rattle.commands.specs.Config.{world_name}
 use Rattle.commands.specs.declared.config.Config.{Config}
 use Rattle.commands.specs.declared.kind.WorldKind.{WorldKind}
@@ -110,10 +110,11 @@ IsAsked met (Host hosting) = (rows : List Row) × (met ≡ Some (codes "host", r
 abbrev pub AsksFor : List (List ℕ) → Ask → Type 0
 AsksFor words a = IsAsked (subcommand_of slotctl_app words) a
 
--- clap answers with help
+-- clap answers with help, or with the version
 abbrev pub is_help : ErrorKind → Bool
 is_help DisplayHelp = true
 is_help DisplayHelpOnMissingArgumentOrSubcommand = true
+is_help DisplayVersion = true
 is_help _ = false
 
 -- clap refuses the words

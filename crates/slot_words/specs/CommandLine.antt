@@ -136,6 +136,6 @@ show_app = with_rule (with_rule (new_app (codes "show")) from_option) shown_opti
 abbrev pub slotctl_app : App
 slotctl_app =
     let program = new_app (codes "slotctl") in
-    let needed = record program { top = record program.top { subcommand_required = true } } in
+    let needed = record program { top = record program.top { subcommand_required = true; has_version = true } } in
     let of_records = with_subcommand (with_subcommand (with_subcommand (with_subcommand needed play_app.top) check_app.top) migrate_app.top) show_app.top in
     with_subcommand (with_subcommand (with_subcommand of_records draw_app.top) serve_app.top) host_app.top

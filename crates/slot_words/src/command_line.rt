@@ -14,6 +14,38 @@ const ANY_WORLD: &str = "what is played: splitter, grid, rename or tree";
 
 const WORLD_OF_NAMES: &str = "where names are given: rename or tree";
 
+// The text of `--version` behind the name.
+const VERSION: &str = "0.3, proved with rattle-kit-13f logic dac8208d650f15bf";
+
+// Two examples of each subcommand, under its help.
+const PLAY_EXAMPLES: &str = "Examples:
+  slotctl play --m 2 < lines
+  printf 'begin 10\\nstep 10\\n' | slotctl play --world grid";
+
+const CHECK_EXAMPLES: &str = "Examples:
+  slotctl play --record < lines | slotctl check
+  slotctl check < run.record";
+
+const MIGRATE_EXAMPLES: &str = "Examples:
+  slotctl migrate < old.record > new.record
+  slotctl migrate < old.record | slotctl check";
+
+const SHOW_EXAMPLES: &str = "Examples:
+  slotctl play --record < lines | slotctl show > run.html
+  slotctl show --from 5001 --count 200 < run.record > part.html";
+
+const DRAW_EXAMPLES: &str = "Examples:
+  slotctl draw --seed 7 --ids 4 --steps 200 | slotctl play
+  slotctl draw --seed 7 --ids 16 --steps 20000 --runs 100 --m 16";
+
+const SERVE_EXAMPLES: &str = "Examples:
+  slotctl serve --port 7070 --count 2
+  slotctl serve --world tree --m 64 --workers 16 --count 1000";
+
+const HOST_EXAMPLES: &str = "Examples:
+  slotctl host --port 7070 --journal slots.record
+  slotctl check < slots.record";
+
 // `--world NAME`, of one of the worlds that the help names.
 fn world_option<'a>(alloc: Global, help: &'a str) -> Arg<'a>
     ensures rule { rule_of result ≡ world_option }
@@ -113,7 +145,9 @@ fn address_option<'a>(alloc: Global) -> Arg<'a>
         .action(ArgAction::Set)
         .default_value("127.0.0.1")
         .value_name("ADDRESS")
-        .help("the address; whoever reaches another than this may say everything: no encryption, no authentication")
+        .help(
+            "the address; whoever reaches another than this may say everything: no encryption, no authentication",
+        )
 }
 
 // `--journal FILE`.
@@ -125,7 +159,9 @@ fn journal_option<'a>(alloc: Global) -> Arg<'a>
         .long("journal")
         .action(ArgAction::Set)
         .value_name("FILE")
-        .help("the file of the journal, made where it is missing; without one the history ends with the program")
+        .help(
+            "the file of the journal, made where it is missing; without one the history ends with the program",
+        )
 }
 
 // A subcommand with a world and all its sizes.
@@ -133,6 +169,7 @@ fn config_command<'a>(
     alloc: Global,
     name: &'a str,
     about: &'a str,
+    examples: &'a str,
     worlds: &'a str,
 ) -> Result<Command<'a>, AllocError>
     ensures app { IfOk result (λ c. app_of c ≡ config_app name.now) }
@@ -140,6 +177,7 @@ fn config_command<'a>(
 {
     Command::new(alloc, name)
         .about(about)
+        .after_help(examples)
         .arg(world_option(alloc, worlds))?
         .arg(m_option(alloc))?
         .arg(number_option(alloc, "k", 1, 64, "4", "the size of the pool, from 1 to 64"))?
@@ -155,6 +193,7 @@ fn play_command<'a>(alloc: Global) -> Result<Command<'a>, AllocError>
         alloc,
         "play",
         "Plays the commands of the standard input, and writes a reply to each",
+        PLAY_EXAMPLES,
         ANY_WORLD,
     )?
     .arg(flag(
@@ -171,6 +210,7 @@ fn draw_needs<'a>(alloc: Global) -> Result<Command<'a>, AllocError>
 {
     Command::new(alloc, "draw")
         .about("Draws schedules, and writes one, or a line for each of many that are played")
+        .after_help(DRAW_EXAMPLES)
         .arg(needed_option(alloc, "seed", 0, u64::MAX, "the seed of the generator"))?
         .arg(needed_option(alloc, "ids", 1, 64, "how many identities, from 1 to 64"))?
         .arg(needed_option(
@@ -206,9 +246,9 @@ fn check_command<'a>(alloc: Global) -> Command<'a>
     ensures app { app_of result ≡ check_app }
     ensures local { (out-Command result).has_globals ≡ false }
 {
-    Command::new(alloc, "check").about(
-        "Checks the record of the standard input, and writes its verdict",
-    )
+    Command::new(alloc, "check")
+        .about("Checks the record of the standard input, and writes its verdict")
+        .after_help(CHECK_EXAMPLES)
 }
 
 // The subcommand `migrate`, which has no options.
@@ -216,9 +256,9 @@ fn migrate_command<'a>(alloc: Global) -> Command<'a>
     ensures app { app_of result ≡ migrate_app }
     ensures local { (out-Command result).has_globals ≡ false }
 {
-    Command::new(alloc, "migrate").about(
-        "Writes the record of the standard input again, in version 2",
-    )
+    Command::new(alloc, "migrate")
+        .about("Writes the record of the standard input again, in version 2")
+        .after_help(MIGRATE_EXAMPLES)
 }
 
 // The subcommand `show` with its options.
@@ -228,6 +268,7 @@ fn show_command<'a>(alloc: Global) -> Result<Command<'a>, AllocError>
 {
     Command::new(alloc, "show")
         .about("Writes the record of the standard input as a page that shows its run")
+        .after_help(SHOW_EXAMPLES)
         .arg(number_option(
             alloc,
             "from",
@@ -255,6 +296,7 @@ fn serve_command<'a>(alloc: Global) -> Result<Command<'a>, AllocError>
         alloc,
         "serve",
         "Serves the commands of connections to 127.0.0.1, over one hall",
+        SERVE_EXAMPLES,
         WORLD_OF_NAMES,
     )?
     .arg(number_option(
@@ -292,6 +334,7 @@ fn host_network<'a>(alloc: Global) -> Result<Command<'a>, AllocError>
         alloc,
         "host",
         "Hosts a hall: clients of a socket in one thread, with a journal",
+        HOST_EXAMPLES,
         WORLD_OF_NAMES,
     )?
     .arg(address_option(alloc))?
@@ -345,6 +388,7 @@ pub fn slotctl_command<'a>(alloc: Global) -> Result<Command<'a>, AllocError>
     let serve = serve_command(alloc)?;
     let host = host_command(alloc)?;
     Command::new(alloc, "slotctl")
+        .version(VERSION)
         .about("Plays schedules of shared-memory algorithms, one access a step")
         .subcommand_required(true)
         .subcommand(play)?

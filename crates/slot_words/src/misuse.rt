@@ -9,7 +9,7 @@ use thiserror::Error;
 /// Why words of a command line ask for nothing. Its `Display` is the text for the user.
 #[derive(Debug, Drop, Error)]
 pub enum Misuse {
-    /// They ask for help, which this is.
+    /// They ask for help or for the version, which this is.
     #[error("{0}")]
     Help(String),
     /// They are refused, and this says why.

@@ -170,15 +170,16 @@ fn misuse_of(alloc: Global, error: &Error) -> Misuse
         return Misuse::Memory;
     };
     match kind {
-        ErrorKind::DisplayHelp | ErrorKind::DisplayHelpOnMissingArgumentOrSubcommand =>
-            Misuse::Help(text),
+        ErrorKind::DisplayHelp
+        | ErrorKind::DisplayHelpOnMissingArgumentOrSubcommand
+        | ErrorKind::DisplayVersion => Misuse::Help(text),
         _ => Misuse::Words(text),
     }
 }
 
 /// What the words of a command line ask for, the first of which is the program's name.
 ///
-/// Answers `Misuse::Help` where they ask for help, `Misuse::Words` where they are refused, and `Misuse::Memory` where
+/// Answers `Misuse::Help` where they ask for help or for the version, `Misuse::Words` where they are refused, and `Misuse::Memory` where
 /// memory was refused.
 pub fn ask<'a, S: AsStr>(alloc: Global, words: &'a [S]) -> Result<Ask<'a>, Misuse>
     ensures { IsRead (map S.text words.now) result }
