@@ -1,7 +1,7 @@
 //! What stands in a register of a desk.
 
-ghost use Rattle.std.specs.Prelude.{◌≡◌};
-ghost use Rattle.desk.specs.Held.{held_by_grid, held_by_tree, proposed_in, register_in_grid, register_in_tree};
+ghost use Rattle.std.specs.Prelude.{◌≡◌, ◌<◌};
+ghost use Rattle.desk.specs.Held.{door_number, held_by_grid, held_by_tree, proposed_in, register_in_grid, register_in_tree};
 
 use crate::coming::Register;
 use snapshot_places::{GridRegister, GridValue};

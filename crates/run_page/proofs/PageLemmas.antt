@@ -234,6 +234,9 @@ no_rows c s = none_shown s
 pub no_items : (c : Config) (s : Stretch) → shown_items c s [] ≡ []
 no_items c s = none_shown s
 
+pub no_state : (c : Config) (s : Stretch) → state_before c s [] ≡ []
+no_state c s = none_yet c s [] (omega arith)
+
 -- one more line was replayed
 module _ (l : Line) (s s' : Sheet) (shown first : Bool) (has : (shown ≡ true) ↔ IsInside s.stretch s.seen) (begins : (first ≡ true) ↔ (s.seen ≡ s.stretch.from - 1)) where
   pub put_more : s'.desk ≡ desk_next s.desk l → s'.begun.items ≡ begun_after s.begun.items l → s'.reached.items ≡ with_reached s.reached.items (access_in (done_at s.desk l)) →
