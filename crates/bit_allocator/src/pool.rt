@@ -140,7 +140,7 @@ impl<A: Allocator> Pool<A> {
     }
 
     /// Where an identity stands; none where it does not compete.
-    fn stay_of(&self, id: u64) -> Option<Stay>
+    pub fn stay_of(&self, id: u64) -> Option<Stay>
         ensures stay { result ≡ stay_of id self.now.competitors }
         ensures within { IfSome result (λ stay. IsWithin self.now.size stay) }
     {

@@ -11,4 +11,5 @@ pub mod Owner
 pub mod Desk
 pub mod DeskParts
 pub mod Coming
+pub mod Held
 pub mod Laws

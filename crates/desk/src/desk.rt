@@ -4,17 +4,20 @@ ghost use Rattle.std.specs.Prelude.{◌≡◌, ◌⊎◌, ◌↔◌, IfOk, IfErr
 ghost use Rattle.commands.specs.Config.{gives_names};
 ghost use Rattle.desk.specs.Desk.{desk_rules, desk_refusal, owner_reply, IsFreshDesk};
 ghost use Rattle.desk.specs.Coming.{coming_of};
+ghost use Rattle.desk.specs.Held.{held_in, name_on, place_on, slots_of};
 ghost use Rattle.desk.specs.Laws.{TellsOwners, RefusesAsSaid};
 ghost use Rattle.commands.specs.Replies.{with_view};
 ghost use Rattle.desk.specs.Rules.{may_by};
 
-use crate::coming::{Coming, coming_in_grid, coming_in_tree};
+use crate::coming::{Coming, Register, coming_in_grid, coming_in_tree};
+use crate::held::{held_by_grid, held_by_tree, register_in_grid, register_in_tree};
 use crate::over::DeskOver;
 use commands::{Config, Event, Reply, ShortReply};
+use slot_array::Slots;
 use snapshot_places::{Grid, TreePlaces};
 use std::alloc::Allocator;
 use std::marker::Model;
-use step_memory::{Refusal, View};
+use step_memory::{Place, Refusal, View};
 
 /// A desk over a grid, or one over a tree.
 #[derive(Drop)]
@@ -109,6 +112,50 @@ impl<A: Allocator + Clone> Desk<A> {
                 Some(access) => Some(coming_in_tree(access)),
                 None => None,
             },
+        }
+    }
+
+    /// What stands in a register: the word of X, of Y or of a mark, or the proposal in a segment. `None` where a segment is empty,
+    /// and where a grid has no such register. It is no access, and changes nothing.
+    pub fn held(&self, register: Register) -> Option<u64>
+        ensures { result ≡ held_in self.now register }
+    {
+        match &self.parts {
+            Parts::Grid(desk) => match register_in_grid(register) {
+                Some(register) => held_by_grid(desk.places().value(register)),
+                None => None,
+            },
+            Parts::Tree(desk) => held_by_tree(desk.places().value(register_in_tree(register))),
+        }
+    }
+
+    /// The place of a participant, once it has one: the number of its splitter. It changes nothing.
+    pub fn place_of(&self, id: u64) -> Option<Place>
+        ensures { result ≡ place_on self.now id }
+    {
+        match &self.parts {
+            Parts::Grid(desk) => desk.place_of(id),
+            Parts::Tree(desk) => desk.place_of(id),
+        }
+    }
+
+    /// The name of a participant, once it has one. It changes nothing.
+    pub fn name_of(&self, id: u64) -> Option<u64>
+        ensures { result ≡ name_on self.now id }
+    {
+        match &self.parts {
+            Parts::Grid(desk) => desk.name_of(id),
+            Parts::Tree(desk) => desk.name_of(id),
+        }
+    }
+
+    /// The slots over their pool, for what watches from outside.
+    pub fn slots(&self) -> &Slots<u64, A>
+        ensures { result.now ≡ slots_of self.now }
+    {
+        match &self.parts {
+            Parts::Grid(desk) => desk.slots(),
+            Parts::Tree(desk) => desk.slots(),
         }
     }
 

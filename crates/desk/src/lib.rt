@@ -18,6 +18,9 @@
 //! A reply may show a view, which takes a kilobyte. Where events are many, `Desk::apply_short` answers in a few bytes and puts
 //! the view beside, by the same rules.
 //!
+//! What stands in a desk is told to what watches it, with no access and nothing changed: the access that a participant makes next
+//! (`coming`), its place and its name, what a register holds (`held`), and the slots over their pool.
+//!
 //! A caller:
 //!
 //! ```text
@@ -35,6 +38,7 @@
 
 pub mod coming;
 pub mod desk;
+pub mod held;
 pub mod laws;
 mod outcomes;
 mod over;

@@ -7,6 +7,8 @@ ghost use Rattle.desk.specs.Coming.{next_over};
 ghost use Rattle.commands.specs.Replies.{with_view};
 ghost use Rattle.desk.specs.Rules.{may_by};
 ghost use Rattle.commands.specs.Config.{is_played_over};
+ghost use Rattle.snapshot_core.specs.SnapWorld.{place_in};
+ghost use Rattle.rename_core.specs.RenameWorld.{name_in};
 
 use crate::outcomes::{of_probe, of_step};
 use bit_allocator::Pool;
@@ -16,7 +18,7 @@ use slot_array::Slots;
 use snapshot_core::{Known, Places};
 use std::alloc::Allocator;
 use std::marker::Model;
-use step_memory::{Access, Refusal, StepProgram, View};
+use step_memory::{Access, Place, Refusal, StepProgram, View};
 
 /// A renaming world over these places, and slots over a pool.
 #[derive(Drop)]
@@ -105,6 +107,34 @@ where
             Some(client) => Some(client.next()),
             None => None,
         }
+    }
+
+    /// The memory, for what watches from outside.
+    pub(crate) fn places(&self) -> &W
+        ensures { result.now ≡ self.now.names.snap.memory }
+    {
+        self.names.snap().places()
+    }
+
+    /// The place of a participant, once it has one.
+    pub(crate) fn place_of(&self, id: u64) -> Option<Place>
+        ensures { result ≡ place_in ⟦<W as Known>⟧.places self.now.names.snap id }
+    {
+        self.names.snap().place_of(id)
+    }
+
+    /// The name of a participant, once it has one.
+    pub(crate) fn name_of(&self, id: u64) -> Option<u64>
+        ensures { result ≡ name_in self.now.names id }
+    {
+        self.names.name_of(id)
+    }
+
+    /// The slots over their pool, for what watches from outside.
+    pub(crate) fn slots(&self) -> &Slots<u64, A>
+        ensures { result.now ≡ self.now.slots }
+    {
+        &self.slots
     }
 
     /// Who has a name, or that nobody has it; a refusal where names don't reach there.

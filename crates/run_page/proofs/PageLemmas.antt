@@ -2,7 +2,7 @@
 use Rattle.std.proofs.Common.{◌≡◌, ◌⊎◌, inl, inr, ℕ, zero, suc, ◌+◌, ◌-◌, ◌<◌, ◌≤◌, Bool, true, false, ◌↔◌, if◌then◌else◌, List, [], ◌∷◌, ◌++◌, length, take, drop, refl, sym, ap, ◌∙◌, subst, append_assoc, get_or, flat_map, arith}
 use Rattle.std.proofs.lemmas.List.{take_more, length-drop, take_all, drop_all, take-append-le, drop-append-le, append-nil, length-append}
 use Rattle.std.proofs.lemmas.Grind.{flat_map-append}
-use Rattle.std.proofs.lemmas.Bool.Decides.{leb_tells}
+use Rattle.std.proofs.lemmas.Bool.Decides.{eqb_tells, leb_tells}
 use Rattle.commands.specs.declared.config.Config.{Config}
 use Rattle.commands.specs.declared.kind.WorldKind.{WorldKind}
 use Rattle.commands.specs.declared.kind.WorldKind.TheVariants.{Splitter, Grid, Rename, Tree}
@@ -12,13 +12,17 @@ use Rattle.desk.specs.DeskValue.DeskValue.{OverGrid, OverTree}
 use Rattle.record_lines.specs.declared.line.Line.{Line}
 use Rattle.run_page.specs.declared.stretch.Stretch.{Stretch}
 use Rattle.run_page.specs.declared.sheet.Sheet.{Sheet}
-use Rattle.run_page.specs.Row.{row_of, done_at, desk_next, rows, replayed}
+use Rattle.run_page.specs.declared.form.Form.{Form}
+use Rattle.run_page.specs.declared.form.Form.TheVariants.{Data, Item}
+use Rattle.run_page.specs.Access.{with_reached}
+use Rattle.run_page.specs.Row.{access_in, row_of, done_at, desk_next, reached_in, rows, replayed}
+use Rattle.run_page.specs.State.{name_fact, name_facts, state}
 use Rattle.record_lines.specs.declared.header.Header.{Header}
 use Rattle.record_lines.specs.RecordLine.{IsHeaderLine}
 use Rattle.record_lines.specs.Records.{record_lines}
 use Rattle.run_checker.specs.Gathered.{AreGathered, Gathers}
-use Rattle.run_page.specs.Page.{HasPut, IsPageOf, ending, ending_data, joined, opening, opening_data, page, page_between, page_head, page_middle, page_tail, shown_items, shown_rows, stretch_of}
-use Rattle.run_page.specs.Still.{begun_after, begun_in, item_of, items, last_state, name_item, name_items, next_item}
+use Rattle.run_page.specs.Page.{HasPut, IsPageOf, closing_data, ending, joined, lines_before, opening, opening_data, page, page_between, page_head, page_middle, page_tail, shown_items, shown_rows, state_after, state_before, stretch_of, whole_before}
+use Rattle.run_page.specs.Still.{begun_after, begun_in, item_of, items}
 use Rattle.desk.specs.Desk.{owner_reply}
 use Rattle.run_page.specs.Shown.{IsPage}
 
@@ -39,6 +43,11 @@ rows_length w (k ∷ ls) = ap suc (rows_length (desk_next w k) ls)
 begun_more : (ids : List ℕ) (ls : List Line) (l : Line) → begun_in ids (ls ++ l ∷ []) ≡ begun_after (begun_in ids ls) l
 begun_more ids [] l = refl
 begun_more ids (k ∷ ls) l = begun_more (begun_after ids k) ls l
+
+reached_more : (places : List ℕ) (w : DeskValue) (ls : List Line) (l : Line) →
+    reached_in places w (ls ++ l ∷ []) ≡ with_reached (reached_in places w ls) (access_in (done_at (replayed w ls) l))
+reached_more places w [] l = refl
+reached_more places w (k ∷ ls) l = reached_more (with_reached places (access_in (done_at w k))) (desk_next w k) ls l
 
 -- how many lines there are after these
 abbrev count_after : ℕ → List Line → ℕ
@@ -135,21 +144,65 @@ four_parts t a b d e = simp append_assoc
 pub put_four : (t0 t1 t2 t3 t4 a b d e : List ℕ) → t4 ≡ t3 ++ e → t3 ≡ t2 ++ d → t2 ≡ t1 ++ b → t1 ≡ t0 ++ a → t4 ≡ t0 ++ (((a ++ b) ++ d) ++ e)
 put_four t0 t1 t2 t3 t4 a b d e x y z u = x ∙ rw (y, z, u) (four_parts t0 a b d e)
 
--- ---- the last state
+-- ---- all that a desk holds
 
--- one more participant
-pub next_more : (w : DeskValue) (ids : List ℕ) (i : ℕ) → i < length ids → flat_map (next_item w) (take (i + 1) ids) ≡ flat_map (next_item w) (take i ids) ++ next_item w (get_or ids i 0)
-next_more w ids i lt =
-    ap (flat_map (next_item w)) (take_more ids i 0 lt)
-    ∙ flat_map-append (next_item w) (take i ids) (get_or ids i 0 ∷ [])
-    ∙ ap (λ (t : List ℕ). flat_map (next_item w) (take i ids) ++ t) (append-nil (next_item w (get_or ids i 0)))
+-- one more member of a list
+pub flat_more : {A : Type 0} (text : A → List ℕ) (xs : List A) (i : ℕ) (d : A) → i < length xs → flat_map text (take (i + 1) xs) ≡ flat_map text (take i xs) ++ text (get_or xs i d)
+flat_more text xs i d lt =
+    ap (flat_map text) (take_more xs i d lt)
+    ∙ flat_map-append text (take i xs) (get_or xs i d ∷ [])
+    ∙ ap (λ (t : List ℕ). flat_map text (take i xs) ++ t) (append-nil (text (get_or xs i d)))
 
 -- one more name
-pub names_more : (w : DeskValue) (before : ℕ) → name_items w (before + 1) ≡ name_items w before ++ name_item (before + 1) (owner_reply w (before + 1))
-unfolding name_items
-names_more w before =
+pub names_more : (f : Form) (w : DeskValue) (before : ℕ) → name_facts f w (before + 1) ≡ name_facts f w before ++ name_fact f (before + 1) (owner_reply w (before + 1))
+unfolding name_facts
+names_more f w before =
     let is : before + 1 ≡ suc before = omega arith in
-    subst (λ (n : ℕ). name_items w n ≡ name_items w before ++ name_item n (owner_reply w n)) (sym is) refl
+    subst (λ (n : ℕ). name_facts f w n ≡ name_facts f w before ++ name_fact f n (owner_reply w n)) (sym is) refl
+
+-- ---- the state before a stretch
+
+module _ (c : Config) (s : Stretch) where
+  -- no event of the stretch is among these lines
+  none_yet : (ls : List Line) → length ls ≤ s.from - 1 → state_before c s ls ≡ []
+  none_yet ls low = elim (leb_tells (length ls) (s.from - 1)) [
+    | inl is ↦ ap (λ (b : Bool). if b then [] else state_after Data c (lines_before s ls)) is.0
+    | inr out ↦ absurd (omega (arith, out.1, low))
+  ]
+
+  -- one is
+  one_came : (ls : List Line) → s.from - 1 < length ls → state_before c s ls ≡ state_after Data c (lines_before s ls)
+  one_came ls high = elim (leb_tells (length ls) (s.from - 1)) [
+    | inl is ↦ absurd (omega (arith, is.1, high))
+    | inr is ↦ ap (λ (b : Bool). if b then [] else state_after Data c (lines_before s ls)) is.0
+  ]
+
+  -- and the state stays as it is
+  later : (ls : List Line) (l : Line) → s.from - 1 < length ls → state_before c s (ls ++ l ∷ []) ≡ state_before c s ls
+  later ls l high =
+      let n = length-append ls (l ∷ []) in
+      one_came (ls ++ l ∷ []) (omega (arith, n, high))
+      ∙ ap (state_after Data c) (take-append-le (s.from - 1) ls (l ∷ []) (omega (arith, high)))
+      ∙ sym (one_came ls high)
+
+  before_more : (ls : List Line) (l : Line) (old new : List ℕ) (first : Bool) → ((first ≡ true) ↔ (length ls ≡ s.from - 1)) → old ≡ state_before c s ls →
+      new ≡ old ++ (if first then state_after Data c ls else []) → new ≡ state_before c s (ls ++ l ∷ [])
+  before_more ls l old new true has was is =
+      let n = length-append ls (l ∷ []) in
+      let first = has.0 refl in
+      let all : lines_before s (ls ++ l ∷ []) ≡ ls = take-append-le (s.from - 1) ls (l ∷ []) (omega (arith, first)) ∙ take_all (s.from - 1) ls (omega (arith, first)) in
+      is ∙ ap (λ (t : List ℕ). t ++ state_after Data c ls) (was ∙ none_yet ls (omega (arith, first)))
+      ∙ sym (one_came (ls ++ l ∷ []) (omega (arith, n, first)) ∙ ap (state_after Data c) all)
+  before_more ls l old new false has was is =
+      let n = length-append ls (l ∷ []) in
+      let kept = is ∙ append-nil old ∙ was in
+      elim (leb_tells (suc (length ls)) (s.from - 1)) [
+        | inl low ↦ kept ∙ none_yet ls (omega (arith, low.1)) ∙ sym (none_yet (ls ++ l ∷ []) (omega (arith, n, low.1)))
+        | inr high ↦ elim (eqb_tells (length ls) (s.from - 1)) [
+          | inl same ↦ absurd (let bad : false ≡ true = has.1 same.1 in cc)
+          | inr other ↦ kept ∙ sym (later ls l (omega (arith, high.1, other.1)))
+        ]
+      ]
 
 -- ---- the desk of a config
 
@@ -181,18 +234,33 @@ no_rows c s = none_shown s
 pub no_items : (c : Config) (s : Stretch) → shown_items c s [] ≡ []
 no_items c s = none_shown s
 
+pub no_state : (c : Config) (s : Stretch) → state_before c s [] ≡ []
+no_state c s = none_yet c s [] (omega arith)
+
 -- one more line was replayed
-module _ (l : Line) (s s' : Sheet) (shown : Bool) (has : (shown ≡ true) ↔ IsInside s.stretch s.seen) where
-  pub put_more : s'.desk ≡ desk_next s.desk l → s'.begun.items ≡ begun_after s.begun.items l → s'.stretch ≡ s.stretch → s'.seen ≡ s.seen + 1 →
+module _ (l : Line) (s s' : Sheet) (shown first : Bool) (has : (shown ≡ true) ↔ IsInside s.stretch s.seen) (begins : (first ≡ true) ↔ (s.seen ≡ s.stretch.from - 1)) where
+  pub put_more : s'.desk ≡ desk_next s.desk l → s'.begun.items ≡ begun_after s.begun.items l → s'.reached.items ≡ with_reached s.reached.items (access_in (done_at s.desk l)) →
+      s'.stretch ≡ s.stretch → s'.seen ≡ s.seen + 1 → s'.before ≡ s.before ++ (if first then state Data s.desk s.begun.items s.reached.items else []) →
       s'.text ≡ s.text ++ (if shown then row_of l (done_at s.desk l) else []) →
       s'.listed ≡ s.listed ++ (if shown then item_of s'.begun.items s'.seen l (done_at s.desk l) else []) → Gathers HasPut l s s'
-  put_more desk begun stretch seen text listed c lines o h follows =
+  put_more desk begun reached stretch seen before text listed c lines o h follows =
       let w = fresh_desk c in
       let n = length-append lines (l ∷ []) in
       let m = h.seen in
       let counted = count_is 0 lines in
       let begun_is : s'.begun.items ≡ begun_after (begun_in [] lines) l = begun ∙ ap (λ (ids : List ℕ). begun_after ids l) h.begun in
       let number : s'.seen ≡ suc (count_after 0 lines) = omega (arith, seen, h.seen, counted) in
+      let reached_is : s'.reached.items ≡ with_reached (reached_in [] w lines) (access_in (done_at (replayed w lines) l)) =
+      reached
+      ∙ ap (λ (places : List ℕ). with_reached places (access_in (done_at s.desk l))) h.reached
+      ∙ ap (λ (v : DeskValue). with_reached (reached_in [] w lines) (access_in (done_at v l))) h.desk in
+      let state_is : state Data s.desk s.begun.items s.reached.items ≡ state_after Data c lines =
+      ap (λ (v : DeskValue). state Data v s.begun.items s.reached.items) h.desk
+      ∙ ap (λ (ids : List ℕ). state Data (replayed w lines) ids s.reached.items) h.begun
+      ∙ ap (λ (places : List ℕ). state Data (replayed w lines) (begun_in [] lines) places) h.reached in
+      let before_is =
+      before_more c s.stretch lines l s.before s'.before first (subst (λ (k : ℕ). (first ≡ true) ↔ (k ≡ s.stretch.from - 1)) h.seen begins) h.before
+      (before ∙ ap (λ (t : List ℕ). s.before ++ (if first then t else [])) state_is) in
       let row = text ∙ ap (λ (v : DeskValue). s.text ++ (if shown then row_of l (done_at v l) else [])) h.desk in
       let whole =
       text_more s.stretch (rows w lines) (row_of l (done_at (replayed w lines) l)) s.seen (rows_length w lines ∙ sym h.seen) (opening c s.stretch) s.text s'.text shown has h.text row
@@ -209,12 +277,27 @@ module _ (l : Line) (s s' : Sheet) (shown : Bool) (has : (shown ≡ true) ↔ Is
       record {
         desk = desk ∙ ap (λ (v : DeskValue). desk_next v l) h.desk ∙ sym (replayed_more w lines l);
         begun = begun_is ∙ sym (begun_more [] lines l);
+        reached = reached_is ∙ sym (reached_more [] w lines l);
         seen = omega (arith, seen);
+        before = subst (λ (x : Stretch). s'.before ≡ state_before c x (lines ++ l ∷ [])) (sym stretch) before_is;
         text = subst (λ (x : Stretch). s'.text ≡ opening c x ++ shown_rows c x (lines ++ l ∷ [])) (sym stretch) whole;
         listed = subst (λ (x : Stretch). s'.listed ≡ shown_items c x (lines ++ l ∷ [])) (sym stretch) all_items;
       }
 
 -- ---- the whole page
+
+-- where a page is ended, the state before its stretch is whole
+whole_is : (c : Config) (s : Sheet) (lines : List Line) → HasPut c lines s → whole_before s ≡ state_after Data c (lines_before s.stretch lines)
+whole_is c s lines h =
+    let now = state Data s.desk s.begun.items s.reached.items in
+    let text = λ (b : Bool). s.before ++ (if b then now else []) in
+    elim (leb_tells s.seen (s.stretch.from - 1)) [
+      | inl low ↦
+          let all : lines_before s.stretch lines ≡ lines = take_all (s.stretch.from - 1) lines (omega (arith, low.1, h.seen)) in
+          let state_is : now ≡ state_after Data c lines = rw (h.desk, h.begun, h.reached) refl in
+          ap text low.0 ∙ ap (λ (t : List ℕ). t ++ now) (h.before ∙ none_yet c s.stretch lines (omega (arith, low.1, h.seen))) ∙ state_is ∙ sym (ap (state_after Data c) all)
+      | inr high ↦ ap text high.0 ∙ append-nil s.before ∙ h.before ∙ one_came c s.stretch lines (omega (arith, high.1, h.seen))
+    ]
 
 grouped : (head first rows last middle state between listed tail : List ℕ) →
     ((head ++ first) ++ rows) ++ (((((last ++ middle) ++ state) ++ between) ++ listed) ++ tail) ≡ (((((head ++ ((first ++ rows) ++ last)) ++ middle) ++ state) ++ between) ++ listed) ++ tail
@@ -224,12 +307,14 @@ pub is_page : (bytes : List ℕ) (stretch : Stretch) (h : Header) (head : List �
     IsPage bytes stretch text
 is_page bytes stretch h head lines is says s text a p =
     let c = h.config in
-    let whole : text ≡ page c s.stretch a.run.lines =
+    let ls = a.run.lines in
+    let whole : text ≡ page c s.stretch ls =
     p.text_is
-    ∙ ap (λ (t : List ℕ). t ++ ending s.desk s.begun.items s.seen s.listed) a.gathered.text
-    ∙ rw (a.gathered.desk, a.gathered.begun, a.gathered.seen, a.gathered.listed)
-    (grouped page_head (opening_data c s.stretch) (shown_rows c s.stretch a.run.lines) (ending_data (length a.run.lines))
-    page_middle (last_state (replayed (fresh_desk c) a.run.lines) (begun_in [] a.run.lines)) page_between (shown_items c s.stretch a.run.lines) page_tail) in
+    ∙ ap (λ (t : List ℕ). t ++ ending (whole_before s) s.desk s.begun.items s.reached.items s.seen s.listed) a.gathered.text
+    ∙ ap (λ (t : List ℕ). (opening c s.stretch ++ shown_rows c s.stretch ls) ++ ending t s.desk s.begun.items s.reached.items s.seen s.listed) (whole_is c s ls a.gathered)
+    ∙ rw (a.gathered.desk, a.gathered.begun, a.gathered.reached, a.gathered.seen, a.gathered.listed)
+    (grouped page_head (opening_data c s.stretch) (shown_rows c s.stretch ls) (closing_data (state_after Data c (lines_before s.stretch ls)) (length ls))
+    page_middle (state_after Item c ls) page_between (shown_items c s.stretch ls) page_tail) in
     record {
       head = head;
       rows = lines;

@@ -1,5 +1,5 @@
 -- what a page has of its record has no `<`
-use Rattle.std.proofs.Common.{◌≡◌, ℕ, zero, suc, ◌+◌, ◌/◌, ◌%◌, ◌==◌, nat_lt, inl, inr, if◌then◌else◌, Bool, true, false, ◌||◌, List, [], ◌∷◌, ◌++◌, take, drop, length, Option, Some, None, codes, decimal, refl, sym, ap, ◌∙◌, subst, arith}
+use Rattle.std.proofs.Common.{◌≡◌, ℕ, zero, suc, ◌+◌, ◌/◌, ◌%◌, ◌==◌, nat_lt, inl, inr, if◌then◌else◌, Bool, true, false, ◌||◌, List, [], ◌∷◌, ◌++◌, take, drop, length, flat_map, get_or, is_some, Option, Some, None, Result, Ok, Err, codes, decimal, refl, sym, ap, ◌∙◌, subst, arith}
 use Rattle.std.specs.Fmt.{digits, digits_onto, digit_glyph}
 use Rattle.std.specs.List.{list_any}
 use Rattle.std.proofs.lemmas.List.Folds.{list_any-append}
@@ -28,8 +28,24 @@ use Rattle.record_lines.specs.declared.told.Told.TheVariants as told
 use Rattle.record_lines.specs.ToldWords.{told_words}
 use Rattle.run_page.specs.declared.done.Done.{Done}
 use Rattle.run_page.specs.declared.stretch.Stretch.{Stretch}
-use Rattle.run_page.specs.Row.{access_words, desk_next, done_at, done_words, register_words, row_of, rows}
-use Rattle.run_page.specs.Page.{page_data, ending_data, has_tag, joined, opening_data, shown_rows, stretch_of}
+use Rattle.step_memory.specs.declared.refusal.Refusal.{Refusal}
+use Rattle.bit_allocator.specs.declared.competitor.Competitor.{Competitor}
+use Rattle.bit_allocator.specs.declared.stay.Stay.{Stay}
+use Rattle.bit_allocator.specs.declared.stay.Stay.TheVariants.{Seeking, Settled}
+use Rattle.desk.specs.Coming.{coming_of}
+use Rattle.desk.specs.Desk.{owner_reply}
+use Rattle.desk.specs.Held.{held_in, slots_of}
+use Rattle.run_page.specs.declared.form.Form.{Form}
+use Rattle.run_page.specs.declared.form.Form.TheVariants.{Data, Item}
+use Rattle.run_page.specs.declared.standing.Standing.{Standing}
+use Rattle.run_page.specs.declared.state.TheConstants.{MOST_NAMES}
+use Rattle.run_page.specs.Access.{access_words, register_words}
+use Rattle.run_page.specs.Form.{begin_of, colon_of, end_of, fact, gap_of}
+use Rattle.run_page.specs.Row.{desk_next, done_at, done_words, held_words, reached_in, replayed, row_of, rows, words_of}
+use Rattle.run_page.specs.Standing.{name_words, place_words, standing_on, standing_words, stay_words, value_words}
+use Rattle.run_page.specs.State.{fact_unless_none, held_fact, name_fact, name_facts, person, place_facts, size_fact, slot_facts, state, stranger}
+use Rattle.run_page.specs.Still.{begun_in}
+use Rattle.run_page.specs.Page.{page_data, closing_data, has_tag, joined, lines_before, opening_data, shown_rows, state_after, stretch_of}
 
 -- it has none
 abbrev pub Clean : List ℕ → Type 0
@@ -137,7 +153,7 @@ tells (told.Refused n) = word (codes "refused ") n refl
 
 -- ---- accesses and rows
 
-registers : (r : Register) → Clean (register_words r)
+pub registers : (r : Register) → Clean (register_words r)
 registers (X place) = word (codes "X ") place refl
 registers (Y place) = word (codes "Y ") place refl
 registers (Mark place) = word (codes "mark ") place refl
@@ -149,14 +165,127 @@ accesses (Some Nothing) = refl
 accesses (Some (Read r)) = both (codes "read ") (register_words r) refl (registers r)
 accesses (Some (Write r n)) = four (codes "write ") (register_words r) (codes " ") (decimal n) refl (registers r) refl (number n)
 
-deeds : (d : Option Done) → Clean (done_words d)
+-- ---- where one stands
+
+own_place : (o : Option ℕ) → Clean (place_words o)
+own_place None = refl
+own_place (Some place) = word (codes "place ") place refl
+
+own_name : (o : Option ℕ) (is_spent : Bool) → Clean (name_words o is_spent)
+own_name (Some name) is_spent = word (codes "name ") name refl
+own_name None true = refl
+own_name None false = refl
+
+stays : (o : Option Stay) → Clean (stay_words o)
+stays None = refl
+stays (Some (Seeking next)) = word (codes "probes ") next refl
+stays (Some (Settled n)) = word (codes "holds ") n refl
+
+values : (r : Result ℕ Refusal) → Clean (value_words r)
+values (Ok value) = word (codes " ") value refl
+values (Err why) = refl
+
+gaps : (f : Form) → Clean (gap_of f)
+gaps Data = refl
+gaps Item = refl
+
+pub standings : (f : Form) (s : Standing) → Clean (standing_words f s)
+standings f s =
+    four (access_words s.next ++ gap_of f ++ place_words s.place ++ gap_of f ++ name_words s.name s.is_spent) (gap_of f) (stay_words s.stay) (value_words s.value)
+    (five (access_words s.next) (gap_of f) (place_words s.place) (gap_of f) (name_words s.name s.is_spent) (accesses s.next) (gaps f) (own_place s.place) (gaps f) (own_name s.name s.is_spent))
+    (gaps f) (stays s.stay) (values s.value)
+
+-- ---- a row
+
+helds : (o : Option ℕ) → Clean (held_words o)
+helds None = refl
+helds (Some n) = number n
+
+deed : (d : Done) → Clean (done_words d)
+deed d =
+    five (reply_words d.reply ++ codes "\",\"" ++ access_words d.access ++ codes "\",\"" ++ held_words d.held) (codes "\",\"") (standing_words Data d.standing) (codes "\",\"") (decimal d.size)
+    (five (reply_words d.reply) (codes "\",\"") (access_words d.access) (codes "\",\"") (held_words d.held) (replies d.reply) refl (accesses d.access) refl (helds d.held))
+    refl (standings Data d.standing) refl (number d.size)
+
+deeds : (d : Option Done) → Clean (words_of d)
 deeds None = refl
-deeds (Some d) = five (reply_words d.reply) (codes "\",\"") (access_words d.access) (codes "\",\"") (access_words d.next) (replies d.reply) refl (accesses d.access) refl (accesses d.next)
+deeds (Some d) = deed d
 
 one_row : (l : Line) (d : Option Done) → Clean (row_of l d)
 one_row l d =
     let begun = codes "[\"" ++ event_words l.event ++ codes "\",\"" ++ told_words l.told ++ codes "\",\"" in
-    three begun (done_words d) (codes "\"],\n") (five (codes "[\"") (event_words l.event) (codes "\",\"") (told_words l.told) (codes "\",\"") refl (events l.event) refl (tells l.told) refl) (deeds d) refl
+    three begun (words_of d) (codes "\"],\n") (five (codes "[\"") (event_words l.event) (codes "\",\"") (told_words l.told) (codes "\",\"") refl (events l.event) refl (tells l.told) refl) (deeds d) refl
+
+-- ---- all that a desk holds
+
+facts : (of is : List ℕ) → Clean of → Clean is → Clean (fact Data of is)
+facts of is h k = five (begin_of Data) of (colon_of Data) is (end_of Data) refl h refl k refl
+
+of_all : {A : Type 0} (text : A → List ℕ) → ((x : A) → Clean (text x)) → (xs : List A) → Clean (flat_map text xs)
+of_all text h [] = refl
+of_all text h (x ∷ xs) = both (text x) (flat_map text xs) (h x) (of_all text h xs)
+
+one_person : (w : DeskValue) (p : ℕ) → Clean (person Data w p)
+one_person w p = facts (decimal p) (standing_words Data (standing_on w p)) (number p) (standings Data (standing_on w p))
+
+unless : (b : Bool) (text : List ℕ) → Clean text → Clean (if b then [] else text)
+unless true text h = refl
+unless false text h = h
+
+one_stranger : (w : DeskValue) (c : Competitor) → Clean (stranger Data w c)
+one_stranger w c = unless (is_some (coming_of w c.identity)) (person Data w c.identity) (one_person w c.identity)
+
+one_register : (r : Register) (o : Option ℕ) → Clean (fact_unless_none Data r o)
+one_register r None = refl
+one_register r (Some n) = facts (register_words r) (decimal n) (registers r) (number n)
+
+one_place : (w : DeskValue) (place : ℕ) → Clean (place_facts Data w place)
+one_place w place =
+    four (held_fact Data w (X place)) (held_fact Data w (Y place)) (held_fact Data w (Mark place)) (held_fact Data w (Segment place))
+    (one_register (X place) (held_in w (X place))) (one_register (Y place) (held_in w (Y place))) (one_register (Mark place) (held_in w (Mark place)))
+    (one_register (Segment place) (held_in w (Segment place)))
+
+one_name : (n : ℕ) (r : Reply) → Clean (name_fact Data n r)
+one_name n reply.Ok = refl
+one_name n reply.Quiet = refl
+one_name n reply.Stop = refl
+one_name n reply.Right = refl
+one_name n reply.Down = refl
+one_name n (reply.Place place) = refl
+one_name n (reply.Proposed m) = refl
+one_name n (reply.Saw view) = refl
+one_name n (reply.Named m view) = refl
+one_name n reply.Spent = refl
+one_name n reply.Missed = refl
+one_name n (reply.Got m) = refl
+one_name n (reply.Left m) = refl
+one_name n (reply.Value m) = refl
+one_name n (reply.Owner None) = refl
+one_name n (reply.Owner (Some p)) = facts (codes "name " ++ decimal n) (decimal p) (word (codes "name ") n refl) (number p)
+one_name n (reply.Refused why) = refl
+
+all_names : (w : DeskValue) (n : ℕ) → Clean (name_facts Data w n)
+unfolding name_facts
+all_names w zero = refl
+all_names w (suc n) = both (name_facts Data w n) (name_fact Data (suc n) (owner_reply w (suc n))) (all_names w n) (one_name (suc n) (owner_reply w (suc n)))
+
+all_slots : (values : List ℕ) (n : ℕ) → Clean (slot_facts Data values n)
+all_slots values zero = refl
+all_slots values (suc n) =
+    both (slot_facts Data values n) (fact Data (codes "slot " ++ decimal (suc n)) (decimal (get_or values n 0))) (all_slots values n)
+    (facts (codes "slot " ++ decimal (suc n)) (decimal (get_or values n 0)) (word (codes "slot ") (suc n) refl) (number (get_or values n 0)))
+
+states : (w : DeskValue) (ids places : List ℕ) → Clean (state Data w ids places)
+states w ids places =
+    let people = flat_map (person Data w) ids in
+    let strangers = flat_map (stranger Data w) (slots_of w).pool.competitors in
+    let registers = flat_map (place_facts Data w) places in
+    let names = name_facts Data w MOST_NAMES in
+    let slots = slot_facts Data (slots_of w).values (length (slots_of w).values) in
+    both (people ++ strangers ++ registers ++ names ++ slots) (size_fact Data (slots_of w).pool.size)
+    (five people strangers registers names slots (of_all (person Data w) (one_person w) ids) (of_all (stranger Data w) (one_stranger w) (slots_of w).pool.competitors)
+    (of_all (place_facts Data w) (one_place w) places) (all_names w MOST_NAMES) (all_slots (slots_of w).values (length (slots_of w).values)))
+    (facts (codes "size") (decimal (slots_of w).pool.size) refl (number (slots_of w).pool.size))
 
 -- each text has none
 abbrev AllClean : List (List ℕ) → Type 0
@@ -200,10 +329,15 @@ header c =
 opening_clean : (c : Config) (s : Stretch) → Clean (opening_data c s)
 opening_clean c s = four (header_line c) (codes ",\"from\":") (decimal s.from) (codes ",\"rows\":[\n") (header c) refl (number s.from) refl
 
-ending_clean : (n : ℕ) → Clean (ending_data n)
-ending_clean n = three (codes "null],\"events\":") (decimal n) (codes "}\n") refl (number n) refl
+closing_clean : (before : List ℕ) (n : ℕ) → Clean before → Clean (closing_data before n)
+closing_clean before n h = five (codes "null],\"before\":[\n") before (codes "null],\"events\":") (decimal n) (codes "}\n") refl h refl (number n) refl
+
+after_clean : (c : Config) (lines : List Line) → Clean (state_after Data c lines)
+after_clean c lines = states (replayed (fresh_desk c) lines) (begun_in [] lines) (reached_in [] (fresh_desk c) lines)
 
 pub data_clean : (c : Config) (s : Stretch) (lines : List Line) → Clean (page_data c s lines)
 data_clean c s lines =
     let rs = rows (fresh_desk c) lines in
-    three (opening_data c s) (shown_rows c s lines) (ending_data (length lines)) (opening_clean c s) (joined_clean (stretch_of s rs) (taken s.count _ (dropped _ rs (rows_clean (fresh_desk c) lines)))) (ending_clean (length lines))
+    let before = state_after Data c (lines_before s lines) in
+    three (opening_data c s) (shown_rows c s lines) (closing_data before (length lines)) (opening_clean c s) (joined_clean (stretch_of s rs) (taken s.count _ (dropped _ rs (rows_clean (fresh_desk c) lines))))
+    (closing_clean before (length lines) (after_clean c (lines_before s lines)))

@@ -1,14 +1,12 @@
 -- what a page says of an event, replayed on a desk (this project's profile)
 use Rattle.std.specs.Prelude.{ℕ, Bool, true, false, List, [], ◌∷◌, ◌++◌, Option, Some, None, codes, decimal}
 use Rattle.desk.specs.declared.coming.Coming.{Coming}
-use Rattle.desk.specs.declared.coming.Coming.TheVariants.{Nothing, Read, Write}
-use Rattle.desk.specs.declared.coming.Register.{Register}
-use Rattle.desk.specs.declared.coming.Register.TheVariants.{X, Y, Mark, Segment}
 use Rattle.commands.specs.declared.event.Event.{Event}
 use Rattle.commands.specs.declared.event.Event.TheVariants as event
 use Rattle.desk.specs.Coming.{coming_of}
 use Rattle.desk.specs.Desk.{desk_after, desk_reply}
 use Rattle.desk.specs.DeskValue.{DeskValue}
+use Rattle.desk.specs.Held.{slots_of}
 use Rattle.schedule_player.specs.Events.{event_words}
 use Rattle.schedule_player.specs.Replies.{reply_words}
 use Rattle.record_lines.specs.declared.line.Line.{Line}
@@ -17,6 +15,9 @@ use Rattle.record_lines.specs.declared.told.Told.TheVariants as told
 use Rattle.record_lines.specs.Told.{identity_of}
 use Rattle.record_lines.specs.ToldWords.{told_words}
 use Rattle.run_page.specs.declared.done.Done.{Done}
+use Rattle.run_page.specs.declared.form.Form.TheVariants.{Data}
+use Rattle.run_page.specs.Access.{access_words, held_at, with_reached}
+use Rattle.run_page.specs.Standing.{standing_on, standing_words}
 
 -- ---- what a desk does at a line
 
@@ -29,9 +30,16 @@ abbrev pub access_at : DeskValue → Event → Option Coming
 access_at w (event.Step p) = coming_of w p
 access_at w e = None
 
--- it answers, an access is made, and whose event it is makes this one next
+-- it answers, an access is made, and after it this stands in the register that was reached, whose event it is stands here, and
+-- the pool has so many numbers
 abbrev pub done_by : DeskValue → Event → Done
-done_by w e = record { reply = desk_reply w e; access = access_at w e; next = coming_of (desk_after w e) (identity_of e) }
+done_by w e = record {
+  reply = desk_reply w e;
+  access = access_at w e;
+  held = held_at (desk_after w e) (access_at w e);
+  standing = standing_on (desk_after w e) (identity_of e);
+  size = (slots_of (desk_after w e)).pool.size;
+}
 
 -- a line that tells a refusal changes nothing
 abbrev pub done_unless_refused : Bool → DeskValue → Event → Option Done
@@ -50,31 +58,38 @@ desk_next w l = next_unless_refused (is_refused l.told) w l.event
 
 -- ---- in words
 
-abbrev pub register_words : Register → List ℕ
-register_words (X place) = codes "X " ++ decimal place
-register_words (Y place) = codes "Y " ++ decimal place
-register_words (Mark place) = codes "mark " ++ decimal place
-register_words (Segment place) = codes "segment " ++ decimal place
+abbrev pub held_words : Option ℕ → List ℕ
+held_words None = []
+held_words (Some word) = decimal word
 
-abbrev pub access_words : Option Coming → List ℕ
-access_words None = []
-access_words (Some Nothing) = []
-access_words (Some (Read r)) = codes "read " ++ register_words r
-access_words (Some (Write r word)) = codes "write " ++ register_words r ++ codes " " ++ decimal word
+-- the reply, the access, what then stands in its register, where whose event it is then stands, and the size of the pool
+abbrev pub done_words : Done → List ℕ
+done_words d =
+    reply_words d.reply ++ codes "\",\"" ++ access_words d.access ++ codes "\",\"" ++ held_words d.held ++ codes "\",\"" ++ standing_words Data d.standing ++ codes "\",\"" ++ decimal d.size
 
--- the reply, the access and the next one, each between quotes but for the first and the last
-abbrev pub done_words : Option Done → List ℕ
-done_words None = codes "\",\"\",\""
-done_words (Some d) = reply_words d.reply ++ codes "\",\"" ++ access_words d.access ++ codes "\",\"" ++ access_words d.next
+-- only what parts them where nothing was done
+abbrev pub words_of : Option Done → List ℕ
+words_of None = codes "\",\"\",\"\",\"\",\"\",\"\",\""
+words_of (Some d) = done_words d
 
--- a list of five texts in JSON: the event, what is told of its reply, and what the desk did
+-- a list of ten texts in JSON: the event, what is told of its reply, and what the desk did
 abbrev pub row_of : Line → Option Done → List ℕ
-row_of l done = codes "[\"" ++ event_words l.event ++ codes "\",\"" ++ told_words l.told ++ codes "\",\"" ++ done_words done ++ codes "\"],\n"
+row_of l done = codes "[\"" ++ event_words l.event ++ codes "\",\"" ++ told_words l.told ++ codes "\",\"" ++ words_of done ++ codes "\"],\n"
 
 -- the rows of lines that are replayed on a desk
 abbrev pub rows : DeskValue → List Line → List (List ℕ)
 rows w [] = []
 rows w (l ∷ ls) = row_of l (done_at w l) ∷ rows (desk_next w l) ls
+
+-- the access that is made at a line
+abbrev pub access_in : Option Done → Option Coming
+access_in None = None
+access_in (Some d) = d.access
+
+-- the places that were reached after these lines, each once
+abbrev pub reached_in : List ℕ → DeskValue → List Line → List ℕ
+reached_in places w [] = places
+reached_in places w (l ∷ ls) = reached_in (with_reached places (access_in (done_at w l))) (desk_next w l) ls
 
 -- the desk after lines
 abbrev pub replayed : DeskValue → List Line → DeskValue

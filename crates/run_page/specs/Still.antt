@@ -1,20 +1,15 @@
--- what a page tells where no script runs (this project's profile)
-use Rattle.std.specs.Prelude.{ℕ, zero, suc, ◌==◌, Bool, true, false, List, [], ◌∷◌, ◌++◌, flat_map, position, Option, Some, None, codes, decimal}
+-- what a page tells of the events where no script runs (this project's profile)
+use Rattle.std.specs.Prelude.{ℕ, suc, ◌==◌, Bool, true, false, List, [], ◌∷◌, ◌++◌, position, Option, Some, None, codes, decimal}
 use Rattle.commands.specs.declared.event.Event.{Event}
 use Rattle.commands.specs.declared.event.Event.TheVariants as event
-use Rattle.commands.specs.declared.reply.Reply.{Reply}
-use Rattle.commands.specs.declared.reply.Reply.TheVariants as reply
-use Rattle.desk.specs.Coming.{coming_of}
-use Rattle.desk.specs.Desk.{owner_reply}
 use Rattle.desk.specs.DeskValue.{DeskValue}
-use Rattle.desk.specs.declared.coming.Coming.{Coming}
 use Rattle.schedule_player.specs.Events.{event_words}
 use Rattle.record_lines.specs.declared.line.Line.{Line}
 use Rattle.record_lines.specs.Told.{identity_of}
 use Rattle.record_lines.specs.ToldWords.{told_words}
 use Rattle.run_page.specs.declared.done.Done.{Done}
-use Rattle.run_page.specs.declared.still.TheConstants.{MOST_NAMES}
-use Rattle.run_page.specs.Row.{access_words, desk_next, done_at, is_refused}
+use Rattle.run_page.specs.Access.{access_words}
+use Rattle.run_page.specs.Row.{access_in, desk_next, done_at, is_refused}
 
 -- ---- who has begun
 
@@ -51,10 +46,6 @@ abbrev pub lane_words : Option ℕ → List ℕ
 lane_words None = []
 lane_words (Some lane) = codes " style=\"--lane:" ++ decimal lane ++ codes "\""
 
-abbrev pub access_in : Option Done → Option Coming
-access_in None = None
-access_in (Some d) = d.access
-
 abbrev pub item_begin : ℕ → Option ℕ → List ℕ
 item_begin number lane = codes "<li value=\"" ++ decimal number ++ codes "\"" ++ lane_words lane ++ codes ">"
 
@@ -68,20 +59,3 @@ item_of ids number l d = item_begin number (lane_of ids l.event) ++ item_words l
 abbrev pub items : List ℕ → ℕ → DeskValue → List Line → List (List ℕ)
 items ids before w [] = []
 items ids before w (l ∷ ls) = item_of (begun_after ids l) (suc before) l (done_at w l) ∷ items (begun_after ids l) (suc before) (desk_next w l) ls
-
--- ---- the last state: the access that each who has begun makes next, and who has which name
-
-abbrev pub next_item : DeskValue → ℕ → List ℕ
-next_item w p = codes "<li>" ++ decimal p ++ codes " <b>" ++ access_words (coming_of w p) ++ codes "</b></li>\n"
-
-abbrev pub name_item : ℕ → Reply → List ℕ
-name_item number (reply.Owner (Some p)) = codes "<li>name " ++ decimal number ++ codes ": " ++ decimal p ++ codes "</li>\n"
-name_item number r = []
-
--- the names up to a number
-unfoldable pub name_items : DeskValue → ℕ → List ℕ
-name_items w zero = []
-name_items w (suc before) = name_items w before ++ name_item (suc before) (owner_reply w (suc before))
-
-abbrev pub last_state : DeskValue → List ℕ → List ℕ
-last_state w ids = flat_map (next_item w) ids ++ name_items w MOST_NAMES

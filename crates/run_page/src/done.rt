@@ -3,8 +3,10 @@
 ghost use Rattle.std.specs.Prelude.{◌≡◌, IfOk, OnOk};
 ghost use Rattle.desk.specs.Desk.{desk_after, desk_reply};
 ghost use Rattle.record_lines.specs.Told.{identity_of};
-ghost use Rattle.run_page.specs.Row.{access_at, desk_next, done_at, is_refused};
+ghost use Rattle.run_page.specs.Row.{access_at, access_in, desk_next, done_at, is_refused};
 
+use crate::access::held_at;
+use crate::standing::Standing;
 use desk::{Coming, Desk, Event, Reply};
 use record_lines::{Line, Told};
 use std::alloc::{AllocError, Global};
@@ -17,8 +19,12 @@ pub struct Done {
     pub reply: Reply,
     /// The access that is made by it.
     pub access: Option<Coming>,
-    /// The access that whose event it is makes next, which says where they stand.
-    pub next: Option<Coming>,
+    /// What then stands in the register that was reached: a word, or the proposal in a segment.
+    pub held: Option<u64>,
+    /// Where whose event it is then stands.
+    pub standing: Standing,
+    /// How many numbers the pool then has.
+    pub size: u64,
 }
 
 /// Who an event is of; a widening is nobody's, and 0 is nobody.
@@ -77,6 +83,16 @@ fn access_at(desk: &Desk<Global>, event: Event) -> Option<Coming>
     }
 }
 
+/// The access that was made at a line.
+pub(crate) fn access_in(done: &Option<Done>) -> Option<Coming>
+    ensures { result ≡ access_in done.now }
+{
+    match done {
+        None => None,
+        Some(done) => done.access,
+    }
+}
+
 /// Applies an event. An error where a growth was refused, with the desk unchanged.
 fn answered(desk: &mut Desk<Global>, event: Event) -> Result<Reply, AllocError>
     ensures { IfOk result (λ r. (r ≡ desk_reply desk.old event) × (desk.new ≡ desk_after desk.old event)) }
@@ -103,11 +119,12 @@ pub(crate) fn replay(
     }
     let access = access_at(desk, line.event);
     let reply = answered(desk, line.event)?;
-    let next = desk.coming(identity_of(line.event));
     *done = Some(Done {
         reply,
         access,
-        next,
+        held: held_at(desk, access),
+        standing: Standing::on(desk, identity_of(line.event)),
+        size: desk.slots().pool().size(),
     });
     Ok(())
 }

@@ -94,7 +94,7 @@ pre { overflow: auto; max-height: 24rem; font: 12px/1.45 ui-monospace, monospace
   margin-left: calc((var(--lane, -1) + 1) * 3.5rem); border-left: 3px solid hsl(var(--hue) 55% 50%);
 }
 .still b:empty { display: none; }
-.still ul b::before { content: "next: "; font-weight: 400; color: var(--soft); }
+.still ul { columns: 18rem; padding-left: 1.2rem; }
 @media (max-width: 52rem) { .stage { grid-template-columns: minmax(0, 1fr); } }
 @media print {
   .controls, details { display: none; }
@@ -146,7 +146,8 @@ pre { overflow: auto; max-height: 24rem; font: 12px/1.45 ui-monospace, monospace
   <div class="key" id="key" aria-label="what the marks mean"></div>
 </section>
 <details class="card" id="source">
-<summary>The events as data: event, reply, reply of a desk, access, next access</summary>
+<summary>The events as data: event, reply, reply of a desk, access, and then what stands in its register, the next access, place, name,
+number and slot of the participant, and the size of the pool; after them all that stood before the first</summary>
 <pre id="run">{"record":"#;
 
 /// Its bytes.

@@ -8,15 +8,21 @@ ghost use Rattle.record_lines.specs.ToldWords.{told_words};
 ghost use Rattle.record_lines.specs.declared.line.Line.{Line};
 ghost use Rattle.record_lines.specs.declared.told.Told.{Told};
 ghost use Rattle.schedule_player.specs.Events.{event_words};
+ghost use Rattle.desk.specs.declared.coming.Register.{Register};
+ghost use Rattle.run_page.specs.declared.form.Form.{Form};
+ghost use Rattle.run_page.specs.declared.standing.Standing.{Standing};
 ghost use Rattle.run_page.specs.declared.stretch.Stretch.{Stretch};
+ghost use Rattle.run_page.specs.Access.{access_words, register_words};
 ghost use Rattle.run_page.specs.Page.{page_data, has_tag};
-ghost use Rattle.run_page.specs.Row.{access_words};
+ghost use Rattle.run_page.specs.Standing.{standing_words};
 
 /// A law, which runs nothing: what a page has of its record has no `<`, so that it can neither end the element that holds it nor
 /// begin another. That is all the data, and of an item each text that stands between its tags.
 pub fn law_of_data()
     ensures all { (c : Config) (s : Stretch) (lines : List Line) → has_tag (page_data c s lines) ≡ false }
     ensures events { (e : Event) → has_tag (event_words e) ≡ false }
+    ensures registers { (r : Register) → has_tag (register_words r) ≡ false }
+    ensures standings { (f : Form) (s : Standing) → has_tag (standing_words f s) ≡ false }
     ensures accesses { (a : Option Coming) → has_tag (access_words a) ≡ false }
     ensures replies { (t : Told) → has_tag (told_words t) ≡ false }
     ensures numbers { (n : ℕ) → has_tag (decimal n) ≡ false }

@@ -1,65 +1,16 @@
 //! The rows of a page.
 
-ghost use Rattle.std.specs.Prelude.{◌≡◌, ◌++◌, [], OnOk, codes, decimal, if◌then◌else◌};
+ghost use Rattle.std.specs.Prelude.{◌≡◌, ◌++◌, [], OnOk, if◌then◌else◌};
 ghost use Rattle.schedule_player.specs.Replies.{owner_words, reply_words};
-ghost use Rattle.run_page.specs.Row.{access_words, done_words, register_words, row_of};
+ghost use Rattle.run_page.specs.Row.{done_words, held_words, row_of, words_of};
 
+use crate::access::{put_access, put_place};
 use crate::done::Done;
-use desk::{Coming, Register, Reply};
-use itoa::Buffer;
+use crate::form::Form;
+use crate::standing::put_standing;
+use desk::Reply;
 use record_lines::{Line, Text, put_event, put_told, put_view};
 use std::alloc::AllocError;
-use step_memory::Place;
-
-/// Appends the number of a place.
-fn put_place(place: Place, out: &mut Text) -> Result<(), AllocError>
-    ensures { OnOk result (out.new ≡ out.old ++ decimal place) }
-{
-    out.put(Buffer::new().format(place).as_bytes())
-}
-
-/// Appends the words of a register.
-fn put_register(register: Register, out: &mut Text) -> Result<(), AllocError>
-    ensures { OnOk result (out.new ≡ out.old ++ register_words register) }
-{
-    match register {
-        Register::X(place) => {
-            out.put(b"X ")?;
-            put_place(place, out)
-        }
-        Register::Y(place) => {
-            out.put(b"Y ")?;
-            put_place(place, out)
-        }
-        Register::Mark(place) => {
-            out.put(b"mark ")?;
-            put_place(place, out)
-        }
-        Register::Segment(place) => {
-            out.put(b"segment ")?;
-            put_place(place, out)
-        }
-    }
-}
-
-/// Appends the words of an access, and nothing where there is none.
-pub(crate) fn put_access(access: Option<Coming>, out: &mut Text) -> Result<(), AllocError>
-    ensures { OnOk result (out.new ≡ out.old ++ access_words access) }
-{
-    match access {
-        None => Ok(()),
-        Some(Coming::Nothing) => Ok(()),
-        Some(Coming::Read(register)) => {
-            out.put(b"read ")?;
-            put_register(register, out)
-        }
-        Some(Coming::Write(register, word)) => {
-            out.put(b"write ")?;
-            put_register(register, out)?;
-            out.put_word(b" ", word)
-        }
-    }
-}
 
 /// Appends who has a name.
 fn put_owner(owner: Option<u64>, out: &mut Text) -> Result<(), AllocError>
@@ -98,19 +49,37 @@ fn put_reply(reply: &Reply, out: &mut Text) -> Result<(), AllocError>
     }
 }
 
+/// Appends what stands in a register, where anything does.
+fn put_held(held: Option<u64>, out: &mut Text) -> Result<(), AllocError>
+    ensures { OnOk result (out.new ≡ out.old ++ held_words held) }
+{
+    match held {
+        None => Ok(()),
+        Some(word) => out.put_number(word),
+    }
+}
+
 /// Appends the words of what a desk did, with what parts them.
-fn put_done(done: &Option<Done>, out: &mut Text) -> Result<(), AllocError>
+fn put_done(done: &Done, out: &mut Text) -> Result<(), AllocError>
     ensures { OnOk result (out.new ≡ out.old ++ done_words done.now) }
 {
+    put_reply(&done.reply, out)?;
+    out.put(b"\",\"")?;
+    put_access(done.access, out)?;
+    out.put(b"\",\"")?;
+    put_held(done.held, out)?;
+    out.put(b"\",\"")?;
+    put_standing(Form::Data, &done.standing, out)?;
+    out.put_word(b"\",\"", done.size)
+}
+
+/// Appends the words of what a desk did, and only what parts them where it did nothing.
+fn put_done_or_none(done: &Option<Done>, out: &mut Text) -> Result<(), AllocError>
+    ensures { OnOk result (out.new ≡ out.old ++ words_of done.now) }
+{
     match done {
-        None => out.put(b"\",\"\",\""),
-        Some(done) => {
-            put_reply(&done.reply, out)?;
-            out.put(b"\",\"")?;
-            put_access(done.access, out)?;
-            out.put(b"\",\"")?;
-            put_access(done.next, out)
-        }
+        None => out.put(b"\",\"\",\"\",\"\",\"\",\"\",\""),
+        Some(done) => put_done(done, out),
     }
 }
 
@@ -123,7 +92,7 @@ fn put_row(line: &Line, done: &Option<Done>, out: &mut Text) -> Result<(), Alloc
     out.put(b"\",\"")?;
     put_told(&line.told, out)?;
     out.put(b"\",\"")?;
-    put_done(done, out)?;
+    put_done_or_none(done, out)?;
     out.put(b"\"],\n")
 }
 

@@ -1,14 +1,17 @@
 //! From the lines of a record to a page.
 
 ghost use Rattle.std.specs.Prelude.{◌≡◌, [], ◌++◌, IfOk, OnOk};
-ghost use Rattle.run_page.specs.Page.{HasPut, IsPageOf, ending, ending_data, opening};
+ghost use Rattle.run_page.specs.Page.{HasPut, IsPageOf, closing_data, ending, opening};
 ghost use Rattle.desk.specs.Desk.{fresh_desk};
 
-use crate::done::{Done, replay};
+use crate::access::keep_reached;
+use crate::done::{Done, access_in, replay};
+use crate::form::Form;
 use crate::head::head;
 use crate::middle::{between, middle};
 use crate::row::put_where_shown;
-use crate::still::{keep_beginner, put_item_where_shown, put_last_state};
+use crate::state::{put_state, put_state_where_asked};
+use crate::still::{keep_beginner, put_item_where_shown};
 use crate::stretch::Stretch;
 use crate::tail::tail;
 use desk::Desk;
@@ -16,16 +19,19 @@ use record_lines::{Line, Text, put_header};
 use rename_core::Config;
 use run_checker::gather::Gather;
 use std::alloc::{AllocError, Global};
+use step_memory::Place;
 
-/// A page so far: up to its rows, and the items that come after them. Beside it a desk on which the lines so far were replayed,
-/// with what it did at the last of them, and who has begun.
+/// A page so far: up to its rows, the state before them, and the items that come after. Beside it a desk on which the lines so far
+/// were replayed, with what it did at the last of them, who has begun, and which places were reached.
 #[derive(Drop)]
 pub(crate) struct Sheet {
     desk: Desk<Global>,
     begun: Vec<u64>,
+    reached: Vec<Place>,
     done: Option<Done>,
     stretch: Stretch,
     seen: u64,
+    before: Text,
     text: Text,
     listed: Text,
 }
@@ -41,27 +47,32 @@ fn put_opening(config: Config, stretch: Stretch, out: &mut Text) -> Result<(), A
     Ok(())
 }
 
-/// Appends what ends the data.
-fn put_ending_data(events: u64, out: &mut Text) -> Result<(), AllocError>
-    ensures { OnOk result (out.new ≡ out.old ++ ending_data events) }
+/// Appends what ends the data, with the state before its rows.
+fn put_closing_data(before: &Text, events: u64, out: &mut Text) -> Result<(), AllocError>
+    ensures { OnOk result (out.new ≡ out.old ++ closing_data before.now events) }
 {
+    out.put(b"null],\"before\":[\n")?;
+    out.put(before.as_slice())?;
     out.put_word(b"null],\"events\":", events)?;
-    out.put(b"}\n")
+    out.put(b"}\n")?;
+    Ok(())
 }
 
-/// Appends what stands after the last row.
+/// Appends what stands after the last row: of which texts, and of which desk.
 fn put_ending(
+    before: &Text,
     desk: &Desk<Global>,
     begun: &[u64],
+    reached: &[Place],
     events: u64,
     listed: &Text,
     out: &mut Text,
 ) -> Result<(), AllocError>
-    ensures { OnOk result (out.new ≡ out.old ++ ending desk.now begun.now events listed.now) }
+    ensures { OnOk result (out.new ≡ out.old ++ ending before.now desk.now begun.now reached.now events listed.now) }
 {
-    put_ending_data(events, out)?;
+    put_closing_data(before, events, out)?;
     out.put(middle())?;
-    put_last_state(desk, begun, out)?;
+    put_state(Form::Item, desk, begun, reached, out)?;
     out.put(between())?;
     out.put(listed.as_slice())?;
     out.put(tail())?;
@@ -89,9 +100,11 @@ impl Sheet {
         Ok(Sheet {
             desk,
             begun: Vec::new(alloc),
+            reached: Vec::new(alloc),
             done: None,
             stretch,
             seen: 0,
+            before: Text::new(alloc),
             text,
             listed: Text::new(alloc),
         })
@@ -104,9 +117,11 @@ impl Sheet {
         let Sheet {
             desk,
             begun,
+            reached,
             done: _,
             stretch: kept,
             seen,
+            mut before,
             mut text,
             listed,
         } = self;
@@ -114,7 +129,11 @@ impl Sheet {
         if kept.from != stretch.from || kept.count != stretch.count {
             return Err(AllocError);
         }
-        put_ending(&desk, &begun, seen, &listed, &mut text)?;
+        let is_past = kept.is_past(seen);
+        put_state_where_asked(is_past, &desk, &begun, &reached, &mut before)?;
+        put_ending(
+            &before, &desk, &begun, &reached, seen, &listed, &mut text,
+        )?;
         Ok(text)
     }
 }
@@ -126,9 +145,18 @@ impl Gather for Sheet {
         let Some(seen) = self.seen.checked_add(1) else {
             return Err(AllocError);
         };
+        let is_first = self.stretch.begins_after(self.seen);
         let is_shown = self.stretch.has(self.seen);
+        put_state_where_asked(
+            is_first,
+            &self.desk,
+            &self.begun,
+            &self.reached,
+            &mut self.before,
+        )?;
         replay(&mut self.desk, line, &mut self.done)?;
         keep_beginner(line, &mut self.begun)?;
+        keep_reached(access_in(&self.done), &mut self.reached)?;
         put_where_shown(line, is_shown, &self.done, &mut self.text)?;
         put_item_where_shown(
             &self.begun,

@@ -9,7 +9,7 @@ pub const TAIL: &str = r#"</ol>
 </main>
 <script>
 'use strict';
-// The state that is drawn is what the rows say, one after the other: nothing is decided here.
+// The state that is drawn is what the data say: all that a desk held before the first row, and what each row tells after its event.
 const $ = (id) => document.getElementById(id);
 const run = JSON.parse($('run').textContent);
 const config = run.record;
@@ -27,74 +27,66 @@ function readAccess(text) {
   return { kind: words[0], reg: words[1], place: words[2], word: words[3] };
 }
 
+// where somebody stands: the next access, the place, the name, and how it competes for the pool
+function readStanding([next, place, name, pool]) {
+  const [how, number, slot] = pool.split(' ');
+  return {
+    next: readAccess(next), place: place === '' ? null : place.split(' ')[1],
+    name: name.startsWith('name') ? name.split(' ')[1] : name, pool: how,
+    number: how === 'holds' ? number : '', slot,
+  };
+}
+
 function readRow(row) {
   const [verb, id, value] = row[0].split(' ');
   const told = row[1].split(' ');
   return {
     verb, id: verb === 'widen' ? '' : id, value: verb === 'widen' ? id : value,
     text: row[0], told: row[1], reply: told[0], number: told[1], desk: row[2],
-    access: readAccess(row[3]), next: readAccess(row[4]),
+    access: readAccess(row[3]), held: row[4], stands: readStanding(row.slice(5, 9)), size: row[9],
     refused: told[0] === 'refused',
   };
 }
 
-// the first access on this page of each who began before it says where they stood
-const before = new Map();
-for (const r of rows) {
-  if (r.access && !r.refused && !before.has(r.id)) before.set(r.id, r.access);
-}
-for (const r of rows) if (r.verb === 'begin' && !r.refused) before.delete(r.id);
-
 // ---- the state after so many rows
+// what the data tell of the state before the first: of people, and of registers, names, slots and the size by their words
+const before = { people: new Map(), facts: new Map() };
+for (const [of, ...is] of run.before.slice(0, -1)) {
+  if (is.length > 1) before.people.set(of, readStanding(is));
+  else before.facts.set(of, is[0]);
+}
+
 function fresh() {
-  const s = {
-    people: new Map(), regs: new Map(), names: new Map(), holders: new Map(), slots: new Map(),
-    size: Number(config.k), differ: 0, refused: 0, row: null,
-  };
-  for (const [id, access] of before) {
-    const p = person(s, id);
-    p.next = access;
-    if (access.reg !== 'segment') p.at = access.place;
-  }
+  const s = { people: new Map(), facts: new Map(before.facts), differ: 0, refused: 0, row: null };
+  for (const [id, stands] of before.people) stand(s, id, stands);
   return s;
 }
 
-function person(s, id) {
-  if (!s.people.has(id)) {
-    s.people.set(id, { id, at: null, home: null, next: null, proposed: '', name: '', pool: '' });
-  }
-  return s.people.get(id);
+function stand(s, id, stands) {
+  s.people.set(id, stands);
+  if (stands.name !== '' && stands.name !== 'spent') s.facts.set('name ' + stands.name, id);
+  if (stands.number !== '') s.facts.set('slot ' + stands.number, stands.slot);
 }
 
 function follow(s, r) {
   s.row = r;
   if (r.refused) { s.refused += 1; return; }
   if (r.desk !== r.told) s.differ += 1;
-  if (r.access && r.access.kind === 'write') {
-    s.regs.set(r.access.reg + ' ' + r.access.place, r.access.word);
-  }
-  if (r.verb === 'widen') { s.size = Number(r.value); return; }
-  const p = person(s, r.id);
-  p.next = r.next;
-  if (r.next && r.next.reg !== 'segment' && p.home === null) p.at = r.next.place;
-  switch (r.reply) {
-    case 'place': p.home = r.number; p.at = r.number; break;
-    case 'proposed': p.proposed = r.number; break;
-    case 'named': p.name = r.number; s.names.set(r.number, r.id); break;
-    case 'spent': p.name = 'spent'; break;
-    case 'got': p.pool = r.number; s.holders.set(r.number, r.id); break;
-    case 'left': p.pool = ''; s.holders.delete(r.number); break;
-    case 'missed': p.pool = 'probes'; break;
-    default:
-      if (r.verb === 'enter') p.pool = 'probes';
-      if (r.verb === 'put') s.slots.set(p.pool, r.value);
-  }
+  if (r.access && r.held !== '') s.facts.set(r.access.reg + ' ' + r.access.place, r.held);
+  s.facts.set('size', r.size);
+  if (r.id) stand(s, r.id, r.stands);
 }
 
 function stateAt(count) {
   const s = fresh();
   for (let i = 0; i < count; i += 1) follow(s, rows[i]);
   return s;
+}
+
+// the door or node at which one stands: its place, or that of the access that it makes next
+function spotOf(stands) {
+  if (stands.place !== null) return stands.place;
+  return stands.next && stands.next.reg !== 'segment' ? stands.next.place : null;
 }
 
 // ---- words
@@ -143,6 +135,8 @@ function deedWords(r) {
 }
 
 function sentence(r) {
+  if (!r && rows.length === 0) return 'No event is shown: all that was done is drawn.';
+  if (!r && offset > 0) return 'What stood before event ' + (offset + 1) + ' is drawn.';
   if (!r) return 'Nothing was done yet.';
   return [deedWords(r), replyWords(r)].filter((part) => part !== '').join('; ');
 }
@@ -166,7 +160,7 @@ function say(parent, name, text, css) {
   return node;
 }
 
-const ids = [];
+const ids = [...before.people.keys()];
 for (const r of rows) if (r.id && !r.refused && !ids.includes(r.id)) ids.push(r.id);
 const color = (id) => 'var(--c' + ids.indexOf(id) % 8 + ')';
 const short = (id) => (id.length < 5 ? id : '…' + id.slice(-3));
@@ -183,9 +177,16 @@ function disc(parent, id, x, y) {
 // where each splitter stands: by diagonals in a grid, by levels in a tree
 function seen() {
   const all = new Set();
+  for (const of of before.facts.keys()) {
+    const [reg, place] = of.split(' ');
+    if (reg === 'X' || reg === 'segment') all.add(place);
+  }
+  for (const stands of before.people.values()) {
+    if (spotOf(stands) !== null) all.add(spotOf(stands));
+  }
   for (const r of rows) {
-    for (const a of [r.access, r.next]) if (a && a.place) all.add(a.place);
-    if (r.reply === 'place') all.add(r.number);
+    for (const a of [r.access, r.stands.next]) if (a) all.add(a.place);
+    if (r.stands.place !== null) all.add(r.stands.place);
   }
   return all;
 }
@@ -223,11 +224,14 @@ function treeRooms() {
   return rooms;
 }
 
-// the splitters that somebody entered on this page
+// the splitters that somebody has entered
 const entered = new Set();
+for (const [of, is] of before.facts) {
+  const [reg, place] = of.split(' ');
+  if (reg === 'X' && is !== '0') entered.add(place);
+}
 for (const r of rows) {
   if (r.access && r.access.reg !== 'segment') entered.add(r.access.place);
-  if (r.reply === 'place') entered.add(r.number);
 }
 
 const WIDE = 112;
@@ -291,11 +295,10 @@ function buildSpace() {
   svg.style.width = '100%';
 }
 
-const unknown = offset > 0 ? '·' : '0';
-
+// what was not told of has held nothing but 0 so far
 function value(s, reg, place) {
-  const found = s.regs.get(reg + ' ' + place);
-  return found === undefined ? unknown : found;
+  const found = s.facts.get(reg + ' ' + place);
+  return found === undefined ? '0' : found;
 }
 
 function drawRoom(s, p, part, here) {
@@ -304,9 +307,9 @@ function drawRoom(s, p, part, here) {
   const near = a && a.place === p ? a.reg : '';
   const x = value(s, 'X', p);
   const y = value(s, 'Y', p);
-  const written = s.regs.get('segment ' + p);
-  const home = here.find((one) => one.home === p);
-  const marked = s.regs.has('mark ' + p);
+  const written = s.facts.get('segment ' + p);
+  const home = here.find((one) => one.place === p);
+  const marked = value(s, 'mark', p) !== '0';
   const all = [x, y, written, near, marked, here.map((one) => one.id), home && home.id].join();
   if (part.drawn === all) return;
   part.drawn = all;
@@ -322,12 +325,13 @@ function drawRoom(s, p, part, here) {
   part.box.setAttribute('class', near ? 'room now' : 'room');
   part.g.setAttribute('data-x', x);
   part.g.setAttribute('data-y', y);
+  part.g.setAttribute('data-segment', written === undefined ? '' : written);
   part.g.setAttribute('data-people', here.map((one) => one.id).join(' '));
   part.title.textContent = spot(p) + ': X ' + x + ', Y ' + y
-    + here.map((one) => ', ' + one.id + (one.home === p ? ' stopped' : ' is here')).join('')
+    + here.map((one) => ', ' + one.id + (one.place === p ? ' stopped' : ' is here')).join('')
     + (written !== undefined ? ', proposes ' + written : '');
   part.people.replaceChildren();
-  const walk = here.filter((one) => one.home !== p);
+  const walk = here.filter((one) => one.place !== p);
   walk.slice(0, 3).forEach((one, i) => disc(part.people, one.id, 12 + i * 36, -6));
   if (walk.length > 3) put(part.people, 'text', { x: 104, y: -2 }, '+' + (walk.length - 3));
   if (home) disc(part.people, home.id, WIDE - 18, 12);
@@ -335,23 +339,30 @@ function drawRoom(s, p, part, here) {
 
 function drawSpace(s) {
   const at = new Map();
-  for (const one of s.people.values()) {
-    if (one.at === null) continue;
-    if (!at.has(one.at)) at.set(one.at, []);
-    at.get(one.at).push(one);
+  for (const [id, stands] of s.people) {
+    const spot = spotOf(stands);
+    if (spot === null) continue;
+    if (!at.has(spot)) at.set(spot, []);
+    at.get(spot).push({ id, place: stands.place });
   }
   for (const [p, part] of parts) drawRoom(s, p, part, at.get(p) || []);
 }
 
-function nextWords(one) {
-  if (one.name === 'spent' || one.name !== '') return '';
-  return one.next ? one.next.kind + ' ' + (one.next.reg === 'segment' ? 'seg.' : one.next.reg)
-    + ' ' + short(one.next.place) : '';
+function nextWords({ next }) {
+  return next ? next.kind + ' ' + (next.reg === 'segment' ? 'seg.' : next.reg) + ' '
+    + short(next.place) : '';
+}
+
+const poolWords = (stands) => stands.number || stands.pool;
+
+// what the segment at one's place says that one proposes
+function proposal(s, stands) {
+  return stands.place === null ? '' : s.facts.get('segment ' + stands.place) || '';
 }
 
 function drawPeople(s) {
   const body = $('people').tBodies[0];
-  const all = JSON.stringify([...s.people.values()]);
+  const all = JSON.stringify([...s.people].map(([id, one]) => [id, one, proposal(s, one)]));
   if (body.drawn === all) return;
   body.drawn = all;
   body.replaceChildren();
@@ -360,16 +371,17 @@ function drawPeople(s) {
     say(head, 'th', text).scope = 'col';
   }
   body.appendChild(head);
-  for (const one of s.people.values()) {
+  for (const [id, one] of s.people) {
     const line = document.createElement('tr');
-    line.dataset.id = one.id;
-    line.dataset.at = one.at === null ? '' : one.at;
-    const who = say(line, 'th', short(one.id));
-    who.title = one.id;
+    line.dataset.id = id;
+    line.dataset.at = spotOf(one) || '';
+    const who = say(line, 'th', short(id));
+    who.title = id;
     who.scope = 'row';
-    who.style.color = color(one.id);
+    who.style.color = color(id);
     who.style.fontWeight = 700;
-    for (const text of [one.home || '', one.proposed, one.name, one.pool, nextWords(one)]) {
+    const place = one.place === null ? '' : short(one.place);
+    for (const text of [place, proposal(s, one), one.name, poolWords(one), nextWords(one)]) {
       say(line, 'td', text);
     }
     body.appendChild(line);
@@ -389,17 +401,20 @@ function cell(parent, number, text, small) {
 function drawCells(s) {
   const names = $('names');
   const pool = $('pool');
-  const all = JSON.stringify([s.size, ...s.names, '', ...s.holders, '', ...s.slots]);
+  const holders = new Map();
+  for (const [id, one] of s.people) if (one.number !== '') holders.set(one.number, id);
+  const size = Number(s.facts.get('size'));
+  const all = JSON.stringify([...s.facts, '', ...holders]);
   if (pool.drawn === all) return;
   pool.drawn = all;
   names.replaceChildren();
   pool.replaceChildren();
   for (let n = 1; n < 2 * Number(config.m); n += 1) {
-    cell(names, n, s.names.get(String(n)) || '', String(n));
+    cell(names, n, s.facts.get('name ' + n) || '', String(n));
   }
-  for (let n = 1; n <= s.size; n += 1) {
-    const slot = s.slots.get(String(n));
-    cell(pool, n, s.holders.get(String(n)) || '', n + (slot === undefined ? '' : ': ' + slot));
+  for (let n = 1; n <= size; n += 1) {
+    const slot = value(s, 'slot', n);
+    cell(pool, n, holders.get(String(n)) || '', n + (slot === '0' ? '' : ': ' + slot));
   }
 }
 
@@ -441,23 +456,32 @@ function mark(parent, kind, x, y, tint) {
     fill: full ? tint : 'var(--card)', stroke: tint, 'stroke-width': 1.6 });
 }
 
-// the first moment from a proposal on, up to a reply, at which what is proposed is so
-function momentFrom(start, end, own, fits) {
-  const proposals = new Map();
-  for (let i = 0; i <= end; i += 1) {
-    if (rows[i].reply === 'proposed') proposals.set(rows[i].id, rows[i].number);
+// what each proposes before the first row
+function firstProposals() {
+  const all = new Map();
+  for (const [id, stands] of before.people) {
+    if (proposal(before, stands) !== '') all.set(id, proposal(before, stands));
+  }
+  return all;
+}
+
+// the first moment from a proposal on, up to a reply, at which what is proposed is so; -1 is before the first row
+function momentFrom(start, end, fits) {
+  const proposals = firstProposals();
+  for (let i = -1; i <= end; i += 1) {
+    if (i >= 0 && rows[i].reply === 'proposed') proposals.set(rows[i].id, rows[i].number);
     if (i >= start && fits(proposals)) return i;
   }
-  return -1;
+  return null;
 }
 
 function momentOf(r, start, end) {
   if (r.reply === 'saw') {
     const view = r.told.slice(4).split(' ').sort().join(' ');
-    return momentFrom(start, end, r.id, (all) =>
+    return momentFrom(start, end, (all) =>
       [...all].map(([id, n]) => id + ':' + n).sort().join(' ') === view);
   }
-  return momentFrom(start, end, r.id, (all) =>
+  return momentFrom(start, end, (all) =>
     [...all].every(([id, n]) => id === r.id || n !== r.number));
 }
 
@@ -466,7 +490,7 @@ function drawScan(behind, r, start, end) {
   put(behind, 'rect', { class: 'scan', x: across(start), y: y - 11, rx: 6,
     width: across(end) - across(start), height: 22 });
   const moment = momentOf(r, start, end);
-  if (moment < 0) return;
+  if (moment === null) return;
   const x = Math.min(across(moment) + STEP / 2, across(end));
   put(behind, 'line', { class: 'moment', x1: x, x2: x, y1: y - 13, y2: y + 13 });
 }
@@ -493,7 +517,8 @@ function buildTime() {
   const lanes = $('lanes');
   lanes.setAttribute('width', 72);
   lanes.setAttribute('height', high);
-  put(svg, 'title', {}, 'One lane a participant, one mark an event');
+  put(svg, 'title', {}, 'One lane a participant, one mark an event'
+    + (offset > 0 ? ', from event ' + (offset + 1) + ' on' : ''));
   const behind = put(svg, 'g', {});
   const marks = put(svg, 'g', {});
   for (const id of ids) {
@@ -507,6 +532,7 @@ function buildTime() {
       class: 'label' }, String(offset + i));
   }
   const proposals = new Map();
+  for (const [id, number] of firstProposals()) proposals.set(id, { number, i: -1 });
   const used = new Set();
   rows.forEach((r, i) => {
     const kind = kindOf(r);
@@ -530,11 +556,11 @@ function buildTime() {
 
 function drawEnds(marks) {
   const end = stateAt(rows.length);
-  for (const one of end.people.values()) {
-    const text = one.name === '' ? (one.proposed && 'proposes ' + one.proposed)
+  for (const [id, one] of end.people) {
+    const proposed = proposal(end, one);
+    const text = one.name === '' ? (proposed && 'proposes ' + proposed)
       : (one.name === 'spent' ? 'spent' : 'name ' + one.name);
-    put(marks, 'text', { x: across(rows.length) + 8, y: below(one.id) + 4, class: 'strong' },
-      text || '');
+    put(marks, 'text', { x: across(rows.length) + 8, y: below(id) + 4, class: 'strong' }, text);
   }
 }
 
@@ -572,7 +598,7 @@ function show(count) {
   const differs = r && !r.refused && r.desk !== r.told;
   $('differs').hidden = !differs;
   $('differs').textContent = differs ? 'A desk would have answered: ' + r.desk : '';
-  $('place').textContent = 'event ' + (shown ? offset + shown : 0) + ' of ' + run.events;
+  $('place').textContent = placeWords();
   $('slider').value = shown;
   $('slider').setAttribute('aria-valuetext', $('place').textContent + ': ' + sentence(r));
   const x = shown ? across(shown - 1) : LEFT / 2;
@@ -582,6 +608,12 @@ function show(count) {
   slowest = Math.max(slowest, performance.now() - began);
   document.documentElement.dataset.shown = shown;
   document.documentElement.dataset.slowest = slowest.toFixed(1);
+}
+
+function placeWords() {
+  if (shown > 0) return 'event ' + (offset + shown) + ' of ' + run.events;
+  if (rows.length > 0) return 'before event ' + (offset + 1) + ' of ' + run.events;
+  return 'after event ' + run.events + ' of ' + run.events;
 }
 
 function keepInSight(x) {
@@ -627,9 +659,10 @@ function about() {
   const world = tree ? 'a tree' : 'a grid';
   let text = 'At most ' + config.m + ' participants over ' + world + ' of splitters, a pool of '
     + config.k + ', ' + run.events + ' events, one access each.';
-  if (rows.length < run.events) text += ' Shown are events ' + (offset + 1) + ' to ' + last + '.';
-  if (offset > 0) {
-    text += ' What was before them is not on this page: a register shows · until it is written.';
+  if (rows.length === 0) text += ' None of them is shown: they end before event ' + (offset + 1) + '.';
+  else if (rows.length < run.events) {
+    text += ' Shown are events ' + (offset + 1) + ' to ' + last
+      + (offset > 0 ? ', after what stood before them.' : '.');
   }
   const end = stateAt(rows.length);
   if (end.differ > 0) {

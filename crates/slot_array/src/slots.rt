@@ -72,6 +72,13 @@ impl<T: Drop, A: Allocator> Slots<T, A> {
         &self.pool
     }
 
+    /// The values in the slots, that of number 1 first.
+    pub fn values(&self) -> &[T]
+        ensures { result.now ≡ self.now.values }
+    {
+        self.values.as_slice()
+    }
+
     /// An identity begins to compete, as in the pool.
     #[tactic(auto, using(crate::proofs::SlotsKeep::slots_law))]
     pub fn enter(&mut self, id: u64) -> Result<(), Refusal>

@@ -86,6 +86,16 @@ impl<A: Allocator> Grid<A> {
         }
     }
 
+    /// What stands in a register, for what watches from outside: this is no access.
+    pub fn value(&self, register: GridRegister) -> GridValue
+        ensures { result ≡ (register_of self.now register).0 }
+    {
+        match register {
+            GridRegister::Door(number) => GridValue::Word(self.doors.value(number)),
+            GridRegister::Segment(place) => GridValue::Contents(self.segment_at(place)),
+        }
+    }
+
     /// Puts a segment at a place, where there is one.
     fn put(&mut self, place: Place, segment: Segment)
         ensures { self.new ≡ with_segments self.old (slice_set self.old.segments place segment) }
@@ -110,12 +120,7 @@ impl<A: Allocator> StepMemory for Grid<A> {
         ensures sure { IsOk result }
     {
         Ok(match a {
-            Access::Read(GridRegister::Door(r)) => {
-                Answer::Value(GridValue::Word(self.doors.value(r)))
-            }
-            Access::Read(GridRegister::Segment(place)) => {
-                Answer::Value(GridValue::Contents(self.segment_at(place)))
-            }
+            Access::Read(register) => Answer::Value(self.value(register)),
             Access::Write(GridRegister::Door(r), GridValue::Word(word)) => {
                 let _ = self.doors.access(Access::Write(r, word));
                 Answer::Done

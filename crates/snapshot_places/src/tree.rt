@@ -53,6 +53,13 @@ impl<A: Allocator> TreePlaces<A> {
             most,
         })
     }
+
+    /// What stands in a register, for what watches from outside: this is no access.
+    pub fn value(&self, register: TreeRegister) -> TreeValue
+        ensures { result ≡ (register_in self.now register).0 }
+    {
+        self.tree.read(register)
+    }
 }
 
 impl<A: Allocator + Clone> StepMemory for TreePlaces<A> {

@@ -68,8 +68,8 @@ impl<A: Allocator> Tree<A> {
         find_from(&self.root, place)
     }
 
-    /// What stands in a register.
-    fn read(&self, register: TreeRegister) -> TreeValue
+    /// What stands in a register. This is no access: it is for what watches a tree from outside.
+    pub fn read(&self, register: TreeRegister) -> TreeValue
         ensures { result ≡ value_in register (map.get self.now (number_in register)) }
     {
         match self.registers_at(register.node()) {

@@ -1,4 +1,4 @@
-use Rattle.run_page.proofs.TagLemmas.{accesses, data_clean, events, number, tells}
+use Rattle.run_page.proofs.TagLemmas.{accesses, data_clean, events, number, registers, standings, tells}
 use Rattle.run_page.proofs.laws.law_of_data.Goals as goal
 
 pub returns-clause-all : goal.returns-clause-all
@@ -6,6 +6,12 @@ returns-clause-all c = data_clean
 
 pub returns-clause-events : goal.returns-clause-events
 returns-clause-events c = events
+
+pub returns-clause-registers : goal.returns-clause-registers
+returns-clause-registers c = registers
+
+pub returns-clause-standings : goal.returns-clause-standings
+returns-clause-standings c = standings
 
 pub returns-clause-accesses : goal.returns-clause-accesses
 returns-clause-accesses c = accesses

@@ -1,7 +1,7 @@
 use Rattle.std.proofs.Common.{List, ℕ, ◌++◌, ◌∙◌, refl, sym, ap}
 use Rattle.std.proofs.lemmas.List.{append-nil}
 use Rattle.run_page.specs.Page.{opening}
-use Rattle.run_page.proofs.PageLemmas.{no_items, no_rows}
+use Rattle.run_page.proofs.PageLemmas.{no_items, no_rows, no_state}
 use Rattle.run_page.proofs.sheet.Sheet.new.Goals as goal
 
 pub returns : goal.returns
@@ -10,7 +10,9 @@ returns c =
     record {
       desk = c.in_ok-desk.ensures;
       begun = c.new.ensures.items;
+      reached = c.new-2.ensures.items;
       seen = refl;
+      before = c.new-3.ensures ∙ sym (no_state c.args.config c.args.stretch);
       text = c.in_ok-put_opening.ensures ∙ ap (λ (t : List ℕ). t ++ first) c.new-text.ensures ∙ sym (ap (λ (t : List ℕ). first ++ t) (no_rows c.args.config c.args.stretch) ∙ append-nil first);
-      listed = c.new-2.ensures ∙ sym (no_items c.args.config c.args.stretch);
+      listed = c.new-4.ensures ∙ sym (no_items c.args.config c.args.stretch);
     }

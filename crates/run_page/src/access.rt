@@ -1,0 +1,117 @@
+//! The accesses of a run, in words, and what follows of them.
+
+ghost use Rattle.std.specs.Prelude.{◌≡◌, ◌++◌, OnOk, Some, decimal};
+ghost use Rattle.run_page.specs.Access.{access_words, held_at, place_in, register_at, register_words, with_place, with_reached};
+
+use desk::{Coming, Desk, Register};
+use itoa::Buffer;
+use record_lines::Text;
+use std::alloc::{AllocError, Global};
+use step_memory::Place;
+
+/// Appends the number of a place.
+pub(crate) fn put_place(place: Place, out: &mut Text) -> Result<(), AllocError>
+    ensures { OnOk result (out.new ≡ out.old ++ decimal place) }
+{
+    out.put(Buffer::new().format(place).as_bytes())
+}
+
+/// Appends the words of a register.
+pub(crate) fn put_register(register: Register, out: &mut Text) -> Result<(), AllocError>
+    ensures { OnOk result (out.new ≡ out.old ++ register_words register) }
+{
+    match register {
+        Register::X(place) => {
+            out.put(b"X ")?;
+            put_place(place, out)
+        }
+        Register::Y(place) => {
+            out.put(b"Y ")?;
+            put_place(place, out)
+        }
+        Register::Mark(place) => {
+            out.put(b"mark ")?;
+            put_place(place, out)
+        }
+        Register::Segment(place) => {
+            out.put(b"segment ")?;
+            put_place(place, out)
+        }
+    }
+}
+
+/// Appends the words of an access, and nothing where there is none.
+pub(crate) fn put_access(access: Option<Coming>, out: &mut Text) -> Result<(), AllocError>
+    ensures { OnOk result (out.new ≡ out.old ++ access_words access) }
+{
+    match access {
+        None => Ok(()),
+        Some(Coming::Nothing) => Ok(()),
+        Some(Coming::Read(register)) => {
+            out.put(b"read ")?;
+            put_register(register, out)
+        }
+        Some(Coming::Write(register, word)) => {
+            out.put(b"write ")?;
+            put_register(register, out)?;
+            out.put_word(b" ", word)
+        }
+    }
+}
+
+/// The register that an access reaches.
+fn register_at(access: Option<Coming>) -> Option<Register>
+    ensures { result ≡ register_at access }
+{
+    match access {
+        None => None,
+        Some(Coming::Nothing) => None,
+        Some(Coming::Read(register)) => Some(register),
+        Some(Coming::Write(register, _)) => Some(register),
+    }
+}
+
+/// What stands in the register that an access reaches.
+pub(crate) fn held_at(desk: &Desk<Global>, access: Option<Coming>) -> Option<u64>
+    ensures { result ≡ held_at desk.now access }
+{
+    match register_at(access) {
+        None => None,
+        Some(register) => desk.held(register),
+    }
+}
+
+/// The place of a register.
+fn place_in(register: Register) -> Place
+    ensures { result ≡ place_in register }
+{
+    match register {
+        Register::X(place) => place,
+        Register::Y(place) => place,
+        Register::Mark(place) => place,
+        Register::Segment(place) => place,
+    }
+}
+
+/// Keeps a place, once. An error where a growth was refused.
+fn keep_place(place: Place, places: &mut Vec<Place>) -> Result<(), AllocError>
+    ensures { OnOk result (places.new.items ≡ with_place places.old.items (Some place)) }
+{
+    if places.iter().position(|one| *one == place).is_some() {
+        return Ok(());
+    }
+    places.push(place).map_err(AllocError::from)
+}
+
+/// Keeps the place that an access reaches, once. An error where a growth was refused.
+pub(crate) fn keep_reached(
+    access: Option<Coming>,
+    places: &mut Vec<Place>,
+) -> Result<(), AllocError>
+    ensures { OnOk result (places.new.items ≡ with_reached places.old.items access) }
+{
+    match register_at(access) {
+        None => Ok(()),
+        Some(register) => keep_place(place_in(register), places),
+    }
+}
