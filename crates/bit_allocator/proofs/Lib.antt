@@ -1,4 +1,5 @@
 mod StayOfLemmas
+mod RosterLemmas
 mod Counts
 mod Balanced
 mod Tied

@@ -9,4 +9,5 @@ pub mod PoolObject
 pub mod Law
 pub mod Machine
 pub mod Acquired
+pub mod Roster
 pub mod Invariant

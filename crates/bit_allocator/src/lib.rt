@@ -31,6 +31,7 @@ pub mod competitor;
 pub mod laws;
 pub mod pool;
 pub mod probe;
+mod roster;
 pub mod stay;
 
 pub use competitor::Competitor;

@@ -1,7 +1,7 @@
 //! The pool.
 
 ghost use Rattle.std.specs.Prelude.{◌≡◌, ◌≤◌, ◌<◌, ◌⊎◌, ℕ, List, [], IfOk, IfErr, IfSome, IfNone, IsOk, OnErr, Err, length};
-ghost use Rattle.bit_allocator.specs.Competitors.{index_of, stay_of, holder_in, identities};
+ghost use Rattle.bit_allocator.specs.Competitors.{stay_of, holder_in, identities};
 ghost use Rattle.bit_allocator.specs.Stay.{IsWithin};
 ghost use Rattle.bit_allocator.specs.PoolState.{PoolState};
 ghost use Rattle.bit_allocator.specs.Pool.{fresh_pool, enter_refusal, enter_answer, after_enter, probe_refusal, probe_answer, after_probe, number_answer, after_leave, widen_answer, after_widen};
@@ -16,6 +16,7 @@ ghost use Rattle.bit_allocator.specs.Acquired.{IsAcquired, LeadsByStay, was_clea
 
 use crate::competitor::Competitor;
 use crate::probe::Probe;
+use crate::roster::Roster;
 use crate::stay::Stay;
 use std::alloc::Allocator;
 use std::marker::Model;
@@ -29,32 +30,18 @@ pub const MOST_NUMBERS: usize = 64;
 pub struct Pool<A: Allocator> {
     size: u8,
     bits: Memory<(), A>,
-    competitors: Vec<Competitor, A>,
+    competitors: Roster<A>,
 }
 
 impl<A: Allocator> Model for Pool<A> {
-    ghost use Rattle.std.specs.Prelude.{◌≤◌, vec_capacity};
     ghost use Rattle.bit_allocator.specs.PoolState.{PoolState};
     ghost use Rattle.bit_allocator.specs.Invariant.{IsSound};
 
     ghost Value = { PoolState };
 
-    ghost view = { λ p. record { size = p.size; bits = p.bits; competitors = p.competitors.items } };
+    ghost view = { λ p. record { size = p.size; bits = p.bits; competitors = p.competitors } };
 
-    ghost invariant = { λ p. IsSound p.size p.competitors.items × (64 ≤ vec_capacity p.competitors) };
-}
-
-/// Where the competitor of an identity stands.
-fn find(competitors: &[Competitor], id: u64) -> Option<usize>
-    ensures answer { result ≡ index_of id competitors.now }
-    ensures inside { IfSome result (λ i. i < length competitors.now) }
-{
-    for (i, competitor) in competitors.iter().enumerate() {
-        if competitor.identity == id {
-            return Some(i);
-        }
-    }
-    None
+    ghost invariant = { λ p. IsSound p.size p.competitors };
 }
 
 /// Who holds a number.
@@ -111,7 +98,7 @@ impl<A: Allocator + Clone> Pool<A> {
         let Ok(bits) = Memory::new(other, (), 0, MOST_NUMBERS + 1) else {
             return Err(Refusal::NoMemory);
         };
-        match Vec::with_capacity(alloc, MOST_NUMBERS) {
+        match Roster::new(alloc) {
             Ok(competitors) => Ok(Pool {
                 size: size as u8,
                 bits,
@@ -144,10 +131,10 @@ impl<A: Allocator> Pool<A> {
         ensures stay { result ≡ stay_of id self.now.competitors }
         ensures within { IfSome result (λ stay. IsWithin self.now.size stay) }
     {
-        let Some(i) = find(&self.competitors, id) else {
+        let Some(i) = self.competitors.find(id) else {
             return None;
         };
-        Some(self.competitors[i].stay)
+        Some(self.competitors.nth(i).stay)
     }
 
     /// The number that an identity holds. Refused where the identity does not compete, then where it holds none.
@@ -168,7 +155,7 @@ impl<A: Allocator> Pool<A> {
         ensures value { result ≡ holder_in number self.now.competitors }
         ensures law { Always pool (λ size r. (o : PoolObject) → IsRun size r o → IsHolderIn o number result) self.now }
     {
-        holder(&self.competitors, number)
+        holder(self.competitors.as_slice(), number)
     }
 
     /// Why an identity may not enter: what `enter` would be refused. It changes nothing.
@@ -179,7 +166,7 @@ impl<A: Allocator> Pool<A> {
             Some(Refusal::ZeroIdentity)
         } else if self.stay_of(id).is_some() {
             Some(Refusal::AlreadyCompeting)
-        } else if usize::from(self.size) <= self.competitors.len() {
+        } else if usize::from(self.size) <= self.competitors.as_slice().len() {
             Some(Refusal::Crowded)
         } else {
             None
@@ -199,10 +186,7 @@ impl<A: Allocator> Pool<A> {
         if let Some(refusal) = self.enter_refusal(id) {
             return Err(refusal);
         }
-        self.competitors.push_reserved(Competitor {
-            identity: id,
-            stay: Stay::Seeking(1),
-        });
+        self.competitors.add(id, Stay::Seeking(1));
         Ok(())
     }
 
@@ -235,16 +219,16 @@ impl<A: Allocator> Pool<A> {
         ensures alike { (other : PoolState) → LookAlike probe_steps id self.old other → result ≡ probe_answer other id }
         ensures stands_alike { (other : PoolState) → LookAlike probe_steps id self.old other → StandAlike id self.new (after_probe other id) }
     {
-        let Some(i) = find(&self.competitors, id) else {
+        let Some(i) = self.competitors.find(id) else {
             return Err(Refusal::NotCompeting);
         };
-        let stay = self.competitors[i].stay;
+        let stay = self.competitors.nth(i).stay;
         if let Stay::Settled(_) = stay {
             return Err(Refusal::Holding);
         }
         let got = self.bits.access(stay.probe_access(self.size)).unwrap();
         let stay = stay.probed(self.size, got);
-        self.competitors[i] = Competitor { identity: id, stay };
+        self.competitors.put(i, id, stay);
         Ok(stay.probe_reply())
     }
 
@@ -262,10 +246,7 @@ impl<A: Allocator> Pool<A> {
             return Err(refusal);
         }
         let number = seek(&mut self.bits, self.size);
-        self.competitors.push_reserved(Competitor {
-            identity: id,
-            stay: Stay::Settled(number),
-        });
+        self.competitors.add(id, Stay::Settled(number));
         Ok(number)
     }
 
@@ -289,8 +270,7 @@ impl<A: Allocator> Pool<A> {
         let number = self.number_of(id)?;
         let access = Stay::Settled(number).leave_access(self.size);
         self.bits.access(access).unwrap();
-        self.competitors
-            .retain(|competitor| competitor.identity != id);
+        self.competitors.remove(id);
         Ok(number)
     }
 
@@ -323,7 +303,7 @@ impl<A: Allocator> Pool<A> {
         if let Some(refusal) = self.widen_refusal(size) {
             return Err(refusal);
         }
-        let access = if holder(&self.competitors, self.size).is_some() {
+        let access = if holder(self.competitors.as_slice(), self.size).is_some() {
             Access::TestAndSet(usize::from(self.size))
         } else {
             Access::Nothing

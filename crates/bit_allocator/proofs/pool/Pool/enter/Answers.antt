@@ -17,7 +17,7 @@ returns-in-Some-clause-after g c =
 pub returns-clause-after : goal.returns-clause-after
 returns-clause-after g c =
     let reply : Result (Unit {0}) Refusal = Ok tt in
-    let new : PoolState = record { size = c.self.inside.size; bits = c.self.inside.bits; competitors = c.push_reserved.new.self.items } in
+    let new : PoolState = record { size = c.self.inside.size; bits = c.self.inside.bits; competitors = c.add.new.self } in
     let state : new ≡ after_enter c.args.self.now c.args.id = search rules in
     let is : reply ≡ enter_answer c.args.self.now c.args.id = search rules in
     pool_proved.call c.args.self.now new (Entered c.args.id reply) state is

@@ -1,11 +1,10 @@
-use Rattle.std.proofs.Common.{rules, ◌≡◌, Some, Ok, Err, not, ◌==◌, refl, sym, ap, ◌∙◌, arith}
-use Rattle.std.proofs.lemmas.Fn.{filter_same}
+use Rattle.std.proofs.Common.{rules, ◌≡◌, Some, Ok, Err, not, ◌==◌, refl, sym, ap, ◌∙◌}
 use Rattle.std.proofs.lemmas.List.Elements.{All-filter}
 use Rattle.step_memory.specs.declared.refusal.Refusal.{Refusal}
 use Rattle.step_memory.specs.Registers.{after_access}
 use Rattle.bit_allocator.specs.declared.stay.Stay.TheVariants.{Settled}
 use Rattle.bit_allocator.specs.Stay.{IsWithin, leave_access}
-use Rattle.bit_allocator.specs.Competitors.{stay_of, without}
+use Rattle.bit_allocator.specs.Competitors.{stay_of}
 use Rattle.bit_allocator.specs.Pool.{number_answer, after_leave}
 use Rattle.bit_allocator.specs.Calls.Call.{Left}
 use Rattle.bit_allocator.proofs.CallLemmas.{settled_by, unsettled_after}
@@ -13,7 +12,6 @@ use Rattle.bit_allocator.proofs.LocalityLemmas.{leave_local, leave_stands}
 use Rattle.bit_allocator.specs.PoolState.{PoolState}
 use Rattle.bit_allocator.proofs.PoolKeeps.{pool_proved}
 use Rattle.bit_allocator.proofs.pool.Pool.leave.Goals as goal
-use Rattle.bit_allocator.proofs.pool.Pool.leave.Goals.{After-retain}
 
 pub returns-in_err-number-clause-after : goal.returns-in_err-number-clause-after
 returns-in_err-number-clause-after g c =
@@ -23,24 +21,17 @@ returns-in_err-number-clause-after g c =
     let state : c.args.self.now ≡ after_leave c.args.self.now c.args.id = unsettled_after c.args.self.now c.args.id why held in
     pool_proved.call c.args.self.now c.args.self.now (Left c.args.id c.from_residual.result) state is
 
--- what is left of the competitors
-left : (g : _) (c : After-retain g) → c.retain.new.self.items ≡ without c.args.id c.self.inside.competitors.items
-left g c = filter_same _ (λ x. not (x.identity == c.args.id)) _ (λ x b f' k. search rules) _ _ c.retain.ensures.filtered
-
 pub invariant_of-self : goal.invariant_of-self
-invariant_of-self g c = (
-  record {
-    first = c.self.invariant.0.first;
-    last = c.self.invariant.0.last;
-    stays = rw (left g (goal.at.invariant_of-self g c).After-retain) (All-filter (λ x. not (x.identity == c.args.id)) (λ x. IsWithin c.self.inside.size x.stay) c.self.inside.competitors.items c.self.invariant.0.stays);
-  },
-  omega (arith, c.self.invariant.1, c.retain.ensures.capacity),
-)
+invariant_of-self g c = record {
+  first = c.self.invariant.first;
+  last = c.self.invariant.last;
+  stays = rw c.remove.ensures (All-filter (λ x. not (x.identity == c.args.id)) (λ x. IsWithin c.self.inside.size x.stay) c.self.inside.competitors c.self.invariant.stays);
+}
 
 pub returns-clause-state : goal.returns-clause-state
 returns-clause-state g c =
-    let here = left g (goal.at.returns-clause-state g c).After-retain in
-    let v : c.self.inside.competitors.items ≡ c.args.self.now.competitors = ap (λ w. w.competitors) c.self.view_is in
+    let here = c.remove.ensures in
+    let v : c.self.inside.competitors ≡ c.args.self.now.competitors = ap (λ w. w.competitors) c.self.view_is in
     let z : c.self.inside.size ≡ c.args.self.now.size = ap (λ w. w.size) c.self.view_is in
     let m : c.self.inside.bits ≡ c.args.self.now.bits = ap (λ w. w.bits) c.self.view_is in
     let access : c.leave_access-access.result ≡ leave_access c.self.inside.size (Settled c.in_ok-number.number) = c.leave_access-access.ensures in

@@ -17,7 +17,7 @@ returns-in-Some-clause-after g c =
 pub returns-clause-after : goal.returns-clause-after
 returns-clause-after g c =
     let reply : Result (Unit {0}) Refusal = Ok tt in
-    let new : PoolState = record { size = c.args.size; bits = c.access.new.self; competitors = c.self.inside.competitors.items } in
+    let new : PoolState = record { size = c.args.size; bits = c.access.new.self; competitors = c.self.inside.competitors } in
     let state : new ≡ after_widen c.args.self.now c.args.size = search rules in
     let is : reply ≡ widen_answer c.args.self.now c.args.size = search rules in
     pool_proved.call c.args.self.now new (Widened c.args.size reply) state is
