@@ -113,7 +113,9 @@ fn address_option<'a>(alloc: Global) -> Arg<'a>
         .action(ArgAction::Set)
         .default_value("127.0.0.1")
         .value_name("ADDRESS")
-        .help("the address; whoever reaches another than this may say everything: no encryption, no authentication")
+        .help(
+            "the address; whoever reaches another than this may say everything: no encryption, no authentication",
+        )
 }
 
 // `--journal FILE`.
@@ -125,7 +127,9 @@ fn journal_option<'a>(alloc: Global) -> Arg<'a>
         .long("journal")
         .action(ArgAction::Set)
         .value_name("FILE")
-        .help("the file of the journal, made where it is missing; without one the history ends with the program")
+        .help(
+            "the file of the journal, made where it is missing; without one the history ends with the program",
+        )
 }
 
 // A subcommand with a world and all its sizes.
