@@ -256,7 +256,9 @@ impl Hosting {
         let Tally { events, bytes } = tally;
         let clients = self.house.open;
         // Who looks on is told nothing where the text is not taken, and served all the same.
-        if let Ok(line) = format!(in self.alloc; "{clients} clients, {events} events, {bytes} bytes of journal\n") {
+        if let Ok(line) = format!(in self.alloc;
+            "{clients} clients, {events} events, {bytes} bytes of journal\n"
+        ) {
             let _ = errors.write_all(line.as_bytes());
         }
     }

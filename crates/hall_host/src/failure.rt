@@ -4,8 +4,8 @@ use event_server::HostFault;
 use journal::{JournalFault, OpenFault};
 use journal_disk::{DiskFault, FileFault};
 use run_checker::Verdict;
-use step_memory::{NoMemory, Refusal};
 use std::io::ErrorKind;
+use step_memory::{NoMemory, Refusal};
 use thiserror::Error;
 
 /// Why a hall is not hosted, or no more. Its `Display` is the text for the operator.

@@ -4,7 +4,7 @@ ghost use Rattle.std.specs.Prelude.{◌≡◌};
 ghost use Rattle.hall_host.specs.Kept.{IsKept};
 
 use event_server::{Keep, Tally};
-use journal::{Chronicle, Journal, JournalFault};
+use journal::{Chronicle, Journal, JournalFault, law_of_crashes};
 use journal_disk::Disk;
 use locked_world::Hall;
 
@@ -52,6 +52,7 @@ impl<D: Disk> Keep<Chronicle> for Recorded<D> {
     }
 
     fn keep(&mut self, chronicle: &mut Chronicle) -> Result<(), JournalFault> {
+        law_of_crashes();
         if !chronicle.has_waiting() {
             return Ok(());
         }

@@ -13,8 +13,10 @@
 
 pub mod failure;
 pub mod keepers;
+pub mod laws;
 pub mod start;
 
 pub use failure::HostFailure;
 pub use keepers::{Recorded, Unrecorded};
+pub use laws::law_of_hosting;
 pub use start::{HostPlan, host_hall};

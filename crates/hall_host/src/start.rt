@@ -85,11 +85,27 @@ where
             } = opened;
             let bytes = journal.disk().size();
             let mut keeper = Recorded { journal, bytes };
-            host(rt, alloc, options, &mut chronicle, &mut keeper, output, errors)?;
+            host(
+                rt,
+                alloc,
+                options,
+                &mut chronicle,
+                &mut keeper,
+                output,
+                errors,
+            )?;
         }
         None => {
             let mut hall = Hall::new(alloc, plan.config)?;
-            host(rt, alloc, options, &mut hall, &mut Unrecorded, output, errors)?;
+            host(
+                rt,
+                alloc,
+                options,
+                &mut hall,
+                &mut Unrecorded,
+                output,
+                errors,
+            )?;
         }
     }
     Ok(())

@@ -100,7 +100,8 @@ impl Chronicle {
 
     /// Whether lines wait.
     pub fn has_waiting(&self) -> bool
-        ensures { result ≡ false → self.now.told ≡ length self.now.hall.history }
+        ensures none { result ≡ false → self.now.told ≡ length self.now.hall.history }
+        ensures few { self.now.told ≤ length self.now.hall.history }
     {
         self.told < self.hall.len()
     }

@@ -9,15 +9,16 @@ use Rattle.clap.specs.declared.error.kind.ErrorKind.{ErrorKind}
 use Rattle.clap.specs.declared.error.kind.ErrorKind.TheVariants.{OutOfMemory}
 use Rattle.clap.proofs.OnLiterals.{clap_on_literals}
 use Rattle.slot_words.specs.declared.asked.Ask.{Ask}
-use Rattle.slot_words.specs.declared.asked.Ask.TheVariants.{Play, Check, Migrate, Show, Draw, Serve}
+use Rattle.slot_words.specs.declared.asked.Ask.TheVariants.{Play, Check, Migrate, Show, Draw, Serve, Host}
 use Rattle.slot_words.specs.declared.asked.Drawing.{Drawing}
+use Rattle.slot_words.specs.declared.asked.Hosting.{Hosting}
 use Rattle.slot_words.specs.declared.asked.Playing.{Playing}
 use Rattle.slot_words.specs.declared.asked.Serving.{Serving}
 use Rattle.slot_words.specs.declared.asked.Showing.{Showing}
 use Rattle.slot_words.specs.declared.misuse.Misuse.{Misuse}
 use Rattle.slot_words.specs.declared.misuse.Misuse.TheVariants.{Help, Words, Memory}
 use Rattle.slot_words.specs.CommandLine.{slotctl_app}
-use Rattle.slot_words.specs.Asked.{AsksFor, IsAsked, IsDrawingOf, IsPlayingOf, IsMisuse, IsMisuseOf, IsRefusal, IsServingOf, IsShowingOf, is_help, is_refusal}
+use Rattle.slot_words.specs.Asked.{AsksFor, IsAsked, IsDrawingOf, IsHostingOf, IsPlayingOf, IsMisuse, IsMisuseOf, IsRefusal, IsServingOf, IsShowingOf, is_help, is_refusal}
 
 pub app_is_simple : is_simple slotctl_app ≡ true
 unfolding clap_on_literals
@@ -97,6 +98,24 @@ show_is_not_draw same = let first : 115 ≡ 100 = ap (λ l. get_or l 0 0) same i
 serve_is_not_show : codes "serve" ≡ codes "show" → ⊥
 serve_is_not_show same = let second : 101 ≡ 104 = ap (λ l. get_or l 1 0) same in omega (arith, second)
 
+host_is_not_play : codes "host" ≡ codes "play" → ⊥
+host_is_not_play same = let first : 104 ≡ 112 = ap (λ l. get_or l 0 0) same in omega (arith, first)
+
+host_is_not_check : codes "host" ≡ codes "check" → ⊥
+host_is_not_check same = let first : 104 ≡ 99 = ap (λ l. get_or l 0 0) same in omega (arith, first)
+
+host_is_not_migrate : codes "host" ≡ codes "migrate" → ⊥
+host_is_not_migrate same = let first : 104 ≡ 109 = ap (λ l. get_or l 0 0) same in omega (arith, first)
+
+host_is_not_show : codes "host" ≡ codes "show" → ⊥
+host_is_not_show same = let first : 104 ≡ 115 = ap (λ l. get_or l 0 0) same in omega (arith, first)
+
+host_is_not_draw : codes "host" ≡ codes "draw" → ⊥
+host_is_not_draw same = let first : 104 ≡ 100 = ap (λ l. get_or l 0 0) same in omega (arith, first)
+
+host_is_not_serve : codes "host" ≡ codes "serve" → ⊥
+host_is_not_serve same = let first : 104 ≡ 115 = ap (λ l. get_or l 0 0) same in omega (arith, first)
+
 -- a subcommand that was met with these rows is the one that was met
 met_name : (met : Option (List ℕ × List Row)) (a b : List ℕ) (rows others : List Row) → met ≡ Some (a, rows) → met ≡ Some (b, others) → a ≡ b
 met_name met a b rows others is that = ap (λ (p : List ℕ × List Row). p.0) (same_Some (a, rows) (b, others) (sym is ∙ that))
@@ -112,6 +131,7 @@ nothing_played met rows is none Migrate h = migrate_is_not_play (sym (met_name m
 nothing_played met rows is none (Show s) h = show_is_not_play (sym (met_name met (codes "play") (codes "show") rows h.0 is h.1))
 nothing_played met rows is none (Draw d) h = other_name (sym (met_name met (codes "play") (codes "draw") rows h.0 is h.1))
 nothing_played met rows is none (Serve s) h = serve_is_not_play (sym (met_name met (codes "play") (codes "serve") rows h.0 is h.1))
+nothing_played met rows is none (Host x) h = host_is_not_play (sym (met_name met (codes "play") (codes "host") rows h.0 is h.1))
 
 -- where `draw` was met and gives nothing, nothing is asked for
 pub nothing_drawn : (met : Option (List ℕ × List Row)) (rows : List Row) → met ≡ Some (codes "draw", rows) → ((d : Drawing) → IsDrawingOf rows d → ⊥) → (a : Ask) → IsAsked met a → ⊥
@@ -121,6 +141,7 @@ nothing_drawn met rows is none Migrate h = migrate_is_not_draw (sym (met_name me
 nothing_drawn met rows is none (Show s) h = show_is_not_draw (sym (met_name met (codes "draw") (codes "show") rows h.0 is h.1))
 nothing_drawn met rows is none (Draw d) h = none d (subst (λ (r : List Row). IsDrawingOf r d) (sym (met_rows met (codes "draw") (codes "draw") rows h.0 is h.1)) h.2)
 nothing_drawn met rows is none (Serve s) h = serve_is_not_draw (sym (met_name met (codes "draw") (codes "serve") rows h.0 is h.1))
+nothing_drawn met rows is none (Host x) h = host_is_not_draw (sym (met_name met (codes "draw") (codes "host") rows h.0 is h.1))
 
 -- where `serve` was met and gives nothing, nothing is asked for
 pub nothing_served : (met : Option (List ℕ × List Row)) (rows : List Row) → met ≡ Some (codes "serve", rows) → ((s : Serving) → IsServingOf rows s → ⊥) → (a : Ask) → IsAsked met a → ⊥
@@ -130,6 +151,7 @@ nothing_served met rows is none Migrate h = serve_is_not_migrate (met_name met (
 nothing_served met rows is none (Show s) h = serve_is_not_show (met_name met (codes "serve") (codes "show") rows h.0 is h.1)
 nothing_served met rows is none (Draw d) h = serve_is_not_draw (met_name met (codes "serve") (codes "draw") rows h.0 is h.1)
 nothing_served met rows is none (Serve s) h = none s (subst (λ (r : List Row). IsServingOf r s) (sym (met_rows met (codes "serve") (codes "serve") rows h.0 is h.1)) h.2)
+nothing_served met rows is none (Host x) h = host_is_not_serve (sym (met_name met (codes "serve") (codes "host") rows h.0 is h.1))
 
 -- where `show` was met and gives nothing, nothing is asked for
 pub nothing_shown : (met : Option (List ℕ × List Row)) (rows : List Row) → met ≡ Some (codes "show", rows) → ((s : Showing) → IsShowingOf rows s → ⊥) → (a : Ask) → IsAsked met a → ⊥
@@ -139,3 +161,14 @@ nothing_shown met rows is none Migrate h = show_is_not_migrate (met_name met (co
 nothing_shown met rows is none (Show s) h = none s (subst (λ (r : List Row). IsShowingOf r s) (sym (met_rows met (codes "show") (codes "show") rows h.0 is h.1)) h.2)
 nothing_shown met rows is none (Draw d) h = show_is_not_draw (met_name met (codes "show") (codes "draw") rows h.0 is h.1)
 nothing_shown met rows is none (Serve s) h = serve_is_not_show (sym (met_name met (codes "show") (codes "serve") rows h.0 is h.1))
+nothing_shown met rows is none (Host x) h = host_is_not_show (sym (met_name met (codes "show") (codes "host") rows h.0 is h.1))
+
+-- where `host` was met and gives nothing, nothing is asked for
+pub nothing_hosted : (met : Option (List ℕ × List Row)) (rows : List Row) → met ≡ Some (codes "host", rows) → ((x : Hosting) → IsHostingOf rows x → ⊥) → (a : Ask) → IsAsked met a → ⊥
+nothing_hosted met rows is none (Play playing) h = host_is_not_play (met_name met (codes "host") (codes "play") rows h.0 is h.1)
+nothing_hosted met rows is none Check h = host_is_not_check (met_name met (codes "host") (codes "check") rows h.0 is h.1)
+nothing_hosted met rows is none Migrate h = host_is_not_migrate (met_name met (codes "host") (codes "migrate") rows h.0 is h.1)
+nothing_hosted met rows is none (Show s) h = host_is_not_show (met_name met (codes "host") (codes "show") rows h.0 is h.1)
+nothing_hosted met rows is none (Draw d) h = host_is_not_draw (met_name met (codes "host") (codes "draw") rows h.0 is h.1)
+nothing_hosted met rows is none (Serve s) h = host_is_not_serve (met_name met (codes "host") (codes "serve") rows h.0 is h.1)
+nothing_hosted met rows is none (Host x) h = none x (subst (λ (r : List Row). IsHostingOf r x) (sym (met_rows met (codes "host") (codes "host") rows h.0 is h.1)) h.2)

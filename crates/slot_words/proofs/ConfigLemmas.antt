@@ -11,7 +11,7 @@ use Rattle.rename_core.proofs.MostIn.{few_take_part}
 use Rattle.step_memory.specs.declared.refusal.Refusal.{Refusal}
 use Rattle.commands.specs.declared.config.Config.{Config}
 use Rattle.commands.specs.declared.kind.WorldKind.{WorldKind}
-use Rattle.slot_words.specs.Asked.{HasNumber, HasWorld, IsConfigOf, IsDrawingOf, IsPlayingOf, IsServingOf, IsShowingOf, asks_record}
+use Rattle.slot_words.specs.Asked.{HasNumber, HasWorld, IsConfigOf, IsDrawingOf, IsPlayingOf, IsServingOf, IsShowingOf, asks_flag}
 use Rattle.slot_words.proofs.WorldNames.{named_apart}
 use Rattle.slot_words.specs.Ranges.{CanBeWritten, IsDrawingRange, IsServingRange, IsShowingRange}
 use Rattle.slot_words.specs.declared.asked.Drawing.{Drawing}
@@ -75,7 +75,7 @@ same_number rows id m n h g =
     sym h.2.1 ∙ ap (λ t. digits_value 10 (without_leading_plus t)) same ∙ g.2.1
 
 -- two worlds that are matched there are one
-same_world : (rows : List Row) (w u : WorldKind) → HasWorld rows w → HasWorld rows u → w ≡ u
+pub same_world : (rows : List Row) (w u : WorldKind) → HasWorld rows w → HasWorld rows u → w ≡ u
 same_world rows w u h g = named_apart w u (same_Some (world_name w) (world_name u) (sym h ∙ g))
 
 -- a config's most participants are a number that is read
@@ -102,7 +102,7 @@ made rows w m k limit (Err e) world has_m has_k has_limit values range = λ c h.
     cc
 
 -- what is made of the matched config and flag is the run, where there is one
-pub played : (rows : List Row) (config : Config) (recorded : Bool) (o : Option Playing) → IsConfigOf rows config → recorded ≡ asks_record rows
+pub played : (rows : List Row) (config : Config) (recorded : Bool) (o : Option Playing) → IsConfigOf rows config → recorded ≡ asks_flag (codes "record") rows
     → IfSome o (λ p. (p.config ≡ config) × (p.recorded ≡ recorded)) → (IsSome o ↔ CanBeWritten recorded config.world)
     → MatchOption o ((p : Playing) → IsPlayingOf rows p → ⊥) (IsPlayingOf rows)
 played rows config recorded (Some p) has asks values written = record { config = subst (IsConfigOf rows) (sym values.0) has; recorded = values.1 ∙ asks }

@@ -1,3 +1,4 @@
 mod WorldNames
 mod ConfigLemmas
 mod AskLemmas
+mod HostLemmas

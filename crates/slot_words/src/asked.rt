@@ -183,7 +183,7 @@ impl<'a> Hosting<'a> {
         verbose: bool,
     ) -> Option<Hosting<'a>>
         ensures sizes { IfSome result (λ h. (h.config ≡ config) × (h.port ≡ port) × (h.clients ≡ clients) × (h.idle ≡ idle)) }
-        ensures others { IfSome result (λ h. (h.address ≡ address) × (h.journal ≡ journal) × (h.verbose ≡ verbose)) }
+        ensures others { IfSome result (λ h. (h.address ≡ address) × (h.journal ≡ journal.entry) × (h.verbose ≡ verbose)) }
         ensures range { IsSome result ↔ IsHostingRange config.world port clients idle }
     {
         if 65_535 < port || clients < 1 || 1_000_000 < clients || 31_536_000 < idle {

@@ -63,7 +63,11 @@ fn host_plan_of<'a>(hosting: Hosting<'a>, seen: bool) -> HostPlan<'a> {
         address: hosting.address,
         port: hosting.port as u16,
         clients: hosting.clients as usize,
-        idle: if hosting.idle == 0 { None } else { Some(hosting.idle) },
+        idle: if hosting.idle == 0 {
+            None
+        } else {
+            Some(hosting.idle)
+        },
         journal: hosting.journal,
         reports: hosting.verbose || seen,
     }

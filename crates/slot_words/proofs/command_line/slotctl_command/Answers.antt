@@ -14,4 +14,5 @@ returns c =
     let with_migrate = c.in_ok-subcommand-3.ensures.shape c.migrate_command.ensures.local ∙ ap₂ with_subcommand with_check (ap (λ (a : App). a.top) c.migrate_command.ensures.app) in
     let with_show = c.in_ok-subcommand-4.ensures.shape c.in_ok-show.ensures.local ∙ ap₂ with_subcommand with_migrate (ap (λ (a : App). a.top) c.in_ok-show.ensures.app) in
     let with_draw = c.in_ok-subcommand-5.ensures.shape c.in_ok-draw.ensures.local ∙ ap₂ with_subcommand with_show (ap (λ (a : App). a.top) c.in_ok-draw.ensures.app) in
-    IfOk-weaker c.subcommand-6.result _ _ (λ r h. h.shape c.in_ok-serve.ensures.local ∙ ap₂ with_subcommand with_draw (ap (λ (a : App). a.top) c.in_ok-serve.ensures.app)) c.subcommand-6.ensures
+    let with_serve = c.in_ok-subcommand-6.ensures.shape c.in_ok-serve.ensures.local ∙ ap₂ with_subcommand with_draw (ap (λ (a : App). a.top) c.in_ok-serve.ensures.app) in
+    IfOk-weaker c.subcommand-7.result _ _ (λ r h. h.shape c.in_ok-host.ensures.local ∙ ap₂ with_subcommand with_serve (ap (λ (a : App). a.top) c.in_ok-host.ensures.app)) c.subcommand-7.ensures

@@ -1,6 +1,6 @@
 use Rattle.std.proofs.Common.{rules, codes, Some, ◌≡◌}
 use Rattle.clap.specs.Words.{found_of, rows_of, subcommand_rows_of}
-use Rattle.slot_words.proofs.AskLemmas.{nothing_drawn, nothing_played, nothing_served, nothing_shown}
+use Rattle.slot_words.proofs.AskLemmas.{nothing_drawn, nothing_hosted, nothing_played, nothing_served, nothing_shown}
 use Rattle.slot_words.proofs.ConfigLemmas.{unless_some}
 use Rattle.slot_words.proofs.words.asked.Goals as goal
 
@@ -30,3 +30,10 @@ returns-in_err-serve_given-in-Some-serve-default c =
     let met : subcommand_rows_of c.args.matches.now ≡ Some (codes "serve", rows) = search rules in
     unless_some c.from_residual-in_err-serve_given-in-Some-serve-default.result _ _ c.from_residual-in_err-serve_given-in-Some-serve-default.ensures
     (nothing_served (subcommand_rows_of c.args.matches.now) rows met c.in_err-serve_given-in-Some-serve-default.ensures)
+
+pub returns-in_err-host_given-in-Some-host-default : goal.returns-in_err-host_given-in-Some-host-default
+returns-in_err-host_given-in-Some-host-default c =
+    let rows = rows_of (found_of c.in-Some-host-default.options.now) in
+    let met : subcommand_rows_of c.args.matches.now ≡ Some (codes "host", rows) = search rules in
+    unless_some c.from_residual-in_err-host_given-in-Some-host-default.result _ _ c.from_residual-in_err-host_given-in-Some-host-default.ensures
+    (nothing_hosted (subcommand_rows_of c.args.matches.now) rows met c.in_err-host_given-in-Some-host-default.ensures)

@@ -1,0 +1,28 @@
+//! What a turn of the loop is over a hall and its journal.
+
+ghost use Rattle.std.specs.Prelude.{◌≤◌, List, Option, length};
+ghost use Rattle.locked_world.specs.Halls.{IsLawful};
+ghost use Rattle.journal.specs.ChronicleState.{ChronicleState};
+ghost use Rattle.journal.specs.Chronicles.{ChronicleServes};
+ghost use Rattle.journal.specs.Journals.{Stands};
+ghost use Rattle.event_server.specs.Seats.{LoopTurn, Seating};
+ghost use Rattle.hall_host.specs.declared.keepers.Recorded.{Recorded};
+ghost use Rattle.hall_host.specs.Hosting.{IsHosted};
+ghost use Rattle.hall_host.specs.Kept.{IsKept};
+
+use journal::law_of_crashes;
+use journal_disk::Disk;
+use locked_world::law_of_serving;
+
+/// A law, which runs nothing, of what a turn of the loop (`event_server::turn`) is over a chronicle whose journal stands, kept by `Recorded`: the
+/// history has gained just the accepted events of the turn; header and journal are its record, and synced, when replies are sent; each
+/// connection is told the replies to its own lines; and a crash leaves all that was answered (`law_of_crashes`).
+pub fn law_of_hosting<C, D: Disk>()
+    ensures { (on : Seating C) (k l : Recorded D) (c u : ChronicleState) (seats after : List (Option C)) →
+        IsLawful c.hall → c.told ≤ length c.hall.history → Stands D.state k.journal c →
+        (t : LoopTurn on ChronicleServes (λ k c l u. IsKept D.state k.journal c l.journal u) k c seats l u after) →
+        IsHosted on D.state t.log k.journal c seats l.journal u after }
+{
+    law_of_serving();
+    law_of_crashes();
+}
