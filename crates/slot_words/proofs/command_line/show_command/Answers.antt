@@ -7,8 +7,8 @@ use Rattle.slot_words.proofs.command_line.show_command.Goals as goal
 
 pub returns : goal.returns
 returns c =
-    let about_is : app_of c.about.result ≡ new_app (codes "show") = ap app_of_fields c.about.ensures ∙ c.new.ensures.app in
-    let about_local : (out-Command c.about.result).has_globals ≡ false = ap (λ f. f.has_globals) c.about.ensures ∙ c.new.ensures.local in
+    let about_is : app_of c.after_help.result ≡ new_app (codes "show") = ap app_of_fields c.after_help.ensures ∙ ap app_of_fields c.about.ensures ∙ c.new.ensures.app in
+    let about_local : (out-Command c.after_help.result).has_globals ≡ false = ap (λ f. f.has_globals) c.after_help.ensures ∙ ap (λ f. f.has_globals) c.about.ensures ∙ c.new.ensures.local in
     let first = c.in_ok-arg.ensures in
     let with_from = first.shape c.number_option.ensures.local ∙ ap₂ with_rule about_is c.number_option.ensures.rule in
     let from_local = first.globals ∙ ap₂ ◌||◌ about_local c.number_option.ensures.local in

@@ -6,8 +6,10 @@ use Rattle.slot_words.proofs.command_line.slotctl_command.Goals as goal
 
 pub returns : goal.returns
 returns c =
-    let about_is : app_of c.about.result ≡ new_app (codes "slotctl") = ap app_of_fields c.about.ensures ∙ c.new.ensures.app in
-    let required_is : app_of c.subcommand_required.result ≡ on_top (λ s. record s { subcommand_required = true }) (new_app (codes "slotctl")) =
+    let told : App = on_top (λ s. record s { has_version = true }) (new_app (codes "slotctl")) in
+    let version_is : app_of c.version.result ≡ told = ap app_of_fields c.version.ensures ∙ ap (on_top (λ s. record s { has_version = true })) c.new.ensures.app in
+    let about_is : app_of c.about.result ≡ told = ap app_of_fields c.about.ensures ∙ version_is in
+    let required_is : app_of c.subcommand_required.result ≡ on_top (λ s. record s { subcommand_required = true }) told =
     ap app_of_fields c.subcommand_required.ensures ∙ ap (on_top (λ s. record s { subcommand_required = true })) about_is in
     let with_play = c.in_ok-subcommand.ensures.shape c.in_ok-play.ensures.local ∙ ap₂ with_subcommand required_is (ap (λ (a : App). a.top) c.in_ok-play.ensures.app) in
     let with_check = c.in_ok-subcommand-2.ensures.shape c.check_command.ensures.local ∙ ap₂ with_subcommand with_play (ap (λ (a : App). a.top) c.check_command.ensures.app) in
