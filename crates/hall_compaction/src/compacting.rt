@@ -1,15 +1,25 @@
 //! A hall is built anew with fewer events.
 
+ghost use Rattle.std.specs.Prelude.{◌≡◌, ◌+◌, ℕ, length, slice_get, true, false, Some, IfOk, IfSome, OnOk};
+ghost use Rattle.commands.specs.declared.exchange.Exchange.{Exchange};
+ghost use Rattle.locked_world.specs.HallState.{HallState};
+ghost use Rattle.locked_world.specs.Halls.{desk_of, IsLawful};
+ghost use Rattle.hall_compaction.specs.Compactions.{IsCompacted};
+ghost use Rattle.hall_compaction.specs.DeskParts.{is_renaming};
+ghost use Rattle.hall_compaction.specs.Rebuilt.{HasRenaming, IsSorted};
+
 use crate::plan::lead;
 use crate::rebuilding::Rebuilding;
 use crate::slots_copy::SlotsCopy;
 use crate::stuck::Stuck;
-use commands::{Event, Exchange};
+use commands::Event;
 use locked_world::Hall;
 use std::alloc::Global;
 
 /// Whether an event is of renaming, and not of the pool or the slots.
-fn is_renaming(event: Event) -> bool {
+fn is_renaming(event: Event) -> bool
+    ensures { result ≡ is_renaming event }
+{
     match event {
         Event::Begin(_) => true,
         Event::Step(_) => true,
@@ -22,32 +32,58 @@ fn is_renaming(event: Event) -> bool {
     }
 }
 
-/// Takes over an event of renaming; one of the pool or the slots is followed.
-fn sort(new: &mut Rebuilding, old: &mut SlotsCopy, event: Event) -> Result<(), Stuck> {
-    if is_renaming(event) {
-        new.take(event)?;
-    } else {
-        old.follow(event)?;
+/// Takes the event at a place of a hall over into a new one where it is of renaming, and follows it in a copy where it is not.
+fn sort(
+    hall: &Hall,
+    place: usize,
+    new: &mut Rebuilding,
+    old: &mut SlotsCopy,
+) -> Result<(), Stuck>
+    ensures { OnOk result (IsSorted hall.now place new.old old.old → IsSorted hall.now (place + 1) new.new old.new) }
+{
+    let _ = hall.len();
+    let Some(exchange) = hall.get(place) else {
+        return Err(Stuck);
+    };
+    if is_renaming(exchange.event) {
+        new.take(exchange.event)?;
+        return Ok(());
     }
+    old.follow(exchange.event)?;
     Ok(())
 }
 
-/// A hall that is built anew, and its length.
-fn rebuilt(alloc: Global, hall: &Hall) -> Result<Rebuilding, Stuck> {
+/// A hall with the renaming of another, and a copy of the pool and the slots of that.
+struct Sorted {
+    new: Rebuilding,
+    old: SlotsCopy,
+}
+
+/// Sorts all events of a hall.
+fn sort_all(alloc: Global, hall: &Hall) -> Result<Sorted, Stuck>
+    ensures { IfOk result (λ s. IsSorted hall.now (length hall.now.history) s.new s.old) }
+{
     let config = hall.config();
     let mut new = Rebuilding::new(alloc, config)?;
     let mut old = SlotsCopy::new(alloc, config.k)?;
     for place in 0..hall.len() {
-        let Some(Exchange { event, .. }) = hall.get(place) else {
-            return Err(Stuck);
-        };
-        sort(&mut new, &mut old, event)?;
+        sort(hall, place, &mut new, &mut old)?;
     }
+    Ok(Sorted { new, old })
+}
+
+/// A hall that is built anew, with the desk of another.
+fn rebuilt(alloc: Global, hall: &Hall) -> Result<Hall, Stuck>
+    ensures renaming { IfOk result (λ new. HasRenaming hall.now new) }
+    ensures desk { IfOk result (λ new. desk_of new ≡ desk_of hall.now) }
+{
+    let Sorted { mut new, old } = sort_all(alloc, hall)?;
     lead(alloc, &mut new, &old)?;
     if !old.is_same(&new.slots) {
         return Err(Stuck);
     }
-    Ok(new)
+    let Rebuilding { hall: built, .. } = new;
+    Ok(built)
 }
 
 /// A hall of the same config whose desk is the same, with fewer events: those of renaming as they are, and in place of those of the
@@ -55,9 +91,14 @@ fn rebuilt(alloc: Global, hall: &Hall) -> Result<Rebuilding, Stuck> {
 /// growth was refused.
 ///
 /// It takes time as the history is long.
-pub fn compacted(alloc: Global, hall: &Hall) -> Option<Hall> {
-    match rebuilt(alloc, hall) {
-        Ok(Rebuilding { hall: new, .. }) if new.len() < hall.len() => Some(new),
-        _ => None,
+pub fn compacted(alloc: Global, hall: &Hall) -> Option<Hall>
+    ensures { IfSome result (λ new. IsCompacted hall.now new) }
+{
+    let Ok(new) = rebuilt(alloc, hall) else {
+        return None;
+    };
+    if new.len() < hall.len() {
+        return Some(new);
     }
+    None
 }

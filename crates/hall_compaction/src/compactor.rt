@@ -1,5 +1,8 @@
 //! When a history is compacted.
 
+ghost use Rattle.std.specs.Prelude.{IfSome};
+ghost use Rattle.hall_compaction.specs.Compactions.{IsCompacted};
+
 use crate::compacting::compacted;
 use locked_world::Hall;
 use locked_world::hall::MOST_EVENTS;
@@ -41,7 +44,9 @@ impl Compactor {
     }
 
     /// What `compacted` makes of a hall.
-    pub fn compacted(&mut self, alloc: Global, hall: &Hall) -> Option<Hall> {
+    pub fn compacted(&mut self, alloc: Global, hall: &Hall) -> Option<Hall>
+        ensures { IfSome result (λ new. IsCompacted hall.now new) }
+    {
         let new = compacted(alloc, hall);
         let left = match &new {
             Some(shorter) => shorter.len(),
