@@ -42,6 +42,15 @@ abbrev pub IsCut : {E : Type 0} → ℕ → Result (Unit {0}) E → DiskState �
 IsCut len (Ok done) s t = IsShortened len s t × (t.contents ≡ take len s.contents)
 IsCut len (Err why) s t = IsShortened len s t ⊎ (t ≡ s)
 
+-- these bytes stand in place of all others, and are surely there
+abbrev pub replaced_by : DiskState → List ℕ → DiskState
+replaced_by s bytes = state_of bytes (length bytes) (s.cuts + 1)
+
+-- so it is; where the call failed, so it is or nothing changed
+abbrev pub IsReplaced : {E : Type 0} → List ℕ → Result (Unit {0}) E → DiskState → DiskState → Type 0
+IsReplaced bytes (Ok done) s t = t ≡ replaced_by s bytes
+IsReplaced bytes (Err why) s t = (t ≡ s) ⊎ (t ≡ replaced_by s bytes)
+
 -- the bytes that were written are read, and nothing changes
 abbrev pub Reads : {E : Type 0} → Result (Vec ℕ Global) E → DiskState → DiskState → Type 0
 Reads result s t = (t ≡ s) × IfOk result (λ bytes. bytes.items ≡ s.contents)
@@ -56,3 +65,8 @@ pub record OnlyGrows (s t : DiskState) : Type 0 where
 pub record MayLeave (s t : DiskState) (left : List ℕ) : Type 0 where
   pub front : IsPrefix left t.contents
   pub kept : IsPrefix (take s.synced s.contents) left
+
+-- what a crash may leave at any moment of a call that puts these bytes in place of all others, and after it where it failed: what it
+-- may leave of the state before the call, or these bytes, all of them
+abbrev pub MayLeaveEither : DiskState → List ℕ → List ℕ → Type 0
+MayLeaveEither s bytes left = MayLeave s s left ⊎ (left ≡ bytes)

@@ -2,7 +2,7 @@
 
 ghost use Rattle.std.specs.Prelude.{◌≡◌, IfOk, Option};
 ghost use Rattle.journal_disk.specs.DiskState.{DiskState};
-ghost use Rattle.journal_disk.specs.Disks.{Changes, IsAppended, IsSynced, IsCut, Reads};
+ghost use Rattle.journal_disk.specs.Disks.{Changes, IsAppended, IsSynced, IsCut, IsReplaced, Reads};
 
 use std::alloc::Global;
 use std::io::ErrorKind;
@@ -20,8 +20,8 @@ pub enum DiskFault {
 ///
 /// After a call that failed it is known only what a crash may leave, and whoever writes on may be told that all is well where it is not.
 pub trait Disk: Drop {
-    /// What was written, how much of that is surely there, and how often bytes were cut off; `None` where nothing is known, as of a
-    /// file of the system.
+    /// What was written, how much of that is surely there, and how often bytes were cut off or replaced; `None` where nothing is known,
+    /// as of a file of the system.
     ghost state: { Self → Option DiskState };
 
     /// Reads all bytes.
@@ -39,4 +39,9 @@ pub trait Disk: Drop {
     /// Cuts off all bytes behind the first so many.
     fn cut(&mut self, len: usize) -> Result<(), DiskFault>
         ensures { Changes (IsCut len result) (state self.old) (state self.new) };
+
+    /// Puts bytes in place of all others, in one step, and waits until they are surely there. A crash at any moment of the call leaves
+    /// what it may leave of those before, or all of these (`MayLeaveEither`); and so it does after a call that failed.
+    fn replace(&mut self, alloc: Global, bytes: &[u8]) -> Result<(), DiskFault>
+        ensures { Changes (IsReplaced bytes.now result) (state self.old) (state self.new) };
 }

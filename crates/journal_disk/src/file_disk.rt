@@ -4,9 +4,11 @@ ghost use Rattle.std.specs.Prelude.{None};
 
 use crate::disk::{Disk, DiskFault};
 use std::alloc::Global;
+use std::fs;
 use std::fs::{File, TryLockError};
 use std::io;
 use std::io::{ErrorKind, Read, Seek, SeekFrom, Write};
+use std::os::unix::fs::MetadataExt;
 use std::rt::Files;
 
 /// Why a file is not opened.
@@ -20,7 +22,9 @@ pub enum FileFault {
 
 /// A file that is written at its end alone, and locked as long as it is open.
 #[derive(Drop)]
-pub struct FileDisk {
+pub struct FileDisk<R> {
+    files: R,
+    path: String,
     file: File,
 }
 
@@ -44,29 +48,38 @@ fn told<T: Drop>(answer: io::Result<T>) -> Result<T, DiskFault> {
     }
 }
 
-/// Opens a file for reading all and writing at its end; one that is missing is made, and its folder is synced.
+/// Opens a file for reading all and writing at its end; one that is missing is made.
 fn opened<R: Files<File = File>>(rt: &R, path: &str) -> io::Result<File> {
-    let file = File::options()
+    File::options()
         .read(true)
         .append(true)
         .create(true)
-        .open(rt, path)?;
-    File::sync_all(&File::open(rt, folder_of(path))?)?;
-    Ok(file)
+        .open(rt, path)
 }
 
-impl FileDisk {
-    /// Opens a file and locks it; one that is missing is made.
-    pub fn open<R: Files<File = File>>(rt: &R, path: &str) -> Result<FileDisk, FileFault> {
-        let file = match opened(rt, path) {
-            Ok(file) => file,
-            Err(error) => return Err(FileFault::Failed(error.kind())),
-        };
-        match File::try_lock(&file) {
-            Ok(()) => Ok(FileDisk { file }),
-            Err(TryLockError::WouldBlock) => Err(FileFault::InUse),
-            Err(TryLockError::Error(error)) => Err(FileFault::Failed(error.kind())),
-        }
+/// Waits until what stands in the folder of a path is surely there.
+fn sync_folder<R: Files<File = File>>(rt: &R, path: &str) -> io::Result<()> {
+    File::sync_all(&File::open(rt, folder_of(path))?)
+}
+
+/// Whether a path names a file that is open.
+fn is_named<R: Files<File = File>>(rt: &R, path: &str, file: &File) -> io::Result<bool> {
+    let named = fs::metadata(rt, path)?;
+    let held = File::metadata(file)?;
+    Ok(named.ino() == held.ino() && named.dev() == held.dev())
+}
+
+/// Locks a file that was opened by a path. Where the path names another by now, whoever put that there has it in use.
+fn lock<R: Files<File = File>>(rt: &R, path: &str, file: &File) -> Result<(), FileFault> {
+    match File::try_lock(file) {
+        Ok(()) => {}
+        Err(TryLockError::WouldBlock) => return Err(FileFault::InUse),
+        Err(TryLockError::Error(error)) => return Err(FileFault::Failed(error.kind())),
+    }
+    match is_named(rt, path, file) {
+        Ok(true) => Ok(()),
+        Ok(false) => Err(FileFault::InUse),
+        Err(error) => Err(FileFault::Failed(error.kind())),
     }
 
     /// How many bytes the file has, for people; none where the system does not tell.
@@ -78,7 +91,45 @@ impl FileDisk {
     }
 }
 
-impl Disk for FileDisk {
+/// Opens and locks a file; one that is missing is made, and its folder is synced.
+fn locked<R: Files<File = File>>(rt: &R, path: &str) -> Result<File, FileFault> {
+    let file = match opened(rt, path) {
+        Ok(file) => file,
+        Err(error) => return Err(FileFault::Failed(error.kind())),
+    };
+    lock(rt, path, &file)?;
+    match sync_folder(rt, path) {
+        Ok(()) => Ok(file),
+        Err(error) => Err(FileFault::Failed(error.kind())),
+    }
+}
+
+/// A file of this path with these bytes, all of them surely there, and locked; what was in it is gone.
+fn written<R: Files<File = File>>(rt: &R, path: &str, bytes: &[u8]) -> io::Result<File> {
+    let mut file = opened(rt, path)?;
+    File::try_lock(&file)?;
+    File::set_len(&file, 0)?;
+    file.write_all(bytes)?;
+    File::sync_all(&file)?;
+    Ok(file)
+}
+
+impl<R: Files<File = File> + AllocGlobal + Copy> FileDisk<R> {
+    /// Opens a file and locks it; one that is missing is made.
+    pub fn open(rt: &R, path: &str) -> Result<FileDisk<R>, FileFault> {
+        let Ok(name) = String::from_str(rt.alloc(), path) else {
+            return Err(FileFault::Failed(ErrorKind::OutOfMemory));
+        };
+        let file = locked(rt, path)?;
+        Ok(FileDisk {
+            files: *rt,
+            path: name,
+            file,
+        })
+    }
+}
+
+impl<R: Files<File = File> + Drop> Disk for FileDisk<R> {
     ghost state = { λ d. None };
 
     fn read(&mut self, alloc: Global) -> Result<Vec<u8>, DiskFault> {
@@ -98,5 +149,15 @@ impl Disk for FileDisk {
 
     fn cut(&mut self, len: usize) -> Result<(), DiskFault> {
         told(File::set_len(&self.file, len as u64))
+    }
+
+    /// The bytes are written into a file beside, `PATH.new`, which is locked, synced and then renamed; the folder is synced last.
+    /// A file of that name that a crash left is written over.
+    fn replace(&mut self, alloc: Global, bytes: &[u8]) -> Result<(), DiskFault> {
+        let beside = format!(in alloc; "{}.new", self.path)?;
+        let file = told(written(&self.files, &beside, bytes))?;
+        told(fs::rename(&self.files, &beside, &self.path))?;
+        self.file = file;
+        told(sync_folder(&self.files, &self.path))
     }
 }

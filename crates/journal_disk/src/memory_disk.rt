@@ -2,20 +2,30 @@
 
 ghost use Rattle.std.specs.Prelude.{◌≡◌, Some, take, vec_len};
 ghost use Rattle.journal_disk.specs.Disks.{state_of, MayLeave};
-ghost use Rattle.journal_disk.specs.Memories.{memory_state};
+ghost use Rattle.journal_disk.specs.Memories.{memory_before, memory_state};
 
 use crate::disk::{Disk, DiskFault};
 use std::alloc::{AllocError, Global};
 use std::io::ErrorKind;
+use std::mem;
+
+/// Bytes that stood there before others took their place, and how many of them were surely there.
+#[derive(Drop)]
+struct Before {
+    bytes: Vec<u8>,
+    synced: usize,
+}
 
 /// Bytes, how many of them a crash leaves for sure, how often some were cut off, and how many calls there are until one fails: that one
-/// and all after it do, and a write that fails writes half of its bytes.
+/// and all after it do, and a write that fails writes half of its bytes. A replacing is three calls: the new bytes are written beside, they take the place of
+/// the old ones, and that is made sure; where the last of these fails, a crash may bring the old bytes back.
 #[derive(Drop)]
 pub struct MemoryDisk {
     bytes: Vec<u8>,
     synced: usize,
     cuts: usize,
     calls_left: usize,
+    before: Option<Before>,
 }
 
 impl From<AllocError> for DiskFault {
@@ -35,6 +45,7 @@ impl MemoryDisk {
             synced,
             cuts: 0,
             calls_left,
+            before: None,
         }
     }
 
@@ -62,6 +73,31 @@ impl MemoryDisk {
         let kept = keep.max(synced);
         bytes.truncate(kept);
         MemoryDisk::new(bytes, calls_left)
+    }
+
+    /// As `crashed`, of a crash that takes back a replacing that failed, where there was one.
+    pub fn reverted(self, keep: usize, calls_left: usize) -> MemoryDisk
+        ensures { MayLeave (memory_before self) (memory_before self) result.bytes.items }
+    {
+        let MemoryDisk {
+            bytes,
+            synced,
+            cuts,
+            before,
+            ..
+        } = self;
+        let (bytes, synced) = match before {
+            Some(Before { bytes, synced }) => (bytes, synced),
+            None => (bytes, synced),
+        };
+        let old = MemoryDisk {
+            bytes,
+            synced,
+            cuts,
+            calls_left: 0,
+            before: None,
+        };
+        old.crashed(keep, calls_left)
     }
 
     /// Whether a call may go on; one fewer is left then.
@@ -110,6 +146,26 @@ impl Disk for MemoryDisk {
         self.cuts += 1;
         self.bytes.truncate(len);
         self.synced = self.synced.min(self.bytes.len());
+        Ok(())
+    }
+
+    fn replace(&mut self, alloc: Global, bytes: &[u8]) -> Result<(), DiskFault> {
+        let written = bytes.to_vec(alloc)?;
+        if self.cuts == usize::MAX || !self.goes_on() {
+            return Err(DiskFault::Failed(ErrorKind::StorageFull));
+        }
+        if !self.goes_on() {
+            return Err(DiskFault::Failed(ErrorKind::Other));
+        }
+        let synced = self.synced;
+        self.synced = written.len();
+        let bytes = mem::replace(&mut self.bytes, written);
+        self.before = Some(Before { bytes, synced });
+        self.cuts += 1;
+        if !self.goes_on() {
+            return Err(DiskFault::Failed(ErrorKind::Other));
+        }
+        self.before = None;
         Ok(())
     }
 }

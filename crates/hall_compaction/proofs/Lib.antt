@@ -1,0 +1,3 @@
+mod RowLemmas
+mod DeskLemmas
+mod RebuiltLemmas

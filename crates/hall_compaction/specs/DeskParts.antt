@@ -1,0 +1,30 @@
+-- the two parts of a desk, which do not know of each other
+use Rattle.std.specs.Prelude.{◌≡◌, ℕ, Bool, true, false}
+use Rattle.commands.specs.declared.event.Event.{Event}
+use Rattle.commands.specs.declared.event.Event.TheVariants.{Begin, Step, Enter, Probe, Leave, Put, Get, Widen}
+use Rattle.slot_array.specs.SlotsState.{SlotsState}
+use Rattle.desk.specs.DeskValue.{DeskValue}
+use Rattle.desk.specs.DeskValue.DeskValue.{OverGrid, OverTree}
+
+-- whether an event is of renaming, and not of the pool or the slots
+abbrev pub is_renaming : Event → Bool
+is_renaming (Begin p) = true
+is_renaming (Step p) = true
+is_renaming (Enter p) = false
+is_renaming (Probe p) = false
+is_renaming (Leave p) = false
+is_renaming (Put p value) = false
+is_renaming (Get p) = false
+is_renaming (Widen more) = false
+
+-- the pool and the slots
+abbrev pub slots_of : DeskValue → SlotsState ℕ
+slots_of (OverGrid w) = w.slots
+slots_of (OverTree w) = w.slots
+
+-- two desks have one renaming world
+abbrev pub NamesAlike : DeskValue → DeskValue → Type 0
+NamesAlike (OverGrid w) (OverGrid u) = w.names ≡ u.names
+NamesAlike (OverTree w) (OverTree u) = w.names ≡ u.names
+NamesAlike (OverGrid w) (OverTree u) = ⊥
+NamesAlike (OverTree w) (OverGrid u) = ⊥

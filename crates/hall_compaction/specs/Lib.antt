@@ -1,0 +1,5 @@
+pub mod Slots
+pub mod Copies
+pub mod DeskParts
+pub mod Compactions
+pub mod Rebuilt

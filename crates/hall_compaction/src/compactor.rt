@@ -1,0 +1,58 @@
+//! When a history is compacted.
+
+ghost use Rattle.std.specs.Prelude.{IfSome};
+ghost use Rattle.hall_compaction.specs.Compactions.{IsCompacted};
+
+use crate::compacting::compacted;
+use locked_world::Hall;
+use locked_world::hall::MOST_EVENTS;
+use std::alloc::Global;
+
+/// So many events are compacted.
+pub const DUE_EVENTS: usize = 900_000;
+
+/// Compacts the history of one hall whenever that has grown long.
+///
+/// It is due where a history has more than half of 900,000 events at first, and 900,000 later on. Where the events of renaming
+/// leave little room, it is due once half of that room is used up; and never again where that is fewer than 10,000 events, since
+/// then the hall is full of renaming.
+#[derive(Drop)]
+pub struct Compactor {
+    due: usize,
+}
+
+/// At how many events the next compaction is due after one that left so many.
+fn due_after(left: usize) -> usize {
+    let room = MOST_EVENTS.saturating_sub(left) / 2;
+    if room < 10_000 {
+        return usize::MAX;
+    }
+    DUE_EVENTS.max(left.saturating_add(room))
+}
+
+impl Compactor {
+    /// Of a hall that was just opened.
+    pub fn new() -> Compactor {
+        Compactor {
+            due: DUE_EVENTS / 2 + 1,
+        }
+    }
+
+    /// Whether a hall's history is to be compacted.
+    pub fn is_due(&self, hall: &Hall) -> bool {
+        self.due <= hall.len()
+    }
+
+    /// What `compacted` makes of a hall.
+    pub fn compacted(&mut self, alloc: Global, hall: &Hall) -> Option<Hall>
+        ensures { IfSome result (λ new. IsCompacted hall.now new) }
+    {
+        let new = compacted(alloc, hall);
+        let left = match &new {
+            Some(shorter) => shorter.len(),
+            None => hall.len(),
+        };
+        self.due = due_after(left);
+        new
+    }
+}

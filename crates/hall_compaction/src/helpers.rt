@@ -1,0 +1,28 @@
+//! Who holds numbers for a while, so that others get those above.
+
+use bit_allocator::Competitor;
+
+/// Identities from the largest down that do not compete.
+#[derive(Drop)]
+pub(crate) struct Helpers {
+    next: u64,
+}
+
+impl Helpers {
+    pub(crate) fn new() -> Helpers {
+        Helpers { next: u64::MAX }
+    }
+
+    /// The next identity that is none of these.
+    pub(crate) fn next(&mut self, competitors: &[Competitor]) -> u64 {
+        for _ in 0..competitors.len() {
+            if !competitors.iter().any(|one| one.identity == self.next) {
+                break;
+            }
+            self.next = self.next.saturating_sub(1);
+        }
+        let id = self.next;
+        self.next = self.next.saturating_sub(1);
+        id
+    }
+}

@@ -1,0 +1,26 @@
+//! Why a hall is not built anew.
+
+use std::alloc::{AllocError, AllocFailed};
+use step_memory::Refusal;
+
+/// An event was refused, or a growth was.
+#[derive(Clone, Copy, Debug, Drop, PartialEq, Eq)]
+pub(crate) struct Stuck;
+
+impl From<AllocError> for Stuck {
+    fn from(_refused: AllocError) -> Stuck {
+        Stuck
+    }
+}
+
+impl<T: Drop> From<AllocFailed<T>> for Stuck {
+    fn from(_refused: AllocFailed<T>) -> Stuck {
+        Stuck
+    }
+}
+
+impl From<Refusal> for Stuck {
+    fn from(_refused: Refusal) -> Stuck {
+        Stuck
+    }
+}
