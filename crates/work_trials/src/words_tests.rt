@@ -3,21 +3,26 @@
 use commands::WorldKind;
 use slot_words::{Ask, Misuse, ask};
 use std::alloc::Global;
+use std::net::{IpAddr, Ipv4Addr, Ipv6Addr};
 
-// What the words of a line ask for.
-fn asked_by(alloc: Global, line: &str) -> Result<Ask, Misuse> {
-    let words: Vec<&str> = line.split(' ').collect(alloc)?;
-    ask(alloc, words.as_slice())
+// The words of a line; none where memory is refused.
+fn words_of<'a>(alloc: Global, line: &'a str) -> Vec<&'a str> {
+    match line.split(' ').collect(alloc) {
+        Ok(words) => words,
+        Err(_) => Vec::new(alloc),
+    }
 }
 
 // That the words of a line are refused.
 fn refuses(alloc: Global, line: &str) -> bool {
-    matches!(asked_by(alloc, line), Err(Misuse::Words(_)))
+    let words = words_of(alloc, line);
+    is_refused(alloc, &words)
 }
 
 // The world and the numbers of the config that the words of a line ask to play.
 fn chosen(alloc: Global, line: &str) -> Option<(WorldKind, u64, u64, u64)> {
-    match asked_by(alloc, line) {
+    let words = words_of(alloc, line);
+    match ask(alloc, words.as_slice()) {
         Ok(Ask::Play(playing)) => {
             let config = playing.config;
             Some((config.world, config.m, config.k, config.limit))
@@ -28,7 +33,8 @@ fn chosen(alloc: Global, line: &str) -> Option<(WorldKind, u64, u64, u64)> {
 
 // The seed, the identities, the steps, the runs, and the world of what the words of a line ask to draw.
 fn drawing(alloc: Global, line: &str) -> Option<(u64, u64, u64, u64, WorldKind)> {
-    match asked_by(alloc, line) {
+    let words = words_of(alloc, line);
+    match ask(alloc, words.as_slice()) {
         Ok(Ask::Draw(d)) => Some((d.seed, d.ids, d.steps, d.runs, d.config.world)),
         _ => None,
     }
@@ -71,7 +77,8 @@ fn drawings_are_read(rt: HostRuntime) {
 
 // The world, the port, the workers and the count of what the words of a line ask to serve.
 fn serving(alloc: Global, line: &str) -> Option<(WorldKind, u64, u64, u64)> {
-    match asked_by(alloc, line) {
+    let words = words_of(alloc, line);
+    match ask(alloc, words.as_slice()) {
         Ok(Ask::Serve(s)) => Some((s.config.world, s.port, s.workers, s.count)),
         _ => None,
     }
@@ -99,6 +106,59 @@ fn servings_are_read(rt: HostRuntime) {
         "slotctl serve --m 17",
         "slotctl serve --seed 1",
     ] {
+        assert!(rt; refuses(rt.alloc(), line), "{line}");
+    }
+}
+
+// The address, the port, the clients, the idle seconds and whether it is verbose, of what the words of a line ask to host.
+fn hosting(alloc: Global, line: &str) -> Option<(IpAddr, u64, u64, u64, bool)> {
+    let words = words_of(alloc, line);
+    match ask(alloc, words.as_slice()) {
+        Ok(Ask::Host(h)) => Some((h.address, h.port, h.clients, h.idle, h.verbose)),
+        _ => None,
+    }
+}
+
+// Whether the words of a line ask to host with this journal.
+fn has_journal(alloc: Global, line: &str, journal: Option<&str>) -> bool {
+    let words = words_of(alloc, line);
+    match ask(alloc, words.as_slice()) {
+        Ok(Ask::Host(h)) => h.journal == journal,
+        _ => false,
+    }
+}
+
+const NO_HOSTINGS: [&str; 12] = [
+    "slotctl host --port 65536",
+    "slotctl host --clients 0",
+    "slotctl host --clients 1000001",
+    "slotctl host --idle 31536001",
+    "slotctl host --address here",
+    "slotctl host --address 127.0.0.1:7",
+    "slotctl host --address 127.0.0.256",
+    "slotctl host --world grid",
+    "slotctl host --world splitter",
+    "slotctl host --m 17",
+    "slotctl host --workers 2",
+    "slotctl host --journal",
+];
+
+#[test]
+fn hostings_are_read(rt: HostRuntime) {
+    let here = IpAddr::V4(Ipv4Addr::new(127, 0, 0, 1));
+    let loopback = IpAddr::V6(Ipv6Addr::new(0, 0, 0, 0, 0, 0, 0, 1));
+    for (line, want) in [
+        ("slotctl host", (here, 0, 10_000, 0, false)),
+        (
+            "slotctl host --verbose --idle 31536000 --clients 1000000 --port 65535 --address ::1 --world tree",
+            (loopback, 65_535, 1_000_000, 31_536_000, true),
+        ),
+    ] {
+        assert_eq!(rt; hosting(rt.alloc(), line), Some(want), "{line}");
+    }
+    assert!(rt; has_journal(rt.alloc(), "slotctl host", None));
+    assert!(rt; has_journal(rt.alloc(), "slotctl host --journal a/b", Some("a/b")));
+    for line in NO_HOSTINGS {
         assert!(rt; refuses(rt.alloc(), line), "{line}");
     }
 }
@@ -217,7 +277,8 @@ fn words_are_refused(rt: HostRuntime) {
 
 // That the words of a line ask for help, whose text has this line of usage.
 fn shows_usage(alloc: Global, line: &str, usage: &str) -> bool {
-    match asked_by(alloc, line) {
+    let words = words_of(alloc, line);
+    match ask(alloc, words.as_slice()) {
         Err(Misuse::Help(text)) => text.as_str().contains(usage),
         _ => false,
     }

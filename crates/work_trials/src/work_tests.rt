@@ -14,18 +14,25 @@ use std::test::Fail;
 use std::time::{Clock, Duration};
 use test_doubles::{Cup, Drip, Refusing};
 
-// What the words of a line ask for.
-fn asked_by(alloc: Global, line: &str) -> Result<Ask, Misuse> {
-    let words: Vec<&str> = line.split(' ').collect(alloc)?;
-    ask(alloc, words.as_slice())
-}
-
 // To serve is left to the caller, with nothing read or written.
 #[test]
 fn serving_is_left(rt: HostRuntime) {
     let left = runs(
         rt.alloc(),
         &["slotctl", "serve", "--m", "1"],
+        b"begin 7\n".as_slice(),
+        taking_all(rt.alloc()),
+        (100, b"", b""),
+    );
+    assert!(rt; left);
+}
+
+// Nor is anything done for a hall that is hosted.
+#[test]
+fn hosting_is_left(rt: HostRuntime) {
+    let left = runs(
+        rt.alloc(),
+        &["slotctl", "host", "--journal", "a"],
         b"begin 7\n".as_slice(),
         taking_all(rt.alloc()),
         (100, b"", b""),
@@ -74,13 +81,14 @@ fn failures_are_told(rt: HostRuntime) -> Result<(), Fail> {
 
 // What is done for the words of a line over this input, and what is written.
 fn done(alloc: Global, line: &str, input: &[u8]) -> Result<(Result<u8, Fault>, Vec<u8>), Misuse> {
-    let asked = asked_by(alloc, line)?;
+    let words: Vec<&str> = line.split(' ').collect(alloc)?;
+    let asked = ask(alloc, words.as_slice())?;
     let mut reader = Tried::new(input);
     let mut writer = Tried::new(Vec::new(alloc));
     if let Ask::Show(_) = asked {
         return Ok((Err(Fault::Memory), writer.into_inner()));
     }
-    if let Ask::Serve(_) = asked {
+    if let Ask::Serve(_) | Ask::Host(_) = asked {
         return Ok((Err(Fault::Memory), writer.into_inner()));
     }
     let outcome = work(alloc, asked, &mut reader, &mut writer);
@@ -353,11 +361,12 @@ fn a_read_fault_ends_the_run(rt: HostRuntime) -> Result<(), Fail> {
 
 // That a run by the words of a line, over a writer that takes seven bytes and then fails, ends at the fault after those.
 fn is_cut_by_a_write_fault(alloc: Global, line: &str) -> Result<bool, Fail> {
-    let asked = asked_by(alloc, line)?;
+    let words: Vec<&str> = line.split(' ').collect(alloc)?;
+    let asked = ask(alloc, words.as_slice())?;
     if let Ask::Show(_) = asked {
         return Ok(false);
     }
-    if let Ask::Serve(_) = asked {
+    if let Ask::Serve(_) | Ask::Host(_) = asked {
         return Ok(false);
     }
     let mut reader = Tried::new(b"begin 7\nstep 7\n".as_slice());
@@ -376,13 +385,13 @@ fn a_write_fault_ends_the_run(rt: HostRuntime) -> Result<(), Fail> {
 }
 
 const HELP: &[u8] =
-    b"Plays schedules of shared-memory algorithms, one access a step\n\nUsage: slotctl <COMMAND>\n\nCommands:\n  play     Plays the commands of the standard input, and writes a reply to each\n  check    Checks the record of the standard input, and writes its verdict\n  migrate  Writes the record of the standard input again, in version 2\n  show     Writes the record of the standard input as a page that shows its run\n  draw     Draws schedules, and writes one, or a line for each of many that are played\n  serve    Serves the commands of connections to 127.0.0.1, over one hall\n  help     Print this message or the help of the given subcommand(s)\n\nOptions:\n  -h, --help  Print help\n";
+    b"Plays schedules of shared-memory algorithms, one access a step\n\nUsage: slotctl <COMMAND>\n\nCommands:\n  play     Plays the commands of the standard input, and writes a reply to each\n  check    Checks the record of the standard input, and writes its verdict\n  migrate  Writes the record of the standard input again, in version 2\n  show     Writes the record of the standard input as a page that shows its run\n  draw     Draws schedules, and writes one, or a line for each of many that are played\n  serve    Serves the commands of connections to 127.0.0.1, over one hall\n  host     Hosts a hall: clients of a socket in one thread, with a journal\n  help     Print this message or the help of the given subcommand(s)\n\nOptions:\n  -h, --help  Print help\n";
 
 const PLAY_HELP: &[u8] =
     b"Plays the commands of the standard input, and writes a reply to each\n\nUsage: slotctl play [OPTIONS]\n\nOptions:\n      --world <NAME>    what is played: splitter, grid, rename or tree [default: rename]\n      --m <NUMBER>      the most participants, from 1 to 16, or to 64 in the world tree [default: 4]\n      --k <NUMBER>      the size of the pool, from 1 to 64 [default: 4]\n      --limit <NUMBER>  the most proposals of each participant, from 1 to 1000000 [default: 1000]\n      --record          writes the record of the run in place of the replies\n  -h, --help            Print help\n";
 
 const NO_SUBCOMMAND: &[u8] =
-    b"error: 'slotctl' requires a subcommand but one was not provided\n  [subcommands: play, check, migrate, show, draw, serve, help]\n\nUsage: slotctl <COMMAND>\n\nFor more information, try '--help'.\n";
+    b"error: 'slotctl' requires a subcommand but one was not provided\n  [subcommands: play, check, migrate, show, draw, serve, host, help]\n\nUsage: slotctl <COMMAND>\n\nFor more information, try '--help'.\n";
 
 const TOO_MANY: &[u8] =
     b"error: invalid value '65' for '--m <NUMBER>': 65 is not in 1..=64\n\nFor more information, try '--help'.\n";
@@ -390,7 +399,7 @@ const TOO_MANY: &[u8] =
 const NO_NUMBER: &[u8] =
     b"error: invalid value '0' for '--limit <NUMBER>': 0 is not in 1..=1000000\n\nFor more information, try '--help'.\n";
 
-const NO_WORLD: &[u8] = b"error: no such world, or a number out of its range\n";
+const NO_WORLD: &[u8] = b"error: no such world or address, or a number out of its range\n";
 
 // A writer that takes all that it is given.
 fn taking_all(alloc: Global) -> Cup {
@@ -412,7 +421,7 @@ fn runs<R: Read + Drop>(
     let outcome = program(alloc, words, &mut reader, &mut writer, &mut errors);
     let ended = match outcome {
         Outcome::Ended(status) => status,
-        Outcome::Serve(_) => 100,
+        Outcome::Serve(_) | Outcome::Host(_) => 100,
     };
     ended == status && writer.into_inner().taken.as_slice() == text && errors.as_slice() == told
 }
