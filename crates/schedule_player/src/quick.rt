@@ -32,18 +32,18 @@ pub fn quick_command(bytes: &[u8], world: WorldKind, end: u8) -> Option<(Command
     None
 }
 
-/// As `quick_command`, of the words that only a desk knows.
-#[inline(never)]
+/// As `quick_command`, of the words that only a desk knows, the commonest first.
+#[inline(always)]
 fn quick_desk_command(bytes: &[u8], end: u8) -> Option<(Command, usize)>
     ensures { IfSome result (λ r. IsDeskCommandBefore end bytes.now r.0 r.1) }
 {
-    if let [b'e', b'n', b't', b'e', b'r', b' ', number @ ..] = bytes {
-        let (id, count) = quick_number(number, end)?;
-        return Some((Command::Event(Event::Enter(id)), count + 6));
-    }
     if let [b'p', b'r', b'o', b'b', b'e', b' ', number @ ..] = bytes {
         let (id, count) = quick_number(number, end)?;
         return Some((Command::Event(Event::Probe(id)), count + 6));
+    }
+    if let [b'e', b'n', b't', b'e', b'r', b' ', number @ ..] = bytes {
+        let (id, count) = quick_number(number, end)?;
+        return Some((Command::Event(Event::Enter(id)), count + 6));
     }
     if let [b'l', b'e', b'a', b'v', b'e', b' ', number @ ..] = bytes {
         let (id, count) = quick_number(number, end)?;

@@ -4,19 +4,19 @@ use Rattle.commands.specs.declared.command.Command.TheVariants as command
 use Rattle.schedule_player.proofs.QuickLemmas.{first_of_one, first_of_two, four_and_more, six_and_more, rest_of-slice}
 use Rattle.schedule_player.proofs.quick.quick_desk_command.Goals as goal
 
-pub returns-in-101 : goal.returns-in-101
-returns-in-101 c = λ world desk.
-    (let bytes = c.args.bytes.now in
-    let number = rw (rest_of-slice bytes 6 (omega arith)) at c.in_ok-id.ensures in
-    first_of_one c.args.end world (codes "enter") bytes (drop 6 bytes) (λ id. command.Event (Enter id)) c.in_ok-id.id c.in_ok-id.count (c.in_ok-id.count + 6)
-    (six_and_more bytes 101 110 116 101 114 32 (omega arith) (omega arith) (omega arith) (omega arith) (omega arith) (omega arith) (omega arith)) (omega arith) (omega arith) refl refl refl (λ digits is. rw (desk, is) refl) number)
-
 pub returns-in-112 : goal.returns-in-112
 returns-in-112 c = λ world desk.
     (let bytes = c.args.bytes.now in
-    let number = rw (rest_of-slice bytes 6 (omega arith)) at c.in_ok-id-2.ensures in
-    first_of_one c.args.end world (codes "probe") bytes (drop 6 bytes) (λ id. command.Event (Probe id)) c.in_ok-id-2.id c.in_ok-id-2.count (c.in_ok-id-2.count + 6)
+    let number = rw (rest_of-slice bytes 6 (omega arith)) at c.in_ok-id.ensures in
+    first_of_one c.args.end world (codes "probe") bytes (drop 6 bytes) (λ id. command.Event (Probe id)) c.in_ok-id.id c.in_ok-id.count (c.in_ok-id.count + 6)
     (six_and_more bytes 112 114 111 98 101 32 (omega arith) (omega arith) (omega arith) (omega arith) (omega arith) (omega arith) (omega arith)) (omega arith) (omega arith) refl refl refl (λ digits is. rw (desk, is) refl) number)
+
+pub returns-in-101 : goal.returns-in-101
+returns-in-101 c = λ world desk.
+    (let bytes = c.args.bytes.now in
+    let number = rw (rest_of-slice bytes 6 (omega arith)) at c.in_ok-id-2.ensures in
+    first_of_one c.args.end world (codes "enter") bytes (drop 6 bytes) (λ id. command.Event (Enter id)) c.in_ok-id-2.id c.in_ok-id-2.count (c.in_ok-id-2.count + 6)
+    (six_and_more bytes 101 110 116 101 114 32 (omega arith) (omega arith) (omega arith) (omega arith) (omega arith) (omega arith) (omega arith)) (omega arith) (omega arith) refl refl refl (λ digits is. rw (desk, is) refl) number)
 
 pub returns-in-108 : goal.returns-in-108
 returns-in-108 c = λ world desk.
