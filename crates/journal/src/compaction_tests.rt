@@ -98,10 +98,18 @@ fn a_crash_in_its_midst_leaves_old_or_new(rt: HostRuntime) -> Result<(), Fail> {
             let (done, disk) = compacts(&rt, alloc, calls)?;
             assert_eq!(rt; done, calls == 3);
             let want = if calls < 2 { 16 } else { 2 };
-            assert_eq!(rt; events_left(alloc, disk.crashed(keep, ALL_CALLS))?, want, "{calls}");
+            assert_eq!(rt;
+                events_left(alloc, disk.crashed(keep, ALL_CALLS))?,
+                want,
+                "{calls}"
+            );
             let (_, disk) = compacts(&rt, alloc, calls)?;
             let want = if calls < 3 { 16 } else { 2 };
-            assert_eq!(rt; events_left(alloc, disk.reverted(keep, ALL_CALLS))?, want, "{calls}");
+            assert_eq!(rt;
+                events_left(alloc, disk.reverted(keep, ALL_CALLS))?,
+                want,
+                "{calls}"
+            );
         }
     }
     Ok(())
@@ -116,7 +124,11 @@ fn it_comes_when_it_is_due(rt: HostRuntime) -> Result<(), Fail> {
         mut chronicle,
     } = opened(alloc, MemoryDisk::new(Vec::new(alloc), ALL_CALLS))?;
     answer(&rt, &mut chronicle, 5);
-    assert!(rt; journal.compact_when_due(alloc, &mut compactor, &mut chronicle).is_ok());
+    assert!(rt;
+        journal
+            .compact_when_due(alloc, &mut compactor, &mut chronicle)
+            .is_ok()
+    );
     assert_eq!(rt; chronicle.hall().len(), 16);
     Ok(())
 }

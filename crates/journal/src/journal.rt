@@ -45,6 +45,15 @@ impl<D: Disk> Journal<D> {
         Ok(())
     }
 
+    /// After this fault of the disk nothing more is written.
+    fn end(&mut self, fault: DiskFault) -> JournalFault
+        ensures fault { result ≡ JournalFault.Disk fault }
+        ensures ended { self.new ≡ record self.old { ended = true } }
+    {
+        self.ended = true;
+        JournalFault::Disk(fault)
+    }
+
     /// Writes the lines that wait and waits until they are surely there; then they are handed on. After a fault nothing is ever written
     /// again, and the chronicle's lines wait for ever: no reply to an event of theirs may be let out.
     pub fn commit(&mut self, chronicle: &mut Chronicle) -> Result<(), JournalFault>
@@ -67,10 +76,7 @@ impl<D: Disk> Journal<D> {
                 chronicle.hand_on();
                 Ok(())
             }
-            Err(fault) => {
-                self.ended = true;
-                Err(JournalFault::Disk(fault))
-            }
+            Err(fault) => Err(self.end(fault)),
         }
     }
 }
@@ -109,10 +115,7 @@ impl<D: Disk> Journal<D> {
                 chronicle.replace_hall(hall);
                 Ok(true)
             }
-            Err(fault) => {
-                self.ended = true;
-                Err(JournalFault::Disk(fault))
-            }
+            Err(fault) => Err(self.end(fault)),
         }
     }
 
