@@ -33,12 +33,7 @@ fn is_renaming(event: Event) -> bool
 }
 
 /// Takes the event at a place of a hall over into a new one where it is of renaming, and follows it in a copy where it is not.
-fn sort(
-    hall: &Hall,
-    place: usize,
-    new: &mut Rebuilding,
-    old: &mut SlotsCopy,
-) -> Result<(), Stuck>
+fn sort(hall: &Hall, place: usize, new: &mut Rebuilding, old: &mut SlotsCopy) -> Result<(), Stuck>
     ensures { OnOk result (IsSorted hall.now place new.old old.old → IsSorted hall.now (place + 1) new.new old.new) }
 {
     let _ = hall.len();

@@ -113,12 +113,7 @@ fn fill(
 }
 
 /// A helper takes this number, where it is free and all below are held.
-fn hold(
-    new: &mut Rebuilding,
-    id: u64,
-    number: u8,
-    held: &mut Vec<Held>,
-) -> Result<(), Stuck>
+fn hold(new: &mut Rebuilding, id: u64, number: u8, held: &mut Vec<Held>) -> Result<(), Stuck>
     ensures { OnOk result (GoesOn new.old new.new) }
 {
     if new.slots.holds(number) {

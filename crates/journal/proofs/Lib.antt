@@ -7,3 +7,4 @@ pub mod WaitingLemmas
 pub mod OpeningLemmas
 pub mod Replays
 pub mod Restarts
+pub mod Compacts

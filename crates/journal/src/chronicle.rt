@@ -5,10 +5,13 @@ ghost use Rattle.commands.specs.Replies.{is_refusal, with_view};
 ghost use Rattle.desk.specs.DeskCalls.{exchange};
 ghost use Rattle.locked_world.specs.Halls.{HallMay};
 ghost use Rattle.schedule_player.specs.Records.{exchange_line};
+ghost use Rattle.hall_compaction.specs.Compactions.{IsCompacted};
 ghost use Rattle.journal.specs.Chronicles.{ChronicleServes, chronicle_of, waiting_of};
+ghost use Rattle.journal.specs.Compactings.{MayCompact};
 ghost use Rattle.journal.specs.ChronicleProofs.{chronicle_answers};
 
 use commands::{Event, Reply, ShortReply};
+use hall_compaction::Compactor;
 use locked_world::{Hall, law_of_serving};
 use schedule_player::{AsRecord, Form, Replies, Service, TURN_ROOM};
 use std::alloc::Global;
@@ -54,7 +57,7 @@ pub(crate) fn applied(hall: &mut Hall, event: Event, view: &mut View) -> ShortRe
 }
 
 /// Puts the line of an event with its reply, and the view beside that, behind others, where there is room.
-fn put_line(
+pub(crate) fn put_line(
     event: Event,
     reply: ShortReply,
     view: &View,
@@ -117,6 +120,29 @@ impl Chronicle {
     {
         self.lines.clear();
         self.told = self.hall.len();
+    }
+
+    /// A hall that was compacted of this one takes its place; all of it was handed on, or there is no journal.
+    pub fn replace_hall(&mut self, hall: Hall)
+        requires { IsCompacted self.old.hall hall }
+        ensures { self.new ≡ chronicle_of hall (length hall.history) }
+    {
+        self.lines.clear();
+        self.told = hall.len();
+        self.hall = hall;
+    }
+
+    /// Compacts the hall where that is due and gives a shorter history; what waited is gone then. For a chronicle without a journal:
+    /// with one, `Journal::compact_when_due`.
+    pub fn compact_when_due(&mut self, alloc: Global, compactor: &mut Compactor)
+        ensures { MayCompact self.old self.new }
+    {
+        if !compactor.is_due(&self.hall) {
+            return;
+        }
+        if let Some(hall) = compactor.compacted(alloc, &self.hall) {
+            self.replace_hall(hall);
+        }
     }
 }
 

@@ -1,15 +1,20 @@
 //! The journal of a chronicle, on a disk.
 
-ghost use Rattle.std.specs.Prelude.{◌≡◌, ◌≢◌, true, false, length, Err, Some, OnOk, OnErr, IfOk};
-ghost use Rattle.journal_disk.specs.Disks.{Changes};
+ghost use Rattle.std.specs.Prelude.{◌≡◌, ◌≢◌, true, false, length, Err, Some, OnOk, OnErr, IfOk, ◌⊎◌};
+ghost use Rattle.journal_disk.specs.Disks.{Changes, IsReplaced};
 ghost use Rattle.journal_disk.specs.DiskState.{DiskState};
+ghost use Rattle.hall_compaction.specs.Compactions.{IsCompacted};
 ghost use Rattle.journal.specs.Chronicles.{chronicle_of};
+ghost use Rattle.journal.specs.Compactings.{KeepsEither, MayCompact, TakesHall};
 ghost use Rattle.journal.specs.Journals.{Stands, KeepsAtAnyMoment, IsHallOf, IsMended, IsWritten, missing_in};
 
 use crate::chronicle::Chronicle;
 use crate::opening::{OpenFault, recovered};
+use crate::record::record_of;
 use commands::Config;
+use hall_compaction::Compactor;
 use journal_disk::{Disk, DiskFault};
+use locked_world::Hall;
 use schedule_player::{Replies, law_of_lines, print_header};
 use std::alloc::Global;
 
@@ -40,6 +45,15 @@ impl<D: Disk> Journal<D> {
         Ok(())
     }
 
+    /// After this fault of the disk nothing more is written.
+    fn end(&mut self, fault: DiskFault) -> JournalFault
+        ensures fault { result ≡ JournalFault.Disk fault }
+        ensures ended { self.new ≡ record self.old { ended = true } }
+    {
+        self.ended = true;
+        JournalFault::Disk(fault)
+    }
+
     /// Writes the lines that wait and waits until they are surely there; then they are handed on. After a fault nothing is ever written
     /// again, and the chronicle's lines wait for ever: no reply to an event of theirs may be let out.
     pub fn commit(&mut self, chronicle: &mut Chronicle) -> Result<(), JournalFault>
@@ -62,10 +76,70 @@ impl<D: Disk> Journal<D> {
                 chronicle.hand_on();
                 Ok(())
             }
-            Err(fault) => {
-                self.ended = true;
-                Err(JournalFault::Disk(fault))
+            Err(fault) => Err(self.end(fault)),
+        }
+    }
+}
+
+impl<D: Disk> Journal<D> {
+    /// A hall that was compacted of the chronicle's takes its place, and its record that of all that was written, in one step; so also what
+    /// waited is handed on. `false` where room for the record was refused, with nothing changed. After a fault of the disk nothing is ever
+    /// written again, and the chronicle is as it was.
+    pub fn compact(
+        &mut self,
+        alloc: Global,
+        chronicle: &mut Chronicle,
+        hall: Hall,
+    ) -> Result<bool, JournalFault>
+        requires { IsCompacted chronicle.old.hall hall }
+        ensures taken { IfOk result (λ done. TakesHall done hall chronicle.old chronicle.new) }
+        ensures stands { OnOk result (Stands D.state self.old chronicle.old → Stands D.state self.new chronicle.new) }
+
+        // A crash at any moment of the call leaves all that was handed on before it, or the record of the new hall.
+        ensures any_moment { Stands D.state self.old chronicle.old → Changes (KeepsEither chronicle.old hall) (D.state self.old.disk) (D.state self.new.disk) }
+        ensures same { OnErr result (chronicle.new ≡ chronicle.old) }
+        ensures ends { OnErr result (self.new.ended ≡ true) }
+        ensures over { self.old.ended ≡ true → (result ≡ Err JournalFault.Ended) × (self.new ≡ self.old) }
+        ensures goes_on { self.old.ended ≡ false → result ≢ Err JournalFault.Ended }
+    {
+        law_of_lines();
+        let _ = chronicle.waiting();
+        if self.ended {
+            return Err(JournalFault::Ended);
+        }
+        let Ok(record) = record_of(alloc, &hall) else {
+            return Ok(false);
+        };
+        match self.disk.replace(alloc, &record) {
+            Ok(()) => {
+                chronicle.replace_hall(hall);
+                Ok(true)
             }
+            Err(fault) => Err(self.end(fault)),
+        }
+    }
+
+    /// Compacts the chronicle's hall where that is due and gives a shorter history.
+    pub fn compact_when_due(
+        &mut self,
+        alloc: Global,
+        compactor: &mut Compactor,
+        chronicle: &mut Chronicle,
+    ) -> Result<(), JournalFault>
+        ensures compacted { OnOk result (MayCompact chronicle.old chronicle.new) }
+        ensures stands { OnOk result (Stands D.state self.old chronicle.old → Stands D.state self.new chronicle.new) }
+        ensures same { OnErr result (chronicle.new ≡ chronicle.old) }
+        ensures ends { OnErr result (self.new.ended ≡ true) }
+    {
+        if !compactor.is_due(chronicle.hall()) {
+            return Ok(());
+        }
+        let Some(hall) = compactor.compacted(alloc, chronicle.hall()) else {
+            return Ok(());
+        };
+        match self.compact(alloc, chronicle, hall) {
+            Ok(_) => Ok(()),
+            Err(fault) => Err(fault),
         }
     }
 }

@@ -8,17 +8,23 @@
 //! A crash leaves a beginning of what was written and all that was synced. Once its torn line is cut that is the record of the hall
 //! as it was after some of its events, at least those that were committed (`law_of_crashes`); `Journal::open` reads it, and
 //! gives the hall of that record.
+//!
+//! A history that has grown long is compacted (`hall_compaction`): the record of a hall with the same desk takes the place of all that was
+//! written, in one step of the disk (`Journal::compact`). A crash in its midst leaves what one before it leaves, or the new record, whole.
 #![tactic(auto)]
 
 pub mod chronicle;
 pub mod journal;
 pub mod laws;
 pub mod opening;
+mod record;
 
 pub use chronicle::{Chronicle, MOST_WAITING};
 pub use journal::{Journal, JournalFault, Opened};
 pub use laws::law_of_crashes;
 pub use opening::OpenFault;
 
+#[cfg(test)]
+mod compaction_tests;
 #[cfg(test)]
 mod tests;

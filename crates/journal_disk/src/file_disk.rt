@@ -4,12 +4,11 @@ ghost use Rattle.std.specs.Prelude.{None};
 
 use crate::disk::{Disk, DiskFault};
 use std::alloc::Global;
-use std::fs;
 use std::fs::{File, TryLockError};
-use std::io;
 use std::io::{ErrorKind, Read, Seek, SeekFrom, Write};
 use std::os::unix::fs::MetadataExt;
 use std::rt::Files;
+use std::{fs, io};
 
 /// Why a file is not opened.
 #[derive(Clone, Copy, Debug, Drop, PartialEq, Eq)]

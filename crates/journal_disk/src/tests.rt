@@ -22,7 +22,10 @@ fn a_file_is_replaced_and_stays_locked(rt: HostRuntime) -> Result<(), Fail> {
     disk.sync().map_err(|_| "not synced")?;
     disk.replace(alloc, b"two\nthree\n")
         .map_err(|_| "not replaced")?;
-    assert_eq!(rt; contents(&mut disk, alloc)?.as_slice(), b"two\nthree\n".as_slice());
+    assert_eq!(rt;
+        contents(&mut disk, alloc)?.as_slice(),
+        b"two\nthree\n".as_slice()
+    );
     assert!(rt; matches!(FileDisk::open(&rt, PATH), Err(FileFault::InUse)));
     disk.append(b"four\n").map_err(|_| "not appended")?;
     let bytes = fs::read(&rt, PATH).map_err(|_| "no file")?;

@@ -1,3 +1,4 @@
+use Rattle.journal.proofs.Compacts.{leaves_either}
 use Rattle.journal.proofs.Restarts.{opened, stays}
 use Rattle.journal.proofs.laws.law_of_crashes.Goals as goal
 
@@ -6,3 +7,6 @@ returns-clause-between c = stays c.law_of_lines.ensures.once
 
 pub returns-clause-opened : goal.returns-clause-opened
 returns-clause-opened c = opened c.law_of_lines.ensures.cut
+
+pub returns-clause-replaced : goal.returns-clause-replaced
+returns-clause-replaced c = leaves_either c.law_of_lines.ensures.once

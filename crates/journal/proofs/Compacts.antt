@@ -1,0 +1,55 @@
+-- the record of another hall in place of all that was written
+use Rattle.std.proofs.Common.{◌≡◌, ℕ, zero, suc, ◌+◌, ◌≤◌, List, [], ◌∷◌, ◌++◌, Some, inl, inr, length, take, flat_map, refl, ap, sym, ◌∙◌, subst, append_assoc, arith, add-one}
+use Rattle.std.specs.Prelude.{slice_get}
+use Rattle.std.proofs.lemmas.List.{append-nil, take_all}
+use Rattle.std.proofs.lemmas.Grind.{flat_map-append}
+use Rattle.std.proofs.lemmas.Option.{same_Some}
+use Rattle.commands.specs.declared.exchange.Exchange.{Exchange}
+use Rattle.schedule_player.specs.Lines.{IsCutOnce}
+use Rattle.schedule_player.specs.Records.{exchange_line, header_line}
+use Rattle.locked_world.specs.HallState.{HallState}
+use Rattle.journal_disk.specs.DiskState.{DiskState}
+use Rattle.journal_disk.specs.Disks.{MayLeaveEither, replaced_by}
+use Rattle.journal.specs.ChronicleState.{ChronicleState}
+use Rattle.journal.specs.Chronicles.{record_of_hall, hall_after_first, chronicle_of}
+use Rattle.journal.specs.Compactings.{LeavesEither, KeepsEither}
+use Rattle.journal.specs.Journals.{HasSynced, LeavesHall}
+use Rattle.journal.proofs.Commits.{told_all}
+use Rattle.journal.proofs.Crashes.{cut_record}
+use Rattle.journal.proofs.Restarts.{stays}
+
+take_suc : (xs : List Exchange) (n : ℕ) (x : Exchange) → slice_get xs n ≡ Some x → take (suc n) xs ≡ take n xs ++ x ∷ []
+take_suc [] n x h = absurd (cc)
+take_suc (y ∷ ys) zero x h = ap (λ (z : Exchange). z ∷ []) (same_Some y x h)
+take_suc (y ∷ ys) (suc n) x h = ap (λ (l : List Exchange). y ∷ l) (take_suc ys n x h)
+
+-- the record of a hall as it was after one more event has one more line
+pub one_line : (h : HallState) (n : ℕ) (x : Exchange) → slice_get h.history n ≡ Some x → record_of_hall (hall_after_first n h) ++ exchange_line x ≡ record_of_hall (hall_after_first (n + 1) h)
+one_line h n x at =
+    let first = flat_map exchange_line (take n h.history) in
+    append_assoc (header_line h.config) first (exchange_line x)
+    ∙ ap (λ (l : List ℕ). header_line h.config ++ (first ++ l)) (sym (append-nil (exchange_line x)))
+    ∙ ap (λ (l : List ℕ). header_line h.config ++ l) (sym (flat_map-append exchange_line (take n h.history) (x ∷ [])))
+    ∙ ap (λ (xs : List Exchange). header_line h.config ++ flat_map exchange_line xs) (sym (ap (λ (k : ℕ). take k h.history) (add-one n) ∙ take_suc h.history n x at))
+
+pub all_lines : (h : HallState) → record_of_hall (hall_after_first (length h.history) h) ≡ record_of_hall h
+all_lines h = told_all h
+
+module _ (once : (bytes : List ℕ) → IsCutOnce bytes) where
+  whole_record : (h : HallState) → LeavesHall h (length h.history) (record_of_hall h)
+  whole_record h = record {
+    count = length h.history;
+    many = omega arith;
+    few = omega arith;
+    is = cut_record h (record_of_hall h) [] once (sym (append-nil (record_of_hall h))) refl ∙ sym (all_lines h);
+  }
+
+  -- what a crash leaves in the midst of it
+  pub leaves_either : (c : ChronicleState) (new : HallState) (s : DiskState) → HasSynced c s → c.told ≤ length c.hall.history →
+      (left : List ℕ) → MayLeaveEither s (record_of_hall new) left → LeavesEither c new left
+  leaves_either c new s stands few left (inl m) = inl ((stays once c s stands few).leaves left m)
+  leaves_either c new s stands few left (inr is) = inr (subst (λ (l : List ℕ). LeavesHall new (length new.history) l) (sym is) (whole_record new))
+
+-- it is written, and surely there
+pub replaced_synced : (new : HallState) (s t : DiskState) → t ≡ replaced_by s (record_of_hall new) → HasSynced (chronicle_of new (length new.history)) t
+replaced_synced new s t is = subst (λ (x : DiskState). HasSynced (chronicle_of new (length new.history)) x) (sym is) (record { contents = sym (told_all new); synced = refl })

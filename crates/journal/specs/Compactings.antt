@@ -1,0 +1,33 @@
+-- a journal whose chronicle's hall is compacted, and what a crash leaves then
+use Rattle.std.specs.Prelude.{◌≡◌, ◌⊎◌, ℕ, List, length, Bool, true, false}
+use Rattle.locked_world.specs.HallState.{HallState}
+use Rattle.hall_compaction.specs.Compactions.{IsCompacted}
+use Rattle.journal_disk.specs.DiskState.{DiskState}
+use Rattle.journal_disk.specs.Disks.{MayLeaveEither, replaced_by}
+use Rattle.journal.specs.ChronicleState.{ChronicleState}
+use Rattle.journal.specs.Chronicles.{record_of_hall, chronicle_of}
+use Rattle.journal.specs.Journals.{LeavesHall}
+
+-- these bytes, once their torn line is cut, are the record of the chronicle's hall as it was after some of its events, with all that were
+-- handed on; or the whole record of the hall that is to take its place
+abbrev pub LeavesEither : ChronicleState → HallState → List ℕ → Type 0
+LeavesEither c new left = LeavesHall c.hall c.told left ⊎ LeavesHall new (length new.history) left
+
+-- the disk is as it was, or has the record of the other hall and nothing else; and a crash at any moment between leaves one of the two
+pub record KeepsEither (c : ChronicleState) (new : HallState) (s t : DiskState) : Type 0 where
+  pub is : (t ≡ s) ⊎ (t ≡ replaced_by s (record_of_hall new))
+  pub leaves : (left : List ℕ) → MayLeaveEither s (record_of_hall new) left → LeavesEither c new left
+
+-- the other hall is the chronicle's, and all of it was handed on; or nothing changed
+abbrev pub TakesHall : Bool → HallState → ChronicleState → ChronicleState → Type 0
+TakesHall true new c u = u ≡ chronicle_of new (length new.history)
+TakesHall false new c u = u ≡ c
+
+-- the chronicle's hall was compacted, and all of it was handed on
+pub record HasCompacted (c u : ChronicleState) : Type 0 where
+  pub compacted : IsCompacted c.hall u.hall
+  pub told : u.told ≡ length u.hall.history
+
+-- so it is, or nothing changed
+abbrev pub MayCompact : ChronicleState → ChronicleState → Type 0
+MayCompact c u = (u ≡ c) ⊎ HasCompacted c u
