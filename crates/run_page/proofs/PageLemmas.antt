@@ -127,6 +127,12 @@ before_rows text head line word number rows = simp append_assoc
 pub put_first : (t0 t1 t2 t3 t4 told head line word number rows : List ℕ) → t4 ≡ t3 ++ rows → t3 ≡ t2 ++ (word ++ number) → t2 ≡ t1 ++ line → t1 ≡ t0 ++ told → told ≡ head → t4 ≡ t0 ++ (head ++ (((line ++ word) ++ number) ++ rows))
 put_first t0 t1 t2 t3 t4 told head line word number rows a b c d e = a ∙ rw (b, c, d, e) (before_rows t0 head line word number rows)
 
+closing_parts : (t a before b n e : List ℕ) → (((t ++ a) ++ before) ++ (b ++ n)) ++ e ≡ t ++ ((((a ++ before) ++ b) ++ n) ++ e)
+closing_parts t a before b n e = simp append_assoc
+
+pub put_closing : (t0 t1 t2 t3 t4 told a before b n e : List ℕ) → t4 ≡ t3 ++ e → t3 ≡ t2 ++ (b ++ n) → t2 ≡ t1 ++ told → t1 ≡ t0 ++ a → told ≡ before → t4 ≡ t0 ++ ((((a ++ before) ++ b) ++ n) ++ e)
+put_closing t0 t1 t2 t3 t4 told a before b n e x y z u v = x ∙ rw (y, z, u, v) (closing_parts t0 a before b n e)
+
 after_rows : (text last middle state between listed tail : List ℕ) → (((((text ++ last) ++ middle) ++ state) ++ between) ++ listed) ++ tail ≡ text ++ (((((last ++ middle) ++ state) ++ between) ++ listed) ++ tail)
 after_rows text last middle state between listed tail = simp append_assoc
 
@@ -286,6 +292,13 @@ module _ (l : Line) (s s' : Sheet) (shown first : Bool) (has : (shown ≡ true) 
 
 -- ---- the whole page
 
+-- the state of the desk on which the lines were replayed
+state_is : (f : Form) (c : Config) (lines : List Line) (s : Sheet) → HasPut c lines s → state f s.desk s.begun.items s.reached.items ≡ state_after f c lines
+state_is f c lines s h =
+    ap (λ (v : DeskValue). state f v s.begun.items s.reached.items) h.desk
+    ∙ ap (λ (ids : List ℕ). state f (replayed (fresh_desk c) lines) ids s.reached.items) h.begun
+    ∙ ap (λ (places : List ℕ). state f (replayed (fresh_desk c) lines) (begun_in [] lines) places) h.reached
+
 -- where a page is ended, the state before its stretch is whole
 whole_is : (c : Config) (s : Sheet) (lines : List Line) → HasPut c lines s → whole_before s ≡ state_after Data c (lines_before s.stretch lines)
 whole_is c s lines h =
@@ -294,8 +307,8 @@ whole_is c s lines h =
     elim (leb_tells s.seen (s.stretch.from - 1)) [
       | inl low ↦
           let all : lines_before s.stretch lines ≡ lines = take_all (s.stretch.from - 1) lines (omega (arith, low.1, h.seen)) in
-          let state_is : now ≡ state_after Data c lines = rw (h.desk, h.begun, h.reached) refl in
-          ap text low.0 ∙ ap (λ (t : List ℕ). t ++ now) (h.before ∙ none_yet c s.stretch lines (omega (arith, low.1, h.seen))) ∙ state_is ∙ sym (ap (state_after Data c) all)
+          ap text low.0 ∙ ap (λ (t : List ℕ). t ++ now) (h.before ∙ none_yet c s.stretch lines (omega (arith, low.1, h.seen)))
+          ∙ state_is Data c lines s h ∙ sym (ap (state_after Data c) all)
       | inr high ↦ ap text high.0 ∙ append-nil s.before ∙ h.before ∙ one_came c s.stretch lines (omega (arith, high.1, h.seen))
     ]
 
@@ -308,13 +321,16 @@ pub is_page : (bytes : List ℕ) (stretch : Stretch) (h : Header) (head : List �
 is_page bytes stretch h head lines is says s text a p =
     let c = h.config in
     let ls = a.run.lines in
+    let before = state_after Data c (lines_before s.stretch ls) in
+    let done = λ (closing state items : List ℕ). (opening c s.stretch ++ shown_rows c s.stretch ls) ++ (closing ++ page_middle ++ state ++ page_between ++ items ++ page_tail) in
     let whole : text ≡ page c s.stretch ls =
     p.text_is
     ∙ ap (λ (t : List ℕ). t ++ ending (whole_before s) s.desk s.begun.items s.reached.items s.seen s.listed) a.gathered.text
-    ∙ ap (λ (t : List ℕ). (opening c s.stretch ++ shown_rows c s.stretch ls) ++ ending t s.desk s.begun.items s.reached.items s.seen s.listed) (whole_is c s ls a.gathered)
-    ∙ rw (a.gathered.desk, a.gathered.begun, a.gathered.reached, a.gathered.seen, a.gathered.listed)
-    (grouped page_head (opening_data c s.stretch) (shown_rows c s.stretch ls) (closing_data (state_after Data c (lines_before s.stretch ls)) (length ls))
-    page_middle (state_after Item c ls) page_between (shown_items c s.stretch ls) page_tail) in
+    ∙ ap (λ (t : List ℕ). done (closing_data t s.seen) (state Item s.desk s.begun.items s.reached.items) s.listed) (whole_is c s ls a.gathered)
+    ∙ ap (λ (n : ℕ). done (closing_data before n) (state Item s.desk s.begun.items s.reached.items) s.listed) a.gathered.seen
+    ∙ ap (λ (t : List ℕ). done (closing_data before (length ls)) t s.listed) (state_is Item c ls s a.gathered)
+    ∙ ap (λ (t : List ℕ). done (closing_data before (length ls)) (state_after Item c ls) t) a.gathered.listed
+    ∙ grouped page_head (opening_data c s.stretch) (shown_rows c s.stretch ls) (closing_data before (length ls)) page_middle (state_after Item c ls) page_between (shown_items c s.stretch ls) page_tail in
     record {
       head = head;
       rows = lines;

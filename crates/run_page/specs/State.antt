@@ -56,7 +56,7 @@ slot_facts f values (suc before) = slot_facts f values before ++ fact f (codes "
 abbrev pub size_fact : Form → ℕ → List ℕ
 size_fact f size = fact f (codes "size") (decimal size)
 
--- all of it, where these have begun and these places were reached: what stands elsewhere has stood there from the first
+-- all of it, where these have begun and an access has come to these places
 abbrev pub state : Form → DeskValue → List ℕ → List ℕ → List ℕ
 state f w ids places =
     flat_map (person f w) ids ++ flat_map (stranger f w) (slots_of w).pool.competitors ++ flat_map (place_facts f w) places ++ name_facts f w MOST_NAMES

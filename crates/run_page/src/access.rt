@@ -1,6 +1,6 @@
 //! The accesses of a run, in words, and what follows of them.
 
-ghost use Rattle.std.specs.Prelude.{◌≡◌, ◌++◌, OnOk, Some, decimal};
+ghost use Rattle.std.specs.Prelude.{◌≡◌, ◌++◌, ◌==◌, OnOk, Some, decimal, position};
 ghost use Rattle.run_page.specs.Access.{access_words, held_at, place_in, register_at, register_words, with_place, with_reached};
 
 use desk::{Coming, Desk, Register};
@@ -93,11 +93,18 @@ fn place_in(register: Register) -> Place
     }
 }
 
+/// Where a place stands among these.
+fn find_place(places: &[Place], place: Place) -> Option<usize>
+    ensures { result ≡ position (λ one. one == place) places.now }
+{
+    places.iter().position(|one| *one == place)
+}
+
 /// Keeps a place, once. An error where a growth was refused.
 fn keep_place(place: Place, places: &mut Vec<Place>) -> Result<(), AllocError>
     ensures { OnOk result (places.new.items ≡ with_place places.old.items (Some place)) }
 {
-    if places.iter().position(|one| *one == place).is_some() {
+    if find_place(places.as_slice(), place).is_some() {
         return Ok(());
     }
     places.push(place).map_err(AllocError::from)

@@ -131,9 +131,7 @@ impl Sheet {
         }
         let is_past = kept.is_past(seen);
         put_state_where_asked(is_past, &desk, &begun, &reached, &mut before)?;
-        put_ending(
-            &before, &desk, &begun, &reached, seen, &listed, &mut text,
-        )?;
+        put_ending(&before, &desk, &begun, &reached, seen, &listed, &mut text)?;
         Ok(text)
     }
 }

@@ -6,8 +6,8 @@ ghost use Rattle.bit_allocator.specs.Pool.{number_answer};
 ghost use Rattle.slot_array.specs.SlotsState.{SlotsState};
 ghost use Rattle.run_page.specs.Standing.{is_spent_by, name_words, place_words, standing_on, standing_words, stay_words, value_words};
 
-use crate::form::Form;
 use crate::access::{put_access, put_place};
+use crate::form::Form;
 use bit_allocator::Stay;
 use desk::{Coming, Desk, Event};
 use record_lines::Text;
@@ -81,13 +81,7 @@ fn put_own_name(name: Option<u64>, is_spent: bool, out: &mut Text) -> Result<(),
 {
     match name {
         Some(name) => out.put_word(b"name ", name),
-        None => {
-            if is_spent {
-                out.put(b"spent")
-            } else {
-                Ok(())
-            }
-        }
+        None => { if is_spent { out.put(b"spent") } else { Ok(()) } }
     }
 }
 

@@ -124,13 +124,7 @@ fn put_registers(
 }
 
 /// Appends that this number is that of something.
-fn put_fact(
-    form: Form,
-    of: &[u8],
-    number: u64,
-    is: u64,
-    out: &mut Text,
-) -> Result<(), AllocError>
+fn put_fact(form: Form, of: &[u8], number: u64, is: u64, out: &mut Text) -> Result<(), AllocError>
     ensures { OnOk result (out.new ≡ out.old ++ fact form (of.now ++ decimal number) (decimal is)) }
 {
     out.put(form.begin())?;
@@ -167,12 +161,7 @@ fn put_name(form: Form, number: u64, reply: &Reply, out: &mut Text) -> Result<()
 
 /// Appends who has which name, up to this one.
 #[tactic(auto, unfolding(crate::specs::State::name_facts))]
-fn put_names(
-    form: Form,
-    desk: &Desk<Global>,
-    most: u64,
-    out: &mut Text,
-) -> Result<(), AllocError>
+fn put_names(form: Form, desk: &Desk<Global>, most: u64, out: &mut Text) -> Result<(), AllocError>
     ensures { OnOk result (out.new ≡ out.old ++ name_facts form desk.now most) }
 {
     for before in 0..most {

@@ -228,10 +228,10 @@ function treeRooms() {
 const entered = new Set();
 for (const [of, is] of before.facts) {
   const [reg, place] = of.split(' ');
-  if (reg === 'X' && is !== '0') entered.add(place);
+  if ((reg === 'X' || reg === 'mark') && is !== '0') entered.add(place);
 }
-for (const r of rows) {
-  if (r.access && r.access.reg !== 'segment') entered.add(r.access.place);
+for (const { access: a } of rows) {
+  if (a && a.kind === 'write' && a.reg !== 'segment') entered.add(a.place);
 }
 
 const WIDE = 112;
