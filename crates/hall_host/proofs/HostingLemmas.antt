@@ -13,7 +13,7 @@ use Rattle.schedule_player.specs.Progress.{Progress}
 use Rattle.schedule_player.specs.Runs.{Runs}
 use Rattle.schedule_player.specs.Says.{Spoke}
 use Rattle.schedule_player.specs.Shared.{TurnLog, all_turns, turns_of}
-use Rattle.schedule_player.specs.Texts.{replies_of}
+use Rattle.schedule_player.specs.TalkerState.{TalkerState}
 use Rattle.schedule_player.specs.Turns.{Turn, exchanges}
 use Rattle.schedule_player.specs.Turns.Turn.{Answered, Told, Ended, Misread}
 use Rattle.locked_world.specs.Halls.{HallMay, IsLawful, after_unless, hall_refusal}
@@ -25,7 +25,8 @@ use Rattle.journal.specs.Chronicles.{ChronicleServes, chronicle_of, told_record}
 use Rattle.journal.specs.Journals.{HasSynced, KeepsAtAnyMoment, KeepsHandedOn, Stands}
 use Rattle.event_server.specs.Seats.{Seating, SeatSends, SeatTakes, LoopTurn}
 use Rattle.event_server.specs.Wires.{after_taken}
-use Rattle.hall_host.specs.Kept.{IsKept}
+use Rattle.hall_host.specs.declared.keepers.Recorded.{Recorded}
+use Rattle.hall_host.specs.Kept.{IsKept, KeptBy}
 use Rattle.hall_host.specs.Hosting.{IsHosted, IsTold}
 
 -- an event leaves a hall its config
@@ -38,10 +39,10 @@ config_may h u e r (inl done) = ap (λ (x : HallState). x.config) done.1 ∙ con
 config_may h u e r (inr refused) = ap (λ (x : HallState). x.config) refused.1
 
 -- a chronicle answers as its hall does, with its config, and hands nothing on
-record Follows (c u : ChronicleState) (ts : List Turn) : Type 0 where
-  run : Runs HallServes c.hall ts u.hall
-  config : u.hall.config ≡ c.hall.config
-  told : u.told ≡ c.told
+pub record Follows (c u : ChronicleState) (ts : List Turn) : Type 0 where
+  pub run : Runs HallServes c.hall ts u.hall
+  pub config : u.hall.config ≡ c.hall.config
+  pub told : u.told ≡ c.told
 
 follows : (c u : ChronicleState) (ts : List Turn) → Runs ChronicleServes c ts u → Follows c u ts
 follows c u [] run = record { run = ap (λ (x : ChronicleState). x.hall) run; config = ap (λ (x : ChronicleState). x.hall.config) (sym run); told = ap (λ (x : ChronicleState). x.told) (sym run) }
@@ -56,7 +57,9 @@ follows c u (Misread bad ∷ ts) run = let later = follows c u ts run in record 
 
 -- what was handed on stays the same record where the history goes on
 same_told : (c u : ChronicleState) (more : List Exchange) → c.told ≤ length c.hall.history → u.hall.config ≡ c.hall.config → u.told ≡ c.told → u.hall.history ≡ c.hall.history ++ more → told_record u ≡ told_record c
-same_told c u more few config told history = rw (config, told, history) (ap (record_text c.hall.config) (take-append-le c.told c.hall.history more few))
+same_told c u more few config told history =
+    ap (λ (g : Config). record_text g (take u.told u.hall.history)) config ∙ ap (λ (n : ℕ). record_text c.hall.config (take n u.hall.history)) told
+    ∙ ap (λ (l : List Exchange). record_text c.hall.config (take c.told l)) history ∙ ap (record_text c.hall.config) (take-append-le c.told c.hall.history more few)
 
 -- so a journal that stands for a chronicle stands for it later, before anything is handed on
 still_stands : {D : Type 0} (state : D → Option DiskState) (j : Journal D) (c u : ChronicleState) → told_record u ≡ told_record c → Stands state j c → Stands state j u
@@ -79,7 +82,7 @@ module _ {C : Type 0} (on : Seating C) where
         sent = sent.sent;
         gave = subst (λ (l : Option (List ℕ)). Consumes (on.left a) l took.0.came) (sym sends.1) took.0.gave;
         parts = takes.parts;
-        goes_on = λ before p spoke. rw sent.talker_is (takes.goes_on before p spoke);
+        goes_on = λ before p spoke. subst (λ (s : TalkerState). Spoke (before ++ turns) s (after_taken (on.wire a).talker.kind takes.taken took.0.ends p)) (sym sent.talker_is) (takes.goes_on before p spoke);
         gained = subst (λ (l : Option (List ℕ)). Appends l (on.gone d) sent.sent) took.1 sent.gained;
         text = λ whole. sym sent.parts ∙ (takes.kept (sent.whole whole)).1;
       }
@@ -92,27 +95,28 @@ module _ {C : Type 0} (on : Seating C) where
   told_at turns (Some x) y None a d took sends was is = absurd (let bad : None ≡ Some d = is in cc)
   told_at turns (Some x) None (Some z) a d took sends was is = elim took [ ]
 
-  module _ {D K : Type 0} (state : D → Option DiskState) (journal_of : K → Journal D)
+  module _ {D : Type 0} (state : D → Option DiskState)
       (history : (h u : HallState) (ts : List Turn) → IsLawful h → Runs HallServes h ts u → u.history ≡ h.history ++ accepted (exchanges ts))
       (between : (c : ChronicleState) (s : DiskState) → HasSynced c s → c.told ≤ length c.hall.history → KeepsHandedOn c s s) where
-    pub hosted : (k l : K) (c u : ChronicleState) (seats seats' : List (Option C)) → IsLawful c.hall → c.told ≤ length c.hall.history → Stands state (journal_of k) c →
-        (t : LoopTurn on ChronicleServes (λ (m : K) (v : ChronicleState) (n : K) (w : ChronicleState). IsKept state (journal_of m) v (journal_of n) w) k c seats l u seats') →
-        IsHosted on state t.log (journal_of k) c seats (journal_of l) u seats'
+    pub hosted : (k l : Recorded D) (c u : ChronicleState) (seats seats' : List (Option C)) → IsLawful c.hall → c.told ≤ length c.hall.history → Stands state k.journal c →
+        (t : LoopTurn on ChronicleServes (KeptBy state) k c seats l u seats') →
+        IsHosted on state t.log k.journal c seats l.journal u seats'
     hosted k l c u seats seats' lawful few stands t =
         let told = t.told in
+        let kept : IsKept state k.journal t.told l.journal u = t.kept in
         let way = follows c told (all_turns t.log) t.taken.run in
         let gained = history c.hall told.hall (all_turns t.log) lawful way.run in
-        let stood = still_stands state (journal_of k) c told (same_told c told (accepted (exchanges (all_turns t.log))) few way.config way.told gained) stands in
-        let same : u.hall ≡ told.hall = ap (λ (x : ChronicleState). x.hall) t.kept.handed_on in
-        let all_told : u.told ≡ length u.hall.history = ap (λ (x : ChronicleState). x.told) t.kept.handed_on ∙ ap (λ (x : HallState). length x.history) (sym same) in
-        let stands_after = t.kept.stands stood in
+        let stood = still_stands state k.journal c told (same_told c told (accepted (exchanges (all_turns t.log))) few way.config way.told gained) stands in
+        let same : u.hall ≡ told.hall = ap (λ (x : ChronicleState). x.hall) kept.handed_on in
+        let all_told : u.told ≡ length u.hall.history = ap (λ (x : ChronicleState). x.told) kept.handed_on ∙ ap (λ (x : HallState). length x.history) (sym same) in
+        let stands_after = kept.stands stood in
         let was_told : told ≡ chronicle_of u.hall c.told = ap (λ (h : HallState). chronicle_of h told.told) (sym same) ∙ ap (chronicle_of u.hall) way.told in
         record {
           config = ap (λ (x : HallState). x.config) same ∙ way.config;
           history = ap (λ (x : HallState). x.history) same ∙ gained;
           told = all_told;
           stands = stands_after;
-          before = subst (KeepsAtAnyMoment state (journal_of k) (journal_of l)) was_told (t.kept.any_moment stood);
+          before = subst (KeepsAtAnyMoment state k.journal l.journal) was_told (kept.any_moment stood);
           after = λ s is. between u s (stands_after.known s is) (omega (arith, all_told));
           each = λ i a d was is. told_at (turns_of i t.log) (get_or seats i None) (get_or t.between i None) (get_or seats' i None) a d (t.taken.each i) (t.sent.each i) was is;
         }

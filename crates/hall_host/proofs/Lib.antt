@@ -1,1 +1,2 @@
 mod HostingLemmas
+mod KeptLemmas

@@ -1,7 +1,7 @@
 //! What is kept of the turns of a loop over a hall.
 
 ghost use Rattle.std.specs.Prelude.{◌≡◌};
-ghost use Rattle.hall_host.specs.Kept.{IsKept};
+ghost use Rattle.hall_host.specs.Kept.{KeptBy};
 
 use event_server::{Keep, Tally};
 use journal::{Chronicle, Journal, JournalFault, law_of_crashes};
@@ -45,7 +45,7 @@ pub struct Recorded<D: Disk> {
 impl<D: Disk> Keep<Chronicle> for Recorded<D> {
     type Fault = JournalFault;
 
-    ghost keeps = { λ k c l u. IsKept D.state k.journal c l.journal u };
+    ghost keeps = { KeptBy D.state };
 
     fn is_full(&self, chronicle: &Chronicle) -> bool {
         chronicle.is_full()

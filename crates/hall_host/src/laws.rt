@@ -8,7 +8,7 @@ ghost use Rattle.journal.specs.Journals.{Stands};
 ghost use Rattle.event_server.specs.Seats.{LoopTurn, Seating};
 ghost use Rattle.hall_host.specs.declared.keepers.Recorded.{Recorded};
 ghost use Rattle.hall_host.specs.Hosting.{IsHosted};
-ghost use Rattle.hall_host.specs.Kept.{IsKept};
+ghost use Rattle.hall_host.specs.Kept.{KeptBy};
 
 use journal::law_of_crashes;
 use journal_disk::Disk;
@@ -20,7 +20,7 @@ use locked_world::law_of_serving;
 pub fn law_of_hosting<C, D: Disk>()
     ensures { (on : Seating C) (k l : Recorded D) (c u : ChronicleState) (seats after : List (Option C)) →
         IsLawful c.hall → c.told ≤ length c.hall.history → Stands D.state k.journal c →
-        (t : LoopTurn on ChronicleServes (λ k c l u. IsKept D.state k.journal c l.journal u) k c seats l u after) →
+        (t : LoopTurn on ChronicleServes (KeptBy D.state) k c seats l u after) →
         IsHosted on D.state t.log k.journal c seats l.journal u after }
 {
     law_of_serving();
