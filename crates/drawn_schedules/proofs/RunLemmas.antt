@@ -1,6 +1,10 @@
 -- runs of drawn schedules, event by event
-use Rattle.std.proofs.Common.{◌≡◌, ◌≢◌, ℕ, ◌+◌, ◌-◌, ◌%◌, ◌<◌, suc, ◌⊎◌, Bool, true, false, inl, inr, List, [], ◌∷◌, ◌++◌, map, length, ◌^◌, Option, length-append, refl, sym, ap, subst, ◌∙◌, append_assoc, arith}
-use Rattle.std.proofs.lemmas.List.{append-nil, map-append}
+use Rattle.std.proofs.Common.{◌≡◌, ◌≢◌, ℕ, ◌+◌, ◌-◌, ◌%◌, ◌<◌, suc, ◌⊎◌, Bool, true, false, inl, inr, List, [], ◌∷◌, ◌++◌, map, length, ◌^◌, Option, length-append, get_or, set, refl, sym, ap, subst, ◌∙◌, append_assoc, arith}
+use Rattle.std.specs.Prelude.{Result, Ok, Err, IfOk}
+use Rattle.std.specs.Result.{result_ok}
+use Rattle.std.proofs.lemmas.Bool.Decides.{eqb_tells}
+use Rattle.std.proofs.lemmas.Grind.{get_or-set_at}
+use Rattle.std.proofs.lemmas.List.{append-nil, map-append, get_or-set_other}
 use Rattle.rand_pcg.specs.Lcg.{Lcg}
 use Rattle.rand_pcg.specs.Pcg.{pcg32}
 use Rattle.step_memory.specs.declared.refusal.Refusal.TheVariants as refusal
@@ -18,7 +22,7 @@ use Rattle.desk.specs.Rules.{may_by}
 use Rattle.desk.proofs.DeskLaws.{fresh, goes_on, law}
 use Rattle.drawn_schedules.specs.declared.tally.Tally.{Tally}
 use Rattle.drawn_schedules.specs.Schedule.{begins_from, opened, schedule, steps_drawn}
-use Rattle.drawn_schedules.specs.Runs.{IsAmple, HasPlayed, PlaysFrom, IsDrawnRun, AreDrawnRuns, HasDrawn, numbers_line, run_line, run_lines}
+use Rattle.drawn_schedules.specs.Runs.{IsAmple, HasPlayed, PlaysFrom, IsDrawnRun, AreDrawnRuns, HasDrawn, IsToldOf, numbers_line, run_line, run_lines}
 use Rattle.schedule_player.specs.UnderWay.{IsUnderWay}
 use Rattle.drawn_schedules.proofs.UnderWayLemmas.{at_first}
 use Rattle.drawn_schedules.specs.Tally.{IsTallyOf, how_many, is_named, is_spent, one_more_if}
@@ -185,3 +189,19 @@ module _ (config : Config) (seed ids n : ℕ) where
   -- before the first run
   pub no_run_yet : (before : Option (List ℕ)) (held : List ℕ) → held ≡ [] → HasDrawn config seed ids n 0 (λ text. IsUnderWay text before before held [])
   no_run_yet before held none = record { runs = []; drawn = tt; count_is = refl; told = rw none (at_first [] before) }
+
+-- the numbers of one run more are told
+pub told_one_more : (config : Config) (seed ids n first i : ℕ) (tallies : List (Option Tally)) (told : Option Tally) → i < length tallies → IsToldOf config seed ids n (first + i) told →
+    ((k : ℕ) (d : Option Tally) → k < i → IsToldOf config seed ids n (first + k) (get_or tallies k d)) → (k : ℕ) (d : Option Tally) → k < i + 1 → IsToldOf config seed ids n (first + k) (get_or (set tallies i told) k d)
+told_one_more config seed ids n first i tallies told inside here before k d low = elim (eqb_tells k i) [
+  | inl e ↦ subst (IsToldOf config seed ids n (first + k)) (sym (get_or-set_at tallies i k told d e.1 inside)) (subst (λ (j : ℕ). IsToldOf config seed ids n (first + j) told) (sym e.1) here)
+  | inr e ↦ subst (IsToldOf config seed ids n (first + k)) (sym (get_or-set_other tallies i k told d e.1)) (before k d (let other = e.1 in le_and_other k i low other))
+]
+  where
+    le_and_other : (a b : ℕ) → a < b + 1 → a ≢ b → a < b
+    le_and_other a b l n = grind (arith, l, n)
+
+-- the numbers of a run that was made are told
+pub told_if_made : {E : Type 0} (config : Config) (seed ids n j : ℕ) (made : Result Tally E) → IfOk made (λ t. (r : List Exchange) × IsDrawnRun config ((seed + j) % 2 ^ 64) ids n r × IsTallyOf r t) → IsToldOf config seed ids n j (result_ok made)
+told_if_made config seed ids n j (Ok t) h = h
+told_if_made config seed ids n j (Err e) h = tt

@@ -1,5 +1,5 @@
 -- runs of drawn schedules, and what is told of them
-use Rattle.std.specs.Prelude.{◌≡◌, ◌≢◌, ℕ, ◌+◌, ◌%◌, ◌^◌, ◌≤◌, List, [], ◌∷◌, ◌++◌, map, length, codes, decimal, Option}
+use Rattle.std.specs.Prelude.{◌≡◌, ◌≢◌, ℕ, ◌+◌, ◌%◌, ◌^◌, ◌<◌, ◌≤◌, List, [], ◌∷◌, ◌++◌, map, length, codes, decimal, slice_index_or, Option, IfSome}
 use Rattle.step_memory.specs.declared.refusal.Refusal.TheVariants as refusal
 use Rattle.commands.specs.declared.config.Config.{Config}
 use Rattle.commands.specs.declared.event.Event.{Event}
@@ -42,6 +42,14 @@ pub record IsDrawnRun (config : Config) (seed ids n : ℕ) (r : List Exchange) :
   pub calls : List DeskCall
   pub spelled : map exchange_of calls ≡ r
   pub after : IsAfterDesk config last calls
+
+-- these are the numbers of the run of this number; none says nothing of it
+abbrev pub IsToldOf : Config → ℕ → ℕ → ℕ → ℕ → Option Tally → Type 0
+IsToldOf config seed ids n j told = IfSome told (λ t. (r : List Exchange) × IsDrawnRun config ((seed + j) % 2 ^ 64) ids n r × IsTallyOf r t)
+
+-- and these, of the runs from number 0 on
+abbrev pub AreTold : Config → ℕ → ℕ → ℕ → List (Option Tally) → Type 0
+AreTold config seed ids n tallies = (i : ℕ) (d : Option Tally) → i < length tallies → IsToldOf config seed ids n i (slice_index_or tallies i d)
 
 -- the line of a run: its number, and how many have begun, were named and were spent
 abbrev pub numbers_line : ℕ → ℕ → ℕ → ℕ → List ℕ

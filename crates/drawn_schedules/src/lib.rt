@@ -22,6 +22,6 @@ pub mod runs;
 pub mod schedule;
 pub mod tally;
 
-pub use runs::play_drawn;
+pub use runs::{play_drawn, play_share, write_tallies};
 pub use schedule::draw;
 pub use tally::Tally;

@@ -1,12 +1,14 @@
 //! Runs of drawn schedules.
 
-ghost use Rattle.std.specs.Prelude.{◌≡◌, ◌<◌, ◌≤◌, ◌+◌, ◌^◌, ◌⊎◌, [], ◌∷◌, ◌++◌, List, Err, length, true, IfOk, IfErr, OnOk, OnErr};
+ghost use Rattle.std.specs.Prelude.{◌≡◌, ◌<◌, ◌≤◌, ◌+◌, ◌^◌, ◌⊎◌, [], ◌∷◌, ◌++◌, ℕ, List, Option, Err, length, true, slice_index_or, IfOk, IfErr, OnOk, OnErr};
 ghost use Rattle.std.specs.Io.KnownBytes.{Appends};
+ghost use Rattle.commands.specs.declared.config.Config.{Config};
 ghost use Rattle.commands.specs.declared.exchange.Exchange.{Exchange};
 ghost use Rattle.commands.specs.Config.{gives_names};
 ghost use Rattle.drawn_schedules.specs.Schedule.{begins_from, steps_drawn};
-ghost use Rattle.drawn_schedules.specs.Runs.{HasDrawn, HasDrawnPart, IsDrawnRun, PlaysFrom, numbers_line};
+ghost use Rattle.drawn_schedules.specs.Runs.{AreTold, HasDrawn, HasDrawnPart, IsDrawnRun, IsToldOf, PlaysFrom, numbers_line};
 ghost use Rattle.drawn_schedules.specs.Tally.{IsTallyOf};
+ghost use Rattle.drawn_schedules.specs.declared.tally.Tally.{Tally};
 
 use crate::schedule::{draw_one, generator};
 use crate::tally::Tally;
@@ -196,6 +198,63 @@ pub fn play_drawn<A: Allocator + Clone, W: Sink>(
         let tally = play_in_arena(&mut arena, seed.wrapping_add(run), ids, n, config)?;
         held.make_room(LINE_ROOM, writer)?;
         put_run(run, tally, &mut held);
+    }
+    held.send(writer)
+}
+
+/// Plays drawn schedules as `play_drawn` does, from that of number `first` on, one for each of these places, and puts the numbers of
+/// each into its own; none where memory was refused. Runs do not depend on each other, so that many can share them.
+pub fn play_share<A: Allocator + Clone>(
+    alloc: A,
+    seed: u64,
+    ids: u64,
+    n: u64,
+    config: Config,
+    first: u64,
+    tallies: &mut [Option<Tally>],
+)
+    requires names { gives_names config.world ≡ true }
+    requires some { 1 ≤ ids }
+    requires few { ids ≤ 64 }
+    requires steps { n + 64 < 2 ^ 64 }
+    requires last { first + length tallies.old < 2 ^ 64 }
+    ensures { (i : ℕ) (d : Option Tally) → i < length tallies.old → IsToldOf config seed ids n (first + i) (slice_index_or tallies.new i d) }
+{
+    let mut arena = Bump::new(alloc);
+    for i in 0..tallies.len() {
+        let run = seed.wrapping_add(first + i as u64);
+        tallies[i] = play_in_arena(&mut arena, run, ids, n, config).ok();
+    }
+}
+
+/// Writes the line of each run as `play_drawn` does, from that of number 0 on, by its numbers.
+///
+/// `Fault::Memory` where there are none of a run and no write failed, `Fault::Write` where the writer failed or took nothing: then a
+/// beginning of the lines is written.
+pub fn write_tallies<A: Allocator, W: Sink>(
+    alloc: A,
+    tallies: &[Option<Tally>],
+    writer: &mut W,
+) -> Result<(), Fault>
+    requires writes { W.calls writer.old < 2 ^ 64 }
+    ensures ok { OnOk result ((config : Config) (seed ids n : ℕ) → AreTold config seed ids n tallies.now →
+        HasDrawn config seed ids n (length tallies.now) (Appends (W.contents writer.old) (W.contents writer.new))) }
+    ensures part { OnErr result ((config : Config) (seed ids n : ℕ) → AreTold config seed ids n tallies.now →
+        HasDrawnPart config seed ids n (length tallies.now) (W.contents writer.old) (W.contents writer.new)) }
+    ensures only { IfErr result (λ fault. (fault ≡ Fault.Write) ⊎ (fault ≡ Fault.Memory)) }
+    ensures failed { result ≡ Err Fault.Write → W.failed writer.old < W.failed writer.new }
+    ensures memory { result ≡ Err Fault.Memory → W.failed writer.new ≡ W.failed writer.old }
+    ensures unfailed { OnOk result (W.failed writer.new ≡ W.failed writer.old) }
+{
+    let Ok(mut held) = Replies::new(alloc) else {
+        return Err(Fault::Memory);
+    };
+    for run in 0..tallies.len() {
+        let Some(tally) = tallies[run] else {
+            return Err(Fault::Memory);
+        };
+        held.make_room(LINE_ROOM, writer)?;
+        put_run(run as u64, tally, &mut held);
     }
     held.send(writer)
 }

@@ -1,0 +1,10 @@
+use Rattle.std.proofs.Common.{◌≡◌, ◌+◌, ◌<◌, ℕ, Option, length, get_or}
+use Rattle.drawn_schedules.specs.Runs.{IsToldOf}
+use Rattle.drawn_schedules.specs.declared.tally.Tally.{Tally}
+use Rattle.drawn_schedules.proofs.runs.play_share.Given as goal
+
+abbrev pub invariant-loop-i : goal.invariant-loop-i
+invariant-loop-i g l = record {
+  long : length l.tallies ≡ length l.fn.tallies;
+  told : (k : ℕ) (d : Option Tally) → k < l.i → IsToldOf l.config l.seed l.ids l.n (l.first + k) (get_or l.tallies k d);
+}
