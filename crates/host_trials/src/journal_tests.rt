@@ -3,6 +3,7 @@
 use crate::pipe::Pipe;
 use commands::{Config, WorldKind};
 use event_server::{Connection, Room, Stage, Wire, turn};
+use hall_compaction::Compactor;
 use hall_host::Recorded;
 use journal::{Journal, Opened};
 use journal_disk::MemoryDisk;
@@ -54,7 +55,11 @@ fn served(alloc: Global, calls: usize) -> Result<(bool, MemoryDisk, Vec<u8>), Fa
         journal,
         mut chronicle,
     } = opened(alloc, MemoryDisk::new(Vec::new(alloc), calls))?;
-    let mut keeper = Recorded { journal, bytes: 0 };
+    let mut keeper = Recorded {
+        journal,
+        alloc,
+        compactor: Compactor::new(),
+    };
     let Ok(mut room) = Room::new(alloc) else {
         return Err(Fail::from("no room"));
     };
