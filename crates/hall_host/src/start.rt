@@ -103,15 +103,11 @@ where
         }
         None => {
             let mut hall = Hall::new(alloc, plan.config)?;
-            host(
-                rt,
+            let mut keeper = Unrecorded {
                 alloc,
-                options,
-                &mut hall,
-                &mut Unrecorded,
-                output,
-                errors,
-            )?;
+                compactor: Compactor::new(),
+            };
+            host(rt, alloc, options, &mut hall, &mut keeper, output, errors)?;
         }
     }
     Ok(())

@@ -71,7 +71,16 @@ fn served(alloc: Global, calls: usize) -> Result<(bool, MemoryDisk, Vec<u8>), Fa
             connection.writable = true;
             connection.stage = Stage::Queued;
         }
-        if turn(&(), &mut chronicle, &mut keeper, &mut room, &mut seats, &[0]).is_err() {
+        if turn(
+            &(),
+            &mut chronicle,
+            &mut keeper,
+            &mut room,
+            &mut seats,
+            &[0],
+        )
+        .is_err()
+        {
             failed = true;
             break;
         }
@@ -93,7 +102,11 @@ fn what_was_told_is_in_the_journal(rt: HostRuntime) -> Result<(), Fail> {
         let lines = text.iter().filter(|byte| **byte == b'\n').count();
         let accepted = if 4 <= lines { lines - 1 } else { lines };
         assert!(rt; accepted <= chronicle.hall().len(), "{calls} calls");
-        assert_eq!(rt; check(alloc, journal.disk().as_slice()), Verdict::Yes, "{calls} calls");
+        assert_eq!(rt;
+            check(alloc, journal.disk().as_slice()),
+            Verdict::Yes,
+            "{calls} calls"
+        );
     }
     Ok(())
 }

@@ -80,7 +80,6 @@ fn lock<R: Files<File = File>>(rt: &R, path: &str, file: &File) -> Result<(), Fi
         Ok(false) => Err(FileFault::InUse),
         Err(error) => Err(FileFault::Failed(error.kind())),
     }
-
 }
 
 /// Opens and locks a file; one that is missing is made, and its folder is synced.
