@@ -111,7 +111,9 @@ where
         hosting.wait(rt, &mut events, wait)?;
         hosting.accept_all(errors)?;
         hosting.serve(rt, service, keep, &mut room)?;
-        hosting.tell_tally(keep.tally(service), errors);
+        if hosting.is_report_due() {
+            hosting.tell_tally(keep.tally(service), errors);
+        }
         if hosting.stop {
             break;
         }
@@ -247,11 +249,13 @@ impl Hosting {
         }
     }
 
-    // Tells how much there is, once a minute where that is wanted.
+    // Whether it is time to tell how much there is: once a minute where that is wanted.
+    fn is_report_due(&self) -> bool {
+        self.options.reports && self.report <= self.tick
+    }
+
+    // Tells how much there is.
     fn tell_tally<E: Write>(&mut self, tally: Tally, errors: &mut E) {
-        if !self.options.reports || self.tick < self.report {
-            return;
-        }
         self.report = self.tick.saturating_add(REPORT_TICKS);
         let Tally { events, bytes } = tally;
         let clients = self.house.open;

@@ -22,11 +22,12 @@ use Rattle.locked_world.specs.Serving.{HallServes, accepted}
 use Rattle.journal.specs.declared.journal.Journal.{Journal}
 use Rattle.journal.specs.ChronicleState.{ChronicleState}
 use Rattle.journal.specs.Chronicles.{ChronicleServes, chronicle_of, told_record}
+use Rattle.journal.specs.Compactings.{MayCompact}
 use Rattle.journal.specs.Journals.{HasSynced, KeepsAtAnyMoment, KeepsHandedOn, Stands}
 use Rattle.event_server.specs.Seats.{Seating, SeatSends, SeatTakes, LoopTurn}
 use Rattle.event_server.specs.Wires.{after_taken}
 use Rattle.hall_host.specs.declared.keepers.Recorded.{Recorded}
-use Rattle.hall_host.specs.Kept.{IsKept, KeptBy}
+use Rattle.hall_host.specs.Kept.{IsKept, KeptBy, MayCompactHall, all_told}
 use Rattle.hall_host.specs.Hosting.{IsHosted, IsTold}
 
 -- an event leaves a hall its config
@@ -68,6 +69,11 @@ still_stands state j c u same stands = record {
   known = λ s is. let synced = stands.known s is in record { contents = synced.contents ∙ sym same; synced = synced.synced };
 }
 
+-- all of a chronicle that may be compacted is handed on
+after_compacting : (c u : ChronicleState) → MayCompact (all_told c) u → MayCompactHall c.hall u.hall × (u.told ≡ length u.hall.history)
+after_compacting c u (inl same) = (inl (ap (λ (x : ChronicleState). x.hall) same), ap (λ (x : ChronicleState). x.told) same ∙ ap (λ (x : ChronicleState). length x.hall.history) (sym same))
+after_compacting c u (inr done) = (inr done.compacted, done.told)
+
 module _ {C : Type 0} (on : Seating C) where
   -- one connection takes its turns, and some of what waits is sent
   told_its_own : (turns : List Turn) (a b d : C) → SeatTakes on turns (Some a) (Some b) → SeatSends on (Some b) (Some d) → IsTold on turns a d
@@ -107,16 +113,20 @@ module _ {C : Type 0} (on : Seating C) where
         let way = follows c told (all_turns t.log) t.taken.run in
         let gained = history c.hall told.hall (all_turns t.log) lawful way.run in
         let stood = still_stands state k.journal c told (same_told c told (accepted (exchanges (all_turns t.log))) few way.config way.told gained) stands in
-        let same : u.hall ≡ told.hall = ap (λ (x : ChronicleState). x.hall) kept.handed_on in
-        let all_told : u.told ≡ length u.hall.history = ap (λ (x : ChronicleState). x.told) kept.handed_on ∙ ap (λ (x : HallState). length x.history) (sym same) in
-        let stands_after = kept.stands stood in
-        let was_told : told ≡ chronicle_of u.hall c.told = ap (λ (h : HallState). chronicle_of h told.told) (sym same) ∙ ap (chronicle_of u.hall) way.told in
+        let stood_then = kept.stands stood in
+        let stands_after = kept.stands_then stood_then in
+        let ended = after_compacting told u kept.compacted in
+        let was_told : told ≡ chronicle_of told.hall c.told = ap (chronicle_of told.hall) way.told in
         record {
-          config = ap (λ (x : HallState). x.config) same ∙ way.config;
-          history = ap (λ (x : HallState). x.history) same ∙ gained;
-          told = all_told;
+          full = told.hall;
+          committed = kept.committed;
+          config = way.config;
+          history = gained;
+          before = subst (KeepsAtAnyMoment state k.journal kept.committed) was_told (kept.any_moment stood);
+          between = kept.any_moment_then stood_then;
+          compacted = ended.0;
+          told = ended.1;
           stands = stands_after;
-          before = subst (KeepsAtAnyMoment state k.journal l.journal) was_told (kept.any_moment stood);
-          after = λ s is. between u s (stands_after.known s is) (omega (arith, all_told));
+          after = λ s is. between u s (stands_after.known s is) (omega (arith, ended.1));
           each = λ i a d was is. told_at (turns_of i t.log) (get_or seats i None) (get_or t.between i None) (get_or seats' i None) a d (t.taken.each i) (t.sent.each i) was is;
         }

@@ -1,17 +1,36 @@
 -- what is kept of a turn
-use Rattle.std.proofs.Common.{◌≡◌, ◌≤◌, length, Option, Some, ap}
+use Rattle.std.proofs.Common.{◌≡◌, ◌⊎◌, ◌≤◌, length, Option, Some, inl, inr, refl, ap, sym, subst}
 use Rattle.journal_disk.specs.DiskState.{DiskState}
 use Rattle.journal.specs.declared.journal.Journal.{Journal}
 use Rattle.journal.specs.ChronicleState.{ChronicleState}
 use Rattle.journal.specs.Chronicles.{chronicle_of}
-use Rattle.journal.specs.Journals.{HasSynced, KeepsHandedOn}
-use Rattle.hall_host.specs.Kept.{IsKept}
+use Rattle.journal.specs.Compactings.{KeepsWhenCompacted, MayCompact}
+use Rattle.journal.specs.Journals.{HasSynced, KeepsAtAnyMoment, KeepsHandedOn, Stands}
+use Rattle.hall_host.specs.Kept.{IsKept, all_told}
 
 -- where no line waits all is kept
 pub none_waits : {D : Type 0} (state : D → Option DiskState) → ((c : ChronicleState) (s : DiskState) → HasSynced c s → c.told ≤ length c.hall.history → KeepsHandedOn c s s) →
     (j : Journal D) (c : ChronicleState) → c.told ≡ length c.hall.history → c.told ≤ length c.hall.history → IsKept state j c j c
-none_waits state between j c all few = record {
-  handed_on = ap (chronicle_of c.hall) all;
-  stands = λ stands. stands;
-  any_moment = λ stands. (λ s is. (s, is, between c s (stands.known s is) few), λ none. none);
+none_waits state between j c all few =
+    let same : c ≡ all_told c = ap (chronicle_of c.hall) all in
+    record {
+      committed = j;
+      stands = λ stands. subst (Stands state j) same stands;
+      any_moment = λ stands. (λ s is. (s, is, between c s (stands.known s is) few), λ none. none);
+      compacted = inl same;
+      stands_then = λ stands. subst (Stands state j) (sym same) stands;
+      any_moment_then = λ stands. inr refl;
+    }
+
+-- what was committed may be compacted behind that
+pub then_compacted : {D : Type 0} (state : D → Option DiskState) (j k l : Journal D) (c mid u : ChronicleState) → mid ≡ all_told c →
+    (Stands state j c → Stands state k mid) → (Stands state j c → KeepsAtAnyMoment state j k c) →
+    MayCompact mid u → (Stands state k mid → Stands state l u) → (Stands state k mid → KeepsWhenCompacted state k l mid) → IsKept state j c l u
+then_compacted state j k l c mid u is stands any_moment compacted stands_then any_moment_then = record {
+  committed = k;
+  stands = λ h. subst (Stands state k) is (stands h);
+  any_moment = any_moment;
+  compacted = subst (λ (m : ChronicleState). MayCompact m u) is compacted;
+  stands_then = λ h. stands_then (subst (Stands state k) (sym is) h);
+  any_moment_then = λ h. subst (KeepsWhenCompacted state k l) is (any_moment_then (subst (Stands state k) (sym is) h));
 }

@@ -7,13 +7,16 @@ use Rattle.schedule_player.specs.Says.{Spoke}
 use Rattle.schedule_player.specs.Shared.{TurnLog, all_turns, turns_of}
 use Rattle.schedule_player.specs.Texts.{replies_of}
 use Rattle.schedule_player.specs.Turns.{Turn, exchanges}
+use Rattle.locked_world.specs.HallState.{HallState}
 use Rattle.locked_world.specs.Serving.{accepted}
 use Rattle.journal.specs.declared.journal.Journal.{Journal}
 use Rattle.journal.specs.ChronicleState.{ChronicleState}
 use Rattle.journal.specs.Chronicles.{chronicle_of}
+use Rattle.journal.specs.Compactings.{KeepsWhenCompacted}
 use Rattle.journal.specs.Journals.{KeepsAtAnyMoment, KeepsHandedOn, Stands}
 use Rattle.event_server.specs.Seats.{Seating}
 use Rattle.event_server.specs.Wires.{after_taken}
+use Rattle.hall_host.specs.Kept.{MayCompactHall}
 
 -- these turns are those to the lines of one connection: behind what waited of its bytes others came, and a beginning of all was taken by
 -- them. What was sent to it, and what waits to be, is what waited and the replies to them, where it is at no fault
@@ -29,14 +32,19 @@ pub record IsTold {C : Type 0} (on : Seating C) (turns : List Turn) (a d : C) : 
   pub gained : Appends (on.gone a) (on.gone d) sent
   pub text : (on.wire d).broken ≡ false → sent ++ (on.wire d).outbox ≡ (on.wire a).outbox ++ replies_of turns
 
--- the history gains the accepted events of all turns, in the one order of this log, and nothing else. Header and journal are its record and
--- are synced, once replies are sent; a crash before that leaves all that was handed on before, and one after it the whole history. Each
--- connection that stays is told the replies to its own turns
+-- The history gains the accepted events of all turns, in the one order of this log, and nothing else: that is the hall `full`. Header and
+-- journal are its record and are synced, at `committed`, and a crash before that leaves all that was handed on before. Then the hall may be
+-- compacted, with header and journal its record, before replies are sent; a crash meanwhile leaves the one record or the other, and one
+-- after it the whole history. Each connection that stays is told the replies to its own turns
 pub record IsHosted {C D : Type 0} (on : Seating C) (state : D → Option DiskState) (log : TurnLog) (j : Journal D) (c : ChronicleState) (seats : List (Option C)) (j' : Journal D) (u : ChronicleState) (seats' : List (Option C)) : Type 0 where
-  pub config : u.hall.config ≡ c.hall.config
-  pub history : u.hall.history ≡ c.hall.history ++ accepted (exchanges (all_turns log))
+  pub full : HallState
+  pub committed : Journal D
+  pub config : full.config ≡ c.hall.config
+  pub history : full.history ≡ c.hall.history ++ accepted (exchanges (all_turns log))
+  pub before : KeepsAtAnyMoment state j committed (chronicle_of full c.told)
+  pub between : KeepsWhenCompacted state committed j' (chronicle_of full (length full.history))
+  pub compacted : MayCompactHall full u.hall
   pub told : u.told ≡ length u.hall.history
   pub stands : Stands state j' u
-  pub before : KeepsAtAnyMoment state j j' (chronicle_of u.hall c.told)
   pub after : (s : DiskState) → state j'.disk ≡ Some s → KeepsHandedOn u s s
   pub each : (i : ℕ) (a d : C) → get_or seats i None ≡ Some a → get_or seats' i None ≡ Some d → IsTold on (turns_of i log) a d

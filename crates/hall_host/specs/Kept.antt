@@ -1,18 +1,33 @@
 -- what a journal has kept of a turn of the loop
-use Rattle.std.specs.Prelude.{◌≡◌, Option, length}
+use Rattle.std.specs.Prelude.{◌≡◌, ◌⊎◌, Option, length}
 use Rattle.journal_disk.specs.DiskState.{DiskState}
+use Rattle.locked_world.specs.HallState.{HallState}
+use Rattle.hall_compaction.specs.Compactions.{IsCompacted}
 use Rattle.journal.specs.declared.journal.Journal.{Journal}
 use Rattle.journal.specs.ChronicleState.{ChronicleState}
 use Rattle.journal.specs.Chronicles.{chronicle_of}
+use Rattle.journal.specs.Compactings.{KeepsWhenCompacted, MayCompact}
 use Rattle.journal.specs.Journals.{Stands, KeepsAtAnyMoment}
 use Rattle.hall_host.specs.declared.keepers.Recorded.{Recorded}
 
--- all events of the chronicle are handed on; where header and journal stood as the record of what was handed on, and were synced, they do
--- so still, with these events; and a crash at any moment in between leaves all that was handed on before
+-- a hall is as it was, or compacted
+abbrev pub MayCompactHall : HallState → HallState → Type 0
+MayCompactHall h u = (u ≡ h) ⊎ IsCompacted h u
+
+-- a chronicle of which all events were handed on
+abbrev pub all_told : ChronicleState → ChronicleState
+all_told c = chronicle_of c.hall (length c.hall.history)
+
+-- All events of the chronicle are handed on: where header and journal stood as the record of what was handed on, and were synced, they do
+-- so then with these events, and a crash at any moment in between leaves all that was handed on before. Then its hall may be compacted, and
+-- the journal is the record of that
 pub record IsKept {D : Type 0} (state : D → Option DiskState) (j : Journal D) (c : ChronicleState) (j' : Journal D) (u : ChronicleState) : Type 0 where
-  pub handed_on : u ≡ chronicle_of c.hall (length c.hall.history)
-  pub stands : Stands state j c → Stands state j' u
-  pub any_moment : Stands state j c → KeepsAtAnyMoment state j j' c
+  pub committed : Journal D
+  pub stands : Stands state j c → Stands state committed (all_told c)
+  pub any_moment : Stands state j c → KeepsAtAnyMoment state j committed c
+  pub compacted : MayCompact (all_told c) u
+  pub stands_then : Stands state committed (all_told c) → Stands state j' u
+  pub any_moment_then : Stands state committed (all_told c) → KeepsWhenCompacted state committed j' (all_told c)
 
 -- so a keeper with a journal keeps it
 abbrev pub KeptBy : {D : Type 0} → (D → Option DiskState) → Recorded D → ChronicleState → Recorded D → ChronicleState → Type 0

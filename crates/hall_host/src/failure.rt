@@ -92,14 +92,22 @@ impl From<NoMemory> for HostFailure {
     }
 }
 
+impl From<JournalFault> for HostFailure {
+    fn from(fault: JournalFault) -> HostFailure {
+        match fault {
+            JournalFault::Disk(fault) => HostFailure::from(fault),
+            JournalFault::Ended => HostFailure::Journal(ErrorKind::Other),
+        }
+    }
+}
+
 impl From<HostFault<JournalFault>> for HostFailure {
     fn from(fault: HostFault<JournalFault>) -> HostFailure {
         match fault {
             HostFault::Memory => HostFailure::Memory,
             HostFault::Network => HostFailure::Network,
             HostFault::Output => HostFailure::Output,
-            HostFault::Keep(JournalFault::Disk(fault)) => HostFailure::from(fault),
-            HostFault::Keep(JournalFault::Ended) => HostFailure::Journal(ErrorKind::Other),
+            HostFault::Keep(fault) => HostFailure::from(fault),
         }
     }
 }

@@ -1,27 +1,42 @@
 //! What is kept of the turns of a loop over a hall.
 
-ghost use Rattle.std.specs.Prelude.{◌≡◌};
-ghost use Rattle.hall_host.specs.Kept.{KeptBy};
+ghost use Rattle.std.specs.Prelude.{◌≡◌, OnOk};
+ghost use Rattle.journal.specs.Compactings.{KeepsWhenCompacted, MayCompact};
+ghost use Rattle.journal.specs.Journals.{Stands};
+ghost use Rattle.hall_host.specs.Kept.{KeptBy, MayCompactHall};
 
 use event_server::{Keep, Tally};
+use hall_compaction::Compactor;
 use journal::{Chronicle, Journal, JournalFault, law_of_crashes};
 use journal_disk::Disk;
 use locked_world::Hall;
+use std::alloc::Global;
 
-/// Keeps nothing: the history of a hall ends with the program.
+/// Keeps nothing: the history of a hall ends with the program. It is compacted whenever it has grown long.
 #[derive(Drop)]
-pub struct Unrecorded;
+pub struct Unrecorded {
+    /// Where the memory of a hall that is compacted comes from.
+    pub alloc: Global,
+    /// When that is due.
+    pub compactor: Compactor,
+}
 
 impl Keep<Hall> for Unrecorded {
     type Fault = JournalFault;
 
-    ghost keeps = { λ k h l u. u ≡ h };
+    ghost keeps = { λ k h l u. MayCompactHall h u };
 
     fn is_full(&self, _hall: &Hall) -> bool {
         false
     }
 
-    fn keep(&mut self, _hall: &mut Hall) -> Result<(), JournalFault> {
+    fn keep(&mut self, hall: &mut Hall) -> Result<(), JournalFault> {
+        if !self.compactor.is_due(hall) {
+            return Ok(());
+        }
+        if let Some(shorter) = self.compactor.compacted(self.alloc, hall) {
+            *hall = shorter;
+        }
         Ok(())
     }
 
@@ -33,13 +48,27 @@ impl Keep<Hall> for Unrecorded {
     }
 }
 
-/// Keeps the lines of a chronicle in its journal.
+/// Keeps the lines of a chronicle in its journal, and compacts both whenever the history has grown long.
 #[derive(Drop)]
 pub struct Recorded<D: Disk> {
     /// The journal.
     pub journal: Journal<D>,
-    /// How many bytes it has, for people.
-    pub bytes: u64,
+    /// Where the memory of a hall that is compacted comes from.
+    pub alloc: Global,
+    /// When that is due.
+    pub compactor: Compactor,
+}
+
+impl<D: Disk> Recorded<D> {
+    /// Compacts the history where it is long, as it may be at the start.
+    pub fn compact_when_due(&mut self, chronicle: &mut Chronicle) -> Result<(), JournalFault>
+        ensures compacted { OnOk result (MayCompact chronicle.old chronicle.new) }
+        ensures stands { OnOk result (Stands D.state self.old.journal chronicle.old → Stands D.state self.new.journal chronicle.new) }
+        ensures any_moment { Stands D.state self.old.journal chronicle.old → KeepsWhenCompacted D.state self.old.journal self.new.journal chronicle.old }
+    {
+        self.journal
+            .compact_when_due(self.alloc, &mut self.compactor, chronicle)
+    }
 }
 
 impl<D: Disk> Keep<Chronicle> for Recorded<D> {
@@ -56,16 +85,14 @@ impl<D: Disk> Keep<Chronicle> for Recorded<D> {
         if !chronicle.has_waiting() {
             return Ok(());
         }
-        let more = chronicle.waiting().len() as u64;
         self.journal.commit(chronicle)?;
-        self.bytes = self.bytes.saturating_add(more);
-        Ok(())
+        self.compact_when_due(chronicle)
     }
 
     fn tally(&self, chronicle: &Chronicle) -> Tally {
         Tally {
             events: chronicle.hall().len() as u64,
-            bytes: self.bytes,
+            bytes: self.journal.disk().size(),
         }
     }
 }

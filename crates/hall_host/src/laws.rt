@@ -15,8 +15,8 @@ use journal_disk::Disk;
 use locked_world::law_of_serving;
 
 /// A law, which runs nothing, of what a turn of the loop (`event_server::turn`) is over a chronicle whose journal stands, kept by `Recorded`: the
-/// history has gained just the accepted events of the turn; header and journal are its record, and synced, when replies are sent; each
-/// connection is told the replies to its own lines; and a crash leaves all that was answered (`law_of_crashes`).
+/// history has gained just the accepted events of the turn, and may have been compacted then; header and journal are its record, and synced,
+/// when replies are sent; each connection is told the replies to its own lines; and a crash leaves all that was answered (`law_of_crashes`).
 pub fn law_of_hosting<C, D: Disk>()
     ensures { (on : Seating C) (k l : Recorded D) (c u : ChronicleState) (seats after : List (Option C)) →
         IsLawful c.hall → c.told ≤ length c.hall.history → Stands D.state k.journal c →

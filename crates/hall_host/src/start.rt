@@ -4,10 +4,11 @@ use crate::failure::HostFailure;
 use crate::keepers::{Recorded, Unrecorded};
 use commands::Config;
 use event_server::{HostOptions, host};
+use hall_compaction::Compactor;
 use journal::{Journal, Opened};
 use journal_disk::FileDisk;
 use locked_world::Hall;
-use std::alloc::Global;
+use std::alloc::{AllocGlobal, Global};
 use std::fs::File;
 use std::io::Write;
 use std::net::{IpAddr, Net, SocketAddr};
@@ -47,12 +48,12 @@ impl HostPlan<'_> {
 }
 
 // Opens the journal of a path: a file that is missing is made, and one that another server has is refused.
-fn open_journal<R: Files<File = File>>(
+fn open_journal<R: Files<File = File> + AllocGlobal + Copy + Drop>(
     rt: &R,
     alloc: Global,
     config: Config,
     path: &str,
-) -> Result<Opened<FileDisk>, HostFailure> {
+) -> Result<Opened<FileDisk<R>>, HostFailure> {
     let disk = FileDisk::open(rt, path)?;
     Ok(Journal::open(alloc, disk, config)?)
 }
@@ -73,7 +74,7 @@ pub fn host_hall<R, W: Write, E: Write>(
     errors: &mut E,
 ) -> Result<(), HostFailure>
 where
-    R: Net + Wait + Clock + Files<File = File>,
+    R: Net + Wait + Clock + Files<File = File> + AllocGlobal + Copy + Drop,
 {
     let options = plan.options();
     match plan.journal {
@@ -83,8 +84,13 @@ where
                 journal,
                 mut chronicle,
             } = opened;
-            let bytes = journal.disk().size();
-            let mut keeper = Recorded { journal, bytes };
+            let compactor = Compactor::new();
+            let mut keeper = Recorded {
+                journal,
+                alloc,
+                compactor,
+            };
+            keeper.compact_when_due(&mut chronicle)?;
             host(
                 rt,
                 alloc,
@@ -97,15 +103,11 @@ where
         }
         None => {
             let mut hall = Hall::new(alloc, plan.config)?;
-            host(
-                rt,
+            let mut keeper = Unrecorded {
                 alloc,
-                options,
-                &mut hall,
-                &mut Unrecorded,
-                output,
-                errors,
-            )?;
+                compactor: Compactor::new(),
+            };
+            host(rt, alloc, options, &mut hall, &mut keeper, output, errors)?;
         }
     }
     Ok(())

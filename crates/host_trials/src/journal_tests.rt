@@ -3,6 +3,7 @@
 use crate::pipe::Pipe;
 use commands::{Config, WorldKind};
 use event_server::{Connection, Room, Stage, Wire, turn};
+use hall_compaction::Compactor;
 use hall_host::Recorded;
 use journal::{Journal, Opened};
 use journal_disk::MemoryDisk;
@@ -54,7 +55,11 @@ fn served(alloc: Global, calls: usize) -> Result<(bool, MemoryDisk, Vec<u8>), Fa
         journal,
         mut chronicle,
     } = opened(alloc, MemoryDisk::new(Vec::new(alloc), calls))?;
-    let mut keeper = Recorded { journal, bytes: 0 };
+    let mut keeper = Recorded {
+        journal,
+        alloc,
+        compactor: Compactor::new(),
+    };
     let Ok(mut room) = Room::new(alloc) else {
         return Err(Fail::from("no room"));
     };
@@ -66,7 +71,16 @@ fn served(alloc: Global, calls: usize) -> Result<(bool, MemoryDisk, Vec<u8>), Fa
             connection.writable = true;
             connection.stage = Stage::Queued;
         }
-        if turn(&(), &mut chronicle, &mut keeper, &mut room, &mut seats, &[0]).is_err() {
+        if turn(
+            &(),
+            &mut chronicle,
+            &mut keeper,
+            &mut room,
+            &mut seats,
+            &[0],
+        )
+        .is_err()
+        {
             failed = true;
             break;
         }
@@ -88,7 +102,11 @@ fn what_was_told_is_in_the_journal(rt: HostRuntime) -> Result<(), Fail> {
         let lines = text.iter().filter(|byte| **byte == b'\n').count();
         let accepted = if 4 <= lines { lines - 1 } else { lines };
         assert!(rt; accepted <= chronicle.hall().len(), "{calls} calls");
-        assert_eq!(rt; check(alloc, journal.disk().as_slice()), Verdict::Yes, "{calls} calls");
+        assert_eq!(rt;
+            check(alloc, journal.disk().as_slice()),
+            Verdict::Yes,
+            "{calls} calls"
+        );
     }
     Ok(())
 }

@@ -1,10 +1,11 @@
 -- a journal whose chronicle's hall is compacted, and what a crash leaves then
-use Rattle.std.specs.Prelude.{◌≡◌, ◌⊎◌, ℕ, List, length, Bool, true, false}
+use Rattle.std.specs.Prelude.{◌≡◌, ◌⊎◌, ℕ, List, length, Bool, true, false, Option}
 use Rattle.locked_world.specs.HallState.{HallState}
 use Rattle.hall_compaction.specs.Compactions.{IsCompacted}
 use Rattle.journal_disk.specs.DiskState.{DiskState}
-use Rattle.journal_disk.specs.Disks.{MayLeaveEither, replaced_by}
+use Rattle.journal_disk.specs.Disks.{Changes, MayLeaveEither, replaced_by}
 use Rattle.journal.specs.ChronicleState.{ChronicleState}
+use Rattle.journal.specs.declared.journal.Journal.{Journal}
 use Rattle.journal.specs.Chronicles.{record_of_hall, chronicle_of}
 use Rattle.journal.specs.Journals.{LeavesHall}
 
@@ -31,3 +32,7 @@ pub record HasCompacted (c u : ChronicleState) : Type 0 where
 -- so it is, or nothing changed
 abbrev pub MayCompact : ChronicleState → ChronicleState → Type 0
 MayCompact c u = (u ≡ c) ⊎ HasCompacted c u
+
+-- the record of a hall that was compacted was put in place of all, with what a crash leaves meanwhile; or the journal is as it was
+abbrev pub KeepsWhenCompacted : {D : Type 0} → (D → Option DiskState) → Journal D → Journal D → ChronicleState → Type 0
+KeepsWhenCompacted state old new c = ((hall : HallState) × IsCompacted c.hall hall × Changes (KeepsEither c hall) (state old.disk) (state new.disk)) ⊎ (new ≡ old)

@@ -5,7 +5,7 @@ ghost use Rattle.journal_disk.specs.Disks.{Changes, IsReplaced};
 ghost use Rattle.journal_disk.specs.DiskState.{DiskState};
 ghost use Rattle.hall_compaction.specs.Compactions.{IsCompacted};
 ghost use Rattle.journal.specs.Chronicles.{chronicle_of};
-ghost use Rattle.journal.specs.Compactings.{KeepsEither, MayCompact, TakesHall};
+ghost use Rattle.journal.specs.Compactings.{KeepsEither, KeepsWhenCompacted, MayCompact, TakesHall};
 ghost use Rattle.journal.specs.Journals.{Stands, KeepsAtAnyMoment, IsHallOf, IsMended, IsWritten, missing_in};
 
 use crate::chronicle::Chronicle;
@@ -128,6 +128,9 @@ impl<D: Disk> Journal<D> {
     ) -> Result<(), JournalFault>
         ensures compacted { OnOk result (MayCompact chronicle.old chronicle.new) }
         ensures stands { OnOk result (Stands D.state self.old chronicle.old → Stands D.state self.new chronicle.new) }
+
+        // A crash at any moment of the call leaves all that was handed on before it, or the record of the new hall.
+        ensures any_moment { Stands D.state self.old chronicle.old → KeepsWhenCompacted D.state self.old self.new chronicle.old }
         ensures same { OnErr result (chronicle.new ≡ chronicle.old) }
         ensures ends { OnErr result (self.new.ended ≡ true) }
     {

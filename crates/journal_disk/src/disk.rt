@@ -44,4 +44,7 @@ pub trait Disk: Drop {
     /// what it may leave of those before, or all of these (`MayLeaveEither`); and so it does after a call that failed.
     fn replace(&mut self, alloc: Global, bytes: &[u8]) -> Result<(), DiskFault>
         ensures { Changes (IsReplaced bytes.now result) (state self.old) (state self.new) };
+
+    /// How many bytes it has, for people; none where the system does not tell.
+    fn size(&self) -> u64;
 }

@@ -80,14 +80,6 @@ fn lock<R: Files<File = File>>(rt: &R, path: &str, file: &File) -> Result<(), Fi
         Ok(false) => Err(FileFault::InUse),
         Err(error) => Err(FileFault::Failed(error.kind())),
     }
-
-    /// How many bytes the file has, for people; none where the system does not tell.
-    pub fn size(&self) -> u64 {
-        match File::metadata(&self.file) {
-            Ok(data) => data.len(),
-            Err(_) => 0,
-        }
-    }
 }
 
 /// Opens and locks a file; one that is missing is made, and its folder is synced.
@@ -158,5 +150,12 @@ impl<R: Files<File = File> + Drop> Disk for FileDisk<R> {
         told(fs::rename(&self.files, &beside, &self.path))?;
         self.file = file;
         told(sync_folder(&self.files, &self.path))
+    }
+
+    fn size(&self) -> u64 {
+        match File::metadata(&self.file) {
+            Ok(data) => data.len(),
+            Err(_) => 0,
+        }
     }
 }

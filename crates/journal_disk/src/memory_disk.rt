@@ -168,4 +168,8 @@ impl Disk for MemoryDisk {
         self.before = None;
         Ok(())
     }
+
+    fn size(&self) -> u64 {
+        self.bytes.len() as u64
+    }
 }
