@@ -1,0 +1,99 @@
+//! Drawn runs by many threads.
+
+ghost use Rattle.std.specs.Prelude.{◌≡◌, ◌<◌, ◌≤◌, ◌+◌, ◌^◌, ◌⊎◌, ℕ, Option, Err, true, length, slice_index_or, IfErr, OnOk, OnErr};
+ghost use Rattle.std.specs.Io.KnownBytes.{Appends};
+ghost use Rattle.commands.specs.Config.{gives_names};
+ghost use Rattle.drawn_schedules.specs.Runs.{HasDrawn, HasDrawnPart, IsToldOf};
+ghost use Rattle.drawn_schedules.specs.declared.tally.Tally.{Tally};
+
+use commands::Config;
+use drawn_schedules::{Tally, play_drawn, play_share, write_tallies};
+use schedule_player::{Fault, Sink};
+use std::alloc::Global;
+use std::thread;
+use std::thread::Threads;
+
+/// At most so many play at once.
+pub const MOST_JOBS: u64 = 64;
+
+// How many play at once, where so many are asked for; with 0 as many as there are processors, and one where that is not known.
+fn jobs_for<R: Threads>(rt: &R, asked: u64) -> u64
+    ensures { (1 ≤ result) × (result ≤ 64) }
+{
+    let jobs = match asked {
+        0 => match thread::available_parallelism(rt) {
+            Ok(count) => count.get() as u64,
+            Err(_) => 1,
+        },
+        _ => asked,
+    };
+    jobs.min(MOST_JOBS)
+}
+
+// Plays drawn schedules, one for each of these places, and puts the numbers of each into its own: so many places in a row are a thread's.
+fn play_shares<R: Threads + Sync>(
+    rt: &R,
+    alloc: Global,
+    share: usize,
+    seed: u64,
+    ids: u64,
+    n: u64,
+    config: Config,
+    tallies: &mut [Option<Tally>],
+)
+    requires share { 0 < share }
+    requires names { gives_names config.world ≡ true }
+    requires some { 1 ≤ ids }
+    requires few { ids ≤ 64 }
+    requires steps { n + 64 < 2 ^ 64 }
+    requires long { length tallies.old < 2 ^ 64 }
+    ensures told { (i : ℕ) (d : Option Tally) → i < length tallies.old → IsToldOf config seed ids n i (slice_index_or tallies.new i d) }
+    ensures len { length tallies.new ≡ length tallies.old }
+{
+    thread::for_each_chunk_mut(
+        rt,
+        tallies,
+        share,
+        &|first, part| play_share(alloc, seed, ids, n, config, first as u64, part),
+    );
+}
+
+/// Plays drawn schedules as `play_drawn` does, and writes the same lines, with the runs shared among so many threads, at most 64, or
+/// where 0 are asked for as many as there are processors: each plays runs that follow one another, in memory of its own.
+///
+/// `Fault::Memory` where memory was refused and no write failed, `Fault::Write` where the writer failed or took nothing: then a
+/// beginning of the lines is written.
+pub fn play_drawn_by<R: Threads + Sync, W: Sink>(
+    rt: &R,
+    alloc: Global,
+    jobs: u64,
+    seed: u64,
+    ids: u64,
+    n: u64,
+    runs: u64,
+    config: Config,
+    writer: &mut W,
+) -> Result<(), Fault>
+    requires names { gives_names config.world ≡ true }
+    requires some { 1 ≤ ids }
+    requires few { ids ≤ 64 }
+    requires steps { n + 64 < 2 ^ 64 }
+    requires writes { W.calls writer.old < 2 ^ 64 }
+    ensures ok { OnOk result (HasDrawn config seed ids n runs (Appends (W.contents writer.old) (W.contents writer.new))) }
+    ensures part { OnErr result (HasDrawnPart config seed ids n runs (W.contents writer.old) (W.contents writer.new)) }
+    ensures only { IfErr result (λ fault. (fault ≡ Fault.Write) ⊎ (fault ≡ Fault.Memory)) }
+    ensures failed { result ≡ Err Fault.Write → W.failed writer.old < W.failed writer.new }
+    ensures memory { result ≡ Err Fault.Memory → W.failed writer.new ≡ W.failed writer.old }
+    ensures unfailed { OnOk result (W.failed writer.new ≡ W.failed writer.old) }
+{
+    let jobs = jobs_for(rt, jobs);
+    if jobs == 1 {
+        return play_drawn(alloc, seed, ids, n, runs, config, writer);
+    }
+    let Ok(mut tallies) = Vec::from_elem(alloc, None, runs as usize) else {
+        return Err(Fault::Memory);
+    };
+    let share = (runs.saturating_sub(1) / jobs) as usize + 1;
+    play_shares(rt, alloc, share, seed, ids, n, config, tallies.as_mut_slice());
+    write_tallies(alloc, tallies.as_slice(), writer)
+}
