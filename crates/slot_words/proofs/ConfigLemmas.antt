@@ -124,30 +124,32 @@ config_made rows w m limit (Err e) world has_m has_limit range none d h =
     cc
 
 -- what is made of the matched numbers and the config is the drawing, where there is one
-pub drawn : (rows : List Row) (seed ids steps runs m limit : ℕ) (w : WorldKind) (c : Config) (o : Option Drawing)
-    → HasNumber rows (codes "seed") seed → HasNumber rows (codes "ids") ids → HasNumber rows (codes "steps") steps → HasNumber rows (codes "runs") runs
+pub drawn : (rows : List Row) (seed ids steps runs jobs m limit : ℕ) (w : WorldKind) (c : Config) (o : Option Drawing)
+    → HasNumber rows (codes "seed") seed → HasNumber rows (codes "ids") ids → HasNumber rows (codes "steps") steps → HasNumber rows (codes "runs") runs → HasNumber rows (codes "jobs") jobs
     → HasWorld rows w → HasNumber rows (codes "m") m → HasNumber rows (codes "limit") limit
     → (c.world ≡ w) × (c.m ≡ m) × (c.k ≡ 4) × (c.limit ≡ limit)
-    → IfSome o (λ d. (d.seed ≡ seed) × (d.ids ≡ ids) × (d.steps ≡ steps) × (d.runs ≡ runs) × (d.config ≡ c)) → (IsSome o ↔ IsDrawingRange seed ids steps runs c.world)
+    → IfSome o (λ d. (d.seed ≡ seed) × (d.ids ≡ ids) × (d.steps ≡ steps) × (d.runs ≡ runs) × (d.jobs ≡ jobs) × (d.config ≡ c)) → (IsSome o ↔ IsDrawingRange seed ids steps runs jobs c.world)
     → MatchOption o ((d : Drawing) → IsDrawingOf rows d → ⊥) (IsDrawingOf rows)
-drawn rows seed ids steps runs m limit w c (Some d) has_seed has_ids has_steps has_runs world has_m has_limit sizes values range = record {
+drawn rows seed ids steps runs jobs m limit w c (Some d) has_seed has_ids has_steps has_runs has_jobs world has_m has_limit sizes values range = record {
   seed = subst (λ x. HasNumber rows (codes "seed") x) (sym values.0) has_seed;
   ids = subst (λ x. HasNumber rows (codes "ids") x) (sym values.1) has_ids;
   steps = subst (λ x. HasNumber rows (codes "steps") x) (sym values.2) has_steps;
   runs = subst (λ x. HasNumber rows (codes "runs") x) (sym values.3) has_runs;
-  world = world ∙ ap (λ kind. Some (world_name kind)) (sym (ap (λ (x : Config). x.world) values.4 ∙ sizes.0));
-  m = subst (λ x. HasNumber rows (codes "m") x) (sym (ap (λ (x : Config). x.m) values.4 ∙ sizes.1)) has_m;
-  limit = subst (λ x. HasNumber rows (codes "limit") x) (sym (ap (λ (x : Config). x.limit) values.4 ∙ sizes.3)) has_limit;
-  k = ap (λ (x : Config). x.k) values.4 ∙ sizes.2;
+  jobs = subst (λ x. HasNumber rows (codes "jobs") x) (sym values.4) has_jobs;
+  world = world ∙ ap (λ kind. Some (world_name kind)) (sym (ap (λ (x : Config). x.world) values.5 ∙ sizes.0));
+  m = subst (λ x. HasNumber rows (codes "m") x) (sym (ap (λ (x : Config). x.m) values.5 ∙ sizes.1)) has_m;
+  limit = subst (λ x. HasNumber rows (codes "limit") x) (sym (ap (λ (x : Config). x.limit) values.5 ∙ sizes.3)) has_limit;
+  k = ap (λ (x : Config). x.k) values.5 ∙ sizes.2;
 }
-drawn rows seed ids steps runs m limit w c None has_seed has_ids has_steps has_runs world has_m has_limit sizes values range = λ d h.
+drawn rows seed ids steps runs jobs m limit w c None has_seed has_ids has_steps has_runs has_jobs world has_m has_limit sizes values range = λ d h.
     let same_seed : d.seed ≡ seed = same_number rows (codes "seed") d.seed seed h.seed has_seed in
     let same_ids : d.ids ≡ ids = same_number rows (codes "ids") d.ids ids h.ids has_ids in
     let same_steps : d.steps ≡ steps = same_number rows (codes "steps") d.steps steps h.steps has_steps in
     let same_runs : d.runs ≡ runs = same_number rows (codes "runs") d.runs runs h.runs has_runs in
+    let same_jobs : d.jobs ≡ jobs = same_number rows (codes "jobs") d.jobs jobs h.jobs has_jobs in
     let same_kind : d.config.world ≡ c.world = same_world rows d.config.world w h.world world ∙ sym sizes.0 in
     let fits = d.in_range in
-    let bad : false ≡ true = range.1 (rw (same_seed, same_ids, same_steps, same_runs, same_kind) at fits) in
+    let bad : false ≡ true = range.1 (rw (same_seed, same_ids, same_steps, same_runs, same_jobs, same_kind) at fits) in
     cc
 
 -- what holds of a result's value

@@ -62,6 +62,7 @@ pub record IsDrawingOf (rows : List Row) (d : Drawing) : Type 0 where
   pub ids : HasNumber rows (codes "ids") d.ids
   pub steps : HasNumber rows (codes "steps") d.steps
   pub runs : HasNumber rows (codes "runs") d.runs
+  pub jobs : HasNumber rows (codes "jobs") d.jobs
   pub world : HasWorld rows d.config.world
   pub m : HasNumber rows (codes "m") d.config.m
   pub limit : HasNumber rows (codes "limit") d.config.limit

@@ -44,7 +44,7 @@ needed_option name least most = record (new_rule name) {
 }
 
 -- `--seed NUMBER`, of 64 bits, `--ids NUMBER`, from 1 to 64, and `--steps NUMBER`, at most 1,000,000, all to be given;
--- `--runs NUMBER`, at most 1,000, or 0
+-- `--runs NUMBER`, at most 1,000, or 0; `--jobs NUMBER`, at most 64, or 0
 abbrev pub seed_option : Rule
 seed_option = needed_option (codes "seed") 0 18446744073709551615
 
@@ -56,6 +56,9 @@ steps_option = needed_option (codes "steps") 0 1000000
 
 abbrev pub runs_option : Rule
 runs_option = number_option (codes "runs") 0 1000 (codes "0")
+
+abbrev pub jobs_option : Rule
+jobs_option = number_option (codes "jobs") 0 64 (codes "0")
 
 -- `--from NUMBER`, from 1 to 1,000,000, or 1; `--count NUMBER`, from 1 to 1,000,000, or 1000
 abbrev pub from_option : Rule
@@ -119,7 +122,7 @@ abbrev pub draw_needs_app : App
 draw_needs_app = with_rule (with_rule (with_rule (new_app (codes "draw")) seed_option) ids_option) steps_option
 
 abbrev pub draw_app : App
-draw_app = with_rule (with_rule (with_rule (with_rule draw_needs_app runs_option) world_option) m_option) limit_option
+draw_app = with_rule (with_rule (with_rule (with_rule (with_rule draw_needs_app runs_option) jobs_option) world_option) m_option) limit_option
 
 -- `check` has no options
 abbrev pub check_app : App

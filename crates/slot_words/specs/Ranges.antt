@@ -3,9 +3,10 @@ use Rattle.std.specs.Prelude.{◌≡◌, ℕ, ◌<◌, ◌≤◌, ◌^◌, Bool,
 use Rattle.commands.specs.declared.kind.WorldKind.{WorldKind}
 use Rattle.commands.specs.Config.{gives_names}
 
--- the seed has 64 bits, the identities are 1 to 64, the steps at most 1,000,000, the runs at most 1,000, and names are given in the world
-abbrev pub IsDrawingRange : ℕ → ℕ → ℕ → ℕ → WorldKind → Type 0
-IsDrawingRange seed ids steps runs world = (seed < 2 ^ 64) × (1 ≤ ids) × (ids ≤ 64) × (steps ≤ 1000000) × (runs ≤ 1000) × (gives_names world ≡ true)
+-- the seed has 64 bits, the identities are 1 to 64, the steps at most 1,000,000, the runs at most 1,000, those at once at most 64, and names are
+-- given in the world
+abbrev pub IsDrawingRange : ℕ → ℕ → ℕ → ℕ → ℕ → WorldKind → Type 0
+IsDrawingRange seed ids steps runs jobs world = (seed < 2 ^ 64) × (1 ≤ ids) × (ids ≤ 64) × (steps ≤ 1000000) × (runs ≤ 1000) × (jobs ≤ 64) × (gives_names world ≡ true)
 
 -- the port has 16 bits, there are 1 to 16 workers and 1 to 1,000,000 connections, and names are given in the world
 abbrev pub IsServingRange : WorldKind → ℕ → ℕ → ℕ → Type 0

@@ -87,18 +87,27 @@ pub struct Drawing {
     pub steps: u64,
     /// How many runs are made, at most 1,000; with none, the schedule is written.
     pub runs: u64,
+    /// How many are made at once, at most 64; with 0, as many as there are processors.
+    pub jobs: u64,
     /// The world of the runs, in which names are given, and its sizes.
     pub config: Config,
-    ghost in_range: { IsDrawingRange seed ids steps runs config.world },
+    ghost in_range: { IsDrawingRange seed ids steps runs jobs config.world },
 }
 
 impl Drawing {
     /// A drawing of these values; none where one of them is outside its range.
-    pub fn new(seed: u64, ids: u64, steps: u64, runs: u64, config: Config) -> Option<Drawing>
-        ensures values { IfSome result (λ d. (d.seed ≡ seed) × (d.ids ≡ ids) × (d.steps ≡ steps) × (d.runs ≡ runs) × (d.config ≡ config)) }
-        ensures range { IsSome result ↔ IsDrawingRange seed ids steps runs config.world }
+    pub fn new(
+        seed: u64,
+        ids: u64,
+        steps: u64,
+        runs: u64,
+        jobs: u64,
+        config: Config,
+    ) -> Option<Drawing>
+        ensures values { IfSome result (λ d. (d.seed ≡ seed) × (d.ids ≡ ids) × (d.steps ≡ steps) × (d.runs ≡ runs) × (d.jobs ≡ jobs) × (d.config ≡ config)) }
+        ensures range { IsSome result ↔ IsDrawingRange seed ids steps runs jobs config.world }
     {
-        if ids < 1 || 64 < ids || 1_000_000 < steps || 1_000 < runs {
+        if ids < 1 || 64 < ids || 1_000_000 < steps || 1_000 < runs || 64 < jobs {
             return None;
         }
         match config.world {
@@ -109,6 +118,7 @@ impl Drawing {
                 ids,
                 steps,
                 runs,
+                jobs,
                 config,
             }),
         }

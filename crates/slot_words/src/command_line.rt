@@ -236,6 +236,14 @@ fn draw_command<'a>(alloc: Global) -> Result<Command<'a>, AllocError>
             "0",
             "how many are played, at most 1000",
         ))?
+        .arg(number_option(
+            alloc,
+            "jobs",
+            0,
+            64,
+            "0",
+            "how many are played at once, at most 64, or 0 for as many as there are processors",
+        ))?
         .arg(world_option(alloc, WORLD_OF_NAMES))?
         .arg(m_option(alloc))?
         .arg(limit_option(alloc))

@@ -77,11 +77,12 @@ fn draw_given(matches: &ArgMatches<'_>) -> Option<Drawing>
     let ids = number_given(matches, "ids")?;
     let steps = number_given(matches, "steps")?;
     let runs = number_given(matches, "runs")?;
+    let jobs = number_given(matches, "jobs")?;
     let world = world_given(matches)?;
     let m = number_given(matches, "m")?;
     let limit = number_given(matches, "limit")?;
     let config = Config::new(world, m, DRAWN_POOL, limit).ok()?;
-    Drawing::new(seed, ids, steps, runs, config)
+    Drawing::new(seed, ids, steps, runs, jobs, config)
 }
 
 // What the options of `show` give, where they give something.

@@ -15,6 +15,9 @@ returns-in_err-steps c = unless_some c.from_residual-in_err-steps.result _ _ c.f
 pub returns-in_err-runs : goal.returns-in_err-runs
 returns-in_err-runs c = unless_some c.from_residual-in_err-runs.result _ _ c.from_residual-in_err-runs.ensures (λ given h. c.in_err-runs.ensures given.runs (let fits = given.in_range in omega arith) h.runs)
 
+pub returns-in_err-jobs : goal.returns-in_err-jobs
+returns-in_err-jobs c = unless_some c.from_residual-in_err-jobs.result _ _ c.from_residual-in_err-jobs.ensures (λ given h. c.in_err-jobs.ensures given.jobs (let fits = given.in_range in omega arith) h.jobs)
+
 pub returns-in_err-world : goal.returns-in_err-world
 returns-in_err-world c = unless_some c.from_residual-in_err-world.result _ _ c.from_residual-in_err-world.ensures (λ given h. c.in_err-world.ensures given.config.world h.world)
 
@@ -31,5 +34,5 @@ returns-in_err-config c =
 
 pub returns : goal.returns
 returns c =
-    drawn (rows_of (found_of c.args.matches.now)) c.in_ok-seed.seed c.in_ok-ids.ids c.in_ok-steps.steps c.in_ok-runs.runs c.in_ok-m.m c.in_ok-limit.limit c.in_ok-world.world c.in_ok-config.config c.new-2.result
-    c.in_ok-seed.ensures c.in_ok-ids.ensures c.in_ok-steps.ensures c.in_ok-runs.ensures c.in_ok-world.ensures c.in_ok-m.ensures c.in_ok-limit.ensures (value_is c.new.result c.in_ok-config.config _ (sym c.ok.ensures.value ∙ c.in_ok-config.was) c.new.ensures.ok) c.new-2.ensures.values c.new-2.ensures.range
+    drawn (rows_of (found_of c.args.matches.now)) c.in_ok-seed.seed c.in_ok-ids.ids c.in_ok-steps.steps c.in_ok-runs.runs c.in_ok-jobs.jobs c.in_ok-m.m c.in_ok-limit.limit c.in_ok-world.world c.in_ok-config.config c.new-2.result
+    c.in_ok-seed.ensures c.in_ok-ids.ensures c.in_ok-steps.ensures c.in_ok-runs.ensures c.in_ok-jobs.ensures c.in_ok-world.ensures c.in_ok-m.ensures c.in_ok-limit.ensures (value_is c.new.result c.in_ok-config.config _ (sym c.ok.ensures.value ∙ c.in_ok-config.was) c.new.ensures.ok) c.new-2.ensures.values c.new-2.ensures.range
