@@ -292,6 +292,11 @@ module _ (l : Line) (s s' : Sheet) (shown first : Bool) (has : (shown ≡ true) 
 
 -- ---- the whole page
 
+pub same_stretch : (s t : Stretch) → s.from ≡ t.from → s.count ≡ t.count → s ≡ t
+same_stretch s t a b =
+    let with_from : s ≡ record { from = t.from; count = s.count } = ap (λ (n : ℕ). (let x : Stretch = record { from = n; count = s.count } in x)) a in
+    with_from ∙ ap (λ (n : ℕ). (let x : Stretch = record { from = t.from; count = n } in x)) b
+
 -- the state of the desk on which the lines were replayed
 state_is : (f : Form) (c : Config) (lines : List Line) (s : Sheet) → HasPut c lines s → state f s.desk s.begun.items s.reached.items ≡ state_after f c lines
 state_is f c lines s h =
