@@ -94,6 +94,15 @@ pub fn play_drawn_by<R: Threads + Sync, W: Sink>(
         return Err(Fault::Memory);
     };
     let share = (runs.saturating_sub(1) / jobs) as usize + 1;
-    play_shares(rt, alloc, share, seed, ids, n, config, tallies.as_mut_slice());
+    play_shares(
+        rt,
+        alloc,
+        share,
+        seed,
+        ids,
+        n,
+        config,
+        tallies.as_mut_slice(),
+    );
     write_tallies(alloc, tallies.as_slice(), writer)
 }

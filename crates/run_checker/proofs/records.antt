@@ -3,6 +3,7 @@ pub mod Migration
 pub mod Runs
 pub mod Rows
 pub mod Gathered
+pub mod Stages
 pub mod OneVerdict
 pub mod Talking
 pub mod Recording

@@ -13,3 +13,5 @@ pub mod Firsts
 pub mod Gathered
 pub mod Recorded
 pub mod Migrated
+pub mod SoFar
+pub mod Stages

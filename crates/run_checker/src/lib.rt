@@ -21,6 +21,9 @@
 //! What `record` of `schedule_player` writes of an input with at most 1,000,000 events is the record of a talk to its lines, and `check`
 //! answers `Yes` to it, or `NoMemory`: `law_of_recording`, and over talks alone `law_of_recorded_talks`.
 //!
+//! `Judge` judges a record whose bytes come one after the other, as `check` judges one that lies there whole, and keeps none of its lines
+//! but the one that is not whole: `take` for the bytes, and `verdict` at the end (`HasTakenAll`, `IsSaid`).
+//!
 //! `migrate` writes a record again in version 2 where it is one of a run, in the compact spelling. A view by which a name was given
 //! that is not written is the first moment since the identity's last proposal in which no other proposed the same. What is proved
 //! (`IsMigrated`): the lines are those of exchanges that the objects can make, with each such view the first; what is written is their
@@ -44,6 +47,7 @@ pub mod checker;
 mod fault;
 mod firsts;
 pub mod gather;
+pub mod judge;
 pub mod laws;
 pub mod lines;
 pub mod migrating;
@@ -53,11 +57,13 @@ mod names;
 mod people;
 pub mod reason;
 pub mod record;
+pub mod row_judge;
 mod standing;
 mod stays;
 pub mod verdict;
 
 pub use checker::Checker;
+pub use judge::Judge;
 pub use laws::{
     law_of_desk_runs, law_of_reasons, law_of_recorded_talks, law_of_recording, law_of_records,
 };

@@ -12,7 +12,8 @@ use Rattle.run_checker.specs.Config.{terms_of}
 use Rattle.run_checker.specs.Gathered.{Gathers, AreGathered}
 use Rattle.run_checker.specs.Judged.{HasTaken, TakesOn, TakesMore}
 use Rattle.run_checker.specs.Verdict.{HasHeader, LacksHeader}
-use Rattle.run_checker.proofs.records.Rows.{RowsSoFar, all_rows, next_row, row_few, row_judged}
+use Rattle.run_checker.specs.SoFar.{RowsSoFar}
+use Rattle.run_checker.proofs.records.Rows.{all_rows, next_row, row_few, row_judged}
 
 -- the rows so far were read, taken and gathered, and these are left
 pub record GatheredSoFar {G : Type 0} (IsOf : Config → List Line → G → Type 0) (first : G) (h : Header) (rows left : List (List ℕ)) (checker : Checker) (number : ℕ) (g : G) : Type 0 where

@@ -12,19 +12,9 @@ use Rattle.run_checker.specs.Config.{terms_of}
 use Rattle.run_checker.specs.Judged.{HasTaken, IsFaultAfter, TakesOn, TakesMore}
 use Rattle.record_lines.specs.RecordLine.{IsEventLine}
 use Rattle.record_lines.specs.Records.{AreRead}
+use Rattle.run_checker.specs.SoFar.{RowsSoFar}
 use Rattle.run_checker.specs.Verdict.{SpellRun, IsFaultyRow, IsBadRow}
 use Rattle.run_checker.proofs.records.Runs.{follows_run}
-
--- the rows so far were read and taken, and these are left
-pub record RowsSoFar (h : Header) (rows left : List (List ℕ)) (checker : Checker) (number : ℕ) : Type 0 where
-  pub before : List (List ℕ)
-  pub lines : List Line
-  pub is : before ++ left ≡ rows
-  pub read : AreRead h.config.world h.version before lines
-  pub many : length lines ≡ length before
-  pub few : length before ≤ 1000000
-  pub taken : HasTaken (terms_of h.config) h.config.k lines checker
-  pub at : number ≡ length before + 2
 
 pub read_more : (kind : WorldKind) (version : Version) (rows : List (List ℕ)) (lines : List Line) (row : List ℕ) (l : Line) → AreRead kind version rows lines → IsEventLine kind version row l → AreRead kind version (rows ++ row ∷ []) (lines ++ l ∷ [])
 read_more kind version [] [] row l r e = (e, tt)

@@ -1,0 +1,17 @@
+use Rattle.std.proofs.Common.{rules, ◌≡◌, ◌∷◌, ◌++◌, [], ℕ, List, sym, ap, ◌∙◌, subst}
+use Rattle.std.proofs.lemmas.Result.{on_ok_weaker}
+use Rattle.run_checker.specs.Stages.{StandsAfter}
+use Rattle.run_checker.proofs.records.Stages.{none_held}
+use Rattle.run_checker.proofs.judge.Judge.end_line.Goals as goal
+
+pub returns-then-is_empty-clause-stands : goal.returns-then-is_empty-clause-stands
+returns-then-is_empty-clause-stands c =
+    let j = c.args.self.now in
+    let none : j.held.items ≡ [] = none_held j.held.items (search rules) in
+    let same : c.args.line.now ≡ j.held.items ++ c.args.line.now = ap (λ (l : List ℕ). l ++ c.args.line.now) (sym none) in
+    on_ok_weaker c.judge_line.result (λ f. λ lines h. subst (λ (l : List ℕ). StandsAfter (lines ++ l ∷ []) c.judge_line.new.stage) same (f lines h)) c.judge_line.ensures
+
+pub returns-clause-stands : goal.returns-clause-stands
+returns-clause-stands c = λ lines h.
+    (let same : c.deref.result.now ≡ c.args.self.now.held.items ++ c.args.line.now = c.deref.ensures.value ∙ c.in_ok-extend_from_slice.ensures.items in
+    subst (λ (l : List ℕ). StandsAfter (lines ++ l ∷ []) c.judge_line-2.new.stage) same (c.in_ok-judge_line.ensures lines h))

@@ -1,0 +1,11 @@
+use Rattle.std.proofs.Common.{ℕ, List, ◌++◌}
+use Rattle.std.specs.Option.{option_copied}
+use Rattle.schedule_player.specs.Lines.{left_length}
+use Rattle.run_checker.specs.Stages.{HasTakenAll, HasTakenBut, bytes_left}
+use Rattle.run_checker.proofs.judge.Judge.take.Given as goal
+
+abbrev pub invariant-loop-left : goal.invariant-loop-left
+invariant-loop-left l = (seen : List ℕ) → HasTakenAll seen l.fn.self → HasTakenBut (bytes_left (option_copied l.left)) (seen ++ l.fn.bytes) l.self
+
+abbrev pub decreases-loop-left : goal.decreases-loop-left
+decreases-loop-left l = left_length (option_copied l.left)

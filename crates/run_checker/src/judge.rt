@@ -1,0 +1,138 @@
+//! Judges a record whose bytes come one after the other.
+
+ghost use Rattle.std.specs.Prelude.{◌≡◌, ℕ, List, [], ◌∷◌, ◌++◌, IfOk, OnOk};
+ghost use Rattle.run_checker.specs.Stages.{HasTakenAll, StandsAfter};
+ghost use Rattle.record_lines.specs.Records.{record_lines};
+ghost use Rattle.schedule_player.specs.Lines.{unless_empty};
+ghost use Rattle.run_checker.specs.Verdict.{IsSaid};
+
+use crate::row_judge::RowJudge;
+use crate::verdict::Verdict;
+use record_lines::read_header;
+use schedule_player::words::cut;
+use std::alloc::{AllocError, Global};
+
+/// How far the lines of a record are judged.
+#[derive(Drop)]
+pub enum Stage {
+    /// There was no line yet.
+    Opening,
+    /// The lines so far can follow one another.
+    Judging(RowJudge),
+    /// The verdict is known, whatever lines follow.
+    Over(Verdict),
+}
+
+/// What is kept of a record so far: how far its lines are judged, and the bytes of the next, which is not whole.
+#[derive(Drop)]
+pub struct Judge {
+    alloc: Global,
+    held: Vec<u8>,
+    stage: Stage,
+}
+
+// What follows from the first line.
+fn opened(alloc: Global, line: &[u8]) -> Result<Stage, AllocError>
+    ensures { IfOk result (StandsAfter (line.now ∷ [])) }
+{
+    match read_header(alloc, line)? {
+        Some(header) => Ok(Stage::Judging(RowJudge::new(alloc, header)?)),
+        None => Ok(Stage::Over(Verdict::BadRecord(1))),
+    }
+}
+
+// Judges one more line, without its LF.
+fn judge_line(alloc: Global, stage: &mut Stage, line: &[u8]) -> Result<(), AllocError>
+    ensures { OnOk result ((lines : List (List ℕ)) → StandsAfter lines stage.old → StandsAfter (lines ++ line.now ∷ []) stage.new) }
+{
+    match stage {
+        Stage::Opening => {
+            *stage = opened(alloc, line)?;
+            Ok(())
+        }
+        Stage::Judging(judge) => match judge.take(alloc, line)? {
+            Some(verdict) => {
+                *stage = Stage::Over(verdict);
+                Ok(())
+            }
+            None => Ok(()),
+        },
+        Stage::Over(_) => Ok(()),
+    }
+}
+
+// The verdict where no line follows.
+fn verdict_of(stage: &Stage) -> Verdict
+    ensures { (lines : List (List ℕ)) → StandsAfter lines stage.now → IsSaid lines result }
+{
+    match stage {
+        Stage::Opening => Verdict::BadRecord(1),
+        Stage::Judging(_) => Verdict::Yes,
+        Stage::Over(verdict) => *verdict,
+    }
+}
+
+impl Judge {
+    /// No byte was taken yet.
+    pub fn new(alloc: Global) -> Judge
+        ensures { HasTakenAll [] result }
+    {
+        Judge {
+            alloc,
+            held: Vec::new(alloc),
+            stage: Stage::Opening,
+        }
+    }
+
+    // The end of a line came.
+    fn end_line(&mut self, line: &[u8]) -> Result<(), AllocError>
+        ensures held { OnOk result (self.new.held.items ≡ []) }
+        ensures stands { OnOk result ((lines : List (List ℕ)) → StandsAfter lines self.old.stage →
+            StandsAfter (lines ++ (self.old.held.items ++ line.now) ∷ []) self.new.stage) }
+    {
+        if self.held.is_empty() {
+            return judge_line(self.alloc, &mut self.stage, line);
+        }
+        self.held.extend_from_slice(line)?;
+        judge_line(self.alloc, &mut self.stage, &self.held)?;
+        self.held.clear();
+        Ok(())
+    }
+
+    /// Takes some more bytes of the record, and judges the lines that end in them. An error where a growth was refused; then it is of no
+    /// more use.
+    pub fn take(&mut self, bytes: &[u8]) -> Result<(), AllocError>
+        ensures { OnOk result ((seen : List ℕ) → HasTakenAll seen self.old → HasTakenAll (seen ++ bytes.now) self.new) }
+    {
+        let mut left = Some(bytes);
+        while let Some(bytes) = left {
+            let (line, rest) = cut(bytes, b'\n');
+            match rest {
+                Some(_) => self.end_line(line)?,
+                None => self.held.extend_from_slice(line)?,
+            }
+            left = rest;
+        }
+        Ok(())
+    }
+
+    // The end of the record came: what stands before it with no LF is a line too, if it is not empty.
+    fn end_last(&mut self) -> Result<(), AllocError>
+        ensures { OnOk result ((lines : List (List ℕ)) → StandsAfter lines self.old.stage →
+            StandsAfter (lines ++ unless_empty self.old.held.items) self.new.stage) }
+    {
+        if self.held.is_empty() {
+            return Ok(());
+        }
+        judge_line(self.alloc, &mut self.stage, &self.held)
+    }
+
+    /// The verdict on the bytes that were taken, once they are all. An error where a growth was refused.
+    pub fn verdict(self) -> Result<Verdict, AllocError>
+        ensures { IfOk result (λ v. (seen : List ℕ) → HasTakenAll seen self → IsSaid (record_lines seen) v) }
+    {
+        let mut judge = self;
+        judge.end_last()?;
+        Ok(verdict_of(&judge.stage))
+    }
+}
