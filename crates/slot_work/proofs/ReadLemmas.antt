@@ -1,8 +1,13 @@
 -- what was read of an input
-use Rattle.std.proofs.Common.{◌∙◌, ◌++◌, ap, append_assoc, refl, sym, ℕ, List, [], Option, Some, None}
+use Rattle.std.proofs.Common.{◌≢◌, ◌∙◌, ◌++◌, inl, inr, ap, append_assoc, refl, subst, sym, ℕ, List, [], Option, Some, None}
 use Rattle.std.proofs.lemmas.List.{append-nil}
 use Rattle.std.specs.Io.KnownBytes.{Consumes, IsAtEnd}
 use Rattle.schedule_player.specs.Played.{IsInput}
+use Rattle.run_checker.specs.declared.judge.Judge.{Judge}
+use Rattle.run_checker.specs.declared.verdict.Verdict.{Verdict}
+use Rattle.run_checker.specs.declared.verdict.Verdict.TheVariants.{NoMemory}
+use Rattle.run_checker.specs.Stages.{HasTakenAll}
+use Rattle.run_checker.specs.Verdict.{IsSaid, IsSaidOfRows}
 
 pub nothing_read : (had : Option (List ℕ)) → Consumes had had []
 nothing_read None = tt
@@ -19,3 +24,14 @@ pub read_all : (had left : Option (List ℕ)) (got : List ℕ) → Consumes had 
 read_all None left got came end = tt
 read_all (Some h) None got came end = absurd came
 read_all (Some h) (Some l) got came end = came ∙ ap (λ t. got ++ t) end ∙ append-nil got
+
+-- bytes were read, and all of them taken by a judge
+pub record HasReadAndTaken (had left : Option (List ℕ)) (j : Judge) : Type 0 where
+  pub seen : List ℕ
+  pub came : Consumes had left seen
+  pub taken : HasTakenAll seen j
+
+-- what is said of lines says something
+pub said_some : (lines : List (List ℕ)) (v : Verdict) → IsSaid lines v → v ≢ NoMemory
+said_some lines v (inl s) = λ none. subst (IsSaidOfRows s.header s.rows) none s.said
+said_some lines v (inr bad) = λ none. (let e = bad.0 in cc)

@@ -32,6 +32,13 @@ pub record IsWhole {R : Type 0} (reading : Reading R) (r r' : R) (input : List �
   pub read : Consumes (reading.remaining r) (reading.remaining r') input
   pub no_read_failed : reading.failed r' ≡ reading.failed r
 
+-- the reader gave all of an input of which this is the verdict, and it says something
+pub record IsJudgedWhole {R : Type 0} (reading : Reading R) (r r' : R) (v : Verdict) : Type 0 where
+  pub input : List ℕ
+  pub whole : IsWhole reading r r' input
+  pub verdict : IsVerdict input v
+  pub some : v ≢ NoMemory
+
 -- one read failed, or the limit of reads was reached
 abbrev pub HasFailedRead : {R : Type 0} → Reading R → R → R → Type 0
 HasFailedRead reading r r' = (reading.failed r' ≡ reading.failed r + 1) ⊎ ((reading.calls r' ≡ reading.calls r + MOST_READS) × (reading.failed r' ≡ reading.failed r))

@@ -3,10 +3,9 @@
 ghost use Rattle.std.specs.Prelude.{◌≡◌, ◌⊎◌, ◌+◌, ◌^◌, ◌<◌, ◌≤◌, IfOk, IfErr, Err, [], length};
 ghost use Rattle.schedule_player.specs.Played.{reading, writing};
 ghost use Rattle.run_checker.specs.declared.verdict.Verdict.{Verdict};
-ghost use Rattle.run_checker.specs.declared.verdict.Verdict.TheVariants.{NoMemory};
-ghost use Rattle.slot_work.specs.Checked.{HasFailedRead, IsChecked, IsWhole, verdict_status, verdict_text};
+ghost use Rattle.slot_work.specs.Checked.{HasFailedRead, IsChecked, IsJudgedWhole, IsWhole, verdict_status, verdict_text};
 
-use run_checker::{Verdict, check};
+use run_checker::{Judge, Verdict};
 use schedule_player::sink::put_all;
 use schedule_player::{Fault, MOST_READS, READ_BYTES, Replies, Sink, Source, put_word};
 use std::alloc::{Allocator, Global};
@@ -35,6 +34,41 @@ pub fn read_whole<R: Source>(
             return Ok(bytes);
         }
         match bytes.extend_from_slice(&chunk[..count]) {
+            Ok(()) => {}
+            Err(_) => return Err(Fault::Memory),
+        }
+    }
+    Err(Fault::Read)
+}
+
+/// The verdict on all that the reader gives, read by way of a chunk. Each line is judged once it was read, and not kept; the verdict
+/// comes with the end.
+pub fn judge_whole<R: Source>(
+    alloc: Global,
+    reader: &mut R,
+    chunk: &mut [u8],
+) -> Result<Verdict, Fault>
+    requires reads { R.calls reader.old < 2 ^ 64 }
+    requires chunk { length chunk.old ≡ READ_BYTES }
+    ensures judged { IfOk result (λ v. IsJudgedWhole (reading R.remaining R.calls R.failed) reader.old reader.new v) }
+    ensures read_fault { result ≡ Err Fault.Read → HasFailedRead (reading R.remaining R.calls R.failed) reader.old reader.new }
+    ensures memory { result ≡ Err Fault.Memory → R.failed reader.new ≡ R.failed reader.old }
+    ensures only { IfErr result (λ fault. (fault ≡ Fault.Read) ⊎ (fault ≡ Fault.Memory)) }
+    ensures reads { R.calls reader.new ≤ R.calls reader.old + MOST_READS }
+{
+    let mut judge = Judge::new(alloc);
+    for _reads in 0..MOST_READS {
+        let count = match reader.read_once(chunk) {
+            Ok(count) => count,
+            Err(_) => return Err(Fault::Read),
+        };
+        if count == 0 {
+            return match judge.verdict() {
+                Ok(verdict) => Ok(verdict),
+                Err(_) => Err(Fault::Memory),
+            };
+        }
+        match judge.take(&chunk[..count]) {
             Ok(()) => {}
             Err(_) => return Err(Fault::Memory),
         }
@@ -72,7 +106,7 @@ fn status_of(verdict: Verdict) -> u8
     }
 }
 
-/// Reads a record to its end, checks it, and writes its verdict: `yes`, `no LINE REASON` or `bad record LINE`. Answers 0 for
+/// Reads a record to its end, checks its lines as they come, and writes its verdict: `yes`, `no LINE REASON` or `bad record LINE`. Answers 0 for
 /// yes, else 1.
 ///
 /// `Fault::Read` where the reader failed or was read 2^40 times, and `Fault::Memory` where memory was refused, with nothing
@@ -92,11 +126,7 @@ pub fn check_for<R: Source, W: Sink>(
     let Ok(mut chunk) = Vec::from_elem(alloc, 0, READ_BYTES) else {
         return Err(Fault::Memory);
     };
-    let bytes = read_whole(alloc, reader, &mut chunk)?;
-    let verdict = check(alloc, bytes.as_slice());
-    if verdict == Verdict::NoMemory {
-        return Err(Fault::Memory);
-    }
+    let verdict = judge_whole(alloc, reader, &mut chunk)?;
     put_verdict(verdict, &mut line);
     put_all(writer, line.as_slice())?;
     Ok(status_of(verdict))

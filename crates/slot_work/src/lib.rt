@@ -18,7 +18,7 @@
 //! ```text
 //! let mut input = Tried::new(rt.stdin());
 //! let mut output = Tried::new(rt.stdout());
-//! match program(alloc, &["slotctl", "check"], &mut input, &mut output, &mut rt.stderr()) {
+//! match program(&rt, alloc, &["slotctl", "check"], &mut input, &mut output, &mut rt.stderr()) {
 //!     Outcome::Ended(status) => status,                   // 0, where the record is one of a run
 //!     Outcome::Serve(serving) => ..
 //! }

@@ -17,11 +17,13 @@ use slot_words::{Ask, Misuse, ask};
 use std::alloc::Global;
 use std::convert::AsStr;
 use std::io::Write;
+use std::thread::Threads;
 
 /// Does what the words of a command line ask for, the first of which is the program's name, and answers the status of the
 /// program: 0 where it was done and for help, 1 where a verdict is other than yes, 2 where the words are refused, 3 at a fault or for want
 /// of memory. Help goes to `output` beside what is done, every other text to `errors`. To serve and to host is left to the caller.
-pub fn program<'a, S: AsStr, R: Source, W: Sink, E: Write>(
+pub fn program<'a, T: Threads + Sync, S: AsStr, R: Source, W: Sink, E: Write>(
+    rt: &T,
     alloc: Global,
     words: &'a [S],
     input: &mut R,
@@ -31,14 +33,15 @@ pub fn program<'a, S: AsStr, R: Source, W: Sink, E: Write>(
     requires reads { R.calls input.old < 2 ^ 64 }
     requires writes { W.calls output.old < 2 ^ 64 }
 {
-    match done(alloc, words, input, output) {
+    match done(rt, alloc, words, input, output) {
         Ok(outcome) => outcome,
         Err(failure) => Outcome::Ended(report(failure, output, errors)),
     }
 }
 
 /// Does what the words ask for, but to serve and to host.
-pub fn done<'a, S: AsStr, R: Source, W: Sink>(
+pub fn done<'a, T: Threads + Sync, S: AsStr, R: Source, W: Sink>(
+    rt: &T,
     alloc: Global,
     words: &'a [S],
     input: &mut R,
@@ -62,7 +65,7 @@ pub fn done<'a, S: AsStr, R: Source, W: Sink>(
     if let Ask::Show(showing) = asked {
         return after_showing(show_for(alloc, showing, input, output));
     }
-    match working::work(alloc, asked, input, output) {
+    match working::work(rt, alloc, asked, input, output) {
         Ok(status) => Ok(Outcome::Ended(status)),
         Err(fault) => Err(Failure::Fault(fault)),
     }

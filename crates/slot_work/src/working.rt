@@ -6,14 +6,17 @@ ghost use Rattle.slot_work.specs.Done.{IsWorked, IsDrawnBy, IsPlayedBy, is_work}
 
 use crate::checking::check_for;
 use crate::migrating::migrate_for;
-use drawn_schedules::{draw, play_drawn};
+use drawn_jobs::play_drawn_by;
+use drawn_schedules::draw;
 use schedule_player::{Fault, Sink, Source, play, record};
 use slot_words::{Ask, Drawing, Playing};
 use std::alloc::{Allocator, Global};
+use std::thread::Threads;
 
-// Writes what is drawn: a schedule, or the lines of runs.
-fn draw_for<W: Sink, A: Allocator + Clone>(
-    alloc: A,
+// Writes what is drawn: a schedule, or the lines of runs, which threads share.
+fn draw_for<T: Threads + Sync, W: Sink>(
+    rt: &T,
+    alloc: Global,
     drawing: Drawing,
     writer: &mut W,
 ) -> Result<u8, Fault>
@@ -25,12 +28,13 @@ fn draw_for<W: Sink, A: Allocator + Clone>(
         ids,
         steps,
         runs,
+        jobs,
         config,
     } = drawing;
     if runs == 0 {
         draw(alloc, seed, ids, steps, writer)?;
     } else {
-        play_drawn(alloc, seed, ids, steps, runs, config, writer)?;
+        play_drawn_by(rt, alloc, jobs, seed, ids, steps, runs, config, writer)?;
     }
     Ok(0)
 }
@@ -70,7 +74,8 @@ fn play_for<R: Source, W: Sink, A: Allocator + Clone>(
 /// Answers `Fault::Read` where the reader failed or the limit of reads was reached, `Fault::Write` where the writer failed or took
 /// no byte, and `Fault::Memory` where memory was refused: by `play` with nothing read and nothing written, and by `check` and
 /// `migrate` with nothing written.
-pub fn work<R: Source, W: Sink>(
+pub fn work<T: Threads + Sync, R: Source, W: Sink>(
+    rt: &T,
     alloc: Global,
     ask: Ask<'_>,
     reader: &mut R,
@@ -85,7 +90,7 @@ pub fn work<R: Source, W: Sink>(
         Ask::Play(playing) => play_for(alloc, playing, reader, writer),
         Ask::Check => check_for(alloc, reader, writer),
         Ask::Migrate => migrate_for(alloc, reader, writer),
-        Ask::Draw(drawing) => draw_for(alloc, drawing, writer),
+        Ask::Draw(drawing) => draw_for(rt, alloc, drawing, writer),
         Ask::Show(_) => unreachable!(),
         Ask::Serve(_) => unreachable!(),
         Ask::Host(_) => unreachable!(),

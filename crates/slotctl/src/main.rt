@@ -20,6 +20,7 @@ use std::io::{ErrorKind, IsTerminal};
 use std::marker::Brand;
 use std::process::ExitCode;
 use std::sync::ledger::Blank;
+use std::thread::Threads;
 
 // The words of the command line.
 fn command_words(rt: &HostRuntime) -> Result<Vec<String>, Misuse> {
@@ -31,11 +32,23 @@ fn command_words(rt: &HostRuntime) -> Result<Vec<String>, Misuse> {
     }
 }
 
-// What the words ask for, over the standard streams.
-fn by_words<'a>(rt: &HostRuntime, alloc: Global, words: &'a [String]) -> Outcome<'a> {
+// What the words ask for, over the standard streams, with threads where runs are drawn.
+fn by_words<'a, T: Threads + Sync>(
+    threads: &T,
+    rt: &HostRuntime,
+    alloc: Global,
+    words: &'a [String],
+) -> Outcome<'a> {
     let mut input = Tried::new(rt.stdin());
     let mut output = Tried::new(rt.stdout());
-    program(alloc, words, &mut input, &mut output, &mut rt.stderr())
+    program(
+        threads,
+        alloc,
+        words,
+        &mut input,
+        &mut output,
+        &mut rt.stderr(),
+    )
 }
 
 // What is to be served.
@@ -95,9 +108,9 @@ fn main(rt: HostRuntime) -> ExitCode {
         }
     };
     let outcome = if errors.is_terminal() && may_take_long(&words) {
-        in_sight(&rt, rt.stderr(), || by_words(&rt, alloc, &words))
+        in_sight(&rt, rt.stderr(), || by_words(&rt, &rt, alloc, &words))
     } else {
-        by_words(&rt, alloc, &words)
+        by_words(&rt, &rt, alloc, &words)
     };
     let status = match outcome {
         Outcome::Ended(status) => status,

@@ -31,21 +31,22 @@ fn chosen(alloc: Global, line: &str) -> Option<(WorldKind, u64, u64, u64)> {
     }
 }
 
-// The seed, the identities, the steps, the runs, and the world of what the words of a line ask to draw.
-fn drawing(alloc: Global, line: &str) -> Option<(u64, u64, u64, u64, WorldKind)> {
+// The seed, the identities, the steps, the runs, how many at once, and the world of what the words of a line ask to draw.
+fn drawing(alloc: Global, line: &str) -> Option<(u64, u64, u64, u64, u64, WorldKind)> {
     let words = words_of(alloc, line);
     match ask(alloc, words.as_slice()) {
-        Ok(Ask::Draw(d)) => Some((d.seed, d.ids, d.steps, d.runs, d.config.world)),
+        Ok(Ask::Draw(d)) => Some((d.seed, d.ids, d.steps, d.runs, d.jobs, d.config.world)),
         _ => None,
     }
 }
 
-const NO_DRAWINGS: [&str; 13] = [
+const NO_DRAWINGS: [&str; 14] = [
     "slotctl draw --ids 0 --seed 1 --steps 1",
     "slotctl draw --ids 65 --seed 1 --steps 1",
     "slotctl draw --ids 1 --seed 1 --steps 1000001",
     "slotctl draw --ids 1 --seed 18446744073709551616 --steps 1",
     "slotctl draw --ids 1 --seed 1 --steps 1 --runs 1001",
+    "slotctl draw --ids 1 --seed 1 --steps 1 --runs 2 --jobs 65",
     "slotctl draw --ids 1 --seed 1 --steps 1 --world grid",
     "slotctl draw --ids 1 --seed 1 --steps 1 --world splitter",
     "slotctl draw --ids 1 --seed 1 --steps 1 --m 17",
@@ -61,11 +62,11 @@ fn drawings_are_read(rt: HostRuntime) {
     for (line, want) in [
         (
             "slotctl draw --seed 7 --ids 1 --steps 3",
-            (7, 1, 3, 0, WorldKind::Rename),
+            (7, 1, 3, 0, 0, WorldKind::Rename),
         ),
         (
-            "slotctl draw --world tree --runs 1000 --steps 1000000 --ids 64 --m 64 --seed 18446744073709551615",
-            (u64::MAX, 64, 1_000_000, 1_000, WorldKind::Tree),
+            "slotctl draw --world tree --runs 1000 --jobs 64 --steps 1000000 --ids 64 --m 64 --seed 18446744073709551615",
+            (u64::MAX, 64, 1_000_000, 1_000, 64, WorldKind::Tree),
         ),
     ] {
         assert_eq!(rt; drawing(rt.alloc(), line), Some(want), "{line}");

@@ -11,6 +11,7 @@ use std::io;
 use std::io::Read;
 use std::sync::atomic::{AtomicBool, AtomicU64, Ordering};
 use std::test::Fail;
+use std::thread::Threads;
 use std::time::{Clock, Duration};
 use test_doubles::{Cup, Drip, Refusing};
 
@@ -18,6 +19,7 @@ use test_doubles::{Cup, Drip, Refusing};
 #[test]
 fn serving_is_left(rt: HostRuntime) {
     let left = runs(
+        &rt,
         rt.alloc(),
         &["slotctl", "serve", "--m", "1"],
         b"begin 7\n".as_slice(),
@@ -31,6 +33,7 @@ fn serving_is_left(rt: HostRuntime) {
 #[test]
 fn hosting_is_left(rt: HostRuntime) {
     let left = runs(
+        &rt,
         rt.alloc(),
         &["slotctl", "host", "--journal", "a"],
         b"begin 7\n".as_slice(),
@@ -42,7 +45,7 @@ fn hosting_is_left(rt: HostRuntime) {
 
 #[test]
 fn schedules_are_drawn(rt: HostRuntime) {
-    let rows: [(&str, &[u8]); 2] = [
+    let rows: [(&str, &[u8]); 3] = [
         (
             "slotctl draw --seed 7 --ids 1 --steps 3",
             b"begin 1\nstep 1\nstep 1\nstep 1\n",
@@ -51,9 +54,16 @@ fn schedules_are_drawn(rt: HostRuntime) {
             "slotctl draw --seed 7 --ids 1 --steps 9 --runs 2 --m 1",
             b"run 0 begun 1 named 1 spent 0\nrun 1 begun 1 named 1 spent 0\n",
         ),
+        (
+            "slotctl draw --seed 7 --ids 1 --steps 9 --runs 3 --jobs 2 --m 1",
+            b"run 0 begun 1 named 1 spent 0\nrun 1 begun 1 named 1 spent 0\nrun 2 begun 1 named 1 spent 0\n",
+        ),
     ];
     for (line, text) in rows {
-        assert!(rt; writes(rt.alloc(), line, b"begin 8\n", 0, text), "{line}");
+        assert!(rt;
+            writes(&rt, rt.alloc(), line, b"begin 8\n", 0, text),
+            "{line}"
+        );
     }
 }
 
@@ -80,7 +90,12 @@ fn failures_are_told(rt: HostRuntime) -> Result<(), Fail> {
 }
 
 // What is done for the words of a line over this input, and what is written.
-fn done(alloc: Global, line: &str, input: &[u8]) -> Result<(Result<u8, Fault>, Vec<u8>), Misuse> {
+fn done<T: Threads + Sync>(
+    threads: &T,
+    alloc: Global,
+    line: &str,
+    input: &[u8],
+) -> Result<(Result<u8, Fault>, Vec<u8>), Misuse> {
     let words: Vec<&str> = line.split(' ').collect(alloc)?;
     let asked = ask(alloc, words.as_slice())?;
     let mut reader = Tried::new(input);
@@ -91,13 +106,20 @@ fn done(alloc: Global, line: &str, input: &[u8]) -> Result<(Result<u8, Fault>, V
     if let Ask::Serve(_) | Ask::Host(_) = asked {
         return Ok((Err(Fault::Memory), writer.into_inner()));
     }
-    let outcome = work(alloc, asked, &mut reader, &mut writer);
+    let outcome = work(threads, alloc, asked, &mut reader, &mut writer);
     Ok((outcome, writer.into_inner()))
 }
 
 // That the words of a line end with this status over this input, and write this text.
-fn writes(alloc: Global, line: &str, input: &[u8], status: u8, text: &[u8]) -> bool {
-    match done(alloc, line, input) {
+fn writes<T: Threads + Sync>(
+    threads: &T,
+    alloc: Global,
+    line: &str,
+    input: &[u8],
+    status: u8,
+    text: &[u8],
+) -> bool {
+    match done(threads, alloc, line, input) {
         Ok((Ok(ended), written)) => ended == status && written.as_slice() == text,
         _ => false,
     }
@@ -164,16 +186,29 @@ const PLAYED: [(&str, &[u8], &[u8]); 10] = [
 #[test]
 fn commands_are_played(rt: HostRuntime) {
     for (line, input, text) in PLAYED {
-        assert!(rt; writes(rt.alloc(), line, input, 0, text), "{line}");
+        assert!(rt; writes(&rt, rt.alloc(), line, input, 0, text), "{line}");
     }
 }
 
 // That a record of the header and of these lines is told so by `check`.
-fn is_checked(alloc: Global, lines: &[u8], status: u8, text: &[u8]) -> Result<bool, Fail> {
+fn is_checked<T: Threads + Sync>(
+    threads: &T,
+    alloc: Global,
+    lines: &[u8],
+    status: u8,
+    text: &[u8],
+) -> Result<bool, Fail> {
     let mut record = Vec::new(alloc);
     record.extend_from_slice(HEADER)?;
     record.extend_from_slice(lines)?;
-    Ok(writes(alloc, "slotctl check", record.as_slice(), status, text))
+    Ok(writes(
+        threads,
+        alloc,
+        "slotctl check",
+        record.as_slice(),
+        status,
+        text,
+    ))
 }
 
 const HEADER: &[u8] =
@@ -196,13 +231,17 @@ fn records_are_checked(rt: HostRuntime) -> Result<(), Fail> {
         (b"{\"command\":\"begin 10\"", 1, b"bad record 2\n"),
     ];
     for (lines, status, text) in rows {
-        assert!(rt; is_checked(rt.alloc(), lines, status, text)?, "{lines:?}");
+        assert!(rt;
+            is_checked(&rt, rt.alloc(), lines, status, text)?,
+            "{lines:?}"
+        );
     }
     Ok(())
 }
 
 // A record of six lines in which 10 is named, with or without a view, is told so by `check`.
-fn is_checked_with(
+fn is_checked_with<T: Threads + Sync>(
+    threads: &T,
     alloc: Global,
     version: &str,
     view: &str,
@@ -218,7 +257,14 @@ fn is_checked_with(
 {{\"command\":\"step 20\",\"reply\":\"proposed 1\"}}
 "
     )?;
-    Ok(writes(alloc, "slotctl check", record.as_bytes(), status, text))
+    Ok(writes(
+        threads,
+        alloc,
+        "slotctl check",
+        record.as_bytes(),
+        status,
+        text,
+    ))
 }
 
 #[test]
@@ -232,7 +278,7 @@ fn views_of_names_are_checked(rt: HostRuntime) -> Result<(), Fail> {
         ("3", ",\"view\":\"10:1\"", 1, b"bad record 1\n"),
     ];
     for (version, view, status, text) in rows {
-        let checked = is_checked_with(rt.alloc(), version, view, status, text)?;
+        let checked = is_checked_with(&rt, rt.alloc(), version, view, status, text)?;
         assert!(rt; checked, "{version} {view}");
     }
     Ok(())
@@ -251,7 +297,7 @@ fn records_are_migrated(rt: HostRuntime) {
         (&old[..100], 1, b"bad record 2\n"),
     ] {
         assert!(rt;
-            writes(rt.alloc(), "slotctl migrate", record, status, text),
+            writes(&rt, rt.alloc(), "slotctl migrate", record, status, text),
             "{text:?}"
         );
     }
@@ -277,7 +323,7 @@ fn shown(alloc: Global, record: &[u8], from: u64) -> Option<(Verdict, usize, u64
 #[test]
 fn records_are_shown(rt: HostRuntime) -> Result<(), Fail> {
     let alloc = rt.alloc();
-    let record = recorded(alloc, "slotctl play --record --m 2")?;
+    let record = recorded(&rt, alloc, "slotctl play --record --m 2")?;
     for (from, want) in [(1, 3), (407, 2), (500, 0)] {
         match shown(alloc, record.as_slice(), from) {
             Some((Verdict::Yes, _, rows)) => assert_eq!(rt; rows, want, "from {from}"),
@@ -290,7 +336,7 @@ fn records_are_shown(rt: HostRuntime) -> Result<(), Fail> {
 }
 
 // The record that the words of a line ask for, over what two do.
-fn recorded(alloc: Global, line: &str) -> Result<Vec<u8>, Fail> {
+fn recorded<T: Threads + Sync>(threads: &T, alloc: Global, line: &str) -> Result<Vec<u8>, Fail> {
     let mut input = Vec::new(alloc);
     input.extend_from_slice(
         b"begin 10\nbegin 20\nbegin 10\nenter 5\nprobe 5\nput 5 9\nget 5\nleave 5\n",
@@ -298,7 +344,7 @@ fn recorded(alloc: Global, line: &str) -> Result<Vec<u8>, Fail> {
     for _ in 0..200u64 {
         input.extend_from_slice(b"step 10\nstep 20\n")?;
     }
-    let (_, record) = done(alloc, line, input.as_slice())?;
+    let (_, record) = done(threads, alloc, line, input.as_slice())?;
     Ok(record)
 }
 
@@ -308,8 +354,15 @@ fn a_record_of_play_is_checked(rt: HostRuntime) -> Result<(), Fail> {
         "slotctl play --record --world rename --m 2",
         "slotctl play --record --world tree --m 2",
     ] {
-        let record = recorded(rt.alloc(), line)?;
-        let checked = writes(rt.alloc(), "slotctl check", record.as_slice(), 0, b"yes\n");
+        let record = recorded(&rt, rt.alloc(), line)?;
+        let checked = writes(
+            &rt,
+            rt.alloc(),
+            "slotctl check",
+            record.as_slice(),
+            0,
+            b"yes\n",
+        );
         assert!(rt; checked, "{line}");
     }
     Ok(())
@@ -353,14 +406,18 @@ fn a_read_fault_ends_the_run(rt: HostRuntime) -> Result<(), Fail> {
     }
     let mut reader = Tried::new(Drip::new(b"begin 7\nstep 7\nstep 7", 1, 22));
     let mut writer = Tried::new(Vec::new(alloc));
-    let outcome = work(alloc, asked, &mut reader, &mut writer);
+    let outcome = work(&rt, alloc, asked, &mut reader, &mut writer);
     assert!(rt; matches!(outcome, Err(Fault::Read)));
     assert_eq!(rt; writer.into_inner().as_slice(), b"ok\nquiet\n".as_slice());
     Ok(())
 }
 
 // That a run by the words of a line, over a writer that takes seven bytes and then fails, ends at the fault after those.
-fn is_cut_by_a_write_fault(alloc: Global, line: &str) -> Result<bool, Fail> {
+fn is_cut_by_a_write_fault<T: Threads + Sync>(
+    threads: &T,
+    alloc: Global,
+    line: &str,
+) -> Result<bool, Fail> {
     let words: Vec<&str> = line.split(' ').collect(alloc)?;
     let asked = ask(alloc, words.as_slice())?;
     if let Ask::Show(_) = asked {
@@ -371,7 +428,7 @@ fn is_cut_by_a_write_fault(alloc: Global, line: &str) -> Result<bool, Fail> {
     }
     let mut reader = Tried::new(b"begin 7\nstep 7\n".as_slice());
     let mut writer = Tried::new(Cup::new(alloc, 7, 2, false));
-    let outcome = work(alloc, asked, &mut reader, &mut writer);
+    let outcome = work(threads, alloc, asked, &mut reader, &mut writer);
     let is_cut = writer.into_inner().taken.as_slice() == b"ok\nquie".as_slice();
     Ok(matches!(outcome, Err(Fault::Write)) && is_cut)
 }
@@ -379,7 +436,7 @@ fn is_cut_by_a_write_fault(alloc: Global, line: &str) -> Result<bool, Fail> {
 #[test]
 fn a_write_fault_ends_the_run(rt: HostRuntime) -> Result<(), Fail> {
     for line in ["slotctl play --world splitter --m 2", "slotctl play --m 2"] {
-        assert!(rt; is_cut_by_a_write_fault(rt.alloc(), line)?, "{line}");
+        assert!(rt; is_cut_by_a_write_fault(&rt, rt.alloc(), line)?, "{line}");
     }
     Ok(())
 }
@@ -408,7 +465,8 @@ fn taking_all(alloc: Global) -> Cup {
 
 // That the program with these words ends with this status, or with 100 is left to serve, and what it writes and tells on
 // the standard error are these texts.
-fn runs<R: Read + Drop>(
+fn runs<T: Threads + Sync, R: Read + Drop>(
+    threads: &T,
     alloc: Global,
     words: &[&str],
     input: R,
@@ -418,7 +476,7 @@ fn runs<R: Read + Drop>(
     let mut reader = Tried::new(input);
     let mut writer = Tried::new(output);
     let mut errors = Vec::new(alloc);
-    let outcome = program(alloc, words, &mut reader, &mut writer, &mut errors);
+    let outcome = program(threads, alloc, words, &mut reader, &mut writer, &mut errors);
     let ended = match outcome {
         Outcome::Ended(status) => status,
         Outcome::Serve(_) | Outcome::Host(_) => 100,
@@ -459,7 +517,14 @@ fn statuses_and_texts_are_those_of_the_protocol(rt: HostRuntime) {
     ];
     for (words, status, text, told) in rows {
         let input = b"begin 7\nstep 7".as_slice();
-        let right = runs(alloc, words, input, taking_all(alloc), (status, text, told));
+        let right = runs(
+            &rt,
+            alloc,
+            words,
+            input,
+            taking_all(alloc),
+            (status, text, told),
+        );
         assert!(rt; right, "at {words:?}");
     }
 }
@@ -480,7 +545,7 @@ fn faults_have_status_3_and_a_text(rt: HostRuntime) {
         let input = Drip::new(input, reads.0, reads.1);
         let output = Cup::new(rt.alloc(), writes.0, writes.1, false);
         assert!(rt;
-            runs(rt.alloc(), words, input, output, (3, text, told)),
+            runs(&rt, rt.alloc(), words, input, output, (3, text, told)),
             "{words:?}"
         );
     }
@@ -502,6 +567,7 @@ fn faults_of_a_record_have_status_3(rt: HostRuntime) {
         let output = Cup::new(rt.alloc(), 7, write_at, false);
         assert!(rt;
             runs(
+                &rt,
                 rt.alloc(),
                 &["slotctl", word],
                 input,
