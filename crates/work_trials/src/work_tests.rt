@@ -303,7 +303,7 @@ fn records_are_migrated(rt: HostRuntime) {
     }
 }
 
-// What is said of a record that is shown from this event on, three at most, and how many LFs are written and stand before a bracket.
+// What is said of a record that is shown from this event on, three at most, how many bytes are written, and how many rows of events.
 fn shown(alloc: Global, record: &[u8], from: u64) -> Option<(Verdict, usize, u64)> {
     let showing = Showing::new(from, 3)?;
     let mut reader = Tried::new(record);
@@ -312,6 +312,9 @@ fn shown(alloc: Global, record: &[u8], from: u64) -> Option<(Verdict, usize, u64
     let page = writer.into_inner();
     let mut rows = 0u64;
     for line in page.split(|byte| *byte == b'\n') {
+        if line.starts_with(b"null],\"before\"") {
+            break;
+        }
         if line.starts_with(b"[\"") {
             rows = rows.wrapping_add(1);
         }
@@ -442,10 +445,10 @@ fn a_write_fault_ends_the_run(rt: HostRuntime) -> Result<(), Fail> {
 }
 
 const HELP: &[u8] =
-    b"Plays schedules of shared-memory algorithms, one access a step\n\nUsage: slotctl <COMMAND>\n\nCommands:\n  play     Plays the commands of the standard input, and writes a reply to each\n  check    Checks the record of the standard input, and writes its verdict\n  migrate  Writes the record of the standard input again, in version 2\n  show     Writes the record of the standard input as a page that shows its run\n  draw     Draws schedules, and writes one, or a line for each of many that are played\n  serve    Serves the commands of connections to 127.0.0.1, over one hall\n  host     Hosts a hall: clients of a socket in one thread, with a journal\n  help     Print this message or the help of the given subcommand(s)\n\nOptions:\n  -h, --help  Print help\n";
+    b"Plays schedules of shared-memory algorithms, one access a step\n\nUsage: slotctl <COMMAND>\n\nCommands:\n  play     Plays the commands of the standard input, and writes a reply to each\n  check    Checks the record of the standard input, and writes its verdict\n  migrate  Writes the record of the standard input again, in version 2\n  show     Writes the record of the standard input as a page that shows its run\n  draw     Draws schedules, and writes one, or a line for each of many that are played\n  serve    Serves the commands of connections to 127.0.0.1, over one hall\n  host     Hosts a hall: clients of a socket in one thread, with a journal\n  help     Print this message or the help of the given subcommand(s)\n\nOptions:\n  -h, --help     Print help\n  -V, --version  Print version\n";
 
 const PLAY_HELP: &[u8] =
-    b"Plays the commands of the standard input, and writes a reply to each\n\nUsage: slotctl play [OPTIONS]\n\nOptions:\n      --world <NAME>    what is played: splitter, grid, rename or tree [default: rename]\n      --m <NUMBER>      the most participants, from 1 to 16, or to 64 in the world tree [default: 4]\n      --k <NUMBER>      the size of the pool, from 1 to 64 [default: 4]\n      --limit <NUMBER>  the most proposals of each participant, from 1 to 1000000 [default: 1000]\n      --record          writes the record of the run in place of the replies\n  -h, --help            Print help\n";
+    b"Plays the commands of the standard input, and writes a reply to each\n\nUsage: slotctl play [OPTIONS]\n\nOptions:\n      --world <NAME>    what is played: splitter, grid, rename or tree [default: rename]\n      --m <NUMBER>      the most participants, from 1 to 16, or to 64 in the world tree [default: 4]\n      --k <NUMBER>      the size of the pool, from 1 to 64 [default: 4]\n      --limit <NUMBER>  the most proposals of each participant, from 1 to 1000000 [default: 1000]\n      --record          writes the record of the run in place of the replies\n  -h, --help            Print help\n\nExamples:\n  slotctl play --m 2 < lines\n  printf 'begin 10\\nstep 10\\n' | slotctl play --world grid\n";
 
 const NO_SUBCOMMAND: &[u8] =
     b"error: 'slotctl' requires a subcommand but one was not provided\n  [subcommands: play, check, migrate, show, draw, serve, host, help]\n\nUsage: slotctl <COMMAND>\n\nFor more information, try '--help'.\n";
