@@ -1,5 +1,5 @@
 -- the record of another hall in place of all that was written
-use Rattle.std.proofs.Common.{◌≡◌, ℕ, zero, suc, ◌+◌, ◌≤◌, List, [], ◌∷◌, ◌++◌, Some, inl, inr, length, take, flat_map, refl, ap, sym, ◌∙◌, subst, append_assoc, arith, add-one}
+use Rattle.std.proofs.Common.{◌≡◌, Bool, true, false, ℕ, zero, suc, ◌+◌, ◌≤◌, List, [], ◌∷◌, ◌++◌, Some, inl, inr, length, take, flat_map, refl, ap, sym, ◌∙◌, subst, append_assoc, arith, add-one}
 use Rattle.std.specs.Prelude.{slice_get}
 use Rattle.std.proofs.lemmas.List.{append-nil, take_all}
 use Rattle.std.proofs.lemmas.Grind.{flat_map-append}
@@ -12,7 +12,8 @@ use Rattle.journal_disk.specs.DiskState.{DiskState}
 use Rattle.journal_disk.specs.Disks.{MayLeaveEither, replaced_by}
 use Rattle.journal.specs.ChronicleState.{ChronicleState}
 use Rattle.journal.specs.Chronicles.{record_of_hall, hall_after_first, chronicle_of}
-use Rattle.journal.specs.Compactings.{LeavesEither, KeepsEither}
+use Rattle.hall_compaction.specs.Compactions.{IsCompacted}
+use Rattle.journal.specs.Compactings.{LeavesEither, TakesHall, HasCompacted, MayCompact}
 use Rattle.journal.specs.Journals.{HasSynced, LeavesHall}
 use Rattle.journal.proofs.Commits.{told_all}
 use Rattle.journal.proofs.Crashes.{cut_record}
@@ -53,3 +54,8 @@ module _ (once : (bytes : List ℕ) → IsCutOnce bytes) where
 -- it is written, and surely there
 pub replaced_synced : (new : HallState) (s t : DiskState) → t ≡ replaced_by s (record_of_hall new) → HasSynced (chronicle_of new (length new.history)) t
 replaced_synced new s t is = subst (λ (x : DiskState). HasSynced (chronicle_of new (length new.history)) x) (sym is) (record { contents = sym (told_all new); synced = refl })
+
+-- what became of the chronicle
+pub may_compact : (done : Bool) (new : HallState) (c u : ChronicleState) → IsCompacted c.hall new → TakesHall done new c u → MayCompact c u
+may_compact true new c u k is = inr (subst (λ (x : ChronicleState). HasCompacted c x) (sym is) (record { compacted = k; told = refl }))
+may_compact false new c u k is = inl is
