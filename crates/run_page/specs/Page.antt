@@ -1,5 +1,5 @@
 -- the page of a record (this project's profile)
-use Rattle.std.specs.Prelude.{◌≡◌, ℕ, ◌-◌, ◌==◌, Bool, nat_le, if◌then◌else◌, List, [], ◌∷◌, ◌++◌, length, take, drop, flat_map, codes, decimal}
+use Rattle.std.specs.Prelude.{◌≡◌, ℕ, ◌-◌, ◌==◌, Bool, nat_le, if◌then◌else◌, List, [], ◌++◌, length, take, drop, flat_map, codes, decimal}
 use Rattle.std.specs.List.{list_any}
 use Rattle.desk.specs.Desk.{fresh_desk}
 use Rattle.desk.specs.DeskValue.{DeskValue}

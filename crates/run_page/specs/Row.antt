@@ -65,7 +65,8 @@ held_words (Some word) = decimal word
 -- the reply, the access, what then stands in its register, where whose event it is then stands, and the size of the pool
 abbrev pub done_words : Done → List ℕ
 done_words d =
-    reply_words d.reply ++ codes "\",\"" ++ access_words d.access ++ codes "\",\"" ++ held_words d.held ++ codes "\",\"" ++ standing_words Data d.standing ++ codes "\",\"" ++ decimal d.size
+    reply_words d.reply ++ codes "\",\"" ++ access_words d.access ++ codes "\",\"" ++ held_words d.held
+    ++ codes "\",\"" ++ standing_words Data d.standing ++ codes "\",\"" ++ decimal d.size
 
 -- only what parts them where nothing was done
 abbrev pub words_of : Option Done → List ℕ

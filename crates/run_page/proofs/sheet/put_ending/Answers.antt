@@ -1,4 +1,3 @@
-use Rattle.std.proofs.Common.{refl}
 use Rattle.run_page.specs.declared.form.Form.TheVariants.{Item}
 use Rattle.run_page.specs.Page.{closing_data, page_between, page_middle, page_tail}
 use Rattle.run_page.specs.State.{state}

@@ -1,4 +1,4 @@
-use Rattle.std.proofs.Common.{Bor, MatchOption, ◌≡◌, List, ℕ, ◌∷◌, Option, Some, inl, subst}
+use Rattle.std.proofs.Common.{Bor, MatchOption, ◌≡◌, List, ℕ, Option, Some, inl, subst}
 use Rattle.std.specs.Option.{option_copied}
 use Rattle.record_lines.specs.declared.header.Header.{Header}
 use Rattle.record_lines.specs.Records.{record_lines, lines_left}

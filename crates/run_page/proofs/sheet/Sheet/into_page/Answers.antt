@@ -17,8 +17,8 @@ returns c =
     record {
       same = same_stretch s.stretch c.args.stretch c.if-kept-stretch.false c.if-kept-stretch-2.false;
       text_is =
-      c.in_ok-put_ending.ensures
-      ∙ ap (λ (ids : List ℕ). s.text ++ ending told s.desk ids c.deref-4.result.now s.seen s.listed) c.deref-3.ensures.value
-      ∙ ap (λ (places : List ℕ). s.text ++ ending told s.desk s.begun.items places s.seen s.listed) c.deref-4.ensures.value
-      ∙ ap (λ (t : List ℕ). s.text ++ ending t s.desk s.begun.items s.reached.items s.seen s.listed) before_is;
+          c.in_ok-put_ending.ensures
+          ∙ ap (λ (ids : List ℕ). s.text ++ ending told s.desk ids c.deref-4.result.now s.seen s.listed) c.deref-3.ensures.value
+          ∙ ap (λ (places : List ℕ). s.text ++ ending told s.desk s.begun.items places s.seen s.listed) c.deref-4.ensures.value
+          ∙ ap (λ (t : List ℕ). s.text ++ ending t s.desk s.begun.items s.reached.items s.seen s.listed) before_is;
     }
