@@ -34,6 +34,15 @@ pub struct Journal<D: Disk> {
     pub(crate) ended: bool,
 }
 
+/// After this fault of the disk nothing more is written.
+fn end(ended: &mut bool, fault: DiskFault) -> JournalFault
+    ensures fault { result ≡ JournalFault.Disk fault }
+    ensures ended { ended.new ≡ true }
+{
+    *ended = true;
+    JournalFault::Disk(fault)
+}
+
 impl<D: Disk> Journal<D> {
     /// Writes bytes behind the others, and waits until they are surely there.
     fn write(&mut self, bytes: &[u8]) -> Result<(), DiskFault>
@@ -43,15 +52,6 @@ impl<D: Disk> Journal<D> {
         self.disk.append(bytes)?;
         self.disk.sync()?;
         Ok(())
-    }
-
-    /// After this fault of the disk nothing more is written.
-    fn end(&mut self, fault: DiskFault) -> JournalFault
-        ensures fault { result ≡ JournalFault.Disk fault }
-        ensures ended { self.new ≡ record self.old { ended = true } }
-    {
-        self.ended = true;
-        JournalFault::Disk(fault)
     }
 
     /// Writes the lines that wait and waits until they are surely there; then they are handed on. After a fault nothing is ever written
@@ -76,7 +76,7 @@ impl<D: Disk> Journal<D> {
                 chronicle.hand_on();
                 Ok(())
             }
-            Err(fault) => Err(self.end(fault)),
+            Err(fault) => Err(end(&mut self.ended, fault)),
         }
     }
 }
@@ -115,7 +115,7 @@ impl<D: Disk> Journal<D> {
                 chronicle.replace_hall(hall);
                 Ok(true)
             }
-            Err(fault) => Err(self.end(fault)),
+            Err(fault) => Err(end(&mut self.ended, fault)),
         }
     }
 

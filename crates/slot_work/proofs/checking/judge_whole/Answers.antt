@@ -1,7 +1,7 @@
 use Rattle.std.proofs.Common.{◌≡◌, ◌≢◌, ◌++◌, [], inl, arith, refl, take, subst, ℕ, rules}
 use Rattle.std.proofs.lemmas.List.{append-nil}
 use Rattle.std.specs.Io.KnownBytes.{Consumes}
-use Rattle.run_checker.specs.Stages.{HasTakenAll}
+use Rattle.record_lines.specs.Records.{record_lines}
 use Rattle.slot_work.proofs.ReadLemmas.{nothing_read, read_more, read_all, said_some}
 use Rattle.slot_work.proofs.checking.judge_whole.Goals as goal
 
@@ -26,4 +26,25 @@ loop-reads-preserved g c =
       chunk = omega (arith, c.read_once.auto.buf, inv.chunk);
       reads = (let called = c.in-Ok.ensures.called in let before = inv.reads in omega arith);
       no_read_failed = (let failed = c.in-Ok.ensures.failed in let before = inv.no_read_failed in omega arith);
+    }
+
+pub returns-in-Ok-verdict-clause-judged : goal.returns-in-Ok-verdict-clause-judged
+returns-in-Ok-verdict-clause-judged g c =
+    let inv = c.loop-reads.invariant in
+    let had = g.R.Read.remaining c.args.reader.now in
+    let mid = g.R.Read.remaining c.loop-reads.reader in
+    let left = g.R.Read.remaining c.read_once.new.self in
+    let seen = inv.came.seen in
+    let none : Consumes mid left [] = subst (λ (n : ℕ). Consumes mid left (take n c.read_once.new.buf)) c.if-count-eq0.true c.in-Ok.ensures.bytes.0 in
+    let came : Consumes had left seen = rw append-nil at (read_more had mid left seen [] inv.came.came none) in
+    let said = c.in-Ok-verdict.ensures seen inv.came.taken in
+    record {
+      input = seen;
+      whole = record {
+        all = read_all had left seen came (c.in-Ok.ensures.bytes.1 c.if-count-eq0.true (omega (arith, c.read_once.auto.buf, inv.chunk)));
+        read = came;
+        no_read_failed = (let failed = c.in-Ok.ensures.failed in let before = inv.no_read_failed in omega arith);
+      };
+      verdict = inl said;
+      some = said_some (record_lines seen) c.in-Ok-verdict.verdict said;
     }
