@@ -1,0 +1,12 @@
+use Rattle.std.proofs.Common.{inl, subst}
+use Rattle.locked_world.specs.HallState.{HallState}
+use Rattle.hall_compaction.specs.Compactions.{IsCompacted}
+use Rattle.journal.proofs.journal.Journal.compact_when_due.Goals as goal
+
+pub returns-in-Ok-clause-any_moment : goal.returns-in-Ok-clause-any_moment
+returns-in-Ok-clause-any_moment g c = λ stands.
+    inl (c.in-Some.hall, subst (λ (h : HallState). IsCompacted h c.in-Some.hall) c.hall-2.ensures c.in-Some.ensures, c.compact.ensures.any_moment stands)
+
+pub returns-in-Err-clause-any_moment : goal.returns-in-Err-clause-any_moment
+returns-in-Err-clause-any_moment g c = λ stands.
+    inl (c.in-Some.hall, subst (λ (h : HallState). IsCompacted h c.in-Some.hall) c.hall-2.ensures c.in-Some.ensures, c.compact.ensures.any_moment stands)
