@@ -1,5 +1,5 @@
 -- what is kept of a turn
-use Rattle.std.proofs.Common.{◌≡◌, ◌⊎◌, ◌≤◌, length, Option, Some, inl, inr, refl, ap, sym, subst}
+use Rattle.std.proofs.Common.{◌≡◌, ◌⊎◌, ◌≤◌, length, Option, Some, Result, Ok, Err, OnOk, inl, inr, refl, ap, sym, subst}
 use Rattle.journal_disk.specs.DiskState.{DiskState}
 use Rattle.journal.specs.declared.journal.Journal.{Journal}
 use Rattle.journal.specs.ChronicleState.{ChronicleState}
@@ -34,3 +34,8 @@ then_compacted state j k l c mid u is stands any_moment compacted stands_then an
   stands_then = λ h. stands_then (subst (Stands state k) (sym is) h);
   any_moment_then = λ h. subst (KeepsWhenCompacted state k l) is (any_moment_then (subst (Stands state k) (sym is) h));
 }
+
+-- what holds of an answer by two facts of it
+pub on_ok_two : {T E : Type 0} {A B C : Type 0} (r : Result T E) → (A → B → C) → OnOk r A → OnOk r B → OnOk r C
+on_ok_two (Ok x) f a b = f a b
+on_ok_two (Err e) f a b = tt
