@@ -5,13 +5,11 @@ use commands::{Config, Event, WorldKind};
 use hall_compaction::{Compactor, compacted};
 use locked_world::Hall;
 use std::alloc::Global;
-use std::process::Abort;
-use std::test::Fail;
 
-/// A hall of this world, for so many numbers.
-fn hall(alloc: Global, world: WorldKind, k: u64) -> Result<Hall, Fail> {
-    let config = Config::new(world, 4, k, 1000).map_err(|_| "config")?;
-    Ok(Hall::new(alloc, config).map_err(|_| "hall")?)
+/// A hall of this world, for so many numbers; none where memory was refused.
+fn hall(alloc: Global, world: WorldKind, k: u64) -> Option<Hall> {
+    let config = Config::new(world, 4, k, 1000).ok()?;
+    Hall::new(alloc, config).ok()
 }
 
 /// Lets one enter, take a number and leave, so many times.
@@ -32,87 +30,110 @@ fn draw(hall: &mut Hall, words: &mut Words, k: u64, count: u64) {
     }
 }
 
-/// Both halls answer so many drawn events alike.
-fn answer_alike(rt: &impl Abort, one: &mut Hall, other: &mut Hall, words: &mut Words, k: u64) {
-    for _ in 0..40 {
+/// Whether both halls answer an event alike.
+fn answers_alike(one: &mut Hall, other: &mut Hall, event: Event) -> bool {
+    one.apply(event) == other.apply(event)
+}
+
+/// To how many of so many drawn events both halls answer alike.
+fn alike(one: &mut Hall, other: &mut Hall, words: &mut Words, k: u64, count: u64) -> u64 {
+    let mut alike = 0u64;
+    for _ in 0..count {
         let event = words.event(k, k.saturating_add(2));
-        assert!(rt; one.apply(event) == other.apply(event), "{event:?}");
+        if answers_alike(one, other, event) {
+            alike = alike.saturating_add(1);
+        }
+    }
+    alike
+}
+
+/// Whether a hall is built anew with fewer events, and both answer forty drawn events alike after it.
+fn stands_as(alloc: Global, old: &mut Hall, words: &mut Words, k: u64) -> bool {
+    match compacted(alloc, old) {
+        Some(mut new) => new.len() < old.len() && alike(old, &mut new, words, k, 40) == 40,
+        None => false,
     }
 }
 
-/// A hall of so many numbers with drawn events is built anew, with fewer, and both answer alike after it.
-fn is_built_anew(
-    rt: &impl Abort,
-    alloc: Global,
-    (seed, k, padding): (u64, u64, usize),
-) -> Result<(), Fail> {
+/// Whether a hall of so many numbers with drawn events, behind stays that leave nothing, is built anew.
+fn is_built_anew(alloc: Global, seed: u64, k: u64, padding: usize) -> bool {
     let world = if seed % 2 == 0 {
         WorldKind::Rename
     } else {
         WorldKind::Tree
     };
     let mut words = Words::new(seed);
-    let mut old = hall(alloc, world, k)?;
-    pad(&mut old, padding);
-    let count = words.below(k.saturating_mul(8).saturating_add(30));
-    draw(&mut old, &mut words, k, count);
-    let Some(mut new) = compacted(alloc, &old) else {
-        assert!(rt; false, "seed {seed}, {k} numbers, {} events", old.len());
-        return Ok(());
-    };
-    assert!(rt; new.len() < old.len());
-    answer_alike(rt, &mut old, &mut new, &mut words, k);
-    Ok(())
+    match hall(alloc, world, k) {
+        Some(mut old) => {
+            pad(&mut old, padding);
+            let count = words.below(k.saturating_mul(8).saturating_add(30));
+            draw(&mut old, &mut words, k, count);
+            stands_as(alloc, &mut old, &mut words, k)
+        }
+        None => false,
+    }
 }
 
 #[test]
-fn drawn_halls_of_few_numbers(rt: HostRuntime) -> Result<(), Fail> {
+fn drawn_halls_of_few_numbers(rt: HostRuntime) {
     for seed in 0..9600 {
-        is_built_anew(&rt, rt.alloc(), (seed, seed % 6 + 1, 60))?;
+        assert!(rt;
+            is_built_anew(rt.alloc(), seed, seed % 6 + 1, 60),
+            "seed {seed}"
+        );
     }
-    Ok(())
 }
 
 #[test]
-fn drawn_halls_of_more_numbers(rt: HostRuntime) -> Result<(), Fail> {
+fn drawn_halls_of_more_numbers(rt: HostRuntime) {
     for seed in 0..380 {
-        is_built_anew(&rt, rt.alloc(), (seed, seed % 14 + 7, 1500))?;
+        assert!(rt;
+            is_built_anew(rt.alloc(), seed, seed % 14 + 7, 1500),
+            "seed {seed}"
+        );
     }
-    Ok(())
 }
 
 #[test]
-fn drawn_halls_of_all_numbers(rt: HostRuntime) -> Result<(), Fail> {
+fn drawn_halls_of_all_numbers(rt: HostRuntime) {
     for seed in 0..20 {
-        is_built_anew(&rt, rt.alloc(), (seed, 64 - seed % 4, 10_000))?;
+        assert!(rt;
+            is_built_anew(rt.alloc(), seed, 64 - seed % 4, 10_000),
+            "seed {seed}"
+        );
     }
-    Ok(())
+}
+
+/// Whether a hall is compacted behind so many stays that leave nothing.
+fn is_compacted_behind(alloc: Global, stays: usize) -> bool {
+    match hall(alloc, WorldKind::Rename, 4) {
+        Some(mut old) => {
+            pad(&mut old, stays);
+            compacted(alloc, &old).is_some()
+        }
+        None => false,
+    }
 }
 
 #[test]
-fn what_would_be_no_shorter_stays(rt: HostRuntime) -> Result<(), Fail> {
-    let mut old = hall(rt.alloc(), WorldKind::Rename, 4)?;
-    assert!(rt; compacted(rt.alloc(), &old).is_none());
-    let _ = old.apply(Event::Begin(7));
-    assert!(rt; compacted(rt.alloc(), &old).is_none());
-    pad(&mut old, 1);
-    assert!(rt; compacted(rt.alloc(), &old).is_some());
-    Ok(())
+fn what_would_be_no_shorter_stays(rt: HostRuntime) {
+    assert!(rt; !is_compacted_behind(rt.alloc(), 0));
+    assert!(rt; is_compacted_behind(rt.alloc(), 1));
+}
+
+/// Whether it is due behind so many stays.
+fn is_due_behind(alloc: Global, stays: usize) -> bool {
+    match hall(alloc, WorldKind::Rename, 4) {
+        Some(mut old) => {
+            pad(&mut old, stays);
+            Compactor::new().is_due(&old)
+        }
+        None => false,
+    }
 }
 
 #[test]
-fn it_is_due_where_the_history_is_long(rt: HostRuntime) -> Result<(), Fail> {
-    let mut compactor = Compactor::new();
-    let mut old = hall(rt.alloc(), WorldKind::Rename, 4)?;
-    pad(&mut old, 150_000);
-    assert!(rt; !compactor.is_due(&old));
-    pad(&mut old, 1);
-    assert!(rt; compactor.is_due(&old));
-    let Some(new) = compactor.compacted(rt.alloc(), &old) else {
-        assert!(rt; false, "not compacted");
-        return Ok(());
-    };
-    assert_eq!(rt; new.len(), 0);
-    assert!(rt; !compactor.is_due(&old));
-    Ok(())
+fn it_is_due_where_the_history_is_long(rt: HostRuntime) {
+    assert!(rt; !is_due_behind(rt.alloc(), 150_000));
+    assert!(rt; is_due_behind(rt.alloc(), 150_001));
 }
