@@ -9,6 +9,6 @@ returns-then-not-has_waiting g c =
 pub returns : goal.returns
 returns g c =
     on_ok_two c.compact_when_due.result (λ compacted stands.
-      then_compacted g.D.Disk.state c.args.self.now.journal c.commit.new.self c.compact_when_due.new.self.journal c.args.chronicle.now c.commit.new.chronicle c.compact_when_due.new.chronicle
-        c.in_ok-commit.ensures.told c.in_ok-commit.ensures.stands c.commit.ensures.any_moment compacted stands c.compact_when_due.ensures.any_moment)
+    then_compacted g.D.Disk.state c.args.self.now.journal c.commit.new.self c.compact_when_due.new.self.journal c.args.chronicle.now c.commit.new.chronicle c.compact_when_due.new.chronicle
+    c.in_ok-commit.ensures.told c.in_ok-commit.ensures.stands c.commit.ensures.any_moment compacted stands c.compact_when_due.ensures.any_moment)
     c.compact_when_due.ensures.compacted c.compact_when_due.ensures.stands

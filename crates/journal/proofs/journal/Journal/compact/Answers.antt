@@ -10,10 +10,14 @@ use Rattle.journal.proofs.journal.Journal.compact.Goals as goal
 
 pub returns-in_default-clause-any_moment : goal.returns-in_default-clause-any_moment
 returns-in_default-clause-any_moment g c = λ stands. (
-  λ s is. (s, is, record {
-    is = inl refl;
-    leaves = leaves_either c.law_of_lines.ensures.once c.args.chronicle.now c.args.hall s (stands.known s is) c.waiting.ensures.few;
-  }),
+  λ s is. (
+    s,
+    is,
+    record {
+      is = inl refl;
+      leaves = leaves_either c.law_of_lines.ensures.once c.args.chronicle.now c.args.hall s (stands.known s is) c.waiting.ensures.few;
+    },
+  ),
   λ none. none,
 )
 
@@ -31,11 +35,14 @@ pub returns-in-Ok-replace-clause-any_moment : goal.returns-in-Ok-replace-clause-
 returns-in-Ok-replace-clause-any_moment g c = λ stands. (
   λ s is.
       let after = c.in-Ok-replace.ensures.0 s is in
-      let record_is : c.deref.result.now ≡ record_of_hall c.args.hall = c.deref.ensures.value ∙ c.in-Ok.ensures in
-      (after.0, after.1, record {
-        is = inr (subst (λ (l : List ℕ). after.0 ≡ replaced_by s l) record_is after.2);
-        leaves = leaves_either c.law_of_lines.ensures.once c.args.chronicle.now c.args.hall s (stands.known s is) c.waiting.ensures.few;
-      }),
+      let record_is : c.deref.result.now ≡ record_of_hall c.args.hall = c.deref.ensures.value ∙ c.in-Ok.ensures in (
+        after.0,
+        after.1,
+        record {
+          is = inr (subst (λ (l : List ℕ). after.0 ≡ replaced_by s l) record_is after.2);
+          leaves = leaves_either c.law_of_lines.ensures.once c.args.chronicle.now c.args.hall s (stands.known s is) c.waiting.ensures.few;
+        },
+      ),
   c.in-Ok-replace.ensures.1,
 )
 
@@ -43,10 +50,13 @@ pub returns-in-Err-clause-any_moment : goal.returns-in-Err-clause-any_moment
 returns-in-Err-clause-any_moment g c = λ stands. (
   λ s is.
       let after = c.in-Err.ensures.0 s is in
-      let record_is : c.deref.result.now ≡ record_of_hall c.args.hall = c.deref.ensures.value ∙ c.in-Ok.ensures in
-      (after.0, after.1, record {
-        is = subst (λ (l : List ℕ). (after.0 ≡ s) ⊎ (after.0 ≡ replaced_by s l)) record_is after.2;
-        leaves = leaves_either c.law_of_lines.ensures.once c.args.chronicle.now c.args.hall s (stands.known s is) c.waiting.ensures.few;
-      }),
+      let record_is : c.deref.result.now ≡ record_of_hall c.args.hall = c.deref.ensures.value ∙ c.in-Ok.ensures in (
+        after.0,
+        after.1,
+        record {
+          is = subst (λ (l : List ℕ). (after.0 ≡ s) ⊎ (after.0 ≡ replaced_by s l)) record_is after.2;
+          leaves = leaves_either c.law_of_lines.ensures.once c.args.chronicle.now c.args.hall s (stands.known s is) c.waiting.ensures.few;
+        },
+      ),
   c.in-Err.ensures.1,
 )
