@@ -84,7 +84,7 @@ pub fn work<T: Threads + Sync, R: Source, W: Sink>(
     requires here { is_work ask ≡ true }
     requires reads { R.calls reader.old < 2 ^ 64 }
     requires writes { W.calls writer.old < 2 ^ 64 }
-    ensures { IsWorked ask (reading R.remaining R.calls R.failed) (writing W.contents W.failed) reader.old reader.new writer.old writer.new result }
+    ensures { IsWorked ask.entry (reading R.remaining R.calls R.failed) (writing W.contents W.failed) reader.old reader.new writer.old writer.new result }
 {
     match ask {
         Ask::Play(playing) => play_for(alloc, playing, reader, writer),
