@@ -12,6 +12,10 @@ use journal_disk::Disk;
 use locked_world::Hall;
 use std::alloc::Global;
 
+/// Where so many bytes of lines wait they are kept before the next connection has its turn: the lines of one more turn, 64 KiB of the
+/// shortest commands, have room behind them, since a chronicle refuses memory where a megabyte waits.
+const FULL_BYTES: usize = 262_144;
+
 /// Keeps nothing: the history of a hall ends with the program. It is compacted whenever it has grown long.
 #[derive(Drop)]
 pub struct Unrecorded {
@@ -77,7 +81,7 @@ impl<D: Disk> Keep<Chronicle> for Recorded<D> {
     ghost keeps = { KeptBy D.state };
 
     fn is_full(&self, chronicle: &Chronicle) -> bool {
-        chronicle.is_full()
+        FULL_BYTES < chronicle.waiting().len()
     }
 
     fn keep(&mut self, chronicle: &mut Chronicle) -> Result<(), JournalFault> {
