@@ -154,9 +154,15 @@ impl Hosting {
         })
     }
 
-    // For how long nothing need be done: no time where connections are due, a second where some are open, else any time.
+    // Whether a connection that waits can be accepted: the system tells only once that some wait.
+    fn can_accept(&self) -> bool {
+        self.waiting && !self.full && self.house.open < self.options.clients && !self.stop
+    }
+
+    // For how long nothing need be done: no time where connections are due or wait to be accepted, a second where some are open, else any
+    // time.
     fn next_wait(&self) -> Option<Duration> {
-        if !self.house.ready.is_empty() {
+        if self.can_accept() || !self.house.ready.is_empty() {
             Some(Duration::from_millis(0))
         } else if 0 < self.house.open || self.full || self.options.reports {
             Some(Duration::from_millis(1000))
@@ -192,7 +198,7 @@ impl Hosting {
     // Accepts who waits, as far as there is room.
     fn accept_all<E: Write, F>(&mut self, errors: &mut E) -> Result<(), HostFault<F>> {
         for _ in 0..MOST_ACCEPTS {
-            if !self.waiting || self.full || self.options.clients <= self.house.open || self.stop {
+            if !self.can_accept() {
                 break;
             }
             self.accept(errors)?;
