@@ -36,9 +36,10 @@ fn named_on_a_board<L: LockName, R: Wait + Abort>(
 
 #[test]
 fn a_name_is_shown_on_a_board(rt: HostRuntime) {
-    let opening = Opening::new(&rt, WorldKind::Rename, 4, 4);
-    assert_eq!(rt;
-        named_on_a_board::<Brand, _>(&rt, rt.alloc(), opening),
-        Some((1, true))
+    let shown = named_on_a_board::<Brand, _>(
+        &rt,
+        rt.alloc(),
+        Opening::new(&rt, WorldKind::Rename, 4, 4),
     );
+    assert_eq!(rt; shown, Some((1, true)));
 }
