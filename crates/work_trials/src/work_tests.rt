@@ -404,7 +404,7 @@ fn a_read_fault_ends_the_run(rt: HostRuntime) -> Result<(), Fail> {
     if let Ask::Show(_) = asked {
         panic!(rt; "to show is asked for");
     }
-    if let Ask::Serve(_) = asked {
+    if let Ask::Serve(_) | Ask::Host(_) = asked {
         panic!(rt; "to serve is asked for");
     }
     let mut reader = Tried::new(Drip::new(b"begin 7\nstep 7\nstep 7", 1, 22));
