@@ -1,5 +1,7 @@
 //! Turns of several connections over one desk.
 
+ghost use Rattle.std.specs.Prelude.{◌≡◌};
+
 use crate::pipe::Pipe;
 use commands::{Config, WorldKind};
 use desk::Desk;
