@@ -1,3 +1,3 @@
+mod Chains
 mod LogPlaces
-mod Once
 mod Shared

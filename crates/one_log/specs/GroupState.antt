@@ -1,6 +1,7 @@
--- A log in memory, and what each replica of it has applied.
+-- A log in memory, and its replicas.
 use Rattle.std.specs.Prelude.{ℕ, List}
+use Rattle.one_log.specs.ReplicaState.{ReplicaState}
 
-pub record GroupState : Type 0 where
+pub record GroupState (M : Type 0) : Type 0 where
   pub log : List (List ℕ)
-  pub applied : List (List (List ℕ))
+  pub replicas : List (ReplicaState M)

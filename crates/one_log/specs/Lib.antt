@@ -2,4 +2,5 @@ pub mod Causes
 pub mod Groups
 pub mod GroupState
 pub mod Places
+pub mod ReplicaState
 pub mod Replicas

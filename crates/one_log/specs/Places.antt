@@ -5,6 +5,10 @@ use Rattle.std.specs.Prelude.{◌≡◌, ℕ, List, Some, slice_get, ◌⊎◌}
 abbrev pub stands_in : List (List ℕ) → ℕ → List ℕ → Type 0
 stands_in log place entry = slice_get log place ≡ Some entry
 
+-- all that stood stands
+abbrev pub Keeps : (ℕ → List ℕ → Type 0) → (ℕ → List ℕ → Type 0) → Type 0
+Keeps before after = (place : ℕ) (entry : List ℕ) → before place entry → after place entry
+
 -- the same stands at each place
 pub record Same (before after : ℕ → List ℕ → Type 0) : Type 0 where
   pub keeps : (place : ℕ) (entry : List ℕ) → before place entry → after place entry

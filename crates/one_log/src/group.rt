@@ -1,6 +1,6 @@
 //! Several replicas that share one log in memory.
 
-ghost use Rattle.std.specs.Prelude.{◌≡◌, ◌≢◌, ◌<◌, ℕ, [], ◌∷◌, ◌++◌, ◌⊎◌, length, slice_get, Ok, OnOk, OnErr, IfOk, IfErr};
+ghost use Rattle.std.specs.Prelude.{◌≡◌, ◌≢◌, ◌<◌, ℕ, [], ◌∷◌, ◌++◌, ◌⊎◌, length, slice_get, false, Ok, OnOk, OnErr, IfErr};
 ghost use Rattle.one_log.specs.Causes.{FailsInMemory, MayCause, MayFail};
 ghost use Rattle.one_log.specs.Groups.{IsOneHistory, StaysOneHistory, TellsOneMore};
 ghost use Rattle.one_log.specs.declared.replica.Step.TheVariants.{Answered};
@@ -12,7 +12,7 @@ use crate::serve_fault::{Cause, ServeFault};
 use std::alloc::{AllocError, Global};
 use std::marker::Model;
 
-/// A log in memory, and replicas of a machine that share it. Contracts see the log, and what each replica has applied.
+/// A log in memory, and replicas of a machine that share it. Contracts see the log, and the replicas.
 #[derive(Drop)]
 pub struct Group<M: Machine> {
     alloc: Global,
@@ -22,21 +22,17 @@ pub struct Group<M: Machine> {
 
 impl<M: Machine> Model for Group<M> {
     ghost use Rattle.one_log.specs.GroupState.{GroupState};
-    ghost use Rattle.one_log.specs.Causes.{FailsInMemory, MayCause, MayFail};
-    ghost use Rattle.one_log.specs.Groups.{AllFollow};
 
-    ghost Value = { GroupState };
+    ghost Value = { GroupState M };
 
-    ghost view = { λ g. record { log = g.store; applied = g.replicas.items } };
-
-    ghost invariant = { λ g. AllFollow g.store g.replicas.items };
+    ghost view = { λ g. record { log = g.store; replicas = g.replicas.items } };
 }
 
 impl<M: Machine + Drop> Group<M> {
     /// An empty log that no replica follows.
     pub fn new(alloc: Global) -> Group<M>
-        ensures empty { (result.log ≡ []) × (result.applied ≡ []) }
-        ensures history { IsOneHistory M.due result.log result.applied [] }
+        ensures empty { (result.log ≡ []) × (result.replicas ≡ []) }
+        ensures history { (start : M) → IsOneHistory M.applies start result.log result.replicas [] }
     {
         Group {
             alloc,
@@ -47,7 +43,7 @@ impl<M: Machine + Drop> Group<M> {
 
     /// How many replicas there are.
     pub fn len(&self) -> usize
-        ensures { result ≡ length self.now.applied }
+        ensures { result ≡ length self.now.replicas }
     {
         self.replicas.len()
     }
@@ -59,13 +55,13 @@ impl<M: Machine + Drop> Group<M> {
         &self.store
     }
 
-    /// Adds a replica of a machine to which nothing was applied. An error where a growth was refused.
+    /// Adds a replica of a machine, to which no entry of the log was applied. The history is one where all machines that join are the
+    /// same at their start. An error where a growth was refused.
     pub fn join(&mut self, machine: M) -> Result<(), AllocError>
-        requires { M.applied machine ≡ [] }
         ensures log { self.new.log ≡ self.old.log }
-        ensures joined { OnOk result (self.new.applied ≡ self.old.applied ++ [] ∷ []) }
-        ensures refused { OnErr result (self.new.applied ≡ self.old.applied) }
-        ensures history { StaysOneHistory M.due self.old self.new }
+        ensures joined { OnOk result (self.new.replicas ≡ self.old.replicas ++ record { machine = machine; place = 0; spoiled = false } ∷ []) }
+        ensures refused { OnErr result (self.new.replicas ≡ self.old.replicas) }
+        ensures history { StaysOneHistory M.applies machine self.old self.new }
     {
         match self.replicas.push(Replica::new(self.alloc, machine)) {
             Ok(()) => Ok(()),
@@ -74,13 +70,13 @@ impl<M: Machine + Drop> Group<M> {
     }
 
     /// One step of a replica for a batch (`Replica::step`).
-    pub fn step(&mut self, at: usize, batch: &[u8], replies: &mut Vec<u8>) -> Result<Step, Cause>
-        requires in_bounds { at < length self.old.applied }
+    pub fn step(&mut self, at: usize, batch: &[u8], replies: &mut M::Replies) -> Result<Step, Cause>
+        requires in_bounds { at < length self.old.replicas }
         ensures log { (self.new.log ≡ self.old.log) ⊎ (self.new.log ≡ self.old.log ++ batch.now ∷ []) }
-        ensures others { (other : ℕ) → other ≢ at → slice_get self.new.applied other ≡ slice_get self.old.applied other }
-        ensures unanswered { result ≢ Ok Answered → replies.new.items ≡ [] }
-        ensures answered { result ≡ Ok Answered → TellsOneMore M.due self.old self.new batch.now replies.new.items }
-        ensures history { StaysOneHistory M.due self.old self.new }
+        ensures others { (other : ℕ) → other ≢ at → slice_get self.new.replicas other ≡ slice_get self.old.replicas other }
+        ensures unanswered { result ≢ Ok Answered → M.silent replies.new }
+        ensures answered { result ≡ Ok Answered → (start : M) → TellsOneMore M.applies start self.old self.new batch.now replies.new }
+        ensures history { (start : M) → StaysOneHistory M.applies start self.old self.new }
         ensures fault { IfErr result (MayCause FailsInMemory) }
     {
         self.replicas[at].step(&mut self.store, batch, replies)
@@ -91,14 +87,14 @@ impl<M: Machine + Drop> Group<M> {
         &mut self,
         at: usize,
         batch: &[u8],
-        replies: &mut Vec<u8>,
+        replies: &mut M::Replies,
     ) -> Result<(), ServeFault>
-        requires in_bounds { at < length self.old.applied }
+        requires in_bounds { at < length self.old.replicas }
         ensures log { (self.new.log ≡ self.old.log) ⊎ (self.new.log ≡ self.old.log ++ batch.now ∷ []) }
-        ensures others { (other : ℕ) → other ≢ at → slice_get self.new.applied other ≡ slice_get self.old.applied other }
-        ensures unanswered { OnErr result (replies.new.items ≡ []) }
-        ensures answered { OnOk result (TellsOneMore M.due self.old self.new batch.now replies.new.items) }
-        ensures history { StaysOneHistory M.due self.old self.new }
+        ensures others { (other : ℕ) → other ≢ at → slice_get self.new.replicas other ≡ slice_get self.old.replicas other }
+        ensures unanswered { OnErr result (M.silent replies.new) }
+        ensures answered { OnOk result ((start : M) → TellsOneMore M.applies start self.old self.new batch.now replies.new) }
+        ensures history { (start : M) → StaysOneHistory M.applies start self.old self.new }
         ensures fault { IfErr result (MayFail FailsInMemory) }
     {
         self.replicas[at].serve(&mut self.store, batch, replies)

@@ -10,7 +10,8 @@
 //!
 //! At a fault nothing is answered, and the fate of the batch is not known (`ServeFault::Unknown`). The same replica can be asked to
 //! serve the same bytes again: it reads what stands at the place before it offers them once more, and takes an entry of equal bytes
-//! for its own. So two batches that are to be two entries differ in their bytes: let each begin with a token of its own.
+//! for its own. So two batches that are to be two entries differ in their bytes: let each begin with a token of its own. A machine that was
+//! refused memory while it applied an entry is not known any more: its replica is spoiled, and never answers again (`Cause::Spoiled`).
 //!
 //! ```text
 //! let mut store = MemoryStore::new(alloc);
@@ -22,6 +23,7 @@
 #![tactic(auto)]
 
 pub mod group;
+pub mod laws;
 pub mod machine;
 pub mod memory_store;
 pub mod replica;
@@ -30,6 +32,7 @@ pub mod store;
 pub mod store_fault;
 
 pub use group::Group;
+pub use laws::{law_of_agreement, law_of_following};
 pub use machine::Machine;
 pub use memory_store::MemoryStore;
 pub use replica::{MOST_BATCH, MOST_STEPS, Replica, Step};

@@ -1,20 +1,26 @@
 //! What entries are applied to.
 
-ghost use Rattle.std.specs.Prelude.{◌≡◌, ℕ, List, [], ◌∷◌, ◌++◌, OnOk, OnErr};
+ghost use Rattle.std.specs.Prelude.{ℕ, List, OnOk};
 
 use std::alloc::AllocError;
 
-/// A deterministic state machine: the replies to an entry are a function of the entries that were applied before it.
+/// A state machine to which entries of bytes are applied.
 pub trait Machine {
-    /// The entries that were applied, in order.
-    ghost applied: { Self → List (List ℕ) };
+    /// What it says to entries.
+    type Replies;
 
-    /// The replies that are due to an entry behind others.
-    ghost due: { List (List ℕ) → List ℕ → List ℕ };
+    /// The machine was so, an entry was applied, this was said to it, and the machine is so.
+    ghost applies: { Self → List ℕ → Self.Replies → Self → Type 0 };
 
-    /// Applies an entry, and puts the replies to it over a list. An error where a growth was refused: nothing is applied then.
-    fn apply(&mut self, entry: &[u8], replies: &mut Vec<u8>) -> Result<(), AllocError>
-        ensures applied { OnOk result (applied self.new ≡ applied self.old ++ entry.now ∷ []) }
-        ensures replies { OnOk result (replies.new.items ≡ due (applied self.old) entry.now) }
-        ensures refused { OnErr result (applied self.new ≡ applied self.old) };
+    /// Nothing is said.
+    ghost silent: { Self.Replies → Type 0 };
+
+    /// Applies an entry, and puts what is said to it over what was said before. An error where a growth was refused: then nothing is
+    /// known of the machine.
+    fn apply(&mut self, entry: &[u8], replies: &mut Self::Replies) -> Result<(), AllocError>
+        ensures { OnOk result (applies self.old entry.now replies.new self.new) };
+
+    /// Says nothing.
+    fn forget(replies: &mut Self::Replies)
+        ensures { silent replies.new };
 }

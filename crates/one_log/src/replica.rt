@@ -1,12 +1,12 @@
 //! A machine that follows a log.
 
-ghost use Rattle.std.specs.Prelude.{◌≡◌, ◌≢◌, ◌<◌, ◌^◌, ℕ, List, [], ◌∷◌, ◌++◌, length, true, false, Ok, Err, OnOk, OnErr, IfOk, IfErr, ◌+◌};
-ghost use mathlib.Core.List.{IsPrefix};
+ghost use Rattle.std.specs.Prelude.{◌≡◌, ◌≢◌, ◌<◌, ◌≤◌, ℕ, length, true, false, Ok, Err, OnOk, OnErr, IfOk, IfErr, ◌+◌};
 ghost use Rattle.one_log.specs.Places.{Adds, Same};
-ghost use Rattle.one_log.specs.Replicas.{Follows, OneMore, IsAnswered, AddsOnce};
+ghost use Rattle.one_log.specs.Replicas.{AddsOnce, FaultLeaves, GoesOn, IsAnswered, IsApplied, IsReplica, OneMore};
 ghost use Rattle.one_log.specs.Causes.{MayCause, MayFail};
 ghost use Rattle.one_log.specs.declared.replica.Step.TheVariants.{Nothing, Answered, Passed};
-ghost use Rattle.one_log.specs.declared.serve_fault.ServeFault.TheVariants.{TooLong};
+ghost use Rattle.one_log.specs.declared.serve_fault.Cause.TheVariants.{Spoiled};
+ghost use Rattle.one_log.specs.declared.serve_fault.ServeFault.TheVariants.{TooLong, Unknown};
 
 use crate::machine::Machine;
 use crate::serve_fault::{Cause, ServeFault};
@@ -31,46 +31,60 @@ pub enum Step {
     Nothing,
 }
 
-/// A machine to which the entries of a log were applied, each once, in their order. Contracts see it as those entries.
+/// A machine to which the entries of a log were applied, each once, in their order. Contracts see the machine, how many entries were
+/// applied to it, and whether it is spoiled: it is once memory was refused while it applied an entry, and never answers then.
 #[derive(Drop)]
 pub struct Replica<M: Machine> {
     alloc: Global,
     machine: M,
     entry: Vec<u8>,
     place: u64,
+    spoiled: bool,
     behind: bool,
 }
 
 impl<M: Machine> Model for Replica<M> {
-    ghost use Rattle.std.specs.Prelude.{◌≡◌, List, ℕ, length};
+    ghost use Rattle.one_log.specs.ReplicaState.{ReplicaState};
 
-    ghost Value = { List (List ℕ) };
+    ghost Value = { ReplicaState M };
 
-    ghost view = { λ r. M.applied r.machine };
-
-    ghost invariant = { λ r. r.place ≡ length (M.applied r.machine) };
+    ghost view = { λ r. record { machine = r.machine; place = r.place; spoiled = r.spoiled } };
 }
 
 impl<M: Machine> Replica<M> {
-    /// A replica of a machine to which nothing was applied.
+    /// A replica of a machine, to which no entry of the log was applied.
     pub fn new(alloc: Global, machine: M) -> Replica<M>
-        requires { M.applied machine ≡ [] }
-        ensures { result ≡ [] }
+        ensures { result ≡ record { machine = machine; place = 0; spoiled = false } }
     {
         Replica {
             alloc,
             machine,
             entry: Vec::new(alloc),
             place: 0,
+            spoiled: false,
             behind: false,
         }
     }
 
     /// How many entries were applied.
-    pub fn len(&self) -> u64
-        ensures { result ≡ length self.now }
+    pub fn place(&self) -> u64
+        ensures { result ≡ self.now.place }
     {
         self.place
+    }
+
+    /// Whether memory was refused while it applied an entry.
+    pub fn is_spoiled(&self) -> bool
+        ensures { result ≡ self.now.spoiled }
+    {
+        self.spoiled
+    }
+
+    /// The machine.
+    pub fn machine(&self) -> &M
+        ensures { result.now ≡ self.now.machine }
+    {
+        &self.machine
     }
 
     // Reads what stands at the next place, and applies it.
@@ -78,15 +92,15 @@ impl<M: Machine> Replica<M> {
         &mut self,
         store: &mut S,
         batch: &[u8],
-        replies: &mut Vec<u8>,
+        replies: &mut M::Replies,
     ) -> Result<Step, Cause>
-        requires room { length self.old < 10000000000000000 }
-        ensures answered { result ≡ Ok Answered → (self.new ≡ self.old ++ batch.now ∷ []) × (replies.new.items ≡ M.due self.old batch.now) }
-        ensures passed { result ≡ Ok Passed → OneMore self.old self.new }
+        requires room { self.old.place < 10000000000000000 }
+        requires well { self.old.spoiled ≡ false }
+        ensures answered { result ≡ Ok Answered → IsApplied M.applies (S.stands store.new) self.old batch.now replies.new self.new }
+        ensures passed { result ≡ Ok Passed → OneMore M.applies (S.stands store.new) self.old self.new }
         ensures nothing { result ≡ Ok Nothing → self.new ≡ self.old }
-        ensures fault { OnErr result (self.new ≡ self.old) }
+        ensures fault { IfErr result (λ cause. FaultLeaves self.old cause self.new) }
         ensures cause { IfErr result (MayCause S.fails) }
-        ensures follows { Follows (S.stands store.old) self.old → Follows (S.stands store.new) self.new }
         ensures same { Same (S.stands store.old) (S.stands store.new) }
     {
         match store.get(self.place, &mut self.entry) {
@@ -98,6 +112,7 @@ impl<M: Machine> Replica<M> {
             Err(fault) => return Err(Cause::Store(fault)),
         }
         let Ok(()) = self.machine.apply(&self.entry, replies) else {
+            self.spoiled = true;
             return Err(Cause::Memory);
         };
         self.place += 1;
@@ -113,16 +128,16 @@ impl<M: Machine> Replica<M> {
         &mut self,
         store: &mut S,
         batch: &[u8],
-        replies: &mut Vec<u8>,
+        replies: &mut M::Replies,
     ) -> Result<Step, Cause>
-        requires room { length self.old < 10000000000000000 }
-        ensures answered { result ≡ Ok Answered → (self.new ≡ self.old ++ batch.now ∷ []) × (replies.new.items ≡ M.due self.old batch.now) }
+        requires room { self.old.place < 10000000000000000 }
+        requires well { self.old.spoiled ≡ false }
+        ensures answered { result ≡ Ok Answered → IsApplied M.applies (S.stands store.new) self.old batch.now replies.new self.new }
         ensures passed { result ≢ Ok Passed }
         ensures nothing { result ≡ Ok Nothing → (self.new ≡ self.old) × Same (S.stands store.old) (S.stands store.new) }
-        ensures fault { OnErr result (self.new ≡ self.old) }
+        ensures fault { IfErr result (λ cause. FaultLeaves self.old cause self.new) }
         ensures cause { IfErr result (MayCause S.fails) }
-        ensures follows { Follows (S.stands store.old) self.old → Follows (S.stands store.new) self.new }
-        ensures adds { Adds (S.stands store.old) (length self.old) batch.now (S.stands store.new) }
+        ensures adds { Adds (S.stands store.old) self.old.place batch.now (S.stands store.new) }
     {
         self.behind = true;
         match store.put(self.place, batch) {
@@ -131,6 +146,7 @@ impl<M: Machine> Replica<M> {
             Err(fault) => return Err(Cause::Store(fault)),
         }
         let Ok(()) = self.machine.apply(batch, replies) else {
+            self.spoiled = true;
             return Err(Cause::Memory);
         };
         self.place += 1;
@@ -139,12 +155,12 @@ impl<M: Machine> Replica<M> {
     }
 
     // Applies what stands at the next place, and tells whether anything does.
-    fn pass<S: Store>(&mut self, store: &mut S, replies: &mut Vec<u8>) -> Result<bool, Cause>
-        ensures passed { result ≡ Ok true → OneMore self.old self.new }
+    fn pass<S: Store>(&mut self, store: &mut S, replies: &mut M::Replies) -> Result<bool, Cause>
+        requires well { self.old.spoiled ≡ false }
+        ensures passed { result ≡ Ok true → OneMore M.applies (S.stands store.new) self.old self.new }
         ensures nothing { result ≡ Ok false → self.new ≡ self.old }
-        ensures fault { OnErr result (self.new ≡ self.old) }
+        ensures fault { IfErr result (λ cause. FaultLeaves self.old cause self.new) }
         ensures cause { IfErr result (MayCause S.fails) }
-        ensures follows { Follows (S.stands store.old) self.old → Follows (S.stands store.new) self.new }
         ensures same { Same (S.stands store.old) (S.stands store.new) }
     {
         if self.place >= MOST_PLACES {
@@ -157,60 +173,89 @@ impl<M: Machine> Replica<M> {
         }
     }
 
+    // One step for a batch, as `step`, with whatever replies.
+    fn advance<S: Store>(
+        &mut self,
+        store: &mut S,
+        batch: &[u8],
+        replies: &mut M::Replies,
+    ) -> Result<Step, Cause>
+        ensures answered { result ≡ Ok Answered → IsApplied M.applies (S.stands store.new) self.old batch.now replies.new self.new }
+        ensures passed { result ≡ Ok Passed → OneMore M.applies (S.stands store.new) self.old self.new }
+        ensures nothing { result ≡ Ok Nothing → (self.new ≡ self.old) × (self.old.spoiled ≡ false) }
+        ensures unwritten { IfOk result (λ step. step ≢ Answered → Same (S.stands store.old) (S.stands store.new)) }
+        ensures fault { IfErr result (λ cause. FaultLeaves self.old cause self.new) }
+        ensures cause { IfErr result (MayCause S.fails) }
+        ensures spoiled { self.old.spoiled ≡ true → (result ≡ Err Spoiled) × (store.new ≡ store.old) }
+        ensures adds { Adds (S.stands store.old) self.old.place batch.now (S.stands store.new) }
+    {
+        if self.spoiled {
+            return Err(Cause::Spoiled);
+        }
+        if self.place >= MOST_PLACES {
+            return Err(Cause::Full);
+        }
+        if self.behind {
+            self.follow(store, batch, replies)
+        } else {
+            self.offer(store, batch, replies)
+        }
+    }
+
     /// One step for a batch, which asks the store once. A replica that is behind reads what stands at its next place and applies it;
     /// one that is not offers the batch for that place. Answered with its replies where the batch stands there, and with none
-    /// otherwise.
+    /// otherwise. One that is spoiled does nothing.
     pub fn step<S: Store>(
         &mut self,
         store: &mut S,
         batch: &[u8],
-        replies: &mut Vec<u8>,
+        replies: &mut M::Replies,
     ) -> Result<Step, Cause>
-        ensures answered { result ≡ Ok Answered → (self.new ≡ self.old ++ batch.now ∷ []) × (replies.new.items ≡ M.due self.old batch.now) }
-        ensures unanswered { result ≢ Ok Answered → replies.new.items ≡ [] }
-        ensures passed { result ≡ Ok Passed → OneMore self.old self.new }
-        ensures nothing { result ≡ Ok Nothing → self.new ≡ self.old }
+        ensures answered { result ≡ Ok Answered → IsApplied M.applies (S.stands store.new) self.old batch.now replies.new self.new }
+        ensures unanswered { result ≢ Ok Answered → M.silent replies.new }
+        ensures passed { result ≡ Ok Passed → OneMore M.applies (S.stands store.new) self.old self.new }
+        ensures nothing { result ≡ Ok Nothing → (self.new ≡ self.old) × (self.old.spoiled ≡ false) }
         ensures unwritten { IfOk result (λ step. step ≢ Answered → Same (S.stands store.old) (S.stands store.new)) }
-        ensures grows { IsPrefix self.old self.new }
-        ensures fault { OnErr result (self.new ≡ self.old) }
+        ensures fault { IfErr result (λ cause. FaultLeaves self.old cause self.new) }
         ensures cause { IfErr result (MayCause S.fails) }
-        ensures follows { Follows (S.stands store.old) self.old → Follows (S.stands store.new) self.new }
-        ensures adds { Adds (S.stands store.old) (length self.old) batch.now (S.stands store.new) }
+        ensures spoiled { self.old.spoiled ≡ true → (result ≡ Err Spoiled) × (store.new ≡ store.old) }
+        ensures goes_on { self.new.spoiled ≡ false → GoesOn M.applies (S.stands store.new) self.old self.new }
+        ensures follows { (start : M) → IsReplica M.applies (S.stands store.old) start self.old → IsReplica M.applies (S.stands store.new) start self.new }
+        ensures adds { Adds (S.stands store.old) self.old.place batch.now (S.stands store.new) }
     {
-        let result = if self.place >= MOST_PLACES {
-            Err(Cause::Full)
-        } else if self.behind {
-            self.follow(store, batch, replies)
-        } else {
-            self.offer(store, batch, replies)
-        };
+        let result = self.advance(store, batch, replies);
         if result != Ok(Step::Answered) {
-            replies.clear();
+            M::forget(replies);
         }
         result
     }
 
     /// Serves a batch: it comes to stand in the log, once by this call, and the replies are those due to it at its place, behind
     /// all that stands before it. At a fault nothing is answered.
-    #[tactic(auto, using(crate::proofs::Once::adds_once))]
     pub fn serve<S: Store>(
         &mut self,
         store: &mut S,
         batch: &[u8],
-        replies: &mut Vec<u8>,
+        replies: &mut M::Replies,
     ) -> Result<(), ServeFault>
-        ensures answered { OnOk result (IsAnswered M.due self.old batch.now self.new replies.new.items) }
-        ensures unanswered { OnErr result (replies.new.items ≡ []) }
+        ensures answered { OnOk result (IsAnswered M.applies (S.stands store.new) self.old batch.now self.new replies.new) }
+        ensures unanswered { OnErr result (M.silent replies.new) }
         ensures too_long { 65536 < length batch.now → result ≡ Err TooLong }
         ensures refused { result ≡ Err TooLong → (65536 < length batch.now) × (self.new ≡ self.old) × (store.new ≡ store.old) }
         ensures fault { IfErr result (MayFail S.fails) }
-        ensures grows { IsPrefix self.old self.new }
-        ensures follows { Follows (S.stands store.old) self.old → Follows (S.stands store.new) self.new }
+        ensures spoiled { self.old.spoiled ≡ true → length batch.now ≤ 65536 →
+            (result ≡ Err (Unknown Spoiled)) × (self.new ≡ self.old) × (store.new ≡ store.old) }
+        ensures goes_on { self.new.spoiled ≡ false → GoesOn M.applies (S.stands store.new) self.old self.new }
+        ensures follows { (start : M) → IsReplica M.applies (S.stands store.old) start self.old → IsReplica M.applies (S.stands store.new) start self.new }
         ensures once { AddsOnce (S.stands store.old) batch.now (S.stands store.new) }
     {
         if batch.len() > MOST_BATCH {
-            replies.clear();
+            M::forget(replies);
             return Err(ServeFault::TooLong);
+        }
+        if self.spoiled {
+            M::forget(replies);
+            return Err(ServeFault::Unknown(Cause::Spoiled));
         }
         for _ in 0..MOST_STEPS {
             match self.step(store, batch, replies) {
@@ -219,26 +264,56 @@ impl<M: Machine> Replica<M> {
                 Err(cause) => return Err(ServeFault::Unknown(cause)),
             }
         }
-        replies.clear();
+        M::forget(replies);
         Err(ServeFault::Unknown(Cause::Busy))
     }
 
-    /// Applies what stands in the log behind what was applied, up to so many entries; tells how many they were.
-    pub fn catch_up<S: Store>(&mut self, store: &mut S, most: u64) -> Result<u64, Cause>
-        ensures count { IfOk result (λ n. length self.new ≡ length self.old + n) }
-        ensures grows { IsPrefix self.old self.new }
-        ensures follows { Follows (S.stands store.old) self.old → Follows (S.stands store.new) self.new }
+    // Applies what stands in the log, as `catch_up`, with whatever replies.
+    fn pass_all<S: Store>(
+        &mut self,
+        store: &mut S,
+        most: u64,
+        replies: &mut M::Replies,
+    ) -> Result<u64, Cause>
+        ensures count { IfOk result (λ n. self.new.place ≡ self.old.place + n) }
+        ensures well { OnOk result (self.new.spoiled ≡ false) }
+        ensures spoiled { self.old.spoiled ≡ true → (result ≡ Err Spoiled) × (self.new ≡ self.old) }
+        ensures goes_on { self.new.spoiled ≡ false → GoesOn M.applies (S.stands store.new) self.old self.new }
         ensures same { Same (S.stands store.old) (S.stands store.new) }
         ensures cause { IfErr result (MayCause S.fails) }
     {
-        let mut replies = Vec::new(self.alloc);
+        if self.spoiled {
+            return Err(Cause::Spoiled);
+        }
         for passed in 0..most {
-            match self.pass(store, &mut replies) {
+            match self.pass(store, replies) {
                 Ok(true) => {}
                 Ok(false) => return Ok(passed),
                 Err(cause) => return Err(cause),
             }
         }
         Ok(most)
+    }
+
+    /// Applies what stands in the log behind what was applied, up to so many entries; tells how many they were. The replies to them are
+    /// told to nobody.
+    pub fn catch_up<S: Store>(
+        &mut self,
+        store: &mut S,
+        most: u64,
+        replies: &mut M::Replies,
+    ) -> Result<u64, Cause>
+        ensures count { IfOk result (λ n. self.new.place ≡ self.old.place + n) }
+        ensures well { OnOk result (self.new.spoiled ≡ false) }
+        ensures unanswered { M.silent replies.new }
+        ensures spoiled { self.old.spoiled ≡ true → (result ≡ Err Spoiled) × (self.new ≡ self.old) }
+        ensures goes_on { self.new.spoiled ≡ false → GoesOn M.applies (S.stands store.new) self.old self.new }
+        ensures follows { (start : M) → IsReplica M.applies (S.stands store.old) start self.old → IsReplica M.applies (S.stands store.new) start self.new }
+        ensures same { Same (S.stands store.old) (S.stands store.new) }
+        ensures cause { IfErr result (MayCause S.fails) }
+    {
+        let result = self.pass_all(store, most, replies);
+        M::forget(replies);
+        result
     }
 }

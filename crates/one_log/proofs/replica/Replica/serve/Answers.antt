@@ -1,13 +1,57 @@
--- What did not answer the batch wrote nothing.
+-- What did not answer the batch wrote nothing, and what answered it wrote it at most once.
 use Rattle.std.proofs.Common.{rules}
-use Rattle.one_log.proofs.Once.{prefix_trans, same_trans}
+use Rattle.one_log.proofs.Chains.{adds_once, answered, follows, goes_on_trans, later_follows, same_trans, step_is_well}
 use Rattle.one_log.proofs.replica.Replica.serve.Goals as goal
 
 pub loop-preserved : goal.loop-preserved
 loop-preserved g c =
     let stands = g.S.Store.stands in
+    let applies = g.M.Machine.applies in
+    let e = c.step.ensures in
+    let same = c.in-Ok.ensures.unwritten (search rules) in
+    let well = step_is_well applies (stands c.step.new.store) c.loop.self c.args.batch.now c.step.new.replies c.step.new.self c.in-Ok.step c.step.result c.in-Ok.is e.answered e.passed e.nothing in
     record {
-      grows = prefix_trans c.args.self.now c.loop.self c.step.new.self c.loop.invariant.grows c.step.ensures.grows;
-      follows = λ h. c.step.ensures.follows (c.loop.invariant.follows h);
-      same = same_trans (stands c.args.store.now) (stands c.loop.store) (stands c.step.new.store) c.loop.invariant.same (c.in-Ok.ensures.unwritten (search rules));
+      well = well;
+      goes_on = goes_on_trans applies (stands c.loop.store) (stands c.step.new.store) same.keeps c.args.self.now c.loop.self c.step.new.self c.loop.invariant.goes_on (e.goes_on well);
+      same = same_trans (stands c.args.store.now) (stands c.loop.store) (stands c.step.new.store) c.loop.invariant.same same;
     }
+
+pub returns-in-Ok-clause-answered : goal.returns-in-Ok-clause-answered
+returns-in-Ok-clause-answered g c =
+    let stands = g.S.Store.stands in
+    answered g.M.Machine.applies (stands c.loop.store) (stands c.step.new.store) c.step.ensures.adds.keeps c.args.self.now c.loop.self c.step.new.self c.args.batch.now c.step.new.replies c.loop.invariant.goes_on (c.step.ensures.answered (search rules))
+
+pub returns-in-Ok-clause-goes_on : goal.returns-in-Ok-clause-goes_on
+returns-in-Ok-clause-goes_on g c =
+    let stands = g.S.Store.stands in
+    λ well. goes_on_trans g.M.Machine.applies (stands c.loop.store) (stands c.step.new.store) c.step.ensures.adds.keeps c.args.self.now c.loop.self c.step.new.self c.loop.invariant.goes_on (c.step.ensures.goes_on well)
+
+pub returns-in-Err-clause-goes_on : goal.returns-in-Err-clause-goes_on
+returns-in-Err-clause-goes_on g c =
+    let stands = g.S.Store.stands in
+    λ well. goes_on_trans g.M.Machine.applies (stands c.loop.store) (stands c.step.new.store) c.step.ensures.adds.keeps c.args.self.now c.loop.self c.step.new.self c.loop.invariant.goes_on (c.step.ensures.goes_on well)
+
+pub returns-in-Ok-clause-follows : goal.returns-in-Ok-clause-follows
+returns-in-Ok-clause-follows g c =
+    let stands = g.S.Store.stands in
+    later_follows g.M.Machine.applies (stands c.args.store.now) (stands c.loop.store) (stands c.step.new.store) c.loop.invariant.same c.step.ensures.adds.keeps c.args.self.now c.loop.self c.step.new.self c.loop.invariant.goes_on c.step.ensures.goes_on
+
+pub returns-in-Err-clause-follows : goal.returns-in-Err-clause-follows
+returns-in-Err-clause-follows g c =
+    let stands = g.S.Store.stands in
+    later_follows g.M.Machine.applies (stands c.args.store.now) (stands c.loop.store) (stands c.step.new.store) c.loop.invariant.same c.step.ensures.adds.keeps c.args.self.now c.loop.self c.step.new.self c.loop.invariant.goes_on c.step.ensures.goes_on
+
+pub returns-in-Ok-clause-once : goal.returns-in-Ok-clause-once
+returns-in-Ok-clause-once g c =
+    let stands = g.S.Store.stands in
+    adds_once (stands c.args.store.now) (stands c.loop.store) (stands c.step.new.store) c.loop.self.place c.args.batch.now c.loop.invariant.same c.step.ensures.adds
+
+pub returns-in-Err-clause-once : goal.returns-in-Err-clause-once
+returns-in-Err-clause-once g c =
+    let stands = g.S.Store.stands in
+    adds_once (stands c.args.store.now) (stands c.loop.store) (stands c.step.new.store) c.loop.self.place c.args.batch.now c.loop.invariant.same c.step.ensures.adds
+
+pub returns-clause-follows : goal.returns-clause-follows
+returns-clause-follows g c =
+    let stands = g.S.Store.stands in
+    follows g.M.Machine.applies (stands c.args.store.now) (stands c.loop.store) c.loop.invariant.same.keeps c.args.self.now c.loop.self (λ well. c.loop.invariant.goes_on)

@@ -1,0 +1,31 @@
+-- One more entry is applied, or no more.
+use Rattle.std.proofs.Common.{rules, arith}
+use Rattle.one_log.proofs.Chains.{fault_goes_on, goes_on_trans, more_goes_on, same_goes_on, same_trans}
+use Rattle.one_log.proofs.replica.Replica.pass_all.Goals as goal
+
+pub returns-in-Ok-false-clause-goes_on : goal.returns-in-Ok-false-clause-goes_on
+returns-in-Ok-false-clause-goes_on g c =
+    let stands = g.S.Store.stands in
+    let applies = g.M.Machine.applies in
+    λ well. goes_on_trans applies (stands c.loop-passed.store) (stands c.pass.new.store) c.pass.ensures.same.keeps c.args.self.now c.loop-passed.self c.pass.new.self c.loop-passed.invariant.goes_on
+    (same_goes_on applies (stands c.pass.new.store) c.loop-passed.self c.pass.new.self (c.pass.ensures.nothing (search rules)) c.loop-passed.invariant.well)
+
+pub returns-in-Err-clause-goes_on : goal.returns-in-Err-clause-goes_on
+returns-in-Err-clause-goes_on g c =
+    let stands = g.S.Store.stands in
+    let applies = g.M.Machine.applies in
+    λ well. goes_on_trans applies (stands c.loop-passed.store) (stands c.pass.new.store) c.pass.ensures.same.keeps c.args.self.now c.loop-passed.self c.pass.new.self c.loop-passed.invariant.goes_on
+    (fault_goes_on applies (stands c.pass.new.store) c.loop-passed.self c.pass.new.self c.in-Err.cause c.in-Err.ensures.fault well)
+
+pub loop-passed-preserved : goal.loop-passed-preserved
+loop-passed-preserved g c =
+    let stands = g.S.Store.stands in
+    let applies = g.M.Machine.applies in
+    let more = c.pass.ensures.passed (search rules) in
+    record {
+      well = more.more.is_well;
+      count = (let n = more.more.count in let m = c.loop-passed.invariant.count in omega (arith, n, m));
+      goes_on = goes_on_trans applies (stands c.loop-passed.store) (stands c.pass.new.store) c.pass.ensures.same.keeps c.args.self.now c.loop-passed.self c.pass.new.self c.loop-passed.invariant.goes_on
+          (more_goes_on applies (stands c.pass.new.store) c.loop-passed.self c.pass.new.self more);
+      same = same_trans (stands c.args.store.now) (stands c.loop-passed.store) (stands c.pass.new.store) c.loop-passed.invariant.same c.pass.ensures.same;
+    }
