@@ -1,1 +1,2 @@
 mod KeyDigits
+mod Ranges

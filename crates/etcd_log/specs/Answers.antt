@@ -37,12 +37,12 @@ entry_said key entry =
     if_key key (option_and_then as_str (get (codes "key") entry))
     (Some (value_text (option_and_then as_str (get (codes "value") entry))))
 
--- the base64 of what stands at the key; or nothing does
-abbrev pub first_said : List ℕ → Option Json → Option (Option (List ℕ))
-first_said key None = Some None
-first_said key (Some entry) = option_and_then (λ value. Some (Some value)) (entry_said key entry)
+-- the base64 of what stands at the key, where the entry of this index has to say it; or there is no such entry
+abbrev pub stood_said : List ℕ → Option Json → Option (Option (List ℕ))
+stood_said key None = Some None
+stood_said key (Some entry) = option_and_then (λ value. Some (Some value)) (entry_said key entry)
 
-abbrev pub get_said : List ℕ → Json → Option (Option (List ℕ))
-get_said key answer =
+abbrev pub get_said : ℕ → List ℕ → Json → Option (Option (List ℕ))
+get_said index key answer =
     if_header (get (codes "header") answer)
-    (first_said key (option_and_then (at 0) (get (codes "kvs") answer)))
+    (stood_said key (option_and_then (at index) (get (codes "kvs") answer)))

@@ -31,9 +31,11 @@ put_request key value =
     object (member (codes "compare") (alone (never_created key)) (
     member (codes "success") (alone (only (codes "request_put") (pair key value))) no_members))
 
--- get the key
-abbrev pub get_request : List ℕ → Json
-get_request key = only (codes "key") (string key)
+-- get the keys from this one on that come before that one, in their order
+abbrev pub get_request : List ℕ → List ℕ → Json
+get_request key end =
+    object (member (codes "key") (string key) (
+    member (codes "range_end") (string end) no_members))
 
 -- a text is the request that puts an entry at a place under a prefix
 pub record SaysPut (text prefix : List ℕ) (place : ℕ) (entry : List ℕ) : Type 0 where
@@ -43,8 +45,10 @@ pub record SaysPut (text prefix : List ℕ) (place : ℕ) (entry : List ℕ) : T
   pub at : decode_of standard key ≡ Ok (key_of prefix place)
   pub holds : decode_of standard value ≡ Ok entry
 
--- a text is the request that gets what stands at a place under a prefix
-pub record SaysGet (text prefix : List ℕ) (place : ℕ) : Type 0 where
+-- a text is the request that gets what stands under a prefix at the places from one on that come before another
+pub record SaysGet (text prefix : List ℕ) (place last : ℕ) : Type 0 where
   pub key : List ℕ
-  pub says : document text ≡ Some (get_request key)
+  pub end : List ℕ
+  pub says : document text ≡ Some (get_request key end)
   pub at : decode_of standard key ≡ Ok (key_of prefix place)
+  pub before : decode_of standard end ≡ Ok (key_of prefix last)

@@ -1,13 +1,15 @@
 //! What etcd answers.
 
-ghost use Rattle.std.specs.Prelude.{◌≡◌, Some, None, Ok, IfOk, IfErr, option_map, option_and_then};
+ghost use Rattle.std.specs.Prelude.{◌≡◌, ◌+◌, ◌<◌, ◌^◌, ◌++◌, ℕ, List, Some, None, Ok, IfOk, IfErr, OnOk, option_map, option_and_then};
+ghost use Rattle.std.specs.declared.vec.Vec.{Vec};
+ghost use Rattle.std.specs.declared.alloc.Global.{Global};
 ghost use Rattle.json.specs.Json.{document};
 ghost use Rattle.json.specs.Value.{value_view};
 ghost use Rattle.base64.specs.Engines.{standard};
 ghost use Rattle.base64.specs.GeneralPurpose.{decode_of};
 ghost use Rattle.etcd_log.specs.Answers.{put_said, entry_said, get_said};
 ghost use Rattle.etcd_log.specs.Faults.{IsOverNetwork};
-ghost use Rattle.etcd_log.specs.Found.{SaysFound, is_written};
+ghost use Rattle.etcd_log.specs.Found.{SaysAll, SaysFound, SaysFrom, is_written};
 
 use crate::key::key64;
 use base64::DecodeAllocError;
@@ -43,15 +45,15 @@ fn entry_said<'v>(entry: &Value<'v>, key: &str) -> Option<&'v str>
     }
 }
 
-/// What stands at a key, in base64. None where the value is no answer to a request for it.
-pub fn get_said<'v>(answer: &Value<'v>, key: &str) -> Option<Option<&'v str>>
-    ensures { option_map (λ found. option_map (λ text. text.now) found) result ≡ get_said key.now (value_view answer.now) }
+/// What stands at a key, in base64, as the entry of this index has to say it. None where the value is no such answer.
+pub fn get_said<'v>(answer: &Value<'v>, index: usize, key: &str) -> Option<Option<&'v str>>
+    ensures { option_map (λ found. option_map (λ text. text.now) found) result ≡ get_said index key.now (value_view answer.now) }
 {
     answer.get("header")?;
     let Some(entries) = answer.get("kvs") else {
         return Some(None);
     };
-    match entries.at(0) {
+    match entries.at(index) {
         Some(entry) => match entry_said(entry, key) {
             Some(text) => Some(Some(text)),
             None => None,
@@ -89,30 +91,80 @@ fn decoded(alloc: Global, text: &str) -> Result<Vec<u8>, StoreFault>
     }
 }
 
-/// Reads the body of an answer to a request for what stands at a place under a prefix.
-pub fn read_get(
+// What stands at a place under a prefix, as the entry of this index has to say it.
+fn found_at(
     alloc: Global,
-    body: &[u8],
+    answer: &Value<'_>,
+    index: usize,
     prefix: &str,
     place: u64,
 ) -> Result<Option<Vec<u8>>, StoreFault>
-    ensures said { IfOk result (SaysFound body.now prefix.now place) }
+    ensures said { IfOk result (SaysFound (value_view answer.now) index prefix.now place) }
     ensures fault { IfErr result IsOverNetwork }
 {
     let Ok(key) = key64(alloc, prefix, place) else {
         return Err(StoreFault::Memory);
     };
-    let mut scratch = Scratch::new(alloc);
-    match Value::from_slice(alloc, body, &mut scratch) {
-        Ok(answer) => match get_said(&answer, key.as_str()) {
-            Some(Some(text)) => match decoded(alloc, text) {
-                Ok(bytes) => Ok(Some(bytes)),
-                Err(fault) => Err(fault),
-            },
-            Some(None) => Ok(None),
-            None => Err(StoreFault::Wrong),
+    match get_said(answer, index, key.as_str()) {
+        Some(Some(text)) => match decoded(alloc, text) {
+            Ok(bytes) => Ok(Some(bytes)),
+            Err(fault) => Err(fault),
         },
-        Err(Error::OutOfMemory) => Err(StoreFault::Memory),
-        Err(_) => Err(StoreFault::Wrong),
+        Some(None) => Ok(None),
+        None => Err(StoreFault::Wrong),
+    }
+}
+
+// Appends what stands at the places from one on, as the entries from this index on say it, so many at most.
+fn read_from(
+    alloc: Global,
+    answer: &Value<'_>,
+    index: usize,
+    most: usize,
+    prefix: &str,
+    place: u64,
+    found: &mut Vec<Vec<u8>>,
+) -> Result<(), StoreFault>
+    requires few { index + most < 2 ^ 64 }
+    requires low { place + most < 2 ^ 64 }
+    ensures said { OnOk result ((more : List (Vec ℕ Global)) × (found.new.items ≡ found.old.items ++ more) × SaysFrom most (value_view answer.now) index prefix.now place more) }
+    ensures fault { IfErr result IsOverNetwork }
+{
+    if most == 0 {
+        return Ok(());
+    }
+    let entry = match found_at(alloc, answer, index, prefix, place) {
+        Ok(Some(entry)) => entry,
+        Ok(None) => return Ok(()),
+        Err(fault) => return Err(fault),
+    };
+    if found.push(entry).is_err() {
+        return Err(StoreFault::Memory);
+    }
+    read_from(alloc, answer, index + 1, most - 1, prefix, place + 1, found)
+}
+
+/// Reads the body of an answer to a request for what stands under a prefix at the places from one on, so many at most.
+pub fn read_get(
+    alloc: Global,
+    body: &[u8],
+    most: usize,
+    prefix: &str,
+    place: u64,
+) -> Result<Vec<Vec<u8>>, StoreFault>
+    requires few { place + most < 2 ^ 64 }
+    ensures said { IfOk result (λ found. SaysAll most body.now prefix.now place found.items) }
+    ensures fault { IfErr result IsOverNetwork }
+{
+    let mut scratch = Scratch::new(alloc);
+    let answer = match Value::from_slice(alloc, body, &mut scratch) {
+        Ok(answer) => answer,
+        Err(Error::OutOfMemory) => return Err(StoreFault::Memory),
+        Err(_) => return Err(StoreFault::Wrong),
+    };
+    let mut found = Vec::new(alloc);
+    match read_from(alloc, &answer, 0, most, prefix, place, &mut found) {
+        Ok(()) => Ok(found),
+        Err(fault) => Err(fault),
     }
 }

@@ -1,6 +1,7 @@
 //! Places in etcd.
 
-ghost use Rattle.std.specs.Prelude.{◌≡◌, ℕ, List, ⊤, IfErr};
+ghost use Rattle.std.specs.Prelude.{◌≡◌, ◌<◌, ℕ, List, ⊤, IfErr};
+ghost use Rattle.one_log.specs.declared.store.TheConstants.{MOST_PLACES};
 ghost use Rattle.etcd_log.specs.Faults.{IsOverNetwork};
 
 use crate::answer::{read_get, read_put};
@@ -8,11 +9,14 @@ use crate::dial::Dial;
 use crate::exchange::exchange;
 use crate::request::{get_text, put_text};
 use http1::{Client, Limits};
-use one_log::{Put, Store, StoreFault};
+use one_log::{MOST_PLACES, Put, Store, StoreFault};
 use std::alloc::Global;
 
 /// The status of a response that answers.
 const ANSWERED: u16 = 200;
+
+/// What stands at so many places at most is asked at once.
+const MOST_FOUND: usize = 256;
 
 // A connection that is kept.
 #[derive(Drop)]
@@ -30,6 +34,9 @@ pub struct EtcdStore<D: Dial> {
     member: usize,
     kept: Option<Kept<D::Stream>>,
     prefix: String,
+    /// What stands at the places from `place` on, the last of them first: it stands there for good.
+    ahead: Vec<Vec<u8>>,
+    place: u64,
 }
 
 impl<D: Dial> EtcdStore<D> {
@@ -41,6 +48,8 @@ impl<D: Dial> EtcdStore<D> {
             member: 0,
             kept: None,
             prefix,
+            ahead: Vec::new(alloc),
+            place: 0,
         }
     }
 
@@ -102,6 +111,30 @@ impl<D: Dial> EtcdStore<D> {
     }
 }
 
+impl<D: Dial> EtcdStore<D> {
+    // Asks what stands at the places from one on.
+    fn ask_from(&mut self, place: u64) -> Result<(), StoreFault>
+        requires { place < MOST_PLACES }
+        ensures { IfErr result IsOverNetwork }
+    {
+        let last = place + MOST_FOUND as u64;
+        let Ok(text) = get_text(self.alloc, self.prefix.as_str(), place, last) else {
+            return Err(StoreFault::Memory);
+        };
+        let body = match self.ask(b"/v3/kv/range", &text) {
+            Ok(body) => body,
+            Err(fault) => return Err(fault),
+        };
+        self.ahead = match read_get(self.alloc, &body, MOST_FOUND, self.prefix.as_str(), place) {
+            Ok(found) => found,
+            Err(fault) => return Err(fault),
+        };
+        self.ahead.reverse();
+        self.place = place;
+        Ok(())
+    }
+}
+
 impl<D: Dial> Store for EtcdStore<D> {
     ghost stands = { λ store place entry. ⊤ };
 
@@ -118,20 +151,17 @@ impl<D: Dial> Store for EtcdStore<D> {
     }
 
     fn get(&mut self, place: u64, entry: &mut Vec<u8>) -> Result<bool, StoreFault> {
-        let Ok(text) = get_text(self.alloc, self.prefix.as_str(), place) else {
-            return Err(StoreFault::Memory);
-        };
-        let body = match self.ask(b"/v3/kv/range", &text) {
-            Ok(body) => body,
-            Err(fault) => return Err(fault),
-        };
-        match read_get(self.alloc, &body, self.prefix.as_str(), place) {
-            Ok(Some(found)) => {
-                *entry = found;
-                Ok(true)
-            }
-            Ok(None) => Ok(false),
-            Err(fault) => Err(fault),
+        if place >= MOST_PLACES {
+            return Ok(false);
         }
+        if self.place != place || self.ahead.is_empty() {
+            self.ask_from(place)?;
+        }
+        let Some(found) = self.ahead.pop() else {
+            return Ok(false);
+        };
+        self.place = place + 1;
+        *entry = found;
+        Ok(true)
     }
 }

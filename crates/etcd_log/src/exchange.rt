@@ -10,7 +10,7 @@ use std::alloc::Global;
 use std::io::{Read, Write};
 
 /// How many bytes the body of a response has at most.
-pub const MOST_BODY: usize = 1_048_576;
+pub const MOST_BODY: usize = 33_554_432;
 
 /// How many events are read of one response, at most.
 const MOST_EVENTS: u64 = 1_000_000;

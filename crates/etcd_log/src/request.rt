@@ -2,7 +2,7 @@
 
 ghost use Rattle.std.specs.Prelude.{◌≡◌, ◌<◌, ◌^◌, ◌∷◌, [], codes, map, IfOk, string_bytes};
 ghost use Rattle.json.specs.Value.{value_view};
-ghost use Rattle.etcd_log.specs.Requests.{SaysGet, SaysPut, alone, never_created, only, pair, put_request};
+ghost use Rattle.etcd_log.specs.Requests.{SaysGet, SaysPut, alone, get_request, never_created, only, pair, put_request};
 
 use crate::key::key64;
 use base64::engine::general_purpose::STANDARD;
@@ -74,10 +74,21 @@ pub fn put_text(
     to_vec(alloc, &transaction(alloc, key.as_str(), value.as_str())?)
 }
 
-/// The text of the request that gets what stands at a place under a prefix.
-pub fn get_text(alloc: Global, prefix: &str, place: u64) -> Result<Vec<u8>, AllocError>
-    ensures { IfOk result (λ text. SaysGet text.items prefix.now place) }
+// The keys from one on that come before another.
+fn range<'a>(alloc: Global, key: &'a str, end: &'a str) -> Result<Value<'a>, AllocError>
+    ensures { IfOk result (λ v. value_view v ≡ get_request key.now end.now) }
+{
+    let mut members = Vec::new(alloc);
+    members.push(("key", Value::String(key)))?;
+    members.push(("range_end", Value::String(end)))?;
+    Ok(Value::Object(members))
+}
+
+/// The text of the request that gets what stands under a prefix at the places from one on that come before another.
+pub fn get_text(alloc: Global, prefix: &str, place: u64, last: u64) -> Result<Vec<u8>, AllocError>
+    ensures { IfOk result (λ text. SaysGet text.items prefix.now place last) }
 {
     let key = key64(alloc, prefix, place)?;
-    to_vec(alloc, &only(alloc, "key", Value::String(key.as_str()))?)
+    let end = key64(alloc, prefix, last)?;
+    to_vec(alloc, &range(alloc, key.as_str(), end.as_str())?)
 }

@@ -1,6 +1,6 @@
 //! A small machine, and a store and streams that fail.
 
-ghost use Rattle.std.specs.Prelude.{◌≡◌};
+ghost use Rattle.std.specs.Prelude.{◌≡◌, ◌%◌, ◌∷◌, length, OnOk};
 
 use etcd_log::Dial;
 use one_log::{Machine, MemoryStore, Put, Store, StoreFault};
@@ -10,20 +10,17 @@ use std::io::{Read, Write};
 
 /// Keeps its entries. The replies to one are its place, modulo 256, and its bytes.
 #[derive(Drop)]
-pub(crate) struct Tape {
+pub(crate) struct Notebook {
     pub(crate) alloc: Global,
     pub(crate) entries: Vec<Vec<u8>>,
     pub(crate) refusals: u64,
 }
 
-impl Machine for Tape {
-    ghost use Rattle.std.specs.Prelude.{◌%◌, ◌∷◌, length, map};
-
-    ghost applied = { λ t. map (λ e. e.items) t.entries.items };
-
-    ghost due = { λ before entry. (length before % 256) ∷ entry };
-
-    fn apply(&mut self, entry: &[u8], replies: &mut Vec<u8>) -> Result<(), AllocError> {
+impl Notebook {
+    // Keeps an entry and answers it.
+    fn write(&mut self, entry: &[u8], replies: &mut Vec<u8>) -> Result<(), AllocError>
+        ensures { OnOk result (replies.new.items ≡ (length self.old.entries.items % 256) ∷ entry.now) }
+    {
         if self.refusals > 0 {
             self.refusals -= 1;
             return Err(AllocError);
@@ -35,6 +32,24 @@ impl Machine for Tape {
         replies.extend_from_slice(entry)?;
         self.entries.push(copy)?;
         Ok(())
+    }
+}
+
+impl Machine for Notebook {
+    ghost use Rattle.std.specs.Prelude.{◌≡◌, ◌%◌, ◌∷◌, [], length};
+
+    type Replies = Vec<u8>;
+
+    ghost applies = { λ m entry replies u. replies.items ≡ (length m.entries.items % 256) ∷ entry };
+
+    ghost silent = { λ replies. replies.items ≡ [] };
+
+    fn apply(&mut self, entry: &[u8], replies: &mut Vec<u8>) -> Result<(), AllocError> {
+        self.write(entry, replies)
+    }
+
+    fn forget(replies: &mut Vec<u8>) {
+        replies.clear();
     }
 }
 

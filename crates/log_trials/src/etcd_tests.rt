@@ -18,6 +18,10 @@ const TAKEN: &[u8] =
 const FOUND: &[u8] =
     b"HTTP/1.1 200 OK\r\nConnection: close\r\nContent-Length: 75\r\n\r\n{\"header\":{},\"kvs\":[{\"key\":\"bG9nLzAwMDAwMDAwMDAwMDAwNDI=\",\"value\":\"aGk=\"}]}";
 
+// `hi` at the place 42 and `ho` at the place 43.
+const FOUND_TWO: &[u8] =
+    b"HTTP/1.1 200 OK\r\nConnection: close\r\nContent-Length: 129\r\n\r\n{\"header\":{},\"kvs\":[{\"key\":\"bG9nLzAwMDAwMDAwMDAwMDAwNDI=\",\"value\":\"aGk=\"},{\"key\":\"bG9nLzAwMDAwMDAwMDAwMDAwNDM=\",\"value\":\"aG8=\"}]}";
+
 // Something that is no answer.
 const OTHER: &[u8] = b"HTTP/1.1 200 OK\r\nConnection: close\r\nContent-Length: 2\r\n\r\n{}";
 
@@ -38,6 +42,22 @@ fn answers_are_read(rt: HostRuntime) -> Result<(), Fail> {
     assert_eq!(rt; etcd.get(42, &mut entry), Ok(true));
     assert_eq!(rt; entry.as_slice(), b"hi".as_slice());
     assert_eq!(rt; etcd.get(43, &mut entry), Ok(false));
+    Ok(())
+}
+
+#[test]
+fn what_stands_behind_is_read_at_once(rt: HostRuntime) -> Result<(), Fail> {
+    let alloc = rt.alloc();
+    let texts = [FOUND_TWO, TAKEN, FOUND_TWO];
+    let mut etcd = store(alloc, &texts)?;
+    let mut entry = Vec::new(alloc);
+    assert_eq!(rt; etcd.get(42, &mut entry), Ok(true));
+    assert_eq!(rt; entry.as_slice(), b"hi".as_slice());
+    assert_eq!(rt; etcd.get(43, &mut entry), Ok(true));
+    assert_eq!(rt; entry.as_slice(), b"ho".as_slice());
+    assert_eq!(rt; etcd.get(44, &mut entry), Ok(false));
+    assert_eq!(rt; etcd.get(42, &mut entry), Ok(true));
+    assert_eq!(rt; entry.as_slice(), b"hi".as_slice());
     Ok(())
 }
 

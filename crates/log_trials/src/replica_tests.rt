@@ -1,17 +1,13 @@
 //! Replicas over a log in memory.
 
-ghost use Rattle.std.specs.Prelude.{◌≡◌, []};
-
-use crate::doubles::{Lossy, Tape};
+use crate::doubles::{Lossy, Notebook};
 use one_log::{Cause, Group, MemoryStore, Replica, ServeFault, Step, StoreFault};
 use std::alloc::Global;
 use std::test::Fail;
 
 // A machine to which nothing was applied.
-fn tape(alloc: Global, refusals: u64) -> Tape
-    ensures { result.entries.items ≡ [] }
-{
-    Tape {
+fn notebook(alloc: Global, refusals: u64) -> Notebook {
+    Notebook {
         alloc,
         entries: Vec::new(alloc),
         refusals,
@@ -21,9 +17,9 @@ fn tape(alloc: Global, refusals: u64) -> Tape
 #[test]
 fn three_replicas_tell_what_one_machine_tells(rt: HostRuntime) -> Result<(), Fail> {
     let alloc = rt.alloc();
-    let mut group: Group<Tape> = Group::new(alloc);
+    let mut group: Group<Notebook> = Group::new(alloc);
     for _ in 0..3 {
-        group.join(tape(alloc, 0))?;
+        group.join(notebook(alloc, 0))?;
     }
     assert_eq!(rt; group.len(), 3);
     let mut counts = [0u8; 3];
@@ -60,7 +56,7 @@ fn what_was_written_and_not_told_is_found(rt: HostRuntime) -> Result<(), Fail> {
         losses: 1,
     };
     let mut replies = Vec::new(alloc);
-    let mut one = Replica::new(alloc, tape(alloc, 0));
+    let mut one = Replica::new(alloc, notebook(alloc, 0));
     let lost = Cause::Store(StoreFault::Lost);
     let first = one.serve(&mut store, b"1 a", &mut replies);
     assert_eq!(rt; (first, replies.len()), (Err(ServeFault::Unknown(lost)), 0));
@@ -78,33 +74,43 @@ fn another_has_the_place(rt: HostRuntime) -> Result<(), Fail> {
     let alloc = rt.alloc();
     let mut store = MemoryStore::new(alloc);
     let mut replies = Vec::new(alloc);
-    let mut one = Replica::new(alloc, tape(alloc, 0));
-    let mut two = Replica::new(alloc, tape(alloc, 0));
+    let mut one = Replica::new(alloc, notebook(alloc, 0));
+    let mut two = Replica::new(alloc, notebook(alloc, 0));
     assert_eq!(rt; one.serve(&mut store, b"1 a", &mut replies), Ok(()));
     assert_eq!(rt; two.serve(&mut store, b"2 a", &mut replies), Ok(()));
-    assert_eq!(rt; (replies.as_slice(), two.len()), (b"\x012 a".as_slice(), 2));
-    assert_eq!(rt; (one.catch_up(&mut store, 9), one.len()), (Ok(1), 2));
+    assert_eq!(rt;
+        (replies.as_slice(), two.place()),
+        (b"\x012 a".as_slice(), 2)
+    );
+    assert_eq!(rt;
+        (one.catch_up(&mut store, 9, &mut replies), one.place()),
+        (Ok(1), 2)
+    );
+    assert_eq!(rt; replies.len(), 0);
     Ok(())
 }
 
 #[test]
-fn a_refused_growth_is_no_answer(rt: HostRuntime) -> Result<(), Fail> {
+fn a_refused_growth_spoils(rt: HostRuntime) -> Result<(), Fail> {
     let alloc = rt.alloc();
     let mut store = MemoryStore::new(alloc);
     let mut replies = Vec::new(alloc);
-    let mut one = Replica::new(alloc, tape(alloc, 2));
-    for _ in 0..2 {
-        let refused = one.serve(&mut store, b"1 a", &mut replies);
-        assert_eq!(rt;
-            (refused, replies.len()),
-            (Err(ServeFault::Unknown(Cause::Memory)), 0)
-        );
-    }
-    assert_eq!(rt; one.serve(&mut store, b"1 a", &mut replies), Ok(()));
+    let mut one = Replica::new(alloc, notebook(alloc, 1));
+    let refused = one.serve(&mut store, b"1 a", &mut replies);
     assert_eq!(rt;
-        (replies.as_slice(), store.len()),
-        (b"\x001 a".as_slice(), 1)
+        (refused, replies.len()),
+        (Err(ServeFault::Unknown(Cause::Memory)), 0)
     );
+    let again = one.serve(&mut store, b"2 a", &mut replies);
+    assert_eq!(rt;
+        (again, replies.len(), store.len()),
+        (Err(ServeFault::Unknown(Cause::Spoiled)), 0, 1)
+    );
+    assert_eq!(rt;
+        one.catch_up(&mut store, 9, &mut replies),
+        Err(Cause::Spoiled)
+    );
+    assert!(rt; one.is_spoiled());
     Ok(())
 }
 
@@ -113,7 +119,7 @@ fn a_long_batch_is_refused(rt: HostRuntime) -> Result<(), Fail> {
     let alloc = rt.alloc();
     let mut store = MemoryStore::new(alloc);
     let mut replies = Vec::new(alloc);
-    let mut one = Replica::new(alloc, tape(alloc, 0));
+    let mut one = Replica::new(alloc, notebook(alloc, 0));
     let long = vec![in alloc; 7u8; 65_537]?;
     let refused = one.serve(&mut store, &long, &mut replies);
     assert_eq!(rt; (refused, store.len()), (Err(ServeFault::TooLong), 0));
