@@ -1,2 +1,3 @@
 mod WireLemmas
 mod SeatLemmas
+mod GatherLemmas

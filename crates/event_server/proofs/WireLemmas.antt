@@ -1,17 +1,19 @@
 -- what a wire takes
-use Rattle.std.proofs.Common.{◌≡◌, ℕ, true, false, Bool, List, [], ◌++◌, ◌||◌, take, drop, Option, Some, None, refl, sym, ap, subst, ◌∙◌, arith, append_assoc}
-use Rattle.std.proofs.lemmas.List.{append-nil, take-append-drop}
+use Rattle.std.proofs.Common.{◌≡◌, ◌≤◌, ℕ, length, true, false, Bool, List, [], ◌∷◌, ◌++◌, ◌||◌, take, drop, Option, Some, None, refl, sym, ap, subst, ◌∙◌, arith, append_assoc}
+use Rattle.std.proofs.lemmas.Grind.{flat_map-append}
+use Rattle.std.proofs.lemmas.List.{append-nil, take-append-drop, take-append-le}
 use Rattle.std.specs.Io.KnownBytes.{Appends, Consumes, Keeps}
 use Rattle.commands.specs.declared.reply.Reply.{Reply}
 use Rattle.commands.specs.Requests.{Request}
-use Rattle.schedule_player.specs.Progress.{after_bytes, after_end}
+use Rattle.commands.specs.declared.kind.WorldKind.{WorldKind}
+use Rattle.schedule_player.specs.Progress.{Progress, after_byte, after_bytes, after_end}
 use Rattle.schedule_player.specs.Runs.{Runs}
 use Rattle.schedule_player.specs.Says.{Says, Spoke}
 use Rattle.schedule_player.specs.Texts.{turn_reply, replies_of}
 use Rattle.schedule_player.specs.TalkerState.{TalkerState}
 use Rattle.schedule_player.specs.Turns.{Turn}
 use Rattle.event_server.specs.WireState.{WireState}
-use Rattle.event_server.specs.Wires.{Takes, TakesOf}
+use Rattle.event_server.specs.Wires.{Takes, TakesOf, after_taken}
 
 or_false : (b : Bool) → b ≡ (b || false)
 or_false true = refl
@@ -117,3 +119,50 @@ module _ {T : Type 0} (may : T → Request → Reply → T → Type 0) where
               (inbox ∙ empty, k.0 ∙ ap (λ l. s.outbox ++ l) (said.1.text_is ∙ ap (λ l. l ++ replies_of said.0) none), k.1);
         },
       )
+
+-- of the first bytes some
+pub cut_first : (n k : ℕ) (xs : List ℕ) → n ≤ length (take k xs) → take n (take k xs) ≡ take n xs
+cut_first n k xs le = sym (ap (λ l. take n l) (sym (take-append-drop k xs)) ∙ take-append-le n (take k xs) (drop k xs) le)
+
+-- bytes after bytes
+bytes_after : (kind : WorldKind) (p : Progress) (xs ys : List ℕ) → after_bytes kind (after_bytes kind p xs) ys ≡ after_bytes kind p (xs ++ ys)
+bytes_after kind p [] ys = refl
+bytes_after kind p (x ∷ xs) ys = bytes_after kind (after_byte kind p x) xs ys
+
+taken_after : (kind : WorldKind) (p : Progress) (xs ys : List ℕ) (ends : Bool) → after_taken kind ys ends (after_taken kind xs false p) ≡ after_taken kind (xs ++ ys) ends p
+taken_after kind p xs ys true = ap (after_end kind) (bytes_after kind p xs ys)
+taken_after kind p xs ys false = bytes_after kind p xs ys
+
+replies_after : (ts us : List Turn) → replies_of (ts ++ us) ≡ replies_of ts ++ replies_of us
+replies_after ts us = flat_map-append turn_reply ts us
+
+-- all that waited is taken, and then what comes next of the stream
+pub takes_both : (left left' : Option (List ℕ)) (s m s' : WireState) (ts us : List Turn) → Takes ts [] false s m → m.broken ≡ false → m.inbox ≡ [] →
+    TakesOf us left m left' s' → TakesOf (ts ++ us) left s left' s'
+takes_both left left' s m s' ts us a whole empty b =
+    let k = a.kept whole in
+    let t = b.takes in
+    let none : a.rest ≡ [] = sym k.0 ∙ empty in
+    let all : s.inbox ≡ a.taken = sym (append-nil s.inbox) ∙ a.parts ∙ ap (λ l. a.taken ++ l) none ∙ append-nil a.taken in
+    let came : b.came ≡ t.taken ++ t.rest = ap (λ l. l ++ b.came) (sym empty) ∙ t.parts in
+    record {
+      came = b.came;
+      ends = b.ends;
+      few = b.few;
+      gave = b.gave;
+      at_end = b.at_end;
+      takes = record {
+        taken = a.taken ++ t.taken;
+        rest = t.rest;
+        parts = ap (λ l. l ++ b.came) all ∙ ap (λ l. a.taken ++ l) came ∙ sym (append_assoc a.taken t.taken t.rest);
+        goes_on = λ before p spoke. subst (λ (x : List Turn). Spoke x s'.talker (after_taken s.talker.kind (a.taken ++ t.taken) b.ends p)) (append_assoc before ts us)
+            (subst (λ (x : Progress). Spoke ((before ++ ts) ++ us) s'.talker x) (taken_after s.talker.kind p a.taken t.taken b.ends)
+            (subst (λ (k : WorldKind). Spoke ((before ++ ts) ++ us) s'.talker (after_taken k t.taken b.ends (after_taken s.talker.kind a.taken false p))) a.kind_is
+            (t.goes_on (before ++ ts) (after_taken s.talker.kind a.taken false p) (a.goes_on before p spoke))));
+        kind_is = t.kind_is ∙ a.kind_is;
+        ended_is = t.ended_is ∙ ap (λ e. e || b.ends) (a.ended_is ∙ sym (or_false s.ended));
+        kept = λ h.
+            let l = t.kept h in
+            (l.0, l.1 ∙ ap (λ x. x ++ replies_of us) k.1 ∙ append_assoc s.outbox (replies_of ts) (replies_of us) ∙ ap (λ x. s.outbox ++ x) (sym (replies_after ts us)), k.2);
+      };
+    }

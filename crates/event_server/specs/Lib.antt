@@ -2,3 +2,4 @@ pub mod WireState
 pub mod Wires
 pub mod Rooms
 pub mod Seats
+pub mod Gathering

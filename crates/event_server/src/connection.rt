@@ -1,6 +1,6 @@
 //! A connection: its stream, and what is held of it.
 
-ghost use Rattle.std.specs.Prelude.{◌≡◌, ◌+◌, ◌≤◌, true, false, List, [], length, take, drop};
+ghost use Rattle.std.specs.Prelude.{◌≡◌, ◌+◌, ◌≤◌, true, false, List, [], length, take, drop, IsTrue};
 ghost use Rattle.std.specs.Io.KnownBytes.{Appends};
 ghost use Rattle.commands.specs.Requests.{Request};
 ghost use Rattle.schedule_player.specs.Runs.{Runs};
@@ -8,11 +8,14 @@ ghost use Rattle.schedule_player.specs.Turns.{Turn};
 ghost use Rattle.schedule_player.specs.declared.form.TheConstants.{TURN_ROOM};
 ghost use Rattle.event_server.specs.Rooms.{IsRoom};
 ghost use Rattle.event_server.specs.Wires.{TakesOf, SendsTo};
+ghost use Rattle.event_server.specs.Gathering.{GathersOf};
 ghost use Rattle.event_server.specs.declared.wire.TheConstants.{UNSENT_ROOM, MOST_LINES};
 
+use crate::look::{Limits, Look};
 use crate::room::{READ_ROOM, Room};
 use crate::stream::Stream;
 use crate::wire::{MOST_LINES, UNSENT_ROOM, Wire};
+use commands::WorldKind;
 use schedule_player::{Service, TURN_ROOM};
 use std::alloc::Allocator;
 use std::io::ErrorKind;
@@ -42,6 +45,8 @@ pub struct Connection<S, A: Allocator> {
     pub hung: bool,
     /// The tick at which something last came or went.
     pub since: u64,
+    /// What its next turn takes, where the service learns the answers before; `None` where it takes what comes.
+    pub look: Option<Look>,
 }
 
 impl<S: Stream, A: Allocator> Connection<S, A> {
@@ -57,6 +62,7 @@ impl<S: Stream, A: Allocator> Connection<S, A> {
             writable: true,
             hung: false,
             since,
+            look: None,
         }
     }
 
@@ -68,13 +74,15 @@ impl<S: Stream, A: Allocator> Connection<S, A> {
     /// Whether a turn more would have something to do, with nothing new told of its stream.
     pub fn goes_on(&self) -> bool {
         let sends = self.writable && !self.wire.unsent().is_empty();
-        let takes = self.wire.has_room()
-            && !self.wire.is_ended()
-            && (self.wire.has_input() || self.readable);
+        let waits = match self.look {
+            Some(look) => look.more,
+            None => self.wire.has_input(),
+        };
+        let takes = self.wire.has_room() && !self.wire.is_ended() && (waits || self.readable);
         !self.wire.is_broken() && (sends || takes)
     }
 
-    /// Takes its turn, which is due: what waited of its lines, or else what one read gives.
+    /// Takes its turn, which is due: what waited of its lines, or else what one read gives; where lines were looked at, just those.
     pub fn take<R, D: Service<R>, B: Allocator>(
         &mut self,
         rt: &R,
@@ -92,11 +100,154 @@ impl<S: Stream, A: Allocator> Connection<S, A> {
         if self.wire.is_broken() || self.wire.is_ended() || !self.wire.has_room() {
             return;
         }
-        if self.wire.has_input() {
+        if let Some(look) = self.look {
+            self.take_looked(rt, service, room, look);
+        } else if self.wire.has_input() {
             self.wire
                 .take(rt, service, &mut room.view, &[], &mut room.replies);
         } else if self.readable {
             self.read(rt, service, room);
+        }
+    }
+
+    // Takes what was looked at.
+    fn take_looked<R, D: Service<R>, B: Allocator>(
+        &mut self,
+        rt: &R,
+        service: &mut D,
+        room: &mut Room<B>,
+        look: Look,
+    )
+        requires knows { (q : Request) → D.knows q ≡ true }
+        requires whole { self.old.wire.broken ≡ false }
+        requires count { self.old.wire.talker.summary.lines ≤ MOST_LINES }
+        requires room { IsRoom room.old }
+        ensures takes { (turns : List Turn) × Runs D.may service.old turns service.new × TakesOf turns (S.left self.old.stream) self.old.wire (S.left self.new.stream) self.new.wire }
+        ensures unsent { S.gone self.new.stream ≡ S.gone self.old.stream }
+        ensures stage { self.new.stage ≡ self.old.stage }
+        ensures room { IsRoom room.new }
+    {
+        self.look = Some(look.nothing());
+        self.wire
+            .take_first(rt, service, &mut room.view, look.bytes, &mut room.replies);
+        if look.ends && self.may_read() {
+            // A stream that was at its end tells it again.
+            self.read(rt, service, room);
+        }
+    }
+
+    // Whether all that came is taken, and there is room for a reply to the end.
+    fn may_read(&self) -> bool
+        ensures whole { IsTrue result → self.now.wire.broken ≡ false }
+        ensures none { IsTrue result → self.now.wire.inbox ≡ [] }
+        ensures reply { IsTrue result → length self.now.wire.outbox + TURN_ROOM ≤ UNSENT_ROOM }
+        ensures count { IsTrue result → self.now.wire.talker.summary.lines ≤ MOST_LINES }
+    {
+        !self.wire.is_broken() && !self.wire.has_input() && self.wire.has_room()
+    }
+
+    /// Reads once what came, if there is room, and looks at its lines before they are taken: its requests are added to the batch, as far
+    /// as there is room there. Where memory is refused it is at fault, and none of its lines is in the batch.
+    pub fn gather<B: Allocator>(
+        &mut self,
+        kind: WorldKind,
+        most: usize,
+        room: &mut Room<B>,
+        batch: &mut Vec<u8, B>,
+    )
+        requires { IsRoom room.old }
+        ensures gathers { GathersOf (S.left self.old.stream) self.old.wire (S.left self.new.stream) self.new.wire }
+        ensures unsent { S.gone self.new.stream ≡ S.gone self.old.stream }
+        ensures stage { self.new.stage ≡ self.old.stage }
+        ensures room { IsRoom room.new }
+    {
+        let look = match self.look {
+            Some(look) => look.nothing(),
+            None => Look::new(),
+        };
+        self.look = Some(look);
+        if self.wire.is_broken() || self.wire.is_ended() || !self.wire.has_room() {
+            return;
+        }
+        self.gather_bytes(&mut room.chunk);
+        self.look_over(kind, most, batch);
+    }
+
+    // The end of what comes was read.
+    fn note_end(&mut self)
+        ensures { self.new ≡ record self.old { readable = false; look = self.new.look } }
+    {
+        self.readable = false;
+        if let Some(look) = &mut self.look {
+            look.at_end = true;
+        }
+    }
+
+    // Looks at what waits.
+    fn look_over<B: Allocator>(&mut self, kind: WorldKind, most: usize, batch: &mut Vec<u8, B>)
+        ensures wire { self.new.wire ≡ record self.old.wire { broken = self.new.wire.broken } }
+        ensures whole { self.new.wire.broken ≡ false → self.old.wire.broken ≡ false }
+        ensures stream { self.new.stream ≡ self.old.stream }
+        ensures stage { self.new.stage ≡ self.old.stage }
+    {
+        let Some(mut look) = self.look else {
+            return;
+        };
+        let before = batch.len();
+        let mut limits = Limits {
+            kind,
+            most,
+            said: self.wire.unsent().len(),
+        };
+        if self.wire.is_over() {
+            look.take_all(self.wire.inbox());
+        } else if look
+            .look_over(self.wire.inbox(), &mut limits, batch)
+            .is_err()
+        {
+            batch.truncate(before);
+            look = look.nothing();
+            self.wire.fail();
+        }
+        self.look = Some(look);
+    }
+
+    /// Its lines were told, if any were, and what they are answered is not known: then it is at fault. It waits for its next turn.
+    pub fn give_up(&mut self)
+        ensures wire { self.new.wire ≡ record self.old.wire { broken = self.new.wire.broken } }
+        ensures whole { self.new.wire.broken ≡ false → self.old.wire.broken ≡ false }
+        ensures stream { self.new.stream ≡ self.old.stream }
+    {
+        if let Some(look) = self.look {
+            if look.asks {
+                self.wire.fail();
+            }
+            self.look = Some(look.untaken());
+        }
+        self.stage = Stage::Idle;
+    }
+
+    // Reads once what came, if there is room.
+    fn gather_bytes(&mut self, chunk: &mut [u8])
+        requires whole { self.old.wire.broken ≡ false }
+        requires room { length chunk.old ≡ READ_ROOM }
+        ensures gathers { GathersOf (S.left self.old.stream) self.old.wire (S.left self.new.stream) self.new.wire }
+        ensures unsent { S.gone self.new.stream ≡ S.gone self.old.stream }
+        ensures stage { self.new.stage ≡ self.old.stage }
+    {
+        let free = READ_ROOM - self.wire.inbox().len();
+        if !self.readable || free == 0 {
+            return;
+        }
+        match self.stream.read_some(&mut chunk[..free]) {
+            Ok(0) => self.note_end(),
+            Ok(count) => {
+                self.readable = self.hung || count == free;
+                self.wire.add(&chunk[..count]);
+            }
+            Err(e) if e.kind() == ErrorKind::WouldBlock => self.readable = false,
+            Err(e) if e.kind() == ErrorKind::Interrupted => {}
+            Err(_) => self.wire.fail(),
         }
     }
 

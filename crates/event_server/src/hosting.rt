@@ -4,6 +4,7 @@ ghost use Rattle.std.specs.Prelude.{◌≡◌, true};
 ghost use Rattle.commands.specs.Requests.{Request};
 ghost use Rattle.event_server.specs.Rooms.{IsRoom};
 
+use crate::gathering::{Batch, Called, turn_ahead};
 use crate::host_fault::HostFault;
 use crate::house::House;
 use crate::keep::{Keep, Tally};
@@ -80,12 +81,17 @@ struct Hosting {
     /// Whether it was said that one could not be accepted.
     said: bool,
     stop: bool,
+    /// What is told to the keeper before a turn, where the service learns its answers ahead.
+    batch: Option<Batch<Global>>,
+    /// Whether a second has passed since the keeper was last told.
+    ticked: bool,
 }
 
 /// Serves clients of one service, each its own talk, in one thread.
 ///
 /// A line `listening ADDRESS:PORT` is written first. Each turn takes what clients have sent, keeps what the service tells of it, and only then
-/// sends replies (`turn`). It ends at the end of standard input where that is a pipe, or else never: then replies are sent, as far as
+/// sends replies (`turn`); where the service learns its answers ahead, what was read is told to the keeper before (`turn_ahead`), which is
+/// called once a second too. It ends at the end of standard input where that is a pipe, or else never: then replies are sent, as far as
 /// clients take them within a second, and a line `served N` is written.
 pub fn host<R, D: Service<R>, K: Keep<D>, W: Write, E: Write>(
     rt: &R,
@@ -100,7 +106,7 @@ where
     R: Net + Wait + Clock,
     requires { (q : Request) → D.knows q ≡ true }
 {
-    let mut hosting = Hosting::new(rt, alloc, options)?;
+    let mut hosting = Hosting::new(rt, alloc, options, keep.most_ahead())?;
     let Ok(mut events) = Events::with_capacity(alloc, EVENTS) else {
         return Err(HostFault::Memory);
     };
@@ -110,6 +116,7 @@ where
         let wait = hosting.next_wait();
         hosting.wait(rt, &mut events, wait)?;
         hosting.accept_all(errors)?;
+        hosting.tell_tick(service, keep)?;
         hosting.serve(rt, service, keep, &mut room)?;
         if hosting.is_report_due() {
             hosting.tell_tally(keep.tally(service), errors);
@@ -128,6 +135,7 @@ impl Hosting {
         rt: &R,
         alloc: Global,
         options: HostOptions,
+        most_ahead: Option<usize>,
     ) -> Result<Hosting, HostFault<F>> {
         let poll = Poll::new(rt)?;
         let mut listener = TcpListener::bind(rt, options.address)?;
@@ -138,6 +146,7 @@ impl Hosting {
             .registry()
             .register(&mut SourceFd(&0), STOPPER, Interest::READABLE);
         let start = Instant::now(rt)?;
+        let batch = most_ahead.map(|most| Batch::new(alloc, options.kind, most));
         Ok(Hosting {
             alloc,
             options,
@@ -151,6 +160,8 @@ impl Hosting {
             full: false,
             said: false,
             stop: false,
+            batch,
+            ticked: false,
         })
     }
 
@@ -164,7 +175,7 @@ impl Hosting {
     fn next_wait(&self) -> Option<Duration> {
         if self.can_accept() || !self.house.ready.is_empty() {
             Some(Duration::from_millis(0))
-        } else if 0 < self.house.open || self.full || self.options.reports {
+        } else if 0 < self.house.open || self.full || self.options.reports || self.batch.is_some() {
             Some(Duration::from_millis(1000))
         } else {
             None
@@ -190,6 +201,7 @@ impl Hosting {
         if self.tick < tick {
             self.tick = tick;
             self.full = false;
+            self.ticked = true;
             self.house.sweep(tick, self.options.idle);
         }
         Ok(())
@@ -218,8 +230,7 @@ impl Hosting {
         requires room { IsRoom room.old }
         ensures { IsRoom room.new }
     {
-        let seats = &mut self.house.seats;
-        let called = match turn(rt, service, keep, room, seats, &self.house.ready) {
+        let called = match self.call(rt, service, keep, room) {
             Ok(called) => called,
             Err(fault) => return Err(HostFault::Keep(fault)),
         };
@@ -227,6 +238,46 @@ impl Hosting {
         self.house.settle(called, self.tick)?;
         self.full = self.full && before <= self.house.open;
         Ok(())
+    }
+
+    // The turn of the connections that are due: how many were called.
+    fn call<R, D: Service<R>, K: Keep<D>>(
+        &mut self,
+        rt: &R,
+        service: &mut D,
+        keep: &mut K,
+        room: &mut Room<Global>,
+    ) -> Result<usize, K::Fault>
+        requires knows { (q : Request) → D.knows q ≡ true }
+        requires room { IsRoom room.old }
+        ensures { IsRoom room.new }
+    {
+        let seats = &mut self.house.seats;
+        let ready = &self.house.ready;
+        match &mut self.batch {
+            None => turn(rt, service, keep, room, seats, ready),
+            Some(batch) => match turn_ahead(rt, service, keep, batch, room, seats, ready) {
+                Ok(Called::Served(called)) => Ok(called),
+                Ok(Called::Unserved(called)) => Ok(called),
+                Err(fault) => Err(fault),
+            },
+        }
+    }
+
+    // Has the keeper go on, where it learns answers ahead and a second has passed.
+    fn tell_tick<D, K: Keep<D>>(
+        &mut self,
+        service: &mut D,
+        keep: &mut K,
+    ) -> Result<(), HostFault<K::Fault>> {
+        if !self.ticked || self.batch.is_none() {
+            return Ok(());
+        }
+        self.ticked = false;
+        match keep.tick(service) {
+            Ok(()) => Ok(()),
+            Err(fault) => Err(HostFault::Keep(fault)),
+        }
     }
 
     // Accepts one connection, if one waits. Where the system has no room for it, says so once, and waits until another leaves.

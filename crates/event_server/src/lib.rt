@@ -8,6 +8,12 @@
 //! the replies to them and to no others; of each at most 64 KiB were read; and of what waits for it a beginning is sent. Where what was
 //! told cannot be kept, nothing is sent at all.
 //!
+//! Where a service cannot answer a line as it comes, but learns answers many at once (`Keep::most_ahead`), `turn_ahead` first has connections
+//! read, and looks at the lines that they will take (`Look`): their requests are told to the keeper in one batch, and then the turn is as
+//! ever. Its theorem (`TurnAhead`): before the turn nothing was taken, said or sent, and the answers to the batch were learnt; where they
+//! were not learnt in time, nothing is sent to any. That the batch has just the requests that are taken then is not promised but shown by
+//! running it (`turn_trials`): a service that is asked what it did not learn has its keeper end the turn with nothing sent.
+//!
 //! `law_of_sharing` in `schedule_player` makes such turns, one after another, one log.
 //!
 //! `host` is a whole server over sockets: it waits until some are ready (`mio`), gives those their turn, and closes who is at an end or idle.
@@ -16,10 +22,12 @@
 #![tactic(auto)]
 
 pub mod connection;
+pub mod gathering;
 pub mod host_fault;
 pub mod hosting;
 pub mod house;
 pub mod keep;
+pub mod look;
 pub mod room;
 pub mod socket;
 pub mod stream;
@@ -27,9 +35,11 @@ pub mod turns;
 pub mod wire;
 
 pub use connection::{Connection, Stage};
+pub use gathering::{Batch, Called, gather, turn_ahead};
 pub use host_fault::HostFault;
 pub use hosting::{HostOptions, Hosted, host};
-pub use keep::{Keep, Tally};
+pub use keep::{Ahead, Keep, Tally};
+pub use look::Look;
 pub use room::{READ_ROOM, Room};
 pub use stream::Stream;
 pub use turns::{send_replies, take_turns, turn};

@@ -114,6 +114,14 @@ impl<A: Allocator> Wire<A> {
         &self.outbox
     }
 
+    /// What came and is not taken yet.
+    pub fn inbox(&self) -> &[u8]
+        ensures bytes { result.now ≡ self.now.inbox }
+        ensures few { length self.now.inbox ≤ UNSENT_ROOM }
+    {
+        &self.inbox
+    }
+
     /// Whether one more line may be taken: there is room for a reply to it, and to count it.
     pub fn has_room(&self) -> bool
         ensures room { IsTrue result → length self.now.outbox + TURN_ROOM ≤ UNSENT_ROOM }
@@ -175,8 +183,34 @@ impl<A: Allocator> Wire<A> {
         self.ended = true;
     }
 
-    // These bytes wait to be taken. Where memory is refused it is at fault.
-    fn add(&mut self, bytes: &[u8]) -> bool
+    /// Takes lines of the first bytes of what waits, as long as there is room for one reply more. The rest waits. Where memory is refused
+    /// it is at fault.
+    pub fn take_first<R, D: Service<R>, B: Allocator>(
+        &mut self,
+        rt: &R,
+        service: &mut D,
+        view: &mut View,
+        count: usize,
+        replies: &mut Replies<B>,
+    )
+        requires knows { Knows D.knows self.old.talker.kind }
+        requires whole { self.old.broken ≡ false }
+        requires count { self.old.talker.summary.lines ≤ MOST_LINES }
+        requires empty { replies.old ≡ [] }
+        ensures takes { (turns : List Turn) × Runs D.may service.old turns service.new × Takes turns [] false self.old self.new }
+        ensures empty { replies.new ≡ [] }
+    {
+        let most = UNSENT_ROOM - self.outbox.len();
+        let few = count.min(self.inbox.len());
+        let used = self
+            .talker
+            .take_some(rt, service, view, &self.inbox[..few], most, replies);
+        self.hold(replies);
+        drop_front(&mut self.inbox, used);
+    }
+
+    /// These bytes came, and wait to be taken. Where memory is refused it is at fault.
+    pub fn add(&mut self, bytes: &[u8]) -> bool
         requires { length self.old.inbox + length bytes.now ≤ UNSENT_ROOM }
         ensures added { result ≡ true → self.new ≡ record self.old { inbox = self.old.inbox ++ bytes.now } }
         ensures refused { result ≡ false → self.new ≡ record self.old { broken = true } }

@@ -1,0 +1,85 @@
+-- what is gathered of connections before their lines are taken
+use Rattle.std.proofs.Common.{◌≡◌, inl, inr, ℕ, ◌<◌, false, set, List, [], ◌++◌, length, get_or, Option, Some, None, refl, sym, ap, subst, ◌∙◌, append_assoc}
+use Rattle.std.proofs.lemmas.List.{append-nil, get_or-set_same, get_or-set_other, length-set}
+use Rattle.std.proofs.lemmas.Bool.{cases_eq}
+use Rattle.std.specs.Io.KnownBytes.{Consumes}
+use Rattle.event_server.specs.Seats.{Seating, NoneSent}
+use Rattle.event_server.specs.WireState.{WireState}
+use Rattle.event_server.specs.Gathering.{GathersOf, SeatGathers, Gathered}
+use Rattle.event_server.proofs.WireLemmas.{consumes_none}
+
+consumes_more : (old mid new : Option (List ℕ)) (xs ys : List ℕ) → Consumes old mid xs → Consumes mid new ys → Consumes old new (xs ++ ys)
+consumes_more None mid new xs ys a b = tt
+consumes_more (Some o) None new xs ys a b = absurd a
+consumes_more (Some o) (Some m) None xs ys a b = absurd b
+consumes_more (Some o) (Some m) (Some n) xs ys a b = a ∙ ap (λ t. xs ++ t) b ∙ sym (append_assoc xs ys n)
+
+-- these bytes came, and wait where it is at no fault
+pub gathers : (left left' : Option (List ℕ)) (came : List ℕ) (s s' : WireState) → Consumes left left' came → s'.talker ≡ s.talker → s'.outbox ≡ s.outbox → s'.ended ≡ s.ended →
+    (s'.broken ≡ false → (s'.inbox ≡ s.inbox ++ came) × (s.broken ≡ false)) → GathersOf left s left' s'
+gathers left left' came s s' gave talker outbox ended kept = record { came = came; gave = gave; talker_is = talker; outbox_is = outbox; ended_is = ended; kept = kept }
+
+-- nothing came
+pub gathers_none : (left left' : Option (List ℕ)) (s s' : WireState) → Consumes left left' [] → s'.talker ≡ s.talker → s'.outbox ≡ s.outbox → s'.ended ≡ s.ended →
+    (s'.broken ≡ false → (s'.inbox ≡ s.inbox) × (s.broken ≡ false)) → GathersOf left s left' s'
+gathers_none left left' s s' gave talker outbox ended kept = gathers left left' [] s s' gave talker outbox ended (λ h. let k = kept h in (k.0 ∙ sym (append-nil s.inbox), k.1))
+
+pub gathers_more : (left mid left' : Option (List ℕ)) (s m s' : WireState) → GathersOf left s mid m → GathersOf mid m left' s' → GathersOf left s left' s'
+gathers_more left mid left' s m s' a b = record {
+  came = a.came ++ b.came;
+  gave = consumes_more left mid left' a.came b.came a.gave b.gave;
+  talker_is = b.talker_is ∙ a.talker_is;
+  outbox_is = b.outbox_is ∙ a.outbox_is;
+  ended_is = b.ended_is ∙ a.ended_is;
+  kept = λ h.
+      let k = b.kept h in
+      let l = a.kept k.1 in
+      (k.0 ∙ ap (λ x. x ++ b.came) l.0 ∙ append_assoc s.inbox a.came b.came, l.1);
+}
+
+module _ {C : Type 0} (on : Seating C) where
+  seat_gathers_none : (x : Option C) → SeatGathers on x x
+  seat_gathers_none None = tt
+  seat_gathers_none (Some c) = (gathers_none (on.left c) (on.left c) (on.wire c) (on.wire c) (consumes_none (on.left c)) refl refl refl (λ h. (refl, h)), refl)
+
+  seat_gathers_more : (x y z : Option C) → SeatGathers on x y → SeatGathers on y z → SeatGathers on x z
+  seat_gathers_more None None None a b = tt
+  seat_gathers_more None None (Some d) a b = b
+  seat_gathers_more None (Some c) z a b = absurd a
+  seat_gathers_more (Some c) None z a b = absurd a
+  seat_gathers_more (Some c) (Some d) None a b = b
+  seat_gathers_more (Some c) (Some d) (Some e) a b = (gathers_more (on.left c) (on.left d) (on.left e) (on.wire c) (on.wire d) (on.wire e) a.0 b.0, b.1 ∙ a.1)
+
+  pub gathered_none : (seats : List (Option C)) → Gathered on seats seats
+  gathered_none seats = record { each = λ i. seat_gathers_none (get_or seats i None); many = refl }
+
+  pub gathered_more : (xs ys zs : List (Option C)) → Gathered on xs ys → Gathered on ys zs → Gathered on xs zs
+  gathered_more xs ys zs a b = record { each = λ i. seat_gathers_more (get_or xs i None) (get_or ys i None) (get_or zs i None) (a.each i) (b.each i); many = b.many ∙ a.many }
+
+  -- one connection is gathered of where it sits
+  pub gathered_at : (key : ℕ) (seats : List (Option C)) (was is : C) → key < length seats → get_or seats key None ≡ Some was →
+      GathersOf (on.left was) (on.wire was) (on.left is) (on.wire is) → on.gone is ≡ on.gone was → Gathered on seats (set seats key (Some is))
+  gathered_at key seats was is below there gathers unsent = record {
+    each = λ i. elim (cases_eq i key) as (λ _. SeatGathers on (get_or seats i None) (get_or (set seats key (Some is)) i None)) [
+      | inl same ↦ subst (λ (k : ℕ). SeatGathers on (get_or seats k None) (get_or (set seats key (Some is)) k None)) (sym same)
+          (rw (there, get_or-set_same seats key (Some is) None below) (gathers, unsent))
+      | inr other ↦ rw (get_or-set_other seats key i (Some is) None other) (seat_gathers_none (get_or seats i None))
+    ];
+    many = length-set seats key (Some is);
+  }
+
+  some_is : (c d : C) → Some c ≡ Some d → c ≡ d
+  some_is c d e = cc
+
+  pub gathered_unsent : (seats seats' : List (Option C)) → Gathered on seats seats' → NoneSent on seats seats'
+  gathered_unsent seats seats' all i c d a b =
+      let one : SeatGathers on (Some c) (Some d) = rw (a, b) at (all.each i) in
+      one.1
+
+  -- nothing is sent of what was gathered
+  pub unsent_after : (xs ys zs : List (Option C)) → Gathered on xs ys → NoneSent on ys zs → NoneSent on xs zs
+  unsent_after xs ys zs all none i c d a b = between (get_or ys i None) refl (rw a at (all.each i))
+    where
+      between : (y : Option C) → get_or ys i None ≡ y → SeatGathers on (Some c) y → on.gone d ≡ on.gone c
+      between None is one = absurd one
+      between (Some e) is one = none i e d is b ∙ one.1

@@ -1,0 +1,27 @@
+use Rattle.std.proofs.Common.{◌≡◌, ◌∙◌, ◌++◌, List, ℕ, [], sym, ap, subst, drop, take}
+use Rattle.std.proofs.lemmas.List.{append-nil}
+use Rattle.schedule_player.specs.Progress.{after_bytes}
+use Rattle.schedule_player.specs.Says.{Says}
+use Rattle.schedule_player.specs.Texts.{turn_reply}
+use Rattle.event_server.specs.WireState.{WireState}
+use Rattle.event_server.proofs.WireLemmas.{cut_first, takes_said}
+use Rattle.event_server.proofs.wire.Wire.take_first.Goals as goal
+
+pub returns-clause-takes : goal.returns-clause-takes
+returns-clause-takes g c =
+    let s = c.args.self.now in
+    let n = c.take_some-used.result in
+    let was = c.self.view_is in
+    let is = c.self-2.view_is in
+    let same = c.hold.ensures.same in
+    let all : c.deref.result.now ≡ s.inbox = c.deref.ensures.value ∙ ap (λ (q : WireState). q.inbox) was in
+    let cut = cut_first n _ c.deref.result.now c.take_some-used.ensures.taken ∙ ap (λ l. take n l) all in
+    let s' : WireState = record { talker = c.self-2.inside.talker; inbox = c.drop_front.new.bytes.items; outbox = c.self-2.inside.outbox.items; ended = c.self-2.inside.ended; broken = c.self-2.inside.broken } in
+    takes_said g.D.Service.may c.args.service.now c.take_some-used.new.service s s' c.self.inside.talker c.take_some-used.new.self [] s.inbox n c.args.replies.now c.take_some-used.new.out
+    (ap (λ (q : WireState). q.talker) was) (sym (ap (λ (q : WireState). q.talker) is ∙ same.0)) (sym (append-nil s.inbox)) c.requires.empty
+    (subst (λ (l : List ℕ). Says g.D.Service.may turn_reply c.args.service.now c.self.inside.talker c.args.replies.now c.take_some-used.new.service c.take_some-used.new.self c.take_some-used.new.out (λ p. after_bytes c.self.inside.talker.kind p l)) cut c.take_some-used.ensures.says)
+    c.take_some-used.ensures.kept
+    (c.drop_front.ensures ∙ ap (λ l. drop n l) (ap (λ (q : WireState). q.inbox) is ∙ same.1 ∙ ap (λ (q : WireState). q.inbox) was)) (ap (λ (q : WireState). q.ended) is ∙ same.2 ∙ ap (λ (q : WireState). q.ended) was)
+    (λ h.
+    let held = c.hold.ensures.held (sym (ap (λ (q : WireState). q.broken) is) ∙ h) in
+    (ap (λ (q : WireState). q.outbox) is ∙ held.0 ∙ ap (λ l. l ++ c.take_some-used.new.out) (ap (λ (q : WireState). q.outbox) was), sym (ap (λ (q : WireState). q.broken) was) ∙ held.1))

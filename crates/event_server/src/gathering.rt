@@ -1,0 +1,165 @@
+//! One turn of the loop over a service that learns its answers before.
+
+ghost use Rattle.std.specs.Prelude.{◌≡◌, ◌⊎◌, ℕ, ◌≤◌, true, [], length, OnErr};
+ghost use Rattle.commands.specs.Requests.{Request};
+ghost use Rattle.event_server.specs.Rooms.{IsRoom};
+ghost use Rattle.event_server.specs.Seats.{seating, NoneSent};
+ghost use Rattle.event_server.specs.Gathering.{Gathered, TurnAhead};
+
+use crate::connection::{Connection, Stage};
+use crate::keep::{Ahead, Keep};
+use crate::look::has_room;
+use crate::room::Room;
+use crate::stream::Stream;
+use crate::turns::turn;
+use commands::WorldKind;
+use schedule_player::Service;
+use std::alloc::Allocator;
+
+/// What is told to a keeper before a turn takes it.
+#[derive(Drop)]
+pub struct Batch<A: Allocator> {
+    /// The world whose commands are spoken.
+    pub kind: WorldKind,
+    /// How many bytes of lines are told at most.
+    pub most: usize,
+    /// Lines of requests, in the order in which they will be taken, each with its LF.
+    pub lines: Vec<u8, A>,
+}
+
+impl<A: Allocator> Batch<A> {
+    /// Nothing is told yet, and so many bytes at most are at once.
+    pub fn new(alloc: A, kind: WorldKind, most: usize) -> Batch<A>
+        ensures { result.lines.items ≡ [] }
+    {
+        Batch {
+            kind,
+            most,
+            lines: Vec::new(alloc),
+        }
+    }
+}
+
+/// How a turn ended before which its answers were to be learnt, and how many of the seats were called; the others are to be called in the
+/// next turn.
+#[derive(Clone, Copy, Debug, Drop, PartialEq, Eq)]
+pub enum Called {
+    /// They had their turn.
+    Served(usize),
+    /// The answers were not learnt: nothing was taken of any and nothing sent, and those whose lines were told are at fault.
+    Unserved(usize),
+}
+
+// The connection of a seat is read, and its lines are looked at, where there is one and its turn is due.
+fn gather_at<S: Stream, A: Allocator, B: Allocator>(
+    batch: &mut Batch<B>,
+    room: &mut Room<B>,
+    seats: &mut [Option<Connection<S, A>>],
+    key: usize,
+)
+    requires { IsRoom room.old }
+    ensures gathered { Gathered (seating (λ c. S.left c.stream) (λ c. S.gone c.stream) (λ c. c.wire)) seats.old seats.new }
+    ensures room { IsRoom room.new }
+{
+    if key < seats.len() {
+        if let Some(connection) = &mut seats[key] {
+            if let Stage::Queued = connection.stage {
+                connection.gather(batch.kind, batch.most, room, &mut batch.lines);
+            }
+        }
+    }
+}
+
+/// The connections of these seats are read, and their lines are looked at, one after another, as far as there is room for one line more
+/// in the batch. Says how many of the seats had their look. Nothing is taken and nothing sent.
+pub fn gather<S: Stream, A: Allocator, B: Allocator>(
+    batch: &mut Batch<B>,
+    room: &mut Room<B>,
+    seats: &mut [Option<Connection<S, A>>],
+    ready: &[usize],
+) -> usize
+    requires { IsRoom room.old }
+    ensures gathered { Gathered (seating (λ c. S.left c.stream) (λ c. S.gone c.stream) (λ c. c.wire)) seats.old seats.new }
+    ensures looked { result ≤ length ready.now }
+    ensures room { IsRoom room.new }
+{
+    batch.lines.clear();
+    let mut looked = 0;
+    while looked < ready.len() && has_room(batch.most, &batch.lines) {
+        gather_at(batch, room, seats, ready[looked]);
+        looked += 1;
+    }
+    looked
+}
+
+// The connection of a seat is at fault, where there is one whose lines were told; each other waits for its next turn.
+fn give_up_at<S: Stream, A: Allocator>(seats: &mut [Option<Connection<S, A>>], key: usize)
+    ensures { Gathered (seating (λ c. S.left c.stream) (λ c. S.gone c.stream) (λ c. c.wire)) seats.old seats.new }
+{
+    if key < seats.len() {
+        if let Some(connection) = &mut seats[key] {
+            connection.give_up();
+        }
+    }
+}
+
+// The connections of these seats whose lines were told are at fault; nothing is taken of any, and nothing sent.
+fn give_up<S: Stream, A: Allocator>(seats: &mut [Option<Connection<S, A>>], called: &[usize])
+    ensures { Gathered (seating (λ c. S.left c.stream) (λ c. S.gone c.stream) (λ c. c.wire)) seats.old seats.new }
+{
+    for key in called {
+        give_up_at(seats, *key);
+    }
+}
+
+// Has the keeper learn a batch, where there is something in it.
+fn learn<D, K: Keep<D>, B: Allocator>(
+    service: &mut D,
+    keep: &mut K,
+    batch: &Batch<B>,
+) -> Result<Ahead, K::Fault>
+    ensures { result ≡ Ok Ahead.Known → ((batch.now.lines.items ≡ []) × (keep.new ≡ keep.old) × (service.new ≡ service.old)) ⊎
+        K.learns keep.old service.old batch.now.lines.items keep.new service.new }
+{
+    if batch.lines.is_empty() {
+        return Ok(Ahead::Known);
+    }
+    keep.learn(service, &batch.lines)
+}
+
+/// One turn of the loop over a service that learns its answers before: the connections of these seats are read, the requests among their
+/// lines are told to the keeper, which has the service learn the answers, and then they have their turn (`turn`). Where the answers are not
+/// learnt in time, those whose lines were told are at fault, and nothing is sent.
+///
+/// The fault of what keeps, with no byte sent.
+pub fn turn_ahead<R, D: Service<R>, K: Keep<D>, S: Stream, A: Allocator, B: Allocator>(
+    rt: &R,
+    service: &mut D,
+    keep: &mut K,
+    batch: &mut Batch<B>,
+    room: &mut Room<B>,
+    seats: &mut [Option<Connection<S, A>>],
+    ready: &[usize],
+) -> Result<Called, K::Fault>
+    requires knows { (q : Request) → D.knows q ≡ true }
+    requires room { IsRoom room.old }
+    ensures served { (called : ℕ) → result ≡ Ok (Called.Served called) → TurnAhead (seating (λ c. S.left c.stream) (λ c. S.gone c.stream) (λ c. c.wire)) D.may K.learns K.keeps keep.old service.old seats.old batch.new.lines.items keep.new service.new seats.new }
+    ensures unserved { (called : ℕ) → result ≡ Ok (Called.Unserved called) → Gathered (seating (λ c. S.left c.stream) (λ c. S.gone c.stream) (λ c. c.wire)) seats.old seats.new }
+    ensures unsent { OnErr result (NoneSent (seating (λ c. S.left c.stream) (λ c. S.gone c.stream) (λ c. c.wire)) seats.old seats.new) }
+    ensures room { IsRoom room.new }
+{
+    let looked = gather(batch, room, seats, ready);
+    let called = &ready[..looked];
+    match learn(service, keep, batch) {
+        Ok(Ahead::Known) => {}
+        Ok(Ahead::Lost) => {
+            give_up(seats, called);
+            return Ok(Called::Unserved(looked));
+        }
+        Err(fault) => return Err(fault),
+    }
+    match turn(rt, service, keep, room, seats, called) {
+        Ok(count) => Ok(Called::Served(count)),
+        Err(fault) => Err(fault),
+    }
+}

@@ -1,0 +1,211 @@
+//! What is seen of a connection's lines before its turn takes them.
+
+ghost use Rattle.std.specs.Prelude.{◌≡◌};
+
+use crate::wire::UNSENT_ROOM;
+use commands::{Command, Event, WorldKind};
+use memchr::memchr;
+use schedule_player::{REPLY_ROOM, TURN_ROOM, parse_line};
+use std::alloc::{AllocError, Allocator};
+
+/// What ends a line.
+const LF: u8 = 10;
+
+/// No reply has more bytes where it shows no view: a word of at most 9 letters, a space, a number of at most 20 digits, and LF.
+const SHORT_REPLY: usize = 40;
+
+/// No line of a request has more bytes, its LF included.
+const REQUEST_ROOM: usize = 101;
+
+/// Where so many bytes wait and no line ends in them, they are taken as the beginning of one that is too long.
+const MOST_WAITING: usize = 65_536;
+
+/// What the next turn of a connection takes, where the service learns the answers before.
+#[derive(Clone, Copy, Debug, Drop, PartialEq, Eq)]
+pub struct Look {
+    /// How many bytes of what waits it takes.
+    pub bytes: usize,
+    /// Whether it takes the end of what comes.
+    pub ends: bool,
+    /// Whether lines of it were told to the keeper.
+    pub asks: bool,
+    /// Whether more than it takes could be taken, if there were room.
+    pub more: bool,
+    /// Whether the end of what comes was read.
+    pub at_end: bool,
+    /// Whether it has begun to take a line that is longer than any request.
+    pub long: bool,
+}
+
+/// What a turn takes of a line.
+enum Sight {
+    /// A request, whose reply has at most so many bytes.
+    Request(usize),
+    /// A line that asks for nothing.
+    Nothing,
+    /// The end of the talk.
+    Quit,
+}
+
+// What a turn takes of a line.
+fn look_at(line: &[u8], kind: WorldKind) -> Sight {
+    match parse_line(line, kind) {
+        Ok(Command::Quit) => Sight::Quit,
+        Ok(Command::Event(Event::Step(_))) => Sight::Request(REPLY_ROOM),
+        Ok(_) => Sight::Request(SHORT_REPLY),
+        Err(_) => Sight::Nothing,
+    }
+}
+
+/// How much room there is for what a turn takes: bytes of the batch, and bytes of replies.
+#[derive(Clone, Copy, Debug, Drop)]
+pub struct Limits {
+    /// The world whose commands are spoken.
+    pub kind: WorldKind,
+    /// How many bytes of lines are told to the keeper at most.
+    pub most: usize,
+    /// How many bytes wait to be sent.
+    pub said: usize,
+}
+
+/// Whether there is room for one line more in a batch of so many bytes at most.
+pub fn has_room<B: Allocator>(most: usize, batch: &Vec<u8, B>) -> bool {
+    batch.len() <= most.saturating_sub(REQUEST_ROOM)
+}
+
+impl Limits {
+    // Whether there is room for one line more, and for the reply to it.
+    fn have_room<B: Allocator>(&self, batch: &Vec<u8, B>) -> bool {
+        self.said <= UNSENT_ROOM - TURN_ROOM && has_room(self.most, batch)
+    }
+}
+
+impl Look {
+    /// Nothing was read or looked at.
+    pub fn new() -> Look {
+        Look {
+            bytes: 0,
+            ends: false,
+            asks: false,
+            more: false,
+            at_end: false,
+            long: false,
+        }
+    }
+
+    /// Nothing of what waits is taken in the next turn.
+    pub fn nothing(self) -> Look {
+        Look {
+            bytes: 0,
+            ends: false,
+            asks: false,
+            ..self
+        }
+    }
+
+    /// What it was to take was not taken, and is to be looked at again.
+    pub fn untaken(self) -> Look {
+        Look {
+            more: self.more || self.ends || 0 < self.bytes,
+            ..self.nothing()
+        }
+    }
+
+    /// Looks at what waits, as far as there is room: the next turn takes its whole lines, and the requests of those are added to the batch.
+    pub fn look_over<B: Allocator>(
+        &mut self,
+        bytes: &[u8],
+        limits: &mut Limits,
+        batch: &mut Vec<u8, B>,
+    ) -> Result<(), AllocError> {
+        if !self.look_at_lines(bytes, limits, batch)? {
+            self.more = true;
+            return Ok(());
+        }
+        self.more = false;
+        if self.at_end {
+            self.look_at_end(bytes, limits, batch)?;
+        } else if MOST_WAITING <= bytes.len() && self.bytes == 0 {
+            self.bytes = bytes.len();
+            self.long = true;
+        }
+        Ok(())
+    }
+
+    /// Whatever waits is taken in the next turn, and asks for nothing, as it does once `quit` was answered.
+    pub fn take_all(&mut self, bytes: &[u8]) {
+        self.bytes = bytes.len();
+        self.ends = self.at_end;
+        self.more = false;
+    }
+
+    // Looks at the whole lines, and says whether there was room for each, and for one more.
+    fn look_at_lines<B: Allocator>(
+        &mut self,
+        bytes: &[u8],
+        limits: &mut Limits,
+        batch: &mut Vec<u8, B>,
+    ) -> Result<bool, AllocError> {
+        while limits.have_room(batch) {
+            let Some(rest) = bytes.get(self.bytes..) else {
+                return Ok(true);
+            };
+            let Some(end) = memchr(LF, rest) else {
+                return Ok(true);
+            };
+            self.bytes += end + 1;
+            if !self.take_line(&rest[..end], limits, batch)? {
+                return Ok(false);
+            }
+        }
+        Ok(false)
+    }
+
+    // Looks at the end, before which what no LF ends is a line too.
+    fn look_at_end<B: Allocator>(
+        &mut self,
+        bytes: &[u8],
+        limits: &mut Limits,
+        batch: &mut Vec<u8, B>,
+    ) -> Result<(), AllocError> {
+        if let Some(rest) = bytes.get(self.bytes..) {
+            if !rest.is_empty() {
+                self.take_line(rest, limits, batch)?;
+            }
+        }
+        self.bytes = bytes.len();
+        self.ends = true;
+        Ok(())
+    }
+
+    // One line more is taken: a request is added to the batch. Says whether to look on.
+    fn take_line<B: Allocator>(
+        &mut self,
+        line: &[u8],
+        limits: &mut Limits,
+        batch: &mut Vec<u8, B>,
+    ) -> Result<bool, AllocError>
+        ensures { self.new.bytes ≡ self.old.bytes }
+    {
+        let sight = if self.long {
+            Sight::Nothing
+        } else {
+            look_at(line, limits.kind)
+        };
+        self.long = false;
+        match sight {
+            Sight::Request(reply) => {
+                batch.extend_from_slice(line)?;
+                batch.push(LF)?;
+                self.asks = true;
+                limits.said = limits.said.saturating_add(reply);
+                Ok(true)
+            }
+            Sight::Nothing => {
+                limits.said = limits.said.saturating_add(SHORT_REPLY);
+                Ok(true)
+            }
+            Sight::Quit => Ok(false),
+        }
+    }
+}

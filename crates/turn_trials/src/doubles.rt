@@ -1,0 +1,176 @@
+//! A stream, a service and its keeper that watch what a turn does.
+
+ghost use Rattle.std.specs.Prelude.{None, true, ⊤};
+ghost use Rattle.commands.specs.declared.reply.Reply.TheVariants.{Ok as Accepted};
+
+use commands::{Command, Event, Reply, ShortReply, WorldKind};
+use event_server::{Ahead, Keep, Stream, Tally};
+use schedule_player::{Service, parse_line};
+use std::alloc::Global;
+use std::io;
+use std::io::{Error, ErrorKind};
+use step_memory::View;
+
+/// A stream that gives bytes in pieces, with a pause after each, and takes some at each write.
+#[derive(Drop)]
+pub struct Piped {
+    bytes: Vec<u8>,
+    at: usize,
+    piece: usize,
+    pauses: bool,
+    pub taken: Vec<u8>,
+}
+
+impl Piped {
+    /// It gives these bytes, so many at each read and so many to each write.
+    pub fn new(alloc: Global, bytes: Vec<u8>, piece: usize) -> Piped {
+        Piped {
+            bytes,
+            at: 0,
+            piece,
+            pauses: false,
+            taken: Vec::new(alloc),
+        }
+    }
+}
+
+impl Stream for Piped {
+    ghost left = { λ s. None };
+
+    ghost gone = { λ s. None };
+
+    fn read_some(&mut self, buf: &mut [u8]) -> io::Result<usize> {
+        self.pauses = !self.pauses && self.at < self.bytes.len();
+        if self.pauses {
+            return Err(Error::from(ErrorKind::WouldBlock));
+        }
+        let rest = self.bytes.get(self.at..).unwrap_or(&[]);
+        let count = rest.len().min(self.piece).min(buf.len());
+        buf[..count].copy_from_slice(&rest[..count]);
+        self.at += count;
+        Ok(count)
+    }
+
+    fn write_some(&mut self, buf: &[u8]) -> io::Result<usize> {
+        let count = buf.len().min(self.piece);
+        if self.taken.extend_from_slice(&buf[..count]).is_err() {
+            return Err(Error::from(ErrorKind::OutOfMemory));
+        }
+        Ok(count)
+    }
+}
+
+/// A service that was told what it will be asked, and says `ok` to it. What else it is asked makes it astray.
+#[derive(Drop)]
+pub struct Told {
+    lines: Vec<u8>,
+    at: usize,
+    kind: WorldKind,
+    astray: bool,
+}
+
+impl Told {
+    /// It was told nothing.
+    pub fn new(alloc: Global, kind: WorldKind) -> Told {
+        Told {
+            lines: Vec::new(alloc),
+            at: 0,
+            kind,
+            astray: false,
+        }
+    }
+
+    // The next line that it was told, without its LF.
+    fn next_line(&mut self) -> &[u8] {
+        let rest = self.lines.get(self.at..).unwrap_or(&[]);
+        let end = rest
+            .iter()
+            .position(|byte| *byte == b'\n')
+            .unwrap_or(rest.len());
+        self.at = self.at.saturating_add(end).saturating_add(1);
+        &rest[..end]
+    }
+
+    // It is asked this.
+    fn ask(&mut self, command: Command) {
+        let kind = self.kind;
+        let is_told = parse_line(self.next_line(), kind) == Ok(command);
+        self.astray = self.astray || !is_told;
+    }
+}
+
+impl<R> Service<R> for Told {
+    ghost knows = { λ q. true };
+
+    ghost may = { λ w q r u. ⊤ };
+
+    ghost answers = { λ w q h. (Accepted, w, tt) };
+
+    fn apply(&mut self, _rt: &R, event: Event, _view: &mut View) -> ShortReply {
+        self.ask(Command::Event(event));
+        ShortReply::Ok
+    }
+
+    fn owner(&mut self, _rt: &R, n: u64) -> Reply {
+        self.ask(Command::Owner(n));
+        Reply::Ok
+    }
+}
+
+/// A keeper that tells its service the lines, and refuses to keep what is not all of them. It loses some batches.
+#[derive(Drop)]
+pub struct Teller {
+    pub most: usize,
+    pub loses: u64,
+    pub told: u64,
+}
+
+impl Keep<Told> for Teller {
+    type Fault = &'static str;
+
+    ghost keeps = { λ k w l u. ⊤ };
+
+    ghost learns = { λ k w lines l u. ⊤ };
+
+    fn is_full(&self, _service: &Told) -> bool {
+        false
+    }
+
+    fn keep(&mut self, service: &mut Told) -> Result<(), &'static str> {
+        if service.astray {
+            return Err("it was asked what it was not told");
+        }
+        if service.at < service.lines.len() {
+            return Err("it was told what it was not asked");
+        }
+        Ok(())
+    }
+
+    fn most_ahead(&self) -> Option<usize> {
+        Some(self.most)
+    }
+
+    fn learn(&mut self, service: &mut Told, lines: &[u8]) -> Result<Ahead, &'static str> {
+        self.told = self.told.saturating_add(1);
+        service.at = 0;
+        service.lines.clear();
+        if self.told == self.loses {
+            return Ok(Ahead::Lost);
+        }
+        if service.lines.extend_from_slice(lines).is_err() {
+            return Err("no memory");
+        }
+        Ok(Ahead::Known)
+    }
+
+    fn tick(&mut self, _service: &mut Told) -> Result<(), &'static str> {
+        Ok(())
+    }
+
+    fn tally(&self, _service: &Told) -> Tally {
+        Tally {
+            events: 0,
+            bytes: 0,
+        }
+    }
+}
