@@ -34,8 +34,7 @@ use Rattle.desk.specs.DeskState.{DeskState}
 use Rattle.desk.specs.DeskValue.{DeskValue}
 use Rattle.desk.specs.DeskValue.DeskValue.{OverGrid, OverTree}
 use Rattle.desk.specs.Laws.{IsThisDesk, BeginsDesk, HasFreshDesk, IsOneFreshDesk, DeskGoesOn, DeskKeepsRuns, DeskTellsOwners, DeskRefusesAsSaid, IsDeskDetermined}
-use Rattle.desk.specs.Names.{IsOwnerIn}
-use Rattle.desk.specs.Owner.{IsOwnerReply}
+use Rattle.desk.specs.Names.{IsOwnerIn, IsOwnerReply}
 use Rattle.desk.specs.Rules.{one_by_rules}
 use Rattle.desk.proofs.DeskKeeps as over
 use Rattle.desk.proofs.NamesGiven as given

@@ -14,7 +14,7 @@ use Rattle.desk.specs.Desk.{fresh_desk, desk_reply, desk_rules, desk_refusal, ow
 use Rattle.desk.specs.DeskCalls.{DeskCall, exchange_of}
 use Rattle.desk.specs.DeskRun.{IsDeskRun, IsDeskRunOf}
 use Rattle.desk.specs.DeskValue.{DeskValue}
-use Rattle.desk.specs.Owner.{IsOwnerReply}
+use Rattle.desk.specs.Names.{IsOwnerReply}
 use Rattle.desk.specs.Rules.{may_by}
 
 -- names are given in the config's world, and this is its fresh desk

@@ -7,7 +7,6 @@ pub mod DeskRun
 pub mod DeskRules
 pub mod Names
 pub mod NamedAlone
-pub mod Owner
 pub mod Desk
 pub mod DeskParts
 pub mod Coming

@@ -1,5 +1,6 @@
 -- who was named, by exchanges alone
-use Rattle.std.specs.Prelude.{◌≡◌, ℕ, ◌+◌, ◌⊎◌, List, [], ◌∷◌, Option, Some, None}
+use Rattle.std.specs.Prelude.{◌≡◌, ℕ, ◌+◌, ◌-◌, ◌*◌, ◌≤◌, ◌⊎◌, List, [], ◌∷◌, Option, Some, None}
+use Rattle.step_memory.specs.declared.refusal.Refusal.TheVariants as refusal
 use Rattle.commands.specs.declared.event.Event.{Event}
 use Rattle.commands.specs.declared.event.Event.TheVariants as event
 use Rattle.commands.specs.declared.event.Event.TheVariants.{Begin}
@@ -7,12 +8,11 @@ use Rattle.commands.specs.declared.exchange.Exchange.{Exchange}
 use Rattle.commands.specs.declared.reply.Reply.{Reply}
 use Rattle.commands.specs.declared.reply.Reply.TheVariants as reply
 use Rattle.commands.specs.declared.reply.Reply.TheVariants.{Ok}
-use Rattle.desk.specs.DeskCalls.{exchange}
 
 -- a step of p was answered that p has the name n
 pub record IsNaming (p n : ℕ) (x : Exchange) : Type 0 where
   pub view : List (ℕ × ℕ)
-  pub is : x ≡ exchange (event.Step p) (reply.Named n view)
+  pub is : x ≡ record { event = event.Step p; reply = reply.Named n view }
 
 -- among these exchanges p was named n
 abbrev pub WasNamed : ℕ → ℕ → List Exchange → Type 0
@@ -33,3 +33,19 @@ begun_in (x ∷ r) = begun_more x.event x.reply (begun_in r)
 abbrev pub IsOwnerIn : List Exchange → ℕ → Option ℕ → Type 0
 IsOwnerIn r n None = (p : ℕ) → WasNamed p n r → ⊥
 IsOwnerIn r n (Some p) = WasNamed p n r
+
+-- for m participants names are from 1 to 2m - 1
+pub record IsNumber (most n : ℕ) : Type 0 where
+  pub some : 1 ≤ n
+  pub small : n ≤ 2 * most - 1
+
+-- the reply tells who was given the name among the exchanges, or that it was given to nobody
+pub record TellsOwner (r : List Exchange) (n : ℕ) (told : Reply) : Type 0 where
+  pub owner : Option ℕ
+  pub is : told ≡ reply.Owner owner
+  pub given : IsOwnerIn r n owner
+
+-- the right answer, after these exchanges, to who has a name: a refusal exactly where names don't reach there
+pub record IsOwnerReply (most : ℕ) (r : List Exchange) (n : ℕ) (told : Reply) : Type 0 where
+  pub out_of_range : (IsNumber most n → ⊥) → told ≡ reply.Refused refusal.OutOfRange
+  pub in_range : IsNumber most n → TellsOwner r n told

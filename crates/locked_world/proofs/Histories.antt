@@ -18,7 +18,7 @@ use Rattle.desk.specs.DeskCalls.{DeskCall, exchange, exchange_of}
 use Rattle.desk.specs.DeskRun.{IsDeskRunOf}
 use Rattle.desk.specs.DeskValue.{DeskValue}
 use Rattle.desk.specs.DeskValue.DeskValue.{OverGrid, OverTree}
-use Rattle.desk.specs.Owner.{IsOwnerReply}
+use Rattle.desk.specs.Names.{IsOwnerReply}
 use Rattle.desk.specs.Rules.{may_by}
 use Rattle.desk.specs.Desk.{owner_reply}
 use Rattle.desk.proofs.DeskLaws as desk

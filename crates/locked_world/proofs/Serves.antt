@@ -19,7 +19,7 @@ use Rattle.commands.specs.Replies.{is_refusal}
 use Rattle.desk.proofs.DeskLaws as desk
 use Rattle.schedule_player.specs.DeskWorld.{DeskWorldMay}
 use Rattle.schedule_player.specs.DeskWorldProofs.{desk_lawful, desk_tells}
-use Rattle.schedule_player.specs.IsRun.{IsTalk, IsTalkByKind}
+use Rattle.schedule_player.specs.IsTalk.{IsTalk, IsTalkByKind}
 use Rattle.commands.specs.Requests.Request.{Take}
 use Rattle.schedule_player.specs.Runs.{Runs}
 use Rattle.schedule_player.specs.Turns.{Turn, exchanges}

@@ -3,7 +3,7 @@
 ghost use Rattle.std.specs.Prelude.{◌≡◌, ◌≤◌, ◌⊎◌, ◌↔◌, [], length, slice_get, IfOk, IfErr, Err, false};
 ghost use Rattle.commands.specs.Config.{gives_names};
 ghost use Rattle.desk.specs.Desk.{owner_reply};
-ghost use Rattle.desk.specs.Owner.{IsOwnerReply};
+ghost use Rattle.desk.specs.Names.{IsOwnerReply};
 ghost use Rattle.commands.specs.Replies.{with_view};
 ghost use Rattle.locked_world.specs.Halls.{hall_of, desk_of, IsLawful, hall_refusal, HallMay};
 

@@ -4,7 +4,7 @@ ghost use Rattle.std.specs.Prelude.{◌≡◌, ◌++◌, List, true};
 ghost use Rattle.commands.specs.Config.{gives_names};
 ghost use Rattle.desk.specs.DeskRun.{IsDeskRunOf};
 ghost use Rattle.commands.specs.declared.config.Config.{Config};
-ghost use Rattle.schedule_player.specs.IsRun.{IsTalk};
+ghost use Rattle.schedule_player.specs.IsTalk.{IsTalk};
 ghost use Rattle.schedule_player.specs.Runs.{Runs};
 ghost use Rattle.schedule_player.specs.Turns.{Turn, exchanges};
 ghost use Rattle.locked_world.specs.Halls.{IsLawful};

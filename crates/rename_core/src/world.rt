@@ -141,7 +141,7 @@ where
         ensures refused { OnErr result (self.new ≡ self.old) }
         ensures no_memory { result ≡ Err Refusal.NoMemory → LacksMemory ⟦<W as Known>⟧.places self.old id }
     {
-        let Some(note) = self.snap.walk_on(id) else {
+        let Some(note) = self.snap.walk_on(id)? else {
             return self.take_other(at, id, view);
         };
         if note.is_quiet() {

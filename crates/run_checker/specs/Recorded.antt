@@ -7,7 +7,7 @@ use Rattle.commands.specs.declared.bad.Bad.{Bad}
 use Rattle.commands.specs.declared.command.Command.{Command}
 use Rattle.commands.specs.declared.command.Command.TheVariants as command
 use Rattle.schedule_player.specs.Asked.{asked_by}
-use Rattle.schedule_player.specs.IsRun.{IsTalk}
+use Rattle.schedule_player.specs.IsTalk.{IsTalk}
 use Rattle.schedule_player.specs.Lines.{lines}
 use Rattle.schedule_player.specs.Played.{Reading, Writing}
 use Rattle.schedule_player.specs.Recorded.{IsRecorded}

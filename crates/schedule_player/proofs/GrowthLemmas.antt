@@ -35,7 +35,7 @@ use Rattle.desk.proofs.DeskLaws as desk
 use Rattle.schedule_player.specs.DeskWorld.{DeskWorldMay}
 use Rattle.schedule_player.proofs.TalkLemmas.{desk_talk}
 use Rattle.schedule_player.specs.Granted.{is_of_memory, is_lack, granted}
-use Rattle.schedule_player.specs.IsRun.{IsTalkByKind}
+use Rattle.schedule_player.specs.IsTalk.{IsTalkByKind}
 use Rattle.schedule_player.specs.Runs.{Runs, NoneRefusedGrowth}
 use Rattle.schedule_player.specs.Turns.{Turn}
 use Rattle.schedule_player.specs.Turns.Turn.{Answered, Told, Ended, Misread}

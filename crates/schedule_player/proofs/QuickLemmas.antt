@@ -6,10 +6,11 @@ use Rattle.std.proofs.lemmas.List.{append-nil, take_more, take_all, length-take-
 use Rattle.std.proofs.lemmas.List.Folds.{list_all-append}
 use Rattle.std.proofs.lemmas.Bool.Decides.{nat_tests}
 use Rattle.std.proofs.Math.Nat.{pow-suc, pow-le-pow_right}
+use Rattle.std.proofs.Math.Seq.{take-add}
 use Rattle.commands.specs.declared.kind.WorldKind.{WorldKind}
 use Rattle.commands.specs.declared.command.Command.{Command}
 use Rattle.schedule_player.specs.Digits.{DigitsSoFar}
-use Rattle.schedule_player.specs.Quick.{IsNumberBefore, IsCommandBefore, is_of_words}
+use Rattle.schedule_player.specs.Quick.{IsNumberBefore, IsCommandBefore, is_of_words, word_of_four}
 use Rattle.schedule_player.specs.Lines.{pieces_from}
 use Rattle.schedule_player.specs.Meaning.{meaning, words, command_of, number_in, is_digit, is_printable, decimal_from, if_below}
 use Rattle.schedule_player.proofs.LineLemmas.{both, not_true}
@@ -39,6 +40,26 @@ one_digit_more text value count new d lt digit is =
       small = (let small = d.small in omega arith);
     }
 
+decimal_from-append : (n : ℕ) (xs ys : List ℕ) → decimal_from n (xs ++ ys) ≡ decimal_from (decimal_from n xs) ys
+decimal_from-append n [] ys = refl
+decimal_from-append n (x ∷ xs) ys = decimal_from-append (n * 10 + (x - 48)) xs ys
+
+decimal_from-eight : (n last : ℕ) (rest : List ℕ) → 8 ≤ length rest → last ≡ decimal_from 0 (take 8 rest) → decimal_from n (take 8 rest) ≡ n * 100000000 + last
+decimal_from-eight n last (a ∷ b ∷ c ∷ d ∷ e ∷ f ∷ g ∷ h ∷ rest) le is = omega (arith, is)
+decimal_from-eight n last _ le is = absurd (omega arith)
+
+-- after twelve digits eight more
+pub eight_digits_more : (text : List ℕ) (value last : ℕ) → DigitsSoFar text value 12 → DigitsSoFar (drop 12 text) last 8 → DigitsSoFar text (value * 100000000 + last) 20
+eight_digits_more text value last d more =
+    let rest : List ℕ = drop 12 text in
+    let split : take 20 text ≡ take 12 text ++ take 8 rest = take-add 12 8 text in
+    record {
+      inside = (let inside = more.inside in omega (arith, length-drop 12 text));
+      digits = rw split (list_all-append is_digit (take 12 text) (take 8 rest) ∙ rw (d.digits, more.digits) refl);
+      value_is = sym (ap (decimal_from 0) split ∙ decimal_from-append 0 (take 12 text) (take 8 rest) ∙ ap (λ n. decimal_from n (take 8 rest)) (sym d.value_is) ∙ decimal_from-eight value last rest more.inside more.value_is);
+      small = (let small = d.small in let few = more.small in omega arith);
+    }
+
 -- the number of 18 digits and one more digit fit
 pub few_digits-fit : (text : List ℕ) (value count b : ℕ) → DigitsSoFar text value count → count < 19 → is_digit b ≡ true → value * 10 + (b - 48) < 2 ^ 64
 few_digits-fit text value count b d lt digit =
@@ -46,12 +67,6 @@ few_digits-fit text value count b d lt digit =
     let power : 10 ^ count ≤ 10 ^ 18 = pow-le-pow_right {n = 10} (omega arith) {i = count} {j = 18} (omega arith) in
     let small = d.small in
     omega arith
-
--- each of digits is one
-pub digit_at : (text : List ℕ) (i : ℕ) → list_all is_digit text ≡ true → i < length text → is_digit (get_or text i 0) ≡ true
-digit_at [] i all lt = absurd (omega arith)
-digit_at (b ∷ bs) zero all lt = (both (is_digit b) (list_all is_digit bs) all).0
-digit_at (b ∷ bs) (suc i) all lt = digit_at bs i (both (is_digit b) (list_all is_digit bs) all).1 (omega arith)
 
 -- a number is of digits
 number-digits : (word : List ℕ) (n : ℕ) → number_in word ≡ Some n → list_all is_digit word ≡ true
@@ -165,6 +180,16 @@ first_command by world head rest command count end is lt stands of_words means =
       of_words = ap (list_all is_of_words) (take-past head rest count) ∙ of_words;
       means = ap (meaning world) (take-past head rest count) ∙ means;
     })
+
+-- which bytes make a word's number
+pub first_bytes : (bytes : List ℕ) (a b c d : ℕ) → ((i : ℕ) → get_or bytes i 0 < 256) → a < 256 → b < 256 → c < 256 → d < 256 → word_of_four bytes ≡ a + 256 * (b + 256 * (c + 256 * d)) →
+    (get_or bytes 0 0 ≡ a) × (get_or bytes 1 0 ≡ b) × (get_or bytes 2 0 ≡ c) × (get_or bytes 3 0 ≡ d)
+first_bytes bytes a b c d small fa fb fc fd is =
+    let s0 = small 0 in
+    let s1 = small 1 in
+    let s2 = small 2 in
+    let s3 = small 3 in
+    (omega arith, omega arith, omega arith, omega arith)
 
 -- a word's bytes and the others
 pub four_and_more : (bytes : List ℕ) (a b c d : ℕ) → 4 ≤ length bytes → get_or bytes 0 0 ≡ a → get_or bytes 1 0 ≡ b → get_or bytes 2 0 ≡ c → get_or bytes 3 0 ≡ d → bytes ≡ a ∷ b ∷ c ∷ d ∷ drop 4 bytes

@@ -9,7 +9,7 @@ use Rattle.schedule_player.specs.declared.fault.Fault.{Fault}
 use Rattle.schedule_player.specs.declared.fault.Fault.TheVariants.{Memory}
 use Rattle.schedule_player.specs.declared.summary.Summary.{Summary}
 use Rattle.schedule_player.specs.DeskWorld.{DeskWorldMay}
-use Rattle.schedule_player.specs.IsRun.{IsTalk}
+use Rattle.schedule_player.specs.IsTalk.{IsTalk}
 use Rattle.schedule_player.specs.Played.{Reading, Writing, IsPlayed}
 use Rattle.schedule_player.specs.Recorded.{IsRecorded, end_of}
 use Rattle.schedule_player.specs.Records.{header_line, turn_record}

@@ -11,11 +11,10 @@ use Rattle.commands.specs.declared.kind.WorldKind.{WorldKind}
 use Rattle.commands.specs.declared.kind.WorldKind.TheVariants.{Splitter, Grid, Rename, Tree}
 use Rattle.schedule_player.specs.DeskWorld.{DeskWorldMay}
 use Rattle.schedule_player.specs.DeskWorldProofs.{desk_lawful, desk_tells}
-use Rattle.schedule_player.specs.IsRun.{IsTalkByKind}
-use Rattle.schedule_player.specs.Owners.{AreOwnersTold}
+use Rattle.schedule_player.specs.IsTalk.{IsTalkByKind}
 use Rattle.commands.specs.Requests.{Request}
 use Rattle.schedule_player.specs.Runs.{Runs}
-use Rattle.schedule_player.specs.Talks.{IsTalkOf}
+use Rattle.schedule_player.specs.Talks.{AreOwnersTold, IsTalkOf}
 use Rattle.schedule_player.specs.Turns.{Turn, exchanges}
 
 pub talk_of_run : {T : Type 0} (IsRun : List Exchange → Type 0) (most : ℕ) (fresh : T → Type 0) (may : T → Request → Reply → T → Type 0)

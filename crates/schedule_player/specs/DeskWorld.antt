@@ -1,13 +1,21 @@
--- the rules of a desk's world
-use Rattle.std.specs.Prelude.{◌≡◌}
+-- the rules and the law of a desk's world
+use Rattle.std.specs.Prelude.{◌≡◌, List}
+use Rattle.commands.specs.declared.config.Config.{Config}
 use Rattle.commands.specs.declared.reply.Reply.{Reply}
-use Rattle.desk.specs.Desk.{desk_rules, owner_reply}
+use Rattle.desk.specs.Desk.{IsFreshDesk, desk_rules, owner_reply}
+use Rattle.desk.specs.DeskRun.{IsDeskRunOf}
 use Rattle.desk.specs.DeskValue.{DeskValue}
 use Rattle.desk.specs.Rules.{may_by}
 use Rattle.commands.specs.Requests.{Request}
 use Rattle.commands.specs.Requests.Request.{Take, OwnerOf}
+use Rattle.schedule_player.specs.Talks.{IsTalkOf}
+use Rattle.schedule_player.specs.Turns.{Turn}
 
 -- an event is answered by the desk's rules, and who has a name is told with nothing changed
 abbrev pub DeskWorldMay : DeskValue → Request → Reply → DeskValue → Type 0
 DeskWorldMay w (Take e) r u = may_by desk_rules w e r u
 DeskWorldMay w (OwnerOf n) r u = (r ≡ owner_reply w n) × (u ≡ w)
+
+-- what is said in turn in a world of this config
+abbrev pub IsDeskTalk : Config → List Turn → Type 0
+IsDeskTalk c ts = IsTalkOf (IsDeskRunOf c) c.m (IsFreshDesk c) DeskWorldMay ts

@@ -10,10 +10,10 @@ use Rattle.desk.specs.Desk.{desk_reply, desk_after, owner_reply, IsFreshDesk, Is
 use Rattle.desk.specs.DeskCalls.{DeskCall, exchange_of}
 use Rattle.desk.specs.DeskRun.{IsDeskRunOf}
 use Rattle.desk.specs.DeskValue.{DeskValue}
-use Rattle.desk.specs.Owner.{IsOwnerReply}
+use Rattle.desk.specs.Names.{IsOwnerReply}
 use Rattle.desk.proofs.DeskLaws as desk
 use Rattle.schedule_player.specs.DeskWorld.{DeskWorldMay}
-use Rattle.schedule_player.specs.Owners.{AreOwnersTold}
+use Rattle.schedule_player.specs.Talks.{AreOwnersTold}
 use Rattle.commands.specs.Requests.{Request}
 use Rattle.commands.specs.Requests.Request.{Take, OwnerOf}
 use Rattle.schedule_player.specs.Runs.{Runs}

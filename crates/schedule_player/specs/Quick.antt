@@ -1,5 +1,5 @@
 -- the first command of some bytes
-use Rattle.std.specs.Prelude.{◌≡◌, ℕ, ◌<◌, ◌≤◌, ◌==◌, ◌&&◌, ◌||◌, nat_le, Bool, true, List, length, take, slice_index, Some, Ok}
+use Rattle.std.specs.Prelude.{◌≡◌, ℕ, ◌+◌, ◌*◌, ◌<◌, ◌≤◌, ◌==◌, ◌&&◌, ◌||◌, nat_le, Bool, true, List, length, take, slice_index, Some, Ok}
 use Rattle.std.specs.List.{list_all}
 use Rattle.commands.specs.Config.{gives_names}
 use Rattle.commands.specs.declared.command.Command.{Command}
@@ -9,6 +9,10 @@ use Rattle.schedule_player.specs.Meaning.{meaning, is_digit, number_in}
 -- what words of letters, and numbers, are written with
 abbrev pub is_of_words : ℕ → Bool
 is_of_words b = (b == 32) || (is_digit b || (nat_le 97 b && nat_le b 122))
+
+-- the first four bytes as a number, of which the first is the lowest
+abbrev pub word_of_four : List ℕ → ℕ
+word_of_four bytes = slice_index bytes 0 + 256 * (slice_index bytes 1 + 256 * (slice_index bytes 2 + 256 * slice_index bytes 3))
 
 -- this byte stands there, and those before it, all of them letters, digits and spaces, mean this command
 pub record IsCommandBefore (by : ℕ) (world : WorldKind) (bytes : List ℕ) (command : Command) (end : ℕ) : Type 0 where

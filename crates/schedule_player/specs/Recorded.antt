@@ -4,7 +4,7 @@ use Rattle.commands.specs.declared.config.Config.{Config}
 use Rattle.schedule_player.specs.declared.fault.Fault.{Fault}
 use Rattle.schedule_player.specs.declared.fault.Fault.TheVariants.{Write}
 use Rattle.schedule_player.specs.declared.summary.Summary.{Summary}
-use Rattle.schedule_player.specs.IsRun.{IsTalk}
+use Rattle.schedule_player.specs.IsTalk.{IsTalk}
 use Rattle.schedule_player.specs.Played.{Reading, Writing, IsPlayed}
 use Rattle.schedule_player.specs.Records.{header_line, record_of}
 use Rattle.schedule_player.specs.Written.{HasPartOf}

@@ -1,11 +1,16 @@
 -- talks: what is said in turn in one run
-use Rattle.std.specs.Prelude.{ℕ, List}
+use Rattle.std.specs.Prelude.{◌≡◌, ℕ, ◌++◌, List, ◌∷◌}
 use Rattle.commands.specs.declared.exchange.Exchange.{Exchange}
 use Rattle.commands.specs.declared.reply.Reply.{Reply}
-use Rattle.schedule_player.specs.Owners.{AreOwnersTold}
 use Rattle.commands.specs.Requests.{Request}
+use Rattle.desk.specs.Names.{IsOwnerReply}
 use Rattle.schedule_player.specs.Runs.{CouldRun}
 use Rattle.schedule_player.specs.Turns.{Turn, exchanges}
+use Rattle.schedule_player.specs.Turns.Turn.{Told}
+
+-- for so many participants, everyone who asks who has a name is told right, by the exchanges before
+abbrev pub AreOwnersTold : ℕ → List Turn → Type 0
+AreOwnersTold most ts = (front back : List Turn) (n : ℕ) (r : Reply) → ts ≡ front ++ Told n r ∷ back → IsOwnerReply most (exchanges front) n r
 
 -- turns whose exchanges are a run, in which everyone who asks is told right who has a name, for so many participants, and
 -- which the rules allow from a fresh world

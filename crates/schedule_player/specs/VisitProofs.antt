@@ -11,7 +11,7 @@ use Rattle.commands.specs.declared.event.Event.TheVariants.{Begin, Step, Enter, 
 use Rattle.commands.specs.declared.exchange.Exchange.{Exchange}
 use Rattle.commands.specs.declared.reply.Reply.{Reply}
 use Rattle.commands.specs.declared.reply.Reply.TheVariants as reply
-use Rattle.desk.specs.Owner.{IsOwnerReply}
+use Rattle.desk.specs.Names.{IsOwnerReply}
 use Rattle.commands.specs.Replies.{done_reply}
 use Rattle.commands.specs.Config.{gives_names}
 use Rattle.commands.specs.declared.bad.Bad.{Bad}
@@ -20,15 +20,14 @@ use Rattle.commands.specs.declared.command.Command.{Command}
 use Rattle.commands.specs.declared.command.Command.TheVariants as command
 use Rattle.schedule_player.specs.Knows.{Knows}
 use Rattle.schedule_player.specs.Meaning.{meaning, command_in, command_of_one, command_if, quit_of, number_in, same_bytes, desk_command_of, is_printable, words}
-use Rattle.schedule_player.specs.Owners.{AreOwnersTold}
+use Rattle.schedule_player.specs.Talks.{AreOwnersTold}
 use Rattle.commands.specs.Requests.{Request, as_command}
 use Rattle.commands.specs.Requests.Request.{Take, OwnerOf}
 use Rattle.schedule_player.specs.Runs.{Runs}
 use Rattle.schedule_player.specs.RunProofs.{runs-cut}
 use Rattle.schedule_player.specs.Turns.{Turn, exchanges}
 use Rattle.schedule_player.specs.Turns.Turn.{Answered, Told, Ended, Misread}
-use Rattle.schedule_player.specs.Visits.{VisitRules, NoName, visit_may, step_may, said_reply, knows_visits}
-use Rattle.schedule_player.specs.Worlds.{exchange_of, IsCallRun}
+use Rattle.schedule_player.specs.Visits.{VisitRules, NoName, visit_may, step_may, said_reply, knows_visits, exchange_of, IsCallRun}
 
 -- a line of a kind without a desk means a visit, `quit`, or nothing
 abbrev IsVisit : Result Command Bad → Type 0

@@ -1,8 +1,11 @@
 -- the rules of worlds whose participants only begin and step
-use Rattle.std.specs.Prelude.{◌≡◌, ◌⊎◌, ℕ, zero, suc, Bool, true, false, Result, Ok, Err}
+use Rattle.std.specs.Prelude.{◌≡◌, ◌⊎◌, ℕ, zero, suc, Bool, true, false, List, map, Result, Ok, Err}
+use Rattle.step_memory.specs.Calls.{Call}
+use Rattle.step_memory.specs.Calls.Call.{Began, Stepped}
 use Rattle.step_memory.specs.declared.refusal.Refusal.{Refusal}
 use Rattle.step_memory.specs.declared.refusal.Refusal.TheVariants as refusal
 use Rattle.commands.specs.declared.event.Event.TheVariants.{Begin, Step, Enter, Probe, Leave, Put, Get, Widen}
+use Rattle.commands.specs.declared.exchange.Exchange.{Exchange}
 use Rattle.commands.specs.declared.reply.Reply.{Reply}
 use Rattle.commands.specs.declared.reply.Reply.TheVariants as reply
 use Rattle.commands.specs.Replies.{done_reply}
@@ -59,3 +62,14 @@ visit_may rules w (Take (Put p value)) r u = ⊥
 visit_may rules w (Take (Get p)) r u = ⊥
 visit_may rules w (Take (Widen more)) r u = ⊥
 visit_may rules w (OwnerOf n) r u = NoName w n r u
+
+-- the exchange that a call is
+abbrev pub exchange_of : {X : Type 0} → (X → Reply) → Call X → Exchange
+exchange_of shown (Began p answer) = record { event = Begin p; reply = done_reply answer }
+exchange_of shown (Stepped p answer) = record { event = Step p; reply = said_reply shown answer }
+
+-- exchanges that are calls which keep a law
+pub record IsCallRun {X : Type 0} (shown : X → Reply) (KeepsLaw : List (Call X) → Type 0) (r : List Exchange) : Type 0 where
+  pub calls : List (Call X)
+  pub spelled : map (exchange_of shown) calls ≡ r
+  pub law : KeepsLaw calls

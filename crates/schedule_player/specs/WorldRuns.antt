@@ -10,9 +10,8 @@ use Rattle.step_memory.specs.WorldState.{WorldState}
 use Rattle.step_memory.proofs.WorldMachineLemmas.{begin_leads_on, step_leads_on}
 use Rattle.schedule_player.specs.Runs.{Runs}
 use Rattle.schedule_player.specs.Turns.{Turn, exchanges}
-use Rattle.schedule_player.specs.Visits.{VisitRules, visit_may}
 use Rattle.schedule_player.specs.VisitProofs.{call_run}
-use Rattle.schedule_player.specs.Worlds.{IsCallRun}
+use Rattle.schedule_player.specs.Visits.{VisitRules, visit_may, IsCallRun}
 
 module _ {P S R V O X : Type 0} (rules : VisitRules (WorldState S P) X) (parts : WorldParts P S R V O X) where
   pub world_call_run : IsProved (world_machine parts) →

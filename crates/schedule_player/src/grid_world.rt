@@ -3,8 +3,8 @@
 ghost use Rattle.schedule_player.specs.Kinds.{is_grid, grid_meant};
 ghost use Rattle.schedule_player.specs.Visits.{visit_may, knows_visits};
 ghost use Rattle.schedule_player.specs.VisitProofs.{visit_answers, one_visit, visits_tell};
-ghost use Rattle.schedule_player.specs.Worlds.{grid_rules, IsGridRun, grid_fresh};
-ghost use Rattle.schedule_player.specs.WorldProofs.{grid_lawful, one_grid_fresh};
+ghost use Rattle.schedule_player.specs.GridWorld.{grid_rules, IsGridRun, grid_fresh};
+ghost use Rattle.schedule_player.specs.GridWorldProofs.{grid_lawful, one_grid_fresh};
 
 use crate::outcomes::walk_reply;
 use crate::service::Service;

@@ -3,7 +3,7 @@
 ghost use Rattle.std.specs.Prelude.{◌≡◌, true, ℕ, List, ◌++◌, flat_map};
 ghost use Rattle.commands.specs.Config.{gives_names};
 ghost use Rattle.schedule_player.specs.Granted.{granted};
-ghost use Rattle.schedule_player.specs.IsRun.{IsTalk};
+ghost use Rattle.schedule_player.specs.IsTalk.{IsTalk};
 ghost use Rattle.schedule_player.specs.Lines.{IsCutInto, IsCutOnce, whole_lines, rest_of};
 ghost use Rattle.schedule_player.specs.OneTalk.{IsOneTalk};
 ghost use Rattle.schedule_player.specs.Progress.{Progress};

@@ -3,7 +3,8 @@
 ghost use Rattle.std.specs.Prelude.{◌≡◌, ℕ, List};
 ghost use Rattle.commands.specs.Replies.{with_view};
 ghost use Rattle.schedule_player.specs.Visits.{said_reply};
-ghost use Rattle.schedule_player.specs.Worlds.{way_reply, place_reply};
+ghost use Rattle.schedule_player.specs.GridWorld.{place_reply};
+ghost use Rattle.schedule_player.specs.SplitterWorld.{way_reply};
 
 use commands::ShortReply;
 use splitter::Way;

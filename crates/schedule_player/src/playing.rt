@@ -1,10 +1,13 @@
 //! Runs of a world, from a reader to a writer.
 
 ghost use Rattle.std.specs.Prelude.{◌≡◌, ◌≢◌, true, Err, ◌^◌, ◌<◌, length, flat_map, IfOk, IfErr};
-ghost use Rattle.schedule_player.specs.IsRun.{IsTalk};
+ghost use Rattle.commands.specs.Config.{gives_names};
+ghost use Rattle.schedule_player.specs.DeskWorld.{IsDeskTalk};
+ghost use Rattle.schedule_player.specs.GridWorld.{IsGridTalk};
 ghost use Rattle.schedule_player.specs.Knows.{Knows};
-ghost use Rattle.schedule_player.specs.Played.{IsPlayed, reading, writing};
+ghost use Rattle.schedule_player.specs.Played.{IsPlayed, IsPlayedIn, reading, writing};
 ghost use Rattle.schedule_player.specs.Runs.{IsRunTo, CanRun};
+ghost use Rattle.schedule_player.specs.SplitterWorld.{IsSplitterTalk};
 ghost use Rattle.schedule_player.specs.Stands.{IsFresh};
 ghost use Rattle.schedule_player.specs.Talks.{IsTalkOf};
 ghost use Rattle.schedule_player.specs.Texts.{replies_of};
@@ -47,7 +50,11 @@ pub fn play<A: Allocator + Clone, R: Source, W: Sink>(
 ) -> Result<Summary, Fault>
     requires reads { R.calls reader.old < 2 ^ 64 }
     requires writes { W.calls writer.old < 2 ^ 64 }
-    ensures { IsPlayed replies_of (IsTalk config) (IsTalk config) config.world
+    ensures splitter { config.world ≡ WorldKind.Splitter → IsPlayedIn (IsSplitterTalk config) config.world
+        (reading R.remaining R.calls R.failed) (writing W.contents W.failed) reader.old reader.new writer.old writer.new result }
+    ensures grid { config.world ≡ WorldKind.Grid → IsPlayedIn (IsGridTalk config) config.world
+        (reading R.remaining R.calls R.failed) (writing W.contents W.failed) reader.old reader.new writer.old writer.new result }
+    ensures names { gives_names config.world ≡ true → IsPlayedIn (IsDeskTalk config) config.world
         (reading R.remaining R.calls R.failed) (writing W.contents W.failed) reader.old reader.new writer.old writer.new result }
 {
     match config.world {

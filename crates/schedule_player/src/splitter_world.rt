@@ -3,8 +3,8 @@
 ghost use Rattle.schedule_player.specs.Kinds.{is_splitter, splitter_meant};
 ghost use Rattle.schedule_player.specs.Visits.{visit_may, knows_visits};
 ghost use Rattle.schedule_player.specs.VisitProofs.{visit_answers, one_visit, visits_tell};
-ghost use Rattle.schedule_player.specs.Worlds.{splitter_rules, IsSplitterRun, splitter_fresh};
-ghost use Rattle.schedule_player.specs.WorldProofs.{splitter_lawful, one_splitter_fresh};
+ghost use Rattle.schedule_player.specs.SplitterWorld.{splitter_rules, IsSplitterRun, splitter_fresh};
+ghost use Rattle.schedule_player.specs.SplitterWorldProofs.{splitter_lawful, one_splitter_fresh};
 
 use crate::outcomes::visit_reply;
 use crate::service::Service;

@@ -8,7 +8,7 @@ ghost use Rattle.commands.specs.declared.reply.Reply.TheVariants as reply;
 ghost use Rattle.commands.specs.declared.config.Config.{Config};
 ghost use Rattle.commands.specs.declared.kind.WorldKind.{WorldKind};
 ghost use Rattle.schedule_player.specs.Knows.{Knows};
-ghost use Rattle.schedule_player.specs.Owners.{AreOwnersTold};
+ghost use Rattle.schedule_player.specs.Talks.{AreOwnersTold};
 ghost use Rattle.commands.specs.Requests.{Request};
 ghost use Rattle.schedule_player.specs.Runs.{Runs};
 ghost use Rattle.schedule_player.specs.Turns.{Turn, exchanges};

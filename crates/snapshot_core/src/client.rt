@@ -12,7 +12,9 @@ ghost use Rattle.snapshot_core.specs.SnapWorld.{told_of_way};
 use crate::places::{PlaceWalker, Places};
 use crate::scan::Scan;
 use crate::walk::SegmentWalk;
-use step_memory::{Access, Answer, Note, Place, Record, Request, Shortcut, StepProgram, View};
+use step_memory::{
+    Access, Answer, NoMemory, Note, Place, Record, Request, Shortcut, StepProgram, View,
+};
 
 /// The most updates for which one participant may be asked.
 pub const MOST_UPDATES: u32 = 1_000_000;
@@ -292,21 +294,24 @@ where
 
     ghost note = { placed_note };
 
-    fn take(program: &mut Client<W::Walker, W::Walk>, memory: &mut W) -> Option<Note<Place>> {
+    fn take(
+        program: &mut Client<W::Walker, W::Walk>,
+        memory: &mut W,
+    ) -> Result<Option<Note<Place>>, NoMemory> {
         match program.pending {
-            Pending::Nothing => None,
+            Pending::Nothing => Ok(None),
             Pending::Placing => {
-                let Some(note) = memory.walk_on(&mut program.walker) else {
-                    return None;
+                let Some(note) = memory.walk_on(&mut program.walker)? else {
+                    return Ok(None);
                 };
                 if note.ends() {
                     program.pending = Pending::Nothing;
                 }
-                Some(note)
+                Ok(Some(note))
             }
-            Pending::Scan => None,
-            Pending::Update(_) => None,
-            Pending::Write(_, _) => None,
+            Pending::Scan => Ok(None),
+            Pending::Update(_) => Ok(None),
+            Pending::Write(_, _) => Ok(None),
         }
     }
 }

@@ -1,11 +1,12 @@
 //! What gives participants places.
 
-ghost use Rattle.std.specs.Prelude.{◌≡◌, ℕ, Option, None, IfSome};
+ghost use Rattle.std.specs.Prelude.{◌≡◌, ℕ, Option, None, IfSome, OnErr, true};
 ghost use Rattle.step_memory.specs.Steps.{answer_from};
+ghost use Rattle.step_memory.specs.Taken.{told_in};
 ghost use Rattle.snapshot_core.specs.Places.{PlaceTies, KnownPlaces, places_by, PlacesLaws};
 
 use crate::walk::SegmentWalk;
-use step_memory::{Note, Place, StepMemory, StepProgram};
+use step_memory::{NoMemory, Note, Place, StepMemory, StepProgram};
 
 /// A way to a place.
 pub trait PlaceWalker: StepProgram<Output = Place> {
@@ -51,15 +52,16 @@ pub trait Places: StepMemory {
         ensures { result ≡ walk_from self.now };
 
     /// Takes the next step of a way where it stands, so that no value is copied, and gives what the way says. `None` where it
-    /// did not: then nothing has changed, and the step is still to be taken.
-    fn walk_on(&mut self, _walker: &mut Self::Walker) -> Option<Note<Place>>
-        ensures note { IfSome result (λ note. note ≡ Self.Walker.steps.note _walker.old (answer_from (Self.steps.register self.old) (Self.Walker.steps.next _walker.old))) }
-        ensures after { IfSome result (λ _. _walker.new ≡ Self.Walker.steps.resumed _walker.old (answer_from (Self.steps.register self.old) (Self.Walker.steps.next _walker.old))) }
-        ensures memory { IfSome result (λ _. self.new ≡ Self.steps.after self.old (Self.Walker.steps.next _walker.old)) }
-        ensures kept { result ≡ None → _walker.new ≡ _walker.old }
-        ensures memory_kept { result ≡ None → self.new ≡ self.old }
+    /// did not, and an error where a growth was refused: then nothing has changed, and the step is still to be taken.
+    fn walk_on(&mut self, _walker: &mut Self::Walker) -> Result<Option<Note<Place>>, NoMemory>
+        ensures note { IfSome (told_in result) (λ note. note ≡ Self.Walker.steps.note _walker.old (answer_from (Self.steps.register self.old) (Self.Walker.steps.next _walker.old))) }
+        ensures after { IfSome (told_in result) (λ _. _walker.new ≡ Self.Walker.steps.resumed _walker.old (answer_from (Self.steps.register self.old) (Self.Walker.steps.next _walker.old))) }
+        ensures memory { IfSome (told_in result) (λ _. self.new ≡ Self.steps.after self.old (Self.Walker.steps.next _walker.old)) }
+        ensures kept { told_in result ≡ None → _walker.new ≡ _walker.old }
+        ensures memory_kept { told_in result ≡ None → self.new ≡ self.old }
+        ensures no_memory { OnErr result (Self.steps.may_refuse self.old (Self.Walker.steps.next _walker.old) ≡ true) }
     {
-        None
+        Ok(None)
     }
 
     /// Places are distinct, a way comes to its place, and a walk meets each segment that was written before it began.

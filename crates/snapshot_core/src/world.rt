@@ -4,6 +4,7 @@ ghost use Rattle.std.specs.Prelude.{◌≡◌, ◌≢◌, [], IfOk, IfSome, OnEr
 ghost use Rattle.std.specs.Option.{option_copied};
 ghost use Rattle.step_memory.specs.Locality.{IsLocal};
 ghost use Rattle.step_memory.specs.Participant.{program_of};
+ghost use Rattle.step_memory.specs.Taken.{told_in};
 ghost use Rattle.step_memory.specs.World.{begin_refusal, done_unless};
 ghost use Rattle.snapshot_core.specs.SnapWorld.{place_in, after_snap_begin, scan_refusal, update_refusal, after_scan, after_update, clients_over, snap_answer, after_snap_step, may_lack_memory, IsOnWay, AnswersAlike, StaysAlike, told_of_way};
 ghost use Rattle.snapshot_core.specs.Machine.{snapshot, MakesOwnAccess, HasDistinctPlaces, KeepsTold};
@@ -15,7 +16,7 @@ use crate::client::{Client, MOST_UPDATES, OnWay, SnapReply, ToScan, ToUpdate};
 use crate::places::{Known, PlaceWalker, Places};
 use std::alloc::Allocator;
 use std::marker::Model;
-use step_memory::{Note, Place, Refusal, World};
+use step_memory::{NoMemory, Note, Place, Refusal, World};
 
 /// Participants that update and scan, over places.
 #[derive(Drop)]
@@ -138,13 +139,15 @@ where
     }
 
     /// One step of a participant, if it is one of its way to its place: it copies no segment. What the way says; `None` where
-    /// the step was not made: then nothing has changed, and `step` makes it or refuses it.
-    pub fn walk_on(&mut self, id: u64) -> Option<Note<Place>>
-        ensures answer { IfSome result (λ note. snap_answer ⟦<W as Known>⟧.places self.old id ≡ Ok (told_of_way note)) }
-        ensures state { IfSome result (λ _. self.new ≡ after_snap_step ⟦<W as Known>⟧.places self.old id) }
-        ensures kept { result ≡ None → self.new ≡ self.old }
-        ensures local { IfSome result (λ _. IsLocal (clients_over ⟦<W as Known>⟧.places) W.steps id self.old self.new) }
-        ensures after { IfSome result (λ note. LeadsOn (snapshot ⟦<W as Known>⟧.places) self.old self.new (Stepped id (Ok (told_of_way note)))) }
+    /// the step was not made: then nothing has changed, and `step` makes it or refuses it. An error where the memory refused a
+    /// growth: then nothing has changed, and the same step may be asked again.
+    pub fn walk_on(&mut self, id: u64) -> Result<Option<Note<Place>>, NoMemory>
+        ensures answer { IfSome (told_in result) (λ note. snap_answer ⟦<W as Known>⟧.places self.old id ≡ Ok (told_of_way note)) }
+        ensures state { IfSome (told_in result) (λ _. self.new ≡ after_snap_step ⟦<W as Known>⟧.places self.old id) }
+        ensures kept { told_in result ≡ None → self.new ≡ self.old }
+        ensures no_memory { OnErr result (may_lack_memory ⟦<W as Known>⟧.places self.old id ≡ true) }
+        ensures local { IfSome (told_in result) (λ _. IsLocal (clients_over ⟦<W as Known>⟧.places) W.steps id self.old self.new) }
+        ensures after { IfSome (told_in result) (λ note. LeadsOn (snapshot ⟦<W as Known>⟧.places) self.old self.new (Stepped id (Ok (told_of_way note)))) }
         ensures law { IsLawful (snapshot ⟦<W as Known>⟧.places) self.new }
     {
         self.world.take::<OnWay>(id)
@@ -197,7 +200,7 @@ where
         if self.read_on(id) {
             return Ok(SnapReply::Quiet);
         }
-        if let Some(note) = self.walk_on(id) {
+        if let Some(note) = self.walk_on(id)? {
             return Ok(SnapReply::of_way(note));
         }
         self.take_step(id)

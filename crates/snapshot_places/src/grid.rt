@@ -184,19 +184,19 @@ impl<A: Allocator> Places for Grid<A> {
         }
     }
 
-    fn walk_on(&mut self, walker: &mut GridWalker) -> Option<Note<Place>> {
+    fn walk_on(&mut self, walker: &mut GridWalker) -> Result<Option<Note<Place>>, NoMemory> {
         match walker.walker.next() {
             Access::Read(r) => {
                 let word = self.doors.value(r);
-                Some(walker.walker.resume(Answer::Value(word)))
+                Ok(Some(walker.walker.resume(Answer::Value(word))))
             }
             Access::Write(r, word) => {
                 let _done = self.doors.access(Access::Write(r, word));
-                Some(walker.walker.resume(Answer::Done))
+                Ok(Some(walker.walker.resume(Answer::Done)))
             }
-            Access::TestAndSet(_) => None,
-            Access::Clear(_) => None,
-            Access::Nothing => None,
+            Access::TestAndSet(_) => Ok(None),
+            Access::Clear(_) => Ok(None),
+            Access::Nothing => Ok(None),
         }
     }
 

@@ -117,7 +117,7 @@ impl<A: Allocator + Clone> Places for TreePlaces<A> {
         }
     }
 
-    fn walk_on(&mut self, walker: &mut TreeWalker) -> Option<Note<Place>> {
+    fn walk_on(&mut self, walker: &mut TreeWalker) -> Result<Option<Note<Place>>, NoMemory> {
         self.tree.walk_on(&mut walker.walker)
     }
 

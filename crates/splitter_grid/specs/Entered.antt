@@ -1,6 +1,7 @@
 -- which doors were entered over a list of calls. Moves are quiet, so the calls and replies alone do not tell: one goes
 -- along them with the worlds between
 use Rattle.std.specs.Prelude.{◌≡◌, ◌≢◌, ◌↔◌, ℕ, List, Option, Some, Ok, Err}
+use Rattle.step_memory.specs.Count.{count_to}
 use Rattle.step_memory.specs.Participant.{program_of}
 use Rattle.step_memory.specs.Registers.{memory_steps}
 use Rattle.step_memory.specs.Machine.{Always}
@@ -10,8 +11,8 @@ use Rattle.step_memory.specs.Calls.Call.{Began, Stepped}
 use Rattle.splitter_grid.specs.declared.walker.Walker.{Walker}
 use Rattle.splitter_grid.specs.Door.{number_of}
 use Rattle.splitter_grid.specs.Walk.{walk_of, walker_steps}
-use Rattle.splitter_grid.specs.Invariant.{x_in}
-use Rattle.splitter_grid.specs.Machine.{GridState, fresh, grid}
+use Rattle.splitter_grid.specs.Invariant.{x_in, was_entered}
+use Rattle.splitter_grid.specs.Machine.{GridState, fresh, grid, doors_for}
 
 -- the call is an accepted step, made by one who stands at door k
 abbrev pub Enters : GridState → Call (Option ℕ) → ℕ → Type 0
@@ -30,3 +31,7 @@ WasEntered most r k = EntersFrom (fresh most) r k
 -- after any calls that lead to this world X of a door is not 0 exactly where the door was entered
 abbrev pub ShowsWhatWasEntered : GridState → Type 0
 ShowsWhatWasEntered w = Always grid (λ most r. (k : ℕ) → (x_in w.memory k ≢ 0) ↔ WasEntered most r k) w
+
+-- how many doors were entered
+abbrev pub entered_count : GridState → ℕ
+entered_count w = count_to (was_entered w.memory) (doors_for w.most)

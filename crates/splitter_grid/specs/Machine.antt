@@ -12,8 +12,6 @@ use Rattle.step_memory.specs.WorldMachine.{WorldParts, world_machine}
 use Rattle.splitter_grid.specs.Law.{KeepsGridLaw}
 use Rattle.splitter_grid.specs.declared.walker.Walker.{Walker}
 use Rattle.splitter_grid.specs.Walk.{walk_of, walker_steps, place_by}
-use Rattle.step_memory.specs.Count.{count_to}
-use Rattle.splitter_grid.specs.Invariant.{was_entered}
 
 -- the registers, the most participants, and their walks
 abbrev pub GridState : Type 0
@@ -59,7 +57,3 @@ place_in w id = place_by (program_of id w.participants)
 -- the doors of a grid for so many participants
 abbrev pub doors_for : ℕ → ℕ
 doors_for most = most * (most + 1) / 2
-
--- how many doors were entered
-abbrev pub entered_count : GridState → ℕ
-entered_count w = count_to (was_entered w.memory) (doors_for w.most)

@@ -3,8 +3,8 @@
 ghost use Rattle.std.specs.Prelude.{◌≡◌, ℕ, ◌+◌, ◌*◌, [], IfOk, IfErr, IsOk, OnErr, Err, ◌≤◌, ◌<◌, ◌⊎◌, ◌↔◌};
 ghost use Rattle.splitter_grid.specs.Laws.{StaysAlike};
 ghost use Rattle.splitter_grid.specs.Door.{IsDoorWithin};
-ghost use Rattle.splitter_grid.specs.Entered.{WasEntered, ShowsWhatWasEntered};
-ghost use Rattle.splitter_grid.specs.Machine.{GridState, fresh, grid, step_reply, world_after_step, place_in, entered_count};
+ghost use Rattle.splitter_grid.specs.Entered.{WasEntered, ShowsWhatWasEntered, entered_count};
+ghost use Rattle.splitter_grid.specs.Machine.{GridState, fresh, grid, step_reply, world_after_step, place_in};
 ghost use Rattle.splitter_grid.specs.Walk.{walk_of, walker_steps};
 ghost use Rattle.step_memory.specs.Calls.{outcome_of, begun_in};
 ghost use Rattle.step_memory.specs.Calls.Call.{Began, Stepped};

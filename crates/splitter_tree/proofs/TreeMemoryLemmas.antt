@@ -1,16 +1,13 @@
 -- a tree is a memory of the kind that walks and collects stand on
-use Rattle.std.proofs.Common.{◌≡◌, ℕ, ◌/◌, Bool, true, false, not, ◌&&◌, ◌||◌, cond, Option, Some, None, inl, inr, refl, ap, sym, ◌∙◌}
+use Rattle.std.proofs.Common.{◌≡◌, ℕ, ◌/◌, Bool, true, false, not, ◌&&◌, ◌||◌, cond, Option, Some, None, inl, inr, refl, ap, ◌∙◌}
 use Rattle.std.specs.Prelude.{◌⊎◌, ◌==◌, is_some}
 use Rattle.std.specs.Ordering.{nat_cmp}
 use Rattle.std.specs.FinMap as map
-use Rattle.std.specs.FinMap.{nat_cmp-IsAntisymmetric}
 use Rattle.std.proofs.lemmas.Bool.Decides.{Decides-eqb}
-use Rattle.std.proofs.lemmas.Cmp.{nat_cmp_total}
 use Rattle.step_memory.specs.declared.access.Access.{Access}
 use Rattle.step_memory.specs.declared.access.Access.TheVariants.{Read, Write, TestAndSet, Clear, Nothing}
 use Rattle.step_memory.specs.declared.record.Record.{Record}
-use Rattle.step_memory.specs.SetAt.{set_at}
-use Rattle.step_memory.proofs.SetAtLemmas.{set_at-same, set_at-as_is}
+use Rattle.step_memory.proofs.SetAtLemmas.{set_at-same}
 use Rattle.splitter_tree.specs.declared.node_registers.NodeRegisters.{NodeRegisters}
 use Rattle.splitter_tree.specs.declared.register.TreeRegister.{TreeRegister}
 use Rattle.splitter_tree.specs.declared.register.TreeRegister.TheVariants.{Mark, X, Y, Contents}
@@ -59,17 +56,6 @@ marked : (k : ℕ) (here : Option NodeRegisters) (reach : Bool) → (is_some her
 marked k None true h = refl
 marked k None false h = absurd (let e : false ≡ true = h refl in cc)
 marked k (Some registers) reach h = refl
-
--- to set the mark of a node that is there changes nothing
-node_stays : (k : ℕ) (here : Option NodeRegisters) (reach : Bool) → is_some here ≡ true → cond (not (is_some here) && reach) (Some fresh_registers) (written (Mark k) (Word 1) here) ≡ here
-node_stays k None reach h = absurd (cc)
-node_stays k (Some registers) reach h = refl
-
-pub marked_again : (s : NodeMap) (k : ℕ) → is_some (map.get s k) ≡ true → s ≡ after_write s (Mark k) (Word 1)
-marked_again s k there =
-    let stays = node_stays k (map.get s k) ((k == 1) || is_some (map.get s (k / 2))) there in
-    map.same_map nat_cmp_total nat_cmp-IsAntisymmetric s (after_write s (Mark k) (Word 1)) (λ q.
-    sym (get_written s (Mark k) (Word 1) q ∙ ap (λ o. set_at (map.get s) k o q) stays ∙ ap (λ (f : ℕ → Option NodeRegisters). f q) (set_at-as_is (map.get s) k (map.get s k) refl)))
 
 or_true : (b : Bool) → b || true ≡ true
 or_true true = refl

@@ -5,6 +5,7 @@ ghost use Rattle.std.specs.FinMap as map;
 ghost use Rattle.splitter_tree.specs.TreeSteps.{tree_steps, empty_tree, value_in, answer_of, after_access, may_refuse, number_in};
 ghost use Rattle.splitter_tree.specs.TreeProofs.{others_kept};
 ghost use Rattle.step_memory.specs.declared.access.Access.TheVariants.{Read};
+ghost use Rattle.step_memory.specs.Taken.{told_in};
 ghost use Rattle.splitter_tree.specs.declared.register.TreeValue.TheVariants as value;
 ghost use Rattle.splitter_tree.specs.Walk.{next_access, walker_after, walker_note};
 
@@ -96,52 +97,52 @@ impl<A: Allocator + Clone> Tree<A> {
     }
 
     /// Takes a step of a visit, as `walk_on` does.
-    fn visit_on(&mut self, walker: &mut Walker) -> Option<Note<Place>>
+    fn visit_on(&mut self, walker: &mut Walker) -> Result<Option<Note<Place>>, NoMemory>
         requires { walker.old.is_marking ≡ false }
-        ensures note { IfSome result (λ note. note ≡ walker_note walker.old (answer_of self.old (next_access walker.old))) }
-        ensures after { IfSome result (λ _. walker.new ≡ walker_after walker.old (answer_of self.old (next_access walker.old))) }
-        ensures memory { IfSome result (λ _. self.new ≡ after_access self.old (next_access walker.old)) }
-        ensures kept { result ≡ None → walker.new ≡ walker.old }
-        ensures memory_kept { result ≡ None → self.new ≡ self.old }
+        ensures note { IfSome (told_in result) (λ note. note ≡ walker_note walker.old (answer_of self.old (next_access walker.old))) }
+        ensures after { IfSome (told_in result) (λ _. walker.new ≡ walker_after walker.old (answer_of self.old (next_access walker.old))) }
+        ensures memory { IfSome (told_in result) (λ _. self.new ≡ after_access self.old (next_access walker.old)) }
+        ensures kept { told_in result ≡ None → walker.new ≡ walker.old }
+        ensures memory_kept { told_in result ≡ None → self.new ≡ self.old }
+        ensures no_memory { OnErr result (may_refuse self.old (next_access walker.old) ≡ true) }
     {
         match walker.visitor.next() {
             Access::Read(register) => {
                 let Some(word) = self.word(register) else {
-                    return None;
+                    return Ok(None);
                 };
-                Some(walker.resume_visit(Answer::Value(word)))
+                Ok(Some(walker.resume_visit(Answer::Value(word))))
             }
             Access::Write(register, word) => {
                 let written = WrittenValue::Word(word);
-                if write_from(&mut self.root, &self.alloc, register, written).is_err() {
-                    return None;
-                }
-                Some(walker.resume_visit(Answer::Done))
+                write_from(&mut self.root, &self.alloc, register, written)?;
+                Ok(Some(walker.resume_visit(Answer::Done)))
             }
-            Access::TestAndSet(_) => None,
-            Access::Clear(_) => None,
-            Access::Nothing => None,
+            Access::TestAndSet(_) => Ok(None),
+            Access::Clear(_) => Ok(None),
+            Access::Nothing => Ok(None),
         }
     }
 
     /// Takes the next step of a walk where it stands, so that no segment is copied, and gives what the walk says. `None` where it
-    /// did not: then nothing has changed, and the step is still to be taken. It makes no node, so it asks for no room: a step that
-    /// makes one is left to `access`, which tells where room was refused.
-    pub fn walk_on(&mut self, walker: &mut Walker) -> Option<Note<Place>>
-        ensures note { IfSome result (λ note. note ≡ walker_note walker.old (answer_of self.old (next_access walker.old))) }
-        ensures after { IfSome result (λ _. walker.new ≡ walker_after walker.old (answer_of self.old (next_access walker.old))) }
-        ensures memory { IfSome result (λ _. self.new ≡ after_access self.old (next_access walker.old)) }
-        ensures kept { result ≡ None → walker.new ≡ walker.old }
-        ensures memory_kept { result ≡ None → self.new ≡ self.old }
+    /// did not, and an error where the step makes a node and room for that was refused: then nothing has changed, and the step is
+    /// still to be taken.
+    pub fn walk_on(&mut self, walker: &mut Walker) -> Result<Option<Note<Place>>, NoMemory>
+        ensures note { IfSome (told_in result) (λ note. note ≡ walker_note walker.old (answer_of self.old (next_access walker.old))) }
+        ensures after { IfSome (told_in result) (λ _. walker.new ≡ walker_after walker.old (answer_of self.old (next_access walker.old))) }
+        ensures memory { IfSome (told_in result) (λ _. self.new ≡ after_access self.old (next_access walker.old)) }
+        ensures kept { told_in result ≡ None → walker.new ≡ walker.old }
+        ensures memory_kept { told_in result ≡ None → self.new ≡ self.old }
+        ensures no_memory { OnErr result (may_refuse self.old (next_access walker.old) ≡ true) }
     {
         if !walker.is_marking {
             return self.visit_on(walker);
         }
-        if self.registers_at(walker.place).is_none() {
-            return None;
-        }
+        let mark = TreeRegister::Mark(walker.place);
+        let marked = WrittenValue::Word(MARKED);
+        write_from(&mut self.root, &self.alloc, mark, marked)?;
         walker.is_marking = false;
-        Some(Note::Quiet)
+        Ok(Some(Note::Quiet))
     }
 }
 

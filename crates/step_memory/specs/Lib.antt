@@ -16,6 +16,7 @@ pub mod Count
 pub mod Distinct
 pub mod Calls
 pub mod Told
+pub mod Taken
 pub mod Due
 pub mod WorldMachine
 pub mod View

@@ -1,8 +1,9 @@
 //! One participant of a world.
 
-ghost use Rattle.std.specs.Prelude.{◌≡◌, true, false, IfSome, None};
+ghost use Rattle.std.specs.Prelude.{◌≡◌, true, false, IfSome, OnErr, None};
 ghost use Rattle.step_memory.specs.Participant.{resumed, beginner};
 ghost use Rattle.step_memory.specs.Steps.{answer_from};
+ghost use Rattle.step_memory.specs.Taken.{told_in};
 ghost use Rattle.step_memory.specs.declared.access.Answer.TheVariants.{Value};
 ghost use Rattle.step_memory.specs.declared.note.Note.TheVariants.{Quiet};
 
@@ -10,6 +11,7 @@ use crate::access::Answer;
 use crate::memory::StepMemory;
 use crate::note::Note;
 use crate::program::{Request, StepProgram};
+use crate::refusal::NoMemory;
 use crate::shortcut::Shortcut;
 
 /// A participant of a world.
@@ -48,23 +50,25 @@ impl<P: StepProgram> Participant<P> {
         true
     }
 
-    /// Takes its program's step by this shortcut. What that tells; `None` where it did not: then nothing has changed.
+    /// Takes its program's step by this shortcut. What that tells; `None` where it did not, and an error where a growth was
+    /// refused: then nothing has changed.
     pub fn take<Q: Shortcut<P, S>, S: StepMemory<Reg = P::Reg, Value = P::Value>>(
         &mut self,
         memory: &mut S,
-    ) -> Option<Q::Told>
-        ensures takes { IfSome result (λ _. Q.takes self.old.program) }
-        ensures after { IfSome result (λ _. self.new ≡ resumed P.steps self.old (answer_from (S.steps.register memory.old) (P.steps.next self.old.program))) }
-        ensures note { IfSome result (λ told. P.steps.note self.old.program (answer_from (S.steps.register memory.old) (P.steps.next self.old.program)) ≡ Q.note told) }
-        ensures memory { IfSome result (λ _. memory.new ≡ S.steps.after memory.old (P.steps.next self.old.program)) }
-        ensures kept { result ≡ None → self.new ≡ self.old }
-        ensures memory_kept { result ≡ None → memory.new ≡ memory.old }
+    ) -> Result<Option<Q::Told>, NoMemory>
+        ensures takes { IfSome (told_in result) (λ _. Q.takes self.old.program) }
+        ensures after { IfSome (told_in result) (λ _. self.new ≡ resumed P.steps self.old (answer_from (S.steps.register memory.old) (P.steps.next self.old.program))) }
+        ensures note { IfSome (told_in result) (λ told. P.steps.note self.old.program (answer_from (S.steps.register memory.old) (P.steps.next self.old.program)) ≡ Q.note told) }
+        ensures memory { IfSome (told_in result) (λ _. memory.new ≡ S.steps.after memory.old (P.steps.next self.old.program)) }
+        ensures kept { told_in result ≡ None → self.new ≡ self.old }
+        ensures memory_kept { told_in result ≡ None → memory.new ≡ memory.old }
+        ensures no_memory { OnErr result (S.steps.may_refuse memory.old (P.steps.next self.old.program) ≡ true) }
     {
-        let Some(told) = Q::take(&mut self.program, memory) else {
-            return None;
+        let Some(told) = Q::take(&mut self.program, memory)? else {
+            return Ok(None);
         };
         self.ended = false;
-        Some(told)
+        Ok(Some(told))
     }
 }
 

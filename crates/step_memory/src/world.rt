@@ -5,6 +5,7 @@ ghost use Rattle.step_memory.specs.Participant.{participant_of, program_of};
 ghost use Rattle.step_memory.specs.World.{begin_refusal, done_unless, after_begin, step_answer, after_step, may_refuse_step, set_answer, after_set, CanAsk, after_asked};
 ghost use Rattle.step_memory.specs.WorldState.{WorldState};
 ghost use Rattle.step_memory.specs.Locality.{IsLocal, IsAnsweredAlike, ReadsNext, IsTaken};
+ghost use Rattle.step_memory.specs.Taken.{told_in};
 
 use crate::hints::Hints;
 use crate::memory::StepMemory;
@@ -153,20 +154,22 @@ impl<
     }
 
     /// One step of a participant by a shortcut, if that takes it: nothing is copied. What the shortcut tells; `None` where it
-    /// was not made: then nothing has changed, and `step` makes it or refuses it.
-    pub fn take<Q: Shortcut<P, S>>(&mut self, id: u64) -> Option<Q::Told>
-        ensures answer { IfSome result (λ told. step_answer P.steps S.steps self.old id ≡ Ok (Q.note told)) }
-        ensures takes { IfSome result (λ _. IsTaken Q.takes self.old id) }
-        ensures local { IfSome result (λ _. IsLocal P.steps S.steps id self.old self.new) }
-        ensures after { IfSome result (λ _. self.new ≡ after_step P.steps S.steps self.old id) }
-        ensures kept { result ≡ None → self.new ≡ self.old }
+    /// was not made: then nothing has changed, and `step` makes it or refuses it. An error where the memory refused a growth: then
+    /// nothing has changed, and the same step may be asked again.
+    pub fn take<Q: Shortcut<P, S>>(&mut self, id: u64) -> Result<Option<Q::Told>, NoMemory>
+        ensures answer { IfSome (told_in result) (λ told. step_answer P.steps S.steps self.old id ≡ Ok (Q.note told)) }
+        ensures takes { IfSome (told_in result) (λ _. IsTaken Q.takes self.old id) }
+        ensures local { IfSome (told_in result) (λ _. IsLocal P.steps S.steps id self.old self.new) }
+        ensures after { IfSome (told_in result) (λ _. self.new ≡ after_step P.steps S.steps self.old id) }
+        ensures kept { told_in result ≡ None → self.new ≡ self.old }
+        ensures no_memory { OnErr result (may_refuse_step P.steps S.steps self.old id ≡ true) }
     {
         let Some(i) = self.hints.find(&self.participants, id) else {
-            return None;
+            return Ok(None);
         };
         let walker = &self.participants[i];
         if walker.ended {
-            return None;
+            return Ok(None);
         }
         self.participants[i].take::<Q, S>(&mut self.memory)
     }

@@ -11,7 +11,7 @@ use Rattle.desk.proofs.DeskLaws as desk
 use Rattle.schedule_player.specs.declared.summary.Summary.{Summary}
 use Rattle.schedule_player.specs.Asked.{asked_by}
 use Rattle.schedule_player.specs.DeskWorld.{DeskWorldMay}
-use Rattle.schedule_player.specs.IsRun.{IsTalk, IsTalkByKind}
+use Rattle.schedule_player.specs.IsTalk.{IsTalk, IsTalkByKind}
 use Rattle.schedule_player.specs.Lines.{lines}
 use Rattle.schedule_player.specs.Played.{Reading, Writing, IsInput, PlayedToEnd}
 use Rattle.schedule_player.specs.Recorded.{IsRecorded}

@@ -1,6 +1,6 @@
 use Rattle.commands.specs.declared.kind.WorldKind.TheVariants.{Splitter, Grid, Rename, Tree}
 use Rattle.schedule_player.specs.OneTalk.{IsOneTalk}
-use Rattle.schedule_player.specs.IsRun.{IsTalkByKind}
+use Rattle.schedule_player.specs.IsTalk.{IsTalkByKind}
 use Rattle.schedule_player.proofs.laws.law_of_play.Goals as goal
 
 pub returns : goal.returns

@@ -1,34 +1,41 @@
-use Rattle.std.proofs.Common.{◌≡◌, inl, inr, Result, sym, subst}
-use Rattle.commands.specs.declared.config.Config.{Config}
+-- what is played in a world is said by the clause of that world
+use Rattle.std.proofs.Common.{◌≡◌, ◌∙◌, inl, inr, sym, subst, true, false}
+use Rattle.commands.specs.Config.{gives_names}
 use Rattle.commands.specs.declared.kind.WorldKind.{WorldKind}
 use Rattle.commands.specs.declared.kind.WorldKind.TheVariants.{Splitter, Grid, Rename, Tree}
-use Rattle.schedule_player.specs.declared.fault.Fault.{Fault}
-use Rattle.schedule_player.specs.declared.summary.Summary.{Summary}
-use Rattle.schedule_player.specs.IsRun.{IsTalk, IsTalkByKind}
-use Rattle.schedule_player.specs.Played.{IsPlayed, Reading, Writing}
-use Rattle.schedule_player.specs.Texts.{replies_of}
 use Rattle.schedule_player.proofs.playing.play.Goals as goal
 
--- what was played in the config's world is a talk of the config
-module _ {R W : Type 0} (config : Config) (reading : Reading R) (writing : Writing W) (r r' : R) (w w' : W) (result : Result Summary Fault) where
-  PlayedIn : WorldKind → Type 0
-  PlayedIn kind = IsPlayed replies_of (IsTalkByKind kind config) (IsTalkByKind kind config) config.world reading writing r r' w w' result
+pub returns-in_ok-world-in-Splitter-clause-splitter : goal.returns-in_ok-world-in-Splitter-clause-splitter
+returns-in_ok-world-in-Splitter-clause-splitter g c = λ is. c.play_in.ensures
 
-  played_in : (kind : WorldKind) → config.world ≡ kind → PlayedIn kind → IsPlayed replies_of (IsTalk config) (IsTalk config) config.world reading writing r r' w w' result
-  unfolding PlayedIn
-  played_in kind is played = subst PlayedIn (sym is) played
+pub returns-in_ok-world-in-Splitter-clause-grid : goal.returns-in_ok-world-in-Splitter-clause-grid
+returns-in_ok-world-in-Splitter-clause-grid g c = λ is. let other : Splitter ≡ Grid = sym c.in-Splitter.is ∙ is in absurd cc
 
-pub returns-in_ok-world-in-Splitter : goal.returns-in_ok-world-in-Splitter
-unfolding PlayedIn
-returns-in_ok-world-in-Splitter g c = played_in c.args.config _ _ _ _ _ _ _ Splitter c.in-Splitter.is c.play_in.ensures
+pub returns-in_ok-world-in-Splitter-clause-names : goal.returns-in_ok-world-in-Splitter-clause-names
+returns-in_ok-world-in-Splitter-clause-names g c = λ names.
+    let none : false ≡ true = subst (λ (k : WorldKind). gives_names k ≡ true) c.in-Splitter.is names in absurd cc
 
-pub returns-in_ok-world-in-Grid : goal.returns-in_ok-world-in-Grid
-unfolding PlayedIn
-returns-in_ok-world-in-Grid g c = played_in c.args.config _ _ _ _ _ _ _ Grid c.in-Grid.is c.play_in-in-Grid.ensures
+pub returns-in_ok-world-in-Grid-clause-splitter : goal.returns-in_ok-world-in-Grid-clause-splitter
+returns-in_ok-world-in-Grid-clause-splitter g c = λ is. let other : Grid ≡ Splitter = sym c.in-Grid.is ∙ is in absurd cc
 
-pub returns-in_ok-world-in-Rename : goal.returns-in_ok-world-in-Rename
-unfolding PlayedIn
-returns-in_ok-world-in-Rename g c = elim c.in-Rename.is [
-  | inl is ↦ played_in c.args.config _ _ _ _ _ _ _ Rename is c.play_in-in-Rename.ensures
-  | inr is ↦ played_in c.args.config _ _ _ _ _ _ _ Tree is c.play_in-in-Rename.ensures
+pub returns-in_ok-world-in-Grid-clause-grid : goal.returns-in_ok-world-in-Grid-clause-grid
+returns-in_ok-world-in-Grid-clause-grid g c = λ is. c.play_in-in-Grid.ensures
+
+pub returns-in_ok-world-in-Grid-clause-names : goal.returns-in_ok-world-in-Grid-clause-names
+returns-in_ok-world-in-Grid-clause-names g c = λ names.
+    let none : false ≡ true = subst (λ (k : WorldKind). gives_names k ≡ true) c.in-Grid.is names in absurd cc
+
+pub returns-in_ok-world-in-Rename-clause-splitter : goal.returns-in_ok-world-in-Rename-clause-splitter
+returns-in_ok-world-in-Rename-clause-splitter g c = λ is. elim c.in-Rename.is [
+  | inl rename ↦ let other : Rename ≡ Splitter = sym rename ∙ is in absurd cc
+  | inr tree ↦ let other : Tree ≡ Splitter = sym tree ∙ is in absurd cc
 ]
+
+pub returns-in_ok-world-in-Rename-clause-grid : goal.returns-in_ok-world-in-Rename-clause-grid
+returns-in_ok-world-in-Rename-clause-grid g c = λ is. elim c.in-Rename.is [
+  | inl rename ↦ let other : Rename ≡ Grid = sym rename ∙ is in absurd cc
+  | inr tree ↦ let other : Tree ≡ Grid = sym tree ∙ is in absurd cc
+]
+
+pub returns-in_ok-world-in-Rename-clause-names : goal.returns-in_ok-world-in-Rename-clause-names
+returns-in_ok-world-in-Rename-clause-names g c = λ names. c.play_in-in-Rename.ensures

@@ -1,7 +1,7 @@
 use Rattle.std.proofs.Common.{◌≡◌, sym, subst, ap, ◌∙◌}
 use Rattle.commands.specs.declared.reply.Reply.{Reply}
 use Rattle.desk.specs.Desk.{owner_reply}
-use Rattle.desk.specs.Owner.{IsOwnerReply}
+use Rattle.desk.specs.Names.{IsOwnerReply}
 use Rattle.locked_world.specs.Halls.{desk_of, IsLawful}
 use Rattle.locked_world.proofs.Histories.{history_owner}
 use Rattle.locked_world.proofs.hall.Hall.owner.Goals as goal

@@ -30,7 +30,11 @@ ready g c = rw (← c.self.view_is) at c.requires.ready
 
 -- what the snapshot object told
 told : (g : _) (c : After-is_quiet g) → Ok (told_of_way c.in-Some.note) ≡ snap_answer (known g) c.self.inside.snap c.args.id
-told g c = sym c.in-Some.ensures.answer
+told g c = sym (rw c.in-Some.is at c.in_ok-note.ensures.answer)
+
+-- where it then stands
+stepped : (g : _) (c : After-is_quiet g) → c.walk_on.new.self ≡ after_snap_step (known g) c.self.inside.snap c.args.id
+stepped g c = rw c.in-Some.is at c.in_ok-note.ensures.state
 
 -- where the way said nothing
 told_quiet : (g : _) (c : After-is_quiet g) → c.is_quiet.result ≡ true → Ok Quiet ≡ snap_answer (known g) c.self.inside.snap c.args.id
@@ -40,7 +44,9 @@ told_quiet g c quiet =
 
 -- what was asked for
 asked : (g : _) (c : After-follow g) → c.follow.new.snap ≡ after_wish (after_snap_step (known g) c.self.inside.snap c.args.id) c.index_mut-2.result.now.identity (followed c.index_mut-2.result.now.program c.index_mut-2.result.now.identity (told_of_way c.in-Some.note) c.self.inside.limit).wish
-asked g c = rw (← c.in-Some.ensures.state, ← c.of_way-told.ensures) c.follow.ensures.asked
+asked g c =
+    let stepped : c.walk_on.new.self ≡ after_snap_step (known g) c.self.inside.snap c.args.id = rw c.in-Some.is at c.in_ok-note.ensures.state in
+    rw (← stepped, ← c.of_way-told.ensures) c.follow.ensures.asked
 
 pub returns-then-is_quiet-clause-answer : goal.returns-then-is_quiet-clause-answer
 returns-then-is_quiet-clause-answer g c = λ _.
@@ -52,12 +58,12 @@ pub returns-then-is_quiet-clause-state : goal.returns-then-is_quiet-clause-state
 returns-then-is_quiet-clause-state g c = λ _.
     let s = (goal.at.returns-then-is_quiet-clause-state g c).After-walk_on in
     let k = told_quiet g (goal.at.returns-then-is_quiet-clause-state g c).After-is_quiet c.if-is_quiet.true in
-    rw (← c.self.view_is) (followed_state (known g) (before g s) c.args.id c.args.at c.index_mut.result.now _ (there g s) c.index_mut.ensures.value Quiet c.walk_on.new.self _ (ready g s) k c.in-Some.ensures.state refl)
+    rw (← c.self.view_is) (followed_state (known g) (before g s) c.args.id c.args.at c.index_mut.result.now _ (there g s) c.index_mut.ensures.value Quiet c.walk_on.new.self _ (ready g s) k (stepped g (goal.at.returns-then-is_quiet-clause-state g c).After-is_quiet) refl)
 
 pub invariant_of-self-then-is_quiet : goal.invariant_of-self-then-is_quiet
 invariant_of-self-then-is_quiet g c =
     let s = (goal.at.invariant_of-self-then-is_quiet g c).After-walk_on in
-    followed_room (known g) (before g s) c.args.id c.args.at c.index_mut.result.now _ (there g s) c.index_mut.ensures.value _ Nothing c.walk_on.new.self _ c.in-Some.ensures.state refl c.self.invariant
+    followed_room (known g) (before g s) c.args.id c.args.at c.index_mut.result.now _ (there g s) c.index_mut.ensures.value _ Nothing c.walk_on.new.self _ (stepped g (goal.at.invariant_of-self-then-is_quiet g c).After-is_quiet) refl c.self.invariant
 
 pub returns-clause-answer : goal.returns-clause-answer
 returns-clause-answer g c = λ _.
@@ -81,7 +87,7 @@ invariant_of-self-2 g c =
 
 pub invariant_of-self : goal.invariant_of-self
 invariant_of-self g c =
-    let kept : c.walk_on.new.self ≡ c.self.inside.snap = c.in_default.ensures.kept refl in
+    let kept : c.walk_on.new.self ≡ c.self.inside.snap = c.in_err-note.ensures.kept refl in
     rw kept c.self.invariant
 
 pub index_mut-requires : goal.index_mut-requires

@@ -8,7 +8,7 @@ use Rattle.snapshot_core.proofs.Following.{law_holds, own_access_holds}
 use Rattle.snapshot_core.specs.Places.{KnownPlaces, places_by}
 use Rattle.snapshot_core.proofs.world.SnapWorld.step.Given.{Over}
 use Rattle.snapshot_core.proofs.world.SnapWorld.step.Goals as goal
-use Rattle.snapshot_core.proofs.world.SnapWorld.step.Goals.{After-take_step}
+use Rattle.snapshot_core.proofs.world.SnapWorld.step.Goals.{After-walk_on, After-take_step}
 
 abbrev known : (g : Over) → KnownPlaces g.row.W.Denot g.row.W-Reg.Denot g.row.W-Value.Denot g.row.W-Walker.Denot g.row.W-Walk.Denot
 known g = places_by g.W.Walker.StepProgram.steps g.W.Walker.PlaceWalker.place_of g.W.Walk.SegmentWalk.walks g.W.StepMemory.steps g.W.Places.most_of g.W.Places.walker_from g.W.Places.walk_from g.W.Places.ties
@@ -24,33 +24,52 @@ returns-then-read_on-clause-stands_alike g c = λ h. stays_alike (known g) c.arg
 pub returns-then-read_on-clause-own : goal.returns-then-read_on-clause-own
 returns-then-read_on-clause-own g c = own_access_holds (known g) g.met.W.Places.laws c.args.self.now c.args.id
 
+-- a read that goes on was not made
+not_read : (g : _) (c : After-walk_on g) → c.read_on.new.self ≡ c.args.self.now
+not_read g c = c.read_on.ensures.kept c.if-read_on.false
+
+pub returns-in_err-note-clause-on_way : goal.returns-in_err-note-clause-on_way
+returns-in_err-note-clause-on_way g c = λ h.
+    lacks_on_way (known g) g.met.W.Places.laws c.args.self.now c.args.id (rw (not_read g (goal.at.returns-in_err-note-clause-on_way g c).After-walk_on) at c.in_err-note.ensures.no_memory)
+
+pub returns-in_err-note-clause-after : goal.returns-in_err-note-clause-after
+returns-in_err-note-clause-after g c =
+    let still = not_read g (goal.at.returns-in_err-note-clause-after g c).After-walk_on in
+    let is : c.from_residual.result ≡ Err NoMemory = search rules in
+    let lacks = rw still at c.in_err-note.ensures.no_memory in
+    after_step_call (known g) c.args.self.now c.walk_on.new.self c.args.id c.from_residual.result
+    (λ goes. absurd (goes is)) (λ goes. absurd (goes is)) (λ e. (c.in_err-note.ensures.kept refl ∙ still, lacks))
+
+pub returns-in_err-note-clause-own : goal.returns-in_err-note-clause-own
+returns-in_err-note-clause-own g c = own_access_holds (known g) g.met.W.Places.laws c.args.self.now c.args.id
+
 pub returns-in-Some-clause-answer : goal.returns-in-Some-clause-answer
 returns-in-Some-clause-answer g c = λ _.
-    ap Ok c.of_way.ensures ∙ sym (rw (c.read_on.ensures.kept c.if-read_on.false) at c.in-Some.ensures.answer)
+    ap Ok c.of_way.ensures ∙ sym (rw (c.in-Some.is, not_read g (goal.at.returns-in-Some-clause-answer g c).After-walk_on) at c.in_ok-note.ensures.answer)
 
 pub returns-in-Some-clause-state : goal.returns-in-Some-clause-state
-returns-in-Some-clause-state g c = λ _. rw (c.read_on.ensures.kept c.if-read_on.false) at c.in-Some.ensures.state
+returns-in-Some-clause-state g c = λ _. rw (c.in-Some.is, not_read g (goal.at.returns-in-Some-clause-state g c).After-walk_on) at c.in_ok-note.ensures.state
 
 pub returns-in-Some-clause-local : goal.returns-in-Some-clause-local
-returns-in-Some-clause-local g c = rw (c.read_on.ensures.kept c.if-read_on.false) at c.in-Some.ensures.local
+returns-in-Some-clause-local g c = rw (c.in-Some.is, not_read g (goal.at.returns-in-Some-clause-local g c).After-walk_on) at c.in_ok-note.ensures.local
 
 pub returns-in-Some-clause-after : goal.returns-in-Some-clause-after
-returns-in-Some-clause-after g c = rw (c.read_on.ensures.kept c.if-read_on.false, sym c.of_way.ensures) at c.in-Some.ensures.after
+returns-in-Some-clause-after g c = rw (c.in-Some.is, not_read g (goal.at.returns-in-Some-clause-after g c).After-walk_on, sym c.of_way.ensures) at c.in_ok-note.ensures.after
 
 pub returns-in-Some-clause-alike : goal.returns-in-Some-clause-alike
 returns-in-Some-clause-alike g c = λ h other alike.
-    let answer = rw (c.read_on.ensures.kept c.if-read_on.false) at c.in-Some.ensures.answer in
+    let answer = rw (c.in-Some.is, not_read g (goal.at.returns-in-Some-clause-alike g c).After-walk_on) at c.in_ok-note.ensures.answer in
     ap Ok c.of_way.ensures ∙ sym answer ∙ snap_alike (known g) c.args.self.now other c.args.id alike
 
 pub returns-in-Some-clause-stands_alike : goal.returns-in-Some-clause-stands_alike
-returns-in-Some-clause-stands_alike g c = λ h. stays_alike (known g) c.args.self.now c.walk_on.new.self c.args.id (rw (c.read_on.ensures.kept c.if-read_on.false) at c.in-Some.ensures.state)
+returns-in-Some-clause-stands_alike g c = λ h. stays_alike (known g) c.args.self.now c.walk_on.new.self c.args.id (returns-in-Some-clause-state g c h)
 
 pub returns-in-Some-clause-own : goal.returns-in-Some-clause-own
 returns-in-Some-clause-own g c = own_access_holds (known g) g.met.W.Places.laws c.args.self.now c.args.id
 
 -- neither was made
 kept : (g : _) (c : After-take_step g) → c.walk_on.new.self ≡ c.args.self.now
-kept g c = c.in_default.ensures.kept refl ∙ c.read_on.ensures.kept c.if-read_on.false
+kept g c = c.in_ok-note.ensures.kept c.in_default.is ∙ c.read_on.ensures.kept c.if-read_on.false
 
 pub returns-clause-answer : goal.returns-clause-answer
 returns-clause-answer g c = rw (kept g (goal.at.returns-clause-answer g c).After-take_step) at c.take_step.ensures.answer

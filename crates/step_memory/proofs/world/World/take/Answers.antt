@@ -1,12 +1,14 @@
 use Rattle.std.proofs.Common.{◌≡◌, ◌<◌, Ok, IfSome, Option, Some, None, set, refl, sym, ap, ◌∙◌, length}
 use Rattle.std.proofs.lemmas.Option.{IfSome_then}
+use Rattle.std.proofs.lemmas.Result.{on_err_weaker}
 use Rattle.std.proofs.lemmas.List.{get_or_default}
 use Rattle.step_memory.specs.Participant.{resumed, with_participant}
 use Rattle.step_memory.specs.World.{got_by}
+use Rattle.step_memory.specs.Taken.{told_in}
 use Rattle.step_memory.proofs.LocalityLemmas.{step_local}
 use Rattle.step_memory.proofs.Found.{Found}
 use Rattle.step_memory.proofs.Roster as roster
-use Rattle.step_memory.proofs.StepLemmas.{going_answer, going_after}
+use Rattle.step_memory.proofs.StepLemmas.{going_answer, going_after, going_refused}
 use Rattle.step_memory.proofs.DistinctParticipants.{distinct_there}
 use Rattle.step_memory.proofs.world.World.take.Goals as goal
 use Rattle.step_memory.proofs.world.World.take.Goals.{After-index-walker, After-take}
@@ -34,11 +36,19 @@ both_some : {X : Type 0} {P Q S : Type 0} (r : Option X) → IfSome r (λ _. P) 
 both_some None p q f = tt
 both_some (Some x) p q f = f p q
 
+pub returns-clause-no_memory : goal.returns-clause-no_memory
+returns-clause-no_memory g c =
+    let f = found_participant g (goal.at.returns-clause-no_memory g c).After-index-walker in
+    let w = taken g (goal.at.returns-clause-no_memory g c).After-take in
+    on_err_weaker c.take.result (λ refused.
+    going_refused g.P.StepProgram.steps g.S.StepMemory.steps c.args.self.now c.args.id c.index-walker.result.now f.is c.if-walker.false
+    ∙ rw (← w.memory, ← w.same) refused) c.take.ensures.no_memory
+
 pub returns-clause-answer : goal.returns-clause-answer
 returns-clause-answer g c =
     let f = found_participant g (goal.at.returns-clause-answer g c).After-index-walker in
     let w = taken g (goal.at.returns-clause-answer g c).After-take in
-    IfSome_then c.take.result c.take.ensures.note (λ told said.
+    IfSome_then (told_in c.take.result) c.take.ensures.note (λ told said.
     going_answer g.P.StepProgram.steps g.S.StepMemory.steps c.args.self.now c.args.id c.index-walker.result.now f.is c.if-walker.false
     ∙ ap Ok (rw (← w.memory, ← w.same) said))
 
@@ -46,7 +56,7 @@ pub returns-clause-takes : goal.returns-clause-takes
 returns-clause-takes g c =
     let f = found_participant g (goal.at.returns-clause-takes g c).After-index-walker in
     let w = taken g (goal.at.returns-clause-takes g c).After-take in
-    IfSome_then c.take.result c.take.ensures.takes (λ told takes. (c.index-walker.result.now, f.is, rw (← w.same) takes))
+    IfSome_then (told_in c.take.result) c.take.ensures.takes (λ told takes. (c.index-walker.result.now, f.is, rw (← w.same) takes))
 
 pub returns-clause-after : goal.returns-clause-after
 returns-clause-after g c =
@@ -55,7 +65,7 @@ returns-clause-after g c =
     let m : c.self.inside.most ≡ c.args.self.now.most = ap (λ w. w.most) c.self.view_is in
     let v : c.self.inside.participants.items ≡ c.args.self.now.participants = ap (λ w. w.participants) c.self.view_is in
     let got = got_by g.P.StepProgram.steps g.S.StepMemory.steps c.args.self.now.memory c.index-walker.result.now in
-    both_some c.take.result c.take.ensures.after c.take.ensures.memory (λ after changed.
+    both_some (told_in c.take.result) c.take.ensures.after c.take.ensures.memory (λ after changed.
     let participant : c.take.new.self ≡ resumed g.P.StepProgram.steps c.index-walker.result.now got = rw (← w.memory, ← w.same) after in
     let memory : c.take.new.memory ≡ g.S.StepMemory.steps.after c.args.self.now.memory (g.P.StepProgram.steps.next c.index-walker.result.now.program) = rw (← w.memory, ← w.same) changed in
     let identity : c.take.new.self.identity ≡ c.args.id = ap (λ p. p.identity) participant ∙ f.identity in
@@ -65,14 +75,14 @@ returns-clause-after g c =
 
 pub returns-clause-local : goal.returns-clause-local
 returns-clause-local g c =
-    IfSome_then c.take.result (returns-clause-after g c) (λ told e.
+    IfSome_then (told_in c.take.result) (returns-clause-after g c) (λ told e.
     rw e (step_local g.P.StepProgram.steps g.S.StepMemory.steps g.met.S.StepMemory.others c.args.self.now c.args.id))
 
 pub invariant_of-self : goal.invariant_of-self
 invariant_of-self g c =
-    let told : IfSome c.take.result (λ _. c.take.new.self.identity ≡ c.index_mut.result.now.identity) = IfSome_then c.take.result c.take.ensures.after (λ told after. ap (λ p. p.identity) after) in
+    let told : IfSome (told_in c.take.result) (λ _. c.take.new.self.identity ≡ c.index_mut.result.now.identity) = IfSome_then (told_in c.take.result) c.take.ensures.after (λ told after. ap (λ p. p.identity) after) in
     let own : c.take.new.self.identity ≡ c.index_mut.result.now.identity =
-    elim c.take.result as (λ o. (o ≡ None → c.take.new.self ≡ c.index_mut.result.now) → IfSome o (λ _. c.take.new.self.identity ≡ c.index_mut.result.now.identity) → c.take.new.self.identity ≡ c.index_mut.result.now.identity) [
+    elim (told_in c.take.result) as (λ o. (o ≡ None → c.take.new.self ≡ c.index_mut.result.now) → IfSome o (λ _. c.take.new.self.identity ≡ c.index_mut.result.now.identity) → c.take.new.self.identity ≡ c.index_mut.result.now.identity) [
       | None ↦ λ kept same. ap (λ p. p.identity) (kept refl)
       | Some x ↦ λ kept same. same
     ] c.take.ensures.kept told
