@@ -1,2 +1,3 @@
 mod HostingLemmas
 mod KeptLemmas
+mod ExportLemmas

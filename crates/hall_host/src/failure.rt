@@ -1,6 +1,7 @@
 //! Why a hall is not hosted, or no more.
 
 use event_server::HostFault;
+use hall_log::LogFault;
 use journal::{JournalFault, OpenFault};
 use journal_disk::{DiskFault, FileFault};
 use run_checker::Verdict;
@@ -41,6 +42,18 @@ pub enum HostFailure {
     /// The line of this number of the journal is none that a server writes.
     #[error("journal: line {0} is none of a server")]
     OtherLine(u64),
+    /// The words for the members of the log are no addresses.
+    #[error("no such address of a member")]
+    NoMembers,
+    /// The system gave no random bytes.
+    #[error("no random bytes")]
+    NoToken,
+    /// The log is one of another config, or of another version.
+    #[error("log of another config")]
+    OtherLog,
+    /// The members of the log did not answer, or the log failed.
+    #[error("log fault: {0}")]
+    Log(LogFault),
 }
 
 impl From<FileFault> for HostFailure {
@@ -103,6 +116,28 @@ impl From<JournalFault> for HostFailure {
 
 impl From<HostFault<JournalFault>> for HostFailure {
     fn from(fault: HostFault<JournalFault>) -> HostFailure {
+        match fault {
+            HostFault::Memory => HostFailure::Memory,
+            HostFault::Network => HostFailure::Network,
+            HostFault::Output => HostFailure::Output,
+            HostFault::Keep(fault) => HostFailure::from(fault),
+        }
+    }
+}
+
+impl From<LogFault> for HostFailure {
+    fn from(fault: LogFault) -> HostFailure {
+        match fault {
+            LogFault::Memory => HostFailure::Memory,
+            LogFault::NoNames => HostFailure::NoNames,
+            LogFault::OtherConfig => HostFailure::OtherLog,
+            other => HostFailure::Log(other),
+        }
+    }
+}
+
+impl From<HostFault<LogFault>> for HostFailure {
+    fn from(fault: HostFault<LogFault>) -> HostFailure {
         match fault {
             HostFault::Memory => HostFailure::Memory,
             HostFault::Network => HostFailure::Network,

@@ -5,7 +5,7 @@ ghost use Rattle.journal.specs.Compactings.{KeepsWhenCompacted, MayCompact};
 ghost use Rattle.journal.specs.Journals.{Stands};
 ghost use Rattle.hall_host.specs.Kept.{KeptBy, MayCompactHall};
 
-use event_server::{Keep, Tally};
+use event_server::{Ahead, Keep, Tally};
 use hall_compaction::Compactor;
 use journal::{Chronicle, Journal, JournalFault, law_of_crashes};
 use journal_disk::Disk;
@@ -30,6 +30,9 @@ impl Keep<Hall> for Unrecorded {
 
     ghost keeps = { λ k h l u. MayCompactHall h u };
 
+    // The hall answers each request as it comes, and there is nothing to learn.
+    ghost learns = { λ k h lines l u. (l ≡ k) × (u ≡ h) };
+
     fn is_full(&self, _hall: &Hall) -> bool {
         false
     }
@@ -41,6 +44,18 @@ impl Keep<Hall> for Unrecorded {
         if let Some(shorter) = self.compactor.compacted(self.alloc, hall) {
             *hall = shorter;
         }
+        Ok(())
+    }
+
+    fn most_ahead(&self) -> Option<usize> {
+        None
+    }
+
+    fn learn(&mut self, _hall: &mut Hall, _lines: &[u8]) -> Result<Ahead, JournalFault> {
+        Ok(Ahead::Known)
+    }
+
+    fn tick(&mut self, _hall: &mut Hall) -> Result<(), JournalFault> {
         Ok(())
     }
 
@@ -80,6 +95,9 @@ impl<D: Disk> Keep<Chronicle> for Recorded<D> {
 
     ghost keeps = { KeptBy D.state };
 
+    // The chronicle answers each request as it comes, and there is nothing to learn.
+    ghost learns = { λ k c lines l u. (l ≡ k) × (u ≡ c) };
+
     fn is_full(&self, chronicle: &Chronicle) -> bool {
         FULL_BYTES < chronicle.waiting().len()
     }
@@ -91,6 +109,18 @@ impl<D: Disk> Keep<Chronicle> for Recorded<D> {
         }
         self.journal.commit(chronicle)?;
         self.compact_when_due(chronicle)
+    }
+
+    fn most_ahead(&self) -> Option<usize> {
+        None
+    }
+
+    fn learn(&mut self, _chronicle: &mut Chronicle, _lines: &[u8]) -> Result<Ahead, JournalFault> {
+        Ok(Ahead::Known)
+    }
+
+    fn tick(&mut self, _chronicle: &mut Chronicle) -> Result<(), JournalFault> {
+        Ok(())
     }
 
     fn tally(&self, chronicle: &Chronicle) -> Tally {

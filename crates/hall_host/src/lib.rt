@@ -2,7 +2,7 @@
 //!
 //! `host_hall` opens the journal, where one is named, and has `event_server` serve clients over the hall of its record. `Recorded` keeps what
 //! a chronicle tells of each turn in its journal before a reply of that turn is sent; `Unrecorded` serves a hall whose history ends with
-//! the program.
+//! the program. Where a log in etcd is named (`LogPlan`), the hall is served over that (`hall_log`), and other servers share it.
 //!
 //! The theorem (`law_of_hosting`): after a turn of the loop over a chronicle and its journal the history has gained just the accepted
 //! events of the turn, in one order of all turns of all connections; header and journal are the record of the history and are synced; each
@@ -11,12 +11,16 @@
 //! Not promised, and shown by running it: that a file of the system is such a disk, what sockets carry, how soon a client is served.
 #![tactic(auto)]
 
+pub mod export;
 pub mod failure;
 pub mod keepers;
 pub mod laws;
+pub mod log_plan;
 pub mod start;
 
+pub use export::write_events;
 pub use failure::HostFailure;
 pub use keepers::{Recorded, Unrecorded};
 pub use laws::law_of_hosting;
-pub use start::{HostPlan, host_hall};
+pub use log_plan::LogPlan;
+pub use start::{HostPlan, Keeping, export_hall, host_hall};

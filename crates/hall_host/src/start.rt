@@ -1,10 +1,14 @@
 //! A whole server of a hall, by its plan.
 
+use crate::export::write_events;
 use crate::failure::HostFailure;
 use crate::keepers::{Recorded, Unrecorded};
+use crate::log_plan::{LogPlan, MEMBER_SECONDS, Patience, fresh_token, members_of};
 use commands::Config;
+use etcd_log::{EtcdStore, TcpDial};
 use event_server::{HostOptions, host};
 use hall_compaction::Compactor;
+use hall_log::{LogKeeper, Tape};
 use journal::{Journal, Opened};
 use journal_disk::FileDisk;
 use locked_world::Hall;
@@ -14,6 +18,18 @@ use std::io::Write;
 use std::net::{IpAddr, Net, SocketAddr};
 use std::rt::{Clock, Files};
 use std::sync::Wait;
+use std::time::Duration;
+
+/// Where the history of a hall is kept.
+#[derive(Clone, Copy, Debug, Drop)]
+pub enum Keeping<'a> {
+    /// Nowhere: it ends with the program.
+    Nothing,
+    /// In the journal of this file.
+    Journal(&'a str),
+    /// In a log, which other servers of the hall share.
+    Log(LogPlan<'a>),
+}
 
 /// What is hosted.
 #[derive(Clone, Copy, Debug, Drop)]
@@ -28,8 +44,8 @@ pub struct HostPlan<'a> {
     pub clients: usize,
     /// After how many seconds a client that says nothing is closed; never, where it is not given.
     pub idle: Option<u64>,
-    /// The file of the journal; without one the history ends with the program.
-    pub journal: Option<&'a str>,
+    /// Where the history is kept.
+    pub keeping: Keeping<'a>,
     /// Whether a line a minute tells how much there is.
     pub reports: bool,
 }
@@ -58,11 +74,133 @@ fn open_journal<R: Files<File = File> + AllocGlobal + Copy + Drop>(
     Ok(Journal::open(alloc, disk, config)?)
 }
 
+// Serves a hall whose history is in the journal of a path.
+fn host_journal<R, W: Write, E: Write>(
+    rt: &R,
+    alloc: Global,
+    plan: &HostPlan<'_>,
+    path: &str,
+    output: &mut W,
+    errors: &mut E,
+) -> Result<(), HostFailure>
+where
+    R: Net + Wait + Clock + Files<File = File> + AllocGlobal + Copy + Drop,
+{
+    let opened = open_journal(rt, alloc, plan.config, path)?;
+    let Opened {
+        journal,
+        mut chronicle,
+    } = opened;
+    let compactor = Compactor::new();
+    let mut keeper = Recorded {
+        journal,
+        alloc,
+        compactor,
+    };
+    keeper.compact_when_due(&mut chronicle)?;
+    host(
+        rt,
+        alloc,
+        plan.options(),
+        &mut chronicle,
+        &mut keeper,
+        output,
+        errors,
+    )?;
+    Ok(())
+}
+
+// Serves a hall whose history ends with the program.
+fn host_unrecorded<R: Net + Wait + Clock, W: Write, E: Write>(
+    rt: &R,
+    alloc: Global,
+    plan: &HostPlan<'_>,
+    output: &mut W,
+    errors: &mut E,
+) -> Result<(), HostFailure> {
+    let mut hall = Hall::new(alloc, plan.config)?;
+    let mut keeper = Unrecorded {
+        alloc,
+        compactor: Compactor::new(),
+    };
+    host(
+        rt,
+        alloc,
+        plan.options(),
+        &mut hall,
+        &mut keeper,
+        output,
+        errors,
+    )?;
+    Ok(())
+}
+
+// Opens the log of a plan: all that stands in it is applied to a hall.
+fn open_log<'r, R: Net + Clock + Files<File = File>>(
+    rt: &'r R,
+    alloc: Global,
+    config: Config,
+    log: LogPlan<'_>,
+) -> Result<LogKeeper<EtcdStore<TcpDial<'r, R>>, Patience<'r, R>>, HostFailure> {
+    let members = members_of(alloc, log.members)?;
+    let Ok(prefix) = String::from_str(alloc, log.prefix) else {
+        return Err(HostFailure::Memory);
+    };
+    let dial = TcpDial::new(rt, members, Duration::from_secs(MEMBER_SECONDS));
+    let store = EtcdStore::new(alloc, dial, prefix);
+    let token = fresh_token(rt)?;
+    match LogKeeper::open(alloc, store, Patience::new(rt, log.patience), config, token) {
+        Ok(keeper) => Ok(keeper),
+        Err(fault) => Err(HostFailure::from(fault)),
+    }
+}
+
+// Serves a hall whose history is in a log.
+fn host_log<R, W: Write, E: Write>(
+    rt: &R,
+    alloc: Global,
+    plan: &HostPlan<'_>,
+    log: LogPlan<'_>,
+    output: &mut W,
+    errors: &mut E,
+) -> Result<(), HostFailure>
+where
+    R: Net + Wait + Clock + Files<File = File>,
+{
+    let mut keeper = open_log(rt, alloc, plan.config, log)?;
+    let mut tape = Tape::new(alloc);
+    host(
+        rt,
+        alloc,
+        plan.options(),
+        &mut tape,
+        &mut keeper,
+        output,
+        errors,
+    )?;
+    Ok(())
+}
+
+/// Writes the accepted events of the history that stands in a log as the lines of commands that ask for them, and serves nobody.
+pub fn export_hall<R: Net + Clock + Files<File = File>, W: Write>(
+    rt: &R,
+    alloc: Global,
+    config: Config,
+    log: LogPlan<'_>,
+    output: &mut W,
+) -> Result<(), HostFailure> {
+    let keeper = open_log(rt, alloc, config, log)?;
+    write_events(alloc, keeper.hall(), output)
+}
+
 /// Serves a hall to clients until standard input ends where that is a pipe, or else until the program is killed.
 ///
 /// Where a journal is named, its file is made or read, and the hall is that of its record: a last line that was cut off by a crash is
 /// dropped, and a file that is no record of a run of this config is refused, with nothing changed. Each accepted event is on the disk
 /// before its reply is sent.
+///
+/// Where a log is named, the hall is that of all that stands in it, by whichever server of the hall it came there, and each reply is sent
+/// once its line stands there. Clients wait while the members do not answer, and are closed once the plan's patience ends.
 ///
 /// The first line written is `listening ADDRESS:PORT`, the last `served N`. Where the journal cannot be written, nothing is sent of that
 /// turn, and the server ends.
@@ -76,39 +214,9 @@ pub fn host_hall<R, W: Write, E: Write>(
 where
     R: Net + Wait + Clock + Files<File = File> + AllocGlobal + Copy + Drop,
 {
-    let options = plan.options();
-    match plan.journal {
-        Some(path) => {
-            let opened = open_journal(rt, alloc, plan.config, path)?;
-            let Opened {
-                journal,
-                mut chronicle,
-            } = opened;
-            let compactor = Compactor::new();
-            let mut keeper = Recorded {
-                journal,
-                alloc,
-                compactor,
-            };
-            keeper.compact_when_due(&mut chronicle)?;
-            host(
-                rt,
-                alloc,
-                options,
-                &mut chronicle,
-                &mut keeper,
-                output,
-                errors,
-            )?;
-        }
-        None => {
-            let mut hall = Hall::new(alloc, plan.config)?;
-            let mut keeper = Unrecorded {
-                alloc,
-                compactor: Compactor::new(),
-            };
-            host(rt, alloc, options, &mut hall, &mut keeper, output, errors)?;
-        }
+    match plan.keeping {
+        Keeping::Nothing => host_unrecorded(rt, alloc, &plan, output, errors),
+        Keeping::Journal(path) => host_journal(rt, alloc, &plan, path, output, errors),
+        Keeping::Log(log) => host_log(rt, alloc, &plan, log, output, errors),
     }
-    Ok(())
 }

@@ -1,5 +1,5 @@
 -- what words ask for
-use Rattle.std.specs.Prelude.{◌≡◌, ◌⊎◌, ℕ, Bool, true, false, not, ⊤, List, [], Option, Some, codes}
+use Rattle.std.specs.Prelude.{◌≡◌, ◌⊎◌, ◌||◌, ℕ, Bool, true, false, not, ⊤, List, [], Option, Some, None, is_some, codes}
 use Rattle.std.specs.Prelude.{Result, Ok, Err}
 use Rattle.std.specs.Str.{bytes_eq}
 use Rattle.std.specs.Str.Parse.{IsNumeral, digits_value, without_leading_plus}
@@ -20,6 +20,9 @@ use Rattle.slot_words.specs.declared.asked.Ask.{Ask}
 use Rattle.slot_words.specs.declared.asked.Ask.TheVariants.{Play, Check, Migrate, Show, Draw, Serve, Host}
 use Rattle.slot_words.specs.declared.asked.Drawing.{Drawing}
 use Rattle.slot_words.specs.declared.asked.Hosting.{Hosting}
+use Rattle.slot_words.specs.declared.asked.Keeping.{Keeping}
+use Rattle.slot_words.specs.declared.asked.Keeping.TheVariants.{Nothing, Journal, Log}
+use Rattle.slot_words.specs.declared.asked.LogWords.{LogWords}
 use Rattle.slot_words.specs.declared.asked.Serving.{Serving}
 use Rattle.slot_words.specs.declared.asked.Playing.{Playing}
 use Rattle.slot_words.specs.declared.asked.Showing.{Showing}
@@ -84,9 +87,26 @@ pub record IsServingOf (rows : List Row) (s : Serving) : Type 0 where
 abbrev pub HasAddress : List Row → IpAddr → Type 0
 HasAddress rows a = (text : List ℕ) × (first_of (codes "address") rows ≡ Some text) × IsIpText text a
 
--- the journal's path is among what clap matched, or none is
-abbrev pub HasJournal : List Row → Option (Bor (List ℕ)) → Type 0
-HasJournal rows path = option_map (λ p. p.now) path ≡ first_of (codes "journal") rows
+-- this option's text is among what clap matched, or none is
+abbrev pub HasText : List Row → List ℕ → Option (Bor (List ℕ)) → Type 0
+HasText rows id text = option_map (λ t. t.now) text ≡ first_of id rows
+
+-- the log that the options of `host` give, as clap matched them, the patience in its range
+pub record IsLogOf (rows : List Row) (l : LogWords) : Type 0 where
+  pub members : first_of (codes "etcd") rows ≡ Some l.members.now
+  pub prefix : first_of (codes "prefix") rows ≡ Some l.prefix.now
+  pub patience : HasNumber rows (codes "patience") l.patience
+  pub exported : l.exported ≡ asks_flag (codes "export") rows
+
+-- whether an option that only a log has is among what clap matched
+abbrev pub asks_log : List Row → Bool
+asks_log rows = is_some (first_of (codes "etcd") rows) || is_some (first_of (codes "prefix") rows) || asks_flag (codes "export") rows
+
+-- the history is kept so by the options of `host`: in a log, in a journal, or not at all, and in no two of these
+abbrev pub IsKeepingOf : List Row → Keeping → Type 0
+IsKeepingOf rows Nothing = (first_of (codes "journal") rows ≡ None) × (asks_log rows ≡ false)
+IsKeepingOf rows (Journal path) = (first_of (codes "journal") rows ≡ Some path.now) × (asks_log rows ≡ false)
+IsKeepingOf rows (Log l) = (first_of (codes "journal") rows ≡ None) × IsLogOf rows l
 
 -- the hosting that the options of `host` give, as clap matched them, each number in its range
 pub record IsHostingOf (rows : List Row) (h : Hosting) : Type 0 where
@@ -95,7 +115,7 @@ pub record IsHostingOf (rows : List Row) (h : Hosting) : Type 0 where
   pub port : HasNumber rows (codes "port") h.port
   pub clients : HasNumber rows (codes "clients") h.clients
   pub idle : HasNumber rows (codes "idle") h.idle
-  pub journal : HasJournal rows h.journal
+  pub keeping : IsKeepingOf rows h.keeping
   pub verbose : h.verbose ≡ asks_flag (codes "verbose") rows
 
 -- the subcommand that clap met, with what it matched there, asks for this

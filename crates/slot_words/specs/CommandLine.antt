@@ -92,7 +92,7 @@ abbrev pub serve_app : App
 serve_app = with_rule (with_rule (with_rule (config_app (codes "serve")) port_option) workers_option) count_option
 
 -- `--address ADDRESS`, or 127.0.0.1; `--clients NUMBER`, from 1 to 1,000,000, or 10000; `--idle NUMBER`, at most 31,536,000, or 0; `--journal
--- FILE`, or none
+-- FILE`, `--etcd MEMBERS` and `--prefix NAME`, or none; `--patience NUMBER`, from 1 to 3,600, or 10
 abbrev pub address_option : Rule
 address_option = record (new_rule (codes "address")) {
   long = Some (codes "address");
@@ -107,15 +107,23 @@ clients_option = number_option (codes "clients") 1 1000000 (codes "10000")
 abbrev pub idle_option : Rule
 idle_option = number_option (codes "idle") 0 31536000 (codes "0")
 
-abbrev pub journal_option : Rule
-journal_option = record (new_rule (codes "journal")) { long = Some (codes "journal"); action = Some Set; value_names = 1 }
+-- an option of this name with a text, or none
+abbrev pub text_option : List ℕ → Rule
+text_option name = record (new_rule name) { long = Some name; action = Some Set; value_names = 1 }
+
+abbrev pub patience_option : Rule
+patience_option = number_option (codes "patience") 1 3600 (codes "10")
 
 -- `host` with what is listened on and who is served
 abbrev pub host_network_app : App
 host_network_app = with_rule (with_rule (with_rule (config_app (codes "host")) address_option) port_option) clients_option
 
+-- and where its history is kept
+abbrev pub host_keeping_app : App
+host_keeping_app = with_rule (with_rule (with_rule (with_rule host_network_app idle_option) (text_option (codes "journal"))) (text_option (codes "etcd"))) (text_option (codes "prefix"))
+
 abbrev pub host_app : App
-host_app = with_rule (with_rule (with_rule host_network_app idle_option) journal_option) (flag (codes "verbose"))
+host_app = with_rule (with_rule (with_rule host_keeping_app patience_option) (flag (codes "export"))) (flag (codes "verbose"))
 
 -- what `draw` has to be told
 abbrev pub draw_needs_app : App

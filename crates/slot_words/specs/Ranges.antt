@@ -16,6 +16,10 @@ IsServingRange world port workers count = (port ≤ 65535) × (1 ≤ workers) ×
 abbrev pub IsHostingRange : WorldKind → ℕ → ℕ → ℕ → Type 0
 IsHostingRange world port clients idle = (port ≤ 65535) × (1 ≤ clients) × (clients ≤ 1000000) × (idle ≤ 31536000) × (gives_names world ≡ true)
 
+-- a log is waited for from 1 to 3,600 seconds
+abbrev pub IsPatience : ℕ → Type 0
+IsPatience patience = (1 ≤ patience) × (patience ≤ 3600)
+
 -- the first event and how many there are from it on are 1 to 1,000,000
 abbrev pub IsShowingRange : ℕ → ℕ → Type 0
 IsShowingRange from count = (1 ≤ from) × (from ≤ 1000000) × (1 ≤ count) × (count ≤ 1000000)

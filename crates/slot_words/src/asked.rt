@@ -1,7 +1,7 @@
 //! What the program can be asked for.
 
 ghost use Rattle.std.specs.Prelude.{◌≡◌, IfSome, IsSome, ◌↔◌};
-ghost use Rattle.slot_words.specs.Ranges.{IsDrawingRange, IsHostingRange, IsServingRange, IsShowingRange, CanBeWritten};
+ghost use Rattle.slot_words.specs.Ranges.{IsDrawingRange, IsHostingRange, IsServingRange, IsShowingRange, IsPatience, CanBeWritten};
 
 use commands::{Config, WorldKind};
 use std::net::IpAddr;
@@ -161,6 +161,55 @@ impl Serving {
     }
 }
 
+/// The log that keeps the history of a hall, and that other servers of it share.
+#[derive(Clone, Copy, Drop)]
+pub struct LogWords<'a> {
+    /// The addresses of the members that hold it, with a comma between them.
+    pub members: &'a str,
+    /// The name that all its keys begin with.
+    pub prefix: &'a str,
+    /// For how many seconds clients wait while no member answers, from 1 to 3,600.
+    pub patience: u64,
+    /// Whether its history is written out, and nobody served.
+    pub exported: bool,
+    ghost in_range: { IsPatience patience },
+}
+
+impl<'a> LogWords<'a> {
+    /// A log of these words; none where the patience is outside its range.
+    pub fn new(
+        members: &'a str,
+        prefix: &'a str,
+        patience: u64,
+        exported: bool,
+    ) -> Option<LogWords<'a>>
+        ensures texts { IfSome result (λ l. (l.members ≡ members.entry) × (l.prefix ≡ prefix.entry)) }
+        ensures others { IfSome result (λ l. (l.patience ≡ patience) × (l.exported ≡ exported)) }
+        ensures range { IsSome result ↔ IsPatience patience }
+    {
+        if patience < 1 || 3_600 < patience {
+            return None;
+        }
+        Some(LogWords {
+            members,
+            prefix,
+            patience,
+            exported,
+        })
+    }
+}
+
+/// Where the history of a hall is kept.
+#[derive(Clone, Copy, Drop)]
+pub enum Keeping<'a> {
+    /// Nowhere: it ends with the program.
+    Nothing,
+    /// In the journal of this file.
+    Journal(&'a str),
+    /// In a log.
+    Log(LogWords<'a>),
+}
+
 /// The hall that is hosted.
 #[derive(Clone, Copy, Drop)]
 pub struct Hosting<'a> {
@@ -174,8 +223,8 @@ pub struct Hosting<'a> {
     pub clients: u64,
     /// After how many seconds a client that says nothing is closed, at most 31,536,000; with 0 never.
     pub idle: u64,
-    /// The file of the journal, where there is one.
-    pub journal: Option<&'a str>,
+    /// Where its history is kept.
+    pub keeping: Keeping<'a>,
     /// Whether it tells once a minute how much there is.
     pub verbose: bool,
     ghost in_range: { IsHostingRange config.world port clients idle },
@@ -189,11 +238,11 @@ impl<'a> Hosting<'a> {
         port: u64,
         clients: u64,
         idle: u64,
-        journal: Option<&'a str>,
+        keeping: Keeping<'a>,
         verbose: bool,
     ) -> Option<Hosting<'a>>
         ensures sizes { IfSome result (λ h. (h.config ≡ config) × (h.port ≡ port) × (h.clients ≡ clients) × (h.idle ≡ idle)) }
-        ensures others { IfSome result (λ h. (h.address ≡ address) × (h.journal ≡ journal.entry) × (h.verbose ≡ verbose)) }
+        ensures others { IfSome result (λ h. (h.address ≡ address) × (h.keeping ≡ keeping.entry) × (h.verbose ≡ verbose)) }
         ensures range { IsSome result ↔ IsHostingRange config.world port clients idle }
     {
         if 65_535 < port || clients < 1 || 1_000_000 < clients || 31_536_000 < idle {
@@ -208,7 +257,7 @@ impl<'a> Hosting<'a> {
                 port,
                 clients,
                 idle,
-                journal,
+                keeping,
                 verbose,
             }),
         }

@@ -3,7 +3,7 @@
 ghost use Rattle.std.specs.Prelude.{◌≡◌, false, IfOk};
 ghost use Rattle.clap.specs.Words.{app_of, rule_of};
 ghost use Rattle.clap.specs.declared.builder.command.Command.TheViews.{out-Command};
-ghost use Rattle.slot_words.specs.CommandLine.{address_option, check_app, config_app, draw_app, draw_needs_app, flag, host_app, host_network_app, journal_option, limit_option, m_option, migrate_app, needed_option, number_option, play_app, serve_app, show_app, slotctl_app, world_option};
+ghost use Rattle.slot_words.specs.CommandLine.{address_option, check_app, config_app, draw_app, draw_needs_app, flag, host_app, host_keeping_app, host_network_app, limit_option, m_option, migrate_app, needed_option, number_option, play_app, serve_app, show_app, slotctl_app, text_option, world_option};
 
 use clap::builder::ValueParser;
 use clap::{Arg, ArgAction, Command};
@@ -44,7 +44,8 @@ const SERVE_EXAMPLES: &str = "Examples:
 
 const HOST_EXAMPLES: &str = "Examples:
   slotctl host --port 7070 --journal slots.record
-  slotctl check < slots.record";
+  slotctl host --port 7070 --etcd 10.0.0.1:2379,10.0.0.2:2379 --prefix slots/
+  slotctl host --etcd 10.0.0.1:2379 --prefix slots/ --export | slotctl play";
 
 // `--world NAME`, of one of the worlds that the help names.
 fn world_option<'a>(alloc: Global, help: &'a str) -> Arg<'a>
@@ -150,18 +151,16 @@ fn address_option<'a>(alloc: Global) -> Arg<'a>
         )
 }
 
-// `--journal FILE`.
-fn journal_option<'a>(alloc: Global) -> Arg<'a>
-    ensures rule { rule_of result ≡ journal_option }
+// An option with a text.
+fn text_option<'a>(alloc: Global, name: &'a str, value: &'a str, help: &'a str) -> Arg<'a>
+    ensures rule { rule_of result ≡ text_option name.now }
     ensures local { result.global ≡ false }
 {
-    Arg::new(alloc, "journal")
-        .long("journal")
+    Arg::new(alloc, name)
+        .long(name)
         .action(ArgAction::Set)
-        .value_name("FILE")
-        .help(
-            "the file of the journal, made where it is missing; without one the history ends with the program",
-        )
+        .value_name(value)
+        .help(help)
 }
 
 // A subcommand with a world and all its sizes.
@@ -341,7 +340,7 @@ fn host_network<'a>(alloc: Global) -> Result<Command<'a>, AllocError>
     config_command(
         alloc,
         "host",
-        "Hosts a hall: clients of a socket in one thread, with a journal",
+        "Hosts a hall: clients of a socket in one thread, with a journal or a log",
         HOST_EXAMPLES,
         WORLD_OF_NAMES,
     )?
@@ -364,9 +363,9 @@ fn host_network<'a>(alloc: Global) -> Result<Command<'a>, AllocError>
     ))
 }
 
-// The subcommand `host` with its options.
-fn host_command<'a>(alloc: Global) -> Result<Command<'a>, AllocError>
-    ensures app { IfOk result (λ c. app_of c ≡ host_app) }
+// The subcommand `host`, with the options of where its history is kept.
+fn host_keeping<'a>(alloc: Global) -> Result<Command<'a>, AllocError>
+    ensures app { IfOk result (λ c. app_of c ≡ host_keeping_app) }
     ensures local { IfOk result (λ c. (out-Command c).has_globals ≡ false) }
 {
     host_network(alloc)?
@@ -378,7 +377,45 @@ fn host_command<'a>(alloc: Global) -> Result<Command<'a>, AllocError>
             "0",
             "after how many seconds a client that says nothing is closed, or 0 for never",
         ))?
-        .arg(journal_option(alloc))?
+        .arg(text_option(
+            alloc,
+            "journal",
+            "FILE",
+            "the file of the journal, made where it is missing; without one the history ends with the program",
+        ))?
+        .arg(text_option(
+            alloc,
+            "etcd",
+            "MEMBERS",
+            "the members of etcd that hold the history in place of a journal, as 10.0.0.1:2379,10.0.0.2:2379 (no names are looked up)",
+        ))?
+        .arg(text_option(
+            alloc,
+            "prefix",
+            "NAME",
+            "what the keys of the history in etcd begin with; all servers of one hall have the same, and nothing is deleted there",
+        ))
+}
+
+// The subcommand `host` with its options.
+fn host_command<'a>(alloc: Global) -> Result<Command<'a>, AllocError>
+    ensures app { IfOk result (λ c. app_of c ≡ host_app) }
+    ensures local { IfOk result (λ c. (out-Command c).has_globals ≡ false) }
+{
+    host_keeping(alloc)?
+        .arg(number_option(
+            alloc,
+            "patience",
+            1,
+            3_600,
+            "10",
+            "for how many seconds clients wait while etcd does not answer, before they are closed",
+        ))?
+        .arg(flag(
+            alloc,
+            "export",
+            "writes the accepted events of the history in etcd as commands, and serves nobody",
+        ))?
         .arg(flag(
             alloc,
             "verbose",

@@ -20,6 +20,6 @@ pub mod command_line;
 pub mod misuse;
 pub mod words;
 
-pub use asked::{Ask, Drawing, Hosting, Playing, Serving, Showing};
+pub use asked::{Ask, Drawing, Hosting, Keeping, LogWords, Playing, Serving, Showing};
 pub use misuse::Misuse;
 pub use words::{ask, refused};

@@ -2,17 +2,19 @@
 
 ghost use Rattle.std.specs.Prelude.{◌≡◌, ℕ, ◌<◌, ◌^◌, MatchOption, map};
 ghost use Rattle.clap.specs.Words.{found_of, kind_of, rows_of, subcommand_rows_of};
-ghost use Rattle.slot_words.specs.Asked.{HasNumber, HasWorld, IsAsked, IsConfigOf, HasAddress, HasJournal, IsDrawingOf, IsHostingOf, IsMisuseOf, IsPlayingOf, IsRead, IsRefusal, IsServingOf, IsShowingOf, asks_flag};
+ghost use Rattle.slot_words.specs.Asked.{HasNumber, HasWorld, IsAsked, IsConfigOf, HasAddress, HasText, IsDrawingOf, IsHostingOf, IsKeepingOf, IsLogOf, IsMisuseOf, IsPlayingOf, IsRead, IsRefusal, IsServingOf, IsShowingOf, asks_flag, asks_log};
 ghost use Rattle.commands.specs.declared.config.Config.{Config};
 ghost use Rattle.commands.specs.declared.kind.WorldKind.{WorldKind};
 ghost use Rattle.slot_words.specs.declared.asked.Drawing.{Drawing};
 ghost use Rattle.slot_words.specs.declared.asked.Hosting.{Hosting};
+ghost use Rattle.slot_words.specs.declared.asked.Keeping.{Keeping};
+ghost use Rattle.slot_words.specs.declared.asked.LogWords.{LogWords};
 ghost use Rattle.slot_words.specs.declared.asked.Playing.{Playing};
 ghost use Rattle.slot_words.specs.declared.asked.Serving.{Serving};
 ghost use Rattle.slot_words.specs.declared.asked.Showing.{Showing};
 ghost use Rattle.slot_words.specs.declared.asked.Ask.{Ask};
 
-use crate::asked::{Ask, Drawing, Hosting, Playing, Serving, Showing};
+use crate::asked::{Ask, Drawing, Hosting, Keeping, LogWords, Playing, Serving, Showing};
 use crate::command_line::slotctl_command;
 use crate::misuse::Misuse;
 use clap::error::ErrorKind;
@@ -112,11 +114,55 @@ fn address_given(matches: &ArgMatches<'_>) -> Option<IpAddr>
     matches.get_str("address")?.parse::<IpAddr>().ok()
 }
 
-// The file of a journal that is matched, where there is one.
-fn journal_given<'a>(matches: &ArgMatches<'a>) -> Option<&'a str>
-    ensures { HasJournal (rows_of (found_of matches.now)) result }
+// The text that is matched for an option, where there is one.
+fn text_given<'a>(matches: &ArgMatches<'a>, name: &str) -> Option<&'a str>
+    ensures { HasText (rows_of (found_of matches.now)) name.now result }
 {
-    matches.get_str("journal")
+    matches.get_str(name)
+}
+
+// Whether an option that only a log has is matched.
+fn log_asked(matches: &ArgMatches<'_>) -> bool
+    ensures { result ≡ asks_log (rows_of (found_of matches.now)) }
+{
+    text_given(matches, "etcd").is_some()
+        || text_given(matches, "prefix").is_some()
+        || flag_given(matches, "export")
+}
+
+// The log that the options of `host` give, where they give one.
+fn log_given<'a>(matches: &ArgMatches<'a>) -> Option<LogWords<'a>>
+    ensures { MatchOption result ((l : LogWords) → IsLogOf (rows_of (found_of matches.now)) l → ⊥) (IsLogOf (rows_of (found_of matches.now))) }
+{
+    let members = text_given(matches, "etcd")?;
+    let prefix = text_given(matches, "prefix")?;
+    let patience = number_given(matches, "patience")?;
+    let exported = flag_given(matches, "export");
+    LogWords::new(members, prefix, patience, exported)
+}
+
+// Where the options of `host` have the history kept, where they say so in one way.
+fn keeping_given<'a>(matches: &ArgMatches<'a>) -> Option<Keeping<'a>>
+    ensures { MatchOption result ((k : Keeping) → IsKeepingOf (rows_of (found_of matches.now)) k → ⊥) (IsKeepingOf (rows_of (found_of matches.now))) }
+{
+    let is_log = log_asked(matches);
+    match text_given(matches, "journal") {
+        Some(path) => {
+            if is_log {
+                return None;
+            }
+            Some(Keeping::Journal(path))
+        }
+        None => {
+            if !is_log {
+                return Some(Keeping::Nothing);
+            }
+            match log_given(matches) {
+                Some(log) => Some(Keeping::Log(log)),
+                None => None,
+            }
+        }
+    }
 }
 
 // What the options of `host` give, where they give something.
@@ -128,9 +174,9 @@ fn host_given<'a>(matches: &ArgMatches<'a>) -> Option<Hosting<'a>>
     let port = number_given(matches, "port")?;
     let clients = number_given(matches, "clients")?;
     let idle = number_given(matches, "idle")?;
-    let journal = journal_given(matches);
+    let keeping = keeping_given(matches)?;
     let verbose = flag_given(matches, "verbose");
-    Hosting::new(config, address, port, clients, idle, journal, verbose)
+    Hosting::new(config, address, port, clients, idle, keeping, verbose)
 }
 
 // What the matches ask for, where they ask for something.

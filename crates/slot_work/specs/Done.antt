@@ -4,7 +4,7 @@ use Rattle.std.specs.Io.KnownBytes.{Appends}
 use Rattle.drawn_schedules.specs.Runs.{HasDrawn, HasDrawnPart}
 use Rattle.drawn_schedules.specs.Schedule.{schedule}
 use Rattle.schedule_player.specs.Events.{event_lines}
-use Rattle.schedule_player.specs.IsRun.{IsTalk}
+use Rattle.schedule_player.specs.IsTalk.{IsTalk}
 use Rattle.schedule_player.specs.Played.{Reading, Writing, IsPlayed}
 use Rattle.schedule_player.specs.Texts.{replies_of}
 use Rattle.schedule_player.specs.declared.fault.Fault.{Fault}

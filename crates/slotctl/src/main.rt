@@ -7,18 +7,22 @@
 //! memory; at 2 and 3, and where a page was asked for at 1, a text on the standard error says why.
 #![tactic(auto)]
 
-use hall_host::{HostFailure, HostPlan, host_hall};
+use hall_host::{HostFailure, HostPlan, Keeping, LogPlan, export_hall, host_hall};
 use history_book::Opened;
 use schedule_player::{Fault, Tried};
 use slot_server::{Plan, ServeFault, serve};
-use slot_words::{Hosting, Misuse, Serving, refused};
+use slot_words::{Hosting, Keeping as KeepingWords, LogWords, Misuse, Serving, refused};
 use slot_work::program::{program, report};
 use slot_work::{Failure, Outcome, in_sight, may_take_long};
-use std::alloc::Global;
+use std::alloc::{AllocGlobal, Global};
 use std::env;
-use std::io::{ErrorKind, IsTerminal};
+use std::fs::File;
+use std::io::{ErrorKind, IsTerminal, Write};
 use std::marker::Brand;
+use std::net::Net;
 use std::process::ExitCode;
+use std::rt::{Clock, Files};
+use std::sync::Wait;
 use std::sync::ledger::Blank;
 use std::thread::Threads;
 
@@ -69,6 +73,24 @@ fn failure_of(fault: ServeFault) -> Failure {
     }
 }
 
+// The log that words name.
+fn log_plan_of<'a>(words: LogWords<'a>) -> LogPlan<'a> {
+    LogPlan {
+        members: words.members,
+        prefix: words.prefix,
+        patience: words.patience,
+    }
+}
+
+// Where words have a history kept.
+fn keeping_of<'a>(words: KeepingWords<'a>) -> Keeping<'a> {
+    match words {
+        KeepingWords::Nothing => Keeping::Nothing,
+        KeepingWords::Journal(path) => Keeping::Journal(path),
+        KeepingWords::Log(log) => Keeping::Log(log_plan_of(log)),
+    }
+}
+
 // What is to be hosted, where somebody may look on.
 fn host_plan_of<'a>(hosting: Hosting<'a>, seen: bool) -> HostPlan<'a> {
     HostPlan {
@@ -81,20 +103,43 @@ fn host_plan_of<'a>(hosting: Hosting<'a>, seen: bool) -> HostPlan<'a> {
         } else {
             Some(hosting.idle)
         },
-        journal: hosting.journal,
+        keeping: keeping_of(hosting.keeping),
         reports: hosting.verbose || seen,
     }
 }
 
 // Why no hall is hosted, as a failure of the program: of a journal that is no record, the line of `check` is told.
-fn host_failure_of(failure: HostFailure) -> Failure {
+fn host_failure_of(alloc: Global, failure: HostFailure) -> Failure {
     match failure {
+        HostFailure::NoMembers => {
+            Failure::Misuse(refused(alloc, "error: no such address of a member\n"))
+        }
         HostFailure::No(line, reason) => Failure::No(line, reason),
         HostFailure::BadRecord(line) => Failure::BadRecord(line),
         HostFailure::Output => Failure::Fault(Fault::Write),
         HostFailure::Memory => Failure::Fault(Fault::Memory),
         other => Failure::Host(other),
     }
+}
+
+// A hall is hosted, or its history is written out.
+fn host_words<R, W: Write, E: Write>(
+    rt: &R,
+    alloc: Global,
+    hosting: Hosting<'_>,
+    seen: bool,
+    output: &mut W,
+    errors: &mut E,
+) -> Result<(), HostFailure>
+where
+    R: Net + Wait + Clock + Files<File = File> + AllocGlobal + Copy + Drop,
+{
+    if let KeepingWords::Log(log) = hosting.keeping {
+        if log.exported {
+            return export_hall(rt, alloc, hosting.config, log_plan_of(log), output);
+        }
+    }
+    host_hall(rt, alloc, host_plan_of(hosting, seen), output, errors)
 }
 
 fn main(rt: HostRuntime) -> ExitCode {
@@ -123,10 +168,10 @@ fn main(rt: HostRuntime) -> ExitCode {
             }
         }
         Outcome::Host(hosting) => {
-            let plan = host_plan_of(hosting, errors.is_terminal());
-            match host_hall(&rt, alloc, plan, &mut output, &mut errors) {
+            let seen = errors.is_terminal();
+            match host_words(&rt, alloc, hosting, seen, &mut output, &mut errors) {
                 Ok(()) => 0,
-                Err(failure) => report(host_failure_of(failure), &mut output, &mut errors),
+                Err(failure) => report(host_failure_of(alloc, failure), &mut output, &mut errors),
             }
         }
     };

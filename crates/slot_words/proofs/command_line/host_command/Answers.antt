@@ -5,14 +5,14 @@ use Rattle.slot_words.proofs.command_line.host_command.Goals as goal
 
 pub returns : goal.returns
 returns c =
-    let network = c.in_ok-host_network.ensures in
+    let keeping = c.in_ok-host_keeping.ensures in
     let first = c.in_ok-arg.ensures in
-    let with_idle = first.shape c.number_option.ensures.local ∙ ap₂ with_rule network.app c.number_option.ensures.rule in
-    let idle_local = first.globals ∙ ap₂ ◌||◌ network.local c.number_option.ensures.local in
+    let with_patience = first.shape c.number_option.ensures.local ∙ ap₂ with_rule keeping.app c.number_option.ensures.rule in
+    let patience_local = first.globals ∙ ap₂ ◌||◌ keeping.local c.number_option.ensures.local in
     let second = c.in_ok-arg-2.ensures in
-    let with_journal = second.shape c.journal_option.ensures.local ∙ ap₂ with_rule with_idle c.journal_option.ensures.rule in
-    let journal_local = second.globals ∙ ap₂ ◌||◌ idle_local c.journal_option.ensures.local in
+    let with_export = second.shape c.flag.ensures.local ∙ ap₂ with_rule with_patience c.flag.ensures.rule in
+    let export_local = second.globals ∙ ap₂ ◌||◌ patience_local c.flag.ensures.local in
     record {
-      app = IfOk-weaker c.arg-3.result _ _ (λ r h. h.shape c.flag.ensures.local ∙ ap₂ with_rule with_journal c.flag.ensures.rule) c.arg-3.ensures;
-      local = IfOk-weaker c.arg-3.result _ _ (λ r h. h.globals ∙ ap₂ ◌||◌ journal_local c.flag.ensures.local) c.arg-3.ensures;
+      app = IfOk-weaker c.arg-3.result _ _ (λ r h. h.shape c.flag-2.ensures.local ∙ ap₂ with_rule with_export c.flag-2.ensures.rule) c.arg-3.ensures;
+      local = IfOk-weaker c.arg-3.result _ _ (λ r h. h.globals ∙ ap₂ ◌||◌ export_local c.flag-2.ensures.local) c.arg-3.ensures;
     }

@@ -1,0 +1,5 @@
+mod Plays
+mod Heads
+mod Tapes
+mod Agrees
+mod Notes

@@ -1,0 +1,11 @@
+use Rattle.std.proofs.Common.{◌≡◌, ◌≤◌, [], false}
+use Rattle.hall_log.specs.Said.{tape_of}
+use Rattle.hall_log.proofs.log_keeper.LogKeeper.serve_batch.Given as goal
+
+-- nothing is answered so far
+abbrev pub invariant-loop : goal.invariant-loop
+invariant-loop g l = record {
+  batch : l.self.batch ≡ l.fn.self.batch;
+  later : l.self.log.replica.spoiled ≡ false → l.fn.self.log.replica.place ≤ l.self.log.replica.place;
+  silent : l.tape ≡ tape_of [];
+}

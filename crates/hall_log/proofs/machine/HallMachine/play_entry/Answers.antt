@@ -1,0 +1,24 @@
+-- The lines of the entry were played with no growth refused.
+use Rattle.std.proofs.Common.{◌∙◌, List, [], ℕ, false, ap, sym, subst}
+use Rattle.commands.specs.declared.config.Config.{Config}
+use Rattle.commands.specs.declared.kind.WorldKind.{WorldKind}
+use Rattle.schedule_player.specs.Says.{IsSilent}
+use Rattle.locked_world.specs.HallState.{HallState}
+use Rattle.hall_log.specs.Entries.{HallApplies, TakesBytes}
+use Rattle.hall_log.specs.NotingState.{NotingState}
+use Rattle.hall_log.specs.Said.{NotingSays}
+use Rattle.hall_log.specs.TapeState.{TapeState}
+use Rattle.hall_log.proofs.Plays.{applied}
+use Rattle.hall_log.proofs.machine.HallMachine.play_entry.Goals as goal
+
+pub returns : goal.returns
+returns c =
+    let h = c.args.self.now in
+    let entry = c.args.entry.now in
+    let u = c.play.new.noting in
+    let begun = c.begin.ensures ∙ ap (λ (s : HallState). let n : NotingState = record { hall = s; said = []; lost = false } in n) c.self.view_is in
+    let world = ap (λ (g : Config). g.world) (c.config-kind.ensures.config ∙ ap (λ (s : HallState). s.config) (c.hall.ensures ∙ c.self.view_is)) in
+    let silent = subst (λ (k : WorldKind). IsSilent k c.in-Ok.talker) world c.in-Ok.ensures in
+    let takes = subst (λ (l : List ℕ). TakesBytes NotingSays c.begin.new.self c.in-Ok.talker l u c.play.new.talker) c.behind_first_line.ensures c.play.ensures in
+    let all = applied h entry c.in-Ok.talker c.play.new.talker c.begin.new.self u begun silent takes (sym c.is_lost.ensures ∙ c.if-is_lost.false) in
+    subst (λ (s : HallState). HallApplies h entry c.put_on.new.tape s) (sym c.put_on.ensures.hall) (subst (λ (t : TapeState). HallApplies h entry t u.hall) (sym c.put_on.ensures.tape) all)

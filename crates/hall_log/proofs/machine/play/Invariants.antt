@@ -1,0 +1,16 @@
+use Rattle.std.proofs.Common.{◌≡◌, ◌≤◌, ◌-◌, length, take}
+use Rattle.hall_log.specs.Entries.{TakesBytes}
+use Rattle.hall_log.specs.Said.{NotingSays}
+use Rattle.hall_log.proofs.machine.play.Given as goal
+
+-- so many bytes were taken
+abbrev pub invariant-loop-at : goal.invariant-loop-at
+invariant-loop-at l = record {
+  inside : l.at ≤ length l.lines;
+  counted : l.talker.summary.lines ≤ l.at;
+  kind : l.talker.kind ≡ l.fn.talker.kind;
+  takes : TakesBytes NotingSays l.fn.noting l.fn.talker (take l.at l.lines) l.noting l.talker;
+}
+
+abbrev pub decreases-loop-at : goal.decreases-loop-at
+decreases-loop-at l = length l.lines - l.at

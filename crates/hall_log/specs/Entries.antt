@@ -1,0 +1,47 @@
+-- entries of a log that are applied to a hall
+use Rattle.std.specs.Prelude.{◌≡◌, ◌==◌, if◌then◌else◌, ℕ, List, [], ◌∷◌, ◌++◌, codes, decimal, map, Result}
+use Rattle.commands.specs.declared.bad.Bad.{Bad}
+use Rattle.commands.specs.declared.command.Command.{Command}
+use Rattle.commands.specs.Config.{world_name}
+use Rattle.commands.specs.declared.config.Config.{Config}
+use Rattle.commands.specs.declared.kind.WorldKind.{WorldKind}
+use Rattle.commands.specs.declared.reply.Reply.{Reply}
+use Rattle.commands.specs.Requests.{Request}
+use Rattle.schedule_player.specs.Progress.{Progress, after_bytes, at_start}
+use Rattle.schedule_player.specs.Runs.{NoneRefusedGrowth, Runs}
+use Rattle.schedule_player.specs.Says.{Spoke}
+use Rattle.schedule_player.specs.TalkerState.{TalkerState}
+use Rattle.schedule_player.specs.Turns.{Turn, asked}
+use Rattle.locked_world.specs.HallState.{HallState}
+use Rattle.locked_world.specs.Serving.{HallServes}
+use Rattle.hall_log.specs.Said.{said, tape_of}
+use Rattle.hall_log.specs.TapeState.{TapeState}
+
+-- the first entry of a log of halls of a config: the version of the texts, and the config
+abbrev pub first_line_of : Config → List ℕ
+first_line_of c =
+    codes "beglushan hall 1 world " ++
+    (world_name c.world ++ (codes " m " ++ (decimal c.m ++ (codes " k " ++ (decimal c.k ++ (codes " limit " ++ (decimal c.limit ++ codes "\n")))))))
+
+-- an entry is a first line, which is passed over, and then lines of commands
+abbrev pub behind_first_line : List ℕ → List ℕ
+behind_first_line [] = []
+behind_first_line (b ∷ bs) = if b == 10 then bs else behind_first_line bs
+
+-- what the lines of an entry ask for, up to `quit`
+abbrev pub asked_in : WorldKind → List ℕ → List (Result Command Bad)
+asked_in kind entry = (after_bytes kind at_start (behind_first_line entry)).asked
+
+-- the hall was so, and answered what the lines of the entry ask for, in order, with no growth refused: that is on the tape, and it is so
+pub record HallApplies (h : HallState) (entry : List ℕ) (tape : TapeState) (u : HallState) : Type 0 where
+  pub turns : List Turn
+  pub asked_is : map asked turns ≡ asked_in h.config.world entry
+  pub run : Runs HallServes h turns u
+  pub granted : NoneRefusedGrowth turns
+  pub tape_is : tape ≡ tape_of (said turns)
+
+-- by these turns, which the rules allow, a service goes from w to u, and a talk takes these bytes
+pub record TakesBytes {T : Type 0} (may : T → Request → Reply → T → Type 0) (w : T) (s : TalkerState) (bytes : List ℕ) (u : T) (s' : TalkerState) : Type 0 where
+  pub more : List Turn
+  pub run : Runs may w more u
+  pub goes_on : (turns : List Turn) (p : Progress) → Spoke turns s p → Spoke (turns ++ more) s' (after_bytes s.kind p bytes)

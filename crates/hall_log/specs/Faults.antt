@@ -1,0 +1,20 @@
+-- faults behind which nothing more is served
+use Rattle.std.specs.Prelude.{Option, Some, None}
+use Rattle.one_log.specs.declared.serve_fault.Cause.{Cause}
+use Rattle.one_log.specs.declared.serve_fault.Cause.TheVariants as cause
+use Rattle.one_log.specs.declared.serve_fault.ServeFault.{ServeFault}
+use Rattle.one_log.specs.declared.serve_fault.ServeFault.TheVariants as serve
+use Rattle.hall_log.specs.declared.log_fault.LogFault.{LogFault}
+use Rattle.hall_log.specs.declared.log_fault.LogFault.TheVariants as fault
+
+-- want of memory and of places; a store that does not answer may be asked again
+abbrev pub fault_of_cause : Cause → Option LogFault
+fault_of_cause cause.Memory = Some fault.Memory
+fault_of_cause cause.Spoiled = Some fault.Memory
+fault_of_cause cause.Full = Some fault.Full
+fault_of_cause (cause.Store why) = None
+fault_of_cause cause.Busy = None
+
+abbrev pub fault_of : ServeFault → Option LogFault
+fault_of serve.TooLong = Some fault.TooLong
+fault_of (serve.Unknown cause) = fault_of_cause cause

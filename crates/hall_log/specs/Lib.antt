@@ -1,0 +1,8 @@
+pub mod NotingState
+pub mod TapeState
+pub mod Said
+pub mod SaidProofs
+pub mod Entries
+pub mod Faults
+pub mod Hosted
+pub mod FollowState

@@ -1,0 +1,37 @@
+//! A hall whose history is a log that several machines share.
+//!
+//! `HallMachine` is a hall as the machine of a `one_log::Replica`: an entry of the log is a first line, a token of its own, and then lines
+//! of commands, which are played over the hall in order (`HallApplies`). What the hall says is put on a `Tape`, which as a service says it
+//! again, to whoever asks for the same in the same order (`TapeSays`).
+//!
+//! `LogKeeper` serves the clients of one front end: before a turn of the loop (`event_server`) takes the lines that came, they come to stand
+//! in the log as one entry (`learn`), and the answers are those due at its place. The turn takes them from the tape, and sends nothing
+//! unless all of the tape was said again (`keep`). The first entry of a log is a line of its config: a front end of another refuses to start.
+//!
+//! The theorem (`law_of_log_hosting`): a turn of the loop over a tape that was learnt and used up is a turn over the hall of the log: all
+//! turns of all connections, in one order, are a run of the hall to which just the entries before this turn's were applied. Halls of one
+//! config that have applied one log up to one place are the same (`law_of_halls`).
+//!
+//! Where memory is refused while an entry is applied nothing is known of the hall any more, and nothing is answered (`LogFault::Memory`).
+//!
+//! Not promised, and shown by running it: that a store over a network is one log, how soon it answers, and that the token is no other's.
+#![tactic(auto)]
+
+pub mod laws;
+pub mod log_fault;
+pub mod log_hall;
+pub mod log_keeper;
+pub mod machine;
+pub mod note;
+mod noting;
+pub mod pause;
+pub mod tape;
+
+pub use laws::{law_of_halls, law_of_log_hosting};
+pub use log_fault::LogFault;
+pub use log_hall::LogHall;
+pub use log_keeper::LogKeeper;
+pub use machine::HallMachine;
+pub use note::{Asked, Note};
+pub use pause::Pause;
+pub use tape::Tape;

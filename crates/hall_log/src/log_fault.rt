@@ -1,0 +1,81 @@
+//! Why a hall over a log is not served, or no more.
+
+ghost use Rattle.std.specs.Prelude.{◌≡◌};
+ghost use Rattle.hall_log.specs.Faults.{fault_of, fault_of_cause};
+
+use one_log::{Cause, ServeFault, StoreFault};
+use std::error::Error;
+use std::fmt;
+use step_memory::Refusal;
+
+/// Why a hall over a log is not served, or no more. What was answered before stands in the log.
+#[derive(Clone, Copy, Debug, Drop, PartialEq, Eq)]
+pub enum LogFault {
+    /// A growth was refused. Where that was while an entry was applied nothing more can be answered.
+    Memory,
+    /// Names are not given in the config's world.
+    NoNames,
+    /// The log is one of another config, or of another version.
+    OtherConfig,
+    /// The token has the end of a line in it.
+    Token,
+    /// The lines are too long for one entry.
+    TooLong,
+    /// The log has no place left.
+    Full,
+    /// Connections took other lines than were learnt.
+    Astray,
+    /// The store does not answer, as the hall is opened.
+    Store(StoreFault),
+}
+
+impl LogFault {
+    /// The fault behind which nothing more is served; `None` where the store may be asked again.
+    pub fn of_serving(fault: ServeFault) -> Option<LogFault>
+        ensures { result ≡ fault_of fault }
+    {
+        match fault {
+            ServeFault::TooLong => Some(LogFault::TooLong),
+            ServeFault::Unknown(cause) => LogFault::of_cause(cause),
+        }
+    }
+
+    /// The same, of what kept a replica from its next step.
+    pub fn of_cause(cause: Cause) -> Option<LogFault>
+        ensures { result ≡ fault_of_cause cause }
+    {
+        match cause {
+            Cause::Memory => Some(LogFault::Memory),
+            Cause::Spoiled => Some(LogFault::Memory),
+            Cause::Full => Some(LogFault::Full),
+            Cause::Store(_) => None,
+            Cause::Busy => None,
+        }
+    }
+}
+
+impl From<Refusal> for LogFault {
+    fn from(why: Refusal) -> LogFault {
+        match why {
+            Refusal::NoMemory => LogFault::Memory,
+            _ => LogFault::NoNames,
+        }
+    }
+}
+
+impl fmt::Display for LogFault {
+    fn fmt<W: fmt::Write>(&self, f: &mut fmt::Formatter<W>) -> fmt::Result {
+        match self {
+            LogFault::Memory => f.write_str("no memory"),
+            LogFault::NoNames => f.write_str("no names are given in this world"),
+            LogFault::OtherConfig => f.write_str("log of another config"),
+            LogFault::Token => f.write_str("a token of more than a line"),
+            LogFault::TooLong => f.write_str("too many lines for one entry"),
+            LogFault::Full => f.write_str("the log is full"),
+            LogFault::Astray => f.write_str("other lines were taken than learnt"),
+            LogFault::Store(fault) => write!(f, "{fault}"),
+        }
+    }
+}
+
+impl Error for LogFault {}

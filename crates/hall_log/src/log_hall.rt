@@ -1,0 +1,106 @@
+//! A hall that follows a log.
+
+ghost use Rattle.std.specs.Prelude.{◌≡◌, ◌<◌, ◌≤◌, true, false, Ok, OnOk, OnErr, IfOk, []};
+ghost use Rattle.one_log.specs.Places.{Keeps};
+ghost use Rattle.one_log.specs.Replicas.{IsDueAt};
+ghost use Rattle.locked_world.specs.Halls.{hall_of};
+ghost use Rattle.hall_log.specs.Entries.{HallApplies};
+ghost use Rattle.hall_log.specs.Said.{tape_of};
+
+use crate::machine::HallMachine;
+use crate::tape::Tape;
+use commands::Config;
+use locked_world::Hall;
+use one_log::{Cause, Replica, ServeFault, Store, StoreFault, law_of_following};
+use std::alloc::Global;
+use std::marker::Model;
+use step_memory::Refusal;
+
+/// A hall of a config that follows a log: from a hall with no event it was led by the entries that stand in the log, each once, in their
+/// order, up to its place.
+#[derive(Drop)]
+pub struct LogHall<S: Store> {
+    replica: Replica<HallMachine>,
+    store: S,
+    config: Config,
+}
+
+impl<S: Store> Model for LogHall<S> {
+    ghost use Rattle.std.specs.Prelude.{[]};
+    ghost use Rattle.hall_log.specs.FollowState.{FollowState};
+
+    ghost Value = { FollowState S };
+
+    ghost use Rattle.one_log.specs.Replicas.{IsReplica};
+    ghost use Rattle.locked_world.specs.Halls.{hall_of};
+    ghost use Rattle.hall_log.specs.Entries.{HallApplies};
+
+    ghost view = { λ l. record { replica = l.replica; store = l.store; config = l.config } };
+
+    ghost invariant = { λ l. IsReplica HallApplies (S.stands l.store) (hall_of l.config []) l.replica };
+}
+
+impl<S: Store + Drop> LogHall<S> {
+    /// A hall of this config, to which no entry was applied.
+    pub fn new(alloc: Global, store: S, config: Config) -> Result<LogHall<S>, Refusal>
+        ensures { IfOk result (λ l. l.config ≡ config) }
+    {
+        let machine = HallMachine::new(alloc, config)?;
+        Ok(LogHall {
+            replica: Replica::new(alloc, machine),
+            store,
+            config,
+        })
+    }
+}
+
+impl<S: Store> LogHall<S> {
+    /// The hall.
+    pub fn hall(&self) -> &Hall
+        ensures { result.now ≡ self.now.replica.machine }
+    {
+        self.replica.machine().hall()
+    }
+
+    /// How many entries were applied.
+    pub fn place(&self) -> u64
+        ensures { result ≡ self.now.replica.place }
+    {
+        self.replica.place()
+    }
+
+    /// Has the log begin with this line, where nothing stands in it; tells whether it does, once what stands there was read.
+    pub fn begin(&mut self, line: &[u8], entry: &mut Vec<u8>) -> Result<bool, StoreFault>
+        ensures begins { result ≡ Ok true → S.stands self.new.store 0 line.now }
+        ensures same { (self.new.replica ≡ self.old.replica) × (self.new.config ≡ self.old.config) }
+    {
+        law_of_following::<HallMachine, S>();
+        self.store.put(0, line)?;
+        let found = self.store.get(0, entry)?;
+        Ok(found && entry.as_slice() == line)
+    }
+
+    /// Has a batch come to stand in the log, applies all that stands before it and then it, and puts the answers on the tape
+    /// (`Replica::serve`).
+    pub fn serve(&mut self, batch: &[u8], tape: &mut Tape) -> Result<(), ServeFault>
+        ensures due { OnOk result (IsDueAt HallApplies (S.stands self.new.store) (hall_of self.new.config []) batch.now tape.new self.new.replica) }
+        ensures later { self.new.replica.spoiled ≡ false → (self.old.replica.spoiled ≡ false) × (self.old.replica.place ≤ self.new.replica.place) }
+        ensures at_last { OnOk result ((self.old.replica.spoiled ≡ false) × (self.old.replica.place < self.new.replica.place)) }
+        ensures unanswered { OnErr result (tape.new ≡ tape_of []) }
+        ensures keeps { Keeps (S.stands self.old.store) (S.stands self.new.store) }
+        ensures config { self.new.config ≡ self.old.config }
+    {
+        law_of_following::<HallMachine, S>();
+        self.replica.serve(&mut self.store, batch, tape)
+    }
+
+    /// Applies what stands in the log, up to so many entries; tells how many they were (`Replica::catch_up`).
+    pub fn catch_up(&mut self, most: u64, tape: &mut Tape) -> Result<u64, Cause>
+        ensures unanswered { tape.new ≡ tape_of [] }
+        ensures keeps { Keeps (S.stands self.old.store) (S.stands self.new.store) }
+        ensures config { self.new.config ≡ self.old.config }
+    {
+        law_of_following::<HallMachine, S>();
+        self.replica.catch_up(&mut self.store, most, tape)
+    }
+}

@@ -1,0 +1,263 @@
+//! Serves the clients of one front end over a log.
+
+ghost use Rattle.std.specs.Prelude.{◌≡◌, ◌≢◌, ◌+◌, ◌<◌, ◌≤◌, ◌++◌, [], true, false, Ok, OnOk, IfOk, All};
+ghost use Rattle.std.specs.String.{string_bytes};
+ghost use Rattle.one_log.specs.Places.{Keeps};
+ghost use Rattle.hall_log.specs.Entries.{behind_first_line, first_line_of};
+ghost use Rattle.hall_log.specs.Hosted.{IsLearnt, IsUsedUp};
+ghost use Rattle.hall_log.specs.Said.{tape_of};
+
+use crate::log_fault::LogFault;
+use crate::log_hall::LogHall;
+use crate::pause::Pause;
+use crate::tape::Tape;
+use commands::Config;
+use event_server::{Ahead, Keep, Tally};
+use locked_world::Hall;
+use one_log::{MOST_BATCH, MOST_PLACES, Store, StoreFault};
+use std::alloc::{AllocError, Global};
+
+/// What ends a line.
+const LF: u8 = 10;
+
+/// How many bytes the first line of a batch has: a token, a count and its LF.
+const HEAD: usize = 50;
+
+/// How often a store is asked for one batch, at most; a `Pause` ends it before.
+const MOST_TRIES: u32 = 1_000_000;
+
+/// How many entries are applied at once where no client asks for anything.
+const TICK_ENTRIES: u64 = 10_000;
+
+/// Serves the clients of one front end over a log: what they ask for comes to stand in the log before it is answered.
+#[derive(Drop)]
+pub struct LogKeeper<S: Store, T: Pause> {
+    alloc: Global,
+    log: LogHall<S>,
+    batch: Vec<u8>,
+    token: [u8; 32],
+    count: u64,
+    pause: T,
+    ghost one_line: { All (λ b. b ≢ 10) token },
+}
+
+// A digit below 16.
+fn hex_digit(digit: u8) -> u8
+    requires { digit < 16 }
+    ensures { result ≢ 10 }
+{
+    if digit < 10 {
+        b'0' + digit
+    } else {
+        b'a' + (digit - 10)
+    }
+}
+
+// Adds 16 digits of a count, the lowest first.
+fn push_count(head: &mut Vec<u8>, count: u64) -> Result<(), AllocError>
+    ensures { OnOk result (All (λ b. b ≢ 10) head.old.items → All (λ b. b ≢ 10) head.new.items) }
+{
+    let mut left = count;
+    for _ in 0..16 {
+        head.push(hex_digit((left % 16) as u8))?;
+        left /= 16;
+    }
+    Ok(())
+}
+
+// Puts a first line without its end over a list: a token and a count.
+fn put_head(head: &mut Vec<u8>, token: &[u8], count: u64) -> Result<(), AllocError>
+    requires { All (λ b. b ≢ 10) token.now }
+    ensures { OnOk result (All (λ b. b ≢ 10) head.new.items) }
+{
+    head.clear();
+    head.extend_from_slice(token)?;
+    head.push(b' ')?;
+    push_count(head, count)
+}
+
+// Puts a batch of these lines over a list: a first line of a token and a count, and then the lines.
+fn put_batch(batch: &mut Vec<u8>, token: &[u8], count: u64, lines: &[u8]) -> Result<(), AllocError>
+    requires { All (λ b. b ≢ 10) token.now }
+    ensures { OnOk result (behind_first_line batch.new.items ≡ lines.now) }
+{
+    put_head(batch, token, count)?;
+    batch.push(LF)?;
+    batch.extend_from_slice(lines)?;
+    Ok(())
+}
+
+// The first entry of a log of halls of this config.
+fn first_line(alloc: Global, config: Config) -> Result<String, AllocError>
+    ensures { IfOk result (λ line. string_bytes line ≡ first_line_of config) }
+{
+    let world = config.world.name();
+    let m = config.m;
+    let k = config.k;
+    let limit = config.limit;
+    format!(in alloc; "beglushan hall 1 world {world} m {m} k {k} limit {limit}\n")
+}
+
+impl<S: Store + Drop, T: Pause + Drop> LogKeeper<S, T> {
+    /// Opens the hall of a log. Where nothing stands in the log it begins with a line of the config, and else it has to begin with just that
+    /// line; then all that stands is applied. The token, which no other front end has, is to have no end of a line in it.
+    pub fn open(
+        alloc: Global,
+        store: S,
+        pause: T,
+        config: Config,
+        token: [u8; 32],
+    ) -> Result<LogKeeper<S, T>, LogFault>
+        ensures config { IfOk result (λ k. k.log.config ≡ config) }
+        ensures begins { IfOk result (λ k. S.stands k.log.store 0 (first_line_of config)) }
+    {
+        if token.contains(&LF) {
+            return Err(LogFault::Token);
+        }
+        let log = LogHall::new(alloc, store, config)?;
+        let mut keeper = LogKeeper {
+            alloc,
+            log,
+            batch: Vec::new(alloc),
+            token,
+            count: 0,
+            pause,
+        };
+        let Ok(line) = first_line(alloc, config) else {
+            return Err(LogFault::Memory);
+        };
+        keeper.begin(line.as_bytes())?;
+        keeper.apply_all()?;
+        Ok(keeper)
+    }
+}
+
+impl<S: Store, T: Pause> LogKeeper<S, T> {
+    /// The hall.
+    pub fn hall(&self) -> &Hall
+        ensures { result.now ≡ self.now.log.replica.machine }
+    {
+        self.log.hall()
+    }
+
+    /// How many entries of the log were applied.
+    pub fn len(&self) -> u64
+        ensures { result ≡ self.now.log.replica.place }
+    {
+        self.log.place()
+    }
+
+    // Has the log begin with a line, as soon as the store answers.
+    fn begin(&mut self, line: &[u8]) -> Result<(), LogFault>
+        ensures begins { OnOk result (S.stands self.new.log.store 0 line.now) }
+        ensures config { self.new.log.config ≡ self.old.log.config }
+    {
+        self.pause.begin();
+        for _ in 0..MOST_TRIES {
+            match self.log.begin(line, &mut self.batch) {
+                Ok(true) => return Ok(()),
+                Ok(false) => return Err(LogFault::OtherConfig),
+                Err(StoreFault::Memory) => return Err(LogFault::Memory),
+                Err(fault) => {
+                    if !self.pause.again() {
+                        return Err(LogFault::Store(fault));
+                    }
+                }
+            }
+        }
+        Err(LogFault::Store(StoreFault::Lost))
+    }
+
+    // Applies all that stands in the log, as soon as the store answers.
+    fn apply_all(&mut self) -> Result<(), LogFault>
+        ensures keeps { Keeps (S.stands self.old.log.store) (S.stands self.new.log.store) }
+        ensures config { self.new.log.config ≡ self.old.log.config }
+    {
+        let mut tape = Tape::new(self.alloc);
+        self.pause.begin();
+        for _ in 0..MOST_TRIES {
+            let Err(cause) = self.log.catch_up(MOST_PLACES, &mut tape) else {
+                return Ok(());
+            };
+            if let Some(fault) = LogFault::of_cause(cause) {
+                return Err(fault);
+            }
+            if !self.pause.again() {
+                break;
+            }
+        }
+        Err(LogFault::Store(StoreFault::Lost))
+    }
+
+    // Has the batch come to stand in the log, as soon as the store answers.
+    fn serve_batch(&mut self, tape: &mut Tape) -> Result<Ahead, LogFault>
+        ensures learnt { result ≡ Ok Ahead.Known →
+            IsLearnt (S.stands self.new.log.store) self.new.log.config self.old.log.replica.place (behind_first_line self.old.batch.items) tape.new self.new.log.replica }
+        ensures lost { result ≢ Ok Ahead.Known → tape.new ≡ tape_of [] }
+    {
+        tape.clear();
+        self.pause.begin();
+        for _ in 0..MOST_TRIES {
+            let Err(fault) = self.log.serve(&self.batch, tape) else {
+                return Ok(Ahead::Known);
+            };
+            if let Some(fault) = LogFault::of_serving(fault) {
+                return Err(fault);
+            }
+            if !self.pause.again() {
+                break;
+            }
+        }
+        Ok(Ahead::Lost)
+    }
+}
+
+impl<S: Store, T: Pause> Keep<Tape> for LogKeeper<S, T> {
+    ghost use Rattle.hall_log.specs.Hosted.{IsLearnt, IsUsedUp};
+
+    type Fault = LogFault;
+
+    ghost keeps = { λ k w l u. IsUsedUp k w l u };
+
+    ghost learns = { λ k w lines l u. IsLearnt (S.stands l.log.store) l.log.config k.log.replica.place lines u l.log.replica };
+
+    fn is_full(&self, _tape: &Tape) -> bool {
+        false
+    }
+
+    fn keep(&mut self, tape: &mut Tape) -> Result<(), LogFault> {
+        if !tape.is_used_up() {
+            return Err(LogFault::Astray);
+        }
+        Ok(())
+    }
+
+    fn most_ahead(&self) -> Option<usize> {
+        Some(MOST_BATCH - HEAD)
+    }
+
+    fn learn(&mut self, tape: &mut Tape, lines: &[u8]) -> Result<Ahead, LogFault> {
+        self.count = self.count.wrapping_add(1);
+        if put_batch(&mut self.batch, &self.token, self.count, lines).is_err() {
+            return Err(LogFault::Memory);
+        }
+        self.serve_batch(tape)
+    }
+
+    fn tick(&mut self, tape: &mut Tape) -> Result<(), LogFault> {
+        let Err(cause) = self.log.catch_up(TICK_ENTRIES, tape) else {
+            return Ok(());
+        };
+        match LogFault::of_cause(cause) {
+            Some(fault) => Err(fault),
+            None => Ok(()),
+        }
+    }
+
+    fn tally(&self, _tape: &Tape) -> Tally {
+        Tally {
+            events: self.log.hall().len() as u64,
+            bytes: 0,
+        }
+    }
+}

@@ -1,0 +1,140 @@
+//! A hall to which the entries of a log are applied.
+
+ghost use Rattle.std.specs.Prelude.{◌≡◌, ◌↔◌, ◌⊎◌, ◌+◌, ◌<◌, ◌^◌, [], length, IfOk, IfErr, OnOk, Err, false};
+ghost use Rattle.commands.specs.Config.{gives_names};
+ghost use Rattle.schedule_player.specs.Progress.{after_bytes};
+ghost use Rattle.locked_world.specs.Halls.{hall_of};
+ghost use Rattle.hall_log.specs.Entries.{HallApplies, TakesBytes, behind_first_line};
+ghost use Rattle.hall_log.specs.Said.{NotingSays, tape_of};
+
+use crate::noting::Noting;
+use crate::tape::Tape;
+use commands::Config;
+use locked_world::Hall;
+use one_log::Machine;
+use schedule_player::{AsReplies, Replies, Talker};
+use std::alloc::{AllocError, Global};
+use std::marker::Model;
+use step_memory::{Refusal, View};
+
+/// What ends a line.
+const LF: u8 = 10;
+
+/// A hall to which the entries of a log are applied. An entry is a first line, which is passed over, and then lines of commands, each with
+/// its LF: they are played over the hall in order, and what it says to them is put on a tape. `quit` ends an entry.
+#[derive(Drop)]
+pub struct HallMachine {
+    alloc: Global,
+    noting: Noting,
+    view: View,
+    replies: Replies<Global>,
+}
+
+impl Model for HallMachine {
+    ghost use Rattle.locked_world.specs.HallState.{HallState};
+
+    ghost Value = { HallState };
+
+    ghost view = { λ m. m.noting.hall };
+}
+
+/// What stands behind the first line of an entry.
+fn behind_first_line(entry: &[u8]) -> &[u8]
+    ensures { result.now ≡ behind_first_line entry.now }
+{
+    let mut rest = entry;
+    while let Some((first, others)) = rest.split_first() {
+        rest = others;
+        if *first == LF {
+            break;
+        }
+    }
+    rest
+}
+
+/// Plays lines over a hall. The text of the replies is let go: what was said is noted.
+fn play(
+    noting: &mut Noting,
+    talker: &mut Talker<Global, AsReplies>,
+    view: &mut View,
+    replies: &mut Replies<Global>,
+    lines: &[u8],
+)
+    requires { talker.old.summary.lines ≡ 0 }
+    ensures { TakesBytes NotingSays noting.old talker.old lines.now noting.new talker.new }
+{
+    let mut at = 0;
+    while at < lines.len() {
+        replies.clear();
+        at += talker.take(&(), noting, view, &lines[at..], replies);
+    }
+}
+
+impl HallMachine {
+    /// A hall of this config with no event; `OutOfRange` where no names are given in the config's world, and `NoMemory` where its room was
+    /// refused.
+    pub fn new(alloc: Global, config: Config) -> Result<HallMachine, Refusal>
+        ensures opened { IfOk result (λ m. m ≡ hall_of config []) }
+    {
+        let noting = Noting::new(alloc, config)?;
+        let Ok(replies) = Replies::new(alloc) else {
+            return Err(Refusal::NoMemory);
+        };
+        Ok(HallMachine {
+            alloc,
+            noting,
+            view: View::new(),
+            replies,
+        })
+    }
+
+    /// The hall.
+    pub fn hall(&self) -> &Hall
+        ensures { result.now ≡ self.now }
+    {
+        self.noting.hall()
+    }
+
+    // Plays the lines of an entry, and has the tape say what was said to them.
+    fn play_entry(&mut self, entry: &[u8], tape: &mut Tape) -> Result<(), AllocError>
+        ensures { OnOk result (HallApplies self.old entry.now tape.new self.new) }
+    {
+        let kind = self.noting.hall().config().world;
+        let Ok(mut talker) = Talker::new(self.alloc, kind) else {
+            return Err(AllocError);
+        };
+        self.noting.begin();
+        play(
+            &mut self.noting,
+            &mut talker,
+            &mut self.view,
+            &mut self.replies,
+            behind_first_line(entry),
+        );
+        if self.noting.is_lost() {
+            return Err(AllocError);
+        }
+        self.noting.put_on(tape);
+        Ok(())
+    }
+}
+
+impl Machine for HallMachine {
+    ghost use Rattle.std.specs.Prelude.{◌≡◌, []};
+    ghost use Rattle.hall_log.specs.Entries.{HallApplies};
+    ghost use Rattle.hall_log.specs.Said.{tape_of};
+
+    type Replies = Tape;
+
+    ghost applies = { HallApplies };
+
+    ghost silent = { λ tape. tape ≡ tape_of [] };
+
+    fn apply(&mut self, entry: &[u8], tape: &mut Tape) -> Result<(), AllocError> {
+        self.play_entry(entry, tape)
+    }
+
+    fn forget(tape: &mut Tape) {
+        tape.clear();
+    }
+}

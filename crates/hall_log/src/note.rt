@@ -1,0 +1,106 @@
+//! A request, with what was said to it.
+
+ghost use Rattle.std.specs.Prelude.{◌≡◌, ◌≢◌, ℕ, List, true, false, IfOk};
+ghost use Rattle.step_memory.specs.declared.refusal.Refusal.TheVariants as refusal;
+ghost use Rattle.commands.specs.declared.reply.Reply.TheVariants as replies;
+ghost use Rattle.commands.specs.Replies.{with_view};
+ghost use Rattle.hall_log.specs.Said.{request_of, said_by, seen};
+
+use commands::{Event, ShortReply};
+use std::alloc::{AllocError, Global};
+use step_memory::{Refusal, View};
+
+/// A request that was asked.
+#[derive(Clone, Copy, Debug, Drop)]
+pub enum Asked {
+    /// To take an event.
+    ToTake(Event),
+    /// To tell who has the name of this number.
+    ToTell(u64),
+}
+
+/// Whether two events are one. `true` is said only where they are.
+fn is_same_event(a: Event, b: Event) -> bool
+    ensures { result ≡ true → a ≡ b }
+{
+    match (a, b) {
+        (Event::Begin(p), Event::Begin(q)) => p == q,
+        (Event::Step(p), Event::Step(q)) => p == q,
+        (Event::Enter(p), Event::Enter(q)) => p == q,
+        (Event::Probe(p), Event::Probe(q)) => p == q,
+        (Event::Leave(p), Event::Leave(q)) => p == q,
+        (Event::Put(p, value), Event::Put(q, other)) => p == q && value == other,
+        (Event::Get(p), Event::Get(q)) => p == q,
+        (Event::Widen(size), Event::Widen(other)) => size == other,
+        _ => false,
+    }
+}
+
+/// Whether a reply shows the view that stands beside it.
+fn shows_view(reply: ShortReply) -> bool
+    ensures { result ≡ false → (v w : List (ℕ × ℕ)) → with_view reply v ≡ with_view reply w }
+{
+    matches!(reply, ShortReply::Saw | ShortReply::Named(_))
+}
+
+/// Whether a reply says that memory was refused.
+pub(crate) fn lacks_memory(reply: ShortReply) -> bool
+    ensures { result ≡ false → (v : List (ℕ × ℕ)) → with_view reply v ≢ replies.Refused refusal.NoMemory }
+{
+    matches!(reply, ShortReply::Refused(Refusal::NoMemory))
+}
+
+/// The view that is kept of a reply: none where it shows none.
+fn kept_view(alloc: Global, reply: ShortReply, view: &View) -> Result<Option<Box<View>>, AllocError>
+    ensures { IfOk result (λ kept. with_view reply (seen kept) ≡ with_view reply view.now) }
+{
+    if !shows_view(reply) {
+        return Ok(None);
+    }
+    Ok(Some(Box::new(alloc, *view)?))
+}
+
+/// A request that was asked, and what was said to it. A view takes a kilobyte, and is kept only where it is shown.
+#[derive(Drop)]
+pub struct Note {
+    asked: Asked,
+    reply: ShortReply,
+    view: Option<Box<View>>,
+}
+
+impl Note {
+    /// A note of a request, and of the reply to it, with the view beside it.
+    pub fn new(
+        alloc: Global,
+        asked: Asked,
+        reply: ShortReply,
+        view: &View,
+    ) -> Result<Note, AllocError>
+        ensures { IfOk result (λ note. said_by note ≡ (request_of asked, with_view reply view.now)) }
+    {
+        let view = kept_view(alloc, reply, view)?;
+        Ok(Note { asked, reply, view })
+    }
+
+    /// Whether it is of this request. `true` is said only where it is.
+    pub fn is_of(&self, asked: Asked) -> bool
+        ensures { result ≡ true → request_of self.now.asked ≡ request_of asked }
+    {
+        match (self.asked, asked) {
+            (Asked::ToTake(event), Asked::ToTake(other)) => is_same_event(event, other),
+            (Asked::ToTell(number), Asked::ToTell(other)) => number == other,
+            _ => false,
+        }
+    }
+
+    /// What was said, with the view beside it.
+    pub fn tell(&self, view: &mut View) -> ShortReply
+        ensures { with_view result view.new ≡ (said_by self.now).1 }
+    {
+        match &self.view {
+            Some(kept) => *view = **kept,
+            None => *view = View::new(),
+        }
+        self.reply
+    }
+}

@@ -1,0 +1,122 @@
+//! A hall of which each answer is noted.
+
+ghost use Rattle.std.specs.Prelude.{◌≡◌, ◌≢◌, ◌∷◌, ◌++◌, [], true, false, IfOk, map};
+ghost use Rattle.step_memory.specs.declared.refusal.Refusal.TheVariants as refusal;
+ghost use Rattle.commands.specs.declared.reply.Reply.TheVariants as replies;
+ghost use Rattle.commands.specs.Replies.{with_view};
+ghost use Rattle.locked_world.specs.Halls.{hall_of};
+ghost use Rattle.hall_log.specs.Said.{NotingSays, request_of, said_by, tape_of};
+ghost use Rattle.hall_log.specs.SaidProofs.{noting_answers};
+
+use crate::note::{Asked, Note, lacks_memory};
+use crate::tape::Tape;
+use commands::{Config, Event, Reply, ShortReply};
+use locked_world::Hall;
+use schedule_player::Service;
+use std::alloc::Global;
+use std::marker::Model;
+use step_memory::{Refusal, View};
+
+/// A hall of which each answer is noted, until memory is refused.
+#[derive(Drop)]
+pub(crate) struct Noting {
+    alloc: Global,
+    hall: Hall,
+    notes: Vec<Note>,
+    lost: bool,
+}
+
+impl Model for Noting {
+    ghost use Rattle.std.specs.Prelude.{map};
+    ghost use Rattle.hall_log.specs.NotingState.{NotingState};
+
+    ghost Value = { NotingState };
+
+    ghost use Rattle.hall_log.specs.Said.{said_by};
+
+    ghost view = { λ n. record { hall = n.hall; said = map said_by n.notes.items; lost = n.lost } };
+}
+
+impl Noting {
+    /// A hall of this config with no event, of which nothing is noted.
+    pub(crate) fn new(alloc: Global, config: Config) -> Result<Noting, Refusal>
+        ensures { IfOk result (λ n. n ≡ record { hall = hall_of config []; said = []; lost = false }) }
+    {
+        let hall = Hall::new(alloc, config)?;
+        Ok(Noting {
+            alloc,
+            hall,
+            notes: Vec::new(alloc),
+            lost: false,
+        })
+    }
+
+    /// The hall.
+    pub(crate) fn hall(&self) -> &Hall
+        ensures { result.now ≡ self.now.hall }
+    {
+        &self.hall
+    }
+
+    /// Whether memory was refused.
+    pub(crate) fn is_lost(&self) -> bool
+        ensures { result ≡ self.now.lost }
+    {
+        self.lost
+    }
+
+    /// Nothing is noted so far.
+    pub(crate) fn begin(&mut self)
+        ensures { self.new ≡ record { hall = self.old.hall; said = []; lost = false } }
+    {
+        self.notes.clear();
+        self.lost = false;
+    }
+
+    /// Has a tape say what was noted.
+    pub(crate) fn put_on(&mut self, tape: &mut Tape)
+        ensures tape { tape.new ≡ tape_of self.old.said }
+        ensures hall { self.new.hall ≡ self.old.hall }
+    {
+        tape.take_notes(&mut self.notes);
+    }
+
+    // Notes a request, and the reply to it with the view beside it.
+    fn note(&mut self, asked: Asked, reply: ShortReply, view: &View)
+        ensures hall { self.new.hall ≡ self.old.hall }
+        ensures well { self.new.lost ≡ false → self.old.lost ≡ false }
+        ensures noted { self.new.lost ≡ false → self.new.said ≡ self.old.said ++ (request_of asked, with_view reply view.now) ∷ [] }
+        ensures granted { self.new.lost ≡ false → with_view reply view.now ≢ replies.Refused refusal.NoMemory }
+    {
+        if self.lost || lacks_memory(reply) {
+            self.lost = true;
+            return;
+        }
+        let Ok(note) = Note::new(self.alloc, asked, reply, view) else {
+            self.lost = true;
+            return;
+        };
+        self.lost = self.notes.push(note).is_err();
+    }
+}
+
+impl<R> Service<R> for Noting {
+    ghost knows = { λ q. true };
+
+    ghost may = { NotingSays };
+
+    ghost answers = { λ w q known. noting_answers w q };
+
+    fn apply(&mut self, _rt: &R, event: Event, view: &mut View) -> ShortReply {
+        let reply = self.hall.apply_short(event, view);
+        self.note(Asked::ToTake(event), reply, view);
+        reply
+    }
+
+    fn owner(&mut self, _rt: &R, n: u64) -> Reply {
+        let mut view = View::new();
+        let reply = self.hall.owner(n).shorten(&mut view);
+        self.note(Asked::ToTell(n), reply, &view);
+        reply.with(&view)
+    }
+}
