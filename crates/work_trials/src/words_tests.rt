@@ -1,7 +1,7 @@
 //! What words of a command line are read as.
 
 use commands::WorldKind;
-use slot_words::{Ask, Misuse, ask};
+use slot_words::{Ask, Keeping, Misuse, ask};
 use std::alloc::Global;
 use std::net::{IpAddr, Ipv4Addr, Ipv6Addr};
 
@@ -120,16 +120,50 @@ fn hosting(alloc: Global, line: &str) -> Option<(IpAddr, u64, u64, u64, bool)> {
     }
 }
 
-// Whether the words of a line ask to host with this journal.
+// Whether the words of a line ask to host with this journal, or with none.
 fn has_journal(alloc: Global, line: &str, journal: Option<&str>) -> bool {
     let words = words_of(alloc, line);
     match ask(alloc, words.as_slice()) {
-        Ok(Ask::Host(h)) => h.journal == journal,
+        Ok(Ask::Host(h)) => match h.keeping {
+            Keeping::Nothing => journal.is_none(),
+            Keeping::Journal(path) => journal == Some(path),
+            Keeping::Log(_) => false,
+        },
         _ => false,
     }
 }
 
-const NO_HOSTINGS: [&str; 12] = [
+// Whether the words of a line ask to host over this log.
+fn has_log(
+    alloc: Global,
+    line: &str,
+    members: &str,
+    prefix: &str,
+    patience: u64,
+    exported: bool,
+) -> bool {
+    let words = words_of(alloc, line);
+    match ask(alloc, words.as_slice()) {
+        Ok(Ask::Host(h)) => match h.keeping {
+            Keeping::Log(log) => {
+                log.members == members
+                    && log.prefix == prefix
+                    && log.patience == patience
+                    && log.exported == exported
+            }
+            _ => false,
+        },
+        _ => false,
+    }
+}
+
+const NO_HOSTINGS: [&str; 18] = [
+    "slotctl host --etcd 10.0.0.1:2379",
+    "slotctl host --prefix a/",
+    "slotctl host --export",
+    "slotctl host --journal a --etcd 10.0.0.1:2379 --prefix a/",
+    "slotctl host --etcd 10.0.0.1:2379 --prefix a/ --patience 0",
+    "slotctl host --etcd 10.0.0.1:2379 --prefix a/ --patience 3601",
     "slotctl host --port 65536",
     "slotctl host --clients 0",
     "slotctl host --clients 1000001",
@@ -159,6 +193,10 @@ fn hostings_are_read(rt: HostRuntime) {
     }
     assert!(rt; has_journal(rt.alloc(), "slotctl host", None));
     assert!(rt; has_journal(rt.alloc(), "slotctl host --journal a/b", Some("a/b")));
+    let line = "slotctl host --etcd 10.0.0.1:1,10.0.0.2:1 --prefix a/ --export";
+    assert!(rt; has_log(rt.alloc(), line, "10.0.0.1:1,10.0.0.2:1", "a/", 10, true));
+    let line = "slotctl host --patience 3600 --prefix b --etcd 10.0.0.1:1";
+    assert!(rt; has_log(rt.alloc(), line, "10.0.0.1:1", "b", 3_600, false));
     for line in NO_HOSTINGS {
         assert!(rt; refuses(rt.alloc(), line), "{line}");
     }
