@@ -28,6 +28,10 @@ answer_from stands (TestAndSet r) = WasSet (stands r).1
 answer_from stands (Clear r) = Done
 answer_from stands Nothing = Done
 
+-- what a program gets for the access of its next step from a memory
+abbrev pub answer_got : {P S R V O : Type 0} → ProgramSteps P R V O → MemorySteps S R V → P → S → Answer V
+answer_got program memory p s = answer_from (memory.register s) (program.next p)
+
 -- the access leaves this register as it is: it changes another one, or none
 abbrev pub Spares : {R V : Type 0} → Access R V → R → Type 0
 Spares (Read r) q = Unit {0}

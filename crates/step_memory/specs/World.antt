@@ -6,7 +6,7 @@ use Rattle.step_memory.specs.declared.refusal.Refusal.{Refusal}
 use Rattle.step_memory.specs.declared.refusal.Refusal.TheVariants.{ZeroIdentity, AlreadyBegun, Full, NotBegun, Finished}
 use Rattle.step_memory.specs.declared.participant.Participant.{Participant}
 use Rattle.step_memory.specs.Participant.{beginner, resumed, participant_of, program_of, with_participant}
-use Rattle.step_memory.specs.Steps.{ProgramSteps, MemorySteps, answer_from}
+use Rattle.step_memory.specs.Steps.{ProgramSteps, MemorySteps, answer_got}
 use Rattle.step_memory.specs.WorldState.{WorldState}
 
 -- why `begin` is refused: the first of these that holds
@@ -57,7 +57,7 @@ after_asked asked w id = after_asked_by asked w id (program_of id w.participants
 module _ {P S R V O : Type 0} (program : ProgramSteps P R V O) (memory : MemorySteps S R V) where
   -- what the memory answers to a participant
   abbrev pub got_by : S → Participant P → Answer V
-  got_by s p = answer_from (memory.register s) (program.next p.program)
+  got_by s p = answer_got program memory p.program s
 
   abbrev pub step_answer_by : S → Option (Participant P) → Result (Note O) Refusal
   step_answer_by s None = Err NotBegun

@@ -2,7 +2,7 @@
 
 ghost use Rattle.std.specs.Prelude.{◌≡◌, true, false, IfSome, OnErr, None};
 ghost use Rattle.step_memory.specs.Participant.{resumed, beginner};
-ghost use Rattle.step_memory.specs.Steps.{answer_from};
+ghost use Rattle.step_memory.specs.Steps.{answer_got};
 ghost use Rattle.step_memory.specs.Taken.{told_in};
 ghost use Rattle.step_memory.specs.declared.access.Answer.TheVariants.{Value};
 ghost use Rattle.step_memory.specs.declared.note.Note.TheVariants.{Quiet};
@@ -57,8 +57,8 @@ impl<P: StepProgram> Participant<P> {
         memory: &mut S,
     ) -> Result<Option<Q::Told>, NoMemory>
         ensures takes { IfSome (told_in result) (λ _. Q.takes self.old.program) }
-        ensures after { IfSome (told_in result) (λ _. self.new ≡ resumed P.steps self.old (answer_from (S.steps.register memory.old) (P.steps.next self.old.program))) }
-        ensures note { IfSome (told_in result) (λ told. P.steps.note self.old.program (answer_from (S.steps.register memory.old) (P.steps.next self.old.program)) ≡ Q.note told) }
+        ensures after { IfSome (told_in result) (λ _. self.new ≡ resumed P.steps self.old (answer_got P.steps S.steps self.old.program memory.old)) }
+        ensures note { IfSome (told_in result) (λ told. P.steps.note self.old.program (answer_got P.steps S.steps self.old.program memory.old) ≡ Q.note told) }
         ensures memory { IfSome (told_in result) (λ _. memory.new ≡ S.steps.after memory.old (P.steps.next self.old.program)) }
         ensures kept { told_in result ≡ None → self.new ≡ self.old }
         ensures memory_kept { told_in result ≡ None → memory.new ≡ memory.old }

@@ -2,7 +2,7 @@
 
 ghost use Rattle.std.specs.Prelude.{◌≡◌, true, false, IfSome, OnErr, None};
 ghost use Rattle.step_memory.specs.Note.{ends};
-ghost use Rattle.step_memory.specs.Steps.{answer_from};
+ghost use Rattle.step_memory.specs.Steps.{answer_got};
 ghost use Rattle.step_memory.specs.Taken.{told_in};
 ghost use Rattle.step_memory.specs.declared.note.Note.{Note};
 
@@ -25,8 +25,8 @@ pub trait Shortcut<P: StepProgram, S: StepMemory<Reg = P::Reg, Value = P::Value>
     /// not, and an error where a growth was refused: then nothing has changed, and the step is still to be taken.
     fn take(program: &mut P, memory: &mut S) -> Result<Option<Self::Told>, NoMemory>
         ensures takes { IfSome (told_in result) (λ _. takes program.old) }
-        ensures after { IfSome (told_in result) (λ _. program.new ≡ P.steps.resumed program.old (answer_from (S.steps.register memory.old) (P.steps.next program.old))) }
-        ensures note { IfSome (told_in result) (λ told. P.steps.note program.old (answer_from (S.steps.register memory.old) (P.steps.next program.old)) ≡ note told) }
+        ensures after { IfSome (told_in result) (λ _. program.new ≡ P.steps.resumed program.old (answer_got P.steps S.steps program.old memory.old)) }
+        ensures note { IfSome (told_in result) (λ told. P.steps.note program.old (answer_got P.steps S.steps program.old memory.old) ≡ note told) }
         ensures goes_on { IfSome (told_in result) (λ told. ends (note told) ≡ false) }
         ensures memory { IfSome (told_in result) (λ _. memory.new ≡ S.steps.after memory.old (P.steps.next program.old)) }
         ensures kept { told_in result ≡ None → program.new ≡ program.old }
