@@ -1,5 +1,6 @@
 pub mod Ranges
 pub mod Config
+pub mod KindProofs
 pub mod Replies
 pub mod Bad
 pub mod Requests

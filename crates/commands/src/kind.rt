@@ -1,9 +1,11 @@
 //! The worlds.
 
 ghost use Rattle.std.specs.Prelude.{◌≡◌, ◌≢◌, ◌≤◌, length, Contains, IfSome, IfNone};
-ghost use Rattle.commands.specs.Config.{is_played_over, is_tree, world_name};
-ghost use Rattle.commands.specs.Ranges.{most_in};
+ghost use Rattle.commands.specs.Config.{gives_names, is_played_over, is_tree, most_in, world_name};
 ghost use Rattle.commands.specs.declared.kind.WorldKind.{WorldKind};
+
+/// The worlds, as the help of a command line tells of them.
+pub const ANY_WORLD: &str = "what is played: splitter, grid, rename or tree";
 
 /// The worlds that commands are played in.
 #[derive(Clone, Copy, Debug, Drop, PartialEq, Eq)]
@@ -74,6 +76,19 @@ impl WorldKind {
         }
     }
 
+    /// Whether names are given in it: over places of a grid or of a tree.
+    #[inline(always)]
+    pub fn gives_names(self) -> bool
+        ensures { result ≡ gives_names self }
+    {
+        match self {
+            WorldKind::Splitter => false,
+            WorldKind::Grid => false,
+            WorldKind::Rename => true,
+            WorldKind::Tree => true,
+        }
+    }
+
     /// As many as may take part: 64 where places are in a tree, 16 elsewhere.
     pub fn most(self) -> u64
         ensures { result ≡ most_in self }
@@ -90,11 +105,6 @@ impl WorldKind {
     pub fn is_played_over(self, served: WorldKind) -> bool
         ensures { result ≡ is_played_over self served }
     {
-        match self {
-            WorldKind::Splitter => false,
-            WorldKind::Grid => false,
-            WorldKind::Rename => !served.is_tree(),
-            WorldKind::Tree => served.is_tree(),
-        }
+        self.gives_names() && self.is_tree() == served.is_tree()
     }
 }

@@ -22,6 +22,6 @@ pub use command::Command;
 pub use config::Config;
 pub use event::Event;
 pub use exchange::Exchange;
-pub use kind::WorldKind;
+pub use kind::{ANY_WORLD, WorldKind};
 pub use reply::Reply;
 pub use short_reply::ShortReply;

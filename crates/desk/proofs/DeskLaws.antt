@@ -12,13 +12,13 @@ use Rattle.snapshot_places.specs.Tree.{new_tree}
 use Rattle.snapshot_places.specs.TreeProofs.{tree_laws}
 use Rattle.snapshot_places.specs.TreeTies.{tree_places}
 use Rattle.rename_core.specs.Ample.{grid_ample}
-use Rattle.commands.specs.Config.{is_tree, gives_names}
+use Rattle.commands.specs.Config.{is_tree, gives_names, most_in}
+use Rattle.commands.specs.KindProofs.{where_named}
 use Rattle.rename_core.specs.EmptyPlaces.{AreEmptyFor, grid_empty, tree_empty}
 use Rattle.commands.specs.declared.config.Config.{Config}
 use Rattle.commands.specs.declared.kind.WorldKind.{WorldKind}
-use Rattle.commands.specs.declared.kind.WorldKind.TheVariants.{Splitter, Grid, Rename, Tree}
+use Rattle.commands.specs.declared.kind.WorldKind.TheVariants.{Rename, Tree}
 use Rattle.rename_core.specs.NamedPlaces.{PlacesAtOnce, GrowsAsTree}
-use Rattle.commands.specs.Ranges.{most_in}
 use Rattle.rename_core.specs.Machine.{IsLawfulWithin, fresh_over as fresh_names}
 use Rattle.rename_core.proofs.Sizes.{most_after}
 use Rattle.slot_array.proofs.SlotsKeep.{slots_proved}
@@ -88,10 +88,7 @@ fresh c (OverTree w) is = (is.0, subst (λ (x : _). AfterDesk tree_places Tree c
 
 -- the fresh desk of a world in which names are given
 fresh_of : (c : Config) (kind : WorldKind) → c.world ≡ kind → gives_names kind ≡ true → IsFreshDesk c (fresh_in kind c)
-fresh_of c Splitter is named = absurd (cc)
-fresh_of c Grid is named = absurd (cc)
-fresh_of c Rename is named = (is, refl)
-fresh_of c Tree is named = (is, refl)
+fresh_of c kind is named = where_named (λ (k : WorldKind). c.world ≡ k → IsFreshDesk c (fresh_in k c)) kind named (λ rename. (rename, refl)) (λ tree. (tree, refl)) is
 
 this_fresh : (c : Config) (w : DeskValue) → IsFreshDesk c w → IsThisDesk c w
 this_fresh c (OverGrid w) is = record { named = ap gives_names is.0; is = ap OverGrid is.1 ∙ ap (λ (k : WorldKind). fresh_in k c) (sym is.0) }

@@ -6,9 +6,10 @@ use Rattle.snapshot_places.specs.Grid.{fresh_grid}
 use Rattle.snapshot_places.specs.GridTies.{grid_places}
 use Rattle.snapshot_places.specs.Tree.{new_tree}
 use Rattle.snapshot_places.specs.TreeTies.{tree_places}
+use Rattle.commands.specs.Config.{is_tree}
 use Rattle.commands.specs.declared.config.Config.{Config}
 use Rattle.commands.specs.declared.kind.WorldKind.{WorldKind}
-use Rattle.commands.specs.declared.kind.WorldKind.TheVariants.{Splitter, Grid, Rename, Tree}
+use Rattle.commands.specs.declared.kind.WorldKind.TheVariants.{Rename, Tree}
 use Rattle.rename_core.specs.RenameWorld.{owner_by}
 use Rattle.commands.specs.declared.event.Event.{Event}
 use Rattle.commands.specs.declared.reply.Reply.{Reply}
@@ -57,10 +58,9 @@ owner_reply (OverTree w) number = owner_over w number
 
 -- the desk of a config in whose world names are given, on which nothing was done
 abbrev pub fresh_in : WorldKind → Config → DeskValue
-fresh_in Splitter config = OverGrid (fresh_over (fresh_grid config.m) config.m config.limit config.k)
-fresh_in Grid config = OverGrid (fresh_over (fresh_grid config.m) config.m config.limit config.k)
-fresh_in Rename config = OverGrid (fresh_over (fresh_grid config.m) config.m config.limit config.k)
-fresh_in Tree config = OverTree (fresh_over (new_tree config.m) config.m config.limit config.k)
+fresh_in kind config =
+    if is_tree kind then OverTree (fresh_over (new_tree config.m) config.m config.limit config.k)
+    else OverGrid (fresh_over (fresh_grid config.m) config.m config.limit config.k)
 
 abbrev pub fresh_desk : Config → DeskValue
 fresh_desk config = fresh_in config.world config

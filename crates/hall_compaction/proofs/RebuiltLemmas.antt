@@ -1,21 +1,25 @@
 -- a hall that is built anew, event by event
-use Rattle.std.proofs.Common.{◌≡◌, ℕ, zero, suc, ◌+◌, ◌<◌, Bool, true, false, List, [], ◌∷◌, ◌++◌, Some, None, Option, length, take, replicate, inl, inr, refl, sym, ap, subst, ◌∙◌, arith, add-one}
+use Rattle.std.proofs.Common.{◌≡◌, ℕ, zero, suc, ◌+◌, ◌<◌, Bool, true, false, cond, List, [], ◌∷◌, ◌++◌, Some, None, Option, length, take, replicate, inl, inr, refl, sym, ap, subst, ◌∙◌, arith, add-one}
 use Rattle.std.specs.Prelude.{slice_get, filter}
 use Rattle.std.proofs.lemmas.List.{append-nil, take_all}
 use Rattle.std.proofs.lemmas.Option.{same_Some}
 use Rattle.step_memory.specs.declared.refusal.Refusal.{Refusal}
+use Rattle.commands.specs.Config.{is_tree}
 use Rattle.commands.specs.declared.config.Config.{Config}
 use Rattle.commands.specs.declared.event.Event.{Event}
 use Rattle.commands.specs.declared.exchange.Exchange.{Exchange}
 use Rattle.commands.specs.declared.kind.WorldKind.{WorldKind}
-use Rattle.commands.specs.declared.kind.WorldKind.TheVariants.{Splitter, Grid, Rename, Tree}
 use Rattle.commands.specs.declared.reply.Reply.{Reply}
 use Rattle.commands.specs.Replies.{is_refusal}
+use Rattle.snapshot_places.specs.Grid.{fresh_grid}
+use Rattle.snapshot_places.specs.Tree.{new_tree}
 use Rattle.bit_allocator.specs.Pool.{fresh_pool}
 use Rattle.slot_array.specs.SlotsState.{SlotsState}
 use Rattle.desk.specs.Desk.{fresh_desk, fresh_in, desk_reply, desk_after, desk_refusal}
 use Rattle.desk.specs.DeskCalls.{exchange}
+use Rattle.desk.specs.DeskRules.{fresh_over}
 use Rattle.desk.specs.DeskValue.{DeskValue}
+use Rattle.desk.specs.DeskValue.DeskValue.{OverGrid, OverTree}
 use Rattle.locked_world.specs.Halls.{hall_of, desk_of, IsLawful, hall_refusal, full_unless, longer, reply_unless, after_unless, HallMay}
 use Rattle.locked_world.specs.HallState.{HallState}
 use Rattle.locked_world.specs.Replay.{replay, AreAccepted}
@@ -88,10 +92,11 @@ copied_on h e c d ok follow is =
 
 -- the hall of a config with no event
 fresh_slots_in : (w : WorldKind) (c : Config) → slots_of (fresh_in w c) ≡ record { pool = fresh_pool c.k; values = replicate c.k 0 }
-fresh_slots_in Splitter c = refl
-fresh_slots_in Grid c = refl
-fresh_slots_in Rename c = refl
-fresh_slots_in Tree c = refl
+fresh_slots_in w c =
+    let new : SlotsState ℕ = record { pool = fresh_pool c.k; values = replicate c.k 0 } in
+    let over_grid : DeskValue = OverGrid (fresh_over (fresh_grid c.m) c.m c.limit c.k) in
+    let over_tree : DeskValue = OverTree (fresh_over (new_tree c.m) c.m c.limit c.k) in
+    elim (is_tree w) as (λ b. slots_of (cond b over_tree over_grid) ≡ new) [ true ↦ refl | false ↦ refl ]
 
 pub fresh_copied : (c : Config) (s : SlotsCopy) → slots_in s ≡ record { pool = fresh_pool c.k; values = replicate c.k 0 } → IsCopied (hall_of c []) s
 fresh_copied c s is = is ∙ sym (fresh_slots_in c.world c)

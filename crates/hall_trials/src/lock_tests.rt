@@ -161,14 +161,9 @@ fn a_hall_whose_pool_widens(rt: HostRuntime) {
 /// Halls are opened where names are given alone.
 #[test]
 fn worlds_of_halls(rt: HostRuntime) {
-    for (world, given) in [
-        (WorldKind::Splitter, false),
-        (WorldKind::Grid, false),
-        (WorldKind::Rename, true),
-        (WorldKind::Tree, true),
-    ] {
+    for world in WorldKind::all() {
         let is_made = Hall::new(rt.alloc(), config(&rt, (world, 2, 4))).is_ok();
-        assert_eq!(rt; is_made, given, "{world:?}");
+        assert_eq!(rt; is_made, world.gives_names(), "{world:?}");
     }
 }
 

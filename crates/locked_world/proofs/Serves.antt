@@ -6,18 +6,18 @@ use Rattle.step_memory.specs.declared.refusal.Refusal.{Refusal}
 use Rattle.step_memory.specs.declared.refusal.Refusal.TheVariants as refusal
 use Rattle.commands.specs.declared.config.Config.{Config}
 use Rattle.commands.specs.declared.kind.WorldKind.{WorldKind}
-use Rattle.commands.specs.declared.kind.WorldKind.TheVariants.{Splitter, Grid, Rename, Tree}
 use Rattle.commands.specs.declared.event.Event.{Event}
 use Rattle.commands.specs.declared.exchange.Exchange.{Exchange}
 use Rattle.commands.specs.declared.reply.Reply.{Reply}
 use Rattle.commands.specs.declared.reply.Reply.TheVariants as reply
 use Rattle.commands.specs.Config.{gives_names}
+use Rattle.commands.specs.KindProofs.{where_named}
 use Rattle.desk.specs.Desk.{fresh_desk, desk_reply, desk_after, desk_refusal, IsFreshDesk}
 use Rattle.desk.specs.DeskCalls.{exchange}
 use Rattle.desk.specs.DeskValue.{DeskValue}
 use Rattle.commands.specs.Replies.{is_refusal}
 use Rattle.desk.proofs.DeskLaws as desk
-use Rattle.schedule_player.specs.DeskWorld.{DeskWorldMay}
+use Rattle.schedule_player.specs.DeskWorld.{DeskWorldMay, IsDeskTalk}
 use Rattle.schedule_player.specs.DeskWorldProofs.{desk_lawful, desk_tells}
 use Rattle.schedule_player.specs.IsTalk.{IsTalk, IsTalkByKind}
 use Rattle.commands.specs.Requests.Request.{Take}
@@ -126,10 +126,9 @@ desk_runs h u (Ended ∷ ts) lawful run = desk_runs h u ts lawful run
 desk_runs h u (Misread bad ∷ ts) lawful run = desk_runs h u ts lawful run
 
 talk_by : (c : Config) (k : WorldKind) → gives_names k ≡ true → (w u : DeskValue) (ts : List Turn) → IsFreshDesk c w → Runs DeskWorldMay w ts u → IsTalkByKind k c ts
-talk_by c Splitter named w u ts fresh run = absurd cc
-talk_by c Grid named w u ts fresh run = absurd cc
-talk_by c Rename named w u ts fresh run = record { run = desk_lawful c w u ts fresh run; owners = desk_tells c w u ts fresh run; could = record { start = w; last = u; is_fresh = fresh; run = run } }
-talk_by c Tree named w u ts fresh run = record { run = desk_lawful c w u ts fresh run; owners = desk_tells c w u ts fresh run; could = record { start = w; last = u; is_fresh = fresh; run = run } }
+talk_by c k named w u ts fresh run =
+    let talk : IsDeskTalk c ts = record { run = desk_lawful c w u ts fresh run; owners = desk_tells c w u ts fresh run; could = record { start = w; last = u; is_fresh = fresh; run = run } } in
+    where_named (λ (x : WorldKind). IsTalkByKind x c ts) k named talk talk
 
 pub talk : (c : Config) → gives_names c.world ≡ true → (u : HallState) (ts : List Turn) → Runs HallServes (hall_of c []) ts u → IsTalk c (with_room ts)
 talk c named u ts run =

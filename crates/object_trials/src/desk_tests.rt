@@ -409,12 +409,12 @@ fn refusal_of(rt: &impl Abort, alloc: Global, world: WorldKind) -> Option<Refusa
 fn a_desk_for_two_worlds(rt: HostRuntime) {
     law_of_desk();
     law_of_names();
-    for (world, want) in [
-        (WorldKind::Splitter, Some(Refusal::OutOfRange)),
-        (WorldKind::Grid, Some(Refusal::OutOfRange)),
-        (WorldKind::Rename, None),
-        (WorldKind::Tree, None),
-    ] {
+    for world in WorldKind::all() {
+        let want = if world.gives_names() {
+            None
+        } else {
+            Some(Refusal::OutOfRange)
+        };
         assert_eq!(rt; refusal_of(&rt, rt.alloc(), world), want, "{world:?}");
     }
 }

@@ -540,30 +540,27 @@ fn a_node_that_was_refused_is_made_later(rt: HostRuntime) -> Result<(), Fail> {
     Ok(())
 }
 
-/// No world of any of these kinds is made over these places.
-fn is_none_of<W: RenamePlaces<Global> + Drop>(rt: &impl Abort, alloc: Global, kinds: &[WorldKind])
+/// No world of any other kind than this is made over these places.
+fn is_no_other<W: RenamePlaces<Global> + Drop>(rt: &impl Abort, alloc: Global, own: WorldKind)
 where
     W::Walker: Copy,
     W::Walk: Copy,
     W::Value: Drop,
 {
-    for kind in kinds {
-        let config = config_of(rt, *kind, 2, 1000);
+    for kind in WorldKind::all() {
+        if kind == own {
+            continue;
+        }
+        let config = config_of(rt, kind, 2, 1000);
         let outcome = begun::<W, Global>(alloc, config);
         assert!(rt; outcome == Err(Refusal::OutOfRange), "{kind:?}");
     }
 }
 
-/// The worlds that are not played over a grid.
-const NOT_A_GRIDS: [WorldKind; 3] = [WorldKind::Splitter, WorldKind::Grid, WorldKind::Tree];
-
-/// The worlds that are not played over a tree.
-const NOT_A_TREES: [WorldKind; 3] = [WorldKind::Splitter, WorldKind::Grid, WorldKind::Rename];
-
 #[test]
 fn worlds_in_which_no_names_are_given(rt: HostRuntime) {
-    is_none_of::<Grid<Global>>(&rt, rt.alloc(), &NOT_A_GRIDS);
-    is_none_of::<TreePlaces<Global>>(&rt, rt.alloc(), &NOT_A_TREES);
+    is_no_other::<Grid<Global>>(&rt, rt.alloc(), WorldKind::Rename);
+    is_no_other::<TreePlaces<Global>>(&rt, rt.alloc(), WorldKind::Tree);
 }
 
 /// Sizes of which one is out of range: most participants, the pool's size, and the round limit.
@@ -598,10 +595,10 @@ fn takes_at_most(world: WorldKind, most: u64) -> bool {
 
 #[test]
 fn most_participants_of_each_world(rt: HostRuntime) {
-    assert!(rt; takes_at_most(WorldKind::Splitter, 16));
-    assert!(rt; takes_at_most(WorldKind::Grid, 16));
-    assert!(rt; takes_at_most(WorldKind::Rename, 16));
-    assert!(rt; takes_at_most(WorldKind::Tree, 64));
+    for kind in WorldKind::all() {
+        let most = if kind.is_tree() { 64 } else { 16 };
+        assert!(rt; takes_at_most(kind, most), "{kind:?}");
+    }
 }
 
 /// A participant steps until it is named: how many steps these are, its place, and its name.

@@ -211,15 +211,16 @@ fn short_row(world: WorldKind, m: u64) -> Row {
 }
 
 #[test]
-fn each_growth_of_a_splitter_and_a_grid_is_refused_in_turn(rt: HostRuntime) {
-    for (world, m) in [
-        (WorldKind::Splitter, 2),
-        (WorldKind::Splitter, 16),
-        (WorldKind::Grid, 2),
-        (WorldKind::Grid, 16),
-    ] {
-        let row = short_row(world, m);
-        assert_eq!(rt; growths_refused_in_turn(&rt, rt.alloc(), &row, false), 0);
+fn no_growth_is_refused_where_no_places_are_in_a_tree(rt: HostRuntime) {
+    for world in WorldKind::all() {
+        if world.is_tree() {
+            continue;
+        }
+        for m in [2, world.most()] {
+            let row = short_row(world, m);
+            let refused = growths_refused_in_turn(&rt, rt.alloc(), &row, false);
+            assert_eq!(rt; refused, 0, "in {world:?}");
+        }
     }
 }
 

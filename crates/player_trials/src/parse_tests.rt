@@ -1,6 +1,5 @@
 //! What lines mean.
 
-use crate::playing_tests::WORLDS;
 use commands::Event;
 use schedule_player::{Bad, Command, WorldKind, parse_line};
 
@@ -38,7 +37,7 @@ fn lines_have_their_meanings(rt: HostRuntime) {
         (b"quit\x7f", Err(Bad::NotPrintable)),
         (b"quit\x1f", Err(Bad::NotPrintable)),
     ] {
-        for world in WORLDS {
+        for world in WorldKind::all() {
             assert_eq!(rt; parse_line(line, world), want, "at {line:?}");
         }
     }
@@ -70,15 +69,13 @@ fn a_desk_knows_more_words(rt: HostRuntime) {
         (b"widen 04", Err(Bad::BadNumber)),
         (b"owner none", Err(Bad::BadNumber)),
     ] {
-        for world in [WorldKind::Rename, WorldKind::Tree] {
+        for world in WorldKind::all() {
+            let want = if world.gives_names() {
+                want
+            } else {
+                Err(Bad::UnknownWord)
+            };
             assert_eq!(rt; parse_line(line, world), want, "at {line:?}");
-        }
-        for world in [WorldKind::Splitter, WorldKind::Grid] {
-            assert_eq!(rt;
-                parse_line(line, world),
-                Err(Bad::UnknownWord),
-                "at {line:?}"
-            );
         }
     }
 }

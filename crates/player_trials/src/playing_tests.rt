@@ -68,14 +68,6 @@ const LINES: &[u8] =
 const LINES_TEXT: &[u8] =
     b"bad 3\nbad 3\nbad 1\nbad 4\nbad 5\nbad 3\nbad 4\nbad 5\nbad 2\nrefused 4\n";
 
-/// The worlds that are played.
-pub(crate) const WORLDS: [WorldKind; 4] = [
-    WorldKind::Splitter,
-    WorldKind::Grid,
-    WorldKind::Rename,
-    WorldKind::Tree,
-];
-
 /// Inputs, and the texts that they are answered by in every world for two participants.
 const INPUTS: [(&[u8], &[u8]); 3] = [
     (b"", b""),
@@ -123,7 +115,7 @@ pub(crate) fn is_played(rt: &impl Abort, alloc: Global, config: Config, row: (&[
 
 #[test]
 fn the_text_is_the_same_however_the_bytes_are_cut(rt: HostRuntime) {
-    for world in WORLDS {
+    for world in WorldKind::all() {
         let config = config(&rt, world, 2);
         for row in INPUTS {
             is_played(&rt, rt.alloc(), config, row);
@@ -152,7 +144,7 @@ fn reads_of(alloc: Global, config: Config, input: &[u8]) -> u64 {
 
 #[test]
 fn nothing_is_read_after_the_end_or_after_quit(rt: HostRuntime) {
-    for world in WORLDS {
+    for world in WorldKind::all() {
         let config = config(&rt, world, 2);
         assert_eq!(rt; reads_of(rt.alloc(), config, b""), 1);
         assert_eq!(rt; reads_of(rt.alloc(), config, b"step 70\nstep 7\n"), 5);
@@ -184,7 +176,7 @@ fn counted(rt: &impl Abort, alloc: Global, config: Config, input: &[u8]) -> [u64
 #[test]
 fn the_summary_counts_each_line(rt: HostRuntime) {
     let counts = [[0, 0, 0, 0], [2, 2, 0, 0], [10, 0, 1, 9]];
-    for world in WORLDS {
+    for world in WorldKind::all() {
         let config = config(&rt, world, 2);
         for ((input, _), counts) in INPUTS.into_iter().zip(counts) {
             assert_eq!(rt; counted(&rt, rt.alloc(), config, input), counts);
@@ -273,7 +265,7 @@ fn calls_fail_in_turn(rt: &impl Abort, alloc: Global, config: Config, row: (&[u8
 #[test]
 fn each_read_and_each_write_fails_once(rt: HostRuntime) {
     let alloc = rt.alloc();
-    for world in WORLDS {
+    for world in WorldKind::all() {
         let config = config(&rt, world, 2);
         for row in INPUTS {
             calls_fail_in_turn(&rt, alloc, config, row);
@@ -298,7 +290,7 @@ fn step_is_cut(
     fault: Option<Fault>,
     text: &[u8],
 ) {
-    for world in WORLDS {
+    for world in WorldKind::all() {
         let p = run_of(
             config(rt, world, 2),
             alloc,

@@ -16,9 +16,10 @@ pub(crate) fn recorded<A: Allocator + Clone>(
 ) -> Played<()> {
     let mut reader = Tried::new(reader);
     let mut writer = Tried::new(writer);
-    let outcome = match config.world {
-        WorldKind::Rename | WorldKind::Tree => record(alloc, &mut reader, &mut writer, config),
-        WorldKind::Splitter | WorldKind::Grid => Err(Fault::Read),
+    let outcome = if config.world.gives_names() {
+        record(alloc, &mut reader, &mut writer, config)
+    } else {
+        Err(Fault::Read)
     };
     what_is_left(outcome, reader, writer)
 }

@@ -1,9 +1,13 @@
 //! Two small services for tests: a world that refuses a growth now and then, and a service whose replies vary.
 
 ghost use Rattle.std.specs.Prelude.{ℕ, true, ◌≡◌};
-ghost use Rattle.schedule_player.specs.Kinds.{is_splitter, splitter_meant};
+ghost use Rattle.std.proofs.Common.{refl};
+ghost use Rattle.commands.specs.Config.{is_kind};
+ghost use Rattle.commands.specs.declared.kind.WorldKind.TheVariants.{Splitter};
+ghost use Rattle.schedule_player.specs.VisitProofs.{kind_meant};
 ghost use Rattle.player_trials.specs.Toys.{ShelfMay, IsShelfRun, IsSide};
 ghost use Rattle.player_trials.specs.ToyProofs.{shelf_answers, shelf_lawful, shelf_tells, one_shelf_fresh, one_shelf_reply, coin_answers};
+ghost use Rattle.schedule_player.specs.Talks.{IsTalkOf};
 ghost use Rattle.schedule_player.specs.Visits.{knows_visits};
 
 use commands::{Config, Event, Reply, ShortReply};
@@ -47,21 +51,25 @@ impl<R> Service<R> for Shelf {
 }
 
 impl<A: Drop, R> World<A, R> for Shelf {
-    ghost serves = { is_splitter };
+    ghost serves = { λ kind. is_kind kind Splitter };
 
     ghost fresh = { λ c w. w ≡ 0 };
 
     ghost IsRunIn = { λ c. IsShelfRun };
 
+    ghost TalkIn = { λ c. IsTalkOf IsShelfRun c.m (λ w. w ≡ 0) ShelfMay };
+
     fn open(_alloc: A, _config: Config) -> Result<Self, Refusal> {
         Ok(Shelf { taken: 0, asked: 0 })
     }
 
-    ghost meant = { splitter_meant };
+    ghost meant = { kind_meant Splitter refl };
 
     ghost lawful = { λ c w u ts fresh. shelf_lawful w u ts };
 
     ghost tells = { λ c w u ts fresh. shelf_tells c.m w u ts };
+
+    ghost talks = { λ c ts serves talk. talk };
 
     ghost one_fresh = { λ c. one_shelf_fresh };
 

@@ -1,5 +1,6 @@
 -- bytes say one thing
 use Rattle.std.proofs.Common.{◌≡◌, ℕ, List, Some, Ok, sym, ap, ◌∙◌, subst}
+use Rattle.commands.specs.KindProofs.{named_apart}
 use Rattle.commands.specs.declared.kind.WorldKind.{WorldKind}
 use Rattle.serde_json.specs.Data.{Data}
 use Rattle.commands.specs.declared.command.Command.TheVariants as command
@@ -19,9 +20,6 @@ some_number a b e = cc
 
 some_version : (a b : Version) → Some a ≡ Some b → a ≡ b
 some_version a b e = cc
-
-some_world : (a b : WorldKind) → Some a ≡ Some b → a ≡ b
-some_world a b e = cc
 
 module _ (kind : WorldKind) (version : Version) where
   said_once : (d : Data) (l k : Line) → SaysLine kind version d l → SaysLine kind version d k → l ≡ k
@@ -46,7 +44,7 @@ header_once head g h x y =
     let b : SaysSizes x.value h.version h.config.world h.config.m h.config.k h.config.limit = subst (λ (v : Data). SaysSizes v h.version h.config.world h.config.m h.config.k h.config.limit) same y.says.sizes in
     record {
       version = some_version _ _ (sym a.format.version ∙ b.format.version);
-      world = some_world _ _ (sym a.world_is ∙ b.world_is);
+      world = named_apart _ _ (some_text _ _ (sym a.world_is ∙ b.world_is));
       m = some_number _ _ (sym a.m_is ∙ b.m_is);
       k = some_number _ _ (sym a.k_is ∙ b.k_is);
       limit = some_number _ _ (sym a.limit_is ∙ b.limit_is);

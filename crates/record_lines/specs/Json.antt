@@ -1,10 +1,9 @@
 -- what a line of a record has as JSON
-use Rattle.std.specs.Prelude.{◌≡◌, ℕ, zero, suc, ◌≤◌, ◌==◌, Bool, nat_le, ◌&&◌, not, if◌then◌else◌, List, Option, Some, None, option_map, option_and_then, codes}
-use Rattle.schedule_player.specs.Meaning.{same_bytes}
+use Rattle.std.specs.Prelude.{◌≡◌, ℕ, zero, suc, ◌≤◌, ◌==◌, Bool, true, nat_le, ◌&&◌, not, if◌then◌else◌, List, Option, Some, None, option_map, option_and_then, codes}
 use Rattle.serde_json.specs.Data.{Data, Members, no_members, member}
 use Rattle.serde_json.specs.Find.{get, as_str, as_number, as_u64, as_object}
+use Rattle.commands.specs.Config.{gives_names, world_name}
 use Rattle.commands.specs.declared.kind.WorldKind.{WorldKind}
-use Rattle.commands.specs.declared.kind.WorldKind.TheVariants.{Rename, Tree}
 use Rattle.record_lines.specs.declared.header.Header.{Header}
 use Rattle.record_lines.specs.declared.header.Version.{Version}
 use Rattle.record_lines.specs.declared.header.Version.TheVariants.{One, Two}
@@ -40,13 +39,6 @@ pub record AreTexts (d : Data) (command reply : List ℕ) (shown : Option (List 
   pub reply_is : text_at (codes "reply") d ≡ Some reply
   pub view_is : HasViewText d shown
 
--- the worlds of records
-abbrev pub world_in : List ℕ → Option WorldKind
-world_in name =
-    if same_bytes name (codes "rename") then Some Rename
-    else if same_bytes name (codes "tree") then Some Tree
-    else None
-
 -- the versions of records
 abbrev pub version_of : ℕ → Option Version
 version_of number = if number == 1 then Some One else if number == 2 then Some Two else None
@@ -62,10 +54,11 @@ pub record HasFormat (d : Data) (v : Version) : Type 0 where
   pub format : text_at (codes "format") d ≡ Some (codes "slot-record")
   pub version : option_and_then version_of (number_at (codes "version") d) ≡ Some v
 
--- it says this version, this world and these sizes
+-- it says this version, this world, in which names are given, and these sizes
 pub record SaysSizes (d : Data) (v : Version) (world : WorldKind) (m k limit : ℕ) : Type 0 where
   pub format : HasFormat d v
-  pub world_is : option_and_then world_in (text_at (codes "world") d) ≡ Some world
+  pub world_is : text_at (codes "world") d ≡ Some (world_name world)
+  pub named : gives_names world ≡ true
   pub m_is : number_at (codes "m") d ≡ Some m
   pub k_is : number_at (codes "k") d ≡ Some k
   pub limit_is : number_at (codes "limit") d ≡ Some limit

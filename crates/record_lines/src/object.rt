@@ -1,9 +1,11 @@
 //! The lines of a record as JSON values.
 
-ghost use Rattle.std.specs.Prelude.{◌≡◌, ℕ, List, MatchOption, Option, option_map};
+ghost use Rattle.std.specs.Prelude.{◌≡◌, ℕ, List, MatchOption, Option, option_map, true, false};
 ghost use Rattle.std.specs.Option.{option_copied};
 ghost use Rattle.serde_json.specs.View.{view};
-ghost use Rattle.record_lines.specs.Json.{keys_of, text_at, number_at, world_in, AreTexts, HasFormat, SaysSizes, SaysNoSizes, IsHeader};
+ghost use Rattle.commands.specs.Config.{gives_names, world_name};
+ghost use Rattle.commands.specs.declared.kind.WorldKind.{WorldKind};
+ghost use Rattle.record_lines.specs.Json.{keys_of, text_at, number_at, AreTexts, HasFormat, SaysSizes, SaysNoSizes, IsHeader};
 ghost use Rattle.record_lines.specs.declared.header.Header.{Header};
 ghost use Rattle.record_lines.specs.declared.header.Version.{Version};
 
@@ -69,17 +71,16 @@ pub fn texts(value: &Value) -> Option<LineTexts<'_>>
     }
 }
 
-/// The world of a name.
+/// The world of a name, where names are given in it.
 fn world(name: &str) -> Option<WorldKind>
-    ensures { result ≡ world_in name.now }
+    ensures { MatchOption result ((world : WorldKind) → world_name world ≡ name.now → gives_names world ≡ false)
+        (λ world. (world_name world ≡ name.now) × (gives_names world ≡ true)) }
 {
-    if is_word(name.as_bytes(), b"rename") {
-        Some(WorldKind::Rename)
-    } else if is_word(name.as_bytes(), b"tree") {
-        Some(WorldKind::Tree)
-    } else {
-        None
+    let world = WorldKind::named(name)?;
+    if !world.gives_names() {
+        return None;
     }
+    Some(world)
 }
 
 /// What a header says, in its range or not.

@@ -12,7 +12,7 @@ use Rattle.snapshot_places.specs.Tree.{new_tree}
 use Rattle.snapshot_places.specs.TreeTies.{tree_places}
 use Rattle.snapshot_places.proofs.GridLaw.{empty_grid}
 use Rattle.snapshot_places.proofs.TreeLaw.{is_new}
-use Rattle.commands.specs.Ranges.{most_in}
+use Rattle.commands.specs.Config.{most_in}
 use Rattle.commands.specs.declared.kind.WorldKind.{WorldKind}
 use Rattle.commands.specs.declared.kind.WorldKind.TheVariants.{Rename, Tree}
 

@@ -6,7 +6,7 @@ ghost use Rattle.rename_core.specs.EmptyPlaces.{AreEmptyFor, fixed_empty, grid_e
 ghost use Rattle.commands.specs.declared.kind.WorldKind.{WorldKind};
 ghost use Rattle.commands.specs.declared.kind.WorldKind.TheVariants as kind;
 ghost use Rattle.rename_core.specs.NamedPlaces.{PlacesAtOnce, GrowsAsTree};
-ghost use Rattle.commands.specs.Ranges.{most_in};
+ghost use Rattle.commands.specs.Config.{most_in};
 ghost use Rattle.snapshot_core.specs.FixedTies.{fresh_row};
 ghost use Rattle.snapshot_places.specs.Grid.{fresh_grid};
 ghost use Rattle.snapshot_places.specs.Tree.{new_tree};

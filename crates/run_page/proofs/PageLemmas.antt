@@ -5,8 +5,8 @@ use Rattle.std.proofs.lemmas.Grind.{flat_map-append}
 use Rattle.std.proofs.lemmas.Bool.Decides.{eqb_tells, leb_tells}
 use Rattle.commands.specs.declared.config.Config.{Config}
 use Rattle.commands.specs.declared.kind.WorldKind.{WorldKind}
-use Rattle.commands.specs.declared.kind.WorldKind.TheVariants.{Splitter, Grid, Rename, Tree}
-use Rattle.desk.specs.Desk.{fresh_desk, fresh_in, IsFreshDesk}
+use Rattle.desk.proofs.DeskLaws as desk
+use Rattle.desk.specs.Desk.{fresh_desk, IsFreshDesk}
 use Rattle.desk.specs.DeskValue.{DeskValue}
 use Rattle.desk.specs.DeskValue.DeskValue.{OverGrid, OverTree}
 use Rattle.record_lines.specs.declared.line.Line.{Line}
@@ -212,18 +212,8 @@ module _ (c : Config) (s : Stretch) where
 
 -- ---- the desk of a config
 
-fresh_by : (k : WorldKind) (c : Config) (d : DeskValue) → c.world ≡ k → IsFreshDesk c d → d ≡ fresh_in k c
-fresh_by Splitter c (OverGrid w) is h = let bad : Splitter ≡ Rename = sym is ∙ h.0 in cc
-fresh_by Splitter c (OverTree w) is h = let bad : Splitter ≡ Tree = sym is ∙ h.0 in cc
-fresh_by Grid c (OverGrid w) is h = let bad : Grid ≡ Rename = sym is ∙ h.0 in cc
-fresh_by Grid c (OverTree w) is h = let bad : Grid ≡ Tree = sym is ∙ h.0 in cc
-fresh_by Rename c (OverGrid w) is h = ap OverGrid h.1
-fresh_by Rename c (OverTree w) is h = let bad : Rename ≡ Tree = sym is ∙ h.0 in cc
-fresh_by Tree c (OverGrid w) is h = let bad : Tree ≡ Rename = sym is ∙ h.0 in cc
-fresh_by Tree c (OverTree w) is h = ap OverTree h.1
-
 pub fresh_is : (c : Config) (d : DeskValue) → IsFreshDesk c d → d ≡ fresh_desk c
-fresh_is c d h = fresh_by c.world c d refl h
+fresh_is c d h = ((desk.fresh_is c d).0 h).is
 
 -- ---- what is gathered
 

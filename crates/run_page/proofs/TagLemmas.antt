@@ -2,10 +2,11 @@
 use Rattle.std.proofs.Common.{◌≡◌, ℕ, zero, suc, ◌+◌, ◌/◌, ◌%◌, ◌==◌, inl, inr, if◌then◌else◌, Bool, true, false, ◌||◌, List, [], ◌∷◌, ◌++◌, take, drop, length, flat_map, get_or, is_some, Option, Some, None, Result, Ok, Err, codes, decimal, refl, ap, ◌∙◌, arith}
 use Rattle.std.specs.Fmt.{digits, digits_onto, digit_glyph}
 use Rattle.std.proofs.lemmas.List.Folds.{list_any-append}
-use Rattle.std.proofs.lemmas.Bool.Decides.{eqb_tells, leb_tells}
+use Rattle.std.proofs.lemmas.Bool.{and_parts}
+use Rattle.std.proofs.lemmas.Bool.Decides.{eqb_tells, leb_tells, nat_tests}
+use Rattle.std.specs.List.{list_all}
 use Rattle.commands.specs.declared.config.Config.{Config}
 use Rattle.commands.specs.declared.kind.WorldKind.{WorldKind}
-use Rattle.commands.specs.declared.kind.WorldKind.TheVariants as world
 use Rattle.desk.specs.declared.coming.Coming.{Coming}
 use Rattle.desk.specs.declared.coming.Coming.TheVariants.{Nothing, Read, Write}
 use Rattle.desk.specs.declared.coming.Register.{Register}
@@ -19,6 +20,7 @@ use Rattle.desk.specs.DeskValue.{DeskValue}
 use Rattle.step_memory.specs.Refusal.{refusal_number}
 use Rattle.schedule_player.specs.Events.{event_words}
 use Rattle.commands.specs.Config.{world_name}
+use Rattle.commands.specs.KindProofs.{facts_of, is_letter}
 use Rattle.schedule_player.specs.Records.{header_line}
 use Rattle.schedule_player.specs.Replies.{owner_words, pair_word, pair_words, reply_words}
 use Rattle.record_lines.specs.declared.line.Line.{Line}
@@ -313,11 +315,15 @@ joined_clean (x ∷ xs) h = both x (joined xs) h.0 (joined_clean xs h.1)
 
 -- ---- the data
 
+letter_clean : (byte : ℕ) → is_letter byte ≡ true → (byte == 60) ≡ false
+letter_clean byte letter = grind (arith, nat_tests)
+
+letters_clean : (bytes : List ℕ) → list_all is_letter bytes ≡ true → Clean bytes
+letters_clean [] all = refl
+letters_clean (byte ∷ more) all = let parts = and_parts (is_letter byte) (list_all is_letter more) all in rw (letter_clean byte parts.0) (letters_clean more parts.1)
+
 worlds : (k : WorldKind) → Clean (world_name k)
-worlds world.Splitter = refl
-worlds world.Grid = refl
-worlds world.Rename = refl
-worlds world.Tree = refl
+worlds k = letters_clean (world_name k) (facts_of k).letters
 
 header : (c : Config) → Clean (header_line c)
 header c =

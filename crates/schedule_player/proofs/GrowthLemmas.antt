@@ -7,7 +7,7 @@ use Rattle.step_memory.specs.World.{begin_refusal}
 use Rattle.step_memory.specs.WorldState.{WorldState}
 use Rattle.commands.specs.declared.config.Config.{Config}
 use Rattle.commands.specs.declared.kind.WorldKind.{WorldKind}
-use Rattle.commands.specs.declared.kind.WorldKind.TheVariants.{Splitter, Grid, Rename, Tree}
+use Rattle.commands.specs.declared.kind.WorldKind.TheVariants.{Rename, Tree}
 use Rattle.rename_core.specs.declared.round.Round.{Round}
 use Rattle.rename_core.specs.declared.round.Stage.{Stage}
 use Rattle.rename_core.specs.declared.round.Stage.TheVariants.{Placing, Proposing, Looking, Settled as IsSettled, Over}
@@ -32,8 +32,9 @@ use Rattle.desk.specs.DeskValue.{DeskValue}
 use Rattle.desk.specs.DeskValue.DeskValue.{OverGrid, OverTree}
 use Rattle.desk.specs.Rules.{may_by}
 use Rattle.desk.proofs.DeskLaws as desk
-use Rattle.schedule_player.specs.DeskWorld.{DeskWorldMay}
+use Rattle.schedule_player.specs.DeskWorld.{DeskWorldMay, IsDeskTalk}
 use Rattle.schedule_player.proofs.TalkLemmas.{desk_talk}
+use Rattle.schedule_player.specs.IsTalkProofs.{is_desk_talk}
 use Rattle.schedule_player.specs.Granted.{is_of_memory, is_lack, granted}
 use Rattle.schedule_player.specs.IsTalk.{IsTalkByKind}
 use Rattle.schedule_player.specs.Runs.{Runs, NoneRefusedGrowth}
@@ -160,16 +161,12 @@ none_refused c w u calls (Ended ∷ ts) is after run = none_refused c w u calls 
 none_refused c w u calls (Misread bad ∷ ts) is after run = none_refused c w u calls ts is after run
 
 -- whoever could run so runs so too where the turns that were refused memory are left out
-granted_talk : (c : Config) (k : WorldKind) → gives_names k ≡ true → (ts : List Turn) → IsTalkByKind k c ts → IsTalkByKind k c (granted ts)
-granted_talk c Splitter named ts t = absurd cc
-granted_talk c Grid named ts t = absurd cc
-granted_talk c Rename named ts t =
-    desk_talk c Rename named t.could.start t.could.last (granted ts) t.could.is_fresh (runs_granted c t.could.start t.could.last [] ts (desk.fresh c t.could.start t.could.is_fresh) t.could.run)
-granted_talk c Tree named ts t =
-    desk_talk c Tree named t.could.start t.could.last (granted ts) t.could.is_fresh (runs_granted c t.could.start t.could.last [] ts (desk.fresh c t.could.start t.could.is_fresh) t.could.run)
+granted_talk : (c : Config) (k : WorldKind) → gives_names k ≡ true → (ts : List Turn) → IsDeskTalk c ts → IsTalkByKind k c (granted ts)
+granted_talk c k named ts t =
+    desk_talk c k named t.could.start t.could.last (granted ts) t.could.is_fresh (runs_granted c t.could.start t.could.last [] ts (desk.fresh c t.could.start t.could.is_fresh) t.could.run)
 
 pub left_out : (c : Config) → gives_names c.world ≡ true → (ts : List Turn) → IsTalkByKind c.world c ts → IsTalkByKind c.world c (granted ts)
-left_out c named ts t = granted_talk c c.world named ts t
+left_out c named ts t = granted_talk c c.world named ts (is_desk_talk c c.world named ts t)
 
 pub only_tree : (c : Config) → c.world ≡ Rename → (ts : List Turn) → IsTalkByKind c.world c ts → NoneRefusedGrowth ts
 only_tree c is ts t =

@@ -3,12 +3,12 @@ use Rattle.std.proofs.Common.{◌≡◌, ℕ, true, List}
 use Rattle.commands.specs.declared.exchange.Exchange.{Exchange}
 use Rattle.commands.specs.declared.reply.Reply.{Reply}
 use Rattle.commands.specs.Config.{gives_names}
+use Rattle.commands.specs.KindProofs.{where_named}
 use Rattle.desk.specs.Desk.{IsFreshDesk}
 use Rattle.desk.specs.DeskRun.{IsDeskRunOf}
 use Rattle.desk.specs.DeskValue.{DeskValue}
 use Rattle.commands.specs.declared.config.Config.{Config}
 use Rattle.commands.specs.declared.kind.WorldKind.{WorldKind}
-use Rattle.commands.specs.declared.kind.WorldKind.TheVariants.{Splitter, Grid, Rename, Tree}
 use Rattle.schedule_player.specs.DeskWorld.{DeskWorldMay}
 use Rattle.schedule_player.specs.DeskWorldProofs.{desk_lawful, desk_tells}
 use Rattle.schedule_player.specs.IsTalk.{IsTalkByKind}
@@ -28,7 +28,6 @@ talk_of_run IsRun most fresh may lawful tells w u ts is_fresh run = record {
 
 -- and so it is of a desk, in the worlds with names
 pub desk_talk : (c : Config) (k : WorldKind) → gives_names k ≡ true → (w u : DeskValue) (ts : List Turn) → IsFreshDesk c w → Runs DeskWorldMay w ts u → IsTalkByKind k c ts
-desk_talk c Splitter named w u ts is_fresh run = absurd cc
-desk_talk c Grid named w u ts is_fresh run = absurd cc
-desk_talk c Rename named w u ts is_fresh run = talk_of_run (IsDeskRunOf c) c.m (IsFreshDesk c) DeskWorldMay (desk_lawful c) (desk_tells c) w u ts is_fresh run
-desk_talk c Tree named w u ts is_fresh run = talk_of_run (IsDeskRunOf c) c.m (IsFreshDesk c) DeskWorldMay (desk_lawful c) (desk_tells c) w u ts is_fresh run
+desk_talk c k named w u ts is_fresh run =
+    let talk = talk_of_run (IsDeskRunOf c) c.m (IsFreshDesk c) DeskWorldMay (desk_lawful c) (desk_tells c) w u ts is_fresh run in
+    where_named (λ (x : WorldKind). IsTalkByKind x c ts) k named talk talk

@@ -22,6 +22,7 @@ pub mod PlayerState
 pub mod Granted
 pub mod Runs
 pub mod OneTalk
+pub mod OneTalkProofs
 pub mod Talks
 pub mod Visits
 pub mod SplitterWorld
@@ -30,11 +31,8 @@ pub mod RunProofs
 pub mod VisitProofs
 pub mod DeskWorld
 pub mod DeskWorldProofs
-pub mod Kinds
 pub mod WorldRuns
-pub mod SplitterWorldProofs
-pub mod GridWorldProofs
-pub mod PlayedByKind
+pub mod IsTalkProofs
 pub mod Says
 pub mod Shared
 pub mod SharedProofs

@@ -13,7 +13,8 @@ use Rattle.commands.specs.declared.reply.Reply.{Reply}
 use Rattle.commands.specs.declared.reply.Reply.TheVariants as reply
 use Rattle.desk.specs.Names.{IsOwnerReply}
 use Rattle.commands.specs.Replies.{done_reply}
-use Rattle.commands.specs.Config.{gives_names}
+use Rattle.commands.specs.Config.{gives_names, is_kind}
+use Rattle.commands.specs.KindProofs.{one_kind}
 use Rattle.commands.specs.declared.bad.Bad.{Bad}
 use Rattle.commands.specs.declared.bad.Bad.TheVariants.{TooLong, NotPrintable, UnknownWord}
 use Rattle.commands.specs.declared.command.Command.{Command}
@@ -75,6 +76,10 @@ visit_known (OwnerOf n) visit = absurd visit
 -- what lines of such a kind mean is known
 pub visits_meant : (kind : WorldKind) → gives_names kind ≡ false → Knows knows_visits kind
 visits_meant kind none line q is = visit_known q (subst IsVisit is (visit_of_line kind none line))
+
+-- and so where one such kind is served
+pub kind_meant : (own : WorldKind) → gives_names own ≡ false → (kind : WorldKind) → is_kind kind own ≡ true → Knows knows_visits kind
+kind_meant own none kind is = visits_meant kind (ap gives_names (one_kind kind own is) ∙ none)
 
 -- a name that is asked for where none are given is answered so
 pub no_name : {T : Type 0} (w : T) (n : ℕ) → knows_visits (OwnerOf n) ≡ true → NoName w n (reply.Refused refusal.OutOfRange) w

@@ -1,10 +1,13 @@
 //! A grid's world answers events.
 
-ghost use Rattle.schedule_player.specs.Kinds.{is_grid, grid_meant};
+ghost use Rattle.std.proofs.Common.{refl};
+ghost use Rattle.commands.specs.Config.{is_kind};
+ghost use Rattle.commands.specs.declared.kind.WorldKind.TheVariants.{Grid};
+ghost use Rattle.schedule_player.specs.IsTalk.{IsTalk};
+ghost use Rattle.schedule_player.specs.IsTalkProofs.{talks_as};
 ghost use Rattle.schedule_player.specs.Visits.{visit_may, knows_visits};
-ghost use Rattle.schedule_player.specs.VisitProofs.{visit_answers, one_visit, visits_tell};
-ghost use Rattle.schedule_player.specs.GridWorld.{grid_rules, IsGridRun, grid_fresh};
-ghost use Rattle.schedule_player.specs.GridWorldProofs.{grid_lawful, one_grid_fresh};
+ghost use Rattle.schedule_player.specs.VisitProofs.{kind_meant, visit_answers, one_visit, visits_tell};
+ghost use Rattle.schedule_player.specs.GridWorld.{grid_rules, IsGridRun, grid_fresh, grid_lawful, one_grid_fresh};
 
 use crate::outcomes::walk_reply;
 use crate::service::Service;
@@ -35,27 +38,33 @@ impl<A: Allocator + Clone, R> Service<R> for GridWorld<A> {
         }
     }
 
+    #[tactic(auto, using(crate::specs::VisitProofs::no_name))]
     fn owner(&mut self, _rt: &R, _n: u64) -> Reply {
         Reply::Refused(Refusal::OutOfRange)
     }
 }
 
 impl<A: Allocator + Clone, R> World<A, R> for GridWorld<A> {
-    ghost serves = { is_grid };
+    ghost serves = { λ kind. is_kind kind Grid };
 
     ghost fresh = { grid_fresh };
 
     ghost IsRunIn = { λ c. IsGridRun };
 
+    ghost TalkIn = { IsTalk };
+
+    #[tactic(auto, using(commands::specs::KindProofs::one_kind))]
     fn open(alloc: A, config: Config) -> Result<Self, Refusal> {
         GridWorld::new(alloc, config.m as usize)
     }
 
-    ghost meant = { grid_meant };
+    ghost meant = { kind_meant Grid refl };
 
     ghost lawful = { grid_lawful };
 
     ghost tells = { λ c w u ts fresh. visits_tell grid_rules c.m w u ts };
+
+    ghost talks = { talks_as Grid };
 
     ghost one_fresh = { one_grid_fresh };
 

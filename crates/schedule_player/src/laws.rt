@@ -18,10 +18,6 @@ use crate::form::Form;
 use crate::service::Service;
 use crate::world::World;
 use commands::WorldKind;
-use desk::Desk;
-use splitter::SplitterWorld;
-use splitter_grid::GridWorld;
-use std::alloc::Allocator;
 
 /// Runs of one world are determined by their events where no growth is refused.
 pub fn law_of_world<D: World<A, H>, A, H>()
@@ -29,13 +25,9 @@ pub fn law_of_world<D: World<A, H>, A, H>()
 {}
 
 /// So what is said to the lines of an input is a function of them, where no growth is refused.
-pub fn law_of_play<A: Allocator + Clone>()
+pub fn law_of_play()
     ensures { (config : Config) → IsOneTalk (IsTalk config) }
-{
-    law_of_world::<SplitterWorld<A>, A, ()>();
-    law_of_world::<GridWorld<A>, A, ()>();
-    law_of_world::<Desk<A>, A, ()>();
-}
+{}
 
 /// A law, which runs nothing, of the worlds with names: without the turns that were refused memory a talk is one too, so these
 /// are the one difference that such refusals make; and they come only over a tree.

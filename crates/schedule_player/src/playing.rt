@@ -4,6 +4,7 @@ ghost use Rattle.std.specs.Prelude.{◌≡◌, ◌≢◌, true, Err, ◌^◌, �
 ghost use Rattle.commands.specs.Config.{gives_names};
 ghost use Rattle.schedule_player.specs.DeskWorld.{IsDeskTalk};
 ghost use Rattle.schedule_player.specs.GridWorld.{IsGridTalk};
+ghost use Rattle.schedule_player.specs.IsTalk.{IsTalk};
 ghost use Rattle.schedule_player.specs.Knows.{Knows};
 ghost use Rattle.schedule_player.specs.Played.{IsPlayed, IsPlayedIn, reading, writing};
 ghost use Rattle.schedule_player.specs.Runs.{IsRunTo, CanRun};
@@ -33,7 +34,8 @@ pub const READ_BYTES: usize = 65_536;
 /// The most reads of one run.
 pub const MOST_READS: u64 = 1_099_511_627_776;
 
-/// Plays the commands that a reader gives, line by line, and writes the replies, one a line.
+/// Plays the commands that a reader gives, line by line, and writes the replies, one a line: a talk of the config's world,
+/// which the world's own clause spells out.
 ///
 /// The run ends at the end of the input or at `quit`, and then the text of all answers is written. The replies to what one
 /// read gave are written before the next read. All memory is taken before the first read, but for what a world takes to
@@ -50,6 +52,8 @@ pub fn play<A: Allocator + Clone, R: Source, W: Sink>(
 ) -> Result<Summary, Fault>
     requires reads { R.calls reader.old < 2 ^ 64 }
     requires writes { W.calls writer.old < 2 ^ 64 }
+    ensures talk { IsPlayedIn (IsTalk config) config.world
+        (reading R.remaining R.calls R.failed) (writing W.contents W.failed) reader.old reader.new writer.old writer.new result }
     ensures splitter { config.world ≡ WorldKind.Splitter → IsPlayedIn (IsSplitterTalk config) config.world
         (reading R.remaining R.calls R.failed) (writing W.contents W.failed) reader.old reader.new writer.old writer.new result }
     ensures grid { config.world ≡ WorldKind.Grid → IsPlayedIn (IsGridTalk config) config.world
@@ -104,7 +108,9 @@ pub fn play_in<D: World<A, H>, H, A: Allocator + Clone, R: Source, W: Sink>(
     requires fresh { D.fresh config world.old }
     requires reads { R.calls reader.old < 2 ^ 64 }
     requires writes { W.calls writer.old < 2 ^ 64 }
-    ensures { IsPlayed replies_of (IsTalkOf (D.IsRunIn config) config.m (D.fresh config) D.may)
+    ensures talk { IsPlayedIn (D.TalkIn config) config.world
+        (reading R.remaining R.calls R.failed) (writing W.contents W.failed) reader.old reader.new writer.old writer.new result }
+    ensures rules { IsPlayed replies_of (IsTalkOf (D.IsRunIn config) config.m (D.fresh config) D.may)
         (IsTalkOf (D.IsRunIn config) config.m (D.fresh config) D.may) config.world
         (reading R.remaining R.calls R.failed) (writing W.contents W.failed) reader.old reader.new writer.old writer.new result }
 {

@@ -4,7 +4,6 @@ ghost use Rattle.std.specs.Prelude.{◌≡◌, ◌+◌, ◌≤◌, ◌<◌, ℕ,
 ghost use Rattle.schedule_player.specs.Digits.{DigitsSoFar, AreDigitsOf, number_of_eight};
 ghost use Rattle.schedule_player.specs.Quick.{IsCommandBefore, IsDeskCommandBefore, IsNumberBefore, word_of_four};
 
-use crate::parse::gives_names;
 use commands::{Command, Event, WorldKind};
 
 /// What stands between words.
@@ -58,7 +57,7 @@ pub fn quick_command(bytes: &[u8], world: WorldKind, end: u8) -> Option<(Command
         let (id, count) = quick_number(number, end)?;
         return Some((Command::Event(Event::Begin(id)), count + 6));
     }
-    if gives_names(world) {
+    if world.gives_names() {
         return quick_desk_command(bytes, word, end);
     }
     None

@@ -1,10 +1,13 @@
 //! A splitter's world answers events.
 
-ghost use Rattle.schedule_player.specs.Kinds.{is_splitter, splitter_meant};
+ghost use Rattle.std.proofs.Common.{refl};
+ghost use Rattle.commands.specs.Config.{is_kind};
+ghost use Rattle.commands.specs.declared.kind.WorldKind.TheVariants.{Splitter};
+ghost use Rattle.schedule_player.specs.IsTalk.{IsTalk};
+ghost use Rattle.schedule_player.specs.IsTalkProofs.{talks_as};
 ghost use Rattle.schedule_player.specs.Visits.{visit_may, knows_visits};
-ghost use Rattle.schedule_player.specs.VisitProofs.{visit_answers, one_visit, visits_tell};
-ghost use Rattle.schedule_player.specs.SplitterWorld.{splitter_rules, IsSplitterRun, splitter_fresh};
-ghost use Rattle.schedule_player.specs.SplitterWorldProofs.{splitter_lawful, one_splitter_fresh};
+ghost use Rattle.schedule_player.specs.VisitProofs.{kind_meant, visit_answers, one_visit, visits_tell};
+ghost use Rattle.schedule_player.specs.SplitterWorld.{splitter_rules, IsSplitterRun, splitter_fresh, splitter_lawful, one_splitter_fresh};
 
 use crate::outcomes::visit_reply;
 use crate::service::Service;
@@ -35,27 +38,33 @@ impl<A: Allocator + Clone, R> Service<R> for SplitterWorld<A> {
         }
     }
 
+    #[tactic(auto, using(crate::specs::VisitProofs::no_name))]
     fn owner(&mut self, _rt: &R, _n: u64) -> Reply {
         Reply::Refused(Refusal::OutOfRange)
     }
 }
 
 impl<A: Allocator + Clone, R> World<A, R> for SplitterWorld<A> {
-    ghost serves = { is_splitter };
+    ghost serves = { λ kind. is_kind kind Splitter };
 
     ghost fresh = { splitter_fresh };
 
     ghost IsRunIn = { λ c. IsSplitterRun };
 
+    ghost TalkIn = { IsTalk };
+
+    #[tactic(auto, using(commands::specs::KindProofs::one_kind))]
     fn open(alloc: A, config: Config) -> Result<Self, Refusal> {
         SplitterWorld::new(alloc, config.m as usize)
     }
 
-    ghost meant = { splitter_meant };
+    ghost meant = { kind_meant Splitter refl };
 
     ghost lawful = { splitter_lawful };
 
     ghost tells = { λ c w u ts fresh. visits_tell splitter_rules c.m w u ts };
+
+    ghost talks = { talks_as Splitter };
 
     ghost one_fresh = { one_splitter_fresh };
 

@@ -12,7 +12,7 @@ use Rattle.step_memory.specs.declared.refusal.Refusal.{Refusal}
 use Rattle.commands.specs.declared.config.Config.{Config}
 use Rattle.commands.specs.declared.kind.WorldKind.{WorldKind}
 use Rattle.slot_words.specs.Asked.{HasNumber, HasWorld, IsConfigOf, IsDrawingOf, IsPlayingOf, IsServingOf, IsShowingOf, asks_flag}
-use Rattle.slot_words.proofs.WorldNames.{named_apart}
+use Rattle.commands.specs.KindProofs.{named_apart}
 use Rattle.slot_words.specs.Ranges.{CanBeWritten, IsDrawingRange, IsServingRange, IsShowingRange}
 use Rattle.slot_words.specs.declared.asked.Drawing.{Drawing}
 use Rattle.slot_words.specs.declared.asked.Playing.{Playing}

@@ -1,4 +1,3 @@
-mod WorldNames
 mod ConfigLemmas
 mod AskLemmas
 mod HostLemmas

@@ -3,7 +3,7 @@
 ghost use Rattle.std.specs.Prelude.{◌≡◌, IfSome, IsSome, ◌↔◌};
 ghost use Rattle.slot_words.specs.Ranges.{IsDrawingRange, IsHostingRange, IsServingRange, IsShowingRange, IsPatience, CanBeWritten};
 
-use commands::{Config, WorldKind};
+use commands::Config;
 use std::net::IpAddr;
 
 /// What the words of a command line ask for.
@@ -41,15 +41,10 @@ impl Playing {
         ensures values { IfSome result (λ p. (p.config ≡ config) × (p.recorded ≡ recorded)) }
         ensures written { IsSome result ↔ CanBeWritten recorded config.world }
     {
-        match config.world {
-            WorldKind::Rename | WorldKind::Tree => Some(Playing { config, recorded }),
-            WorldKind::Splitter | WorldKind::Grid => {
-                if recorded {
-                    return None;
-                }
-                Some(Playing { config, recorded })
-            }
+        if recorded && !config.world.gives_names() {
+            return None;
         }
+        Some(Playing { config, recorded })
     }
 }
 
@@ -110,18 +105,17 @@ impl Drawing {
         if ids < 1 || 64 < ids || 1_000_000 < steps || 1_000 < runs || 64 < jobs {
             return None;
         }
-        match config.world {
-            WorldKind::Splitter => None,
-            WorldKind::Grid => None,
-            WorldKind::Rename | WorldKind::Tree => Some(Drawing {
-                seed,
-                ids,
-                steps,
-                runs,
-                jobs,
-                config,
-            }),
+        if !config.world.gives_names() {
+            return None;
         }
+        Some(Drawing {
+            seed,
+            ids,
+            steps,
+            runs,
+            jobs,
+            config,
+        })
     }
 }
 
@@ -148,16 +142,15 @@ impl Serving {
         if 65_535 < port || workers < 1 || 16 < workers || count < 1 || 1_000_000 < count {
             return None;
         }
-        match config.world {
-            WorldKind::Splitter => None,
-            WorldKind::Grid => None,
-            WorldKind::Rename | WorldKind::Tree => Some(Serving {
-                config,
-                port,
-                workers,
-                count,
-            }),
+        if !config.world.gives_names() {
+            return None;
         }
+        Some(Serving {
+            config,
+            port,
+            workers,
+            count,
+        })
     }
 }
 
@@ -248,18 +241,17 @@ impl<'a> Hosting<'a> {
         if 65_535 < port || clients < 1 || 1_000_000 < clients || 31_536_000 < idle {
             return None;
         }
-        match config.world {
-            WorldKind::Splitter => None,
-            WorldKind::Grid => None,
-            WorldKind::Rename | WorldKind::Tree => Some(Hosting {
-                config,
-                address,
-                port,
-                clients,
-                idle,
-                keeping,
-                verbose,
-            }),
+        if !config.world.gives_names() {
+            return None;
         }
+        Some(Hosting {
+            config,
+            address,
+            port,
+            clients,
+            idle,
+            keeping,
+            verbose,
+        })
     }
 }

@@ -7,11 +7,10 @@ ghost use Rattle.slot_words.specs.CommandLine.{address_option, check_app, config
 
 use clap::builder::ValueParser;
 use clap::{Arg, ArgAction, Command};
+use commands::ANY_WORLD;
 use std::alloc::{AllocError, Global};
 
-// What `play` may be told of its world, and what those are told that give names.
-const ANY_WORLD: &str = "what is played: splitter, grid, rename or tree";
-
+// What those are told of the world that give names.
 const WORLD_OF_NAMES: &str = "where names are given: rename or tree";
 
 // The text of `--version` behind the name.

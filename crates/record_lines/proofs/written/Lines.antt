@@ -1,16 +1,17 @@
 -- a record, as it is written, is a header and a line for each exchange, which says it
 use Rattle.std.proofs.Common.{◌≡◌, ℕ, ◌+◌, ◌^◌, ◌<◌, ◌≤◌, true, List, [], ◌∷◌, ◌++◌, length, map, flat_map, Option, Some, None, option_and_then, codes, decimal, IsUtf8, refl, ap, ◌∙◌, arith, append_assoc, length-append}
 use Rattle.std.specs.List.{list_all}
+use Rattle.std.proofs.lemmas.Bool.Decides.{nat_tests}
 use Rattle.std.proofs.lemmas.Str.{IsUtf8-append}
 use Rattle.json.proofs.Printed.Utf8.{are_ascii, IsUtf8-are_ascii}
 use Rattle.commands.specs.declared.config.Config.{Config}
 use Rattle.rename_core.proofs.MostIn.{few_take_part}
 use Rattle.commands.specs.declared.kind.WorldKind.{WorldKind}
-use Rattle.commands.specs.declared.kind.WorldKind.TheVariants.{Splitter, Grid, Rename, Tree}
 use Rattle.commands.specs.declared.exchange.Exchange.{Exchange}
 use Rattle.commands.specs.declared.reply.Reply.{Reply}
 use Rattle.commands.specs.declared.reply.Reply.TheVariants as reply
 use Rattle.commands.specs.Config.{gives_names, world_name}
+use Rattle.commands.specs.KindProofs.{facts_of, name_has}
 use Rattle.schedule_player.specs.Events.{event_words}
 use Rattle.schedule_player.specs.Lines.{has_no_lf, with_ends}
 use Rattle.schedule_player.specs.Records.{header_line, name_view, exchange_line, turn_record, record_of}
@@ -125,22 +126,10 @@ rows_no_lf (x ∷ xs) h =
 
 -- the header says the config
 sizes_said : (kind : WorldKind) (m k limit : ℕ) → gives_names kind ≡ true → SaysSizes (header_data k limit m (world_name kind)) Two kind m k limit
-sizes_said Splitter m k limit h = absurd cc
-sizes_said Grid m k limit h = absurd cc
-sizes_said Rename m k limit h = record { format = record { keys = refl; format = refl; version = refl }; world_is = refl; m_is = refl; k_is = refl; limit_is = refl }
-sizes_said Tree m k limit h = record { format = record { keys = refl; format = refl; version = refl }; world_is = refl; m_is = refl; k_is = refl; limit_is = refl }
+sizes_said kind m k limit h = record { format = record { keys = refl; format = refl; version = refl }; world_is = refl; named = h; m_is = refl; k_is = refl; limit_is = refl }
 
 name_plain : (kind : WorldKind) → list_all is_plain (world_name kind) ≡ true
-name_plain Splitter = refl
-name_plain Grid = refl
-name_plain Rename = refl
-name_plain Tree = refl
-
-name_short : (kind : WorldKind) → length (world_name kind) ≤ 8
-name_short Splitter = omega arith
-name_short Grid = omega arith
-name_short Rename = omega arith
-name_short Tree = omega arith
+name_plain kind = name_has is_plain (λ byte letter. grind (arith, nat_tests)) kind
 
 module _ (k limit m : ℕ) (name : List ℕ) (hk : k < 2 ^ 64) (hl : limit < 2 ^ 64) (hm : m < 2 ^ 64) (hn : list_all is_plain name ≡ true) where
   abbrev to_k : List ℕ
@@ -202,7 +191,7 @@ module _ (c : Config) (named : gives_names c.world ≡ true) where
 
   head_says : IsHeaderLine (head_of c) (record { version = Two; config = c })
   head_says = record {
-    short = omega (arith, header_length c.k c.limit c.m (world_name c.world) k_fits limit_fits m_fits (name_plain c.world), name_short c.world);
+    short = omega (arith, header_length c.k c.limit c.m (world_name c.world) k_fits limit_fits m_fits (name_plain c.world), (facts_of c.world).short);
     value = header_data c.k c.limit c.m (world_name c.world);
     json = record {
       utf8 = header_utf8 c.k c.limit c.m (world_name c.world) k_fits limit_fits m_fits (name_plain c.world);

@@ -3,7 +3,6 @@ use Rattle.std.proofs.Common.{◌≡◌, ℕ, true, List, [], ◌∷◌, map, le
 use Rattle.std.specs.Io.KnownBytes.{Appends}
 use Rattle.commands.specs.declared.config.Config.{Config}
 use Rattle.commands.specs.declared.kind.WorldKind.{WorldKind}
-use Rattle.commands.specs.declared.kind.WorldKind.TheVariants.{Splitter, Grid, Rename, Tree}
 use Rattle.commands.specs.Config.{gives_names}
 use Rattle.desk.specs.Desk.{IsFreshDesk}
 use Rattle.desk.specs.DeskRun.{IsDeskRunOf}
@@ -11,7 +10,8 @@ use Rattle.desk.proofs.DeskLaws as desk
 use Rattle.schedule_player.specs.declared.summary.Summary.{Summary}
 use Rattle.schedule_player.specs.Asked.{asked_by}
 use Rattle.schedule_player.specs.DeskWorld.{DeskWorldMay}
-use Rattle.schedule_player.specs.IsTalk.{IsTalk, IsTalkByKind}
+use Rattle.schedule_player.specs.IsTalk.{IsTalk}
+use Rattle.schedule_player.specs.IsTalkProofs.{is_desk_talk}
 use Rattle.schedule_player.specs.Lines.{lines}
 use Rattle.schedule_player.specs.Played.{Reading, Writing, IsInput, PlayedToEnd}
 use Rattle.schedule_player.specs.Recorded.{IsRecorded}
@@ -54,17 +54,10 @@ record_said c r bytes b run few = record {
   };
 }
 
--- in a world with names a talk is one of a desk
-desk_talk : (kind : WorldKind) (c : Config) (ts : List Turn) → gives_names kind ≡ true → IsTalkByKind kind c ts → IsTalkOf (IsDeskRunOf c) c.m (IsFreshDesk c) DeskWorldMay ts
-desk_talk Splitter c ts named talk = absurd cc
-desk_talk Grid c ts named talk = absurd cc
-desk_talk Rename c ts named talk = talk
-desk_talk Tree c ts named talk = talk
-
 -- its record says its exchanges
 pub talk_record : (c : Config) (ls : List (List ℕ)) (ts : List Turn) → IsShortTalk c ls ts → IsRecordOf c (exchanges ts) (record_of c ts)
 talk_record c ls ts t =
-    let talk = desk_talk c.world c ts t.names t.talk in
+    let talk = is_desk_talk c c.world t.names ts t.talk in
     let start = desk.fresh c talk.could.start talk.could.is_fresh in
     let fit : AreWritable (exchanges ts) = turns_fit c talk.could.start talk.could.last [] ts start talk.could.run (asked_narrow c.world ls ts t.asked_is) in
     record_is c t.names ts (run_narrow (terms_of c) (few_take_part c) c.k c.in_range.3 (exchanges ts) (desk_run (terms_of c) _ c.k (exchanges ts) talk.run) fit)
@@ -72,7 +65,7 @@ talk_record c ls ts t =
 -- and is one of a run
 said_by : (c : Config) (ls : List (List ℕ)) (ts : List Turn) (bytes : List ℕ) → IsShortTalk c ls ts → IsRecordOf c (exchanges ts) bytes → IsSaidAfter (record_lines bytes) Yes
 said_by c ls ts bytes t b =
-    let talk = desk_talk c.world c ts t.names t.talk in
+    let talk = is_desk_talk c c.world t.names ts t.talk in
     record_said c (exchanges ts) bytes b (desk_run (terms_of c) _ c.k (exchanges ts) talk.run) t.few
 
 pub talk_said : (c : Config) (ls : List (List ℕ)) (ts : List Turn) → IsShortTalk c ls ts → IsSaid (record_lines (record_of c ts)) Yes

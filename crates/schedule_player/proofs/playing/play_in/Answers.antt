@@ -1,8 +1,9 @@
-use Rattle.std.proofs.Common.{[], refl}
+use Rattle.std.proofs.Common.{List, [], refl}
 use Rattle.schedule_player.specs.Played.{reading, writing}
 use Rattle.schedule_player.specs.Runs.{IsRunTo, CanRun}
 use Rattle.schedule_player.specs.Talks.{IsTalkOf}
 use Rattle.schedule_player.specs.Texts.{replies_of}
+use Rattle.schedule_player.specs.Turns.{Turn}
 use Rattle.schedule_player.proofs.PlayedLemmas.{played_after}
 use Rattle.schedule_player.proofs.StandsLemmas.{appends_none}
 use Rattle.schedule_player.proofs.TalkLemmas.{talk_of_run}
@@ -11,8 +12,8 @@ use Rattle.schedule_player.proofs.playing.play_in.Goals as goal
 pub play_on-requires-clause-knows : goal.play_on-requires-clause-knows
 play_on-requires-clause-knows g c = g.met.D.World.meant c.args.config.world c.requires.serves
 
-pub returns : goal.returns
-returns g c =
+pub returns-clause-rules : goal.returns-clause-rules
+returns-clause-rules g c =
     let config = c.args.config in
     let may = g.D.Service.may in
     let world = c.args.world.now in
@@ -25,3 +26,12 @@ returns g c =
     (λ ts run. talk world run.0 ts fresh run.1)
     config.world (reading g.R.Read.remaining g.R.Source.calls g.R.Source.failed) (writing g.W.Write.contents g.W.Sink.failed) c.args.reader.now c.play_on.new.reader c.args.writer.now c.args.writer.now c.play_on.new.writer
     (appends_none now) refl c.play_on.result (λ e. refl) c.play_on.ensures.played
+
+pub returns-clause-talk : goal.returns-clause-talk
+returns-clause-talk g c =
+    let config = c.args.config in
+    let IsTalk = IsTalkOf (g.D.World.IsRunIn config) config.m (g.D.World.fresh config) g.D.Service.may in
+    let talks = λ (ts : List Turn) (talk : IsTalk ts). g.met.D.World.talks config ts c.requires.serves talk in
+    played_after [] replies_of IsTalk IsTalk (g.D.World.TalkIn config) (g.D.World.TalkIn config) talks talks
+    config.world (reading g.R.Read.remaining g.R.Source.calls g.R.Source.failed) (writing g.W.Write.contents g.W.Sink.failed) c.args.reader.now c.play_on.new.reader c.args.writer.now c.args.writer.now c.play_on.new.writer
+    (appends_none (g.W.Write.contents c.args.writer.now)) refl c.play_on.result (λ e. refl) (returns-clause-rules g c)

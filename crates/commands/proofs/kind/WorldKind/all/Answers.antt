@@ -1,6 +1,5 @@
-use Rattle.std.proofs.Common.{arith, refl}
-use Rattle.commands.specs.declared.kind.WorldKind.TheVariants.{Splitter, Grid, Rename, Tree}
+use Rattle.commands.specs.KindProofs.{facts_of}
 use Rattle.commands.proofs.kind.WorldKind.all.Goals as goal
 
 pub returns : goal.returns
-returns c = elim [ Splitter ↦ (0, omega arith, refl) | Grid ↦ (1, omega arith, refl) | Rename ↦ (2, omega arith, refl) | Tree ↦ (3, omega arith, refl) ]
+returns c = λ kind. (facts_of kind).among
