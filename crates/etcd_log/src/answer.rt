@@ -126,7 +126,8 @@ fn read_from(
     found: &mut Vec<Vec<u8>>,
 ) -> Result<(), StoreFault>
     requires { index + most < 2 ^ 64 }
-    ensures said { OnOk result ((more : List (Vec ℕ Global)) × (found.new.items ≡ found.old.items ++ more) × SaysFrom most (value_view answer.now) index prefix.now place more) }
+    ensures said { OnOk result ((more : List (Vec ℕ Global)) × (found.new.items ≡ found.old.items ++ more) ×
+        SaysFrom most (value_view answer.now) index prefix.now place more) }
     ensures fault { IfErr result IsOverNetwork }
 {
     if most == 0 {
