@@ -20,10 +20,11 @@ says_more (suc most) answer index prefix place e es some said rest =
     (said, subst (λ (k : ℕ). SaysFrom k answer (index + 1) prefix (place + 1) es) same rest)
 
 -- where the rest was read behind it
-pub read_more : {X : Type 0} (r : Result X StoreFault) (most : ℕ) (answer : Json) (index : ℕ) (prefix : List ℕ) (place : ℕ) (e : Vec ℕ Global) (old pushed new : List (Vec ℕ Global)) → most ≢ 0 →
-    SaysFound answer index prefix place (Some e) → pushed ≡ old ++ e ∷ [] →
-    OnOk r ((more : List (Vec ℕ Global)) × (new ≡ pushed ++ more) × SaysFrom (most - 1) answer (index + 1) prefix (place + 1) more) →
+pub read_more : {X : Type 0} (r : Result X StoreFault) (most : ℕ) (answer : Json) (index : ℕ) (prefix : List ℕ) (place next : ℕ) (e : Vec ℕ Global) (old pushed new : List (Vec ℕ Global)) → most ≢ 0 →
+    next ≡ place + 1 → SaysFound answer index prefix place (Some e) → pushed ≡ old ++ e ∷ [] →
+    OnOk r ((more : List (Vec ℕ Global)) × (new ≡ pushed ++ more) × SaysFrom (most - 1) answer (index + 1) prefix next more) →
     OnOk r ((more : List (Vec ℕ Global)) × (new ≡ old ++ more) × SaysFrom most answer index prefix place more)
-read_more (Ok x) most answer index prefix place e old pushed new some said is rest =
-    (e ∷ rest.0, rest.1 ∙ (ap (λ front. front ++ rest.0) is ∙ append_assoc old (e ∷ []) rest.0), says_more most answer index prefix place e rest.0 some said rest.2)
-read_more (Err fault) most answer index prefix place e old pushed new some said is rest = tt
+read_more (Ok x) most answer index prefix place next e old pushed new some one said is rest =
+    let behind = subst (λ (k : ℕ). SaysFrom (most - 1) answer (index + 1) prefix k rest.0) one rest.2 in
+    (e ∷ rest.0, rest.1 ∙ (ap (λ front. front ++ rest.0) is ∙ append_assoc old (e ∷ []) rest.0), says_more most answer index prefix place e rest.0 some said behind)
+read_more (Err fault) most answer index prefix place next e old pushed new some one said is rest = tt

@@ -125,9 +125,9 @@ fn read_from(
     place: u64,
     found: &mut Vec<Vec<u8>>,
 ) -> Result<(), StoreFault>
-    requires few { index + most < 2 ^ 64 }
-    requires low { place + most < 2 ^ 64 }
-    ensures said { OnOk result ((more : List (Vec ℕ Global)) × (found.new.items ≡ found.old.items ++ more) × SaysFrom most (value_view answer.now) index prefix.now place more) }
+    requires { index + most < 2 ^ 64 }
+    ensures said { OnOk result ((more : List (Vec ℕ Global)) × (found.new.items ≡ found.old.items ++ more) ×
+        SaysFrom most (value_view answer.now) index prefix.now place more) }
     ensures fault { IfErr result IsOverNetwork }
 {
     if most == 0 {
@@ -141,10 +141,18 @@ fn read_from(
     if found.push(entry).is_err() {
         return Err(StoreFault::Memory);
     }
-    read_from(alloc, answer, index + 1, most - 1, prefix, place + 1, found)
+    if most == 1 {
+        return Ok(());
+    }
+    let Some(next) = place.checked_add(1) else {
+        // No log has so many places.
+        return Err(StoreFault::Wrong);
+    };
+    read_from(alloc, answer, index + 1, most - 1, prefix, next, found)
 }
 
-/// Reads the body of an answer to a request for what stands under a prefix at the places from one on, so many at most.
+/// Reads the body of an answer to a request for what stands under a prefix at the places from one on, so many at most. An answer is wrong
+/// where more than the last place is asked and something stands there.
 pub fn read_get(
     alloc: Global,
     body: &[u8],
@@ -152,7 +160,6 @@ pub fn read_get(
     prefix: &str,
     place: u64,
 ) -> Result<Vec<Vec<u8>>, StoreFault>
-    requires few { place + most < 2 ^ 64 }
     ensures said { IfOk result (λ found. SaysAll most body.now prefix.now place found.items) }
     ensures fault { IfErr result IsOverNetwork }
 {

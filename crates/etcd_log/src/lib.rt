@@ -1,8 +1,9 @@
 //! A store over etcd: places that are written once, by the JSON gateway that each member of etcd has.
 //!
 //! A place is a key, its prefix and 16 digits. To put is a transaction that puts a value where the key was never created; to get is a
-//! range of keys, of which those behind the first are kept for the next calls. `put_text` and `get_text` give the texts that say so, and `read_put` and `read_get` what the texts of the answers
-//! say (`specs/Requests`, `specs/Answers`): keys and values are in base64, and etcd leaves out what is false or empty.
+//! range of keys, of which those behind the first are kept for the next calls. `put_text` and `get_text` give the texts that say so, and
+//! `read_put` and `read_get` what the texts of the answers say (`specs/Requests`, `specs/Answers`): keys and values are in base64, and etcd
+//! leaves out what is false or empty.
 //!
 //! `EtcdStore` asks its members in turn, over any `Dial`; `TcpDial` is one over TCP, with a time limit for each read and write. After a
 //! fault it drops the connection and asks the next member the same, each twice at most: a put whose answer was lost is then found

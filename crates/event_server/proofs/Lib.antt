@@ -1,3 +1,5 @@
 mod WireLemmas
 mod SeatLemmas
 mod GatherLemmas
+mod LookLemmas
+mod ToldLemmas

@@ -2,7 +2,7 @@
 use Rattle.std.proofs.Common.{◌≡◌, ◌≤◌, ℕ, length, true, false, Bool, List, [], ◌∷◌, ◌++◌, ◌||◌, take, drop, Option, Some, None, refl, sym, ap, subst, ◌∙◌, arith, append_assoc}
 use Rattle.std.proofs.lemmas.Grind.{flat_map-append}
 use Rattle.std.proofs.lemmas.List.{append-nil, take-append-drop, take-append-le}
-use Rattle.std.specs.Io.KnownBytes.{Appends, Consumes, Keeps}
+use Rattle.std.specs.Io.KnownBytes.{Appends, Consumes, IsAtEnd, Keeps}
 use Rattle.commands.specs.declared.reply.Reply.{Reply}
 use Rattle.commands.specs.Requests.{Request}
 use Rattle.commands.specs.declared.kind.WorldKind.{WorldKind}
@@ -13,7 +13,9 @@ use Rattle.schedule_player.specs.Texts.{turn_reply, replies_of}
 use Rattle.schedule_player.specs.TalkerState.{TalkerState}
 use Rattle.schedule_player.specs.Turns.{Turn}
 use Rattle.event_server.specs.WireState.{WireState}
-use Rattle.event_server.specs.Wires.{Takes, TakesOf, after_taken}
+use Rattle.event_server.specs.Told.{bytes_of}
+use Rattle.event_server.specs.Wires.{Takes, TakesEnd, TakesFirst, TakesLooked, TakesOf, after_taken}
+use Rattle.event_server.specs.declared.look.Look.{Look}
 
 or_false : (b : Bool) → b ≡ (b || false)
 or_false true = refl
@@ -71,6 +73,10 @@ takes_refused came s s' is = record {
   kept = λ h. (let t : true ≡ false = sym (ap (λ (q : WireState). q.broken) is) ∙ h in absurd cc);
 }
 
+-- of the first bytes some
+pub cut_first : (n k : ℕ) (xs : List ℕ) → n ≤ length (take k xs) → take n (take k xs) ≡ take n xs
+cut_first n k xs le = sym (ap (λ l. take n l) (sym (take-append-drop k xs)) ∙ take-append-le n (take k xs) (drop k xs) le)
+
 module _ {T : Type 0} (may : T → Request → Reply → T → Type 0) where
   -- what its talker, once t and now t', took of all that waited then
   pub takes_said : (w u : T) (s s' : WireState) (t t' : TalkerState) (came all : List ℕ) (n : ℕ) (out out' : List ℕ) → t ≡ s.talker → t' ≡ s'.talker → all ≡ s.inbox ++ came → out ≡ [] →
@@ -93,6 +99,34 @@ module _ {T : Type 0} (may : T → Request → Reply → T → Type 0) where
           kept = λ h.
               let k = kept h in
               (inbox, k.0 ∙ ap (λ l. s.outbox ++ l) (said.1.text_is ∙ ap (λ l. l ++ replies_of said.0) none), k.1);
+        },
+      )
+
+  -- and of the first of that
+  pub takes_first : (w u : T) (s s' : WireState) (t t' : TalkerState) (count few n : ℕ) (out out' : List ℕ) → t ≡ s.talker → t' ≡ s'.talker → out ≡ [] →
+      Says may turn_reply w t out u t' out' (λ p. after_bytes t.kind p (take n s.inbox)) → n ≤ length (take few s.inbox) → take few s.inbox ≡ take count s.inbox →
+      t'.kind ≡ t.kind → s'.inbox ≡ drop n s.inbox → s'.ended ≡ s.ended → (s'.broken ≡ false → (s'.outbox ≡ s.outbox ++ out') × (s.broken ≡ false)) →
+      (turns : List Turn) × Runs may w turns u × TakesFirst turns count s s'
+  takes_first w u s s' t t' count few n out out' t_is t'_is none says le same kind inbox ended kept =
+      let said : Says may turn_reply w s.talker out u s'.talker out' (λ p. after_bytes s.talker.kind p (take n s.inbox)) =
+      subst (λ (x : TalkerState). Says may turn_reply w s.talker out u x out' (λ p. after_bytes s.talker.kind p (take n s.inbox))) t'_is
+      (subst (λ (x : TalkerState). Says may turn_reply w x out u t' out' (λ p. after_bytes x.kind p (take n s.inbox))) t_is says) in (
+        said.0,
+        said.1.run,
+        record {
+          takes = record {
+            taken = take n s.inbox;
+            rest = drop n s.inbox;
+            parts = append-nil s.inbox ∙ sym (take-append-drop n s.inbox);
+            goes_on = λ before p spoke. said.1.goes_on before p spoke tt;
+            kind_is = sym (ap (λ (x : TalkerState). x.kind) t'_is) ∙ kind ∙ ap (λ (x : TalkerState). x.kind) t_is;
+            ended_is = ended ∙ or_false s.ended;
+            kept = λ h.
+                let k = kept h in
+                (inbox, k.0 ∙ ap (λ l. s.outbox ++ l) (said.1.text_is ∙ ap (λ l. l ++ replies_of said.0) none), k.1);
+          };
+          rest = drop n (take few s.inbox);
+          within = ap (λ l. l ++ drop n (take few s.inbox)) (sym (cut_first n few s.inbox le)) ∙ take-append-drop n (take few s.inbox) ∙ same;
         },
       )
 
@@ -120,10 +154,6 @@ module _ {T : Type 0} (may : T → Request → Reply → T → Type 0) where
         },
       )
 
--- of the first bytes some
-pub cut_first : (n k : ℕ) (xs : List ℕ) → n ≤ length (take k xs) → take n (take k xs) ≡ take n xs
-cut_first n k xs le = sym (ap (λ l. take n l) (sym (take-append-drop k xs)) ∙ take-append-le n (take k xs) (drop k xs) le)
-
 -- bytes after bytes
 bytes_after : (kind : WorldKind) (p : Progress) (xs ys : List ℕ) → after_bytes kind (after_bytes kind p xs) ys ≡ after_bytes kind p (xs ++ ys)
 bytes_after kind p [] ys = refl
@@ -136,33 +166,128 @@ taken_after kind p xs ys false = bytes_after kind p xs ys
 replies_after : (ts us : List Turn) → replies_of (ts ++ us) ≡ replies_of ts ++ replies_of us
 replies_after ts us = flat_map-append turn_reply ts us
 
--- all that waited is taken, and then what comes next of the stream
-pub takes_both : (left left' : Option (List ℕ)) (s m s' : WireState) (ts us : List Turn) → Takes ts [] false s m → m.broken ≡ false → m.inbox ≡ [] →
-    TakesOf us left m left' s' → TakesOf (ts ++ us) left s left' s'
-takes_both left left' s m s' ts us a whole empty b =
+nothing_in : (xs ys zs : List ℕ) → xs ≡ [] → xs ++ [] ≡ ys ++ zs → ys ≡ []
+nothing_in xs [] zs none is = refl
+nothing_in xs (y ∷ ys) zs none is = (let e : [] ≡ y ∷ (ys ++ zs) = sym (append-nil xs ∙ none) ∙ is in absurd cc)
+
+-- the end comes, and nothing before it
+pub takes_the_end : (turns : List Turn) (left left' : Option (List ℕ)) (s s' : WireState) → Consumes left left' [] → IsAtEnd left' → s.inbox ≡ [] → Takes turns [] true s s' → TakesEnd turns left s left' s'
+takes_the_end turns left left' s s' gave end empty t = record {
+  takes = record { came = []; ends = true; few = omega arith; gave = gave; at_end = λ h. end; takes = t };
+  none = nothing_in s.inbox t.taken t.rest empty t.parts;
+}
+
+-- nothing comes
+pub takes_no_end : (left left' : Option (List ℕ)) (s s' : WireState) → Consumes left left' [] → s' ≡ s → TakesEnd [] left s left' s'
+takes_no_end left left' s s' gave is = subst (λ (x : WireState). TakesEnd [] left s left' x) (sym is) (record {
+  takes = record {
+    came = [];
+    ends = false;
+    few = omega arith;
+    gave = gave;
+    at_end = λ h. absurd cc;
+    takes = record {
+      taken = [];
+      rest = s.inbox;
+      parts = append-nil s.inbox;
+      goes_on = λ before p spoke. rw (append-nil before) spoke;
+      kind_is = refl;
+      ended_is = or_false s.ended;
+      kept = λ h. (refl, sym (append-nil s.outbox), h);
+    };
+  };
+  none = refl;
+})
+
+-- what comes is not taken, and it is at fault
+pub takes_fault : (left left' : Option (List ℕ)) (came : List ℕ) (s s' : WireState) → length came ≤ 65536 → Consumes left left' came → s' ≡ record s { broken = true } → TakesEnd [] left s left' s'
+takes_fault left left' came s s' few gave is = record {
+  takes = record {
+    came = came;
+    ends = false;
+    few = few;
+    gave = gave;
+    at_end = λ h. absurd cc;
+    takes = record {
+      taken = [];
+      rest = s.inbox ++ came;
+      parts = refl;
+      goes_on = λ before p spoke. rw (append-nil before) (subst (λ (t : TalkerState). Spoke before t p) (sym (ap (λ (q : WireState). q.talker) is)) spoke);
+      kind_is = ap (λ (q : WireState). q.talker.kind) is;
+      ended_is = ap (λ (q : WireState). q.ended) is ∙ or_false s.ended;
+      kept = λ h. (let t : true ≡ false = sym (ap (λ (q : WireState). q.broken) is) ∙ h in absurd cc);
+    };
+  };
+  none = refl;
+}
+
+-- of what was looked at nothing is taken
+pub looked_nothing : (look : Option Look) (left : Option (List ℕ)) (s : WireState) → TakesLooked [] look left s left s
+looked_nothing look left s = record {
+  takes = record {
+    came = [];
+    ends = false;
+    few = omega arith;
+    gave = consumes_none left;
+    at_end = λ h. absurd cc;
+    takes = record {
+      taken = [];
+      rest = s.inbox;
+      parts = append-nil s.inbox;
+      goes_on = λ before p spoke. rw (append-nil before) spoke;
+      kind_is = refl;
+      ended_is = or_false s.ended;
+      kept = λ h. (refl, sym (append-nil s.outbox), h);
+    };
+  };
+  rest = take (bytes_of look) s.inbox;
+  within = refl;
+  at_end = λ h. absurd cc;
+}
+
+-- its bytes are
+pub looked_first : (turns : List Turn) (look : Look) (left : Option (List ℕ)) (s s' : WireState) → TakesFirst turns look.bytes s s' → TakesLooked turns (Some look) left s left s'
+looked_first turns look left s s' first = record {
+  takes = record { came = []; ends = false; few = omega arith; gave = consumes_none left; at_end = λ h. absurd cc; takes = first.takes };
+  rest = first.rest;
+  within = first.within;
+  at_end = λ h. absurd cc;
+}
+
+-- and then the end, where it was looked at
+pub looked_end : (look : Look) (left left' : Option (List ℕ)) (s m s' : WireState) (ts us : List Turn) → look.ends ≡ true → TakesFirst ts look.bytes s m → m.broken ≡ false → m.inbox ≡ [] → TakesEnd us left m left' s' →
+    TakesLooked (ts ++ us) (Some look) left s left' s'
+looked_end look left left' s m s' ts us ends first whole empty end =
+    let a = first.takes in
     let k = a.kept whole in
-    let t = b.takes in
     let none : a.rest ≡ [] = sym k.0 ∙ empty in
     let all : s.inbox ≡ a.taken = sym (append-nil s.inbox) ∙ a.parts ∙ ap (λ l. a.taken ++ l) none ∙ append-nil a.taken in
-    let came : b.came ≡ t.taken ++ t.rest = ap (λ l. l ++ b.came) (sym empty) ∙ t.parts in
+    let t = end.takes.takes in
+    let came : end.takes.came ≡ t.rest = ap (λ l. l ++ end.takes.came) (sym empty) ∙ t.parts ∙ ap (λ l. l ++ t.rest) end.none in
     record {
-      came = b.came;
-      ends = b.ends;
-      few = b.few;
-      gave = b.gave;
-      at_end = b.at_end;
       takes = record {
-        taken = a.taken ++ t.taken;
-        rest = t.rest;
-        parts = ap (λ l. l ++ b.came) all ∙ ap (λ l. a.taken ++ l) came ∙ sym (append_assoc a.taken t.taken t.rest);
-        goes_on = λ before p spoke. subst (λ (x : List Turn). Spoke x s'.talker (after_taken s.talker.kind (a.taken ++ t.taken) b.ends p)) (append_assoc before ts us)
-            (subst (λ (x : Progress). Spoke ((before ++ ts) ++ us) s'.talker x) (taken_after s.talker.kind p a.taken t.taken b.ends)
-            (subst (λ (k : WorldKind). Spoke ((before ++ ts) ++ us) s'.talker (after_taken k t.taken b.ends (after_taken s.talker.kind a.taken false p))) a.kind_is
-            (t.goes_on (before ++ ts) (after_taken s.talker.kind a.taken false p) (a.goes_on before p spoke))));
-        kind_is = t.kind_is ∙ a.kind_is;
-        ended_is = t.ended_is ∙ ap (λ e. e || b.ends) (a.ended_is ∙ sym (or_false s.ended));
-        kept = λ h.
-            let l = t.kept h in
-            (l.0, l.1 ∙ ap (λ x. x ++ replies_of us) k.1 ∙ append_assoc s.outbox (replies_of ts) (replies_of us) ∙ ap (λ x. s.outbox ++ x) (sym (replies_after ts us)), k.2);
+        came = end.takes.came;
+        ends = end.takes.ends;
+        few = end.takes.few;
+        gave = end.takes.gave;
+        at_end = end.takes.at_end;
+        takes = record {
+          taken = a.taken;
+          rest = t.rest;
+          parts = ap (λ l. l ++ end.takes.came) all ∙ ap (λ l. a.taken ++ l) came;
+          goes_on = λ before p spoke. subst (λ (x : List Turn). Spoke x s'.talker (after_taken s.talker.kind a.taken end.takes.ends p)) (append_assoc before ts us)
+              (subst (λ (x : Progress). Spoke ((before ++ ts) ++ us) s'.talker x) (taken_after s.talker.kind p a.taken [] end.takes.ends ∙ ap (λ l. after_taken s.talker.kind l end.takes.ends p) (append-nil a.taken))
+              (subst (λ (k : WorldKind). Spoke ((before ++ ts) ++ us) s'.talker (after_taken k [] end.takes.ends (after_taken s.talker.kind a.taken false p))) a.kind_is
+              (subst (λ (l : List ℕ). Spoke ((before ++ ts) ++ us) s'.talker (after_taken m.talker.kind l end.takes.ends (after_taken s.talker.kind a.taken false p))) end.none
+              (t.goes_on (before ++ ts) (after_taken s.talker.kind a.taken false p) (a.goes_on before p spoke)))));
+          kind_is = t.kind_is ∙ a.kind_is;
+          ended_is = t.ended_is ∙ ap (λ e. e || end.takes.ends) (a.ended_is ∙ sym (or_false s.ended));
+          kept = λ h.
+              let l = t.kept h in
+              (l.0, l.1 ∙ ap (λ x. x ++ replies_of us) k.1 ∙ append_assoc s.outbox (replies_of ts) (replies_of us) ∙ ap (λ x. s.outbox ++ x) (sym (replies_after ts us)), k.2);
+        };
       };
+      rest = first.rest;
+      within = first.within;
+      at_end = λ h. (ends, sym all);
     }

@@ -3,3 +3,4 @@ pub mod Wires
 pub mod Rooms
 pub mod Seats
 pub mod Gathering
+pub mod Told

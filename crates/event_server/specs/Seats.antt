@@ -7,6 +7,7 @@ use Rattle.schedule_player.specs.Shared.{TurnLog, turns_of, all_turns}
 use Rattle.schedule_player.specs.Turns.{Turn}
 use Rattle.event_server.specs.WireState.{WireState}
 use Rattle.event_server.specs.Wires.{TakesOf, SendsTo}
+use Rattle.event_server.specs.declared.connection.Connection.{Connection}
 
 -- what a contract sees of a connection: what its stream has left to give and has taken, and its wire
 pub record Seating (C : Type 0) : Type 0 where
@@ -16,6 +17,10 @@ pub record Seating (C : Type 0) : Type 0 where
 
 abbrev pub seating : {C : Type 0} → (C → Option (List ℕ)) → (C → Option (List ℕ)) → (C → WireState) → Seating C
 seating left gone wire = record { left = left; gone = gone; wire = wire }
+
+-- of connections over streams that tell this of themselves
+abbrev pub seats_of : {S A : Type 0} → (S → Option (List ℕ)) → (S → Option (List ℕ)) → Seating (Connection S A)
+seats_of left gone = seating (λ c. left c.stream) (λ c. gone c.stream) (λ c. c.wire)
 
 module _ {C : Type 0} (on : Seating C) where
   -- by these turns a connection takes what came, and nothing is sent; an empty seat stays empty

@@ -1,12 +1,17 @@
 -- what a connection takes and sends in a turn of the loop
-use Rattle.std.specs.Prelude.{◌≡◌, ◌≤◌, ℕ, ◌++◌, ◌||◌, if◌then◌else◌, List, [], Bool, true, false, length, Option}
+use Rattle.std.specs.Prelude.{◌≡◌, ◌≤◌, ℕ, ◌++◌, ◌||◌, if◌then◌else◌, List, [], Bool, true, false, length, take, Option}
 use Rattle.std.specs.Io.KnownBytes.{Appends, Consumes, IsAtEnd}
 use Rattle.commands.specs.declared.kind.WorldKind.{WorldKind}
+use Rattle.commands.specs.declared.reply.Reply.{Reply}
+use Rattle.commands.specs.Requests.{Request}
 use Rattle.schedule_player.specs.Progress.{Progress, after_bytes, after_end}
+use Rattle.schedule_player.specs.Runs.{Runs}
 use Rattle.schedule_player.specs.Says.{Spoke, IsSilent}
 use Rattle.schedule_player.specs.Texts.{replies_of}
 use Rattle.schedule_player.specs.Turns.{Turn}
+use Rattle.event_server.specs.Told.{bytes_of, ends_of}
 use Rattle.event_server.specs.WireState.{WireState}
+use Rattle.event_server.specs.declared.look.Look.{Look}
 
 -- nothing came, nothing was said
 pub record IsNewWire (kind : WorldKind) (s : WireState) : Type 0 where
@@ -39,6 +44,28 @@ pub record TakesOf (turns : List Turn) (left : Option (List ℕ)) (s : WireState
   pub gave : Consumes left left' came
   pub at_end : ends ≡ true → IsAtEnd left'
   pub takes : Takes turns came ends s s'
+
+-- by some turns, which lead the service from w to u
+abbrev pub SomeTaken : {T : Type 0} → (T → Request → Reply → T → Type 0) → T → T → Option (List ℕ) → WireState → Option (List ℕ) → WireState → Type 0
+SomeTaken may w u left s left' s' = (turns : List Turn) × Runs may w turns u × TakesOf turns left s left' s'
+
+-- of the first so many bytes that waited a beginning is taken
+pub record TakesFirst (turns : List Turn) (count : ℕ) (s s' : WireState) : Type 0 where
+  pub takes : Takes turns [] false s s'
+  pub rest : List ℕ
+  pub within : takes.taken ++ rest ≡ take count s.inbox
+
+-- nothing is taken but the end, if it comes
+pub record TakesEnd (turns : List Turn) (left : Option (List ℕ)) (s : WireState) (left' : Option (List ℕ)) (s' : WireState) : Type 0 where
+  pub takes : TakesOf turns left s left' s'
+  pub none : takes.takes.taken ≡ []
+
+-- a beginning is taken of what was looked at, and nothing else: the end only where it was looked at, behind all that waited
+pub record TakesLooked (turns : List Turn) (look : Option Look) (left : Option (List ℕ)) (s : WireState) (left' : Option (List ℕ)) (s' : WireState) : Type 0 where
+  pub takes : TakesOf turns left s left' s'
+  pub rest : List ℕ
+  pub within : takes.takes.taken ++ rest ≡ take (bytes_of look) s.inbox
+  pub at_end : takes.ends ≡ true → (ends_of look ≡ true) × (takes.takes.taken ≡ s.inbox)
 
 -- a beginning of what waited was sent, and nothing else
 pub record SendsTo (gone : Option (List ℕ)) (s : WireState) (gone' : Option (List ℕ)) (s' : WireState) : Type 0 where

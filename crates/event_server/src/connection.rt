@@ -1,13 +1,15 @@
 //! A connection: its stream, and what is held of it.
 
-ghost use Rattle.std.specs.Prelude.{◌≡◌, ◌+◌, ◌≤◌, true, false, List, [], length, take, drop, IsTrue};
+ghost use Rattle.std.specs.Prelude.{◌≡◌, ◌+◌, ◌++◌, ◌≤◌, true, false, List, [], length, take, drop, IsTrue};
 ghost use Rattle.std.specs.Io.KnownBytes.{Appends};
 ghost use Rattle.commands.specs.Requests.{Request};
+ghost use Rattle.schedule_player.specs.Lines.{with_ends};
 ghost use Rattle.schedule_player.specs.Runs.{Runs};
 ghost use Rattle.schedule_player.specs.Turns.{Turn};
 ghost use Rattle.schedule_player.specs.declared.form.TheConstants.{TURN_ROOM};
 ghost use Rattle.event_server.specs.Rooms.{IsRoom};
-ghost use Rattle.event_server.specs.Wires.{TakesOf, SendsTo};
+ghost use Rattle.event_server.specs.Told.{asks_of, requests_seen, IsSameGrant};
+ghost use Rattle.event_server.specs.Wires.{SomeTaken, TakesEnd, TakesLooked, SendsTo};
 ghost use Rattle.event_server.specs.Gathering.{GathersOf};
 ghost use Rattle.event_server.specs.declared.wire.TheConstants.{UNSENT_ROOM, MOST_LINES};
 
@@ -82,7 +84,7 @@ impl<S: Stream, A: Allocator> Connection<S, A> {
         !self.wire.is_broken() && (sends || takes)
     }
 
-    /// Takes its turn, which is due: what waited of its lines, or else what one read gives; where lines were looked at, just those.
+    /// Takes its turn, which is due: what waited of its lines, or else what one read gives.
     pub fn take<R, D: Service<R>, B: Allocator>(
         &mut self,
         rt: &R,
@@ -91,7 +93,7 @@ impl<S: Stream, A: Allocator> Connection<S, A> {
     )
         requires knows { (q : Request) → D.knows q ≡ true }
         requires room { IsRoom room.old }
-        ensures takes { (turns : List Turn) × Runs D.may service.old turns service.new × TakesOf turns (S.left self.old.stream) self.old.wire (S.left self.new.stream) self.new.wire }
+        ensures takes { SomeTaken D.may service.old service.new (S.left self.old.stream) self.old.wire (S.left self.new.stream) self.new.wire }
         ensures unsent { S.gone self.new.stream ≡ S.gone self.old.stream }
         ensures stage { self.new.stage ≡ Stage.Taken }
         ensures room { IsRoom room.new }
@@ -100,9 +102,7 @@ impl<S: Stream, A: Allocator> Connection<S, A> {
         if self.wire.is_broken() || self.wire.is_ended() || !self.wire.has_room() {
             return;
         }
-        if let Some(look) = self.look {
-            self.take_looked(rt, service, room, look);
-        } else if self.wire.has_input() {
+        if self.wire.has_input() {
             self.wire
                 .take(rt, service, &mut room.view, &[], &mut room.replies);
         } else if self.readable {
@@ -110,29 +110,63 @@ impl<S: Stream, A: Allocator> Connection<S, A> {
         }
     }
 
-    // Takes what was looked at.
-    fn take_looked<R, D: Service<R>, B: Allocator>(
+    /// Takes its turn over a service that learnt its answers before: what was looked at (`gather`), and nothing else.
+    pub fn take_looked<R, D: Service<R>, B: Allocator>(
         &mut self,
         rt: &R,
         service: &mut D,
         room: &mut Room<B>,
-        look: Look,
+    )
+        requires knows { (q : Request) → D.knows q ≡ true }
+        requires room { IsRoom room.old }
+        ensures takes { (turns : List Turn) × Runs D.may service.old turns service.new ×
+            TakesLooked turns self.old.look (S.left self.old.stream) self.old.wire (S.left self.new.stream) self.new.wire }
+        ensures unsent { S.gone self.new.stream ≡ S.gone self.old.stream }
+        ensures stage { self.new.stage ≡ Stage.Taken }
+        ensures room { IsRoom room.new }
+    {
+        self.stage = Stage::Taken;
+        let Some(look) = self.look else {
+            return;
+        };
+        if self.wire.is_broken() || self.wire.is_ended() || !self.wire.has_room() {
+            return;
+        }
+        self.look = Some(look.taken());
+        self.wire
+            .take_first(rt, service, &mut room.view, look.bytes, &mut room.replies);
+        if look.ends && self.may_read() {
+            self.take_end(rt, service, room);
+        }
+    }
+
+    // Takes the end, which was read before: a stream that was at its end tells it again. One that gives more is at fault.
+    fn take_end<R, D: Service<R>, B: Allocator>(
+        &mut self,
+        rt: &R,
+        service: &mut D,
+        room: &mut Room<B>,
     )
         requires knows { (q : Request) → D.knows q ≡ true }
         requires whole { self.old.wire.broken ≡ false }
+        requires none { self.old.wire.inbox ≡ [] }
+        requires reply { length self.old.wire.outbox + TURN_ROOM ≤ UNSENT_ROOM }
         requires count { self.old.wire.talker.summary.lines ≤ MOST_LINES }
         requires room { IsRoom room.old }
-        ensures takes { (turns : List Turn) × Runs D.may service.old turns service.new × TakesOf turns (S.left self.old.stream) self.old.wire (S.left self.new.stream) self.new.wire }
+        ensures takes { (turns : List Turn) × Runs D.may service.old turns service.new ×
+            TakesEnd turns (S.left self.old.stream) self.old.wire (S.left self.new.stream) self.new.wire }
         ensures unsent { S.gone self.new.stream ≡ S.gone self.old.stream }
         ensures stage { self.new.stage ≡ self.old.stage }
         ensures room { IsRoom room.new }
     {
-        self.look = Some(look.nothing());
-        self.wire
-            .take_first(rt, service, &mut room.view, look.bytes, &mut room.replies);
-        if look.ends && self.may_read() {
-            // A stream that was at its end tells it again.
-            self.read(rt, service, room);
+        match self.stream.read_some(&mut room.chunk) {
+            Ok(0) => self
+                .wire
+                .finish(rt, service, &mut room.view, &mut room.replies),
+            Ok(_) => self.wire.fail(),
+            Err(e) if e.kind() == ErrorKind::WouldBlock => self.readable = false,
+            Err(e) if e.kind() == ErrorKind::Interrupted => {}
+            Err(_) => self.wire.fail(),
         }
     }
 
@@ -159,6 +193,8 @@ impl<S: Stream, A: Allocator> Connection<S, A> {
         ensures gathers { GathersOf (S.left self.old.stream) self.old.wire (S.left self.new.stream) self.new.wire }
         ensures unsent { S.gone self.new.stream ≡ S.gone self.old.stream }
         ensures stage { self.new.stage ≡ self.old.stage }
+        ensures told { batch.new.items ≡ batch.old.items ++ with_ends (requests_seen kind self.new.wire self.new.look) }
+        ensures asks { asks_of self.new.look ≡ false → (asks_of self.old.look ≡ false) × (requests_seen kind self.new.wire self.new.look ≡ []) }
         ensures room { IsRoom room.new }
     {
         let look = match self.look {
@@ -170,12 +206,15 @@ impl<S: Stream, A: Allocator> Connection<S, A> {
             return;
         }
         self.gather_bytes(&mut room.chunk);
-        self.look_over(kind, most, batch);
+        if !self.wire.is_broken() {
+            self.look_over(kind, most, batch);
+        }
     }
 
     // The end of what comes was read.
     fn note_end(&mut self)
-        ensures { self.new ≡ record self.old { readable = false; look = self.new.look } }
+        ensures same { self.new ≡ record self.old { readable = false; look = self.new.look } }
+        ensures look { IsSameGrant self.old.look self.new.look }
     {
         self.readable = false;
         if let Some(look) = &mut self.look {
@@ -185,14 +224,17 @@ impl<S: Stream, A: Allocator> Connection<S, A> {
 
     // Looks at what waits.
     fn look_over<B: Allocator>(&mut self, kind: WorldKind, most: usize, batch: &mut Vec<u8, B>)
+        ensures told { batch.new.items ≡ batch.old.items ++ with_ends (requests_seen kind self.new.wire self.new.look) }
+        ensures asks { asks_of self.new.look ≡ false → (asks_of self.old.look ≡ false) × (requests_seen kind self.new.wire self.new.look ≡ []) }
         ensures wire { self.new.wire ≡ record self.old.wire { broken = self.new.wire.broken } }
         ensures whole { self.new.wire.broken ≡ false → self.old.wire.broken ≡ false }
         ensures stream { self.new.stream ≡ self.old.stream }
         ensures stage { self.new.stage ≡ self.old.stage }
     {
-        let Some(mut look) = self.look else {
+        let Some(seen) = self.look else {
             return;
         };
+        let mut look = seen;
         let before = batch.len();
         let mut limits = Limits {
             kind,
@@ -206,7 +248,7 @@ impl<S: Stream, A: Allocator> Connection<S, A> {
             .is_err()
         {
             batch.truncate(before);
-            look = look.nothing();
+            look = seen.nothing();
             self.wire.fail();
         }
         self.look = Some(look);
@@ -217,6 +259,7 @@ impl<S: Stream, A: Allocator> Connection<S, A> {
         ensures wire { self.new.wire ≡ record self.old.wire { broken = self.new.wire.broken } }
         ensures whole { self.new.wire.broken ≡ false → self.old.wire.broken ≡ false }
         ensures stream { self.new.stream ≡ self.old.stream }
+        ensures told { asks_of self.old.look ≡ true → self.new.wire.broken ≡ true }
     {
         if let Some(look) = self.look {
             if look.asks {
@@ -234,6 +277,7 @@ impl<S: Stream, A: Allocator> Connection<S, A> {
         ensures gathers { GathersOf (S.left self.old.stream) self.old.wire (S.left self.new.stream) self.new.wire }
         ensures unsent { S.gone self.new.stream ≡ S.gone self.old.stream }
         ensures stage { self.new.stage ≡ self.old.stage }
+        ensures look { IsSameGrant self.old.look self.new.look }
     {
         let free = READ_ROOM - self.wire.inbox().len();
         if !self.readable || free == 0 {
@@ -259,7 +303,7 @@ impl<S: Stream, A: Allocator> Connection<S, A> {
         requires reply { length self.old.wire.outbox + TURN_ROOM ≤ UNSENT_ROOM }
         requires count { self.old.wire.talker.summary.lines ≤ MOST_LINES }
         requires room { IsRoom room.old }
-        ensures takes { (turns : List Turn) × Runs D.may service.old turns service.new × TakesOf turns (S.left self.old.stream) self.old.wire (S.left self.new.stream) self.new.wire }
+        ensures takes { SomeTaken D.may service.old service.new (S.left self.old.stream) self.old.wire (S.left self.new.stream) self.new.wire }
         ensures unsent { S.gone self.new.stream ≡ S.gone self.old.stream }
         ensures stage { self.new.stage ≡ self.old.stage }
         ensures room { IsRoom room.new }

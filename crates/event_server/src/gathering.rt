@@ -1,17 +1,20 @@
 //! One turn of the loop over a service that learns its answers before.
 
-ghost use Rattle.std.specs.Prelude.{◌≡◌, ◌⊎◌, ℕ, ◌≤◌, true, [], length, OnErr};
+ghost use Rattle.std.specs.Prelude.{◌≡◌, ◌⊎◌, ℕ, List, ◌++◌, ◌≤◌, true, [], length, get_or, take, None, OnErr};
 ghost use Rattle.commands.specs.Requests.{Request};
+ghost use Rattle.schedule_player.specs.Lines.{with_ends};
+ghost use Rattle.schedule_player.specs.Shared.{TurnLog};
 ghost use Rattle.event_server.specs.Rooms.{IsRoom};
-ghost use Rattle.event_server.specs.Seats.{seating, NoneSent};
-ghost use Rattle.event_server.specs.Gathering.{Gathered, TurnAhead};
+ghost use Rattle.event_server.specs.Seats.{seats_of, NoneSent, TurnsTaken};
+ghost use Rattle.event_server.specs.Gathering.{Gathered, SeatIdle, SeatLooked, SeatAsks, SeatBroken, SeatTurnLooked, TakenLooked, Told, TurnAhead, Unlearnt};
+ghost use Rattle.event_server.specs.Told.{SeatLines, all_lines, IsAmong};
 
 use crate::connection::{Connection, Stage};
 use crate::keep::{Ahead, Keep};
 use crate::look::has_room;
 use crate::room::Room;
 use crate::stream::Stream;
-use crate::turns::turn;
+use crate::turns::send_replies;
 use commands::WorldKind;
 use schedule_player::Service;
 use std::alloc::Allocator;
@@ -58,7 +61,11 @@ fn gather_at<S: Stream, A: Allocator, B: Allocator>(
     key: usize,
 )
     requires { IsRoom room.old }
-    ensures gathered { Gathered (seating (λ c. S.left c.stream) (λ c. S.gone c.stream) (λ c. c.wire)) seats.old seats.new }
+    ensures gathered { Gathered (seats_of S.left S.gone) seats.old seats.new }
+    ensures looked { ((batch.new ≡ batch.old) × (seats.new ≡ seats.old) × SeatIdle (λ c. c.stage ≡ Stage.Queued) (get_or seats.old key None)) ⊎
+        ((more : List (List ℕ)) × (batch.new.lines.items ≡ batch.old.lines.items ++ with_ends more) ×
+        SeatLooked (seats_of S.left S.gone) (λ c. c.look) (λ c. c.stage ≡ Stage.Queued) batch.old.kind key seats.old seats.new more) }
+    ensures kind { batch.new.kind ≡ batch.old.kind }
     ensures room { IsRoom room.new }
 {
     if key < seats.len() {
@@ -79,7 +86,10 @@ pub fn gather<S: Stream, A: Allocator, B: Allocator>(
     ready: &[usize],
 ) -> usize
     requires { IsRoom room.old }
-    ensures gathered { Gathered (seating (λ c. S.left c.stream) (λ c. S.gone c.stream) (λ c. c.wire)) seats.old seats.new }
+    ensures gathered { Gathered (seats_of S.left S.gone) seats.old seats.new }
+    ensures told { (told : SeatLines) × (batch.new.lines.items ≡ with_ends (all_lines told)) ×
+        Told (seats_of S.left S.gone) (λ c. c.look) (λ c. c.stage ≡ Stage.Queued) batch.old.kind (take result ready.now) told seats.new }
+    ensures kind { batch.new.kind ≡ batch.old.kind }
     ensures looked { result ≤ length ready.now }
     ensures room { IsRoom room.new }
 {
@@ -94,7 +104,9 @@ pub fn gather<S: Stream, A: Allocator, B: Allocator>(
 
 // The connection of a seat is at fault, where there is one whose lines were told; each other waits for its next turn.
 fn give_up_at<S: Stream, A: Allocator>(seats: &mut [Option<Connection<S, A>>], key: usize)
-    ensures { Gathered (seating (λ c. S.left c.stream) (λ c. S.gone c.stream) (λ c. c.wire)) seats.old seats.new }
+    ensures gathered { Gathered (seats_of S.left S.gone) seats.old seats.new }
+    ensures told { SeatAsks (λ c. c.look) (get_or seats.old key None) → SeatBroken (seats_of S.left S.gone) (get_or seats.new key None) }
+    ensures others { (i : ℕ) → (i ≡ key → ⊥) → get_or seats.new i None ≡ get_or seats.old i None }
 {
     if key < seats.len() {
         if let Some(connection) = &mut seats[key] {
@@ -105,10 +117,58 @@ fn give_up_at<S: Stream, A: Allocator>(seats: &mut [Option<Connection<S, A>>], k
 
 // The connections of these seats whose lines were told are at fault; nothing is taken of any, and nothing sent.
 fn give_up<S: Stream, A: Allocator>(seats: &mut [Option<Connection<S, A>>], called: &[usize])
-    ensures { Gathered (seating (λ c. S.left c.stream) (λ c. S.gone c.stream) (λ c. c.wire)) seats.old seats.new }
+    ensures gathered { Gathered (seats_of S.left S.gone) seats.old seats.new }
+    ensures told { (i : ℕ) → IsAmong i called.now → SeatAsks (λ c. c.look) (get_or seats.old i None) →
+        SeatBroken (seats_of S.left S.gone) (get_or seats.new i None) }
 {
-    for key in called {
-        give_up_at(seats, *key);
+    let mut at = 0;
+    while at < called.len() {
+        give_up_at(seats, called[at]);
+        at += 1;
+    }
+}
+
+// The connection of a seat has its turn over what was looked at, where there is one and its turn is due.
+fn take_looked_at<R, D: Service<R>, S: Stream, A: Allocator, B: Allocator>(
+    rt: &R,
+    service: &mut D,
+    room: &mut Room<B>,
+    seats: &mut [Option<Connection<S, A>>],
+    key: usize,
+)
+    requires knows { (q : Request) → D.knows q ≡ true }
+    requires room { IsRoom room.old }
+    ensures took { ((service.new ≡ service.old) × (seats.new ≡ seats.old)) ⊎
+        SeatTurnLooked (seats_of S.left S.gone) (λ c. c.look) (λ c. c.stage ≡ Stage.Queued) D.may key service.old seats.old service.new seats.new }
+    ensures room { IsRoom room.new }
+{
+    if key < seats.len() {
+        if let Some(connection) = &mut seats[key] {
+            if let Stage::Queued = connection.stage {
+                connection.take_looked(rt, service, room);
+            }
+        }
+    }
+}
+
+// The connections of these seats have their turns over what was looked at, one after another. Nothing is sent.
+fn take_looked<R, D: Service<R>, S: Stream, A: Allocator, B: Allocator>(
+    rt: &R,
+    service: &mut D,
+    room: &mut Room<B>,
+    seats: &mut [Option<Connection<S, A>>],
+    called: &[usize],
+)
+    requires knows { (q : Request) → D.knows q ≡ true }
+    requires room { IsRoom room.old }
+    ensures taken { (log : TurnLog) × TurnsTaken (seats_of S.left S.gone) D.may service.old seats.old log service.new seats.new ×
+        TakenLooked (seats_of S.left S.gone) (λ c. c.look) (λ c. c.stage ≡ Stage.Queued) called.now log seats.old seats.new }
+    ensures room { IsRoom room.new }
+{
+    let mut at = 0;
+    while at < called.len() {
+        take_looked_at(rt, service, room, seats, called[at]);
+        at += 1;
     }
 }
 
@@ -128,8 +188,8 @@ fn learn<D, K: Keep<D>, B: Allocator>(
 }
 
 /// One turn of the loop over a service that learns its answers before: the connections of these seats are read, the requests among their
-/// lines are told to the keeper, which has the service learn the answers, and then they have their turn (`turn`). Where the answers are not
-/// learnt in time, those whose lines were told are at fault, and nothing is sent.
+/// lines are told to the keeper, which has the service learn the answers, and then they take their turns (as in `turn`). Where the answers are not
+/// learnt in time, those whose lines were told are at fault, and nothing is sent. No connection takes more than was looked at.
 ///
 /// The fault of what keeps, with no byte sent.
 pub fn turn_ahead<R, D: Service<R>, K: Keep<D>, S: Stream, A: Allocator, B: Allocator>(
@@ -143,9 +203,11 @@ pub fn turn_ahead<R, D: Service<R>, K: Keep<D>, S: Stream, A: Allocator, B: Allo
 ) -> Result<Called, K::Fault>
     requires knows { (q : Request) → D.knows q ≡ true }
     requires room { IsRoom room.old }
-    ensures served { (called : ℕ) → result ≡ Ok (Called.Served called) → TurnAhead (seating (λ c. S.left c.stream) (λ c. S.gone c.stream) (λ c. c.wire)) D.may K.learns K.keeps keep.old service.old seats.old batch.new.lines.items keep.new service.new seats.new }
-    ensures unserved { (called : ℕ) → result ≡ Ok (Called.Unserved called) → Gathered (seating (λ c. S.left c.stream) (λ c. S.gone c.stream) (λ c. c.wire)) seats.old seats.new }
-    ensures unsent { OnErr result (NoneSent (seating (λ c. S.left c.stream) (λ c. S.gone c.stream) (λ c. c.wire)) seats.old seats.new) }
+    ensures served { (called : ℕ) → result ≡ Ok (Called.Served called) →
+        TurnAhead (seats_of S.left S.gone) (λ c. c.look) (λ c. c.stage ≡ Stage.Queued) D.may K.learns K.keeps batch.old.kind
+        keep.old service.old seats.old batch.new.lines.items keep.new service.new seats.new }
+    ensures unserved { (called : ℕ) → result ≡ Ok (Called.Unserved called) → Unlearnt (seats_of S.left S.gone) seats.old batch.new.lines.items seats.new }
+    ensures unsent { OnErr result (NoneSent (seats_of S.left S.gone) seats.old seats.new) }
     ensures room { IsRoom room.new }
 {
     let looked = gather(batch, room, seats, ready);
@@ -158,8 +220,8 @@ pub fn turn_ahead<R, D: Service<R>, K: Keep<D>, S: Stream, A: Allocator, B: Allo
         }
         Err(fault) => return Err(fault),
     }
-    match turn(rt, service, keep, room, seats, called) {
-        Ok(count) => Ok(Called::Served(count)),
-        Err(fault) => Err(fault),
-    }
+    take_looked(rt, service, room, seats, called);
+    keep.keep(service)?;
+    send_replies(seats, called);
+    Ok(Called::Served(looked))
 }

@@ -31,7 +31,8 @@ pub trait Keep<D> {
     /// The keeper and the service were so, and are so once the answers to these lines are learnt.
     ghost learns: { Self → D → List ℕ → Self → D → Type 0 };
 
-    /// Whether so much is told that it is to be kept before any other connection has its turn.
+    /// Whether so much is told that it is to be kept before any other connection has its turn. It is not asked where `most_ahead` is some:
+    /// then each connection has its turn whose lines were told.
     fn is_full(&self, service: &D) -> bool;
 
     /// Keeps what the service tells.

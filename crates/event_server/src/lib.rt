@@ -10,9 +10,10 @@
 //!
 //! Where a service cannot answer a line as it comes, but learns answers many at once (`Keep::most_ahead`), `turn_ahead` first has connections
 //! read, and looks at the lines that they will take (`Look`): their requests are told to the keeper in one batch, and then the turn is as
-//! ever. Its theorem (`TurnAhead`): before the turn nothing was taken, said or sent, and the answers to the batch were learnt; where they
-//! were not learnt in time, nothing is sent to any. That the batch has just the requests that are taken then is not promised but shown by
-//! running it (`turn_trials`): a service that is asked what it did not learn has its keeper end the turn with nothing sent.
+//! ever. Its theorem (`TurnAhead`): before the turn nothing was taken, said or sent, and the answers to the batch were learnt; the batch is
+//! just the requests among what was looked at, and each connection takes a beginning of what was looked at of it, and nothing else; where
+//! the answers were not learnt in time, nothing is sent to any, and whoever has a line in the batch is at fault (`Unlearnt`). That nothing
+//! of what was looked at is left over is not promised but shown by running it (`turn_trials`).
 //!
 //! `law_of_sharing` in `schedule_player` makes such turns, one after another, one log.
 //!

@@ -1,6 +1,9 @@
 //! What is seen of a connection's lines before its turn takes them.
 
-ghost use Rattle.std.specs.Prelude.{◌≡◌};
+ghost use Rattle.std.specs.Prelude.{◌≡◌, ◌++◌, ◌≤◌, List, ℕ, true, false, [], ◌∷◌, length, take, drop, IfOk};
+ghost use Rattle.schedule_player.specs.Lines.{has_no_lf, unless_empty, with_ends};
+ghost use Rattle.schedule_player.specs.Meaning.{meaning};
+ghost use Rattle.event_server.specs.Told.{is_request, requests, behind, requests_in, HasLooked};
 
 use crate::wire::UNSENT_ROOM;
 use commands::{Command, Event, WorldKind};
@@ -33,8 +36,10 @@ pub struct Look {
     pub more: bool,
     /// Whether the end of what comes was read.
     pub at_end: bool,
-    /// Whether it has begun to take a line that is longer than any request.
+    /// Whether a line that is longer than any request was begun before what waits.
     pub long: bool,
+    /// Whether such a line goes on behind what it takes.
+    pub goes_on: bool,
 }
 
 /// What a turn takes of a line.
@@ -48,7 +53,11 @@ enum Sight {
 }
 
 // What a turn takes of a line.
-fn look_at(line: &[u8], kind: WorldKind) -> Sight {
+fn look_at(line: &[u8], kind: WorldKind) -> Sight
+    ensures request { (room : ℕ) → result ≡ Sight.Request room → is_request (meaning kind line.now) ≡ true }
+    ensures nothing { result ≡ Sight.Nothing → is_request (meaning kind line.now) ≡ false }
+    ensures quit { result ≡ Sight.Quit → is_request (meaning kind line.now) ≡ false }
+{
     match parse_line(line, kind) {
         Ok(Command::Quit) => Sight::Quit,
         Ok(Command::Event(Event::Step(_))) => Sight::Request(REPLY_ROOM),
@@ -82,7 +91,9 @@ impl Limits {
 
 impl Look {
     /// Nothing was read or looked at.
-    pub fn new() -> Look {
+    pub fn new() -> Look
+        ensures { (result.bytes ≡ 0) × (result.ends ≡ false) × (result.asks ≡ false) }
+    {
         Look {
             bytes: 0,
             ends: false,
@@ -90,22 +101,35 @@ impl Look {
             more: false,
             at_end: false,
             long: false,
+            goes_on: false,
         }
     }
 
     /// Nothing of what waits is taken in the next turn.
-    pub fn nothing(self) -> Look {
+    pub fn nothing(self) -> Look
+        ensures { result ≡ record self { bytes = 0; ends = false; goes_on = self.long } }
+    {
         Look {
             bytes: 0,
             ends: false,
-            asks: false,
+            goes_on: self.long,
             ..self
+        }
+    }
+
+    /// What it was to take was taken.
+    pub fn taken(self) -> Look {
+        Look {
+            asks: false,
+            long: self.goes_on,
+            ..self.nothing()
         }
     }
 
     /// What it was to take was not taken, and is to be looked at again.
     pub fn untaken(self) -> Look {
         Look {
+            asks: false,
             more: self.more || self.ends || 0 < self.bytes,
             ..self.nothing()
         }
@@ -117,7 +141,15 @@ impl Look {
         bytes: &[u8],
         limits: &mut Limits,
         batch: &mut Vec<u8, B>,
-    ) -> Result<(), AllocError> {
+    ) -> Result<(), AllocError>
+        ensures told { IfOk result (λ done.
+            batch.new.items ≡ batch.old.items ++ with_ends (requests_in limits.old.kind self.old.long (take self.new.bytes bytes.now) self.new.ends)) }
+        ensures asks { IfOk result (λ done. self.new.asks ≡ false →
+            (self.old.asks ≡ false) × (requests_in limits.old.kind self.old.long (take self.new.bytes bytes.now) self.new.ends ≡ [])) }
+        ensures long { self.new.long ≡ self.old.long }
+        ensures kept { (more : List ℕ) × (batch.new.items ≡ batch.old.items ++ more) }
+    {
+        *self = self.nothing();
         if !self.look_at_lines(bytes, limits, batch)? {
             self.more = true;
             return Ok(());
@@ -127,13 +159,15 @@ impl Look {
             self.look_at_end(bytes, limits, batch)?;
         } else if MOST_WAITING <= bytes.len() && self.bytes == 0 {
             self.bytes = bytes.len();
-            self.long = true;
+            self.goes_on = true;
         }
         Ok(())
     }
 
     /// Whatever waits is taken in the next turn, and asks for nothing, as it does once `quit` was answered.
-    pub fn take_all(&mut self, bytes: &[u8]) {
+    pub fn take_all(&mut self, bytes: &[u8])
+        ensures { (self.new.asks ≡ self.old.asks) × (self.new.long ≡ self.old.long) }
+    {
         self.bytes = bytes.len();
         self.ends = self.at_end;
         self.more = false;
@@ -145,11 +179,17 @@ impl Look {
         bytes: &[u8],
         limits: &mut Limits,
         batch: &mut Vec<u8, B>,
-    ) -> Result<bool, AllocError> {
+    ) -> Result<bool, AllocError>
+        requires { (self.old.bytes ≡ 0) × (self.old.goes_on ≡ self.old.long) }
+        ensures looked { IfOk result (λ whole. HasLooked limits.old.kind self.old.long self.old.asks batch.old.items bytes.now
+            self.new.bytes self.new.goes_on self.new.asks batch.new.items) }
+        ensures none { result ≡ Ok true → has_no_lf (drop self.new.bytes bytes.now) ≡ true }
+        ensures rest { self.new ≡ record self.old { bytes = self.new.bytes; asks = self.new.asks; goes_on = self.new.goes_on } }
+        ensures limits { limits.new ≡ record limits.old { said = limits.new.said } }
+        ensures kept { (more : List ℕ) × (batch.new.items ≡ batch.old.items ++ more) }
+    {
         while limits.have_room(batch) {
-            let Some(rest) = bytes.get(self.bytes..) else {
-                return Ok(true);
-            };
+            let rest = &bytes[self.bytes..];
             let Some(end) = memchr(LF, rest) else {
                 return Ok(true);
             };
@@ -167,11 +207,19 @@ impl Look {
         bytes: &[u8],
         limits: &mut Limits,
         batch: &mut Vec<u8, B>,
-    ) -> Result<(), AllocError> {
-        if let Some(rest) = bytes.get(self.bytes..) {
-            if !rest.is_empty() {
-                self.take_line(rest, limits, batch)?;
-            }
+    ) -> Result<(), AllocError>
+        requires { self.old.bytes ≤ length bytes.now }
+        ensures told { IfOk result (λ done. batch.new.items ≡ batch.old.items ++
+            with_ends (requests limits.old.kind (behind self.old.goes_on (unless_empty (drop self.old.bytes bytes.now))))) }
+        ensures asks { IfOk result (λ done. self.new.asks ≡ false →
+            (self.old.asks ≡ false) × (requests limits.old.kind (behind self.old.goes_on (unless_empty (drop self.old.bytes bytes.now))) ≡ [])) }
+        ensures end { IfOk result (λ done. (self.new.bytes ≡ length bytes.now) × (self.new.ends ≡ true)) }
+        ensures long { self.new.long ≡ self.old.long }
+        ensures kept { (more : List ℕ) × (batch.new.items ≡ batch.old.items ++ more) }
+    {
+        let rest = &bytes[self.bytes..];
+        if !rest.is_empty() {
+            self.take_line(rest, limits, batch)?;
         }
         self.bytes = bytes.len();
         self.ends = true;
@@ -185,14 +233,20 @@ impl Look {
         limits: &mut Limits,
         batch: &mut Vec<u8, B>,
     ) -> Result<bool, AllocError>
-        ensures { self.new.bytes ≡ self.old.bytes }
+        ensures told { IfOk result (λ on.
+            batch.new.items ≡ batch.old.items ++ with_ends (requests limits.old.kind (behind self.old.goes_on (line.now ∷ [])))) }
+        ensures asks { IfOk result (λ on. self.new.asks ≡ false →
+            (self.old.asks ≡ false) × (requests limits.old.kind (behind self.old.goes_on (line.now ∷ [])) ≡ [])) }
+        ensures rest { self.new ≡ record self.old { asks = self.new.asks; goes_on = false } }
+        ensures limits { limits.new ≡ record limits.old { said = limits.new.said } }
+        ensures kept { (more : List ℕ) × (batch.new.items ≡ batch.old.items ++ more) }
     {
-        let sight = if self.long {
+        let sight = if self.goes_on {
             Sight::Nothing
         } else {
             look_at(line, limits.kind)
         };
-        self.long = false;
+        self.goes_on = false;
         match sight {
             Sight::Request(reply) => {
                 batch.extend_from_slice(line)?;

@@ -4,7 +4,7 @@ ghost use Rattle.std.specs.Prelude.{◌≡◌, ◌⊎◌, ◌+◌, ◌≤◌, tr
 ghost use Rattle.commands.specs.Requests.{Request};
 ghost use Rattle.schedule_player.specs.Shared.{TurnLog};
 ghost use Rattle.event_server.specs.Rooms.{IsRoom};
-ghost use Rattle.event_server.specs.Seats.{seating, TurnsTaken, RepliesSent, NoneSent, SeatTurn, SeatSent, LoopTurn};
+ghost use Rattle.event_server.specs.Seats.{seats_of, TurnsTaken, RepliesSent, NoneSent, SeatTurn, SeatSent, LoopTurn};
 
 use crate::connection::{Connection, Stage};
 use crate::keep::Keep;
@@ -24,7 +24,7 @@ fn take_at<R, D: Service<R>, S: Stream, A: Allocator, B: Allocator>(
     requires knows { (q : Request) → D.knows q ≡ true }
     requires room { IsRoom room.old }
     ensures took { ((service.new ≡ service.old) × (seats.new ≡ seats.old)) ⊎
-        SeatTurn (seating (λ c. S.left c.stream) (λ c. S.gone c.stream) (λ c. c.wire)) D.may (λ c. c.stage ≡ Stage.Queued) key service.old seats.old service.new seats.new }
+        SeatTurn (seats_of S.left S.gone) D.may (λ c. c.stage ≡ Stage.Queued) key service.old seats.old service.new seats.new }
     ensures room { IsRoom room.new }
 {
     if key < seats.len() {
@@ -48,7 +48,7 @@ pub fn take_turns<R, D: Service<R>, K: Keep<D>, S: Stream, A: Allocator, B: Allo
 ) -> usize
     requires knows { (q : Request) → D.knows q ≡ true }
     requires room { IsRoom room.old }
-    ensures taken { (log : TurnLog) × TurnsTaken (seating (λ c. S.left c.stream) (λ c. S.gone c.stream) (λ c. c.wire)) D.may service.old seats.old log service.new seats.new }
+    ensures taken { (log : TurnLog) × TurnsTaken (seats_of S.left S.gone) D.may service.old seats.old log service.new seats.new }
     ensures called { result ≤ length ready.now }
     ensures room { IsRoom room.new }
 {
@@ -63,7 +63,7 @@ pub fn take_turns<R, D: Service<R>, K: Keep<D>, S: Stream, A: Allocator, B: Allo
 // The connection of a seat sends what waits, where there is one and its turn is taken.
 fn send_at<S: Stream, A: Allocator>(seats: &mut [Option<Connection<S, A>>], key: usize)
     ensures sent { (seats.new ≡ seats.old) ⊎
-        SeatSent (seating (λ c. S.left c.stream) (λ c. S.gone c.stream) (λ c. c.wire)) (λ c. c.stage ≡ Stage.Taken) key seats.old seats.new }
+        SeatSent (seats_of S.left S.gone) (λ c. c.stage ≡ Stage.Taken) key seats.old seats.new }
 {
     if key < seats.len() {
         if let Some(connection) = &mut seats[key] {
@@ -79,7 +79,7 @@ pub fn send_replies<S: Stream, A: Allocator>(
     seats: &mut [Option<Connection<S, A>>],
     called: &[usize],
 )
-    ensures { RepliesSent (seating (λ c. S.left c.stream) (λ c. S.gone c.stream) (λ c. c.wire)) seats.old seats.new }
+    ensures { RepliesSent (seats_of S.left S.gone) seats.old seats.new }
 {
     for key in called {
         send_at(seats, *key);
@@ -100,8 +100,8 @@ pub fn turn<R, D: Service<R>, K: Keep<D>, S: Stream, A: Allocator, B: Allocator>
 ) -> Result<usize, K::Fault>
     requires knows { (q : Request) → D.knows q ≡ true }
     requires room { IsRoom room.old }
-    ensures turned { OnOk result (LoopTurn (seating (λ c. S.left c.stream) (λ c. S.gone c.stream) (λ c. c.wire)) D.may K.keeps keep.old service.old seats.old keep.new service.new seats.new) }
-    ensures unsent { OnErr result (NoneSent (seating (λ c. S.left c.stream) (λ c. S.gone c.stream) (λ c. c.wire)) seats.old seats.new) }
+    ensures turned { OnOk result (LoopTurn (seats_of S.left S.gone) D.may K.keeps keep.old service.old seats.old keep.new service.new seats.new) }
+    ensures unsent { OnErr result (NoneSent (seats_of S.left S.gone) seats.old seats.new) }
     ensures called { IfOk result (λ called. called ≤ length ready.now) }
     ensures room { IsRoom room.new }
 {

@@ -5,7 +5,7 @@ ghost use Rattle.schedule_player.specs.Knows.{Knows};
 ghost use Rattle.schedule_player.specs.Runs.{Runs};
 ghost use Rattle.schedule_player.specs.Turns.{Turn};
 ghost use Rattle.schedule_player.specs.declared.form.TheConstants.{TURN_ROOM};
-ghost use Rattle.event_server.specs.Wires.{IsNewWire, Takes};
+ghost use Rattle.event_server.specs.Wires.{IsNewWire, Takes, TakesFirst};
 
 use commands::WorldKind;
 use schedule_player::{AsReplies, Replies, Service, TURN_ROOM, Talker};
@@ -197,7 +197,7 @@ impl<A: Allocator> Wire<A> {
         requires whole { self.old.broken ≡ false }
         requires count { self.old.talker.summary.lines ≤ MOST_LINES }
         requires empty { replies.old ≡ [] }
-        ensures takes { (turns : List Turn) × Runs D.may service.old turns service.new × Takes turns [] false self.old self.new }
+        ensures takes { (turns : List Turn) × Runs D.may service.old turns service.new × TakesFirst turns count self.old self.new }
         ensures empty { replies.new ≡ [] }
     {
         let most = UNSENT_ROOM - self.outbox.len();

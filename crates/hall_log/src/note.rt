@@ -7,6 +7,7 @@ ghost use Rattle.commands.specs.Replies.{with_view};
 ghost use Rattle.hall_log.specs.Said.{request_of, said_by, seen};
 
 use commands::{Event, ShortReply};
+use locked_world::is_same_event;
 use std::alloc::{AllocError, Global};
 use step_memory::{Refusal, View};
 
@@ -17,23 +18,6 @@ pub enum Asked {
     ToTake(Event),
     /// To tell who has the name of this number.
     ToTell(u64),
-}
-
-/// Whether two events are one. `true` is said only where they are.
-fn is_same_event(a: Event, b: Event) -> bool
-    ensures { result ≡ true → a ≡ b }
-{
-    match (a, b) {
-        (Event::Begin(p), Event::Begin(q)) => p == q,
-        (Event::Step(p), Event::Step(q)) => p == q,
-        (Event::Enter(p), Event::Enter(q)) => p == q,
-        (Event::Probe(p), Event::Probe(q)) => p == q,
-        (Event::Leave(p), Event::Leave(q)) => p == q,
-        (Event::Put(p, value), Event::Put(q, other)) => p == q && value == other,
-        (Event::Get(p), Event::Get(q)) => p == q,
-        (Event::Widen(size), Event::Widen(other)) => size == other,
-        _ => false,
-    }
 }
 
 /// Whether a reply shows the view that stands beside it.

@@ -47,7 +47,7 @@ mod log;
 pub mod names;
 pub mod parts;
 pub mod rename;
-mod same;
+pub mod same;
 pub mod serving_clerk;
 mod telling;
 
@@ -59,4 +59,5 @@ pub use kept_log::KeptLog;
 pub use laws::{law_of_hall, law_of_serving};
 pub use names::{agrees, post_name};
 pub use parts::{Clerk, HallLock, LockName, Session};
+pub use same::is_same_event;
 pub use serving_clerk::ServingClerk;

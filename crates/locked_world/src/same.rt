@@ -1,11 +1,11 @@
-//! Whether two exchanges are one.
+//! Whether two events are one, and whether two exchanges are.
 
 ghost use Rattle.std.specs.Prelude.{◌≡◌, true};
 
 use commands::{Event, Exchange, Reply};
 
 /// Whether two events are one. `true` is said only where they are.
-fn is_same_event(a: Event, b: Event) -> bool
+pub fn is_same_event(a: Event, b: Event) -> bool
     ensures { result ≡ true → a ≡ b }
 {
     match (a, b) {

@@ -18,6 +18,8 @@ pub struct Piped {
     at: usize,
     piece: usize,
     pauses: bool,
+    /// Whether a fault stands in the place of the end.
+    pub fails: bool,
     pub taken: Vec<u8>,
 }
 
@@ -29,6 +31,7 @@ impl Piped {
             at: 0,
             piece,
             pauses: false,
+            fails: false,
             taken: Vec::new(alloc),
         }
     }
@@ -45,6 +48,9 @@ impl Stream for Piped {
             return Err(Error::from(ErrorKind::WouldBlock));
         }
         let rest = self.bytes.get(self.at..).unwrap_or(&[]);
+        if self.fails && rest.is_empty() {
+            return Err(Error::from(ErrorKind::ConnectionReset));
+        }
         let count = rest.len().min(self.piece).min(buf.len());
         buf[..count].copy_from_slice(&rest[..count]);
         self.at += count;

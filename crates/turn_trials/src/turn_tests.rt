@@ -211,3 +211,32 @@ fn lost_lines_are_not_answered(rt: HostRuntime) {
 fn many_lines_wait_for_room(rt: HostRuntime) {
     assert!(rt; all_answered(rt.alloc(), 70_000, 65_000, 6_000) == Ok(true));
 }
+
+// How many lines a connection is answered whose stream ends in a fault while lines of it wait.
+fn answered_before_a_fault(alloc: Global) -> Result<usize, &'static str> {
+    let mut draws = Draws { state: 7 };
+    let mut seats = Vec::new(alloc);
+    let bytes = drawn_lines(alloc, &mut draws, 40, false)?;
+    let mut broken = connection(alloc, bytes, 1_000)?;
+    broken.stream.fails = true;
+    if seats.push(Some(broken)).is_err() {
+        return Err("no memory");
+    }
+    let mut teller = Teller {
+        most: 101,
+        loses: 0,
+        told: 0,
+    };
+    run(alloc, &mut teller, &mut seats)?;
+    match seats.first() {
+        Some(Some(connection)) => Ok(count_lines(&connection.stream.taken)),
+        _ => Err("it has left"),
+    }
+}
+
+#[test]
+fn a_fault_leaves_nothing_in_the_batch(rt: HostRuntime) {
+    assert!(rt;
+        matches!(answered_before_a_fault(rt.alloc()), Ok(count) if 0 < count && count < 41)
+    );
+}

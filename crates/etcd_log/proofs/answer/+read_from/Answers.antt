@@ -1,5 +1,5 @@
 -- What was read so far, and behind it what the rest of the answer says.
-use Rattle.std.proofs.Common.{rules, ◌≡◌, ◌≢◌, ℕ, [], ◌∷◌, ◌++◌, Some, None, sym, append-nil}
+use Rattle.std.proofs.Common.{rules, ◌≡◌, ◌≢◌, ℕ, ◌+◌, [], ◌∷◌, ◌++◌, Some, None, sym, append-nil}
 use Rattle.std.specs.declared.vec.Vec.{Vec}
 use Rattle.std.specs.declared.alloc.Global.{Global}
 use Rattle.json.specs.Value.{value_view}
@@ -19,5 +19,6 @@ returns-clause-said t c =
     let entry : Vec ℕ Global = c.in-Ok-Some.entry in
     let said : SaysFound (value_view c.args.answer.now) c.args.index c.args.prefix.now c.args.place (Some entry) = search rules in
     let pushed : c.push.new.self.items ≡ c.args.found.now.items ++ entry ∷ [] = search rules in
-    read_more c.read_from.result c.args.most (value_view c.args.answer.now) c.args.index c.args.prefix.now c.args.place entry c.args.found.now.items c.push.new.self.items c.read_from.new.found.items
-    some said pushed c.read_from.ensures.said
+    let one : c.in-Some.next ≡ c.args.place + 1 = search rules in
+    read_more c.read_from.result c.args.most (value_view c.args.answer.now) c.args.index c.args.prefix.now c.args.place c.in-Some.next entry c.args.found.now.items c.push.new.self.items c.read_from.new.found.items
+    some one said pushed c.read_from.ensures.said

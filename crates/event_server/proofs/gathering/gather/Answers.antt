@@ -1,18 +1,62 @@
-use Rattle.std.proofs.Common.{arith}
-use Rattle.event_server.specs.Seats.{seating}
+use Rattle.std.proofs.Common.{◌≡◌, ◌+◌, ◌∙◌, ◌++◌, inl, inr, [], ap, refl, subst, sym, arith, get_or}
+use Rattle.commands.specs.declared.kind.WorldKind.{WorldKind}
+use Rattle.schedule_player.specs.Lines.{with_ends}
+use Rattle.event_server.specs.declared.connection.Stage.TheVariants as stage
+use Rattle.event_server.specs.Gathering.{SeatLooked}
+use Rattle.event_server.specs.Seats.{seats_of}
+use Rattle.event_server.specs.Told.{SeatLines, all_lines}
 use Rattle.event_server.proofs.GatherLemmas.{gathered_none, gathered_more}
+use Rattle.event_server.proofs.ToldLemmas.{Telling, telling_none, telling_idle, telling_more, telling_all, told_behind, seat_lines}
 use Rattle.event_server.proofs.gathering.gather.Goals as goal
 
 pub loop-looked-init : goal.loop-looked-init
-loop-looked-init g c = record {
-  gathered = gathered_none (seating (λ x. g.S.Stream.left x.stream) (λ x. g.S.Stream.gone x.stream) (λ x. x.wire)) c.args.seats.now;
-  room = c.requires;
-  inside = omega arith;
-}
+loop-looked-init g c =
+    let on = seats_of g.S.Stream.left g.S.Stream.gone in
+    record {
+      gathered = gathered_none on c.args.seats.now;
+      told = ([], c.clear.ensures.items, telling_none on (λ x. x.look) (λ x. x.stage ≡ stage.Queued) c.args.batch.now.kind c.args.ready.now c.args.seats.now);
+      kind = refl;
+      room = c.requires;
+      inside = omega arith;
+    }
 
 pub loop-looked-preserved : goal.loop-looked-preserved
-loop-looked-preserved g c = record {
-  gathered = gathered_more (seating (λ x. g.S.Stream.left x.stream) (λ x. g.S.Stream.gone x.stream) (λ x. x.wire)) c.args.seats.now c.loop-looked.seats c.gather_at.new.seats c.loop-looked.invariant.gathered c.gather_at.ensures.gathered;
-  room = c.gather_at.ensures.room;
-  inside = omega arith;
-}
+loop-looked-preserved g c =
+    let on = seats_of g.S.Stream.left g.S.Stream.gone in
+    let i = c.loop-looked.invariant in
+    let n = c.loop-looked.looked in
+    let keys = c.args.ready.now in
+    let told = i.told.0 in
+    let seats = c.loop-looked.seats in
+    let seats' = c.gather_at.new.seats in
+    let kind = c.args.batch.now.kind in
+    record {
+      gathered = gathered_more on c.args.seats.now seats seats' i.gathered c.gather_at.ensures.gathered;
+      told = elim c.gather_at.ensures.looked as (λ _. (t : SeatLines) × (c.gather_at.new.batch.lines.items ≡ with_ends (all_lines t)) × Telling on (λ x. x.look) (λ x. x.stage ≡ stage.Queued) kind keys (n + 1) t seats') [
+        | inl same ↦ (
+          told,
+          ap (λ b. b.lines.items) same.0 ∙ i.told.1,
+          subst (λ x. Telling on (λ x. x.look) (λ x. x.stage ≡ stage.Queued) kind keys (n + 1) told x) (sym same.1)
+              (telling_idle on (λ x. x.look) (λ x. x.stage ≡ stage.Queued) kind keys n told seats same.2 i.told.2),
+        )
+        | inr more ↦ (
+          told ++ seat_lines (get_or keys n 0) more.0,
+          told_behind c.loop-looked.batch.lines.items c.gather_at.new.batch.lines.items told (get_or keys n 0) more.0 i.told.1 more.1,
+          telling_more on (λ x. x.look) (λ x. x.stage ≡ stage.Queued) kind keys n told seats seats' more.0
+              (subst (λ (k : WorldKind). SeatLooked on (λ x. x.look) (λ x. x.stage ≡ stage.Queued) k (get_or keys n 0) seats seats' more.0) i.kind more.2) i.told.2,
+        )
+      ];
+      kind = c.gather_at.ensures.kind ∙ i.kind;
+      room = c.gather_at.ensures.room;
+      inside = omega arith;
+    }
+
+pub returns-else-has_room-clause-told : goal.returns-else-has_room-clause-told
+returns-else-has_room-clause-told g c =
+    let i = c.loop-looked.invariant in
+    (i.told.0, i.told.1, telling_all (seats_of g.S.Stream.left g.S.Stream.gone) (λ x. x.look) (λ x. x.stage ≡ stage.Queued) c.args.batch.now.kind c.args.ready.now c.loop-looked.looked i.told.0 c.loop-looked.seats i.inside i.told.2)
+
+pub returns-after-loop-looked-clause-told : goal.returns-after-loop-looked-clause-told
+returns-after-loop-looked-clause-told g c =
+    let i = c.loop-looked.invariant in
+    (i.told.0, i.told.1, telling_all (seats_of g.S.Stream.left g.S.Stream.gone) (λ x. x.look) (λ x. x.stage ≡ stage.Queued) c.args.batch.now.kind c.args.ready.now c.loop-looked.looked i.told.0 c.loop-looked.seats i.inside i.told.2)

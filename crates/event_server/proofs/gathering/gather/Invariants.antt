@@ -1,12 +1,19 @@
-use Rattle.std.proofs.Common.{◌≤◌, ◌-◌, length}
+use Rattle.std.proofs.Common.{◌≡◌, ◌≤◌, ◌-◌, length}
+use Rattle.schedule_player.specs.Lines.{with_ends}
+use Rattle.event_server.specs.declared.connection.Stage.TheVariants as stage
 use Rattle.event_server.specs.Rooms.{IsRoom}
-use Rattle.event_server.specs.Seats.{seating}
+use Rattle.event_server.specs.Seats.{seats_of}
 use Rattle.event_server.specs.Gathering.{Gathered}
+use Rattle.event_server.specs.Told.{SeatLines, all_lines}
+use Rattle.event_server.proofs.ToldLemmas.{Telling}
 use Rattle.event_server.proofs.gathering.gather.Given as goal
 
 abbrev pub invariant-loop-looked : goal.invariant-loop-looked
 invariant-loop-looked g l = record {
-  gathered : Gathered (seating (λ c. g.S.Stream.left c.stream) (λ c. g.S.Stream.gone c.stream) (λ c. c.wire)) l.fn.seats l.seats;
+  gathered : Gathered (seats_of g.S.Stream.left g.S.Stream.gone) l.fn.seats l.seats;
+  told : (told : SeatLines) × (l.batch.lines.items ≡ with_ends (all_lines told)) ×
+      Telling (seats_of g.S.Stream.left g.S.Stream.gone) (λ c. c.look) (λ c. c.stage ≡ stage.Queued) l.fn.batch.kind l.ready l.looked told l.seats;
+  kind : l.batch.kind ≡ l.fn.batch.kind;
   room : IsRoom l.room;
   inside : l.looked ≤ length l.ready;
 }

@@ -1,25 +1,37 @@
-use Rattle.std.proofs.Common.{Ok, ap}
-use Rattle.event_server.specs.Seats.{seating}
-use Rattle.event_server.proofs.GatherLemmas.{gathered_unsent, gathered_more, unsent_after}
+use Rattle.std.proofs.Common.{◌≡◌, Ok, ap, take}
+use Rattle.event_server.specs.declared.connection.Stage.TheVariants as stage
+use Rattle.event_server.specs.Seats.{seats_of}
+use Rattle.event_server.proofs.GatherLemmas.{gathered_unsent, gathered_more}
+use Rattle.event_server.proofs.ToldLemmas.{told_broken, taken_told}
 use Rattle.event_server.proofs.gathering.turn_ahead.Goals as goal
 
-pub returns-in-Ok-clause-served : goal.returns-in-Ok-clause-served
-returns-in-Ok-clause-served g c = λ called same. record {
-  gathered_seats = c.gather-looked.new.seats;
-  learnt_by = c.learn.new.keep;
-  ready = c.learn.new.service;
-  gathered = c.gather-looked.ensures.gathered;
-  learnt = c.in-Ok-Known.ensures (ap Ok c.in-Ok-Known.field-0-is);
-  turn = c.in-Ok.ensures.turned;
-}
+pub returns-clause-served : goal.returns-clause-served
+returns-clause-served g c = λ called same.
+    let on = seats_of g.S.Stream.left g.S.Stream.gone in
+    let t = c.gather-looked.ensures.told in
+    let k = c.take_looked.ensures.taken in
+    record {
+      gathered_seats = c.gather-looked.new.seats;
+      learnt_by = c.learn.new.keep;
+      ready = c.learn.new.service;
+      gathered = c.gather-looked.ensures.gathered;
+      learnt = c.in-Ok-Known.ensures (ap Ok c.in-Ok-Known.field-0-is);
+      turn = record { log = k.0; told = c.take_looked.new.service; between = c.take_looked.new.seats; taken = k.1; kept = c.in_ok-keep.ensures; sent = c.send_replies.ensures };
+      told = t.0;
+      told_is = t.1;
+      each = taken_told on (λ x. x.look) (λ x. x.stage ≡ stage.Queued) c.args.batch.now.kind (take c.gather-looked.result c.args.ready.now) t.0 k.0 c.gather-looked.new.seats c.take_looked.new.seats t.2 k.2;
+    }
 
 pub returns-in-Ok-Lost-clause-unserved : goal.returns-in-Ok-Lost-clause-unserved
 returns-in-Ok-Lost-clause-unserved g c = λ called same.
-    gathered_more (seating (λ x. g.S.Stream.left x.stream) (λ x. g.S.Stream.gone x.stream) (λ x. x.wire)) c.args.seats.now c.gather-looked.new.seats c.give_up.new.seats c.gather-looked.ensures.gathered c.give_up.ensures
+    let on = seats_of g.S.Stream.left g.S.Stream.gone in
+    let t = c.gather-looked.ensures.told in
+    record {
+      gathered = gathered_more on c.args.seats.now c.gather-looked.new.seats c.give_up.new.seats c.gather-looked.ensures.gathered c.give_up.ensures.gathered;
+      told = t.0;
+      told_is = t.1;
+      broken = told_broken on (λ x. x.look) (λ x. x.stage ≡ stage.Queued) c.args.batch.now.kind (take c.gather-looked.result c.args.ready.now) t.0 c.gather-looked.new.seats c.give_up.new.seats t.2 c.give_up.ensures.told;
+    }
 
 pub returns-in-Err-clause-unsent : goal.returns-in-Err-clause-unsent
-returns-in-Err-clause-unsent g c = gathered_unsent (seating (λ x. g.S.Stream.left x.stream) (λ x. g.S.Stream.gone x.stream) (λ x. x.wire)) c.args.seats.now c.gather-looked.new.seats c.gather-looked.ensures.gathered
-
-pub returns-in-Err-turn-clause-unsent : goal.returns-in-Err-turn-clause-unsent
-returns-in-Err-turn-clause-unsent g c =
-    unsent_after (seating (λ x. g.S.Stream.left x.stream) (λ x. g.S.Stream.gone x.stream) (λ x. x.wire)) c.args.seats.now c.gather-looked.new.seats c.turn.new.seats c.gather-looked.ensures.gathered c.in-Err-turn.ensures.unsent
+returns-in-Err-clause-unsent g c = gathered_unsent (seats_of g.S.Stream.left g.S.Stream.gone) c.args.seats.now c.gather-looked.new.seats c.gather-looked.ensures.gathered

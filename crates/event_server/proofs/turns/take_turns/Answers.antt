@@ -1,13 +1,13 @@
 use Rattle.std.proofs.Common.{◌≡◌, inl, inr, ◌++◌, [], arith}
 use Rattle.schedule_player.specs.Shared.{TurnLog, tagged}
 use Rattle.event_server.specs.declared.connection.Stage.TheVariants as stage
-use Rattle.event_server.specs.Seats.{seating}
+use Rattle.event_server.specs.Seats.{seats_of}
 use Rattle.event_server.proofs.SeatLemmas.{Going, going_none, going_on}
 use Rattle.event_server.proofs.turns.take_turns.Goals as goal
 
 pub loop-called-init : goal.loop-called-init
 loop-called-init g c = record {
-  so = ([], going_none (seating (λ x. g.S.Stream.left x.stream) (λ x. g.S.Stream.gone x.stream) (λ x. x.wire)) g.D.Service.may (λ x. x.stage ≡ stage.Queued) c.args.service.now c.args.seats.now);
+  so = ([], going_none (seats_of g.S.Stream.left g.S.Stream.gone) g.D.Service.may (λ x. x.stage ≡ stage.Queued) c.args.service.now c.args.seats.now);
   room = c.requires.room;
   inside = omega arith;
 }
@@ -17,9 +17,9 @@ loop-called-preserved g c =
     let i = c.loop-called.invariant in
     let log = i.so.0 in
     record {
-      so = elim c.take_at.ensures.took as (λ _. (l : TurnLog) × Going (seating (λ x. g.S.Stream.left x.stream) (λ x. g.S.Stream.gone x.stream) (λ x. x.wire)) g.D.Service.may (λ x. x.stage ≡ stage.Queued) c.args.service.now c.args.seats.now l c.take_at.new.service c.take_at.new.seats) [
+      so = elim c.take_at.ensures.took as (λ _. (l : TurnLog) × Going (seats_of g.S.Stream.left g.S.Stream.gone) g.D.Service.may (λ x. x.stage ≡ stage.Queued) c.args.service.now c.args.seats.now l c.take_at.new.service c.take_at.new.seats) [
         | inl same ↦ (log, rw (same.0, same.1) i.so.1)
-        | inr turn ↦ (log ++ tagged _ turn.turns, going_on (seating (λ x. g.S.Stream.left x.stream) (λ x. g.S.Stream.gone x.stream) (λ x. x.wire)) g.D.Service.may (λ x. x.stage ≡ stage.Queued) c.args.service.now c.args.seats.now log c.loop-called.service c.take_at.new.service c.loop-called.seats c.take_at.new.seats _ i.so.1 turn)
+        | inr turn ↦ (log ++ tagged _ turn.turns, going_on (seats_of g.S.Stream.left g.S.Stream.gone) g.D.Service.may (λ x. x.stage ≡ stage.Queued) c.args.service.now c.args.seats.now log c.loop-called.service c.take_at.new.service c.loop-called.seats c.take_at.new.seats _ i.so.1 turn)
       ];
       room = c.take_at.ensures.room;
       inside = omega (arith, c.loop-called-test.true);

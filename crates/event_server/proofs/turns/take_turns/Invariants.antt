@@ -2,13 +2,13 @@ use Rattle.std.proofs.Common.{◌≡◌, ◌≤◌, ◌-◌, length}
 use Rattle.schedule_player.specs.Shared.{TurnLog}
 use Rattle.event_server.specs.declared.connection.Stage.TheVariants as stage
 use Rattle.event_server.specs.Rooms.{IsRoom}
-use Rattle.event_server.specs.Seats.{seating}
+use Rattle.event_server.specs.Seats.{seats_of}
 use Rattle.event_server.proofs.SeatLemmas.{Going}
 use Rattle.event_server.proofs.turns.take_turns.Given as goal
 
 abbrev pub invariant-loop-called : goal.invariant-loop-called
 invariant-loop-called g l = record {
-  so : (log : TurnLog) × Going (seating (λ c. g.S.Stream.left c.stream) (λ c. g.S.Stream.gone c.stream) (λ c. c.wire)) g.D.Service.may (λ c. c.stage ≡ stage.Queued) l.fn.service l.fn.seats log l.service l.seats;
+  so : (log : TurnLog) × Going (seats_of g.S.Stream.left g.S.Stream.gone) g.D.Service.may (λ c. c.stage ≡ stage.Queued) l.fn.service l.fn.seats log l.service l.seats;
   room : IsRoom l.room;
   inside : l.called ≤ length l.ready;
 }

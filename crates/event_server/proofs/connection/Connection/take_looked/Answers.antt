@@ -1,14 +1,36 @@
-use Rattle.std.proofs.Common.{◌++◌, refl}
+use Rattle.std.proofs.Common.{◌++◌, [], Option, refl, subst, sym}
 use Rattle.schedule_player.specs.RunProofs.{runs-append}
-use Rattle.event_server.proofs.WireLemmas.{takes_both}
+use Rattle.event_server.specs.Wires.{TakesLooked}
+use Rattle.event_server.specs.declared.look.Look.{Look}
+use Rattle.event_server.proofs.WireLemmas.{looked_nothing, looked_first, looked_end}
 use Rattle.event_server.proofs.connection.Connection.take_looked.Goals as goal
+
+pub returns-in_default-clause-takes : goal.returns-in_default-clause-takes
+returns-in_default-clause-takes g c = ([], refl, looked_nothing c.args.self.now.look (g.S.Stream.left c.args.self.now.stream) c.args.self.now.wire)
+
+pub returns-then-is_broken-clause-takes : goal.returns-then-is_broken-clause-takes
+returns-then-is_broken-clause-takes g c = ([], refl, looked_nothing c.args.self.now.look (g.S.Stream.left c.args.self.now.stream) c.args.self.now.wire)
 
 pub returns-then-may_read-clause-takes : goal.returns-then-may_read-clause-takes
 returns-then-may_read-clause-takes g c =
     let a = c.take_first.ensures.takes in
-    let b = c.read.ensures.takes in
-    let all = c.if-may_read.ensures in (
+    let b = c.take_end.ensures.takes in
+    let all = c.if-may_read.ensures in
+    let left = g.S.Stream.left c.args.self.now.stream in
+    let left' = g.S.Stream.left c.take_end.new.self.stream in
+    let s = c.args.self.now.wire in (
       a.0 ++ b.0,
-      runs-append g.D.Service.may c.args.service.now c.take_first.new.service c.read.new.service a.0 b.0 a.1 b.1,
-      takes_both (g.S.Stream.left c.args.self.now.stream) (g.S.Stream.left c.read.new.self.stream) c.args.self.now.wire c.take_first.new.self c.read.new.self.wire a.0 b.0 a.2 (all.whole refl) (all.none refl) b.2,
+      runs-append g.D.Service.may c.args.service.now c.take_first.new.service c.take_end.new.service a.0 b.0 a.1 b.1,
+      subst (λ (l : Option Look). TakesLooked (a.0 ++ b.0) l left s left' c.take_end.new.self.wire) (sym c.in-Some.is)
+          (looked_end c.in-Some.look left left' s c.take_first.new.self c.take_end.new.self.wire a.0 b.0 c.if-look.true a.2 (all.whole refl) (all.none refl) b.2),
+    )
+
+pub returns-else-look-clause-takes : goal.returns-else-look-clause-takes
+returns-else-look-clause-takes g c =
+    let a = c.take_first.ensures.takes in
+    let left = g.S.Stream.left c.args.self.now.stream in
+    let s = c.args.self.now.wire in (
+      a.0,
+      a.1,
+      subst (λ (l : Option Look). TakesLooked a.0 l left s left c.take_first.new.self) (sym c.in-Some.is) (looked_first a.0 c.in-Some.look left s c.take_first.new.self a.2),
     )

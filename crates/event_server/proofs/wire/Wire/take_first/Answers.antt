@@ -1,10 +1,10 @@
-use Rattle.std.proofs.Common.{◌≡◌, ◌∙◌, ◌++◌, List, ℕ, [], sym, ap, subst, drop, take}
-use Rattle.std.proofs.lemmas.List.{append-nil}
+use Rattle.std.proofs.Common.{rules, ◌≡◌, ◌∙◌, ◌++◌, ◌≤◌, List, ℕ, length, min, sym, ap, subst, drop, take}
+use Rattle.std.proofs.lemmas.List.{take_min}
 use Rattle.schedule_player.specs.Progress.{after_bytes}
 use Rattle.schedule_player.specs.Says.{Says}
 use Rattle.schedule_player.specs.Texts.{turn_reply}
 use Rattle.event_server.specs.WireState.{WireState}
-use Rattle.event_server.proofs.WireLemmas.{cut_first, takes_said}
+use Rattle.event_server.proofs.WireLemmas.{cut_first, takes_first}
 use Rattle.event_server.proofs.wire.Wire.take_first.Goals as goal
 
 pub returns-clause-takes : goal.returns-clause-takes
@@ -15,12 +15,17 @@ returns-clause-takes g c =
     let is = c.self-2.view_is in
     let same = c.hold.ensures.same in
     let all : c.deref.result.now ≡ s.inbox = c.deref.ensures.value ∙ ap (λ (q : WireState). q.inbox) was in
-    let cut = cut_first n _ c.deref.result.now c.take_some-used.ensures.taken ∙ ap (λ l. take n l) all in
+    let few = c.min-few.result in
+    let first : take few c.deref.result.now ≡ take few s.inbox = ap (λ l. take few l) all in
+    let cut = cut_first n few c.deref.result.now c.take_some-used.ensures.taken ∙ ap (λ l. take n l) all in
     let s' : WireState = record { talker = c.self-2.inside.talker; inbox = c.drop_front.new.bytes.items; outbox = c.self-2.inside.outbox.items; ended = c.self-2.inside.ended; broken = c.self-2.inside.broken } in
-    takes_said g.D.Service.may c.args.service.now c.take_some-used.new.service s s' c.self.inside.talker c.take_some-used.new.self [] s.inbox n c.args.replies.now c.take_some-used.new.out
-    (ap (λ (q : WireState). q.talker) was) (sym (ap (λ (q : WireState). q.talker) is ∙ same.0)) (sym (append-nil s.inbox)) c.requires.empty
+    let le : n ≤ length (take few s.inbox) = subst (λ (l : List ℕ). n ≤ length l) first c.take_some-used.ensures.taken in
+    let least : few ≡ min c.args.count (length s.inbox) = search rules in
+    let count : take few s.inbox ≡ take c.args.count s.inbox = ap (λ (k : ℕ). take k s.inbox) least ∙ take_min c.args.count s.inbox in
+    takes_first g.D.Service.may c.args.service.now c.take_some-used.new.service s s' c.self.inside.talker c.take_some-used.new.self c.args.count few n c.args.replies.now c.take_some-used.new.out
+    (ap (λ (q : WireState). q.talker) was) (sym (ap (λ (q : WireState). q.talker) is ∙ same.0)) c.requires.empty
     (subst (λ (l : List ℕ). Says g.D.Service.may turn_reply c.args.service.now c.self.inside.talker c.args.replies.now c.take_some-used.new.service c.take_some-used.new.self c.take_some-used.new.out (λ p. after_bytes c.self.inside.talker.kind p l)) cut c.take_some-used.ensures.says)
-    c.take_some-used.ensures.kept
+    le count c.take_some-used.ensures.kept
     (c.drop_front.ensures ∙ ap (λ l. drop n l) (ap (λ (q : WireState). q.inbox) is ∙ same.1 ∙ ap (λ (q : WireState). q.inbox) was)) (ap (λ (q : WireState). q.ended) is ∙ same.2 ∙ ap (λ (q : WireState). q.ended) was)
     (λ h.
     let held = c.hold.ensures.held (sym (ap (λ (q : WireState). q.broken) is) ∙ h) in

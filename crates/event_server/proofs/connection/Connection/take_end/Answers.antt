@@ -1,0 +1,34 @@
+use Rattle.std.proofs.Common.{rules, ◌≤◌, [], length, take, refl, arith}
+use Rattle.std.specs.Io.KnownBytes.{Consumes, IsAtEnd}
+use Rattle.event_server.proofs.WireLemmas.{takes_the_end, takes_no_end, takes_fault, consumes_kept}
+use Rattle.event_server.proofs.connection.Connection.take_end.Goals as goal
+
+pub returns-in-Ok-eq0-clause-takes : goal.returns-in-Ok-eq0-clause-takes
+returns-in-Ok-eq0-clause-takes g c =
+    let left = g.S.Stream.left c.args.self.now.stream in
+    let left' = g.S.Stream.left c.read_some.new.self in
+    let f = c.finish.ensures.takes in
+    let gave : Consumes left left' [] = search rules in
+    let end : IsAtEnd left' = search rules in
+    (f.0, f.1, takes_the_end f.0 left left' c.args.self.now.wire c.finish.new.self gave end c.requires.none f.2)
+
+pub returns-in-Ok-clause-takes : goal.returns-in-Ok-clause-takes
+returns-in-Ok-clause-takes g c =
+    let came = take c.in-Ok.field-0 c.read_some.new.buf in
+    let few : length came ≤ 65536 = search rules in
+    ([], refl, takes_fault (g.S.Stream.left c.args.self.now.stream) (g.S.Stream.left c.read_some.new.self) came c.args.self.now.wire c.fail.new.self few c.in-Ok.ensures.bytes.0 c.fail.ensures)
+
+pub returns-in-Err-clause-takes : goal.returns-in-Err-clause-takes
+returns-in-Err-clause-takes g c =
+    let s = c.args.self.now.wire in
+    ([], refl, takes_no_end (g.S.Stream.left c.args.self.now.stream) (g.S.Stream.left c.read_some.new.self) s s (consumes_kept _ _ c.in-Err.ensures.bytes) refl)
+
+pub returns-in-Err-2-clause-takes : goal.returns-in-Err-2-clause-takes
+returns-in-Err-2-clause-takes g c =
+    let s = c.args.self.now.wire in
+    ([], refl, takes_no_end (g.S.Stream.left c.args.self.now.stream) (g.S.Stream.left c.read_some.new.self) s s (consumes_kept _ _ c.in-Err-2.ensures.bytes) refl)
+
+pub returns-in-Err-3-clause-takes : goal.returns-in-Err-3-clause-takes
+returns-in-Err-3-clause-takes g c =
+    let s = c.args.self.now.wire in
+    ([], refl, takes_fault (g.S.Stream.left c.args.self.now.stream) (g.S.Stream.left c.read_some.new.self) [] s c.fail-in-Err-3.new.self (omega arith) (consumes_kept _ _ c.in-Err-3.ensures.bytes) c.fail-in-Err-3.ensures)

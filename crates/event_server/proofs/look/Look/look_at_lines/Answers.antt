@@ -1,0 +1,43 @@
+-- One line more is looked at, up to its LF.
+use Rattle.std.proofs.Common.{rules, ◌-◌, length, take, drop, ap, refl}
+use Rattle.std.proofs.lemmas.List.{take_rest}
+use Rattle.event_server.specs.declared.look.Look.{Look}
+use Rattle.event_server.specs.declared.look.Limits.{Limits}
+use Rattle.event_server.proofs.LookLemmas.{looked_next, looked_none, no_lf_in}
+use Rattle.event_server.proofs.look.Look.look_at_lines.Goals as goal
+
+pub returns-in_default-clause-none : goal.returns-in_default-clause-none
+returns-in_default-clause-none g c = λ same.
+    no_lf_in (drop c.loop-rest.self.bytes c.args.bytes.now) (take (length c.args.bytes.now - c.loop-rest.self.bytes) (drop c.loop-rest.self.bytes c.args.bytes.now))
+    (take_rest c.args.bytes.now c.loop-rest.self.bytes) c.in_default.ensures
+
+pub returns-then-not-branch-clause-looked : goal.returns-then-not-branch-clause-looked
+returns-then-not-branch-clause-looked g c =
+    let i = c.loop-rest.invariant in
+    let rest = take (length c.args.bytes.now - c.loop-rest.self.bytes) (drop c.loop-rest.self.bytes c.args.bytes.now) in
+    let is = c.take_line.ensures.rest in
+    let line = c.in_ok-take_line.ensures in
+    looked_next c.args.limits.now.kind c.args.self.now.long c.args.self.now.asks c.args.batch.now.items c.args.bytes.now c.loop-rest.self.bytes c.loop-rest.self.goes_on c.loop-rest.self.asks c.loop-rest.batch.items i.looked
+    rest c.in-Some.end c.take_line.new.self.bytes c.loop-rest.limits.kind c.take_line.new.self.goes_on c.take_line.new.self.asks c.take_line.new.batch.items
+    (take_rest c.args.bytes.now c.loop-rest.self.bytes) (ap (λ (q : Limits). q.kind) i.limits) (ap (λ (q : Look). q.bytes) is) (ap (λ (q : Look). q.goes_on) is) c.in-Some.ensures line.told line.asks
+
+pub loop-rest-init : goal.loop-rest-init
+loop-rest-init g c = record {
+  looked = rw (c.requires.0, c.requires.1) (looked_none c.args.limits.now.kind c.args.self.now.long c.args.self.now.asks c.args.batch.now.items c.args.bytes.now);
+  rest = refl;
+  limits = refl;
+}
+
+pub loop-rest-preserved : goal.loop-rest-preserved
+loop-rest-preserved g c =
+    let i = c.loop-rest.invariant in
+    let rest = take (length c.args.bytes.now - c.loop-rest.self.bytes) (drop c.loop-rest.self.bytes c.args.bytes.now) in
+    let is = c.take_line.ensures.rest in
+    let line = c.in_ok-take_line.ensures in
+    record {
+      looked = looked_next c.args.limits.now.kind c.args.self.now.long c.args.self.now.asks c.args.batch.now.items c.args.bytes.now c.loop-rest.self.bytes c.loop-rest.self.goes_on c.loop-rest.self.asks c.loop-rest.batch.items i.looked
+          rest c.in-Some.end c.take_line.new.self.bytes c.loop-rest.limits.kind c.take_line.new.self.goes_on c.take_line.new.self.asks c.take_line.new.batch.items
+          (take_rest c.args.bytes.now c.loop-rest.self.bytes) (ap (λ (q : Limits). q.kind) i.limits) (ap (λ (q : Look). q.bytes) is) (ap (λ (q : Look). q.goes_on) is) c.in-Some.ensures line.told line.asks;
+      rest = search rules;
+      limits = search rules;
+    }
