@@ -1,9 +1,12 @@
 -- the rules of worlds whose participants only begin and step
-use Rattle.std.specs.Prelude.{◌≡◌, ◌⊎◌, ℕ, zero, suc, Bool, true, false, List, map, Result, Ok, Err}
-use Rattle.step_memory.specs.Calls.{Call}
+use Rattle.std.specs.Prelude.{◌≡◌, ◌⊎◌, ◌&&◌, ℕ, zero, suc, Bool, true, false, List, map, Result, Ok, Err}
+use Rattle.step_memory.specs.Calls.{Call, reply_of}
 use Rattle.step_memory.specs.Calls.Call.{Began, Stepped}
 use Rattle.step_memory.specs.declared.refusal.Refusal.{Refusal}
 use Rattle.step_memory.specs.declared.refusal.Refusal.TheVariants as refusal
+use Rattle.step_memory.specs.World.{after_begin, after_step, begin_refusal, done_unless, may_refuse_step, step_answer}
+use Rattle.step_memory.specs.WorldMachine.{WorldParts}
+use Rattle.step_memory.specs.WorldState.{WorldState}
 use Rattle.commands.specs.declared.event.Event.TheVariants.{Begin, Step, Enter, Probe, Leave, Put, Get, Widen}
 use Rattle.commands.specs.declared.exchange.Exchange.{Exchange}
 use Rattle.commands.specs.declared.reply.Reply.{Reply}
@@ -34,6 +37,17 @@ pub record VisitRules (T X : Type 0) : Type 0 where
   pub stepped : T → ℕ → T
   pub lacks : T → ℕ → Bool
   pub shown : X → Reply
+
+-- the rules of a world that is a machine, whose accepted steps are shown so
+abbrev pub world_rules : {P S R V O X : Type 0} → WorldParts P S R V O X → (X → Reply) → VisitRules (WorldState S P) X
+world_rules parts shown = record {
+  begins = λ w p. done_unless (begin_refusal w p);
+  begun = λ w p. after_begin w p (parts.start p);
+  steps = λ w p. reply_of parts.shown (step_answer parts.program parts.memory w p);
+  stepped = λ w p. after_step parts.program parts.memory w p;
+  lacks = λ w p. parts.grows && may_refuse_step parts.program parts.memory w p;
+  shown = shown;
+}
 
 -- the reply to a step, where an accepted one is shown so
 abbrev pub said_reply : {X : Type 0} → (X → Reply) → Result X Refusal → Reply

@@ -5,9 +5,12 @@ ghost use Rattle.commands.specs.Config.{is_kind};
 ghost use Rattle.commands.specs.declared.kind.WorldKind.TheVariants.{Splitter};
 ghost use Rattle.schedule_player.specs.IsTalk.{IsTalk};
 ghost use Rattle.schedule_player.specs.IsTalkProofs.{talks_as};
+ghost use Rattle.splitter.proofs.SplitterTied.{splitter_proved};
+ghost use Rattle.splitter.specs.Machine.{splitter_parts};
+ghost use Rattle.schedule_player.specs.WorldRuns.{world_lawful};
 ghost use Rattle.schedule_player.specs.Visits.{visit_may, knows_visits};
 ghost use Rattle.schedule_player.specs.VisitProofs.{kind_meant, visit_answers, one_visit, visits_tell};
-ghost use Rattle.schedule_player.specs.SplitterWorld.{splitter_rules, IsSplitterRun, splitter_fresh, splitter_lawful, one_splitter_fresh};
+ghost use Rattle.schedule_player.specs.SplitterWorld.{splitter_rules, way_reply, IsSplitterRun, splitter_fresh, one_splitter_fresh};
 
 use crate::outcomes::visit_reply;
 use crate::service::Service;
@@ -60,7 +63,7 @@ impl<A: Allocator + Clone, R> World<A, R> for SplitterWorld<A> {
 
     ghost meant = { kind_meant Splitter refl };
 
-    ghost lawful = { splitter_lawful };
+    ghost lawful = { λ c w u ts fresh. world_lawful splitter_parts way_reply splitter_proved c.m w u tt fresh ts };
 
     ghost tells = { λ c w u ts fresh. visits_tell splitter_rules c.m w u ts };
 
