@@ -1,6 +1,6 @@
 -- how many may take part
 use Rattle.std.proofs.Common.{◌≤◌, arith}
-use Rattle.commands.specs.KindProofs.{facts_of}
+use Rattle.commands.specs.Config.{facts_of}
 use Rattle.commands.specs.declared.config.Config.{Config}
 
 -- under no config more than a view has room for

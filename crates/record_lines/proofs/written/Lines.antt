@@ -10,8 +10,8 @@ use Rattle.commands.specs.declared.kind.WorldKind.{WorldKind}
 use Rattle.commands.specs.declared.exchange.Exchange.{Exchange}
 use Rattle.commands.specs.declared.reply.Reply.{Reply}
 use Rattle.commands.specs.declared.reply.Reply.TheVariants as reply
-use Rattle.commands.specs.Config.{gives_names, world_name}
-use Rattle.commands.specs.KindProofs.{facts_of, name_has}
+use Rattle.commands.specs.Config.{facts_of, gives_names, world_name}
+use Rattle.commands.specs.KindProofs.{name_has}
 use Rattle.schedule_player.specs.Events.{event_words}
 use Rattle.schedule_player.specs.Lines.{has_no_lf, with_ends}
 use Rattle.schedule_player.specs.Records.{header_line, name_view, exchange_line, turn_record, record_of}

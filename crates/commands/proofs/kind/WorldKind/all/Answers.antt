@@ -1,4 +1,4 @@
-use Rattle.commands.specs.KindProofs.{facts_of}
+use Rattle.commands.specs.Config.{facts_of}
 use Rattle.commands.proofs.kind.WorldKind.all.Goals as goal
 
 pub returns : goal.returns
