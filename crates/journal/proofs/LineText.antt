@@ -5,9 +5,9 @@ use Rattle.std.proofs.lemmas.Bool.{and_parts}
 use Rattle.std.proofs.lemmas.Bool.Decides.{nat_tests}
 use Rattle.std.proofs.lemmas.List.Folds.{list_all-append}
 use Rattle.commands.specs.Config.{world_name}
+use Rattle.commands.specs.KindProofs.{name_has}
 use Rattle.commands.specs.declared.config.Config.{Config}
 use Rattle.commands.specs.declared.kind.WorldKind.{WorldKind}
-use Rattle.commands.specs.declared.kind.WorldKind.TheVariants.{Splitter, Grid, Rename, Tree}
 use Rattle.commands.specs.declared.event.Event.{Event}
 use Rattle.commands.specs.declared.event.Event.TheVariants as event
 use Rattle.commands.specs.declared.exchange.Exchange.{Exchange}
@@ -99,10 +99,7 @@ head_of c =
     ++ codes ",\"version\":2,\"world\":\"" ++ world_name c.world ++ codes "\"}"
 
 world_text : (kind : WorldKind) → are_text (world_name kind) ≡ true
-world_text Splitter = refl
-world_text Grid = refl
-world_text Rename = refl
-world_text Tree = refl
+world_text kind = name_has is_text (λ byte letter. grind (arith, nat_tests)) kind
 
 head_text : (c : Config) → are_text (head_of c) ≡ true
 head_text c =

@@ -40,7 +40,6 @@ fn draw_for<T: Threads + Sync, W: Sink>(
 }
 
 // Plays a run, and writes the replies or its record.
-#[tactic(auto, using(schedule_player::specs::PlayedByKind::played_by_kind))]
 fn play_for<R: Source, W: Sink, A: Allocator + Clone>(
     alloc: A,
     playing: Playing,

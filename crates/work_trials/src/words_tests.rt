@@ -22,7 +22,12 @@ fn refuses(alloc: Global, line: &str) -> bool {
 // The world and the numbers of the config that the words of a line ask to play.
 fn chosen(alloc: Global, line: &str) -> Option<(WorldKind, u64, u64, u64)> {
     let words = words_of(alloc, line);
-    match ask(alloc, words.as_slice()) {
+    chosen_by(alloc, words.as_slice())
+}
+
+// The same of these words.
+fn chosen_by(alloc: Global, words: &[&str]) -> Option<(WorldKind, u64, u64, u64)> {
+    match ask(alloc, words) {
         Ok(Ask::Play(playing)) => {
             let config = playing.config;
             Some((config.world, config.m, config.k, config.limit))
@@ -241,6 +246,18 @@ fn options_are_read(rt: HostRuntime) {
         ("slotctl play --limit 007", (WorldKind::Rename, 4, 4, 7)),
     ] {
         assert_eq!(rt; chosen(rt.alloc(), line), Some(want), "{line}");
+    }
+}
+
+#[test]
+fn every_world_is_chosen_by_its_name(rt: HostRuntime) {
+    for kind in WorldKind::all() {
+        let words = ["slotctl", "play", "--world", kind.name()];
+        assert_eq!(rt;
+            chosen_by(rt.alloc(), &words),
+            Some((kind, 4, 4, 1000)),
+            "{kind:?}"
+        );
     }
 }
 

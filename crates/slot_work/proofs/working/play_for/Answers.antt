@@ -2,7 +2,6 @@
 use Rattle.std.proofs.Common.{◌≡◌, ℕ, Bool, false, Result, Ok, sym, subst, ap}
 use Rattle.schedule_player.specs.declared.fault.Fault.{Fault}
 use Rattle.schedule_player.specs.Played.{reading, writing}
-use Rattle.schedule_player.specs.PlayedByKind.{played_by_kind}
 use Rattle.slot_work.specs.Done.{IsPlayedBy}
 use Rattle.slot_work.specs.Statuses.{status_after}
 use Rattle.slot_work.proofs.working.play_for.Goals as goal
@@ -12,6 +11,5 @@ returns-in-Ok-play g c =
     let config = c.args.playing.config in
     let reads = reading g.R.Read.remaining g.R.Source.calls g.R.Source.failed in
     let writes = writing g.W.Write.contents g.W.Sink.failed in
-    let played = played_by_kind config reads writes c.args.reader.now c.play.new.reader c.args.writer.now c.play.new.writer c.play.result c.play.ensures.splitter c.play.ensures.grid c.play.ensures.names in
-    let so : IsPlayedBy false config reads writes c.args.reader.now c.play.new.reader c.args.writer.now c.play.new.writer (Ok 0) = (c.play.result, sym (ap status_after c.in-Ok-play.is), played) in
+    let so : IsPlayedBy false config reads writes c.args.reader.now c.play.new.reader c.args.writer.now c.play.new.writer (Ok 0) = (c.play.result, sym (ap status_after c.in-Ok-play.is), c.play.ensures.talk) in
     subst (λ (b : Bool). IsPlayedBy b config reads writes c.args.reader.now c.play.new.reader c.args.writer.now c.play.new.writer (Ok 0)) (sym c.if-recorded.false) so
