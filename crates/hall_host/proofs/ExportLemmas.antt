@@ -34,7 +34,7 @@ pub line_more : (history : List Exchange) (n : ℕ) (x : Exchange) (old mid new 
     Appends old mid (command_lines (take n history)) → Appends mid new (command_line x) → Appends old new (command_lines (take (n + 1) history))
 line_more history n x old mid new has before written =
     let more : command_lines (take n history) ++ command_line x ≡ command_lines (take (suc n) history) =
-      sym (ap command_lines (take_more history n x has) ∙ (flat_map-append command_line (take n history) (x ∷ []) ∙ ap (λ t. command_lines (take n history) ++ t) (append-nil (command_line x)))) in
+    sym (ap command_lines (take_more history n x has) ∙ (flat_map-append command_line (take n history) (x ∷ []) ∙ ap (λ t. command_lines (take n history) ++ t) (append-nil (command_line x)))) in
     let all = appends_more old mid new (command_lines (take n history)) (command_line x) (command_lines (take (suc n) history)) before written more in
     subst (λ (k : ℕ). Appends old new (command_lines (take k history))) (sym (add-one n)) all
 
