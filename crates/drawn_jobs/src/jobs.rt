@@ -8,7 +8,7 @@ ghost use Rattle.drawn_schedules.specs.declared.tally.Tally.{Tally};
 
 use commands::Config;
 use drawn_schedules::{Tally, play_drawn, play_share, write_tallies};
-use schedule_player::{Fault, Sink};
+use player::{Fault, Sink};
 use std::alloc::Global;
 use std::thread;
 use std::thread::Threads;

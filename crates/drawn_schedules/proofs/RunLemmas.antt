@@ -23,7 +23,7 @@ use Rattle.desk.proofs.DeskLaws.{fresh, goes_on, law}
 use Rattle.drawn_schedules.specs.declared.tally.Tally.{Tally}
 use Rattle.drawn_schedules.specs.Schedule.{begins_from, opened, schedule, steps_drawn}
 use Rattle.drawn_schedules.specs.Runs.{IsAmple, HasPlayed, PlaysFrom, IsDrawnRun, AreDrawnRuns, HasDrawn, IsToldOf, numbers_line, run_line, run_lines}
-use Rattle.schedule_player.specs.UnderWay.{IsUnderWay}
+use Rattle.player.specs.UnderWay.{IsUnderWay}
 use Rattle.drawn_schedules.proofs.UnderWayLemmas.{at_first}
 use Rattle.drawn_schedules.specs.Tally.{IsTallyOf, how_many, is_named, is_spent, one_more_if}
 

@@ -5,7 +5,7 @@ use Rattle.rand_pcg.specs.Pcg.{pcg32}
 use Rattle.commands.specs.declared.event.Event.{Event}
 use Rattle.commands.specs.declared.event.Event.TheVariants as event
 use Rattle.drawn_schedules.specs.Schedule.{begins_from, opened, schedule, steps_drawn}
-use Rattle.schedule_player.specs.Events.{event_words, event_lines}
+use Rattle.player.specs.Events.{event_words, event_lines}
 
 pub event_lines-append : (events more : List Event) → event_lines (events ++ more) ≡ event_lines events ++ event_lines more
 event_lines-append [] more = refl

@@ -3,8 +3,8 @@ use Rattle.std.proofs.Common.{◌≡◌, ℕ, ◌++◌, List, [], length, take, 
 use Rattle.std.proofs.lemmas.List.{append-nil}
 use Rattle.std.proofs.Math.Seq.{take-append_seam}
 use Rattle.std.specs.Io.KnownBytes.{Appends}
-use Rattle.schedule_player.specs.UnderWay.{IsUnderWay, GoesFrom, GoesPast, StopsWithin}
-use Rattle.schedule_player.specs.Written.{HasPartOf}
+use Rattle.player.specs.UnderWay.{IsUnderWay, GoesFrom, GoesPast, StopsWithin}
+use Rattle.player.specs.Written.{HasPartOf}
 
 module _ (this : List ℕ) (old : Option (List ℕ)) (held : List ℕ) (mid : Option (List ℕ)) (held' : List ℕ) where
   -- one piece more

@@ -16,7 +16,7 @@ use bumpalo::Bump;
 use commands::{Config, Event, ShortReply};
 use desk::Desk;
 use rand_pcg::Lcg64Xsh32;
-use schedule_player::{Fault, HELD_REPLIES, Replies, Sink, put_word};
+use player::{Fault, HELD_REPLIES, Replies, Sink, put_word};
 use std::alloc::Allocator;
 use step_memory::{Refusal, View};
 

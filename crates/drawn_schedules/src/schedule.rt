@@ -4,15 +4,15 @@ ghost use Rattle.std.specs.Prelude.{◌≡◌, ◌<◌, ◌≤◌, ◌+◌, ◌*
 ghost use Rattle.std.specs.Io.KnownBytes.{Appends};
 ghost use Rattle.rand_pcg.specs.Pcg.{pcg32};
 ghost use Rattle.drawn_schedules.specs.Schedule.{begins_from, opened, schedule, steps_drawn};
-ghost use Rattle.schedule_player.specs.Events.{event_lines, event_words};
-ghost use Rattle.schedule_player.specs.UnderWay.{GoesPast, StopsWithin};
-ghost use Rattle.schedule_player.specs.Written.{HasPartOf};
+ghost use Rattle.player.specs.Events.{event_lines, event_words};
+ghost use Rattle.player.specs.UnderWay.{GoesPast, StopsWithin};
+ghost use Rattle.player.specs.Written.{HasPartOf};
 
 use commands::Event;
 use rand_core::SeedableRng;
 use rand_core::utils::NextWord;
 use rand_pcg::Lcg64Xsh32;
-use schedule_player::{EVENT_ROOM, Fault, Replies, Sink, print_event};
+use player::{EVENT_ROOM, Fault, Replies, Sink, print_event};
 use std::alloc::Allocator;
 
 /// The line of no event has more bytes.

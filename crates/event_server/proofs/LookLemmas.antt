@@ -5,8 +5,8 @@ use Rattle.std.proofs.lemmas.Bool.{eqb-true}
 use Rattle.std.proofs.Math.Seq.{take-add}
 use Rattle.commands.specs.declared.kind.WorldKind.{WorldKind}
 use Rattle.memchr.specs.Find.{IsFirstByte, Nowhere, Passes, is_byte}
-use Rattle.schedule_player.specs.Lines.{has_no_lf, lines, rest_from, rest_of, unless_empty, whole_lines, whole_lines_from, with_ends}
-use Rattle.schedule_player.specs.Meaning.{meaning}
+use Rattle.player.specs.Lines.{has_no_lf, lines, rest_from, rest_of, unless_empty, whole_lines, whole_lines_from, with_ends}
+use Rattle.player.specs.Meaning.{meaning}
 use Rattle.event_server.specs.Told.{is_request, requests, behind, requests_in, HasLooked}
 
 both : (a b : Bool) → (a && b) ≡ true → (a ≡ true) × (b ≡ true)

@@ -5,11 +5,11 @@ use Rattle.std.proofs.lemmas.Bool.{cases_eq, eq-eqb, ne_eqb}
 use Rattle.std.specs.Io.KnownBytes.{Appends}
 use Rattle.commands.specs.declared.reply.Reply.{Reply}
 use Rattle.commands.specs.Requests.{Request}
-use Rattle.schedule_player.specs.Runs.{Runs}
-use Rattle.schedule_player.specs.RunProofs.{runs-append}
-use Rattle.schedule_player.specs.Shared.{TurnLog, turns_of, all_turns, tagged}
-use Rattle.schedule_player.specs.SharedProofs.{all-append, all-tagged, of-append, of-same, of-other}
-use Rattle.schedule_player.specs.Turns.{Turn}
+use Rattle.player.specs.Runs.{Runs}
+use Rattle.player.specs.RunProofs.{runs-append}
+use Rattle.player.specs.Shared.{TurnLog, turns_of, all_turns, tagged}
+use Rattle.player.specs.SharedProofs.{all-append, all-tagged, of-append, of-same, of-other}
+use Rattle.player.specs.Turns.{Turn}
 use Rattle.event_server.specs.Seats.{Seating, SeatTakes, SeatSends, SeatTurn, SeatSent, TurnsTaken, RepliesSent}
 use Rattle.event_server.specs.Wires.{TakesOf, SendsTo}
 use Rattle.event_server.proofs.WireLemmas.{takes_none, consumes_none}

@@ -5,11 +5,11 @@ use Rattle.std.proofs.lemmas.Bool.{cases_eq, eq-eqb, ne_eqb}
 use Rattle.commands.specs.declared.kind.WorldKind.{WorldKind}
 use Rattle.commands.specs.declared.reply.Reply.{Reply}
 use Rattle.commands.specs.Requests.{Request}
-use Rattle.schedule_player.specs.Lines.{with_ends}
-use Rattle.schedule_player.specs.Runs.{Runs}
-use Rattle.schedule_player.specs.Shared.{TurnLog, turns_of, tagged}
-use Rattle.schedule_player.specs.SharedProofs.{of-append, of-same, of-other}
-use Rattle.schedule_player.specs.Turns.{Turn}
+use Rattle.player.specs.Lines.{with_ends}
+use Rattle.player.specs.Runs.{Runs}
+use Rattle.player.specs.Shared.{TurnLog, turns_of, tagged}
+use Rattle.player.specs.SharedProofs.{of-append, of-same, of-other}
+use Rattle.player.specs.Turns.{Turn}
 use Rattle.event_server.specs.Gathering.{SeatGathers, Gathered, SeatIdle, SeatAsks, SeatBroken, SeatLooked, Told, SeatTakesLooked, SeatTurnLooked, TakenLooked, SeatToldAndTakes}
 use Rattle.event_server.specs.Seats.{Seating}
 use Rattle.event_server.specs.Told.{SeatLines, EndsWith, IsAmong, all_lines, asks_of, bytes_of, ends_of, lines_of, long_of, requests, requests_in, requests_seen}

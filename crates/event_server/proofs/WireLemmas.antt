@@ -6,12 +6,12 @@ use Rattle.std.specs.Io.KnownBytes.{Appends, Consumes, IsAtEnd, Keeps}
 use Rattle.commands.specs.declared.reply.Reply.{Reply}
 use Rattle.commands.specs.Requests.{Request}
 use Rattle.commands.specs.declared.kind.WorldKind.{WorldKind}
-use Rattle.schedule_player.specs.Progress.{Progress, after_byte, after_bytes, after_end}
-use Rattle.schedule_player.specs.Runs.{Runs}
-use Rattle.schedule_player.specs.Says.{Says, Spoke}
-use Rattle.schedule_player.specs.Texts.{turn_reply, replies_of}
-use Rattle.schedule_player.specs.TalkerState.{TalkerState}
-use Rattle.schedule_player.specs.Turns.{Turn}
+use Rattle.player.specs.Progress.{Progress, after_byte, after_bytes, after_end}
+use Rattle.player.specs.Runs.{Runs}
+use Rattle.player.specs.Says.{Says, Spoke}
+use Rattle.player.specs.Texts.{turn_reply, replies_of}
+use Rattle.player.specs.TalkerState.{TalkerState}
+use Rattle.player.specs.Turns.{Turn}
 use Rattle.event_server.specs.WireState.{WireState}
 use Rattle.event_server.specs.Told.{bytes_of}
 use Rattle.event_server.specs.Wires.{Takes, TakesEnd, TakesFirst, TakesLooked, TakesOf, after_taken}

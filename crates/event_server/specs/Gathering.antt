@@ -4,9 +4,9 @@ use Rattle.std.specs.Io.KnownBytes.{Consumes}
 use Rattle.commands.specs.declared.reply.Reply.{Reply}
 use Rattle.commands.specs.Requests.{Request}
 use Rattle.commands.specs.declared.kind.WorldKind.{WorldKind}
-use Rattle.schedule_player.specs.Lines.{with_ends}
-use Rattle.schedule_player.specs.Shared.{TurnLog, turns_of}
-use Rattle.schedule_player.specs.Turns.{Turn}
+use Rattle.player.specs.Lines.{with_ends}
+use Rattle.player.specs.Shared.{TurnLog, turns_of}
+use Rattle.player.specs.Turns.{Turn}
 use Rattle.event_server.specs.Told.{SeatLines, EndsWith, IsAmong, all_lines, asks_of, lines_of, requests_seen}
 use Rattle.event_server.specs.WireState.{WireState}
 use Rattle.event_server.specs.Wires.{TakesLooked}

@@ -2,9 +2,9 @@
 use Rattle.std.specs.Prelude.{◌≡◌, ◌≢◌, ℕ, List, [], length, get_or, Option, Some, None}
 use Rattle.commands.specs.declared.reply.Reply.{Reply}
 use Rattle.commands.specs.Requests.{Request}
-use Rattle.schedule_player.specs.Runs.{Runs}
-use Rattle.schedule_player.specs.Shared.{TurnLog, turns_of, all_turns}
-use Rattle.schedule_player.specs.Turns.{Turn}
+use Rattle.player.specs.Runs.{Runs}
+use Rattle.player.specs.Shared.{TurnLog, turns_of, all_turns}
+use Rattle.player.specs.Turns.{Turn}
 use Rattle.event_server.specs.WireState.{WireState}
 use Rattle.event_server.specs.Wires.{TakesOf, SendsTo}
 use Rattle.event_server.specs.declared.connection.Connection.{Connection}

@@ -1,6 +1,6 @@
 -- what a contract sees of a connection without its stream
 use Rattle.std.specs.Prelude.{ℕ, List, Bool}
-use Rattle.schedule_player.specs.TalkerState.{TalkerState}
+use Rattle.player.specs.TalkerState.{TalkerState}
 
 -- one side of a talk, what came and is not taken yet, what was said and is not sent yet, whether the end of what comes was taken, and
 -- whether it is at fault: then nothing more is read or sent

@@ -4,11 +4,11 @@ use Rattle.std.specs.Io.KnownBytes.{Appends, Consumes, IsAtEnd}
 use Rattle.commands.specs.declared.kind.WorldKind.{WorldKind}
 use Rattle.commands.specs.declared.reply.Reply.{Reply}
 use Rattle.commands.specs.Requests.{Request}
-use Rattle.schedule_player.specs.Progress.{Progress, after_bytes, after_end}
-use Rattle.schedule_player.specs.Runs.{Runs}
-use Rattle.schedule_player.specs.Says.{Spoke, IsSilent}
-use Rattle.schedule_player.specs.Texts.{replies_of}
-use Rattle.schedule_player.specs.Turns.{Turn}
+use Rattle.player.specs.Progress.{Progress, after_bytes, after_end}
+use Rattle.player.specs.Runs.{Runs}
+use Rattle.player.specs.Says.{Spoke, IsSilent}
+use Rattle.player.specs.Texts.{replies_of}
+use Rattle.player.specs.Turns.{Turn}
 use Rattle.event_server.specs.Told.{bytes_of, ends_of}
 use Rattle.event_server.specs.WireState.{WireState}
 use Rattle.event_server.specs.declared.look.Look.{Look}

@@ -3,10 +3,10 @@
 ghost use Rattle.std.specs.Prelude.{◌≡◌, ◌+◌, ◌++◌, ◌≤◌, true, false, List, [], length, take, drop, IsTrue};
 ghost use Rattle.std.specs.Io.KnownBytes.{Appends};
 ghost use Rattle.commands.specs.Requests.{Request};
-ghost use Rattle.schedule_player.specs.Lines.{with_ends};
-ghost use Rattle.schedule_player.specs.Runs.{Runs};
-ghost use Rattle.schedule_player.specs.Turns.{Turn};
-ghost use Rattle.schedule_player.specs.declared.form.TheConstants.{TURN_ROOM};
+ghost use Rattle.player.specs.Lines.{with_ends};
+ghost use Rattle.player.specs.Runs.{Runs};
+ghost use Rattle.player.specs.Turns.{Turn};
+ghost use Rattle.player.specs.declared.form.TheConstants.{TURN_ROOM};
 ghost use Rattle.event_server.specs.Rooms.{IsRoom};
 ghost use Rattle.event_server.specs.Told.{asks_of, requests_seen, IsSameGrant};
 ghost use Rattle.event_server.specs.Wires.{SomeTaken, TakesEnd, TakesLooked, SendsTo};
@@ -18,7 +18,7 @@ use crate::room::{READ_ROOM, Room};
 use crate::stream::Stream;
 use crate::wire::{MOST_LINES, UNSENT_ROOM, Wire};
 use commands::WorldKind;
-use schedule_player::{Service, TURN_ROOM};
+use player::{Service, TURN_ROOM};
 use std::alloc::Allocator;
 use std::io::ErrorKind;
 

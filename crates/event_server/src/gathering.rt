@@ -2,8 +2,8 @@
 
 ghost use Rattle.std.specs.Prelude.{◌≡◌, ◌⊎◌, ℕ, List, ◌++◌, ◌≤◌, true, [], length, get_or, take, None, OnErr};
 ghost use Rattle.commands.specs.Requests.{Request};
-ghost use Rattle.schedule_player.specs.Lines.{with_ends};
-ghost use Rattle.schedule_player.specs.Shared.{TurnLog};
+ghost use Rattle.player.specs.Lines.{with_ends};
+ghost use Rattle.player.specs.Shared.{TurnLog};
 ghost use Rattle.event_server.specs.Rooms.{IsRoom};
 ghost use Rattle.event_server.specs.Seats.{seats_of, NoneSent, TurnsTaken};
 ghost use Rattle.event_server.specs.Gathering.{Gathered, SeatIdle, SeatLooked, SeatAsks, SeatBroken, SeatTurnLooked, TakenLooked, Told, TurnAhead, Unlearnt};
@@ -16,7 +16,7 @@ use crate::room::Room;
 use crate::stream::Stream;
 use crate::turns::send_replies;
 use commands::WorldKind;
-use schedule_player::Service;
+use player::Service;
 use std::alloc::Allocator;
 
 /// What is told to a keeper before a turn takes it.

@@ -14,7 +14,7 @@ use commands::WorldKind;
 use mio::net::TcpListener;
 use mio::unix::SourceFd;
 use mio::{Events, Interest, Poll, Token};
-use schedule_player::Service;
+use player::Service;
 use std::alloc::Global;
 use std::io::{ErrorKind, Write};
 use std::net::{Net, SocketAddr};

@@ -15,7 +15,7 @@
 //! the answers were not learnt in time, nothing is sent to any, and whoever has a line in the batch is at fault (`Unlearnt`). That nothing
 //! of what was looked at is left over is not promised but shown by running it (`turn_trials`).
 //!
-//! `law_of_sharing` in `schedule_player` makes such turns, one after another, one log.
+//! `law_of_sharing` in `player` makes such turns, one after another, one log.
 //!
 //! `host` is a whole server over sockets: it waits until some are ready (`mio`), gives those their turn, and closes who is at an end or idle.
 //!

@@ -1,14 +1,14 @@
 //! What is seen of a connection's lines before its turn takes them.
 
 ghost use Rattle.std.specs.Prelude.{◌≡◌, ◌++◌, ◌≤◌, List, ℕ, true, false, [], ◌∷◌, length, take, drop, IfOk};
-ghost use Rattle.schedule_player.specs.Lines.{has_no_lf, unless_empty, with_ends};
-ghost use Rattle.schedule_player.specs.Meaning.{meaning};
+ghost use Rattle.player.specs.Lines.{has_no_lf, unless_empty, with_ends};
+ghost use Rattle.player.specs.Meaning.{meaning};
 ghost use Rattle.event_server.specs.Told.{is_request, requests, behind, requests_in, HasLooked};
 
 use crate::wire::UNSENT_ROOM;
 use commands::{Command, Event, WorldKind};
 use memchr::memchr;
-use schedule_player::{REPLY_ROOM, TURN_ROOM, parse_line};
+use player::{REPLY_ROOM, TURN_ROOM, parse_line};
 use std::alloc::{AllocError, Allocator};
 
 /// What ends a line.

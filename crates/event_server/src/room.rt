@@ -3,7 +3,7 @@
 ghost use Rattle.std.specs.Prelude.{◌≡◌, length, IfOk};
 ghost use Rattle.event_server.specs.Rooms.{IsRoom};
 
-use schedule_player::Replies;
+use player::Replies;
 use std::alloc::Allocator;
 use step_memory::{NoMemory, View};
 

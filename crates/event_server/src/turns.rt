@@ -2,7 +2,7 @@
 
 ghost use Rattle.std.specs.Prelude.{◌≡◌, ◌⊎◌, ◌+◌, ◌≤◌, true, length, OnOk, IfOk, OnErr};
 ghost use Rattle.commands.specs.Requests.{Request};
-ghost use Rattle.schedule_player.specs.Shared.{TurnLog};
+ghost use Rattle.player.specs.Shared.{TurnLog};
 ghost use Rattle.event_server.specs.Rooms.{IsRoom};
 ghost use Rattle.event_server.specs.Seats.{seats_of, TurnsTaken, RepliesSent, NoneSent, SeatTurn, SeatSent, LoopTurn};
 
@@ -10,7 +10,7 @@ use crate::connection::{Connection, Stage};
 use crate::keep::Keep;
 use crate::room::Room;
 use crate::stream::Stream;
-use schedule_player::Service;
+use player::Service;
 use std::alloc::Allocator;
 
 // The connection of a seat has its turn, where there is one and its turn is due.

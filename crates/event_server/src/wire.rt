@@ -1,14 +1,14 @@
 //! A connection without its stream.
 
 ghost use Rattle.std.specs.Prelude.{◌≡◌, ◌↔◌, ◌+◌, ◌<◌, ◌≤◌, ◌++◌, true, false, List, [], length, drop, IfOk, IsTrue};
-ghost use Rattle.schedule_player.specs.Knows.{Knows};
-ghost use Rattle.schedule_player.specs.Runs.{Runs};
-ghost use Rattle.schedule_player.specs.Turns.{Turn};
-ghost use Rattle.schedule_player.specs.declared.form.TheConstants.{TURN_ROOM};
+ghost use Rattle.player.specs.Knows.{Knows};
+ghost use Rattle.player.specs.Runs.{Runs};
+ghost use Rattle.player.specs.Turns.{Turn};
+ghost use Rattle.player.specs.declared.form.TheConstants.{TURN_ROOM};
 ghost use Rattle.event_server.specs.Wires.{IsNewWire, Takes, TakesFirst};
 
 use commands::WorldKind;
-use schedule_player::{AsReplies, Replies, Service, TURN_ROOM, Talker};
+use player::{AsReplies, Replies, Service, TURN_ROOM, Talker};
 use std::alloc::Allocator;
 use std::marker::Model;
 use step_memory::{NoMemory, View};

@@ -9,13 +9,13 @@ use Rattle.commands.specs.declared.exchange.Exchange.{Exchange}
 use Rattle.commands.specs.declared.reply.Reply.{Reply}
 use Rattle.run_checker.specs.Migrated.{record_text}
 use Rattle.journal_disk.specs.DiskState.{DiskState}
-use Rattle.schedule_player.specs.Progress.{Progress}
-use Rattle.schedule_player.specs.Runs.{Runs}
-use Rattle.schedule_player.specs.Says.{Spoke}
-use Rattle.schedule_player.specs.Shared.{TurnLog, all_turns, turns_of}
-use Rattle.schedule_player.specs.TalkerState.{TalkerState}
-use Rattle.schedule_player.specs.Turns.{Turn, exchanges}
-use Rattle.schedule_player.specs.Turns.Turn.{Answered, Told, Ended, Misread}
+use Rattle.player.specs.Progress.{Progress}
+use Rattle.player.specs.Runs.{Runs}
+use Rattle.player.specs.Says.{Spoke}
+use Rattle.player.specs.Shared.{TurnLog, all_turns, turns_of}
+use Rattle.player.specs.TalkerState.{TalkerState}
+use Rattle.player.specs.Turns.{Turn, exchanges}
+use Rattle.player.specs.Turns.Turn.{Answered, Told, Ended, Misread}
 use Rattle.locked_world.specs.Halls.{HallMay, IsLawful, after_unless, hall_refusal}
 use Rattle.locked_world.specs.HallState.{HallState}
 use Rattle.locked_world.specs.Serving.{HallServes, accepted}

@@ -2,11 +2,11 @@
 use Rattle.std.specs.Prelude.{◌≡◌, ℕ, List, ◌++◌, length, get_or, Bool, false, Option, Some, None}
 use Rattle.std.specs.Io.KnownBytes.{Appends, Consumes}
 use Rattle.journal_disk.specs.DiskState.{DiskState}
-use Rattle.schedule_player.specs.Progress.{Progress}
-use Rattle.schedule_player.specs.Says.{Spoke}
-use Rattle.schedule_player.specs.Shared.{TurnLog, all_turns, turns_of}
-use Rattle.schedule_player.specs.Texts.{replies_of}
-use Rattle.schedule_player.specs.Turns.{Turn, exchanges}
+use Rattle.player.specs.Progress.{Progress}
+use Rattle.player.specs.Says.{Spoke}
+use Rattle.player.specs.Shared.{TurnLog, all_turns, turns_of}
+use Rattle.player.specs.Texts.{replies_of}
+use Rattle.player.specs.Turns.{Turn, exchanges}
 use Rattle.locked_world.specs.HallState.{HallState}
 use Rattle.locked_world.specs.Serving.{accepted}
 use Rattle.journal.specs.declared.journal.Journal.{Journal}

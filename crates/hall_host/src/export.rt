@@ -7,7 +7,7 @@ ghost use Rattle.hall_host.specs.Exports.{command_line, command_lines};
 use crate::failure::HostFailure;
 use commands::Exchange;
 use locked_world::Hall;
-use schedule_player::{Replies, print_event};
+use player::{Replies, print_event};
 use std::alloc::Global;
 use std::io::Write;
 

@@ -5,9 +5,9 @@ use Rattle.commands.specs.declared.event.Event.{Event}
 use Rattle.commands.specs.declared.reply.Reply.{Reply}
 use Rattle.commands.specs.declared.reply.Reply.TheVariants as reply
 use Rattle.one_log.specs.Groups.{IsDetermined}
-use Rattle.schedule_player.specs.Runs.{NoneRefusedGrowth, Runs}
-use Rattle.schedule_player.specs.Turns.{Turn, asked}
-use Rattle.schedule_player.specs.Turns.Turn.{Answered, Told, Ended, Misread}
+use Rattle.player.specs.Runs.{NoneRefusedGrowth, Runs}
+use Rattle.player.specs.Turns.{Turn, asked}
+use Rattle.player.specs.Turns.Turn.{Answered, Told, Ended, Misread}
 use Rattle.locked_world.specs.HallState.{HallState}
 use Rattle.locked_world.specs.Halls.{HallMay}
 use Rattle.locked_world.specs.Serving.{HallServes}

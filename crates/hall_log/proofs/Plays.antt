@@ -6,13 +6,13 @@ use Rattle.commands.specs.declared.kind.WorldKind.{WorldKind}
 use Rattle.commands.specs.declared.reply.Reply.{Reply}
 use Rattle.commands.specs.Requests.{Request}
 use Rattle.commands.specs.Requests.Request.{Take, OwnerOf}
-use Rattle.schedule_player.specs.Progress.{Progress, after_byte, after_bytes, at_start}
-use Rattle.schedule_player.specs.RunProofs.{runs-append}
-use Rattle.schedule_player.specs.Runs.{NoneRefusedGrowth, Runs}
-use Rattle.schedule_player.specs.Says.{IsSilent, Says, Spoke}
-use Rattle.schedule_player.specs.TalkerState.{TalkerState}
-use Rattle.schedule_player.specs.Turns.{Turn}
-use Rattle.schedule_player.specs.Turns.Turn.{Answered, Told, Ended, Misread}
+use Rattle.player.specs.Progress.{Progress, after_byte, after_bytes, at_start}
+use Rattle.player.specs.RunProofs.{runs-append}
+use Rattle.player.specs.Runs.{NoneRefusedGrowth, Runs}
+use Rattle.player.specs.Says.{IsSilent, Says, Spoke}
+use Rattle.player.specs.TalkerState.{TalkerState}
+use Rattle.player.specs.Turns.{Turn}
+use Rattle.player.specs.Turns.Turn.{Answered, Told, Ended, Misread}
 use Rattle.locked_world.specs.HallState.{HallState}
 use Rattle.locked_world.specs.Serving.{HallServes}
 use Rattle.hall_log.specs.Entries.{HallApplies, TakesBytes, behind_first_line}

@@ -6,10 +6,10 @@ use Rattle.commands.specs.declared.reply.Reply.{Reply}
 use Rattle.commands.specs.Requests.{Request}
 use Rattle.commands.specs.Requests.Request.{Take, OwnerOf}
 use Rattle.one_log.specs.ReplicaState.{ReplicaState}
-use Rattle.schedule_player.specs.Runs.{Runs}
-use Rattle.schedule_player.specs.Shared.{all_turns}
-use Rattle.schedule_player.specs.Turns.{Turn}
-use Rattle.schedule_player.specs.Turns.Turn.{Answered, Told, Ended, Misread}
+use Rattle.player.specs.Runs.{Runs}
+use Rattle.player.specs.Shared.{all_turns}
+use Rattle.player.specs.Turns.{Turn}
+use Rattle.player.specs.Turns.Turn.{Answered, Told, Ended, Misread}
 use Rattle.locked_world.specs.HallState.{HallState}
 use Rattle.locked_world.specs.Serving.{HallServes}
 use Rattle.event_server.specs.Seats.{LoopTurn, Seating}

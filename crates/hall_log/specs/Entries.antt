@@ -7,11 +7,11 @@ use Rattle.commands.specs.declared.config.Config.{Config}
 use Rattle.commands.specs.declared.kind.WorldKind.{WorldKind}
 use Rattle.commands.specs.declared.reply.Reply.{Reply}
 use Rattle.commands.specs.Requests.{Request}
-use Rattle.schedule_player.specs.Progress.{Progress, after_bytes, at_start}
-use Rattle.schedule_player.specs.Runs.{NoneRefusedGrowth, Runs}
-use Rattle.schedule_player.specs.Says.{Spoke}
-use Rattle.schedule_player.specs.TalkerState.{TalkerState}
-use Rattle.schedule_player.specs.Turns.{Turn, asked}
+use Rattle.player.specs.Progress.{Progress, after_bytes, at_start}
+use Rattle.player.specs.Runs.{NoneRefusedGrowth, Runs}
+use Rattle.player.specs.Says.{Spoke}
+use Rattle.player.specs.TalkerState.{TalkerState}
+use Rattle.player.specs.Turns.{Turn, asked}
 use Rattle.locked_world.specs.HallState.{HallState}
 use Rattle.locked_world.specs.Serving.{HallServes}
 use Rattle.hall_log.specs.Said.{said, tape_of}

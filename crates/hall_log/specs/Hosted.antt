@@ -3,7 +3,7 @@ use Rattle.std.specs.Prelude.{◌≡◌, ◌≤◌, ◌<◌, ℕ, List, [], ◌�
 use Rattle.commands.specs.declared.config.Config.{Config}
 use Rattle.one_log.specs.Replicas.{IsDueAt, Leads, StandsFrom}
 use Rattle.one_log.specs.ReplicaState.{ReplicaState}
-use Rattle.schedule_player.specs.Shared.{TurnLog}
+use Rattle.player.specs.Shared.{TurnLog}
 use Rattle.locked_world.specs.HallState.{HallState}
 use Rattle.locked_world.specs.Halls.{hall_of}
 use Rattle.locked_world.specs.Serving.{HallServes}

@@ -6,8 +6,8 @@ use Rattle.commands.specs.declared.reply.Reply.TheVariants as reply
 use Rattle.commands.specs.Replies.{with_view}
 use Rattle.commands.specs.Requests.{Request}
 use Rattle.commands.specs.Requests.Request.{Take, OwnerOf}
-use Rattle.schedule_player.specs.Turns.{Turn}
-use Rattle.schedule_player.specs.Turns.Turn.{Answered, Told, Ended, Misread}
+use Rattle.player.specs.Turns.{Turn}
+use Rattle.player.specs.Turns.Turn.{Answered, Told, Ended, Misread}
 use Rattle.locked_world.specs.Serving.{HallServes}
 use Rattle.hall_log.specs.declared.note.Asked.{Asked}
 use Rattle.hall_log.specs.declared.note.Asked.TheVariants.{ToTake, ToTell}

@@ -2,7 +2,7 @@
 
 ghost use Rattle.std.specs.Prelude.{◌≡◌, ◌↔◌, ◌⊎◌, ◌+◌, ◌<◌, ◌^◌, [], length, IfOk, IfErr, OnOk, Err, false};
 ghost use Rattle.commands.specs.Config.{gives_names};
-ghost use Rattle.schedule_player.specs.Progress.{after_bytes};
+ghost use Rattle.player.specs.Progress.{after_bytes};
 ghost use Rattle.locked_world.specs.Halls.{hall_of};
 ghost use Rattle.hall_log.specs.Entries.{HallApplies, TakesBytes, behind_first_line};
 ghost use Rattle.hall_log.specs.Said.{NotingSays, tape_of};
@@ -12,7 +12,7 @@ use crate::tape::Tape;
 use commands::Config;
 use locked_world::Hall;
 use one_log::Machine;
-use schedule_player::{AsReplies, Replies, Talker};
+use player::{AsReplies, Replies, Talker};
 use std::alloc::{AllocError, Global};
 use std::marker::Model;
 use step_memory::{Refusal, View};

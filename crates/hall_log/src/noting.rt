@@ -12,7 +12,7 @@ use crate::note::{Asked, Note, lacks_memory};
 use crate::tape::Tape;
 use commands::{Config, Event, Reply, ShortReply};
 use locked_world::Hall;
-use schedule_player::Service;
+use player::Service;
 use std::alloc::Global;
 use std::marker::Model;
 use step_memory::{Refusal, View};

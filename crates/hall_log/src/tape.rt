@@ -9,7 +9,7 @@ ghost use Rattle.hall_log.specs.Said.{TapeSays, request_of, said_by, tape_of};
 
 use crate::note::{Asked, Note};
 use commands::{Event, Reply, ShortReply};
-use schedule_player::Service;
+use player::Service;
 use std::alloc::Global;
 use std::marker::Model;
 use step_memory::{Refusal, View};

@@ -1,14 +1,14 @@
 //! Halls that follow one log, interleaved at each of their steps.
 
 ghost use Rattle.std.specs.Prelude.{◌<◌};
-ghost use Rattle.schedule_player.specs.Knows.{Knows};
+ghost use Rattle.player.specs.Knows.{Knows};
 
 use crate::doubles::Lossy;
 use commands::{Config, WorldKind};
 use hall_log::{HallMachine, Tape};
 use locked_world::Hall;
 use one_log::{Cause, MemoryStore, Replica, Step, StoreFault};
-use schedule_player::{Service, Tried, play_on};
+use player::{Service, Tried, play_on};
 use std::alloc::{AllocError, Global};
 use std::test::Fail;
 use test_doubles::{Cup, Drip};

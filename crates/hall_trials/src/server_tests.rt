@@ -4,7 +4,7 @@ ghost use Rattle.std.specs.Prelude.{◌≡◌};
 
 use crate::opening::{Opening, opened};
 use locked_world::{Clerk, Hall, HallLock, LockName, ServingClerk, law_of_serving};
-use schedule_player::{Config, Event, Fault, Summary, Tried, WorldKind};
+use player::{Config, Event, Fault, Summary, Tried, WorldKind};
 use slot_server::{Gate, Served, ServerFault, Watched, serve_many, serve_one};
 use std::alloc::Global;
 use std::io::{Read, Write};

@@ -6,8 +6,8 @@ use Rattle.std.proofs.lemmas.Option.{same_Some}
 use mathlib.Core.List.{IsPrefix}
 use Rattle.journal_disk.specs.DiskState.{DiskState}
 use Rattle.journal_disk.specs.Disks.{Changes, longer_by, synced_all}
-use Rattle.schedule_player.specs.Lines.{IsCutOnce}
-use Rattle.schedule_player.specs.Records.{exchange_line, header_line}
+use Rattle.player.specs.Lines.{IsCutOnce}
+use Rattle.player.specs.Records.{exchange_line, header_line}
 use Rattle.locked_world.specs.HallState.{HallState}
 use Rattle.journal.specs.ChronicleState.{ChronicleState}
 use Rattle.journal.specs.Chronicles.{record_of_hall, told_record, waiting_of, chronicle_of}

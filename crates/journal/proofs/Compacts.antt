@@ -5,8 +5,8 @@ use Rattle.std.proofs.lemmas.List.{append-nil, take_all}
 use Rattle.std.proofs.lemmas.Grind.{flat_map-append}
 use Rattle.std.proofs.lemmas.Option.{same_Some}
 use Rattle.commands.specs.declared.exchange.Exchange.{Exchange}
-use Rattle.schedule_player.specs.Lines.{IsCutOnce}
-use Rattle.schedule_player.specs.Records.{exchange_line, header_line}
+use Rattle.player.specs.Lines.{IsCutOnce}
+use Rattle.player.specs.Records.{exchange_line, header_line}
 use Rattle.locked_world.specs.HallState.{HallState}
 use Rattle.journal_disk.specs.DiskState.{DiskState}
 use Rattle.journal_disk.specs.Disks.{MayLeaveEither, replaced_by}

@@ -3,7 +3,7 @@ use Rattle.std.proofs.Common.{◌≡◌, ℕ, zero, suc, ◌≤◌, true, List, 
 use Rattle.std.proofs.lemmas.List.{length-map}
 use mathlib.Core.List.{IsPrefix}
 use Rattle.commands.specs.declared.exchange.Exchange.{Exchange}
-use Rattle.schedule_player.specs.Lines.{IsCutOnce, has_no_lf, with_ends}
+use Rattle.player.specs.Lines.{IsCutOnce, has_no_lf, with_ends}
 use Rattle.locked_world.specs.HallState.{HallState}
 use Rattle.journal.specs.Chronicles.{record_of_hall, hall_after_first}
 use Rattle.journal.specs.Journals.{without_torn, LeavesHall}

@@ -14,10 +14,10 @@ use Rattle.commands.specs.declared.exchange.Exchange.{Exchange}
 use Rattle.commands.specs.declared.reply.Reply.{Reply}
 use Rattle.commands.specs.declared.reply.Reply.TheVariants as reply
 use Rattle.step_memory.specs.Refusal.{refusal_number}
-use Rattle.schedule_player.specs.Events.{event_words}
-use Rattle.schedule_player.specs.Lines.{has_no_lf, with_ends}
-use Rattle.schedule_player.specs.Records.{exchange_line, header_line, name_view}
-use Rattle.schedule_player.specs.Replies.{owner_words, pair_word, pair_words, reply_words, view_words}
+use Rattle.player.specs.Events.{event_words}
+use Rattle.player.specs.Lines.{has_no_lf, with_ends}
+use Rattle.player.specs.Records.{exchange_line, header_line, name_view}
+use Rattle.player.specs.Replies.{owner_words, pair_word, pair_words, reply_words, view_words}
 use Rattle.locked_world.specs.HallState.{HallState}
 use Rattle.journal.specs.Chronicles.{record_of_hall}
 use Rattle.journal.proofs.Digits.{is_text, decimal_text}

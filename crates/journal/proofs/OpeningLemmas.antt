@@ -4,8 +4,8 @@ use Rattle.std.proofs.lemmas.Bool.Decides.{eqb_tells}
 use Rattle.std.proofs.lemmas.List.{append-nil, take-append-drop}
 use mathlib.Core.List.{IsPrefix}
 use Rattle.commands.specs.declared.config.Config.{Config}
-use Rattle.schedule_player.specs.Lines.{IsCutOnce}
-use Rattle.schedule_player.specs.Records.{header_line}
+use Rattle.player.specs.Lines.{IsCutOnce}
+use Rattle.player.specs.Records.{header_line}
 use Rattle.locked_world.specs.HallState.{HallState}
 use Rattle.journal_disk.specs.DiskState.{DiskState}
 use Rattle.journal.specs.Chronicles.{record_of_hall, chronicle_of}

@@ -2,7 +2,7 @@
 use Rattle.std.proofs.Common.{◌≡◌, ℕ, ◌<◌, List, [], ◌∷◌, ◌++◌, length, flat_map, ap, sym, ◌∙◌, arith, append_assoc, length-append}
 use Rattle.std.proofs.lemmas.List.{append-nil}
 use Rattle.std.proofs.lemmas.Grind.{flat_map-append}
-use Rattle.schedule_player.specs.Records.{exchange_line}
+use Rattle.player.specs.Records.{exchange_line}
 use Rattle.locked_world.specs.HallState.{HallState}
 use Rattle.journal.specs.Openings.{GoesOnBy}
 use Rattle.journal.proofs.LineText.{row_of, line_ended}

@@ -3,7 +3,7 @@ use Rattle.std.proofs.Common.{◌≡◌, ◌==◌, ◌⊎◌, inl, inr, ℕ, zer
 use Rattle.std.specs.List.{list_all}
 use Rattle.std.proofs.lemmas.Bool.{and_parts}
 use mathlib.Core.List.{IsPrefix}
-use Rattle.schedule_player.specs.Lines.{has_no_lf, with_ends}
+use Rattle.player.specs.Lines.{has_no_lf, with_ends}
 
 -- the bytes are the first lines, some number of at least so many, each with its LF, and what was torn off the next, with none
 pub record IsTornFrom (ls : List (List ℕ)) (least : ℕ) (left : List ℕ) : Type 0 where

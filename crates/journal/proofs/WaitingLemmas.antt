@@ -7,7 +7,7 @@ use Rattle.commands.specs.declared.event.Event.{Event}
 use Rattle.commands.specs.declared.exchange.Exchange.{Exchange}
 use Rattle.commands.specs.declared.reply.Reply.{Reply}
 use Rattle.commands.specs.Replies.{is_refusal}
-use Rattle.schedule_player.specs.Records.{exchange_line}
+use Rattle.player.specs.Records.{exchange_line}
 use Rattle.locked_world.specs.Halls.{HallMay, hall_refusal, after_unless}
 use Rattle.locked_world.specs.HallState.{HallState}
 use Rattle.locked_world.specs.Serving.{accepted}

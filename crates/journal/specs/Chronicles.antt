@@ -2,7 +2,7 @@
 use Rattle.std.specs.Prelude.{◌≡◌, ℕ, List, take, drop, flat_map}
 use Rattle.commands.specs.declared.reply.Reply.{Reply}
 use Rattle.commands.specs.Requests.{Request}
-use Rattle.schedule_player.specs.Records.{exchange_line}
+use Rattle.player.specs.Records.{exchange_line}
 use Rattle.run_checker.specs.Migrated.{record_text}
 use Rattle.locked_world.specs.Halls.{hall_of}
 use Rattle.locked_world.specs.HallState.{HallState}

@@ -3,8 +3,8 @@ use Rattle.std.specs.Prelude.{◌≡◌, ◌⊎◌, ℕ, List, [], ◌∷◌, �
 use mathlib.Core.List.{IsPrefix}
 use Rattle.commands.specs.declared.config.Config.{Config}
 use Rattle.commands.specs.declared.exchange.Exchange.{Exchange}
-use Rattle.schedule_player.specs.Lines.{has_no_lf}
-use Rattle.schedule_player.specs.Records.{exchange_line, header_line}
+use Rattle.player.specs.Lines.{has_no_lf}
+use Rattle.player.specs.Records.{exchange_line, header_line}
 use Rattle.locked_world.specs.HallState.{HallState}
 use Rattle.locked_world.specs.Halls.{hall_of}
 use Rattle.journal.specs.Chronicles.{record_of_hall}

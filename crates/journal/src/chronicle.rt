@@ -4,7 +4,7 @@ ghost use Rattle.std.specs.Prelude.{◌≡◌, ◌≤◌, ◌+◌, ◌++◌, [],
 ghost use Rattle.commands.specs.Replies.{is_refusal, with_view};
 ghost use Rattle.desk.specs.DeskCalls.{exchange};
 ghost use Rattle.locked_world.specs.Halls.{HallMay};
-ghost use Rattle.schedule_player.specs.Records.{exchange_line};
+ghost use Rattle.player.specs.Records.{exchange_line};
 ghost use Rattle.hall_compaction.specs.Compactions.{IsCompacted};
 ghost use Rattle.journal.specs.Chronicles.{ChronicleServes, chronicle_of, waiting_of};
 ghost use Rattle.journal.specs.Compactings.{MayCompact};
@@ -13,7 +13,7 @@ ghost use Rattle.journal.specs.ChronicleProofs.{chronicle_answers};
 use commands::{Event, Reply, ShortReply};
 use hall_compaction::Compactor;
 use locked_world::{Hall, law_of_serving};
-use schedule_player::{AsRecord, Form, Replies, Service, TURN_ROOM};
+use player::{AsRecord, Form, Replies, Service, TURN_ROOM};
 use std::alloc::Global;
 use std::marker::Model;
 use step_memory::{NoMemory, Refusal, View};

@@ -4,7 +4,7 @@ use crate::{Chronicle, Journal, JournalFault, Opened};
 use commands::{Config, Event, WorldKind};
 use hall_compaction::{Compactor, compacted};
 use journal_disk::MemoryDisk;
-use schedule_player::Service;
+use player::Service;
 use std::alloc::Global;
 use std::process::Abort;
 use std::test::Fail;

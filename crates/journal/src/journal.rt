@@ -15,7 +15,7 @@ use commands::Config;
 use hall_compaction::Compactor;
 use journal_disk::{Disk, DiskFault};
 use locked_world::Hall;
-use schedule_player::{Replies, law_of_lines, print_header};
+use player::{Replies, law_of_lines, print_header};
 use std::alloc::Global;
 
 /// Why nothing more is written.

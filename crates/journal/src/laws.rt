@@ -9,7 +9,7 @@ ghost use Rattle.journal.specs.Chronicles.{record_of_hall};
 ghost use Rattle.journal.specs.Compactings.{LeavesEither};
 ghost use Rattle.journal.specs.Journals.{HasSynced, IsHallOf, KeepsHandedOn, LeavesHall, RecordsHallAfter};
 
-use schedule_player::law_of_lines;
+use player::law_of_lines;
 
 /// A law, which runs nothing. Where all that was handed on is on the disk, a crash leaves the record of the chronicle's hall as it was
 /// after some of its events, none skipped, with all that were handed on. Where a record of another hall is taking the place of all, as

@@ -2,8 +2,8 @@
 
 ghost use Rattle.std.specs.Prelude.{◌≡◌, ◌≤◌, ◌++◌, [], ◌∷◌, ℕ, length, drop, take, flat_map, true, IfOk, IfSome, OnOk};
 ghost use Rattle.commands.specs.declared.exchange.Exchange.{Exchange};
-ghost use Rattle.schedule_player.specs.Lines.{has_no_lf};
-ghost use Rattle.schedule_player.specs.Records.{exchange_line, header_line};
+ghost use Rattle.player.specs.Lines.{has_no_lf};
+ghost use Rattle.player.specs.Records.{exchange_line, header_line};
 ghost use Rattle.locked_world.specs.Halls.{hall_of};
 ghost use Rattle.journal.specs.Chronicles.{record_of_hall};
 ghost use Rattle.journal.specs.Openings.{GoesOnBy, HasFollowed, IsRecovered};
@@ -15,7 +15,7 @@ use locked_world::Hall;
 use memchr::memchr;
 use record_lines::{Version, read_line};
 use run_checker::{Verdict, check};
-use schedule_player::{AsRecord, Form, Replies, print_header};
+use player::{AsRecord, Form, Replies, print_header};
 use std::alloc::{AllocError, Global};
 use step_memory::{NoMemory, Refusal, View};
 

@@ -5,7 +5,7 @@ ghost use Rattle.journal.specs.Chronicles.{record_of_hall, hall_after_first};
 
 use crate::chronicle::put_line;
 use locked_world::Hall;
-use schedule_player::{Replies, TURN_ROOM, print_header};
+use player::{Replies, TURN_ROOM, print_header};
 use std::alloc::{AllocError, Global};
 use step_memory::{NoMemory, View};
 

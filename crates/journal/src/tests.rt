@@ -4,7 +4,7 @@ use crate::{Chronicle, Journal, JournalFault, OpenFault, Opened};
 use commands::{Config, Event, ShortReply, WorldKind};
 use journal_disk::{DiskFault, MemoryDisk};
 use run_checker::Verdict;
-use schedule_player::Service;
+use player::Service;
 use std::alloc::Global;
 use std::process::Abort;
 use std::test::Fail;

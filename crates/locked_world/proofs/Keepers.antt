@@ -3,9 +3,9 @@ use Rattle.std.proofs.Common.{◌≡◌, ◌++◌, List, [], ◌∷◌, map, ref
 use Rattle.std.proofs.lemmas.List.{append-nil}
 use Rattle.commands.specs.declared.config.Config.{Config}
 use Rattle.commands.specs.declared.exchange.Exchange.{Exchange}
-use Rattle.schedule_player.specs.Runs.{Runs}
-use Rattle.schedule_player.specs.Turns.{Turn, exchanges}
-use Rattle.schedule_player.specs.Turns.Turn.{Answered, Told, Ended, Misread}
+use Rattle.player.specs.Runs.{Runs}
+use Rattle.player.specs.Turns.{Turn, exchanges}
+use Rattle.player.specs.Turns.Turn.{Answered, Told, Ended, Misread}
 use Rattle.locked_world.specs.declared.kept.Kept.{Kept}
 use Rattle.locked_world.specs.CallerState.{CallerState}
 use Rattle.locked_world.specs.Kepts.{IsTaken, IsTold, IsSound}

@@ -21,9 +21,9 @@ use Rattle.schedule_player.specs.DeskWorld.{DeskWorldMay, IsDeskTalk}
 use Rattle.schedule_player.specs.DeskWorldProofs.{desk_lawful, desk_tells}
 use Rattle.schedule_player.specs.IsTalk.{IsTalk, IsTalkByKind}
 use Rattle.commands.specs.Requests.Request.{Take}
-use Rattle.schedule_player.specs.Runs.{Runs}
-use Rattle.schedule_player.specs.Turns.{Turn, exchanges}
-use Rattle.schedule_player.specs.Turns.Turn.{Answered, Told, Ended, Misread}
+use Rattle.player.specs.Runs.{Runs}
+use Rattle.player.specs.Turns.{Turn, exchanges}
+use Rattle.player.specs.Turns.Turn.{Answered, Told, Ended, Misread}
 use Rattle.locked_world.specs.declared.kept.Kept.{Kept}
 use Rattle.locked_world.specs.Halls.{hall_of, desk_of, IsLawful, full_unless, hall_refusal, longer, reply_unless, after_unless, HallMay}
 use Rattle.locked_world.specs.HallState.{HallState}

@@ -10,9 +10,9 @@ use Rattle.desk.specs.Desk.{owner_reply}
 use Rattle.commands.specs.Replies.{is_refusal}
 use Rattle.commands.specs.Requests.{Request}
 use Rattle.commands.specs.Requests.Request.{Take, OwnerOf}
-use Rattle.schedule_player.specs.Runs.{Runs}
-use Rattle.schedule_player.specs.Turns.{Turn}
-use Rattle.schedule_player.specs.Turns.Turn.{Answered, Told, Ended, Misread}
+use Rattle.player.specs.Runs.{Runs}
+use Rattle.player.specs.Turns.{Turn}
+use Rattle.player.specs.Turns.Turn.{Answered, Told, Ended, Misread}
 use Rattle.locked_world.specs.declared.kept.Kept.{Kept}
 use Rattle.locked_world.specs.CallerState.{CallerState}
 use Rattle.locked_world.specs.Halls.{hall_of, desk_of, HallMay}

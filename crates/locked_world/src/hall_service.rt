@@ -6,7 +6,7 @@ ghost use Rattle.locked_world.specs.ServingProofs.{hall_answers};
 
 use crate::hall::Hall;
 use commands::{Event, Reply, ShortReply};
-use schedule_player::Service;
+use player::Service;
 use step_memory::View;
 
 impl<R> Service<R> for Hall {

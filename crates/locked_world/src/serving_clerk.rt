@@ -6,7 +6,7 @@ ghost use Rattle.locked_world.specs.ServingProofs.{clerk_answers};
 
 use crate::parts::{Clerk, HallLock, LockName};
 use commands::{Event, Reply, ShortReply};
-use schedule_player::Service;
+use player::Service;
 use std::marker::Model;
 use std::sync::Wait;
 use step_memory::View;

@@ -7,11 +7,11 @@ use Rattle.commands.specs.declared.reply.Reply.TheVariants as reply
 use Rattle.schedule_player.specs.Talks.{AreOwnersTold}
 use Rattle.commands.specs.Requests.{Request}
 use Rattle.commands.specs.Requests.Request.{Take, OwnerOf}
-use Rattle.schedule_player.specs.Runs.{Runs}
-use Rattle.schedule_player.specs.RunProofs.{runs-cut}
+use Rattle.player.specs.Runs.{Runs}
+use Rattle.player.specs.RunProofs.{runs-cut}
 use Rattle.player_trials.specs.Toys.{ShelfMay, IsShelfRun, IsSide}
-use Rattle.schedule_player.specs.Turns.{Turn, exchanges}
-use Rattle.schedule_player.specs.Turns.Turn.{Answered, Told, Ended, Misread}
+use Rattle.player.specs.Turns.{Turn, exchanges}
+use Rattle.player.specs.Turns.Turn.{Answered, Told, Ended, Misread}
 use Rattle.schedule_player.specs.Visits.{knows_visits}
 use Rattle.schedule_player.specs.VisitProofs.{no_name, no_name_right, one_no_name}
 

@@ -11,7 +11,7 @@ use Rattle.commands.specs.declared.bad.Bad.{Bad}
 use Rattle.commands.specs.declared.bad.Bad.TheVariants.{TooLong, NotPrintable, UnknownWord}
 use Rattle.commands.specs.declared.command.Command.{Command}
 use Rattle.commands.specs.declared.command.Command.TheVariants as command
-use Rattle.schedule_player.specs.Meaning.{is_digit, is_printable, decimal_from, if_below, number_in, same_bytes, command_if, command_of_one, event_of_one, event_if_both, event_of_two, quit_of, desk_command_of, command_in, words, meaning, number_below}
+use Rattle.player.specs.Meaning.{is_digit, is_printable, decimal_from, if_below, number_in, same_bytes, command_if, command_of_one, event_of_one, event_if_both, event_of_two, quit_of, desk_command_of, command_in, words, meaning, number_below}
 use Rattle.record_lines.specs.Narrow.{IsNarrowEvent, IsNarrow, FitsTold}
 use Rattle.record_lines.specs.declared.header.Version.{Version}
 use Rattle.record_lines.specs.declared.header.Version.TheVariants.{One, Two}

@@ -4,7 +4,7 @@ use Rattle.commands.specs.KindProofs.{named_apart}
 use Rattle.commands.specs.declared.kind.WorldKind.{WorldKind}
 use Rattle.serde_json.specs.Data.{Data}
 use Rattle.commands.specs.declared.command.Command.TheVariants as command
-use Rattle.schedule_player.specs.Meaning.{meaning}
+use Rattle.player.specs.Meaning.{meaning}
 use Rattle.record_lines.specs.declared.header.Header.{Header}
 use Rattle.record_lines.specs.declared.header.Version.{Version}
 use Rattle.record_lines.specs.declared.line.Line.{Line}

@@ -3,8 +3,8 @@ use Rattle.std.proofs.Common.{◌≡◌, ℕ, ◌-◌, ◌≤◌, ◌==◌, true
 use Rattle.std.specs.List.{list_all}
 use Rattle.std.proofs.lemmas.Bool.Decides.{nat_tests}
 use Rattle.std.proofs.lemmas.List.{take_all, length-drop}
-use Rattle.schedule_player.specs.Meaning.{words, is_digit, number_in, same_bytes}
-use Rattle.schedule_player.specs.Quick.{is_of_words}
+use Rattle.player.specs.Meaning.{words, is_digit, number_in, same_bytes}
+use Rattle.player.specs.Quick.{is_of_words}
 use Rattle.record_lines.specs.declared.header.Version.{Version}
 use Rattle.record_lines.specs.declared.header.Version.TheVariants.{One, Two}
 use Rattle.record_lines.specs.declared.told.Told.{Told}

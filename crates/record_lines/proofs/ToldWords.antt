@@ -2,7 +2,7 @@
 use Rattle.std.proofs.Common.{◌≡◌, ℕ, Bool, List, ◌++◌, Result, Ok, Err, OnOk, codes, decimal, refl, sym, ap, ◌∙◌}
 use Rattle.commands.specs.declared.reply.Reply.{Reply}
 use Rattle.commands.specs.declared.reply.Reply.TheVariants as reply
-use Rattle.schedule_player.specs.Replies.{reply_words}
+use Rattle.player.specs.Replies.{reply_words}
 use Rattle.record_lines.specs.declared.told.Told.{Told}
 use Rattle.record_lines.specs.Lines.{told_of}
 use Rattle.record_lines.specs.ToldWords.{told_words}

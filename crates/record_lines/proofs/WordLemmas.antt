@@ -1,7 +1,7 @@
 -- what bytes are cut into
 use Rattle.std.proofs.Common.{◌≡◌, ℕ, true, false, cond, eqb, List, [], ◌∷◌, ◌++◌, refl}
 use Rattle.std.specs.Prelude.{option_map}
-use Rattle.schedule_player.specs.Lines.{pieces_from}
+use Rattle.player.specs.Lines.{pieces_from}
 use Rattle.record_lines.specs.declared.told.Told.TheVariants.{Saw}
 use Rattle.record_lines.specs.ReplyText.{pairs_after, saw_of}
 

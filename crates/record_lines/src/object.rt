@@ -11,7 +11,7 @@ ghost use Rattle.record_lines.specs.declared.header.Version.{Version};
 
 use crate::header::{Header, Version};
 use commands::{Config, WorldKind};
-use schedule_player::words::is_word;
+use player::words::is_word;
 use serde_json::Value;
 
 /// How many keys an object has.

@@ -12,8 +12,8 @@ use crate::quick_reply::quick_told;
 use crate::reply_text::told_of;
 use crate::told::Told;
 use commands::{Event, WorldKind};
-use schedule_player::words::is_word;
-use schedule_player::{Command, quick_command};
+use player::words::is_word;
+use player::{Command, quick_command};
 use std::alloc::{AllocError, Global};
 
 /// Whether a byte stands for itself in a text of JSON.

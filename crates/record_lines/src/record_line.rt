@@ -14,7 +14,7 @@ use crate::object::{header, texts};
 use crate::plain_line::plain_line;
 use crate::reply_text::told_of;
 use commands::{Event, WorldKind};
-use schedule_player::{Command, parse_line};
+use player::{Command, parse_line};
 use serde_json::Value;
 use std::alloc::{AllocError, Global};
 

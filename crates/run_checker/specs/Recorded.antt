@@ -6,12 +6,12 @@ use Rattle.commands.specs.Config.{gives_names}
 use Rattle.commands.specs.declared.bad.Bad.{Bad}
 use Rattle.commands.specs.declared.command.Command.{Command}
 use Rattle.commands.specs.declared.command.Command.TheVariants as command
-use Rattle.schedule_player.specs.Asked.{asked_by}
+use Rattle.player.specs.Asked.{asked_by}
 use Rattle.schedule_player.specs.IsTalk.{IsTalk}
-use Rattle.schedule_player.specs.Lines.{lines}
-use Rattle.schedule_player.specs.Played.{Reading, Writing}
+use Rattle.player.specs.Lines.{lines}
+use Rattle.player.specs.Played.{Reading, Writing}
 use Rattle.schedule_player.specs.Recorded.{IsRecorded}
-use Rattle.schedule_player.specs.Turns.{Turn, asked, exchanges}
+use Rattle.player.specs.Turns.{Turn, asked, exchanges}
 use Rattle.run_checker.specs.declared.verdict.Verdict.{Verdict}
 use Rattle.run_checker.specs.declared.verdict.Verdict.TheVariants.{Yes, NoMemory}
 use Rattle.run_checker.specs.Verdict.{IsVerdict}

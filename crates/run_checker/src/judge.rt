@@ -3,13 +3,13 @@
 ghost use Rattle.std.specs.Prelude.{◌≡◌, ℕ, List, [], ◌∷◌, ◌++◌, IfOk, OnOk};
 ghost use Rattle.run_checker.specs.Stages.{HasTakenAll, StandsAfter};
 ghost use Rattle.record_lines.specs.Records.{record_lines};
-ghost use Rattle.schedule_player.specs.Lines.{unless_empty};
+ghost use Rattle.player.specs.Lines.{unless_empty};
 ghost use Rattle.run_checker.specs.Verdict.{IsSaid};
 
 use crate::row_judge::RowJudge;
 use crate::verdict::Verdict;
 use record_lines::read_header;
-use schedule_player::words::cut;
+use player::words::cut;
 use std::alloc::{AllocError, Global};
 
 /// How far the lines of a record are judged.

@@ -6,9 +6,9 @@ ghost use Rattle.rename_core.specs.RenameObject.{RenameTerms};
 ghost use Rattle.commands.specs.declared.config.Config.{Config};
 ghost use Rattle.commands.specs.declared.exchange.Exchange.{Exchange};
 ghost use Rattle.desk.specs.DeskRun.{IsDeskRun};
-ghost use Rattle.schedule_player.specs.Played.{reading, writing};
-ghost use Rattle.schedule_player.specs.Records.{record_of};
-ghost use Rattle.schedule_player.specs.Turns.{Turn, exchanges};
+ghost use Rattle.player.specs.Played.{reading, writing};
+ghost use Rattle.player.specs.Records.{record_of};
+ghost use Rattle.player.specs.Turns.{Turn, exchanges};
 ghost use Rattle.record_lines.specs.declared.line.Line.{Line};
 ghost use Rattle.run_checker.specs.ObjectRun.{DeskObject, IsObjectRun};
 ghost use Rattle.run_checker.specs.Judged.{IsFaultAfter};
@@ -22,7 +22,7 @@ ghost use Rattle.run_checker.specs.declared.verdict.Verdict.{Verdict};
 ghost use Rattle.run_checker.specs.declared.verdict.Verdict.TheVariants.{Yes};
 ghost use Rattle.run_checker.specs.Verdict.{IsSaid, IsSaidAfter};
 
-use schedule_player::{Sink, Source};
+use player::{Sink, Source};
 
 /// A law, which runs nothing: a line can follow those before it exactly where none of the seven reasons fits.
 pub fn law_of_reasons()

@@ -1,7 +1,7 @@
 //! A record is written again, in version 2.
 
 ghost use Rattle.std.specs.Prelude.{◌<◌, ◌^◌, IfOk, MatchResult};
-ghost use Rattle.schedule_player.specs.Played.{writing};
+ghost use Rattle.player.specs.Played.{writing};
 ghost use Rattle.run_checker.specs.Migrated.{IsMigratedTo, IsMigrated, IsOther};
 ghost use Rattle.record_lines.specs.Records.{record_lines};
 ghost use Rattle.run_checker.specs.Verdict.{IsSaid};
@@ -10,8 +10,8 @@ use crate::migration::Migration;
 use crate::record::{judge_rows, opened};
 use crate::verdict::Verdict;
 use record_lines::Text;
-use schedule_player::sink::put_all;
-use schedule_player::{Fault, Sink};
+use player::sink::put_all;
+use player::{Fault, Sink};
 use std::alloc::{AllocError, Global};
 
 /// The text to which a record is migrated, or what else than Yes is said of it. An error where a growth was refused.

@@ -18,10 +18,10 @@ use Rattle.commands.specs.declared.reply.Reply.TheVariants as reply
 use Rattle.desk.specs.Desk.{fresh_desk}
 use Rattle.desk.specs.DeskValue.{DeskValue}
 use Rattle.step_memory.specs.Refusal.{refusal_number}
-use Rattle.schedule_player.specs.Events.{event_words}
+use Rattle.player.specs.Events.{event_words}
 use Rattle.commands.specs.Config.{facts_of, is_letter, world_name}
-use Rattle.schedule_player.specs.Records.{header_line}
-use Rattle.schedule_player.specs.Replies.{owner_words, pair_word, pair_words, reply_words}
+use Rattle.player.specs.Records.{header_line}
+use Rattle.player.specs.Replies.{owner_words, pair_word, pair_words, reply_words}
 use Rattle.record_lines.specs.declared.line.Line.{Line}
 use Rattle.record_lines.specs.declared.told.Told.{Told}
 use Rattle.record_lines.specs.declared.told.Told.TheVariants as told

@@ -4,7 +4,7 @@ use Rattle.std.specs.List.{list_any}
 use Rattle.desk.specs.Desk.{fresh_desk}
 use Rattle.desk.specs.DeskValue.{DeskValue}
 use Rattle.commands.specs.declared.config.Config.{Config}
-use Rattle.schedule_player.specs.Records.{header_line}
+use Rattle.player.specs.Records.{header_line}
 use Rattle.record_lines.specs.declared.line.Line.{Line}
 use Rattle.run_page.specs.declared.head.TheConstants.{HEAD}
 use Rattle.run_page.specs.declared.middle.TheConstants.{BETWEEN, MIDDLE}

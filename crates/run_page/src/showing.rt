@@ -1,7 +1,7 @@
 //! A record is shown as a page.
 
 ghost use Rattle.std.specs.Prelude.{◌<◌, ◌^◌, IfOk, MatchResult};
-ghost use Rattle.schedule_player.specs.Played.{writing};
+ghost use Rattle.player.specs.Played.{writing};
 ghost use Rattle.record_lines.specs.Records.{record_lines};
 ghost use Rattle.run_checker.specs.Migrated.{IsOther};
 ghost use Rattle.run_checker.specs.Verdict.{IsSaid};
@@ -12,8 +12,8 @@ use crate::stretch::Stretch;
 use record_lines::Text;
 use run_checker::Verdict;
 use run_checker::record::{judge_rows, opened};
-use schedule_player::sink::put_all;
-use schedule_player::{Fault, Sink};
+use player::sink::put_all;
+use player::{Fault, Sink};
 use std::alloc::{AllocError, Global};
 
 /// The page of a record, or what else than Yes is said of it. An error where a growth was refused.

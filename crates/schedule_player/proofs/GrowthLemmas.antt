@@ -37,9 +37,9 @@ use Rattle.schedule_player.proofs.TalkLemmas.{desk_talk}
 use Rattle.schedule_player.specs.IsTalkProofs.{is_desk_talk}
 use Rattle.schedule_player.specs.Granted.{is_of_memory, is_lack, granted}
 use Rattle.schedule_player.specs.IsTalk.{IsTalkByKind}
-use Rattle.schedule_player.specs.Runs.{Runs, NoneRefusedGrowth}
-use Rattle.schedule_player.specs.Turns.{Turn}
-use Rattle.schedule_player.specs.Turns.Turn.{Answered, Told, Ended, Misread}
+use Rattle.player.specs.Runs.{Runs, NoneRefusedGrowth}
+use Rattle.player.specs.Turns.{Turn}
+use Rattle.player.specs.Turns.Turn.{Answered, Told, Ended, Misread}
 
 -- a reason other than want of memory, where there is one
 abbrev IsOther : Option Refusal → Type 0

@@ -13,9 +13,9 @@ use Rattle.schedule_player.specs.DeskWorld.{DeskWorldMay}
 use Rattle.schedule_player.specs.DeskWorldProofs.{desk_lawful, desk_tells}
 use Rattle.schedule_player.specs.IsTalk.{IsTalkByKind}
 use Rattle.commands.specs.Requests.{Request}
-use Rattle.schedule_player.specs.Runs.{Runs}
+use Rattle.player.specs.Runs.{Runs}
 use Rattle.schedule_player.specs.Talks.{AreOwnersTold, IsTalkOf}
-use Rattle.schedule_player.specs.Turns.{Turn, exchanges}
+use Rattle.player.specs.Turns.{Turn, exchanges}
 
 pub talk_of_run : {T : Type 0} (IsRun : List Exchange → Type 0) (most : ℕ) (fresh : T → Type 0) (may : T → Request → Reply → T → Type 0)
     (lawful : (w u : T) (ts : List Turn) → fresh w → Runs may w ts u → IsRun (exchanges ts)) (tells : (w u : T) (ts : List Turn) → fresh w → Runs may w ts u → AreOwnersTold most ts)

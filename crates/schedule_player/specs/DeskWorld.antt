@@ -9,7 +9,7 @@ use Rattle.desk.specs.Rules.{may_by}
 use Rattle.commands.specs.Requests.{Request}
 use Rattle.commands.specs.Requests.Request.{Take, OwnerOf}
 use Rattle.schedule_player.specs.Talks.{IsTalkOf}
-use Rattle.schedule_player.specs.Turns.{Turn}
+use Rattle.player.specs.Turns.{Turn}
 
 -- an event is answered by the desk's rules, and who has a name is told with nothing changed
 abbrev pub DeskWorldMay : DeskValue → Request → Reply → DeskValue → Type 0

@@ -16,10 +16,10 @@ use Rattle.schedule_player.specs.DeskWorld.{DeskWorldMay}
 use Rattle.schedule_player.specs.Talks.{AreOwnersTold}
 use Rattle.commands.specs.Requests.{Request}
 use Rattle.commands.specs.Requests.Request.{Take, OwnerOf}
-use Rattle.schedule_player.specs.Runs.{Runs}
-use Rattle.schedule_player.specs.RunProofs.{runs-cut}
-use Rattle.schedule_player.specs.Turns.{Turn, exchanges}
-use Rattle.schedule_player.specs.Turns.Turn.{Answered, Told, Ended, Misread}
+use Rattle.player.specs.Runs.{Runs}
+use Rattle.player.specs.RunProofs.{runs-cut}
+use Rattle.player.specs.Turns.{Turn, exchanges}
+use Rattle.player.specs.Turns.Turn.{Answered, Told, Ended, Misread}
 
 -- there is an answer to each request
 pub desk_answers : (w : DeskValue) (q : Request) → (r : Reply) × (u : DeskValue) × DeskWorldMay w q r u

@@ -6,7 +6,7 @@ use Rattle.commands.specs.declared.kind.WorldKind.TheVariants.{Splitter, Grid, R
 use Rattle.schedule_player.specs.DeskWorld.{IsDeskTalk}
 use Rattle.schedule_player.specs.GridWorld.{IsGridTalk}
 use Rattle.schedule_player.specs.SplitterWorld.{IsSplitterTalk}
-use Rattle.schedule_player.specs.Turns.{Turn}
+use Rattle.player.specs.Turns.{Turn}
 
 -- what is said in turn in a world of this kind
 abbrev pub IsTalkByKind : WorldKind → Config → List Turn → Type 0

@@ -13,7 +13,7 @@ use Rattle.schedule_player.specs.IsTalk.{IsTalk, IsTalkByKind}
 use Rattle.schedule_player.specs.OneTalk.{IsOneTalk}
 use Rattle.schedule_player.specs.OneTalkProofs.{determined}
 use Rattle.schedule_player.specs.SplitterWorld.{splitter_fresh, splitter_rules, one_splitter_fresh}
-use Rattle.schedule_player.specs.Turns.{Turn}
+use Rattle.player.specs.Turns.{Turn}
 use Rattle.schedule_player.specs.VisitProofs.{one_visit}
 use Rattle.schedule_player.specs.Visits.{visit_may}
 

@@ -1,24 +1,13 @@
--- the theorem of a run that is recorded
-use Rattle.std.specs.Prelude.{◌≡◌, ◌<◌, ◌⊎◌, Result, Ok, Err}
+-- the theorem of a run of a config that is recorded
+use Rattle.std.specs.Prelude.{◌≡◌, ◌⊎◌, Result, Err}
 use Rattle.commands.specs.declared.config.Config.{Config}
-use Rattle.schedule_player.specs.declared.fault.Fault.{Fault}
-use Rattle.schedule_player.specs.declared.fault.Fault.TheVariants.{Write}
-use Rattle.schedule_player.specs.declared.summary.Summary.{Summary}
+use Rattle.player.specs.declared.fault.Fault.{Fault}
+use Rattle.player.specs.declared.fault.Fault.TheVariants.{Write}
+use Rattle.player.specs.declared.summary.Summary.{Summary}
+use Rattle.player.specs.Played.{Reading, Writing, IsPlayed}
+use Rattle.player.specs.Recorded.{StopsAtHeader, end_of}
+use Rattle.player.specs.Records.{record_of}
 use Rattle.schedule_player.specs.IsTalk.{IsTalk}
-use Rattle.schedule_player.specs.Played.{Reading, Writing, IsPlayed}
-use Rattle.schedule_player.specs.Records.{header_line, record_of}
-use Rattle.schedule_player.specs.Written.{HasPartOf}
-
--- the header could not be written: a write failed with nothing read, and what went out is a beginning of the header
-pub record StopsAtHeader (config : Config) {R W : Type 0} (writing : Writing W) (r r' : R) (w w' : W) : Type 0 where
-  pub why : writing.failed w < writing.failed w'
-  pub unread : r' ≡ r
-  pub part : HasPartOf (writing.contents w) (writing.contents w') (header_line config)
-
--- how a run ended, without its counts
-abbrev pub end_of : Result Summary Fault → Result (Unit {0}) Fault
-end_of (Ok summary) = Ok tt
-end_of (Err fault) = Err fault
 
 -- a run of the config was played, and its record is what is written of it; or not even the header could be written
 abbrev pub IsRecorded : Config → {R W : Type 0} → Reading R → Writing W → R → R → W → W → Result (Unit {0}) Fault → Type 0

@@ -9,7 +9,7 @@ use Rattle.commands.specs.declared.exchange.Exchange.{Exchange}
 use Rattle.commands.specs.declared.reply.Reply.{Reply}
 use Rattle.commands.specs.declared.reply.Reply.TheVariants as reply
 use Rattle.schedule_player.specs.Talks.{IsTalkOf}
-use Rattle.schedule_player.specs.Turns.{Turn}
+use Rattle.player.specs.Turns.{Turn}
 use Rattle.schedule_player.specs.Visits.{IsCallRun, VisitRules, visit_may, world_rules}
 
 -- what a step of a visit is shown as

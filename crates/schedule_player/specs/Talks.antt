@@ -4,9 +4,9 @@ use Rattle.commands.specs.declared.exchange.Exchange.{Exchange}
 use Rattle.commands.specs.declared.reply.Reply.{Reply}
 use Rattle.commands.specs.Requests.{Request}
 use Rattle.desk.specs.Names.{IsOwnerReply}
-use Rattle.schedule_player.specs.Runs.{CouldRun}
-use Rattle.schedule_player.specs.Turns.{Turn, exchanges}
-use Rattle.schedule_player.specs.Turns.Turn.{Told}
+use Rattle.player.specs.Runs.{CouldRun}
+use Rattle.player.specs.Turns.{Turn, exchanges}
+use Rattle.player.specs.Turns.Turn.{Told}
 
 -- for so many participants, everyone who asks who has a name is told right, by the exchanges before
 abbrev pub AreOwnersTold : ℕ → List Turn → Type 0

@@ -19,15 +19,15 @@ use Rattle.commands.specs.declared.bad.Bad.{Bad}
 use Rattle.commands.specs.declared.bad.Bad.TheVariants.{TooLong, NotPrintable, UnknownWord}
 use Rattle.commands.specs.declared.command.Command.{Command}
 use Rattle.commands.specs.declared.command.Command.TheVariants as command
-use Rattle.schedule_player.specs.Knows.{Knows}
-use Rattle.schedule_player.specs.Meaning.{meaning, command_in, command_of_one, command_if, quit_of, number_in, same_bytes, desk_command_of, is_printable, words}
+use Rattle.player.specs.Knows.{Knows}
+use Rattle.player.specs.Meaning.{meaning, command_in, command_of_one, command_if, quit_of, number_in, same_bytes, desk_command_of, is_printable, words}
 use Rattle.schedule_player.specs.Talks.{AreOwnersTold}
 use Rattle.commands.specs.Requests.{Request, as_command}
 use Rattle.commands.specs.Requests.Request.{Take, OwnerOf}
-use Rattle.schedule_player.specs.Runs.{Runs}
-use Rattle.schedule_player.specs.RunProofs.{runs-cut}
-use Rattle.schedule_player.specs.Turns.{Turn, exchanges}
-use Rattle.schedule_player.specs.Turns.Turn.{Answered, Told, Ended, Misread}
+use Rattle.player.specs.Runs.{Runs}
+use Rattle.player.specs.RunProofs.{runs-cut}
+use Rattle.player.specs.Turns.{Turn, exchanges}
+use Rattle.player.specs.Turns.Turn.{Answered, Told, Ended, Misread}
 use Rattle.schedule_player.specs.Visits.{VisitRules, NoName, visit_may, step_may, said_reply, knows_visits, exchange_of, IsCallRun}
 
 -- a line of a kind without a desk means a visit, `quit`, or nothing

@@ -13,8 +13,8 @@ use Rattle.commands.specs.Config.{most_in}
 use Rattle.commands.specs.declared.config.Config.{Config}
 use Rattle.commands.specs.declared.kind.WorldKind.{WorldKind}
 use Rattle.commands.specs.declared.reply.Reply.{Reply}
-use Rattle.schedule_player.specs.Runs.{Runs}
-use Rattle.schedule_player.specs.Turns.{Turn, exchanges}
+use Rattle.player.specs.Runs.{Runs}
+use Rattle.player.specs.Turns.{Turn, exchanges}
 use Rattle.schedule_player.specs.VisitProofs.{call_run}
 use Rattle.schedule_player.specs.Visits.{visit_may, world_rules, IsCallRun}
 

@@ -10,14 +10,14 @@ ghost use Rattle.schedule_player.specs.IsTalk.{IsTalk};
 ghost use Rattle.schedule_player.specs.IsTalkProofs.{desk_talks};
 ghost use Rattle.std.proofs.Common.{refl};
 
-use crate::service::Service;
-use crate::world::World;
+use crate::world::{Unshared, World};
 use commands::{Config, Event, Reply, ShortReply};
 use desk::Desk;
+use player::Service;
 use std::alloc::Allocator;
 use step_memory::{Refusal, View};
 
-impl<A: Allocator + Clone, R> Service<R> for Desk<A> {
+impl<A: Allocator + Clone> Service<Unshared> for Desk<A> {
     ghost knows = { λ q. true };
 
     ghost may = { DeskWorldMay };
@@ -25,16 +25,16 @@ impl<A: Allocator + Clone, R> Service<R> for Desk<A> {
     ghost answers = { λ w q known. desk_answers w q };
 
     #[inline(always)]
-    fn apply(&mut self, _rt: &R, event: Event, view: &mut View) -> ShortReply {
+    fn apply(&mut self, _rt: &Unshared, event: Event, view: &mut View) -> ShortReply {
         self.apply_short(event, view)
     }
 
-    fn owner(&mut self, _rt: &R, n: u64) -> Reply {
+    fn owner(&mut self, _rt: &Unshared, n: u64) -> Reply {
         Desk::owner(self, n)
     }
 }
 
-impl<A: Allocator + Clone, R> World<A, R> for Desk<A> {
+impl<A: Allocator + Clone> World<A, Unshared> for Desk<A> {
     ghost serves = { gives_names };
 
     ghost fresh = { IsFreshDesk };

@@ -13,14 +13,14 @@ ghost use Rattle.schedule_player.specs.VisitProofs.{kind_meant, visit_answers, o
 ghost use Rattle.schedule_player.specs.GridWorld.{grid_rules, place_reply, IsGridRun, grid_fresh, one_grid_fresh};
 
 use crate::outcomes::walk_reply;
-use crate::service::Service;
-use crate::world::World;
+use crate::world::{Unshared, World};
 use commands::{Config, Event, Reply, ShortReply};
+use player::Service;
 use splitter_grid::GridWorld;
 use std::alloc::Allocator;
 use step_memory::{Refusal, View};
 
-impl<A: Allocator + Clone, R> Service<R> for GridWorld<A> {
+impl<A: Allocator + Clone> Service<Unshared> for GridWorld<A> {
     ghost knows = { knows_visits };
 
     ghost may = { visit_may grid_rules };
@@ -28,7 +28,7 @@ impl<A: Allocator + Clone, R> Service<R> for GridWorld<A> {
     ghost answers = { visit_answers grid_rules };
 
     #[inline(always)]
-    fn apply(&mut self, _rt: &R, event: Event, _view: &mut View) -> ShortReply {
+    fn apply(&mut self, _rt: &Unshared, event: Event, _view: &mut View) -> ShortReply {
         match event {
             Event::Begin(id) => ShortReply::of_done(self.begin(id)),
             Event::Step(id) => walk_reply(self.step(id)),
@@ -42,12 +42,12 @@ impl<A: Allocator + Clone, R> Service<R> for GridWorld<A> {
     }
 
     #[tactic(auto, using(crate::specs::VisitProofs::no_name))]
-    fn owner(&mut self, _rt: &R, _n: u64) -> Reply {
+    fn owner(&mut self, _rt: &Unshared, _n: u64) -> Reply {
         Reply::Refused(Refusal::OutOfRange)
     }
 }
 
-impl<A: Allocator + Clone, R> World<A, R> for GridWorld<A> {
+impl<A: Allocator + Clone> World<A, Unshared> for GridWorld<A> {
     ghost serves = { λ kind. is_kind kind Grid };
 
     ghost fresh = { grid_fresh };

@@ -1,38 +1,22 @@
 //! Runs of a world, from a reader to a writer.
 
-ghost use Rattle.std.specs.Prelude.{◌≡◌, ◌≢◌, true, Err, ◌^◌, ◌<◌, length, flat_map, IfOk, IfErr};
+ghost use Rattle.std.specs.Prelude.{◌≡◌, true, ◌^◌, ◌<◌, IfOk, IfErr};
 ghost use Rattle.commands.specs.Config.{gives_names};
+ghost use Rattle.player.specs.Played.{IsPlayed, IsPlayedIn, reading, writing};
+ghost use Rattle.player.specs.Texts.{replies_of};
 ghost use Rattle.schedule_player.specs.DeskWorld.{IsDeskTalk};
 ghost use Rattle.schedule_player.specs.GridWorld.{IsGridTalk};
 ghost use Rattle.schedule_player.specs.IsTalk.{IsTalk};
-ghost use Rattle.schedule_player.specs.Knows.{Knows};
-ghost use Rattle.schedule_player.specs.Played.{IsPlayed, IsPlayedIn, reading, writing};
-ghost use Rattle.schedule_player.specs.Runs.{IsRunTo, CanRun};
 ghost use Rattle.schedule_player.specs.SplitterWorld.{IsSplitterTalk};
-ghost use Rattle.schedule_player.specs.Stands.{IsFresh};
 ghost use Rattle.schedule_player.specs.Talks.{IsTalkOf};
-ghost use Rattle.schedule_player.specs.Texts.{replies_of};
 
-use crate::as_replies::AsReplies;
-use crate::fault::Fault;
-use crate::form::Form;
-use crate::player::Player;
-use crate::service::Service;
-use crate::sink::Sink;
-use crate::source::Source;
-use crate::summary::Summary;
-use crate::world::World;
+use crate::world::{Unshared, World};
 use commands::{Config, WorldKind};
 use desk::Desk;
+use player::{Fault, Sink, Source, Summary, play_on};
 use splitter::SplitterWorld;
 use splitter_grid::GridWorld;
 use std::alloc::Allocator;
-
-/// The most bytes that are asked for in one read.
-pub const READ_BYTES: usize = 65_536;
-
-/// The most reads of one run.
-pub const MOST_READS: u64 = 1_099_511_627_776;
 
 /// Plays the commands that a reader gives, line by line, and writes the replies, one a line: a talk of the config's world,
 /// which the world's own clause spells out.
@@ -63,16 +47,16 @@ pub fn play<A: Allocator + Clone, R: Source, W: Sink>(
 {
     match config.world {
         WorldKind::Splitter => {
-            let mut world = opened::<SplitterWorld<A>, (), A>(&alloc, config)?;
-            play_in(alloc, &(), &mut world, config, reader, writer)
+            let mut world = opened::<SplitterWorld<A>, Unshared, A>(&alloc, config)?;
+            play_in(alloc, &Unshared, &mut world, config, reader, writer)
         }
         WorldKind::Grid => {
-            let mut world = opened::<GridWorld<A>, (), A>(&alloc, config)?;
-            play_in(alloc, &(), &mut world, config, reader, writer)
+            let mut world = opened::<GridWorld<A>, Unshared, A>(&alloc, config)?;
+            play_in(alloc, &Unshared, &mut world, config, reader, writer)
         }
         WorldKind::Rename | WorldKind::Tree => {
-            let mut world = opened::<Desk<A>, (), A>(&alloc, config)?;
-            play_in(alloc, &(), &mut world, config, reader, writer)
+            let mut world = opened::<Desk<A>, Unshared, A>(&alloc, config)?;
+            play_in(alloc, &Unshared, &mut world, config, reader, writer)
         }
     }
 }
@@ -115,88 +99,4 @@ pub fn play_in<D: World<A, H>, H, A: Allocator + Clone, R: Source, W: Sink>(
         (reading R.remaining R.calls R.failed) (writing W.contents W.failed) reader.old reader.new writer.old writer.new result }
 {
     play_on(alloc, rt, world, config.world, reader, writer)
-}
-
-/// Plays on what answers events, as `play`, where it knows each event that lines of this kind mean.
-pub fn play_on<H, D: Service<H>, A: Allocator + Clone, R: Source, W: Sink>(
-    alloc: A,
-    rt: &H,
-    world: &mut D,
-    kind: WorldKind,
-    reader: &mut R,
-    writer: &mut W,
-) -> Result<Summary, Fault>
-    requires knows { Knows D.knows kind }
-    requires reads { R.calls reader.old < 2 ^ 64 }
-    requires writes { W.calls writer.old < 2 ^ 64 }
-    ensures played { IsPlayed replies_of (IsRunTo D.may world.old world.new) (CanRun D.may world.old) kind
-        (reading R.remaining R.calls R.failed) (writing W.contents W.failed) reader.old reader.new writer.old writer.new result }
-    ensures unchanged { result ≡ Err Fault.Memory → world.new ≡ world.old }
-{
-    let mut chunk = room_for_a_read(&alloc)?;
-    let mut player = fresh_player::<A, AsReplies>(alloc, kind)?;
-    run(rt, world, &mut player, &mut chunk, reader, writer)
-}
-
-/// Room for the bytes of one read; `Fault::Memory` where memory was refused.
-pub(crate) fn room_for_a_read<A: Allocator + Clone>(alloc: &A) -> Result<Vec<u8, A>, Fault>
-    ensures room { IfOk result (λ chunk. length chunk.items ≡ READ_BYTES) }
-    ensures only { IfErr result (λ fault. fault ≡ Fault.Memory) }
-{
-    let Ok(other) = alloc.clone() else {
-        return Err(Fault::Memory);
-    };
-    match Vec::from_elem(other, 0, READ_BYTES) {
-        Ok(chunk) => Ok(chunk),
-        Err(_) => Err(Fault::Memory),
-    }
-}
-
-/// A player that has read nothing; `Fault::Memory` where memory was refused.
-pub(crate) fn fresh_player<A: Allocator + Clone, F: Form>(
-    alloc: A,
-    kind: WorldKind,
-) -> Result<Player<A, F>, Fault>
-    ensures fresh { IfOk result (λ player. IsFresh kind player) }
-    ensures only { IfErr result (λ fault. fault ≡ Fault.Memory) }
-{
-    match Player::new(alloc, kind) {
-        Ok(player) => Ok(player),
-        Err(_) => Err(Fault::Memory),
-    }
-}
-
-/// Reads to the end of the input or to `quit`, and writes the text of the turns after each read.
-pub(crate) fn run<H, D: Service<H>, A: Allocator, F: Form, R: Source, W: Sink>(
-    rt: &H,
-    world: &mut D,
-    player: &mut Player<A, F>,
-    chunk: &mut [u8],
-    reader: &mut R,
-    writer: &mut W,
-) -> Result<Summary, Fault>
-    requires knows { Knows D.knows player.old.kind }
-    requires chunk { length chunk.old ≡ READ_BYTES }
-    requires fresh { IsFresh player.old.kind player.old }
-    requires reads { R.calls reader.old < 2 ^ 64 }
-    requires writes { W.calls writer.old < 2 ^ 65 }
-    ensures played { IsPlayed (flat_map F.text) (IsRunTo D.may world.old world.new) (CanRun D.may world.old) player.old.kind
-        (reading R.remaining R.calls R.failed) (writing W.contents W.failed) reader.old reader.new writer.old writer.new result }
-    ensures never { result ≢ Err Fault.Memory }
-{
-    for reads in 0..MOST_READS {
-        let count = match reader.read_once(chunk) {
-            Ok(count) => count,
-            Err(_) => return Err(Fault::Read),
-        };
-        if count == 0 {
-            player.finish(rt, world, writer)?;
-            return Ok(player.summary());
-        }
-        player.feed(rt, world, &chunk[..count], writer)?;
-        if player.is_over() {
-            return Ok(player.summary());
-        }
-    }
-    Err(Fault::Read)
 }

@@ -2,16 +2,14 @@
 
 ghost use Rattle.std.specs.Prelude.{◌≡◌, true, ◌^◌, ◌<◌};
 ghost use Rattle.commands.specs.Config.{gives_names};
-ghost use Rattle.schedule_player.specs.Played.{reading, writing};
+ghost use Rattle.player.specs.Played.{reading, writing};
 ghost use Rattle.schedule_player.specs.Recorded.{IsRecorded};
 
-use crate::as_record::AsRecord;
-use crate::fault::Fault;
-use crate::playing::{fresh_player, opened, room_for_a_read, run};
-use crate::sink::Sink;
-use crate::source::Source;
+use crate::playing::opened;
+use crate::world::Unshared;
 use commands::Config;
 use desk::Desk;
+use player::{Fault, Sink, Source, record_on};
 use std::alloc::Allocator;
 
 /// Plays the commands that a reader gives, as `play`, and writes the record of the run in place of the replies: its header
@@ -29,12 +27,6 @@ pub fn record<A: Allocator + Clone, R: Source, W: Sink>(
     requires writes { W.calls writer.old < 2 ^ 64 }
     ensures { IsRecorded config (reading R.remaining R.calls R.failed) (writing W.contents W.failed) reader.old reader.new writer.old writer.new result }
 {
-    let mut world = opened::<Desk<A>, (), A>(&alloc, config)?;
-    let mut chunk = room_for_a_read(&alloc)?;
-    let mut player = fresh_player::<A, AsRecord>(alloc, config.world)?;
-    player.write_header(config, writer)?;
-    match run(&(), &mut world, &mut player, &mut chunk, reader, writer) {
-        Ok(_) => Ok(()),
-        Err(fault) => Err(fault),
-    }
+    let mut world = opened::<Desk<A>, Unshared, A>(&alloc, config)?;
+    record_on(alloc, &Unshared, &mut world, config, reader, writer)
 }

@@ -13,14 +13,14 @@ ghost use Rattle.schedule_player.specs.VisitProofs.{kind_meant, visit_answers, o
 ghost use Rattle.schedule_player.specs.SplitterWorld.{splitter_rules, way_reply, IsSplitterRun, splitter_fresh, one_splitter_fresh};
 
 use crate::outcomes::visit_reply;
-use crate::service::Service;
-use crate::world::World;
+use crate::world::{Unshared, World};
 use commands::{Config, Event, Reply, ShortReply};
+use player::Service;
 use splitter::SplitterWorld;
 use std::alloc::Allocator;
 use step_memory::{Refusal, View};
 
-impl<A: Allocator + Clone, R> Service<R> for SplitterWorld<A> {
+impl<A: Allocator + Clone> Service<Unshared> for SplitterWorld<A> {
     ghost knows = { knows_visits };
 
     ghost may = { visit_may splitter_rules };
@@ -28,7 +28,7 @@ impl<A: Allocator + Clone, R> Service<R> for SplitterWorld<A> {
     ghost answers = { visit_answers splitter_rules };
 
     #[inline(always)]
-    fn apply(&mut self, _rt: &R, event: Event, _view: &mut View) -> ShortReply {
+    fn apply(&mut self, _rt: &Unshared, event: Event, _view: &mut View) -> ShortReply {
         match event {
             Event::Begin(id) => ShortReply::of_done(self.begin(id)),
             Event::Step(id) => visit_reply(self.step(id)),
@@ -42,12 +42,12 @@ impl<A: Allocator + Clone, R> Service<R> for SplitterWorld<A> {
     }
 
     #[tactic(auto, using(crate::specs::VisitProofs::no_name))]
-    fn owner(&mut self, _rt: &R, _n: u64) -> Reply {
+    fn owner(&mut self, _rt: &Unshared, _n: u64) -> Reply {
         Reply::Refused(Refusal::OutOfRange)
     }
 }
 
-impl<A: Allocator + Clone, R> World<A, R> for SplitterWorld<A> {
+impl<A: Allocator + Clone> World<A, Unshared> for SplitterWorld<A> {
     ghost serves = { λ kind. is_kind kind Splitter };
 
     ghost fresh = { splitter_fresh };

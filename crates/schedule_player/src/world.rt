@@ -7,15 +7,21 @@ ghost use Rattle.commands.specs.declared.reply.Reply.{Reply};
 ghost use Rattle.commands.specs.declared.reply.Reply.TheVariants as reply;
 ghost use Rattle.commands.specs.declared.config.Config.{Config};
 ghost use Rattle.commands.specs.declared.kind.WorldKind.{WorldKind};
-ghost use Rattle.schedule_player.specs.Knows.{Knows};
+ghost use Rattle.player.specs.Knows.{Knows};
 ghost use Rattle.schedule_player.specs.Talks.{AreOwnersTold, IsTalkOf};
 ghost use Rattle.commands.specs.Requests.{Request};
-ghost use Rattle.schedule_player.specs.Runs.{Runs};
-ghost use Rattle.schedule_player.specs.Turns.{Turn, exchanges};
+ghost use Rattle.player.specs.Runs.{Runs};
+ghost use Rattle.player.specs.Turns.{Turn, exchanges};
 
-use crate::service::Service;
 use commands::Config;
+use player::Service;
 use step_memory::Refusal;
+
+/// What a splitter, a grid or a desk needs to wait for: nothing, since one caller has it to itself.
+///
+/// What implements a trait of `player` for a type of another crate has to name a type of this one: here this is it.
+#[derive(Clone, Copy)]
+pub struct Unshared;
 
 /// A world of a config, whose runs keep a law.
 pub trait World<A, R>: Service<R> {

@@ -1,12 +1,12 @@
 //! The command language over any service.
 
 ghost use Rattle.std.specs.Prelude.{◌≡◌, Err, ◌^◌, ◌<◌};
-ghost use Rattle.schedule_player.specs.Knows.{Knows};
-ghost use Rattle.schedule_player.specs.Played.{IsPlayed, reading, writing};
-ghost use Rattle.schedule_player.specs.Texts.{replies_of};
-ghost use Rattle.schedule_player.specs.Runs.{IsRunTo, CanRun};
+ghost use Rattle.player.specs.Knows.{Knows};
+ghost use Rattle.player.specs.Played.{IsPlayed, reading, writing};
+ghost use Rattle.player.specs.Texts.{replies_of};
+ghost use Rattle.player.specs.Runs.{IsRunTo, CanRun};
 
-use schedule_player::{Fault, Service, Sink, Source, Summary, WorldKind, play_on};
+use player::{Fault, Service, Sink, Source, Summary, WorldKind, play_on};
 use std::alloc::Allocator;
 
 /// Answers the commands that a reader gives by a service, line by line, and writes the replies, one a line: as `play` does, of

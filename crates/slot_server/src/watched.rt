@@ -3,7 +3,7 @@
 ghost use Rattle.std.specs.Prelude.{◌≡◌};
 
 use crate::gate::Gate;
-use schedule_player::{Sink, Source};
+use player::{Sink, Source};
 use std::io;
 use std::io::{Read, Write};
 

@@ -10,7 +10,7 @@ use crate::server_fault::ServerFault;
 use crate::serving::serve_one;
 use crate::watched::Watched;
 use locked_world::{Clerk, HallLock, LockName, ServingClerk};
-use schedule_player::Tried;
+use player::Tried;
 use std::alloc::Global;
 use std::io::Read;
 use std::net::{Shutdown, TcpListener, TcpStream};

@@ -1,11 +1,11 @@
 -- how the check of a record ends
 use Rattle.std.proofs.Common.{◌≡◌, ◌∙◌, ◌⊎◌, ◌+◌, ◌<◌, ◌≤◌, inl, inr, refl, sym, subst, ℕ, List, Result, Err}
 use Rattle.run_checker.specs.declared.verdict.Verdict.{Verdict}
-use Rattle.schedule_player.specs.Played.{Reading, Writing}
-use Rattle.schedule_player.specs.Written.{HasPartOf}
-use Rattle.schedule_player.specs.declared.fault.Fault.{Fault}
-use Rattle.schedule_player.specs.declared.fault.Fault.TheVariants.{Read, Write, Memory}
-use Rattle.schedule_player.specs.declared.playing.TheConstants.{MOST_READS}
+use Rattle.player.specs.Played.{Reading, Writing}
+use Rattle.player.specs.Written.{HasPartOf}
+use Rattle.player.specs.declared.fault.Fault.{Fault}
+use Rattle.player.specs.declared.fault.Fault.TheVariants.{Read, Write, Memory}
+use Rattle.player.specs.declared.playing.TheConstants.{MOST_READS}
 use Rattle.slot_work.specs.Checked.{HasFailedRead, IsJudged, IsToldOf}
 
 not_of_write : (fault : Fault) → (fault ≡ Read) ⊎ (fault ≡ Memory) → (let o : Result ℕ Fault = Err fault in o ≡ Err Write) → ⊥

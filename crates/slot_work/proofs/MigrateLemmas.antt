@@ -4,7 +4,7 @@ use Rattle.run_checker.specs.Migrated.{IsMigrated}
 use Rattle.run_checker.specs.Verdict.{IsVerdict}
 use Rattle.run_checker.specs.declared.verdict.Verdict.{Verdict}
 use Rattle.run_checker.specs.declared.verdict.Verdict.TheVariants.{Yes, No, BadRecord, NoMemory}
-use Rattle.schedule_player.specs.Played.{Writing}
+use Rattle.player.specs.Played.{Writing}
 use Rattle.slot_work.specs.Checked.{verdict_text, verdict_status, IsRecordText}
 
 module _ {W : Type 0} (writing : Writing W) (bytes : List ℕ) (w w' : W) where

@@ -2,7 +2,7 @@
 use Rattle.std.proofs.Common.{◌≢◌, ◌∙◌, ◌++◌, inl, inr, ap, append_assoc, refl, subst, sym, ℕ, List, [], Option, Some, None}
 use Rattle.std.proofs.lemmas.List.{append-nil}
 use Rattle.std.specs.Io.KnownBytes.{Consumes, IsAtEnd}
-use Rattle.schedule_player.specs.Played.{IsInput}
+use Rattle.player.specs.Played.{IsInput}
 use Rattle.run_checker.specs.declared.judge.Judge.{Judge}
 use Rattle.run_checker.specs.declared.verdict.Verdict.{Verdict}
 use Rattle.run_checker.specs.declared.verdict.Verdict.TheVariants.{NoMemory}

@@ -5,10 +5,10 @@ use Rattle.run_checker.specs.declared.verdict.Verdict.{Verdict}
 use Rattle.run_checker.specs.declared.verdict.Verdict.TheVariants.{Yes, No, BadRecord, NoMemory}
 use Rattle.run_page.specs.Shown.{IsShown}
 use Rattle.run_page.specs.declared.stretch.Stretch.{Stretch}
-use Rattle.schedule_player.specs.Played.{Reading, Writing}
-use Rattle.schedule_player.specs.declared.fault.Fault.{Fault}
-use Rattle.schedule_player.specs.declared.fault.Fault.TheVariants.{Read, Write, Memory}
-use Rattle.schedule_player.specs.declared.playing.TheConstants.{MOST_READS}
+use Rattle.player.specs.Played.{Reading, Writing}
+use Rattle.player.specs.declared.fault.Fault.{Fault}
+use Rattle.player.specs.declared.fault.Fault.TheVariants.{Read, Write, Memory}
+use Rattle.player.specs.declared.playing.TheConstants.{MOST_READS}
 use Rattle.slot_words.specs.declared.asked.Showing.{Showing}
 use Rattle.slot_work.specs.Checked.{HasFailedRead, IsWhole}
 use Rattle.slot_work.specs.declared.failure.Failure.{Failure}

@@ -1,6 +1,6 @@
 -- the status of the program (this project's profile)
 use Rattle.std.specs.Prelude.{ℕ, Result, Ok, Err}
-use Rattle.schedule_player.specs.declared.fault.Fault.{Fault}
+use Rattle.player.specs.declared.fault.Fault.{Fault}
 use Rattle.slot_work.specs.declared.failure.Failure.{Failure}
 use Rattle.slot_work.specs.declared.failure.Failure.TheVariants as failure
 use Rattle.slot_words.specs.declared.misuse.Misuse.TheVariants.{Help, Words, Memory}

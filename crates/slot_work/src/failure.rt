@@ -4,7 +4,7 @@ ghost use Rattle.std.specs.Prelude.{◌≡◌};
 ghost use Rattle.slot_work.specs.Statuses.{status_of};
 
 use hall_host::HostFailure;
-use schedule_player::Fault;
+use player::Fault;
 use slot_server::ServerFault;
 use slot_words::Misuse;
 use thiserror::Error;

@@ -1,7 +1,7 @@
 //! The program, over any streams.
 
 ghost use Rattle.std.specs.Prelude.{◌≡◌, ◌⊎◌, ◌<◌, ◌^◌, Result, map};
-ghost use Rattle.schedule_player.specs.Played.{reading, writing};
+ghost use Rattle.player.specs.Played.{reading, writing};
 ghost use Rattle.slot_words.specs.Asked.{IsRead};
 ghost use Rattle.slot_work.specs.Done.{IsDone};
 ghost use Rattle.slot_words.specs.declared.asked.Ask.{Ask};
@@ -12,7 +12,7 @@ use crate::failure::Failure;
 use crate::outcome::Outcome;
 use crate::showing::{after_showing, show_for};
 use crate::working;
-use schedule_player::{Fault, Sink, Source};
+use player::{Fault, Sink, Source};
 use slot_words::{Ask, Misuse, ask};
 use std::alloc::Global;
 use std::convert::AsStr;

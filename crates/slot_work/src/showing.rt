@@ -1,7 +1,7 @@
 //! The page of a record that a reader gives.
 
 ghost use Rattle.std.specs.Prelude.{◌≡◌, ◌<◌, ◌^◌};
-ghost use Rattle.schedule_player.specs.Played.{reading, writing};
+ghost use Rattle.player.specs.Played.{reading, writing};
 ghost use Rattle.slot_work.specs.Shown.{IsShownFor, outcome_shown, stretch_asked};
 
 use crate::checking::read_whole;
@@ -9,7 +9,7 @@ use crate::failure::Failure;
 use crate::outcome::Outcome;
 use run_checker::Verdict;
 use run_page::{Stretch, show};
-use schedule_player::{Fault, READ_BYTES, Sink, Source};
+use player::{Fault, READ_BYTES, Sink, Source};
 use slot_words::Showing;
 use std::alloc::Global;
 

@@ -1,14 +1,15 @@
 //! What the program does, over any reader and writer.
 
 ghost use Rattle.std.specs.Prelude.{◌≡◌, ◌<◌, ◌^◌, true};
-ghost use Rattle.schedule_player.specs.Played.{reading, writing};
+ghost use Rattle.player.specs.Played.{reading, writing};
 ghost use Rattle.slot_work.specs.Done.{IsWorked, IsDrawnBy, IsPlayedBy, is_work};
 
 use crate::checking::check_for;
 use crate::migrating::migrate_for;
 use drawn_jobs::play_drawn_by;
 use drawn_schedules::draw;
-use schedule_player::{Fault, Sink, Source, play, record};
+use player::{Fault, Sink, Source};
+use schedule_player::{play, record};
 use slot_words::{Ask, Drawing, Playing};
 use std::alloc::{Allocator, Global};
 use std::thread::Threads;

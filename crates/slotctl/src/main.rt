@@ -9,7 +9,7 @@
 
 use hall_host::{HostFailure, HostPlan, Keeping, LogPlan, export_hall, host_hall};
 use history_book::Opened;
-use schedule_player::{Fault, Tried};
+use player::{Fault, Tried};
 use slot_server::{Plan, ServeFault, serve};
 use slot_words::{Hosting, Keeping as KeepingWords, LogWords, Misuse, Serving, refused};
 use slot_work::program::{program, report};

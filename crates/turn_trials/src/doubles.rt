@@ -5,7 +5,7 @@ ghost use Rattle.commands.specs.declared.reply.Reply.TheVariants.{Ok as Accepted
 
 use commands::{Command, Event, Reply, ShortReply, WorldKind};
 use event_server::{Ahead, Keep, Stream, Tally};
-use schedule_player::{Service, parse_line};
+use player::{Service, parse_line};
 use std::alloc::Global;
 use std::io;
 use std::io::{Error, ErrorKind};

@@ -12,12 +12,12 @@ use Rattle.commands.specs.declared.reply.Reply.{Reply}
 use Rattle.commands.specs.declared.reply.Reply.TheVariants as reply
 use Rattle.commands.specs.Config.{facts_of, gives_names, world_name}
 use Rattle.commands.specs.KindProofs.{name_has}
-use Rattle.schedule_player.specs.Events.{event_words}
-use Rattle.schedule_player.specs.Lines.{has_no_lf, with_ends}
-use Rattle.schedule_player.specs.Records.{header_line, name_view, exchange_line, turn_record, record_of}
-use Rattle.schedule_player.specs.Replies.{reply_words}
-use Rattle.schedule_player.specs.Turns.{Turn, exchanges}
-use Rattle.schedule_player.specs.Turns.Turn.{Answered, Told, Ended, Misread}
+use Rattle.player.specs.Events.{event_words}
+use Rattle.player.specs.Lines.{has_no_lf, with_ends}
+use Rattle.player.specs.Records.{header_line, name_view, exchange_line, turn_record, record_of}
+use Rattle.player.specs.Replies.{reply_words}
+use Rattle.player.specs.Turns.{Turn, exchanges}
+use Rattle.player.specs.Turns.Turn.{Answered, Told, Ended, Misread}
 use Rattle.record_lines.specs.declared.header.Version.TheVariants.{Two}
 use Rattle.record_lines.specs.declared.told.Told.{Told as Words}
 use Rattle.record_lines.specs.ReplyText.{told_with}

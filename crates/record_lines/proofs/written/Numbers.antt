@@ -5,7 +5,7 @@ use Rattle.std.proofs.lemmas.Bool.Decides.{nat_tests}
 use Rattle.std.proofs.lemmas.Bool.{ne_eqb, lt-ltb}
 use Rattle.std.proofs.lemmas.Fmt.{decimal_digit, decimal_by_steps_wide}
 use Rattle.std.proofs.lemmas.List.Folds.{list_all-append}
-use Rattle.schedule_player.specs.Meaning.{is_digit, decimal_from, number_in, number_below}
+use Rattle.player.specs.Meaning.{is_digit, decimal_from, number_in, number_below}
 
 -- digits that write this number, with no leading zero but of 0
 pub record AreDigitsOf (n : ℕ) (ds : List ℕ) : Type 0 where

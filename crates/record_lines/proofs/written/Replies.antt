@@ -9,8 +9,8 @@ use Rattle.step_memory.specs.declared.refusal.Refusal.{Refusal}
 use Rattle.step_memory.specs.declared.refusal.Refusal.TheVariants.{ZeroIdentity, AlreadyBegun, Full, NotBegun, Finished, Spent as IsSpent, Crowded, NotCompeting, AlreadyCompeting, Holding, NotHolding, NoMemory, HistoryFull, OutOfRange}
 use Rattle.commands.specs.declared.reply.Reply.{Reply}
 use Rattle.commands.specs.declared.reply.Reply.TheVariants as reply
-use Rattle.schedule_player.specs.Replies.{pair_word, pair_words, view_words, reply_words}
-use Rattle.schedule_player.specs.Lines.{pieces_from}
+use Rattle.player.specs.Replies.{pair_word, pair_words, view_words, reply_words}
+use Rattle.player.specs.Lines.{pieces_from}
 use Rattle.record_lines.specs.declared.told.Told.TheVariants as told
 use Rattle.record_lines.specs.Lines.{told_of}
 use Rattle.record_lines.specs.declared.header.Version.TheVariants.{Two}

@@ -9,9 +9,9 @@ use Rattle.commands.specs.declared.exchange.Exchange.{Exchange}
 use Rattle.commands.specs.declared.reply.Reply.{Reply}
 use Rattle.commands.specs.declared.reply.Reply.TheVariants as reply
 use Rattle.desk.specs.DeskCalls.{exchange_of}
-use Rattle.schedule_player.specs.Records.{exchange_line, turn_record, record_of, header_line}
-use Rattle.schedule_player.specs.Turns.{exchanges}
-use Rattle.schedule_player.specs.Turns.Turn.{Answered}
+use Rattle.player.specs.Records.{exchange_line, turn_record, record_of, header_line}
+use Rattle.player.specs.Turns.{exchanges}
+use Rattle.player.specs.Turns.Turn.{Answered}
 use Rattle.record_lines.specs.declared.header.Header.{Header}
 use Rattle.record_lines.specs.declared.header.Version.{Version}
 use Rattle.record_lines.specs.declared.line.Line.{Line}

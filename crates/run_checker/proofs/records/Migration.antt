@@ -15,7 +15,7 @@ use Rattle.slot_array.specs.SlotCalls.SlotCall.{Pooled, Stored, Fetched, Extende
 use Rattle.commands.specs.declared.exchange.Exchange.{Exchange}
 use Rattle.desk.specs.DeskCalls.{DeskCall, exchange_of}
 use Rattle.desk.specs.DeskCalls.DeskCall.{Renamed, Slotted}
-use Rattle.schedule_player.specs.Records.{header_line, exchange_line}
+use Rattle.player.specs.Records.{header_line, exchange_line}
 use Rattle.run_checker.specs.declared.firsts.Firsts.{Firsts}
 use Rattle.record_lines.specs.declared.line.Line.{Line}
 use Rattle.run_checker.specs.declared.migration.Migration.{Migration}

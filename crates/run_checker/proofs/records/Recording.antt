@@ -7,18 +7,18 @@ use Rattle.commands.specs.Config.{gives_names}
 use Rattle.desk.specs.Desk.{IsFreshDesk}
 use Rattle.desk.specs.DeskRun.{IsDeskRunOf}
 use Rattle.desk.proofs.DeskLaws as desk
-use Rattle.schedule_player.specs.declared.summary.Summary.{Summary}
-use Rattle.schedule_player.specs.Asked.{asked_by}
+use Rattle.player.specs.declared.summary.Summary.{Summary}
+use Rattle.player.specs.Asked.{asked_by}
 use Rattle.schedule_player.specs.DeskWorld.{DeskWorldMay}
 use Rattle.schedule_player.specs.IsTalk.{IsTalk}
 use Rattle.schedule_player.specs.IsTalkProofs.{is_desk_talk}
-use Rattle.schedule_player.specs.Lines.{lines}
-use Rattle.schedule_player.specs.Played.{Reading, Writing, IsInput, PlayedToEnd}
+use Rattle.player.specs.Lines.{lines}
+use Rattle.player.specs.Played.{Reading, Writing, IsInput, PlayedToEnd}
 use Rattle.schedule_player.specs.Recorded.{IsRecorded}
-use Rattle.schedule_player.specs.Records.{record_of}
+use Rattle.player.specs.Records.{record_of}
 use Rattle.schedule_player.specs.Talks.{IsTalkOf}
-use Rattle.schedule_player.specs.Turns.{Turn, asked, exchanges}
-use Rattle.schedule_player.specs.Turns.Turn.{Answered, Told, Ended, Misread}
+use Rattle.player.specs.Turns.{Turn, asked, exchanges}
+use Rattle.player.specs.Turns.Turn.{Answered, Told, Ended, Misread}
 use Rattle.run_checker.specs.declared.verdict.Verdict.TheVariants.{Yes}
 use Rattle.run_checker.specs.Config.{terms_of}
 use Rattle.run_checker.proofs.records.Rows.{read_length}

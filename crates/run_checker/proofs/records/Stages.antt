@@ -1,7 +1,7 @@
 -- records that are judged as their bytes come
 use Rattle.std.proofs.Common.{◌≡◌, ◌==◌, ℕ, ◌+◌, ◌<◌, true, false, cond, List, [], ◌∷◌, ◌++◌, length, Option, Some, None, inl, inr, refl, sym, ap, ◌∙◌, subst, append_assoc, arith}
 use Rattle.std.proofs.lemmas.List.{append-nil}
-use Rattle.schedule_player.specs.Lines.{pieces_from, unless_empty}
+use Rattle.player.specs.Lines.{pieces_from, unless_empty}
 use Rattle.record_lines.specs.declared.header.Header.{Header}
 use Rattle.record_lines.specs.declared.line.Line.{Line}
 use Rattle.record_lines.specs.RecordLine.{IsEventLine, IsHeaderLine}

@@ -13,12 +13,12 @@ use Rattle.desk.proofs.DeskLaws as desk
 use Rattle.commands.specs.declared.bad.Bad.{Bad}
 use Rattle.commands.specs.declared.command.Command.{Command}
 use Rattle.commands.specs.declared.command.Command.TheVariants as command
-use Rattle.schedule_player.specs.Asked.{until_quit, asked_by}
+use Rattle.player.specs.Asked.{until_quit, asked_by}
 use Rattle.schedule_player.specs.DeskWorld.{DeskWorldMay}
-use Rattle.schedule_player.specs.Meaning.{meaning}
-use Rattle.schedule_player.specs.Runs.{Runs}
-use Rattle.schedule_player.specs.Turns.{Turn, asked, exchanges}
-use Rattle.schedule_player.specs.Turns.Turn.{Answered, Told, Ended, Misread}
+use Rattle.player.specs.Meaning.{meaning}
+use Rattle.player.specs.Runs.{Runs}
+use Rattle.player.specs.Turns.{Turn, asked, exchanges}
+use Rattle.player.specs.Turns.Turn.{Answered, Told, Ended, Misread}
 use Rattle.record_lines.proofs.Narrow.{line_narrow}
 use Rattle.run_checker.proofs.LowPlaces.{desk_low}
 use Rattle.run_checker.proofs.NarrowRuns.{FitsPlace, AreWritable}

@@ -1,6 +1,6 @@
 use Rattle.std.proofs.Common.{◌≡◌, ◌+◌, ◌∙◌, ◌++◌, inl, inr, [], ap, refl, subst, sym, arith, get_or}
 use Rattle.commands.specs.declared.kind.WorldKind.{WorldKind}
-use Rattle.schedule_player.specs.Lines.{with_ends}
+use Rattle.player.specs.Lines.{with_ends}
 use Rattle.event_server.specs.declared.connection.Stage.TheVariants as stage
 use Rattle.event_server.specs.Gathering.{SeatLooked}
 use Rattle.event_server.specs.Seats.{seats_of}

@@ -1,5 +1,5 @@
 use Rattle.std.proofs.Common.{◌≡◌, ◌≤◌, ◌-◌, length}
-use Rattle.schedule_player.specs.Lines.{with_ends}
+use Rattle.player.specs.Lines.{with_ends}
 use Rattle.event_server.specs.declared.connection.Stage.TheVariants as stage
 use Rattle.event_server.specs.Rooms.{IsRoom}
 use Rattle.event_server.specs.Seats.{seats_of}

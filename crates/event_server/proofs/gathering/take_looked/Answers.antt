@@ -1,5 +1,5 @@
 use Rattle.std.proofs.Common.{◌≡◌, ◌+◌, inl, inr, ◌++◌, [], ℕ, length, get_or, refl, subst, arith}
-use Rattle.schedule_player.specs.Shared.{TurnLog, tagged}
+use Rattle.player.specs.Shared.{TurnLog, tagged}
 use Rattle.event_server.specs.declared.connection.Stage.TheVariants as stage
 use Rattle.event_server.specs.Seats.{seats_of}
 use Rattle.event_server.proofs.SeatLemmas.{Going, going_none, going_on}

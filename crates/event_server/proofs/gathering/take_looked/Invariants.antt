@@ -1,5 +1,5 @@
 use Rattle.std.proofs.Common.{◌≡◌, ◌≤◌, ◌-◌, length}
-use Rattle.schedule_player.specs.Shared.{TurnLog}
+use Rattle.player.specs.Shared.{TurnLog}
 use Rattle.event_server.specs.declared.connection.Stage.TheVariants as stage
 use Rattle.event_server.specs.Rooms.{IsRoom}
 use Rattle.event_server.specs.Seats.{seats_of}

@@ -1,5 +1,5 @@
 use Rattle.std.proofs.Common.{◌≡◌, ◌++◌, flat_map, length}
-use Rattle.schedule_player.specs.Records.{exchange_line}
+use Rattle.player.specs.Records.{exchange_line}
 use Rattle.journal.proofs.opening.replay.Given as goal
 
 abbrev pub invariant-loop-left : goal.invariant-loop-left

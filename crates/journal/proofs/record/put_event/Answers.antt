@@ -3,7 +3,7 @@ use Rattle.std.specs.Prelude.{slice_get}
 use Rattle.commands.specs.declared.reply.Reply.{Reply}
 use Rattle.commands.specs.Replies.{with_view}
 use Rattle.desk.specs.DeskCalls.{exchange}
-use Rattle.schedule_player.specs.Records.{exchange_line}
+use Rattle.player.specs.Records.{exchange_line}
 use Rattle.journal.specs.Chronicles.{record_of_hall, hall_after_first}
 use Rattle.journal.proofs.Compacts.{one_line}
 use Rattle.journal.proofs.record.put_event.Goals as goal

@@ -1,7 +1,7 @@
 use Rattle.std.proofs.Common.{◌≡◌, ◌++◌, ℕ, List, codes, ap, ◌∙◌, append_assoc}
-use Rattle.schedule_player.specs.Events.{event_words}
-use Rattle.schedule_player.specs.Records.{name_view}
-use Rattle.schedule_player.specs.Replies.{reply_words}
+use Rattle.player.specs.Events.{event_words}
+use Rattle.player.specs.Records.{name_view}
+use Rattle.player.specs.Replies.{reply_words}
 use Rattle.record_lines.specs.declared.line.Line.{Line}
 use Rattle.record_lines.specs.Lines.{told_of}
 use Rattle.record_lines.proofs.compact.put_line.Goals as goal

@@ -1,4 +1,4 @@
-use Rattle.schedule_player.specs.Played.{reading, writing}
+use Rattle.player.specs.Played.{reading, writing}
 use Rattle.run_checker.proofs.records.Recording.{recorded, recorded_yes}
 use Rattle.run_checker.proofs.laws.law_of_recording.Goals as goal
 

@@ -1,8 +1,8 @@
 use Rattle.std.proofs.Common.{◌≡◌, ℕ, List, Result, Err, rules, subst, sym}
 use Rattle.std.specs.Prelude.{MatchResult}
-use Rattle.schedule_player.specs.Played.{writing}
-use Rattle.schedule_player.specs.Written.{HasPartOf}
-use Rattle.schedule_player.specs.declared.fault.Fault.{Fault}
+use Rattle.player.specs.Played.{writing}
+use Rattle.player.specs.Written.{HasPartOf}
+use Rattle.player.specs.declared.fault.Fault.{Fault}
 use Rattle.record_lines.specs.Records.{record_lines}
 use Rattle.run_checker.specs.Migrated.{IsOther}
 use Rattle.run_checker.specs.Verdict.{IsSaid}

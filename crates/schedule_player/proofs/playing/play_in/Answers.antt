@@ -1,11 +1,10 @@
-use Rattle.std.proofs.Common.{List, [], refl}
-use Rattle.schedule_player.specs.Played.{reading, writing}
-use Rattle.schedule_player.specs.Runs.{IsRunTo, CanRun}
+use Rattle.std.proofs.Common.{List}
+use Rattle.player.specs.Played.{reading, writing}
+use Rattle.player.specs.PlayedProofs.{played_weaker}
+use Rattle.player.specs.Runs.{IsRunTo, CanRun}
+use Rattle.player.specs.Texts.{replies_of}
+use Rattle.player.specs.Turns.{Turn}
 use Rattle.schedule_player.specs.Talks.{IsTalkOf}
-use Rattle.schedule_player.specs.Texts.{replies_of}
-use Rattle.schedule_player.specs.Turns.{Turn}
-use Rattle.schedule_player.proofs.PlayedLemmas.{played_after}
-use Rattle.schedule_player.proofs.StandsLemmas.{appends_none}
 use Rattle.schedule_player.proofs.TalkLemmas.{talk_of_run}
 use Rattle.schedule_player.proofs.playing.play_in.Goals as goal
 
@@ -20,18 +19,17 @@ returns-clause-rules g c =
     let fresh = c.requires.fresh in
     let IsTalk = IsTalkOf (g.D.World.IsRunIn config) config.m (g.D.World.fresh config) may in
     let talk = talk_of_run (g.D.World.IsRunIn config) config.m (g.D.World.fresh config) may (g.met.D.World.lawful config) (g.met.D.World.tells config) in
-    let now = g.W.Write.contents c.args.writer.now in
-    played_after [] replies_of (IsRunTo may world c.play_on.new.world) (CanRun may world) IsTalk IsTalk
+    played_weaker replies_of (IsRunTo may world c.play_on.new.world) (CanRun may world) IsTalk IsTalk
     (λ ts run. talk world c.play_on.new.world ts fresh run)
     (λ ts run. talk world run.0 ts fresh run.1)
-    config.world (reading g.R.Read.remaining g.R.Source.calls g.R.Source.failed) (writing g.W.Write.contents g.W.Sink.failed) c.args.reader.now c.play_on.new.reader c.args.writer.now c.args.writer.now c.play_on.new.writer
-    (appends_none now) refl c.play_on.result (λ e. refl) c.play_on.ensures.played
+    config.world (reading g.R.Read.remaining g.R.Source.calls g.R.Source.failed) (writing g.W.Write.contents g.W.Sink.failed) c.args.reader.now c.play_on.new.reader c.args.writer.now c.play_on.new.writer
+    c.play_on.result c.play_on.ensures.played
 
 pub returns-clause-talk : goal.returns-clause-talk
 returns-clause-talk g c =
     let config = c.args.config in
     let IsTalk = IsTalkOf (g.D.World.IsRunIn config) config.m (g.D.World.fresh config) g.D.Service.may in
     let talks = λ (ts : List Turn) (talk : IsTalk ts). g.met.D.World.talks config ts c.requires.serves talk in
-    played_after [] replies_of IsTalk IsTalk (g.D.World.TalkIn config) (g.D.World.TalkIn config) talks talks
-    config.world (reading g.R.Read.remaining g.R.Source.calls g.R.Source.failed) (writing g.W.Write.contents g.W.Sink.failed) c.args.reader.now c.play_on.new.reader c.args.writer.now c.args.writer.now c.play_on.new.writer
-    (appends_none (g.W.Write.contents c.args.writer.now)) refl c.play_on.result (λ e. refl) (returns-clause-rules g c)
+    played_weaker replies_of IsTalk IsTalk (g.D.World.TalkIn config) (g.D.World.TalkIn config) talks talks
+    config.world (reading g.R.Read.remaining g.R.Source.calls g.R.Source.failed) (writing g.W.Write.contents g.W.Sink.failed) c.args.reader.now c.play_on.new.reader c.args.writer.now c.play_on.new.writer
+    c.play_on.result (returns-clause-rules g c)

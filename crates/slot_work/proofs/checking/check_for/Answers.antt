@@ -2,8 +2,8 @@ use Rattle.std.proofs.Common.{rules, ◌≡◌, ◌≢◌, subst, refl, List, �
 use Rattle.std.specs.Io.KnownBytes.{Appends}
 use Rattle.run_checker.specs.Verdict.{IsVerdict}
 use Rattle.run_checker.specs.declared.verdict.Verdict.TheVariants.{NoMemory}
-use Rattle.schedule_player.specs.Played.{reading, writing}
-use Rattle.schedule_player.specs.Written.{HasPartOf}
+use Rattle.player.specs.Played.{reading, writing}
+use Rattle.player.specs.Written.{HasPartOf}
 use Rattle.slot_work.specs.Checked.{verdict_text, IsVerdictText}
 use Rattle.slot_work.proofs.CheckLemmas.{half_told, unread}
 use Rattle.slot_work.proofs.checking.check_for.Goals as goal

@@ -1,5 +1,5 @@
 use Rattle.std.proofs.Common.{◌≡◌, ◌+◌, length}
-use Rattle.schedule_player.specs.declared.playing.TheConstants.{READ_BYTES}
+use Rattle.player.specs.declared.playing.TheConstants.{READ_BYTES}
 use Rattle.slot_work.proofs.ReadLemmas.{HasReadAndTaken}
 use Rattle.slot_work.proofs.checking.judge_whole.Given as goal
 

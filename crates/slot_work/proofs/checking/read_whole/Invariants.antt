@@ -1,6 +1,6 @@
 use Rattle.std.proofs.Common.{◌≡◌, ◌+◌, length}
 use Rattle.std.specs.Io.KnownBytes.{Consumes}
-use Rattle.schedule_player.specs.declared.playing.TheConstants.{READ_BYTES}
+use Rattle.player.specs.declared.playing.TheConstants.{READ_BYTES}
 use Rattle.slot_work.proofs.checking.read_whole.Given as goal
 
 abbrev pub invariant-loop-reads : goal.invariant-loop-reads

@@ -3,9 +3,9 @@ use Rattle.std.specs.Io.KnownBytes.{Appends}
 use Rattle.run_checker.specs.Migrated.{IsMigrated}
 use Rattle.run_checker.specs.declared.verdict.Verdict.{Verdict}
 use Rattle.run_checker.specs.declared.verdict.Verdict.TheVariants.{Yes, NoMemory}
-use Rattle.schedule_player.specs.Played.{reading, writing}
-use Rattle.schedule_player.specs.Written.{HasPartOf}
-use Rattle.schedule_player.specs.declared.fault.Fault.TheVariants.{Memory}
+use Rattle.player.specs.Played.{reading, writing}
+use Rattle.player.specs.Written.{HasPartOf}
+use Rattle.player.specs.declared.fault.Fault.TheVariants.{Memory}
 use Rattle.slot_work.specs.Checked.{verdict_text, IsJudged, IsRecordText}
 use Rattle.slot_work.proofs.CheckLemmas.{half_told, unread}
 use Rattle.slot_work.proofs.MigrateLemmas.{unwritten, line_tells, status_one}

@@ -1,7 +1,7 @@
 use Rattle.std.proofs.Common.{rules, ◌≡◌, subst, List, ℕ, Result, Ok, Err}
 use Rattle.run_checker.specs.declared.verdict.Verdict.{Verdict}
 use Rattle.run_page.specs.Shown.{IsShown}
-use Rattle.schedule_player.specs.Played.{reading, writing}
+use Rattle.player.specs.Played.{reading, writing}
 use Rattle.slot_work.specs.Shown.{stretch_asked}
 use Rattle.slot_work.proofs.ShowLemmas.{all_shown, half_shown, unread_shown}
 use Rattle.slot_work.proofs.showing.show_for.Goals as goal

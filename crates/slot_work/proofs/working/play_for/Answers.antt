@@ -1,7 +1,7 @@
 -- What was played in the config's world is a talk of the config.
 use Rattle.std.proofs.Common.{◌≡◌, ℕ, Bool, false, Result, Ok, sym, subst, ap}
-use Rattle.schedule_player.specs.declared.fault.Fault.{Fault}
-use Rattle.schedule_player.specs.Played.{reading, writing}
+use Rattle.player.specs.declared.fault.Fault.{Fault}
+use Rattle.player.specs.Played.{reading, writing}
 use Rattle.slot_work.specs.Done.{IsPlayedBy}
 use Rattle.slot_work.specs.Statuses.{status_after}
 use Rattle.slot_work.proofs.working.play_for.Goals as goal

@@ -1,8 +1,8 @@
 use Rattle.std.proofs.Common.{rules, ◌≡◌, ◌∙◌, ◌++◌, ◌≤◌, List, ℕ, length, min, sym, ap, subst, drop, take}
 use Rattle.std.proofs.lemmas.List.{take_min}
-use Rattle.schedule_player.specs.Progress.{after_bytes}
-use Rattle.schedule_player.specs.Says.{Says}
-use Rattle.schedule_player.specs.Texts.{turn_reply}
+use Rattle.player.specs.Progress.{after_bytes}
+use Rattle.player.specs.Says.{Says}
+use Rattle.player.specs.Texts.{turn_reply}
 use Rattle.event_server.specs.WireState.{WireState}
 use Rattle.event_server.proofs.WireLemmas.{cut_first, takes_first}
 use Rattle.event_server.proofs.wire.Wire.take_first.Goals as goal

@@ -2,7 +2,7 @@
 use Rattle.std.proofs.Common.{◌∙◌, List, [], ℕ, false, ap, sym, subst}
 use Rattle.commands.specs.declared.config.Config.{Config}
 use Rattle.commands.specs.declared.kind.WorldKind.{WorldKind}
-use Rattle.schedule_player.specs.Says.{IsSilent}
+use Rattle.player.specs.Says.{IsSilent}
 use Rattle.locked_world.specs.HallState.{HallState}
 use Rattle.hall_log.specs.Entries.{HallApplies, TakesBytes}
 use Rattle.hall_log.specs.NotingState.{NotingState}

@@ -1,5 +1,5 @@
 use Rattle.std.proofs.Common.{◌∙◌, ◌++◌, List, ℕ, refl, sym, ap, subst}
-use Rattle.schedule_player.specs.Records.{header_line}
+use Rattle.player.specs.Records.{header_line}
 use Rattle.journal_disk.specs.DiskState.{DiskState}
 use Rattle.journal.specs.ChronicleState.{ChronicleState}
 use Rattle.journal.specs.Journals.{HasSynced, IsHallOf, IsMended, missing_in}

@@ -1,6 +1,6 @@
 use Rattle.std.proofs.Common.{ℕ, List, ◌++◌}
 use Rattle.std.specs.Option.{option_copied}
-use Rattle.schedule_player.specs.Lines.{left_length}
+use Rattle.player.specs.Lines.{left_length}
 use Rattle.run_checker.specs.Stages.{HasTakenAll, HasTakenBut, bytes_left}
 use Rattle.run_checker.proofs.judge.Judge.take.Given as goal
 

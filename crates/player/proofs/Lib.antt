@@ -1,0 +1,17 @@
+mod HeldLineLemmas
+mod NumberLemmas
+mod WordLemmas
+mod FirstBytes
+mod WrittenLemmas
+mod UnderWayLemmas
+mod ProgressLemmas
+mod SaysLemmas
+mod StandsLemmas
+mod LineLemmas
+mod FirstLineLemmas
+mod QuickLemmas
+mod EightDigits
+pub mod ReplyLemmas
+mod GoesOnLemmas
+mod PlayedLemmas
+mod RecordedLemmas

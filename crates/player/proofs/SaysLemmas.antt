@@ -1,0 +1,150 @@
+-- what is said to one side of a talk, one turn after another
+use Rattle.std.proofs.Common.{◌≡◌, ℕ, ◌+◌, true, false, cond, List, [], ◌∷◌, ◌++◌, length, map, flat_map, Ok, Err, Result, refl, sym, ap, subst, ◌∙◌, append_assoc, arith, length-append}
+use Rattle.std.proofs.lemmas.List.{append-nil, map-append}
+use Rattle.std.proofs.lemmas.Grind.{flat_map-append}
+use Rattle.commands.specs.Replies.{is_refusal}
+use Rattle.commands.specs.declared.bad.Bad.{Bad}
+use Rattle.commands.specs.declared.kind.WorldKind.{WorldKind}
+use Rattle.commands.specs.declared.reply.Reply.{Reply}
+use Rattle.player.specs.declared.summary.Summary.{Summary}
+use Rattle.player.specs.Turns.{Turn}
+use Rattle.player.specs.Turns.Turn.{Answered, Told, Ended, Misread}
+use Rattle.player.specs.Counts.{CountsAnswers}
+use Rattle.player.specs.HeldLine.{held}
+use Rattle.player.specs.TalkerState.{TalkerState}
+use Rattle.player.specs.Progress.{Progress, ends, after_meaning, after_line, after_rest, after_end, with_line}
+use Rattle.commands.specs.Requests.{Request}
+use Rattle.player.specs.Runs.{Runs}
+use Rattle.player.specs.RunProofs.{runs-append}
+use Rattle.player.specs.Says.{Spoke, IsTurnOf, IsHeld, SaysBy, SaysFrom, Says, Anywhere, Afresh}
+use Rattle.player.specs.Summary.{total, one_if_accepted, one_if_refused, one_if_bad}
+use Rattle.player.specs.Turns.{asked, answer_of, answers_of}
+
+total-push : (one : Result Reply Bad → ℕ) (given : List (Result Reply Bad)) (a : Result Reply Bad) → total one (given ++ a ∷ []) ≡ total one given + one a
+total-push one [] a = omega arith
+total-push one (b ∷ given) a = omega (arith, total-push one given a)
+
+one_each : (a : Result Reply Bad) → 1 ≡ one_if_accepted a + one_if_refused a + one_if_bad a
+one_each (Ok r) = elim (is_refusal r) as (λ b. 1 ≡ cond b 0 1 + cond b 1 0 + 0) [ true ↦ refl | false ↦ refl ]
+one_each (Err bad) = refl
+
+-- one more answer is counted
+counts_more : (given : List (Result Reply Bad)) (a : Result Reply Bad) (s s' : Summary) → CountsAnswers given s →
+    s'.lines ≡ s.lines + 1 → s'.accepted ≡ s.accepted + one_if_accepted a → s'.refused ≡ s.refused + one_if_refused a → s'.bad ≡ s.bad + one_if_bad a →
+    CountsAnswers (given ++ a ∷ []) s'
+counts_more given a s s' c l x r b = record {
+  lines = omega (arith, l, c.lines, length-append given (a ∷ []));
+  accepted = omega (arith, x, c.accepted, total-push one_if_accepted given a);
+  refused = omega (arith, r, c.refused, total-push one_if_refused given a);
+  bad = omega (arith, b, c.bad, total-push one_if_bad given a);
+  all = omega (arith, l, x, r, b, c.all, one_each a);
+}
+
+-- the line so far is another
+pub spoke_with_line : (turns : List Turn) (s s' : TalkerState) (p : Progress) (new : List ℕ) → Spoke turns s p → s' ≡ record s { line = held new } → Spoke turns s' (with_line p new)
+spoke_with_line turns s s' p new t e = record {
+  asked_is = t.asked_is;
+  line_is = ap (λ (q : TalkerState). q.line) e;
+  over_is = ap (λ (q : TalkerState). q.over) e ∙ t.over_is;
+  counts = subst (λ (q : Summary). CountsAnswers (answers_of turns) q) (sym (ap (λ (q : TalkerState). q.summary) e)) t.counts;
+}
+
+module _ {T : Type 0} (may : T → Request → Reply → T → Type 0) where
+  -- one turn is a run
+  turn_run : (w u : T) (s s' : TalkerState) (turn : Turn) → IsTurnOf may w s turn u s' → Runs may w (turn ∷ []) u
+  turn_run w u s s' (Answered x) t = (u, t.0, refl)
+  turn_run w u s s' (Told n r) t = (u, t.0, refl)
+  turn_run w u s s' Ended t = sym t.0
+  turn_run w u s s' (Misread bad) t = sym t.0
+
+  over_more : (w u : T) (s s' : TalkerState) (turn : Turn) → IsTurnOf may w s turn u s' → s.over ≡ false → s'.over ≡ ends (asked turn)
+  over_more w u s s' (Answered x) t o = ap (λ (q : TalkerState). q.over) t.1 ∙ o
+  over_more w u s s' (Told n r) t o = ap (λ (q : TalkerState). q.over) t.1 ∙ o
+  over_more w u s s' Ended t o = ap (λ (q : TalkerState). q.over) t.1
+  over_more w u s s' (Misread bad) t o = ap (λ (q : TalkerState). q.over) t.1 ∙ o
+
+  -- what a turn leaves
+  left_by : (w u : T) (s s' : TalkerState) (turn : Turn) → IsTurnOf may w s turn u s' → (s'.summary ≡ s.summary) × (s'.line ≡ s.line)
+  left_by w u s s' (Answered x) t = (ap (λ (q : TalkerState). q.summary) t.1, ap (λ (q : TalkerState). q.line) t.1)
+  left_by w u s s' (Told n r) t = (ap (λ (q : TalkerState). q.summary) t.1, ap (λ (q : TalkerState). q.line) t.1)
+  left_by w u s s' Ended t = (ap (λ (q : TalkerState). q.summary) t.1, ap (λ (q : TalkerState). q.line) t.1)
+  left_by w u s s' (Misread bad) t = (ap (λ (q : TalkerState). q.summary) t.1, ap (λ (q : TalkerState). q.line) t.1)
+
+  -- where this is written of each turn
+  module _ (text : Turn → List ℕ) where
+    -- one more turn is taken, and its text is added
+    pub says_one : (w u : T) (s s' s'' : TalkerState) (out out'' : List ℕ) (turn : Turn) → IsTurnOf may w s turn u s' → IsHeld text s' out turn s'' out'' →
+        SaysFrom may text Afresh w s out u s'' out'' (λ p. after_meaning p (asked turn))
+    says_one w u s s' s'' out out'' turn took hold =
+        let same = left_by w u s s' turn took in
+        let kept = hold.kept in (
+          turn ∷ [],
+          record {
+            run = turn_run w u s s' turn took;
+            text_is = hold.added ∙ ap (λ l. out ++ l) (sym (append-nil (text turn)));
+            goes_on = λ turns p t was.
+                let counted : CountsAnswers (answers_of turns) s'.summary = subst (λ (q : Summary). CountsAnswers (answers_of turns) q) (sym same.0) t.counts in
+                record {
+                  asked_is = map-append asked turns (turn ∷ []) ∙ ap (λ l. l ++ asked turn ∷ []) t.asked_is;
+                  line_is = ap (λ (q : TalkerState). q.line) kept ∙ same.1 ∙ t.line_is ∙ ap held was.1;
+                  over_is = ap (λ (q : TalkerState). q.over) kept ∙ over_more w u s s' turn took (t.over_is ∙ was.0);
+                  counts = subst (λ (l : List (Result Reply Bad)). CountsAnswers l s''.summary) (sym (map-append answer_of turns (turn ∷ [])))
+                      (counts_more (answers_of turns) (answer_of turn) s'.summary s''.summary counted hold.lines hold.accepted hold.refused hold.bad);
+                };
+          },
+        )
+
+    -- nothing is said
+    pub says_nothing : (w : T) (s s' : TalkerState) (out : List ℕ) (Was : Progress → Type 0) (next : Progress → Progress) →
+        ((turns : List Turn) (p : Progress) → Spoke turns s p → Was p → Spoke turns s' (next p)) → SaysFrom may text Was w s out w s' out next
+    says_nothing w s s' out Was next on = (
+      [],
+      record {
+        run = refl;
+        text_is = sym (append-nil out);
+        goes_on = λ turns p spoke was. rw (append-nil turns) (on turns p spoke was);
+      },
+    )
+
+    -- what is said after a silent change
+    pub says_after : (w u : T) (s s1 s' : TalkerState) (out out' : List ℕ) (Was Was1 : Progress → Type 0) (next1 next q : Progress → Progress) →
+        SaysFrom may text Was1 w s1 out u s' out' next1 →
+        ((turns : List Turn) (p : Progress) → Spoke turns s p → Was p → Spoke turns s1 (q p) × Was1 (q p) × (next1 (q p) ≡ next p)) →
+        SaysFrom may text Was w s out u s' out' next
+    says_after w u s s1 s' out out' Was Was1 next1 next q said on = (
+      said.0,
+      record {
+        run = said.1.run;
+        text_is = said.1.text_is;
+        goes_on = λ turns p spoke was.
+            let b = on turns p spoke was in
+            subst (λ (r : Progress). Spoke (turns ++ said.0) s' r) b.2 (said.1.goes_on turns (q p) b.0 b.1);
+      },
+    )
+
+    -- what is said, and then more
+    pub says_then : (w v u : T) (s s1 s' : TalkerState) (out out1 out' : List ℕ) (next1 next2 next : Progress → Progress) →
+        Says may text w s out v s1 out1 next1 → Says may text v s1 out1 u s' out' next2 → ((p : Progress) → next2 (next1 p) ≡ next p) → Says may text w s out u s' out' next
+    says_then w v u s s1 s' out out1 out' next1 next2 next a b same = (
+      a.0 ++ b.0,
+      record {
+        run = runs-append may w v u a.0 b.0 a.1.run b.1.run;
+        text_is = b.1.text_is ∙ ap (λ l. l ++ flat_map text b.0) a.1.text_is ∙ append_assoc out (flat_map text a.0) (flat_map text b.0) ∙ ap (λ l. out ++ l) (sym (flat_map-append text a.0 b.0));
+        goes_on = λ turns p spoke was. subst (λ (q : Progress). Spoke (turns ++ (a.0 ++ b.0)) s' q) (same p)
+            (subst (λ (l : List Turn). Spoke l s' (next2 (next1 p))) (append_assoc turns a.0 b.0) (b.1.goes_on (turns ++ a.0) (next1 p) (a.1.goes_on turns p spoke tt) tt));
+      },
+    )
+
+-- what the end of the input makes of a line that has begun, of none, and after `quit`
+after_rest-some : (kind : WorldKind) (p : Progress) (line : List ℕ) → (line ≡ [] → ⊥) → after_rest kind p line ≡ after_line kind p
+after_rest-some kind p [] some = absurd (some refl)
+after_rest-some kind p (b ∷ bs) some = refl
+
+pub after_end-some : (kind : WorldKind) (p : Progress) → p.over ≡ false → (p.line ≡ [] → ⊥) → after_end kind p ≡ after_line kind p
+after_end-some kind p over some = elim p.over as (λ b. b ≡ false → cond b p (after_rest kind p p.line) ≡ after_line kind p) [ true ↦ λ e. absurd cc | false ↦ λ e. after_rest-some kind p p.line some ] over
+
+pub after_end-over : (kind : WorldKind) (p : Progress) → p.over ≡ true → after_end kind p ≡ p
+after_end-over kind p over = elim p.over as (λ b. b ≡ true → cond b p (after_rest kind p p.line) ≡ p) [ true ↦ λ e. refl | false ↦ λ e. absurd cc ] over
+
+pub after_end-none : (kind : WorldKind) (p : Progress) → p.line ≡ [] → after_end kind p ≡ p
+after_end-none kind p none = elim p.over as (λ b. cond b p (after_rest kind p p.line) ≡ p) [ true ↦ refl | false ↦ ap (after_rest kind p) none ]

@@ -1,0 +1,160 @@
+use Rattle.std.proofs.Common.{◌≡◌, true, false, ◌∙◌, ◌≤◌, ◌+◌, ◌++◌, inl, inr, sym, ap, arith, take, length, List, [], ℕ, refl, Err}
+use Rattle.std.proofs.lemmas.List.{append-nil}
+use Rattle.std.proofs.lemmas.Result.{err_from_is_err_and}
+use Rattle.std.specs.Io.KnownBytes.{Consumes}
+use Rattle.player.specs.declared.playing.TheConstants.{READ_BYTES}
+use Rattle.player.specs.Played.{HasRead, reading, writing}
+use Rattle.player.specs.Progress.{at_start, after_bytes}
+use Rattle.player.specs.Stands.{Stands}
+use Rattle.player.proofs.StandsLemmas.{stands_start}
+use Rattle.player.proofs.ProgressLemmas.{after_bytes-append, over-whole}
+use Rattle.player.proofs.PlayedLemmas.{consumes_start, consumes_more, consumes_kept, gave_none, to_end, to_quit, to_read_fault, to_write_fault, to_write_fault_at_end, as_played, as_read_fault, as_write_fault}
+use Rattle.player.proofs.playing.run.Goals as goal
+use Rattle.player.proofs.playing.run.Goals.{After-read_once, After-is_over}
+
+pub loop-reads-init : goal.loop-reads-init
+loop-reads-init g c = record {
+  bytes = [];
+  came = consumes_start (g.R.Read.remaining c.args.reader.now);
+  stands = stands_start g.D.Service.may g.F.Form.text c.args.world.now c.args.player.now.kind c.args.player.now (g.W.Write.contents c.args.writer.now) c.requires.fresh;
+  empty = c.requires.fresh.replies;
+  kind = refl;
+  lines = omega (arith, c.requires.fresh.counts.lines);
+  reads = omega arith;
+  writes = omega arith;
+  going = c.requires.fresh.over;
+  no_read_failed = refl;
+  no_write_failed = refl;
+}
+
+pub returns-in-Err-clause-played : goal.returns-in-Err-clause-played
+returns-in-Err-clause-played g c =
+    let inv = c.loop-reads.invariant in
+    as_read_fault _ _ _ _ (reading g.R.Read.remaining g.R.Source.calls g.R.Source.failed) (writing g.W.Write.contents g.W.Sink.failed) _ _ _ _
+    (to_read_fault g.D.Service.may g.F.Form.text c.args.player.now.kind c.args.world.now c.loop-reads.world (reading g.R.Read.remaining g.R.Source.calls g.R.Source.failed) (writing g.W.Write.contents g.W.Sink.failed) c.args.reader.now c.read_once.new.self c.args.writer.now c.loop-reads.writer inv.bytes
+    (consumes_kept (g.R.Read.remaining c.args.reader.now) (g.R.Read.remaining c.loop-reads.reader) (g.R.Read.remaining c.read_once.new.self) inv.bytes inv.came c.in-Err.ensures.bytes)
+    c.loop-reads.player (inl (omega (arith, c.in-Err.ensures.failed, inv.no_read_failed))) inv.going inv.stands inv.empty inv.no_write_failed)
+    (omega (arith, c.in-Err.ensures.called, inv.reads, c.loop-reads-test.true))
+
+pub returns-clause-played : goal.returns-clause-played
+returns-clause-played g c =
+    let inv = c.loop-reads.invariant in
+    as_read_fault _ _ _ _ (reading g.R.Read.remaining g.R.Source.calls g.R.Source.failed) (writing g.W.Write.contents g.W.Sink.failed) _ _ _ _
+    (to_read_fault g.D.Service.may g.F.Form.text c.args.player.now.kind c.args.world.now c.loop-reads.world (reading g.R.Read.remaining g.R.Source.calls g.R.Source.failed) (writing g.W.Write.contents g.W.Sink.failed) c.args.reader.now c.loop-reads.reader c.args.writer.now c.loop-reads.writer inv.bytes inv.came
+    c.loop-reads.player (inr (omega (arith, inv.reads, c.loop-reads-test.false, c.loop-reads.auto.reads-end), inv.no_read_failed)) inv.going inv.stands inv.empty inv.no_write_failed)
+    (omega (arith, inv.reads, c.loop-reads.auto.reads-end))
+
+-- what the last read gave, where no `quit` had come before it
+last_read : (g : _) (c : After-read_once g) (last : List ℕ) → Consumes (g.R.Read.remaining c.loop-reads.reader) (g.R.Read.remaining c.read_once.new.self) last → g.R.Source.calls c.read_once.new.self ≡ g.R.Source.calls c.loop-reads.reader + 1 → length last ≤ READ_BYTES →
+    HasRead c.args.player.now.kind (reading g.R.Read.remaining g.R.Source.calls g.R.Source.failed) c.args.reader.now c.read_once.new.self (c.loop-reads.invariant.bytes ++ last)
+last_read g c last gave once few =
+    let inv = c.loop-reads.invariant in
+    record {
+      mid = c.loop-reads.reader;
+      earlier = inv.bytes;
+      last = last;
+      parts = refl;
+      came = inv.came;
+      going = sym (over-whole c.args.player.now.kind inv.bytes) ∙ sym inv.stands.over_is ∙ inv.going;
+      gave = gave;
+      once = once;
+      few = few;
+    }
+
+pub returns-then-count-eq0-clause-played : goal.returns-then-count-eq0-clause-played
+returns-then-count-eq0-clause-played g c =
+    let inv = c.loop-reads.invariant in
+    let none = gave_none (g.R.Read.remaining c.loop-reads.reader) (g.R.Read.remaining c.read_once.new.self) c.read_once.new.buf c.in-Ok.count c.if-count-eq0.true c.in-Ok.ensures.bytes.0 in
+    let read = rw append-nil at (last_read g (goal.at.returns-then-count-eq0-clause-played g c).After-read_once [] none c.in-Ok.ensures.called (omega arith)) in
+    let came = rw append-nil at (consumes_more (g.R.Read.remaining c.args.reader.now) (g.R.Read.remaining c.loop-reads.reader) (g.R.Read.remaining c.read_once.new.self) inv.bytes [] inv.came none) in
+    let stands = rw inv.kind at (c.in_ok-finish.ensures.ok c.args.world.now (after_bytes c.args.player.now.kind at_start inv.bytes) (g.W.Write.contents c.args.writer.now) inv.stands) in
+    rw c.summary.ensures (as_played _ _ _ _ (reading g.R.Read.remaining g.R.Source.calls g.R.Source.failed) (writing g.W.Write.contents g.W.Sink.failed) _ _ _ _ _
+    (to_end g.D.Service.may g.F.Form.text c.args.player.now.kind c.args.world.now c.finish.new.world (reading g.R.Read.remaining g.R.Source.calls g.R.Source.failed) (writing g.W.Write.contents g.W.Sink.failed) c.args.reader.now c.read_once.new.self c.args.writer.now c.finish.new.writer inv.bytes came
+    c.finish.new.self read (c.in-Ok.ensures.bytes.1 c.if-count-eq0.true (omega (arith, c.read_once.auto.buf, c.loop-reads.auto.chunk, c.requires.chunk))) stands c.in_ok-finish.ensures.empty
+    (omega (arith, c.in-Ok.ensures.failed, inv.no_read_failed)) (c.in_ok-finish.ensures.unfailed ∙ inv.no_write_failed))
+    (omega (arith, c.in-Ok.ensures.called, inv.reads, c.loop-reads-test.true)))
+
+pub returns-in_err-finish-clause-played : goal.returns-in_err-finish-clause-played
+returns-in_err-finish-clause-played g c =
+    let inv = c.loop-reads.invariant in
+    let fault = err_from_is_err_and c.from_residual.result c.from_residual.ensures.1 in
+    let none = gave_none (g.R.Read.remaining c.loop-reads.reader) (g.R.Read.remaining c.read_once.new.self) c.read_once.new.buf c.in-Ok.count c.if-count-eq0.true c.in-Ok.ensures.bytes.0 in
+    let read = rw append-nil at (last_read g (goal.at.returns-in_err-finish-clause-played g c).After-read_once [] none c.in-Ok.ensures.called (omega arith)) in
+    let came = rw append-nil at (consumes_more (g.R.Read.remaining c.args.reader.now) (g.R.Read.remaining c.loop-reads.reader) (g.R.Read.remaining c.read_once.new.self) inv.bytes [] inv.came none) in
+    let part = rw inv.kind at (c.in_err-finish.ensures.part c.args.world.now (after_bytes c.args.player.now.kind at_start inv.bytes) (g.W.Write.contents c.args.writer.now) inv.stands) in
+    rw (fault.1 ∙ ap Err (fault.2 ∙ c.in_err-finish.ensures.only)) (as_write_fault _ _ _ _ (reading g.R.Read.remaining g.R.Source.calls g.R.Source.failed) (writing g.W.Write.contents g.W.Sink.failed) _ _ _ _
+    (to_write_fault_at_end g.D.Service.may g.F.Form.text c.args.player.now.kind c.args.world.now c.finish.new.world (reading g.R.Read.remaining g.R.Source.calls g.R.Source.failed) (writing g.W.Write.contents g.W.Sink.failed) c.args.reader.now c.read_once.new.self c.args.writer.now c.finish.new.writer inv.bytes came
+    g.D.Service.knows c.requires.knows g.D.Service.answers read (c.in-Ok.ensures.bytes.1 c.if-count-eq0.true (omega (arith, c.read_once.auto.buf, c.loop-reads.auto.chunk, c.requires.chunk))) part
+    (omega (arith, c.in_err-finish.ensures.failed, inv.no_write_failed)) (omega (arith, c.in-Ok.ensures.failed, inv.no_read_failed)))
+    (omega (arith, c.in-Ok.ensures.called, inv.reads, c.loop-reads-test.true)))
+
+pub returns-in_err-feed-clause-played : goal.returns-in_err-feed-clause-played
+returns-in_err-feed-clause-played g c =
+    let inv = c.loop-reads.invariant in
+    let got : List ℕ = take c.in-Ok.count c.read_once.new.buf in
+    let fault = err_from_is_err_and c.from_residual-in_err-feed.result c.from_residual-in_err-feed.ensures.1 in
+    let few : length got ≤ READ_BYTES = omega (arith, sym c.in-Ok.ensures.bound.1, c.in-Ok.ensures.bound.0, c.read_once.auto.buf, c.loop-reads.auto.chunk, c.requires.chunk) in
+    let read = last_read g (goal.at.returns-in_err-feed-clause-played g c).After-read_once got c.in-Ok.ensures.bytes.0 c.in-Ok.ensures.called few in
+    let part = rw inv.kind at (c.in_err-feed.ensures.part c.args.world.now (after_bytes c.args.player.now.kind at_start inv.bytes) (g.W.Write.contents c.args.writer.now) inv.stands) in
+    rw (fault.1 ∙ ap Err (fault.2 ∙ c.in_err-feed.ensures.only)) (as_write_fault _ _ _ _ (reading g.R.Read.remaining g.R.Source.calls g.R.Source.failed) (writing g.W.Write.contents g.W.Sink.failed) _ _ _ _
+    (to_write_fault g.D.Service.may g.F.Form.text c.args.player.now.kind c.args.world.now c.feed.new.world (reading g.R.Read.remaining g.R.Source.calls g.R.Source.failed) (writing g.W.Write.contents g.W.Sink.failed) c.args.reader.now c.read_once.new.self c.args.writer.now c.feed.new.writer (inv.bytes ++ got)
+    (consumes_more (g.R.Read.remaining c.args.reader.now) (g.R.Read.remaining c.loop-reads.reader) (g.R.Read.remaining c.read_once.new.self) inv.bytes got inv.came c.in-Ok.ensures.bytes.0)
+    g.D.Service.knows c.requires.knows g.D.Service.answers read
+    (rw (after_bytes-append c.args.player.now.kind at_start inv.bytes got) part)
+    (omega (arith, c.in_err-feed.ensures.failed, inv.no_write_failed)) (omega (arith, c.in-Ok.ensures.failed, inv.no_read_failed)))
+    (omega (arith, c.in-Ok.ensures.called, inv.reads, c.loop-reads-test.true)))
+
+-- where the player stands after the bytes that were read
+fed : (g : _) (c : After-is_over g) →
+    Stands g.D.Service.may g.F.Form.text c.args.world.now c.feed.new.world c.feed.new.self (after_bytes c.args.player.now.kind at_start (c.loop-reads.invariant.bytes ++ take c.in-Ok.count c.read_once.new.buf)) (g.W.Write.contents c.args.writer.now) (g.W.Write.contents c.feed.new.writer)
+fed g c =
+    let inv = c.loop-reads.invariant in
+    rw (after_bytes-append c.args.player.now.kind at_start inv.bytes (take c.in-Ok.count c.read_once.new.buf))
+    (rw inv.kind at (c.in_ok-feed.ensures.ok c.args.world.now (after_bytes c.args.player.now.kind at_start inv.bytes) (g.W.Write.contents c.args.writer.now) inv.stands))
+
+pub returns-then-is_over-clause-played : goal.returns-then-is_over-clause-played
+returns-then-is_over-clause-played g c =
+    let inv = c.loop-reads.invariant in
+    let got : List ℕ = take c.in-Ok.count c.read_once.new.buf in
+    let few : length got ≤ READ_BYTES = omega (arith, sym c.in-Ok.ensures.bound.1, c.in-Ok.ensures.bound.0, c.read_once.auto.buf, c.loop-reads.auto.chunk, c.requires.chunk) in
+    rw c.summary-then-is_over.ensures (as_played _ _ _ _ (reading g.R.Read.remaining g.R.Source.calls g.R.Source.failed) (writing g.W.Write.contents g.W.Sink.failed) _ _ _ _ _
+    (to_quit g.D.Service.may g.F.Form.text c.args.player.now.kind c.args.world.now c.feed.new.world (reading g.R.Read.remaining g.R.Source.calls g.R.Source.failed) (writing g.W.Write.contents g.W.Sink.failed) c.args.reader.now c.read_once.new.self c.args.writer.now c.feed.new.writer (inv.bytes ++ got)
+    (consumes_more (g.R.Read.remaining c.args.reader.now) (g.R.Read.remaining c.loop-reads.reader) (g.R.Read.remaining c.read_once.new.self) inv.bytes got inv.came c.in-Ok.ensures.bytes.0)
+    c.feed.new.self (last_read g (goal.at.returns-then-is_over-clause-played g c).After-read_once got c.in-Ok.ensures.bytes.0 c.in-Ok.ensures.called few)
+    (let over : c.feed.new.self.over ≡ true = cc in over) (fed g (goal.at.returns-then-is_over-clause-played g c).After-is_over) c.in_ok-feed.ensures.empty
+    (omega (arith, c.in-Ok.ensures.failed, inv.no_read_failed)) (c.in_ok-feed.ensures.unfailed ∙ inv.no_write_failed))
+    (omega (arith, c.in-Ok.ensures.called, inv.reads, c.loop-reads-test.true)))
+
+pub loop-reads-preserved : goal.loop-reads-preserved
+loop-reads-preserved g c =
+    let inv = c.loop-reads.invariant in
+    let read : List ℕ = take c.in-Ok.count c.read_once.new.buf in
+    let few : c.in-Ok.count ≤ READ_BYTES = omega (arith, c.in-Ok.ensures.bound.0, c.read_once.auto.buf, c.loop-reads.auto.chunk, c.requires.chunk) in
+    let short : c.in-Ok.count ≡ length read = c.in-Ok.ensures.bound.1 in
+    record {
+      bytes = inv.bytes ++ read;
+      came = consumes_more (g.R.Read.remaining c.args.reader.now) (g.R.Read.remaining c.loop-reads.reader) (g.R.Read.remaining c.read_once.new.self) inv.bytes read inv.came c.in-Ok.ensures.bytes.0;
+      stands = fed g (goal.at.loop-reads-preserved g c).After-is_over;
+      empty = c.in_ok-feed.ensures.empty;
+      kind = c.in_ok-feed.ensures.kept ∙ inv.kind;
+      lines = (let counted = c.in_ok-feed.ensures.counted in let before = inv.lines in omega arith);
+      reads = (let called = c.in-Ok.ensures.called in let before = inv.reads in omega arith);
+      writes = (let none : length c.loop-reads.player.replies ≡ 0 = ap length inv.empty in let calls = c.in_ok-feed.ensures.calls in let before = inv.writes in omega arith);
+      going = (let on : c.feed.new.self.over ≡ false = cc in on);
+      no_read_failed = (let failed = c.in-Ok.ensures.failed in let before = inv.no_read_failed in omega arith);
+      no_write_failed = c.in_ok-feed.ensures.unfailed ∙ inv.no_write_failed;
+    }
+
+pub returns-in_err-finish-clause-never : goal.returns-in_err-finish-clause-never
+returns-in_err-finish-clause-never g c = λ e.
+    let fault = err_from_is_err_and c.from_residual.result c.from_residual.ensures.1 in
+    let only = c.in_err-finish.ensures.only in
+    let same = fault.1 ∙ ap Err (fault.2 ∙ only) in
+    cc
+
+pub returns-in_err-feed-clause-never : goal.returns-in_err-feed-clause-never
+returns-in_err-feed-clause-never g c = λ e.
+    let fault = err_from_is_err_and c.from_residual-in_err-feed.result c.from_residual-in_err-feed.ensures.1 in
+    let only = c.in_err-feed.ensures.only in
+    let same = fault.1 ∙ ap Err (fault.2 ∙ only) in
+    cc

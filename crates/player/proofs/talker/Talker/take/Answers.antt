@@ -1,0 +1,44 @@
+use Rattle.std.proofs.Common.{◌≡◌, ◌∙◌, ◌+◌, false, [], refl, sym, ap, length, take, Ok}
+use Rattle.player.specs.Progress.{Progress, after_meaning, after_bytes}
+use Rattle.player.specs.Says.{Anywhere, GoingOn, Afresh}
+use Rattle.player.specs.TalkerState.{TalkerState}
+use Rattle.player.proofs.ProgressLemmas.{after_bytes-over}
+use Rattle.player.proofs.FirstLineLemmas.{means-none, after_bytes-first}
+use Rattle.player.proofs.SaysLemmas.{says_after, says_nothing}
+use Rattle.player.proofs.talker.Talker.take.Goals as goal
+
+pub returns-then-self-clause-says : goal.returns-then-self-clause-says
+returns-then-self-clause-says g c =
+    let s = c.args.self.now in
+    let bytes = c.args.bytes.now in
+    says_nothing g.D.Service.may g.F.Form.text c.args.service.now s s c.args.out.now Anywhere (λ p. after_bytes s.kind p (take (length bytes) bytes))
+    (λ turns p t was.
+    let over = sym t.over_is ∙ sym (ap (λ (q : TalkerState). q.over) c.self.view_is) ∙ c.if-self.true in
+    rw (after_bytes-over s.kind p (take (length bytes) bytes) over) t)
+
+pub answer-requires-clause-knows : goal.answer-requires-clause-knows
+answer-requires-clause-knows g c = λ q is.
+    let kind = ap (λ (q : TalkerState). q.kind) c.self.view_is in
+    c.requires.knows (take c.in-Some.end c.args.bytes.now) q ((rw kind at c.in-Some.ensures).means ∙ is)
+
+pub returns-in-Some-clause-says : goal.returns-in-Some-clause-says
+returns-in-Some-clause-says g c =
+    let s = c.args.self.now in
+    let bytes = c.args.bytes.now in
+    let end = c.in-Some.end in
+    let kind = ap (λ (q : TalkerState). q.kind) c.self.view_is in
+    let first = rw kind at c.in-Some.ensures in
+    says_after g.D.Service.may g.F.Form.text c.args.service.now c.answer.new.service s s c.answer.new.self c.args.out.now c.answer.new.out Anywhere Afresh
+    (λ p. after_meaning p (Ok c.in-Some.command)) (λ p. after_bytes s.kind p (take (end + 1) bytes)) (λ p. p) c.answer.ensures.says
+    (λ turns p t was.
+    let on : p.over ≡ false = sym t.over_is ∙ sym (ap (λ (q : TalkerState). q.over) c.self.view_is) ∙ c.if-self.false in
+    let empty : p.line ≡ [] = (c.is_empty.ensures p.line (ap (λ (q : TalkerState). q.line) c.self.view_is ∙ t.line_is)).0 c.if-is_empty.true in
+    (t, (on, empty), sym (after_bytes-first s.kind p bytes end _ on empty first.inside first.ends (means-none s.kind (take end bytes) c.in-Some.command first.means) first.means)))
+
+pub returns-clause-says : goal.returns-clause-says
+returns-clause-says g c =
+    let s = c.args.self.now in
+    let went : Progress → Progress = λ p. after_bytes s.kind p (take c.take_slowly.result c.args.bytes.now) in
+    says_after g.D.Service.may g.F.Form.text c.args.service.now c.take_slowly.new.service s s c.take_slowly.new.self c.args.out.now c.take_slowly.new.out Anywhere GoingOn
+    went went (λ p. p) c.take_slowly.ensures.says
+    (λ turns p t was. (t, sym t.over_is ∙ sym (ap (λ (q : TalkerState). q.over) c.self.view_is) ∙ c.if-self.false, refl))

@@ -1,0 +1,122 @@
+-- what a run has read and written, for readers and writers that tell their bytes. `None`, of one that does not tell them,
+-- claims nothing of the bytes themselves
+use Rattle.std.specs.Prelude.{◌≡◌, ℕ, ◌+◌, ◌<◌, ◌≤◌, ◌⊎◌, ◌++◌, false, true, List, length, map, Option, Some, None, Result, Err, IfOk}
+use Rattle.std.specs.Io.KnownBytes.{Appends, Consumes}
+use Rattle.commands.specs.declared.bad.Bad.{Bad}
+use Rattle.commands.specs.declared.command.Command.{Command}
+use Rattle.commands.specs.declared.kind.WorldKind.{WorldKind}
+use Rattle.player.specs.declared.fault.Fault.{Fault}
+use Rattle.player.specs.declared.fault.Fault.TheVariants.{Read, Write, Memory}
+use Rattle.player.specs.declared.playing.TheConstants.{READ_BYTES, MOST_READS}
+use Rattle.player.specs.declared.summary.Summary.{Summary}
+use Rattle.player.specs.Turns.{Turn}
+use Rattle.player.specs.Asked.{asked_by, asks_quit}
+use Rattle.player.specs.Counts.{CountsAnswers}
+use Rattle.player.specs.Lines.{lines, whole_lines}
+use Rattle.player.specs.Turns.{asked, answers_of}
+use Rattle.player.specs.Texts.{replies_of}
+use Rattle.player.specs.Written.{HasPartOf}
+
+-- what a contract sees of a reader: the bytes that it still has, where it tells them, how often it was read, and how many
+-- of these reads failed
+pub record Reading (R : Type 0) : Type 0 where
+  pub remaining : R → Option (List ℕ)
+  pub calls : R → ℕ
+  pub failed : R → ℕ
+
+abbrev pub reading : {R : Type 0} → (R → Option (List ℕ)) → (R → ℕ) → (R → ℕ) → Reading R
+reading remaining calls failed = record { remaining = remaining; calls = calls; failed = failed }
+
+-- what a contract sees of a writer: the bytes that were written to it, where it tells them, and how many writes failed
+pub record Writing (W : Type 0) : Type 0 where
+  pub contents : W → Option (List ℕ)
+  pub failed : W → ℕ
+
+abbrev pub writing : {W : Type 0} → (W → Option (List ℕ)) → (W → ℕ) → Writing W
+writing contents failed = record { contents = contents; failed = failed }
+
+-- the input is what the reader tells, or some bytes where it does not tell them
+abbrev pub IsInput : Option (List ℕ) → List ℕ → Type 0
+IsInput None input = Unit {0}
+IsInput (Some bytes) input = bytes ≡ input
+
+-- turns to all that was asked, which are a talk; the writer has gained their text
+pub record IsTold (text : List Turn → List ℕ) (IsTalk : List Turn → Type 0) (all : List (Result Command Bad)) (before now : Option (List ℕ)) : Type 0 where
+  pub turns : List Turn
+  pub asked_is : map asked turns ≡ all
+  pub talk : IsTalk turns
+  pub gained : Appends before now (text turns)
+
+-- turns to the first of what was asked, which are done, and may go on to all of it; the writer has gained a beginning of
+-- their text
+pub record IsPartlyTold (text : List Turn → List ℕ) (IsTalk MayTalk : List Turn → Type 0) (all : List (Result Command Bad)) (before now : Option (List ℕ)) : Type 0 where
+  pub turns : List Turn
+  pub others : List Turn
+  pub asked_is : map asked (turns ++ others) ≡ all
+  pub talk : IsTalk turns
+  pub whole : MayTalk (turns ++ others)
+  pub part : HasPartOf before now (text turns)
+
+module _ (kind : WorldKind) {R : Type 0} (reading : Reading R) (r r' : R) where
+  -- these bytes were read, the last of them by one read, before which no `quit` had come
+  pub record HasRead (got : List ℕ) : Type 0 where
+    pub mid : R
+    pub earlier : List ℕ
+    pub last : List ℕ
+    pub parts : got ≡ earlier ++ last
+    pub came : Consumes (reading.remaining r) (reading.remaining mid) earlier
+    pub going : asks_quit (asked_by kind (whole_lines earlier)) ≡ false
+    pub gave : Consumes (reading.remaining mid) (reading.remaining r') last
+    pub once : reading.calls r' ≡ reading.calls mid + 1
+    pub few : length last ≤ READ_BYTES
+
+  module _ {W : Type 0} (writing : Writing W) (w w' : W) (text : List Turn → List ℕ) where
+    -- the end: of all the input, or by `quit`. There are turns to the lines of the input, which are a talk; the
+    -- writer has gained their text, and the summary counts the answers to them. No read and no write failed
+    pub record PlayedToEnd (IsTalk : List Turn → Type 0) (s : Summary) : Type 0 where
+      pub input : List ℕ
+      pub input_is : IsInput (reading.remaining r) input
+      pub told : IsTold text IsTalk (asked_by kind (lines input)) (writing.contents w) (writing.contents w')
+      pub counts : CountsAnswers (answers_of told.turns) s
+      pub got : List ℕ
+      pub left : List ℕ
+      pub of_input : input ≡ got ++ left
+      pub read : HasRead got
+      pub ended : (got ≡ input) ⊎ (asks_quit (asked_by kind (whole_lines got)) ≡ true)
+      pub no_read_failed : reading.failed r' ≡ reading.failed r
+      pub no_write_failed : writing.failed w' ≡ writing.failed w
+
+    -- a read fault: one read failed, or the limit of reads was reached. There are turns to the whole lines of what was
+    -- read, and their text is written; `quit` was not among them
+    pub record PlayedToReadFault (IsTalk : List Turn → Type 0) : Type 0 where
+      pub why : (reading.failed r' ≡ reading.failed r + 1) ⊎ ((reading.calls r' ≡ reading.calls r + MOST_READS) × (reading.failed r' ≡ reading.failed r))
+      pub got : List ℕ
+      pub read : Consumes (reading.remaining r) (reading.remaining r') got
+      pub going : asks_quit (asked_by kind (whole_lines got)) ≡ false
+      pub told : IsTold text IsTalk (asked_by kind (whole_lines got)) (writing.contents w) (writing.contents w')
+      pub no_write_failed : writing.failed w' ≡ writing.failed w
+
+    -- a write fault: what went out is a beginning of the text of the input
+    pub record PlayedToWriteFault (IsTalk MayTalk : List Turn → Type 0) : Type 0 where
+      pub why : writing.failed w < writing.failed w'
+      pub input : List ℕ
+      pub input_is : IsInput (reading.remaining r) input
+      pub told : IsPartlyTold text IsTalk MayTalk (asked_by kind (lines input)) (writing.contents w) (writing.contents w')
+      pub got : List ℕ
+      pub left : List ℕ
+      pub of_input : input ≡ got ++ left
+      pub read : HasRead got
+      pub no_read_failed : reading.failed r' ≡ reading.failed r
+
+-- the theorem of a run of which this text is written, where the reader was r and then r', and the writer w and then w'. The
+-- turns that were taken are a talk, and may go on to one of the whole input
+pub record IsPlayed (text : List Turn → List ℕ) (IsTalk MayTalk : List Turn → Type 0) (kind : WorldKind) {R W : Type 0} (reading : Reading R) (writing : Writing W) (r r' : R) (w w' : W) (result : Result Summary Fault) : Type 0 where
+  pub ok : IfOk result (λ s. PlayedToEnd kind reading r r' writing w w' text IsTalk s)
+  pub read_fault : result ≡ Err Read → PlayedToReadFault kind reading r r' writing w w' text IsTalk
+  pub write_fault : result ≡ Err Write → PlayedToWriteFault kind reading r r' writing w w' text IsTalk MayTalk
+  pub memory : result ≡ Err Memory → (r' ≡ r) × (w' ≡ w)
+  pub reads : reading.calls r' ≤ reading.calls r + MOST_READS
+
+-- the same, where the replies are written, and want of memory is in the turns where it was met
+abbrev pub IsPlayedIn : (List Turn → Type 0) → WorldKind → {R W : Type 0} → Reading R → Writing W → R → R → W → W → Result Summary Fault → Type 0
+IsPlayedIn IsTalk kind reading writing r r' w w' result = IsPlayed replies_of IsTalk IsTalk kind reading writing r r' w w' result

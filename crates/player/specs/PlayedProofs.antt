@@ -1,0 +1,111 @@
+-- runs that are played: none where memory was refused, one after a beginning, one by a weaker measure
+use Rattle.std.proofs.Common.{◌≡◌, ℕ, List, [], ◌++◌, Result, Ok, Err, IfOk, refl, ◌∙◌, arith}
+use Rattle.std.specs.Io.KnownBytes.{Appends}
+use Rattle.commands.specs.declared.bad.Bad.{Bad}
+use Rattle.commands.specs.declared.command.Command.{Command}
+use Rattle.commands.specs.declared.kind.WorldKind.{WorldKind}
+use Rattle.player.specs.declared.fault.Fault.{Fault}
+use Rattle.player.specs.declared.fault.Fault.TheVariants.{Memory}
+use Rattle.player.specs.declared.summary.Summary.{Summary}
+use Rattle.player.specs.Asked.{asked_by}
+use Rattle.player.specs.Lines.{lines, whole_lines}
+use Rattle.player.specs.Played.{Reading, Writing, IsTold, PlayedToEnd, PlayedToReadFault, PlayedToWriteFault, IsPlayed}
+use Rattle.player.specs.Turns.{Turn}
+use Rattle.player.specs.WrittenProofs.{appends_more, appends_none, part_after}
+
+-- a run of which this text is written after a beginning is one of which both are written; and what is a talk by one measure is
+-- one by a weaker
+module _ (head : List ℕ) (text : List Turn → List ℕ) (P P' Q Q' : List Turn → Type 0)
+    (weaker : (ts : List Turn) → P ts → Q ts) (weaker' : (ts : List Turn) → P' ts → Q' ts)
+    (kind : WorldKind) {R W : Type 0} (reading : Reading R) (writing : Writing W) (r r' : R) (w mid w' : W)
+    (begun : Appends (writing.contents w) (writing.contents mid) head) (unfailed : writing.failed mid ≡ writing.failed w) where
+  abbrev whole : List Turn → List ℕ
+  whole ts = head ++ text ts
+
+  abbrev told_after : (all : List (Result Command Bad)) →
+      IsTold text P all (writing.contents mid) (writing.contents w') → IsTold whole Q all (writing.contents w) (writing.contents w')
+  told_after all t = record {
+    turns = t.turns;
+    asked_is = t.asked_is;
+    talk = weaker t.turns t.talk;
+    gained = appends_more (writing.contents w) (writing.contents mid) (writing.contents w') head (text t.turns) (whole t.turns) begun t.gained refl;
+  }
+
+  end_after : (s : Summary) → PlayedToEnd kind reading r r' writing mid w' text P s → PlayedToEnd kind reading r r' writing w w' whole Q s
+  end_after s t = record {
+    input = t.input;
+    input_is = t.input_is;
+    told = told_after (asked_by kind (lines t.input)) t.told;
+    counts = t.counts;
+    got = t.got;
+    left = t.left;
+    of_input = t.of_input;
+    read = t.read;
+    ended = t.ended;
+    no_read_failed = t.no_read_failed;
+    no_write_failed = t.no_write_failed ∙ unfailed;
+  }
+
+  ok_after : (result : Result Summary Fault) → IfOk result (λ s. PlayedToEnd kind reading r r' writing mid w' text P s) →
+      IfOk result (λ s. PlayedToEnd kind reading r r' writing w w' whole Q s)
+  ok_after (Ok s) t = end_after s t
+  ok_after (Err f) t = tt
+
+  read_after : PlayedToReadFault kind reading r r' writing mid w' text P → PlayedToReadFault kind reading r r' writing w w' whole Q
+  read_after t = record {
+    why = t.why;
+    got = t.got;
+    read = t.read;
+    going = t.going;
+    told = told_after (asked_by kind (whole_lines t.got)) t.told;
+    no_write_failed = t.no_write_failed ∙ unfailed;
+  }
+
+  write_after : PlayedToWriteFault kind reading r r' writing mid w' text P P' → PlayedToWriteFault kind reading r r' writing w w' whole Q Q'
+  write_after t = record {
+    why = omega (arith, t.why, unfailed);
+    input = t.input;
+    input_is = t.input_is;
+    told = record {
+      turns = t.told.turns;
+      others = t.told.others;
+      asked_is = t.told.asked_is;
+      talk = weaker t.told.turns t.told.talk;
+      whole = weaker' (t.told.turns ++ t.told.others) t.told.whole;
+      part = part_after (writing.contents w) (writing.contents mid) (writing.contents w') head (text t.told.turns) (whole t.told.turns) begun refl t.told.part;
+    };
+    got = t.got;
+    left = t.left;
+    of_input = t.of_input;
+    read = t.read;
+    no_read_failed = t.no_read_failed;
+  }
+
+  pub played_after : (result : Result Summary Fault) → (result ≡ Err Memory → mid ≡ w) →
+      IsPlayed text P P' kind reading writing r r' mid w' result → IsPlayed whole Q Q' kind reading writing r r' w w' result
+  played_after result same t = record {
+    ok = ok_after result t.ok;
+    read_fault = λ e. read_after (t.read_fault e);
+    write_fault = λ e. write_after (t.write_fault e);
+    memory = λ e. ((t.memory e).0, (t.memory e).1 ∙ same e);
+    reads = t.reads;
+  }
+
+-- with nothing before it
+pub played_weaker : (text : List Turn → List ℕ) (P P' Q Q' : List Turn → Type 0) → ((ts : List Turn) → P ts → Q ts) → ((ts : List Turn) → P' ts → Q' ts) →
+    (kind : WorldKind) {R W : Type 0} (reading : Reading R) (writing : Writing W) (r r' : R) (w w' : W) (result : Result Summary Fault) →
+    IsPlayed text P P' kind reading writing r r' w w' result → IsPlayed text Q Q' kind reading writing r r' w w' result
+played_weaker text P P' Q Q' weaker weaker' kind reading writing r r' w w' result t =
+    played_after [] text P P' Q Q' weaker weaker' kind reading writing r r' w w w' (appends_none (writing.contents w)) refl result (λ e. refl) t
+
+-- where memory was refused nothing is read and nothing written
+pub unplayed : (text : List Turn → List ℕ) (IsTalk MayTalk : List Turn → Type 0) (kind : WorldKind)
+    {R W : Type 0} (reading : Reading R) (writing : Writing W) (r : R) (w : W) →
+    IsPlayed text IsTalk MayTalk kind reading writing r r w w (Err Memory)
+unplayed text IsTalk MayTalk kind reading writing r w = record {
+  ok = tt;
+  read_fault = λ e. (let no_way : ⊥ = cc in absurd no_way);
+  write_fault = λ e. (let no_way : ⊥ = cc in absurd no_way);
+  memory = λ e. (refl, refl);
+  reads = omega arith;
+}

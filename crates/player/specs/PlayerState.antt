@@ -1,0 +1,19 @@
+-- what a contract sees of a player
+use Rattle.std.specs.Prelude.{ℕ, List, Bool}
+use Rattle.commands.specs.declared.kind.WorldKind.{WorldKind}
+use Rattle.player.specs.declared.summary.Summary.{Summary}
+use Rattle.player.specs.HeldLine.{HeldLine}
+use Rattle.player.specs.TalkerState.{TalkerState}
+
+-- the kind of what answers, the line so far, the replies that are not written yet, the counts, and whether `quit`
+-- was answered
+pub record PlayerState : Type 0 where
+  pub kind : WorldKind
+  pub line : HeldLine
+  pub replies : List ℕ
+  pub summary : Summary
+  pub over : Bool
+
+-- one side of a talk, and the replies to it that are not written yet
+abbrev pub player_of : TalkerState → List ℕ → PlayerState
+player_of t replies = record { kind = t.kind; line = t.line; replies = replies; summary = t.summary; over = t.over }

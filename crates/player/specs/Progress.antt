@@ -1,0 +1,55 @@
+-- how far a run has come, byte by byte: the line so far, what was asked for, and whether `quit` was among it
+use Rattle.std.specs.Prelude.{ℕ, ◌==◌, if◌then◌else◌, Bool, true, false, List, [], ◌∷◌, ◌++◌, Result, Ok, Err}
+use Rattle.commands.specs.declared.bad.Bad.{Bad}
+use Rattle.commands.specs.declared.command.Command.{Command}
+use Rattle.commands.specs.declared.command.Command.TheVariants as command
+use Rattle.commands.specs.declared.kind.WorldKind.{WorldKind}
+use Rattle.player.specs.Meaning.{meaning}
+
+pub record Progress : Type 0 where
+  pub line : List ℕ
+  pub asked : List (Result Command Bad)
+  pub over : Bool
+
+-- no byte was read
+abbrev pub at_start : Progress
+at_start = record { line = []; asked = []; over = false }
+
+abbrev pub ends : Result Command Bad → Bool
+ends (Err bad) = false
+ends (Ok (command.Event e)) = false
+ends (Ok (command.Owner n)) = false
+ends (Ok command.Quit) = true
+
+-- the same, where the line so far is another
+abbrev pub with_line : Progress → List ℕ → Progress
+with_line p line = record { line = line; asked = p.asked; over = p.over }
+
+-- a line is whole that means this
+abbrev pub after_meaning : Progress → Result Command Bad → Progress
+after_meaning p m = record { line = []; asked = p.asked ++ m ∷ []; over = ends m }
+
+module _ (kind : WorldKind) where
+  -- the line is whole
+  abbrev pub after_line : Progress → Progress
+  after_line p = after_meaning p (meaning kind p.line)
+
+  -- one more byte
+  abbrev pub after_byte : Progress → ℕ → Progress
+  after_byte p b =
+      if p.over then p
+      else if b == 10 then after_line p
+      else record { line = p.line ++ b ∷ []; asked = p.asked; over = p.over }
+
+  -- some more bytes
+  abbrev pub after_bytes : Progress → List ℕ → Progress
+  after_bytes p [] = p
+  after_bytes p (b ∷ bs) = after_bytes (after_byte p b) bs
+
+  abbrev pub after_rest : Progress → List ℕ → Progress
+  after_rest p [] = p
+  after_rest p (b ∷ bs) = after_line p
+
+  -- the end of the input: what stands before it with no LF is a line if it is not empty
+  abbrev pub after_end : Progress → Progress
+  after_end p = if p.over then p else after_rest p p.line

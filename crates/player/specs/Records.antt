@@ -1,0 +1,38 @@
+-- records (this project's profile), version 2: a line of JSON for the config, and one for each event with its reply
+use Rattle.std.specs.Prelude.{ℕ, List, [], ◌++◌, flat_map, codes, decimal}
+use Rattle.commands.specs.Config.{world_name}
+use Rattle.commands.specs.declared.exchange.Exchange.{Exchange}
+use Rattle.commands.specs.declared.reply.Reply.{Reply}
+use Rattle.commands.specs.declared.reply.Reply.TheVariants as reply
+use Rattle.commands.specs.declared.config.Config.{Config}
+use Rattle.player.specs.Events.{event_words}
+use Rattle.player.specs.Replies.{reply_words, view_words}
+use Rattle.player.specs.Turns.{Turn}
+use Rattle.player.specs.Turns.Turn.{Answered, Told, Ended, Misread}
+
+-- the first line: the config, its keys in rising order
+abbrev pub header_line : Config → List ℕ
+header_line c =
+    codes "{\"format\":\"slot-record\",\"k\":" ++ decimal c.k ++ codes ",\"limit\":" ++ decimal c.limit ++ codes ",\"m\":" ++ decimal c.m
+    ++ codes ",\"version\":2,\"world\":\"" ++ world_name c.world ++ codes "\"}\n"
+
+-- after a name, and after no other reply, the view by which it was given
+abbrev pub name_view : Reply → List ℕ
+name_view (reply.Named name view) = codes ",\"view\":\"" ++ view_words view ++ codes "\""
+name_view r = []
+
+-- the line of an event and its reply; no word of either needs an escape
+abbrev pub exchange_line : Exchange → List ℕ
+exchange_line x =
+    codes "{\"command\":\"" ++ event_words x.event ++ codes "\",\"reply\":\"" ++ reply_words x.reply ++ codes "\"" ++ name_view x.reply ++ codes "}\n"
+
+-- what is recorded of a turn: an event, with its reply, be it a refusal, and nothing else
+abbrev pub turn_record : Turn → List ℕ
+turn_record (Answered x) = exchange_line x
+turn_record (Told n r) = []
+turn_record Ended = []
+turn_record (Misread bad) = []
+
+-- the record of turns
+abbrev pub record_of : Config → List Turn → List ℕ
+record_of config turns = header_line config ++ flat_map turn_record turns

@@ -1,0 +1,56 @@
+-- logs of turns of several talks
+use Rattle.std.proofs.Common.{◌≡◌, ℕ, ◌==◌, true, false, cond, List, [], ◌∷◌, ◌++◌, flat_map, refl, sym, ap, subst, ◌∙◌}
+use Rattle.std.proofs.lemmas.List.{append-nil}
+use Rattle.std.proofs.lemmas.Bool.{eqb-true}
+use Rattle.std.proofs.lemmas.Grind.{flat_map-append}
+use Rattle.commands.specs.declared.reply.Reply.{Reply}
+use Rattle.commands.specs.Requests.{Request}
+use Rattle.player.specs.Progress.{Progress}
+use Rattle.player.specs.Runs.{Runs}
+use Rattle.player.specs.RunProofs.{runs-append}
+use Rattle.player.specs.Says.{Spoke, SaysBy, Anywhere}
+use Rattle.player.specs.Shared.{TurnLog, turns_of, tagged, all_turns, changed, IsShared}
+use Rattle.player.specs.TalkerState.{TalkerState}
+use Rattle.player.specs.Turns.{Turn}
+
+pub all-append : (xs ys : TurnLog) → all_turns (xs ++ ys) ≡ all_turns xs ++ all_turns ys
+all-append [] ys = refl
+all-append (x ∷ xs) ys = ap (λ l. x.1 ∷ l) (all-append xs ys)
+
+pub all-tagged : (i : ℕ) (ts : List Turn) → all_turns (tagged i ts) ≡ ts
+all-tagged i [] = refl
+all-tagged i (t ∷ ts) = ap (λ l. t ∷ l) (all-tagged i ts)
+
+pub of-append : (j : ℕ) (xs ys : TurnLog) → turns_of j (xs ++ ys) ≡ turns_of j xs ++ turns_of j ys
+of-append j [] ys = refl
+of-append j (x ∷ xs) ys = elim (x.0 == j) as (λ b. cond b (x.1 ∷ turns_of j (xs ++ ys)) (turns_of j (xs ++ ys)) ≡ cond b (x.1 ∷ turns_of j xs) (turns_of j xs) ++ turns_of j ys) [
+  | true ↦ ap (λ l. x.1 ∷ l) (of-append j xs ys)
+  | false ↦ of-append j xs ys
+]
+
+pub of-same : (i j : ℕ) (ts : List Turn) → (i == j) ≡ true → turns_of j (tagged i ts) ≡ ts
+of-same i j [] h = refl
+of-same i j (t ∷ ts) h = rw h (ap (λ l. t ∷ l) (of-same i j ts h))
+
+pub of-other : (i j : ℕ) (ts : List Turn) → (i == j) ≡ false → turns_of j (tagged i ts) ≡ []
+of-other i j [] h = refl
+of-other i j (t ∷ ts) h = rw h (of-other i j ts h)
+
+module _ {T : Type 0} (may : T → Request → Reply → T → Type 0) (text : Turn → List ℕ) where
+  -- one of them goes on
+  pub shared_on : (start w u : T) (log : TurnLog) (at : ℕ → TalkerState) (far : ℕ → Progress) (told : ℕ → List ℕ) (i : ℕ) (out out' : List ℕ) (s' : TalkerState) (next : Progress → Progress) (more : List Turn) →
+      IsShared may text start w log at far told → SaysBy may text more w (at i) out u s' out' Anywhere next →
+      IsShared may text start u (log ++ tagged i more) (changed at i s') (changed far i (next (far i))) (changed told i (told i ++ flat_map text more))
+  shared_on start w u log at far told i out out' s' next more shared said = record {
+    run = rw (all-append log (tagged i more), all-tagged i more) (runs-append may start w u (all_turns log) more shared.run said.run);
+    each = λ j. rw (of-append j log (tagged i more))
+        (elim (i == j) as (λ b. (i == j) ≡ b → Spoke (turns_of j log ++ turns_of j (tagged i more)) (cond b s' (at j)) (cond b (next (far i)) (far j))) [
+          | true ↦ λ h. rw (of-same i j more h) (subst (λ (k : ℕ). Spoke (turns_of k log ++ more) s' (next (far i))) (eqb-true i j h) (said.goes_on (turns_of i log) (far i) (shared.each i) tt))
+          | false ↦ λ h. rw (of-other i j more h, append-nil (turns_of j log)) (shared.each j)
+        ] refl);
+    told_is = λ j. rw (of-append j log (tagged i more))
+        (elim (i == j) as (λ b. (i == j) ≡ b → cond b (told i ++ flat_map text more) (told j) ≡ flat_map text (turns_of j log ++ turns_of j (tagged i more))) [
+          | true ↦ λ h. rw (of-same i j more h) (ap (λ l. l ++ flat_map text more) (shared.told_is i) ∙ sym (flat_map-append text (turns_of i log) more) ∙ ap (λ (k : ℕ). flat_map text (turns_of k log ++ more)) (eqb-true i j h))
+          | false ↦ λ h. rw (of-other i j more h, append-nil (turns_of j log)) (shared.told_is j)
+        ] refl);
+  }

@@ -1,0 +1,67 @@
+-- where a player stands: what it holds, and what its writer has gained so far
+use Rattle.std.specs.Prelude.{◌≡◌, ℕ, ◌++◌, List, [], false, map, flat_map, Option, Result}
+use Rattle.std.specs.Io.KnownBytes.{Appends}
+use Rattle.commands.specs.declared.bad.Bad.{Bad}
+use Rattle.commands.specs.declared.command.Command.{Command}
+use Rattle.commands.specs.declared.kind.WorldKind.{WorldKind}
+use Rattle.commands.specs.declared.reply.Reply.{Reply}
+use Rattle.player.specs.Turns.{Turn}
+use Rattle.player.specs.Counts.{CountsAnswers}
+use Rattle.player.specs.HeldLine.{held}
+use Rattle.player.specs.PlayerState.{PlayerState}
+use Rattle.player.specs.Progress.{Progress}
+use Rattle.commands.specs.Requests.{Request}
+use Rattle.player.specs.Runs.{Runs}
+use Rattle.player.specs.Turns.{asked, answers_of}
+use Rattle.player.specs.Written.{HasPartOf}
+
+-- a player that has read nothing
+pub record IsFresh (kind : WorldKind) (s : PlayerState) : Type 0 where
+  pub kind_is : s.kind ≡ kind
+  pub line : s.line ≡ held []
+  pub replies : s.replies ≡ []
+  pub counts : CountsAnswers [] s.summary
+  pub over : s.over ≡ false
+
+-- some of the replies that were held are written, and nothing else changes
+pub record IsSent (s : PlayerState) (old : Option (List ℕ)) (s' : PlayerState) (now : Option (List ℕ)) : Type 0 where
+  pub sent : List ℕ
+  pub parts : s.replies ≡ sent ++ s'.replies
+  pub gained : Appends old now sent
+  pub kept : s' ≡ record s { replies = s'.replies }
+
+module _ {T : Type 0} (may : T → Request → Reply → T → Type 0) where
+  -- where this is written of each turn
+  module _ (text : Turn → List ℕ) where
+    -- world and player have come as far as p: turns to what p asks for, which the rules allow, and what is written of them is
+    -- what the writer gained, and then the replies that are still held
+    pub record Stands (start world : T) (player : PlayerState) (p : Progress) (before now : Option (List ℕ)) : Type 0 where
+      pub turns : List Turn
+      pub asked_is : map asked turns ≡ p.asked
+      pub run : Runs may start turns world
+      pub line_is : player.line ≡ held p.line
+      pub over_is : player.over ≡ p.over
+      pub counts : CountsAnswers (answers_of turns) player.summary
+      pub written : List ℕ
+      pub gained : Appends before now written
+      pub text_is : flat_map text turns ≡ written ++ player.replies
+
+    -- the world has come to turns to the first of what p asks for, and the writer has gained a beginning of what is written of them
+    pub record StandsPart (start world : T) (p : Progress) (before now : Option (List ℕ)) : Type 0 where
+      pub turns : List Turn
+      pub others : List (Result Command Bad)
+      pub asked_is : p.asked ≡ map asked turns ++ others
+      pub run : Runs may start turns world
+      pub part : HasPartOf before now (flat_map text turns)
+
+    -- where the player stood at p, it stands at `next p` now; nothing was written between
+    abbrev pub Advances : T → PlayerState → T → PlayerState → (Progress → Progress) → Type 0
+    Advances w s u s' next = (start : T) (p : Progress) (before now : Option (List ℕ)) → Stands start w s p before now → Stands start u s' (next p) before now
+
+    -- where the player stood at p, it stands at `next p` now, with what was written between
+    abbrev pub AdvancesWriting : T → PlayerState → Option (List ℕ) → T → PlayerState → Option (List ℕ) → (Progress → Progress) → Type 0
+    AdvancesWriting w s old u s' new next = (start : T) (p : Progress) (before : Option (List ℕ)) → Stands start w s p before old → Stands start u s' (next p) before new
+
+    -- where the player stood at p, a part of what `next p` asks for is answered now, and a part of that written
+    abbrev pub AdvancesInPart : T → PlayerState → Option (List ℕ) → T → Option (List ℕ) → (Progress → Progress) → Type 0
+    AdvancesInPart w s old u new next = (start : T) (p : Progress) (before : Option (List ℕ)) → Stands start w s p before old → StandsPart start u (next p) before new

@@ -1,0 +1,12 @@
+-- what a contract sees of one side of a talk
+use Rattle.std.specs.Prelude.{Bool}
+use Rattle.commands.specs.declared.kind.WorldKind.{WorldKind}
+use Rattle.player.specs.declared.summary.Summary.{Summary}
+use Rattle.player.specs.HeldLine.{HeldLine}
+
+-- the kind of what answers, the line so far, the counts, and whether `quit` was answered
+pub record TalkerState : Type 0 where
+  pub kind : WorldKind
+  pub line : HeldLine
+  pub summary : Summary
+  pub over : Bool

@@ -1,0 +1,85 @@
+//! The form of records.
+
+ghost use Rattle.std.specs.Prelude.{◌≡◌, ◌≤◌, ◌+◌, ◌++◌, length};
+ghost use Rattle.commands.specs.Replies.{with_view};
+ghost use Rattle.commands.specs.Config.{world_name};
+ghost use Rattle.player.specs.Records.{header_line, name_view, turn_record};
+
+use crate::events::print_event;
+use crate::form::Form;
+use crate::print::{print_words, put_shown, put_word};
+use crate::replies::{HELD_REPLIES, Replies};
+use commands::{Bad, Config, Event, ShortReply, WorldKind};
+use std::alloc::Allocator;
+use step_memory::View;
+
+/// The first line of no record has more bytes.
+pub const HEADER_ROOM: usize = 135;
+
+/// The view by which a name was given has no more bytes, with its key.
+const NAME_VIEW_ROOM: usize = 2_697;
+
+/// Of each event a line of JSON is written, with its reply, and of other turns nothing.
+#[derive(Drop)]
+pub struct AsRecord;
+
+impl Form for AsRecord {
+    ghost text = { turn_record };
+
+    fn put_answered<A: Allocator>(
+        event: Event,
+        reply: ShortReply,
+        view: &View,
+        out: &mut Replies<A>,
+    ) {
+        out.put(b"{\"command\":\"");
+        print_event(event, out);
+        out.put(b"\",\"reply\":\"");
+        print_words(reply, view, out);
+        out.put(b"\"");
+        put_name_view(reply, view, out);
+        out.put(b"}\n");
+    }
+
+    fn put_told<A: Allocator>(_n: u64, _reply: ShortReply, _view: &View, _out: &mut Replies<A>) {}
+
+    fn put_ended<A: Allocator>(_out: &mut Replies<A>) {}
+
+    fn put_misread<A: Allocator>(_bad: Bad, _out: &mut Replies<A>) {}
+}
+
+/// Appends, of a name, the view by which it was given; of another reply nothing.
+fn put_name_view<A: Allocator>(reply: ShortReply, view: &View, out: &mut Replies<A>)
+    requires { length out.old + NAME_VIEW_ROOM ≤ HELD_REPLIES }
+    ensures text { out.new ≡ out.old ++ name_view (with_view reply view.now) }
+    ensures short { length out.new ≤ length out.old + NAME_VIEW_ROOM }
+{
+    if let ShortReply::Named(_) = reply {
+        out.put(b",\"view\":\"");
+        put_shown(view, out);
+        out.put(b"\"");
+    }
+}
+
+/// Appends the name of a world.
+fn put_world<A: Allocator>(world: WorldKind, out: &mut Replies<A>)
+    requires { length out.old + 8 ≤ HELD_REPLIES }
+    ensures text { out.new ≡ out.old ++ world_name world }
+    ensures short { length out.new ≤ length out.old + 8 }
+{
+    out.put(world.name().as_bytes());
+}
+
+/// Appends the first line of a record.
+pub fn print_header<A: Allocator>(config: Config, out: &mut Replies<A>)
+    requires { length out.old + HEADER_ROOM ≤ HELD_REPLIES }
+    ensures text { out.new ≡ out.old ++ header_line config }
+    ensures short { length out.new ≤ length out.old + HEADER_ROOM }
+{
+    put_word(b"{\"format\":\"slot-record\",\"k\":", config.k, out);
+    put_word(b",\"limit\":", config.limit, out);
+    put_word(b",\"m\":", config.m, out);
+    out.put(b",\"version\":2,\"world\":\"");
+    put_world(config.world, out);
+    out.put(b"\"}\n");
+}

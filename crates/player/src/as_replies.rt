@@ -1,0 +1,41 @@
+//! The form of replies.
+
+ghost use Rattle.player.specs.Texts.{turn_reply};
+
+use crate::form::Form;
+use crate::print::{print_bad, print_reply};
+use crate::replies::Replies;
+use commands::{Bad, Event, ShortReply};
+use std::alloc::Allocator;
+use step_memory::View;
+
+/// Of each turn the reply is written, or that its line was bad.
+#[derive(Drop)]
+pub struct AsReplies;
+
+impl Form for AsReplies {
+    ghost text = { turn_reply };
+
+    #[inline(always)]
+    fn put_answered<A: Allocator>(
+        _event: Event,
+        reply: ShortReply,
+        view: &View,
+        out: &mut Replies<A>,
+    ) {
+        print_reply(reply, view, out);
+    }
+
+    #[inline(always)]
+    fn put_told<A: Allocator>(_n: u64, reply: ShortReply, view: &View, out: &mut Replies<A>) {
+        print_reply(reply, view, out);
+    }
+
+    fn put_ended<A: Allocator>(out: &mut Replies<A>) {
+        out.put(b"ok\n");
+    }
+
+    fn put_misread<A: Allocator>(bad: Bad, out: &mut Replies<A>) {
+        print_bad(bad, out);
+    }
+}

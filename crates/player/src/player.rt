@@ -1,0 +1,212 @@
+//! A run under way: bytes in, replies out.
+
+ghost use Rattle.std.specs.Prelude.{◌≡◌, ◌+◌, ◌*◌, ◌^◌, ◌<◌, ◌≤◌, [], length, take, IfOk, IfErr, OnOk, OnErr};
+ghost use Rattle.player.specs.Knows.{Knows};
+ghost use Rattle.player.specs.Progress.{after_bytes, after_end};
+ghost use Rattle.player.specs.Stands.{Advances, AdvancesWriting, AdvancesInPart, IsFresh, IsSent};
+ghost use Rattle.player.specs.Records.{header_line};
+ghost use Rattle.player.specs.Written.{HasPartOf};
+ghost use Rattle.std.specs.Io.KnownBytes.{Appends};
+ghost use Rattle.player.specs.declared.replies.TheConstants.{HELD_REPLIES};
+ghost use Rattle.player.specs.declared.form.TheConstants.{TURN_ROOM};
+ghost use Rattle.player.specs.declared.as_record.TheConstants.{HEADER_ROOM};
+
+use crate::as_record::{HEADER_ROOM, print_header};
+use crate::fault::Fault;
+use crate::form::{Form, TURN_ROOM};
+use crate::replies::{HELD_REPLIES, Replies};
+use crate::service::Service;
+use crate::sink::{Sink, put_all};
+use crate::summary::Summary;
+use crate::talker::Talker;
+use commands::{Config, WorldKind};
+use std::alloc::Allocator;
+use std::marker::Model;
+use step_memory::{NoMemory, View};
+
+/// A run under way: one side of a talk, and the replies that are not written yet.
+#[derive(Drop)]
+pub struct Player<A: Allocator, F: Form> {
+    talker: Talker<A, F>,
+    replies: Replies<A>,
+}
+
+impl<A: Allocator, F: Form> Model for Player<A, F> {
+    ghost use Rattle.player.specs.PlayerState.{PlayerState, player_of};
+
+    ghost Value = { PlayerState };
+
+    ghost view = { λ p. player_of p.talker p.replies };
+}
+
+impl<A: Allocator + Clone, F: Form> Player<A, F> {
+    /// A run that has read nothing. All the memory that it wants is taken here.
+    pub fn new(alloc: A, kind: WorldKind) -> Result<Player<A, F>, NoMemory>
+        ensures { IfOk result (λ player. IsFresh kind player) }
+    {
+        let Ok(other) = alloc.clone() else {
+            return Err(NoMemory);
+        };
+        let talker = Talker::new(other, kind)?;
+        let replies = Replies::new(alloc)?;
+        Ok(Player { talker, replies })
+    }
+}
+
+impl<A: Allocator, F: Form> Player<A, F> {
+    /// The counts so far.
+    pub fn summary(&self) -> Summary
+        ensures { result ≡ self.now.summary }
+    {
+        self.talker.summary()
+    }
+
+    /// Whether `quit` was answered.
+    pub fn is_over(&self) -> bool
+        ensures { result ≡ self.now.over }
+    {
+        self.talker.is_over()
+    }
+
+    /// Takes the first line of these bytes with its LF, or all of them where none ends, and says how many bytes it took.
+    /// After `quit` nothing is acted on.
+    #[inline(always)]
+    fn take<R, D: Service<R>>(
+        &mut self,
+        rt: &R,
+        world: &mut D,
+        view: &mut View,
+        bytes: &[u8],
+    ) -> usize
+        requires knows { Knows D.knows self.old.kind }
+        requires room { length self.old.replies + TURN_ROOM ≤ HELD_REPLIES }
+        requires count { self.old.summary.lines + 1 < 2 ^ 64 }
+        requires some { 0 < length bytes.now }
+        ensures taken { (0 < result) × (result ≤ length bytes.now) }
+        ensures stands { Advances D.may F.text world.old self.old world.new self.new (λ p. after_bytes self.old.kind p (take result bytes.now)) }
+        ensures kept { self.new.kind ≡ self.old.kind }
+        ensures longer { length self.new.replies ≤ length self.old.replies + TURN_ROOM }
+        ensures counted { self.new.summary.lines ≤ self.old.summary.lines + 1 }
+    {
+        self.talker.take(rt, world, view, bytes, &mut self.replies)
+    }
+
+    /// Writes the replies that are held.
+    fn send<W: Sink>(&mut self, writer: &mut W) -> Result<(), Fault>
+        requires calls { W.calls writer.old + length self.old.replies ≤ 2 ^ 100 }
+        ensures ok { OnOk result (IsSent self.old (W.contents writer.old) self.new (W.contents writer.new)) }
+        ensures empty { OnOk result (self.new.replies ≡ []) }
+        ensures only { IfErr result (λ fault. fault ≡ Fault.Write) }
+        ensures failed { OnErr result (W.failed writer.old < W.failed writer.new) }
+        ensures unfailed { OnOk result (W.failed writer.new ≡ W.failed writer.old) }
+        ensures part { OnErr result (HasPartOf (W.contents writer.old) (W.contents writer.new) self.old.replies) }
+        ensures kept { (self.new.kind ≡ self.old.kind) × (self.new.summary ≡ self.old.summary) }
+        ensures calls { W.calls writer.new ≤ W.calls writer.old + length self.old.replies }
+    {
+        put_all(writer, self.replies.as_slice())?;
+        self.replies.clear();
+        Ok(())
+    }
+
+    /// Writes the first line of a record, before which nothing is held.
+    pub fn write_header<W: Sink>(&mut self, config: Config, writer: &mut W) -> Result<(), Fault>
+        requires none { self.old.replies ≡ [] }
+        requires calls { W.calls writer.old + HEADER_ROOM ≤ 2 ^ 100 }
+        ensures ok { OnOk result (Appends (W.contents writer.old) (W.contents writer.new) (header_line config)) }
+        ensures same { OnOk result (self.new ≡ self.old) }
+        ensures only { IfErr result (λ fault. fault ≡ Fault.Write) }
+        ensures failed { OnErr result (W.failed writer.old < W.failed writer.new) }
+        ensures unfailed { OnOk result (W.failed writer.new ≡ W.failed writer.old) }
+        ensures part { OnErr result (HasPartOf (W.contents writer.old) (W.contents writer.new) (header_line config)) }
+        ensures calls { W.calls writer.new ≤ W.calls writer.old + HEADER_ROOM }
+    {
+        print_header(config, &mut self.replies);
+        self.replies.send(writer)
+    }
+
+    /// Makes room for one more turn: where there is too little, the replies that are held are written.
+    fn make_room<W: Sink>(&mut self, writer: &mut W) -> Result<(), Fault>
+        requires calls { W.calls writer.old + length self.old.replies ≤ 2 ^ 100 }
+        ensures ok { OnOk result (IsSent self.old (W.contents writer.old) self.new (W.contents writer.new)) }
+        ensures room { OnOk result (length self.new.replies + TURN_ROOM ≤ HELD_REPLIES) }
+        ensures only { IfErr result (λ fault. fault ≡ Fault.Write) }
+        ensures failed { OnErr result (W.failed writer.old < W.failed writer.new) }
+        ensures unfailed { OnOk result (W.failed writer.new ≡ W.failed writer.old) }
+        ensures part { OnErr result (HasPartOf (W.contents writer.old) (W.contents writer.new) self.old.replies) }
+        ensures kept { (self.new.kind ≡ self.old.kind) × (self.new.summary ≡ self.old.summary) }
+        ensures calls { W.calls writer.new ≤ W.calls writer.old + length self.old.replies }
+        ensures calls_left { OnOk result (W.calls writer.new + length self.new.replies ≤ W.calls writer.old + length self.old.replies) }
+    {
+        if self.replies.len() <= HELD_REPLIES - TURN_ROOM {
+            return Ok(());
+        }
+        self.send(writer)
+    }
+
+    /// Takes bytes that were read, and writes their replies.
+    pub fn feed<R, D: Service<R>, W: Sink>(
+        &mut self,
+        rt: &R,
+        world: &mut D,
+        chunk: &[u8],
+        writer: &mut W,
+    ) -> Result<(), Fault>
+        requires knows { Knows D.knows self.old.kind }
+        requires count { self.old.summary.lines + length chunk.now < 2 ^ 64 }
+        requires calls { W.calls writer.old + length self.old.replies + TURN_ROOM * length chunk.now ≤ 2 ^ 100 }
+        ensures ok { OnOk result (AdvancesWriting D.may F.text world.old self.old (W.contents writer.old) world.new self.new (W.contents writer.new)
+            (λ p. after_bytes self.old.kind p chunk.now)) }
+        ensures empty { OnOk result (self.new.replies ≡ []) }
+        ensures only { IfErr result (λ fault. fault ≡ Fault.Write) }
+        ensures failed { OnErr result (W.failed writer.old < W.failed writer.new) }
+        ensures unfailed { OnOk result (W.failed writer.new ≡ W.failed writer.old) }
+        ensures part { OnErr result (AdvancesInPart D.may F.text world.old self.old (W.contents writer.old) world.new (W.contents writer.new)
+            (λ p. after_bytes self.old.kind p chunk.now)) }
+        ensures kept { self.new.kind ≡ self.old.kind }
+        ensures counted { self.new.summary.lines ≤ self.old.summary.lines + length chunk.now }
+        ensures calls { W.calls writer.new ≤ W.calls writer.old + length self.old.replies + TURN_ROOM * length chunk.now }
+    {
+        let mut view = View::new();
+        let mut at = 0;
+        while at < chunk.len() {
+            self.make_room(writer)?;
+            at += self.take(rt, world, &mut view, &chunk[at..]);
+        }
+        self.send(writer)
+    }
+
+    /// Takes the end of the input, where what stands with no LF is a line too, and writes the last reply.
+    pub fn finish<R, D: Service<R>, W: Sink>(
+        &mut self,
+        rt: &R,
+        world: &mut D,
+        writer: &mut W,
+    ) -> Result<(), Fault>
+        requires knows { Knows D.knows self.old.kind }
+        requires room { length self.old.replies + TURN_ROOM ≤ HELD_REPLIES }
+        requires count { self.old.summary.lines + 1 < 2 ^ 64 }
+        requires calls { W.calls writer.old + length self.old.replies + TURN_ROOM ≤ 2 ^ 100 }
+        ensures ok { OnOk result (AdvancesWriting D.may F.text world.old self.old (W.contents writer.old) world.new self.new (W.contents writer.new)
+            (after_end self.old.kind)) }
+        ensures empty { OnOk result (self.new.replies ≡ []) }
+        ensures only { IfErr result (λ fault. fault ≡ Fault.Write) }
+        ensures failed { OnErr result (W.failed writer.old < W.failed writer.new) }
+        ensures unfailed { OnOk result (W.failed writer.new ≡ W.failed writer.old) }
+        ensures part { OnErr result (AdvancesInPart D.may F.text world.old self.old (W.contents writer.old) world.new (W.contents writer.new)
+            (after_end self.old.kind)) }
+    {
+        self.end_line(rt, world, &mut View::new());
+        self.send(writer)
+    }
+
+    /// Answers what stands before the end of the input with no LF, if it is not empty.
+    fn end_line<R, D: Service<R>>(&mut self, rt: &R, world: &mut D, view: &mut View)
+        requires knows { Knows D.knows self.old.kind }
+        requires room { length self.old.replies + TURN_ROOM ≤ HELD_REPLIES }
+        requires count { self.old.summary.lines + 1 < 2 ^ 64 }
+        ensures stands { Advances D.may F.text world.old self.old world.new self.new (after_end self.old.kind) }
+        ensures longer { length self.new.replies ≤ length self.old.replies + TURN_ROOM }
+    {
+        self.talker.finish(rt, world, view, &mut self.replies);
+    }
+}

@@ -1,0 +1,248 @@
+//! The commands that most inputs are made of, in one pass over their bytes.
+
+ghost use Rattle.std.specs.Prelude.{◌≡◌, ◌+◌, ◌≤◌, ◌<◌, ℕ, true, length, IfSome};
+ghost use Rattle.player.specs.Digits.{DigitsSoFar, AreDigitsOf, number_of_eight};
+ghost use Rattle.player.specs.Quick.{IsCommandBefore, IsDeskCommandBefore, IsNumberBefore, word_of_four};
+
+use commands::{Command, Event, WorldKind};
+
+/// What stands between words.
+const SPACE: u8 = 32;
+
+/// The first four bytes of each word, with its space where it has three letters, as a number: the first byte is the lowest.
+const STEP: u32 = 0x7065_7473;
+
+const BEGIN: u32 = 0x6967_6562;
+
+const PROBE: u32 = 0x626f_7270;
+
+const ENTER: u32 = 0x6574_6e65;
+
+const LEAVE: u32 = 0x7661_656c;
+
+const GET: u32 = 0x2074_6567;
+
+const PUT: u32 = 0x2074_7570;
+
+/// The first four bytes as a number, where there are so many.
+#[inline(always)]
+fn first_four(bytes: &[u8]) -> Option<u32>
+    ensures inside { IfSome result (λ word. 4 ≤ length bytes.now) }
+    ensures word { IfSome result (λ word. word ≡ word_of_four bytes.now) }
+{
+    let [a, b, c, d, ..] = bytes else {
+        return None;
+    };
+    Some(u32::from_le_bytes([*a, *b, *c, *d]))
+}
+
+/// The command that the bytes before the first of this byte mean, and where that stands, where it takes one look at each byte.
+/// `None` says nothing of the bytes.
+#[inline(always)]
+pub fn quick_command(bytes: &[u8], world: WorldKind, end: u8) -> Option<(Command, usize)>
+    ensures { IfSome result (λ r. IsCommandBefore end world bytes.now r.0 r.1) }
+{
+    let word = first_four(bytes)?;
+    if word == STEP {
+        let [_, _, _, _, b' ', number @ ..] = bytes else {
+            return None;
+        };
+        let (id, count) = quick_number(number, end)?;
+        return Some((Command::Event(Event::Step(id)), count + 5));
+    }
+    if word == BEGIN {
+        let [_, _, _, _, b'n', b' ', number @ ..] = bytes else {
+            return None;
+        };
+        let (id, count) = quick_number(number, end)?;
+        return Some((Command::Event(Event::Begin(id)), count + 6));
+    }
+    if world.gives_names() {
+        return quick_desk_command(bytes, word, end);
+    }
+    None
+}
+
+/// As `quick_command`, of the words that only a desk knows, by the first four bytes.
+#[inline(always)]
+fn quick_desk_command(bytes: &[u8], word: u32, end: u8) -> Option<(Command, usize)>
+    requires inside { 4 ≤ length bytes.now }
+    requires word { word ≡ word_of_four bytes.now }
+    ensures { IfSome result (λ r. IsDeskCommandBefore end bytes.now r.0 r.1) }
+{
+    match word {
+        PROBE => {
+            let [_, _, _, _, b'e', b' ', number @ ..] = bytes else {
+                return None;
+            };
+            let (id, count) = quick_number(number, end)?;
+            Some((Command::Event(Event::Probe(id)), count + 6))
+        }
+        ENTER => {
+            let [_, _, _, _, b'r', b' ', number @ ..] = bytes else {
+                return None;
+            };
+            let (id, count) = quick_number(number, end)?;
+            Some((Command::Event(Event::Enter(id)), count + 6))
+        }
+        LEAVE => {
+            let [_, _, _, _, b'e', b' ', number @ ..] = bytes else {
+                return None;
+            };
+            let (id, count) = quick_number(number, end)?;
+            Some((Command::Event(Event::Leave(id)), count + 6))
+        }
+        GET => {
+            let (id, count) = quick_number(&bytes[4..], end)?;
+            Some((Command::Event(Event::Get(id)), count + 4))
+        }
+        PUT => {
+            let numbers = &bytes[4..];
+            let (id, first) = quick_number(numbers, SPACE)?;
+            let (value, second) = quick_number(&numbers[first + 1..], end)?;
+            Some((Command::Event(Event::Put(id, value)), first + second + 5))
+        }
+        _ => None,
+    }
+}
+
+/// The most digits whose number surely fits in 64 bits.
+const SURE_DIGITS: usize = 19;
+
+/// The number that digits before this byte write, and how many they are. `None` says nothing of the text.
+#[inline(always)]
+pub fn quick_number(text: &[u8], end: u8) -> Option<(u64, usize)>
+    ensures { IfSome result (λ r. IsNumberBefore end text.now r.0 r.1) }
+{
+    if text.len() < 4 {
+        return few_digits(text, 0, 0, end);
+    }
+    let one = one_more(text, 0, 0)?;
+    let Some(two) = one_more(text, one, 1) else {
+        return number_before(text, one, 1, end);
+    };
+    let Some(three) = one_more(text, two, 2) else {
+        return number_before(text, two, 2, end);
+    };
+    let Some(four) = one_more(text, three, 3) else {
+        return number_before(text, three, 3, end);
+    };
+    long_number(text, four, end)
+}
+
+/// As `quick_number`, after four digits, with eight digits at once where so many stand there.
+#[inline(always)]
+fn long_number(text: &[u8], first: u64, end: u8) -> Option<(u64, usize)>
+    requires read { DigitsSoFar text.now first 4 }
+    ensures { IfSome result (λ r. IsNumberBefore end text.now r.0 r.1) }
+{
+    let Some(twelve) = eight_more(text, first) else {
+        return few_digits(text, first, 4, end);
+    };
+    let Some(eight) = eight_digits(&text[12..]) else {
+        return few_digits(text, twelve, 12, end);
+    };
+    let twenty = twelve.checked_mul(100_000_000)?.checked_add(eight)?;
+    number_before(text, twenty, 20, end)
+}
+
+/// The upper half of each byte of a word.
+const UPPER_HALVES: u64 = 0xf0f0_f0f0_f0f0_f0f0;
+
+/// Eight digits 0 as a word.
+const ZEROS: u64 = 0x3030_3030_3030_3030;
+
+/// What leaves the upper half of each byte 0 just where the byte is below 10.
+const SIXES: u64 = 0x0606_0606_0606_0606;
+
+/// The number of the first eight bytes, where all of them are digits: they are tested as one word.
+#[inline(always)]
+fn eight_digits(text: &[u8]) -> Option<u64>
+    ensures { IfSome result (λ value. DigitsSoFar text.now value 8) }
+{
+    let [a, b, c, d, e, f, g, h, ..] = text else {
+        return None;
+    };
+    let word = u64::from_le_bytes([*a, *b, *c, *d, *e, *f, *g, *h]);
+    if word & UPPER_HALVES != ZEROS {
+        return None;
+    }
+    let digits = word - ZEROS;
+    if (digits + SIXES) & UPPER_HALVES != 0 {
+        return None;
+    }
+    Some(value_of_eight(digits))
+}
+
+/// The number that the eight digits of a word write, the first in the lowest byte. Each digit and the next are a pair; two
+/// multiplications put the sum of the first and third pair, and that of the second and last, each with its worth, into the upper half.
+#[inline(always)]
+fn value_of_eight(digits: u64) -> u64
+    ensures { (a b c d e f g h : ℕ) → AreDigitsOf digits a b c d e f g h → result ≡ number_of_eight a b c d e f g h }
+{
+    let pairs = digits.wrapping_mul(10).wrapping_add(digits >> 8);
+    let first = (pairs & 0xff_0000_00ff).wrapping_mul(100 + (1_000_000 << 32));
+    let second = ((pairs >> 16) & 0xff_0000_00ff).wrapping_mul(1 + (10_000 << 32));
+    first.wrapping_add(second) >> 32
+}
+
+/// The number of the first twelve bytes, of which the first four write this one, where the next eight are digits too.
+#[inline(always)]
+fn eight_more(text: &[u8], first: u64) -> Option<u64>
+    requires { DigitsSoFar text.now first 4 }
+    ensures { IfSome result (λ value. DigitsSoFar text.now value 12) }
+{
+    let next = eight_digits(&text[4..])?;
+    Some(first * 100_000_000 + next)
+}
+
+/// As `quick_number`, digit by digit, after the digits that were read. Answers none for more digits than surely fit.
+#[inline(always)]
+fn few_digits(text: &[u8], first: u64, from: usize, end: u8) -> Option<(u64, usize)>
+    requires read { DigitsSoFar text.now first from }
+    requires sure { from ≤ SURE_DIGITS }
+    ensures { IfSome result (λ r. IsNumberBefore end text.now r.0 r.1) }
+{
+    let most = text.len().min(SURE_DIGITS);
+    let mut value = first;
+    let mut at = from;
+    while at < most {
+        let Some(next) = one_more(text, value, at) else {
+            break;
+        };
+        value = next;
+        at += 1;
+    }
+    number_before(text, value, at, end)
+}
+
+/// The number with the digit that stands at the end of these digits, where one stands there.
+#[inline(always)]
+fn one_more(text: &[u8], value: u64, count: usize) -> Option<u64>
+    requires read { DigitsSoFar text.now value count }
+    requires inside { count < length text.now }
+    requires sure { count < SURE_DIGITS }
+    ensures { IfSome result (λ new. DigitsSoFar text.now new (count + 1)) }
+{
+    let byte = u64::from(text[count]);
+    if byte < 48 || 57 < byte {
+        return None;
+    }
+    Some(value * 10 + (byte - 48))
+}
+
+/// This number, where its digits are no others than a number's, and this byte follows them.
+#[inline(always)]
+fn number_before(text: &[u8], value: u64, count: usize, end: u8) -> Option<(u64, usize)>
+    requires read { DigitsSoFar text.now value count }
+    requires few { count ≤ 20 }
+    ensures { IfSome result (λ r. IsNumberBefore end text.now r.0 r.1) }
+{
+    if count == 0 || text.len() <= count || text[count] != end {
+        return None;
+    }
+    if text[0] == b'0' && count != 1 {
+        return None;
+    }
+    Some((value, count))
+}

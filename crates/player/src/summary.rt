@@ -1,0 +1,81 @@
+//! The counts of a run.
+
+ghost use Rattle.std.specs.Prelude.{◌≡◌, ℕ, ◌+◌, ◌<◌, ◌^◌, List};
+ghost use Rattle.commands.specs.Replies.{with_view};
+ghost use Rattle.player.specs.Summary.{one_if_accepted, one_if_refused, one_if_bad};
+
+use commands::{Bad, ShortReply};
+
+/// The counts of a run; `quit` counts as accepted.
+#[derive(Clone, Copy, Debug, Drop, PartialEq, Eq)]
+pub struct Summary {
+    /// The lines that were answered.
+    pub lines: u64,
+    /// Those whose command was accepted.
+    pub accepted: u64,
+    /// Those whose command was refused.
+    pub refused: u64,
+    /// Those that were bad.
+    pub bad: u64,
+    ghost all: { lines ≡ accepted + refused + bad },
+}
+
+impl Summary {
+    /// The counts before the first line.
+    pub fn new() -> Summary
+        ensures { (result.lines ≡ 0) × (result.accepted ≡ 0) × (result.refused ≡ 0) × (result.bad ≡ 0) }
+    {
+        Summary {
+            lines: 0,
+            accepted: 0,
+            refused: 0,
+            bad: 0,
+        }
+    }
+
+    /// Counts one more reply, whatever view it shows.
+    #[inline(always)]
+    pub fn count_reply(&mut self, reply: ShortReply)
+        requires { self.old.lines + 1 < 2 ^ 64 }
+        ensures lines { self.new.lines ≡ self.old.lines + 1 }
+        ensures accepted { (view : List (ℕ × ℕ)) → self.new.accepted ≡ self.old.accepted + one_if_accepted (Ok (with_view reply view)) }
+        ensures refused { (view : List (ℕ × ℕ)) → self.new.refused ≡ self.old.refused + one_if_refused (Ok (with_view reply view)) }
+        ensures bad { self.new.bad ≡ self.old.bad }
+    {
+        let Summary {
+            lines,
+            accepted,
+            refused,
+            bad,
+        } = *self;
+        let more = u64::from(reply.is_refusal());
+        *self = Summary {
+            lines: lines + 1,
+            accepted: accepted + (1 - more),
+            refused: refused + more,
+            bad,
+        };
+    }
+
+    /// Counts one more bad line, bad for this reason.
+    pub fn count_bad(&mut self, why: Bad)
+        requires { self.old.lines + 1 < 2 ^ 64 }
+        ensures lines { self.new.lines ≡ self.old.lines + 1 }
+        ensures accepted { self.new.accepted ≡ self.old.accepted + one_if_accepted (Err why) }
+        ensures refused { self.new.refused ≡ self.old.refused + one_if_refused (Err why) }
+        ensures bad { self.new.bad ≡ self.old.bad + one_if_bad (Err why) }
+    {
+        let Summary {
+            lines,
+            accepted,
+            refused,
+            bad,
+        } = *self;
+        *self = Summary {
+            lines: lines + 1,
+            accepted,
+            refused,
+            bad: bad + 1,
+        };
+    }
+}
