@@ -7,7 +7,7 @@ use Rattle.step_memory.specs.Calls.{Call, steps_of as call_steps}
 use Rattle.step_memory.specs.Calls.Call.{Began, Stepped}
 use Rattle.step_memory.proofs.RunLemmas.{run_splits}
 use Rattle.rename_core.specs.Alone.{HasTwoLeft as HasTwoCalls, StepsAlone as CallsAlone}
-use Rattle.rename_core.specs.declared.reply.Reply.{Reply as StepReply}
+use Rattle.rename_core.specs.Reply.{StepReply}
 use Rattle.rename_core.specs.declared.reply.Reply.TheVariants.{Quiet, Placed, Proposed, Saw, Named, Spent}
 use Rattle.rename_core.specs.RenameObject.{RenameTerms, RenameObject, new_object, Allows, after, IsRun}
 use Rattle.bit_allocator.specs.Calls.Call.{Entered, Probed, Left, Widened}

@@ -3,7 +3,7 @@ use Rattle.std.specs.Prelude.{Result, Ok, Err}
 use Rattle.step_memory.specs.declared.refusal.Refusal.{Refusal}
 use Rattle.bit_allocator.specs.declared.probe.Probe.{Probe}
 use Rattle.bit_allocator.specs.declared.probe.Probe.TheVariants as probe
-use Rattle.rename_core.specs.declared.reply.Reply.{Reply as StepReply}
+use Rattle.rename_core.specs.Reply.{StepReply}
 use Rattle.rename_core.specs.declared.reply.Reply.TheVariants as step
 use Rattle.commands.specs.declared.reply.Reply.{Reply}
 use Rattle.commands.specs.declared.reply.Reply.TheVariants as reply

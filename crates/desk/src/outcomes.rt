@@ -7,20 +7,20 @@ ghost use Rattle.rename_core.specs.Reply.{outcome_with};
 
 use bit_allocator::Probe;
 use commands::ShortReply;
-use rename_core::ShortReply as ShortStep;
+use rename_core::Reply as Step;
 use step_memory::Refusal;
 
 /// What is answered to a step of renaming, by its outcome.
-pub(crate) fn of_step(outcome: Result<ShortStep, Refusal>) -> ShortReply
+pub(crate) fn of_step(outcome: Result<Step<()>, Refusal>) -> ShortReply
     ensures { (view : List (ℕ × ℕ)) → with_view result view ≡ step_reply (outcome_with outcome view) }
 {
     match outcome {
-        Ok(ShortStep::Quiet) => ShortReply::Quiet,
-        Ok(ShortStep::Placed(place)) => ShortReply::Place(place),
-        Ok(ShortStep::Proposed(number)) => ShortReply::Proposed(number),
-        Ok(ShortStep::Saw) => ShortReply::Saw,
-        Ok(ShortStep::Named(name)) => ShortReply::Named(name),
-        Ok(ShortStep::Spent) => ShortReply::Spent,
+        Ok(Step::Quiet) => ShortReply::Quiet,
+        Ok(Step::Placed(place)) => ShortReply::Place(place),
+        Ok(Step::Proposed(number)) => ShortReply::Proposed(number),
+        Ok(Step::Saw(())) => ShortReply::Saw,
+        Ok(Step::Named(name, ())) => ShortReply::Named(name),
+        Ok(Step::Spent) => ShortReply::Spent,
         Err(refusal) => ShortReply::Refused(refusal),
     }
 }

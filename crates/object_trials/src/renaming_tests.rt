@@ -5,7 +5,7 @@ ghost use Rattle.std.specs.Prelude.{◌<◌};
 use commands::{Config, WorldKind};
 use linked_list_allocator::LocalHeap;
 use rename_core::{
-    RenamePlaces, RenameWorld, Reply, ShortReply, fixed_rename_law, grid_rename_law, next_proposal,
+    RenamePlaces, RenameWorld, Reply, fixed_rename_law, grid_rename_law, next_proposal,
     tree_rename_law,
 };
 use snapshot_core::Fixed;
@@ -287,26 +287,26 @@ const WITH_MEMORY: [Row; 5] = [
 
 impl Last {
     /// What the step answers, without the view.
-    fn outcome(&self) -> Result<ShortReply, Refusal> {
+    fn outcome(&self) -> Result<Reply<()>, Refusal> {
         match *self {
-            Last::Quiet => Ok(ShortReply::Quiet),
-            Last::Placed(place) => Ok(ShortReply::Placed(place)),
-            Last::Proposed(number) => Ok(ShortReply::Proposed(number)),
-            Last::Saw(_) => Ok(ShortReply::Saw),
-            Last::Named(number) => Ok(ShortReply::Named(number)),
-            Last::Spent => Ok(ShortReply::Spent),
+            Last::Quiet => Ok(Reply::Quiet),
+            Last::Placed(place) => Ok(Reply::Placed(place)),
+            Last::Proposed(number) => Ok(Reply::Proposed(number)),
+            Last::Saw(_) => Ok(Reply::Saw(())),
+            Last::Named(number) => Ok(Reply::Named(number, ())),
+            Last::Spent => Ok(Reply::Spent),
             Last::Refused(refusal) => Err(refusal),
         }
     }
 }
 
 /// An outcome without the view, which is put beside it.
-fn shortened(reply: Result<Reply, Refusal>, view: &mut View) -> Result<ShortReply, Refusal> {
+fn shortened(reply: Result<Reply<View>, Refusal>, view: &mut View) -> Result<Reply<()>, Refusal> {
     Ok(reply?.shorten(view))
 }
 
 /// Whether a step answers this, after which its participant has this name.
-fn fits(reply: Result<Reply, Refusal>, name: Option<u64>, last: &Last) -> bool {
+fn fits(reply: Result<Reply<View>, Refusal>, name: Option<u64>, last: &Last) -> bool {
     let mut view = View::new();
     if shortened(reply, &mut view) != last.outcome() {
         return false;

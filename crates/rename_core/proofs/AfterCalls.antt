@@ -7,7 +7,7 @@ use Rattle.step_memory.specs.Calls.Call.{Stepped}
 use Rattle.step_memory.specs.Machine.{LeadsOn}
 use Rattle.step_memory.proofs.MachineLemmas.{call_leads_on}
 use Rattle.step_memory.proofs.StepLemmas.{lacks_or_not}
-use Rattle.rename_core.specs.declared.reply.Reply.{Reply}
+use Rattle.rename_core.specs.Reply.{StepReply}
 use Rattle.rename_core.specs.RenameState.{RenameState}
 use Rattle.snapshot_core.specs.Places.{KnownPlaces}
 use Rattle.commands.specs.declared.kind.WorldKind.{WorldKind}
@@ -32,7 +32,7 @@ lacks_false (Err HistoryFull) n = refl
 lacks_false (Err OutOfRange) n = refl
 
 module _ {S R V U K : Type 0} (W : KnownPlaces S R V U K) (kind : WorldKind) (w new : RenameState S U K) where
-  pub step_leads_on : (id : ℕ) (reply : Result Reply Refusal) →
+  pub step_leads_on : (id : ℕ) (reply : Result StepReply Refusal) →
       (reply ≢ Err NoMemory → new ≡ after_rename_step W w id) → (reply ≢ Err NoMemory → reply ≡ rename_answer W w id) →
       (reply ≡ Err NoMemory → (new ≡ w) × (step_refusal w id ≡ None) × (may_lack W w id ≡ true)) →
       LeadsOn (renaming W kind) w new (Stepped id reply)

@@ -26,7 +26,7 @@ use Rattle.snapshot_core.specs.Snapshot.{Task, SnapObject, SnapBounds, observed,
 use Rattle.snapshot_core.specs.Snapshot.Task.{Absent, Placing as ToPlace, Scanning as ToScan, Updating as ToUpdate}
 use Rattle.snapshot_core.specs.SnapWorld.{SnapState, beginner_at, snap_answer, after_snap_step}
 use Rattle.snapshot_core.specs.declared.client.Client.{Client}
-use Rattle.rename_core.specs.declared.reply.Reply.{Reply}
+use Rattle.rename_core.specs.Reply.{StepReply}
 use Rattle.rename_core.specs.declared.reply.Reply.TheVariants.{Quiet, Proposed}
 use Rattle.rename_core.specs.declared.round.Round.{Round}
 use Rattle.rename_core.specs.declared.round.Follow.{Follow}
@@ -340,7 +340,7 @@ module _ {S R V U K : Type 0} (W : KnownPlaces S R V U K) (terms : RenameTerms) 
       looking_on h stage left Written answer gone = absurd (let two : ToLook ≡ ToPropose = sym h.phase ∙ gone.timed.is in cc)
       looking_on h stage left (Viewed view) answer gone = view_on h left view gone
 
-      module _ (said : Reply) (is : IsReply W w (Stepped p (Ok said))) where
+      module _ (said : StepReply) (is : IsReply W w (Stepped p (Ok said))) where
         said_is : Ok said ≡ rename_answer W w p
         said_is = elim is [ inl e ↦ e | inr e ↦ absurd (let two : Ok said ≡ Err NoMemory = e.0 in cc) ]
 
@@ -354,7 +354,7 @@ module _ {S R V U K : Type 0} (W : KnownPlaces S R V U K) (terms : RenameTerms) 
             let told : f.reply ≡ said = cc in
             let state : world_of f ≡ after_rename_step W w p = told_state W w p v here reply unclosed (sym answer) in
             subst (λ (x : RenameState S U K). LeftAlone x (after_step o p said) (paced_step t p said) p n) state
-            (subst (λ (x : Reply). LeftAlone (world_of f) (after_step o p x) (paced_step t p x) p n) told (beginner p f.round, round_put f, left))
+            (subst (λ (x : StepReply). LeftAlone (world_of f) (after_step o p x) (paced_step t p x) p n) told (beginner p f.round, round_put f, left))
 
         nearer_at : (stage : Stage) → v.program.stage ≡ stage → IsAtStage terms o t i.object w.snap p v.program stage → LeftAt w o t p v.program stage (suc n) → Nearer
         nearer_at Placing e h left =
@@ -436,15 +436,15 @@ module _ {S R V U K : Type 0} (W : KnownPlaces S R V U K) (terms : RenameTerms) 
       ] refl is
 
       refused_next : (why : Refusal) → IsReply W w (Stepped q (Err why)) → next W w (Stepped q (Err why)) ≡ w
-      refused_next why (inl e) = elim (lacked_memory {X = Reply} (Err why)) as (λ b. cond b w (after_rename_step W w q) ≡ w) [ true ↦ refl | false ↦ step_refused W w q why (sym e) ]
-      refused_next why (inr e) = let lacked : lacked_memory {X = Reply} (Err why) ≡ true = ap lacked_memory e.0 in rw lacked refl
+      refused_next why (inl e) = elim (lacked_memory {X = StepReply} (Err why)) as (λ b. cond b w (after_rename_step W w q) ≡ w) [ true ↦ refl | false ↦ step_refused W w q why (sym e) ]
+      refused_next why (inr e) = let lacked : lacked_memory {X = StepReply} (Err why) ≡ true = ap lacked_memory e.0 in rw lacked refl
 
     -- a call that is no accepted step of another: a step of p takes one from what is left
     module _ (w : RenameState S U K) (o : RenameObject) (t : Pace) (i : IsTied terms Tie w o t) (p : ℕ) where
-      counted_one : (q : ℕ) (said : Reply) → steps_by p (Stepped q (Ok said)) ≤ 1
+      counted_one : (q : ℕ) (said : StepReply) → steps_by p (Stepped q (Ok said)) ≤ 1
       counted_one q said = elim (q == p) as (λ b. cond b 1 0 ≤ 1) [ true ↦ omega arith | false ↦ omega arith ]
 
-      stepped_on : (n : ℕ) → LeftAlone w o t p n → (said : Reply) → IsReply W w (Stepped p (Ok said)) → no_step o p ≡ None →
+      stepped_on : (n : ℕ) → LeftAlone w o t p n → (said : StepReply) → IsReply W w (Stepped p (Ok said)) → no_step o p ≡ None →
           (m : ℕ) × (m + 1 ≤ n) × LeftAlone (next W w (Stepped p (Ok said))) (after o (Stepped p (Ok said))) (paced bounds t (Stepped p (Ok said))) p m
       stepped_on zero left said is none = absurd (
           let begun : o.begun p ≡ true = i.begun p ∙ ap is_some left.1 in
@@ -453,7 +453,7 @@ module _ {S R V U K : Type 0} (W : KnownPlaces S R V U K) (terms : RenameTerms) 
           cc)
       stepped_on (suc n) left said is none = (n, omega arith, nearer_at w o t i p left.0 left.1 n said is left.0.program.stage refl (i.stages p left.0 left.1) left.2)
 
-      pub call_alone : (h : Call Reply) → IsReply W w h → Allows terms o h → LeavesAlone p h → (n : ℕ) → LeftAlone w o t p n → (m : ℕ) × (m + steps_by p h ≤ n) × LeftAlone (next W w h) (after o h) (paced bounds t h) p m
+      pub call_alone : (h : Call StepReply) → IsReply W w h → Allows terms o h → LeavesAlone p h → (n : ℕ) → LeftAlone w o t p n → (m : ℕ) × (m + steps_by p h ≤ n) × LeftAlone (next W w h) (after o h) (paced bounds t h) p m
       call_alone (Began q reply) is allowed alone n left = (n, omega arith, began_on w o t i p left.0 left.1 q n left.2 reply is)
       call_alone (Stepped q (Err why)) is allowed alone n left = (n, omega arith, subst (λ (x : RenameState S U K). LeftAlone x o t p n) (sym (refused_next w o t i p left.0 left.1 q why is)) left)
       call_alone (Stepped q (Ok said)) is allowed alone n left =

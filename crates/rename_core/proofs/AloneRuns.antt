@@ -8,7 +8,7 @@ use Rattle.snapshot_core.specs.Places.{KnownPlaces}
 use Rattle.snapshot_core.specs.SnapCalls.{SnapCall, next as snap_next, IsReply as IsSnapReply}
 use Rattle.snapshot_core.specs.Snapshot.{SnapObject, SnapBounds, observed, Allows as SnapAllows}
 use Rattle.snapshot_core.specs.SnapWorld.{SnapState}
-use Rattle.rename_core.specs.declared.reply.Reply.{Reply}
+use Rattle.rename_core.specs.Reply.{StepReply}
 use Rattle.rename_core.specs.Alone.{LeavesAlone, StepsAlone, HasTwoLeft, steps_alone, IsNamedWithin, IsNamedAlone}
 use Rattle.rename_core.specs.Pace.{Pace, paced}
 use Rattle.rename_core.specs.Machine.{next, IsReply}
@@ -37,7 +37,7 @@ split_last (x ∷ before) more (y ∷ r) h e =
       | inr k ↦ inr (k.0, k.1, rw (first, k.2) refl)
     ]
 
-alone_front : (p : ℕ) (r : List (Call Reply)) (h : Call Reply) → StepsAlone p (r ++ h ∷ []) → StepsAlone p r × LeavesAlone p h
+alone_front : (p : ℕ) (r : List (Call StepReply)) (h : Call StepReply) → StepsAlone p (r ++ h ∷ []) → StepsAlone p r × LeavesAlone p h
 alone_front p [] h a = (tt, a.0)
 alone_front p (g ∷ r) h a = let k = alone_front p r h a.1 in ((a.0, k.0), k.1)
 
@@ -45,8 +45,8 @@ module _ {S R V U K : Type 0} (W : KnownPlaces S R V U K) (terms : RenameTerms) 
     (tie_goes : (w : SnapState S U K) (o : SnapObject) (h : SnapCall) → Tie w o → IsSnapReply W w h → Tie (snap_next W w h) (observed o h) × SnapAllows bounds o h)
     (grounds : Grounds W terms bounds Tie) where
   -- wherever these calls are cut in two, who then alone steps has made the steps that it has no longer left
-  abbrev pub KeepsAlone : RenameState S U K → List (Call Reply) → RenameObject → Pace → Type 0
-  KeepsAlone w r o t = (before more : List (Call Reply)) (p : ℕ) (then : RenameObject) → before ++ more ≡ r → IsRun terms before then → HasTwoLeft terms then p → StepsAlone p more →
+  abbrev pub KeepsAlone : RenameState S U K → List (Call StepReply) → RenameObject → Pace → Type 0
+  KeepsAlone w r o t = (before more : List (Call StepReply)) (p : ℕ) (then : RenameObject) → before ++ more ≡ r → IsRun terms before then → HasTwoLeft terms then p → StepsAlone p more →
       (n : ℕ) × (n + steps_of p more ≤ steps_alone bounds) × LeftAlone W terms bounds w o t p n
 
   -- nobody has begun
@@ -54,18 +54,18 @@ module _ {S R V U K : Type 0} (W : KnownPlaces S R V U K) (terms : RenameTerms) 
   alone_fresh w t [] more p then e run two alone = absurd (let none : then ≡ new_object = run in let both : false ≡ true = sym (ap (λ (x : RenameObject). x.begun p) none) ∙ two.begun in cc)
   alone_fresh w t (h ∷ before) more p then e run two alone = absurd (cc)
 
-  pub alone_more : (w : RenameState S U K) (r : List (Call Reply)) (o : RenameObject) (t : Pace) → IsTied terms Tie w o t → IsRun terms r o → KeepsAlone w r o t →
-      (h : Call Reply) → IsReply W w h → Goes W terms bounds Tie tie_goes w o t h → KeepsAlone (next W w h) (r ++ h ∷ []) (after o h) (paced bounds t h)
+  pub alone_more : (w : RenameState S U K) (r : List (Call StepReply)) (o : RenameObject) (t : Pace) → IsTied terms Tie w o t → IsRun terms r o → KeepsAlone w r o t →
+      (h : Call StepReply) → IsReply W w h → Goes W terms bounds Tie tie_goes w o t h → KeepsAlone (next W w h) (r ++ h ∷ []) (after o h) (paced bounds t h)
   alone_more w r o t i run kept h is g before more p then e past two alone = elim (split_last before more r h e) [
     | inl k ↦
         let whole : IsRun terms (r ++ h ∷ []) (after o h) = run_more after (Allows terms) new_object r o h run g.allowed in
-        let same : then ≡ after o h = run_one after (Allows terms) new_object (r ++ h ∷ []) then (after o h) (subst (λ (x : List (Call Reply)). IsRun terms x then) k.1 past) whole in
+        let same : then ≡ after o h = run_one after (Allows terms) new_object (r ++ h ∷ []) then (after o h) (subst (λ (x : List (Call StepReply)). IsRun terms x then) k.1 past) whole in
         let left : LeftAlone W terms bounds (next W w h) (after o h) (paced bounds t h) p (steps_alone bounds) =
         starts_alone W terms bounds Tie tie_goes grounds (next W w h) (after o h) (paced bounds t h) g.tied p (subst (λ (x : RenameObject). HasTwoLeft terms x p) same two) in
         let none : steps_of p more ≡ 0 = ap (steps_of p) k.0 in
         (steps_alone bounds, omega arith, left)
     | inr k ↦
-        let parts = alone_front p k.0 h (subst (λ (x : List (Call Reply)). StepsAlone p x) k.1 alone) in
+        let parts = alone_front p k.0 h (subst (λ (x : List (Call StepReply)). StepsAlone p x) k.1 alone) in
         let was = kept before k.0 p then k.2 past two parts.0 in
         let goes = call_alone W terms bounds Tie tie_goes grounds w o t i p h is g.allowed parts.1 was.0 was.2 in
         let sum : steps_of p more ≡ steps_of p k.0 + steps_by p h = ap (steps_of p) k.1 ∙ steps_of-push p k.0 h in
@@ -74,7 +74,7 @@ module _ {S R V U K : Type 0} (W : KnownPlaces S R V U K) (terms : RenameTerms) 
         (goes.0, omega arith, goes.2)
   ]
 
-  pub alone_named : (w : RenameState S U K) (r : List (Call Reply)) (o : RenameObject) (t : Pace) → IsTied terms Tie w o t → IsRun terms r o → KeepsAlone w r o t → IsNamedAlone terms bounds r
+  pub alone_named : (w : RenameState S U K) (r : List (Call StepReply)) (o : RenameObject) (t : Pace) → IsTied terms Tie w o t → IsRun terms r o → KeepsAlone w r o t → IsNamedAlone terms bounds r
   alone_named w r o t i run kept before more then now p e past present two alone =
       let k = kept before more p then e past two alone in
       let l = k.1 in

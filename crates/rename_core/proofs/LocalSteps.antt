@@ -18,7 +18,7 @@ use Rattle.snapshot_core.specs.declared.client.SnapReply.{SnapReply}
 use Rattle.snapshot_core.specs.Client.{is_idle, scanning, updating}
 use Rattle.snapshot_core.specs.Places.{KnownPlaces}
 use Rattle.snapshot_core.specs.SnapWorld.{SnapState, asked, clients_over, told, scan_refusal_by, update_refusal_by, snap_answer_by, after_snap_step}
-use Rattle.rename_core.specs.declared.reply.Reply.{Reply}
+use Rattle.rename_core.specs.Reply.{StepReply}
 use Rattle.rename_core.specs.declared.round.Follow.{Follow}
 use Rattle.rename_core.specs.declared.round.Round.{Round}
 use Rattle.rename_core.specs.declared.round.Wish.{Wish}
@@ -178,7 +178,7 @@ module _ {S R V U K : Type 0} (W : KnownPlaces S R V U K) where
     ] refl
 
   -- and so is every call of it
-  pub local_call : ((m : S) (a : Access R V) (x : R) → Spares a x → W.memory.register (W.memory.after m a) x ≡ W.memory.register m x) → (w new : RenameState S U K) (p : ℕ) (reply : Result Reply Refusal) →
+  pub local_call : ((m : S) (a : Access R V) (x : R) → Spares a x → W.memory.register (W.memory.after m a) x ≡ W.memory.register m x) → (w new : RenameState S U K) (p : ℕ) (reply : Result StepReply Refusal) →
       (reply ≢ Err NoMemory → new ≡ after_rename_step W w p) → (reply ≢ Err NoMemory → reply ≡ rename_answer W w p) → (reply ≡ Err NoMemory → new ≡ w) → IsLocal W p w new reply
   local_call spared w new p reply state answer kept = elim (lacks_or_not reply) [
     | inl e ↦ rw (kept e, e) (refused_local spared w p NoMemory)

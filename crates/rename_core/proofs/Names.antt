@@ -21,7 +21,7 @@ use Rattle.snapshot_core.specs.SnapCalls.{SnapCall, next as snap_next, IsReply a
 use Rattle.snapshot_core.specs.Snapshot.{IsMoment, SnapObject, SnapBounds, bounds_over, observed, Allows as SnapAllows, new_object as new_snap}
 use Rattle.commands.specs.Config.{is_tree}
 use Rattle.commands.specs.declared.kind.WorldKind.{WorldKind}
-use Rattle.rename_core.specs.declared.reply.Reply.{Reply}
+use Rattle.rename_core.specs.Reply.{StepReply}
 use Rattle.rename_core.specs.declared.round.Round.{Round}
 use Rattle.rename_core.specs.declared.round.Stage.{Stage}
 use Rattle.rename_core.specs.declared.round.Stage.TheVariants.{Placing, Proposing, Looking, Settled, Over}
@@ -98,7 +98,7 @@ module _ {S R V U K : Type 0} (W : KnownPlaces S R V U K) (terms : RenameTerms) 
   fresh = fresh_world first (W.most_of first) terms.limit
 
   -- the object and the pace of the law are tied to the world
-  pub record Holds (w : RenameState S U K) (r : List (Call Reply)) : Type 0 where
+  pub record Holds (w : RenameState S U K) (r : List (Call StepReply)) : Type 0 where
     pub object : RenameObject
     pub run : IsRun terms r object
     pub paces : IsPaced bounds r
@@ -130,11 +130,11 @@ module _ {S R V U K : Type 0} (W : KnownPlaces S R V U K) (terms : RenameTerms) 
     stages = λ p v h. absurd (cc);
   }
 
-  goes : (w : RenameState S U K) (o : RenameObject) (t : Pace) → Tied w o t → (h : Call Reply) → IsReply W w h → Goes W terms bounds Tie tie_goes w o t h
+  goes : (w : RenameState S U K) (o : RenameObject) (t : Pace) → Tied w o t → (h : Call StepReply) → IsReply W w h → Goes W terms bounds Tie tie_goes w o t h
   goes w o t i (Began p reply) is = begin_goes W terms bounds Tie tie_goes w o t i p named.at_once reply is
   goes w o t i (Stepped p reply) is = step_goes W terms bounds Tie tie_goes w o t i p named.may_grow reply is
 
-  keeps : (w : RenameState S U K) (r : List (Call Reply)) (h : Call Reply) → Holds w r → IsReply W w h → Holds (next W w h) (r ++ h ∷ [])
+  keeps : (w : RenameState S U K) (r : List (Call StepReply)) (h : Call StepReply) → Holds w r → IsReply W w h → Holds (next W w h) (r ++ h ∷ [])
   keeps w r h k is =
       let g = goes w k.object k.paces.0 k.tied h is in
       record {
@@ -145,10 +145,10 @@ module _ {S R V U K : Type 0} (W : KnownPlaces S R V U K) (terms : RenameTerms) 
         alone = alone_more W terms bounds Tie tie_goes grounds w r k.object k.paces.0 k.tied k.run k.alone h is g;
       }
 
-  pub holds : (w : RenameState S U K) (r : List (Call Reply)) → Run (next W) (IsReply W) fresh r w → Holds w r
+  pub holds : (w : RenameState S U K) (r : List (Call StepReply)) → Run (next W) (IsReply W) fresh r w → Holds w r
   holds w r a = run_keeps (next W) (IsReply W) Holds keeps fresh [] r w (record { object = new_object; run = refl; paces = (new_pace, refl); tied = fresh_tied; alone = alone_fresh W terms bounds Tie tie_goes grounds fresh new_pace }) a
 
-  pub law_held : (w : RenameState S U K) (r : List (Call Reply)) → Run (next W) (IsReply W) fresh r w → KeepsRenameLaw terms bounds r
+  pub law_held : (w : RenameState S U K) (r : List (Call StepReply)) → Run (next W) (IsReply W) fresh r w → KeepsRenameLaw terms bounds r
   law_held w r a =
       let k = holds w r a in
       record {
@@ -168,7 +168,7 @@ module _ {S R V U K : Type 0} (W : KnownPlaces S R V U K) (terms : RenameTerms) 
   name_at_stage w o t i p r Over h = sym h.0
 
   -- the name of an identity is its name in the object
-  pub name_held : (w : RenameState S U K) (r : List (Call Reply)) → Run (next W) (IsReply W) fresh r w → (o : RenameObject) → IsRun terms r o → (p : ℕ) → name_in w p ≡ o.name p
+  pub name_held : (w : RenameState S U K) (r : List (Call StepReply)) → Run (next W) (IsReply W) fresh r w → (o : RenameObject) → IsRun terms r o → (p : ℕ) → name_in w p ≡ o.name p
   name_held w r a o run p =
       let k = holds w r a in
       let same : k.object ≡ o = run_one after (Allows terms) new_object r k.object o k.run run in
@@ -179,7 +179,7 @@ module _ {S R V U K : Type 0} (W : KnownPlaces S R V U K) (terms : RenameTerms) 
       now ∙ ap (λ (x : RenameObject). x.name p) same
 
   -- the identity that is found as the owner of a name has it in the object
-  pub owner_held : (w : RenameState S U K) (r : List (Call Reply)) → Run (next W) (IsReply W) fresh r w → (o : RenameObject) → IsRun terms r o → (n : ℕ) → IsOwner o n (owner_by n w.rounds)
+  pub owner_held : (w : RenameState S U K) (r : List (Call StepReply)) → Run (next W) (IsReply W) fresh r w → (o : RenameObject) → IsRun terms r o → (n : ℕ) → IsOwner o n (owner_by n w.rounds)
   owner_held w r a o run n =
       let k = holds w r a in
       owned (owner_by n w.rounds) (owner_is n w.rounds k.tied.distinct) where
@@ -194,7 +194,7 @@ module _ {S R V U K : Type 0} (W : KnownPlaces S R V U K) (terms : RenameTerms) 
   ]) refl
 
   -- the proposals that the rounds say are the last moment
-  pub shown_held : (w : RenameState S U K) (r : List (Call Reply)) → Run (next W) (IsReply W) fresh r w → (o : RenameObject) → IsRun terms r o → IsMoment (shown_by [] w.rounds) (o.moment o.last)
+  pub shown_held : (w : RenameState S U K) (r : List (Call StepReply)) → Run (next W) (IsReply W) fresh r w → (o : RenameObject) → IsRun terms r o → IsMoment (shown_by [] w.rounds) (o.moment o.last)
   shown_held w r a o run =
       let k = holds w r a in
       let same : k.object ≡ o = run_one after (Allows terms) new_object r k.object o k.run run in
@@ -204,11 +204,11 @@ module _ {S R V U K : Type 0} (W : KnownPlaces S R V U K) (terms : RenameTerms) 
       }
 
   -- who takes part in the snapshot object has a round, and who has one takes part
-  pub joined_held : (w : RenameState S U K) (r : List (Call Reply)) → Run (next W) (IsReply W) fresh r w → (p : ℕ) → is_some (participant_of p w.snap.participants) ≡ is_some (participant_of p w.rounds)
+  pub joined_held : (w : RenameState S U K) (r : List (Call StepReply)) → Run (next W) (IsReply W) fresh r w → (p : ℕ) → is_some (participant_of p w.snap.participants) ≡ is_some (participant_of p w.rounds)
   joined_held w r a p = let k = holds w r a in k.tied.joined p
 
   -- the calls of the snapshot object that have led to this
-  pub snap_calls : (w : RenameState S U K) (r : List (Call Reply)) → Run (next W) (IsReply W) fresh r w → (calls : List SnapCall) × After (snapshot W) first w.snap calls
+  pub snap_calls : (w : RenameState S U K) (r : List (Call StepReply)) → Run (next W) (IsReply W) fresh r w → (calls : List SnapCall) × After (snapshot W) first w.snap calls
   snap_calls w r a = let k = holds w r a in (k.tied.tie.calls, k.tied.tie.world)
 
   -- a step of one who has something to do is answered
@@ -225,7 +225,7 @@ module _ {S R V U K : Type 0} (W : KnownPlaces S R V U K) (terms : RenameTerms) 
   open_answered w o t i p v here Settled e h unclosed = absurd (cc)
   open_answered w o t i p v here Over e h unclosed = absurd (cc)
 
-  pub answered_held : (w : RenameState S U K) (r : List (Call Reply)) → Run (next W) (IsReply W) fresh r w → (p : ℕ) → step_refusal w p ≡ None → IsOk (rename_answer W w p)
+  pub answered_held : (w : RenameState S U K) (r : List (Call StepReply)) → Run (next W) (IsReply W) fresh r w → (p : ℕ) → step_refusal w p ≡ None → IsOk (rename_answer W w p)
   answered_held w r a p unrefused =
       let k = holds w r a in
       elim (participant_of p w.rounds) as (λ z. participant_of p w.rounds ≡ z → IsOk (rename_answer W w p)) [
@@ -234,12 +234,12 @@ module _ {S R V U K : Type 0} (W : KnownPlaces S R V U K) (terms : RenameTerms) 
       ] refl
 
   -- its accesses are those of the snapshot object
-  pub own_held : (w : RenameState S U K) (r : List (Call Reply)) → Run (next W) (IsReply W) fresh r w → (p : ℕ) (c : Client U K) → client_of p w ≡ Some c → IsAccessFor W w.snap.memory c c.pending (access_of W c)
+  pub own_held : (w : RenameState S U K) (r : List (Call StepReply)) → Run (next W) (IsReply W) fresh r w → (p : ℕ) (c : Client U K) → client_of p w ≡ Some c → IsAccessFor W w.snap.memory c c.pending (access_of W c)
   own_held w r a p c h = let k = holds w r a in own_access_holds W named.laws w.snap p first k.tied.tie.calls k.tied.tie.world new c h
 
 -- every world after some calls keeps the law
 module _ {S R V U K : Type 0} (W : KnownPlaces S R V U K) (kind : WorldKind) (scanning : ℕ → ℕ) (first : S × ℕ) (named : MayBeNamed W (is_tree kind) (W.most_of first.0) scanning)
-    (w : RenameState S U K) (r : List (Call Reply)) (a : After (renaming W kind) first w r) where
+    (w : RenameState S U K) (r : List (Call StepReply)) (a : After (renaming W kind) first w r) where
   -- the world has room for as many as its places have
   pub most_is : W.most_of first.0 ≡ w.snap.most
   most_is = sym (most_after W (fresh_over W first) r w a.run)

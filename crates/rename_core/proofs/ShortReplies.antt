@@ -1,14 +1,14 @@
 -- outcomes of a few bytes, with a view beside them
 use Rattle.std.proofs.Common.{◌≡◌, ◌≢◌, ℕ, List, Result, Ok, Err, ap}
 use Rattle.step_memory.specs.declared.refusal.Refusal.{Refusal}
-use Rattle.rename_core.specs.declared.short_reply.ShortReply.{ShortReply}
+use Rattle.rename_core.specs.declared.reply.Reply.{Reply}
 use Rattle.rename_core.specs.Reply.{outcome_with}
 
 -- a view beside it makes no refusal
-pub refused_short : (outcome : Result ShortReply Refusal) (view : List (ℕ × ℕ)) (why : Refusal) → outcome_with outcome view ≡ Err why → outcome ≡ Err why
+pub refused_short : (outcome : Result (Reply (Unit {0})) Refusal) (view : List (ℕ × ℕ)) (why : Refusal) → outcome_with outcome view ≡ Err why → outcome ≡ Err why
 refused_short (Ok said) view why e = absurd (cc)
 refused_short (Err other) view why e = cc
 
 -- and takes none away
-pub accepted_short : (outcome : Result ShortReply Refusal) (view : List (ℕ × ℕ)) (why : Refusal) → outcome_with outcome view ≢ Err why → outcome ≢ Err why
-accepted_short outcome view why goes = λ e. goes (ap (λ (x : Result ShortReply Refusal). outcome_with x view) e)
+pub accepted_short : (outcome : Result (Reply (Unit {0})) Refusal) (view : List (ℕ × ℕ)) (why : Refusal) → outcome_with outcome view ≢ Err why → outcome ≢ Err why
+accepted_short outcome view why goes = λ e. goes (ap (λ (x : Result (Reply (Unit {0})) Refusal). outcome_with x view) e)

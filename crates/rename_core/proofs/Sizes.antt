@@ -7,7 +7,7 @@ use Rattle.step_memory.specs.Participant.{program_of}
 use Rattle.step_memory.specs.Runs.{Run}
 use Rattle.step_memory.specs.World.{begin_refusal}
 use Rattle.snapshot_core.specs.declared.client.SnapReply.{SnapReply}
-use Rattle.rename_core.specs.declared.reply.Reply.{Reply}
+use Rattle.rename_core.specs.Reply.{StepReply}
 use Rattle.rename_core.specs.declared.round.Round.{Round}
 use Rattle.snapshot_core.specs.Places.{KnownPlaces}
 use Rattle.rename_core.specs.Machine.{next, IsReply}
@@ -50,14 +50,14 @@ module _ {S R V U K : Type 0} (W : KnownPlaces S R V U K) (w : RenameState S U K
   begun_limit (Some why) = refl
 
 module _ {S R V U K : Type 0} (W : KnownPlaces S R V U K) where
-  pub next_most : (w : RenameState S U K) (h : Call Reply) → (next W w h).snap.most ≡ w.snap.most
+  pub next_most : (w : RenameState S U K) (h : Call StepReply) → (next W w h).snap.most ≡ w.snap.most
   next_most w (Began p reply) = begun_most W w p (begin_refusal w.snap p) refl
   next_most w (Stepped p reply) = elim (lacked_memory reply) as (λ b. (cond b w (after_rename_step W w p)).snap.most ≡ w.snap.most) [ true ↦ refl | false ↦ by_most W w p (program_of p w.rounds) ]
 
-  pub next_limit : (w : RenameState S U K) (h : Call Reply) → (next W w h).limit ≡ w.limit
+  pub next_limit : (w : RenameState S U K) (h : Call StepReply) → (next W w h).limit ≡ w.limit
   next_limit w (Began p reply) = begun_limit W w p (begin_refusal w.snap p)
   next_limit w (Stepped p reply) = elim (lacked_memory reply) as (λ b. (cond b w (after_rename_step W w p)).limit ≡ w.limit) [ true ↦ refl | false ↦ by_limit W w p (program_of p w.rounds) ]
 
-  pub most_after : (w : RenameState S U K) (r : List (Call Reply)) (new : RenameState S U K) → Run (next W) (IsReply W) w r new → new.snap.most ≡ w.snap.most
+  pub most_after : (w : RenameState S U K) (r : List (Call StepReply)) (new : RenameState S U K) → Run (next W) (IsReply W) w r new → new.snap.most ≡ w.snap.most
   most_after w [] new a = ap (λ (x : RenameState S U K). x.snap.most) a
   most_after w (h ∷ r) new a = most_after (next W w h) r new a.1 ∙ next_most w h

@@ -3,17 +3,17 @@ use Rattle.std.specs.Prelude.{◌≡◌, ℕ, ◌+◌, ◌*◌, ◌<◌, ◌≤�
 use Rattle.step_memory.specs.Calls.{Call, steps_of}
 use Rattle.step_memory.specs.Calls.Call.{Began, Stepped}
 use Rattle.snapshot_core.specs.Snapshot.{SnapBounds}
-use Rattle.rename_core.specs.declared.reply.Reply.{Reply}
+use Rattle.rename_core.specs.Reply.{StepReply}
 use Rattle.rename_core.specs.RenameObject.{RenameTerms, RenameObject, IsRun}
 
 -- the call is no accepted step of another than p
-abbrev pub LeavesAlone : ℕ → Call Reply → Type 0
+abbrev pub LeavesAlone : ℕ → Call StepReply → Type 0
 LeavesAlone p (Began q reply) = Unit {0}
 LeavesAlone p (Stepped q (Ok said)) = q ≡ p
 LeavesAlone p (Stepped q (Err why)) = Unit {0}
 
 -- none of these calls is. Others may begin
-abbrev pub StepsAlone : ℕ → List (Call Reply) → Type 0
+abbrev pub StepsAlone : ℕ → List (Call StepReply) → Type 0
 StepsAlone p [] = Unit {0}
 StepsAlone p (h ∷ r) = LeavesAlone p h × StepsAlone p r
 
@@ -30,11 +30,11 @@ abbrev pub steps_alone : SnapBounds → ℕ
 steps_alone bounds = bounds.placing bounds.most + 11 * bounds.collecting + 1
 
 -- p has a name; or it is not spent, so that its steps go on, and has made fewer than so many among these calls
-abbrev pub IsNamedWithin : ℕ → RenameObject → ℕ → List (Call Reply) → Type 0
+abbrev pub IsNamedWithin : ℕ → RenameObject → ℕ → List (Call StepReply) → Type 0
 IsNamedWithin most now p more = (is_some (now.name p) ≡ true) ⊎ ((now.spent p ≡ false) × (steps_of p more < most))
 
 -- cut these calls in two at any point: who has two proposals left there, and alone steps after it, is named once it has made
 -- so many steps after it, or earlier
-abbrev pub IsNamedAlone : RenameTerms → SnapBounds → List (Call Reply) → Type 0
-IsNamedAlone terms bounds r = (before more : List (Call Reply)) (o now : RenameObject) (p : ℕ) → before ++ more ≡ r → IsRun terms before o → IsRun terms r now →
+abbrev pub IsNamedAlone : RenameTerms → SnapBounds → List (Call StepReply) → Type 0
+IsNamedAlone terms bounds r = (before more : List (Call StepReply)) (o now : RenameObject) (p : ℕ) → before ++ more ≡ r → IsRun terms before o → IsRun terms r now →
     HasTwoLeft terms o p → StepsAlone p more → IsNamedWithin (steps_alone bounds) now p more

@@ -3,7 +3,7 @@ use Rattle.std.specs.Prelude.{◌≡◌, ℕ, ◌-◌, ◌*◌, ◌≤◌, List,
 use Rattle.step_memory.specs.Calls.{Call}
 use Rattle.step_memory.specs.Distinct.{AreDistinct}
 use Rattle.snapshot_core.specs.Snapshot.{SnapBounds}
-use Rattle.rename_core.specs.declared.reply.Reply.{Reply}
+use Rattle.rename_core.specs.Reply.{StepReply}
 use Rattle.rename_core.specs.RenameObject.{RenameTerms, RenameObject, IsRun}
 use Rattle.rename_core.specs.Pace.{IsPaced}
 use Rattle.rename_core.specs.Alone.{IsNamedAlone}
@@ -11,7 +11,7 @@ use Rattle.rename_core.specs.Alone.{IsNamedAlone}
 -- The replies are those of the renaming object, in order. No two have one name, and where b have begun, each name is from
 -- 1 to 2b - 1. One identity's replies come in their order, and in time; and who
 -- steps alone is soon named
-pub record KeepsRenameLaw (terms : RenameTerms) (bounds : SnapBounds) (r : List (Call Reply)) : Type 0 where
+pub record KeepsRenameLaw (terms : RenameTerms) (bounds : SnapBounds) (r : List (Call StepReply)) : Type 0 where
   pub object : RenameObject
   pub run : IsRun terms r object
   pub one_to_one : AreDistinct object.name

@@ -10,7 +10,7 @@ use Rattle.snapshot_core.specs.declared.client.Client.{Client}
 use Rattle.snapshot_core.specs.Client.{scanning, updating}
 use Rattle.snapshot_core.specs.Places.{KnownPlaces}
 use Rattle.snapshot_core.specs.SnapWorld.{clients_over, told, scan_refusal_by, update_refusal_by}
-use Rattle.rename_core.specs.declared.reply.Reply.{Reply}
+use Rattle.rename_core.specs.Reply.{StepReply}
 use Rattle.rename_core.specs.declared.round.Follow.{Follow}
 use Rattle.rename_core.specs.declared.round.Round.{Round}
 use Rattle.rename_core.specs.declared.round.Wish.{Wish}
@@ -52,7 +52,7 @@ module _ {S R V U K : Type 0} (W : KnownPlaces S R V U K) where
 
   -- an accepted step of p makes the one access that p's own client names; its reply and p's new local state are functions
   -- of p's local state, the round limit and the answer; and nothing else changes
-  pub record IsLocal (p : ℕ) (old new : RenameState S U K) (result : Result Reply Refusal) : Type 0 where
+  pub record IsLocal (p : ℕ) (old new : RenameState S U K) (result : Result StepReply Refusal) : Type 0 where
     pub access : (c : Client U K) → client_of p old ≡ Some c → OnOk result (new.snap.memory ≡ W.memory.after old.snap.memory (access_of c))
     pub reply : (c : Client U K) (r : Round) → client_of p old ≡ Some c → round_of p old ≡ Some r → IfOk result (λ x. x ≡ (follow_by p old.limit c r (got_in old.snap.memory c)).reply)
     pub client : (c : Client U K) (r : Round) → client_of p old ≡ Some c → round_of p old ≡ Some r → OnOk result (client_of p new ≡ Some (client_by p old.limit c r (got_in old.snap.memory c)))

@@ -10,7 +10,7 @@ use Rattle.snapshot_core.specs.declared.client.Client.{Client}
 use Rattle.snapshot_core.specs.Snapshot.{SnapBounds, IsMoment, bounds_over}
 use Rattle.snapshot_core.specs.SnapWorld.{IsAccessFor}
 use Rattle.commands.specs.declared.kind.WorldKind.{WorldKind}
-use Rattle.rename_core.specs.declared.reply.Reply.{Reply}
+use Rattle.rename_core.specs.Reply.{StepReply}
 use Rattle.commands.specs.Config.{is_tree}
 use Rattle.rename_core.specs.Locality.{client_of, round_of, access_of}
 use Rattle.rename_core.specs.Law.{KeepsRenameLaw}
@@ -21,12 +21,12 @@ use Rattle.rename_core.specs.RenameWorld.{fresh_world, after_rename_begin, step_
 
 module _ {S R V U K : Type 0} (W : KnownPlaces S R V U K) where
   -- the world after a call. A step for which a growth was refused is still to come
-  abbrev pub next : RenameState S U K → Call Reply → RenameState S U K
+  abbrev pub next : RenameState S U K → Call StepReply → RenameState S U K
   next w (Began id reply) = after_rename_begin W w id
   next w (Stepped id reply) = if lacked_memory reply then w else after_rename_step W w id
 
   -- the reply is the one that the call gets, or the refusal of a growth where there may be one and nothing else is due
-  abbrev pub IsReply : RenameState S U K → Call Reply → Type 0
+  abbrev pub IsReply : RenameState S U K → Call StepReply → Type 0
   IsReply w (Began id reply) = reply ≡ done_unless (begin_refusal w.snap id)
   IsReply w (Stepped id reply) =
       (reply ≡ rename_answer W w id)
@@ -40,7 +40,7 @@ module _ {S R V U K : Type 0} (W : KnownPlaces S R V U K) where
     pub is : w ≡ fresh_world first most limit
 
   -- a call keeps the most participants and the round limit
-  abbrev pub KeepsSizes : RenameState S U K → Call Reply → Type 0
+  abbrev pub KeepsSizes : RenameState S U K → Call StepReply → Type 0
   KeepsSizes w h = ((next w h).snap.most ≡ w.snap.most) × ((next w h).limit ≡ w.limit)
 
   -- a world over this memory and with this round limit, in which nobody has begun
@@ -64,7 +64,7 @@ module _ {S R V U K : Type 0} (W : KnownPlaces S R V U K) where
 
   module _ (kind : WorldKind) where
     -- renaming over these places, and what it keeps
-    abbrev pub renaming : Machine (S × ℕ) (RenameState S U K) (Call Reply)
+    abbrev pub renaming : Machine (S × ℕ) (RenameState S U K) (Call StepReply)
     renaming = record {
       MayStart = IsRenameStart;
       first = fresh_over;
@@ -106,5 +106,5 @@ module _ {S R V U K : Type 0} (W : KnownPlaces S R V U K) where
 
     -- after every two lists of calls, where worlds are of one size, p would begin as the same
     abbrev pub BeginsTheSame : ℕ → Type 0
-    BeginsTheSame p = (w x : RenameState S U K) (first other : S × ℕ) (r s : List (Call Reply)) → After renaming first w r → After renaming other x s → w.snap.most ≡ x.snap.most →
+    BeginsTheSame p = (w x : RenameState S U K) (first other : S × ℕ) (r s : List (Call StepReply)) → After renaming first w r → After renaming other x s → w.snap.most ≡ x.snap.most →
         begin_refusal w.snap p ≡ None → begin_refusal x.snap p ≡ None → (client_of p (after_rename_begin W w p) ≡ client_of p (after_rename_begin W x p)) × (round_of p (after_rename_begin W w p) ≡ round_of p (after_rename_begin W x p))

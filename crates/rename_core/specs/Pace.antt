@@ -5,7 +5,7 @@ use Rattle.step_memory.specs.Runs.{Run}
 use Rattle.step_memory.specs.Calls.{Call}
 use Rattle.step_memory.specs.Calls.Call.{Began, Stepped}
 use Rattle.snapshot_core.specs.Snapshot.{SnapBounds}
-use Rattle.rename_core.specs.declared.reply.Reply.{Reply}
+use Rattle.rename_core.specs.Reply.{StepReply}
 use Rattle.rename_core.specs.declared.reply.Reply.TheVariants.{Quiet, Placed, Proposed, Saw, Named, Spent}
 
 -- what an identity does next: it goes to its place, proposes, or looks at what the others propose; or it has ended
@@ -42,7 +42,7 @@ pub record IsStepOf (bounds : SnapBounds) (t : Pace) (p : ℕ) (phase : Phase) :
   pub within : t.steps p + 1 ≤ most_steps bounds t.begun phase
 
 -- the reply ends what p does next. Where it goes on, steps are left: so nobody goes on for ever
-abbrev pub IsInTime : SnapBounds → Pace → ℕ → Reply → Type 0
+abbrev pub IsInTime : SnapBounds → Pace → ℕ → StepReply → Type 0
 IsInTime bounds t p Quiet = t.steps p + 1 < most_steps bounds t.begun (t.phase p)
 IsInTime bounds t p (Placed place) = IsStepOf bounds t p ToPlace
 IsInTime bounds t p (Proposed n) = IsStepOf bounds t p ToPropose
@@ -50,7 +50,7 @@ IsInTime bounds t p (Saw view) = IsStepOf bounds t p ToLook
 IsInTime bounds t p (Named n view) = IsStepOf bounds t p ToLook
 IsInTime bounds t p Spent = IsStepOf bounds t p ToLook
 
-abbrev pub InTime : SnapBounds → Pace → Call Reply → Type 0
+abbrev pub InTime : SnapBounds → Pace → Call StepReply → Type 0
 InTime bounds t (Began p reply) = Unit {0}
 InTime bounds t (Stepped p (Ok reply)) = IsInTime bounds t p reply
 InTime bounds t (Stepped p (Err why)) = Unit {0}
@@ -59,7 +59,7 @@ InTime bounds t (Stepped p (Err why)) = Unit {0}
 abbrev pub turned : Pace → ℕ → Phase → Pace
 turned t p phase = record t { phase = set_at t.phase p phase; steps = set_at t.steps p 0 }
 
-abbrev pub paced_step : Pace → ℕ → Reply → Pace
+abbrev pub paced_step : Pace → ℕ → StepReply → Pace
 paced_step t p Quiet = record t { steps = set_at t.steps p (t.steps p + 1) }
 paced_step t p (Placed place) = turned t p ToPropose
 paced_step t p (Proposed n) = turned t p ToLook
@@ -67,7 +67,7 @@ paced_step t p (Saw view) = turned t p ToPropose
 paced_step t p (Named n view) = turned t p AtEnd
 paced_step t p Spent = turned t p AtEnd
 
-abbrev pub paced : SnapBounds → Pace → Call Reply → Pace
+abbrev pub paced : SnapBounds → Pace → Call StepReply → Pace
 paced bounds t (Began p (Ok done)) = record (turned t p (first_phase bounds)) { begun = t.begun + 1 }
 paced bounds t (Began p (Err why)) = t
 paced bounds t (Stepped p (Ok reply)) = paced_step t p reply
@@ -75,5 +75,5 @@ paced bounds t (Stepped p (Err why)) = t
 
 -- each identity is placed; then it proposes and looks by turns, until it is named or spent; and each of these within its
 -- bound. Quiet and refusals aside, it answers nothing else
-abbrev pub IsPaced : SnapBounds → List (Call Reply) → Type 0
+abbrev pub IsPaced : SnapBounds → List (Call StepReply) → Type 0
 IsPaced bounds r = (t : Pace) × Run (paced bounds) (InTime bounds) new_pace r t

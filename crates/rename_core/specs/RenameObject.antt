@@ -9,7 +9,7 @@ use Rattle.step_memory.specs.World.{done_unless}
 use Rattle.step_memory.specs.declared.refusal.Refusal.{Refusal}
 use Rattle.step_memory.specs.declared.refusal.Refusal.TheVariants.{ZeroIdentity, AlreadyBegun, Full, NotBegun, Finished, Spent as IsSpent, NoMemory}
 use Rattle.snapshot_core.specs.Snapshot.{no_values, IsMoment}
-use Rattle.rename_core.specs.declared.reply.Reply.{Reply}
+use Rattle.rename_core.specs.Reply.{StepReply}
 use Rattle.rename_core.specs.declared.reply.Reply.TheVariants.{Quiet, Placed, Proposed, Saw, Named, Spent}
 
 -- the most participants, the most proposals of each, and whether a step may lack memory
@@ -120,7 +120,7 @@ pub record IsFreeName (o : RenameObject) (n : ℕ) : Type 0 where
   pub free : (q : ℕ) → o.name q ≢ Some n
 
 -- what an accepted step may answer
-abbrev pub AllowsStep : RenameTerms → RenameObject → ℕ → Reply → Type 0
+abbrev pub AllowsStep : RenameTerms → RenameObject → ℕ → StepReply → Type 0
 AllowsStep terms o p Quiet = Unit {0}
 AllowsStep terms o p (Placed place) = IsFreePlace o p place
 AllowsStep terms o p (Proposed n) = MayPropose terms o p n
@@ -136,13 +136,13 @@ pub record MayLack (terms : RenameTerms) (o : RenameObject) (p : ℕ) (why : Ref
   pub unplaced : o.place p ≡ None
 
 -- the reply is one that the object may give to the call
-abbrev pub Allows : RenameTerms → RenameObject → Call Reply → Type 0
+abbrev pub Allows : RenameTerms → RenameObject → Call StepReply → Type 0
 Allows terms o (Began p reply) = reply ≡ done_unless (no_begin terms o p)
 Allows terms o (Stepped p (Ok reply)) = (no_step o p ≡ None) × AllowsStep terms o p reply
 Allows terms o (Stepped p (Err why)) = (no_step o p ≡ Some why) ⊎ MayLack terms o p why
 
 -- the object after an accepted step. A proposal makes a new moment: the last one, with it
-abbrev pub after_step : RenameObject → ℕ → Reply → RenameObject
+abbrev pub after_step : RenameObject → ℕ → StepReply → RenameObject
 after_step o p Quiet = o
 after_step o p (Placed place) = record o { place = set_at o.place p (Some place) }
 after_step o p (Proposed n) = record o {
@@ -156,14 +156,14 @@ after_step o p (Named n view) = record o { name = set_at o.name p (Some n) }
 after_step o p Spent = record o { spent = set_at o.spent p true }
 
 -- the object after a call. A refusal changes nothing
-abbrev pub after : RenameObject → Call Reply → RenameObject
+abbrev pub after : RenameObject → Call StepReply → RenameObject
 after o (Began p (Ok done)) = record o { begun = set_at o.begun p true; many = o.many + 1 }
 after o (Began p (Err why)) = o
 after o (Stepped p (Ok reply)) = after_step o p reply
 after o (Stepped p (Err why)) = o
 
 -- the new object may answer these calls so, in order, and is then in that state
-abbrev pub IsRun : RenameTerms → List (Call Reply) → RenameObject → Type 0
+abbrev pub IsRun : RenameTerms → List (Call StepReply) → RenameObject → Type 0
 IsRun terms r o = Run after (Allows terms) new_object r o
 
 -- who has the name n, or that no one has

@@ -8,7 +8,7 @@ use Rattle.step_memory.specs.View.{inserted}
 use Rattle.step_memory.specs.World.{begin_refusal}
 use Rattle.snapshot_core.specs.declared.client.SnapReply.{SnapReply}
 use Rattle.snapshot_core.specs.SnapWorld.{SnapState, place_in, after_snap_begin, after_update, after_scan, snap_answer, after_snap_step, may_lack_memory}
-use Rattle.rename_core.specs.declared.reply.Reply.{Reply}
+use Rattle.rename_core.specs.Reply.{StepReply}
 use Rattle.rename_core.specs.declared.round.Follow.{Follow}
 use Rattle.rename_core.specs.declared.round.Round.{Round}
 use Rattle.rename_core.specs.declared.round.Wish.{Wish}
@@ -89,20 +89,20 @@ module _ {S R V U K : Type 0} (W : KnownPlaces S R V U K) where
   abbrev pub snap_told : RenameState S U K → ℕ → Result SnapReply Refusal
   snap_told w id = snap_answer W w.snap id
 
-  abbrev pub answer_told : RenameState S U K → ℕ → Round → Result SnapReply Refusal → Result Reply Refusal
+  abbrev pub answer_told : RenameState S U K → ℕ → Round → Result SnapReply Refusal → Result StepReply Refusal
   answer_told w id r (Ok reply) = Ok (followed r id reply w.limit).reply
   answer_told w id r (Err why) = Err why
 
-  abbrev pub answer_open : RenameState S U K → ℕ → Round → Option Refusal → Result Reply Refusal
+  abbrev pub answer_open : RenameState S U K → ℕ → Round → Option Refusal → Result StepReply Refusal
   answer_open w id r None = answer_told w id r (snap_told w id)
   answer_open w id r (Some why) = Err why
 
-  abbrev pub answer_by : RenameState S U K → ℕ → Option Round → Result Reply Refusal
+  abbrev pub answer_by : RenameState S U K → ℕ → Option Round → Result StepReply Refusal
   answer_by w id None = Err NotBegun
   answer_by w id (Some r) = answer_open w id r (stage_refusal r.stage)
 
   -- what a step answers where no growth is refused
-  abbrev pub rename_answer : RenameState S U K → ℕ → Result Reply Refusal
+  abbrev pub rename_answer : RenameState S U K → ℕ → Result StepReply Refusal
   rename_answer w id = answer_by w id (program_of id w.rounds)
 
   abbrev pub after_follow : RenameState S U K → ℕ → Follow → RenameState S U K

@@ -12,7 +12,7 @@ ghost use Rattle.rename_core.specs.Machine.{renaming, KeepsSizes, AnswersUnrefus
 ghost use Rattle.step_memory.specs.Machine.{IsProved};
 ghost use Rattle.rename_core.specs.RenameState.{RenameState};
 ghost use Rattle.rename_core.specs.RenameWorld.{may_lack};
-ghost use Rattle.rename_core.specs.declared.reply.Reply.{Reply};
+ghost use Rattle.rename_core.specs.Reply.{StepReply};
 ghost use Rattle.commands.specs.declared.config.Config.{Config};
 ghost use Rattle.commands.specs.declared.kind.WorldKind.TheVariants as kind;
 ghost use Rattle.step_memory.specs.Calls.{Call};
@@ -29,7 +29,7 @@ use std::alloc::Allocator;
 /// its participant has not begun.
 pub fn law_of_renaming_calls<W: RenamePlaces<A>, A: Allocator>()
     ensures machine { IsProved (renaming ⟦<W as Known>⟧.places W.world) }
-    ensures kept { (w : RenameState W W.Walker W.Walk) (h : Call Reply) → KeepsSizes ⟦<W as Known>⟧.places w h }
+    ensures kept { (w : RenameState W W.Walker W.Walk) (h : Call StepReply) → KeepsSizes ⟦<W as Known>⟧.places w h }
     ensures answered { (w : RenameState W W.Walker W.Walk) (p : ℕ) → AnswersUnrefused ⟦<W as Known>⟧.places W.world w p }
 {}
 

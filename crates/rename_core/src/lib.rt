@@ -49,7 +49,6 @@ pub mod places;
 pub mod proposal;
 pub mod reply;
 pub mod round;
-pub mod short_reply;
 pub mod world;
 
 pub use commands::{Config, WorldKind};
@@ -61,5 +60,4 @@ pub use places::RenamePlaces;
 pub use proposal::next_proposal;
 pub use reply::Reply;
 pub use round::{Follow, Round, Stage, Wish};
-pub use short_reply::ShortReply;
 pub use world::RenameWorld;

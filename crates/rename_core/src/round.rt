@@ -81,7 +81,7 @@ pub struct Follow {
     /// What it asks for.
     pub wish: Wish,
     /// What the step answers.
-    pub reply: Reply,
+    pub reply: Reply<View>,
 }
 
 impl Wish {

@@ -15,7 +15,6 @@ ghost use Rattle.rename_core.specs.RenameWorld.{fresh_world, step_refusal, after
 use crate::places::RenamePlaces;
 use crate::reply::Reply;
 use crate::round::{Round, Wish};
-use crate::short_reply::ShortReply;
 use commands::Config;
 use snapshot_core::{Known, SnapReply, SnapWorld};
 use std::alloc::Allocator;
@@ -78,7 +77,7 @@ fn follow<W: RenamePlaces<A> + Drop, A: Allocator>(
     told: SnapReply,
     limit: u64,
     view: &mut View,
-) -> ShortReply
+) -> Reply<()>
 where
     W::Walker: Copy,
     W::Walk: Copy,
@@ -119,7 +118,7 @@ where
     /// A step that is none on the way to a place, and what follows it. A function of its own, so that other steps have no
     /// room of a segment to clear.
     #[inline(never)]
-    fn take_other(&mut self, at: usize, id: u64, view: &mut View) -> Result<ShortReply, Refusal>
+    fn take_other(&mut self, at: usize, id: u64, view: &mut View) -> Result<Reply<()>, Refusal>
         requires there { Some at ≡ index_of id self.old.rounds }
         requires ready { step_refusal self.old id ≡ None }
         ensures answer { result ≢ Err Refusal.NoMemory → outcome_with result view.new ≡ rename_answer ⟦<W as Known>⟧.places self.old id }
@@ -133,7 +132,7 @@ where
 
     /// A step that is no read of a scan that goes on, and what follows it. A function of its own, as `take_other` is.
     #[inline(never)]
-    fn take_slow(&mut self, at: usize, id: u64, view: &mut View) -> Result<ShortReply, Refusal>
+    fn take_slow(&mut self, at: usize, id: u64, view: &mut View) -> Result<Reply<()>, Refusal>
         requires there { Some at ≡ index_of id self.old.rounds }
         requires ready { step_refusal self.old id ≡ None }
         ensures answer { result ≢ Err Refusal.NoMemory → outcome_with result view.new ≡ rename_answer ⟦<W as Known>⟧.places self.old id }
@@ -146,7 +145,7 @@ where
         };
         if note.is_quiet() {
             self.rounds[at].ended = false;
-            return Ok(ShortReply::Quiet);
+            return Ok(Reply::Quiet);
         }
         let told = SnapReply::of_way(note);
         Ok(follow(&mut self.snap, &mut self.rounds[at], told, self.limit, view))
@@ -154,7 +153,7 @@ where
 
     /// A step, and what follows it.
     #[inline(always)]
-    fn take_step(&mut self, id: u64, view: &mut View) -> Result<ShortReply, Refusal>
+    fn take_step(&mut self, id: u64, view: &mut View) -> Result<Reply<()>, Refusal>
         ensures answer { result ≢ Err Refusal.NoMemory → outcome_with result view.new ≡ rename_answer ⟦<W as Known>⟧.places self.old id }
         ensures state { result ≢ Err Refusal.NoMemory → self.new ≡ after_rename_step ⟦<W as Known>⟧.places self.old id }
         ensures refused { OnErr result (self.new ≡ self.old) }
@@ -165,12 +164,12 @@ where
             return self.take_slow(at, id, view);
         }
         self.rounds[at].ended = false;
-        Ok(ShortReply::Quiet)
+        Ok(Reply::Quiet)
     }
 
     /// One step of a participant: one access, and what follows it. Refused where the identity has not begun, then where it
     /// has a name, or is spent, then where the memory refused a growth: then the same step may be asked again.
-    pub fn step(&mut self, id: u64) -> Result<Reply, Refusal>
+    pub fn step(&mut self, id: u64) -> Result<Reply<View>, Refusal>
         ensures answer { result ≢ Err Refusal.NoMemory → result ≡ rename_answer ⟦<W as Known>⟧.places self.old id }
         ensures state { result ≢ Err Refusal.NoMemory → self.new ≡ after_rename_step ⟦<W as Known>⟧.places self.old id }
         ensures refused { OnErr result (self.new ≡ self.old) }
@@ -188,12 +187,12 @@ where
     {
         let mut view = View::new();
         let outcome = self.step_short(id, &mut view);
-        ShortReply::with_in(outcome, &view)
+        Reply::with_in(outcome, &view)
     }
 
     /// As `step`, with a reply of a few bytes, and its view where it shows one: what `step` answers is the reply with the view.
     #[inline(always)]
-    pub fn step_short(&mut self, id: u64, view: &mut View) -> Result<ShortReply, Refusal>
+    pub fn step_short(&mut self, id: u64, view: &mut View) -> Result<Reply<()>, Refusal>
         ensures answer { result ≢ Err Refusal.NoMemory → outcome_with result view.new ≡ rename_answer ⟦<W as Known>⟧.places self.old id }
         ensures state { result ≢ Err Refusal.NoMemory → self.new ≡ after_rename_step ⟦<W as Known>⟧.places self.old id }
         ensures refused { OnErr result (self.new ≡ self.old) }

@@ -39,7 +39,7 @@ use Rattle.snapshot_places.specs.GridTies.{grid_places, walks_of}
 use Rattle.snapshot_places.specs.TreeProofs.{tree_laws}
 use Rattle.snapshot_places.specs.TreeTies.{tree_places, walks_of as tree_walks_of}
 use Rattle.commands.specs.declared.config.Config.{Config}
-use Rattle.rename_core.specs.declared.reply.Reply.{Reply as StepReply}
+use Rattle.rename_core.specs.Reply.{StepReply}
 use Rattle.rename_core.specs.declared.reply.Reply.TheVariants as step
 use Rattle.rename_core.specs.declared.round.Round.{Round}
 use Rattle.rename_core.specs.declared.round.Wish.{Wish}

@@ -10,7 +10,7 @@ use Rattle.step_memory.specs.View.{IsAbove, IsRising, value_of}
 use Rattle.step_memory.specs.World.{done_unless}
 use Rattle.step_memory.specs.declared.refusal.Refusal.{Refusal}
 use Rattle.step_memory.specs.declared.refusal.Refusal.TheVariants.{ZeroIdentity, AlreadyBegun, Full, NotBegun}
-use Rattle.rename_core.specs.declared.reply.Reply.{Reply as StepReply}
+use Rattle.rename_core.specs.Reply.{StepReply}
 use Rattle.rename_core.specs.declared.reply.Reply.TheVariants as step
 use Rattle.rename_core.specs.RenameObject.{RenameTerms, RenameObject, no_begin, no_step, AllowsStep}
 use Rattle.snapshot_core.specs.Snapshot.{IsMoment}

@@ -7,7 +7,7 @@ use Rattle.step_memory.specs.Runs.{Run}
 use Rattle.step_memory.specs.World.{done_unless}
 use Rattle.step_memory.specs.declared.refusal.Refusal.{Refusal}
 use Rattle.step_memory.specs.declared.refusal.Refusal.TheVariants.{NoMemory}
-use Rattle.rename_core.specs.declared.reply.Reply.{Reply as StepReply}
+use Rattle.rename_core.specs.Reply.{StepReply}
 use Rattle.rename_core.specs.RenameObject.{RenameTerms, RenameObject, new_object, no_begin, no_step, AllowsStep, after}
 use Rattle.slot_array.specs.SlotsObject.{SlotsObject, fresh_slots, SlotAnswers, slots_after}
 use Rattle.commands.specs.declared.exchange.Exchange.{Exchange}

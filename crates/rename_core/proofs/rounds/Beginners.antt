@@ -14,7 +14,7 @@ use Rattle.snapshot_core.specs.SnapWorld.{beginner_at}
 use Rattle.snapshot_core.proofs.Following.{begins_the_same}
 use Rattle.commands.specs.Config.{is_tree}
 use Rattle.commands.specs.declared.kind.WorldKind.{WorldKind}
-use Rattle.rename_core.specs.declared.reply.Reply.{Reply}
+use Rattle.rename_core.specs.Reply.{StepReply}
 use Rattle.rename_core.specs.declared.round.Round.{Round}
 use Rattle.rename_core.specs.Locality.{client_of, round_of, wished}
 use Rattle.rename_core.specs.Machine.{renaming, BeginsTheSame}
@@ -46,7 +46,7 @@ module _ {S R V U K : Type 0} (W : KnownPlaces S R V U K) (w : RenameState S U K
       rw goes (ap (option_map (λ u. u.program)) there ∙ ap (λ (b : Bool). Some (first_round b)) placed_is)
 
 module _ {S R V U K : Type 0} (W : KnownPlaces S R V U K) (laws : PlacesLaws W) (kind : WorldKind) (scanning : ℕ → ℕ → ℕ) (named : (most : ℕ) → MayBeNamed W (is_tree kind) most (scanning most)) where
-  absent_round : (w : RenameState S U K) (first : S × ℕ) (r : List (Call Reply)) → After (renaming W kind) first w r → (p : ℕ) → begin_refusal w.snap p ≡ None → participant_of p w.rounds ≡ None
+  absent_round : (w : RenameState S U K) (first : S × ℕ) (r : List (Call StepReply)) → After (renaming W kind) first w r → (p : ℕ) → begin_refusal w.snap p ≡ None → participant_of p w.rounds ≡ None
   absent_round w first r a p goes = elim (participant_of p w.rounds) as (λ z. participant_of p w.rounds ≡ z → z ≡ None) [
     | None ↦ λ _. refl
     | Some v ↦ λ e. absurd (let no : false ≡ true = sym (ap is_some (let_in w.snap p goes).absent) ∙ joined_law W kind (scanning (W.most_of first.0)) first (named (W.most_of first.0)) w r a p ∙ ap is_some e in cc)

@@ -12,7 +12,7 @@ use Rattle.snapshot_core.specs.SnapCalls.{SnapCall, next as snap_next, IsReply a
 use Rattle.snapshot_core.specs.SnapCalls.SnapCall.{Stepped as SnapStepped}
 use Rattle.snapshot_core.specs.Snapshot.Task.{Placing as ToPlace, Scanning as ToScan, Updating as ToUpdate}
 use Rattle.snapshot_core.specs.Snapshot.{SnapObject, SnapBounds, observed, has_begun, has_nothing_pending, step_due, Allows as SnapAllows}
-use Rattle.rename_core.specs.declared.reply.Reply.{Reply}
+use Rattle.rename_core.specs.Reply.{StepReply}
 use Rattle.rename_core.specs.declared.round.Round.{Round}
 use Rattle.rename_core.specs.declared.round.Stage.{Stage}
 use Rattle.rename_core.specs.declared.round.Stage.TheVariants.{Placing, Proposing, Looking, Settled, Over}
@@ -39,7 +39,7 @@ module _ {S R V U K : Type 0} (W : KnownPlaces S R V U K) (terms : RenameTerms) 
     (Tie : SnapState S U K → SnapObject → Type 0)
     (tie_goes : (w : SnapState S U K) (o : SnapObject) (h : SnapCall) → Tie w o → IsSnapReply W w h → Tie (snap_next W w h) (observed o h) × SnapAllows bounds o h) where
   -- the object may give this reply, it comes in time, and all go on together
-  pub record Goes (w : RenameState S U K) (o : RenameObject) (t : Pace) (h : Call Reply) : Type 0 where
+  pub record Goes (w : RenameState S U K) (o : RenameObject) (t : Pace) (h : Call StepReply) : Type 0 where
     pub allowed : Allows terms o h
     pub timed : InTime bounds t h
     pub tied : IsTied terms Tie (next W w h) (after o h) (paced bounds t h)
@@ -48,11 +48,11 @@ module _ {S R V U K : Type 0} (W : KnownPlaces S R V U K) (terms : RenameTerms) 
     abbrev Answered : Type 0
     Answered = Goes w o t (Stepped p (rename_answer W w p))
 
-    conclude : (reply : Result Reply Refusal) (new : RenameState S U K) → rename_answer W w p ≡ reply → lacked_memory reply ≡ false → after_rename_step W w p ≡ new →
+    conclude : (reply : Result StepReply Refusal) (new : RenameState S U K) → rename_answer W w p ≡ reply → lacked_memory reply ≡ false → after_rename_step W w p ≡ new →
         Allows terms o (Stepped p reply) → InTime bounds t (Stepped p reply) → IsTied terms Tie new (after o (Stepped p reply)) (paced bounds t (Stepped p reply)) → Answered
     conclude reply new answer lacks state allowed timed tied =
         let go : Goes w o t (Stepped p reply) = record { allowed = allowed; timed = timed; tied = rw lacks (subst (λ (x : RenameState S U K). IsTied terms Tie x (after o (Stepped p reply)) (paced bounds t (Stepped p reply))) (sym state) tied) } in
-        subst (λ (x : Result Reply Refusal). Goes w o t (Stepped p x)) (sym answer) go
+        subst (λ (x : Result StepReply Refusal). Goes w o t (Stepped p x)) (sym answer) go
 
     absent_step : participant_of p w.rounds ≡ None → no_step o p ≡ Some NotBegun
     absent_step h = let b : o.begun p ≡ false = i.begun p ∙ ap is_some h in rw b refl
@@ -76,7 +76,7 @@ module _ {S R V U K : Type 0} (W : KnownPlaces S R V U K) (terms : RenameTerms) 
       program_is : program_of p w.rounds ≡ Some v.program
       program_is = ap (option_map (λ u. u.program)) here
 
-      refused_goes : (why : Refusal) → lacked_memory {X = Reply} (Err why) ≡ false → stage_refusal v.program.stage ≡ Some why → no_step o p ≡ Some why → Answered
+      refused_goes : (why : Refusal) → lacked_memory {X = StepReply} (Err why) ≡ false → stage_refusal v.program.stage ≡ Some why → no_step o p ≡ Some why → Answered
       refused_goes why lacks closed due = conclude (Err why) w (rw (program_is, closed) refl) lacks (rw (program_is, closed) refl) (inl due) tt i
 
       open_goes : (n : ℕ) → (k : GoesBusy W w.snap p n) → stage_refusal v.program.stage ≡ None → no_step o p ≡ None → HasGone W terms bounds Tie tie_goes w o t i p v here (followed v.program p k.reply w.limit) → Answered
@@ -125,10 +125,10 @@ module _ {S R V U K : Type 0} (W : KnownPlaces S R V U K) (terms : RenameTerms) 
     way_of s (inl due) = absurd (not_due bounds s p due)
     way_of s (inr lacks) = lacks.2
 
-    pub step_goes : ((s : RenameState S U K) (q : ℕ) → may_lack W s q ≡ true → terms.grows ≡ true) → (reply : Result Reply Refusal) → IsReply W w (Stepped p reply) → Goes w o t (Stepped p reply)
-    step_goes grows reply (inl e) = subst (λ (x : Result Reply Refusal). Goes w o t (Stepped p x)) (sym e) answered
+    pub step_goes : ((s : RenameState S U K) (q : ℕ) → may_lack W s q ≡ true → terms.grows ≡ true) → (reply : Result StepReply Refusal) → IsReply W w (Stepped p reply) → Goes w o t (Stepped p reply)
+    step_goes grows reply (inl e) = subst (λ (x : Result StepReply Refusal). Goes w o t (Stepped p x)) (sym e) answered
     step_goes grows reply (inr e) =
         let on_way = way_of i.object (tie_goes w.snap i.object (SnapStepped p (Err NoMemory)) i.tie (inr (refl, e.1.1))).1 in
         let k = lacks e.1.0 on_way in
         let refused : Goes w o t (Stepped p (Err NoMemory)) = record { allowed = inr (record { is = refl; grows = grows w p e.1.1; none_due = k.0; unplaced = k.1 }); timed = tt; tied = i } in
-        subst (λ (x : Result Reply Refusal). Goes w o t (Stepped p x)) (sym e.0) refused
+        subst (λ (x : Result StepReply Refusal). Goes w o t (Stepped p x)) (sym e.0) refused
