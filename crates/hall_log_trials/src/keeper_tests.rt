@@ -4,87 +4,154 @@ use crate::doubles::{Lossy, Tries};
 use crate::front_tests::{answers, config};
 use event_server::{Ahead, Keep};
 use hall_log::{LogFault, LogKeeper, Tape};
-use one_log::{MemoryStore, Put, Store};
+use one_log::{MemoryStore, Store, StoreFault};
 use std::alloc::Global;
-use std::test::Fail;
 
 /// How the log of a hall of the config begins.
 const FIRST: &[u8] = b"beglushan hall 1 world rename m 4 k 4 limit 1000\n";
 
+/// How that of a hall for three begins.
+const OF_THREE: &[u8] = b"beglushan hall 1 world rename m 3 k 4 limit 1000\n";
+
 /// What another front end has written behind it.
 const OTHERS: &[u8] = b"another 1\nenter 1\nprobe 1\n";
 
-/// A front end over a log that begins so, whose store loses each so many answers, and which asks again so often.
+// A store in which these entries stand.
+fn written(alloc: Global, entries: &[&[u8]]) -> Result<MemoryStore, StoreFault> {
+    let mut store = MemoryStore::new(alloc);
+    for place in 0..entries.len() {
+        store.put(place as u64, entries[place])?;
+    }
+    Ok(store)
+}
+
+// A front end over a log that begins so, whose store loses each so many answers, and which asks again so often.
 fn opened(
     alloc: Global,
     entries: &[&[u8]],
     every: u64,
     most: u64,
-) -> Result<Result<LogKeeper<Lossy, Tries>, LogFault>, Fail> {
-    let mut store = MemoryStore::new(alloc);
-    for place in 0..entries.len() {
-        store.put(place as u64, entries[place])?;
-    }
+) -> Result<LogKeeper<Lossy, Tries>, LogFault> {
+    let Some(config) = config() else {
+        return Err(LogFault::NoNames);
+    };
+    let Ok(store) = written(alloc, entries) else {
+        return Err(LogFault::Memory);
+    };
     let lossy = Lossy {
         store,
         puts: 0,
         every,
     };
     let tries = Tries { most, left: 0 };
-    Ok(LogKeeper::open(alloc, lossy, tries, config()?, [b'a'; 32]))
+    LogKeeper::open(alloc, lossy, tries, config, [b'a'; 32])
 }
 
-/// What a front end answers to lines, as a turn of its loop does.
+// What a front end answers to lines, as a turn of its loop does; none where they are lost.
 fn told(
     alloc: Global,
     keeper: &mut LogKeeper<Lossy, Tries>,
     lines: &[u8],
-) -> Result<Option<Vec<u8>>, Fail> {
+) -> Result<Option<Vec<u8>>, LogFault> {
     let mut tape = Tape::new(alloc);
     if keeper.learn(&mut tape, lines)? == Ahead::Lost {
         return Ok(None);
     }
-    let answer = answers(alloc, &mut tape, lines)?;
+    let Some(answer) = answers(alloc, &mut tape, lines) else {
+        return Err(LogFault::Memory);
+    };
     keeper.keep(&mut tape)?;
     Ok(Some(answer))
 }
 
+// Whether a front end answers so to lines, or loses them where nothing is wanted.
+fn says(
+    alloc: Global,
+    keeper: &mut LogKeeper<Lossy, Tries>,
+    (lines, want): (&[u8], Option<&[u8]>),
+) -> bool {
+    match told(alloc, keeper, lines) {
+        Ok(Some(answer)) => match want {
+            Some(text) => answer.as_slice() == text,
+            None => false,
+        },
+        Ok(None) => want.is_none(),
+        Err(_) => false,
+    }
+}
+
+/// A front end as `opened` opens it; what it answers to lines, one after the other; and how many entries and events it has then.
+#[derive(Drop)]
+struct Talk {
+    title: &'static str,
+    entries: &'static [&'static [u8]],
+    every: u64,
+    most: u64,
+    told: &'static [(&'static [u8], Option<&'static [u8]>)],
+    then: (u64, usize),
+}
+
+// Whether a front end goes so.
+fn goes_so(alloc: Global, keeper: &mut LogKeeper<Lossy, Tries>, talk: &Talk) -> bool {
+    for row in talk.told {
+        if !says(alloc, keeper, *row) {
+            return false;
+        }
+    }
+    keeper.len() == talk.then.0 && keeper.hall().len() == talk.then.1
+}
+
+// Whether the one that is opened does.
+fn goes(alloc: Global, talk: &Talk) -> bool {
+    match opened(alloc, talk.entries, talk.every, talk.most) {
+        Ok(mut keeper) => goes_so(alloc, &mut keeper, talk),
+        Err(_) => false,
+    }
+}
+
+const TALKS: [Talk; 3] = [
+    Talk {
+        title: "one that starts late catches up",
+        entries: &[FIRST, OTHERS],
+        every: 0,
+        most: 0,
+        told: &[(
+            b"enter 1\nenter 2\nprobe 2\nprobe 2\n",
+            Some(b"refused 9\nok\nmissed\ngot 2\n"),
+        )],
+        then: (3, 5),
+    },
+    Talk {
+        title: "lines whose answer is lost stand once",
+        entries: &[FIRST],
+        every: 2,
+        most: 1,
+        told: &[(b"enter 1\n", Some(b"ok\n"))],
+        then: (2, 1),
+    },
+    Talk {
+        title: "lines that are not answered may stand",
+        entries: &[FIRST],
+        every: 2,
+        most: 0,
+        told: &[(b"enter 1\n", None), (b"enter 1\n", Some(b"refused 9\n"))],
+        then: (3, 1),
+    },
+];
+
 #[test]
-fn a_front_end_that_starts_late_catches_up(rt: HostRuntime) -> Result<(), Fail> {
-    let mut keeper = opened(rt.alloc(), &[FIRST, OTHERS], 0, 0)??;
-    let lines = b"enter 1\nenter 2\nprobe 2\nprobe 2\n";
-    let answer = told(rt.alloc(), &mut keeper, lines)?;
-    assert_eq!(rt;
-        answer.as_deref(),
-        Some(b"refused 9\nok\nmissed\ngot 2\n".as_slice())
-    );
-    assert_eq!(rt; (keeper.len(), keeper.hall().len()), (3, 5));
-    Ok(())
+fn front_ends_over_a_log_of_others(rt: HostRuntime) {
+    for talk in &TALKS {
+        assert!(rt; goes(rt.alloc(), talk), "{}", talk.title);
+    }
+}
+
+// Why a front end does not start; none where it does.
+fn refusal(alloc: Global, entries: &[&[u8]]) -> Option<LogFault> {
+    opened(alloc, entries, 0, 0).err()
 }
 
 #[test]
-fn a_front_end_of_another_config_does_not_start(rt: HostRuntime) -> Result<(), Fail> {
-    let other = b"beglushan hall 1 world rename m 3 k 4 limit 1000\n".as_slice();
-    let refused = opened(rt.alloc(), &[other, OTHERS], 0, 0)?;
-    assert!(rt; matches!(refused, Err(LogFault::OtherConfig)));
-    Ok(())
-}
-
-#[test]
-fn lines_whose_answer_is_lost_stand_once(rt: HostRuntime) -> Result<(), Fail> {
-    let mut keeper = opened(rt.alloc(), &[FIRST], 2, 1)??;
-    let answer = told(rt.alloc(), &mut keeper, b"enter 1\n")?;
-    assert_eq!(rt; answer.as_deref(), Some(b"ok\n".as_slice()));
-    assert_eq!(rt; (keeper.len(), keeper.hall().len()), (2, 1));
-    Ok(())
-}
-
-#[test]
-fn lines_that_are_not_answered_may_stand(rt: HostRuntime) -> Result<(), Fail> {
-    let mut keeper = opened(rt.alloc(), &[FIRST], 2, 0)??;
-    assert!(rt; told(rt.alloc(), &mut keeper, b"enter 1\n")?.is_none());
-    let again = told(rt.alloc(), &mut keeper, b"enter 1\n")?;
-    assert_eq!(rt; again.as_deref(), Some(b"refused 9\n".as_slice()));
-    assert_eq!(rt; (keeper.len(), keeper.hall().len()), (3, 1));
-    Ok(())
+fn a_front_end_of_another_config_does_not_start(rt: HostRuntime) {
+    assert!(rt; refusal(rt.alloc(), &[OF_THREE, OTHERS]) == Some(LogFault::OtherConfig));
 }

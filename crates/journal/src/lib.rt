@@ -23,8 +23,3 @@ pub use chronicle::{Chronicle, MOST_WAITING};
 pub use journal::{Journal, JournalFault, Opened};
 pub use laws::law_of_crashes;
 pub use opening::OpenFault;
-
-#[cfg(test)]
-mod compaction_tests;
-#[cfg(test)]
-mod tests;

@@ -15,6 +15,3 @@ pub mod memory_disk;
 pub use disk::{Disk, DiskFault};
 pub use file_disk::{FileDisk, FileFault};
 pub use memory_disk::MemoryDisk;
-
-#[cfg(test)]
-mod tests;

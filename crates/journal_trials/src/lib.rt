@@ -1,0 +1,15 @@
+//! Trials of `journal_disk` and `journal` through their public calls: journals that are torn at each byte, whose disk fails at each call,
+//! of other runs, and compacted; and a file as a disk.
+//!
+//! They stand in a crate of their own, as a package's integration tests do, so that proving them does not prove the journal again. A
+//! trial that is proved returns and breaks no caller's condition; that it passes is seen by running it.
+#![tactic(auto)]
+
+#[cfg(test)]
+mod compaction_tests;
+#[cfg(test)]
+mod disk_tests;
+#[cfg(test)]
+mod journal_tests;
+#[cfg(test)]
+mod journals;
