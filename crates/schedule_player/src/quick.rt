@@ -1,6 +1,6 @@
 //! The commands that most inputs are made of, in one pass over their bytes.
 
-ghost use Rattle.std.specs.Prelude.{◌≡◌, ◌+◌, ◌≤◌, ◌<◌, ℕ, true, length, IfSome};
+ghost use Rattle.std.specs.Prelude.{◌≡◌, ◌+◌, ◌≤◌, ◌<◌, ℕ, true, length, drop, IfSome};
 ghost use Rattle.schedule_player.specs.Digits.{DigitsSoFar, AreDigitsOf, number_of_eight};
 ghost use Rattle.schedule_player.specs.Quick.{IsCommandBefore, IsDeskCommandBefore, IsNumberBefore, word_of_four};
 
@@ -130,19 +130,27 @@ pub fn quick_number(text: &[u8], end: u8) -> Option<(u64, usize)>
     long_number(text, four, end)
 }
 
-/// As `quick_number`, after four digits, with eight digits at once where so many stand there.
+/// As `quick_number`, after four digits, with eight digits at once where so many stand there. Both words are tested before either is made a
+/// number, so that the constants of the tests and those of the numbers do not want registers at once.
 #[inline(always)]
 fn long_number(text: &[u8], first: u64, end: u8) -> Option<(u64, usize)>
     requires read { DigitsSoFar text.now first 4 }
     ensures { IfSome result (λ r. IsNumberBefore end text.now r.0 r.1) }
 {
-    let Some(twelve) = eight_more(text, first) else {
+    if text.len() < 21 {
+        return few_digits(text, first, 4, end);
+    }
+    let Some(next) = eight_digits(&text[4..]) else {
         return few_digits(text, first, 4, end);
     };
-    let Some(eight) = eight_digits(&text[12..]) else {
+    let Some(last) = eight_digits(&text[12..]) else {
+        let twelve = with_eight(text, first, next);
         return few_digits(text, twelve, 12, end);
     };
-    let twenty = twelve.checked_mul(100_000_000)?.checked_add(eight)?;
+    let twelve = with_eight(text, first, next);
+    let twenty = twelve
+        .checked_mul(100_000_000)?
+        .checked_add(value_of_eight(last))?;
     number_before(text, twenty, 20, end)
 }
 
@@ -155,10 +163,10 @@ const ZEROS: u64 = 0x3030_3030_3030_3030;
 /// What leaves the upper half of each byte 0 just where the byte is below 10.
 const SIXES: u64 = 0x0606_0606_0606_0606;
 
-/// The number of the first eight bytes, where all of them are digits: they are tested as one word.
+/// The first eight bytes as a word less that of eight digits 0, where all of them are digits: they are tested as one word.
 #[inline(always)]
 fn eight_digits(text: &[u8]) -> Option<u64>
-    ensures { IfSome result (λ value. DigitsSoFar text.now value 8) }
+    ensures { IfSome result (λ digits. (value : ℕ) → ((a b c d e f g h : ℕ) → AreDigitsOf digits a b c d e f g h → value ≡ number_of_eight a b c d e f g h) → DigitsSoFar text.now value 8) }
 {
     let [a, b, c, d, e, f, g, h, ..] = text else {
         return None;
@@ -171,7 +179,7 @@ fn eight_digits(text: &[u8]) -> Option<u64>
     if (digits + SIXES) & UPPER_HALVES != 0 {
         return None;
     }
-    Some(value_of_eight(digits))
+    Some(digits)
 }
 
 /// The number that the eight digits of a word write, the first in the lowest byte. Each digit and the next are a pair; two
@@ -186,14 +194,14 @@ fn value_of_eight(digits: u64) -> u64
     first.wrapping_add(second) >> 32
 }
 
-/// The number of the first twelve bytes, of which the first four write this one, where the next eight are digits too.
+/// The number of the first twelve bytes, of which the first four write this one, and the next eight are these digits.
 #[inline(always)]
-fn eight_more(text: &[u8], first: u64) -> Option<u64>
-    requires { DigitsSoFar text.now first 4 }
-    ensures { IfSome result (λ value. DigitsSoFar text.now value 12) }
+fn with_eight(text: &[u8], first: u64, next: u64) -> u64
+    requires read { DigitsSoFar text.now first 4 }
+    requires next { (value : ℕ) → ((a b c d e f g h : ℕ) → AreDigitsOf next a b c d e f g h → value ≡ number_of_eight a b c d e f g h) → DigitsSoFar (drop 4 text.now) value 8 }
+    ensures { DigitsSoFar text.now result 12 }
 {
-    let next = eight_digits(&text[4..])?;
-    Some(first * 100_000_000 + next)
+    first * 100_000_000 + value_of_eight(next)
 }
 
 /// As `quick_number`, digit by digit, after the digits that were read. Answers none for more digits than surely fit.
@@ -224,11 +232,11 @@ fn one_more(text: &[u8], value: u64, count: usize) -> Option<u64>
     requires sure { count < SURE_DIGITS }
     ensures { IfSome result (λ new. DigitsSoFar text.now new (count + 1)) }
 {
-    let byte = u64::from(text[count]);
-    if byte < 48 || 57 < byte {
+    let digit = u64::from(text[count]).wrapping_sub(48);
+    if 9 < digit {
         return None;
     }
-    Some(value * 10 + (byte - 48))
+    Some(value * 10 + digit)
 }
 
 /// This number, where its digits are no others than a number's, and this byte follows them.
