@@ -1,8 +1,9 @@
 //! The commands that most inputs are made of, in one pass over their bytes.
 
-ghost use Rattle.std.specs.Prelude.{◌≡◌, ◌+◌, ◌≤◌, ◌<◌, ℕ, true, length, drop, IfSome};
+ghost use Rattle.std.specs.Prelude.{◌≡◌, ◌+◌, ◌≤◌, ◌<◌, ℕ, true, length, drop, slice_index, IfSome};
 ghost use Rattle.schedule_player.specs.Digits.{DigitsSoFar, AreDigitsOf, number_of_eight};
 ghost use Rattle.schedule_player.specs.Quick.{IsCommandBefore, IsDeskCommandBefore, IsNumberBefore, word_of_four};
+ghost use Rattle.schedule_player.specs.declared.quick.TheConstants.{STEP, BEGIN, PROBE, ENTER, LEAVE, GET, PUT};
 
 use commands::{Command, Event, WorldKind};
 
@@ -36,74 +37,89 @@ fn first_four(bytes: &[u8]) -> Option<u32>
     Some(u32::from_le_bytes([*a, *b, *c, *d]))
 }
 
+/// Where the number begins behind a word of five letters, of which this is the last.
+#[inline(always)]
+fn behind_five(bytes: &[u8], last: u8) -> Option<usize>
+    ensures { IfSome result (λ from. (from ≡ 6) × (6 ≤ length bytes.now) × (slice_index bytes.now 4 ≡ last) × (slice_index bytes.now 5 ≡ 32)) }
+{
+    if bytes.len() < 6 || bytes[4] != last || bytes[5] != SPACE {
+        return None;
+    }
+    Some(6)
+}
+
+/// Where the number begins behind a word that takes one, by the word's first four bytes; the words of a desk are none elsewhere.
+#[inline(always)]
+fn number_from(bytes: &[u8], word: u32, names: bool) -> Option<usize>
+    requires { 4 ≤ length bytes.now }
+    ensures inside { IfSome result (λ from. from ≤ length bytes.now) }
+    ensures step { word ≡ STEP → IfSome result (λ from. (from ≡ 5) × (slice_index bytes.now 4 ≡ 32)) }
+    ensures begin { word ≡ BEGIN → IfSome result (λ from. (from ≡ 6) × (slice_index bytes.now 4 ≡ 110) × (slice_index bytes.now 5 ≡ 32)) }
+    ensures probe { word ≡ PROBE → IfSome result (λ from. (from ≡ 6) × (slice_index bytes.now 4 ≡ 101) × (slice_index bytes.now 5 ≡ 32) × (names ≡ true)) }
+    ensures enter { word ≡ ENTER → IfSome result (λ from. (from ≡ 6) × (slice_index bytes.now 4 ≡ 114) × (slice_index bytes.now 5 ≡ 32) × (names ≡ true)) }
+    ensures leave { word ≡ LEAVE → IfSome result (λ from. (from ≡ 6) × (slice_index bytes.now 4 ≡ 101) × (slice_index bytes.now 5 ≡ 32) × (names ≡ true)) }
+    ensures get { word ≡ GET → IfSome result (λ from. (from ≡ 4) × (names ≡ true)) }
+{
+    if word == STEP {
+        return if bytes.len() < 5 || bytes[4] != SPACE {
+            None
+        } else {
+            Some(5)
+        };
+    }
+    if word == BEGIN {
+        return behind_five(bytes, b'n');
+    }
+    if !names {
+        return None;
+    }
+    match word {
+        PROBE => behind_five(bytes, b'e'),
+        ENTER => behind_five(bytes, b'r'),
+        LEAVE => behind_five(bytes, b'e'),
+        GET => Some(4),
+        _ => None,
+    }
+}
+
 /// The command that the bytes before the first of this byte mean, and where that stands, where it takes one look at each byte.
 /// `None` says nothing of the bytes.
+///
+/// One number is read at one place for all words, so that there is little enough code to stand where lines are taken.
 #[inline(always)]
 pub fn quick_command(bytes: &[u8], world: WorldKind, end: u8) -> Option<(Command, usize)>
     ensures { IfSome result (λ r. IsCommandBefore end world bytes.now r.0 r.1) }
 {
     let word = first_four(bytes)?;
-    if word == STEP {
-        let [_, _, _, _, b' ', number @ ..] = bytes else {
-            return None;
-        };
-        let (id, count) = quick_number(number, end)?;
-        return Some((Command::Event(Event::Step(id)), count + 5));
+    let names = world.gives_names();
+    if word == PUT && names {
+        return quick_put(bytes, end);
     }
-    if word == BEGIN {
-        let [_, _, _, _, b'n', b' ', number @ ..] = bytes else {
-            return None;
-        };
-        let (id, count) = quick_number(number, end)?;
-        return Some((Command::Event(Event::Begin(id)), count + 6));
-    }
-    if world.gives_names() {
-        return quick_desk_command(bytes, word, end);
-    }
-    None
+    let from = number_from(bytes, word, names)?;
+    let (id, count) = quick_number(&bytes[from..], end)?;
+    let event = match word {
+        STEP => Event::Step(id),
+        BEGIN => Event::Begin(id),
+        PROBE => Event::Probe(id),
+        ENTER => Event::Enter(id),
+        LEAVE => Event::Leave(id),
+        GET => Event::Get(id),
+        _ => return None,
+    };
+    Some((Command::Event(event), from + count))
 }
 
-/// As `quick_command`, of the words that only a desk knows, by the first four bytes.
-#[inline(always)]
-fn quick_desk_command(bytes: &[u8], word: u32, end: u8) -> Option<(Command, usize)>
+/// As `quick_command`, of bytes that begin with the word of two numbers, which only a desk knows.
+#[inline(never)]
+fn quick_put(bytes: &[u8], end: u8) -> Option<(Command, usize)>
     requires inside { 4 ≤ length bytes.now }
-    requires word { word ≡ word_of_four bytes.now }
+    requires word { word_of_four bytes.now ≡ PUT }
     ensures { IfSome result (λ r. IsDeskCommandBefore end bytes.now r.0 r.1) }
 {
-    match word {
-        PROBE => {
-            let [_, _, _, _, b'e', b' ', number @ ..] = bytes else {
-                return None;
-            };
-            let (id, count) = quick_number(number, end)?;
-            Some((Command::Event(Event::Probe(id)), count + 6))
-        }
-        ENTER => {
-            let [_, _, _, _, b'r', b' ', number @ ..] = bytes else {
-                return None;
-            };
-            let (id, count) = quick_number(number, end)?;
-            Some((Command::Event(Event::Enter(id)), count + 6))
-        }
-        LEAVE => {
-            let [_, _, _, _, b'e', b' ', number @ ..] = bytes else {
-                return None;
-            };
-            let (id, count) = quick_number(number, end)?;
-            Some((Command::Event(Event::Leave(id)), count + 6))
-        }
-        GET => {
-            let (id, count) = quick_number(&bytes[4..], end)?;
-            Some((Command::Event(Event::Get(id)), count + 4))
-        }
-        PUT => {
-            let numbers = &bytes[4..];
-            let (id, first) = quick_number(numbers, SPACE)?;
-            let (value, second) = quick_number(&numbers[first + 1..], end)?;
-            Some((Command::Event(Event::Put(id, value)), first + second + 5))
-        }
-        _ => None,
-    }
+    let numbers = &bytes[4..];
+    let (id, first) = quick_number(numbers, SPACE)?;
+    let (value, second) = quick_number(&numbers[first + 1..], end)?;
+    Some((Command::Event(Event::Put(id, value)), first + second + 5))
 }
 
 /// The most digits whose number surely fits in 64 bits.
