@@ -3,7 +3,7 @@
 ghost use Rattle.std.specs.Prelude.{◌≡◌, ◌+◌, ◌≤◌, ◌<◌, ℕ, true, length, drop, slice_index, IfSome};
 ghost use Rattle.schedule_player.specs.Digits.{DigitsSoFar, AreDigitsOf, number_of_eight};
 ghost use Rattle.schedule_player.specs.Quick.{IsCommandBefore, IsDeskCommandBefore, IsNumberBefore, word_of_four};
-ghost use Rattle.schedule_player.specs.declared.quick.TheConstants.{STEP, BEGIN, PROBE, ENTER, LEAVE, GET, PUT};
+ghost use Rattle.schedule_player.specs.declared.quick.TheConstants.{PROBE, ENTER, LEAVE, GET, PUT};
 
 use commands::{Command, Event, WorldKind};
 
@@ -48,31 +48,16 @@ fn behind_five(bytes: &[u8], last: u8) -> Option<usize>
     Some(6)
 }
 
-/// Where the number begins behind a word that takes one, by the word's first four bytes; the words of a desk are none elsewhere.
+/// Where the number begins behind a desk's word that takes one, by the word's first four bytes.
 #[inline(always)]
-fn number_from(bytes: &[u8], word: u32, names: bool) -> Option<usize>
+fn number_from(bytes: &[u8], word: u32) -> Option<usize>
     requires { 4 ≤ length bytes.now }
     ensures inside { IfSome result (λ from. from ≤ length bytes.now) }
-    ensures step { word ≡ STEP → IfSome result (λ from. (from ≡ 5) × (slice_index bytes.now 4 ≡ 32)) }
-    ensures begin { word ≡ BEGIN → IfSome result (λ from. (from ≡ 6) × (slice_index bytes.now 4 ≡ 110) × (slice_index bytes.now 5 ≡ 32)) }
-    ensures probe { word ≡ PROBE → IfSome result (λ from. (from ≡ 6) × (slice_index bytes.now 4 ≡ 101) × (slice_index bytes.now 5 ≡ 32) × (names ≡ true)) }
-    ensures enter { word ≡ ENTER → IfSome result (λ from. (from ≡ 6) × (slice_index bytes.now 4 ≡ 114) × (slice_index bytes.now 5 ≡ 32) × (names ≡ true)) }
-    ensures leave { word ≡ LEAVE → IfSome result (λ from. (from ≡ 6) × (slice_index bytes.now 4 ≡ 101) × (slice_index bytes.now 5 ≡ 32) × (names ≡ true)) }
-    ensures get { word ≡ GET → IfSome result (λ from. (from ≡ 4) × (names ≡ true)) }
+    ensures probe { word ≡ PROBE → IfSome result (λ from. (from ≡ 6) × (slice_index bytes.now 4 ≡ 101) × (slice_index bytes.now 5 ≡ 32)) }
+    ensures enter { word ≡ ENTER → IfSome result (λ from. (from ≡ 6) × (slice_index bytes.now 4 ≡ 114) × (slice_index bytes.now 5 ≡ 32)) }
+    ensures leave { word ≡ LEAVE → IfSome result (λ from. (from ≡ 6) × (slice_index bytes.now 4 ≡ 101) × (slice_index bytes.now 5 ≡ 32)) }
+    ensures get { word ≡ GET → IfSome result (λ from. from ≡ 4) }
 {
-    if word == STEP {
-        return if bytes.len() < 5 || bytes[4] != SPACE {
-            None
-        } else {
-            Some(5)
-        };
-    }
-    if word == BEGIN {
-        return behind_five(bytes, b'n');
-    }
-    if !names {
-        return None;
-    }
     match word {
         PROBE => behind_five(bytes, b'e'),
         ENTER => behind_five(bytes, b'r'),
@@ -84,22 +69,45 @@ fn number_from(bytes: &[u8], word: u32, names: bool) -> Option<usize>
 
 /// The command that the bytes before the first of this byte mean, and where that stands, where it takes one look at each byte.
 /// `None` says nothing of the bytes.
-///
-/// One number is read at one place for all words, so that there is little enough code to stand where lines are taken.
 #[inline(always)]
 pub fn quick_command(bytes: &[u8], world: WorldKind, end: u8) -> Option<(Command, usize)>
     ensures { IfSome result (λ r. IsCommandBefore end world bytes.now r.0 r.1) }
 {
     let word = first_four(bytes)?;
-    let names = world.gives_names();
-    if word == PUT && names {
+    if word == STEP {
+        let [_, _, _, _, b' ', number @ ..] = bytes else {
+            return None;
+        };
+        let (id, count) = quick_number(number, end)?;
+        return Some((Command::Event(Event::Step(id)), count + 5));
+    }
+    if word == BEGIN {
+        let [_, _, _, _, b'n', b' ', number @ ..] = bytes else {
+            return None;
+        };
+        let (id, count) = quick_number(number, end)?;
+        return Some((Command::Event(Event::Begin(id)), count + 6));
+    }
+    if world.gives_names() {
+        return quick_desk_command(bytes, word, end);
+    }
+    None
+}
+
+/// As `quick_command`, of the words that only a desk knows, by the first four bytes. One number is read at one place for all of them, so
+/// that there is little enough code to stand where lines are taken.
+#[inline(always)]
+fn quick_desk_command(bytes: &[u8], word: u32, end: u8) -> Option<(Command, usize)>
+    requires inside { 4 ≤ length bytes.now }
+    requires word { word ≡ word_of_four bytes.now }
+    ensures { IfSome result (λ r. IsDeskCommandBefore end bytes.now r.0 r.1) }
+{
+    if word == PUT {
         return quick_put(bytes, end);
     }
-    let from = number_from(bytes, word, names)?;
+    let from = number_from(bytes, word)?;
     let (id, count) = quick_number(&bytes[from..], end)?;
     let event = match word {
-        STEP => Event::Step(id),
-        BEGIN => Event::Begin(id),
         PROBE => Event::Probe(id),
         ENTER => Event::Enter(id),
         LEAVE => Event::Leave(id),
@@ -184,10 +192,8 @@ const SIXES: u64 = 0x0606_0606_0606_0606;
 fn eight_digits(text: &[u8]) -> Option<u64>
     ensures { IfSome result (λ digits. (value : ℕ) → ((a b c d e f g h : ℕ) → AreDigitsOf digits a b c d e f g h → value ≡ number_of_eight a b c d e f g h) → DigitsSoFar text.now value 8) }
 {
-    let [a, b, c, d, e, f, g, h, ..] = text else {
-        return None;
-    };
-    let word = u64::from_le_bytes([*a, *b, *c, *d, *e, *f, *g, *h]);
+    let bytes = text.first_chunk::<8>()?;
+    let word = u64::from_le_bytes(*bytes);
     if word & UPPER_HALVES != ZEROS {
         return None;
     }

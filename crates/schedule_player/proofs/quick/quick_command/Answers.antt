@@ -1,67 +1,21 @@
-use Rattle.std.proofs.Common.{◌≡◌, ◌+◌, ◌≤◌, ◌<◌, ℕ, true, arith, codes, drop, get_or, length, refl, sym, ◌∙◌}
-use Rattle.commands.specs.Config.{gives_names}
-use Rattle.commands.specs.declared.event.Event.TheVariants.{Begin, Step, Enter, Probe, Leave, Get}
+use Rattle.std.proofs.Common.{◌+◌, arith, codes, drop, refl}
+use Rattle.commands.specs.declared.event.Event.TheVariants.{Begin, Step}
 use Rattle.commands.specs.declared.command.Command.TheVariants as command
-use Rattle.schedule_player.specs.Quick.{word_of_four}
-use Rattle.schedule_player.proofs.QuickLemmas.{first_bytes, first_of_one, four_and_more, five_and_more, six_and_more, rest_of-slice}
+use Rattle.schedule_player.proofs.QuickLemmas.{first_bytes, first_of_one, five_and_more, six_and_more, rest_of-slice}
 use Rattle.schedule_player.proofs.quick.quick_command.Goals as goal
-use Rattle.schedule_player.proofs.quick.quick_command.Goals.{in-1885697139, in-1768383842, in-1651470960, in-1702129253, in-1986094444, in-544499047}
 
-pub returns : goal.returns
-returns c =
+pub returns-then-word-eq-STEP : goal.returns-then-word-eq-STEP
+returns-then-word-eq-STEP c =
     let bytes = c.args.bytes.now in
-    let from = c.in_ok-from.from in
-    let count = c.in_ok-id.count in
-    let id = c.in_ok-id.id in
-    let small : (i : ℕ) → get_or bytes i 0 < 256 = λ i. (c.type_inv.bytes i).fits in
-    let word_is = c.in_ok-word.ensures.word in
-    let inside : from ≤ length bytes = c.in_ok-from.ensures.inside in
-    let number = rw (rest_of-slice bytes from inside) at c.in_ok-id.ensures in
-    elim c.match-word.branch [
-      | in-1885697139 w ↦
-        let is = w.in-1885697139.is in
-        let at = c.in_ok-from.ensures.step is in
-        let four = first_bytes bytes 115 116 101 112 small (omega arith) (omega arith) (omega arith) (omega arith) (omega (arith, word_is, is)) in
-        let whole = rw at.0 at number in
-        rw w.event-is (first_of_one c.args.end c.args.world (codes "step") bytes (drop 5 bytes) (λ id. command.Event (Step id)) id count (from + count)
-        (five_and_more bytes 115 116 101 112 32 (omega (arith, inside, at.0)) four.0 four.1 four.2 four.3 at.1) (omega (arith, at.0)) (omega arith) refl refl refl (λ digits is. rw is refl) whole)
-      | in-1768383842 w ↦
-        let is = w.in-1768383842.is in
-        let at = c.in_ok-from.ensures.begin is in
-        let four = first_bytes bytes 98 101 103 105 small (omega arith) (omega arith) (omega arith) (omega arith) (omega (arith, word_is, is)) in
-        let whole = rw at.0 at number in
-        rw w.event-is (first_of_one c.args.end c.args.world (codes "begin") bytes (drop 6 bytes) (λ id. command.Event (Begin id)) id count (from + count)
-        (six_and_more bytes 98 101 103 105 110 32 (omega (arith, inside, at.0)) four.0 four.1 four.2 four.3 at.1 at.2) (omega (arith, at.0)) (omega arith) refl refl refl (λ digits is. rw is refl) whole)
-      | in-1651470960 w ↦
-        let is = w.in-1651470960.is in
-        let at = c.in_ok-from.ensures.probe is in
-        let four = first_bytes bytes 112 114 111 98 small (omega arith) (omega arith) (omega arith) (omega arith) (omega (arith, word_is, is)) in
-        let desk : gives_names c.args.world ≡ true = sym c.gives_names-names.ensures ∙ at.3 in
-        let whole = rw at.0 at number in
-        rw w.event-is (first_of_one c.args.end c.args.world (codes "probe") bytes (drop 6 bytes) (λ id. command.Event (Probe id)) id count (from + count)
-        (six_and_more bytes 112 114 111 98 101 32 (omega (arith, inside, at.0)) four.0 four.1 four.2 four.3 at.1 at.2) (omega (arith, at.0)) (omega arith) refl refl refl (λ digits is. rw (desk, is) refl) whole)
-      | in-1702129253 w ↦
-        let is = w.in-1702129253.is in
-        let at = c.in_ok-from.ensures.enter is in
-        let four = first_bytes bytes 101 110 116 101 small (omega arith) (omega arith) (omega arith) (omega arith) (omega (arith, word_is, is)) in
-        let desk : gives_names c.args.world ≡ true = sym c.gives_names-names.ensures ∙ at.3 in
-        let whole = rw at.0 at number in
-        rw w.event-is (first_of_one c.args.end c.args.world (codes "enter") bytes (drop 6 bytes) (λ id. command.Event (Enter id)) id count (from + count)
-        (six_and_more bytes 101 110 116 101 114 32 (omega (arith, inside, at.0)) four.0 four.1 four.2 four.3 at.1 at.2) (omega (arith, at.0)) (omega arith) refl refl refl (λ digits is. rw (desk, is) refl) whole)
-      | in-1986094444 w ↦
-        let is = w.in-1986094444.is in
-        let at = c.in_ok-from.ensures.leave is in
-        let four = first_bytes bytes 108 101 97 118 small (omega arith) (omega arith) (omega arith) (omega arith) (omega (arith, word_is, is)) in
-        let desk : gives_names c.args.world ≡ true = sym c.gives_names-names.ensures ∙ at.3 in
-        let whole = rw at.0 at number in
-        rw w.event-is (first_of_one c.args.end c.args.world (codes "leave") bytes (drop 6 bytes) (λ id. command.Event (Leave id)) id count (from + count)
-        (six_and_more bytes 108 101 97 118 101 32 (omega (arith, inside, at.0)) four.0 four.1 four.2 four.3 at.1 at.2) (omega (arith, at.0)) (omega arith) refl refl refl (λ digits is. rw (desk, is) refl) whole)
-      | in-544499047 w ↦
-        let is = w.in-544499047.is in
-        let at = c.in_ok-from.ensures.get is in
-        let four = first_bytes bytes 103 101 116 32 small (omega arith) (omega arith) (omega arith) (omega arith) (omega (arith, word_is, is)) in
-        let desk : gives_names c.args.world ≡ true = sym c.gives_names-names.ensures ∙ at.1 in
-        let whole = rw at.0 at number in
-        rw w.event-is (first_of_one c.args.end c.args.world (codes "get") bytes (drop 4 bytes) (λ id. command.Event (Get id)) id count (from + count)
-        (four_and_more bytes 103 101 116 32 (omega (arith, inside, at.0)) four.0 four.1 four.2 four.3) (omega (arith, at.0)) (omega arith) refl refl refl (λ digits is. rw (desk, is) refl) whole)
-    ]
+    let four = first_bytes bytes 115 116 101 112 (λ i. (c.type_inv.bytes i).fits) (omega arith) (omega arith) (omega arith) (omega arith) (omega (arith, c.in_ok-word.ensures.word, c.if-word-eq-STEP.true)) in
+    let number = rw (rest_of-slice bytes 5 (omega arith)) at c.in_ok-id.ensures in
+    first_of_one c.args.end c.args.world (codes "step") bytes (drop 5 bytes) (λ id. command.Event (Step id)) c.in_ok-id.id c.in_ok-id.count (c.in_ok-id.count + 5)
+    (five_and_more bytes 115 116 101 112 32 (omega arith) four.0 four.1 four.2 four.3 (omega arith)) (omega arith) (omega arith) refl refl refl (λ digits is. rw is refl) number
+
+pub returns-then-word-eq-BEGIN : goal.returns-then-word-eq-BEGIN
+returns-then-word-eq-BEGIN c =
+    let bytes = c.args.bytes.now in
+    let four = first_bytes bytes 98 101 103 105 (λ i. (c.type_inv.bytes i).fits) (omega arith) (omega arith) (omega arith) (omega arith) (omega (arith, c.in_ok-word.ensures.word, c.if-word-eq-BEGIN.true)) in
+    let number = rw (rest_of-slice bytes 6 (omega arith)) at c.in_ok-id-2.ensures in
+    first_of_one c.args.end c.args.world (codes "begin") bytes (drop 6 bytes) (λ id. command.Event (Begin id)) c.in_ok-id-2.id c.in_ok-id-2.count (c.in_ok-id-2.count + 6)
+    (six_and_more bytes 98 101 103 105 110 32 (omega arith) four.0 four.1 four.2 four.3 (omega arith) (omega arith)) (omega arith) (omega arith) refl refl refl (λ digits is. rw is refl) number
