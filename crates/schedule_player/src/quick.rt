@@ -1,9 +1,10 @@
 //! The commands that most inputs are made of, in one pass over their bytes.
 
-ghost use Rattle.std.specs.Prelude.{◌≡◌, ◌+◌, ◌≤◌, ◌<◌, ℕ, true, length, drop, slice_index, IfSome};
+ghost use Rattle.std.specs.Prelude.{◌≡◌, ◌≢◌, ◌+◌, ◌≤◌, ◌<◌, ℕ, true, length, drop, Some, IfSome};
+ghost use Rattle.commands.specs.Config.{gives_names};
 ghost use Rattle.schedule_player.specs.Digits.{DigitsSoFar, AreDigitsOf, number_of_eight};
 ghost use Rattle.schedule_player.specs.Quick.{IsCommandBefore, IsDeskCommandBefore, IsNumberBefore, word_of_four};
-ghost use Rattle.schedule_player.specs.declared.quick.TheConstants.{PROBE, ENTER, LEAVE, GET, PUT};
+ghost use Rattle.schedule_player.specs.declared.quick.TheConstants.{BEGIN, PROBE, ENTER, LEAVE};
 
 use commands::{Command, Event, WorldKind};
 
@@ -37,36 +38,6 @@ fn first_four(bytes: &[u8]) -> Option<u32>
     Some(u32::from_le_bytes([*a, *b, *c, *d]))
 }
 
-/// Where the number begins behind a word of five letters, of which this is the last.
-#[inline(always)]
-fn behind_five(bytes: &[u8], last: u8) -> Option<usize>
-    ensures { IfSome result (λ from. (from ≡ 6) × (6 ≤ length bytes.now) × (slice_index bytes.now 4 ≡ last) × (slice_index bytes.now 5 ≡ 32)) }
-{
-    if bytes.len() < 6 || bytes[4] != last || bytes[5] != SPACE {
-        return None;
-    }
-    Some(6)
-}
-
-/// Where the number begins behind a desk's word that takes one, by the word's first four bytes.
-#[inline(always)]
-fn number_from(bytes: &[u8], word: u32) -> Option<usize>
-    requires { 4 ≤ length bytes.now }
-    ensures inside { IfSome result (λ from. from ≤ length bytes.now) }
-    ensures probe { word ≡ PROBE → IfSome result (λ from. (from ≡ 6) × (slice_index bytes.now 4 ≡ 101) × (slice_index bytes.now 5 ≡ 32)) }
-    ensures enter { word ≡ ENTER → IfSome result (λ from. (from ≡ 6) × (slice_index bytes.now 4 ≡ 114) × (slice_index bytes.now 5 ≡ 32)) }
-    ensures leave { word ≡ LEAVE → IfSome result (λ from. (from ≡ 6) × (slice_index bytes.now 4 ≡ 101) × (slice_index bytes.now 5 ≡ 32)) }
-    ensures get { word ≡ GET → IfSome result (λ from. from ≡ 4) }
-{
-    match word {
-        PROBE => behind_five(bytes, b'e'),
-        ENTER => behind_five(bytes, b'r'),
-        LEAVE => behind_five(bytes, b'e'),
-        GET => Some(4),
-        _ => None,
-    }
-}
-
 /// The command that the bytes before the first of this byte mean, and where that stands, where it takes one look at each byte.
 /// `None` says nothing of the bytes.
 #[inline(always)]
@@ -81,53 +52,91 @@ pub fn quick_command(bytes: &[u8], world: WorldKind, end: u8) -> Option<(Command
         let (id, count) = quick_number(number, end)?;
         return Some((Command::Event(Event::Step(id)), count + 5));
     }
-    if word == BEGIN {
-        let [_, _, _, _, b'n', b' ', number @ ..] = bytes else {
-            return None;
-        };
-        let (id, count) = quick_number(number, end)?;
-        return Some((Command::Event(Event::Begin(id)), count + 6));
+    if word != BEGIN && !world.gives_names() {
+        return None;
     }
-    if world.gives_names() {
-        return quick_desk_command(bytes, word, end);
+    match last_of_five(word) {
+        Some(last) => quick_five(bytes, word, last, world, end),
+        None => quick_three(bytes, word, end),
     }
-    None
 }
 
-/// As `quick_command`, of the words that only a desk knows, by the first four bytes. One number is read at one place for all of them, so
+/// The last letter of a word of five that takes one number, by its first four bytes.
+#[inline(always)]
+fn last_of_five(word: u32) -> Option<u8>
+    ensures begin { word ≡ BEGIN → result ≡ Some 110 }
+    ensures probe { word ≡ PROBE → result ≡ Some 101 }
+    ensures enter { word ≡ ENTER → result ≡ Some 114 }
+    ensures leave { word ≡ LEAVE → result ≡ Some 101 }
+{
+    match word {
+        BEGIN => Some(b'n'),
+        PROBE => Some(b'e'),
+        ENTER => Some(b'r'),
+        LEAVE => Some(b'e'),
+        _ => None,
+    }
+}
+
+/// As `quick_command`, of a word of five letters, by its first four bytes and its last. The number is read at one place for all of them, so
 /// that there is little enough code to stand where lines are taken.
 #[inline(always)]
-fn quick_desk_command(bytes: &[u8], word: u32, end: u8) -> Option<(Command, usize)>
+fn quick_five(
+    bytes: &[u8],
+    word: u32,
+    last: u8,
+    world: WorldKind,
+    end: u8,
+) -> Option<(Command, usize)>
+    requires inside { 4 ≤ length bytes.now }
+    requires word { word ≡ word_of_four bytes.now }
+    requires begin { word ≡ BEGIN → last ≡ 110 }
+    requires probe { word ≡ PROBE → last ≡ 101 }
+    requires enter { word ≡ ENTER → last ≡ 114 }
+    requires leave { word ≡ LEAVE → last ≡ 101 }
+    requires names { word ≢ BEGIN → gives_names world ≡ true }
+    ensures { IfSome result (λ r. IsCommandBefore end world bytes.now r.0 r.1) }
+{
+    if bytes.len() < 6 {
+        return None;
+    }
+    if bytes[4] != last {
+        return None;
+    }
+    if bytes[5] != SPACE {
+        return None;
+    }
+    let (id, count) = quick_number(&bytes[6..], end)?;
+    let event = match word {
+        BEGIN => Event::Begin(id),
+        PROBE => Event::Probe(id),
+        ENTER => Event::Enter(id),
+        LEAVE => Event::Leave(id),
+        _ => return None,
+    };
+    Some((Command::Event(event), count + 6))
+}
+
+/// As `quick_command`, of a desk's words of three letters, by their first four bytes.
+#[inline(never)]
+fn quick_three(bytes: &[u8], word: u32, end: u8) -> Option<(Command, usize)>
     requires inside { 4 ≤ length bytes.now }
     requires word { word ≡ word_of_four bytes.now }
     ensures { IfSome result (λ r. IsDeskCommandBefore end bytes.now r.0 r.1) }
 {
-    if word == PUT {
-        return quick_put(bytes, end);
-    }
-    let from = number_from(bytes, word)?;
-    let (id, count) = quick_number(&bytes[from..], end)?;
-    let event = match word {
-        PROBE => Event::Probe(id),
-        ENTER => Event::Enter(id),
-        LEAVE => Event::Leave(id),
-        GET => Event::Get(id),
-        _ => return None,
-    };
-    Some((Command::Event(event), from + count))
-}
-
-/// As `quick_command`, of bytes that begin with the word of two numbers, which only a desk knows.
-#[inline(never)]
-fn quick_put(bytes: &[u8], end: u8) -> Option<(Command, usize)>
-    requires inside { 4 ≤ length bytes.now }
-    requires word { word_of_four bytes.now ≡ PUT }
-    ensures { IfSome result (λ r. IsDeskCommandBefore end bytes.now r.0 r.1) }
-{
     let numbers = &bytes[4..];
-    let (id, first) = quick_number(numbers, SPACE)?;
-    let (value, second) = quick_number(&numbers[first + 1..], end)?;
-    Some((Command::Event(Event::Put(id, value)), first + second + 5))
+    match word {
+        GET => {
+            let (id, count) = quick_number(numbers, end)?;
+            Some((Command::Event(Event::Get(id)), count + 4))
+        }
+        PUT => {
+            let (id, first) = quick_number(numbers, SPACE)?;
+            let (value, second) = quick_number(&numbers[first + 1..], end)?;
+            Some((Command::Event(Event::Put(id, value)), first + second + 5))
+        }
+        _ => None,
+    }
 }
 
 /// The most digits whose number surely fits in 64 bits.
