@@ -1,7 +1,7 @@
 use Rattle.std.proofs.Common.{◌+◌, arith, codes, drop, refl}
-use Rattle.commands.specs.declared.event.Event.TheVariants.{Begin, Step}
+use Rattle.commands.specs.declared.event.Event.TheVariants.{Step}
 use Rattle.commands.specs.declared.command.Command.TheVariants as command
-use Rattle.schedule_player.proofs.QuickLemmas.{first_bytes, first_of_one, five_and_more, six_and_more, rest_of-slice}
+use Rattle.schedule_player.proofs.QuickLemmas.{first_bytes, first_of_one, five_and_more, rest_of-slice}
 use Rattle.schedule_player.proofs.quick.quick_command.Goals as goal
 
 pub returns-then-word-eq-STEP : goal.returns-then-word-eq-STEP
