@@ -312,13 +312,35 @@ impl<P: Numbered> World for Desk<P> {
     }
 }
 
+/// The number of the first eight bytes, where all of them are digits, tested and read as one word.
+#[inline(always)]
+fn eight(text: &[u8]) -> Option<u64> {
+    const UPPER: u64 = 0xf0f0_f0f0_f0f0_f0f0;
+    const ZEROS: u64 = 0x3030_3030_3030_3030;
+    let word = u64::from_le_bytes(text.get(..8)?.try_into().unwrap());
+    let digits = word.wrapping_sub(ZEROS);
+    if word & UPPER != ZEROS || digits.wrapping_add(0x0606_0606_0606_0606) & UPPER != 0 {
+        return None;
+    }
+    let pairs = digits.wrapping_mul(10).wrapping_add(digits >> 8);
+    let first = (pairs & 0xff_0000_00ff).wrapping_mul(100 + (1_000_000 << 32));
+    let second = ((pairs >> 16) & 0xff_0000_00ff).wrapping_mul(1 + (10_000 << 32));
+    Some(first.wrapping_add(second) >> 32)
+}
+
 /// The number at the front of these bytes, and how many digits it has.
 #[inline(always)]
 fn number(text: &[u8]) -> Option<(u64, usize)> {
-    let mut value = 0u64;
-    let mut at = 0;
-    while let Some(byte) = text.get(at).filter(|byte| byte.is_ascii_digit()) {
-        value = value.checked_mul(10)?.checked_add(u64::from(byte - b'0'))?;
+    let (mut value, mut at) = (0u64, 0);
+    if let Some(high) = eight(text) {
+        (value, at) = (high, 8);
+        if let Some(low) = eight(&text[8..]) {
+            (value, at) = (high * 100_000_000 + low, 16);
+        }
+    }
+    while let Some(digit) = text.get(at).map(|byte| byte.wrapping_sub(b'0')).filter(|digit| *digit < 10) {
+        let digit = u64::from(digit);
+        value = if at < 19 { value * 10 + digit } else { value.checked_mul(10)?.checked_add(digit)? };
         at += 1;
     }
     if at == 0 || (text[0] == b'0' && at != 1) {
