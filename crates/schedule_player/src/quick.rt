@@ -199,7 +199,8 @@ const SIXES: u64 = 0x0606_0606_0606_0606;
 /// The first eight bytes as a word less that of eight digits 0, where all of them are digits: they are tested as one word.
 #[inline(always)]
 fn eight_digits(text: &[u8]) -> Option<u64>
-    ensures { IfSome result (λ digits. (value : ℕ) → ((a b c d e f g h : ℕ) → AreDigitsOf digits a b c d e f g h → value ≡ number_of_eight a b c d e f g h) → DigitsSoFar text.now value 8) }
+    ensures { IfSome result (λ digits. (value : ℕ) → ((a b c d e f g h : ℕ) → AreDigitsOf digits a b c d e f g h → value ≡ number_of_eight a b c d e f g h) →
+        DigitsSoFar text.now value 8) }
 {
     let bytes = text.first_chunk::<8>()?;
     let word = u64::from_le_bytes(*bytes);
@@ -229,7 +230,8 @@ fn value_of_eight(digits: u64) -> u64
 #[inline(always)]
 fn with_eight(text: &[u8], first: u64, next: u64) -> u64
     requires read { DigitsSoFar text.now first 4 }
-    requires next { (value : ℕ) → ((a b c d e f g h : ℕ) → AreDigitsOf next a b c d e f g h → value ≡ number_of_eight a b c d e f g h) → DigitsSoFar (drop 4 text.now) value 8 }
+    requires next { (value : ℕ) → ((a b c d e f g h : ℕ) → AreDigitsOf next a b c d e f g h → value ≡ number_of_eight a b c d e f g h) →
+        DigitsSoFar (drop 4 text.now) value 8 }
     ensures { DigitsSoFar text.now result 12 }
 {
     first * 100_000_000 + value_of_eight(next)
