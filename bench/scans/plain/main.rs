@@ -3,6 +3,8 @@
 // What a reply holds is for its caller, and the loops below read none of it.
 #![allow(dead_code)]
 
+mod lines;
+
 use std::env;
 
 #[derive(Clone, Copy)]
@@ -722,6 +724,9 @@ fn draws<P: Places>(steps: u64, runs: u64) {
 
 fn main() {
     let words: Vec<String> = env::args().collect();
+    if words[1] == "play" {
+        return lines::play(&words[2..]);
+    }
     let turns: u64 = words[2].parse().unwrap();
     match words[1].as_str() {
         "draws" => return draws::<Grid>(turns, words[3].parse().unwrap()),

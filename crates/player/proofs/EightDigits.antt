@@ -1,5 +1,5 @@
 -- eight digits that are read as one word
-use Rattle.std.proofs.Common.{◌≡◌, ℕ, ◌+◌, ◌-◌, ◌*◌, ◌/◌, ◌%◌, ◌^◌, ◌<◌, ◌≤◌, bit_and, List, [], ◌∷◌, length, get_or, refl, sym, ap, ◌∙◌, arith}
+use Rattle.std.proofs.Common.{◌≡◌, ℕ, ◌+◌, ◌-◌, ◌*◌, ◌/◌, ◌%◌, ◌^◌, ◌<◌, ◌≤◌, bit_and, List, [], ◌∷◌, length, take, get_or, refl, sym, ap, ◌∙◌, arith}
 use Rattle.std.proofs.lemmas.Nat.{and_block, and_mask, and_shr, and_mod}
 use Rattle.std.proofs.lemmas.Nat.Bits.{and_high}
 use Rattle.std.proofs.Math.Nat.{mod-eq_of_lt}
@@ -188,3 +188,13 @@ eight_read (a ∷ b ∷ c ∷ d ∷ e ∷ f ∷ g ∷ h ∷ rest) word value lon
       small = rw number (small_number (a - 48) (b - 48) (c - 48) (d - 48) (e - 48) (f - 48) (g - 48) (h - 48) fa fb fc fd fe ff fg fh);
     }
 eight_read _ word value long small word_is first second says = absurd (omega arith)
+
+-- of which the word is that of their first eight as an array
+pub first_eight_read : (text front : List ℕ) (word value : ℕ) → 8 ≤ length text → ((i : ℕ) → get_or text i 0 < 256) → front ≡ take 8 text →
+    word ≡ get_or front 0 0 + get_or front 1 0 * 256 ^ 1 + get_or front 2 0 * 256 ^ 2 + get_or front 3 0 * 256 ^ 3 + get_or front 4 0 * 256 ^ 4 + get_or front 5 0 * 256 ^ 5 + get_or front 6 0 * 256 ^ 6 + get_or front 7 0 * 256 ^ 7 →
+    bit_and word 0xf0f0_f0f0_f0f0_f0f0 ≡ 0x3030_3030_3030_3030 → bit_and (word - 0x3030_3030_3030_3030 + 0x0606_0606_0606_0606) 0xf0f0_f0f0_f0f0_f0f0 ≡ 0 →
+    ((a b c d e f g h : ℕ) → AreDigitsOf (word - 0x3030_3030_3030_3030) a b c d e f g h → value ≡ number_of_eight a b c d e f g h) →
+    DigitsSoFar text value 8
+first_eight_read (a ∷ b ∷ c ∷ d ∷ e ∷ f ∷ g ∷ h ∷ rest) front word value long small is word_is first second says =
+    eight_read (a ∷ b ∷ c ∷ d ∷ e ∷ f ∷ g ∷ h ∷ rest) word value long small (rw is at word_is) first second says
+first_eight_read _ front word value long small is word_is first second says = absurd (omega arith)

@@ -48,15 +48,16 @@ decimal_from-eight : (n last : ℕ) (rest : List ℕ) → 8 ≤ length rest → 
 decimal_from-eight n last (a ∷ b ∷ c ∷ d ∷ e ∷ f ∷ g ∷ h ∷ rest) le is = omega (arith, is)
 decimal_from-eight n last _ le is = absurd (omega arith)
 
--- after twelve digits eight more
-pub eight_digits_more : (text : List ℕ) (value last : ℕ) → DigitsSoFar text value 12 → DigitsSoFar (drop 12 text) last 8 → DigitsSoFar text (value * 100000000 + last) 20
-eight_digits_more text value last d more =
-    let rest : List ℕ = drop 12 text in
-    let split : take 20 text ≡ take 12 text ++ take 8 rest = take-add 12 8 text in
+-- after so many digits eight more
+pub eight_digits_more : (text : List ℕ) (value last count : ℕ) → 10 ^ (count + 8) ≡ 10 ^ count * 100000000 → DigitsSoFar text value count → DigitsSoFar (drop count text) last 8 →
+    DigitsSoFar text (value * 100000000 + last) (count + 8)
+eight_digits_more text value last count power d more =
+    let rest : List ℕ = drop count text in
+    let split : take (count + 8) text ≡ take count text ++ take 8 rest = take-add count 8 text in
     record {
-      inside = (let inside = more.inside in omega (arith, length-drop 12 text));
-      digits = rw split (list_all-append is_digit (take 12 text) (take 8 rest) ∙ rw (d.digits, more.digits) refl);
-      value_is = sym (ap (decimal_from 0) split ∙ decimal_from-append 0 (take 12 text) (take 8 rest) ∙ ap (λ n. decimal_from n (take 8 rest)) (sym d.value_is) ∙ decimal_from-eight value last rest more.inside more.value_is);
+      inside = (let inside = more.inside in omega (arith, length-drop count text));
+      digits = rw split (list_all-append is_digit (take count text) (take 8 rest) ∙ rw (d.digits, more.digits) refl);
+      value_is = sym (ap (decimal_from 0) split ∙ decimal_from-append 0 (take count text) (take 8 rest) ∙ ap (λ n. decimal_from n (take 8 rest)) (sym d.value_is) ∙ decimal_from-eight value last rest more.inside more.value_is);
       small = (let small = d.small in let few = more.small in omega arith);
     }
 

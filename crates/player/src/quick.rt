@@ -1,8 +1,10 @@
 //! The commands that most inputs are made of, in one pass over their bytes.
 
-ghost use Rattle.std.specs.Prelude.{◌≡◌, ◌+◌, ◌≤◌, ◌<◌, ℕ, true, length, IfSome};
+ghost use Rattle.std.specs.Prelude.{◌≡◌, ◌≢◌, ◌+◌, ◌≤◌, ◌<◌, ℕ, true, length, drop, Some, IfSome};
+ghost use Rattle.commands.specs.Config.{gives_names};
 ghost use Rattle.player.specs.Digits.{DigitsSoFar, AreDigitsOf, number_of_eight};
 ghost use Rattle.player.specs.Quick.{IsCommandBefore, IsDeskCommandBefore, IsNumberBefore, word_of_four};
+ghost use Rattle.player.specs.declared.quick.TheConstants.{BEGIN, PROBE, ENTER, LEAVE};
 
 use commands::{Command, Event, WorldKind};
 
@@ -50,54 +52,85 @@ pub fn quick_command(bytes: &[u8], world: WorldKind, end: u8) -> Option<(Command
         let (id, count) = quick_number(number, end)?;
         return Some((Command::Event(Event::Step(id)), count + 5));
     }
-    if word == BEGIN {
-        let [_, _, _, _, b'n', b' ', number @ ..] = bytes else {
-            return None;
-        };
-        let (id, count) = quick_number(number, end)?;
-        return Some((Command::Event(Event::Begin(id)), count + 6));
+    if word != BEGIN && !world.gives_names() {
+        return None;
     }
-    if world.gives_names() {
-        return quick_desk_command(bytes, word, end);
+    match last_of_five(word) {
+        Some(last) => quick_five(bytes, word, last, world, end),
+        None => quick_three(bytes, word, end),
     }
-    None
 }
 
-/// As `quick_command`, of the words that only a desk knows, by the first four bytes.
+/// The last letter of a word of five that takes one number, by its first four bytes.
 #[inline(always)]
-fn quick_desk_command(bytes: &[u8], word: u32, end: u8) -> Option<(Command, usize)>
+fn last_of_five(word: u32) -> Option<u8>
+    ensures begin { word ≡ BEGIN → result ≡ Some 110 }
+    ensures probe { word ≡ PROBE → result ≡ Some 101 }
+    ensures enter { word ≡ ENTER → result ≡ Some 114 }
+    ensures leave { word ≡ LEAVE → result ≡ Some 101 }
+{
+    match word {
+        BEGIN => Some(b'n'),
+        PROBE => Some(b'e'),
+        ENTER => Some(b'r'),
+        LEAVE => Some(b'e'),
+        _ => None,
+    }
+}
+
+/// As `quick_command`, of a word of five letters, by its first four bytes and its last. The number is read at one place for all of them, so
+/// that there is little enough code to stand where lines are taken.
+#[inline(always)]
+fn quick_five(
+    bytes: &[u8],
+    word: u32,
+    last: u8,
+    world: WorldKind,
+    end: u8,
+) -> Option<(Command, usize)>
+    requires inside { 4 ≤ length bytes.now }
+    requires word { word ≡ word_of_four bytes.now }
+    requires begin { word ≡ BEGIN → last ≡ 110 }
+    requires probe { word ≡ PROBE → last ≡ 101 }
+    requires enter { word ≡ ENTER → last ≡ 114 }
+    requires leave { word ≡ LEAVE → last ≡ 101 }
+    requires names { word ≢ BEGIN → gives_names world ≡ true }
+    ensures { IfSome result (λ r. IsCommandBefore end world bytes.now r.0 r.1) }
+{
+    if bytes.len() < 6 {
+        return None;
+    }
+    if bytes[4] != last {
+        return None;
+    }
+    if bytes[5] != SPACE {
+        return None;
+    }
+    let (id, count) = quick_number(&bytes[6..], end)?;
+    let event = match word {
+        BEGIN => Event::Begin(id),
+        PROBE => Event::Probe(id),
+        ENTER => Event::Enter(id),
+        LEAVE => Event::Leave(id),
+        _ => return None,
+    };
+    Some((Command::Event(event), count + 6))
+}
+
+/// As `quick_command`, of a desk's words of three letters, by their first four bytes.
+#[inline(never)]
+fn quick_three(bytes: &[u8], word: u32, end: u8) -> Option<(Command, usize)>
     requires inside { 4 ≤ length bytes.now }
     requires word { word ≡ word_of_four bytes.now }
     ensures { IfSome result (λ r. IsDeskCommandBefore end bytes.now r.0 r.1) }
 {
+    let numbers = &bytes[4..];
     match word {
-        PROBE => {
-            let [_, _, _, _, b'e', b' ', number @ ..] = bytes else {
-                return None;
-            };
-            let (id, count) = quick_number(number, end)?;
-            Some((Command::Event(Event::Probe(id)), count + 6))
-        }
-        ENTER => {
-            let [_, _, _, _, b'r', b' ', number @ ..] = bytes else {
-                return None;
-            };
-            let (id, count) = quick_number(number, end)?;
-            Some((Command::Event(Event::Enter(id)), count + 6))
-        }
-        LEAVE => {
-            let [_, _, _, _, b'e', b' ', number @ ..] = bytes else {
-                return None;
-            };
-            let (id, count) = quick_number(number, end)?;
-            Some((Command::Event(Event::Leave(id)), count + 6))
-        }
         GET => {
-            let (id, count) = quick_number(&bytes[4..], end)?;
+            let (id, count) = quick_number(numbers, end)?;
             Some((Command::Event(Event::Get(id)), count + 4))
         }
         PUT => {
-            let numbers = &bytes[4..];
             let (id, first) = quick_number(numbers, SPACE)?;
             let (value, second) = quick_number(&numbers[first + 1..], end)?;
             Some((Command::Event(Event::Put(id, value)), first + second + 5))
@@ -130,19 +163,27 @@ pub fn quick_number(text: &[u8], end: u8) -> Option<(u64, usize)>
     long_number(text, four, end)
 }
 
-/// As `quick_number`, after four digits, with eight digits at once where so many stand there.
+/// As `quick_number`, after four digits, with eight digits at once where so many stand there. Both words are tested before either is made a
+/// number, so that the constants of the tests and those of the numbers do not want registers at once.
 #[inline(always)]
 fn long_number(text: &[u8], first: u64, end: u8) -> Option<(u64, usize)>
     requires read { DigitsSoFar text.now first 4 }
     ensures { IfSome result (λ r. IsNumberBefore end text.now r.0 r.1) }
 {
-    let Some(twelve) = eight_more(text, first) else {
+    if text.len() < 21 {
+        return few_digits(text, first, 4, end);
+    }
+    let Some(next) = eight_digits(&text[4..]) else {
         return few_digits(text, first, 4, end);
     };
-    let Some(eight) = eight_digits(&text[12..]) else {
+    let Some(last) = eight_digits(&text[12..]) else {
+        let twelve = with_eight(text, first, next);
         return few_digits(text, twelve, 12, end);
     };
-    let twenty = twelve.checked_mul(100_000_000)?.checked_add(eight)?;
+    let twelve = with_eight(text, first, next);
+    let twenty = twelve
+        .checked_mul(100_000_000)?
+        .checked_add(value_of_eight(last))?;
     number_before(text, twenty, 20, end)
 }
 
@@ -155,15 +196,14 @@ const ZEROS: u64 = 0x3030_3030_3030_3030;
 /// What leaves the upper half of each byte 0 just where the byte is below 10.
 const SIXES: u64 = 0x0606_0606_0606_0606;
 
-/// The number of the first eight bytes, where all of them are digits: they are tested as one word.
+/// The first eight bytes as a word less that of eight digits 0, where all of them are digits: they are tested as one word.
 #[inline(always)]
 fn eight_digits(text: &[u8]) -> Option<u64>
-    ensures { IfSome result (λ value. DigitsSoFar text.now value 8) }
+    ensures { IfSome result (λ digits. (value : ℕ) → ((a b c d e f g h : ℕ) → AreDigitsOf digits a b c d e f g h → value ≡ number_of_eight a b c d e f g h) →
+        DigitsSoFar text.now value 8) }
 {
-    let [a, b, c, d, e, f, g, h, ..] = text else {
-        return None;
-    };
-    let word = u64::from_le_bytes([*a, *b, *c, *d, *e, *f, *g, *h]);
+    let bytes = text.first_chunk::<8>()?;
+    let word = u64::from_le_bytes(*bytes);
     if word & UPPER_HALVES != ZEROS {
         return None;
     }
@@ -171,7 +211,7 @@ fn eight_digits(text: &[u8]) -> Option<u64>
     if (digits + SIXES) & UPPER_HALVES != 0 {
         return None;
     }
-    Some(value_of_eight(digits))
+    Some(digits)
 }
 
 /// The number that the eight digits of a word write, the first in the lowest byte. Each digit and the next are a pair; two
@@ -186,14 +226,15 @@ fn value_of_eight(digits: u64) -> u64
     first.wrapping_add(second) >> 32
 }
 
-/// The number of the first twelve bytes, of which the first four write this one, where the next eight are digits too.
+/// The number of the first twelve bytes, of which the first four write this one, and the next eight are these digits.
 #[inline(always)]
-fn eight_more(text: &[u8], first: u64) -> Option<u64>
-    requires { DigitsSoFar text.now first 4 }
-    ensures { IfSome result (λ value. DigitsSoFar text.now value 12) }
+fn with_eight(text: &[u8], first: u64, next: u64) -> u64
+    requires read { DigitsSoFar text.now first 4 }
+    requires next { (value : ℕ) → ((a b c d e f g h : ℕ) → AreDigitsOf next a b c d e f g h → value ≡ number_of_eight a b c d e f g h) →
+        DigitsSoFar (drop 4 text.now) value 8 }
+    ensures { DigitsSoFar text.now result 12 }
 {
-    let next = eight_digits(&text[4..])?;
-    Some(first * 100_000_000 + next)
+    first * 100_000_000 + value_of_eight(next)
 }
 
 /// As `quick_number`, digit by digit, after the digits that were read. Answers none for more digits than surely fit.
@@ -224,11 +265,11 @@ fn one_more(text: &[u8], value: u64, count: usize) -> Option<u64>
     requires sure { count < SURE_DIGITS }
     ensures { IfSome result (λ new. DigitsSoFar text.now new (count + 1)) }
 {
-    let byte = u64::from(text[count]);
-    if byte < 48 || 57 < byte {
+    let digit = u64::from(text[count]).wrapping_sub(48);
+    if 9 < digit {
         return None;
     }
-    Some(value * 10 + (byte - 48))
+    Some(value * 10 + digit)
 }
 
 /// This number, where its digits are no others than a number's, and this byte follows them.

@@ -1,7 +1,7 @@
 use Rattle.std.proofs.Common.{◌+◌, arith, codes, drop, refl}
-use Rattle.commands.specs.declared.event.Event.TheVariants.{Begin, Step}
+use Rattle.commands.specs.declared.event.Event.TheVariants.{Step}
 use Rattle.commands.specs.declared.command.Command.TheVariants as command
-use Rattle.player.proofs.QuickLemmas.{first_bytes, first_of_one, five_and_more, six_and_more, rest_of-slice}
+use Rattle.player.proofs.QuickLemmas.{first_bytes, first_of_one, five_and_more, rest_of-slice}
 use Rattle.player.proofs.quick.quick_command.Goals as goal
 
 pub returns-then-word-eq-STEP : goal.returns-then-word-eq-STEP
@@ -11,11 +11,3 @@ returns-then-word-eq-STEP c =
     let number = rw (rest_of-slice bytes 5 (omega arith)) at c.in_ok-id.ensures in
     first_of_one c.args.end c.args.world (codes "step") bytes (drop 5 bytes) (λ id. command.Event (Step id)) c.in_ok-id.id c.in_ok-id.count (c.in_ok-id.count + 5)
     (five_and_more bytes 115 116 101 112 32 (omega arith) four.0 four.1 four.2 four.3 (omega arith)) (omega arith) (omega arith) refl refl refl (λ digits is. rw is refl) number
-
-pub returns-then-word-eq-BEGIN : goal.returns-then-word-eq-BEGIN
-returns-then-word-eq-BEGIN c =
-    let bytes = c.args.bytes.now in
-    let four = first_bytes bytes 98 101 103 105 (λ i. (c.type_inv.bytes i).fits) (omega arith) (omega arith) (omega arith) (omega arith) (omega (arith, c.in_ok-word.ensures.word, c.if-word-eq-BEGIN.true)) in
-    let number = rw (rest_of-slice bytes 6 (omega arith)) at c.in_ok-id-2.ensures in
-    first_of_one c.args.end c.args.world (codes "begin") bytes (drop 6 bytes) (λ id. command.Event (Begin id)) c.in_ok-id-2.id c.in_ok-id-2.count (c.in_ok-id-2.count + 6)
-    (six_and_more bytes 98 101 103 105 110 32 (omega arith) four.0 four.1 four.2 four.3 (omega arith) (omega arith)) (omega arith) (omega arith) refl refl refl (λ digits is. rw is refl) number
