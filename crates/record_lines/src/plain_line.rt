@@ -53,8 +53,8 @@ pub fn after<'a>(bytes: &'a [u8], front: &[u8]) -> Option<&'a [u8]>
 }
 
 /// The event with which a line begins, in the world of this kind, and what stands from its reply on, where it takes one look at each
-/// byte. `None` says nothing of the bytes.
-#[inline(always)]
+/// byte. `None` says nothing of the bytes. A function of its own, so that what reads a line is short enough to stand in the loop over lines.
+#[inline(never)]
 fn plain_event(kind: WorldKind, bytes: &[u8]) -> Option<(Event, &[u8])>
     ensures { IfSome result (λ r. SpellsEvent kind bytes.now r.0 r.1.now) }
 {
