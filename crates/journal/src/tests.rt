@@ -3,8 +3,8 @@
 use crate::{Chronicle, Journal, JournalFault, OpenFault, Opened};
 use commands::{Config, Event, ShortReply, WorldKind};
 use journal_disk::{DiskFault, MemoryDisk};
-use run_checker::Verdict;
 use player::Service;
+use run_checker::Verdict;
 use std::alloc::Global;
 use std::process::Abort;
 use std::test::Fail;
