@@ -15,8 +15,8 @@ use crate::tally::Tally;
 use bumpalo::Bump;
 use commands::{Config, Event, ShortReply};
 use desk::Desk;
-use rand_pcg::Lcg64Xsh32;
 use player::{Fault, HELD_REPLIES, Replies, Sink, put_word};
+use rand_pcg::Lcg64Xsh32;
 use std::alloc::Allocator;
 use step_memory::{Refusal, View};
 

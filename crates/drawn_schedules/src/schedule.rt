@@ -9,10 +9,10 @@ ghost use Rattle.player.specs.UnderWay.{GoesPast, StopsWithin};
 ghost use Rattle.player.specs.Written.{HasPartOf};
 
 use commands::Event;
+use player::{EVENT_ROOM, Fault, Replies, Sink, print_event};
 use rand_core::SeedableRng;
 use rand_core::utils::NextWord;
 use rand_pcg::Lcg64Xsh32;
-use player::{EVENT_ROOM, Fault, Replies, Sink, print_event};
 use std::alloc::Allocator;
 
 /// The line of no event has more bytes.

@@ -13,9 +13,9 @@ use commands::{Config, Event, WorldKind};
 use journal_disk::DiskFault;
 use locked_world::Hall;
 use memchr::memchr;
+use player::{AsRecord, Form, Replies, print_header};
 use record_lines::{Version, read_line};
 use run_checker::{Verdict, check};
-use player::{AsRecord, Form, Replies, print_header};
 use std::alloc::{AllocError, Global};
 use step_memory::{NoMemory, Refusal, View};
 

@@ -8,8 +8,8 @@ ghost use Rattle.run_checker.specs.Verdict.{IsSaid};
 
 use crate::row_judge::RowJudge;
 use crate::verdict::Verdict;
-use record_lines::read_header;
 use player::words::cut;
+use record_lines::read_header;
 use std::alloc::{AllocError, Global};
 
 /// How far the lines of a record are judged.

@@ -9,9 +9,9 @@ ghost use Rattle.run_checker.specs.Verdict.{IsSaid};
 use crate::migration::Migration;
 use crate::record::{judge_rows, opened};
 use crate::verdict::Verdict;
-use record_lines::Text;
 use player::sink::put_all;
 use player::{Fault, Sink};
+use record_lines::Text;
 use std::alloc::{AllocError, Global};
 
 /// The text to which a record is migrated, or what else than Yes is said of it. An error where a growth was refused.

@@ -9,11 +9,11 @@ ghost use Rattle.run_page.specs.Shown.{IsPage, IsShown};
 
 use crate::sheet::Sheet;
 use crate::stretch::Stretch;
+use player::sink::put_all;
+use player::{Fault, Sink};
 use record_lines::Text;
 use run_checker::Verdict;
 use run_checker::record::{judge_rows, opened};
-use player::sink::put_all;
-use player::{Fault, Sink};
 use std::alloc::{AllocError, Global};
 
 /// The page of a record, or what else than Yes is said of it. An error where a growth was refused.

@@ -5,9 +5,9 @@ ghost use Rattle.player.specs.Played.{reading, writing};
 ghost use Rattle.run_checker.specs.declared.verdict.Verdict.{Verdict};
 ghost use Rattle.slot_work.specs.Checked.{HasFailedRead, IsChecked, IsJudgedWhole, IsWhole, verdict_status, verdict_text};
 
-use run_checker::{Judge, Verdict};
 use player::sink::put_all;
 use player::{Fault, MOST_READS, READ_BYTES, Replies, Sink, Source, put_word};
+use run_checker::{Judge, Verdict};
 use std::alloc::{Allocator, Global};
 
 /// All that the reader gives, read by way of a chunk.

@@ -5,9 +5,9 @@ ghost use Rattle.player.specs.Played.{reading, writing};
 ghost use Rattle.slot_work.specs.Checked.{IsRewritten};
 
 use crate::checking::{put_verdict, read_whole};
-use run_checker::{Verdict, migrate};
 use player::sink::put_all;
 use player::{Fault, READ_BYTES, Replies, Sink, Source};
+use run_checker::{Verdict, migrate};
 use std::alloc::Global;
 
 /// Reads a record to its end, and writes it again in version 2 where its verdict is yes, else the line of its verdict. Answers

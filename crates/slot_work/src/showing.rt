@@ -7,9 +7,9 @@ ghost use Rattle.slot_work.specs.Shown.{IsShownFor, outcome_shown, stretch_asked
 use crate::checking::read_whole;
 use crate::failure::Failure;
 use crate::outcome::Outcome;
+use player::{Fault, READ_BYTES, Sink, Source};
 use run_checker::Verdict;
 use run_page::{Stretch, show};
-use player::{Fault, READ_BYTES, Sink, Source};
 use slot_words::Showing;
 use std::alloc::Global;
 
