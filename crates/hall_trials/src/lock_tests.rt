@@ -49,14 +49,6 @@ fn applies(rt: &impl Abort, hall: &mut Hall, event: Event, want: &Reply) {
     assert!(rt; stored.event == event && stored.reply == reply, "{event:?}");
 }
 
-/// Applies events to a hall, with these replies. How long the history is then.
-fn all_apply(rt: &impl Abort, hall: &mut Hall, rows: &[(Event, Reply)]) -> usize {
-    for (event, want) in rows {
-        applies(rt, hall, *event, want);
-    }
-    hall.len()
-}
-
 /// Makes so many steps of 7, of which the last answers this and those before it are quiet.
 fn steps(rt: &impl Abort, hall: &mut Hall, count: usize, last: &Reply) {
     for _ in 1..count {
@@ -102,9 +94,8 @@ fn one_goes(
     length
 }
 
-/// One participant alone, in both worlds: a refused event leaves no trace in the history.
-#[test]
-fn one_in_a_hall(rt: HostRuntime) {
+/// One participant alone in a hall over a grid. How long the history is then.
+fn one_over_a_grid(rt: &impl Abort, alloc: Global) -> usize {
     let steps = [
         (4, Reply::Place(0)),
         (3, Reply::Proposed(1)),
@@ -115,47 +106,25 @@ fn one_in_a_hall(rt: HostRuntime) {
         (1, Reply::Owner(Some(7))),
         (2, Reply::Refused(Refusal::OutOfRange)),
     ];
-    let grid = one_goes(&rt, rt.alloc(), (WorldKind::Rename, 1, 4), &steps, &owners);
+    one_goes(rt, alloc, (WorldKind::Rename, 1, 4), &steps, &owners)
+}
+
+/// The same over a tree.
+fn one_over_a_tree(rt: &impl Abort, alloc: Global) -> usize {
     let steps = [
         (5, Reply::Place(1)),
         (9, Reply::Proposed(1)),
         (8, Reply::Named(1, sole(7, 1))),
     ];
     let owners = [(3, Reply::Owner(None))];
-    let tree = one_goes(&rt, rt.alloc(), (WorldKind::Tree, 2, 4), &steps, &owners);
-    assert_eq!(rt; (grid, tree), (10, 23));
+    one_goes(rt, alloc, (WorldKind::Tree, 2, 4), &steps, &owners)
 }
 
-/// The pool of a hall widens while its last number is held, and the history has that too.
+/// One participant alone, in both worlds: a refused event leaves no trace in the history.
 #[test]
-fn a_hall_whose_pool_widens(rt: HostRuntime) {
-    let mut hall = hall(&rt, rt.alloc(), (WorldKind::Tree, 4, 2));
-    let rows = [
-        (Event::Enter(5), Reply::Ok),
-        (Event::Probe(5), Reply::Got(1)),
-        (Event::Enter(6), Reply::Ok),
-        (Event::Probe(6), Reply::Got(2)),
-        (Event::Enter(7), Reply::Refused(Refusal::Crowded)),
-        (Event::Widen(2), Reply::Refused(Refusal::OutOfRange)),
-        (Event::Widen(4), Reply::Ok),
-        (Event::Enter(7), Reply::Ok),
-        (Event::Probe(7), Reply::Missed),
-        (Event::Probe(7), Reply::Missed),
-        (Event::Leave(6), Reply::Left(2)),
-        (Event::Probe(7), Reply::Got(3)),
-        (Event::Enter(8), Reply::Ok),
-        (Event::Probe(8), Reply::Missed),
-        (Event::Probe(8), Reply::Got(2)),
-        (Event::Enter(9), Reply::Ok),
-        (Event::Probe(9), Reply::Missed),
-        (Event::Probe(9), Reply::Missed),
-        (Event::Probe(9), Reply::Got(4)),
-        (Event::Enter(10), Reply::Refused(Refusal::Crowded)),
-        (Event::Put(9, 5), Reply::Ok),
-        (Event::Get(9), Reply::Value(5)),
-        (Event::Widen(65), Reply::Refused(Refusal::OutOfRange)),
-    ];
-    assert_eq!(rt; all_apply(&rt, &mut hall, &rows), 19);
+fn one_in_a_hall(rt: HostRuntime) {
+    assert!(rt; one_over_a_grid(&rt, rt.alloc()) == 10);
+    assert!(rt; one_over_a_tree(&rt, rt.alloc()) == 23);
 }
 
 /// Halls are opened where names are given alone.
@@ -221,14 +190,8 @@ fn clerk_applies<L: LockName, R: Abort + Wait>(
     }
 }
 
-/// The row of one participant alone, through a clerk. How many events the closed history has.
-fn one_by_clerk<L: LockName, R: Abort + Wait>(rt: &R, alloc: Global, opening: Opening) -> usize
-    requires name { (opening.blank.name ≡ L.name) × (opening.blank.parts ≡ L.parts) }
-    requires book { opening.history.seen.book ≡ L.book }
-    requires config { opening.config ≡ L.config }
-{
-    let lock = opened::<L>(rt, alloc, opening);
-    let mut clerk = lock.clerk(rt, alloc).expect(rt, "room for a clerk");
+/// The row of one participant alone, through a clerk.
+fn one_goes_by<L: LockName, R: Abort + Wait>(rt: &R, lock: &HallLock<L>, clerk: &mut Clerk<L>) {
     let step = Event::Step(7);
     let rows = [
         (Event::Begin(7), Reply::Ok),
@@ -243,14 +206,26 @@ fn one_by_clerk<L: LockName, R: Abort + Wait>(rt: &R, alloc: Global, opening: Op
         (step, Reply::Named(1, sole(7, 1))),
         (step, Reply::Refused(Refusal::Finished)),
     ];
-    clerk_applies(rt, &lock, &mut clerk, &rows);
+    clerk_applies(rt, lock, clerk, &rows);
+}
+
+/// Compares who has two names by a lock: 7, and one that is out of range.
+fn owners_by<L: LockName, R: Abort + Wait>(rt: &R, lock: &HallLock<L>) {
     is_told(rt, 1, &lock.owner(rt, 1), &Reply::Owner(Some(7)));
-    is_told(
-        rt,
-        2,
-        &lock.owner(rt, 2),
-        &Reply::Refused(Refusal::OutOfRange),
-    );
+    let refused = Reply::Refused(Refusal::OutOfRange);
+    is_told(rt, 2, &lock.owner(rt, 2), &refused);
+}
+
+/// One participant alone, through a clerk. How many events the closed history has.
+fn one_by_clerk<L: LockName, R: Abort + Wait>(rt: &R, alloc: Global, opening: Opening) -> usize
+    requires name { (opening.blank.name ≡ L.name) × (opening.blank.parts ≡ L.parts) }
+    requires book { opening.history.seen.book ≡ L.book }
+    requires config { opening.config ≡ L.config }
+{
+    let lock = opened::<L>(rt, alloc, opening);
+    let mut clerk = lock.clerk(rt, alloc).expect(rt, "room for a clerk");
+    one_goes_by(rt, &lock, &mut clerk);
+    owners_by(rt, &lock);
     let clerks = with(rt, Vec::new(alloc), clerk);
     closed(rt, lock, Vec::new(alloc), clerks).hall.len()
 }
@@ -263,111 +238,6 @@ fn one_through_a_clerk(rt: HostRuntime) {
         Opening::new(&rt, WorldKind::Rename, 1, 4),
     );
     assert_eq!(rt; length, 10);
-}
-
-/// A row of the pool, through a clerk.
-fn pool_by_clerk<L: LockName, R: Abort + Wait>(
-    rt: &R,
-    alloc: Global,
-    opening: Opening,
-    rows: &[(Event, Reply)],
-) -> usize
-    requires name { (opening.blank.name ≡ L.name) × (opening.blank.parts ≡ L.parts) }
-    requires book { opening.history.seen.book ≡ L.book }
-    requires config { opening.config ≡ L.config }
-{
-    let lock = opened::<L>(rt, alloc, opening);
-    let mut clerk = lock.clerk(rt, alloc).expect(rt, "room for a clerk");
-    clerk_applies(rt, &lock, &mut clerk, rows);
-    clerk.count()
-}
-
-#[test]
-fn one_number_through_a_clerk(rt: HostRuntime) {
-    let rows = [
-        (Event::Enter(5), Reply::Ok),
-        (Event::Probe(5), Reply::Got(1)),
-        (Event::Enter(6), Reply::Refused(Refusal::Crowded)),
-        (Event::Enter(5), Reply::Refused(Refusal::AlreadyCompeting)),
-        (Event::Leave(5), Reply::Left(1)),
-        (Event::Enter(6), Reply::Ok),
-    ];
-    let count = pool_by_clerk::<Brand, _>(
-        &rt,
-        rt.alloc(),
-        Opening::new(&rt, WorldKind::Tree, 2, 1),
-        &rows,
-    );
-    assert_eq!(rt; count, 4);
-}
-
-#[test]
-fn a_freed_bit_through_a_clerk(rt: HostRuntime) {
-    let rows = [
-        (Event::Enter(5), Reply::Ok),
-        (Event::Probe(5), Reply::Got(1)),
-        (Event::Enter(6), Reply::Ok),
-        (Event::Probe(6), Reply::Missed),
-        (Event::Probe(6), Reply::Got(2)),
-        (Event::Enter(7), Reply::Ok),
-        (Event::Probe(7), Reply::Missed),
-        (Event::Leave(5), Reply::Left(1)),
-        (Event::Probe(7), Reply::Got(3)),
-        (Event::Enter(8), Reply::Ok),
-        (Event::Probe(8), Reply::Got(1)),
-        (Event::Enter(9), Reply::Refused(Refusal::Crowded)),
-    ];
-    let count = pool_by_clerk::<Brand, _>(
-        &rt,
-        rt.alloc(),
-        Opening::new(&rt, WorldKind::Tree, 2, 3),
-        &rows,
-    );
-    assert_eq!(rt; count, 11);
-}
-
-#[test]
-fn a_wider_pool_through_a_clerk(rt: HostRuntime) {
-    let rows = [
-        (Event::Enter(5), Reply::Ok),
-        (Event::Widen(2), Reply::Ok),
-        (Event::Probe(5), Reply::Got(1)),
-        (Event::Enter(6), Reply::Ok),
-        (Event::Probe(6), Reply::Got(2)),
-        (Event::Widen(2), Reply::Refused(Refusal::OutOfRange)),
-    ];
-    let count = pool_by_clerk::<Brand, _>(
-        &rt,
-        rt.alloc(),
-        Opening::new(&rt, WorldKind::Tree, 2, 1),
-        &rows,
-    );
-    assert_eq!(rt; count, 5);
-}
-
-#[test]
-fn a_slot_through_a_clerk(rt: HostRuntime) {
-    let rows = [
-        (Event::Enter(5), Reply::Ok),
-        (Event::Leave(5), Reply::Refused(Refusal::NotHolding)),
-        (Event::Probe(5), Reply::Got(1)),
-        (Event::Probe(5), Reply::Refused(Refusal::Holding)),
-        (Event::Put(5, 77), Reply::Ok),
-        (Event::Get(5), Reply::Value(77)),
-        (Event::Leave(5), Reply::Left(1)),
-        (Event::Get(5), Reply::Refused(Refusal::NotCompeting)),
-        (Event::Enter(6), Reply::Ok),
-        (Event::Get(6), Reply::Refused(Refusal::NotHolding)),
-        (Event::Probe(6), Reply::Got(1)),
-        (Event::Get(6), Reply::Value(77)),
-    ];
-    let count = pool_by_clerk::<Brand, _>(
-        &rt,
-        rt.alloc(),
-        Opening::new(&rt, WorldKind::Tree, 2, 2),
-        &rows,
-    );
-    assert_eq!(rt; count, 8);
 }
 
 /// A session acts, with these replies.
@@ -412,6 +282,38 @@ fn closes_with<L: LockName>(
     closed(rt, lock, with(rt, sessions, session), clerks)
 }
 
+/// A session takes a number, uses its slot and gives it back, and makes a step.
+fn session_takes<L: LockName, R: Abort + Wait>(
+    rt: &R,
+    lock: &HallLock<L>,
+    session: &mut Session<L>,
+) {
+    let acts = [
+        (Act::Enter, Reply::Ok),
+        (Act::Probe, Reply::Got(1)),
+        (Act::Put(5), Reply::Ok),
+        (Act::Get, Reply::Value(5)),
+        (Act::Leave, Reply::Left(1)),
+        (Act::Step, Reply::Quiet),
+    ];
+    session_acts(rt, lock, session, &acts);
+}
+
+/// A session steps until it is named.
+fn session_is_named<L: LockName, R: Abort + Wait>(
+    rt: &R,
+    lock: &HallLock<L>,
+    session: &mut Session<L>,
+) {
+    let renamed = [
+        (6, Ok(None)),
+        (0, Ok(None)),
+        (1, Ok(Some(1))),
+        (1, Err(Refusal::Finished)),
+    ];
+    session_renames(rt, lock, session, &renamed);
+}
+
 /// One session, which closes first without and then with itself. The length of the history.
 fn one_session<L: LockName, R: Abort + Wait>(rt: &R, alloc: Global, opening: Opening) -> usize
     requires name { (opening.blank.name ≡ L.name) × (opening.blank.parts ≡ L.parts) }
@@ -422,23 +324,9 @@ fn one_session<L: LockName, R: Abort + Wait>(rt: &R, alloc: Global, opening: Ope
     let mut session = begins(rt, alloc, &lock, 7);
     cannot_begin(rt, alloc, &lock, 7, Refusal::AlreadyBegun);
     steps_quietly(rt, &lock, &mut session);
-    let acts = [
-        (Act::Enter, Reply::Ok),
-        (Act::Probe, Reply::Got(1)),
-        (Act::Put(5), Reply::Ok),
-        (Act::Get, Reply::Value(5)),
-        (Act::Leave, Reply::Left(1)),
-        (Act::Step, Reply::Quiet),
-    ];
-    session_acts(rt, &lock, &mut session, &acts);
-    let renamed = [
-        (6, Ok(None)),
-        (0, Ok(None)),
-        (1, Ok(Some(1))),
-        (1, Err(Refusal::Finished)),
-    ];
-    session_renames(rt, &lock, &mut session, &renamed);
-    assert_eq!(rt; session.count(), 15);
+    session_takes(rt, &lock, &mut session);
+    session_is_named(rt, &lock, &mut session);
+    assert!(rt; session.count() == 15);
     closes_with(rt, alloc, lock, session).hall.len()
 }
 

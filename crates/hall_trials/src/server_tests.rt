@@ -185,7 +185,7 @@ fn by_clerk<L: LockName, R: Abort + Wait>(
 /// The rows of one participant, of the pool and of the slots, through a clerk.
 #[test]
 fn rows_through_a_clerk(rt: HostRuntime) {
-    let rows: [(u64, &[u8], &[u8], usize); 4] = [
+    let rows: [(u64, &[u8], &[u8], usize); 5] = [
         (
             4,
             b"begin 7\nstep 7\nstep 7\nstep 7\nstep 7\nstep 7\nstep 7\nstep 7\nstep 7\nstep 7\nstep 7\nowner 1\nowner 2\n",
@@ -209,6 +209,12 @@ fn rows_through_a_clerk(rt: HostRuntime) {
             b"enter 5\nleave 5\nprobe 5\nprobe 5\nput 5 77\nget 5\nleave 5\nget 5\nenter 6\nget 6\nprobe 6\nget 6\n",
             b"ok\nrefused 11\ngot 1\nrefused 10\nok\nvalue 77\nleft 1\nrefused 8\nok\nrefused 11\ngot 1\nvalue 77\n",
             8,
+        ),
+        (
+            1,
+            b"enter 5\nwiden 2\nprobe 5\nenter 6\nprobe 6\nwiden 2\n",
+            b"ok\nok\ngot 1\nok\ngot 2\nrefused 14\n",
+            5,
         ),
     ];
     for (k, input, text, count) in rows {
