@@ -2,7 +2,7 @@
 //!
 //! `slotctl play --world splitter --m 2` reads commands from the standard input, one a line, and writes a reply to each to
 //! the standard output. `slotctl serve` answers the commands of connections over one hall. What the words of the command line ask for
-//! is done by `program` of `slot_work`, over any reader and writer, but to serve, which is `serve` of `slot_server`. The status is 0
+//! is done by `program` of `program_work`, over any reader and writer, but to serve, which is `serve` of `slot_server`. The status is 0
 //! where it was done and for help, 1 where a record is none of a run, 2 where the words are refused, and 3 at a fault or for want of
 //! memory; at 2 and 3, and where a page was asked for at 1, a text on the standard error says why.
 #![tactic(auto)]
@@ -10,10 +10,10 @@
 use hall_host::{HostFailure, HostPlan, Keeping, LogPlan, export_hall, host_hall};
 use history_book::Opened;
 use player::{Fault, Tried};
+use program_args::{Hosting, Keeping as KeepingWords, LogWords, Misuse, Serving, refused};
+use program_work::program::{program, report};
+use program_work::{Failure, Outcome, in_sight, may_take_long};
 use slot_server::{Plan, ServeFault, serve};
-use slot_words::{Hosting, Keeping as KeepingWords, LogWords, Misuse, Serving, refused};
-use slot_work::program::{program, report};
-use slot_work::{Failure, Outcome, in_sight, may_take_long};
 use std::alloc::{AllocGlobal, Global};
 use std::env;
 use std::fs::File;

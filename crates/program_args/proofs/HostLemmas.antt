@@ -1,0 +1,87 @@
+-- when no hosting has the matched options
+use Rattle.std.proofs.Common.{ap, sym, subst, ◌≡◌, ◌∙◌, ℕ, List, Option, Some, None, Result, Ok, Err, ◌↔◌, Bool, MatchOption, IfSome, IsSome, codes, true, false}
+use Rattle.std.specs.Borrow.{Bor}
+use Rattle.std.specs.Net.Grammar.{IsIpText, Parses}
+use Rattle.std.specs.Result.{result_ok}
+use Rattle.std.specs.declared.net.ip_addr.IpAddr.{IpAddr}
+use Rattle.std.proofs.lemmas.Option.{same_Some}
+use Rattle.clap.specs.Words.{Row, first_of}
+use Rattle.commands.specs.declared.config.Config.{Config}
+use Rattle.program_args.specs.Asked.{HasAddress, HasNumber, HasText, IsConfigOf, IsHostingOf, IsKeepingOf, IsLogOf, asks_flag, asks_log}
+use Rattle.program_args.specs.Ranges.{IsHostingRange, IsPatience}
+use Rattle.program_args.specs.declared.asked.Hosting.{Hosting}
+use Rattle.program_args.specs.declared.asked.Keeping.{Keeping}
+use Rattle.program_args.specs.declared.asked.Keeping.TheVariants.{Nothing, Journal, Log}
+use Rattle.program_args.specs.declared.asked.LogWords.{LogWords}
+use Rattle.program_args.proofs.ConfigLemmas.{same_number, same_world}
+
+-- no text is matched, so no address is
+pub no_address : (rows : List Row) → None ≡ first_of (codes "address") rows → (a : IpAddr) → HasAddress rows a → ⊥
+no_address rows none a h = let bad : None ≡ Some h.0 = none ∙ h.1 in cc
+
+-- what the matched text spells is the address, if it spells one
+pub address_told : {E : Type 0} (rows : List Row) (text : List ℕ) (r : Result IpAddr E) → Some text ≡ first_of (codes "address") rows → Parses IsIpText text r
+    → MatchOption (result_ok r) ((a : IpAddr) → HasAddress rows a → ⊥) (HasAddress rows)
+address_told rows text (Ok a) matched parses = (text, sym matched, parses)
+address_told rows text (Err e) matched parses = λ a h. parses a (subst (λ (t : List ℕ). IsIpText t a) (sym (same_Some text h.0 (matched ∙ h.1))) h.2)
+
+-- what is made of the matched values is the hosting, where there is one
+pub hosted : (rows : List Row) (c : Config) (address : IpAddr) (port clients idle : ℕ) (keeping : Keeping) (verbose : Bool) (o : Option Hosting)
+    → IsConfigOf rows c → HasAddress rows address → HasNumber rows (codes "port") port → HasNumber rows (codes "clients") clients → HasNumber rows (codes "idle") idle
+    → IsKeepingOf rows keeping → verbose ≡ asks_flag (codes "verbose") rows
+    → IfSome o (λ h. (h.config ≡ c) × (h.port ≡ port) × (h.clients ≡ clients) × (h.idle ≡ idle)) → IfSome o (λ h. (h.address ≡ address) × (h.keeping ≡ keeping) × (h.verbose ≡ verbose))
+    → (IsSome o ↔ IsHostingRange c.world port clients idle)
+    → MatchOption o ((h : Hosting) → IsHostingOf rows h → ⊥) (IsHostingOf rows)
+hosted rows c address port clients idle keeping verbose (Some h) config has_address has_port has_clients has_idle has_keeping asks sizes others range = record {
+  config = subst (λ (x : Config). IsConfigOf rows x) (sym sizes.0) config;
+  address = subst (λ (x : IpAddr). HasAddress rows x) (sym others.0) has_address;
+  port = subst (λ x. HasNumber rows (codes "port") x) (sym sizes.1) has_port;
+  clients = subst (λ x. HasNumber rows (codes "clients") x) (sym sizes.2) has_clients;
+  idle = subst (λ x. HasNumber rows (codes "idle") x) (sym sizes.3) has_idle;
+  keeping = subst (λ (x : Keeping). IsKeepingOf rows x) (sym others.1) has_keeping;
+  verbose = others.2 ∙ asks;
+}
+hosted rows c address port clients idle keeping verbose None config has_address has_port has_clients has_idle has_keeping asks sizes others range = λ h is.
+    let same_port : h.port ≡ port = same_number rows (codes "port") h.port port is.port has_port in
+    let same_clients : h.clients ≡ clients = same_number rows (codes "clients") h.clients clients is.clients has_clients in
+    let same_idle : h.idle ≡ idle = same_number rows (codes "idle") h.idle idle is.idle has_idle in
+    let same_kind : h.config.world ≡ c.world = same_world rows h.config.world c.world is.config.world config.world in
+    let fits = h.in_range in
+    let bad : false ≡ true = range.1 (rw (same_port, same_clients, same_idle, same_kind) at fits) in
+    cc
+
+-- what is made of the matched texts, number and flag is the log, where there is one
+pub logged : (rows : List Row) (members prefix : Bor (List ℕ)) (patience : ℕ) (exported : Bool) (o : Option LogWords)
+    → Some members.now ≡ first_of (codes "etcd") rows → Some prefix.now ≡ first_of (codes "prefix") rows → HasNumber rows (codes "patience") patience → exported ≡ asks_flag (codes "export") rows
+    → IfSome o (λ l. (l.members ≡ members) × (l.prefix ≡ prefix)) → IfSome o (λ l. (l.patience ≡ patience) × (l.exported ≡ exported)) → (IsSome o ↔ IsPatience patience)
+    → MatchOption o ((l : LogWords) → IsLogOf rows l → ⊥) (IsLogOf rows)
+logged rows members prefix patience exported (Some l) has_members has_prefix has_patience asks texts others range = record {
+  members = sym has_members ∙ ap (λ (t : Bor (List ℕ)). Some t.now) (sym texts.0);
+  prefix = sym has_prefix ∙ ap (λ (t : Bor (List ℕ)). Some t.now) (sym texts.1);
+  patience = subst (λ x. HasNumber rows (codes "patience") x) (sym others.0) has_patience;
+  exported = others.1 ∙ asks;
+}
+logged rows members prefix patience exported None has_members has_prefix has_patience asks texts others range = λ l is.
+    let same_patience : l.patience ≡ patience = same_number rows (codes "patience") l.patience patience is.patience has_patience in
+    let fits = l.in_range in
+    let bad : false ≡ true = range.1 (rw same_patience at fits) in
+    cc
+
+-- no text is matched there, so no log has it
+pub no_members : (rows : List Row) → None ≡ first_of (codes "etcd") rows → (l : LogWords) → IsLogOf rows l → ⊥
+no_members rows none l h = let bad : None ≡ Some l.members.now = none ∙ h.members in cc
+
+pub no_prefix : (rows : List Row) → None ≡ first_of (codes "prefix") rows → (l : LogWords) → IsLogOf rows l → ⊥
+no_prefix rows none l h = let bad : None ≡ Some l.prefix.now = none ∙ h.prefix in cc
+
+-- a journal and a log together are neither
+pub not_both : (rows : List Row) (path : List ℕ) → Some path ≡ first_of (codes "journal") rows → asks_log rows ≡ true → (k : Keeping) → IsKeepingOf rows k → ⊥
+not_both rows path has asks Nothing h = let bad : Some path ≡ None = has ∙ h.0 in cc
+not_both rows path has asks (Journal other) h = let bad : true ≡ false = sym asks ∙ h.1 in cc
+not_both rows path has asks (Log l) h = let bad : Some path ≡ None = has ∙ h.0 in cc
+
+-- a log is asked for, and none is given
+pub not_logged : (rows : List Row) → None ≡ first_of (codes "journal") rows → asks_log rows ≡ true → ((l : LogWords) → IsLogOf rows l → ⊥) → (k : Keeping) → IsKeepingOf rows k → ⊥
+not_logged rows has asks none Nothing h = let bad : true ≡ false = sym asks ∙ h.1 in cc
+not_logged rows has asks none (Journal path) h = let bad : true ≡ false = sym asks ∙ h.1 in cc
+not_logged rows has asks none (Log l) h = none l h.1

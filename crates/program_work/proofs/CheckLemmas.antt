@@ -1,0 +1,47 @@
+-- how the check of a record ends
+use Rattle.std.proofs.Common.{◌≡◌, ◌∙◌, ◌⊎◌, ◌+◌, ◌<◌, ◌≤◌, inl, inr, refl, sym, subst, ℕ, List, Result, Err}
+use Rattle.run_checker.specs.declared.verdict.Verdict.{Verdict}
+use Rattle.player.specs.Played.{Reading, Writing}
+use Rattle.player.specs.Written.{HasPartOf}
+use Rattle.player.specs.declared.fault.Fault.{Fault}
+use Rattle.player.specs.declared.fault.Fault.TheVariants.{Read, Write, Memory}
+use Rattle.player.specs.declared.playing.TheConstants.{MOST_READS}
+use Rattle.program_work.specs.Checked.{HasFailedRead, IsJudged, IsToldOf}
+
+not_of_write : (fault : Fault) → (fault ≡ Read) ⊎ (fault ≡ Memory) → (let o : Result ℕ Fault = Err fault in o ≡ Err Write) → ⊥
+not_of_write fault (inl is) at = cc
+not_of_write fault (inr is) at = cc
+
+of_read : (fault : Fault) → (let o : Result ℕ Fault = Err fault in o ≡ Err Read) → fault ≡ Read
+of_read fault at = cc
+
+of_memory : (fault : Fault) → (let o : Result ℕ Fault = Err fault in o ≡ Err Memory) → fault ≡ Memory
+of_memory fault at = cc
+
+not_of_others : (fault other : Fault) → fault ≡ Write → (other ≡ Write → ⊥) → (let o : Result ℕ Fault = Err fault in o ≡ Err other) → ⊥
+not_of_others fault other is differs at = differs (let same : fault ≡ other = cc in sym same ∙ is)
+
+module _ {R W : Type 0} (Tells : List ℕ → Verdict → List ℕ → Type 0) (reading : Reading R) (writing : Writing W) (r r' : R) (reads : reading.calls r' ≤ reading.calls r + MOST_READS) where
+  -- the record was not read to its end, and nothing is written
+  pub unread : (w : W) (result : Result ℕ Fault) (fault : Fault) → result ≡ Err fault → (fault ≡ Read) ⊎ (fault ≡ Memory) → (fault ≡ Read → HasFailedRead reading r r') → (fault ≡ Memory → reading.failed r' ≡ reading.failed r)
+      → IsJudged Tells reading writing r r' w w result
+  unread w result fault is only failed unfailed = subst (λ (o : Result ℕ Fault). IsJudged Tells reading writing r r' w w o) (sym is) (record {
+    ok = tt;
+    no_write_failed = tt;
+    write_fault = λ at. absurd (not_of_write fault only at);
+    read_fault = λ at. (failed (of_read fault at), refl);
+    memory = λ at. (refl, unfailed (of_memory fault at));
+    reads = reads;
+  })
+
+  -- the verdict is not written to its end
+  pub half_told : (w w' : W) (result : Result ℕ Fault) (fault : Fault) → result ≡ Err fault → fault ≡ Write → writing.failed w < writing.failed w' → (v : Verdict)
+      → IsToldOf Tells reading r r' (HasPartOf (writing.contents w) (writing.contents w')) v → IsJudged Tells reading writing r r' w w' result
+  half_told w w' result fault is write failed v told = subst (λ (o : Result ℕ Fault). IsJudged Tells reading writing r r' w w' o) (sym is) (record {
+    ok = tt;
+    no_write_failed = tt;
+    write_fault = λ at. (failed, (v, told));
+    read_fault = λ at. absurd (not_of_others fault Read write (λ e. cc) at);
+    memory = λ at. absurd (not_of_others fault Memory write (λ e. cc) at);
+    reads = reads;
+  })

@@ -1,0 +1,133 @@
+use Rattle.std.proofs.Common.{rules, ◌≡◌, ◌≢◌, ◌+◌, ◌^◌, ◌<◌, ◌≤◌, inr, refl, sym, subst, length, List, ℕ, Ok, Err}
+use Rattle.std.specs.Io.KnownBytes.{Appends}
+use Rattle.run_checker.specs.Migrated.{IsMigrated}
+use Rattle.run_checker.specs.declared.verdict.Verdict.{Verdict}
+use Rattle.run_checker.specs.declared.verdict.Verdict.TheVariants.{Yes, NoMemory}
+use Rattle.player.specs.Played.{reading, writing}
+use Rattle.player.specs.Written.{HasPartOf}
+use Rattle.player.specs.declared.fault.Fault.TheVariants.{Memory}
+use Rattle.program_work.specs.Checked.{verdict_text, IsJudged, IsRecordText}
+use Rattle.program_work.proofs.CheckLemmas.{half_told, unread}
+use Rattle.program_work.proofs.MigrateLemmas.{unwritten, line_tells, status_one}
+use Rattle.program_work.proofs.migrating.migrate_for.Goals as goal
+
+pub returns-in_err-bytes : goal.returns-in_err-bytes
+returns-in_err-bytes g c =
+    let fault : c.from_residual.result ≡ Err c.in_err-bytes.field-0.0 = search rules in
+    unread IsRecordText (reading g.R.Read.remaining g.R.Source.calls g.R.Source.failed) (writing g.W.Write.contents g.W.Sink.failed) c.args.reader.now c.read_whole.new.reader c.read_whole.ensures.reads
+    c.args.writer.now c.from_residual.result c.in_err-bytes.field-0.0 fault c.in_err-bytes.ensures.only (λ is. c.in_err-bytes.ensures.read_fault (let same : c.in_err-bytes.field-0.0 ≡ _ = is in cc))
+    (λ is. c.in_err-bytes.ensures.memory (let same : c.in_err-bytes.field-0.0 ≡ _ = is in cc))
+
+pub returns-in_err-verdict : goal.returns-in_err-verdict
+returns-in_err-verdict g c =
+    let writes = writing g.W.Write.contents g.W.Sink.failed in
+    let fault : c.from_residual-in_err-verdict.result ≡ Err c.in_err-verdict.field-0.0 = search rules in
+    let k = subst (λ (b : List ℕ). IsMigrated writes b c.args.writer.now c.migrate.new.writer (Err c.in_err-verdict.field-0.0)) c.as_slice.ensures.value c.in_err-verdict.ensures in
+    half_told IsRecordText (reading g.R.Read.remaining g.R.Source.calls g.R.Source.failed) writes c.args.reader.now c.read_whole.new.reader c.read_whole.ensures.reads
+    c.args.writer.now c.migrate.new.writer c.from_residual-in_err-verdict.result c.in_err-verdict.field-0.0 fault k.0 k.1 Yes
+    (record {
+      input = c.in_ok-bytes.bytes.items;
+      whole = c.in_ok-bytes.ensures.whole;
+      verdict = k.2.1.said;
+      some = λ e. cc;
+      text = k.2.0;
+      tells = k.2.1;
+      wrote = k.2.2;
+    })
+
+pub returns-then-eq : goal.returns-then-eq
+returns-then-eq g c =
+    let writes = writing g.W.Write.contents g.W.Sink.failed in
+    let yes : c.in_ok-verdict.verdict ≡ Yes = search rules in
+    let k = subst (λ (v : Verdict). IsMigrated writes c.in_ok-bytes.bytes.items c.args.writer.now c.migrate.new.writer (Ok v)) yes
+    (subst (λ (b : List ℕ). IsMigrated writes b c.args.writer.now c.migrate.new.writer (Ok c.in_ok-verdict.verdict)) c.as_slice.ensures.value c.in_ok-verdict.ensures) in
+    record {
+      ok = (
+        Yes,
+        refl,
+        record {
+          input = c.in_ok-bytes.bytes.items;
+          whole = c.in_ok-bytes.ensures.whole;
+          verdict = k.1.1.said;
+          some = λ e. cc;
+          text = k.1.0;
+          tells = k.1.1;
+          wrote = k.1.2;
+        },
+      );
+      no_write_failed = k.0;
+      write_fault = λ at. absurd cc;
+      read_fault = λ at. absurd cc;
+      memory = λ at. absurd cc;
+      reads = c.read_whole.ensures.reads;
+    }
+
+pub returns-then-eq-2 : goal.returns-then-eq-2
+returns-then-eq-2 g c =
+    let writes = writing g.W.Write.contents g.W.Sink.failed in
+    let reads = reading g.R.Read.remaining g.R.Source.calls g.R.Source.failed in
+    let other : c.in_ok-verdict.verdict ≢ Yes = search rules in
+    let k = unwritten writes c.as_slice.result.now c.args.writer.now c.migrate.new.writer c.in_ok-verdict.verdict other c.in_ok-verdict.ensures in
+    subst (λ w. IsJudged IsRecordText reads writes c.args.reader.now c.read_whole.new.reader c.args.writer.now w (Err Memory)) (sym k.1)
+    (unread IsRecordText reads writes c.args.reader.now c.read_whole.new.reader c.read_whole.ensures.reads c.args.writer.now (Err Memory) Memory refl (inr refl) (λ e. absurd cc) (λ e. c.in_ok-bytes.ensures.whole.no_read_failed))
+
+pub put_all-requires : goal.put_all-requires
+put_all-requires g c =
+    let writes = writing g.W.Write.contents g.W.Sink.failed in
+    let other : c.in_ok-verdict.verdict ≢ Yes = search rules in
+    let k = unwritten writes c.as_slice.result.now c.args.writer.now c.migrate.new.writer c.in_ok-verdict.verdict other c.in_ok-verdict.ensures in
+    let room : g.W.Sink.calls c.args.writer.now + length c.as_slice-2.result.now ≤ 2 ^ 100 = search rules in
+    record { room = subst (λ w. g.W.Sink.calls w + length c.as_slice-2.result.now ≤ 2 ^ 100) (sym k.1) room }
+
+pub returns-in_err-put_all : goal.returns-in_err-put_all
+returns-in_err-put_all g c =
+    let writes = writing g.W.Write.contents g.W.Sink.failed in
+    let fault : c.from_residual-in_err-put_all.result ≡ Err c.in_err-put_all.field-0.0 = search rules in
+    let other : c.in_ok-verdict.verdict ≢ Yes = search rules in
+    let some : c.in_ok-verdict.verdict ≢ NoMemory = search rules in
+    let text : c.as_slice-2.result.now ≡ verdict_text c.in_ok-verdict.verdict = search rules in
+    let k = unwritten writes c.in_ok-bytes.bytes.items c.args.writer.now c.migrate.new.writer c.in_ok-verdict.verdict other
+    (subst (λ (b : List ℕ). IsMigrated writes b c.args.writer.now c.migrate.new.writer (Ok c.in_ok-verdict.verdict)) c.as_slice.ensures.value c.in_ok-verdict.ensures) in
+    half_told IsRecordText (reading g.R.Read.remaining g.R.Source.calls g.R.Source.failed) writes c.args.reader.now c.read_whole.new.reader c.read_whole.ensures.reads
+    c.args.writer.now c.put_all.new.writer c.from_residual-in_err-put_all.result c.in_err-put_all.field-0.0 fault c.in_err-put_all.ensures.only
+    (subst (λ w. g.W.Sink.failed w < g.W.Sink.failed c.put_all.new.writer) k.1 c.in_err-put_all.ensures.failed) c.in_ok-verdict.verdict
+    (record {
+      input = c.in_ok-bytes.bytes.items;
+      whole = c.in_ok-bytes.ensures.whole;
+      verdict = k.0;
+      some = some;
+      text = verdict_text c.in_ok-verdict.verdict;
+      tells = line_tells c.in_ok-bytes.bytes.items c.in_ok-verdict.verdict other;
+      wrote = subst (λ w. HasPartOf (g.W.Write.contents w) (g.W.Write.contents c.put_all.new.writer) (verdict_text c.in_ok-verdict.verdict)) k.1
+          (subst (λ (t : List ℕ). HasPartOf (g.W.Write.contents c.migrate.new.writer) (g.W.Write.contents c.put_all.new.writer) t) text c.in_err-put_all.ensures.err);
+    })
+
+pub returns : goal.returns
+returns g c =
+    let writes = writing g.W.Write.contents g.W.Sink.failed in
+    let other : c.in_ok-verdict.verdict ≢ Yes = search rules in
+    let some : c.in_ok-verdict.verdict ≢ NoMemory = search rules in
+    let text : c.as_slice-2.result.now ≡ verdict_text c.in_ok-verdict.verdict = search rules in
+    let k = unwritten writes c.in_ok-bytes.bytes.items c.args.writer.now c.migrate.new.writer c.in_ok-verdict.verdict other
+    (subst (λ (b : List ℕ). IsMigrated writes b c.args.writer.now c.migrate.new.writer (Ok c.in_ok-verdict.verdict)) c.as_slice.ensures.value c.in_ok-verdict.ensures) in
+    record {
+      ok = (
+        c.in_ok-verdict.verdict,
+        status_one c.in_ok-verdict.verdict other,
+        record {
+          input = c.in_ok-bytes.bytes.items;
+          whole = c.in_ok-bytes.ensures.whole;
+          verdict = k.0;
+          some = some;
+          text = verdict_text c.in_ok-verdict.verdict;
+          tells = line_tells c.in_ok-bytes.bytes.items c.in_ok-verdict.verdict other;
+          wrote = subst (λ w. Appends (g.W.Write.contents w) (g.W.Write.contents c.put_all.new.writer) (verdict_text c.in_ok-verdict.verdict)) k.1
+              (subst (λ (t : List ℕ). Appends (g.W.Write.contents c.migrate.new.writer) (g.W.Write.contents c.put_all.new.writer) t) text c.in_ok-put_all.ensures.ok);
+        },
+      );
+      no_write_failed = subst (λ w. g.W.Sink.failed c.put_all.new.writer ≡ g.W.Sink.failed w) k.1 c.in_ok-put_all.ensures.unfailed;
+      write_fault = λ at. absurd cc;
+      read_fault = λ at. absurd cc;
+      memory = λ at. absurd cc;
+      reads = c.read_whole.ensures.reads;
+    }

@@ -1,0 +1,101 @@
+-- what is done for the words of a command line
+use Rattle.std.specs.Prelude.{◌≡◌, ◌⊎◌, ◌<◌, Bool, true, false, ℕ, zero, suc, List, Option, Result, Ok, Err, IfOk, IfErr}
+use Rattle.std.specs.Io.KnownBytes.{Appends}
+use Rattle.drawn_schedules.specs.Runs.{HasDrawn, HasDrawnPart}
+use Rattle.drawn_schedules.specs.Schedule.{schedule}
+use Rattle.player.specs.Events.{event_lines}
+use Rattle.schedule_player.specs.IsTalk.{IsTalk}
+use Rattle.player.specs.Played.{Reading, Writing, IsPlayed}
+use Rattle.player.specs.Texts.{replies_of}
+use Rattle.player.specs.declared.fault.Fault.{Fault}
+use Rattle.player.specs.declared.fault.Fault.TheVariants.{Write, Memory}
+use Rattle.player.specs.declared.summary.Summary.{Summary}
+use Rattle.run_checker.specs.declared.verdict.Verdict.{Verdict}
+use Rattle.player.specs.Written.{HasPartOf}
+use Rattle.schedule_player.specs.Recorded.{IsRecorded}
+use Rattle.commands.specs.declared.config.Config.{Config}
+use Rattle.program_args.specs.declared.asked.Ask.{Ask}
+use Rattle.program_args.specs.declared.asked.Ask.TheVariants.{Play, Check, Migrate, Show, Draw, Serve, Host}
+use Rattle.program_args.specs.declared.asked.Drawing.{Drawing}
+use Rattle.program_args.specs.declared.asked.Showing.{Showing}
+use Rattle.program_work.specs.declared.failure.Failure.{Failure}
+use Rattle.program_work.specs.declared.failure.Failure.TheVariants as failure
+use Rattle.program_args.specs.declared.misuse.Misuse.{Misuse}
+use Rattle.program_work.specs.declared.outcome.Outcome.{Outcome}
+use Rattle.program_work.specs.declared.outcome.Outcome.TheVariants as outcome
+use Rattle.program_work.specs.Checked.{IsChecked, IsRewritten}
+use Rattle.program_work.specs.Shown.{IsShownFor, outcome_shown, stretch_asked}
+use Rattle.program_work.specs.Statuses.{status_after}
+
+-- a status is answered, and a fault is a failure
+abbrev pub outcome_of : Result ℕ Fault → Result Outcome Failure
+outcome_of (Ok status) = Ok (outcome.Ended status)
+outcome_of (Err fault) = Err (failure.Fault fault)
+
+-- what is drawn: the lines of a schedule, or those of runs
+abbrev pub IsDrawn : ℕ → Drawing → (List ℕ → Type 0) → Type 0
+IsDrawn zero d Told = Told (event_lines (schedule d.seed d.ids d.steps))
+IsDrawn (suc more) d Told = HasDrawn d.config d.seed d.ids d.steps d.runs Told
+
+-- a beginning of it
+abbrev pub IsPartDrawn : ℕ → Drawing → Option (List ℕ) → Option (List ℕ) → Type 0
+IsPartDrawn zero d before now = HasPartOf before now (event_lines (schedule d.seed d.ids d.steps))
+IsPartDrawn (suc more) d before now = HasDrawnPart d.config d.seed d.ids d.steps d.runs before now
+
+-- a drawing is written: where all of it, with status 0; at a fault, of the writer or for want of memory, a beginning of it
+pub record IsDrawnBy {W : Type 0} (d : Drawing) (writing : Writing W) (w w' : W) (result : Result ℕ Fault) : Type 0 where
+  pub ok : IfOk result (λ status. (status ≡ 0) × IsDrawn d.runs d (Appends (writing.contents w) (writing.contents w')) × (writing.failed w' ≡ writing.failed w))
+  pub write_fault : result ≡ Err Write → IsPartDrawn d.runs d (writing.contents w) (writing.contents w') × (writing.failed w < writing.failed w')
+  pub memory : result ≡ Err Memory → IsPartDrawn d.runs d (writing.contents w) (writing.contents w') × (writing.failed w' ≡ writing.failed w)
+  pub only : IfErr result (λ fault. (fault ≡ Write) ⊎ (fault ≡ Memory))
+
+-- a config is played, with the theorem of a run whose replies are written, or whose record is
+abbrev pub IsPlayedBy : {R W : Type 0} → Bool → Config → Reading R → Writing W → R → R → W → W → Result ℕ Fault → Type 0
+IsPlayedBy false config reading writing r r' w w' status =
+    (played : Result Summary Fault) × (status ≡ status_after played) × IsPlayed replies_of (IsTalk config) (IsTalk config) config.world reading writing r r' w w' played
+IsPlayedBy true config reading writing r r' w w' status =
+    (recorded : Result (Unit {0}) Fault) × (status ≡ status_after recorded) × IsRecorded config reading writing r r' w w' recorded
+
+-- it is neither to show a record nor to serve nor to host
+abbrev pub is_work : Ask → Bool
+is_work (Play config) = true
+is_work Check = true
+is_work Migrate = true
+is_work (Show showing) = false
+is_work (Draw drawing) = true
+is_work (Serve serving) = false
+is_work (Host hosting) = false
+
+-- what was asked for, which is neither to show nor to serve nor to host, is done, and answers this status: a run is
+-- played; or a record is checked, or written again; or nothing is read, and a drawing is written
+abbrev pub IsWorked : {R W : Type 0} → Ask → Reading R → Writing W → R → R → W → W → Result ℕ Fault → Type 0
+IsWorked (Play playing) reading writing r r' w w' status = IsPlayedBy playing.recorded playing.config reading writing r r' w w' status
+IsWorked Check reading writing r r' w w' status = IsChecked reading writing r r' w w' status
+IsWorked Migrate reading writing r r' w w' status = IsRewritten reading writing r r' w w' status
+IsWorked (Draw drawing) reading writing r r' w w' status = (r' ≡ r) × IsDrawnBy drawing writing w w' status
+IsWorked (Show showing) reading writing r r' w w' status = ⊥
+IsWorked (Serve serving) reading writing r r' w w' status = ⊥
+IsWorked (Host hosting) reading writing r r' w w' status = ⊥
+
+-- it is done so, and this is the outcome
+abbrev pub HasWorked : {R W : Type 0} → Ask → Reading R → Writing W → R → R → W → W → Result Outcome Failure → Type 0
+HasWorked ask reading writing r r' w w' result = (status : Result ℕ Fault) × (result ≡ outcome_of status) × IsWorked ask reading writing r r' w w' status
+
+-- a record is shown, and this is the outcome
+abbrev pub HasShown : {R W : Type 0} → Showing → Reading R → Writing W → R → R → W → W → Result Outcome Failure → Type 0
+HasShown showing reading writing r r' w w' result = (shown : Result Verdict Fault) × (result ≡ outcome_shown shown) × IsShownFor (stretch_asked showing) reading writing r r' w w' shown
+
+-- to serve and to host is left, with nothing read or written
+abbrev pub IsDoneFor : {R W : Type 0} → Ask → Reading R → Writing W → R → R → W → W → Result Outcome Failure → Type 0
+IsDoneFor (Play config) reading writing r r' w w' result = HasWorked (Play config) reading writing r r' w w' result
+IsDoneFor Check reading writing r r' w w' result = HasWorked Check reading writing r r' w w' result
+IsDoneFor Migrate reading writing r r' w w' result = HasWorked Migrate reading writing r r' w w' result
+IsDoneFor (Show showing) reading writing r r' w w' result = HasShown showing reading writing r r' w w' result
+IsDoneFor (Draw drawing) reading writing r r' w w' result = HasWorked (Draw drawing) reading writing r r' w w' result
+IsDoneFor (Serve serving) reading writing r r' w w' result = (result ≡ Ok (outcome.Serve serving)) × (r' ≡ r) × (w' ≡ w)
+IsDoneFor (Host hosting) reading writing r r' w w' result = (result ≡ Ok (outcome.Host hosting)) × (r' ≡ r) × (w' ≡ w)
+
+-- where the words ask for nothing that is done, nothing is read or written; what they ask for is done
+abbrev pub IsDone : {R W : Type 0} → Reading R → Writing W → R → R → W → W → Result Ask Misuse → Result Outcome Failure → Type 0
+IsDone reading writing r r' w w' (Err misuse) result = (result ≡ Err (failure.Misuse misuse)) × (r' ≡ r) × (w' ≡ w)
+IsDone reading writing r r' w w' (Ok ask) result = IsDoneFor ask reading writing r r' w w' result

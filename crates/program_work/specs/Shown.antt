@@ -1,0 +1,37 @@
+-- what is shown of a record that a reader gives
+use Rattle.std.specs.Prelude.{◌≡◌, ◌+◌, ◌≤◌, ℕ, List, Result, Ok, Err, IfOk}
+use Rattle.run_checker.specs.Reasons.{reason_number}
+use Rattle.run_checker.specs.declared.verdict.Verdict.{Verdict}
+use Rattle.run_checker.specs.declared.verdict.Verdict.TheVariants.{Yes, No, BadRecord, NoMemory}
+use Rattle.run_page.specs.Shown.{IsShown}
+use Rattle.run_page.specs.declared.stretch.Stretch.{Stretch}
+use Rattle.player.specs.Played.{Reading, Writing}
+use Rattle.player.specs.declared.fault.Fault.{Fault}
+use Rattle.player.specs.declared.fault.Fault.TheVariants.{Read, Write, Memory}
+use Rattle.player.specs.declared.playing.TheConstants.{MOST_READS}
+use Rattle.program_args.specs.declared.asked.Showing.{Showing}
+use Rattle.program_work.specs.Checked.{HasFailedRead, IsWhole}
+use Rattle.program_work.specs.declared.failure.Failure.{Failure}
+use Rattle.program_work.specs.declared.failure.Failure.TheVariants as failure
+use Rattle.program_work.specs.declared.outcome.Outcome.{Outcome}
+use Rattle.program_work.specs.declared.outcome.Outcome.TheVariants as outcome
+
+abbrev pub stretch_asked : Showing → Stretch
+stretch_asked s = record { from = s.from; count = s.count }
+
+-- a record is read to its end and shown: its verdict, with its page written where that is yes and nothing elsewhere; at a write fault
+-- a beginning of its page; and nothing where a read failed, or where none did and memory was refused
+pub record IsShownFor (s : Stretch) {R W : Type 0} (reading : Reading R) (writing : Writing W) (r r' : R) (w w' : W) (result : Result Verdict Fault) : Type 0 where
+  pub ok : IfOk result (λ v. (input : List ℕ) × IsWhole reading r r' input × IsShown writing input s w w' (Ok v))
+  pub write_fault : result ≡ Err Write → (input : List ℕ) × IsWhole reading r r' input × IsShown writing input s w w' (Err Write)
+  pub read_fault : result ≡ Err Read → HasFailedRead reading r r' × (w' ≡ w)
+  pub memory : result ≡ Err Memory → (w' ≡ w) × (reading.failed r' ≡ reading.failed r)
+  pub reads : reading.calls r' ≤ reading.calls r + MOST_READS
+
+-- a page that is written is done, with status 0; another verdict is told, as is a fault
+abbrev pub outcome_shown : Result Verdict Fault → Result Outcome Failure
+outcome_shown (Ok Yes) = Ok (outcome.Ended 0)
+outcome_shown (Ok (No number why)) = Err (failure.No number (reason_number why))
+outcome_shown (Ok (BadRecord number)) = Err (failure.BadRecord number)
+outcome_shown (Ok NoMemory) = Err (failure.Fault Memory)
+outcome_shown (Err fault) = Err (failure.Fault fault)

@@ -1,0 +1,52 @@
+//! Why the program did not do what it was asked.
+
+ghost use Rattle.std.specs.Prelude.{◌≡◌};
+ghost use Rattle.program_work.specs.Statuses.{status_of};
+
+use hall_host::HostFailure;
+use player::Fault;
+use program_args::Misuse;
+use slot_server::ServerFault;
+use thiserror::Error;
+
+/// Why the program did nothing, or did not come to its end. Its `Display` is the text for the user.
+#[derive(Debug, Drop, Error)]
+pub enum Failure {
+    /// The words of its command line ask for nothing that is done.
+    #[error("{0}")]
+    Misuse(#[from] Misuse),
+    /// The record is one of no run: the number of its first line at fault, and of the reason.
+    #[error("no {0} {1}\n")]
+    No(u64, u8),
+    /// The line of this number is none of a record.
+    #[error("bad record {0}\n")]
+    BadRecord(u64),
+    /// A fault of the input, of the output or of memory.
+    #[error("slotctl: {0}\n")]
+    Fault(#[from] Fault),
+    /// A fault of what serves connections.
+    #[error("slotctl: {0}\n")]
+    Server(#[from] ServerFault),
+    /// A fault of what hosts a hall, or a journal that is not opened.
+    #[error("slotctl: {0}\n")]
+    Host(#[from] HostFailure),
+}
+
+impl Failure {
+    /// The status of the program: 0 for help, 1 for a record that is not shown, 2 for words that are refused, and 3 for a fault or
+    /// want of memory.
+    pub fn status(&self) -> u8
+        ensures { result ≡ status_of self.now }
+    {
+        match self {
+            Failure::Misuse(Misuse::Help(_)) => 0,
+            Failure::Misuse(Misuse::Words(_)) => 2,
+            Failure::Misuse(Misuse::Memory) => 3,
+            Failure::No(_, _) => 1,
+            Failure::BadRecord(_) => 1,
+            Failure::Fault(_) => 3,
+            Failure::Server(_) => 3,
+            Failure::Host(_) => 3,
+        }
+    }
+}

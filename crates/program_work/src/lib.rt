@@ -1,0 +1,43 @@
+//! What the words of a command line ask `slotctl` for, done over any reader and writer.
+//!
+//! `program` has the words read (`ask` of `program_args`), does what they ask for, tells a failure and answers the status. `done` is the
+//! same up to what is told, and `work` does what was asked for: `play_for`, `check_for`, `migrate_for` or `draw_for`; `show_for` shows a
+//! record. To serve is left to the caller (`Outcome::Serve`), with nothing read and nothing written.
+//!
+//! What is proved of `done` (`IsRead`, `IsDone`): some `Ask` that the words mean is done, or they ask for nothing and nothing is read or
+//! written. A run is played with the theorem of `play`, or recorded with that of `record` (`IsPlayedBy`); a record is read to its end,
+//! and its verdict written, or the record in version 2, with status 0 for `yes` and else 1 (`IsChecked`, `IsRewritten`); drawn lines are
+//! the generator's (`IsDrawnBy`); a record's page is written, or its verdict is a failure (`IsShownFor`). At each fault what was written
+//! is a beginning of that. A failure has the status 0 for help, 1 for a verdict, 2 for words that are refused, and else 3 (`status_of`).
+//!
+//! `in_sight` does any work, and shows beside it that it goes on, in a thread of its own; `may_take_long` says which words ask for such
+//! work. Texts for people are shown by tests.
+//!
+//! A caller:
+//!
+//! ```text
+//! let mut input = Tried::new(rt.stdin());
+//! let mut output = Tried::new(rt.stdout());
+//! match program(&rt, alloc, &["slotctl", "check"], &mut input, &mut output, &mut rt.stderr()) {
+//!     Outcome::Ended(status) => status,                   // 0, where the record is one of a run
+//!     Outcome::Serve(serving) => ..
+//! }
+//! ```
+#![tactic(auto)]
+
+pub mod checking;
+pub mod failure;
+pub mod migrating;
+pub mod outcome;
+pub mod program;
+pub mod progress;
+pub mod showing;
+pub mod working;
+
+pub use checking::check_for;
+pub use failure::Failure;
+pub use migrating::migrate_for;
+pub use outcome::Outcome;
+pub use progress::{in_sight, may_take_long};
+pub use showing::show_for;
+pub use working::work;

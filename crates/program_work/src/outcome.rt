@@ -1,0 +1,14 @@
+//! How the program goes on.
+
+use program_args::{Hosting, Serving};
+
+/// What is left to do, once the words were read.
+#[derive(Clone, Copy, Drop)]
+pub enum Outcome<'a> {
+    /// Nothing: this is the status.
+    Ended(u8),
+    /// To serve connections.
+    Serve(Serving),
+    /// To host a hall.
+    Host(Hosting<'a>),
+}

@@ -1,0 +1,59 @@
+//! The page of a record that a reader gives.
+
+ghost use Rattle.std.specs.Prelude.{◌≡◌, ◌<◌, ◌^◌};
+ghost use Rattle.player.specs.Played.{reading, writing};
+ghost use Rattle.program_work.specs.Shown.{IsShownFor, outcome_shown, stretch_asked};
+
+use crate::checking::read_whole;
+use crate::failure::Failure;
+use crate::outcome::Outcome;
+use player::{Fault, READ_BYTES, Sink, Source};
+use program_args::Showing;
+use run_checker::Verdict;
+use run_page::{Stretch, show};
+use std::alloc::Global;
+
+// The stretch that is asked for.
+fn stretch_asked(showing: Showing) -> Stretch
+    ensures { result ≡ stretch_asked showing }
+{
+    Stretch {
+        from: showing.from,
+        count: showing.count,
+    }
+}
+
+/// Reads a record to its end, and writes its page where its verdict is `Yes`, which is answered; with another nothing is written.
+///
+/// `Fault::Read` where the reader failed or was read 2^40 times, and `Fault::Memory` where memory was refused, with nothing
+/// written; `Fault::Write` where the writer failed or took nothing, with a beginning of the page written.
+pub fn show_for<R: Source, W: Sink>(
+    alloc: Global,
+    showing: Showing,
+    reader: &mut R,
+    writer: &mut W,
+) -> Result<Verdict, Fault>
+    requires reads { R.calls reader.old < 2 ^ 64 }
+    requires writes { W.calls writer.old < 2 ^ 64 }
+    ensures { IsShownFor (stretch_asked showing) (reading R.remaining R.calls R.failed) (writing W.contents W.failed) reader.old reader.new writer.old writer.new result }
+{
+    let Ok(mut chunk) = Vec::from_elem(alloc, 0, READ_BYTES) else {
+        return Err(Fault::Memory);
+    };
+    let bytes = read_whole(alloc, reader, &mut chunk)?;
+    let verdict = show(alloc, bytes.as_slice(), stretch_asked(showing), writer)?;
+    Ok(verdict)
+}
+
+/// How the program ends once a record was shown: a verdict other than yes is a failure.
+pub fn after_showing<'a>(shown: Result<Verdict, Fault>) -> Result<Outcome<'a>, Failure>
+    ensures { result ≡ outcome_shown shown }
+{
+    match shown {
+        Ok(Verdict::Yes) => Ok(Outcome::Ended(0)),
+        Ok(Verdict::No(number, reason)) => Err(Failure::No(number, reason.number())),
+        Ok(Verdict::BadRecord(number)) => Err(Failure::BadRecord(number)),
+        Ok(Verdict::NoMemory) => Err(Failure::Fault(Fault::Memory)),
+        Err(fault) => Err(Failure::Fault(fault)),
+    }
+}

@@ -1,0 +1,229 @@
+//! Halls that follow one log, interleaved at each of their steps.
+
+ghost use Rattle.std.specs.Prelude.{◌<◌};
+ghost use Rattle.player.specs.Knows.{Knows};
+
+use crate::doubles::Lossy;
+use commands::{Config, WorldKind};
+use hall_log::{HallMachine, Tape};
+use locked_world::Hall;
+use one_log::{Cause, MemoryStore, Replica, Step, StoreFault};
+use player::{Service, Tried, play_on};
+use std::alloc::{AllocError, Global};
+use tests_doubles::{FaultyReader, FaultyWriter};
+
+/// How many steps all halls make together.
+const STEPS: usize = 900;
+
+/// How many bytes the first line of a batch has.
+const HEAD: usize = 9;
+
+/// What is asked, of an identity from 1 to 6 or for a name.
+const WORDS: [&[u8]; 10] = [
+    b"begin ", b"step ", b"step ", b"step ", b"enter ", b"probe ", b"leave ", b"put 3 ", b"get ",
+    b"owner ",
+];
+
+/// What was answered at a place of the log.
+#[derive(Drop)]
+struct Told {
+    place: u64,
+    answer: Vec<u8>,
+}
+
+/// A hall that follows the log, and what it was asked and has not answered.
+#[derive(Drop)]
+struct Front {
+    hall: Replica<HallMachine>,
+    batch: Vec<u8>,
+    tape: Tape,
+}
+
+// The next drawn number below 64.
+fn drawn(state: &mut u64) -> u8
+    ensures { result < 64 }
+{
+    *state = state
+        .wrapping_mul(6364136223846793005)
+        .wrapping_add(1442695040888963407);
+    ((*state >> 33) % 64) as u8
+}
+
+// Adds a drawn batch: a first line, and eight lines of commands.
+fn draw_batch(state: &mut u64, batch: &mut Vec<u8>) -> Result<(), AllocError> {
+    for _ in 1..HEAD {
+        batch.push(b'0' + drawn(state))?;
+    }
+    batch.push(b'\n')?;
+    for _ in 0..8 {
+        batch.extend_from_slice(WORDS[(drawn(state) % 10) as usize])?;
+        batch.push(b'1' + drawn(state) % 6)?;
+        batch.push(b'\n')?;
+    }
+    Ok(())
+}
+
+/// The config of each hall.
+pub(crate) fn config() -> Option<Config> {
+    Config::new(WorldKind::Rename, 4, 4, 1000).ok()
+}
+
+/// What a service says to lines; none where it could not be played.
+pub(crate) fn answers<D: Service<()>>(
+    alloc: Global,
+    service: &mut D,
+    lines: &[u8],
+) -> Option<Vec<u8>>
+    requires { Knows D.knows WorldKind.Rename }
+{
+    let mut reader = Tried::new(FaultyReader::new(lines, lines.len(), 0));
+    let mut writer = Tried::new(FaultyWriter::new(alloc, 4096, 0, false));
+    let played = play_on(
+        alloc,
+        &(),
+        service,
+        WorldKind::Rename,
+        &mut reader,
+        &mut writer,
+    );
+    if played.is_err() {
+        return None;
+    }
+    Some(writer.into_inner().taken)
+}
+
+impl Front {
+    // What it answers to what it was asked, by its tape, which says no more.
+    fn answer(&mut self, alloc: Global) -> Option<Vec<u8>> {
+        let lines = self.batch.get(HEAD..).unwrap_or(&[]);
+        let answer = answers(alloc, &mut self.tape, lines)?;
+        if !self.tape.is_used_up() {
+            return None;
+        }
+        self.batch.clear();
+        Some(answer)
+    }
+
+    // Tells what it answers, and tells whether it did.
+    fn tell(&mut self, alloc: Global, told: &mut Vec<Told>) -> bool {
+        let place = self.hall.place().saturating_sub(1);
+        match self.answer(alloc) {
+            Some(answer) => told.push(Told { place, answer }).is_ok(),
+            None => false,
+        }
+    }
+
+    // One step for what it was asked. Where all was answered it is asked for more. Whether it went right, an answer that is lost included.
+    fn step(
+        &mut self,
+        alloc: Global,
+        state: &mut u64,
+        store: &mut Lossy,
+        told: &mut Vec<Told>,
+    ) -> bool {
+        if self.batch.is_empty() && draw_batch(state, &mut self.batch).is_err() {
+            return false;
+        }
+        match self.hall.step(store, &self.batch, &mut self.tape) {
+            Ok(Step::Answered) => self.tell(alloc, told),
+            Ok(_) | Err(Cause::Store(StoreFault::Lost)) => true,
+            Err(_) => false,
+        }
+    }
+}
+
+// How many of the answers that were told at a place are this one.
+fn count_at(told: &[Told], place: u64, due: &[u8]) -> usize {
+    let mut count = 0usize;
+    for one in told {
+        if one.place == place && one.answer.as_slice() == due {
+            count = count.saturating_add(1);
+        }
+    }
+    count
+}
+
+// How many of the answers that were told at places of a log are what one hall says there.
+fn count_due(alloc: Global, log: &MemoryStore, told: &[Told]) -> Option<usize> {
+    let mut hall = Hall::new(alloc, config()?).ok()?;
+    let mut count = 0usize;
+    for place in 0..log.len() {
+        let lines = log.entry(place).unwrap_or(&[]).get(HEAD..).unwrap_or(&[]);
+        let due = answers(alloc, &mut hall, lines)?;
+        count = count.saturating_add(count_at(told, place as u64, &due));
+    }
+    Some(count)
+}
+
+// A hall that has applied nothing and was asked nothing.
+fn new_front(alloc: Global) -> Option<Front> {
+    let machine = HallMachine::new(alloc, config()?).ok()?;
+    Some(Front {
+        hall: Replica::new(alloc, machine),
+        batch: Vec::new(alloc),
+        tape: Tape::new(alloc),
+    })
+}
+
+// So many of them.
+fn fronts_of(alloc: Global, halls: u8) -> Option<Vec<Front>> {
+    let mut fronts = Vec::new(alloc);
+    for _ in 0..halls {
+        fronts.push(new_front(alloc)?).ok()?;
+    }
+    Some(fronts)
+}
+
+// The steps of halls over one store, of which all but the first begin late. Whether each went right.
+fn all_step(
+    alloc: Global,
+    fronts: &mut [Front],
+    late: usize,
+    store: &mut Lossy,
+    told: &mut Vec<Told>,
+) -> bool {
+    let mut state = store.every;
+    for turn in 0..STEPS {
+        let present = if turn < late { 1 } else { fronts.len() };
+        let at = drawn(&mut state) as usize % present.max(1);
+        let Some(front) = fronts.get_mut(at) else {
+            return false;
+        };
+        if !front.step(alloc, &mut state, store, told) {
+            return false;
+        }
+    }
+    true
+}
+
+// Whether what they answer is what one hall says at that place of the log, and most places were answered.
+fn tell_one_history(alloc: Global, fronts: &mut [Front], late: usize, store: &mut Lossy) -> bool {
+    let mut told = Vec::new(alloc);
+    let right = all_step(alloc, fronts, late, store, &mut told);
+    let most = told.len() + fronts.len();
+    let due = count_due(alloc, &store.store, &told);
+    right && due == Some(told.len()) && STEPS / 9 < told.len() && store.store.len() <= most
+}
+
+// Whether so many halls do, over one store that loses each so many answers, and of which all but the first begin late.
+fn is_one_history(alloc: Global, halls: u8, late: usize, every: u64) -> bool {
+    let mut store = Lossy {
+        store: MemoryStore::new(alloc),
+        puts: 0,
+        every,
+    };
+    match fronts_of(alloc, halls) {
+        Some(mut fronts) => tell_one_history(alloc, &mut fronts, late, &mut store),
+        None => false,
+    }
+}
+
+#[test]
+fn two_halls_tell_what_one_tells(rt: HostRuntime) {
+    assert!(rt; is_one_history(rt.alloc(), 2, 0, 0));
+}
+
+#[test]
+fn three_halls_go_on_where_answers_are_lost_and_two_start_late(rt: HostRuntime) {
+    assert!(rt; is_one_history(rt.alloc(), 3, STEPS / 9, 3));
+}

@@ -1,0 +1,214 @@
+//! Records of runs.
+
+use crate::playing_tests::{Played, config, what_is_left};
+use crate::worlds_tests::{ROWS, Row, spelled};
+use schedule_player::{Config, Fault, READ_BYTES, Tried, WorldKind, record};
+use std::alloc::{AllocError, Allocator, Global};
+use std::process::Abort;
+use tests_doubles::{FaultyReader, FaultyWriter};
+
+/// A run whose record is written; one in a world without names is none.
+pub(crate) fn recorded<A: Allocator + Clone>(
+    config: Config,
+    alloc: A,
+    reader: FaultyReader<'_>,
+    writer: FaultyWriter,
+) -> Played<()> {
+    let mut reader = Tried::new(reader);
+    let mut writer = Tried::new(writer);
+    let outcome = if config.world.gives_names() {
+        record(alloc, &mut reader, &mut writer, config)
+    } else {
+        Err(Fault::Read)
+    };
+    what_is_left(outcome, reader, writer)
+}
+
+/// Appends the line of an event, with the view by which a name was given where it is one.
+fn put_line(
+    text: &mut Vec<u8>,
+    event: &[u8],
+    reply: &[u8],
+    view: Option<&[u8]>,
+) -> Result<(), AllocError> {
+    for piece in [
+        b"{\"command\":\"".as_slice(),
+        event,
+        b"\",\"reply\":\"",
+        reply,
+        b"\"",
+    ] {
+        text.extend_from_slice(piece)?;
+    }
+    if let Some(pairs) = view {
+        text.extend_from_slice(b",\"view\":\"")?;
+        text.extend_from_slice(pairs)?;
+        text.extend_from_slice(b"\"")?;
+    }
+    text.extend_from_slice(b"}\n")?;
+    Ok(())
+}
+
+/// Appends the lines that these lines and the replies to them make, with the views of the names in order, where no line is
+/// bad.
+fn put_lines(
+    text: &mut Vec<u8>,
+    asked: &[u8],
+    said: &[u8],
+    views: &[u8],
+) -> Result<(), AllocError> {
+    let lines = asked.split(|byte| *byte == b'\n');
+    let replies = said.split(|byte| *byte == b'\n');
+    let mut shown = views.split(|byte| *byte == b'\n');
+    for (line, reply) in lines.zip(replies) {
+        if line.is_empty() || line.starts_with(b"owner") {
+            continue;
+        }
+        let view = if reply.starts_with(b"named ") {
+            shown.next()
+        } else {
+            None
+        };
+        put_line(text, line, reply, view)?;
+    }
+    Ok(())
+}
+
+/// The header of a record of this config.
+fn header(rt: &impl Abort, alloc: Global, config: Config) -> String {
+    let world = if config.world == WorldKind::Tree {
+        "tree"
+    } else {
+        "rename"
+    };
+    let header = format!(in alloc;
+        "{{\"format\":\"slot-record\",\"k\":{},\"limit\":{},\"m\":{},\"version\":2,\"world\":\"{world}\"}}\n",
+        config.k, config.limit, config.m
+    );
+    header.expect(rt, "room for a header")
+}
+
+/// The record that these lines and the replies to them make.
+pub(crate) fn record_text(
+    rt: &impl Abort,
+    alloc: Global,
+    config: Config,
+    asked: &[u8],
+    said: &[u8],
+    views: &[u8],
+) -> Vec<u8> {
+    let mut text = header(rt, alloc, config).into_bytes();
+    put_lines(&mut text, asked, said, views).expect(rt, "room for a record");
+    text
+}
+
+/// Compares the record of a run that is read and written in pieces of so many bytes.
+fn is_recorded(
+    rt: &impl Abort,
+    alloc: Global,
+    config: Config,
+    (input, text): (&[u8], &[u8]),
+    piece: usize,
+) {
+    let p = recorded(
+        config,
+        alloc,
+        FaultyReader::new(input, piece, 0),
+        FaultyWriter::new(alloc, piece, 0, false),
+    );
+    assert!(rt;
+        p.outcome.is_ok() && p.text.as_slice() == text,
+        "{piece} {input:?}"
+    );
+}
+
+/// Records a row however the bytes are cut.
+fn row_is_recorded(rt: &impl Abort, alloc: Global, row: &Row) {
+    let config = row.config(rt);
+    let asked = spelled(rt, alloc, row.asked);
+    let said = spelled(rt, alloc, row.said);
+    let views = spelled(rt, alloc, row.views);
+    let text = record_text(rt, alloc, config, &asked, &said, &views);
+    for piece in [1, 7, READ_BYTES] {
+        is_recorded(rt, alloc, config, (&asked, &text), piece);
+    }
+}
+
+#[test]
+fn the_record_of_a_row_is_its_events_with_their_replies(rt: HostRuntime) {
+    for row in &ROWS {
+        row_is_recorded(&rt, rt.alloc(), row);
+    }
+}
+
+/// Lines of each kind, and the record of those that are recorded.
+const LINES: &[u8] = b"begin 7\nstep 7\nstep 9\nowner 1\nSTEP 7\n\nenter 7\nquit\nstep 7\n";
+
+const RECORD: &[u8] =
+    b"{\"format\":\"slot-record\",\"k\":4,\"limit\":1000,\"m\":2,\"version\":2,\"world\":\"rename\"}
+{\"command\":\"begin 7\",\"reply\":\"ok\"}
+{\"command\":\"step 7\",\"reply\":\"quiet\"}
+{\"command\":\"step 9\",\"reply\":\"refused 4\"}
+{\"command\":\"enter 7\",\"reply\":\"ok\"}
+";
+
+const HEADER: &[u8] =
+    b"{\"format\":\"slot-record\",\"k\":4,\"limit\":1000,\"m\":2,\"version\":2,\"world\":\"rename\"}\n";
+
+#[test]
+fn owners_bad_lines_and_quit_are_not_recorded(rt: HostRuntime) {
+    let config = config(&rt, WorldKind::Rename, 2);
+    is_recorded(&rt, rt.alloc(), config, (LINES, RECORD), 4);
+    is_recorded(&rt, rt.alloc(), config, (b"", HEADER), 4);
+}
+
+/// A read of a record fails: whole lines were written.
+fn one_read_fails(rt: &impl Abort, alloc: Global, config: Config, at: u64) {
+    let p = recorded(
+        config,
+        alloc,
+        FaultyReader::new(LINES, 4, at),
+        FaultyWriter::new(alloc, 64, 0, false),
+    );
+    let is_part = RECORD.starts_with(&p.text) && p.text.ends_with(b"}\n");
+    assert!(rt; p.outcome.err() == Some(Fault::Read) && is_part, "at {at}");
+}
+
+/// A write of a record fails: a beginning of it was written, and where that is less than the header, nothing was read.
+fn one_write_fails(rt: &impl Abort, alloc: Global, config: Config, at: u64, takes_nothing: bool) {
+    let p = recorded(
+        config,
+        alloc,
+        FaultyReader::new(LINES, 4, 0),
+        FaultyWriter::new(alloc, 3, at, takes_nothing),
+    );
+    let is_part = RECORD.starts_with(&p.text) && p.text.len() < RECORD.len();
+    let is_unread = (p.reads == 0) == (at <= HEADER_WRITES);
+    assert!(rt;
+        p.outcome.err() == Some(Fault::Write) && is_part && is_unread,
+        "at {at}"
+    );
+}
+
+/// How many writes of three bytes the header of `RECORD` takes.
+const HEADER_WRITES: u64 = 27;
+
+#[test]
+fn each_read_and_each_write_of_a_record_fails_once(rt: HostRuntime) {
+    let alloc = rt.alloc();
+    let config = config(&rt, WorldKind::Rename, 2);
+    let whole = recorded(
+        config,
+        alloc,
+        FaultyReader::new(LINES, 4, 0),
+        FaultyWriter::new(alloc, 3, 0, false),
+    );
+    let (reads, writes) = (whole.reads, whole.writes);
+    for at in 1..=reads {
+        one_read_fails(&rt, alloc, config, at);
+    }
+    for at in 1..=writes {
+        one_write_fails(&rt, alloc, config, at, false);
+        one_write_fails(&rt, alloc, config, at, true);
+    }
+}

@@ -1,0 +1,105 @@
+//! Two small services for tests: a world that refuses a growth now and then, and a service whose replies vary.
+
+ghost use Rattle.std.specs.Prelude.{ℕ, true, ◌≡◌};
+ghost use Rattle.std.proofs.Common.{refl};
+ghost use Rattle.commands.specs.Config.{is_kind};
+ghost use Rattle.commands.specs.declared.kind.WorldKind.TheVariants.{Splitter};
+ghost use Rattle.schedule_player.specs.VisitProofs.{kind_meant};
+ghost use Rattle.tests_player.specs.Toys.{ShelfMay, IsShelfRun, IsSide};
+ghost use Rattle.tests_player.specs.ToyProofs.{shelf_answers, shelf_lawful, shelf_tells, one_shelf_fresh, one_shelf_reply, coin_answers};
+ghost use Rattle.schedule_player.specs.Talks.{IsTalkOf};
+ghost use Rattle.schedule_player.specs.Visits.{knows_visits};
+
+use commands::{Config, Event, Reply, ShortReply};
+use schedule_player::{Service, World};
+use std::marker::Model;
+use step_memory::{Refusal, View};
+
+/// Counts its events, and wants memory for each, which is refused at every third asking.
+#[derive(Drop)]
+pub struct Shelf {
+    /// How many events were taken.
+    pub taken: u64,
+    asked: u64,
+}
+
+impl Model for Shelf {
+    ghost Value = { ℕ };
+
+    ghost view = { λ s. s.taken };
+}
+
+impl<R> Service<R> for Shelf {
+    ghost knows = { knows_visits };
+
+    ghost may = { ShelfMay };
+
+    ghost answers = { shelf_answers };
+
+    fn apply(&mut self, _rt: &R, _event: Event, _view: &mut View) -> ShortReply {
+        self.asked = self.asked.wrapping_add(1);
+        if self.asked % 3 == 0 || self.taken == u64::MAX {
+            return ShortReply::Refused(Refusal::NoMemory);
+        }
+        self.taken += 1;
+        ShortReply::Ok
+    }
+
+    fn owner(&mut self, _rt: &R, _n: u64) -> Reply {
+        Reply::Refused(Refusal::OutOfRange)
+    }
+}
+
+impl<A: Drop, R> World<A, R> for Shelf {
+    ghost serves = { λ kind. is_kind kind Splitter };
+
+    ghost fresh = { λ c w. w ≡ 0 };
+
+    ghost IsRunIn = { λ c. IsShelfRun };
+
+    ghost TalkIn = { λ c. IsTalkOf IsShelfRun c.m (λ w. w ≡ 0) ShelfMay };
+
+    fn open(_alloc: A, _config: Config) -> Result<Self, Refusal> {
+        Ok(Shelf { taken: 0, asked: 0 })
+    }
+
+    ghost meant = { kind_meant Splitter refl };
+
+    ghost lawful = { λ c w u ts fresh. shelf_lawful w u ts };
+
+    ghost tells = { λ c w u ts fresh. shelf_tells c.m w u ts };
+
+    ghost talks = { λ c ts serves talk. talk };
+
+    ghost one_fresh = { λ c. one_shelf_fresh };
+
+    ghost one_reply = { one_shelf_reply };
+}
+
+/// Says `stop` and `right` in turn, which its rules leave open, and that nobody has a name.
+#[derive(Drop)]
+pub struct Coin {
+    /// Whether `stop` is next.
+    pub stops: bool,
+}
+
+impl<R> Service<R> for Coin {
+    ghost knows = { λ q. true };
+
+    ghost may = { λ w q r u. IsSide q r };
+
+    ghost answers = { λ w q known. coin_answers w q };
+
+    fn apply(&mut self, _rt: &R, _event: Event, _view: &mut View) -> ShortReply {
+        self.stops = !self.stops;
+        if self.stops {
+            ShortReply::Right
+        } else {
+            ShortReply::Stop
+        }
+    }
+
+    fn owner(&mut self, _rt: &R, _n: u64) -> Reply {
+        Reply::Owner(None)
+    }
+}

@@ -1,5 +1,0 @@
-use Rattle.event_server.specs.Rooms.{IsRoom}
-use Rattle.turn_trials.proofs.turn_tests.run.Given as goal
-
-abbrev pub invariant-loop-turns : goal.invariant-loop-turns
-invariant-loop-turns l = IsRoom l.room
