@@ -1,8 +1,8 @@
 //! What is asked and answered: the vocabulary of all that is played.
 //!
 //! An *event* is what one participant does, and a *command* what a line asks for: an event, who has a name, or the end. A
-//! *reply* is what is answered, a refusal among them; one with a view is also had in a few bytes, with the view beside it
-//! (`ShortReply`). An *exchange* is an event with its reply. A line that is no command is bad, for one of five reasons
+//! *reply* is what is answered, a refusal among them, with the view that it shows (`Reply<View>`) or, in a few bytes, with the view beside it
+//! (`Reply<()>`). An *exchange* is an event with its reply. A line that is no command is bad, for one of five reasons
 //! (`Bad`). What a run is of is a `Config`: one of the worlds (`WorldKind`), and its sizes.
 //!
 //! Nothing here knows how a world answers.
@@ -15,7 +15,6 @@ pub mod event;
 pub mod exchange;
 pub mod kind;
 pub mod reply;
-pub mod short_reply;
 
 pub use bad::Bad;
 pub use command::Command;
@@ -24,4 +23,3 @@ pub use event::Event;
 pub use exchange::Exchange;
 pub use kind::{ANY_WORLD, WorldKind};
 pub use reply::Reply;
-pub use short_reply::ShortReply;

@@ -1,14 +1,14 @@
 //! What is answered to an event.
 
-ghost use Rattle.std.specs.Prelude.{◌≡◌};
-ghost use Rattle.commands.specs.Replies.{is_refusal, with_view};
+ghost use Rattle.std.specs.Prelude.{◌≡◌, ℕ, List};
+ghost use Rattle.commands.specs.Replies.{is_refusal, with_view, done_reply, left_reply, value_reply};
 
-use crate::short_reply::ShortReply;
 use step_memory::{Place, Refusal, View};
 
-/// What is answered to an event. A view takes a kilobyte: a `ShortReply` stands for it where events are many.
+/// What is answered to an event, and what it carries of a view: the view that it shows, which takes a kilobyte, or nothing, where
+/// events are many and the view stands beside it, so that the reply takes a few bytes.
 #[derive(Clone, Copy, Debug, Drop, PartialEq, Eq)]
-pub enum Reply {
+pub enum Reply<V> {
     /// Done.
     Ok,
     /// The step says nothing.
@@ -24,9 +24,9 @@ pub enum Reply {
     /// The participant has proposed this number.
     Proposed(u64),
     /// The participant has seen that another proposes what it proposes.
-    Saw(View),
+    Saw(V),
     /// The participant has this name, by this view.
-    Named(u64, View),
+    Named(u64, V),
     /// The participant has used up its rounds.
     Spent,
     /// The bit was set: the next probe is of the next one.
@@ -43,42 +43,100 @@ pub enum Reply {
     Refused(Refusal),
 }
 
-impl Reply {
+impl<V> Reply<V> {
     /// Whether it is a refusal: then the event was not accepted.
     #[inline(always)]
     pub fn is_refusal(&self) -> bool
-        ensures { result ≡ is_refusal self.now }
+        ensures { (view : List (ℕ × ℕ)) → result ≡ is_refusal (with_view self.now view) }
     {
         matches!(self, Reply::Refused(_))
     }
+}
 
+impl Reply<View> {
     /// The reply without its view, which is put beside it.
-    pub fn shorten(self, view: &mut View) -> ShortReply
+    pub fn shorten(self, view: &mut View) -> Reply<()>
         ensures { with_view result view.new ≡ self }
     {
         match self {
-            Reply::Ok => ShortReply::Ok,
-            Reply::Quiet => ShortReply::Quiet,
-            Reply::Stop => ShortReply::Stop,
-            Reply::Right => ShortReply::Right,
-            Reply::Down => ShortReply::Down,
-            Reply::Place(place) => ShortReply::Place(place),
-            Reply::Proposed(number) => ShortReply::Proposed(number),
+            Reply::Ok => Reply::Ok,
+            Reply::Quiet => Reply::Quiet,
+            Reply::Stop => Reply::Stop,
+            Reply::Right => Reply::Right,
+            Reply::Down => Reply::Down,
+            Reply::Place(place) => Reply::Place(place),
+            Reply::Proposed(number) => Reply::Proposed(number),
             Reply::Saw(seen) => {
                 *view = seen;
-                ShortReply::Saw
+                Reply::Saw(())
             }
             Reply::Named(name, seen) => {
                 *view = seen;
-                ShortReply::Named(name)
+                Reply::Named(name, ())
             }
-            Reply::Spent => ShortReply::Spent,
-            Reply::Missed => ShortReply::Missed,
-            Reply::Got(number) => ShortReply::Got(number),
-            Reply::Left(number) => ShortReply::Left(number),
-            Reply::Value(value) => ShortReply::Value(value),
-            Reply::Owner(owner) => ShortReply::Owner(owner),
-            Reply::Refused(refusal) => ShortReply::Refused(refusal),
+            Reply::Spent => Reply::Spent,
+            Reply::Missed => Reply::Missed,
+            Reply::Got(number) => Reply::Got(number),
+            Reply::Left(number) => Reply::Left(number),
+            Reply::Value(value) => Reply::Value(value),
+            Reply::Owner(owner) => Reply::Owner(owner),
+            Reply::Refused(refusal) => Reply::Refused(refusal),
+        }
+    }
+}
+
+impl Reply<()> {
+    /// The reply with this view, which stood beside it.
+    pub fn with(self, view: &View) -> Reply<View>
+        ensures { result ≡ with_view self view.now }
+    {
+        match self {
+            Reply::Ok => Reply::Ok,
+            Reply::Quiet => Reply::Quiet,
+            Reply::Stop => Reply::Stop,
+            Reply::Right => Reply::Right,
+            Reply::Down => Reply::Down,
+            Reply::Place(place) => Reply::Place(place),
+            Reply::Proposed(number) => Reply::Proposed(number),
+            Reply::Saw(()) => Reply::Saw(*view),
+            Reply::Named(name, ()) => Reply::Named(name, *view),
+            Reply::Spent => Reply::Spent,
+            Reply::Missed => Reply::Missed,
+            Reply::Got(number) => Reply::Got(number),
+            Reply::Left(number) => Reply::Left(number),
+            Reply::Value(value) => Reply::Value(value),
+            Reply::Owner(owner) => Reply::Owner(owner),
+            Reply::Refused(refusal) => Reply::Refused(refusal),
+        }
+    }
+
+    /// What is answered to an event that only is done, by its outcome.
+    pub fn of_done(outcome: Result<(), Refusal>) -> Self
+        ensures { (view : List (ℕ × ℕ)) → with_view result view ≡ done_reply outcome }
+    {
+        match outcome {
+            Ok(()) => Reply::Ok,
+            Err(refusal) => Reply::Refused(refusal),
+        }
+    }
+
+    /// What is answered to one who leaves, by its outcome.
+    pub fn of_leave(outcome: Result<u8, Refusal>) -> Self
+        ensures { (view : List (ℕ × ℕ)) → with_view result view ≡ left_reply outcome }
+    {
+        match outcome {
+            Ok(number) => Reply::Left(number),
+            Err(refusal) => Reply::Refused(refusal),
+        }
+    }
+
+    /// What is answered to one who gets a value, by its outcome.
+    pub fn of_value(outcome: Result<u64, Refusal>) -> Self
+        ensures { (view : List (ℕ × ℕ)) → with_view result view ≡ value_reply outcome }
+    {
+        match outcome {
+            Ok(value) => Reply::Value(value),
+            Err(refusal) => Reply::Refused(refusal),
         }
     }
 }

@@ -25,7 +25,7 @@ use Rattle.slot_array.specs.Machine.{slots, slots_next, IsSlotReply}
 use Rattle.slot_array.proofs.SlotsKeep.{slots_law, slot_there}
 use Rattle.commands.specs.declared.event.Event.{Event}
 use Rattle.commands.specs.declared.event.Event.TheVariants.{Begin, Step, Enter, Probe, Leave, Put, Get, Widen}
-use Rattle.commands.specs.declared.reply.Reply.{Reply}
+use Rattle.commands.specs.Replies.{ShownReply}
 use Rattle.commands.specs.declared.reply.Reply.TheVariants as reply
 use Rattle.desk.specs.DeskState.{DeskState}
 use Rattle.desk.specs.DeskRun.{IsDeskRun, desk_terms}
@@ -135,15 +135,15 @@ module _ {S R V U K : Type 0} (W : KnownPlaces S R V U K) (kind : WorldKind) (mo
   lack_leads (Widen more) h = absurd (cc)
 
   -- so calls lead on by whatever a desk may answer
-  pub goes_on : (e : Event) (r : Reply) (u : DeskState S U K) → may_by (rules_over W) w e r u → LeadsBy W kind most limit size calls e r u
+  pub goes_on : (e : Event) (r : ShownReply) (u : DeskState S U K) → may_by (rules_over W) w e r u → LeadsBy W kind most limit size calls e r u
   goes_on e r u (inl m) = record {
     call = call_for W w e;
-    spelled = call_spelled e ∙ ap (λ (x : Reply). exchange e x) (sym m.0);
+    spelled = call_spelled e ∙ ap (λ (x : ShownReply). exchange e x) (sym m.0);
     after = subst (λ (x : DeskState S U K). AfterDesk W kind most limit size x (calls ++ call_for W w e ∷ [])) (sym m.1) (call_after e);
   }
   goes_on e r u (inr m) =
       subst (λ (x : DeskState S U K). LeadsBy W kind most limit size calls e r x) (sym m.1)
-      (subst (λ (x : Reply). LeadsBy W kind most limit size calls e x w) (sym m.0) (lack_leads e m.2))
+      (subst (λ (x : ShownReply). LeadsBy W kind most limit size calls e x w) (sym m.0) (lack_leads e m.2))
 
 -- the exchanges of a desk's calls are a run, where its renaming world keeps the law within these bounds
 unfoldable pub is_run : {S R V U K : Type 0} (W : KnownPlaces S R V U K) (kind : WorldKind) (bounds : ℕ → SnapBounds) (most limit size : ℕ) (w : DeskState S U K) (calls : List DeskCall) →

@@ -15,7 +15,7 @@ use Rattle.slot_array.specs.SlotCalls.SlotCall.{Pooled, Stored, Fetched, Extende
 use Rattle.commands.specs.declared.event.Event.{Event}
 use Rattle.commands.specs.declared.event.Event.TheVariants as event
 use Rattle.commands.specs.declared.exchange.Exchange.{Exchange}
-use Rattle.commands.specs.declared.reply.Reply.{Reply}
+use Rattle.commands.specs.Replies.{ShownReply}
 use Rattle.commands.specs.declared.reply.Reply.TheVariants as reply
 use Rattle.desk.specs.DeskCalls.{DeskCall, rename_calls, exchange, exchange_of}
 use Rattle.desk.specs.DeskCalls.DeskCall.{Renamed, Slotted}
@@ -94,12 +94,12 @@ was_given terms o o' p n (h ∷ r) run named = elim (was_given terms (after o h)
 ]
 
 -- the step of p and its reply, by the exchange
-stepped_by : (p n q : ℕ) (said : Reply) (x : IsNaming p n (exchange (event.Step q) said)) → (q ≡ p) × (said ≡ reply.Named n x.view)
+stepped_by : (p n q : ℕ) (said : ShownReply) (x : IsNaming p n (exchange (event.Step q) said)) → (q ≡ p) × (said ≡ reply.Named n x.view)
 stepped_by p n q said x =
     let e : event.Step q ≡ event.Step p = ap (λ (x : Exchange). x.event) x.is in
     (cc, ap (λ (x : Exchange). x.reply) x.is)
 
-other_event : (p n : ℕ) (e : Event) (said : Reply) → (e ≡ event.Step p → ⊥) → IsNaming p n (exchange e said) → ⊥
+other_event : (p n : ℕ) (e : Event) (said : ShownReply) → (e ≡ event.Step p → ⊥) → IsNaming p n (exchange e said) → ⊥
 other_event p n e said differs x = differs (ap (λ (x : Exchange). x.event) x.is)
 
 -- a call that is shown as a naming is one

@@ -21,15 +21,14 @@ use Rattle.bit_allocator.specs.Widening.{widen_refusal}
 use Rattle.slot_array.specs.Slots.{stored_reply}
 use Rattle.commands.specs.declared.event.Event.{Event}
 use Rattle.commands.specs.declared.event.Event.TheVariants.{Begin, Step, Enter, Probe as Probing, Leave, Put, Get, Widen}
-use Rattle.commands.specs.declared.reply.Reply.{Reply}
 use Rattle.commands.specs.declared.reply.Reply.TheVariants.{Refused}
-use Rattle.commands.specs.Replies.{done_reply, left_reply, value_reply}
+use Rattle.commands.specs.Replies.{ShownReply, done_reply, left_reply, value_reply}
 use Rattle.desk.specs.Replies.{shown_step, step_reply, shown_probe, probe_reply}
 use Rattle.desk.specs.DeskRules.{fetched, refusal_of, refusal_over, reply_over}
 use Rattle.desk.specs.DeskState.{DeskState}
 
 -- this reply is a refusal just where there is a reason for one
-abbrev IsSaid : Reply → Option Refusal → Type 0
+abbrev IsSaid : ShownReply → Option Refusal → Type 0
 IsSaid told said = (why : Refusal) → (told ≡ Refused why) ↔ (said ≡ Some why)
 
 said_done : (o : Option Refusal) → IsSaid (done_reply (done_unless o)) o

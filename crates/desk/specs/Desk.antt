@@ -12,7 +12,7 @@ use Rattle.commands.specs.declared.kind.WorldKind.{WorldKind}
 use Rattle.commands.specs.declared.kind.WorldKind.TheVariants.{Rename, Tree}
 use Rattle.rename_core.specs.RenameWorld.{owner_by}
 use Rattle.commands.specs.declared.event.Event.{Event}
-use Rattle.commands.specs.declared.reply.Reply.{Reply}
+use Rattle.commands.specs.Replies.{ShownReply}
 use Rattle.commands.specs.declared.reply.Reply.TheVariants as reply
 use Rattle.desk.specs.DeskCalls.{DeskCall, exchange, exchange_of, AfterDesk}
 use Rattle.desk.specs.DeskRules.{fresh_over, refusal_over, reply_over, after_over, grows_over}
@@ -21,7 +21,7 @@ use Rattle.desk.specs.DeskValue.{DeskValue}
 use Rattle.desk.specs.DeskValue.DeskValue.{OverGrid, OverTree}
 use Rattle.desk.specs.Rules.{Rules}
 
-abbrev pub desk_reply : DeskValue → Event → Reply
+abbrev pub desk_reply : DeskValue → Event → ShownReply
 desk_reply (OverGrid w) e = reply_over grid_places w e
 desk_reply (OverTree w) e = reply_over tree_places w e
 
@@ -45,14 +45,14 @@ desk_refusal (OverGrid w) e = refusal_over w e
 desk_refusal (OverTree w) e = refusal_over w e
 
 -- what is told of a number, where names are from 1 to 2m - 1
-abbrev pub owner_told : ℕ → ℕ → Option ℕ → Reply
+abbrev pub owner_told : ℕ → ℕ → Option ℕ → ShownReply
 owner_told most number owner = if (number == 0) || nat_le (2 * most) number then reply.Refused refusal.OutOfRange else reply.Owner owner
 
-abbrev pub owner_over : {S U K : Type 0} → DeskState S U K → ℕ → Reply
+abbrev pub owner_over : {S U K : Type 0} → DeskState S U K → ℕ → ShownReply
 owner_over w number = owner_told w.names.snap.most number (owner_by number w.names.rounds)
 
 -- who has a name, as a desk tells it
-abbrev pub owner_reply : DeskValue → ℕ → Reply
+abbrev pub owner_reply : DeskValue → ℕ → ShownReply
 owner_reply (OverGrid w) number = owner_over w number
 owner_reply (OverTree w) number = owner_over w number
 
@@ -76,7 +76,7 @@ IsAfterDesk config (OverGrid w) calls = (config.world ≡ Rename) × AfterDesk g
 IsAfterDesk config (OverTree w) calls = (config.world ≡ Tree) × AfterDesk tree_places Tree config.m config.limit config.k w calls
 
 -- calls lead on to this desk by one that is this exchange
-pub record LeadsDesk (config : Config) (calls : List DeskCall) (e : Event) (r : Reply) (new : DeskValue) : Type 0 where
+pub record LeadsDesk (config : Config) (calls : List DeskCall) (e : Event) (r : ShownReply) (new : DeskValue) : Type 0 where
   pub call : DeskCall
   pub spelled : exchange_of call ≡ exchange e r
   pub after : IsAfterDesk config new (calls ++ call ∷ [])

@@ -14,8 +14,7 @@ use Rattle.slot_array.specs.Machine.{slots}
 use Rattle.commands.specs.declared.event.Event.{Event}
 use Rattle.commands.specs.declared.event.Event.TheVariants as event
 use Rattle.commands.specs.declared.exchange.Exchange.{Exchange}
-use Rattle.commands.specs.declared.reply.Reply.{Reply}
-use Rattle.commands.specs.Replies.{done_reply, left_reply, value_reply}
+use Rattle.commands.specs.Replies.{ShownReply, done_reply, left_reply, value_reply}
 use Rattle.desk.specs.Replies.{step_reply, probe_reply}
 use Rattle.desk.specs.DeskState.{DeskState}
 
@@ -36,7 +35,7 @@ slot_calls [] = []
 slot_calls (Renamed h ∷ calls) = slot_calls calls
 slot_calls (Slotted h ∷ calls) = h ∷ slot_calls calls
 
-abbrev pub exchange : Event → Reply → Exchange
+abbrev pub exchange : Event → ShownReply → Exchange
 exchange e r = record { event = e; reply = r }
 
 -- the exchange that a call is
@@ -73,7 +72,7 @@ pub record AfterDesk {S R V U K : Type 0} (W : KnownPlaces S R V U K) (kind : Wo
   pub new_slots : BeginSlots (slot_calls calls)
 
 -- calls lead on by one that is this exchange
-pub record LeadsBy {S R V U K : Type 0} (W : KnownPlaces S R V U K) (kind : WorldKind) (most limit size : ℕ) (calls : List DeskCall) (e : Event) (r : Reply) (new : DeskState S U K) : Type 0 where
+pub record LeadsBy {S R V U K : Type 0} (W : KnownPlaces S R V U K) (kind : WorldKind) (most limit size : ℕ) (calls : List DeskCall) (e : Event) (r : ShownReply) (new : DeskState S U K) : Type 0 where
   pub call : DeskCall
   pub spelled : exchange_of call ≡ exchange e r
   pub after : AfterDesk W kind most limit size new (calls ++ call ∷ [])

@@ -14,7 +14,7 @@ use Rattle.slot_array.specs.Slots.{stored_reply}
 use Rattle.slot_array.specs.Machine.{slots_next}
 use Rattle.commands.specs.declared.event.Event.{Event}
 use Rattle.commands.specs.declared.event.Event.TheVariants.{Begin, Step, Enter, Probe, Leave, Put, Get, Widen}
-use Rattle.commands.specs.declared.reply.Reply.{Reply}
+use Rattle.commands.specs.Replies.{ShownReply}
 use Rattle.desk.specs.DeskCalls.{DeskCall, exchange_of}
 use Rattle.desk.specs.DeskCalls.DeskCall.{Renamed, Slotted}
 use Rattle.desk.specs.DeskState.{DeskState}
@@ -72,7 +72,7 @@ module _ {S R V U K : Type 0} (W : KnownPlaces S R V U K) where
   next_over w (Slotted h) = record { names = w.names; slots = slots_next w.slots h }
 
   -- the reply to an event where no growth is refused, and the desk after it
-  abbrev pub reply_over : DeskState S U K → Event → Reply
+  abbrev pub reply_over : DeskState S U K → Event → ShownReply
   reply_over w e = (exchange_of (call_for w e)).reply
 
   abbrev pub after_over : DeskState S U K → Event → DeskState S U K

@@ -7,7 +7,7 @@ use Rattle.commands.specs.declared.config.Config.{Config}
 use Rattle.rename_core.specs.RenameObject.{RenameTerms}
 use Rattle.commands.specs.declared.event.Event.{Event}
 use Rattle.commands.specs.declared.exchange.Exchange.{Exchange}
-use Rattle.commands.specs.declared.reply.Reply.{Reply}
+use Rattle.commands.specs.Replies.{ShownReply}
 use Rattle.commands.specs.declared.reply.Reply.TheVariants as reply
 use Rattle.commands.specs.Config.{gives_names}
 use Rattle.desk.specs.Desk.{fresh_desk, desk_reply, desk_rules, desk_refusal, owner_reply, IsFreshDesk, IsAfterDesk, LeadsDesk}
@@ -36,14 +36,14 @@ IsOneFreshDesk = (c : Config) (w u : DeskValue) → IsFreshDesk c w → IsFreshD
 
 -- whatever a desk may answer to an event leads on by one call that is this exchange
 abbrev pub DeskGoesOn : Type 0
-DeskGoesOn = (c : Config) (w : DeskValue) (calls : List DeskCall) → IsAfterDesk c w calls → (e : Event) (r : Reply) (u : DeskValue) → may_by desk_rules w e r u → LeadsDesk c calls e r u
+DeskGoesOn = (c : Config) (w : DeskValue) (calls : List DeskCall) → IsAfterDesk c w calls → (e : Event) (r : ShownReply) (u : DeskValue) → may_by desk_rules w e r u → LeadsDesk c calls e r u
 
 -- the exchanges of every list of calls that leads to a desk are a run
 abbrev pub DeskKeepsRuns : Type 0
 DeskKeepsRuns = (c : Config) (w : DeskValue) (calls : List DeskCall) → IsAfterDesk c w calls → IsDeskRunOf c (map exchange_of calls)
 
 -- what a desk tells of a name is right after these exchanges
-abbrev pub TellsOwners : DeskValue → ℕ → Reply → Type 0
+abbrev pub TellsOwners : DeskValue → ℕ → ShownReply → Type 0
 TellsOwners w n told = (c : Config) (calls : List DeskCall) → IsAfterDesk c w calls → IsOwnerReply c.m (map exchange_of calls) n told
 
 abbrev pub DeskTellsOwners : Type 0
@@ -58,7 +58,7 @@ DeskRefusesAsSaid = (w : DeskValue) (e : Event) → RefusesAsSaid w e
 
 -- where no growth is refused there is one reply, and one desk is left
 abbrev pub IsDeskDetermined : Type 0
-IsDeskDetermined = (w u v : DeskValue) (e : Event) (a b : Reply) → may_by desk_rules w e a u → may_by desk_rules w e b v →
+IsDeskDetermined = (w u v : DeskValue) (e : Event) (a b : ShownReply) → may_by desk_rules w e a u → may_by desk_rules w e b v →
     a ≢ reply.Refused refusal.NoMemory → b ≢ reply.Refused refusal.NoMemory → (a ≡ b) × (u ≡ v)
 
 -- this holds of the exchanges of each run

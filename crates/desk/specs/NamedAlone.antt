@@ -6,12 +6,11 @@ use Rattle.rename_core.specs.RenameObject.{RenameTerms}
 use Rattle.commands.specs.declared.event.Event.{Event}
 use Rattle.commands.specs.declared.event.Event.TheVariants.{Begin, Step}
 use Rattle.commands.specs.declared.exchange.Exchange.{Exchange}
-use Rattle.commands.specs.declared.reply.Reply.{Reply}
 use Rattle.commands.specs.declared.reply.Reply.TheVariants.{Ok, Proposed, Spent}
 use Rattle.desk.specs.DeskCalls.{exchange}
 use Rattle.desk.specs.DeskRun.{IsDeskRun}
 use Rattle.desk.specs.Names.{WasNamed}
-use Rattle.commands.specs.Replies.{is_refusal}
+use Rattle.commands.specs.Replies.{ShownReply, is_refusal}
 
 -- this exchange is among these
 abbrev pub IsAmong : Exchange → List Exchange → Type 0
@@ -27,7 +26,7 @@ abbrev pub WasSpent : ℕ → List Exchange → Type 0
 WasSpent p r = IsAmong (exchange (Step p) Spent) r
 
 -- one more, where this is a proposal of p
-abbrev pub proposed_more : ℕ → Event → Reply → ℕ → ℕ
+abbrev pub proposed_more : ℕ → Event → ShownReply → ℕ → ℕ
 proposed_more p (Step q) (Proposed number) n = if p == q then n + 1 else n
 proposed_more p e r n = n
 
@@ -37,7 +36,7 @@ proposals_of p [] = 0
 proposals_of p (x ∷ r) = proposed_more p x.event x.reply (proposals_of p r)
 
 -- one more, where this is an accepted step of p
-abbrev pub stepped_more : ℕ → Event → Reply → ℕ → ℕ
+abbrev pub stepped_more : ℕ → Event → ShownReply → ℕ → ℕ
 stepped_more p (Step q) r n = if q == p && not (is_refusal r) then n + 1 else n
 stepped_more p e r n = n
 
@@ -47,7 +46,7 @@ steps_of p [] = 0
 steps_of p (x ∷ r) = stepped_more p x.event x.reply (steps_of p r)
 
 -- this is no accepted step of another than p
-abbrev pub LeavesAlone : ℕ → Event → Reply → Type 0
+abbrev pub LeavesAlone : ℕ → Event → ShownReply → Type 0
 LeavesAlone p (Step q) r = is_refusal r ≡ false → q ≡ p
 LeavesAlone p e r = Unit {0}
 

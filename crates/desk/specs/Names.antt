@@ -5,7 +5,7 @@ use Rattle.commands.specs.declared.event.Event.{Event}
 use Rattle.commands.specs.declared.event.Event.TheVariants as event
 use Rattle.commands.specs.declared.event.Event.TheVariants.{Begin}
 use Rattle.commands.specs.declared.exchange.Exchange.{Exchange}
-use Rattle.commands.specs.declared.reply.Reply.{Reply}
+use Rattle.commands.specs.Replies.{ShownReply}
 use Rattle.commands.specs.declared.reply.Reply.TheVariants as reply
 use Rattle.commands.specs.declared.reply.Reply.TheVariants.{Ok}
 
@@ -20,7 +20,7 @@ WasNamed p n [] = ⊥
 WasNamed p n (x ∷ r) = IsNaming p n x ⊎ WasNamed p n r
 
 -- one more, where this is an accepted `begin`
-abbrev pub begun_more : Event → Reply → ℕ → ℕ
+abbrev pub begun_more : Event → ShownReply → ℕ → ℕ
 begun_more (Begin p) Ok b = b + 1
 begun_more e r b = b
 
@@ -40,12 +40,12 @@ pub record IsNumber (most n : ℕ) : Type 0 where
   pub small : n ≤ 2 * most - 1
 
 -- the reply tells who was given the name among the exchanges, or that it was given to nobody
-pub record TellsOwner (r : List Exchange) (n : ℕ) (told : Reply) : Type 0 where
+pub record TellsOwner (r : List Exchange) (n : ℕ) (told : ShownReply) : Type 0 where
   pub owner : Option ℕ
   pub is : told ≡ reply.Owner owner
   pub given : IsOwnerIn r n owner
 
 -- the right answer, after these exchanges, to who has a name: a refusal exactly where names don't reach there
-pub record IsOwnerReply (most : ℕ) (r : List Exchange) (n : ℕ) (told : Reply) : Type 0 where
+pub record IsOwnerReply (most : ℕ) (r : List Exchange) (n : ℕ) (told : ShownReply) : Type 0 where
   pub out_of_range : (IsNumber most n → ⊥) → told ≡ reply.Refused refusal.OutOfRange
   pub in_range : IsNumber most n → TellsOwner r n told

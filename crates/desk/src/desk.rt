@@ -12,7 +12,7 @@ ghost use Rattle.desk.specs.Rules.{may_by};
 use crate::coming::{Coming, Register, coming_in_grid, coming_in_tree};
 use crate::held::{held_by_grid, held_by_tree, register_in_grid, register_in_tree};
 use crate::over::DeskOver;
-use commands::{Config, Event, Reply, ShortReply};
+use commands::{Config, Event, Reply};
 use slot_array::Slots;
 use snapshot_places::{Grid, TreePlaces};
 use std::alloc::Allocator;
@@ -67,7 +67,7 @@ impl<A: Allocator + Clone> Desk<A> {
     /// Takes one event and answers it, by at most one access. A refusal changes nothing. Want of memory is answered only
     /// where the step makes a node of a tree and nothing else is due; then the event may be asked again and is the same
     /// event.
-    pub fn apply(&mut self, event: Event) -> Reply
+    pub fn apply(&mut self, event: Event) -> Reply<View>
         ensures { may_by desk_rules self.old event result self.new }
     {
         let mut view = View::new();
@@ -76,7 +76,7 @@ impl<A: Allocator + Clone> Desk<A> {
 
     /// As `apply`, with a reply of a few bytes, and its view where it shows one.
     #[inline(always)]
-    pub fn apply_short(&mut self, event: Event, view: &mut View) -> ShortReply
+    pub fn apply_short(&mut self, event: Event, view: &mut View) -> Reply<()>
         ensures { may_by desk_rules self.old event (with_view result view.new) self.new }
     {
         match &mut self.parts {
@@ -161,7 +161,7 @@ impl<A: Allocator + Clone> Desk<A> {
 
     /// Who has a name, or that nobody has it; `OutOfRange` unless the number is from 1 to 2m - 1, for m participants. It
     /// changes nothing.
-    pub fn owner(&self, number: u64) -> Reply
+    pub fn owner(&self, number: u64) -> Reply<View>
         ensures value { result ≡ owner_reply self.now number }
 
         // It is who was given the name, among the exchanges of the events so far.

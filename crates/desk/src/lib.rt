@@ -44,6 +44,6 @@ mod outcomes;
 mod over;
 
 pub use coming::{Coming, Register};
-pub use commands::{Event, Exchange, Reply, ShortReply};
+pub use commands::{Event, Exchange, Reply};
 pub use desk::Desk;
 pub use laws::{law_of_desk, law_of_names};

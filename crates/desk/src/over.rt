@@ -12,7 +12,7 @@ ghost use Rattle.rename_core.specs.RenameWorld.{name_in};
 
 use crate::outcomes::{of_probe, of_step};
 use bit_allocator::Pool;
-use commands::{Config, Event, Reply, ShortReply};
+use commands::{Config, Event, Reply};
 use rename_core::{RenamePlaces, RenameWorld};
 use slot_array::Slots;
 use snapshot_core::{Known, Places};
@@ -68,18 +68,18 @@ where
     /// Takes one event and answers it, by at most one access, with the view that the reply shows beside it. Refusals come as in
     /// the renaming world, the pool and the slots, and change nothing.
     #[inline(always)]
-    pub(crate) fn apply_short(&mut self, event: Event, view: &mut View) -> ShortReply
+    pub(crate) fn apply_short(&mut self, event: Event, view: &mut View) -> Reply<()>
         ensures { may_by (rules_over ⟦<W as Known>⟧.places) self.old event (with_view result view.new) self.new }
     {
         match event {
-            Event::Begin(id) => ShortReply::of_done(self.names.begin(id)),
+            Event::Begin(id) => Reply::of_done(self.names.begin(id)),
             Event::Step(id) => of_step(self.names.step_short(id, view)),
-            Event::Enter(id) => ShortReply::of_done(self.slots.enter(id)),
+            Event::Enter(id) => Reply::of_done(self.slots.enter(id)),
             Event::Probe(id) => of_probe(self.slots.probe(id)),
-            Event::Leave(id) => ShortReply::of_leave(self.slots.leave(id)),
-            Event::Put(id, value) => ShortReply::of_done(self.slots.put(id, value)),
-            Event::Get(id) => ShortReply::of_value(self.slots.get(id).copied()),
-            Event::Widen(size) => ShortReply::of_done(self.slots.widen(size, 0)),
+            Event::Leave(id) => Reply::of_leave(self.slots.leave(id)),
+            Event::Put(id, value) => Reply::of_done(self.slots.put(id, value)),
+            Event::Get(id) => Reply::of_value(self.slots.get(id).copied()),
+            Event::Widen(size) => Reply::of_done(self.slots.widen(size, 0)),
         }
     }
 
@@ -138,7 +138,7 @@ where
     }
 
     /// Who has a name, or that nobody has it; a refusal where names don't reach there.
-    pub(crate) fn owner(&self, number: u64) -> Reply
+    pub(crate) fn owner(&self, number: u64) -> Reply<View>
         ensures { result ≡ owner_over self.now number }
     {
         if number == 0 || 2 * self.names.most() <= number {

@@ -12,7 +12,7 @@ use Rattle.commands.specs.declared.config.Config.{Config}
 use Rattle.commands.specs.declared.event.Event.{Event}
 use Rattle.commands.specs.declared.event.Event.TheVariants as event
 use Rattle.commands.specs.declared.exchange.Exchange.{Exchange}
-use Rattle.commands.specs.declared.reply.Reply.{Reply}
+use Rattle.commands.specs.Replies.{ShownReply}
 use Rattle.commands.specs.declared.reply.Reply.TheVariants as reply
 use Rattle.desk.specs.Desk.{desk_rules, IsFreshDesk}
 use Rattle.desk.specs.DeskCalls.{exchange, exchange_of}
@@ -28,7 +28,7 @@ use Rattle.drawn_schedules.proofs.UnderWayLemmas.{at_first}
 use Rattle.drawn_schedules.specs.Tally.{IsTallyOf, how_many, is_named, is_spent, one_more_if}
 
 -- it counts one more, or not
-begun_by : (e : Event) (r : Reply) → ((b : ℕ) → begun_more e r b ≡ b + 1) ⊎ ((b : ℕ) → begun_more e r b ≡ b)
+begun_by : (e : Event) (r : ShownReply) → ((b : ℕ) → begun_more e r b ≡ b + 1) ⊎ ((b : ℕ) → begun_more e r b ≡ b)
 begun_by (event.Begin id) reply.Ok = inl (λ b. refl)
 begun_by (event.Begin id) reply.Quiet = inr (λ b. refl)
 begun_by (event.Begin id) reply.Stop = inr (λ b. refl)
@@ -71,7 +71,7 @@ one_more_swap true true n = refl
 one_more_swap true false n = refl
 one_more_swap false t n = refl
 
-how_many_push : (such : Reply → Bool) (r : List Exchange) (x : Exchange) → how_many such (r ++ x ∷ []) ≡ one_more_if (such x.reply) (how_many such r)
+how_many_push : (such : ShownReply → Bool) (r : List Exchange) (x : Exchange) → how_many such (r ++ x ∷ []) ≡ one_more_if (such x.reply) (how_many such r)
 how_many_push such [] x = refl
 how_many_push such (y ∷ r) x = ap (one_more_if (such y.reply)) (how_many_push such r x) ∙ one_more_swap (such y.reply) (such x.reply) (how_many such r)
 
@@ -84,7 +84,7 @@ pub played_nothing : (config : Config) (w : DeskValue) (t : Tally) → IsFreshDe
 played_nothing config w t new none = record { calls = []; after = fresh config w new; asked = refl; ample = tt; tally = none }
 
 -- one event more
-pub played_one : (config : Config) (done : List Event) (w u : DeskValue) (t t' : Tally) (e : Event) (r : Reply) → HasPlayed config done w t → may_by desk_rules w e r u → r ≢ reply.Refused refusal.NoMemory →
+pub played_one : (config : Config) (done : List Event) (w u : DeskValue) (t t' : Tally) (e : Event) (r : ShownReply) → HasPlayed config done w t → may_by desk_rules w e r u → r ≢ reply.Refused refusal.NoMemory →
     t'.begun ≡ begun_more e r t.begun → t'.named ≡ one_more_if (is_named r) t.named → t'.spent ≡ one_more_if (is_spent r) t.spent → HasPlayed config (done ++ e ∷ []) u t'
 played_one config done w u t t' e r played may some begun named spent =
     let lead = goes_on config w played.calls played.after e r u may in
@@ -103,7 +103,7 @@ played_one config done w u t t' e r played may some begun named spent =
       };
     }
 
-pub plays_one : (w u : DeskValue) (t t' : Tally) (e : Event) (r : Reply) → may_by desk_rules w e r u → r ≢ reply.Refused refusal.NoMemory →
+pub plays_one : (w u : DeskValue) (t t' : Tally) (e : Event) (r : ShownReply) → may_by desk_rules w e r u → r ≢ reply.Refused refusal.NoMemory →
     t'.begun ≡ begun_more e r t.begun → t'.named ≡ one_more_if (is_named r) t.named → t'.spent ≡ one_more_if (is_spent r) t.spent → PlaysFrom (e ∷ []) w t [] u t'
 plays_one w u t t' e r may some begun named spent = λ config done all rest played is.
     (done ++ e ∷ [], played_one config done w u t t' e r played may some begun named spent, append_assoc done (e ∷ []) rest ∙ is)

@@ -1,17 +1,17 @@
 -- the numbers of a run
 use Rattle.std.specs.Prelude.{◌≡◌, ℕ, ◌+◌, if◌then◌else◌, Bool, true, false, List, [], ◌∷◌}
 use Rattle.commands.specs.declared.exchange.Exchange.{Exchange}
-use Rattle.commands.specs.declared.reply.Reply.{Reply}
+use Rattle.commands.specs.Replies.{ShownReply}
 use Rattle.commands.specs.declared.reply.Reply.TheVariants as reply
 use Rattle.desk.specs.Names.{begun_in}
 use Rattle.drawn_schedules.specs.declared.tally.Tally.{Tally}
 
 -- whether a name is given, and whether someone has used up the rounds
-abbrev pub is_named : Reply → Bool
+abbrev pub is_named : ShownReply → Bool
 is_named (reply.Named name view) = true
 is_named r = false
 
-abbrev pub is_spent : Reply → Bool
+abbrev pub is_spent : ShownReply → Bool
 is_spent reply.Spent = true
 is_spent r = false
 
@@ -20,7 +20,7 @@ abbrev pub one_more_if : Bool → ℕ → ℕ
 one_more_if so n = if so then n + 1 else n
 
 -- how many replies are such
-abbrev pub how_many : (Reply → Bool) → List Exchange → ℕ
+abbrev pub how_many : (ShownReply → Bool) → List Exchange → ℕ
 how_many such [] = 0
 how_many such (x ∷ r) = one_more_if (such x.reply) (how_many such r)
 

@@ -13,7 +13,7 @@ ghost use Rattle.drawn_schedules.specs.declared.tally.Tally.{Tally};
 use crate::schedule::{draw_one, generator};
 use crate::tally::Tally;
 use bumpalo::Bump;
-use commands::{Config, Event, ShortReply};
+use commands::{Config, Event, Reply};
 use desk::Desk;
 use player::{Fault, HELD_REPLIES, Replies, Sink, put_word};
 use rand_pcg::Lcg64Xsh32;
@@ -41,7 +41,7 @@ fn take<A: Allocator + Clone>(
     ensures spent { tally.new.spent ≤ tally.old.spent + 1 }
 {
     let reply = desk.apply_short(event, view);
-    if reply == ShortReply::Refused(Refusal::NoMemory) {
+    if reply == Reply::Refused(Refusal::NoMemory) {
         return Err(Fault::Memory);
     }
     tally.count(event, reply);

@@ -5,7 +5,7 @@ ghost use Rattle.desk.specs.Names.{begun_more};
 ghost use Rattle.commands.specs.Replies.{with_view};
 ghost use Rattle.drawn_schedules.specs.Tally.{IsTallyOf, is_named, is_spent, one_more_if};
 
-use commands::{Event, ShortReply};
+use commands::{Event, Reply};
 
 /// How many participants have begun in a run, were named and were spent.
 #[derive(Clone, Copy, Debug, Drop, PartialEq, Eq)]
@@ -31,7 +31,7 @@ impl Tally {
     }
 
     /// Counts an event by its reply, whatever view that shows.
-    pub fn count(&mut self, event: Event, reply: ShortReply)
+    pub fn count(&mut self, event: Event, reply: Reply<()>)
         requires begun { self.old.begun + 1 < 2 ^ 64 }
         requires named { self.old.named + 1 < 2 ^ 64 }
         requires spent { self.old.spent + 1 < 2 ^ 64 }
@@ -40,9 +40,9 @@ impl Tally {
         ensures spent { (view : List (ℕ × ℕ)) → self.new.spent ≡ one_more_if (is_spent (with_view reply view)) self.old.spent }
     {
         match (event, reply) {
-            (Event::Begin(_), ShortReply::Ok) => self.begun += 1,
-            (_, ShortReply::Named(_)) => self.named += 1,
-            (_, ShortReply::Spent) => self.spent += 1,
+            (Event::Begin(_), Reply::Ok) => self.begun += 1,
+            (_, Reply::Named(_, ())) => self.named += 1,
+            (_, Reply::Spent) => self.spent += 1,
             _ => {}
         }
     }

@@ -3,7 +3,7 @@ use Rattle.std.proofs.Common.{◌≡◌, inl, inr, ℕ, ◌<◌, set, List, [], 
 use Rattle.std.proofs.lemmas.List.{append-nil, get_or-set_same, get_or-set_other, length-set}
 use Rattle.std.proofs.lemmas.Bool.{cases_eq, eq-eqb, ne_eqb}
 use Rattle.std.specs.Io.KnownBytes.{Appends}
-use Rattle.commands.specs.declared.reply.Reply.{Reply}
+use Rattle.commands.specs.Replies.{ShownReply}
 use Rattle.commands.specs.Requests.{Request}
 use Rattle.player.specs.Runs.{Runs}
 use Rattle.player.specs.RunProofs.{runs-append}
@@ -27,7 +27,7 @@ module _ {C : Type 0} (on : Seating C) where
   seat_rests (Some c) = (takes_none (on.left c) (on.left c) (on.wire c) (on.wire c) (consumes_none (on.left c)) refl refl refl (λ h. (refl, refl, h)), refl)
 
   -- one connection has its turn where it sits
-  pub seat_took : {T : Type 0} (may : T → Request → Reply → T → Type 0) (Due : C → Type 0) (key : ℕ) (w : T) (seats : List (Option C)) (u : T) (was is : C) → key < length seats → get_or seats key None ≡ Some was → Due was → (Due is → ⊥) →
+  pub seat_took : {T : Type 0} (may : T → Request → ShownReply → T → Type 0) (Due : C → Type 0) (key : ℕ) (w : T) (seats : List (Option C)) (u : T) (was is : C) → key < length seats → get_or seats key None ≡ Some was → Due was → (Due is → ⊥) →
       (turns : List Turn) × Runs may w turns u × TakesOf turns (on.left was) (on.wire was) (on.left is) (on.wire is) → on.gone is ≡ on.gone was → SeatTurn on may Due key w seats u (set seats key (Some is))
   seat_took may Due key w seats u was is below there due done took unsent = record {
     turns = took.0;
@@ -57,7 +57,7 @@ module _ {C : Type 0} (on : Seating C) where
     many = length-set seats key (Some is);
   }
 
-  module _ {T : Type 0} (may : T → Request → Reply → T → Type 0) (Due : C → Type 0) (w : T) (seats : List (Option C)) where
+  module _ {T : Type 0} (may : T → Request → ShownReply → T → Type 0) (Due : C → Type 0) (w : T) (seats : List (Option C)) where
     -- so far, where whoever is still due has not had its turn
     pub record Going (log : TurnLog) (u : T) (seats' : List (Option C)) : Type 0 where
       pub taken : TurnsTaken on may w seats log u seats'

@@ -3,7 +3,7 @@ use Rattle.std.proofs.Common.{◌≡◌, ◌⊎◌, inl, inr, ℕ, zero, suc, �
 use Rattle.std.proofs.lemmas.List.{append-nil, get_or-set_same, get_or-set_other, get_or-take, length-set, length-take-le}
 use Rattle.std.proofs.lemmas.Bool.{cases_eq, eq-eqb, ne_eqb}
 use Rattle.commands.specs.declared.kind.WorldKind.{WorldKind}
-use Rattle.commands.specs.declared.reply.Reply.{Reply}
+use Rattle.commands.specs.Replies.{ShownReply}
 use Rattle.commands.specs.Requests.{Request}
 use Rattle.player.specs.Lines.{with_ends}
 use Rattle.player.specs.Runs.{Runs}
@@ -224,7 +224,7 @@ module _ {C : Type 0} (on : Seating C) (look : C → Option Look) (Due : C → T
       | inr k ↦ inr (later n i keys k.0, k.1)
     ]
 
-    module _ {T : Type 0} (may : T → Request → Reply → T → Type 0) (w : T) where
+    module _ {T : Type 0} (may : T → Request → ShownReply → T → Type 0) (w : T) where
       pub taking_on : (n : ℕ) (log : TurnLog) (u v : T) (seats' seats'' : List (Option C)) → Going on may Due w seats log u seats' → Taking n log seats' →
           (one : SeatTurnLooked on look Due may (get_or keys n 0) u seats' v seats'') → Taking (n + 1) (log ++ tagged (get_or keys n 0) one.turn.turns) seats''
       taking_on n log u v seats' seats'' going so one i =
@@ -283,7 +283,7 @@ module _ {C : Type 0} (on : Seating C) (look : C → Option Look) (Due : C → T
   }
 
   -- one connection has its turn where it sits, over what was looked at
-  pub seat_turn_looked : {T : Type 0} (may : T → Request → Reply → T → Type 0) (key : ℕ) (w : T) (seats : List (Option C)) (u : T) (was is : C) → key < length seats → get_or seats key None ≡ Some was → Due was → (Due is → ⊥) →
+  pub seat_turn_looked : {T : Type 0} (may : T → Request → ShownReply → T → Type 0) (key : ℕ) (w : T) (seats : List (Option C)) (u : T) (was is : C) → key < length seats → get_or seats key None ≡ Some was → Due was → (Due is → ⊥) →
       (turns : List Turn) × Runs may w turns u × TakesLooked turns (look was) (on.left was) (on.wire was) (on.left is) (on.wire is) → on.gone is ≡ on.gone was → SeatTurnLooked on look Due may key w seats u (set seats key (Some is))
   seat_turn_looked may key w seats u was is below there due done took unsent = record {
     turn = record {

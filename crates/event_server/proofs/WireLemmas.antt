@@ -3,7 +3,7 @@ use Rattle.std.proofs.Common.{◌≡◌, ◌≤◌, ℕ, length, true, false, Bo
 use Rattle.std.proofs.lemmas.Grind.{flat_map-append}
 use Rattle.std.proofs.lemmas.List.{append-nil, take-append-drop, take-append-le}
 use Rattle.std.specs.Io.KnownBytes.{Appends, Consumes, IsAtEnd, Keeps}
-use Rattle.commands.specs.declared.reply.Reply.{Reply}
+use Rattle.commands.specs.Replies.{ShownReply}
 use Rattle.commands.specs.Requests.{Request}
 use Rattle.commands.specs.declared.kind.WorldKind.{WorldKind}
 use Rattle.player.specs.Progress.{Progress, after_byte, after_bytes, after_end}
@@ -77,7 +77,7 @@ takes_refused came s s' is = record {
 pub cut_first : (n k : ℕ) (xs : List ℕ) → n ≤ length (take k xs) → take n (take k xs) ≡ take n xs
 cut_first n k xs le = sym (ap (λ l. take n l) (sym (take-append-drop k xs)) ∙ take-append-le n (take k xs) (drop k xs) le)
 
-module _ {T : Type 0} (may : T → Request → Reply → T → Type 0) where
+module _ {T : Type 0} (may : T → Request → ShownReply → T → Type 0) where
   -- what its talker, once t and now t', took of all that waited then
   pub takes_said : (w u : T) (s s' : WireState) (t t' : TalkerState) (came all : List ℕ) (n : ℕ) (out out' : List ℕ) → t ≡ s.talker → t' ≡ s'.talker → all ≡ s.inbox ++ came → out ≡ [] →
       Says may turn_reply w t out u t' out' (λ p. after_bytes t.kind p (take n all)) →

@@ -1,7 +1,7 @@
 -- what a connection has of its stream before its lines are taken, and a turn of the loop whose answers were learnt before
 use Rattle.std.specs.Prelude.{◌≡◌, ◌⊎◌, ℕ, ◌++◌, List, [], length, get_or, true, false, Option, Some, None}
 use Rattle.std.specs.Io.KnownBytes.{Consumes}
-use Rattle.commands.specs.declared.reply.Reply.{Reply}
+use Rattle.commands.specs.Replies.{ShownReply}
 use Rattle.commands.specs.Requests.{Request}
 use Rattle.commands.specs.declared.kind.WorldKind.{WorldKind}
 use Rattle.player.specs.Lines.{with_ends}
@@ -84,7 +84,7 @@ module _ {C : Type 0} (on : Seating C) where
     SeatTakesLooked turns (Some c) (Some d) = Due c × TakesLooked turns (look c) (on.left c) (on.wire c) (on.left d) (on.wire d)
 
     -- one connection does
-    pub record SeatTurnLooked {T : Type 0} (may : T → Request → Reply → T → Type 0) (key : ℕ) (w : T) (seats : List (Option C)) (u : T) (seats' : List (Option C)) : Type 0 where
+    pub record SeatTurnLooked {T : Type 0} (may : T → Request → ShownReply → T → Type 0) (key : ℕ) (w : T) (seats : List (Option C)) (u : T) (seats' : List (Option C)) : Type 0 where
       pub turn : SeatTurn on may Due key w seats u seats'
       pub looked : TakesLooked turn.turns (look turn.was) (on.left turn.was) (on.wire turn.was) (on.left turn.is) (on.wire turn.is)
 
@@ -102,7 +102,7 @@ module _ {C : Type 0} (on : Seating C) where
     -- A turn of the loop, before which its answers were learnt: what came was gathered, and nothing sent; the answers to these lines were
     -- learnt, where there were any; and then all took their turns over a service that knows the answers, and only then was anything sent.
     -- The lines are the requests among what was looked at of each connection, and no connection took anything else
-    pub record TurnAhead {T K : Type 0} (may : T → Request → Reply → T → Type 0) (learns : K → T → List ℕ → K → T → Type 0) (keeps : K → T → K → T → Type 0) (kind : WorldKind) (k : K) (w : T) (seats : List (Option C)) (lines : List ℕ) (k' : K) (u : T) (seats' : List (Option C)) : Type 0 where
+    pub record TurnAhead {T K : Type 0} (may : T → Request → ShownReply → T → Type 0) (learns : K → T → List ℕ → K → T → Type 0) (keeps : K → T → K → T → Type 0) (kind : WorldKind) (k : K) (w : T) (seats : List (Option C)) (lines : List ℕ) (k' : K) (u : T) (seats' : List (Option C)) : Type 0 where
       pub gathered_seats : List (Option C)
       pub learnt_by : K
       pub ready : T

@@ -1,6 +1,6 @@
 -- a turn of the loop, over connections that have seats: what each takes and sends, and the one order of all that was said
 use Rattle.std.specs.Prelude.{◌≡◌, ◌≢◌, ℕ, List, [], length, get_or, Option, Some, None}
-use Rattle.commands.specs.declared.reply.Reply.{Reply}
+use Rattle.commands.specs.Replies.{ShownReply}
 use Rattle.commands.specs.Requests.{Request}
 use Rattle.player.specs.Runs.{Runs}
 use Rattle.player.specs.Shared.{TurnLog, turns_of, all_turns}
@@ -39,7 +39,7 @@ module _ {C : Type 0} (on : Seating C) where
 
   -- the turns of all connections, in the one order of this log, lead the service from w to u, and those of each seat are what its
   -- connection took
-  pub record TurnsTaken {T : Type 0} (may : T → Request → Reply → T → Type 0) (w : T) (seats : List (Option C)) (log : TurnLog) (u : T) (seats' : List (Option C)) : Type 0 where
+  pub record TurnsTaken {T : Type 0} (may : T → Request → ShownReply → T → Type 0) (w : T) (seats : List (Option C)) (log : TurnLog) (u : T) (seats' : List (Option C)) : Type 0 where
     pub run : Runs may w (all_turns log) u
     pub each : (i : ℕ) → SeatTakes (turns_of i log) (get_or seats i None) (get_or seats' i None)
     pub many : length seats' ≡ length seats
@@ -54,7 +54,7 @@ module _ {C : Type 0} (on : Seating C) where
   NoneSent seats seats' = (i : ℕ) (c d : C) → get_or seats i None ≡ Some c → get_or seats' i None ≡ Some d → on.gone d ≡ on.gone c
 
   -- one connection has its turn
-  pub record SeatTurn {T : Type 0} (may : T → Request → Reply → T → Type 0) (Due : C → Type 0) (key : ℕ) (w : T) (seats : List (Option C)) (u : T) (seats' : List (Option C)) : Type 0 where
+  pub record SeatTurn {T : Type 0} (may : T → Request → ShownReply → T → Type 0) (Due : C → Type 0) (key : ℕ) (w : T) (seats : List (Option C)) (u : T) (seats' : List (Option C)) : Type 0 where
     pub turns : List Turn
     pub run : Runs may w turns u
     pub was : C
@@ -81,7 +81,7 @@ module _ {C : Type 0} (on : Seating C) where
 
   -- a turn of the loop: all turns of all connections, in the one order of a log, lead the service from w to where it was when what it tells
   -- was kept; only then was anything sent
-  pub record LoopTurn {T K : Type 0} (may : T → Request → Reply → T → Type 0) (keeps : K → T → K → T → Type 0) (k : K) (w : T) (seats : List (Option C)) (k' : K) (u : T) (seats' : List (Option C)) : Type 0 where
+  pub record LoopTurn {T K : Type 0} (may : T → Request → ShownReply → T → Type 0) (keeps : K → T → K → T → Type 0) (k : K) (w : T) (seats : List (Option C)) (k' : K) (u : T) (seats' : List (Option C)) : Type 0 where
     pub log : TurnLog
     pub told : T
     pub between : List (Option C)

@@ -2,7 +2,7 @@
 use Rattle.std.specs.Prelude.{◌≡◌, ◌≤◌, ℕ, ◌++◌, ◌||◌, if◌then◌else◌, List, [], Bool, true, false, length, take, Option}
 use Rattle.std.specs.Io.KnownBytes.{Appends, Consumes, IsAtEnd}
 use Rattle.commands.specs.declared.kind.WorldKind.{WorldKind}
-use Rattle.commands.specs.declared.reply.Reply.{Reply}
+use Rattle.commands.specs.Replies.{ShownReply}
 use Rattle.commands.specs.Requests.{Request}
 use Rattle.player.specs.Progress.{Progress, after_bytes, after_end}
 use Rattle.player.specs.Runs.{Runs}
@@ -46,7 +46,7 @@ pub record TakesOf (turns : List Turn) (left : Option (List ℕ)) (s : WireState
   pub takes : Takes turns came ends s s'
 
 -- by some turns, which lead the service from w to u
-abbrev pub SomeTaken : {T : Type 0} → (T → Request → Reply → T → Type 0) → T → T → Option (List ℕ) → WireState → Option (List ℕ) → WireState → Type 0
+abbrev pub SomeTaken : {T : Type 0} → (T → Request → ShownReply → T → Type 0) → T → T → Option (List ℕ) → WireState → Option (List ℕ) → WireState → Type 0
 SomeTaken may w u left s left' s' = (turns : List Turn) × Runs may w turns u × TakesOf turns left s left' s'
 
 -- of the first so many bytes that waited a beginning is taken

@@ -9,8 +9,7 @@ use Rattle.commands.specs.declared.config.Config.{Config}
 use Rattle.commands.specs.declared.event.Event.{Event}
 use Rattle.commands.specs.declared.exchange.Exchange.{Exchange}
 use Rattle.commands.specs.declared.kind.WorldKind.{WorldKind}
-use Rattle.commands.specs.declared.reply.Reply.{Reply}
-use Rattle.commands.specs.Replies.{is_refusal}
+use Rattle.commands.specs.Replies.{ShownReply, is_refusal}
 use Rattle.snapshot_places.specs.Grid.{fresh_grid}
 use Rattle.snapshot_places.specs.Tree.{new_tree}
 use Rattle.bit_allocator.specs.Pool.{fresh_pool}
@@ -70,7 +69,7 @@ accepted_at w (y ∷ ys) zero x a h = subst (λ (z : Exchange). WasAccepted w z)
 accepted_at w (y ∷ ys) (suc n) x a h = accepted_at (desk_after w y.event) ys n x a.2 h
 
 -- a hall with one more event
-pub taken : (h : HallState) (e : Event) (r : Reply) (u : HallState) → HallMay h e r u → is_refusal r ≡ false → (hall_refusal h e ≡ None) × (u ≡ longer h e)
+pub taken : (h : HallState) (e : Event) (r : ShownReply) (u : HallState) → HallMay h e r u → is_refusal r ≡ false → (hall_refusal h e ≡ None) × (u ≡ longer h e)
 taken h e r u (inl m) ok = elim (hall_refusal h e) as (λ (o : Option Refusal). hall_refusal h e ≡ o → r ≡ reply_unless o h e → u ≡ after_unless o h e → (hall_refusal h e ≡ None) × (u ≡ longer h e)) [
   | None ↦ λ is a b. (is, b)
   | Some why ↦ λ is a b. absurd (let k : true ≡ false = ap is_refusal (sym a) ∙ ok in cc)
@@ -151,7 +150,7 @@ module _ (h : HallState) (n : ℕ) (x : Exchange) (at : slice_get h.history n �
   one_taken_over new later old s t is =
       let names : NamesAlike (desk_after (desk_of new.hall) x.event) (desk_after (desk_of (after_first n h)) x.event) = names_go_on (desk_of new.hall) (desk_of (after_first n h)) x.event is s.same.names in
       let reply : x.reply ≡ desk_reply (desk_of new.hall) x.event = was.answered ∙ sym (answered_alike (desk_of new.hall) (desk_of (after_first n h)) x.event is s.same.names) in
-      let one : exchange x.event (desk_reply (desk_of new.hall) x.event) ≡ x = ap (λ (r : Reply). exchange x.event r) (sym reply) in
+      let one : exchange x.event (desk_reply (desk_of new.hall) x.event) ≡ x = ap (λ (r : ShownReply). exchange x.event r) (sym reply) in
       let same : HasRenaming (after_first (n + 1) h) (longer new.hall x.event) = record {
         config = s.same.config;
         names = subst (λ (w : DeskValue). NamesAlike w (desk_of (after_first (n + 1) h))) (sym (desk_longer new.hall x.event))

@@ -8,7 +8,7 @@ use crate::rebuilding::Rebuilding;
 use crate::slots_copy::SlotsCopy;
 use crate::stuck::Stuck;
 use bit_allocator::{Competitor, MOST_NUMBERS, Stay};
-use commands::{Event, ShortReply};
+use commands::{Event, Reply};
 use std::alloc::Global;
 
 /// A helper and the number that it holds.
@@ -23,7 +23,7 @@ fn settle(new: &mut Rebuilding, id: u64) -> Result<u8, Stuck>
     ensures { OnOk result (GoesOn new.old new.new) }
 {
     for _ in 0..MOST_NUMBERS {
-        if let ShortReply::Got(number) = new.take(Event::Probe(id))? {
+        if let Reply::Got(number) = new.take(Event::Probe(id))? {
             return Ok(number);
         }
     }

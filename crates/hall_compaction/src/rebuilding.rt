@@ -7,7 +7,7 @@ ghost use Rattle.hall_compaction.specs.Rebuilt.{IsCopied, HasTaken, GoesOn};
 
 use crate::slots_copy::SlotsCopy;
 use crate::stuck::Stuck;
-use commands::{Config, Event, ShortReply};
+use commands::{Config, Event, Reply};
 use locked_world::Hall;
 use std::alloc::Global;
 use step_memory::View;
@@ -34,7 +34,7 @@ impl Rebuilding {
     }
 
     /// Takes an event, and tells what the hall answered; an error where that is a refusal.
-    pub(crate) fn take(&mut self, event: Event) -> Result<ShortReply, Stuck>
+    pub(crate) fn take(&mut self, event: Event) -> Result<Reply<()>, Stuck>
         ensures taken { OnOk result (HasTaken self.old event self.new) }
 
         // Then renaming is as it was, where the event is of the pool or the slots.

@@ -6,7 +6,7 @@ use Rattle.step_memory.specs.declared.refusal.Refusal.{Refusal}
 use Rattle.commands.specs.declared.config.Config.{Config}
 use Rattle.commands.specs.declared.event.Event.{Event}
 use Rattle.commands.specs.declared.exchange.Exchange.{Exchange}
-use Rattle.commands.specs.declared.reply.Reply.{Reply}
+use Rattle.commands.specs.Replies.{ShownReply}
 use Rattle.run_checker.specs.Migrated.{record_text}
 use Rattle.journal_disk.specs.DiskState.{DiskState}
 use Rattle.player.specs.Progress.{Progress}
@@ -35,7 +35,7 @@ config_after : (o : Option Refusal) (h : HallState) (e : Event) → (after_unles
 config_after None h e = refl
 config_after (Some why) h e = refl
 
-config_may : (h u : HallState) (e : Event) (r : Reply) → HallMay h e r u → u.config ≡ h.config
+config_may : (h u : HallState) (e : Event) (r : ShownReply) → HallMay h e r u → u.config ≡ h.config
 config_may h u e r (inl done) = ap (λ (x : HallState). x.config) done.1 ∙ config_after (hall_refusal h e) h e
 config_may h u e r (inr refused) = ap (λ (x : HallState). x.config) refused.1
 

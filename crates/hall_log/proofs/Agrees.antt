@@ -2,7 +2,7 @@
 use Rattle.std.proofs.Common.{◌≡◌, ◌≢◌, List, [], ◌∷◌, map, inl, inr, refl, sym, ap, subst, ◌∙◌}
 use Rattle.step_memory.specs.declared.refusal.Refusal.TheVariants as refusal
 use Rattle.commands.specs.declared.event.Event.{Event}
-use Rattle.commands.specs.declared.reply.Reply.{Reply}
+use Rattle.commands.specs.Replies.{ShownReply}
 use Rattle.commands.specs.declared.reply.Reply.TheVariants as reply
 use Rattle.one_log.specs.Groups.{IsDetermined}
 use Rattle.player.specs.Runs.{NoneRefusedGrowth, Runs}
@@ -15,7 +15,7 @@ use Rattle.hall_log.specs.Entries.{HallApplies}
 use Rattle.hall_log.specs.Said.{said, tape_of}
 
 -- where memory is not refused an event has one reply, and leaves one hall
-one_answer : (h : HallState) (e : Event) (r r' : Reply) (u u' : HallState) → HallMay h e r u → HallMay h e r' u' → r ≢ reply.Refused refusal.NoMemory → r' ≢ reply.Refused refusal.NoMemory → (r ≡ r') × (u ≡ u')
+one_answer : (h : HallState) (e : Event) (r r' : ShownReply) (u u' : HallState) → HallMay h e r u → HallMay h e r' u' → r ≢ reply.Refused refusal.NoMemory → r' ≢ reply.Refused refusal.NoMemory → (r ≡ r') × (u ≡ u')
 one_answer h e r r' u u' (inl a) (inl b) g g' = (a.0 ∙ sym b.0, a.1 ∙ sym b.1)
 one_answer h e r r' u u' (inl a) (inr b) g g' = absurd (g' b.0)
 one_answer h e r r' u u' (inr a) b g g' = absurd (g a.0)

@@ -3,7 +3,7 @@ use Rattle.std.proofs.Common.{◌≡◌, ℕ, ◌+◌, ◌-◌, false, List, [],
 use Rattle.std.proofs.lemmas.List.{append-nil, take_all}
 use Rattle.std.proofs.Math.Seq.{take-add}
 use Rattle.commands.specs.declared.kind.WorldKind.{WorldKind}
-use Rattle.commands.specs.declared.reply.Reply.{Reply}
+use Rattle.commands.specs.Replies.{ShownReply}
 use Rattle.commands.specs.Requests.{Request}
 use Rattle.commands.specs.Requests.Request.{Take, OwnerOf}
 use Rattle.player.specs.Progress.{Progress, after_byte, after_bytes, at_start}
@@ -24,7 +24,7 @@ after_bytes-append : (kind : WorldKind) (p : Progress) (xs ys : List ℕ) → af
 after_bytes-append kind p [] ys = refl
 after_bytes-append kind p (x ∷ xs) ys = after_bytes-append kind (after_byte kind p x) xs ys
 
-module _ {T : Type 0} (may : T → Request → Reply → T → Type 0) where
+module _ {T : Type 0} (may : T → Request → ShownReply → T → Type 0) where
   -- no byte was taken
   pub takes_none : (w : T) (s : TalkerState) → TakesBytes may w s [] w s
   takes_none w s = record {
@@ -60,7 +60,7 @@ pub record Ran (w : NotingState) (ts : List Turn) (u : NotingState) : Type 0 whe
   pub said_is : u.said ≡ w.said ++ said ts
 
 -- one more turn before a run
-ran_behind : (w v u : NotingState) (q : Request) (r : Reply) (ts : List Turn) → IsNoted w q r v → Ran v ts u → u.said ≡ w.said ++ (q, r) ∷ said ts
+ran_behind : (w v u : NotingState) (q : Request) (r : ShownReply) (ts : List Turn) → IsNoted w q r v → Ran v ts u → u.said ≡ w.said ++ (q, r) ∷ said ts
 ran_behind w v u q r ts one rest = rest.said_is ∙ (ap (λ s. s ++ said ts) one.noted ∙ append_assoc w.said ((q, r) ∷ []) (said ts))
 
 pub ran : (w u : NotingState) (ts : List Turn) → Runs NotingSays w ts u → u.lost ≡ false → Ran w ts u

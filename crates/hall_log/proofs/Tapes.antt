@@ -2,7 +2,7 @@
 use Rattle.std.proofs.Common.{◌≡◌, ℕ, true, false, List, [], ◌∷◌, ◌++◌, Option, inl, inr, sym, ap, subst, ◌∙◌, arith}
 use Rattle.std.proofs.lemmas.List.{append-nil}
 use Rattle.commands.specs.declared.config.Config.{Config}
-use Rattle.commands.specs.declared.reply.Reply.{Reply}
+use Rattle.commands.specs.Replies.{ShownReply}
 use Rattle.commands.specs.Requests.{Request}
 use Rattle.commands.specs.Requests.Request.{Take, OwnerOf}
 use Rattle.one_log.specs.ReplicaState.{ReplicaState}
@@ -19,7 +19,7 @@ use Rattle.hall_log.specs.Said.{TapeSays, said}
 use Rattle.hall_log.specs.TapeState.{TapeState}
 
 -- what was said again, by a tape that is not spoiled
-tape_said : (w u : TapeState) (q : Request) (r : Reply) → TapeSays w q r u → u.spoiled ≡ false → (w.spoiled ≡ false) × (w.left ≡ (q, r) ∷ u.left)
+tape_said : (w u : TapeState) (q : Request) (r : ShownReply) → TapeSays w q r u → u.spoiled ≡ false → (w.spoiled ≡ false) × (w.left ≡ (q, r) ∷ u.left)
 tape_said w u q r (inl h) well = (h.0, h.2)
 tape_said w u q r (inr bad) well = absurd (let no_way : true ≡ false = sym bad ∙ well in cc)
 
@@ -37,11 +37,11 @@ tape_ran w u (Ended ∷ ts) run well = tape_ran w u ts run well
 tape_ran w u (Misread bad ∷ ts) run well = tape_ran w u ts run well
 
 -- a run is one of the requests and replies alone
-abbrev RunsSaid : {T : Type 0} → (T → Request → Reply → T → Type 0) → T → List (Request × Reply) → T → Type 0
+abbrev RunsSaid : {T : Type 0} → (T → Request → ShownReply → T → Type 0) → T → List (Request × ShownReply) → T → Type 0
 RunsSaid may w [] u = w ≡ u
 RunsSaid {T = T} may w (x ∷ xs) u = (mid : T) × may w x.0 x.1 mid × RunsSaid may mid xs u
 
-module _ {T : Type 0} (may : T → Request → Reply → T → Type 0) where
+module _ {T : Type 0} (may : T → Request → ShownReply → T → Type 0) where
   to_said : (w u : T) (ts : List Turn) → Runs may w ts u → RunsSaid may w (said ts) u
   to_said w u [] run = run
   to_said w u (Answered x ∷ ts) run = (run.0, run.1, to_said run.0 u ts run.2)
@@ -58,7 +58,7 @@ module _ {T : Type 0} (may : T → Request → Reply → T → Type 0) where
 
   -- of turns in which the same was said to the same requests both are a run, or neither
   pub same_said : (w u : T) (ts us : List Turn) → said ts ≡ said us → Runs may w ts u → Runs may w us u
-  same_said w u ts us same run = from_said w u us (subst (λ (xs : List (Request × Reply)). RunsSaid may w xs u) same (to_said w u ts run))
+  same_said w u ts us same run = from_said w u us (subst (λ (xs : List (Request × ShownReply)). RunsSaid may w xs u) same (to_said w u ts run))
 
 pub hosted : {C K : Type 0} (on : Seating C) (stands : ℕ → List ℕ → Type 0) (config : Config) (place : ℕ) (lines : List ℕ) (tape u : TapeState) (r : ReplicaState HallState)
     (k l : K) (seats after : List (Option C)) → IsLearnt stands config place lines tape r → (t : LoopTurn on TapeSays IsUsedUp k tape seats l u after) →

@@ -5,7 +5,7 @@ use Rattle.commands.specs.declared.command.Command.{Command}
 use Rattle.commands.specs.Config.{world_name}
 use Rattle.commands.specs.declared.config.Config.{Config}
 use Rattle.commands.specs.declared.kind.WorldKind.{WorldKind}
-use Rattle.commands.specs.declared.reply.Reply.{Reply}
+use Rattle.commands.specs.Replies.{ShownReply}
 use Rattle.commands.specs.Requests.{Request}
 use Rattle.player.specs.Progress.{Progress, after_bytes, at_start}
 use Rattle.player.specs.Runs.{NoneRefusedGrowth, Runs}
@@ -41,7 +41,7 @@ pub record HallApplies (h : HallState) (entry : List ℕ) (tape : TapeState) (u 
   pub tape_is : tape ≡ tape_of (said turns)
 
 -- by these turns, which the rules allow, a service goes from w to u, and a talk takes these bytes
-pub record TakesBytes {T : Type 0} (may : T → Request → Reply → T → Type 0) (w : T) (s : TalkerState) (bytes : List ℕ) (u : T) (s' : TalkerState) : Type 0 where
+pub record TakesBytes {T : Type 0} (may : T → Request → ShownReply → T → Type 0) (w : T) (s : TalkerState) (bytes : List ℕ) (u : T) (s' : TalkerState) : Type 0 where
   pub more : List Turn
   pub run : Runs may w more u
   pub goes_on : (turns : List Turn) (p : Progress) → Spoke turns s p → Spoke (turns ++ more) s' (after_bytes s.kind p bytes)

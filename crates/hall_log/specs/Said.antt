@@ -1,9 +1,8 @@
 -- requests with what was said to them, and who says it: a hall of which it is noted, and a tape that says it again
 use Rattle.std.specs.Prelude.{◌≡◌, ◌≢◌, ◌⊎◌, ℕ, List, [], ◌∷◌, ◌++◌, false, true, Option, Some, None, Box}
 use Rattle.step_memory.specs.declared.refusal.Refusal.TheVariants as refusal
-use Rattle.commands.specs.declared.reply.Reply.{Reply}
 use Rattle.commands.specs.declared.reply.Reply.TheVariants as reply
-use Rattle.commands.specs.Replies.{with_view}
+use Rattle.commands.specs.Replies.{ShownReply, with_view}
 use Rattle.commands.specs.Requests.{Request}
 use Rattle.commands.specs.Requests.Request.{Take, OwnerOf}
 use Rattle.player.specs.Turns.{Turn}
@@ -26,11 +25,11 @@ seen None = []
 seen (Some view) = view.value
 
 -- what was said by a note, and to what
-abbrev pub said_by : Note → Request × Reply
+abbrev pub said_by : Note → Request × ShownReply
 said_by n = (request_of n.asked, with_view n.reply (seen n.view))
 
 -- the requests among turns, in order, with what was said to each: `quit` and bad lines ask for nothing
-abbrev pub said : List Turn → List (Request × Reply)
+abbrev pub said : List Turn → List (Request × ShownReply)
 said [] = []
 said (Answered x ∷ ts) = (Take x.event, x.reply) ∷ said ts
 said (Told n r ∷ ts) = (OwnerOf n, r) ∷ said ts
@@ -38,20 +37,20 @@ said (Ended ∷ ts) = said ts
 said (Misread bad ∷ ts) = said ts
 
 -- a tape of which nothing was said again so far
-abbrev pub tape_of : List (Request × Reply) → TapeState
+abbrev pub tape_of : List (Request × ShownReply) → TapeState
 tape_of left = record { left = left; spoiled = false }
 
 -- a tape says what was said to the request that is next, to whoever asks for just that. Where another is asked it is spoiled
-abbrev pub TapeSays : TapeState → Request → Reply → TapeState → Type 0
+abbrev pub TapeSays : TapeState → Request → ShownReply → TapeState → Type 0
 TapeSays w q r u = ((w.spoiled ≡ false) × (u.spoiled ≡ false) × (w.left ≡ (q, r) ∷ u.left)) ⊎ (u.spoiled ≡ true)
 
 -- the hall answers, and it is noted; no memory was refused
-pub record IsNoted (w : NotingState) (q : Request) (r : Reply) (u : NotingState) : Type 0 where
+pub record IsNoted (w : NotingState) (q : Request) (r : ShownReply) (u : NotingState) : Type 0 where
   pub was_well : w.lost ≡ false
   pub serves : HallServes w.hall q r u.hall
   pub noted : u.said ≡ w.said ++ (q, r) ∷ []
   pub granted : r ≢ reply.Refused refusal.NoMemory
 
 -- but where memory was refused
-abbrev pub NotingSays : NotingState → Request → Reply → NotingState → Type 0
+abbrev pub NotingSays : NotingState → Request → ShownReply → NotingState → Type 0
 NotingSays w q r u = u.lost ≡ false → IsNoted w q r u

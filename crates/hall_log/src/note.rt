@@ -6,7 +6,7 @@ ghost use Rattle.commands.specs.declared.reply.Reply.TheVariants as replies;
 ghost use Rattle.commands.specs.Replies.{with_view};
 ghost use Rattle.hall_log.specs.Said.{request_of, said_by, seen};
 
-use commands::{Event, ShortReply};
+use commands::{Event, Reply};
 use locked_world::is_same_event;
 use std::alloc::{AllocError, Global};
 use step_memory::{Refusal, View};
@@ -21,21 +21,21 @@ pub enum Asked {
 }
 
 /// Whether a reply shows the view that stands beside it.
-fn shows_view(reply: ShortReply) -> bool
+fn shows_view(reply: Reply<()>) -> bool
     ensures { result ≡ false → (v w : List (ℕ × ℕ)) → with_view reply v ≡ with_view reply w }
 {
-    matches!(reply, ShortReply::Saw | ShortReply::Named(_))
+    matches!(reply, Reply::Saw(()) | Reply::Named(_, ()))
 }
 
 /// Whether a reply says that memory was refused.
-pub(crate) fn lacks_memory(reply: ShortReply) -> bool
+pub(crate) fn lacks_memory(reply: Reply<()>) -> bool
     ensures { result ≡ false → (v : List (ℕ × ℕ)) → with_view reply v ≢ replies.Refused refusal.NoMemory }
 {
-    matches!(reply, ShortReply::Refused(Refusal::NoMemory))
+    matches!(reply, Reply::Refused(Refusal::NoMemory))
 }
 
 /// The view that is kept of a reply: none where it shows none.
-fn kept_view(alloc: Global, reply: ShortReply, view: &View) -> Result<Option<Box<View>>, AllocError>
+fn kept_view(alloc: Global, reply: Reply<()>, view: &View) -> Result<Option<Box<View>>, AllocError>
     ensures { IfOk result (λ kept. with_view reply (seen kept) ≡ with_view reply view.now) }
 {
     if !shows_view(reply) {
@@ -48,7 +48,7 @@ fn kept_view(alloc: Global, reply: ShortReply, view: &View) -> Result<Option<Box
 #[derive(Drop)]
 pub struct Note {
     asked: Asked,
-    reply: ShortReply,
+    reply: Reply<()>,
     view: Option<Box<View>>,
 }
 
@@ -57,7 +57,7 @@ impl Note {
     pub fn new(
         alloc: Global,
         asked: Asked,
-        reply: ShortReply,
+        reply: Reply<()>,
         view: &View,
     ) -> Result<Note, AllocError>
         ensures { IfOk result (λ note. said_by note ≡ (request_of asked, with_view reply view.now)) }
@@ -78,7 +78,7 @@ impl Note {
     }
 
     /// What was said, with the view beside it.
-    pub fn tell(&self, view: &mut View) -> ShortReply
+    pub fn tell(&self, view: &mut View) -> Reply<()>
         ensures { with_view result view.new ≡ (said_by self.now).1 }
     {
         match &self.view {

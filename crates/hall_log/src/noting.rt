@@ -10,7 +10,7 @@ ghost use Rattle.hall_log.specs.SaidProofs.{noting_answers};
 
 use crate::note::{Asked, Note, lacks_memory};
 use crate::tape::Tape;
-use commands::{Config, Event, Reply, ShortReply};
+use commands::{Config, Event, Reply};
 use locked_world::Hall;
 use player::Service;
 use std::alloc::Global;
@@ -82,7 +82,7 @@ impl Noting {
     }
 
     // Notes a request, and the reply to it with the view beside it.
-    fn note(&mut self, asked: Asked, reply: ShortReply, view: &View)
+    fn note(&mut self, asked: Asked, reply: Reply<()>, view: &View)
         ensures hall { self.new.hall ≡ self.old.hall }
         ensures well { self.new.lost ≡ false → self.old.lost ≡ false }
         ensures noted { self.new.lost ≡ false → self.new.said ≡ self.old.said ++ (request_of asked, with_view reply view.now) ∷ [] }
@@ -107,13 +107,13 @@ impl<R> Service<R> for Noting {
 
     ghost answers = { λ w q known. noting_answers w q };
 
-    fn apply(&mut self, _rt: &R, event: Event, view: &mut View) -> ShortReply {
+    fn apply(&mut self, _rt: &R, event: Event, view: &mut View) -> Reply<()> {
         let reply = self.hall.apply_short(event, view);
         self.note(Asked::ToTake(event), reply, view);
         reply
     }
 
-    fn owner(&mut self, _rt: &R, n: u64) -> Reply {
+    fn owner(&mut self, _rt: &R, n: u64) -> Reply<View> {
         let mut view = View::new();
         let reply = self.hall.owner(n).shorten(&mut view);
         self.note(Asked::ToTell(n), reply, &view);

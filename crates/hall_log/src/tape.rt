@@ -8,7 +8,7 @@ ghost use Rattle.commands.specs.Replies.{with_view};
 ghost use Rattle.hall_log.specs.Said.{TapeSays, request_of, said_by, tape_of};
 
 use crate::note::{Asked, Note};
-use commands::{Event, Reply, ShortReply};
+use commands::{Event, Reply};
 use player::Service;
 use std::alloc::Global;
 use std::marker::Model;
@@ -73,16 +73,16 @@ impl Tape {
     }
 
     // Says what was said to the next request, if it is this one.
-    fn say(&mut self, asked: Asked, view: &mut View) -> ShortReply
+    fn say(&mut self, asked: Asked, view: &mut View) -> Reply<()>
         ensures { TapeSays self.old (request_of asked) (with_view result view.new) self.new }
     {
         let Some(note) = self.notes.get(self.next) else {
             self.spoiled = true;
-            return ShortReply::Refused(Refusal::NoMemory);
+            return Reply::Refused(Refusal::NoMemory);
         };
         if !note.is_of(asked) {
             self.spoiled = true;
-            return ShortReply::Refused(Refusal::NoMemory);
+            return Reply::Refused(Refusal::NoMemory);
         }
         self.next += 1;
         note.tell(view)
@@ -96,11 +96,11 @@ impl<R> Service<R> for Tape {
 
     ghost answers = { λ w q known. (reply.Refused refusal.NoMemory, record w { spoiled = true }, inr refl) };
 
-    fn apply(&mut self, _rt: &R, event: Event, view: &mut View) -> ShortReply {
+    fn apply(&mut self, _rt: &R, event: Event, view: &mut View) -> Reply<()> {
         self.say(Asked::ToTake(event), view)
     }
 
-    fn owner(&mut self, _rt: &R, n: u64) -> Reply {
+    fn owner(&mut self, _rt: &R, n: u64) -> Reply<View> {
         let mut view = View::new();
         self.say(Asked::ToTell(n), &mut view).with(&view)
     }

@@ -11,7 +11,7 @@ use Rattle.commands.specs.declared.kind.WorldKind.{WorldKind}
 use Rattle.commands.specs.declared.event.Event.{Event}
 use Rattle.commands.specs.declared.event.Event.TheVariants as event
 use Rattle.commands.specs.declared.exchange.Exchange.{Exchange}
-use Rattle.commands.specs.declared.reply.Reply.{Reply}
+use Rattle.commands.specs.Replies.{ShownReply}
 use Rattle.commands.specs.declared.reply.Reply.TheVariants as reply
 use Rattle.step_memory.specs.Refusal.{refusal_number}
 use Rattle.player.specs.Events.{event_words}
@@ -57,7 +57,7 @@ owner_text : (owner : Option ℕ) → are_text (owner_words owner) ≡ true
 owner_text None = refl
 owner_text (Some id) = word_text (codes "owner ") id refl
 
-reply_text : (r : Reply) → are_text (reply_words r) ≡ true
+reply_text : (r : ShownReply) → are_text (reply_words r) ≡ true
 reply_text reply.Ok = refl
 reply_text reply.Quiet = refl
 reply_text reply.Stop = refl
@@ -75,7 +75,7 @@ reply_text (reply.Value value) = word_text (codes "value ") value refl
 reply_text (reply.Owner owner) = owner_text owner
 reply_text (reply.Refused why) = word_text (codes "refused ") (refusal_number why) refl
 
-name_view_text : (r : Reply) → are_text (name_view r) ≡ true
+name_view_text : (r : ShownReply) → are_text (name_view r) ≡ true
 name_view_text (reply.Named name view) = both_text (codes ",\"view\":\"" ++ view_words view) (codes "\"") (both_text (codes ",\"view\":\"") (view_words view) refl (view_text view)) refl
 name_view_text r = refl
 

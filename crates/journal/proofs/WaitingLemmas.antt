@@ -5,8 +5,7 @@ use Rattle.std.proofs.lemmas.Grind.{flat_map-append}
 use Rattle.step_memory.specs.declared.refusal.Refusal.{Refusal}
 use Rattle.commands.specs.declared.event.Event.{Event}
 use Rattle.commands.specs.declared.exchange.Exchange.{Exchange}
-use Rattle.commands.specs.declared.reply.Reply.{Reply}
-use Rattle.commands.specs.Replies.{is_refusal}
+use Rattle.commands.specs.Replies.{ShownReply, is_refusal}
 use Rattle.player.specs.Records.{exchange_line}
 use Rattle.locked_world.specs.Halls.{HallMay, hall_refusal, after_unless}
 use Rattle.locked_world.specs.HallState.{HallState}
@@ -38,7 +37,7 @@ config_unless : (o : Option Refusal) (h : HallState) (e : Event) → (after_unle
 config_unless None h e = refl
 config_unless (Some why) h e = refl
 
-pub config_stays : (h u : HallState) (e : Event) (r : Reply) → HallMay h e r u → u.config ≡ h.config
+pub config_stays : (h u : HallState) (e : Event) (r : ShownReply) → HallMay h e r u → u.config ≡ h.config
 config_stays h u e r (inl m) = ap (λ (v : HallState). v.config) m.1 ∙ config_unless (hall_refusal h e) h e
 config_stays h u e r (inr m) = ap (λ (v : HallState). v.config) m.1
 

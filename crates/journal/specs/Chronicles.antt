@@ -1,6 +1,6 @@
 -- the lines of a chronicle, and what it may answer
 use Rattle.std.specs.Prelude.{◌≡◌, ℕ, List, take, drop, flat_map}
-use Rattle.commands.specs.declared.reply.Reply.{Reply}
+use Rattle.commands.specs.Replies.{ShownReply}
 use Rattle.commands.specs.Requests.{Request}
 use Rattle.player.specs.Records.{exchange_line}
 use Rattle.run_checker.specs.Migrated.{record_text}
@@ -30,5 +30,5 @@ abbrev pub chronicle_of : HallState → ℕ → ChronicleState
 chronicle_of h told = record { hall = h; told = told }
 
 -- it answers as its hall does, and hands nothing on
-abbrev pub ChronicleServes : ChronicleState → Request → Reply → ChronicleState → Type 0
+abbrev pub ChronicleServes : ChronicleState → Request → ShownReply → ChronicleState → Type 0
 ChronicleServes c q r u = HallServes c.hall q r u.hall × (u.told ≡ c.told)

@@ -10,7 +10,7 @@ ghost use Rattle.journal.specs.Chronicles.{ChronicleServes, chronicle_of, waitin
 ghost use Rattle.journal.specs.Compactings.{MayCompact};
 ghost use Rattle.journal.specs.ChronicleProofs.{chronicle_answers};
 
-use commands::{Event, Reply, ShortReply};
+use commands::{Event, Reply};
 use hall_compaction::Compactor;
 use locked_world::{Hall, law_of_serving};
 use player::{AsRecord, Form, Replies, Service, TURN_ROOM};
@@ -45,7 +45,7 @@ impl Model for Chronicle {
 }
 
 /// Applies an event to a hall, which takes it into its history where it accepts it, and nothing else.
-pub(crate) fn applied(hall: &mut Hall, event: Event, view: &mut View) -> ShortReply
+pub(crate) fn applied(hall: &mut Hall, event: Event, view: &mut View) -> Reply<()>
     ensures may { HallMay hall.old event (with_view result view.new) hall.new }
     ensures config { hall.new.config ≡ hall.old.config }
     ensures accepted { is_refusal (with_view result view.new) ≡ false → hall.new.history ≡ hall.old.history ++ exchange event (with_view result view.new) ∷ [] }
@@ -59,7 +59,7 @@ pub(crate) fn applied(hall: &mut Hall, event: Event, view: &mut View) -> ShortRe
 /// Puts the line of an event with its reply, and the view beside that, behind others, where there is room.
 pub(crate) fn put_line(
     event: Event,
-    reply: ShortReply,
+    reply: Reply<()>,
     view: &View,
     line: &mut Replies<Global>,
     lines: &mut Vec<u8>,
@@ -153,9 +153,9 @@ impl<R> Service<R> for Chronicle {
 
     ghost answers = { λ c q known. chronicle_answers c q };
 
-    fn apply(&mut self, _rt: &R, event: Event, view: &mut View) -> ShortReply {
+    fn apply(&mut self, _rt: &R, event: Event, view: &mut View) -> Reply<()> {
         if self.is_full() || self.lines.reserve(TURN_ROOM).is_err() {
-            return ShortReply::Refused(self.hall.refusal(event).unwrap_or(Refusal::NoMemory));
+            return Reply::Refused(self.hall.refusal(event).unwrap_or(Refusal::NoMemory));
         }
         let reply = applied(&mut self.hall, event, view);
         if !reply.is_refusal() {
@@ -164,7 +164,7 @@ impl<R> Service<R> for Chronicle {
         reply
     }
 
-    fn owner(&mut self, _rt: &R, n: u64) -> Reply {
+    fn owner(&mut self, _rt: &R, n: u64) -> Reply<View> {
         self.hall.owner(n)
     }
 }

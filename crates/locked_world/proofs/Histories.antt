@@ -9,10 +9,9 @@ use Rattle.commands.specs.declared.config.Config.{Config}
 use Rattle.commands.specs.declared.event.Event.{Event}
 use Rattle.commands.specs.declared.event.Event.TheVariants.{Begin}
 use Rattle.commands.specs.declared.exchange.Exchange.{Exchange}
-use Rattle.commands.specs.declared.reply.Reply.{Reply}
 use Rattle.commands.specs.declared.reply.Reply.TheVariants as reply
 use Rattle.commands.specs.declared.reply.Reply.TheVariants.{Ok, Quiet, Stop, Right, Down, Place, Proposed, Saw, Named, Spent, Missed, Got, Left, Value, Owner, Refused}
-use Rattle.commands.specs.Replies.{is_refusal, done_reply}
+use Rattle.commands.specs.Replies.{ShownReply, is_refusal, done_reply}
 use Rattle.desk.specs.Desk.{fresh_desk, desk_rules, desk_reply, desk_after, desk_refusal, IsAfterDesk}
 use Rattle.desk.specs.DeskCalls.{DeskCall, exchange, exchange_of}
 use Rattle.desk.specs.DeskRun.{IsDeskRunOf}
@@ -98,7 +97,7 @@ pub room_left : (h : HallState) (e : Event) → hall_refusal h e ≡ None → le
 room_left h e due = room_by (desk_refusal (desk_of h) e) (length h.history) due
 
 -- a refusal has its reason
-refused_by : (r : Reply) → is_refusal r ≡ true → (why : Refusal) × (r ≡ reply.Refused why)
+refused_by : (r : ShownReply) → is_refusal r ≡ true → (why : Refusal) × (r ≡ reply.Refused why)
 refused_by Ok h = absurd (cc)
 refused_by Quiet h = absurd (cc)
 refused_by Stop h = absurd (cc)
@@ -117,13 +116,13 @@ refused_by (Owner owner) h = absurd (cc)
 refused_by (Refused why) h = (why, refl)
 
 -- a hall that refuses nothing lets its desk answer, and this is the hall then
-pub record Grows (h : HallState) (e : Event) (r : Reply) (w : DeskValue) : Type 0 where
+pub record Grows (h : HallState) (e : Event) (r : ShownReply) (w : DeskValue) : Type 0 where
   pub reply : r ≡ desk_reply (desk_of h) e
   pub desk : w ≡ desk_of (longer h e)
   pub lawful : IsLawful (longer h e)
   pub may : HallMay h e r (longer h e)
 
-module _ (h : HallState) (e : Event) (r : Reply) (w : DeskValue) (lawful : IsLawful h) (due : hall_refusal h e ≡ None) (may : may_by desk_rules (desk_of h) e r w) where
+module _ (h : HallState) (e : Event) (r : ShownReply) (w : DeskValue) (lawful : IsLawful h) (due : hall_refusal h e ≡ None) (may : may_by desk_rules (desk_of h) e r w) where
   free : desk_refusal (desk_of h) e ≡ None
   free = none_of_full (desk_refusal (desk_of h) e) _ due
 
@@ -160,19 +159,19 @@ pub lacks_so : (h : HallState) (e : Event) → hall_refusal h e ≡ None → Hal
 lacks_so h e due = inr (refl, refl, due)
 
 -- a refused event leaves a hall as it was
-refused_stays : (h u : HallState) (e : Event) (r : Reply) (o : Option Refusal) → IsLawful h → hall_refusal h e ≡ o → r ≡ reply_unless o h e → u ≡ after_unless o h e → is_refusal r ≡ true → u ≡ h
+refused_stays : (h u : HallState) (e : Event) (r : ShownReply) (o : Option Refusal) → IsLawful h → hall_refusal h e ≡ o → r ≡ reply_unless o h e → u ≡ after_unless o h e → is_refusal r ≡ true → u ≡ h
 refused_stays h u e r (Some why) lawful due told after refused = after
 refused_stays h u e r None lawful due told after refused =
     let free : desk_refusal (desk_of h) e ≡ None = none_of_full (desk_refusal (desk_of h) e) _ due in
     let why = refused_by r refused in
     absurd (not_refused h lawful e why.0 free (sym told ∙ why.1))
 
-pub kept_refused : (h u : HallState) (e : Event) (r : Reply) → IsLawful h → HallMay h e r u → is_refusal r ≡ true → u ≡ h
+pub kept_refused : (h u : HallState) (e : Event) (r : ShownReply) → IsLawful h → HallMay h e r u → is_refusal r ≡ true → u ≡ h
 kept_refused h u e r lawful (inl m) refused = refused_stays h u e r (hall_refusal h e) lawful refl m.0 m.1 refused
 kept_refused h u e r lawful (inr m) refused = m.1
 
 -- a reply that is none of the refusals is accepted
-pub accepted_by : (r : Reply) → ((why : Refusal) → r ≡ reply.Refused why → ⊥) → is_refusal r ≡ false
+pub accepted_by : (r : ShownReply) → ((why : Refusal) → r ≡ reply.Refused why → ⊥) → is_refusal r ≡ false
 accepted_by r h = by_test (is_refusal r) (λ refused. let why = refused_by r refused in h why.0 why.1) where
   by_test : (b : Bool) → (b ≡ true → ⊥) → b ≡ false
   by_test true h = absurd (h refl)
@@ -191,6 +190,6 @@ begun_ok : (h : HallState) (id : ℕ) (o : Option Refusal) → is_refusal (reply
 begun_ok h id None accepted = begin_ok (desk_of h) id accepted
 begun_ok h id (Some why) accepted = absurd (cc)
 
-pub begins_ok : (h u : HallState) (id : ℕ) (r : Reply) → HallMay h (Begin id) r u → is_refusal r ≡ false → r ≡ Ok
+pub begins_ok : (h u : HallState) (id : ℕ) (r : ShownReply) → HallMay h (Begin id) r u → is_refusal r ≡ false → r ≡ Ok
 begins_ok h u id r (inl m) accepted = m.0 ∙ begun_ok h id (hall_refusal h (Begin id)) (sym (ap is_refusal m.0) ∙ accepted)
 begins_ok h u id r (inr m) accepted = absurd (let no : true ≡ false = ap is_refusal (sym m.0) ∙ accepted in cc)

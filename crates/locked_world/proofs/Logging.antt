@@ -4,7 +4,7 @@ use Rattle.std.proofs.lemmas.List.{map-append, get_or_append_left}
 use Rattle.std.proofs.lemmas.Bool.{and_parts, and_from}
 use Rattle.std.proofs.lemmas.Bool.Decides.{nat_tests}
 use Rattle.commands.specs.declared.event.Event.{Event}
-use Rattle.commands.specs.declared.reply.Reply.{Reply}
+use Rattle.commands.specs.Replies.{ShownReply}
 use Rattle.commands.specs.declared.reply.Reply.TheVariants as reply
 use Rattle.desk.specs.DeskCalls.{exchange}
 use Rattle.locked_world.specs.declared.entry.Entry.{Entry}
@@ -12,7 +12,7 @@ use Rattle.locked_world.specs.declared.entry.Short.{Short}
 use Rattle.locked_world.specs.declared.entry.Short.TheVariants.{Ok, Quiet, Proposed, Missed, Got, Left, Value, Apart}
 use Rattle.locked_world.specs.Logs.{reply_shown, is_inside, all_inside, exchange_shown, entry_of, put_together}
 
-reply_kept : (apart more : List Reply) (r : Short) → is_inside (length apart) r ≡ true → reply_shown (apart ++ more) r ≡ reply_shown apart r
+reply_kept : (apart more : List ShownReply) (r : Short) → is_inside (length apart) r ≡ true → reply_shown (apart ++ more) r ≡ reply_shown apart r
 reply_kept apart more Ok h = refl
 reply_kept apart more Quiet h = refl
 reply_kept apart more (Proposed number) h = refl
@@ -38,7 +38,7 @@ all_kept count more (e ∷ es) h =
     let a = and_parts (is_inside count e.reply) (all_inside count es) h in
     and_from _ _ (inside_kept count more e.reply a.0) (all_kept count more es a.1)
 
-put_kept : (apart more : List Reply) (es : List Entry) → all_inside (length apart) es ≡ true → put_together (apart ++ more) es ≡ put_together apart es
+put_kept : (apart more : List ShownReply) (es : List Entry) → all_inside (length apart) es ≡ true → put_together (apart ++ more) es ≡ put_together apart es
 put_kept apart more [] h = refl
 put_kept apart more (e ∷ es) h =
     let a = and_parts (is_inside (length apart) e.reply) (all_inside (length apart) es) h in
@@ -51,8 +51,8 @@ all_push count (x ∷ es) e h one =
     and_from _ _ a.0 (all_push count es e a.1 one)
 
 -- so an exchange is put behind the others
-module _ (apart apart' : List Reply) (es es' : List Entry) (e : Event) (short : Short) (longer : (more : List Reply) × (apart' ≡ apart ++ more)) (inside : all_inside (length apart) es ≡ true) (same : es' ≡ es ++ entry_of e short ∷ []) where
-  pub put_push : (r : Reply) → reply_shown apart' short ≡ r → put_together apart' es' ≡ put_together apart es ++ exchange e r ∷ []
+module _ (apart apart' : List ShownReply) (es es' : List Entry) (e : Event) (short : Short) (longer : (more : List ShownReply) × (apart' ≡ apart ++ more)) (inside : all_inside (length apart) es ≡ true) (same : es' ≡ es ++ entry_of e short ∷ []) where
+  pub put_push : (r : ShownReply) → reply_shown apart' short ≡ r → put_together apart' es' ≡ put_together apart es ++ exchange e r ∷ []
   put_push r shown =
       let old : put_together apart' es ≡ put_together apart es = ap (λ w. put_together w es) longer.1 ∙ put_kept apart longer.0 es inside in
       ap (put_together apart') same ∙ map-append (exchange_shown apart') es (entry_of e short ∷ []) ∙ ap (λ w. w ++ exchange_shown apart' (entry_of e short) ∷ []) old ∙ ap (λ k. put_together apart es ++ exchange e k ∷ []) shown

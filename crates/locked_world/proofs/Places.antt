@@ -6,7 +6,7 @@ use Rattle.commands.specs.declared.config.Config.{Config}
 use Rattle.commands.specs.declared.event.Event.{Event}
 use Rattle.commands.specs.declared.exchange.Exchange.{Exchange}
 use Rattle.commands.specs.declared.event.Event.TheVariants.{Begin}
-use Rattle.commands.specs.declared.reply.Reply.{Reply}
+use Rattle.commands.specs.Replies.{ShownReply}
 use Rattle.commands.specs.declared.reply.Reply.TheVariants.{Ok}
 use Rattle.desk.specs.DeskCalls.{exchange}
 use Rattle.locked_world.specs.declared.kept.Kept.{Kept}
@@ -16,7 +16,7 @@ use Rattle.locked_world.specs.Kepts.{rises, IsKept, IsOpened, IsTaken}
 use Rattle.locked_world.specs.KeptLogs.{kept_of}
 
 -- who had seen nothing is answered as one who had seen something
-pub from_nothing : (c : Config) (seen : List Exchange) (e : Event) (r : Reply) (now : List Exchange) → IsAnswered c seen e r now → IsAnswered c [] e r now
+pub from_nothing : (c : Config) (seen : List Exchange) (e : Event) (r : ShownReply) (now : List Exchange) → IsAnswered c seen e r now → IsAnswered c [] e r now
 from_nothing c seen e r now a = record { history = a.history; lawful = a.lawful; longer = (a.history, refl); answer = a.answer }
 
 pub rises_more : (from : ℕ) (ks : List Kept) (next : ℕ) (k : Kept) → rises from ks next ≡ true → next ≤ k.place → rises from (ks ++ k ∷ []) (k.place + 1) ≡ true

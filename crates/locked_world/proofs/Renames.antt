@@ -6,10 +6,9 @@ use Rattle.step_memory.specs.declared.refusal.Refusal.{Refusal}
 use Rattle.commands.specs.declared.config.Config.{Config}
 use Rattle.commands.specs.declared.event.Event.TheVariants.{Step}
 use Rattle.commands.specs.declared.reply.Reply.{Reply}
-use Rattle.commands.specs.declared.short_reply.ShortReply.{ShortReply}
-use Rattle.commands.specs.declared.short_reply.ShortReply.TheVariants.{Ok, Quiet, Stop, Right, Down, Place, Proposed, Saw, Named, Spent, Missed, Got, Left, Value, Owner, Refused}
+use Rattle.commands.specs.declared.reply.Reply.TheVariants.{Ok, Quiet, Stop, Right, Down, Place, Proposed, Saw, Named, Spent, Missed, Got, Left, Value, Owner, Refused}
 use Rattle.desk.specs.DeskCalls.{exchange}
-use Rattle.commands.specs.Replies.{is_refusal, with_view}
+use Rattle.commands.specs.Replies.{ShownReply, is_refusal, with_view}
 use Rattle.locked_world.specs.declared.kept.Kept.{Kept}
 use Rattle.locked_world.specs.CallerState.{CallerState}
 use Rattle.locked_world.specs.Kepts.{IsKept, IsTaken, IsSound}
@@ -22,7 +21,7 @@ pub stepped_not : (c : Config) (id : ℕ) (s : CallerState) → IsStepped c id 0
 stepped_not c id s = record { added = []; longer = sym (append-nil s.kept); counted = refl; plain = All-nil _; seen = prefix_self s.seen; sound = λ sound. sound }
 
 -- a short reply that is none of the refusals is accepted
-pub taken_by : (r : ShortReply) (view : List (ℕ × ℕ)) → ((why : Refusal) → r ≡ Refused why → ⊥) → is_refusal (with_view r view) ≡ false
+pub taken_by : (r : Reply (Unit {0})) (view : List (ℕ × ℕ)) → ((why : Refusal) → r ≡ Refused why → ⊥) → is_refusal (with_view r view) ≡ false
 taken_by Ok view refused = refl
 taken_by Quiet view refused = refl
 taken_by Stop view refused = refl
@@ -30,8 +29,8 @@ taken_by Right view refused = refl
 taken_by Down view refused = refl
 taken_by (Place place) view refused = refl
 taken_by (Proposed number) view refused = refl
-taken_by Saw view refused = refl
-taken_by (Named name) view refused = refl
+taken_by (Saw nothing) view refused = refl
+taken_by (Named name nothing) view refused = refl
 taken_by Spent view refused = refl
 taken_by Missed view refused = refl
 taken_by (Got number) view refused = refl
@@ -41,7 +40,7 @@ taken_by (Owner owner) view refused = refl
 taken_by (Refused why) view refused = absurd (refused why refl)
 
 -- and who is not named, spent or refused goes on
-pub plain_by : (r : ShortReply) (view : List (ℕ × ℕ)) → ((name : ℕ) → r ≡ Named name → ⊥) → (r ≡ Spent → ⊥) → ((why : Refusal) → r ≡ Refused why → ⊥) → goes_on (with_view r view) ≡ true
+pub plain_by : (r : Reply (Unit {0})) (view : List (ℕ × ℕ)) → ((name : ℕ) (nothing : Unit {0}) → r ≡ Named name nothing → ⊥) → (r ≡ Spent → ⊥) → ((why : Refusal) → r ≡ Refused why → ⊥) → goes_on (with_view r view) ≡ true
 plain_by Ok view named spent refused = refl
 plain_by Quiet view named spent refused = refl
 plain_by Stop view named spent refused = refl
@@ -49,8 +48,8 @@ plain_by Right view named spent refused = refl
 plain_by Down view named spent refused = refl
 plain_by (Place place) view named spent refused = refl
 plain_by (Proposed number) view named spent refused = refl
-plain_by Saw view named spent refused = refl
-plain_by (Named name) view named spent refused = absurd (named name refl)
+plain_by (Saw nothing) view named spent refused = refl
+plain_by (Named name nothing) view named spent refused = absurd (named name nothing refl)
 plain_by Spent view named spent refused = absurd (spent refl)
 plain_by Missed view named spent refused = refl
 plain_by (Got number) view named spent refused = refl
@@ -60,7 +59,7 @@ plain_by (Owner owner) view named spent refused = refl
 plain_by (Refused why) view named spent refused = absurd (refused why refl)
 
 -- one more step after which it goes on
-pub stepped_more : (c : Config) (id count : ℕ) (s mid t : CallerState) (r : Reply) → IsStepped c id count s mid → IsTaken c mid (Step id) r t → goes_on r ≡ true → is_refusal r ≡ false → IsStepped c id (count + 1) s t
+pub stepped_more : (c : Config) (id count : ℕ) (s mid t : CallerState) (r : ShownReply) → IsStepped c id count s mid → IsTaken c mid (Step id) r t → goes_on r ≡ true → is_refusal r ≡ false → IsStepped c id (count + 1) s t
 stepped_more c id count s mid t r h one plain taken =
     let kept : IsKept mid.kept (Step id) r t.kept = let keeps = one.kept in rw taken at keeps in
     let k = kept_of kept.place (exchange (Step id) r) in

@@ -8,14 +8,13 @@ use Rattle.commands.specs.declared.config.Config.{Config}
 use Rattle.commands.specs.declared.kind.WorldKind.{WorldKind}
 use Rattle.commands.specs.declared.event.Event.{Event}
 use Rattle.commands.specs.declared.exchange.Exchange.{Exchange}
-use Rattle.commands.specs.declared.reply.Reply.{Reply}
 use Rattle.commands.specs.declared.reply.Reply.TheVariants as reply
 use Rattle.commands.specs.Config.{gives_names}
 use Rattle.commands.specs.KindProofs.{where_named}
 use Rattle.desk.specs.Desk.{fresh_desk, desk_reply, desk_after, desk_refusal, IsFreshDesk}
 use Rattle.desk.specs.DeskCalls.{exchange}
 use Rattle.desk.specs.DeskValue.{DeskValue}
-use Rattle.commands.specs.Replies.{is_refusal}
+use Rattle.commands.specs.Replies.{ShownReply, is_refusal}
 use Rattle.desk.proofs.DeskLaws as desk
 use Rattle.schedule_player.specs.DeskWorld.{DeskWorldMay, IsDeskTalk}
 use Rattle.schedule_player.specs.DeskWorldProofs.{desk_lawful, desk_tells}
@@ -33,7 +32,7 @@ use Rattle.locked_world.specs.Serving.{HallServes, is_of_room, wants_room, with_
 use Rattle.locked_world.proofs.Histories.{grows, not_refused, refused_so, none_of_full, accepted_by}
 use Rattle.locked_world.proofs.Staying.{stays}
 
-not_wanting : (r : Reply) → is_refusal r ≡ false → wants_room r ≡ false
+not_wanting : (r : ShownReply) → is_refusal r ≡ false → wants_room r ≡ false
 not_wanting (reply.Refused why) h = absurd (cc)
 not_wanting reply.Ok h = refl
 not_wanting reply.Quiet h = refl
@@ -53,7 +52,7 @@ not_wanting (reply.Owner owner) h = refl
 
 -- over one event: the hall stays lawful; and room was wanting and the desk is the same, or the desk answered; the history
 -- gains the event where it was accepted, and nothing else
-pub record Moves (h : HallState) (e : Event) (r : Reply) (u : HallState) : Type 0 where
+pub record Moves (h : HallState) (e : Event) (r : ShownReply) (u : HallState) : Type 0 where
   pub lawful : IsLawful u
   pub desk : ((wants_room r ≡ true) × (desk_of u ≡ desk_of h)) ⊎ ((wants_room r ≡ false) × DeskWorldMay (desk_of h) (Take e) r (desk_of u))
   pub history : u.history ≡ h.history ++ accepted (exchange e r ∷ [])
@@ -78,7 +77,7 @@ module _ (h : HallState) (e : Event) (lawful : IsLawful h) where
         history = ap (λ b. h.history ++ cond b [] (exchange e (desk_reply (desk_of h) e) ∷ [])) (sym taken);
       }
 
-  same_history : (r : Reply) → is_refusal r ≡ true → h.history ≡ h.history ++ accepted (exchange e r ∷ [])
+  same_history : (r : ShownReply) → is_refusal r ≡ true → h.history ≡ h.history ++ accepted (exchange e r ∷ [])
   same_history r refused = sym (append-nil h.history) ∙ ap (λ b. h.history ++ cond b [] (exchange e r ∷ [])) (sym refused)
 
   -- the desk refused it
@@ -106,7 +105,7 @@ module _ (h : HallState) (e : Event) (lawful : IsLawful h) where
     | Some why ↦ λ p. moves_full why (full_is (length h.history) why p)
   ] refl
 
-  pub moves : (r : Reply) (u : HallState) → HallMay h e r u → Moves h e r u
+  pub moves : (r : ShownReply) (u : HallState) → HallMay h e r u → Moves h e r u
   moves r u (inl m) = rw (m.0, m.1) (moves_by (desk_refusal (desk_of h) e) refl refl)
   moves r u (inr m) = rw (m.0, m.1) (moves_full refusal.NoMemory refl)
 

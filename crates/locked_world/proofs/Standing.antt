@@ -9,9 +9,8 @@ use Rattle.step_memory.specs.declared.refusal.Refusal.{Refusal}
 use Rattle.commands.specs.declared.config.Config.{Config}
 use Rattle.commands.specs.declared.event.Event.{Event}
 use Rattle.commands.specs.declared.exchange.Exchange.{Exchange}
-use Rattle.commands.specs.declared.reply.Reply.{Reply}
 use Rattle.desk.specs.DeskCalls.{exchange}
-use Rattle.commands.specs.Replies.{is_refusal}
+use Rattle.commands.specs.Replies.{ShownReply, is_refusal}
 use Rattle.locked_world.specs.declared.kept.Kept.{Kept}
 use Rattle.locked_world.specs.CallerState.{CallerState, caller_of}
 use Rattle.locked_world.specs.Halls.{hall_of, IsLawful, hall_refusal, after_unless, HallMay}
@@ -44,34 +43,34 @@ config_kept None h e = refl
 config_kept (Some why) h e = refl
 
 -- a hall stays of its config
-pub of_config : (h : HallState) (e : Event) (u : HallState) (r : Reply) → HallMay h e r u → hall_of h.config u.history ≡ u
+pub of_config : (h : HallState) (e : Event) (u : HallState) (r : ShownReply) → HallMay h e r u → hall_of h.config u.history ≡ u
 of_config h e u r (inl m) = rw m.1 (config_kept (hall_refusal h e) h e)
 of_config h e u r (inr m) = rw m.1 refl
 
 -- the history goes on by the event where it was accepted
-pub goes_by : (h : HallState) (e : Event) (r : Reply) (u : HallState) → IsLawful h → HallMay h e r u → is_refusal r ≡ false → u.history ≡ h.history ++ exchange e r ∷ []
+pub goes_by : (h : HallState) (e : Event) (r : ShownReply) (u : HallState) → IsLawful h → HallMay h e r u → is_refusal r ≡ false → u.history ≡ h.history ++ exchange e r ∷ []
 goes_by h e r u lawful may taken =
     let m : Moves h e r u = moves h e lawful r u may in
     m.history ∙ ap (λ b. h.history ++ cond b [] (exchange e r ∷ [])) taken
 
-pub stays_by : (h : HallState) (e : Event) (r : Reply) (u : HallState) → IsLawful h → HallMay h e r u → is_refusal r ≡ true → u.history ≡ h.history
+pub stays_by : (h : HallState) (e : Event) (r : ShownReply) (u : HallState) → IsLawful h → HallMay h e r u → is_refusal r ≡ true → u.history ≡ h.history
 stays_by h e r u lawful may refused =
     let m : Moves h e r u = moves h e lawful r u may in
     m.history ∙ ap (λ b. h.history ++ cond b [] (exchange e r ∷ [])) refused ∙ append-nil h.history
 
 -- what was kept stands in the history of the hall that answered, with what is kept of the answer
-pub stands_by : (h : HallState) (e : Event) (r : Reply) (u : HallState) (ks : List Kept) → IsLawful h → Fits h.history ks → HallMay h e r u → Fits u.history (cond (is_refusal r) ks (ks ++ kept_of (length h.history) (exchange e r) ∷ []))
+pub stands_by : (h : HallState) (e : Event) (r : ShownReply) (u : HallState) (ks : List Kept) → IsLawful h → Fits h.history ks → HallMay h e r u → Fits u.history (cond (is_refusal r) ks (ks ++ kept_of (length h.history) (exchange e r) ∷ []))
 stands_by h e r u ks lawful fits may =
     elim (is_refusal r) as (λ b. is_refusal r ≡ b → Fits u.history (cond b ks (ks ++ kept_of (length h.history) (exchange e r) ∷ []))) [
       | true ↦ λ is. rw (stays_by h e r u lawful may is) fits
       | false ↦ λ is. rw (goes_by h e r u lawful may is) (fits_more h.history ks (exchange e r) fits)
     ] refl
 
-keeps_by : (refused : Bool) (ks : List Kept) (place : ℕ) (e : Event) (r : Reply) → All (λ k. k.place < place) ks → KeepsUnless refused ks e r (cond refused ks (ks ++ kept_of place (exchange e r) ∷ []))
+keeps_by : (refused : Bool) (ks : List Kept) (place : ℕ) (e : Event) (r : ShownReply) → All (λ k. k.place < place) ks → KeepsUnless refused ks e r (cond refused ks (ks ++ kept_of place (exchange e r) ∷ []))
 keeps_by true ks place e r above = refl
 keeps_by false ks place e r above = record { place = place; above = above; is = refl }
 
-module _ (c : Config) (h : HallState) (e : Event) (r : Reply) (u : HallState) (s t : CallerState) where
+module _ (c : Config) (h : HallState) (e : Event) (r : ShownReply) (u : HallState) (s t : CallerState) where
   -- the hall of a lawful history, of which a caller has seen a prefix, answers it
   pub taken : h.config ≡ c → IsLawful h → IsPrefix s.seen h.history → Fits s.seen s.kept → HallMay h e r u → t.seen ≡ u.history → t.kept ≡ cond (is_refusal r) s.kept (s.kept ++ kept_of (length h.history) (exchange e r) ∷ []) → IsTaken c s e r t
   taken of lawful longer fits may seen kept =
@@ -98,12 +97,12 @@ module _ (c : Config) (h : HallState) (e : Event) (r : Reply) (u : HallState) (s
       taken of lawful longer fits may seen (kept ∙ ap (λ (b : Bool). cond b s.kept (s.kept ++ kept_of (length h.history) (exchange e r) ∷ [])) (sym accepted))
 
 -- a caller that was answered has seen a lawful history, which goes on from what it had seen
-pub sound_after : (c : Config) (s t : CallerState) (e : Event) (r : Reply) → IsTaken c s e r t → IsSound c t
+pub sound_after : (c : Config) (s t : CallerState) (e : Event) (r : ShownReply) → IsTaken c s e r t → IsSound c t
 sound_after c s t e r one =
     let m : Moves (hall_of c one.answer.history) e r (hall_of c t.seen) = moves (hall_of c one.answer.history) e one.answer.lawful r (hall_of c t.seen) one.answer.answer in
     record { lawful = m.lawful; stands = one.stands }
 
-pub seen_after : (c : Config) (s t : CallerState) (e : Event) (r : Reply) → IsTaken c s e r t → IsPrefix s.seen t.seen
+pub seen_after : (c : Config) (s t : CallerState) (e : Event) (r : ShownReply) → IsTaken c s e r t → IsPrefix s.seen t.seen
 seen_after c s t e r one =
     let m : Moves (hall_of c one.answer.history) e r (hall_of c t.seen) = moves (hall_of c one.answer.history) e one.answer.lawful r (hall_of c t.seen) one.answer.answer in
     prefix_trans s.seen one.answer.history t.seen one.answer.longer (accepted (exchange e r ∷ []), sym m.history)
@@ -127,7 +126,7 @@ module _ (c : Config) (h : HallState) (seen : List Exchange) (ks : List Kept) (n
   }
 
   -- and an event that was accepted, which it keeps
-  pub stands_kept : (e : Event) (r : Reply) (u : HallState) → HallMay h e r u → is_refusal r ≡ false → Stands c (h.history ++ exchange e r ∷ []) (ks ++ kept_of (length h.history) (exchange e r) ∷ []) (length h.history + 1)
+  pub stands_kept : (e : Event) (r : ShownReply) (u : HallState) → HallMay h e r u → is_refusal r ≡ false → Stands c (h.history ++ exchange e r ∷ []) (ks ++ kept_of (length h.history) (exchange e r) ∷ []) (length h.history + 1)
   stands_kept e r u may accepted =
       let m : Moves h e r u = moves h e lawful r u may in
       let of' : u.config ≡ c = sym (ap (λ (k : HallState). k.config) (of_config h e u r may)) ∙ of in

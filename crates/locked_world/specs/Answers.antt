@@ -6,14 +6,14 @@ use Rattle.commands.specs.declared.config.Config.{Config}
 use Rattle.commands.specs.declared.event.Event.{Event}
 use Rattle.commands.specs.declared.event.Event.TheVariants.{Begin}
 use Rattle.commands.specs.declared.exchange.Exchange.{Exchange}
-use Rattle.commands.specs.declared.reply.Reply.{Reply}
+use Rattle.commands.specs.Replies.{ShownReply}
 use Rattle.commands.specs.declared.reply.Reply.TheVariants as reply
 use Rattle.desk.specs.Desk.{owner_reply}
 use Rattle.locked_world.specs.Halls.{hall_of, desk_of, IsLawful, HallMay}
 
 -- The lock's history was lawful for its config, and what the caller had seen was a prefix of it; the hall of that history gives this
 -- reply to the event, and the caller has now seen what its history is then
-pub record IsAnswered (c : Config) (seen : List Exchange) (e : Event) (r : Reply) (now : List Exchange) : Type 0 where
+pub record IsAnswered (c : Config) (seen : List Exchange) (e : Event) (r : ShownReply) (now : List Exchange) : Type 0 where
   pub history : List Exchange
   pub lawful : IsLawful (hall_of c history)
   pub longer : IsPrefix seen history
@@ -25,7 +25,7 @@ pub record IsRefusedBegin (c : Config) (id : ℕ) (why : Refusal) : Type 0 where
   pub answer : IsAnswered c [] (Begin id) (reply.Refused why) now
 
 -- some hall of a lawful history, of this config, tells this of a name
-pub record IsSomeOwner (c : Config) (number : ℕ) (r : Reply) : Type 0 where
+pub record IsSomeOwner (c : Config) (number : ℕ) (r : ShownReply) : Type 0 where
   pub history : List Exchange
   pub lawful : IsLawful (hall_of c history)
   pub answer : r ≡ owner_reply (desk_of (hall_of c history)) number

@@ -5,7 +5,7 @@ use Rattle.step_memory.specs.declared.refusal.Refusal.TheVariants as refusal
 use Rattle.commands.specs.declared.config.Config.{Config}
 use Rattle.commands.specs.declared.event.Event.{Event}
 use Rattle.commands.specs.declared.exchange.Exchange.{Exchange}
-use Rattle.commands.specs.declared.reply.Reply.{Reply}
+use Rattle.commands.specs.Replies.{ShownReply}
 use Rattle.commands.specs.declared.reply.Reply.TheVariants as reply
 use Rattle.commands.specs.Config.{gives_names}
 use Rattle.desk.specs.Desk.{fresh_desk, desk_reply, desk_refusal}
@@ -41,7 +41,7 @@ abbrev pub longer : HallState → Event → HallState
 longer h e = hall_of h.config (h.history ++ exchange e (desk_reply (desk_of h) e) ∷ [])
 
 -- the reply to an event where no growth is refused, and the hall after it
-abbrev pub reply_unless : Option Refusal → HallState → Event → Reply
+abbrev pub reply_unless : Option Refusal → HallState → Event → ShownReply
 reply_unless None h e = desk_reply (desk_of h) e
 reply_unless (Some why) h e = reply.Refused why
 
@@ -49,7 +49,7 @@ abbrev pub after_unless : Option Refusal → HallState → Event → HallState
 after_unless None h e = longer h e
 after_unless (Some why) h e = h
 
-abbrev pub hall_reply : HallState → Event → Reply
+abbrev pub hall_reply : HallState → Event → ShownReply
 hall_reply h e = reply_unless (hall_refusal h e) h e
 
 abbrev pub hall_after : HallState → Event → HallState
@@ -57,6 +57,6 @@ hall_after h e = after_unless (hall_refusal h e) h e
 
 -- an event may be answered so, and leave this: the one reply and the one hall; or a refused growth, where nothing else is
 -- due, with nothing changed
-abbrev pub HallMay : HallState → Event → Reply → HallState → Type 0
+abbrev pub HallMay : HallState → Event → ShownReply → HallState → Type 0
 HallMay h e r u =
     ((r ≡ hall_reply h e) × (u ≡ hall_after h e)) ⊎ ((r ≡ reply.Refused refusal.NoMemory) × (u ≡ h) × (hall_refusal h e ≡ None))

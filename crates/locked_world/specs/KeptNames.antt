@@ -1,12 +1,12 @@
 -- the name that a caller was given
 use Rattle.std.specs.Prelude.{ℕ, List, [], ◌∷◌, Option, Some, None}
 use Rattle.std.specs.Option.{option_or}
-use Rattle.commands.specs.declared.reply.Reply.{Reply}
+use Rattle.commands.specs.Replies.{ShownReply}
 use Rattle.commands.specs.declared.reply.Reply.TheVariants as reply
 use Rattle.locked_world.specs.declared.kept.Kept.{Kept}
 
 -- the name that a reply gives
-abbrev pub name_given : Reply → Option ℕ
+abbrev pub name_given : ShownReply → Option ℕ
 name_given reply.Ok = None
 name_given reply.Quiet = None
 name_given reply.Stop = None

@@ -3,10 +3,9 @@ use Rattle.std.specs.Prelude.{◌≡◌, ℕ, ◌+◌, ◌<◌, ◌==◌, List, 
 use Rattle.commands.specs.declared.event.Event.{Event}
 use Rattle.commands.specs.declared.event.Event.TheVariants.{Begin}
 use Rattle.commands.specs.declared.exchange.Exchange.{Exchange}
-use Rattle.commands.specs.declared.reply.Reply.{Reply}
 use Rattle.commands.specs.declared.reply.Reply.TheVariants.{Ok}
 use Rattle.desk.specs.DeskCalls.{exchange}
-use Rattle.commands.specs.Replies.{is_refusal}
+use Rattle.commands.specs.Replies.{ShownReply, is_refusal}
 use Rattle.locked_world.specs.declared.kept.Kept.{Kept}
 use mathlib.Core.List.{IsPrefix}
 use Rattle.commands.specs.declared.config.Config.{Config}
@@ -22,17 +21,17 @@ rises from [] next = nat_le from next
 rises from (k ∷ ks) next = nat_le from k.place && rises (k.place + 1) ks next
 
 -- an accepted event is kept with its reply, at a place above the others
-pub record IsKept (ks : List Kept) (e : Event) (r : Reply) (new : List Kept) : Type 0 where
+pub record IsKept (ks : List Kept) (e : Event) (r : ShownReply) (new : List Kept) : Type 0 where
   pub place : ℕ
   pub above : All (λ k. k.place < place) ks
   pub is : new ≡ ks ++ kept_of place (exchange e r) ∷ []
 
-abbrev pub KeepsUnless : Bool → List Kept → Event → Reply → List Kept → Type 0
+abbrev pub KeepsUnless : Bool → List Kept → Event → ShownReply → List Kept → Type 0
 KeepsUnless true ks e r new = new ≡ ks
 KeepsUnless false ks e r new = IsKept ks e r new
 
 -- what an event with its reply does to a caller's list: an accepted one is added, a refused one changes nothing
-abbrev pub Keeps : List Kept → Event → Reply → List Kept → Type 0
+abbrev pub Keeps : List Kept → Event → ShownReply → List Kept → Type 0
 Keeps ks e r new = KeepsUnless (is_refusal r) ks e r new
 
 -- how often a place was kept
@@ -56,13 +55,13 @@ pub record IsOpened (c : Config) (id : ℕ) (s : CallerState) : Type 0 where
 
 -- One event of a caller, by one taking of the lock: the lock's hall answered it, and the caller keeps it with its reply where it was
 -- accepted. All that the caller has kept stands in the history that it has seen, each at its place
-pub record IsTaken (c : Config) (s : CallerState) (e : Event) (r : Reply) (t : CallerState) : Type 0 where
+pub record IsTaken (c : Config) (s : CallerState) (e : Event) (r : ShownReply) (t : CallerState) : Type 0 where
   pub answer : IsAnswered c s.seen e r t.seen
   pub kept : Keeps s.kept e r t.kept
   pub stands : Fits t.seen t.kept
 
 -- who has a name was told to a caller as the lock's hall tells it, whose history the caller has now seen
-pub record IsTold (c : Config) (s : CallerState) (number : ℕ) (r : Reply) (t : CallerState) : Type 0 where
+pub record IsTold (c : Config) (s : CallerState) (number : ℕ) (r : ShownReply) (t : CallerState) : Type 0 where
   pub lawful : IsLawful (hall_of c t.seen)
   pub longer : IsPrefix s.seen t.seen
   pub answer : r ≡ owner_reply (desk_of (hall_of c t.seen)) number

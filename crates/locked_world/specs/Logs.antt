@@ -2,7 +2,7 @@
 use Rattle.std.specs.Prelude.{ℕ, List, [], ◌∷◌, map, Bool, true, ◌&&◌, nat_lt, slice_index_or}
 use Rattle.commands.specs.declared.event.Event.{Event}
 use Rattle.commands.specs.declared.exchange.Exchange.{Exchange}
-use Rattle.commands.specs.declared.reply.Reply.{Reply}
+use Rattle.commands.specs.Replies.{ShownReply}
 use Rattle.commands.specs.declared.reply.Reply.TheVariants as reply
 use Rattle.desk.specs.DeskCalls.{exchange}
 use Rattle.locked_world.specs.declared.entry.Entry.{Entry}
@@ -11,7 +11,7 @@ use Rattle.locked_world.specs.declared.entry.Short.TheVariants.{Ok, Quiet, Propo
 use Rattle.locked_world.specs.LogState.{LogState}
 
 -- the reply that this stands for, among the long ones
-abbrev pub reply_shown : List Reply → Short → Reply
+abbrev pub reply_shown : List ShownReply → Short → ShownReply
 reply_shown apart Ok = reply.Ok
 reply_shown apart Quiet = reply.Quiet
 reply_shown apart (Proposed number) = reply.Proposed number
@@ -36,15 +36,15 @@ abbrev pub all_inside : ℕ → List Entry → Bool
 all_inside count [] = true
 all_inside count (e ∷ es) = is_inside count e.reply && all_inside count es
 
-abbrev pub exchange_shown : List Reply → Entry → Exchange
+abbrev pub exchange_shown : List ShownReply → Entry → Exchange
 exchange_shown apart e = exchange e.event (reply_shown apart e.reply)
 
 abbrev pub entry_of : Event → Short → Entry
 entry_of e short = record { event = e; reply = short }
 
 -- the exchanges that entries and long replies stand for
-abbrev pub put_together : List Reply → List Entry → List Exchange
+abbrev pub put_together : List ShownReply → List Entry → List Exchange
 put_together apart es = map (exchange_shown apart) es
 
-abbrev pub log_of : List Reply → List Entry → Bool → LogState
+abbrev pub log_of : List ShownReply → List Entry → Bool → LogState
 log_of apart es room = record { items = put_together apart es; room = room }

@@ -5,14 +5,14 @@ use Rattle.step_memory.specs.declared.refusal.Refusal.{Refusal}
 use Rattle.step_memory.specs.declared.refusal.Refusal.TheVariants as refusal
 use Rattle.commands.specs.declared.config.Config.{Config}
 use Rattle.commands.specs.declared.event.Event.TheVariants.{Step}
-use Rattle.commands.specs.declared.reply.Reply.{Reply}
+use Rattle.commands.specs.Replies.{ShownReply}
 use Rattle.commands.specs.declared.reply.Reply.TheVariants as reply
 use Rattle.locked_world.specs.declared.kept.Kept.{Kept}
 use Rattle.locked_world.specs.CallerState.{CallerState}
 use Rattle.locked_world.specs.Kepts.{IsTaken, IsSound}
 
 -- whether a participant goes on after this reply to its step
-abbrev pub goes_on : Reply → Bool
+abbrev pub goes_on : ShownReply → Bool
 goes_on reply.Ok = true
 goes_on reply.Quiet = true
 goes_on reply.Stop = true
@@ -46,7 +46,7 @@ pub record IsStepped (c : Config) (id count : ℕ) (s t : CallerState) : Type 0 
   pub sound : IsSound c s → IsSound c t
 
 -- fewer than so many were added, and then a step that was answered so
-pub record EndsWith (c : Config) (id turns : ℕ) (s : CallerState) (r : Reply) (t : CallerState) : Type 0 where
+pub record EndsWith (c : Config) (id turns : ℕ) (s : CallerState) (r : ShownReply) (t : CallerState) : Type 0 where
   pub count : ℕ
   pub mid : CallerState
   pub fewer : count + 1 ≤ turns

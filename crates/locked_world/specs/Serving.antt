@@ -4,10 +4,9 @@ use Rattle.step_memory.specs.declared.refusal.Refusal.{Refusal}
 use Rattle.step_memory.specs.declared.refusal.Refusal.TheVariants as refusal
 use Rattle.commands.specs.declared.config.Config.{Config}
 use Rattle.commands.specs.declared.exchange.Exchange.{Exchange}
-use Rattle.commands.specs.declared.reply.Reply.{Reply}
 use Rattle.commands.specs.declared.reply.Reply.TheVariants as reply
 use Rattle.desk.specs.Desk.{owner_reply}
-use Rattle.commands.specs.Replies.{is_refusal}
+use Rattle.commands.specs.Replies.{ShownReply, is_refusal}
 use Rattle.commands.specs.Requests.{Request}
 use Rattle.commands.specs.Requests.Request.{Take, OwnerOf}
 use Rattle.player.specs.Runs.{Runs}
@@ -20,12 +19,12 @@ use Rattle.locked_world.specs.HallState.{HallState}
 use Rattle.locked_world.specs.Kepts.{IsTaken, IsTold, IsSound}
 
 -- a hall takes an event by its rules, and tells who has a name with nothing changed
-abbrev pub HallServes : HallState → Request → Reply → HallState → Type 0
+abbrev pub HallServes : HallState → Request → ShownReply → HallState → Type 0
 HallServes h (Take e) r u = HallMay h e r u
 HallServes h (OwnerOf n) r u = (r ≡ owner_reply (desk_of h) n) × (u ≡ h)
 
 -- a clerk at its lock, which has seen a lawful history: an event is taken as any caller's is, and who has a name is told as to any caller
-abbrev pub ClerkServes : Config → CallerState → Request → Reply → CallerState → Type 0
+abbrev pub ClerkServes : Config → CallerState → Request → ShownReply → CallerState → Type 0
 ClerkServes c s (Take e) r t = IsSound c s → IsTaken c s e r t
 ClerkServes c s (OwnerOf n) r t = IsSound c s → IsTold c s n r t
 
@@ -39,7 +38,7 @@ is_of_room refusal.NoMemory = true
 is_of_room refusal.HistoryFull = true
 is_of_room _ = false
 
-abbrev pub wants_room : Reply → Bool
+abbrev pub wants_room : ShownReply → Bool
 wants_room (reply.Refused why) = is_of_room why
 wants_room _ = false
 

@@ -4,7 +4,7 @@ use Rattle.history_book.proofs.Fronts.{prefix_self}
 use Rattle.step_memory.specs.declared.refusal.Refusal.{Refusal}
 use Rattle.step_memory.specs.declared.refusal.Refusal.TheVariants as refusal
 use Rattle.commands.specs.declared.config.Config.{Config}
-use Rattle.commands.specs.declared.reply.Reply.{Reply}
+use Rattle.commands.specs.Replies.{ShownReply}
 use Rattle.commands.specs.declared.reply.Reply.TheVariants as reply
 use Rattle.desk.specs.Desk.{owner_reply}
 use Rattle.commands.specs.Requests.{Request}
@@ -14,14 +14,14 @@ use Rattle.locked_world.specs.Halls.{hall_of, desk_of, hall_refusal, hall_reply,
 use Rattle.locked_world.specs.HallState.{HallState}
 use Rattle.locked_world.specs.Serving.{HallServes, ClerkServes}
 
-pub hall_answers : (h : HallState) (q : Request) → (r : Reply) × (u : HallState) × HallServes h q r u
+pub hall_answers : (h : HallState) (q : Request) → (r : ShownReply) × (u : HallState) × HallServes h q r u
 hall_answers h (Take e) = (hall_reply h e, hall_after h e, inl (refl, refl))
 hall_answers h (OwnerOf n) = (owner_reply (desk_of h) n, h, (refl, refl))
 
 -- the hall of what a caller has seen refuses each event, by its rules or for want of memory
-pub clerk_answers : (c : Config) (s : CallerState) (q : Request) → (r : Reply) × (t : CallerState) × ClerkServes c s q r t
+pub clerk_answers : (c : Config) (s : CallerState) (q : Request) → (r : ShownReply) × (t : CallerState) × ClerkServes c s q r t
 clerk_answers c s (Take e) = by (hall_refusal (hall_of c s.seen) e) refl where
-  by : (o : Option Refusal) → hall_refusal (hall_of c s.seen) e ≡ o → (r : Reply) × (t : CallerState) × ClerkServes c s (Take e) r t
+  by : (o : Option Refusal) → hall_refusal (hall_of c s.seen) e ≡ o → (r : ShownReply) × (t : CallerState) × ClerkServes c s (Take e) r t
   by (Some why) due = (
     reply.Refused why,
     s,

@@ -2,10 +2,10 @@
 
 ghost use Rattle.std.specs.Prelude.{◌≡◌, ◌<◌, ◌++◌, List, true, vec_len, vec_capacity};
 ghost use Rattle.locked_world.specs.Logs.{reply_shown, is_inside};
-ghost use Rattle.commands.specs.declared.reply.Reply.{Reply};
+ghost use Rattle.commands.specs.Replies.{ShownReply};
 ghost use Rattle.commands.specs.Replies.{with_view};
 
-use commands::{Event, Reply, ShortReply};
+use commands::{Event, Reply};
 use std::alloc::Allocator;
 use step_memory::View;
 
@@ -31,23 +31,23 @@ pub(crate) struct Entry {
 
 /// What stands for a reply with the view beside it, which is put apart where it is long.
 pub(crate) fn shorten<A: Allocator>(
-    apart: &mut Vec<Reply, A>,
-    reply: ShortReply,
+    apart: &mut Vec<Reply<View>, A>,
+    reply: Reply<()>,
     view: &View,
 ) -> Short
     requires { vec_len apart.old < vec_capacity apart.old }
     ensures shown { reply_shown apart.new.items result ≡ with_view reply view.now }
     ensures inside { is_inside (vec_len apart.new) result ≡ true }
-    ensures longer { (more : List Reply) × (apart.new.items ≡ apart.old.items ++ more) }
+    ensures longer { (more : List ShownReply) × (apart.new.items ≡ apart.old.items ++ more) }
 {
     match reply {
-        ShortReply::Ok => Short::Ok,
-        ShortReply::Quiet => Short::Quiet,
-        ShortReply::Proposed(number) => Short::Proposed(number),
-        ShortReply::Missed => Short::Missed,
-        ShortReply::Got(number) => Short::Got(number),
-        ShortReply::Left(number) => Short::Left(number),
-        ShortReply::Value(value) => Short::Value(value),
+        Reply::Ok => Short::Ok,
+        Reply::Quiet => Short::Quiet,
+        Reply::Proposed(number) => Short::Proposed(number),
+        Reply::Missed => Short::Missed,
+        Reply::Got(number) => Short::Got(number),
+        Reply::Left(number) => Short::Left(number),
+        Reply::Value(value) => Short::Value(value),
         _ => {
             let at = apart.len();
             apart.push_reserved(reply.with(view));
@@ -57,7 +57,7 @@ pub(crate) fn shorten<A: Allocator>(
 }
 
 /// The reply that this stands for.
-pub(crate) fn shown(apart: &[Reply], short: Short) -> Reply
+pub(crate) fn shown(apart: &[Reply<View>], short: Short) -> Reply<View>
     ensures { result ≡ reply_shown apart.now short }
 {
     match short {

@@ -8,7 +8,7 @@ ghost use Rattle.commands.specs.Replies.{with_view};
 ghost use Rattle.locked_world.specs.Halls.{hall_of, desk_of, IsLawful, hall_refusal, HallMay};
 
 use crate::log::Log;
-use commands::{Config, Event, Exchange, Reply, ShortReply};
+use commands::{Config, Event, Exchange, Reply};
 use desk::Desk;
 use std::alloc::Global;
 use std::marker::Model;
@@ -102,7 +102,7 @@ impl Hall {
 
     /// Takes one event and answers it, by at most one access. Where it is accepted the history gains the event with its
     /// reply; where it is refused nothing changes. The growth of the history is made first.
-    pub fn apply(&mut self, event: Event) -> Reply
+    pub fn apply(&mut self, event: Event) -> Reply<View>
         ensures { HallMay self.old event result self.new }
     {
         let mut view = View::new();
@@ -110,14 +110,14 @@ impl Hall {
     }
 
     /// As `apply`, with a reply of a few bytes, and its view where it shows one.
-    pub fn apply_short(&mut self, event: Event, view: &mut View) -> ShortReply
+    pub fn apply_short(&mut self, event: Event, view: &mut View) -> Reply<()>
         ensures { HallMay self.old event (with_view result view.new) self.new }
     {
         if let Some(refusal) = self.refusal(event) {
-            return ShortReply::Refused(refusal);
+            return Reply::Refused(refusal);
         }
         if !self.history.reserve() {
-            return ShortReply::Refused(Refusal::NoMemory);
+            return Reply::Refused(Refusal::NoMemory);
         }
         let reply = self.held.desk.apply_short(event, view);
         if !reply.is_refusal() {
@@ -128,7 +128,7 @@ impl Hall {
 
     /// Who has a name, or that nobody has it; `OutOfRange` unless the number is from 1 to 2m - 1, for m participants. It
     /// changes nothing.
-    pub fn owner(&self, number: u64) -> Reply
+    pub fn owner(&self, number: u64) -> Reply<View>
         ensures value { result ≡ owner_reply (desk_of self.now) number }
 
         // It is who was given the name in the history.

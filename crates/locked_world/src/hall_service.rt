@@ -5,7 +5,7 @@ ghost use Rattle.locked_world.specs.Serving.{HallServes};
 ghost use Rattle.locked_world.specs.ServingProofs.{hall_answers};
 
 use crate::hall::Hall;
-use commands::{Event, Reply, ShortReply};
+use commands::{Event, Reply};
 use player::Service;
 use step_memory::View;
 
@@ -16,11 +16,11 @@ impl<R> Service<R> for Hall {
 
     ghost answers = { λ h q known. hall_answers h q };
 
-    fn apply(&mut self, _rt: &R, event: Event, view: &mut View) -> ShortReply {
+    fn apply(&mut self, _rt: &R, event: Event, view: &mut View) -> Reply<()> {
         self.apply_short(event, view)
     }
 
-    fn owner(&mut self, _rt: &R, n: u64) -> Reply {
+    fn owner(&mut self, _rt: &R, n: u64) -> Reply<View> {
         Hall::owner(self, n)
     }
 }

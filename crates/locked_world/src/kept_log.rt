@@ -8,7 +8,7 @@ ghost use Rattle.locked_world.specs.KeptNames.{name_given, name_kept};
 
 use crate::kept::Kept;
 use crate::log::Log;
-use commands::{Event, ShortReply};
+use commands::{Event, Reply};
 use std::alloc::Global;
 use std::marker::Model;
 use step_memory::{NoMemory, View};
@@ -36,11 +36,11 @@ impl Model for KeptLog {
 }
 
 /// The name that a reply gives.
-fn name_given(reply: ShortReply) -> Option<u64>
+fn name_given(reply: Reply<()>) -> Option<u64>
     ensures { (view : List (ℕ × ℕ)) → result ≡ name_given (with_view reply view) }
 {
     match reply {
-        ShortReply::Named(name) => Some(name),
+        Reply::Named(name, ()) => Some(name),
         _ => None,
     }
 }
@@ -98,7 +98,7 @@ impl KeptLog {
         &mut self,
         place: usize,
         event: Event,
-        reply: ShortReply,
+        reply: Reply<()>,
         view: &View,
     )
         requires { self.old.room ≡ true }

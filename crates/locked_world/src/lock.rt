@@ -14,7 +14,7 @@ use crate::hall::Hall;
 use crate::kept_log::KeptLog;
 use crate::parts::{Clerk, HallLock, LockName, Locked, MOST_CALLERS, Session};
 use crate::telling::{Told, begins, tell};
-use commands::{Config, Event, Exchange, Reply, ShortReply};
+use commands::{Config, Event, Exchange, Reply};
 use history_book::{Front, Opened};
 use std::alloc::Global;
 use std::sync::ledger::{Blank, Share};
@@ -46,7 +46,7 @@ impl<L: LockName> Locked<L> {
         clerk: &mut Clerk<L>,
         event: Event,
         view: &mut View,
-    ) -> ShortReply
+    ) -> Reply<()>
         ensures taken { IsTaken L.config clerk.old event (with_view result view.new) clerk.new }
         ensures hall { HallMay self.old.hall event (with_view result view.new) self.new.hall }
         ensures refused { is_refusal (with_view result view.new) ≡ true → self.new.hall ≡ self.old.hall }
@@ -70,10 +70,10 @@ impl<L: LockName> Locked<L> {
         *seen = front.again();
         let place = hall.len();
         if let Some(refusal) = hall.refusal(event) {
-            return ShortReply::Refused(refusal);
+            return Reply::Refused(refusal);
         }
         if !kept.reserve() || marks.reserve(1).is_err() {
-            return ShortReply::Refused(Refusal::NoMemory);
+            return Reply::Refused(Refusal::NoMemory);
         }
         let reply = hall.apply_short(event, view);
         if reply.is_refusal() {
@@ -137,7 +137,7 @@ impl<L: LockName> Locked<L> {
         let mut clerk = self.open(alloc)?;
         let mut view = View::new();
         let reply = self.apply(rt, &mut clerk, Event::Begin(id), &mut view);
-        if let ShortReply::Refused(refusal) = reply {
+        if let Reply::Refused(refusal) = reply {
             self.put_back(clerk);
             return Err(refusal);
         }
@@ -145,7 +145,7 @@ impl<L: LockName> Locked<L> {
     }
 
     /// Who has a name, for a caller, who has then seen the history.
-    fn tell_owner<R: Wait>(&self, rt: &R, clerk: &mut Clerk<L>, number: u64) -> Reply
+    fn tell_owner<R: Wait>(&self, rt: &R, clerk: &mut Clerk<L>, number: u64) -> Reply<View>
         ensures { IsTold L.config clerk.old number result clerk.new }
     {
         begins(rt, &self.front, &clerk.seen);
@@ -155,7 +155,7 @@ impl<L: LockName> Locked<L> {
     }
 
     /// Who has a name.
-    fn owner(&self, number: u64) -> Reply
+    fn owner(&self, number: u64) -> Reply<View>
         ensures { IsSomeOwner L.config number result }
     {
         let _ = self.hall.len();
@@ -215,7 +215,7 @@ impl<L: LockName> HallLock<L> {
     /// One event of a clerk, by one taking of the lock. An accepted event is kept with its reply, at its place in the history; a
     /// refused one changes nothing. The reply is the one that the lock's hall gives, whose history is lawful for the lock's config
     /// and begins with all that the clerk has seen.
-    pub fn apply<R: Wait>(&self, rt: &R, clerk: &mut Clerk<L>, event: Event) -> Reply
+    pub fn apply<R: Wait>(&self, rt: &R, clerk: &mut Clerk<L>, event: Event) -> Reply<View>
         ensures { IsTaken L.config clerk.old event result clerk.new }
     {
         let mut view = View::new();
@@ -229,14 +229,14 @@ impl<L: LockName> HallLock<L> {
         clerk: &mut Clerk<L>,
         event: Event,
         view: &mut View,
-    ) -> ShortReply
+    ) -> Reply<()>
         ensures { IsTaken L.config clerk.old event (with_view result view.new) clerk.new }
     {
         self.locked.lock(rt).apply(rt, clerk, event, view)
     }
 
     /// One act of a session, as `apply`.
-    pub fn act<R: Wait>(&self, rt: &R, session: &mut Session<L>, act: Act) -> Reply
+    pub fn act<R: Wait>(&self, rt: &R, session: &mut Session<L>, act: Act) -> Reply<View>
         ensures taken { IsTaken L.config session.old.clerk (event_of act session.old.id) result session.new.clerk }
         ensures same { session.new.id ≡ session.old.id }
     {
@@ -251,7 +251,7 @@ impl<L: LockName> HallLock<L> {
         session: &mut Session<L>,
         act: Act,
         view: &mut View,
-    ) -> ShortReply
+    ) -> Reply<()>
         ensures taken { IsTaken L.config session.old.clerk (event_of act session.old.id) (with_view result view.new) session.new.clerk }
         ensures same { session.new.id ≡ session.old.id }
     {
@@ -259,7 +259,7 @@ impl<L: LockName> HallLock<L> {
     }
 
     /// One step of a session, as `apply`.
-    pub fn step<R: Wait>(&self, rt: &R, session: &mut Session<L>) -> Reply
+    pub fn step<R: Wait>(&self, rt: &R, session: &mut Session<L>) -> Reply<View>
         ensures taken { IsTaken L.config session.old.clerk (Event.Step session.old.id) result session.new.clerk }
         ensures same { session.new.id ≡ session.old.id }
     {
@@ -267,14 +267,14 @@ impl<L: LockName> HallLock<L> {
     }
 
     /// Who has a name, or that nobody has it, as the lock's hall tells a clerk, who has then seen its history.
-    pub fn tell_owner<R: Wait>(&self, rt: &R, clerk: &mut Clerk<L>, number: u64) -> Reply
+    pub fn tell_owner<R: Wait>(&self, rt: &R, clerk: &mut Clerk<L>, number: u64) -> Reply<View>
         ensures { IsTold L.config clerk.old number result clerk.new }
     {
         self.locked.lock(rt).tell_owner(rt, clerk, number)
     }
 
     /// Who has a name, or that nobody has it, as some hall of a lawful history of the lock's config tells it.
-    pub fn owner<R: Wait>(&self, rt: &R, number: u64) -> Reply
+    pub fn owner<R: Wait>(&self, rt: &R, number: u64) -> Reply<View>
         ensures { IsSomeOwner L.config number result }
     {
         self.locked.lock(rt).owner(number)

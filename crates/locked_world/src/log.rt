@@ -6,7 +6,7 @@ ghost use Rattle.commands.specs.Replies.{with_view};
 ghost use Rattle.locked_world.specs.Logs.{log_of, all_inside};
 
 use crate::entry::{Entry, shorten, shown};
-use commands::{Event, Exchange, Reply, ShortReply};
+use commands::{Event, Exchange, Reply};
 use std::alloc::Allocator;
 use std::marker::Model;
 use step_memory::{NoMemory, View};
@@ -15,7 +15,7 @@ use step_memory::{NoMemory, View};
 #[derive(Drop)]
 pub(crate) struct Log<A: Allocator> {
     entries: Vec<Entry, A>,
-    apart: Vec<Reply, A>,
+    apart: Vec<Reply<View>, A>,
 }
 
 impl<A: Allocator> Model for Log<A> {
@@ -75,7 +75,7 @@ impl<A: Allocator> Log<A> {
     }
 
     /// Puts one behind the others, where there is room: an event with its reply, and the view beside that.
-    pub(crate) fn push_reserved(&mut self, event: Event, reply: ShortReply, view: &View)
+    pub(crate) fn push_reserved(&mut self, event: Event, reply: Reply<()>, view: &View)
         requires { self.old.room ≡ true }
         ensures { self.new.items ≡ self.old.items ++ exchange event (with_view reply view.now) ∷ [] }
     {

@@ -5,7 +5,7 @@ ghost use Rattle.locked_world.specs.Renamed.{IsRenamed};
 
 use crate::act::Act;
 use crate::parts::{HallLock, LockName, Session};
-use commands::ShortReply;
+use commands::Reply;
 use std::sync::Wait;
 use step_memory::{Refusal, View};
 
@@ -25,13 +25,13 @@ impl<L: LockName> HallLock<L> {
         for turn in 0..turns {
             let _ = turn;
             let reply = self.act_short(rt, session, Act::Step, &mut view);
-            if let ShortReply::Named(name) = reply {
+            if let Reply::Named(name, ()) = reply {
                 return Ok(Some(name));
             }
-            if let ShortReply::Spent = reply {
+            if let Reply::Spent = reply {
                 return Err(Refusal::Spent);
             }
-            if let ShortReply::Refused(refusal) = reply {
+            if let Reply::Refused(refusal) = reply {
                 return Err(refusal);
             }
         }

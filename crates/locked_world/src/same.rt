@@ -3,6 +3,7 @@
 ghost use Rattle.std.specs.Prelude.{◌≡◌, true};
 
 use commands::{Event, Exchange, Reply};
+use step_memory::View;
 
 /// Whether two events are one. `true` is said only where they are.
 pub fn is_same_event(a: Event, b: Event) -> bool
@@ -23,7 +24,7 @@ pub fn is_same_event(a: Event, b: Event) -> bool
 
 /// Whether two replies are one. `true` is said only where they are.
 #[tactic(auto, using(step_memory::specs::ViewEq::same_pairs_decides))]
-fn is_same_reply(a: &Reply, b: &Reply) -> bool
+fn is_same_reply(a: &Reply<View>, b: &Reply<View>) -> bool
     ensures { result ≡ true → a.now ≡ b.now }
 {
     match (a, b) {

@@ -5,7 +5,7 @@ ghost use Rattle.locked_world.specs.Serving.{ClerkServes};
 ghost use Rattle.locked_world.specs.ServingProofs.{clerk_answers};
 
 use crate::parts::{Clerk, HallLock, LockName};
-use commands::{Event, Reply, ShortReply};
+use commands::{Event, Reply};
 use player::Service;
 use std::marker::Model;
 use std::sync::Wait;
@@ -50,12 +50,12 @@ impl<'a, L: LockName, R: Wait> Service<R> for ServingClerk<'a, L> {
 
     ghost answers = { λ s q known. clerk_answers L.config s q };
 
-    fn apply(&mut self, rt: &R, event: Event, view: &mut View) -> ShortReply {
+    fn apply(&mut self, rt: &R, event: Event, view: &mut View) -> Reply<()> {
         let ServingClerk { lock, clerk } = self;
         lock.apply_short(rt, clerk, event, view)
     }
 
-    fn owner(&mut self, rt: &R, n: u64) -> Reply {
+    fn owner(&mut self, rt: &R, n: u64) -> Reply<View> {
         let ServingClerk { lock, clerk } = self;
         lock.tell_owner(rt, clerk, n)
     }

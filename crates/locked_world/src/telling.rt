@@ -10,7 +10,7 @@ ghost use Rattle.desk.specs.DeskCalls.{exchange};
 ghost use Rattle.commands.specs.Replies.{with_view};
 
 use crate::parts::LockName;
-use commands::{Event, Exchange, ShortReply};
+use commands::{Event, Exchange, Reply};
 use history_book::{Book, Front};
 use logbook::Plain;
 use std::sync::Wait;
@@ -20,7 +20,7 @@ use step_memory::View;
 #[derive(Drop)]
 pub(crate) struct Told<'a> {
     pub(crate) event: Event,
-    pub(crate) reply: ShortReply,
+    pub(crate) reply: Reply<()>,
     pub(crate) view: &'a View,
 }
 

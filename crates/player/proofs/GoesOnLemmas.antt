@@ -6,7 +6,7 @@ use Rattle.commands.specs.declared.command.Command.{Command}
 use Rattle.commands.specs.declared.command.Command.TheVariants as command
 use Rattle.commands.specs.declared.kind.WorldKind.{WorldKind}
 use Rattle.commands.specs.declared.exchange.Exchange.{Exchange}
-use Rattle.commands.specs.declared.reply.Reply.{Reply}
+use Rattle.commands.specs.Replies.{ShownReply}
 use Rattle.player.specs.Turns.{Turn}
 use Rattle.player.specs.Turns.Turn.{Answered, Told, Ended, Misread}
 use Rattle.player.specs.Asked.{until_quit, asked_by}
@@ -43,7 +43,7 @@ known_rest knows (Ok (command.Event e) ∷ xs) ys known = known_rest knows xs ys
 known_rest knows (Ok (command.Owner n) ∷ xs) ys known = known_rest knows xs ys known.1
 known_rest knows (Ok command.Quit ∷ xs) ys known = known_rest knows xs ys known
 
-module _ {T : Type 0} (may : T → Request → Reply → T → Type 0) (kind : WorldKind) (knows : Request → Bool) (known : Knows knows kind) (answers : (t : T) (q : Request) → knows q ≡ true → (a : Reply) × (u : T) × may t q a u) where
+module _ {T : Type 0} (may : T → Request → ShownReply → T → Type 0) (kind : WorldKind) (knows : Request → Bool) (known : Knows knows kind) (answers : (t : T) (q : Request) → knows q ≡ true → (a : ShownReply) × (u : T) × may t q a u) where
   rest : (w : T) (ms : List (Result Command Bad)) → AllKnown knows ms → (us : List Turn) × (u : T) × (map asked us ≡ ms) × Runs may w us u
   rest w [] all = ([], w, refl, refl)
   rest w (Err bad ∷ ms) all = let on = rest w ms all in (Misread bad ∷ on.0, on.1, ap (λ (l : List (Result Command Bad)). Err bad ∷ l) on.2, on.3)

@@ -5,7 +5,7 @@ use Rattle.std.specs.Io.KnownBytes.{Appends, Consumes, Keeps, IsAtEnd}
 use Rattle.commands.specs.declared.bad.Bad.{Bad}
 use Rattle.commands.specs.declared.command.Command.{Command}
 use Rattle.commands.specs.declared.kind.WorldKind.{WorldKind}
-use Rattle.commands.specs.declared.reply.Reply.{Reply}
+use Rattle.commands.specs.Replies.{ShownReply}
 use Rattle.player.specs.declared.fault.Fault.TheVariants.{Read, Write}
 use Rattle.player.specs.declared.playing.TheConstants.{MOST_READS}
 use Rattle.player.specs.declared.summary.Summary.{Summary}
@@ -50,7 +50,7 @@ input_of None left got came = (got, [], tt, sym (append-nil got), λ end. refl)
 input_of (Some h) None got came = absurd came
 input_of (Some h) (Some l) got came = (h, l, refl, came, λ end. came ∙ ap (λ t. got ++ t) end ∙ append-nil got)
 
-module _ {T : Type 0} (may : T → Request → Reply → T → Type 0) (text : Turn → List ℕ) (kind : WorldKind) (start world : T) where
+module _ {T : Type 0} (may : T → Request → ShownReply → T → Type 0) (text : Turn → List ℕ) (kind : WorldKind) (start world : T) where
   -- where nothing is held, the writer has gained the text
   abbrev told : (s : PlayerState) (p : Progress) (all : List (Result Command Bad)) (before now : Option (List ℕ)) → Stands may text start world s p before now → s.replies ≡ [] → p.asked ≡ all → IsTold (flat_map text) (IsRunTo may start world) all before now
   told s p all before now t none e = record {
@@ -114,7 +114,7 @@ module _ {T : Type 0} (may : T → Request → Reply → T → Type 0) (text : T
       no_write_failed = writes;
     }
 
-    module _ (knows : Request → Bool) (known : Knows knows kind) (answers : (t : T) (q : Request) → knows q ≡ true → (a : Reply) × (u : T) × may t q a u) where
+    module _ (knows : Request → Bool) (known : Knows knows kind) (answers : (t : T) (q : Request) → knows q ≡ true → (a : ShownReply) × (u : T) × may t q a u) where
       -- at a write fault, where the input asks for what the turns are to and for more
       fault_in : (p : Progress) → HasRead kind reading r r' got → (input left : List ℕ) → IsInput (reading.remaining r) input → input ≡ got ++ left → (more : List (Result Command Bad)) → asked_by kind (lines input) ≡ p.asked ++ more →
           StandsPart may text start world p (writing.contents w) (writing.contents w') → writing.failed w < writing.failed w' → reading.failed r' ≡ reading.failed r →

@@ -2,10 +2,9 @@
 use Rattle.std.proofs.Common.{◌≡◌, ℕ, ◌+◌, true, false, cond, List, [], ◌∷◌, ◌++◌, length, map, flat_map, Ok, Err, Result, refl, sym, ap, subst, ◌∙◌, append_assoc, arith, length-append}
 use Rattle.std.proofs.lemmas.List.{append-nil, map-append}
 use Rattle.std.proofs.lemmas.Grind.{flat_map-append}
-use Rattle.commands.specs.Replies.{is_refusal}
+use Rattle.commands.specs.Replies.{ShownReply, is_refusal}
 use Rattle.commands.specs.declared.bad.Bad.{Bad}
 use Rattle.commands.specs.declared.kind.WorldKind.{WorldKind}
-use Rattle.commands.specs.declared.reply.Reply.{Reply}
 use Rattle.player.specs.declared.summary.Summary.{Summary}
 use Rattle.player.specs.Turns.{Turn}
 use Rattle.player.specs.Turns.Turn.{Answered, Told, Ended, Misread}
@@ -20,16 +19,16 @@ use Rattle.player.specs.Says.{Spoke, IsTurnOf, IsHeld, SaysBy, SaysFrom, Says, A
 use Rattle.player.specs.Summary.{total, one_if_accepted, one_if_refused, one_if_bad}
 use Rattle.player.specs.Turns.{asked, answer_of, answers_of}
 
-total-push : (one : Result Reply Bad → ℕ) (given : List (Result Reply Bad)) (a : Result Reply Bad) → total one (given ++ a ∷ []) ≡ total one given + one a
+total-push : (one : Result ShownReply Bad → ℕ) (given : List (Result ShownReply Bad)) (a : Result ShownReply Bad) → total one (given ++ a ∷ []) ≡ total one given + one a
 total-push one [] a = omega arith
 total-push one (b ∷ given) a = omega (arith, total-push one given a)
 
-one_each : (a : Result Reply Bad) → 1 ≡ one_if_accepted a + one_if_refused a + one_if_bad a
+one_each : (a : Result ShownReply Bad) → 1 ≡ one_if_accepted a + one_if_refused a + one_if_bad a
 one_each (Ok r) = elim (is_refusal r) as (λ b. 1 ≡ cond b 0 1 + cond b 1 0 + 0) [ true ↦ refl | false ↦ refl ]
 one_each (Err bad) = refl
 
 -- one more answer is counted
-counts_more : (given : List (Result Reply Bad)) (a : Result Reply Bad) (s s' : Summary) → CountsAnswers given s →
+counts_more : (given : List (Result ShownReply Bad)) (a : Result ShownReply Bad) (s s' : Summary) → CountsAnswers given s →
     s'.lines ≡ s.lines + 1 → s'.accepted ≡ s.accepted + one_if_accepted a → s'.refused ≡ s.refused + one_if_refused a → s'.bad ≡ s.bad + one_if_bad a →
     CountsAnswers (given ++ a ∷ []) s'
 counts_more given a s s' c l x r b = record {
@@ -49,7 +48,7 @@ spoke_with_line turns s s' p new t e = record {
   counts = subst (λ (q : Summary). CountsAnswers (answers_of turns) q) (sym (ap (λ (q : TalkerState). q.summary) e)) t.counts;
 }
 
-module _ {T : Type 0} (may : T → Request → Reply → T → Type 0) where
+module _ {T : Type 0} (may : T → Request → ShownReply → T → Type 0) where
   -- one turn is a run
   turn_run : (w u : T) (s s' : TalkerState) (turn : Turn) → IsTurnOf may w s turn u s' → Runs may w (turn ∷ []) u
   turn_run w u s s' (Answered x) t = (u, t.0, refl)
@@ -88,7 +87,7 @@ module _ {T : Type 0} (may : T → Request → Reply → T → Type 0) where
                   asked_is = map-append asked turns (turn ∷ []) ∙ ap (λ l. l ++ asked turn ∷ []) t.asked_is;
                   line_is = ap (λ (q : TalkerState). q.line) kept ∙ same.1 ∙ t.line_is ∙ ap held was.1;
                   over_is = ap (λ (q : TalkerState). q.over) kept ∙ over_more w u s s' turn took (t.over_is ∙ was.0);
-                  counts = subst (λ (l : List (Result Reply Bad)). CountsAnswers l s''.summary) (sym (map-append answer_of turns (turn ∷ [])))
+                  counts = subst (λ (l : List (Result ShownReply Bad)). CountsAnswers l s''.summary) (sym (map-append answer_of turns (turn ∷ [])))
                       (counts_more (answers_of turns) (answer_of turn) s'.summary s''.summary counted hold.lines hold.accepted hold.refused hold.bad);
                 };
           },

@@ -6,7 +6,7 @@ use Rattle.std.specs.Io.KnownBytes.{Appends}
 use Rattle.commands.specs.declared.bad.Bad.{Bad}
 use Rattle.commands.specs.declared.command.Command.{Command}
 use Rattle.commands.specs.declared.kind.WorldKind.{WorldKind}
-use Rattle.commands.specs.declared.reply.Reply.{Reply}
+use Rattle.commands.specs.Replies.{ShownReply}
 use Rattle.player.specs.declared.summary.Summary.{Summary}
 use Rattle.player.specs.Turns.{Turn}
 use Rattle.player.specs.Counts.{CountsAnswers}
@@ -21,7 +21,7 @@ use Rattle.player.specs.Turns.{asked, answers_of}
 use Rattle.player.specs.Written.{HasPartOf}
 use Rattle.player.specs.WrittenProofs.{appends_more, appends_none, part_after}
 
-module _ {T : Type 0} (may : T → Request → Reply → T → Type 0) where
+module _ {T : Type 0} (may : T → Request → ShownReply → T → Type 0) where
   -- where this is written of each turn
   module _ (text : Turn → List ℕ) where
     -- what is said to its talker is said to the player

@@ -2,7 +2,7 @@
 use Rattle.std.specs.Prelude.{ℕ, List, [], ◌++◌, flat_map, codes, decimal}
 use Rattle.commands.specs.Config.{world_name}
 use Rattle.commands.specs.declared.exchange.Exchange.{Exchange}
-use Rattle.commands.specs.declared.reply.Reply.{Reply}
+use Rattle.commands.specs.Replies.{ShownReply}
 use Rattle.commands.specs.declared.reply.Reply.TheVariants as reply
 use Rattle.commands.specs.declared.config.Config.{Config}
 use Rattle.player.specs.Events.{event_words}
@@ -17,7 +17,7 @@ header_line c =
     ++ codes ",\"version\":2,\"world\":\"" ++ world_name c.world ++ codes "\"}\n"
 
 -- after a name, and after no other reply, the view by which it was given
-abbrev pub name_view : Reply → List ℕ
+abbrev pub name_view : ShownReply → List ℕ
 name_view (reply.Named name view) = codes ",\"view\":\"" ++ view_words view ++ codes "\""
 name_view r = []
 

@@ -1,12 +1,12 @@
 -- runs, one after another
 use Rattle.std.proofs.Common.{List, [], ◌∷◌, ◌++◌, refl, sym, subst}
-use Rattle.commands.specs.declared.reply.Reply.{Reply}
+use Rattle.commands.specs.Replies.{ShownReply}
 use Rattle.commands.specs.Requests.{Request}
 use Rattle.player.specs.Runs.{Runs}
 use Rattle.player.specs.Turns.{Turn}
 use Rattle.player.specs.Turns.Turn.{Answered, Told, Ended, Misread}
 
-module _ {T : Type 0} (may : T → Request → Reply → T → Type 0) where
+module _ {T : Type 0} (may : T → Request → ShownReply → T → Type 0) where
   pub runs-append : (w m u : T) (ts us : List Turn) → Runs may w ts m → Runs may m us u → Runs may w (ts ++ us) u
   runs-append w m u [] us a b = subst (λ (t : T). Runs may t us u) (sym a) b
   runs-append w m u (Answered x ∷ ts) us a b = (a.0, a.1, runs-append a.0 m u ts us a.2 b)

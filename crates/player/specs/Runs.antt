@@ -1,7 +1,7 @@
 -- what rules allow to be said in turn
 use Rattle.std.specs.Prelude.{◌≡◌, ◌≢◌, List, [], ◌∷◌}
 use Rattle.step_memory.specs.declared.refusal.Refusal.TheVariants as refusal
-use Rattle.commands.specs.declared.reply.Reply.{Reply}
+use Rattle.commands.specs.Replies.{ShownReply}
 use Rattle.commands.specs.declared.reply.Reply.TheVariants as reply
 use Rattle.commands.specs.Requests.{Request}
 use Rattle.commands.specs.Requests.Request.{Take, OwnerOf}
@@ -9,22 +9,22 @@ use Rattle.player.specs.Turns.{Turn}
 use Rattle.player.specs.Turns.Turn.{Answered, Told, Ended, Misread}
 
 -- under these rules each request may be answered so, in order, from w to u; `quit` and bad lines ask for nothing
-abbrev pub Runs : {T : Type 0} → (T → Request → Reply → T → Type 0) → T → List Turn → T → Type 0
+abbrev pub Runs : {T : Type 0} → (T → Request → ShownReply → T → Type 0) → T → List Turn → T → Type 0
 Runs may w [] u = w ≡ u
 Runs {T = T} may w (Answered x ∷ ts) u = (mid : T) × may w (Take x.event) x.reply mid × Runs may mid ts u
 Runs {T = T} may w (Told n r ∷ ts) u = (mid : T) × may w (OwnerOf n) r mid × Runs may mid ts u
 Runs may w (Ended ∷ ts) u = Runs may w ts u
 Runs may w (Misread bad ∷ ts) u = Runs may w ts u
 
-abbrev pub IsRunTo : {T : Type 0} → (T → Request → Reply → T → Type 0) → T → T → List Turn → Type 0
+abbrev pub IsRunTo : {T : Type 0} → (T → Request → ShownReply → T → Type 0) → T → T → List Turn → Type 0
 IsRunTo may w u ts = Runs may w ts u
 
 -- to some state
-abbrev pub CanRun : {T : Type 0} → (T → Request → Reply → T → Type 0) → T → List Turn → Type 0
+abbrev pub CanRun : {T : Type 0} → (T → Request → ShownReply → T → Type 0) → T → List Turn → Type 0
 CanRun {T = T} may w ts = (u : T) × Runs may w ts u
 
 -- from one that is fresh
-pub record CouldRun {T : Type 0} (fresh : T → Type 0) (may : T → Request → Reply → T → Type 0) (ts : List Turn) : Type 0 where
+pub record CouldRun {T : Type 0} (fresh : T → Type 0) (may : T → Request → ShownReply → T → Type 0) (ts : List Turn) : Type 0 where
   pub start : T
   pub last : T
   pub is_fresh : fresh start

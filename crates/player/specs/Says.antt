@@ -1,6 +1,6 @@
 -- what is said to one side of a talk, whoever else uses the service before and after
 use Rattle.std.specs.Prelude.{◌≡◌, ℕ, ◌+◌, ◌++◌, List, [], true, false, map, flat_map}
-use Rattle.commands.specs.declared.reply.Reply.{Reply}
+use Rattle.commands.specs.Replies.{ShownReply}
 use Rattle.commands.specs.declared.kind.WorldKind.{WorldKind}
 use Rattle.commands.specs.Requests.{Request}
 use Rattle.commands.specs.Requests.Request.{Take, OwnerOf}
@@ -43,7 +43,7 @@ GoingOn p = p.over ≡ false
 abbrev pub Afresh : Progress → Type 0
 Afresh p = (p.over ≡ false) × (p.line ≡ [])
 
-module _ {T : Type 0} (may : T → Request → Reply → T → Type 0) where
+module _ {T : Type 0} (may : T → Request → ShownReply → T → Type 0) where
   -- one turn is taken
   abbrev pub IsTurnOf : T → TalkerState → Turn → T → TalkerState → Type 0
   IsTurnOf w s (Answered x) u s' = may w (Take x.event) x.reply u × (s' ≡ s)

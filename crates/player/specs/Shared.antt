@@ -1,6 +1,6 @@
 -- a service that talks share: one order of all that was said, and what each talk had in it
 use Rattle.std.specs.Prelude.{◌≡◌, ℕ, ◌==◌, if◌then◌else◌, ◌++◌, List, [], ◌∷◌, flat_map}
-use Rattle.commands.specs.declared.reply.Reply.{Reply}
+use Rattle.commands.specs.Replies.{ShownReply}
 use Rattle.commands.specs.Requests.{Request}
 use Rattle.player.specs.Progress.{Progress}
 use Rattle.player.specs.Runs.{Runs}
@@ -33,7 +33,7 @@ changed f i x j = if i == j then x else f j
 
 -- the turns of the log, as they stand, lead the service from start to w; those of each talk are all that it had, and what is written of
 -- them is all that it was told
-pub record IsShared {T : Type 0} (may : T → Request → Reply → T → Type 0) (text : Turn → List ℕ) (start w : T) (log : TurnLog) (at : ℕ → TalkerState) (far : ℕ → Progress) (told : ℕ → List ℕ) : Type 0 where
+pub record IsShared {T : Type 0} (may : T → Request → ShownReply → T → Type 0) (text : Turn → List ℕ) (start w : T) (log : TurnLog) (at : ℕ → TalkerState) (far : ℕ → Progress) (told : ℕ → List ℕ) : Type 0 where
   pub run : Runs may start (all_turns log) w
   pub each : (i : ℕ) → Spoke (turns_of i log) (at i) (far i)
   pub told_is : (i : ℕ) → told i ≡ flat_map text (turns_of i log)

@@ -3,7 +3,7 @@ use Rattle.std.proofs.Common.{◌≡◌, ℕ, ◌==◌, true, false, cond, List,
 use Rattle.std.proofs.lemmas.List.{append-nil}
 use Rattle.std.proofs.lemmas.Bool.{eqb-true}
 use Rattle.std.proofs.lemmas.Grind.{flat_map-append}
-use Rattle.commands.specs.declared.reply.Reply.{Reply}
+use Rattle.commands.specs.Replies.{ShownReply}
 use Rattle.commands.specs.Requests.{Request}
 use Rattle.player.specs.Progress.{Progress}
 use Rattle.player.specs.Runs.{Runs}
@@ -36,7 +36,7 @@ pub of-other : (i j : ℕ) (ts : List Turn) → (i == j) ≡ false → turns_of 
 of-other i j [] h = refl
 of-other i j (t ∷ ts) h = rw h (of-other i j ts h)
 
-module _ {T : Type 0} (may : T → Request → Reply → T → Type 0) (text : Turn → List ℕ) where
+module _ {T : Type 0} (may : T → Request → ShownReply → T → Type 0) (text : Turn → List ℕ) where
   -- one of them goes on
   pub shared_on : (start w u : T) (log : TurnLog) (at : ℕ → TalkerState) (far : ℕ → Progress) (told : ℕ → List ℕ) (i : ℕ) (out out' : List ℕ) (s' : TalkerState) (next : Progress → Progress) (more : List Turn) →
       IsShared may text start w log at far told → SaysBy may text more w (at i) out u s' out' Anywhere next →

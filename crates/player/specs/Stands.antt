@@ -4,7 +4,7 @@ use Rattle.std.specs.Io.KnownBytes.{Appends}
 use Rattle.commands.specs.declared.bad.Bad.{Bad}
 use Rattle.commands.specs.declared.command.Command.{Command}
 use Rattle.commands.specs.declared.kind.WorldKind.{WorldKind}
-use Rattle.commands.specs.declared.reply.Reply.{Reply}
+use Rattle.commands.specs.Replies.{ShownReply}
 use Rattle.player.specs.Turns.{Turn}
 use Rattle.player.specs.Counts.{CountsAnswers}
 use Rattle.player.specs.HeldLine.{held}
@@ -30,7 +30,7 @@ pub record IsSent (s : PlayerState) (old : Option (List ℕ)) (s' : PlayerState)
   pub gained : Appends old now sent
   pub kept : s' ≡ record s { replies = s'.replies }
 
-module _ {T : Type 0} (may : T → Request → Reply → T → Type 0) where
+module _ {T : Type 0} (may : T → Request → ShownReply → T → Type 0) where
   -- where this is written of each turn
   module _ (text : Turn → List ℕ) where
     -- world and player have come as far as p: turns to what p asks for, which the rules allow, and what is written of them is

@@ -9,7 +9,7 @@ use crate::events::print_event;
 use crate::form::Form;
 use crate::print::{print_words, put_shown, put_word};
 use crate::replies::{HELD_REPLIES, Replies};
-use commands::{Bad, Config, Event, ShortReply, WorldKind};
+use commands::{Bad, Config, Event, Reply, WorldKind};
 use std::alloc::Allocator;
 use step_memory::View;
 
@@ -28,7 +28,7 @@ impl Form for AsRecord {
 
     fn put_answered<A: Allocator>(
         event: Event,
-        reply: ShortReply,
+        reply: Reply<()>,
         view: &View,
         out: &mut Replies<A>,
     ) {
@@ -41,7 +41,7 @@ impl Form for AsRecord {
         out.put(b"}\n");
     }
 
-    fn put_told<A: Allocator>(_n: u64, _reply: ShortReply, _view: &View, _out: &mut Replies<A>) {}
+    fn put_told<A: Allocator>(_n: u64, _reply: Reply<()>, _view: &View, _out: &mut Replies<A>) {}
 
     fn put_ended<A: Allocator>(_out: &mut Replies<A>) {}
 
@@ -49,12 +49,12 @@ impl Form for AsRecord {
 }
 
 /// Appends, of a name, the view by which it was given; of another reply nothing.
-fn put_name_view<A: Allocator>(reply: ShortReply, view: &View, out: &mut Replies<A>)
+fn put_name_view<A: Allocator>(reply: Reply<()>, view: &View, out: &mut Replies<A>)
     requires { length out.old + NAME_VIEW_ROOM ≤ HELD_REPLIES }
     ensures text { out.new ≡ out.old ++ name_view (with_view reply view.now) }
     ensures short { length out.new ≤ length out.old + NAME_VIEW_ROOM }
 {
-    if let ShortReply::Named(_) = reply {
+    if let Reply::Named(_, ()) = reply {
         out.put(b",\"view\":\"");
         put_shown(view, out);
         out.put(b"\"");

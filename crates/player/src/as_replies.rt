@@ -5,7 +5,7 @@ ghost use Rattle.player.specs.Texts.{turn_reply};
 use crate::form::Form;
 use crate::print::{print_bad, print_reply};
 use crate::replies::Replies;
-use commands::{Bad, Event, ShortReply};
+use commands::{Bad, Event, Reply};
 use std::alloc::Allocator;
 use step_memory::View;
 
@@ -19,7 +19,7 @@ impl Form for AsReplies {
     #[inline(always)]
     fn put_answered<A: Allocator>(
         _event: Event,
-        reply: ShortReply,
+        reply: Reply<()>,
         view: &View,
         out: &mut Replies<A>,
     ) {
@@ -27,7 +27,7 @@ impl Form for AsReplies {
     }
 
     #[inline(always)]
-    fn put_told<A: Allocator>(_n: u64, reply: ShortReply, view: &View, out: &mut Replies<A>) {
+    fn put_told<A: Allocator>(_n: u64, reply: Reply<()>, view: &View, out: &mut Replies<A>) {
         print_reply(reply, view, out);
     }
 

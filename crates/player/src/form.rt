@@ -6,7 +6,7 @@ ghost use Rattle.player.specs.Turns.{Turn};
 ghost use Rattle.player.specs.Turns.Turn.{Answered, Told, Ended, Misread};
 
 use crate::replies::{HELD_REPLIES, Replies};
-use commands::{Bad, Event, ShortReply};
+use commands::{Bad, Event, Reply};
 use std::alloc::Allocator;
 use step_memory::View;
 
@@ -21,7 +21,7 @@ pub trait Form: Drop {
     /// Appends the text of an event that was answered, with this view where the reply shows one.
     fn put_answered<A: Allocator>(
         event: Event,
-        reply: ShortReply,
+        reply: Reply<()>,
         view: &View,
         out: &mut Replies<A>,
     )
@@ -30,7 +30,7 @@ pub trait Form: Drop {
         ensures short { length out.new ≤ length out.old + TURN_ROOM };
 
     /// Appends the text of an owner that was told, by a reply that shows this view where it shows one.
-    fn put_told<A: Allocator>(n: u64, reply: ShortReply, view: &View, out: &mut Replies<A>)
+    fn put_told<A: Allocator>(n: u64, reply: Reply<()>, view: &View, out: &mut Replies<A>)
         requires { length out.old + TURN_ROOM ≤ HELD_REPLIES }
         ensures text { out.new ≡ out.old ++ text (Told n (with_view reply view.now)) }
         ensures short { length out.new ≤ length out.old + TURN_ROOM };

@@ -52,7 +52,7 @@ pub mod words;
 
 pub use as_record::{AsRecord, HEADER_ROOM, print_header};
 pub use as_replies::AsReplies;
-pub use commands::{Bad, Command, Config, Event, Exchange, Reply, ShortReply, WorldKind};
+pub use commands::{Bad, Command, Config, Event, Exchange, Reply, WorldKind};
 pub use events::{EVENT_ROOM, print_event};
 pub use fault::Fault;
 pub use form::{Form, TURN_ROOM};

@@ -6,7 +6,7 @@ ghost use Rattle.commands.specs.declared.reply.Reply.TheVariants as reply;
 ghost use Rattle.player.specs.Replies.{owner_words, pair_word, pair_words, view_words, reply_words, reply_text, bad_text};
 
 use crate::replies::{HELD_REPLIES, Replies};
-use commands::{Bad, ShortReply};
+use commands::{Bad, Reply};
 use itoa::Buffer;
 use std::alloc::Allocator;
 use step_memory::{Place, Refusal, View};
@@ -20,18 +20,18 @@ pub const VIEW_ROOM: usize = 2_687;
 
 /// Appends the text of a reply (this project's profile) that shows this view where it shows one: one line with its LF.
 #[inline(always)]
-pub fn print_reply<A: Allocator>(reply: ShortReply, view: &View, out: &mut Replies<A>)
+pub fn print_reply<A: Allocator>(reply: Reply<()>, view: &View, out: &mut Replies<A>)
     requires { length out.old + REPLY_ROOM ≤ HELD_REPLIES }
     ensures text { out.new ≡ out.old ++ reply_text (with_view reply view.now) }
     ensures short { length out.new ≤ length out.old + REPLY_ROOM }
 {
     match reply {
-        ShortReply::Ok => out.put(b"ok\n"),
-        ShortReply::Quiet => out.put(b"quiet\n"),
-        ShortReply::Refused(refusal) => put_refusal(refusal, out),
-        ShortReply::Missed => out.put(b"missed\n"),
-        ShortReply::Got(number) => put_small(b"got ", number, out),
-        ShortReply::Left(number) => put_small(b"left ", number, out),
+        Reply::Ok => out.put(b"ok\n"),
+        Reply::Quiet => out.put(b"quiet\n"),
+        Reply::Refused(refusal) => put_refusal(refusal, out),
+        Reply::Missed => out.put(b"missed\n"),
+        Reply::Got(number) => put_small(b"got ", number, out),
+        Reply::Left(number) => put_small(b"left ", number, out),
         _ => {
             print_words(reply, view, out);
             out.put(b"\n");
@@ -41,28 +41,28 @@ pub fn print_reply<A: Allocator>(reply: ShortReply, view: &View, out: &mut Repli
 
 /// Appends the words of a reply (this project's profile) that shows this view where it shows one, without an LF.
 #[inline(never)]
-pub fn print_words<A: Allocator>(reply: ShortReply, view: &View, out: &mut Replies<A>)
+pub fn print_words<A: Allocator>(reply: Reply<()>, view: &View, out: &mut Replies<A>)
     requires { length out.old + (REPLY_ROOM - 1) ≤ HELD_REPLIES }
     ensures text { out.new ≡ out.old ++ reply_words (with_view reply view.now) }
     ensures short { length out.new ≤ length out.old + (REPLY_ROOM - 1) }
 {
     match reply {
-        ShortReply::Ok => out.put(b"ok"),
-        ShortReply::Quiet => out.put(b"quiet"),
-        ShortReply::Stop => out.put(b"stop"),
-        ShortReply::Right => out.put(b"right"),
-        ShortReply::Down => out.put(b"down"),
-        ShortReply::Place(place) => put_place(place, out),
-        ShortReply::Proposed(number) => put_word(b"proposed ", number, out),
-        ShortReply::Saw => put_view(view, out),
-        ShortReply::Named(name) => put_word(b"named ", name, out),
-        ShortReply::Spent => out.put(b"spent"),
-        ShortReply::Missed => out.put(b"missed"),
-        ShortReply::Got(number) => put_word(b"got ", u64::from(number), out),
-        ShortReply::Left(number) => put_word(b"left ", u64::from(number), out),
-        ShortReply::Value(value) => put_word(b"value ", value, out),
-        ShortReply::Owner(owner) => put_owner(owner, out),
-        ShortReply::Refused(refusal) => put_word(b"refused ", u64::from(refusal.number()), out),
+        Reply::Ok => out.put(b"ok"),
+        Reply::Quiet => out.put(b"quiet"),
+        Reply::Stop => out.put(b"stop"),
+        Reply::Right => out.put(b"right"),
+        Reply::Down => out.put(b"down"),
+        Reply::Place(place) => put_place(place, out),
+        Reply::Proposed(number) => put_word(b"proposed ", number, out),
+        Reply::Saw(()) => put_view(view, out),
+        Reply::Named(name, ()) => put_word(b"named ", name, out),
+        Reply::Spent => out.put(b"spent"),
+        Reply::Missed => out.put(b"missed"),
+        Reply::Got(number) => put_word(b"got ", u64::from(number), out),
+        Reply::Left(number) => put_word(b"left ", u64::from(number), out),
+        Reply::Value(value) => put_word(b"value ", value, out),
+        Reply::Owner(owner) => put_owner(owner, out),
+        Reply::Refused(refusal) => put_word(b"refused ", u64::from(refusal.number()), out),
     }
 }
 

@@ -4,7 +4,7 @@ ghost use Rattle.std.specs.Prelude.{◌≡◌, ℕ, ◌+◌, ◌<◌, ◌^◌, L
 ghost use Rattle.commands.specs.Replies.{with_view};
 ghost use Rattle.player.specs.Summary.{one_if_accepted, one_if_refused, one_if_bad};
 
-use commands::{Bad, ShortReply};
+use commands::{Bad, Reply};
 
 /// The counts of a run; `quit` counts as accepted.
 #[derive(Clone, Copy, Debug, Drop, PartialEq, Eq)]
@@ -35,7 +35,7 @@ impl Summary {
 
     /// Counts one more reply, whatever view it shows.
     #[inline(always)]
-    pub fn count_reply(&mut self, reply: ShortReply)
+    pub fn count_reply(&mut self, reply: Reply<()>)
         requires { self.old.lines + 1 < 2 ^ 64 }
         ensures lines { self.new.lines ≡ self.old.lines + 1 }
         ensures accepted { (view : List (ℕ × ℕ)) → self.new.accepted ≡ self.old.accepted + one_if_accepted (Ok (with_view reply view)) }

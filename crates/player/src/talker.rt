@@ -1,7 +1,7 @@
 //! One side of a talk: bytes in, requests to a service that others may share, and replies out, which are held elsewhere.
 
 ghost use Rattle.std.specs.Prelude.{◌≡◌, true, ◌+◌, ◌^◌, ◌<◌, ◌≤◌, length, take, IfOk};
-ghost use Rattle.commands.specs.declared.reply.Reply.{Reply as DeskReply};
+ghost use Rattle.commands.specs.Replies.{ShownReply};
 ghost use Rattle.commands.specs.Replies.{with_view};
 ghost use Rattle.commands.specs.Requests.Request.{OwnerOf};
 ghost use Rattle.player.specs.Knows.{Knows, KnowsMeant};
@@ -18,7 +18,7 @@ use crate::quick::quick_command;
 use crate::replies::{HELD_REPLIES, Replies};
 use crate::service::Service;
 use crate::summary::Summary;
-use commands::{Bad, Command, Event, ShortReply, WorldKind};
+use commands::{Bad, Command, Event, Reply, WorldKind};
 use memchr::memchr;
 use std::alloc::Allocator;
 use std::marker::{Model, PhantomData};
@@ -80,7 +80,7 @@ impl<A: Allocator, F: Form> Talker<A, F> {
     fn hold_answered<B: Allocator>(
         &mut self,
         event: Event,
-        reply: ShortReply,
+        reply: Reply<()>,
         view: &View,
         out: &mut Replies<B>,
     )
@@ -98,7 +98,7 @@ impl<A: Allocator, F: Form> Talker<A, F> {
     fn hold_told<B: Allocator>(
         &mut self,
         n: u64,
-        reply: ShortReply,
+        reply: Reply<()>,
         view: &View,
         out: &mut Replies<B>,
     )
@@ -119,7 +119,7 @@ impl<A: Allocator, F: Form> Talker<A, F> {
         ensures longer { length out.new ≤ length out.old + TURN_ROOM }
     {
         F::put_ended(out);
-        self.summary.count_reply(ShortReply::Ok);
+        self.summary.count_reply(Reply::Ok);
     }
 
     /// Counts a bad line and adds the text of it.
@@ -146,7 +146,7 @@ impl<A: Allocator, F: Form> Talker<A, F> {
         requires knows { D.knows (OwnerOf n) ≡ true }
         requires room { length out.old + TURN_ROOM ≤ HELD_REPLIES }
         requires count { self.old.summary.lines + 1 < 2 ^ 64 }
-        ensures told { (reply : DeskReply) × D.may service.old (OwnerOf n) reply service.new × IsHeld F.text self.old out.old (Told n reply) self.new out.new }
+        ensures told { (reply : ShownReply) × D.may service.old (OwnerOf n) reply service.new × IsHeld F.text self.old out.old (Told n reply) self.new out.new }
         ensures longer { length out.new ≤ length out.old + TURN_ROOM }
     {
         let reply = service.owner(rt, n).shorten(view);

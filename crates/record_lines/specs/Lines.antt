@@ -3,7 +3,7 @@ use Rattle.std.specs.Prelude.{◌≡◌, ℕ, Bool, true, false, List, [], ◌�
 use Rattle.step_memory.specs.Refusal.{refusal_number}
 use Rattle.commands.specs.declared.event.Event.{Event}
 use Rattle.commands.specs.declared.exchange.Exchange.{Exchange}
-use Rattle.commands.specs.declared.reply.Reply.{Reply}
+use Rattle.commands.specs.Replies.{ShownReply}
 use Rattle.commands.specs.declared.reply.Reply.TheVariants as reply
 use Rattle.record_lines.specs.declared.line.Line.{Line}
 use Rattle.record_lines.specs.declared.told.Told.{Told}
@@ -15,7 +15,7 @@ shown_where true view = Some view
 shown_where false view = None
 
 -- how a reply is told: the view by which a name was given is shown or left out
-abbrev pub told_of : Bool → Reply → Told
+abbrev pub told_of : Bool → ShownReply → Told
 told_of shows reply.Ok = told.Ok
 told_of shows reply.Quiet = told.Quiet
 told_of shows reply.Stop = told.Stop
@@ -53,6 +53,6 @@ AreLinesOf (x ∷ exchanges) [] = ⊥
 AreLinesOf (x ∷ exchanges) (l ∷ lines) = IsLineOf x l × AreLinesOf exchanges lines
 
 -- of a name, this is the view by which it was given
-abbrev pub IsShown : Reply → List (ℕ × ℕ) → Type 0
+abbrev pub IsShown : ShownReply → List (ℕ × ℕ) → Type 0
 IsShown (reply.Named name view) shown = shown ≡ view
 IsShown r shown = Unit {0}

@@ -3,7 +3,7 @@ use Rattle.std.specs.Prelude.{◌≢◌, ℕ, ◌^◌, ◌<◌, ◌≤◌, List,
 use Rattle.step_memory.specs.View.{IsAbove, IsRising}
 use Rattle.commands.specs.declared.event.Event.{Event}
 use Rattle.commands.specs.declared.event.Event.TheVariants.{Begin, Step, Enter, Probe, Leave, Put, Get, Widen}
-use Rattle.commands.specs.declared.reply.Reply.{Reply}
+use Rattle.commands.specs.Replies.{ShownReply}
 use Rattle.commands.specs.declared.reply.Reply.TheVariants as reply
 use Rattle.commands.specs.declared.bad.Bad.{Bad}
 use Rattle.commands.specs.declared.command.Command.{Command}
@@ -37,7 +37,7 @@ pub record IsShort (view : List (ℕ × ℕ)) : Type 0 where
   pub narrow : AreNarrow view
 
 -- a reply that an event may get, with numbers that a record can write
-abbrev pub IsNarrowReply : Reply → Type 0
+abbrev pub IsNarrowReply : ShownReply → Type 0
 IsNarrowReply reply.Ok = Unit {0}
 IsNarrowReply reply.Quiet = Unit {0}
 IsNarrowReply reply.Stop = Unit {0}

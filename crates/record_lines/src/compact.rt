@@ -2,7 +2,7 @@
 
 ghost use Rattle.std.specs.Prelude.{◌≡◌, ◌++◌, Bool, OnOk, codes, decimal};
 ghost use Rattle.commands.specs.declared.exchange.Exchange.{Exchange};
-ghost use Rattle.commands.specs.declared.reply.Reply.{Reply};
+ghost use Rattle.commands.specs.Replies.{ShownReply};
 ghost use Rattle.player.specs.Events.{event_words};
 ghost use Rattle.commands.specs.Config.{world_name};
 ghost use Rattle.player.specs.Records.{exchange_line, header_line, name_view};
@@ -81,7 +81,7 @@ fn put_owner(owner: Option<u64>, out: &mut Text) -> Result<(), AllocError>
 #[tactic(auto, using(crate::proofs::ToldWords::spelled))]
 pub fn put_told(told: &Told, out: &mut Text) -> Result<(), AllocError>
     ensures words { OnOk result (out.new ≡ out.old ++ told_words told.now) }
-    ensures spelled { OnOk result ((shows : Bool) (r : Reply) → told_of shows r ≡ told.now → out.new ≡ out.old ++ reply_words r) }
+    ensures spelled { OnOk result ((shows : Bool) (r : ShownReply) → told_of shows r ≡ told.now → out.new ≡ out.old ++ reply_words r) }
 {
     match told {
         Told::Ok => out.put(b"ok"),
@@ -118,7 +118,7 @@ fn put_shown(pairs: &[(u64, u64)], out: &mut Text) -> Result<(), AllocError>
 
 /// Appends the view by which a name was given, and nothing where none was.
 fn put_named_by(told: &Told, view: &[(u64, u64)], out: &mut Text) -> Result<(), AllocError>
-    ensures { OnOk result ((shows : Bool) (r : Reply) → told_of shows r ≡ told.now → IsShown r view.now → out.new ≡ out.old ++ name_view r) }
+    ensures { OnOk result ((shows : Bool) (r : ShownReply) → told_of shows r ≡ told.now → IsShown r view.now → out.new ≡ out.old ++ name_view r) }
 {
     if !told.is_name() {
         return Ok(());

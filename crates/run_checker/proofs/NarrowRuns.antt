@@ -21,17 +21,16 @@ use Rattle.bit_allocator.proofs.PoolKeeps.{may_widen}
 use Rattle.slot_array.specs.SlotCalls.SlotCall.{Pooled, Stored, Fetched, Extended}
 use Rattle.slot_array.specs.Slots.{stored_in, IsFetched}
 use Rattle.commands.specs.declared.exchange.Exchange.{Exchange}
-use Rattle.commands.specs.declared.reply.Reply.{Reply}
 use Rattle.commands.specs.declared.reply.Reply.TheVariants as reply
 use Rattle.desk.specs.DeskCalls.{DeskCall, exchange_of}
 use Rattle.desk.specs.DeskCalls.DeskCall.{Renamed, Slotted}
-use Rattle.commands.specs.Replies.{done_reply, value_reply}
+use Rattle.commands.specs.Replies.{ShownReply, done_reply, value_reply}
 use Rattle.run_checker.specs.ObjectRun.{DeskObject, fresh_desk_object, AllowsCall, after_call, IsObjectRun}
 use Rattle.run_checker.proofs.Following.{none_by}
 use Rattle.record_lines.specs.Narrow.{IsNarrowEvent, AreNarrow, IsShort, IsNarrowReply, AreNarrowExchanges}
 
 -- a place has at most 128 bits
-abbrev pub FitsPlace : Reply → Type 0
+abbrev pub FitsPlace : ShownReply → Type 0
 FitsPlace reply.Ok = Unit {0}
 FitsPlace reply.Quiet = Unit {0}
 FitsPlace reply.Stop = Unit {0}

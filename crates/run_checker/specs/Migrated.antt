@@ -7,7 +7,7 @@ use Rattle.commands.specs.declared.config.Config.{Config}
 use Rattle.commands.specs.declared.event.Event.{Event}
 use Rattle.commands.specs.declared.event.Event.TheVariants as event
 use Rattle.commands.specs.declared.exchange.Exchange.{Exchange}
-use Rattle.commands.specs.declared.reply.Reply.{Reply}
+use Rattle.commands.specs.Replies.{ShownReply}
 use Rattle.commands.specs.declared.reply.Reply.TheVariants as reply
 use Rattle.desk.specs.DeskCalls.{DeskCall, exchange_of}
 use Rattle.player.specs.Records.{header_line, exchange_line}
@@ -41,7 +41,7 @@ pub record Telling : Type 0 where
   pub call : DeskCall
 
 -- where the view by which a name was given is not written, it is the first by which it could be given
-abbrev pub ShowsFirst : RenameObject → Event → Reply → Told → Type 0
+abbrev pub ShowsFirst : RenameObject → Event → ShownReply → Told → Type 0
 ShowsFirst o (event.Step p) (reply.Named n view) (told.Named m None) = IsFirstSole o p n view
 ShowsFirst o e r t = Unit {0}
 

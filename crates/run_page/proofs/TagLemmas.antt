@@ -13,7 +13,7 @@ use Rattle.desk.specs.declared.coming.Register.{Register}
 use Rattle.desk.specs.declared.coming.Register.TheVariants.{X, Y, Mark, Segment}
 use Rattle.commands.specs.declared.event.Event.{Event}
 use Rattle.commands.specs.declared.event.Event.TheVariants as event
-use Rattle.commands.specs.declared.reply.Reply.{Reply}
+use Rattle.commands.specs.Replies.{ShownReply}
 use Rattle.commands.specs.declared.reply.Reply.TheVariants as reply
 use Rattle.desk.specs.Desk.{fresh_desk}
 use Rattle.desk.specs.DeskValue.{DeskValue}
@@ -115,7 +115,7 @@ owners : (o : Option ℕ) → Clean (owner_words o)
 owners None = refl
 owners (Some id) = word (codes "owner ") id refl
 
-replies : (r : Reply) → Clean (reply_words r)
+replies : (r : ShownReply) → Clean (reply_words r)
 replies reply.Ok = refl
 replies reply.Quiet = refl
 replies reply.Stop = refl
@@ -245,7 +245,7 @@ one_place w place =
     (one_register (X place) (held_in w (X place))) (one_register (Y place) (held_in w (Y place))) (one_register (Mark place) (held_in w (Mark place)))
     (one_register (Segment place) (held_in w (Segment place)))
 
-one_name : (n : ℕ) (r : Reply) → Clean (name_fact Data n r)
+one_name : (n : ℕ) (r : ShownReply) → Clean (name_fact Data n r)
 one_name n reply.Ok = refl
 one_name n reply.Quiet = refl
 one_name n reply.Stop = refl

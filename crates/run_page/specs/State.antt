@@ -1,7 +1,7 @@
 -- all that a desk holds, as a page tells it (this project's profile)
 use Rattle.std.specs.Prelude.{ℕ, zero, suc, List, [], ◌++◌, flat_map, get_or, if◌then◌else◌, is_some, length, Option, Some, None, codes, decimal}
 use Rattle.bit_allocator.specs.declared.competitor.Competitor.{Competitor}
-use Rattle.commands.specs.declared.reply.Reply.{Reply}
+use Rattle.commands.specs.Replies.{ShownReply}
 use Rattle.commands.specs.declared.reply.Reply.TheVariants as reply
 use Rattle.desk.specs.Coming.{coming_of}
 use Rattle.desk.specs.Desk.{owner_reply}
@@ -37,7 +37,7 @@ place_facts f w place = held_fact f w (X place) ++ held_fact f w (Y place) ++ he
 
 -- ---- the names that are given
 
-abbrev pub name_fact : Form → ℕ → Reply → List ℕ
+abbrev pub name_fact : Form → ℕ → ShownReply → List ℕ
 name_fact f number (reply.Owner (Some p)) = fact f (codes "name " ++ decimal number) (decimal p)
 name_fact f number r = []
 

@@ -10,13 +10,13 @@ use crate::standing::Standing;
 use desk::{Coming, Desk, Event, Reply};
 use record_lines::{Line, Told};
 use std::alloc::{AllocError, Global};
-use step_memory::Refusal;
+use step_memory::{Refusal, View};
 
 /// What a desk does at an event.
 #[derive(Clone, Copy, Debug, Drop)]
 pub struct Done {
     /// What it answers.
-    pub reply: Reply,
+    pub reply: Reply<View>,
     /// The access that is made by it.
     pub access: Option<Coming>,
     /// What then stands in the register that was reached: a word, or the proposal in a segment.
@@ -94,7 +94,7 @@ pub(crate) fn access_in(done: &Option<Done>) -> Option<Coming>
 }
 
 /// Applies an event. An error where a growth was refused, with the desk unchanged.
-fn answered(desk: &mut Desk<Global>, event: Event) -> Result<Reply, AllocError>
+fn answered(desk: &mut Desk<Global>, event: Event) -> Result<Reply<View>, AllocError>
     ensures { IfOk result (λ r. (r ≡ desk_reply desk.old event) × (desk.new ≡ desk_after desk.old event)) }
 {
     match desk.apply(event) {

@@ -11,6 +11,7 @@ use crate::standing::put_standing;
 use desk::Reply;
 use record_lines::{Line, Text, put_event, put_told, put_view};
 use std::alloc::AllocError;
+use step_memory::View;
 
 /// Appends who has a name.
 fn put_owner(owner: Option<u64>, out: &mut Text) -> Result<(), AllocError>
@@ -23,7 +24,7 @@ fn put_owner(owner: Option<u64>, out: &mut Text) -> Result<(), AllocError>
 }
 
 /// Appends the words of a reply.
-fn put_reply(reply: &Reply, out: &mut Text) -> Result<(), AllocError>
+fn put_reply(reply: &Reply<View>, out: &mut Text) -> Result<(), AllocError>
     ensures { OnOk result (out.new ≡ out.old ++ reply_words reply.now) }
 {
     match reply {

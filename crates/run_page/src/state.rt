@@ -12,7 +12,7 @@ use bit_allocator::Competitor;
 use desk::{Desk, Register, Reply};
 use record_lines::Text;
 use std::alloc::{AllocError, Global};
-use step_memory::Place;
+use step_memory::{Place, View};
 
 /// The most names that are given: 2m - 1 for 64 participants.
 pub const MOST_NAMES: u64 = 127;
@@ -135,7 +135,7 @@ fn put_fact(form: Form, of: &[u8], number: u64, is: u64, out: &mut Text) -> Resu
 }
 
 /// Appends who has a name, where one has.
-fn put_name(form: Form, number: u64, reply: &Reply, out: &mut Text) -> Result<(), AllocError>
+fn put_name(form: Form, number: u64, reply: &Reply<View>, out: &mut Text) -> Result<(), AllocError>
     ensures { OnOk result (out.new ≡ out.old ++ name_fact form number reply.now) }
 {
     match reply {

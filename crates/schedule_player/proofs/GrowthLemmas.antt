@@ -21,7 +21,7 @@ use Rattle.bit_allocator.specs.PoolState.{PoolState}
 use Rattle.bit_allocator.specs.Widening.{widen_refusal}
 use Rattle.commands.specs.declared.event.Event.{Event}
 use Rattle.commands.specs.declared.event.Event.TheVariants.{Begin, Step, Enter, Probe, Leave, Put, Get, Widen}
-use Rattle.commands.specs.declared.reply.Reply.{Reply}
+use Rattle.commands.specs.Replies.{ShownReply}
 use Rattle.commands.specs.declared.reply.Reply.TheVariants as reply
 use Rattle.commands.specs.Config.{gives_names}
 use Rattle.desk.specs.Desk.{desk_rules, desk_refusal, owner_reply, IsAfterDesk}
@@ -109,12 +109,12 @@ is_memory : (why : Refusal) → is_of_memory why ≡ true → why ≡ refusal.No
 is_memory refusal.NoMemory is = refl
 is_memory _ is = absurd cc
 
-lack_is : (r : Reply) → is_lack r ≡ true → r ≡ reply.Refused refusal.NoMemory
-lack_is (reply.Refused why) is = ap (λ (w : Refusal). let q : Reply = reply.Refused w in q) (is_memory why is)
+lack_is : (r : ShownReply) → is_lack r ≡ true → r ≡ reply.Refused refusal.NoMemory
+lack_is (reply.Refused why) is = ap (λ (w : Refusal). let q : ShownReply = reply.Refused w in q) (is_memory why is)
 lack_is _ is = absurd cc
 
 -- a refusal for want of memory left the desk as it was, and may have come only over a tree
-lacked : (c : Config) (w : DeskValue) (calls : List DeskCall) (e : Event) (r : Reply) (u : DeskValue) → IsAfterDesk c w calls → may_by desk_rules w e r u → r ≡ reply.Refused refusal.NoMemory → (u ≡ w) × (desk_rules.grows w e ≡ true)
+lacked : (c : Config) (w : DeskValue) (calls : List DeskCall) (e : Event) (r : ShownReply) (u : DeskValue) → IsAfterDesk c w calls → may_by desk_rules w e r u → r ≡ reply.Refused refusal.NoMemory → (u ≡ w) × (desk_rules.grows w e ≡ true)
 lacked c w calls e r u after (inl is) lack = absurd (not_memory (desk_refusal w e) (other_due w e) ((desk.refusal w e c calls after refusal.NoMemory).0 (sym is.0 ∙ lack)))
 lacked c w calls e r u after (inr is) lack = (is.1, is.2)
 

@@ -1,7 +1,7 @@
 -- what rules allow from a fresh world is a talk
 use Rattle.std.proofs.Common.{◌≡◌, ℕ, true, List}
 use Rattle.commands.specs.declared.exchange.Exchange.{Exchange}
-use Rattle.commands.specs.declared.reply.Reply.{Reply}
+use Rattle.commands.specs.Replies.{ShownReply}
 use Rattle.commands.specs.Config.{gives_names}
 use Rattle.commands.specs.KindProofs.{where_named}
 use Rattle.desk.specs.Desk.{IsFreshDesk}
@@ -17,7 +17,7 @@ use Rattle.player.specs.Runs.{Runs}
 use Rattle.schedule_player.specs.Talks.{AreOwnersTold, IsTalkOf}
 use Rattle.player.specs.Turns.{Turn, exchanges}
 
-pub talk_of_run : {T : Type 0} (IsRun : List Exchange → Type 0) (most : ℕ) (fresh : T → Type 0) (may : T → Request → Reply → T → Type 0)
+pub talk_of_run : {T : Type 0} (IsRun : List Exchange → Type 0) (most : ℕ) (fresh : T → Type 0) (may : T → Request → ShownReply → T → Type 0)
     (lawful : (w u : T) (ts : List Turn) → fresh w → Runs may w ts u → IsRun (exchanges ts)) (tells : (w u : T) (ts : List Turn) → fresh w → Runs may w ts u → AreOwnersTold most ts)
     (w u : T) (ts : List Turn) → fresh w → Runs may w ts u → IsTalkOf IsRun most fresh may ts
 talk_of_run IsRun most fresh may lawful tells w u ts is_fresh run = record {

@@ -1,7 +1,7 @@
 -- the rules and the law of a desk's world
 use Rattle.std.specs.Prelude.{◌≡◌, List}
 use Rattle.commands.specs.declared.config.Config.{Config}
-use Rattle.commands.specs.declared.reply.Reply.{Reply}
+use Rattle.commands.specs.Replies.{ShownReply}
 use Rattle.desk.specs.Desk.{IsFreshDesk, desk_rules, owner_reply}
 use Rattle.desk.specs.DeskRun.{IsDeskRunOf}
 use Rattle.desk.specs.DeskValue.{DeskValue}
@@ -12,7 +12,7 @@ use Rattle.schedule_player.specs.Talks.{IsTalkOf}
 use Rattle.player.specs.Turns.{Turn}
 
 -- an event is answered by the desk's rules, and who has a name is told with nothing changed
-abbrev pub DeskWorldMay : DeskValue → Request → Reply → DeskValue → Type 0
+abbrev pub DeskWorldMay : DeskValue → Request → ShownReply → DeskValue → Type 0
 DeskWorldMay w (Take e) r u = may_by desk_rules w e r u
 DeskWorldMay w (OwnerOf n) r u = (r ≡ owner_reply w n) × (u ≡ w)
 

@@ -4,7 +4,7 @@ use Rattle.std.proofs.lemmas.List.{append-nil}
 use Rattle.step_memory.specs.declared.refusal.Refusal.TheVariants as refusal
 use Rattle.commands.specs.declared.config.Config.{Config}
 use Rattle.commands.specs.declared.exchange.Exchange.{Exchange}
-use Rattle.commands.specs.declared.reply.Reply.{Reply}
+use Rattle.commands.specs.Replies.{ShownReply}
 use Rattle.commands.specs.declared.reply.Reply.TheVariants as reply
 use Rattle.desk.specs.Desk.{desk_reply, desk_after, owner_reply, IsFreshDesk, IsAfterDesk}
 use Rattle.desk.specs.DeskCalls.{DeskCall, exchange_of}
@@ -22,12 +22,12 @@ use Rattle.player.specs.Turns.{Turn, exchanges}
 use Rattle.player.specs.Turns.Turn.{Answered, Told, Ended, Misread}
 
 -- there is an answer to each request
-pub desk_answers : (w : DeskValue) (q : Request) → (r : Reply) × (u : DeskValue) × DeskWorldMay w q r u
+pub desk_answers : (w : DeskValue) (q : Request) → (r : ShownReply) × (u : DeskValue) × DeskWorldMay w q r u
 desk_answers w (Take e) = (desk_reply w e, desk_after w e, inl (refl, refl))
 desk_answers w (OwnerOf n) = (owner_reply w n, w, (refl, refl))
 
 -- where no growth is refused there is one reply, and one desk is left
-pub one_desk_reply : (w u v : DeskValue) (q : Request) (a b : Reply) → DeskWorldMay w q a u → DeskWorldMay w q b v →
+pub one_desk_reply : (w u v : DeskValue) (q : Request) (a b : ShownReply) → DeskWorldMay w q a u → DeskWorldMay w q b v →
     a ≢ reply.Refused refusal.NoMemory → b ≢ reply.Refused refusal.NoMemory → (a ≡ b) × (u ≡ v)
 one_desk_reply w u v (Take e) a b x y na nb = desk.determined w u v e a b x y na nb
 one_desk_reply w u v (OwnerOf n) a b x y na nb = (x.0 ∙ sym y.0, x.1 ∙ sym y.1)
@@ -59,7 +59,7 @@ desk_tells c w u ts fresh run = λ front back n r is.
     let cut = runs-cut DeskWorldMay w u front (Told n r ∷ back) (subst (λ (l : List Turn). Runs DeskWorldMay w l u) is run) in
     let calls = calls_of_run c w cut.0 [] front (desk.fresh c w fresh) cut.1 in
     let told = desk.owner cut.0 n c calls.0 calls.2 in
-    subst (λ (x : Reply). IsOwnerReply c.m (exchanges front) n x) (sym cut.2.1.0)
+    subst (λ (x : ShownReply). IsOwnerReply c.m (exchanges front) n x) (sym cut.2.1.0)
     (subst (λ (l : List Exchange). IsOwnerReply c.m l n (owner_reply cut.0 n)) calls.1 told)
 
 pub one_desk_fresh : (c : Config) (w u : DeskValue) → IsFreshDesk c w → IsFreshDesk c u → w ≡ u

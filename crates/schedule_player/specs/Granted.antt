@@ -2,7 +2,7 @@
 use Rattle.std.specs.Prelude.{Bool, true, false, if◌then◌else◌, List, [], ◌∷◌}
 use Rattle.step_memory.specs.declared.refusal.Refusal.{Refusal}
 use Rattle.step_memory.specs.declared.refusal.Refusal.TheVariants.{NoMemory}
-use Rattle.commands.specs.declared.reply.Reply.{Reply}
+use Rattle.commands.specs.Replies.{ShownReply}
 use Rattle.commands.specs.declared.reply.Reply.TheVariants.{Refused}
 use Rattle.player.specs.Turns.{Turn}
 use Rattle.player.specs.Turns.Turn.{Answered, Told, Ended, Misread}
@@ -12,7 +12,7 @@ is_of_memory NoMemory = true
 is_of_memory _ = false
 
 -- memory was refused
-abbrev pub is_lack : Reply → Bool
+abbrev pub is_lack : ShownReply → Bool
 is_lack (Refused why) = is_of_memory why
 is_lack _ = false
 

@@ -5,14 +5,14 @@ use Rattle.splitter_grid.specs.Machine.{GridState, fresh, grid_parts}
 use Rattle.commands.specs.declared.config.Config.{Config}
 use Rattle.commands.specs.declared.kind.WorldKind.TheVariants.{Grid}
 use Rattle.commands.specs.declared.exchange.Exchange.{Exchange}
-use Rattle.commands.specs.declared.reply.Reply.{Reply}
+use Rattle.commands.specs.Replies.{ShownReply}
 use Rattle.commands.specs.declared.reply.Reply.TheVariants as reply
 use Rattle.schedule_player.specs.Talks.{IsTalkOf}
 use Rattle.player.specs.Turns.{Turn}
 use Rattle.schedule_player.specs.Visits.{IsCallRun, VisitRules, visit_may, world_rules}
 
 -- what a step of a walk is shown as
-abbrev pub place_reply : Option ℕ → Reply
+abbrev pub place_reply : Option ℕ → ShownReply
 place_reply None = reply.Quiet
 place_reply (Some place) = reply.Place place
 

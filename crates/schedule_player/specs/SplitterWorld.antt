@@ -6,14 +6,14 @@ use Rattle.splitter.specs.Law.{KeepsSplitterLaw}
 use Rattle.splitter.specs.Machine.{SplitterState, fresh, splitter_parts}
 use Rattle.commands.specs.declared.config.Config.{Config}
 use Rattle.commands.specs.declared.exchange.Exchange.{Exchange}
-use Rattle.commands.specs.declared.reply.Reply.{Reply}
+use Rattle.commands.specs.Replies.{ShownReply}
 use Rattle.commands.specs.declared.reply.Reply.TheVariants as reply
 use Rattle.schedule_player.specs.Talks.{IsTalkOf}
 use Rattle.player.specs.Turns.{Turn}
 use Rattle.schedule_player.specs.Visits.{IsCallRun, VisitRules, visit_may, world_rules}
 
 -- what a step of a visit is shown as
-abbrev pub way_reply : Option Way → Reply
+abbrev pub way_reply : Option Way → ShownReply
 way_reply None = reply.Quiet
 way_reply (Some Stop) = reply.Stop
 way_reply (Some Right) = reply.Right

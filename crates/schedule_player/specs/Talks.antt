@@ -1,7 +1,7 @@
 -- talks: what is said in turn in one run
 use Rattle.std.specs.Prelude.{◌≡◌, ℕ, ◌++◌, List, ◌∷◌}
 use Rattle.commands.specs.declared.exchange.Exchange.{Exchange}
-use Rattle.commands.specs.declared.reply.Reply.{Reply}
+use Rattle.commands.specs.Replies.{ShownReply}
 use Rattle.commands.specs.Requests.{Request}
 use Rattle.desk.specs.Names.{IsOwnerReply}
 use Rattle.player.specs.Runs.{CouldRun}
@@ -10,11 +10,11 @@ use Rattle.player.specs.Turns.Turn.{Told}
 
 -- for so many participants, everyone who asks who has a name is told right, by the exchanges before
 abbrev pub AreOwnersTold : ℕ → List Turn → Type 0
-AreOwnersTold most ts = (front back : List Turn) (n : ℕ) (r : Reply) → ts ≡ front ++ Told n r ∷ back → IsOwnerReply most (exchanges front) n r
+AreOwnersTold most ts = (front back : List Turn) (n : ℕ) (r : ShownReply) → ts ≡ front ++ Told n r ∷ back → IsOwnerReply most (exchanges front) n r
 
 -- turns whose exchanges are a run, in which everyone who asks is told right who has a name, for so many participants, and
 -- which the rules allow from a fresh world
-pub record IsTalkOf {T : Type 0} (IsRun : List Exchange → Type 0) (most : ℕ) (fresh : T → Type 0) (may : T → Request → Reply → T → Type 0) (ts : List Turn) : Type 0 where
+pub record IsTalkOf {T : Type 0} (IsRun : List Exchange → Type 0) (most : ℕ) (fresh : T → Type 0) (may : T → Request → ShownReply → T → Type 0) (ts : List Turn) : Type 0 where
   pub run : IsRun (exchanges ts)
   pub owners : AreOwnersTold most ts
   pub could : CouldRun fresh may ts

@@ -9,10 +9,9 @@ use Rattle.commands.specs.declared.kind.WorldKind.{WorldKind}
 use Rattle.commands.specs.declared.event.Event.{Event}
 use Rattle.commands.specs.declared.event.Event.TheVariants.{Begin, Step, Enter, Probe, Leave, Put, Get, Widen}
 use Rattle.commands.specs.declared.exchange.Exchange.{Exchange}
-use Rattle.commands.specs.declared.reply.Reply.{Reply}
 use Rattle.commands.specs.declared.reply.Reply.TheVariants as reply
 use Rattle.desk.specs.Names.{IsOwnerReply}
-use Rattle.commands.specs.Replies.{done_reply}
+use Rattle.commands.specs.Replies.{ShownReply, done_reply}
 use Rattle.commands.specs.Config.{gives_names, is_kind}
 use Rattle.commands.specs.KindProofs.{one_kind}
 use Rattle.commands.specs.declared.bad.Bad.{Bad}
@@ -87,17 +86,17 @@ no_name w zero known = (refl, refl)
 no_name w (suc n) known = absurd cc
 
 -- and only so
-pub one_no_name : {T : Type 0} (w u v : T) (n : ℕ) (a b : Reply) → NoName w n a u → NoName w n b v → (a ≡ b) × (u ≡ v)
+pub one_no_name : {T : Type 0} (w u v : T) (n : ℕ) (a b : ShownReply) → NoName w n a u → NoName w n b v → (a ≡ b) × (u ≡ v)
 one_no_name w u v zero a b x y = (x.0 ∙ sym y.0, x.1 ∙ sym y.1)
 one_no_name w u v (suc n) a b x y = absurd x
 
 -- nothing changes
-pub no_name_kept : {T : Type 0} (w u : T) (n : ℕ) (a : Reply) → NoName w n a u → u ≡ w
+pub no_name_kept : {T : Type 0} (w u : T) (n : ℕ) (a : ShownReply) → NoName w n a u → u ≡ w
 no_name_kept w u zero a x = x.1
 no_name_kept w u (suc n) a x = absurd x
 
 -- that is right after any exchanges
-pub no_name_right : {T : Type 0} (most : ℕ) (r : List Exchange) (w u : T) (n : ℕ) (a : Reply) → NoName w n a u → IsOwnerReply most r n a
+pub no_name_right : {T : Type 0} (most : ℕ) (r : List Exchange) (w u : T) (n : ℕ) (a : ShownReply) → NoName w n a u → IsOwnerReply most r n a
 no_name_right most r w u zero a x = record {
   out_of_range = λ never. x.0;
   in_range = λ number. absurd (omega (arith, number.some));
@@ -106,7 +105,7 @@ no_name_right most r w u (suc n) a x = absurd x
 
 module _ {T X : Type 0} (rules : VisitRules T X) where
   -- there is a reply to what is known
-  pub visit_answers : (w : T) (q : Request) → knows_visits q ≡ true → (r : Reply) × (u : T) × visit_may rules w q r u
+  pub visit_answers : (w : T) (q : Request) → knows_visits q ≡ true → (r : ShownReply) × (u : T) × visit_may rules w q r u
   visit_answers w (Take (Begin p)) known = (done_reply (rules.begins w p), rules.begun w p, (refl, refl))
   visit_answers w (Take (Step p)) known = (said_reply rules.shown (rules.steps w p), rules.stepped w p, inl (refl, refl))
   visit_answers w (Take (Enter p)) known = absurd cc
@@ -117,14 +116,14 @@ module _ {T X : Type 0} (rules : VisitRules T X) where
   visit_answers w (Take (Widen more)) known = absurd cc
   visit_answers w (OwnerOf n) known = (reply.Refused refusal.OutOfRange, w, no_name w n known)
 
-  one_step : (w u v : T) (p : ℕ) (a b : Reply) → step_may rules w p a u → step_may rules w p b v →
+  one_step : (w u v : T) (p : ℕ) (a b : ShownReply) → step_may rules w p a u → step_may rules w p b v →
       a ≢ reply.Refused refusal.NoMemory → b ≢ reply.Refused refusal.NoMemory → (a ≡ b) × (u ≡ v)
   one_step w u v p a b (inl x) (inl y) na nb = (x.0 ∙ sym y.0, x.1 ∙ sym y.1)
   one_step w u v p a b (inl x) (inr y) na nb = absurd (nb y.0)
   one_step w u v p a b (inr x) y na nb = absurd (na x.0)
 
   -- and only one, where no growth is refused
-  pub one_visit : (w u v : T) (q : Request) (a b : Reply) → visit_may rules w q a u → visit_may rules w q b v →
+  pub one_visit : (w u v : T) (q : Request) (a b : ShownReply) → visit_may rules w q a u → visit_may rules w q b v →
       a ≢ reply.Refused refusal.NoMemory → b ≢ reply.Refused refusal.NoMemory → (a ≡ b) × (u ≡ v)
   one_visit w u v (Take (Begin p)) a b x y na nb = (x.0 ∙ sym y.0, x.1 ∙ sym y.1)
   one_visit w u v (Take (Step p)) a b x y na nb = one_step w u v p a b x y na nb
@@ -146,25 +145,25 @@ module _ {T X : Type 0} (rules : VisitRules T X) where
       (begun : (t : T) (r : List (Call X)) (p : ℕ) → After t r → After (rules.begun t p) (r ++ Began p (rules.begins t p) ∷ []))
       (stepped : (t : T) (r : List (Call X)) (p : ℕ) → After t r → After (rules.stepped t p) (r ++ Stepped p (rules.steps t p) ∷ []))
       (lacked : (t : T) (r : List (Call X)) (p : ℕ) → After t r → rules.lacks t p ≡ true → After t (r ++ Stepped p (Err refusal.NoMemory) ∷ [])) where
-    one_step_call : (w u : T) (before : List (Call X)) (p : ℕ) (a : Reply) → After w before → step_may rules w p a u →
+    one_step_call : (w u : T) (before : List (Call X)) (p : ℕ) (a : ShownReply) → After w before → step_may rules w p a u →
         (call : Call X) × (let x : Exchange = record { event = Step p; reply = a } in exchange_of rules.shown call ≡ x) × After u (before ++ call ∷ [])
     one_step_call w u before p a after (inl m) = (
       Stepped p (rules.steps w p),
-      ap (λ (r : Reply). let x : Exchange = record { event = Step p; reply = r } in x) (sym m.0),
+      ap (λ (r : ShownReply). let x : Exchange = record { event = Step p; reply = r } in x) (sym m.0),
       subst (λ (t : T). After t (before ++ Stepped p (rules.steps w p) ∷ [])) (sym m.1) (stepped w before p after),
     )
     one_step_call w u before p a after (inr m) = (
       Stepped p (Err refusal.NoMemory),
-      ap (λ (r : Reply). let x : Exchange = record { event = Step p; reply = r } in x) (sym m.0),
+      ap (λ (r : ShownReply). let x : Exchange = record { event = Step p; reply = r } in x) (sym m.0),
       subst (λ (t : T). After t (before ++ Stepped p (Err refusal.NoMemory) ∷ [])) (sym m.1) (lacked w before p after m.2),
     )
 
     -- one exchange is one call
-    one_call : (w u : T) (before : List (Call X)) (e : Event) (a : Reply) → After w before → visit_may rules w (Take e) a u →
+    one_call : (w u : T) (before : List (Call X)) (e : Event) (a : ShownReply) → After w before → visit_may rules w (Take e) a u →
         (call : Call X) × (let x : Exchange = record { event = e; reply = a } in exchange_of rules.shown call ≡ x) × After u (before ++ call ∷ [])
     one_call w u before (Begin p) a after m = (
       Began p (rules.begins w p),
-      ap (λ (r : Reply). let x : Exchange = record { event = Begin p; reply = r } in x) (sym m.0),
+      ap (λ (r : ShownReply). let x : Exchange = record { event = Begin p; reply = r } in x) (sym m.0),
       subst (λ (t : T). After t (before ++ Began p (rules.begins w p) ∷ [])) (sym m.1) (begun w before p after),
     )
     one_call w u before (Step p) a after m = one_step_call w u before p a after m

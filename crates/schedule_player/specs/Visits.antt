@@ -9,9 +9,8 @@ use Rattle.step_memory.specs.WorldMachine.{WorldParts}
 use Rattle.step_memory.specs.WorldState.{WorldState}
 use Rattle.commands.specs.declared.event.Event.TheVariants.{Begin, Step, Enter, Probe, Leave, Put, Get, Widen}
 use Rattle.commands.specs.declared.exchange.Exchange.{Exchange}
-use Rattle.commands.specs.declared.reply.Reply.{Reply}
 use Rattle.commands.specs.declared.reply.Reply.TheVariants as reply
-use Rattle.commands.specs.Replies.{done_reply}
+use Rattle.commands.specs.Replies.{ShownReply, done_reply}
 use Rattle.commands.specs.Requests.{Request}
 use Rattle.commands.specs.Requests.Request.{Take, OwnerOf}
 
@@ -36,10 +35,10 @@ pub record VisitRules (T X : Type 0) : Type 0 where
   pub steps : T → ℕ → Result X Refusal
   pub stepped : T → ℕ → T
   pub lacks : T → ℕ → Bool
-  pub shown : X → Reply
+  pub shown : X → ShownReply
 
 -- the rules of a world that is a machine, whose accepted steps are shown so
-abbrev pub world_rules : {P S R V O X : Type 0} → WorldParts P S R V O X → (X → Reply) → VisitRules (WorldState S P) X
+abbrev pub world_rules : {P S R V O X : Type 0} → WorldParts P S R V O X → (X → ShownReply) → VisitRules (WorldState S P) X
 world_rules parts shown = record {
   begins = λ w p. done_unless (begin_refusal w p);
   begun = λ w p. after_begin w p (parts.start p);
@@ -50,23 +49,23 @@ world_rules parts shown = record {
 }
 
 -- the reply to a step, where an accepted one is shown so
-abbrev pub said_reply : {X : Type 0} → (X → Reply) → Result X Refusal → Reply
+abbrev pub said_reply : {X : Type 0} → (X → ShownReply) → Result X Refusal → ShownReply
 said_reply shown (Ok said) = shown said
 said_reply shown (Err refusal) = reply.Refused refusal
 
 -- no names are given: that 0 is none is refused for every number of participants, and no other is asked for
-abbrev pub NoName : {T : Type 0} → T → ℕ → Reply → T → Type 0
+abbrev pub NoName : {T : Type 0} → T → ℕ → ShownReply → T → Type 0
 NoName w zero r u = (r ≡ reply.Refused refusal.OutOfRange) × (u ≡ w)
 NoName w (suc n) r u = ⊥
 
 -- a step has one reply and leaves one state; or, where a growth may be refused, that refusal, with nothing changed
-abbrev pub step_may : {T X : Type 0} → VisitRules T X → T → ℕ → Reply → T → Type 0
+abbrev pub step_may : {T X : Type 0} → VisitRules T X → T → ℕ → ShownReply → T → Type 0
 step_may rules w p r u =
     ((r ≡ said_reply rules.shown (rules.steps w p)) × (u ≡ rules.stepped w p))
     ⊎ ((r ≡ reply.Refused refusal.NoMemory) × (u ≡ w) × (rules.lacks w p ≡ true))
 
 -- so may be replied to what is known
-abbrev pub visit_may : {T X : Type 0} → VisitRules T X → T → Request → Reply → T → Type 0
+abbrev pub visit_may : {T X : Type 0} → VisitRules T X → T → Request → ShownReply → T → Type 0
 visit_may rules w (Take (Begin p)) r u = (r ≡ done_reply (rules.begins w p)) × (u ≡ rules.begun w p)
 visit_may rules w (Take (Step p)) r u = step_may rules w p r u
 visit_may rules w (Take (Enter p)) r u = ⊥
@@ -78,12 +77,12 @@ visit_may rules w (Take (Widen more)) r u = ⊥
 visit_may rules w (OwnerOf n) r u = NoName w n r u
 
 -- the exchange that a call is
-abbrev pub exchange_of : {X : Type 0} → (X → Reply) → Call X → Exchange
+abbrev pub exchange_of : {X : Type 0} → (X → ShownReply) → Call X → Exchange
 exchange_of shown (Began p answer) = record { event = Begin p; reply = done_reply answer }
 exchange_of shown (Stepped p answer) = record { event = Step p; reply = said_reply shown answer }
 
 -- exchanges that are calls which keep a law
-pub record IsCallRun {X : Type 0} (shown : X → Reply) (KeepsLaw : List (Call X) → Type 0) (r : List Exchange) : Type 0 where
+pub record IsCallRun {X : Type 0} (shown : X → ShownReply) (KeepsLaw : List (Call X) → Type 0) (r : List Exchange) : Type 0 where
   pub calls : List (Call X)
   pub spelled : map (exchange_of shown) calls ≡ r
   pub law : KeepsLaw calls

@@ -12,7 +12,7 @@ use Rattle.step_memory.proofs.WorldMachineLemmas.{begin_leads_on, step_leads_on}
 use Rattle.commands.specs.Config.{most_in}
 use Rattle.commands.specs.declared.config.Config.{Config}
 use Rattle.commands.specs.declared.kind.WorldKind.{WorldKind}
-use Rattle.commands.specs.declared.reply.Reply.{Reply}
+use Rattle.commands.specs.Replies.{ShownReply}
 use Rattle.player.specs.Runs.{Runs}
 use Rattle.player.specs.Turns.{Turn, exchanges}
 use Rattle.schedule_player.specs.VisitProofs.{call_run}
@@ -22,7 +22,7 @@ use Rattle.schedule_player.specs.Visits.{visit_may, world_rules, IsCallRun}
 pub fits_in : (kind : WorldKind) (c : Config) → c.world ≡ kind → c.m ≤ most_in kind
 fits_in kind c is = subst (λ (k : WorldKind). c.m ≤ most_in k) is c.in_range.1
 
-module _ {P S R V O X : Type 0} (parts : WorldParts P S R V O X) (shown : X → Reply) where
+module _ {P S R V O X : Type 0} (parts : WorldParts P S R V O X) (shown : X → ShownReply) where
   pub world_lawful : IsProved (world_machine parts) → (most : ℕ) (w u : WorldState S P) → parts.MayStart most → w ≡ fresh_world parts most →
       (ts : List Turn) → Runs (visit_may (world_rules parts shown)) w ts u → IsCallRun shown parts.KeepsLaw (exchanges ts)
   world_lawful proved most w u may fresh ts run =

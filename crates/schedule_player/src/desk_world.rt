@@ -11,7 +11,7 @@ ghost use Rattle.schedule_player.specs.IsTalkProofs.{desk_talks};
 ghost use Rattle.std.proofs.Common.{refl};
 
 use crate::world::{Unshared, World};
-use commands::{Config, Event, Reply, ShortReply};
+use commands::{Config, Event, Reply};
 use desk::Desk;
 use player::Service;
 use std::alloc::Allocator;
@@ -25,11 +25,11 @@ impl<A: Allocator + Clone> Service<Unshared> for Desk<A> {
     ghost answers = { λ w q known. desk_answers w q };
 
     #[inline(always)]
-    fn apply(&mut self, _rt: &Unshared, event: Event, view: &mut View) -> ShortReply {
+    fn apply(&mut self, _rt: &Unshared, event: Event, view: &mut View) -> Reply<()> {
         self.apply_short(event, view)
     }
 
-    fn owner(&mut self, _rt: &Unshared, n: u64) -> Reply {
+    fn owner(&mut self, _rt: &Unshared, n: u64) -> Reply<View> {
         Desk::owner(self, n)
     }
 }

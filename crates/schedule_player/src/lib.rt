@@ -33,7 +33,7 @@ pub mod recording;
 mod splitter_world;
 pub mod world;
 
-pub use commands::{Bad, Command, Config, Event, Exchange, Reply, ShortReply, WorldKind};
+pub use commands::{Bad, Command, Config, Event, Exchange, Reply, WorldKind};
 pub use laws::{law_of_growths, law_of_play, law_of_world};
 pub use player::{
     AsRecord, AsReplies, EVENT_ROOM, Fault, Form, HEADER_ROOM, HELD_REPLIES, LineBuffer,

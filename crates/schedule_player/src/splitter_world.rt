@@ -14,7 +14,7 @@ ghost use Rattle.schedule_player.specs.SplitterWorld.{splitter_rules, way_reply,
 
 use crate::outcomes::visit_reply;
 use crate::world::{Unshared, World};
-use commands::{Config, Event, Reply, ShortReply};
+use commands::{Config, Event, Reply};
 use player::Service;
 use splitter::SplitterWorld;
 use std::alloc::Allocator;
@@ -28,9 +28,9 @@ impl<A: Allocator + Clone> Service<Unshared> for SplitterWorld<A> {
     ghost answers = { visit_answers splitter_rules };
 
     #[inline(always)]
-    fn apply(&mut self, _rt: &Unshared, event: Event, _view: &mut View) -> ShortReply {
+    fn apply(&mut self, _rt: &Unshared, event: Event, _view: &mut View) -> Reply<()> {
         match event {
-            Event::Begin(id) => ShortReply::of_done(self.begin(id)),
+            Event::Begin(id) => Reply::of_done(self.begin(id)),
             Event::Step(id) => visit_reply(self.step(id)),
             Event::Enter(_)
             | Event::Probe(_)
@@ -42,7 +42,7 @@ impl<A: Allocator + Clone> Service<Unshared> for SplitterWorld<A> {
     }
 
     #[tactic(auto, using(crate::specs::VisitProofs::no_name))]
-    fn owner(&mut self, _rt: &Unshared, _n: u64) -> Reply {
+    fn owner(&mut self, _rt: &Unshared, _n: u64) -> Reply<View> {
         Reply::Refused(Refusal::OutOfRange)
     }
 }

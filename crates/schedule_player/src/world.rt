@@ -3,7 +3,7 @@
 ghost use Rattle.std.specs.Prelude.{◌≡◌, ◌≢◌, List, Bool, true, IfOk, IfErr};
 ghost use Rattle.step_memory.specs.declared.refusal.Refusal.TheVariants as refusal;
 ghost use Rattle.commands.specs.declared.exchange.Exchange.{Exchange};
-ghost use Rattle.commands.specs.declared.reply.Reply.{Reply};
+ghost use Rattle.commands.specs.Replies.{ShownReply};
 ghost use Rattle.commands.specs.declared.reply.Reply.TheVariants as reply;
 ghost use Rattle.commands.specs.declared.config.Config.{Config};
 ghost use Rattle.commands.specs.declared.kind.WorldKind.{WorldKind};
@@ -60,6 +60,6 @@ pub trait World<A, R>: Service<R> {
     ghost one_fresh: { (c : Config) (w v : Self) → fresh c w → fresh c v → w ≡ v };
 
     /// Where no growth is refused there is one reply, and one is left.
-    ghost one_reply: { (w u v : Self) (q : Request) (a b : Reply) → Self.may w q a u → Self.may w q b v →
+    ghost one_reply: { (w u v : Self) (q : Request) (a b : ShownReply) → Self.may w q a u → Self.may w q b v →
         a ≢ reply.Refused refusal.NoMemory → b ≢ reply.Refused refusal.NoMemory → (a ≡ b) × (u ≡ v) };
 }

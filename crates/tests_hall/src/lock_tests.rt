@@ -31,7 +31,7 @@ fn hall(rt: &impl Abort, alloc: Global, shape: (WorldKind, u64, u64)) -> Hall {
 }
 
 /// Applies an event to a hall and compares its reply, what would be refused with what is, and what is stored.
-fn applies(rt: &impl Abort, hall: &mut Hall, event: Event, want: &Reply) {
+fn applies(rt: &impl Abort, hall: &mut Hall, event: Event, want: &Reply<View>) {
     let before = hall.len();
     let due = hall.refusal(event);
     let reply = hall.apply(event);
@@ -50,7 +50,7 @@ fn applies(rt: &impl Abort, hall: &mut Hall, event: Event, want: &Reply) {
 }
 
 /// Makes so many steps of 7, of which the last answers this and those before it are quiet.
-fn steps(rt: &impl Abort, hall: &mut Hall, count: usize, last: &Reply) {
+fn steps(rt: &impl Abort, hall: &mut Hall, count: usize, last: &Reply<View>) {
     for _ in 1..count {
         applies(rt, hall, Event::Step(7), &Reply::Quiet);
     }
@@ -58,7 +58,7 @@ fn steps(rt: &impl Abort, hall: &mut Hall, count: usize, last: &Reply) {
 }
 
 /// The way of 7 in a hall: after how many steps each what is answered.
-fn seven_goes(rt: &impl Abort, hall: &mut Hall, rows: &[(usize, Reply)]) {
+fn seven_goes(rt: &impl Abort, hall: &mut Hall, rows: &[(usize, Reply<View>)]) {
     applies(rt, hall, Event::Step(7), &Reply::Refused(Refusal::NotBegun));
     applies(rt, hall, Event::Begin(7), &Reply::Ok);
     for (count, last) in rows {
@@ -67,12 +67,12 @@ fn seven_goes(rt: &impl Abort, hall: &mut Hall, rows: &[(usize, Reply)]) {
 }
 
 /// Compares what is told of a name.
-fn is_told(rt: &impl Abort, name: u64, reply: &Reply, want: &Reply) {
+fn is_told(rt: &impl Abort, name: u64, reply: &Reply<View>, want: &Reply<View>) {
     assert!(rt; *reply == *want, "{name}: {reply:?}");
 }
 
 /// Compares who has these names in a hall.
-fn owners_are(rt: &impl Abort, hall: &Hall, rows: &[(u64, Reply)]) {
+fn owners_are(rt: &impl Abort, hall: &Hall, rows: &[(u64, Reply<View>)]) {
     for (name, want) in rows {
         is_told(rt, *name, &hall.owner(*name), want);
     }
@@ -83,8 +83,8 @@ fn one_goes(
     rt: &impl Abort,
     alloc: Global,
     shape: (WorldKind, u64, u64),
-    steps: &[(usize, Reply)],
-    owners: &[(u64, Reply)],
+    steps: &[(usize, Reply<View>)],
+    owners: &[(u64, Reply<View>)],
 ) -> usize {
     let mut hall = hall(rt, alloc, shape);
     seven_goes(rt, &mut hall, steps);
@@ -182,7 +182,7 @@ fn clerk_applies<L: LockName, R: Abort + Wait>(
     rt: &R,
     lock: &HallLock<L>,
     clerk: &mut Clerk<L>,
-    rows: &[(Event, Reply)],
+    rows: &[(Event, Reply<View>)],
 ) {
     for (event, want) in rows {
         let reply = lock.apply(rt, clerk, *event);
@@ -245,7 +245,7 @@ fn session_acts<L: LockName, R: Abort + Wait>(
     rt: &R,
     lock: &HallLock<L>,
     session: &mut Session<L>,
-    rows: &[(Act, Reply)],
+    rows: &[(Act, Reply<View>)],
 ) {
     for (act, want) in rows {
         let reply = lock.act(rt, session, *act);
@@ -380,7 +380,7 @@ fn name_of<L: LockName>(session: &Session<L>) -> u64 {
 }
 
 /// The name that a reply gives, or 0.
-fn name_in(reply: &Reply) -> u64 {
+fn name_in(reply: &Reply<View>) -> u64 {
     match reply {
         Reply::Named(name, _) => *name,
         _ => 0,

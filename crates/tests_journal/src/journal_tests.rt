@@ -3,7 +3,7 @@
 use crate::journals::{
     ALL_CALLS, EVENTS, HEADER, LINES, OPENING_CALLS, accepts, events_on, opened, record,
 };
-use commands::{Event, ShortReply};
+use commands::{Event, Reply};
 use journal::{Chronicle, Journal, MOST_WAITING, OpenFault, Opened};
 use journal_disk::{DiskFault, MemoryDisk};
 use run_checker::{Reason, Verdict};
@@ -236,7 +236,7 @@ fn fills(chronicle: &mut Chronicle) -> bool {
 fn wants_room(chronicle: &mut Chronicle, event: Event) -> bool {
     let mut view = View::new();
     let reply = chronicle.apply(&(), event, &mut view);
-    reply == ShortReply::Refused(Refusal::NoMemory)
+    reply == Reply::Refused(Refusal::NoMemory)
 }
 
 /// Whether a chronicle that is full takes an event only once its lines were committed.

@@ -1,6 +1,6 @@
 //! Schedules of names, of a pool and of its slots, played on one desk.
 
-use commands::{Config, Event, Reply, ShortReply, WorldKind};
+use commands::{Config, Event, Reply, WorldKind};
 use desk::{Desk, law_of_desk, law_of_names};
 use linked_list_allocator::LocalHeap;
 use std::alloc::{Allocator, Global};
@@ -13,10 +13,10 @@ use step_memory::{Refusal, View};
 /// or who has a name.
 #[derive(Clone, Copy, Drop)]
 enum Row {
-    Does(Event, ShortReply),
-    Steps(u64, usize, ShortReply),
+    Does(Event, Reply<()>),
+    Steps(u64, usize, Reply<()>),
     Named(u64, usize, u64),
-    Owner(u64, ShortReply),
+    Owner(u64, Reply<()>),
 }
 
 /// A schedule in each of these worlds, of so many participants and rounds, with a pool of this size.
@@ -36,37 +36,37 @@ const TREE: &[WorldKind] = &[WorldKind::Tree];
 
 const BOTH: &[WorldKind] = &[WorldKind::Rename, WorldKind::Tree];
 
-const OK: ShortReply = ShortReply::Ok;
+const OK: Reply<()> = Reply::Ok;
 
-const MISSED: ShortReply = ShortReply::Missed;
+const MISSED: Reply<()> = Reply::Missed;
 
-const FULL: ShortReply = ShortReply::Refused(Refusal::Full);
+const FULL: Reply<()> = Reply::Refused(Refusal::Full);
 
-const FINISHED: ShortReply = ShortReply::Refused(Refusal::Finished);
+const FINISHED: Reply<()> = Reply::Refused(Refusal::Finished);
 
-const CROWDED: ShortReply = ShortReply::Refused(Refusal::Crowded);
+const CROWDED: Reply<()> = Reply::Refused(Refusal::Crowded);
 
-const NOT_BEGUN: ShortReply = ShortReply::Refused(Refusal::NotBegun);
+const NOT_BEGUN: Reply<()> = Reply::Refused(Refusal::NotBegun);
 
-const ZERO: ShortReply = ShortReply::Refused(Refusal::ZeroIdentity);
+const ZERO: Reply<()> = Reply::Refused(Refusal::ZeroIdentity);
 
-const BEGUN: ShortReply = ShortReply::Refused(Refusal::AlreadyBegun);
+const BEGUN: Reply<()> = Reply::Refused(Refusal::AlreadyBegun);
 
-const SPENT: ShortReply = ShortReply::Refused(Refusal::Spent);
+const SPENT: Reply<()> = Reply::Refused(Refusal::Spent);
 
-const NO_MEMORY: ShortReply = ShortReply::Refused(Refusal::NoMemory);
+const NO_MEMORY: Reply<()> = Reply::Refused(Refusal::NoMemory);
 
-const OUT_OF_RANGE: ShortReply = ShortReply::Refused(Refusal::OutOfRange);
+const OUT_OF_RANGE: Reply<()> = Reply::Refused(Refusal::OutOfRange);
 
-const COMPETING: ShortReply = ShortReply::Refused(Refusal::AlreadyCompeting);
+const COMPETING: Reply<()> = Reply::Refused(Refusal::AlreadyCompeting);
 
-const NOT_COMPETING: ShortReply = ShortReply::Refused(Refusal::NotCompeting);
+const NOT_COMPETING: Reply<()> = Reply::Refused(Refusal::NotCompeting);
 
-const HOLDING: ShortReply = ShortReply::Refused(Refusal::Holding);
+const HOLDING: Reply<()> = Reply::Refused(Refusal::Holding);
 
-const NOT_HOLDING: ShortReply = ShortReply::Refused(Refusal::NotHolding);
+const NOT_HOLDING: Reply<()> = Reply::Refused(Refusal::NotHolding);
 
-const NOBODY: ShortReply = ShortReply::Owner(None);
+const NOBODY: Reply<()> = Reply::Owner(None);
 
 const NAMES: [Schedule; 3] = [
     Schedule {
@@ -82,11 +82,11 @@ const NAMES: [Schedule; 3] = [
             Row::Does(Event::Begin(7), OK),
             Row::Does(Event::Begin(7), BEGUN),
             Row::Does(Event::Begin(8), FULL),
-            Row::Steps(7, 4, ShortReply::Place(0)),
-            Row::Steps(7, 3, ShortReply::Proposed(1)),
+            Row::Steps(7, 4, Reply::Place(0)),
+            Row::Steps(7, 3, Reply::Proposed(1)),
             Row::Named(7, 2, 1),
             Row::Steps(7, 1, FINISHED),
-            Row::Owner(1, ShortReply::Owner(Some(7))),
+            Row::Owner(1, Reply::Owner(Some(7))),
             Row::Owner(2, OUT_OF_RANGE),
             Row::Owner(0, OUT_OF_RANGE),
         ],
@@ -99,11 +99,11 @@ const NAMES: [Schedule; 3] = [
         limit: 1000,
         rows: &[
             Row::Does(Event::Begin(7), OK),
-            Row::Steps(7, 5, ShortReply::Place(1)),
-            Row::Steps(7, 9, ShortReply::Proposed(1)),
+            Row::Steps(7, 5, Reply::Place(1)),
+            Row::Steps(7, 9, Reply::Proposed(1)),
             Row::Named(7, 8, 1),
             Row::Steps(7, 1, FINISHED),
-            Row::Owner(1, ShortReply::Owner(Some(7))),
+            Row::Owner(1, Reply::Owner(Some(7))),
             Row::Owner(3, NOBODY),
             Row::Owner(4, OUT_OF_RANGE),
         ],
@@ -117,13 +117,13 @@ const NAMES: [Schedule; 3] = [
         rows: &[
             Row::Does(Event::Begin(10), OK),
             Row::Does(Event::Begin(20), OK),
-            Row::Steps(10, 4, ShortReply::Place(0)),
-            Row::Steps(20, 6, ShortReply::Place(1)),
-            Row::Steps(20, 7, ShortReply::Proposed(1)),
-            Row::Steps(10, 6, ShortReply::Quiet),
-            Row::Steps(20, 4, ShortReply::Quiet),
-            Row::Steps(10, 1, ShortReply::Proposed(1)),
-            Row::Steps(10, 6, ShortReply::Spent),
+            Row::Steps(10, 4, Reply::Place(0)),
+            Row::Steps(20, 6, Reply::Place(1)),
+            Row::Steps(20, 7, Reply::Proposed(1)),
+            Row::Steps(10, 6, Reply::Quiet),
+            Row::Steps(20, 4, Reply::Quiet),
+            Row::Steps(10, 1, Reply::Proposed(1)),
+            Row::Steps(10, 6, Reply::Spent),
             Row::Steps(10, 1, SPENT),
             Row::Named(20, 2, 1),
         ],
@@ -139,10 +139,10 @@ const NUMBERS: [Schedule; 6] = [
         limit: 1000,
         rows: &[
             Row::Does(Event::Enter(5), OK),
-            Row::Does(Event::Probe(5), ShortReply::Got(1)),
+            Row::Does(Event::Probe(5), Reply::Got(1)),
             Row::Does(Event::Enter(6), CROWDED),
             Row::Does(Event::Enter(5), COMPETING),
-            Row::Does(Event::Leave(5), ShortReply::Left(1)),
+            Row::Does(Event::Leave(5), Reply::Left(1)),
             Row::Does(Event::Enter(6), OK),
             Row::Owner(1, NOBODY),
         ],
@@ -155,16 +155,16 @@ const NUMBERS: [Schedule; 6] = [
         limit: 1000,
         rows: &[
             Row::Does(Event::Enter(5), OK),
-            Row::Does(Event::Probe(5), ShortReply::Got(1)),
+            Row::Does(Event::Probe(5), Reply::Got(1)),
             Row::Does(Event::Enter(6), OK),
             Row::Does(Event::Probe(6), MISSED),
-            Row::Does(Event::Probe(6), ShortReply::Got(2)),
+            Row::Does(Event::Probe(6), Reply::Got(2)),
             Row::Does(Event::Enter(7), OK),
             Row::Does(Event::Probe(7), MISSED),
-            Row::Does(Event::Leave(5), ShortReply::Left(1)),
-            Row::Does(Event::Probe(7), ShortReply::Got(3)),
+            Row::Does(Event::Leave(5), Reply::Left(1)),
+            Row::Does(Event::Probe(7), Reply::Got(3)),
             Row::Does(Event::Enter(8), OK),
-            Row::Does(Event::Probe(8), ShortReply::Got(1)),
+            Row::Does(Event::Probe(8), Reply::Got(1)),
             Row::Does(Event::Enter(9), CROWDED),
             Row::Owner(1, NOBODY),
         ],
@@ -178,18 +178,18 @@ const NUMBERS: [Schedule; 6] = [
         rows: &[
             Row::Does(Event::Enter(5), OK),
             Row::Does(Event::Leave(5), NOT_HOLDING),
-            Row::Does(Event::Probe(5), ShortReply::Got(1)),
+            Row::Does(Event::Probe(5), Reply::Got(1)),
             Row::Does(Event::Probe(5), HOLDING),
-            Row::Does(Event::Get(5), ShortReply::Value(0)),
+            Row::Does(Event::Get(5), Reply::Value(0)),
             Row::Does(Event::Put(5, 77), OK),
-            Row::Does(Event::Get(5), ShortReply::Value(77)),
-            Row::Does(Event::Leave(5), ShortReply::Left(1)),
+            Row::Does(Event::Get(5), Reply::Value(77)),
+            Row::Does(Event::Leave(5), Reply::Left(1)),
             Row::Does(Event::Get(5), NOT_COMPETING),
             Row::Does(Event::Enter(6), OK),
             Row::Does(Event::Get(6), NOT_HOLDING),
             Row::Does(Event::Put(6, 1), NOT_HOLDING),
-            Row::Does(Event::Probe(6), ShortReply::Got(1)),
-            Row::Does(Event::Get(6), ShortReply::Value(77)),
+            Row::Does(Event::Probe(6), Reply::Got(1)),
+            Row::Does(Event::Get(6), Reply::Value(77)),
             Row::Owner(1, NOBODY),
         ],
     },
@@ -204,14 +204,14 @@ const NUMBERS: [Schedule; 6] = [
             Row::Does(Event::Enter(0), ZERO),
             Row::Does(Event::Enter(5), OK),
             Row::Does(Event::Leave(5), NOT_HOLDING),
-            Row::Does(Event::Probe(5), ShortReply::Got(1)),
+            Row::Does(Event::Probe(5), Reply::Got(1)),
             Row::Does(Event::Enter(6), OK),
-            Row::Does(Event::Probe(6), ShortReply::Got(2)),
+            Row::Does(Event::Probe(6), Reply::Got(2)),
             Row::Does(Event::Put(6, 9), OK),
-            Row::Does(Event::Leave(6), ShortReply::Left(2)),
+            Row::Does(Event::Leave(6), Reply::Left(2)),
             Row::Does(Event::Enter(7), OK),
-            Row::Does(Event::Probe(7), ShortReply::Got(2)),
-            Row::Does(Event::Get(7), ShortReply::Value(9)),
+            Row::Does(Event::Probe(7), Reply::Got(2)),
+            Row::Does(Event::Get(7), Reply::Value(9)),
             Row::Owner(1, NOBODY),
         ],
     },
@@ -223,28 +223,28 @@ const NUMBERS: [Schedule; 6] = [
         limit: 1000,
         rows: &[
             Row::Does(Event::Enter(5), OK),
-            Row::Does(Event::Probe(5), ShortReply::Got(1)),
+            Row::Does(Event::Probe(5), Reply::Got(1)),
             Row::Does(Event::Enter(6), OK),
-            Row::Does(Event::Probe(6), ShortReply::Got(2)),
+            Row::Does(Event::Probe(6), Reply::Got(2)),
             Row::Does(Event::Enter(7), CROWDED),
             Row::Does(Event::Widen(2), OUT_OF_RANGE),
             Row::Does(Event::Widen(4), OK),
             Row::Does(Event::Enter(7), OK),
             Row::Does(Event::Probe(7), MISSED),
             Row::Does(Event::Probe(7), MISSED),
-            Row::Does(Event::Leave(6), ShortReply::Left(2)),
-            Row::Does(Event::Probe(7), ShortReply::Got(3)),
+            Row::Does(Event::Leave(6), Reply::Left(2)),
+            Row::Does(Event::Probe(7), Reply::Got(3)),
             Row::Does(Event::Enter(8), OK),
             Row::Does(Event::Probe(8), MISSED),
-            Row::Does(Event::Probe(8), ShortReply::Got(2)),
+            Row::Does(Event::Probe(8), Reply::Got(2)),
             Row::Does(Event::Enter(9), OK),
             Row::Does(Event::Probe(9), MISSED),
             Row::Does(Event::Probe(9), MISSED),
-            Row::Does(Event::Probe(9), ShortReply::Got(4)),
+            Row::Does(Event::Probe(9), Reply::Got(4)),
             Row::Does(Event::Enter(10), CROWDED),
-            Row::Does(Event::Get(9), ShortReply::Value(0)),
+            Row::Does(Event::Get(9), Reply::Value(0)),
             Row::Does(Event::Put(9, 5), OK),
-            Row::Does(Event::Get(9), ShortReply::Value(5)),
+            Row::Does(Event::Get(9), Reply::Value(5)),
             Row::Does(Event::Widen(65), OUT_OF_RANGE),
             Row::Owner(1, NOBODY),
         ],
@@ -258,9 +258,9 @@ const NUMBERS: [Schedule; 6] = [
         rows: &[
             Row::Does(Event::Enter(5), OK),
             Row::Does(Event::Widen(2), OK),
-            Row::Does(Event::Probe(5), ShortReply::Got(1)),
+            Row::Does(Event::Probe(5), Reply::Got(1)),
             Row::Does(Event::Enter(6), OK),
-            Row::Does(Event::Probe(6), ShortReply::Got(2)),
+            Row::Does(Event::Probe(6), Reply::Got(2)),
             Row::Owner(1, NOBODY),
         ],
     },
@@ -274,7 +274,7 @@ fn sole(id: u64, number: u64) -> View {
 }
 
 /// Why a reply is a refusal, want of memory aside.
-fn refusal_in(reply: &Reply) -> Option<Refusal> {
+fn refusal_in(reply: &Reply<View>) -> Option<Refusal> {
     match reply {
         Reply::Refused(Refusal::NoMemory) => None,
         Reply::Refused(refusal) => Some(*refusal),
@@ -283,7 +283,7 @@ fn refusal_in(reply: &Reply) -> Option<Refusal> {
 }
 
 /// Whether an event is answered so, and would be refused where it is.
-fn applies<A: Allocator + Clone>(desk: &mut Desk<A>, event: Event, want: &Reply) -> bool {
+fn applies<A: Allocator + Clone>(desk: &mut Desk<A>, event: Event, want: &Reply<View>) -> bool {
     let due = desk.refusal(event);
     let reply = desk.apply(event);
     reply == *want && refusal_in(&reply) == due
@@ -436,7 +436,7 @@ fn a_view_beside_its_reply(rt: HostRuntime) -> Result<(), Fail> {
     let again = named.with(&view).shorten(&mut beside);
     assert_eq!(rt;
         [begun, named, refused, again],
-        [OK, ShortReply::Named(1), FINISHED, named]
+        [OK, Reply::Named(1, ()), FINISHED, named]
     );
     assert!(rt; whole == Reply::Named(1, sole(7, 1)) && beside == sole(7, 1));
     assert!(rt; refused.is_refusal() && !named.is_refusal());
@@ -447,12 +447,12 @@ fn a_view_beside_its_reply(rt: HostRuntime) -> Result<(), Fail> {
 const BEFORE: [Row; 3] = [
     Row::Does(Event::Begin(10), OK),
     Row::Does(Event::Begin(20), OK),
-    Row::Steps(10, 1, ShortReply::Quiet),
+    Row::Steps(10, 1, Reply::Quiet),
 ];
 
 /// While it is full.
 const WHILE_FULL: [Row; 3] = [
-    Row::Steps(10, 4, ShortReply::Place(1)),
+    Row::Steps(10, 4, Reply::Place(1)),
     Row::Steps(20, 4, NO_MEMORY),
     Row::Steps(20, 1, NO_MEMORY),
 ];
@@ -471,7 +471,7 @@ fn a_node_is_refused(rt: HostRuntime) -> Result<(), Fail> {
     }
     play(&rt, &mut desk, "while the heap is full", &WHILE_FULL);
     drop(boxes);
-    let placed = [Row::Steps(20, 5, ShortReply::Place(3))];
+    let placed = [Row::Steps(20, 5, Reply::Place(3))];
     play(&rt, &mut desk, "with memory again", &placed);
     Ok(())
 }

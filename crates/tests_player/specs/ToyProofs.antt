@@ -2,7 +2,7 @@
 use Rattle.std.proofs.Common.{◌≡◌, ◌≢◌, ℕ, ◌+◌, true, ◌⊎◌, inl, inr, List, [], ◌∷◌, None, refl, sym, ◌∙◌, subst}
 use Rattle.step_memory.specs.declared.refusal.Refusal.TheVariants as refusal
 use Rattle.commands.specs.declared.event.Event.{Event}
-use Rattle.commands.specs.declared.reply.Reply.{Reply}
+use Rattle.commands.specs.Replies.{ShownReply}
 use Rattle.commands.specs.declared.reply.Reply.TheVariants as reply
 use Rattle.schedule_player.specs.Talks.{AreOwnersTold}
 use Rattle.commands.specs.Requests.{Request}
@@ -15,11 +15,11 @@ use Rattle.player.specs.Turns.Turn.{Answered, Told, Ended, Misread}
 use Rattle.schedule_player.specs.Visits.{knows_visits}
 use Rattle.schedule_player.specs.VisitProofs.{no_name, no_name_right, one_no_name}
 
-pub shelf_answers : (w : ℕ) (q : Request) → knows_visits q ≡ true → (r : Reply) × (u : ℕ) × ShelfMay w q r u
+pub shelf_answers : (w : ℕ) (q : Request) → knows_visits q ≡ true → (r : ShownReply) × (u : ℕ) × ShelfMay w q r u
 shelf_answers w (Take e) known = (reply.Ok, w + 1, inl (refl, refl))
 shelf_answers w (OwnerOf n) known = (reply.Refused refusal.OutOfRange, w, no_name w n known)
 
-either : (w u : ℕ) (e : Event) (r : Reply) → ShelfMay w (Take e) r u → (r ≡ reply.Ok) ⊎ (r ≡ reply.Refused refusal.NoMemory)
+either : (w u : ℕ) (e : Event) (r : ShownReply) → ShelfMay w (Take e) r u → (r ≡ reply.Ok) ⊎ (r ≡ reply.Refused refusal.NoMemory)
 either w u e r (inl took) = inl took.0
 either w u e r (inr lacked) = inr lacked.0
 
@@ -38,12 +38,12 @@ shelf_tells most w u ts run = λ front back n r is.
 pub one_shelf_fresh : (w v : ℕ) → w ≡ 0 → v ≡ 0 → w ≡ v
 one_shelf_fresh w v a b = a ∙ sym b
 
-pub one_shelf_reply : (w u v : ℕ) (q : Request) (a b : Reply) → ShelfMay w q a u → ShelfMay w q b v → a ≢ reply.Refused refusal.NoMemory → b ≢ reply.Refused refusal.NoMemory → (a ≡ b) × (u ≡ v)
+pub one_shelf_reply : (w u v : ℕ) (q : Request) (a b : ShownReply) → ShelfMay w q a u → ShelfMay w q b v → a ≢ reply.Refused refusal.NoMemory → b ≢ reply.Refused refusal.NoMemory → (a ≡ b) × (u ≡ v)
 one_shelf_reply w u v (Take e) a b (inl x) (inl y) na nb = (x.0 ∙ sym y.0, x.1 ∙ sym y.1)
 one_shelf_reply w u v (Take e) a b (inl x) (inr y) na nb = absurd (nb y.0)
 one_shelf_reply w u v (Take e) a b (inr x) y na nb = absurd (na x.0)
 one_shelf_reply w u v (OwnerOf n) a b x y na nb = one_no_name w u v n a b x y
 
-pub coin_answers : {T : Type 0} (w : T) (q : Request) → (r : Reply) × (u : T) × IsSide q r
+pub coin_answers : {T : Type 0} (w : T) (q : Request) → (r : ShownReply) × (u : T) × IsSide q r
 coin_answers w (Take e) = (reply.Stop, w, inl refl)
 coin_answers w (OwnerOf n) = (reply.Owner None, w, refl)

@@ -2,14 +2,14 @@
 use Rattle.std.specs.Prelude.{◌≡◌, ℕ, ◌+◌, ◌⊎◌, List, [], ◌∷◌, None}
 use Rattle.step_memory.specs.declared.refusal.Refusal.TheVariants as refusal
 use Rattle.commands.specs.declared.exchange.Exchange.{Exchange}
-use Rattle.commands.specs.declared.reply.Reply.{Reply}
+use Rattle.commands.specs.Replies.{ShownReply}
 use Rattle.commands.specs.declared.reply.Reply.TheVariants as reply
 use Rattle.commands.specs.Requests.{Request}
 use Rattle.commands.specs.Requests.Request.{Take, OwnerOf}
 use Rattle.schedule_player.specs.Visits.{NoName}
 
 -- a shelf, by how many events it took: it takes each, and may be refused memory for each
-abbrev pub ShelfMay : ℕ → Request → Reply → ℕ → Type 0
+abbrev pub ShelfMay : ℕ → Request → ShownReply → ℕ → Type 0
 ShelfMay w (Take e) r u = ((r ≡ reply.Ok) × (u ≡ w + 1)) ⊎ ((r ≡ reply.Refused refusal.NoMemory) × (u ≡ w))
 ShelfMay w (OwnerOf n) r u = NoName w n r u
 
@@ -19,6 +19,6 @@ IsShelfRun [] = Unit {0}
 IsShelfRun (x ∷ r) = ((x.reply ≡ reply.Ok) ⊎ (x.reply ≡ reply.Refused refusal.NoMemory)) × IsShelfRun r
 
 -- a coin says either side, and that nobody has a name
-abbrev pub IsSide : Request → Reply → Type 0
+abbrev pub IsSide : Request → ShownReply → Type 0
 IsSide (Take e) r = (r ≡ reply.Stop) ⊎ (r ≡ reply.Right)
 IsSide (OwnerOf n) r = r ≡ reply.Owner None

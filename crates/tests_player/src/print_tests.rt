@@ -1,6 +1,6 @@
 //! The texts of replies and of bad lines.
 
-use commands::{Reply, ShortReply};
+use commands::Reply;
 use schedule_player::{Bad, REPLY_ROOM, Replies, print_bad, print_reply};
 use std::test::Fail;
 use step_memory::{Refusal, View};
@@ -72,7 +72,7 @@ fn the_longest_reply_has_its_room(rt: HostRuntime) -> Result<(), Fail> {
         }
     }
     let mut out = Replies::new(rt.alloc())?;
-    print_reply(ShortReply::Saw, &view, &mut out);
+    print_reply(Reply::Saw(()), &view, &mut out);
     assert_eq!(rt; out.len(), REPLY_ROOM);
     Ok(())
 }

@@ -10,7 +10,7 @@ ghost use Rattle.tests_player.specs.ToyProofs.{shelf_answers, shelf_lawful, shel
 ghost use Rattle.schedule_player.specs.Talks.{IsTalkOf};
 ghost use Rattle.schedule_player.specs.Visits.{knows_visits};
 
-use commands::{Config, Event, Reply, ShortReply};
+use commands::{Config, Event, Reply};
 use schedule_player::{Service, World};
 use std::marker::Model;
 use step_memory::{Refusal, View};
@@ -36,16 +36,16 @@ impl<R> Service<R> for Shelf {
 
     ghost answers = { shelf_answers };
 
-    fn apply(&mut self, _rt: &R, _event: Event, _view: &mut View) -> ShortReply {
+    fn apply(&mut self, _rt: &R, _event: Event, _view: &mut View) -> Reply<()> {
         self.asked = self.asked.wrapping_add(1);
         if self.asked % 3 == 0 || self.taken == u64::MAX {
-            return ShortReply::Refused(Refusal::NoMemory);
+            return Reply::Refused(Refusal::NoMemory);
         }
         self.taken += 1;
-        ShortReply::Ok
+        Reply::Ok
     }
 
-    fn owner(&mut self, _rt: &R, _n: u64) -> Reply {
+    fn owner(&mut self, _rt: &R, _n: u64) -> Reply<View> {
         Reply::Refused(Refusal::OutOfRange)
     }
 }
@@ -90,16 +90,16 @@ impl<R> Service<R> for Coin {
 
     ghost answers = { λ w q known. coin_answers w q };
 
-    fn apply(&mut self, _rt: &R, _event: Event, _view: &mut View) -> ShortReply {
+    fn apply(&mut self, _rt: &R, _event: Event, _view: &mut View) -> Reply<()> {
         self.stops = !self.stops;
         if self.stops {
-            ShortReply::Right
+            Reply::Right
         } else {
-            ShortReply::Stop
+            Reply::Stop
         }
     }
 
-    fn owner(&mut self, _rt: &R, _n: u64) -> Reply {
+    fn owner(&mut self, _rt: &R, _n: u64) -> Reply<View> {
         Reply::Owner(None)
     }
 }

@@ -3,7 +3,7 @@
 ghost use Rattle.std.specs.Prelude.{None, true, ⊤};
 ghost use Rattle.commands.specs.declared.reply.Reply.TheVariants.{Ok as Accepted};
 
-use commands::{Command, Event, Reply, ShortReply, WorldKind};
+use commands::{Command, Event, Reply, WorldKind};
 use event_server::{Ahead, Keep, Stream, Tally};
 use player::{Service, parse_line};
 use std::alloc::Global;
@@ -112,12 +112,12 @@ impl<R> Service<R> for Told {
 
     ghost answers = { λ w q h. (Accepted, w, tt) };
 
-    fn apply(&mut self, _rt: &R, event: Event, _view: &mut View) -> ShortReply {
+    fn apply(&mut self, _rt: &R, event: Event, _view: &mut View) -> Reply<()> {
         self.ask(Command::Event(event));
-        ShortReply::Ok
+        Reply::Ok
     }
 
-    fn owner(&mut self, _rt: &R, n: u64) -> Reply {
+    fn owner(&mut self, _rt: &R, n: u64) -> Reply<View> {
         self.ask(Command::Owner(n));
         Reply::Ok
     }

@@ -8,7 +8,7 @@ use Rattle.commands.specs.declared.config.Config.{Config}
 use Rattle.rename_core.proofs.MostIn.{few_take_part}
 use Rattle.commands.specs.declared.kind.WorldKind.{WorldKind}
 use Rattle.commands.specs.declared.exchange.Exchange.{Exchange}
-use Rattle.commands.specs.declared.reply.Reply.{Reply}
+use Rattle.commands.specs.Replies.{ShownReply}
 use Rattle.commands.specs.declared.reply.Reply.TheVariants as reply
 use Rattle.commands.specs.Config.{facts_of, gives_names, world_name}
 use Rattle.commands.specs.KindProofs.{name_has}
@@ -201,7 +201,7 @@ module _ (c : Config) (named : gives_names c.world ≡ true) where
   }
 
 -- what is written beside a reply
-beside : (r : Reply) → name_view r ≡ shown_text (shown_of r)
+beside : (r : ShownReply) → name_view r ≡ shown_text (shown_of r)
 beside (reply.Named name view) = refl
 beside r = refl
 

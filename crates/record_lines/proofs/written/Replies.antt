@@ -7,7 +7,7 @@ use Rattle.step_memory.specs.View.{IsAbove, IsRising}
 use Rattle.step_memory.specs.Refusal.{refusal_number}
 use Rattle.step_memory.specs.declared.refusal.Refusal.{Refusal}
 use Rattle.step_memory.specs.declared.refusal.Refusal.TheVariants.{ZeroIdentity, AlreadyBegun, Full, NotBegun, Finished, Spent as IsSpent, Crowded, NotCompeting, AlreadyCompeting, Holding, NotHolding, NoMemory, HistoryFull, OutOfRange}
-use Rattle.commands.specs.declared.reply.Reply.{Reply}
+use Rattle.commands.specs.Replies.{ShownReply}
 use Rattle.commands.specs.declared.reply.Reply.TheVariants as reply
 use Rattle.player.specs.Replies.{pair_word, pair_words, view_words, reply_words}
 use Rattle.player.specs.Lines.{pieces_from}
@@ -67,7 +67,7 @@ refusal_small HistoryFull = omega arith
 refusal_small OutOfRange = omega arith
 
 -- the words of a reply tell it, without the view by which a name was given
-pub reply_tells : (r : Reply) → IsNarrowReply r → told_in (reply_words r) ≡ Some (told_of false r)
+pub reply_tells : (r : ShownReply) → IsNarrowReply r → told_in (reply_words r) ≡ Some (told_of false r)
 reply_tells reply.Ok h = refl
 reply_tells reply.Quiet h = refl
 reply_tells reply.Stop h = refl
@@ -99,7 +99,7 @@ pairs_plain (pair ∷ more) h =
     (pairs_plain more h.2)
 
 -- they are plain
-pub reply_plain : (r : Reply) → IsNarrowReply r → list_all is_plain (reply_words r) ≡ true
+pub reply_plain : (r : ShownReply) → IsNarrowReply r → list_all is_plain (reply_words r) ≡ true
 reply_plain reply.Ok h = refl
 reply_plain reply.Quiet h = refl
 reply_plain reply.Stop h = refl
@@ -129,7 +129,7 @@ pairs_short (pair ∷ more) h =
     omega arith
 
 -- and not long
-pub reply_short : (r : Reply) → IsNarrowReply r → length (reply_words r) ≤ 2691
+pub reply_short : (r : ShownReply) → IsNarrowReply r → length (reply_words r) ≤ 2691
 reply_short reply.Ok h = omega arith
 reply_short reply.Quiet h = omega arith
 reply_short reply.Stop h = omega arith
@@ -150,7 +150,7 @@ reply_short (reply.Refused why) h = let small = refusal_small why in omega (arit
 -- ---- the view beside a name
 
 -- what is written beside a reply: of a name the view by which it was given
-abbrev pub shown_of : Reply → Option (List ℕ)
+abbrev pub shown_of : ShownReply → Option (List ℕ)
 shown_of (reply.Named name view) = Some (view_words view)
 shown_of r = None
 
@@ -164,7 +164,7 @@ view_read (pair ∷ more) s =
     ap (pairs_after 0) cut ∙ read_pairs 0 (pair ∷ more) s.narrow s.above s.rising
 
 -- with it the reply is told in full
-pub shown_tells : (r : Reply) → IsNarrowReply r → told_with Two (told_of false r) (shown_of r) ≡ Some (told_of true r)
+pub shown_tells : (r : ShownReply) → IsNarrowReply r → told_with Two (told_of false r) (shown_of r) ≡ Some (told_of true r)
 shown_tells (reply.Named name view) h = ap (λ (o : Option (List (ℕ × ℕ))). option_map (λ pairs. told.Named name (Some pairs)) o) (view_read view h.1)
 shown_tells (reply.Owner owner) h = absurd h
 shown_tells r h = refl
@@ -178,7 +178,7 @@ view_plain (pair ∷ more) h =
     (plain_both (decimal pair.0 ++ codes ":") (decimal pair.1) (plain_both (decimal pair.0) (codes ":") (plain_decimal pair.0 (omega arith)) refl) (plain_decimal pair.1 (omega arith)))
     (pairs_plain more h.2)
 
-pub shown_plain : (r : Reply) → IsNarrowReply r → IsPlainView (shown_of r)
+pub shown_plain : (r : ShownReply) → IsNarrowReply r → IsPlainView (shown_of r)
 shown_plain (reply.Named name view) h = view_plain view h.1.narrow
 shown_plain r h = tt
 
@@ -193,7 +193,7 @@ view_short (pair ∷ more) h =
     let one = length-append (decimal pair.0) (codes ":") in
     omega arith
 
-pub shown_short : (r : Reply) → IsNarrowReply r → length (shown_text (shown_of r)) ≤ 2706
+pub shown_short : (r : ShownReply) → IsNarrowReply r → length (shown_text (shown_of r)) ≤ 2706
 shown_short (reply.Named name view) h =
     let few = h.1.few in
     let short = view_short view h.1.narrow in

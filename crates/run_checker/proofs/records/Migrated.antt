@@ -6,7 +6,7 @@ use Rattle.rename_core.specs.RenameObject.{RenameTerms}
 use Rattle.commands.specs.declared.config.Config.{Config}
 use Rattle.commands.specs.declared.kind.WorldKind.{WorldKind}
 use Rattle.commands.specs.declared.exchange.Exchange.{Exchange}
-use Rattle.commands.specs.declared.reply.Reply.{Reply}
+use Rattle.commands.specs.Replies.{ShownReply}
 use Rattle.commands.specs.declared.reply.Reply.TheVariants as reply
 use Rattle.desk.specs.DeskCalls.{exchange_of}
 use Rattle.player.specs.Records.{exchange_line, turn_record, record_of, header_line}
@@ -38,7 +38,7 @@ use Rattle.record_lines.proofs.written.Lines.{record_is}
 
 -- ---- what is written is a record of a run
 
-reply_fits : (b : Bool) (r : Reply) → FitsTold (told_of b r) → FitsPlace r
+reply_fits : (b : Bool) (r : ShownReply) → FitsTold (told_of b r) → FitsPlace r
 reply_fits b (reply.Place place) h = h
 reply_fits b r h = tt
 

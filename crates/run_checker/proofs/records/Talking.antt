@@ -3,7 +3,7 @@ use Rattle.std.proofs.Common.{◌≡◌, ℕ, ◌^◌, ◌<◌, List, [], ◌∷
 use Rattle.commands.specs.declared.config.Config.{Config}
 use Rattle.commands.specs.declared.kind.WorldKind.{WorldKind}
 use Rattle.commands.specs.declared.event.Event.{Event}
-use Rattle.commands.specs.declared.reply.Reply.{Reply}
+use Rattle.commands.specs.Replies.{ShownReply}
 use Rattle.commands.specs.declared.reply.Reply.TheVariants as reply
 use Rattle.desk.specs.Desk.{desk_rules, IsAfterDesk}
 use Rattle.desk.specs.DeskCalls.{DeskCall}
@@ -46,7 +46,7 @@ asked_narrow kind ls ts is = subst AreNarrowAsked (sym is) (quit_narrowly (map (
 
 -- ---- what a desk answers
 
-place_fits : (c : Config) (w : DeskValue) (before : List DeskCall) → IsAfterDesk c w before → (e : Event) (r : Reply) (u : DeskValue) → may_by desk_rules w e r u → FitsPlace r
+place_fits : (c : Config) (w : DeskValue) (before : List DeskCall) → IsAfterDesk c w before → (e : Event) (r : ShownReply) (u : DeskValue) → may_by desk_rules w e r u → FitsPlace r
 place_fits c w before a e reply.Ok u m = tt
 place_fits c w before a e reply.Quiet u m = tt
 place_fits c w before a e reply.Stop u m = tt

@@ -1,6 +1,6 @@
 use Rattle.std.proofs.Common.{rules, ◌≢◌}
 use Rattle.step_memory.specs.declared.refusal.Refusal.TheVariants as refusal
-use Rattle.commands.specs.declared.short_reply.ShortReply.TheVariants as short
+use Rattle.commands.specs.declared.reply.Reply.TheVariants as reply
 use Rattle.commands.specs.Replies.{with_view}
 use Rattle.drawn_schedules.proofs.RunLemmas.{plays_one}
 use Rattle.drawn_schedules.proofs.ShortReplies.{not_refused}
@@ -10,5 +10,5 @@ pub returns-clause-on : goal.returns-clause-on
 returns-clause-on g c =
     let said = c.apply_short-reply.result in
     let view = c.apply_short-reply.new.view in
-    let some : said ≢ short.Refused refusal.NoMemory = search rules in
+    let some : said ≢ reply.Refused refusal.NoMemory = search rules in
     plays_one c.args.desk.now c.apply_short-reply.new.self c.args.tally.now c.count.new.self c.args.event (with_view said view) c.apply_short-reply.ensures (not_refused said view refusal.NoMemory some) (c.count.ensures.begun view) (c.count.ensures.named view) (c.count.ensures.spent view)

@@ -1,7 +1,6 @@
 use Rattle.std.proofs.Common.{◌≡◌, ◌++◌, Some, List, ℕ, sym, ap, ◌∙◌}
 use Rattle.std.specs.Prelude.{slice_get}
-use Rattle.commands.specs.declared.reply.Reply.{Reply}
-use Rattle.commands.specs.Replies.{with_view}
+use Rattle.commands.specs.Replies.{ShownReply, with_view}
 use Rattle.desk.specs.DeskCalls.{exchange}
 use Rattle.player.specs.Records.{exchange_line}
 use Rattle.journal.specs.Chronicles.{record_of_hall, hall_after_first}
@@ -14,6 +13,6 @@ returns c = λ before.
     let shown = with_view c.shorten-reply.result c.shorten-reply.new.view in
     let first = record_of_hall (hall_after_first c.args.place c.args.hall.now) in
     let at : slice_get c.args.hall.now.history c.args.place ≡ Some c.in-Some.exchange = sym c.in-Some.ensures in
-    let line : exchange_line (exchange event shown) ≡ exchange_line c.in-Some.exchange = ap (λ (r : Reply). exchange_line (exchange event r)) c.shorten-reply.ensures in
+    let line : exchange_line (exchange event shown) ≡ exchange_line c.in-Some.exchange = ap (λ (r : ShownReply). exchange_line (exchange event r)) c.shorten-reply.ensures in
     c.put_line.ensures ∙ ap (λ (l : List ℕ). l ++ exchange_line (exchange event shown)) (c.reserve.ensures.items ∙ before) ∙ ap (λ (l : List ℕ). first ++ l) line
     ∙ one_line c.args.hall.now c.args.place c.in-Some.exchange at

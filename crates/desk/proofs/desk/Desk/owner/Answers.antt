@@ -1,5 +1,5 @@
 use Rattle.std.proofs.Common.{◌≡◌, sym, subst}
-use Rattle.commands.specs.declared.reply.Reply.{Reply}
+use Rattle.commands.specs.Replies.{ShownReply}
 use Rattle.desk.specs.Desk.{owner_reply}
 use Rattle.desk.specs.Laws.{TellsOwners}
 use Rattle.desk.proofs.DeskLaws as desk
@@ -8,9 +8,9 @@ use Rattle.desk.proofs.desk.Desk.owner.Goals as goal
 pub returns-in-Grid-clause-told : goal.returns-in-Grid-clause-told
 returns-in-Grid-clause-told g c =
     let is : owner_reply c.args.self.now c.args.number ≡ c.owner.result = rw (← c.self.view_is, c.in-Grid.is) (sym c.owner.ensures) in
-    subst (λ (told : Reply). TellsOwners c.args.self.now c.args.number told) is (desk.owner c.args.self.now c.args.number)
+    subst (λ (told : ShownReply). TellsOwners c.args.self.now c.args.number told) is (desk.owner c.args.self.now c.args.number)
 
 pub returns-in-Tree-clause-told : goal.returns-in-Tree-clause-told
 returns-in-Tree-clause-told g c =
     let is : owner_reply c.args.self.now c.args.number ≡ c.owner-in-Tree.result = rw (← c.self.view_is, c.in-Tree.is) (sym c.owner-in-Tree.ensures) in
-    subst (λ (told : Reply). TellsOwners c.args.self.now c.args.number told) is (desk.owner c.args.self.now c.args.number)
+    subst (λ (told : ShownReply). TellsOwners c.args.self.now c.args.number told) is (desk.owner c.args.self.now c.args.number)

@@ -2,8 +2,7 @@ use Rattle.std.proofs.Common.{rules, ◌≡◌, ◌++◌, [], ◌∷◌, None, i
 use Rattle.desk.specs.Desk.{desk_rules, desk_reply}
 use Rattle.desk.specs.DeskCalls.{exchange}
 use Rattle.desk.specs.DeskValue.{DeskValue}
-use Rattle.commands.specs.declared.reply.Reply.{Reply}
-use Rattle.commands.specs.Replies.{is_refusal, with_view}
+use Rattle.commands.specs.Replies.{ShownReply, is_refusal, with_view}
 use Rattle.desk.specs.Rules.{may_by}
 use Rattle.locked_world.specs.HallState.{HallState}
 use Rattle.locked_world.specs.Halls.{hall_of, desk_of, hall_refusal}
@@ -12,7 +11,7 @@ use Rattle.locked_world.proofs.hall.Hall.apply_short.Goals as goal
 use Rattle.locked_world.proofs.hall.Hall.apply_short.Goals.{After-is_refusal}
 
 -- what the desk answered
-abbrev answer : After-is_refusal → Reply
+abbrev answer : After-is_refusal → ShownReply
 answer c = with_view c.apply_short-reply.result c.apply_short-reply.new.view
 
 -- the hall before the event refuses nothing

@@ -1,5 +1,5 @@
 use Rattle.std.proofs.Common.{◌≡◌, sym, subst, ap, ◌∙◌}
-use Rattle.commands.specs.declared.reply.Reply.{Reply}
+use Rattle.commands.specs.Replies.{ShownReply}
 use Rattle.desk.specs.Desk.{owner_reply}
 use Rattle.desk.specs.Names.{IsOwnerReply}
 use Rattle.locked_world.specs.Halls.{desk_of, IsLawful}
@@ -12,4 +12,4 @@ returns-clause-told c =
     let lawful : IsLawful h = subst IsLawful c.self.view_is c.self.invariant.1 in
     let desk : c.self.inside.held.desk ≡ desk_of h = c.self.invariant.0 ∙ ap desk_of c.self.view_is in
     let is : owner_reply (desk_of h) c.args.number ≡ c.owner.result = ap (λ w. owner_reply w c.args.number) (sym desk) ∙ sym c.owner.ensures.value in
-    subst (λ (told : Reply). IsOwnerReply h.config.m h.history c.args.number told) is (history_owner h lawful c.args.number)
+    subst (λ (told : ShownReply). IsOwnerReply h.config.m h.history c.args.number told) is (history_owner h lawful c.args.number)

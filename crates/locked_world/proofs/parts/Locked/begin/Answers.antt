@@ -1,8 +1,7 @@
 use Rattle.std.proofs.Common.{◌≡◌, false, subst, refl, ap}
 use Rattle.commands.specs.declared.event.Event.TheVariants.{Begin}
-use Rattle.commands.specs.declared.reply.Reply.{Reply}
 use Rattle.commands.specs.declared.reply.Reply.TheVariants.{Ok}
-use Rattle.commands.specs.Replies.{is_refusal, with_view}
+use Rattle.commands.specs.Replies.{ShownReply, is_refusal, with_view}
 use Rattle.locked_world.specs.CallerState.{CallerState}
 use Rattle.locked_world.specs.Halls.{HallMay}
 use Rattle.locked_world.specs.Kepts.{IsTaken}
@@ -21,10 +20,10 @@ returns g c =
     let accepted : is_refusal r ≡ false = taken_by c.apply-reply.result c.apply-reply.new.view c.in_default.not-Refused in
     let may : HallMay h (Begin c.args.id) r u = subst (λ k. HallMay k (Begin c.args.id) r u) c.open.ensures.hall c.apply-reply.ensures.hall in
     let is : r ≡ Ok = begins_ok h u c.args.id r may accepted in
-    let taken : IsTaken g.L.LockName.config mid (Begin c.args.id) Ok new = subst (λ (q : Reply). IsTaken g.L.LockName.config mid (Begin c.args.id) q new) is c.apply-reply.ensures.taken in
+    let taken : IsTaken g.L.LockName.config mid (Begin c.args.id) Ok new = subst (λ (q : ShownReply). IsTaken g.L.LockName.config mid (Begin c.args.id) q new) is c.apply-reply.ensures.taken in
     record {
       opened = (refl, opened g.L.LockName.config c.args.id mid new (ap (λ (s : CallerState). s.kept) c.in_ok-clerk.ensures.new.0) taken);
-      hall = subst (λ (q : Reply). HallMay h (Begin c.args.id) q u) is may;
+      hall = subst (λ (q : ShownReply). HallMay h (Begin c.args.id) q u) is may;
       same = tt;
       refused = tt;
     }
