@@ -60,17 +60,17 @@ module _ {T : Type 0} (may : T → Request → ShownReply → T → Type 0) (tex
     gained = subst (λ (x : List ℕ). Appends before now x) (sym (append-nil t.written) ∙ ap (λ l. t.written ++ l) (sym none) ∙ sym t.text_is) t.gained;
   }
 
-  module _ {R W : Type 0} (reading : Reading R) (writing : Writing W) (r r' : R) (w w' : W) (got : List ℕ) (came : Consumes (reading.remaining r) (reading.remaining r') got) where
+  module _ {R W : Type 0} (reading : Reading R) (writing : Writing W) (got : List ℕ) (came : Consumes (reading.remaining reading.old) (reading.remaining reading.new) got) where
     -- at the end of the input
-    pub to_end : (s : PlayerState) → HasRead kind reading r r' got → IsAtEnd (reading.remaining r') → Stands may text start world s (after_end kind (after_bytes kind at_start got)) (writing.contents w) (writing.contents w') → s.replies ≡ [] → reading.failed r' ≡ reading.failed r → writing.failed w' ≡ writing.failed w →
-        PlayedToEnd kind reading r r' writing w w' (flat_map text) (IsRunTo may start world) s.summary
+    pub to_end : (s : PlayerState) → HasRead kind reading got → IsAtEnd (reading.remaining reading.new) → Stands may text start world s (after_end kind (after_bytes kind at_start got)) (writing.contents writing.old) (writing.contents writing.new) → s.replies ≡ [] → reading.failed reading.new ≡ reading.failed reading.old → writing.failed writing.new ≡ writing.failed writing.old →
+        PlayedToEnd kind reading writing (flat_map text) (IsRunTo may start world) s.summary
     to_end s read end t none reads writes =
-        let input = input_of (reading.remaining r) (reading.remaining r') got came in
+        let input = input_of (reading.remaining reading.old) (reading.remaining reading.new) got came in
         let whole : input.0 ≡ got = input.4 end in
         record {
           input = input.0;
           input_is = input.2;
-          told = told s (after_end kind (after_bytes kind at_start got)) (asked_by kind (lines input.0)) (writing.contents w) (writing.contents w') t none (asked-all kind got ∙ ap (λ (l : List ℕ). asked_by kind (lines l)) (sym whole));
+          told = told s (after_end kind (after_bytes kind at_start got)) (asked_by kind (lines input.0)) (writing.contents writing.old) (writing.contents writing.new) t none (asked-all kind got ∙ ap (λ (l : List ℕ). asked_by kind (lines l)) (sym whole));
           counts = t.counts;
           got = got;
           left = input.1;
@@ -82,15 +82,15 @@ module _ {T : Type 0} (may : T → Request → ShownReply → T → Type 0) (tex
         }
 
     -- after `quit`
-    pub to_quit : (s : PlayerState) → HasRead kind reading r r' got → s.over ≡ true → Stands may text start world s (after_bytes kind at_start got) (writing.contents w) (writing.contents w') → s.replies ≡ [] → reading.failed r' ≡ reading.failed r → writing.failed w' ≡ writing.failed w →
-        PlayedToEnd kind reading r r' writing w w' (flat_map text) (IsRunTo may start world) s.summary
+    pub to_quit : (s : PlayerState) → HasRead kind reading got → s.over ≡ true → Stands may text start world s (after_bytes kind at_start got) (writing.contents writing.old) (writing.contents writing.new) → s.replies ≡ [] → reading.failed reading.new ≡ reading.failed reading.old → writing.failed writing.new ≡ writing.failed writing.old →
+        PlayedToEnd kind reading writing (flat_map text) (IsRunTo may start world) s.summary
     to_quit s read quit t none reads writes =
-        let input = input_of (reading.remaining r) (reading.remaining r') got came in
+        let input = input_of (reading.remaining reading.old) (reading.remaining reading.new) got came in
         let over : (after_bytes kind at_start got).over ≡ true = sym t.over_is ∙ quit in
         record {
           input = input.0;
           input_is = input.2;
-          told = told s (after_bytes kind at_start got) (asked_by kind (lines input.0)) (writing.contents w) (writing.contents w') t none (asked-over kind input.0 got input.1 input.3 over);
+          told = told s (after_bytes kind at_start got) (asked_by kind (lines input.0)) (writing.contents writing.old) (writing.contents writing.new) t none (asked-over kind input.0 got input.1 input.3 over);
           counts = t.counts;
           got = got;
           left = input.1;
@@ -102,23 +102,23 @@ module _ {T : Type 0} (may : T → Request → ShownReply → T → Type 0) (tex
         }
 
     -- at a read fault
-    pub to_read_fault : (s : PlayerState) → (reading.failed r' ≡ reading.failed r + 1) ⊎ ((reading.calls r' ≡ reading.calls r + MOST_READS) × (reading.failed r' ≡ reading.failed r)) → s.over ≡ false →
-        Stands may text start world s (after_bytes kind at_start got) (writing.contents w) (writing.contents w') → s.replies ≡ [] → writing.failed w' ≡ writing.failed w →
-        PlayedToReadFault kind reading r r' writing w w' (flat_map text) (IsRunTo may start world)
+    pub to_read_fault : (s : PlayerState) → (reading.failed reading.new ≡ reading.failed reading.old + 1) ⊎ ((reading.calls reading.new ≡ reading.calls reading.old + MOST_READS) × (reading.failed reading.new ≡ reading.failed reading.old)) → s.over ≡ false →
+        Stands may text start world s (after_bytes kind at_start got) (writing.contents writing.old) (writing.contents writing.new) → s.replies ≡ [] → writing.failed writing.new ≡ writing.failed writing.old →
+        PlayedToReadFault kind reading writing (flat_map text) (IsRunTo may start world)
     to_read_fault s why on t none writes = record {
       why = why;
       got = got;
       read = came;
       going = sym (over-whole kind got) ∙ sym t.over_is ∙ on;
-      told = told s (after_bytes kind at_start got) (asked_by kind (whole_lines got)) (writing.contents w) (writing.contents w') t none (asked-whole kind got);
+      told = told s (after_bytes kind at_start got) (asked_by kind (whole_lines got)) (writing.contents writing.old) (writing.contents writing.new) t none (asked-whole kind got);
       no_write_failed = writes;
     }
 
     module _ (knows : Request → Bool) (known : Knows knows kind) (answers : (t : T) (q : Request) → knows q ≡ true → (a : ShownReply) × (u : T) × may t q a u) where
       -- at a write fault, where the input asks for what the turns are to and for more
-      fault_in : (p : Progress) → HasRead kind reading r r' got → (input left : List ℕ) → IsInput (reading.remaining r) input → input ≡ got ++ left → (more : List (Result Command Bad)) → asked_by kind (lines input) ≡ p.asked ++ more →
-          StandsPart may text start world p (writing.contents w) (writing.contents w') → writing.failed w < writing.failed w' → reading.failed r' ≡ reading.failed r →
-          PlayedToWriteFault kind reading r r' writing w w' (flat_map text) (IsRunTo may start world) (CanRun may start)
+      fault_in : (p : Progress) → HasRead kind reading got → (input left : List ℕ) → IsInput (reading.remaining reading.old) input → input ≡ got ++ left → (more : List (Result Command Bad)) → asked_by kind (lines input) ≡ p.asked ++ more →
+          StandsPart may text start world p (writing.contents writing.old) (writing.contents writing.new) → writing.failed writing.old < writing.failed writing.new → reading.failed reading.new ≡ reading.failed reading.old →
+          PlayedToWriteFault kind reading writing (flat_map text) (IsRunTo may start world) (CanRun may start)
       fault_in p read input left is parts more all t why reads =
           let on = goes_on may kind knows known answers start world (lines input) t.turns (t.others ++ more) (all ∙ ap (λ (l : List (Result Command Bad)). l ++ more) t.asked_is ∙ append_assoc (map asked t.turns) t.others more) t.run in
           record {
@@ -133,24 +133,24 @@ module _ {T : Type 0} (may : T → Request → ShownReply → T → Type 0) (tex
             no_read_failed = reads;
           }
 
-      pub to_write_fault : HasRead kind reading r r' got → StandsPart may text start world (after_bytes kind at_start got) (writing.contents w) (writing.contents w') → writing.failed w < writing.failed w' → reading.failed r' ≡ reading.failed r →
-          PlayedToWriteFault kind reading r r' writing w w' (flat_map text) (IsRunTo may start world) (CanRun may start)
+      pub to_write_fault : HasRead kind reading got → StandsPart may text start world (after_bytes kind at_start got) (writing.contents writing.old) (writing.contents writing.new) → writing.failed writing.old < writing.failed writing.new → reading.failed reading.new ≡ reading.failed reading.old →
+          PlayedToWriteFault kind reading writing (flat_map text) (IsRunTo may start world) (CanRun may start)
       to_write_fault read t why reads =
-          let input = input_of (reading.remaining r) (reading.remaining r') got came in
+          let input = input_of (reading.remaining reading.old) (reading.remaining reading.new) got came in
           let more = asked_begins kind input.0 got input.1 input.3 in
           fault_in (after_bytes kind at_start got) read input.0 input.1 input.2 input.3 more.0 more.1 t why reads
 
       -- one at the end of the input
-      pub to_write_fault_at_end : HasRead kind reading r r' got → IsAtEnd (reading.remaining r') → StandsPart may text start world (after_end kind (after_bytes kind at_start got)) (writing.contents w) (writing.contents w') → writing.failed w < writing.failed w' → reading.failed r' ≡ reading.failed r →
-          PlayedToWriteFault kind reading r r' writing w w' (flat_map text) (IsRunTo may start world) (CanRun may start)
+      pub to_write_fault_at_end : HasRead kind reading got → IsAtEnd (reading.remaining reading.new) → StandsPart may text start world (after_end kind (after_bytes kind at_start got)) (writing.contents writing.old) (writing.contents writing.new) → writing.failed writing.old < writing.failed writing.new → reading.failed reading.new ≡ reading.failed reading.old →
+          PlayedToWriteFault kind reading writing (flat_map text) (IsRunTo may start world) (CanRun may start)
       to_write_fault_at_end read end t why reads =
-          let input = input_of (reading.remaining r) (reading.remaining r') got came in
+          let input = input_of (reading.remaining reading.old) (reading.remaining reading.new) got came in
           let all : asked_by kind (lines input.0) ≡ (after_end kind (after_bytes kind at_start got)).asked ++ [] = ap (λ (l : List ℕ). asked_by kind (lines l)) (input.4 end) ∙ sym (asked-all kind got) ∙ sym (append-nil (after_end kind (after_bytes kind at_start got)).asked) in
           fault_in (after_end kind (after_bytes kind at_start got)) read input.0 input.1 input.2 input.3 [] all t why reads
 
 -- the theorem of a run, by how it ended
-module _ (text : List Turn → List ℕ) (IsTalk MayTalk : List Turn → Type 0) (kind : WorldKind) {R W : Type 0} (reading : Reading R) (writing : Writing W) (r r' : R) (w w' : W) where
-  pub as_played : (s : Summary) → PlayedToEnd kind reading r r' writing w w' text IsTalk s → reading.calls r' ≤ reading.calls r + MOST_READS → IsPlayed text IsTalk MayTalk kind reading writing r r' w w' (Ok s)
+module _ (text : List Turn → List ℕ) (IsTalk MayTalk : List Turn → Type 0) (kind : WorldKind) {R W : Type 0} (reading : Reading R) (writing : Writing W) where
+  pub as_played : (s : Summary) → PlayedToEnd kind reading writing text IsTalk s → reading.calls reading.new ≤ reading.calls reading.old + MOST_READS → IsPlayed text IsTalk MayTalk kind reading writing (Ok s)
   as_played s end reads = record {
     ok = end;
     read_fault = λ e. (let no_way : ⊥ = cc in absurd no_way);
@@ -159,7 +159,7 @@ module _ (text : List Turn → List ℕ) (IsTalk MayTalk : List Turn → Type 0)
     reads = reads;
   }
 
-  pub as_read_fault : PlayedToReadFault kind reading r r' writing w w' text IsTalk → reading.calls r' ≤ reading.calls r + MOST_READS → IsPlayed text IsTalk MayTalk kind reading writing r r' w w' (Err Read)
+  pub as_read_fault : PlayedToReadFault kind reading writing text IsTalk → reading.calls reading.new ≤ reading.calls reading.old + MOST_READS → IsPlayed text IsTalk MayTalk kind reading writing (Err Read)
   as_read_fault fault reads = record {
     ok = tt;
     read_fault = λ e. fault;
@@ -168,7 +168,7 @@ module _ (text : List Turn → List ℕ) (IsTalk MayTalk : List Turn → Type 0)
     reads = reads;
   }
 
-  pub as_write_fault : PlayedToWriteFault kind reading r r' writing w w' text IsTalk MayTalk → reading.calls r' ≤ reading.calls r + MOST_READS → IsPlayed text IsTalk MayTalk kind reading writing r r' w w' (Err Write)
+  pub as_write_fault : PlayedToWriteFault kind reading writing text IsTalk MayTalk → reading.calls reading.new ≤ reading.calls reading.old + MOST_READS → IsPlayed text IsTalk MayTalk kind reading writing (Err Write)
   as_write_fault fault reads = record {
     ok = tt;
     read_fault = λ e. (let no_way : ⊥ = cc in absurd no_way);

@@ -5,7 +5,7 @@ use Rattle.commands.specs.declared.config.Config.{Config}
 use Rattle.player.specs.declared.fault.Fault.{Fault}
 use Rattle.player.specs.declared.fault.Fault.TheVariants.{Memory}
 use Rattle.player.specs.declared.summary.Summary.{Summary}
-use Rattle.player.specs.Played.{Reading, Writing, IsPlayed}
+use Rattle.player.specs.Played.{Reading, Writing, writing_from, IsPlayed}
 use Rattle.player.specs.PlayedProofs.{played_after, unplayed}
 use Rattle.player.specs.Recorded.{IsRecordedOn, end_of}
 use Rattle.player.specs.Records.{header_line, record_of, turn_record}
@@ -13,16 +13,16 @@ use Rattle.player.specs.Turns.{Turn}
 
 module _ (c : Config) (IsTalk MayTalk : List Turn → Type 0) {R W : Type 0} (reading : Reading R) (writing : Writing W) where
   -- where memory was refused nothing is recorded
-  pub unrecorded : (r : R) (w : W) (result : Result (Unit {0}) Fault) → result ≡ Err Memory → IsRecordedOn c IsTalk MayTalk reading writing r r w w result
-  unrecorded r w result is = inl (Err Memory, is, unplayed (record_of c) IsTalk MayTalk c.world reading writing r w)
+  pub unrecorded : reading.new ≡ reading.old → writing.new ≡ writing.old → (result : Result (Unit {0}) Fault) → result ≡ Err Memory → IsRecordedOn c IsTalk MayTalk reading writing result
+  unrecorded unread unwritten result is = inl (Err Memory, is, unplayed (record_of c) IsTalk MayTalk c.world reading writing unread unwritten)
 
   -- after the header a run was played
-  pub recorded : (r r' : R) (w mid w' : W) → Appends (writing.contents w) (writing.contents mid) (header_line c) → writing.failed mid ≡ writing.failed w →
-      (played : Result Summary Fault) → (played ≡ Err Memory → ⊥) → IsPlayed (flat_map turn_record) IsTalk MayTalk c.world reading writing r r' mid w' played →
-      (result : Result (Unit {0}) Fault) → result ≡ end_of played → IsRecordedOn c IsTalk MayTalk reading writing r r' w w' result
-  recorded r r' w mid w' begun unfailed played never t result is = inl (
+  pub recorded : (mid : W) → Appends (writing.contents writing.old) (writing.contents mid) (header_line c) → writing.failed mid ≡ writing.failed writing.old →
+      (played : Result Summary Fault) → (played ≡ Err Memory → ⊥) → IsPlayed (flat_map turn_record) IsTalk MayTalk c.world reading (writing_from writing mid) played →
+      (result : Result (Unit {0}) Fault) → result ≡ end_of played → IsRecordedOn c IsTalk MayTalk reading writing result
+  recorded mid begun unfailed played never t result is = inl (
     played,
     is,
-    played_after (header_line c) (flat_map turn_record) IsTalk MayTalk IsTalk MayTalk (λ ts talk. talk) (λ ts talk. talk) c.world reading writing r r' w mid w' begun unfailed played
+    played_after (header_line c) (flat_map turn_record) IsTalk MayTalk IsTalk MayTalk (λ ts talk. talk) (λ ts talk. talk) c.world reading writing mid begun unfailed played
         (λ e. absurd (never e)) t,
   )

@@ -17,23 +17,32 @@ use Rattle.player.specs.Turns.{asked, answers_of}
 use Rattle.player.specs.Texts.{replies_of}
 use Rattle.player.specs.Written.{HasPartOf}
 
--- what a contract sees of a reader: the bytes that it still has, where it tells them, how often it was read, and how many
--- of these reads failed
+-- a reader before a call and after it, and what a contract sees of one: the bytes that it still has, where it tells them, how
+-- often it was read, and how many of these reads failed
 pub record Reading (R : Type 0) : Type 0 where
   pub remaining : R → Option (List ℕ)
   pub calls : R → ℕ
   pub failed : R → ℕ
+  pub old : R
+  pub new : R
 
-abbrev pub reading : {R : Type 0} → (R → Option (List ℕ)) → (R → ℕ) → (R → ℕ) → Reading R
-reading remaining calls failed = record { remaining = remaining; calls = calls; failed = failed }
+abbrev pub reading : {R : Type 0} → (R → Option (List ℕ)) → (R → ℕ) → (R → ℕ) → R → R → Reading R
+reading remaining calls failed old new = record { remaining = remaining; calls = calls; failed = failed; old = old; new = new }
 
--- what a contract sees of a writer: the bytes that were written to it, where it tells them, and how many writes failed
+-- a writer before a call and after it, and what a contract sees of one: the bytes that were written to it, where it tells them,
+-- and how many writes failed
 pub record Writing (W : Type 0) : Type 0 where
   pub contents : W → Option (List ℕ)
   pub failed : W → ℕ
+  pub old : W
+  pub new : W
 
-abbrev pub writing : {W : Type 0} → (W → Option (List ℕ)) → (W → ℕ) → Writing W
-writing contents failed = record { contents = contents; failed = failed }
+abbrev pub writing : {W : Type 0} → (W → Option (List ℕ)) → (W → ℕ) → W → W → Writing W
+writing contents failed old new = record { contents = contents; failed = failed; old = old; new = new }
+
+-- what is left of a call, where the writer was this
+abbrev pub writing_from : {W : Type 0} → Writing W → W → Writing W
+writing_from writing mid = record writing { old = mid }
 
 -- the input is what the reader tells, or some bytes where it does not tell them
 abbrev pub IsInput : Option (List ℕ) → List ℕ → Type 0
@@ -57,66 +66,66 @@ pub record IsPartlyTold (text : List Turn → List ℕ) (IsTalk MayTalk : List T
   pub whole : MayTalk (turns ++ others)
   pub part : HasPartOf before now (text turns)
 
-module _ (kind : WorldKind) {R : Type 0} (reading : Reading R) (r r' : R) where
+module _ (kind : WorldKind) {R : Type 0} (reading : Reading R) where
   -- these bytes were read, the last of them by one read, before which no `quit` had come
   pub record HasRead (got : List ℕ) : Type 0 where
     pub mid : R
     pub earlier : List ℕ
     pub last : List ℕ
     pub parts : got ≡ earlier ++ last
-    pub came : Consumes (reading.remaining r) (reading.remaining mid) earlier
+    pub came : Consumes (reading.remaining reading.old) (reading.remaining mid) earlier
     pub going : asks_quit (asked_by kind (whole_lines earlier)) ≡ false
-    pub gave : Consumes (reading.remaining mid) (reading.remaining r') last
-    pub once : reading.calls r' ≡ reading.calls mid + 1
+    pub gave : Consumes (reading.remaining mid) (reading.remaining reading.new) last
+    pub once : reading.calls reading.new ≡ reading.calls mid + 1
     pub few : length last ≤ READ_BYTES
 
-  module _ {W : Type 0} (writing : Writing W) (w w' : W) (text : List Turn → List ℕ) where
+  module _ {W : Type 0} (writing : Writing W) (text : List Turn → List ℕ) where
     -- the end: of all the input, or by `quit`. There are turns to the lines of the input, which are a talk; the
     -- writer has gained their text, and the summary counts the answers to them. No read and no write failed
     pub record PlayedToEnd (IsTalk : List Turn → Type 0) (s : Summary) : Type 0 where
       pub input : List ℕ
-      pub input_is : IsInput (reading.remaining r) input
-      pub told : IsTold text IsTalk (asked_by kind (lines input)) (writing.contents w) (writing.contents w')
+      pub input_is : IsInput (reading.remaining reading.old) input
+      pub told : IsTold text IsTalk (asked_by kind (lines input)) (writing.contents writing.old) (writing.contents writing.new)
       pub counts : CountsAnswers (answers_of told.turns) s
       pub got : List ℕ
       pub left : List ℕ
       pub of_input : input ≡ got ++ left
       pub read : HasRead got
       pub ended : (got ≡ input) ⊎ (asks_quit (asked_by kind (whole_lines got)) ≡ true)
-      pub no_read_failed : reading.failed r' ≡ reading.failed r
-      pub no_write_failed : writing.failed w' ≡ writing.failed w
+      pub no_read_failed : reading.failed reading.new ≡ reading.failed reading.old
+      pub no_write_failed : writing.failed writing.new ≡ writing.failed writing.old
 
     -- a read fault: one read failed, or the limit of reads was reached. There are turns to the whole lines of what was
     -- read, and their text is written; `quit` was not among them
     pub record PlayedToReadFault (IsTalk : List Turn → Type 0) : Type 0 where
-      pub why : (reading.failed r' ≡ reading.failed r + 1) ⊎ ((reading.calls r' ≡ reading.calls r + MOST_READS) × (reading.failed r' ≡ reading.failed r))
+      pub why : (reading.failed reading.new ≡ reading.failed reading.old + 1) ⊎ ((reading.calls reading.new ≡ reading.calls reading.old + MOST_READS) × (reading.failed reading.new ≡ reading.failed reading.old))
       pub got : List ℕ
-      pub read : Consumes (reading.remaining r) (reading.remaining r') got
+      pub read : Consumes (reading.remaining reading.old) (reading.remaining reading.new) got
       pub going : asks_quit (asked_by kind (whole_lines got)) ≡ false
-      pub told : IsTold text IsTalk (asked_by kind (whole_lines got)) (writing.contents w) (writing.contents w')
-      pub no_write_failed : writing.failed w' ≡ writing.failed w
+      pub told : IsTold text IsTalk (asked_by kind (whole_lines got)) (writing.contents writing.old) (writing.contents writing.new)
+      pub no_write_failed : writing.failed writing.new ≡ writing.failed writing.old
 
     -- a write fault: what went out is a beginning of the text of the input
     pub record PlayedToWriteFault (IsTalk MayTalk : List Turn → Type 0) : Type 0 where
-      pub why : writing.failed w < writing.failed w'
+      pub why : writing.failed writing.old < writing.failed writing.new
       pub input : List ℕ
-      pub input_is : IsInput (reading.remaining r) input
-      pub told : IsPartlyTold text IsTalk MayTalk (asked_by kind (lines input)) (writing.contents w) (writing.contents w')
+      pub input_is : IsInput (reading.remaining reading.old) input
+      pub told : IsPartlyTold text IsTalk MayTalk (asked_by kind (lines input)) (writing.contents writing.old) (writing.contents writing.new)
       pub got : List ℕ
       pub left : List ℕ
       pub of_input : input ≡ got ++ left
       pub read : HasRead got
-      pub no_read_failed : reading.failed r' ≡ reading.failed r
+      pub no_read_failed : reading.failed reading.new ≡ reading.failed reading.old
 
--- the theorem of a run of which this text is written, where the reader was r and then r', and the writer w and then w'. The
--- turns that were taken are a talk, and may go on to one of the whole input
-pub record IsPlayed (text : List Turn → List ℕ) (IsTalk MayTalk : List Turn → Type 0) (kind : WorldKind) {R W : Type 0} (reading : Reading R) (writing : Writing W) (r r' : R) (w w' : W) (result : Result Summary Fault) : Type 0 where
-  pub ok : IfOk result (λ s. PlayedToEnd kind reading r r' writing w w' text IsTalk s)
-  pub read_fault : result ≡ Err Read → PlayedToReadFault kind reading r r' writing w w' text IsTalk
-  pub write_fault : result ≡ Err Write → PlayedToWriteFault kind reading r r' writing w w' text IsTalk MayTalk
-  pub memory : result ≡ Err Memory → (r' ≡ r) × (w' ≡ w)
-  pub reads : reading.calls r' ≤ reading.calls r + MOST_READS
+-- the theorem of a run of which this text is written. The turns that were taken are a talk, and may go on to one of the whole
+-- input
+pub record IsPlayed (text : List Turn → List ℕ) (IsTalk MayTalk : List Turn → Type 0) (kind : WorldKind) {R W : Type 0} (reading : Reading R) (writing : Writing W) (result : Result Summary Fault) : Type 0 where
+  pub ok : IfOk result (λ s. PlayedToEnd kind reading writing text IsTalk s)
+  pub read_fault : result ≡ Err Read → PlayedToReadFault kind reading writing text IsTalk
+  pub write_fault : result ≡ Err Write → PlayedToWriteFault kind reading writing text IsTalk MayTalk
+  pub memory : result ≡ Err Memory → (reading.new ≡ reading.old) × (writing.new ≡ writing.old)
+  pub reads : reading.calls reading.new ≤ reading.calls reading.old + MOST_READS
 
 -- the same, where the replies are written, and want of memory is in the turns where it was met
-abbrev pub IsPlayedIn : (List Turn → Type 0) → WorldKind → {R W : Type 0} → Reading R → Writing W → R → R → W → W → Result Summary Fault → Type 0
-IsPlayedIn IsTalk kind reading writing r r' w w' result = IsPlayed replies_of IsTalk IsTalk kind reading writing r r' w w' result
+abbrev pub IsPlayedIn : (List Turn → Type 0) → WorldKind → {R W : Type 0} → Reading R → Writing W → Result Summary Fault → Type 0
+IsPlayedIn IsTalk kind reading writing result = IsPlayed replies_of IsTalk IsTalk kind reading writing result

@@ -9,7 +9,7 @@ use Rattle.player.specs.declared.fault.Fault.TheVariants.{Memory}
 use Rattle.player.specs.declared.summary.Summary.{Summary}
 use Rattle.player.specs.Asked.{asked_by}
 use Rattle.player.specs.Lines.{lines, whole_lines}
-use Rattle.player.specs.Played.{Reading, Writing, IsTold, PlayedToEnd, PlayedToReadFault, PlayedToWriteFault, IsPlayed}
+use Rattle.player.specs.Played.{Reading, Writing, writing_from, IsTold, PlayedToEnd, PlayedToReadFault, PlayedToWriteFault, IsPlayed}
 use Rattle.player.specs.Turns.{Turn}
 use Rattle.player.specs.WrittenProofs.{appends_more, appends_none, part_after}
 
@@ -17,21 +17,21 @@ use Rattle.player.specs.WrittenProofs.{appends_more, appends_none, part_after}
 -- one by a weaker
 module _ (head : List ℕ) (text : List Turn → List ℕ) (P P' Q Q' : List Turn → Type 0)
     (weaker : (ts : List Turn) → P ts → Q ts) (weaker' : (ts : List Turn) → P' ts → Q' ts)
-    (kind : WorldKind) {R W : Type 0} (reading : Reading R) (writing : Writing W) (r r' : R) (w mid w' : W)
-    (begun : Appends (writing.contents w) (writing.contents mid) head) (unfailed : writing.failed mid ≡ writing.failed w) where
+    (kind : WorldKind) {R W : Type 0} (reading : Reading R) (writing : Writing W) (mid : W)
+    (begun : Appends (writing.contents writing.old) (writing.contents mid) head) (unfailed : writing.failed mid ≡ writing.failed writing.old) where
   abbrev whole : List Turn → List ℕ
   whole ts = head ++ text ts
 
   abbrev told_after : (all : List (Result Command Bad)) →
-      IsTold text P all (writing.contents mid) (writing.contents w') → IsTold whole Q all (writing.contents w) (writing.contents w')
+      IsTold text P all (writing.contents mid) (writing.contents writing.new) → IsTold whole Q all (writing.contents writing.old) (writing.contents writing.new)
   told_after all t = record {
     turns = t.turns;
     asked_is = t.asked_is;
     talk = weaker t.turns t.talk;
-    gained = appends_more (writing.contents w) (writing.contents mid) (writing.contents w') head (text t.turns) (whole t.turns) begun t.gained refl;
+    gained = appends_more (writing.contents writing.old) (writing.contents mid) (writing.contents writing.new) head (text t.turns) (whole t.turns) begun t.gained refl;
   }
 
-  end_after : (s : Summary) → PlayedToEnd kind reading r r' writing mid w' text P s → PlayedToEnd kind reading r r' writing w w' whole Q s
+  end_after : (s : Summary) → PlayedToEnd kind reading (writing_from writing mid) text P s → PlayedToEnd kind reading writing whole Q s
   end_after s t = record {
     input = t.input;
     input_is = t.input_is;
@@ -46,12 +46,12 @@ module _ (head : List ℕ) (text : List Turn → List ℕ) (P P' Q Q' : List Tur
     no_write_failed = t.no_write_failed ∙ unfailed;
   }
 
-  ok_after : (result : Result Summary Fault) → IfOk result (λ s. PlayedToEnd kind reading r r' writing mid w' text P s) →
-      IfOk result (λ s. PlayedToEnd kind reading r r' writing w w' whole Q s)
+  ok_after : (result : Result Summary Fault) → IfOk result (λ s. PlayedToEnd kind reading (writing_from writing mid) text P s) →
+      IfOk result (λ s. PlayedToEnd kind reading writing whole Q s)
   ok_after (Ok s) t = end_after s t
   ok_after (Err f) t = tt
 
-  read_after : PlayedToReadFault kind reading r r' writing mid w' text P → PlayedToReadFault kind reading r r' writing w w' whole Q
+  read_after : PlayedToReadFault kind reading (writing_from writing mid) text P → PlayedToReadFault kind reading writing whole Q
   read_after t = record {
     why = t.why;
     got = t.got;
@@ -61,7 +61,7 @@ module _ (head : List ℕ) (text : List Turn → List ℕ) (P P' Q Q' : List Tur
     no_write_failed = t.no_write_failed ∙ unfailed;
   }
 
-  write_after : PlayedToWriteFault kind reading r r' writing mid w' text P P' → PlayedToWriteFault kind reading r r' writing w w' whole Q Q'
+  write_after : PlayedToWriteFault kind reading (writing_from writing mid) text P P' → PlayedToWriteFault kind reading writing whole Q Q'
   write_after t = record {
     why = omega (arith, t.why, unfailed);
     input = t.input;
@@ -72,7 +72,7 @@ module _ (head : List ℕ) (text : List Turn → List ℕ) (P P' Q Q' : List Tur
       asked_is = t.told.asked_is;
       talk = weaker t.told.turns t.told.talk;
       whole = weaker' (t.told.turns ++ t.told.others) t.told.whole;
-      part = part_after (writing.contents w) (writing.contents mid) (writing.contents w') head (text t.told.turns) (whole t.told.turns) begun refl t.told.part;
+      part = part_after (writing.contents writing.old) (writing.contents mid) (writing.contents writing.new) head (text t.told.turns) (whole t.told.turns) begun refl t.told.part;
     };
     got = t.got;
     left = t.left;
@@ -82,7 +82,7 @@ module _ (head : List ℕ) (text : List Turn → List ℕ) (P P' Q Q' : List Tur
   }
 
   pub played_after : (result : Result Summary Fault) → (result ≡ Err Memory → mid ≡ w) →
-      IsPlayed text P P' kind reading writing r r' mid w' result → IsPlayed whole Q Q' kind reading writing r r' w w' result
+      IsPlayed text P P' kind reading (writing_from writing mid) result → IsPlayed whole Q Q' kind reading writing result
   played_after result same t = record {
     ok = ok_after result t.ok;
     read_fault = λ e. read_after (t.read_fault e);
@@ -93,19 +93,19 @@ module _ (head : List ℕ) (text : List Turn → List ℕ) (P P' Q Q' : List Tur
 
 -- with nothing before it
 pub played_weaker : (text : List Turn → List ℕ) (P P' Q Q' : List Turn → Type 0) → ((ts : List Turn) → P ts → Q ts) → ((ts : List Turn) → P' ts → Q' ts) →
-    (kind : WorldKind) {R W : Type 0} (reading : Reading R) (writing : Writing W) (r r' : R) (w w' : W) (result : Result Summary Fault) →
-    IsPlayed text P P' kind reading writing r r' w w' result → IsPlayed text Q Q' kind reading writing r r' w w' result
-played_weaker text P P' Q Q' weaker weaker' kind reading writing r r' w w' result t =
-    played_after [] text P P' Q Q' weaker weaker' kind reading writing r r' w w w' (appends_none (writing.contents w)) refl result (λ e. refl) t
+    (kind : WorldKind) {R W : Type 0} (reading : Reading R) (writing : Writing W) (result : Result Summary Fault) →
+    IsPlayed text P P' kind reading writing result → IsPlayed text Q Q' kind reading writing result
+played_weaker text P P' Q Q' weaker weaker' kind reading writing result t =
+    played_after [] text P P' Q Q' weaker weaker' kind reading writing writing.old (appends_none (writing.contents writing.old)) refl result (λ e. refl) t
 
 -- where memory was refused nothing is read and nothing written
 pub unplayed : (text : List Turn → List ℕ) (IsTalk MayTalk : List Turn → Type 0) (kind : WorldKind)
-    {R W : Type 0} (reading : Reading R) (writing : Writing W) (r : R) (w : W) →
-    IsPlayed text IsTalk MayTalk kind reading writing r r w w (Err Memory)
-unplayed text IsTalk MayTalk kind reading writing r w = record {
+    {R W : Type 0} (reading : Reading R) (writing : Writing W) → reading.new ≡ reading.old → writing.new ≡ writing.old →
+    IsPlayed text IsTalk MayTalk kind reading writing (Err Memory)
+unplayed text IsTalk MayTalk kind reading writing unread unwritten = record {
   ok = tt;
   read_fault = λ e. (let no_way : ⊥ = cc in absurd no_way);
   write_fault = λ e. (let no_way : ⊥ = cc in absurd no_way);
-  memory = λ e. (refl, refl);
-  reads = omega arith;
+  memory = λ e. (unread, unwritten);
+  reads = rw unread (omega arith);
 }

@@ -10,10 +10,10 @@ use Rattle.player.specs.Turns.{Turn}
 use Rattle.player.specs.Written.{HasPartOf}
 
 -- the header could not be written: a write failed with nothing read, and what went out is a beginning of the header
-pub record StopsAtHeader (config : Config) {R W : Type 0} (writing : Writing W) (r r' : R) (w w' : W) : Type 0 where
-  pub why : writing.failed w < writing.failed w'
-  pub unread : r' ≡ r
-  pub part : HasPartOf (writing.contents w) (writing.contents w') (header_line config)
+pub record StopsAtHeader (config : Config) {R W : Type 0} (reading : Reading R) (writing : Writing W) : Type 0 where
+  pub why : writing.failed writing.old < writing.failed writing.new
+  pub unread : reading.new ≡ reading.old
+  pub part : HasPartOf (writing.contents writing.old) (writing.contents writing.new) (header_line config)
 
 -- how a run ended, without its counts
 abbrev pub end_of : Result Summary Fault → Result (Unit {0}) Fault
@@ -22,7 +22,7 @@ end_of (Err fault) = Err fault
 
 -- such a run was played, and its record is what is written of it; or not even the header could be written, and nothing was said
 abbrev pub IsRecordedOn : Config → (List Turn → Type 0) → (List Turn → Type 0) → {R W : Type 0} →
-    Reading R → Writing W → R → R → W → W → Result (Unit {0}) Fault → Type 0
-IsRecordedOn config IsTalk MayTalk reading writing r r' w w' result =
-    ((played : Result Summary Fault) × (result ≡ end_of played) × IsPlayed (record_of config) IsTalk MayTalk config.world reading writing r r' w w' played)
-    ⊎ ((result ≡ Err Write) × StopsAtHeader config writing r r' w w' × IsTalk [])
+    Reading R → Writing W → Result (Unit {0}) Fault → Type 0
+IsRecordedOn config IsTalk MayTalk reading writing result =
+    ((played : Result Summary Fault) × (result ≡ end_of played) × IsPlayed (record_of config) IsTalk MayTalk config.world reading writing played)
+    ⊎ ((result ≡ Err Write) × StopsAtHeader config reading writing × IsTalk [])

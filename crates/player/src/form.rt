@@ -19,12 +19,7 @@ pub trait Form: Drop {
     ghost text: { Turn → List ℕ };
 
     /// Appends the text of an event that was answered, with this view where the reply shows one.
-    fn put_answered<A: Allocator>(
-        event: Event,
-        reply: Reply<()>,
-        view: &View,
-        out: &mut Replies<A>,
-    )
+    fn put_answered<A: Allocator>(event: Event, reply: Reply<()>, view: &View, out: &mut Replies<A>)
         requires { length out.old + TURN_ROOM ≤ HELD_REPLIES }
         ensures text { out.new ≡ out.old ++ text (Answered (record { event = event; reply = with_view reply view.now })) }
         ensures short { length out.new ≤ length out.old + TURN_ROOM };

@@ -46,7 +46,7 @@ pub fn play_on<H, D: Service<H>, A: Allocator + Clone, R: Source, W: Sink>(
     requires reads { R.calls reader.old < 2 ^ 64 }
     requires writes { W.calls writer.old < 2 ^ 64 }
     ensures played { IsPlayed replies_of (IsRunTo D.may world.old world.new) (CanRun D.may world.old) kind
-        (reading R.remaining R.calls R.failed) (writing W.contents W.failed) reader.old reader.new writer.old writer.new result }
+        (reading R.remaining R.calls R.failed reader.old reader.new) (writing W.contents W.failed writer.old writer.new) result }
     ensures unchanged { result ≡ Err Fault.Memory → world.new ≡ world.old }
 {
     let mut chunk = room_for_a_read(&alloc)?;
@@ -97,7 +97,7 @@ pub(crate) fn run<H, D: Service<H>, A: Allocator, F: Form, R: Source, W: Sink>(
     requires reads { R.calls reader.old < 2 ^ 64 }
     requires writes { W.calls writer.old < 2 ^ 65 }
     ensures played { IsPlayed (flat_map F.text) (IsRunTo D.may world.old world.new) (CanRun D.may world.old) player.old.kind
-        (reading R.remaining R.calls R.failed) (writing W.contents W.failed) reader.old reader.new writer.old writer.new result }
+        (reading R.remaining R.calls R.failed reader.old reader.new) (writing W.contents W.failed writer.old writer.new) result }
     ensures never { result ≢ Err Fault.Memory }
 {
     for reads in 0..MOST_READS {

@@ -31,7 +31,7 @@ pub fn record_on<H, D: Service<H>, A: Allocator + Clone, R: Source, W: Sink>(
     requires reads { R.calls reader.old < 2 ^ 64 }
     requires writes { W.calls writer.old < 2 ^ 64 }
     ensures recorded { IsRecordedOn config (IsRunTo D.may world.old world.new) (CanRun D.may world.old)
-        (reading R.remaining R.calls R.failed) (writing W.contents W.failed) reader.old reader.new writer.old writer.new result }
+        (reading R.remaining R.calls R.failed reader.old reader.new) (writing W.contents W.failed writer.old writer.new) result }
     ensures unchanged { result ≡ Err Fault.Memory → world.new ≡ world.old }
 {
     let mut chunk = room_for_a_read(&alloc)?;

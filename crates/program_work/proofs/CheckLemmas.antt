@@ -21,23 +21,23 @@ of_memory fault at = cc
 not_of_others : (fault other : Fault) → fault ≡ Write → (other ≡ Write → ⊥) → (let o : Result ℕ Fault = Err fault in o ≡ Err other) → ⊥
 not_of_others fault other is differs at = differs (let same : fault ≡ other = cc in sym same ∙ is)
 
-module _ {R W : Type 0} (Tells : List ℕ → Verdict → List ℕ → Type 0) (reading : Reading R) (writing : Writing W) (r r' : R) (reads : reading.calls r' ≤ reading.calls r + MOST_READS) where
+module _ {R W : Type 0} (Tells : List ℕ → Verdict → List ℕ → Type 0) (reading : Reading R) (writing : Writing W) (reads : reading.calls reading.new ≤ reading.calls reading.old + MOST_READS) where
   -- the record was not read to its end, and nothing is written
-  pub unread : (w : W) (result : Result ℕ Fault) (fault : Fault) → result ≡ Err fault → (fault ≡ Read) ⊎ (fault ≡ Memory) → (fault ≡ Read → HasFailedRead reading r r') → (fault ≡ Memory → reading.failed r' ≡ reading.failed r)
-      → IsJudged Tells reading writing r r' w w result
-  unread w result fault is only failed unfailed = subst (λ (o : Result ℕ Fault). IsJudged Tells reading writing r r' w w o) (sym is) (record {
+  pub unread : writing.new ≡ writing.old → (result : Result ℕ Fault) (fault : Fault) → result ≡ Err fault → (fault ≡ Read) ⊎ (fault ≡ Memory) → (fault ≡ Read → HasFailedRead reading) → (fault ≡ Memory → reading.failed reading.new ≡ reading.failed reading.old)
+      → IsJudged Tells reading writing result
+  unread unwritten result fault is only failed unfailed = subst (λ (o : Result ℕ Fault). IsJudged Tells reading writing o) (sym is) (record {
     ok = tt;
     no_write_failed = tt;
     write_fault = λ at. absurd (not_of_write fault only at);
-    read_fault = λ at. (failed (of_read fault at), refl);
-    memory = λ at. (refl, unfailed (of_memory fault at));
+    read_fault = λ at. (failed (of_read fault at), unwritten);
+    memory = λ at. (unwritten, unfailed (of_memory fault at));
     reads = reads;
   })
 
   -- the verdict is not written to its end
-  pub half_told : (w w' : W) (result : Result ℕ Fault) (fault : Fault) → result ≡ Err fault → fault ≡ Write → writing.failed w < writing.failed w' → (v : Verdict)
-      → IsToldOf Tells reading r r' (HasPartOf (writing.contents w) (writing.contents w')) v → IsJudged Tells reading writing r r' w w' result
-  half_told w w' result fault is write failed v told = subst (λ (o : Result ℕ Fault). IsJudged Tells reading writing r r' w w' o) (sym is) (record {
+  pub half_told : (result : Result ℕ Fault) (fault : Fault) → result ≡ Err fault → fault ≡ Write → writing.failed writing.old < writing.failed writing.new → (v : Verdict)
+      → IsToldOf Tells reading (HasPartOf (writing.contents writing.old) (writing.contents writing.new)) v → IsJudged Tells reading writing result
+  half_told result fault is write failed v told = subst (λ (o : Result ℕ Fault). IsJudged Tells reading writing o) (sym is) (record {
     ok = tt;
     no_write_failed = tt;
     write_fault = λ at. (failed, (v, told));

@@ -7,9 +7,9 @@ use Rattle.run_checker.specs.declared.verdict.Verdict.TheVariants.{Yes, No, BadR
 use Rattle.player.specs.Played.{Writing}
 use Rattle.program_work.specs.Checked.{verdict_text, verdict_status, IsRecordText}
 
-module _ {W : Type 0} (writing : Writing W) (bytes : List ℕ) (w w' : W) where
+module _ {W : Type 0} (writing : Writing W) (bytes : List ℕ) where
   -- with another verdict than yes nothing is written
-  pub unwritten : (v : Verdict) → v ≢ Yes → IsMigrated writing bytes w w' (Ok v) → IsVerdict bytes v × (w' ≡ w)
+  pub unwritten : (v : Verdict) → v ≢ Yes → IsMigrated writing bytes (Ok v) → IsVerdict bytes v × (writing.new ≡ writing.old)
   unwritten Yes other h = absurd (other refl)
   unwritten (No number why) other h = h
   unwritten (BadRecord number) other h = h

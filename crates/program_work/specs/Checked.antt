@@ -27,21 +27,21 @@ verdict_status (BadRecord number) = 1
 verdict_status NoMemory = 1
 
 -- the reader gave all of this to its end, and no read failed
-pub record IsWhole {R : Type 0} (reading : Reading R) (r r' : R) (input : List ℕ) : Type 0 where
-  pub all : IsInput (reading.remaining r) input
-  pub read : Consumes (reading.remaining r) (reading.remaining r') input
-  pub no_read_failed : reading.failed r' ≡ reading.failed r
+pub record IsWhole {R : Type 0} (reading : Reading R) (input : List ℕ) : Type 0 where
+  pub all : IsInput (reading.remaining reading.old) input
+  pub read : Consumes (reading.remaining reading.old) (reading.remaining reading.new) input
+  pub no_read_failed : reading.failed reading.new ≡ reading.failed reading.old
 
 -- the reader gave all of an input of which this is the verdict, and it says something
-pub record IsJudgedWhole {R : Type 0} (reading : Reading R) (r r' : R) (v : Verdict) : Type 0 where
+pub record IsJudgedWhole {R : Type 0} (reading : Reading R) (v : Verdict) : Type 0 where
   pub input : List ℕ
-  pub whole : IsWhole reading r r' input
+  pub whole : IsWhole reading input
   pub verdict : IsVerdict input v
   pub some : v ≢ NoMemory
 
 -- one read failed, or the limit of reads was reached
-abbrev pub HasFailedRead : {R : Type 0} → Reading R → R → R → Type 0
-HasFailedRead reading r r' = (reading.failed r' ≡ reading.failed r + 1) ⊎ ((reading.calls r' ≡ reading.calls r + MOST_READS) × (reading.failed r' ≡ reading.failed r))
+abbrev pub HasFailedRead : {R : Type 0} → Reading R → Type 0
+HasFailedRead reading = (reading.failed reading.new ≡ reading.failed reading.old + 1) ⊎ ((reading.calls reading.new ≡ reading.calls reading.old + MOST_READS) × (reading.failed reading.new ≡ reading.failed reading.old))
 
 -- what is told of an input with this verdict: its line
 abbrev pub IsVerdictText : List ℕ → Verdict → List ℕ → Type 0
@@ -53,9 +53,9 @@ IsRecordText input Yes text = IsMigratedTo input text
 IsRecordText input v text = text ≡ verdict_text v
 
 -- of the whole input this is the verdict, and what is written of the text that tells of it meets this
-pub record IsToldOf {R : Type 0} (Tells : List ℕ → Verdict → List ℕ → Type 0) (reading : Reading R) (r r' : R) (Wrote : List ℕ → Type 0) (v : Verdict) : Type 0 where
+pub record IsToldOf {R : Type 0} (Tells : List ℕ → Verdict → List ℕ → Type 0) (reading : Reading R) (Wrote : List ℕ → Type 0) (v : Verdict) : Type 0 where
   pub input : List ℕ
-  pub whole : IsWhole reading r r' input
+  pub whole : IsWhole reading input
   pub verdict : IsVerdict input v
   pub some : v ≢ NoMemory
   pub text : List ℕ
@@ -64,18 +64,18 @@ pub record IsToldOf {R : Type 0} (Tells : List ℕ → Verdict → List ℕ → 
 
 -- a record is read to its end and judged, and the text that tells of it is written: with the status of its verdict; at a write
 -- fault a beginning of it; and nothing where a read failed, or where none did and memory was refused
-pub record IsJudged {R W : Type 0} (Tells : List ℕ → Verdict → List ℕ → Type 0) (reading : Reading R) (writing : Writing W) (r r' : R) (w w' : W) (result : Result ℕ Fault) : Type 0 where
-  pub ok : IfOk result (λ status. (v : Verdict) × (status ≡ verdict_status v) × IsToldOf Tells reading r r' (Appends (writing.contents w) (writing.contents w')) v)
-  pub no_write_failed : IfOk result (λ status. writing.failed w' ≡ writing.failed w)
-  pub write_fault : result ≡ Err Write → (writing.failed w < writing.failed w') × ((v : Verdict) × IsToldOf Tells reading r r' (HasPartOf (writing.contents w) (writing.contents w')) v)
-  pub read_fault : result ≡ Err Read → HasFailedRead reading r r' × (w' ≡ w)
-  pub memory : result ≡ Err Memory → (w' ≡ w) × (reading.failed r' ≡ reading.failed r)
-  pub reads : reading.calls r' ≤ reading.calls r + MOST_READS
+pub record IsJudged {R W : Type 0} (Tells : List ℕ → Verdict → List ℕ → Type 0) (reading : Reading R) (writing : Writing W) (result : Result ℕ Fault) : Type 0 where
+  pub ok : IfOk result (λ status. (v : Verdict) × (status ≡ verdict_status v) × IsToldOf Tells reading (Appends (writing.contents writing.old) (writing.contents writing.new)) v)
+  pub no_write_failed : IfOk result (λ status. writing.failed writing.new ≡ writing.failed writing.old)
+  pub write_fault : result ≡ Err Write → (writing.failed writing.old < writing.failed writing.new) × ((v : Verdict) × IsToldOf Tells reading (HasPartOf (writing.contents writing.old) (writing.contents writing.new)) v)
+  pub read_fault : result ≡ Err Read → HasFailedRead reading × (writing.new ≡ writing.old)
+  pub memory : result ≡ Err Memory → (writing.new ≡ writing.old) × (reading.failed reading.new ≡ reading.failed reading.old)
+  pub reads : reading.calls reading.new ≤ reading.calls reading.old + MOST_READS
 
 -- a record is checked: its verdict is written
-abbrev pub IsChecked : {R W : Type 0} → Reading R → Writing W → R → R → W → W → Result ℕ Fault → Type 0
-IsChecked reading writing r r' w w' result = IsJudged IsVerdictText reading writing r r' w w' result
+abbrev pub IsChecked : {R W : Type 0} → Reading R → Writing W → Result ℕ Fault → Type 0
+IsChecked reading writing result = IsJudged IsVerdictText reading writing result
 
 -- a record is written again in version 2, or its verdict where that is another than yes
-abbrev pub IsRewritten : {R W : Type 0} → Reading R → Writing W → R → R → W → W → Result ℕ Fault → Type 0
-IsRewritten reading writing r r' w w' result = IsJudged IsRecordText reading writing r r' w w' result
+abbrev pub IsRewritten : {R W : Type 0} → Reading R → Writing W → Result ℕ Fault → Type 0
+IsRewritten reading writing result = IsJudged IsRecordText reading writing result

@@ -43,18 +43,18 @@ IsPartDrawn zero d before now = HasPartOf before now (event_lines (schedule d.se
 IsPartDrawn (suc more) d before now = HasDrawnPart d.config d.seed d.ids d.steps d.runs before now
 
 -- a drawing is written: where all of it, with status 0; at a fault, of the writer or for want of memory, a beginning of it
-pub record IsDrawnBy {W : Type 0} (d : Drawing) (writing : Writing W) (w w' : W) (result : Result ℕ Fault) : Type 0 where
-  pub ok : IfOk result (λ status. (status ≡ 0) × IsDrawn d.runs d (Appends (writing.contents w) (writing.contents w')) × (writing.failed w' ≡ writing.failed w))
-  pub write_fault : result ≡ Err Write → IsPartDrawn d.runs d (writing.contents w) (writing.contents w') × (writing.failed w < writing.failed w')
-  pub memory : result ≡ Err Memory → IsPartDrawn d.runs d (writing.contents w) (writing.contents w') × (writing.failed w' ≡ writing.failed w)
+pub record IsDrawnBy {W : Type 0} (d : Drawing) (writing : Writing W) (result : Result ℕ Fault) : Type 0 where
+  pub ok : IfOk result (λ status. (status ≡ 0) × IsDrawn d.runs d (Appends (writing.contents writing.old) (writing.contents writing.new)) × (writing.failed writing.new ≡ writing.failed writing.old))
+  pub write_fault : result ≡ Err Write → IsPartDrawn d.runs d (writing.contents writing.old) (writing.contents writing.new) × (writing.failed writing.old < writing.failed writing.new)
+  pub memory : result ≡ Err Memory → IsPartDrawn d.runs d (writing.contents writing.old) (writing.contents writing.new) × (writing.failed writing.new ≡ writing.failed writing.old)
   pub only : IfErr result (λ fault. (fault ≡ Write) ⊎ (fault ≡ Memory))
 
 -- a config is played, with the theorem of a run whose replies are written, or whose record is
-abbrev pub IsPlayedBy : {R W : Type 0} → Bool → Config → Reading R → Writing W → R → R → W → W → Result ℕ Fault → Type 0
-IsPlayedBy false config reading writing r r' w w' status =
-    (played : Result Summary Fault) × (status ≡ status_after played) × IsPlayed replies_of (IsTalk config) (IsTalk config) config.world reading writing r r' w w' played
-IsPlayedBy true config reading writing r r' w w' status =
-    (recorded : Result (Unit {0}) Fault) × (status ≡ status_after recorded) × IsRecorded config reading writing r r' w w' recorded
+abbrev pub IsPlayedBy : {R W : Type 0} → Bool → Config → Reading R → Writing W → Result ℕ Fault → Type 0
+IsPlayedBy false config reading writing status =
+    (played : Result Summary Fault) × (status ≡ status_after played) × IsPlayed replies_of (IsTalk config) (IsTalk config) config.world reading writing played
+IsPlayedBy true config reading writing status =
+    (recorded : Result (Unit {0}) Fault) × (status ≡ status_after recorded) × IsRecorded config reading writing recorded
 
 -- it is neither to show a record nor to serve nor to host
 abbrev pub is_work : Ask → Bool
@@ -68,34 +68,34 @@ is_work (Host hosting) = false
 
 -- what was asked for, which is neither to show nor to serve nor to host, is done, and answers this status: a run is
 -- played; or a record is checked, or written again; or nothing is read, and a drawing is written
-abbrev pub IsWorked : {R W : Type 0} → Ask → Reading R → Writing W → R → R → W → W → Result ℕ Fault → Type 0
-IsWorked (Play playing) reading writing r r' w w' status = IsPlayedBy playing.recorded playing.config reading writing r r' w w' status
-IsWorked Check reading writing r r' w w' status = IsChecked reading writing r r' w w' status
-IsWorked Migrate reading writing r r' w w' status = IsRewritten reading writing r r' w w' status
-IsWorked (Draw drawing) reading writing r r' w w' status = (r' ≡ r) × IsDrawnBy drawing writing w w' status
-IsWorked (Show showing) reading writing r r' w w' status = ⊥
-IsWorked (Serve serving) reading writing r r' w w' status = ⊥
-IsWorked (Host hosting) reading writing r r' w w' status = ⊥
+abbrev pub IsWorked : {R W : Type 0} → Ask → Reading R → Writing W → Result ℕ Fault → Type 0
+IsWorked (Play playing) reading writing status = IsPlayedBy playing.recorded playing.config reading writing status
+IsWorked Check reading writing status = IsChecked reading writing status
+IsWorked Migrate reading writing status = IsRewritten reading writing status
+IsWorked (Draw drawing) reading writing status = (reading.new ≡ reading.old) × IsDrawnBy drawing writing status
+IsWorked (Show showing) reading writing status = ⊥
+IsWorked (Serve serving) reading writing status = ⊥
+IsWorked (Host hosting) reading writing status = ⊥
 
 -- it is done so, and this is the outcome
-abbrev pub HasWorked : {R W : Type 0} → Ask → Reading R → Writing W → R → R → W → W → Result Outcome Failure → Type 0
-HasWorked ask reading writing r r' w w' result = (status : Result ℕ Fault) × (result ≡ outcome_of status) × IsWorked ask reading writing r r' w w' status
+abbrev pub HasWorked : {R W : Type 0} → Ask → Reading R → Writing W → Result Outcome Failure → Type 0
+HasWorked ask reading writing result = (status : Result ℕ Fault) × (result ≡ outcome_of status) × IsWorked ask reading writing status
 
 -- a record is shown, and this is the outcome
-abbrev pub HasShown : {R W : Type 0} → Showing → Reading R → Writing W → R → R → W → W → Result Outcome Failure → Type 0
-HasShown showing reading writing r r' w w' result = (shown : Result Verdict Fault) × (result ≡ outcome_shown shown) × IsShownFor (stretch_asked showing) reading writing r r' w w' shown
+abbrev pub HasShown : {R W : Type 0} → Showing → Reading R → Writing W → Result Outcome Failure → Type 0
+HasShown showing reading writing result = (shown : Result Verdict Fault) × (result ≡ outcome_shown shown) × IsShownFor (stretch_asked showing) reading writing shown
 
 -- to serve and to host is left, with nothing read or written
-abbrev pub IsDoneFor : {R W : Type 0} → Ask → Reading R → Writing W → R → R → W → W → Result Outcome Failure → Type 0
-IsDoneFor (Play config) reading writing r r' w w' result = HasWorked (Play config) reading writing r r' w w' result
-IsDoneFor Check reading writing r r' w w' result = HasWorked Check reading writing r r' w w' result
-IsDoneFor Migrate reading writing r r' w w' result = HasWorked Migrate reading writing r r' w w' result
-IsDoneFor (Show showing) reading writing r r' w w' result = HasShown showing reading writing r r' w w' result
-IsDoneFor (Draw drawing) reading writing r r' w w' result = HasWorked (Draw drawing) reading writing r r' w w' result
-IsDoneFor (Serve serving) reading writing r r' w w' result = (result ≡ Ok (outcome.Serve serving)) × (r' ≡ r) × (w' ≡ w)
-IsDoneFor (Host hosting) reading writing r r' w w' result = (result ≡ Ok (outcome.Host hosting)) × (r' ≡ r) × (w' ≡ w)
+abbrev pub IsDoneFor : {R W : Type 0} → Ask → Reading R → Writing W → Result Outcome Failure → Type 0
+IsDoneFor (Play config) reading writing result = HasWorked (Play config) reading writing result
+IsDoneFor Check reading writing result = HasWorked Check reading writing result
+IsDoneFor Migrate reading writing result = HasWorked Migrate reading writing result
+IsDoneFor (Show showing) reading writing result = HasShown showing reading writing result
+IsDoneFor (Draw drawing) reading writing result = HasWorked (Draw drawing) reading writing result
+IsDoneFor (Serve serving) reading writing result = (result ≡ Ok (outcome.Serve serving)) × (reading.new ≡ reading.old) × (writing.new ≡ writing.old)
+IsDoneFor (Host hosting) reading writing result = (result ≡ Ok (outcome.Host hosting)) × (reading.new ≡ reading.old) × (writing.new ≡ writing.old)
 
 -- where the words ask for nothing that is done, nothing is read or written; what they ask for is done
-abbrev pub IsDone : {R W : Type 0} → Reading R → Writing W → R → R → W → W → Result Ask Misuse → Result Outcome Failure → Type 0
-IsDone reading writing r r' w w' (Err misuse) result = (result ≡ Err (failure.Misuse misuse)) × (r' ≡ r) × (w' ≡ w)
-IsDone reading writing r r' w w' (Ok ask) result = IsDoneFor ask reading writing r r' w w' result
+abbrev pub IsDone : {R W : Type 0} → Reading R → Writing W → Result Ask Misuse → Result Outcome Failure → Type 0
+IsDone reading writing (Err misuse) result = (result ≡ Err (failure.Misuse misuse)) × (reading.new ≡ reading.old) × (writing.new ≡ writing.old)
+IsDone reading writing (Ok ask) result = IsDoneFor ask reading writing result

@@ -21,12 +21,12 @@ stretch_asked s = record { from = s.from; count = s.count }
 
 -- a record is read to its end and shown: its verdict, with its page written where that is yes and nothing elsewhere; at a write fault
 -- a beginning of its page; and nothing where a read failed, or where none did and memory was refused
-pub record IsShownFor (s : Stretch) {R W : Type 0} (reading : Reading R) (writing : Writing W) (r r' : R) (w w' : W) (result : Result Verdict Fault) : Type 0 where
-  pub ok : IfOk result (λ v. (input : List ℕ) × IsWhole reading r r' input × IsShown writing input s w w' (Ok v))
-  pub write_fault : result ≡ Err Write → (input : List ℕ) × IsWhole reading r r' input × IsShown writing input s w w' (Err Write)
-  pub read_fault : result ≡ Err Read → HasFailedRead reading r r' × (w' ≡ w)
-  pub memory : result ≡ Err Memory → (w' ≡ w) × (reading.failed r' ≡ reading.failed r)
-  pub reads : reading.calls r' ≤ reading.calls r + MOST_READS
+pub record IsShownFor (s : Stretch) {R W : Type 0} (reading : Reading R) (writing : Writing W) (result : Result Verdict Fault) : Type 0 where
+  pub ok : IfOk result (λ v. (input : List ℕ) × IsWhole reading input × IsShown writing input s (Ok v))
+  pub write_fault : result ≡ Err Write → (input : List ℕ) × IsWhole reading input × IsShown writing input s (Err Write)
+  pub read_fault : result ≡ Err Read → HasFailedRead reading × (writing.new ≡ writing.old)
+  pub memory : result ≡ Err Memory → (writing.new ≡ writing.old) × (reading.failed reading.new ≡ reading.failed reading.old)
+  pub reads : reading.calls reading.new ≤ reading.calls reading.old + MOST_READS
 
 -- a page that is written is done, with status 0; another verdict is told, as is a fault
 abbrev pub outcome_shown : Result Verdict Fault → Result Outcome Failure

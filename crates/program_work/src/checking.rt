@@ -18,8 +18,8 @@ pub fn read_whole<R: Source>(
 ) -> Result<Vec<u8>, Fault>
     requires reads { R.calls reader.old < 2 ^ 64 }
     requires chunk { length chunk.old ≡ READ_BYTES }
-    ensures whole { IfOk result (λ bytes. IsWhole (reading R.remaining R.calls R.failed) reader.old reader.new bytes.items) }
-    ensures read_fault { result ≡ Err Fault.Read → HasFailedRead (reading R.remaining R.calls R.failed) reader.old reader.new }
+    ensures whole { IfOk result (λ bytes. IsWhole (reading R.remaining R.calls R.failed reader.old reader.new) bytes.items) }
+    ensures read_fault { result ≡ Err Fault.Read → HasFailedRead (reading R.remaining R.calls R.failed reader.old reader.new) }
     ensures memory { result ≡ Err Fault.Memory → R.failed reader.new ≡ R.failed reader.old }
     ensures only { IfErr result (λ fault. (fault ≡ Fault.Read) ⊎ (fault ≡ Fault.Memory)) }
     ensures reads { R.calls reader.new ≤ R.calls reader.old + MOST_READS }
@@ -50,8 +50,8 @@ pub fn judge_whole<R: Source>(
 ) -> Result<Verdict, Fault>
     requires reads { R.calls reader.old < 2 ^ 64 }
     requires chunk { length chunk.old ≡ READ_BYTES }
-    ensures judged { IfOk result (λ v. IsJudgedWhole (reading R.remaining R.calls R.failed) reader.old reader.new v) }
-    ensures read_fault { result ≡ Err Fault.Read → HasFailedRead (reading R.remaining R.calls R.failed) reader.old reader.new }
+    ensures judged { IfOk result (λ v. IsJudgedWhole (reading R.remaining R.calls R.failed reader.old reader.new) v) }
+    ensures read_fault { result ≡ Err Fault.Read → HasFailedRead (reading R.remaining R.calls R.failed reader.old reader.new) }
     ensures memory { result ≡ Err Fault.Memory → R.failed reader.new ≡ R.failed reader.old }
     ensures only { IfErr result (λ fault. (fault ≡ Fault.Read) ⊎ (fault ≡ Fault.Memory)) }
     ensures reads { R.calls reader.new ≤ R.calls reader.old + MOST_READS }
@@ -118,7 +118,7 @@ pub fn check_for<R: Source, W: Sink>(
 ) -> Result<u8, Fault>
     requires reads { R.calls reader.old < 2 ^ 64 }
     requires writes { W.calls writer.old < 2 ^ 64 }
-    ensures { IsChecked (reading R.remaining R.calls R.failed) (writing W.contents W.failed) reader.old reader.new writer.old writer.new result }
+    ensures { IsChecked (reading R.remaining R.calls R.failed reader.old reader.new) (writing W.contents W.failed writer.old writer.new) result }
 {
     let Ok(mut line) = Replies::new(alloc) else {
         return Err(Fault::Memory);

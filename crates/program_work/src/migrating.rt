@@ -22,7 +22,7 @@ pub fn migrate_for<R: Source, W: Sink>(
 ) -> Result<u8, Fault>
     requires reads { R.calls reader.old < 2 ^ 64 }
     requires writes { W.calls writer.old < 2 ^ 64 }
-    ensures { IsRewritten (reading R.remaining R.calls R.failed) (writing W.contents W.failed) reader.old reader.new writer.old writer.new result }
+    ensures { IsRewritten (reading R.remaining R.calls R.failed reader.old reader.new) (writing W.contents W.failed writer.old writer.new) result }
 {
     let Ok(mut line) = Replies::new(alloc) else {
         return Err(Fault::Memory);

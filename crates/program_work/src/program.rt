@@ -50,7 +50,7 @@ pub fn done<'a, T: Threads + Sync, S: AsStr, R: Source, W: Sink>(
     requires reads { R.calls input.old < 2 ^ 64 }
     requires writes { W.calls output.old < 2 ^ 64 }
     ensures { (asked : Result Ask Misuse) × IsRead (map S.text words.now) asked
-        × IsDone (reading R.remaining R.calls R.failed) (writing W.contents W.failed) input.old input.new output.old output.new asked result }
+        × IsDone (reading R.remaining R.calls R.failed input.old input.new) (writing W.contents W.failed output.old output.new) asked result }
 {
     let asked = match ask(alloc, words) {
         Ok(asked) => asked,

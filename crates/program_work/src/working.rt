@@ -22,7 +22,7 @@ fn draw_for<T: Threads + Sync, W: Sink>(
     writer: &mut W,
 ) -> Result<u8, Fault>
     requires { W.calls writer.old < 2 ^ 64 }
-    ensures { IsDrawnBy drawing (writing W.contents W.failed) writer.old writer.new result }
+    ensures { IsDrawnBy drawing (writing W.contents W.failed writer.old writer.new) result }
 {
     let Drawing {
         seed,
@@ -49,8 +49,8 @@ fn play_for<R: Source, W: Sink, A: Allocator + Clone>(
 ) -> Result<u8, Fault>
     requires reads { R.calls reader.old < 2 ^ 64 }
     requires writes { W.calls writer.old < 2 ^ 64 }
-    ensures { IsPlayedBy playing.recorded playing.config (reading R.remaining R.calls R.failed) (writing W.contents W.failed)
-        reader.old reader.new writer.old writer.new result }
+    ensures { IsPlayedBy playing.recorded playing.config
+        (reading R.remaining R.calls R.failed reader.old reader.new) (writing W.contents W.failed writer.old writer.new) result }
 {
     let Playing { config, recorded } = playing;
     if recorded {
@@ -85,7 +85,7 @@ pub fn work<T: Threads + Sync, R: Source, W: Sink>(
     requires here { is_work ask ≡ true }
     requires reads { R.calls reader.old < 2 ^ 64 }
     requires writes { W.calls writer.old < 2 ^ 64 }
-    ensures { IsWorked ask.entry (reading R.remaining R.calls R.failed) (writing W.contents W.failed) reader.old reader.new writer.old writer.new result }
+    ensures { IsWorked ask.entry (reading R.remaining R.calls R.failed reader.old reader.new) (writing W.contents W.failed writer.old writer.new) result }
 {
     match ask {
         Ask::Play(playing) => play_for(alloc, playing, reader, writer),

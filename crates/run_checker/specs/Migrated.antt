@@ -94,10 +94,10 @@ GainsPart before now bytes = (text : List ℕ) × IsMigratedTo bytes text × Has
 
 -- what `migrate` answers of a record: its verdict, with the text to which it is migrated written where that is Yes, and nothing
 -- written elsewhere; or that a write failed, with a beginning of that text written
-abbrev pub IsMigrated : {W : Type 0} → Writing W → List ℕ → W → W → Result Verdict Fault → Type 0
-IsMigrated writing bytes w w' (Ok Yes) = (writing.failed w' ≡ writing.failed w) × GainsMigrated (writing.contents w) (writing.contents w') bytes
-IsMigrated writing bytes w w' (Ok v) = IsVerdict bytes v × (w' ≡ w)
-IsMigrated writing bytes w w' (Err fault) = (fault ≡ Write) × (writing.failed w < writing.failed w') × GainsPart (writing.contents w) (writing.contents w') bytes
+abbrev pub IsMigrated : {W : Type 0} → Writing W → List ℕ → Result Verdict Fault → Type 0
+IsMigrated writing bytes (Ok Yes) = (writing.failed writing.new ≡ writing.failed writing.old) × GainsMigrated (writing.contents writing.old) (writing.contents writing.new) bytes
+IsMigrated writing bytes (Ok v) = IsVerdict bytes v × (writing.new ≡ writing.old)
+IsMigrated writing bytes (Err fault) = (fault ≡ Write) × (writing.failed writing.old < writing.failed writing.new) × GainsPart (writing.contents writing.old) (writing.contents writing.new) bytes
 
 -- ---- what is gathered of the lines so far
 

@@ -36,13 +36,13 @@ abbrev pub events_in : WorldKind → List ℕ → ℕ
 events_in kind input = events_among (asked_by kind (lines input))
 
 -- `record` has ended, of this input with at most a million events, and these bytes are what the writer has, which had none
-pub record HasRecorded (c : Config) {R W : Type 0} (reading : Reading R) (writing : Writing W) (r r' : R) (w w' : W) (input bytes : List ℕ) : Type 0 where
+pub record HasRecorded (c : Config) {R W : Type 0} (reading : Reading R) (writing : Writing W) (input bytes : List ℕ) : Type 0 where
   pub names : gives_names c.world ≡ true
-  pub ended : IsRecorded c reading writing r r' w w' (Ok tt)
-  pub has : reading.remaining r ≡ Some input
+  pub ended : IsRecorded c reading writing (Ok tt)
+  pub has : reading.remaining reading.old ≡ Some input
   pub few : events_in c.world input ≤ 1000000
-  pub none : writing.contents w ≡ Some []
-  pub now : writing.contents w' ≡ Some bytes
+  pub none : writing.contents writing.old ≡ Some []
+  pub now : writing.contents writing.new ≡ Some bytes
 
 -- the bytes are the record of a talk to the lines of this input
 pub record RecordsTalk (c : Config) (input bytes : List ℕ) : Type 0 where

@@ -62,7 +62,7 @@ pub fn law_of_recorded_talks()
 /// talk to the input's lines; and `check` answers `Yes` to it, or `NoMemory` where a growth was refused.
 pub fn law_of_recording<R: Source, W: Sink>()
     ensures says { (c : Config) (r r' : R) (w w' : W) (input bytes : List ℕ) →
-        HasRecorded c (reading R.remaining R.calls R.failed) (writing W.contents W.failed) r r' w w' input bytes → RecordsTalk c input bytes }
+        HasRecorded c (reading R.remaining R.calls R.failed r r') (writing W.contents W.failed w w') input bytes → RecordsTalk c input bytes }
     ensures yes { (c : Config) (r r' : R) (w w' : W) (input bytes : List ℕ) →
-        HasRecorded c (reading R.remaining R.calls R.failed) (writing W.contents W.failed) r r' w w' input bytes → IsYes bytes }
+        HasRecorded c (reading R.remaining R.calls R.failed r r') (writing W.contents W.failed w w') input bytes → IsYes bytes }
 {}

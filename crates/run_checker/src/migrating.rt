@@ -34,7 +34,7 @@ fn migrated(alloc: Global, bytes: &[u8]) -> Result<Result<Text, Verdict>, AllocE
 /// `Fault::Write` where the writer failed, with a beginning of the text written.
 pub fn migrate<W: Sink>(alloc: Global, bytes: &[u8], writer: &mut W) -> Result<Verdict, Fault>
     requires { W.calls writer.old < 2 ^ 64 }
-    ensures { IsMigrated (writing W.contents W.failed) bytes.now writer.old writer.new result }
+    ensures { IsMigrated (writing W.contents W.failed writer.old writer.new) bytes.now result }
 {
     match migrated(alloc, bytes) {
         Ok(Ok(text)) => {

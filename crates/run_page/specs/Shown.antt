@@ -37,7 +37,7 @@ GainsPart before now bytes s = (text : List ℕ) × IsPage bytes s text × HasPa
 
 -- what `show` answers of a record: its verdict, with the page written where that is Yes, and nothing written elsewhere; or that a
 -- write failed, with a beginning of the page written
-abbrev pub IsShown : {W : Type 0} → Writing W → List ℕ → Stretch → W → W → Result Verdict Fault → Type 0
-IsShown writing bytes s w w' (Ok Yes) = (writing.failed w' ≡ writing.failed w) × GainsPage (writing.contents w) (writing.contents w') bytes s
-IsShown writing bytes s w w' (Ok v) = IsVerdict bytes v × (w' ≡ w)
-IsShown writing bytes s w w' (Err fault) = (fault ≡ Write) × (writing.failed w < writing.failed w') × GainsPart (writing.contents w) (writing.contents w') bytes s
+abbrev pub IsShown : {W : Type 0} → Writing W → List ℕ → Stretch → Result Verdict Fault → Type 0
+IsShown writing bytes s (Ok Yes) = (writing.failed writing.new ≡ writing.failed writing.old) × GainsPage (writing.contents writing.old) (writing.contents writing.new) bytes s
+IsShown writing bytes s (Ok v) = IsVerdict bytes v × (writing.new ≡ writing.old)
+IsShown writing bytes s (Err fault) = (fault ≡ Write) × (writing.failed writing.old < writing.failed writing.new) × GainsPart (writing.contents writing.old) (writing.contents writing.new) bytes s

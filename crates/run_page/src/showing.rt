@@ -44,7 +44,7 @@ pub fn show<W: Sink>(
     writer: &mut W,
 ) -> Result<Verdict, Fault>
     requires { W.calls writer.old < 2 ^ 64 }
-    ensures { IsShown (writing W.contents W.failed) bytes.now stretch writer.old writer.new result }
+    ensures { IsShown (writing W.contents W.failed writer.old writer.new) bytes.now stretch result }
 {
     match shown(alloc, bytes, stretch) {
         Ok(Ok(text)) => {

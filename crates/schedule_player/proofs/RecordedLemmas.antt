@@ -18,16 +18,16 @@ use Rattle.schedule_player.proofs.TalkLemmas.{desk_talk}
 
 module _ (c : Config) {R W : Type 0} (reading : Reading R) (writing : Writing W) where
   -- where memory was refused nothing is recorded
-  pub unrecorded : (r : R) (w : W) (result : Result (Unit {0}) Fault) → result ≡ Err Memory → IsRecorded c reading writing r r w w result
-  unrecorded r w result is = inl (Err Memory, is, unplayed (record_of c) (IsTalk c) (IsTalk c) c.world reading writing r w)
+  pub unrecorded : reading.new ≡ reading.old → writing.new ≡ writing.old → (result : Result (Unit {0}) Fault) → result ≡ Err Memory → IsRecorded c reading writing result
+  unrecorded unread unwritten result is = inl (Err Memory, is, unplayed (record_of c) (IsTalk c) (IsTalk c) c.world reading writing unread unwritten)
 
   -- a fresh desk was played
-  pub recorded : gives_names c.world ≡ true → (start last : DeskValue) → IsFreshDesk c start → (r r' : R) (w w' : W) (result : Result (Unit {0}) Fault) →
-      IsRecordedOn c (IsRunTo DeskWorldMay start last) (CanRun DeskWorldMay start) reading writing r r' w w' result → IsRecorded c reading writing r r' w w' result
-  recorded named start last fresh r r' w w' result (inl t) = inl (
+  pub recorded : gives_names c.world ≡ true → (start last : DeskValue) → IsFreshDesk c start → (result : Result (Unit {0}) Fault) →
+      IsRecordedOn c (IsRunTo DeskWorldMay start last) (CanRun DeskWorldMay start) reading writing result → IsRecorded c reading writing result
+  recorded named start last fresh result (inl t) = inl (
     t.0,
     t.1,
     played_weaker (record_of c) (IsRunTo DeskWorldMay start last) (CanRun DeskWorldMay start) (IsTalk c) (IsTalk c) (λ ts run. desk_talk c c.world named start last ts fresh run)
-        (λ ts run. desk_talk c c.world named start run.0 ts fresh run.1) c.world reading writing r r' w w' t.0 t.2,
+        (λ ts run. desk_talk c c.world named start run.0 ts fresh run.1) c.world reading writing t.0 t.2,
   )
-  recorded named start last fresh r r' w w' result (inr t) = inr (t.0, t.1)
+  recorded named start last fresh result (inr t) = inr (t.0, t.1)

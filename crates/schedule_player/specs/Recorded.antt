@@ -10,7 +10,7 @@ use Rattle.player.specs.Records.{record_of}
 use Rattle.schedule_player.specs.IsTalk.{IsTalk}
 
 -- a run of the config was played, and its record is what is written of it; or not even the header could be written
-abbrev pub IsRecorded : Config → {R W : Type 0} → Reading R → Writing W → R → R → W → W → Result (Unit {0}) Fault → Type 0
-IsRecorded config reading writing r r' w w' result =
-    ((played : Result Summary Fault) × (result ≡ end_of played) × IsPlayed (record_of config) (IsTalk config) (IsTalk config) config.world reading writing r r' w w' played)
-    ⊎ ((result ≡ Err Write) × StopsAtHeader config writing r r' w w')
+abbrev pub IsRecorded : Config → {R W : Type 0} → Reading R → Writing W → Result (Unit {0}) Fault → Type 0
+IsRecorded config reading writing result =
+    ((played : Result Summary Fault) × (result ≡ end_of played) × IsPlayed (record_of config) (IsTalk config) (IsTalk config) config.world reading writing played)
+    ⊎ ((result ≡ Err Write) × StopsAtHeader config reading writing)

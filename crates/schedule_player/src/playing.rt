@@ -37,13 +37,13 @@ pub fn play<A: Allocator + Clone, R: Source, W: Sink>(
     requires reads { R.calls reader.old < 2 ^ 64 }
     requires writes { W.calls writer.old < 2 ^ 64 }
     ensures talk { IsPlayedIn (IsTalk config) config.world
-        (reading R.remaining R.calls R.failed) (writing W.contents W.failed) reader.old reader.new writer.old writer.new result }
+        (reading R.remaining R.calls R.failed reader.old reader.new) (writing W.contents W.failed writer.old writer.new) result }
     ensures splitter { config.world ≡ WorldKind.Splitter → IsPlayedIn (IsSplitterTalk config) config.world
-        (reading R.remaining R.calls R.failed) (writing W.contents W.failed) reader.old reader.new writer.old writer.new result }
+        (reading R.remaining R.calls R.failed reader.old reader.new) (writing W.contents W.failed writer.old writer.new) result }
     ensures grid { config.world ≡ WorldKind.Grid → IsPlayedIn (IsGridTalk config) config.world
-        (reading R.remaining R.calls R.failed) (writing W.contents W.failed) reader.old reader.new writer.old writer.new result }
+        (reading R.remaining R.calls R.failed reader.old reader.new) (writing W.contents W.failed writer.old writer.new) result }
     ensures names { gives_names config.world ≡ true → IsPlayedIn (IsDeskTalk config) config.world
-        (reading R.remaining R.calls R.failed) (writing W.contents W.failed) reader.old reader.new writer.old writer.new result }
+        (reading R.remaining R.calls R.failed reader.old reader.new) (writing W.contents W.failed writer.old writer.new) result }
 {
     match config.world {
         WorldKind::Splitter => {
@@ -93,10 +93,10 @@ pub fn play_in<D: World<A, H>, H, A: Allocator + Clone, R: Source, W: Sink>(
     requires reads { R.calls reader.old < 2 ^ 64 }
     requires writes { W.calls writer.old < 2 ^ 64 }
     ensures talk { IsPlayedIn (D.TalkIn config) config.world
-        (reading R.remaining R.calls R.failed) (writing W.contents W.failed) reader.old reader.new writer.old writer.new result }
+        (reading R.remaining R.calls R.failed reader.old reader.new) (writing W.contents W.failed writer.old writer.new) result }
     ensures rules { IsPlayed replies_of (IsTalkOf (D.IsRunIn config) config.m (D.fresh config) D.may)
         (IsTalkOf (D.IsRunIn config) config.m (D.fresh config) D.may) config.world
-        (reading R.remaining R.calls R.failed) (writing W.contents W.failed) reader.old reader.new writer.old writer.new result }
+        (reading R.remaining R.calls R.failed reader.old reader.new) (writing W.contents W.failed writer.old writer.new) result }
 {
     play_on(alloc, rt, world, config.world, reader, writer)
 }

@@ -25,7 +25,7 @@ pub fn record<A: Allocator + Clone, R: Source, W: Sink>(
     requires names { gives_names config.world ≡ true }
     requires reads { R.calls reader.old < 2 ^ 64 }
     requires writes { W.calls writer.old < 2 ^ 64 }
-    ensures { IsRecorded config (reading R.remaining R.calls R.failed) (writing W.contents W.failed) reader.old reader.new writer.old writer.new result }
+    ensures { IsRecorded config (reading R.remaining R.calls R.failed reader.old reader.new) (writing W.contents W.failed writer.old writer.new) result }
 {
     let mut world = opened::<Desk<A>, Unshared, A>(&alloc, config)?;
     record_on(alloc, &Unshared, &mut world, config, reader, writer)

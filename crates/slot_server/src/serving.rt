@@ -26,7 +26,7 @@ pub fn serve_one<R, A: Allocator + Clone, I: Source, O: Sink, S: Service<R>>(
     requires reads { I.calls reader.old < 2 ^ 64 }
     requires writes { O.calls writer.old < 2 ^ 64 }
     ensures served { IsPlayed replies_of (IsRunTo S.may service.old service.new) (CanRun S.may service.old) WorldKind.Rename
-        (reading I.remaining I.calls I.failed) (writing O.contents O.failed) reader.old reader.new writer.old writer.new result }
+        (reading I.remaining I.calls I.failed reader.old reader.new) (writing O.contents O.failed writer.old writer.new) result }
     ensures unchanged { result ≡ Err Fault.Memory → service.new ≡ service.old }
 {
     play_on(alloc, rt, service, WorldKind::Rename, reader, writer)

@@ -86,20 +86,20 @@ events_asked (Told n r ∷ ts) = events_asked ts
 events_asked (Ended ∷ ts) = events_asked ts
 events_asked (Misread bad ∷ ts) = events_asked ts
 
-module _ (c : Config) {R W : Type 0} (reading : Reading R) (writing : Writing W) (r r' : R) (w w' : W) (input bytes : List ℕ) (h : HasRecorded c reading writing r r' w w' input bytes) where
-  played_records : (s : Summary) → PlayedToEnd c.world reading r r' writing w w' (record_of c) (IsTalk c) s → RecordsTalk c input bytes
+module _ (c : Config) {R W : Type 0} (reading : Reading R) (writing : Writing W) (input bytes : List ℕ) (h : HasRecorded c reading writing input bytes) where
+  played_records : (s : Summary) → PlayedToEnd c.world reading writing (record_of c) (IsTalk c) s → RecordsTalk c input bytes
   played_records s e =
       let same : input ≡ e.input = subst (λ (o : Option (List ℕ)). IsInput o e.input) h.has e.input_is in
       let told = e.told in
       let gained : bytes ≡ record_of c told.turns =
-      subst (λ (o : Option (List ℕ)). Appends o (Some bytes) (record_of c told.turns)) h.none (subst (λ (o : Option (List ℕ)). Appends (writing.contents w) o (record_of c told.turns)) h.now told.gained) in
+      subst (λ (o : Option (List ℕ)). Appends o (Some bytes) (record_of c told.turns)) h.none (subst (λ (o : Option (List ℕ)). Appends (writing.contents writing.old) o (record_of c told.turns)) h.now told.gained) in
       let asked_is : map asked told.turns ≡ asked_by c.world (lines input) = told.asked_is ∙ ap (λ (x : List ℕ). asked_by c.world (lines x)) (sym same) in
       let many : length (exchanges told.turns) ≡ events_in c.world input = events_asked told.turns ∙ ap events_among asked_is in
       let few = h.few in
       let talk : IsShortTalk c (lines input) told.turns = record { names = h.names; asked_is = asked_is; talk = told.talk; few = omega arith } in
       record { turns = told.turns; talk = talk; record_is = subst (λ (b : List ℕ). IsRecordOf c (exchanges told.turns) b) (sym gained) (talk_record c (lines input) told.turns talk) }
 
-  ended_records : IsRecorded c reading writing r r' w w' (Ok tt) → RecordsTalk c input bytes
+  ended_records : IsRecorded c reading writing (Ok tt) → RecordsTalk c input bytes
   ended_records (inl (Ok s, is, played)) = played_records s played.ok
   ended_records (inl (Err fault, is, played)) = absurd (cc)
   ended_records (inr stops) = absurd (let no = stops.0 in cc)

@@ -30,8 +30,8 @@ loop-reads-init g c = record {
 pub returns-in-Err-clause-played : goal.returns-in-Err-clause-played
 returns-in-Err-clause-played g c =
     let inv = c.loop-reads.invariant in
-    as_read_fault _ _ _ _ (reading g.R.Read.remaining g.R.Source.calls g.R.Source.failed) (writing g.W.Write.contents g.W.Sink.failed) _ _ _ _
-    (to_read_fault g.D.Service.may g.F.Form.text c.args.player.now.kind c.args.world.now c.loop-reads.world (reading g.R.Read.remaining g.R.Source.calls g.R.Source.failed) (writing g.W.Write.contents g.W.Sink.failed) c.args.reader.now c.read_once.new.self c.args.writer.now c.loop-reads.writer inv.bytes
+    as_read_fault _ _ _ _ _ _
+    (to_read_fault g.D.Service.may g.F.Form.text c.args.player.now.kind c.args.world.now c.loop-reads.world (reading g.R.Read.remaining g.R.Source.calls g.R.Source.failed c.args.reader.now c.read_once.new.self) (writing g.W.Write.contents g.W.Sink.failed c.args.writer.now c.loop-reads.writer) inv.bytes
     (consumes_kept (g.R.Read.remaining c.args.reader.now) (g.R.Read.remaining c.loop-reads.reader) (g.R.Read.remaining c.read_once.new.self) inv.bytes inv.came c.in-Err.ensures.bytes)
     c.loop-reads.player (inl (omega (arith, c.in-Err.ensures.failed, inv.no_read_failed))) inv.going inv.stands inv.empty inv.no_write_failed)
     (omega (arith, c.in-Err.ensures.called, inv.reads, c.loop-reads-test.true))
@@ -39,14 +39,14 @@ returns-in-Err-clause-played g c =
 pub returns-clause-played : goal.returns-clause-played
 returns-clause-played g c =
     let inv = c.loop-reads.invariant in
-    as_read_fault _ _ _ _ (reading g.R.Read.remaining g.R.Source.calls g.R.Source.failed) (writing g.W.Write.contents g.W.Sink.failed) _ _ _ _
-    (to_read_fault g.D.Service.may g.F.Form.text c.args.player.now.kind c.args.world.now c.loop-reads.world (reading g.R.Read.remaining g.R.Source.calls g.R.Source.failed) (writing g.W.Write.contents g.W.Sink.failed) c.args.reader.now c.loop-reads.reader c.args.writer.now c.loop-reads.writer inv.bytes inv.came
+    as_read_fault _ _ _ _ _ _
+    (to_read_fault g.D.Service.may g.F.Form.text c.args.player.now.kind c.args.world.now c.loop-reads.world (reading g.R.Read.remaining g.R.Source.calls g.R.Source.failed c.args.reader.now c.loop-reads.reader) (writing g.W.Write.contents g.W.Sink.failed c.args.writer.now c.loop-reads.writer) inv.bytes inv.came
     c.loop-reads.player (inr (omega (arith, inv.reads, c.loop-reads-test.false, c.loop-reads.auto.reads-end), inv.no_read_failed)) inv.going inv.stands inv.empty inv.no_write_failed)
     (omega (arith, inv.reads, c.loop-reads.auto.reads-end))
 
 -- what the last read gave, where no `quit` had come before it
 last_read : (g : _) (c : After-read_once g) (last : List ℕ) → Consumes (g.R.Read.remaining c.loop-reads.reader) (g.R.Read.remaining c.read_once.new.self) last → g.R.Source.calls c.read_once.new.self ≡ g.R.Source.calls c.loop-reads.reader + 1 → length last ≤ READ_BYTES →
-    HasRead c.args.player.now.kind (reading g.R.Read.remaining g.R.Source.calls g.R.Source.failed) c.args.reader.now c.read_once.new.self (c.loop-reads.invariant.bytes ++ last)
+    HasRead c.args.player.now.kind (reading g.R.Read.remaining g.R.Source.calls g.R.Source.failed c.args.reader.now c.read_once.new.self) (c.loop-reads.invariant.bytes ++ last)
 last_read g c last gave once few =
     let inv = c.loop-reads.invariant in
     record {
@@ -68,8 +68,8 @@ returns-then-count-eq0-clause-played g c =
     let read = rw append-nil at (last_read g (goal.at.returns-then-count-eq0-clause-played g c).After-read_once [] none c.in-Ok.ensures.called (omega arith)) in
     let came = rw append-nil at (consumes_more (g.R.Read.remaining c.args.reader.now) (g.R.Read.remaining c.loop-reads.reader) (g.R.Read.remaining c.read_once.new.self) inv.bytes [] inv.came none) in
     let stands = rw inv.kind at (c.in_ok-finish.ensures.ok c.args.world.now (after_bytes c.args.player.now.kind at_start inv.bytes) (g.W.Write.contents c.args.writer.now) inv.stands) in
-    rw c.summary.ensures (as_played _ _ _ _ (reading g.R.Read.remaining g.R.Source.calls g.R.Source.failed) (writing g.W.Write.contents g.W.Sink.failed) _ _ _ _ _
-    (to_end g.D.Service.may g.F.Form.text c.args.player.now.kind c.args.world.now c.finish.new.world (reading g.R.Read.remaining g.R.Source.calls g.R.Source.failed) (writing g.W.Write.contents g.W.Sink.failed) c.args.reader.now c.read_once.new.self c.args.writer.now c.finish.new.writer inv.bytes came
+    rw c.summary.ensures (as_played _ _ _ _ _ _ _
+    (to_end g.D.Service.may g.F.Form.text c.args.player.now.kind c.args.world.now c.finish.new.world (reading g.R.Read.remaining g.R.Source.calls g.R.Source.failed c.args.reader.now c.read_once.new.self) (writing g.W.Write.contents g.W.Sink.failed c.args.writer.now c.finish.new.writer) inv.bytes came
     c.finish.new.self read (c.in-Ok.ensures.bytes.1 c.if-count-eq0.true (omega (arith, c.read_once.auto.buf, c.loop-reads.auto.chunk, c.requires.chunk))) stands c.in_ok-finish.ensures.empty
     (omega (arith, c.in-Ok.ensures.failed, inv.no_read_failed)) (c.in_ok-finish.ensures.unfailed ∙ inv.no_write_failed))
     (omega (arith, c.in-Ok.ensures.called, inv.reads, c.loop-reads-test.true)))
@@ -82,8 +82,8 @@ returns-in_err-finish-clause-played g c =
     let read = rw append-nil at (last_read g (goal.at.returns-in_err-finish-clause-played g c).After-read_once [] none c.in-Ok.ensures.called (omega arith)) in
     let came = rw append-nil at (consumes_more (g.R.Read.remaining c.args.reader.now) (g.R.Read.remaining c.loop-reads.reader) (g.R.Read.remaining c.read_once.new.self) inv.bytes [] inv.came none) in
     let part = rw inv.kind at (c.in_err-finish.ensures.part c.args.world.now (after_bytes c.args.player.now.kind at_start inv.bytes) (g.W.Write.contents c.args.writer.now) inv.stands) in
-    rw (fault.1 ∙ ap Err (fault.2 ∙ c.in_err-finish.ensures.only)) (as_write_fault _ _ _ _ (reading g.R.Read.remaining g.R.Source.calls g.R.Source.failed) (writing g.W.Write.contents g.W.Sink.failed) _ _ _ _
-    (to_write_fault_at_end g.D.Service.may g.F.Form.text c.args.player.now.kind c.args.world.now c.finish.new.world (reading g.R.Read.remaining g.R.Source.calls g.R.Source.failed) (writing g.W.Write.contents g.W.Sink.failed) c.args.reader.now c.read_once.new.self c.args.writer.now c.finish.new.writer inv.bytes came
+    rw (fault.1 ∙ ap Err (fault.2 ∙ c.in_err-finish.ensures.only)) (as_write_fault _ _ _ _ _ _
+    (to_write_fault_at_end g.D.Service.may g.F.Form.text c.args.player.now.kind c.args.world.now c.finish.new.world (reading g.R.Read.remaining g.R.Source.calls g.R.Source.failed c.args.reader.now c.read_once.new.self) (writing g.W.Write.contents g.W.Sink.failed c.args.writer.now c.finish.new.writer) inv.bytes came
     g.D.Service.knows c.requires.knows g.D.Service.answers read (c.in-Ok.ensures.bytes.1 c.if-count-eq0.true (omega (arith, c.read_once.auto.buf, c.loop-reads.auto.chunk, c.requires.chunk))) part
     (omega (arith, c.in_err-finish.ensures.failed, inv.no_write_failed)) (omega (arith, c.in-Ok.ensures.failed, inv.no_read_failed)))
     (omega (arith, c.in-Ok.ensures.called, inv.reads, c.loop-reads-test.true)))
@@ -96,8 +96,8 @@ returns-in_err-feed-clause-played g c =
     let few : length got ≤ READ_BYTES = omega (arith, sym c.in-Ok.ensures.bound.1, c.in-Ok.ensures.bound.0, c.read_once.auto.buf, c.loop-reads.auto.chunk, c.requires.chunk) in
     let read = last_read g (goal.at.returns-in_err-feed-clause-played g c).After-read_once got c.in-Ok.ensures.bytes.0 c.in-Ok.ensures.called few in
     let part = rw inv.kind at (c.in_err-feed.ensures.part c.args.world.now (after_bytes c.args.player.now.kind at_start inv.bytes) (g.W.Write.contents c.args.writer.now) inv.stands) in
-    rw (fault.1 ∙ ap Err (fault.2 ∙ c.in_err-feed.ensures.only)) (as_write_fault _ _ _ _ (reading g.R.Read.remaining g.R.Source.calls g.R.Source.failed) (writing g.W.Write.contents g.W.Sink.failed) _ _ _ _
-    (to_write_fault g.D.Service.may g.F.Form.text c.args.player.now.kind c.args.world.now c.feed.new.world (reading g.R.Read.remaining g.R.Source.calls g.R.Source.failed) (writing g.W.Write.contents g.W.Sink.failed) c.args.reader.now c.read_once.new.self c.args.writer.now c.feed.new.writer (inv.bytes ++ got)
+    rw (fault.1 ∙ ap Err (fault.2 ∙ c.in_err-feed.ensures.only)) (as_write_fault _ _ _ _ _ _
+    (to_write_fault g.D.Service.may g.F.Form.text c.args.player.now.kind c.args.world.now c.feed.new.world (reading g.R.Read.remaining g.R.Source.calls g.R.Source.failed c.args.reader.now c.read_once.new.self) (writing g.W.Write.contents g.W.Sink.failed c.args.writer.now c.feed.new.writer) (inv.bytes ++ got)
     (consumes_more (g.R.Read.remaining c.args.reader.now) (g.R.Read.remaining c.loop-reads.reader) (g.R.Read.remaining c.read_once.new.self) inv.bytes got inv.came c.in-Ok.ensures.bytes.0)
     g.D.Service.knows c.requires.knows g.D.Service.answers read
     (rw (after_bytes-append c.args.player.now.kind at_start inv.bytes got) part)
@@ -117,8 +117,8 @@ returns-then-is_over-clause-played g c =
     let inv = c.loop-reads.invariant in
     let got : List ℕ = take c.in-Ok.count c.read_once.new.buf in
     let few : length got ≤ READ_BYTES = omega (arith, sym c.in-Ok.ensures.bound.1, c.in-Ok.ensures.bound.0, c.read_once.auto.buf, c.loop-reads.auto.chunk, c.requires.chunk) in
-    rw c.summary-then-is_over.ensures (as_played _ _ _ _ (reading g.R.Read.remaining g.R.Source.calls g.R.Source.failed) (writing g.W.Write.contents g.W.Sink.failed) _ _ _ _ _
-    (to_quit g.D.Service.may g.F.Form.text c.args.player.now.kind c.args.world.now c.feed.new.world (reading g.R.Read.remaining g.R.Source.calls g.R.Source.failed) (writing g.W.Write.contents g.W.Sink.failed) c.args.reader.now c.read_once.new.self c.args.writer.now c.feed.new.writer (inv.bytes ++ got)
+    rw c.summary-then-is_over.ensures (as_played _ _ _ _ _ _ _
+    (to_quit g.D.Service.may g.F.Form.text c.args.player.now.kind c.args.world.now c.feed.new.world (reading g.R.Read.remaining g.R.Source.calls g.R.Source.failed c.args.reader.now c.read_once.new.self) (writing g.W.Write.contents g.W.Sink.failed c.args.writer.now c.feed.new.writer) (inv.bytes ++ got)
     (consumes_more (g.R.Read.remaining c.args.reader.now) (g.R.Read.remaining c.loop-reads.reader) (g.R.Read.remaining c.read_once.new.self) inv.bytes got inv.came c.in-Ok.ensures.bytes.0)
     c.feed.new.self (last_read g (goal.at.returns-then-is_over-clause-played g c).After-read_once got c.in-Ok.ensures.bytes.0 c.in-Ok.ensures.called few)
     (let over : c.feed.new.self.over ≡ true = cc in over) (fed g (goal.at.returns-then-is_over-clause-played g c).After-is_over) c.in_ok-feed.ensures.empty

@@ -11,16 +11,16 @@ use Rattle.program_work.proofs.checking.check_for.Goals as goal
 pub returns-in_err-verdict : goal.returns-in_err-verdict
 returns-in_err-verdict g c =
     let fault : c.from_residual.result ≡ Err c.in_err-verdict.field-0.0 = search rules in
-    unread IsVerdictText (reading g.R.Read.remaining g.R.Source.calls g.R.Source.failed) (writing g.W.Write.contents g.W.Sink.failed) c.args.reader.now c.judge_whole.new.reader c.judge_whole.ensures.reads
-    c.args.writer.now c.from_residual.result c.in_err-verdict.field-0.0 fault c.in_err-verdict.ensures.only (λ is. c.in_err-verdict.ensures.read_fault (let same : c.in_err-verdict.field-0.0 ≡ _ = is in cc))
+    unread IsVerdictText (reading g.R.Read.remaining g.R.Source.calls g.R.Source.failed c.args.reader.now c.judge_whole.new.reader) (writing g.W.Write.contents g.W.Sink.failed c.args.writer.now c.args.writer.now) c.judge_whole.ensures.reads
+    refl c.from_residual.result c.in_err-verdict.field-0.0 fault c.in_err-verdict.ensures.only (λ is. c.in_err-verdict.ensures.read_fault (let same : c.in_err-verdict.field-0.0 ≡ _ = is in cc))
     (λ is. c.in_err-verdict.ensures.memory (let same : c.in_err-verdict.field-0.0 ≡ _ = is in cc))
 
 pub returns-in_err-put_all : goal.returns-in_err-put_all
 returns-in_err-put_all g c =
     let fault : c.from_residual-in_err-put_all.result ≡ Err c.in_err-put_all.field-0.0 = search rules in
     let text : c.as_slice.result.now ≡ verdict_text c.in_ok-verdict.verdict = search rules in
-    half_told IsVerdictText (reading g.R.Read.remaining g.R.Source.calls g.R.Source.failed) (writing g.W.Write.contents g.W.Sink.failed) c.args.reader.now c.judge_whole.new.reader c.judge_whole.ensures.reads
-    c.args.writer.now c.put_all.new.writer c.from_residual-in_err-put_all.result c.in_err-put_all.field-0.0 fault c.in_err-put_all.ensures.only c.in_err-put_all.ensures.failed c.in_ok-verdict.verdict
+    half_told IsVerdictText (reading g.R.Read.remaining g.R.Source.calls g.R.Source.failed c.args.reader.now c.judge_whole.new.reader) (writing g.W.Write.contents g.W.Sink.failed c.args.writer.now c.put_all.new.writer) c.judge_whole.ensures.reads
+    c.from_residual-in_err-put_all.result c.in_err-put_all.field-0.0 fault c.in_err-put_all.ensures.only c.in_err-put_all.ensures.failed c.in_ok-verdict.verdict
     (record {
       input = c.in_ok-verdict.ensures.judged.input;
       whole = c.in_ok-verdict.ensures.judged.whole;

@@ -14,17 +14,17 @@ use Rattle.program_work.proofs.migrating.migrate_for.Goals as goal
 pub returns-in_err-bytes : goal.returns-in_err-bytes
 returns-in_err-bytes g c =
     let fault : c.from_residual.result ≡ Err c.in_err-bytes.field-0.0 = search rules in
-    unread IsRecordText (reading g.R.Read.remaining g.R.Source.calls g.R.Source.failed) (writing g.W.Write.contents g.W.Sink.failed) c.args.reader.now c.read_whole.new.reader c.read_whole.ensures.reads
-    c.args.writer.now c.from_residual.result c.in_err-bytes.field-0.0 fault c.in_err-bytes.ensures.only (λ is. c.in_err-bytes.ensures.read_fault (let same : c.in_err-bytes.field-0.0 ≡ _ = is in cc))
+    unread IsRecordText (reading g.R.Read.remaining g.R.Source.calls g.R.Source.failed c.args.reader.now c.read_whole.new.reader) (writing g.W.Write.contents g.W.Sink.failed c.args.writer.now c.args.writer.now) c.read_whole.ensures.reads
+    refl c.from_residual.result c.in_err-bytes.field-0.0 fault c.in_err-bytes.ensures.only (λ is. c.in_err-bytes.ensures.read_fault (let same : c.in_err-bytes.field-0.0 ≡ _ = is in cc))
     (λ is. c.in_err-bytes.ensures.memory (let same : c.in_err-bytes.field-0.0 ≡ _ = is in cc))
 
 pub returns-in_err-verdict : goal.returns-in_err-verdict
 returns-in_err-verdict g c =
-    let writes = writing g.W.Write.contents g.W.Sink.failed in
+    let writes = writing g.W.Write.contents g.W.Sink.failed c.args.writer.now c.migrate.new.writer in
     let fault : c.from_residual-in_err-verdict.result ≡ Err c.in_err-verdict.field-0.0 = search rules in
-    let k = subst (λ (b : List ℕ). IsMigrated writes b c.args.writer.now c.migrate.new.writer (Err c.in_err-verdict.field-0.0)) c.as_slice.ensures.value c.in_err-verdict.ensures in
-    half_told IsRecordText (reading g.R.Read.remaining g.R.Source.calls g.R.Source.failed) writes c.args.reader.now c.read_whole.new.reader c.read_whole.ensures.reads
-    c.args.writer.now c.migrate.new.writer c.from_residual-in_err-verdict.result c.in_err-verdict.field-0.0 fault k.0 k.1 Yes
+    let k = subst (λ (b : List ℕ). IsMigrated writes b (Err c.in_err-verdict.field-0.0)) c.as_slice.ensures.value c.in_err-verdict.ensures in
+    half_told IsRecordText (reading g.R.Read.remaining g.R.Source.calls g.R.Source.failed c.args.reader.now c.read_whole.new.reader) writes c.read_whole.ensures.reads
+    c.from_residual-in_err-verdict.result c.in_err-verdict.field-0.0 fault k.0 k.1 Yes
     (record {
       input = c.in_ok-bytes.bytes.items;
       whole = c.in_ok-bytes.ensures.whole;
@@ -37,10 +37,10 @@ returns-in_err-verdict g c =
 
 pub returns-then-eq : goal.returns-then-eq
 returns-then-eq g c =
-    let writes = writing g.W.Write.contents g.W.Sink.failed in
+    let writes = writing g.W.Write.contents g.W.Sink.failed c.args.writer.now c.migrate.new.writer in
     let yes : c.in_ok-verdict.verdict ≡ Yes = search rules in
-    let k = subst (λ (v : Verdict). IsMigrated writes c.in_ok-bytes.bytes.items c.args.writer.now c.migrate.new.writer (Ok v)) yes
-    (subst (λ (b : List ℕ). IsMigrated writes b c.args.writer.now c.migrate.new.writer (Ok c.in_ok-verdict.verdict)) c.as_slice.ensures.value c.in_ok-verdict.ensures) in
+    let k = subst (λ (v : Verdict). IsMigrated writes c.in_ok-bytes.bytes.items (Ok v)) yes
+    (subst (λ (b : List ℕ). IsMigrated writes b (Ok c.in_ok-verdict.verdict)) c.as_slice.ensures.value c.in_ok-verdict.ensures) in
     record {
       ok = (
         Yes,
@@ -64,32 +64,31 @@ returns-then-eq g c =
 
 pub returns-then-eq-2 : goal.returns-then-eq-2
 returns-then-eq-2 g c =
-    let writes = writing g.W.Write.contents g.W.Sink.failed in
-    let reads = reading g.R.Read.remaining g.R.Source.calls g.R.Source.failed in
+    let writes = writing g.W.Write.contents g.W.Sink.failed c.args.writer.now c.migrate.new.writer in
+    let reads = reading g.R.Read.remaining g.R.Source.calls g.R.Source.failed c.args.reader.now c.read_whole.new.reader in
     let other : c.in_ok-verdict.verdict ≢ Yes = search rules in
-    let k = unwritten writes c.as_slice.result.now c.args.writer.now c.migrate.new.writer c.in_ok-verdict.verdict other c.in_ok-verdict.ensures in
-    subst (λ w. IsJudged IsRecordText reads writes c.args.reader.now c.read_whole.new.reader c.args.writer.now w (Err Memory)) (sym k.1)
-    (unread IsRecordText reads writes c.args.reader.now c.read_whole.new.reader c.read_whole.ensures.reads c.args.writer.now (Err Memory) Memory refl (inr refl) (λ e. absurd cc) (λ e. c.in_ok-bytes.ensures.whole.no_read_failed))
+    let k = unwritten writes c.as_slice.result.now c.in_ok-verdict.verdict other c.in_ok-verdict.ensures in
+    unread IsRecordText reads writes c.read_whole.ensures.reads k.1 (Err Memory) Memory refl (inr refl) (λ e. absurd cc) (λ e. c.in_ok-bytes.ensures.whole.no_read_failed)
 
 pub put_all-requires : goal.put_all-requires
 put_all-requires g c =
-    let writes = writing g.W.Write.contents g.W.Sink.failed in
+    let writes = writing g.W.Write.contents g.W.Sink.failed c.args.writer.now c.migrate.new.writer in
     let other : c.in_ok-verdict.verdict ≢ Yes = search rules in
-    let k = unwritten writes c.as_slice.result.now c.args.writer.now c.migrate.new.writer c.in_ok-verdict.verdict other c.in_ok-verdict.ensures in
+    let k = unwritten writes c.as_slice.result.now c.in_ok-verdict.verdict other c.in_ok-verdict.ensures in
     let room : g.W.Sink.calls c.args.writer.now + length c.as_slice-2.result.now ≤ 2 ^ 100 = search rules in
     record { room = subst (λ w. g.W.Sink.calls w + length c.as_slice-2.result.now ≤ 2 ^ 100) (sym k.1) room }
 
 pub returns-in_err-put_all : goal.returns-in_err-put_all
 returns-in_err-put_all g c =
-    let writes = writing g.W.Write.contents g.W.Sink.failed in
+    let writes = writing g.W.Write.contents g.W.Sink.failed c.args.writer.now c.migrate.new.writer in
     let fault : c.from_residual-in_err-put_all.result ≡ Err c.in_err-put_all.field-0.0 = search rules in
     let other : c.in_ok-verdict.verdict ≢ Yes = search rules in
     let some : c.in_ok-verdict.verdict ≢ NoMemory = search rules in
     let text : c.as_slice-2.result.now ≡ verdict_text c.in_ok-verdict.verdict = search rules in
-    let k = unwritten writes c.in_ok-bytes.bytes.items c.args.writer.now c.migrate.new.writer c.in_ok-verdict.verdict other
-    (subst (λ (b : List ℕ). IsMigrated writes b c.args.writer.now c.migrate.new.writer (Ok c.in_ok-verdict.verdict)) c.as_slice.ensures.value c.in_ok-verdict.ensures) in
-    half_told IsRecordText (reading g.R.Read.remaining g.R.Source.calls g.R.Source.failed) writes c.args.reader.now c.read_whole.new.reader c.read_whole.ensures.reads
-    c.args.writer.now c.put_all.new.writer c.from_residual-in_err-put_all.result c.in_err-put_all.field-0.0 fault c.in_err-put_all.ensures.only
+    let k = unwritten writes c.in_ok-bytes.bytes.items c.in_ok-verdict.verdict other
+    (subst (λ (b : List ℕ). IsMigrated writes b (Ok c.in_ok-verdict.verdict)) c.as_slice.ensures.value c.in_ok-verdict.ensures) in
+    half_told IsRecordText (reading g.R.Read.remaining g.R.Source.calls g.R.Source.failed c.args.reader.now c.read_whole.new.reader) (writing g.W.Write.contents g.W.Sink.failed c.args.writer.now c.put_all.new.writer) c.read_whole.ensures.reads
+    c.from_residual-in_err-put_all.result c.in_err-put_all.field-0.0 fault c.in_err-put_all.ensures.only
     (subst (λ w. g.W.Sink.failed w < g.W.Sink.failed c.put_all.new.writer) k.1 c.in_err-put_all.ensures.failed) c.in_ok-verdict.verdict
     (record {
       input = c.in_ok-bytes.bytes.items;
@@ -104,12 +103,12 @@ returns-in_err-put_all g c =
 
 pub returns : goal.returns
 returns g c =
-    let writes = writing g.W.Write.contents g.W.Sink.failed in
+    let writes = writing g.W.Write.contents g.W.Sink.failed c.args.writer.now c.migrate.new.writer in
     let other : c.in_ok-verdict.verdict ≢ Yes = search rules in
     let some : c.in_ok-verdict.verdict ≢ NoMemory = search rules in
     let text : c.as_slice-2.result.now ≡ verdict_text c.in_ok-verdict.verdict = search rules in
-    let k = unwritten writes c.in_ok-bytes.bytes.items c.args.writer.now c.migrate.new.writer c.in_ok-verdict.verdict other
-    (subst (λ (b : List ℕ). IsMigrated writes b c.args.writer.now c.migrate.new.writer (Ok c.in_ok-verdict.verdict)) c.as_slice.ensures.value c.in_ok-verdict.ensures) in
+    let k = unwritten writes c.in_ok-bytes.bytes.items c.in_ok-verdict.verdict other
+    (subst (λ (b : List ℕ). IsMigrated writes b (Ok c.in_ok-verdict.verdict)) c.as_slice.ensures.value c.in_ok-verdict.ensures) in
     record {
       ok = (
         c.in_ok-verdict.verdict,

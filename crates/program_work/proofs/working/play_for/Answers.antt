@@ -9,7 +9,7 @@ use Rattle.program_work.proofs.working.play_for.Goals as goal
 pub returns-in-Ok-play : goal.returns-in-Ok-play
 returns-in-Ok-play g c =
     let config = c.args.playing.config in
-    let reads = reading g.R.Read.remaining g.R.Source.calls g.R.Source.failed in
-    let writes = writing g.W.Write.contents g.W.Sink.failed in
-    let so : IsPlayedBy false config reads writes c.args.reader.now c.play.new.reader c.args.writer.now c.play.new.writer (Ok 0) = (c.play.result, sym (ap status_after c.in-Ok-play.is), c.play.ensures.talk) in
-    subst (λ (b : Bool). IsPlayedBy b config reads writes c.args.reader.now c.play.new.reader c.args.writer.now c.play.new.writer (Ok 0)) (sym c.if-recorded.false) so
+    let reads = reading g.R.Read.remaining g.R.Source.calls g.R.Source.failed c.args.reader.now c.play.new.reader in
+    let writes = writing g.W.Write.contents g.W.Sink.failed c.args.writer.now c.play.new.writer in
+    let so : IsPlayedBy false config reads writes (Ok 0) = (c.play.result, sym (ap status_after c.in-Ok-play.is), c.play.ensures.talk) in
+    subst (λ (b : Bool). IsPlayedBy b config reads writes (Ok 0)) (sym c.if-recorded.false) so

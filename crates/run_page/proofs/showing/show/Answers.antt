@@ -16,5 +16,5 @@ returns-in_err-put_all-in-Ok-Ok g c =
     let e = c.in_err-put_all-in-Ok-Ok.ensures in
     let fault : c.from_residual.result ≡ Err c.in_err-put_all-in-Ok-Ok.field-0.0 = search rules in
     let made = subst (λ (r : Result (List ℕ) Verdict). MatchResult r (IsPage bytes c.args.stretch) (IsOther (IsSaid (record_lines bytes)))) c.in-Ok-Ok.field-0-is c.in-Ok-Ok.ensures in
-    subst (λ (r : Result Verdict Fault). IsShown (writing g.W.Write.contents g.W.Sink.failed) bytes c.args.stretch c.args.writer.now c.put_all.new.writer r) (sym fault)
+    subst (λ (r : Result Verdict Fault). IsShown (writing g.W.Write.contents g.W.Sink.failed c.args.writer.now c.put_all.new.writer) bytes c.args.stretch r) (sym fault)
     (e.only, e.failed, (c.in-Ok-Ok.text, made, subst (λ (text : List ℕ). HasPartOf (g.W.Write.contents c.args.writer.now) (g.W.Write.contents c.put_all.new.writer) text) c.as_slice.ensures e.err))

@@ -22,7 +22,7 @@ returns-clause-rules g c =
     played_weaker replies_of (IsRunTo may world c.play_on.new.world) (CanRun may world) IsTalk IsTalk
     (λ ts run. talk world c.play_on.new.world ts fresh run)
     (λ ts run. talk world run.0 ts fresh run.1)
-    config.world (reading g.R.Read.remaining g.R.Source.calls g.R.Source.failed) (writing g.W.Write.contents g.W.Sink.failed) c.args.reader.now c.play_on.new.reader c.args.writer.now c.play_on.new.writer
+    config.world (reading g.R.Read.remaining g.R.Source.calls g.R.Source.failed c.args.reader.now c.play_on.new.reader) (writing g.W.Write.contents g.W.Sink.failed c.args.writer.now c.play_on.new.writer)
     c.play_on.result c.play_on.ensures.played
 
 pub returns-clause-talk : goal.returns-clause-talk
@@ -31,5 +31,5 @@ returns-clause-talk g c =
     let IsTalk = IsTalkOf (g.D.World.IsRunIn config) config.m (g.D.World.fresh config) g.D.Service.may in
     let talks = λ (ts : List Turn) (talk : IsTalk ts). g.met.D.World.talks config ts c.requires.serves talk in
     played_weaker replies_of IsTalk IsTalk (g.D.World.TalkIn config) (g.D.World.TalkIn config) talks talks
-    config.world (reading g.R.Read.remaining g.R.Source.calls g.R.Source.failed) (writing g.W.Write.contents g.W.Sink.failed) c.args.reader.now c.play_on.new.reader c.args.writer.now c.play_on.new.writer
+    config.world (reading g.R.Read.remaining g.R.Source.calls g.R.Source.failed c.args.reader.now c.play_on.new.reader) (writing g.W.Write.contents g.W.Sink.failed c.args.writer.now c.play_on.new.writer)
     c.play_on.result (returns-clause-rules g c)

@@ -1,4 +1,4 @@
-use Rattle.std.proofs.Common.{◌∙◌, ap, Err}
+use Rattle.std.proofs.Common.{◌∙◌, ap, refl, Err}
 use Rattle.std.proofs.lemmas.Result.{err_from_is_err_and}
 use Rattle.player.specs.Played.{reading, writing}
 use Rattle.schedule_player.proofs.RecordedLemmas.{unrecorded, recorded}
@@ -7,10 +7,10 @@ use Rattle.schedule_player.proofs.recording.record.Goals as goal
 pub returns-in_err-world : goal.returns-in_err-world
 returns-in_err-world g c =
     let fault = err_from_is_err_and c.from_residual.result c.from_residual.ensures.1 in
-    unrecorded c.args.config (reading g.R.Read.remaining g.R.Source.calls g.R.Source.failed) (writing g.W.Write.contents g.W.Sink.failed) c.args.reader.now c.args.writer.now c.from_residual.result
+    unrecorded c.args.config (reading g.R.Read.remaining g.R.Source.calls g.R.Source.failed c.args.reader.now c.args.reader.now) (writing g.W.Write.contents g.W.Sink.failed c.args.writer.now c.args.writer.now) refl refl c.from_residual.result
     (fault.1 ∙ ap Err (fault.2 ∙ c.in_err-world.ensures.only))
 
 pub returns : goal.returns
 returns g c =
-    recorded c.args.config (reading g.R.Read.remaining g.R.Source.calls g.R.Source.failed) (writing g.W.Write.contents g.W.Sink.failed) c.requires.names _ c.record_on.new.world c.in_ok-world.ensures.fresh
-    c.args.reader.now c.record_on.new.reader c.args.writer.now c.record_on.new.writer c.record_on.result c.record_on.ensures.recorded
+    recorded c.args.config (reading g.R.Read.remaining g.R.Source.calls g.R.Source.failed c.args.reader.now c.record_on.new.reader) (writing g.W.Write.contents g.W.Sink.failed c.args.writer.now c.record_on.new.writer)
+    c.requires.names _ c.record_on.new.world c.in_ok-world.ensures.fresh c.record_on.result c.record_on.ensures.recorded
