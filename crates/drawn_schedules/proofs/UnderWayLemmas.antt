@@ -1,8 +1,9 @@
 -- texts on their way to a writer, piece by piece
-use Rattle.std.proofs.Common.{◌≡◌, ℕ, ◌++◌, List, [], length, take, Option, Some, None, refl, sym, ap, subst, ◌∙◌, append_assoc, length-append, arith}
+use Rattle.std.proofs.Common.{◌≡◌, ℕ, ◌++◌, List, [], length, take, Option, refl, sym, ap, subst, ◌∙◌, append_assoc, length-append, arith}
 use Rattle.std.proofs.lemmas.List.{append-nil}
 use Rattle.std.proofs.Math.Seq.{take-append_seam}
 use Rattle.std.specs.Io.KnownBytes.{Appends}
+use Rattle.std.proofs.KnownBytes.{Appends-nil}
 use Rattle.player.specs.UnderWay.{IsUnderWay, GoesFrom, GoesPast, StopsWithin}
 use Rattle.player.specs.Written.{HasPartOf}
 
@@ -17,13 +18,9 @@ module _ (this : List ℕ) (old : Option (List ℕ)) (held : List ℕ) (mid : Op
   stops one that now a b = λ text rest before way.
       b text (that ++ rest) before (subst (λ (l : List ℕ). IsUnderWay text before mid held' l) (append_assoc one that rest) (a text rest before way))
 
-nothing_gained : (o : Option (List ℕ)) → Appends o o []
-nothing_gained None = tt
-nothing_gained (Some xs) = sym (append-nil xs)
-
 -- at first all of a text is still to come
 pub at_first : (text : List ℕ) (before : Option (List ℕ)) → IsUnderWay text before before [] text
-at_first text before = record { written = []; gained = nothing_gained before; whole = refl }
+at_first text before = record { written = []; gained = Appends-nil before; whole = refl }
 
 -- where nothing is held and nothing is to come, all of it is written
 pub at_last : (text : List ℕ) (before now : Option (List ℕ)) → IsUnderWay text before now [] [] → Appends before now text

@@ -3,16 +3,10 @@ use Rattle.std.proofs.Common.{◌≡◌, inl, inr, ℕ, ◌<◌, false, set, Lis
 use Rattle.std.proofs.lemmas.List.{append-nil, get_or-set_same, get_or-set_other, length-set}
 use Rattle.std.proofs.lemmas.Bool.{cases_eq}
 use Rattle.std.specs.Io.KnownBytes.{Consumes}
+use Rattle.std.proofs.KnownBytes.{Consumes-nil, Consumes-trans}
 use Rattle.event_server.specs.Seats.{Seating, NoneSent}
 use Rattle.event_server.specs.WireState.{WireState}
 use Rattle.event_server.specs.Gathering.{GathersOf, SeatGathers, Gathered}
-use Rattle.event_server.proofs.WireLemmas.{consumes_none}
-
-consumes_more : (old mid new : Option (List ℕ)) (xs ys : List ℕ) → Consumes old mid xs → Consumes mid new ys → Consumes old new (xs ++ ys)
-consumes_more None mid new xs ys a b = tt
-consumes_more (Some o) None new xs ys a b = absurd a
-consumes_more (Some o) (Some m) None xs ys a b = absurd b
-consumes_more (Some o) (Some m) (Some n) xs ys a b = a ∙ ap (λ t. xs ++ t) b ∙ sym (append_assoc xs ys n)
 
 -- these bytes came, and wait where it is at no fault
 pub gathers : (left left' : Option (List ℕ)) (came : List ℕ) (s s' : WireState) → Consumes left left' came → s'.talker ≡ s.talker → s'.outbox ≡ s.outbox → s'.ended ≡ s.ended →
@@ -27,7 +21,7 @@ gathers_none left left' s s' gave talker outbox ended kept = gathers left left' 
 pub gathers_more : (left mid left' : Option (List ℕ)) (s m s' : WireState) → GathersOf left s mid m → GathersOf mid m left' s' → GathersOf left s left' s'
 gathers_more left mid left' s m s' a b = record {
   came = a.came ++ b.came;
-  gave = consumes_more left mid left' a.came b.came a.gave b.gave;
+  gave = Consumes-trans left mid left' a.came b.came a.gave b.gave;
   talker_is = b.talker_is ∙ a.talker_is;
   outbox_is = b.outbox_is ∙ a.outbox_is;
   ended_is = b.ended_is ∙ a.ended_is;
@@ -40,7 +34,7 @@ gathers_more left mid left' s m s' a b = record {
 module _ {C : Type 0} (on : Seating C) where
   seat_gathers_none : (x : Option C) → SeatGathers on x x
   seat_gathers_none None = tt
-  seat_gathers_none (Some c) = (gathers_none (on.left c) (on.left c) (on.wire c) (on.wire c) (consumes_none (on.left c)) refl refl refl (λ h. (refl, h)), refl)
+  seat_gathers_none (Some c) = (gathers_none (on.left c) (on.left c) (on.wire c) (on.wire c) (Consumes-nil (on.left c)) refl refl refl (λ h. (refl, h)), refl)
 
   seat_gathers_more : (x y z : Option C) → SeatGathers on x y → SeatGathers on y z → SeatGathers on x z
   seat_gathers_more None None None a b = tt

@@ -1,21 +1,13 @@
 -- the lines of what is looked at, one after another
 use Rattle.std.proofs.Common.{◌≡◌, ℕ, zero, suc, ◌+◌, ◌-◌, ◌<◌, ◌==◌, ◌&&◌, cond, not, Bool, true, false, List, [], ◌∷◌, ◌++◌, length, take, drop, get_or, Some, None, refl, sym, ap, subst, ◌∙◌, arith, append_assoc}
 use Rattle.std.proofs.lemmas.List.{append-nil, length-drop, take_more, take_all, take-append-drop}
-use Rattle.std.proofs.lemmas.Bool.{eqb-true}
+use Rattle.std.proofs.lemmas.Bool.{eqb-true, and_parts, not-true}
 use Rattle.std.proofs.Math.Seq.{take-add}
 use Rattle.commands.specs.declared.kind.WorldKind.{WorldKind}
 use Rattle.memchr.specs.Find.{IsFirstByte, Nowhere, Passes, is_byte}
 use Rattle.player.specs.Lines.{has_no_lf, lines, rest_from, rest_of, unless_empty, whole_lines, whole_lines_from, with_ends}
 use Rattle.player.specs.Meaning.{meaning}
 use Rattle.event_server.specs.Told.{is_request, requests, behind, requests_in, HasLooked}
-
-both : (a b : Bool) → (a && b) ≡ true → (a ≡ true) × (b ≡ true)
-both true b h = (refl, h)
-both false b h = absurd cc
-
-is_not : (b : Bool) → not b ≡ true → b ≡ false
-is_not true h = absurd cc
-is_not false h = refl
 
 pub none_before : (bytes : List ℕ) (n : ℕ) → Nowhere (Passes (is_byte 10) bytes) 0 n → has_no_lf (take n bytes) ≡ true
 none_before bytes zero h = refl
@@ -49,14 +41,14 @@ rest_append l (b ∷ bs) ys =
 whole_none : (l ys : List ℕ) → has_no_lf ys ≡ true → whole_lines_from l ys ≡ []
 whole_none l [] h = refl
 whole_none l (b ∷ bs) h =
-    let parts = both (not (b == 10)) (has_no_lf bs) h in
-    rw (is_not (b == 10) parts.0) (whole_none (l ++ b ∷ []) bs parts.1)
+    let parts = and_parts (not (b == 10)) (has_no_lf bs) h in
+    rw (not-true (b == 10) parts.0) (whole_none (l ++ b ∷ []) bs parts.1)
 
 rest_none : (l ys : List ℕ) → has_no_lf ys ≡ true → rest_from l ys ≡ l ++ ys
 rest_none l [] h = sym (append-nil l)
 rest_none l (b ∷ bs) h =
-    let parts = both (not (b == 10)) (has_no_lf bs) h in
-    rw (is_not (b == 10) parts.0) (rest_none (l ++ b ∷ []) bs parts.1 ∙ append_assoc l (b ∷ []) bs)
+    let parts = and_parts (not (b == 10)) (has_no_lf bs) h in
+    rw (not-true (b == 10) parts.0) (rest_none (l ++ b ∷ []) bs parts.1 ∙ append_assoc l (b ∷ []) bs)
 
 -- and with one behind them they are one
 whole_one : (ys : List ℕ) → has_no_lf ys ≡ true → whole_lines_from [] (ys ++ 10 ∷ []) ≡ ys ∷ []

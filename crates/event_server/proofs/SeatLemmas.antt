@@ -3,6 +3,7 @@ use Rattle.std.proofs.Common.{◌≡◌, inl, inr, ℕ, ◌<◌, set, List, [], 
 use Rattle.std.proofs.lemmas.List.{append-nil, get_or-set_same, get_or-set_other, length-set}
 use Rattle.std.proofs.lemmas.Bool.{cases_eq, eq-eqb, ne_eqb}
 use Rattle.std.specs.Io.KnownBytes.{Appends}
+use Rattle.std.proofs.KnownBytes.{Consumes-nil, Appends-nil}
 use Rattle.commands.specs.Replies.{ShownReply}
 use Rattle.commands.specs.Requests.{Request}
 use Rattle.player.specs.Runs.{Runs}
@@ -12,19 +13,15 @@ use Rattle.player.specs.SharedProofs.{all-append, all-tagged, of-append, of-same
 use Rattle.player.specs.Turns.{Turn}
 use Rattle.event_server.specs.Seats.{Seating, SeatTakes, SeatSends, SeatTurn, SeatSent, TurnsTaken, RepliesSent}
 use Rattle.event_server.specs.Wires.{TakesOf, SendsTo}
-use Rattle.event_server.proofs.WireLemmas.{takes_none, consumes_none}
+use Rattle.event_server.proofs.WireLemmas.{takes_none}
 
 some_same : {C : Type 0} (c d : C) → Some c ≡ Some d → c ≡ d
 some_same c d e = cc
 
-appends_none : (gone : Option (List ℕ)) → Appends gone gone []
-appends_none None = tt
-appends_none (Some xs) = sym (append-nil xs)
-
 module _ {C : Type 0} (on : Seating C) where
   pub seat_rests : (x : Option C) → SeatTakes on [] x x
   seat_rests None = refl
-  seat_rests (Some c) = (takes_none (on.left c) (on.left c) (on.wire c) (on.wire c) (consumes_none (on.left c)) refl refl refl (λ h. (refl, refl, h)), refl)
+  seat_rests (Some c) = (takes_none (on.left c) (on.left c) (on.wire c) (on.wire c) (Consumes-nil (on.left c)) refl refl refl (λ h. (refl, refl, h)), refl)
 
   -- one connection has its turn where it sits
   pub seat_took : {T : Type 0} (may : T → Request → ShownReply → T → Type 0) (Due : C → Type 0) (key : ℕ) (w : T) (seats : List (Option C)) (u : T) (was is : C) → key < length seats → get_or seats key None ≡ Some was → Due was → (Due is → ⊥) →
@@ -92,7 +89,7 @@ module _ {C : Type 0} (on : Seating C) where
 
   pub seat_keeps : (x : Option C) → SeatSends on x x
   seat_keeps None = tt
-  seat_keeps (Some c) = (record { sent = []; gained = appends_none (on.gone c); parts = refl; talker_is = refl; inbox_is = refl; ended_is = refl; whole = λ h. h }, refl)
+  seat_keeps (Some c) = (record { sent = []; gained = Appends-nil (on.gone c); parts = refl; talker_is = refl; inbox_is = refl; ended_is = refl; whole = λ h. h }, refl)
 
   module _ (Due : C → Type 0) (seats : List (Option C)) where
     -- so far, where whoever has still to send has sent nothing

@@ -1,7 +1,7 @@
 -- what is told of seats, one after another, and taken of them
 use Rattle.std.proofs.Common.{◌≡◌, ◌⊎◌, inl, inr, ℕ, zero, suc, ◌+◌, ◌<◌, ◌≤◌, ◌==◌, cond, Bool, true, false, set, List, [], ◌∷◌, ◌++◌, length, take, get_or, Option, Some, None, refl, sym, ap, subst, ◌∙◌, arith}
 use Rattle.std.proofs.lemmas.List.{append-nil, get_or-set_same, get_or-set_other, get_or-take, length-set, length-take-le}
-use Rattle.std.proofs.lemmas.Bool.{cases_eq, eq-eqb, ne_eqb}
+use Rattle.std.proofs.lemmas.Bool.{cases_eq, eq-eqb, ne_eqb, cases_Bool}
 use Rattle.commands.specs.declared.kind.WorldKind.{WorldKind}
 use Rattle.commands.specs.Replies.{ShownReply}
 use Rattle.commands.specs.Requests.{Request}
@@ -119,10 +119,6 @@ module _ {C : Type 0} (on : Seating C) (look : C → Option Look) (Due : C → T
       ];
     }
 
-    asks_or_not : (b : Bool) → (b ≡ true) ⊎ (b ≡ false)
-    asks_or_not true = inl refl
-    asks_or_not false = inr refl
-
     -- one that is due was looked at
     pub telling_more : (n : ℕ) (told : SeatLines) (seats seats' : List (Option C)) (more : List (List ℕ)) → SeatLooked on look Due kind (get_or keys n 0) seats seats' more → Telling n told seats →
         Telling (n + 1) (told ++ seat_lines (get_or keys n 0) more) seats'
@@ -136,7 +132,7 @@ module _ {C : Type 0} (on : Seating C) (look : C → Option Look) (Due : C → T
                 (before.0, same_of i key told more other ∙ before.1))
           ];
           known = λ i. elim (cases_eq i key) as (λ _. (lines_of i (told ++ seat_lines key more) ≡ []) ⊎ (IsFirst (n + 1) keys i × SeatAsks look (get_or seats' i None))) [
-            | inl same ↦ elim (asks_or_not (asks_of (look one.is))) as (λ _. (lines_of i (told ++ seat_lines key more) ≡ []) ⊎ (IsFirst (n + 1) keys i × SeatAsks look (get_or seats' i None))) [
+            | inl same ↦ elim (cases_Bool (asks_of (look one.is))) as (λ _. (lines_of i (told ++ seat_lines key more) ≡ []) ⊎ (IsFirst (n + 1) keys i × SeatAsks look (get_or seats' i None))) [
               | inl asks ↦ inr ((n, omega arith, sym same), subst (λ (x : Option C). SeatAsks look x) (sym (ap (λ (k : ℕ). get_or seats' k None) same ∙ one.is_there)) asks)
               | inr not ↦ (let none = one.asks not in
                   elim (so.known i) as (λ _. (lines_of i (told ++ seat_lines key more) ≡ []) ⊎ (IsFirst (n + 1) keys i × SeatAsks look (get_or seats' i None))) [

@@ -2,7 +2,8 @@
 use Rattle.std.proofs.Common.{◌≡◌, ◌≤◌, ℕ, length, true, false, Bool, List, [], ◌∷◌, ◌++◌, ◌||◌, take, drop, Option, Some, None, refl, sym, ap, subst, ◌∙◌, arith, append_assoc}
 use Rattle.std.proofs.lemmas.Grind.{flat_map-append}
 use Rattle.std.proofs.lemmas.List.{append-nil, take-append-drop, take-append-le}
-use Rattle.std.specs.Io.KnownBytes.{Appends, Consumes, IsAtEnd, Keeps}
+use Rattle.std.specs.Io.KnownBytes.{Consumes, IsAtEnd, Keeps}
+use Rattle.std.proofs.KnownBytes.{Consumes-nil}
 use Rattle.commands.specs.Replies.{ShownReply}
 use Rattle.commands.specs.Requests.{Request}
 use Rattle.commands.specs.declared.kind.WorldKind.{WorldKind}
@@ -25,21 +26,10 @@ or_true : (b : Bool) → true ≡ (b || true)
 or_true true = refl
 or_true false = refl
 
-pub consumes_none : (left : Option (List ℕ)) → Consumes left left []
-consumes_none None = tt
-consumes_none (Some xs) = refl
-
 pub consumes_kept : (left left' : Option (List ℕ)) → Keeps left left' → Consumes left left' []
 consumes_kept None left' k = tt
 consumes_kept (Some xs) None k = k
 consumes_kept (Some xs) (Some ys) k = sym k
-
--- one gain and then another
-pub appends_more : (old mid new : Option (List ℕ)) (xs ys zs : List ℕ) → Appends old mid xs → Appends mid new ys → xs ++ ys ≡ zs → Appends old new zs
-appends_more None mid new xs ys zs a b e = tt
-appends_more (Some o) None new xs ys zs a b e = absurd a
-appends_more (Some o) (Some m) None xs ys zs a b e = absurd b
-appends_more (Some o) (Some m) (Some n) xs ys zs a b e = b ∙ ap (λ t. t ++ ys) a ∙ append_assoc o xs ys ∙ ap (λ t. o ++ t) e
 
 -- nothing came and nothing is taken
 pub takes_none : (left left' : Option (List ℕ)) (s s' : WireState) → Consumes left left' [] → s'.talker ≡ s.talker → s'.inbox ≡ s.inbox → s'.ended ≡ s.ended →
@@ -228,7 +218,7 @@ looked_nothing look left s = record {
     came = [];
     ends = false;
     few = omega arith;
-    gave = consumes_none left;
+    gave = Consumes-nil left;
     at_end = λ h. absurd cc;
     takes = record {
       taken = [];
@@ -248,7 +238,7 @@ looked_nothing look left s = record {
 -- its bytes are
 pub looked_first : (turns : List Turn) (look : Look) (left : Option (List ℕ)) (s s' : WireState) → TakesFirst turns look.bytes s s' → TakesLooked turns (Some look) left s left s'
 looked_first turns look left s s' first = record {
-  takes = record { came = []; ends = false; few = omega arith; gave = consumes_none left; at_end = λ h. absurd cc; takes = first.takes };
+  takes = record { came = []; ends = false; few = omega arith; gave = Consumes-nil left; at_end = λ h. absurd cc; takes = first.takes };
   rest = first.rest;
   within = first.within;
   at_end = λ h. absurd cc;

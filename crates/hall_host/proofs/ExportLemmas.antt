@@ -1,21 +1,11 @@
 -- lines that are written one after another
-use Rattle.std.proofs.Common.{◌≡◌, ℕ, zero, suc, ◌+◌, List, [], ◌∷◌, ◌++◌, take, slice_get, Option, Some, None, refl, sym, ap, subst, ◌∙◌, append_assoc, add-one}
+use Rattle.std.proofs.Common.{◌≡◌, ℕ, zero, suc, ◌+◌, List, [], ◌∷◌, ◌++◌, take, slice_get, Option, Some, None, refl, sym, ap, subst, ◌∙◌, add-one}
 use Rattle.std.proofs.lemmas.Grind.{flat_map-append}
 use Rattle.std.proofs.lemmas.List.{append-nil}
 use Rattle.std.specs.Io.KnownBytes.{Appends}
 use Rattle.commands.specs.declared.exchange.Exchange.{Exchange}
+use Rattle.player.specs.WrittenProofs.{appends_more}
 use Rattle.hall_host.specs.Exports.{command_line, command_lines}
-
-pub appends_none : (gone : Option (List ℕ)) → Appends gone gone []
-appends_none None = tt
-appends_none (Some xs) = sym (append-nil xs)
-
--- one gain and then another
-pub appends_more : (old mid new : Option (List ℕ)) (xs ys zs : List ℕ) → Appends old mid xs → Appends mid new ys → xs ++ ys ≡ zs → Appends old new zs
-appends_more None mid new xs ys zs a b e = tt
-appends_more (Some o) None new xs ys zs a b e = absurd a
-appends_more (Some o) (Some m) None xs ys zs a b e = absurd b
-appends_more (Some o) (Some m) (Some n) xs ys zs a b e = b ∙ ap (λ t. t ++ ys) a ∙ append_assoc o xs ys ∙ ap (λ t. o ++ t) e
 
 -- one event more of a history
 take_more : {X : Type 0} (xs : List X) (n : ℕ) (x : X) → slice_get xs n ≡ Some x → take (suc n) xs ≡ take n xs ++ x ∷ []

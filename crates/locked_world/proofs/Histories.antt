@@ -1,7 +1,8 @@
 -- a history is a list of calls of its desk, and goes on by one accepted event
-use Rattle.std.proofs.Common.{◌≡◌, ◌<◌, Bool, length, arith, ℕ, inl, inr, List, [], ◌∷◌, ◌++◌, map, Option, Some, None, refl, sym, ap, subst, ◌∙◌, append_assoc, true, false}
+use Rattle.std.proofs.Common.{◌≡◌, ◌<◌, length, arith, ℕ, inl, inr, List, [], ◌∷◌, ◌++◌, map, Option, Some, None, refl, sym, ap, subst, ◌∙◌, append_assoc, true, false}
 use Rattle.std.proofs.lemmas.List.{append-nil, length-append}
 use Rattle.std.proofs.lemmas.Bool.Decides.{leb_tells}
+use Rattle.std.proofs.lemmas.Bool.{false_from_ne_true}
 use Rattle.step_memory.specs.declared.refusal.Refusal.{Refusal}
 use Rattle.step_memory.specs.declared.refusal.Refusal.TheVariants as refusal
 use Rattle.step_memory.specs.World.{begin_refusal, done_unless}
@@ -172,10 +173,7 @@ kept_refused h u e r lawful (inr m) refused = m.1
 
 -- a reply that is none of the refusals is accepted
 pub accepted_by : (r : ShownReply) → ((why : Refusal) → r ≡ reply.Refused why → ⊥) → is_refusal r ≡ false
-accepted_by r h = by_test (is_refusal r) (λ refused. let why = refused_by r refused in h why.0 why.1) where
-  by_test : (b : Bool) → (b ≡ true → ⊥) → b ≡ false
-  by_test true h = absurd (h refl)
-  by_test false h = refl
+accepted_by r h = false_from_ne_true (is_refusal r) (λ refused. let why = refused_by r refused in h why.0 why.1)
 
 -- and `begin` is accepted by `ok` alone
 done_ok : (o : Option Refusal) → is_refusal (done_reply (done_unless o)) ≡ false → done_reply (done_unless o) ≡ Ok

@@ -8,12 +8,12 @@ use Rattle.commands.specs.declared.command.Command.{Command}
 use Rattle.commands.specs.declared.kind.WorldKind.{WorldKind}
 use Rattle.std.proofs.lemmas.Bool.Decides.{nat_tests}
 use Rattle.std.specs.Prelude.{nat_lt}
+use Rattle.std.proofs.lemmas.Bool.{and_parts, not-true}
 use Rattle.commands.specs.declared.bad.Bad.TheVariants.{TooLong, NotPrintable}
 use Rattle.player.specs.Meaning.{meaning, is_printable, command_in, words}
 use Rattle.player.specs.Progress.{Progress, with_line, after_meaning, after_line, after_bytes}
 use Rattle.player.proofs.ProgressLemmas.{after_bytes-append}
 use Rattle.player.specs.Lines.{has_no_lf}
-use Rattle.player.proofs.LineLemmas.{both, not_true}
 
 pub nowhere-none : (bytes : List ℕ) (n : ℕ) → Nowhere (Passes (is_byte 10) bytes) 0 n → has_no_lf (take n bytes) ≡ true
 nowhere-none bytes zero h = refl
@@ -32,7 +32,7 @@ printable-no_lf b h = grind (arith, nat_tests)
 printable-none : (line : List ℕ) → list_all is_printable line ≡ true → has_no_lf line ≡ true
 printable-none [] h = refl
 printable-none (b ∷ bs) h =
-    let parts = both (is_printable b) (list_all is_printable bs) h in
+    let parts = and_parts (is_printable b) (list_all is_printable bs) h in
     rw (printable-no_lf b parts.0) (printable-none bs parts.1)
 
 pub means-none : (kind : WorldKind) (line : List ℕ) (c : Command) → meaning kind line ≡ Ok c → has_no_lf line ≡ true
@@ -50,8 +50,8 @@ module _ (kind : WorldKind) where
   pub after_bytes-part : (p : Progress) (bytes : List ℕ) → p.over ≡ false → has_no_lf bytes ≡ true → after_bytes kind p bytes ≡ with_line p (p.line ++ bytes)
   after_bytes-part p [] on h = rw append-nil refl
   after_bytes-part p (b ∷ bs) on h =
-      let parts = both (not (b == 10)) (has_no_lf bs) h in
-      let other : (b == 10) ≡ false = not_true (b == 10) parts.0 in
+      let parts = and_parts (not (b == 10)) (has_no_lf bs) h in
+      let other : (b == 10) ≡ false = not-true (b == 10) parts.0 in
       rw (on, other) (after_bytes-part (record { line = p.line ++ b ∷ []; asked = p.asked; over = false }) bs refl parts.1 ∙ simp append_assoc)
 
   -- and an LF after them ends it

@@ -1,18 +1,11 @@
 -- bytes are cut into their lines
-use Rattle.std.proofs.Common.{◌≡◌, ℕ, ◌==◌, ◌&&◌, Bool, true, false, not, List, [], ◌∷◌, ◌++◌, inl, inr, refl, sym, ap, subst, ◌∙◌, append_assoc}
+use Rattle.std.proofs.Common.{◌≡◌, ℕ, ◌==◌, true, false, not, List, [], ◌∷◌, ◌++◌, inl, inr, refl, sym, ap, subst, ◌∙◌, append_assoc}
 use Rattle.std.specs.List.{list_all}
 use Rattle.std.proofs.lemmas.List.{append-nil}
 use Rattle.std.proofs.lemmas.List.Folds.{list_all-append}
 use Rattle.std.proofs.lemmas.Bool.Decides.{eqb_tells}
+use Rattle.std.proofs.lemmas.Bool.{and_parts, not-true}
 use Rattle.player.specs.Lines.{whole_lines, whole_lines_from, rest_from, rest_of, has_no_lf, with_ends, IsCutInto}
-
-pub both : (a b : Bool) → (a && b) ≡ true → (a ≡ true) × (b ≡ true)
-both true b h = (refl, h)
-both false b h = absurd cc
-
-pub not_true : (b : Bool) → not b ≡ true → b ≡ false
-not_true true h = absurd cc
-not_true false h = refl
 
 no_lf-push : (line : List ℕ) (b : ℕ) → has_no_lf line ≡ true → (b == 10) ≡ false → has_no_lf (line ++ b ∷ []) ≡ true
 no_lf-push line b h other = list_all-append (λ c. not (c == 10)) line (b ∷ []) ∙ rw (h, other) refl
@@ -38,16 +31,16 @@ cut_right bytes = cut_from [] bytes refl
 passed : (line xs ys : List ℕ) → has_no_lf xs ≡ true → (whole_lines_from line (xs ++ ys) ≡ whole_lines_from (line ++ xs) ys) × (rest_from line (xs ++ ys) ≡ rest_from (line ++ xs) ys)
 passed line [] ys h = (ap (λ l. whole_lines_from l ys) (sym (append-nil line)), ap (λ l. rest_from l ys) (sym (append-nil line)))
 passed line (x ∷ xs) ys h =
-    let parts = both (not (x == 10)) (has_no_lf xs) h in
+    let parts = and_parts (not (x == 10)) (has_no_lf xs) h in
     let on = passed (line ++ x ∷ []) xs ys parts.1 in
-    rw (not_true (x == 10) parts.0) (on.0 ∙ ap (λ l. whole_lines_from l ys) (append_assoc line (x ∷ []) xs), on.1 ∙ ap (λ l. rest_from l ys) (append_assoc line (x ∷ []) xs))
+    rw (not-true (x == 10) parts.0) (on.0 ∙ ap (λ l. whole_lines_from l ys) (append_assoc line (x ∷ []) xs), on.1 ∙ ap (λ l. rest_from l ys) (append_assoc line (x ∷ []) xs))
 
 cut_again : (ls : List (List ℕ)) (rest : List ℕ) → list_all has_no_lf ls ≡ true → has_no_lf rest ≡ true → (ls ≡ whole_lines (with_ends ls ++ rest)) × (rest ≡ rest_of (with_ends ls ++ rest))
 cut_again [] rest h r =
     let on = passed [] rest [] r in
     (sym (ap whole_lines (sym (append-nil rest)) ∙ on.0), sym (ap rest_of (sym (append-nil rest)) ∙ on.1))
 cut_again (line ∷ ls) rest h r =
-    let parts = both (has_no_lf line) (list_all has_no_lf ls) h in
+    let parts = and_parts (has_no_lf line) (list_all has_no_lf ls) h in
     let later = cut_again ls rest parts.1 r in
     let on = passed [] line (10 ∷ with_ends ls ++ rest) parts.0 in
     let same = append_assoc line (10 ∷ with_ends ls) rest in

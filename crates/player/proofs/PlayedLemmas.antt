@@ -1,7 +1,7 @@
 -- from where a player stands to the theorem of a run
 use Rattle.std.proofs.Common.{◌≡◌, ℕ, ◌+◌, ◌<◌, ◌≤◌, ◌⊎◌, inl, inr, true, false, Bool, List, [], ◌++◌, take, map, flat_map, Result, Ok, Err, Option, Some, None, refl, sym, ap, subst, ◌∙◌, append_assoc}
 use Rattle.std.proofs.lemmas.List.{append-nil}
-use Rattle.std.specs.Io.KnownBytes.{Appends, Consumes, Keeps, IsAtEnd}
+use Rattle.std.specs.Io.KnownBytes.{Appends, Consumes, IsAtEnd}
 use Rattle.commands.specs.declared.bad.Bad.{Bad}
 use Rattle.commands.specs.declared.command.Command.{Command}
 use Rattle.commands.specs.declared.kind.WorldKind.{WorldKind}
@@ -21,24 +21,6 @@ use Rattle.player.specs.Knows.{Knows}
 use Rattle.player.specs.Played.{Reading, Writing, IsInput, IsTold, HasRead, PlayedToEnd, PlayedToReadFault, PlayedToWriteFault, IsPlayed}
 use Rattle.player.proofs.GoesOnLemmas.{goes_on}
 use Rattle.player.proofs.ProgressLemmas.{asked-whole, asked-all, asked-over, asked_begins, over-whole}
-
-pub consumes_start : (had : Option (List ℕ)) → Consumes had had []
-consumes_start None = tt
-consumes_start (Some xs) = refl
-
--- some bytes and then others were read
-pub consumes_more : (had mid left : Option (List ℕ)) (xs ys : List ℕ) → Consumes had mid xs → Consumes mid left ys → Consumes had left (xs ++ ys)
-consumes_more None mid left xs ys a b = tt
-consumes_more (Some h) None left xs ys a b = absurd a
-consumes_more (Some h) (Some m) None xs ys a b = absurd b
-consumes_more (Some h) (Some m) (Some l) xs ys a b = a ∙ ap (λ t. xs ++ t) b ∙ sym (append_assoc xs ys l)
-
--- and then none
-pub consumes_kept : (had mid left : Option (List ℕ)) (xs : List ℕ) → Consumes had mid xs → Keeps mid left → Consumes had left xs
-consumes_kept None mid left xs a b = tt
-consumes_kept (Some h) None left xs a b = absurd a
-consumes_kept (Some h) (Some m) None xs a b = absurd b
-consumes_kept (Some h) (Some m) (Some l) xs a b = a ∙ ap (λ t. xs ++ t) (sym b)
 
 -- a read gave none
 pub gave_none : (mid left : Option (List ℕ)) (buf : List ℕ) (n : ℕ) → n ≡ 0 → Consumes mid left (take n buf) → Consumes mid left []

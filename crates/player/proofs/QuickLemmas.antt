@@ -7,13 +7,13 @@ use Rattle.std.proofs.lemmas.List.Folds.{list_all-append}
 use Rattle.std.proofs.lemmas.Bool.Decides.{nat_tests}
 use Rattle.std.proofs.Math.Nat.{pow-suc, pow-le-pow_right}
 use Rattle.std.proofs.Math.Seq.{take-add}
+use Rattle.std.proofs.lemmas.Bool.{and_parts, not-true}
 use Rattle.commands.specs.declared.kind.WorldKind.{WorldKind}
 use Rattle.commands.specs.declared.command.Command.{Command}
 use Rattle.player.specs.Digits.{DigitsSoFar}
 use Rattle.player.specs.Quick.{IsNumberBefore, IsCommandBefore, is_of_words, word_of_four}
 use Rattle.player.specs.Lines.{pieces_from}
 use Rattle.player.specs.Meaning.{meaning, words, command_of, number_in, is_digit, is_printable, decimal_from, if_below}
-use Rattle.player.proofs.LineLemmas.{both, not_true}
 
 decimal_from-push : (n : ℕ) (xs : List ℕ) (x : ℕ) → decimal_from n (xs ++ x ∷ []) ≡ decimal_from n xs * 10 + (x - 48)
 decimal_from-push n [] x = refl
@@ -87,7 +87,7 @@ digit-no_space b d = let r = digit_range b d in grind (arith, nat_tests)
 digits-printable : (word : List ℕ) → list_all is_digit word ≡ true → list_all is_printable word ≡ true
 digits-printable [] h = refl
 digits-printable (b ∷ bs) h =
-    let parts = both (is_digit b) (list_all is_digit bs) h in
+    let parts = and_parts (is_digit b) (list_all is_digit bs) h in
     rw (digit-printable b parts.0) (digits-printable bs parts.1)
 
 abbrev pub no_space : List ℕ → Bool
@@ -96,22 +96,22 @@ no_space word = list_all (λ b. not (eqb b 32)) word
 digits-no_space : (word : List ℕ) → list_all is_digit word ≡ true → no_space word ≡ true
 digits-no_space [] h = refl
 digits-no_space (b ∷ bs) h =
-    let parts = both (is_digit b) (list_all is_digit bs) h in
+    let parts = and_parts (is_digit b) (list_all is_digit bs) h in
     rw (digit-no_space b parts.0) (digits-no_space bs parts.1)
 
 -- what has no space is one word
 one_word : (piece word : List ℕ) → no_space word ≡ true → pieces_from 32 piece word ≡ (piece ++ word) ∷ []
 one_word piece [] h = ap (λ p. p ∷ []) (sym (append-nil piece))
 one_word piece (b ∷ bs) h =
-    let parts = both (not (eqb b 32)) (no_space bs) h in
-    rw (not_true (eqb b 32) parts.0) (one_word (piece ++ b ∷ []) bs parts.1 ∙ simp append_assoc)
+    let parts = and_parts (not (eqb b 32)) (no_space bs) h in
+    rw (not-true (eqb b 32) parts.0) (one_word (piece ++ b ∷ []) bs parts.1 ∙ simp append_assoc)
 
 -- and a space ends it
 first_word : (piece word rest : List ℕ) → no_space word ≡ true → pieces_from 32 piece (word ++ 32 ∷ rest) ≡ (piece ++ word) ∷ words rest
 first_word piece [] rest h = ap (λ p. p ∷ words rest) (sym (append-nil piece))
 first_word piece (b ∷ bs) rest h =
-    let parts = both (not (eqb b 32)) (no_space bs) h in
-    rw (not_true (eqb b 32) parts.0) (first_word (piece ++ b ∷ []) bs rest parts.1 ∙ simp append_assoc)
+    let parts = and_parts (not (eqb b 32)) (no_space bs) h in
+    rw (not-true (eqb b 32) parts.0) (first_word (piece ++ b ∷ []) bs rest parts.1 ∙ simp append_assoc)
 
 short-line : (n : ℕ) → n ≤ 100 → nat_lt 100 n ≡ false
 short-line n le = grind (arith, nat_tests)
@@ -160,7 +160,7 @@ digit-of_words b d = let r = digit_range b d in grind (arith, nat_tests)
 digits-of_words : (word : List ℕ) → list_all is_digit word ≡ true → list_all is_of_words word ≡ true
 digits-of_words [] h = refl
 digits-of_words (b ∷ bs) h =
-    let parts = both (is_digit b) (list_all is_digit bs) h in
+    let parts = and_parts (is_digit b) (list_all is_digit bs) h in
     rw (digit-of_words b parts.0) (digits-of_words bs parts.1)
 
 number-of_words : (digits : List ℕ) (n : ℕ) → number_in digits ≡ Some n → list_all is_of_words digits ≡ true

@@ -3,6 +3,7 @@ use Rattle.std.proofs.Common.{◌≡◌, ℕ, List, [], ◌++◌, map, flat_map,
 use Rattle.std.proofs.lemmas.List.{append-nil}
 use Rattle.std.proofs.lemmas.Grind.{flat_map-append}
 use Rattle.std.specs.Io.KnownBytes.{Appends}
+use Rattle.std.proofs.KnownBytes.{Appends-nil}
 use Rattle.commands.specs.declared.bad.Bad.{Bad}
 use Rattle.commands.specs.declared.command.Command.{Command}
 use Rattle.commands.specs.declared.kind.WorldKind.{WorldKind}
@@ -19,7 +20,7 @@ use Rattle.player.specs.Says.{Says}
 use Rattle.player.specs.Stands.{IsFresh, IsSent, Stands, StandsPart}
 use Rattle.player.specs.Turns.{asked, answers_of}
 use Rattle.player.specs.Written.{HasPartOf}
-use Rattle.player.specs.WrittenProofs.{appends_more, appends_none, part_after}
+use Rattle.player.specs.WrittenProofs.{appends_more, part_after}
 
 module _ {T : Type 0} (may : T → Request → ShownReply → T → Type 0) where
   -- where this is written of each turn
@@ -86,7 +87,7 @@ module _ {T : Type 0} (may : T → Request → ShownReply → T → Type 0) wher
       over_is = f.over;
       counts = f.counts;
       written = [];
-      gained = appends_none before;
+      gained = Appends-nil before;
       text_is = sym f.replies;
     }
 

@@ -1,6 +1,7 @@
 -- runs that are played: none where memory was refused, one after a beginning, one by a weaker measure
 use Rattle.std.proofs.Common.{◌≡◌, ℕ, List, [], ◌++◌, Result, Ok, Err, IfOk, refl, ◌∙◌, arith}
 use Rattle.std.specs.Io.KnownBytes.{Appends}
+use Rattle.std.proofs.KnownBytes.{Appends-nil}
 use Rattle.commands.specs.declared.bad.Bad.{Bad}
 use Rattle.commands.specs.declared.command.Command.{Command}
 use Rattle.commands.specs.declared.kind.WorldKind.{WorldKind}
@@ -11,7 +12,7 @@ use Rattle.player.specs.Asked.{asked_by}
 use Rattle.player.specs.Lines.{lines, whole_lines}
 use Rattle.player.specs.Played.{Reading, Writing, writing_from, IsTold, PlayedToEnd, PlayedToReadFault, PlayedToWriteFault, IsPlayed}
 use Rattle.player.specs.Turns.{Turn}
-use Rattle.player.specs.WrittenProofs.{appends_more, appends_none, part_after}
+use Rattle.player.specs.WrittenProofs.{appends_more, part_after}
 
 -- a run of which this text is written after a beginning is one of which both are written; and what is a talk by one measure is
 -- one by a weaker
@@ -96,7 +97,7 @@ pub played_weaker : (text : List Turn → List ℕ) (P P' Q Q' : List Turn → T
     (kind : WorldKind) {R W : Type 0} (reading : Reading R) (writing : Writing W) (result : Result Summary Fault) →
     IsPlayed text P P' kind reading writing result → IsPlayed text Q Q' kind reading writing result
 played_weaker text P P' Q Q' weaker weaker' kind reading writing result t =
-    played_after [] text P P' Q Q' weaker weaker' kind reading writing writing.old (appends_none (writing.contents writing.old)) refl result (λ e. refl) t
+    played_after [] text P P' Q Q' weaker weaker' kind reading writing writing.old (Appends-nil (writing.contents writing.old)) refl result (λ e. refl) t
 
 -- where memory was refused nothing is read and nothing written
 pub unplayed : (text : List Turn → List ℕ) (IsTalk MayTalk : List Turn → Type 0) (kind : WorldKind)

@@ -1,5 +1,5 @@
 -- what was read of an input
-use Rattle.std.proofs.Common.{◌≢◌, ◌∙◌, ◌++◌, inl, inr, ap, append_assoc, refl, subst, sym, ℕ, List, [], Option, Some, None}
+use Rattle.std.proofs.Common.{◌≢◌, ◌∙◌, ◌++◌, inl, inr, ap, subst, ℕ, List, Option, Some, None}
 use Rattle.std.proofs.lemmas.List.{append-nil}
 use Rattle.std.specs.Io.KnownBytes.{Consumes, IsAtEnd}
 use Rattle.player.specs.Played.{IsInput}
@@ -8,16 +8,6 @@ use Rattle.run_checker.specs.declared.verdict.Verdict.{Verdict}
 use Rattle.run_checker.specs.declared.verdict.Verdict.TheVariants.{NoMemory}
 use Rattle.run_checker.specs.Stages.{HasTakenAll}
 use Rattle.run_checker.specs.Verdict.{IsSaid, IsSaidOfRows}
-
-pub nothing_read : (had : Option (List ℕ)) → Consumes had had []
-nothing_read None = tt
-nothing_read (Some xs) = refl
-
-pub read_more : (had mid left : Option (List ℕ)) (xs ys : List ℕ) → Consumes had mid xs → Consumes mid left ys → Consumes had left (xs ++ ys)
-read_more None mid left xs ys a b = tt
-read_more (Some h) None left xs ys a b = absurd a
-read_more (Some h) (Some m) None xs ys a b = absurd b
-read_more (Some h) (Some m) (Some l) xs ys a b = a ∙ ap (λ t. xs ++ t) b ∙ sym (append_assoc xs ys l)
 
 -- a reader at its end gave all that it had
 pub read_all : (had left : Option (List ℕ)) (got : List ℕ) → Consumes had left got → IsAtEnd left → IsInput had got

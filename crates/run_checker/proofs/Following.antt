@@ -1,7 +1,7 @@
 -- a line can follow exactly where no reason fits
 use Rattle.std.proofs.Common.{◌≡◌, ℕ, ◌==◌, ◌&&◌, ◌⊎◌, inl, inr, Bool, true, false, List, Option, Some, None, Result, Ok, Err, refl, sym, ap, ◌∙◌, subst}
 use Rattle.std.specs.Prelude.{is_none}
-use Rattle.std.proofs.lemmas.Bool.{false≢true, eq-eqb}
+use Rattle.std.proofs.lemmas.Bool.{false≢true, eq-eqb, and_parts}
 use Rattle.std.proofs.lemmas.Bool.Decides.{eqb_tells}
 use Rattle.step_memory.specs.Calls.Call.{Began, Stepped}
 use Rattle.step_memory.specs.declared.refusal.Refusal.{Refusal}
@@ -39,10 +39,6 @@ none_of (Some why) h = cc
 and_false : (b : Bool) → (b && false) ≡ true → ⊥
 and_false true h = false≢true h
 and_false false h = false≢true h
-
-and_parts : (a b : Bool) → (a && b) ≡ true → (a ≡ true) × (b ≡ true)
-and_parts true b h = (refl, h)
-and_parts false b h = absurd (false≢true h)
 
 -- a refusal that is told rightly is the one that is due, or want of memory
 told_due : (due : Option Refusal) (lacks : Bool) (n : ℕ) → is_told_rightly due lacks n ≡ true →

@@ -1,7 +1,7 @@
 use Rattle.std.proofs.Common.{◌≡◌, ◌∙◌, inl, inr, None, refl, sym, subst}
 use Rattle.std.proofs.lemmas.List.{get_or_default}
+use Rattle.std.proofs.KnownBytes.{Consumes-nil}
 use Rattle.event_server.specs.Seats.{seats_of}
-use Rattle.event_server.proofs.WireLemmas.{consumes_none}
 use Rattle.event_server.proofs.GatherLemmas.{gathered_at, gathers_none}
 use Rattle.event_server.proofs.ToldLemmas.{seat_looked, set_same}
 use Rattle.event_server.specs.Gathering.{SeatIdle}
@@ -15,7 +15,7 @@ returns-in_default-stage-clause-gathered g c =
     let was = c.in-Some.connection in
     let left = g.S.Stream.left was.stream in
     gathered_at (seats_of g.S.Stream.left g.S.Stream.gone) c.args.key c.args.seats.now was was below
-    (get_or_default c.args.seats.now c.args.key None c.index-seats-key.result below ∙ c.in-Some.is) (gathers_none left left was.wire was.wire (consumes_none left) refl refl refl (λ h. (refl, h))) refl
+    (get_or_default c.args.seats.now c.args.key None c.index-seats-key.result below ∙ c.in-Some.is) (gathers_none left left was.wire was.wire (Consumes-nil left) refl refl refl (λ h. (refl, h))) refl
 
 pub returns-in-Queued-clause-gathered : goal.returns-in-Queued-clause-gathered
 returns-in-Queued-clause-gathered g c =

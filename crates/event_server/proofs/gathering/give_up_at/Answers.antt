@@ -1,10 +1,10 @@
 use Rattle.std.proofs.Common.{◌∙◌, [], Some, None, ap, subst, sym}
 use Rattle.std.proofs.lemmas.List.{get_or_default, get_or-set_same, get_or-set_other}
 use Rattle.std.specs.Io.KnownBytes.{Consumes}
+use Rattle.std.proofs.KnownBytes.{Consumes-nil}
 use Rattle.event_server.specs.Gathering.{SeatAsks, SeatBroken}
 use Rattle.event_server.specs.Seats.{seats_of}
 use Rattle.event_server.specs.WireState.{WireState}
-use Rattle.event_server.proofs.WireLemmas.{consumes_none}
 use Rattle.event_server.proofs.GatherLemmas.{gathered_at, gathers_none}
 use Rattle.event_server.proofs.gathering.give_up_at.Goals as goal
 
@@ -16,7 +16,7 @@ returns-in-Some g c =
     let is = c.give_up.new.self in
     let wire = c.give_up.ensures.wire in
     let there = get_or_default c.args.seats.now c.args.key None c.index-seats-key.result below ∙ c.in-Some.is in
-    let none : Consumes (g.S.Stream.left was.stream) (g.S.Stream.left is.stream) [] = rw c.give_up.ensures.stream (consumes_none (g.S.Stream.left was.stream)) in
+    let none : Consumes (g.S.Stream.left was.stream) (g.S.Stream.left is.stream) [] = rw c.give_up.ensures.stream (Consumes-nil (g.S.Stream.left was.stream)) in
     record {
       gathered = gathered_at on c.args.key c.args.seats.now was is below there
           (gathers_none (g.S.Stream.left was.stream) (g.S.Stream.left is.stream) was.wire is.wire none (ap (λ (q : WireState). q.talker) wire) (ap (λ (q : WireState). q.outbox) wire) (ap (λ (q : WireState). q.ended) wire)

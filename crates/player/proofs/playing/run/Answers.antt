@@ -2,20 +2,21 @@ use Rattle.std.proofs.Common.{◌≡◌, true, false, ◌∙◌, ◌≤◌, ◌+
 use Rattle.std.proofs.lemmas.List.{append-nil}
 use Rattle.std.proofs.lemmas.Result.{err_from_is_err_and}
 use Rattle.std.specs.Io.KnownBytes.{Consumes}
+use Rattle.std.proofs.KnownBytes.{Consumes-nil, Consumes-trans, Consumes-kept}
 use Rattle.player.specs.declared.playing.TheConstants.{READ_BYTES}
 use Rattle.player.specs.Played.{HasRead, reading, writing}
 use Rattle.player.specs.Progress.{at_start, after_bytes}
 use Rattle.player.specs.Stands.{Stands}
 use Rattle.player.proofs.StandsLemmas.{stands_start}
 use Rattle.player.proofs.ProgressLemmas.{after_bytes-append, over-whole}
-use Rattle.player.proofs.PlayedLemmas.{consumes_start, consumes_more, consumes_kept, gave_none, to_end, to_quit, to_read_fault, to_write_fault, to_write_fault_at_end, as_played, as_read_fault, as_write_fault}
+use Rattle.player.proofs.PlayedLemmas.{gave_none, to_end, to_quit, to_read_fault, to_write_fault, to_write_fault_at_end, as_played, as_read_fault, as_write_fault}
 use Rattle.player.proofs.playing.run.Goals as goal
 use Rattle.player.proofs.playing.run.Goals.{After-read_once, After-is_over}
 
 pub loop-reads-init : goal.loop-reads-init
 loop-reads-init g c = record {
   bytes = [];
-  came = consumes_start (g.R.Read.remaining c.args.reader.now);
+  came = Consumes-nil (g.R.Read.remaining c.args.reader.now);
   stands = stands_start g.D.Service.may g.F.Form.text c.args.world.now c.args.player.now.kind c.args.player.now (g.W.Write.contents c.args.writer.now) c.requires.fresh;
   empty = c.requires.fresh.replies;
   kind = refl;
@@ -32,7 +33,7 @@ returns-in-Err-clause-played g c =
     let inv = c.loop-reads.invariant in
     as_read_fault _ _ _ _ _ _
     (to_read_fault g.D.Service.may g.F.Form.text c.args.player.now.kind c.args.world.now c.loop-reads.world (reading g.R.Read.remaining g.R.Source.calls g.R.Source.failed c.args.reader.now c.read_once.new.self) (writing g.W.Write.contents g.W.Sink.failed c.args.writer.now c.loop-reads.writer) inv.bytes
-    (consumes_kept (g.R.Read.remaining c.args.reader.now) (g.R.Read.remaining c.loop-reads.reader) (g.R.Read.remaining c.read_once.new.self) inv.bytes inv.came c.in-Err.ensures.bytes)
+    (Consumes-kept (g.R.Read.remaining c.args.reader.now) (g.R.Read.remaining c.loop-reads.reader) (g.R.Read.remaining c.read_once.new.self) inv.bytes inv.came c.in-Err.ensures.bytes)
     c.loop-reads.player (inl (omega (arith, c.in-Err.ensures.failed, inv.no_read_failed))) inv.going inv.stands inv.empty inv.no_write_failed)
     (omega (arith, c.in-Err.ensures.called, inv.reads, c.loop-reads-test.true))
 
@@ -66,7 +67,7 @@ returns-then-count-eq0-clause-played g c =
     let inv = c.loop-reads.invariant in
     let none = gave_none (g.R.Read.remaining c.loop-reads.reader) (g.R.Read.remaining c.read_once.new.self) c.read_once.new.buf c.in-Ok.count c.if-count-eq0.true c.in-Ok.ensures.bytes.0 in
     let read = rw append-nil at (last_read g (goal.at.returns-then-count-eq0-clause-played g c).After-read_once [] none c.in-Ok.ensures.called (omega arith)) in
-    let came = rw append-nil at (consumes_more (g.R.Read.remaining c.args.reader.now) (g.R.Read.remaining c.loop-reads.reader) (g.R.Read.remaining c.read_once.new.self) inv.bytes [] inv.came none) in
+    let came = rw append-nil at (Consumes-trans (g.R.Read.remaining c.args.reader.now) (g.R.Read.remaining c.loop-reads.reader) (g.R.Read.remaining c.read_once.new.self) inv.bytes [] inv.came none) in
     let stands = rw inv.kind at (c.in_ok-finish.ensures.ok c.args.world.now (after_bytes c.args.player.now.kind at_start inv.bytes) (g.W.Write.contents c.args.writer.now) inv.stands) in
     rw c.summary.ensures (as_played _ _ _ _ _ _ _
     (to_end g.D.Service.may g.F.Form.text c.args.player.now.kind c.args.world.now c.finish.new.world (reading g.R.Read.remaining g.R.Source.calls g.R.Source.failed c.args.reader.now c.read_once.new.self) (writing g.W.Write.contents g.W.Sink.failed c.args.writer.now c.finish.new.writer) inv.bytes came
@@ -80,7 +81,7 @@ returns-in_err-finish-clause-played g c =
     let fault = err_from_is_err_and c.from_residual.result c.from_residual.ensures.1 in
     let none = gave_none (g.R.Read.remaining c.loop-reads.reader) (g.R.Read.remaining c.read_once.new.self) c.read_once.new.buf c.in-Ok.count c.if-count-eq0.true c.in-Ok.ensures.bytes.0 in
     let read = rw append-nil at (last_read g (goal.at.returns-in_err-finish-clause-played g c).After-read_once [] none c.in-Ok.ensures.called (omega arith)) in
-    let came = rw append-nil at (consumes_more (g.R.Read.remaining c.args.reader.now) (g.R.Read.remaining c.loop-reads.reader) (g.R.Read.remaining c.read_once.new.self) inv.bytes [] inv.came none) in
+    let came = rw append-nil at (Consumes-trans (g.R.Read.remaining c.args.reader.now) (g.R.Read.remaining c.loop-reads.reader) (g.R.Read.remaining c.read_once.new.self) inv.bytes [] inv.came none) in
     let part = rw inv.kind at (c.in_err-finish.ensures.part c.args.world.now (after_bytes c.args.player.now.kind at_start inv.bytes) (g.W.Write.contents c.args.writer.now) inv.stands) in
     rw (fault.1 ∙ ap Err (fault.2 ∙ c.in_err-finish.ensures.only)) (as_write_fault _ _ _ _ _ _
     (to_write_fault_at_end g.D.Service.may g.F.Form.text c.args.player.now.kind c.args.world.now c.finish.new.world (reading g.R.Read.remaining g.R.Source.calls g.R.Source.failed c.args.reader.now c.read_once.new.self) (writing g.W.Write.contents g.W.Sink.failed c.args.writer.now c.finish.new.writer) inv.bytes came
@@ -98,7 +99,7 @@ returns-in_err-feed-clause-played g c =
     let part = rw inv.kind at (c.in_err-feed.ensures.part c.args.world.now (after_bytes c.args.player.now.kind at_start inv.bytes) (g.W.Write.contents c.args.writer.now) inv.stands) in
     rw (fault.1 ∙ ap Err (fault.2 ∙ c.in_err-feed.ensures.only)) (as_write_fault _ _ _ _ _ _
     (to_write_fault g.D.Service.may g.F.Form.text c.args.player.now.kind c.args.world.now c.feed.new.world (reading g.R.Read.remaining g.R.Source.calls g.R.Source.failed c.args.reader.now c.read_once.new.self) (writing g.W.Write.contents g.W.Sink.failed c.args.writer.now c.feed.new.writer) (inv.bytes ++ got)
-    (consumes_more (g.R.Read.remaining c.args.reader.now) (g.R.Read.remaining c.loop-reads.reader) (g.R.Read.remaining c.read_once.new.self) inv.bytes got inv.came c.in-Ok.ensures.bytes.0)
+    (Consumes-trans (g.R.Read.remaining c.args.reader.now) (g.R.Read.remaining c.loop-reads.reader) (g.R.Read.remaining c.read_once.new.self) inv.bytes got inv.came c.in-Ok.ensures.bytes.0)
     g.D.Service.knows c.requires.knows g.D.Service.answers read
     (rw (after_bytes-append c.args.player.now.kind at_start inv.bytes got) part)
     (omega (arith, c.in_err-feed.ensures.failed, inv.no_write_failed)) (omega (arith, c.in-Ok.ensures.failed, inv.no_read_failed)))
@@ -119,7 +120,7 @@ returns-then-is_over-clause-played g c =
     let few : length got ≤ READ_BYTES = omega (arith, sym c.in-Ok.ensures.bound.1, c.in-Ok.ensures.bound.0, c.read_once.auto.buf, c.loop-reads.auto.chunk, c.requires.chunk) in
     rw c.summary-then-is_over.ensures (as_played _ _ _ _ _ _ _
     (to_quit g.D.Service.may g.F.Form.text c.args.player.now.kind c.args.world.now c.feed.new.world (reading g.R.Read.remaining g.R.Source.calls g.R.Source.failed c.args.reader.now c.read_once.new.self) (writing g.W.Write.contents g.W.Sink.failed c.args.writer.now c.feed.new.writer) (inv.bytes ++ got)
-    (consumes_more (g.R.Read.remaining c.args.reader.now) (g.R.Read.remaining c.loop-reads.reader) (g.R.Read.remaining c.read_once.new.self) inv.bytes got inv.came c.in-Ok.ensures.bytes.0)
+    (Consumes-trans (g.R.Read.remaining c.args.reader.now) (g.R.Read.remaining c.loop-reads.reader) (g.R.Read.remaining c.read_once.new.self) inv.bytes got inv.came c.in-Ok.ensures.bytes.0)
     c.feed.new.self (last_read g (goal.at.returns-then-is_over-clause-played g c).After-read_once got c.in-Ok.ensures.bytes.0 c.in-Ok.ensures.called few)
     (let over : c.feed.new.self.over ≡ true = cc in over) (fed g (goal.at.returns-then-is_over-clause-played g c).After-is_over) c.in_ok-feed.ensures.empty
     (omega (arith, c.in-Ok.ensures.failed, inv.no_read_failed)) (c.in_ok-feed.ensures.unfailed ∙ inv.no_write_failed))
@@ -133,7 +134,7 @@ loop-reads-preserved g c =
     let short : c.in-Ok.count ≡ length read = c.in-Ok.ensures.bound.1 in
     record {
       bytes = inv.bytes ++ read;
-      came = consumes_more (g.R.Read.remaining c.args.reader.now) (g.R.Read.remaining c.loop-reads.reader) (g.R.Read.remaining c.read_once.new.self) inv.bytes read inv.came c.in-Ok.ensures.bytes.0;
+      came = Consumes-trans (g.R.Read.remaining c.args.reader.now) (g.R.Read.remaining c.loop-reads.reader) (g.R.Read.remaining c.read_once.new.self) inv.bytes read inv.came c.in-Ok.ensures.bytes.0;
       stands = fed g (goal.at.loop-reads-preserved g c).After-is_over;
       empty = c.in_ok-feed.ensures.empty;
       kind = c.in_ok-feed.ensures.kept ∙ inv.kind;

@@ -1,13 +1,14 @@
-use Rattle.std.proofs.Common.{◌≡◌, ◌≢◌, ◌++◌, [], inl, arith, refl, take, subst, ℕ, rules}
+use Rattle.std.proofs.Common.{◌++◌, [], inl, arith, refl, take, subst, ℕ}
 use Rattle.std.proofs.lemmas.List.{append-nil}
 use Rattle.std.specs.Io.KnownBytes.{Consumes}
+use Rattle.std.proofs.KnownBytes.{Consumes-nil, Consumes-trans}
 use Rattle.record_lines.specs.Records.{record_lines}
-use Rattle.program_work.proofs.ReadLemmas.{nothing_read, read_more, read_all, said_some}
+use Rattle.program_work.proofs.ReadLemmas.{read_all, said_some}
 use Rattle.program_work.proofs.checking.judge_whole.Goals as goal
 
 pub loop-reads-init : goal.loop-reads-init
 loop-reads-init g c = record {
-  came = record { seen = []; came = nothing_read (g.R.Read.remaining c.args.reader.now); taken = c.new-judge.ensures };
+  came = record { seen = []; came = Consumes-nil (g.R.Read.remaining c.args.reader.now); taken = c.new-judge.ensures };
   chunk = c.requires.chunk;
   reads = omega arith;
   no_read_failed = refl;
@@ -20,7 +21,7 @@ loop-reads-preserved g c =
     record {
       came = record {
         seen = inv.came.seen ++ got;
-        came = read_more (g.R.Read.remaining c.args.reader.now) (g.R.Read.remaining c.loop-reads.reader) (g.R.Read.remaining c.read_once.new.self) inv.came.seen got inv.came.came c.in-Ok.ensures.bytes.0;
+        came = Consumes-trans (g.R.Read.remaining c.args.reader.now) (g.R.Read.remaining c.loop-reads.reader) (g.R.Read.remaining c.read_once.new.self) inv.came.seen got inv.came.came c.in-Ok.ensures.bytes.0;
         taken = c.in-Ok-take.ensures inv.came.seen inv.came.taken;
       };
       chunk = omega (arith, c.read_once.auto.buf, inv.chunk);
@@ -36,7 +37,7 @@ returns-in-Ok-verdict-clause-judged g c =
     let left = g.R.Read.remaining c.read_once.new.self in
     let seen = inv.came.seen in
     let none : Consumes mid left [] = subst (λ (n : ℕ). Consumes mid left (take n c.read_once.new.buf)) c.if-count-eq0.true c.in-Ok.ensures.bytes.0 in
-    let came : Consumes had left seen = rw append-nil at (read_more had mid left seen [] inv.came.came none) in
+    let came : Consumes had left seen = rw append-nil at (Consumes-trans had mid left seen [] inv.came.came none) in
     let said = c.in-Ok-verdict.ensures seen inv.came.taken in
     record {
       input = seen;

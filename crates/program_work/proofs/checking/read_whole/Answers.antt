@@ -1,12 +1,13 @@
 use Rattle.std.proofs.Common.{◌≡◌, ◌++◌, [], arith, refl, take, subst, ℕ, rules}
 use Rattle.std.proofs.lemmas.List.{append-nil}
 use Rattle.std.specs.Io.KnownBytes.{Consumes}
-use Rattle.program_work.proofs.ReadLemmas.{nothing_read, read_more, read_all}
+use Rattle.std.proofs.KnownBytes.{Consumes-nil, Consumes-trans}
+use Rattle.program_work.proofs.ReadLemmas.{read_all}
 use Rattle.program_work.proofs.checking.read_whole.Goals as goal
 
 pub loop-reads-init : goal.loop-reads-init
 loop-reads-init g c = record {
-  came = rw c.new-bytes.ensures.items (nothing_read (g.R.Read.remaining c.args.reader.now));
+  came = rw c.new-bytes.ensures.items (Consumes-nil (g.R.Read.remaining c.args.reader.now));
   chunk = c.requires.chunk;
   reads = omega arith;
   no_read_failed = refl;
@@ -17,7 +18,7 @@ loop-reads-preserved g c =
     let inv = c.loop-reads.invariant in
     let items : c.extend_from_slice.new.self.items ≡ c.loop-reads.bytes.items ++ take c.in-Ok.count c.read_once.new.buf = search rules in
     record {
-      came = rw items (read_more (g.R.Read.remaining c.args.reader.now) (g.R.Read.remaining c.loop-reads.reader) (g.R.Read.remaining c.read_once.new.self)
+      came = rw items (Consumes-trans (g.R.Read.remaining c.args.reader.now) (g.R.Read.remaining c.loop-reads.reader) (g.R.Read.remaining c.read_once.new.self)
           c.loop-reads.bytes.items (take c.in-Ok.count c.read_once.new.buf) inv.came c.in-Ok.ensures.bytes.0);
       chunk = omega (arith, c.read_once.auto.buf, inv.chunk);
       reads = (let called = c.in-Ok.ensures.called in let before = inv.reads in omega arith);
@@ -31,7 +32,7 @@ returns-then-count-eq0-clause-whole g c =
     let mid = g.R.Read.remaining c.loop-reads.reader in
     let left = g.R.Read.remaining c.read_once.new.self in
     let none : Consumes mid left [] = subst (λ (n : ℕ). Consumes mid left (take n c.read_once.new.buf)) c.if-count-eq0.true c.in-Ok.ensures.bytes.0 in
-    let came : Consumes had left c.loop-reads.bytes.items = rw append-nil at (read_more had mid left c.loop-reads.bytes.items [] inv.came none) in
+    let came : Consumes had left c.loop-reads.bytes.items = rw append-nil at (Consumes-trans had mid left c.loop-reads.bytes.items [] inv.came none) in
     record {
       all = read_all had left c.loop-reads.bytes.items came (c.in-Ok.ensures.bytes.1 c.if-count-eq0.true (omega (arith, c.read_once.auto.buf, inv.chunk)));
       read = came;

@@ -2,7 +2,7 @@ use Rattle.std.proofs.Common.{◌≡◌, ◌∙◌, ◌+◌, ◌≤◌, List, �
 use Rattle.std.proofs.Math.Seq.{take-add}
 use Rattle.std.specs.Io.KnownBytes.{Appends}
 use Rattle.event_server.specs.WireState.{WireState}
-use Rattle.event_server.proofs.WireLemmas.{appends_more}
+use Rattle.player.specs.WrittenProofs.{appends_more}
 use Rattle.event_server.proofs.connection.Connection.send.Goals as goal
 
 pub loop-self-preserved : goal.loop-self-preserved

@@ -3,10 +3,10 @@ use Rattle.std.proofs.lemmas.List.{append-nil}
 use Rattle.std.proofs.lemmas.Result.{on_err_weaker, on_ok_weaker}
 use Rattle.std.specs.Result.{OnOk}
 use Rattle.std.specs.Io.KnownBytes.{Appends}
+use Rattle.std.proofs.KnownBytes.{Appends-nil}
 use Rattle.player.specs.PlayerState.{PlayerState}
 use Rattle.player.specs.Records.{header_line}
 use Rattle.player.specs.UnderWay.{IsUnderWay}
-use Rattle.player.specs.WrittenProofs.{appends_none}
 use Rattle.player.proofs.player.Player.write_header.Goals as goal
 
 both : {T E : Type 0} (P Q : Type 0) (r : Result T E) → OnOk r P → OnOk r Q → OnOk r (P × Q)
@@ -15,7 +15,7 @@ both P Q (Err e) p q = tt
 
 -- a text that is held is under way
 held_text : (before : Option (List ℕ)) (text held : List ℕ) → held ≡ text → IsUnderWay text before before held []
-held_text before text held is = record { written = []; gained = appends_none before; whole = sym is ∙ sym (append-nil held) }
+held_text before text held is = record { written = []; gained = Appends-nil before; whole = sym is ∙ sym (append-nil held) }
 
 -- it is gained where it is under way no more
 gained_text : (before now : Option (List ℕ)) (text held : List ℕ) → IsUnderWay text before now held [] → held ≡ [] → Appends before now text
