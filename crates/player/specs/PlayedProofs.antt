@@ -82,7 +82,7 @@ module _ (head : List ℕ) (text : List Turn → List ℕ) (P P' Q Q' : List Tur
     no_read_failed = t.no_read_failed;
   }
 
-  pub played_after : (result : Result Summary Fault) → (result ≡ Err Memory → mid ≡ w) →
+  pub played_after : (result : Result Summary Fault) → (result ≡ Err Memory → mid ≡ writing.old) →
       IsPlayed text P P' kind reading (writing_from writing mid) result → IsPlayed whole Q Q' kind reading writing result
   played_after result same t = record {
     ok = ok_after result t.ok;
