@@ -7,7 +7,7 @@ use crate::toys::{Coin, Shelf};
 use crate::worlds_tests::{ROWS, spelled};
 use desk::Desk;
 use schedule_player::{
-    Config, Event, Fault, MOST_READS, READ_BYTES, Reply<View>, Service, Summary, Tried, Unshared, World,
+    Config, Event, Fault, MOST_READS, READ_BYTES, Reply, Service, Summary, Tried, Unshared, World,
     WorldKind, law_of_growths, law_of_lines, law_of_play, law_of_world, play, play_in, play_on,
 };
 use splitter::SplitterWorld;
