@@ -89,7 +89,7 @@ each_both P Q R f (v ∷ vs) h i = (f v h.0 i.0, each_both P Q R f vs h.1 i.1)
 
 -- the first visit goes to a new seat
 module _ {S : Type 0} (n seat m : ℕ) (v : Visit) (rest : List Visit) where
-  first_dealt : Splits {S = S} {V = SplitterView} (KeepsRule n) seat (view_of m (v ∷ rest)) (view_of m rest) (view_of m (v ∷ []))
+  pub first_dealt : Splits {S = S} {V = SplitterView} (KeepsRule n) seat (view_of m (v ∷ rest)) (view_of m rest) (view_of m (v ∷ []))
   first_dealt s h e =
       let old : Shows n h.seat_of h.stage h.turn seat (view_of m (v ∷ rest)) = h.shown seat (view_of m (v ∷ rest)) e in
       let left : SplitterView = view_of m rest in

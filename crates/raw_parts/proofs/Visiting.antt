@@ -12,12 +12,11 @@ use Rattle.splitter.specs.Law.{AtMostOneStopped, NotAllTook, IsSplit}
 use Rattle.splitter.specs.Invariant.{IsSplitter}
 use Rattle.splitter.specs.Stage.{has_entered, has_set}
 use Rattle.splitter.proofs.DoorKept.{law_of}
-use Rattle.raw_parts.specs.declared.splitter_view.Visit.{Visit}
 use Rattle.raw_parts.specs.declared.splitter_view.SplitterView.{SplitterView}
 use Rattle.raw_parts.specs.SplitterView.{own_word, visit_at, view_of, lone_view}
 use Rattle.raw_parts.specs.SplitterRule.{IsShown, Meets}
 use Rattle.raw_parts.specs.SplitterSteps.{IsUnderRule, HasEnded, after_access, accesses_by}
-use Rattle.raw_parts.specs.Seats.{SplitterId, EndedVisit, HasMet, MetBy, IsOfEnded, ended_visit, gone_at, seats_in, visit_in, IsEither, EitherTook}
+use Rattle.raw_parts.specs.Seats.{SplitterId, EndedVisit, HasMet, MetBy, IsOfEnded, ended_visit, gone_at, seats_in, IsEither, EitherTook}
 use Rattle.raw_parts.proofs.Accesses.{same_number}
 
 -- one that went neither right nor down stopped

@@ -31,27 +31,6 @@ impl<S> Play<S, BoardView> for Find {
     ghost then = { Finds };
 }
 
-/// A load that changes nothing, and shows that the claims stand together.
-pub struct LookOn;
-
-impl<S> Play<S, BoardView> for LookOn {
-    ghost then = { LooksOn };
-}
-
-/// A new seat comes, by a load.
-pub struct Begin;
-
-impl<S> Play<S, BoardView> for Begin {
-    ghost then = { Begins };
-}
-
-/// The board ends: a seat reads the next word.
-pub struct Read;
-
-impl<S> Play<S, BoardView> for Read {
-    ghost then = { Reads };
-}
-
 /// The claims go to a new seat. Its accesses stay with the first.
 pub struct Hand;
 
@@ -70,6 +49,13 @@ impl Join<BoardView> for Unite {
     ghost spent = { no_claim };
 }
 
+/// A load that changes nothing, and shows that the claims stand together.
+pub struct LookOn;
+
+impl<S> Play<S, BoardView> for LookOn {
+    ghost then = { LooksOn };
+}
+
 /// They part again: the first claim stays.
 pub struct Part;
 
@@ -77,4 +63,18 @@ impl Split<BoardView> for Part {
     ghost left = { λ v. board_view (take 1 v.claims) v.accesses v.read };
 
     ghost right = { λ v. claims_of (drop 1 v.claims) };
+}
+
+/// A new seat comes, by a load.
+pub struct Begin;
+
+impl<S> Play<S, BoardView> for Begin {
+    ghost then = { Begins };
+}
+
+/// The board ends: a seat reads the next word.
+pub struct Read;
+
+impl<S> Play<S, BoardView> for Read {
+    ghost then = { Reads };
 }

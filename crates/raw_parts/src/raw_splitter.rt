@@ -9,7 +9,7 @@ ghost use Rattle.raw_parts.specs.SplitterSteps.{IsUnderRule, HasEnded, accesses_
 ghost use Rattle.raw_parts.specs.Seats.{seat_of, first_seats, gone_at, HasMet, IsVisitOf, MetBy, IsEither, EitherTook};
 
 use crate::seats::{EnteredSeat, FreshSeat};
-use crate::splitter_steps::{Deal, Look, Part, ReadX, ReadY, Splitting, Unite, WriteX, WriteY};
+use crate::splitter_steps::{Access, Deal, Look, Splitting, Unite};
 use crate::splitter_view::SplitterView;
 use atomic_table::{Badge, Seat, Table};
 use splitter::Way;
@@ -151,12 +151,12 @@ impl<A: Allocator> RawSplitter<A> {
         ensures ended { HasEnded self.now.seats number result seat.new.me }
     {
         let own = number + 1;
-        self.table.shared.store::<WriteX>(seat, X, own);
-        if self.table.shared.load::<ReadY>(seat, Y) != 0 {
+        self.table.shared.store::<Access>(seat, X, own);
+        if self.table.shared.load::<Access>(seat, Y) != 0 {
             return Way::Right;
         }
-        self.table.shared.store::<WriteY>(seat, Y, SET);
-        if self.table.shared.load::<ReadX>(seat, X) == own {
+        self.table.shared.store::<Access>(seat, Y, SET);
+        if self.table.shared.load::<Access>(seat, X) == own {
             Way::Stop
         } else {
             Way::Down
@@ -189,8 +189,8 @@ impl<A: Allocator> RawSplitter<A> {
     /// Two seats with a visit each become one, look at a word and part again: so both visits are under one rule.
     fn look_together(
         &self,
-        mut left: Seat<u8, SplitterView>,
-        right: Seat<u8, SplitterView>,
+        left: Seat<u8, SplitterView>,
+        mut right: Seat<u8, SplitterView>,
     ) -> (Seat<u8, SplitterView>, Seat<u8, SplitterView>)
         requires ours { (left.table_id ≡ self.now.table) × (right.table_id ≡ self.now.table) }
         requires left { (v : Visit) × (left.me ≡ (view_of self.now.seats (v ∷ []), [])) }
@@ -200,9 +200,9 @@ impl<A: Allocator> RawSplitter<A> {
         ensures right { result.1.me ≡ right.me }
         ensures met { IsUnderRule (view_of self.now.seats (left.me.0.visits ++ right.me.0.visits)) }
     {
-        self.table.shared.join_seat::<Unite>(&mut left, right);
-        self.table.shared.load::<Look>(&mut left, Y);
-        let right = self.table.shared.split_seat::<Part>(&mut left);
+        self.table.shared.join_seat::<Unite>(&mut right, left);
+        self.table.shared.load::<Look>(&mut right, Y);
+        let left = self.table.shared.split_seat::<Deal>(&mut right);
         (left, right)
     }
 }

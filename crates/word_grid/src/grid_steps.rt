@@ -17,20 +17,6 @@ impl<S> TableRule<S, GridView, u64> for Walking {
     ghost first = { undealt_from 0 };
 }
 
-/// An access of a walk: a store of what its visit writes next, or a load of what it reads next.
-pub struct Access;
-
-impl<S> Play<S, GridView> for Access {
-    ghost then = { MovesOn };
-}
-
-/// A load that changes nothing, and shows that the view is one under the rule.
-pub struct Look;
-
-impl<S> Play<S, GridView> for Look {
-    ghost then = { Looks };
-}
-
 /// The first walk goes to a new seat: where a seat is dealt out, and where two that met part again.
 pub struct Deal;
 
@@ -40,6 +26,13 @@ impl Split<GridView> for Deal {
     ghost right = { λ v. view_of v.most (take 1 v.walks) [] };
 }
 
+/// An access of a walk: a store of what its visit writes next, or a load of what it reads next.
+pub struct Access;
+
+impl<S> Play<S, GridView> for Access {
+    ghost then = { MovesOn };
+}
+
 /// A seat takes in the walks of another, before its own. The other is spent: no walk is its to make.
 pub struct Unite;
 
@@ -47,6 +40,13 @@ impl Join<GridView> for Unite {
     ghost both = { λ v w. view_of v.most (w.walks ++ v.walks) v.endings };
 
     ghost spent = { view_of 0 [] [] };
+}
+
+/// A load that changes nothing, and shows that the view is one under the rule.
+pub struct Look;
+
+impl<S> Play<S, GridView> for Look {
+    ghost then = { Looks };
 }
 
 /// A new seat can tell of the end of this seat's walk.

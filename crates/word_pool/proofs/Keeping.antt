@@ -14,6 +14,7 @@ use Rattle.word_pool.specs.PoolView.{at_rest, coming, spent, sighting, passing, 
 use Rattle.word_pool.specs.Tally.{own, tally, one_if, holding}
 use Rattle.word_pool.specs.PoolRule.{KeepsPool, KeepsPoolRule, IsHolder}
 use Rattle.word_pool.specs.PoolSteps.{Comes, ComesBySwap, Looks, Takes, LooksAside, TakesAside, Frees, LooksOn, ReadsFirst, ReadsOn, IsWordFor, IsUnderRule}
+use Rattle.word_pool.specs.NumberSteps.{KeepsSteps}
 use Rattle.word_pool.proofs.Tallies.{tally_set, tally_snoc, tally_has, tally_two, tally_finds, sum_both}
 
 -- what a call holds of each place, by its stage
@@ -287,4 +288,15 @@ opens count v none_held = record {
   as_many = length-replicate (count * 8) 0;
   held = λ q lt. let a = none_held q in index_zeros (count * 8) (q * 8) ∙ (let g : tally (holding q) (v ∷ []) ≡ 0 = omega arith in sym g);
   lone = λ q. let a = none_held q in omega arith;
+}
+
+-- so the rule lets every pool do what it does
+pub pool_steps : KeepsSteps KeepsPoolRule (λ count. resting [])
+pool_steps = record {
+  opens = λ count. opens count (resting []) (λ q. refl);
+  looks = λ count slots seat place c past s lt is here. may_look count slots seat c past (place * 8) s is;
+  frees = λ count slots seat place c past s lt is here. may_free count slots seat c past place s lt is here;
+  unites = λ count seat other v w. may_unite count 0 seat other v w;
+  looks_on = λ count slots seat v s two. may_look_on count slots seat v s two;
+  severs = λ count seat c d past others. may_sever count 0 seat c d past others;
 }

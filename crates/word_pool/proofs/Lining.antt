@@ -22,6 +22,7 @@ use Rattle.word_pool.specs.PoolView.{looked}
 use Rattle.word_pool.specs.PoolView.{swapped}
 use Rattle.atomic_table.specs.Table.{keeps}
 use Rattle.std.proofs.Common.{slice_set}
+use Rattle.word_pool.specs.NumberSteps.{KeepsSteps}
 use Rattle.word_pool.specs.Crowd.{now, IsSmall, KeepsCrowd}
 use Rattle.word_pool.proofs.Crowding.{two_beyond, come_there, comes_and_looks, comes_and_passes, came_views, log_at_coming, comes_and_takes, small_at_coming, sighting_crowd, passing_crowd, log_so_far, small_so_far, taking_crowd, there_set, going_crowd, unites_crowd, parts_crowd, each_undealt, crowd_opens}
 use Rattle.word_pool.proofs.Tallies.{tally_set, tally_snoc, tally_has, tally_sum}
@@ -236,3 +237,14 @@ module _ {S : Type 0} (count seat : ℕ) where
 pub rests_undealt : (n : ℕ) → sum_of rests (undealt n) ≡ n
 rests_undealt zero = refl
 rests_undealt (suc n) = let a = rests_undealt n in omega arith
+
+-- so the rule lets every pool do what it does
+pub line_steps : KeepsSteps KeepsLineRule (λ count. view_of (undealt count) [])
+line_steps = record {
+  opens = line_opens;
+  looks = λ count slots seat place c past s lt is here. may_look_in_line count slots seat past c place lt here s is;
+  frees = λ count slots seat place c past s lt is here. may_free_in_line count slots seat past c place lt here s is;
+  unites = may_unite_in_line;
+  looks_on = λ count slots seat v s two. may_look_on_in_line count seat slots v s two;
+  severs = may_sever_in_line;
+}

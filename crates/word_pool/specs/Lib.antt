@@ -5,3 +5,4 @@ pub mod PoolSteps
 pub mod Pools
 pub mod Crowd
 pub mod LineRule
+pub mod NumberSteps

@@ -16,11 +16,13 @@ impl<S> TableRule<S, PoolView, u64> for Lining {
     ghost first = { λ count. view_of (undealt count) [] };
 }
 
-/// A call swaps 1 into the word of its place, and holds it where it was clear: then its number is small.
-pub struct TakeInLine;
+/// The first call goes to a new seat.
+pub struct Deal;
 
-impl<S> Play<S, PoolView> for TakeInLine {
-    ghost then = { TakesInLine };
+impl Split<PoolView> for Deal {
+    ghost left = { λ v. view_of (drop 1 v.calls) v.past };
+
+    ghost right = { λ v. view_of (take 1 v.calls) [] };
 }
 
 /// A call comes by such a swap at the first place.
@@ -30,18 +32,16 @@ impl<S> Play<S, PoolView> for ComeBySwapInLine {
     ghost then = { ComesBySwapInLine };
 }
 
+/// A call swaps 1 into the word of its place, and holds it where it was clear: then its number is small.
+pub struct TakeInLine;
+
+impl<S> Play<S, PoolView> for TakeInLine {
+    ghost then = { TakesInLine };
+}
+
 /// No seat makes this step.
 pub struct Never;
 
 impl<S> Play<S, PoolView> for Never {
     ghost then = { NeverComes };
-}
-
-/// The first call goes to a new seat.
-pub struct Deal;
-
-impl Split<PoolView> for Deal {
-    ghost left = { λ v. view_of (drop 1 v.calls) v.past };
-
-    ghost right = { λ v. view_of (take 1 v.calls) [] };
 }

@@ -1,88 +1,39 @@
 //! A pool whose numbers are sought from 1 upward.
 
-ghost use Rattle.std.specs.Prelude.{[], ◌∷◌, ◌≡◌, ◌≢◌, ◌<◌, ◌≤◌, ◌+◌, ◌-◌, ◌*◌, ◌⊎◌, ◌↔◌, ℕ, suc, true, false, Err, IfErr, IfOk, IsOk, vec_len, slice_index};
+ghost use Rattle.std.specs.Prelude.{[], ◌≡◌, ◌<◌, ◌≤◌, ◌+◌, ◌-◌, ◌*◌, ◌⊎◌, ◌↔◌, ℕ, suc, true, false, Err, IfErr, IfOk, IsOk, vec_len, slice_index};
 ghost use lib.ListN.{get_elem?};
 ghost use mathlib.Core.Option.{some};
-ghost use Rattle.word_pool.specs.Tally.{own, holding, one_if};
-ghost use Rattle.std.specs.Mem.Slots.{slots_items, slots_len, IsFull};
-ghost use Rattle.word_pool.specs.PoolRule.{word_of};
 ghost use Rattle.word_pool.specs.PoolView.{call_of, first_places, races, IsSeeking, IsWithin, HasLooked, HasSwapped};
 ghost use Rattle.word_pool.specs.PoolSteps.{IsWordFor};
-ghost use Rattle.word_pool.specs.Pools.{CallId, HasLookedAtAll, HasMetAllHeld, HasNumberOf, set_places, IsHeldAt, IsStill};
+ghost use Rattle.word_pool.specs.Pools.{CallId, HasLookedAtAll, HasMetAllHeld, set_places};
 
 use crate::held::{AllHeld, Held, LastLook, Released};
-use crate::pool_steps::{
-    Come, ComeBySwap, Free, Look, LookAside, LookOn, Pooling, ReadFirst, ReadOn, Sever, Take,
-    TakeAside, Unite,
-};
+use crate::pool_over::{PoolOver, STRIDE};
+use crate::pool_steps::{Come, ComeBySwap, LookAside, Pooling, ReadFirst, ReadOn, Take, TakeAside};
 use crate::pool_view::PoolView;
-use atomic_table::{Badge, Closed, Seat, Table};
+use atomic_table::Seat;
 use std::alloc::{AllocError, Allocator};
-use std::marker::Model;
-use std::mem;
 use step_memory::Refusal;
 
-/// The most numbers of a pool.
-pub(crate) const MOST_NUMBERS: u64 = 4096;
-
-/// How many words apart two numbers are, so that no two of them share a cache line.
-pub(crate) const STRIDE: u64 = 8;
-
 /// The numbers from 1 on, each with a word: 1 while somebody holds it, else 0.
-#[derive(Drop)]
-pub struct WordPool<A: Allocator> {
-    numbers: u64,
-    // It has no slots, so what a slot holds says nothing.
-    table: Table<u8, PoolView, u64, Pooling, A>,
-}
+pub type WordPool<A> = PoolOver<Pooling, A>;
 
-impl<A: Allocator> Model for WordPool<A> {
-    ghost use Rattle.word_pool.specs.Pools.{IsTableOf, PoolId, pool_of};
-
-    ghost Value = { PoolId };
-
-    ghost view = { λ p. pool_of p.table.shared.table_id p.numbers };
-
-    ghost invariant = { λ p. IsTableOf p.numbers p.table.shared.table_id p.table.shared.key };
-}
-
-impl<A: Allocator + Clone> WordPool<A> {
+impl<A: Allocator + Clone> PoolOver<Pooling, A> {
     /// A pool of `numbers` numbers, from 1 to 4096, of which none is held. `OutOfRange` elsewhere, and `NoMemory` only where
     /// its memory was refused.
+    #[tactic(auto, using(crate::proofs::Keeping::pool_steps))]
     pub fn new(alloc: A, numbers: u64) -> Result<WordPool<A>, Refusal>
         ensures pool { IfOk result (λ p. p.numbers ≡ numbers) }
         ensures range { IsOk result → (1 ≤ numbers) × (numbers ≤ 4096) }
         ensures out_of_range { result ≡ Err Refusal.OutOfRange ↔ ((numbers < 1) ⊎ (4096 < numbers)) }
         ensures only { IfErr result (λ r. (r ≡ Refusal.NoMemory) ⊎ (r ≡ Refusal.OutOfRange)) }
     {
-        if numbers < 1 || MOST_NUMBERS < numbers {
-            return Err(Refusal::OutOfRange);
-        }
-        match WordPool::open(alloc, numbers) {
-            Ok(pool) => Ok(pool),
-            Err(AllocError) => Err(Refusal::NoMemory),
-        }
-    }
-
-    fn open(alloc: A, numbers: u64) -> Result<WordPool<A>, AllocError>
-        requires { (1 ≤ numbers) × (numbers ≤ 4096) }
-        ensures pool { IfOk result (λ p. p.numbers ≡ numbers) }
-    {
-        let words = Vec::from_elem(alloc.clone()?, 0u64, (numbers * STRIDE) as usize)?;
-        let (table, _) = Table::of_words(alloc, words.as_slice(), &numbers)?;
-        Ok(WordPool { numbers, table })
+        let (pool, _) = WordPool::with_seat(alloc, numbers)?;
+        Ok(pool)
     }
 }
 
-impl<A: Allocator> WordPool<A> {
-    /// How many numbers there are.
-    pub fn numbers(&self) -> u64
-        ensures count { result ≡ self.now.numbers }
-        ensures range { (1 ≤ result) × (result ≤ 4096) }
-    {
-        self.numbers
-    }
-
+impl<A: Allocator> PoolOver<Pooling, A> {
     /// A number that nobody else holds: the least that a walk from 1 upward finds free. It leaves a number behind only where
     /// an access met it held, and it tells that all were held where it met each so, in turn. It makes one access for each number
     /// that it leaves behind and two, a look and a swap, for the first that it finds free. Where that swap loses a race it goes
@@ -123,30 +74,6 @@ impl<A: Allocator> WordPool<A> {
             self.look_on(&mut seat)
         };
         self.take_from(seat, place)
-    }
-
-    /// Looks at one place after another, from that behind the first, until one is free: that place, or the last, at which it
-    /// does not look.
-    fn look_on(&self, seat: &mut Seat<u8, PoolView>) -> u64
-        requires ours { seat.old.table_id ≡ self.now.table }
-        requires some { 1 < self.now.numbers }
-        requires passed { IsSeeking 1 seat.old.me.0 × ((call_of seat.old.me.0).sighted ≡ false) × (seat.old.me.1 ≡ []) }
-        ensures ours { (seat.new.table_id ≡ self.now.table) × (seat.new.me.1 ≡ []) }
-        ensures range { (1 ≤ result) × (result + one_if (call_of seat.new.me.0).sighted < self.now.numbers) }
-        ensures here { IsSeeking result seat.new.me.0 }
-        ensures accesses { (call_of seat.new.me.0).accesses + 1 ≡ (call_of seat.old.me.0).accesses + result + one_if (call_of seat.new.me.0).sighted }
-        ensures lost { (call_of seat.new.me.0).lost ≡ (call_of seat.old.me.0).lost }
-    {
-        for place in 1..self.numbers - 1 {
-            let found = self
-                .table
-                .shared
-                .load::<Look>(seat, (place * STRIDE) as usize);
-            if found == 0 {
-                return place;
-            }
-        }
-        self.numbers - 1
     }
 
     /// The walk of a seat whose swap at the first place found this. It goes on by swaps alone.
@@ -232,52 +159,9 @@ impl<A: Allocator> WordPool<A> {
         ensures number { result.number ≡ held.number }
         ensures accesses { result.call.accesses ≡ held.call.accesses + 1 }
     {
-        let Held { place, badge } = held;
-        let mut seat = badge.into_seat::<u8>();
-        self.table
-            .shared
-            .store::<Free>(&mut seat, (place * STRIDE) as usize, 0);
         Released {
-            badge: seat.into_badge(),
+            badge: self.give_back(held),
         }
-    }
-
-    /// Two that are held meet, and show that they are two numbers. Both are of this pool, and stay as they are.
-    pub fn meet(&self, one: &mut Held, other: &mut Held)
-        requires one { one.old.pool ≡ self.now.table }
-        requires other { other.old.pool ≡ self.now.table }
-        ensures one { IsStill one.old one.new }
-        ensures other { IsStill other.old other.new }
-        ensures apart { one.old.number ≢ other.old.number }
-    {
-        let left = mem::replace(&mut one.badge, Badge::blank()).into_seat::<u8>();
-        let right = mem::replace(&mut other.badge, Badge::blank()).into_seat::<u8>();
-        let (left, right) = self.look_together(left, right, one.place, other.place);
-        one.badge = left.into_badge();
-        other.badge = right.into_badge();
-    }
-
-    /// Two seats that hold a place each become one, look at a word and part again.
-    fn look_together(
-        &self,
-        mut left: Seat<u8, PoolView>,
-        right: Seat<u8, PoolView>,
-        _one: u64,
-        _other: u64,
-    ) -> (Seat<u8, PoolView>, Seat<u8, PoolView>)
-        requires ours { (left.table_id ≡ self.now.table) × (right.table_id ≡ self.now.table) }
-        requires left { IsHeldAt _one (left.me.0 ∷ []) × (left.me.1 ≡ []) }
-        requires right { IsHeldAt _other (right.me.0 ∷ []) × (right.me.1 ≡ []) }
-        ensures ours { (result.0.table_id ≡ self.now.table) × (result.1.table_id ≡ self.now.table) }
-        ensures left { IsHeldAt _one (result.0.me.0 ∷ []) × (result.0.me.1 ≡ []) }
-        ensures right { IsHeldAt _other (result.1.me.0 ∷ []) × (result.1.me.1 ≡ []) }
-        ensures calls { (call_of result.0.me.0 ≡ call_of left.me.0) × (call_of result.1.me.0 ≡ call_of right.me.0) }
-        ensures met { _one ≢ _other }
-    {
-        self.table.shared.join_seat::<Unite>(&mut left, right);
-        self.table.shared.load::<LookOn>(&mut left, 0);
-        let right = self.table.shared.split_seat::<Sever>(&mut left);
-        (left, right)
     }
 
     /// Ends the pool, and tells its words by rising number: 1 where the number is still held, else 0. `out` is what was not
@@ -329,47 +213,4 @@ impl<A: Allocator> WordPool<A> {
         }
         Ok(words)
     }
-
-    /// A seat takes over what some numbers are held by.
-    fn gather_all<C: Allocator>(&self, seat: &mut Seat<u8, PoolView>, mut out: Vec<Held, C>)
-        requires ours { (seat.old.table_id ≡ self.now.table) × (seat.old.me.1 ≡ []) }
-        requires out { (i : ℕ) (h : CallId) → get_elem? out.items i ≡ some h → h.pool ≡ self.now.table }
-        ensures ours { (seat.new.table_id ≡ self.now.table) × (seat.new.me.1 ≡ []) }
-        ensures held { (i : ℕ) (h : CallId) → get_elem? out.items i ≡ some h → HasNumberOf self.now.table seat.new.me.0 h }
-    {
-        while let Some(held) = out.pop() {
-            self.gather(seat, held);
-        }
-    }
-
-    /// A seat takes over what one number is held by.
-    fn gather(&self, seat: &mut Seat<u8, PoolView>, held: Held)
-        requires ours { (seat.old.table_id ≡ self.now.table) × (seat.old.me.1 ≡ []) }
-        requires held { held.pool ≡ self.now.table }
-        ensures ours { (seat.new.table_id ≡ self.now.table) × (seat.new.me.1 ≡ []) }
-        ensures more { (place : ℕ) → own (holding place) seat.old.me.0 ≤ own (holding place) seat.new.me.0 }
-        ensures held { HasNumberOf self.now.table seat.new.me.0 held }
-    {
-        let Held { place: _, badge } = held;
-        self.table
-            .shared
-            .join_seat::<Unite>(seat, badge.into_seat::<u8>());
-    }
-}
-
-/// The words of so many places of a table that is closed, in their order.
-pub(crate) fn read_out<A: Allocator, B: Allocator>(
-    alloc: B,
-    closed: &Closed<u8, A>,
-    count: usize,
-) -> Result<Vec<u64, B>, AllocError>
-    requires { (word_of count ≡ slots_len closed.now.words) × (count ≤ 4096) × IsFull closed.now.words }
-    ensures count { IfOk result (λ v. vec_len v ≡ count) }
-    ensures words { IfOk result (λ v. (i : ℕ) → i < count → get_elem? v.items i ≡ get_elem? (slots_items closed.now.words) (word_of i)) }
-{
-    let mut words = Vec::with_capacity(alloc, count)?;
-    for i in 0..count {
-        words.push_reserved(closed.word(i * STRIDE as usize));
-    }
-    Ok(words)
 }

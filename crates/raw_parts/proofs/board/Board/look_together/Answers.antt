@@ -1,4 +1,4 @@
-use Rattle.std.proofs.Common.{◌≡◌, ◌∷◌, ◌++◌, [], sym, ◌∙◌, refl}
+use Rattle.std.proofs.Common.{◌≡◌, ◌∷◌, [], sym, ◌∙◌, refl}
 use mathlib.Core.Option.{none}
 use Rattle.atomic_table.specs.Table.{step}
 use Rattle.raw_parts.specs.BoardView.{claim, claims_of, united}

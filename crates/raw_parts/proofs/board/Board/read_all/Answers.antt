@@ -1,4 +1,4 @@
-use Rattle.std.proofs.Common.{◌≡◌, ◌+◌, ◌++◌, ℕ, suc, List, ◌∷◌, reverse, length, ap, sym, subst, ◌∙◌, refl, arith, [], vec_len}
+use Rattle.std.proofs.Common.{◌≡◌, ◌+◌, ◌++◌, ℕ, suc, List, ◌∷◌, reverse, length, ap, sym, subst, ◌∙◌, arith, []}
 use Rattle.std.proofs.lemmas.List.{length-reverse, reverse-append}
 use Rattle.atomic_table.specs.Table.{Me}
 use Rattle.raw_parts.specs.declared.board_view.Claim.{Claim}

@@ -1,4 +1,4 @@
-use Rattle.std.proofs.Common.{◌≡◌, ◌<◌, ◌≤◌, ◌+◌, ℕ, [], reverse, slice_index, vec_len, vec_capacity}
+use Rattle.std.proofs.Common.{◌≡◌, ◌<◌, ◌≤◌, ◌+◌, [], reverse, slice_index, vec_len, vec_capacity}
 use Rattle.raw_parts.specs.declared.board_view.Claim.{Claim}
 use Rattle.raw_parts.specs.BoardRule.{IsClaimed}
 use Rattle.raw_parts.proofs.board.Board.read_all.Given as goal

@@ -1,0 +1,8 @@
+use Rattle.std.proofs.Common.{◌≡◌, ◌<◌, ◌≤◌, ℕ, vec_len, vec_capacity}
+use lib.ListN.{get_elem?}
+use Rattle.std.specs.Mem.Slots.{slots_items}
+use Rattle.word_pool.specs.PoolRule.{word_of}
+use Rattle.word_pool.proofs.line_pool.read_out.Given as goal
+
+abbrev pub invariant-loop-i : goal.invariant-loop-i
+invariant-loop-i g l = (vec_len l.words ≡ l.i) × (l.i ≤ l.count) × (vec_capacity l.words ≡ l.count) × ((k : ℕ) → k < l.i → get_elem? l.words.items k ≡ get_elem? (slots_items l.closed.words) (word_of k))

@@ -1,0 +1,62 @@
+use Rattle.std.proofs.Common.{◌≡◌, ◌≢◌, ◌-◌, ℕ, ap, refl, ne_eqb, ◌∙◌, arith, []}
+use mathlib.Core.Option.{none}
+use Rattle.atomic_table.specs.Table.{Me, step}
+use Rattle.word_pool.specs.declared.pool_view.PoolView.{PoolView}
+use Rattle.word_pool.specs.PoolView.{at_rest, call_of, lone, spent, swapped_hint}
+use Rattle.word_pool.specs.Pools.{PoolId}
+use Rattle.word_pool.proofs.Keeping.{may_come_back, may_come_back_by_swap, may_look_aside, may_take_aside}
+use Rattle.word_pool.proofs.word_pool.PoolOver+Pooling+A.acquire_near.Goals as goal
+
+-- a swap of 1 into the place of a hint that met it held leaves the call at rest
+missed : (place moment found : ℕ) (before after : Me ℕ PoolView) → before ≡ (lone (spent at_rest) [], []) → found ≢ 0
+    → after ≡ (lone (swapped_hint place moment found (call_of before.0)) before.0.past, before.1) → after ≡ (lone (spent (spent at_rest)) [], [])
+missed place moment found before after b ne e = let a = ne_eqb found 0 ne in e ∙ rw (b, a) refl
+
+pub load_new_seat-aside-requires : goal.load_new_seat-aside-requires
+load_new_seat-aside-requires g c =
+    let numbers : c.self.inside.numbers ≡ c.args.self.now.numbers = ap (λ (t : PoolId). t.numbers) c.self.view_is in
+    let words = c.self.invariant.0.0 in
+    let above = c.if-hint-le1.false in
+    let below = c.if-self-hint.false in
+    (omega arith, may_look_aside c.self.inside.table.shared.key _ _)
+
+pub load-found-requires : goal.load-found-requires
+load-found-requires g c =
+    let words = c.self.invariant.0.0 in
+    let some = c.self.invariant.0.2 in (
+      c.load_new_seat-aside.ensures.0,
+      omega arith,
+      rw c.load_new_seat-aside.ensures.2 (may_come_back c.self.inside.table.shared.key _ _ (spent at_rest) [] (step 0 0 0 0 none) refl),
+    )
+
+pub swap-at_swap-requires : goal.swap-at_swap-requires
+swap-at_swap-requires g c =
+    let numbers : c.self.inside.numbers ≡ c.args.self.now.numbers = ap (λ (t : PoolId). t.numbers) c.self.view_is in
+    let words = c.self.invariant.0.0 in
+    let key = c.self.invariant.0.1 in
+    let above = c.if-hint-le1.false in
+    let below = c.if-self-hint.false in (
+      c.load_new_seat-aside.ensures.0,
+      omega arith,
+      rw c.load_new_seat-aside.ensures.2 (may_take_aside c.self.inside.table.shared.key _ _ (spent at_rest) [] (c.args.hint - 1) 0 1 0 none (omega arith) refl),
+    )
+
+pub swap-found-requires : goal.swap-found-requires
+swap-found-requires g c =
+    let words = c.self.invariant.0.0 in
+    let key = c.self.invariant.0.1 in
+    let some = c.self.invariant.0.2 in
+    let hint = c.swap-at_swap.ensures.2 in
+    let me = missed hint.0 hint.2 c.swap-at_swap.result c.load_new_seat-aside.result.1.me c.swap-at_swap.new.seat.me c.load_new_seat-aside.ensures.2 (omega (arith, c.if-at_swap-eq0.false)) hint.3 in (
+      c.swap-at_swap.ensures.0 ∙ c.load_new_seat-aside.ensures.0,
+      omega arith,
+      rw me (may_come_back_by_swap c.self.inside.table.shared.key _ _ (spent (spent at_rest)) [] (step 0 0 0 0 none) (omega arith) refl),
+    )
+
+pub walk_by_swaps-requires-clause-some : goal.walk_by_swaps-requires-clause-some
+walk_by_swaps-requires-clause-some g c =
+    let numbers : c.self.inside.numbers ≡ c.args.self.now.numbers = ap (λ (t : PoolId). t.numbers) c.self.view_is in
+    let same : c.self.inside.table.shared.table_id.words ≡ c.args.self.now.table.words = ap (λ (t : PoolId). t.table.words) c.self.view_is in
+    let words = c.self.invariant.0.0 in
+    let some = c.self.invariant.0.2 in
+    (omega arith, omega arith)

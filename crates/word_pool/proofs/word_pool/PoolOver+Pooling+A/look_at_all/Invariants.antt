@@ -1,0 +1,18 @@
+use Rattle.std.proofs.Common.{◌≡◌, ◌<◌, ◌≤◌, ℕ, [], slice_index, vec_len, vec_capacity}
+use Rattle.word_pool.specs.PoolView.{call_of}
+use Rattle.word_pool.specs.Tally.{own, holding}
+use Rattle.word_pool.specs.PoolSteps.{IsWordFor}
+use Rattle.word_pool.specs.Pools.{set_places}
+use Rattle.word_pool.proofs.word_pool.PoolOver+Pooling+A.look_at_all.Given as goal
+
+abbrev pub invariant-loop-place : goal.invariant-loop-place
+invariant-loop-place g l = record {
+  ours : (l.seat.table_id ≡ l.self.table) × (l.seat.me.1 ≡ []);
+  upto : (1 ≤ l.place) × (l.place ≤ l.self.numbers);
+  count : vec_len l.words ≡ l.place;
+  room : vec_capacity l.words ≡ l.self.numbers;
+  same : (p : ℕ) → own (holding p) l.seat.me.0 ≡ own (holding p) l.fn.seat.me.0;
+  words : (p : ℕ) → p < l.place → IsWordFor p l.fn.seat.me.0 (slice_index l.words.items p);
+  met : (call_of l.seat.me.0).met ≡ set_places l.words.items l.place;
+  accesses : (call_of l.seat.me.0).accesses ≡ l.place;
+}
