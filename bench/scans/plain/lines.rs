@@ -1,7 +1,10 @@
 //! `slotctl play` by plain code, over a grid of doors and over both worlds of names, with one pool and its slots: the same lines in, the
-//! same lines out. `plain play [--world grid|rename|tree] [--m M] [--k K] [--limit L]`.
+//! same lines out, or the same record with `--record`. `plain play [--world grid|rename|tree] [--m M] [--k K] [--limit L] [--record]`.
+//!
+//! `plain check` reads a record as it is written here, replays it and compares each reply: it answers `yes`, or `no` with the first line
+//! that another run would have.
 
-use super::{Door, Grid, Places, Refusal, Renaming, Round, Snapshot, Stage, Told, Tree, NONE};
+use super::{Door, Grid, Places, Refusal, Renaming, Round, Snapshot, Stage, Told, Tree, View, NONE};
 use std::fs::File;
 use std::io::{Read, Write};
 use std::mem::ManuallyDrop;
@@ -24,11 +27,11 @@ enum Command {
     Quit,
 }
 
-/// What answers commands, a line each.
+/// What answers commands, a line each. Where a run is recorded, the view by which a name is given is written behind it, as in a record.
 trait World {
     const GIVES_NAMES: bool;
 
-    fn answer(&mut self, command: Command, out: &mut Vec<u8>);
+    fn answer<const RECORDED: bool>(&mut self, command: Command, out: &mut Vec<u8>);
 }
 
 fn put_number(mut number: u64, out: &mut Vec<u8>) {
@@ -49,6 +52,16 @@ fn put_line(word: &[u8], number: u64, out: &mut Vec<u8>) {
     out.extend_from_slice(word);
     put_number(number, out);
     out.push(b'\n');
+}
+
+/// The pairs of a view, with a space behind each.
+fn put_pairs(view: &View, out: &mut Vec<u8>) {
+    for pair in view.pairs() {
+        put_number(pair.0, out);
+        out.push(b':');
+        put_number(pair.1, out);
+        out.push(b' ');
+    }
 }
 
 fn put_done(done: Result<(), u64>, out: &mut Vec<u8>) {
@@ -96,7 +109,7 @@ impl World for Doors {
     const GIVES_NAMES: bool = false;
 
     #[inline(always)]
-    fn answer(&mut self, command: Command, out: &mut Vec<u8>) {
+    fn answer<const RECORDED: bool>(&mut self, command: Command, out: &mut Vec<u8>) {
         match command {
             Command::Begin(id) => put_done(self.begin(id), out),
             Command::Step(id) => match self.step(id) {
@@ -237,32 +250,35 @@ impl<P: Numbered> Desk<P> {
         Ok(())
     }
     #[inline(always)]
-    fn step(&mut self, id: u64, out: &mut Vec<u8>) {
+    fn step<const RECORDED: bool>(&mut self, id: u64, out: &mut Vec<u8>) {
         match self.names.step(id) {
             Ok(Told::Quiet) => out.extend_from_slice(b"quiet\n"),
             Err(Refusal::NotBegun) => out.extend_from_slice(b"refused 4\n"),
             Err(Refusal::Finished) | Err(Refusal::Pending) => out.extend_from_slice(b"refused 5\n"),
             Err(Refusal::Spent) => out.extend_from_slice(b"refused 6\n"),
-            Ok(told) => self.put_told(told, out),
+            Ok(told) => self.put_told::<RECORDED>(told, out),
         }
     }
     #[inline(never)]
-    fn put_told(&self, told: Told, out: &mut Vec<u8>) {
+    fn put_told<const RECORDED: bool>(&self, told: Told, out: &mut Vec<u8>) {
         match told {
             Told::Placed(place) => {
                 let _ = writeln!(out, "place {}", self.names.snapshot.places.number(place));
             }
             Told::Proposed(number) => put_line(b"proposed ", number, out),
+            Told::Named(name, view) if RECORDED => {
+                out.extend_from_slice(b"named ");
+                put_number(name, out);
+                out.extend_from_slice(b"\",\"view\":\"");
+                put_pairs(&view, out);
+                // The LF stands for the space behind the last pair.
+                *out.last_mut().unwrap() = b'\n';
+            }
             Told::Named(name, _) => put_line(b"named ", name, out),
             Told::Saw(view) => {
-                out.extend_from_slice(b"saw");
-                for pair in view.pairs() {
-                    out.push(b' ');
-                    put_number(pair.0, out);
-                    out.push(b':');
-                    put_number(pair.1, out);
-                }
-                out.push(b'\n');
+                out.extend_from_slice(b"saw ");
+                put_pairs(&view, out);
+                *out.last_mut().unwrap() = b'\n';
             }
             Told::Quiet | Told::Spent => out.extend_from_slice(b"spent\n"),
         }
@@ -283,10 +299,10 @@ impl<P: Numbered> World for Desk<P> {
     const GIVES_NAMES: bool = true;
 
     #[inline(always)]
-    fn answer(&mut self, command: Command, out: &mut Vec<u8>) {
+    fn answer<const RECORDED: bool>(&mut self, command: Command, out: &mut Vec<u8>) {
         match command {
             Command::Begin(id) => put_done(self.begin(id), out),
-            Command::Step(id) => self.step(id, out),
+            Command::Step(id) => self.step::<RECORDED>(id, out),
             Command::Enter(id) => put_done(self.pool.enter(id), out),
             Command::Probe(id) => match self.pool.probe(id) {
                 Ok(None) => out.extend_from_slice(b"missed\n"),
@@ -349,41 +365,41 @@ fn number(text: &[u8]) -> Option<(u64, usize)> {
     Some((value, at))
 }
 
-/// A command of one number, behind its word, and how long its line is.
+/// A command of one number, behind its word and before this byte, and how long it is.
 #[inline(always)]
-fn one(text: &[u8], word: usize, make: impl Fn(u64) -> Command) -> Option<(Command, usize)> {
+fn one<const END: u8>(text: &[u8], word: usize, make: impl Fn(u64) -> Command) -> Option<(Command, usize)> {
     let (value, count) = number(&text[word..])?;
-    (text.get(word + count) == Some(&b'\n')).then(|| (make(value), word + count))
+    (text.get(word + count) == Some(&END)).then(|| (make(value), word + count))
 }
 
-/// The commonest commands, read where they stand up to their LF.
+/// The commonest commands, read where they stand up to this byte.
 #[inline(always)]
-fn quick<W: World>(text: &[u8]) -> Option<(Command, usize)> {
+fn quick<W: World, const END: u8>(text: &[u8]) -> Option<(Command, usize)> {
     if text.starts_with(b"step ") {
-        return one(text, 5, Command::Step);
+        return one::<END>(text, 5, Command::Step);
     }
     if text.starts_with(b"begin ") {
-        return one(text, 6, Command::Begin);
+        return one::<END>(text, 6, Command::Begin);
     }
     if !W::GIVES_NAMES {
         return None;
     }
     if text.starts_with(b"probe ") {
-        return one(text, 6, Command::Probe);
+        return one::<END>(text, 6, Command::Probe);
     }
     if text.starts_with(b"enter ") {
-        return one(text, 6, Command::Enter);
+        return one::<END>(text, 6, Command::Enter);
     }
     if text.starts_with(b"leave ") {
-        return one(text, 6, Command::Leave);
+        return one::<END>(text, 6, Command::Leave);
     }
     if text.starts_with(b"get ") {
-        return one(text, 4, Command::Get);
+        return one::<END>(text, 4, Command::Get);
     }
     if text.starts_with(b"put ") {
         let (id, count) = number(&text[4..])?;
         return match text.get(4 + count) {
-            Some(b' ') => one(text, 5 + count, |value| Command::Put(id, value)),
+            Some(b' ') => one::<END>(text, 5 + count, |value| Command::Put(id, value)),
             _ => None,
         };
     }
@@ -421,15 +437,35 @@ fn parse<W: World>(line: &[u8]) -> Result<Command, u64> {
     Ok(make(whole(1)?))
 }
 
-/// Answers a line by any way; whether it was `quit`.
-fn answer_slowly<W: World>(line: &[u8], world: &mut W, out: &mut Vec<u8>) -> bool {
+/// Answers a command that these bytes ask for, or records it.
+#[inline(always)]
+fn put_answer<W: World, const RECORDED: bool>(text: &[u8], command: Command, world: &mut W, out: &mut Vec<u8>) {
+    if RECORDED {
+        out.extend_from_slice(b"{\"command\":\"");
+        out.extend_from_slice(text);
+        out.extend_from_slice(b"\",\"reply\":\"");
+    }
+    world.answer::<RECORDED>(command, out);
+    if RECORDED {
+        out.truncate(out.len() - 1);
+        out.extend_from_slice(b"\"}\n");
+    }
+}
+
+/// Answers a line by any way; whether it was `quit`. A record has neither `quit` nor who has a name, and no line that is bad.
+fn answer_slowly<W: World, const RECORDED: bool>(line: &[u8], world: &mut W, out: &mut Vec<u8>) -> bool {
     match parse::<W>(line) {
         Ok(command) => {
-            world.answer(command, out);
+            let is_event = !matches!(command, Command::Quit | Command::Owner(_));
+            if is_event || !RECORDED {
+                put_answer::<W, RECORDED>(line, command, world, out);
+            }
             matches!(command, Command::Quit)
         }
         Err(why) => {
-            put_line(b"bad ", why, out);
+            if !RECORDED {
+                put_line(b"bad ", why, out);
+            }
             false
         }
     }
@@ -437,19 +473,19 @@ fn answer_slowly<W: World>(line: &[u8], world: &mut W, out: &mut Vec<u8>) -> boo
 
 /// Answers the lines that end in these bytes: how many bytes they are; none once the run has ended.
 #[inline(never)]
-fn feed<W: World>(text: &[u8], world: &mut W, out: &mut Vec<u8>) -> Option<usize> {
+fn feed<W: World, const RECORDED: bool>(text: &[u8], world: &mut W, out: &mut Vec<u8>) -> Option<usize> {
     let mut at = 0;
     while at < text.len() {
         let rest = &text[at..];
-        if let Some((command, end)) = quick::<W>(rest) {
-            world.answer(command, out);
+        if let Some((command, end)) = quick::<W, b'\n'>(rest) {
+            put_answer::<W, RECORDED>(&rest[..end], command, world, out);
             at += end + 1;
             continue;
         }
         let Some(end) = rest.iter().position(|byte| *byte == b'\n') else {
             break;
         };
-        if answer_slowly(&rest[..end], world, out) {
+        if answer_slowly::<W, RECORDED>(&rest[..end], world, out) {
             return None;
         }
         at += end + 1;
@@ -457,13 +493,19 @@ fn feed<W: World>(text: &[u8], world: &mut W, out: &mut Vec<u8>) -> Option<usize
     Some(at)
 }
 
-/// Plays standard input to its end, with the replies to each read written before the next.
-fn play_in<W: World>(mut world: W) {
+/// The standard streams.
+fn streams() -> [ManuallyDrop<File>; 2] {
     // SAFETY: both are open as long as the process runs, and neither is closed here.
-    let files = unsafe { [ManuallyDrop::new(File::from_raw_fd(0)), ManuallyDrop::new(File::from_raw_fd(1))] };
+    unsafe { [ManuallyDrop::new(File::from_raw_fd(0)), ManuallyDrop::new(File::from_raw_fd(1))] }
+}
+
+/// Plays standard input to its end, with the replies to each read, or their lines of the record, written before the next.
+fn play_in<W: World, const RECORDED: bool>(mut world: W, header: &[u8]) {
+    let files = streams();
     let (mut input, mut output) = (&*files[0], &*files[1]);
+    output.write_all(header).unwrap();
     let mut text = vec![0; ROOM + LINE_MAX + 1];
-    let mut out = Vec::with_capacity(ROOM);
+    let mut out = Vec::with_capacity(if RECORDED { 4 * ROOM } else { ROOM });
     let mut kept = 0;
     loop {
         let more = input.read(&mut text[kept..kept + ROOM]).unwrap();
@@ -472,7 +514,7 @@ fn play_in<W: World>(mut world: W) {
         }
         let whole = kept + more;
         out.clear();
-        let taken = feed(&text[..whole], &mut world, &mut out);
+        let taken = feed::<W, RECORDED>(&text[..whole], &mut world, &mut out);
         output.write_all(&out).unwrap();
         let Some(taken) = taken else {
             return;
@@ -483,8 +525,20 @@ fn play_in<W: World>(mut world: W) {
     }
     if kept != 0 {
         out.clear();
-        answer_slowly(&text[..kept], &mut world, &mut out);
+        answer_slowly::<W, RECORDED>(&text[..kept], &mut world, &mut out);
         output.write_all(&out).unwrap();
+    }
+}
+
+/// Plays a world of names, or records it.
+fn play_names<P: Numbered>(m: usize, k: usize, limit: u64, recorded: Option<&str>) {
+    let desk = Desk::<P>::new(m, k, limit);
+    match recorded {
+        Some(world) => {
+            let header = format!("{{\"format\":\"slot-record\",\"k\":{k},\"limit\":{limit},\"m\":{m},\"version\":2,\"world\":\"{world}\"}}\n");
+            play_in::<_, true>(desk, header.as_bytes());
+        }
+        None => play_in::<_, false>(desk, b""),
     }
 }
 
@@ -493,10 +547,107 @@ pub fn play(words: &[String]) {
     let told = |name: &str| words.windows(2).find(|pair| pair[0] == name).map(|pair| pair[1].as_str());
     let size = |name: &str, usual: usize| told(name).map_or(usual, |word| word.parse().unwrap());
     let (m, k, limit) = (size("--m", 4), size("--k", 4), size("--limit", 1000) as u64);
-    match told("--world").unwrap_or("rename") {
-        "grid" => play_in(Doors { grid: Grid::new(m), walks: Vec::with_capacity(m), most: m }),
-        "rename" => play_in(Desk::<Grid>::new(m, k, limit)),
-        "tree" => play_in(Desk::<Tree>::new(m, k, limit)),
+    let world = told("--world").unwrap_or("rename");
+    let recorded = words.iter().any(|word| word == "--record").then_some(world);
+    match world {
+        "grid" => play_in::<_, false>(Doors { grid: Grid::new(m), walks: Vec::with_capacity(m), most: m }, b""),
+        "rename" => play_names::<Grid>(m, k, limit, recorded),
+        "tree" => play_names::<Tree>(m, k, limit, recorded),
         other => panic!("no world {other}"),
+    }
+}
+
+/// The longest line of a record, with room to spare.
+const RECORD_LINE: usize = 8_192;
+
+/// Replays a line of a record: whether its reply is the one that is told, and how many bytes it has. `None` where it does not end here.
+#[inline(always)]
+fn replay<W: World>(text: &[u8], world: &mut W, out: &mut Vec<u8>) -> Option<(bool, usize)> {
+    const BEFORE: &[u8] = b"{\"command\":\"";
+    const BETWEEN: &[u8] = b"\",\"reply\":\"";
+    let end = |text: &[u8]| text.iter().position(|byte| *byte == b'\n').map(|at| at + 1);
+    if !text.starts_with(BEFORE) {
+        return end(text).map(|at| (false, at));
+    }
+    let asked = &text[BEFORE.len()..];
+    let (command, length) = match quick::<W, b'"'>(asked) {
+        Some(found) => found,
+        None => {
+            let whole = end(text)?;
+            let length = asked.iter().position(|byte| *byte == b'"').unwrap_or(0);
+            match parse::<W>(&asked[..length]) {
+                Ok(command) => (command, length),
+                Err(_) => return Some((false, whole)),
+            }
+        }
+    };
+    let told = &asked[length..];
+    if told.len() < RECORD_LINE {
+        end(told)?;
+    }
+    if !told.starts_with(BETWEEN) {
+        return end(text).map(|at| (false, at));
+    }
+    out.clear();
+    world.answer::<true>(command, out);
+    out.truncate(out.len() - 1);
+    out.extend_from_slice(b"\"}\n");
+    let right = told[BETWEEN.len()..].starts_with(out);
+    Some((right, BEFORE.len() + length + BETWEEN.len() + out.len()))
+}
+
+/// Replays the lines that end in these bytes: how many bytes they are, or which line is told otherwise.
+#[inline(never)]
+fn replay_all<W: World>(text: &[u8], line: &mut u64, world: &mut W, out: &mut Vec<u8>) -> Result<usize, u64> {
+    let mut at = 0;
+    while let Some((right, length)) = replay(&text[at..], world, out) {
+        *line += 1;
+        if !right {
+            return Err(*line);
+        }
+        at += length;
+    }
+    Ok(at)
+}
+
+/// Checks the lines behind the header, of which so many bytes were read.
+fn check_in<W: World>(mut world: W, text: &mut [u8], read: usize) -> Result<(), u64> {
+    let files = streams();
+    let mut input = &*files[0];
+    let mut out = Vec::with_capacity(RECORD_LINE);
+    let (mut line, mut kept) = (1, read);
+    loop {
+        let taken = replay_all(&text[..kept], &mut line, &mut world, &mut out)?;
+        text.copy_within(taken..kept, 0);
+        kept -= taken;
+        let more = input.read(&mut text[kept..kept + ROOM]).unwrap();
+        if more == 0 {
+            return if kept == 0 { Ok(()) } else { Err(line + 1) };
+        }
+        kept += more;
+    }
+}
+
+/// Checks the record on standard input.
+pub fn check() {
+    let mut text = vec![0; ROOM + RECORD_LINE + LINE_MAX];
+    let files = streams();
+    let read = (&*files[0]).read(&mut text[..ROOM]).unwrap();
+    let end = text[..read].iter().position(|byte| *byte == b'\n').unwrap();
+    let header = String::from_utf8(text[..end].to_vec()).unwrap();
+    let size = |key: &str| -> usize {
+        let (_, value) = header.split_once(key).unwrap();
+        value[..value.find([',', '}']).unwrap()].parse().unwrap()
+    };
+    let (m, k, limit) = (size("\"m\":"), size("\"k\":"), size("\"limit\":") as u64);
+    text.copy_within(end + 1..read, 0);
+    let left = read - end - 1;
+    let found = match header.ends_with("\"tree\"}") {
+        true => check_in(Desk::<Tree>::new(m, k, limit), &mut text, left),
+        false => check_in(Desk::<Grid>::new(m, k, limit), &mut text, left),
+    };
+    match found {
+        Ok(()) => println!("yes"),
+        Err(line) => println!("no {line}"),
     }
 }

@@ -727,6 +727,9 @@ fn main() {
     if words[1] == "play" {
         return lines::play(&words[2..]);
     }
+    if words[1] == "check" {
+        return lines::check();
+    }
     let turns: u64 = words[2].parse().unwrap();
     match words[1].as_str() {
         "draws" => return draws::<Grid>(turns, words[3].parse().unwrap()),

@@ -10,6 +10,7 @@ mod StandsLemmas
 mod LineLemmas
 mod FirstLineLemmas
 mod QuickLemmas
+mod SpelledLemmas
 mod EightDigits
 pub mod ReplyLemmas
 mod GoesOnLemmas

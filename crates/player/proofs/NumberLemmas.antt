@@ -6,7 +6,7 @@ use Rattle.std.proofs.lemmas.List.{at_drop_more, at_drop_all}
 use Rattle.player.specs.Meaning.{decimal_from, if_below}
 
 -- more digits make no smaller number
-decimal_from-grows : (n : ℕ) (digits : List ℕ) → n ≤ decimal_from n digits
+pub decimal_from-grows : (n : ℕ) (digits : List ℕ) → n ≤ decimal_from n digits
 decimal_from-grows n [] = omega arith
 decimal_from-grows n (b ∷ bs) = omega (arith, decimal_from-grows (n * 10 + (b - 48)) bs)
 

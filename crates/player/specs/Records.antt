@@ -21,6 +21,10 @@ abbrev pub name_view : ShownReply → List ℕ
 name_view (reply.Named name view) = codes ",\"view\":\"" ++ view_words view ++ codes "\""
 name_view r = []
 
+-- what follows the words of an event in its line
+abbrev pub replied : ShownReply → List ℕ
+replied r = codes "\",\"reply\":\"" ++ reply_words r ++ codes "\"" ++ name_view r ++ codes "}\n"
+
 -- the line of an event and its reply; no word of either needs an escape
 abbrev pub exchange_line : Exchange → List ℕ
 exchange_line x =

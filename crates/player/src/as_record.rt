@@ -3,7 +3,7 @@
 ghost use Rattle.std.specs.Prelude.{◌≡◌, ◌≤◌, ◌+◌, ◌++◌, length};
 ghost use Rattle.commands.specs.Replies.{with_view};
 ghost use Rattle.commands.specs.Config.{world_name};
-ghost use Rattle.player.specs.Records.{header_line, name_view, turn_record};
+ghost use Rattle.player.specs.Records.{header_line, name_view, replied, turn_record};
 
 use crate::events::print_event;
 use crate::form::Form;
@@ -18,6 +18,9 @@ pub const HEADER_ROOM: usize = 135;
 
 /// The view by which a name was given has no more bytes, with its key.
 const NAME_VIEW_ROOM: usize = 2_697;
+
+/// What follows the words of no event in its line has more bytes.
+const REPLIED_ROOM: usize = 5_402;
 
 /// Of each event a line of JSON is written, with its reply, and of other turns nothing.
 #[derive(Drop)]
@@ -34,11 +37,20 @@ impl Form for AsRecord {
     ) {
         out.put(b"{\"command\":\"");
         print_event(event, out);
-        out.put(b"\",\"reply\":\"");
-        print_words(reply, view, out);
-        out.put(b"\"");
-        put_name_view(reply, view, out);
-        out.put(b"}\n");
+        put_replied(reply, view, out);
+    }
+
+    #[inline(always)]
+    fn put_asked<A: Allocator>(
+        line: &[u8],
+        _event: Event,
+        reply: Reply<()>,
+        view: &View,
+        out: &mut Replies<A>,
+    ) {
+        out.put(b"{\"command\":\"");
+        out.put(line);
+        put_replied(reply, view, out);
     }
 
     fn put_told<A: Allocator>(_n: u64, _reply: Reply<()>, _view: &View, _out: &mut Replies<A>) {}
@@ -46,6 +58,35 @@ impl Form for AsRecord {
     fn put_ended<A: Allocator>(_out: &mut Replies<A>) {}
 
     fn put_misread<A: Allocator>(_bad: Bad, _out: &mut Replies<A>) {}
+}
+
+/// Appends what follows the words of an event in its line. The commonest replies are appended by one put.
+#[inline(always)]
+fn put_replied<A: Allocator>(reply: Reply<()>, view: &View, out: &mut Replies<A>)
+    requires { length out.old + REPLIED_ROOM ≤ HELD_REPLIES }
+    ensures text { out.new ≡ out.old ++ replied (with_view reply view.now) }
+    ensures short { length out.new ≤ length out.old + REPLIED_ROOM }
+{
+    match reply {
+        Reply::Ok => out.put(b"\",\"reply\":\"ok\"}\n"),
+        Reply::Quiet => out.put(b"\",\"reply\":\"quiet\"}\n"),
+        Reply::Missed => out.put(b"\",\"reply\":\"missed\"}\n"),
+        _ => put_any_replied(reply, view, out),
+    }
+}
+
+/// As `put_replied`, of any reply.
+#[inline(never)]
+fn put_any_replied<A: Allocator>(reply: Reply<()>, view: &View, out: &mut Replies<A>)
+    requires { length out.old + REPLIED_ROOM ≤ HELD_REPLIES }
+    ensures text { out.new ≡ out.old ++ replied (with_view reply view.now) }
+    ensures short { length out.new ≤ length out.old + REPLIED_ROOM }
+{
+    out.put(b"\",\"reply\":\"");
+    print_words(reply, view, out);
+    out.put(b"\"");
+    put_name_view(reply, view, out);
+    out.put(b"}\n");
 }
 
 /// Appends, of a name, the view by which it was given; of another reply nothing.

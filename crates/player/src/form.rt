@@ -2,9 +2,11 @@
 
 ghost use Rattle.std.specs.Prelude.{◌≡◌, ◌≤◌, ◌+◌, ◌++◌, ℕ, List, length};
 ghost use Rattle.commands.specs.Replies.{with_view};
+ghost use Rattle.player.specs.Events.{event_words};
 ghost use Rattle.player.specs.Turns.{Turn};
 ghost use Rattle.player.specs.Turns.Turn.{Answered, Told, Ended, Misread};
 
+use crate::events::EVENT_ROOM;
 use crate::replies::{HELD_REPLIES, Replies};
 use commands::{Bad, Event, Reply};
 use std::alloc::Allocator;
@@ -21,6 +23,20 @@ pub trait Form: Drop {
     /// Appends the text of an event that was answered, with this view where the reply shows one.
     fn put_answered<A: Allocator>(event: Event, reply: Reply<()>, view: &View, out: &mut Replies<A>)
         requires { length out.old + TURN_ROOM ≤ HELD_REPLIES }
+        ensures text { out.new ≡ out.old ++ text (Answered (record { event = event; reply = with_view reply view.now })) }
+        ensures short { length out.new ≤ length out.old + TURN_ROOM };
+
+    /// As `put_answered`, where this line, without its LF, asked for the event, so that it can be copied where its words are written.
+    fn put_asked<A: Allocator>(
+        line: &[u8],
+        event: Event,
+        reply: Reply<()>,
+        view: &View,
+        out: &mut Replies<A>,
+    )
+        requires room { length out.old + TURN_ROOM ≤ HELD_REPLIES }
+        requires line { line.now ≡ event_words event }
+        requires few { length line.now ≤ EVENT_ROOM }
         ensures text { out.new ≡ out.old ++ text (Answered (record { event = event; reply = with_view reply view.now })) }
         ensures short { length out.new ≤ length out.old + TURN_ROOM };
 

@@ -1,9 +1,9 @@
 //! One side of a talk: bytes in, requests to a service that others may share, and replies out, which are held elsewhere.
 
-ghost use Rattle.std.specs.Prelude.{◌≡◌, true, ◌+◌, ◌^◌, ◌<◌, ◌≤◌, length, take, IfOk};
-ghost use Rattle.commands.specs.Replies.{ShownReply};
-ghost use Rattle.commands.specs.Replies.{with_view};
-ghost use Rattle.commands.specs.Requests.Request.{OwnerOf};
+ghost use Rattle.std.specs.Prelude.{◌≡◌, true, ◌+◌, ◌^◌, ◌<◌, ◌≤◌, length, take, IfOk, Ok};
+ghost use Rattle.commands.specs.Replies.{ShownReply, with_view};
+ghost use Rattle.commands.specs.Requests.Request.{Take, OwnerOf};
+ghost use Rattle.player.specs.Events.{event_words};
 ghost use Rattle.player.specs.Knows.{Knows, KnowsMeant};
 ghost use Rattle.player.specs.Progress.{after_meaning, after_line, after_bytes, after_end};
 ghost use Rattle.player.specs.Says.{Says, SaysFrom, GoingOn, Afresh, IsHeld, IsSilent};
@@ -11,6 +11,7 @@ ghost use Rattle.player.specs.Turns.Turn.{Answered, Told, Ended, Misread};
 ghost use Rattle.player.specs.declared.replies.TheConstants.{HELD_REPLIES};
 ghost use Rattle.player.specs.declared.form.TheConstants.{TURN_ROOM};
 
+use crate::events::EVENT_ROOM;
 use crate::form::{Form, TURN_ROOM};
 use crate::line_buffer::LineBuffer;
 use crate::parse::parse_line;
@@ -90,6 +91,27 @@ impl<A: Allocator, F: Form> Talker<A, F> {
         ensures longer { length out.new ≤ length out.old + TURN_ROOM }
     {
         F::put_answered(event, reply, view, out);
+        self.summary.count_reply(reply);
+    }
+
+    /// As `hold_answered`, where this line asked for the event.
+    #[inline(always)]
+    fn hold_asked<B: Allocator>(
+        &mut self,
+        line: &[u8],
+        event: Event,
+        reply: Reply<()>,
+        view: &View,
+        out: &mut Replies<B>,
+    )
+        requires room { length out.old + TURN_ROOM ≤ HELD_REPLIES }
+        requires line { line.now ≡ event_words event }
+        requires few { length line.now ≤ EVENT_ROOM }
+        requires count { self.old.summary.lines + 1 < 2 ^ 64 }
+        ensures held { IsHeld F.text self.old out.old (Answered (record { event = event; reply = with_view reply view.now })) self.new out.new }
+        ensures longer { length out.new ≤ length out.old + TURN_ROOM }
+    {
+        F::put_asked(line, event, reply, view, out);
         self.summary.count_reply(reply);
     }
 
@@ -185,6 +207,32 @@ impl<A: Allocator, F: Form> Talker<A, F> {
         }
     }
 
+    /// Answers an event that this line asks for, counts the answer and adds the text of both.
+    #[inline(always)]
+    fn answer_event<R, D: Service<R>, B: Allocator>(
+        &mut self,
+        rt: &R,
+        service: &mut D,
+        view: &mut View,
+        line: &[u8],
+        event: Event,
+        out: &mut Replies<B>,
+    )
+        requires knows { D.knows (Take event) ≡ true }
+        requires room { length out.old + TURN_ROOM ≤ HELD_REPLIES }
+        requires line { line.now ≡ event_words event }
+        requires few { length line.now ≤ EVENT_ROOM }
+        requires count { self.old.summary.lines + 1 < 2 ^ 64 }
+        ensures says { SaysFrom D.may F.text Afresh service.old self.old out.old service.new self.new out.new
+            (λ p. after_meaning p (Ok (Command.Event event))) }
+        ensures kept { self.new.kind ≡ self.old.kind }
+        ensures longer { length out.new ≤ length out.old + TURN_ROOM }
+        ensures counted { self.new.summary.lines ≡ self.old.summary.lines + 1 }
+    {
+        let reply = service.apply(rt, event, view);
+        self.hold_asked(line, event, reply, view, out);
+    }
+
     /// Answers the line so far, which is whole, and begins the next.
     fn answer_line<R, D: Service<R>, B: Allocator>(
         &mut self,
@@ -231,8 +279,8 @@ impl<A: Allocator, F: Form> Talker<A, F> {
             return bytes.len();
         }
         if self.line.is_empty() {
-            if let Some((command, end)) = quick_command(bytes, self.kind, LF) {
-                self.answer(rt, service, view, Ok(command), out);
+            if let Some((Command::Event(event), end)) = quick_command(bytes, self.kind, LF) {
+                self.answer_event(rt, service, view, &bytes[..end], event, out);
                 return end + 1;
             }
         }
@@ -282,7 +330,8 @@ impl<A: Allocator, F: Form> Talker<A, F> {
         requires count { self.old.summary.lines + 1 < 2 ^ 64 }
         requires some { 0 < length bytes.now }
         ensures taken { (0 < result) × (result ≤ length bytes.now) }
-        ensures says { SaysFrom D.may F.text GoingOn service.old self.old out.old service.new self.new out.new (λ p. after_bytes self.old.kind p (take result bytes.now)) }
+        ensures says { SaysFrom D.may F.text GoingOn service.old self.old out.old service.new self.new out.new
+            (λ p. after_bytes self.old.kind p (take result bytes.now)) }
         ensures kept { self.new.kind ≡ self.old.kind }
         ensures longer { length out.new ≤ length out.old + TURN_ROOM }
         ensures counted { self.new.summary.lines ≤ self.old.summary.lines + 1 }

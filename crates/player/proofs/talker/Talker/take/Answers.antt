@@ -1,9 +1,12 @@
 use Rattle.std.proofs.Common.{◌≡◌, ◌∙◌, ◌+◌, false, [], refl, sym, ap, length, take, Ok}
+use Rattle.commands.specs.Requests.Request.{Take}
+use Rattle.commands.specs.declared.command.Command.TheVariants as command
 use Rattle.player.specs.Progress.{Progress, after_meaning, after_bytes}
 use Rattle.player.specs.Says.{Anywhere, GoingOn, Afresh}
 use Rattle.player.specs.TalkerState.{TalkerState}
 use Rattle.player.proofs.ProgressLemmas.{after_bytes-over}
 use Rattle.player.proofs.FirstLineLemmas.{means-none, after_bytes-first}
+use Rattle.player.proofs.SpelledLemmas.{event-spelled}
 use Rattle.player.proofs.SaysLemmas.{says_after, says_nothing}
 use Rattle.player.proofs.talker.Talker.take.Goals as goal
 
@@ -16,24 +19,36 @@ returns-then-self-clause-says g c =
     let over = sym t.over_is ∙ sym (ap (λ (q : TalkerState). q.over) c.self.view_is) ∙ c.if-self.true in
     rw (after_bytes-over s.kind p (take (length bytes) bytes) over) t)
 
-pub answer-requires-clause-knows : goal.answer-requires-clause-knows
-answer-requires-clause-knows g c = λ q is.
+pub answer_event-requires-clause-knows : goal.answer_event-requires-clause-knows
+answer_event-requires-clause-knows g c =
     let kind = ap (λ (q : TalkerState). q.kind) c.self.view_is in
-    c.requires.knows (take c.in-Some.end c.args.bytes.now) q ((rw kind at c.in-Some.ensures).means ∙ is)
+    c.requires.knows (take c.in-Some-Event-default.end c.args.bytes.now) (Take c.in-Some-Event-default.event)
+    (rw (c.in-Some-Event-default.field-0-0-is, kind) at c.in-Some-Event-default.ensures.means)
 
-pub returns-in-Some-clause-says : goal.returns-in-Some-clause-says
-returns-in-Some-clause-says g c =
+pub answer_event-requires-clause-line : goal.answer_event-requires-clause-line
+answer_event-requires-clause-line g c =
+    (event-spelled c.self.inside.kind (take c.in-Some-Event-default.end c.args.bytes.now) c.in-Some-Event-default.event
+    (rw c.in-Some-Event-default.field-0-0-is at c.in-Some-Event-default.ensures.means)).0
+
+pub answer_event-requires-clause-few : goal.answer_event-requires-clause-few
+answer_event-requires-clause-few g c =
+    (event-spelled c.self.inside.kind (take c.in-Some-Event-default.end c.args.bytes.now) c.in-Some-Event-default.event
+    (rw c.in-Some-Event-default.field-0-0-is at c.in-Some-Event-default.ensures.means)).1
+
+pub returns-in-Some-Event-default-clause-says : goal.returns-in-Some-Event-default-clause-says
+returns-in-Some-Event-default-clause-says g c =
     let s = c.args.self.now in
     let bytes = c.args.bytes.now in
-    let end = c.in-Some.end in
+    let end = c.in-Some-Event-default.end in
     let kind = ap (λ (q : TalkerState). q.kind) c.self.view_is in
-    let first = rw kind at c.in-Some.ensures in
-    says_after g.D.Service.may g.F.Form.text c.args.service.now c.answer.new.service s s c.answer.new.self c.args.out.now c.answer.new.out Anywhere Afresh
-    (λ p. after_meaning p (Ok c.in-Some.command)) (λ p. after_bytes s.kind p (take (end + 1) bytes)) (λ p. p) c.answer.ensures.says
+    let first = rw kind at c.in-Some-Event-default.ensures in
+    let means = rw c.in-Some-Event-default.field-0-0-is at first.means in
+    says_after g.D.Service.may g.F.Form.text c.args.service.now c.answer_event.new.service s s c.answer_event.new.self c.args.out.now c.answer_event.new.out Anywhere Afresh
+    (λ p. after_meaning p (Ok (command.Event c.in-Some-Event-default.event))) (λ p. after_bytes s.kind p (take (end + 1) bytes)) (λ p. p) c.answer_event.ensures.says
     (λ turns p t was.
     let on : p.over ≡ false = sym t.over_is ∙ sym (ap (λ (q : TalkerState). q.over) c.self.view_is) ∙ c.if-self.false in
     let empty : p.line ≡ [] = (c.is_empty.ensures p.line (ap (λ (q : TalkerState). q.line) c.self.view_is ∙ t.line_is)).0 c.if-is_empty.true in
-    (t, (on, empty), sym (after_bytes-first s.kind p bytes end _ on empty first.inside first.ends (means-none s.kind (take end bytes) c.in-Some.command first.means) first.means)))
+    (t, (on, empty), sym (after_bytes-first s.kind p bytes end _ on empty first.inside first.ends (means-none s.kind (take end bytes) (command.Event c.in-Some-Event-default.event) means) means)))
 
 pub returns-clause-says : goal.returns-clause-says
 returns-clause-says g c =
