@@ -1,13 +1,13 @@
 //! The form of records.
 
-ghost use Rattle.std.specs.Prelude.{◌≡◌, ◌≤◌, ◌+◌, ◌++◌, length};
+ghost use Rattle.std.specs.Prelude.{◌≡◌, ◌≤◌, ◌+◌, ◌++◌, length, codes, decimal};
 ghost use Rattle.commands.specs.Replies.{with_view};
 ghost use Rattle.commands.specs.Config.{world_name};
 ghost use Rattle.player.specs.Records.{header_line, name_view, replied, turn_record};
 
 use crate::events::print_event;
 use crate::form::Form;
-use crate::print::{print_words, put_shown, put_word};
+use crate::print::{print_words, put_number, put_shown, put_word};
 use crate::replies::{HELD_REPLIES, Replies};
 use commands::{Bad, Config, Event, Reply, WorldKind};
 use std::alloc::Allocator;
@@ -71,7 +71,30 @@ fn put_replied<A: Allocator>(reply: Reply<()>, view: &View, out: &mut Replies<A>
         Reply::Ok => out.put(b"\",\"reply\":\"ok\"}\n"),
         Reply::Quiet => out.put(b"\",\"reply\":\"quiet\"}\n"),
         Reply::Missed => out.put(b"\",\"reply\":\"missed\"}\n"),
+        Reply::Got(number) => put_small_end(b"\",\"reply\":\"got ", number, out),
+        Reply::Left(number) => put_small_end(b"\",\"reply\":\"left ", number, out),
+        Reply::Refused(refusal) => {
+            put_small_end(b"\",\"reply\":\"refused ", refusal.number(), out);
+        }
         _ => put_any_replied(reply, view, out),
+    }
+}
+
+/// Appends these bytes, a number of few digits in decimal, and the end of a line that shows no view.
+#[inline(always)]
+fn put_small_end<A: Allocator>(front: &[u8], number: u8, out: &mut Replies<A>)
+    requires { length out.old + (length front.now + 23) ≤ HELD_REPLIES }
+    ensures text { out.new ≡ out.old ++ ((front.now ++ decimal number) ++ codes "\"}\n") }
+    ensures len { length out.new ≤ length out.old + (length front.now + 23) }
+{
+    out.put(front);
+    if number < 10 {
+        out.put(&[b'0' + number, b'"', b'}', b'\n']);
+    } else if number < 100 {
+        out.put(&[b'0' + number / 10, b'0' + number % 10, b'"', b'}', b'\n']);
+    } else {
+        put_number(u64::from(number), out);
+        out.put(b"\"}\n");
     }
 }
 
