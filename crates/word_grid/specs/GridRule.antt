@@ -11,6 +11,7 @@ use Rattle.splitter.specs.Walk.{accesses_at}
 use Rattle.splitter_grid.specs.declared.walker.Walker.{Walker}
 use Rattle.splitter_grid.specs.Invariant.{DoorsAgree}
 use Rattle.splitter_grid.specs.Walk.{place_by}
+use Rattle.raw_parts.specs.Numbered.{Each, NoneTwice}
 use Rattle.raw_parts.specs.SplitterView.{own_word}
 use Rattle.word_grid.specs.declared.grid_view.Walk.{Walk}
 use Rattle.word_grid.specs.declared.grid_view.Ending.{Ending}
@@ -48,20 +49,10 @@ pub record IsEnded (most : ℕ) (walker : ℕ → Option Walker) (seats : ℕ) (
   pub seats_are : seats ≡ most
   pub ended : place_by (walker (own_word t.number)) ≡ Some t.place
 
--- a fact of each
-abbrev pub Each : {A : Type 0} → (A → Type 0) → List A → Type 0
-Each P [] = Unit {0}
-Each P (x ∷ xs) = P x × Each P xs
-
--- no number has two walks
-abbrev pub NoneTwice : List Walk → Type 0
-NoneTwice [] = Unit {0}
-NoneTwice (w ∷ ws) = Each (λ t. t.number ≢ w.number) ws × NoneTwice ws
-
 -- what a view says is so
 pub record Shows (most begun : ℕ) (seat_of : ℕ → ℕ) (walker : ℕ → Option Walker) (seat : ℕ) (v : GridView) : Type 0 where
   pub walks : Each (IsShown most begun seat_of walker seat v.most) v.walks
-  pub once : NoneTwice v.walks
+  pub once : NoneTwice (λ (w : Walk). w.number) v.walks
   pub endings : Each (IsEnded most walker v.most) v.endings
 
 -- The rule, of at most 64 seats. Two words for each door, X and Y; so many have begun; doors and walks agree; and each walk
