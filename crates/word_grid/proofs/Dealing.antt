@@ -1,7 +1,6 @@
 -- a table opens under the rule, and keeps it where a walk goes to a new seat, or to another that takes it in
-use Rattle.std.proofs.Common.{◌≡◌, ◌≢◌, ℕ, zero, suc, ◌+◌, ◌-◌, ◌*◌, ◌<◌, ◌≤◌, inl, inr, ⊎_elim, Option, None, sym, refl, ap, ◌∙◌, subst, arith, List, [], ◌∷◌, length, set, slice_set, slice_index, take, drop, replicate}
+use Rattle.std.proofs.Common.{◌≡◌, ◌≢◌, ℕ, zero, suc, ◌+◌, ◌-◌, ◌*◌, ◌<◌, ◌≤◌, ⊎_elim, Option, None, sym, refl, ap, ◌∙◌, subst, arith, List, [], ◌∷◌, length, set, slice_set, slice_index, take, drop, replicate}
 use Rattle.std.proofs.Math.ListN.{length-replicate}
-use Rattle.std.proofs.lemmas.Bool.Decides.{eqb_tells}
 use mathlib.Core.Option.{some, some-ne-none, some-injective}
 use lib.ListN.{get_elem?}
 use Rattle.atomic_table.specs.Table.{Me, Step, Allows, Splits, Joins, opening, keeps}

@@ -2,7 +2,7 @@
 -- relation that any grid of splitters keeps (`DoorsAgree`; Moir and Anderson 1995), of the words of a table and of as many
 -- walks as have begun. That each walk stands in the view of the seat that makes it, with its accesses counted there, is
 -- this project's profile.
-use Rattle.std.specs.Prelude.{◌≡◌, ◌≢◌, ℕ, ◌+◌, ◌*◌, ◌<◌, ◌≤◌, List, [], ◌∷◌, length, slice_index, Option, Some, None, is_some}
+use Rattle.std.specs.Prelude.{◌≡◌, ℕ, ◌+◌, ◌*◌, ◌<◌, ◌≤◌, List, length, slice_index, Option, Some, None, is_some}
 use mathlib.Core.Option.{some}
 use lib.ListN.{get_elem?}
 use Rattle.atomic_table.specs.Table.{State}

@@ -1,5 +1,5 @@
 -- what a seat of a grid knows
-use Rattle.std.specs.Prelude.{ℕ, zero, suc, ◌+◌, ◌-◌, List, [], ◌∷◌, Option, Some, None}
+use Rattle.std.specs.Prelude.{ℕ, ◌-◌, List, [], ◌∷◌, Option, Some, None}
 use Rattle.raw_parts.specs.Numbered.{numbered_from}
 use Rattle.raw_parts.specs.SplitterView.{own_word}
 use Rattle.splitter_grid.specs.declared.walker.Walker.{Walker}
