@@ -15,15 +15,11 @@ use Rattle.splitter.proofs.DoorKept.{kept}
 use Rattle.raw_parts.specs.declared.splitter_view.Visit.{Visit}
 use Rattle.raw_parts.specs.declared.splitter_view.SplitterView.{SplitterView}
 use Rattle.raw_parts.specs.SplitterView.{own_word, visit_at, lone_view}
-use Rattle.raw_parts.specs.SplitterRule.{IsLawful, IsShown, Each, IsAmong, IsLast, Meets, Shows, IsKept, KeepsRule}
+use Rattle.raw_parts.specs.SplitterRule.{IsLawful, IsShown, IsAmong, IsLast, Meets, Shows, IsKept, KeepsRule}
 use Rattle.raw_parts.specs.SplitterSteps.{IsUnderRule, MovesOn, after_access, moved_on, turn_after, met_after}
 use Rattle.step_memory.proofs.SetAtLemmas.{set_at-cases, set_at-same, set_at-other}
+use Rattle.raw_parts.proofs.Numbered.{each_map}
 use Rattle.raw_parts.proofs.Views.{each_set, there_still, at_after}
-
--- a fact of each visit from another
-pub each_map : (P Q : Visit → Type 0) → ((v : Visit) → P v → Q v) → (vs : List Visit) → Each P vs → Each Q vs
-each_map P Q f [] h = tt
-each_map P Q f (v ∷ vs) h = (f v h.0, each_map P Q f vs h.1)
 
 -- the view has the visit of this number
 abbrev pub Has : ℕ → SplitterView → Type 0

@@ -12,36 +12,13 @@ use Rattle.splitter.proofs.DoorKept.{lawful_new}
 use Rattle.raw_parts.specs.declared.splitter_view.Visit.{Visit}
 use Rattle.raw_parts.specs.declared.splitter_view.SplitterView.{SplitterView}
 use Rattle.raw_parts.specs.SplitterView.{fresh_visit, view_of, unbegun_from, undealt_from}
-use Rattle.raw_parts.specs.SplitterRule.{IsShown, Each, Meets, NoneTwice, IsAmong, Shows, KeepsRule}
+use Rattle.raw_parts.specs.SplitterRule.{IsShown, Meets, IsAmong, Shows, KeepsRule}
 use Rattle.step_memory.proofs.SetAtLemmas.{set_at-cases, set_at-same, set_at-other}
 use Rattle.raw_parts.proofs.Views.{each_set, each_pushed, HoldsAt, at_after, at_longer_list, at_its_end}
-use Rattle.raw_parts.proofs.Accesses.{each_map, Has}
+use Rattle.raw_parts.proofs.Accesses.{Has}
+use Rattle.raw_parts.proofs.Numbered.{each_map, each_both, IsNumbered, each_numbered, none_twice}
 
--- visits that have not begun, numbered from `first` on and below `end`
-record IsUnbegun (first end : ℕ) (v : Visit) : Type 0 where
-  from : first ≤ v.number
-  below : v.number < end
-  fresh : fresh_visit v.number ≡ v
-
--- each of them is one
-unbegun : (count first end : ℕ) → first + count ≤ end → Each (IsUnbegun first end) (unbegun_from first count)
-unbegun zero first end h = tt
-unbegun (suc count) first end h = (
-  record { from = omega arith; below = omega arith; fresh = refl },
-  each_map (IsUnbegun (first + 1) end) (IsUnbegun first end) (λ v x. record { from = let f = x.from in omega arith; below = x.below; fresh = x.fresh })
-      (unbegun_from (first + 1) count) (unbegun count (first + 1) end (omega arith)),
-)
-
--- and no number has two
-none_twice : (count first : ℕ) → NoneTwice (unbegun_from first count)
-none_twice zero first = tt
-none_twice (suc count) first = (
-  each_map (IsUnbegun (first + 1) (first + 1 + count)) (λ w. w.number ≢ first) (λ v x e. let f = x.from in omega arith)
-      (unbegun_from (first + 1) count) (unbegun count (first + 1) (first + 1 + count) (omega arith)),
-  none_twice count (first + 1),
-)
-
--- nor is a number left out
+-- of the visits that have not begun no number is left out
 all_unbegun : (count first number : ℕ) → first ≤ number → number < first + count → IsAmong number (unbegun_from first count)
 all_unbegun zero first number from below = absurd (omega arith)
 all_unbegun (suc count) first number from below = dite (ℕ_discrete first number) inl (λ ne. inr (all_unbegun count (first + 1) number (omega arith) (omega arith)))
@@ -49,9 +26,9 @@ all_unbegun (suc count) first number from below = dite (ℕ_discrete first numbe
 -- so what the first seat's view says is so
 shows_opening : (n seat : ℕ) (v : SplitterView) → get_elem? ((undealt_from 0 n) ∷ []) seat ≡ some v → Shows n (λ _. 0) (λ _. Outside) (λ _. 0) seat v
 shows_opening n zero v e = subst (Shows n (λ _. 0) (λ _. Outside) (λ _. 0) 0) (some-injective (undealt_from 0 n) v e) (
-  each_map (IsUnbegun 0 n) (IsShown n (λ _. 0) (λ _. Outside) (λ _. 0) 0 (undealt_from 0 n))
-      (λ t x. record { seats_are = refl; in_range = x.below; own = refl; stage_is = ap (λ (w : Visit). w.stage) x.fresh; turn_is = ap (λ (w : Visit). w.turn) x.fresh; meets = subst (λ (w : Visit). Meets n (λ _. Outside) (λ _. 0) w w.stage) x.fresh refl }) (unbegun_from 0 (n - 0)) (unbegun (n - 0) 0 n (omega arith)),
-  none_twice (n - 0) 0,
+  each_map (IsNumbered (λ (w : Visit). w.number) fresh_visit 0 n) (IsShown n (λ _. 0) (λ _. Outside) (λ _. 0) 0 (undealt_from 0 n))
+      (λ t x. record { seats_are = refl; in_range = x.below; own = refl; stage_is = ap (λ (w : Visit). w.stage) x.is; turn_is = ap (λ (w : Visit). w.turn) x.is; meets = subst (λ (w : Visit). Meets n (λ _. Outside) (λ _. 0) w w.stage) x.is refl }) (unbegun_from 0 (n - 0)) (each_numbered (λ (w : Visit). w.number) fresh_visit (λ number. refl) (n - 0) 0 n (omega arith)),
+  none_twice (λ (w : Visit). w.number) fresh_visit (λ number. refl) (n - 0) 0,
 )
 shows_opening n (suc seat) v e = absurd (some-ne-none v (sym e))
 
@@ -81,11 +58,6 @@ shows_elsewhere n k new seat seat_of stage turn u ne s = (
       (λ t x. elsewhere n k new seat seat_of stage turn u t (λ e. ne (ap seat_of (sym e) ∙ x.own)) x) u.visits s.0,
   s.1,
 )
-
--- a fact of each visit from two
-each_both : (P Q R : Visit → Type 0) → ((v : Visit) → P v → Q v → R v) → (vs : List Visit) → Each P vs → Each Q vs → Each R vs
-each_both P Q R f [] h i = tt
-each_both P Q R f (v ∷ vs) h i = (f v h.0 i.0, each_both P Q R f vs h.1 i.1)
 
 -- the first visit goes to a new seat
 module _ {S : Type 0} (n seat m : ℕ) (v : Visit) (rest : List Visit) where

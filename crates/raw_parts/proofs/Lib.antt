@@ -1,4 +1,5 @@
 pub mod Views
+pub mod Numbered
 mod Accesses
 mod Dealing
 mod Meeting

@@ -1,3 +1,4 @@
+pub mod Numbered
 pub mod SplitterView
 pub mod SplitterRule
 pub mod SplitterSteps

@@ -14,6 +14,7 @@ use Rattle.splitter.specs.Stage.{has_entered, has_set}
 use Rattle.splitter.specs.Invariant.{DoorIsLawful}
 use Rattle.raw_parts.specs.declared.splitter_view.Visit.{Visit}
 use Rattle.raw_parts.specs.declared.splitter_view.SplitterView.{SplitterView}
+use Rattle.raw_parts.specs.Numbered.{Each, NoneTwice}
 use Rattle.raw_parts.specs.SplitterView.{own_word, view_of}
 
 -- what stands in X and in Y agrees with how far the visit of each seat has come
@@ -52,19 +53,9 @@ pub record IsShown (seats : ℕ) (seat_of : ℕ → ℕ) (stage : ℕ → Stage)
   pub turn_is : turn (own_word v.number) ≡ v.turn
   pub meets : Meets seats stage turn v v.stage
 
--- a fact of each visit
-abbrev pub Each : (Visit → Type 0) → List Visit → Type 0
-Each P [] = Unit {0}
-Each P (v ∷ vs) = P v × Each P vs
-
--- no number has two visits
-abbrev pub NoneTwice : List Visit → Type 0
-NoneTwice [] = Unit {0}
-NoneTwice (v ∷ vs) = Each (λ w. w.number ≢ v.number) vs × NoneTwice vs
-
 -- what a view says is so
 abbrev pub Shows : ℕ → (ℕ → ℕ) → (ℕ → Stage) → (ℕ → ℕ) → ℕ → SplitterView → Type 0
-Shows seats seat_of stage turn seat view = Each (IsShown seats seat_of stage turn seat view) view.visits × NoneTwice view.visits
+Shows seats seat_of stage turn seat view = Each (IsShown seats seat_of stage turn seat view) view.visits × NoneTwice (λ (w : Visit). w.number) view.visits
 
 -- the visit of this number is one of these
 abbrev pub IsAmong : ℕ → List Visit → Type 0

@@ -1,7 +1,8 @@
 -- what a seat of a splitter knows
-use Rattle.std.specs.Prelude.{ℕ, zero, suc, ◌+◌, ◌-◌, List, [], ◌∷◌}
+use Rattle.std.specs.Prelude.{ℕ, ◌+◌, ◌-◌, List, [], ◌∷◌}
 use Rattle.splitter.specs.declared.stage.Stage.{Stage}
 use Rattle.splitter.specs.declared.stage.Stage.TheVariants.{Outside}
+use Rattle.raw_parts.specs.Numbered.{numbered_from}
 use Rattle.raw_parts.specs.declared.splitter_view.Visit.{Visit}
 use Rattle.raw_parts.specs.declared.splitter_view.SplitterView.{SplitterView}
 
@@ -25,8 +26,7 @@ lone_view seats visit = view_of seats (visit ∷ [])
 
 -- so many visits that have not begun, by rising number
 abbrev pub unbegun_from : ℕ → ℕ → List Visit
-unbegun_from number zero = []
-unbegun_from number (suc count) = fresh_visit number ∷ unbegun_from (number + 1) count
+unbegun_from = numbered_from fresh_visit
 
 -- the view of the seat that the others are dealt from: the visits of a splitter's seats from this number on
 abbrev pub undealt_from : ℕ → ℕ → SplitterView

@@ -113,6 +113,18 @@ impl<A: Allocator> Board<A> {
         }
     }
 
+    /// The word of a name at which an identity is asked for, which is not 0.
+    fn word_for(&self, name: u64, identity: u64) -> Option<u64>
+        ensures word { IfSome result (λ word. (word + 1 ≡ name) × (word < self.now.words) × (identity ≢ 0)) }
+        ensures none { IfNone result ((name ≡ 0) ⊎ (self.now.words < name) ⊎ (identity ≡ 0)) }
+    {
+        if identity == 0 {
+            None
+        } else {
+            self.word_of(name)
+        }
+    }
+
     /// A further seat, split off one of this board.
     pub fn reader(&self, seat: &mut ReaderSeat) -> ReaderSeat
         requires { seat.old.board ≡ self.now }
@@ -136,10 +148,7 @@ impl<A: Allocator> Board<A> {
         ensures grant { IfSome result (λ g. g ≡ grant_of self.now name identity) }
         ensures range { IfSome result (λ g. (1 ≤ name) × (name ≤ self.now.words) × (identity ≢ 0)) }
     {
-        if identity == 0 {
-            return None;
-        }
-        let word = self.word_of(name)?;
+        let word = self.word_for(name, identity)?;
         let ReaderSeat { seat } = seat;
         let found = self
             .table
@@ -166,10 +175,7 @@ impl<A: Allocator> Board<A> {
         ensures grant { IfSome result (λ g. g ≡ grant_of self.now name identity) }
         ensures range { IfSome result (λ g. (1 ≤ name) × (name ≤ self.now.words) × (identity ≢ 0)) }
     {
-        if identity == 0 {
-            return None;
-        }
-        let word = self.word_of(name)?;
+        let word = self.word_for(name, identity)?;
         let ReaderSeat { seat } = seat;
         let found = self.table.shared.load::<Find>(seat, word as usize);
         if found == 0 {

@@ -17,7 +17,8 @@ use Rattle.word_grid.specs.declared.grid_view.Walk.{Walk}
 use Rattle.word_grid.specs.declared.grid_view.Ending.{Ending}
 use Rattle.word_grid.specs.declared.grid_view.GridView.{GridView}
 use Rattle.word_grid.specs.GridView.{view_of, lone_view, ending_at, endings_at, endings_of}
-use Rattle.word_grid.specs.GridRule.{x_in, y_in, IsShown, IsEnded, Each, Shows, IsKept, KeepsGrid}
+use Rattle.word_grid.specs.GridRule.{x_in, y_in, IsShown, IsEnded, Shows, IsKept, KeepsGrid}
+use Rattle.raw_parts.specs.Numbered.{Each}
 use Rattle.word_grid.specs.GridSteps.{IsUnderRule}
 use Rattle.word_grid.specs.Seats.{GridId, ClaimId, claim_at, most_in}
 

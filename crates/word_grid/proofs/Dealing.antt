@@ -1,7 +1,6 @@
 -- a table opens under the rule, and keeps it where a walk goes to a new seat, or to another that takes it in
-use Rattle.std.proofs.Common.{◌≡◌, ◌≢◌, ℕ, zero, suc, ◌+◌, ◌-◌, ◌*◌, ◌<◌, ◌≤◌, inl, inr, ⊎_elim, Option, None, sym, refl, ap, ◌∙◌, subst, arith, List, [], ◌∷◌, length, set, slice_set, slice_index, take, drop, replicate}
+use Rattle.std.proofs.Common.{◌≡◌, ◌≢◌, ℕ, zero, suc, ◌+◌, ◌-◌, ◌*◌, ◌<◌, ◌≤◌, ⊎_elim, Option, None, sym, refl, ap, ◌∙◌, subst, arith, List, [], ◌∷◌, length, set, slice_set, slice_index, take, drop, replicate}
 use Rattle.std.proofs.Math.ListN.{length-replicate}
-use Rattle.std.proofs.lemmas.Bool.Decides.{eqb_tells}
 use mathlib.Core.Option.{some, some-ne-none, some-injective}
 use lib.ListN.{get_elem?}
 use Rattle.atomic_table.specs.Table.{Me, Step, Allows, Splits, Joins, opening, keeps}
@@ -17,49 +16,18 @@ use Rattle.word_grid.specs.declared.grid_view.Walk.{Walk}
 use Rattle.word_grid.specs.declared.grid_view.Ending.{Ending}
 use Rattle.word_grid.specs.declared.grid_view.GridView.{GridView}
 use Rattle.word_grid.specs.GridView.{view_of, unbegun, unbegun_from, undealt_from}
-use Rattle.word_grid.specs.GridRule.{x_in, y_in, IsShown, Each, NoneTwice, Shows, IsKept, KeepsGrid}
+use Rattle.word_grid.specs.GridRule.{x_in, y_in, IsShown, Shows, IsKept, KeepsGrid}
 use Rattle.word_grid.specs.GridSteps.{IsAtRest, Looks}
-use Rattle.word_grid.proofs.Each.{each_map, each_both}
+use Rattle.raw_parts.specs.Numbered.{Each}
+use Rattle.raw_parts.proofs.Numbered.{each_map, each_both, IsNumbered, each_numbered, none_twice}
 use Rattle.word_grid.proofs.Words.{stored_again}
 use Rattle.word_grid.proofs.Walking.{under_rule}
 
--- walks that have not begun, numbered from `first` on and below `end`
-record IsUnbegun (first end : ℕ) (w : Walk) : Type 0 where
-  from : first ≤ w.number
-  below : w.number < end
-  is : w ≡ unbegun w.number
-
--- each of them is one
-each_unbegun : (count first end : ℕ) → first + count ≤ end → Each (IsUnbegun first end) (unbegun_from first count)
-each_unbegun zero first end h = tt
-each_unbegun (suc count) first end h = (
-  record { from = omega arith; below = omega arith; is = refl },
-  each_map (IsUnbegun (first + 1) end) (IsUnbegun first end) (λ w x. record { from = let f = x.from in omega arith; below = x.below; is = x.is })
-      (unbegun_from (first + 1) count) (each_unbegun count (first + 1) end (omega arith)),
-)
-
--- and no number has two
-none_twice : (count first : ℕ) → NoneTwice (unbegun_from first count)
-none_twice zero first = tt
-none_twice (suc count) first = (
-  each_map (IsUnbegun (first + 1) (first + 1 + count)) (λ w. w.number ≢ first) (λ w x e. let f = x.from in omega arith)
-      (unbegun_from (first + 1) count) (each_unbegun count (first + 1) (first + 1 + count) (omega arith)),
-  none_twice count (first + 1),
-)
-
--- what is so of each of them is so of each number from `first` on
-pub of_unbegun : (P : Walk → Type 0) (count first number : ℕ) → Each P (unbegun_from first count) → first ≤ number → number < first + count → P (unbegun number)
-of_unbegun P zero first number all from below = absurd (omega arith)
-of_unbegun P (suc count) first number all from below = elim (eqb_tells first number) [
-  | inl e ↦ subst (λ (n : ℕ). P (unbegun n)) e.1 all.0
-  | inr e ↦ of_unbegun P count (first + 1) number all.1 (let other = e.1 in omega arith) (omega arith)
-]
-
--- so what the first seat's view says is so
+-- what the first seat's view says is so
 shows_opening : (n seat : ℕ) (v : GridView) → get_elem? (undealt_from 0 n ∷ []) seat ≡ some v → Shows n 0 (λ _. 0) (λ _. None) seat v
 shows_opening n zero v e = subst (Shows n 0 (λ _. 0) (λ _. None) 0) (some-injective (undealt_from 0 n) v e) (record {
-  walks = each_map (IsUnbegun 0 n) (IsShown n 0 (λ _. 0) (λ _. None) 0 n)
-      (λ w x. let same = x.is in record {
+  walks = each_map (IsNumbered (λ (w : Walk). w.number) unbegun 0 n) (IsShown n 0 (λ _. 0) (λ _. None) 0 n)
+      (λ w x. let same = sym x.is in record {
         seats_are = refl;
         in_range = x.below;
         own = refl;
@@ -67,8 +35,8 @@ shows_opening n zero v e = subst (Shows n 0 (λ _. 0) (λ _. None) 0) (some-inje
         accesses_are = (let a = ap (λ (t : Walk). t.accesses) same in let b = ap (λ (t : Walk). t.walker) same in rw b a);
         entered_are = (let a = ap (λ (t : Walk). t.entered) same in omega arith);
         shallow = λ u is. absurd (let b = ap (λ (t : Walk). t.walker) same in cc);
-      }) (unbegun_from 0 (n - 0)) (each_unbegun (n - 0) 0 n (omega arith));
-  once = none_twice (n - 0) 0;
+      }) (unbegun_from 0 (n - 0)) (each_numbered (λ (w : Walk). w.number) unbegun (λ number. refl) (n - 0) 0 n (omega arith));
+  once = none_twice (λ (w : Walk). w.number) unbegun (λ number. refl) (n - 0) 0;
   endings = tt;
 })
 shows_opening n (suc seat) v e = absurd (some-ne-none v (sym e))

@@ -15,13 +15,13 @@ use Rattle.splitter_grid.specs.Walk.{walker_at, visit_on}
 use Rattle.splitter_grid.proofs.Numbers.{number_low}
 use Rattle.raw_parts.specs.SplitterView.{own_word}
 use Rattle.word_grid.specs.declared.grid_view.GridView.{GridView}
-use Rattle.word_grid.specs.GridView.{view_of, lone_view, unbegun_from, undealt_from}
+use Rattle.word_grid.specs.GridView.{view_of, lone_view, unbegun, unbegun_from, undealt_from}
 use Rattle.word_grid.specs.GridRule.{x_in, y_in, IsShown}
 use Rattle.word_grid.specs.GridSteps.{HasVisited, IsUnderRule}
 use Rattle.word_grid.specs.Law.{KeepsWalkLaw}
 use Rattle.word_grid.specs.Seats.{GridId, grid_of, DealerId, dealer_of, EndedWalk, ended_walk, place_of, most_in, entered_in, accesses_in, stopped_at}
 use Rattle.word_grid.proofs.Begun.{count_low}
-use Rattle.word_grid.proofs.Dealing.{of_unbegun}
+use Rattle.raw_parts.proofs.Numbered.{of_numbered}
 use Rattle.word_grid.proofs.Visiting.{placed_next}
 
 -- the badge of a seat whose walk has stopped tells of it, and the walk keeps its law
@@ -85,7 +85,7 @@ module _ (m dealt : ℕ) (e : EndedWalk) (u : IsUnderRule (view_of m (stopped_at
       let before = all.0.entered_are in
       let count = h.counted in
       let low = count_low (λ n. is_some (h.walker (own_word n))) dealt m (λ k l some. elim (leb_tells dealt k) [
-        | inl le ↦ absurd (let none : h.walker (own_word k) ≡ None = (of_unbegun (IsShown m h.begun h.seat_of h.walker u.seat m) (m - dealt) dealt k all.1 le.1 (let d = le.1 in omega arith)).walker_is in let never : is_some (h.walker (own_word k)) ≡ false = ap is_some none in cc)
+        | inl le ↦ absurd (let none : h.walker (own_word k) ≡ None = (of_numbered (IsShown m h.begun h.seat_of h.walker u.seat m) unbegun (m - dealt) dealt k all.1 le.1 (let d = le.1 in omega arith)).walker_is in let never : is_some (h.walker (own_word k)) ≡ false = ap is_some none in cc)
         | inr less ↦ let d = less.1 in omega arith
       ]) in
       omega arith

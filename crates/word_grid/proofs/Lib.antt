@@ -1,4 +1,3 @@
-mod Each
 mod Words
 mod Begun
 mod Walking

@@ -26,7 +26,7 @@ use Rattle.word_grid.specs.declared.grid_view.GridView.{GridView}
 use Rattle.word_grid.specs.GridView.{walk_at, lone_view, standing}
 use Rattle.word_grid.specs.GridRule.{x_in, y_in, begun_of, accesses_made, IsShown, IsEnded, Shows, IsKept, KeepsGrid}
 use Rattle.word_grid.specs.GridSteps.{IsUnderRule, MovesOn, Stands, IsDoorOf, next_walker, walked_on, moved_on}
-use Rattle.word_grid.proofs.Each.{each_map}
+use Rattle.raw_parts.proofs.Numbered.{each_map}
 use Rattle.word_grid.proofs.Words.{x_set, x_stays, y_set, y_stays, stored_again}
 use Rattle.word_grid.proofs.Begun.{one_begins, none_begins, few_begun}
 

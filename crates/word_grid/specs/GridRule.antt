@@ -2,7 +2,7 @@
 -- relation that any grid of splitters keeps (`DoorsAgree`; Moir and Anderson 1995), of the words of a table and of as many
 -- walks as have begun. That each walk stands in the view of the seat that makes it, with its accesses counted there, is
 -- this project's profile.
-use Rattle.std.specs.Prelude.{◌≡◌, ◌≢◌, ℕ, ◌+◌, ◌*◌, ◌<◌, ◌≤◌, List, [], ◌∷◌, length, slice_index, Option, Some, None, is_some}
+use Rattle.std.specs.Prelude.{◌≡◌, ℕ, ◌+◌, ◌*◌, ◌<◌, ◌≤◌, List, length, slice_index, Option, Some, None, is_some}
 use mathlib.Core.Option.{some}
 use lib.ListN.{get_elem?}
 use Rattle.atomic_table.specs.Table.{State}
@@ -11,6 +11,7 @@ use Rattle.splitter.specs.Walk.{accesses_at}
 use Rattle.splitter_grid.specs.declared.walker.Walker.{Walker}
 use Rattle.splitter_grid.specs.Invariant.{DoorsAgree}
 use Rattle.splitter_grid.specs.Walk.{place_by}
+use Rattle.raw_parts.specs.Numbered.{Each, NoneTwice}
 use Rattle.raw_parts.specs.SplitterView.{own_word}
 use Rattle.word_grid.specs.declared.grid_view.Walk.{Walk}
 use Rattle.word_grid.specs.declared.grid_view.Ending.{Ending}
@@ -48,20 +49,10 @@ pub record IsEnded (most : ℕ) (walker : ℕ → Option Walker) (seats : ℕ) (
   pub seats_are : seats ≡ most
   pub ended : place_by (walker (own_word t.number)) ≡ Some t.place
 
--- a fact of each
-abbrev pub Each : {A : Type 0} → (A → Type 0) → List A → Type 0
-Each P [] = Unit {0}
-Each P (x ∷ xs) = P x × Each P xs
-
--- no number has two walks
-abbrev pub NoneTwice : List Walk → Type 0
-NoneTwice [] = Unit {0}
-NoneTwice (w ∷ ws) = Each (λ t. t.number ≢ w.number) ws × NoneTwice ws
-
 -- what a view says is so
 pub record Shows (most begun : ℕ) (seat_of : ℕ → ℕ) (walker : ℕ → Option Walker) (seat : ℕ) (v : GridView) : Type 0 where
   pub walks : Each (IsShown most begun seat_of walker seat v.most) v.walks
-  pub once : NoneTwice v.walks
+  pub once : NoneTwice (λ (w : Walk). w.number) v.walks
   pub endings : Each (IsEnded most walker v.most) v.endings
 
 -- The rule, of at most 64 seats. Two words for each door, X and Y; so many have begun; doors and walks agree; and each walk

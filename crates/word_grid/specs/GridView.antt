@@ -1,5 +1,6 @@
 -- what a seat of a grid knows
-use Rattle.std.specs.Prelude.{ℕ, zero, suc, ◌+◌, ◌-◌, List, [], ◌∷◌, Option, Some, None}
+use Rattle.std.specs.Prelude.{ℕ, ◌-◌, List, [], ◌∷◌, Option, Some, None}
+use Rattle.raw_parts.specs.Numbered.{numbered_from}
 use Rattle.raw_parts.specs.SplitterView.{own_word}
 use Rattle.splitter_grid.specs.declared.walker.Walker.{Walker}
 use Rattle.splitter_grid.specs.Walk.{walk_of, place_by}
@@ -26,8 +27,7 @@ unbegun number = walk_at number None 0 0
 
 -- so many of them, by rising number
 abbrev pub unbegun_from : ℕ → ℕ → List Walk
-unbegun_from number zero = []
-unbegun_from number (suc count) = unbegun number ∷ unbegun_from (number + 1) count
+unbegun_from = numbered_from unbegun
 
 -- the view of the seat that the others are dealt from: the walks of a grid's seats from this number on
 abbrev pub undealt_from : ℕ → ℕ → GridView
