@@ -33,6 +33,7 @@ pub mod as_replies;
 pub mod events;
 pub mod fault;
 pub mod form;
+pub mod front;
 pub mod laws;
 pub mod line_buffer;
 pub mod parse;
@@ -56,6 +57,7 @@ pub use commands::{Bad, Command, Config, Event, Exchange, Reply, ShortReply, Wor
 pub use events::{EVENT_ROOM, print_event};
 pub use fault::Fault;
 pub use form::{Form, TURN_ROOM};
+pub use front::after_front;
 pub use laws::{law_of_lines, law_of_sharing};
 pub use line_buffer::LineBuffer;
 pub use parse::parse_line;
