@@ -11,6 +11,7 @@ mod LineLemmas
 mod FirstLineLemmas
 mod QuickLemmas
 mod SpelledLemmas
+mod FrontLemmas
 mod EightDigits
 pub mod ReplyLemmas
 mod GoesOnLemmas

@@ -28,7 +28,7 @@ const PUT: u32 = 0x2074_7570;
 
 /// The first four bytes as a number, where there are so many.
 #[inline(always)]
-fn first_four(bytes: &[u8]) -> Option<u32>
+pub(crate) fn first_four(bytes: &[u8]) -> Option<u32>
     ensures inside { IfSome result (λ word. 4 ≤ length bytes.now) }
     ensures word { IfSome result (λ word. word ≡ word_of_four bytes.now) }
 {

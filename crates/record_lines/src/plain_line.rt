@@ -13,7 +13,7 @@ use crate::reply_text::told_of;
 use crate::told::Told;
 use commands::{Event, WorldKind};
 use player::words::is_word;
-use player::{Command, quick_command};
+use player::{Command, after_front, quick_command};
 use std::alloc::{AllocError, Global};
 
 /// Whether a byte stands for itself in a text of JSON.
@@ -49,7 +49,7 @@ fn split_plain(bytes: &[u8]) -> (&[u8], &[u8])
 pub fn after<'a>(bytes: &'a [u8], front: &[u8]) -> Option<&'a [u8]>
     ensures { IfSome result (λ rest. bytes.now ≡ front.now ++ rest.now) }
 {
-    bytes.strip_prefix(front)
+    after_front(bytes, front)
 }
 
 /// The event with which a line begins, in the world of this kind, and what stands from its reply on, where it takes one look at each
