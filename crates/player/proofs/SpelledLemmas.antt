@@ -17,7 +17,7 @@ use Rattle.commands.specs.declared.command.Command.TheVariants as command
 use Rattle.player.specs.Events.{event_words}
 use Rattle.player.specs.Lines.{pieces_from}
 use Rattle.player.specs.Meaning.{is_digit, is_printable, decimal_from, if_below, number_in, same_bytes, command_if, command_of_one, event_of_one, event_if_both, event_of_two, quit_of, desk_command_of, command_in, words, meaning}
-use Rattle.player.proofs.LineLemmas.{both}
+use Rattle.std.proofs.lemmas.Bool.{and_parts}
 use Rattle.player.proofs.NumberLemmas.{decimal_from-grows}
 
 -- texts that compare equal are
@@ -56,7 +56,7 @@ decimal-push n b some digit small =
 decimal-digits : (n : ℕ) (digits : List ℕ) → 0 < n → list_all is_digit digits ≡ true → decimal_from n digits < 2 ^ 64 → decimal (decimal_from n digits) ≡ decimal n ++ digits
 decimal-digits n [] some digits small = sym (append-nil (decimal n))
 decimal-digits n (b ∷ bs) some digits small =
-    let parts = both (is_digit b) (list_all is_digit bs) digits in
+    let parts = and_parts (is_digit b) (list_all is_digit bs) digits in
     let grows = decimal_from-grows (n * 10 + (b - 48)) bs in
     decimal-digits (n * 10 + (b - 48)) bs (omega arith) parts.1 small
     ∙ ap (λ t. t ++ bs) (decimal-push n b some parts.0 (omega arith)) ∙ append_assoc (decimal n) (b ∷ []) bs
@@ -89,7 +89,7 @@ number-written [] = tt
 number-written (b ∷ bs) =
     elim (list_all is_digit (b ∷ bs)) as (λ d. list_all is_digit (b ∷ bs) ≡ d → IsWrittenAs (b ∷ bs) (if d then (if b == 48 then (if length bs == 0 then Some 0 else None) else if_below (2 ^ 64) (decimal_from 0 (b ∷ bs))) else None)) [
       | true ↦ λ all.
-          let digits = both (is_digit b) (list_all is_digit bs) all in
+          let digits = and_parts (is_digit b) (list_all is_digit bs) all in
           elim (eqb_tells b 48) [
             | inl e ↦ rw e.0 (zero bs e.1)
             | inr e ↦ rw e.0 (written-below (b ∷ bs) (decimal_from 0 (b ∷ bs)) (written-digits b bs digits.0 digits.1 e.0))
