@@ -41,18 +41,35 @@ fn opened(alloc: Global, line: &[u8]) -> Result<Stage, AllocError>
     }
 }
 
+// Takes the first line. A function of its own, since what follows from it is a kilobyte, for which room would be cleared at each line.
+#[inline(never)]
+fn take_first(alloc: Global, stage: &mut Stage, line: &[u8]) -> Result<(), AllocError>
+    ensures { OnOk result (StandsAfter (line.now ∷ []) stage.new) }
+{
+    *stage = opened(alloc, line)?;
+    Ok(())
+}
+
+// The verdict is known. A function of its own for the same reason.
+#[inline(never)]
+fn conclude(stage: &mut Stage, verdict: Verdict)
+    ensures { stage.new ≡ Stage.Over verdict }
+{
+    *stage = Stage::Over(verdict);
+}
+
 // Judges one more line, without its LF.
 fn judge_line(alloc: Global, stage: &mut Stage, line: &[u8]) -> Result<(), AllocError>
     ensures { OnOk result ((lines : List (List ℕ)) → StandsAfter lines stage.old → StandsAfter (lines ++ line.now ∷ []) stage.new) }
 {
     match stage {
         Stage::Opening => {
-            *stage = opened(alloc, line)?;
+            take_first(alloc, stage, line)?;
             Ok(())
         }
         Stage::Judging(judge) => match judge.take(alloc, line)? {
             Some(verdict) => {
-                *stage = Stage::Over(verdict);
+                conclude(stage, verdict);
                 Ok(())
             }
             None => Ok(()),
