@@ -19,6 +19,7 @@ pub record KeepsSteps (holds : ℕ → State ℕ PoolView → Type 0) (first : �
       Allows (holds count) slots seat (lone c past, []) (word_of place) (λ _. 0) (λ _. Frees s (lone c past, []) 0)
   -- two seats meet, look at a word, and part
   pub unites : (count seat other : ℕ) (v w : PoolView) → Joins (holds count) seat v other w (united v w) no_call
-  pub looks_on : (count slots seat : ℕ) (v : PoolView) (s : Step ℕ) → length v.calls ≡ 2 → Allows (holds count) slots seat (v, []) 0 (λ n. n) (LooksOn s (v, []))
+  pub looks_on : (count slots seat : ℕ) (v : PoolView) (s : Step ℕ) → length v.calls ≡ 2 →
+      Allows (holds count) slots seat (v, []) 0 (λ n. n) (LooksOn s (v, []))
   pub severs : (count seat : ℕ) (c d : Call) (past others : List Call) →
       Splits (holds count) seat (view_of (c ∷ d ∷ []) (past ++ others)) (lone c (past ++ others)) (lone d [])

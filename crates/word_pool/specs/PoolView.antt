@@ -25,122 +25,31 @@ at_rest =
 
 -- it comes to the first place, at this moment
 abbrev pub coming : ℕ → Call → Call
-coming moment c =
-    record {
-      stage = Seeking;
-      place = 0;
-      met = [];
-      accesses = c.accesses;
-      hinted = false;
-      sighted = false;
-      lost = 0;
-      came = moment;
-      took = 0;
-      went = 0;
-      crowds = [];
-    }
+coming moment c = record at_rest { stage = Seeking; accesses = c.accesses; came = moment }
 
 -- one access more, which changes nothing else
 abbrev pub spent : Call → Call
-spent c =
-    record {
-      stage = c.stage;
-      place = c.place;
-      met = c.met;
-      accesses = suc c.accesses;
-      hinted = c.hinted;
-      sighted = c.sighted;
-      lost = c.lost;
-      came = c.came;
-      took = c.took;
-      went = c.went;
-      crowds = c.crowds;
-    }
+spent c = record c { accesses = suc c.accesses }
 
 -- a look that found its place free
 abbrev pub sighting : Call → Call
-sighting c =
-    record {
-      stage = c.stage;
-      place = c.place;
-      met = c.met;
-      accesses = suc c.accesses;
-      hinted = c.hinted;
-      sighted = true;
-      lost = c.lost;
-      came = c.came;
-      took = c.took;
-      went = c.went;
-      crowds = c.crowds;
-    }
+sighting c = record c { accesses = suc c.accesses; sighted = true }
 
 -- an access that met its place held: it goes on to the next, having lost so many races
 abbrev pub passing : ℕ → Call → Call
-passing lost c =
-    record {
-      stage = Seeking;
-      place = suc c.place;
-      met = c.place ∷ c.met;
-      accesses = suc c.accesses;
-      hinted = c.hinted;
-      sighted = false;
-      lost = lost;
-      came = c.came;
-      took = c.took;
-      went = c.went;
-      crowds = c.crowds;
-    }
+passing lost c = record c { stage = Seeking; place = suc c.place; met = c.place ∷ c.met; accesses = suc c.accesses; sighted = false; lost = lost }
 
 -- an access that took its place, at this moment: with how many competed at each moment till then
 abbrev pub taking : ℕ → List ℕ → Call → Call
-taking moment crowds c =
-    record {
-      stage = Holding;
-      place = c.place;
-      met = c.met;
-      accesses = suc c.accesses;
-      hinted = c.hinted;
-      sighted = false;
-      lost = c.lost;
-      came = c.came;
-      took = moment;
-      went = 0;
-      crowds = crowds;
-    }
+taking moment crowds c = record c { stage = Holding; accesses = suc c.accesses; sighted = false; took = moment; went = 0; crowds = crowds }
 
 -- an access of a call at rest that took this place, at this moment
 abbrev pub taking_hint : ℕ → ℕ → Call → Call
-taking_hint place moment c =
-    record {
-      stage = Holding;
-      place = place;
-      met = [];
-      accesses = suc c.accesses;
-      hinted = true;
-      sighted = false;
-      lost = 0;
-      came = moment;
-      took = moment;
-      went = 0;
-      crowds = [];
-    }
+taking_hint place moment c = record at_rest { stage = Holding; place = place; accesses = suc c.accesses; hinted = true; came = moment; took = moment }
 
 -- the access that gave its place back, at this moment
 abbrev pub going : ℕ → Call → Call
-going moment c =
-    record {
-      stage = Ended;
-      place = c.place;
-      met = c.met;
-      accesses = suc c.accesses;
-      hinted = c.hinted;
-      sighted = false;
-      lost = c.lost;
-      came = c.came;
-      took = c.took;
-      went = moment;
-      crowds = c.crowds;
-    }
+going moment c = record c { stage = Ended; accesses = suc c.accesses; sighted = false; went = moment }
 
 -- a look at its place found this
 abbrev pub looked : ℕ → Call → Call
@@ -160,20 +69,7 @@ swapped_hint place moment found c = if found == 0 then taking_hint place moment 
 
 -- one access more, which met this place held
 abbrev pub meeting : ℕ → Call → Call
-meeting place c =
-    record {
-      stage = c.stage;
-      place = c.place;
-      met = place ∷ c.met;
-      accesses = suc c.accesses;
-      hinted = c.hinted;
-      sighted = c.sighted;
-      lost = c.lost;
-      came = c.came;
-      took = c.took;
-      went = c.went;
-      crowds = c.crowds;
-    }
+meeting place c = record c { met = place ∷ c.met; accesses = suc c.accesses }
 
 -- a look at this place, when the pool ends, found this
 abbrev pub read_at : ℕ → ℕ → Call → Call

@@ -2,7 +2,7 @@
 
 ghost use Rattle.std.specs.Prelude.{◌≡◌, Option, None, Some};
 ghost use Rattle.word_pool_c.specs.declared.grid_member.GridMember.{GridMember};
-ghost use Rattle.word_pool_c.specs.GridHeld.{grid_owns, grid_coded};
+ghost use Rattle.word_pool_c.specs.Held.{held_owns, held_coded, grid_row};
 
 use crate::grid_member::GridMember;
 use crate::parts::Parts;
@@ -16,11 +16,11 @@ use std::ptr;
 pub struct GridHandle {
     at: *mut u8,
     alloc: Global,
-    pub ghost grid: { Option GridMember } by { grid_coded },
+    pub ghost grid: { Option GridMember } by { held_coded grid_row },
 }
 
 impl Model for GridHandle {
-    ghost also_owns = { λ h. grid_owns h.alloc h.at h.grid };
+    ghost also_owns = { λ h. held_owns grid_row h.alloc h.at h.grid };
 }
 
 impl GridHandle {

@@ -31,7 +31,7 @@ use Rattle.std.proofs.Common.{lit<}
 use Rattle.std.proofs.alloc.Calls.{handle_tells, α}
 use Rattle.std_alloc.proofs.ResultValues.{and_tt}
 use Rattle.std_heap.specs.contracts.Global as Heap
-use Rattle.word_pool_c.proofs.GridAsBox.{E}
+use Rattle.word_pool_c.proofs.AsBox.{GridBox as E}
 use Rattle.word_pool_c.specs.contracts.grid_handle.GridHandle as Handle
 use Rattle.word_pool_c.specs.contracts.grid_handle.GridHandle.blank as F
 use Rattle.word_pool_c.specs.contracts.grid_handle.GridHandle.blank.Key.{name as #self}

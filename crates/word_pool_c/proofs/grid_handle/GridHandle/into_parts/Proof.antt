@@ -1,7 +1,7 @@
 -- `into_parts` moves two fields, and what they own goes with them.
 use contract.Monad.{fact}
 use Rattle.std.specs.Prelude.{◌≡◌, Option, Some}
-use Rattle.word_pool_c.specs.GridHeld.{grid_row}
+use Rattle.word_pool_c.specs.Held.{grid_row}
 use Rattle.word_pool_c.specs.contracts.grid_handle.GridHandle as Handle
 use mathlib.Core.Path.{refl, sym, subst}
 use mathlib.Core.List.{List, [], ◌∷◌, ◌++◌}
@@ -28,7 +28,7 @@ use denote.Triple.Table.{entered}
 use denote.Triple.Walked.{says, Stays, stay_dropped, walk_of, ends_at, Goes-dropped, walk_Meets}
 use Rattle.std_alloc.proofs.BoxSteps.Form.{D, B, word, box_typed}
 use Rattle.std_alloc.proofs.BoxSteps.Steps.{box_out, box_in}
-use Rattle.word_pool_c.proofs.GridAsBox.{E, FromHandle as From}
+use Rattle.word_pool_c.proofs.AsBox.{GridBox as E, FromGridHandle as From}
 use Rattle.word_pool_c.specs.contracts.grid_handle.GridHandle.into_parts as F
 use Rattle.word_pool_c.specs.contracts.grid_handle.GridHandle.into_parts.Key.{name as #self}
 use Rattle.word_pool_c.proofs.grid_handle.GridHandle.into_parts.Statement as stated

@@ -25,7 +25,7 @@ use denote.Triple.Table.{entered}
 use denote.Triple.Walked.{says, Stays, stay_dropped, walk_of, ends_at, Goes-dropped, walk_Meets}
 use Rattle.std_alloc.proofs.BoxSteps.Form.{D, B, word, box_typed}
 use Rattle.std_alloc.proofs.BoxSteps.Steps.{box_out, box_in}
-use Rattle.word_pool_c.proofs.GridAsBox.{E, FromParts as From}
+use Rattle.word_pool_c.proofs.AsBox.{GridBox as E, FromGridParts as From}
 use Rattle.word_pool_c.specs.contracts.grid_handle.GridHandle.of_parts as F
 use Rattle.word_pool_c.specs.contracts.grid_handle.GridHandle.of_parts.Key.{name as #self}
 use Rattle.word_pool_c.proofs.grid_handle.GridHandle.of_parts.Statement as stated
