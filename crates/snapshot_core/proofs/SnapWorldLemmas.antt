@@ -27,39 +27,6 @@ use Rattle.snapshot_core.specs.SnapWorld.{SnapState, beginner_at, after_snap_beg
 use Rattle.snapshot_core.specs.SnapCalls.{SnapCall, next}
 use Rattle.snapshot_core.specs.SnapCalls.SnapCall.{Began, Updated, Scanned, Stepped}
 
--- what a call answers and leaves, where it is refused for this reason or for none
-pub record Goes {S U K : Type 0} (w : SnapState S U K) (refusal : Option Refusal) (after : SnapState S U K) (why : Option Refusal) (new : SnapState S U K) : Type 0 where
-  pub answer : done_unless why ≡ done_unless refusal
-  pub state : new ≡ after
-
-module _ {S U K : Type 0} (w : SnapState S U K) (id : ℕ) where
-  pub scan_absent : None ≡ program_of id w.participants → Goes w (scan_refusal w id) (after_scan w id) (Some NotBegun) w
-  scan_absent h = let e = sym h in record { answer = rw e refl; state = rw e refl }
-
-  pub scan_busy : (c : Client U K) → Some c ≡ program_of id w.participants → is_idle c.pending ≡ false → Goes w (scan_refusal w id) (after_scan w id) (Some AlreadyBegun) w
-  scan_busy c h busy = let e = sym h in record { answer = rw (e, busy) refl; state = rw (e, busy) refl }
-
-  pub scan_goes : (c : Client U K) → Some c ≡ program_of id w.participants → is_idle c.pending ≡ true → Goes w (scan_refusal w id) (after_scan w id) None (after_set w id (scanning c))
-  scan_goes c h idle = let e = sym h in record { answer = rw (e, idle) refl; state = rw (e, idle) refl }
-
-  pub update_absent : (value : ℕ) → None ≡ program_of id w.participants → Goes w (update_refusal w id) (after_update w id value) (Some NotBegun) w
-  update_absent value h = let e = sym h in record { answer = rw e refl; state = rw e refl }
-
-  pub update_busy : (value : ℕ) (c : Client U K) → Some c ≡ program_of id w.participants → is_idle c.pending ≡ false → Goes w (update_refusal w id) (after_update w id value) (Some AlreadyBegun) w
-  update_busy value c h busy = let e = sym h in record { answer = rw (e, busy) refl; state = rw (e, busy) refl }
-
-  pub update_spent : (value : ℕ) (c : Client U K) → Some c ≡ program_of id w.participants → is_idle c.pending ≡ true → 1000000 ≤ c.updates → Goes w (update_refusal w id) (after_update w id value) (Some Spent) w
-  update_spent value c h idle many = let e = sym h in let spent = le-ltb c.updates 1000000 many in record { answer = rw (e, idle, spent) refl; state = rw (e, idle, spent) refl }
-
-  pub update_goes : (value : ℕ) (c : Client U K) → Some c ≡ program_of id w.participants → is_idle c.pending ≡ true → c.updates < 1000000 → Goes w (update_refusal w id) (after_update w id value) None (after_set w id (updating c value))
-  update_goes value c h idle few = let e = sym h in let fresh = lt-ltb c.updates 1000000 few in record { answer = rw (e, idle, fresh) refl; state = rw (e, idle, fresh) refl }
-
-  -- who has begun is set
-  pub set_goes : (c : Client U K) → Some c ≡ program_of id w.participants → set_answer w id ≡ Ok tt
-  set_goes c h =
-      elim (participant_of id w.participants) as (λ o. Some c ≡ (elim o as (λ _. Option (Client U K)) [ None ↦ None | Some p ↦ Some p.program ]) → set_answer_by o ≡ Ok tt)
-      [ None ↦ λ k. absurd (cc) | Some p ↦ λ _. refl ] h
-
 module _ {S R V U K : Type 0} (t : KnownPlaces S R V U K) where
   most_asked : (w : SnapState S U K) (id : ℕ) (asking : Client U K → Client U K) (c : Option (Client U K)) (why : Option Refusal) → (asked w id asking c why).most ≡ w.most
   most_asked w id asking None why = refl
@@ -75,6 +42,16 @@ module _ {S R V U K : Type 0} (t : KnownPlaces S R V U K) where
   most_kept w (Updated id value reply) = most_asked w id (λ c. updating c value) (program_of id w.participants) (update_refusal w id)
   most_kept w (Scanned id reply) = most_asked w id scanning (program_of id w.participants) (scan_refusal w id)
   most_kept w (Stepped id reply) = elim (lacked_memory reply) as (λ b. (cond b w (after_snap_step t w id)).most ≡ w.most) [ true ↦ refl | false ↦ most_snap w id (program_of id w.participants) ]
+
+  -- a call that is no step leads on
+  pub begun_leads_on : (w new : SnapState S U K) (id : ℕ) (reply : Result (Unit {0}) Refusal) → new ≡ after_snap_begin t w id → reply ≡ done_unless (begin_refusal w id) → LeadsOn (snapshot t) w new (Began id reply)
+  begun_leads_on w new id reply = call_leads_on (snapshot t) w new (Began id reply)
+
+  pub updated_leads_on : (w new : SnapState S U K) (id value : ℕ) (reply : Result (Unit {0}) Refusal) → new ≡ after_update w id value → reply ≡ done_unless (update_refusal w id) → LeadsOn (snapshot t) w new (Updated id value reply)
+  updated_leads_on w new id value reply = call_leads_on (snapshot t) w new (Updated id value reply)
+
+  pub scanned_leads_on : (w new : SnapState S U K) (id : ℕ) (reply : Result (Unit {0}) Refusal) → new ≡ after_scan w id → reply ≡ done_unless (scan_refusal w id) → LeadsOn (snapshot t) w new (Scanned id reply)
+  scanned_leads_on w new id reply = call_leads_on (snapshot t) w new (Scanned id reply)
 
   snap_lacks_none : (w : SnapState S U K) (id : ℕ) (o : Option (Client U K)) → lacked_memory (snap_answer_by t w id o) ≡ false
   snap_lacks_none w id None = refl
