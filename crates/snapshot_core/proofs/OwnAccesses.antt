@@ -1,5 +1,5 @@
 -- a participant's access is one for what it has to do
-use Rattle.std.proofs.Common.{◌≡◌, ℕ, length, Option, Some, None, refl, ap, subst}
+use Rattle.std.proofs.Common.{◌≡◌, ℕ, length, Some, None, refl, ap, subst}
 use Rattle.std.specs.Prelude.{option_map}
 use Rattle.step_memory.specs.Participant.{participant_of}
 use Rattle.snapshot_core.specs.declared.client.Client.{Client}

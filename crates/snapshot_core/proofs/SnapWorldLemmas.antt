@@ -1,16 +1,15 @@
 -- the calls of a snapshot object
-use Rattle.std.proofs.Common.{◌≡◌, ◌≢◌, ◌<◌, ◌≤◌, ℕ, true, false, cond, Option, Some, None, Result, Ok, Err, inl, inr, refl, sym, ap, ◌∙◌}
+use Rattle.std.proofs.Common.{◌≡◌, ◌≢◌, ℕ, true, false, cond, Option, Some, None, Result, Ok, Err, inl, inr, refl, sym, ap, ◌∙◌}
 use Rattle.snapshot_core.specs.declared.client.Pending.{Pending}
 use Rattle.snapshot_core.specs.declared.client.Pending.TheVariants.{Nothing, Placing, Scan, Update, Write as Writing}
 use Rattle.step_memory.specs.declared.note.Note.{Note}
 use Rattle.step_memory.specs.declared.note.Note.TheVariants.{Quiet}
 use Rattle.step_memory.specs.declared.access.Access.TheVariants.{Read}
 use Rattle.step_memory.specs.declared.refusal.Refusal.{Refusal}
-use Rattle.step_memory.specs.declared.refusal.Refusal.TheVariants.{AlreadyBegun, NotBegun, Finished, Spent, NoMemory}
-use Rattle.step_memory.specs.Participant.{participant_of, program_of}
-use Rattle.step_memory.specs.World.{begin_refusal, begun_unless, done_unless, set_answer, set_answer_by, after_set, step_answer, after_step}
+use Rattle.step_memory.specs.declared.refusal.Refusal.TheVariants.{NotBegun, Finished, NoMemory}
+use Rattle.step_memory.specs.Participant.{program_of}
+use Rattle.step_memory.specs.World.{begin_refusal, begun_unless, done_unless, step_answer, after_step}
 use Rattle.step_memory.specs.Calls.{lacked_memory, reply_of}
-use Rattle.std.proofs.lemmas.Bool.{lt-ltb, le-ltb}
 use Rattle.step_memory.proofs.StepLemmas.{most_stepped, lacks_none, lacks_or_not}
 use Rattle.step_memory.specs.Machine.{LeadsOn}
 use Rattle.step_memory.proofs.MachineLemmas.{call_leads_on}

@@ -31,9 +31,8 @@ use Rattle.rename_core.proofs.rounds.Standing.{standing_begun}
 use Rattle.snapshot_core.specs.Standing.{StandsAt}
 use Rattle.snapshot_core.proofs.Clients.{goes_idle}
 use Rattle.rename_core.proofs.Large.{update_large}
-use Rattle.rename_core.proofs.rounds.Tied.{IsAtStage, IsCounted, IsTied, Carries, counted_on, stage_on}
+use Rattle.rename_core.proofs.rounds.Tied.{IsAtStage, IsCounted, IsTied, Carries, Spares, since_kept, spares_task, spares_next, counted_on, stage_on}
 use Rattle.step_memory.proofs.DistinctParticipants.{distinct_push}
-use Rattle.rename_core.proofs.rounds.Stepping.{since_kept}
 use Rattle.rename_core.proofs.rounds.Keeping.{Goes}
 
 idle_first : (x : Option ℕ) → is_idle (first_pending x) ≡ is_some x
@@ -120,9 +119,7 @@ module _ {S R V U K : Type 0} (W : KnownPlaces S R V U K) (terms : RenameTerms) 
       pub as_many : u.begun ≡ s.begun + 1
       pub moment : u.moment ≡ s.moment
       pub place : u.place ≡ s.place
-      pub task : (q : ℕ) → q ≢ p → u.task q ≡ s.task q
-      pub steps : (q : ℕ) → q ≢ p → u.steps q ≡ s.steps q
-      pub since : (q : ℕ) → q ≢ p → u.since q ≡ s.since q
+      pub spares : Spares p s u
       pub count : IsCounted o' p r
       pub own : IsAtStage terms o' t' u snap p r r.stage
 
@@ -150,12 +147,12 @@ module _ {S R V U K : Type 0} (W : KnownPlaces S R V U K) (terms : RenameTerms) 
         since = refl;
         many = omega arith;
         now = refl;
-        task = k.task q n;
-        later = since_kept s u q (k.steps q n) (k.since q n) (let e = k.last in omega arith);
+        task = (k.spares q n).0;
+        later = since_kept s u q (k.spares q n).1 (k.spares q n).2 (let e = k.last in omega arith);
         who = k.who q n;
         phase = set_at-other t.phase p (first_phase bounds) q n;
         pace = set_at-other t.steps p 0 q n;
-        snap_pace = k.steps q n;
+        snap_pace = (k.spares q n).1;
       }
 
       tied_joined : IsTied terms Tie (record { snap = snap; rounds = rounds'; limit = w.limit }) o' t'
@@ -220,9 +217,7 @@ module _ {S R V U K : Type 0} (W : KnownPlaces S R V U K) (terms : RenameTerms) 
       as_many = refl;
       moment = refl;
       place = refl;
-      task = λ q n. set_at-other s.task p ToPlace q n;
-      steps = λ q n. set_at-other s.steps p 0 q n;
-      since = λ q n. set_at-other s.since p 0 q n;
+      spares = spares_next p s ToPlace 0 0;
       count = first_count false;
       own = record {
         going = record { unnamed = unborn.1; left = unborn.2 };
@@ -257,9 +252,7 @@ module _ {S R V U K : Type 0} (W : KnownPlaces S R V U K) (terms : RenameTerms) 
         as_many = refl;
         moment = refl;
         place = refl;
-        task = λ q n. set_at-other (set_at s.task p ToPlace) p (ToUpdate 1) q n ∙ set_at-other s.task p ToPlace q n;
-        steps = λ q n. set_at-other (set_at s.steps p 0) p 0 q n ∙ set_at-other s.steps p 0 q n;
-        since = λ q n. set_at-other (set_at s.since p 0) p 0 q n ∙ set_at-other s.since p 0 q n;
+        spares = spares_task p s s1 (spares_next p s ToPlace 0 0) (ToUpdate 1) 0 0;
         count = first_count true;
         own = record {
           going = record { unnamed = unborn.1; left = unborn.2 };

@@ -18,7 +18,7 @@ use Rattle.snapshot_core.specs.Places.{KnownPlaces}
 use Rattle.rename_core.specs.RenameWorld.{after_wish, snap_step, snap_told, after_follow, begun_snap, refusal_by, step_refusal, answer_told, answer_open, answer_by, after_told, after_open, after_by, rename_answer, after_rename_step}
 use Rattle.rename_core.specs.declared.round.Wish.{Wish}
 use Rattle.rename_core.specs.declared.round.Wish.TheVariants.{Nothing, Update, Scan}
-use Rattle.rename_core.proofs.Large.{IsAsLarge, scan_large, update_large, snap_large}
+use Rattle.rename_core.proofs.Large.{IsAsLarge, both_large, scan_large, update_large, snap_large}
 
 pub wish_large : {S U K : Type 0} (w : SnapState S U K) (p : ℕ) (wish : Wish) → IsAsLarge w (after_wish w p wish)
 wish_large w p Nothing = record { most = refl; many = refl; same = refl }
@@ -89,10 +89,7 @@ module _ {S R V U K : Type 0} (W : KnownPlaces S R V U K) (w : RenameState S U K
 
   -- as many take part after the step and what is asked for after it
   pub step_large : (wish : Wish) → IsAsLarge w.snap (after_wish (snap_step W w p) p wish)
-  step_large wish =
-      let a = snap_large W w.snap p in
-      let b = wish_large (snap_step W w p) p wish in
-      record { most = b.most ∙ a.most; many = b.many ∙ a.many; same = b.same ∙ a.same }
+  step_large wish = both_large w.snap (snap_step W w p) (after_wish (snap_step W w p) p wish) (snap_large W w.snap p) (wish_large (snap_step W w p) p wish)
 
   module _ (v : Participant Round) (here : participant_of p w.rounds ≡ Some v) where
     there : program_of p w.rounds ≡ Some v.program
