@@ -38,7 +38,7 @@ use Rattle.snapshot_core.proofs.Dues.{bounds_with}
 use Rattle.snapshot_core.proofs.Following.{Holds, after_all, all_reads}
 use Rattle.snapshot_core.proofs.LawfulPlaces.{LawfulPlaces}
 use Rattle.snapshot_core.proofs.ScanAlone.{HasRoom, HasLeft, walk_after, left_more, some_left, reads_on}
-use Rattle.snapshot_core.proofs.SnapWorldLemmas.{absent_state, after_stepped, busy_state, busy_answer, idle_state, snap_alike, stays_alike}
+use Rattle.snapshot_core.proofs.SnapWorldLemmas.{after_stepped, busy_state, busy_answer, snap_alike, stays_alike}
 use Rattle.snapshot_core.proofs.Tied.{IsScanning, IsAtTask, IsTied, era_now, roll_now}
 
 -- a later end is an end
@@ -308,10 +308,10 @@ module _ {S R V U K : Type 0} (t : KnownPlaces S R V U K) (p : ℕ) where
   memory_is : (w : SnapState S U K) (v : Participant (Client U K)) → participant_of p w.participants ≡ Some v →
       (after_snap_step t w p).memory ≡ cond (is_idle v.program.pending) w.memory (cond v.ended w.memory (t.memory.after w.memory ((clients_over t).next v.program)))
   memory_is w v there =
-      let some : Some v.program ≡ program_of p w.participants = sym (ap (option_map (λ u. u.program)) there) in
+      let is : program_of p w.participants ≡ Some v.program = ap (option_map (λ u. u.program)) there in
       elim (cases_Bool (is_idle v.program.pending)) [
-        | inl idle ↦ ap (λ (x : SnapState S U K). x.memory) (sym (idle_state t w p v.program some idle)) ∙ rw idle refl
-        | inr busy ↦ ap (λ (x : SnapState S U K). x.memory) (busy_state t w p v.program some busy) ∙ (elim (cases_Bool v.ended) [
+        | inl idle ↦ rw (is, idle) refl
+        | inr busy ↦ ap (λ (x : SnapState S U K). x.memory) (busy_state t w p v.program (sym is) busy) ∙ (elim (cases_Bool v.ended) [
           | inl e ↦ ap (λ (x : SnapState S U K). x.memory) (ended_after (clients_over t) t.memory w p v there e) ∙ rw (busy, e) refl
           | inr e ↦ ap (λ (x : SnapState S U K). x.memory) (going_after (clients_over t) t.memory w p v there e) ∙ rw (busy, e) refl
         ])
@@ -320,9 +320,9 @@ module _ {S R V U K : Type 0} (t : KnownPlaces S R V U K) (p : ℕ) where
   memory_alike : (w other : SnapState S U K) → other.memory ≡ w.memory → participant_of p other.participants ≡ participant_of p w.participants → (after_snap_step t other p).memory ≡ (after_snap_step t w p).memory
   memory_alike w other e k = elim (participant_of p w.participants) as (λ z. participant_of p w.participants ≡ z → (after_snap_step t other p).memory ≡ (after_snap_step t w p).memory) [
     | None ↦ λ h.
-        let here : None ≡ program_of p w.participants = sym (ap (option_map (λ u. u.program)) h) in
-        let there : None ≡ program_of p other.participants = sym (ap (option_map (λ u. u.program)) (k ∙ h)) in
-        ap (λ (x : SnapState S U K). x.memory) (sym (absent_state t other p there)) ∙ e ∙ ap (λ (x : SnapState S U K). x.memory) (absent_state t w p here)
+        let here : program_of p w.participants ≡ None = ap (option_map (λ u. u.program)) h in
+        let there : program_of p other.participants ≡ None = ap (option_map (λ u. u.program)) (k ∙ h) in
+        rw (there, here) e
     | Some v ↦ λ h. memory_is other v (k ∙ h) ∙ rw e refl ∙ sym (memory_is w v h)
   ] refl
 

@@ -40,7 +40,7 @@ use Rattle.snapshot_core.specs.SnapCalls.SnapCall.{Began, Updated, Scanned, Step
 use Rattle.snapshot_core.specs.Places.{KnownPlaces, PlacesLaws, BeginsAlike, BoundsScans, KeepsWalks, HasGoneOn, value_for}
 use Rattle.snapshot_core.specs.Snapshot.{Task, SnapObject, SnapBounds, IsMoment, new_object, since_of, with_task, with_update, observed, AllowsStep, Allows, bounds_over}
 use Rattle.snapshot_core.specs.Snapshot.Task.{Idle, Placing, Scanning, Updating}
-use Rattle.snapshot_core.proofs.SnapWorldLemmas.{absent_state, absent_answer, idle_state, idle_answer, busy_state, busy_answer, most_kept}
+use Rattle.snapshot_core.proofs.SnapWorldLemmas.{busy_state, busy_answer, most_kept}
 use Rattle.snapshot_core.proofs.LawfulPlaces.{LawfulPlaces}
 use Rattle.snapshot_core.proofs.Histories.{number, value_in, IsHelp}
 use Rattle.snapshot_core.proofs.FewValues.{few_values}
@@ -437,16 +437,13 @@ module _ {S R V U K : Type 0} (t : LawfulPlaces S R V U K) (w : SnapState S U K)
     pub stepped_follows : Allows (bounds_with t w.most scans) o (Stepped id answer) × IsTied t (cond (lacked_memory answer) w after) (observed o (Stepped id answer))
     stepped_follows = elim (participant_of id w.participants) as (λ z. participant_of id w.participants ≡ z → Allows (bounds_with t w.most scans) o (Stepped id answer) × IsTied t (cond (lacked_memory answer) w after) (observed o (Stepped id answer))) [
       | None ↦ λ e.
-          let none : None ≡ program_of id w.participants = sym (ap (option_map (λ u. u.program)) e) in
-          by_answer (Err NotBegun) w
-          (sym (absent_answer t.known w id none))
-          (sym (absent_state t.known w id none)) (inl (step_absent t w o i id scans e), i)
+          let none : program_of id w.participants ≡ None = ap (option_map (λ u. u.program)) e in
+          by_answer (Err NotBegun) w (rw none refl) (rw none refl) (inl (step_absent t w o i id scans e), i)
       | Some v ↦ λ e.
-          let some : Some v.program ≡ program_of id w.participants = sym (ap (option_map (λ u. u.program)) e) in
+          let there : program_of id w.participants ≡ Some v.program = ap (option_map (λ u. u.program)) e in
+          let some = sym there in
           elim (cases_Bool (is_idle v.program.pending)) [
-            | inl idle ↦ by_answer (Err Finished) w
-                (sym (idle_answer t.known w id v.program some idle))
-                (sym (idle_state t.known w id v.program some idle)) (inl (step_idle t w o i id scans fits v e idle), i)
+            | inl idle ↦ by_answer (Err Finished) w (rw (there, idle) refl) (rw (there, idle) refl) (inl (step_idle t w o i id scans fits v e idle), i)
             | inr busy ↦
                 let on : v.ended ≡ false = (i.named id v e).1 in
                 let ea : answer ≡ Ok (told (note_for t.known.walker t.known.walks v.program v.program.pending (got v e v.program.pending))) =

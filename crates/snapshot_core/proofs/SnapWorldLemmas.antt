@@ -6,7 +6,7 @@ use Rattle.step_memory.specs.declared.note.Note.{Note}
 use Rattle.step_memory.specs.declared.note.Note.TheVariants.{Quiet}
 use Rattle.step_memory.specs.declared.access.Access.TheVariants.{Read}
 use Rattle.step_memory.specs.declared.refusal.Refusal.{Refusal}
-use Rattle.step_memory.specs.declared.refusal.Refusal.TheVariants.{NotBegun, Finished, NoMemory}
+use Rattle.step_memory.specs.declared.refusal.Refusal.TheVariants.{Finished, NoMemory}
 use Rattle.step_memory.specs.Participant.{program_of}
 use Rattle.step_memory.specs.World.{begin_refusal, begun_unless, done_unless, step_answer, after_step}
 use Rattle.step_memory.specs.Calls.{lacked_memory, reply_of}
@@ -73,18 +73,6 @@ module _ {S R V U K : Type 0} (t : KnownPlaces S R V U K) where
         let lacked : lacked_memory reply ≡ true = rw h refl in
         call_leads_on (snapshot t) w new (Stepped id reply) (refused.0 ∙ rw lacked refl) (inr (h, refused.1))
   ]
-
-  pub absent_state : (w : SnapState S U K) (id : ℕ) → None ≡ program_of id w.participants → w ≡ after_snap_step t w id
-  absent_state w id h = let e = sym h in rw e refl
-
-  pub absent_answer : (w : SnapState S U K) (id : ℕ) → None ≡ program_of id w.participants → Err NotBegun ≡ snap_answer t w id
-  absent_answer w id h = let e = sym h in rw e refl
-
-  pub idle_state : (w : SnapState S U K) (id : ℕ) (c : Client U K) → Some c ≡ program_of id w.participants → is_idle c.pending ≡ true → w ≡ after_snap_step t w id
-  idle_state w id c h idle = let e = sym h in rw (e, idle) refl
-
-  pub idle_answer : (w : SnapState S U K) (id : ℕ) (c : Client U K) → Some c ≡ program_of id w.participants → is_idle c.pending ≡ true → Err Finished ≡ snap_answer t w id
-  idle_answer w id c h idle = let e = sym h in rw (e, idle) refl
 
   -- one who has something to do takes a step of the world
   pub busy_state : (w : SnapState S U K) (id : ℕ) (c : Client U K) → Some c ≡ program_of id w.participants → is_idle c.pending ≡ false → after_snap_step t w id ≡ after_step (clients_over t) t.memory w id
