@@ -1,5 +1,5 @@
 -- who steps alone comes nearer to its name
-use Rattle.std.proofs.Common.{◌≡◌, ◌≢◌, ℕ, zero, suc, ◌+◌, ◌-◌, ◌*◌, ◌≤◌, ◌==◌, Bool, true, false, cond, ◌⊎◌, List, [], ◌∷◌, ◌++◌, Option, Some, None, Result, Ok, Err, inl, inr, refl, sym, ap, subst, ◌∙◌, arith, add-one}
+use Rattle.std.proofs.Common.{◌≡◌, ◌≢◌, ℕ, zero, suc, ◌+◌, ◌-◌, ◌*◌, ◌≤◌, ◌==◌, Bool, true, false, cond, ◌⊎◌, List, Option, Some, None, Result, Ok, Err, inl, inr, refl, sym, ap, subst, ◌∙◌, arith, add-one}
 use Rattle.std.specs.Prelude.{is_some, nat_lt, nat_le}
 use Rattle.std.proofs.lemmas.Bool.Decides.{eqb_tells, leb_tells}
 use Rattle.step_memory.specs.SetAt.{set_at}
@@ -43,7 +43,7 @@ use Rattle.rename_core.specs.RenameWorld.{after_wish, begun_snap, begun_unless, 
 use Rattle.rename_core.specs.Round.{stage_refusal, followed, decided, named_by, spent_by, saw_by, number_of, written_round, first_round, first_wish}
 use Rattle.rename_core.proofs.LocalSteps.{wish_becomes}
 use Rattle.rename_core.proofs.rounds.Numbers.{next_free}
-use Rattle.rename_core.proofs.rounds.StepCases.{told_answer, told_state, refusal_here, closed_answer, step_refused}
+use Rattle.rename_core.proofs.rounds.StepCases.{begun_own, begun_other, no_round, told_answer, told_state, refusal_here, closed_answer, step_refused}
 use Rattle.rename_core.proofs.rounds.Stepping.{HasGone, placing_gone, proposing_gone, looking_gone, standing_made}
 use Rattle.rename_core.proofs.rounds.Tied.{IsAtStage, IsPlacing, IsProposing, IsLooking, IsTied}
 use Rattle.rename_core.proofs.rounds.Views.{taken_not}
@@ -378,38 +378,17 @@ module _ {S R V U K : Type 0} (W : KnownPlaces S R V U K) (terms : RenameTerms) 
         abbrev snap1 : SnapState S U K
         snap1 = begun_snap W w q
 
-        snap1_is : snap1.participants ≡ w.snap.participants ++ beginner q client ∷ []
-        snap1_is = rw goes refl
-
         snap1_memory : snap1.memory ≡ w.snap.memory
         snap1_memory = rw goes refl
 
-        absent : participant_of q w.snap.participants ≡ None
-        absent = (let_in w.snap q goes).absent
-
         other : p ≢ q
-        other e = let both : true ≡ false = sym (i.joined p ∙ ap is_some here) ∙ ap (λ (x : ℕ). is_some (participant_of x w.snap.participants)) e ∙ ap is_some absent in absurd (cc)
-
-        pushed : (x : ℕ) → participant_of x snap1.participants ≡ set_at (λ u. participant_of u w.snap.participants) q (Some (beginner q client)) x
-        pushed x = ap (participant_of x) snap1_is ∙ participant_of-push w.snap.participants (beginner q client) absent x
-
-        own_there : participant_of q snap1.participants ≡ Some (beginner q client)
-        own_there = pushed q ∙ set_at-same (λ u. participant_of u w.snap.participants) q (Some (beginner q client))
-
-        p_there : participant_of p snap1.participants ≡ participant_of p w.snap.participants
-        p_there = pushed p ∙ set_at-other (λ u. participant_of u w.snap.participants) q (Some (beginner q client)) p other
-
-        no_round : participant_of q w.rounds ≡ None
-        no_round = elim (participant_of q w.rounds) as (λ z. participant_of q w.rounds ≡ z → z ≡ None) [
-          | None ↦ λ _. refl
-          | Some u ↦ λ e. absurd (let both : false ≡ true = sym (ap is_some absent) ∙ i.joined q ∙ ap is_some e in cc)
-        ] refl
+        other e = let both : true ≡ false = sym (i.joined p ∙ ap is_some here) ∙ ap (λ (x : ℕ). is_some (participant_of x w.snap.participants)) e ∙ ap is_some (let_in w.snap q goes).absent in absurd (cc)
 
         abbrev joined : RenameState S U K
         joined = begun_unless W None w q
 
         ends_still : (k : ℕ) → EndsAlone W w.snap p k → EndsAlone W joined.snap p k
-        ends_still k h = let wishes = wish_becomes snap1 q (beginner q client) own_there (first_wish (has_place W w q)) in ends_alike W p w.snap joined.snap (wishes.memory ∙ snap1_memory) (wishes.others p other ∙ p_there) k h
+        ends_still k h = let wishes = wish_becomes snap1 q (beginner q client) (begun_own W w q goes) (first_wish (has_place W w q)) in ends_alike W p w.snap joined.snap (wishes.memory ∙ snap1_memory) (wishes.others p other ∙ begun_other W w q goes p other) k h
 
         abbrev t' : Pace
         t' = paced bounds t (Began q (Ok tt))
@@ -424,7 +403,7 @@ module _ {S R V U K : Type 0} (W : KnownPlaces S R V U K) (terms : RenameTerms) 
         joined_on : (n : ℕ) → LeftAt w o t p v.program v.program.stage n → LeftAlone joined (after o (Began q (Ok tt))) t' p n
         joined_on n left = (
           v,
-          participant_of-push w.rounds (beginner q (first_round (has_place W w q))) no_round p ∙ set_at-other (λ u. participant_of u w.rounds) q (Some (beginner q (first_round (has_place W w q)))) p other ∙ here,
+          participant_of-push w.rounds (beginner q (first_round (has_place W w q))) (no_round W w q goes (i.joined q)) p ∙ set_at-other (λ u. participant_of u w.rounds) q (Some (beginner q (first_round (has_place W w q)))) p other ∙ here,
           left_still n v.program.stage left,
         )
 

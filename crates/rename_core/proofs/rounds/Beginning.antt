@@ -1,6 +1,6 @@
 -- one more begins in a renaming world
 use Rattle.std.proofs.Common.{◌==◌, cond, ◌≡◌, ◌≢◌, ℕ, ◌+◌, ◌<◌, ◌≤◌, Bool, true, false, List, [], ◌∷◌, ◌++◌, length, Option, Some, None, Result, Ok, inl, inr, refl, sym, ap, subst, ◌∙◌, arith}
-use Rattle.std.specs.Prelude.{is_some, option_map, option_and_then}
+use Rattle.std.specs.Prelude.{is_some}
 use Rattle.std.proofs.lemmas.Bool.Decides.{eqb_tells}
 use Rattle.std.proofs.lemmas.List.{length-append}
 use Rattle.step_memory.specs.SetAt.{set_at}
@@ -28,6 +28,7 @@ use Rattle.rename_core.specs.Pace.Phase.{ToPlace as ToGo, ToPropose}
 use Rattle.rename_core.specs.RenameWorld.{after_wish, begun_snap, has_place, begun_unless}
 use Rattle.rename_core.specs.RenameObject.{RenameTerms, RenameObject, no_begin, after}
 use Rattle.rename_core.proofs.rounds.Standing.{standing_begun}
+use Rattle.rename_core.proofs.rounds.StepCases.{begun_own, begun_other, begun_placed, no_round}
 use Rattle.snapshot_core.specs.Standing.{StandsAt}
 use Rattle.snapshot_core.proofs.Clients.{goes_idle}
 use Rattle.rename_core.proofs.Large.{update_large}
@@ -74,20 +75,8 @@ module _ {S R V U K : Type 0} (W : KnownPlaces S R V U K) (terms : RenameTerms) 
     snap1_many : length snap1.participants ≡ length w.snap.participants + 1
     snap1_many = ap length snap1_is ∙ length-append w.snap.participants (beginner p client ∷ [])
 
-    pushed : (q : ℕ) → participant_of q snap1.participants ≡ set_at (λ u. participant_of u w.snap.participants) p (Some (beginner p client)) q
-    pushed q = ap (participant_of q) snap1_is ∙ participant_of-push w.snap.participants (beginner p client) inside.absent q
-
-    own_there : participant_of p snap1.participants ≡ Some (beginner p client)
-    own_there = pushed p ∙ set_at-same (λ u. participant_of u w.snap.participants) p (Some (beginner p client))
-
-    other_there : (q : ℕ) → q ≢ p → participant_of q snap1.participants ≡ participant_of q w.snap.participants
-    other_there q n = pushed q ∙ set_at-other (λ u. participant_of u w.snap.participants) p (Some (beginner p client)) q n
-
-    placed_is : has_place W w p ≡ is_some (W.place_of client.walker)
-    placed_is = ap (λ (z : Option (Participant (Client U K))). is_some (option_and_then (λ c. W.place_of c.walker) (option_map (λ u. u.program) z))) own_there
-
     stands1 : StandsAt snap1 p (has_place W w p) 0
-    stands1 = record { who = beginner p client; is = own_there; goes = refl; idle_is = idle_first (W.place_of client.walker) ∙ sym placed_is; updates_is = refl }
+    stands1 = record { who = beginner p client; is = begun_own W w p goes; goes = refl; idle_is = idle_first (W.place_of client.walker) ∙ sym (begun_placed W w p goes); updates_is = refl }
 
     tie1 : Tie snap1 s1
     tie1 = (tie_goes w.snap s (SnapBegan p (Ok tt)) i.tie (sym (ap done_unless goes))).0
@@ -100,13 +89,10 @@ module _ {S R V U K : Type 0} (W : KnownPlaces S R V U K) (terms : RenameTerms) 
 
     -- the phase in which it begins
     phase_is : (b : Bool) → has_place W w p ≡ b → first_phase bounds ≡ cond b ToPropose ToGo
-    phase_is b e = ap (λ (c : Bool). cond c ToPropose ToGo) (sym (at_once (length w.snap.participants) p) ∙ sym placed_is ∙ e)
+    phase_is b e = ap (λ (c : Bool). cond c ToPropose ToGo) (sym (at_once (length w.snap.participants) p) ∙ sym (begun_placed W w p goes) ∙ e)
 
     new_round : participant_of p w.rounds ≡ None
-    new_round = elim (participant_of p w.rounds) as (λ z. participant_of p w.rounds ≡ z → z ≡ None) [
-      | None ↦ λ _. refl
-      | Some v ↦ λ e. absurd (let k : false ≡ true = sym (ap is_some inside.absent) ∙ i.joined p ∙ ap is_some e in cc)
-    ] refl
+    new_round = no_round W w p goes (i.joined p)
 
     -- what the new participant owes
     pub record HasJoined (snap : SnapState S U K) (r : Round) (u : SnapObject) : Type 0 where
@@ -211,8 +197,8 @@ module _ {S R V U K : Type 0} (W : KnownPlaces S R V U K) (terms : RenameTerms) 
       tie = tie1;
       most = snap1_most;
       many = snap1_many;
-      there = ap is_some own_there;
-      who = other_there;
+      there = ap is_some (begun_own W w p goes);
+      who = begun_other W w p goes;
       last = refl;
       as_many = refl;
       moment = refl;
@@ -247,7 +233,7 @@ module _ {S R V U K : Type 0} (W : KnownPlaces S R V U K) (terms : RenameTerms) 
         most = (update_large snap1 p 1).most ∙ snap1_most;
         many = (update_large snap1 p 1).many ∙ snap1_many;
         there = ap is_some ((goes_idle W snap1 p 0 stands2).more few 1).stands.is;
-        who = λ q n. ((goes_idle W snap1 p 0 stands2).more few 1).others q n ∙ other_there q n;
+        who = λ q n. ((goes_idle W snap1 p 0 stands2).more few 1).others q n ∙ begun_other W w p goes q n;
         last = refl;
         as_many = refl;
         moment = refl;
