@@ -2,7 +2,6 @@
 use Rattle.std.proofs.Common.{◌≡◌, ◌≢◌, ℕ, zero, suc, ◌+◌, ◌-◌, ◌*◌, ◌≤◌, ◌==◌, Bool, true, false, cond, ◌⊎◌, List, Option, Some, None, Result, Ok, Err, inl, inr, refl, sym, ap, subst, ◌∙◌, arith, add-one}
 use Rattle.std.specs.Prelude.{is_some, nat_lt, nat_le}
 use Rattle.std.proofs.lemmas.Bool.Decides.{eqb_tells, leb_tells}
-use Rattle.step_memory.specs.SetAt.{set_at}
 use Rattle.step_memory.proofs.SetAtLemmas.{set_at-same, set_at-other}
 use Rattle.step_memory.specs.View.{value_of}
 use Rattle.step_memory.specs.declared.participant.Participant.{Participant}
@@ -27,7 +26,7 @@ use Rattle.snapshot_core.specs.Snapshot.Task.{Absent, Placing as ToPlace, Scanni
 use Rattle.snapshot_core.specs.SnapWorld.{SnapState, beginner_at, snap_answer, after_snap_step}
 use Rattle.snapshot_core.specs.declared.client.Client.{Client}
 use Rattle.rename_core.specs.Reply.{StepReply}
-use Rattle.rename_core.specs.declared.reply.Reply.TheVariants.{Quiet, Proposed}
+use Rattle.rename_core.specs.declared.reply.Reply.TheVariants.{Quiet}
 use Rattle.rename_core.specs.declared.round.Round.{Round}
 use Rattle.rename_core.specs.declared.round.Follow.{Follow}
 use Rattle.rename_core.specs.declared.round.Stage.{Stage}
@@ -43,6 +42,7 @@ use Rattle.rename_core.specs.RenameWorld.{after_wish, begun_snap, begun_unless, 
 use Rattle.rename_core.specs.Round.{stage_refusal, followed, decided, named_by, spent_by, saw_by, number_of, written_round, first_round, first_wish}
 use Rattle.rename_core.proofs.LocalSteps.{wish_becomes}
 use Rattle.rename_core.proofs.rounds.Numbers.{next_free}
+use Rattle.rename_core.proofs.rounds.Standing.{others_stand}
 use Rattle.rename_core.proofs.rounds.StepCases.{begun_own, begun_other, no_round, told_answer, told_state, refusal_here, closed_answer, step_refused}
 use Rattle.rename_core.proofs.rounds.Stepping.{HasGone, placing_gone, proposing_gone, looking_gone, standing_made}
 use Rattle.rename_core.proofs.rounds.Tied.{IsAtStage, IsPlacing, IsProposing, IsLooking, IsTied}
@@ -236,11 +236,6 @@ module _ {S R V U K : Type 0} (W : KnownPlaces S R V U K) (terms : RenameTerms) 
       counts_one : (written_round v.program w.limit).count ≤ v.program.count + 1
       counts_one = elim (nat_lt v.program.count w.limit) as (λ b. cond b (v.program.count + 1) v.program.count ≤ v.program.count + 1) [ true ↦ omega arith | false ↦ omega arith ]
 
-      -- what another proposes stands as before
-      others_stand : (number q : ℕ) → q ≢ p → (after_step o p (Proposed number)).moment (o.last + 1) q ≡ o.moment o.last q
-      others_stand number q other =
-          ap (λ (f : ℕ → Option ℕ). f q) (set_at-same o.moment (o.last + 1) (set_at (o.moment o.last) p (Some number))) ∙ set_at-other (o.moment o.last) p (Some number) q other
-
       proposing_on : (number : ℕ) → IsProposing terms o t i.object w.snap p number v.program → v.program.stage ≡ Proposing number → LeftAt w o t p v.program (Proposing number) (suc n) →
           (reply : SnapReply) → snap_answer W w.snap p ≡ Ok reply → Gone (followed v.program p reply w.limit) → LessLeft (followed v.program p reply w.limit)
       proposing_on number h stage left Silent answer gone =
@@ -264,7 +259,7 @@ module _ {S R V U K : Type 0} (W : KnownPlaces S R V U K) (terms : RenameTerms) 
             elim left.2 [
               | inl a ↦
                   let l = a.1 in
-                  inl (last, λ q other e. a.0 q other (sym (others_stand (number_of v.program.stage) q other) ∙ e ∙ ap (λ (z : Stage). Some (number_of z)) stage), omega arith)
+                  inl (last, λ q other e. a.0 q other (sym (others_stand o p (number_of v.program.stage) q other) ∙ e ∙ ap (λ (z : Stage). Some (number_of z)) stage), omega arith)
               | inr a ↦
                   let l = a.1 in
                   let c = a.0 in

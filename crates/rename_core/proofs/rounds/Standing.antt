@@ -101,6 +101,10 @@ standing_named o p n i h begun some recent sole = standing_with o o.begun o.many
   | inr w ↦ h.held q m (rw w.0 at e)
 ])
 
+-- a proposal of p leaves what the others propose
+pub others_stand : (o : RenameObject) (p n q : ℕ) → q ≢ p → (after_step o p (Proposed n)).moment (o.last + 1) q ≡ o.moment o.last q
+others_stand o p n q other = ap (λ (f : ℕ → Option ℕ). f q) (set_at-same o.moment (o.last + 1) (set_at (o.moment o.last) p (Some n))) ∙ set_at-other (o.moment o.last) p (Some n) q other
+
 -- one who has no name proposes
 module _ (terms : RenameTerms) (o : RenameObject) (p s : ℕ) (h : IsStanding o) (unnamed : o.name p ≡ None) (begun : o.begun p ≡ true) (may : MayPropose terms o p s) where
   abbrev next : RenameObject
@@ -116,7 +120,7 @@ module _ (terms : RenameTerms) (o : RenameObject) (p s : ℕ) (h : IsStanding o)
   new_own = ap (λ (f : ℕ → Option ℕ). f p) new_moment ∙ set_at-same (o.moment o.last) p (Some s)
 
   new_other : (q : ℕ) → q ≢ p → next.moment (o.last + 1) q ≡ o.moment o.last q
-  new_other q n = ap (λ (f : ℕ → Option ℕ). f q) new_moment ∙ set_at-other (o.moment o.last) p (Some s) q n
+  new_other = others_stand o p s
 
   since_own : next.since p ≡ o.last + 1
   since_own = set_at-same o.since p (o.last + 1)

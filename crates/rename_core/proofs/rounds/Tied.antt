@@ -1,5 +1,5 @@
 -- a renaming world with the object and the pace of its law
-use Rattle.std.proofs.Common.{◌≡◌, ◌≢◌, ℕ, ◌+◌, ◌-◌, ◌*◌, ◌<◌, ◌≤◌, ◌==◌, Bool, true, false, cond, length, Option, Some, None, inl, inr, refl, sym, ap, ◌∙◌, arith}
+use Rattle.std.proofs.Common.{◌≡◌, ◌≢◌, ℕ, ◌+◌, ◌-◌, ◌*◌, ◌<◌, ◌≤◌, ◌==◌, Bool, true, false, cond, length, Some, None, inl, inr, refl, sym, ap, ◌∙◌, arith}
 use Rattle.std.specs.Prelude.{is_some}
 use Rattle.std.proofs.lemmas.Bool.Decides.{eqb_tells}
 use Rattle.step_memory.specs.SetAt.{set_at}
@@ -26,7 +26,7 @@ use Rattle.rename_core.specs.Round.{standing_by}
 use Rattle.snapshot_core.specs.Standing.{StandsAt}
 use Rattle.rename_core.proofs.Large.{IsAsLarge}
 use Rattle.step_memory.proofs.DistinctParticipants.{distinct_put}
-use Rattle.rename_core.proofs.rounds.Standing.{IsStanding}
+use Rattle.rename_core.proofs.rounds.Standing.{IsStanding, others_stand}
 
 -- p has neither a name nor used up its rounds
 pub record IsGoing (o : RenameObject) (p : ℕ) : Type 0 where
@@ -169,7 +169,7 @@ record Leaves (o : RenameObject) (t : Pace) (p : ℕ) (reply : StepReply) : Type
 leaves : (o : RenameObject) (t : Pace) (p : ℕ) (reply : StepReply) → Leaves o t p reply
 leaves o t p Quiet = record { many = refl; begun = refl; paced = refl; place = λ q n. refl; name = λ q n. refl; spent = λ q n. refl; count = λ q n. refl; since = λ q n. refl; now = λ q n. refl; phase = λ q n. refl; steps = set_at-other t.steps p (t.steps p + 1); later = omega arith }
 leaves o t p (Placed x) = record { many = refl; begun = refl; paced = refl; place = set_at-other o.place p (Some x); name = λ q n. refl; spent = λ q n. refl; count = λ q n. refl; since = λ q n. refl; now = λ q n. refl; phase = set_at-other t.phase p ToPropose; steps = set_at-other t.steps p 0; later = omega arith }
-leaves o t p (Proposed m) = record { many = refl; begun = refl; paced = refl; place = λ q n. refl; name = λ q n. refl; spent = λ q n. refl; count = set_at-other o.count p (o.count p + 1); since = set_at-other o.since p (o.last + 1); now = λ q n. ap (λ (f : ℕ → Option ℕ). f q) (set_at-same o.moment (o.last + 1) (set_at (o.moment o.last) p (Some m))) ∙ set_at-other (o.moment o.last) p (Some m) q n; phase = set_at-other t.phase p ToLook; steps = set_at-other t.steps p 0; later = omega arith }
+leaves o t p (Proposed m) = record { many = refl; begun = refl; paced = refl; place = λ q n. refl; name = λ q n. refl; spent = λ q n. refl; count = set_at-other o.count p (o.count p + 1); since = set_at-other o.since p (o.last + 1); now = others_stand o p m; phase = set_at-other t.phase p ToLook; steps = set_at-other t.steps p 0; later = omega arith }
 leaves o t p (Saw view) = record { many = refl; begun = refl; paced = refl; place = λ q n. refl; name = λ q n. refl; spent = λ q n. refl; count = λ q n. refl; since = λ q n. refl; now = λ q n. refl; phase = set_at-other t.phase p ToPropose; steps = set_at-other t.steps p 0; later = omega arith }
 leaves o t p (Named m view) = record { many = refl; begun = refl; paced = refl; place = λ q n. refl; name = set_at-other o.name p (Some m); spent = λ q n. refl; count = λ q n. refl; since = λ q n. refl; now = λ q n. refl; phase = set_at-other t.phase p AtEnd; steps = set_at-other t.steps p 0; later = omega arith }
 leaves o t p Spent = record { many = refl; begun = refl; paced = refl; place = λ q n. refl; name = λ q n. refl; spent = set_at-other o.spent p true; count = λ q n. refl; since = λ q n. refl; now = λ q n. refl; phase = set_at-other t.phase p AtEnd; steps = set_at-other t.steps p 0; later = omega arith }
