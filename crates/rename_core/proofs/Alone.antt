@@ -15,7 +15,7 @@ use Rattle.step_memory.specs.World.{begin_refusal, done_unless}
 use Rattle.step_memory.proofs.WorldKeeps.{let_in}
 use Rattle.snapshot_core.specs.Alone.{EndsAlone, EndsSoon, most_reads}
 use Rattle.snapshot_core.proofs.Alone.{ends_alike}
-use Rattle.snapshot_core.proofs.Clients.{goes_busy}
+use Rattle.snapshot_core.proofs.Clients.{has_begun, goes_busy}
 use Rattle.snapshot_core.specs.Places.{KnownPlaces}
 use Rattle.snapshot_core.specs.Standing.{GoesBusy, is_quiet}
 use Rattle.snapshot_core.specs.declared.client.SnapReply.{SnapReply}
@@ -43,7 +43,7 @@ use Rattle.rename_core.specs.Round.{stage_refusal, followed, decided, named_by, 
 use Rattle.rename_core.proofs.LocalSteps.{wish_becomes}
 use Rattle.rename_core.proofs.rounds.Numbers.{next_free}
 use Rattle.rename_core.proofs.rounds.Standing.{others_stand}
-use Rattle.rename_core.proofs.rounds.StepCases.{begun_own, begun_other, no_round, told_answer, told_state, refusal_here, closed_answer, step_refused}
+use Rattle.rename_core.proofs.rounds.StepCases.{begun_own, no_round, told_answer, told_state, refusal_here, closed_answer, step_refused}
 use Rattle.rename_core.proofs.rounds.Stepping.{HasGone, placing_gone, proposing_gone, looking_gone, standing_made}
 use Rattle.rename_core.proofs.rounds.Tied.{IsAtStage, IsPlacing, IsProposing, IsLooking, IsTied}
 use Rattle.rename_core.proofs.rounds.Views.{taken_not}
@@ -383,7 +383,7 @@ module _ {S R V U K : Type 0} (W : KnownPlaces S R V U K) (terms : RenameTerms) 
         joined = begun_unless W None w q
 
         ends_still : (k : ℕ) → EndsAlone W w.snap p k → EndsAlone W joined.snap p k
-        ends_still k h = let wishes = wish_becomes snap1 q (beginner q client) (begun_own W w q goes) (first_wish (has_place W w q)) in ends_alike W p w.snap joined.snap (wishes.memory ∙ snap1_memory) (wishes.others p other ∙ begun_other W w q goes p other) k h
+        ends_still k h = let wishes = wish_becomes snap1 q (beginner q client) (begun_own W w q goes) (first_wish (has_place W w q)) in ends_alike W p w.snap joined.snap (wishes.memory ∙ snap1_memory) (wishes.others p other ∙ (has_begun W w.snap q goes).others p other) k h
 
         abbrev t' : Pace
         t' = paced bounds t (Began q (Ok tt))

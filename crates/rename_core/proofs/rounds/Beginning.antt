@@ -12,9 +12,7 @@ use Rattle.step_memory.specs.Calls.Call.{Began}
 use Rattle.step_memory.specs.World.{begin_refusal, done_unless}
 use Rattle.step_memory.proofs.ParticipantLemmas.{participant_of-push}
 use Rattle.step_memory.proofs.WorldKeeps.{IsLetIn, let_in}
-use Rattle.snapshot_core.specs.declared.client.Client.{Client}
-use Rattle.snapshot_core.specs.Client.{is_idle, first_pending}
-use Rattle.snapshot_core.specs.SnapWorld.{SnapState, beginner_at, after_update}
+use Rattle.snapshot_core.specs.SnapWorld.{SnapState, after_update}
 use Rattle.snapshot_core.specs.SnapCalls.{SnapCall, next as snap_next, IsReply as IsSnapReply}
 use Rattle.snapshot_core.specs.SnapCalls.SnapCall.{Began as SnapBegan, Updated}
 use Rattle.snapshot_core.specs.Snapshot.{SnapObject, SnapBounds, observed, Allows as SnapAllows, asked_for, with_update}
@@ -28,17 +26,13 @@ use Rattle.rename_core.specs.Pace.Phase.{ToPlace as ToGo, ToPropose}
 use Rattle.rename_core.specs.RenameWorld.{after_wish, begun_snap, has_place, begun_unless}
 use Rattle.rename_core.specs.RenameObject.{RenameTerms, RenameObject, no_begin, after}
 use Rattle.rename_core.proofs.rounds.Standing.{standing_begun}
-use Rattle.rename_core.proofs.rounds.StepCases.{begun_own, begun_other, begun_placed, no_round}
-use Rattle.snapshot_core.specs.Standing.{StandsAt}
-use Rattle.snapshot_core.proofs.Clients.{goes_idle}
+use Rattle.rename_core.proofs.rounds.StepCases.{begun_placed, no_round}
+use Rattle.snapshot_core.specs.Standing.{StandsAt, HasBegun}
+use Rattle.snapshot_core.proofs.Clients.{has_begun, goes_idle}
 use Rattle.rename_core.proofs.Large.{update_large}
 use Rattle.rename_core.proofs.rounds.Tied.{IsAtStage, IsCounted, IsTied, Carries, Spares, since_kept, spares_task, spares_next, counted_on, stage_on}
 use Rattle.step_memory.proofs.DistinctParticipants.{distinct_push}
 use Rattle.rename_core.proofs.rounds.Keeping.{Goes}
-
-idle_first : (x : Option ℕ) → is_idle (first_pending x) ≡ is_some x
-idle_first None = refl
-idle_first (Some x) = refl
 
 module _ {S R V U K : Type 0} (W : KnownPlaces S R V U K) (terms : RenameTerms) (bounds : SnapBounds)
     (Tie : SnapState S U K → SnapObject → Type 0)
@@ -54,9 +48,6 @@ module _ {S R V U K : Type 0} (W : KnownPlaces S R V U K) (terms : RenameTerms) 
     abbrev s : SnapObject
     s = i.object
 
-    abbrev client : Client U K
-    client = beginner_at W w.snap p
-
     abbrev snap1 : SnapState S U K
     snap1 = begun_snap W w p
 
@@ -66,17 +57,14 @@ module _ {S R V U K : Type 0} (W : KnownPlaces S R V U K) (terms : RenameTerms) 
     inside : IsLetIn w.snap p
     inside = let_in w.snap p goes
 
-    snap1_is : snap1.participants ≡ w.snap.participants ++ beginner p client ∷ []
-    snap1_is = rw goes refl
-
     snap1_most : snap1.most ≡ w.snap.most
     snap1_most = rw goes refl
 
-    snap1_many : length snap1.participants ≡ length w.snap.participants + 1
-    snap1_many = ap length snap1_is ∙ length-append w.snap.participants (beginner p client ∷ [])
+    begun : HasBegun W w.snap p
+    begun = has_begun W w.snap p goes
 
     stands1 : StandsAt snap1 p (has_place W w p) 0
-    stands1 = record { who = beginner p client; is = begun_own W w p goes; goes = refl; idle_is = idle_first (W.place_of client.walker) ∙ sym (begun_placed W w p goes); updates_is = refl }
+    stands1 = subst (λ (b : Bool). StandsAt snap1 p b 0) (sym (begun_placed W w p goes)) begun.stands
 
     tie1 : Tie snap1 s1
     tie1 = (tie_goes w.snap s (SnapBegan p (Ok tt)) i.tie (sym (ap done_unless goes))).0
@@ -196,9 +184,9 @@ module _ {S R V U K : Type 0} (W : KnownPlaces S R V U K) (terms : RenameTerms) 
     walks_on e = record {
       tie = tie1;
       most = snap1_most;
-      many = snap1_many;
-      there = ap is_some (begun_own W w p goes);
-      who = begun_other W w p goes;
+      many = begun.many;
+      there = ap is_some begun.stands.is;
+      who = begun.others;
       last = refl;
       as_many = refl;
       moment = refl;
@@ -231,9 +219,9 @@ module _ {S R V U K : Type 0} (W : KnownPlaces S R V U K) (terms : RenameTerms) 
       proposes = record {
         tie = (tie_goes snap1 s1 (Updated p 1 (Ok tt)) tie1 (sym (ap done_unless ((goes_idle W snap1 p 0 stands2).update few)))).0;
         most = (update_large snap1 p 1).most ∙ snap1_most;
-        many = (update_large snap1 p 1).many ∙ snap1_many;
+        many = (update_large snap1 p 1).many ∙ begun.many;
         there = ap is_some ((goes_idle W snap1 p 0 stands2).more few 1).stands.is;
-        who = λ q n. ((goes_idle W snap1 p 0 stands2).more few 1).others q n ∙ begun_other W w p goes q n;
+        who = λ q n. ((goes_idle W snap1 p 0 stands2).more few 1).others q n ∙ begun.others q n;
         last = refl;
         as_many = refl;
         moment = refl;

@@ -1,14 +1,13 @@
 -- a step of a renaming world by cases on who takes it
-use Rattle.std.proofs.Common.{◌≡◌, ◌≢◌, true, false, ℕ, ◌+◌, [], ◌∷◌, ◌++◌, length, get_or, set, Option, Some, None, Ok, Err, refl, sym, ap, ◌∙◌}
+use Rattle.std.proofs.Common.{◌≡◌, true, false, ℕ, ◌+◌, [], ◌∷◌, ◌++◌, length, get_or, set, Option, Some, None, Ok, Err, refl, sym, ap, ◌∙◌}
 use Rattle.std.specs.Prelude.{option_map, option_and_then, is_some}
 use Rattle.step_memory.specs.declared.participant.Participant.{Participant}
 use Rattle.step_memory.specs.declared.refusal.Refusal.{Refusal}
 use Rattle.step_memory.specs.declared.refusal.Refusal.TheVariants.{NotBegun}
 use Rattle.step_memory.specs.Participant.{index_of, participant_of, program_of, identities, beginner}
-use Rattle.step_memory.specs.SetAt.{set_at}
 use Rattle.step_memory.specs.World.{begin_refusal, done_unless}
 use Rattle.step_memory.proofs.ParticipantLemmas.{participant_of-push}
-use Rattle.step_memory.proofs.SetAtLemmas.{set_at-same, set_at-other}
+use Rattle.step_memory.proofs.SetAtLemmas.{set_at-same}
 use Rattle.step_memory.proofs.WorldKeeps.{let_in}
 use Rattle.snapshot_core.specs.declared.client.Client.{Client}
 use Rattle.step_memory.proofs.DistinctParticipants.{distinct_set, identities-push, identities-set}
@@ -53,14 +52,8 @@ module _ {S R V U K : Type 0} (W : KnownPlaces S R V U K) (w : RenameState S U K
   abbrev new : Participant (Client U K)
   new = beginner p (beginner_at W w.snap p)
 
-  begun_put : (q : ℕ) → participant_of q (begun_snap W w p).participants ≡ set_at (λ u. participant_of u w.snap.participants) p (Some new) q
-  begun_put q = rw goes (participant_of-push w.snap.participants new (let_in w.snap p goes).absent q)
-
   pub begun_own : participant_of p (begun_snap W w p).participants ≡ Some new
-  begun_own = begun_put p ∙ set_at-same (λ u. participant_of u w.snap.participants) p (Some new)
-
-  pub begun_other : (q : ℕ) → q ≢ p → participant_of q (begun_snap W w p).participants ≡ participant_of q w.snap.participants
-  begun_other q n = begun_put q ∙ set_at-other (λ u. participant_of u w.snap.participants) p (Some new) q n
+  begun_own = rw goes (participant_of-push w.snap.participants new (let_in w.snap p goes).absent p ∙ set_at-same (λ u. participant_of u w.snap.participants) p (Some new))
 
   pub begun_placed : has_place W w p ≡ is_some (W.place_of new.program.walker)
   begun_placed = ap (λ (z : Option (Participant (Client U K))). is_some (option_and_then (λ c. W.place_of c.walker) (option_map (λ u. u.program) z))) begun_own
