@@ -1,8 +1,7 @@
 -- who steps alone comes nearer to its name
-use Rattle.std.proofs.Common.{◌≡◌, ◌≢◌, ℕ, zero, suc, ◌+◌, ◌-◌, ◌*◌, ◌≤◌, ◌==◌, Bool, true, false, cond, ◌⊎◌, List, [], ◌∷◌, ◌++◌, Option, Some, None, Result, Ok, Err, inl, inr, refl, sym, ap, subst, ◌∙◌, arith, add-one}
+use Rattle.std.proofs.Common.{◌≡◌, ◌≢◌, ℕ, zero, suc, ◌+◌, ◌-◌, ◌*◌, ◌≤◌, ◌==◌, Bool, true, false, cond, ◌⊎◌, List, Option, Some, None, Result, Ok, Err, inl, inr, refl, sym, ap, subst, ◌∙◌, arith, add-one}
 use Rattle.std.specs.Prelude.{is_some, nat_lt, nat_le}
 use Rattle.std.proofs.lemmas.Bool.Decides.{eqb_tells, leb_tells}
-use Rattle.step_memory.specs.SetAt.{set_at}
 use Rattle.step_memory.proofs.SetAtLemmas.{set_at-same, set_at-other}
 use Rattle.step_memory.specs.View.{value_of}
 use Rattle.step_memory.specs.declared.participant.Participant.{Participant}
@@ -16,7 +15,7 @@ use Rattle.step_memory.specs.World.{begin_refusal, done_unless}
 use Rattle.step_memory.proofs.WorldKeeps.{let_in}
 use Rattle.snapshot_core.specs.Alone.{EndsAlone, EndsSoon, most_reads}
 use Rattle.snapshot_core.proofs.Alone.{ends_alike}
-use Rattle.snapshot_core.proofs.Clients.{goes_busy}
+use Rattle.snapshot_core.proofs.Clients.{has_begun, goes_busy}
 use Rattle.snapshot_core.specs.Places.{KnownPlaces}
 use Rattle.snapshot_core.specs.Standing.{GoesBusy, is_quiet}
 use Rattle.snapshot_core.specs.declared.client.SnapReply.{SnapReply}
@@ -27,7 +26,7 @@ use Rattle.snapshot_core.specs.Snapshot.Task.{Absent, Placing as ToPlace, Scanni
 use Rattle.snapshot_core.specs.SnapWorld.{SnapState, beginner_at, snap_answer, after_snap_step}
 use Rattle.snapshot_core.specs.declared.client.Client.{Client}
 use Rattle.rename_core.specs.Reply.{StepReply}
-use Rattle.rename_core.specs.declared.reply.Reply.TheVariants.{Quiet, Proposed}
+use Rattle.rename_core.specs.declared.reply.Reply.TheVariants.{Quiet}
 use Rattle.rename_core.specs.declared.round.Round.{Round}
 use Rattle.rename_core.specs.declared.round.Follow.{Follow}
 use Rattle.rename_core.specs.declared.round.Stage.{Stage}
@@ -43,7 +42,8 @@ use Rattle.rename_core.specs.RenameWorld.{after_wish, begun_snap, begun_unless, 
 use Rattle.rename_core.specs.Round.{stage_refusal, followed, decided, named_by, spent_by, saw_by, number_of, written_round, first_round, first_wish}
 use Rattle.rename_core.proofs.LocalSteps.{wish_becomes}
 use Rattle.rename_core.proofs.rounds.Numbers.{next_free}
-use Rattle.rename_core.proofs.rounds.StepCases.{told_answer, told_state, refusal_here, closed_answer, step_refused}
+use Rattle.rename_core.proofs.rounds.Standing.{others_stand}
+use Rattle.rename_core.proofs.rounds.StepCases.{begun_own, no_round, told_answer, told_state, refusal_here, closed_answer, step_refused}
 use Rattle.rename_core.proofs.rounds.Stepping.{HasGone, placing_gone, proposing_gone, looking_gone, standing_made}
 use Rattle.rename_core.proofs.rounds.Tied.{IsAtStage, IsPlacing, IsProposing, IsLooking, IsTied}
 use Rattle.rename_core.proofs.rounds.Views.{taken_not}
@@ -236,11 +236,6 @@ module _ {S R V U K : Type 0} (W : KnownPlaces S R V U K) (terms : RenameTerms) 
       counts_one : (written_round v.program w.limit).count ≤ v.program.count + 1
       counts_one = elim (nat_lt v.program.count w.limit) as (λ b. cond b (v.program.count + 1) v.program.count ≤ v.program.count + 1) [ true ↦ omega arith | false ↦ omega arith ]
 
-      -- what another proposes stands as before
-      others_stand : (number q : ℕ) → q ≢ p → (after_step o p (Proposed number)).moment (o.last + 1) q ≡ o.moment o.last q
-      others_stand number q other =
-          ap (λ (f : ℕ → Option ℕ). f q) (set_at-same o.moment (o.last + 1) (set_at (o.moment o.last) p (Some number))) ∙ set_at-other (o.moment o.last) p (Some number) q other
-
       proposing_on : (number : ℕ) → IsProposing terms o t i.object w.snap p number v.program → v.program.stage ≡ Proposing number → LeftAt w o t p v.program (Proposing number) (suc n) →
           (reply : SnapReply) → snap_answer W w.snap p ≡ Ok reply → Gone (followed v.program p reply w.limit) → LessLeft (followed v.program p reply w.limit)
       proposing_on number h stage left Silent answer gone =
@@ -264,7 +259,7 @@ module _ {S R V U K : Type 0} (W : KnownPlaces S R V U K) (terms : RenameTerms) 
             elim left.2 [
               | inl a ↦
                   let l = a.1 in
-                  inl (last, λ q other e. a.0 q other (sym (others_stand (number_of v.program.stage) q other) ∙ e ∙ ap (λ (z : Stage). Some (number_of z)) stage), omega arith)
+                  inl (last, λ q other e. a.0 q other (sym (others_stand o p (number_of v.program.stage) q other) ∙ e ∙ ap (λ (z : Stage). Some (number_of z)) stage), omega arith)
               | inr a ↦
                   let l = a.1 in
                   let c = a.0 in
@@ -378,38 +373,17 @@ module _ {S R V U K : Type 0} (W : KnownPlaces S R V U K) (terms : RenameTerms) 
         abbrev snap1 : SnapState S U K
         snap1 = begun_snap W w q
 
-        snap1_is : snap1.participants ≡ w.snap.participants ++ beginner q client ∷ []
-        snap1_is = rw goes refl
-
         snap1_memory : snap1.memory ≡ w.snap.memory
         snap1_memory = rw goes refl
 
-        absent : participant_of q w.snap.participants ≡ None
-        absent = (let_in w.snap q goes).absent
-
         other : p ≢ q
-        other e = let both : true ≡ false = sym (i.joined p ∙ ap is_some here) ∙ ap (λ (x : ℕ). is_some (participant_of x w.snap.participants)) e ∙ ap is_some absent in absurd (cc)
-
-        pushed : (x : ℕ) → participant_of x snap1.participants ≡ set_at (λ u. participant_of u w.snap.participants) q (Some (beginner q client)) x
-        pushed x = ap (participant_of x) snap1_is ∙ participant_of-push w.snap.participants (beginner q client) absent x
-
-        own_there : participant_of q snap1.participants ≡ Some (beginner q client)
-        own_there = pushed q ∙ set_at-same (λ u. participant_of u w.snap.participants) q (Some (beginner q client))
-
-        p_there : participant_of p snap1.participants ≡ participant_of p w.snap.participants
-        p_there = pushed p ∙ set_at-other (λ u. participant_of u w.snap.participants) q (Some (beginner q client)) p other
-
-        no_round : participant_of q w.rounds ≡ None
-        no_round = elim (participant_of q w.rounds) as (λ z. participant_of q w.rounds ≡ z → z ≡ None) [
-          | None ↦ λ _. refl
-          | Some u ↦ λ e. absurd (let both : false ≡ true = sym (ap is_some absent) ∙ i.joined q ∙ ap is_some e in cc)
-        ] refl
+        other e = let both : true ≡ false = sym (i.joined p ∙ ap is_some here) ∙ ap (λ (x : ℕ). is_some (participant_of x w.snap.participants)) e ∙ ap is_some (let_in w.snap q goes).absent in absurd (cc)
 
         abbrev joined : RenameState S U K
         joined = begun_unless W None w q
 
         ends_still : (k : ℕ) → EndsAlone W w.snap p k → EndsAlone W joined.snap p k
-        ends_still k h = let wishes = wish_becomes snap1 q (beginner q client) own_there (first_wish (has_place W w q)) in ends_alike W p w.snap joined.snap (wishes.memory ∙ snap1_memory) (wishes.others p other ∙ p_there) k h
+        ends_still k h = let wishes = wish_becomes snap1 q (beginner q client) (begun_own W w q goes) (first_wish (has_place W w q)) in ends_alike W p w.snap joined.snap (wishes.memory ∙ snap1_memory) (wishes.others p other ∙ (has_begun W w.snap q goes).others p other) k h
 
         abbrev t' : Pace
         t' = paced bounds t (Began q (Ok tt))
@@ -424,7 +398,7 @@ module _ {S R V U K : Type 0} (W : KnownPlaces S R V U K) (terms : RenameTerms) 
         joined_on : (n : ℕ) → LeftAt w o t p v.program v.program.stage n → LeftAlone joined (after o (Began q (Ok tt))) t' p n
         joined_on n left = (
           v,
-          participant_of-push w.rounds (beginner q (first_round (has_place W w q))) no_round p ∙ set_at-other (λ u. participant_of u w.rounds) q (Some (beginner q (first_round (has_place W w q)))) p other ∙ here,
+          participant_of-push w.rounds (beginner q (first_round (has_place W w q))) (no_round W w q goes (i.joined q)) p ∙ set_at-other (λ u. participant_of u w.rounds) q (Some (beginner q (first_round (has_place W w q)))) p other ∙ here,
           left_still n v.program.stage left,
         )
 

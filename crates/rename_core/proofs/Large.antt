@@ -1,5 +1,5 @@
 -- no call of a snapshot object but `begin` changes who takes part
-use Rattle.std.proofs.Common.{◌≡◌, ℕ, true, false, cond, length, Option, Some, None, refl}
+use Rattle.std.proofs.Common.{◌≡◌, ℕ, true, false, cond, length, Option, Some, None, refl, ◌∙◌}
 use Rattle.step_memory.specs.declared.participant.Participant.{Participant}
 use Rattle.step_memory.specs.declared.refusal.Refusal.{Refusal}
 use Rattle.step_memory.specs.Participant.{participant_of, program_of, identities, beginner, resumed}
@@ -16,6 +16,9 @@ pub record IsAsLarge {S U K : Type 0} (w new : SnapState S U K) : Type 0 where
   pub most : new.most ≡ w.most
   pub many : length new.participants ≡ length w.participants
   pub same : identities new.participants ≡ identities w.participants
+
+pub both_large : {S U K : Type 0} (a b c : SnapState S U K) → IsAsLarge a b → IsAsLarge b c → IsAsLarge a c
+both_large a b c h k = record { most = k.most ∙ h.most; many = k.many ∙ h.many; same = k.same ∙ h.same }
 
 module _ {S U K : Type 0} (w : SnapState S U K) (p : ℕ) where
   asked_large : (asking : Client U K → Client U K) (c : Option (Client U K)) (why : Option Refusal) → IsAsLarge w (asked w p asking c why)

@@ -1,7 +1,6 @@
 -- every renaming world keeps the law of renaming
-use Rattle.std.proofs.Common.{None, is_some, IsOk, ◌≡◌, ◌+◌, false, ℕ, ◌≤◌, ◌==◌, Bool, true, List, [], ◌∷◌, ◌++◌, Option, Some, inl, inr, refl, sym, ap, ◌∙◌, arith}
+use Rattle.std.proofs.Common.{None, is_some, IsOk, ◌≡◌, ◌+◌, false, ℕ, ◌==◌, Bool, true, List, [], ◌∷◌, ◌++◌, Option, Some, refl, sym, ap, ◌∙◌, arith}
 use Rattle.std.specs.Prelude.{option_map, option_and_then}
-use Rattle.std.proofs.lemmas.Bool.Decides.{eqb_tells, leb_tells}
 use Rattle.step_memory.specs.Calls.{Call}
 use Rattle.step_memory.specs.Calls.Call.{Began, Stepped}
 use Rattle.step_memory.specs.declared.participant.Participant.{Participant}
@@ -29,10 +28,10 @@ use Rattle.rename_core.specs.Law.{KeepsRenameLaw}
 use Rattle.rename_core.specs.Pace.{Pace, InTime, new_pace, paced, IsPaced}
 use Rattle.snapshot_core.specs.Places.{KnownPlaces}
 use Rattle.step_memory.specs.Machine.{After}
-use Rattle.rename_core.specs.Machine.{next, IsReply, fresh_over, renaming, terms_of}
-use Rattle.rename_core.specs.RenameObject.{RenameTerms, RenameObject, new_object, IsRecent, Allows, after, IsRun, IsOwner}
+use Rattle.rename_core.specs.Machine.{next, IsReply, fresh_over, IsRenameStart, renaming, terms_of}
+use Rattle.rename_core.specs.RenameObject.{RenameTerms, RenameObject, new_object, Allows, after, IsRun, IsOwner}
 use Rattle.rename_core.specs.RenameState.{RenameState}
-use Rattle.rename_core.specs.RenameWorld.{name_in, name_by, owner_by, shown_by, step_refusal, rename_answer, fresh_world, may_lack}
+use Rattle.rename_core.specs.RenameWorld.{name_in, name_by, owner_by, shown_by, step_refusal, rename_answer, may_lack}
 use Rattle.rename_core.specs.Round.{name_at, stage_refusal, standing_by}
 use Rattle.snapshot_core.proofs.Alone.{ends_soon_alone}
 use Rattle.rename_core.proofs.Alone.{Grounds}
@@ -42,28 +41,8 @@ use Rattle.rename_core.proofs.rounds.Keeping.{Goes, step_goes}
 use Rattle.rename_core.proofs.rounds.Shown.{standing_of, shown_rising, shown_is, Owns, owner_is}
 use Rattle.rename_core.proofs.Sizes.{most_after}
 use Rattle.rename_core.proofs.rounds.Snapping.{AreAfter, after_none, after_more}
-use Rattle.rename_core.proofs.rounds.Standing.{IsStanding, standing_fresh, same_in, name_small}
+use Rattle.rename_core.proofs.rounds.Standing.{standing_fresh, distinct_names, name_small}
 use Rattle.rename_core.proofs.rounds.Tied.{IsAtStage, IsTied}
-
--- no two have one name
-pub distinct_names : (o : RenameObject) → IsStanding o → (p q n : ℕ) → o.name p ≡ Some n → o.name q ≡ Some n → p ≡ q
-distinct_names o h p q n mine theirs = elim (eqb_tells p q) [
-  | inl e ↦ e.1
-  | inr e ↦
-      let a = h.held p n mine in
-      let b = h.held q n theirs in
-      absurd (elim (leb_tells (o.since q) a.index) [
-        | inl l ↦
-            let here : IsRecent o q a.index = record { no_earlier = l.1; no_later = a.recent.no_later } in
-            a.sole.alone q (λ k. e.1 (sym k)) (same_in o h q a.index b.index b.some here b.recent ∙ b.sole.own)
-        | inr l ↦
-            let c = a.recent.no_earlier in
-            let d = b.recent.no_earlier in
-            let f = l.1 in
-            let there : IsRecent o p b.index = record { no_earlier = omega arith; no_later = b.recent.no_later } in
-            b.sole.alone p e.1 (same_in o h p b.index a.index a.some there a.recent ∙ a.sole.own)
-      ])
-]
 
 -- what is assumed of places that names are given over, whose scans take no more steps than this
 pub record MayBeNamed {S R V U K : Type 0} (W : KnownPlaces S R V U K) (grows : Bool) (most : ℕ) (scanning : ℕ → ℕ) : Type 0 where
@@ -72,30 +51,29 @@ pub record MayBeNamed {S R V U K : Type 0} (W : KnownPlaces S R V U K) (grows : 
   pub may_grow : (s : RenameState S U K) (p : ℕ) → may_lack W s p ≡ true → grows ≡ true
   pub at_once : (b q : ℕ) → is_some (W.place_of (W.walker_from b q)) ≡ (W.ties.placing 1 == 0)
 
-module _ {S R V U K : Type 0} (W : KnownPlaces S R V U K) (terms : RenameTerms) (scanning : ℕ → ℕ) (named : MayBeNamed W terms.grows terms.most scanning)
-    (first : S) (new : W.ties.IsNew first) (most : W.most_of first ≡ terms.most) (low : 1 ≤ terms.limit) (high : terms.limit ≤ 1000000) where
+module _ {S R V U K : Type 0} (W : KnownPlaces S R V U K) (kind : WorldKind) (scanning : ℕ → ℕ) (first : S × ℕ) (named : MayBeNamed W (is_tree kind) (W.most_of first.0) scanning) (start : IsRenameStart W first) where
+  abbrev terms : RenameTerms
+  terms = terms_of W kind first
+
   abbrev bounds : SnapBounds
-  bounds = bounds_over W first scanning
+  bounds = bounds_over W first.0 scanning
 
   abbrev Tie : SnapState S U K → SnapObject → Type 0
-  Tie w o = AreAfter W named.laws bounds first w o
+  Tie w o = AreAfter W named.laws bounds first.0 w o
 
   pub tie_goes : (w : SnapState S U K) (o : SnapObject) (h : SnapCall) → Tie w o → IsSnapReply W w h → Tie (snap_next W w h) (observed o h) × SnapAllows bounds o h
-  tie_goes w o h k is = after_more W named.laws first scanning new (rw most named.fits) w o h k is
+  tie_goes = after_more W named.laws first.0 scanning start.new named.fits
 
   pub grounds : Grounds W terms bounds Tie
   grounds = record {
-    soon = λ w o p k. ends_soon_alone W named.laws w p first k.calls k.world new bounds (o, k.object);
-    collects = rw most refl;
-    full = most;
+    soon = λ w o p k. ends_soon_alone W named.laws w p first.0 k.calls k.world start.new bounds (o, k.object);
+    collects = refl;
+    full = refl;
     farther = named.laws.farther;
   }
 
   abbrev Tied : RenameState S U K → RenameObject → Pace → Type 0
   Tied = IsTied terms Tie
-
-  abbrev fresh : RenameState S U K
-  fresh = fresh_world first (W.most_of first) terms.limit
 
   -- the object and the pace of the law are tied to the world
   pub record Holds (w : RenameState S U K) (r : List (Call StepReply)) : Type 0 where
@@ -105,16 +83,16 @@ module _ {S R V U K : Type 0} (W : KnownPlaces S R V U K) (terms : RenameTerms) 
     pub tied : Tied w object paces.0
     pub alone : KeepsAlone W terms bounds Tie tie_goes grounds w r object paces.0
 
-  fresh_tied : Tied fresh new_object new_pace
+  fresh_tied : Tied (fresh_over W first) new_object new_pace
   fresh_tied = record {
     object = new_snap;
-    tie = after_none W named.laws bounds first;
+    tie = after_none W named.laws bounds first.0;
     same_many = refl;
     as_many = refl;
     limit = refl;
-    low = low;
-    high = high;
-    most = sym most;
+    low = start.low;
+    high = start.high;
+    most = refl;
     many = refl;
     roomy = omega arith;
     counted = refl;
@@ -145,97 +123,8 @@ module _ {S R V U K : Type 0} (W : KnownPlaces S R V U K) (terms : RenameTerms) 
         alone = alone_more W terms bounds Tie tie_goes grounds w r k.object k.paces.0 k.tied k.run k.alone h is g;
       }
 
-  pub holds : (w : RenameState S U K) (r : List (Call StepReply)) → Run (next W) (IsReply W) fresh r w → Holds w r
-  holds w r a = run_keeps (next W) (IsReply W) Holds keeps fresh [] r w (record { object = new_object; run = refl; paces = (new_pace, refl); tied = fresh_tied; alone = alone_fresh W terms bounds Tie tie_goes grounds fresh new_pace }) a
-
-  pub law_held : (w : RenameState S U K) (r : List (Call StepReply)) → Run (next W) (IsReply W) fresh r w → KeepsRenameLaw terms bounds r
-  law_held w r a =
-      let k = holds w r a in
-      record {
-        object = k.object;
-        run = k.run;
-        one_to_one = distinct_names k.object k.tied.standing;
-        in_range = λ p n e. let h = k.tied.standing.held p n e in name_small k.object k.tied.standing p n h.index h.recent.no_later h.sole;
-        paced = k.paces;
-        alone = alone_named W terms bounds Tie tie_goes grounds w r k.object k.paces.0 k.tied k.run k.alone;
-      }
-
-  name_at_stage : (w : RenameState S U K) (o : RenameObject) (t : Pace) (i : Tied w o t) (p : ℕ) (r : Round) (stage : Stage) → IsAtStage terms o t i.object w.snap p r stage → name_at stage r.proposal ≡ o.name p
-  name_at_stage w o t i p r Placing h = sym h.going.unnamed
-  name_at_stage w o t i p r (Proposing number) h = sym h.going.unnamed
-  name_at_stage w o t i p r Looking h = sym h.going.unnamed
-  name_at_stage w o t i p r Settled h = sym h.1
-  name_at_stage w o t i p r Over h = sym h.0
-
-  -- the name of an identity is its name in the object
-  pub name_held : (w : RenameState S U K) (r : List (Call StepReply)) → Run (next W) (IsReply W) fresh r w → (o : RenameObject) → IsRun terms r o → (p : ℕ) → name_in w p ≡ o.name p
-  name_held w r a o run p =
-      let k = holds w r a in
-      let same : k.object ≡ o = run_one after (Allows terms) new_object r k.object o k.run run in
-      let now : name_in w p ≡ k.object.name p = (elim (participant_of p w.rounds) as (λ z. participant_of p w.rounds ≡ z → name_by (option_map (λ u. u.program) z) ≡ k.object.name p) [
-        | None ↦ λ h. sym (k.tied.absent p h).1
-        | Some v ↦ λ h. name_at_stage w k.object k.paces.0 k.tied p v.program v.program.stage (k.tied.stages p v h)
-      ]) refl in
-      now ∙ ap (λ (x : RenameObject). x.name p) same
-
-  -- the identity that is found as the owner of a name has it in the object
-  pub owner_held : (w : RenameState S U K) (r : List (Call StepReply)) → Run (next W) (IsReply W) fresh r w → (o : RenameObject) → IsRun terms r o → (n : ℕ) → IsOwner o n (owner_by n w.rounds)
-  owner_held w r a o run n =
-      let k = holds w r a in
-      owned (owner_by n w.rounds) (owner_is n w.rounds k.tied.distinct) where
-        owned : (p : Option ℕ) → Owns (λ q. name_in w q) n p → IsOwner o n p
-        owned None h = λ q e. h q (name_held w r a o run q ∙ e)
-        owned (Some p) h = sym (name_held w r a o run p) ∙ h
-
-  shown_at : (w : RenameState S U K) (o : RenameObject) (t : Pace) (i : Tied w o t) (q : ℕ) → standing_of q w.rounds ≡ o.moment o.last q
-  shown_at w o t i q = (elim (participant_of q w.rounds) as (λ z. participant_of q w.rounds ≡ z → option_and_then standing_by (option_map (λ u. u.program) z) ≡ o.moment o.last q) [
-    | None ↦ λ h. sym (i.standing.absent q o.last (i.absent q h).0 (omega arith))
-    | Some v ↦ λ h. sym (i.counts q v h).now
-  ]) refl
-
-  -- the proposals that the rounds say are the last moment
-  pub shown_held : (w : RenameState S U K) (r : List (Call StepReply)) → Run (next W) (IsReply W) fresh r w → (o : RenameObject) → IsRun terms r o → IsMoment (shown_by [] w.rounds) (o.moment o.last)
-  shown_held w r a o run =
-      let k = holds w r a in
-      let same : k.object ≡ o = run_one after (Allows terms) new_object r k.object o k.run run in
-      record {
-        rising = shown_rising [] w.rounds tt;
-        values = λ q. shown_is q w.rounds k.tied.distinct ∙ shown_at w k.object k.paces.0 k.tied q ∙ ap (λ (x : RenameObject). x.moment x.last q) same;
-      }
-
-  -- who takes part in the snapshot object has a round, and who has one takes part
-  pub joined_held : (w : RenameState S U K) (r : List (Call StepReply)) → Run (next W) (IsReply W) fresh r w → (p : ℕ) → is_some (participant_of p w.snap.participants) ≡ is_some (participant_of p w.rounds)
-  joined_held w r a p = let k = holds w r a in k.tied.joined p
-
-  -- the calls of the snapshot object that have led to this
-  pub snap_calls : (w : RenameState S U K) (r : List (Call StepReply)) → Run (next W) (IsReply W) fresh r w → (calls : List SnapCall) × After (snapshot W) first w.snap calls
-  snap_calls w r a = let k = holds w r a in (k.tied.tie.calls, k.tied.tie.world)
-
-  -- a step of one who has something to do is answered
-  busy_answered : (w : RenameState S U K) (p : ℕ) (v : Participant Round) → participant_of p w.rounds ≡ Some v → stage_refusal v.program.stage ≡ None → (n : ℕ) → StandsAt w.snap p false n → IsOk (rename_answer W w p)
-  busy_answered w p v here unclosed n stands =
-      let k : GoesBusy W w.snap p n = goes_busy W w.snap p n stands in
-      rw (here, unclosed, k.answer) refl
-
-  open_answered : (w : RenameState S U K) (o : RenameObject) (t : Pace) (i : Tied w o t) (p : ℕ) (v : Participant Round) → participant_of p w.rounds ≡ Some v → (stage : Stage) → v.program.stage ≡ stage →
-      IsAtStage terms o t i.object w.snap p v.program stage → stage_refusal stage ≡ None → IsOk (rename_answer W w p)
-  open_answered w o t i p v here Placing e h unclosed = busy_answered w p v here (ap stage_refusal e ∙ unclosed) 0 h.stands
-  open_answered w o t i p v here (Proposing number) e h unclosed = busy_answered w p v here (ap stage_refusal e ∙ unclosed) (v.program.count + 1) h.stands
-  open_answered w o t i p v here Looking e h unclosed = busy_answered w p v here (ap stage_refusal e ∙ unclosed) v.program.count h.stands
-  open_answered w o t i p v here Settled e h unclosed = absurd (cc)
-  open_answered w o t i p v here Over e h unclosed = absurd (cc)
-
-  pub answered_held : (w : RenameState S U K) (r : List (Call StepReply)) → Run (next W) (IsReply W) fresh r w → (p : ℕ) → step_refusal w p ≡ None → IsOk (rename_answer W w p)
-  answered_held w r a p unrefused =
-      let k = holds w r a in
-      elim (participant_of p w.rounds) as (λ z. participant_of p w.rounds ≡ z → IsOk (rename_answer W w p)) [
-        | None ↦ λ h. absurd (let no : Some NotBegun ≡ None = rw h at unrefused in cc)
-        | Some v ↦ λ h. open_answered w k.object k.paces.0 k.tied p v h v.program.stage refl (k.tied.stages p v h) (rw h at unrefused)
-      ] refl
-
-  -- its accesses are those of the snapshot object
-  pub own_held : (w : RenameState S U K) (r : List (Call StepReply)) → Run (next W) (IsReply W) fresh r w → (p : ℕ) (c : Client U K) → client_of p w ≡ Some c → IsAccessFor W w.snap.memory c c.pending (access_of W c)
-  own_held w r a p c h = let k = holds w r a in own_access_holds W named.laws w.snap p first k.tied.tie.calls k.tied.tie.world new c h
+  pub holds : (w : RenameState S U K) (r : List (Call StepReply)) → Run (next W) (IsReply W) (fresh_over W first) r w → Holds w r
+  holds w r a = run_keeps (next W) (IsReply W) Holds keeps (fresh_over W first) [] r w (record { object = new_object; run = refl; paces = (new_pace, refl); tied = fresh_tied; alone = alone_fresh W terms bounds Tie tie_goes grounds (fresh_over W first) new_pace }) a
 
 -- every world after some calls keeps the law
 module _ {S R V U K : Type 0} (W : KnownPlaces S R V U K) (kind : WorldKind) (scanning : ℕ → ℕ) (first : S × ℕ) (named : MayBeNamed W (is_tree kind) (W.most_of first.0) scanning)
@@ -244,26 +133,87 @@ module _ {S R V U K : Type 0} (W : KnownPlaces S R V U K) (kind : WorldKind) (sc
   pub most_is : W.most_of first.0 ≡ w.snap.most
   most_is = sym (most_after W (fresh_over W first) r w a.run)
 
+  k : Holds W kind scanning first named a.started w r
+  k = holds W kind scanning first named a.started w r a.run
+
   pub rename_law : KeepsRenameLaw (terms_of W kind first) (bounds_over W first.0 scanning) r
-  rename_law = law_held W (terms_of W kind first) scanning named first.0 a.started.new refl a.started.low a.started.high w r a.run
+  rename_law = record {
+    object = k.object;
+    run = k.run;
+    one_to_one = distinct_names k.object k.tied.standing;
+    in_range = λ p n e. let h = k.tied.standing.held p n e in name_small k.object k.tied.standing p n h.index h.recent.no_later h.sole;
+    paced = k.paces;
+    alone = alone_named W (terms_of W kind first) (bounds_over W first.0 scanning) (Tie W kind scanning first named a.started) (tie_goes W kind scanning first named a.started) (grounds W kind scanning first named a.started) w r k.object k.paces.0 k.tied k.run k.alone;
+  }
 
+  -- the object is the one that may answer so
+  same : (o : RenameObject) → IsRun (terms_of W kind first) r o → k.object ≡ o
+  same o run = run_one after (Allows (terms_of W kind first)) new_object r k.object o k.run run
+
+  abbrev AtStage : ℕ → Round → Stage → Type 0
+  AtStage p round stage = IsAtStage (terms_of W kind first) k.object k.paces.0 k.tied.object w.snap p round stage
+
+  name_at_stage : (p : ℕ) (round : Round) (stage : Stage) → AtStage p round stage → name_at stage round.proposal ≡ k.object.name p
+  name_at_stage p round Placing h = sym h.going.unnamed
+  name_at_stage p round (Proposing number) h = sym h.going.unnamed
+  name_at_stage p round Looking h = sym h.going.unnamed
+  name_at_stage p round Settled h = sym h.1
+  name_at_stage p round Over h = sym h.0
+
+  -- the name of an identity is its name in the object
   pub name_law : (o : RenameObject) → IsRun (terms_of W kind first) r o → (p : ℕ) → name_in w p ≡ o.name p
-  name_law = name_held W (terms_of W kind first) scanning named first.0 a.started.new refl a.started.low a.started.high w r a.run
+  name_law o run p = (elim (participant_of p w.rounds) as (λ z. participant_of p w.rounds ≡ z → name_by (option_map (λ u. u.program) z) ≡ k.object.name p) [
+    | None ↦ λ h. sym (k.tied.absent p h).1
+    | Some v ↦ λ h. name_at_stage p v.program v.program.stage (k.tied.stages p v h)
+  ]) refl ∙ ap (λ (x : RenameObject). x.name p) (same o run)
 
+  -- the identity that is found as the owner of a name has it in the object
   pub owner_law : (o : RenameObject) → IsRun (terms_of W kind first) r o → (n : ℕ) → IsOwner o n (owner_by n w.rounds)
-  owner_law = owner_held W (terms_of W kind first) scanning named first.0 a.started.new refl a.started.low a.started.high w r a.run
+  owner_law o run n = owned (owner_by n w.rounds) (owner_is n w.rounds k.tied.distinct) where
+    owned : (p : Option ℕ) → Owns (λ q. name_in w q) n p → IsOwner o n p
+    owned None h = λ q e. h q (name_law o run q ∙ e)
+    owned (Some p) h = sym (name_law o run p) ∙ h
 
+  shown_at : (q : ℕ) → standing_of q w.rounds ≡ k.object.moment k.object.last q
+  shown_at q = (elim (participant_of q w.rounds) as (λ z. participant_of q w.rounds ≡ z → option_and_then standing_by (option_map (λ u. u.program) z) ≡ k.object.moment k.object.last q) [
+    | None ↦ λ h. sym (k.tied.standing.absent q k.object.last (k.tied.absent q h).0 (omega arith))
+    | Some v ↦ λ h. sym (k.tied.counts q v h).now
+  ]) refl
+
+  -- the proposals that the rounds say are the last moment
   pub shown_law : (o : RenameObject) → IsRun (terms_of W kind first) r o → IsMoment (shown_by [] w.rounds) (o.moment o.last)
-  shown_law = shown_held W (terms_of W kind first) scanning named first.0 a.started.new refl a.started.low a.started.high w r a.run
+  shown_law o run = record {
+    rising = shown_rising [] w.rounds tt;
+    values = λ q. shown_is q w.rounds k.tied.distinct ∙ shown_at q ∙ ap (λ (x : RenameObject). x.moment x.last q) (same o run);
+  }
+
+  -- who takes part in the snapshot object has a round, and who has one takes part
+  pub joined_law : (p : ℕ) → is_some (participant_of p w.snap.participants) ≡ is_some (participant_of p w.rounds)
+  joined_law = k.tied.joined
+
+  -- the calls of the snapshot object that have led to this
+  pub snap_after : (calls : List SnapCall) × After (snapshot W) first.0 w.snap calls
+  snap_after = (k.tied.tie.calls, k.tied.tie.world)
+
+  -- a step of one who has something to do is answered
+  busy_answered : (p : ℕ) (v : Participant Round) → participant_of p w.rounds ≡ Some v → stage_refusal v.program.stage ≡ None → (n : ℕ) → StandsAt w.snap p false n → IsOk (rename_answer W w p)
+  busy_answered p v here unclosed n stands =
+      let goes : GoesBusy W w.snap p n = goes_busy W w.snap p n stands in
+      rw (here, unclosed, goes.answer) refl
+
+  open_answered : (p : ℕ) (v : Participant Round) → participant_of p w.rounds ≡ Some v → (stage : Stage) → v.program.stage ≡ stage → AtStage p v.program stage → stage_refusal stage ≡ None → IsOk (rename_answer W w p)
+  open_answered p v here Placing e h unclosed = busy_answered p v here (ap stage_refusal e ∙ unclosed) 0 h.stands
+  open_answered p v here (Proposing number) e h unclosed = busy_answered p v here (ap stage_refusal e ∙ unclosed) (v.program.count + 1) h.stands
+  open_answered p v here Looking e h unclosed = busy_answered p v here (ap stage_refusal e ∙ unclosed) v.program.count h.stands
+  open_answered p v here Settled e h unclosed = absurd (cc)
+  open_answered p v here Over e h unclosed = absurd (cc)
 
   pub answered_law : (p : ℕ) → step_refusal w p ≡ None → IsOk (rename_answer W w p)
-  answered_law = answered_held W (terms_of W kind first) scanning named first.0 a.started.new refl a.started.low a.started.high w r a.run
+  answered_law p unrefused = elim (participant_of p w.rounds) as (λ z. participant_of p w.rounds ≡ z → IsOk (rename_answer W w p)) [
+    | None ↦ λ h. absurd (let no : Some NotBegun ≡ None = rw h at unrefused in cc)
+    | Some v ↦ λ h. open_answered p v h v.program.stage refl (k.tied.stages p v h) (rw h at unrefused)
+  ] refl
 
+  -- its accesses are those of the snapshot object
   pub own_law : (p : ℕ) (c : Client U K) → client_of p w ≡ Some c → IsAccessFor W w.snap.memory c c.pending (access_of W c)
-  own_law = own_held W (terms_of W kind first) scanning named first.0 a.started.new refl a.started.low a.started.high w r a.run
-
-  pub snap_after : (calls : List SnapCall) × After (snapshot W) first.0 w.snap calls
-  snap_after = snap_calls W (terms_of W kind first) scanning named first.0 a.started.new refl a.started.low a.started.high w r a.run
-
-  pub joined_law : (p : ℕ) → is_some (participant_of p w.snap.participants) ≡ is_some (participant_of p w.rounds)
-  joined_law = joined_held W (terms_of W kind first) scanning named first.0 a.started.new refl a.started.low a.started.high w r a.run
+  own_law p c h = own_access_holds W named.laws w.snap p first.0 k.tied.tie.calls k.tied.tie.world a.started.new c h

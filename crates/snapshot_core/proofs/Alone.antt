@@ -1,5 +1,5 @@
 -- one who steps alone ends what it does soon
-use Rattle.std.proofs.Common.{◌≡◌, ◌≢◌, ℕ, zero, suc, ◌+◌, ◌-◌, ◌*◌, ◌≤◌, Bool, false, cond, ◌⊎◌, List, [], ◌∷◌, ◌++◌, length, Option, Some, None, Ok, inl, inr, refl, sym, ap, subst, ◌∙◌, arith, add-one}
+use Rattle.std.proofs.Common.{◌≡◌, ◌≢◌, ℕ, zero, suc, ◌+◌, ◌-◌, ◌*◌, ◌≤◌, Bool, false, cond, ◌⊎◌, List, [], ◌∷◌, ◌++◌, length, Some, None, Ok, inl, inr, refl, sym, ap, subst, ◌∙◌, arith, add-one}
 use Rattle.std.specs.Prelude.{option_map}
 use Rattle.std.proofs.lemmas.Bool.{cases_Bool}
 use Rattle.std.proofs.lemmas.Bool.Decides.{eqb_tells}
@@ -38,7 +38,7 @@ use Rattle.snapshot_core.proofs.Dues.{bounds_with}
 use Rattle.snapshot_core.proofs.Following.{Holds, after_all, all_reads}
 use Rattle.snapshot_core.proofs.LawfulPlaces.{LawfulPlaces}
 use Rattle.snapshot_core.proofs.ScanAlone.{HasRoom, HasLeft, walk_after, left_more, some_left, reads_on}
-use Rattle.snapshot_core.proofs.SnapWorldLemmas.{absent_state, after_stepped, busy_state, busy_answer, idle_state, snap_alike, stays_alike}
+use Rattle.snapshot_core.proofs.SnapWorldLemmas.{after_stepped, busy_state, busy_answer, snap_alike, stays_alike}
 use Rattle.snapshot_core.proofs.Tied.{IsScanning, IsAtTask, IsTied, era_now, roll_now}
 
 -- a later end is an end
@@ -137,14 +137,6 @@ module _ {S R V U K : Type 0} (t : LawfulPlaces S R V U K) where
         let small : b ≤ 64 = (let l = few.0 in let m = few.1 in omega arith) in
         has_room b o.last i.past o.moment i.place i.who i.history (roll_now t w o i) own (o.since p) k.1.collects _ _ v.program.scan.is_first v.program.scan.differs v.program.scan.sightings k.1.collecting small x r (i.present x ∙ here)
 
-    scanning_at : (at : Option ℕ) → IsAtTask t (era_now t w o i) (o.task p) (o.steps p) (o.since p) v.program at Scans → HasRoom t.known w.memory v.program.scan.sightings
-    scanning_at None h = absurd h
-    scanning_at (Some own) h = room_at own h.2
-
-    updating_at : (at : Option ℕ) (value : ℕ) → IsAtTask t (era_now t w o i) (o.task p) (o.steps p) (o.since p) v.program at (Update value) → HasRoom t.known w.memory v.program.scan.sightings
-    updating_at None value h = absurd h
-    updating_at (Some own) value h = room_at own h.2
-
     same_walk : v.program.walk ≡ t.known.walk_from w.memory
     same_walk = (i.clients p v there).walk
 
@@ -170,14 +162,16 @@ module _ {S R V U K : Type 0} (t : LawfulPlaces S R V U K) where
     left_after n Nothing pending h = absurd h
     left_after n Places pending h = absurd h
     left_after n Scans pending h =
-        let room = scanning_at (t.known.place_of v.program.walker) (rw pending at (i.clients p v there).at) in
+        let k : IsAtTask t (era_now t w o i) (o.task p) (o.steps p) (o.since p) v.program Scans = rw pending at (i.clients p v there).at in
+        let room = room_at k.0 k.4 in
         elim (scan_view t.known.walks v.program.scan value_read) as (λ s. scan_view t.known.walks v.program.scan value_read ≡ s →
         (is_quiet (told (note_after s None)) ≡ false) ⊎ LeftFor c (memory_after Scans) (record v.program { scan = scan_after t.known.walks v.program.scan value_read v.program.walk; pending = pending_after s None v.program.pending }) (pending_after s None v.program.pending) n) [
           | Some view ↦ λ e. inl refl
           | None ↦ λ e. inr (rw pending (scan_on n room h e))
         ] refl
     left_after n (Update value) pending h =
-        let room = updating_at (t.known.place_of v.program.walker) value (rw pending at (i.clients p v there).at) in
+        let k : IsAtTask t (era_now t w o i) (o.task p) (o.steps p) (o.since p) v.program (Update value) = rw pending at (i.clients p v there).at in
+        let room = room_at k.0 k.4 in
         let some = some_left t.known w.memory t.laws b (ways_of w.participants) i.consistent c enough v.program.scan h.0 h.1 in
         let short = h.2 in
         elim (scan_view t.known.walks v.program.scan value_read) as (λ s. scan_view t.known.walks v.program.scan value_read ≡ s →
@@ -213,31 +207,21 @@ module _ {S R V U K : Type 0} (t : LawfulPlaces S R V U K) where
 
     -- who was asked for a scan has one under way
     scan_left : (n : ℕ) → ((own : ℕ) → IsScanning t (era_now t w o i) own (o.since p) (o.steps p) v.program.scan → HasLeft t.known w.memory c v.program.scan n) → o.task p ≡ Scanning →
-        (at : Option ℕ) (z : Pending) → IsAtTask t (era_now t w o i) (o.task p) (o.steps p) (o.since p) v.program at z → LeftFor c w.memory v.program z n
-    scan_left n left task None Nothing k = absurd k
-    scan_left n left task None Places k = absurd (let two : Placing ≡ Scanning = sym k.0 ∙ task in cc)
-    scan_left n left task None Scans k = absurd k
-    scan_left n left task None (Update value) k = absurd k
-    scan_left n left task None (Writing value view) k = absurd k
-    scan_left n left task (Some own) Nothing k = absurd (elim k.1 [ inl e ↦ (let two : Idle ≡ Scanning = sym e ∙ task in cc) | inr e ↦ (let two : Placing ≡ Scanning = sym e.0 ∙ task in cc) ])
-    scan_left n left task (Some own) Places k = absurd k
-    scan_left n left task (Some own) Scans k = left own k.2
-    scan_left n left task (Some own) (Update value) k = absurd (let two : Updating value ≡ Scanning = sym k.0 ∙ task in cc)
-    scan_left n left task (Some own) (Writing value view) k = absurd (let two : Updating value ≡ Scanning = sym k.0 ∙ task in cc)
+        (z : Pending) → IsAtTask t (era_now t w o i) (o.task p) (o.steps p) (o.since p) v.program z → LeftFor c w.memory v.program z n
+    scan_left n left task Nothing k = absurd (elim k.3 [ inl e ↦ (let two : Idle ≡ Scanning = sym e ∙ task in cc) | inr e ↦ (let two : Placing ≡ Scanning = sym e.0 ∙ task in cc) ])
+    scan_left n left task Places k = absurd (let two : Placing ≡ Scanning = sym k.1 ∙ task in cc)
+    scan_left n left task Scans k = left k.0 k.4
+    scan_left n left task (Update value) k = absurd (let two : Updating value ≡ Scanning = sym k.2 ∙ task in cc)
+    scan_left n left task (Writing value view) k = absurd (let two : Updating value ≡ Scanning = sym k.2 ∙ task in cc)
 
     -- and who was asked for an update, one or its write
     update_left : (n value : ℕ) → ((own : ℕ) → IsScanning t (era_now t w o i) own (o.since p) (o.steps p) v.program.scan → HasLeft t.known w.memory c v.program.scan n) → o.task p ≡ Updating value →
-        (at : Option ℕ) (z : Pending) → IsAtTask t (era_now t w o i) (o.task p) (o.steps p) (o.since p) v.program at z → LeftFor c w.memory v.program z (n + 1)
-    update_left n value left task None Nothing k = absurd k
-    update_left n value left task None Places k = absurd (let two : Placing ≡ Updating value = sym k.0 ∙ task in cc)
-    update_left n value left task None Scans k = absurd k
-    update_left n value left task None (Update next) k = absurd k
-    update_left n value left task None (Writing next view) k = absurd k
-    update_left n value left task (Some own) Nothing k = absurd (elim k.1 [ inl e ↦ (let two : Idle ≡ Updating value = sym e ∙ task in cc) | inr e ↦ (let two : Placing ≡ Updating value = sym e.0 ∙ task in cc) ])
-    update_left n value left task (Some own) Places k = absurd k
-    update_left n value left task (Some own) Scans k = absurd (let two : Scanning ≡ Updating value = sym k.0 ∙ task in cc)
-    update_left n value left task (Some own) (Update next) k = (n, left own k.2, omega arith)
-    update_left n value left task (Some own) (Writing next view) k = omega arith
+        (z : Pending) → IsAtTask t (era_now t w o i) (o.task p) (o.steps p) (o.since p) v.program z → LeftFor c w.memory v.program z (n + 1)
+    update_left n value left task Nothing k = absurd (elim k.3 [ inl e ↦ (let two : Idle ≡ Updating value = sym e ∙ task in cc) | inr e ↦ (let two : Placing ≡ Updating value = sym e.0 ∙ task in cc) ])
+    update_left n value left task Places k = absurd (let two : Placing ≡ Updating value = sym k.1 ∙ task in cc)
+    update_left n value left task Scans k = absurd (let two : Scanning ≡ Updating value = sym k.2 ∙ task in cc)
+    update_left n value left task (Update next) k = (n, left k.0 k.4, omega arith)
+    update_left n value left task (Writing next view) k = omega arith
 
 module _ {S R V U K : Type 0} (known : KnownPlaces S R V U K) (laws : PlacesLaws known) where
   abbrev t : LawfulPlaces S R V U K
@@ -279,12 +263,12 @@ module _ {S R V U K : Type 0} (known : KnownPlaces S R V U K) (laws : PlacesLaws
         scan_ends : (n : ℕ) → o.task p ≡ Scanning →
             ((v : Participant (Client U K)) (there : participant_of p w.participants ≡ Some v) (own : ℕ) → IsScanning t (era_now t w o k.tied) own (o.since p) (o.steps p) v.program.scan → HasLeft known w.memory c v.program.scan n) → EndsAlone known w p n
         scan_ends n task left = begun_ends n (λ e. let two : Absent ≡ Scanning = sym e ∙ task in absurd (cc)) (λ v there.
-            scan_left t w o k.tied p v there c refl n (left v there) task (known.place_of v.program.walker) v.program.pending (k.tied.clients p v there).at)
+            scan_left t w o k.tied p v there c refl n (left v there) task v.program.pending (k.tied.clients p v there).at)
 
         update_ends : (n value : ℕ) → o.task p ≡ Updating value →
             ((v : Participant (Client U K)) (there : participant_of p w.participants ≡ Some v) (own : ℕ) → IsScanning t (era_now t w o k.tied) own (o.since p) (o.steps p) v.program.scan → HasLeft known w.memory c v.program.scan n) → EndsAlone known w p (n + 1)
         update_ends n value task left = begun_ends (n + 1) (λ e. let two : Absent ≡ Updating value = sym e ∙ task in absurd (cc)) (λ v there.
-            update_left t w o k.tied p v there c refl n value (left v there) task (known.place_of v.program.walker) v.program.pending (k.tied.clients p v there).at)
+            update_left t w o k.tied p v there c refl n value (left v there) task v.program.pending (k.tied.clients p v there).at)
 
         reads_some : o.task p ≢ Absent → 1 ≤ most_reads known w
         reads_some begun = elim (participant_of p w.participants) as (λ z. participant_of p w.participants ≡ z → 1 ≤ most_reads known w) [
@@ -324,10 +308,10 @@ module _ {S R V U K : Type 0} (t : KnownPlaces S R V U K) (p : ℕ) where
   memory_is : (w : SnapState S U K) (v : Participant (Client U K)) → participant_of p w.participants ≡ Some v →
       (after_snap_step t w p).memory ≡ cond (is_idle v.program.pending) w.memory (cond v.ended w.memory (t.memory.after w.memory ((clients_over t).next v.program)))
   memory_is w v there =
-      let some : Some v.program ≡ program_of p w.participants = sym (ap (option_map (λ u. u.program)) there) in
+      let is : program_of p w.participants ≡ Some v.program = ap (option_map (λ u. u.program)) there in
       elim (cases_Bool (is_idle v.program.pending)) [
-        | inl idle ↦ ap (λ (x : SnapState S U K). x.memory) (sym (idle_state t w p v.program some idle)) ∙ rw idle refl
-        | inr busy ↦ ap (λ (x : SnapState S U K). x.memory) (busy_state t w p v.program some busy) ∙ (elim (cases_Bool v.ended) [
+        | inl idle ↦ rw (is, idle) refl
+        | inr busy ↦ ap (λ (x : SnapState S U K). x.memory) (busy_state t w p v.program (sym is) busy) ∙ (elim (cases_Bool v.ended) [
           | inl e ↦ ap (λ (x : SnapState S U K). x.memory) (ended_after (clients_over t) t.memory w p v there e) ∙ rw (busy, e) refl
           | inr e ↦ ap (λ (x : SnapState S U K). x.memory) (going_after (clients_over t) t.memory w p v there e) ∙ rw (busy, e) refl
         ])
@@ -336,9 +320,9 @@ module _ {S R V U K : Type 0} (t : KnownPlaces S R V U K) (p : ℕ) where
   memory_alike : (w other : SnapState S U K) → other.memory ≡ w.memory → participant_of p other.participants ≡ participant_of p w.participants → (after_snap_step t other p).memory ≡ (after_snap_step t w p).memory
   memory_alike w other e k = elim (participant_of p w.participants) as (λ z. participant_of p w.participants ≡ z → (after_snap_step t other p).memory ≡ (after_snap_step t w p).memory) [
     | None ↦ λ h.
-        let here : None ≡ program_of p w.participants = sym (ap (option_map (λ u. u.program)) h) in
-        let there : None ≡ program_of p other.participants = sym (ap (option_map (λ u. u.program)) (k ∙ h)) in
-        ap (λ (x : SnapState S U K). x.memory) (sym (absent_state t other p there)) ∙ e ∙ ap (λ (x : SnapState S U K). x.memory) (absent_state t w p here)
+        let here : program_of p w.participants ≡ None = ap (option_map (λ u. u.program)) h in
+        let there : program_of p other.participants ≡ None = ap (option_map (λ u. u.program)) (k ∙ h) in
+        rw (there, here) e
     | Some v ↦ λ h. memory_is other v (k ∙ h) ∙ rw e refl ∙ sym (memory_is w v h)
   ] refl
 

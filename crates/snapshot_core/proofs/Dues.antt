@@ -1,5 +1,5 @@
 -- a call of a snapshot object over any places is refused where the object of the law has it due
-use Rattle.std.proofs.Common.{◌≡◌, ℕ, ◌+◌, ◌*◌, ◌≤◌, ◌==◌, true, false, length, Option, Some, None, inl, inr, refl, sym, ap, ◌∙◌, arith}
+use Rattle.std.proofs.Common.{◌≡◌, ℕ, ◌+◌, ◌*◌, ◌≤◌, ◌==◌, true, false, length, Some, None, inl, inr, refl, sym, ap, ◌∙◌, arith}
 use Rattle.std.specs.Prelude.{option_map, is_some}
 use Rattle.std.proofs.Math.Nat.{mul-le-mul_right}
 use Rattle.std.proofs.lemmas.Bool.Decides.{eqb_tells}
@@ -27,31 +27,23 @@ bounds_with t most scans = record { most = most; placing = t.known.ties.placing;
 some_is_not_none : (n : ℕ) → 1 ≤ n → (n == 0) ≡ false
 some_is_not_none n l = elim (eqb_tells n 0) [ inl e ↦ absurd (let z = e.1 in omega arith) | inr e ↦ e.0 ]
 
-none_is_none : (n : ℕ) → n ≡ 0 → (n == 0) ≡ true
-none_is_none n e = rw e refl
-
 module _ {S R V U K : Type 0} (t : LawfulPlaces S R V U K) (w : SnapState S U K) (o : SnapObject) (i : IsTied t w o) (id : ℕ) (scans : ℕ → ℕ) where
   abbrev bounds : SnapBounds
   bounds = bounds_with t w.most scans
 
-  abbrev AtTask : Client U K → Option ℕ → Pending → Type 0
-  AtTask c at z = IsAtTask t (era_now t w o i) (o.task id) (o.steps id) (o.since id) c at z
+  abbrev AtTask : Client U K → Pending → Type 0
+  AtTask c z = IsAtTask t (era_now t w o i) (o.task id) (o.steps id) (o.since id) c z
 
   -- who is at a task has begun
-  begun_at : (c : Client U K) (at : Option ℕ) (z : Pending) → AtTask c at z → has_begun (o.task id) ≡ true
-  begun_at c None Nothing k = absurd k
-  begun_at c None Places k = ap has_begun k.0
-  begun_at c None Scans k = absurd k
-  begun_at c None (Update value) k = absurd k
-  begun_at c None (Writing value view) k = absurd k
-  begun_at c (Some own) Nothing k = elim k.1 [ inl e ↦ ap has_begun e | inr e ↦ ap has_begun e.0 ]
-  begun_at c (Some own) Places k = absurd k
-  begun_at c (Some own) Scans k = ap has_begun k.0
-  begun_at c (Some own) (Update value) k = ap has_begun k.0
-  begun_at c (Some own) (Writing value view) k = ap has_begun k.0
+  begun_at : (c : Client U K) (z : Pending) → AtTask c z → has_begun (o.task id) ≡ true
+  begun_at c Nothing k = elim k.3 [ inl e ↦ ap has_begun e | inr e ↦ ap has_begun e.0 ]
+  begun_at c Places k = ap has_begun k.1
+  begun_at c Scans k = ap has_begun k.2
+  begun_at c (Update value) k = ap has_begun k.2
+  begun_at c (Writing value view) k = ap has_begun k.2
 
   has_begun_there : (v : Participant (Client U K)) → participant_of id w.participants ≡ Some v → has_begun (o.task id) ≡ true
-  has_begun_there v there = begun_at v.program (t.known.place_of v.program.walker) v.program.pending (i.clients id v there).at
+  has_begun_there v there = begun_at v.program v.program.pending (i.clients id v there).at
 
   not_begun : participant_of id w.participants ≡ None → has_begun (o.task id) ≡ false
   not_begun e = ap has_begun (i.absent id e).0
@@ -85,22 +77,17 @@ module _ {S R V U K : Type 0} (t : LawfulPlaces S R V U K) (w : SnapState S U K)
           let whole : (b + 1) * t.known.ties.reads (t.known.most_of w.memory) b ≤ scans o.begun = rw (i.counted, ← i.most) (fits b (let begun = some_begun id w.participants v there in omega arith) (let room = few.0 in omega arith)) in
           omega arith
 
-      pending_at : (at : Option ℕ) → t.known.place_of v.program.walker ≡ at → (z : Pending) → AtTask v.program at z → has_nothing_pending bounds o id ≡ is_idle z
-      pending_at None at Nothing k = absurd k
-      pending_at None at Places k =
-          let left = t.laws.unplaced w.memory (length w.participants) (ways_of w.participants) i.consistent id v.program.walker way at in
-          rw (k.0, i.counted) (some_is_not_none (t.known.ties.placing (length w.participants)) (omega arith))
-      pending_at None at Scans k = absurd k
-      pending_at None at (Update value) k = absurd k
-      pending_at None at (Writing value view) k = absurd k
-      pending_at (Some own) at Nothing k = elim k.1 [ inl e ↦ rw e refl | inr e ↦ rw e.0 (none_is_none (t.known.ties.placing o.begun) (e.1 o.begun)) ]
-      pending_at (Some own) at Places k = absurd k
-      pending_at (Some own) at Scans k = rw k.0 (some_is_not_none (scans o.begun) some_scan)
-      pending_at (Some own) at (Update value) k = rw k.0 (some_is_not_none (scans o.begun + 1) (omega arith))
-      pending_at (Some own) at (Writing value view) k = rw k.0 (some_is_not_none (scans o.begun + 1) (omega arith))
+      pending_at : (z : Pending) → AtTask v.program z → has_nothing_pending bounds o id ≡ is_idle z
+      pending_at Nothing k = elim k.3 [ inl e ↦ rw e refl | inr e ↦ rw (e.0, e.1 o.begun) refl ]
+      pending_at Places k =
+          let left = t.laws.unplaced w.memory (length w.participants) (ways_of w.participants) i.consistent id v.program.walker way k.0 in
+          rw (k.1, i.counted) (some_is_not_none (t.known.ties.placing (length w.participants)) (omega arith))
+      pending_at Scans k = rw k.2 (some_is_not_none (scans o.begun) some_scan)
+      pending_at (Update value) k = rw k.2 (some_is_not_none (scans o.begun + 1) (omega arith))
+      pending_at (Writing value view) k = rw k.2 (some_is_not_none (scans o.begun + 1) (omega arith))
 
       pub pending_is : has_nothing_pending bounds o id ≡ is_idle v.program.pending
-      pending_is = pending_at (t.known.place_of v.program.walker) refl v.program.pending (i.clients id v there).at
+      pending_is = pending_at v.program.pending (i.clients id v there).at
 
       pub step_idle : is_idle v.program.pending ≡ true → step_due bounds o id ≡ Some Finished
       step_idle idle = rw (has_begun_there v there, pending_is, idle) refl
@@ -108,12 +95,8 @@ module _ {S R V U K : Type 0} (t : LawfulPlaces S R V U K) (w : SnapState S U K)
       step_busy : is_idle v.program.pending ≡ false → step_due bounds o id ≡ None
       step_busy busy = rw (has_begun_there v there, pending_is, busy) refl
 
-      on_way_at : (at : Option ℕ) → AtTask v.program at Places → o.task id ≡ Placing
-      on_way_at None k = k.0
-      on_way_at (Some own) k = absurd k
-
       on_way : v.program.pending ≡ Places → o.task id ≡ Placing
-      on_way pending = on_way_at (t.known.place_of v.program.walker) (rw pending at (i.clients id v there).at)
+      on_way pending = (rw pending at (i.clients id v there).at).1
 
     pub scan_is_due : scan_due bounds o id ≡ scan_refusal w id
     scan_is_due = elim (participant_of id w.participants) as (λ z. participant_of id w.participants ≡ z → scan_due bounds o id ≡ scan_refusal_by (option_map (λ u. u.program) z)) [

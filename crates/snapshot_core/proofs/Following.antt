@@ -38,9 +38,9 @@ use Rattle.step_memory.specs.Machine.{After, IsLawful, RefusesWhereDue, IsProved
 use Rattle.step_memory.proofs.MachineLemmas.{machine_proved}
 use Rattle.snapshot_core.specs.SnapCalls.SnapCall.{Began, Updated, Scanned, Stepped}
 use Rattle.snapshot_core.specs.Places.{KnownPlaces, PlacesLaws, BeginsAlike, BoundsScans, KeepsWalks, HasGoneOn, value_for}
-use Rattle.snapshot_core.specs.Snapshot.{SnapObject, SnapBounds, IsMoment, new_object, since_of, with_task, with_update, observed, Allows, bounds_over}
+use Rattle.snapshot_core.specs.Snapshot.{Task, SnapObject, SnapBounds, IsMoment, new_object, since_of, with_task, with_update, observed, AllowsStep, Allows, bounds_over}
 use Rattle.snapshot_core.specs.Snapshot.Task.{Idle, Placing, Scanning, Updating}
-use Rattle.snapshot_core.proofs.SnapWorldLemmas.{absent_state, absent_answer, idle_state, idle_answer, busy_state, busy_answer, most_kept}
+use Rattle.snapshot_core.proofs.SnapWorldLemmas.{busy_state, busy_answer, most_kept}
 use Rattle.snapshot_core.proofs.LawfulPlaces.{LawfulPlaces}
 use Rattle.snapshot_core.proofs.Histories.{number, value_in, IsHelp}
 use Rattle.snapshot_core.proofs.FewValues.{few_values}
@@ -82,9 +82,11 @@ module _ {S R V U K : Type 0} (t : LawfulPlaces S R V U K) (w : SnapState S U K)
       (rw (set_at-same o.task id Placing, set_at-same o.steps id 0, set_at-same o.since id 0) (record {
         identity = refl;
         walk = refl;
-        at = elim (t.known.place_of c.walker) as (λ z. t.known.place_of c.walker ≡ z → IsAtTask t (era_joined t w o i id c w.memory (b + 1) (set_at i.who b id) absent up (t.laws.rising (t.known.most_of w.memory) b) same last_one consistent (λ x. refl) still) Placing 0 0 c z (first_pending z)) [
-          | None ↦ λ k. (refl, refl, omega arith)
+        at = elim (t.known.place_of c.walker) as (λ z. t.known.place_of c.walker ≡ z → IsAtTask t (era_joined t w o i id c w.memory (b + 1) (set_at i.who b id) absent up (t.laws.rising (t.known.most_of w.memory) b) same last_one consistent (λ x. refl) still) Placing 0 0 c (first_pending z)) [
+          | None ↦ λ k. (k, refl, refl, omega arith)
           | Some x ↦ λ k. (
+            x,
+            k,
             sym (ap number (nothing_yet t w o i id c w.memory (b + 1) (set_at i.who b id) absent up (t.laws.rising (t.known.most_of w.memory) b) same last_one consistent (λ x. refl) still x o.last k (omega arith))),
             elim (t.laws.waits b id) [ inl none ↦ absurd (let two : Some x ≡ None = sym k ∙ none in cc) | inr never ↦ inr (refl, never) ],
           )
@@ -99,8 +101,8 @@ module _ {S R V U K : Type 0} (t : LawfulPlaces S R V U K) (w : SnapState S U K)
 
   -- who has nothing to do is asked for something
   module _ (v : Participant (Client U K)) (there : participant_of id w.participants ≡ Some v) (idle : is_idle v.program.pending ≡ true) where
-    idle_now : IsAtTask t (era_now t w o i) (o.task id) (o.steps id) (o.since id) v.program (t.known.place_of v.program.walker) Nothing
-    idle_now = subst (λ (z : Pending). IsAtTask t (era_now t w o i) (o.task id) (o.steps id) (o.since id) v.program (t.known.place_of v.program.walker) z) (idle_is_nothing v.program.pending idle) (i.clients id v there).at
+    idle_now : IsAtTask t (era_now t w o i) (o.task id) (o.steps id) (o.since id) v.program Nothing
+    idle_now = subst (λ (z : Pending). IsAtTask t (era_now t w o i) (o.task id) (o.steps id) (o.since id) v.program z) (idle_is_nothing v.program.pending idle) (i.clients id v there).at
 
     asked_to_scan : IsTied t (world_with w w.memory id (scanning v.program)) (with_task o id Scanning 0 0)
     asked_to_scan =
@@ -108,10 +110,7 @@ module _ {S R V U K : Type 0} (t : LawfulPlaces S R V U K) (w : SnapState S U K)
         tied_with t w o i id v there (scanning v.program) refl o.updates (λ q n. refl) (i.asked id v there) Scanning 0 0 (record {
           identity = k.identity;
           walk = k.walk;
-          at = elim (t.known.place_of v.program.walker) as (λ z. IsAtTask t (era_now t w o i) (o.task id) (o.steps id) (o.since id) v.program z Nothing → IsAtTask t (era_now t w o i) Scanning 0 0 (scanning v.program) z Scans) [
-            | None ↦ λ h. absurd h
-            | Some own ↦ λ h. (refl, h.0, inl (refl, ap scan_from k.walk))
-          ] idle_now;
+          at = (idle_now.0, idle_now.1, refl, idle_now.2, inl (refl, ap scan_from k.walk));
         })
 
     asked_to_update : (new_value : ℕ) → IsTied t (world_with w w.memory id (updating v.program new_value)) (with_update (with_task o id (Updating new_value) 0 0) id)
@@ -120,10 +119,7 @@ module _ {S R V U K : Type 0} (t : LawfulPlaces S R V U K) (w : SnapState S U K)
         tied_with t w o i id v there (updating v.program new_value) refl (set_at o.updates id (o.updates id + 1)) (set_at-other o.updates id (o.updates id + 1)) (set_at-same o.updates id (o.updates id + 1) ∙ ap (λ (n : ℕ). n + 1) (i.asked id v there)) (Updating new_value) 0 0 (record {
           identity = k.identity;
           walk = k.walk;
-          at = elim (t.known.place_of v.program.walker) as (λ z. IsAtTask t (era_now t w o i) (o.task id) (o.steps id) (o.since id) v.program z Nothing → IsAtTask t (era_now t w o i) (Updating new_value) 0 0 (updating v.program new_value) z (Update new_value)) [
-            | None ↦ λ h. absurd h
-            | Some own ↦ λ h. (refl, ap (λ (n : ℕ). n + 1) h.0, inl (refl, ap scan_from k.walk))
-          ] idle_now;
+          at = (idle_now.0, idle_now.1, refl, ap (λ (n : ℕ). n + 1) idle_now.2, inl (refl, ap scan_from k.walk));
         })
 
   scan_follows : IsTied t (after_scan w id) (observed o (Scanned id (done_unless (scan_refusal w id))))
@@ -248,79 +244,60 @@ module _ {S R V U K : Type 0} (t : LawfulPlaces S R V U K) (w : SnapState S U K)
         looked : (ps : List (Participant (Client U K))) (o' : SnapObject) → IsTied t (record { memory = w.memory; most = w.most; participants = ps }) o' → IsTied t (record { memory = t.known.memory.after w.memory (Read (t.known.walks.next v.program.scan.walk)); most = w.most; participants = ps }) o'
         looked ps o' k = subst (λ (m : S). IsTied t (record { memory = m; most = w.most; participants = ps }) o') (sym (t.laws.looked w.memory (t.known.walks.next v.program.scan.walk))) k
 
-        scan_step : v.program.pending ≡ Scans → IsAtTask t (era_now t w o i) (o.task id) (o.steps id) (o.since id) v.program (Some own) Scans → Follows Scans
-        scan_step pending k =
-            let task = k.0 in
-            elim (scan_view t.known.walks v.program.scan value) as (λ s. Outcome t w.memory (length w.participants) o.last i.past o.moment i.place i.who own (since_of o id) (o.steps id + 1) (scan_after t.known.walks v.program.scan value v.program.walk) s →
-            Allows (bounds_with t w.most scans) o (Stepped id (Ok (told (note_after s None))))
+        abbrev scan' : Scan K
+        scan' = scan_after t.known.walks v.program.scan value v.program.walk
+
+        -- the step is a read of a scan, after which this value is to be written or none, and the scan has come to this view or goes on
+        abbrev HasRead : Option ℕ → Option (List (ℕ × ℕ)) → Type 0
+        HasRead new_value view =
+            Allows (bounds_with t w.most scans) o (Stepped id (Ok (told (note_after view new_value))))
             × IsTied t (record {
               memory = t.known.memory.after w.memory (Read (t.known.walks.next v.program.scan.walk));
               most = w.most;
               participants = with_participant (record {
                 identity = v.identity;
-                program = record v.program { scan = scan_after t.known.walks v.program.scan value v.program.walk; pending = pending_after s None v.program.pending };
-                ended = ends (note_after s None);
+                program = record v.program { scan = scan'; pending = pending_after view new_value v.program.pending };
+                ended = ends (note_after view new_value);
               }) w.participants;
-            }) (observed o (Stepped id (Ok (told (note_after s None)))))) [
-              | None ↦ λ g. (
-                rw task (still k.2 (scan_after t.known.walks v.program.scan value v.program.walk) g),
-                looked _ _ (rw (own_name, pending) (tied_with t w o i id v there (record v.program { scan = scan_after t.known.walks v.program.scan value v.program.walk; pending = Scans }) refl o.updates (λ q n. refl) (i.asked id v there) (o.task id) (o.steps id + 1) (since_of o id) (record {
-                  identity = doing.identity;
-                  walk = doing.walk;
-                  at = rw at (task, k.1, goes_further k.2 (scan_after t.known.walks v.program.scan value v.program.walk) g);
-                }))),
-              )
-              | Some view ↦ λ shown. (
-                (task, rw task (bound k.2), record { index = shown.0; no_earlier = shown.1; no_later = shown.2; is = shown.3; few = rw i.counted (few_shown view shown.0 shown.2 shown.3) }),
-                looked _ _ (rw own_name (tied_with t w o i id v there (record v.program { scan = scan_after t.known.walks v.program.scan value v.program.walk; pending = Nothing }) refl o.updates (λ q n. refl) (i.asked id v there) Idle (o.steps id + 1) (since_of o id) (record {
-                  identity = doing.identity;
-                  walk = doing.walk;
-                  at = rw at (k.1, inl refl);
-                }))),
-              )
-            ] (outcome k.2)
+            }) (observed o (Stepped id (Ok (told (note_after view new_value)))))
 
-        update_step : (new_value : ℕ) → v.program.pending ≡ Update new_value → IsAtTask t (era_now t w o i) (o.task id) (o.steps id) (o.since id) v.program (Some own) (Update new_value) → Follows (Update new_value)
-        update_step new_value pending k =
-            let task = k.0 in
-            elim (scan_view t.known.walks v.program.scan value) as (λ s. Outcome t w.memory (length w.participants) o.last i.past o.moment i.place i.who own (since_of o id) (o.steps id + 1) (scan_after t.known.walks v.program.scan value v.program.walk) s →
-            Allows (bounds_with t w.most scans) o (Stepped id (Ok (told (note_after s (Some new_value)))))
-            × IsTied t (record {
-              memory = t.known.memory.after w.memory (Read (t.known.walks.next v.program.scan.walk));
-              most = w.most;
-              participants = with_participant (record {
-                identity = v.identity;
-                program = record v.program { scan = scan_after t.known.walks v.program.scan value v.program.walk; pending = pending_after s (Some new_value) v.program.pending };
-                ended = ends (note_after s (Some new_value));
-              }) w.participants;
-            }) (observed o (Stepped id (Ok (told (note_after s (Some new_value))))))) [
-              | None ↦ λ g. (
-                rw task (let b = bound k.2 in omega arith),
-                looked _ _ (rw (own_name, pending) (tied_with t w o i id v there (record v.program { scan = scan_after t.known.walks v.program.scan value v.program.walk; pending = Update new_value }) refl o.updates (λ q n. refl) (i.asked id v there) (o.task id) (o.steps id + 1) (since_of o id) (record {
-                  identity = doing.identity;
-                  walk = doing.walk;
-                  at = rw at (task, k.1, goes_further k.2 (scan_after t.known.walks v.program.scan value v.program.walk) g);
-                }))),
-              )
-              | Some view ↦ λ shown. (
-                rw task (let b = bound k.2 in omega arith),
-                looked _ _ (rw own_name (tied_with t w o i id v there (record v.program { scan = scan_after t.known.walks v.program.scan value v.program.walk; pending = Writing new_value view }) refl o.updates (λ q n. refl) (i.asked id v there) (o.task id) (o.steps id + 1) (since_of o id) (record {
-                  identity = doing.identity;
-                  walk = doing.walk;
-                  at = rw at (task, k.1, helps k.2 view k.1 shown, bound_after k.2 (o.steps id) v.program.scan (goes k.2));
-                }))),
-              )
-            ] (outcome k.2)
+        -- p has read and goes on with this
+        reads_on : (pending : Pending) (task : Task) → IsAtTask t (era_now t w o i) task (o.steps id + 1) (since_of o id) (record v.program { scan = scan'; pending = pending }) pending →
+            IsTied t (world_with w (t.known.memory.after w.memory (Read (t.known.walks.next v.program.scan.walk))) id (record v.program { scan = scan'; pending = pending })) (with_task o id task (o.steps id + 1) (since_of o id))
+        reads_on pending task at = looked _ _ (tied_with t w o i id v there (record v.program { scan = scan'; pending = pending }) refl o.updates (λ q n. refl) (i.asked id v there) task (o.steps id + 1) (since_of o id) (record {
+          identity = doing.identity;
+          walk = doing.walk;
+          at = at;
+        }))
 
-        write_step : (new_value : ℕ) (view : List (ℕ × ℕ)) → v.program.pending ≡ Writing new_value view → IsAtTask t (era_now t w o i) (o.task id) (o.steps id) (o.since id) v.program (Some own) (Writing new_value view) → Follows (Writing new_value view)
-        write_step new_value view pending k =
-            let task = k.0 in
-            let few_steps = k.3 in
-            let all = whole in
-            rw at ((rw task tt, rw task (omega arith)), rw (own_name, task) (tied_written t w o i id v there (with_pending v.program Nothing) refl own at (record_of v.program new_value view) doing.identity (sym k.1) k.2 (o.steps id + 1) (since_of o id) doing.identity doing.walk refl refl refl))
+        scan_step : v.program.pending ≡ Scans → (o.task id ≡ Scanning) → v.program.updates ≡ number (i.past o.last own) → IsScanning t (era_now t w o i) own (o.since id) (o.steps id) v.program.scan → Follows Scans
+        scan_step pending task updates s = elim (scan_view t.known.walks v.program.scan value) as (λ z. Outcome t w.memory (length w.participants) o.last i.past o.moment i.place i.who own (since_of o id) (o.steps id + 1) scan' z → HasRead None z) [
+          | None ↦ λ g. (rw task (still s scan' g), rw (own_name, pending) (reads_on Scans (o.task id) (own, at, task, updates, goes_further s scan' g)))
+          | Some view ↦ λ shown. (
+            (task, rw task (bound s), record { index = shown.0; no_earlier = shown.1; no_later = shown.2; is = shown.3; few = rw i.counted (few_shown view shown.0 shown.2 shown.3) }),
+            rw own_name (reads_on Nothing Idle (own, at, updates, inl refl)),
+          )
+        ] (outcome s)
+
+        update_step : (new_value : ℕ) → v.program.pending ≡ Update new_value → (o.task id ≡ Updating new_value) → v.program.updates ≡ number (i.past o.last own) + 1 → IsScanning t (era_now t w o i) own (o.since id) (o.steps id) v.program.scan → Follows (Update new_value)
+        update_step new_value pending task updates s =
+            let b = bound s in
+            let allowed : AllowsStep (bounds_with t w.most scans) o id Silent = rw task (omega arith) in
+            elim (scan_view t.known.walks v.program.scan value) as (λ z. Outcome t w.memory (length w.participants) o.last i.past o.moment i.place i.who own (since_of o id) (o.steps id + 1) scan' z → HasRead (Some new_value) z) [
+              | None ↦ λ g. (allowed, rw (own_name, pending) (reads_on (Update new_value) (o.task id) (own, at, task, updates, goes_further s scan' g)))
+              | Some view ↦ λ shown. (allowed, rw own_name (reads_on (Writing new_value view) (o.task id) (own, at, task, updates, helps s view updates shown, bound_after s (o.steps id) v.program.scan (goes s))))
+            ] (outcome s)
+
+      write_step : (new_value : ℕ) (view : List (ℕ × ℕ)) → v.program.pending ≡ Writing new_value view → IsAtTask t (era_now t w o i) (o.task id) (o.steps id) (o.since id) v.program (Writing new_value view) → Follows (Writing new_value view)
+      write_step new_value view pending k =
+          let at = k.1 in
+          let task = k.2 in
+          let few_steps = k.5 in
+          let all = whole in
+          rw at ((rw task tt, rw task (omega arith)), rw (own_name, task) (tied_written t w o i id v there (with_pending v.program Nothing) refl k.0 at (record_of v.program new_value view) doing.identity (sym k.3) k.4 (o.steps id + 1) (since_of o id) doing.identity doing.walk refl refl refl))
 
       -- p is on its way
-      module _ (at : t.known.place_of v.program.walker ≡ None) (pending : v.program.pending ≡ Places) (k : IsAtTask t (era_now t w o i) (o.task id) (o.steps id) (o.since id) v.program None Places) where
+      module _ (pending : v.program.pending ≡ Places) (k : IsAtTask t (era_now t w o i) (o.task id) (o.steps id) (o.since id) v.program Places) where
         abbrev u : U
         u = v.program.walker
 
@@ -331,10 +308,10 @@ module _ {S R V U K : Type 0} (t : LawfulPlaces S R V U K) (w : SnapState S U K)
         later = t.known.memory.after w.memory (t.known.walker.next u)
 
         absent_place : i.place id ≡ None
-        absent_place = i.placed id ∙ ap (place_by t.known.place_of) way ∙ at
+        absent_place = i.placed id ∙ ap (place_by t.known.place_of) way ∙ k.0
 
         gone : HasGoneOn t.known w.memory later (length w.participants) (ways_of w.participants) id u answer_now
-        gone = t.laws.gone_on w.memory (length w.participants) (ways_of w.participants) i.consistent id u way at
+        gone = t.laws.gone_on w.memory (length w.participants) (ways_of w.participants) i.consistent id u way k.0
 
         up : length w.participants ≤ length w.participants
         up = omega arith
@@ -343,7 +320,7 @@ module _ {S R V U K : Type 0} (t : LawfulPlaces S R V U K) (w : SnapState S U K)
         more = omega arith
 
         steps_before : o.steps id + 1 ≤ t.known.ties.accesses_of (t.known.walker.resumed u answer_now)
-        steps_before = let few_steps = k.2 in let on = gone.nearer in omega arith
+        steps_before = let few_steps = k.3 in let on = gone.nearer in omega arith
 
         -- p after its access, with this still to do
         abbrev walked : Pending → Client U K
@@ -387,7 +364,7 @@ module _ {S R V U K : Type 0} (t : LawfulPlaces S R V U K) (w : SnapState S U K)
                   (rw (set_at-same o.task id (o.task id), set_at-same o.steps id (o.steps id + 1), set_at-same o.since id (since_of o id)) (record {
                     identity = doing.identity;
                     walk = doing.walk ∙ sym gone.kept.beginning;
-                    at = rw none (k.0, k.1, before);
+                    at = (none, k.1, k.2, before);
                   })),
             )
 
@@ -395,9 +372,9 @@ module _ {S R V U K : Type 0} (t : LawfulPlaces S R V U K) (w : SnapState S U K)
         arrives : (x : ℕ) → t.known.place_of (t.known.walker.resumed u answer_now) ≡ Some x →
             Allows (bounds_with t w.most scans) o (Stepped id (Ok (Placed x))) × IsTied t (world_with w later id (walked Nothing)) (observed o (Stepped id (Ok (Placed x))))
         arrives x e =
-            let left = t.laws.unplaced w.memory (length w.participants) (ways_of w.participants) i.consistent id u way at in
-            let few_steps = k.2 in
-            let task = k.0 in (
+            let left = t.laws.unplaced w.memory (length w.participants) (ways_of w.participants) i.consistent id u way k.0 in
+            let few_steps = k.3 in
+            let task = k.1 in (
               (task, rw (task, i.counted) (omega arith), record { first = is_first; free = is_free x e }),
               went Nothing (observed o (Stepped id (Ok (Placed x)))) refl refl refl
                   (λ q n. (set_at-other o.task id Idle q n, set_at-other o.steps id (o.steps id + 1) q n, set_at-other o.since id (since_of o id) q n, refl))
@@ -409,7 +386,7 @@ module _ {S R V U K : Type 0} (t : LawfulPlaces S R V U K) (w : SnapState S U K)
                   (rw (set_at-same o.task id Idle, set_at-same o.steps id (o.steps id + 1), set_at-same o.since id (since_of o id)) (record {
                     identity = doing.identity;
                     walk = doing.walk ∙ sym gone.kept.beginning;
-                    at = rw e (k.1 ∙ sym (ap number (nothing_stood x e)), inl refl);
+                    at = (x, e, k.2 ∙ sym (ap number (nothing_stood x e)), inl refl);
                   })),
             )
 
@@ -431,27 +408,19 @@ module _ {S R V U K : Type 0} (t : LawfulPlaces S R V U K) (w : SnapState S U K)
                 ended = ends (placed_note n);
               }) w.participants;
             }) (observed o (Stepped id (Ok (told (placed_note n)))))
-        place_by_note Quiet e = let s = stays (no_place Quiet e (λ x h. absurd (cc))) in (rw k.0 s.0, rw (own_name, pending) s.1)
-        place_by_note (Said y) e = let s = stays (no_place (Said y) e (λ x h. absurd (cc))) in (rw k.0 s.0, rw (own_name, pending) s.1)
+        place_by_note Quiet e = let s = stays (no_place Quiet e (λ x h. absurd (cc))) in (rw k.1 s.0, rw (own_name, pending) s.1)
+        place_by_note (Said y) e = let s = stays (no_place (Said y) e (λ x h. absurd (cc))) in (rw k.1 s.0, rw (own_name, pending) s.1)
         place_by_note (Ended x) e = let s = arrives x ((gone.ended x).0 e) in (s.0, rw own_name s.1)
 
         place_step : Follows Places
         place_step = place_by_note (t.known.walker.note u answer_now) refl
 
-      step_by : (at : Option ℕ) → t.known.place_of v.program.walker ≡ at → (z : Pending) → v.program.pending ≡ z → is_idle z ≡ false → IsAtTask t (era_now t w o i) (o.task id) (o.steps id) (o.since id) v.program at z → Follows z
-      step_by None at Nothing pending busy k = absurd k
-      step_by None at Places pending busy k = place_step at pending k
-      step_by None at Scans pending busy k = absurd k
-      step_by None at (Update new_value) pending busy k = absurd k
-      step_by None at (Writing new_value view) pending busy k = absurd k
-      step_by (Some own) at Nothing pending busy k = absurd (cc)
-      step_by (Some own) at Places pending busy k = absurd k
-      step_by (Some own) at Scans pending busy k = scan_step own at pending k
-      step_by (Some own) at (Update new_value) pending busy k = update_step own at new_value pending k
-      step_by (Some own) at (Writing new_value view) pending busy k = write_step own at new_value view pending k
-
-      step_follows : (z : Pending) → v.program.pending ≡ z → is_idle z ≡ false → Follows z
-      step_follows z pending busy = step_by (t.known.place_of v.program.walker) refl z pending busy (rw pending at doing.at)
+      step_follows : (z : Pending) → v.program.pending ≡ z → is_idle z ≡ false → IsAtTask t (era_now t w o i) (o.task id) (o.steps id) (o.since id) v.program z → Follows z
+      step_follows Nothing pending busy k = absurd (cc)
+      step_follows Places pending busy k = place_step pending k
+      step_follows Scans pending busy k = scan_step k.0 k.1 pending k.2 k.3 k.4
+      step_follows (Update new_value) pending busy k = update_step k.0 k.1 new_value pending k.2 k.3 k.4
+      step_follows (Writing new_value view) pending busy k = write_step new_value view pending k
 
     abbrev answer : Result SnapReply Refusal
     answer = snap_answer t.known w id
@@ -468,16 +437,13 @@ module _ {S R V U K : Type 0} (t : LawfulPlaces S R V U K) (w : SnapState S U K)
     pub stepped_follows : Allows (bounds_with t w.most scans) o (Stepped id answer) × IsTied t (cond (lacked_memory answer) w after) (observed o (Stepped id answer))
     stepped_follows = elim (participant_of id w.participants) as (λ z. participant_of id w.participants ≡ z → Allows (bounds_with t w.most scans) o (Stepped id answer) × IsTied t (cond (lacked_memory answer) w after) (observed o (Stepped id answer))) [
       | None ↦ λ e.
-          let none : None ≡ program_of id w.participants = sym (ap (option_map (λ u. u.program)) e) in
-          by_answer (Err NotBegun) w
-          (sym (absent_answer t.known w id none))
-          (sym (absent_state t.known w id none)) (inl (step_absent t w o i id scans e), i)
+          let none : program_of id w.participants ≡ None = ap (option_map (λ u. u.program)) e in
+          by_answer (Err NotBegun) w (rw none refl) (rw none refl) (inl (step_absent t w o i id scans e), i)
       | Some v ↦ λ e.
-          let some : Some v.program ≡ program_of id w.participants = sym (ap (option_map (λ u. u.program)) e) in
+          let there : program_of id w.participants ≡ Some v.program = ap (option_map (λ u. u.program)) e in
+          let some = sym there in
           elim (cases_Bool (is_idle v.program.pending)) [
-            | inl idle ↦ by_answer (Err Finished) w
-                (sym (idle_answer t.known w id v.program some idle))
-                (sym (idle_state t.known w id v.program some idle)) (inl (step_idle t w o i id scans fits v e idle), i)
+            | inl idle ↦ by_answer (Err Finished) w (rw (there, idle) refl) (rw (there, idle) refl) (inl (step_idle t w o i id scans fits v e idle), i)
             | inr busy ↦
                 let on : v.ended ≡ false = (i.named id v e).1 in
                 let ea : answer ≡ Ok (told (note_for t.known.walker t.known.walks v.program v.program.pending (got v e v.program.pending))) =
@@ -491,7 +457,7 @@ module _ {S R V U K : Type 0} (t : LawfulPlaces S R V U K) (w : SnapState S U K)
                     ended = ends (note_for t.known.walker t.known.walks v.program v.program.pending (got v e v.program.pending));
                   }) w.participants;
                 } = busy_state t.known w id v.program some busy ∙ going_after (clients_over t.known) t.known.memory w id v e on in
-                by_answer _ _ ea eb (step_follows v e v.program.pending refl busy)
+                by_answer _ _ ea eb (step_follows v e v.program.pending refl busy (i.clients id v e).at)
           ]
     ] refl
 

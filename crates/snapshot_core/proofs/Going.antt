@@ -114,7 +114,7 @@ module _ {S R V U K : Type 0} (t : LawfulPlaces S R V U K) (w : SnapState S U K)
           let done : IsDoing t after Idle steps since p c = record {
             identity = named;
             walk = walk ∙ sym k.kept.beginning;
-            at = rw (mine, idle) (updates ∙ sym (ap number here_now), inl refl);
+            at = rw idle (x, mine, updates ∙ sym (ap number here_now), inl refl);
           } in
           tied_next t w o i p c ps (put_there w.participants p v c there) (with_moment (with_task o p Idle steps since) p (Some r.value)) written (length w.participants) wrote i.place i.who (record {
             others = λ q n. (set_at-other o.task p Idle q n, set_at-other o.steps p steps q n, set_at-other o.since p since q n, refl);

@@ -99,19 +99,17 @@ module _ {S R V U K : Type 0} (t : LawfulPlaces S R V U K) (m : S) (ways : ℕ �
       abbrev value : V
       value = value_for t.known m s.walk
 
-      -- no segment was read
-      reads_other : t.known.walks.place s.walk ≡ None → Outcome t m b last past moment place who own since (steps + 1) (goes_after t.known.walks None s value (t.known.walk_from m)) (goes_view t.known.walks None s value)
-      reads_other none =
+      -- what was read, if a segment, was not written
+      reads_none : ((x : ℕ) → t.known.walks.place s.walk ≡ Some x → past last x ≡ None) → Outcome t m b last past moment place who own since (steps + 1) (goes_after t.known.walks None s value (t.known.walk_from m)) (goes_view t.known.walks None s value)
+      reads_none none =
           let g = t.laws.goes m b ways consistent s.walk j walk in
-          walks_on s j collects steps walk count (λ Ahead' Upcoming' still fewer. pass b last past moment place who h roll own since collects (t.known.ties.IsAhead m s.walk) (t.known.ties.IsUpcoming s.walk) s.is_first s.differs s.sightings c Ahead' Upcoming' (λ y a. inr (still y a (λ e. let k : None ≡ Some y = sym none ∙ e in absurd (cc)))) (λ y e. g.1.upcoming y (fewer y e)))
-
-      reads_empty : (x : ℕ) → t.known.walks.place s.walk ≡ Some x → past last x ≡ None → Outcome t m b last past moment place who own since (steps + 1) (goes_after t.known.walks None s value (t.known.walk_from m)) (goes_view t.known.walks None s value)
-      reads_empty x at none =
-          let g = t.laws.goes m b ways consistent s.walk j walk in
-          walks_on s j collects steps walk count (λ Ahead' Upcoming' still fewer. pass b last past moment place who h roll own since collects (t.known.ties.IsAhead m s.walk) (t.known.ties.IsUpcoming s.walk) s.is_first s.differs s.sightings c Ahead' Upcoming' (λ y a. elim (eqb_tells y x) [
-            | inl e ↦ inl (ap (past last) e.1 ∙ none)
-            | inr e ↦ inr (still y a (λ k. let both : Some x ≡ Some y = sym at ∙ k in let same : x ≡ y = cc in e.1 (sym same)))
-          ]) (λ y e. g.1.upcoming y (fewer y e)))
+          walks_on s j collects steps walk count (λ Ahead' Upcoming' still fewer. pass b last past moment place who h roll own since collects (t.known.ties.IsAhead m s.walk) (t.known.ties.IsUpcoming s.walk) s.is_first s.differs s.sightings c Ahead' Upcoming' (λ y a. elim (t.known.walks.place s.walk) as (λ o. t.known.walks.place s.walk ≡ o → (past last y ≡ None) ⊎ Ahead' y) [
+            | None ↦ λ e. inr (still y a (λ k. let two : None ≡ Some y = sym e ∙ k in absurd (cc)))
+            | Some x ↦ λ e. elim (eqb_tells y x) [
+              | inl same ↦ inl (none y (rw same.1 e))
+              | inr other ↦ inr (still y a (λ k. let both : Some x ≡ Some y = sym e ∙ k in let same : x ≡ y = cc in other.1 (sym same)))
+            ]
+          ] refl) (λ y e. g.1.upcoming y (fewer y e)))
 
       reads_record : (x : ℕ) (r : Record) → t.known.walks.place s.walk ≡ Some x → past last x ≡ Some r →
           Outcome t m b last past moment place who own since (steps + 1) (goes_after t.known.walks (view_at t.known.walks s (Some x) (Some r)) (met_at t.known.walks s (Some x) (Some r)) value (t.known.walk_from m)) (goes_view t.known.walks (view_at t.known.walks s (Some x) (Some r)) (met_at t.known.walks s (Some x) (Some r)) value)
@@ -135,13 +133,13 @@ module _ {S R V U K : Type 0} (t : LawfulPlaces S R V U K) (m : S) (ways : ℕ �
       pub reads : Outcome t m b last past moment place who own since (steps + 1) (scan_after t.known.walks s value (t.known.walk_from m)) (scan_view t.known.walks s value)
       reads = elim (t.known.walks.place s.walk) as (λ o. t.known.walks.place s.walk ≡ o →
           Outcome t m b last past moment place who own since (steps + 1) (goes_after t.known.walks (view_at t.known.walks s o (t.known.walks.content value)) (met_at t.known.walks s o (t.known.walks.content value)) value (t.known.walk_from m)) (goes_view t.known.walks (view_at t.known.walks s o (t.known.walks.content value)) (met_at t.known.walks s o (t.known.walks.content value)) value)) [
-            | None ↦ λ none. reads_other none
+            | None ↦ λ none. reads_none (λ y e. let two : None ≡ Some y = sym none ∙ e in absurd (cc))
             | Some x ↦ λ at.
                 let g = t.laws.goes m b ways consistent s.walk j walk in
                 let here : past last x ≡ t.known.walks.content value = present x ∙ ap (λ (r : R). t.known.walks.content (t.known.memory.register m r).0) (sym (g.1.here x at).0) in
                 elim (t.known.walks.content value) as (λ o. past last x ≡ o →
                 Outcome t m b last past moment place who own since (steps + 1) (goes_after t.known.walks (view_at t.known.walks s (Some x) o) (met_at t.known.walks s (Some x) o) value (t.known.walk_from m)) (goes_view t.known.walks (view_at t.known.walks s (Some x) o) (met_at t.known.walks s (Some x) o) value)) [
-                  | None ↦ λ none. reads_empty x at none
+                  | None ↦ λ none. reads_none (λ y e. let both : Some x ≡ Some y = sym at ∙ e in let same : x ≡ y = cc in ap (past last) (sym same) ∙ none)
                   | Some r ↦ λ some. reads_record x r at some
                 ] here
           ] refl

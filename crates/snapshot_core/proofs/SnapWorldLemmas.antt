@@ -1,16 +1,15 @@
 -- the calls of a snapshot object
-use Rattle.std.proofs.Common.{◌≡◌, ◌≢◌, ◌<◌, ◌≤◌, ℕ, true, false, cond, Option, Some, None, Result, Ok, Err, inl, inr, refl, sym, ap, ◌∙◌}
+use Rattle.std.proofs.Common.{◌≡◌, ◌≢◌, ℕ, true, false, cond, Option, Some, None, Result, Ok, Err, inl, inr, refl, sym, ap, ◌∙◌}
 use Rattle.snapshot_core.specs.declared.client.Pending.{Pending}
 use Rattle.snapshot_core.specs.declared.client.Pending.TheVariants.{Nothing, Placing, Scan, Update, Write as Writing}
 use Rattle.step_memory.specs.declared.note.Note.{Note}
 use Rattle.step_memory.specs.declared.note.Note.TheVariants.{Quiet}
 use Rattle.step_memory.specs.declared.access.Access.TheVariants.{Read}
 use Rattle.step_memory.specs.declared.refusal.Refusal.{Refusal}
-use Rattle.step_memory.specs.declared.refusal.Refusal.TheVariants.{AlreadyBegun, NotBegun, Finished, Spent, NoMemory}
-use Rattle.step_memory.specs.Participant.{participant_of, program_of}
-use Rattle.step_memory.specs.World.{begin_refusal, begun_unless, done_unless, set_answer, set_answer_by, after_set, step_answer, after_step}
+use Rattle.step_memory.specs.declared.refusal.Refusal.TheVariants.{Finished, NoMemory}
+use Rattle.step_memory.specs.Participant.{program_of}
+use Rattle.step_memory.specs.World.{begin_refusal, begun_unless, done_unless, step_answer, after_step}
 use Rattle.step_memory.specs.Calls.{lacked_memory, reply_of}
-use Rattle.std.proofs.lemmas.Bool.{lt-ltb, le-ltb}
 use Rattle.step_memory.proofs.StepLemmas.{most_stepped, lacks_none, lacks_or_not}
 use Rattle.step_memory.specs.Machine.{LeadsOn}
 use Rattle.step_memory.proofs.MachineLemmas.{call_leads_on}
@@ -27,39 +26,6 @@ use Rattle.snapshot_core.specs.SnapWorld.{SnapState, beginner_at, after_snap_beg
 use Rattle.snapshot_core.specs.SnapCalls.{SnapCall, next}
 use Rattle.snapshot_core.specs.SnapCalls.SnapCall.{Began, Updated, Scanned, Stepped}
 
--- what a call answers and leaves, where it is refused for this reason or for none
-pub record Goes {S U K : Type 0} (w : SnapState S U K) (refusal : Option Refusal) (after : SnapState S U K) (why : Option Refusal) (new : SnapState S U K) : Type 0 where
-  pub answer : done_unless why ≡ done_unless refusal
-  pub state : new ≡ after
-
-module _ {S U K : Type 0} (w : SnapState S U K) (id : ℕ) where
-  pub scan_absent : None ≡ program_of id w.participants → Goes w (scan_refusal w id) (after_scan w id) (Some NotBegun) w
-  scan_absent h = let e = sym h in record { answer = rw e refl; state = rw e refl }
-
-  pub scan_busy : (c : Client U K) → Some c ≡ program_of id w.participants → is_idle c.pending ≡ false → Goes w (scan_refusal w id) (after_scan w id) (Some AlreadyBegun) w
-  scan_busy c h busy = let e = sym h in record { answer = rw (e, busy) refl; state = rw (e, busy) refl }
-
-  pub scan_goes : (c : Client U K) → Some c ≡ program_of id w.participants → is_idle c.pending ≡ true → Goes w (scan_refusal w id) (after_scan w id) None (after_set w id (scanning c))
-  scan_goes c h idle = let e = sym h in record { answer = rw (e, idle) refl; state = rw (e, idle) refl }
-
-  pub update_absent : (value : ℕ) → None ≡ program_of id w.participants → Goes w (update_refusal w id) (after_update w id value) (Some NotBegun) w
-  update_absent value h = let e = sym h in record { answer = rw e refl; state = rw e refl }
-
-  pub update_busy : (value : ℕ) (c : Client U K) → Some c ≡ program_of id w.participants → is_idle c.pending ≡ false → Goes w (update_refusal w id) (after_update w id value) (Some AlreadyBegun) w
-  update_busy value c h busy = let e = sym h in record { answer = rw (e, busy) refl; state = rw (e, busy) refl }
-
-  pub update_spent : (value : ℕ) (c : Client U K) → Some c ≡ program_of id w.participants → is_idle c.pending ≡ true → 1000000 ≤ c.updates → Goes w (update_refusal w id) (after_update w id value) (Some Spent) w
-  update_spent value c h idle many = let e = sym h in let spent = le-ltb c.updates 1000000 many in record { answer = rw (e, idle, spent) refl; state = rw (e, idle, spent) refl }
-
-  pub update_goes : (value : ℕ) (c : Client U K) → Some c ≡ program_of id w.participants → is_idle c.pending ≡ true → c.updates < 1000000 → Goes w (update_refusal w id) (after_update w id value) None (after_set w id (updating c value))
-  update_goes value c h idle few = let e = sym h in let fresh = lt-ltb c.updates 1000000 few in record { answer = rw (e, idle, fresh) refl; state = rw (e, idle, fresh) refl }
-
-  -- who has begun is set
-  pub set_goes : (c : Client U K) → Some c ≡ program_of id w.participants → set_answer w id ≡ Ok tt
-  set_goes c h =
-      elim (participant_of id w.participants) as (λ o. Some c ≡ (elim o as (λ _. Option (Client U K)) [ None ↦ None | Some p ↦ Some p.program ]) → set_answer_by o ≡ Ok tt)
-      [ None ↦ λ k. absurd (cc) | Some p ↦ λ _. refl ] h
-
 module _ {S R V U K : Type 0} (t : KnownPlaces S R V U K) where
   most_asked : (w : SnapState S U K) (id : ℕ) (asking : Client U K → Client U K) (c : Option (Client U K)) (why : Option Refusal) → (asked w id asking c why).most ≡ w.most
   most_asked w id asking None why = refl
@@ -75,6 +41,16 @@ module _ {S R V U K : Type 0} (t : KnownPlaces S R V U K) where
   most_kept w (Updated id value reply) = most_asked w id (λ c. updating c value) (program_of id w.participants) (update_refusal w id)
   most_kept w (Scanned id reply) = most_asked w id scanning (program_of id w.participants) (scan_refusal w id)
   most_kept w (Stepped id reply) = elim (lacked_memory reply) as (λ b. (cond b w (after_snap_step t w id)).most ≡ w.most) [ true ↦ refl | false ↦ most_snap w id (program_of id w.participants) ]
+
+  -- a call that is no step leads on
+  pub begun_leads_on : (w new : SnapState S U K) (id : ℕ) (reply : Result (Unit {0}) Refusal) → new ≡ after_snap_begin t w id → reply ≡ done_unless (begin_refusal w id) → LeadsOn (snapshot t) w new (Began id reply)
+  begun_leads_on w new id reply = call_leads_on (snapshot t) w new (Began id reply)
+
+  pub updated_leads_on : (w new : SnapState S U K) (id value : ℕ) (reply : Result (Unit {0}) Refusal) → new ≡ after_update w id value → reply ≡ done_unless (update_refusal w id) → LeadsOn (snapshot t) w new (Updated id value reply)
+  updated_leads_on w new id value reply = call_leads_on (snapshot t) w new (Updated id value reply)
+
+  pub scanned_leads_on : (w new : SnapState S U K) (id : ℕ) (reply : Result (Unit {0}) Refusal) → new ≡ after_scan w id → reply ≡ done_unless (scan_refusal w id) → LeadsOn (snapshot t) w new (Scanned id reply)
+  scanned_leads_on w new id reply = call_leads_on (snapshot t) w new (Scanned id reply)
 
   snap_lacks_none : (w : SnapState S U K) (id : ℕ) (o : Option (Client U K)) → lacked_memory (snap_answer_by t w id o) ≡ false
   snap_lacks_none w id None = refl
@@ -97,18 +73,6 @@ module _ {S R V U K : Type 0} (t : KnownPlaces S R V U K) where
         let lacked : lacked_memory reply ≡ true = rw h refl in
         call_leads_on (snapshot t) w new (Stepped id reply) (refused.0 ∙ rw lacked refl) (inr (h, refused.1))
   ]
-
-  pub absent_state : (w : SnapState S U K) (id : ℕ) → None ≡ program_of id w.participants → w ≡ after_snap_step t w id
-  absent_state w id h = let e = sym h in rw e refl
-
-  pub absent_answer : (w : SnapState S U K) (id : ℕ) → None ≡ program_of id w.participants → Err NotBegun ≡ snap_answer t w id
-  absent_answer w id h = let e = sym h in rw e refl
-
-  pub idle_state : (w : SnapState S U K) (id : ℕ) (c : Client U K) → Some c ≡ program_of id w.participants → is_idle c.pending ≡ true → w ≡ after_snap_step t w id
-  idle_state w id c h idle = let e = sym h in rw (e, idle) refl
-
-  pub idle_answer : (w : SnapState S U K) (id : ℕ) (c : Client U K) → Some c ≡ program_of id w.participants → is_idle c.pending ≡ true → Err Finished ≡ snap_answer t w id
-  idle_answer w id c h idle = let e = sym h in rw (e, idle) refl
 
   -- one who has something to do takes a step of the world
   pub busy_state : (w : SnapState S U K) (id : ℕ) (c : Client U K) → Some c ≡ program_of id w.participants → is_idle c.pending ≡ false → after_snap_step t w id ≡ after_step (clients_over t) t.memory w id

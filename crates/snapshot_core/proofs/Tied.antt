@@ -53,25 +53,20 @@ abbrev pub HasNothing : {S R V U K : Type 0} → LawfulPlaces S R V U K → Task
 HasNothing t task = (task ≡ Idle) ⊎ ((task ≡ Placing) × ((b : ℕ) → t.known.ties.placing b ≡ 0))
 
 -- what a participant still has to do agrees with what it was asked for. Who has no place is on its way
-abbrev pub IsAtTask : {S R V U K : Type 0} → LawfulPlaces S R V U K → Era S → Task → ℕ → ℕ → Client U K → Option ℕ → Pending → Type 0
-IsAtTask t e task steps since c None Nothing = ⊥
-IsAtTask t e task steps since c None Places = (task ≡ Placing) × (c.updates ≡ 0) × (steps ≤ t.known.ties.accesses_of c.walker)
-IsAtTask t e task steps since c None Scans = ⊥
-IsAtTask t e task steps since c None (Update new_value) = ⊥
-IsAtTask t e task steps since c None (Writing new_value view) = ⊥
-IsAtTask t e task steps since c (Some own) Nothing = (c.updates ≡ number (e.past e.last own)) × HasNothing t task
-IsAtTask t e task steps since c (Some own) Places = ⊥
-IsAtTask t e task steps since c (Some own) Scans =
+abbrev pub IsAtTask : {S R V U K : Type 0} → LawfulPlaces S R V U K → Era S → Task → ℕ → ℕ → Client U K → Pending → Type 0
+IsAtTask t e task steps since c Nothing = (own : ℕ) × (t.known.place_of c.walker ≡ Some own) × (c.updates ≡ number (e.past e.last own)) × HasNothing t task
+IsAtTask t e task steps since c Places = (t.known.place_of c.walker ≡ None) × (task ≡ Placing) × (c.updates ≡ 0) × (steps ≤ t.known.ties.accesses_of c.walker)
+IsAtTask t e task steps since c Scans = (own : ℕ) × (t.known.place_of c.walker ≡ Some own) ×
     (task ≡ Scanning) × (c.updates ≡ number (e.past e.last own)) × IsScanning t e own since steps c.scan
-IsAtTask t e task steps since c (Some own) (Update new_value) =
+IsAtTask t e task steps since c (Update new_value) = (own : ℕ) × (t.known.place_of c.walker ≡ Some own) ×
     (task ≡ Updating new_value) × (c.updates ≡ number (e.past e.last own) + 1) × IsScanning t e own since steps c.scan
-IsAtTask t e task steps since c (Some own) (Writing new_value view) =
+IsAtTask t e task steps since c (Writing new_value view) = (own : ℕ) × (t.known.place_of c.walker ≡ Some own) ×
     (task ≡ Updating new_value) × (c.updates ≡ number (e.past e.last own) + 1) × IsHelp e.last e.past e.moment own c.updates view × (steps ≤ (e.begun + 1) * most_reads t e)
 
 pub record IsDoing {S R V U K : Type 0} (t : LawfulPlaces S R V U K) (e : Era S) (task : Task) (steps since p : ℕ) (c : Client U K) : Type 0 where
   pub identity : c.identity ≡ p
   pub walk : c.walk ≡ t.known.walk_from e.memory
-  pub at : IsAtTask t e task steps since c (t.known.place_of c.walker) c.pending
+  pub at : IsAtTask t e task steps since c c.pending
 
 -- what one who has this place finds when others have gone on
 pub record CarriesOn {S R V U K : Type 0} (t : LawfulPlaces S R V U K) (e f : Era S) (own : ℕ) : Type 0 where
@@ -86,24 +81,19 @@ module _ {S R V U K : Type 0} (t : LawfulPlaces S R V U K) (e f : Era S) where
   scanning_on own since steps s k (inl i) = inl (i.0, i.1 ∙ ap scan_from (sym k.beginning))
   scanning_on own since steps s k (inr i) = inr (i.0, k.scans since steps s i.1)
 
-  at_task_on : (task : Task) (steps since : ℕ) (c : Client U K) (at : Option ℕ) (pending : Pending) → ((own : ℕ) → at ≡ Some own → CarriesOn t e f own) → IsAtTask t e task steps since c at pending → IsAtTask t f task steps since c at pending
-  at_task_on task steps since c None Nothing k i = i
-  at_task_on task steps since c None Places k i = i
-  at_task_on task steps since c None Scans k i = i
-  at_task_on task steps since c None (Update new_value) k i = i
-  at_task_on task steps since c None (Writing new_value view) k i = i
-  at_task_on task steps since c (Some own) Nothing k i = (i.0 ∙ ap number (sym (k own refl).mine), i.1)
-  at_task_on task steps since c (Some own) Places k i = i
-  at_task_on task steps since c (Some own) Scans k i = (i.0, i.1 ∙ ap number (sym (k own refl).mine), scanning_on own since steps c.scan (k own refl) i.2)
-  at_task_on task steps since c (Some own) (Update new_value) k i = (i.0, i.1 ∙ ap (λ (z : Option Record). number z + 1) (sym (k own refl).mine), scanning_on own since steps c.scan (k own refl) i.2)
-  at_task_on task steps since c (Some own) (Writing new_value view) k i =
-      let more = (k own refl).bound in
-      let was = i.3 in
-      (i.0, i.1 ∙ ap (λ (z : Option Record). number z + 1) (sym (k own refl).mine), (k own refl).helps c.updates view i.2, omega arith)
+  at_task_on : (task : Task) (steps since : ℕ) (c : Client U K) (pending : Pending) → ((own : ℕ) → t.known.place_of c.walker ≡ Some own → CarriesOn t e f own) → IsAtTask t e task steps since c pending → IsAtTask t f task steps since c pending
+  at_task_on task steps since c Nothing k i = (i.0, i.1, i.2 ∙ ap number (sym (k i.0 i.1).mine), i.3)
+  at_task_on task steps since c Places k i = i
+  at_task_on task steps since c Scans k i = (i.0, i.1, i.2, i.3 ∙ ap number (sym (k i.0 i.1).mine), scanning_on i.0 since steps c.scan (k i.0 i.1) i.4)
+  at_task_on task steps since c (Update new_value) k i = (i.0, i.1, i.2, i.3 ∙ ap (λ (z : Option Record). number z + 1) (sym (k i.0 i.1).mine), scanning_on i.0 since steps c.scan (k i.0 i.1) i.4)
+  at_task_on task steps since c (Writing new_value view) k i =
+      let more = (k i.0 i.1).bound in
+      let was = i.5 in
+      (i.0, i.1, i.2, i.3 ∙ ap (λ (z : Option Record). number z + 1) (sym (k i.0 i.1).mine), (k i.0 i.1).helps c.updates view i.4, omega arith)
 
   -- another goes on as it did
   pub doing_on : (task : Task) (steps since q : ℕ) (c : Client U K) → t.known.walk_from f.memory ≡ t.known.walk_from e.memory → ((own : ℕ) → t.known.place_of c.walker ≡ Some own → CarriesOn t e f own) → IsDoing t e task steps since q c → IsDoing t f task steps since q c
-  doing_on task steps since q c same k i = record { identity = i.identity; walk = i.walk ∙ sym same; at = at_task_on task steps since c (t.known.place_of c.walker) c.pending k i.at }
+  doing_on task steps since q c same k i = record { identity = i.identity; walk = i.walk ∙ sym same; at = at_task_on task steps since c c.pending k i.at }
 
 -- the object and the world, with the past
 pub record IsTied {S R V U K : Type 0} (t : LawfulPlaces S R V U K) (w : SnapState S U K) (o : SnapObject) : Type 0 where

@@ -1,13 +1,11 @@
 -- over places that do not go by the order of beginning, all who begin under one identity are alike
-use Rattle.std.proofs.Common.{◌≡◌, ℕ, Bool, true, false, List, [], ◌∷◌, ◌++◌, Option, Some, None, refl, sym, ap, ◌∙◌}
-use Rattle.std.specs.Prelude.{is_some, option_map, option_and_then}
+use Rattle.std.proofs.Common.{◌≡◌, ℕ, Bool, List, [], ◌∷◌, ◌++◌, Some, None, sym, ap, ◌∙◌}
+use Rattle.std.specs.Prelude.{is_some, option_map}
 use Rattle.step_memory.specs.Calls.{Call}
 use Rattle.step_memory.proofs.SetAtLemmas.{set_at-same}
-use Rattle.step_memory.specs.declared.participant.Participant.{Participant}
 use Rattle.step_memory.specs.Participant.{participant_of, beginner}
 use Rattle.step_memory.specs.World.{begin_refusal}
 use Rattle.step_memory.proofs.ParticipantLemmas.{participant_of-push}
-use Rattle.step_memory.proofs.WorldKeeps.{let_in}
 use Rattle.snapshot_core.specs.declared.client.Client.{Client}
 use Rattle.snapshot_core.specs.Places.{KnownPlaces, PlacesLaws, BeginsAlike}
 use Rattle.snapshot_core.specs.SnapWorld.{beginner_at}
@@ -23,34 +21,26 @@ use Rattle.rename_core.specs.RenameState.{RenameState}
 use Rattle.rename_core.specs.RenameWorld.{begun_snap, has_place, after_rename_begin}
 use Rattle.rename_core.specs.Round.{first_round, first_wish}
 use Rattle.rename_core.proofs.LocalSteps.{wish_becomes}
+use Rattle.rename_core.proofs.rounds.StepCases.{begun_own, begun_placed, no_round}
 use Rattle.rename_core.proofs.Names.{MayBeNamed, most_is, snap_after, joined_law}
 
 module _ {S R V U K : Type 0} (W : KnownPlaces S R V U K) (w : RenameState S U K) (p : ℕ) (goes : begin_refusal w.snap p ≡ None) (new : participant_of p w.rounds ≡ None) where
   abbrev c : Client U K
   c = beginner_at W w.snap p
 
-  begun_is : participant_of p (begun_snap W w p).participants ≡ Some (beginner p c)
-  begun_is = rw goes (participant_of-push w.snap.participants (beginner p c) (let_in w.snap p goes).absent p ∙ set_at-same (λ u. participant_of u w.snap.participants) p (Some (beginner p c)))
-
-  placed_is : has_place W w p ≡ is_some (W.place_of c.walker)
-  placed_is = ap (λ (z : Option (Participant (Client U K))). is_some (option_and_then (λ d. W.place_of d.walker) (option_map (λ u. u.program) z))) begun_is
-
   -- the client and the round of one who begins
   pub begun_client : client_of p (after_rename_begin W w p) ≡ Some (wished (first_wish (is_some (W.place_of c.walker))) c)
-  begun_client = rw goes ((wish_becomes (begun_snap W w p) p (beginner p c) begun_is (first_wish (has_place W w p))).own ∙ ap (λ (b : Bool). Some (wished (first_wish b) c)) placed_is)
+  begun_client = rw goes ((wish_becomes (begun_snap W w p) p (beginner p c) (begun_own W w p goes) (first_wish (has_place W w p))).own ∙ ap (λ (b : Bool). Some (wished (first_wish b) c)) (begun_placed W w p goes))
 
   pub begun_round : round_of p (after_rename_begin W w p) ≡ Some (first_round (is_some (W.place_of c.walker)))
   begun_round =
       let r : Round = first_round (has_place W w p) in
       let there : participant_of p (w.rounds ++ beginner p r ∷ []) ≡ Some (beginner p r) = participant_of-push w.rounds (beginner p r) new p ∙ set_at-same (λ u. participant_of u w.rounds) p (Some (beginner p r)) in
-      rw goes (ap (option_map (λ u. u.program)) there ∙ ap (λ (b : Bool). Some (first_round b)) placed_is)
+      rw goes (ap (option_map (λ u. u.program)) there ∙ ap (λ (b : Bool). Some (first_round b)) (begun_placed W w p goes))
 
 module _ {S R V U K : Type 0} (W : KnownPlaces S R V U K) (laws : PlacesLaws W) (kind : WorldKind) (scanning : ℕ → ℕ → ℕ) (named : (most : ℕ) → MayBeNamed W (is_tree kind) most (scanning most)) where
   absent_round : (w : RenameState S U K) (first : S × ℕ) (r : List (Call StepReply)) → After (renaming W kind) first w r → (p : ℕ) → begin_refusal w.snap p ≡ None → participant_of p w.rounds ≡ None
-  absent_round w first r a p goes = elim (participant_of p w.rounds) as (λ z. participant_of p w.rounds ≡ z → z ≡ None) [
-    | None ↦ λ _. refl
-    | Some v ↦ λ e. absurd (let no : false ≡ true = sym (ap is_some (let_in w.snap p goes).absent) ∙ joined_law W kind (scanning (W.most_of first.0)) first (named (W.most_of first.0)) w r a p ∙ ap is_some e in cc)
-  ] refl
+  absent_round w first r a p goes = no_round W w p goes (joined_law W kind (scanning (W.most_of first.0)) first (named (W.most_of first.0)) w r a p)
 
   pub begins_alike : BeginsAlike W → (p : ℕ) → BeginsTheSame W kind p
   begins_alike alike p w x first second r s a b size goes too =

@@ -1,6 +1,6 @@
 -- one more begins in a renaming world
 use Rattle.std.proofs.Common.{◌==◌, cond, ◌≡◌, ◌≢◌, ℕ, ◌+◌, ◌<◌, ◌≤◌, Bool, true, false, List, [], ◌∷◌, ◌++◌, length, Option, Some, None, Result, Ok, inl, inr, refl, sym, ap, subst, ◌∙◌, arith}
-use Rattle.std.specs.Prelude.{is_some, option_map, option_and_then}
+use Rattle.std.specs.Prelude.{is_some}
 use Rattle.std.proofs.lemmas.Bool.Decides.{eqb_tells}
 use Rattle.std.proofs.lemmas.List.{length-append}
 use Rattle.step_memory.specs.SetAt.{set_at}
@@ -12,9 +12,7 @@ use Rattle.step_memory.specs.Calls.Call.{Began}
 use Rattle.step_memory.specs.World.{begin_refusal, done_unless}
 use Rattle.step_memory.proofs.ParticipantLemmas.{participant_of-push}
 use Rattle.step_memory.proofs.WorldKeeps.{IsLetIn, let_in}
-use Rattle.snapshot_core.specs.declared.client.Client.{Client}
-use Rattle.snapshot_core.specs.Client.{is_idle, first_pending}
-use Rattle.snapshot_core.specs.SnapWorld.{SnapState, beginner_at, after_update}
+use Rattle.snapshot_core.specs.SnapWorld.{SnapState, after_update}
 use Rattle.snapshot_core.specs.SnapCalls.{SnapCall, next as snap_next, IsReply as IsSnapReply}
 use Rattle.snapshot_core.specs.SnapCalls.SnapCall.{Began as SnapBegan, Updated}
 use Rattle.snapshot_core.specs.Snapshot.{SnapObject, SnapBounds, observed, Allows as SnapAllows, asked_for, with_update}
@@ -28,17 +26,13 @@ use Rattle.rename_core.specs.Pace.Phase.{ToPlace as ToGo, ToPropose}
 use Rattle.rename_core.specs.RenameWorld.{after_wish, begun_snap, has_place, begun_unless}
 use Rattle.rename_core.specs.RenameObject.{RenameTerms, RenameObject, no_begin, after}
 use Rattle.rename_core.proofs.rounds.Standing.{standing_begun}
-use Rattle.snapshot_core.specs.Standing.{StandsAt}
-use Rattle.snapshot_core.proofs.Clients.{goes_idle}
+use Rattle.rename_core.proofs.rounds.StepCases.{begun_placed, no_round}
+use Rattle.snapshot_core.specs.Standing.{StandsAt, HasBegun}
+use Rattle.snapshot_core.proofs.Clients.{has_begun, goes_idle}
 use Rattle.rename_core.proofs.Large.{update_large}
-use Rattle.rename_core.proofs.rounds.Tied.{IsAtStage, IsCounted, IsTied, Carries, counted_on, stage_on}
+use Rattle.rename_core.proofs.rounds.Tied.{IsAtStage, IsCounted, IsTied, Carries, Spares, since_kept, spares_task, spares_next, counted_on, stage_on}
 use Rattle.step_memory.proofs.DistinctParticipants.{distinct_push}
-use Rattle.rename_core.proofs.rounds.Stepping.{since_kept}
 use Rattle.rename_core.proofs.rounds.Keeping.{Goes}
-
-idle_first : (x : Option ℕ) → is_idle (first_pending x) ≡ is_some x
-idle_first None = refl
-idle_first (Some x) = refl
 
 module _ {S R V U K : Type 0} (W : KnownPlaces S R V U K) (terms : RenameTerms) (bounds : SnapBounds)
     (Tie : SnapState S U K → SnapObject → Type 0)
@@ -54,9 +48,6 @@ module _ {S R V U K : Type 0} (W : KnownPlaces S R V U K) (terms : RenameTerms) 
     abbrev s : SnapObject
     s = i.object
 
-    abbrev client : Client U K
-    client = beginner_at W w.snap p
-
     abbrev snap1 : SnapState S U K
     snap1 = begun_snap W w p
 
@@ -66,29 +57,14 @@ module _ {S R V U K : Type 0} (W : KnownPlaces S R V U K) (terms : RenameTerms) 
     inside : IsLetIn w.snap p
     inside = let_in w.snap p goes
 
-    snap1_is : snap1.participants ≡ w.snap.participants ++ beginner p client ∷ []
-    snap1_is = rw goes refl
-
     snap1_most : snap1.most ≡ w.snap.most
     snap1_most = rw goes refl
 
-    snap1_many : length snap1.participants ≡ length w.snap.participants + 1
-    snap1_many = ap length snap1_is ∙ length-append w.snap.participants (beginner p client ∷ [])
-
-    pushed : (q : ℕ) → participant_of q snap1.participants ≡ set_at (λ u. participant_of u w.snap.participants) p (Some (beginner p client)) q
-    pushed q = ap (participant_of q) snap1_is ∙ participant_of-push w.snap.participants (beginner p client) inside.absent q
-
-    own_there : participant_of p snap1.participants ≡ Some (beginner p client)
-    own_there = pushed p ∙ set_at-same (λ u. participant_of u w.snap.participants) p (Some (beginner p client))
-
-    other_there : (q : ℕ) → q ≢ p → participant_of q snap1.participants ≡ participant_of q w.snap.participants
-    other_there q n = pushed q ∙ set_at-other (λ u. participant_of u w.snap.participants) p (Some (beginner p client)) q n
-
-    placed_is : has_place W w p ≡ is_some (W.place_of client.walker)
-    placed_is = ap (λ (z : Option (Participant (Client U K))). is_some (option_and_then (λ c. W.place_of c.walker) (option_map (λ u. u.program) z))) own_there
+    begun : HasBegun W w.snap p
+    begun = has_begun W w.snap p goes
 
     stands1 : StandsAt snap1 p (has_place W w p) 0
-    stands1 = record { who = beginner p client; is = own_there; goes = refl; idle_is = idle_first (W.place_of client.walker) ∙ sym placed_is; updates_is = refl }
+    stands1 = subst (λ (b : Bool). StandsAt snap1 p b 0) (sym (begun_placed W w p goes)) begun.stands
 
     tie1 : Tie snap1 s1
     tie1 = (tie_goes w.snap s (SnapBegan p (Ok tt)) i.tie (sym (ap done_unless goes))).0
@@ -101,13 +77,10 @@ module _ {S R V U K : Type 0} (W : KnownPlaces S R V U K) (terms : RenameTerms) 
 
     -- the phase in which it begins
     phase_is : (b : Bool) → has_place W w p ≡ b → first_phase bounds ≡ cond b ToPropose ToGo
-    phase_is b e = ap (λ (c : Bool). cond c ToPropose ToGo) (sym (at_once (length w.snap.participants) p) ∙ sym placed_is ∙ e)
+    phase_is b e = ap (λ (c : Bool). cond c ToPropose ToGo) (sym (at_once (length w.snap.participants) p) ∙ sym (begun_placed W w p goes) ∙ e)
 
     new_round : participant_of p w.rounds ≡ None
-    new_round = elim (participant_of p w.rounds) as (λ z. participant_of p w.rounds ≡ z → z ≡ None) [
-      | None ↦ λ _. refl
-      | Some v ↦ λ e. absurd (let k : false ≡ true = sym (ap is_some inside.absent) ∙ i.joined p ∙ ap is_some e in cc)
-    ] refl
+    new_round = no_round W w p goes (i.joined p)
 
     -- what the new participant owes
     pub record HasJoined (snap : SnapState S U K) (r : Round) (u : SnapObject) : Type 0 where
@@ -120,9 +93,7 @@ module _ {S R V U K : Type 0} (W : KnownPlaces S R V U K) (terms : RenameTerms) 
       pub as_many : u.begun ≡ s.begun + 1
       pub moment : u.moment ≡ s.moment
       pub place : u.place ≡ s.place
-      pub task : (q : ℕ) → q ≢ p → u.task q ≡ s.task q
-      pub steps : (q : ℕ) → q ≢ p → u.steps q ≡ s.steps q
-      pub since : (q : ℕ) → q ≢ p → u.since q ≡ s.since q
+      pub spares : Spares p s u
       pub count : IsCounted o' p r
       pub own : IsAtStage terms o' t' u snap p r r.stage
 
@@ -150,12 +121,12 @@ module _ {S R V U K : Type 0} (W : KnownPlaces S R V U K) (terms : RenameTerms) 
         since = refl;
         many = omega arith;
         now = refl;
-        task = k.task q n;
-        later = since_kept s u q (k.steps q n) (k.since q n) (let e = k.last in omega arith);
+        task = (k.spares q n).0;
+        later = since_kept s u q (k.spares q n).1 (k.spares q n).2 (let e = k.last in omega arith);
         who = k.who q n;
         phase = set_at-other t.phase p (first_phase bounds) q n;
         pace = set_at-other t.steps p 0 q n;
-        snap_pace = k.steps q n;
+        snap_pace = (k.spares q n).1;
       }
 
       tied_joined : IsTied terms Tie (record { snap = snap; rounds = rounds'; limit = w.limit }) o' t'
@@ -213,16 +184,14 @@ module _ {S R V U K : Type 0} (W : KnownPlaces S R V U K) (terms : RenameTerms) 
     walks_on e = record {
       tie = tie1;
       most = snap1_most;
-      many = snap1_many;
-      there = ap is_some own_there;
-      who = other_there;
+      many = begun.many;
+      there = ap is_some begun.stands.is;
+      who = begun.others;
       last = refl;
       as_many = refl;
       moment = refl;
       place = refl;
-      task = λ q n. set_at-other s.task p ToPlace q n;
-      steps = λ q n. set_at-other s.steps p 0 q n;
-      since = λ q n. set_at-other s.since p 0 q n;
+      spares = spares_next p s ToPlace 0 0;
       count = first_count false;
       own = record {
         going = record { unnamed = unborn.1; left = unborn.2 };
@@ -250,16 +219,14 @@ module _ {S R V U K : Type 0} (W : KnownPlaces S R V U K) (terms : RenameTerms) 
       proposes = record {
         tie = (tie_goes snap1 s1 (Updated p 1 (Ok tt)) tie1 (sym (ap done_unless ((goes_idle W snap1 p 0 stands2).update few)))).0;
         most = (update_large snap1 p 1).most ∙ snap1_most;
-        many = (update_large snap1 p 1).many ∙ snap1_many;
+        many = (update_large snap1 p 1).many ∙ begun.many;
         there = ap is_some ((goes_idle W snap1 p 0 stands2).more few 1).stands.is;
-        who = λ q n. ((goes_idle W snap1 p 0 stands2).more few 1).others q n ∙ other_there q n;
+        who = λ q n. ((goes_idle W snap1 p 0 stands2).more few 1).others q n ∙ begun.others q n;
         last = refl;
         as_many = refl;
         moment = refl;
         place = refl;
-        task = λ q n. set_at-other (set_at s.task p ToPlace) p (ToUpdate 1) q n ∙ set_at-other s.task p ToPlace q n;
-        steps = λ q n. set_at-other (set_at s.steps p 0) p 0 q n ∙ set_at-other s.steps p 0 q n;
-        since = λ q n. set_at-other (set_at s.since p 0) p 0 q n ∙ set_at-other s.since p 0 q n;
+        spares = spares_task p s s1 (spares_next p s ToPlace 0 0) (ToUpdate 1) 0 0;
         count = first_count true;
         own = record {
           going = record { unnamed = unborn.1; left = unborn.2 };

@@ -28,25 +28,34 @@ module _ (o : RenameObject) (h : IsStanding o) where
   pub same_in : (p i j : ℕ) → 1 ≤ o.count p → IsRecent o p i → IsRecent o p j → o.moment i p ≡ o.moment j p
   same_in p i j c a b = h.same p i c a ∙ sym (h.same p j c b)
 
+  -- no two propose n alone, each in a moment since its last proposal
+  pub one_sole : (p q n i j : ℕ) → 1 ≤ o.count p → 1 ≤ o.count q → IsRecent o p i → IsRecent o q j → IsSole (o.moment i) p n → IsSole (o.moment j) q n → p ≡ q
+  one_sole p q n i j some other here there mine theirs = elim (eqb_tells p q) [
+    | inl e ↦ e.1
+    | inr e ↦ absurd (elim (leb_tells (o.since q) i) [
+      | inl l ↦
+          let still : IsRecent o q i = record { no_earlier = l.1; no_later = here.no_later } in
+          mine.alone q (λ k. e.1 (sym k)) (same_in q i j other still there ∙ theirs.own)
+      | inr l ↦
+          let a = here.no_earlier in
+          let b = there.no_earlier in
+          let c = l.1 in
+          let still : IsRecent o p j = record { no_earlier = omega arith; no_later = there.no_later } in
+          theirs.alone p e.1 (same_in p j i some still here ∙ mine.own)
+    ])
+  ]
+
   -- who proposes n alone in a moment since its last proposal may have it as its name: no one else has it
   pub nobody_has : (p n : ℕ) (view : List (ℕ × ℕ)) → o.name p ≡ None → 1 ≤ o.count p → ShowsSole o p n view → (q : ℕ) → o.name q ≢ Some n
   nobody_has p n view none some k q named =
-      let other : p ≢ q = λ e. (let both : None ≡ Some n = sym none ∙ ap o.name e ∙ named in cc) in
       let his = h.held q n named in
-      elim (leb_tells (o.since q) k.index) [
-        | inl e ↦
-            let here : IsRecent o q k.index = record { no_earlier = e.1; no_later = k.recent.no_later } in
-            let stands : o.moment k.index q ≡ Some n = same_in q k.index his.index his.some here his.recent ∙ his.sole.own in
-            k.sole.alone q (λ f. other (sym f)) stands
-        | inr e ↦
-            let a = k.recent.no_earlier in
-            let b = his.recent.no_earlier in
-            let c = his.recent.no_later in
-            let l = e.1 in
-            let there : IsRecent o p his.index = record { no_earlier = omega arith; no_later = c } in
-            let stands : o.moment his.index p ≡ Some n = same_in p his.index k.index some there k.recent ∙ k.sole.own in
-            his.sole.alone p other stands
-      ]
+      let same : p ≡ q = one_sole p q n k.index his.index some his.some k.recent his.recent k.sole his.sole in
+      let both : None ≡ Some n = sym none ∙ ap o.name same ∙ named in
+      absurd (cc)
+
+  -- no two have one name
+  pub distinct_names : (p q n : ℕ) → o.name p ≡ Some n → o.name q ≡ Some n → p ≡ q
+  distinct_names p q n mine theirs = let a = h.held p n mine in let b = h.held q n theirs in one_sole p q n a.index b.index a.some b.some a.recent b.recent a.sole b.sole
 
   -- a name is small
   pub name_small : (p n i : ℕ) → i ≤ o.last → IsSole (o.moment i) p n → (1 ≤ n) × (n ≤ 2 * o.many - 1)
@@ -63,47 +72,38 @@ standing_fresh o since count moment name = record {
   held = λ p n e. absurd (let no : None ≡ Some n = sym (name p) ∙ e in cc);
 }
 
--- places, and who is spent, do not matter
-pub standing_elsewhere : (o : RenameObject) (place : ℕ → Option ℕ) (spent : ℕ → Bool) → IsStanding o → IsStanding (record o { place = place; spent = spent })
-standing_elsewhere o place spent h = record {
+-- with no new proposal: places, and who is spent, do not matter; more may begin, and one have a name that it may hold
+standing_with : (o : RenameObject) (begun : ℕ → Bool) (many : ℕ) (place name : ℕ → Option ℕ) (spent : ℕ → Bool) → ((q : ℕ) → o.begun q ≡ true → begun q ≡ true) → o.many ≤ many → IsStanding o → ((q m : ℕ) → name q ≡ Some m → IsHeld o q m) →
+    IsStanding (record o { begun = begun; many = many; place = place; name = name; spent = spent })
+standing_with o begun many place name spent more up h held = record {
   past = h.past;
-  same = λ q j c r. h.same q j c (record { no_earlier = r.no_earlier; no_later = r.no_later });
+  same = λ q i c r. h.same q i c (record { no_earlier = r.no_earlier; no_later = r.no_later });
   absent = h.absent;
-  begun = h.begun;
-  small = h.small;
-  held = λ q m e. let k = h.held q m e in record { begun = k.begun; some = k.some; index = k.index; recent = record { no_earlier = k.recent.no_earlier; no_later = k.recent.no_later }; sole = k.sole };
+  begun = λ q i n l e. more q (h.begun q i n l e);
+  small = λ q i n l e. let k = h.small q i n l e in (k.0, (let a = k.1 in omega arith));
+  held = λ q m e. let k = held q m e in record { begun = more q k.begun; some = k.some; index = k.index; recent = record { no_earlier = k.recent.no_earlier; no_later = k.recent.no_later }; sole = k.sole };
 }
+
+pub standing_elsewhere : (o : RenameObject) (place : ℕ → Option ℕ) (spent : ℕ → Bool) → IsStanding o → IsStanding (record o { place = place; spent = spent })
+standing_elsewhere o place spent h = standing_with o o.begun o.many place o.name spent (λ q e. e) (omega arith) h h.held
 
 -- one more begins
 pub standing_begun : (o : RenameObject) (p : ℕ) → IsStanding o → IsStanding (record o { begun = set_at o.begun p true; many = o.many + 1 })
-standing_begun o p h =
-    let more : (q : ℕ) → o.begun q ≡ true → set_at o.begun p true q ≡ true = λ q e. (elim (eqb_tells q p) [ inl w ↦ rw w.0 refl | inr w ↦ rw w.0 e ]) in
-    record {
-      past = h.past;
-      same = λ q i c r. h.same q i c (record { no_earlier = r.no_earlier; no_later = r.no_later });
-      absent = h.absent;
-      begun = λ q i n l e. more q (h.begun q i n l e);
-      small = λ q i n l e. let k = h.small q i n l e in (k.0, (let a = k.1 in omega arith));
-      held = λ q n e. let k = h.held q n e in record { begun = more q k.begun; some = k.some; index = k.index; recent = record { no_earlier = k.recent.no_earlier; no_later = k.recent.no_later }; sole = k.sole };
-    }
+standing_begun o p h = standing_with o (set_at o.begun p true) (o.many + 1) o.place o.name o.spent (λ q e. elim (eqb_tells q p) [ inl w ↦ rw w.0 refl | inr w ↦ rw w.0 e ]) (omega arith) h h.held
 
 -- one has a name
 pub standing_named : (o : RenameObject) (p n i : ℕ) → IsStanding o → o.begun p ≡ true → 1 ≤ o.count p → IsRecent o p i → IsSole (o.moment i) p n → IsStanding (record o { name = set_at o.name p (Some n) })
-standing_named o p n i h begun some recent sole =
-    record {
-      past = h.past;
-      same = λ q j c r. h.same q j c (record { no_earlier = r.no_earlier; no_later = r.no_later });
-      absent = h.absent;
-      begun = h.begun;
-      small = h.small;
-      held = λ q m e. elim (eqb_tells q p) [
-        | inl w ↦
-            let k : Some n ≡ Some m = rw w.0 at e in
-            let is : n ≡ m = cc in
-            rw (w.1, ← is) (record { begun = begun; some = some; index = i; recent = record { no_earlier = recent.no_earlier; no_later = recent.no_later }; sole = sole })
-        | inr w ↦ let k = h.held q m (rw w.0 at e) in record { begun = k.begun; some = k.some; index = k.index; recent = record { no_earlier = k.recent.no_earlier; no_later = k.recent.no_later }; sole = k.sole }
-      ];
-    }
+standing_named o p n i h begun some recent sole = standing_with o o.begun o.many o.place (set_at o.name p (Some n)) o.spent (λ q e. e) (omega arith) h (λ q m e. elim (eqb_tells q p) [
+  | inl w ↦
+      let k : Some n ≡ Some m = rw w.0 at e in
+      let is : n ≡ m = cc in
+      rw (w.1, ← is) (record { begun = begun; some = some; index = i; recent = recent; sole = sole })
+  | inr w ↦ h.held q m (rw w.0 at e)
+])
+
+-- a proposal of p leaves what the others propose
+pub others_stand : (o : RenameObject) (p n q : ℕ) → q ≢ p → (after_step o p (Proposed n)).moment (o.last + 1) q ≡ o.moment o.last q
+others_stand o p n q other = ap (λ (f : ℕ → Option ℕ). f q) (set_at-same o.moment (o.last + 1) (set_at (o.moment o.last) p (Some n))) ∙ set_at-other (o.moment o.last) p (Some n) q other
 
 -- one who has no name proposes
 module _ (terms : RenameTerms) (o : RenameObject) (p s : ℕ) (h : IsStanding o) (unnamed : o.name p ≡ None) (begun : o.begun p ≡ true) (may : MayPropose terms o p s) where
@@ -120,7 +120,7 @@ module _ (terms : RenameTerms) (o : RenameObject) (p s : ℕ) (h : IsStanding o)
   new_own = ap (λ (f : ℕ → Option ℕ). f p) new_moment ∙ set_at-same (o.moment o.last) p (Some s)
 
   new_other : (q : ℕ) → q ≢ p → next.moment (o.last + 1) q ≡ o.moment o.last q
-  new_other q n = ap (λ (f : ℕ → Option ℕ). f q) new_moment ∙ set_at-other (o.moment o.last) p (Some s) q n
+  new_other = others_stand o p s
 
   since_own : next.since p ≡ o.last + 1
   since_own = set_at-same o.since p (o.last + 1)

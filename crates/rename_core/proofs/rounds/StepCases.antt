@@ -1,11 +1,15 @@
 -- a step of a renaming world by cases on who takes it
-use Rattle.std.proofs.Common.{◌≡◌, ℕ, ◌+◌, [], ◌∷◌, ◌++◌, length, get_or, set, Option, Some, None, Ok, Err, refl, sym, ap, ◌∙◌}
-use Rattle.std.specs.Prelude.{option_map}
+use Rattle.std.proofs.Common.{◌≡◌, true, false, ℕ, ◌+◌, [], ◌∷◌, ◌++◌, length, get_or, set, Option, Some, None, Ok, Err, refl, sym, ap, ◌∙◌}
+use Rattle.std.specs.Prelude.{option_map, option_and_then, is_some}
 use Rattle.step_memory.specs.declared.participant.Participant.{Participant}
 use Rattle.step_memory.specs.declared.refusal.Refusal.{Refusal}
 use Rattle.step_memory.specs.declared.refusal.Refusal.TheVariants.{NotBegun}
 use Rattle.step_memory.specs.Participant.{index_of, participant_of, program_of, identities, beginner}
 use Rattle.step_memory.specs.World.{begin_refusal, done_unless}
+use Rattle.step_memory.proofs.ParticipantLemmas.{participant_of-push}
+use Rattle.step_memory.proofs.SetAtLemmas.{set_at-same}
+use Rattle.step_memory.proofs.WorldKeeps.{let_in}
+use Rattle.snapshot_core.specs.declared.client.Client.{Client}
 use Rattle.step_memory.proofs.DistinctParticipants.{distinct_set, identities-push, identities-set}
 use Rattle.step_memory.proofs.Found.{Found, found, none-index_of, index_of-below}
 use Rattle.std.proofs.lemmas.List.{length-append, length-set, get_or_default}
@@ -15,10 +19,10 @@ use Rattle.rename_core.specs.declared.round.Round.{Round}
 use Rattle.rename_core.specs.Round.{stage_refusal, followed}
 use Rattle.rename_core.specs.RenameState.{RenameState, HasRoom}
 use Rattle.snapshot_core.specs.Places.{KnownPlaces}
-use Rattle.rename_core.specs.RenameWorld.{after_wish, snap_step, snap_told, after_follow, begun_snap, refusal_by, step_refusal, answer_told, answer_open, answer_by, after_told, after_open, after_by, rename_answer, after_rename_step}
+use Rattle.rename_core.specs.RenameWorld.{after_wish, snap_step, snap_told, after_follow, begun_snap, has_place, refusal_by, step_refusal, answer_told, answer_open, answer_by, after_told, after_open, after_by, rename_answer, after_rename_step}
 use Rattle.rename_core.specs.declared.round.Wish.{Wish}
 use Rattle.rename_core.specs.declared.round.Wish.TheVariants.{Nothing, Update, Scan}
-use Rattle.rename_core.proofs.Large.{IsAsLarge, scan_large, update_large, snap_large}
+use Rattle.rename_core.proofs.Large.{IsAsLarge, both_large, scan_large, update_large, snap_large}
 
 pub wish_large : {S U K : Type 0} (w : SnapState S U K) (p : ℕ) (wish : Wish) → IsAsLarge w (after_wish w p wish)
 wish_large w p Nothing = record { most = refl; many = refl; same = refl }
@@ -42,6 +46,24 @@ begun_large W w p wish goes =
     let new = beginner p (beginner_at W w.snap p) in
     let all : (begun_snap W w p).participants ≡ w.snap.participants ++ new ∷ [] = rw goes refl in
     record { most = b.most ∙ most; many = b.many ∙ ap length all ∙ length-append w.snap.participants (new ∷ []); known = b.same ∙ ap identities all ∙ identities-push w.snap.participants new }
+
+-- who begins is the last of those who take part
+module _ {S R V U K : Type 0} (W : KnownPlaces S R V U K) (w : RenameState S U K) (p : ℕ) (goes : begin_refusal w.snap p ≡ None) where
+  abbrev new : Participant (Client U K)
+  new = beginner p (beginner_at W w.snap p)
+
+  pub begun_own : participant_of p (begun_snap W w p).participants ≡ Some new
+  begun_own = rw goes (participant_of-push w.snap.participants new (let_in w.snap p goes).absent p ∙ set_at-same (λ u. participant_of u w.snap.participants) p (Some new))
+
+  pub begun_placed : has_place W w p ≡ is_some (W.place_of new.program.walker)
+  begun_placed = ap (λ (z : Option (Participant (Client U K))). is_some (option_and_then (λ c. W.place_of c.walker) (option_map (λ u. u.program) z))) begun_own
+
+  -- it has no round yet, where those who take part are those who have one
+  pub no_round : is_some (participant_of p w.snap.participants) ≡ is_some (participant_of p w.rounds) → participant_of p w.rounds ≡ None
+  no_round joined = elim (participant_of p w.rounds) as (λ z. participant_of p w.rounds ≡ z → z ≡ None) [
+    | None ↦ λ _. refl
+    | Some v ↦ λ e. absurd (let no : false ≡ true = sym (ap is_some (let_in w.snap p goes).absent) ∙ joined ∙ ap is_some e in cc)
+  ] refl
 
 -- why a step is refused, by where the round stands among the rounds
 module _ {S U K : Type 0} (w : RenameState S U K) (p : ℕ) where
@@ -89,10 +111,7 @@ module _ {S R V U K : Type 0} (W : KnownPlaces S R V U K) (w : RenameState S U K
 
   -- as many take part after the step and what is asked for after it
   pub step_large : (wish : Wish) → IsAsLarge w.snap (after_wish (snap_step W w p) p wish)
-  step_large wish =
-      let a = snap_large W w.snap p in
-      let b = wish_large (snap_step W w p) p wish in
-      record { most = b.most ∙ a.most; many = b.many ∙ a.many; same = b.same ∙ a.same }
+  step_large wish = both_large w.snap (snap_step W w p) (after_wish (snap_step W w p) p wish) (snap_large W w.snap p) (wish_large (snap_step W w p) p wish)
 
   module _ (v : Participant Round) (here : participant_of p w.rounds ≡ Some v) where
     there : program_of p w.rounds ≡ Some v.program

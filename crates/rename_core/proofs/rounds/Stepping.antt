@@ -1,13 +1,14 @@
 -- a step of a renaming world, by what its snapshot object answers
-use Rattle.std.proofs.Common.{◌≡◌, ◌≢◌, ℕ, ◌+◌, ◌-◌, ◌*◌, ◌<◌, ◌≤◌, ◌==◌, Bool, true, false, not, cond, List, [], ◌∷◌, length, Option, Some, Ok, inl, inr, refl, sym, ap, subst, ◌∙◌, arith}
+use Rattle.std.proofs.Common.{◌≡◌, ◌≢◌, ℕ, ◌+◌, ◌-◌, ◌*◌, ◌<◌, ◌≤◌, Bool, true, false, not, cond, List, length, Option, Some, Ok, inl, inr, refl, sym, ap, subst, ◌∙◌, arith}
 use Rattle.std.specs.Prelude.{is_some, nat_lt, nat_le}
 use Rattle.std.proofs.lemmas.Bool.Decides.{eqb_tells, leb_tells}
 use Rattle.std.proofs.lemmas.Bool.{lt-ltb}
 use Rattle.step_memory.specs.SetAt.{set_at}
 use Rattle.step_memory.specs.View.{value_of}
-use Rattle.step_memory.proofs.SetAtLemmas.{set_at-same, set_at-other}
+use Rattle.step_memory.proofs.SetAtLemmas.{set_at-same}
 use Rattle.step_memory.specs.declared.participant.Participant.{Participant}
 use Rattle.step_memory.specs.Participant.{participant_of}
+use Rattle.step_memory.proofs.ParticipantLemmas.{some_begun}
 use Rattle.step_memory.specs.World.{done_unless}
 use Rattle.snapshot_core.specs.Places.{KnownPlaces}
 use Rattle.snapshot_core.specs.declared.client.SnapReply.{SnapReply}
@@ -29,28 +30,17 @@ use Rattle.rename_core.specs.RenameState.{RenameState}
 use Rattle.rename_core.specs.RenameWorld.{after_wish, world_with, snap_step, snap_told}
 use Rattle.rename_core.specs.RenameObject.{RenameTerms, RenameObject, IsRecent, IsSole, IsConflict, MayPropose, ShowsSole, AllowsStep, after_step}
 use Rattle.rename_core.specs.Pace.{Phase, Pace, IsStepOf, IsInTime, most_steps, paced_step}
-use Rattle.rename_core.specs.Pace.Phase.{ToPlace as ToGo, ToPropose, ToLook, AtEnd}
+use Rattle.rename_core.specs.Pace.Phase.{ToPlace as ToGo, ToPropose, ToLook}
 use Rattle.rename_core.proofs.rounds.Standing.{nobody_has, standing_elsewhere, name_small, standing_named, standing_proposed}
 use Rattle.snapshot_core.specs.Standing.{StandsAt, GoesBusy, is_quiet}
 use Rattle.snapshot_core.proofs.Clients.{goes_idle}
-use Rattle.rename_core.proofs.Large.{IsAsLarge, snap_large, scan_large, update_large}
+use Rattle.rename_core.proofs.Large.{both_large, snap_large, scan_large, update_large}
 use Rattle.rename_core.proofs.rounds.Views.{taken_by, taken_not}
 use Rattle.rename_core.proofs.rounds.Numbers.{next_small}
-use Rattle.rename_core.proofs.rounds.Tied.{IsPlacing, IsProposing, IsLooking, IsAtStage, IsCounted, Carries, IsTied, tied_next}
-
--- a scan that goes on began no earlier
-pub since_kept : (s t : SnapObject) (q : ℕ) → t.steps q ≡ s.steps q → t.since q ≡ s.since q → s.last ≤ t.last → since_of s q ≤ since_of t q
-since_kept s t q a b l = rw (a, b) (elim (s.steps q == 0) as (λ z. cond z s.last (s.since q) ≤ cond z t.last (s.since q)) [ true ↦ l | false ↦ omega arith ])
-
-pub some_there : {P : Type 0} (p : ℕ) (ps : List (Participant P)) (v : Participant P) → participant_of p ps ≡ Some v → 1 ≤ length ps
-some_there p [] v h = absurd (cc)
-some_there p (x ∷ ps) v h = omega arith
+use Rattle.rename_core.proofs.rounds.Tied.{IsPlacing, IsProposing, IsLooking, IsAtStage, IsCounted, IsTied, IsStepped, spares_task, spares_stepped, tied_next}
 
 same_moment : (m n : ℕ → ℕ → Option ℕ) (l k : ℕ) (t : Task) (p value : ℕ) → m ≡ n → l ≡ k → t ≡ ToUpdate value → set_at m (l + 1) (set_at (m l) p (Some value)) ≡ set_at n (k + 1) (set_at (n k) p (value_written t))
 same_moment m n l k t p value e f g = rw (e, f, g) refl
-
-both_large : {S U K : Type 0} (a b c : SnapState S U K) → IsAsLarge a b → IsAsLarge b c → IsAsLarge a c
-both_large a b c h k = record { most = k.most ∙ h.most; many = k.many ∙ h.many; same = k.same ∙ h.same }
 
 -- who has made proposals, the last of them stands in the memory
 pub standing_made : (count proposal : ℕ) (stage : Stage) → 1 ≤ count → standing_by (record { count = count; proposal = proposal; stage = stage }) ≡ Some proposal
@@ -79,24 +69,28 @@ module _ {S R V U K : Type 0} (W : KnownPlaces S R V U K) (terms : RenameTerms) 
   begun_is = i.begun p ∙ ap is_some here
 
   many_some : 1 ≤ o.many
-  many_some = let a = i.many in let b = some_there p w.rounds v here in omega arith
+  many_some = let a = i.many in let b = some_begun p w.rounds v here in omega arith
 
   counted : IsCounted o p r
   counted = i.counts p v here
 
-  -- p has made another step, and has this to do
-  module _ (reply : SnapReply) (n : ℕ) (answer : snap_told W w p ≡ Ok reply) (stands : StandsAt snap' p (not (is_quiet reply)) n) (others : (q : ℕ) → q ≢ p → participant_of q snap'.participants ≡ participant_of q w.snap.participants) where
-    abbrev s1 : SnapObject
-    s1 = observed_step s p reply
+  -- the snapshot object may answer so
+  tie_stepped : (reply : SnapReply) → snap_told W w p ≡ Ok reply → Tie snap' (observed_step s p reply) × SnapAllowsStep bounds s p reply
+  tie_stepped reply answer = tie_goes w.snap s (SnapStepped p (Ok reply)) i.tie (inl (sym answer))
 
-    tie_stepped : Tie snap' s1 × SnapAllowsStep bounds s p reply
-    tie_stepped = tie_goes w.snap s (SnapStepped p (Ok reply)) i.tie (inl (sym answer))
+  abbrev Others : Type 0
+  Others = (q : ℕ) → q ≢ p → participant_of q snap'.participants ≡ participant_of q w.snap.participants
 
-    large : IsAsLarge w.snap snap'
-    large = snap_large W w.snap p
-
-    there : is_some (participant_of p snap'.participants) ≡ true
-    there = ap is_some stands.is
+  -- nothing more is asked for
+  stepped_by : (reply : SnapReply) (idle : Bool) (n : ℕ) → snap_told W w p ≡ Ok reply → StandsAt snap' p idle n → Others → (observed_step s p reply).begun ≡ s.begun → IsStepped terms Tie w o t i p v here snap' (observed_step s p reply)
+  stepped_by reply idle n answer stands others many = record {
+    tie = (tie_stepped reply answer).0;
+    snap_many = many;
+    large = snap_large W w.snap p;
+    there = ap is_some stands.is;
+    who = others;
+    spares = spares_stepped p s reply;
+  }
 
   -- the bounds of the snapshot object are those of the law
   bound_is : (phase : Phase) (task : Task) → s.task p ≡ task → snap_most bounds s.begun task ≡ most_steps bounds s.begun phase → snap_most bounds s.begun (s.task p) ≡ most_steps bounds t.begun phase
@@ -111,34 +105,8 @@ module _ {S R V U K : Type 0} (W : KnownPlaces S R V U K) (terms : RenameTerms) 
       let c : most_steps bounds t.begun (t.phase p) ≡ most_steps bounds t.begun phase = ap (most_steps bounds t.begun) e in
       omega arith
 
-  -- others are as they were, where the object's moments are
-  module _ (u : SnapObject) (snap : SnapState S U K) (o' : RenameObject) (t' : Pace) where
-    pub record Spared : Type 0 where
-      pub task : (q : ℕ) → q ≢ p → u.task q ≡ s.task q
-      pub steps : (q : ℕ) → q ≢ p → u.steps q ≡ s.steps q
-      pub since : (q : ℕ) → q ≢ p → u.since q ≡ s.since q
-      pub last : s.last ≤ u.last
-      pub who : (q : ℕ) → q ≢ p → participant_of q snap.participants ≡ participant_of q w.snap.participants
-
-    spared_carries : Spared → o.many ≤ o'.many → (q : ℕ) → q ≢ p → o'.place q ≡ o.place q → o'.name q ≡ o.name q → o'.spent q ≡ o.spent q → o'.count q ≡ o.count q → o'.since q ≡ o.since q → o'.moment o'.last q ≡ o.moment o.last q → t'.phase q ≡ t.phase q → t'.steps q ≡ t.steps q → Carries o o' t t' s u w.snap snap q
-    spared_carries k many q n place name spent count since now phase pace = record {
-      place = place;
-      name = name;
-      spent = spent;
-      count = count;
-      since = since;
-      many = many;
-      now = now;
-      task = k.task q n;
-      later = since_kept s u q (k.steps q n) (k.since q n) k.last;
-      who = k.who q n;
-      phase = phase;
-      pace = pace;
-      snap_pace = k.steps q n;
-    }
-
   -- quiet
-  module _ (n : ℕ) (answer : snap_told W w p ≡ Ok Silent) (stands : StandsAt snap' p false n) (others : (q : ℕ) → q ≢ p → participant_of q snap'.participants ≡ participant_of q w.snap.participants) where
+  module _ (n : ℕ) (answer : snap_told W w p ≡ Ok Silent) (stands : StandsAt snap' p false n) (others : Others) where
     abbrev quiet_s : SnapObject
     quiet_s = stepped_to s p (s.task p)
 
@@ -161,98 +129,59 @@ module _ {S R V U K : Type 0} (W : KnownPlaces S R V U K) (terms : RenameTerms) 
     quiet_gone timed own = record {
       timed = timed;
       allowed = tt;
-      tied = tied_next terms Tie w o t i p v here snap' r o quiet_t quiet_s (record {
-        tie = (tie_stepped Silent n answer stands others).0;
-        as_many = refl;
-        snap_many = refl;
-        many = refl;
-        begun = refl;
-        large = large Silent n answer stands others;
-        there = there Silent n answer stands others;
+      tied = tied_next terms Tie w o t i p v here snap' r Quiet quiet_s (record {
+        stepped = stepped_by Silent false n answer stands others refl;
         last = i.last;
         moment = i.moment;
         place = i.place;
         standing = i.standing;
-        carries = λ q n. spared_carries quiet_s snap' o quiet_t (record {
-          task = λ q n. set_at-other s.task p (s.task p) q n;
-          steps = λ q n. set_at-other s.steps p (s.steps p + 1) q n;
-          since = λ q n. set_at-other s.since p (since_of s p) q n;
-          last = omega arith;
-          who = others;
-        }) (omega arith) q n refl refl refl refl refl refl refl (set_at-other t.steps p (t.steps p + 1) q n);
         count = counted;
         own = own;
       });
     }
 
   -- asked for an update, with these moments
-  module _ (reply : SnapReply) (n value : ℕ) (answer : snap_told W w p ≡ Ok reply) (stands : StandsAt snap' p true n) (others : (q : ℕ) → q ≢ p → participant_of q snap'.participants ≡ participant_of q w.snap.participants) (few : n < 1000000) where
+  module _ (reply : SnapReply) (n value : ℕ) (answer : snap_told W w p ≡ Ok reply) (stands : StandsAt snap' p true n) (others : Others) (few : n < 1000000) where
     abbrev update_s : SnapObject
     update_s = with_update (asked_for (observed_step s p reply) p (ToUpdate value)) p
 
     abbrev update_w : SnapState S U K
     update_w = after_update snap' p value
 
-    tie_updated : Tie snap' (observed_step s p reply) → Tie update_w update_s
-    tie_updated k = (tie_goes snap' (observed_step s p reply) (Updated p value (Ok tt)) k (sym (ap done_unless ((goes_idle W snap' p n stands).update few)))).0
-
-    update_who : (q : ℕ) → q ≢ p → participant_of q update_w.participants ≡ participant_of q w.snap.participants
-    update_who q k = ((goes_idle W snap' p n stands).more few value).others q k ∙ others q k
-
-    update_size : IsAsLarge w.snap update_w
-    update_size = both_large w.snap snap' update_w (snap_large W w.snap p) (update_large snap' p value)
-
-    update_there : is_some (participant_of p update_w.participants) ≡ true
-    update_there = ap is_some ((goes_idle W snap' p n stands).more few value).stands.is
+    updated : (observed_step s p reply).begun ≡ s.begun → IsStepped terms Tie w o t i p v here update_w update_s
+    updated many = record {
+      tie = (tie_goes snap' (observed_step s p reply) (Updated p value (Ok tt)) (tie_stepped reply answer).0 (sym (ap done_unless ((goes_idle W snap' p n stands).update few)))).0;
+      snap_many = many;
+      large = both_large w.snap snap' update_w (snap_large W w.snap p) (update_large snap' p value);
+      there = ap is_some ((goes_idle W snap' p n stands).more few value).stands.is;
+      who = λ q k. ((goes_idle W snap' p n stands).more few value).others q k ∙ others q k;
+      spares = spares_task p s (observed_step s p reply) (spares_stepped p s reply) (ToUpdate value) 0 0;
+    }
 
     update_task : update_s.task p ≡ ToUpdate value
     update_task = set_at-same (observed_step s p reply).task p (ToUpdate value)
 
   -- placed
-  module _ (x : ℕ) (answer : snap_told W w p ≡ Ok (HasPlace x)) (stands : StandsAt snap' p true 0) (others : (q : ℕ) → q ≢ p → participant_of q snap'.participants ≡ participant_of q w.snap.participants) (h : IsPlacing o t s w.snap p r) where
-    placed_tie : Tie snap' (observed_step s p (HasPlace x)) × SnapAllowsStep bounds s p (HasPlace x)
-    placed_tie = tie_goes w.snap s (SnapStepped p (Ok (HasPlace x))) i.tie (inl (sym answer))
-
+  module _ (x : ℕ) (answer : snap_told W w p ≡ Ok (HasPlace x)) (stands : StandsAt snap' p true 0) (others : Others) (h : IsPlacing o t s w.snap p r) where
     placed_few : 0 < 1000000
     placed_few = omega arith
 
     abbrev placed_s : SnapObject
     placed_s = with_update (asked_for (observed_step s p (HasPlace x)) p (ToUpdate 1)) p
 
-    abbrev placed_w : SnapState S U K
-    placed_w = update_w (HasPlace x) 0 1 answer stands others placed_few
-
-    abbrev placed_o : RenameObject
-    placed_o = after_step o p (Placed x)
-
-    abbrev placed_t : Pace
-    placed_t = paced_step t p (Placed x)
-
     placed_gone : HasGone (record { round = at_stage r (Proposing 1); wish = Update 1; reply = Placed x })
     placed_gone =
-        let new = placed_tie.1.2 in
+        let stepped = tie_stepped (HasPlace x) answer in
+        let new = stepped.1.2 in
         record {
-          timed = step_of ToGo ToPlace h.phase h.task h.pace refl placed_tie.1.1;
+          timed = step_of ToGo ToPlace h.phase h.task h.pace refl stepped.1.1;
           allowed = record { first = ap (λ (f : ℕ → Option ℕ). f p) i.place ∙ new.first; free = λ q e. new.free q (sym (ap (λ (f : ℕ → Option ℕ). f q) i.place) ∙ e) };
-          tied = tied_next terms Tie w o t i p v here placed_w (at_stage r (Proposing 1)) placed_o placed_t placed_s (record {
-            tie = tie_updated (HasPlace x) 0 1 answer stands others placed_few placed_tie.0;
-            as_many = refl;
-            snap_many = refl;
-            many = refl;
-            begun = refl;
-            large = update_size (HasPlace x) 0 1 answer stands others placed_few;
-            there = update_there (HasPlace x) 0 1 answer stands others placed_few;
+          tied = tied_next terms Tie w o t i p v here (update_w (HasPlace x) 0 1 answer stands others placed_few) (at_stage r (Proposing 1)) (Placed x) placed_s (record {
+            stepped = updated (HasPlace x) 0 1 answer stands others placed_few refl;
             last = i.last;
             moment = i.moment;
             place = ap (λ (f : ℕ → Option ℕ). set_at f p (Some x)) i.place;
             standing = standing_elsewhere o (set_at o.place p (Some x)) o.spent i.standing;
-            carries = λ q n. spared_carries placed_s placed_w placed_o placed_t (record {
-              task = λ q n. set_at-other (set_at s.task p Idle) p (ToUpdate 1) q n ∙ set_at-other s.task p Idle q n;
-              steps = λ q n. set_at-other (set_at s.steps p (s.steps p + 1)) p 0 q n ∙ set_at-other s.steps p (s.steps p + 1) q n;
-              since = λ q n. set_at-other (set_at s.since p (since_of s p)) p 0 q n ∙ set_at-other s.since p (since_of s p) q n;
-              last = omega arith;
-              who = update_who (HasPlace x) 0 1 answer stands others placed_few;
-            }) (omega arith) q n (set_at-other o.place p (Some x) q n) refl refl refl refl refl (set_at-other t.phase p ToPropose q n) (set_at-other t.steps p 0 q n);
             count = record { count = counted.count; now = counted.now };
             own = record {
               going = record { unnamed = h.going.unnamed; left = h.going.left };
@@ -260,7 +189,7 @@ module _ {S R V U K : Type 0} (W : KnownPlaces S R V U K) (terms : RenameTerms) 
               positive = omega arith;
               small = (let b = many_some in omega arith);
               task = update_task (HasPlace x) 0 1 answer stands others placed_few;
-              stands = subst (λ (m : ℕ). StandsAt placed_w p false (m + 1)) (sym h.none) ((goes_idle W snap' p 0 stands).more placed_few 1).stands;
+              stands = subst (λ (m : ℕ). StandsAt (update_w (HasPlace x) 0 1 answer stands others placed_few) p false (m + 1)) (sym h.none) ((goes_idle W snap' p 0 stands).more placed_few 1).stands;
               phase = set_at-same t.phase p ToPropose;
               pace = set_at-same t.steps p 0 ∙ sym (set_at-same (set_at s.steps p (s.steps p + 1)) p 0);
             };
@@ -268,7 +197,7 @@ module _ {S R V U K : Type 0} (W : KnownPlaces S R V U K) (terms : RenameTerms) 
         }
 
   -- written
-  module _ (number : ℕ) (answer : snap_told W w p ≡ Ok Written) (stands : StandsAt snap' p true (r.count + 1)) (others : (q : ℕ) → q ≢ p → participant_of q snap'.participants ≡ participant_of q w.snap.participants) (h : IsProposing terms o t s w.snap p number r) (at : r.stage ≡ Proposing number) where
+  module _ (number : ℕ) (answer : snap_told W w p ≡ Ok Written) (stands : StandsAt snap' p true (r.count + 1)) (others : Others) (h : IsProposing terms o t s w.snap p number r) (at : r.stage ≡ Proposing number) where
     abbrev written_s : SnapObject
     written_s = asked_for (observed_step s p Written) p ToScan
 
@@ -278,14 +207,11 @@ module _ {S R V U K : Type 0} (W : KnownPlaces S R V U K) (terms : RenameTerms) 
     abbrev written_o : RenameObject
     written_o = after_step o p (Proposed number)
 
-    abbrev written_t : Pace
-    written_t = paced_step t p (Proposed number)
-
     abbrev written_r : Round
     written_r = record { count = r.count + 1; proposal = number; stage = Looking }
 
     written_tie : Tie written_w written_s
-    written_tie = (tie_goes snap' (observed_step s p Written) (Scanned p (Ok tt)) (tie_goes w.snap s (SnapStepped p (Ok Written)) i.tie (inl (sym answer))).0 (sym (ap done_unless (goes_idle W snap' p (r.count + 1) stands).scan))).0
+    written_tie = (tie_goes snap' (observed_step s p Written) (Scanned p (Ok tt)) (tie_stepped Written answer).0 (sym (ap done_unless (goes_idle W snap' p (r.count + 1) stands).scan))).0
 
     may : MayPropose terms o p number
     may = record { positive = h.positive; small = h.small; rounds = (let a = h.rounds in let b = counted.count in omega arith) }
@@ -316,27 +242,21 @@ module _ {S R V U K : Type 0} (W : KnownPlaces S R V U K) (terms : RenameTerms) 
 
     written_next : HasGone written_follow
     written_next = record {
-      timed = step_of ToPropose (ToUpdate number) h.phase h.task h.pace refl (tie_goes w.snap s (SnapStepped p (Ok Written)) i.tie (inl (sym answer))).1.1;
+      timed = step_of ToPropose (ToUpdate number) h.phase h.task h.pace refl (tie_stepped Written answer).1.1;
       allowed = may;
-      tied = tied_next terms Tie w o t i p v here written_w written_r written_o written_t written_s (record {
-        tie = written_tie;
-        as_many = refl;
-        snap_many = refl;
-        many = refl;
-        begun = refl;
-        large = both_large w.snap snap' written_w (snap_large W w.snap p) (scan_large snap' p);
-        there = ap is_some (goes_idle W snap' p (r.count + 1) stands).scans.stands.is;
+      tied = tied_next terms Tie w o t i p v here written_w written_r (Proposed number) written_s (record {
+        stepped = record {
+          tie = written_tie;
+          snap_many = refl;
+          large = both_large w.snap snap' written_w (snap_large W w.snap p) (scan_large snap' p);
+          there = ap is_some (goes_idle W snap' p (r.count + 1) stands).scans.stands.is;
+          who = λ q n. (goes_idle W snap' p (r.count + 1) stands).scans.others q n ∙ others q n;
+          spares = spares_task p s (observed_step s p Written) (spares_stepped p s Written) ToScan 0 0;
+        };
         last = ap (λ (m : ℕ). m + 1) i.last;
         moment = written_moment;
         place = i.place;
         standing = standing_proposed terms o p number i.standing h.going.unnamed begun_is may;
-        carries = λ q n. spared_carries written_s written_w written_o written_t (record {
-          task = λ q n. set_at-other (set_at s.task p Idle) p ToScan q n ∙ set_at-other s.task p Idle q n;
-          steps = λ q n. set_at-other (set_at s.steps p (s.steps p + 1)) p 0 q n ∙ set_at-other s.steps p (s.steps p + 1) q n;
-          since = λ q n. set_at-other (set_at s.since p (since_of s p)) p 0 q n ∙ set_at-other s.since p (since_of s p) q n;
-          last = omega arith;
-          who = λ q n. (goes_idle W snap' p (r.count + 1) stands).scans.others q n ∙ others q n;
-        }) (omega arith) q n refl refl refl (set_at-other o.count p (o.count p + 1) q n) (set_at-other o.since p (o.last + 1) q n) (ap (λ (f : ℕ → Option ℕ). f q) written_now ∙ set_at-other (o.moment o.last) p (Some number) q n) (set_at-other t.phase p ToLook q n) (set_at-other t.steps p 0 q n);
         count = written_count;
         own = record {
           going = record { unnamed = h.going.unnamed; left = h.going.left };
@@ -363,15 +283,12 @@ module _ {S R V U K : Type 0} (W : KnownPlaces S R V U K) (terms : RenameTerms) 
         subst HasGone (sym is) written_next
 
   -- a view
-  module _ (view : List (ℕ × ℕ)) (answer : snap_told W w p ≡ Ok (Viewed view)) (stands : StandsAt snap' p true r.count) (others : (q : ℕ) → q ≢ p → participant_of q snap'.participants ≡ participant_of q w.snap.participants) (h : IsLooking terms o t s w.snap p r) where
+  module _ (view : List (ℕ × ℕ)) (answer : snap_told W w p ≡ Ok (Viewed view)) (stands : StandsAt snap' p true r.count) (others : Others) (h : IsLooking terms o t s w.snap p r) where
     abbrev viewed_s : SnapObject
     viewed_s = observed_step s p (Viewed view)
 
-    viewed_tie : Tie snap' viewed_s × SnapAllowsStep bounds s p (Viewed view)
-    viewed_tie = tie_goes w.snap s (SnapStepped p (Ok (Viewed view))) i.tie (inl (sym answer))
-
     shows : ShowsMoment s (since_of s p) view
-    shows = viewed_tie.1.2
+    shows = (tie_stepped (Viewed view) answer).1.2
 
     some : 1 ≤ o.count p
     some = let a = h.some in let b = counted.count in omega arith
@@ -394,19 +311,7 @@ module _ {S R V U K : Type 0} (W : KnownPlaces S R V U K) (terms : RenameTerms) 
         record { number = r.proposal; own = own_is; contested = record { other = k.0; not_own = k.1; proposes = sym (value_is k.0) ∙ k.2 } }
 
     viewed_time : IsStepOf bounds t p ToLook
-    viewed_time = step_of ToLook ToScan h.phase h.task h.pace refl viewed_tie.1.1
-
-    viewed_spared : (o' : RenameObject) (t' : Pace) → Spared viewed_s snap' o' t'
-    viewed_spared o' t' = record {
-      task = λ q n. set_at-other s.task p Idle q n;
-      steps = λ q n. set_at-other s.steps p (s.steps p + 1) q n;
-      since = λ q n. set_at-other s.since p (since_of s p) q n;
-      last = omega arith;
-      who = others;
-    }
-
-    abbrev ended_t : Pace
-    ended_t = paced_step t p Spent
+    viewed_time = step_of ToLook ToScan h.phase h.task h.pace refl (tie_stepped (Viewed view) answer).1.1
 
     -- nobody else proposes it
     module _ (alone : is_taken p view r.proposal ≡ false) where
@@ -416,26 +321,16 @@ module _ {S R V U K : Type 0} (W : KnownPlaces S R V U K) (terms : RenameTerms) 
       shows_sole : ShowsSole o p r.proposal view
       shows_sole = record { index = shows.index; recent = recent; is = record { rising = shows.is.rising; values = value_is }; sole = sole }
 
-      abbrev named_o : RenameObject
-      named_o = after_step o p (Named r.proposal view)
-
       named_gone : HasGone (named_by r view)
       named_gone = record {
         timed = viewed_time;
         allowed = (some, shows_sole, record { small = (name_small o i.standing p r.proposal shows.index recent.no_later sole).1; free = nobody_has o i.standing p r.proposal view h.going.unnamed some shows_sole });
-        tied = tied_next terms Tie w o t i p v here snap' (at_stage r Settled) named_o ended_t viewed_s (record {
-          tie = viewed_tie.0;
-          as_many = refl;
-          snap_many = refl;
-          many = refl;
-          begun = refl;
-          large = snap_large W w.snap p;
-          there = ap is_some stands.is;
+        tied = tied_next terms Tie w o t i p v here snap' (at_stage r Settled) (Named r.proposal view) viewed_s (record {
+          stepped = stepped_by (Viewed view) true r.count answer stands others refl;
           last = i.last;
           moment = i.moment;
           place = i.place;
           standing = standing_named o p r.proposal shows.index i.standing begun_is some recent sole;
-          carries = λ q n. spared_carries viewed_s snap' named_o ended_t (viewed_spared named_o ended_t) (omega arith) q n refl (set_at-other o.name p (Some r.proposal) q n) refl refl refl refl (set_at-other t.phase p AtEnd q n) (set_at-other t.steps p 0 q n);
           count = record { count = counted.count; now = counted.now };
           own = (h.some, set_at-same o.name p (Some r.proposal));
         });
@@ -443,26 +338,16 @@ module _ {S R V U K : Type 0} (W : KnownPlaces S R V U K) (terms : RenameTerms) 
 
     -- another does, and the rounds are used up
     module _ (contested : is_taken p view r.proposal ≡ true) (no_more : w.limit ≤ r.count) where
-      abbrev spent_o : RenameObject
-      spent_o = after_step o p Spent
-
       spent_gone : HasGone (spent_by r)
       spent_gone = record {
         timed = viewed_time;
         allowed = ((let a = h.rounds in let b = counted.count in let c = i.limit in omega arith), record { index = shows.index; recent = recent; conflict = conflict contested });
-        tied = tied_next terms Tie w o t i p v here snap' (at_stage r Over) spent_o ended_t viewed_s (record {
-          tie = viewed_tie.0;
-          as_many = refl;
-          snap_many = refl;
-          many = refl;
-          begun = refl;
-          large = snap_large W w.snap p;
-          there = ap is_some stands.is;
+        tied = tied_next terms Tie w o t i p v here snap' (at_stage r Over) Spent viewed_s (record {
+          stepped = stepped_by (Viewed view) true r.count answer stands others refl;
           last = i.last;
           moment = i.moment;
           place = i.place;
           standing = standing_elsewhere o o.place (set_at o.spent p true) i.standing;
-          carries = λ q n. spared_carries viewed_s snap' spent_o ended_t (viewed_spared spent_o ended_t) (omega arith) q n refl refl (set_at-other o.spent p true q n) refl refl refl (set_at-other t.phase p AtEnd q n) (set_at-other t.steps p 0 q n);
           count = record { count = counted.count; now = counted.now };
           own = (h.going.unnamed, set_at-same o.spent p true);
         });
@@ -488,32 +373,16 @@ module _ {S R V U K : Type 0} (W : KnownPlaces S R V U K) (terms : RenameTerms) 
       abbrev saw_w : SnapState S U K
       saw_w = update_w (Viewed view) r.count number answer stands others few_updates
 
-      abbrev saw_t : Pace
-      saw_t = paced_step t p (Saw view)
-
       saw_gone : HasGone (saw_by r p view)
       saw_gone = record {
         timed = viewed_time;
         allowed = (some, (let a = more in let b = counted.count in let c = i.limit in omega arith), record { index = shows.index; recent = recent; is = record { rising = shows.is.rising; values = value_is }; conflict = conflict contested });
-        tied = tied_next terms Tie w o t i p v here saw_w (at_stage r (Proposing number)) o saw_t saw_s (record {
-          tie = tie_updated (Viewed view) r.count number answer stands others few_updates viewed_tie.0;
-          as_many = refl;
-          snap_many = refl;
-          many = refl;
-          begun = refl;
-          large = update_size (Viewed view) r.count number answer stands others few_updates;
-          there = update_there (Viewed view) r.count number answer stands others few_updates;
+        tied = tied_next terms Tie w o t i p v here saw_w (at_stage r (Proposing number)) (Saw view) saw_s (record {
+          stepped = updated (Viewed view) r.count number answer stands others few_updates refl;
           last = i.last;
           moment = i.moment;
           place = i.place;
           standing = i.standing;
-          carries = λ q n. spared_carries saw_s saw_w o saw_t (record {
-            task = λ q n. set_at-other (set_at s.task p Idle) p (ToUpdate number) q n ∙ set_at-other s.task p Idle q n;
-            steps = λ q n. set_at-other (set_at s.steps p (s.steps p + 1)) p 0 q n ∙ set_at-other s.steps p (s.steps p + 1) q n;
-            since = λ q n. set_at-other (set_at s.since p (since_of s p)) p 0 q n ∙ set_at-other s.since p (since_of s p) q n;
-            last = omega arith;
-            who = update_who (Viewed view) r.count number answer stands others few_updates;
-          }) (omega arith) q n refl refl refl refl refl refl (set_at-other t.phase p ToPropose q n) (set_at-other t.steps p 0 q n);
           count = record { count = counted.count; now = counted.now };
           own = record {
             going = h.going;
@@ -546,29 +415,26 @@ module _ {S R V U K : Type 0} (W : KnownPlaces S R V U K) (terms : RenameTerms) 
   quiet_pace : t.steps p ≡ s.steps p → set_at t.steps p (t.steps p + 1) p ≡ set_at s.steps p (s.steps p + 1) p
   quiet_pace e = set_at-same t.steps p (t.steps p + 1) ∙ ap (λ (n : ℕ). n + 1) e ∙ sym (set_at-same s.steps p (s.steps p + 1))
 
-  abbrev Others : Type 0
-  Others = (q : ℕ) → q ≢ p → participant_of q snap'.participants ≡ participant_of q w.snap.participants
-
   pub placing_gone : IsPlacing o t s w.snap p r → r.stage ≡ Placing → (k : GoesBusy W w.snap p 0) → HasGone (followed r p k.reply w.limit)
   placing_gone h stage k = gone k.reply k.answer k.comes.stands k.comes.others where
     gone : (reply : SnapReply) → snap_told W w p ≡ Ok reply → StandsAt snap' p (not (is_quiet reply)) 0 → Others → HasGone (followed r p reply w.limit)
-    gone Silent answer stands others = quiet_gone 0 answer stands others (goes_on ToGo ToPlace h.phase h.task h.pace refl (tie_stepped Silent 0 answer stands others).1) (subst AtQuiet (sym stage) (record { going = h.going; none = h.none; unplaced = h.unplaced; task = quiet_task 0 answer stands others ∙ h.task; stands = stands; phase = h.phase; pace = quiet_pace h.pace }))
+    gone Silent answer stands others = quiet_gone 0 answer stands others (goes_on ToGo ToPlace h.phase h.task h.pace refl (tie_stepped Silent answer).1) (subst AtQuiet (sym stage) (record { going = h.going; none = h.none; unplaced = h.unplaced; task = quiet_task 0 answer stands others ∙ h.task; stands = stands; phase = h.phase; pace = quiet_pace h.pace }))
     gone (HasPlace x) answer stands others = placed_gone x answer stands others h
-    gone Written answer stands others = absurd (rw h.task at (tie_stepped Written 0 answer stands others).1.0)
-    gone (Viewed view) answer stands others = absurd (let e : ToPlace ≡ ToScan = sym h.task ∙ (tie_stepped (Viewed view) 0 answer stands others).1.0 in cc)
+    gone Written answer stands others = absurd (rw h.task at (tie_stepped Written answer).1.0)
+    gone (Viewed view) answer stands others = absurd (let e : ToPlace ≡ ToScan = sym h.task ∙ (tie_stepped (Viewed view) answer).1.0 in cc)
 
   pub proposing_gone : (number : ℕ) → IsProposing terms o t s w.snap p number r → r.stage ≡ Proposing number → (k : GoesBusy W w.snap p (r.count + 1)) → HasGone (followed r p k.reply w.limit)
   proposing_gone number h stage k = gone k.reply k.answer k.comes.stands k.comes.others where
     gone : (reply : SnapReply) → snap_told W w p ≡ Ok reply → StandsAt snap' p (not (is_quiet reply)) (r.count + 1) → Others → HasGone (followed r p reply w.limit)
-    gone Silent answer stands others = quiet_gone (r.count + 1) answer stands others (goes_on ToPropose (ToUpdate number) h.phase h.task h.pace refl (tie_stepped Silent (r.count + 1) answer stands others).1) (subst AtQuiet (sym stage) (record { going = h.going; rounds = h.rounds; positive = h.positive; small = h.small; task = quiet_task (r.count + 1) answer stands others ∙ h.task; stands = stands; phase = h.phase; pace = quiet_pace h.pace }))
-    gone (HasPlace x) answer stands others = absurd (let e : ToUpdate number ≡ ToPlace = sym h.task ∙ (tie_stepped (HasPlace x) (r.count + 1) answer stands others).1.0 in cc)
+    gone Silent answer stands others = quiet_gone (r.count + 1) answer stands others (goes_on ToPropose (ToUpdate number) h.phase h.task h.pace refl (tie_stepped Silent answer).1) (subst AtQuiet (sym stage) (record { going = h.going; rounds = h.rounds; positive = h.positive; small = h.small; task = quiet_task (r.count + 1) answer stands others ∙ h.task; stands = stands; phase = h.phase; pace = quiet_pace h.pace }))
+    gone (HasPlace x) answer stands others = absurd (let e : ToUpdate number ≡ ToPlace = sym h.task ∙ (tie_stepped (HasPlace x) answer).1.0 in cc)
     gone Written answer stands others = written_gone number answer stands others h stage
-    gone (Viewed view) answer stands others = absurd (let e : ToUpdate number ≡ ToScan = sym h.task ∙ (tie_stepped (Viewed view) (r.count + 1) answer stands others).1.0 in cc)
+    gone (Viewed view) answer stands others = absurd (let e : ToUpdate number ≡ ToScan = sym h.task ∙ (tie_stepped (Viewed view) answer).1.0 in cc)
 
   pub looking_gone : IsLooking terms o t s w.snap p r → r.stage ≡ Looking → (k : GoesBusy W w.snap p r.count) → HasGone (followed r p k.reply w.limit)
   looking_gone h stage k = gone k.reply k.answer k.comes.stands k.comes.others where
     gone : (reply : SnapReply) → snap_told W w p ≡ Ok reply → StandsAt snap' p (not (is_quiet reply)) r.count → Others → HasGone (followed r p reply w.limit)
-    gone Silent answer stands others = quiet_gone r.count answer stands others (goes_on ToLook ToScan h.phase h.task h.pace refl (tie_stepped Silent r.count answer stands others).1) (subst AtQuiet (sym stage) (record { going = h.going; some = h.some; rounds = h.rounds; task = quiet_task r.count answer stands others ∙ h.task; later = (let a = h.later in let b = quiet_since r.count answer stands others in omega arith); stands = stands; phase = h.phase; pace = quiet_pace h.pace }))
-    gone (HasPlace x) answer stands others = absurd (let e : ToScan ≡ ToPlace = sym h.task ∙ (tie_stepped (HasPlace x) r.count answer stands others).1.0 in cc)
-    gone Written answer stands others = absurd (rw h.task at (tie_stepped Written r.count answer stands others).1.0)
+    gone Silent answer stands others = quiet_gone r.count answer stands others (goes_on ToLook ToScan h.phase h.task h.pace refl (tie_stepped Silent answer).1) (subst AtQuiet (sym stage) (record { going = h.going; some = h.some; rounds = h.rounds; task = quiet_task r.count answer stands others ∙ h.task; later = (let a = h.later in let b = quiet_since r.count answer stands others in omega arith); stands = stands; phase = h.phase; pace = quiet_pace h.pace }))
+    gone (HasPlace x) answer stands others = absurd (let e : ToScan ≡ ToPlace = sym h.task ∙ (tie_stepped (HasPlace x) answer).1.0 in cc)
+    gone Written answer stands others = absurd (rw h.task at (tie_stepped Written answer).1.0)
     gone (Viewed view) answer stands others = viewed_gone view answer stands others h

@@ -1,4 +1,4 @@
-use Rattle.rename_core.proofs.Sizes.{next_most, next_limit}
+use Rattle.rename_core.proofs.Sizes.{next_sized}
 use Rattle.rename_core.proofs.NamedPlaces.{renaming_proved, answers_unrefused}
 use Rattle.snapshot_core.specs.Places.{KnownPlaces, places_by}
 use Rattle.rename_core.proofs.laws.law_of_renaming_calls.Given.{Over}
@@ -7,11 +7,9 @@ use Rattle.rename_core.proofs.laws.law_of_renaming_calls.Goals as goal
 abbrev pub known : (g : Over) → KnownPlaces g.row.W.Denot g.row.W-Reg.Denot g.row.W-Value.Denot g.row.W-Walker.Denot g.row.W-Walk.Denot
 known g = places_by g.W.Walker.StepProgram.steps g.W.Walker.PlaceWalker.place_of g.W.Walk.SegmentWalk.walks g.W.StepMemory.steps g.W.Places.most_of g.W.Places.walker_from g.W.Places.walk_from g.W.Places.ties
 
-pub returns-clause-machine : goal.returns-clause-machine
-returns-clause-machine g c = renaming_proved (known g) g.met.W.Places.laws g.W.RenamePlaces.world g.met.W.RenamePlaces.may_grow g.met.W.RenamePlaces.at_once
-
-pub returns-clause-answered : goal.returns-clause-answered
-returns-clause-answered g c = answers_unrefused (known g) g.met.W.Places.laws g.W.RenamePlaces.world g.met.W.RenamePlaces.may_grow g.met.W.RenamePlaces.at_once
-
-pub returns-clause-kept : goal.returns-clause-kept
-returns-clause-kept g c = λ w h. (next_most (known g) w h, next_limit (known g) w h)
+pub returns : goal.returns
+returns g c = record {
+  machine = renaming_proved _ g.met.W.Places.laws g.W.RenamePlaces.world g.met.W.RenamePlaces.may_grow g.met.W.RenamePlaces.at_once;
+  answered = answers_unrefused _ g.met.W.Places.laws g.W.RenamePlaces.world g.met.W.RenamePlaces.may_grow g.met.W.RenamePlaces.at_once;
+  kept = next_sized (known g);
+}

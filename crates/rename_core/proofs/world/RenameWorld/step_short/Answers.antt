@@ -12,24 +12,20 @@ use Rattle.rename_core.proofs.world.RenameWorld.step_short.Goals as goal
 abbrev pub known : (g : Over) → KnownPlaces g.row.W.Denot g.row.W-Reg.Denot g.row.W-Value.Denot g.row.W-Walker.Denot g.row.W-Walk.Denot
 known g = places_by g.W.Walker.StepProgram.steps g.W.Walker.PlaceWalker.place_of g.W.Walk.SegmentWalk.walks g.W.StepMemory.steps g.W.Places.most_of g.W.Places.walker_from g.W.Places.walk_from g.W.Places.ties
 
-pub returns-clause-after : goal.returns-clause-after
-returns-clause-after g c =
+pub returns : goal.returns
+returns g c =
     let told = outcome_with c.take_step.result c.take_step.new.view in
     let short = refused_short c.take_step.result c.take_step.new.view NoMemory in
     let goes = accepted_short c.take_step.result c.take_step.new.view NoMemory in
     let kept : told ≡ Err NoMemory → c.take_step.new.self ≡ c.args.self.now = λ e. let is = short e in search rules in
-    step_leads_on (known g) g.W.RenamePlaces.world c.args.self.now c.take_step.new.self c.args.id told
-    (λ e. c.take_step.ensures.state (goes e)) (λ e. c.take_step.ensures.answer (goes e)) (λ e. let m = c.take_step.ensures.no_memory (short e) in (kept e, m.0, m.1))
-
-pub returns-clause-law : goal.returns-clause-law
-returns-clause-law g c = law_always (known g) g.met.W.Places.laws g.W.RenamePlaces.world g.met.W.RenamePlaces.may_grow g.met.W.RenamePlaces.at_once c.take_step.new.self
-
-pub returns-clause-local : goal.returns-clause-local
-returns-clause-local g c =
-    let told = outcome_with c.take_step.result c.take_step.new.view in
-    let goes = accepted_short c.take_step.result c.take_step.new.view NoMemory in
-    let kept : told ≡ Err NoMemory → c.take_step.new.self ≡ c.args.self.now = λ e. let is = refused_short c.take_step.result c.take_step.new.view NoMemory e in search rules in
-    local_call (known g) g.met.W.StepMemory.others c.args.self.now c.take_step.new.self c.args.id told (λ e. c.take_step.ensures.state (goes e)) (λ e. c.take_step.ensures.answer (goes e)) kept
-
-pub returns-clause-own : goal.returns-clause-own
-returns-clause-own g c = own_access (known g) g.met.W.Places.laws g.W.RenamePlaces.world g.met.W.RenamePlaces.may_grow g.met.W.RenamePlaces.at_once c.args.self.now c.args.id
+    record {
+      answer = c.take_step.ensures.answer;
+      state = c.take_step.ensures.state;
+      refused = c.take_step.ensures.refused;
+      no_memory = c.take_step.ensures.no_memory;
+      after = step_leads_on (known g) g.W.RenamePlaces.world c.args.self.now c.take_step.new.self c.args.id told
+          (λ e. c.take_step.ensures.state (goes e)) (λ e. c.take_step.ensures.answer (goes e)) (λ e. let m = c.take_step.ensures.no_memory (short e) in (kept e, m.0, m.1));
+      law = law_always (known g) g.met.W.Places.laws g.W.RenamePlaces.world g.met.W.RenamePlaces.may_grow g.met.W.RenamePlaces.at_once c.take_step.new.self;
+      local = local_call (known g) g.met.W.StepMemory.others c.args.self.now c.take_step.new.self c.args.id told (λ e. c.take_step.ensures.state (goes e)) (λ e. c.take_step.ensures.answer (goes e)) kept;
+      own = own_access (known g) g.met.W.Places.laws g.W.RenamePlaces.world g.met.W.RenamePlaces.may_grow g.met.W.RenamePlaces.at_once c.args.self.now c.args.id;
+    }

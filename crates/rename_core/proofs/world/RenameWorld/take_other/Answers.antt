@@ -1,4 +1,4 @@
-use Rattle.std.proofs.Common.{arith, rules, ◌≡◌, Some, None, Ok, Err, sym, ap, ◌∙◌}
+use Rattle.std.proofs.Common.{arith, rules, ◌≡◌, ◌≢◌, Some, None, Ok, Err, sym, ap, ◌∙◌}
 use Rattle.step_memory.specs.Participant.{index_of}
 use Rattle.step_memory.specs.declared.refusal.Refusal.TheVariants.{NoMemory}
 use Rattle.step_memory.proofs.Found.{index_of-below}
@@ -7,7 +7,7 @@ use Rattle.snapshot_core.specs.SnapWorld.{after_snap_step}
 use Rattle.rename_core.specs.declared.round.Follow.{Follow}
 use Rattle.rename_core.specs.Reply.{outcome_with}
 use Rattle.rename_core.specs.RenameState.{RenameState}
-use Rattle.rename_core.specs.RenameWorld.{after_wish, snap_told, step_refusal}
+use Rattle.rename_core.specs.RenameWorld.{after_wish, snap_told, step_refusal, rename_answer}
 use Rattle.rename_core.specs.Round.{followed}
 use Rattle.rename_core.proofs.rounds.StepCases.{step_refused, refused_answer, followed_answer, followed_state, followed_room}
 use Rattle.rename_core.proofs.world.RenameWorld.take_other.Given.{Over}
@@ -33,29 +33,20 @@ asked g c =
     let stepped : c.step.new.self ≡ after_snap_step (known g) c.self.inside.snap c.args.id = c.in_ok-told.ensures.state (λ e. absurd (cc)) in
     rw (← stepped) c.follow.ensures.asked
 
-pub returns-in_err-told-clause-answer : goal.returns-in_err-told-clause-answer
-returns-in_err-told-clause-answer g c = λ goes.
-    let is : c.from_residual.result ≡ Err c.in_err-told.field-0.0 = search rules in
-    let k : Err c.in_err-told.field-0.0 ≡ snap_told (known g) (before g (goal.at.returns-in_err-told-clause-answer g c).After-step) c.args.id =
-    c.in_err-told.ensures.answer (λ e. let same : c.in_err-told.field-0.0 ≡ NoMemory = cc in goes (is ∙ ap Err same)) in
-    ap (λ x. outcome_with x c.args.view.now) is ∙
-    rw (← c.self.view_is) (refused_answer (known g) (before g (goal.at.returns-in_err-told-clause-answer g c).After-step) c.args.id c.in_err-told.field-0.0 (ready g (goal.at.returns-in_err-told-clause-answer g c).After-step) k)
-
-pub returns-in_err-told-clause-state : goal.returns-in_err-told-clause-state
-returns-in_err-told-clause-state g c = λ goes.
-    let is : c.from_residual.result ≡ Err c.in_err-told.field-0.0 = search rules in
-    let k : Err c.in_err-told.field-0.0 ≡ snap_told (known g) (before g (goal.at.returns-in_err-told-clause-state g c).After-step) c.args.id =
-    c.in_err-told.ensures.answer (λ e. let same : c.in_err-told.field-0.0 ≡ NoMemory = cc in goes (is ∙ ap Err same)) in
+pub returns-in_err-told : goal.returns-in_err-told
+returns-in_err-told g c =
+    let s = (goal.at.returns-in_err-told g c).After-step in
+    let why = c.in_err-told.field-0.0 in
+    let is : c.from_residual.result ≡ Err why = search rules in
     let kept : c.step.new.self ≡ c.self.inside.snap = c.in_err-told.ensures.refused in
-    let s = (goal.at.returns-in_err-told-clause-state g c).After-step in
-    let answer = refused_answer (known g) (before g s) c.args.id c.in_err-told.field-0.0 (ready g s) k in
-    rw (kept, ← c.self.view_is) (sym (step_refused (known g) (before g s) c.args.id c.in_err-told.field-0.0 (sym answer)))
-
-pub returns-in_err-told-clause-no_memory : goal.returns-in_err-told-clause-no_memory
-returns-in_err-told-clause-no_memory g c = λ e.
-    let is : c.from_residual.result ≡ Err c.in_err-told.field-0.0 = search rules in
-    let same : c.in_err-told.field-0.0 ≡ NoMemory = cc in
-    rw (← c.self.view_is) (ready g (goal.at.returns-in_err-told-clause-no_memory g c).After-step, c.in_err-told.ensures.no_memory (ap Err same))
+    let told : c.from_residual.result ≢ Err NoMemory → Err why ≡ snap_told (known g) (before g s) c.args.id = λ goes. c.in_err-told.ensures.answer (λ e. let same : why ≡ NoMemory = cc in goes (is ∙ ap Err same)) in
+    let answer : c.from_residual.result ≢ Err NoMemory → Err why ≡ rename_answer (known g) (before g s) c.args.id = λ goes. refused_answer (known g) (before g s) c.args.id why (ready g s) (told goes) in
+    record {
+      answer = λ goes. ap (λ x. outcome_with x c.args.view.now) is ∙ rw (← c.self.view_is) (answer goes);
+      state = λ goes. rw (kept, ← c.self.view_is) (sym (step_refused (known g) (before g s) c.args.id why (sym (answer goes))));
+      refused = search rules;
+      no_memory = λ e. let same : why ≡ NoMemory = cc in rw (← c.self.view_is) (ready g s, c.in_err-told.ensures.no_memory (ap Err same));
+    }
 
 pub returns-clause-answer : goal.returns-clause-answer
 returns-clause-answer g c = λ _.

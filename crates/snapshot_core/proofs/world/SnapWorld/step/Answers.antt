@@ -1,14 +1,14 @@
 use Rattle.std.proofs.Common.{rules, ◌≡◌, Ok, Err, refl, sym, ap, ◌∙◌}
 use Rattle.step_memory.specs.declared.refusal.Refusal.TheVariants.{NoMemory}
 use Rattle.snapshot_core.specs.declared.client.SnapReply.TheVariants.{Quiet}
-use Rattle.snapshot_core.specs.SnapWorld.{snap_answer}
+use Rattle.snapshot_core.specs.SnapWorld.{snap_answer, after_snap_step, told_of_way}
 use Rattle.snapshot_core.proofs.SnapWorldLemmas.{after_step_call, stays_alike, snap_alike}
 use Rattle.snapshot_core.proofs.SureSteps.{lacks_on_way}
 use Rattle.snapshot_core.proofs.Following.{law_holds, own_access_holds}
 use Rattle.snapshot_core.specs.Places.{KnownPlaces, places_by}
 use Rattle.snapshot_core.proofs.world.SnapWorld.step.Given.{Over}
 use Rattle.snapshot_core.proofs.world.SnapWorld.step.Goals as goal
-use Rattle.snapshot_core.proofs.world.SnapWorld.step.Goals.{After-walk_on, After-take_step}
+use Rattle.snapshot_core.proofs.world.SnapWorld.step.Goals.{After-walk_on}
 
 abbrev known : (g : Over) → KnownPlaces g.row.W.Denot g.row.W-Reg.Denot g.row.W-Value.Denot g.row.W-Walker.Denot g.row.W-Walk.Denot
 known g = places_by g.W.Walker.StepProgram.steps g.W.Walker.PlaceWalker.place_of g.W.Walk.SegmentWalk.walks g.W.StepMemory.steps g.W.Places.most_of g.W.Places.walker_from g.W.Places.walk_from g.W.Places.ties
@@ -43,67 +43,44 @@ returns-in_err-note-clause-after g c =
 pub returns-in_err-note-clause-own : goal.returns-in_err-note-clause-own
 returns-in_err-note-clause-own g c = own_access_holds (known g) g.met.W.Places.laws c.args.self.now c.args.id
 
-pub returns-in-Some-clause-answer : goal.returns-in-Some-clause-answer
-returns-in-Some-clause-answer g c = λ _.
-    ap Ok c.of_way.ensures ∙ sym (rw (c.in-Some.is, not_read g (goal.at.returns-in-Some-clause-answer g c).After-walk_on) at c.in_ok-note.ensures.answer)
+-- the way has taken the step
+pub returns-in-Some : goal.returns-in-Some
+returns-in-Some g c =
+    let still = not_read g (goal.at.returns-in-Some g c).After-walk_on in
+    let answer : snap_answer (known g) c.args.self.now c.args.id ≡ Ok (told_of_way c.in-Some.note) = rw (c.in-Some.is, still) at c.in_ok-note.ensures.answer in
+    let state : c.walk_on.new.self ≡ after_snap_step (known g) c.args.self.now c.args.id = rw (c.in-Some.is, still) at c.in_ok-note.ensures.state in
+    record {
+      answer = λ _. ap Ok c.of_way.ensures ∙ sym answer;
+      state = λ _. state;
+      refused = search rules;
+      on_way = search rules;
+      no_memory = search rules;
+      after = rw (c.in-Some.is, still, sym c.of_way.ensures) at c.in_ok-note.ensures.after;
+      law = search rules;
+      local = rw (c.in-Some.is, still) at c.in_ok-note.ensures.local;
+      alike = λ h other alike. ap Ok c.of_way.ensures ∙ sym answer ∙ snap_alike (known g) c.args.self.now other c.args.id alike;
+      stands_alike = λ h. stays_alike (known g) c.args.self.now c.walk_on.new.self c.args.id state;
+      own = own_access_holds (known g) g.met.W.Places.laws c.args.self.now c.args.id;
+    }
 
-pub returns-in-Some-clause-state : goal.returns-in-Some-clause-state
-returns-in-Some-clause-state g c = λ _. rw (c.in-Some.is, not_read g (goal.at.returns-in-Some-clause-state g c).After-walk_on) at c.in_ok-note.ensures.state
-
-pub returns-in-Some-clause-local : goal.returns-in-Some-clause-local
-returns-in-Some-clause-local g c = rw (c.in-Some.is, not_read g (goal.at.returns-in-Some-clause-local g c).After-walk_on) at c.in_ok-note.ensures.local
-
-pub returns-in-Some-clause-after : goal.returns-in-Some-clause-after
-returns-in-Some-clause-after g c = rw (c.in-Some.is, not_read g (goal.at.returns-in-Some-clause-after g c).After-walk_on, sym c.of_way.ensures) at c.in_ok-note.ensures.after
-
-pub returns-in-Some-clause-alike : goal.returns-in-Some-clause-alike
-returns-in-Some-clause-alike g c = λ h other alike.
-    let answer = rw (c.in-Some.is, not_read g (goal.at.returns-in-Some-clause-alike g c).After-walk_on) at c.in_ok-note.ensures.answer in
-    ap Ok c.of_way.ensures ∙ sym answer ∙ snap_alike (known g) c.args.self.now other c.args.id alike
-
-pub returns-in-Some-clause-stands_alike : goal.returns-in-Some-clause-stands_alike
-returns-in-Some-clause-stands_alike g c = λ h. stays_alike (known g) c.args.self.now c.walk_on.new.self c.args.id (returns-in-Some-clause-state g c h)
-
-pub returns-in-Some-clause-own : goal.returns-in-Some-clause-own
-returns-in-Some-clause-own g c = own_access_holds (known g) g.met.W.Places.laws c.args.self.now c.args.id
-
--- neither was made
-kept : (g : _) (c : After-take_step g) → c.walk_on.new.self ≡ c.args.self.now
-kept g c = c.in_ok-note.ensures.kept c.in_default.is ∙ c.read_on.ensures.kept c.if-read_on.false
-
-pub returns-clause-answer : goal.returns-clause-answer
-returns-clause-answer g c = rw (kept g (goal.at.returns-clause-answer g c).After-take_step) at c.take_step.ensures.answer
-
-pub returns-clause-state : goal.returns-clause-state
-returns-clause-state g c = rw (kept g (goal.at.returns-clause-state g c).After-take_step) at c.take_step.ensures.state
-
-pub returns-clause-refused : goal.returns-clause-refused
-returns-clause-refused g c = rw (kept g (goal.at.returns-clause-refused g c).After-take_step) at c.take_step.ensures.refused
-
-pub returns-clause-no_memory : goal.returns-clause-no_memory
-returns-clause-no_memory g c = rw (kept g (goal.at.returns-clause-no_memory g c).After-take_step) at c.take_step.ensures.no_memory
-
-pub returns-clause-local : goal.returns-clause-local
-returns-clause-local g c = rw (kept g (goal.at.returns-clause-local g c).After-take_step) at c.take_step.ensures.local
-
-pub returns-clause-alike : goal.returns-clause-alike
-returns-clause-alike g c = rw (kept g (goal.at.returns-clause-alike g c).After-take_step) at c.take_step.ensures.alike
-
-pub returns-clause-on_way : goal.returns-clause-on_way
-returns-clause-on_way g c = λ h. lacks_on_way (known g) g.met.W.Places.laws c.args.self.now c.args.id (returns-clause-no_memory g c h)
-
-pub returns-clause-after : goal.returns-clause-after
-returns-clause-after g c =
-    let kept : c.walk_on.new.self ≡ c.args.self.now = kept g (goal.at.returns-clause-after g c).After-take_step in
+-- neither has
+pub returns : goal.returns
+returns g c =
+    let kept : c.walk_on.new.self ≡ c.args.self.now = c.in_ok-note.ensures.kept c.in_default.is ∙ c.read_on.ensures.kept c.if-read_on.false in
     let refused : c.take_step.result ≡ Err NoMemory → c.take_step.new.self ≡ c.walk_on.new.self = λ e. search rules in
-    after_step_call (known g) c.args.self.now c.take_step.new.self c.args.id c.take_step.result
-    (returns-clause-state g c) (returns-clause-answer g c) (λ e. (refused e ∙ kept, returns-clause-no_memory g c e))
-
-pub returns-clause-law : goal.returns-clause-law
-returns-clause-law g c = law_holds (known g) g.met.W.Places.laws c.take_step.new.self
-
-pub returns-clause-stands_alike : goal.returns-clause-stands_alike
-returns-clause-stands_alike g c = λ h. stays_alike (known g) c.args.self.now c.take_step.new.self c.args.id (returns-clause-state g c h)
-
-pub returns-clause-own : goal.returns-clause-own
-returns-clause-own g c = own_access_holds (known g) g.met.W.Places.laws c.args.self.now c.args.id
+    let answer = rw kept at c.take_step.ensures.answer in
+    let state = rw kept at c.take_step.ensures.state in
+    let lacks = rw kept at c.take_step.ensures.no_memory in
+    record {
+      answer = answer;
+      state = state;
+      refused = rw kept at c.take_step.ensures.refused;
+      on_way = λ h. lacks_on_way (known g) g.met.W.Places.laws c.args.self.now c.args.id (lacks h);
+      no_memory = lacks;
+      after = after_step_call (known g) c.args.self.now c.take_step.new.self c.args.id c.take_step.result state answer (λ e. (refused e ∙ kept, lacks e));
+      law = law_holds (known g) g.met.W.Places.laws c.take_step.new.self;
+      local = rw kept at c.take_step.ensures.local;
+      alike = rw kept at c.take_step.ensures.alike;
+      stands_alike = λ h. stays_alike (known g) c.args.self.now c.take_step.new.self c.args.id (state h);
+      own = own_access_holds (known g) g.met.W.Places.laws c.args.self.now c.args.id;
+    }
