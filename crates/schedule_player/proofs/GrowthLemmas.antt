@@ -137,7 +137,7 @@ grid_grants : (c : Config) (w : DeskValue) (calls : List DeskCall) (e : Event) �
 grid_grants c (OverGrid w) calls e is after = refl
 grid_grants c (OverTree w) calls e is after = let bad : Rename ≡ Tree = sym is ∙ after.0 in cc
 
-told_by_test : (b : Bool) (o : Option ℕ) → cond b (reply.Refused refusal.OutOfRange) (reply.Owner o) ≢ reply.Refused refusal.NoMemory
+told_by_test : (b : Bool) (o : Option ℕ) → let told : ShownReply = cond b (reply.Refused refusal.OutOfRange) (reply.Owner o) in told ≢ reply.Refused refusal.NoMemory
 told_by_test true o is = cc
 told_by_test false o is = cc
 
