@@ -1,4 +1,4 @@
-use Rattle.std.proofs.Common.{rules, ◌≡◌, subst, List, ℕ, Result, Ok, Err}
+use Rattle.std.proofs.Common.{rules, ◌≡◌, refl, subst, List, ℕ, Result, Ok, Err}
 use Rattle.run_checker.specs.declared.verdict.Verdict.{Verdict}
 use Rattle.run_page.specs.Shown.{IsShown}
 use Rattle.player.specs.Played.{reading, writing}
