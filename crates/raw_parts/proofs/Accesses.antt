@@ -1,23 +1,15 @@
 -- each access of a visit keeps the rule
 use Rattle.std.proofs.Common.{◌≡◌, ◌≢◌, ℕ, suc, ◌<◌, ◌≤◌, true, false, cond, ◌==◌, eq-eqb, ne_eqb, List, [], ◌∷◌, set, slice_set, slice_index, subst, sym, refl, ap, ◌∙◌, arith}
-use Rattle.std.proofs.lemmas.List.{set-get_or}
+use Rattle.raw_parts.proofs.Common.{set-get_or, Me, Step, Allows, keeps, set_at, Stop, Right, Down, Stage, Visit, SplitterView, own_word, visit_at, lone_view, set_at-cases, set_at-same, set_at-other}
 use mathlib.Core.Option.{some}
 use mathlib.Core.Logic.{dite}
 use native.Mathlib.Decide.{ℕ_discrete}
 use lib.ListN.{get_elem?}
-use Rattle.atomic_table.specs.Table.{Me, Step, Allows, keeps}
-use Rattle.step_memory.specs.SetAt.{set_at}
-use Rattle.splitter.specs.declared.way.Way.TheVariants.{Stop, Right, Down}
-use Rattle.splitter.specs.declared.stage.Stage.{Stage}
 use Rattle.splitter.specs.declared.stage.Stage.TheVariants.{Outside, WroteX, SawClear, WroteY, Gone}
 use Rattle.splitter.specs.Stage.{has_entered, has_set, x_after, y_after, stage_after}
 use Rattle.splitter.proofs.DoorKept.{kept}
-use Rattle.raw_parts.specs.declared.splitter_view.Visit.{Visit}
-use Rattle.raw_parts.specs.declared.splitter_view.SplitterView.{SplitterView}
-use Rattle.raw_parts.specs.SplitterView.{own_word, visit_at, lone_view}
 use Rattle.raw_parts.specs.SplitterRule.{IsLawful, IsShown, IsAmong, IsLast, Meets, Shows, IsKept, KeepsRule}
 use Rattle.raw_parts.specs.SplitterSteps.{IsUnderRule, MovesOn, after_access, moved_on, turn_after, met_after}
-use Rattle.step_memory.proofs.SetAtLemmas.{set_at-cases, set_at-same, set_at-other}
 use Rattle.raw_parts.proofs.Numbered.{each_map}
 use Rattle.raw_parts.proofs.Views.{each_set, there_still, at_after}
 

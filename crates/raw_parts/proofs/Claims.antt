@@ -1,5 +1,6 @@
 -- each step of a name board keeps its rule
 use Rattle.std.proofs.Common.{◌≡◌, ◌≢◌, ℕ, zero, suc, ◌<◌, inl, inr, ⊎_elim, cond, eqb, eq-eqb, ne_eqb, ◌||◌, subst, sym, refl, ap, ◌∙◌, arith, List, [], ◌∷◌, ◌++◌, length, set, slice_set, slice_index}
+use Rattle.raw_parts.proofs.Common.{Claim, BoardView}
 use Rattle.std.proofs.lemmas.List.{set-get_or, length-set}
 use mathlib.Core.Option.{some, none, some-ne-none, some-injective}
 use mathlib.Core.Logic.{dite}
@@ -8,8 +9,6 @@ use prog.Atomic.{either}
 use lib.ListN.{get_elem?}
 use Rattle.atomic_table.specs.Table.{Step, step, Allows, Enters, Joins, Splits, keeps}
 use Rattle.atomic_table.proofs.Lists.{at_set, at_snoc, at_last, set_here, set_else, set_again, exchanged}
-use Rattle.raw_parts.specs.declared.board_view.Claim.{Claim}
-use Rattle.raw_parts.specs.declared.board_view.BoardView.{BoardView}
 use Rattle.raw_parts.specs.BoardRule.{IsSo, AreSo, IsClaimed, IsGranted, KeepsBoard, KeepsBoardRule}
 use Rattle.raw_parts.specs.BoardSteps.{Posts, Finds, LooksOn, Begins, AgreeWith, Reads}
 use Rattle.raw_parts.specs.BoardView.{claim, board_view, claims_of, no_claim, no_claim_after, lone_claim, united}

@@ -1,19 +1,13 @@
 -- a table opens under the rule, and keeps it where a seat is dealt out
 use Rattle.std.proofs.Common.{◌≡◌, ◌≢◌, ℕ, zero, suc, ◌+◌, ◌-◌, ◌<◌, ◌≤◌, inl, inr, ⊎_elim, sym, refl, ap, ◌∙◌, subst, arith, List, [], ◌∷◌, ◌++◌, length, set, take, drop}
+use Rattle.raw_parts.proofs.Common.{set_at, Stage, Outside, Visit, SplitterView, IsShown, Meets, IsAmong, Shows, KeepsRule, set_at-cases, set_at-same, set_at-other}
 use mathlib.Core.Option.{some, some-ne-none, some-injective}
 use mathlib.Core.Logic.{dite}
 use native.Mathlib.Decide.{ℕ_discrete}
 use lib.ListN.{get_elem?}
 use Rattle.atomic_table.specs.Table.{Me, Splits, opening}
-use Rattle.step_memory.specs.SetAt.{set_at}
-use Rattle.splitter.specs.declared.stage.Stage.{Stage}
-use Rattle.splitter.specs.declared.stage.Stage.TheVariants.{Outside}
 use Rattle.splitter.proofs.DoorKept.{lawful_new}
-use Rattle.raw_parts.specs.declared.splitter_view.Visit.{Visit}
-use Rattle.raw_parts.specs.declared.splitter_view.SplitterView.{SplitterView}
 use Rattle.raw_parts.specs.SplitterView.{fresh_visit, view_of, unbegun_from, undealt_from}
-use Rattle.raw_parts.specs.SplitterRule.{IsShown, Meets, IsAmong, Shows, KeepsRule}
-use Rattle.step_memory.proofs.SetAtLemmas.{set_at-cases, set_at-same, set_at-other}
 use Rattle.raw_parts.proofs.Views.{each_set, each_pushed, HoldsAt, at_after, at_longer_list, at_its_end}
 use Rattle.raw_parts.proofs.Accesses.{Has}
 use Rattle.raw_parts.proofs.Numbered.{each_map, each_both, IsNumbered, each_numbered, none_twice}

@@ -1,3 +1,4 @@
+mod Common
 pub mod Views
 pub mod Numbered
 mod Accesses

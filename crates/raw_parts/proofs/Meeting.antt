@@ -1,17 +1,9 @@
 -- two seats become one and look under the rule; then the first visit is dealt out again
 use Rattle.std.proofs.Common.{◌≡◌, ◌≢◌, ℕ, inl, inr, ⊎_elim, sym, refl, ap, ◌∙◌, [], ◌∷◌, ◌++◌, set, slice_set, slice_index}
-use Rattle.std.proofs.lemmas.List.{set-get_or}
+use Rattle.raw_parts.proofs.Common.{set-get_or, Me, Step, Allows, Joins, keeps, at_set, set_else, set_again, set_at, Visit, SplitterView, view_of, IsShown, Shows, IsKept, KeepsRule, set_at-cases, set_at-same}
 use mathlib.Core.Option.{some}
 use lib.ListN.{get_elem?}
-use Rattle.atomic_table.specs.Table.{Me, Step, Allows, Joins, keeps}
-use Rattle.atomic_table.proofs.Lists.{at_set, set_else, set_again}
-use Rattle.step_memory.specs.SetAt.{set_at}
-use Rattle.raw_parts.specs.declared.splitter_view.Visit.{Visit}
-use Rattle.raw_parts.specs.declared.splitter_view.SplitterView.{SplitterView}
-use Rattle.raw_parts.specs.SplitterView.{view_of}
-use Rattle.raw_parts.specs.SplitterRule.{IsShown, Shows, IsKept, KeepsRule}
 use Rattle.raw_parts.specs.SplitterSteps.{Looks}
-use Rattle.step_memory.proofs.SetAtLemmas.{set_at-cases, set_at-same}
 use Rattle.raw_parts.proofs.Views.{each_set, there_still, HoldsAt, at_after}
 use Rattle.raw_parts.proofs.Accesses.{under_rule, Has}
 use Rattle.raw_parts.proofs.Dealing.{elsewhere, shows_elsewhere}

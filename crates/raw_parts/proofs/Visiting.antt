@@ -1,20 +1,13 @@
 -- what the rule says of visits that ended under it
 use Rattle.std.proofs.Common.{◌≡◌, ◌≢◌, ℕ, ◌<◌, ◌≤◌, ne_eqb, inl, inr, ⊎_elim, true, false, sym, refl, ap, ◌∙◌, subst, arith, List, [], ◌∷◌}
+use Rattle.raw_parts.proofs.Common.{TableId, Me, Stop, Right, Down, Stage, WroteX, Gone, SplitterView, own_word, visit_at, view_of, lone_view, IsShown, Meets}
 use mathlib.Core.Logic.{dite}
 use native.Mathlib.Decide.{ℕ_discrete}
-use Rattle.atomic_table.specs.Seated.{TableId}
-use Rattle.atomic_table.specs.Table.{Me}
 use Rattle.splitter.specs.declared.way.Way.{Way}
-use Rattle.splitter.specs.declared.way.Way.TheVariants.{Stop, Right, Down}
-use Rattle.splitter.specs.declared.stage.Stage.{Stage}
-use Rattle.splitter.specs.declared.stage.Stage.TheVariants.{WroteX, Gone}
 use Rattle.splitter.specs.Law.{AtMostOneStopped, NotAllTook, IsSplit}
 use Rattle.splitter.specs.Invariant.{IsSplitter}
 use Rattle.splitter.specs.Stage.{has_entered, has_set}
 use Rattle.splitter.proofs.DoorKept.{law_of}
-use Rattle.raw_parts.specs.declared.splitter_view.SplitterView.{SplitterView}
-use Rattle.raw_parts.specs.SplitterView.{own_word, visit_at, view_of, lone_view}
-use Rattle.raw_parts.specs.SplitterRule.{IsShown, Meets}
 use Rattle.raw_parts.specs.SplitterSteps.{IsUnderRule, HasEnded, after_access, accesses_by}
 use Rattle.raw_parts.specs.Seats.{SplitterId, EndedVisit, HasMet, MetBy, IsOfEnded, ended_visit, gone_at, seats_in, IsEither, EitherTook}
 use Rattle.raw_parts.proofs.Accesses.{same_number}

@@ -1,37 +1,14 @@
 -- one who steps alone ends what it does soon
-use Rattle.std.proofs.Common.{◌≡◌, ◌≢◌, ℕ, zero, suc, ◌+◌, ◌-◌, ◌*◌, ◌≤◌, Bool, false, cond, ◌⊎◌, List, [], ◌∷◌, ◌++◌, length, Some, None, Ok, inl, inr, refl, sym, ap, subst, ◌∙◌, arith, add-one}
-use Rattle.std.specs.Prelude.{option_map}
-use Rattle.std.proofs.lemmas.Bool.{cases_Bool}
-use Rattle.std.proofs.lemmas.Bool.Decides.{eqb_tells}
+use Rattle.std.proofs.Common.{◌≡◌, ◌≢◌, ℕ, zero, suc, ◌+◌, ◌-◌, ◌*◌, ◌≤◌, Bool, false, cond, ◌⊎◌, List, [], ◌∷◌, ◌++◌, length, Some, None, Ok, inl, inr, refl, sym, ap, subst, ◌∙◌, arith, add-one, option_map}
+use Rattle.snapshot_core.proofs.Common.{cases_Bool, eqb_tells, reply_of, Answer, Participant, ends, participant_of, program_of, with_participant, set_at, participant_of-put, set_at-same, Client, Pending, Nothing, Places, Scans, Update, Writing, SnapReply, is_idle, access_for, after_for, note_for, note_after, pending_after, KnownPlaces, PlacesLaws, value_for, scan_after, scan_view, SnapCall, snapshot, Stepped, SnapObject, new_object, observed, Allows, Absent, Idle, Placing, Scanning, Updating, SnapState, told, clients_over, snap_answer, after_snap_step, way_now, ways_of}
 use Rattle.step_memory.specs.declared.access.Access.{Access}
 use Rattle.step_memory.specs.declared.access.Access.TheVariants.{Read, Write, TestAndSet, Clear, Nothing as Idling}
-use Rattle.step_memory.specs.Calls.{reply_of}
 use Rattle.step_memory.specs.Locality.{LookAlike}
-use Rattle.step_memory.specs.declared.access.Answer.{Answer}
-use Rattle.step_memory.specs.declared.participant.Participant.{Participant}
-use Rattle.step_memory.specs.Note.{ends}
-use Rattle.step_memory.specs.Participant.{participant_of, program_of, with_participant}
-use Rattle.step_memory.specs.SetAt.{set_at}
 use Rattle.step_memory.specs.Steps.{answer_from, AgreeAt}
-use Rattle.step_memory.proofs.ParticipantLemmas.{participant_of-put}
 use Rattle.step_memory.proofs.RunLemmas.{run_replays}
-use Rattle.step_memory.proofs.SetAtLemmas.{set_at-same}
 use Rattle.step_memory.proofs.StepLemmas.{ended_after, going_answer, going_after}
-use Rattle.snapshot_core.specs.declared.client.Client.{Client}
-use Rattle.snapshot_core.specs.declared.client.Pending.{Pending}
-use Rattle.snapshot_core.specs.declared.client.Pending.TheVariants.{Nothing, Placing as Places, Scan as Scans, Update, Write as Writing}
-use Rattle.snapshot_core.specs.declared.client.SnapReply.{SnapReply}
 use Rattle.snapshot_core.specs.Alone.{EndsAlone, most_reads, EndsSoon, EndsSoonAlone, EndsAlike}
-use Rattle.snapshot_core.specs.Client.{is_idle, access_for, after_for, note_for, note_after, pending_after}
-use Rattle.snapshot_core.specs.Places.{KnownPlaces, PlacesLaws, value_for}
-use Rattle.snapshot_core.specs.Scan.{scan_after, scan_view}
-use Rattle.snapshot_core.specs.SnapCalls.{SnapCall}
-use Rattle.snapshot_core.specs.Machine.{snapshot}
 use Rattle.step_memory.specs.Machine.{After}
-use Rattle.snapshot_core.specs.SnapCalls.SnapCall.{Stepped}
-use Rattle.snapshot_core.specs.Snapshot.{SnapObject, new_object, observed, Allows}
-use Rattle.snapshot_core.specs.Snapshot.Task.{Absent, Idle, Placing, Scanning, Updating}
-use Rattle.snapshot_core.specs.SnapWorld.{SnapState, told, clients_over, snap_answer, after_snap_step, way_now, ways_of}
 use Rattle.snapshot_core.specs.Standing.{is_quiet}
 use Rattle.snapshot_core.proofs.Collecting.{has_room}
 use Rattle.snapshot_core.proofs.Dues.{bounds_with}

@@ -1,29 +1,13 @@
 -- what the calls of a snapshot object do to who takes part in it
-use Rattle.std.proofs.Common.{◌≡◌, ℕ, ◌+◌, ◌<◌, ◌≤◌, Bool, true, false, not, cond, List, ◌++◌, ◌∷◌, [], Option, Some, None, refl, ap, ◌∙◌, arith, length-append}
-use Rattle.std.specs.Prelude.{nat_lt, option_map, is_some}
+use Rattle.std.proofs.Common.{◌≡◌, ℕ, ◌+◌, ◌<◌, ◌≤◌, Bool, true, false, not, cond, List, ◌++◌, ◌∷◌, [], Option, Some, None, refl, ap, ◌∙◌, arith, length-append, nat_lt, option_map, is_some}
+use Rattle.snapshot_core.proofs.Common.{Answer, Participant, Note, Quiet, Said, Ended, Spent, ends, set_at, set_at-same, set_at-other, going_answer, going_after, let_in, Client, Pending, SnapReply, KnownPlaces, scan_view, SnapState, beginner_at, after_scan, after_update, scan_refusal, update_refusal, clients_over, after_snap_step, told}
 use Rattle.std.proofs.lemmas.Bool.{lt-ltb, le-ltb}
-use Rattle.step_memory.specs.declared.access.Answer.{Answer}
 use Rattle.step_memory.specs.declared.access.Answer.TheVariants.{Value, WasSet, Done}
-use Rattle.step_memory.specs.declared.participant.Participant.{Participant}
-use Rattle.step_memory.specs.declared.note.Note.{Note}
-use Rattle.step_memory.specs.declared.note.Note.TheVariants.{Quiet, Said, Ended}
-use Rattle.step_memory.specs.declared.refusal.Refusal.TheVariants.{Spent}
-use Rattle.step_memory.specs.Note.{ends}
 use Rattle.step_memory.specs.Participant.{participant_of, program_of, with_participant, beginner, resumed}
-use Rattle.step_memory.specs.SetAt.{set_at}
-use Rattle.step_memory.proofs.SetAtLemmas.{set_at-same, set_at-other}
 use Rattle.step_memory.specs.World.{begin_refusal, after_set, got_by}
 use Rattle.step_memory.proofs.ParticipantLemmas.{participant_of-push, participant_of-put, length-with_participant, identity_of}
-use Rattle.step_memory.proofs.StepLemmas.{going_answer, going_after}
-use Rattle.step_memory.proofs.WorldKeeps.{let_in}
-use Rattle.snapshot_core.specs.declared.client.Client.{Client}
-use Rattle.snapshot_core.specs.declared.client.Pending.{Pending}
 use Rattle.snapshot_core.specs.declared.client.Pending.TheVariants.{Nothing, Placing, Scan, Update, Write as Writing}
-use Rattle.snapshot_core.specs.declared.client.SnapReply.{SnapReply}
 use Rattle.snapshot_core.specs.Client.{is_idle, first_pending, client_after, client_note, after_for, note_for, is_placed, placed_note, pending_after, note_after, updating, scanning}
-use Rattle.snapshot_core.specs.Places.{KnownPlaces}
-use Rattle.snapshot_core.specs.Scan.{scan_view}
-use Rattle.snapshot_core.specs.SnapWorld.{SnapState, beginner_at, after_scan, after_update, scan_refusal, update_refusal, clients_over, after_snap_step, told}
 use Rattle.snapshot_core.specs.Standing.{is_quiet, StandsAt, ComesTo, HasBegun, GoesSoIdle, GoesSoBusy}
 
 module _ {S U K : Type 0} (w : SnapState S U K) (p : ℕ) where

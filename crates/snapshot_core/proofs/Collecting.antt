@@ -1,16 +1,8 @@
 -- a scan under way: what its collects tell of the past
-use Rattle.std.proofs.Common.{◌≡◌, ◌≢◌, ℕ, ◌+◌, ◌<◌, ◌≤◌, ◌==◌, Bool, true, false, not, ◌&&◌, ◌||◌, ◌⊎◌, List, [], length, map, Option, Some, None, inl, inr, refl, sym, ap, ◌∙◌, arith}
-use Rattle.std.specs.Prelude.{option_map}
+use Rattle.std.proofs.Common.{◌≡◌, ◌≢◌, ℕ, ◌+◌, ◌<◌, ◌≤◌, ◌==◌, Bool, true, false, not, ◌&&◌, ◌||◌, ◌⊎◌, List, [], length, map, Option, Some, None, inl, inr, refl, sym, ap, ◌∙◌, arith, option_map}
+use Rattle.snapshot_core.proofs.Common.{length-map, set_at, set_at-same, set_at-other, Record, Sighting, met_in, number_met, sighting_of, noted, with_sighting, carried_over, shown_by, IsMoment, count_to}
 use Rattle.std.proofs.lemmas.Bool.{cases_Bool, or_cases, or_parts, or_left, or_right}
-use Rattle.std.proofs.lemmas.List.{length-map}
 use Rattle.std.proofs.lemmas.Bool.Decides.{eqb_tells, leb_tells}
-use Rattle.step_memory.specs.SetAt.{set_at}
-use Rattle.step_memory.proofs.SetAtLemmas.{set_at-same, set_at-other}
-use Rattle.step_memory.specs.declared.record.Record.{Record}
-use Rattle.snapshot_core.specs.declared.sightings.Sighting.{Sighting}
-use Rattle.snapshot_core.specs.Sightings.{met_in, number_met, sighting_of, noted, with_sighting, carried_over, shown_by}
-use Rattle.snapshot_core.specs.Snapshot.{IsMoment}
-use Rattle.step_memory.specs.Count.{count_to}
 use Rattle.step_memory.proofs.CountLemmas.{count_to-lt, count_to-mono, count_to-gain, count_to-longer}
 use Rattle.snapshot_core.proofs.SightingLemmas.{is_known, sighting_of-with, is_known-with, length-with-known, length-with-unknown, noted-known, noted-room, sighting_of-carried, is_known-carried}
 use Rattle.snapshot_core.proofs.Shown.{AreMet, met-carried, met-set, met-with, number_met-is, shown_rising, shown_is}

@@ -1,21 +1,7 @@
 -- a call of a snapshot object over any places is refused where the object of the law has it due
-use Rattle.std.proofs.Common.{◌≡◌, ℕ, ◌+◌, ◌*◌, ◌≤◌, ◌==◌, true, false, length, Some, None, inl, inr, refl, sym, ap, ◌∙◌, arith}
-use Rattle.std.specs.Prelude.{option_map, is_some}
-use Rattle.std.proofs.Math.Nat.{mul-le-mul_right}
-use Rattle.std.proofs.lemmas.Bool.Decides.{eqb_tells}
-use Rattle.step_memory.proofs.ParticipantLemmas.{some_begun}
-use Rattle.step_memory.specs.declared.participant.Participant.{Participant}
-use Rattle.step_memory.specs.declared.refusal.Refusal.TheVariants.{NotBegun, Finished, NoMemory}
-use Rattle.step_memory.specs.Participant.{participant_of}
-use Rattle.step_memory.specs.World.{begin_refusal, may_refuse_by}
-use Rattle.snapshot_core.specs.declared.client.Client.{Client}
-use Rattle.snapshot_core.specs.declared.client.Pending.{Pending}
-use Rattle.snapshot_core.specs.declared.client.Pending.TheVariants.{Nothing, Placing as Places, Scan as Scans, Update, Write as Writing}
-use Rattle.snapshot_core.specs.Client.{is_idle}
-use Rattle.snapshot_core.specs.Places.{BoundsScans}
-use Rattle.snapshot_core.specs.SnapWorld.{SnapState, clients_over, scan_refusal, update_refusal, scan_refusal_by, update_refusal_by, may_lack_memory, way_now, ways_of}
+use Rattle.std.proofs.Common.{◌≡◌, ℕ, ◌+◌, ◌*◌, ◌≤◌, ◌==◌, true, false, length, Some, None, inl, inr, refl, sym, ap, ◌∙◌, arith, option_map, is_some}
+use Rattle.snapshot_core.proofs.Common.{mul-le-mul_right, eqb_tells, some_begun, Participant, NotBegun, Finished, NoMemory, participant_of, begin_refusal, may_refuse_by, Client, Pending, Nothing, Places, Scans, Update, Writing, is_idle, BoundsScans, SnapState, clients_over, scan_refusal, update_refusal, scan_refusal_by, update_refusal_by, may_lack_memory, way_now, ways_of, Placing}
 use Rattle.snapshot_core.specs.Snapshot.{SnapObject, SnapBounds, has_begun, has_nothing_pending, begin_due, scan_due, update_due, step_due, LacksMemory}
-use Rattle.snapshot_core.specs.Snapshot.Task.{Placing}
 use Rattle.snapshot_core.proofs.LawfulPlaces.{LawfulPlaces}
 use Rattle.snapshot_core.proofs.SureSteps.{on_way_or_sure}
 use Rattle.snapshot_core.proofs.Tied.{IsAtTask, IsTied, era_now}

@@ -1,9 +1,6 @@
 -- a view has no more pairs than have begun
-use Rattle.std.proofs.Common.{◌≡◌, ℕ, ◌<◌, ◌≤◌, ◌==◌, Bool, true, false, List, [], ◌∷◌, length, Option, Some, None, inl, inr, refl, arith}
-use Rattle.std.specs.Prelude.{is_some, if◌then◌else◌}
-use Rattle.std.proofs.lemmas.Bool.Decides.{eqb_tells}
-use Rattle.step_memory.specs.View.{IsRising, value_of}
-use Rattle.step_memory.specs.Count.{count_to}
+use Rattle.std.proofs.Common.{◌≡◌, ℕ, ◌<◌, ◌≤◌, ◌==◌, Bool, true, false, List, [], ◌∷◌, length, Option, Some, None, inl, inr, refl, arith, is_some, if◌then◌else◌}
+use Rattle.snapshot_core.proofs.Common.{eqb_tells, IsRising, value_of, count_to}
 use Rattle.step_memory.proofs.CountLemmas.{count_to-le, count_to-gain}
 
 -- who is found behind a pair is above it

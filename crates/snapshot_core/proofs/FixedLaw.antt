@@ -1,14 +1,11 @@
 -- the law of a snapshot object over segments in a row
 use Rattle.std.proofs.Common.{◌≡◌, ℕ, zero, suc, ◌+◌, ◌*◌, ◌≤◌, List, length, get_or, replicate, Option, None, refl, subst, arith}
-use Rattle.std.proofs.Math.Nat.{mul-le-mul_right}
+use Rattle.snapshot_core.proofs.Common.{mul-le-mul_right, Record, BoundsScans, SnapState}
 use Rattle.std.proofs.Math.ListN.{length-replicate}
-use Rattle.step_memory.specs.declared.record.Record.{Record}
 use Rattle.snapshot_core.specs.declared.fixed.FixedWalker.{FixedWalker}
 use Rattle.snapshot_core.specs.declared.fixed.FixedWalk.{FixedWalk}
 use Rattle.snapshot_core.specs.FixedTies.{IsEmptyRow, fixed_places, fresh_row, fixed_bounds}
 use Rattle.snapshot_core.specs.FixedProofs.{fixed_laws}
-use Rattle.snapshot_core.specs.Places.{BoundsScans}
-use Rattle.snapshot_core.specs.SnapWorld.{SnapState}
 use Rattle.snapshot_core.specs.Snapshot.{KeepsSnapshotLaw}
 use Rattle.snapshot_core.specs.Machine.{IsLawfulFrom}
 use Rattle.snapshot_core.proofs.Following.{law_holds}

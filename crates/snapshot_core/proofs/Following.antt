@@ -1,45 +1,21 @@
 -- each call of a snapshot object over any places is one of the object of the law
-use Rattle.std.proofs.Common.{◌≡◌, ◌≢◌, ℕ, zero, suc, ◌+◌, ◌*◌, ◌<◌, ◌≤◌, ◌==◌, true, false, cond, ◌⊎◌, List, [], ◌∷◌, ◌++◌, length, Option, Some, None, Result, Ok, Err, inl, inr, refl, sym, ap, subst, ◌∙◌, arith, length-append}
-use Rattle.std.specs.Prelude.{option_map, option_and_then, nat_lt, Contains}
+use Rattle.std.proofs.Common.{◌≡◌, ◌≢◌, ℕ, zero, suc, ◌+◌, ◌*◌, ◌<◌, ◌≤◌, ◌==◌, true, false, cond, ◌⊎◌, List, [], ◌∷◌, ◌++◌, length, Option, Some, None, Result, Ok, Err, inl, inr, refl, sym, ap, subst, ◌∙◌, arith, length-append, option_map, option_and_then, nat_lt, Contains}
+use Rattle.snapshot_core.proofs.Common.{cases_Bool, eqb_tells, set_at, set_at-same, set_at-other, participant_of-push, length-with_participant, some_begun, Note, Quiet, Said, Ended, Read, Answer, Refusal, Participant, ends, participant_of, program_of, with_participant, beginner, begin_refusal, begun_unless, done_unless, lacked_memory, reply_of, going_answer, going_after, let_in, Client, Pending, Nothing, Places, Scans, Update, Writing, SnapReply, scan_from, scan_after, scan_view, Began, Updated, Scanned, Stepped, Idle, Placing, Scanning, Updating}
 use Rattle.std.proofs.lemmas.List.Elements.{Contains-append_cases}
-use Rattle.std.proofs.lemmas.Bool.{cases_Bool}
-use Rattle.std.proofs.lemmas.Bool.Decides.{eqb_tells}
-use Rattle.step_memory.specs.SetAt.{set_at}
-use Rattle.step_memory.proofs.SetAtLemmas.{set_at-same, set_at-other}
-use Rattle.step_memory.proofs.ParticipantLemmas.{participant_of-push, length-with_participant, some_begun}
-use Rattle.step_memory.specs.declared.note.Note.{Note}
-use Rattle.step_memory.specs.declared.note.Note.TheVariants.{Quiet, Said, Ended}
-use Rattle.step_memory.specs.declared.access.Access.TheVariants.{Read}
-use Rattle.step_memory.specs.declared.access.Answer.{Answer}
-use Rattle.step_memory.specs.declared.refusal.Refusal.{Refusal}
 use Rattle.step_memory.specs.declared.refusal.Refusal.TheVariants.{AlreadyBegun, NotBegun, Finished, Spent}
-use Rattle.step_memory.specs.declared.participant.Participant.{Participant}
-use Rattle.step_memory.specs.Note.{ends}
 use Rattle.step_memory.specs.Steps.{answer_from}
-use Rattle.step_memory.specs.Participant.{participant_of, program_of, with_participant, beginner}
-use Rattle.step_memory.specs.World.{begin_refusal, begun_unless, done_unless}
-use Rattle.step_memory.specs.Calls.{lacked_memory, reply_of}
 use Rattle.step_memory.specs.Runs.{Run}
-use Rattle.step_memory.proofs.StepLemmas.{going_answer, going_after}
 use Rattle.step_memory.proofs.RunLemmas.{run_more, run_keeps, run_answers}
-use Rattle.step_memory.proofs.WorldKeeps.{let_in}
 use Rattle.snapshot_core.specs.declared.scan.Scan.{Scan}
-use Rattle.snapshot_core.specs.declared.client.Client.{Client}
-use Rattle.snapshot_core.specs.declared.client.Pending.{Pending}
-use Rattle.snapshot_core.specs.declared.client.Pending.TheVariants.{Nothing, Placing as Places, Scan as Scans, Update, Write as Writing}
-use Rattle.snapshot_core.specs.declared.client.SnapReply.{SnapReply}
 use Rattle.snapshot_core.specs.declared.client.SnapReply.TheVariants.{Quiet as Silent, Placed, Written, View as Viewed}
-use Rattle.snapshot_core.specs.Scan.{scan_from, scan_after, scan_view}
 use Rattle.snapshot_core.specs.Client.{first_pending, is_idle, scanning, updating, record_of, with_pending, is_placed, placed_note, pending_after, note_after, access_for, after_for, note_for}
 use Rattle.snapshot_core.specs.SnapWorld.{SnapState, place_in, beginner_at, scan_refusal, update_refusal, scan_refusal_by, update_refusal_by, asked, after_scan, after_update, told, clients_over, snap_answer, after_snap_step, way_now, ways_of}
 use Rattle.snapshot_core.specs.SnapCalls.{SnapCall, next, IsReply}
 use Rattle.snapshot_core.specs.Machine.{snapshot, MakesOwnAccess, BeginsTheSame, HasDistinctPlaces, IsConsistentAfter, KeepsTold}
 use Rattle.step_memory.specs.Machine.{After, IsLawful, RefusesWhereDue, IsProved}
 use Rattle.step_memory.proofs.MachineLemmas.{machine_proved}
-use Rattle.snapshot_core.specs.SnapCalls.SnapCall.{Began, Updated, Scanned, Stepped}
 use Rattle.snapshot_core.specs.Places.{KnownPlaces, PlacesLaws, BeginsAlike, BoundsScans, KeepsWalks, HasGoneOn, value_for}
 use Rattle.snapshot_core.specs.Snapshot.{Task, SnapObject, SnapBounds, IsMoment, new_object, since_of, with_task, with_update, observed, AllowsStep, Allows, bounds_over}
-use Rattle.snapshot_core.specs.Snapshot.Task.{Idle, Placing, Scanning, Updating}
 use Rattle.snapshot_core.proofs.SnapWorldLemmas.{busy_state, busy_answer, most_kept}
 use Rattle.snapshot_core.proofs.LawfulPlaces.{LawfulPlaces}
 use Rattle.snapshot_core.proofs.Histories.{number, value_in, IsHelp}

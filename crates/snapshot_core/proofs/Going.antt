@@ -1,20 +1,9 @@
 -- the steps of a snapshot object over any places keep the tie
 use Rattle.std.proofs.Common.{◌≡◌, ◌≢◌, ℕ, ◌+◌, ◌<◌, ◌≤◌, false, List, ◌⊎◌, length, Option, Some, None, inl, inr, refl, sym, ap, ◌∙◌, arith}
+use Rattle.snapshot_core.proofs.Common.{eqb_tells, set_at, Write, Participant, participant_of, with_participant, length-with_participant, Record, Client, Nothing, SnapState, way_now, ways_of, segment_in, KeepsWalks, Idle}
 use Rattle.std.proofs.Math.Nat.{mul-le-mul_right, mul-le-mul_left}
-use Rattle.std.proofs.lemmas.Bool.Decides.{eqb_tells}
-use Rattle.step_memory.specs.SetAt.{set_at}
-use Rattle.step_memory.specs.declared.access.Access.TheVariants.{Write}
-use Rattle.step_memory.specs.declared.participant.Participant.{Participant}
-use Rattle.step_memory.specs.Participant.{participant_of, with_participant}
-use Rattle.step_memory.proofs.ParticipantLemmas.{length-with_participant}
 use Rattle.step_memory.proofs.SetAtLemmas.{set_at-same, set_at-other, set_at-as_is}
-use Rattle.step_memory.specs.declared.record.Record.{Record}
-use Rattle.snapshot_core.specs.declared.client.Client.{Client}
-use Rattle.snapshot_core.specs.declared.client.Pending.TheVariants.{Nothing}
-use Rattle.snapshot_core.specs.SnapWorld.{SnapState, way_now, ways_of}
-use Rattle.snapshot_core.specs.Places.{segment_in, KeepsWalks}
 use Rattle.snapshot_core.specs.Snapshot.{Task, SnapObject, with_task, with_moment}
-use Rattle.snapshot_core.specs.Snapshot.Task.{Idle}
 use Rattle.snapshot_core.proofs.LawfulPlaces.{LawfulPlaces}
 use Rattle.snapshot_core.proofs.Histories.{number, IsHelp, IsHistory, past', moment', past_kept, past_other, past_here, help_kept, history_more, history_joined, nothing_there}
 use Rattle.snapshot_core.proofs.Collecting.{collecting_later, collecting_joined}

@@ -1,10 +1,6 @@
 -- the past of segments: what stood in each at each moment
 use Rattle.std.proofs.Common.{◌≡◌, ◌≢◌, ℕ, ◌+◌, ◌≤◌, List, Option, Some, None, inl, inr, refl, sym, ap, ◌∙◌, arith}
-use Rattle.std.proofs.lemmas.Bool.Decides.{eqb_tells}
-use Rattle.step_memory.specs.SetAt.{set_at}
-use Rattle.step_memory.proofs.SetAtLemmas.{set_at-same, set_at-other}
-use Rattle.step_memory.specs.declared.record.Record.{Record}
-use Rattle.snapshot_core.specs.Snapshot.{IsMoment}
+use Rattle.snapshot_core.proofs.Common.{eqb_tells, set_at, set_at-same, set_at-other, Record, IsMoment}
 
 -- how often a segment that holds this was written
 abbrev pub number : Option Record → ℕ

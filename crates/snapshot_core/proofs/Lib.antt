@@ -1,3 +1,4 @@
+mod Common
 mod SightingLemmas
 mod SnapWorldLemmas
 mod FewValues

@@ -1,13 +1,8 @@
 -- a participant's access is one for what it has to do
-use Rattle.std.proofs.Common.{◌≡◌, ℕ, length, Some, None, refl, ap, subst}
-use Rattle.std.specs.Prelude.{option_map}
-use Rattle.step_memory.specs.Participant.{participant_of}
-use Rattle.snapshot_core.specs.declared.client.Client.{Client}
-use Rattle.snapshot_core.specs.declared.client.Pending.{Pending}
+use Rattle.std.proofs.Common.{◌≡◌, ℕ, length, Some, None, refl, ap, subst, option_map}
+use Rattle.snapshot_core.proofs.Common.{participant_of, Client, Pending, access_for, Task, SnapObject}
 use Rattle.snapshot_core.specs.declared.client.Pending.TheVariants.{Nothing, Placing, Scan, Update, Write as Writing}
-use Rattle.snapshot_core.specs.Client.{access_for}
 use Rattle.snapshot_core.specs.SnapWorld.{SnapState, clients_over, SparesSegments, IsAccessFor, way_now, ways_of}
-use Rattle.snapshot_core.specs.Snapshot.{Task, SnapObject}
 use Rattle.snapshot_core.proofs.LawfulPlaces.{LawfulPlaces}
 use Rattle.snapshot_core.proofs.Tied.{Era, IsAtTask, IsTied, era_now}
 

@@ -1,14 +1,9 @@
 -- a scan over any places, read by read
 use Rattle.std.proofs.Common.{◌≡◌, ◌≢◌, ℕ, ◌+◌, ◌*◌, ◌≤◌, ◌==◌, true, false, not, ◌⊎◌, List, Option, Some, None, inl, inr, refl, sym, ap, subst, ◌∙◌, arith}
+use Rattle.snapshot_core.proofs.Common.{eqb_tells, Record, sighting_of, is_change, is_second_change, met_anew, met_at, view_at, scan_after, scan_view, goes_after, goes_view, segment_in, value_for, IsMoment}
 use Rattle.std.proofs.Math.Nat.{add-mul, mul-le-mul_right}
 use Rattle.std.proofs.lemmas.Bool.{and_parts, cases_Bool, not-true}
-use Rattle.std.proofs.lemmas.Bool.Decides.{eqb_tells}
-use Rattle.step_memory.specs.declared.record.Record.{Record}
 use Rattle.snapshot_core.specs.declared.scan.Scan.{Scan}
-use Rattle.snapshot_core.specs.Sightings.{sighting_of}
-use Rattle.snapshot_core.specs.Scan.{is_change, is_second_change, met_anew, met_at, view_at, scan_after, scan_view, goes_after, goes_view}
-use Rattle.snapshot_core.specs.Places.{segment_in, value_for}
-use Rattle.snapshot_core.specs.Snapshot.{IsMoment}
 use Rattle.snapshot_core.proofs.LawfulPlaces.{LawfulPlaces}
 use Rattle.snapshot_core.proofs.Histories.{IsHistory}
 use Rattle.snapshot_core.proofs.Collecting.{IsCollecting, IsRoll, changed_in, pass, pass_record, borrowed, clean, next_collect, few_collects}

@@ -1,13 +1,7 @@
 -- a scan over a memory that no one else changes
 use Rattle.std.proofs.Common.{◌≡◌, ◌≢◌, ℕ, zero, suc, ◌+◌, ◌*◌, ◌<◌, ◌≤◌, ◌==◌, true, false, not, ◌&&◌, ◌||◌, ◌⊎◌, List, length, map, Option, Some, None, inl, inr, refl, sym, ap, subst, ◌∙◌, arith, add-one}
-use Rattle.std.proofs.lemmas.Bool.{cases_Bool}
-use Rattle.std.proofs.lemmas.Bool.Decides.{eqb_tells}
-use Rattle.step_memory.specs.SetAt.{set_at}
-use Rattle.step_memory.proofs.SetAtLemmas.{set_at-same, set_at-other}
-use Rattle.step_memory.specs.declared.record.Record.{Record}
+use Rattle.snapshot_core.proofs.Common.{cases_Bool, eqb_tells, set_at, set_at-same, set_at-other, Record, Sighting, number_met, sighting_of, noted, with_sighting, carried_over}
 use Rattle.snapshot_core.specs.declared.scan.Scan.{Scan}
-use Rattle.snapshot_core.specs.declared.sightings.Sighting.{Sighting}
-use Rattle.snapshot_core.specs.Sightings.{number_met, sighting_of, noted, with_sighting, carried_over}
 use Rattle.snapshot_core.specs.Scan.{is_change, is_second_change, sighting_after, met_anew, met_at, view_at, scan_after, scan_view, goes_after, goes_view}
 use Rattle.snapshot_core.specs.Places.{KnownPlaces, PlacesLaws, ReadsOn, segment_in, value_for}
 use Rattle.snapshot_core.proofs.SightingLemmas.{is_known, sighting_of-with, noted-known, noted-room, sighting_of-carried}

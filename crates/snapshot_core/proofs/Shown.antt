@@ -1,15 +1,8 @@
 -- the view that a collect shows: each value that it met, under its identity
-use Rattle.std.proofs.Common.{◌≡◌, ℕ, suc, ◌+◌, ◌<◌, ◌≤◌, ◌==◌, Bool, true, false, cond, List, [], ◌∷◌, length, get_or, map, drop, drop-cons, Option, Some, None, inl, inr, refl, sym, ap, ◌∙◌, arith}
-use Rattle.std.specs.Prelude.{option_map, ◌||◌}
-use Rattle.std.proofs.lemmas.Bool.{or_left, or_right}
-use Rattle.std.proofs.lemmas.Bool.Decides.{eqb_tells}
-use Rattle.step_memory.specs.SetAt.{set_at}
-use Rattle.step_memory.proofs.SetAtLemmas.{set_at-other}
-use Rattle.step_memory.specs.View.{IsRising, value_of}
+use Rattle.std.proofs.Common.{◌≡◌, ℕ, suc, ◌+◌, ◌<◌, ◌≤◌, ◌==◌, Bool, true, false, cond, List, [], ◌∷◌, length, get_or, map, drop, drop-cons, Option, Some, None, inl, inr, refl, sym, ap, ◌∙◌, arith, option_map, ◌||◌}
+use Rattle.snapshot_core.proofs.Common.{or_left, or_right, eqb_tells, set_at, set_at-other, IsRising, value_of, Record, Sighting}
 use Rattle.step_memory.proofs.ViewLemmas.{value_of-inserted, IsRising-inserted, length-inserted}
-use Rattle.step_memory.specs.declared.record.Record.{Record}
 use Rattle.snapshot_core.specs.declared.sightings.Met.{Met}
-use Rattle.snapshot_core.specs.declared.sightings.Sighting.{Sighting}
 use Rattle.snapshot_core.specs.Sightings.{met_in, number_met, sighting_of, with_sighting, carried_over, shown_with, shown_by}
 use Rattle.snapshot_core.proofs.Histories.{number, value, value_in}
 

@@ -1,9 +1,7 @@
 -- what is known of segments, by their places
-use Rattle.std.proofs.Common.{◌≡◌, ℕ, zero, suc, ◌+◌, ◌<◌, ◌==◌, Bool, true, false, cond, List, [], ◌∷◌, ◌++◌, Option, Some, None, inl, inr, length, get_or, set, map, refl, sym, ap, subst, ◌∙◌, arith, add-one}
-use Rattle.std.specs.Prelude.{option_map, is_some, nat_lt, ◌||◌}
+use Rattle.std.proofs.Common.{◌≡◌, ℕ, zero, suc, ◌+◌, ◌<◌, ◌==◌, Bool, true, false, cond, List, [], ◌∷◌, ◌++◌, Option, Some, None, inl, inr, length, get_or, set, map, refl, sym, ap, subst, ◌∙◌, arith, add-one, option_map, is_some, nat_lt, ◌||◌}
+use Rattle.snapshot_core.proofs.Common.{set_at, Sighting}
 use Rattle.std.proofs.lemmas.Bool.Decides.{Decides-eqb, eqb_tells}
-use Rattle.step_memory.specs.SetAt.{set_at}
-use Rattle.snapshot_core.specs.declared.sightings.Sighting.{Sighting}
 use Rattle.snapshot_core.specs.Sightings.{unknown, sighting_of, index_of, AreDistinct, with_sighting, noted, carried_over}
 
 -- a segment is noted where its index says, and is noted there anew

@@ -1,30 +1,14 @@
 -- the calls of a snapshot object
-use Rattle.std.proofs.Common.{◌≡◌, ◌≢◌, ℕ, true, false, cond, Option, Some, None, Result, Ok, Err, inl, inr, refl, sym, ap, ◌∙◌}
-use Rattle.snapshot_core.specs.declared.client.Pending.{Pending}
+use Rattle.std.proofs.Common.{◌≡◌, ◌≢◌, ℕ, true, false, cond, Option, Some, None, Result, Ok, Err, inl, inr, refl, sym, ap, ◌∙◌, option_map}
+use Rattle.snapshot_core.proofs.Common.{Pending, Note, Quiet, Read, Refusal, Finished, NoMemory, program_of, lacked_memory, reply_of, snapshot, Participant, Client, SnapReply, KnownPlaces, is_idle, scanning, updating, access_for, SnapCall, next, Began, Updated, Scanned, Stepped}
 use Rattle.snapshot_core.specs.declared.client.Pending.TheVariants.{Nothing, Placing, Scan, Update, Write as Writing}
-use Rattle.step_memory.specs.declared.note.Note.{Note}
-use Rattle.step_memory.specs.declared.note.Note.TheVariants.{Quiet}
-use Rattle.step_memory.specs.declared.access.Access.TheVariants.{Read}
-use Rattle.step_memory.specs.declared.refusal.Refusal.{Refusal}
-use Rattle.step_memory.specs.declared.refusal.Refusal.TheVariants.{Finished, NoMemory}
-use Rattle.step_memory.specs.Participant.{program_of}
 use Rattle.step_memory.specs.World.{begin_refusal, begun_unless, done_unless, step_answer, after_step}
-use Rattle.step_memory.specs.Calls.{lacked_memory, reply_of}
 use Rattle.step_memory.proofs.StepLemmas.{most_stepped, lacks_none, lacks_or_not}
 use Rattle.step_memory.specs.Machine.{LeadsOn}
 use Rattle.step_memory.proofs.MachineLemmas.{call_leads_on}
-use Rattle.snapshot_core.specs.Machine.{snapshot}
-use Rattle.std.specs.Prelude.{option_map}
 use Rattle.step_memory.specs.Locality.{LookAlike, StandAlike, ReadsNext, IsTaken}
-use Rattle.step_memory.specs.declared.participant.Participant.{Participant}
 use Rattle.step_memory.proofs.LocalityLemmas.{answers_alike, stand_alike}
-use Rattle.snapshot_core.specs.declared.client.Client.{Client}
-use Rattle.snapshot_core.specs.declared.client.SnapReply.{SnapReply}
-use Rattle.snapshot_core.specs.Places.{KnownPlaces}
-use Rattle.snapshot_core.specs.Client.{is_idle, scanning, updating, access_for}
 use Rattle.snapshot_core.specs.SnapWorld.{SnapState, beginner_at, after_snap_begin, scan_refusal, update_refusal, asked, after_scan, after_update, told, clients_over, snap_answer, snap_answer_by, after_snap_step, after_snap_by, may_lack_memory, StaysAlike}
-use Rattle.snapshot_core.specs.SnapCalls.{SnapCall, next}
-use Rattle.snapshot_core.specs.SnapCalls.SnapCall.{Began, Updated, Scanned, Stepped}
 
 module _ {S R V U K : Type 0} (t : KnownPlaces S R V U K) where
   most_asked : (w : SnapState S U K) (id : ℕ) (asking : Client U K → Client U K) (c : Option (Client U K)) (why : Option Refusal) → (asked w id asking c why).most ≡ w.most

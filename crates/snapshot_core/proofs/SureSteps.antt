@@ -1,14 +1,8 @@
 -- want of memory refuses no step but those on a way to a place
-use Rattle.std.proofs.Common.{◌≡◌, ◌⊎◌, inl, inr, ℕ, true, false, cond, Option, Some, None, refl, sym, ap, ◌∙◌}
-use Rattle.std.specs.Prelude.{option_map}
-use Rattle.step_memory.specs.declared.record.Record.{Record}
-use Rattle.step_memory.specs.Participant.{participant_of}
-use Rattle.step_memory.specs.World.{may_refuse_by}
-use Rattle.snapshot_core.specs.declared.client.Client.{Client}
-use Rattle.snapshot_core.specs.declared.client.Pending.{Pending}
+use Rattle.std.proofs.Common.{◌≡◌, ◌⊎◌, inl, inr, ℕ, true, false, cond, Option, Some, None, refl, sym, ap, ◌∙◌, option_map}
+use Rattle.snapshot_core.proofs.Common.{Record, participant_of, may_refuse_by, Client, Pending, KnownPlaces, PlacesLaws}
 use Rattle.snapshot_core.specs.declared.client.Pending.TheVariants.{Nothing, Placing, Scan, Update, Write as Writing}
 use Rattle.snapshot_core.specs.Client.{write_at, access_for, record_of}
-use Rattle.snapshot_core.specs.Places.{KnownPlaces, PlacesLaws}
 use Rattle.snapshot_core.specs.SnapWorld.{SnapState, clients_over, IsOnWay, LacksOnWay}
 
 module _ {S R V U K : Type 0} (t : KnownPlaces S R V U K) (laws : PlacesLaws t) where

@@ -1,22 +1,8 @@
 -- what ties a snapshot object over any places to the object of its law
 use Rattle.std.proofs.Common.{◌≡◌, ◌≢◌, ℕ, ◌+◌, ◌*◌, ◌<◌, ◌≤◌, false, ◌⊎◌, List, [], length, Option, Some, None, inl, inr, refl, sym, ap, subst, ◌∙◌, arith}
+use Rattle.snapshot_core.proofs.Common.{eqb_tells, set_at, Participant, participant_of, with_participant, set_at-same, set_at-other, participant_of-put, Record, Client, Pending, Nothing, Places, Scans, Update, Writing, scan_from, SnapState, way_now, ways_of, segment_in, Task, SnapObject, new_object, Absent, Idle, Placing, Scanning, Updating}
 use Rattle.std.proofs.Math.Path.{fun_ext}
-use Rattle.std.proofs.lemmas.Bool.Decides.{eqb_tells}
-use Rattle.step_memory.specs.SetAt.{set_at}
-use Rattle.step_memory.specs.declared.participant.Participant.{Participant}
-use Rattle.step_memory.specs.Participant.{participant_of, with_participant}
-use Rattle.step_memory.proofs.SetAtLemmas.{set_at-same, set_at-other}
-use Rattle.step_memory.proofs.ParticipantLemmas.{participant_of-put}
-use Rattle.step_memory.specs.declared.record.Record.{Record}
 use Rattle.snapshot_core.specs.declared.scan.Scan.{Scan}
-use Rattle.snapshot_core.specs.declared.client.Client.{Client}
-use Rattle.snapshot_core.specs.declared.client.Pending.{Pending}
-use Rattle.snapshot_core.specs.declared.client.Pending.TheVariants.{Nothing, Placing as Places, Scan as Scans, Update, Write as Writing}
-use Rattle.snapshot_core.specs.Scan.{scan_from}
-use Rattle.snapshot_core.specs.SnapWorld.{SnapState, way_now, ways_of}
-use Rattle.snapshot_core.specs.Places.{segment_in}
-use Rattle.snapshot_core.specs.Snapshot.{Task, SnapObject, new_object}
-use Rattle.snapshot_core.specs.Snapshot.Task.{Absent, Idle, Placing, Scanning, Updating}
 use Rattle.snapshot_core.proofs.LawfulPlaces.{LawfulPlaces}
 use Rattle.snapshot_core.proofs.Histories.{number, IsHelp, IsHistory}
 use Rattle.snapshot_core.proofs.Collecting.{IsRoll}

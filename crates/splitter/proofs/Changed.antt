@@ -1,7 +1,6 @@
 -- tests of a function that was changed at one place
 use Rattle.std.proofs.Common.{◌≡◌, ◌≢◌, ℕ, Bool, true, false}
-use Rattle.step_memory.specs.SetAt.{set_at}
-use Rattle.step_memory.proofs.SetAtLemmas.{set_at-cases}
+use Rattle.splitter.proofs.Common.{set_at, set_at-cases}
 
 module _ {X : Type 0} (f : ℕ → X) (p : ℕ) (s : X) where
   -- who passes a test that the new value fails is another, and passed it before

@@ -1,12 +1,7 @@
 -- each access keeps the law of one splitter
 use Rattle.std.proofs.Common.{◌≡◌, ◌≢◌, ℕ, true, false, inl, inr, refl, sym, subst, ◌∙◌, arith}
-use Rattle.std.proofs.lemmas.Bool.Decides.{eqb_tells}
-use Rattle.splitter.specs.declared.way.Way.TheVariants.{Stop, Right, Down}
-use Rattle.splitter.specs.declared.stage.Stage.{Stage}
-use Rattle.splitter.specs.declared.stage.Stage.TheVariants.{Outside, WroteX, SawClear, WroteY, Gone}
+use Rattle.splitter.proofs.Common.{eqb_tells, Stop, Right, Down, Stage, Outside, WroteX, SawClear, WroteY, Gone, DoorIsLawful, IsSplitter, set_at}
 use Rattle.splitter.specs.Stage.{has_entered, has_set, is_between, has_stopped, went_right, went_down, x_after, y_after, stage_after}
-use Rattle.splitter.specs.Invariant.{DoorIsLawful, IsSplitter}
-use Rattle.step_memory.specs.SetAt.{set_at}
 use Rattle.step_memory.proofs.SetAtLemmas.{set_at-same, set_at-other, set_at-cases, set_at-as_is}
 use Rattle.splitter.proofs.Changed.{passed_before, passes_still, passes_too, fails_still}
 

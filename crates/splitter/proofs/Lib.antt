@@ -1,3 +1,4 @@
+mod Common
 mod Changed
 pub mod DoorKept
 pub mod VisitorAccess

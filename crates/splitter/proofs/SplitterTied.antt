@@ -1,16 +1,13 @@
 -- what ties a splitter's world to the calls that it is after
-use Rattle.std.proofs.Common.{◌≡◌, ◌≢◌, ℕ, ◌+◌, ◌<◌, ◌≤◌, true, false, cond, ◌==◌, inl, inr, List, [], ◌∷◌, ◌++◌, length, Option, Some, None, Result, Ok, Err, refl, sym, ap, subst, ◌∙◌, arith}
-use Rattle.std.specs.Prelude.{is_some, option_map, IsSome}
+use Rattle.std.proofs.Common.{◌≡◌, ◌≢◌, ℕ, ◌+◌, ◌<◌, ◌≤◌, true, false, cond, ◌==◌, inl, inr, List, [], ◌∷◌, ◌++◌, length, Option, Some, None, Result, Ok, Err, refl, sym, ap, subst, ◌∙◌, arith, is_some, option_map, IsSome}
+use Rattle.splitter.proofs.Common.{eqb_tells, set_at, set_at-cases, Stop, Right, Down, Stage, Outside, WroteX, SawClear, WroteY, Gone, Visitor, DoorIsLawful, IsSplitter}
 use Rattle.std.proofs.Math.Path.{fun_ext}
-use Rattle.std.proofs.lemmas.Bool.Decides.{eqb_tells}
 use Rattle.step_memory.specs.declared.participant.Participant.{Participant}
 use Rattle.step_memory.specs.Note.{ends}
 use Rattle.step_memory.specs.Participant.{participant_of, program_of, with_participant, beginner}
 use Rattle.step_memory.specs.Registers.{answer_of, after_access, memory_steps}
-use Rattle.step_memory.specs.SetAt.{set_at}
 use Rattle.step_memory.specs.Calls.{Call, steps_of, steps_by, outcome_of, outcome_by, outcome_in}
 use Rattle.step_memory.specs.Calls.Call.{Began, Stepped}
-use Rattle.step_memory.proofs.SetAtLemmas.{set_at-cases}
 use Rattle.step_memory.proofs.ParticipantLemmas.{participant_of-push, participant_of-put}
 use Rattle.step_memory.proofs.WorldKeeps.{IsLetIn, IsKept, moved, stepped}
 use Rattle.step_memory.specs.Told.{Tells}
@@ -23,13 +20,8 @@ use Rattle.splitter.specs.Laws.{StaysAlike}
 use Rattle.step_memory.specs.World.{after_begin, begin_refusal, done_unless}
 use Rattle.step_memory.specs.declared.refusal.Refusal.{Refusal}
 use Rattle.splitter.specs.declared.way.Way.{Way}
-use Rattle.splitter.specs.declared.way.Way.TheVariants.{Stop, Right, Down}
-use Rattle.splitter.specs.declared.stage.Stage.{Stage}
-use Rattle.splitter.specs.declared.stage.Stage.TheVariants.{Outside, WroteX, SawClear, WroteY, Gone}
-use Rattle.splitter.specs.declared.visitor.Visitor.{Visitor}
 use Rattle.splitter.specs.Stage.{has_entered, is_gone, x_after, y_after, stage_after}
 use Rattle.splitter.specs.Visitor.{visitor_steps, access_of, stage_by, note_at, note_after, word_of, IsAccessOf}
-use Rattle.splitter.specs.Invariant.{DoorIsLawful, IsSplitter}
 use Rattle.splitter.specs.Law.{IsSplit, HasEntered, WentBy, KeepsSplitterLaw}
 use Rattle.splitter.specs.Machine.{SplitterState, fresh, visit_of, splitter, splitter_parts, step_reply, world_after_step}
 use Rattle.splitter.proofs.DoorKept.{kept, law_of, lawful_new}

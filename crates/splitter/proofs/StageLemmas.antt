@@ -1,9 +1,6 @@
 -- how far a visit has come, by the tests
 use Rattle.std.proofs.Common.{◌≡◌, true, refl}
-use Rattle.splitter.specs.declared.way.Way.TheVariants.{Stop, Right, Down}
-use Rattle.splitter.specs.declared.stage.Stage.{Stage}
-use Rattle.splitter.specs.declared.stage.Stage.TheVariants.{Outside, WroteX, SawClear, WroteY, Gone}
-use Rattle.splitter.specs.Stage.{went_right, went_down}
+use Rattle.splitter.proofs.Common.{Stop, Right, Down, Stage, Outside, WroteX, SawClear, WroteY, Gone, went_right, went_down}
 
 pub gone_right : (s : Stage) → went_right s ≡ true → s ≡ Gone Right
 gone_right Outside h = absurd (cc)

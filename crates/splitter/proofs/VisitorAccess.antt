@@ -1,12 +1,10 @@
 -- what an access of a visit does to its two registers
 use Rattle.std.proofs.Common.{◌≢◌, ℕ, ◌<◌, length, refl, sym}
+use Rattle.splitter.proofs.Common.{Stage, Outside, WroteX, SawClear, WroteY, Gone, Visitor}
 use Rattle.std.proofs.lemmas.List.{get_or-set_same, get_or-set_other}
 use Rattle.std.proofs.Math.ListN.{length-set}
 use Rattle.step_memory.specs.RegisterState.{Registers}
 use Rattle.step_memory.specs.Steps.{ReadsOrWrites}
-use Rattle.splitter.specs.declared.stage.Stage.{Stage}
-use Rattle.splitter.specs.declared.stage.Stage.TheVariants.{Outside, WroteX, SawClear, WroteY, Gone}
-use Rattle.splitter.specs.declared.visitor.Visitor.{Visitor}
 use Rattle.splitter.specs.Visitor.{IsAccessOf, access_at}
 
 -- it reads or writes a register, or reaches none

@@ -1,14 +1,9 @@
 -- walks from door to door, by how far the visit to a door has come
-use Rattle.std.proofs.Common.{◌≡◌, ◌↔◌, ℕ, ◌+◌, ◌≤◌, ◌==◌, ◌⊎◌, true, false, cond, inl, inr, Option, Some, None, refl, sym, ap, arith}
-use Rattle.std.specs.Prelude.{IsSome}
+use Rattle.std.proofs.Common.{◌≡◌, ◌↔◌, ℕ, ◌+◌, ◌≤◌, ◌==◌, ◌⊎◌, true, false, cond, inl, inr, Option, Some, None, refl, sym, ap, arith, IsSome}
+use Rattle.splitter.proofs.Common.{Stop, Right, Down, Stage, Outside, WroteX, SawClear, WroteY, Gone, DoorIsLawful, went_right, went_down, stage_after}
 use Rattle.step_memory.specs.declared.note.Note.{Note}
 use Rattle.step_memory.specs.declared.note.Note.TheVariants.{Quiet, Said, Ended}
 use Rattle.step_memory.specs.Calls.{outcome_in}
-use Rattle.splitter.specs.declared.way.Way.TheVariants.{Stop, Right, Down}
-use Rattle.splitter.specs.declared.stage.Stage.{Stage}
-use Rattle.splitter.specs.declared.stage.Stage.TheVariants.{Outside, WroteX, SawClear, WroteY, Gone}
-use Rattle.splitter.specs.Invariant.{DoorIsLawful}
-use Rattle.splitter.specs.Stage.{went_right, went_down, stage_after}
 use Rattle.splitter.specs.Walk.{gone_on, note_at_door, place_at_door, accesses_at}
 
 module _ {W : Type 0} (here : Stage → W) (right down : W) where

@@ -1,17 +1,10 @@
 -- what each access of a walk, and each beginning, keeps of the doors and the walks of a grid
 use Rattle.std.proofs.Common.{◌≡◌, ◌≢◌, ℕ, zero, suc, ◌<◌, ◌≤◌, Bool, true, false, cond, ◌==◌, ◌⊎◌, inl, inr, [], ◌∷◌, length, get_or, Option, Some, None, refl, sym, ap, subst, ◌∙◌, arith}
-use Rattle.std.proofs.lemmas.Bool.Decides.{eqb_tells}
-use Rattle.step_memory.specs.SetAt.{set_at}
+use Rattle.splitter_grid.proofs.Common.{eqb_tells, set_at, Stage, Outside, WroteX, SawClear, WroteY, Gone, has_entered, went_right, went_down, x_after, y_after, stage_after, Walker, door_number, number_of, door_at, walker_at, walk_of, visit_on}
 use Rattle.step_memory.proofs.SetAtLemmas.{set_at-same, set_at-other, set_at-cases}
 use Rattle.splitter.specs.declared.way.Way.TheVariants.{Stop, Right, Down}
-use Rattle.splitter.specs.declared.stage.Stage.{Stage}
-use Rattle.splitter.specs.declared.stage.Stage.TheVariants.{Outside, WroteX, SawClear, WroteY, Gone}
-use Rattle.splitter.specs.Stage.{has_entered, went_right, went_down, x_after, y_after, stage_after}
 use Rattle.splitter.specs.Invariant.{DoorIsLawful}
 use Rattle.splitter.proofs.DoorKept.{kept, lawful_new}
-use Rattle.splitter_grid.specs.declared.walker.Walker.{Walker}
-use Rattle.splitter_grid.specs.Door.{door_number, number_of, door_at}
-use Rattle.splitter_grid.specs.Walk.{walker_at, walk_of, visit_on}
 use Rattle.splitter_grid.specs.Invariant.{StandsAt, IsWalkOf, DoorsAgree}
 use Rattle.splitter_grid.proofs.DepthBound.{tightened}
 use Rattle.splitter_grid.proofs.Numbers.{number_depth, number_column}

@@ -1,23 +1,12 @@
 -- doors and walks that agree: what keeps them so, and what follows
 use Rattle.std.proofs.Common.{◌≡◌, ◌≢◌, ℕ, zero, suc, ◌+◌, ◌*◌, ◌<◌, ◌≤◌, false, inl, inr, length, replicate, get_or, Option, Some, None, refl, sym, ap, subst, ◌∙◌, arith}
-use Rattle.std.proofs.Math.Path.{fun_ext}
+use Rattle.splitter_grid.proofs.Common.{fun_ext, eqb_tells, Registers, answer_of, after_access, set_at, Stage, Gone, went_right, went_down, x_after, y_after, stage_after, Walker, walker_at, walk_of, visit_on, walked_to, walker_after, next_access, x_in, y_in, DoorsAgree, IsConsistent, empty_doors}
 use Rattle.std.proofs.Math.ListN.{length-replicate}
-use Rattle.std.proofs.lemmas.Bool.Decides.{eqb_tells}
-use Rattle.step_memory.specs.RegisterState.{Registers}
-use Rattle.step_memory.specs.Registers.{answer_of, after_access}
-use Rattle.step_memory.specs.SetAt.{set_at}
 use Rattle.splitter.specs.declared.way.Way.TheVariants.{Right, Down}
-use Rattle.splitter.specs.declared.stage.Stage.{Stage}
-use Rattle.splitter.specs.declared.stage.Stage.TheVariants.{Gone}
-use Rattle.splitter.specs.Stage.{went_right, went_down, x_after, y_after, stage_after}
 use Rattle.splitter.specs.Visitor.{IsAccessOf, stage_by, word_of}
 use Rattle.splitter.proofs.VisitorAccess.{is_access_of}
 use Rattle.splitter.proofs.WalkLemmas.{goes_on}
-use Rattle.splitter_grid.specs.declared.walker.Walker.{Walker}
 use Rattle.splitter_grid.specs.Door.{number_of, door_at, right_of, down_of, deeper}
-use Rattle.splitter_grid.specs.Walk.{walker_at, walk_of, visit_on, walked_to, walker_after, next_access}
-use Rattle.splitter_grid.specs.Invariant.{x_in, y_in, DoorsAgree, IsConsistent}
-use Rattle.splitter_grid.specs.Machine.{empty_doors}
 use Rattle.splitter_grid.proofs.Numbers.{number_below}
 use Rattle.splitter_grid.proofs.AgreeKept.{stayed, moved_on, joined, agree_new}
 

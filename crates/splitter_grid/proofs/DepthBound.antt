@@ -1,14 +1,10 @@
 -- nobody comes deeper than participants have begun
 use Rattle.std.proofs.Common.{◌≡◌, ℕ, zero, suc, ◌<◌, ◌≤◌, Bool, true, false, ◌==◌, ◌&&◌, inl, inr, List, [], ◌∷◌, length, get_or, Option, Some, None, refl, sym, ap, ◌∙◌, arith}
+use Rattle.splitter_grid.proofs.Common.{Decides-eqb, Walker, door_number, count_to, StandsAt, DoorsAgree}
 use Rattle.std.proofs.lemmas.Bool.{cases_Bool, or_left, or_right}
 use Rattle.splitter.proofs.StageLemmas.{gone_right, gone_down}
-use Rattle.std.proofs.lemmas.Bool.Decides.{Decides-eqb}
 use Rattle.splitter.specs.Invariant.{IsSplitter}
 use Rattle.splitter.proofs.DoorKept.{law_of}
-use Rattle.splitter_grid.specs.declared.walker.Walker.{Walker}
-use Rattle.splitter_grid.specs.Door.{door_number}
-use Rattle.step_memory.specs.Count.{count_to}
-use Rattle.splitter_grid.specs.Invariant.{StandsAt, DoorsAgree}
 use Rattle.splitter_grid.proofs.Diagonals.{depth_bound, taken_bound, is_taken}
 
 -- where each stands

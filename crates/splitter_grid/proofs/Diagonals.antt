@@ -1,8 +1,6 @@
 -- how deep a grid of doors can be entered
-use Rattle.std.proofs.lemmas.Bool.{cases_Bool}
 use Rattle.std.proofs.Common.{◌≡◌, ◌≢◌, ℕ, zero, suc, ◌+◌, ◌<◌, ◌≤◌, Bool, true, false, not, ◌&&◌, ◌||◌, ◌==◌, ◌⊎◌, inl, inr, List, [], ◌∷◌, length, refl, sym, subst, arith}
-use Rattle.std.proofs.lemmas.Bool.Decides.{eqb_tells, Decides-eqb}
-use Rattle.step_memory.specs.Count.{count_to}
+use Rattle.splitter_grid.proofs.Common.{cases_Bool, eqb_tells, Decides-eqb, count_to}
 
 -- how many doors of the first n diagonals pass a test of depth and column
 abbrev pub doors_to : (ℕ → ℕ → Bool) → ℕ → ℕ

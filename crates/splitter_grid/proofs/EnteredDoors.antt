@@ -1,30 +1,14 @@
 -- an identity stands in X of just the doors that were entered
-use Rattle.std.proofs.lemmas.Bool.{cases_Bool}
-use Rattle.std.proofs.Common.{◌≡◌, ◌≢◌, ℕ, ◌+◌, ◌*◌, true, false, cond, ◌⊎◌, inl, inr, List, [], length, Option, Some, None, Ok, Err, Result, refl, sym, ap, subst, ◌∙◌}
-use Rattle.std.specs.Prelude.{◌↔◌}
-use Rattle.std.proofs.lemmas.Bool.Decides.{eqb_tells}
-use Rattle.step_memory.specs.declared.participant.Participant.{Participant}
-use Rattle.step_memory.specs.declared.refusal.Refusal.{Refusal}
+use Rattle.std.proofs.Common.{◌≡◌, ◌≢◌, ℕ, ◌+◌, ◌*◌, true, false, cond, ◌⊎◌, inl, inr, List, [], length, Option, Some, None, Ok, Err, Result, refl, sym, ap, subst, ◌∙◌, ◌↔◌}
+use Rattle.splitter_grid.proofs.Common.{cases_Bool, eqb_tells, Participant, Refusal, Registers, answer_of, after_access, memory_steps, set_at, Began, Stepped, Stage, Outside, WroteX, SawClear, WroteY, Gone, has_entered, x_after, Walker, number_of, walk_of, walker_steps, walker_note, next_access, x_in, IsConsistent, GridState, fresh, grid, empty_doors}
 use Rattle.step_memory.specs.declared.refusal.Refusal.TheVariants.{NotBegun, Finished}
 use Rattle.step_memory.specs.Participant.{participant_of}
-use Rattle.step_memory.specs.RegisterState.{Registers}
-use Rattle.step_memory.specs.Registers.{answer_of, after_access, memory_steps}
-use Rattle.step_memory.specs.SetAt.{set_at}
 use Rattle.step_memory.specs.World.{begin_refusal, begun_unless, after_begin, after_step_by, step_answer_by, may_refuse_by}
 use Rattle.step_memory.specs.Calls.{Call, next, IsReply, outcome_in, reply_of, lacked_memory}
-use Rattle.step_memory.specs.Calls.Call.{Began, Stepped}
 use Rattle.step_memory.specs.Machine.{After}
 use Rattle.step_memory.proofs.MachineLemmas.{after_none, call_leads_on}
 use Rattle.step_memory.proofs.RunLemmas.{run_gathers}
 use Rattle.step_memory.proofs.WorldKeeps.{stepped}
-use Rattle.splitter.specs.declared.stage.Stage.{Stage}
-use Rattle.splitter.specs.declared.stage.Stage.TheVariants.{Outside, WroteX, SawClear, WroteY, Gone}
-use Rattle.splitter.specs.Stage.{has_entered, x_after}
-use Rattle.splitter_grid.specs.declared.walker.Walker.{Walker}
-use Rattle.splitter_grid.specs.Door.{number_of}
-use Rattle.splitter_grid.specs.Walk.{walk_of, walker_steps, walker_note, next_access}
-use Rattle.splitter_grid.specs.Invariant.{x_in, IsConsistent}
-use Rattle.splitter_grid.specs.Machine.{GridState, fresh, grid, empty_doors}
 use Rattle.splitter_grid.specs.Entered.{Enters, ShowsWhatWasEntered}
 use Rattle.splitter_grid.proofs.ConsistentKept.{xs, registers_in, get_or-replicate_same}
 use Rattle.splitter_grid.proofs.GridTied.{IsTied, tied_always, walkers}

@@ -1,15 +1,9 @@
 -- what ties a grid's world to the calls that it is after
-use Rattle.std.proofs.Common.{◌≡◌, ℕ, suc, ◌≤◌, true, false, List, [], ◌∷◌, ◌++◌, length, Option, Some, None, Result, Ok, Err, refl, sym, ap, subst, ◌∙◌, arith, length-append}
-use Rattle.std.specs.Prelude.{is_some, option_map}
-use Rattle.std.proofs.Math.Path.{fun_ext}
-use Rattle.step_memory.specs.declared.access.Answer.{Answer}
-use Rattle.step_memory.specs.declared.participant.Participant.{Participant}
+use Rattle.std.proofs.Common.{◌≡◌, ℕ, suc, ◌≤◌, true, false, List, [], ◌∷◌, ◌++◌, length, Option, Some, None, Result, Ok, Err, refl, sym, ap, subst, ◌∙◌, arith, length-append, is_some, option_map}
+use Rattle.splitter_grid.proofs.Common.{fun_ext, Answer, Participant, answer_of, memory_steps, set_at, Began, Stepped, Refusal, Stage, Walker, number_of, walk_of, walker_steps, walked_to, walker_after, walker_note, next_access, place_of, place_by, accesses_by, IsConsistent, IsGrid}
 use Rattle.step_memory.specs.Note.{ends}
 use Rattle.step_memory.specs.Participant.{participant_of, program_of, with_participant, beginner}
-use Rattle.step_memory.specs.Registers.{answer_of, memory_steps}
-use Rattle.step_memory.specs.SetAt.{set_at}
 use Rattle.step_memory.specs.Calls.{Call, steps_by, outcome_of, outcome_by, outcome_in, begun_in, begun_by}
-use Rattle.step_memory.specs.Calls.Call.{Began, Stepped}
 use Rattle.step_memory.proofs.SetAtLemmas.{set_at-cases, set_at-map}
 use Rattle.step_memory.proofs.ParticipantLemmas.{participant_of-push, participant_of-put, length-with_participant}
 use Rattle.step_memory.proofs.WorldKeeps.{begun_in-push, IsLetIn, IsKept, moved, stepped}
@@ -20,15 +14,9 @@ use Rattle.step_memory.proofs.DueLemmas.{outcomes_tell, never_grows, no_second_e
 use Rattle.step_memory.specs.Machine.{Always, IsProved, IsLawful, RefusesWhereDue, LeadsOn}
 use Rattle.step_memory.proofs.WorldMachineLemmas.{IsTie, tied_after, world_proved, begin_leads_on, step_leads_on, stays_alike}
 use Rattle.step_memory.specs.World.{after_begin, begin_refusal, done_unless}
-use Rattle.step_memory.specs.declared.refusal.Refusal.{Refusal}
 use Rattle.splitter_grid.specs.Laws.{StaysAlike}
-use Rattle.splitter.specs.declared.stage.Stage.{Stage}
 use Rattle.splitter.specs.Walk.{note_at_door}
 use Rattle.splitter.specs.Visitor.{stage_by}
-use Rattle.splitter_grid.specs.declared.walker.Walker.{Walker}
-use Rattle.splitter_grid.specs.Door.{number_of}
-use Rattle.splitter_grid.specs.Walk.{walk_of, walker_steps, walked_to, walker_after, walker_note, next_access, place_of, place_by, accesses_by}
-use Rattle.splitter_grid.specs.Invariant.{IsConsistent, IsGrid}
 use Rattle.splitter_grid.specs.Machine.{GridState, fresh, grid, grid_parts, place_in, step_reply, world_after_step}
 use Rattle.splitter_grid.specs.Law.{KeepsGridLaw}
 use Rattle.splitter_grid.proofs.ConsistentKept.{consistent_new, begun, gone_on}

@@ -1,3 +1,4 @@
+mod Common
 pub mod Numbers
 mod Diagonals
 mod DepthBound

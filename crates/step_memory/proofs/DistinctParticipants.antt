@@ -1,8 +1,6 @@
 -- the identities of participants, and that they are distinct
-use Rattle.std.proofs.Common.{◌≡◌, ◌≢◌, ◌<◌, ℕ, zero, suc, ◌==◌, true, false, List, [], ◌∷◌, ◌++◌, Some, None, length, get_or, set, inl, inr, refl, sym, ap, ◌∙◌, arith, add-one}
-use Rattle.std.specs.Prelude.{is_some}
-use Rattle.std.proofs.lemmas.Bool.Decides.{eqb_tells}
-use Rattle.step_memory.specs.declared.participant.Participant.{Participant}
+use Rattle.std.proofs.Common.{◌≡◌, ◌≢◌, ◌<◌, ℕ, zero, suc, ◌==◌, true, false, List, [], ◌∷◌, ◌++◌, Some, None, length, get_or, set, inl, inr, refl, sym, ap, ◌∙◌, arith, add-one, is_some}
+use Rattle.step_memory.proofs.Common.{eqb_tells, Participant}
 use Rattle.step_memory.specs.Participant.{AreDistinct, identities, index_of, participant_of, with_participant}
 use Rattle.step_memory.proofs.Found.{Found, is_some-index_of}
 use Rattle.step_memory.proofs.Roster as roster

@@ -1,25 +1,13 @@
 -- each call of a world is refused exactly where the calls before it make it due
-use Rattle.std.proofs.Common.{◌≤◌, append_assoc, ◌≡◌, ◌≢◌, ◌==◌, ◌&&◌, ◌||◌, ℕ, Bool, true, false, cond, List, [], ◌∷◌, ◌++◌, length, Option, Some, None, Ok, Err, ◌⊎◌, inl, inr, refl, sym, ap, subst, ◌∙◌, arith, add-zero}
-use Rattle.std.specs.Prelude.{is_some, nat_le}
+use Rattle.std.proofs.Common.{◌≤◌, append_assoc, ◌≡◌, ◌≢◌, ◌==◌, ◌&&◌, ◌||◌, ℕ, Bool, true, false, cond, List, [], ◌∷◌, ◌++◌, length, Option, Some, None, Ok, Err, ◌⊎◌, inl, inr, refl, sym, ap, subst, ◌∙◌, arith, add-zero, is_some, nat_le}
+use Rattle.step_memory.proofs.Common.{eqb_tells, leb_tells, Decides-eqb, Note, Refusal, NotBegun, Finished, NoMemory, Access, Participant, ProgramSteps, MemorySteps, WorldState, set_at, participant_of, with_participant, beginner, Began, Stepped, Run}
 use Rattle.std.proofs.Math.Bool.{or_assoc, or-false, or-true}
-use Rattle.std.proofs.lemmas.Bool.Decides.{eqb_tells, leb_tells, Decides-eqb}
 use Rattle.std.proofs.lemmas.List.{length-append}
-use Rattle.step_memory.specs.declared.note.Note.{Note}
 use Rattle.step_memory.specs.declared.note.Note.TheVariants.{Quiet, Said, Ended}
-use Rattle.step_memory.specs.declared.refusal.Refusal.{Refusal}
-use Rattle.step_memory.specs.declared.refusal.Refusal.TheVariants.{NotBegun, Finished, NoMemory}
-use Rattle.step_memory.specs.declared.access.Access.{Access}
-use Rattle.step_memory.specs.declared.participant.Participant.{Participant}
 use Rattle.step_memory.specs.Note.{ends}
-use Rattle.step_memory.specs.Steps.{ProgramSteps, MemorySteps}
-use Rattle.step_memory.specs.WorldState.{WorldState}
 use Rattle.step_memory.specs.Registers.{memory_steps}
-use Rattle.step_memory.specs.SetAt.{set_at}
-use Rattle.step_memory.specs.Participant.{participant_of, with_participant, beginner}
 use Rattle.step_memory.specs.World.{begin_refusal, begun_unless, done_unless, after_step, after_step_by, step_answer, step_answer_by, may_refuse_by, may_refuse_step, got_by}
 use Rattle.step_memory.specs.Calls.{Call, next, IsReply, begun_in, begun_by, outcome_of, outcome_by, first_of, outcome_in, reply_of, lacked_memory}
-use Rattle.step_memory.specs.Calls.Call.{Began, Stepped}
-use Rattle.step_memory.specs.Runs.{Run}
 use Rattle.step_memory.specs.Due.{begins, has_begun, ends_by, has_ended, begin_due, step_due, IsRefusedAsDue, RefusesAsDue, EndsOnce, TellsTheEnd, GrowsOnly}
 use Rattle.step_memory.proofs.SetAtLemmas.{set_at-cases}
 use Rattle.step_memory.proofs.ParticipantLemmas.{participant_of-push, participant_of-put, length-with_participant, identity_of}

@@ -1,8 +1,6 @@
 -- what the index of an identity tells of the participants
-use Rattle.std.proofs.Common.{◌≡◌, ℕ, ◌<◌, List, Some, None, length, get_or, refl, sym}
-use Rattle.std.specs.Prelude.{is_some}
-use Rattle.step_memory.specs.declared.participant.Participant.{Participant}
-use Rattle.step_memory.specs.Participant.{index_of, participant_of}
+use Rattle.std.proofs.Common.{◌≡◌, ℕ, ◌<◌, List, Some, None, length, get_or, refl, sym, is_some}
+use Rattle.step_memory.proofs.Common.{Participant, index_of, participant_of}
 use Rattle.step_memory.specs.Roster.{StandsAt}
 use Rattle.step_memory.proofs.Roster as roster
 

@@ -1,3 +1,4 @@
+mod Common
 pub mod Roster
 pub mod Found
 pub mod DistinctParticipants

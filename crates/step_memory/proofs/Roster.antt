@@ -1,8 +1,6 @@
 -- what the index of an identity tells, and how entries are seen after one was added or replaced
-use Rattle.std.proofs.Common.{◌≡◌, ℕ, suc, ◌+◌, ◌<◌, ◌==◌, true, false, cond, inl, inr, List, [], ◌∷◌, ◌++◌, Option, Some, None, length, get_or, refl, sym, ap, subst, ◌∙◌, arith, add-one}
-use Rattle.std.specs.Prelude.{option_map, is_some}
-use Rattle.std.proofs.lemmas.Bool.Decides.{eqb_tells, Decides-eqb}
-use Rattle.step_memory.specs.SetAt.{set_at}
+use Rattle.std.proofs.Common.{◌≡◌, ℕ, suc, ◌+◌, ◌<◌, ◌==◌, true, false, cond, inl, inr, List, [], ◌∷◌, ◌++◌, Option, Some, None, length, get_or, refl, sym, ap, subst, ◌∙◌, arith, add-one, option_map, is_some}
+use Rattle.step_memory.proofs.Common.{eqb_tells, Decides-eqb, set_at}
 use Rattle.step_memory.specs.Roster.{index_by, seen_by, replaced_by, StandsAt}
 
 pub eqb_flip : (a b : ℕ) → (a == b) ≡ (b == a)

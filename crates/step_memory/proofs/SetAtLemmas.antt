@@ -1,8 +1,7 @@
 -- a function changed at one place
 use Rattle.std.proofs.Common.{◌≡◌, ◌≢◌, ◌==◌, ◌⊎◌, ℕ, true, false, cond, Option, Some, None, inl, inr, refl, sym, ap, ◌∙◌}
+use Rattle.step_memory.proofs.Common.{eqb_tells, Decides-eqb, set_at}
 use Rattle.std.proofs.Math.Path.{fun_ext}
-use Rattle.std.proofs.lemmas.Bool.Decides.{eqb_tells, Decides-eqb}
-use Rattle.step_memory.specs.SetAt.{set_at}
 
 module _ {X : Type 0} (f : ℕ → X) (p : ℕ) (s : X) where
   pub set_at-same : set_at f p s p ≡ s

@@ -1,9 +1,6 @@
 -- what calls tell of how each participant stands, after one more call
 use Rattle.std.proofs.Common.{◌≡◌, ℕ, ◌+◌, ◌≤◌, ◌==◌, true, inl, inr, List, [], ◌∷◌, ◌++◌, Option, None, Ok, refl, sym, ap, subst, ◌∙◌, arith}
-use Rattle.std.proofs.lemmas.Bool.Decides.{eqb_tells, Decides-eqb}
-use Rattle.step_memory.specs.SetAt.{set_at}
-use Rattle.step_memory.specs.Calls.{Call, steps_of, steps_by, outcome_of, outcome_by}
-use Rattle.step_memory.specs.Calls.Call.{Began, Stepped}
+use Rattle.step_memory.proofs.Common.{eqb_tells, Decides-eqb, set_at, Call, steps_of, steps_by, outcome_of, outcome_by, Began, Stepped}
 use Rattle.step_memory.specs.Told.{Tells}
 use Rattle.step_memory.proofs.SetAtLemmas.{set_at-same, set_at-other, set_at-cases}
 use Rattle.step_memory.proofs.WorldKeeps.{steps_of-push, outcome_of-push, first_of-none}

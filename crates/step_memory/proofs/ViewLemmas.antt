@@ -1,6 +1,5 @@
 -- lists of pairs by rising identity
-use Rattle.std.proofs.Common.{◌≡◌, ◌≢◌, ℕ, zero, suc, ◌+◌, ◌-◌, ◌<◌, ◌≤◌, ◌==◌, true, false, cond, List, [], ◌∷◌, ◌++◌, Some, None, map, ◌⊎◌, inl, inr, length, get_or, set, take, drop, replicate, refl, sym, ap, subst, ◌∙◌, arith, add-one, append_assoc}
-use Rattle.std.specs.Prelude.{nat_lt, if◌then◌else◌, IsSome}
+use Rattle.std.proofs.Common.{◌≡◌, ◌≢◌, ℕ, zero, suc, ◌+◌, ◌-◌, ◌<◌, ◌≤◌, ◌==◌, true, false, cond, List, [], ◌∷◌, ◌++◌, Some, None, map, ◌⊎◌, inl, inr, length, get_or, set, take, drop, replicate, refl, sym, ap, subst, ◌∙◌, arith, add-one, append_assoc, nat_lt, if◌then◌else◌, IsSome}
 use Rattle.std.specs.List.{IsDistinct, AllByRecursion, Contains, list_any}
 use Rattle.std.specs.Cmp.{nat_eq_equiv}
 use Rattle.std.proofs.lemmas.Map.Made.{length-le_from_is_member}

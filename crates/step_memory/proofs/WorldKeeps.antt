@@ -1,17 +1,6 @@
 -- what holds after every run of a world: four cases to prove
 use Rattle.std.proofs.Common.{◌≡◌, ◌≢◌, ℕ, ◌+◌, ◌<◌, true, false, cond, List, [], ◌∷◌, ◌++◌, length, Option, Some, None, Ok, Err, inl, inr, refl, ap, ◌∙◌, arith}
-use Rattle.std.proofs.lemmas.Bool.Decides.{eqb_tells, leb_tells}
-use Rattle.step_memory.specs.declared.note.Note.{Note}
-use Rattle.step_memory.specs.declared.refusal.Refusal.{Refusal}
-use Rattle.step_memory.specs.declared.refusal.Refusal.TheVariants.{ZeroIdentity, AlreadyBegun, Full, NotBegun, Finished, NoMemory}
-use Rattle.step_memory.specs.declared.participant.Participant.{Participant}
-use Rattle.step_memory.specs.Steps.{ProgramSteps, MemorySteps}
-use Rattle.step_memory.specs.WorldState.{WorldState}
-use Rattle.step_memory.specs.Participant.{participant_of, with_participant, beginner, resumed}
-use Rattle.step_memory.specs.World.{begin_refusal, begun_unless, done_unless, after_step, after_step_by, step_answer, step_answer_by, got_by}
-use Rattle.step_memory.specs.Calls.{Call, next, IsReply, steps_of, steps_by, outcome_of, outcome_by, first_of, begun_in, begun_by, reply_of, lacked_memory}
-use Rattle.step_memory.specs.Calls.Call.{Began, Stepped}
-use Rattle.step_memory.specs.Runs.{Run}
+use Rattle.step_memory.proofs.Common.{eqb_tells, leb_tells, Note, Refusal, ZeroIdentity, AlreadyBegun, Full, NotBegun, Finished, NoMemory, Participant, ProgramSteps, MemorySteps, WorldState, participant_of, with_participant, beginner, resumed, begin_refusal, begun_unless, done_unless, after_step, after_step_by, step_answer, step_answer_by, got_by, Call, next, IsReply, steps_of, steps_by, outcome_of, outcome_by, first_of, begun_in, begun_by, reply_of, lacked_memory, Began, Stepped, Run}
 use Rattle.step_memory.proofs.RunLemmas.{run_keeps}
 use Rattle.step_memory.proofs.StepLemmas.{most_stepped}
 

@@ -1,14 +1,8 @@
 -- what follows for every world that is a machine
 use Rattle.std.proofs.Common.{◌≡◌, ℕ, List, [], Result, inl, refl, ap, ◌∙◌, Bool, false}
-use Rattle.step_memory.specs.declared.note.Note.{Note}
-use Rattle.step_memory.specs.declared.refusal.Refusal.{Refusal}
-use Rattle.step_memory.specs.Steps.{ProgramSteps, MemorySteps}
-use Rattle.step_memory.specs.WorldState.{WorldState}
+use Rattle.step_memory.proofs.Common.{Note, Refusal, ProgramSteps, MemorySteps, WorldState, Call, reply_of, lacked_memory, Began, Stepped, participant_of}
 use Rattle.step_memory.specs.World.{begin_refusal, done_unless, after_begin, after_step, step_answer}
-use Rattle.step_memory.specs.Calls.{Call, reply_of, lacked_memory}
-use Rattle.step_memory.specs.Calls.Call.{Began, Stepped}
 use Rattle.step_memory.specs.Locality.{LookAlike, StandAlike}
-use Rattle.step_memory.specs.Participant.{participant_of}
 use Rattle.step_memory.proofs.LocalityLemmas.{stand_alike}
 use Rattle.step_memory.specs.Due.{TellsTheEnd, GrowsOnly, EndsOnce}
 use Rattle.step_memory.specs.Machine.{After, LeadsOn, RefusesWhereDue, IsProved}

@@ -1,15 +1,9 @@
 -- how many walks have begun
-use Rattle.std.proofs.Common.{◌≡◌, ℕ, zero, suc, ◌<◌, ◌≤◌, Bool, true, inl, inr, Option, Some, None, refl, sym, ap, ◌∙◌, arith}
-use Rattle.std.specs.Prelude.{is_some}
-use Rattle.std.proofs.Math.Path.{fun_ext}
+use Rattle.std.proofs.Common.{◌≡◌, ℕ, zero, suc, ◌<◌, ◌≤◌, Bool, true, inl, inr, Option, Some, None, refl, sym, ap, ◌∙◌, arith, is_some}
+use Rattle.word_grid.proofs.Common.{fun_ext, set_at, set_at-same, set_at-other, set_at-cases, Walker, own_word, begun_of}
 use Rattle.std.proofs.lemmas.Bool.{cases_Bool}
 use Rattle.step_memory.specs.Count.{count_to}
-use Rattle.step_memory.specs.SetAt.{set_at}
 use Rattle.step_memory.proofs.CountLemmas.{count_to-le, count_more}
-use Rattle.step_memory.proofs.SetAtLemmas.{set_at-same, set_at-other, set_at-cases}
-use Rattle.splitter_grid.specs.declared.walker.Walker.{Walker}
-use Rattle.raw_parts.specs.SplitterView.{own_word}
-use Rattle.word_grid.specs.GridRule.{begun_of}
 
 module _ (walker : ℕ → Option Walker) (number most : ℕ) (next : Walker) where
   has_begun : ℕ → Bool

@@ -1,25 +1,10 @@
 -- what a seat can tell of the end of a walk, and what two that tell so show
 use Rattle.std.proofs.Common.{◌≡◌, ℕ, ⊎_elim, Option, Some, None, sym, refl, ap, ◌∙◌, arith, List, [], ◌∷◌, ◌++◌, length, set}
-use Rattle.std.proofs.lemmas.Option.{option_and_then_some}
+use Rattle.word_grid.proofs.Common.{option_and_then_some, TableId, Splits, Joins, place_at_door, one_at_place, Walker, number_of, place_of, place_by, own_word, each_set, each_pushed, Walk, Ending, GridView, x_in, y_in, IsShown, IsEnded, Shows, IsKept, KeepsGrid, Each, IsUnderRule}
 use mathlib.Core.Option.{some}
 use lib.ListN.{get_elem?}
-use Rattle.atomic_table.specs.Seated.{TableId}
-use Rattle.atomic_table.specs.Table.{Splits, Joins}
 use Rattle.atomic_table.proofs.Lists.{at_set}
-use Rattle.splitter.specs.Walk.{place_at_door}
-use Rattle.splitter.proofs.WalkLemmas.{one_at_place}
-use Rattle.splitter_grid.specs.declared.walker.Walker.{Walker}
-use Rattle.splitter_grid.specs.Door.{number_of}
-use Rattle.splitter_grid.specs.Walk.{place_of, place_by}
-use Rattle.raw_parts.specs.SplitterView.{own_word}
-use Rattle.raw_parts.proofs.Views.{each_set, each_pushed}
-use Rattle.word_grid.specs.declared.grid_view.Walk.{Walk}
-use Rattle.word_grid.specs.declared.grid_view.Ending.{Ending}
-use Rattle.word_grid.specs.declared.grid_view.GridView.{GridView}
 use Rattle.word_grid.specs.GridView.{view_of, lone_view, ending_at, endings_at, endings_of}
-use Rattle.word_grid.specs.GridRule.{x_in, y_in, IsShown, IsEnded, Shows, IsKept, KeepsGrid}
-use Rattle.raw_parts.specs.Numbered.{Each}
-use Rattle.word_grid.specs.GridSteps.{IsUnderRule}
 use Rattle.word_grid.specs.Seats.{GridId, ClaimId, claim_at, most_in}
 
 -- the rule with other views, each of which is so

@@ -1,24 +1,15 @@
 -- a table opens under the rule, and keeps it where a walk goes to a new seat, or to another that takes it in
 use Rattle.std.proofs.Common.{◌≡◌, ◌≢◌, ℕ, zero, suc, ◌+◌, ◌-◌, ◌*◌, ◌<◌, ◌≤◌, ⊎_elim, Option, None, sym, refl, ap, ◌∙◌, subst, arith, List, [], ◌∷◌, length, set, slice_set, slice_index, take, drop, replicate}
+use Rattle.word_grid.proofs.Common.{set_at, set_at-same, set_at-other, Walker, each_set, each_pushed, Walk, Ending, GridView, view_of, unbegun, unbegun_from, undealt_from, x_in, y_in, IsShown, Shows, IsKept, KeepsGrid, Each}
 use Rattle.std.proofs.Math.ListN.{length-replicate}
 use mathlib.Core.Option.{some, some-ne-none, some-injective}
 use lib.ListN.{get_elem?}
 use Rattle.atomic_table.specs.Table.{Me, Step, Allows, Splits, Joins, opening, keeps}
 use Rattle.atomic_table.proofs.Lists.{at_set, set_again}
-use Rattle.step_memory.specs.SetAt.{set_at}
 use Rattle.step_memory.proofs.CountLemmas.{count_none}
-use Rattle.step_memory.proofs.SetAtLemmas.{set_at-same, set_at-other}
-use Rattle.splitter_grid.specs.declared.walker.Walker.{Walker}
 use Rattle.splitter_grid.proofs.AgreeKept.{agree_new}
 use Rattle.splitter_grid.proofs.ConsistentKept.{get_or-replicate_same}
-use Rattle.raw_parts.proofs.Views.{each_set, each_pushed}
-use Rattle.word_grid.specs.declared.grid_view.Walk.{Walk}
-use Rattle.word_grid.specs.declared.grid_view.Ending.{Ending}
-use Rattle.word_grid.specs.declared.grid_view.GridView.{GridView}
-use Rattle.word_grid.specs.GridView.{view_of, unbegun, unbegun_from, undealt_from}
-use Rattle.word_grid.specs.GridRule.{x_in, y_in, IsShown, Shows, IsKept, KeepsGrid}
 use Rattle.word_grid.specs.GridSteps.{IsAtRest, Looks}
-use Rattle.raw_parts.specs.Numbered.{Each}
 use Rattle.raw_parts.proofs.Numbered.{each_map, each_both, IsNumbered, each_numbered, none_twice}
 use Rattle.word_grid.proofs.Words.{stored_again}
 use Rattle.word_grid.proofs.Walking.{under_rule}

@@ -1,24 +1,7 @@
 -- what the rule says of walks that have ended
-use Rattle.std.proofs.Common.{◌≡◌, ◌≢◌, ◌+◌, ◌-◌, ◌*◌, ◌/◌, ◌<◌, ◌≤◌, ℕ, false, inl, inr, List, [], ◌∷◌, Some, None, subst, sym, refl, ap, ◌∙◌, arith}
-use Rattle.std.specs.Prelude.{is_some}
+use Rattle.std.proofs.Common.{◌≡◌, ◌≢◌, ◌+◌, ◌-◌, ◌*◌, ◌/◌, ◌<◌, ◌≤◌, ℕ, false, inl, inr, List, [], ◌∷◌, Some, None, subst, sym, refl, ap, ◌∙◌, arith, is_some}
+use Rattle.word_grid.proofs.Common.{TableId, Me, Stop, Gone, place_at_door, one_at_place, Door, Walker, number_of, IsDoorWithin, walker_at, visit_on, number_low, own_word, GridView, view_of, lone_view, unbegun, unbegun_from, undealt_from, x_in, y_in, IsShown, HasVisited, IsUnderRule, KeepsWalkLaw}
 use Rattle.std.proofs.lemmas.Bool.Decides.{leb_tells}
-use Rattle.atomic_table.specs.Seated.{TableId}
-use Rattle.atomic_table.specs.Table.{Me}
-use Rattle.splitter.specs.declared.way.Way.TheVariants.{Stop}
-use Rattle.splitter.specs.declared.stage.Stage.TheVariants.{Gone}
-use Rattle.splitter.specs.Walk.{place_at_door}
-use Rattle.splitter.proofs.WalkLemmas.{one_at_place}
-use Rattle.splitter_grid.specs.declared.door.Door.{Door}
-use Rattle.splitter_grid.specs.declared.walker.Walker.{Walker}
-use Rattle.splitter_grid.specs.Door.{number_of, IsDoorWithin}
-use Rattle.splitter_grid.specs.Walk.{walker_at, visit_on}
-use Rattle.splitter_grid.proofs.Numbers.{number_low}
-use Rattle.raw_parts.specs.SplitterView.{own_word}
-use Rattle.word_grid.specs.declared.grid_view.GridView.{GridView}
-use Rattle.word_grid.specs.GridView.{view_of, lone_view, unbegun, unbegun_from, undealt_from}
-use Rattle.word_grid.specs.GridRule.{x_in, y_in, IsShown}
-use Rattle.word_grid.specs.GridSteps.{HasVisited, IsUnderRule}
-use Rattle.word_grid.specs.Law.{KeepsWalkLaw}
 use Rattle.word_grid.specs.Seats.{GridId, grid_of, DealerId, dealer_of, EndedWalk, ended_walk, place_of, most_in, entered_in, accesses_in, stopped_at}
 use Rattle.word_grid.proofs.Begun.{count_low}
 use Rattle.raw_parts.proofs.Numbered.{of_numbered}

@@ -1,15 +1,10 @@
 -- what the rule says of a whole table
 use Rattle.std.proofs.Common.{◌≡◌, ℕ, true, false, subst, sym, refl, ap, ◌∙◌}
-use Rattle.std.proofs.lemmas.Option.{option_and_then_some}
-use Rattle.splitter.specs.declared.stage.Stage.{Stage}
+use Rattle.word_grid.proofs.Common.{option_and_then_some, Stage, place_at_door, number_of, IsDoorWithin, place_of, x_in, y_in}
 use Rattle.splitter.specs.Stage.{has_entered, has_set, went_right, went_down}
-use Rattle.splitter.specs.Walk.{place_at_door}
 use Rattle.splitter.proofs.DoorKept.{law_of}
 use Rattle.splitter.proofs.StageLemmas.{gone_right, gone_down}
 use Rattle.splitter.proofs.WalkLemmas.{one_at_place, place_is}
-use Rattle.splitter_grid.specs.Door.{number_of, IsDoorWithin}
-use Rattle.splitter_grid.specs.Walk.{place_of}
-use Rattle.word_grid.specs.GridRule.{x_in, y_in}
 use Rattle.word_grid.specs.Law.{PlacesAreDistinct, PlacesAreLow, EachDoorSplits, LeavesAnother}
 
 pub distinct_places : PlacesAreDistinct

@@ -1,21 +1,7 @@
 -- where a walk stands after each access of its visit to a door
 use Rattle.std.proofs.Common.{◌≡◌, ◌≢◌, ◌+◌, ◌<◌, ◌≤◌, ℕ, cond, List, [], ◌∷◌, Some, subst, refl, ap, ◌∙◌, eq-eqb, ne_eqb, arith}
-use Rattle.atomic_table.specs.Table.{Me, Step}
+use Rattle.word_grid.proofs.Common.{Me, Step, Stop, Right, Down, Stage, WroteX, SawClear, WroteY, Gone, Door, Walker, walker_at, visit_on, walked_to, own_word, Walk, Ending, GridView, walk_at, view_of, lone_view, accesses_made, IsShown, Stands, MovesOn, HasVisited, IsUnderRule, IsDoorOf, next_walker, moved_on, GridId}
 use Rattle.splitter.specs.declared.way.Way.{Way}
-use Rattle.splitter.specs.declared.way.Way.TheVariants.{Stop, Right, Down}
-use Rattle.splitter.specs.declared.stage.Stage.{Stage}
-use Rattle.splitter.specs.declared.stage.Stage.TheVariants.{WroteX, SawClear, WroteY, Gone}
-use Rattle.splitter_grid.specs.declared.door.Door.{Door}
-use Rattle.splitter_grid.specs.declared.walker.Walker.{Walker}
-use Rattle.splitter_grid.specs.Walk.{walker_at, visit_on, walked_to}
-use Rattle.raw_parts.specs.SplitterView.{own_word}
-use Rattle.word_grid.specs.declared.grid_view.Walk.{Walk}
-use Rattle.word_grid.specs.declared.grid_view.Ending.{Ending}
-use Rattle.word_grid.specs.declared.grid_view.GridView.{GridView}
-use Rattle.word_grid.specs.GridView.{walk_at, view_of, lone_view}
-use Rattle.word_grid.specs.GridRule.{accesses_made, IsShown}
-use Rattle.word_grid.specs.GridSteps.{Stands, MovesOn, HasVisited, IsUnderRule, IsDoorOf, next_walker, moved_on}
-use Rattle.word_grid.specs.Seats.{GridId}
 use Rattle.word_grid.proofs.Begun.{few_begun}
 use Rattle.word_grid.proofs.Walking.{goes_on_from}
 

@@ -1,30 +1,19 @@
 -- each access of a walk keeps the rule
 use Rattle.std.proofs.Common.{◌≡◌, ◌≢◌, ℕ, suc, ◌+◌, ◌*◌, ◌<◌, ◌≤◌, true, false, cond, ◌==◌, List, [], length, set, slice_set, slice_index, Option, Some, None, subst, sym, refl, ap, ◌∙◌, arith}
-use Rattle.std.proofs.Math.Path.{fun_ext}
+use Rattle.word_grid.proofs.Common.{fun_ext, Me, Step, Allows, keeps, set_at, Stop, Right, Down, Stage, Walker, number_of, number_below, own_word, Walk, GridView, x_in, y_in, begun_of, accesses_made, IsShown, IsEnded, Shows, IsKept, KeepsGrid}
 use Rattle.std.proofs.lemmas.List.{length-set}
 use mathlib.Core.Option.{some}
 use lib.ListN.{get_elem?}
-use Rattle.atomic_table.specs.Table.{Me, Step, Allows, keeps}
-use Rattle.step_memory.specs.SetAt.{set_at}
 use Rattle.step_memory.proofs.SetAtLemmas.{set_at-same, set_at-other, set_at-cases, set_at-as_is}
-use Rattle.splitter.specs.declared.way.Way.TheVariants.{Stop, Right, Down}
-use Rattle.splitter.specs.declared.stage.Stage.{Stage}
 use Rattle.splitter.specs.declared.stage.Stage.TheVariants.{Outside, WroteX, SawClear, WroteY, Gone}
 use Rattle.splitter.specs.Stage.{is_gone, x_after, y_after, stage_after}
 use Rattle.splitter.specs.Walk.{accesses_at}
-use Rattle.splitter_grid.specs.declared.walker.Walker.{Walker}
-use Rattle.splitter_grid.specs.Door.{number_of}
 use Rattle.splitter_grid.specs.Walk.{walk_of, walked_to, place_of, place_by}
 use Rattle.splitter_grid.specs.Invariant.{DoorsAgree}
 use Rattle.splitter_grid.proofs.AgreeKept.{joined}
 use Rattle.splitter_grid.proofs.ConsistentKept.{agrees_after, deeper_is}
-use Rattle.splitter_grid.proofs.Numbers.{number_below}
-use Rattle.raw_parts.specs.SplitterView.{own_word}
 use Rattle.raw_parts.proofs.Views.{each_set, there_still}
-use Rattle.word_grid.specs.declared.grid_view.Walk.{Walk}
-use Rattle.word_grid.specs.declared.grid_view.GridView.{GridView}
 use Rattle.word_grid.specs.GridView.{walk_at, lone_view, standing}
-use Rattle.word_grid.specs.GridRule.{x_in, y_in, begun_of, accesses_made, IsShown, IsEnded, Shows, IsKept, KeepsGrid}
 use Rattle.word_grid.specs.GridSteps.{IsUnderRule, MovesOn, Stands, IsDoorOf, next_walker, walked_on, moved_on}
 use Rattle.raw_parts.proofs.Numbered.{each_map}
 use Rattle.word_grid.proofs.Words.{x_set, x_stays, y_set, y_stays, stored_again}

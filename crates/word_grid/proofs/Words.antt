@@ -1,10 +1,8 @@
 -- what stands in the doors after a store
 use Rattle.std.proofs.Common.{◌≡◌, ℕ, ◌+◌, ◌*◌, ◌<◌, inl, inr, List, length, slice_set, slice_index, ap, ◌∙◌, arith}
-use Rattle.std.proofs.Math.Path.{fun_ext}
+use Rattle.word_grid.proofs.Common.{fun_ext, set_at, x_in, y_in}
 use Rattle.std.proofs.lemmas.Bool.Decides.{eqb_tells}
 use Rattle.std.proofs.lemmas.List.{get_or-set_same, get_or-set_other, set-get_or}
-use Rattle.step_memory.specs.SetAt.{set_at}
-use Rattle.word_grid.specs.GridRule.{x_in, y_in}
 
 module _ (ws : List ℕ) (k v : ℕ) where
   pub x_set : 2 * k < length ws → x_in (slice_set ws (2 * k) v) ≡ set_at (x_in ws) k v

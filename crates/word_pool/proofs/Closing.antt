@@ -1,18 +1,10 @@
 -- the words of a pool at its end
 use Rattle.std.proofs.Common.{eq-eqb, ne_eqb, subst, ◌≡◌, ℕ, zero, suc, ◌+◌, ◌*◌, ◌<◌, ◌≤◌, sym, refl, ap, ◌∙◌, arith, List, [], ◌∷◌, ◌++◌, length, slice_index}
+use Rattle.word_pool.proofs.Common.{Final, Seen, at_last, PoolView, own, holding, Call, read_at, IsWordFor, set_places, KeepsPoolRule}
 use mathlib.Core.Option.{some, some-ne-none, some-injective}
 use mathlib.Core.Logic.{dite}
 use native.Mathlib.Decide.{ℕ_discrete}
 use lib.ListN.{get_elem?}
-use Rattle.atomic_table.specs.Table.{Final, Seen}
-use Rattle.atomic_table.proofs.Lists.{at_last}
-use Rattle.word_pool.specs.declared.pool_view.PoolView.{PoolView}
-use Rattle.word_pool.specs.Tally.{own, holding}
-use Rattle.word_pool.specs.declared.pool_view.Call.{Call}
-use Rattle.word_pool.specs.PoolView.{read_at}
-use Rattle.word_pool.specs.PoolSteps.{IsWordFor}
-use Rattle.word_pool.specs.Pools.{set_places}
-use Rattle.word_pool.specs.PoolRule.{KeepsPoolRule}
 use Rattle.word_pool.proofs.Keeping.{at_most_one}
 use Rattle.word_pool.proofs.Tallies.{tally_has}
 

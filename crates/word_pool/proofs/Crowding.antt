@@ -1,18 +1,12 @@
 -- each step keeps the law of a crowd
 use Rattle.std.proofs.Common.{◌≡◌, ◌≢◌, ℕ, zero, suc, ◌+◌, ◌-◌, ◌≤◌, ◌<◌, ⊎_elim, subst, sym, refl, ap, ◌∙◌, eqb, eq-eqb, ne_eqb, arith, List, [], ◌∷◌, ◌++◌, set}
+use Rattle.word_pool.proofs.Common.{Stage, AtRest, Seeking, Holding, Ended, Call, PoolView, at_rest, coming, sighting, passing, taking, going, lone, view_of, no_call, united, sum_of, tally, one_if, if_holding, holding, undealt}
 use mathlib.Core.Option.{some, some-ne-none, some-injective}
 use mathlib.Core.Logic.{dite}
 use native.Mathlib.Decide.{ℕ_discrete}
 use lib.ListN.{get_elem?}
 use Rattle.atomic_table.proofs.Lists.{at_set, at_snoc, set_else}
-use Rattle.word_pool.specs.declared.pool_view.Stage.{Stage}
-use Rattle.word_pool.specs.declared.pool_view.Stage.TheVariants.{AtRest, Seeking, Holding, Ended}
-use Rattle.word_pool.specs.declared.pool_view.Call.{Call}
-use Rattle.word_pool.specs.declared.pool_view.PoolView.{PoolView}
-use Rattle.word_pool.specs.PoolView.{at_rest, coming, sighting, passing, taking, going, lone, view_of, no_call, united}
-use Rattle.word_pool.specs.Tally.{sum_of, tally, one_if, if_holding, holding}
 use Rattle.word_pool.specs.Crowd.{by_each, competes, beyond, moves, now, competed, moved_by, log_of, log_of_call, greatest, IsSmall, WasCrowded, crowded_at, Each, KeepsCrowd}
-use Rattle.word_pool.specs.LineRule.{undealt}
 use Rattle.word_pool.proofs.Tallies.{tally_set, tally_has, tally_sum}
 
 -- what was, stays so, and what is claimed of seekers goes on

@@ -1,20 +1,15 @@
 -- each step of a pool keeps its rule
 use Rattle.std.proofs.Common.{◌≡◌, ◌≢◌, ℕ, zero, suc, ◌+◌, ◌*◌, ◌<◌, ◌≤◌, eq-eqb, ne_eqb, subst, sym, refl, ap, ◌∙◌, arith, List, [], ◌∷◌, ◌++◌, drop, length, set, slice_set, slice_index, replicate}
+use Rattle.word_pool.proofs.Common.{set_again, AtRest, Seeking, Holding, Call, PoolView, own, tally, one_if, holding, KeepsSteps}
 use Rattle.std.proofs.lemmas.List.{set-get_or, length-set, get_or-set_same, get_or-set_other, length-replicate}
 use mathlib.Core.Option.{Option, some, none}
 use mathlib.Core.Logic.{dite}
 use native.Mathlib.Decide.{ℕ_discrete}
 use lib.ListN.{get_elem?}
 use Rattle.atomic_table.specs.Table.{State, Step, step, Allows, Enters, Arrives, Joins, Splits, keeps}
-use Rattle.atomic_table.proofs.Lists.{set_again}
-use Rattle.word_pool.specs.declared.pool_view.Stage.TheVariants.{AtRest, Seeking, Holding}
-use Rattle.word_pool.specs.declared.pool_view.Call.{Call}
-use Rattle.word_pool.specs.declared.pool_view.PoolView.{PoolView}
 use Rattle.word_pool.specs.PoolView.{at_rest, coming, spent, sighting, passing, going, looked, swapped, swapped_hint, lone, resting, view_of, no_call, united, read_at, call_of, first_of}
-use Rattle.word_pool.specs.Tally.{own, tally, one_if, holding}
 use Rattle.word_pool.specs.PoolRule.{KeepsPool, KeepsPoolRule, IsHolder}
 use Rattle.word_pool.specs.PoolSteps.{Comes, ComesBySwap, Looks, Takes, LooksAside, TakesAside, Frees, LooksOn, ReadsFirst, ReadsOn, IsWordFor, IsUnderRule}
-use Rattle.word_pool.specs.NumberSteps.{KeepsSteps}
 use Rattle.word_pool.proofs.Tallies.{tally_set, tally_snoc, tally_has, tally_two, tally_finds, sum_both}
 
 -- what a call holds of each place, by its stage

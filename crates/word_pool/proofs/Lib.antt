@@ -1,3 +1,4 @@
+mod Common
 mod Tallies
 mod Keeping
 mod Closing

@@ -1,15 +1,9 @@
 -- the words of a line at its end
 use Rattle.std.proofs.Common.{◌≡◌, ℕ, zero, suc, ◌+◌, ◌-◌, ◌*◌, ◌<◌, ◌≤◌, eqb, eq-eqb, ne_eqb, sym, refl, ap, ◌∙◌, arith, List, slice_index}
+use Rattle.word_pool.proofs.Common.{Final, Seen, Stage, AtRest, Seeking, Holding, Ended, PoolView, own, tally, holding, if_holding, one_if, sum_below, KeepsPoolRule, by_stage, from, rests, KeepsLine, KeepsLineRule}
 use mathlib.Core.Logic.{dite}
 use native.Mathlib.Decide.{ℕ_discrete}
 use lib.ListN.{get_elem?}
-use Rattle.atomic_table.specs.Table.{Final, Seen}
-use Rattle.word_pool.specs.declared.pool_view.Stage.{Stage}
-use Rattle.word_pool.specs.declared.pool_view.Stage.TheVariants.{AtRest, Seeking, Holding, Ended}
-use Rattle.word_pool.specs.declared.pool_view.PoolView.{PoolView}
-use Rattle.word_pool.specs.Tally.{own, tally, holding, if_holding, one_if, sum_below}
-use Rattle.word_pool.specs.PoolRule.{KeepsPoolRule}
-use Rattle.word_pool.specs.LineRule.{by_stage, from, rests, KeepsLine, KeepsLineRule}
 use Rattle.word_pool.proofs.Tallies.{tally_has, tally_within, tally_below, below_same}
 use Rattle.word_pool.proofs.Closing.{same_index}
 

@@ -4,25 +4,10 @@ use mathlib.Core.Option.{some}
 use mathlib.Core.Logic.{dite}
 use native.Mathlib.Decide.{ℕ_discrete}
 use lib.ListN.{get_elem?}
-use Rattle.atomic_table.specs.Table.{State, Step, Allows, Splits}
-use Rattle.word_pool.specs.declared.pool_view.Stage.{Stage}
-use Rattle.word_pool.specs.declared.pool_view.Stage.TheVariants.{AtRest, Seeking, Holding, Ended}
-use Rattle.word_pool.specs.declared.pool_view.Call.{Call}
-use Rattle.word_pool.specs.declared.pool_view.PoolView.{PoolView}
-use Rattle.word_pool.specs.PoolView.{at_rest, coming, sighting, passing, races, taking, going, lone, resting, view_of}
-use Rattle.word_pool.specs.Tally.{sum_of, own, tally, one_if, if_holding, holding}
-use Rattle.atomic_table.proofs.Lists.{set_again}
-use Rattle.word_pool.specs.PoolSteps.{Comes, Looks, Frees, LooksOn}
 use Rattle.word_pool.specs.LineRule.{by_stage, from, rests, undealt, KeepsLine, KeepsLineRule, ComesBySwapInLine, TakesInLine, NeverComes}
-use Rattle.atomic_table.specs.Table.{Joins}
 use Rattle.word_pool.proofs.Keeping.{both, may_unite, may_sever, united_own, apart_own}
-use Rattle.word_pool.specs.PoolView.{no_call}
-use Rattle.word_pool.specs.PoolView.{united}
-use Rattle.word_pool.specs.PoolView.{looked}
-use Rattle.word_pool.specs.PoolView.{swapped}
-use Rattle.atomic_table.specs.Table.{keeps}
 use Rattle.std.proofs.Common.{slice_set}
-use Rattle.word_pool.specs.NumberSteps.{KeepsSteps}
+use Rattle.word_pool.proofs.Common.{State, Step, Allows, Splits, Stage, AtRest, Seeking, Holding, Ended, Call, PoolView, at_rest, coming, sighting, passing, races, taking, going, lone, resting, view_of, sum_of, own, tally, one_if, if_holding, holding, set_again, Comes, Looks, Frees, LooksOn, Joins, no_call, united, looked, swapped, keeps, KeepsSteps}
 use Rattle.word_pool.specs.Crowd.{now, IsSmall, KeepsCrowd}
 use Rattle.word_pool.proofs.Crowding.{two_beyond, come_there, comes_and_looks, comes_and_passes, came_views, log_at_coming, comes_and_takes, small_at_coming, sighting_crowd, passing_crowd, log_so_far, small_so_far, taking_crowd, there_set, going_crowd, unites_crowd, parts_crowd, each_undealt, crowd_opens}
 use Rattle.word_pool.proofs.Tallies.{tally_set, tally_snoc, tally_has, tally_sum}

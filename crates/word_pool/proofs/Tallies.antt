@@ -1,12 +1,10 @@
 -- sums over the calls of all seats
 use Rattle.std.proofs.Common.{◌≡◌, ◌≢◌, ℕ, zero, suc, ◌+◌, ◌<◌, ◌≤◌, sym, refl, ap, arith, List, [], ◌∷◌, ◌++◌, set}
+use Rattle.word_pool.proofs.Common.{Call, PoolView, sum_of, own, tally, sum_below}
 use mathlib.Core.Option.{some, some-ne-none, some-injective}
 use mathlib.Core.Logic.{dite}
 use native.Mathlib.Decide.{dec_le}
 use lib.ListN.{get_elem?}
-use Rattle.word_pool.specs.declared.pool_view.Call.{Call}
-use Rattle.word_pool.specs.declared.pool_view.PoolView.{PoolView}
-use Rattle.word_pool.specs.Tally.{sum_of, own, tally, sum_below}
 
 module _ (f : Call → ℕ) where
   same_own : (x v : PoolView) → some x ≡ some v → own f x ≡ own f v

@@ -1,5 +1,4 @@
-use Rattle.std.proofs.Common.{◌≡◌, ◌+◌, drop}
-use Rattle.std.specs.Prelude.{option_map}
+use Rattle.std.proofs.Common.{◌≡◌, ◌+◌, drop, option_map}
 use Rattle.snapshot_core.specs.Sightings.{index_of}
 use Rattle.snapshot_core.proofs.sightings.find.Given as goal
 

@@ -1,7 +1,6 @@
 use Rattle.std.proofs.Common.{◌≡◌, ◌<◌, ◌≤◌, ℕ, vec_len, vec_capacity}
+use Rattle.word_pool.proofs.Common.{slots_items, word_of}
 use lib.ListN.{get_elem?}
-use Rattle.std.specs.Mem.Slots.{slots_items}
-use Rattle.word_pool.specs.PoolRule.{word_of}
 use Rattle.word_pool.proofs.line_pool.read_out.Given as goal
 
 abbrev pub invariant-loop-i : goal.invariant-loop-i

@@ -1,6 +1,5 @@
 use Rattle.std.proofs.Common.{◌-◌, ◌<◌, subst}
-use Rattle.atomic_table.specs.Seated.{TableId}
-use Rattle.raw_parts.specs.BoardView.{claim}
+use Rattle.raw_parts.proofs.Common.{TableId, claim}
 use Rattle.raw_parts.proofs.Claims.{may_begin}
 use Rattle.raw_parts.proofs.board.Board.close.Goals as goal
 

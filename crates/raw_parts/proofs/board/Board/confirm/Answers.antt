@@ -1,6 +1,5 @@
 use Rattle.std.proofs.Common.{◌≡◌, ◌<◌, ℕ, ap, sym, subst, ◌∙◌, arith}
-use Rattle.atomic_table.specs.Seated.{TableId}
-use Rattle.raw_parts.specs.Boards.{ReaderId}
+use Rattle.raw_parts.proofs.Common.{TableId, ReaderId}
 use Rattle.raw_parts.proofs.Claims.{may_find, may_hand}
 use Rattle.raw_parts.proofs.board.Board.confirm.Goals as goal
 

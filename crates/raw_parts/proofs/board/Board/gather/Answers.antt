@@ -1,10 +1,5 @@
 use Rattle.std.proofs.Common.{◌≡◌, ◌-◌, ◌<◌, ℕ, inl, ap, sym, subst, ◌∙◌, arith, ◌∷◌, []}
-use Rattle.atomic_table.specs.Seated.{TableId}
-use Rattle.atomic_table.specs.Table.{Me}
-use Rattle.raw_parts.specs.declared.board_view.BoardView.{BoardView}
-use Rattle.raw_parts.specs.BoardRule.{IsClaimed}
-use Rattle.raw_parts.specs.BoardView.{claim, lone_claim}
-use Rattle.raw_parts.specs.Boards.{GrantId}
+use Rattle.raw_parts.proofs.Common.{TableId, Me, BoardView, IsClaimed, claim, lone_claim, GrantId}
 use Rattle.raw_parts.proofs.Claims.{may_unite, claimed_first, claimed_second}
 use Rattle.raw_parts.proofs.board.Board.gather.Goals as goal
 use Rattle.raw_parts.proofs.board.Board.gather.Goals.{After-join_seat}

@@ -1,7 +1,6 @@
 use Rattle.std.proofs.Common.{◌≡◌, ◌∷◌, [], sym, ◌∙◌, refl}
+use Rattle.raw_parts.proofs.Common.{step, claim, claims_of, united}
 use mathlib.Core.Option.{none}
-use Rattle.atomic_table.specs.Table.{step}
-use Rattle.raw_parts.specs.BoardView.{claim, claims_of, united}
 use Rattle.raw_parts.proofs.Claims.{may_unite, may_look_on, may_divide}
 use Rattle.raw_parts.proofs.board.Board.look_together.Goals as goal
 

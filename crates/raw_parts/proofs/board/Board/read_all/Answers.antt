@@ -1,8 +1,6 @@
 use Rattle.std.proofs.Common.{◌≡◌, ◌+◌, ◌++◌, ℕ, suc, List, ◌∷◌, reverse, length, ap, sym, subst, ◌∙◌, arith, []}
+use Rattle.raw_parts.proofs.Common.{Me, Claim, BoardView}
 use Rattle.std.proofs.lemmas.List.{length-reverse, reverse-append}
-use Rattle.atomic_table.specs.Table.{Me}
-use Rattle.raw_parts.specs.declared.board_view.Claim.{Claim}
-use Rattle.raw_parts.specs.declared.board_view.BoardView.{BoardView}
 use Rattle.raw_parts.specs.BoardSteps.{AgreeWith}
 use Rattle.raw_parts.proofs.Claims.{may_read, read_more}
 use Rattle.raw_parts.proofs.board.Board.read_all.Goals as goal

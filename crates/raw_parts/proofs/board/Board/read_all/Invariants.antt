@@ -1,6 +1,5 @@
 use Rattle.std.proofs.Common.{◌≡◌, ◌<◌, ◌≤◌, ◌+◌, [], reverse, slice_index, vec_len, vec_capacity}
-use Rattle.raw_parts.specs.declared.board_view.Claim.{Claim}
-use Rattle.raw_parts.specs.BoardRule.{IsClaimed}
+use Rattle.raw_parts.proofs.Common.{Claim, IsClaimed}
 use Rattle.raw_parts.proofs.board.Board.read_all.Given as goal
 
 abbrev pub invariant-loop-word : goal.invariant-loop-word

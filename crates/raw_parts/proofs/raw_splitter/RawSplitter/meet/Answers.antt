@@ -1,7 +1,6 @@
 use Rattle.std.proofs.Common.{ap, sym, ◌∙◌, [], ◌∷◌}
-use Rattle.raw_parts.specs.SplitterView.{view_of}
+use Rattle.raw_parts.proofs.Common.{view_of, IsUnderRule}
 use Rattle.raw_parts.specs.Seats.{gone_at}
-use Rattle.raw_parts.specs.SplitterSteps.{IsUnderRule}
 use Rattle.raw_parts.proofs.Visiting.{badge_view, apart, right_after, down_before, one_stops, split_of_two}
 use Rattle.raw_parts.proofs.raw_splitter.RawSplitter.meet.Given.{Over}
 use Rattle.raw_parts.proofs.raw_splitter.RawSplitter.meet.Goals.{After-drop-other-inside}

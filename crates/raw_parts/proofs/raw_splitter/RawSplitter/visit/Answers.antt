@@ -1,9 +1,6 @@
 use Rattle.std.proofs.Common.{arith, ap, sym, ◌≡◌, ◌+◌, ◌∙◌, []}
+use Rattle.raw_parts.proofs.Common.{step, WroteX, SawClear, fresh_visit, lone_view, visit_at, after_access}
 use mathlib.Core.Option.{none}
-use Rattle.atomic_table.specs.Table.{step}
-use Rattle.splitter.specs.declared.stage.Stage.TheVariants.{WroteX, SawClear}
-use Rattle.raw_parts.specs.SplitterView.{fresh_visit, lone_view, visit_at}
-use Rattle.raw_parts.specs.SplitterSteps.{after_access}
 use Rattle.raw_parts.proofs.Accesses.{may_write_x, may_read_y, may_write_y, may_read_x, stands_after}
 use Rattle.raw_parts.proofs.Visiting.{goes_right}
 use Rattle.raw_parts.proofs.raw_splitter.RawSplitter.visit.Goals as goal

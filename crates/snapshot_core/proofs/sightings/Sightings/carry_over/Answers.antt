@@ -1,7 +1,6 @@
 use Rattle.std.proofs.Common.{◌≡◌, ℕ, ◌≤◌, List, ◌++◌, length, take, drop, map, ◌∙◌, arith, length-append, length-drop}
+use Rattle.snapshot_core.proofs.Common.{Sighting, carried_over}
 use Rattle.std.proofs.lemmas.List.{length-map, length-take-le, take_at}
-use Rattle.snapshot_core.specs.declared.sightings.Sighting.{Sighting}
-use Rattle.snapshot_core.specs.Sightings.{carried_over}
 use Rattle.snapshot_core.proofs.SightingLemmas.{distinct-carried}
 use Rattle.snapshot_core.proofs.sightings.Sightings.carry_over.Goals as goal
 

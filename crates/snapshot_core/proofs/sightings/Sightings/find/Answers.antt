@@ -1,6 +1,5 @@
 use Rattle.std.proofs.Common.{◌≡◌, take, sym, ap, ◌∙◌, arith, get_or}
-use Rattle.std.proofs.lemmas.List.{get_or-take, length-take-le}
-use Rattle.snapshot_core.specs.Sightings.{unknown, index_of}
+use Rattle.snapshot_core.proofs.Common.{get_or-take, length-take-le, unknown, index_of}
 use Rattle.snapshot_core.proofs.SightingLemmas.{index_of-distinct}
 use Rattle.snapshot_core.proofs.sightings.Sightings.find.Goals as goal
 

@@ -1,6 +1,5 @@
 use Rattle.std.proofs.Common.{◌≡◌, ◌<◌, Some, None, take, sym, ◌∙◌, arith, rules}
-use Rattle.std.proofs.lemmas.List.{get_or-take, length-take-le}
-use Rattle.snapshot_core.specs.Sightings.{index_of}
+use Rattle.snapshot_core.proofs.Common.{get_or-take, length-take-le, index_of}
 use Rattle.snapshot_core.proofs.SightingLemmas.{IsNotedAt, noted_at, not_noted}
 use Rattle.snapshot_core.proofs.sightings.Sightings.get.Goals as goal
 use Rattle.snapshot_core.proofs.sightings.Sightings.get.Goals.{In-Some}

@@ -1,11 +1,9 @@
 use Rattle.std.proofs.Common.{rules, ◌≡◌, Ok, Err, refl, sym, ap, ◌∙◌}
-use Rattle.step_memory.specs.declared.refusal.Refusal.TheVariants.{NoMemory}
+use Rattle.snapshot_core.proofs.Common.{NoMemory, snap_answer, after_snap_step, told_of_way, KnownPlaces, places_by}
 use Rattle.snapshot_core.specs.declared.client.SnapReply.TheVariants.{Quiet}
-use Rattle.snapshot_core.specs.SnapWorld.{snap_answer, after_snap_step, told_of_way}
 use Rattle.snapshot_core.proofs.SnapWorldLemmas.{after_step_call, stays_alike, snap_alike}
 use Rattle.snapshot_core.proofs.SureSteps.{lacks_on_way}
 use Rattle.snapshot_core.proofs.Following.{law_holds, own_access_holds}
-use Rattle.snapshot_core.specs.Places.{KnownPlaces, places_by}
 use Rattle.snapshot_core.proofs.world.SnapWorld.step.Given.{Over}
 use Rattle.snapshot_core.proofs.world.SnapWorld.step.Goals as goal
 use Rattle.snapshot_core.proofs.world.SnapWorld.step.Goals.{After-walk_on}

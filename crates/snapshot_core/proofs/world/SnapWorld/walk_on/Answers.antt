@@ -1,10 +1,8 @@
 use Rattle.std.proofs.Common.{Ok, IfSome, Option, Some, None, sym, ◌∙◌}
+use Rattle.snapshot_core.proofs.Common.{told_of_way, placed_note, KnownPlaces, places_by}
 use Rattle.step_memory.specs.Taken.{told_in}
-use Rattle.snapshot_core.specs.SnapWorld.{told_of_way}
 use Rattle.snapshot_core.proofs.SnapWorldLemmas.{after_stepped, way_state, way_answer}
 use Rattle.snapshot_core.proofs.Following.{law_holds}
-use Rattle.snapshot_core.specs.Client.{placed_note}
-use Rattle.snapshot_core.specs.Places.{KnownPlaces, places_by}
 use Rattle.snapshot_core.proofs.world.SnapWorld.walk_on.Given.{Over}
 use Rattle.snapshot_core.proofs.world.SnapWorld.walk_on.Goals as goal
 

@@ -1,7 +1,5 @@
 use Rattle.std.proofs.Common.{◌≡◌, ℕ, ap, subst, ◌∙◌}
-use Rattle.step_memory.specs.RegisterState.{Registers}
-use Rattle.splitter_grid.specs.Invariant.{was_entered}
-use Rattle.step_memory.specs.Count.{count_to}
+use Rattle.splitter_grid.proofs.Common.{Registers, was_entered, count_to}
 use Rattle.splitter_grid.proofs.GridTied.{grid_always}
 use Rattle.splitter_grid.proofs.EnteredDoors.{written_entered}
 use Rattle.splitter_grid.proofs.world.GridWorld.doors_entered.Goals as goal

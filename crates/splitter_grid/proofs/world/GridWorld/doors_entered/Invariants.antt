@@ -1,6 +1,5 @@
 use Rattle.std.proofs.Common.{◌≡◌, ◌≤◌}
-use Rattle.splitter_grid.specs.Invariant.{was_entered}
-use Rattle.step_memory.specs.Count.{count_to}
+use Rattle.splitter_grid.proofs.Common.{was_entered, count_to}
 use Rattle.splitter_grid.proofs.world.GridWorld.doors_entered.Given as goal
 
 abbrev pub invariant-loop-k : goal.invariant-loop-k

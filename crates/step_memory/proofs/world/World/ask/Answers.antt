@@ -1,5 +1,4 @@
-use Rattle.std.proofs.Common.{◌≡◌, Some, None, refl, ap, ◌∙◌}
-use Rattle.std.specs.Prelude.{option_map}
+use Rattle.std.proofs.Common.{◌≡◌, Some, None, refl, ap, ◌∙◌, option_map}
 use Rattle.step_memory.specs.Participant.{participant_of, program_of, beginner}
 use Rattle.step_memory.proofs.Found.{Found}
 use Rattle.step_memory.proofs.Roster as roster

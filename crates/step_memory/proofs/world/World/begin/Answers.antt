@@ -1,7 +1,5 @@
-use Rattle.std.proofs.Common.{rules, ◌≡◌, ◌≤◌, [], ◌∷◌, ◌++◌, None, ap}
-use Rattle.std.specs.Prelude.{vec_capacity}
-use Rattle.step_memory.specs.Participant.{beginner}
-use Rattle.step_memory.specs.World.{begin_refusal}
+use Rattle.std.proofs.Common.{rules, ◌≡◌, ◌≤◌, [], ◌∷◌, ◌++◌, None, ap, vec_capacity}
+use Rattle.step_memory.proofs.Common.{beginner, begin_refusal}
 use Rattle.step_memory.proofs.DistinctParticipants.{distinct_push}
 use Rattle.step_memory.proofs.WorldKeeps.{let_in}
 use Rattle.step_memory.proofs.world.World.begin.Goals as goal

@@ -1,5 +1,4 @@
-use Rattle.std.proofs.Common.{◌≡◌, ap, ◌∙◌}
-use Rattle.std.specs.Prelude.{is_some}
+use Rattle.std.proofs.Common.{◌≡◌, ap, ◌∙◌, is_some}
 use Rattle.step_memory.specs.Participant.{index_of}
 use Rattle.step_memory.proofs.Found.{is_some-index_of}
 use Rattle.step_memory.proofs.world.World.has_begun.Goals as goal

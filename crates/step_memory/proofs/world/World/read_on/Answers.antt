@@ -1,9 +1,7 @@
 use Rattle.std.proofs.Common.{◌≡◌, ◌<◌, true, false, Ok, set, refl, sym, ap, ◌∙◌, length}
-use Rattle.std.proofs.lemmas.List.{get_or_default}
+use Rattle.step_memory.proofs.Common.{get_or_default, resumed, with_participant, got_by}
 use Rattle.step_memory.specs.declared.access.Access.TheVariants.{Read}
 use Rattle.step_memory.specs.declared.access.Answer.TheVariants.{Value}
-use Rattle.step_memory.specs.Participant.{resumed, with_participant}
-use Rattle.step_memory.specs.World.{got_by}
 use Rattle.step_memory.proofs.LocalityLemmas.{step_local}
 use Rattle.step_memory.proofs.Found.{Found}
 use Rattle.step_memory.proofs.Roster as roster

@@ -1,7 +1,5 @@
 use Rattle.std.proofs.Common.{◌≡◌, ◌<◌, None, Ok, set, refl, sym, ap, ◌∙◌, length}
-use Rattle.std.proofs.lemmas.List.{get_or_default}
-use Rattle.step_memory.specs.Participant.{participant_of, resumed, with_participant}
-use Rattle.step_memory.specs.World.{got_by}
+use Rattle.step_memory.proofs.Common.{get_or_default, participant_of, resumed, with_participant, got_by}
 use Rattle.step_memory.proofs.Found.{Found}
 use Rattle.step_memory.proofs.Roster as roster
 use Rattle.step_memory.proofs.LocalityLemmas.{step_local, answers_alike}

@@ -1,9 +1,7 @@
 use Rattle.std.proofs.Common.{◌≡◌, ◌<◌, Ok, IfSome, Option, Some, None, set, refl, sym, ap, ◌∙◌, length}
+use Rattle.step_memory.proofs.Common.{get_or_default, resumed, with_participant, got_by}
 use Rattle.std.proofs.lemmas.Option.{IfSome_then}
 use Rattle.std.proofs.lemmas.Result.{on_err_weaker}
-use Rattle.std.proofs.lemmas.List.{get_or_default}
-use Rattle.step_memory.specs.Participant.{resumed, with_participant}
-use Rattle.step_memory.specs.World.{got_by}
 use Rattle.step_memory.specs.Taken.{told_in}
 use Rattle.step_memory.proofs.LocalityLemmas.{step_local}
 use Rattle.step_memory.proofs.Found.{Found}

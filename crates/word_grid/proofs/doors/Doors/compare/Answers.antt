@@ -1,9 +1,6 @@
 use Rattle.std.proofs.Common.{arith, ap, sym, refl, ◌≡◌, ◌∷◌, ◌++◌, [], ◌∙◌}
+use Rattle.word_grid.proofs.Common.{step, number_below, view_of, GridId}
 use mathlib.Core.Option.{none}
-use Rattle.atomic_table.specs.Table.{step}
-use Rattle.splitter_grid.proofs.Numbers.{number_below}
-use Rattle.word_grid.specs.GridView.{view_of}
-use Rattle.word_grid.specs.Seats.{GridId}
 use Rattle.word_grid.proofs.Claiming.{may_learn, may_forget}
 use Rattle.word_grid.proofs.Dealing.{may_look}
 use Rattle.word_grid.proofs.doors.Doors.compare.Goals as goal

@@ -1,6 +1,5 @@
 use Rattle.std.proofs.Common.{ap, arith, sym, ◌∙◌}
-use Rattle.splitter_grid.proofs.Numbers.{number_below}
-use Rattle.word_grid.specs.Seats.{GridId}
+use Rattle.word_grid.proofs.Common.{number_below, GridId}
 use Rattle.word_grid.proofs.Dealing.{may_deal, left_over}
 use Rattle.word_grid.proofs.doors.Doors.deal.Goals as goal
 

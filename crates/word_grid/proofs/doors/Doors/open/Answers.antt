@@ -1,6 +1,5 @@
 use Rattle.std.proofs.Common.{◌≡◌, ◌+◌, ◌*◌, ℕ, List, [], ◌∷◌, replicate, sym, subst, ◌∙◌}
-use Rattle.word_grid.specs.GridView.{undealt_from}
-use Rattle.word_grid.specs.GridRule.{IsKept}
+use Rattle.word_grid.proofs.Common.{undealt_from, IsKept}
 use Rattle.word_grid.proofs.Dealing.{opens}
 use Rattle.word_grid.proofs.doors.Doors.open.Goals as goal
 

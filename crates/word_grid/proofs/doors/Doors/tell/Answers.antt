@@ -1,6 +1,5 @@
 use Rattle.std.proofs.Common.{arith, ap, sym, ◌∙◌}
-use Rattle.splitter_grid.proofs.Numbers.{number_below}
-use Rattle.word_grid.specs.Seats.{GridId}
+use Rattle.word_grid.proofs.Common.{number_below, GridId}
 use Rattle.word_grid.proofs.Claiming.{may_tell}
 use Rattle.word_grid.proofs.doors.Doors.tell.Goals as goal
 

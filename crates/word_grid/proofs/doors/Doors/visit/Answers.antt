@@ -1,11 +1,6 @@
 use Rattle.std.proofs.Common.{arith, ap, sym, ◌≡◌, ◌∙◌, refl}
+use Rattle.word_grid.proofs.Common.{step, WroteX, SawClear, WroteY, walker_at, visit_on, number_below, own_word, GridId}
 use mathlib.Core.Option.{none}
-use Rattle.atomic_table.specs.Table.{step}
-use Rattle.splitter.specs.declared.stage.Stage.TheVariants.{WroteX, SawClear, WroteY}
-use Rattle.splitter_grid.specs.Walk.{walker_at, visit_on}
-use Rattle.splitter_grid.proofs.Numbers.{number_below}
-use Rattle.raw_parts.specs.SplitterView.{own_word}
-use Rattle.word_grid.specs.Seats.{GridId}
 use Rattle.word_grid.proofs.Walking.{may_write_x, may_read_y, may_write_y, may_read_x}
 use Rattle.word_grid.proofs.Visiting.{wrote_x, saw_clear, wrote_y}
 use Rattle.word_grid.proofs.doors.Doors.visit.Goals as goal

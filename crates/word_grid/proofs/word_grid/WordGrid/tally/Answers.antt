@@ -1,8 +1,5 @@
 use Rattle.std.proofs.Common.{ap, sym, subst, refl, arith, ◌-◌, ◌∙◌}
-use Rattle.splitter_grid.proofs.Numbers.{number_low}
-use Rattle.word_grid.specs.GridView.{unbegun_from}
-use Rattle.word_grid.specs.Law.{KeepsWalkLaw}
-use Rattle.word_grid.specs.Seats.{stopped_at}
+use Rattle.word_grid.proofs.Common.{number_low, unbegun_from, KeepsWalkLaw, stopped_at}
 use Rattle.word_grid.proofs.Ending.{badge_view, dealer_view, counted, within}
 use Rattle.word_grid.proofs.word_grid.WordGrid.tally.Goals as goal
 

@@ -1,10 +1,5 @@
-use Rattle.std.proofs.Common.{ap, sym, ◌∙◌, arith}
-use Rattle.std.specs.Prelude.{None}
-use Rattle.splitter.specs.declared.way.Way.TheVariants.{Right, Down}
-use Rattle.splitter_grid.specs.declared.door.Door.{Door}
-use Rattle.splitter_grid.specs.Walk.{walker_at}
-use Rattle.raw_parts.specs.SplitterView.{own_word}
-use Rattle.word_grid.specs.Seats.{GridId}
+use Rattle.std.proofs.Common.{ap, sym, ◌∙◌, arith, None}
+use Rattle.word_grid.proofs.Common.{Right, Down, Door, walker_at, own_word, GridId}
 use Rattle.word_grid.proofs.Visiting.{leads_on}
 use Rattle.word_grid.proofs.word_grid.WordGrid.walk.Goals as goal
 

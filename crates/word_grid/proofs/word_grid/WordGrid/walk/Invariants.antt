@@ -1,7 +1,5 @@
 use Rattle.std.proofs.Common.{◌≡◌, ◌-◌, ℕ}
-use Rattle.splitter_grid.specs.Walk.{walker_at}
-use Rattle.raw_parts.specs.SplitterView.{own_word}
-use Rattle.word_grid.specs.GridSteps.{Stands, IsDoorOf}
+use Rattle.word_grid.proofs.Common.{walker_at, own_word, Stands, IsDoorOf}
 use Rattle.word_grid.proofs.word_grid.WordGrid.walk.Given as goal
 
 abbrev pub invariant-loop-door : goal.invariant-loop-door

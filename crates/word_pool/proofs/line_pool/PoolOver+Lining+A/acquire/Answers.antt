@@ -1,8 +1,6 @@
 use Rattle.std.proofs.Common.{◌≡◌, ap, sym, ◌∙◌, arith, ◌∷◌, []}
+use Rattle.word_pool.proofs.Common.{step, PoolView, resting, past_in}
 use mathlib.Core.Option.{none}
-use Rattle.atomic_table.specs.Table.{step}
-use Rattle.word_pool.specs.declared.pool_view.PoolView.{PoolView}
-use Rattle.word_pool.specs.PoolView.{resting, past_in}
 use Rattle.word_pool.specs.Pools.{PoolId, TicketId}
 use Rattle.word_pool.proofs.Lining.{may_come_in_line, may_come_by_swap_in_line}
 use Rattle.word_pool.proofs.line_pool.PoolOver+Lining+A.acquire.Goals as goal

@@ -1,13 +1,6 @@
 use Rattle.std.proofs.Common.{◌∙◌, ◌≡◌, ◌+◌, ◌≤◌, [], slice_index, ◌<◌, ◌-◌, ◌*◌, ℕ, ap, sym, subst, arith}
-use Rattle.std.specs.Mem.Slots.{slots_items}
-use Rattle.word_pool.specs.Pools.{PoolId}
+use Rattle.word_pool.proofs.Common.{slots_items, PoolId, KeepsPoolRule, view_of, own, sum_below, rests, undealt, Final, Seen, Me, PoolView}
 use Rattle.word_pool.proofs.Closing.{bits_at_end, held_at_end}
-use Rattle.word_pool.specs.PoolRule.{KeepsPoolRule}
-use Rattle.word_pool.specs.PoolView.{view_of}
-use Rattle.word_pool.specs.Tally.{own, sum_below}
-use Rattle.word_pool.specs.LineRule.{rests, undealt}
-use Rattle.atomic_table.specs.Table.{Final, Seen, Me}
-use Rattle.word_pool.specs.declared.pool_view.PoolView.{PoolView}
 use Rattle.word_pool.proofs.Lining.{rests_undealt}
 use Rattle.word_pool.proofs.LineClosing.{pool_at_end, few_at_end}
 use Rattle.word_pool.proofs.line_pool.PoolOver+Lining+A.close.Goals as goal

@@ -1,9 +1,5 @@
 use Rattle.std.proofs.Common.{◌≡◌, ◌-◌, ℕ, List, [], ◌∷◌, drop, take, suc, ap, sym, subst, ◌∙◌, arith}
-use Rattle.atomic_table.specs.Table.{Me}
-use Rattle.word_pool.specs.declared.pool_view.PoolView.{PoolView}
-use Rattle.word_pool.specs.LineRule.{undealt}
-use Rattle.word_pool.specs.PoolView.{view_of, resting, past_in}
-use Rattle.word_pool.specs.Pools.{PoolId}
+use Rattle.word_pool.proofs.Common.{Me, PoolView, undealt, view_of, resting, past_in, PoolId}
 use Rattle.word_pool.proofs.Lining.{may_deal}
 use Rattle.word_pool.proofs.line_pool.PoolOver+Lining+A.deal.Goals as goal
 use Rattle.word_pool.proofs.line_pool.PoolOver+Lining+A.deal.Goals.{After-split_seat-dealt}

@@ -1,10 +1,5 @@
 use Rattle.std.proofs.Common.{◌≡◌, ◌<◌, ◌-◌, ◌*◌, ℕ, ap, sym, subst, ◌∙◌, arith, ◌∷◌, []}
-use Rattle.atomic_table.specs.Table.{Me}
-use Rattle.atomic_table.specs.Seated.{TableId}
-use Rattle.word_pool.specs.declared.pool_view.PoolView.{PoolView}
-use Rattle.word_pool.specs.Tally.{own, holding}
-use Rattle.word_pool.specs.PoolView.{lone, call_in, past_in, united}
-use Rattle.word_pool.specs.Pools.{PoolId, CallId}
+use Rattle.word_pool.proofs.Common.{Me, TableId, PoolView, own, holding, lone, call_in, past_in, united, PoolId, CallId}
 use Rattle.word_pool.proofs.Keeping.{united_own, holds_it}
 use Rattle.word_pool.proofs.pool_over.PoolOver.gather.Goals as goal
 

@@ -1,10 +1,8 @@
 use Rattle.std.proofs.Common.{◌≡◌, ◌<◌, ◌≤◌, ◌-◌, ⊎_elim, inl, inr, ℕ, List, ap, sym, subst, ◌∙◌, refl, arith, ◌∷◌, [], length}
+use Rattle.word_pool.proofs.Common.{own, holding, word_of, CallId}
 use mathlib.Core.Option.{some, some-ne-none}
 use lib.ListN.{get_elem?}
 use Rattle.atomic_table.proofs.Lists.{at_last, at_longer, at_snoc}
-use Rattle.word_pool.specs.Tally.{own, holding}
-use Rattle.word_pool.specs.PoolRule.{word_of}
-use Rattle.word_pool.specs.Pools.{CallId}
 use Rattle.word_pool.proofs.pool_over.PoolOver.gather_all.Goals as goal
 
 none_there : (l : List CallId) (i : ℕ) (h : CallId) → length l ≡ 0 → ¬ (get_elem? l i ≡ some h)

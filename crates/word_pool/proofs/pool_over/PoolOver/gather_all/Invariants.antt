@@ -1,10 +1,7 @@
 use Rattle.std.proofs.Common.{◌≡◌, ◌<◌, ◌≤◌, ◌-◌, ◌⊎◌, ℕ, [], length}
+use Rattle.word_pool.proofs.Common.{Call, own, holding, word_of, CallId}
 use mathlib.Core.Option.{some}
 use lib.ListN.{get_elem?}
-use Rattle.word_pool.specs.declared.pool_view.Call.{Call}
-use Rattle.word_pool.specs.Tally.{own, holding}
-use Rattle.word_pool.specs.PoolRule.{word_of}
-use Rattle.word_pool.specs.Pools.{CallId}
 use Rattle.word_pool.proofs.pool_over.PoolOver.gather_all.Given as goal
 
 abbrev pub invariant-loop-held : goal.invariant-loop-held

@@ -1,9 +1,6 @@
 use Rattle.std.proofs.Common.{◌≡◌, ◌<◌, ◌*◌, ap, sym, subst, ◌∙◌, arith, ◌∷◌, []}
+use Rattle.word_pool.proofs.Common.{step, TableId, lone, call_in, past_in, PoolId, CallId}
 use mathlib.Core.Option.{none}
-use Rattle.atomic_table.specs.Table.{step}
-use Rattle.atomic_table.specs.Seated.{TableId}
-use Rattle.word_pool.specs.PoolView.{lone, call_in, past_in}
-use Rattle.word_pool.specs.Pools.{PoolId, CallId}
 use Rattle.word_pool.proofs.pool_over.PoolOver.give_back.Goals as goal
 
 pub store-requires : goal.store-requires

@@ -1,10 +1,6 @@
 use Rattle.std.proofs.Common.{◌≡◌, ◌∷◌, ◌++◌, ℕ, [], sym, ap, ◌∙◌, arith, subst, refl}
+use Rattle.word_pool.proofs.Common.{Me, step, PoolView, lone, view_of, call_of, IsUnderRule, PoolId}
 use mathlib.Core.Option.{none}
-use Rattle.atomic_table.specs.Table.{Me, step}
-use Rattle.word_pool.specs.declared.pool_view.PoolView.{PoolView}
-use Rattle.word_pool.specs.PoolView.{lone, view_of, call_of}
-use Rattle.word_pool.specs.PoolSteps.{IsUnderRule}
-use Rattle.word_pool.specs.Pools.{PoolId}
 use Rattle.word_pool.proofs.Keeping.{are_apart, both}
 use Rattle.word_pool.proofs.pool_over.PoolOver.look_together.Goals as goal
 use Rattle.word_pool.proofs.pool_over.PoolOver.look_together.Goals.{After-join_seat}

@@ -1,9 +1,6 @@
 use Rattle.std.proofs.Common.{◌≡◌, ◌≢◌, ◌-◌, ℕ, ap, refl, ne_eqb, ◌∙◌, arith, []}
+use Rattle.word_pool.proofs.Common.{Me, step, PoolView, at_rest, call_of, lone, spent, swapped_hint, PoolId}
 use mathlib.Core.Option.{none}
-use Rattle.atomic_table.specs.Table.{Me, step}
-use Rattle.word_pool.specs.declared.pool_view.PoolView.{PoolView}
-use Rattle.word_pool.specs.PoolView.{at_rest, call_of, lone, spent, swapped_hint}
-use Rattle.word_pool.specs.Pools.{PoolId}
 use Rattle.word_pool.proofs.Keeping.{may_come_back, may_come_back_by_swap, may_look_aside, may_take_aside}
 use Rattle.word_pool.proofs.word_pool.PoolOver+Pooling+A.acquire_near.Goals as goal
 

@@ -1,11 +1,6 @@
 use Rattle.std.proofs.Common.{◌≡◌, ◌*◌, ◌+◌, ◌++◌, ℕ, suc, List, ◌∷◌, drop, length, ap, sym, subst, ◌∙◌, refl, arith, [], vec_len}
+use Rattle.word_pool.proofs.Common.{Me, step, PoolView, call_of, view_of, read_at, own, holding, IsWordFor, PoolId, set_places}
 use mathlib.Core.Option.{none}
-use Rattle.atomic_table.specs.Table.{Me, step}
-use Rattle.word_pool.specs.declared.pool_view.PoolView.{PoolView}
-use Rattle.word_pool.specs.PoolView.{call_of, view_of, read_at}
-use Rattle.word_pool.specs.Tally.{own, holding}
-use Rattle.word_pool.specs.PoolSteps.{IsWordFor}
-use Rattle.word_pool.specs.Pools.{PoolId, set_places}
 use Rattle.word_pool.proofs.Keeping.{may_read_first, may_read_on, read_own, read_accesses}
 use Rattle.word_pool.proofs.Closing.{met_more, words_more, as_word}
 use Rattle.word_pool.proofs.word_pool.PoolOver+Pooling+A.look_at_all.Goals as goal

@@ -1,8 +1,5 @@
 use Rattle.std.proofs.Common.{◌≡◌, ◌<◌, ◌≤◌, ℕ, [], slice_index, vec_len, vec_capacity}
-use Rattle.word_pool.specs.PoolView.{call_of}
-use Rattle.word_pool.specs.Tally.{own, holding}
-use Rattle.word_pool.specs.PoolSteps.{IsWordFor}
-use Rattle.word_pool.specs.Pools.{set_places}
+use Rattle.word_pool.proofs.Common.{call_of, own, holding, IsWordFor, set_places}
 use Rattle.word_pool.proofs.word_pool.PoolOver+Pooling+A.look_at_all.Given as goal
 
 abbrev pub invariant-loop-place : goal.invariant-loop-place

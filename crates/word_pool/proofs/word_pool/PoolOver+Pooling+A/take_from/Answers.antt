@@ -1,8 +1,6 @@
 use Rattle.std.proofs.Common.{◌≡◌, ap, sym, ◌∙◌, arith, []}
+use Rattle.word_pool.proofs.Common.{step, lone, call_of, PoolId}
 use mathlib.Core.Option.{none}
-use Rattle.atomic_table.specs.Table.{step}
-use Rattle.word_pool.specs.PoolView.{lone, call_of}
-use Rattle.word_pool.specs.Pools.{PoolId}
 use Rattle.word_pool.proofs.Keeping.{may_take}
 use Rattle.word_pool.proofs.word_pool.PoolOver+Pooling+A.take_from.Goals as goal
 

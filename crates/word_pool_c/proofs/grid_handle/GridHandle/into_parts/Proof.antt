@@ -1,9 +1,8 @@
 -- `into_parts` moves two fields, and what they own goes with them.
 use contract.Monad.{fact}
-use Rattle.std.specs.Prelude.{◌≡◌, Option, Some}
+use Rattle.std.proofs.Common.{◌≡◌, Option, Some, refl, sym, subst}
 use Rattle.word_pool_c.specs.Held.{grid_row}
 use Rattle.word_pool_c.specs.contracts.grid_handle.GridHandle as Handle
-use mathlib.Core.Path.{refl, sym, subst}
 use mathlib.Core.List.{List, [], ◌∷◌, ◌++◌}
 use seplogic.Ra.Ura.{Ura}
 use mir.Val.{Val}

@@ -1,8 +1,7 @@
 -- `of_parts` moves two fields, and what they own goes with them.
-use mathlib.Core.Path.{refl, sym, subst}
+use Rattle.std.proofs.Common.{refl, sym, subst, Some}
 use mathlib.Core.List.{List, [], ◌∷◌, ◌++◌}
 use seplogic.Ra.Ura.{Ura}
-use Rattle.std.specs.Prelude.{Some}
 use mir.Val.{Val}
 use base.Logic.{SProp, ent, emp, id⊢}
 use base.Fml.{ftrue, fsep}

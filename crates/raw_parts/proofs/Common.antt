@@ -1,0 +1,20 @@
+-- The names that several proofs of this crate cite, passed on from one place. Declares nothing.
+pub use Rattle.std.proofs.lemmas.List.{set-get_or}
+pub use Rattle.atomic_table.specs.Table.{Me, Step, Allows, keeps, step, Joins}
+pub use Rattle.atomic_table.proofs.Lists.{at_set, at_snoc, at_last, set_else, set_again, at_longer}
+pub use Rattle.atomic_table.specs.Seated.{TableId}
+pub use Rattle.step_memory.specs.SetAt.{set_at}
+pub use Rattle.step_memory.proofs.SetAtLemmas.{set_at-cases, set_at-same, set_at-other}
+pub use Rattle.splitter.specs.declared.way.Way.TheVariants.{Stop, Right, Down}
+pub use Rattle.splitter.specs.declared.stage.Stage.{Stage}
+pub use Rattle.splitter.specs.declared.stage.Stage.TheVariants.{Outside, WroteX, SawClear, Gone}
+pub use Rattle.raw_parts.specs.declared.splitter_view.Visit.{Visit}
+pub use Rattle.raw_parts.specs.declared.splitter_view.SplitterView.{SplitterView}
+pub use Rattle.raw_parts.specs.SplitterView.{own_word, visit_at, lone_view, fresh_visit, view_of}
+pub use Rattle.raw_parts.specs.SplitterRule.{IsShown, IsAmong, Meets, Shows, IsKept, KeepsRule}
+pub use Rattle.raw_parts.specs.SplitterSteps.{IsUnderRule, after_access}
+pub use Rattle.raw_parts.specs.declared.board_view.Claim.{Claim}
+pub use Rattle.raw_parts.specs.declared.board_view.BoardView.{BoardView}
+pub use Rattle.raw_parts.specs.BoardRule.{IsClaimed}
+pub use Rattle.raw_parts.specs.BoardView.{claim, claims_of, lone_claim, united}
+pub use Rattle.raw_parts.specs.Boards.{ReaderId, GrantId, HasClaimOf}
