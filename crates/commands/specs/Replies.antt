@@ -22,22 +22,8 @@ value_reply (Err refusal) = reply.Refused refusal
 
 -- whether an event was not accepted
 abbrev pub is_refusal : {V : Type 0} → Reply V → Bool
-is_refusal reply.Ok = false
-is_refusal reply.Quiet = false
-is_refusal reply.Stop = false
-is_refusal reply.Right = false
-is_refusal reply.Down = false
-is_refusal (reply.Place place) = false
-is_refusal (reply.Proposed number) = false
-is_refusal (reply.Saw view) = false
-is_refusal (reply.Named name view) = false
-is_refusal reply.Spent = false
-is_refusal reply.Missed = false
-is_refusal (reply.Got number) = false
-is_refusal (reply.Left number) = false
-is_refusal (reply.Value value) = false
-is_refusal (reply.Owner owner) = false
 is_refusal (reply.Refused refusal) = true
+is_refusal r = false
 
 -- the reply with this view in the place of what it carries
 abbrev pub with_view : {V W : Type 0} → Reply V → W → Reply W

@@ -23,11 +23,9 @@ same_number p q e = omega arith
 
 -- whoever has made an access has begun
 entered_after : (p : ℕ) (s : Stage) (x y : ℕ) → has_entered (stage_after p s x y) ≡ true
-entered_after p Outside x y = refl
 entered_after p WroteX x y = elim (y == 0) as (λ t. has_entered (cond t SawClear (Gone Right)) ≡ true) [ true ↦ refl | false ↦ refl ]
-entered_after p SawClear x y = refl
 entered_after p WroteY x y = elim (x == p) as (λ t. has_entered (cond t (Gone Stop) (Gone Down)) ≡ true) [ true ↦ refl | false ↦ refl ]
-entered_after p (Gone way) x y = refl
+entered_after p s x y = refl
 
 module _ (seats x y p : ℕ) (stage : ℕ → Stage) (h : IsLawful seats x y stage) (within : (0 < p) × (p ≤ seats)) where
   -- whoever stands in X has begun still
@@ -61,19 +59,14 @@ set_after p (Gone way) x y h = h
 
 -- who set Y has begun
 pub set_entered : (s : Stage) → has_set s ≡ true → has_entered s ≡ true
-set_entered Outside h = absurd (cc)
-set_entered WroteX h = absurd (cc)
-set_entered SawClear h = absurd (cc)
 set_entered WroteY h = refl
 set_entered (Gone way) h = refl
+set_entered s h = absurd (cc)
 
 -- who has begun keeps its turn
 same_turn : (s : Stage) (turn old : ℕ) → has_entered s ≡ true → turn_after s turn old ≡ old
 same_turn Outside turn old h = absurd (cc)
-same_turn WroteX turn old h = refl
-same_turn SawClear turn old h = refl
-same_turn WroteY turn old h = refl
-same_turn (Gone way) turn old h = refl
+same_turn s turn old h = refl
 
 -- what stands in X and Y, the stages and turns, and the visit of word p at the stage a, which makes an access
 module _ (n x y p : ℕ) (stage : ℕ → Stage) (turn : ℕ → ℕ) (lawful : IsLawful n x y stage) (last : IsLast x stage turn) (a : Stage) (is : stage p ≡ a) where
@@ -100,13 +93,9 @@ module _ (n x y p : ℕ) (stage : ℕ → Stage) (turn : ℕ → ℕ) (lawful : 
 
   -- so each visit that met another has met it still
   pub still_meets : (v : Visit) (s : Stage) → Meets n stage turn v s → Meets n stages turns v s
-  still_meets v Outside h = h
-  still_meets v WroteX h = h
-  still_meets v SawClear h = h
-  still_meets v WroteY h = h
-  still_meets v (Gone Stop) h = h
   still_meets v (Gone Right) h = (h.0, kept_set v.met h.1)
   still_meets v (Gone Down) h = (h.0, kept_entered v.met h.1, (let t = kept_turn v.met h.1 in let u = h.2 in omega arith))
+  still_meets v s h = h
 
   begun_before : (q : ℕ) → q ≢ p → has_entered (stages q) ≡ true → has_entered (stage q) ≡ true
   begun_before q ne h = subst (λ (t : Stage). has_entered t ≡ true) (set_at-other stage p (stage_after p a x y) q ne) h

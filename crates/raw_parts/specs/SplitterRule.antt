@@ -32,13 +32,9 @@ IsAnother seats v = (0 < v.met) × (v.met ≤ seats) × (v.met ≢ own_word v.nu
 -- a visit went right only where another had set Y, and down only where another had written X after it, whose turn is greater;
 -- it met none while it goes on, and where it stopped
 abbrev pub Meets : ℕ → (ℕ → Stage) → (ℕ → ℕ) → Visit → Stage → Type 0
-Meets seats stage turn v Outside = v.met ≡ 0
-Meets seats stage turn v WroteX = v.met ≡ 0
-Meets seats stage turn v SawClear = v.met ≡ 0
-Meets seats stage turn v WroteY = v.met ≡ 0
-Meets seats stage turn v (Gone Stop) = v.met ≡ 0
 Meets seats stage turn v (Gone Right) = IsAnother seats v × (has_set (stage v.met) ≡ true)
 Meets seats stage turn v (Gone Down) = IsAnother seats v × (has_entered (stage v.met) ≡ true) × (v.turn < turn v.met)
+Meets seats stage turn v s = v.met ≡ 0
 
 -- of all that have begun, who stands in X was the last to write there
 abbrev pub IsLast : ℕ → (ℕ → Stage) → (ℕ → ℕ) → Type 0

@@ -16,19 +16,14 @@ use Rattle.raw_parts.specs.SplitterRule.{IsKept}
 -- the turn of a visit after an access: it gets one by its first
 abbrev pub turn_after : Stage → ℕ → ℕ → ℕ
 turn_after Outside turn old = turn
-turn_after WroteX turn old = old
-turn_after SawClear turn old = old
-turn_after WroteY turn old = old
-turn_after (Gone way) turn old = old
+turn_after s turn old = old
 
 -- whom a visit with this word met after an access that found this: where it finds Y set, one who has set it; where X has
 -- another's word, that one
 abbrev pub met_after : ℕ → Stage → ℕ → ℕ → ℕ → ℕ
-met_after word Outside found setter old = old
 met_after word WroteX found setter old = if found == 0 then old else setter
-met_after word SawClear found setter old = old
 met_after word WroteY found setter old = if found == word then old else found
-met_after word (Gone way) found setter old = old
+met_after word s found setter old = old
 
 -- a visit after an access to a word in which `found` stood: one access reads X or Y, so the number stands for both
 abbrev pub after_access : ℕ → ℕ → ℕ → Visit → Visit

@@ -45,9 +45,7 @@ module _ {S R V U K : Type 0} (t : LawfulPlaces S R V U K) where
   left_busy : (c : ℕ) (s : S) (client : Client U K) (z : Pending) (n : ℕ) → LeftFor c s client z n → is_idle z ≡ false
   left_busy c s client Nothing n h = absurd h
   left_busy c s client Places n h = absurd h
-  left_busy c s client Scans n h = refl
-  left_busy c s client (Update value) n h = refl
-  left_busy c s client (Writing value view) n h = refl
+  left_busy c s client z n h = refl
 
   module _ (w : SnapState S U K) (o : SnapObject) (i : IsTied t w o) (p : ℕ) (v : Participant (Client U K)) (there : participant_of p w.participants ≡ Some v) (c : ℕ) (most : most_reads t.known w ≡ c) where
     abbrev b : ℕ
@@ -276,11 +274,8 @@ module _ {S R V U K : Type 0} (known : KnownPlaces S R V U K) (laws : PlacesLaws
 -- it depends on the memory and on who ends
 module _ {S R V U K : Type 0} (t : KnownPlaces S R V U K) (p : ℕ) where
   agrees : (f : R → V × Bool) (a : Access R V) → AgreeAt f f a
-  agrees f (Read r) = refl
-  agrees f (Write r v) = refl
-  agrees f (TestAndSet r) = refl
-  agrees f (Clear r) = refl
   agrees f Idling = tt
+  agrees f a = refl
 
   memory_is : (w : SnapState S U K) (v : Participant (Client U K)) → participant_of p w.participants ≡ Some v →
       (after_snap_step t w p).memory ≡ cond (is_idle v.program.pending) w.memory (cond v.ended w.memory (t.memory.after w.memory ((clients_over t).next v.program)))

@@ -24,9 +24,7 @@ module _ {S R V U K : Type 0} (t : LawfulPlaces S R V U K) (w : SnapState S U K)
   begun_at : (c : Client U K) (z : Pending) → AtTask c z → has_begun (o.task id) ≡ true
   begun_at c Nothing k = elim k.3 [ inl e ↦ ap has_begun e | inr e ↦ ap has_begun e.0 ]
   begun_at c Places k = ap has_begun k.1
-  begun_at c Scans k = ap has_begun k.2
-  begun_at c (Update value) k = ap has_begun k.2
-  begun_at c (Writing value view) k = ap has_begun k.2
+  begun_at c z k = ap has_begun k.2
 
   has_begun_there : (v : Participant (Client U K)) → participant_of id w.participants ≡ Some v → has_begun (o.task id) ≡ true
   has_begun_there v there = begun_at v.program v.program.pending (i.clients id v there).at

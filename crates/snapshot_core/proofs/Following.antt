@@ -29,10 +29,7 @@ use Rattle.snapshot_core.proofs.Going.{tied_with, tied_written, tied_joined, fre
 
 idle_is_nothing : (pending : Pending) → is_idle pending ≡ true → pending ≡ Nothing
 idle_is_nothing Nothing h = refl
-idle_is_nothing Places h = absurd (cc)
-idle_is_nothing Scans h = absurd (cc)
-idle_is_nothing (Update new_value) h = absurd (cc)
-idle_is_nothing (Writing new_value view) h = absurd (cc)
+idle_is_nothing pending h = absurd (cc)
 
 module _ {S R V U K : Type 0} (t : LawfulPlaces S R V U K) (w : SnapState S U K) (o : SnapObject) (i : IsTied t w o) (id : ℕ) where
   -- one begins

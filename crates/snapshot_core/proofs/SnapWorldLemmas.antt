@@ -68,10 +68,7 @@ module _ {S R V U K : Type 0} (t : KnownPlaces S R V U K) where
   -- one whose next access is a read has something to do
   reads_busy : (c : Client U K) (pending : Pending) (r : R) → access_for t.walker t.place_of t.walks c pending ≡ Read r → is_idle pending ≡ false
   reads_busy c Nothing r h = absurd (cc)
-  reads_busy c Placing r h = refl
-  reads_busy c Scan r h = refl
-  reads_busy c (Update value) r h = refl
-  reads_busy c (Writing value view) r h = refl
+  reads_busy c pending r h = refl
 
   pub reads_state : (w : SnapState S U K) (id : ℕ) → ReadsNext (clients_over t) w id → after_snap_step t w id ≡ after_step (clients_over t) t.memory w id
   reads_state w id h =

@@ -18,17 +18,12 @@ use Rattle.snapshot_core.specs.Scan.{scan_from, scan_after, scan_view}
 
 -- the view with which a scan has ended
 abbrev pub view_told : SnapReply → Option (List (ℕ × ℕ))
-view_told Silent = None
-view_told (Placed place) = None
-view_told Written = None
 view_told (Viewed view) = Some view
+view_told s = None
 
 abbrev pub is_idle : Pending → Bool
 is_idle Nothing = true
-is_idle Placing = false
-is_idle Scan = false
-is_idle (Update value) = false
-is_idle (Writing value view) = false
+is_idle p = false
 
 abbrev pub first_pending : Option ℕ → Pending
 first_pending None = Placing

@@ -13,11 +13,8 @@ abbrev pub register_of : List (Option Record) → ℕ → Option Record × Bool
 register_of segments place = (slice_index_or segments place None, false)
 
 abbrev pub after_access : List (Option Record) → Access ℕ (Option Record) → List (Option Record)
-after_access segments (Read place) = segments
 after_access segments (Write place new) = slice_set segments place new
-after_access segments (TestAndSet place) = segments
-after_access segments (Clear place) = segments
-after_access segments Nothing = segments
+after_access segments a = segments
 
 abbrev pub fixed_steps : MemorySteps (List (Option Record)) ℕ (Option Record)
 fixed_steps = record { register = register_of; after = after_access; may_refuse = λ m a. false }

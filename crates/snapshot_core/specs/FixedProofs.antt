@@ -16,11 +16,8 @@ use Rattle.snapshot_core.specs.Places.{KeepsWalks, HasWritten, ReadsOn, PlacesLa
 
 -- an access changes no segment but the one that it names
 pub others_kept : (m : List (Option Record)) (a : Access ℕ (Option Record)) (r : ℕ) → Spares a r → register_of (after_access m a) r ≡ register_of m r
-others_kept m (Read q) r h = refl
 others_kept m (Write q new) r h = ap (λ x. (x, false)) (get_or-set_other m q r new None h)
-others_kept m (TestAndSet q) r h = refl
-others_kept m (Clear q) r h = refl
-others_kept m Nothing r h = refl
+others_kept m a r h = refl
 
 -- one more has the next place
 row_joined : (s : List (Option Record)) (b : ℕ) (ways : ℕ → Option FixedWalker) (p : ℕ) → IsRowFor s b ways → ways p ≡ None → b < length s → IsRowFor s (b + 1) (set_at ways p (Some (fixed_walker b p)))

@@ -43,11 +43,8 @@ abbrev pub new_object : SnapObject
 new_object = record { begun = 0; task = λ p. Absent; updates = λ p. 0; steps = λ p. 0; since = λ p. 0; place = λ p. None; last = 0; moment = λ i. no_values }
 
 abbrev pub value_written : Task → Option ℕ
-value_written Absent = None
-value_written Idle = None
-value_written Placing = None
-value_written Scanning = None
 value_written (Updating value) = Some value
+value_written t = None
 
 -- the moment that was the last at the first step of what p does
 abbrev pub since_of : SnapObject → ℕ → ℕ
@@ -87,13 +84,10 @@ observed_step o p (Viewed view) = stepped_to o p Idle
 -- the object after a call
 abbrev pub observed : SnapObject → SnapCall → SnapObject
 observed o (Began p (Ok done)) = with_begun (asked_for o p Placing)
-observed o (Began p (Err why)) = o
 observed o (Updated p value (Ok done)) = with_update (asked_for o p (Updating value)) p
-observed o (Updated p value (Err why)) = o
 observed o (Scanned p (Ok done)) = asked_for o p Scanning
-observed o (Scanned p (Err why)) = o
 observed o (Stepped p (Ok reply)) = observed_step o p reply
-observed o (Stepped p (Err why)) = o
+observed o s = o
 
 -- a view is a moment: by rising identity, a pair for each identity that has a value in it
 pub record IsMoment (view : List (ℕ × ℕ)) (moment : ℕ → Option ℕ) : Type 0 where
@@ -130,11 +124,8 @@ pub record IsNewPlace (o : SnapObject) (p place : ℕ) : Type 0 where
   pub free : (q : ℕ) → o.place q ≢ Some place
 
 abbrev pub IsUpdating : Task → Type 0
-IsUpdating Absent = ⊥
-IsUpdating Idle = ⊥
-IsUpdating Placing = ⊥
-IsUpdating Scanning = ⊥
 IsUpdating (Updating value) = Unit {0}
+IsUpdating t = ⊥
 
 -- this step is one of those that the task may take
 abbrev pub IsStepOf : SnapBounds → SnapObject → ℕ → Type 0
@@ -149,10 +140,7 @@ AllowsStep bounds o p (Viewed view) = (o.task p ≡ Scanning) × IsStepOf bounds
 
 abbrev pub has_begun : Task → Bool
 has_begun Absent = false
-has_begun Idle = true
-has_begun Placing = true
-has_begun Scanning = true
-has_begun (Updating value) = true
+has_begun t = true
 
 module _ (bounds : SnapBounds) (o : SnapObject) (p : ℕ) where
   -- nothing of p is pending: what it has to do takes no step. So is a way to a place that takes none

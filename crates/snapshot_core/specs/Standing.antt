@@ -13,9 +13,7 @@ use Rattle.snapshot_core.specs.SnapWorld.{SnapState, after_snap_begin, scan_refu
 
 abbrev pub is_quiet : SnapReply → Bool
 is_quiet Quiet = true
-is_quiet (Placed place) = false
-is_quiet Written = false
-is_quiet (Viewed view) = false
+is_quiet s = false
 
 -- p takes part, has nothing pending or something, and was asked for so many updates
 pub record StandsAt {S U K : Type 0} (w : SnapState S U K) (p : ℕ) (idle : Bool) (updates : ℕ) : Type 0 where

@@ -6,22 +6,14 @@ use Rattle.step_memory.proofs.SetAtLemmas.{set_at-same, set_at-other, set_at-cas
 use Rattle.splitter.proofs.Changed.{passed_before, passes_still, passes_too, fails_still}
 
 set_not_right : (s : Stage) → has_set s ≡ true → (has_entered s ≡ true) × (went_right s ≡ false)
-set_not_right Outside h = absurd (cc)
-set_not_right WroteX h = absurd (cc)
-set_not_right SawClear h = absurd (cc)
 set_not_right WroteY h = (refl, refl)
 set_not_right (Gone Stop) h = (refl, refl)
-set_not_right (Gone Right) h = absurd (cc)
 set_not_right (Gone Down) h = (refl, refl)
+set_not_right s h = absurd (cc)
 
 stopped_set : (s : Stage) → has_stopped s ≡ true → has_set s ≡ true
-stopped_set Outside h = absurd (cc)
-stopped_set WroteX h = absurd (cc)
-stopped_set SawClear h = absurd (cc)
-stopped_set WroteY h = absurd (cc)
 stopped_set (Gone Stop) h = refl
-stopped_set (Gone Right) h = absurd (cc)
-stopped_set (Gone Down) h = absurd (cc)
+stopped_set s h = absurd (cc)
 
 -- a lawful splitter keeps the law
 pub law_of : (x y : ℕ) (stage : ℕ → Stage) → DoorIsLawful x y stage → IsSplitter stage

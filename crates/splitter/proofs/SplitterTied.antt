@@ -36,11 +36,8 @@ stages : List (Participant (Visitor ℕ)) → ℕ → Stage
 stages ps p = stage_in (program_of p ps)
 
 way_at : Stage → Option Way
-way_at Outside = None
-way_at WroteX = None
-way_at SawClear = None
-way_at WroteY = None
 way_at (Gone way) = Some way
+way_at s = None
 
 -- the accesses that a visit has made
 accesses : Stage → ℕ
@@ -116,10 +113,7 @@ way_told (Gone way) = refl
 
 end_told : (s : Stage) → ends (note_at s) ≡ is_gone s
 end_told Outside = refl
-end_told WroteX = refl
-end_told SawClear = refl
-end_told WroteY = refl
-end_told (Gone way) = refl
+end_told s = refl
 
 no_way_yet : (s : Stage) → is_gone s ≡ false → way_at s ≡ None
 unfolding way_at

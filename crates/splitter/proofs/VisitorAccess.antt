@@ -10,10 +10,7 @@ use Rattle.splitter.specs.Visitor.{IsAccessOf, access_at}
 -- it reads or writes a register, or reaches none
 pub own_access : (id x y : ℕ) (s : Stage) → ReadsOrWrites (access_at id x y s)
 own_access id x y Outside = tt
-own_access id x y WroteX = tt
-own_access id x y SawClear = tt
-own_access id x y WroteY = tt
-own_access id x y (Gone way) = tt
+own_access id x y s = tt
 
 module _ (m : Registers ℕ) (id x y : ℕ) (apart : x ≢ y) (x_in : x < length m.values) (y_in : y < length m.values) where
   abbrev visit : Stage → Visitor ℕ

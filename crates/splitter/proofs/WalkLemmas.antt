@@ -38,13 +38,8 @@ ended_is (Ended outcome) x = (λ h. let same : outcome ≡ x = cc in ap Some sam
 
 -- what a place tells of the visit
 pub place_is : (k : ℕ) (s : Stage) (place : ℕ) → place_at_door k s ≡ Some place → (s ≡ Gone Stop) × (place ≡ k)
-place_is k Outside place h = absurd (cc)
-place_is k WroteX place h = absurd (cc)
-place_is k SawClear place h = absurd (cc)
-place_is k WroteY place h = absurd (cc)
 place_is k (Gone Stop) place h = (refl, let e : k ≡ place = cc in sym e)
-place_is k (Gone Right) place h = absurd (cc)
-place_is k (Gone Down) place h = absurd (cc)
+place_is k s place h = absurd (cc)
 
 -- two whose visits to lawful doors have one place are one
 pub one_at_place : (x_of y_of : ℕ → ℕ) (stage : ℕ → ℕ → Stage) → ((k : ℕ) → DoorIsLawful (x_of k) (y_of k) (stage k)) →
@@ -56,20 +51,14 @@ one_at_place x_of y_of stage lawful p q i j place h k =
 
 pub few_at_door : (s : Stage) → accesses_at s ≤ 4
 few_at_door Outside = omega arith
-few_at_door WroteX = omega arith
-few_at_door SawClear = omega arith
-few_at_door WroteY = omega arith
-few_at_door (Gone way) = omega arith
+few_at_door s = omega arith
 
 -- who has made four accesses at a door, and has not left it, has its place
 pub fourth_places : (k : ℕ) (s : Stage) → 4 ≤ accesses_at s → went_right s ≡ false → went_down s ≡ false → IsSome (place_at_door k s)
-fourth_places k Outside h r d = absurd (omega arith)
-fourth_places k WroteX h r d = absurd (omega arith)
-fourth_places k SawClear h r d = absurd (omega arith)
-fourth_places k WroteY h r d = absurd (omega arith)
 fourth_places k (Gone Stop) h r d = refl
 fourth_places k (Gone Right) h r d = absurd (cc)
 fourth_places k (Gone Down) h r d = absurd (cc)
+fourth_places k s h r d = absurd (omega arith)
 
 -- each access of a visit that has not ended is one more
 pub one_more : (p : ℕ) (s : Stage) (x y k : ℕ) → place_at_door k s ≡ None → went_right s ≡ false → went_down s ≡ false → (accesses_at s + 1 ≤ accesses_at (stage_after p s x y)) × (accesses_at s ≤ 3)

@@ -19,23 +19,13 @@ gone_on here right down (Gone Down) = down
 
 -- what it says at door k: that it has ended there, once its visit stops
 abbrev pub note_at_door : ℕ → Stage → Note ℕ
-note_at_door k Outside = Quiet
-note_at_door k WroteX = Quiet
-note_at_door k SawClear = Quiet
-note_at_door k WroteY = Quiet
 note_at_door k (Gone Stop) = Ended k
-note_at_door k (Gone Right) = Quiet
-note_at_door k (Gone Down) = Quiet
+note_at_door k s = Quiet
 
 -- the place that it has at door k
 abbrev pub place_at_door : ℕ → Stage → Option ℕ
-place_at_door k Outside = None
-place_at_door k WroteX = None
-place_at_door k SawClear = None
-place_at_door k WroteY = None
 place_at_door k (Gone Stop) = Some k
-place_at_door k (Gone Right) = None
-place_at_door k (Gone Down) = None
+place_at_door k s = None
 
 -- the most accesses that a visit has made which has come this far
 abbrev pub accesses_at : Stage → ℕ

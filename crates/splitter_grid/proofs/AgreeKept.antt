@@ -45,18 +45,13 @@ visit_person stage k p s j q n = set_at-cases stage k (set_at (stage k) p s) (λ
     (λ x. set_at-other (stage k) p s q n ∙ ap (λ (i : ℕ). stage i q) (sym x)) (λ _. refl)
 
 entered_after : (p : ℕ) (s : Stage) (x y : ℕ) → has_entered (stage_after p s x y) ≡ true
-entered_after p Outside x y = refl
 entered_after p WroteX x y = elim (y == 0) as (λ b. has_entered (cond b SawClear (Gone Right)) ≡ true) [ true ↦ refl | false ↦ refl ]
-entered_after p SawClear x y = refl
 entered_after p WroteY x y = elim (x == p) as (λ b. has_entered (cond b (Gone Stop) (Gone Down)) ≡ true) [ true ↦ refl | false ↦ refl ]
-entered_after p (Gone way) x y = refl
+entered_after p s x y = refl
 
 pub x_own : (p : ℕ) (s : Stage) (x : ℕ) → (x_after p s x ≡ p) ⊎ (x_after p s x ≡ x)
 x_own p Outside x = inl refl
-x_own p WroteX x = inr refl
-x_own p SawClear x = inr refl
-x_own p WroteY x = inr refl
-x_own p (Gone way) x = inr refl
+x_own p s x = inr refl
 
 module _ (b : ℕ) (x_of y_of : ℕ → ℕ) (walker : ℕ → Option Walker) (g : DoorsAgree b b x_of y_of walker) (p : ℕ) (v : Walker) (is : walker p ≡ Some v) where
   abbrev at : ℕ

@@ -28,10 +28,7 @@ module _ (most b : ℕ) (m : Registers ℕ) (walker : ℕ → Option Walker) (c 
   -- after an access of p an identity stands in X of its door
   writes_x : (p : ℕ) (u : Walker) → walker p ≡ Some u → (s : Stage) → u.visitor.stage ≡ s → x_after p s (x_in m (number_of u.door)) ≢ 0
   writes_x p u is Outside e = not_nobody p u is
-  writes_x p u is WroteX e = entered_in_x (number_of u.door) p (ap has_entered ((c.agree.walks p u is).here ∙ e))
-  writes_x p u is SawClear e = entered_in_x (number_of u.door) p (ap has_entered ((c.agree.walks p u is).here ∙ e))
-  writes_x p u is WroteY e = entered_in_x (number_of u.door) p (ap has_entered ((c.agree.walks p u is).here ∙ e))
-  writes_x p u is (Gone way) e = entered_in_x (number_of u.door) p (ap has_entered ((c.agree.walks p u is).here ∙ e))
+  writes_x p u is s e = entered_in_x (number_of u.door) p (ap has_entered ((c.agree.walks p u is).here ∙ e))
 
   xs_are : (p : ℕ) (u : Walker) → walker p ≡ Some u → x_in (after_access m (next_access u)) ≡ set_at (x_in m) (number_of u.door) (x_after p u.visitor.stage (x_in m (number_of u.door)))
   xs_are p u is = let walk = c.agree.walks p u is in xs m p u walk.identity walk.x walk.y (registers_in most b m walker c p u is)

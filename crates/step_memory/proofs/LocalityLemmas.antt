@@ -10,10 +10,8 @@ use Rattle.step_memory.proofs.SetAtLemmas.{set_at-same, set_at-other}
 -- memories that agree at the register of an access answer it alike
 pub answer_alike : {R V : Type 0} (one other : R → V × Bool) (a : Access R V) → AgreeAt one other a → answer_from one a ≡ answer_from other a
 answer_alike one other (Read r) h = rw h refl
-answer_alike one other (Write r v) h = refl
 answer_alike one other (TestAndSet r) h = rw h refl
-answer_alike one other (Clear r) h = refl
-answer_alike one other Nothing h = refl
+answer_alike one other a h = refl
 
 module _ {P S R V O : Type 0} (program : ProgramSteps P R V O) (memory : MemorySteps S R V) where
   -- what changes nothing is local

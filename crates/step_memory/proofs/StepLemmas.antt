@@ -37,18 +37,5 @@ module _ {P S R V O : Type 0} (program : ProgramSteps P R V O) (memory : MemoryS
 
 -- a reply is the refusal of a growth, or it is not
 pub lacks_or_not : {X : Type 0} (reply : Result X Refusal) → (reply ≡ Err NoMemory) ⊎ (reply ≢ Err NoMemory)
-lacks_or_not (Ok x) = inr (λ h. absurd (cc))
 lacks_or_not (Err NoMemory) = inl refl
-lacks_or_not (Err ZeroIdentity) = inr (λ h. absurd (cc))
-lacks_or_not (Err AlreadyBegun) = inr (λ h. absurd (cc))
-lacks_or_not (Err Full) = inr (λ h. absurd (cc))
-lacks_or_not (Err NotBegun) = inr (λ h. absurd (cc))
-lacks_or_not (Err Finished) = inr (λ h. absurd (cc))
-lacks_or_not (Err Spent) = inr (λ h. absurd (cc))
-lacks_or_not (Err Crowded) = inr (λ h. absurd (cc))
-lacks_or_not (Err NotCompeting) = inr (λ h. absurd (cc))
-lacks_or_not (Err AlreadyCompeting) = inr (λ h. absurd (cc))
-lacks_or_not (Err Holding) = inr (λ h. absurd (cc))
-lacks_or_not (Err NotHolding) = inr (λ h. absurd (cc))
-lacks_or_not (Err HistoryFull) = inr (λ h. absurd (cc))
-lacks_or_not (Err OutOfRange) = inr (λ h. absurd (cc))
+lacks_or_not reply = inr (λ h. absurd (cc))

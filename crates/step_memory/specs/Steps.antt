@@ -23,10 +23,8 @@ pub record MemorySteps (S R V : Type 0) : Type 0 where
 -- what an access answers, by what stands in the registers
 abbrev pub answer_from : {R V : Type 0} → (R → V × Bool) → Access R V → Answer V
 answer_from stands (Read r) = Value (stands r).0
-answer_from stands (Write r v) = Done
 answer_from stands (TestAndSet r) = WasSet (stands r).1
-answer_from stands (Clear r) = Done
-answer_from stands Nothing = Done
+answer_from stands a = Done
 
 -- what a program gets for the access of its next step from a memory
 abbrev pub answer_got : {P S R V O : Type 0} → ProgramSteps P R V O → MemorySteps S R V → P → S → Answer V
@@ -50,16 +48,12 @@ AgreeAt one other Nothing = Unit {0}
 
 -- the access reads a register, writes one, or reaches none
 abbrev pub ReadsOrWrites : {R V : Type 0} → Access R V → Type 0
-ReadsOrWrites (Read r) = Unit {0}
-ReadsOrWrites (Write r v) = Unit {0}
 ReadsOrWrites (TestAndSet r) = ⊥
 ReadsOrWrites (Clear r) = ⊥
-ReadsOrWrites Nothing = Unit {0}
+ReadsOrWrites a = Unit {0}
 
 -- the access sets a bit and tells whether it was set, clears one, or reaches none
 abbrev pub SetsOrClears : {R V : Type 0} → Access R V → Type 0
 SetsOrClears (Read r) = ⊥
 SetsOrClears (Write r v) = ⊥
-SetsOrClears (TestAndSet r) = Unit {0}
-SetsOrClears (Clear r) = Unit {0}
-SetsOrClears Nothing = Unit {0}
+SetsOrClears a = Unit {0}

@@ -39,11 +39,8 @@ made_more u p x y (Gone way) is on deep wide = absurd (cc)
 
 -- who has not gone has no place
 no_place : (u : Walker) (s : Stage) → u.visitor.stage ≡ s → is_gone s ≡ false → place_of u ≡ None
-no_place u Outside is on = rw is refl
-no_place u WroteX is on = rw is refl
-no_place u SawClear is on = rw is refl
-no_place u WroteY is on = rw is refl
 no_place u (Gone way) is on = absurd (cc)
+no_place u s is on = rw is refl
 
 module _ (most : ℕ) (words : List ℕ) (views : List GridView) (h : IsKept most words views) (number : ℕ) (in_range : number < most) where
   abbrev own : ℕ

@@ -73,9 +73,7 @@ tally_same f g h (v ∷ vs) = let a = tally_same f g h vs in let b = sums v.call
 
 from_first : (stage : Stage) (place : ℕ) → by_each stage 0 (1 - (0 - place)) (1 - (0 - place)) 0 ≡ by_each stage 0 1 1 0
 from_first AtRest place = omega arith
-from_first Seeking place = omega arith
-from_first Holding place = omega arith
-from_first Ended place = omega arith
+from_first stage place = omega arith
 
 -- all that compete stand at the first place or further on
 all_compete : (vs : List PoolView) → tally (beyond 0) vs ≡ tally competes vs
@@ -321,10 +319,8 @@ crowd_opens n = record {
 
 -- who holds a place stands there, and not further on
 holder_beyond : (stage : Stage) (place p : ℕ) → by_each stage 0 (1 - (suc p - place)) (1 - (suc p - place)) 0 + if_holding stage (one_if (eqb place p)) ≤ by_each stage 0 (1 - (p - place)) (1 - (p - place)) 0
-holder_beyond AtRest place p = omega arith
-holder_beyond Seeking place p = omega arith
 holder_beyond Holding place p = dite (ℕ_discrete place p) (λ e. let a = eq-eqb place p e in rw a (omega arith)) (λ ne. let a = ne_eqb place p ne in rw a (omega arith))
-holder_beyond Ended place p = omega arith
+holder_beyond stage place p = omega arith
 
 -- 1 where this call seeks at the place
 abbrev seeking : ℕ → Call → ℕ

@@ -18,10 +18,8 @@ one_below place (suc n) = let s = one_below place n in
 
 -- a call holds at most one place, and none while it rests
 holds_below : (n : ℕ) (stage : Stage) (place : ℕ) → sum_below (λ p. if_holding stage (one_if (eqb place p))) n + by_stage stage 1 0 ≤ by_stage stage (1 - 0) (1 - (0 - place))
-holds_below n AtRest place = let a = none_below n in omega arith
-holds_below n Seeking place = let a = none_below n in omega arith
 holds_below n Holding place = let a = one_below place n in omega arith
-holds_below n Ended place = let a = none_below n in omega arith
+holds_below n stage place = let a = none_below n in omega arith
 
 -- no more are held than there are tickets that do not rest
 pub few_held : (count n : ℕ) (words : List ℕ) (views : List PoolView) → KeepsLine count words views → sum_below (λ p. tally (holding p) views) n + tally rests views ≤ count

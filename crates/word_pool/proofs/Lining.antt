@@ -15,10 +15,8 @@ use Rattle.word_pool.proofs.Keeping.{come_kept, come_by_swap_kept, look_kept, ta
 
 -- who holds a place stands there, and not further on
 holder_here : (stage : Stage) (place p : ℕ) → by_stage stage (1 - suc p) (1 - (suc p - place)) + if_holding stage (one_if (eqb place p)) ≤ by_stage stage (1 - p) (1 - (p - place))
-holder_here AtRest place p = omega arith
-holder_here Seeking place p = omega arith
 holder_here Holding place p = dite (ℕ_discrete place p) (λ e. let a = eq-eqb place p e in rw a (omega arith)) (λ ne. let a = ne_eqb place p ne in rw a (omega arith))
-holder_here Ended place p = omega arith
+holder_here stage place p = omega arith
 
 -- 1 where this call stands at the place and does not hold it
 abbrev waiting : ℕ → Call → ℕ

@@ -24,10 +24,8 @@ one_if true = 1
 one_if false = 0
 
 abbrev pub if_holding : Stage → ℕ → ℕ
-if_holding AtRest n = 0
-if_holding Seeking n = 0
 if_holding Holding n = n
-if_holding Ended n = 0
+if_holding s n = 0
 
 -- 1 where this call holds the place
 abbrev pub holding : ℕ → Call → ℕ
