@@ -25,10 +25,7 @@ use Rattle.splitter_tree.proofs.TreeProved.{tied}
 
 own_words : (id : ℕ) (x y : TreeRegister) (s : Stage) → ReadsOrWrites (in_words (access_at id x y s))
 own_words id x y Outside = tt
-own_words id x y WroteX = tt
-own_words id x y SawClear = tt
-own_words id x y WroteY = tt
-own_words id x y (Gone way) = tt
+own_words id x y s = tt
 
 own_next : (u : Walker) (b : Bool) → ReadsOrWrites (cond b (Write (Mark u.place) (Word 1)) (in_words (access_of u.visitor)))
 own_next u true = tt
@@ -41,17 +38,13 @@ own_write (Some place) x = tt
 -- a participant reads or writes a register, or reaches none
 pub own_access : (c : Client) (t : Task) → ReadsOrWrites (access_for c t)
 own_access c Placing = own_next c.walker c.walker.is_marking
-own_access c Nothing = tt
 own_access c (Storing value) = own_write (place_of c.walker) (record_of c value)
-own_access c (Collecting collect) = tt
+own_access c t = tt
 
 -- on the way no segment is written
 no_segment : (id k place : ℕ) (value : TreeValue) (s : Stage) → in_words (access_at id (X k) (Y k) s) ≡ Write (Contents place) value → ⊥
 no_segment id k place value Outside h = cc
-no_segment id k place value WroteX h = cc
-no_segment id k place value SawClear h = cc
-no_segment id k place value WroteY h = cc
-no_segment id k place value (Gone way) h = cc
+no_segment id k place value s h = cc
 
 not_on_the_way : (u : Walker) (b : Bool) (place : ℕ) (value : TreeValue) → StandsAtNode u → cond b (Write (Mark u.place) (Word 1)) (in_words (access_of u.visitor)) ≡ Write (Contents place) value → ⊥
 not_on_the_way u true place value stands h = cc
@@ -67,9 +60,8 @@ at_its_place (Some k) x place value h = let same : k ≡ place = cc in ap Some s
 -- a segment is written by the one whose place is there
 pub own_segment : (c : Client) (t : Task) (place : ℕ) (value : TreeValue) → StandsAtNode c.walker → access_for c t ≡ Write (Contents place) value → place_of c.walker ≡ Some place
 own_segment c Placing place value stands h = absurd (not_on_the_way c.walker c.walker.is_marking place value stands h)
-own_segment c Nothing place value stands h = absurd (cc)
 own_segment c (Storing x) place value stands h = at_its_place (place_of c.walker) (record_of c x) place value h
-own_segment c (Collecting collect) place value stands h = absurd (cc)
+own_segment c t place value stands h = absurd (cc)
 
 pub all_stand : (w : TreeWorldState) (p : ℕ) (v : Participant Client) → participant_of p w.participants ≡ Some v → Always tree (λ first r. StandsAtNode v.program.walker) w
 all_stand w p v here first r a =

@@ -53,9 +53,8 @@ after_own s r v = ap (value_in r) (get_written s r v (number_in r) ∙ set_at-sa
 
 -- the mark of a node that is there, and of one that can be made
 marked : (k : ℕ) (here : Option NodeRegisters) (reach : Bool) → (is_some here ≡ false → reach ≡ true) → value_in (Mark k) (cond (not (is_some here) && reach) (Some fresh_registers) (written (Mark k) (Word 1) here)) ≡ Word 1
-marked k None true h = refl
 marked k None false h = absurd (let e : false ≡ true = h refl in cc)
-marked k (Some registers) reach h = refl
+marked k here reach h = refl
 
 or_true : (b : Bool) → b || true ≡ true
 or_true true = refl
@@ -80,16 +79,11 @@ stored k segment (Some registers) h = refl
 -- what may be refused marks a node that is not there
 refused_write : (s : NodeMap) (r : TreeRegister) (v : TreeValue) → makes_node s r v ≡ true → (k : ℕ) × (u : TreeValue) × (Write r v ≡ Write (Mark k) u) × (mark_at tree_steps s k ≡ 0)
 refused_write s (Mark k) v h = (k, v, refl, absent k (map.get s k) (makes_absent s (Mark k) v h))
-refused_write s (X k) v h = absurd (cc)
-refused_write s (Y k) v h = absurd (cc)
-refused_write s (Contents k) v h = absurd (cc)
+refused_write s r v h = absurd (cc)
 
 refused : (s : NodeMap) (a : Access TreeRegister TreeValue) → may_refuse s a ≡ true → (k : ℕ) × (v : TreeValue) × (a ≡ Write (Mark k) v) × (mark_at tree_steps s k ≡ 0)
-refused s (Read r) h = absurd (cc)
 refused s (Write r v) h = refused_write s r v h
-refused s (TestAndSet r) h = absurd (cc)
-refused s (Clear r) h = absurd (cc)
-refused s Nothing h = absurd (cc)
+refused s a h = absurd (cc)
 
 pub tree_memory : IsTreeMemory tree_steps
 tree_memory = record {

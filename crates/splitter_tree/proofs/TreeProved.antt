@@ -1,13 +1,13 @@
 -- the world of a tree is proved
-use Rattle.std.proofs.Common.{◌≡◌, ◌≢◌, ◌≤◌, ◌==◌, ℕ, false, inl, inr, List, [], ◌∷◌, ◌++◌, Option, Some, None, Result, Ok, Err, refl, sym, ap, subst, ◌∙◌, arith}
+use Rattle.std.proofs.Common.{◌≡◌, ◌≢◌, ◌≤◌, ◌==◌, ℕ, true, false, cond, inl, inr, List, [], ◌∷◌, ◌++◌, Option, Some, None, Result, Ok, Err, refl, sym, ap, subst, ◌∙◌, arith}
 use Rattle.std.specs.Prelude.{option_map, option_and_then, is_some, nat_le}
 use Rattle.std.proofs.lemmas.Bool.Decides.{eqb_tells, leb_tells}
 use Rattle.splitter_tree.specs.PlacesLaw.{KeepsPlacesLaw, way_calls, walker_in}
 use Rattle.splitter_tree.specs.Machine.{TreeWorldState, HasLawfulNodes, fresh_over, tree, tree_over}
 use Rattle.splitter_tree.specs.TreeCalls.{TreeCall}
-use Rattle.splitter_tree.specs.TreeCalls.TreeCall.{Began, Stepped}
+use Rattle.splitter_tree.specs.TreeCalls.TreeCall.{Began, Stepped, Stored, CollectBegan, CollectStepped}
 use Rattle.splitter_tree.specs.TreeSteps.{tree_steps, empty_tree}
-use Rattle.splitter_tree.specs.TreeWorld.{TreeState, after_tree_begin, after_placing, after_collecting}
+use Rattle.splitter_tree.specs.TreeWorld.{TreeState, after_tree_begin, asking_refusal, place_answer, place_answer_by, after_placing, may_lack_memory, after_store, after_collect_begin, view_answer, after_collecting}
 use Rattle.splitter_tree.specs.declared.register.TreeRegister.{TreeRegister}
 use Rattle.splitter_tree.specs.declared.register.TreeValue.{TreeValue}
 use Rattle.splitter_tree.proofs.collects.CollectSteps.{collect_law}
@@ -21,11 +21,15 @@ use Rattle.step_memory.specs.Calls.{Call, outcome_of}
 use Rattle.step_memory.specs.Calls.Call.{Stepped as WayStepped}
 use Rattle.step_memory.specs.Due.{EndsOnce}
 use Rattle.step_memory.specs.Machine.{After, Always, IsLawful, LeadsOn, RefusesWhereDue, IsProved}
-use Rattle.step_memory.specs.World.{begin_refusal, done_unless}
+use Rattle.step_memory.specs.World.{begin_refusal, done_unless, step_answer}
 use Rattle.splitter_tree.specs.Laws.{StaysAlikeOnWay, StaysAlikeCollecting}
+use Rattle.step_memory.proofs.StepLemmas.{lacks_none, lacks_or_not}
+use Rattle.step_memory.specs.Calls.{lacked_memory, reply_of}
+use Rattle.splitter_tree.specs.Client.{client_steps, is_placing, place_told}
 use Rattle.splitter_tree.proofs.StandAlike.{placing_stands, collecting_stands}
 use Rattle.step_memory.specs.Steps.{MemorySteps}
 use Rattle.step_memory.specs.declared.refusal.Refusal.{Refusal}
+use Rattle.step_memory.specs.declared.refusal.Refusal.TheVariants.{NoMemory, Finished}
 use Rattle.step_memory.proofs.DueLemmas.{no_second_end}
 use Rattle.step_memory.proofs.MachineLemmas.{call_leads_on, machine_proved}
 use Rattle.step_memory.specs.Participant.{participant_of, program_of}
@@ -57,9 +61,33 @@ tree_due = due_always tree_steps
 pub tree_nodes : (w : TreeWorldState) → HasLawfulNodes w
 tree_nodes w first r a = tree_of_tied tree_steps a.started.tree w r (tied tree_steps w first r a)
 
--- a beginning leads on
+-- each call leads on
 pub tree_begins : (w new : TreeWorldState) (id : ℕ) (reply : Result (Unit {0}) Refusal) → new ≡ after_tree_begin w id → reply ≡ done_unless (begin_refusal w id) → LeadsOn tree w new (Began id reply)
-tree_begins w new id reply e is = call_leads_on tree w new (Began id reply) e is
+tree_begins w new id reply = call_leads_on tree w new (Began id reply)
+
+lacks_no_place : (w : TreeWorldState) (id : ℕ) (o : Option Client) → lacked_memory (place_answer_by tree_steps w id o) ≡ false
+lacks_no_place w id None = refl
+lacks_no_place w id (Some c) = elim (is_placing c.task) as (λ b. lacked_memory (cond b (reply_of place_told (step_answer client_steps tree_steps w id)) (Err Finished)) ≡ false) [ true ↦ lacks_none client_steps tree_steps place_told w id | false ↦ refl ]
+
+pub tree_goes_on : (w new : TreeWorldState) (id : ℕ) (reply : Result (Option ℕ) Refusal) → (reply ≢ Err NoMemory → new ≡ after_placing tree_steps w id) → (reply ≢ Err NoMemory → reply ≡ place_answer tree_steps w id) →
+    (reply ≡ Err NoMemory → new ≡ w) → (reply ≡ Err NoMemory → may_lack_memory tree_steps w id ≡ true) → LeadsOn tree w new (Stepped id reply)
+tree_goes_on w new id reply state answer kept lack = elim (lacks_or_not reply) [
+  | inr goes ↦
+      let fine : lacked_memory reply ≡ false = ap lacked_memory (answer goes) ∙ lacks_no_place w id (program_of id w.participants) in
+      call_leads_on tree w new (Stepped id reply) (state goes ∙ rw fine refl) (inl (answer goes))
+  | inl lacks ↦
+      let lacked : lacked_memory reply ≡ true = rw lacks refl in
+      call_leads_on tree w new (Stepped id reply) (kept lacks ∙ rw lacked refl) (inr (lacks, lack lacks))
+]
+
+pub tree_stores : (w new : TreeWorldState) (id value : ℕ) (reply : Result (Unit {0}) Refusal) → new ≡ after_store tree_steps w id value → reply ≡ done_unless (asking_refusal w id) → LeadsOn tree w new (Stored id value reply)
+tree_stores w new id value reply = call_leads_on tree w new (Stored id value reply)
+
+pub tree_collects : (w new : TreeWorldState) (id : ℕ) (reply : Result (Unit {0}) Refusal) → new ≡ after_collect_begin w id → reply ≡ done_unless (asking_refusal w id) → LeadsOn tree w new (CollectBegan id reply)
+tree_collects w new id reply = call_leads_on tree w new (CollectBegan id reply)
+
+pub tree_reads_on : (w new : TreeWorldState) (id : ℕ) (reply : Result (Option (List (ℕ × ℕ))) Refusal) → new ≡ after_collecting tree_steps w id → reply ≡ view_answer tree_steps w id → LeadsOn tree w new (CollectStepped id reply)
+tree_reads_on w new id reply = call_leads_on tree w new (CollectStepped id reply)
 
 -- who stands in the new world after its step stands alike in each world that looked alike to it
 pub tree_stays : (w new : TreeWorldState) (id : ℕ) → new ≡ after_placing tree_steps w id → StaysAlikeOnWay w new id

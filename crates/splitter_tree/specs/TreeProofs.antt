@@ -38,23 +38,11 @@ get_written m r v q =
 
 -- another register of the same node keeps its value
 kept_in_node : (r q : TreeRegister) (v : TreeValue) (registers : NodeRegisters) → q ≢ r → number_in q ≡ number_in r → value_in q (Some (registers_after_write r v registers)) ≡ value_in q (Some registers)
-kept_in_node (Mark p) q (value.Word w) registers h e = refl
-kept_in_node (Mark p) q (value.Contents s) registers h e = refl
-kept_in_node (X p) (Mark k) (value.Word w) registers h e = refl
-kept_in_node (X p) (X k) (value.Word w) registers h e = absurd (h (ap X e))
-kept_in_node (X p) (Y k) (value.Word w) registers h e = refl
-kept_in_node (X p) (Contents k) (value.Word w) registers h e = refl
-kept_in_node (X p) q (value.Contents s) registers h e = refl
-kept_in_node (Y p) (Mark k) (value.Word w) registers h e = refl
-kept_in_node (Y p) (X k) (value.Word w) registers h e = refl
-kept_in_node (Y p) (Y k) (value.Word w) registers h e = absurd (h (ap Y e))
-kept_in_node (Y p) (Contents k) (value.Word w) registers h e = refl
-kept_in_node (Y p) q (value.Contents s) registers h e = refl
-kept_in_node (Contents p) (Mark k) (value.Contents s) registers h e = refl
-kept_in_node (Contents p) (X k) (value.Contents s) registers h e = refl
-kept_in_node (Contents p) (Y k) (value.Contents s) registers h e = refl
-kept_in_node (Contents p) (Contents k) (value.Contents s) registers h e = absurd (h (ap Contents e))
-kept_in_node (Contents p) q (value.Word w) registers h e = refl
+kept_in_node (X p) (X k) v registers h e = absurd (h (ap X e))
+kept_in_node (Y p) (Y k) v registers h e = absurd (h (ap Y e))
+kept_in_node (Contents p) (Contents k) v registers h e = absurd (h (ap Contents e))
+kept_in_node r q (value.Word w) registers h e = refl
+kept_in_node r q (value.Contents s) registers h e = refl
 
 kept_beside : (r q : TreeRegister) (v : TreeValue) (o : Option NodeRegisters) → q ≢ r → number_in q ≡ number_in r → value_in q (written r v o) ≡ value_in q o
 kept_beside r q v None h e = refl
@@ -66,9 +54,7 @@ fresh_as_none (Mark p) (Mark k) v m h e = absurd (h (ap Mark e))
 fresh_as_none (Mark p) (X k) v m h e = refl
 fresh_as_none (Mark p) (Y k) v m h e = refl
 fresh_as_none (Mark p) (Contents k) v m h e = refl
-fresh_as_none (X p) q v m h e = absurd (cc)
-fresh_as_none (Y p) q v m h e = absurd (cc)
-fresh_as_none (Contents p) q v m h e = absurd (cc)
+fresh_as_none r q v m h e = absurd (cc)
 
 first_true : (a b : Bool) → a && b ≡ true → a ≡ true
 first_true true b h = refl
@@ -104,8 +90,5 @@ others_kept_write m r q v h =
     ]
 
 pub others_kept : (m : NodeMap) (a : Access TreeRegister TreeValue) (r : TreeRegister) → Spares a r → register_of (after_access m a) r ≡ register_of m r
-others_kept m (Read q) r h = refl
 others_kept m (Write q v) r h = ap (λ x. (x, false)) (others_kept_write m q r v h)
-others_kept m (TestAndSet q) r h = refl
-others_kept m (Clear q) r h = refl
-others_kept m Nothing r h = refl
+others_kept m a r h = refl

@@ -18,9 +18,8 @@ climbs_tells p = elim (eqb_tells (p % 2) 1) [
 -- as many steps as the number are enough
 climb_enough : (n m p : ℕ) → p ≤ n → p ≤ m → climbed_in n p ≡ climbed_in m p
 climb_enough zero zero p h k = refl
-climb_enough zero (suc m) p h k = let none : p ≡ 0 = omega arith in rw none refl
-climb_enough (suc n) zero p h k = let none : p ≡ 0 = omega arith in rw none refl
 climb_enough (suc n) (suc m) p h k = ap (λ x. cond (climbs_from p) x p) (climb_enough n m (p / 2) (omega arith) (omega arith))
+climb_enough n m p h k = let none : p ≡ 0 = omega arith in rw none refl
 
 -- one step of a climb
 pub climbed_is : (p : ℕ) → climbed p ≡ cond (climbs_from p) (climbed (p / 2)) p

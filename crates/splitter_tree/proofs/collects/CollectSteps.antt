@@ -1,409 +1,270 @@
 -- each call of a tree's world keeps the tie, and is one that the law of collects allows
-use Rattle.std.proofs.Common.{◌≡◌, ℕ, suc, ◌+◌, ◌-◌, ◌*◌, ◌<◌, ◌≤◌, ◌==◌, Bool, true, false, cond, List, [], ◌∷◌, ◌++◌, length, length-append, Option, Some, None, Result, Ok, Err, inl, inr, refl, sym, ap, subst, ◌∙◌, arith}
-use Rattle.std.specs.Prelude.{is_some, not}
-use Rattle.std.proofs.Math.Path.{fun_ext}
+use Rattle.std.proofs.Common.{◌≡◌, ◌≢◌, ℕ, ◌+◌, ◌-◌, ◌*◌, ◌≤◌, ◌==◌, Bool, true, false, cond, not, List, [], ◌∷◌, ◌++◌, length, length-append, Option, Some, None, Result, Ok, inl, inr, refl, sym, ap, subst, ◌∙◌, arith, ne_eqb}
+use Rattle.std.specs.Prelude.{is_some}
+use Rattle.std.proofs.lemmas.Bool.{cases_Bool}
+use Rattle.std.proofs.lemmas.Bool.Decides.{eqb_tells, Decides-eqb}
 use Rattle.step_memory.specs.SetAt.{set_at}
 use Rattle.step_memory.specs.Runs.{Run}
-use Rattle.step_memory.specs.Note.{ends}
-use Rattle.step_memory.specs.Steps.{MemorySteps, answer_from}
-use Rattle.step_memory.specs.World.{begin_refusal, begun_unless, done_unless, after_set, after_step, step_answer}
-use Rattle.step_memory.specs.Calls.{lacked_memory, reply_of}
-use Rattle.step_memory.specs.Participant.{participant_of, program_of, with_participant, beginner, resumed}
-use Rattle.step_memory.specs.declared.access.Access.TheVariants.{Read, Write}
-use Rattle.step_memory.specs.declared.access.Answer.{Answer}
-use Rattle.step_memory.specs.declared.access.Answer.TheVariants.{Value}
+use Rattle.step_memory.specs.Steps.{MemorySteps}
+use Rattle.step_memory.specs.World.{begin_refusal, begun_unless, done_unless}
+use Rattle.step_memory.specs.Participant.{participant_of, beginner}
+use Rattle.step_memory.specs.declared.access.Access.TheVariants.{Read}
 use Rattle.step_memory.specs.declared.participant.Participant.{Participant}
-use Rattle.step_memory.specs.declared.record.Record.{Record}
 use Rattle.step_memory.specs.declared.refusal.Refusal.{Refusal}
-use Rattle.step_memory.specs.declared.refusal.Refusal.TheVariants.{AlreadyBegun, NotBegun, Finished}
-use Rattle.step_memory.proofs.ParticipantLemmas.{participant_of-push, participant_of-put, length-with_participant}
-use Rattle.step_memory.proofs.SetAtLemmas.{set_at-same, set_at-other}
-use Rattle.step_memory.proofs.StepLemmas.{going_answer, going_after}
+use Rattle.step_memory.proofs.ParticipantLemmas.{participant_of-push, length-with_participant, some_begun}
+use Rattle.step_memory.proofs.SetAtLemmas.{set_at-same, set_at-other, set_at-cases, same_in}
+use Rattle.step_memory.proofs.Roster.{eqb_flip}
+use Rattle.step_memory.proofs.RunLemmas.{run_keeps, run_more, run_one}
+use Rattle.step_memory.proofs.WorldKeeps.{let_in}
 use Rattle.splitter_tree.specs.declared.register.TreeRegister.{TreeRegister}
-use Rattle.splitter_tree.specs.declared.register.TreeRegister.TheVariants.{Contents}
+use Rattle.splitter_tree.specs.declared.register.TreeRegister.TheVariants.{Mark, Contents}
 use Rattle.splitter_tree.specs.declared.register.TreeValue.{TreeValue}
-use Rattle.splitter_tree.specs.declared.register.TreeValue.TheVariants.{Contents as Held}
+use Rattle.splitter_tree.specs.declared.walker.Walker.{Walker}
 use Rattle.splitter_tree.specs.declared.collect.Collect.{Collect}
 use Rattle.splitter_tree.specs.declared.client.Client.{Client}
-use Rattle.splitter_tree.specs.declared.client.Task.{Task}
-use Rattle.splitter_tree.specs.declared.client.Task.TheVariants.{Placing, Nothing, Storing, Collecting}
-use Rattle.splitter_tree.specs.TreeMemory.{IsTreeMemory, IsEmptyTree, segment_in}
-use Rattle.splitter_tree.specs.Walk.{next_access, walker_after, walker_note, place_of}
+use Rattle.splitter_tree.specs.declared.client.Task.TheVariants.{Placing, Nothing, Collecting}
+use Rattle.splitter_tree.specs.TreeMemory.{IsTreeMemory, IsEmptyTree, segment_in, word_in}
+use Rattle.splitter_tree.specs.Walk.{next_access, walker_note, place_of, place_by}
 use Rattle.splitter_tree.specs.Collect.{collect_reads, first_collect, collect_after, collect_view, view_with}
 use Rattle.splitter_tree.specs.CollectWalk.{walk_is_over}
-use Rattle.splitter_tree.specs.Client.{client_of, client_steps, client_access, client_after, client_note, is_placing, is_idle, is_collecting, is_placed, storing, collecting, record_of, write_at, collected_note, task_after, view_told}
-use Rattle.splitter_tree.specs.TreeWorld.{TreeState, asking_refusal, after_placing, after_store, after_collect_begin, view_answer, after_collecting}
+use Rattle.splitter_tree.specs.Client.{client_of, is_placing, is_placed, collecting, collecting_after, record_of, task_after}
+use Rattle.splitter_tree.specs.TreeWorld.{TreeState}
 use Rattle.splitter_tree.specs.Machine.{fresh_over}
 use Rattle.splitter_tree.specs.TreeCalls.{TreeCall, next, IsReply}
 use Rattle.splitter_tree.specs.TreeCalls.TreeCall.{Began, Stepped, Stored, CollectBegan, CollectStepped}
-use Rattle.splitter_tree.specs.CollectLaw.{CollectObject, new_object, one_begun, with_moment, collect_begun, collect_stepped, goes_on, observed, ShowsValues, most_steps, AllowsStep, Allows, KeepsCollectLaw}
+use Rattle.splitter_tree.specs.TreeDue.{collects_after, collects}
+use Rattle.splitter_tree.specs.CollectLaw.{CollectObject, new_object, one_begun, goes_on, observed, ShowsValues, most_steps, AllowsStep, Allows, KeepsCollectLaw}
 use Rattle.splitter_tree.specs.Ahead.{marked_in, HasRead}
-use Rattle.step_memory.proofs.RunLemmas.{run_replays}
+use Rattle.splitter_tree.specs.PlacesLaw.{walker_in, walkers}
 use Rattle.step_memory.specs.Count.{count_to}
-use Rattle.step_memory.proofs.CountLemmas.{count_none}
-use Rattle.splitter_tree.proofs.TreeCallLemmas.{Goes, absent_place, placed_place, going_place, absent_view, idle_view, going_view, absent_store, busy_store, going_store, collect_absent, collect_busy, collect_goes}
+use Rattle.step_memory.proofs.CountLemmas.{count_le}
+use Rattle.splitter_tree.proofs.CallCases.{IsStep, got_on, walked_on, read_by, turned, step_cases, store_cases, collect_begin_cases, collect_step_cases}
+use Rattle.splitter_tree.proofs.DueTied.{IsCounted, collecting_in, collects_from-push, call_counted, counted_new}
+use Rattle.splitter_tree.proofs.nodes.ConsistentKept.{segments}
+use Rattle.splitter_tree.proofs.nodes.PlacesTied.{all_go, no_place, tree_of_tied, walkers_turned}
 use Rattle.splitter_tree.proofs.collects.ReadCount.{reads_few, nodes_few}
-use Rattle.splitter_tree.proofs.nodes.ConsistentKept.{consistent_new}
+use Rattle.splitter_tree.proofs.collects.PlacesAhead.{path_marked, marked_few, marks_grow}
 use Rattle.splitter_tree.proofs.collects.UnderWay.{UnderWay, under_way_at_first, read_still, read_stored, read_rising, under_way_read, TellsOf}
-use Rattle.splitter_tree.specs.PlacesLaw.{walker_in}
-use Rattle.splitter_tree.proofs.nodes.PlacesTied.{IsClientOf, let_in, end_is_told, placed_goes, collected_goes, no_place, task_told}
-use Rattle.splitter_tree.proofs.collects.CollectTied.{Person, place_in, collect_of, collect_in, Agrees, path_of, few_marked, few_placed, got_by, tells, tasked, stored_kept, placing_kept, begun_kept}
+use Rattle.splitter_tree.proofs.collects.CollectTied.{collect_of, collect_in, place_now, some_is, few_begun, Agrees, tells, unstored, collects_turned, place_kept, stored}
 
--- what a task is, by its tests
-placing_is : (k : Task) → is_placing k ≡ true → k ≡ Placing
-placing_is Placing h = refl
-placing_is Nothing h = absurd (cc)
-placing_is (Storing value) h = absurd (cc)
-placing_is (Collecting c) h = absurd (cc)
+-- who collects in the object, after a call
+set_from : (f : ℕ → Bool) (id : ℕ) (b : Bool) (p : ℕ) → set_at f id b p ≡ cond (id == p) b (f p)
+set_from f id b p = ap (λ t. cond t b (f p)) (eqb_flip p id)
 
-idle_is : (k : Task) → is_idle k ≡ true → k ≡ Nothing
-idle_is Placing h = absurd (cc)
-idle_is Nothing h = refl
-idle_is (Storing value) h = absurd (cc)
-idle_is (Collecting c) h = absurd (cc)
+collects_observed : (o : CollectObject) (h : TreeCall) (p : ℕ) → (observed o h).collects p ≡ collects_after p (o.collects p) h
+collects_observed o (CollectBegan id (Ok done)) p = set_from o.collects id true p
+collects_observed o (CollectStepped id (Ok None)) p = set_from o.collects id true p
+collects_observed o (CollectStepped id (Ok (Some view))) p = set_from o.collects id false p
+collects_observed o (Began id (Ok done)) p = refl
+collects_observed o (Stored id value (Ok done)) p = refl
+collects_observed o h p = refl
 
-collecting_is : (k : Task) → is_collecting k ≡ true → (c : Collect) × (k ≡ Collecting c)
-collecting_is Placing h = absurd (cc)
-collecting_is Nothing h = absurd (cc)
-collecting_is (Storing value) h = absurd (cc)
-collecting_is (Collecting c) h = (c, refl)
+not_walking : (b : Bool) → collect_of (cond b Nothing Placing) ≡ None
+not_walking true = refl
+not_walking false = refl
 
 has_some : {X : Type 0} (o : Option X) → false ≡ not (is_some o) → (x : X) × (o ≡ Some x)
 has_some None h = absurd (cc)
 has_some (Some x) h = (x, refl)
 
-shown_is : (shown : Option (List (ℕ × ℕ))) → view_told (collected_note shown) ≡ shown
-shown_is None = refl
-shown_is (Some view) = refl
+module _ {S : Type 0} (memory : MemorySteps S TreeRegister TreeValue) (tree : IsTreeMemory memory) (most : ℕ) where
+  -- the calls so far keep the law, and the world agrees with the object that they lead to
+  pub record IsObserved (w : TreeState S) (r : List TreeCall) : Type 0 where
+    pub counted : IsCounted memory tree most w r
+    pub o : CollectObject
+    pub run : Run observed Allows new_object r o
+    pub collecting : (p : ℕ) → o.collects p ≡ collects p r
+    pub agrees : Agrees memory w o
 
-someone : {P : Type 0} (id : ℕ) (ps : List (Participant P)) (v : Participant P) → participant_of id ps ≡ Some v → 1 ≤ length ps
-someone id [] v h = absurd (cc)
-someone id (p ∷ ps) v h = omega arith
+  module _ (w : TreeState S) (r : List TreeCall) (x : IsObserved w r) where
+    abbrev o : CollectObject
+    o = x.o
 
-set_twice : {X : Type 0} (f : ℕ → X) (p : ℕ) (x y : X) (q : ℕ) → set_at (set_at f p x) p y q ≡ set_at f p y q
-set_twice f p x y q = elim (q == p) as (λ t. cond t y (cond t x (f q)) ≡ cond t y (f q)) [ true ↦ refl | false ↦ refl ]
+    collecting_now : (p : ℕ) → o.collects p ≡ collecting_in (participant_of p w.participants)
+    collecting_now p = x.collecting p ∙ sym (x.counted.collecting p)
 
-module _ {S : Type 0} (memory : MemorySteps S TreeRegister TreeValue) (tree : IsTreeMemory memory) where
-  -- who has begun
-  abbrev persons : TreeState S → ℕ → Person
-  persons w q = participant_of q w.participants
-
-  abbrev Tied : TreeState S → CollectObject → Type 0
-  Tied w o = Agrees memory w.most (length w.participants) w.memory (persons w) o
-
-  tied_as : (w : TreeState S) (b : ℕ) (person : ℕ → Person) (o : CollectObject) → length w.participants ≡ b → ((q : ℕ) → persons w q ≡ person q) → Agrees memory w.most b w.memory person o → Tied w o
-  tied_as w b person o many same a =
-      subst (λ (n : ℕ). Agrees memory w.most n w.memory (persons w) o) (sym many)
-      (subst (λ (f : ℕ → Person). Agrees memory w.most b w.memory f o) (sym (fun_ext same)) a)
-
-  -- one put in the place of p
-  put_is : (w : TreeState S) (p : ℕ) (v new : Participant Client) → persons w p ≡ Some v → new.identity ≡ p → (q : ℕ) → participant_of q (with_participant new w.participants) ≡ set_at (persons w) p (Some new) q
-  put_is w p v new here known q =
-      let there : is_some (participant_of new.identity w.participants) ≡ true = rw (known, here) refl in
-      participant_of-put w.participants new there q ∙ rw known refl
-
-  -- what a call is allowed and leaves
-  abbrev Keeps : TreeState S → CollectObject → TreeCall → Type 0
-  Keeps w o h = Allows o h × Tied (next memory w h) (observed o h)
-
-  began_keeps : (w : TreeState S) (o : CollectObject) (id : ℕ) (reply : Result (Unit {0}) Refusal) → Tied w o → reply ≡ done_unless (begin_refusal w id) → Keeps w o (Began id reply)
-  began_keeps w o id reply t is = rw is (
-      elim (begin_refusal w id) as (λ x. begin_refusal w id ≡ x → Unit {0} × Tied (begun_unless x w id (client_of id)) (observed o (Began id (done_unless x)))) [
-        | Some why ↦ λ _. (tt, t)
-        | None ↦ λ e.
-            let l = let_in w id e in
-            let new : Participant Client = beginner id (client_of id) in
-            let after : TreeState S = record { memory = w.memory; most = w.most; participants = w.participants ++ new ∷ [] } in (
-              tt,
-              tied_as after (suc (length w.participants)) (set_at (persons w) id (Some new)) (one_begun o) (omega (arith, length-append w.participants (new ∷ []))) (participant_of-push w.participants new l.absent)
-                  (begun_kept memory tree w.most (length w.participants) w.memory (persons w) o t id l.not_zero l.absent l.room new (record { own = refl; goes = refl; task = refl }) refl refl),
-            )
-      ] refl)
-
-  -- a step on the way to a place
-  placing_keeps : (w : TreeState S) (o : CollectObject) (id : ℕ) → Tied w o → Tied (after_placing memory w id) o
-  placing_keeps w o id t = elim (participant_of id w.participants) as (λ x. participant_of id w.participants ≡ x → Tied (after_placing memory w id) o) [
-    | None ↦ λ e. let h : None ≡ program_of id w.participants = rw e refl in subst (λ (x : TreeState S). Tied x o) (absent_place memory w id h).1 t
-    | Some v ↦ λ e.
-        let h : Some v.program ≡ program_of id w.participants = rw e refl in
-        let n = t.known id v e in
-        elim (is_placing v.program.task) as (λ x. is_placing v.program.task ≡ x → Tied (after_placing memory w id) o) [
-          | false ↦ λ f. subst (λ (x : TreeState S). Tied x o) (placed_place memory w id v.program h f).1 t
-          | true ↦ λ f.
-              let k : v.program.task ≡ Placing = placing_is v.program.task f in
-              let off : place_of v.program.walker ≡ None = no_place (place_of v.program.walker) (sym n.task ∙ f) in
-              let got : Answer TreeValue = answer_from (memory.register w.memory) (next_access v.program.walker) in
-              let new : Participant Client = resumed client_steps v got in
-              let after : TreeState S = record { memory = memory.after w.memory (next_access v.program.walker); most = w.most; participants = with_participant new w.participants } in
-              let access : client_access v.program ≡ next_access v.program.walker = rw k refl in
-              let is : after_placing memory w id ≡ after = (going_place memory w id v.program h f).1 ∙ going_after client_steps memory w id v e n.goes ∙ rw access refl in
-              let known : IsClientOf id new = record {
-                own = n.own;
-                goes = rw k (placed_goes (walker_note v.program.walker got));
-                task = rw k (task_told (is_placed (walker_note v.program.walker got)) Placing refl ∙ ap not (end_is_told v.program.walker got off));
-              } in
-              let idle : collect_of new.program.task ≡ None = rw k (elim (is_placed (walker_note v.program.walker got)) as (λ x. collect_of (cond x Nothing Placing) ≡ None) [ true ↦ refl | false ↦ refl ]) in
-              let was_idle : collect_of v.program.task ≡ None = rw k refl in
-              let walks : new.program.walker ≡ walker_after v.program.walker got = rw k refl in
-              subst (λ (x : TreeState S). Tied x o) (sym is)
-              (tied_as after (length w.participants) (set_at (persons w) id (Some new)) o (length-with_participant w.participants new) (put_is w id v new e n.own)
-              (placing_kept memory tree w.most (length w.participants) w.memory (persons w) o t id v e new known idle was_idle off walks))
-        ] refl
-  ] refl
-
-  stepped_keeps : (w : TreeState S) (o : CollectObject) (id : ℕ) (reply : Result (Option ℕ) Refusal) → Tied w o → Keeps w o (Stepped id reply)
-  stepped_keeps w o id reply t = (tt, elim (lacked_memory reply) as (λ x. Tied (cond x w (after_placing memory w id)) o) [ true ↦ t | false ↦ placing_keeps w o id t ])
-
-  -- a store
-  stored_goes : (w : TreeState S) (o : CollectObject) (id value : ℕ) (v : Participant Client) → Tied w o → participant_of id w.participants ≡ Some v → v.program.task ≡ Nothing →
-      Tied (after_step client_steps memory (after_set w id (storing v.program value)) id) (with_moment o id value)
-  stored_goes w o id value v t e k =
-      let n = t.known id v e in
-      let place = has_some (place_of v.program.walker) (rw k at n.task) in
-      let r : Record = record_of v.program value in
-      let asked : Participant Client = beginner id (storing v.program value) in
-      let before : TreeState S = after_set w id (storing v.program value) in
-      let got : Answer TreeValue = answer_from (memory.register w.memory) (Write (Contents place.0) (Held (Some r))) in
-      let new : Participant Client = resumed client_steps asked got in
-      let after : TreeState S = record { memory = memory.after w.memory (Write (Contents place.0) (Held (Some r))); most = w.most; participants = with_participant new before.participants } in
-      let put : (q : ℕ) → participant_of q before.participants ≡ set_at (persons w) id (Some asked) q = put_is w id v asked e refl in
-      let there : participant_of id before.participants ≡ Some asked = put id ∙ set_at-same (persons w) id (Some asked) in
-      let access : client_access (storing v.program value) ≡ Write (Contents place.0) (Held (Some r)) = ap (λ (x : Option ℕ). write_at x r) place.1 in
-      let is : after_step client_steps memory before id ≡ after = going_after client_steps memory before id asked there refl ∙ rw access refl in
-      let puts : (q : ℕ) → participant_of q (with_participant new before.participants) ≡ set_at (persons w) id (Some new) q = (λ q. put_is before id asked new there refl q ∙ ap (λ (f : ℕ → Person). set_at f id (Some new) q) (fun_ext put) ∙ set_twice (persons w) id (Some asked) (Some new) q) in
-      let own : place_in (persons w id) ≡ Some place.0 = ap place_in e ∙ place.1 in
-      let by : r.identity ≡ id = (t.consistent.agree.walks id v.program.walker (ap walker_in e)).identity in
-      let was_idle : collect_in (persons w id) ≡ None = rw (e, k) refl in
-      let known : IsClientOf id new = record { own = refl; goes = refl; task = rw k at n.task } in
-      subst (λ (x : TreeState S). Tied x (with_moment o id value)) (sym is)
-      (tied_as after (length w.participants) (set_at (persons w) id (Some new)) (with_moment o id value) (length-with_participant before.participants new ∙ length-with_participant w.participants asked) puts
-      (stored_kept memory tree w.most (length w.participants) w.memory (persons w) o t id v e new known refl place.0 own r by refl was_idle))
-
-  not_collecting : (w : TreeState S) (o : CollectObject) (id : ℕ) (v : Participant Client) → Tied w o → participant_of id w.participants ≡ Some v → v.program.task ≡ Nothing → o.collects id ≡ false
-  not_collecting w o id v t e k = t.collecting id ∙ rw (e, k) refl
-
-  -- what was refused leaves all as it was
-  refused_store : (w new : TreeState S) (o : CollectObject) (id value : ℕ) (reply : Result (Unit {0}) Refusal) (why : Refusal) → Tied w o → reply ≡ done_unless (asking_refusal w id) → Goes (asking_refusal w id) new (Some why) w → Allows o (Stored id value reply) × Tied new (observed o (Stored id value reply))
-  refused_store w new o id value reply why t is g =
-      let e : reply ≡ Err why = is ∙ sym g.answer in
-      rw e (tt, subst (λ (x : TreeState S). Tied x o) g.state t)
-
-  stored_keeps : (w : TreeState S) (o : CollectObject) (id value : ℕ) (reply : Result (Unit {0}) Refusal) → Tied w o → reply ≡ done_unless (asking_refusal w id) → Keeps w o (Stored id value reply)
-  stored_keeps w o id value reply t is = elim (participant_of id w.participants) as (λ x. participant_of id w.participants ≡ x → Keeps w o (Stored id value reply)) [
-    | None ↦ λ e. let h : None ≡ program_of id w.participants = rw e refl in refused_store w (after_store memory w id value) o id value reply NotBegun t is (absent_store memory w id value h)
-    | Some v ↦ λ e.
-        let h : Some v.program ≡ program_of id w.participants = rw e refl in
-        elim (is_idle v.program.task) as (λ x. is_idle v.program.task ≡ x → Keeps w o (Stored id value reply)) [
-          | false ↦ λ f. refused_store w (after_store memory w id value) o id value reply AlreadyBegun t is (busy_store memory w id value v.program h f)
-          | true ↦ λ f.
-              let k : v.program.task ≡ Nothing = idle_is v.program.task f in
-              let g = going_store memory w id value v.program h f in
-              let done : reply ≡ Ok tt = is ∙ sym g.answer in
-              rw done (not_collecting w o id v t e k, subst (λ (x : TreeState S). Tied x (with_moment o id value)) g.state (stored_goes w o id value v t e k))
-        ] refl
-  ] refl
-
-  -- a collect begins
-  collect_goes_on : (w : TreeState S) (o : CollectObject) (id : ℕ) (v : Participant Client) → Tied w o → participant_of id w.participants ≡ Some v → v.program.task ≡ Nothing → Tied (after_set w id (collecting v.program)) (collect_begun o id)
-  collect_goes_on w o id v t e k =
-      let n = t.known id v e in
-      let new : Participant Client = beginner id (collecting v.program) in
-      let known : IsClientOf id new = record { own = refl; goes = refl; task = rw k at n.task } in
-      let first = under_way_at_first (marked_in memory w.memory) (λ q. place_in (persons w q)) o.moment o.last (path_of memory tree w.most (length w.participants) w.memory (persons w) o t) in
-      tied_as (after_set w id (collecting v.program)) (length w.participants) (set_at (persons w) id (Some new)) (collect_begun o id) (length-with_participant w.participants new) (put_is w id v new e refl)
-      (tasked memory tree w.most (length w.participants) w.memory (persons w) o t id v e new known refl w.memory (λ r. refl) (set_at o.collects id true) (set_at o.since id o.last) (set_at o.steps id 0) (λ q. refl)
-      (λ q other. (set_at-other o.since id o.last q other, set_at-other o.steps id 0 q other))
-      (λ c h. let is : first_collect ≡ c = cc in rw (set_at-same o.since id o.last, set_at-same o.steps id 0, ← is) first))
-
-  refused_collect : (w new : TreeState S) (o : CollectObject) (id : ℕ) (reply : Result (Unit {0}) Refusal) (why : Refusal) → Tied w o → reply ≡ done_unless (asking_refusal w id) → Goes (asking_refusal w id) new (Some why) w → Allows o (CollectBegan id reply) × Tied new (observed o (CollectBegan id reply))
-  refused_collect w new o id reply why t is g =
-      let e : reply ≡ Err why = is ∙ sym g.answer in
-      rw e (tt, subst (λ (x : TreeState S). Tied x o) g.state t)
-
-  collect_began_keeps : (w : TreeState S) (o : CollectObject) (id : ℕ) (reply : Result (Unit {0}) Refusal) → Tied w o → reply ≡ done_unless (asking_refusal w id) → Keeps w o (CollectBegan id reply)
-  collect_began_keeps w o id reply t is = elim (participant_of id w.participants) as (λ x. participant_of id w.participants ≡ x → Keeps w o (CollectBegan id reply)) [
-    | None ↦ λ e. let h : None ≡ program_of id w.participants = rw e refl in refused_collect w (after_collect_begin w id) o id reply NotBegun t is (collect_absent w id h)
-    | Some v ↦ λ e.
-        let h : Some v.program ≡ program_of id w.participants = rw e refl in
-        elim (is_idle v.program.task) as (λ x. is_idle v.program.task ≡ x → Keeps w o (CollectBegan id reply)) [
-          | false ↦ λ f. refused_collect w (after_collect_begin w id) o id reply AlreadyBegun t is (collect_busy w id v.program h f)
-          | true ↦ λ f.
-              let k : v.program.task ≡ Nothing = idle_is v.program.task f in
-              let g = collect_goes w id v.program h f in
-              let done : reply ≡ Ok tt = is ∙ sym g.answer in
-              rw done (not_collecting w o id v t e k, subst (λ (x : TreeState S). Tied x (collect_begun o id)) g.state (collect_goes_on w o id v t e k))
-        ] refl
-  ] refl
-
-  -- a step of a collect
-  module _ (w : TreeState S) (o : CollectObject) (id : ℕ) (v : Participant Client) (c : Collect) (t : Tied w o) (e : participant_of id w.participants ≡ Some v) (k : v.program.task ≡ Collecting c) where
-    abbrev got : TreeValue
-    got = got_by memory tree w.most (length w.participants) w.memory (persons w) o t c
-
-    abbrev read_on : S
-    read_on = memory.after w.memory (Read (collect_reads c))
-
-    abbrev stepped : Participant Client
-    stepped = resumed client_steps v (Value got)
-
-    under : UnderWay (marked_in memory w.memory) (λ q. place_in (persons w q)) o.moment o.last (o.since id) (o.steps id) c
-    under = t.under_way id c (rw (e, k) refl)
-
-    reads : TellsOf (marked_in memory w.memory) (λ q. place_in (persons w q)) (o.moment o.last) c.walk got
-    reads = tells memory tree w.most (length w.participants) w.memory (persons w) o t c
-
-    few_places : (n : ℕ) → count_to (λ q. is_some (place_in (persons w q))) n ≤ 64
-    few_places = few_placed memory tree w.most (length w.participants) w.memory (persons w) o t
-
+    -- few nodes are marked, and few have places
     few_marks : (n : ℕ) → count_to (marked_in memory w.memory) n ≤ 2 * length w.participants - 1
-    few_marks = few_marked memory tree w.most (length w.participants) w.memory (persons w) o t
+    few_marks = marked_few memory w.most (length w.participants) w.memory (walkers w.participants) x.counted.tied.consistent
 
-    abbrev place_now : ℕ → Option ℕ
-    place_now q = place_in (persons w q)
+    few_places : (n : ℕ) → count_to (λ q. is_some (place_now w q)) n ≤ 64
+    few_places n =
+        let le = count_le (λ q. is_some (place_now w q)) (λ q. is_some (participant_of q w.participants)) (λ q. elim (participant_of q w.participants) as (λ v. is_some (place_by (walker_in v)) ≡ true → is_some v ≡ true) [ None ↦ λ k. absurd (cc) | Some v ↦ λ k. refl ]) n in
+        omega (arith, le, few_begun w.participants n, x.counted.tied.consistent.room, x.counted.tied.consistent.few)
 
-    -- the collect as it goes on, and the view as it ends
-    onward : walk_is_over c.walk got ≡ false → UnderWay (marked_in memory w.memory) place_now o.moment o.last (o.since id) (o.steps id + 1) (collect_after c got)
-    onward on = under_way_read (marked_in memory w.memory) place_now o.moment o.last (o.since id) (o.steps id) c got few_places t.grows under reads on
+    -- one who begins
+    began : (id : ℕ) → begin_refusal w id ≡ None → Agrees memory (record { memory = w.memory; most = w.most; participants = w.participants ++ beginner id (client_of id) ∷ [] }) (one_begun o)
+    began id e =
+        let new : Participant Client = beginner id (client_of id) in
+        let absent : participant_of id w.participants ≡ None = (let_in w id e).absent in
+        let push = participant_of-push w.participants new absent in
+        unstored memory w (record { memory = w.memory; most = w.most; participants = w.participants ++ new ∷ [] }) o x.agrees (λ k. refl) (λ k h. h)
+        (λ q k h. ap (λ v. place_by (walker_in v)) (push q) ∙ sym (same_in (λ v. place_by (walker_in v)) (λ u. participant_of u w.participants) id new q absent refl) ∙ h)
+        (o.begun + 1) o.collects o.since o.steps (omega (arith, length-append w.participants (new ∷ []), x.agrees.many))
+        (λ q c h. x.agrees.under_way q c (same_in collect_in (λ u. participant_of u w.participants) id new q absent refl ∙ sym (ap collect_in (push q)) ∙ h))
 
-    shows : walk_is_over c.walk got ≡ true → ShowsValues o (o.since id) (view_with c.view (segment_in got))
-    shows over = record {
-      rising = read_rising (marked_in memory w.memory) place_now o.moment o.last (o.since id) (o.steps id) c got few_places t.grows under reads;
-      stored = read_stored (marked_in memory w.memory) place_now o.moment o.last (o.since id) (o.steps id) c got few_places t.grows under reads;
-      complete = λ q some. elim (read_still (marked_in memory w.memory) place_now o.moment o.last (o.since id) (o.steps id) c got few_places t.grows under reads q some) [
-        | inl h ↦ h
-        | inr h ↦ let never : true ≡ false = sym over ∙ h.0 in absurd (cc)
-      ];
-    }
+    -- a step on the way to a place
+    stepped : (id : ℕ) (reply : Result (Option ℕ) Refusal) (after : TreeState S) → IsStep memory w id reply after → Agrees memory after o
+    stepped id reply after y =
+        let u : Walker = y.who.program.walker in
+        let c : Client = walked_on memory w id u in
+        let s : S = memory.after w.memory (next_access u) in
+        let is : walkers w.participants id ≡ Some u = ap walker_in y.here in
+        let off : place_of u ≡ None = no_place (place_of u) (sym (x.counted.tied.clients id y.who y.here).task ∙ ap is_placing y.task) in
+        rw y.after (unstored memory w (turned w s id c) o x.agrees (segments memory w.most (length w.participants) w.memory (walkers w.participants) x.counted.tied.consistent tree id u is)
+        (marks_grow memory w.most (length w.participants) w.memory (walkers w.participants) x.counted.tied.consistent tree id u is)
+        (λ q k h. ap (λ (f : ℕ → Option Walker). place_by (f q)) (walkers_turned w s id y.who c y.here)
+        ∙ set_at-cases (walkers w.participants) id (Some c.walker) (λ v. place_by v ≡ Some k) q (λ e. absurd (let never : None ≡ Some k = sym (ap place_by is ∙ off) ∙ ap (place_now w) (sym e) ∙ h in cc)) (λ _. h))
+        o.begun o.collects o.since o.steps (x.agrees.many ∙ sym (length-with_participant w.participants (beginner id c)))
+        (collects_turned w s id y.who c y.here (λ q d. UnderWay (marked_in memory w.memory) (place_now w) o.moment o.last (o.since q) (o.steps q) d)
+        (λ d h. absurd (let never : None ≡ Some d = sym (not_walking (is_placed (walker_note u (got_on memory w id u)))) ∙ h in cc)) (λ q d _ h. x.agrees.under_way q d h)))
 
-    -- the steps are few
-    steps_left : walk_is_over c.walk got ≡ false → o.steps id + 1 < most_steps o.begun
-    steps_left on =
-        let u = onward on in
-        let r = reads_few (marked_in memory w.memory) (collect_after c got).walk u.nodes (o.steps id + 1) u.reads in
-        let n = nodes_few (marked_in memory w.memory) (collect_after c got).walk u.nodes (o.steps id + 1) (2 * length w.participants - 1) u.reads few_marks in
-        rw t.many (omega (arith, r, n))
+    -- a participant that keeps its walk, over a memory with the same registers, begins a collect or goes on with it
+    asked : (s : S) → ((q : TreeRegister) → memory.register s q ≡ memory.register w.memory q) → (id : ℕ) (who : Participant Client) (c : Client) → participant_of id w.participants ≡ Some who → c.walker ≡ who.program.walker →
+        (collects : ℕ → Bool) (since steps : ℕ → ℕ) → ((q : ℕ) → q ≢ id → (since q ≡ o.since q) × (steps q ≡ o.steps q)) →
+        ((d : Collect) → collect_of c.task ≡ Some d → UnderWay (marked_in memory w.memory) (place_now w) o.moment o.last (since id) (steps id) d) →
+        Agrees memory (turned w s id c) (record { begun = o.begun; last = o.last; moment = o.moment; collects = collects; since = since; steps = steps })
+    asked s same id who c here walk collects since steps others own =
+        unstored memory w (turned w s id c) o x.agrees (λ k. ap (λ v. segment_in v.0) (same (Contents k))) (λ k h. ap (λ v. word_in v.0 == 1) (same (Mark k)) ∙ h) (λ q k h. place_kept w s id who c here walk q ∙ h)
+        o.begun collects since steps (x.agrees.many ∙ sym (length-with_participant w.participants (beginner id c)))
+        (collects_turned w s id who c here (λ q d. UnderWay (marked_in memory w.memory) (place_now w) o.moment o.last (since q) (steps q) d) own
+        (λ q d n h. let as_before = others q n in rw (as_before.0, as_before.1) (x.agrees.under_way q d h)))
 
-    last_step : o.steps id + 1 ≤ most_steps o.begun
-    last_step =
-        let r = reads_few (marked_in memory w.memory) c.walk under.nodes (o.steps id) under.reads in
-        let n = nodes_few (marked_in memory w.memory) c.walk under.nodes (o.steps id) (2 * length w.participants - 1) under.reads few_marks in
-        rw t.many (omega (arith, r, n, someone id w.participants v e))
+    -- the walk of a collect that begins has all places ahead
+    at_first : UnderWay (marked_in memory w.memory) (place_now w) o.moment o.last o.last 0 first_collect
+    at_first = under_way_at_first (marked_in memory w.memory) (place_now w) o.moment o.last (λ q some.
+        let h = some_is (place_now w q) (x.agrees.placed q some) in
+        (h.0, h.1, path_marked memory w.most (length w.participants) w.memory (walkers w.participants) x.counted.tied.consistent q h.0 h.1))
 
-    abbrev after : TreeState S
-    after = record { memory = read_on; most = w.most; participants = with_participant stepped w.participants }
+    -- a step of a collect
+    module _ (id : ℕ) (who : Participant Client) (c : Collect) (here : participant_of id w.participants ≡ Some who) (task : who.program.task ≡ Collecting c) where
+      abbrev got : TreeValue
+      got = read_by memory w id c
 
-    access : client_access v.program ≡ Read (collect_reads c)
-    access = rw k refl
+      under : UnderWay (marked_in memory w.memory) (place_now w) o.moment o.last (o.since id) (o.steps id) c
+      under = x.agrees.under_way id c (rw (here, task) refl)
 
-    note_is : client_note v.program (Value got) ≡ collected_note (collect_view c got)
-    note_is = rw k refl
+      reads : TellsOf (marked_in memory w.memory) (place_now w) (o.moment o.last) c.walk got
+      reads = tells memory tree w o x.agrees c
 
-    program_is : client_after v.program (Value got) ≡ record { walker = v.program.walker; task = task_after (collect_after c got) (collect_view c got) }
-    program_is = rw k refl
+      -- the collect as it goes on, and the view as it ends
+      onward : walk_is_over c.walk got ≡ false → UnderWay (marked_in memory w.memory) (place_now w) o.moment o.last (o.since id) (o.steps id + 1) (collect_after c got)
+      onward = under_way_read (marked_in memory w.memory) (place_now w) o.moment o.last (o.since id) (o.steps id) c got few_places x.agrees.grows under reads
 
-    placed_still : (shown : Option (List (ℕ × ℕ))) → is_placing (task_after (collect_after c got) shown) ≡ is_placing (Collecting c)
-    placed_still None = refl
-    placed_still (Some view) = refl
+      shows : walk_is_over c.walk got ≡ true → ShowsValues o (o.since id) (view_with c.view (segment_in got))
+      shows over = record {
+        rising = read_rising (marked_in memory w.memory) (place_now w) o.moment o.last (o.since id) (o.steps id) c got few_places x.agrees.grows under reads;
+        stored = read_stored (marked_in memory w.memory) (place_now w) o.moment o.last (o.since id) (o.steps id) c got few_places x.agrees.grows under reads;
+        complete = λ q some. elim (read_still (marked_in memory w.memory) (place_now w) o.moment o.last (o.since id) (o.steps id) c got few_places x.agrees.grows under reads q some) [
+          | inl h ↦ h
+          | inr h ↦ let never : true ≡ false = sym over ∙ h.0 in absurd (cc)
+        ];
+      }
 
-    stepped_known : IsClientOf id stepped
-    stepped_known =
-        let n = t.known id v e in
-        record {
-          own = n.own;
-          goes = ap ends note_is ∙ collected_goes (collect_view c got);
-          task = ap (λ (x : Client). is_placing x.task) program_is ∙ placed_still (collect_view c got) ∙ (rw k at n.task) ∙ ap (λ (x : Client). not (is_some (place_of x.walker))) (sym program_is);
-        }
+      -- the steps are few
+      few_steps : (d : Collect) (steps : ℕ) → UnderWay (marked_in memory w.memory) (place_now w) o.moment o.last (o.since id) steps d → steps + 1 ≤ most_steps o.begun
+      few_steps d steps u =
+          let few = reads_few (marked_in memory w.memory) d.walk u.nodes steps u.reads in
+          let n = nodes_few (marked_in memory w.memory) d.walk u.nodes steps (2 * length w.participants - 1) u.reads few_marks in
+          rw x.agrees.many (omega (arith, few, n, some_begun id w.participants who here))
 
-    -- the tie after the step
-    tied_then : (shown : Option (List (ℕ × ℕ))) → collect_view c got ≡ shown → (goes_on shown ≡ is_some (collect_of (task_after (collect_after c got) shown))) →
-        ((d : Collect) → collect_of (task_after (collect_after c got) shown) ≡ Some d → UnderWay (marked_in memory w.memory) place_now o.moment o.last (o.since id) (o.steps id + 1) d) → Tied after (collect_stepped o id shown)
-    tied_then shown is going own =
-        let task : stepped.program.task ≡ task_after (collect_after c got) shown = ap (λ (x : Client). x.task) program_is ∙ ap (task_after (collect_after c got)) is in
-        tied_as after (length w.participants) (set_at (persons w) id (Some stepped)) (collect_stepped o id shown) (length-with_participant w.participants stepped) (put_is w id v stepped e (t.known id v e).own)
-        (tasked memory tree w.most (length w.participants) w.memory (persons w) o t id v e stepped stepped_known (ap (λ (x : Client). x.walker) program_is) read_on (λ r. tree.others w.memory (Read (collect_reads c)) r tt)
-        (set_at o.collects id (goes_on shown)) o.since (set_at o.steps id (o.steps id + 1)) (λ q. ap (λ (x : Bool). set_at o.collects id x q) (going ∙ ap (λ (x : Task). is_some (collect_of x)) (sym task)))
-        (λ q other. (refl, set_at-other o.steps id (o.steps id + 1) q other))
-        (λ d h. rw (set_at-same o.steps id (o.steps id + 1)) (own d (ap collect_of (sym task) ∙ h))))
+      allowed : AllowsStep o id (collect_view c got)
+      allowed = elim (cases_Bool (walk_is_over c.walk got)) [
+        | inl over ↦ rw over (few_steps c (o.steps id) under, shows over)
+        | inr on ↦ rw on (omega (arith, few_steps (collect_after c got) (o.steps id + 1) (onward on)))
+      ]
 
-    collecting_goes : (shown : Option (List (ℕ × ℕ))) → collect_view c got ≡ shown → walk_is_over c.walk got ≡ not (goes_on shown) → shown ≡ cond (walk_is_over c.walk got) (Some (view_with c.view (segment_in got))) None → AllowsStep o id shown × Tied after (collect_stepped o id shown)
-    collecting_goes None is over _ = (steps_left over, tied_then None is refl (λ d h. let same : collect_after c got ≡ d = cc in subst (λ (x : Collect). UnderWay (marked_in memory w.memory) place_now o.moment o.last (o.since id) (o.steps id + 1) x) same (onward over)))
-    collecting_goes (Some view) is over shown =
-        let own : Some view ≡ Some (view_with c.view (segment_in got)) = rw over at shown in
-        let same : view_with c.view (segment_in got) ≡ view = cc in
-        ((last_step, subst (λ (x : List (ℕ × ℕ)). ShowsValues o (o.since id) x) same (shows over)), tied_then (Some view) is refl (λ d h. absurd (cc)))
+      reads_on : (d : Collect) → collect_of (task_after (collect_after c got) (collect_view c got)) ≡ Some d → UnderWay (marked_in memory w.memory) (place_now w) o.moment o.last (o.since id) (o.steps id + 1) d
+      reads_on d h = elim (cases_Bool (walk_is_over c.walk got)) [
+        | inl over ↦ absurd (let never : None ≡ Some d = rw over at h in cc)
+        | inr on ↦ let same : Some (collect_after c got) ≡ Some d = rw on at h in let is : collect_after c got ≡ d = cc in subst (λ (y : Collect). UnderWay (marked_in memory w.memory) (place_now w) o.moment o.last (o.since id) (o.steps id + 1) y) is (onward on)
+      ]
 
-    over_is : (x : Bool) (view : List (ℕ × ℕ)) → x ≡ not (goes_on (cond x (Some view) None))
-    over_is true view = refl
-    over_is false view = refl
+    -- what a call is allowed and leaves
+    keeps : (h : TreeCall) → IsReply memory w h → Allows o h × Agrees memory (next memory w h) (observed o h)
+    keeps (Began id reply) is = rw is (
+        elim (begin_refusal w id) as (λ v. begin_refusal w id ≡ v → Unit {0} × Agrees memory (begun_unless v w id (client_of id)) (observed o (Began id (done_unless v)))) [
+          | Some why ↦ λ _. (tt, x.agrees)
+          | None ↦ λ e. (tt, began id e)
+        ] refl)
+    keeps (Stepped id reply) is = (
+      tt,
+      elim (step_cases memory w id (all_go memory tree w r x.counted.tied) reply is) [
+        | inl y ↦ rw y.same x.agrees
+        | inr y ↦ stepped id reply (next memory w (Stepped id reply)) y
+      ],
+    )
+    keeps (Stored id value reply) is = elim (store_cases memory w id value reply is) [
+      | inl y ↦ rw (y.is, y.same) (tt, x.agrees)
+      | inr y ↦
+          let place = has_some (place_of y.who.program.walker) (sym (ap is_placing y.task) ∙ (x.counted.tied.clients id y.who y.here).task) in
+          let by = (x.counted.tied.consistent.agree.walks id y.who.program.walker (ap walker_in y.here)).identity in
+          rw (y.is, y.after, place.1) (
+            collecting_now id ∙ rw (y.here, y.task) refl,
+            stored memory tree _ w (tree_of_tied memory tree w r x.counted.tied) o x.agrees id y.who y.here place.0 (ap (λ v. place_by (walker_in v)) y.here ∙ place.1) (record_of y.who.program value) by,
+          )
+    ]
+    keeps (CollectBegan id reply) is = elim (collect_begin_cases memory w id reply is) [
+      | inl y ↦ rw (y.is, y.same) (tt, x.agrees)
+      | inr y ↦ rw (y.is, y.after) (
+        collecting_now id ∙ rw (y.here, y.task) refl,
+        asked w.memory (λ q. refl) id y.who (collecting y.who.program) y.here refl (set_at o.collects id true) (set_at o.since id o.last) (set_at o.steps id 0)
+            (λ q n. (set_at-other o.since id o.last q n, set_at-other o.steps id 0 q n)) (λ d h. let is : first_collect ≡ d = cc in rw (set_at-same o.since id o.last, set_at-same o.steps id 0, ← is) at_first),
+      )
+    ]
+    keeps (CollectStepped id reply) is = elim (collect_step_cases memory w id (all_go memory tree w r x.counted.tied) reply is) [
+      | inl y ↦ rw (y.is, y.same) (tt, x.agrees)
+      | inr y ↦
+          let read = read_by memory w id y.collect in
+          rw (y.is, y.after) (
+            (collecting_now id ∙ rw (y.here, y.task) refl, allowed id y.who y.collect y.here y.task),
+            asked (memory.after w.memory (Read (collect_reads y.collect))) (λ q. tree.others w.memory (Read (collect_reads y.collect)) q tt) id y.who (collecting_after y.who.program y.collect read) y.here refl
+                (set_at o.collects id (goes_on (collect_view y.collect read))) o.since (set_at o.steps id (o.steps id + 1)) (λ q n. (refl, set_at-other o.steps id (o.steps id + 1) q n))
+                (λ d h. rw (set_at-same o.steps id (o.steps id + 1)) (reads_on id y.who y.collect y.here y.task d h)),
+          )
+    ]
 
-    collecting_keeps : (f : is_collecting v.program.task ≡ true) (reply : Result (Option (List (ℕ × ℕ))) Refusal) → reply ≡ view_answer memory w id → Keeps w o (CollectStepped id reply)
-    collecting_keeps f reply is =
-        let n = t.known id v e in
-        let h : Some v.program ≡ program_of id w.participants = rw e refl in
-        let g = going_view memory w id v.program h f in
-        let told_note : step_answer client_steps memory w id ≡ Ok (collected_note (collect_view c got)) = going_answer client_steps memory w id v e n.goes ∙ rw access (ap Ok note_is) in
-        let shown : reply ≡ Ok (collect_view c got) = is ∙ g.0 ∙ ap (reply_of view_told) told_note ∙ ap Ok (shown_is (collect_view c got)) in
-        let state : after_collecting memory w id ≡ after = g.1 ∙ going_after client_steps memory w id v e n.goes ∙ rw access refl in
-        let collects : o.collects id ≡ true = t.collecting id ∙ rw (e, k) refl in
-        let both = collecting_goes (collect_view c got) refl (over_is (walk_is_over c.walk got) (view_with c.view (segment_in got))) refl in
-        rw shown ((collects, both.0), subst (λ (x : TreeState S). Tied x (collect_stepped o id (collect_view c got))) (sym state) both.1)
-
-  refused_step : (w : TreeState S) (o : CollectObject) (id : ℕ) (reply : Result (Option (List (ℕ × ℕ))) Refusal) (why : Refusal) → Tied w o → reply ≡ Err why → w ≡ after_collecting memory w id → Keeps w o (CollectStepped id reply)
-  refused_step w o id reply why t is state = rw is (tt, subst (λ (x : TreeState S). Tied x o) state t)
-
-  collect_stepped_keeps : (w : TreeState S) (o : CollectObject) (id : ℕ) (reply : Result (Option (List (ℕ × ℕ))) Refusal) → Tied w o → reply ≡ view_answer memory w id → Keeps w o (CollectStepped id reply)
-  collect_stepped_keeps w o id reply t is = elim (participant_of id w.participants) as (λ x. participant_of id w.participants ≡ x → Keeps w o (CollectStepped id reply)) [
-    | None ↦ λ e. let h : None ≡ program_of id w.participants = rw e refl in let a = absent_view memory w id h in refused_step w o id reply NotBegun t (is ∙ sym a.0) a.1
-    | Some v ↦ λ e.
-        let h : Some v.program ≡ program_of id w.participants = rw e refl in
-        elim (is_collecting v.program.task) as (λ x. is_collecting v.program.task ≡ x → Keeps w o (CollectStepped id reply)) [
-          | false ↦ λ f. let a = idle_view memory w id v.program h f in refused_step w o id reply Finished t (is ∙ sym a.0) a.1
-          | true ↦ λ f. let k = collecting_is v.program.task f in collecting_keeps w o id v k.0 t e k.1 f reply is
-        ] refl
-  ] refl
-
-  -- each call
-  keeps : (w : TreeState S) (o : CollectObject) (h : TreeCall) → Tied w o → IsReply memory w h → Keeps w o h
-  keeps w o (Began id reply) t is = began_keeps w o id reply t is
-  keeps w o (Stepped id reply) t is = stepped_keeps w o id reply t
-  keeps w o (Stored id value reply) t is = stored_keeps w o id value reply t is
-  keeps w o (CollectBegan id reply) t is = collect_began_keeps w o id reply t is
-  keeps w o (CollectStepped id reply) t is = collect_stepped_keeps w o id reply t is
-
-  -- and so every list of them
-  run_keeps : (r : List TreeCall) (w end : TreeState S) (o : CollectObject) → Tied w o → Run (next memory) (IsReply memory) w r end → (last : CollectObject) × Run observed Allows o r last × Tied end last
-  run_keeps [] w end o t run = (o, refl, subst (λ (x : TreeState S). Tied x o) (sym run) t)
-  run_keeps (h ∷ r) w end o t run =
-      let one = keeps w o h t run.0 in
-      let rest = run_keeps r (next memory w h) end (observed o h) one.1 run.1 in
-      (rest.0, (one.0, rest.1), rest.2)
+  next_observed : (w : TreeState S) (r : List TreeCall) (h : TreeCall) → IsObserved w r → IsReply memory w h → IsObserved (next memory w h) (r ++ h ∷ [])
+  next_observed w r h x is =
+      let kept = keeps w r x h is in
+      record {
+        counted = call_counted memory tree most w r h x.counted is;
+        o = observed x.o h;
+        run = run_more observed Allows new_object r x.o h x.run kept.0;
+        collecting = λ p. collects_observed x.o h p ∙ ap (λ b. collects_after p b h) (x.collecting p) ∙ sym (collects_from-push p false r h);
+        agrees = kept.1;
+      }
 
   -- a tree of no nodes, and nobody there
-  tied_new : (most : ℕ) (first : S) → most ≤ 64 → IsEmptyTree memory first → Tied (record { memory = first; most = most; participants = [] }) new_object
-  tied_new most first few empty = record {
-    consistent = consistent_new memory most first empty few;
-    many = refl;
-    few = λ n. let none = count_none n in omega arith;
-    known = λ q v h. absurd (cc);
-    collecting = λ q. refl;
-    owned = λ k r h. let never : None ≡ Some r = sym (empty.nothing_held k) ∙ h in absurd (cc);
-    held = λ q k h. absurd (cc);
-    placed = λ q h. absurd (cc);
-    grows = λ i q l h. h;
-    under_way = λ q c h. absurd (cc);
+  observed_new : (first : S) → most ≤ 64 → IsEmptyTree memory first → IsObserved (record { memory = first; most = most; participants = [] }) []
+  observed_new first few empty = record {
+    counted = counted_new memory tree most first empty few;
+    o = new_object;
+    run = refl;
+    collecting = λ p. refl;
+    agrees = record {
+      many = refl;
+      owned = λ k r h. let never : None ≡ Some r = sym (empty.nothing_held k) ∙ h in absurd (cc);
+      held = λ q k h. absurd (cc);
+      placed = λ q h. absurd (cc);
+      grows = λ i q l h. h;
+      under_way = λ q c h. absurd (cc);
+    };
   }
 
-  -- calls that a world may be after keep the law of collects
-  pub collect_law : (first : S) (most : ℕ) (w : TreeState S) (r : List TreeCall) → most ≤ 64 → IsEmptyTree memory first → Run (next memory) (IsReply memory) (fresh_over memory (first, most)) r w → KeepsCollectLaw r
-  collect_law first most w r few empty after = let kept = run_keeps r (fresh_over memory (first, most)) w new_object (tied_new most first few empty) after in (kept.0, kept.1)
+  run_observed : (first : S) (w : TreeState S) (r : List TreeCall) → most ≤ 64 → IsEmptyTree memory first → Run (next memory) (IsReply memory) (fresh_over memory (first, most)) r w → IsObserved w r
+  run_observed first w r few empty a = run_keeps (next memory) (IsReply memory) IsObserved next_observed (fresh_over memory (first, most)) [] r w (observed_new first few empty) a
+
+-- calls that a world may be after keep the law of collects
+module _ {S : Type 0} (memory : MemorySteps S TreeRegister TreeValue) (tree : IsTreeMemory memory) (first : S) (most : ℕ) (w : TreeState S) (r : List TreeCall) (few : most ≤ 64) (empty : IsEmptyTree memory first) (after : Run (next memory) (IsReply memory) (fresh_over memory (first, most)) r w) where
+  pub collect_law : KeepsCollectLaw r
+  collect_law = let x = run_observed memory tree most first w r few empty after in (x.o, x.run)
 
   -- a collect that is under way has made so many steps, and found so many nodes marked
-  pub collect_reads_few : (first : S) (most : ℕ) (w : TreeState S) (r : List TreeCall) (o : CollectObject) (p : ℕ) (v : Participant Client) (c : Collect) → most ≤ 64 → IsEmptyTree memory first → Run (next memory) (IsReply memory) (fresh_over memory (first, most)) r w →
-      Run observed Allows new_object r o → participant_of p w.participants ≡ Some v → v.program.task ≡ Collecting c →
+  pub collect_reads_few : (o : CollectObject) (p : ℕ) (v : Participant Client) (c : Collect) → Run observed Allows new_object r o → participant_of p w.participants ≡ Some v → v.program.task ≡ Collecting c →
       (nodes : ℕ) × HasRead (marked_in memory w.memory) c.walk nodes (o.steps p) × (o.steps p + 1 ≤ 3 * nodes + 1)
-  collect_reads_few first most w r o p v c few empty after run here task =
-      let kept = run_keeps r (fresh_over memory (first, most)) w new_object (tied_new most first few empty) after in
-      let same : kept.0 ≡ o = run_replays observed Allows new_object r kept.0 kept.1 ∙ sym (run_replays observed Allows new_object r o run) in
-      let way = kept.2.under_way p c (rw (here, task) refl) in
-      let reads : HasRead (marked_in memory w.memory) c.walk way.nodes (o.steps p) = subst (λ (x : CollectObject). HasRead (marked_in memory w.memory) c.walk way.nodes (x.steps p)) same way.reads in
+  collect_reads_few o p v c run here task =
+      let x = run_observed memory tree most first w r few empty after in
+      let way = x.agrees.under_way p c (rw (here, task) refl) in
+      let reads : HasRead (marked_in memory w.memory) c.walk way.nodes (o.steps p) = subst (λ (y : CollectObject). HasRead (marked_in memory w.memory) c.walk way.nodes (y.steps p)) (run_one observed Allows new_object r x.o o x.run run) way.reads in
       (way.nodes, reads, reads_few (marked_in memory w.memory) c.walk way.nodes (o.steps p) reads)

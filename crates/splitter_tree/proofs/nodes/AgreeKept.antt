@@ -15,22 +15,28 @@ use Rattle.splitter_tree.specs.Invariant.{IsWalkOf, NodesAgree}
 use Rattle.splitter_tree.proofs.nodes.VisitsKept.{with_visit, with_visit-node, with_visit-other_node, with_visit-own, with_visit-other, with_comer, with_comer-has, with_comer-keeps, with_comer-cases}
 
 pub right_entered : (s : Stage) → went_right s ≡ true → has_entered s ≡ true
-right_entered Outside h = absurd (cc)
-right_entered WroteX h = absurd (cc)
-right_entered SawClear h = absurd (cc)
-right_entered WroteY h = absurd (cc)
-right_entered (Gone Stop) h = absurd (cc)
 right_entered (Gone Right) h = refl
-right_entered (Gone Down) h = absurd (cc)
+right_entered s h = absurd (cc)
 
 pub down_entered : (s : Stage) → went_down s ≡ true → has_entered s ≡ true
-down_entered Outside h = absurd (cc)
-down_entered WroteX h = absurd (cc)
-down_entered SawClear h = absurd (cc)
-down_entered WroteY h = absurd (cc)
-down_entered (Gone Stop) h = absurd (cc)
-down_entered (Gone Right) h = absurd (cc)
 down_entered (Gone Down) h = refl
+down_entered s h = absurd (cc)
+
+-- a walk agrees with visits still where its own are as before, and no mark and nobody's coming is lost
+walk_still : (mark mark' : ℕ → ℕ) (stage stage' : ℕ → ℕ → Stage) (came came' : ℕ → ℕ → Bool) (p : ℕ) (u : Walker) → ((k : ℕ) → mark k ≡ 1 → mark' k ≡ 1) → ((k : ℕ) → stage' k p ≡ stage k p) → ((k : ℕ) → came k p ≡ true → came' k p ≡ true) →
+    IsWalkOf mark stage came p u → IsWalkOf mark' stage' came' p u
+walk_still mark mark' stage stage' came came' p u marks stages comes w = record {
+  identity = w.identity;
+  x = w.x;
+  y = w.y;
+  here = stages u.place ∙ w.here;
+  arrived = comes u.place w.arrived;
+  marking = w.marking;
+  marked = λ m. marks u.place (w.marked m);
+  not_right = w.not_right;
+  not_down = w.not_down;
+  below = λ k l. stages k ∙ w.below k l;
+}
 
 module _ (b : ℕ) (mark x_of y_of : ℕ → ℕ) (walker : ℕ → Option Walker) (g : NodesAgree b mark x_of y_of walker) (p : ℕ) (v : Walker) (is : walker p ≡ Some v) where
   abbrev at : ℕ
@@ -63,18 +69,7 @@ module _ (b : ℕ) (mark x_of y_of : ℕ → ℕ) (walker : ℕ → Option Walke
         not_down = old.not_down;
         below = old.below;
       })))
-      (λ n h. let old = g.walks q u h in record {
-        identity = old.identity;
-        x = old.x;
-        y = old.y;
-        here = old.here;
-        arrived = old.arrived;
-        marking = old.marking;
-        marked = λ m. mark_still u.place (old.marked m);
-        not_right = old.not_right;
-        not_down = old.not_down;
-        below = old.below;
-      })
+      (λ _ h. walk_still mark mark' g.stage g.stage g.came g.came q u mark_still (λ k. refl) (λ k c. c) (g.walks q u h))
 
   not_nobody : 0 ≢ p
   not_nobody e = absurd (let k : Some v ≡ None = sym is ∙ ap walker (sym e) ∙ g.nobody in cc)
@@ -149,18 +144,7 @@ module _ (b : ℕ) (mark x_of y_of : ℕ → ℕ) (walker : ℕ → Option Walke
       walks_after : (q : ℕ) (u : Walker) → walker' q ≡ Some u → IsWalkOf mark stage' came' q u
       walks_after q u = set_at-cases walker p (Some v') (λ o. o ≡ Some u → IsWalkOf mark stage' came' q u) q
           (λ e h. let own : v' ≡ u = cc in subst (λ (w : Walker). IsWalkOf mark stage' came' q w) own (rw e walk))
-          (λ n h. let old = g.walks q u h in record {
-            identity = old.identity;
-            x = old.x;
-            y = old.y;
-            here = with_visit-other g.stage at p after u.place q n ∙ old.here;
-            arrived = still u.place q old.arrived;
-            marking = old.marking;
-            marked = old.marked;
-            not_right = old.not_right;
-            not_down = old.not_down;
-            below = λ k m. with_visit-other g.stage at p after k q n ∙ old.below k m;
-          })
+          (λ n h. walk_still mark mark g.stage stage' g.came came' q u (λ k m. m) (λ k. with_visit-other g.stage at p after k q n) (λ k. still k q) (g.walks q u h))
 
       entered_after : (k q : ℕ) → has_entered (stage' k q) ≡ true → came' k q ≡ true
       entered_after k q h = elim (stage_cases k q) [
@@ -305,18 +289,7 @@ joined b mark x_of y_of walker g p some absent = record {
         not_down = refl;
         below = λ k _. g.absent p absent k;
       })))
-      (λ _ h. let old = g.walks q u h in record {
-        identity = old.identity;
-        x = old.x;
-        y = old.y;
-        here = old.here;
-        arrived = with_comer-keeps g.came 1 p u.place q old.arrived;
-        marking = old.marking;
-        marked = old.marked;
-        not_right = old.not_right;
-        not_down = old.not_down;
-        below = old.below;
-      });
+      (λ _ h. walk_still mark mark g.stage g.stage g.came (with_comer g.came 1 p) q u (λ k m. m) (λ k. refl) (λ k. with_comer-keeps g.came 1 p k q) (g.walks q u h));
   absent = λ q. set_at-cases walker p (Some (walk_of p)) (λ o. o ≡ None → (k : ℕ) → g.stage k q ≡ Outside) q (λ _ h. absurd (cc)) (λ _ h. g.absent q h);
   splitters = g.splitters;
   entered = λ k q h. with_comer-keeps g.came 1 p k q (g.entered k q h);

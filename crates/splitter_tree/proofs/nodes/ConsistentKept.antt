@@ -66,20 +66,32 @@ module _ (b : ℕ) (few : b ≤ 64) (mark x_of y_of : ℕ → ℕ) (walker : ℕ
     | inr o ↦ elim o [ inl e ↦ subst AgreesWith (sym e.1) (goes_right (k ∙ e.0)) | inr e ↦ subst AgreesWith (sym e.1) (goes_down (k ∙ e.0)) ]
   ]
 
+-- the words in all registers of a kind
+abbrev words_in : {S : Type 0} → MemorySteps S TreeRegister TreeValue → S → (ℕ → TreeRegister) → ℕ → ℕ
+words_in memory s kind j = word_in (memory.register s (kind j)).0
+
 -- what an access of a walk does to the registers
 module _ {S : Type 0} (memory : MemorySteps S TreeRegister TreeValue) (tree : IsTreeMemory memory) (s : S) where
   abbrev pub left_by : Access TreeRegister TreeValue → S
   left_by a = memory.after s a
 
-  -- an access leaves the words of other nodes and of other kinds
-  pub mark_spared : (a : Access TreeRegister TreeValue) (k : ℕ) → Spares a (Mark k) → mark_at memory (left_by a) k ≡ mark_at memory s k
-  mark_spared a k h = ap (λ (x : TreeValue × Bool). word_in x.0) (tree.others s a (Mark k) h)
+  -- an access leaves the words of other registers
+  word_spared : (a : Access TreeRegister TreeValue) (r : TreeRegister) → Spares a r → word_in (memory.register (left_by a) r).0 ≡ word_in (memory.register s r).0
+  word_spared a r h = ap (λ (x : TreeValue × Bool). word_in x.0) (tree.others s a r h)
 
-  x_spared : (a : Access TreeRegister TreeValue) (k : ℕ) → Spares a (X k) → x_at memory (left_by a) k ≡ x_at memory s k
-  x_spared a k h = ap (λ (x : TreeValue × Bool). word_in x.0) (tree.others s a (X k) h)
+  -- those of a kind are as before after an access to others, or one of them is another
+  module _ (kind : ℕ → TreeRegister) (a : Access TreeRegister TreeValue) where
+    words_spared : ((j : ℕ) → Spares a (kind j)) → words_in memory (left_by a) kind ≡ words_in memory s kind
+    words_spared spares = fun_ext (λ j. word_spared a (kind j) (spares j))
 
-  y_spared : (a : Access TreeRegister TreeValue) (k : ℕ) → Spares a (Y k) → y_at memory (left_by a) k ≡ y_at memory s k
-  y_spared a k h = ap (λ (x : TreeValue × Bool). word_in x.0) (tree.others s a (Y k) h)
+    words_still : (k : ℕ) → ((j : ℕ) → Spares a (kind j)) → words_in memory (left_by a) kind ≡ set_at (words_in memory s kind) k (words_in memory s kind k)
+    words_still k spares = words_spared spares ∙ sym (set_at-as_is (words_in memory s kind) k (words_in memory s kind k) refl)
+
+    word_put : (k w : ℕ) → (memory.register (left_by a) (kind k)).0 ≡ Word w → ((j : ℕ) → j ≢ k → Spares a (kind j)) → words_in memory (left_by a) kind ≡ set_at (words_in memory s kind) k w
+    word_put k w here there = fun_ext (λ j. elim (eqb_tells j k) [
+      | inl e ↦ rw e.0 (ap (words_in memory (left_by a) kind) e.1 ∙ ap word_in here)
+      | inr e ↦ rw e.0 (word_spared a (kind j) (there j e.1))
+    ])
 
   segment_spared : (a : Access TreeRegister TreeValue) (k : ℕ) → Spares a (Contents k) → segment_at memory (left_by a) k ≡ segment_at memory s k
   segment_spared a k h = ap (λ (x : TreeValue × Bool). segment_in x.0) (tree.others s a (Contents k) h)
@@ -89,71 +101,51 @@ module _ {S : Type 0} (memory : MemorySteps S TreeRegister TreeValue) (tree : Is
   marking k = Write (Mark k) (Word 1)
 
   marks_by_marking : (k : ℕ) → IsWithinReach memory s k → mark_at memory (left_by (marking k)) ≡ set_at (mark_at memory s) k 1
-  marks_by_marking k reach = fun_ext (λ j. elim (eqb_tells j k) [
-    | inl e ↦ rw e.0 (ap (mark_at memory (left_by (marking k))) e.1 ∙ ap word_in (tree.takes_mark s k reach))
-    | inr e ↦ rw e.0 (mark_spared (marking k) j (λ h. e.1 (let both : j ≡ k = cc in both)))
-  ])
+  marks_by_marking k reach = word_put Mark (marking k) k 1 (tree.takes_mark s k reach) (λ j n h. n (let both : j ≡ k = cc in both))
 
   x_by_marking : (k : ℕ) → x_at memory (left_by (marking k)) ≡ x_at memory s
-  x_by_marking k = fun_ext (λ j. x_spared (marking k) j (λ h. absurd (cc)))
+  x_by_marking k = words_spared X (marking k) (λ j h. absurd (cc))
 
   y_by_marking : (k : ℕ) → y_at memory (left_by (marking k)) ≡ y_at memory s
-  y_by_marking k = fun_ext (λ j. y_spared (marking k) j (λ h. absurd (cc)))
+  y_by_marking k = words_spared Y (marking k) (λ j h. absurd (cc))
 
   -- an access of a visit to the splitter of node k, which is marked
   module _ (p k : ℕ) (marked : mark_at memory s k ≡ 1) where
     abbrev visiting : Stage → Access TreeRegister TreeValue
     visiting stage = in_words (access_at p (X k) (Y k) stage)
 
-    pub marks_by_visit : (stage : Stage) → mark_at memory (left_by (visiting stage)) ≡ mark_at memory s
-    marks_by_visit Outside = fun_ext (λ j. mark_spared (visiting Outside) j (λ h. absurd (cc)))
-    marks_by_visit WroteX = fun_ext (λ j. mark_spared (visiting WroteX) j tt)
-    marks_by_visit SawClear = fun_ext (λ j. mark_spared (visiting SawClear) j (λ h. absurd (cc)))
-    marks_by_visit WroteY = fun_ext (λ j. mark_spared (visiting WroteY) j tt)
-    marks_by_visit (Gone way) = fun_ext (λ j. mark_spared (visiting (Gone way)) j tt)
+    -- it spares all but X and Y of that node
+    visit_spares : (stage : Stage) (r : TreeRegister) → r ≢ X k → r ≢ Y k → Spares (visiting stage) r
+    visit_spares Outside r x y = x
+    visit_spares SawClear r x y = y
+    visit_spares stage r x y = tt
 
-    -- a visit that does not write X leaves it
-    same_x : (a : Access TreeRegister TreeValue) → ((j : ℕ) → Spares a (X j)) → x_at memory (left_by a) ≡ set_at (x_at memory s) k (x_at memory s k)
-    same_x a spares = fun_ext (λ j. x_spared a j (spares j)) ∙ sym (set_at-as_is (x_at memory s) k (x_at memory s k) refl)
+    marks_by_visit : (stage : Stage) → mark_at memory (left_by (visiting stage)) ≡ mark_at memory s
+    marks_by_visit stage = words_spared Mark (visiting stage) (λ j. visit_spares stage (Mark j) (λ h. absurd (cc)) (λ h. absurd (cc)))
 
-    same_y : (a : Access TreeRegister TreeValue) → ((j : ℕ) → Spares a (Y j)) → y_at memory (left_by a) ≡ set_at (y_at memory s) k (y_at memory s k)
-    same_y a spares = fun_ext (λ j. y_spared a j (spares j)) ∙ sym (set_at-as_is (y_at memory s) k (y_at memory s k) refl)
+    segments_by_visit : (stage : Stage) (j : ℕ) → segment_at memory (left_by (visiting stage)) j ≡ segment_at memory s j
+    segments_by_visit stage j = segment_spared (visiting stage) j (visit_spares stage (Contents j) (λ h. absurd (cc)) (λ h. absurd (cc)))
 
     x_by_visit : (stage : Stage) → x_at memory (left_by (visiting stage)) ≡ set_at (x_at memory s) k (x_after p stage (x_at memory s k))
-    x_by_visit Outside = fun_ext (λ j. elim (eqb_tells j k) [
-      | inl e ↦ rw e.0 (ap (x_at memory (left_by (visiting Outside))) e.1 ∙ ap word_in (tree.takes_x s k p marked))
-      | inr e ↦ rw e.0 (x_spared (visiting Outside) j (λ h. e.1 (let both : j ≡ k = cc in both)))
-    ])
-    x_by_visit WroteX = same_x (visiting WroteX) (λ j. tt)
-    x_by_visit SawClear = same_x (visiting SawClear) (λ j h. absurd (cc))
-    x_by_visit WroteY = same_x (visiting WroteY) (λ j. tt)
-    x_by_visit (Gone way) = same_x (visiting (Gone way)) (λ j. tt)
+    x_by_visit Outside = word_put X (visiting Outside) k p (tree.takes_x s k p marked) (λ j n h. n (let both : j ≡ k = cc in both))
+    x_by_visit SawClear = words_still X (visiting SawClear) k (λ j h. absurd (cc))
+    x_by_visit stage = words_still X (visiting stage) k (λ j. tt)
 
     y_by_visit : (stage : Stage) → y_at memory (left_by (visiting stage)) ≡ set_at (y_at memory s) k (y_after stage (y_at memory s k))
-    y_by_visit Outside = same_y (visiting Outside) (λ j h. absurd (cc))
-    y_by_visit WroteX = same_y (visiting WroteX) (λ j. tt)
-    y_by_visit SawClear = fun_ext (λ j. elim (eqb_tells j k) [
-      | inl e ↦ rw e.0 (ap (y_at memory (left_by (visiting SawClear))) e.1 ∙ ap word_in (tree.takes_y s k marked))
-      | inr e ↦ rw e.0 (y_spared (visiting SawClear) j (λ h. e.1 (let both : j ≡ k = cc in both)))
-    ])
-    y_by_visit WroteY = same_y (visiting WroteY) (λ j. tt)
-    y_by_visit (Gone way) = same_y (visiting (Gone way)) (λ j. tt)
+    y_by_visit Outside = words_still Y (visiting Outside) k (λ j h. absurd (cc))
+    y_by_visit SawClear = word_put Y (visiting SawClear) k 1 (tree.takes_y s k marked) (λ j n h. n (let both : j ≡ k = cc in both))
+    y_by_visit stage = words_still Y (visiting stage) k (λ j. tt)
 
     -- the words that a visit reads are those in its node's registers
     pub visit_reaches : (v : Visitor TreeRegister) → v.identity ≡ p → v.x ≡ X k → v.y ≡ Y k → (stage : Stage) → v.stage ≡ stage →
         stage_by v (told (answer_from (memory.register s) (visiting stage))) ≡ stage_after p stage (x_at memory s k) (y_at memory s k)
-    visit_reaches v own x_of y_of Outside e = rw e refl
     visit_reaches v own x_of y_of WroteX e = rw (e, tree.ys s k) refl
-    visit_reaches v own x_of y_of SawClear e = rw e refl
     visit_reaches v own x_of y_of WroteY e = rw (e, tree.xs s k, own) refl
-    visit_reaches v own x_of y_of (Gone way) e = rw e refl
+    visit_reaches v own x_of y_of stage e = rw e refl
 
-    segments_by_visit : (stage : Stage) (j : ℕ) → segment_at memory (left_by (visiting stage)) j ≡ segment_at memory s j
-    segments_by_visit Outside j = segment_spared (visiting Outside) j (λ h. absurd (cc))
-    segments_by_visit WroteX j = segment_spared (visiting WroteX) j tt
-    segments_by_visit SawClear j = segment_spared (visiting SawClear) j (λ h. absurd (cc))
-    segments_by_visit WroteY j = segment_spared (visiting WroteY) j tt
-    segments_by_visit (Gone way) j = segment_spared (visiting (Gone way)) j tt
+-- another memory has the same in every register but segments
+abbrev pub SparesNodes : {S : Type 0} → MemorySteps S TreeRegister TreeValue → S → S → Type 0
+SparesNodes memory s other = (r : TreeRegister) → ((k : ℕ) → r ≢ Contents k) → memory.register other r ≡ memory.register s r
 
 module _ {S : Type 0} (memory : MemorySteps S TreeRegister TreeValue) (most b : ℕ) (s : S) (walker : ℕ → Option Walker) (c : IsConsistent memory most b s walker) where
   -- one who begins
@@ -163,6 +155,12 @@ module _ {S : Type 0} (memory : MemorySteps S TreeRegister TreeValue) (most b : 
   -- what leaves marks, X and Y as they are
   pub elsewhere : (other : S) → mark_at memory other ≡ mark_at memory s → x_at memory other ≡ x_at memory s → y_at memory other ≡ y_at memory s → IsConsistent memory most b other walker
   elsewhere other marks xs ys = record { few = c.few; room = c.room; agree = rw (marks, xs, ys) c.agree }
+
+  pub aside : (other : S) → SparesNodes memory s other → IsConsistent memory most b other walker
+  aside other spares =
+      let same : (kind : ℕ → TreeRegister) → ((k j : ℕ) → kind k ≢ Contents j) → words_in memory other kind ≡ words_in memory s kind =
+      λ kind apart. fun_ext (λ k. ap (λ (x : TreeValue × Bool). word_in x.0) (spares (kind k) (apart k))) in
+      elsewhere other (same Mark (λ k j h. absurd (cc))) (same X (λ k j h. absurd (cc))) (same Y (λ k j h. absurd (cc)))
 
   -- a walk stands within reach
   reaches : (p : ℕ) (u : Walker) → walker p ≡ Some u → IsWithinReach memory s u.place
@@ -240,10 +238,7 @@ module _ {S : Type 0} (memory : MemorySteps S TreeRegister TreeValue) (most b : 
 
     no_marking : (stage : Stage) (k : ℕ) (v : TreeValue) → in_words (access_at p (X u.place) (Y u.place) stage) ≡ Write (Mark k) v → ⊥
     no_marking Outside k v h = cc
-    no_marking WroteX k v h = cc
-    no_marking SawClear k v h = cc
-    no_marking WroteY k v h = cc
-    no_marking (Gone way) k v h = cc
+    no_marking stage k v h = cc
 
     -- it is refused only where it makes a node
     pub refused : memory.may_refuse s (next_access u) ≡ true → (u.is_marking ≡ true) × (mark_at memory s u.place ≡ 0)

@@ -4,7 +4,7 @@ use Rattle.std.specs.Prelude.{if◌then◌else◌}
 use Rattle.std.proofs.Math.Nat.{pow-succ'}
 use Rattle.std.proofs.lemmas.Bool.{cases_Bool}
 use Rattle.splitter.proofs.StageLemmas.{gone_right, gone_down}
-use Rattle.std.proofs.lemmas.Bool.Decides.{eqb_tells, leb_tells}
+use Rattle.std.proofs.lemmas.Bool.Decides.{eqb_tells, leb_tells, Decides-eqb}
 use Rattle.splitter.specs.declared.way.Way.TheVariants.{Right, Down}
 use Rattle.splitter.specs.declared.stage.Stage.TheVariants.{Gone}
 use Rattle.splitter.specs.Invariant.{IsSplitter}
@@ -12,6 +12,8 @@ use Rattle.splitter.proofs.DoorKept.{law_of}
 use Rattle.splitter_tree.specs.declared.walker.Walker.{Walker}
 use Rattle.splitter_tree.specs.Walk.{left_child, right_child}
 use Rattle.step_memory.specs.Count.{count_to}
+use Rattle.step_memory.proofs.CountLemmas.{count_le}
+use Rattle.std.proofs.lemmas.Nat.{pow_pos}
 use Rattle.splitter_tree.specs.Depth.{depth_in, depth_of}
 use Rattle.splitter_tree.specs.Invariant.{NodesAgree}
 use Rattle.splitter_tree.proofs.nodes.AgreeKept.{right_entered, down_entered}
@@ -46,21 +48,12 @@ count_in-some f [] i p l e t = absurd (omega arith)
 count_in-some f (q ∷ ids) zero p l e t = let own : f q ≡ true = ap f e ∙ t in rw own (omega arith)
 count_in-some f (q ∷ ids) (suc i) p l e t = let rest = count_in-some f ids i p (omega arith) e t in omega arith
 
--- of those who pass a test, one fails another that only they pass
+-- where one fails a test who passes another that all of the first pass, fewer pass the first
 count_in-fewer : (f h : ℕ → Bool) (ids : List ℕ) (i p : ℕ) → ((q : ℕ) → f q ≡ true → h q ≡ true) → i < length ids → get_or ids i 0 ≡ p → h p ≡ true → f p ≡ false → count_in f ids + 1 ≤ count_in h ids
-unfolding count_in
-count_in-fewer f h [] i p fh l e t n = absurd (omega arith)
-count_in-fewer f h (q ∷ ids) zero p fh l e t n =
-    let yes_h : h q ≡ true = ap h e ∙ t in
-    let no_f : f q ≡ false = ap f e ∙ n in
-    let rest = count_in-both f (λ _. false) h ids fh (λ _ k. absurd (cc)) (λ _ _ k. absurd (cc)) in
-    rw (yes_h, no_f) (omega arith)
-count_in-fewer f h (q ∷ ids) (suc i) p fh l e t n =
-    let rest = count_in-fewer f h ids i p fh (omega arith) e t n in
-    elim (cases_Bool (f q)) [
-      | inl a ↦ let c = fh q a in rw (a, c) (omega arith)
-      | inr a ↦ elim (cases_Bool (h q)) [ inl c ↦ rw (a, c) (omega arith) | inr c ↦ rw (a, c) (omega arith) ]
-    ]
+count_in-fewer f h ids i p fh l e t n =
+    let some = count_in-some (λ q. q == p) ids i p l e ((Decides-eqb p p).1 refl) in
+    let both = count_in-both f (λ q. q == p) h ids fh (λ q k. ap h ((Decides-eqb q p).0 k) ∙ t) (λ q a k. absurd (let never : true ≡ false = sym a ∙ ap f ((Decides-eqb q p).0 k) ∙ n in cc)) in
+    omega arith
 
 count_in-witness : (f : ℕ → Bool) (ids : List ℕ) → 1 ≤ count_in f ids → (p : ℕ) × (f p ≡ true)
 unfolding count_in
@@ -69,15 +62,6 @@ count_in-witness f (p ∷ ids) l = elim (cases_Bool (f p)) [
   | inl e ↦ (p, e)
   | inr e ↦ count_in-witness f ids (let k : 1 ≤ 0 + count_in f ids = rw e at l in omega arith)
 ]
-
-count_to-fewer : (f h : ℕ → Bool) (n : ℕ) → ((k : ℕ) → f k ≡ true → h k ≡ true) → count_to f n ≤ count_to h n
-count_to-fewer f h zero fh = omega arith
-count_to-fewer f h (suc n) fh =
-    let rest = count_to-fewer f h n fh in
-    elim (cases_Bool (f n)) [
-      | inl a ↦ let c = fh n a in rw (a, c) (omega arith)
-      | inr a ↦ elim (cases_Bool (h n)) [ inl c ↦ rw (a, c) (omega arith) | inr c ↦ rw (a, c) (omega arith) ]
-    ]
 
 -- the sum of the first n numbers of a row
 sum_to : (ℕ → ℕ) → ℕ → ℕ
@@ -119,12 +103,11 @@ module _ (f : ℕ → Bool) (weight : ℕ → ℕ) (none : weight 0 ≡ 0) (no_n
 -- the depth of a node, from far enough above
 depth_in-same : (n m k : ℕ) → k ≤ n → k ≤ m → depth_in n k ≡ depth_in m k
 depth_in-same zero zero k l h = refl
-depth_in-same zero (suc m) k l h = let none : k ≡ 0 = omega arith in rw none refl
-depth_in-same (suc n) zero k l h = let none : k ≡ 0 = omega arith in rw none refl
 depth_in-same (suc n) (suc m) k l h = elim (leb_tells k 1) [
   | inl e ↦ rw e.0 refl
   | inr e ↦ rw e.0 (ap suc (depth_in-same n m (k / 2) (omega arith) (omega arith)))
 ]
+depth_in-same n m k l h = let none : k ≡ 0 = omega arith in rw none refl
 
 -- a child lies one deeper
 pub depth_step : (k : ℕ) → 2 ≤ k → depth_of k ≡ suc (depth_of (k / 2))
@@ -140,17 +123,13 @@ depth_left k l = let half : (2 * k) / 2 ≡ k = omega arith in depth_step (2 * k
 pub depth_right : (k : ℕ) → 1 ≤ k → depth_of (2 * k + 1) ≡ suc (depth_of k)
 depth_right k l = let half : (2 * k + 1) / 2 ≡ k = omega arith in depth_step (2 * k + 1) (omega arith) ∙ ap (λ i. suc (depth_of i)) half
 
-power_positive : (d : ℕ) → 1 ≤ 2 ^ d
-power_positive zero = omega arith
-power_positive (suc d) = let before = power_positive d in let next = pow-succ' 2 d in omega arith
-
 -- nodes of a depth below d have numbers below 2 ^ d
 pub below_power : (d k : ℕ) → depth_of k < d → k < 2 ^ d
 below_power zero k l = absurd (omega arith)
 below_power (suc d) k l =
     let next = pow-succ' 2 d in
     elim (leb_tells k 1) [
-      | inl e ↦ let m = e.1 in let some = power_positive d in omega arith
+      | inl e ↦ let m = e.1 in let some = pow_pos d in omega arith
       | inr e ↦ let m = e.1 in let deeper = depth_step k (omega arith) in let before = below_power d (k / 2) (omega arith) in omega arith
     ]
 
@@ -289,7 +268,7 @@ module _ (b : ℕ) (mark x_of y_of : ℕ → ℕ) (walker : ℕ → Option Walke
   -- of numbers to each of which someone came there are at most 2b - 1
   pub few_met : (f : ℕ → Bool) → ((k : ℕ) → f k ≡ true → (p : ℕ) × (g.came k p ≡ true)) → (n : ℕ) → count_to f n ≤ 2 * b - 1
   few_met f each n =
-      let fewer = count_to-fewer f is_met n (λ k h. let x = each k h in met k x.0 x.1) in
+      let fewer = count_le f is_met (λ k h. let x = each k h in met k x.0 x.1) n in
       let no_weight : weight 0 ≡ 0 = rw none_at_zero refl in
       let not_met : is_met 0 ≡ false = rw none_at_zero refl in
       let few = few_pass is_met weight no_weight not_met weights_split n in

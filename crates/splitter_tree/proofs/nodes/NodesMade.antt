@@ -1,31 +1,31 @@
 -- just the nodes are marked that were made
-use Rattle.std.proofs.Common.{◌≡◌, ℕ, ◌≤◌, true, false, cond, ◌⊎◌, inl, inr, List, [], length, Option, Some, None, Ok, Err, Result, refl, sym, ap, subst, ◌∙◌}
+use Rattle.std.proofs.Common.{◌≡◌, ℕ, ◌≤◌, Bool, ◌⊎◌, inl, inr, List, [], length, Option, Some, None, Ok, Result, refl, sym, ap, ◌∙◌}
 use Rattle.std.specs.Prelude.{◌↔◌}
-use Rattle.step_memory.specs.declared.access.Access.{Access}
+use Rattle.std.proofs.Math.Path.{fun_ext}
 use Rattle.step_memory.specs.declared.refusal.Refusal.{Refusal}
-use Rattle.step_memory.specs.declared.refusal.Refusal.TheVariants.{NoMemory}
 use Rattle.step_memory.proofs.RunLemmas.{run_gathers}
 use Rattle.step_memory.specs.Steps.{MemorySteps}
 use Rattle.step_memory.specs.World.{begin_refusal, begun_unless}
-use Rattle.step_memory.specs.Calls.{lacked_memory, begun_in}
+use Rattle.step_memory.specs.Calls.{begun_in}
 use Rattle.splitter_tree.specs.declared.register.TreeRegister.{TreeRegister}
-use Rattle.splitter_tree.specs.declared.register.TreeRegister.TheVariants.{Mark, X, Y}
+use Rattle.splitter_tree.specs.declared.register.TreeRegister.TheVariants.{Mark}
 use Rattle.splitter_tree.specs.declared.register.TreeValue.{TreeValue}
 use Rattle.splitter_tree.specs.declared.walker.Walker.{Walker}
-use Rattle.splitter_tree.specs.TreeMemory.{mark_at, IsTreeMemory, IsEmptyTree}
-use Rattle.splitter_tree.specs.Walk.{next_access, place_of}
-use Rattle.splitter_tree.specs.Client.{client_of, client_access, write_at, record_of, storing}
-use Rattle.splitter_tree.specs.TreeWorld.{TreeState, place_answer, after_placing, after_store, after_collect_begin, after_collecting}
+use Rattle.splitter_tree.specs.TreeMemory.{mark_at, word_in, IsTreeMemory, IsEmptyTree}
+use Rattle.splitter_tree.specs.Walk.{place_of}
+use Rattle.splitter_tree.specs.Client.{client_of, record_of}
+use Rattle.splitter_tree.specs.Collect.{collect_reads}
+use Rattle.splitter_tree.specs.TreeWorld.{TreeState, after_store, after_collect_begin, after_collecting}
 use Rattle.step_memory.specs.Runs.{Run}
 use Rattle.splitter_tree.specs.Machine.{fresh_over}
 use Rattle.splitter_tree.specs.TreeCalls.{TreeCall, next, IsReply}
 use Rattle.splitter_tree.specs.TreeCalls.TreeCall.{Began, Stepped, Stored, CollectBegan, CollectStepped}
 use Rattle.splitter_tree.specs.Depth.{IsNodeWithin}
-use Rattle.splitter_tree.specs.PlacesLaw.{way_calls, walkers}
+use Rattle.splitter_tree.specs.PlacesLaw.{way_calls, walker_in, walkers}
 use Rattle.splitter_tree.specs.Made.{Marks, WasMade}
-use Rattle.splitter_tree.proofs.nodes.ConsistentKept.{marks}
-use Rattle.splitter_tree.proofs.CallCases.{step_cases, store_cases, collect_begin_cases, collect_step_cases}
-use Rattle.splitter_tree.proofs.nodes.PlacesTied.{IsTied, all_go, call_kept, tied_new, tied_after, tree_of_tied, words_spared, write_spares, reads_only, placing_access}
+use Rattle.splitter_tree.proofs.nodes.ConsistentKept.{SparesNodes, marks}
+use Rattle.splitter_tree.proofs.CallCases.{IsStep, step_cases, store_cases, collect_begin_cases, collect_step_cases}
+use Rattle.splitter_tree.proofs.nodes.PlacesTied.{IsTied, all_go, call_kept, tied_new, tied_after, tree_of_tied, store_spares, read_spares}
 
 module _ {S : Type 0} (memory : MemorySteps S TreeRegister TreeValue) (tree : IsTreeMemory memory) where
   -- after a call a node is marked that was, and the one that the call marks
@@ -44,50 +44,43 @@ module _ {S : Type 0} (memory : MemorySteps S TreeRegister TreeValue) (tree : Is
   memory_begun : (w : TreeState S) (id : ℕ) → mark_at memory (next memory w (Began id (Ok tt))).memory ≡ mark_at memory w.memory
   memory_begun w id = elim (begin_refusal w id) as (λ o. mark_at memory (begun_unless o w id (client_of id)).memory ≡ mark_at memory w.memory) [ None ↦ refl | Some why ↦ refl ]
 
+  -- nor does one that leaves the nodes, but for segments
+  spared_marks : (w new : TreeState S) (s : S) → new.memory ≡ s → SparesNodes memory w.memory s → mark_at memory new.memory ≡ mark_at memory w.memory
+  spared_marks w new s e spares = ap (mark_at memory) e ∙ fun_ext (λ k. ap (λ (x : TreeValue × Bool). word_in x.0) (spares (Mark k) (λ j h. absurd (cc))))
+
   module _ (w : TreeState S) (past : List TreeCall) (t : IsTied memory tree w past) where
-    step_call : (id : ℕ) (k : ℕ) → MarkedBy w (next memory w (Stepped id (place_answer memory w id))) (Stepped id (place_answer memory w id)) k
-    step_call id k = elim (step_cases memory w id (all_go memory tree w past t)) [
-      | inl x ↦
-          let reply : Result (Option ℕ) Refusal = Err x.why in
-          subst (λ (y : Result (Option ℕ) Refusal). MarkedBy w (cond (lacked_memory y) w (after_placing memory w id)) (Stepped id y) k) (sym x.answered)
-          (quiet_call w (cond (lacked_memory reply) w (after_placing memory w id)) (Stepped id reply) k
-          (elim (lacked_memory reply) as (λ b. mark_at memory (cond b w (after_placing memory w id)).memory ≡ mark_at memory w.memory) [ true ↦ refl | false ↦ same_marks w (after_placing memory w id) x.same ]) (λ never. never))
-      | inr x ↦
-          let u : Walker = x.who.program.walker in
-          let is : walkers w.participants id ≡ Some u = rw x.here refl in
-          let change = marks memory w.most (length w.participants) w.memory (walkers w.participants) t.consistent tree id u is k in
-          let now : mark_at memory (after_placing memory w id).memory k ≡ mark_at memory (memory.after w.memory (next_access u)) k =
-          ap (λ (y : TreeState S). mark_at memory y.memory k) x.after ∙ ap (λ (a : Access TreeRegister TreeValue). mark_at memory (memory.after w.memory a) k) (placing_access x.who.program x.who.program.task x.placing) in
-          subst (λ (y : Result (Option ℕ) Refusal). MarkedBy w (cond (lacked_memory y) w (after_placing memory w id)) (Stepped id y) k) (sym x.answered) (
-            λ some. elim (change.0 (sym now ∙ some)) [ inl at ↦ inl (u, is, at.0, at.1) | inr stood ↦ inr stood ],
-            λ o. elim o [
-              | inl e ↦
-                  let own : u ≡ e.0 = (let both : Some u ≡ Some e.0 = sym is ∙ e.1 in cc) in
-                  now ∙ change.1 (inl (ap (λ (v : Walker). v.is_marking) own ∙ e.2, ap (λ (v : Walker). v.place) own ∙ e.3))
-              | inr stood ↦ now ∙ change.1 (inr stood)
-            ],
-          )
-    ]
+    -- an accepted step on the way marks the node that its walk marks
+    step_call : (id k : ℕ) (reply : Result (Option ℕ) Refusal) (new : TreeState S) → IsStep memory w id reply new → MarkedBy w new (Stepped id reply) k
+    step_call id k reply new x =
+        let u : Walker = x.who.program.walker in
+        let is : walkers w.participants id ≡ Some u = ap walker_in x.here in
+        let change = marks memory w.most (length w.participants) w.memory (walkers w.participants) t.consistent tree id u is k in
+        rw (x.after, x.is) (
+          λ some. elim (change.0 some) [ inl at ↦ inl (u, is, at.0, at.1) | inr stood ↦ inr stood ],
+          λ o. elim o [
+            | inl e ↦
+                let own : u ≡ e.0 = (let both : Some u ≡ Some e.0 = sym is ∙ e.1 in cc) in
+                change.1 (inl (ap (λ (v : Walker). v.is_marking) own ∙ e.2, ap (λ (v : Walker). v.place) own ∙ e.3))
+            | inr stood ↦ change.1 (inr stood)
+          ],
+        )
 
     one_call : (h : TreeCall) → IsReply memory w h → (k : ℕ) → MarkedBy w (next memory w h) h k
     one_call (Began id reply) is k = quiet_call w (next memory w (Began id reply)) (Began id reply) k (memory_begun w id) (λ never. never)
-    one_call (Stepped id reply) (inl is) k = subst (λ (y : Result (Option ℕ) Refusal). MarkedBy w (next memory w (Stepped id y)) (Stepped id y) k) (sym is) (step_call id k)
-    one_call (Stepped id reply) (inr is) k = rw is.0 (quiet_call w w (Stepped id (Err NoMemory)) k refl (λ never. never))
-    one_call (Stored id value reply) is k = quiet_call w (after_store memory w id value) (Stored id value reply) k
-        (elim (store_cases memory w id value) [
-          | inl x ↦ same_marks w (after_store memory w id value) x.same
-          | inr x ↦
-              let spares = write_spares memory tree (place_of x.who.program.walker) (record_of (storing x.who.program value) value) in
-              ap (λ (y : TreeState S). mark_at memory y.memory) x.after ∙ (words_spared memory tree w.memory (write_at (place_of x.who.program.walker) (record_of (storing x.who.program value) value)) spares.0 spares.1 spares.2).0
-        ]) (λ never. never)
+    one_call (Stepped id reply) is k = elim (step_cases memory w id (all_go memory tree w past t) reply is) [
+      | inl x ↦ quiet_call w (next memory w (Stepped id reply)) (Stepped id reply) k (same_marks w (next memory w (Stepped id reply)) x.same) (rw x.is (λ never. never))
+      | inr x ↦ step_call id k reply (next memory w (Stepped id reply)) x
+    ]
+    one_call (Stored id value reply) is k = quiet_call w (after_store memory w id value) (Stored id value reply) k (elim (store_cases memory w id value reply is) [
+      | inl x ↦ same_marks w (after_store memory w id value) x.same
+      | inr x ↦ spared_marks w (after_store memory w id value) _ (ap (λ (y : TreeState S). y.memory) x.after) (store_spares memory tree w.memory (place_of x.who.program.walker) (record_of x.who.program value))
+    ]) (λ never. never)
     one_call (CollectBegan id reply) is k = quiet_call w (after_collect_begin w id) (CollectBegan id reply) k
-        (elim (collect_begin_cases memory w id) [ inl x ↦ same_marks w (after_collect_begin w id) x.same | inr x ↦ ap (λ (y : TreeState S). mark_at memory y.memory) x.after ]) (λ never. never)
+        (elim (collect_begin_cases memory w id reply is) [ inl x ↦ same_marks w (after_collect_begin w id) x.same | inr x ↦ ap (λ (y : TreeState S). mark_at memory y.memory) x.after ]) (λ never. never)
     one_call (CollectStepped id reply) is k = quiet_call w (after_collecting memory w id) (CollectStepped id reply) k
-        (elim (collect_step_cases memory w id (all_go memory tree w past t)) [
+        (elim (collect_step_cases memory w id (all_go memory tree w past t) reply is) [
           | inl x ↦ same_marks w (after_collecting memory w id) x.same
-          | inr x ↦
-              let spares = reads_only x.who.program x.who.program.task x.collects in
-              ap (λ (y : TreeState S). mark_at memory y.memory) x.after ∙ (words_spared memory tree w.memory (client_access x.who.program) (λ j. spares (Mark j)) (λ j. spares (X j)) (λ j. spares (Y j))).0
+          | inr x ↦ spared_marks w (after_collecting memory w id) _ (ap (λ (y : TreeState S). y.memory) x.after) (read_spares memory tree w.memory (collect_reads x.collect))
         ]) (λ never. never)
 
   pub marked_made : (first : S) (most : ℕ) (w : TreeState S) (r : List TreeCall) → IsEmptyTree memory first → most ≤ 64 → Run (next memory) (IsReply memory) (fresh_over memory (first, most)) r w → (k : ℕ) → (mark_at memory w.memory k ≡ 1) ↔ WasMade memory first most r k

@@ -91,10 +91,7 @@ and_false false = refl
 mark_kept : (r : TreeRegister) (v : TreeValue) (o : Option NodeRegisters) → sets_mark r v ≡ true → written r v o ≡ o
 mark_kept r v None h = refl
 mark_kept (Mark p) (value.Word w) (Some registers) h = refl
-mark_kept (Mark p) (value.Contents s) (Some registers) h = absurd (cc)
-mark_kept (X p) v (Some registers) h = absurd (cc)
-mark_kept (Y p) v (Some registers) h = absurd (cc)
-mark_kept (Contents p) v (Some registers) h = absurd (cc)
+mark_kept r v o h = absurd (cc)
 
 -- a write into node 0, which is not there, is lost
 pub after_zero : {A : Type 0} (old : Option (Box (Node A) A)) (r : TreeRegister) (v : TreeValue) → number_in r ≡ 0 → nodes_of old ≡ after_write (nodes_of old) r v
