@@ -1,45 +1,10 @@
 -- who steps alone comes nearer to its name
-use Rattle.std.proofs.Common.{◌≡◌, ◌≢◌, ℕ, zero, suc, ◌+◌, ◌-◌, ◌*◌, ◌≤◌, ◌==◌, Bool, true, false, cond, ◌⊎◌, List, Option, Some, None, Result, Ok, Err, inl, inr, refl, sym, ap, subst, ◌∙◌, arith, add-one}
-use Rattle.std.specs.Prelude.{is_some, nat_lt, nat_le}
-use Rattle.std.proofs.lemmas.Bool.Decides.{eqb_tells, leb_tells}
-use Rattle.step_memory.proofs.SetAtLemmas.{set_at-same, set_at-other}
-use Rattle.step_memory.specs.View.{value_of}
-use Rattle.step_memory.specs.declared.participant.Participant.{Participant}
-use Rattle.step_memory.specs.declared.refusal.Refusal.{Refusal}
-use Rattle.step_memory.specs.declared.refusal.Refusal.TheVariants.{Finished, NoMemory}
-use Rattle.step_memory.specs.Participant.{participant_of, beginner}
-use Rattle.step_memory.proofs.ParticipantLemmas.{participant_of-put, participant_of-push}
-use Rattle.step_memory.specs.Calls.{Call, lacked_memory, steps_by}
-use Rattle.step_memory.specs.Calls.Call.{Began, Stepped}
-use Rattle.step_memory.specs.World.{begin_refusal, done_unless}
-use Rattle.step_memory.proofs.WorldKeeps.{let_in}
+use Rattle.std.proofs.Common.{◌≡◌, ◌≢◌, ℕ, zero, suc, ◌+◌, ◌-◌, ◌*◌, ◌≤◌, ◌==◌, Bool, true, false, cond, ◌⊎◌, List, Option, Some, None, Result, Ok, Err, inl, inr, refl, sym, ap, subst, ◌∙◌, arith, add-one, is_some, nat_lt, nat_le}
+use Rattle.rename_core.proofs.Common.{eqb_tells, leb_tells, set_at-same, set_at-other, value_of, Participant, Refusal, Finished, NoMemory, participant_of, beginner, participant_of-put, participant_of-push, Call, lacked_memory, steps_by, Began, Stepped, begin_refusal, done_unless, let_in, has_begun, goes_busy, KnownPlaces, GoesBusy, is_quiet, SnapReply, Silent, HasPlace, Written, Viewed, SnapCall, snap_next, IsSnapReply, Task, SnapObject, SnapBounds, observed, SnapAllows, SnapState, beginner_at, snap_answer, after_snap_step, Client, StepReply, Quiet, Round, Follow, Stage, Placing, Proposing, Looking, Settled, Over, Pace, IsInTime, most_steps, paced, paced_step, ToGo, ToPropose, ToLook, is_taken, next_proposal, next, IsReply, RenameTerms, RenameObject, IsRecent, IsConflict, Allows, after, after_step, no_step, RenameState, after_wish, begun_snap, begun_unless, has_place, world_with, snap_step, rename_answer, after_rename_step, stage_refusal, followed, decided, named_by, spent_by, saw_by, number_of, written_round, first_round, first_wish}
 use Rattle.snapshot_core.specs.Alone.{EndsAlone, EndsSoon, most_reads}
 use Rattle.snapshot_core.proofs.Alone.{ends_alike}
-use Rattle.snapshot_core.proofs.Clients.{has_begun, goes_busy}
-use Rattle.snapshot_core.specs.Places.{KnownPlaces}
-use Rattle.snapshot_core.specs.Standing.{GoesBusy, is_quiet}
-use Rattle.snapshot_core.specs.declared.client.SnapReply.{SnapReply}
-use Rattle.snapshot_core.specs.declared.client.SnapReply.TheVariants.{Quiet as Silent, Placed as HasPlace, Written, View as Viewed}
-use Rattle.snapshot_core.specs.SnapCalls.{SnapCall, next as snap_next, IsReply as IsSnapReply}
-use Rattle.snapshot_core.specs.Snapshot.{Task, SnapObject, SnapBounds, observed, Allows as SnapAllows}
 use Rattle.snapshot_core.specs.Snapshot.Task.{Absent, Placing as ToPlace, Scanning as ToScan, Updating as ToUpdate}
-use Rattle.snapshot_core.specs.SnapWorld.{SnapState, beginner_at, snap_answer, after_snap_step}
-use Rattle.snapshot_core.specs.declared.client.Client.{Client}
-use Rattle.rename_core.specs.Reply.{StepReply}
-use Rattle.rename_core.specs.declared.reply.Reply.TheVariants.{Quiet}
-use Rattle.rename_core.specs.declared.round.Round.{Round}
-use Rattle.rename_core.specs.declared.round.Follow.{Follow}
-use Rattle.rename_core.specs.declared.round.Stage.{Stage}
-use Rattle.rename_core.specs.declared.round.Stage.TheVariants.{Placing, Proposing, Looking, Settled, Over}
 use Rattle.rename_core.specs.Alone.{LeavesAlone, HasTwoLeft, steps_alone}
-use Rattle.rename_core.specs.Pace.{Pace, IsInTime, most_steps, paced, paced_step}
-use Rattle.rename_core.specs.Pace.Phase.{ToPlace as ToGo, ToPropose, ToLook}
-use Rattle.rename_core.specs.Proposals.{is_taken, next_proposal}
-use Rattle.rename_core.specs.Machine.{next, IsReply}
-use Rattle.rename_core.specs.RenameObject.{RenameTerms, RenameObject, IsRecent, IsConflict, Allows, after, after_step, no_step}
-use Rattle.rename_core.specs.RenameState.{RenameState}
-use Rattle.rename_core.specs.RenameWorld.{after_wish, begun_snap, begun_unless, has_place, world_with, snap_step, rename_answer, after_rename_step}
-use Rattle.rename_core.specs.Round.{stage_refusal, followed, decided, named_by, spent_by, saw_by, number_of, written_round, first_round, first_wish}
 use Rattle.rename_core.proofs.LocalSteps.{wish_becomes}
 use Rattle.rename_core.proofs.rounds.Numbers.{next_free}
 use Rattle.rename_core.proofs.rounds.Standing.{others_stand}
@@ -190,11 +155,9 @@ module _ {S R V U K : Type 0} (W : KnownPlaces S R V U K) (terms : RenameTerms) 
       pub goes_alone : (n : ℕ) → LeftAlone w o t p n → (is_some (o.name p) ≡ true) ⊎ (o.spent p ≡ false)
       goes_alone n h = by_stage h.0.program.stage (i.stages p h.0 h.1) h.2 where
         by_stage : (stage : Stage) → IsAtStage terms o t i.object w.snap p h.0.program stage → LeftAt w o t p h.0.program stage n → (is_some (o.name p) ≡ true) ⊎ (o.spent p ≡ false)
-        by_stage Placing k left = inr k.going.left
-        by_stage (Proposing number) k left = inr k.going.left
-        by_stage Looking k left = inr k.going.left
         by_stage Settled k left = inl (ap is_some k.1)
         by_stage Over k left = absurd left
+        by_stage stage k left = inr k.going.left
 
       pub ends_named : LeftAlone w o t p 0 → is_some (o.name p) ≡ true
       ends_named h = ends_at h.0 h.1 h.0.program.stage refl (i.stages p h.0 h.1) h.2

@@ -1,19 +1,9 @@
 -- who steps alone is named in time, over every list of calls
 use Rattle.std.proofs.Common.{◌≡◌, ℕ, ◌+◌, ◌≤◌, true, false, ◌⊎◌, List, [], ◌∷◌, ◌++◌, inl, inr, refl, sym, ap, subst, ◌∙◌, arith}
-use Rattle.std.proofs.lemmas.Bool.Decides.{eqb_tells}
+use Rattle.rename_core.proofs.Common.{eqb_tells, run_more, run_one, KnownPlaces, SnapCall, snap_next, IsSnapReply, SnapObject, SnapBounds, observed, SnapAllows, SnapState, StepReply, Pace, paced, next, IsReply, RenameTerms, RenameObject, new_object, Allows, after, IsRun, RenameState}
 use Rattle.step_memory.specs.Calls.{Call, steps_of, steps_by}
-use Rattle.step_memory.proofs.RunLemmas.{run_more, run_one}
 use Rattle.step_memory.proofs.WorldKeeps.{steps_of-push}
-use Rattle.snapshot_core.specs.Places.{KnownPlaces}
-use Rattle.snapshot_core.specs.SnapCalls.{SnapCall, next as snap_next, IsReply as IsSnapReply}
-use Rattle.snapshot_core.specs.Snapshot.{SnapObject, SnapBounds, observed, Allows as SnapAllows}
-use Rattle.snapshot_core.specs.SnapWorld.{SnapState}
-use Rattle.rename_core.specs.Reply.{StepReply}
 use Rattle.rename_core.specs.Alone.{LeavesAlone, StepsAlone, HasTwoLeft, steps_alone, IsNamedWithin, IsNamedAlone}
-use Rattle.rename_core.specs.Pace.{Pace, paced}
-use Rattle.rename_core.specs.Machine.{next, IsReply}
-use Rattle.rename_core.specs.RenameObject.{RenameTerms, RenameObject, new_object, Allows, after, IsRun}
-use Rattle.rename_core.specs.RenameState.{RenameState}
 use Rattle.rename_core.proofs.Alone.{Grounds, LeftAlone, starts_alone, goes_alone, ends_named, call_alone}
 use Rattle.rename_core.proofs.rounds.Keeping.{Goes}
 use Rattle.rename_core.proofs.rounds.Tied.{IsTied}

@@ -1,14 +1,8 @@
 -- no call of a snapshot object but `begin` changes who takes part
 use Rattle.std.proofs.Common.{◌≡◌, ℕ, true, false, cond, length, Option, Some, None, refl, ◌∙◌}
-use Rattle.step_memory.specs.declared.participant.Participant.{Participant}
-use Rattle.step_memory.specs.declared.refusal.Refusal.{Refusal}
-use Rattle.step_memory.specs.Participant.{participant_of, program_of, identities, beginner, resumed}
+use Rattle.rename_core.proofs.Common.{Participant, Refusal, participant_of, program_of, identities, beginner, resumed, length-with_participant, Client, is_idle, updating, scanning, KnownPlaces}
 use Rattle.step_memory.specs.World.{after_step, after_step_by, got_by}
-use Rattle.step_memory.proofs.ParticipantLemmas.{length-with_participant}
 use Rattle.step_memory.proofs.DistinctParticipants.{identities-put}
-use Rattle.snapshot_core.specs.declared.client.Client.{Client}
-use Rattle.snapshot_core.specs.Client.{is_idle, updating, scanning}
-use Rattle.snapshot_core.specs.Places.{KnownPlaces}
 use Rattle.snapshot_core.specs.SnapWorld.{SnapState, clients_over, asked, after_scan, after_update, scan_refusal, update_refusal, after_snap_step, after_snap_by}
 
 -- the same take part as before, and there is room for as many

@@ -1,3 +1,4 @@
+mod Common
 mod rounds
 mod ShortReplies
 mod Large

@@ -1,32 +1,15 @@
 -- a step is local
-use Rattle.std.proofs.Common.{◌≡◌, ◌≢◌, ℕ, true, false, cond, List, Option, Some, None, Result, Ok, Err, inl, inr, refl, sym, ap, subst, ◌∙◌}
-use Rattle.std.specs.Prelude.{option_map}
-use Rattle.step_memory.proofs.SetAtLemmas.{set_at-same, set_at-other}
+use Rattle.std.proofs.Common.{◌≡◌, ◌≢◌, ℕ, true, false, cond, List, Option, Some, None, Result, Ok, Err, inl, inr, refl, sym, ap, subst, ◌∙◌, option_map}
+use Rattle.rename_core.proofs.Common.{set_at-same, set_at-other, Participant, Refusal, NotBegun, Finished, NoMemory, participant_of, program_of, with_participant, beginner, resumed, Client, SnapReply, is_idle, scanning, updating, KnownPlaces, StepReply, Follow, Round, Wish, Nothing, Update, Scan, RenameState, after_wish, snap_step, snap_told, after_follow, answer_told, answer_open, answer_by, after_told, after_open, after_by, rename_answer, after_rename_step, stage_refusal, followed}
 use Rattle.step_memory.specs.declared.access.Access.{Access}
 use Rattle.step_memory.specs.declared.access.Answer.{Answer}
-use Rattle.step_memory.specs.declared.participant.Participant.{Participant}
-use Rattle.step_memory.specs.declared.refusal.Refusal.{Refusal}
-use Rattle.step_memory.specs.declared.refusal.Refusal.TheVariants.{NotBegun, Finished, NoMemory}
-use Rattle.step_memory.specs.Participant.{participant_of, program_of, with_participant, beginner, resumed}
 use Rattle.step_memory.specs.Steps.{Spares}
 use Rattle.step_memory.specs.World.{step_answer_by}
 use Rattle.step_memory.specs.Calls.{reply_of}
 use Rattle.step_memory.proofs.ParticipantLemmas.{participant_of-put, identity_of}
 use Rattle.step_memory.proofs.StepLemmas.{going_after, lacks_or_not}
-use Rattle.snapshot_core.specs.declared.client.Client.{Client}
-use Rattle.snapshot_core.specs.declared.client.SnapReply.{SnapReply}
-use Rattle.snapshot_core.specs.Client.{is_idle, scanning, updating}
-use Rattle.snapshot_core.specs.Places.{KnownPlaces}
 use Rattle.snapshot_core.specs.SnapWorld.{SnapState, asked, clients_over, told, scan_refusal_by, update_refusal_by, snap_answer_by, after_snap_step}
-use Rattle.rename_core.specs.Reply.{StepReply}
-use Rattle.rename_core.specs.declared.round.Follow.{Follow}
-use Rattle.rename_core.specs.declared.round.Round.{Round}
-use Rattle.rename_core.specs.declared.round.Wish.{Wish}
-use Rattle.rename_core.specs.declared.round.Wish.TheVariants.{Nothing, Update, Scan}
 use Rattle.rename_core.specs.Locality.{client_of, round_of, wished, asked_unless, access_of, got_in, follow_by, IsLocal}
-use Rattle.rename_core.specs.RenameState.{RenameState}
-use Rattle.rename_core.specs.RenameWorld.{after_wish, snap_step, snap_told, after_follow, answer_told, answer_open, answer_by, after_told, after_open, after_by, rename_answer, after_rename_step}
-use Rattle.rename_core.specs.Round.{stage_refusal, followed}
 
 -- who is put in is found there, and no other has changed
 put_own : {P : Type 0} (ps : List (Participant P)) (new v : Participant P) → participant_of new.identity ps ≡ Some v → participant_of new.identity (with_participant new ps) ≡ Some new

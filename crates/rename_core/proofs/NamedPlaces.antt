@@ -1,18 +1,11 @@
 -- places that names are given over, by their trait
-use Rattle.std.proofs.Common.{◌≡◌, ℕ, ◌+◌, ◌*◌, ◌==◌, true, [], arith}
-use Rattle.std.specs.Prelude.{is_some}
-use Rattle.snapshot_core.specs.Places.{PlacesLaws}
+use Rattle.std.proofs.Common.{◌≡◌, ℕ, ◌+◌, ◌*◌, ◌==◌, true, [], arith, is_some}
+use Rattle.rename_core.proofs.Common.{PlacesLaws, KnownPlaces, is_tree, WorldKind, Allows, after, new_object, RenameState, name_in, owner_by, shown_by}
 use Rattle.snapshot_core.specs.SnapWorld.{SnapState, may_lack_memory}
-use Rattle.snapshot_core.specs.Places.{KnownPlaces}
-use Rattle.commands.specs.Config.{is_tree}
-use Rattle.commands.specs.declared.kind.WorldKind.{WorldKind}
 use Rattle.step_memory.specs.Machine.{IsLawful, RefusesWhereDue, IsProved}
 use Rattle.step_memory.proofs.MachineLemmas.{machine_proved}
 use Rattle.step_memory.proofs.RunLemmas.{run_answers}
 use Rattle.rename_core.specs.Machine.{renaming, IsName, IsOwnerOf, IsLastMoment, AnswersUnrefused, MakesOwnAccess, terms_of}
-use Rattle.rename_core.specs.RenameObject.{Allows, after, new_object}
-use Rattle.rename_core.specs.RenameState.{RenameState}
-use Rattle.rename_core.specs.RenameWorld.{name_in, owner_by, shown_by}
 use Rattle.rename_core.proofs.Names.{MayBeNamed, rename_law, name_law, owner_law, shown_law, answered_law, own_law}
 
 module _ {S R V U K : Type 0} (W : KnownPlaces S R V U K) (laws : PlacesLaws W) (kind : WorldKind)

@@ -1,38 +1,14 @@
 -- every renaming world keeps the law of renaming
-use Rattle.std.proofs.Common.{None, is_some, IsOk, ◌≡◌, ◌+◌, false, ℕ, ◌==◌, Bool, true, List, [], ◌∷◌, ◌++◌, Option, Some, refl, sym, ap, ◌∙◌, arith}
-use Rattle.std.specs.Prelude.{option_map, option_and_then}
-use Rattle.step_memory.specs.Calls.{Call}
-use Rattle.step_memory.specs.Calls.Call.{Began, Stepped}
-use Rattle.step_memory.specs.declared.participant.Participant.{Participant}
-use Rattle.step_memory.specs.declared.refusal.Refusal.TheVariants.{NotBegun}
-use Rattle.step_memory.specs.Participant.{participant_of}
-use Rattle.step_memory.specs.Runs.{Run}
+use Rattle.std.proofs.Common.{None, is_some, IsOk, ◌≡◌, ◌+◌, false, ℕ, ◌==◌, Bool, true, List, [], ◌∷◌, ◌++◌, Option, Some, refl, sym, ap, ◌∙◌, arith, option_map, option_and_then}
+use Rattle.rename_core.proofs.Common.{Call, Began, Stepped, Participant, NotBegun, participant_of, Run, PlacesLaws, BoundsScans, KnownPlaces, Client, StandsAt, GoesBusy, goes_busy, client_of, access_of, snapshot, SnapCall, snap_next, IsSnapReply, is_tree, WorldKind, StepReply, Round, Stage, Placing, Proposing, Looking, Settled, Over, After, RenameState, name_in, name_by, owner_by, shown_by, step_refusal, rename_answer, may_lack, name_at, stage_refusal, standing_by}
 use Rattle.step_memory.proofs.RunLemmas.{run_more, run_keeps, run_one}
-use Rattle.snapshot_core.specs.Places.{PlacesLaws, BoundsScans}
-use Rattle.snapshot_core.specs.declared.client.Client.{Client}
 use Rattle.snapshot_core.specs.SnapWorld.{SnapState, IsAccessFor}
-use Rattle.snapshot_core.specs.Standing.{StandsAt, GoesBusy}
-use Rattle.snapshot_core.proofs.Clients.{goes_busy}
 use Rattle.snapshot_core.proofs.Following.{own_access_holds}
-use Rattle.rename_core.specs.Locality.{client_of, access_of}
-use Rattle.snapshot_core.specs.Machine.{snapshot}
-use Rattle.snapshot_core.specs.SnapCalls.{SnapCall, next as snap_next, IsReply as IsSnapReply}
 use Rattle.snapshot_core.specs.Snapshot.{IsMoment, SnapObject, SnapBounds, bounds_over, observed, Allows as SnapAllows, new_object as new_snap}
-use Rattle.commands.specs.Config.{is_tree}
-use Rattle.commands.specs.declared.kind.WorldKind.{WorldKind}
-use Rattle.rename_core.specs.Reply.{StepReply}
-use Rattle.rename_core.specs.declared.round.Round.{Round}
-use Rattle.rename_core.specs.declared.round.Stage.{Stage}
-use Rattle.rename_core.specs.declared.round.Stage.TheVariants.{Placing, Proposing, Looking, Settled, Over}
 use Rattle.rename_core.specs.Law.{KeepsRenameLaw}
 use Rattle.rename_core.specs.Pace.{Pace, InTime, new_pace, paced, IsPaced}
-use Rattle.snapshot_core.specs.Places.{KnownPlaces}
-use Rattle.step_memory.specs.Machine.{After}
 use Rattle.rename_core.specs.Machine.{next, IsReply, fresh_over, IsRenameStart, renaming, terms_of}
 use Rattle.rename_core.specs.RenameObject.{RenameTerms, RenameObject, new_object, Allows, after, IsRun, IsOwner}
-use Rattle.rename_core.specs.RenameState.{RenameState}
-use Rattle.rename_core.specs.RenameWorld.{name_in, name_by, owner_by, shown_by, step_refusal, rename_answer, may_lack}
-use Rattle.rename_core.specs.Round.{name_at, stage_refusal, standing_by}
 use Rattle.snapshot_core.proofs.Alone.{ends_soon_alone}
 use Rattle.rename_core.proofs.Alone.{Grounds}
 use Rattle.rename_core.proofs.AloneRuns.{KeepsAlone, alone_fresh, alone_more, alone_named}
@@ -154,11 +130,9 @@ module _ {S R V U K : Type 0} (W : KnownPlaces S R V U K) (kind : WorldKind) (sc
   AtStage p round stage = IsAtStage (terms_of W kind first) k.object k.paces.0 k.tied.object w.snap p round stage
 
   name_at_stage : (p : ℕ) (round : Round) (stage : Stage) → AtStage p round stage → name_at stage round.proposal ≡ k.object.name p
-  name_at_stage p round Placing h = sym h.going.unnamed
-  name_at_stage p round (Proposing number) h = sym h.going.unnamed
-  name_at_stage p round Looking h = sym h.going.unnamed
   name_at_stage p round Settled h = sym h.1
   name_at_stage p round Over h = sym h.0
+  name_at_stage p round stage h = sym h.going.unnamed
 
   -- the name of an identity is its name in the object
   pub name_law : (o : RenameObject) → IsRun (terms_of W kind first) r o → (p : ℕ) → name_in w p ≡ o.name p

@@ -1,7 +1,6 @@
 -- the law of renaming over a grid, over a tree and over segments in a row
 use Rattle.std.proofs.Common.{◌≡◌, ℕ, ◌≤◌, true, false, List, Option, refl, ap, subst, ◌∙◌}
-use Rattle.step_memory.specs.Machine.{After}
-use Rattle.snapshot_core.specs.Machine.{snapshot}
+use Rattle.rename_core.proofs.Common.{After, snapshot, RenameState}
 use Rattle.snapshot_core.specs.FixedTies.{fixed_places, fixed_bounds}
 use Rattle.snapshot_core.specs.FixedProofs.{fixed_laws}
 use Rattle.snapshot_places.specs.Bounds.{grid_bounds, tree_bounds}
@@ -25,7 +24,6 @@ use Rattle.step_memory.specs.declared.record.Record.{Record}
 use Rattle.rename_core.specs.Ample.{fixed_ample, grid_ample}
 use Rattle.commands.specs.declared.kind.WorldKind.TheVariants.{Rename, Tree}
 use Rattle.rename_core.specs.Machine.{IsLawfulWithin, LacksOnly, BeginsTheSame}
-use Rattle.rename_core.specs.RenameState.{RenameState}
 use Rattle.rename_core.proofs.rounds.Beginners.{begins_alike}
 use Rattle.rename_core.proofs.Names.{MayBeNamed, rename_law, most_is, snap_after}
 

@@ -1,8 +1,7 @@
 -- outcomes of a few bytes, with a view beside them
 use Rattle.std.proofs.Common.{◌≡◌, ◌≢◌, ℕ, List, Result, Ok, Err, ap}
-use Rattle.step_memory.specs.declared.refusal.Refusal.{Refusal}
+use Rattle.rename_core.proofs.Common.{Refusal, outcome_with}
 use Rattle.rename_core.specs.declared.reply.Reply.{Reply}
-use Rattle.rename_core.specs.Reply.{outcome_with}
 
 -- a view beside it makes no refusal
 pub refused_short : (outcome : Result (Reply (Unit {0})) Refusal) (view : List (ℕ × ℕ)) (why : Refusal) → outcome_with outcome view ≡ Err why → outcome ≡ Err why

@@ -1,19 +1,7 @@
 -- no call changes the most participants, nor the round limit
 use Rattle.std.proofs.Common.{◌≡◌, ℕ, true, false, cond, List, [], ◌∷◌, Option, Some, None, Result, Ok, Err, refl, ap, ◌∙◌}
-use Rattle.step_memory.specs.declared.refusal.Refusal.{Refusal}
-use Rattle.step_memory.specs.Calls.{Call, lacked_memory}
-use Rattle.step_memory.specs.Calls.Call.{Began, Stepped}
-use Rattle.step_memory.specs.Participant.{program_of}
-use Rattle.step_memory.specs.Runs.{Run}
-use Rattle.step_memory.specs.World.{begin_refusal}
-use Rattle.snapshot_core.specs.declared.client.SnapReply.{SnapReply}
-use Rattle.rename_core.specs.Reply.{StepReply}
-use Rattle.rename_core.specs.declared.round.Round.{Round}
-use Rattle.snapshot_core.specs.Places.{KnownPlaces}
+use Rattle.rename_core.proofs.Common.{Refusal, Call, lacked_memory, Began, Stepped, program_of, Run, begin_refusal, SnapReply, StepReply, Round, KnownPlaces, RenameState, begun_unless, has_place, after_told, after_open, after_by, after_rename_step, snap_told, stage_refusal, followed, first_wish}
 use Rattle.rename_core.specs.Machine.{next, IsReply, KeepsSizes}
-use Rattle.rename_core.specs.RenameState.{RenameState}
-use Rattle.rename_core.specs.RenameWorld.{begun_unless, has_place, after_told, after_open, after_by, after_rename_step, snap_told}
-use Rattle.rename_core.specs.Round.{stage_refusal, followed, first_wish}
 use Rattle.rename_core.proofs.rounds.StepCases.{begun_large, step_large}
 
 module _ {S R V U K : Type 0} (W : KnownPlaces S R V U K) (w : RenameState S U K) (p : ℕ) where

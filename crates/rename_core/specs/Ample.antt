@@ -1,5 +1,5 @@
 -- over segments in a row, and over a grid, no step wants memory
-use Rattle.std.proofs.Common.{◌≡◌, ℕ, true, false, Some, None, refl, sym, ◌∙◌}
+use Rattle.std.proofs.Common.{◌≡◌, ℕ, true, false, Some, None, refl, sym, ◌∙◌, List, Option}
 use Rattle.step_memory.specs.declared.access.Access.{Access}
 use Rattle.step_memory.specs.Participant.{participant_of}
 use Rattle.step_memory.specs.World.{may_refuse_by}
@@ -13,7 +13,6 @@ use Rattle.snapshot_places.specs.GridTies.{grid_places}
 use Rattle.snapshot_places.specs.declared.grid_walk.GridWalk.{GridWalk}
 use Rattle.snapshot_places.specs.declared.grid_walker.GridWalker.{GridWalker}
 use Rattle.step_memory.specs.declared.record.Record.{Record}
-use Rattle.std.proofs.Common.{List, Option}
 
 -- where no access is ever refused, no step is
 pub ample : {S R V U K : Type 0} (t : KnownPlaces S R V U K) → ((s : S) (a : Access R V) → t.memory.may_refuse s a ≡ false) → (s : SnapState S U K) (p : ℕ) → may_lack_memory t s p ≡ false

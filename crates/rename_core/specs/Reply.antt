@@ -10,12 +10,9 @@ StepReply = Reply (List (ℕ × ℕ))
 
 -- the view by which it was decided
 abbrev pub view_told : {V : Type 0} → Reply V → Option V
-view_told Quiet = None
-view_told (Placed place) = None
-view_told (Proposed number) = None
 view_told (Saw view) = Some view
 view_told (Named name view) = Some view
-view_told Spent = None
+view_told r = None
 
 -- the reply with this view in the place of what it carries
 abbrev pub with_view : {V W : Type 0} → Reply V → W → Reply W

@@ -15,35 +15,24 @@ use Rattle.rename_core.specs.Proposals.{is_taken, next_proposal}
 
 -- why there is no further step
 abbrev pub stage_refusal : Stage → Option Refusal
-stage_refusal Placing = None
-stage_refusal (Proposing number) = None
-stage_refusal Looking = None
 stage_refusal Settled = Some Finished
 stage_refusal Over = Some IsSpent
+stage_refusal s = None
 
 -- the number that is proposed next
 abbrev pub number_of : Stage → ℕ
-number_of Placing = 0
 number_of (Proposing number) = number
-number_of Looking = 0
-number_of Settled = 0
-number_of Over = 0
+number_of s = 0
 
 -- the name that a round has ended with
 abbrev pub name_at : Stage → ℕ → Option ℕ
-name_at Placing proposal = None
-name_at (Proposing number) proposal = None
-name_at Looking proposal = None
 name_at Settled proposal = Some proposal
-name_at Over proposal = None
+name_at s proposal = None
 
 -- whether it has ended with this name
 abbrev pub has_name : Stage → ℕ → ℕ → Bool
-has_name Placing proposal number = false
-has_name (Proposing next) proposal number = false
-has_name Looking proposal number = false
 has_name Settled proposal number = proposal == number
-has_name Over proposal number = false
+has_name s proposal number = false
 
 -- the proposal that stands in the memory
 abbrev pub standing_by : Round → Option ℕ

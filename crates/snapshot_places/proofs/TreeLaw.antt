@@ -1,6 +1,5 @@
 -- the law of a snapshot object over a tree
-use Rattle.std.proofs.Common.{◌≡◌, ℕ, ◌+◌, ◌-◌, ◌*◌, ◌≤◌, true, false, cond, length, Some, None, refl, sym, ap, ◌∙◌, arith}
-use Rattle.std.specs.Prelude.{option_map}
+use Rattle.std.proofs.Common.{◌≡◌, ℕ, ◌+◌, ◌-◌, ◌*◌, ◌≤◌, true, false, cond, length, Some, None, refl, sym, ap, ◌∙◌, arith, option_map}
 use Rattle.step_memory.specs.Participant.{participant_of}
 use Rattle.step_memory.specs.World.{may_refuse_by}
 use Rattle.splitter_tree.specs.TreeSteps.{tree_steps}

@@ -47,11 +47,8 @@ after_write g (Segment place) (Word word) = g
 after_write g (Segment place) (Contents segment) = with_segments g (slice_set g.segments place segment)
 
 abbrev pub after_access : GridState → Access GridRegister GridValue → GridState
-after_access g (Read r) = g
 after_access g (Write r v) = after_write g r v
-after_access g (TestAndSet r) = g
-after_access g (Clear r) = g
-after_access g Nothing = g
+after_access g a = g
 
 abbrev pub grid_steps : MemorySteps GridState GridRegister GridValue
 grid_steps = record { register = register_of; after = after_access; may_refuse = λ g a. false }

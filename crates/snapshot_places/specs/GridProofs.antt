@@ -46,24 +46,15 @@ others_kept g Nothing r h = refl
 -- an access that is sent to the doors is one of the doors
 sent : (g : GridState) (id x y : ℕ) (s : Stage) → after_access g (door_access (access_at id x y s)) ≡ with_doors g (registers.after_access g.doors (access_at id x y s))
 sent g id x y Outside = refl
-sent g id x y WroteX = refl
-sent g id x y SawClear = refl
-sent g id x y WroteY = refl
-sent g id x y (Gone way) = refl
+sent g id x y s = refl
 
 told : (g : GridState) (id x y : ℕ) (s : Stage) → word_answer (answer_from (register_of g) (door_access (access_at id x y s))) ≡ registers.answer_of g.doors (access_at id x y s)
 told g id x y Outside = refl
-told g id x y WroteX = refl
-told g id x y SawClear = refl
-told g id x y WroteY = refl
-told g id x y (Gone way) = refl
+told g id x y s = refl
 
 sent_plain : (id x y : ℕ) (s : Stage) → ReadsOrWrites (door_access (access_at id x y s))
 sent_plain id x y Outside = tt
-sent_plain id x y WroteX = tt
-sent_plain id x y SawClear = tt
-sent_plain id x y WroteY = tt
-sent_plain id x y (Gone way) = tt
+sent_plain id x y s = tt
 
 -- the walks, with another in the place of p's
 walks_with : (ways : ℕ → Option GridWalker) (p : ℕ) (u : GridWalker) → walks_of (set_at ways p (Some u)) ≡ set_at (walks_of ways) p (Some u.walker)

@@ -105,18 +105,13 @@ tree_reads t k j h =
     }
 
 words_plain : (a : Access TreeRegister ℕ) → ReadsOrWrites a → ReadsOrWrites (in_words a)
-words_plain (Read r) h = tt
-words_plain (Write r v) h = tt
 words_plain (TestAndSet r) h = h
 words_plain (Clear r) h = h
-words_plain Nothing h = tt
+words_plain a h = tt
 
 visit_plain : (id : ℕ) (x y : TreeRegister) (s : Stage) → ReadsOrWrites (access_at id x y s)
 visit_plain id x y Outside = tt
-visit_plain id x y WroteX = tt
-visit_plain id x y SawClear = tt
-visit_plain id x y WroteY = tt
-visit_plain id x y (Gone way) = tt
+visit_plain id x y s = tt
 
 way_plain : (u : Walker) → ReadsOrWrites (next_access u)
 way_plain u = elim u.is_marking as (λ marking. ReadsOrWrites (if marking then Write (Mark u.place) (Word 1) else in_words (access_of u.visitor))) [

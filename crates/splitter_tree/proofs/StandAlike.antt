@@ -1,15 +1,9 @@
 -- where a participant stands after its step in two worlds that look alike to it
-use Rattle.std.proofs.Common.{◌≡◌, ℕ, Bool, true, false, cond, Option, Some, None, ap, ◌∙◌}
-use Rattle.std.specs.Prelude.{option_map}
+use Rattle.std.proofs.Common.{◌≡◌, ℕ, Bool, true, false, cond, Option, Some, None, ap, ◌∙◌, option_map}
+use Rattle.splitter_tree.proofs.Common.{participant_of, program_of, MemorySteps, TreeRegister, TreeValue, Client, client_steps, is_placing, is_collecting}
 use Rattle.step_memory.specs.Locality.{LookAlike, StandAlike}
-use Rattle.step_memory.specs.Participant.{participant_of, program_of}
-use Rattle.step_memory.specs.Steps.{MemorySteps}
 use Rattle.step_memory.specs.World.{after_step}
 use Rattle.step_memory.proofs.LocalityLemmas.{stand_alike}
-use Rattle.splitter_tree.specs.declared.register.TreeRegister.{TreeRegister}
-use Rattle.splitter_tree.specs.declared.register.TreeValue.{TreeValue}
-use Rattle.splitter_tree.specs.declared.client.Client.{Client}
-use Rattle.splitter_tree.specs.Client.{client_steps, is_placing, is_collecting}
 use Rattle.splitter_tree.specs.TreeWorld.{TreeState, after_placing, after_placing_by, after_collecting, after_collecting_by}
 
 module _ {S : Type 0} (memory : MemorySteps S TreeRegister TreeValue) (w other : TreeState S) (id : ℕ) (alike : LookAlike client_steps memory id w other) where

@@ -51,14 +51,10 @@ collect_stepped o p shown = record { begun = o.begun; last = o.last; moment = o.
 -- the object after a call
 abbrev pub observed : CollectObject → TreeCall → CollectObject
 observed o (Began p (Ok done)) = one_begun o
-observed o (Began p (Err why)) = o
-observed o (Stepped p reply) = o
 observed o (Stored p value (Ok done)) = with_moment o p value
-observed o (Stored p value (Err why)) = o
 observed o (CollectBegan p (Ok done)) = collect_begun o p
-observed o (CollectBegan p (Err why)) = o
 observed o (CollectStepped p (Ok shown)) = collect_stepped o p shown
-observed o (CollectStepped p (Err why)) = o
+observed o t = o
 
 -- a view of a collect since this moment: by rising identity, one pair for each identity that it has; the value of a pair
 -- was that identity's in some moment of the collect; and whoever had stored when the collect began has a pair
@@ -78,14 +74,10 @@ AllowsStep o p (Some view) = (o.steps p + 1 ≤ most_steps o.begun) × ShowsValu
 
 -- who collects neither stores nor begins another collect, and who does not collect takes no step of one
 abbrev pub Allows : CollectObject → TreeCall → Type 0
-Allows o (Began p reply) = Unit {0}
-Allows o (Stepped p reply) = Unit {0}
 Allows o (Stored p value (Ok done)) = o.collects p ≡ false
-Allows o (Stored p value (Err why)) = Unit {0}
 Allows o (CollectBegan p (Ok done)) = o.collects p ≡ false
-Allows o (CollectBegan p (Err why)) = Unit {0}
 Allows o (CollectStepped p (Ok shown)) = (o.collects p ≡ true) × AllowsStep o p shown
-Allows o (CollectStepped p (Err why)) = Unit {0}
+Allows o t = Unit {0}
 
 -- these calls, with these replies, keep the law of collects
 abbrev pub KeepsCollectLaw : List TreeCall → Type 0

@@ -14,12 +14,8 @@ use Rattle.splitter_tree.specs.PlacesLaw.{walkers}
 module _ {S : Type 0} (memory : MemorySteps S TreeRegister TreeValue) where
   -- the call is an accepted step that marks node k, by one who stands before it: the first of these makes the node
   abbrev pub Marks : TreeState S → TreeCall → ℕ → Type 0
-  Marks w (Began id reply) k = ⊥
-  Marks w (Stepped id (Err refusal)) k = ⊥
   Marks w (Stepped id (Ok place)) k = (u : Walker) × (walkers w.participants id ≡ Some u) × (u.is_marking ≡ true) × (u.place ≡ k)
-  Marks w (Stored id value reply) k = ⊥
-  Marks w (CollectBegan id reply) k = ⊥
-  Marks w (CollectStepped id reply) k = ⊥
+  Marks w t k = ⊥
 
   -- one of these calls, made one after another from this world on, marks node k
   abbrev pub MarksFrom : TreeState S → List TreeCall → ℕ → Type 0

@@ -1,25 +1,9 @@
 -- over places that do not go by the order of beginning, all who begin under one identity are alike
-use Rattle.std.proofs.Common.{◌≡◌, ℕ, Bool, List, [], ◌∷◌, ◌++◌, Some, None, sym, ap, ◌∙◌}
-use Rattle.std.specs.Prelude.{is_some, option_map}
-use Rattle.step_memory.specs.Calls.{Call}
-use Rattle.step_memory.proofs.SetAtLemmas.{set_at-same}
-use Rattle.step_memory.specs.Participant.{participant_of, beginner}
-use Rattle.step_memory.specs.World.{begin_refusal}
-use Rattle.step_memory.proofs.ParticipantLemmas.{participant_of-push}
-use Rattle.snapshot_core.specs.declared.client.Client.{Client}
+use Rattle.std.proofs.Common.{◌≡◌, ℕ, Bool, List, [], ◌∷◌, ◌++◌, Some, None, sym, ap, ◌∙◌, is_some, option_map}
+use Rattle.rename_core.proofs.Common.{Call, set_at-same, participant_of, beginner, begin_refusal, participant_of-push, Client, beginner_at, is_tree, WorldKind, StepReply, Round, client_of, round_of, wished, renaming, BeginsTheSame, After, RenameState, first_round, first_wish}
 use Rattle.snapshot_core.specs.Places.{KnownPlaces, PlacesLaws, BeginsAlike}
-use Rattle.snapshot_core.specs.SnapWorld.{beginner_at}
 use Rattle.snapshot_core.proofs.Following.{begins_the_same}
-use Rattle.commands.specs.Config.{is_tree}
-use Rattle.commands.specs.declared.kind.WorldKind.{WorldKind}
-use Rattle.rename_core.specs.Reply.{StepReply}
-use Rattle.rename_core.specs.declared.round.Round.{Round}
-use Rattle.rename_core.specs.Locality.{client_of, round_of, wished}
-use Rattle.rename_core.specs.Machine.{renaming, BeginsTheSame}
-use Rattle.step_memory.specs.Machine.{After}
-use Rattle.rename_core.specs.RenameState.{RenameState}
 use Rattle.rename_core.specs.RenameWorld.{begun_snap, has_place, after_rename_begin}
-use Rattle.rename_core.specs.Round.{first_round, first_wish}
 use Rattle.rename_core.proofs.LocalSteps.{wish_becomes}
 use Rattle.rename_core.proofs.rounds.StepCases.{begun_own, begun_placed, no_round}
 use Rattle.rename_core.proofs.Names.{MayBeNamed, most_is, snap_after, joined_law}

@@ -1,34 +1,14 @@
 -- one more begins in a renaming world
-use Rattle.std.proofs.Common.{◌==◌, cond, ◌≡◌, ◌≢◌, ℕ, ◌+◌, ◌<◌, ◌≤◌, Bool, true, false, List, [], ◌∷◌, ◌++◌, length, Option, Some, None, Result, Ok, inl, inr, refl, sym, ap, subst, ◌∙◌, arith}
-use Rattle.std.specs.Prelude.{is_some}
-use Rattle.std.proofs.lemmas.Bool.Decides.{eqb_tells}
+use Rattle.std.proofs.Common.{◌==◌, cond, ◌≡◌, ◌≢◌, ℕ, ◌+◌, ◌<◌, ◌≤◌, Bool, true, false, List, [], ◌∷◌, ◌++◌, length, Option, Some, None, Result, Ok, inl, inr, refl, sym, ap, subst, ◌∙◌, arith, is_some}
+use Rattle.rename_core.proofs.Common.{eqb_tells, set_at, set_at-same, set_at-other, Participant, Refusal, participant_of, beginner, Began, begin_refusal, done_unless, participant_of-push, SnapState, after_update, SnapCall, snap_next, IsSnapReply, SnapObject, SnapBounds, observed, SnapAllows, asked_for, with_update, ToPlace, ToUpdate, Round, first_round, first_wish, RenameState, KnownPlaces, ToGo, ToPropose, after_wish, begun_snap, has_place, begun_unless, has_begun, goes_idle}
 use Rattle.std.proofs.lemmas.List.{length-append}
-use Rattle.step_memory.specs.SetAt.{set_at}
-use Rattle.step_memory.proofs.SetAtLemmas.{set_at-same, set_at-other}
-use Rattle.step_memory.specs.declared.participant.Participant.{Participant}
-use Rattle.step_memory.specs.declared.refusal.Refusal.{Refusal}
-use Rattle.step_memory.specs.Participant.{participant_of, beginner}
-use Rattle.step_memory.specs.Calls.Call.{Began}
-use Rattle.step_memory.specs.World.{begin_refusal, done_unless}
-use Rattle.step_memory.proofs.ParticipantLemmas.{participant_of-push}
 use Rattle.step_memory.proofs.WorldKeeps.{IsLetIn, let_in}
-use Rattle.snapshot_core.specs.SnapWorld.{SnapState, after_update}
-use Rattle.snapshot_core.specs.SnapCalls.{SnapCall, next as snap_next, IsReply as IsSnapReply}
 use Rattle.snapshot_core.specs.SnapCalls.SnapCall.{Began as SnapBegan, Updated}
-use Rattle.snapshot_core.specs.Snapshot.{SnapObject, SnapBounds, observed, Allows as SnapAllows, asked_for, with_update}
-use Rattle.snapshot_core.specs.Snapshot.Task.{Placing as ToPlace, Updating as ToUpdate}
-use Rattle.rename_core.specs.declared.round.Round.{Round}
-use Rattle.rename_core.specs.Round.{first_round, first_wish}
-use Rattle.rename_core.specs.RenameState.{RenameState}
-use Rattle.snapshot_core.specs.Places.{KnownPlaces}
 use Rattle.rename_core.specs.Pace.{Pace, paced, first_phase}
-use Rattle.rename_core.specs.Pace.Phase.{ToPlace as ToGo, ToPropose}
-use Rattle.rename_core.specs.RenameWorld.{after_wish, begun_snap, has_place, begun_unless}
 use Rattle.rename_core.specs.RenameObject.{RenameTerms, RenameObject, no_begin, after}
 use Rattle.rename_core.proofs.rounds.Standing.{standing_begun}
 use Rattle.rename_core.proofs.rounds.StepCases.{begun_placed, no_round}
 use Rattle.snapshot_core.specs.Standing.{StandsAt, HasBegun}
-use Rattle.snapshot_core.proofs.Clients.{has_begun, goes_idle}
 use Rattle.rename_core.proofs.Large.{update_large}
 use Rattle.rename_core.proofs.rounds.Tied.{IsAtStage, IsCounted, IsTied, Carries, Spares, since_kept, spares_task, spares_next, counted_on, stage_on}
 use Rattle.step_memory.proofs.DistinctParticipants.{distinct_push}

@@ -1,30 +1,9 @@
 -- each call of a renaming world keeps it tied to the object of its law
-use Rattle.std.proofs.Common.{◌≢◌, cond, ◌≡◌, ℕ, ◌+◌, true, false, Some, None, Result, Ok, Err, inl, inr, refl, sym, ap, subst, ◌∙◌}
-use Rattle.std.specs.Prelude.{is_some, option_map}
-use Rattle.step_memory.specs.declared.participant.Participant.{Participant}
-use Rattle.step_memory.specs.declared.refusal.Refusal.{Refusal}
+use Rattle.std.proofs.Common.{◌≢◌, cond, ◌≡◌, ℕ, ◌+◌, true, false, Some, None, Result, Ok, Err, inl, inr, refl, sym, ap, subst, ◌∙◌, is_some, option_map}
+use Rattle.rename_core.proofs.Common.{Participant, Refusal, participant_of, program_of, Call, lacked_memory, Stepped, SnapState, SnapCall, snap_next, IsSnapReply, ToPlace, ToScan, ToUpdate, StepReply, Round, Stage, Placing, Proposing, Looking, Settled, Over, stage_refusal, followed, RenameState, KnownPlaces, Pace, InTime, paced, next, IsReply, after_follow, rename_answer, after_rename_step, step_refusal, may_lack, RenameTerms, RenameObject, no_step, Allows, after, GoesBusy, goes_busy}
 use Rattle.step_memory.specs.declared.refusal.Refusal.TheVariants.{NotBegun, Finished, Spent as IsSpent, NoMemory}
-use Rattle.step_memory.specs.Participant.{participant_of, program_of}
-use Rattle.step_memory.specs.Calls.{Call, lacked_memory}
-use Rattle.step_memory.specs.Calls.Call.{Stepped}
-use Rattle.snapshot_core.specs.SnapWorld.{SnapState}
-use Rattle.snapshot_core.specs.SnapCalls.{SnapCall, next as snap_next, IsReply as IsSnapReply}
 use Rattle.snapshot_core.specs.SnapCalls.SnapCall.{Stepped as SnapStepped}
-use Rattle.snapshot_core.specs.Snapshot.Task.{Placing as ToPlace, Scanning as ToScan, Updating as ToUpdate}
 use Rattle.snapshot_core.specs.Snapshot.{SnapObject, SnapBounds, observed, has_begun, has_nothing_pending, step_due, Allows as SnapAllows}
-use Rattle.rename_core.specs.Reply.{StepReply}
-use Rattle.rename_core.specs.declared.round.Round.{Round}
-use Rattle.rename_core.specs.declared.round.Stage.{Stage}
-use Rattle.rename_core.specs.declared.round.Stage.TheVariants.{Placing, Proposing, Looking, Settled, Over}
-use Rattle.rename_core.specs.Round.{stage_refusal, followed}
-use Rattle.rename_core.specs.RenameState.{RenameState}
-use Rattle.snapshot_core.specs.Places.{KnownPlaces}
-use Rattle.rename_core.specs.Pace.{Pace, InTime, paced}
-use Rattle.rename_core.specs.Machine.{next, IsReply}
-use Rattle.rename_core.specs.RenameWorld.{after_follow, rename_answer, after_rename_step, step_refusal, may_lack}
-use Rattle.rename_core.specs.RenameObject.{RenameTerms, RenameObject, no_step, Allows, after}
-use Rattle.snapshot_core.specs.Standing.{GoesBusy}
-use Rattle.snapshot_core.proofs.Clients.{goes_busy}
 use Rattle.rename_core.proofs.rounds.Tied.{IsAtStage, IsTied}
 use Rattle.rename_core.proofs.rounds.Stepping.{HasGone, placing_gone, proposing_gone, looking_gone}
 

@@ -1,14 +1,7 @@
 -- the proposals that stand in the memory, and who has a name, by the rounds
-use Rattle.std.proofs.Common.{suc, ◌<◌, get_or, drop, drop-cons, ◌≡◌, ◌≢◌, ℕ, ◌+◌, ◌≤◌, ◌==◌, true, false, cond, List, [], ◌∷◌, length, Option, Some, None, inl, inr, refl, sym, ap, ◌∙◌, arith}
-use Rattle.std.specs.Prelude.{option_map, option_and_then}
-use Rattle.std.proofs.lemmas.Bool.Decides.{eqb_tells}
-use Rattle.step_memory.specs.declared.participant.Participant.{Participant}
-use Rattle.step_memory.specs.Participant.{AreDistinct, participant_of, program_of}
-use Rattle.step_memory.specs.View.{IsRising, value_of}
+use Rattle.std.proofs.Common.{suc, ◌<◌, get_or, drop, drop-cons, ◌≡◌, ◌≢◌, ℕ, ◌+◌, ◌≤◌, ◌==◌, true, false, cond, List, [], ◌∷◌, length, Option, Some, None, inl, inr, refl, sym, ap, ◌∙◌, arith, option_map, option_and_then}
+use Rattle.rename_core.proofs.Common.{eqb_tells, Participant, AreDistinct, participant_of, program_of, IsRising, value_of, Round, Stage, Placing, Proposing, Looking, Settled, Over}
 use Rattle.step_memory.proofs.ViewLemmas.{IsRising-inserted, value_of-inserted, length-inserted}
-use Rattle.rename_core.specs.declared.round.Round.{Round}
-use Rattle.rename_core.specs.declared.round.Stage.{Stage}
-use Rattle.rename_core.specs.declared.round.Stage.TheVariants.{Placing, Proposing, Looking, Settled, Over}
 use Rattle.rename_core.specs.RenameWorld.{name_by, owner_by, shown_with, shown_by}
 use Rattle.rename_core.specs.Round.{name_at, has_name, standing_by}
 
@@ -71,18 +64,12 @@ shown_is q vs d = shown_value q [] vs d ∙ or_none (standing_of q vs)
 
 -- a round has a name where it has ended with it
 named_at : (stage : Stage) (proposal n : ℕ) → has_name stage proposal n ≡ true → name_at stage proposal ≡ Some n
-named_at Placing proposal n h = absurd (cc)
-named_at (Proposing next) proposal n h = absurd (cc)
-named_at Looking proposal n h = absurd (cc)
 named_at Settled proposal n h = elim (eqb_tells proposal n) [ inl e ↦ ap Some e.1 | inr e ↦ absurd (let no : true ≡ false = sym h ∙ e.0 in cc) ]
-named_at Over proposal n h = absurd (cc)
+named_at stage proposal n h = absurd (cc)
 
 unnamed_at : (stage : Stage) (proposal n : ℕ) → has_name stage proposal n ≡ false → name_at stage proposal ≢ Some n
-unnamed_at Placing proposal n h e = absurd (cc)
-unnamed_at (Proposing next) proposal n h e = absurd (cc)
-unnamed_at Looking proposal n h e = absurd (cc)
 unnamed_at Settled proposal n h e = elim (eqb_tells proposal n) [ inl f ↦ absurd (let no : false ≡ true = sym h ∙ f.0 in cc) | inr f ↦ f.1 (cc) ]
-unnamed_at Over proposal n h e = absurd (cc)
+unnamed_at stage proposal n h e = absurd (cc)
 
 abbrev pub name_of : ℕ → List (Participant Round) → Option ℕ
 name_of q vs = name_by (program_of q vs)

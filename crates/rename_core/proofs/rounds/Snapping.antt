@@ -1,13 +1,7 @@
 -- a snapshot object and the object of its law after the same calls
 use Rattle.std.proofs.Common.{◌≡◌, ℕ, List, [], ◌∷◌, ◌++◌, refl, subst}
-use Rattle.step_memory.specs.Runs.{Run}
-use Rattle.step_memory.proofs.RunLemmas.{run_more, run_one}
-use Rattle.step_memory.specs.Machine.{After}
-use Rattle.step_memory.proofs.MachineLemmas.{call_leads_on}
-use Rattle.snapshot_core.specs.Places.{KnownPlaces, PlacesLaws, BoundsScans}
-use Rattle.snapshot_core.specs.SnapWorld.{SnapState}
+use Rattle.rename_core.proofs.Common.{Run, run_more, run_one, After, call_leads_on, KnownPlaces, PlacesLaws, BoundsScans, SnapState, snapshot}
 use Rattle.snapshot_core.specs.SnapCalls.{SnapCall, fresh_over, next, IsReply}
-use Rattle.snapshot_core.specs.Machine.{snapshot}
 use Rattle.snapshot_core.specs.Snapshot.{SnapObject, SnapBounds, bounds_over, new_object, observed, Allows, KeepsSnapshotLaw}
 use Rattle.snapshot_core.proofs.Following.{law_holds}
 

@@ -1,10 +1,6 @@
 -- what stands in the moments of a renaming object, and that names are distinct
 use Rattle.std.proofs.Common.{Bool, ◌≡◌, ◌≢◌, ℕ, ◌+◌, ◌-◌, ◌*◌, ◌≤◌, true, List, Option, Some, None, inl, inr, refl, sym, ap, ◌∙◌, arith}
-use Rattle.std.proofs.lemmas.Bool.Decides.{eqb_tells, leb_tells}
-use Rattle.step_memory.specs.SetAt.{set_at}
-use Rattle.step_memory.proofs.SetAtLemmas.{set_at-same, set_at-other}
-use Rattle.rename_core.specs.RenameObject.{RenameTerms, RenameObject, IsSole, IsRecent, MayPropose, ShowsSole, after_step}
-use Rattle.rename_core.specs.declared.reply.Reply.TheVariants.{Proposed}
+use Rattle.rename_core.proofs.Common.{eqb_tells, leb_tells, set_at, set_at-same, set_at-other, RenameTerms, RenameObject, IsSole, IsRecent, MayPropose, ShowsSole, after_step, Proposed}
 
 -- p has the name n: it is p's last proposal, and in some moment since then no other proposed it
 pub record IsHeld (o : RenameObject) (p n : ℕ) : Type 0 where

@@ -1,27 +1,11 @@
 -- a step of a renaming world by cases on who takes it
-use Rattle.std.proofs.Common.{◌≡◌, true, false, ℕ, ◌+◌, [], ◌∷◌, ◌++◌, length, get_or, set, Option, Some, None, Ok, Err, refl, sym, ap, ◌∙◌}
-use Rattle.std.specs.Prelude.{option_map, option_and_then, is_some}
-use Rattle.step_memory.specs.declared.participant.Participant.{Participant}
-use Rattle.step_memory.specs.declared.refusal.Refusal.{Refusal}
-use Rattle.step_memory.specs.declared.refusal.Refusal.TheVariants.{NotBegun}
-use Rattle.step_memory.specs.Participant.{index_of, participant_of, program_of, identities, beginner}
-use Rattle.step_memory.specs.World.{begin_refusal, done_unless}
-use Rattle.step_memory.proofs.ParticipantLemmas.{participant_of-push}
-use Rattle.step_memory.proofs.SetAtLemmas.{set_at-same}
-use Rattle.step_memory.proofs.WorldKeeps.{let_in}
-use Rattle.snapshot_core.specs.declared.client.Client.{Client}
+use Rattle.std.proofs.Common.{◌≡◌, true, false, ℕ, ◌+◌, [], ◌∷◌, ◌++◌, length, get_or, set, Option, Some, None, Ok, Err, refl, sym, ap, ◌∙◌, option_map, option_and_then, is_some}
+use Rattle.rename_core.proofs.Common.{Participant, Refusal, NotBegun, index_of, participant_of, program_of, identities, beginner, begin_refusal, done_unless, participant_of-push, set_at-same, let_in, Client, SnapReply, SnapState, beginner_at, Round, stage_refusal, followed, KnownPlaces, Wish, Nothing, Update, Scan}
 use Rattle.step_memory.proofs.DistinctParticipants.{distinct_set, identities-push, identities-set}
 use Rattle.step_memory.proofs.Found.{Found, found, none-index_of, index_of-below}
 use Rattle.std.proofs.lemmas.List.{length-append, length-set, get_or_default}
-use Rattle.snapshot_core.specs.declared.client.SnapReply.{SnapReply}
-use Rattle.snapshot_core.specs.SnapWorld.{SnapState, beginner_at}
-use Rattle.rename_core.specs.declared.round.Round.{Round}
-use Rattle.rename_core.specs.Round.{stage_refusal, followed}
 use Rattle.rename_core.specs.RenameState.{RenameState, HasRoom}
-use Rattle.snapshot_core.specs.Places.{KnownPlaces}
 use Rattle.rename_core.specs.RenameWorld.{after_wish, snap_step, snap_told, after_follow, begun_snap, has_place, refusal_by, step_refusal, answer_told, answer_open, answer_by, after_told, after_open, after_by, rename_answer, after_rename_step}
-use Rattle.rename_core.specs.declared.round.Wish.{Wish}
-use Rattle.rename_core.specs.declared.round.Wish.TheVariants.{Nothing, Update, Scan}
 use Rattle.rename_core.proofs.Large.{IsAsLarge, both_large, scan_large, update_large, snap_large}
 
 pub wish_large : {S U K : Type 0} (w : SnapState S U K) (p : ℕ) (wish : Wish) → IsAsLarge w (after_wish w p wish)

@@ -1,39 +1,14 @@
 -- a step of a renaming world, by what its snapshot object answers
-use Rattle.std.proofs.Common.{◌≡◌, ◌≢◌, ℕ, ◌+◌, ◌-◌, ◌*◌, ◌<◌, ◌≤◌, Bool, true, false, not, cond, List, length, Option, Some, Ok, inl, inr, refl, sym, ap, subst, ◌∙◌, arith}
-use Rattle.std.specs.Prelude.{is_some, nat_lt, nat_le}
-use Rattle.std.proofs.lemmas.Bool.Decides.{eqb_tells, leb_tells}
+use Rattle.std.proofs.Common.{◌≡◌, ◌≢◌, ℕ, ◌+◌, ◌-◌, ◌*◌, ◌<◌, ◌≤◌, Bool, true, false, not, cond, List, length, Option, Some, Ok, inl, inr, refl, sym, ap, subst, ◌∙◌, arith, is_some, nat_lt, nat_le}
+use Rattle.rename_core.proofs.Common.{eqb_tells, leb_tells, set_at, value_of, set_at-same, Participant, participant_of, done_unless, KnownPlaces, SnapReply, Silent, HasPlace, Written, Viewed, SnapState, after_scan, after_update, SnapCall, snap_next, IsSnapReply, ToPlace, ToScan, ToUpdate, Idle, Saw, Quiet, Placed, Proposed, Named, Spent, Round, Follow, Nothing, Update, Scan, Stage, Placing, Proposing, Looking, Settled, Over, is_taken, next_proposal, RenameState, after_wish, world_with, snap_step, snap_told, ToGo, ToPropose, ToLook, StandsAt, GoesBusy, is_quiet, goes_idle}
 use Rattle.std.proofs.lemmas.Bool.{lt-ltb}
-use Rattle.step_memory.specs.SetAt.{set_at}
-use Rattle.step_memory.specs.View.{value_of}
-use Rattle.step_memory.proofs.SetAtLemmas.{set_at-same}
-use Rattle.step_memory.specs.declared.participant.Participant.{Participant}
-use Rattle.step_memory.specs.Participant.{participant_of}
 use Rattle.step_memory.proofs.ParticipantLemmas.{some_begun}
-use Rattle.step_memory.specs.World.{done_unless}
-use Rattle.snapshot_core.specs.Places.{KnownPlaces}
-use Rattle.snapshot_core.specs.declared.client.SnapReply.{SnapReply}
-use Rattle.snapshot_core.specs.declared.client.SnapReply.TheVariants.{Quiet as Silent, Placed as HasPlace, Written, View as Viewed}
-use Rattle.snapshot_core.specs.SnapWorld.{SnapState, after_scan, after_update}
-use Rattle.snapshot_core.specs.SnapCalls.{SnapCall, next as snap_next, IsReply as IsSnapReply}
 use Rattle.snapshot_core.specs.SnapCalls.SnapCall.{Updated, Scanned, Stepped as SnapStepped}
 use Rattle.snapshot_core.specs.Snapshot.{most_steps as snap_most, SnapObject, SnapBounds, Task, observed, Allows as SnapAllows, AllowsStep as SnapAllowsStep, since_of, stepped_to, asked_for, with_update, ShowsMoment, value_written, observed_step}
-use Rattle.snapshot_core.specs.Snapshot.Task.{Placing as ToPlace, Scanning as ToScan, Updating as ToUpdate, Idle}
-use Rattle.rename_core.specs.declared.reply.Reply.TheVariants.{Saw, Quiet, Placed, Proposed, Named, Spent}
-use Rattle.rename_core.specs.declared.round.Round.{Round}
-use Rattle.rename_core.specs.declared.round.Follow.{Follow}
-use Rattle.rename_core.specs.declared.round.Wish.TheVariants.{Nothing, Update, Scan}
-use Rattle.rename_core.specs.declared.round.Stage.{Stage}
-use Rattle.rename_core.specs.declared.round.Stage.TheVariants.{Placing, Proposing, Looking, Settled, Over}
-use Rattle.rename_core.specs.Proposals.{is_taken, next_proposal}
 use Rattle.rename_core.specs.Round.{followed, decided, at_stage, number_of, standing_by, written_round, named_by, spent_by, saw_by}
-use Rattle.rename_core.specs.RenameState.{RenameState}
-use Rattle.rename_core.specs.RenameWorld.{after_wish, world_with, snap_step, snap_told}
 use Rattle.rename_core.specs.RenameObject.{RenameTerms, RenameObject, IsRecent, IsSole, IsConflict, MayPropose, ShowsSole, AllowsStep, after_step}
 use Rattle.rename_core.specs.Pace.{Phase, Pace, IsStepOf, IsInTime, most_steps, paced_step}
-use Rattle.rename_core.specs.Pace.Phase.{ToPlace as ToGo, ToPropose, ToLook}
 use Rattle.rename_core.proofs.rounds.Standing.{nobody_has, standing_elsewhere, name_small, standing_named, standing_proposed}
-use Rattle.snapshot_core.specs.Standing.{StandsAt, GoesBusy, is_quiet}
-use Rattle.snapshot_core.proofs.Clients.{goes_idle}
 use Rattle.rename_core.proofs.Large.{both_large, snap_large, scan_large, update_large}
 use Rattle.rename_core.proofs.rounds.Views.{taken_by, taken_not}
 use Rattle.rename_core.proofs.rounds.Numbers.{next_small}

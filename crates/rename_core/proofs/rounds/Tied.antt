@@ -1,29 +1,8 @@
 -- a renaming world with the object and the pace of its law
-use Rattle.std.proofs.Common.{◌≡◌, ◌≢◌, ℕ, ◌+◌, ◌-◌, ◌*◌, ◌<◌, ◌≤◌, ◌==◌, Bool, true, false, cond, length, Some, None, inl, inr, refl, sym, ap, ◌∙◌, arith}
-use Rattle.std.specs.Prelude.{is_some}
-use Rattle.std.proofs.lemmas.Bool.Decides.{eqb_tells}
-use Rattle.step_memory.specs.SetAt.{set_at}
-use Rattle.step_memory.proofs.SetAtLemmas.{set_at-same, set_at-other}
-use Rattle.step_memory.specs.declared.participant.Participant.{Participant}
-use Rattle.step_memory.specs.Participant.{AreDistinct, participant_of, with_participant, beginner}
-use Rattle.step_memory.proofs.ParticipantLemmas.{participant_of-put, length-with_participant}
-use Rattle.snapshot_core.specs.SnapWorld.{SnapState}
-use Rattle.snapshot_core.specs.declared.client.SnapReply.{SnapReply}
-use Rattle.snapshot_core.specs.declared.client.SnapReply.TheVariants.{Quiet as Silent, Placed as HasPlace, Written, View as Viewed}
+use Rattle.std.proofs.Common.{◌≡◌, ◌≢◌, ℕ, ◌+◌, ◌-◌, ◌*◌, ◌<◌, ◌≤◌, ◌==◌, Bool, true, false, cond, length, Some, None, inl, inr, refl, sym, ap, ◌∙◌, arith, is_some}
+use Rattle.rename_core.proofs.Common.{eqb_tells, set_at, set_at-same, set_at-other, Participant, AreDistinct, participant_of, with_participant, beginner, participant_of-put, length-with_participant, SnapState, SnapReply, Silent, HasPlace, Written, Viewed, ToPlace, ToScan, ToUpdate, Idle, Round, Stage, Placing, Proposing, Looking, Settled, Over, Pace, paced_step, StepReply, Quiet, Placed, Proposed, Saw, Named, Spent, RenameTerms, RenameObject, after_step, RenameState, world_with, standing_by, StandsAt}
 use Rattle.snapshot_core.specs.Snapshot.{Task, SnapObject, since_of, with_task, observed_step}
-use Rattle.snapshot_core.specs.Snapshot.Task.{Placing as ToPlace, Scanning as ToScan, Updating as ToUpdate, Idle}
-use Rattle.rename_core.specs.declared.round.Round.{Round}
-use Rattle.rename_core.specs.declared.round.Stage.{Stage}
-use Rattle.rename_core.specs.declared.round.Stage.TheVariants.{Placing, Proposing, Looking, Settled, Over}
-use Rattle.rename_core.specs.Pace.{Pace, paced_step}
 use Rattle.rename_core.specs.Pace.Phase.{ToPlace as ToGo, ToPropose, ToLook, AtEnd}
-use Rattle.rename_core.specs.Reply.{StepReply}
-use Rattle.rename_core.specs.declared.reply.Reply.TheVariants.{Quiet, Placed, Proposed, Saw, Named, Spent}
-use Rattle.rename_core.specs.RenameObject.{RenameTerms, RenameObject, after_step}
-use Rattle.rename_core.specs.RenameState.{RenameState}
-use Rattle.rename_core.specs.RenameWorld.{world_with}
-use Rattle.rename_core.specs.Round.{standing_by}
-use Rattle.snapshot_core.specs.Standing.{StandsAt}
 use Rattle.rename_core.proofs.Large.{IsAsLarge}
 use Rattle.step_memory.proofs.DistinctParticipants.{distinct_put}
 use Rattle.rename_core.proofs.rounds.Standing.{IsStanding, others_stand}
@@ -107,9 +86,7 @@ spares_next p s = spares_task p s s (λ q n. (refl, refl, refl))
 
 pub spares_stepped : (p : ℕ) (s : SnapObject) (reply : SnapReply) → Spares p s (observed_step s p reply)
 spares_stepped p s Silent = spares_next p s (s.task p) (s.steps p + 1) (since_of s p)
-spares_stepped p s (HasPlace x) = spares_next p s Idle (s.steps p + 1) (since_of s p)
-spares_stepped p s Written = spares_next p s Idle (s.steps p + 1) (since_of s p)
-spares_stepped p s (Viewed view) = spares_next p s Idle (s.steps p + 1) (since_of s p)
+spares_stepped p s reply = spares_next p s Idle (s.steps p + 1) (since_of s p)
 
 module _ {S U K : Type 0} (terms : RenameTerms) (o o' : RenameObject) (t t' : Pace) (s s' : SnapObject) (w w' : SnapState S U K) (q : ℕ) (k : Carries o o' t t' s s' w w' q) where
   stands_on : (idle : Bool) (n : ℕ) → StandsAt w q idle n → StandsAt w' q idle n

@@ -1,8 +1,6 @@
 -- what is read off a view
 use Rattle.std.proofs.Common.{◌≡◌, ◌≢◌, ℕ, ◌<◌, ◌==◌, true, false, List, [], ◌∷◌, Some, inl, inr, refl, sym, ◌∙◌, arith}
-use Rattle.std.proofs.lemmas.Bool.Decides.{eqb_tells}
-use Rattle.step_memory.specs.View.{IsRising, value_of}
-use Rattle.rename_core.specs.Proposals.{is_taken}
+use Rattle.rename_core.proofs.Common.{eqb_tells, IsRising, value_of, is_taken}
 
 -- who is found behind a pair is above it
 pub above : (x : ℕ × ℕ) (xs : List (ℕ × ℕ)) (q n : ℕ) → IsRising (x ∷ xs) → value_of q xs ≡ Some n → x.0 < q

@@ -1,9 +1,8 @@
 use Rattle.std.proofs.Common.{◌≡◌, ◌≢◌, ◌-◌, ◌<◌, ◌∷◌, ℕ, Bool, false, true, inl, inr, suc, zero, length, length-set, drop, get_or, replicate, refl, ◌==◌, ap, sym, ◌∙◌, arith, drop-cons, slice_set, List}
+use Rattle.rename_core.proofs.Common.{eqb_tells, is_taken}
 use Rattle.std.proofs.Math.Seq.{drop-length}
-use Rattle.std.proofs.lemmas.Bool.Decides.{eqb_tells}
 use Rattle.std.proofs.lemmas.List.{get_or-set_other}
 use Rattle.std.proofs.lemmas.Grind.{get_or-set_at}
-use Rattle.rename_core.specs.Proposals.{is_taken}
 use Rattle.rename_core.proofs.proposal.taken_numbers.Goals as goal
 
 none_marked : (k n : ℕ) → get_or (replicate k false) n false ≡ false

@@ -1,8 +1,5 @@
-use Rattle.step_memory.specs.Calls.Call.{Began}
-use Rattle.step_memory.proofs.MachineLemmas.{call_leads_on}
-use Rattle.rename_core.specs.Machine.{renaming}
+use Rattle.rename_core.proofs.Common.{Began, call_leads_on, renaming, KnownPlaces, places_by}
 use Rattle.rename_core.proofs.NamedPlaces.{law_always}
-use Rattle.snapshot_core.specs.Places.{KnownPlaces, places_by}
 use Rattle.rename_core.proofs.world.RenameWorld.begin.Given.{Over}
 use Rattle.rename_core.proofs.world.RenameWorld.begin.Goals as goal
 

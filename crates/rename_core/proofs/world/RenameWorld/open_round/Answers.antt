@@ -1,8 +1,5 @@
 use Rattle.std.proofs.Common.{◌≡◌, sym, ap, ◌∙◌}
-use Rattle.step_memory.specs.Participant.{index_of}
-use Rattle.rename_core.specs.RenameState.{RenameState}
-use Rattle.rename_core.specs.RenameWorld.{step_refusal}
-use Rattle.rename_core.specs.Round.{stage_refusal}
+use Rattle.rename_core.proofs.Common.{index_of, RenameState, step_refusal, stage_refusal}
 use Rattle.rename_core.proofs.rounds.StepCases.{absent_refusal, refusal_at}
 use Rattle.rename_core.proofs.world.RenameWorld.open_round.Goals as goal
 use Rattle.rename_core.proofs.world.RenameWorld.open_round.Goals.{After-find, After-index}

@@ -1,7 +1,5 @@
-use Rattle.std.proofs.Common.{◌≡◌, Some, None, get_or, sym, ap}
-use Rattle.std.specs.Prelude.{option_map}
-use Rattle.step_memory.specs.Participant.{index_of}
-use Rattle.step_memory.proofs.Found.{found, none-index_of}
+use Rattle.std.proofs.Common.{◌≡◌, Some, None, get_or, sym, ap, option_map}
+use Rattle.rename_core.proofs.Common.{index_of, found, none-index_of}
 use Rattle.rename_core.proofs.world.RenameWorld.round.Goals as goal
 
 pub returns-in_default : goal.returns-in_default

@@ -1,7 +1,5 @@
 use Rattle.std.proofs.Common.{◌≡◌, ◌+◌, List, drop, ap, subst, ◌∙◌, arith}
-use Rattle.step_memory.specs.declared.participant.Participant.{Participant}
-use Rattle.rename_core.specs.declared.round.Round.{Round}
-use Rattle.rename_core.specs.RenameWorld.{shown_by}
+use Rattle.rename_core.proofs.Common.{Participant, Round, shown_by}
 use Rattle.rename_core.proofs.rounds.Shown.{shown_next, length_shown}
 use Rattle.rename_core.proofs.world.RenameWorld.round_proposals.Goals as goal
 

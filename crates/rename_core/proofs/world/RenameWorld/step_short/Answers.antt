@@ -1,11 +1,9 @@
 use Rattle.std.proofs.Common.{rules, ◌≡◌, Err}
-use Rattle.step_memory.specs.declared.refusal.Refusal.TheVariants.{NoMemory}
-use Rattle.rename_core.specs.Reply.{outcome_with}
+use Rattle.rename_core.proofs.Common.{NoMemory, outcome_with, KnownPlaces, places_by}
 use Rattle.rename_core.proofs.AfterCalls.{step_leads_on}
 use Rattle.rename_core.proofs.ShortReplies.{refused_short, accepted_short}
 use Rattle.rename_core.proofs.NamedPlaces.{law_always, own_access}
 use Rattle.rename_core.proofs.LocalSteps.{local_call}
-use Rattle.snapshot_core.specs.Places.{KnownPlaces, places_by}
 use Rattle.rename_core.proofs.world.RenameWorld.step_short.Given.{Over}
 use Rattle.rename_core.proofs.world.RenameWorld.step_short.Goals as goal
 

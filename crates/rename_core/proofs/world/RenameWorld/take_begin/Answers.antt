@@ -1,14 +1,9 @@
-use Rattle.std.proofs.Common.{arith, ◌≡◌, ◌∷◌, ◌++◌, [], None, length, sym, ap, ◌∙◌}
-use Rattle.std.specs.Prelude.{vec_capacity}
+use Rattle.std.proofs.Common.{arith, ◌≡◌, ◌∷◌, ◌++◌, [], None, length, sym, ap, ◌∙◌, vec_capacity}
+use Rattle.rename_core.proofs.Common.{beginner, begin_refusal, after_wish, let_in, KnownPlaces, places_by}
 use Rattle.std.proofs.lemmas.List.{length-append, length-map}
-use Rattle.step_memory.specs.Participant.{beginner}
-use Rattle.step_memory.specs.World.{begin_refusal}
 use Rattle.snapshot_core.specs.SnapWorld.{after_snap_begin}
-use Rattle.rename_core.specs.RenameWorld.{after_wish}
 use Rattle.step_memory.proofs.DistinctParticipants.{absent_alike, distinct_push, identities-push}
-use Rattle.step_memory.proofs.WorldKeeps.{let_in}
 use Rattle.rename_core.proofs.rounds.StepCases.{was_begun, begun_large}
-use Rattle.snapshot_core.specs.Places.{KnownPlaces, places_by}
 use Rattle.rename_core.proofs.world.RenameWorld.take_begin.Given.{Over}
 use Rattle.rename_core.proofs.world.RenameWorld.take_begin.Goals as goal
 

@@ -1,14 +1,5 @@
 use Rattle.std.proofs.Common.{arith, rules, ◌≡◌, ◌≢◌, Some, None, Ok, Err, sym, ap, ◌∙◌}
-use Rattle.step_memory.specs.Participant.{index_of}
-use Rattle.step_memory.specs.declared.refusal.Refusal.TheVariants.{NoMemory}
-use Rattle.step_memory.proofs.Found.{index_of-below}
-use Rattle.snapshot_core.specs.Places.{KnownPlaces, places_by}
-use Rattle.snapshot_core.specs.SnapWorld.{after_snap_step}
-use Rattle.rename_core.specs.declared.round.Follow.{Follow}
-use Rattle.rename_core.specs.Reply.{outcome_with}
-use Rattle.rename_core.specs.RenameState.{RenameState}
-use Rattle.rename_core.specs.RenameWorld.{after_wish, snap_told, step_refusal, rename_answer}
-use Rattle.rename_core.specs.Round.{followed}
+use Rattle.rename_core.proofs.Common.{index_of, NoMemory, index_of-below, KnownPlaces, places_by, after_snap_step, Follow, outcome_with, RenameState, after_wish, snap_told, step_refusal, rename_answer, followed}
 use Rattle.rename_core.proofs.rounds.StepCases.{step_refused, refused_answer, followed_answer, followed_state, followed_room}
 use Rattle.rename_core.proofs.world.RenameWorld.take_other.Given.{Over}
 use Rattle.rename_core.proofs.world.RenameWorld.take_other.Goals as goal

@@ -1,15 +1,8 @@
 use Rattle.std.proofs.Common.{arith, rules, ◌≡◌, true, Some, None, Ok, refl, sym, ap, ◌∙◌}
-use Rattle.step_memory.specs.Participant.{index_of}
+use Rattle.rename_core.proofs.Common.{index_of, index_of-below, KnownPlaces, places_by, Follow, Nothing, RenameState, after_wish, step_refusal, followed}
 use Rattle.step_memory.specs.declared.note.Note.TheVariants as note
 use Rattle.snapshot_core.specs.declared.client.SnapReply.TheVariants.{Quiet}
-use Rattle.step_memory.proofs.Found.{index_of-below}
-use Rattle.snapshot_core.specs.Places.{KnownPlaces, places_by}
 use Rattle.snapshot_core.specs.SnapWorld.{snap_answer, after_snap_step, told_of_way}
-use Rattle.rename_core.specs.declared.round.Follow.{Follow}
-use Rattle.rename_core.specs.declared.round.Wish.TheVariants.{Nothing}
-use Rattle.rename_core.specs.RenameState.{RenameState}
-use Rattle.rename_core.specs.RenameWorld.{after_wish, step_refusal}
-use Rattle.rename_core.specs.Round.{followed}
 use Rattle.rename_core.proofs.rounds.StepCases.{followed_answer, followed_state, followed_room}
 use Rattle.rename_core.proofs.world.RenameWorld.take_slow.Given.{Over}
 use Rattle.rename_core.proofs.world.RenameWorld.take_slow.Goals as goal

@@ -1,12 +1,6 @@
 use Rattle.std.proofs.Common.{arith, rules, ◌≡◌, true, Some, None, Ok, Err, refl, sym, ap, ◌∙◌}
-use Rattle.step_memory.specs.Participant.{index_of}
+use Rattle.rename_core.proofs.Common.{index_of, index_of-below, KnownPlaces, places_by, Nothing, outcome_with, RenameState, snap_told, step_refusal}
 use Rattle.snapshot_core.specs.declared.client.SnapReply.TheVariants.{Quiet}
-use Rattle.step_memory.proofs.Found.{index_of-below}
-use Rattle.snapshot_core.specs.Places.{KnownPlaces, places_by}
-use Rattle.rename_core.specs.declared.round.Wish.TheVariants.{Nothing}
-use Rattle.rename_core.specs.Reply.{outcome_with}
-use Rattle.rename_core.specs.RenameState.{RenameState}
-use Rattle.rename_core.specs.RenameWorld.{snap_told, step_refusal}
 use Rattle.rename_core.proofs.rounds.StepCases.{step_refused, closed_answer, followed_answer, followed_state, followed_room}
 use Rattle.rename_core.proofs.world.RenameWorld.take_step.Given.{Over}
 use Rattle.rename_core.proofs.world.RenameWorld.take_step.Goals as goal
