@@ -1,7 +1,7 @@
 -- a renaming world after one more call
-use Rattle.std.proofs.Common.{◌≡◌, ◌≢◌, ℕ, true, false, None, Result, Ok, Err, inl, inr, refl, ◌∙◌}
+use Rattle.std.proofs.Common.{◌≡◌, ◌≢◌, ℕ, true, false, None, Result, Err, inl, inr, refl, ◌∙◌}
 use Rattle.rename_core.proofs.Common.{Refusal, lacked_memory, Stepped, call_leads_on, StepReply, RenameState, KnownPlaces, WorldKind, renaming, rename_answer, after_rename_step, step_refusal, may_lack}
-use Rattle.step_memory.specs.declared.refusal.Refusal.TheVariants.{ZeroIdentity, AlreadyBegun, Full, NotBegun, Finished, Spent, Crowded, NotCompeting, AlreadyCompeting, Holding, NotHolding, NoMemory, HistoryFull, OutOfRange}
+use Rattle.step_memory.specs.declared.refusal.Refusal.TheVariants.{NoMemory}
 use Rattle.step_memory.specs.Machine.{LeadsOn}
 use Rattle.step_memory.proofs.StepLemmas.{lacks_or_not}
 

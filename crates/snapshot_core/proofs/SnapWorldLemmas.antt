@@ -1,7 +1,7 @@
 -- the calls of a snapshot object
 use Rattle.std.proofs.Common.{◌≡◌, ◌≢◌, ℕ, true, false, cond, Option, Some, None, Result, Ok, Err, inl, inr, refl, sym, ap, ◌∙◌, option_map}
 use Rattle.snapshot_core.proofs.Common.{Pending, Note, Quiet, Read, Refusal, Finished, NoMemory, program_of, lacked_memory, reply_of, snapshot, Participant, Client, SnapReply, KnownPlaces, is_idle, scanning, updating, access_for, SnapCall, next, Began, Updated, Scanned, Stepped}
-use Rattle.snapshot_core.specs.declared.client.Pending.TheVariants.{Nothing, Placing, Scan, Update, Write as Writing}
+use Rattle.snapshot_core.specs.declared.client.Pending.TheVariants.{Nothing, Placing}
 use Rattle.step_memory.specs.World.{begin_refusal, begun_unless, done_unless, step_answer, after_step}
 use Rattle.step_memory.proofs.StepLemmas.{most_stepped, lacks_none, lacks_or_not}
 use Rattle.step_memory.specs.Machine.{LeadsOn}

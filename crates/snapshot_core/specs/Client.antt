@@ -12,7 +12,7 @@ use Rattle.snapshot_core.specs.declared.client.Client.{Client}
 use Rattle.snapshot_core.specs.declared.client.Pending.{Pending}
 use Rattle.snapshot_core.specs.declared.client.Pending.TheVariants.{Nothing, Placing, Scan, Update, Write as Writing}
 use Rattle.snapshot_core.specs.declared.client.SnapReply.{SnapReply}
-use Rattle.snapshot_core.specs.declared.client.SnapReply.TheVariants.{Quiet as Silent, Placed, Written, View as Viewed}
+use Rattle.snapshot_core.specs.declared.client.SnapReply.TheVariants.{Placed, Written, View as Viewed}
 use Rattle.snapshot_core.specs.Walks.{WalkSteps}
 use Rattle.snapshot_core.specs.Scan.{scan_from, scan_after, scan_view}
 

@@ -1,7 +1,7 @@
 -- segments in a row, by their places from 0
 use Rattle.std.specs.Prelude.{ℕ, ◌+◌, nat_lt, nat_le, if◌then◌else◌, Bool, false, List, length, Option, Some, None, slice_index_or, slice_set}
 use Rattle.step_memory.specs.declared.access.Access.{Access}
-use Rattle.step_memory.specs.declared.access.Access.TheVariants.{Read, Write, TestAndSet, Clear, Nothing}
+use Rattle.step_memory.specs.declared.access.Access.TheVariants.{Write, Nothing}
 use Rattle.step_memory.specs.declared.note.Note.TheVariants.{Quiet}
 use Rattle.step_memory.specs.Steps.{MemorySteps, ProgramSteps}
 use Rattle.step_memory.specs.declared.record.Record.{Record}

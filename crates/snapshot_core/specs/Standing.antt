@@ -6,7 +6,7 @@ use Rattle.step_memory.specs.Participant.{participant_of}
 use Rattle.step_memory.specs.World.{begin_refusal}
 use Rattle.snapshot_core.specs.declared.client.Client.{Client}
 use Rattle.snapshot_core.specs.declared.client.SnapReply.{SnapReply}
-use Rattle.snapshot_core.specs.declared.client.SnapReply.TheVariants.{Quiet, Placed, Written, View as Viewed}
+use Rattle.snapshot_core.specs.declared.client.SnapReply.TheVariants.{Quiet}
 use Rattle.snapshot_core.specs.Client.{is_idle}
 use Rattle.snapshot_core.specs.Places.{KnownPlaces}
 use Rattle.snapshot_core.specs.SnapWorld.{SnapState, after_snap_begin, scan_refusal, update_refusal, after_scan, after_update, snap_answer, after_snap_step}

@@ -12,7 +12,7 @@ use Rattle.step_memory.specs.Steps.{Spares, ReadsOrWrites, answer_from}
 use Rattle.step_memory.specs.Registers as registers
 use Rattle.step_memory.specs.declared.record.Record.{Record}
 use Rattle.splitter.specs.declared.stage.Stage.{Stage}
-use Rattle.splitter.specs.declared.stage.Stage.TheVariants.{Outside, WroteX, SawClear, WroteY, Gone}
+use Rattle.splitter.specs.declared.stage.Stage.TheVariants.{Outside}
 use Rattle.splitter.specs.Visitor.{access_at}
 use Rattle.splitter_grid.specs.Door.{IsDoorWithin}
 use Rattle.splitter_grid.specs.Walk as walk

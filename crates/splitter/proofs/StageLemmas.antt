@@ -1,6 +1,6 @@
 -- how far a visit has come, by the tests
 use Rattle.std.proofs.Common.{◌≡◌, true, refl}
-use Rattle.splitter.proofs.Common.{Stop, Right, Down, Stage, Outside, WroteX, SawClear, WroteY, Gone, went_right, went_down}
+use Rattle.splitter.proofs.Common.{Right, Down, Stage, Gone, went_right, went_down}
 
 pub gone_right : (s : Stage) → went_right s ≡ true → s ≡ Gone Right
 gone_right (Gone Right) h = refl

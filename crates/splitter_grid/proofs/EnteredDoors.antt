@@ -1,6 +1,6 @@
 -- an identity stands in X of just the doors that were entered
 use Rattle.std.proofs.Common.{◌≡◌, ◌≢◌, ℕ, ◌+◌, ◌*◌, true, false, cond, ◌⊎◌, inl, inr, List, [], length, Option, Some, None, Ok, Err, Result, refl, sym, ap, subst, ◌∙◌, ◌↔◌}
-use Rattle.splitter_grid.proofs.Common.{cases_Bool, eqb_tells, Participant, Refusal, Registers, answer_of, after_access, memory_steps, set_at, Began, Stepped, Stage, Outside, WroteX, SawClear, WroteY, Gone, has_entered, x_after, Walker, number_of, walk_of, walker_steps, walker_note, next_access, x_in, IsConsistent, GridState, fresh, grid, empty_doors}
+use Rattle.splitter_grid.proofs.Common.{cases_Bool, eqb_tells, Participant, Refusal, Registers, answer_of, after_access, memory_steps, set_at, Began, Stepped, Stage, Outside, has_entered, x_after, Walker, number_of, walk_of, walker_steps, walker_note, next_access, x_in, IsConsistent, GridState, fresh, grid, empty_doors}
 use Rattle.step_memory.specs.declared.refusal.Refusal.TheVariants.{NotBegun, Finished}
 use Rattle.step_memory.specs.Participant.{participant_of}
 use Rattle.step_memory.specs.World.{begin_refusal, begun_unless, after_begin, after_step_by, step_answer_by, may_refuse_by}

@@ -1,6 +1,6 @@
 -- the accesses of a participant
 use Rattle.std.proofs.Common.{◌≡◌, ℕ, Bool, true, false, cond, Option, Some, None, refl, sym, ap, ◌∙◌}
-use Rattle.splitter_tree.proofs.Common.{Write, Participant, Record, participant_of, Stage, Outside, WroteX, SawClear, WroteY, Gone, TreeRegister, Mark, X, Y, Contents, TreeValue, Word, Walker, Client, Task, Placing, Nothing, Storing, Collecting, access_for, write_at, record_of, TreeWorldState, tree, tree_steps}
+use Rattle.splitter_tree.proofs.Common.{Write, Participant, Record, participant_of, Stage, Outside, TreeRegister, Mark, X, Y, Contents, TreeValue, Word, Walker, Client, Task, Placing, Storing, access_for, write_at, record_of, TreeWorldState, tree, tree_steps}
 use Rattle.step_memory.specs.Steps.{ReadsOrWrites}
 use Rattle.splitter.specs.Visitor.{access_at, access_of}
 use Rattle.splitter_tree.specs.Walk.{in_words, place_of, StandsAtNode}

@@ -2,7 +2,7 @@
 use Rattle.std.proofs.Common.{◌≡◌, ℕ, ◌/◌, Bool, true, false, not, ◌&&◌, ◌||◌, cond, Option, Some, None, inl, inr, refl, ap, ◌∙◌, ◌⊎◌, ◌==◌, is_some}
 use Rattle.splitter_tree.proofs.Common.{nat_cmp, Decides-eqb, Access, Record, set_at-same, NodeRegisters, TreeRegister, Mark, X, Y, Contents, TreeValue, Word, Held, word_in, segment_in, mark_at, IsWithinReach, IsTreeMemory, IsEmptyTree}
 use Rattle.std.specs.FinMap as map
-use Rattle.step_memory.specs.declared.access.Access.TheVariants.{Read, Write, TestAndSet, Clear, Nothing}
+use Rattle.step_memory.specs.declared.access.Access.TheVariants.{Write}
 use Rattle.splitter_tree.specs.TreeSteps.{NodeMap, number_in, fresh_registers, value_in, makes_node, written, after_write, may_refuse, tree_steps, empty_tree}
 use Rattle.splitter_tree.specs.TreeProofs.{get_written, makes_absent, others_kept}
 

@@ -1,12 +1,12 @@
 -- the law of collects, over the calls of a tree's world with their replies alone: what a collect shows of each was
 -- stored last at some moment within the collect, and who had stored before is shown. That steps are counted, and so
 -- bounded, is this project's profile
-use Rattle.std.specs.Prelude.{◌≡◌, ℕ, ◌+◌, ◌-◌, ◌*◌, ◌<◌, ◌≤◌, Bool, true, false, List, Option, Some, None, IsSome, Ok, Err}
+use Rattle.std.specs.Prelude.{◌≡◌, ℕ, ◌+◌, ◌-◌, ◌*◌, ◌<◌, ◌≤◌, Bool, true, false, List, Option, Some, None, IsSome, Ok}
 use Rattle.step_memory.specs.Runs.{Run}
 use Rattle.step_memory.specs.SetAt.{set_at}
 use Rattle.step_memory.specs.View.{IsRising, value_of}
 use Rattle.splitter_tree.specs.TreeCalls.{TreeCall}
-use Rattle.splitter_tree.specs.TreeCalls.TreeCall.{Began, Stepped, Stored, CollectBegan, CollectStepped}
+use Rattle.splitter_tree.specs.TreeCalls.TreeCall.{Began, Stored, CollectBegan, CollectStepped}
 
 -- the object: how many have begun; the moments, which are maps from identity to the value stored last, by their numbers
 -- from 0 to the last; and of each identity whether it collects, since which moment, and with how many steps

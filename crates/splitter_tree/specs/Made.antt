@@ -1,6 +1,6 @@
 -- which nodes were made over a list of calls. Moves are quiet, so the calls and replies alone do not tell: one goes along
 -- them with the worlds between
-use Rattle.std.specs.Prelude.{◌≡◌, ℕ, true, List, [], Some, Ok, Err}
+use Rattle.std.specs.Prelude.{◌≡◌, ℕ, true, List, [], Some, Ok}
 use Rattle.step_memory.specs.Runs.{HappensFrom}
 use Rattle.step_memory.specs.Steps.{MemorySteps}
 use Rattle.splitter_tree.specs.declared.register.TreeRegister.{TreeRegister}
@@ -8,7 +8,7 @@ use Rattle.splitter_tree.specs.declared.register.TreeValue.{TreeValue}
 use Rattle.splitter_tree.specs.declared.walker.Walker.{Walker}
 use Rattle.splitter_tree.specs.TreeWorld.{TreeState}
 use Rattle.splitter_tree.specs.TreeCalls.{TreeCall, next}
-use Rattle.splitter_tree.specs.TreeCalls.TreeCall.{Began, Stepped, Stored, CollectBegan, CollectStepped}
+use Rattle.splitter_tree.specs.TreeCalls.TreeCall.{Stepped}
 use Rattle.splitter_tree.specs.PlacesLaw.{walkers}
 
 module _ {S : Type 0} (memory : MemorySteps S TreeRegister TreeValue) where

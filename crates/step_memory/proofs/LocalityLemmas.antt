@@ -1,7 +1,7 @@
 -- a step is local
 use Rattle.std.proofs.Common.{◌≡◌, ℕ, Bool, true, false, cond, Option, Some, None, Ok, Err, refl, sym, ap, subst, ◌∙◌, is_some, if◌then◌else◌}
 use Rattle.step_memory.proofs.Common.{Access, Finished, Participant, participant_of, with_participant, resumed, set_at, WorldState, after_step, after_step_by, step_answer, step_answer_by, got_by}
-use Rattle.step_memory.specs.declared.access.Access.TheVariants.{Read, Write, TestAndSet, Clear, Nothing}
+use Rattle.step_memory.specs.declared.access.Access.TheVariants.{Read, TestAndSet}
 use Rattle.step_memory.specs.Steps.{ProgramSteps, MemorySteps, Spares, AgreeAt, answer_from}
 use Rattle.step_memory.specs.Locality.{IsLocal, LookAlike, StandAlike}
 use Rattle.step_memory.proofs.ParticipantLemmas.{participant_of-put, identity_of}

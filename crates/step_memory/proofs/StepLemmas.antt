@@ -1,7 +1,7 @@
 -- a step by cases on who takes it
 use Rattle.std.proofs.Common.{◌≡◌, ◌≢◌, ℕ, true, false, ◌⊎◌, inl, inr, refl, Some, None, Result, Ok, Err}
 use Rattle.step_memory.proofs.Common.{Note, Refusal, lacked_memory, reply_of, Participant, ProgramSteps, MemorySteps, WorldState, participant_of, with_participant, resumed, step_answer, step_answer_by, after_step, after_step_by, may_refuse_step, got_by}
-use Rattle.step_memory.specs.declared.refusal.Refusal.TheVariants.{ZeroIdentity, AlreadyBegun, Full, NotBegun, Finished, Spent, Crowded, NotCompeting, AlreadyCompeting, Holding, NotHolding, NoMemory, HistoryFull, OutOfRange}
+use Rattle.step_memory.specs.declared.refusal.Refusal.TheVariants.{NotBegun, Finished, NoMemory}
 
 module _ {P S R V O : Type 0} (program : ProgramSteps P R V O) (memory : MemorySteps S R V) where
   pub absent_answer : (w : WorldState S P) (id : ℕ) → participant_of id w.participants ≡ None → step_answer program memory w id ≡ Err NotBegun

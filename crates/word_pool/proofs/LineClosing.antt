@@ -1,6 +1,6 @@
 -- the words of a line at its end
 use Rattle.std.proofs.Common.{◌≡◌, ℕ, zero, suc, ◌+◌, ◌-◌, ◌*◌, ◌<◌, ◌≤◌, eqb, eq-eqb, ne_eqb, sym, refl, ap, ◌∙◌, arith, List, slice_index}
-use Rattle.word_pool.proofs.Common.{Final, Seen, Stage, AtRest, Seeking, Holding, Ended, PoolView, own, tally, holding, if_holding, one_if, sum_below, KeepsPoolRule, by_stage, from, rests, KeepsLine, KeepsLineRule}
+use Rattle.word_pool.proofs.Common.{Final, Seen, Stage, Holding, PoolView, own, tally, holding, if_holding, one_if, sum_below, KeepsPoolRule, by_stage, from, rests, KeepsLine, KeepsLineRule}
 use mathlib.Core.Logic.{dite}
 use native.Mathlib.Decide.{ℕ_discrete}
 use lib.ListN.{get_elem?}

@@ -1,7 +1,7 @@
 -- sums over the calls of all seats
 use Rattle.std.specs.Prelude.{◌+◌, ◌==◌, ℕ, List, [], ◌∷◌, Bool, true, false, zero, suc}
 use Rattle.word_pool.specs.declared.pool_view.Stage.{Stage}
-use Rattle.word_pool.specs.declared.pool_view.Stage.TheVariants.{AtRest, Seeking, Holding, Ended}
+use Rattle.word_pool.specs.declared.pool_view.Stage.TheVariants.{Holding}
 use Rattle.word_pool.specs.declared.pool_view.Call.{Call}
 use Rattle.word_pool.specs.declared.pool_view.PoolView.{PoolView}
 

@@ -1,6 +1,6 @@
 -- the proposals that stand in the memory, and who has a name, by the rounds
 use Rattle.std.proofs.Common.{suc, ◌<◌, get_or, drop, drop-cons, ◌≡◌, ◌≢◌, ℕ, ◌+◌, ◌≤◌, ◌==◌, true, false, cond, List, [], ◌∷◌, length, Option, Some, None, inl, inr, refl, sym, ap, ◌∙◌, arith, option_map, option_and_then}
-use Rattle.rename_core.proofs.Common.{eqb_tells, Participant, AreDistinct, participant_of, program_of, IsRising, value_of, Round, Stage, Placing, Proposing, Looking, Settled, Over}
+use Rattle.rename_core.proofs.Common.{eqb_tells, Participant, AreDistinct, participant_of, program_of, IsRising, value_of, Round, Stage, Settled}
 use Rattle.step_memory.proofs.ViewLemmas.{IsRising-inserted, value_of-inserted, length-inserted}
 use Rattle.rename_core.specs.RenameWorld.{name_by, owner_by, shown_with, shown_by}
 use Rattle.rename_core.specs.Round.{name_at, has_name, standing_by}

@@ -1,6 +1,6 @@
 -- a renaming world with the object and the pace of its law
 use Rattle.std.proofs.Common.{◌≡◌, ◌≢◌, ℕ, ◌+◌, ◌-◌, ◌*◌, ◌<◌, ◌≤◌, ◌==◌, Bool, true, false, cond, length, Some, None, inl, inr, refl, sym, ap, ◌∙◌, arith, is_some}
-use Rattle.rename_core.proofs.Common.{eqb_tells, set_at, set_at-same, set_at-other, Participant, AreDistinct, participant_of, with_participant, beginner, participant_of-put, length-with_participant, SnapState, SnapReply, Silent, HasPlace, Written, Viewed, ToPlace, ToScan, ToUpdate, Idle, Round, Stage, Placing, Proposing, Looking, Settled, Over, Pace, paced_step, StepReply, Quiet, Placed, Proposed, Saw, Named, Spent, RenameTerms, RenameObject, after_step, RenameState, world_with, standing_by, StandsAt}
+use Rattle.rename_core.proofs.Common.{eqb_tells, set_at, set_at-same, set_at-other, Participant, AreDistinct, participant_of, with_participant, beginner, participant_of-put, length-with_participant, SnapState, SnapReply, Silent, ToPlace, ToScan, ToUpdate, Idle, Round, Stage, Placing, Proposing, Looking, Settled, Over, Pace, paced_step, StepReply, Quiet, Placed, Proposed, Saw, Named, Spent, RenameTerms, RenameObject, after_step, RenameState, world_with, standing_by, StandsAt}
 use Rattle.snapshot_core.specs.Snapshot.{Task, SnapObject, since_of, with_task, observed_step}
 use Rattle.rename_core.specs.Pace.Phase.{ToPlace as ToGo, ToPropose, ToLook, AtEnd}
 use Rattle.rename_core.proofs.Large.{IsAsLarge}

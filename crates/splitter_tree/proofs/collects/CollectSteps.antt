@@ -1,6 +1,6 @@
 -- each call of a tree's world keeps the tie, and is one that the law of collects allows
-use Rattle.std.proofs.Common.{◌≡◌, ◌≢◌, ℕ, ◌+◌, ◌-◌, ◌*◌, ◌≤◌, ◌==◌, Bool, true, false, cond, not, List, [], ◌∷◌, ◌++◌, length, length-append, Option, Some, None, Result, Ok, inl, inr, refl, sym, ap, subst, ◌∙◌, arith, ne_eqb, is_some}
-use Rattle.splitter_tree.proofs.Common.{cases_Bool, eqb_tells, Decides-eqb, set_at, Run, MemorySteps, begin_refusal, begun_unless, done_unless, participant_of, beginner, Read, Participant, Refusal, let_in, TreeRegister, Mark, Contents, TreeValue, Walker, Collect, Client, Placing, Nothing, Collecting, IsTreeMemory, IsEmptyTree, segment_in, word_in, next_access, walker_note, place_of, place_by, collect_reads, first_collect, collect_after, collect_view, view_with, walk_is_over, client_of, is_placing, is_placed, collecting, collecting_after, record_of, task_after, TreeState, fresh_over, TreeCall, next, IsReply, Began, Stepped, Stored, CollectBegan, CollectStepped, collects_after, collects, marked_in, HasRead, walker_in, walkers, count_to, count_le}
+use Rattle.std.proofs.Common.{◌≡◌, ◌≢◌, ℕ, ◌+◌, ◌-◌, ◌*◌, ◌≤◌, ◌==◌, Bool, true, false, cond, not, List, [], ◌∷◌, ◌++◌, length, length-append, Option, Some, None, Result, Ok, inl, inr, refl, sym, ap, subst, ◌∙◌, arith, is_some}
+use Rattle.splitter_tree.proofs.Common.{cases_Bool, set_at, Run, MemorySteps, begin_refusal, begun_unless, done_unless, participant_of, beginner, Read, Participant, Refusal, let_in, TreeRegister, Mark, Contents, TreeValue, Walker, Collect, Client, Placing, Nothing, Collecting, IsTreeMemory, IsEmptyTree, segment_in, word_in, next_access, walker_note, place_of, place_by, collect_reads, first_collect, collect_after, collect_view, view_with, walk_is_over, client_of, is_placing, is_placed, collecting, collecting_after, record_of, task_after, TreeState, fresh_over, TreeCall, next, IsReply, Began, Stepped, Stored, CollectBegan, CollectStepped, collects_after, collects, marked_in, HasRead, walker_in, walkers, count_to, count_le}
 use Rattle.step_memory.proofs.ParticipantLemmas.{participant_of-push, length-with_participant, some_begun}
 use Rattle.step_memory.proofs.SetAtLemmas.{set_at-same, set_at-other, set_at-cases, same_in}
 use Rattle.step_memory.proofs.Roster.{eqb_flip}

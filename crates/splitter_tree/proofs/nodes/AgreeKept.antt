@@ -1,7 +1,7 @@
 -- what each access of a walk, and each beginning, keeps of the nodes and the walks of a tree
 use Rattle.std.proofs.Common.{◌≡◌, ◌≢◌, ℕ, zero, suc, ◌+◌, ◌*◌, ◌<◌, ◌≤◌, Bool, true, false, ◌⊎◌, inl, inr, [], ◌∷◌, Option, Some, None, refl, sym, ap, subst, ◌∙◌, arith}
-use Rattle.splitter_tree.proofs.Common.{eqb_tells, set_at, set_at-same, set_at-other, set_at-cases, Stage, Outside, WroteX, SawClear, WroteY, Gone, has_entered, went_right, went_down, x_after, y_after, stage_after, Walker, walker_at, walk_of, visit_on}
-use Rattle.splitter.specs.declared.way.Way.TheVariants.{Stop, Right, Down}
+use Rattle.splitter_tree.proofs.Common.{eqb_tells, set_at, set_at-same, set_at-other, set_at-cases, Stage, Outside, Gone, has_entered, went_right, went_down, x_after, y_after, stage_after, Walker, walker_at, walk_of, visit_on}
+use Rattle.splitter.specs.declared.way.Way.TheVariants.{Right, Down}
 use Rattle.splitter.specs.Invariant.{DoorIsLawful}
 use Rattle.splitter.proofs.DoorKept.{kept, lawful_new}
 use Rattle.splitter_tree.specs.Invariant.{IsWalkOf, NodesAgree}

@@ -1,6 +1,6 @@
 -- a tree from its root, which has number 1
 use Rattle.std.proofs.Common.{◌≡◌, ℕ, ◌+◌, ◌-◌, ◌*◌, ◌/◌, ◌%◌, ◌^◌, ◌<◌, ◌≤◌, Bool, true, false, not, ◌&&◌, ◌||◌, cond, Option, Some, None, inl, inr, refl, sym, ap, subst, ◌∙◌, arith, ne_eqb, Box, ◌==◌, is_some}
-use Rattle.splitter_tree.proofs.Common.{fun_ext, set_at, NodeRegisters, Node, TreeRegister, Mark, X, Y, Contents, TreeValue}
+use Rattle.splitter_tree.proofs.Common.{fun_ext, set_at, NodeRegisters, Node, TreeRegister, Mark, TreeValue}
 use Rattle.std.specs.FinMap as map
 use Rattle.std.specs.FinMap.{nat_cmp-IsAntisymmetric}
 use Rattle.std.proofs.lemmas.Cmp.{nat_cmp_total}
