@@ -2,7 +2,7 @@
 use Rattle.std.proofs.Common.{◌≡◌, ◌≢◌, ℕ, zero, suc, ◌+◌, ◌-◌, ◌≤◌, ◌<◌, Bool, true, false, not, ◌==◌, nat_le, List, [], ◌∷◌, ◌++◌, Some, None, length, get_or, set, replicate, max, inl, inr, refl, sym, ap, subst, ◌∙◌, arith}
 use Rattle.std.specs.Prelude.{is_some}
 use Rattle.std.proofs.lemmas.List.{get_or-set_same, get_or-set_other, get_or-replicate, length-set, length-append}
-use Rattle.std.proofs.lemmas.Bool.Decides.{eqb_tells, leb_tells, Decides-eqb}
+use Rattle.std.proofs.lemmas.Bool.Decides.{eqb_tells, leb_tells, Decides-eqb, nat_tests}
 use Rattle.bit_allocator.specs.declared.competitor.Competitor.{Competitor}
 use Rattle.bit_allocator.specs.declared.stay.Stay.{Stay}
 use Rattle.bit_allocator.specs.declared.stay.Stay.TheVariants.{Seeking, Settled}
@@ -33,9 +33,8 @@ pub record IsBalanced (size : ℕ) (bits : List Bool) (cs : List Competitor) : T
 
 -- bits that are clear read so, and so do those that are not there
 clear_at : (n i : ℕ) → get_or (replicate n false) i false ≡ false
-clear_at zero i = refl
-clear_at (suc n) zero = refl
 clear_at (suc n) (suc i) = clear_at n i
+clear_at n i = refl
 
 pub balanced_fresh : (size : ℕ) → 1 ≤ size → size ≤ 64 → IsBalanced size (replicate 65 false) []
 balanced_fresh size first last = record {
@@ -61,14 +60,11 @@ balanced_entered size bits cs id b absent room =
       held = λ i h. let pushed : count (holds i) (cs ++ new ∷ []) ≡ count (holds i) cs + 0 = count-push (holds i) cs new in omega (arith, b.held i h);
       spare = b.spare;
       crowd = omega (arith, length-append cs (new ∷ []));
-      reach = λ i h k. elim (leb_tells i 1) [
-        | inl w ↦
-            let pushed : count (reaches i) (cs ++ new ∷ []) ≡ count (reaches i) cs + 1 = rw w.0 at (count-push (reaches i) cs new) in
-            omega (arith, count-length (reaches i) cs)
-        | inr w ↦
-            let pushed : count (reaches i) (cs ++ new ∷ []) ≡ count (reaches i) cs + 0 = rw w.0 at (count-push (reaches i) cs new) in
-            omega (arith, b.reach i h k)
-      ];
+      reach = λ i h k.
+          let pushed : count (reaches i) (cs ++ new ∷ []) ≡ count (reaches i) cs + one (nat_le i 1) = count-push (reaches i) cs new in
+          let few = count-length (reaches i) cs in
+          let before = b.reach i h k in
+          grind (arith, nat_tests);
       apart = λ p. elim (eqb_tells id p) [
         | inl w ↦
             let pushed : count (is_of p) (cs ++ new ∷ []) ≡ count (is_of p) cs + 1 = rw w.0 at (count-push (is_of p) cs new) in
@@ -158,6 +154,12 @@ module _ (size : ℕ) (bits : List Bool) (cs : List Competitor) (id next : ℕ) 
       let one_holds : 1 ≡ count (holds next) cs = rw was at (b.held next below) in
       omega (arith, seeker, b.reach next p.0 (omega arith), reaches-split next cs)
 
+  reach_next : next < size → get_or bits next false ≡ true → (i : ℕ) → 1 ≤ i → i ≤ size → count (reaches i) cs + one (nat_le i (next + 1)) + i ≤ size + 1 + one (nat_le i next)
+  reach_next below was i h k =
+      let all = b.reach i h k in
+      let fewer = few below was in
+      grind (arith, nat_tests)
+
   set_again : get_or bits next false ≡ true → (i : ℕ) → i < size → next < size → get_or (set bits next true) i false ≡ get_or bits i false
   set_again was i h below = elim (eqb_tells i next) [
     | inl w ↦
@@ -175,19 +177,7 @@ module _ (size : ℕ) (bits : List Bool) (cs : List Competitor) (id next : ℕ) 
         room = length-set bits next true ∙ b.room;
         held = λ i h. rw (set_again was i h lt) (omega arith);
         spare = λ i h. get_or-set_other bits next i true false (λ e. omega (arith, lt, h, e));
-        reach = λ i h k. elim (leb_tells i next) [
-          | inl w ↦ elim (leb_tells i (next + 1)) [
-            | inl v ↦ rw (w.0, v.0) (omega (arith, b.reach i h k))
-            | inr v ↦ absurd (omega arith)
-          ]
-          | inr w ↦ elim (leb_tells i (next + 1)) [
-            | inl v ↦
-                let e : i ≡ next + 1 = omega arith in
-                let f : count (reaches i) cs + 1 + next ≤ size = rw e (few lt was) in
-                rw (w.0, v.0) (omega arith)
-            | inr v ↦ rw (w.0, v.0) (omega (arith, b.reach i h k))
-          ]
-        ];
+        reach = reach_next lt was;
         placed = (omega arith, omega arith);
       }
 
@@ -207,19 +197,7 @@ module _ (size : ℕ) (bits : List Bool) (cs : List Competitor) (id next : ℕ) 
       | inr w ↦ rw (set_again was i h below, w.0) (omega arith)
     ];
     spare = λ i h. get_or-set_other bits next i true false (λ e. omega (arith, below, h, e));
-    reach = λ i h k. elim (leb_tells i next) [
-      | inl w ↦ elim (leb_tells i size) [
-        | inl v ↦ rw (w.0, v.0) (omega (arith, b.reach i h k))
-        | inr v ↦ absurd (omega arith)
-      ]
-      | inr w ↦ elim (leb_tells i size) [
-        | inl v ↦
-            let e : i ≡ next + 1 = omega arith in
-            let f : count (reaches i) cs + 1 + next ≤ size = rw e (few below was) in
-            rw (w.0, v.0) (omega arith)
-        | inr v ↦ absurd (omega arith)
-      ]
-    ];
+    reach = λ i h k. let e : next + 1 ≡ size = omega arith in subst (λ (n : ℕ). count (reaches i) cs + one (nat_le i n) + i ≤ size + 1 + one (nat_le i next)) e (reach_next below was i h k);
     placed = (b.first, omega arith);
   }
 
@@ -299,9 +277,6 @@ more_placed : (size more : ℕ) (stay : Stay) → size ≤ more → IsPlaced siz
 more_placed size more (Seeking next) above p = let top : next ≤ max 1 (size - 1) = p.1 in (p.0, omega arith)
 more_placed size more (Settled number) above p = let top : number ≤ size = p.1 in (p.0, omega arith)
 
-below_other : (i n : ℕ) → i ≤ n → i ≢ n → i < n
-below_other i n h k = elim (leb_tells (suc i) n) [ inl w ↦ omega (arith, w.1) | inr w ↦ absurd (k (omega (arith, h, w.1))) ]
-
 -- the pool gets more numbers: the bit of what was the last is set where that is held
 pub balanced_widened : (size more : ℕ) (bits after : List Bool) (cs : List Competitor) → IsBalanced size bits cs → size < more → more ≤ 64 → length after ≡ 65 →
     one (get_or after size false) ≡ count (holds size) cs → ((i : ℕ) → i ≢ size → get_or after i false ≡ get_or bits i false) → IsBalanced more after cs
@@ -317,7 +292,7 @@ balanced_widened size more bits after cs b above most room set_last spares =
       held = λ i h. elim (eqb_tells i size) [
         | inl w ↦ rw (sym w.1) at set_last
         | inr w ↦ elim (leb_tells i size) [
-          | inl v ↦ rw (spares i w.1) (b.held i (below_other i size v.1 w.1))
+          | inl v ↦ rw (spares i w.1) (b.held i (let other = w.1 in let low = v.1 in omega arith))
           | inr v ↦ rw (spares i w.1, b.spare i (omega (arith, v.1))) (omega (arith, beyond i (omega (arith, v.1)), reaches-split i cs))
         ]
       ];

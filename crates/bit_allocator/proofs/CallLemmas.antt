@@ -21,9 +21,8 @@ going_after w id (Settled number) here n = absurd (n number refl)
 
 -- who holds a number stands so
 pub settled_by : (o : Option Stay) (n : ℕ) → number_by o ≡ Ok n → o ≡ Some (Settled n)
-settled_by None n h = absurd (cc)
-settled_by (Some (Seeking next)) n h = absurd (cc)
 settled_by (Some (Settled number)) n h = let e : number ≡ n = cc in rw e refl
+settled_by o n h = absurd (cc)
 
 -- who holds none changes nothing by leaving
 pub unsettled_after : (w : PoolState) (id : ℕ) (why : Refusal) → Err why ≡ number_answer w id → w ≡ after_leave w id

@@ -1,6 +1,6 @@
 -- how many competitors pass a test
 use Rattle.std.proofs.Common.{◌≡◌, ◌≢◌, ℕ, suc, ◌+◌, ◌≤◌, Bool, true, false, ◌==◌, nat_le, List, [], ◌∷◌, ◌++◌, Some, None, length, filter, cond, inl, inr, refl, sym, ap, ◌∙◌, arith}
-use Rattle.std.proofs.lemmas.Bool.Decides.{eqb_tells, leb_tells, Decides-eqb}
+use Rattle.std.proofs.lemmas.Bool.Decides.{eqb_tells, leb_tells, Decides-eqb, nat_tests}
 use Rattle.bit_allocator.specs.declared.competitor.Competitor.{Competitor}
 use Rattle.bit_allocator.specs.declared.stay.Stay.{Stay}
 use Rattle.bit_allocator.specs.declared.stay.Stay.TheVariants.{Seeking, Settled}
@@ -45,26 +45,6 @@ module _ (f : Competitor → Bool) where
   count-one (c ∷ cs) id stay h = elim (eqb_tells c.identity id) [
     | inl w ↦ let e : one (f c) ≡ one (f (competitor id stay)) = ap (λ x. one (f x)) (head_is c cs id stay w.1 (rw w.0 at h)) in omega arith
     | inr w ↦ let i = count-one cs id stay (rw w.0 at h) in omega arith
-  ]
-
-  -- two that do
-  pub count-two : (cs : List Competitor) (p q : ℕ) (one_stay other : Stay) → p ≢ q → stay_of p cs ≡ Some one_stay → stay_of q cs ≡ Some other → one (f (competitor p one_stay)) + one (f (competitor q other)) ≤ count f cs
-  count-two [] p q s t n h k = absurd (cc)
-  count-two (c ∷ cs) p q s t n h k = elim (eqb_tells c.identity p) [
-    | inl w ↦ elim (eqb_tells c.identity q) [
-      | inl v ↦ absurd (n (sym w.1 ∙ v.1))
-      | inr v ↦
-          let e : one (f c) ≡ one (f (competitor p s)) = ap (λ x. one (f x)) (head_is c cs p s w.1 (rw w.0 at h)) in
-          let i = count-one cs q t (rw v.0 at k) in
-          omega arith
-    ]
-    | inr w ↦ elim (eqb_tells c.identity q) [
-      | inl v ↦
-          let e : one (f c) ≡ one (f (competitor q t)) = ap (λ x. one (f x)) (head_is c cs q t v.1 (rw v.0 at k)) in
-          let i = count-one cs p s (rw w.0 at h) in
-          omega arith
-      | inr v ↦ let i = count-two cs p q s t n (rw w.0 at h) (rw v.0 at k) in omega arith
-    ]
   ]
 
 pub without-absent : (cs : List Competitor) (id : ℕ) → count (is_of id) cs ≡ 0 → without id cs ≡ cs
@@ -139,16 +119,7 @@ abbrev pub reaches : ℕ → Competitor → Bool
 reaches i c = nat_le i (number_of c.stay)
 
 le_split : (i n : ℕ) → one (nat_le i n) ≡ one (nat_le (i + 1) n) + one (n == i)
-le_split i n = elim (leb_tells i n) [
-  | inl w ↦ elim (leb_tells (i + 1) n) [
-    | inl v ↦ elim (eqb_tells n i) [ inl u ↦ absurd (omega arith) | inr u ↦ rw (w.0, v.0, u.0) refl ]
-    | inr v ↦ elim (eqb_tells n i) [ inl u ↦ rw (w.0, v.0, u.0) refl | inr u ↦ absurd (omega arith) ]
-  ]
-  | inr w ↦ elim (leb_tells (i + 1) n) [
-    | inl v ↦ absurd (omega arith)
-    | inr v ↦ elim (eqb_tells n i) [ inl u ↦ absurd (omega arith) | inr u ↦ rw (w.0, v.0, u.0) refl ]
-  ]
-]
+le_split i n = grind (arith, nat_tests)
 
 stay_split : (i : ℕ) (s : Stay) → one (nat_le i (number_of s)) ≡ one (nat_le (i + 1) (number_of s)) + one (holds_at i (held_at s)) + one (seeks_at i s)
 stay_split i (Seeking next) = omega (arith, le_split i next)

@@ -4,13 +4,10 @@ use Rattle.std.specs.Prelude.{is_some}
 use Rattle.std.specs.List.{list_any}
 use Rattle.std.proofs.lemmas.Bool.Decides.{eqb_tells, Decides-eqb}
 use Rattle.step_memory.specs.SetAt.{set_at}
-use Rattle.step_memory.proofs.Roster.{seen-push, seen-put}
+use Rattle.step_memory.proofs.Roster.{eqb_flip, seen-push, seen-put}
 use Rattle.bit_allocator.specs.declared.competitor.Competitor.{Competitor}
 use Rattle.bit_allocator.specs.declared.stay.Stay.{Stay}
 use Rattle.bit_allocator.specs.Competitors.{identities, stay_of, with_stay, without}
-
-eqb_flip : (a b : ℕ) → (a == b) ≡ (b == a)
-eqb_flip a b = elim (eqb_tells a b) [ inl w ↦ w.0 ∙ sym ((Decides-eqb b a).1 (sym w.1)) | inr w ↦ elim (eqb_tells b a) [ inl v ↦ absurd (w.1 (sym v.1)) | inr v ↦ w.0 ∙ sym v.0 ] ]
 
 -- one more at the end, whose identity was not there
 pub stay_of-push : (cs : List Competitor) (new : Competitor) → stay_of new.identity cs ≡ None → (q : ℕ) → stay_of q (cs ++ new ∷ []) ≡ set_at (λ v. stay_of v cs) new.identity (Some new.stay) q
