@@ -1,7 +1,7 @@
 -- one who enters and gets a number by the probes of its bits makes the calls of a stay
-use Rattle.std.proofs.Common.{◌≡◌, ℕ, zero, suc, ◌+◌, ◌==◌, true, List, [], ◌∷◌, ◌++◌, replicate, Some, None, Ok, inl, inr, refl, sym, ap, subst, ◌∙◌}
+use Rattle.std.proofs.Common.{◌≡◌, ℕ, zero, suc, ◌+◌, ◌==◌, true, List, [], ◌∷◌, ◌++◌, replicate, Some, None, Ok, inl, inr, refl, sym, ap, subst, ◌∙◌, arith}
 use Rattle.std.specs.Prelude.{is_some}
-use Rattle.std.proofs.lemmas.Bool.Decides.{eqb_tells, Decides-eqb}
+use Rattle.std.proofs.lemmas.Bool.Decides.{eqb_tells, Decides-eqb, nat_tests}
 use Rattle.step_memory.specs.RegisterState.{Registers}
 use Rattle.step_memory.specs.Registers.{after_access}
 use Rattle.step_memory.specs.Runs.{Run}
@@ -37,11 +37,10 @@ with_stay-twice id a b (c ∷ cs) = elim (eqb_tells c.identity id) [
 
 -- another state of the last
 with_stay-push : (cs : List Competitor) (id : ℕ) (a b : Stay) → stay_of id cs ≡ None → with_stay id b (cs ++ competitor id a ∷ []) ≡ cs ++ competitor id b ∷ []
-with_stay-push [] id a b absent = let own : (id == id) ≡ true = (Decides-eqb id id).1 refl in rw own refl
-with_stay-push (c ∷ cs) id a b absent = elim (eqb_tells c.identity id) [
-  | inl w ↦ absurd (let k : Some c.stay ≡ None = rw w.0 at absent in cc)
-  | inr w ↦ rw w.0 (ap (λ xs. c ∷ xs) (with_stay-push cs id a b (rw w.0 at absent)))
-]
+with_stay-push [] id a b absent = grind (arith, nat_tests)
+with_stay-push (c ∷ cs) id a b absent =
+    let rest : stay_of id cs ≡ None → with_stay id b (cs ++ competitor id a ∷ []) ≡ cs ++ competitor id b ∷ [] = with_stay-push cs id a b in
+    grind (arith, nat_tests)
 
 -- the pool with these bits, where one identity stands so
 abbrev stood : PoolState → Registers (Unit {0}) → ℕ → Stay → PoolState

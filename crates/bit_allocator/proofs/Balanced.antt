@@ -1,5 +1,5 @@
 -- bits and competitors keep in balance: the argument for the last number
-use Rattle.std.proofs.Common.{◌≡◌, ◌≢◌, ℕ, zero, suc, ◌+◌, ◌-◌, ◌≤◌, ◌<◌, Bool, true, false, not, ◌==◌, nat_le, List, [], ◌∷◌, ◌++◌, Some, None, length, get_or, set, replicate, max, inl, inr, refl, sym, ap, subst, ◌∙◌, arith}
+use Rattle.std.proofs.Common.{◌≡◌, ◌≢◌, ℕ, suc, ◌+◌, ◌-◌, ◌≤◌, ◌<◌, Bool, true, false, not, ◌==◌, nat_le, List, [], ◌∷◌, ◌++◌, Some, None, length, get_or, set, replicate, max, inl, inr, refl, sym, ap, subst, ◌∙◌, arith}
 use Rattle.std.specs.Prelude.{is_some}
 use Rattle.std.proofs.lemmas.List.{get_or-set_same, get_or-set_other, get_or-replicate, length-set, length-append}
 use Rattle.std.proofs.lemmas.Bool.Decides.{eqb_tells, leb_tells, Decides-eqb, nat_tests}
@@ -10,7 +10,7 @@ use Rattle.bit_allocator.specs.Stay.{held_at}
 use Rattle.bit_allocator.specs.Competitors.{identities, stay_of, with_stay, without, holds_at}
 use Rattle.bit_allocator.proofs.StayOfLemmas.{stay_of-push, stay_of-with_stay, stay_of-without, identities-with_stay, length-identities}
 use Rattle.step_memory.proofs.SetAtLemmas.{set_at-is}
-use Rattle.bit_allocator.proofs.Counts.{one, count, competitor, is_of, holds, seeks, reaches, number_of, count-push, count-with_stay, count-without, count-one, count-absent, count-length, count-none, length-filter, reaches-split}
+use Rattle.bit_allocator.proofs.Counts.{one, count, competitor, is_of, holds, seeks, reaches, number_of, one_most, count-push, count-with_stay, count-without, count-one, count-absent, count-length, count-none, length-filter, reaches-split}
 
 -- a search is within the bits, or at 1 where there are none; and what is held is within the pool
 abbrev pub IsPlaced : ℕ → Stay → Type 0
@@ -65,15 +65,11 @@ balanced_entered size bits cs id b absent room =
           let few = count-length (reaches i) cs in
           let before = b.reach i h k in
           grind (arith, nat_tests);
-      apart = λ p. elim (eqb_tells id p) [
-        | inl w ↦
-            let pushed : count (is_of p) (cs ++ new ∷ []) ≡ count (is_of p) cs + 1 = rw w.0 at (count-push (is_of p) cs new) in
-            let none : count (is_of p) cs ≡ 0 = count-absent cs p (rw w.1 at absent) in
-            omega arith
-        | inr w ↦
-            let pushed : count (is_of p) (cs ++ new ∷ []) ≡ count (is_of p) cs + 0 = rw w.0 at (count-push (is_of p) cs new) in
-            omega (arith, b.apart p)
-      ];
+      apart = λ p.
+          let pushed : count (is_of p) (cs ++ new ∷ []) ≡ count (is_of p) cs + one (id == p) = count-push (is_of p) cs new in
+          let none = count-absent cs id absent in
+          let before = b.apart p in
+          grind (arith, nat_tests);
       placed = λ p stay h. elim (set_at-is (λ v. stay_of v cs) id (Some (Seeking 1)) p (Some stay) (sym (stay_of-push cs new absent p) ∙ h)) [
         | inl w ↦ let s : Seeking 1 ≡ stay = (let e = w.1 in cc) in subst (λ (x : Stay). IsPlaced size x) s (omega arith, omega arith)
         | inr w ↦ b.placed p stay w.1
@@ -192,10 +188,7 @@ module _ (size : ℕ) (bits : List Bool) (cs : List Competitor) (id next : ℕ) 
   probed_last below end was = record {
     here = here;
     room = length-set bits next true ∙ b.room;
-    held = λ i h. elim (eqb_tells size i) [
-      | inl w ↦ absurd (omega arith)
-      | inr w ↦ rw (set_again was i h below, w.0) (omega arith)
-    ];
+    held = λ i h. rw (set_again was i h below) (grind (arith, nat_tests));
     spare = λ i h. get_or-set_other bits next i true false (λ e. omega (arith, below, h, e));
     reach = λ i h k. let e : next + 1 ≡ size = omega arith in subst (λ (n : ℕ). count (reaches i) cs + one (nat_le i n) + i ≤ size + 1 + one (nat_le i next)) e (reach_next below was i h k);
     placed = (b.first, omega arith);
@@ -219,10 +212,7 @@ module _ (size : ℕ) (bits : List Bool) (cs : List Competitor) (id next : ℕ) 
       record {
         here = here;
         room = b.room;
-        held = λ i h. elim (eqb_tells size i) [
-          | inl w ↦ absurd (omega arith)
-          | inr w ↦ rw w.0 (omega arith)
-        ];
+        held = λ i h. grind (arith, nat_tests);
         spare = λ i h. refl;
         reach = λ i h k. rw same (omega (arith, b.reach i h k));
         placed = (b.first, omega arith);
@@ -242,8 +232,7 @@ balanced_left size bits after cs id number b here room clears spares beyond = re
         | inl w ↦
             let fewer_one : count (holds i) (without id cs) + 1 ≡ count (holds i) cs = rw w.0 at fewer in
             let clear : get_or after i false ≡ false = rw w.1 at (clears (omega arith)) in
-            let most : one (get_or bits i false) ≤ 1 = elim (get_or bits i false) as (λ x. one x ≤ 1) [ true ↦ omega arith | false ↦ omega arith ] in
-            rw clear (omega (arith, b.held i h))
+            rw clear (omega (arith, b.held i h, one_most (get_or bits i false)))
         | inr w ↦
             let as_many : count (holds i) (without id cs) + 0 ≡ count (holds i) cs = rw w.0 at fewer in
             rw (spares i h (λ e. w.1 (sym e))) (omega (arith, b.held i h))
@@ -261,10 +250,7 @@ balanced_left size bits after cs id number b here room clears spares beyond = re
 -- a number is held by one at most
 pub held_once : (size : ℕ) (bits : List Bool) (cs : List Competitor) → IsBalanced size bits cs → (n : ℕ) → n ≤ size → 1 ≤ n → count (holds n) cs ≤ 1
 held_once size bits cs b n high low = elim (leb_tells (suc n) size) [
-  | inl w ↦
-      let most : one (get_or bits n false) ≤ 1 = elim (get_or bits n false) as (λ x. one x ≤ 1) [ true ↦ omega arith | false ↦ omega arith ] in
-      let lt : n < size = omega (arith, w.1) in
-      omega (arith, b.held n lt)
+  | inl w ↦ omega (arith, b.held n w.1, one_most (get_or bits n false))
   | inr w ↦ omega (arith, w.1, b.reach n low high, reaches-split n cs)
 ]
 
@@ -298,10 +284,7 @@ balanced_widened size more bits after cs b above most room set_last spares =
       ];
       spare = λ i h. spares i (λ e. omega (arith, h, e, above)) ∙ b.spare i (omega (arith, h, above));
       crowd = omega (arith, b.crowd, above);
-      reach = λ i h k. elim (leb_tells i size) [
-        | inl v ↦ omega (arith, b.reach i h v.1, above)
-        | inr v ↦ omega (arith, beyond i (omega (arith, v.1)), k)
-      ];
+      reach = λ i h k. elim (leb_tells i size) [ inl v ↦ omega (arith, b.reach i h v.1, above) | inr v ↦ omega (arith, beyond i v.1, k) ];
       apart = b.apart;
       placed = λ p stay h. more_placed size more stay (omega (arith, above)) (b.placed p stay h);
     }

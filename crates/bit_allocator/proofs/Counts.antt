@@ -1,6 +1,6 @@
 -- how many competitors pass a test
-use Rattle.std.proofs.Common.{◌≡◌, ◌≢◌, ℕ, suc, ◌+◌, ◌≤◌, Bool, true, false, ◌==◌, nat_le, List, [], ◌∷◌, ◌++◌, Some, None, length, filter, cond, inl, inr, refl, sym, ap, ◌∙◌, arith}
-use Rattle.std.proofs.lemmas.Bool.Decides.{eqb_tells, leb_tells, Decides-eqb, nat_tests}
+use Rattle.std.proofs.Common.{◌≡◌, ℕ, suc, ◌+◌, ◌≤◌, Bool, true, false, ◌==◌, nat_le, List, [], ◌∷◌, ◌++◌, Some, None, length, filter, cond, inl, inr, refl, ap, ◌∙◌, arith}
+use Rattle.std.proofs.lemmas.Bool.Decides.{eqb_tells, Decides-eqb, nat_tests}
 use Rattle.bit_allocator.specs.declared.competitor.Competitor.{Competitor}
 use Rattle.bit_allocator.specs.declared.stay.Stay.{Stay}
 use Rattle.bit_allocator.specs.declared.stay.Stay.TheVariants.{Seeking, Settled}
@@ -10,6 +10,10 @@ use Rattle.bit_allocator.specs.Competitors.{stay_of, with_stay, without, holds_a
 abbrev pub one : Bool → ℕ
 one true = 1
 one false = 0
+
+pub one_most : (b : Bool) → one b ≤ 1
+one_most true = omega arith
+one_most false = omega arith
 
 abbrev pub count : (Competitor → Bool) → List Competitor → ℕ
 count f [] = 0
@@ -49,10 +53,9 @@ module _ (f : Competitor → Bool) where
 
 pub without-absent : (cs : List Competitor) (id : ℕ) → count (is_of id) cs ≡ 0 → without id cs ≡ cs
 without-absent [] id h = refl
-without-absent (c ∷ cs) id h = elim (eqb_tells c.identity id) [
-  | inl w ↦ absurd (let k : 1 + count (is_of id) cs ≡ 0 = rw w.0 at h in omega arith)
-  | inr w ↦ let k : 0 + count (is_of id) cs ≡ 0 = rw w.0 at h in rw w.0 (ap (λ xs. c ∷ xs) (without-absent cs id (omega arith)))
-]
+without-absent (c ∷ cs) id h =
+    let rest : count (is_of id) cs ≡ 0 → without id cs ≡ cs = without-absent cs id in
+    grind (arith, nat_tests)
 
 pub count-without : (f : Competitor → Bool) (cs : List Competitor) (id : ℕ) (stay : Stay) → stay_of id cs ≡ Some stay → count (is_of id) cs ≤ 1 → count f (without id cs) + one (f (competitor id stay)) ≡ count f cs
 count-without f [] id stay h a = absurd (cc)
@@ -70,10 +73,7 @@ count-without f (c ∷ cs) id stay h a = elim (eqb_tells c.identity id) [
 
 pub count-absent : (cs : List Competitor) (id : ℕ) → stay_of id cs ≡ None → count (is_of id) cs ≡ 0
 count-absent [] id h = refl
-count-absent (c ∷ cs) id h = elim (eqb_tells c.identity id) [
-  | inl w ↦ absurd (let k : Some c.stay ≡ None = rw w.0 at h in cc)
-  | inr w ↦ let i = count-absent cs id (rw w.0 at h) in rw w.0 (omega arith)
-]
+count-absent (c ∷ cs) id h = let rest : stay_of id cs ≡ None → count (is_of id) cs ≡ 0 = count-absent cs id in grind (arith, nat_tests)
 
 -- none passes where nobody that stands somewhere does
 pub count-none : (f : Competitor → Bool) (cs : List Competitor) → ((p : ℕ) → count (is_of p) cs ≤ 1) → ((p : ℕ) (stay : Stay) → stay_of p cs ≡ Some stay → f (competitor p stay) ≡ false) → count f cs ≡ 0
@@ -93,7 +93,7 @@ count-none f (c ∷ cs) apart none =
 
 pub count-length : (f : Competitor → Bool) (cs : List Competitor) → count f cs ≤ length cs
 count-length f [] = omega arith
-count-length f (c ∷ cs) = let i = count-length f cs in elim (f c) as (λ b. one b + count f cs ≤ suc (length cs)) [ true ↦ omega arith | false ↦ omega arith ]
+count-length f (c ∷ cs) = omega (arith, count-length f cs, one_most (f c))
 
 pub length-filter : (t : Competitor → Bool) (cs : List Competitor) → length (filter t cs) ≤ length cs
 length-filter t [] = omega arith

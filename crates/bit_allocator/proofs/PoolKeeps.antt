@@ -1,10 +1,10 @@
 -- each call of a pool keeps the law
-use Rattle.std.proofs.Common.{◌≡◌, ◌≢◌, ◌⊎◌, ℕ, suc, ◌+◌, ◌≤◌, ◌<◌, Bool, true, false, cond, ◌==◌, List, [], ◌∷◌, ◌++◌, Some, None, Ok, Err, length, get_or, set, inl, inr, refl, sym, ap, subst, ◌∙◌, arith}
-use Rattle.std.specs.Prelude.{MatchOption, is_some}
+use Rattle.std.proofs.Common.{◌≡◌, ◌≢◌, ℕ, suc, ◌+◌, ◌≤◌, ◌<◌, Bool, true, false, cond, ◌==◌, List, [], ◌∷◌, ◌++◌, Some, None, Ok, Err, length, get_or, set, inl, inr, refl, sym, ap, subst, ◌∙◌, arith}
+use Rattle.std.specs.Prelude.{MatchOption, is_some, nat_le}
 use Rattle.std.proofs.lemmas.Bool.{cases_Bool}
 use Rattle.std.proofs.lemmas.Bool.Decides.{eqb_tells, leb_tells, Decides-eqb, nat_tests}
 use Rattle.std.proofs.lemmas.List.{get_or-set_same, get_or-set_other, length-set}
-use Rattle.step_memory.specs.declared.refusal.Refusal.TheVariants.{OutOfRange, ZeroIdentity, Crowded, NotCompeting, AlreadyCompeting, Holding, NotHolding}
+use Rattle.step_memory.specs.declared.refusal.Refusal.TheVariants.{ZeroIdentity, Crowded, NotCompeting, AlreadyCompeting, Holding, NotHolding}
 use Rattle.step_memory.specs.World.{done_unless}
 use Rattle.step_memory.specs.declared.access.Access.TheVariants.{TestAndSet, Nothing}
 use Rattle.step_memory.specs.Registers.{after_access}
@@ -20,7 +20,7 @@ use Rattle.bit_allocator.specs.Pool.{fresh_pool, enter_refusal, enter_answer, en
 use Rattle.bit_allocator.specs.Widening.{widen_refusal, widen_access}
 use Rattle.bit_allocator.specs.Calls.{Call}
 use Rattle.bit_allocator.specs.Calls.Call.{Entered, Probed, Left, Widened}
-use Rattle.bit_allocator.specs.PoolObject.{PoolObject, fresh_object, no_entry, no_probe, number_in, IsFree, Answers, after, IsRun}
+use Rattle.bit_allocator.specs.PoolObject.{PoolObject, fresh_object, no_entry, number_in, Answers, after, IsRun}
 use Rattle.bit_allocator.specs.Machine.{next, IsReply, pool}
 use Rattle.step_memory.specs.Machine.{After, Always, IsLawful, RefusesWhereDue, IsProved}
 use Rattle.step_memory.proofs.MachineLemmas.{always_by, machine_proved}
@@ -43,17 +43,13 @@ pub record IsLetIn (w : PoolState) (id : ℕ) : Type 0 where
   pub room : length w.competitors < w.size
 
 pub let_in : (w : PoolState) (id : ℕ) → enter_refusal w id ≡ None → IsLetIn w id
-let_in w id h = elim (eqb_tells id 0) [
-  | inl z ↦ absurd (let k : Some ZeroIdentity ≡ None = rw z.0 at h in cc)
-  | inr z ↦
-      elim (stay_of id w.competitors) as (λ o. stay_of id w.competitors ≡ o → IsLetIn w id) [
-        | Some v ↦ λ e. absurd (let k : Some AlreadyCompeting ≡ None = rw (z.0, e) at h in cc)
-        | None ↦ λ e. elim (leb_tells w.size (length w.competitors)) [
-          | inl l ↦ absurd (let k : Some Crowded ≡ None = rw (z.0, e, l.0) at h in cc)
-          | inr l ↦ record { absent = e; room = l.1 }
-        ]
-      ] refl
-]
+let_in w id h = record {
+  absent = elim (stay_of id w.competitors) as (λ o. cond (id == 0) (Some ZeroIdentity) (cond (is_some o) (Some AlreadyCompeting) (cond (nat_le w.size (length w.competitors)) (Some Crowded) None)) ≡ None → o ≡ None) [
+    | None ↦ λ _. refl
+    | Some v ↦ λ k. grind (arith, nat_tests)
+  ] h;
+  room = grind (arith, nat_tests);
+}
 
 -- a pool that is let get more numbers has fewer, and gets 64 at most
 pub may_widen : (size more : ℕ) → widen_refusal size more ≡ None → (size < more) × (more ≤ 64)
@@ -62,17 +58,11 @@ may_widen size more h = (grind (arith, nat_tests), grind (arith, nat_tests))
 -- where none is found to hold a number nobody does; and who is found is counted
 holder_counts : (n : ℕ) (cs : List Competitor) → holder_in n cs ≡ None → NobodyHolds n cs
 holder_counts n [] h = refl
-holder_counts n (c ∷ cs) h = elim (cases_Bool (holds n c)) [
-  | inl w ↦ absurd (let e : Some c.identity ≡ None = rw w at h in cc)
-  | inr w ↦ let rest = holder_counts n cs (rw w at h) in rw w (omega arith)
-]
+holder_counts n (c ∷ cs) h = let rest : holder_in n cs ≡ None → NobodyHolds n cs = holder_counts n cs in grind (arith, nat_tests)
 
 holder_counted : (n : ℕ) (cs : List Competitor) (p : ℕ) → holder_in n cs ≡ Some p → 1 ≤ count (holds n) cs
 holder_counted n [] p h = absurd (cc)
-holder_counted n (c ∷ cs) p h = elim (cases_Bool (holds n c)) [
-  | inl w ↦ rw w (omega arith)
-  | inr w ↦ let rest = holder_counted n cs p (rw w at h) in rw w (omega arith)
-]
+holder_counted n (c ∷ cs) p h = let rest : holder_in n cs ≡ Some p → 1 ≤ count (holds n) cs = holder_counted n cs p in grind (arith, nat_tests)
 
 module _ (first : ℕ) (w : PoolState) (r : List Call) (s : Stands first w r) where
   -- the object goes on by a call
@@ -147,27 +137,25 @@ module _ (first : ℕ) (w : PoolState) (r : List Call) (s : Stands first w r) wh
     ]
   ] refl
 
+  -- a number is given back, and so are these bits then
+  left_keeps : (id number : ℕ) (bits : List Bool) → stay_of id w.competitors ≡ Some (Settled number) → length bits ≡ 65 → (number < w.size → get_or bits number false ≡ false) →
+      ((i : ℕ) → i < w.size → i ≢ number → get_or bits i false ≡ get_or w.bits.bits i false) → ((i : ℕ) → w.size ≤ i → get_or bits i false ≡ get_or w.bits.bits i false) →
+      Stands first (record { size = w.size; bits = record w.bits { bits = bits }; competitors = without id w.competitors }) (r ++ Left id (Ok number) ∷ [])
+  left_keeps id number bits here room clears spares beyond = record {
+    object = after s.object (Left id (Ok number));
+    run = gone_on (Left id (Ok number)) (sym (number_in-is w.size w.competitors s.object s.tied id ∙ ap number_by here));
+    tied = tied_left w.size w.competitors s.object id s.tied;
+    balanced = balanced_left w.size w.bits.bits bits w.competitors id number s.balanced here room clears spares beyond;
+  }
+
   settled_keeps : (id number : ℕ) → stay_of id w.competitors ≡ Some (Settled number) → Stands first (after_leave_by w id (Some (Settled number))) (r ++ Left id (Ok number) ∷ [])
-  settled_keeps id number here =
-      let is : Ok number ≡ number_in s.object id = sym (number_in-is w.size w.competitors s.object s.tied id ∙ ap number_by here) in
-      elim (leb_tells (suc number) w.size) [
-        | inl below ↦
-            let in_bits : number < length w.bits.bits = omega (arith, below.1, s.balanced.room, s.balanced.last) in
-            rw below.0 (record {
-              object = after s.object (Left id (Ok number));
-              run = gone_on (Left id (Ok number)) is;
-              tied = tied_left w.size w.competitors s.object id s.tied;
-              balanced = balanced_left w.size w.bits.bits (set w.bits.bits number false) w.competitors id number s.balanced here (length-set w.bits.bits number false ∙ s.balanced.room)
-                  (λ _. get_or-set_same w.bits.bits number false false in_bits) (λ i h n. get_or-set_other w.bits.bits number i false false n)
-                  (λ i h. get_or-set_other w.bits.bits number i false false (λ e. omega (arith, below.1, h, e)));
-            })
-        | inr end ↦ rw end.0 (record {
-          object = after s.object (Left id (Ok number));
-          run = gone_on (Left id (Ok number)) is;
-          tied = tied_left w.size w.competitors s.object id s.tied;
-          balanced = balanced_left w.size w.bits.bits w.bits.bits w.competitors id number s.balanced here s.balanced.room (λ h. absurd (omega (arith, h, end.1))) (λ i h n. refl) (λ i h. refl);
-        })
-      ]
+  settled_keeps id number here = elim (leb_tells (suc number) w.size) [
+    | inr end ↦ rw end.0 (left_keeps id number w.bits.bits here s.balanced.room (λ h. absurd (omega (arith, h, end.1))) (λ i h n. refl) (λ i h. refl))
+    | inl below ↦
+        let in_bits : number < length w.bits.bits = omega (arith, below.1, s.balanced.room, s.balanced.last) in
+        rw below.0 (left_keeps id number (set w.bits.bits number false) here (length-set w.bits.bits number false ∙ s.balanced.room) (λ _. get_or-set_same w.bits.bits number false false in_bits)
+        (λ i h n. get_or-set_other w.bits.bits number i false false n) (λ i h. get_or-set_other w.bits.bits number i false false (λ e. omega (arith, below.1, h, e))))
+  ]
 
   leave_keeps : (id : ℕ) → Stands first (after_leave w id) (r ++ Left id (number_answer w id) ∷ [])
   leave_keeps id = elim (stay_of id w.competitors) as (λ e. stay_of id w.competitors ≡ e → Stands first (after_leave_by w id e) (r ++ Left id (number_by e) ∷ [])) [

@@ -1,8 +1,9 @@
 -- where each identity stands, after a call
-use Rattle.std.proofs.Common.{◌≡◌, ℕ, suc, Bool, true, false, not, ◌==◌, List, [], ◌∷◌, ◌++◌, Some, None, length, filter, cond, inl, inr, refl, sym, ap, ◌∙◌}
+use Rattle.std.proofs.Common.{◌≡◌, ℕ, suc, Bool, true, false, not, ◌==◌, List, [], ◌∷◌, ◌++◌, Some, None, length, filter, cond, inl, inr, refl, sym, ap, ◌∙◌, arith}
 use Rattle.std.specs.Prelude.{is_some}
 use Rattle.std.specs.List.{list_any}
-use Rattle.std.proofs.lemmas.Bool.Decides.{eqb_tells, Decides-eqb}
+use Rattle.std.proofs.lemmas.Bool.Decides.{eqb_tells, nat_tests}
+use Rattle.std.proofs.lemmas.List.{map-append, length-map}
 use Rattle.step_memory.specs.SetAt.{set_at}
 use Rattle.step_memory.proofs.Roster.{eqb_flip, seen-push, seen-put}
 use Rattle.bit_allocator.specs.declared.competitor.Competitor.{Competitor}
@@ -17,29 +18,16 @@ stay_of-push = seen-push (λ c. c.identity) (λ c. c.stay)
 pub stay_of-with_stay : (cs : List Competitor) (id : ℕ) (stay : Stay) → is_some (stay_of id cs) ≡ true → (q : ℕ) → stay_of q (with_stay id stay cs) ≡ set_at (λ v. stay_of v cs) id (Some stay) q
 stay_of-with_stay cs id stay = seen-put (λ c. c.identity) (λ c. c.stay) cs (record { identity = id; stay = stay })
 
-same_either : {X : Type 0} (b : Bool) (x : X) → x ≡ cond b x x
-same_either true x = refl
-same_either false x = refl
-
 -- one less
 pub stay_of-without : (cs : List Competitor) (id : ℕ) (q : ℕ) → stay_of q (without id cs) ≡ set_at (λ v. stay_of v cs) id None q
-stay_of-without [] id q = same_either (q == id) None
+stay_of-without [] id q = grind (arith, nat_tests)
 stay_of-without (c ∷ cs) id q =
-    elim (eqb_tells c.identity id) [
-      | inl w ↦ elim (eqb_tells id q) [
-        | inl v ↦ let own : (q == id) ≡ true = eqb_flip q id ∙ v.0 in let i = rw own at (stay_of-without cs id q) in rw (w.0, own) i
-        | inr v ↦ let other : (q == id) ≡ false = eqb_flip q id ∙ v.0 in let first : (c.identity == q) ≡ false = rw w.1 v.0 in let i = rw other at (stay_of-without cs id q) in rw (w.0, other, first) i
-      ]
-      | inr w ↦ elim (eqb_tells c.identity q) [
-        | inl v ↦ let other : (q == id) ≡ false = rw (← v.1) w.0 in rw (w.0, v.0, other) refl
-        | inr v ↦ let i = stay_of-without cs id q in rw (w.0, v.0) i
-      ]
-    ]
+    let rest : stay_of q (without id cs) ≡ cond (q == id) None (stay_of q cs) = stay_of-without cs id q in
+    elim (eqb_tells c.identity id) [ inl w ↦ rw w.0 (grind (arith, nat_tests)) | inr w ↦ rw w.0 (grind (arith, nat_tests)) ]
 
 -- those who compete
 pub identities-push : (cs : List Competitor) (new : Competitor) → identities (cs ++ new ∷ []) ≡ identities cs ++ new.identity ∷ []
-identities-push [] new = refl
-identities-push (c ∷ cs) new = ap (λ xs. c.identity ∷ xs) (identities-push cs new)
+identities-push cs new = map-append (λ c. c.identity) cs (new ∷ [])
 
 pub identities-with_stay : (cs : List Competitor) (id : ℕ) (stay : Stay) → identities (with_stay id stay cs) ≡ identities cs
 identities-with_stay [] id stay = refl
@@ -56,8 +44,7 @@ identities-without (c ∷ cs) id = elim (eqb_tells c.identity id) [
 ]
 
 pub length-identities : (cs : List Competitor) → length (identities cs) ≡ length cs
-length-identities [] = refl
-length-identities (c ∷ cs) = ap suc (length-identities cs)
+length-identities cs = length-map cs (λ c. c.identity)
 
 pub competes-identities : (cs : List Competitor) (p : ℕ) → list_any (λ q. q == p) (identities cs) ≡ is_some (stay_of p cs)
 competes-identities [] p = refl
