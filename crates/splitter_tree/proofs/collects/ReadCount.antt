@@ -126,11 +126,7 @@ read_here marked w nodes reads q r h = record { goes_on = r.goes_on; is = inl (s
 
 -- so the reads are few
 pub reads_few : (marked : ℕ → Bool) (w : CollectWalk) (nodes reads : ℕ) → HasRead marked w nodes reads → reads + 1 ≤ 3 * nodes + 1
-reads_few marked w nodes reads r =
-    elim w.is_reading_contents as (λ b. w.is_reading_contents ≡ b → reads + 1 ≤ 3 * nodes + 1) [
-      | true ↦ λ e. let reads_are : reads + 1 ≡ 2 * nodes + r.missed = rw e at r.reads_are in let children : r.missed + open_at w.at + 1 ≤ nodes = rw e at r.children in omega (arith, reads_are, children)
-      | false ↦ λ e. let reads_are : reads + 0 ≡ 2 * nodes + r.missed = rw e at r.reads_are in let children : r.missed + open_at w.at + 0 ≤ nodes = rw e at r.children in omega (arith, reads_are, children)
-    ] refl
+reads_few marked w nodes reads r = let all = r.reads_are in let few = r.children in grind arith
 
 -- the nodes found are at most those marked
 pub nodes_few : (marked : ℕ → Bool) (w : CollectWalk) (nodes reads most : ℕ) → HasRead marked w nodes reads → ((n : ℕ) → count_to marked n ≤ most) → nodes ≤ most

@@ -4,7 +4,7 @@ use Rattle.std.specs.Prelude.{if◌then◌else◌}
 use Rattle.std.proofs.Math.Nat.{pow-succ'}
 use Rattle.std.proofs.lemmas.Bool.{cases_Bool}
 use Rattle.splitter.proofs.StageLemmas.{gone_right, gone_down}
-use Rattle.std.proofs.lemmas.Bool.Decides.{eqb_tells, leb_tells, Decides-eqb}
+use Rattle.std.proofs.lemmas.Bool.Decides.{eqb_tells, leb_tells, Decides-eqb, nat_tests}
 use Rattle.splitter.specs.declared.way.Way.TheVariants.{Right, Down}
 use Rattle.splitter.specs.declared.stage.Stage.TheVariants.{Gone}
 use Rattle.splitter.specs.Invariant.{IsSplitter}
@@ -26,7 +26,7 @@ count_in f (p ∷ ids) = (if f p then 1 else 0) + count_in f ids
 count_in-length : (f : ℕ → Bool) (ids : List ℕ) → count_in f ids ≤ length ids
 unfolding count_in
 count_in-length f [] = omega arith
-count_in-length f (p ∷ ids) = let rest = count_in-length f ids in elim (cases_Bool (f p)) [ inl e ↦ rw e (omega arith) | inr e ↦ rw e (omega arith) ]
+count_in-length f (p ∷ ids) = let rest = count_in-length f ids in grind arith
 
 -- two tests of which no number passes both, and one that all of these pass
 count_in-both : (f g h : ℕ → Bool) (ids : List ℕ) → ((p : ℕ) → f p ≡ true → h p ≡ true) → ((p : ℕ) → g p ≡ true → h p ≡ true) → ((p : ℕ) → f p ≡ true → g p ≡ true → ⊥) → count_in f ids + count_in g ids ≤ count_in h ids
@@ -34,13 +34,10 @@ unfolding count_in
 count_in-both f g h [] fh gh apart = omega arith
 count_in-both f g h (p ∷ ids) fh gh apart =
     let rest = count_in-both f g h ids fh gh apart in
-    elim (cases_Bool (f p)) [
-      | inl a ↦ elim (cases_Bool (g p)) [ inl c ↦ absurd (apart p a c) | inr c ↦ let t = fh p a in rw (a, c, t) (omega arith) ]
-      | inr a ↦ elim (cases_Bool (g p)) [
-        | inl c ↦ let t = gh p c in rw (a, c, t) (omega arith)
-        | inr c ↦ elim (cases_Bool (h p)) [ inl t ↦ rw (a, c, t) (omega arith) | inr t ↦ rw (a, c, t) (omega arith) ]
-      ]
-    ]
+    let f_h = fh p in
+    let g_h = gh p in
+    let not_both = apart p in
+    grind arith
 
 count_in-some : (f : ℕ → Bool) (ids : List ℕ) (i p : ℕ) → i < length ids → get_or ids i 0 ≡ p → f p ≡ true → 1 ≤ count_in f ids
 unfolding count_in
@@ -244,19 +241,10 @@ module _ (b : ℕ) (mark x_of y_of : ℕ → ℕ) (walker : ℕ → Option Walke
       let both = together k l in
       let down = few_down k l in
       let right = few_right k l in
-      elim (eqb_tells (comers k) 0) [
-        | inl z ↦ let none = z.1 in rw z.0 (omega arith)
-        | inr z ↦ let some = z.1 in rw z.0 (elim down [
-          | inl x ↦ elim right [ inl y ↦ omega arith | inr y ↦ omega arith ]
-          | inr x ↦ elim right [ inl y ↦ omega arith | inr y ↦ omega arith ]
-        ])
-      ]
+      grind (arith, nat_tests)
 
   met : (k p : ℕ) → g.came k p ≡ true → is_met k ≡ true
-  met k p h = elim (eqb_tells (comers k) 0) [
-    | inl z ↦ absurd (let some = some_comers k p h in let none = z.1 in omega arith)
-    | inr z ↦ rw z.0 refl
-  ]
+  met k p h = let some = some_comers k p h in grind (arith, nat_tests)
 
   none_at_zero : comers 0 ≡ 0
   unfolding comers
