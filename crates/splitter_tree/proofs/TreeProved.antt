@@ -1,7 +1,7 @@
 -- the world of a tree is proved
-use Rattle.std.proofs.Common.{◌≡◌, ◌≢◌, ◌≤◌, ◌==◌, ℕ, true, false, cond, inl, inr, List, [], ◌∷◌, ◌++◌, Option, Some, None, Result, Ok, Err, refl, sym, ap, subst, ◌∙◌, arith}
+use Rattle.std.proofs.Common.{◌≡◌, ◌≢◌, ◌≤◌, ◌==◌, ℕ, true, false, cond, inl, inr, List, [], ◌∷◌, ◌++◌, Option, Some, None, Result, Ok, Err, refl, sym, ap, subst, ◌∙◌, arith, ne_eqb}
 use Rattle.std.specs.Prelude.{option_map, option_and_then, is_some, nat_le}
-use Rattle.std.proofs.lemmas.Bool.Decides.{eqb_tells, leb_tells}
+use Rattle.std.proofs.lemmas.Bool.Decides.{nat_tests}
 use Rattle.splitter_tree.specs.PlacesLaw.{KeepsPlacesLaw, way_calls, walker_in}
 use Rattle.splitter_tree.specs.Machine.{TreeWorldState, HasLawfulNodes, fresh_over, tree, tree_over}
 use Rattle.splitter_tree.specs.TreeCalls.{TreeCall}
@@ -124,7 +124,6 @@ one_place_told p a b before between rest law =
 pub not_first_refused : (most p : ℕ) (why : Refusal) (rest : List TreeCall) → 1 ≤ most → p ≢ 0 → TreeRefusesAsDue most (Began p (Err why) ∷ rest) → ⊥
 not_first_refused most p why rest room some due =
     let is = due [] (Began p (Err why)) rest refl in
-    let nonzero : (p == 0) ≡ false = (elim (eqb_tells p 0) [ inl e ↦ absurd (some e.1) | inr e ↦ e.0 ]) in
-    let free : nat_le most 0 ≡ false = (elim (leb_tells most 0) [ inl l ↦ absurd (let k = l.1 in omega arith) | inr l ↦ l.0 ]) in
-    let never : Err why ≡ Ok tt = rw (nonzero, free) at is in
+    let free : nat_le most 0 ≡ false = grind (arith, nat_tests) in
+    let never : Err why ≡ Ok tt = rw (ne_eqb p 0 some, free) at is in
     cc

@@ -100,19 +100,13 @@ module _ (f : ℕ → Bool) (weight : ℕ → ℕ) (none : weight 0 ≡ 0) (no_n
 -- the depth of a node, from far enough above
 depth_in-same : (n m k : ℕ) → k ≤ n → k ≤ m → depth_in n k ≡ depth_in m k
 depth_in-same zero zero k l h = refl
-depth_in-same (suc n) (suc m) k l h = elim (leb_tells k 1) [
-  | inl e ↦ rw e.0 refl
-  | inr e ↦ rw e.0 (ap suc (depth_in-same n m (k / 2) (omega arith) (omega arith)))
-]
+depth_in-same (suc n) (suc m) k l h = let deeper = depth_in-same n m (k / 2) (omega arith) (omega arith) in grind (arith, nat_tests)
 depth_in-same n m k l h = let none : k ≡ 0 = omega arith in rw none refl
 
 -- a child lies one deeper
 pub depth_step : (k : ℕ) → 2 ≤ k → depth_of k ≡ suc (depth_of (k / 2))
 depth_step zero l = absurd (omega arith)
-depth_step (suc k) l = elim (leb_tells (suc k) 1) [
-  | inl e ↦ absurd (let m = e.1 in omega arith)
-  | inr e ↦ rw e.0 (ap suc (depth_in-same k (suc k / 2) (suc k / 2) (omega arith) (omega arith)))
-]
+depth_step (suc k) l = let deeper = depth_in-same k (suc k / 2) (suc k / 2) (omega arith) (omega arith) in grind (arith, nat_tests)
 
 pub depth_left : (k : ℕ) → 1 ≤ k → depth_of (2 * k) ≡ suc (depth_of k)
 depth_left k l = let half : (2 * k) / 2 ≡ k = omega arith in depth_step (2 * k) (omega arith) ∙ ap (λ i. suc (depth_of i)) half

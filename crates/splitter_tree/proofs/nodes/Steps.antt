@@ -1,6 +1,6 @@
 -- one level of the way to a place, from a link whose node is there
 use Rattle.std.proofs.Common.{◌≡◌, ℕ, ◌+◌, ◌-◌, ◌*◌, ◌/◌, ◌^◌, ◌<◌, true, false, cond, Option, Some, refl, sym, ap, subst, ◌∙◌, arith, ne_eqb, inl, inr}
-use Rattle.std.proofs.lemmas.Bool.Decides.{eqb_tells}
+use Rattle.std.proofs.lemmas.Bool.Decides.{nat_tests}
 use Rattle.std.specs.Prelude.{Box, ◌==◌, is_some, Result, Ok, Err, OnOk, OnErr}
 use Rattle.std.specs.Box.{with_value}
 use Rattle.step_memory.specs.SetAt.{set_at}
@@ -22,13 +22,7 @@ on_err (Err e) f h = f h
 
 -- whether a place is to be made is the same one level nearer to it
 lacking_same : (F G : ℕ → Option NodeRegisters) (place depth : ℕ) → 0 < depth → F place ≡ G place → (depth ≡ 1 → is_some (F (place / 2)) ≡ true) → (0 < depth - 1 → F (place / 2) ≡ G (place / 2)) → is_lacking G place (depth - 1) ≡ is_lacking F place depth
-lacking_same F G place depth o e first later =
-    let deep : (depth == 0) ≡ false = ne_eqb depth 0 (omega arith) in
-    let there : is_some (G place) ≡ is_some (F place) = ap is_some (sym e) in
-    elim (eqb_tells (depth - 1) 0) as (λ _. is_lacking G place (depth - 1) ≡ is_lacking F place depth) [
-      | inl w ↦ let h = first (omega (arith, w.1)) in rw (there, w.0, deep, h) refl
-      | inr w ↦ let h : is_some (G (place / 2)) ≡ is_some (F (place / 2)) = ap is_some (sym (later (omega (arith, w.1)))) in rw (there, w.0, deep, h) refl
-    ]
+lacking_same F G place depth o e first later = grind (arith, nat_tests)
 
 -- where the place is there nothing is made
 grown_as_is : (F : ℕ → Option NodeRegisters) (place depth : ℕ) → is_some (F place) ≡ true → (q : ℕ) → F q ≡ set_at F place (grown F place depth) q
