@@ -10,7 +10,7 @@ use Rattle.bit_allocator.specs.Stay.{held_at}
 use Rattle.bit_allocator.specs.Competitors.{identities, stay_of, with_stay, without, holds_at}
 use Rattle.bit_allocator.proofs.StayOfLemmas.{stay_of-push, stay_of-with_stay, stay_of-without, identities-with_stay, length-identities}
 use Rattle.step_memory.proofs.SetAtLemmas.{set_at-is}
-use Rattle.bit_allocator.proofs.Counts.{one, count, competitor, is_of, holds, seeks, reaches, number_of, one_most, count-push, count-with_stay, count-without, count-one, count-absent, count-length, count-none, length-filter, reaches-split}
+use Rattle.bit_allocator.proofs.Counts.{one, count, competitor, is_of, holds, seeks, reaches, number_of, one_most, count-push, count-with_stay, count-without, count-some, count-absent, count-length, count-none, length-filter, reaches-split}
 
 -- a search is within the bits, or at 1 where there are none; and what is held is within the pool
 abbrev pub IsPlaced : ℕ → Stay → Type 0
@@ -77,34 +77,33 @@ balanced_entered size bits cs id b absent room =
     }
 
 -- a probe of `next` that leaves this state
-pub record IsProbed (size : ℕ) (bits after : List Bool) (cs : List Competitor) (id next : ℕ) (new : Stay) : Type 0 where
-  pub here : stay_of id cs ≡ Some (Seeking next)
+pub record IsProbed (size : ℕ) (bits after : List Bool) (cs : List Competitor) (next : ℕ) (new : Stay) : Type 0 where
   pub room : length after ≡ 65
   pub held : (i : ℕ) → i < size → one (get_or after i false) ≡ one (get_or bits i false) + one (holds_at i (held_at new))
   pub spare : (i : ℕ) → size ≤ i → get_or after i false ≡ get_or bits i false
   pub reach : (i : ℕ) → 1 ≤ i → i ≤ size → count (reaches i) cs + one (nat_le i (number_of new)) + i ≤ size + 1 + one (nat_le i next)
   pub placed : IsPlaced size new
 
-pub balanced_probed : (size : ℕ) (bits after : List Bool) (cs : List Competitor) (id next : ℕ) (new : Stay) → IsBalanced size bits cs → IsProbed size bits after cs id next new → IsBalanced size after (with_stay id new cs)
-balanced_probed size bits after cs id next new b m = record {
+pub balanced_probed : (size : ℕ) (bits after : List Bool) (cs : List Competitor) (id next : ℕ) (new : Stay) → IsBalanced size bits cs → stay_of id cs ≡ Some (Seeking next) → IsProbed size bits after cs next new → IsBalanced size after (with_stay id new cs)
+balanced_probed size bits after cs id next new b here m = record {
   first = b.first;
   last = b.last;
   room = m.room;
   held = λ i h.
-      let moved : count (holds i) (with_stay id new cs) + 0 ≡ count (holds i) cs + one (holds_at i (held_at new)) = count-with_stay (holds i) cs id (Seeking next) new m.here in
+      let moved : count (holds i) (with_stay id new cs) + 0 ≡ count (holds i) cs + one (holds_at i (held_at new)) = count-with_stay (holds i) cs id (Seeking next) new here in
       omega (arith, b.held i h, m.held i h);
   spare = λ i h. m.spare i h ∙ b.spare i h;
   crowd =
       let same : length (identities (with_stay id new cs)) ≡ length (identities cs) = ap length (identities-with_stay cs id new) in
       omega (arith, length-identities cs, length-identities (with_stay id new cs), b.crowd);
   reach = λ i h k.
-      let moved : count (reaches i) (with_stay id new cs) + one (nat_le i next) ≡ count (reaches i) cs + one (nat_le i (number_of new)) = count-with_stay (reaches i) cs id (Seeking next) new m.here in
+      let moved : count (reaches i) (with_stay id new cs) + one (nat_le i next) ≡ count (reaches i) cs + one (nat_le i (number_of new)) = count-with_stay (reaches i) cs id (Seeking next) new here in
       omega (arith, m.reach i h k);
   apart = λ p.
-      let moved : count (is_of p) (with_stay id new cs) + one (id == p) ≡ count (is_of p) cs + one (id == p) = count-with_stay (is_of p) cs id (Seeking next) new m.here in
+      let moved : count (is_of p) (with_stay id new cs) + one (id == p) ≡ count (is_of p) cs + one (id == p) = count-with_stay (is_of p) cs id (Seeking next) new here in
       omega (arith, b.apart p);
   placed = λ p stay h.
-      let there : is_some (stay_of id cs) ≡ true = rw m.here refl in
+      let there : is_some (stay_of id cs) ≡ true = rw here refl in
       elim (set_at-is (λ v. stay_of v cs) id (Some new) p (Some stay) (sym (stay_of-with_stay cs id new there p) ∙ h)) [
         | inl w ↦ let s : new ≡ stay = (let e = w.1 in cc) in subst (λ (x : Stay). IsPlaced size x) s m.placed
         | inr w ↦ b.placed p stay w.1
@@ -118,17 +117,16 @@ NobodyHolds i cs = count (holds i) cs ≡ 0
 module _ (size : ℕ) (bits : List Bool) (cs : List Competitor) (id next : ℕ) (b : IsBalanced size bits cs) (here : stay_of id cs ≡ Some (Seeking next)) where
   -- who seeks the number is counted
   seeker : 1 ≤ count (seeks next) cs
-  seeker = let some : one (next == next) ≤ count (seeks next) cs = count-one (seeks next) cs id (Seeking next) here in rw ((Decides-eqb next next).1 refl) at some
+  seeker = count-some (seeks next) cs id (Seeking next) here ((Decides-eqb next next).1 refl)
 
   -- the bit was clear: the number is free, and now held
   pub free_clear : next < size → get_or bits next false ≡ false → NobodyHolds next cs
   free_clear below clear = sym (rw clear at (b.held next below))
 
-  pub probed_clear : next < size → get_or bits next false ≡ false → IsProbed size bits (set bits next true) cs id next (Settled next)
+  pub probed_clear : next < size → get_or bits next false ≡ false → IsProbed size bits (set bits next true) cs next (Settled next)
   probed_clear below clear =
       let p : IsPlaced size (Seeking next) = b.placed id (Seeking next) here in
       record {
-        here = here;
         room = length-set bits next true ∙ b.room;
         held = λ i h. elim (eqb_tells next i) [
           | inl w ↦
@@ -165,11 +163,10 @@ module _ (size : ℕ) (bits : List Bool) (cs : List Competitor) (id next : ℕ) 
   ]
 
   -- a further bit is probed next
-  pub probed_missed : next + 1 < size → get_or bits next false ≡ true → IsProbed size bits (set bits next true) cs id next (Seeking (next + 1))
+  pub probed_missed : next + 1 < size → get_or bits next false ≡ true → IsProbed size bits (set bits next true) cs next (Seeking (next + 1))
   probed_missed below was =
       let lt : next < size = omega arith in
       record {
-        here = here;
         room = length-set bits next true ∙ b.room;
         held = λ i h. rw (set_again was i h lt) (omega arith);
         spare = λ i h. get_or-set_other bits next i true false (λ e. omega (arith, lt, h, e));
@@ -184,9 +181,8 @@ module _ (size : ℕ) (bits : List Bool) (cs : List Competitor) (id next : ℕ) 
       let same : count (reaches size) cs ≡ count (reaches (next + 1)) cs = ap (λ (k : ℕ). count (reaches k) cs) e in
       omega (arith, few below was, reaches-split size cs)
 
-  pub probed_last : next < size → size ≤ next + 1 → get_or bits next false ≡ true → IsProbed size bits (set bits next true) cs id next (Settled size)
+  pub probed_last : next < size → size ≤ next + 1 → get_or bits next false ≡ true → IsProbed size bits (set bits next true) cs next (Settled size)
   probed_last below end was = record {
-    here = here;
     room = length-set bits next true ∙ b.room;
     held = λ i h. rw (set_again was i h below) (grind (arith, nat_tests));
     spare = λ i h. get_or-set_other bits next i true false (λ e. omega (arith, below, h, e));
@@ -205,12 +201,11 @@ module _ (size : ℕ) (bits : List Bool) (cs : List Competitor) (id next : ℕ) 
       let s : 1 ≤ count (seeks size) cs = rw same at seeker in
       omega (arith, b.reach size b.first (omega arith), reaches-split size cs)
 
-  pub probed_only : size ≤ next → IsProbed size bits bits cs id next (Settled size)
+  pub probed_only : size ≤ next → IsProbed size bits bits cs next (Settled size)
   probed_only past =
       let o = only past in
       let same : next ≡ size = o.1 ∙ sym o.0 in
       record {
-        here = here;
         room = b.room;
         held = λ i h. grind (arith, nat_tests);
         spare = λ i h. refl;
@@ -264,9 +259,13 @@ more_placed size more (Seeking next) above p = let top : next ≤ max 1 (size - 
 more_placed size more (Settled number) above p = let top : number ≤ size = p.1 in (p.0, omega arith)
 
 -- the pool gets more numbers: the bit of what was the last is set where that is held
-pub balanced_widened : (size more : ℕ) (bits after : List Bool) (cs : List Competitor) → IsBalanced size bits cs → size < more → more ≤ 64 → length after ≡ 65 →
-    one (get_or after size false) ≡ count (holds size) cs → ((i : ℕ) → i ≢ size → get_or after i false ≡ get_or bits i false) → IsBalanced more after cs
-balanced_widened size more bits after cs b above most room set_last spares =
+pub record IsWidenedBits (size : ℕ) (bits after : List Bool) (cs : List Competitor) : Type 0 where
+  pub last : one (get_or after size false) ≡ count (holds size) cs
+  pub others : (i : ℕ) → i ≢ size → get_or after i false ≡ get_or bits i false
+  pub room : length after ≡ 65
+
+pub balanced_widened : (size more : ℕ) (bits after : List Bool) (cs : List Competitor) → IsBalanced size bits cs → size < more → more ≤ 64 → IsWidenedBits size bits after cs → IsBalanced more after cs
+balanced_widened size more bits after cs b above most m =
     let beyond : (i : ℕ) → size < i → count (reaches i) cs ≡ 0 = λ i h. count-none (reaches i) cs b.apart (λ p stay here.
     let low : number_of stay ≤ size = within_size size stay b.first (b.placed p stay here) in
     elim (leb_tells i (number_of stay)) [ inl w ↦ absurd (omega (arith, w.1, h, low)) | inr w ↦ w.0 ])
@@ -274,15 +273,15 @@ balanced_widened size more bits after cs b above most room set_last spares =
     record {
       first = omega (arith, b.first, above);
       last = most;
-      room = room;
+      room = m.room;
       held = λ i h. elim (eqb_tells i size) [
-        | inl w ↦ rw (sym w.1) at set_last
+        | inl w ↦ rw (sym w.1) at m.last
         | inr w ↦ elim (leb_tells i size) [
-          | inl v ↦ rw (spares i w.1) (b.held i (let other = w.1 in let low = v.1 in omega arith))
-          | inr v ↦ rw (spares i w.1, b.spare i (omega (arith, v.1))) (omega (arith, beyond i (omega (arith, v.1)), reaches-split i cs))
+          | inl v ↦ rw (m.others i w.1) (b.held i (let other = w.1 in let low = v.1 in omega arith))
+          | inr v ↦ rw (m.others i w.1, b.spare i (omega (arith, v.1))) (omega (arith, beyond i (omega (arith, v.1)), reaches-split i cs))
         ]
       ];
-      spare = λ i h. spares i (λ e. omega (arith, h, e, above)) ∙ b.spare i (omega (arith, h, above));
+      spare = λ i h. m.others i (λ e. omega (arith, h, e, above)) ∙ b.spare i (omega (arith, h, above));
       crowd = omega (arith, b.crowd, above);
       reach = λ i h k. elim (leb_tells i size) [ inl v ↦ omega (arith, b.reach i h v.1, above) | inr v ↦ omega (arith, beyond i v.1, k) ];
       apart = b.apart;

@@ -51,6 +51,9 @@ module _ (f : Competitor → Bool) where
     | inr w ↦ let i = count-one cs id stay (rw w.0 at h) in omega arith
   ]
 
+  pub count-some : (cs : List Competitor) (id : ℕ) (stay : Stay) → stay_of id cs ≡ Some stay → f (competitor id stay) ≡ true → 1 ≤ count f cs
+  count-some cs id stay h passes = rw passes at (count-one cs id stay h)
+
 pub without-absent : (cs : List Competitor) (id : ℕ) → count (is_of id) cs ≡ 0 → without id cs ≡ cs
 without-absent [] id h = refl
 without-absent (c ∷ cs) id h =
@@ -84,8 +87,7 @@ count-none f (c ∷ cs) apart none =
     let rest : count f cs ≡ 0 = count-none f cs (λ p. omega (arith, apart p)) (λ p stay h. elim (eqb_tells c.identity p) [
       | inl w ↦ absurd (
           let alone : 1 + count (is_of p) cs ≤ 1 = rw w.0 at (apart p) in
-          let some : one (p == p) ≤ count (is_of p) cs = count-one (is_of p) cs p stay h in
-          let more : 1 ≤ count (is_of p) cs = rw ((Decides-eqb p p).1 refl) at some in
+          let some = count-some (is_of p) cs p stay h ((Decides-eqb p p).1 refl) in
           omega arith)
       | inr w ↦ none p stay (rw w.0 h)
     ]) in

@@ -1,5 +1,5 @@
 -- each call of a pool keeps the law
-use Rattle.std.proofs.Common.{◌≡◌, ◌≢◌, ℕ, suc, ◌+◌, ◌≤◌, ◌<◌, Bool, true, false, cond, ◌==◌, List, [], ◌∷◌, ◌++◌, Some, None, Ok, Err, length, get_or, set, inl, inr, refl, sym, ap, subst, ◌∙◌, arith}
+use Rattle.std.proofs.Common.{◌≡◌, ◌≢◌, ℕ, suc, ◌+◌, ◌≤◌, ◌<◌, Bool, true, false, cond, ◌==◌, List, [], ◌∷◌, ◌++◌, Option, Some, None, Ok, Err, length, get_or, set, inl, inr, refl, sym, ap, subst, ◌∙◌, arith}
 use Rattle.std.specs.Prelude.{MatchOption, is_some, nat_le}
 use Rattle.std.proofs.lemmas.Bool.{cases_Bool}
 use Rattle.std.proofs.lemmas.Bool.Decides.{eqb_tells, leb_tells, Decides-eqb, nat_tests}
@@ -26,8 +26,8 @@ use Rattle.step_memory.specs.Machine.{After, Always, IsLawful, RefusesWhereDue, 
 use Rattle.step_memory.proofs.MachineLemmas.{always_by, machine_proved}
 use Rattle.step_memory.proofs.SetAtLemmas.{set_at-other}
 use Rattle.bit_allocator.proofs.StayOfLemmas.{stay_of-without, length-identities}
-use Rattle.bit_allocator.proofs.Counts.{one, count, is_of, holds, count-one, count-without}
-use Rattle.bit_allocator.proofs.Balanced.{IsPlaced, IsBalanced, IsProbed, NobodyHolds, held_once, balanced_widened, balanced_fresh, balanced_entered, balanced_probed, balanced_left, free_clear, probed_clear, probed_missed, free_last, probed_last, free_only, probed_only}
+use Rattle.bit_allocator.proofs.Counts.{one, count, is_of, holds, count-some, count-without}
+use Rattle.bit_allocator.proofs.Balanced.{IsPlaced, IsBalanced, IsProbed, IsWidenedBits, NobodyHolds, held_once, balanced_widened, balanced_fresh, balanced_entered, balanced_probed, balanced_left, free_clear, probed_clear, probed_missed, free_last, probed_last, free_only, probed_only}
 use Rattle.bit_allocator.proofs.Tied.{IsTied, no_entry-is, number_in-is, no_probe-is, holder_competes, settled_at, unheld, tied_fresh, tied_entered, tied_missed, tied_got, tied_left, tied_widened}
 
 -- the pool after these calls, and the object that may have given the same replies
@@ -90,7 +90,7 @@ module _ (first : ℕ) (w : PoolState) (r : List Call) (s : Stands first w r) wh
   ] refl
 
   -- an accepted probe gets this number
-  got_keeps : (id bit n : ℕ) (bits : List Bool) → stay_of id w.competitors ≡ Some (Seeking bit) → 1 ≤ n → n ≤ w.size → NobodyHolds n w.competitors → IsProbed w.size w.bits.bits bits w.competitors id bit (Settled n) →
+  got_keeps : (id bit n : ℕ) (bits : List Bool) → stay_of id w.competitors ≡ Some (Seeking bit) → 1 ≤ n → n ≤ w.size → NobodyHolds n w.competitors → IsProbed w.size w.bits.bits bits w.competitors bit (Settled n) →
       Stands first (record { size = w.size; bits = record w.bits { bits = bits }; competitors = with_stay id (Settled n) w.competitors }) (r ++ Probed id (Ok (Got n)) ∷ [])
   got_keeps id bit n bits here low high none probed = record {
     object = after s.object (Probed id (Ok (Got n)));
@@ -99,7 +99,7 @@ module _ (first : ℕ) (w : PoolState) (r : List Call) (s : Stands first w r) wh
       record { first = low; last = rw s.tied.size_is high; unheld = unheld w.size w.competitors s.object s.tied n none },
     );
     tied = tied_got w.size w.competitors s.object id bit s.tied here n;
-    balanced = balanced_probed w.size w.bits.bits bits w.competitors id bit (Settled n) s.balanced probed;
+    balanced = balanced_probed w.size w.bits.bits bits w.competitors id bit (Settled n) s.balanced here probed;
   }
 
   seeking_keeps : (id bit : ℕ) → stay_of id w.competitors ≡ Some (Seeking bit) → Stands first (after_probe_by w id (Some (Seeking bit))) (r ++ Probed id (probe_answer_by w (Some (Seeking bit))) ∷ [])
@@ -119,7 +119,7 @@ module _ (first : ℕ) (w : PoolState) (r : List Call) (s : Stands first w r) wh
                   object = after s.object (Probed id (Ok Missed));
                   run = gone_on (Probed id (Ok Missed)) (no_probe-is w.size w.competitors s.object s.tied id ∙ ap probe_refusal_by here, λ e. omega (arith, more.1, e, s.tied.probes id bit here, s.tied.size_is));
                   tied = tied_missed w.size w.competitors s.object id bit s.tied here;
-                  balanced = balanced_probed w.size w.bits.bits set_bit w.competitors id bit (Seeking (bit + 1)) s.balanced (probed_missed w.size w.bits.bits w.competitors id bit s.balanced here (omega (arith, more.1)) was);
+                  balanced = balanced_probed w.size w.bits.bits set_bit w.competitors id bit (Seeking (bit + 1)) s.balanced here (probed_missed w.size w.bits.bits w.competitors id bit s.balanced here (omega (arith, more.1)) was);
                 })
                 | inr end ↦
                     let past : w.size ≤ bit + 1 = omega (arith, end.1) in
@@ -128,14 +128,10 @@ module _ (first : ℕ) (w : PoolState) (r : List Call) (s : Stands first w r) wh
             ]
       ]
 
-  probe_keeps : (id : ℕ) → Stands first (after_probe w id) (r ++ Probed id (probe_answer w id) ∷ [])
-  probe_keeps id = elim (stay_of id w.competitors) as (λ e. stay_of id w.competitors ≡ e → Stands first (after_probe_by w id e) (r ++ Probed id (probe_answer_by w e) ∷ [])) [
-    | None ↦ λ e. refused_keeps (Probed id (Err NotCompeting)) (no_probe-is w.size w.competitors s.object s.tied id ∙ ap probe_refusal_by e) refl
-    | Some stay ↦ elim stay as (λ x. stay_of id w.competitors ≡ Some x → Stands first (after_probe_by w id (Some x)) (r ++ Probed id (probe_answer_by w (Some x)) ∷ [])) [
-      | Seeking bit ↦ λ e. seeking_keeps id bit e
-      | Settled number ↦ λ e. refused_keeps (Probed id (Err Holding)) (no_probe-is w.size w.competitors s.object s.tied id ∙ ap probe_refusal_by e) refl
-    ]
-  ] refl
+  probe_keeps : (id : ℕ) (o : Option Stay) → stay_of id w.competitors ≡ o → Stands first (after_probe_by w id o) (r ++ Probed id (probe_answer_by w o) ∷ [])
+  probe_keeps id None e = refused_keeps (Probed id (Err NotCompeting)) (no_probe-is w.size w.competitors s.object s.tied id ∙ ap probe_refusal_by e) refl
+  probe_keeps id (Some (Settled number)) e = refused_keeps (Probed id (Err Holding)) (no_probe-is w.size w.competitors s.object s.tied id ∙ ap probe_refusal_by e) refl
+  probe_keeps id (Some (Seeking bit)) e = seeking_keeps id bit e
 
   -- a number is given back, and so are these bits then
   left_keeps : (id number : ℕ) (bits : List Bool) → stay_of id w.competitors ≡ Some (Settled number) → length bits ≡ 65 → (number < w.size → get_or bits number false ≡ false) →
@@ -157,37 +153,22 @@ module _ (first : ℕ) (w : PoolState) (r : List Call) (s : Stands first w r) wh
         (λ i h n. get_or-set_other w.bits.bits number i false false n) (λ i h. get_or-set_other w.bits.bits number i false false (λ e. omega (arith, below.1, h, e))))
   ]
 
-  leave_keeps : (id : ℕ) → Stands first (after_leave w id) (r ++ Left id (number_answer w id) ∷ [])
-  leave_keeps id = elim (stay_of id w.competitors) as (λ e. stay_of id w.competitors ≡ e → Stands first (after_leave_by w id e) (r ++ Left id (number_by e) ∷ [])) [
-    | None ↦ λ e. refused_keeps (Left id (Err NotCompeting)) (sym (number_in-is w.size w.competitors s.object s.tied id ∙ ap number_by e)) refl
-    | Some stay ↦ elim stay as (λ x. stay_of id w.competitors ≡ Some x → Stands first (after_leave_by w id (Some x)) (r ++ Left id (number_by (Some x)) ∷ [])) [
-      | Seeking next ↦ λ e. refused_keeps (Left id (Err NotHolding)) (sym (number_in-is w.size w.competitors s.object s.tied id ∙ ap number_by e)) refl
-      | Settled number ↦ λ e. settled_keeps id number e
-    ]
-  ] refl
+  leave_keeps : (id : ℕ) (o : Option Stay) → stay_of id w.competitors ≡ o → Stands first (after_leave_by w id o) (r ++ Left id (number_by o) ∷ [])
+  leave_keeps id None e = refused_keeps (Left id (Err NotCompeting)) (sym (number_in-is w.size w.competitors s.object s.tied id ∙ ap number_by e)) refl
+  leave_keeps id (Some (Seeking next)) e = refused_keeps (Left id (Err NotHolding)) (sym (number_in-is w.size w.competitors s.object s.tied id ∙ ap number_by e)) refl
+  leave_keeps id (Some (Settled number)) e = settled_keeps id number e
 
-  -- the bit of what was the last number becomes set exactly where that is held
-  last_set : one (get_or (after_access w.bits (widen_access w)).bits w.size false) ≡ count (holds w.size) w.competitors
-  last_set =
-      let once : count (holds w.size) w.competitors ≤ 1 = held_once w.size w.bits.bits w.competitors s.balanced w.size (omega arith) s.balanced.first in
+  -- the bit of what was the last number becomes set exactly where that is held, and no other bit changes
+  widened_bits : (o : Option ℕ) → holder_in w.size w.competitors ≡ o → IsWidenedBits w.size w.bits.bits (after_access w.bits (cond (is_some o) (TestAndSet w.size) Nothing)).bits w.competitors
+  widened_bits None e = record { last = rw (s.balanced.spare w.size (omega arith)) (sym (holder_counts w.size w.competitors e)); others = λ i n. refl; room = s.balanced.room }
+  widened_bits (Some p) e =
+      let once = held_once w.size w.bits.bits w.competitors s.balanced w.size (omega arith) s.balanced.first in
       let in_bits : w.size < length w.bits.bits = omega (arith, s.balanced.room, s.balanced.last) in
-      elim (holder_in w.size w.competitors) as (λ o. holder_in w.size w.competitors ≡ o → one (get_or (after_access w.bits (cond (is_some o) (TestAndSet w.size) Nothing)).bits w.size false) ≡ count (holds w.size) w.competitors) [
-        | None ↦ λ e. rw (s.balanced.spare w.size (omega arith)) (sym (holder_counts w.size w.competitors e))
-        | Some p ↦ λ e. rw (get_or-set_same w.bits.bits w.size true false in_bits) (omega (arith, once, holder_counted w.size w.competitors p e))
-      ] refl
-
-  -- and no other bit changes
-  others_spared : (i : ℕ) → i ≢ w.size → get_or (after_access w.bits (widen_access w)).bits i false ≡ get_or w.bits.bits i false
-  others_spared i n = elim (holder_in w.size w.competitors) as (λ o. get_or (after_access w.bits (cond (is_some o) (TestAndSet w.size) Nothing)).bits i false ≡ get_or w.bits.bits i false) [
-    | None ↦ refl
-    | Some p ↦ get_or-set_other w.bits.bits w.size i true false n
-  ]
-
-  as_many_bits : length (after_access w.bits (widen_access w)).bits ≡ 65
-  as_many_bits = elim (holder_in w.size w.competitors) as (λ o. length (after_access w.bits (cond (is_some o) (TestAndSet w.size) Nothing)).bits ≡ 65) [
-    | None ↦ s.balanced.room
-    | Some p ↦ length-set w.bits.bits w.size true ∙ s.balanced.room
-  ]
+      record {
+        last = rw (get_or-set_same w.bits.bits w.size true false in_bits) (omega (arith, once, holder_counted w.size w.competitors p e));
+        others = λ i n. get_or-set_other w.bits.bits w.size i true false n;
+        room = length-set w.bits.bits w.size true ∙ s.balanced.room;
+      }
 
   widen_keeps : (more : ℕ) → Stands first (after_widen w more) (r ++ Widened more (widen_answer w more) ∷ [])
   widen_keeps more = elim (widen_refusal w.size more) as (λ e. widen_refusal w.size more ≡ e → Stands first (widened_unless e w more) (r ++ Widened more (done_unless e) ∷ [])) [
@@ -201,14 +182,14 @@ module _ (first : ℕ) (w : PoolState) (r : List Call) (s : Stands first w r) wh
           object = after s.object (Widened more (Ok tt));
           run = gone_on (Widened more (Ok tt)) (rw n refl);
           tied = tied_widened w.size more w.competitors s.object s.tied;
-          balanced = balanced_widened w.size more w.bits.bits (after_access w.bits (widen_access w)).bits w.competitors s.balanced room.0 room.1 as_many_bits last_set others_spared;
+          balanced = balanced_widened w.size more w.bits.bits (after_access w.bits (widen_access w)).bits w.competitors s.balanced room.0 room.1 (widened_bits (holder_in w.size w.competitors) refl);
         }
   ] refl
 
 next_keeps : (first : ℕ) (w : PoolState) (r : List Call) (h : Call) → Stands first w r → IsReply w h → Stands first (next w h) (r ++ h ∷ [])
 next_keeps first w r (Entered id reply) s is = rw is (enter_keeps first w r s id)
-next_keeps first w r (Probed id reply) s is = rw is (probe_keeps first w r s id)
-next_keeps first w r (Left id reply) s is = rw is (leave_keeps first w r s id)
+next_keeps first w r (Probed id reply) s is = rw is (probe_keeps first w r s id (stay_of id w.competitors) refl)
+next_keeps first w r (Left id reply) s is = rw is (leave_keeps first w r s id (stay_of id w.competitors) refl)
 next_keeps first w r (Widened more reply) s is = rw is (widen_keeps first w r s more)
 
 -- so it is after any calls
@@ -240,10 +221,10 @@ pool_law w first r a =
             let m = placed q n k in
             let others : List Competitor = without p w.competitors in
             let there : stay_of q others ≡ Some (Settled n) = stay_of-without w.competitors p q ∙ set_at-other (λ u. stay_of u w.competitors) p None q (λ e. v.1 (sym e)) ∙ m.0 in
-            let second = count-one (holds n) others q (Settled n) there in
+            let itself = (Decides-eqb n n).1 refl in
+            let second = count-some (holds n) others q (Settled n) there itself in
             let both = count-without (holds n) w.competitors p (Settled n) l.0 (s.balanced.apart p) in
-            let itself : one (n == n) ≡ 1 = ap one ((Decides-eqb n n).1 refl) in
-            omega (arith, itself, second, both, held_once w.size w.bits.bits w.competitors s.balanced n l.2 l.1))
+            omega (arith, ap one itself, second, both, held_once w.size w.bits.bits w.competitors s.balanced n l.2 l.1))
       ];
     }
 
@@ -282,8 +263,7 @@ holder_holds (c ∷ cs) n p apart h =
           elim (eqb_tells c.identity p) [
             | inl v ↦ absurd (
                 let one_more : 1 + count (is_of p) cs ≤ 1 = rw v.0 at (apart p) in
-                let some : one (p == p) ≤ count (is_of p) cs = count-one (is_of p) cs p (Settled n) (settled_at cs p n i) in
-                let more : 1 ≤ count (is_of p) cs = rw ((Decides-eqb p p).1 refl) at some in
+                let some = count-some (is_of p) cs p (Settled n) (settled_at cs p n i) ((Decides-eqb p p).1 refl) in
                 omega arith)
             | inr v ↦ rw v.0 i
           ]

@@ -31,24 +31,15 @@ identities-push cs new = map-append (λ c. c.identity) cs (new ∷ [])
 
 pub identities-with_stay : (cs : List Competitor) (id : ℕ) (stay : Stay) → identities (with_stay id stay cs) ≡ identities cs
 identities-with_stay [] id stay = refl
-identities-with_stay (c ∷ cs) id stay = elim (eqb_tells c.identity id) [
-  | inl w ↦ rw w.0 (ap (λ p. p ∷ identities cs) (sym w.1))
-  | inr w ↦ rw w.0 (ap (λ xs. c.identity ∷ xs) (identities-with_stay cs id stay))
-]
+identities-with_stay (c ∷ cs) id stay = let rest = identities-with_stay cs id stay in grind (arith, nat_tests)
 
 pub identities-without : (cs : List Competitor) (id : ℕ) → identities (without id cs) ≡ filter (λ q. not (q == id)) (identities cs)
 identities-without [] id = refl
-identities-without (c ∷ cs) id = elim (eqb_tells c.identity id) [
-  | inl w ↦ rw w.0 (identities-without cs id)
-  | inr w ↦ rw w.0 (ap (λ xs. c.identity ∷ xs) (identities-without cs id))
-]
+identities-without (c ∷ cs) id = let rest = identities-without cs id in grind (arith, nat_tests)
 
 pub length-identities : (cs : List Competitor) → length (identities cs) ≡ length cs
 length-identities cs = length-map cs (λ c. c.identity)
 
 pub competes-identities : (cs : List Competitor) (p : ℕ) → list_any (λ q. q == p) (identities cs) ≡ is_some (stay_of p cs)
 competes-identities [] p = refl
-competes-identities (c ∷ cs) p = elim (eqb_tells c.identity p) [
-  | inl w ↦ rw w.0 refl
-  | inr w ↦ rw w.0 (competes-identities cs p)
-]
+competes-identities (c ∷ cs) p = let rest = competes-identities cs p in grind (arith, nat_tests)

@@ -12,7 +12,7 @@ use Rattle.bit_allocator.specs.PoolState.{PoolState}
 use Rattle.bit_allocator.specs.Pool.{enter_refusal, number_by, probe_refusal_by}
 use Rattle.bit_allocator.specs.PoolObject.{PoolObject, competes, no_entry, no_probe, number_in}
 use Rattle.bit_allocator.proofs.StayOfLemmas.{stay_of-push, stay_of-with_stay, stay_of-without, identities-push, identities-with_stay, identities-without, length-identities, competes-identities}
-use Rattle.bit_allocator.proofs.Counts.{one, count, competitor, holds, count-one}
+use Rattle.bit_allocator.proofs.Counts.{competitor, holds, count-some}
 use Rattle.step_memory.proofs.SetAtLemmas.{set_at-same, set_at-other, set_at-as_is, set_at-is, set_at-map}
 use Rattle.bit_allocator.proofs.Balanced.{NobodyHolds}
 
@@ -33,23 +33,21 @@ module _ (size : ℕ) (cs : List Competitor) (o : PoolObject) (t : IsTied size c
       let many : length o.competing ≡ length cs = rw t.competing (length-identities cs) in
       rw (competes_is p, many, t.size_is, e, k) refl
 
+  number_in_by : (p : ℕ) (s : Option Stay) → competes o p ≡ is_some s → o.held p ≡ held_by_stay s → number_in o p ≡ number_by s
+  number_in_by p None c h = rw c refl
+  number_in_by p (Some (Seeking next)) c h = rw (c, h) refl
+  number_in_by p (Some (Settled number)) c h = rw (c, h) refl
+
   pub number_in-is : (p : ℕ) → number_in o p ≡ number_by (stay_of p cs)
-  number_in-is p = elim (stay_of p cs) as (λ s. competes o p ≡ is_some s → o.held p ≡ held_by_stay s → number_in o p ≡ number_by s) [
-    | None ↦ λ c h. rw c refl
-    | Some s ↦ elim s as (λ s. competes o p ≡ is_some (Some s) → o.held p ≡ held_by_stay (Some s) → number_in o p ≡ number_by (Some s)) [
-      | Seeking next ↦ λ c h. rw (c, h) refl
-      | Settled number ↦ λ c h. rw (c, h) refl
-    ]
-  ] (competes_is p) (t.held p)
+  number_in-is p = number_in_by p (stay_of p cs) (competes_is p) (t.held p)
+
+  no_probe_by : (p : ℕ) (s : Option Stay) → competes o p ≡ is_some s → o.held p ≡ held_by_stay s → no_probe o p ≡ probe_refusal_by s
+  no_probe_by p None c h = rw c refl
+  no_probe_by p (Some (Seeking next)) c h = rw (c, h) refl
+  no_probe_by p (Some (Settled number)) c h = rw (c, h) refl
 
   pub no_probe-is : (p : ℕ) → no_probe o p ≡ probe_refusal_by (stay_of p cs)
-  no_probe-is p = elim (stay_of p cs) as (λ s. competes o p ≡ is_some s → o.held p ≡ held_by_stay s → no_probe o p ≡ probe_refusal_by s) [
-    | None ↦ λ c h. rw c refl
-    | Some s ↦ elim s as (λ s. competes o p ≡ is_some (Some s) → o.held p ≡ held_by_stay (Some s) → no_probe o p ≡ probe_refusal_by (Some s)) [
-      | Seeking next ↦ λ c h. rw (c, h) refl
-      | Settled number ↦ λ c h. rw (c, h) refl
-    ]
-  ] (competes_is p) (t.held p)
+  no_probe-is p = no_probe_by p (stay_of p cs) (competes_is p) (t.held p)
 
   -- who holds a number competes
   pub holder_competes : (p n : ℕ) → o.held p ≡ Some n → competes o p ≡ true
@@ -57,20 +55,16 @@ module _ (size : ℕ) (cs : List Competitor) (o : PoolObject) (t : IsTied size c
       competes_is p ∙ elim (stay_of p cs) as (λ s. held_by_stay s ≡ Some n → is_some s ≡ true) [ None ↦ λ k. absurd (cc) | Some s ↦ λ k. refl ] (sym (t.held p) ∙ h)
 
 -- who holds a number stands so
+settled_by_held : (s : Option Stay) (n : ℕ) → held_by_stay s ≡ Some n → s ≡ Some (Settled n)
+settled_by_held (Some (Settled number)) n h = let e : number ≡ n = cc in rw e refl
+settled_by_held s n h = absurd (cc)
+
 pub settled_at : (cs : List Competitor) (p n : ℕ) → held_in p cs ≡ Some n → stay_of p cs ≡ Some (Settled n)
-settled_at cs p n h = elim (stay_of p cs) as (λ s. held_by_stay s ≡ Some n → s ≡ Some (Settled n)) [
-  | None ↦ λ k. absurd (cc)
-  | Some s ↦ elim s as (λ s. held_by_stay (Some s) ≡ Some n → Some s ≡ Some (Settled n)) [
-    | Seeking next ↦ λ k. absurd (cc)
-    | Settled number ↦ λ k. let e : number ≡ n = cc in rw e refl
-  ]
-] h
+settled_at cs p n = settled_by_held (stay_of p cs) n
 
 pub unheld : (size : ℕ) (cs : List Competitor) (o : PoolObject) → IsTied size cs o → (n : ℕ) → NobodyHolds n cs → (q : ℕ) → o.held q ≢ Some n
 unheld size cs o t n none q h =
-    let s = settled_at cs q n (sym (t.held q) ∙ h) in
-    let some : one (n == n) ≤ count (holds n) cs = count-one (holds n) cs q (Settled n) s in
-    let more : 1 ≤ count (holds n) cs = rw ((Decides-eqb n n).1 refl) at some in
+    let some = count-some (holds n) cs q (Settled n) (settled_at cs q n (sym (t.held q) ∙ h)) ((Decides-eqb n n).1 refl) in
     omega arith
 
 pub tied_fresh : (size : ℕ) → IsTied size [] (record { size = size; competing = []; held = λ p. None; probes = λ p. 0 })
