@@ -194,36 +194,26 @@ module _ (marked : ℕ → Bool) (place : ℕ → Option ℕ) (moment : ℕ → 
       let still : (q : ℕ) → IsSome (moment since q) → IsSome (value_of q next_view) ⊎ ((k : ℕ) × (place q ≡ Some k) × IsAhead marked next_walk k) = (λ q some. elim (read_still u t q some) [ inl h ↦ inl h | inr h ↦ inr h.1 ]) in
       let reads = read_resumed marked c.walk got u.nodes steps t.sees u.reads on in
       let before : (q : ℕ) → u.seen q ≡ true → (k : ℕ) × (place q ≡ Some k) × (IsUpcoming next_walk k → ⊥) = (λ q h. let b = u.behind q h in (b.0, b.1, λ v. b.2 (upcoming_before c.walk got b.0 v))) in
+      let on_with : (seen : ℕ → Bool) (above_all : ℕ) → ((n : ℕ) → above_all ≤ n → length next_view ≤ count_to seen n) → ((q : ℕ) → seen q ≡ true → (k : ℕ) × (place q ≡ Some k) × (IsUpcoming next_walk k → ⊥)) → UnderWay marked place moment last since (steps + 1) (collect_after c got) =
+      (λ seen above_all counted behind. record {
+        since_then = u.since_then;
+        rising = read_rising u t;
+        stored = read_stored u t;
+        still = still;
+        nodes = u.nodes + cond (finds_mark c.walk got) 1 0;
+        reads = reads;
+        seen = seen;
+        above_all = above_all;
+        counted = counted;
+        behind = behind;
+      }) in
       elim (segment_in got) as (λ o. segment_in got ≡ o → UnderWay marked place moment last since (steps + 1) (collect_after c got)) [
-        | None ↦ λ e. record {
-          since_then = u.since_then;
-          rising = read_rising u t;
-          stored = read_stored u t;
-          still = still;
-          nodes = u.nodes + cond (finds_mark c.walk got) 1 0;
-          reads = reads;
-          seen = u.seen;
-          above_all = u.above_all;
-          counted = λ n h. omega (arith, g.as_long e, u.counted n h);
-          behind = before;
-        }
+        | None ↦ λ e. on_with u.seen u.above_all (λ n h. omega (arith, g.as_long e, u.counted n h)) before
         | Some r ↦ λ e.
             let o = t.of_place r e in
-            record {
-              since_then = u.since_then;
-              rising = read_rising u t;
-              stored = read_stored u t;
-              still = still;
-              nodes = u.nodes + cond (finds_mark c.walk got) 1 0;
-              reads = reads;
-              seen = set_at u.seen r.identity true;
-              above_all = u.above_all + suc r.identity;
-              counted = λ n h.
-                  let one : count_to (set_at u.seen r.identity true) n ≡ count_to u.seen n + 1 = count_more u.seen r.identity n (unseen u t r e) (omega arith) in
-                  omega (arith, one, g.longer, u.counted n (omega arith));
-              behind = λ q h. elim (eqb_tells q r.identity) [
-                | inl s ↦ (o.0, ap place s.1 ∙ o.2, read_once c.walk got o.0 o.1)
-                | inr s ↦ before q (rw s.0 at h)
-              ];
-            }
+            on_with (set_at u.seen r.identity true) (u.above_all + suc r.identity)
+            (λ n h.
+            let one : count_to (set_at u.seen r.identity true) n ≡ count_to u.seen n + 1 = count_more u.seen r.identity n (unseen u t r e) (omega arith) in
+            omega (arith, one, g.longer, u.counted n (omega arith)))
+            (λ q h. elim (eqb_tells q r.identity) [ inl s ↦ (o.0, ap place s.1 ∙ o.2, read_once c.walk got o.0 o.1) | inr s ↦ before q (rw s.0 at h) ])
       ] refl

@@ -158,26 +158,16 @@ module _ (b : ℕ) (mark x_of y_of : ℕ → ℕ) (walker : ℕ → Option Walke
         | inr e ↦ g.marked k q (ap has_entered (sym e) ∙ h)
       ]
 
-      down_after : (k q : ℕ) → 1 ≤ k → came' (2 * k) q ≡ true → went_down (stage' k q) ≡ true
-      down_after k q l h = elim (cases (2 * k) q h) [
-        | inl e ↦ rw e.1 (down k l e.0)
+      -- who comes to a child has left its parent on that side
+      child_after : (went : Stage → Bool) (child : ℕ → ℕ) → ((k q : ℕ) → 1 ≤ k → g.came (child k) q ≡ true → went (g.stage k q) ≡ true) → went v.visitor.stage ≡ false →
+          ((k : ℕ) → 1 ≤ k → child k ≡ v'.place → went (stage' k p) ≡ true) → (k q : ℕ) → 1 ≤ k → came' (child k) q ≡ true → went (stage' k q) ≡ true
+      child_after went child before stays here k q l h = elim (cases (child k) q h) [
+        | inl e ↦ rw e.1 (here k l e.0)
         | inr old ↦ elim (stage_cases k q) [
-          | inr e ↦ ap went_down e ∙ g.came_down k q l old
+          | inr e ↦ ap went e ∙ before k q l old
           | inl e ↦ absurd (
-              let was : went_down (g.stage at p) ≡ true = subst (λ (i : ℕ). went_down (g.stage at i) ≡ true) e.1 (subst (λ (i : ℕ). went_down (g.stage i q) ≡ true) e.0 (g.came_down k q l old)) in
-              let not : went_down (g.stage at p) ≡ false = ap went_down (g.walks p v is).here ∙ (g.walks p v is).not_down in
-              cc)
-        ]
-      ]
-
-      right_after : (k q : ℕ) → 1 ≤ k → came' (2 * k + 1) q ≡ true → went_right (stage' k q) ≡ true
-      right_after k q l h = elim (cases (2 * k + 1) q h) [
-        | inl e ↦ rw e.1 (right k l e.0)
-        | inr old ↦ elim (stage_cases k q) [
-          | inr e ↦ ap went_right e ∙ g.came_right k q l old
-          | inl e ↦ absurd (
-              let was : went_right (g.stage at p) ≡ true = subst (λ (i : ℕ). went_right (g.stage at i) ≡ true) e.1 (subst (λ (i : ℕ). went_right (g.stage i q) ≡ true) e.0 (g.came_right k q l old)) in
-              let not : went_right (g.stage at p) ≡ false = ap went_right (g.walks p v is).here ∙ (g.walks p v is).not_right in
+              let was : went (g.stage at p) ≡ true = subst (λ (i : ℕ). went (g.stage at i) ≡ true) e.1 (subst (λ (i : ℕ). went (g.stage i q) ≡ true) e.0 (before k q l old)) in
+              let not : went (g.stage at p) ≡ false = ap went (g.walks p v is).here ∙ stays in
               cc)
         ]
       ]
@@ -198,8 +188,8 @@ module _ (b : ℕ) (mark x_of y_of : ℕ → ℕ) (walker : ℕ → Option Walke
           | inr old ↦ g.listed k q old
         ];
         node = λ k q h. elim (cases k q h) [ inl e ↦ rw e.0 positive' | inr old ↦ g.node k q old ];
-        came_down = down_after;
-        came_right = right_after;
+        came_down = child_after went_down (λ k. 2 * k) g.came_down (g.walks p v is).not_down down;
+        came_right = child_after went_right (λ k. 2 * k + 1) g.came_right (g.walks p v is).not_right right;
         marked = marked_after;
         marker = λ k h. let old = g.marker k h in (old.0, still k old.0 old.1);
       }
