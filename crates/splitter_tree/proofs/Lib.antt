@@ -5,5 +5,4 @@ mod CallCases
 mod StoreLemmas
 mod DueTied
 mod TreeProved
-mod StandAlike
 mod OwnAccesses

@@ -6,7 +6,7 @@ use Rattle.step_memory.specs.declared.record.Record.{Record}
 use Rattle.step_memory.specs.Participant.{participant_of}
 use Rattle.step_memory.specs.Steps.{ReadsOrWrites}
 use Rattle.splitter.specs.declared.stage.Stage.{Stage}
-use Rattle.splitter.specs.declared.stage.Stage.TheVariants.{Outside, WroteX, SawClear, WroteY, Gone}
+use Rattle.splitter.specs.declared.stage.Stage.TheVariants.{Outside}
 use Rattle.splitter.specs.Visitor.{access_at, access_of}
 use Rattle.splitter_tree.specs.declared.register.TreeRegister.{TreeRegister}
 use Rattle.splitter_tree.specs.declared.register.TreeRegister.TheVariants.{Mark, X, Y, Contents}
@@ -15,7 +15,7 @@ use Rattle.splitter_tree.specs.declared.register.TreeValue.TheVariants.{Word}
 use Rattle.splitter_tree.specs.declared.walker.Walker.{Walker}
 use Rattle.splitter_tree.specs.declared.client.Client.{Client}
 use Rattle.splitter_tree.specs.declared.client.Task.{Task}
-use Rattle.splitter_tree.specs.declared.client.Task.TheVariants.{Placing, Nothing, Storing, Collecting}
+use Rattle.splitter_tree.specs.declared.client.Task.TheVariants.{Placing, Storing}
 use Rattle.splitter_tree.specs.Walk.{in_words, place_of, StandsAtNode}
 use Rattle.splitter_tree.specs.Client.{access_for, write_at, record_of}
 use Rattle.splitter_tree.specs.Machine.{TreeWorldState, tree}

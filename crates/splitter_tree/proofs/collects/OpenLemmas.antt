@@ -1,5 +1,5 @@
 -- how many right siblings are still to come
-use Rattle.std.proofs.Common.{◌≡◌, ℕ, zero, suc, ◌+◌, ◌*◌, ◌/◌, ◌%◌, ◌<◌, ◌≤◌, ◌==◌, true, false, cond, Some, inl, inr, refl, sym, ap, ◌∙◌, arith}
+use Rattle.std.proofs.Common.{◌≡◌, ℕ, zero, suc, ◌+◌, ◌*◌, ◌/◌, ◌%◌, ◌<◌, ◌≤◌, ◌==◌, cond, Some, inl, inr, refl, sym, ap, ◌∙◌, arith}
 use Rattle.std.specs.Prelude.{Bool, ◌&&◌, nat_lt, ◌⊎◌}
 use Rattle.std.proofs.lemmas.Bool.Decides.{nat_tests}
 use Rattle.splitter_tree.specs.CollectWalk.{climbed_in, climbed, node_after}

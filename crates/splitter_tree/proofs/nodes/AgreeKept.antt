@@ -3,9 +3,9 @@ use Rattle.std.proofs.Common.{◌≡◌, ◌≢◌, ℕ, zero, suc, ◌+◌, ◌
 use Rattle.std.proofs.lemmas.Bool.Decides.{eqb_tells}
 use Rattle.step_memory.specs.SetAt.{set_at}
 use Rattle.step_memory.proofs.SetAtLemmas.{set_at-same, set_at-other, set_at-cases}
-use Rattle.splitter.specs.declared.way.Way.TheVariants.{Stop, Right, Down}
+use Rattle.splitter.specs.declared.way.Way.TheVariants.{Right, Down}
 use Rattle.splitter.specs.declared.stage.Stage.{Stage}
-use Rattle.splitter.specs.declared.stage.Stage.TheVariants.{Outside, WroteX, SawClear, WroteY, Gone}
+use Rattle.splitter.specs.declared.stage.Stage.TheVariants.{Outside, Gone}
 use Rattle.splitter.specs.Stage.{has_entered, went_right, went_down, x_after, y_after, stage_after}
 use Rattle.splitter.specs.Invariant.{DoorIsLawful}
 use Rattle.splitter.proofs.DoorKept.{kept, lawful_new}

@@ -6,7 +6,6 @@ use Rattle.std.specs.Cmp.{unsigned_tied}
 use Rattle.std.specs.FinMap as map
 use Rattle.std.proofs.lemmas.Bool.Decides.{eqb_tells, Decides-eqb, nat_tests}
 use Rattle.step_memory.specs.SetAt.{set_at}
-use Rattle.step_memory.proofs.SetAtLemmas.{set_at-same, set_at-other}
 use Rattle.splitter_tree.specs.declared.node_registers.NodeRegisters.{NodeRegisters}
 use Rattle.splitter_tree.specs.declared.node.Node.{Node, Node', Held-Node-left, None', Some', out-Node, roll-Node}
 use Rattle.splitter_tree.specs.Nodes.{entries_in, entries_at, entries_below, registers_below}

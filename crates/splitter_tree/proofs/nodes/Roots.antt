@@ -12,7 +12,7 @@ use Rattle.step_memory.specs.SetAt.{set_at}
 use Rattle.splitter_tree.specs.declared.node_registers.NodeRegisters.{NodeRegisters}
 use Rattle.splitter_tree.specs.declared.node.Node.{Node}
 use Rattle.splitter_tree.specs.declared.register.TreeRegister.{TreeRegister}
-use Rattle.splitter_tree.specs.declared.register.TreeRegister.TheVariants.{Mark, X, Y, Contents}
+use Rattle.splitter_tree.specs.declared.register.TreeRegister.TheVariants.{Mark}
 use Rattle.splitter_tree.specs.declared.register.TreeValue.{TreeValue}
 use Rattle.splitter_tree.specs.declared.register.TreeValue.TheVariants as value
 use Rattle.splitter_tree.specs.Nodes.{entries_below, registers_below, LeadsTo, nodes_of, is_lacking, grown}

@@ -1,5 +1,5 @@
 -- one level of the way to a place, from a link whose node is there
-use Rattle.std.proofs.Common.{◌≡◌, ℕ, ◌+◌, ◌-◌, ◌*◌, ◌/◌, ◌^◌, ◌<◌, true, false, cond, Option, Some, refl, sym, ap, subst, ◌∙◌, arith, ne_eqb, inl, inr}
+use Rattle.std.proofs.Common.{◌≡◌, ℕ, ◌+◌, ◌-◌, ◌*◌, ◌/◌, ◌^◌, ◌<◌, true, false, cond, Option, Some, refl, sym, ap, subst, ◌∙◌, arith}
 use Rattle.std.proofs.lemmas.Bool.Decides.{nat_tests}
 use Rattle.std.specs.Prelude.{Box, ◌==◌, is_some, Result, Ok, Err, OnOk, OnErr}
 use Rattle.std.specs.Box.{with_value}

@@ -1,5 +1,5 @@
 use Rattle.std.proofs.Common.{◌≤◌, ◌<◌, ◌*◌, ◌^◌, ◌∙◌, sym}
-use Rattle.splitter_tree.specs.TreeSteps.{number_in, value_of}
+use Rattle.splitter_tree.specs.TreeSteps.{value_of}
 use Rattle.splitter_tree.proofs.nodes.Roots.{after_zero, after_growth, after_refusal, after_change}
 use Rattle.splitter_tree.proofs.nodes.Steps.{on_ok, on_err}
 use Rattle.splitter_tree.proofs.node.write_from.Goals as goal
