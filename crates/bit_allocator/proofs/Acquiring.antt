@@ -1,7 +1,7 @@
 -- one who enters and gets a number by the probes of its bits makes the calls of a stay
-use Rattle.std.proofs.Common.{◌≡◌, ℕ, zero, suc, ◌+◌, ◌==◌, true, List, [], ◌∷◌, ◌++◌, replicate, Some, None, Ok, inl, inr, refl, sym, ap, subst, ◌∙◌, arith}
+use Rattle.std.proofs.Common.{◌≡◌, ℕ, zero, suc, ◌+◌, ◌==◌, List, [], ◌∷◌, ◌++◌, replicate, Some, None, Ok, refl, sym, ap, ◌∙◌, arith}
 use Rattle.std.specs.Prelude.{is_some}
-use Rattle.std.proofs.lemmas.Bool.Decides.{eqb_tells, Decides-eqb, nat_tests}
+use Rattle.std.proofs.lemmas.Bool.Decides.{nat_tests}
 use Rattle.step_memory.specs.RegisterState.{Registers}
 use Rattle.step_memory.specs.Registers.{after_access}
 use Rattle.step_memory.specs.Runs.{Run}
@@ -14,7 +14,7 @@ use Rattle.bit_allocator.specs.declared.stay.Stay.TheVariants.{Seeking, Settled}
 use Rattle.bit_allocator.specs.Stay.{probe_access, probe_reply}
 use Rattle.bit_allocator.specs.Competitors.{stay_of, with_stay}
 use Rattle.bit_allocator.specs.PoolState.{PoolState}
-use Rattle.bit_allocator.specs.Pool.{fresh_pool, enter_refusal, after_probe, probe_answer}
+use Rattle.bit_allocator.specs.Pool.{fresh_pool, enter_refusal}
 use Rattle.bit_allocator.specs.Calls.{Call}
 use Rattle.bit_allocator.specs.Calls.Call.{Probed}
 use Rattle.bit_allocator.specs.Machine.{next, IsReply, pool}

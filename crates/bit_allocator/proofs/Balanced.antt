@@ -2,7 +2,7 @@
 use Rattle.std.proofs.Common.{◌≡◌, ◌≢◌, ℕ, suc, ◌+◌, ◌-◌, ◌≤◌, ◌<◌, Bool, true, false, not, ◌==◌, nat_le, List, [], ◌∷◌, ◌++◌, Some, None, length, get_or, set, replicate, max, inl, inr, refl, sym, ap, subst, ◌∙◌, arith}
 use Rattle.std.specs.Prelude.{is_some}
 use Rattle.std.proofs.lemmas.List.{get_or-set_same, get_or-set_other, get_or-replicate, length-set, length-append}
-use Rattle.std.proofs.lemmas.Bool.Decides.{eqb_tells, leb_tells, Decides-eqb, nat_tests}
+use Rattle.std.proofs.lemmas.Bool.Decides.{leb_tells, Decides-eqb, nat_tests}
 use Rattle.bit_allocator.specs.declared.competitor.Competitor.{Competitor}
 use Rattle.bit_allocator.specs.declared.stay.Stay.{Stay}
 use Rattle.bit_allocator.specs.declared.stay.Stay.TheVariants.{Seeking, Settled}
@@ -128,14 +128,10 @@ module _ (size : ℕ) (bits : List Bool) (cs : List Competitor) (id next : ℕ) 
       let p : IsPlaced size (Seeking next) = b.placed id (Seeking next) here in
       record {
         room = length-set bits next true ∙ b.room;
-        held = λ i h. elim (eqb_tells next i) [
-          | inl w ↦
-              let in_bits : next < length bits = omega (arith, b.room, b.last) in
-              rw (← w.1, get_or-set_same bits next true false in_bits, clear, (Decides-eqb next next).1 refl) refl
-          | inr w ↦
-              let other : i ≢ next = λ e. w.1 (sym e) in
-              rw (get_or-set_other bits next i true false other, w.0) (omega arith)
-        ];
+        held = λ i h.
+            let here_set = get_or-set_same bits next true false (omega (arith, below, b.room, b.last)) in
+            let spared = get_or-set_other bits next i true false in
+            grind (arith, nat_tests);
         spare = λ i h. get_or-set_other bits next i true false (λ e. omega (arith, below, h, e));
         reach = λ i h k. omega (arith, b.reach i h k);
         placed = (p.0, omega arith);
@@ -155,12 +151,10 @@ module _ (size : ℕ) (bits : List Bool) (cs : List Competitor) (id next : ℕ) 
       grind (arith, nat_tests)
 
   set_again : get_or bits next false ≡ true → (i : ℕ) → i < size → next < size → get_or (set bits next true) i false ≡ get_or bits i false
-  set_again was i h below = elim (eqb_tells i next) [
-    | inl w ↦
-        let in_bits : next < length bits = omega (arith, b.room, b.last) in
-        rw (w.1, get_or-set_same bits next true false in_bits, was) refl
-    | inr w ↦ get_or-set_other bits next i true false w.1
-  ]
+  set_again was i h below =
+      let here_set = get_or-set_same bits next true false (omega (arith, below, b.room, b.last)) in
+      let spared = get_or-set_other bits next i true false in
+      grind (arith, nat_tests)
 
   -- a further bit is probed next
   pub probed_missed : next + 1 < size → get_or bits next false ≡ true → IsProbed size bits (set bits next true) cs next (Seeking (next + 1))
@@ -223,15 +217,11 @@ balanced_left size bits after cs id number b here room clears spares beyond = re
   room = room;
   held = λ i h.
       let fewer : count (holds i) (without id cs) + one (number == i) ≡ count (holds i) cs = count-without (holds i) cs id (Settled number) here (b.apart id) in
-      elim (eqb_tells number i) [
-        | inl w ↦
-            let fewer_one : count (holds i) (without id cs) + 1 ≡ count (holds i) cs = rw w.0 at fewer in
-            let clear : get_or after i false ≡ false = rw w.1 at (clears (omega arith)) in
-            rw clear (omega (arith, b.held i h, one_most (get_or bits i false)))
-        | inr w ↦
-            let as_many : count (holds i) (without id cs) + 0 ≡ count (holds i) cs = rw w.0 at fewer in
-            rw (spares i h (λ e. w.1 (sym e))) (omega (arith, b.held i h))
-      ];
+      let before = b.held i h in
+      let clear = clears in
+      let spared = spares i h in
+      let most = one_most (get_or bits i false) in
+      grind (arith, nat_tests);
   spare = λ i h. beyond i h ∙ b.spare i h;
   crowd = omega (arith, length-filter (λ c. not (c.identity == id)) cs, b.crowd);
   reach = λ i h k. omega (arith, count-without (reaches i) cs id (Settled number) here (b.apart id), b.reach i h k);
@@ -274,13 +264,14 @@ balanced_widened size more bits after cs b above most m =
       first = omega (arith, b.first, above);
       last = most;
       room = m.room;
-      held = λ i h. elim (eqb_tells i size) [
-        | inl w ↦ rw (sym w.1) at m.last
-        | inr w ↦ elim (leb_tells i size) [
-          | inl v ↦ rw (m.others i w.1) (b.held i (let other = w.1 in let low = v.1 in omega arith))
-          | inr v ↦ rw (m.others i w.1, b.spare i (omega (arith, v.1))) (omega (arith, beyond i (omega (arith, v.1)), reaches-split i cs))
-        ]
-      ];
+      held = λ i h.
+          let last = m.last in
+          let others = m.others i in
+          let before : i < size → one (get_or bits i false) ≡ count (holds i) cs = b.held i in
+          let clear : size ≤ i → get_or bits i false ≡ false = b.spare i in
+          let none : size < i → count (reaches i) cs ≡ 0 = beyond i in
+          let all = reaches-split i cs in
+          grind (arith, nat_tests);
       spare = λ i h. m.others i (λ e. omega (arith, h, e, above)) ∙ b.spare i (omega (arith, h, above));
       crowd = omega (arith, b.crowd, above);
       reach = λ i h k. elim (leb_tells i size) [ inl v ↦ omega (arith, b.reach i h v.1, above) | inr v ↦ omega (arith, beyond i v.1, k) ];

@@ -38,18 +38,18 @@ module _ (f : Competitor → Bool) where
 
   pub count-with_stay : (cs : List Competitor) (id : ℕ) (old new : Stay) → stay_of id cs ≡ Some old → count f (with_stay id new cs) + one (f (competitor id old)) ≡ count f cs + one (f (competitor id new))
   count-with_stay [] id old new h = absurd (cc)
-  count-with_stay (c ∷ cs) id old new h = elim (eqb_tells c.identity id) [
-    | inl w ↦ let e : one (f c) ≡ one (f (competitor id old)) = ap (λ x. one (f x)) (head_is c cs id old w.1 (rw w.0 at h)) in rw w.0 (omega arith)
-    | inr w ↦ let i = count-with_stay cs id old new (rw w.0 at h) in rw w.0 (omega arith)
-  ]
+  count-with_stay (c ∷ cs) id old new h =
+      let rest : stay_of id cs ≡ Some old → count f (with_stay id new cs) + one (f (competitor id old)) ≡ count f cs + one (f (competitor id new)) = count-with_stay cs id old new in
+      let head = head_is c cs id old in
+      grind (arith, nat_tests)
 
   -- some competitor that passes
   pub count-one : (cs : List Competitor) (id : ℕ) (stay : Stay) → stay_of id cs ≡ Some stay → one (f (competitor id stay)) ≤ count f cs
   count-one [] id stay h = absurd (cc)
-  count-one (c ∷ cs) id stay h = elim (eqb_tells c.identity id) [
-    | inl w ↦ let e : one (f c) ≡ one (f (competitor id stay)) = ap (λ x. one (f x)) (head_is c cs id stay w.1 (rw w.0 at h)) in omega arith
-    | inr w ↦ let i = count-one cs id stay (rw w.0 at h) in omega arith
-  ]
+  count-one (c ∷ cs) id stay h =
+      let rest : stay_of id cs ≡ Some stay → one (f (competitor id stay)) ≤ count f cs = count-one cs id stay in
+      let head = head_is c cs id stay in
+      grind (arith, nat_tests)
 
   pub count-some : (cs : List Competitor) (id : ℕ) (stay : Stay) → stay_of id cs ≡ Some stay → f (competitor id stay) ≡ true → 1 ≤ count f cs
   count-some cs id stay h passes = rw passes at (count-one cs id stay h)
@@ -62,17 +62,11 @@ without-absent (c ∷ cs) id h =
 
 pub count-without : (f : Competitor → Bool) (cs : List Competitor) (id : ℕ) (stay : Stay) → stay_of id cs ≡ Some stay → count (is_of id) cs ≤ 1 → count f (without id cs) + one (f (competitor id stay)) ≡ count f cs
 count-without f [] id stay h a = absurd (cc)
-count-without f (c ∷ cs) id stay h a = elim (eqb_tells c.identity id) [
-  | inl w ↦
-      let e : one (f c) ≡ one (f (competitor id stay)) = ap (λ x. one (f x)) (head_is f c cs id stay w.1 (rw w.0 at h)) in
-      let k : 1 + count (is_of id) cs ≤ 1 = rw w.0 at a in
-      let rest : without id cs ≡ cs = without-absent cs id (omega arith) in
-      rw (w.0, rest) (omega arith)
-  | inr w ↦
-      let k : 0 + count (is_of id) cs ≤ 1 = rw w.0 at a in
-      let i = count-without f cs id stay (rw w.0 at h) (omega arith) in
-      rw w.0 (omega arith)
-]
+count-without f (c ∷ cs) id stay h a =
+    let rest : stay_of id cs ≡ Some stay → count (is_of id) cs ≤ 1 → count f (without id cs) + one (f (competitor id stay)) ≡ count f cs = count-without f cs id stay in
+    let head = head_is f c cs id stay in
+    let same = without-absent cs id in
+    grind (arith, nat_tests)
 
 pub count-absent : (cs : List Competitor) (id : ℕ) → stay_of id cs ≡ None → count (is_of id) cs ≡ 0
 count-absent [] id h = refl

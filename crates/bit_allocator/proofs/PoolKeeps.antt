@@ -16,7 +16,7 @@ use Rattle.bit_allocator.specs.declared.stay.Stay.TheVariants.{Seeking, Settled}
 use Rattle.bit_allocator.specs.Stay.{held_at}
 use Rattle.bit_allocator.specs.Competitors.{stay_of, with_stay, without, held_in, holder_in, holds_at}
 use Rattle.bit_allocator.specs.PoolState.{PoolState}
-use Rattle.bit_allocator.specs.Pool.{fresh_pool, enter_refusal, enter_answer, entered_unless, after_enter, probe_answer, probe_answer_by, after_probe, after_probe_by, number_answer, number_by, probe_refusal_by, after_leave, after_leave_by, widened_unless, after_widen, widen_answer}
+use Rattle.bit_allocator.specs.Pool.{fresh_pool, enter_refusal, enter_answer, entered_unless, after_enter, probe_answer_by, after_probe_by, number_answer, number_by, probe_refusal_by, after_leave_by, widened_unless, after_widen, widen_answer}
 use Rattle.bit_allocator.specs.Widening.{widen_refusal, widen_access}
 use Rattle.bit_allocator.specs.Calls.{Call}
 use Rattle.bit_allocator.specs.Calls.Call.{Entered, Probed, Left, Widened}
@@ -28,7 +28,7 @@ use Rattle.step_memory.proofs.SetAtLemmas.{set_at-other}
 use Rattle.bit_allocator.proofs.StayOfLemmas.{stay_of-without, length-identities}
 use Rattle.bit_allocator.proofs.Counts.{one, count, is_of, holds, count-some, count-without}
 use Rattle.bit_allocator.proofs.Balanced.{IsPlaced, IsBalanced, IsProbed, IsWidenedBits, NobodyHolds, held_once, balanced_widened, balanced_fresh, balanced_entered, balanced_probed, balanced_left, free_clear, probed_clear, probed_missed, free_last, probed_last, free_only, probed_only}
-use Rattle.bit_allocator.proofs.Tied.{IsTied, no_entry-is, number_in-is, no_probe-is, holder_competes, settled_at, unheld, tied_fresh, tied_entered, tied_missed, tied_got, tied_left, tied_widened}
+use Rattle.bit_allocator.proofs.Tied.{IsTied, no_entry-is, number_in-is, no_probe-is, holder_competes, settled_at, unheld, tied_fresh, tied_entered, tied_missed, tied_got, tied_left}
 
 -- the pool after these calls, and the object that may have given the same replies
 pub record Stands (first : ℕ) (w : PoolState) (r : List Call) : Type 0 where
@@ -181,7 +181,7 @@ module _ (first : ℕ) (w : PoolState) (r : List Call) (s : Stands first w r) wh
         record {
           object = after s.object (Widened more (Ok tt));
           run = gone_on (Widened more (Ok tt)) (rw n refl);
-          tied = tied_widened w.size more w.competitors s.object s.tied;
+          tied = record { size_is = refl; competing = s.tied.competing; held = s.tied.held; probes = s.tied.probes };
           balanced = balanced_widened w.size more w.bits.bits (after_access w.bits (widen_access w)).bits w.competitors s.balanced room.0 room.1 (widened_bits (holder_in w.size w.competitors) refl);
         }
   ] refl
@@ -253,21 +253,11 @@ holds_is n (Settled number) h = ap Some ((Decides-eqb number n).0 h)
 holder_holds : (cs : List Competitor) (n p : ℕ) → ((q : ℕ) → count (is_of q) cs ≤ 1) → holder_in n cs ≡ Some p → held_in p cs ≡ Some n
 holder_holds [] n p apart h = absurd (cc)
 holder_holds (c ∷ cs) n p apart h =
-    elim (cases_Bool (holds n c)) [
-      | inl w ↦
-          let e : c.identity ≡ p = (let k : Some c.identity ≡ Some p = rw w at h in cc) in
-          rw (e, (Decides-eqb p p).1 refl) (holds_is n c.stay w)
-      | inr w ↦
-          let k : holder_in n cs ≡ Some p = rw w at h in
-          let i : held_in p cs ≡ Some n = holder_holds cs n p (λ q. omega (arith, apart q)) k in
-          elim (eqb_tells c.identity p) [
-            | inl v ↦ absurd (
-                let one_more : 1 + count (is_of p) cs ≤ 1 = rw v.0 at (apart p) in
-                let some = count-some (is_of p) cs p (Settled n) (settled_at cs p n i) ((Decides-eqb p p).1 refl) in
-                omega arith)
-            | inr v ↦ rw v.0 i
-          ]
-    ]
+    let rest : holder_in n cs ≡ Some p → held_in p cs ≡ Some n = holder_holds cs n p (λ q. omega (arith, apart q)) in
+    let counted : held_in p cs ≡ Some n → 1 ≤ count (is_of p) cs = λ i. count-some (is_of p) cs p (Settled n) (settled_at cs p n i) ((Decides-eqb p p).1 refl) in
+    let own = holds_is n c.stay in
+    let alone = apart p in
+    grind (arith, nat_tests)
 
 pub holder_after : (first : ℕ) (w : PoolState) (r : List Call) (o : PoolObject) → After pool first w r → IsRun first r o → (n : ℕ) →
     MatchOption (holder_in n w.competitors) ((p : ℕ) → o.held p ≢ Some n) (λ p. o.held p ≡ Some n)

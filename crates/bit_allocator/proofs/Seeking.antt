@@ -1,5 +1,5 @@
 -- probes of the bits, one after the other, until one gets a number
-use Rattle.std.proofs.Common.{◌≡◌, ℕ, suc, ◌+◌, ◌<◌, ◌≤◌, ◌⊎◌, Bool, true, false, not, inl, inr, refl, get_or, arith}
+use Rattle.std.proofs.Common.{◌≡◌, ℕ, suc, ◌+◌, ◌<◌, ◌≤◌, ◌⊎◌, true, false, inl, inr, refl, get_or, arith}
 use Rattle.std.specs.Prelude.{nat_lt}
 use Rattle.std.proofs.lemmas.Bool.{le-leb}
 use Rattle.std.proofs.lemmas.Bool.Decides.{leb_tells}
@@ -43,11 +43,3 @@ module _ (size : ℕ) (first : Registers (Unit {0})) (bit : ℕ) (now : Register
       | inr k ↦ m.onward (inr (end, omega (arith, l.1))) size now (record { misses = 0; after = rw k.0 (refl, refl) })
     ]
   ]
-
-pub not_set : (b : Bool) → true ≡ not b → b ≡ false
-not_set true h = absurd (cc)
-not_set false h = refl
-
-pub set_then : (b : Bool) → false ≡ not b → b ≡ true
-set_then true h = refl
-set_then false h = absurd (cc)

@@ -1,11 +1,11 @@
 -- where each identity stands, after a call
-use Rattle.std.proofs.Common.{◌≡◌, ℕ, suc, Bool, true, false, not, ◌==◌, List, [], ◌∷◌, ◌++◌, Some, None, length, filter, cond, inl, inr, refl, sym, ap, ◌∙◌, arith}
+use Rattle.std.proofs.Common.{◌≡◌, ℕ, true, not, ◌==◌, List, [], ◌∷◌, ◌++◌, Some, None, length, filter, cond, inl, inr, refl, ◌∙◌, arith}
 use Rattle.std.specs.Prelude.{is_some}
 use Rattle.std.specs.List.{list_any}
 use Rattle.std.proofs.lemmas.Bool.Decides.{eqb_tells, nat_tests}
 use Rattle.std.proofs.lemmas.List.{map-append, length-map}
 use Rattle.step_memory.specs.SetAt.{set_at}
-use Rattle.step_memory.proofs.Roster.{eqb_flip, seen-push, seen-put}
+use Rattle.step_memory.proofs.Roster.{seen-push, seen-put}
 use Rattle.bit_allocator.specs.declared.competitor.Competitor.{Competitor}
 use Rattle.bit_allocator.specs.declared.stay.Stay.{Stay}
 use Rattle.bit_allocator.specs.Competitors.{identities, stay_of, with_stay, without}

@@ -129,7 +129,3 @@ tied_left size cs o id t = record {
     | inr w ↦ t.probes p m w.1
   ];
 }
-
--- the size alone is another
-pub tied_widened : (size more : ℕ) (cs : List Competitor) (o : PoolObject) → IsTied size cs o → IsTied more cs (record o { size = more })
-tied_widened size more cs o t = record { size_is = refl; competing = t.competing; held = t.held; probes = t.probes }

@@ -13,7 +13,7 @@ use Rattle.bit_allocator.specs.Locality.{probe_steps}
 use Rattle.bit_allocator.specs.PoolState.{PoolState}
 use Rattle.bit_allocator.proofs.PoolKeeps.{pool_law, pool_proved}
 use Rattle.bit_allocator.proofs.pool.Pool.probe.Goals as goal
-use Rattle.bit_allocator.proofs.pool.Pool.probe.Goals.{After-nth-stay, After-probed-stay}
+use Rattle.bit_allocator.proofs.pool.Pool.probe.Goals.{After-nth-stay}
 
 pub returns-in_default : goal.returns-in_default
 returns-in_default g c =
