@@ -1,6 +1,6 @@
 -- how many competitors pass a test
-use Rattle.std.proofs.Common.{◌≡◌, ℕ, suc, ◌+◌, ◌≤◌, Bool, true, false, ◌==◌, nat_le, List, [], ◌∷◌, ◌++◌, Some, None, length, filter, cond, inl, inr, refl, ap, ◌∙◌, arith}
-use Rattle.std.proofs.lemmas.Bool.Decides.{eqb_tells, Decides-eqb, nat_tests}
+use Rattle.std.proofs.Common.{◌≡◌, ℕ, suc, ◌+◌, ◌≤◌, Bool, true, false, ◌==◌, nat_le, List, [], ◌∷◌, ◌++◌, Some, None, length, filter, cond, refl, ap, ◌∙◌, arith}
+use Rattle.std.proofs.lemmas.Bool.Decides.{Decides-eqb, nat_tests}
 use Rattle.bit_allocator.specs.declared.competitor.Competitor.{Competitor}
 use Rattle.bit_allocator.specs.declared.stay.Stay.{Stay}
 use Rattle.bit_allocator.specs.declared.stay.Stay.TheVariants.{Seeking, Settled}
@@ -78,13 +78,11 @@ count-none f [] apart none = refl
 count-none f (c ∷ cs) apart none =
     let own : (c.identity == c.identity) ≡ true = (Decides-eqb c.identity c.identity).1 refl in
     let head : f c ≡ false = none c.identity c.stay (rw own refl) in
-    let rest : count f cs ≡ 0 = count-none f cs (λ p. omega (arith, apart p)) (λ p stay h. elim (eqb_tells c.identity p) [
-      | inl w ↦ absurd (
-          let alone : 1 + count (is_of p) cs ≤ 1 = rw w.0 at (apart p) in
-          let some = count-some (is_of p) cs p stay h ((Decides-eqb p p).1 refl) in
-          omega arith)
-      | inr w ↦ none p stay (rw w.0 h)
-    ]) in
+    let rest : count f cs ≡ 0 = count-none f cs (λ p. omega (arith, apart p)) (λ p stay h.
+    let some = count-some (is_of p) cs p stay h ((Decides-eqb p p).1 refl) in
+    let alone = apart p in
+    let there = none p stay in
+    grind (arith, nat_tests)) in
     rw head (omega (arith, rest))
 
 pub count-length : (f : Competitor → Bool) (cs : List Competitor) → count f cs ≤ length cs

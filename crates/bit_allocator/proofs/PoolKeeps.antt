@@ -1,10 +1,10 @@
 -- each call of a pool keeps the law
 use Rattle.std.proofs.Common.{◌≡◌, ◌≢◌, ℕ, suc, ◌+◌, ◌≤◌, ◌<◌, Bool, true, false, cond, ◌==◌, List, [], ◌∷◌, ◌++◌, Option, Some, None, Ok, Err, length, get_or, set, inl, inr, refl, sym, ap, subst, ◌∙◌, arith}
-use Rattle.std.specs.Prelude.{MatchOption, is_some, nat_le}
+use Rattle.std.specs.Prelude.{MatchOption, is_some}
 use Rattle.std.proofs.lemmas.Bool.{cases_Bool}
 use Rattle.std.proofs.lemmas.Bool.Decides.{eqb_tells, leb_tells, Decides-eqb, nat_tests}
 use Rattle.std.proofs.lemmas.List.{get_or-set_same, get_or-set_other, length-set}
-use Rattle.step_memory.specs.declared.refusal.Refusal.TheVariants.{ZeroIdentity, Crowded, NotCompeting, AlreadyCompeting, Holding, NotHolding}
+use Rattle.step_memory.specs.declared.refusal.Refusal.TheVariants.{NotCompeting, Holding, NotHolding}
 use Rattle.step_memory.specs.World.{done_unless}
 use Rattle.step_memory.specs.declared.access.Access.TheVariants.{TestAndSet, Nothing}
 use Rattle.step_memory.specs.Registers.{after_access}
@@ -43,13 +43,7 @@ pub record IsLetIn (w : PoolState) (id : ℕ) : Type 0 where
   pub room : length w.competitors < w.size
 
 pub let_in : (w : PoolState) (id : ℕ) → enter_refusal w id ≡ None → IsLetIn w id
-let_in w id h = record {
-  absent = elim (stay_of id w.competitors) as (λ o. cond (id == 0) (Some ZeroIdentity) (cond (is_some o) (Some AlreadyCompeting) (cond (nat_le w.size (length w.competitors)) (Some Crowded) None)) ≡ None → o ≡ None) [
-    | None ↦ λ _. refl
-    | Some v ↦ λ k. grind (arith, nat_tests)
-  ] h;
-  room = grind (arith, nat_tests);
-}
+let_in w id h = record { absent = grind (arith, nat_tests); room = grind (arith, nat_tests) }
 
 -- a pool that is let get more numbers has fewer, and gets 64 at most
 pub may_widen : (size more : ℕ) → widen_refusal size more ≡ None → (size < more) × (more ≤ 64)
