@@ -51,7 +51,8 @@ probes_run zero w id bit n bits here gets =
     (rw here (ap (λ s. Ok (probe_reply s)) (sym gets.0)), rw (here, gets.0, gets.1) refl)
 probes_run (suc misses) w id bit n bits here gets =
     let mid : PoolState = stood w (after_access w.bits (probe_access w.size (Seeking bit))) id (Seeking (bit + 1)) in
-    let stands : stay_of id mid.competitors ≡ Some (Seeking (bit + 1)) = stay_of-with_stay w.competitors id (Seeking (bit + 1)) (ap is_some here) id ∙ set_at-same (λ v. stay_of v w.competitors) id (Some (Seeking (bit + 1))) in
+    let stands : stay_of id mid.competitors ≡ Some (Seeking (bit + 1)) =
+    stay_of-with_stay w.competitors id (Seeking (bit + 1)) (ap is_some here) id ∙ set_at-same (λ v. stay_of v w.competitors) id (Some (Seeking (bit + 1))) in
     let rest = probes_run misses mid id (bit + 1) n bits stands gets.1 in
     (rw here (ap (λ s. Ok (probe_reply s)) (sym gets.0)), rw (here, gets.0, ← with_stay-twice id (Seeking (bit + 1)) (Settled n) w.competitors) rest)
 

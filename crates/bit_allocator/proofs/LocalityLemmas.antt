@@ -27,7 +27,8 @@ module _ {O : Type 0} (steps : OwnSteps O) (id : ℕ) (w : PoolState) where
   refused_local why = record { access = λ stay h. tt; reply = λ stay h. tt; own = λ stay h. tt; others = λ q n. refl; registers = λ stay h r spared. refl; absent = λ h. refl; size = refl }
 
   -- an accepted call of one who stands so
-  accepted_local : (stay : Stay) (cs : List Competitor) → stay_of id w.competitors ≡ Some stay → ((q : ℕ) → stay_of q cs ≡ set_at (λ v. stay_of v w.competitors) id (steps.stay w.size stay (got_in steps w stay)) q) →
+  accepted_local : (stay : Stay) (cs : List Competitor) → stay_of id w.competitors ≡ Some stay →
+      ((q : ℕ) → stay_of q cs ≡ set_at (λ v. stay_of v w.competitors) id (steps.stay w.size stay (got_in steps w stay)) q) →
       IsLocal steps id w (record { size = w.size; bits = after_access w.bits (steps.access w.size stay); competitors = cs }) (Ok (steps.reply w.size stay (got_in steps w stay)))
   accepted_local stay cs here stands =
       let own : (x : Stay) → stay_of id w.competitors ≡ Some x → stay ≡ x = λ x h. (let e : Some stay ≡ Some x = sym here ∙ h in cc) in
@@ -84,7 +85,8 @@ module _ (id : ℕ) (w : PoolState) where
 module _ (id : ℕ) (one other : PoolState) where
   -- pools that look alike to a competitor answer it alike, and it stands alike in them afterwards
   module _ (alike : LookAlike probe_steps id one other) where
-    probed_alike : (next : ℕ) → stay_of id one.competitors ≡ Some (Seeking next) → stay_probed one.size (Seeking next) (got_by one (Seeking next)) ≡ stay_probed other.size (Seeking next) (got_by other (Seeking next))
+    probed_alike : (next : ℕ) → stay_of id one.competitors ≡ Some (Seeking next) →
+        stay_probed one.size (Seeking next) (got_by one (Seeking next)) ≡ stay_probed other.size (Seeking next) (got_by other (Seeking next))
     probed_alike next here =
         ap (λ x. stay_found one.size next x) (answer_alike (register_of one.bits) (register_of other.bits) (probe_access one.size (Seeking next)) (alike.bit (Seeking next) here))
         ∙ ap (λ (n : ℕ). stay_found n next (answer_of other.bits (probe_access n (Seeking next)))) alike.size

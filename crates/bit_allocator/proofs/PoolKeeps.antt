@@ -84,7 +84,8 @@ module _ (first : ℕ) (w : PoolState) (r : List Call) (s : Stands first w r) wh
   ] refl
 
   -- an accepted probe gets this number
-  got_keeps : (id bit n : ℕ) (bits : List Bool) → stay_of id w.competitors ≡ Some (Seeking bit) → 1 ≤ n → n ≤ w.size → NobodyHolds n w.competitors → IsProbed w.size w.bits.bits bits w.competitors bit (Settled n) →
+  got_keeps : (id bit n : ℕ) (bits : List Bool) → stay_of id w.competitors ≡ Some (Seeking bit) → 1 ≤ n → n ≤ w.size → NobodyHolds n w.competitors →
+      IsProbed w.size w.bits.bits bits w.competitors bit (Settled n) →
       Stands first (record { size = w.size; bits = record w.bits { bits = bits }; competitors = with_stay id (Settled n) w.competitors }) (r ++ Probed id (Ok (Got n)) ∷ [])
   got_keeps id bit n bits here low high none probed = record {
     object = after s.object (Probed id (Ok (Got n)));
@@ -103,21 +104,25 @@ module _ (first : ℕ) (w : PoolState) (r : List Call) (s : Stands first w r) wh
       elim (leb_tells (suc bit) w.size) [
         | inr end ↦
             let past : w.size ≤ bit = omega (arith, end.1) in
-            rw end.0 (got_keeps id bit w.size w.bits.bits here s.balanced.first (omega arith) (free_only w.size w.bits.bits w.competitors id bit s.balanced here past) (probed_only w.size w.bits.bits w.competitors id bit s.balanced here past))
+            rw end.0 (got_keeps id bit w.size w.bits.bits here s.balanced.first (omega arith) (free_only w.size w.bits.bits w.competitors id bit s.balanced here past)
+            (probed_only w.size w.bits.bits w.competitors id bit s.balanced here past))
         | inl below ↦
             let lt : bit < w.size = omega (arith, below.1) in
             elim (cases_Bool (get_or w.bits.bits bit false)) [
-              | inr clear ↦ rw (below.0, clear) (got_keeps id bit bit set_bit here p.0 (omega arith) (free_clear w.size w.bits.bits w.competitors id bit s.balanced here lt clear) (probed_clear w.size w.bits.bits w.competitors id bit s.balanced here lt clear))
+              | inr clear ↦ rw (below.0, clear) (got_keeps id bit bit set_bit here p.0 (omega arith) (free_clear w.size w.bits.bits w.competitors id bit s.balanced here lt clear)
+                  (probed_clear w.size w.bits.bits w.competitors id bit s.balanced here lt clear))
               | inl was ↦ elim (leb_tells (suc (bit + 1)) w.size) [
                 | inl more ↦ rw (below.0, was, more.0) (record {
                   object = after s.object (Probed id (Ok Missed));
                   run = gone_on (Probed id (Ok Missed)) (no_probe-is w.size w.competitors s.object s.tied id ∙ ap probe_refusal_by here, λ e. omega (arith, more.1, e, s.tied.probes id bit here, s.tied.size_is));
                   tied = tied_missed w.size w.competitors s.object id bit s.tied here;
-                  balanced = balanced_probed w.size w.bits.bits set_bit w.competitors id bit (Seeking (bit + 1)) s.balanced here (probed_missed w.size w.bits.bits w.competitors id bit s.balanced here (omega (arith, more.1)) was);
+                  balanced = balanced_probed w.size w.bits.bits set_bit w.competitors id bit (Seeking (bit + 1)) s.balanced here
+                      (probed_missed w.size w.bits.bits w.competitors id bit s.balanced here (omega (arith, more.1)) was);
                 })
                 | inr end ↦
                     let past : w.size ≤ bit + 1 = omega (arith, end.1) in
-                    rw (below.0, was, end.0) (got_keeps id bit w.size set_bit here s.balanced.first (omega arith) (free_last w.size w.bits.bits w.competitors id bit s.balanced here lt past was) (probed_last w.size w.bits.bits w.competitors id bit s.balanced here lt past was))
+                    rw (below.0, was, end.0) (got_keeps id bit w.size set_bit here s.balanced.first (omega arith) (free_last w.size w.bits.bits w.competitors id bit s.balanced here lt past was)
+                    (probed_last w.size w.bits.bits w.competitors id bit s.balanced here lt past was))
               ]
             ]
       ]

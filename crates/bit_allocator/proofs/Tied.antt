@@ -105,7 +105,8 @@ module _ (size : ℕ) (cs : List Competitor) (o : PoolObject) (id next : ℕ) (t
         size_is = t.size_is;
         competing = t.competing ∙ sym (identities-with_stay cs id (Seeking (next + 1)));
         held = held_still size cs (with_stay id (Seeking (next + 1)) cs) o id (Some (Seeking (next + 1))) t stands (ap held_by_stay here) refl;
-        probes = probes_then size cs (with_stay id (Seeking (next + 1)) cs) o id (Some (Seeking (next + 1))) t stands (o.probes id + 1) (λ m h. let e : next + 1 ≡ m = cc in omega (arith, t.probes id next here, e));
+        probes = probes_then size cs (with_stay id (Seeking (next + 1)) cs) o id (Some (Seeking (next + 1))) t stands (o.probes id + 1)
+            (λ m h. let e : next + 1 ≡ m = cc in omega (arith, t.probes id next here, e));
       }
 
   pub tied_got : (n : ℕ) → IsTied size (with_stay id (Settled n) cs) (record o { held = set_at o.held id (Some n); probes = set_at o.probes id (o.probes id + 1) })

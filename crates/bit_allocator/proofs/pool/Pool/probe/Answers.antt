@@ -17,7 +17,8 @@ use Rattle.bit_allocator.proofs.pool.Pool.probe.Goals.{After-nth-stay}
 
 pub returns-in_default : goal.returns-in_default
 returns-in_default g c =
-    let absent : stay_of c.args.id c.args.self.now.competitors ≡ None = roster.absent (λ x. x.identity) (λ x. x.stay) c.args.id c.args.self.now.competitors refl (ap (λ w. w.competitors) c.self.view_is) c.in_default.ensures.answer in
+    let absent : stay_of c.args.id c.args.self.now.competitors ≡ None =
+    roster.absent (λ x. x.identity) (λ x. x.stay) c.args.id c.args.self.now.competitors refl (ap (λ w. w.competitors) c.self.view_is) c.in_default.ensures.answer in
     let answer : Err NotCompeting ≡ probe_answer c.args.self.now c.args.id = rw absent refl in
     let state : c.args.self.now ≡ after_probe c.args.self.now c.args.id = rw absent refl in
     record {
@@ -64,7 +65,8 @@ returns g c =
     let got = rw (c.unwrap-got.ensures, access, m, z) at c.access.ensures.answer in
     let bits : c.access.new.self ≡ after_access c.args.self.now.bits (probe_access c.args.self.now.size stay) = rw (c.unwrap-got.ensures, access, m, z) at c.access.ensures.after in
     let probed : c.probed-stay.result ≡ stay_probed c.args.self.now.size stay (got_by c.args.self.now stay) = rw (got, z) at c.probed-stay.ensures in
-    let answer : Ok c.probe_reply.result ≡ probe_answer c.args.self.now c.args.id = ap Ok (c.probe_reply.ensures ∙ ap probe_reply probed) ∙ sym (going_answer c.args.self.now c.args.id stay f.is c.in_default-stay.not-Settled) in
+    let answer : Ok c.probe_reply.result ≡ probe_answer c.args.self.now c.args.id = ap Ok (c.probe_reply.ensures ∙ ap probe_reply probed)
+    ∙ sym (going_answer c.args.self.now c.args.id stay f.is c.in_default-stay.not-Settled) in
     let new : PoolState = record { size = c.self.inside.size; bits = c.access.new.self; competitors = c.put.new.self } in
     let state : new ≡ after_probe c.args.self.now c.args.id = rw (going_after c.args.self.now c.args.id stay f.is c.in_default-stay.not-Settled) (rw (c.put.ensures.put, bits, z, v, probed) refl) in
     record {
