@@ -193,7 +193,8 @@ module _ {S : Type 0} (memory : MemorySteps S TreeRegister TreeValue) (tree : Is
       | Some v ↦ λ e. rw (e, begun_as (Some v) e, place_as v e, collects_as v e, idle_is v.program.task (t.tied.clients id v e).stores) refl
     ] refl
 
-    collect_is_due : (reply : Result (Option (List (ℕ × ℕ))) Refusal) (new : TreeState S) → IsRefused reply w new (HindersHere memory w id is_collecting Finished) ⊎ IsCollectStep memory w id reply new → IsTreeRefusedAsDue most r (CollectStepped id reply)
+    collect_is_due : (reply : Result (Option (List (ℕ × ℕ))) Refusal) (new : TreeState S) →
+        IsRefused reply w new (HindersHere memory w id is_collecting Finished) ⊎ IsCollectStep memory w id reply new → IsTreeRefusedAsDue most r (CollectStepped id reply)
     collect_is_due reply new (inr x) = rw (x.is, begun_as (Some x.who) x.here, collects_as x.who x.here, x.task) refl
     collect_is_due reply new (inl x) = rw x.is (elim x.cause [
       | inl a ↦ rw (begun_as None a.0, a.1) refl
@@ -216,7 +217,8 @@ module _ {S : Type 0} (memory : MemorySteps S TreeRegister TreeValue) (tree : Is
       let call : TreeCall = Stored id value reply in
       counted_next w r call is (elim (store_cases memory w id value reply is) [
         | inl x ↦ counts_same w call (λ p. refl) (after_store memory w id value) x.same (λ p b. refl)
-        | inr x ↦ rw x.after (counts_turned w call (λ p. refl) (memory.after w.memory (write_at (place_of x.who.program.walker) (record_of x.who.program value))) id x.who (with_task x.who.program Nothing) x.here (sym (ap is_collecting x.task)) (λ p b n. refl))
+        | inr x ↦ rw x.after (counts_turned w call (λ p. refl) (memory.after w.memory (write_at (place_of x.who.program.walker) (record_of x.who.program value)))
+            id x.who (with_task x.who.program Nothing) x.here (sym (ap is_collecting x.task)) (λ p b n. refl))
       ]) (is ∙ ap done_unless (asking_is w r id t)) t
   call_counted w r (CollectBegan id reply) t is =
       let call : TreeCall = CollectBegan id reply in

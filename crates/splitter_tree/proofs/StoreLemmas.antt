@@ -44,14 +44,16 @@ write_fits m None r = refl
 write_fits m (Some place) r = refl
 
 -- so its step has no error
-pub store_goes_well : (w v : TreeState NodeMap) (id value : ℕ) (c : Client) → Some c ≡ program_of id w.participants → v ≡ after_set w id (storing c value) → (result : Result (Note TreeReply) Refusal) (why : Refusal) → result ≡ Err why →
+pub store_goes_well : (w v : TreeState NodeMap) (id value : ℕ) (c : Client) → Some c ≡ program_of id w.participants → v ≡ after_set w id (storing c value) →
+    (result : Result (Note TreeReply) Refusal) (why : Refusal) → result ≡ Err why →
     (result ≢ Err NoMemory → result ≡ step_answer client_steps tree_steps v id) → (result ≡ Err NoMemory → may_refuse_step client_steps tree_steps v id ≡ true) → ⊥
 store_goes_well w v id value c some e result why is answer lacks = elim (lacks_or_not result) [
   | inr goes ↦ let ok : result ≡ Ok (Said Stored) = answer goes ∙ rw (e, asked_stands w id value c some) refl in absurd (cc)
   | inl lack ↦ let never : true ≡ false = sym (lacks lack) ∙ rw (e, asked_stands w id value c some) (write_fits w.memory (place_of c.walker) (record_of c value)) in absurd (cc)
 ]
 
-pub local_store : {S : Type 0} (memory : MemorySteps S TreeRegister TreeValue) (w v new : TreeState S) (id value : ℕ) (c : Client) → Some c ≡ program_of id w.participants → v ≡ after_set w id (storing c value) → IsLocal client_steps memory id v new → IsLocalStore memory id w new
+pub local_store : {S : Type 0} (memory : MemorySteps S TreeRegister TreeValue) (w v new : TreeState S) (id value : ℕ) (c : Client) →
+    Some c ≡ program_of id w.participants → v ≡ after_set w id (storing c value) → IsLocal client_steps memory id v new → IsLocalStore memory id w new
 local_store memory w v new id value c some e local = record {
   most = local.most ∙ ap (λ u. u.most) e;
   others = λ q n. local.others q n ∙ ap (λ u. participant_of q u.participants) e ∙ asked_put w id value c some q ∙ set_at-other (λ k. participant_of k w.participants) id (Some (beginner id (storing c value))) q n;

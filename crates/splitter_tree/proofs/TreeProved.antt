@@ -68,7 +68,8 @@ tree_begins w new id reply = call_leads_on tree w new (Began id reply)
 
 lacks_no_place : (w : TreeWorldState) (id : ℕ) (o : Option Client) → lacked_memory (place_answer_by tree_steps w id o) ≡ false
 lacks_no_place w id None = refl
-lacks_no_place w id (Some c) = elim (is_placing c.task) as (λ b. lacked_memory (cond b (reply_of place_told (step_answer client_steps tree_steps w id)) (Err Finished)) ≡ false) [ true ↦ lacks_none client_steps tree_steps place_told w id | false ↦ refl ]
+lacks_no_place w id (Some c) = elim (is_placing c.task) as (λ b. lacked_memory (cond b (reply_of place_told (step_answer client_steps tree_steps w id)) (Err Finished)) ≡ false)
+    [ true ↦ lacks_none client_steps tree_steps place_told w id | false ↦ refl ]
 
 pub tree_goes_on : (w new : TreeWorldState) (id : ℕ) (reply : Result (Option ℕ) Refusal) → (reply ≢ Err NoMemory → new ≡ after_placing tree_steps w id) → (reply ≢ Err NoMemory → reply ≡ place_answer tree_steps w id) →
     (reply ≡ Err NoMemory → new ≡ w) → (reply ≡ Err NoMemory → may_lack_memory tree_steps w id ≡ true) → LeadsOn tree w new (Stepped id reply)
@@ -87,7 +88,8 @@ tree_stores w new id value reply = call_leads_on tree w new (Stored id value rep
 pub tree_collects : (w new : TreeWorldState) (id : ℕ) (reply : Result (Unit {0}) Refusal) → new ≡ after_collect_begin w id → reply ≡ done_unless (asking_refusal w id) → LeadsOn tree w new (CollectBegan id reply)
 tree_collects w new id reply = call_leads_on tree w new (CollectBegan id reply)
 
-pub tree_reads_on : (w new : TreeWorldState) (id : ℕ) (reply : Result (Option (List (ℕ × ℕ))) Refusal) → new ≡ after_collecting tree_steps w id → reply ≡ view_answer tree_steps w id → LeadsOn tree w new (CollectStepped id reply)
+pub tree_reads_on : (w new : TreeWorldState) (id : ℕ) (reply : Result (Option (List (ℕ × ℕ))) Refusal) → new ≡ after_collecting tree_steps w id → reply ≡ view_answer tree_steps w id →
+    LeadsOn tree w new (CollectStepped id reply)
 tree_reads_on w new id reply = call_leads_on tree w new (CollectStepped id reply)
 
 -- where a participant stands after its step in two worlds that look alike to it

@@ -88,7 +88,8 @@ module _ {S : Type 0} (memory : MemorySteps S TreeRegister TreeValue) (tree : Is
 
     few_places : (n : ℕ) → count_to (λ q. is_some (place_now w q)) n ≤ 64
     few_places n =
-        let le = count_le (λ q. is_some (place_now w q)) (λ q. is_some (participant_of q w.participants)) (λ q. elim (participant_of q w.participants) as (λ v. is_some (place_by (walker_in v)) ≡ true → is_some v ≡ true) [ None ↦ λ k. absurd (cc) | Some v ↦ λ k. refl ]) n in
+        let le = count_le (λ q. is_some (place_now w q)) (λ q. is_some (participant_of q w.participants))
+        (λ q. elim (participant_of q w.participants) as (λ v. is_some (place_by (walker_in v)) ≡ true → is_some v ≡ true) [ None ↦ λ k. absurd (cc) | Some v ↦ λ k. refl ]) n in
         omega (arith, le, few_begun w.participants n, x.counted.tied.consistent.room, x.counted.tied.consistent.few)
 
     -- one who begins
@@ -119,7 +120,8 @@ module _ {S : Type 0} (memory : MemorySteps S TreeRegister TreeValue) (tree : Is
         (λ d h. absurd (let never : None ≡ Some d = sym (not_walking (is_placed (walker_note u (got_on memory w id u)))) ∙ h in cc)) (λ q d _ h. x.agrees.under_way q d h)))
 
     -- a participant that keeps its walk, over a memory with the same registers, begins a collect or goes on with it
-    asked : (s : S) → ((q : TreeRegister) → memory.register s q ≡ memory.register w.memory q) → (id : ℕ) (who : Participant Client) (c : Client) → participant_of id w.participants ≡ Some who → c.walker ≡ who.program.walker →
+    asked : (s : S) → ((q : TreeRegister) → memory.register s q ≡ memory.register w.memory q) →
+        (id : ℕ) (who : Participant Client) (c : Client) → participant_of id w.participants ≡ Some who → c.walker ≡ who.program.walker →
         (collects : ℕ → Bool) (since steps : ℕ → ℕ) → ((q : ℕ) → q ≢ id → (since q ≡ o.since q) × (steps q ≡ o.steps q)) →
         ((d : Collect) → collect_of c.task ≡ Some d → UnderWay (marked_in memory w.memory) (place_now w) o.moment o.last (since id) (steps id) d) →
         Agrees memory (turned w s id c) (record { begun = o.begun; last = o.last; moment = o.moment; collects = collects; since = since; steps = steps })
@@ -176,7 +178,8 @@ module _ {S : Type 0} (memory : MemorySteps S TreeRegister TreeValue) (tree : Is
       reads_on : (d : Collect) → collect_of (task_after (collect_after c got) (collect_view c got)) ≡ Some d → UnderWay (marked_in memory w.memory) (place_now w) o.moment o.last (o.since id) (o.steps id + 1) d
       reads_on d h = elim (cases_Bool (walk_is_over c.walk got)) [
         | inl over ↦ absurd (let never : None ≡ Some d = rw over at h in cc)
-        | inr on ↦ let same : Some (collect_after c got) ≡ Some d = rw on at h in let is : collect_after c got ≡ d = cc in subst (λ (y : Collect). UnderWay (marked_in memory w.memory) (place_now w) o.moment o.last (o.since id) (o.steps id + 1) y) is (onward on)
+        | inr on ↦ let same : Some (collect_after c got) ≡ Some d = rw on at h in let is : collect_after c got ≡ d = cc in
+            subst (λ (y : Collect). UnderWay (marked_in memory w.memory) (place_now w) o.moment o.last (o.since id) (o.steps id + 1) y) is (onward on)
       ]
 
     -- what a call is allowed and leaves

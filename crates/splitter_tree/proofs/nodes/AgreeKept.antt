@@ -23,7 +23,8 @@ down_entered (Gone Down) h = refl
 down_entered s h = absurd (cc)
 
 -- a walk agrees with visits still where its own are as before, and no mark and nobody's coming is lost
-walk_still : (mark mark' : ℕ → ℕ) (stage stage' : ℕ → ℕ → Stage) (came came' : ℕ → ℕ → Bool) (p : ℕ) (u : Walker) → ((k : ℕ) → mark k ≡ 1 → mark' k ≡ 1) → ((k : ℕ) → stage' k p ≡ stage k p) → ((k : ℕ) → came k p ≡ true → came' k p ≡ true) →
+walk_still : (mark mark' : ℕ → ℕ) (stage stage' : ℕ → ℕ → Stage) (came came' : ℕ → ℕ → Bool) (p : ℕ) (u : Walker) →
+    ((k : ℕ) → mark k ≡ 1 → mark' k ≡ 1) → ((k : ℕ) → stage' k p ≡ stage k p) → ((k : ℕ) → came k p ≡ true → came' k p ≡ true) →
     IsWalkOf mark stage came p u → IsWalkOf mark' stage' came' p u
 walk_still mark mark' stage stage' came came' p u marks stages comes w = record {
   identity = w.identity;

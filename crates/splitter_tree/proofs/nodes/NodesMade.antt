@@ -83,14 +83,16 @@ module _ {S : Type 0} (memory : MemorySteps S TreeRegister TreeValue) (tree : Is
           | inr x ↦ spared_marks w (after_collecting memory w id) _ (ap (λ (y : TreeState S). y.memory) x.after) (read_spares memory tree w.memory (collect_reads x.collect))
         ]) (λ never. never)
 
-  pub marked_made : (first : S) (most : ℕ) (w : TreeState S) (r : List TreeCall) → IsEmptyTree memory first → most ≤ 64 → Run (next memory) (IsReply memory) (fresh_over memory (first, most)) r w → (k : ℕ) → (mark_at memory w.memory k ≡ 1) ↔ WasMade memory first most r k
+  pub marked_made : (first : S) (most : ℕ) (w : TreeState S) (r : List TreeCall) → IsEmptyTree memory first → most ≤ 64 → Run (next memory) (IsReply memory) (fresh_over memory (first, most)) r w →
+      (k : ℕ) → (mark_at memory w.memory k ≡ 1) ↔ WasMade memory first most r k
   marked_made first most w r empty few a k =
       let over = run_gathers (next memory) (IsReply memory) (IsTied memory tree) (call_kept memory tree) (λ u h. Marks memory u h k) (λ u. mark_at memory u.memory k ≡ 1)
       (λ u past h t is. one_call u past t h is k) (fresh_over memory (first, most)) [] r w (tied_new memory tree first most empty few) a in
       (λ some. elim (over.0 some) [ inl was ↦ was | inr stood ↦ absurd (let none = empty.unmarked k in let both : 0 ≡ 1 = sym none ∙ stood in cc) ], λ was. over.1 (inl was))
 
   -- of these, all lie at depths below the number of those who have begun
-  pub made_within : (first : S) (most : ℕ) (w : TreeState S) (r : List TreeCall) → IsEmptyTree memory first → most ≤ 64 → Run (next memory) (IsReply memory) (fresh_over memory (first, most)) r w → (k : ℕ) → WasMade memory first most r k → IsNodeWithin (begun_in (way_calls r)) k
+  pub made_within : (first : S) (most : ℕ) (w : TreeState S) (r : List TreeCall) → IsEmptyTree memory first → most ≤ 64 → Run (next memory) (IsReply memory) (fresh_over memory (first, most)) r w →
+      (k : ℕ) → WasMade memory first most r k → IsNodeWithin (begun_in (way_calls r)) k
   made_within first most w r empty few a k was =
       let set : mark_at memory w.memory k ≡ 1 = (marked_made first most w r empty few a k).1 was in
       (tree_of_tied memory tree w r (tied_after memory tree first most w r empty few a)).made k (λ e. absurd (let both : 0 ≡ 1 = sym e ∙ set in cc))

@@ -99,7 +99,8 @@ module _ {S : Type 0} (w : TreeState S) (s : S) (id : ℕ) (who : Participant Cl
   pub walkers_kept : c.walker ≡ who.program.walker → walkers (turned w s id c).participants ≡ walkers w.participants
   walkers_kept walk = walkers_turned ∙ set_at-as_is (walkers w.participants) id (Some c.walker) (ap (λ (u : Walker). Some u) walk ∙ sym (ap walker_in here))
 
-  clients_turned : ((p : ℕ) (u : Participant Client) → participant_of p w.participants ≡ Some u → IsClient u) → IsClient (beginner id c) → (p : ℕ) (u : Participant Client) → participant_of p (turned w s id c).participants ≡ Some u → IsClient u
+  clients_turned : ((p : ℕ) (u : Participant Client) → participant_of p w.participants ≡ Some u → IsClient u) → IsClient (beginner id c) →
+      (p : ℕ) (u : Participant Client) → participant_of p (turned w s id c).participants ≡ Some u → IsClient u
   clients_turned old new p u h = set_at-cases (λ z. participant_of z w.participants) id (Some (beginner id c)) (λ o. o ≡ Some u → IsClient u) p
       (λ _ k. let same : beginner id c ≡ u = cc in subst IsClient same new) (λ _ k. old p u k) (sym (turned_stands w s id c who here p) ∙ h)
 
@@ -123,7 +124,8 @@ module _ {S : Type 0} (memory : MemorySteps S TreeRegister TreeValue) (tree : Is
   all_go w r t id v e = (t.clients id v e).goes
 
   -- a call of `begin` or `step` that is refused
-  refused_way : (w : TreeState S) (r : List TreeCall) (h : TreeCall) (k : Call (Option ℕ)) → way_calls (h ∷ []) ≡ k ∷ [] → ((p : ℕ) → steps_by p k ≡ 0) → ((p : ℕ) → outcome_by p k ≡ None) → begun_by k ≡ 0 → IsTied w r → IsTied w (r ++ h ∷ [])
+  refused_way : (w : TreeState S) (r : List TreeCall) (h : TreeCall) (k : Call (Option ℕ)) → way_calls (h ∷ []) ≡ k ∷ [] →
+      ((p : ℕ) → steps_by p k ≡ 0) → ((p : ℕ) → outcome_by p k ≡ None) → begun_by k ≡ 0 → IsTied w r → IsTied w (r ++ h ∷ [])
   refused_way w r h k is none quiet nobody t =
       let way : way_calls (r ++ h ∷ []) ≡ way_calls r ++ k ∷ [] = way_calls-append r (h ∷ []) ∙ ap (λ c. way_calls r ++ c) is in
       record {
@@ -138,7 +140,8 @@ module _ {S : Type 0} (memory : MemorySteps S TreeRegister TreeValue) (tree : Is
   refused_other w r h none t = record { consistent = t.consistent; begun_is = rw (no_way r h none) t.begun_is; clients = t.clients; told = rw (no_way r h none) t.told }
 
   -- a call that is no step on the way, of one who has its place
-  aside_kept : (w : TreeState S) (s : S) (id : ℕ) (who : Participant Client) (c : Client) → participant_of id w.participants ≡ Some who → (r : List TreeCall) (h : TreeCall) → c.walker ≡ who.program.walker → is_placing who.program.task ≡ false → is_placing c.task ≡ false → is_storing c.task ≡ false →
+  aside_kept : (w : TreeState S) (s : S) (id : ℕ) (who : Participant Client) (c : Client) → participant_of id w.participants ≡ Some who →
+      (r : List TreeCall) (h : TreeCall) → c.walker ≡ who.program.walker → is_placing who.program.task ≡ false → is_placing c.task ≡ false → is_storing c.task ≡ false →
       SparesNodes memory w.memory s → way_calls (h ∷ []) ≡ [] → IsTied w r → IsTied (turned w s id c) (r ++ h ∷ [])
   aside_kept w s id who c here r h walk placed placing stores spares none t =
       let way = no_way r h none in
@@ -152,7 +155,8 @@ module _ {S : Type 0} (memory : MemorySteps S TreeRegister TreeValue) (tree : Is
       }
 
   -- one who begins
-  begun_kept : (w : TreeState S) (r : List TreeCall) (id : ℕ) → IsLetIn w id → IsTied w r → IsTied (record { memory = w.memory; most = w.most; participants = w.participants ++ beginner id (client_of id) ∷ [] }) (r ++ TreeBegan id (Ok tt) ∷ [])
+  begun_kept : (w : TreeState S) (r : List TreeCall) (id : ℕ) → IsLetIn w id → IsTied w r →
+      IsTied (record { memory = w.memory; most = w.most; participants = w.participants ++ beginner id (client_of id) ∷ [] }) (r ++ TreeBegan id (Ok tt) ∷ [])
   begun_kept w r id in_ t =
       let new : Participant Client = beginner id (client_of id) in
       let way : way_calls (r ++ TreeBegan id (Ok tt) ∷ []) ≡ way_calls r ++ Began id (Ok tt) ∷ [] = way_calls-append r (TreeBegan id (Ok tt) ∷ []) in
@@ -169,7 +173,9 @@ module _ {S : Type 0} (memory : MemorySteps S TreeRegister TreeValue) (tree : Is
       }
 
   -- an accepted step on the way to a place
-  going_kept : (w : TreeState S) (r : List TreeCall) (id : ℕ) (reply : Result (Option ℕ) Refusal) (new : TreeState S) (x : IsStep memory w id reply new) → IsTied w r → IsTied (turned w (memory.after w.memory (next_access x.who.program.walker)) id (walked_on memory w id x.who.program.walker)) (r ++ TreeStepped id (Ok (outcome_in (walker_note x.who.program.walker (got_on memory w id x.who.program.walker)))) ∷ [])
+  going_kept : (w : TreeState S) (r : List TreeCall) (id : ℕ) (reply : Result (Option ℕ) Refusal) (new : TreeState S) (x : IsStep memory w id reply new) → IsTied w r →
+      IsTied (turned w (memory.after w.memory (next_access x.who.program.walker)) id (walked_on memory w id x.who.program.walker))
+      (r ++ TreeStepped id (Ok (outcome_in (walker_note x.who.program.walker (got_on memory w id x.who.program.walker)))) ∷ [])
   going_kept w r id reply new x t =
       let u : Walker = x.who.program.walker in
       let got : Answer TreeValue = got_on memory w id u in
