@@ -1,11 +1,12 @@
 -- one who enters and gets a number by the probes of its bits makes the calls of a stay
-use Rattle.std.proofs.Common.{◌≡◌, ℕ, zero, suc, ◌+◌, ◌==◌, true, List, [], ◌∷◌, ◌++◌, replicate, Some, None, Ok, inl, inr, refl, sym, ap, subst, ◌∙◌}
+use Rattle.std.proofs.Common.{◌≡◌, ℕ, zero, suc, ◌+◌, ◌==◌, List, [], ◌∷◌, ◌++◌, replicate, Some, None, Ok, refl, sym, ap, ◌∙◌, arith}
 use Rattle.std.specs.Prelude.{is_some}
-use Rattle.std.proofs.lemmas.Bool.Decides.{eqb_tells, Decides-eqb}
+use Rattle.std.proofs.lemmas.Bool.Decides.{nat_tests}
 use Rattle.step_memory.specs.RegisterState.{Registers}
 use Rattle.step_memory.specs.Registers.{after_access}
 use Rattle.step_memory.specs.Runs.{Run}
 use Rattle.step_memory.proofs.RunLemmas.{run_more, run_keeps}
+use Rattle.step_memory.proofs.SetAtLemmas.{set_at-same}
 use Rattle.bit_allocator.specs.declared.competitor.Competitor.{Competitor}
 use Rattle.bit_allocator.specs.declared.probe.Probe.TheVariants.{Missed, Got}
 use Rattle.bit_allocator.specs.declared.stay.Stay.{Stay}
@@ -13,7 +14,7 @@ use Rattle.bit_allocator.specs.declared.stay.Stay.TheVariants.{Seeking, Settled}
 use Rattle.bit_allocator.specs.Stay.{probe_access, probe_reply}
 use Rattle.bit_allocator.specs.Competitors.{stay_of, with_stay}
 use Rattle.bit_allocator.specs.PoolState.{PoolState}
-use Rattle.bit_allocator.specs.Pool.{fresh_pool, enter_refusal, after_probe, probe_answer}
+use Rattle.bit_allocator.specs.Pool.{fresh_pool, enter_refusal}
 use Rattle.bit_allocator.specs.Calls.{Call}
 use Rattle.bit_allocator.specs.Calls.Call.{Probed}
 use Rattle.bit_allocator.specs.Machine.{next, IsReply, pool}
@@ -30,18 +31,14 @@ run_on step Right s mid end r t run on = run_keeps step Right (λ m past. Run st
 -- of two states of one identity the second stays
 with_stay-twice : (id : ℕ) (a b : Stay) (cs : List Competitor) → with_stay id b (with_stay id a cs) ≡ with_stay id b cs
 with_stay-twice id a b [] = refl
-with_stay-twice id a b (c ∷ cs) = elim (eqb_tells c.identity id) [
-  | inl w ↦ let own : (id == id) ≡ true = (Decides-eqb id id).1 refl in rw (w.0, own) refl
-  | inr w ↦ rw (w.0, w.0) (ap (λ xs. c ∷ xs) (with_stay-twice id a b cs))
-]
+with_stay-twice id a b (c ∷ cs) = let rest = with_stay-twice id a b cs in grind (arith, nat_tests)
 
 -- another state of the last
 with_stay-push : (cs : List Competitor) (id : ℕ) (a b : Stay) → stay_of id cs ≡ None → with_stay id b (cs ++ competitor id a ∷ []) ≡ cs ++ competitor id b ∷ []
-with_stay-push [] id a b absent = let own : (id == id) ≡ true = (Decides-eqb id id).1 refl in rw own refl
-with_stay-push (c ∷ cs) id a b absent = elim (eqb_tells c.identity id) [
-  | inl w ↦ absurd (let k : Some c.stay ≡ None = rw w.0 at absent in cc)
-  | inr w ↦ rw w.0 (ap (λ xs. c ∷ xs) (with_stay-push cs id a b (rw w.0 at absent)))
-]
+with_stay-push [] id a b absent = grind (arith, nat_tests)
+with_stay-push (c ∷ cs) id a b absent =
+    let rest : stay_of id cs ≡ None → with_stay id b (cs ++ competitor id a ∷ []) ≡ cs ++ competitor id b ∷ [] = with_stay-push cs id a b in
+    grind (arith, nat_tests)
 
 -- the pool with these bits, where one identity stands so
 abbrev stood : PoolState → Registers (Unit {0}) → ℕ → Stay → PoolState
@@ -53,18 +50,11 @@ probes_run : (misses : ℕ) (w : PoolState) (id bit n : ℕ) (bits : Registers (
 probes_run zero w id bit n bits here gets =
     (rw here (ap (λ s. Ok (probe_reply s)) (sym gets.0)), rw (here, gets.0, gets.1) refl)
 probes_run (suc misses) w id bit n bits here gets =
-    let there : is_some (stay_of id w.competitors) ≡ true = ap is_some here in
-    let own : (id == id) ≡ true = (Decides-eqb id id).1 refl in
     let mid : PoolState = stood w (after_access w.bits (probe_access w.size (Seeking bit))) id (Seeking (bit + 1)) in
-    let stands : stay_of id mid.competitors ≡ Some (Seeking (bit + 1)) = stay_of-with_stay w.competitors id (Seeking (bit + 1)) there id ∙ rw own refl in
+    let stands : stay_of id mid.competitors ≡ Some (Seeking (bit + 1)) =
+    stay_of-with_stay w.competitors id (Seeking (bit + 1)) (ap is_some here) id ∙ set_at-same (λ v. stay_of v w.competitors) id (Some (Seeking (bit + 1))) in
     let rest = probes_run misses mid id (bit + 1) n bits stands gets.1 in
-    let end : stood mid bits id (Settled n) ≡ stood w bits id (Settled n) = ap (λ cs. record { size = w.size; bits = bits; competitors = cs }) (with_stay-twice id (Seeking (bit + 1)) (Settled n) w.competitors) in
-    let after : after_probe w id ≡ mid = rw (here, gets.0) refl in
-    let reply : Ok Missed ≡ probe_answer w id = rw here (ap (λ s. Ok (probe_reply s)) (sym gets.0)) in (
-      reply,
-      subst (λ (x : PoolState). Run next IsReply x (replicate misses (Probed id (Ok Missed)) ++ Probed id (Ok (Got n)) ∷ []) (stood w bits id (Settled n))) (sym after)
-          (subst (λ (x : PoolState). Run next IsReply mid (replicate misses (Probed id (Ok Missed)) ++ Probed id (Ok (Got n)) ∷ []) x) end rest),
-    )
+    (rw here (ap (λ s. Ok (probe_reply s)) (sym gets.0)), rw (here, gets.0, ← with_stay-twice id (Seeking (bit + 1)) (Settled n) w.competitors) rest)
 
 -- one who is let in and gets a number by probes has made the calls of a stay
 pub acquired : (w : PoolState) (id n : ℕ) (bits : Registers (Unit {0})) → None ≡ enter_refusal w id → Gets w.size 1 w.bits n bits →
@@ -73,8 +63,7 @@ acquired w id n bits may gets =
     let none : enter_refusal w id ≡ None = sym may in
     let absent = (let_in w id none).absent in
     let entered : PoolState = record { size = w.size; bits = w.bits; competitors = w.competitors ++ competitor id (Seeking 1) ∷ [] } in
-    let own : (id == id) ≡ true = (Decides-eqb id id).1 refl in
-    let stands : stay_of id entered.competitors ≡ Some (Seeking 1) = stay_of-push w.competitors (competitor id (Seeking 1)) absent id ∙ rw own refl in
+    let stands : stay_of id entered.competitors ≡ Some (Seeking 1) = stay_of-push w.competitors (competitor id (Seeking 1)) absent id ∙ set_at-same (λ v. stay_of v w.competitors) id (Some (Seeking 1)) in
     let run = probes_run gets.misses entered id 1 n bits stands gets.after in
     let end = with_stay-push w.competitors id (Seeking 1) (Settled n) absent in
     record {

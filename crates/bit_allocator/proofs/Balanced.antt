@@ -1,8 +1,8 @@
 -- bits and competitors keep in balance: the argument for the last number
-use Rattle.std.proofs.Common.{◌≡◌, ◌≢◌, ℕ, zero, suc, ◌+◌, ◌-◌, ◌≤◌, ◌<◌, Bool, true, false, not, ◌==◌, nat_le, List, [], ◌∷◌, ◌++◌, Some, None, length, get_or, set, replicate, max, inl, inr, refl, sym, ap, subst, ◌∙◌, arith}
+use Rattle.std.proofs.Common.{◌≡◌, ◌≢◌, ℕ, suc, ◌+◌, ◌-◌, ◌≤◌, ◌<◌, Bool, true, false, not, ◌==◌, nat_le, List, [], ◌∷◌, ◌++◌, Some, None, length, get_or, set, replicate, max, inl, inr, refl, sym, ap, subst, ◌∙◌, arith}
 use Rattle.std.specs.Prelude.{is_some}
 use Rattle.std.proofs.lemmas.List.{get_or-set_same, get_or-set_other, get_or-replicate, length-set, length-append}
-use Rattle.std.proofs.lemmas.Bool.Decides.{eqb_tells, leb_tells, Decides-eqb}
+use Rattle.std.proofs.lemmas.Bool.Decides.{leb_tells, Decides-eqb, nat_tests}
 use Rattle.bit_allocator.specs.declared.competitor.Competitor.{Competitor}
 use Rattle.bit_allocator.specs.declared.stay.Stay.{Stay}
 use Rattle.bit_allocator.specs.declared.stay.Stay.TheVariants.{Seeking, Settled}
@@ -10,7 +10,7 @@ use Rattle.bit_allocator.specs.Stay.{held_at}
 use Rattle.bit_allocator.specs.Competitors.{identities, stay_of, with_stay, without, holds_at}
 use Rattle.bit_allocator.proofs.StayOfLemmas.{stay_of-push, stay_of-with_stay, stay_of-without, identities-with_stay, length-identities}
 use Rattle.step_memory.proofs.SetAtLemmas.{set_at-is}
-use Rattle.bit_allocator.proofs.Counts.{one, count, competitor, is_of, holds, seeks, reaches, number_of, count-push, count-with_stay, count-without, count-one, count-absent, count-length, count-none, length-filter, reaches-split}
+use Rattle.bit_allocator.proofs.Counts.{one, count, competitor, is_of, holds, seeks, reaches, number_of, one_most, count-push, count-with_stay, count-without, count-some, count-absent, count-length, count-none, length-filter, reaches-split}
 
 -- a search is within the bits, or at 1 where there are none; and what is held is within the pool
 abbrev pub IsPlaced : ℕ → Stay → Type 0
@@ -33,9 +33,8 @@ pub record IsBalanced (size : ℕ) (bits : List Bool) (cs : List Competitor) : T
 
 -- bits that are clear read so, and so do those that are not there
 clear_at : (n i : ℕ) → get_or (replicate n false) i false ≡ false
-clear_at zero i = refl
-clear_at (suc n) zero = refl
 clear_at (suc n) (suc i) = clear_at n i
+clear_at n i = refl
 
 pub balanced_fresh : (size : ℕ) → 1 ≤ size → size ≤ 64 → IsBalanced size (replicate 65 false) []
 balanced_fresh size first last = record {
@@ -61,23 +60,16 @@ balanced_entered size bits cs id b absent room =
       held = λ i h. let pushed : count (holds i) (cs ++ new ∷ []) ≡ count (holds i) cs + 0 = count-push (holds i) cs new in omega (arith, b.held i h);
       spare = b.spare;
       crowd = omega (arith, length-append cs (new ∷ []));
-      reach = λ i h k. elim (leb_tells i 1) [
-        | inl w ↦
-            let pushed : count (reaches i) (cs ++ new ∷ []) ≡ count (reaches i) cs + 1 = rw w.0 at (count-push (reaches i) cs new) in
-            omega (arith, count-length (reaches i) cs)
-        | inr w ↦
-            let pushed : count (reaches i) (cs ++ new ∷ []) ≡ count (reaches i) cs + 0 = rw w.0 at (count-push (reaches i) cs new) in
-            omega (arith, b.reach i h k)
-      ];
-      apart = λ p. elim (eqb_tells id p) [
-        | inl w ↦
-            let pushed : count (is_of p) (cs ++ new ∷ []) ≡ count (is_of p) cs + 1 = rw w.0 at (count-push (is_of p) cs new) in
-            let none : count (is_of p) cs ≡ 0 = count-absent cs p (rw w.1 at absent) in
-            omega arith
-        | inr w ↦
-            let pushed : count (is_of p) (cs ++ new ∷ []) ≡ count (is_of p) cs + 0 = rw w.0 at (count-push (is_of p) cs new) in
-            omega (arith, b.apart p)
-      ];
+      reach = λ i h k.
+          let pushed : count (reaches i) (cs ++ new ∷ []) ≡ count (reaches i) cs + one (nat_le i 1) = count-push (reaches i) cs new in
+          let few = count-length (reaches i) cs in
+          let before = b.reach i h k in
+          grind (arith, nat_tests);
+      apart = λ p.
+          let pushed : count (is_of p) (cs ++ new ∷ []) ≡ count (is_of p) cs + one (id == p) = count-push (is_of p) cs new in
+          let none = count-absent cs id absent in
+          let before = b.apart p in
+          grind (arith, nat_tests);
       placed = λ p stay h. elim (set_at-is (λ v. stay_of v cs) id (Some (Seeking 1)) p (Some stay) (sym (stay_of-push cs new absent p) ∙ h)) [
         | inl w ↦ let s : Seeking 1 ≡ stay = (let e = w.1 in cc) in subst (λ (x : Stay). IsPlaced size x) s (omega arith, omega arith)
         | inr w ↦ b.placed p stay w.1
@@ -85,34 +77,33 @@ balanced_entered size bits cs id b absent room =
     }
 
 -- a probe of `next` that leaves this state
-pub record IsProbed (size : ℕ) (bits after : List Bool) (cs : List Competitor) (id next : ℕ) (new : Stay) : Type 0 where
-  pub here : stay_of id cs ≡ Some (Seeking next)
+pub record IsProbed (size : ℕ) (bits after : List Bool) (cs : List Competitor) (next : ℕ) (new : Stay) : Type 0 where
   pub room : length after ≡ 65
   pub held : (i : ℕ) → i < size → one (get_or after i false) ≡ one (get_or bits i false) + one (holds_at i (held_at new))
   pub spare : (i : ℕ) → size ≤ i → get_or after i false ≡ get_or bits i false
   pub reach : (i : ℕ) → 1 ≤ i → i ≤ size → count (reaches i) cs + one (nat_le i (number_of new)) + i ≤ size + 1 + one (nat_le i next)
   pub placed : IsPlaced size new
 
-pub balanced_probed : (size : ℕ) (bits after : List Bool) (cs : List Competitor) (id next : ℕ) (new : Stay) → IsBalanced size bits cs → IsProbed size bits after cs id next new → IsBalanced size after (with_stay id new cs)
-balanced_probed size bits after cs id next new b m = record {
+pub balanced_probed : (size : ℕ) (bits after : List Bool) (cs : List Competitor) (id next : ℕ) (new : Stay) → IsBalanced size bits cs → stay_of id cs ≡ Some (Seeking next) → IsProbed size bits after cs next new → IsBalanced size after (with_stay id new cs)
+balanced_probed size bits after cs id next new b here m = record {
   first = b.first;
   last = b.last;
   room = m.room;
   held = λ i h.
-      let moved : count (holds i) (with_stay id new cs) + 0 ≡ count (holds i) cs + one (holds_at i (held_at new)) = count-with_stay (holds i) cs id (Seeking next) new m.here in
+      let moved : count (holds i) (with_stay id new cs) + 0 ≡ count (holds i) cs + one (holds_at i (held_at new)) = count-with_stay (holds i) cs id (Seeking next) new here in
       omega (arith, b.held i h, m.held i h);
   spare = λ i h. m.spare i h ∙ b.spare i h;
   crowd =
       let same : length (identities (with_stay id new cs)) ≡ length (identities cs) = ap length (identities-with_stay cs id new) in
       omega (arith, length-identities cs, length-identities (with_stay id new cs), b.crowd);
   reach = λ i h k.
-      let moved : count (reaches i) (with_stay id new cs) + one (nat_le i next) ≡ count (reaches i) cs + one (nat_le i (number_of new)) = count-with_stay (reaches i) cs id (Seeking next) new m.here in
+      let moved : count (reaches i) (with_stay id new cs) + one (nat_le i next) ≡ count (reaches i) cs + one (nat_le i (number_of new)) = count-with_stay (reaches i) cs id (Seeking next) new here in
       omega (arith, m.reach i h k);
   apart = λ p.
-      let moved : count (is_of p) (with_stay id new cs) + one (id == p) ≡ count (is_of p) cs + one (id == p) = count-with_stay (is_of p) cs id (Seeking next) new m.here in
+      let moved : count (is_of p) (with_stay id new cs) + one (id == p) ≡ count (is_of p) cs + one (id == p) = count-with_stay (is_of p) cs id (Seeking next) new here in
       omega (arith, b.apart p);
   placed = λ p stay h.
-      let there : is_some (stay_of id cs) ≡ true = rw m.here refl in
+      let there : is_some (stay_of id cs) ≡ true = rw here refl in
       elim (set_at-is (λ v. stay_of v cs) id (Some new) p (Some stay) (sym (stay_of-with_stay cs id new there p) ∙ h)) [
         | inl w ↦ let s : new ≡ stay = (let e = w.1 in cc) in subst (λ (x : Stay). IsPlaced size x) s m.placed
         | inr w ↦ b.placed p stay w.1
@@ -126,26 +117,21 @@ NobodyHolds i cs = count (holds i) cs ≡ 0
 module _ (size : ℕ) (bits : List Bool) (cs : List Competitor) (id next : ℕ) (b : IsBalanced size bits cs) (here : stay_of id cs ≡ Some (Seeking next)) where
   -- who seeks the number is counted
   seeker : 1 ≤ count (seeks next) cs
-  seeker = let some : one (next == next) ≤ count (seeks next) cs = count-one (seeks next) cs id (Seeking next) here in rw ((Decides-eqb next next).1 refl) at some
+  seeker = count-some (seeks next) cs id (Seeking next) here ((Decides-eqb next next).1 refl)
 
   -- the bit was clear: the number is free, and now held
   pub free_clear : next < size → get_or bits next false ≡ false → NobodyHolds next cs
   free_clear below clear = sym (rw clear at (b.held next below))
 
-  pub probed_clear : next < size → get_or bits next false ≡ false → IsProbed size bits (set bits next true) cs id next (Settled next)
+  pub probed_clear : next < size → get_or bits next false ≡ false → IsProbed size bits (set bits next true) cs next (Settled next)
   probed_clear below clear =
       let p : IsPlaced size (Seeking next) = b.placed id (Seeking next) here in
       record {
-        here = here;
         room = length-set bits next true ∙ b.room;
-        held = λ i h. elim (eqb_tells next i) [
-          | inl w ↦
-              let in_bits : next < length bits = omega (arith, b.room, b.last) in
-              rw (← w.1, get_or-set_same bits next true false in_bits, clear, (Decides-eqb next next).1 refl) refl
-          | inr w ↦
-              let other : i ≢ next = λ e. w.1 (sym e) in
-              rw (get_or-set_other bits next i true false other, w.0) (omega arith)
-        ];
+        held = λ i h.
+            let here_set = get_or-set_same bits next true false (omega (arith, below, b.room, b.last)) in
+            let spared = get_or-set_other bits next i true false in
+            grind (arith, nat_tests);
         spare = λ i h. get_or-set_other bits next i true false (λ e. omega (arith, below, h, e));
         reach = λ i h k. omega (arith, b.reach i h k);
         placed = (p.0, omega arith);
@@ -158,36 +144,27 @@ module _ (size : ℕ) (bits : List Bool) (cs : List Competitor) (id next : ℕ) 
       let one_holds : 1 ≡ count (holds next) cs = rw was at (b.held next below) in
       omega (arith, seeker, b.reach next p.0 (omega arith), reaches-split next cs)
 
+  reach_next : next < size → get_or bits next false ≡ true → (i : ℕ) → 1 ≤ i → i ≤ size → count (reaches i) cs + one (nat_le i (next + 1)) + i ≤ size + 1 + one (nat_le i next)
+  reach_next below was i h k =
+      let all = b.reach i h k in
+      let fewer = few below was in
+      grind (arith, nat_tests)
+
   set_again : get_or bits next false ≡ true → (i : ℕ) → i < size → next < size → get_or (set bits next true) i false ≡ get_or bits i false
-  set_again was i h below = elim (eqb_tells i next) [
-    | inl w ↦
-        let in_bits : next < length bits = omega (arith, b.room, b.last) in
-        rw (w.1, get_or-set_same bits next true false in_bits, was) refl
-    | inr w ↦ get_or-set_other bits next i true false w.1
-  ]
+  set_again was i h below =
+      let here_set = get_or-set_same bits next true false (omega (arith, below, b.room, b.last)) in
+      let spared = get_or-set_other bits next i true false in
+      grind (arith, nat_tests)
 
   -- a further bit is probed next
-  pub probed_missed : next + 1 < size → get_or bits next false ≡ true → IsProbed size bits (set bits next true) cs id next (Seeking (next + 1))
+  pub probed_missed : next + 1 < size → get_or bits next false ≡ true → IsProbed size bits (set bits next true) cs next (Seeking (next + 1))
   probed_missed below was =
       let lt : next < size = omega arith in
       record {
-        here = here;
         room = length-set bits next true ∙ b.room;
         held = λ i h. rw (set_again was i h lt) (omega arith);
         spare = λ i h. get_or-set_other bits next i true false (λ e. omega (arith, lt, h, e));
-        reach = λ i h k. elim (leb_tells i next) [
-          | inl w ↦ elim (leb_tells i (next + 1)) [
-            | inl v ↦ rw (w.0, v.0) (omega (arith, b.reach i h k))
-            | inr v ↦ absurd (omega arith)
-          ]
-          | inr w ↦ elim (leb_tells i (next + 1)) [
-            | inl v ↦
-                let e : i ≡ next + 1 = omega arith in
-                let f : count (reaches i) cs + 1 + next ≤ size = rw e (few lt was) in
-                rw (w.0, v.0) (omega arith)
-            | inr v ↦ rw (w.0, v.0) (omega (arith, b.reach i h k))
-          ]
-        ];
+        reach = reach_next lt was;
         placed = (omega arith, omega arith);
       }
 
@@ -198,28 +175,12 @@ module _ (size : ℕ) (bits : List Bool) (cs : List Competitor) (id next : ℕ) 
       let same : count (reaches size) cs ≡ count (reaches (next + 1)) cs = ap (λ (k : ℕ). count (reaches k) cs) e in
       omega (arith, few below was, reaches-split size cs)
 
-  pub probed_last : next < size → size ≤ next + 1 → get_or bits next false ≡ true → IsProbed size bits (set bits next true) cs id next (Settled size)
+  pub probed_last : next < size → size ≤ next + 1 → get_or bits next false ≡ true → IsProbed size bits (set bits next true) cs next (Settled size)
   probed_last below end was = record {
-    here = here;
     room = length-set bits next true ∙ b.room;
-    held = λ i h. elim (eqb_tells size i) [
-      | inl w ↦ absurd (omega arith)
-      | inr w ↦ rw (set_again was i h below, w.0) (omega arith)
-    ];
+    held = λ i h. rw (set_again was i h below) (grind (arith, nat_tests));
     spare = λ i h. get_or-set_other bits next i true false (λ e. omega (arith, below, h, e));
-    reach = λ i h k. elim (leb_tells i next) [
-      | inl w ↦ elim (leb_tells i size) [
-        | inl v ↦ rw (w.0, v.0) (omega (arith, b.reach i h k))
-        | inr v ↦ absurd (omega arith)
-      ]
-      | inr w ↦ elim (leb_tells i size) [
-        | inl v ↦
-            let e : i ≡ next + 1 = omega arith in
-            let f : count (reaches i) cs + 1 + next ≤ size = rw e (few below was) in
-            rw (w.0, v.0) (omega arith)
-        | inr v ↦ absurd (omega arith)
-      ]
-    ];
+    reach = λ i h k. let e : next + 1 ≡ size = omega arith in subst (λ (n : ℕ). count (reaches i) cs + one (nat_le i n) + i ≤ size + 1 + one (nat_le i next)) e (reach_next below was i h k);
     placed = (b.first, omega arith);
   }
 
@@ -234,17 +195,13 @@ module _ (size : ℕ) (bits : List Bool) (cs : List Competitor) (id next : ℕ) 
       let s : 1 ≤ count (seeks size) cs = rw same at seeker in
       omega (arith, b.reach size b.first (omega arith), reaches-split size cs)
 
-  pub probed_only : size ≤ next → IsProbed size bits bits cs id next (Settled size)
+  pub probed_only : size ≤ next → IsProbed size bits bits cs next (Settled size)
   probed_only past =
       let o = only past in
       let same : next ≡ size = o.1 ∙ sym o.0 in
       record {
-        here = here;
         room = b.room;
-        held = λ i h. elim (eqb_tells size i) [
-          | inl w ↦ absurd (omega arith)
-          | inr w ↦ rw w.0 (omega arith)
-        ];
+        held = λ i h. grind (arith, nat_tests);
         spare = λ i h. refl;
         reach = λ i h k. rw same (omega (arith, b.reach i h k));
         placed = (b.first, omega arith);
@@ -260,16 +217,11 @@ balanced_left size bits after cs id number b here room clears spares beyond = re
   room = room;
   held = λ i h.
       let fewer : count (holds i) (without id cs) + one (number == i) ≡ count (holds i) cs = count-without (holds i) cs id (Settled number) here (b.apart id) in
-      elim (eqb_tells number i) [
-        | inl w ↦
-            let fewer_one : count (holds i) (without id cs) + 1 ≡ count (holds i) cs = rw w.0 at fewer in
-            let clear : get_or after i false ≡ false = rw w.1 at (clears (omega arith)) in
-            let most : one (get_or bits i false) ≤ 1 = elim (get_or bits i false) as (λ x. one x ≤ 1) [ true ↦ omega arith | false ↦ omega arith ] in
-            rw clear (omega (arith, b.held i h))
-        | inr w ↦
-            let as_many : count (holds i) (without id cs) + 0 ≡ count (holds i) cs = rw w.0 at fewer in
-            rw (spares i h (λ e. w.1 (sym e))) (omega (arith, b.held i h))
-      ];
+      let before = b.held i h in
+      let clear = clears in
+      let spared = spares i h in
+      let most = one_most (get_or bits i false) in
+      grind (arith, nat_tests);
   spare = λ i h. beyond i h ∙ b.spare i h;
   crowd = omega (arith, length-filter (λ c. not (c.identity == id)) cs, b.crowd);
   reach = λ i h k. omega (arith, count-without (reaches i) cs id (Settled number) here (b.apart id), b.reach i h k);
@@ -283,10 +235,7 @@ balanced_left size bits after cs id number b here room clears spares beyond = re
 -- a number is held by one at most
 pub held_once : (size : ℕ) (bits : List Bool) (cs : List Competitor) → IsBalanced size bits cs → (n : ℕ) → n ≤ size → 1 ≤ n → count (holds n) cs ≤ 1
 held_once size bits cs b n high low = elim (leb_tells (suc n) size) [
-  | inl w ↦
-      let most : one (get_or bits n false) ≤ 1 = elim (get_or bits n false) as (λ x. one x ≤ 1) [ true ↦ omega arith | false ↦ omega arith ] in
-      let lt : n < size = omega (arith, w.1) in
-      omega (arith, b.held n lt)
+  | inl w ↦ omega (arith, b.held n w.1, one_most (get_or bits n false))
   | inr w ↦ omega (arith, w.1, b.reach n low high, reaches-split n cs)
 ]
 
@@ -299,13 +248,14 @@ more_placed : (size more : ℕ) (stay : Stay) → size ≤ more → IsPlaced siz
 more_placed size more (Seeking next) above p = let top : next ≤ max 1 (size - 1) = p.1 in (p.0, omega arith)
 more_placed size more (Settled number) above p = let top : number ≤ size = p.1 in (p.0, omega arith)
 
-below_other : (i n : ℕ) → i ≤ n → i ≢ n → i < n
-below_other i n h k = elim (leb_tells (suc i) n) [ inl w ↦ omega (arith, w.1) | inr w ↦ absurd (k (omega (arith, h, w.1))) ]
-
 -- the pool gets more numbers: the bit of what was the last is set where that is held
-pub balanced_widened : (size more : ℕ) (bits after : List Bool) (cs : List Competitor) → IsBalanced size bits cs → size < more → more ≤ 64 → length after ≡ 65 →
-    one (get_or after size false) ≡ count (holds size) cs → ((i : ℕ) → i ≢ size → get_or after i false ≡ get_or bits i false) → IsBalanced more after cs
-balanced_widened size more bits after cs b above most room set_last spares =
+pub record IsWidenedBits (size : ℕ) (bits after : List Bool) (cs : List Competitor) : Type 0 where
+  pub last : one (get_or after size false) ≡ count (holds size) cs
+  pub others : (i : ℕ) → i ≢ size → get_or after i false ≡ get_or bits i false
+  pub room : length after ≡ 65
+
+pub balanced_widened : (size more : ℕ) (bits after : List Bool) (cs : List Competitor) → IsBalanced size bits cs → size < more → more ≤ 64 → IsWidenedBits size bits after cs → IsBalanced more after cs
+balanced_widened size more bits after cs b above most m =
     let beyond : (i : ℕ) → size < i → count (reaches i) cs ≡ 0 = λ i h. count-none (reaches i) cs b.apart (λ p stay here.
     let low : number_of stay ≤ size = within_size size stay b.first (b.placed p stay here) in
     elim (leb_tells i (number_of stay)) [ inl w ↦ absurd (omega (arith, w.1, h, low)) | inr w ↦ w.0 ])
@@ -313,20 +263,18 @@ balanced_widened size more bits after cs b above most room set_last spares =
     record {
       first = omega (arith, b.first, above);
       last = most;
-      room = room;
-      held = λ i h. elim (eqb_tells i size) [
-        | inl w ↦ rw (sym w.1) at set_last
-        | inr w ↦ elim (leb_tells i size) [
-          | inl v ↦ rw (spares i w.1) (b.held i (below_other i size v.1 w.1))
-          | inr v ↦ rw (spares i w.1, b.spare i (omega (arith, v.1))) (omega (arith, beyond i (omega (arith, v.1)), reaches-split i cs))
-        ]
-      ];
-      spare = λ i h. spares i (λ e. omega (arith, h, e, above)) ∙ b.spare i (omega (arith, h, above));
+      room = m.room;
+      held = λ i h.
+          let last = m.last in
+          let others = m.others i in
+          let before : i < size → one (get_or bits i false) ≡ count (holds i) cs = b.held i in
+          let clear : size ≤ i → get_or bits i false ≡ false = b.spare i in
+          let none : size < i → count (reaches i) cs ≡ 0 = beyond i in
+          let all = reaches-split i cs in
+          grind (arith, nat_tests);
+      spare = λ i h. m.others i (λ e. omega (arith, h, e, above)) ∙ b.spare i (omega (arith, h, above));
       crowd = omega (arith, b.crowd, above);
-      reach = λ i h k. elim (leb_tells i size) [
-        | inl v ↦ omega (arith, b.reach i h v.1, above)
-        | inr v ↦ omega (arith, beyond i (omega (arith, v.1)), k)
-      ];
+      reach = λ i h k. elim (leb_tells i size) [ inl v ↦ omega (arith, b.reach i h v.1, above) | inr v ↦ omega (arith, beyond i v.1, k) ];
       apart = b.apart;
       placed = λ p stay h. more_placed size more stay (omega (arith, above)) (b.placed p stay h);
     }

@@ -21,16 +21,14 @@ going_after w id (Settled number) here n = absurd (n number refl)
 
 -- who holds a number stands so
 pub settled_by : (o : Option Stay) (n : ℕ) → number_by o ≡ Ok n → o ≡ Some (Settled n)
-settled_by None n h = absurd (cc)
-settled_by (Some (Seeking next)) n h = absurd (cc)
 settled_by (Some (Settled number)) n h = let e : number ≡ n = cc in rw e refl
+settled_by o n h = absurd (cc)
 
 -- who holds none changes nothing by leaving
+unsettled_by : (w : PoolState) (id : ℕ) (why : Refusal) (o : Option Stay) → Err why ≡ number_by o → w ≡ after_leave_by w id o
+unsettled_by w id why (Some (Settled number)) h = absurd (cc)
+unsettled_by w id why (Some (Seeking next)) h = refl
+unsettled_by w id why None h = refl
+
 pub unsettled_after : (w : PoolState) (id : ℕ) (why : Refusal) → Err why ≡ number_answer w id → w ≡ after_leave w id
-unsettled_after w id why h = elim (stay_of id w.competitors) as (λ o. Err why ≡ number_by o → w ≡ after_leave_by w id o) [
-  | None ↦ λ e. refl
-  | Some stay ↦ elim stay as (λ s. Err why ≡ number_by (Some s) → w ≡ after_leave_by w id (Some s)) [
-    | Seeking next ↦ λ e. refl
-    | Settled number ↦ λ e. absurd (cc)
-  ]
-] h
+unsettled_after w id why = unsettled_by w id why (stay_of id w.competitors)

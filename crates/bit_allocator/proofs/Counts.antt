@@ -1,6 +1,6 @@
 -- how many competitors pass a test
-use Rattle.std.proofs.Common.{◌≡◌, ◌≢◌, ℕ, suc, ◌+◌, ◌≤◌, Bool, true, false, ◌==◌, nat_le, List, [], ◌∷◌, ◌++◌, Some, None, length, filter, cond, inl, inr, refl, sym, ap, ◌∙◌, arith}
-use Rattle.std.proofs.lemmas.Bool.Decides.{eqb_tells, leb_tells, Decides-eqb}
+use Rattle.std.proofs.Common.{◌≡◌, ℕ, suc, ◌+◌, ◌≤◌, Bool, true, false, ◌==◌, nat_le, List, [], ◌∷◌, ◌++◌, Some, None, length, filter, cond, refl, ap, ◌∙◌, arith}
+use Rattle.std.proofs.lemmas.Bool.Decides.{Decides-eqb, nat_tests}
 use Rattle.bit_allocator.specs.declared.competitor.Competitor.{Competitor}
 use Rattle.bit_allocator.specs.declared.stay.Stay.{Stay}
 use Rattle.bit_allocator.specs.declared.stay.Stay.TheVariants.{Seeking, Settled}
@@ -10,6 +10,10 @@ use Rattle.bit_allocator.specs.Competitors.{stay_of, with_stay, without, holds_a
 abbrev pub one : Bool → ℕ
 one true = 1
 one false = 0
+
+pub one_most : (b : Bool) → one b ≤ 1
+one_most true = omega arith
+one_most false = omega arith
 
 abbrev pub count : (Competitor → Bool) → List Competitor → ℕ
 count f [] = 0
@@ -34,66 +38,39 @@ module _ (f : Competitor → Bool) where
 
   pub count-with_stay : (cs : List Competitor) (id : ℕ) (old new : Stay) → stay_of id cs ≡ Some old → count f (with_stay id new cs) + one (f (competitor id old)) ≡ count f cs + one (f (competitor id new))
   count-with_stay [] id old new h = absurd (cc)
-  count-with_stay (c ∷ cs) id old new h = elim (eqb_tells c.identity id) [
-    | inl w ↦ let e : one (f c) ≡ one (f (competitor id old)) = ap (λ x. one (f x)) (head_is c cs id old w.1 (rw w.0 at h)) in rw w.0 (omega arith)
-    | inr w ↦ let i = count-with_stay cs id old new (rw w.0 at h) in rw w.0 (omega arith)
-  ]
+  count-with_stay (c ∷ cs) id old new h =
+      let rest : stay_of id cs ≡ Some old → count f (with_stay id new cs) + one (f (competitor id old)) ≡ count f cs + one (f (competitor id new)) = count-with_stay cs id old new in
+      let head = head_is c cs id old in
+      grind (arith, nat_tests)
 
   -- some competitor that passes
   pub count-one : (cs : List Competitor) (id : ℕ) (stay : Stay) → stay_of id cs ≡ Some stay → one (f (competitor id stay)) ≤ count f cs
   count-one [] id stay h = absurd (cc)
-  count-one (c ∷ cs) id stay h = elim (eqb_tells c.identity id) [
-    | inl w ↦ let e : one (f c) ≡ one (f (competitor id stay)) = ap (λ x. one (f x)) (head_is c cs id stay w.1 (rw w.0 at h)) in omega arith
-    | inr w ↦ let i = count-one cs id stay (rw w.0 at h) in omega arith
-  ]
+  count-one (c ∷ cs) id stay h =
+      let rest : stay_of id cs ≡ Some stay → one (f (competitor id stay)) ≤ count f cs = count-one cs id stay in
+      let head = head_is c cs id stay in
+      grind (arith, nat_tests)
 
-  -- two that do
-  pub count-two : (cs : List Competitor) (p q : ℕ) (one_stay other : Stay) → p ≢ q → stay_of p cs ≡ Some one_stay → stay_of q cs ≡ Some other → one (f (competitor p one_stay)) + one (f (competitor q other)) ≤ count f cs
-  count-two [] p q s t n h k = absurd (cc)
-  count-two (c ∷ cs) p q s t n h k = elim (eqb_tells c.identity p) [
-    | inl w ↦ elim (eqb_tells c.identity q) [
-      | inl v ↦ absurd (n (sym w.1 ∙ v.1))
-      | inr v ↦
-          let e : one (f c) ≡ one (f (competitor p s)) = ap (λ x. one (f x)) (head_is c cs p s w.1 (rw w.0 at h)) in
-          let i = count-one cs q t (rw v.0 at k) in
-          omega arith
-    ]
-    | inr w ↦ elim (eqb_tells c.identity q) [
-      | inl v ↦
-          let e : one (f c) ≡ one (f (competitor q t)) = ap (λ x. one (f x)) (head_is c cs q t v.1 (rw v.0 at k)) in
-          let i = count-one cs p s (rw w.0 at h) in
-          omega arith
-      | inr v ↦ let i = count-two cs p q s t n (rw w.0 at h) (rw v.0 at k) in omega arith
-    ]
-  ]
+  pub count-some : (cs : List Competitor) (id : ℕ) (stay : Stay) → stay_of id cs ≡ Some stay → f (competitor id stay) ≡ true → 1 ≤ count f cs
+  count-some cs id stay h passes = rw passes at (count-one cs id stay h)
 
 pub without-absent : (cs : List Competitor) (id : ℕ) → count (is_of id) cs ≡ 0 → without id cs ≡ cs
 without-absent [] id h = refl
-without-absent (c ∷ cs) id h = elim (eqb_tells c.identity id) [
-  | inl w ↦ absurd (let k : 1 + count (is_of id) cs ≡ 0 = rw w.0 at h in omega arith)
-  | inr w ↦ let k : 0 + count (is_of id) cs ≡ 0 = rw w.0 at h in rw w.0 (ap (λ xs. c ∷ xs) (without-absent cs id (omega arith)))
-]
+without-absent (c ∷ cs) id h =
+    let rest : count (is_of id) cs ≡ 0 → without id cs ≡ cs = without-absent cs id in
+    grind (arith, nat_tests)
 
 pub count-without : (f : Competitor → Bool) (cs : List Competitor) (id : ℕ) (stay : Stay) → stay_of id cs ≡ Some stay → count (is_of id) cs ≤ 1 → count f (without id cs) + one (f (competitor id stay)) ≡ count f cs
 count-without f [] id stay h a = absurd (cc)
-count-without f (c ∷ cs) id stay h a = elim (eqb_tells c.identity id) [
-  | inl w ↦
-      let e : one (f c) ≡ one (f (competitor id stay)) = ap (λ x. one (f x)) (head_is f c cs id stay w.1 (rw w.0 at h)) in
-      let k : 1 + count (is_of id) cs ≤ 1 = rw w.0 at a in
-      let rest : without id cs ≡ cs = without-absent cs id (omega arith) in
-      rw (w.0, rest) (omega arith)
-  | inr w ↦
-      let k : 0 + count (is_of id) cs ≤ 1 = rw w.0 at a in
-      let i = count-without f cs id stay (rw w.0 at h) (omega arith) in
-      rw w.0 (omega arith)
-]
+count-without f (c ∷ cs) id stay h a =
+    let rest : stay_of id cs ≡ Some stay → count (is_of id) cs ≤ 1 → count f (without id cs) + one (f (competitor id stay)) ≡ count f cs = count-without f cs id stay in
+    let head = head_is f c cs id stay in
+    let same = without-absent cs id in
+    grind (arith, nat_tests)
 
 pub count-absent : (cs : List Competitor) (id : ℕ) → stay_of id cs ≡ None → count (is_of id) cs ≡ 0
 count-absent [] id h = refl
-count-absent (c ∷ cs) id h = elim (eqb_tells c.identity id) [
-  | inl w ↦ absurd (let k : Some c.stay ≡ None = rw w.0 at h in cc)
-  | inr w ↦ let i = count-absent cs id (rw w.0 at h) in rw w.0 (omega arith)
-]
+count-absent (c ∷ cs) id h = let rest : stay_of id cs ≡ None → count (is_of id) cs ≡ 0 = count-absent cs id in grind (arith, nat_tests)
 
 -- none passes where nobody that stands somewhere does
 pub count-none : (f : Competitor → Bool) (cs : List Competitor) → ((p : ℕ) → count (is_of p) cs ≤ 1) → ((p : ℕ) (stay : Stay) → stay_of p cs ≡ Some stay → f (competitor p stay) ≡ false) → count f cs ≡ 0
@@ -101,19 +78,16 @@ count-none f [] apart none = refl
 count-none f (c ∷ cs) apart none =
     let own : (c.identity == c.identity) ≡ true = (Decides-eqb c.identity c.identity).1 refl in
     let head : f c ≡ false = none c.identity c.stay (rw own refl) in
-    let rest : count f cs ≡ 0 = count-none f cs (λ p. omega (arith, apart p)) (λ p stay h. elim (eqb_tells c.identity p) [
-      | inl w ↦ absurd (
-          let alone : 1 + count (is_of p) cs ≤ 1 = rw w.0 at (apart p) in
-          let some : one (p == p) ≤ count (is_of p) cs = count-one (is_of p) cs p stay h in
-          let more : 1 ≤ count (is_of p) cs = rw ((Decides-eqb p p).1 refl) at some in
-          omega arith)
-      | inr w ↦ none p stay (rw w.0 h)
-    ]) in
+    let rest : count f cs ≡ 0 = count-none f cs (λ p. omega (arith, apart p)) (λ p stay h.
+    let some = count-some (is_of p) cs p stay h ((Decides-eqb p p).1 refl) in
+    let alone = apart p in
+    let there = none p stay in
+    grind (arith, nat_tests)) in
     rw head (omega (arith, rest))
 
 pub count-length : (f : Competitor → Bool) (cs : List Competitor) → count f cs ≤ length cs
 count-length f [] = omega arith
-count-length f (c ∷ cs) = let i = count-length f cs in elim (f c) as (λ b. one b + count f cs ≤ suc (length cs)) [ true ↦ omega arith | false ↦ omega arith ]
+count-length f (c ∷ cs) = omega (arith, count-length f cs, one_most (f c))
 
 pub length-filter : (t : Competitor → Bool) (cs : List Competitor) → length (filter t cs) ≤ length cs
 length-filter t [] = omega arith
@@ -139,16 +113,7 @@ abbrev pub reaches : ℕ → Competitor → Bool
 reaches i c = nat_le i (number_of c.stay)
 
 le_split : (i n : ℕ) → one (nat_le i n) ≡ one (nat_le (i + 1) n) + one (n == i)
-le_split i n = elim (leb_tells i n) [
-  | inl w ↦ elim (leb_tells (i + 1) n) [
-    | inl v ↦ elim (eqb_tells n i) [ inl u ↦ absurd (omega arith) | inr u ↦ rw (w.0, v.0, u.0) refl ]
-    | inr v ↦ elim (eqb_tells n i) [ inl u ↦ rw (w.0, v.0, u.0) refl | inr u ↦ absurd (omega arith) ]
-  ]
-  | inr w ↦ elim (leb_tells (i + 1) n) [
-    | inl v ↦ absurd (omega arith)
-    | inr v ↦ elim (eqb_tells n i) [ inl u ↦ absurd (omega arith) | inr u ↦ rw (w.0, v.0, u.0) refl ]
-  ]
-]
+le_split i n = grind (arith, nat_tests)
 
 stay_split : (i : ℕ) (s : Stay) → one (nat_le i (number_of s)) ≡ one (nat_le (i + 1) (number_of s)) + one (holds_at i (held_at s)) + one (seeks_at i s)
 stay_split i (Seeking next) = omega (arith, le_split i next)

@@ -1,139 +1,114 @@
 -- the calls of a competitor are local
-use Rattle.std.proofs.Common.{◌≡◌, ℕ, true, false, cond, Option, Some, None, Ok, refl, sym, ap, subst, ◌∙◌}
+use Rattle.std.proofs.Common.{◌≡◌, ℕ, true, false, cond, List, Option, Some, None, Ok, Err, refl, sym, ap, subst, ◌∙◌}
 use Rattle.std.specs.Prelude.{is_some, nat_lt}
 use Rattle.step_memory.specs.declared.access.Access.TheVariants.{TestAndSet, Clear, Nothing}
+use Rattle.step_memory.specs.declared.refusal.Refusal.{Refusal}
+use Rattle.step_memory.specs.declared.refusal.Refusal.TheVariants.{NotCompeting, Holding, NotHolding}
+use Rattle.step_memory.specs.SetAt.{set_at}
+use Rattle.bit_allocator.specs.declared.competitor.Competitor.{Competitor}
 use Rattle.step_memory.specs.RegisterProofs.{others_kept}
 use Rattle.step_memory.specs.Registers.{register_of, answer_of, after_access}
 use Rattle.step_memory.specs.Steps.{Spares, SetsOrClears}
 use Rattle.bit_allocator.specs.declared.stay.Stay.{Stay}
 use Rattle.bit_allocator.specs.declared.stay.Stay.TheVariants.{Seeking, Settled}
 use Rattle.bit_allocator.specs.Stay.{probe_access, stay_probed, stay_found, probe_reply, leave_access}
-use Rattle.bit_allocator.specs.Competitors.{stay_of, with_stay, holder_in}
+use Rattle.bit_allocator.specs.Competitors.{stay_of, with_stay, without, holder_in}
 use Rattle.bit_allocator.specs.PoolState.{PoolState}
 use Rattle.bit_allocator.specs.Pool.{probe_answer, probe_answer_by, after_probe, after_probe_by, got_by, number_answer, number_by, after_leave, after_leave_by}
 use Rattle.bit_allocator.specs.Widening.{widen_access}
-use Rattle.bit_allocator.specs.Locality.{IsLocal, LookAlike, StandAlike, probe_steps, leave_steps}
+use Rattle.bit_allocator.specs.Locality.{IsLocal, OwnSteps, got_in, LookAlike, StandAlike, probe_steps, leave_steps}
 use Rattle.step_memory.proofs.LocalityLemmas.{answer_alike}
 use Rattle.step_memory.proofs.SetAtLemmas.{set_at-same, set_at-other}
 use Rattle.bit_allocator.proofs.StayOfLemmas.{stay_of-with_stay, stay_of-without}
 
-module _ (id : ℕ) (w : PoolState) where
-  seeking_local : (next : ℕ) → stay_of id w.competitors ≡ Some (Seeking next) → IsLocal probe_steps id w (after_probe_by w id (Some (Seeking next))) (probe_answer_by w (Some (Seeking next)))
-  seeking_local next here =
-      let new : Stay = stay_probed w.size (Seeking next) (got_by w (Seeking next)) in
-      let there : is_some (stay_of id w.competitors) ≡ true = rw here refl in
-      let own : (stay : Stay) → stay_of id w.competitors ≡ Some stay → Seeking next ≡ stay = λ stay h. (let e : Some (Seeking next) ≡ Some stay = sym here ∙ h in cc) in
+module _ {O : Type 0} (steps : OwnSteps O) (id : ℕ) (w : PoolState) where
+  -- a call that is refused changes nothing
+  pub refused_local : (why : Refusal) → IsLocal steps id w w (Err why)
+  refused_local why = record { access = λ stay h. tt; reply = λ stay h. tt; own = λ stay h. tt; others = λ q n. refl; registers = λ stay h r spared. refl; absent = λ h. refl; size = refl }
+
+  -- an accepted call of one who stands so
+  accepted_local : (stay : Stay) (cs : List Competitor) → stay_of id w.competitors ≡ Some stay →
+      ((q : ℕ) → stay_of q cs ≡ set_at (λ v. stay_of v w.competitors) id (steps.stay w.size stay (got_in steps w stay)) q) →
+      IsLocal steps id w (record { size = w.size; bits = after_access w.bits (steps.access w.size stay); competitors = cs }) (Ok (steps.reply w.size stay (got_in steps w stay)))
+  accepted_local stay cs here stands =
+      let own : (x : Stay) → stay_of id w.competitors ≡ Some x → stay ≡ x = λ x h. (let e : Some stay ≡ Some x = sym here ∙ h in cc) in
+      let left : Option Stay = steps.stay w.size stay (got_in steps w stay) in
       record {
-        access = λ stay h. subst (λ (x : Stay). after_access w.bits (probe_access w.size (Seeking next)) ≡ after_access w.bits (probe_access w.size x)) (own stay h) refl;
-        reply = λ stay h. subst (λ (x : Stay). probe_reply new ≡ probe_reply (stay_probed w.size x (answer_of w.bits (probe_access w.size x)))) (own stay h) refl;
-        own = λ stay h.
-            let put : stay_of id (with_stay id new w.competitors) ≡ Some new = stay_of-with_stay w.competitors id new there id ∙ set_at-same (λ v. stay_of v w.competitors) id (Some new) in
-            subst (λ (x : Stay). stay_of id (with_stay id new w.competitors) ≡ Some (stay_probed w.size x (answer_of w.bits (probe_access w.size x)))) (own stay h) put;
-        others = λ q n. stay_of-with_stay w.competitors id new there q ∙ set_at-other (λ v. stay_of v w.competitors) id (Some new) q n;
-        registers = λ stay h r spared. others_kept w.bits (probe_access w.size (Seeking next)) r (subst (λ (x : Stay). Spares (probe_access w.size x) r) (sym (own stay h)) spared);
+        access = λ x h. ap (λ (y : Stay). after_access w.bits (steps.access w.size y)) (own x h);
+        reply = λ x h. ap (λ (y : Stay). steps.reply w.size y (got_in steps w y)) (own x h);
+        own = λ x h. stands id ∙ set_at-same (λ v. stay_of v w.competitors) id left ∙ ap (λ (y : Stay). steps.stay w.size y (got_in steps w y)) (own x h);
+        others = λ q n. stands q ∙ set_at-other (λ v. stay_of v w.competitors) id left q n;
+        registers = λ x h r spared. others_kept w.bits (steps.access w.size stay) r (subst (λ (y : Stay). Spares (steps.access w.size y) r) (sym (own x h)) spared);
         absent = λ h. absurd (let k = sym here ∙ h in cc);
         size = refl;
       }
+
+module _ (id : ℕ) (w : PoolState) where
+  probe_local_by : (o : Option Stay) → stay_of id w.competitors ≡ o → IsLocal probe_steps id w (after_probe_by w id o) (probe_answer_by w o)
+  probe_local_by None e = refused_local probe_steps id w NotCompeting
+  probe_local_by (Some (Settled number)) e = refused_local probe_steps id w Holding
+  probe_local_by (Some (Seeking next)) e =
+      let new : Stay = stay_probed w.size (Seeking next) (got_by w (Seeking next)) in
+      accepted_local probe_steps id w (Seeking next) (with_stay id new w.competitors) e (stay_of-with_stay w.competitors id new (ap is_some e))
 
   pub probe_local : IsLocal probe_steps id w (after_probe w id) (probe_answer w id)
-  probe_local = elim (stay_of id w.competitors) as (λ e. stay_of id w.competitors ≡ e → IsLocal probe_steps id w (after_probe_by w id e) (probe_answer_by w e)) [
-    | None ↦ λ e. record { access = λ stay h. tt; reply = λ stay h. tt; own = λ stay h. tt; others = λ q n. refl; registers = λ stay h r spared. refl; absent = λ h. refl; size = refl }
-    | Some s ↦ elim s as (λ x. stay_of id w.competitors ≡ Some x → IsLocal probe_steps id w (after_probe_by w id (Some x)) (probe_answer_by w (Some x))) [
-      | Seeking next ↦ λ e. seeking_local next e
-      | Settled number ↦ λ e. record { access = λ stay h. tt; reply = λ stay h. tt; own = λ stay h. tt; others = λ q n. refl; registers = λ stay h r spared. refl; absent = λ h. refl; size = refl }
-    ]
-  ] refl
+  probe_local = probe_local_by (stay_of id w.competitors) refl
 
-  settled_local : (number : ℕ) → stay_of id w.competitors ≡ Some (Settled number) → IsLocal leave_steps id w (after_leave_by w id (Some (Settled number))) (number_by (Some (Settled number)))
-  settled_local number here =
-      let own : (stay : Stay) → stay_of id w.competitors ≡ Some stay → Settled number ≡ stay = λ stay h. (let e : Some (Settled number) ≡ Some stay = sym here ∙ h in cc) in
-      record {
-        access = λ stay h. subst (λ (x : Stay). after_access w.bits (leave_access w.size (Settled number)) ≡ after_access w.bits (leave_access w.size x)) (own stay h) refl;
-        reply = λ stay h. subst (λ (x : Stay). number ≡ leave_steps.reply w.size x (answer_of w.bits (leave_access w.size x))) (own stay h) refl;
-        own = λ stay h. stay_of-without w.competitors id id ∙ set_at-same (λ v. stay_of v w.competitors) id None;
-        others = λ q n. stay_of-without w.competitors id q ∙ set_at-other (λ v. stay_of v w.competitors) id None q n;
-        registers = λ stay h r spared. others_kept w.bits (leave_access w.size (Settled number)) r (subst (λ (x : Stay). Spares (leave_access w.size x) r) (sym (own stay h)) spared);
-        absent = λ h. absurd (let k = sym here ∙ h in cc);
-        size = refl;
-      }
+  leave_local_by : (o : Option Stay) → stay_of id w.competitors ≡ o → IsLocal leave_steps id w (after_leave_by w id o) (number_by o)
+  leave_local_by None e = refused_local leave_steps id w NotCompeting
+  leave_local_by (Some (Seeking next)) e = refused_local leave_steps id w NotHolding
+  leave_local_by (Some (Settled number)) e = accepted_local leave_steps id w (Settled number) (without id w.competitors) e (stay_of-without w.competitors id)
 
   pub leave_local : IsLocal leave_steps id w (after_leave w id) (number_answer w id)
-  leave_local = elim (stay_of id w.competitors) as (λ e. stay_of id w.competitors ≡ e → IsLocal leave_steps id w (after_leave_by w id e) (number_by e)) [
-    | None ↦ λ e. record { access = λ stay h. tt; reply = λ stay h. tt; own = λ stay h. tt; others = λ q n. refl; registers = λ stay h r spared. refl; absent = λ h. refl; size = refl }
-    | Some s ↦ elim s as (λ x. stay_of id w.competitors ≡ Some x → IsLocal leave_steps id w (after_leave_by w id (Some x)) (number_by (Some x))) [
-      | Seeking next ↦ λ e. record { access = λ stay h. tt; reply = λ stay h. tt; own = λ stay h. tt; others = λ q n. refl; registers = λ stay h r spared. refl; absent = λ h. refl; size = refl }
-      | Settled number ↦ λ e. settled_local number e
-    ]
-  ] refl
+  leave_local = leave_local_by (stay_of id w.competitors) refl
 
--- pools that look alike to a competitor answer it alike
-pub probe_alike : (id : ℕ) (one other : PoolState) → LookAlike probe_steps id one other → probe_answer one id ≡ probe_answer other id
-probe_alike id one other alike = elim (stay_of id one.competitors) as (λ e. stay_of id one.competitors ≡ e → stay_of id other.competitors ≡ e → probe_answer_by one e ≡ probe_answer other id) [
-  | None ↦ λ here there. rw there refl
-  | Some s ↦ elim s as (λ x. stay_of id one.competitors ≡ Some x → stay_of id other.competitors ≡ Some x → probe_answer_by one (Some x) ≡ probe_answer other id) [
-    | Seeking next ↦ λ here there.
-        let got : answer_of one.bits (probe_access one.size (Seeking next)) ≡ answer_of other.bits (probe_access one.size (Seeking next)) =
-        answer_alike (register_of one.bits) (register_of other.bits) (probe_access one.size (Seeking next)) (alike.bit (Seeking next) here) in
-        rw there (ap (λ x. Ok (probe_reply (stay_found one.size next x))) got
-        ∙ ap (λ (n : ℕ). Ok (probe_reply (stay_found n next (answer_of other.bits (probe_access n (Seeking next)))))) alike.size)
-    | Settled number ↦ λ here there. rw there refl
-  ]
-] refl (sym alike.stay)
-
--- and it stands alike in them afterwards
-stay_probed_by : PoolState → Option Stay → Option Stay
-stay_probed_by w None = None
+-- where a competitor stands after its probe, and after it has left
+abbrev stay_probed_by : PoolState → Option Stay → Option Stay
 stay_probed_by w (Some (Seeking next)) = Some (stay_probed w.size (Seeking next) (got_by w (Seeking next)))
-stay_probed_by w (Some (Settled number)) = Some (Settled number)
+stay_probed_by w o = o
 
-stay_after_probe : (id : ℕ) (w : PoolState) → stay_of id (after_probe w id).competitors ≡ stay_probed_by w (stay_of id w.competitors)
-unfolding stay_probed_by
-stay_after_probe id w = elim (stay_of id w.competitors) as (λ e. stay_of id w.competitors ≡ e → stay_of id (after_probe_by w id e).competitors ≡ stay_probed_by w e) [
-  | None ↦ λ here. here
-  | Some s ↦ elim s as (λ x. stay_of id w.competitors ≡ Some x → stay_of id (after_probe_by w id (Some x)).competitors ≡ stay_probed_by w (Some x)) [
-    | Seeking next ↦ λ here.
-        let new : Stay = stay_probed w.size (Seeking next) (got_by w (Seeking next)) in
-        let there : is_some (stay_of id w.competitors) ≡ true = rw here refl in
-        stay_of-with_stay w.competitors id new there id ∙ set_at-same (λ v. stay_of v w.competitors) id (Some new)
-    | Settled number ↦ λ here. here
-  ]
-] refl
-
-pub probe_stands : (id : ℕ) (one other : PoolState) → LookAlike probe_steps id one other → StandAlike id (after_probe one id) (after_probe other id)
-unfolding stay_probed_by
-probe_stands id one other alike =
-    stay_after_probe id one
-    ∙ elim (stay_of id one.competitors) as (λ e. stay_of id one.competitors ≡ e → stay_probed_by one e ≡ stay_probed_by other e) [
-      | None ↦ λ here. refl
-      | Some s ↦ elim s as (λ x. stay_of id one.competitors ≡ Some x → stay_probed_by one (Some x) ≡ stay_probed_by other (Some x)) [
-        | Seeking next ↦ λ here.
-            let got : answer_of one.bits (probe_access one.size (Seeking next)) ≡ answer_of other.bits (probe_access one.size (Seeking next)) =
-            answer_alike (register_of one.bits) (register_of other.bits) (probe_access one.size (Seeking next)) (alike.bit (Seeking next) here) in
-            ap (λ x. Some (stay_found one.size next x)) got
-            ∙ ap (λ (n : ℕ). Some (stay_found n next (answer_of other.bits (probe_access n (Seeking next))))) alike.size
-        | Settled number ↦ λ here. refl
-      ]
-    ] refl
-    ∙ ap (stay_probed_by other) alike.stay
-    ∙ sym (stay_after_probe id other)
-
-stay_left_by : Option Stay → Option Stay
-stay_left_by None = None
+abbrev stay_left_by : Option Stay → Option Stay
 stay_left_by (Some (Seeking next)) = Some (Seeking next)
-stay_left_by (Some (Settled number)) = None
+stay_left_by o = None
 
-stay_after_leave : (id : ℕ) (w : PoolState) → stay_of id (after_leave w id).competitors ≡ stay_left_by (stay_of id w.competitors)
-unfolding stay_left_by
-stay_after_leave id w = elim (stay_of id w.competitors) as (λ e. stay_of id w.competitors ≡ e → stay_of id (after_leave_by w id e).competitors ≡ stay_left_by e) [
-  | None ↦ λ here. here
-  | Some s ↦ elim s as (λ x. stay_of id w.competitors ≡ Some x → stay_of id (after_leave_by w id (Some x)).competitors ≡ stay_left_by (Some x)) [
-    | Seeking next ↦ λ here. here
-    | Settled number ↦ λ here. stay_of-without w.competitors id id ∙ set_at-same (λ v. stay_of v w.competitors) id None
-  ]
-] refl
+module _ (id : ℕ) (w : PoolState) where
+  stay_after_probe : (o : Option Stay) → stay_of id w.competitors ≡ o → stay_of id (after_probe_by w id o).competitors ≡ stay_probed_by w o
+  stay_after_probe (Some (Seeking next)) here =
+      let new : Stay = stay_probed w.size (Seeking next) (got_by w (Seeking next)) in
+      stay_of-with_stay w.competitors id new (ap is_some here) id ∙ set_at-same (λ v. stay_of v w.competitors) id (Some new)
+  stay_after_probe o here = here
 
-pub leave_stands : (id : ℕ) (one other : PoolState) → LookAlike leave_steps id one other → StandAlike id (after_leave one id) (after_leave other id)
-leave_stands id one other alike = stay_after_leave id one ∙ ap stay_left_by alike.stay ∙ sym (stay_after_leave id other)
+  stay_after_leave : (o : Option Stay) → stay_of id w.competitors ≡ o → stay_of id (after_leave_by w id o).competitors ≡ stay_left_by o
+  stay_after_leave (Some (Settled number)) here = stay_of-without w.competitors id id ∙ set_at-same (λ v. stay_of v w.competitors) id None
+  stay_after_leave o here = here
+
+module _ (id : ℕ) (one other : PoolState) where
+  -- pools that look alike to a competitor answer it alike, and it stands alike in them afterwards
+  module _ (alike : LookAlike probe_steps id one other) where
+    probed_alike : (next : ℕ) → stay_of id one.competitors ≡ Some (Seeking next) →
+        stay_probed one.size (Seeking next) (got_by one (Seeking next)) ≡ stay_probed other.size (Seeking next) (got_by other (Seeking next))
+    probed_alike next here =
+        ap (λ x. stay_found one.size next x) (answer_alike (register_of one.bits) (register_of other.bits) (probe_access one.size (Seeking next)) (alike.bit (Seeking next) here))
+        ∙ ap (λ (n : ℕ). stay_found n next (answer_of other.bits (probe_access n (Seeking next)))) alike.size
+
+    answers_alike : (o : Option Stay) → stay_of id one.competitors ≡ o → probe_answer_by one o ≡ probe_answer_by other o
+    answers_alike (Some (Seeking next)) here = ap (λ s. Ok (probe_reply s)) (probed_alike next here)
+    answers_alike o here = refl
+
+    pub probe_alike : probe_answer one id ≡ probe_answer other id
+    probe_alike = answers_alike (stay_of id one.competitors) refl ∙ ap (probe_answer_by other) alike.stay
+
+    stands_alike : (o : Option Stay) → stay_of id one.competitors ≡ o → stay_probed_by one o ≡ stay_probed_by other o
+    stands_alike (Some (Seeking next)) here = ap (λ (s : Stay). Some s) (probed_alike next here)
+    stands_alike o here = refl
+
+    pub probe_stands : StandAlike id (after_probe one id) (after_probe other id)
+    probe_stands =
+        stay_after_probe id one (stay_of id one.competitors) refl ∙ stands_alike (stay_of id one.competitors) refl
+        ∙ ap (stay_probed_by other) alike.stay ∙ sym (stay_after_probe id other (stay_of id other.competitors) refl)
+
+  pub leave_stands : LookAlike leave_steps id one other → StandAlike id (after_leave one id) (after_leave other id)
+  leave_stands alike = stay_after_leave id one (stay_of id one.competitors) refl ∙ ap stay_left_by alike.stay ∙ sym (stay_after_leave id other (stay_of id other.competitors) refl)
 
 -- the accesses of a competitor set a bit, clear one, or reach none
 pub own_probe : (size : ℕ) (stay : Stay) → SetsOrClears (probe_access size stay)

@@ -1,7 +1,7 @@
 -- competitors whose identities are distinct, and what is noted of them
-use Rattle.std.proofs.Common.{◌≡◌, ◌≢◌, ◌<◌, ◌%◌, ℕ, zero, suc, ◌==◌, true, false, List, [], ◌∷◌, ◌++◌, Some, None, length, get_or, set, inl, inr, refl, sym, ap, subst, ◌∙◌, arith, add-one}
+use Rattle.std.proofs.Common.{◌≡◌, ◌≢◌, ◌<◌, ◌%◌, ℕ, zero, suc, ◌==◌, true, List, [], ◌∷◌, ◌++◌, Some, None, length, get_or, set, inl, inr, refl, sym, ap, subst, ◌∙◌, arith, add-one}
 use Rattle.std.specs.Prelude.{is_some}
-use Rattle.std.proofs.lemmas.Bool.Decides.{eqb_tells}
+use Rattle.std.proofs.lemmas.Bool.Decides.{eqb_tells, nat_tests}
 use Rattle.std.proofs.lemmas.List.{get_or_default, get_or-set_other}
 use Rattle.std.proofs.lemmas.Grind.{get_or-set_at}
 use Rattle.step_memory.proofs.Roster as roster
@@ -9,42 +9,32 @@ use Rattle.bit_allocator.specs.declared.competitor.Competitor.{Competitor}
 use Rattle.bit_allocator.specs.declared.stay.Stay.{Stay}
 use Rattle.bit_allocator.specs.Competitors.{index_of, stay_of, with_stay, without}
 use Rattle.bit_allocator.specs.Roster.{AreDistinct, IsNoted, AreNoted}
-use Rattle.bit_allocator.proofs.StayOfLemmas.{stay_of-without}
+use Rattle.bit_allocator.proofs.StayOfLemmas.{stay_of-push, stay_of-without}
+use Rattle.step_memory.proofs.SetAtLemmas.{set_at-other}
 
--- who is absent stays absent where another's state is put
-absent_put : (q : ℕ) (cs : List Competitor) (id : ℕ) (stay : Stay) → stay_of q cs ≡ None → stay_of q (with_stay id stay cs) ≡ None
-absent_put q [] id stay h = refl
-absent_put q (c ∷ cs) id stay h = elim (eqb_tells c.identity q) [
-  | inl e ↦ absurd (let no : Some c.stay ≡ None = rw e.0 at h in cc)
-  | inr e ↦ let rest : stay_of q cs ≡ None = rw e.0 at h in elim (eqb_tells c.identity id) [
-    | inl f ↦ let other : (id == q) ≡ false = (elim (eqb_tells id q) [ inl g ↦ absurd (e.1 (f.1 ∙ g.1)) | inr g ↦ g.0 ]) in rw (f.0, other) rest
-    | inr f ↦ rw (f.0, e.0) (absent_put q cs id stay rest)
-  ]
-]
+-- another's state is put
+stay_elsewhere : (q : ℕ) (cs : List Competitor) (id : ℕ) (stay : Stay) → q ≢ id → stay_of q (with_stay id stay cs) ≡ stay_of q cs
+stay_elsewhere q [] id stay n = refl
+stay_elsewhere q (c ∷ cs) id stay n = let rest = stay_elsewhere q cs id stay n in grind (arith, nat_tests)
 
 pub distinct_put : (cs : List Competitor) (id : ℕ) (stay : Stay) → AreDistinct cs → AreDistinct (with_stay id stay cs)
 distinct_put [] id stay h = tt
 distinct_put (c ∷ cs) id stay h = elim (eqb_tells c.identity id) [
   | inl e ↦ rw e.0 (ap (λ (q : ℕ). stay_of q cs) (sym e.1) ∙ h.0, h.1)
-  | inr e ↦ rw e.0 (absent_put c.identity cs id stay h.0, distinct_put cs id stay h.1)
-]
-
-absent_push : (q : ℕ) (cs : List Competitor) (new : Competitor) → stay_of q cs ≡ None → new.identity ≢ q → stay_of q (cs ++ new ∷ []) ≡ None
-absent_push q [] new h n = elim (eqb_tells new.identity q) [ inl e ↦ absurd (n e.1) | inr e ↦ rw e.0 refl ]
-absent_push q (c ∷ cs) new h n = elim (eqb_tells c.identity q) [
-  | inl e ↦ absurd (let no : Some c.stay ≡ None = rw e.0 at h in cc)
-  | inr e ↦ rw e.0 (absent_push q cs new (rw e.0 at h) n)
+  | inr e ↦ rw e.0 (stay_elsewhere c.identity cs id stay e.1 ∙ h.0, distinct_put cs id stay h.1)
 ]
 
 pub distinct_push : (cs : List Competitor) (new : Competitor) → stay_of new.identity cs ≡ None → AreDistinct cs → AreDistinct (cs ++ new ∷ [])
 distinct_push [] new h d = (refl, tt)
 distinct_push (c ∷ cs) new h d = elim (eqb_tells c.identity new.identity) [
   | inl e ↦ absurd (let no : Some c.stay ≡ None = rw e.0 at h in cc)
-  | inr e ↦ (absent_push c.identity cs new d.0 (λ k. e.1 (sym k)), distinct_push cs new (rw e.0 at h) d.1)
+  | inr e ↦
+      let absent = rw e.0 at h in
+      (stay_of-push cs new absent c.identity ∙ set_at-other (λ v. stay_of v cs) new.identity (Some new.stay) c.identity e.1 ∙ d.0, distinct_push cs new absent d.1)
 ]
 
 absent_without : (q id : ℕ) (cs : List Competitor) → stay_of q cs ≡ None → stay_of q (without id cs) ≡ None
-absent_without q id cs h = stay_of-without cs id q ∙ (elim (eqb_tells q id) [ inl e ↦ rw e.0 refl | inr e ↦ rw e.0 h ])
+absent_without q id cs h = stay_of-without cs id q ∙ grind (arith, nat_tests)
 
 pub distinct_without : (id : ℕ) (cs : List Competitor) → AreDistinct cs → AreDistinct (without id cs)
 distinct_without id [] d = tt

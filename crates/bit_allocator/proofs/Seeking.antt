@@ -1,5 +1,7 @@
 -- probes of the bits, one after the other, until one gets a number
-use Rattle.std.proofs.Common.{◌≡◌, ℕ, suc, ◌+◌, ◌<◌, ◌≤◌, ◌⊎◌, Bool, true, false, not, inl, inr, refl, get_or, arith}
+use Rattle.std.proofs.Common.{◌≡◌, ℕ, suc, ◌+◌, ◌<◌, ◌≤◌, ◌⊎◌, true, false, inl, inr, refl, get_or, arith}
+use Rattle.std.specs.Prelude.{nat_lt}
+use Rattle.std.proofs.lemmas.Bool.{le-leb}
 use Rattle.std.proofs.lemmas.Bool.Decides.{leb_tells}
 use Rattle.step_memory.specs.RegisterState.{Registers}
 use Rattle.step_memory.specs.declared.access.Access.TheVariants.{TestAndSet}
@@ -15,26 +17,22 @@ pub record Missed (size : ℕ) (first : Registers (Unit {0})) (bit : ℕ) (now :
 module _ (size : ℕ) (first : Registers (Unit {0})) (bit : ℕ) (now : Registers (Unit {0})) (m : Missed size first bit now) where
   -- where the bit is clear the probe gets its number
   pub got_bit : bit < size → get_or now.bits bit false ≡ false → Gets size 1 first bit (after_access now (TestAndSet bit))
-  got_bit below clear = elim (leb_tells (suc bit) size) [
-    | inl l ↦ m.onward (inl below) bit (after_access now (TestAndSet bit)) (record { misses = 0; after = rw (l.0, clear) (refl, refl) })
-    | inr l ↦ absurd (let k = l.1 in omega arith)
-  ]
+  got_bit below clear = m.onward (inl below) bit (after_access now (TestAndSet bit)) (record { misses = 0; after = rw (le-leb (suc bit) size (omega arith), clear) (refl, refl) })
 
   -- where it is set the next one is probed, if there is one
   pub missed_bit : 1 ≤ bit → bit < size → get_or now.bits bit false ≡ true → Missed size first (bit + 1) (after_access now (TestAndSet bit))
-  missed_bit low below was = elim (leb_tells (suc bit) size) [
-    | inl l ↦ record {
-      onward = λ h n new gets. elim (leb_tells (suc (bit + 1)) size) [
-        | inl k ↦ m.onward (inl below) n new (record { misses = suc gets.misses; after = rw (l.0, was, k.0) (refl, gets.after) })
-        | inr k ↦ elim h [ inl more ↦ absurd (let e = k.1 in omega arith) | inr one ↦ absurd (let e = one.1 in omega arith) ]
-      ];
-      past = λ end more. elim (leb_tells (suc (bit + 1)) size) [
-        | inl k ↦ absurd (let e = k.1 in omega arith)
-        | inr k ↦ m.onward (inl below) size (after_access now (TestAndSet bit)) (record { misses = 0; after = rw (l.0, was, k.0) (refl, refl) })
-      ];
-    }
-    | inr l ↦ absurd (let k = l.1 in omega arith)
-  ]
+  missed_bit low below was =
+      let here : nat_lt bit size ≡ true = le-leb (suc bit) size (omega arith) in
+      elim (leb_tells (suc (bit + 1)) size) [
+        | inl k ↦ record {
+          onward = λ h n new gets. m.onward (inl below) n new (record { misses = suc gets.misses; after = rw (here, was, k.0) (refl, gets.after) });
+          past = λ end more. absurd (let e = k.1 in omega arith);
+        }
+        | inr k ↦ record {
+          onward = λ h n new gets. absurd (elim h [ inl more ↦ (let e = k.1 in omega arith) | inr one ↦ (let e = one.1 in omega arith) ]);
+          past = λ end more. m.onward (inl below) size (after_access now (TestAndSet bit)) (record { misses = 0; after = rw (here, was, k.0) (refl, refl) });
+        }
+      ]
 
   -- past the last bit the last number is left
   pub got_last : 1 ≤ bit → size ≤ bit → Gets size 1 first size now
@@ -45,11 +43,3 @@ module _ (size : ℕ) (first : Registers (Unit {0})) (bit : ℕ) (now : Register
       | inr k ↦ m.onward (inr (end, omega (arith, l.1))) size now (record { misses = 0; after = rw k.0 (refl, refl) })
     ]
   ]
-
-pub not_set : (b : Bool) → true ≡ not b → b ≡ false
-not_set true h = absurd (cc)
-not_set false h = refl
-
-pub set_then : (b : Bool) → false ≡ not b → b ≡ true
-set_then true h = refl
-set_then false h = absurd (cc)

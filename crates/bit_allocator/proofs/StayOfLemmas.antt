@@ -1,16 +1,14 @@
 -- where each identity stands, after a call
-use Rattle.std.proofs.Common.{◌≡◌, ℕ, suc, Bool, true, false, not, ◌==◌, List, [], ◌∷◌, ◌++◌, Some, None, length, filter, cond, inl, inr, refl, sym, ap, ◌∙◌}
+use Rattle.std.proofs.Common.{◌≡◌, ℕ, true, not, ◌==◌, List, [], ◌∷◌, ◌++◌, Some, None, length, filter, cond, inl, inr, refl, ◌∙◌, arith}
 use Rattle.std.specs.Prelude.{is_some}
 use Rattle.std.specs.List.{list_any}
-use Rattle.std.proofs.lemmas.Bool.Decides.{eqb_tells, Decides-eqb}
+use Rattle.std.proofs.lemmas.Bool.Decides.{eqb_tells, nat_tests}
+use Rattle.std.proofs.lemmas.List.{map-append, length-map}
 use Rattle.step_memory.specs.SetAt.{set_at}
 use Rattle.step_memory.proofs.Roster.{seen-push, seen-put}
 use Rattle.bit_allocator.specs.declared.competitor.Competitor.{Competitor}
 use Rattle.bit_allocator.specs.declared.stay.Stay.{Stay}
 use Rattle.bit_allocator.specs.Competitors.{identities, stay_of, with_stay, without}
-
-eqb_flip : (a b : ℕ) → (a == b) ≡ (b == a)
-eqb_flip a b = elim (eqb_tells a b) [ inl w ↦ w.0 ∙ sym ((Decides-eqb b a).1 (sym w.1)) | inr w ↦ elim (eqb_tells b a) [ inl v ↦ absurd (w.1 (sym v.1)) | inr v ↦ w.0 ∙ sym v.0 ] ]
 
 -- one more at the end, whose identity was not there
 pub stay_of-push : (cs : List Competitor) (new : Competitor) → stay_of new.identity cs ≡ None → (q : ℕ) → stay_of q (cs ++ new ∷ []) ≡ set_at (λ v. stay_of v cs) new.identity (Some new.stay) q
@@ -20,51 +18,28 @@ stay_of-push = seen-push (λ c. c.identity) (λ c. c.stay)
 pub stay_of-with_stay : (cs : List Competitor) (id : ℕ) (stay : Stay) → is_some (stay_of id cs) ≡ true → (q : ℕ) → stay_of q (with_stay id stay cs) ≡ set_at (λ v. stay_of v cs) id (Some stay) q
 stay_of-with_stay cs id stay = seen-put (λ c. c.identity) (λ c. c.stay) cs (record { identity = id; stay = stay })
 
-same_either : {X : Type 0} (b : Bool) (x : X) → x ≡ cond b x x
-same_either true x = refl
-same_either false x = refl
-
 -- one less
 pub stay_of-without : (cs : List Competitor) (id : ℕ) (q : ℕ) → stay_of q (without id cs) ≡ set_at (λ v. stay_of v cs) id None q
-stay_of-without [] id q = same_either (q == id) None
+stay_of-without [] id q = grind (arith, nat_tests)
 stay_of-without (c ∷ cs) id q =
-    elim (eqb_tells c.identity id) [
-      | inl w ↦ elim (eqb_tells id q) [
-        | inl v ↦ let own : (q == id) ≡ true = eqb_flip q id ∙ v.0 in let i = rw own at (stay_of-without cs id q) in rw (w.0, own) i
-        | inr v ↦ let other : (q == id) ≡ false = eqb_flip q id ∙ v.0 in let first : (c.identity == q) ≡ false = rw w.1 v.0 in let i = rw other at (stay_of-without cs id q) in rw (w.0, other, first) i
-      ]
-      | inr w ↦ elim (eqb_tells c.identity q) [
-        | inl v ↦ let other : (q == id) ≡ false = rw (← v.1) w.0 in rw (w.0, v.0, other) refl
-        | inr v ↦ let i = stay_of-without cs id q in rw (w.0, v.0) i
-      ]
-    ]
+    let rest : stay_of q (without id cs) ≡ cond (q == id) None (stay_of q cs) = stay_of-without cs id q in
+    elim (eqb_tells c.identity id) [ inl w ↦ rw w.0 (grind (arith, nat_tests)) | inr w ↦ rw w.0 (grind (arith, nat_tests)) ]
 
 -- those who compete
 pub identities-push : (cs : List Competitor) (new : Competitor) → identities (cs ++ new ∷ []) ≡ identities cs ++ new.identity ∷ []
-identities-push [] new = refl
-identities-push (c ∷ cs) new = ap (λ xs. c.identity ∷ xs) (identities-push cs new)
+identities-push cs new = map-append (λ c. c.identity) cs (new ∷ [])
 
 pub identities-with_stay : (cs : List Competitor) (id : ℕ) (stay : Stay) → identities (with_stay id stay cs) ≡ identities cs
 identities-with_stay [] id stay = refl
-identities-with_stay (c ∷ cs) id stay = elim (eqb_tells c.identity id) [
-  | inl w ↦ rw w.0 (ap (λ p. p ∷ identities cs) (sym w.1))
-  | inr w ↦ rw w.0 (ap (λ xs. c.identity ∷ xs) (identities-with_stay cs id stay))
-]
+identities-with_stay (c ∷ cs) id stay = let rest = identities-with_stay cs id stay in grind (arith, nat_tests)
 
 pub identities-without : (cs : List Competitor) (id : ℕ) → identities (without id cs) ≡ filter (λ q. not (q == id)) (identities cs)
 identities-without [] id = refl
-identities-without (c ∷ cs) id = elim (eqb_tells c.identity id) [
-  | inl w ↦ rw w.0 (identities-without cs id)
-  | inr w ↦ rw w.0 (ap (λ xs. c.identity ∷ xs) (identities-without cs id))
-]
+identities-without (c ∷ cs) id = let rest = identities-without cs id in grind (arith, nat_tests)
 
 pub length-identities : (cs : List Competitor) → length (identities cs) ≡ length cs
-length-identities [] = refl
-length-identities (c ∷ cs) = ap suc (length-identities cs)
+length-identities cs = length-map cs (λ c. c.identity)
 
 pub competes-identities : (cs : List Competitor) (p : ℕ) → list_any (λ q. q == p) (identities cs) ≡ is_some (stay_of p cs)
 competes-identities [] p = refl
-competes-identities (c ∷ cs) p = elim (eqb_tells c.identity p) [
-  | inl w ↦ rw w.0 refl
-  | inr w ↦ rw w.0 (competes-identities cs p)
-]
+competes-identities (c ∷ cs) p = let rest = competes-identities cs p in grind (arith, nat_tests)

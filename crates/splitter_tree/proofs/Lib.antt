@@ -1,4 +1,3 @@
-mod Common
 pub mod collects
 pub mod nodes
 pub mod TreeMemoryLemmas
@@ -6,5 +5,4 @@ mod CallCases
 mod StoreLemmas
 mod DueTied
 mod TreeProved
-mod StandAlike
 mod OwnAccesses

@@ -1,12 +1,28 @@
 -- a store is never refused for want of memory, and changes nothing but its participant and the segment at its place
-use Rattle.std.proofs.Common.{◌≡◌, ◌≢◌, ℕ, true, false, Option, Some, None, Result, Ok, Err, inl, inr, refl, sym, ap, ◌∙◌, is_some, option_map, option_and_then}
-use Rattle.splitter_tree.proofs.Common.{Note, Participant, Record, Refusal, NoMemory, participant_of, program_of, beginner, MemorySteps, set_at, participant_of-put, set_at-same, set_at-other, TreeRegister, TreeValue, Client, place_of, client_steps, storing, write_at, record_of, NodeMap, tree_steps, may_refuse}
+use Rattle.std.proofs.Common.{◌≡◌, ◌≢◌, ℕ, true, false, Option, Some, None, Result, Ok, Err, inl, inr, refl, sym, ap, ◌∙◌}
+use Rattle.std.specs.Prelude.{is_some, option_map, option_and_then}
+use Rattle.step_memory.specs.declared.note.Note.{Note}
 use Rattle.step_memory.specs.declared.note.Note.TheVariants.{Said}
+use Rattle.step_memory.specs.declared.participant.Participant.{Participant}
+use Rattle.step_memory.specs.declared.record.Record.{Record}
+use Rattle.step_memory.specs.declared.refusal.Refusal.{Refusal}
+use Rattle.step_memory.specs.declared.refusal.Refusal.TheVariants.{NoMemory}
 use Rattle.step_memory.specs.Locality.{IsLocal}
+use Rattle.step_memory.specs.Participant.{participant_of, program_of, beginner}
+use Rattle.step_memory.specs.Steps.{MemorySteps}
+use Rattle.step_memory.specs.SetAt.{set_at}
 use Rattle.step_memory.specs.World.{after_set, step_answer, may_refuse_step}
+use Rattle.step_memory.proofs.ParticipantLemmas.{participant_of-put}
+use Rattle.step_memory.proofs.SetAtLemmas.{set_at-same, set_at-other}
 use Rattle.step_memory.proofs.StepLemmas.{lacks_or_not}
+use Rattle.splitter_tree.specs.declared.register.TreeRegister.{TreeRegister}
+use Rattle.splitter_tree.specs.declared.register.TreeValue.{TreeValue}
+use Rattle.splitter_tree.specs.declared.client.Client.{Client}
 use Rattle.splitter_tree.specs.declared.client.TreeReply.{TreeReply}
 use Rattle.splitter_tree.specs.declared.client.TreeReply.TheVariants.{Stored}
+use Rattle.splitter_tree.specs.Walk.{place_of}
+use Rattle.splitter_tree.specs.Client.{client_steps, storing, write_at, record_of}
+use Rattle.splitter_tree.specs.TreeSteps.{NodeMap, tree_steps, may_refuse}
 use Rattle.splitter_tree.specs.TreeWorld.{TreeState, IsLocalStore}
 use Rattle.splitter_tree.proofs.nodes.PlacesTied.{write_spares}
 
@@ -28,14 +44,16 @@ write_fits m None r = refl
 write_fits m (Some place) r = refl
 
 -- so its step has no error
-pub store_goes_well : (w v : TreeState NodeMap) (id value : ℕ) (c : Client) → Some c ≡ program_of id w.participants → v ≡ after_set w id (storing c value) → (result : Result (Note TreeReply) Refusal) (why : Refusal) → result ≡ Err why →
+pub store_goes_well : (w v : TreeState NodeMap) (id value : ℕ) (c : Client) → Some c ≡ program_of id w.participants → v ≡ after_set w id (storing c value) →
+    (result : Result (Note TreeReply) Refusal) (why : Refusal) → result ≡ Err why →
     (result ≢ Err NoMemory → result ≡ step_answer client_steps tree_steps v id) → (result ≡ Err NoMemory → may_refuse_step client_steps tree_steps v id ≡ true) → ⊥
 store_goes_well w v id value c some e result why is answer lacks = elim (lacks_or_not result) [
   | inr goes ↦ let ok : result ≡ Ok (Said Stored) = answer goes ∙ rw (e, asked_stands w id value c some) refl in absurd (cc)
   | inl lack ↦ let never : true ≡ false = sym (lacks lack) ∙ rw (e, asked_stands w id value c some) (write_fits w.memory (place_of c.walker) (record_of c value)) in absurd (cc)
 ]
 
-pub local_store : {S : Type 0} (memory : MemorySteps S TreeRegister TreeValue) (w v new : TreeState S) (id value : ℕ) (c : Client) → Some c ≡ program_of id w.participants → v ≡ after_set w id (storing c value) → IsLocal client_steps memory id v new → IsLocalStore memory id w new
+pub local_store : {S : Type 0} (memory : MemorySteps S TreeRegister TreeValue) (w v new : TreeState S) (id value : ℕ) (c : Client) →
+    Some c ≡ program_of id w.participants → v ≡ after_set w id (storing c value) → IsLocal client_steps memory id v new → IsLocalStore memory id w new
 local_store memory w v new id value c some e local = record {
   most = local.most ∙ ap (λ u. u.most) e;
   others = λ q n. local.others q n ∙ ap (λ u. participant_of q u.participants) e ∙ asked_put w id value c some q ∙ set_at-other (λ k. participant_of k w.participants) id (Some (beginner id (storing c value))) q n;

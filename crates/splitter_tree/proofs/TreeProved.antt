@@ -1,20 +1,40 @@
 -- the world of a tree is proved
-use Rattle.std.proofs.Common.{◌≡◌, ◌≢◌, ◌≤◌, ◌==◌, ℕ, true, false, cond, inl, inr, List, [], ◌∷◌, ◌++◌, Option, Some, None, Result, Ok, Err, refl, sym, ap, subst, ◌∙◌, arith, option_map, option_and_then, is_some, nat_le}
-use Rattle.splitter_tree.proofs.Common.{eqb_tells, leb_tells, KeepsPlacesLaw, way_calls, walker_in, TreeCall, Began, Stepped, Stored, CollectBegan, CollectStepped, tree_steps, empty_tree, TreeRegister, TreeValue, TreeRefusesAsDue, place_of, place_by, Client, EndsOnce, begin_refusal, done_unless, step_answer, client_steps, is_placing, place_told, MemorySteps, Refusal, NoMemory, Finished, participant_of, program_of, Participant}
+use Rattle.std.proofs.Common.{◌≡◌, ◌≢◌, ◌≤◌, ◌==◌, ℕ, Bool, true, false, cond, inl, inr, List, [], ◌∷◌, ◌++◌, Option, Some, None, Result, Ok, Err, refl, sym, ap, subst, ◌∙◌, arith, ne_eqb}
+use Rattle.std.specs.Prelude.{option_map, option_and_then, is_some, nat_le}
+use Rattle.std.proofs.lemmas.Bool.Decides.{nat_tests}
+use Rattle.splitter_tree.specs.PlacesLaw.{KeepsPlacesLaw, way_calls, walker_in}
 use Rattle.splitter_tree.specs.Machine.{TreeWorldState, HasLawfulNodes, fresh_over, tree, tree_over}
-use Rattle.splitter_tree.specs.TreeWorld.{TreeState, after_tree_begin, asking_refusal, place_answer, place_answer_by, after_placing, may_lack_memory, after_store, after_collect_begin, view_answer, after_collecting}
+use Rattle.splitter_tree.specs.TreeCalls.{TreeCall}
+use Rattle.splitter_tree.specs.TreeCalls.TreeCall.{Began, Stepped, Stored, CollectBegan, CollectStepped}
+use Rattle.splitter_tree.specs.TreeSteps.{tree_steps, empty_tree}
+use Rattle.splitter_tree.specs.TreeWorld.{TreeState, after_tree_begin, asking_refusal, place_answer, place_answer_by, after_placing, after_placing_by, may_lack_memory, after_store, after_collect_begin, view_answer, after_collecting, after_collecting_by}
+use Rattle.splitter_tree.specs.declared.register.TreeRegister.{TreeRegister}
+use Rattle.splitter_tree.specs.declared.register.TreeValue.{TreeValue}
 use Rattle.splitter_tree.proofs.collects.CollectSteps.{collect_law}
 use Rattle.splitter_tree.proofs.nodes.PlacesTied.{IsTied, tied_after, tree_of_tied, way_calls-append}
 use Rattle.splitter_tree.proofs.DueTied.{world_counted, places_law}
+use Rattle.splitter_tree.specs.TreeDue.{TreeRefusesAsDue}
 use Rattle.splitter_tree.proofs.TreeMemoryLemmas.{tree_memory, tree_empty}
-use Rattle.step_memory.specs.Calls.{Call, outcome_of, lacked_memory, reply_of}
+use Rattle.splitter_tree.specs.Walk.{place_of, place_by}
+use Rattle.splitter_tree.specs.declared.client.Client.{Client}
+use Rattle.step_memory.specs.Calls.{Call, outcome_of}
 use Rattle.step_memory.specs.Calls.Call.{Stepped as WayStepped}
+use Rattle.step_memory.specs.Due.{EndsOnce}
 use Rattle.step_memory.specs.Machine.{After, Always, IsLawful, LeadsOn, RefusesWhereDue, IsProved}
+use Rattle.step_memory.specs.World.{begin_refusal, done_unless, step_answer, after_step}
 use Rattle.splitter_tree.specs.Laws.{StaysAlikeOnWay, StaysAlikeCollecting}
 use Rattle.step_memory.proofs.StepLemmas.{lacks_none, lacks_or_not}
-use Rattle.splitter_tree.proofs.StandAlike.{placing_stands, collecting_stands}
+use Rattle.step_memory.specs.Calls.{lacked_memory, reply_of}
+use Rattle.splitter_tree.specs.Client.{client_steps, is_placing, is_collecting, place_told}
+use Rattle.step_memory.specs.Locality.{LookAlike, StandAlike}
+use Rattle.step_memory.proofs.LocalityLemmas.{stand_alike}
+use Rattle.step_memory.specs.Steps.{MemorySteps}
+use Rattle.step_memory.specs.declared.refusal.Refusal.{Refusal}
+use Rattle.step_memory.specs.declared.refusal.Refusal.TheVariants.{NoMemory, Finished}
 use Rattle.step_memory.proofs.DueLemmas.{no_second_end}
 use Rattle.step_memory.proofs.MachineLemmas.{call_leads_on, machine_proved}
+use Rattle.step_memory.specs.Participant.{participant_of, program_of}
+use Rattle.step_memory.specs.declared.participant.Participant.{Participant}
 
 module _ {S : Type 0} (memory : MemorySteps S TreeRegister TreeValue) where
   -- a world is tied to its calls
@@ -48,7 +68,8 @@ tree_begins w new id reply = call_leads_on tree w new (Began id reply)
 
 lacks_no_place : (w : TreeWorldState) (id : ℕ) (o : Option Client) → lacked_memory (place_answer_by tree_steps w id o) ≡ false
 lacks_no_place w id None = refl
-lacks_no_place w id (Some c) = elim (is_placing c.task) as (λ b. lacked_memory (cond b (reply_of place_told (step_answer client_steps tree_steps w id)) (Err Finished)) ≡ false) [ true ↦ lacks_none client_steps tree_steps place_told w id | false ↦ refl ]
+lacks_no_place w id (Some c) = elim (is_placing c.task) as (λ b. lacked_memory (cond b (reply_of place_told (step_answer client_steps tree_steps w id)) (Err Finished)) ≡ false)
+    [ true ↦ lacks_none client_steps tree_steps place_told w id | false ↦ refl ]
 
 pub tree_goes_on : (w new : TreeWorldState) (id : ℕ) (reply : Result (Option ℕ) Refusal) → (reply ≢ Err NoMemory → new ≡ after_placing tree_steps w id) → (reply ≢ Err NoMemory → reply ≡ place_answer tree_steps w id) →
     (reply ≡ Err NoMemory → new ≡ w) → (reply ≡ Err NoMemory → may_lack_memory tree_steps w id ≡ true) → LeadsOn tree w new (Stepped id reply)
@@ -67,15 +88,39 @@ tree_stores w new id value reply = call_leads_on tree w new (Stored id value rep
 pub tree_collects : (w new : TreeWorldState) (id : ℕ) (reply : Result (Unit {0}) Refusal) → new ≡ after_collect_begin w id → reply ≡ done_unless (asking_refusal w id) → LeadsOn tree w new (CollectBegan id reply)
 tree_collects w new id reply = call_leads_on tree w new (CollectBegan id reply)
 
-pub tree_reads_on : (w new : TreeWorldState) (id : ℕ) (reply : Result (Option (List (ℕ × ℕ))) Refusal) → new ≡ after_collecting tree_steps w id → reply ≡ view_answer tree_steps w id → LeadsOn tree w new (CollectStepped id reply)
+pub tree_reads_on : (w new : TreeWorldState) (id : ℕ) (reply : Result (Option (List (ℕ × ℕ))) Refusal) → new ≡ after_collecting tree_steps w id → reply ≡ view_answer tree_steps w id →
+    LeadsOn tree w new (CollectStepped id reply)
 tree_reads_on w new id reply = call_leads_on tree w new (CollectStepped id reply)
+
+-- where a participant stands after its step in two worlds that look alike to it
+module _ (w other : TreeWorldState) (id : ℕ) (alike : LookAlike client_steps tree_steps id w other) where
+  same_program : program_of id w.participants ≡ program_of id other.participants
+  same_program = ap (option_map (λ p. p.program)) alike.participant
+
+  step_or_not : (b : Bool) → StandAlike id (cond b (after_step client_steps tree_steps w id) w) (cond b (after_step client_steps tree_steps other id) other)
+  step_or_not true = stand_alike client_steps tree_steps id w other alike
+  step_or_not false = alike.participant
+
+  placing_by : (o : Option Client) → StandAlike id (after_placing_by tree_steps w id o) (after_placing_by tree_steps other id o)
+  placing_by None = alike.participant
+  placing_by (Some c) = step_or_not (is_placing c.task)
+
+  placing_stands : StandAlike id (after_placing tree_steps w id) (after_placing tree_steps other id)
+  placing_stands = placing_by (program_of id w.participants) ∙ ap (λ (o : Option Client). participant_of id (after_placing_by tree_steps other id o).participants) same_program
+
+  collecting_by : (o : Option Client) → StandAlike id (after_collecting_by tree_steps w id o) (after_collecting_by tree_steps other id o)
+  collecting_by None = alike.participant
+  collecting_by (Some c) = step_or_not (is_collecting c.task)
+
+  collecting_stands : StandAlike id (after_collecting tree_steps w id) (after_collecting tree_steps other id)
+  collecting_stands = collecting_by (program_of id w.participants) ∙ ap (λ (o : Option Client). participant_of id (after_collecting_by tree_steps other id o).participants) same_program
 
 -- who stands in the new world after its step stands alike in each world that looked alike to it
 pub tree_stays : (w new : TreeWorldState) (id : ℕ) → new ≡ after_placing tree_steps w id → StaysAlikeOnWay w new id
-tree_stays w new id e other h = ap (λ (v : TreeWorldState). participant_of id v.participants) e ∙ placing_stands tree_steps w other id h
+tree_stays w new id e other h = ap (λ (v : TreeWorldState). participant_of id v.participants) e ∙ placing_stands w other id h
 
 pub tree_stays_collecting : (w new : TreeWorldState) (id : ℕ) → new ≡ after_collecting tree_steps w id → StaysAlikeCollecting w new id
-tree_stays_collecting w new id e other h = ap (λ (v : TreeWorldState). participant_of id v.participants) e ∙ collecting_stands tree_steps w other id h
+tree_stays_collecting w new id e other h = ap (λ (v : TreeWorldState). participant_of id v.participants) e ∙ collecting_stands w other id h
 
 -- what the contracts of its calls are proved by
 pub ruleset tree_contracts = (tree_law, tree_due, tree_nodes, tree_begins, tree_stays, tree_stays_collecting)
@@ -105,7 +150,6 @@ one_place_told p a b before between rest law =
 pub not_first_refused : (most p : ℕ) (why : Refusal) (rest : List TreeCall) → 1 ≤ most → p ≢ 0 → TreeRefusesAsDue most (Began p (Err why) ∷ rest) → ⊥
 not_first_refused most p why rest room some due =
     let is = due [] (Began p (Err why)) rest refl in
-    let nonzero : (p == 0) ≡ false = (elim (eqb_tells p 0) [ inl e ↦ absurd (some e.1) | inr e ↦ e.0 ]) in
-    let free : nat_le most 0 ≡ false = (elim (leb_tells most 0) [ inl l ↦ absurd (let k = l.1 in omega arith) | inr l ↦ l.0 ]) in
-    let never : Err why ≡ Ok tt = rw (nonzero, free) at is in
+    let free : nat_le most 0 ≡ false = grind (arith, nat_tests) in
+    let never : Err why ≡ Ok tt = rw (ne_eqb p 0 some, free) at is in
     cc

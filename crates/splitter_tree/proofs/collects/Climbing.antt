@@ -1,6 +1,8 @@
 -- climbing from right children
-use Rattle.std.proofs.Common.{◌≡◌, ℕ, zero, suc, ◌/◌, ◌%◌, ◌<◌, ◌≤◌, ◌==◌, true, false, cond, inl, inr, refl, ap, ◌∙◌, arith, ◌&&◌, nat_lt, Bool, ◌⊎◌}
-use Rattle.splitter_tree.proofs.Common.{eqb_tells, leb_tells, climbed_in, climbed}
+use Rattle.std.proofs.Common.{◌≡◌, ℕ, zero, suc, ◌/◌, ◌%◌, ◌<◌, ◌≤◌, ◌==◌, true, false, cond, refl, ap, ◌∙◌, arith}
+use Rattle.std.specs.Prelude.{◌&&◌, nat_lt, Bool, ◌⊎◌}
+use Rattle.std.proofs.lemmas.Bool.Decides.{nat_tests}
+use Rattle.splitter_tree.specs.CollectWalk.{climbed_in, climbed}
 
 -- one climbs from here
 abbrev pub climbs_from : ℕ → Bool
@@ -8,10 +10,7 @@ climbs_from p = (p % 2 == 1) && nat_lt 1 p
 
 -- one climbs from a right child below the root, and from nothing else
 pub climbs_tells : (p : ℕ) → ((climbs_from p ≡ true) × (p % 2 ≡ 1) × (1 < p)) ⊎ ((climbs_from p ≡ false) × ((p ≤ 1) ⊎ ((p % 2 ≡ 0) × (1 < p))))
-climbs_tells p = elim (eqb_tells (p % 2) 1) [
-  | inl e ↦ elim (leb_tells 2 p) [ inl l ↦ inl (rw (e.0, l.0) refl, e.1, omega (arith, l.1)) | inr l ↦ inr (rw (e.0, l.0) refl, inl (omega (arith, l.1))) ]
-  | inr e ↦ elim (leb_tells 2 p) [ inl l ↦ inr (rw e.0 refl, inr (omega (arith, e.1), omega (arith, l.1))) | inr l ↦ inr (rw e.0 refl, inl (omega (arith, l.1))) ]
-]
+climbs_tells p = grind (arith, nat_tests)
 
 -- as many steps as the number are enough
 climb_enough : (n m p : ℕ) → p ≤ n → p ≤ m → climbed_in n p ≡ climbed_in m p
@@ -24,4 +23,4 @@ pub climbed_is : (p : ℕ) → climbed p ≡ cond (climbs_from p) (climbed (p / 
 climbed_is p = climb_enough p (suc p) p (omega arith) (omega arith) ∙ ap (λ x. cond (climbs_from p) x p) (climb_enough p (p / 2) (p / 2) (omega arith) (omega arith))
 
 pub climbed_up : (p : ℕ) → p % 2 ≡ 1 → 1 < p → climbed p ≡ climbed (p / 2)
-climbed_up p odd more = climbed_is p ∙ elim (climbs_tells p) [ inl e ↦ rw e.0 refl | inr e ↦ elim e.1 [ inl l ↦ absurd (omega arith) | inr l ↦ absurd (omega (arith, l.0)) ] ]
+climbed_up p odd more = climbed_is p ∙ grind (arith, nat_tests)

@@ -1,6 +1,8 @@
 -- how many right siblings are still to come
-use Rattle.std.proofs.Common.{◌≡◌, ℕ, zero, suc, ◌+◌, ◌*◌, ◌/◌, ◌%◌, ◌<◌, ◌≤◌, ◌==◌, true, false, cond, Some, inl, inr, refl, sym, ap, ◌∙◌, arith, Bool, ◌&&◌, nat_lt, ◌⊎◌}
-use Rattle.splitter_tree.proofs.Common.{eqb_tells, leb_tells, climbed_in, climbed, node_after}
+use Rattle.std.proofs.Common.{◌≡◌, ℕ, zero, suc, ◌+◌, ◌*◌, ◌/◌, ◌%◌, ◌<◌, ◌≤◌, ◌==◌, cond, Some, inl, inr, refl, sym, ap, ◌∙◌, arith}
+use Rattle.std.specs.Prelude.{Bool, ◌&&◌, nat_lt, ◌⊎◌}
+use Rattle.std.proofs.lemmas.Bool.Decides.{nat_tests}
+use Rattle.splitter_tree.specs.CollectWalk.{climbed_in, climbed, node_after}
 use Rattle.splitter_tree.specs.Ahead.{open_in, open_at}
 use Rattle.splitter_tree.proofs.collects.Climbing.{climbs_tells}
 use Rattle.splitter_tree.proofs.collects.OrderLemmas.{follows}
@@ -9,39 +11,23 @@ use Rattle.splitter_tree.proofs.collects.OrderLemmas.{follows}
 abbrev is_left : ℕ → Bool
 is_left p = (p % 2 == 0) && nat_lt 1 p
 
-left_is : (p : ℕ) → 1 < p → p % 2 ≡ 0 → is_left p ≡ true
-left_is p child even = elim (eqb_tells (p % 2) 0) [
-  | inl e ↦ elim (leb_tells 2 p) [ inl l ↦ rw (e.0, l.0) refl | inr l ↦ absurd (omega (arith, l.1)) ]
-  | inr e ↦ absurd (e.1 even)
-]
-
-no_left : (p : ℕ) → (p ≤ 1) ⊎ (p % 2 ≡ 1) → is_left p ≡ false
-no_left p why = elim (eqb_tells (p % 2) 0) [
-  | inl e ↦ elim (leb_tells 2 p) [ inl l ↦ absurd (elim why [ inl w ↦ omega (arith, l.1, w) | inr w ↦ omega (arith, e.1, w) ]) | inr l ↦ rw (e.0, l.0) refl ]
-  | inr e ↦ rw e.0 refl
-]
+open_zero : (n : ℕ) → open_in n 0 ≡ 0
+open_zero zero = refl
+open_zero (suc n) = omega (arith, open_zero n)
 
 open_enough : (n m p : ℕ) → p ≤ n → p ≤ m → open_in n p ≡ open_in m p
 open_enough zero zero p h k = refl
-open_enough zero (suc m) p h k =
-    let none : p ≡ 0 = omega arith in
-    let rest : open_in zero (p / 2) ≡ open_in m (p / 2) = open_enough zero m (p / 2) (omega arith) (omega arith) in
-    let here : is_left p ≡ false = no_left p (inl (omega arith)) in
-    rw here (omega (arith, rest))
-open_enough (suc n) zero p h k =
-    let rest : open_in n (p / 2) ≡ open_in zero (p / 2) = open_enough n zero (p / 2) (omega arith) (omega arith) in
-    let here : is_left p ≡ false = no_left p (inl (omega arith)) in
-    rw here (omega (arith, rest))
 open_enough (suc n) (suc m) p h k = ap (λ x. cond (is_left p) 1 0 + x) (open_enough n m (p / 2) (omega arith) (omega arith))
+open_enough n m p h k = let none : p ≡ 0 = omega arith in rw none (open_zero n ∙ sym (open_zero m))
 
 open_is : (p : ℕ) → open_at p ≡ cond (is_left p) 1 0 + open_at (p / 2)
 open_is p = open_enough p (suc p) p (omega arith) (omega arith) ∙ ap (λ x. cond (is_left p) 1 0 + x) (open_enough p (p / 2) (p / 2) (omega arith) (omega arith))
 
 open_left : (p : ℕ) → 1 < p → p % 2 ≡ 0 → open_at p ≡ suc (open_at (p / 2))
-open_left p child even = let here : is_left p ≡ true = left_is p child even in open_is p ∙ rw here (omega arith)
+open_left p child even = open_is p ∙ grind (arith, nat_tests)
 
 open_other : (p : ℕ) → (p ≤ 1) ⊎ (p % 2 ≡ 1) → open_at p ≡ open_at (p / 2)
-open_other p why = let here : is_left p ≡ false = no_left p why in open_is p ∙ rw here (omega arith)
+open_other p why = open_is p ∙ grind (arith, nat_tests)
 
 -- one more at the left child
 pub open_child : (p : ℕ) → 1 ≤ p → open_at (p * 2) ≡ suc (open_at p)

@@ -1,6 +1,9 @@
 -- the order of the nodes
-use Rattle.std.proofs.Common.{◌≡◌, ◌≢◌, ℕ, zero, suc, ◌+◌, ◌-◌, ◌*◌, ◌/◌, ◌%◌, ◌<◌, ◌≤◌, Option, Some, None, inl, inr, refl, sym, ap, subst, ◌∙◌, arith, ◌⊎◌}
-use Rattle.splitter_tree.proofs.Common.{eqb_tells, leb_tells, climbed_in, climbed, node_after, above, IsUnder, IsRightOf, IsFrom}
+use Rattle.std.proofs.Common.{◌≡◌, ◌≢◌, ℕ, zero, suc, ◌+◌, ◌-◌, ◌*◌, ◌/◌, ◌%◌, ◌<◌, ◌≤◌, Option, Some, None, inl, inr, refl, sym, ap, subst, ◌∙◌, arith}
+use Rattle.std.specs.Prelude.{◌⊎◌}
+use Rattle.std.proofs.lemmas.Bool.Decides.{eqb_tells, leb_tells}
+use Rattle.splitter_tree.specs.CollectWalk.{climbed_in, climbed, node_after}
+use Rattle.splitter_tree.specs.NodeOrder.{above, IsUnder, IsRightOf, IsFrom}
 use Rattle.splitter_tree.proofs.collects.Climbing.{climbs_tells}
 
 -- from the parent one level less
@@ -60,16 +63,12 @@ under_child p q u other =
 -- nothing lies under a left child and under its sibling
 apart : (a p : ℕ) → 1 < a → a % 2 ≡ 0 → IsUnder a p → IsUnder (a + 1) p → ⊥
 apart a p child left u v =
-    elim (leb_tells (suc u.levels) v.levels) [
-      | inl t ↦ let h : above v.levels p ≤ above u.levels p / 2 = above_less u.levels v.levels p t.1 in absurd (omega (arith, u.is, v.is))
-      | inr t ↦ elim (leb_tells (suc v.levels) u.levels) [
-        | inl s ↦ let h : above u.levels p ≤ above v.levels p / 2 = above_less v.levels u.levels p s.1 in absurd (omega (arith, u.is, v.is))
-        | inr s ↦
-            let same : u.levels ≡ v.levels = omega (arith, t.1, s.1) in
-            let e : above u.levels p ≡ above v.levels p = ap (λ n. above n p) same in
-            absurd (omega (arith, u.is, v.is))
-      ]
-    ]
+    let lower : u.levels < v.levels → above v.levels p ≤ above u.levels p / 2 = above_less u.levels v.levels p in
+    let higher : v.levels < u.levels → above u.levels p ≤ above v.levels p / 2 = above_less v.levels u.levels p in
+    let level : u.levels ≡ v.levels → above u.levels p ≡ above v.levels p = ap (λ n. above n p) in
+    let one = u.is in
+    let other = v.is in
+    grind arith
 
 -- nothing lies to the right of itself
 pub not_right_of_itself : (p : ℕ) → IsRightOf p p → ⊥

@@ -1,6 +1,14 @@
 -- how many reads a walk makes
 use Rattle.std.proofs.Common.{◌≡◌, ℕ, suc, ◌+◌, ◌*◌, ◌≤◌, Bool, true, false, cond, Some, inl, inr, refl, sym, ap, subst, ◌∙◌, arith}
-use Rattle.splitter_tree.proofs.Common.{eqb_tells, set_at, TreeValue, CollectWalk, first_walk, place_read, walk_at, node_after, finds_mark, walk_resumed, walk_is_over, count_to, IsUnder, IsRightOf, IsFrom, Sees, HasGrown, HasRead, IsUpcoming, open_at, count_none, count_le, count_more}
+use Rattle.std.proofs.lemmas.Bool.Decides.{eqb_tells}
+use Rattle.step_memory.specs.SetAt.{set_at}
+use Rattle.splitter_tree.specs.declared.register.TreeValue.{TreeValue}
+use Rattle.splitter_tree.specs.declared.collect_walk.CollectWalk.{CollectWalk}
+use Rattle.splitter_tree.specs.CollectWalk.{first_walk, place_read, walk_at, node_after, finds_mark, walk_resumed, walk_is_over}
+use Rattle.step_memory.specs.Count.{count_to}
+use Rattle.splitter_tree.specs.NodeOrder.{IsUnder, IsRightOf, IsFrom}
+use Rattle.splitter_tree.specs.Ahead.{Sees, HasGrown, HasRead, IsUpcoming, open_at}
+use Rattle.step_memory.proofs.CountLemmas.{count_none, count_le, count_more}
 use Rattle.splitter_tree.proofs.collects.OrderLemmas.{under_itself, follows, left_from, not_from_left, not_right_of_itself}
 use Rattle.splitter_tree.proofs.collects.OpenLemmas.{open_child, open_after}
 use Rattle.splitter_tree.proofs.collects.WalkLemmas.{place_from, goes, after_is_node}
@@ -118,11 +126,7 @@ read_here marked w nodes reads q r h = record { goes_on = r.goes_on; is = inl (s
 
 -- so the reads are few
 pub reads_few : (marked : ℕ → Bool) (w : CollectWalk) (nodes reads : ℕ) → HasRead marked w nodes reads → reads + 1 ≤ 3 * nodes + 1
-reads_few marked w nodes reads r =
-    elim w.is_reading_contents as (λ b. w.is_reading_contents ≡ b → reads + 1 ≤ 3 * nodes + 1) [
-      | true ↦ λ e. let reads_are : reads + 1 ≡ 2 * nodes + r.missed = rw e at r.reads_are in let children : r.missed + open_at w.at + 1 ≤ nodes = rw e at r.children in omega (arith, reads_are, children)
-      | false ↦ λ e. let reads_are : reads + 0 ≡ 2 * nodes + r.missed = rw e at r.reads_are in let children : r.missed + open_at w.at + 0 ≤ nodes = rw e at r.children in omega (arith, reads_are, children)
-    ] refl
+reads_few marked w nodes reads r = let all = r.reads_are in let few = r.children in grind arith
 
 -- the nodes found are at most those marked
 pub nodes_few : (marked : ℕ → Bool) (w : CollectWalk) (nodes reads most : ℕ) → HasRead marked w nodes reads → ((n : ℕ) → count_to marked n ≤ most) → nodes ≤ most

@@ -1,8 +1,21 @@
 -- a collect under way
-use Rattle.std.proofs.Common.{◌≡◌, ℕ, suc, ◌+◌, ◌<◌, ◌≤◌, ◌==◌, Bool, true, false, cond, List, length, Option, Some, None, ◌⊎◌, inl, inr, refl, sym, ap, subst, ◌∙◌, arith, is_some, IsSome}
-use Rattle.splitter_tree.proofs.Common.{eqb_tells, leb_tells, Decides-eqb, set_at, Record, TreeValue, CollectWalk, Collect, segment_in, place_read, finds_mark, walk_resumed, walk_is_over, first_collect, view_with, collect_after, count_to, IsUnder, Sees, HasGrown, HasRead, IsPathMarked, IsUpcoming, IsAhead, count_le, count_more}
+use Rattle.std.proofs.Common.{◌≡◌, ℕ, suc, ◌+◌, ◌<◌, ◌≤◌, ◌==◌, Bool, true, false, cond, List, length, Option, Some, None, ◌⊎◌, inl, inr, refl, sym, ap, subst, ◌∙◌, arith}
+use Rattle.std.specs.Prelude.{is_some, IsSome}
+use Rattle.std.proofs.lemmas.Bool.Decides.{eqb_tells, leb_tells, Decides-eqb}
+use Rattle.step_memory.specs.SetAt.{set_at}
 use Rattle.step_memory.specs.View.{IsRising, value_of, inserted}
+use Rattle.step_memory.specs.declared.record.Record.{Record}
 use Rattle.step_memory.proofs.ViewLemmas.{IsRising-inserted, value_of-inserted, length-inserted}
+use Rattle.splitter_tree.specs.declared.register.TreeValue.{TreeValue}
+use Rattle.splitter_tree.specs.declared.collect_walk.CollectWalk.{CollectWalk}
+use Rattle.splitter_tree.specs.declared.collect.Collect.{Collect}
+use Rattle.splitter_tree.specs.TreeMemory.{segment_in}
+use Rattle.splitter_tree.specs.CollectWalk.{place_read, finds_mark, walk_resumed, walk_is_over}
+use Rattle.splitter_tree.specs.Collect.{first_collect, view_with, collect_after}
+use Rattle.step_memory.specs.Count.{count_to}
+use Rattle.splitter_tree.specs.NodeOrder.{IsUnder}
+use Rattle.splitter_tree.specs.Ahead.{Sees, HasGrown, HasRead, IsPathMarked, IsUpcoming, IsAhead}
+use Rattle.step_memory.proofs.CountLemmas.{count_le, count_more}
 use Rattle.splitter_tree.proofs.collects.OrderLemmas.{under_itself}
 use Rattle.splitter_tree.proofs.collects.WalkLemmas.{ahead_at_first, ahead_kept, ahead_resumed, upcoming_before, read_once, place_from}
 use Rattle.splitter_tree.proofs.collects.ReadCount.{read_at_first, read_kept, read_resumed}
@@ -181,36 +194,26 @@ module _ (marked : ℕ → Bool) (place : ℕ → Option ℕ) (moment : ℕ → 
       let still : (q : ℕ) → IsSome (moment since q) → IsSome (value_of q next_view) ⊎ ((k : ℕ) × (place q ≡ Some k) × IsAhead marked next_walk k) = (λ q some. elim (read_still u t q some) [ inl h ↦ inl h | inr h ↦ inr h.1 ]) in
       let reads = read_resumed marked c.walk got u.nodes steps t.sees u.reads on in
       let before : (q : ℕ) → u.seen q ≡ true → (k : ℕ) × (place q ≡ Some k) × (IsUpcoming next_walk k → ⊥) = (λ q h. let b = u.behind q h in (b.0, b.1, λ v. b.2 (upcoming_before c.walk got b.0 v))) in
+      let on_with : (seen : ℕ → Bool) (above_all : ℕ) → ((n : ℕ) → above_all ≤ n → length next_view ≤ count_to seen n) → ((q : ℕ) → seen q ≡ true → (k : ℕ) × (place q ≡ Some k) × (IsUpcoming next_walk k → ⊥)) → UnderWay marked place moment last since (steps + 1) (collect_after c got) =
+      (λ seen above_all counted behind. record {
+        since_then = u.since_then;
+        rising = read_rising u t;
+        stored = read_stored u t;
+        still = still;
+        nodes = u.nodes + cond (finds_mark c.walk got) 1 0;
+        reads = reads;
+        seen = seen;
+        above_all = above_all;
+        counted = counted;
+        behind = behind;
+      }) in
       elim (segment_in got) as (λ o. segment_in got ≡ o → UnderWay marked place moment last since (steps + 1) (collect_after c got)) [
-        | None ↦ λ e. record {
-          since_then = u.since_then;
-          rising = read_rising u t;
-          stored = read_stored u t;
-          still = still;
-          nodes = u.nodes + cond (finds_mark c.walk got) 1 0;
-          reads = reads;
-          seen = u.seen;
-          above_all = u.above_all;
-          counted = λ n h. omega (arith, g.as_long e, u.counted n h);
-          behind = before;
-        }
+        | None ↦ λ e. on_with u.seen u.above_all (λ n h. omega (arith, g.as_long e, u.counted n h)) before
         | Some r ↦ λ e.
             let o = t.of_place r e in
-            record {
-              since_then = u.since_then;
-              rising = read_rising u t;
-              stored = read_stored u t;
-              still = still;
-              nodes = u.nodes + cond (finds_mark c.walk got) 1 0;
-              reads = reads;
-              seen = set_at u.seen r.identity true;
-              above_all = u.above_all + suc r.identity;
-              counted = λ n h.
-                  let one : count_to (set_at u.seen r.identity true) n ≡ count_to u.seen n + 1 = count_more u.seen r.identity n (unseen u t r e) (omega arith) in
-                  omega (arith, one, g.longer, u.counted n (omega arith));
-              behind = λ q h. elim (eqb_tells q r.identity) [
-                | inl s ↦ (o.0, ap place s.1 ∙ o.2, read_once c.walk got o.0 o.1)
-                | inr s ↦ before q (rw s.0 at h)
-              ];
-            }
+            on_with (set_at u.seen r.identity true) (u.above_all + suc r.identity)
+            (λ n h.
+            let one : count_to (set_at u.seen r.identity true) n ≡ count_to u.seen n + 1 = count_more u.seen r.identity n (unseen u t r e) (omega arith) in
+            omega (arith, one, g.longer, u.counted n (omega arith)))
+            (λ q h. elim (eqb_tells q r.identity) [ inl s ↦ (o.0, ap place s.1 ∙ o.2, read_once c.walk got o.0 o.1) | inr s ↦ before q (rw s.0 at h) ])
       ] refl

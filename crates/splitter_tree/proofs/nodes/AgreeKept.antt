@@ -1,9 +1,16 @@
 -- what each access of a walk, and each beginning, keeps of the nodes and the walks of a tree
 use Rattle.std.proofs.Common.{◌≡◌, ◌≢◌, ℕ, zero, suc, ◌+◌, ◌*◌, ◌<◌, ◌≤◌, Bool, true, false, ◌⊎◌, inl, inr, [], ◌∷◌, Option, Some, None, refl, sym, ap, subst, ◌∙◌, arith}
-use Rattle.splitter_tree.proofs.Common.{eqb_tells, set_at, set_at-same, set_at-other, set_at-cases, Stage, Outside, Gone, has_entered, went_right, went_down, x_after, y_after, stage_after, Walker, walker_at, walk_of, visit_on}
+use Rattle.std.proofs.lemmas.Bool.Decides.{eqb_tells}
+use Rattle.step_memory.specs.SetAt.{set_at}
+use Rattle.step_memory.proofs.SetAtLemmas.{set_at-same, set_at-other, set_at-cases}
 use Rattle.splitter.specs.declared.way.Way.TheVariants.{Right, Down}
+use Rattle.splitter.specs.declared.stage.Stage.{Stage}
+use Rattle.splitter.specs.declared.stage.Stage.TheVariants.{Outside, Gone}
+use Rattle.splitter.specs.Stage.{has_entered, went_right, went_down, x_after, y_after, stage_after}
 use Rattle.splitter.specs.Invariant.{DoorIsLawful}
 use Rattle.splitter.proofs.DoorKept.{kept, lawful_new}
+use Rattle.splitter_tree.specs.declared.walker.Walker.{Walker}
+use Rattle.splitter_tree.specs.Walk.{walker_at, walk_of, visit_on}
 use Rattle.splitter_tree.specs.Invariant.{IsWalkOf, NodesAgree}
 use Rattle.splitter_tree.proofs.nodes.VisitsKept.{with_visit, with_visit-node, with_visit-other_node, with_visit-own, with_visit-other, with_comer, with_comer-has, with_comer-keeps, with_comer-cases}
 
@@ -16,7 +23,8 @@ down_entered (Gone Down) h = refl
 down_entered s h = absurd (cc)
 
 -- a walk agrees with visits still where its own are as before, and no mark and nobody's coming is lost
-walk_still : (mark mark' : ℕ → ℕ) (stage stage' : ℕ → ℕ → Stage) (came came' : ℕ → ℕ → Bool) (p : ℕ) (u : Walker) → ((k : ℕ) → mark k ≡ 1 → mark' k ≡ 1) → ((k : ℕ) → stage' k p ≡ stage k p) → ((k : ℕ) → came k p ≡ true → came' k p ≡ true) →
+walk_still : (mark mark' : ℕ → ℕ) (stage stage' : ℕ → ℕ → Stage) (came came' : ℕ → ℕ → Bool) (p : ℕ) (u : Walker) →
+    ((k : ℕ) → mark k ≡ 1 → mark' k ≡ 1) → ((k : ℕ) → stage' k p ≡ stage k p) → ((k : ℕ) → came k p ≡ true → came' k p ≡ true) →
     IsWalkOf mark stage came p u → IsWalkOf mark' stage' came' p u
 walk_still mark mark' stage stage' came came' p u marks stages comes w = record {
   identity = w.identity;
@@ -151,26 +159,16 @@ module _ (b : ℕ) (mark x_of y_of : ℕ → ℕ) (walker : ℕ → Option Walke
         | inr e ↦ g.marked k q (ap has_entered (sym e) ∙ h)
       ]
 
-      down_after : (k q : ℕ) → 1 ≤ k → came' (2 * k) q ≡ true → went_down (stage' k q) ≡ true
-      down_after k q l h = elim (cases (2 * k) q h) [
-        | inl e ↦ rw e.1 (down k l e.0)
+      -- who comes to a child has left its parent on that side
+      child_after : (went : Stage → Bool) (child : ℕ → ℕ) → ((k q : ℕ) → 1 ≤ k → g.came (child k) q ≡ true → went (g.stage k q) ≡ true) → went v.visitor.stage ≡ false →
+          ((k : ℕ) → 1 ≤ k → child k ≡ v'.place → went (stage' k p) ≡ true) → (k q : ℕ) → 1 ≤ k → came' (child k) q ≡ true → went (stage' k q) ≡ true
+      child_after went child before stays here k q l h = elim (cases (child k) q h) [
+        | inl e ↦ rw e.1 (here k l e.0)
         | inr old ↦ elim (stage_cases k q) [
-          | inr e ↦ ap went_down e ∙ g.came_down k q l old
+          | inr e ↦ ap went e ∙ before k q l old
           | inl e ↦ absurd (
-              let was : went_down (g.stage at p) ≡ true = subst (λ (i : ℕ). went_down (g.stage at i) ≡ true) e.1 (subst (λ (i : ℕ). went_down (g.stage i q) ≡ true) e.0 (g.came_down k q l old)) in
-              let not : went_down (g.stage at p) ≡ false = ap went_down (g.walks p v is).here ∙ (g.walks p v is).not_down in
-              cc)
-        ]
-      ]
-
-      right_after : (k q : ℕ) → 1 ≤ k → came' (2 * k + 1) q ≡ true → went_right (stage' k q) ≡ true
-      right_after k q l h = elim (cases (2 * k + 1) q h) [
-        | inl e ↦ rw e.1 (right k l e.0)
-        | inr old ↦ elim (stage_cases k q) [
-          | inr e ↦ ap went_right e ∙ g.came_right k q l old
-          | inl e ↦ absurd (
-              let was : went_right (g.stage at p) ≡ true = subst (λ (i : ℕ). went_right (g.stage at i) ≡ true) e.1 (subst (λ (i : ℕ). went_right (g.stage i q) ≡ true) e.0 (g.came_right k q l old)) in
-              let not : went_right (g.stage at p) ≡ false = ap went_right (g.walks p v is).here ∙ (g.walks p v is).not_right in
+              let was : went (g.stage at p) ≡ true = subst (λ (i : ℕ). went (g.stage at i) ≡ true) e.1 (subst (λ (i : ℕ). went (g.stage i q) ≡ true) e.0 (before k q l old)) in
+              let not : went (g.stage at p) ≡ false = ap went (g.walks p v is).here ∙ stays in
               cc)
         ]
       ]
@@ -191,8 +189,8 @@ module _ (b : ℕ) (mark x_of y_of : ℕ → ℕ) (walker : ℕ → Option Walke
           | inr old ↦ g.listed k q old
         ];
         node = λ k q h. elim (cases k q h) [ inl e ↦ rw e.0 positive' | inr old ↦ g.node k q old ];
-        came_down = down_after;
-        came_right = right_after;
+        came_down = child_after went_down (λ k. 2 * k) g.came_down (g.walks p v is).not_down down;
+        came_right = child_after went_right (λ k. 2 * k + 1) g.came_right (g.walks p v is).not_right right;
         marked = marked_after;
         marker = λ k h. let old = g.marker k h in (old.0, still k old.0 old.1);
       }

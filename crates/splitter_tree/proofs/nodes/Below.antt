@@ -1,8 +1,12 @@
 -- what is found below a link
-use Rattle.std.proofs.Common.{◌≡◌, ◌≢◌, ℕ, ◌+◌, ◌*◌, ◌<◌, List, [], ◌∷◌, ◌++◌, Option, Some, None, inl, inr, refl, sym, ap, ◌∙◌, arith, Box}
-use Rattle.splitter_tree.proofs.Common.{nat_cmp, eqb_tells, Decides-eqb, set_at, set_at-same, set_at-other, NodeRegisters}
+use Rattle.std.proofs.Common.{◌≡◌, ◌≢◌, ℕ, ◌+◌, ◌*◌, ◌<◌, List, [], ◌∷◌, ◌++◌, Option, Some, None, inl, inr, refl, sym, ap, ◌∙◌, arith}
+use Rattle.std.specs.Prelude.{Box}
+use Rattle.std.specs.Ordering.{nat_cmp}
 use Rattle.std.specs.Cmp.{unsigned_tied}
 use Rattle.std.specs.FinMap as map
+use Rattle.std.proofs.lemmas.Bool.Decides.{eqb_tells, Decides-eqb, nat_tests}
+use Rattle.step_memory.specs.SetAt.{set_at}
+use Rattle.splitter_tree.specs.declared.node_registers.NodeRegisters.{NodeRegisters}
 use Rattle.splitter_tree.specs.declared.node.Node.{Node, Node', Held-Node-left, None', Some', out-Node, roll-Node}
 use Rattle.splitter_tree.specs.Nodes.{entries_in, entries_at, entries_below, registers_below}
 use Rattle.splitter_tree.proofs.nodes.Ways.{IsFrom, from_itself, from_parent, not_both, not_above}
@@ -89,31 +93,23 @@ module _ {A B C : Type 0} (p : ℕ) (d : NodeRegisters) (l : Option (Box (Node A
 -- what changes at a place below a child changes at that place below the node, and nowhere else
 pub set_left : {A B C D : Type 0} (p : ℕ) (d : NodeRegisters) (l : Option (Box (Node A) B)) (new : Option (Box (Node A) D)) (r : Option (Box (Node A) C)) (k : ℕ) (x : Option NodeRegisters) → 0 < p → IsFrom (2 * p) k → ((q : ℕ) → registers_below (2 * p) new q ≡ set_at (registers_below (2 * p) l) k x q) → (q : ℕ) → found q (parts p d new r) ≡ set_at (λ j. found j (parts p d l r)) k x q
 set_left p d l new r k x o h is q =
-    elim (eqb_tells q k) [
-      | inl w ↦ ap (λ (j : ℕ). found j (parts p d new r)) w.1 ∙ at_left p d new r k o h ∙ is k ∙ set_at-same (registers_below (2 * p) l) k x
-          ∙ sym (ap (set_at (λ j. found j (parts p d l r)) k x) w.1 ∙ set_at-same (λ j. found j (parts p d l r)) k x)
-      | inr w ↦
-          let there : registers_below (2 * p) new q ≡ registers_below (2 * p) l q = is q ∙ set_at-other (registers_below (2 * p) l) k x q w.1 in
-          elim (eqb_tells q p) [
-            | inl e ↦ found_here q p d _ e.1 ∙ sym (found_here q p d _ e.1)
-            | inr n ↦ split p d new r q n.1 ∙ ap (λ e. either e (registers_below (2 * p + 1) r q)) there ∙ sym (split p d l r q n.1)
-          ]
-          ∙ sym (set_at-other (λ j. found j (parts p d l r)) k x q w.1)
-    ]
+    let there = at_left p d new r k o h in
+    let now = is q in
+    let here = found_here q p d (entries_below (2 * p) new ++ entries_below (2 * p + 1) r) in
+    let here_before = found_here q p d (entries_below (2 * p) l ++ entries_below (2 * p + 1) r) in
+    let apart = split p d new r q in
+    let apart_before = split p d l r q in
+    grind (arith, nat_tests)
 
 pub set_right : {A B C D : Type 0} (p : ℕ) (d : NodeRegisters) (l : Option (Box (Node A) B)) (r : Option (Box (Node A) C)) (new : Option (Box (Node A) D)) (k : ℕ) (x : Option NodeRegisters) → 0 < p → IsFrom (2 * p + 1) k → ((q : ℕ) → registers_below (2 * p + 1) new q ≡ set_at (registers_below (2 * p + 1) r) k x q) → (q : ℕ) → found q (parts p d l new) ≡ set_at (λ j. found j (parts p d l r)) k x q
 set_right p d l r new k x o h is q =
-    elim (eqb_tells q k) [
-      | inl w ↦ ap (λ (j : ℕ). found j (parts p d l new)) w.1 ∙ at_right p d l new k o h ∙ is k ∙ set_at-same (registers_below (2 * p + 1) r) k x
-          ∙ sym (ap (set_at (λ j. found j (parts p d l r)) k x) w.1 ∙ set_at-same (λ j. found j (parts p d l r)) k x)
-      | inr w ↦
-          let there : registers_below (2 * p + 1) new q ≡ registers_below (2 * p + 1) r q = is q ∙ set_at-other (registers_below (2 * p + 1) r) k x q w.1 in
-          elim (eqb_tells q p) [
-            | inl e ↦ found_here q p d _ e.1 ∙ sym (found_here q p d _ e.1)
-            | inr n ↦ split p d l new q n.1 ∙ ap (either (registers_below (2 * p) l q)) there ∙ sym (split p d l r q n.1)
-          ]
-          ∙ sym (set_at-other (λ j. found j (parts p d l r)) k x q w.1)
-    ]
+    let there = at_right p d l new k o h in
+    let now = is q in
+    let here = found_here q p d (entries_below (2 * p) l ++ entries_below (2 * p + 1) new) in
+    let here_before = found_here q p d (entries_below (2 * p) l ++ entries_below (2 * p + 1) r) in
+    let apart = split p d l new q in
+    let apart_before = split p d l r q in
+    grind (arith, nat_tests)
 
 pub roll_out : (A : Type 0) (n : Node A) → roll-Node A record { registers = (out-Node A n).registers; left = (out-Node A n).left; right = (out-Node A n).right } ≡ n
 unfolding out-Node denote.Hole.Carrier.out roll-Node denote.Hole.Carrier.roll

@@ -1,11 +1,21 @@
 -- nobody comes deeper than participants have begun, and few nodes are made
-use Rattle.std.proofs.Common.{◌≡◌, ℕ, zero, suc, ◌+◌, ◌-◌, ◌*◌, ◌/◌, ◌^◌, ◌<◌, ◌≤◌, min, Bool, true, false, ◌==◌, not, ◌⊎◌, inl, inr, List, [], ◌∷◌, length, get_or, Option, refl, sym, ap, subst, ◌∙◌, arith, if◌then◌else◌}
-use Rattle.splitter_tree.proofs.Common.{cases_Bool, eqb_tells, leb_tells, Decides-eqb, Right, Down, Gone, Walker, left_child, right_child, count_to, count_le, pow_pos, NodesAgree}
+use Rattle.std.proofs.Common.{◌≡◌, ℕ, zero, suc, ◌+◌, ◌-◌, ◌*◌, ◌/◌, ◌^◌, ◌<◌, ◌≤◌, min, Bool, true, false, ◌==◌, not, ◌⊎◌, inl, inr, List, [], ◌∷◌, length, get_or, Option, refl, sym, ap, subst, ◌∙◌, arith}
+use Rattle.std.specs.Prelude.{if◌then◌else◌}
 use Rattle.std.proofs.Math.Nat.{pow-succ'}
+use Rattle.std.proofs.lemmas.Bool.{cases_Bool}
 use Rattle.splitter.proofs.StageLemmas.{gone_right, gone_down}
+use Rattle.std.proofs.lemmas.Bool.Decides.{eqb_tells, leb_tells, Decides-eqb, nat_tests}
+use Rattle.splitter.specs.declared.way.Way.TheVariants.{Right, Down}
+use Rattle.splitter.specs.declared.stage.Stage.TheVariants.{Gone}
 use Rattle.splitter.specs.Invariant.{IsSplitter}
 use Rattle.splitter.proofs.DoorKept.{law_of}
+use Rattle.splitter_tree.specs.declared.walker.Walker.{Walker}
+use Rattle.splitter_tree.specs.Walk.{left_child, right_child}
+use Rattle.step_memory.specs.Count.{count_to}
+use Rattle.step_memory.proofs.CountLemmas.{count_le}
+use Rattle.std.proofs.lemmas.Nat.{pow_pos}
 use Rattle.splitter_tree.specs.Depth.{depth_in, depth_of}
+use Rattle.splitter_tree.specs.Invariant.{NodesAgree}
 use Rattle.splitter_tree.proofs.nodes.AgreeKept.{right_entered, down_entered}
 
 -- how many of a list pass a test
@@ -16,7 +26,7 @@ count_in f (p ∷ ids) = (if f p then 1 else 0) + count_in f ids
 count_in-length : (f : ℕ → Bool) (ids : List ℕ) → count_in f ids ≤ length ids
 unfolding count_in
 count_in-length f [] = omega arith
-count_in-length f (p ∷ ids) = let rest = count_in-length f ids in elim (cases_Bool (f p)) [ inl e ↦ rw e (omega arith) | inr e ↦ rw e (omega arith) ]
+count_in-length f (p ∷ ids) = let rest = count_in-length f ids in grind arith
 
 -- two tests of which no number passes both, and one that all of these pass
 count_in-both : (f g h : ℕ → Bool) (ids : List ℕ) → ((p : ℕ) → f p ≡ true → h p ≡ true) → ((p : ℕ) → g p ≡ true → h p ≡ true) → ((p : ℕ) → f p ≡ true → g p ≡ true → ⊥) → count_in f ids + count_in g ids ≤ count_in h ids
@@ -24,13 +34,10 @@ unfolding count_in
 count_in-both f g h [] fh gh apart = omega arith
 count_in-both f g h (p ∷ ids) fh gh apart =
     let rest = count_in-both f g h ids fh gh apart in
-    elim (cases_Bool (f p)) [
-      | inl a ↦ elim (cases_Bool (g p)) [ inl c ↦ absurd (apart p a c) | inr c ↦ let t = fh p a in rw (a, c, t) (omega arith) ]
-      | inr a ↦ elim (cases_Bool (g p)) [
-        | inl c ↦ let t = gh p c in rw (a, c, t) (omega arith)
-        | inr c ↦ elim (cases_Bool (h p)) [ inl t ↦ rw (a, c, t) (omega arith) | inr t ↦ rw (a, c, t) (omega arith) ]
-      ]
-    ]
+    let f_h = fh p in
+    let g_h = gh p in
+    let not_both = apart p in
+    grind arith
 
 count_in-some : (f : ℕ → Bool) (ids : List ℕ) (i p : ℕ) → i < length ids → get_or ids i 0 ≡ p → f p ≡ true → 1 ≤ count_in f ids
 unfolding count_in
@@ -93,19 +100,13 @@ module _ (f : ℕ → Bool) (weight : ℕ → ℕ) (none : weight 0 ≡ 0) (no_n
 -- the depth of a node, from far enough above
 depth_in-same : (n m k : ℕ) → k ≤ n → k ≤ m → depth_in n k ≡ depth_in m k
 depth_in-same zero zero k l h = refl
-depth_in-same (suc n) (suc m) k l h = elim (leb_tells k 1) [
-  | inl e ↦ rw e.0 refl
-  | inr e ↦ rw e.0 (ap suc (depth_in-same n m (k / 2) (omega arith) (omega arith)))
-]
+depth_in-same (suc n) (suc m) k l h = let deeper = depth_in-same n m (k / 2) (omega arith) (omega arith) in grind (arith, nat_tests)
 depth_in-same n m k l h = let none : k ≡ 0 = omega arith in rw none refl
 
 -- a child lies one deeper
 pub depth_step : (k : ℕ) → 2 ≤ k → depth_of k ≡ suc (depth_of (k / 2))
 depth_step zero l = absurd (omega arith)
-depth_step (suc k) l = elim (leb_tells (suc k) 1) [
-  | inl e ↦ absurd (let m = e.1 in omega arith)
-  | inr e ↦ rw e.0 (ap suc (depth_in-same k (suc k / 2) (suc k / 2) (omega arith) (omega arith)))
-]
+depth_step (suc k) l = let deeper = depth_in-same k (suc k / 2) (suc k / 2) (omega arith) (omega arith) in grind (arith, nat_tests)
 
 pub depth_left : (k : ℕ) → 1 ≤ k → depth_of (2 * k) ≡ suc (depth_of k)
 depth_left k l = let half : (2 * k) / 2 ≡ k = omega arith in depth_step (2 * k) (omega arith) ∙ ap (λ i. suc (depth_of i)) half
@@ -234,19 +235,10 @@ module _ (b : ℕ) (mark x_of y_of : ℕ → ℕ) (walker : ℕ → Option Walke
       let both = together k l in
       let down = few_down k l in
       let right = few_right k l in
-      elim (eqb_tells (comers k) 0) [
-        | inl z ↦ let none = z.1 in rw z.0 (omega arith)
-        | inr z ↦ let some = z.1 in rw z.0 (elim down [
-          | inl x ↦ elim right [ inl y ↦ omega arith | inr y ↦ omega arith ]
-          | inr x ↦ elim right [ inl y ↦ omega arith | inr y ↦ omega arith ]
-        ])
-      ]
+      grind (arith, nat_tests)
 
   met : (k p : ℕ) → g.came k p ≡ true → is_met k ≡ true
-  met k p h = elim (eqb_tells (comers k) 0) [
-    | inl z ↦ absurd (let some = some_comers k p h in let none = z.1 in omega arith)
-    | inr z ↦ rw z.0 refl
-  ]
+  met k p h = let some = some_comers k p h in grind (arith, nat_tests)
 
   none_at_zero : comers 0 ≡ 0
   unfolding comers

@@ -1,7 +1,27 @@
 -- just the nodes are marked that were made
-use Rattle.std.proofs.Common.{◌≡◌, ℕ, ◌≤◌, Bool, ◌⊎◌, inl, inr, List, [], length, Option, Some, None, Ok, Result, refl, sym, ap, ◌∙◌, ◌↔◌}
-use Rattle.splitter_tree.proofs.Common.{fun_ext, Refusal, MemorySteps, begin_refusal, begun_unless, begun_in, TreeRegister, Mark, TreeValue, Walker, mark_at, word_in, IsTreeMemory, IsEmptyTree, place_of, client_of, record_of, collect_reads, TreeState, after_store, after_collect_begin, after_collecting, Run, fresh_over, TreeCall, next, IsReply, Began, Stepped, Stored, CollectBegan, CollectStepped, IsNodeWithin, way_calls, walker_in, walkers}
+use Rattle.std.proofs.Common.{◌≡◌, ℕ, ◌≤◌, Bool, ◌⊎◌, inl, inr, List, [], length, Option, Some, None, Ok, Result, refl, sym, ap, ◌∙◌}
+use Rattle.std.specs.Prelude.{◌↔◌}
+use Rattle.std.proofs.Math.Path.{fun_ext}
+use Rattle.step_memory.specs.declared.refusal.Refusal.{Refusal}
 use Rattle.step_memory.proofs.RunLemmas.{run_gathers}
+use Rattle.step_memory.specs.Steps.{MemorySteps}
+use Rattle.step_memory.specs.World.{begin_refusal, begun_unless}
+use Rattle.step_memory.specs.Calls.{begun_in}
+use Rattle.splitter_tree.specs.declared.register.TreeRegister.{TreeRegister}
+use Rattle.splitter_tree.specs.declared.register.TreeRegister.TheVariants.{Mark}
+use Rattle.splitter_tree.specs.declared.register.TreeValue.{TreeValue}
+use Rattle.splitter_tree.specs.declared.walker.Walker.{Walker}
+use Rattle.splitter_tree.specs.TreeMemory.{mark_at, word_in, IsTreeMemory, IsEmptyTree}
+use Rattle.splitter_tree.specs.Walk.{place_of}
+use Rattle.splitter_tree.specs.Client.{client_of, record_of}
+use Rattle.splitter_tree.specs.Collect.{collect_reads}
+use Rattle.splitter_tree.specs.TreeWorld.{TreeState, after_store, after_collect_begin, after_collecting}
+use Rattle.step_memory.specs.Runs.{Run}
+use Rattle.splitter_tree.specs.Machine.{fresh_over}
+use Rattle.splitter_tree.specs.TreeCalls.{TreeCall, next, IsReply}
+use Rattle.splitter_tree.specs.TreeCalls.TreeCall.{Began, Stepped, Stored, CollectBegan, CollectStepped}
+use Rattle.splitter_tree.specs.Depth.{IsNodeWithin}
+use Rattle.splitter_tree.specs.PlacesLaw.{way_calls, walker_in, walkers}
 use Rattle.splitter_tree.specs.Made.{Marks, WasMade}
 use Rattle.splitter_tree.proofs.nodes.ConsistentKept.{SparesNodes, marks}
 use Rattle.splitter_tree.proofs.CallCases.{IsStep, step_cases, store_cases, collect_begin_cases, collect_step_cases}
@@ -63,14 +83,16 @@ module _ {S : Type 0} (memory : MemorySteps S TreeRegister TreeValue) (tree : Is
           | inr x ↦ spared_marks w (after_collecting memory w id) _ (ap (λ (y : TreeState S). y.memory) x.after) (read_spares memory tree w.memory (collect_reads x.collect))
         ]) (λ never. never)
 
-  pub marked_made : (first : S) (most : ℕ) (w : TreeState S) (r : List TreeCall) → IsEmptyTree memory first → most ≤ 64 → Run (next memory) (IsReply memory) (fresh_over memory (first, most)) r w → (k : ℕ) → (mark_at memory w.memory k ≡ 1) ↔ WasMade memory first most r k
+  pub marked_made : (first : S) (most : ℕ) (w : TreeState S) (r : List TreeCall) → IsEmptyTree memory first → most ≤ 64 → Run (next memory) (IsReply memory) (fresh_over memory (first, most)) r w →
+      (k : ℕ) → (mark_at memory w.memory k ≡ 1) ↔ WasMade memory first most r k
   marked_made first most w r empty few a k =
       let over = run_gathers (next memory) (IsReply memory) (IsTied memory tree) (call_kept memory tree) (λ u h. Marks memory u h k) (λ u. mark_at memory u.memory k ≡ 1)
       (λ u past h t is. one_call u past t h is k) (fresh_over memory (first, most)) [] r w (tied_new memory tree first most empty few) a in
       (λ some. elim (over.0 some) [ inl was ↦ was | inr stood ↦ absurd (let none = empty.unmarked k in let both : 0 ≡ 1 = sym none ∙ stood in cc) ], λ was. over.1 (inl was))
 
   -- of these, all lie at depths below the number of those who have begun
-  pub made_within : (first : S) (most : ℕ) (w : TreeState S) (r : List TreeCall) → IsEmptyTree memory first → most ≤ 64 → Run (next memory) (IsReply memory) (fresh_over memory (first, most)) r w → (k : ℕ) → WasMade memory first most r k → IsNodeWithin (begun_in (way_calls r)) k
+  pub made_within : (first : S) (most : ℕ) (w : TreeState S) (r : List TreeCall) → IsEmptyTree memory first → most ≤ 64 → Run (next memory) (IsReply memory) (fresh_over memory (first, most)) r w →
+      (k : ℕ) → WasMade memory first most r k → IsNodeWithin (begun_in (way_calls r)) k
   made_within first most w r empty few a k was =
       let set : mark_at memory w.memory k ≡ 1 = (marked_made first most w r empty few a k).1 was in
       (tree_of_tied memory tree w r (tied_after memory tree first most w r empty few a)).made k (λ e. absurd (let both : 0 ≡ 1 = sym e ∙ set in cc))

@@ -1,10 +1,9 @@
 -- the children whose numbers fit
 use Rattle.std.proofs.Common.{◌≡◌, ℕ, suc, arith, ◌*◌, ◌<◌, ◌≤◌, ◌^◌, Option, Some, refl, inl, inr}
-use Rattle.splitter_tree.proofs.Common.{leb_tells, numbers, child_or}
 use Rattle.std.proofs.Math.Nat.{pow-le-pow_right}
-
-less_not : (a b : ℕ) → a < b → b < suc a → ⊥
-less_not a b h k = omega arith
+use Rattle.std.proofs.lemmas.Bool.{le-leb}
+use Rattle.std.proofs.lemmas.Bool.Decides.{leb_tells}
+use Rattle.splitter_tree.specs.CollectWalk.{numbers, child_or}
 
 below_two : (k n m : ℕ) → k < n → n ≤ m → k < m
 below_two k n m h l = omega arith
@@ -17,7 +16,7 @@ up b h = omega arith
 
 pub child_fits : (p : ℕ) (other : Option ℕ) → p * 2 < 2 ^ 128 → child_or p other ≡ Some (p * 2)
 unfolding numbers
-child_fits p other h = elim (leb_tells (suc (p * 2)) (2 ^ 128)) [ inl e ↦ rw e.0 refl | inr e ↦ absurd (less_not (p * 2) (2 ^ 128) h e.1) ]
+child_fits p other h = rw (le-leb (suc (p * 2)) (2 ^ 128) h) refl
 
 pub child_too_far : (p : ℕ) (other : Option ℕ) → (p * 2 < 2 ^ 128 → ⊥) → child_or p other ≡ other
 unfolding numbers

@@ -1,13 +1,47 @@
 -- what ties the places of a tree's world to the calls that it is after
-use Rattle.std.proofs.Common.{◌≡◌, ◌≢◌, ℕ, suc, ◌≤◌, Bool, true, false, cond, not, inl, inr, List, [], ◌∷◌, ◌++◌, length, Option, Some, None, Result, Ok, Err, refl, sym, ap, subst, ◌∙◌, arith, length-append, is_some}
-use Rattle.splitter_tree.proofs.Common.{fun_ext, Read, Answer, Note, Quiet, Participant, Record, Refusal, participant_of, beginner, MemorySteps, Spares, set_at, begin_refusal, begun_unless, done_unless, EndsOnce, run_keeps, participant_of-push, length-with_participant, TreeRegister, Contents, TreeValue, Walker, Collect, Client, Task, Placing, Nothing, Storing, IsTreeMemory, IsEmptyTree, walk_of, next_access, walker_after, walker_note, place_of, place_by, client_of, is_placing, is_placed, collecting, collecting_after, with_task, write_at, record_of, task_after, collect_reads, collect_after, collect_view, TreeState, Run, fresh_over, TreeCall, next, IsReply, TreeBegan, TreeStepped, Stored, CollectBegan, CollectStepped, IsTree, IsConsistent, accesses_by, way_calls, KeepsPlacesLaw, walker_in, walkers}
+use Rattle.std.proofs.Common.{◌≡◌, ◌≢◌, ℕ, suc, ◌≤◌, Bool, true, false, cond, not, inl, inr, List, [], ◌∷◌, ◌++◌, length, Option, Some, None, Result, Ok, Err, refl, sym, ap, subst, ◌∙◌, arith, length-append}
+use Rattle.std.specs.Prelude.{is_some}
+use Rattle.std.proofs.Math.Path.{fun_ext}
 use Rattle.std.proofs.lemmas.List.{append-nil}
+use Rattle.step_memory.specs.declared.access.Access.TheVariants.{Read}
+use Rattle.step_memory.specs.declared.access.Answer.{Answer}
+use Rattle.step_memory.specs.declared.note.Note.{Note}
+use Rattle.step_memory.specs.declared.note.Note.TheVariants.{Quiet}
+use Rattle.step_memory.specs.declared.participant.Participant.{Participant}
+use Rattle.step_memory.specs.declared.record.Record.{Record}
+use Rattle.step_memory.specs.declared.refusal.Refusal.{Refusal}
+use Rattle.step_memory.specs.Participant.{participant_of, beginner}
+use Rattle.step_memory.specs.Steps.{MemorySteps, Spares}
+use Rattle.step_memory.specs.SetAt.{set_at}
+use Rattle.step_memory.specs.World.{begin_refusal, begun_unless, done_unless}
 use Rattle.step_memory.specs.Calls.{Call, steps_by, outcome_by, outcome_in, begun_in, begun_by}
 use Rattle.step_memory.specs.Calls.Call.{Began, Stepped}
+use Rattle.step_memory.specs.Due.{EndsOnce}
+use Rattle.step_memory.proofs.RunLemmas.{run_keeps}
 use Rattle.step_memory.proofs.SetAtLemmas.{set_at-cases, set_at-map, set_at-as_is}
+use Rattle.step_memory.proofs.ParticipantLemmas.{participant_of-push, length-with_participant}
 use Rattle.step_memory.specs.Told.{Tells}
 use Rattle.step_memory.proofs.ToldLemmas.{told_quiet, told_begun, told_stepped}
 use Rattle.step_memory.proofs.WorldKeeps.{begun_in-push, IsLetIn, let_in}
+use Rattle.splitter_tree.specs.declared.register.TreeRegister.{TreeRegister}
+use Rattle.splitter_tree.specs.declared.register.TreeRegister.TheVariants.{Contents}
+use Rattle.splitter_tree.specs.declared.register.TreeValue.{TreeValue}
+use Rattle.splitter_tree.specs.declared.walker.Walker.{Walker}
+use Rattle.splitter_tree.specs.declared.collect.Collect.{Collect}
+use Rattle.splitter_tree.specs.declared.client.Client.{Client}
+use Rattle.splitter_tree.specs.declared.client.Task.{Task}
+use Rattle.splitter_tree.specs.declared.client.Task.TheVariants.{Placing, Nothing, Storing}
+use Rattle.splitter_tree.specs.TreeMemory.{IsTreeMemory, IsEmptyTree}
+use Rattle.splitter_tree.specs.Walk.{walk_of, next_access, walker_after, walker_note, place_of, place_by}
+use Rattle.splitter_tree.specs.Client.{client_of, is_placing, is_placed, collecting, collecting_after, with_task, write_at, record_of, task_after}
+use Rattle.splitter_tree.specs.Collect.{collect_reads, collect_after, collect_view}
+use Rattle.splitter_tree.specs.TreeWorld.{TreeState}
+use Rattle.step_memory.specs.Runs.{Run}
+use Rattle.splitter_tree.specs.Machine.{fresh_over}
+use Rattle.splitter_tree.specs.TreeCalls.{TreeCall, next, IsReply}
+use Rattle.splitter_tree.specs.TreeCalls.TreeCall.{Began as TreeBegan, Stepped as TreeStepped, Stored, CollectBegan, CollectStepped}
+use Rattle.splitter_tree.specs.Invariant.{IsTree, IsConsistent, accesses_by}
+use Rattle.splitter_tree.specs.PlacesLaw.{way_calls, KeepsPlacesLaw, walker_in, walkers}
 use Rattle.splitter_tree.proofs.nodes.ConsistentKept.{SparesNodes, consistent_new, begun, gone_on, aside}
 use Rattle.splitter_tree.proofs.nodes.TreeLaw.{tree_law, nearer}
 use Rattle.splitter_tree.proofs.nodes.WalkerLemmas.{place_is_told}
@@ -65,7 +99,8 @@ module _ {S : Type 0} (w : TreeState S) (s : S) (id : ℕ) (who : Participant Cl
   pub walkers_kept : c.walker ≡ who.program.walker → walkers (turned w s id c).participants ≡ walkers w.participants
   walkers_kept walk = walkers_turned ∙ set_at-as_is (walkers w.participants) id (Some c.walker) (ap (λ (u : Walker). Some u) walk ∙ sym (ap walker_in here))
 
-  clients_turned : ((p : ℕ) (u : Participant Client) → participant_of p w.participants ≡ Some u → IsClient u) → IsClient (beginner id c) → (p : ℕ) (u : Participant Client) → participant_of p (turned w s id c).participants ≡ Some u → IsClient u
+  clients_turned : ((p : ℕ) (u : Participant Client) → participant_of p w.participants ≡ Some u → IsClient u) → IsClient (beginner id c) →
+      (p : ℕ) (u : Participant Client) → participant_of p (turned w s id c).participants ≡ Some u → IsClient u
   clients_turned old new p u h = set_at-cases (λ z. participant_of z w.participants) id (Some (beginner id c)) (λ o. o ≡ Some u → IsClient u) p
       (λ _ k. let same : beginner id c ≡ u = cc in subst IsClient same new) (λ _ k. old p u k) (sym (turned_stands w s id c who here p) ∙ h)
 
@@ -89,7 +124,8 @@ module _ {S : Type 0} (memory : MemorySteps S TreeRegister TreeValue) (tree : Is
   all_go w r t id v e = (t.clients id v e).goes
 
   -- a call of `begin` or `step` that is refused
-  refused_way : (w : TreeState S) (r : List TreeCall) (h : TreeCall) (k : Call (Option ℕ)) → way_calls (h ∷ []) ≡ k ∷ [] → ((p : ℕ) → steps_by p k ≡ 0) → ((p : ℕ) → outcome_by p k ≡ None) → begun_by k ≡ 0 → IsTied w r → IsTied w (r ++ h ∷ [])
+  refused_way : (w : TreeState S) (r : List TreeCall) (h : TreeCall) (k : Call (Option ℕ)) → way_calls (h ∷ []) ≡ k ∷ [] →
+      ((p : ℕ) → steps_by p k ≡ 0) → ((p : ℕ) → outcome_by p k ≡ None) → begun_by k ≡ 0 → IsTied w r → IsTied w (r ++ h ∷ [])
   refused_way w r h k is none quiet nobody t =
       let way : way_calls (r ++ h ∷ []) ≡ way_calls r ++ k ∷ [] = way_calls-append r (h ∷ []) ∙ ap (λ c. way_calls r ++ c) is in
       record {
@@ -104,7 +140,8 @@ module _ {S : Type 0} (memory : MemorySteps S TreeRegister TreeValue) (tree : Is
   refused_other w r h none t = record { consistent = t.consistent; begun_is = rw (no_way r h none) t.begun_is; clients = t.clients; told = rw (no_way r h none) t.told }
 
   -- a call that is no step on the way, of one who has its place
-  aside_kept : (w : TreeState S) (s : S) (id : ℕ) (who : Participant Client) (c : Client) → participant_of id w.participants ≡ Some who → (r : List TreeCall) (h : TreeCall) → c.walker ≡ who.program.walker → is_placing who.program.task ≡ false → is_placing c.task ≡ false → is_storing c.task ≡ false →
+  aside_kept : (w : TreeState S) (s : S) (id : ℕ) (who : Participant Client) (c : Client) → participant_of id w.participants ≡ Some who →
+      (r : List TreeCall) (h : TreeCall) → c.walker ≡ who.program.walker → is_placing who.program.task ≡ false → is_placing c.task ≡ false → is_storing c.task ≡ false →
       SparesNodes memory w.memory s → way_calls (h ∷ []) ≡ [] → IsTied w r → IsTied (turned w s id c) (r ++ h ∷ [])
   aside_kept w s id who c here r h walk placed placing stores spares none t =
       let way = no_way r h none in
@@ -118,7 +155,8 @@ module _ {S : Type 0} (memory : MemorySteps S TreeRegister TreeValue) (tree : Is
       }
 
   -- one who begins
-  begun_kept : (w : TreeState S) (r : List TreeCall) (id : ℕ) → IsLetIn w id → IsTied w r → IsTied (record { memory = w.memory; most = w.most; participants = w.participants ++ beginner id (client_of id) ∷ [] }) (r ++ TreeBegan id (Ok tt) ∷ [])
+  begun_kept : (w : TreeState S) (r : List TreeCall) (id : ℕ) → IsLetIn w id → IsTied w r →
+      IsTied (record { memory = w.memory; most = w.most; participants = w.participants ++ beginner id (client_of id) ∷ [] }) (r ++ TreeBegan id (Ok tt) ∷ [])
   begun_kept w r id in_ t =
       let new : Participant Client = beginner id (client_of id) in
       let way : way_calls (r ++ TreeBegan id (Ok tt) ∷ []) ≡ way_calls r ++ Began id (Ok tt) ∷ [] = way_calls-append r (TreeBegan id (Ok tt) ∷ []) in
@@ -135,7 +173,9 @@ module _ {S : Type 0} (memory : MemorySteps S TreeRegister TreeValue) (tree : Is
       }
 
   -- an accepted step on the way to a place
-  going_kept : (w : TreeState S) (r : List TreeCall) (id : ℕ) (reply : Result (Option ℕ) Refusal) (new : TreeState S) (x : IsStep memory w id reply new) → IsTied w r → IsTied (turned w (memory.after w.memory (next_access x.who.program.walker)) id (walked_on memory w id x.who.program.walker)) (r ++ TreeStepped id (Ok (outcome_in (walker_note x.who.program.walker (got_on memory w id x.who.program.walker)))) ∷ [])
+  going_kept : (w : TreeState S) (r : List TreeCall) (id : ℕ) (reply : Result (Option ℕ) Refusal) (new : TreeState S) (x : IsStep memory w id reply new) → IsTied w r →
+      IsTied (turned w (memory.after w.memory (next_access x.who.program.walker)) id (walked_on memory w id x.who.program.walker))
+      (r ++ TreeStepped id (Ok (outcome_in (walker_note x.who.program.walker (got_on memory w id x.who.program.walker)))) ∷ [])
   going_kept w r id reply new x t =
       let u : Walker = x.who.program.walker in
       let got : Answer TreeValue = got_on memory w id u in

@@ -1,7 +1,14 @@
 -- one level of the way to a place, from a link whose node is there
-use Rattle.std.proofs.Common.{◌≡◌, ℕ, ◌+◌, ◌-◌, ◌*◌, ◌/◌, ◌^◌, ◌<◌, true, false, cond, Option, Some, refl, sym, ap, subst, ◌∙◌, arith, ne_eqb, inl, inr, Box, ◌==◌, is_some, Result, Ok, Err, OnOk, OnErr}
-use Rattle.splitter_tree.proofs.Common.{eqb_tells, set_at, set_at-as_is, NodeRegisters, Node, out-Node, roll-Node, entries_in, registers_below, is_right, is_lacking, grown, fresh_registers}
+use Rattle.std.proofs.Common.{◌≡◌, ℕ, ◌+◌, ◌-◌, ◌*◌, ◌/◌, ◌^◌, ◌<◌, true, false, cond, Option, Some, refl, sym, ap, subst, ◌∙◌, arith}
+use Rattle.std.proofs.lemmas.Bool.Decides.{nat_tests}
+use Rattle.std.specs.Prelude.{Box, ◌==◌, is_some, Result, Ok, Err, OnOk, OnErr}
 use Rattle.std.specs.Box.{with_value}
+use Rattle.step_memory.specs.SetAt.{set_at}
+use Rattle.step_memory.proofs.SetAtLemmas.{set_at-as_is}
+use Rattle.splitter_tree.specs.declared.node_registers.NodeRegisters.{NodeRegisters}
+use Rattle.splitter_tree.specs.declared.node.Node.{Node, out-Node, roll-Node}
+use Rattle.splitter_tree.specs.Nodes.{entries_in, registers_below, is_right, is_lacking, grown}
+use Rattle.splitter_tree.specs.TreeSteps.{fresh_registers}
 use Rattle.splitter_tree.proofs.nodes.Ways.{IsFrom, way_right, way_left, on_way, parent_on_way}
 use Rattle.splitter_tree.proofs.nodes.Below.{found, parts, out_parts, roll_parts, roll_out, at_node, at_left, at_right, set_left, set_right}
 
@@ -15,13 +22,7 @@ on_err (Err e) f h = f h
 
 -- whether a place is to be made is the same one level nearer to it
 lacking_same : (F G : ℕ → Option NodeRegisters) (place depth : ℕ) → 0 < depth → F place ≡ G place → (depth ≡ 1 → is_some (F (place / 2)) ≡ true) → (0 < depth - 1 → F (place / 2) ≡ G (place / 2)) → is_lacking G place (depth - 1) ≡ is_lacking F place depth
-lacking_same F G place depth o e first later =
-    let deep : (depth == 0) ≡ false = ne_eqb depth 0 (omega arith) in
-    let there : is_some (G place) ≡ is_some (F place) = ap is_some (sym e) in
-    elim (eqb_tells (depth - 1) 0) as (λ _. is_lacking G place (depth - 1) ≡ is_lacking F place depth) [
-      | inl w ↦ let h = first (omega (arith, w.1)) in rw (there, w.0, deep, h) refl
-      | inr w ↦ let h : is_some (G (place / 2)) ≡ is_some (F (place / 2)) = ap is_some (sym (later (omega (arith, w.1)))) in rw (there, w.0, deep, h) refl
-    ]
+lacking_same F G place depth o e first later = grind (arith, nat_tests)
 
 -- where the place is there nothing is made
 grown_as_is : (F : ℕ → Option NodeRegisters) (place depth : ℕ) → is_some (F place) ≡ true → (q : ℕ) → F q ≡ set_at F place (grown F place depth) q

@@ -1,8 +1,10 @@
 -- which node lies below which, by their numbers
-use Rattle.std.proofs.Common.{◌≡◌, ◌≢◌, ℕ, ◌+◌, ◌*◌, ◌-◌, ◌/◌, ◌%◌, ◌^◌, ◌<◌, ◌≤◌, true, false, inl, inr, refl, sym, ap, ◌∙◌, arith, ◌==◌}
-use Rattle.splitter_tree.proofs.Common.{shr-shr, shr_le, is_right}
+use Rattle.std.proofs.Common.{◌≡◌, ◌≢◌, ℕ, ◌+◌, ◌*◌, ◌-◌, ◌/◌, ◌%◌, ◌^◌, ◌<◌, ◌≤◌, true, false, refl, sym, ap, ◌∙◌, arith}
+use Rattle.std.proofs.lemmas.Nat.{shr-shr, shr_le}
 use Rattle.std.proofs.Math.Pow.{field, mod-mod-pow}
-use Rattle.std.proofs.lemmas.Bool.Decides.{Decides-eqb, eqb_tells, leb_tells, not_from_Decides}
+use Rattle.std.proofs.lemmas.Bool.Decides.{Decides-eqb, not_from_Decides}
+use Rattle.std.specs.Prelude.{◌==◌}
+use Rattle.splitter_tree.specs.Nodes.{is_right}
 
 -- node q is node p or lies below it
 pub record IsFrom (p q : ℕ) : Type 0 where
@@ -32,13 +34,12 @@ halves q i j h =
 -- where one node lies below two, or is one of them, the smaller number of the two is at most the half of the other
 pub apart : (a b q : ℕ) → IsFrom a q → IsFrom b q → a < b → 2 * a ≤ b
 apart a b q h k l =
-    elim (leb_tells h.by k.by) [
-      | inl w ↦ elim (eqb_tells h.by k.by) [
-        | inl e ↦ absurd (let same : a ≡ b = sym h.is ∙ ap (λ (n : ℕ). q / 2 ^ n) e.1 ∙ k.is in omega arith)
-        | inr n ↦ absurd (let le = halves q h.by k.by (omega (arith, w.1, n.1)) in let is = h.is in let up = k.is in omega (arith, le, is, up))
-      ]
-      | inr w ↦ let le = halves q k.by h.by w.1 in let is = h.is in let up = k.is in omega (arith, le, is, up)
-    ]
+    let deeper : h.by < k.by → 2 * (q / 2 ^ k.by) ≤ q / 2 ^ h.by = halves q h.by k.by in
+    let higher : k.by < h.by → 2 * (q / 2 ^ h.by) ≤ q / 2 ^ k.by = halves q k.by h.by in
+    let level : h.by ≡ k.by → q / 2 ^ h.by ≡ q / 2 ^ k.by = ap (λ (n : ℕ). q / 2 ^ n) in
+    let one = h.is in
+    let other = k.is in
+    grind arith
 
 -- what lies below has no smaller number
 pub from_le : (a q : ℕ) → IsFrom a q → a ≤ q

@@ -1,5 +1,5 @@
 use Rattle.std.proofs.Common.{◌≤◌, ◌<◌, ◌*◌, ◌^◌, ◌∙◌, sym}
-use Rattle.splitter_tree.specs.TreeSteps.{number_in, value_of}
+use Rattle.splitter_tree.specs.TreeSteps.{value_of}
 use Rattle.splitter_tree.proofs.nodes.Roots.{after_zero, after_growth, after_refusal, after_change}
 use Rattle.splitter_tree.proofs.nodes.Steps.{on_ok, on_err}
 use Rattle.splitter_tree.proofs.node.write_from.Goals as goal
@@ -9,18 +9,12 @@ returns-then-place-eq0-clause-after g c = after_zero c.args.root.now c.args.regi
 
 pub returns-then-is_set_by-clause-after : goal.returns-then-is_set_by-clause-after
 returns-then-is_set_by-clause-after g c =
-    let low : 2 ^ c.ilog2-depth.result ≤ number_in c.args.register = rw c.node-place.ensures at c.ilog2-depth.ensures.power_le in
-    let high : number_in c.args.register < 2 * 2 ^ c.ilog2-depth.result = rw c.node-place.ensures at c.ilog2-depth.ensures.next_power_gt in
-    on_ok c.grow_below.result (after_growth c.args.root.now c.grow_below.new.link c.args.register (value_of c.args.value) c.ilog2-depth.result low high _ c.node-place.ensures (sym c.if-is_set_by.ensures)) c.grow_below.ensures.grown
+    on_ok c.grow_below.result (after_growth c.args.root.now c.grow_below.new.link c.args.register (value_of c.args.value) c.ilog2-depth.result (rw c.node-place.ensures at c.ilog2-depth.ensures.power_le) (rw c.node-place.ensures at c.ilog2-depth.ensures.next_power_gt) _ c.node-place.ensures (sym c.if-is_set_by.ensures)) c.grow_below.ensures.grown
 
 pub returns-then-is_set_by-clause-no_memory : goal.returns-then-is_set_by-clause-no_memory
 returns-then-is_set_by-clause-no_memory g c =
-    let low : 2 ^ c.ilog2-depth.result ≤ number_in c.args.register = rw c.node-place.ensures at c.ilog2-depth.ensures.power_le in
-    let high : number_in c.args.register < 2 * 2 ^ c.ilog2-depth.result = rw c.node-place.ensures at c.ilog2-depth.ensures.next_power_gt in
-    on_err c.grow_below.result (after_refusal c.args.root.now c.grow_below.new.link c.args.register (value_of c.args.value) c.ilog2-depth.result low high _ c.node-place.ensures (sym c.if-is_set_by.ensures)) c.grow_below.ensures.no_memory
+    on_err c.grow_below.result (after_refusal c.args.root.now c.grow_below.new.link c.args.register (value_of c.args.value) c.ilog2-depth.result (rw c.node-place.ensures at c.ilog2-depth.ensures.power_le) (rw c.node-place.ensures at c.ilog2-depth.ensures.next_power_gt) _ c.node-place.ensures (sym c.if-is_set_by.ensures)) c.grow_below.ensures.no_memory
 
 pub returns-else-is_set_by-clause-after : goal.returns-else-is_set_by-clause-after
 returns-else-is_set_by-clause-after g c =
-    let low : 2 ^ c.ilog2-depth.result ≤ number_in c.args.register = rw c.node-place.ensures at c.ilog2-depth.ensures.power_le in
-    let high : number_in c.args.register < 2 * 2 ^ c.ilog2-depth.result = rw c.node-place.ensures at c.ilog2-depth.ensures.next_power_gt in
-    after_change c.args.root.now c.write_below.new.link c.args.register (value_of c.args.value) c.ilog2-depth.result low high (sym c.if-is_set_by.ensures) c.write_below.ensures
+    after_change c.args.root.now c.write_below.new.link c.args.register (value_of c.args.value) c.ilog2-depth.result (rw c.node-place.ensures at c.ilog2-depth.ensures.power_le) (rw c.node-place.ensures at c.ilog2-depth.ensures.next_power_gt) (sym c.if-is_set_by.ensures) c.write_below.ensures

@@ -1,11 +1,10 @@
-use Rattle.std.proofs.Common.{rules, ◌≡◌, Some, Ok, Err, not, ◌==◌, refl, sym, ap, ◌∙◌}
+use Rattle.std.proofs.Common.{rules, ◌≡◌, Some, Ok, not, ◌==◌, refl, sym, ap, ◌∙◌}
 use Rattle.std.proofs.lemmas.List.Elements.{All-filter}
-use Rattle.step_memory.specs.declared.refusal.Refusal.{Refusal}
 use Rattle.step_memory.specs.Registers.{after_access}
 use Rattle.bit_allocator.specs.declared.stay.Stay.TheVariants.{Settled}
 use Rattle.bit_allocator.specs.Stay.{IsWithin, leave_access}
 use Rattle.bit_allocator.specs.Competitors.{stay_of}
-use Rattle.bit_allocator.specs.Pool.{number_answer, after_leave}
+use Rattle.bit_allocator.specs.Pool.{number_answer}
 use Rattle.bit_allocator.specs.Calls.Call.{Left}
 use Rattle.bit_allocator.proofs.CallLemmas.{settled_by, unsettled_after}
 use Rattle.bit_allocator.proofs.LocalityLemmas.{leave_local, leave_stands}
@@ -15,11 +14,13 @@ use Rattle.bit_allocator.proofs.pool.Pool.leave.Goals as goal
 
 pub returns-in_err-number-clause-after : goal.returns-in_err-number-clause-after
 returns-in_err-number-clause-after g c =
-    let is : c.from_residual.result ≡ number_answer c.args.self.now c.args.id = search rules in
-    let why : Refusal = c.in_err-number.field-0.0 in
-    let held : Err why ≡ number_answer c.args.self.now c.args.id = c.in_err-number.ensures.answer in
-    let state : c.args.self.now ≡ after_leave c.args.self.now c.args.id = unsettled_after c.args.self.now c.args.id why held in
-    pool_proved.call c.args.self.now c.args.self.now (Left c.args.id c.from_residual.result) state is
+    let state = unsettled_after c.args.self.now c.args.id c.in_err-number.field-0.0 c.in_err-number.ensures.answer in
+    pool_proved.call c.args.self.now c.args.self.now (Left c.args.id c.from_residual.result) state (search rules)
+
+pub returns-in_err-number-clause-stands_alike : goal.returns-in_err-number-clause-stands_alike
+returns-in_err-number-clause-stands_alike g c = λ other h.
+    let state = unsettled_after c.args.self.now c.args.id c.in_err-number.field-0.0 c.in_err-number.ensures.answer in
+    ap (λ (w : PoolState). stay_of c.args.id w.competitors) state ∙ leave_stands c.args.id c.args.self.now other h
 
 pub invariant_of-self : goal.invariant_of-self
 invariant_of-self g c = record {
@@ -47,13 +48,6 @@ pub returns-clause-local : goal.returns-clause-local
 returns-clause-local g c =
     let reply : Ok c.in_ok-number.number ≡ number_answer c.args.self.now c.args.id = c.in_ok-number.ensures.answer in
     rw (returns-clause-state g c, reply) (leave_local c.args.id c.args.self.now)
-
-pub returns-in_err-number-clause-stands_alike : goal.returns-in_err-number-clause-stands_alike
-returns-in_err-number-clause-stands_alike g c = λ other h.
-    let why : Refusal = c.in_err-number.field-0.0 in
-    let held : Err why ≡ number_answer c.args.self.now c.args.id = c.in_err-number.ensures.answer in
-    let state : c.args.self.now ≡ after_leave c.args.self.now c.args.id = unsettled_after c.args.self.now c.args.id why held in
-    ap (λ (w : PoolState). stay_of c.args.id w.competitors) state ∙ leave_stands c.args.id c.args.self.now other h
 
 pub returns-clause-stands_alike : goal.returns-clause-stands_alike
 returns-clause-stands_alike g c = λ other h. ap (λ (w : PoolState). stay_of c.args.id w.competitors) (returns-clause-state g c) ∙ leave_stands c.args.id c.args.self.now other h
