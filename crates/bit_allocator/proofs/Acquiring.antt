@@ -1,23 +1,8 @@
 -- one who enters and gets a number by the probes of its bits makes the calls of a stay
-use Rattle.std.proofs.Common.{◌≡◌, ℕ, zero, suc, ◌+◌, ◌==◌, List, [], ◌∷◌, ◌++◌, replicate, Some, None, Ok, refl, sym, ap, ◌∙◌, arith}
-use Rattle.std.specs.Prelude.{is_some}
-use Rattle.std.proofs.lemmas.Bool.Decides.{nat_tests}
-use Rattle.step_memory.specs.RegisterState.{Registers}
-use Rattle.step_memory.specs.Registers.{after_access}
+use Rattle.std.proofs.Common.{◌≡◌, ℕ, zero, suc, ◌+◌, ◌==◌, List, [], ◌∷◌, ◌++◌, replicate, Some, None, Ok, refl, sym, ap, ◌∙◌, arith, is_some}
+use Rattle.bit_allocator.proofs.Common.{nat_tests, Registers, after_access, set_at-same, Competitor, Missed, Got, Stay, Seeking, Settled, probe_access, probe_reply, stay_of, with_stay, PoolState, fresh_pool, enter_refusal, Call, Probed, next, IsReply, pool}
 use Rattle.step_memory.specs.Runs.{Run}
 use Rattle.step_memory.proofs.RunLemmas.{run_more, run_keeps}
-use Rattle.step_memory.proofs.SetAtLemmas.{set_at-same}
-use Rattle.bit_allocator.specs.declared.competitor.Competitor.{Competitor}
-use Rattle.bit_allocator.specs.declared.probe.Probe.TheVariants.{Missed, Got}
-use Rattle.bit_allocator.specs.declared.stay.Stay.{Stay}
-use Rattle.bit_allocator.specs.declared.stay.Stay.TheVariants.{Seeking, Settled}
-use Rattle.bit_allocator.specs.Stay.{probe_access, probe_reply}
-use Rattle.bit_allocator.specs.Competitors.{stay_of, with_stay}
-use Rattle.bit_allocator.specs.PoolState.{PoolState}
-use Rattle.bit_allocator.specs.Pool.{fresh_pool, enter_refusal}
-use Rattle.bit_allocator.specs.Calls.{Call}
-use Rattle.bit_allocator.specs.Calls.Call.{Probed}
-use Rattle.bit_allocator.specs.Machine.{next, IsReply, pool}
 use Rattle.step_memory.specs.Machine.{After}
 use Rattle.bit_allocator.specs.Acquired.{stay_calls, IsAcquired, GetsAfter, Gets}
 use Rattle.bit_allocator.proofs.Counts.{competitor}

@@ -1,15 +1,8 @@
 -- bits and competitors keep in balance: the argument for the last number
-use Rattle.std.proofs.Common.{◌≡◌, ◌≢◌, ℕ, suc, ◌+◌, ◌-◌, ◌≤◌, ◌<◌, Bool, true, false, not, ◌==◌, nat_le, List, [], ◌∷◌, ◌++◌, Some, None, length, get_or, set, replicate, max, inl, inr, refl, sym, ap, subst, ◌∙◌, arith}
-use Rattle.std.specs.Prelude.{is_some}
+use Rattle.std.proofs.Common.{◌≡◌, ◌≢◌, ℕ, suc, ◌+◌, ◌-◌, ◌≤◌, ◌<◌, Bool, true, false, not, ◌==◌, nat_le, List, [], ◌∷◌, ◌++◌, Some, None, length, get_or, set, replicate, max, inl, inr, refl, sym, ap, subst, ◌∙◌, arith, is_some}
+use Rattle.bit_allocator.proofs.Common.{leb_tells, Decides-eqb, nat_tests, Competitor, Stay, Seeking, Settled, held_at, identities, stay_of, with_stay, without, holds_at, set_at-is}
 use Rattle.std.proofs.lemmas.List.{get_or-set_same, get_or-set_other, get_or-replicate, length-set, length-append}
-use Rattle.std.proofs.lemmas.Bool.Decides.{leb_tells, Decides-eqb, nat_tests}
-use Rattle.bit_allocator.specs.declared.competitor.Competitor.{Competitor}
-use Rattle.bit_allocator.specs.declared.stay.Stay.{Stay}
-use Rattle.bit_allocator.specs.declared.stay.Stay.TheVariants.{Seeking, Settled}
-use Rattle.bit_allocator.specs.Stay.{held_at}
-use Rattle.bit_allocator.specs.Competitors.{identities, stay_of, with_stay, without, holds_at}
 use Rattle.bit_allocator.proofs.StayOfLemmas.{stay_of-push, stay_of-with_stay, stay_of-without, identities-with_stay, length-identities}
-use Rattle.step_memory.proofs.SetAtLemmas.{set_at-is}
 use Rattle.bit_allocator.proofs.Counts.{one, count, competitor, is_of, holds, seeks, reaches, number_of, one_most, count-push, count-with_stay, count-without, count-some, count-absent, count-length, count-none, length-filter, reaches-split}
 
 -- a search is within the bits, or at 1 where there are none; and what is held is within the pool

@@ -1,13 +1,6 @@
 -- calls by cases on who makes them
 use Rattle.std.proofs.Common.{◌≡◌, ℕ, Option, Some, None, Ok, Err, refl}
-use Rattle.step_memory.specs.declared.refusal.Refusal.{Refusal}
-use Rattle.step_memory.specs.Registers.{after_access}
-use Rattle.bit_allocator.specs.declared.stay.Stay.{Stay}
-use Rattle.bit_allocator.specs.declared.stay.Stay.TheVariants.{Seeking, Settled}
-use Rattle.bit_allocator.specs.Stay.{probe_access, stay_probed, probe_reply}
-use Rattle.bit_allocator.specs.Competitors.{stay_of, with_stay}
-use Rattle.bit_allocator.specs.PoolState.{PoolState}
-use Rattle.bit_allocator.specs.Pool.{probe_answer, after_probe, got_by, number_answer, number_by, after_leave, after_leave_by}
+use Rattle.bit_allocator.proofs.Common.{Refusal, after_access, Stay, Seeking, Settled, probe_access, stay_probed, probe_reply, stay_of, with_stay, PoolState, probe_answer, after_probe, got_by, number_answer, number_by, after_leave, after_leave_by}
 
 -- the probe of one who holds no number
 pub going_answer : (w : PoolState) (id : ℕ) (stay : Stay) → stay_of id w.competitors ≡ Some stay → ((n : ℕ) → stay ≡ Settled n → ⊥) → probe_answer w id ≡ Ok (probe_reply (stay_probed w.size stay (got_by w stay)))

@@ -1,11 +1,6 @@
 -- how many competitors pass a test
 use Rattle.std.proofs.Common.{◌≡◌, ℕ, suc, ◌+◌, ◌≤◌, Bool, true, false, ◌==◌, nat_le, List, [], ◌∷◌, ◌++◌, Some, None, length, filter, cond, refl, ap, ◌∙◌, arith}
-use Rattle.std.proofs.lemmas.Bool.Decides.{Decides-eqb, nat_tests}
-use Rattle.bit_allocator.specs.declared.competitor.Competitor.{Competitor}
-use Rattle.bit_allocator.specs.declared.stay.Stay.{Stay}
-use Rattle.bit_allocator.specs.declared.stay.Stay.TheVariants.{Seeking, Settled}
-use Rattle.bit_allocator.specs.Stay.{held_at}
-use Rattle.bit_allocator.specs.Competitors.{stay_of, with_stay, without, holds_at}
+use Rattle.bit_allocator.proofs.Common.{Decides-eqb, nat_tests, Competitor, Stay, Seeking, Settled, held_at, stay_of, with_stay, without, holds_at}
 
 abbrev pub one : Bool → ℕ
 one true = 1

@@ -1,3 +1,4 @@
+mod Common
 mod StayOfLemmas
 mod RosterLemmas
 mod Counts

@@ -1,24 +1,14 @@
 -- the calls of a competitor are local
-use Rattle.std.proofs.Common.{◌≡◌, ℕ, true, false, cond, List, Option, Some, None, Ok, Err, refl, sym, ap, subst, ◌∙◌}
-use Rattle.std.specs.Prelude.{is_some, nat_lt}
+use Rattle.std.proofs.Common.{◌≡◌, ℕ, true, false, cond, List, Option, Some, None, Ok, Err, refl, sym, ap, subst, ◌∙◌, is_some, nat_lt}
+use Rattle.bit_allocator.proofs.Common.{Refusal, NotCompeting, Holding, NotHolding, set_at, Competitor, Stay, Seeking, Settled, stay_of, with_stay, without, holder_in, PoolState, probe_answer, probe_answer_by, after_probe, after_probe_by, got_by, number_answer, number_by, after_leave, after_leave_by, set_at-same, set_at-other}
 use Rattle.step_memory.specs.declared.access.Access.TheVariants.{TestAndSet, Clear, Nothing}
-use Rattle.step_memory.specs.declared.refusal.Refusal.{Refusal}
-use Rattle.step_memory.specs.declared.refusal.Refusal.TheVariants.{NotCompeting, Holding, NotHolding}
-use Rattle.step_memory.specs.SetAt.{set_at}
-use Rattle.bit_allocator.specs.declared.competitor.Competitor.{Competitor}
 use Rattle.step_memory.specs.RegisterProofs.{others_kept}
 use Rattle.step_memory.specs.Registers.{register_of, answer_of, after_access}
 use Rattle.step_memory.specs.Steps.{Spares, SetsOrClears}
-use Rattle.bit_allocator.specs.declared.stay.Stay.{Stay}
-use Rattle.bit_allocator.specs.declared.stay.Stay.TheVariants.{Seeking, Settled}
 use Rattle.bit_allocator.specs.Stay.{probe_access, stay_probed, stay_found, probe_reply, leave_access}
-use Rattle.bit_allocator.specs.Competitors.{stay_of, with_stay, without, holder_in}
-use Rattle.bit_allocator.specs.PoolState.{PoolState}
-use Rattle.bit_allocator.specs.Pool.{probe_answer, probe_answer_by, after_probe, after_probe_by, got_by, number_answer, number_by, after_leave, after_leave_by}
 use Rattle.bit_allocator.specs.Widening.{widen_access}
 use Rattle.bit_allocator.specs.Locality.{IsLocal, OwnSteps, got_in, LookAlike, StandAlike, probe_steps, leave_steps}
 use Rattle.step_memory.proofs.LocalityLemmas.{answer_alike}
-use Rattle.step_memory.proofs.SetAtLemmas.{set_at-same, set_at-other}
 use Rattle.bit_allocator.proofs.StayOfLemmas.{stay_of-with_stay, stay_of-without}
 
 module _ {O : Type 0} (steps : OwnSteps O) (id : ℕ) (w : PoolState) where

@@ -1,30 +1,15 @@
 -- each call of a pool keeps the law
-use Rattle.std.proofs.Common.{◌≡◌, ◌≢◌, ℕ, suc, ◌+◌, ◌≤◌, ◌<◌, Bool, true, false, cond, ◌==◌, List, [], ◌∷◌, ◌++◌, Option, Some, None, Ok, Err, length, get_or, set, inl, inr, refl, sym, ap, subst, ◌∙◌, arith}
-use Rattle.std.specs.Prelude.{MatchOption, is_some}
+use Rattle.std.proofs.Common.{◌≡◌, ◌≢◌, ℕ, suc, ◌+◌, ◌≤◌, ◌<◌, Bool, true, false, cond, ◌==◌, List, [], ◌∷◌, ◌++◌, Option, Some, None, Ok, Err, length, get_or, set, inl, inr, refl, sym, ap, subst, ◌∙◌, arith, MatchOption, is_some}
+use Rattle.bit_allocator.proofs.Common.{eqb_tells, leb_tells, Decides-eqb, nat_tests, NotCompeting, Holding, NotHolding, TestAndSet, Nothing, after_access, Competitor, Missed, Got, Stay, Seeking, Settled, held_at, stay_of, with_stay, without, held_in, holder_in, holds_at, PoolState, Call, Entered, Probed, Left, Widened, next, IsReply, pool, set_at-other}
 use Rattle.std.proofs.lemmas.Bool.{cases_Bool}
-use Rattle.std.proofs.lemmas.Bool.Decides.{eqb_tells, leb_tells, Decides-eqb, nat_tests}
 use Rattle.std.proofs.lemmas.List.{get_or-set_same, get_or-set_other, length-set}
-use Rattle.step_memory.specs.declared.refusal.Refusal.TheVariants.{NotCompeting, Holding, NotHolding}
 use Rattle.step_memory.specs.World.{done_unless}
-use Rattle.step_memory.specs.declared.access.Access.TheVariants.{TestAndSet, Nothing}
-use Rattle.step_memory.specs.Registers.{after_access}
 use Rattle.step_memory.proofs.RunLemmas.{run_more, run_one, run_answers}
-use Rattle.bit_allocator.specs.declared.competitor.Competitor.{Competitor}
-use Rattle.bit_allocator.specs.declared.probe.Probe.TheVariants.{Missed, Got}
-use Rattle.bit_allocator.specs.declared.stay.Stay.{Stay}
-use Rattle.bit_allocator.specs.declared.stay.Stay.TheVariants.{Seeking, Settled}
-use Rattle.bit_allocator.specs.Stay.{held_at}
-use Rattle.bit_allocator.specs.Competitors.{stay_of, with_stay, without, held_in, holder_in, holds_at}
-use Rattle.bit_allocator.specs.PoolState.{PoolState}
 use Rattle.bit_allocator.specs.Pool.{fresh_pool, enter_refusal, enter_answer, entered_unless, after_enter, probe_answer_by, after_probe_by, number_answer, number_by, probe_refusal_by, after_leave_by, widened_unless, after_widen, widen_answer}
 use Rattle.bit_allocator.specs.Widening.{widen_refusal, widen_access}
-use Rattle.bit_allocator.specs.Calls.{Call}
-use Rattle.bit_allocator.specs.Calls.Call.{Entered, Probed, Left, Widened}
 use Rattle.bit_allocator.specs.PoolObject.{PoolObject, fresh_object, no_entry, number_in, Answers, after, IsRun}
-use Rattle.bit_allocator.specs.Machine.{next, IsReply, pool}
 use Rattle.step_memory.specs.Machine.{After, Always, IsLawful, RefusesWhereDue, IsProved}
 use Rattle.step_memory.proofs.MachineLemmas.{always_by, machine_proved}
-use Rattle.step_memory.proofs.SetAtLemmas.{set_at-other}
 use Rattle.bit_allocator.proofs.StayOfLemmas.{stay_of-without, length-identities}
 use Rattle.bit_allocator.proofs.Counts.{one, count, is_of, holds, count-some, count-without}
 use Rattle.bit_allocator.proofs.Balanced.{IsPlaced, IsBalanced, IsProbed, IsWidenedBits, NobodyHolds, held_once, balanced_widened, balanced_fresh, balanced_entered, balanced_probed, balanced_left, free_clear, probed_clear, probed_missed, free_last, probed_last, free_only, probed_only}

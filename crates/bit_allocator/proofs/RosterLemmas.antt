@@ -1,16 +1,11 @@
 -- competitors whose identities are distinct, and what is noted of them
-use Rattle.std.proofs.Common.{◌≡◌, ◌≢◌, ◌<◌, ◌%◌, ℕ, zero, suc, ◌==◌, true, List, [], ◌∷◌, ◌++◌, Some, None, length, get_or, set, inl, inr, refl, sym, ap, subst, ◌∙◌, arith, add-one}
-use Rattle.std.specs.Prelude.{is_some}
-use Rattle.std.proofs.lemmas.Bool.Decides.{eqb_tells, nat_tests}
+use Rattle.std.proofs.Common.{◌≡◌, ◌≢◌, ◌<◌, ◌%◌, ℕ, zero, suc, ◌==◌, true, List, [], ◌∷◌, ◌++◌, Some, None, length, get_or, set, inl, inr, refl, sym, ap, subst, ◌∙◌, arith, add-one, is_some}
+use Rattle.bit_allocator.proofs.Common.{eqb_tells, nat_tests, Competitor, Stay, index_of, stay_of, with_stay, without, set_at-other}
 use Rattle.std.proofs.lemmas.List.{get_or_default, get_or-set_other}
 use Rattle.std.proofs.lemmas.Grind.{get_or-set_at}
 use Rattle.step_memory.proofs.Roster as roster
-use Rattle.bit_allocator.specs.declared.competitor.Competitor.{Competitor}
-use Rattle.bit_allocator.specs.declared.stay.Stay.{Stay}
-use Rattle.bit_allocator.specs.Competitors.{index_of, stay_of, with_stay, without}
 use Rattle.bit_allocator.specs.Roster.{AreDistinct, IsNoted, AreNoted}
 use Rattle.bit_allocator.proofs.StayOfLemmas.{stay_of-push, stay_of-without}
-use Rattle.step_memory.proofs.SetAtLemmas.{set_at-other}
 
 -- another's state is put
 stay_elsewhere : (q : ℕ) (cs : List Competitor) (id : ℕ) (stay : Stay) → q ≢ id → stay_of q (with_stay id stay cs) ≡ stay_of q cs

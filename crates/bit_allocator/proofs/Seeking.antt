@@ -1,12 +1,7 @@
 -- probes of the bits, one after the other, until one gets a number
-use Rattle.std.proofs.Common.{◌≡◌, ℕ, suc, ◌+◌, ◌<◌, ◌≤◌, ◌⊎◌, true, false, inl, inr, refl, get_or, arith}
-use Rattle.std.specs.Prelude.{nat_lt}
+use Rattle.std.proofs.Common.{◌≡◌, ℕ, suc, ◌+◌, ◌<◌, ◌≤◌, ◌⊎◌, true, false, inl, inr, refl, get_or, arith, nat_lt}
+use Rattle.bit_allocator.proofs.Common.{leb_tells, Registers, TestAndSet, after_access, Gets}
 use Rattle.std.proofs.lemmas.Bool.{le-leb}
-use Rattle.std.proofs.lemmas.Bool.Decides.{leb_tells}
-use Rattle.step_memory.specs.RegisterState.{Registers}
-use Rattle.step_memory.specs.declared.access.Access.TheVariants.{TestAndSet}
-use Rattle.step_memory.specs.Registers.{after_access}
-use Rattle.bit_allocator.specs.Acquired.{Gets}
 
 -- the probes so far missed the bits below this one. What probes from here on get, all of them get; and past the last bit
 -- they have got the last number

@@ -1,15 +1,8 @@
 -- a pool and the object after the same calls
-use Rattle.std.proofs.Common.{◌≡◌, ◌≢◌, ℕ, ◌+◌, ◌≤◌, true, not, ◌==◌, List, [], ◌∷◌, ◌++◌, Option, Some, None, length, filter, inl, inr, refl, sym, ap, ◌∙◌, arith}
-use Rattle.std.specs.Prelude.{is_some}
-use Rattle.std.proofs.lemmas.Bool.Decides.{Decides-eqb}
+use Rattle.std.proofs.Common.{◌≡◌, ◌≢◌, ℕ, ◌+◌, ◌≤◌, true, not, ◌==◌, List, [], ◌∷◌, ◌++◌, Option, Some, None, length, filter, inl, inr, refl, sym, ap, ◌∙◌, arith, is_some}
+use Rattle.bit_allocator.proofs.Common.{Decides-eqb, set_at, Competitor, Stay, Seeking, Settled, PoolState, enter_refusal, number_by, probe_refusal_by}
 use Rattle.std.proofs.Math.Path.{fun_ext}
-use Rattle.step_memory.specs.SetAt.{set_at}
-use Rattle.bit_allocator.specs.declared.competitor.Competitor.{Competitor}
-use Rattle.bit_allocator.specs.declared.stay.Stay.{Stay}
-use Rattle.bit_allocator.specs.declared.stay.Stay.TheVariants.{Seeking, Settled}
 use Rattle.bit_allocator.specs.Competitors.{identities, stay_of, with_stay, without, held_in, held_by_stay}
-use Rattle.bit_allocator.specs.PoolState.{PoolState}
-use Rattle.bit_allocator.specs.Pool.{enter_refusal, number_by, probe_refusal_by}
 use Rattle.bit_allocator.specs.PoolObject.{PoolObject, competes, no_entry, no_probe, number_in}
 use Rattle.bit_allocator.proofs.StayOfLemmas.{stay_of-push, stay_of-with_stay, stay_of-without, identities-push, identities-with_stay, identities-without, length-identities, competes-identities}
 use Rattle.bit_allocator.proofs.Counts.{competitor, holds, count-some}

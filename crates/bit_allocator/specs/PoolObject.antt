@@ -73,14 +73,11 @@ Answers o (Widened more reply) = reply ≡ done_unless (widen_refusal o.size mor
 -- the object after a call. A refusal changes nothing, and a widening the size alone
 abbrev pub after : PoolObject → Call → PoolObject
 after o (Entered p (Ok done)) = record o { competing = o.competing ++ p ∷ []; probes = set_at o.probes p 0 }
-after o (Entered p (Err refusal)) = o
 after o (Probed p (Ok Missed)) = record o { probes = set_at o.probes p (o.probes p + 1) }
 after o (Probed p (Ok (Got n))) = record o { held = set_at o.held p (Some n); probes = set_at o.probes p (o.probes p + 1) }
-after o (Probed p (Err refusal)) = o
 after o (Left p (Ok n)) = record o { competing = filter (λ q. not (q == p)) o.competing; held = set_at o.held p None }
-after o (Left p (Err refusal)) = o
 after o (Widened more (Ok done)) = record o { size = more }
-after o (Widened more (Err refusal)) = o
+after o c = o
 
 -- the object, begun fresh with this size, may answer these calls so, and is then in that state
 abbrev pub IsRun : ℕ → List Call → PoolObject → Type 0

@@ -13,14 +13,13 @@ use Rattle.commands.specs.declared.exchange.Exchange.{Exchange}
 use Rattle.commands.specs.declared.reply.Reply.TheVariants as reply
 use Rattle.commands.specs.declared.reply.Reply.TheVariants.{Ok, Quiet, Stop, Right, Down, Place, Proposed, Saw, Named, Spent, Missed, Got, Left, Value, Owner, Refused}
 use Rattle.commands.specs.Replies.{ShownReply, is_refusal, done_reply}
-use Rattle.desk.specs.Desk.{fresh_desk, desk_rules, desk_reply, desk_after, desk_refusal, IsAfterDesk}
+use Rattle.desk.specs.Desk.{fresh_desk, desk_rules, desk_reply, desk_after, desk_refusal, IsAfterDesk, owner_reply}
 use Rattle.desk.specs.DeskCalls.{DeskCall, exchange, exchange_of}
 use Rattle.desk.specs.DeskRun.{IsDeskRunOf}
 use Rattle.desk.specs.DeskValue.{DeskValue}
 use Rattle.desk.specs.DeskValue.DeskValue.{OverGrid, OverTree}
 use Rattle.desk.specs.Names.{IsOwnerReply}
 use Rattle.desk.specs.Rules.{may_by}
-use Rattle.desk.specs.Desk.{owner_reply}
 use Rattle.desk.proofs.DeskLaws as desk
 use Rattle.locked_world.specs.HallState.{HallState}
 use Rattle.locked_world.specs.Halls.{desk_of, IsLawful, full_unless, hall_refusal, longer, reply_unless, after_unless, hall_reply, hall_after, HallMay}

@@ -7,7 +7,7 @@ use Rattle.commands.specs.declared.command.Command.TheVariants as command
 use Rattle.commands.specs.declared.kind.WorldKind.{WorldKind}
 use Rattle.commands.specs.declared.exchange.Exchange.{Exchange}
 use Rattle.commands.specs.Replies.{ShownReply}
-use Rattle.player.specs.Turns.{Turn}
+use Rattle.player.specs.Turns.{Turn, asked}
 use Rattle.player.specs.Turns.Turn.{Answered, Told, Ended, Misread}
 use Rattle.player.specs.Asked.{until_quit, asked_by}
 use Rattle.player.specs.Knows.{Knows}
@@ -16,7 +16,6 @@ use Rattle.commands.specs.Requests.{Request}
 use Rattle.commands.specs.Requests.Request.{Take, OwnerOf}
 use Rattle.player.specs.Runs.{Runs, CanRun}
 use Rattle.player.specs.RunProofs.{runs-append}
-use Rattle.player.specs.Turns.{asked}
 
 -- each event that is asked for is known
 abbrev AllKnown : (Request → Bool) → List (Result Command Bad) → Type 0

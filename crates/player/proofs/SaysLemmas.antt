@@ -6,7 +6,7 @@ use Rattle.commands.specs.Replies.{ShownReply, is_refusal}
 use Rattle.commands.specs.declared.bad.Bad.{Bad}
 use Rattle.commands.specs.declared.kind.WorldKind.{WorldKind}
 use Rattle.player.specs.declared.summary.Summary.{Summary}
-use Rattle.player.specs.Turns.{Turn}
+use Rattle.player.specs.Turns.{Turn, asked, answer_of, answers_of}
 use Rattle.player.specs.Turns.Turn.{Answered, Told, Ended, Misread}
 use Rattle.player.specs.Counts.{CountsAnswers}
 use Rattle.player.specs.HeldLine.{held}
@@ -17,7 +17,6 @@ use Rattle.player.specs.Runs.{Runs}
 use Rattle.player.specs.RunProofs.{runs-append}
 use Rattle.player.specs.Says.{Spoke, IsTurnOf, IsHeld, SaysBy, SaysFrom, Says, Anywhere, Afresh}
 use Rattle.player.specs.Summary.{total, one_if_accepted, one_if_refused, one_if_bad}
-use Rattle.player.specs.Turns.{asked, answer_of, answers_of}
 
 total-push : (one : Result ShownReply Bad → ℕ) (given : List (Result ShownReply Bad)) (a : Result ShownReply Bad) → total one (given ++ a ∷ []) ≡ total one given + one a
 total-push one [] a = omega arith

@@ -9,7 +9,7 @@ use Rattle.commands.specs.declared.command.Command.{Command}
 use Rattle.commands.specs.declared.kind.WorldKind.{WorldKind}
 use Rattle.commands.specs.Replies.{ShownReply}
 use Rattle.player.specs.declared.summary.Summary.{Summary}
-use Rattle.player.specs.Turns.{Turn}
+use Rattle.player.specs.Turns.{Turn, asked, answers_of}
 use Rattle.player.specs.Counts.{CountsAnswers}
 use Rattle.player.specs.PlayerState.{PlayerState, player_of}
 use Rattle.player.specs.TalkerState.{TalkerState}
@@ -18,7 +18,6 @@ use Rattle.commands.specs.Requests.{Request}
 use Rattle.player.specs.RunProofs.{runs-append}
 use Rattle.player.specs.Says.{Says}
 use Rattle.player.specs.Stands.{IsFresh, IsSent, Stands, StandsPart}
-use Rattle.player.specs.Turns.{asked, answers_of}
 use Rattle.player.specs.Written.{HasPartOf}
 use Rattle.player.specs.WrittenProofs.{appends_more, part_after}
 

@@ -6,7 +6,7 @@ use Rattle.std.proofs.lemmas.Bool.Decides.{eqb_tells, leb_tells}
 use Rattle.commands.specs.declared.config.Config.{Config}
 use Rattle.commands.specs.declared.kind.WorldKind.{WorldKind}
 use Rattle.desk.proofs.DeskLaws as desk
-use Rattle.desk.specs.Desk.{fresh_desk, IsFreshDesk}
+use Rattle.desk.specs.Desk.{fresh_desk, IsFreshDesk, owner_reply}
 use Rattle.desk.specs.DeskValue.{DeskValue}
 use Rattle.desk.specs.DeskValue.DeskValue.{OverGrid, OverTree}
 use Rattle.record_lines.specs.declared.line.Line.{Line}
@@ -23,7 +23,6 @@ use Rattle.record_lines.specs.Records.{record_lines}
 use Rattle.run_checker.specs.Gathered.{AreGathered, Gathers}
 use Rattle.run_page.specs.Page.{HasPut, IsPageOf, closing_data, ending, joined, lines_before, opening, opening_data, page, page_between, page_head, page_middle, page_tail, shown_items, shown_rows, state_after, state_before, stretch_of, whole_before}
 use Rattle.run_page.specs.Still.{begun_after, begun_in, item_of, items}
-use Rattle.desk.specs.Desk.{owner_reply}
 use Rattle.run_page.specs.Shown.{IsPage}
 
 -- ---- one more line is replayed

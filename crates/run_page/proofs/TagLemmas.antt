@@ -15,7 +15,7 @@ use Rattle.commands.specs.declared.event.Event.{Event}
 use Rattle.commands.specs.declared.event.Event.TheVariants as event
 use Rattle.commands.specs.Replies.{ShownReply}
 use Rattle.commands.specs.declared.reply.Reply.TheVariants as reply
-use Rattle.desk.specs.Desk.{fresh_desk}
+use Rattle.desk.specs.Desk.{fresh_desk, owner_reply}
 use Rattle.desk.specs.DeskValue.{DeskValue}
 use Rattle.step_memory.specs.Refusal.{refusal_number}
 use Rattle.player.specs.Events.{event_words}
@@ -33,7 +33,6 @@ use Rattle.bit_allocator.specs.declared.competitor.Competitor.{Competitor}
 use Rattle.bit_allocator.specs.declared.stay.Stay.{Stay}
 use Rattle.bit_allocator.specs.declared.stay.Stay.TheVariants.{Seeking, Settled}
 use Rattle.desk.specs.Coming.{coming_of}
-use Rattle.desk.specs.Desk.{owner_reply}
 use Rattle.desk.specs.Held.{held_in, slots_of}
 use Rattle.run_page.specs.declared.form.Form.{Form}
 use Rattle.run_page.specs.declared.form.Form.TheVariants.{Data, Item}

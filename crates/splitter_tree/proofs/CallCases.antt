@@ -1,36 +1,10 @@
 -- what a call of a tree's world does, by cases: it is refused, or it changes its participant and at most one register
-use Rattle.std.proofs.Common.{◌≡◌, ℕ, Bool, true, false, cond, ◌⊎◌, inl, inr, List, [], ◌∷◌, Option, Some, None, Result, Ok, Err, refl, ap, ◌∙◌}
-use Rattle.std.specs.Prelude.{is_some}
-use Rattle.std.proofs.lemmas.Bool.{cases_Bool}
-use Rattle.std.proofs.lemmas.Bool.Decides.{eqb_tells, Decides-eqb}
-use Rattle.step_memory.specs.declared.access.Access.TheVariants.{Read}
-use Rattle.step_memory.specs.declared.access.Answer.{Answer}
-use Rattle.step_memory.specs.declared.note.Note.{Note}
-use Rattle.step_memory.specs.declared.note.Note.TheVariants.{Quiet}
-use Rattle.step_memory.specs.declared.participant.Participant.{Participant}
-use Rattle.step_memory.specs.declared.refusal.Refusal.{Refusal}
-use Rattle.step_memory.specs.declared.refusal.Refusal.TheVariants.{AlreadyBegun, NotBegun, Finished, NoMemory}
+use Rattle.std.proofs.Common.{◌≡◌, ℕ, Bool, true, false, cond, ◌⊎◌, inl, inr, List, [], ◌∷◌, Option, Some, None, Result, Ok, Err, refl, ap, ◌∙◌, is_some}
+use Rattle.splitter_tree.proofs.Common.{cases_Bool, eqb_tells, Decides-eqb, Read, Answer, Note, Quiet, Participant, Refusal, AlreadyBegun, NotBegun, Finished, NoMemory, set_at, MemorySteps, answer_from, done_unless, after_set, outcome_in, set_at-same, TreeRegister, TreeValue, Collect, Client, Task, Placing, Nothing, Collecting, Walker, next_access, walker_after, walker_note, place_of, collect_reads, collect_view, TreeState, asking_refusal, after_store, after_collect_begin, view_answer, after_collecting, may_lack_memory, next, IsReply, Stepped}
 use Rattle.step_memory.specs.Note.{ends}
 use Rattle.step_memory.specs.Participant.{participant_of, with_participant, beginner}
-use Rattle.step_memory.specs.SetAt.{set_at}
-use Rattle.step_memory.specs.Steps.{MemorySteps, answer_from}
-use Rattle.step_memory.specs.World.{done_unless, after_set}
-use Rattle.step_memory.specs.Calls.{outcome_in}
 use Rattle.step_memory.proofs.ParticipantLemmas.{participant_of-put, identity_of}
-use Rattle.step_memory.proofs.SetAtLemmas.{set_at-same}
-use Rattle.splitter_tree.specs.declared.register.TreeRegister.{TreeRegister}
-use Rattle.splitter_tree.specs.declared.register.TreeValue.{TreeValue}
-use Rattle.splitter_tree.specs.declared.collect.Collect.{Collect}
-use Rattle.splitter_tree.specs.declared.client.Client.{Client}
-use Rattle.splitter_tree.specs.declared.client.Task.{Task}
-use Rattle.splitter_tree.specs.declared.client.Task.TheVariants.{Placing, Nothing, Collecting}
-use Rattle.splitter_tree.specs.declared.walker.Walker.{Walker}
-use Rattle.splitter_tree.specs.Walk.{next_access, walker_after, walker_note, place_of}
 use Rattle.splitter_tree.specs.Client.{is_placing, is_idle, is_collecting, is_placed, placed_note, place_told, view_told, collected_note, collecting_after, storing, collecting, with_task, write_at, record_of}
-use Rattle.splitter_tree.specs.Collect.{collect_reads, collect_view}
-use Rattle.splitter_tree.specs.TreeWorld.{TreeState, asking_refusal, after_store, after_collect_begin, view_answer, after_collecting, may_lack_memory}
-use Rattle.splitter_tree.specs.TreeCalls.{next, IsReply}
-use Rattle.splitter_tree.specs.TreeCalls.TreeCall.{Stepped}
 
 -- no participant's program ends
 abbrev pub GoesOn : {S : Type 0} → TreeState S → Type 0

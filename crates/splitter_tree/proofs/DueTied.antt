@@ -1,40 +1,12 @@
 -- each call of a tree's world is refused exactly where the calls before it make it due
-use Rattle.std.proofs.Common.{◌≡◌, ◌≢◌, ◌≤◌, ℕ, Bool, true, false, cond, not, ◌&&◌, ◌||◌, ◌==◌, ◌⊎◌, inl, inr, List, [], ◌∷◌, ◌++◌, Option, Some, None, Result, Err, refl, sym, ap, ◌∙◌, ne_eqb}
-use Rattle.std.specs.Prelude.{is_some}
+use Rattle.std.proofs.Common.{◌≡◌, ◌≢◌, ◌≤◌, ℕ, Bool, true, false, cond, not, ◌&&◌, ◌||◌, ◌==◌, ◌⊎◌, inl, inr, List, [], ◌∷◌, ◌++◌, Option, Some, None, Result, Err, refl, sym, ap, ◌∙◌, ne_eqb, is_some}
+use Rattle.splitter_tree.proofs.Common.{Decides-eqb, Read, Write, Participant, Refusal, Finished, Record, participant_of, beginner, MemorySteps, run_keeps, Run, set_at-cases, participant_of-push, let_in, TreeRegister, Mark, TreeValue, Collect, Client, Task, Placing, Nothing, Storing, IsTreeMemory, IsEmptyTree, next_access, walker_note, place_of, collect_reads, collect_after, collect_view, TreeState, asking_refusal, after_store, after_collect_begin, after_collecting, may_lack_memory, fresh_over, TreeCall, next, IsReply, TreeBegan, TreeStepped, Stored, CollectBegan, CollectStepped, way_calls, KeepsPlacesLaw}
 use Rattle.std.proofs.Math.Bool.{or-false}
-use Rattle.std.proofs.lemmas.Bool.Decides.{Decides-eqb}
-use Rattle.step_memory.specs.declared.access.Access.TheVariants.{Read, Write}
-use Rattle.step_memory.specs.declared.participant.Participant.{Participant}
-use Rattle.step_memory.specs.declared.refusal.Refusal.{Refusal}
-use Rattle.step_memory.specs.declared.refusal.Refusal.TheVariants.{Finished}
-use Rattle.step_memory.specs.declared.record.Record.{Record}
-use Rattle.step_memory.specs.Participant.{participant_of, beginner}
-use Rattle.step_memory.specs.Steps.{MemorySteps}
 use Rattle.step_memory.specs.World.{begin_refusal, begun_unless, done_unless, may_refuse_by}
 use Rattle.step_memory.specs.Calls.Call.{Began, Stepped}
 use Rattle.step_memory.specs.Due.{has_begun, begin_due, step_due, RefusesAsDue}
 use Rattle.step_memory.proofs.DueLemmas.{due_more, has_begun-append, cut, nothing_cut, ended_with_outcome, ends_once}
-use Rattle.step_memory.proofs.RunLemmas.{run_keeps}
-use Rattle.step_memory.specs.Runs.{Run}
-use Rattle.step_memory.proofs.SetAtLemmas.{set_at-cases}
-use Rattle.step_memory.proofs.ParticipantLemmas.{participant_of-push}
-use Rattle.step_memory.proofs.WorldKeeps.{let_in}
-use Rattle.splitter_tree.specs.declared.register.TreeRegister.{TreeRegister}
-use Rattle.splitter_tree.specs.declared.register.TreeRegister.TheVariants.{Mark}
-use Rattle.splitter_tree.specs.declared.register.TreeValue.{TreeValue}
-use Rattle.splitter_tree.specs.declared.collect.Collect.{Collect}
-use Rattle.splitter_tree.specs.declared.client.Client.{Client}
-use Rattle.splitter_tree.specs.declared.client.Task.{Task}
-use Rattle.splitter_tree.specs.declared.client.Task.TheVariants.{Placing, Nothing, Storing}
-use Rattle.splitter_tree.specs.TreeMemory.{IsTreeMemory, IsEmptyTree}
-use Rattle.splitter_tree.specs.Walk.{next_access, walker_note, place_of}
 use Rattle.splitter_tree.specs.Client.{client_of, client_steps, client_access, access_for, is_placing, is_idle, is_collecting, is_placed, collecting, collecting_after, with_task, write_at, record_of, task_after}
-use Rattle.splitter_tree.specs.Collect.{collect_reads, collect_after, collect_view}
-use Rattle.splitter_tree.specs.TreeWorld.{TreeState, asking_refusal, after_store, after_collect_begin, after_collecting, may_lack_memory}
-use Rattle.splitter_tree.specs.Machine.{fresh_over}
-use Rattle.splitter_tree.specs.TreeCalls.{TreeCall, next, IsReply}
-use Rattle.splitter_tree.specs.TreeCalls.TreeCall.{Began as TreeBegan, Stepped as TreeStepped, Stored, CollectBegan, CollectStepped}
-use Rattle.splitter_tree.specs.PlacesLaw.{way_calls, KeepsPlacesLaw}
 use Rattle.splitter_tree.specs.TreeDue.{collects_after, collects_from, collects, has_place, asking_due, IsTreeRefusedAsDue, TreeRefusesAsDue}
 use Rattle.splitter_tree.proofs.CallCases.{IsRefused, HindersHere, HindersStep, IsStep, IsCollectStep, got_on, walked_on, read_by, turned, turned_stands, step_cases, store_cases, collect_begin_cases, collect_step_cases}
 use Rattle.splitter_tree.proofs.nodes.PlacesTied.{IsTied, is_storing, way_calls-append, no_way, call_kept, tied_new, all_go, law_of_tied}

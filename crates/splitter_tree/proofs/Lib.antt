@@ -1,3 +1,4 @@
+mod Common
 pub mod collects
 pub mod nodes
 pub mod TreeMemoryLemmas

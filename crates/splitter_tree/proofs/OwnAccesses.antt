@@ -1,25 +1,9 @@
 -- the accesses of a participant
 use Rattle.std.proofs.Common.{◌≡◌, ℕ, Bool, true, false, cond, Option, Some, None, refl, sym, ap, ◌∙◌}
-use Rattle.step_memory.specs.declared.access.Access.TheVariants.{Write}
-use Rattle.step_memory.specs.declared.participant.Participant.{Participant}
-use Rattle.step_memory.specs.declared.record.Record.{Record}
-use Rattle.step_memory.specs.Participant.{participant_of}
+use Rattle.splitter_tree.proofs.Common.{Write, Participant, Record, participant_of, Stage, Outside, TreeRegister, Mark, X, Y, Contents, TreeValue, Word, Walker, Client, Task, Placing, Storing, access_for, write_at, record_of, TreeWorldState, tree, tree_steps}
 use Rattle.step_memory.specs.Steps.{ReadsOrWrites}
-use Rattle.splitter.specs.declared.stage.Stage.{Stage}
-use Rattle.splitter.specs.declared.stage.Stage.TheVariants.{Outside}
 use Rattle.splitter.specs.Visitor.{access_at, access_of}
-use Rattle.splitter_tree.specs.declared.register.TreeRegister.{TreeRegister}
-use Rattle.splitter_tree.specs.declared.register.TreeRegister.TheVariants.{Mark, X, Y, Contents}
-use Rattle.splitter_tree.specs.declared.register.TreeValue.{TreeValue}
-use Rattle.splitter_tree.specs.declared.register.TreeValue.TheVariants.{Word}
-use Rattle.splitter_tree.specs.declared.walker.Walker.{Walker}
-use Rattle.splitter_tree.specs.declared.client.Client.{Client}
-use Rattle.splitter_tree.specs.declared.client.Task.{Task}
-use Rattle.splitter_tree.specs.declared.client.Task.TheVariants.{Placing, Storing}
 use Rattle.splitter_tree.specs.Walk.{in_words, place_of, StandsAtNode}
-use Rattle.splitter_tree.specs.Client.{access_for, write_at, record_of}
-use Rattle.splitter_tree.specs.Machine.{TreeWorldState, tree}
-use Rattle.splitter_tree.specs.TreeSteps.{tree_steps}
 use Rattle.step_memory.specs.Machine.{Always}
 use Rattle.splitter_tree.proofs.TreeProved.{tied}
 

@@ -1,28 +1,12 @@
 -- a store is never refused for want of memory, and changes nothing but its participant and the segment at its place
-use Rattle.std.proofs.Common.{◌≡◌, ◌≢◌, ℕ, true, false, Option, Some, None, Result, Ok, Err, inl, inr, refl, sym, ap, ◌∙◌}
-use Rattle.std.specs.Prelude.{is_some, option_map, option_and_then}
-use Rattle.step_memory.specs.declared.note.Note.{Note}
+use Rattle.std.proofs.Common.{◌≡◌, ◌≢◌, ℕ, true, false, Option, Some, None, Result, Ok, Err, inl, inr, refl, sym, ap, ◌∙◌, is_some, option_map, option_and_then}
+use Rattle.splitter_tree.proofs.Common.{Note, Participant, Record, Refusal, NoMemory, participant_of, program_of, beginner, MemorySteps, set_at, participant_of-put, set_at-same, set_at-other, TreeRegister, TreeValue, Client, place_of, client_steps, storing, write_at, record_of, NodeMap, tree_steps, may_refuse}
 use Rattle.step_memory.specs.declared.note.Note.TheVariants.{Said}
-use Rattle.step_memory.specs.declared.participant.Participant.{Participant}
-use Rattle.step_memory.specs.declared.record.Record.{Record}
-use Rattle.step_memory.specs.declared.refusal.Refusal.{Refusal}
-use Rattle.step_memory.specs.declared.refusal.Refusal.TheVariants.{NoMemory}
 use Rattle.step_memory.specs.Locality.{IsLocal}
-use Rattle.step_memory.specs.Participant.{participant_of, program_of, beginner}
-use Rattle.step_memory.specs.Steps.{MemorySteps}
-use Rattle.step_memory.specs.SetAt.{set_at}
 use Rattle.step_memory.specs.World.{after_set, step_answer, may_refuse_step}
-use Rattle.step_memory.proofs.ParticipantLemmas.{participant_of-put}
-use Rattle.step_memory.proofs.SetAtLemmas.{set_at-same, set_at-other}
 use Rattle.step_memory.proofs.StepLemmas.{lacks_or_not}
-use Rattle.splitter_tree.specs.declared.register.TreeRegister.{TreeRegister}
-use Rattle.splitter_tree.specs.declared.register.TreeValue.{TreeValue}
-use Rattle.splitter_tree.specs.declared.client.Client.{Client}
 use Rattle.splitter_tree.specs.declared.client.TreeReply.{TreeReply}
 use Rattle.splitter_tree.specs.declared.client.TreeReply.TheVariants.{Stored}
-use Rattle.splitter_tree.specs.Walk.{place_of}
-use Rattle.splitter_tree.specs.Client.{client_steps, storing, write_at, record_of}
-use Rattle.splitter_tree.specs.TreeSteps.{NodeMap, tree_steps, may_refuse}
 use Rattle.splitter_tree.specs.TreeWorld.{TreeState, IsLocalStore}
 use Rattle.splitter_tree.proofs.nodes.PlacesTied.{write_spares}
 

@@ -1,21 +1,9 @@
 -- a tree is a memory of the kind that walks and collects stand on
-use Rattle.std.proofs.Common.{◌≡◌, ℕ, ◌/◌, Bool, true, false, not, ◌&&◌, ◌||◌, cond, Option, Some, None, inl, inr, refl, ap, ◌∙◌}
-use Rattle.std.specs.Prelude.{◌⊎◌, ◌==◌, is_some}
-use Rattle.std.specs.Ordering.{nat_cmp}
+use Rattle.std.proofs.Common.{◌≡◌, ℕ, ◌/◌, Bool, true, false, not, ◌&&◌, ◌||◌, cond, Option, Some, None, inl, inr, refl, ap, ◌∙◌, ◌⊎◌, ◌==◌, is_some}
+use Rattle.splitter_tree.proofs.Common.{nat_cmp, Decides-eqb, Access, Write, Record, set_at-same, NodeRegisters, TreeRegister, Mark, X, Y, Contents, TreeValue, Word, Held, word_in, segment_in, mark_at, IsWithinReach, IsTreeMemory, IsEmptyTree}
 use Rattle.std.specs.FinMap as map
-use Rattle.std.proofs.lemmas.Bool.Decides.{Decides-eqb}
-use Rattle.step_memory.specs.declared.access.Access.{Access}
-use Rattle.step_memory.specs.declared.access.Access.TheVariants.{Write}
-use Rattle.step_memory.specs.declared.record.Record.{Record}
-use Rattle.step_memory.proofs.SetAtLemmas.{set_at-same}
-use Rattle.splitter_tree.specs.declared.node_registers.NodeRegisters.{NodeRegisters}
-use Rattle.splitter_tree.specs.declared.register.TreeRegister.{TreeRegister}
-use Rattle.splitter_tree.specs.declared.register.TreeRegister.TheVariants.{Mark, X, Y, Contents}
-use Rattle.splitter_tree.specs.declared.register.TreeValue.{TreeValue}
-use Rattle.splitter_tree.specs.declared.register.TreeValue.TheVariants.{Word, Contents as Held}
 use Rattle.splitter_tree.specs.TreeSteps.{NodeMap, number_in, fresh_registers, value_in, makes_node, written, after_write, may_refuse, tree_steps, empty_tree}
 use Rattle.splitter_tree.specs.TreeProofs.{get_written, makes_absent, others_kept}
-use Rattle.splitter_tree.specs.TreeMemory.{word_in, segment_in, mark_at, IsWithinReach, IsTreeMemory, IsEmptyTree}
 
 -- each register holds a value of its kind
 mark_word : (k : ℕ) (o : Option NodeRegisters) → value_in (Mark k) o ≡ Word (word_in (value_in (Mark k) o))

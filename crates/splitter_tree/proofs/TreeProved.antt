@@ -1,40 +1,22 @@
 -- the world of a tree is proved
-use Rattle.std.proofs.Common.{◌≡◌, ◌≢◌, ◌≤◌, ◌==◌, ℕ, Bool, true, false, cond, inl, inr, List, [], ◌∷◌, ◌++◌, Option, Some, None, Result, Ok, Err, refl, sym, ap, subst, ◌∙◌, arith, ne_eqb}
-use Rattle.std.specs.Prelude.{option_map, option_and_then, is_some, nat_le}
-use Rattle.std.proofs.lemmas.Bool.Decides.{nat_tests}
-use Rattle.splitter_tree.specs.PlacesLaw.{KeepsPlacesLaw, way_calls, walker_in}
+use Rattle.std.proofs.Common.{◌≡◌, ◌≢◌, ◌≤◌, ◌==◌, ℕ, Bool, true, false, cond, inl, inr, List, [], ◌∷◌, ◌++◌, Option, Some, None, Result, Ok, Err, refl, sym, ap, subst, ◌∙◌, arith, ne_eqb, option_map, option_and_then, is_some, nat_le}
+use Rattle.splitter_tree.proofs.Common.{nat_tests, KeepsPlacesLaw, way_calls, walker_in, TreeCall, Began, Stepped, Stored, CollectBegan, CollectStepped, tree_steps, empty_tree, TreeRegister, TreeValue, TreeRefusesAsDue, place_of, place_by, Client, EndsOnce, client_steps, is_placing, is_collecting, place_told, MemorySteps, Refusal, NoMemory, Finished, participant_of, program_of, Participant}
 use Rattle.splitter_tree.specs.Machine.{TreeWorldState, HasLawfulNodes, fresh_over, tree, tree_over}
-use Rattle.splitter_tree.specs.TreeCalls.{TreeCall}
-use Rattle.splitter_tree.specs.TreeCalls.TreeCall.{Began, Stepped, Stored, CollectBegan, CollectStepped}
-use Rattle.splitter_tree.specs.TreeSteps.{tree_steps, empty_tree}
 use Rattle.splitter_tree.specs.TreeWorld.{TreeState, after_tree_begin, asking_refusal, place_answer, place_answer_by, after_placing, after_placing_by, may_lack_memory, after_store, after_collect_begin, view_answer, after_collecting, after_collecting_by}
-use Rattle.splitter_tree.specs.declared.register.TreeRegister.{TreeRegister}
-use Rattle.splitter_tree.specs.declared.register.TreeValue.{TreeValue}
 use Rattle.splitter_tree.proofs.collects.CollectSteps.{collect_law}
 use Rattle.splitter_tree.proofs.nodes.PlacesTied.{IsTied, tied_after, tree_of_tied, way_calls-append}
 use Rattle.splitter_tree.proofs.DueTied.{world_counted, places_law}
-use Rattle.splitter_tree.specs.TreeDue.{TreeRefusesAsDue}
 use Rattle.splitter_tree.proofs.TreeMemoryLemmas.{tree_memory, tree_empty}
-use Rattle.splitter_tree.specs.Walk.{place_of, place_by}
-use Rattle.splitter_tree.specs.declared.client.Client.{Client}
-use Rattle.step_memory.specs.Calls.{Call, outcome_of}
+use Rattle.step_memory.specs.Calls.{Call, outcome_of, lacked_memory, reply_of}
 use Rattle.step_memory.specs.Calls.Call.{Stepped as WayStepped}
-use Rattle.step_memory.specs.Due.{EndsOnce}
 use Rattle.step_memory.specs.Machine.{After, Always, IsLawful, LeadsOn, RefusesWhereDue, IsProved}
 use Rattle.step_memory.specs.World.{begin_refusal, done_unless, step_answer, after_step}
 use Rattle.splitter_tree.specs.Laws.{StaysAlikeOnWay, StaysAlikeCollecting}
 use Rattle.step_memory.proofs.StepLemmas.{lacks_none, lacks_or_not}
-use Rattle.step_memory.specs.Calls.{lacked_memory, reply_of}
-use Rattle.splitter_tree.specs.Client.{client_steps, is_placing, is_collecting, place_told}
 use Rattle.step_memory.specs.Locality.{LookAlike, StandAlike}
 use Rattle.step_memory.proofs.LocalityLemmas.{stand_alike}
-use Rattle.step_memory.specs.Steps.{MemorySteps}
-use Rattle.step_memory.specs.declared.refusal.Refusal.{Refusal}
-use Rattle.step_memory.specs.declared.refusal.Refusal.TheVariants.{NoMemory, Finished}
 use Rattle.step_memory.proofs.DueLemmas.{no_second_end}
 use Rattle.step_memory.proofs.MachineLemmas.{call_leads_on, machine_proved}
-use Rattle.step_memory.specs.Participant.{participant_of, program_of}
-use Rattle.step_memory.specs.declared.participant.Participant.{Participant}
 
 module _ {S : Type 0} (memory : MemorySteps S TreeRegister TreeValue) where
   -- a world is tied to its calls

@@ -45,21 +45,15 @@ view_told (Ended reply) = None
 -- whether it is on the way to its place; has nothing to do; collects
 abbrev pub is_placing : Task → Bool
 is_placing Placing = true
-is_placing Nothing = false
-is_placing (Storing value) = false
-is_placing (Collecting collect) = false
+is_placing t = false
 
 abbrev pub is_idle : Task → Bool
-is_idle Placing = false
 is_idle Nothing = true
-is_idle (Storing value) = false
-is_idle (Collecting collect) = false
+is_idle t = false
 
 abbrev pub is_collecting : Task → Bool
-is_collecting Placing = false
-is_collecting Nothing = false
-is_collecting (Storing value) = false
 is_collecting (Collecting collect) = true
+is_collecting t = false
 
 -- a participant that begins
 abbrev pub client_of : ℕ → Client

@@ -1,12 +1,12 @@
 -- the law of collects, over the calls of a tree's world with their replies alone: what a collect shows of each was
 -- stored last at some moment within the collect, and who had stored before is shown. That steps are counted, and so
 -- bounded, is this project's profile
-use Rattle.std.specs.Prelude.{◌≡◌, ℕ, ◌+◌, ◌-◌, ◌*◌, ◌<◌, ◌≤◌, Bool, true, false, List, Option, Some, None, IsSome, Ok, Err}
+use Rattle.std.specs.Prelude.{◌≡◌, ℕ, ◌+◌, ◌-◌, ◌*◌, ◌<◌, ◌≤◌, Bool, true, false, List, Option, Some, None, IsSome, Ok}
 use Rattle.step_memory.specs.Runs.{Run}
 use Rattle.step_memory.specs.SetAt.{set_at}
 use Rattle.step_memory.specs.View.{IsRising, value_of}
 use Rattle.splitter_tree.specs.TreeCalls.{TreeCall}
-use Rattle.splitter_tree.specs.TreeCalls.TreeCall.{Began, Stepped, Stored, CollectBegan, CollectStepped}
+use Rattle.splitter_tree.specs.TreeCalls.TreeCall.{Began, Stored, CollectBegan, CollectStepped}
 
 -- the object: how many have begun; the moments, which are maps from identity to the value stored last, by their numbers
 -- from 0 to the last; and of each identity whether it collects, since which moment, and with how many steps
@@ -51,14 +51,10 @@ collect_stepped o p shown = record { begun = o.begun; last = o.last; moment = o.
 -- the object after a call
 abbrev pub observed : CollectObject → TreeCall → CollectObject
 observed o (Began p (Ok done)) = one_begun o
-observed o (Began p (Err why)) = o
-observed o (Stepped p reply) = o
 observed o (Stored p value (Ok done)) = with_moment o p value
-observed o (Stored p value (Err why)) = o
 observed o (CollectBegan p (Ok done)) = collect_begun o p
-observed o (CollectBegan p (Err why)) = o
 observed o (CollectStepped p (Ok shown)) = collect_stepped o p shown
-observed o (CollectStepped p (Err why)) = o
+observed o t = o
 
 -- a view of a collect since this moment: by rising identity, one pair for each identity that it has; the value of a pair
 -- was that identity's in some moment of the collect; and whoever had stored when the collect began has a pair
@@ -78,14 +74,10 @@ AllowsStep o p (Some view) = (o.steps p + 1 ≤ most_steps o.begun) × ShowsValu
 
 -- who collects neither stores nor begins another collect, and who does not collect takes no step of one
 abbrev pub Allows : CollectObject → TreeCall → Type 0
-Allows o (Began p reply) = Unit {0}
-Allows o (Stepped p reply) = Unit {0}
 Allows o (Stored p value (Ok done)) = o.collects p ≡ false
-Allows o (Stored p value (Err why)) = Unit {0}
 Allows o (CollectBegan p (Ok done)) = o.collects p ≡ false
-Allows o (CollectBegan p (Err why)) = Unit {0}
 Allows o (CollectStepped p (Ok shown)) = (o.collects p ≡ true) × AllowsStep o p shown
-Allows o (CollectStepped p (Err why)) = Unit {0}
+Allows o t = Unit {0}
 
 -- these calls, with these replies, keep the law of collects
 abbrev pub KeepsCollectLaw : List TreeCall → Type 0

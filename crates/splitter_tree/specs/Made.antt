@@ -1,6 +1,6 @@
 -- which nodes were made over a list of calls. Moves are quiet, so the calls and replies alone do not tell: one goes along
 -- them with the worlds between
-use Rattle.std.specs.Prelude.{◌≡◌, ℕ, true, List, [], Some, Ok, Err}
+use Rattle.std.specs.Prelude.{◌≡◌, ℕ, true, List, [], Some, Ok}
 use Rattle.step_memory.specs.Runs.{HappensFrom}
 use Rattle.step_memory.specs.Steps.{MemorySteps}
 use Rattle.splitter_tree.specs.declared.register.TreeRegister.{TreeRegister}
@@ -8,18 +8,14 @@ use Rattle.splitter_tree.specs.declared.register.TreeValue.{TreeValue}
 use Rattle.splitter_tree.specs.declared.walker.Walker.{Walker}
 use Rattle.splitter_tree.specs.TreeWorld.{TreeState}
 use Rattle.splitter_tree.specs.TreeCalls.{TreeCall, next}
-use Rattle.splitter_tree.specs.TreeCalls.TreeCall.{Began, Stepped, Stored, CollectBegan, CollectStepped}
+use Rattle.splitter_tree.specs.TreeCalls.TreeCall.{Stepped}
 use Rattle.splitter_tree.specs.PlacesLaw.{walkers}
 
 module _ {S : Type 0} (memory : MemorySteps S TreeRegister TreeValue) where
   -- the call is an accepted step that marks node k, by one who stands before it: the first of these makes the node
   abbrev pub Marks : TreeState S → TreeCall → ℕ → Type 0
-  Marks w (Began id reply) k = ⊥
-  Marks w (Stepped id (Err refusal)) k = ⊥
   Marks w (Stepped id (Ok place)) k = (u : Walker) × (walkers w.participants id ≡ Some u) × (u.is_marking ≡ true) × (u.place ≡ k)
-  Marks w (Stored id value reply) k = ⊥
-  Marks w (CollectBegan id reply) k = ⊥
-  Marks w (CollectStepped id reply) k = ⊥
+  Marks w t k = ⊥
 
   -- one of these calls, made one after another from this world on, marks node k
   abbrev pub MarksFrom : TreeState S → List TreeCall → ℕ → Type 0

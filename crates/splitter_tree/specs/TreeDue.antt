@@ -11,13 +11,9 @@ use Rattle.splitter_tree.specs.PlacesLaw.{way_calls}
 
 -- whether p collects after this call, where it did so before it or not
 abbrev pub collects_after : ℕ → Bool → TreeCall → Bool
-collects_after p before (Began q reply) = before
-collects_after p before (Stepped q reply) = before
-collects_after p before (Stored q value reply) = before
 collects_after p before (CollectBegan q (Ok done)) = if q == p then true else before
-collects_after p before (CollectBegan q (Err why)) = before
 collects_after p before (CollectStepped q (Ok shown)) = if q == p then not (is_some shown) else before
-collects_after p before (CollectStepped q (Err why)) = before
+collects_after p before t = before
 
 abbrev pub collects_from : ℕ → Bool → List TreeCall → Bool
 collects_from p before [] = before

@@ -4,7 +4,7 @@ use Rattle.std.specs.Prelude.{ℕ, ◌/◌, Bool, false, ◌&&◌, ◌||◌, not
 use Rattle.std.specs.Ordering.{nat_cmp}
 use Rattle.std.specs.FinMap as map
 use Rattle.step_memory.specs.declared.access.Access.{Access}
-use Rattle.step_memory.specs.declared.access.Access.TheVariants.{Read, Write, TestAndSet, Clear, Nothing}
+use Rattle.step_memory.specs.declared.access.Access.TheVariants.{Write}
 use Rattle.step_memory.specs.declared.access.Answer.{Answer}
 use Rattle.step_memory.specs.Steps.{MemorySteps, answer_from}
 use Rattle.splitter_tree.specs.declared.node_registers.NodeRegisters.{NodeRegisters}
@@ -94,19 +94,13 @@ after_write m r v =
 
 -- what an access leaves
 abbrev pub after_access : NodeMap → Access TreeRegister TreeValue → NodeMap
-after_access m (Read r) = m
 after_access m (Write r v) = after_write m r v
-after_access m (TestAndSet r) = m
-after_access m (Clear r) = m
-after_access m Nothing = m
+after_access m a = m
 
 -- the access makes a node: only then may it be refused
 abbrev pub may_refuse : NodeMap → Access TreeRegister TreeValue → Bool
-may_refuse m (Read r) = false
 may_refuse m (Write r v) = makes_node m r v
-may_refuse m (TestAndSet r) = false
-may_refuse m (Clear r) = false
-may_refuse m Nothing = false
+may_refuse m a = false
 
 -- what an access answers
 abbrev pub answer_of : NodeMap → Access TreeRegister TreeValue → Answer TreeValue

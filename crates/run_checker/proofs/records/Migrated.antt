@@ -28,12 +28,11 @@ use Rattle.run_checker.specs.Recorded.{IsYes}
 use Rattle.run_checker.specs.Verdict.{IsSaid}
 use Rattle.rename_core.proofs.MostIn.{few_take_part}
 use Rattle.run_checker.proofs.NarrowRuns.{FitsPlace, AreWritable, run_narrow}
-use Rattle.record_lines.specs.Narrow.{FitsTold}
+use Rattle.record_lines.specs.Narrow.{FitsTold, IsNarrowEvent}
 use Rattle.record_lines.proofs.Narrow.{line_fits}
 use Rattle.record_lines.proofs.Headers.{header_named}
 use Rattle.run_checker.proofs.records.Recording.{yes_by, record_said}
 use Rattle.run_checker.proofs.records.Rows.{read_length}
-use Rattle.record_lines.specs.Narrow.{IsNarrowEvent}
 use Rattle.record_lines.proofs.written.Lines.{record_is}
 
 -- ---- what is written is a record of a run

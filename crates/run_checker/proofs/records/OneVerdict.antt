@@ -11,9 +11,8 @@ use Rattle.run_checker.specs.declared.verdict.Verdict.TheVariants.{Yes, No, BadR
 use Rattle.run_checker.specs.Config.{terms_of}
 use Rattle.run_checker.specs.Lines.{AreLinesOfRun}
 use Rattle.record_lines.specs.RecordLine.{IsEventLine, IsHeaderLine}
-use Rattle.record_lines.specs.Records.{AreRead}
+use Rattle.record_lines.specs.Records.{AreRead, AreSame}
 use Rattle.run_checker.specs.Verdict.{SpellRun, IsFaultyRow, IsBadRow, IsSaidOfRows, IsSaidAfter, LacksHeader, IsSaid}
-use Rattle.record_lines.specs.Records.{AreSame}
 use Rattle.record_lines.proofs.Once.{line_once, header_once}
 use Rattle.run_checker.proofs.records.Runs.{at_fault}
 

@@ -1,8 +1,6 @@
 -- climbing from right children
-use Rattle.std.proofs.Common.{◌≡◌, ℕ, zero, suc, ◌/◌, ◌%◌, ◌<◌, ◌≤◌, ◌==◌, true, false, cond, refl, ap, ◌∙◌, arith}
-use Rattle.std.specs.Prelude.{◌&&◌, nat_lt, Bool, ◌⊎◌}
-use Rattle.std.proofs.lemmas.Bool.Decides.{nat_tests}
-use Rattle.splitter_tree.specs.CollectWalk.{climbed_in, climbed}
+use Rattle.std.proofs.Common.{◌≡◌, ℕ, zero, suc, ◌/◌, ◌%◌, ◌<◌, ◌≤◌, ◌==◌, true, false, cond, refl, ap, ◌∙◌, arith, ◌&&◌, nat_lt, Bool, ◌⊎◌}
+use Rattle.splitter_tree.proofs.Common.{nat_tests, climbed_in, climbed}
 
 -- one climbs from here
 abbrev pub climbs_from : ℕ → Bool

@@ -1,42 +1,11 @@
 -- each call of a tree's world keeps the tie, and is one that the law of collects allows
-use Rattle.std.proofs.Common.{◌≡◌, ◌≢◌, ℕ, ◌+◌, ◌-◌, ◌*◌, ◌≤◌, ◌==◌, Bool, true, false, cond, not, List, [], ◌∷◌, ◌++◌, length, length-append, Option, Some, None, Result, Ok, inl, inr, refl, sym, ap, subst, ◌∙◌, arith}
-use Rattle.std.specs.Prelude.{is_some}
-use Rattle.std.proofs.lemmas.Bool.{cases_Bool}
-use Rattle.step_memory.specs.SetAt.{set_at}
-use Rattle.step_memory.specs.Runs.{Run}
-use Rattle.step_memory.specs.Steps.{MemorySteps}
-use Rattle.step_memory.specs.World.{begin_refusal, begun_unless, done_unless}
-use Rattle.step_memory.specs.Participant.{participant_of, beginner}
-use Rattle.step_memory.specs.declared.access.Access.TheVariants.{Read}
-use Rattle.step_memory.specs.declared.participant.Participant.{Participant}
-use Rattle.step_memory.specs.declared.refusal.Refusal.{Refusal}
+use Rattle.std.proofs.Common.{◌≡◌, ◌≢◌, ℕ, ◌+◌, ◌-◌, ◌*◌, ◌≤◌, ◌==◌, Bool, true, false, cond, not, List, [], ◌∷◌, ◌++◌, length, length-append, Option, Some, None, Result, Ok, inl, inr, refl, sym, ap, subst, ◌∙◌, arith, is_some}
+use Rattle.splitter_tree.proofs.Common.{cases_Bool, set_at, Run, MemorySteps, begin_refusal, begun_unless, done_unless, participant_of, beginner, Read, Participant, Refusal, let_in, TreeRegister, Mark, Contents, TreeValue, Walker, Collect, Client, Placing, Nothing, Collecting, IsTreeMemory, IsEmptyTree, segment_in, word_in, next_access, walker_note, place_of, place_by, collect_reads, first_collect, collect_after, collect_view, view_with, walk_is_over, client_of, is_placing, is_placed, collecting, collecting_after, record_of, task_after, TreeState, fresh_over, TreeCall, next, IsReply, Began, Stepped, Stored, CollectBegan, CollectStepped, collects_after, collects, marked_in, HasRead, walker_in, walkers, count_to, count_le}
 use Rattle.step_memory.proofs.ParticipantLemmas.{participant_of-push, length-with_participant, some_begun}
 use Rattle.step_memory.proofs.SetAtLemmas.{set_at-same, set_at-other, set_at-cases, same_in}
 use Rattle.step_memory.proofs.Roster.{eqb_flip}
 use Rattle.step_memory.proofs.RunLemmas.{run_keeps, run_more, run_one}
-use Rattle.step_memory.proofs.WorldKeeps.{let_in}
-use Rattle.splitter_tree.specs.declared.register.TreeRegister.{TreeRegister}
-use Rattle.splitter_tree.specs.declared.register.TreeRegister.TheVariants.{Mark, Contents}
-use Rattle.splitter_tree.specs.declared.register.TreeValue.{TreeValue}
-use Rattle.splitter_tree.specs.declared.walker.Walker.{Walker}
-use Rattle.splitter_tree.specs.declared.collect.Collect.{Collect}
-use Rattle.splitter_tree.specs.declared.client.Client.{Client}
-use Rattle.splitter_tree.specs.declared.client.Task.TheVariants.{Placing, Nothing, Collecting}
-use Rattle.splitter_tree.specs.TreeMemory.{IsTreeMemory, IsEmptyTree, segment_in, word_in}
-use Rattle.splitter_tree.specs.Walk.{next_access, walker_note, place_of, place_by}
-use Rattle.splitter_tree.specs.Collect.{collect_reads, first_collect, collect_after, collect_view, view_with}
-use Rattle.splitter_tree.specs.CollectWalk.{walk_is_over}
-use Rattle.splitter_tree.specs.Client.{client_of, is_placing, is_placed, collecting, collecting_after, record_of, task_after}
-use Rattle.splitter_tree.specs.TreeWorld.{TreeState}
-use Rattle.splitter_tree.specs.Machine.{fresh_over}
-use Rattle.splitter_tree.specs.TreeCalls.{TreeCall, next, IsReply}
-use Rattle.splitter_tree.specs.TreeCalls.TreeCall.{Began, Stepped, Stored, CollectBegan, CollectStepped}
-use Rattle.splitter_tree.specs.TreeDue.{collects_after, collects}
 use Rattle.splitter_tree.specs.CollectLaw.{CollectObject, new_object, one_begun, goes_on, observed, ShowsValues, most_steps, AllowsStep, Allows, KeepsCollectLaw}
-use Rattle.splitter_tree.specs.Ahead.{marked_in, HasRead}
-use Rattle.splitter_tree.specs.PlacesLaw.{walker_in, walkers}
-use Rattle.step_memory.specs.Count.{count_to}
-use Rattle.step_memory.proofs.CountLemmas.{count_le}
 use Rattle.splitter_tree.proofs.CallCases.{IsStep, got_on, walked_on, read_by, turned, step_cases, store_cases, collect_begin_cases, collect_step_cases}
 use Rattle.splitter_tree.proofs.DueTied.{IsCounted, collecting_in, collects_from-push, call_counted, counted_new}
 use Rattle.splitter_tree.proofs.nodes.ConsistentKept.{segments}

@@ -1,35 +1,6 @@
 -- what ties a tree, its participants and their collects to the object of the law of collects
-use Rattle.std.proofs.Common.{◌≡◌, ◌≢◌, ℕ, ◌+◌, ◌≤◌, ◌==◌, Bool, true, false, List, [], ◌∷◌, length, Option, Some, None, inl, inr, refl, sym, ap, subst, ◌∙◌, arith, ne_eqb}
-use Rattle.std.specs.Prelude.{is_some, IsSome}
-use Rattle.std.proofs.Math.Path.{fun_ext}
-use Rattle.std.proofs.lemmas.Bool.Decides.{eqb_tells, leb_tells, Decides-eqb}
-use Rattle.step_memory.specs.SetAt.{set_at}
-use Rattle.step_memory.specs.Steps.{MemorySteps}
-use Rattle.step_memory.specs.Participant.{participant_of, beginner}
-use Rattle.step_memory.specs.declared.access.Access.TheVariants.{Write}
-use Rattle.step_memory.specs.declared.participant.Participant.{Participant}
-use Rattle.step_memory.specs.declared.record.Record.{Record}
-use Rattle.step_memory.proofs.ParticipantLemmas.{length-with_participant}
-use Rattle.step_memory.proofs.SetAtLemmas.{set_at-same, set_at-other, set_at-cases}
-use Rattle.splitter_tree.specs.declared.register.TreeRegister.{TreeRegister}
-use Rattle.splitter_tree.specs.declared.register.TreeRegister.TheVariants.{Mark, Contents}
-use Rattle.splitter_tree.specs.declared.register.TreeValue.{TreeValue}
-use Rattle.splitter_tree.specs.declared.register.TreeValue.TheVariants.{Contents as Held}
-use Rattle.splitter_tree.specs.declared.walker.Walker.{Walker}
-use Rattle.splitter_tree.specs.declared.collect.Collect.{Collect}
-use Rattle.splitter_tree.specs.declared.client.Client.{Client}
-use Rattle.splitter_tree.specs.declared.client.Task.{Task}
-use Rattle.splitter_tree.specs.declared.client.Task.TheVariants.{Nothing, Collecting}
-use Rattle.splitter_tree.specs.TreeMemory.{IsTreeMemory, segment_at, segment_in, word_in}
-use Rattle.splitter_tree.specs.Walk.{place_by}
-use Rattle.splitter_tree.specs.Client.{with_task}
-use Rattle.splitter_tree.specs.Invariant.{IsTree}
-use Rattle.step_memory.specs.Count.{count_to}
-use Rattle.splitter_tree.specs.CollectWalk.{place_read}
-use Rattle.splitter_tree.specs.Collect.{collect_reads}
-use Rattle.splitter_tree.specs.Ahead.{marked_in, HasGrown}
-use Rattle.splitter_tree.specs.PlacesLaw.{walkers}
-use Rattle.splitter_tree.specs.TreeWorld.{TreeState}
+use Rattle.std.proofs.Common.{◌≡◌, ◌≢◌, ℕ, ◌+◌, ◌≤◌, ◌==◌, Bool, true, false, List, [], ◌∷◌, length, Option, Some, None, inl, inr, refl, sym, ap, subst, ◌∙◌, arith, ne_eqb, is_some, IsSome}
+use Rattle.splitter_tree.proofs.Common.{fun_ext, eqb_tells, leb_tells, Decides-eqb, set_at, MemorySteps, participant_of, beginner, Write, Participant, Record, length-with_participant, set_at-same, set_at-other, set_at-cases, TreeRegister, Mark, Contents, TreeValue, Held, Walker, Collect, Client, Task, Nothing, Collecting, IsTreeMemory, segment_at, segment_in, word_in, place_by, with_task, IsTree, count_to, place_read, collect_reads, marked_in, HasGrown, walkers, TreeState}
 use Rattle.splitter_tree.specs.CollectLaw.{CollectObject, with_moment}
 use Rattle.step_memory.proofs.CountLemmas.{count_none, count_set}
 use Rattle.splitter_tree.proofs.collects.WalkLemmas.{place_from}

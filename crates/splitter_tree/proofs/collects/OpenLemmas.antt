@@ -1,8 +1,6 @@
 -- how many right siblings are still to come
-use Rattle.std.proofs.Common.{◌≡◌, ℕ, zero, suc, ◌+◌, ◌*◌, ◌/◌, ◌%◌, ◌<◌, ◌≤◌, ◌==◌, cond, Some, inl, inr, refl, sym, ap, ◌∙◌, arith}
-use Rattle.std.specs.Prelude.{Bool, ◌&&◌, nat_lt, ◌⊎◌}
-use Rattle.std.proofs.lemmas.Bool.Decides.{nat_tests}
-use Rattle.splitter_tree.specs.CollectWalk.{climbed_in, climbed, node_after}
+use Rattle.std.proofs.Common.{◌≡◌, ℕ, zero, suc, ◌+◌, ◌*◌, ◌/◌, ◌%◌, ◌<◌, ◌≤◌, ◌==◌, cond, Some, inl, inr, refl, sym, ap, ◌∙◌, arith, Bool, ◌&&◌, nat_lt, ◌⊎◌}
+use Rattle.splitter_tree.proofs.Common.{nat_tests, climbed_in, climbed, node_after}
 use Rattle.splitter_tree.specs.Ahead.{open_in, open_at}
 use Rattle.splitter_tree.proofs.collects.Climbing.{climbs_tells}
 use Rattle.splitter_tree.proofs.collects.OrderLemmas.{follows}

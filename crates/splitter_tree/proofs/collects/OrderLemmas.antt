@@ -1,9 +1,6 @@
 -- the order of the nodes
-use Rattle.std.proofs.Common.{◌≡◌, ◌≢◌, ℕ, zero, suc, ◌+◌, ◌-◌, ◌*◌, ◌/◌, ◌%◌, ◌<◌, ◌≤◌, Option, Some, None, inl, inr, refl, sym, ap, subst, ◌∙◌, arith}
-use Rattle.std.specs.Prelude.{◌⊎◌}
-use Rattle.std.proofs.lemmas.Bool.Decides.{eqb_tells, leb_tells}
-use Rattle.splitter_tree.specs.CollectWalk.{climbed_in, climbed, node_after}
-use Rattle.splitter_tree.specs.NodeOrder.{above, IsUnder, IsRightOf, IsFrom}
+use Rattle.std.proofs.Common.{◌≡◌, ◌≢◌, ℕ, zero, suc, ◌+◌, ◌-◌, ◌*◌, ◌/◌, ◌%◌, ◌<◌, ◌≤◌, Option, Some, None, inl, inr, refl, sym, ap, subst, ◌∙◌, arith, ◌⊎◌}
+use Rattle.splitter_tree.proofs.Common.{eqb_tells, leb_tells, climbed_in, climbed, node_after, above, IsUnder, IsRightOf, IsFrom}
 use Rattle.splitter_tree.proofs.collects.Climbing.{climbs_tells}
 
 -- from the parent one level less

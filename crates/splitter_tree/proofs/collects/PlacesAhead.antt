@@ -1,22 +1,7 @@
 -- what the law of the places gives to walks of collects
 use Rattle.std.proofs.Common.{◌≡◌, ℕ, ◌+◌, ◌-◌, ◌*◌, ◌≤◌, ◌==◌, true, Option, Some, inr, refl, ap, ◌∙◌, arith}
-use Rattle.std.proofs.lemmas.Bool.Decides.{Decides-eqb}
-use Rattle.step_memory.specs.Steps.{MemorySteps}
-use Rattle.step_memory.specs.declared.access.Access.TheVariants.{Write}
-use Rattle.step_memory.specs.declared.record.Record.{Record}
-use Rattle.splitter_tree.specs.declared.register.TreeRegister.{TreeRegister}
-use Rattle.splitter_tree.specs.declared.register.TreeRegister.TheVariants.{Mark, Contents}
-use Rattle.splitter_tree.specs.declared.register.TreeValue.{TreeValue}
-use Rattle.splitter_tree.specs.declared.register.TreeValue.TheVariants.{Contents as Held}
-use Rattle.splitter_tree.specs.declared.walker.Walker.{Walker}
-use Rattle.splitter_tree.specs.declared.collect_walk.CollectWalk.{CollectWalk}
-use Rattle.splitter_tree.specs.TreeMemory.{IsTreeMemory, mark_at, word_in}
-use Rattle.splitter_tree.specs.Walk.{next_access, place_by}
-use Rattle.splitter_tree.specs.Invariant.{IsConsistent, IsTree, was_made}
-use Rattle.step_memory.specs.Count.{count_to}
-use Rattle.splitter_tree.specs.CollectWalk.{first_walk}
+use Rattle.splitter_tree.proofs.Common.{Decides-eqb, MemorySteps, Write, Record, TreeRegister, Mark, Contents, TreeValue, Held, Walker, CollectWalk, IsTreeMemory, mark_at, word_in, next_access, place_by, IsConsistent, IsTree, was_made, count_to, first_walk, count_le}
 use Rattle.splitter_tree.specs.Ahead.{marked_in, found_by, Sees, HasGrown, HasRead, IsPathMarked, IsAhead}
-use Rattle.step_memory.proofs.CountLemmas.{count_le}
 use Rattle.splitter_tree.proofs.nodes.Numbers.{small_fits}
 use Rattle.splitter_tree.proofs.collects.WalkLemmas.{ahead_at_first}
 use Rattle.splitter_tree.proofs.collects.ReadCount.{reads_few, nodes_few}

@@ -1,14 +1,6 @@
 -- how many reads a walk makes
 use Rattle.std.proofs.Common.{◌≡◌, ℕ, suc, ◌+◌, ◌*◌, ◌≤◌, Bool, true, false, cond, Some, inl, inr, refl, sym, ap, subst, ◌∙◌, arith}
-use Rattle.std.proofs.lemmas.Bool.Decides.{eqb_tells}
-use Rattle.step_memory.specs.SetAt.{set_at}
-use Rattle.splitter_tree.specs.declared.register.TreeValue.{TreeValue}
-use Rattle.splitter_tree.specs.declared.collect_walk.CollectWalk.{CollectWalk}
-use Rattle.splitter_tree.specs.CollectWalk.{first_walk, place_read, walk_at, node_after, finds_mark, walk_resumed, walk_is_over}
-use Rattle.step_memory.specs.Count.{count_to}
-use Rattle.splitter_tree.specs.NodeOrder.{IsUnder, IsRightOf, IsFrom}
-use Rattle.splitter_tree.specs.Ahead.{Sees, HasGrown, HasRead, IsUpcoming, open_at}
-use Rattle.step_memory.proofs.CountLemmas.{count_none, count_le, count_more}
+use Rattle.splitter_tree.proofs.Common.{eqb_tells, set_at, TreeValue, CollectWalk, first_walk, place_read, walk_at, node_after, finds_mark, walk_resumed, walk_is_over, count_to, IsUnder, IsRightOf, IsFrom, Sees, HasGrown, HasRead, IsUpcoming, open_at, count_none, count_le, count_more}
 use Rattle.splitter_tree.proofs.collects.OrderLemmas.{under_itself, follows, left_from, not_from_left, not_right_of_itself}
 use Rattle.splitter_tree.proofs.collects.OpenLemmas.{open_child, open_after}
 use Rattle.splitter_tree.proofs.collects.WalkLemmas.{place_from, goes, after_is_node}

@@ -1,21 +1,8 @@
 -- a collect under way
-use Rattle.std.proofs.Common.{◌≡◌, ℕ, suc, ◌+◌, ◌<◌, ◌≤◌, ◌==◌, Bool, true, false, cond, List, length, Option, Some, None, ◌⊎◌, inl, inr, refl, sym, ap, subst, ◌∙◌, arith}
-use Rattle.std.specs.Prelude.{is_some, IsSome}
-use Rattle.std.proofs.lemmas.Bool.Decides.{eqb_tells, leb_tells, Decides-eqb}
-use Rattle.step_memory.specs.SetAt.{set_at}
+use Rattle.std.proofs.Common.{◌≡◌, ℕ, suc, ◌+◌, ◌<◌, ◌≤◌, ◌==◌, Bool, true, false, cond, List, length, Option, Some, None, ◌⊎◌, inl, inr, refl, sym, ap, subst, ◌∙◌, arith, is_some, IsSome}
+use Rattle.splitter_tree.proofs.Common.{eqb_tells, leb_tells, Decides-eqb, set_at, Record, TreeValue, CollectWalk, Collect, segment_in, place_read, finds_mark, walk_resumed, walk_is_over, first_collect, view_with, collect_after, count_to, IsUnder, Sees, HasGrown, HasRead, IsPathMarked, IsUpcoming, IsAhead, count_le, count_more}
 use Rattle.step_memory.specs.View.{IsRising, value_of, inserted}
-use Rattle.step_memory.specs.declared.record.Record.{Record}
 use Rattle.step_memory.proofs.ViewLemmas.{IsRising-inserted, value_of-inserted, length-inserted}
-use Rattle.splitter_tree.specs.declared.register.TreeValue.{TreeValue}
-use Rattle.splitter_tree.specs.declared.collect_walk.CollectWalk.{CollectWalk}
-use Rattle.splitter_tree.specs.declared.collect.Collect.{Collect}
-use Rattle.splitter_tree.specs.TreeMemory.{segment_in}
-use Rattle.splitter_tree.specs.CollectWalk.{place_read, finds_mark, walk_resumed, walk_is_over}
-use Rattle.splitter_tree.specs.Collect.{first_collect, view_with, collect_after}
-use Rattle.step_memory.specs.Count.{count_to}
-use Rattle.splitter_tree.specs.NodeOrder.{IsUnder}
-use Rattle.splitter_tree.specs.Ahead.{Sees, HasGrown, HasRead, IsPathMarked, IsUpcoming, IsAhead}
-use Rattle.step_memory.proofs.CountLemmas.{count_le, count_more}
 use Rattle.splitter_tree.proofs.collects.OrderLemmas.{under_itself}
 use Rattle.splitter_tree.proofs.collects.WalkLemmas.{ahead_at_first, ahead_kept, ahead_resumed, upcoming_before, read_once, place_from}
 use Rattle.splitter_tree.proofs.collects.ReadCount.{read_at_first, read_kept, read_resumed}

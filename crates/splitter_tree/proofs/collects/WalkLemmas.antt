@@ -1,13 +1,7 @@
 -- a walk comes to every node ahead of it, and reads no segment twice
-use Rattle.std.proofs.Common.{◌≡◌, ℕ, suc, ◌+◌, ◌*◌, ◌<◌, ◌≤◌, Bool, true, false, cond, Some, None, inl, inr, refl, sym, ap, subst, ◌∙◌, arith}
-use Rattle.std.specs.Prelude.{◌⊎◌, ◌&&◌, not, is_some}
-use Rattle.std.proofs.lemmas.Bool.Decides.{eqb_tells, leb_tells}
-use Rattle.splitter_tree.specs.declared.register.TreeRegister.TheVariants.{Contents}
-use Rattle.splitter_tree.specs.declared.register.TreeValue.{TreeValue}
-use Rattle.splitter_tree.specs.declared.collect_walk.CollectWalk.{CollectWalk}
+use Rattle.std.proofs.Common.{◌≡◌, ℕ, suc, ◌+◌, ◌*◌, ◌<◌, ◌≤◌, Bool, true, false, cond, Some, None, inl, inr, refl, sym, ap, subst, ◌∙◌, arith, ◌⊎◌, ◌&&◌, not, is_some}
+use Rattle.splitter_tree.proofs.Common.{eqb_tells, leb_tells, Contents, TreeValue, CollectWalk, IsRightOf, IsFrom, Sees, HasGrown, IsPathMarked, IsUpcoming, IsAhead}
 use Rattle.splitter_tree.specs.CollectWalk.{numbers, first_walk, walk_at, register_read, place_read, is_mark, node_after, child_or, goes_to, finds_mark, walk_resumed, walk_is_over}
-use Rattle.splitter_tree.specs.NodeOrder.{IsRightOf, IsFrom}
-use Rattle.splitter_tree.specs.Ahead.{Sees, HasGrown, IsPathMarked, IsUpcoming, IsAhead}
 use Rattle.splitter_tree.proofs.collects.OrderLemmas.{under_le, under_child, under_root, not_right_of_itself, follows, from_left, left_from, not_from_left}
 
 -- a walk begins before every node

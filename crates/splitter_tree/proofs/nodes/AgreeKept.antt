@@ -1,16 +1,8 @@
 -- what each access of a walk, and each beginning, keeps of the nodes and the walks of a tree
 use Rattle.std.proofs.Common.{◌≡◌, ◌≢◌, ℕ, zero, suc, ◌+◌, ◌*◌, ◌<◌, ◌≤◌, Bool, true, false, ◌⊎◌, inl, inr, [], ◌∷◌, Option, Some, None, refl, sym, ap, subst, ◌∙◌, arith}
-use Rattle.std.proofs.lemmas.Bool.Decides.{eqb_tells}
-use Rattle.step_memory.specs.SetAt.{set_at}
-use Rattle.step_memory.proofs.SetAtLemmas.{set_at-same, set_at-other, set_at-cases}
-use Rattle.splitter.specs.declared.way.Way.TheVariants.{Right, Down}
-use Rattle.splitter.specs.declared.stage.Stage.{Stage}
-use Rattle.splitter.specs.declared.stage.Stage.TheVariants.{Outside, Gone}
-use Rattle.splitter.specs.Stage.{has_entered, went_right, went_down, x_after, y_after, stage_after}
+use Rattle.splitter_tree.proofs.Common.{eqb_tells, set_at, set_at-same, set_at-other, set_at-cases, Right, Down, Stage, Outside, Gone, has_entered, went_right, went_down, x_after, y_after, stage_after, Walker, walker_at, walk_of, visit_on}
 use Rattle.splitter.specs.Invariant.{DoorIsLawful}
 use Rattle.splitter.proofs.DoorKept.{kept, lawful_new}
-use Rattle.splitter_tree.specs.declared.walker.Walker.{Walker}
-use Rattle.splitter_tree.specs.Walk.{walker_at, walk_of, visit_on}
 use Rattle.splitter_tree.specs.Invariant.{IsWalkOf, NodesAgree}
 use Rattle.splitter_tree.proofs.nodes.VisitsKept.{with_visit, with_visit-node, with_visit-other_node, with_visit-own, with_visit-other, with_comer, with_comer-has, with_comer-keeps, with_comer-cases}
 

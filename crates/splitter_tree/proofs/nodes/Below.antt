@@ -1,12 +1,8 @@
 -- what is found below a link
-use Rattle.std.proofs.Common.{◌≡◌, ◌≢◌, ℕ, ◌+◌, ◌*◌, ◌<◌, List, [], ◌∷◌, ◌++◌, Option, Some, None, inl, inr, refl, sym, ap, ◌∙◌, arith}
-use Rattle.std.specs.Prelude.{Box}
-use Rattle.std.specs.Ordering.{nat_cmp}
+use Rattle.std.proofs.Common.{◌≡◌, ◌≢◌, ℕ, ◌+◌, ◌*◌, ◌<◌, List, [], ◌∷◌, ◌++◌, Option, Some, None, inl, inr, refl, sym, ap, ◌∙◌, arith, Box}
+use Rattle.splitter_tree.proofs.Common.{nat_cmp, eqb_tells, Decides-eqb, nat_tests, set_at, NodeRegisters}
 use Rattle.std.specs.Cmp.{unsigned_tied}
 use Rattle.std.specs.FinMap as map
-use Rattle.std.proofs.lemmas.Bool.Decides.{eqb_tells, Decides-eqb, nat_tests}
-use Rattle.step_memory.specs.SetAt.{set_at}
-use Rattle.splitter_tree.specs.declared.node_registers.NodeRegisters.{NodeRegisters}
 use Rattle.splitter_tree.specs.declared.node.Node.{Node, Node', Held-Node-left, None', Some', out-Node, roll-Node}
 use Rattle.splitter_tree.specs.Nodes.{entries_in, entries_at, entries_below, registers_below}
 use Rattle.splitter_tree.proofs.nodes.Ways.{IsFrom, from_itself, from_parent, not_both, not_above}

@@ -1,31 +1,11 @@
 -- nodes and walks that agree: what keeps them so in a memory of a tree
-use Rattle.std.proofs.Common.{◌≡◌, ◌≢◌, ℕ, suc, ◌+◌, ◌*◌, ◌/◌, ◌<◌, ◌≤◌, Bool, true, false, cond, ◌⊎◌, inl, inr, Option, Some, None, refl, sym, ap, subst, ◌∙◌, arith}
-use Rattle.std.specs.Prelude.{◌↔◌}
-use Rattle.std.proofs.Math.Path.{fun_ext}
-use Rattle.std.proofs.lemmas.Bool.Decides.{eqb_tells}
-use Rattle.step_memory.specs.declared.access.Access.{Access}
-use Rattle.step_memory.specs.declared.access.Access.TheVariants.{Write}
-use Rattle.step_memory.specs.Steps.{MemorySteps, Spares, answer_from}
-use Rattle.step_memory.specs.SetAt.{set_at}
-use Rattle.step_memory.proofs.SetAtLemmas.{set_at-other, set_at-as_is}
-use Rattle.splitter.specs.declared.way.Way.TheVariants.{Right, Down}
-use Rattle.splitter.specs.declared.stage.Stage.{Stage}
+use Rattle.std.proofs.Common.{◌≡◌, ◌≢◌, ℕ, suc, ◌+◌, ◌*◌, ◌/◌, ◌<◌, ◌≤◌, Bool, true, false, cond, ◌⊎◌, inl, inr, Option, Some, None, refl, sym, ap, subst, ◌∙◌, arith, ◌↔◌}
+use Rattle.splitter_tree.proofs.Common.{fun_ext, eqb_tells, Access, Write, MemorySteps, Spares, answer_from, set_at, set_at-other, set_at-as_is, Right, Down, Stage, went_right, went_down, x_after, y_after, stage_after, access_at, stage_by, TreeRegister, Mark, X, Y, Contents, TreeValue, Word, Walker, word_in, segment_in, mark_at, x_at, y_at, segment_at, IsWithinReach, IsTreeMemory, IsEmptyTree, left_child, right_child, walker_at, walk_of, in_words, told, next_access, visit_on, walked_to, walker_after, NodesAgree, IsConsistent, cases_Bool}
 use Rattle.splitter.specs.declared.stage.Stage.TheVariants.{Outside, WroteX, SawClear, WroteY, Gone}
 use Rattle.splitter.specs.declared.visitor.Visitor.{Visitor}
-use Rattle.splitter.specs.Stage.{went_right, went_down, x_after, y_after, stage_after}
-use Rattle.splitter.specs.Visitor.{access_at, stage_by}
 use Rattle.splitter.proofs.WalkLemmas.{goes_on}
-use Rattle.splitter_tree.specs.declared.register.TreeRegister.{TreeRegister}
-use Rattle.splitter_tree.specs.declared.register.TreeRegister.TheVariants.{Mark, X, Y, Contents}
-use Rattle.splitter_tree.specs.declared.register.TreeValue.{TreeValue}
-use Rattle.splitter_tree.specs.declared.register.TreeValue.TheVariants.{Word}
-use Rattle.splitter_tree.specs.declared.walker.Walker.{Walker}
-use Rattle.splitter_tree.specs.TreeMemory.{word_in, segment_in, mark_at, x_at, y_at, segment_at, IsWithinReach, IsTreeMemory, IsEmptyTree}
-use Rattle.splitter_tree.specs.Walk.{left_child, right_child, walker_at, walk_of, in_words, told, next_access, visit_on, walked_to, walker_after}
-use Rattle.splitter_tree.specs.Invariant.{NodesAgree, IsConsistent}
 use Rattle.splitter_tree.proofs.nodes.AgreeKept.{right_entered, down_entered, marked_node, stayed, moved_down, moved_right, joined, agree_new}
 use Rattle.splitter_tree.proofs.nodes.DepthBound.{halves, small_place}
-use Rattle.std.proofs.lemmas.Bool.{cases_Bool}
 
 module _ (b : ℕ) (mark x_of y_of : ℕ → ℕ) (walker : ℕ → Option Walker) (g : NodesAgree b mark x_of y_of walker) where
   -- to whose node someone came, its parent is marked

@@ -1,21 +1,11 @@
 -- nobody comes deeper than participants have begun, and few nodes are made
-use Rattle.std.proofs.Common.{◌≡◌, ℕ, zero, suc, ◌+◌, ◌-◌, ◌*◌, ◌/◌, ◌^◌, ◌<◌, ◌≤◌, min, Bool, true, false, ◌==◌, not, ◌⊎◌, inl, inr, List, [], ◌∷◌, length, get_or, Option, refl, sym, ap, subst, ◌∙◌, arith}
-use Rattle.std.specs.Prelude.{if◌then◌else◌}
+use Rattle.std.proofs.Common.{◌≡◌, ℕ, zero, suc, ◌+◌, ◌-◌, ◌*◌, ◌/◌, ◌^◌, ◌<◌, ◌≤◌, min, Bool, true, false, ◌==◌, not, ◌⊎◌, inl, inr, List, [], ◌∷◌, length, get_or, Option, refl, sym, ap, subst, ◌∙◌, arith, if◌then◌else◌}
+use Rattle.splitter_tree.proofs.Common.{cases_Bool, eqb_tells, leb_tells, Decides-eqb, nat_tests, Right, Down, Gone, Walker, left_child, right_child, count_to, count_le, pow_pos, NodesAgree}
 use Rattle.std.proofs.Math.Nat.{pow-succ'}
-use Rattle.std.proofs.lemmas.Bool.{cases_Bool}
 use Rattle.splitter.proofs.StageLemmas.{gone_right, gone_down}
-use Rattle.std.proofs.lemmas.Bool.Decides.{eqb_tells, leb_tells, Decides-eqb, nat_tests}
-use Rattle.splitter.specs.declared.way.Way.TheVariants.{Right, Down}
-use Rattle.splitter.specs.declared.stage.Stage.TheVariants.{Gone}
 use Rattle.splitter.specs.Invariant.{IsSplitter}
 use Rattle.splitter.proofs.DoorKept.{law_of}
-use Rattle.splitter_tree.specs.declared.walker.Walker.{Walker}
-use Rattle.splitter_tree.specs.Walk.{left_child, right_child}
-use Rattle.step_memory.specs.Count.{count_to}
-use Rattle.step_memory.proofs.CountLemmas.{count_le}
-use Rattle.std.proofs.lemmas.Nat.{pow_pos}
 use Rattle.splitter_tree.specs.Depth.{depth_in, depth_of}
-use Rattle.splitter_tree.specs.Invariant.{NodesAgree}
 use Rattle.splitter_tree.proofs.nodes.AgreeKept.{right_entered, down_entered}
 
 -- how many of a list pass a test

@@ -1,27 +1,7 @@
 -- just the nodes are marked that were made
-use Rattle.std.proofs.Common.{◌≡◌, ℕ, ◌≤◌, Bool, ◌⊎◌, inl, inr, List, [], length, Option, Some, None, Ok, Result, refl, sym, ap, ◌∙◌}
-use Rattle.std.specs.Prelude.{◌↔◌}
-use Rattle.std.proofs.Math.Path.{fun_ext}
-use Rattle.step_memory.specs.declared.refusal.Refusal.{Refusal}
+use Rattle.std.proofs.Common.{◌≡◌, ℕ, ◌≤◌, Bool, ◌⊎◌, inl, inr, List, [], length, Option, Some, None, Ok, Result, refl, sym, ap, ◌∙◌, ◌↔◌}
+use Rattle.splitter_tree.proofs.Common.{fun_ext, Refusal, MemorySteps, begin_refusal, begun_unless, begun_in, TreeRegister, Mark, TreeValue, Walker, mark_at, word_in, IsTreeMemory, IsEmptyTree, place_of, client_of, record_of, collect_reads, TreeState, after_store, after_collect_begin, after_collecting, Run, fresh_over, TreeCall, next, IsReply, Began, Stepped, Stored, CollectBegan, CollectStepped, IsNodeWithin, way_calls, walker_in, walkers}
 use Rattle.step_memory.proofs.RunLemmas.{run_gathers}
-use Rattle.step_memory.specs.Steps.{MemorySteps}
-use Rattle.step_memory.specs.World.{begin_refusal, begun_unless}
-use Rattle.step_memory.specs.Calls.{begun_in}
-use Rattle.splitter_tree.specs.declared.register.TreeRegister.{TreeRegister}
-use Rattle.splitter_tree.specs.declared.register.TreeRegister.TheVariants.{Mark}
-use Rattle.splitter_tree.specs.declared.register.TreeValue.{TreeValue}
-use Rattle.splitter_tree.specs.declared.walker.Walker.{Walker}
-use Rattle.splitter_tree.specs.TreeMemory.{mark_at, word_in, IsTreeMemory, IsEmptyTree}
-use Rattle.splitter_tree.specs.Walk.{place_of}
-use Rattle.splitter_tree.specs.Client.{client_of, record_of}
-use Rattle.splitter_tree.specs.Collect.{collect_reads}
-use Rattle.splitter_tree.specs.TreeWorld.{TreeState, after_store, after_collect_begin, after_collecting}
-use Rattle.step_memory.specs.Runs.{Run}
-use Rattle.splitter_tree.specs.Machine.{fresh_over}
-use Rattle.splitter_tree.specs.TreeCalls.{TreeCall, next, IsReply}
-use Rattle.splitter_tree.specs.TreeCalls.TreeCall.{Began, Stepped, Stored, CollectBegan, CollectStepped}
-use Rattle.splitter_tree.specs.Depth.{IsNodeWithin}
-use Rattle.splitter_tree.specs.PlacesLaw.{way_calls, walker_in, walkers}
 use Rattle.splitter_tree.specs.Made.{Marks, WasMade}
 use Rattle.splitter_tree.proofs.nodes.ConsistentKept.{SparesNodes, marks}
 use Rattle.splitter_tree.proofs.CallCases.{IsStep, step_cases, store_cases, collect_begin_cases, collect_step_cases}

@@ -1,9 +1,8 @@
 -- the children whose numbers fit
 use Rattle.std.proofs.Common.{◌≡◌, ℕ, suc, arith, ◌*◌, ◌<◌, ◌≤◌, ◌^◌, Option, Some, refl, inl, inr}
+use Rattle.splitter_tree.proofs.Common.{leb_tells, numbers, child_or}
 use Rattle.std.proofs.Math.Nat.{pow-le-pow_right}
 use Rattle.std.proofs.lemmas.Bool.{le-leb}
-use Rattle.std.proofs.lemmas.Bool.Decides.{leb_tells}
-use Rattle.splitter_tree.specs.CollectWalk.{numbers, child_or}
 
 below_two : (k n m : ℕ) → k < n → n ≤ m → k < m
 below_two k n m h l = omega arith

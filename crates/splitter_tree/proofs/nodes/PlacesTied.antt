@@ -1,47 +1,13 @@
 -- what ties the places of a tree's world to the calls that it is after
-use Rattle.std.proofs.Common.{◌≡◌, ◌≢◌, ℕ, suc, ◌≤◌, Bool, true, false, cond, not, inl, inr, List, [], ◌∷◌, ◌++◌, length, Option, Some, None, Result, Ok, Err, refl, sym, ap, subst, ◌∙◌, arith, length-append}
-use Rattle.std.specs.Prelude.{is_some}
-use Rattle.std.proofs.Math.Path.{fun_ext}
+use Rattle.std.proofs.Common.{◌≡◌, ◌≢◌, ℕ, suc, ◌≤◌, Bool, true, false, cond, not, inl, inr, List, [], ◌∷◌, ◌++◌, length, Option, Some, None, Result, Ok, Err, refl, sym, ap, subst, ◌∙◌, arith, length-append, is_some}
+use Rattle.splitter_tree.proofs.Common.{fun_ext, Read, Answer, Note, Quiet, Participant, Record, Refusal, participant_of, beginner, MemorySteps, Spares, set_at, begin_refusal, begun_unless, done_unless, EndsOnce, run_keeps, participant_of-push, length-with_participant, TreeRegister, Contents, TreeValue, Walker, Collect, Client, Task, Placing, Nothing, Storing, IsTreeMemory, IsEmptyTree, walk_of, next_access, walker_after, walker_note, place_of, place_by, client_of, is_placing, is_placed, collecting, collecting_after, with_task, write_at, record_of, task_after, collect_reads, collect_after, collect_view, TreeState, Run, fresh_over, TreeCall, next, IsReply, TreeBegan, TreeStepped, Stored, CollectBegan, CollectStepped, IsTree, IsConsistent, accesses_by, way_calls, KeepsPlacesLaw, walker_in, walkers}
 use Rattle.std.proofs.lemmas.List.{append-nil}
-use Rattle.step_memory.specs.declared.access.Access.TheVariants.{Read}
-use Rattle.step_memory.specs.declared.access.Answer.{Answer}
-use Rattle.step_memory.specs.declared.note.Note.{Note}
-use Rattle.step_memory.specs.declared.note.Note.TheVariants.{Quiet}
-use Rattle.step_memory.specs.declared.participant.Participant.{Participant}
-use Rattle.step_memory.specs.declared.record.Record.{Record}
-use Rattle.step_memory.specs.declared.refusal.Refusal.{Refusal}
-use Rattle.step_memory.specs.Participant.{participant_of, beginner}
-use Rattle.step_memory.specs.Steps.{MemorySteps, Spares}
-use Rattle.step_memory.specs.SetAt.{set_at}
-use Rattle.step_memory.specs.World.{begin_refusal, begun_unless, done_unless}
 use Rattle.step_memory.specs.Calls.{Call, steps_by, outcome_by, outcome_in, begun_in, begun_by}
 use Rattle.step_memory.specs.Calls.Call.{Began, Stepped}
-use Rattle.step_memory.specs.Due.{EndsOnce}
-use Rattle.step_memory.proofs.RunLemmas.{run_keeps}
 use Rattle.step_memory.proofs.SetAtLemmas.{set_at-cases, set_at-map, set_at-as_is}
-use Rattle.step_memory.proofs.ParticipantLemmas.{participant_of-push, length-with_participant}
 use Rattle.step_memory.specs.Told.{Tells}
 use Rattle.step_memory.proofs.ToldLemmas.{told_quiet, told_begun, told_stepped}
 use Rattle.step_memory.proofs.WorldKeeps.{begun_in-push, IsLetIn, let_in}
-use Rattle.splitter_tree.specs.declared.register.TreeRegister.{TreeRegister}
-use Rattle.splitter_tree.specs.declared.register.TreeRegister.TheVariants.{Contents}
-use Rattle.splitter_tree.specs.declared.register.TreeValue.{TreeValue}
-use Rattle.splitter_tree.specs.declared.walker.Walker.{Walker}
-use Rattle.splitter_tree.specs.declared.collect.Collect.{Collect}
-use Rattle.splitter_tree.specs.declared.client.Client.{Client}
-use Rattle.splitter_tree.specs.declared.client.Task.{Task}
-use Rattle.splitter_tree.specs.declared.client.Task.TheVariants.{Placing, Nothing, Storing}
-use Rattle.splitter_tree.specs.TreeMemory.{IsTreeMemory, IsEmptyTree}
-use Rattle.splitter_tree.specs.Walk.{walk_of, next_access, walker_after, walker_note, place_of, place_by}
-use Rattle.splitter_tree.specs.Client.{client_of, is_placing, is_placed, collecting, collecting_after, with_task, write_at, record_of, task_after}
-use Rattle.splitter_tree.specs.Collect.{collect_reads, collect_after, collect_view}
-use Rattle.splitter_tree.specs.TreeWorld.{TreeState}
-use Rattle.step_memory.specs.Runs.{Run}
-use Rattle.splitter_tree.specs.Machine.{fresh_over}
-use Rattle.splitter_tree.specs.TreeCalls.{TreeCall, next, IsReply}
-use Rattle.splitter_tree.specs.TreeCalls.TreeCall.{Began as TreeBegan, Stepped as TreeStepped, Stored, CollectBegan, CollectStepped}
-use Rattle.splitter_tree.specs.Invariant.{IsTree, IsConsistent, accesses_by}
-use Rattle.splitter_tree.specs.PlacesLaw.{way_calls, KeepsPlacesLaw, walker_in, walkers}
 use Rattle.splitter_tree.proofs.nodes.ConsistentKept.{SparesNodes, consistent_new, begun, gone_on, aside}
 use Rattle.splitter_tree.proofs.nodes.TreeLaw.{tree_law, nearer}
 use Rattle.splitter_tree.proofs.nodes.WalkerLemmas.{place_is_told}

@@ -1,19 +1,12 @@
 -- a tree from its root, which has number 1
-use Rattle.std.proofs.Common.{◌≡◌, ℕ, ◌+◌, ◌-◌, ◌*◌, ◌/◌, ◌%◌, ◌^◌, ◌<◌, ◌≤◌, Bool, true, false, not, ◌&&◌, ◌||◌, cond, Option, Some, None, inl, inr, refl, sym, ap, subst, ◌∙◌, arith, ne_eqb}
-use Rattle.std.proofs.Math.Path.{fun_ext}
-use Rattle.std.specs.Prelude.{Box, ◌==◌, is_some}
+use Rattle.std.proofs.Common.{◌≡◌, ℕ, ◌+◌, ◌-◌, ◌*◌, ◌/◌, ◌%◌, ◌^◌, ◌<◌, ◌≤◌, Bool, true, false, not, ◌&&◌, ◌||◌, cond, Option, Some, None, inl, inr, refl, sym, ap, subst, ◌∙◌, arith, ne_eqb, Box, ◌==◌, is_some}
+use Rattle.splitter_tree.proofs.Common.{fun_ext, set_at, NodeRegisters, Node, TreeRegister, Mark, TreeValue}
 use Rattle.std.specs.FinMap as map
 use Rattle.std.specs.FinMap.{nat_cmp-IsAntisymmetric}
 use Rattle.std.proofs.lemmas.Cmp.{nat_cmp_total}
 use Rattle.std.proofs.lemmas.Bool.Decides.{eqb_tells, Decides-eqb, same_from_decides}
 use Rattle.std.proofs.lemmas.Nat.{le-div, div_below, pow_below, pow_pos, shr-shr, shr_le}
 use Rattle.std.proofs.Math.Pow.{shr_mod}
-use Rattle.step_memory.specs.SetAt.{set_at}
-use Rattle.splitter_tree.specs.declared.node_registers.NodeRegisters.{NodeRegisters}
-use Rattle.splitter_tree.specs.declared.node.Node.{Node}
-use Rattle.splitter_tree.specs.declared.register.TreeRegister.{TreeRegister}
-use Rattle.splitter_tree.specs.declared.register.TreeRegister.TheVariants.{Mark}
-use Rattle.splitter_tree.specs.declared.register.TreeValue.{TreeValue}
 use Rattle.splitter_tree.specs.declared.register.TreeValue.TheVariants as value
 use Rattle.splitter_tree.specs.Nodes.{entries_below, registers_below, LeadsTo, nodes_of, is_lacking, grown}
 use Rattle.splitter_tree.specs.TreeSteps.{NodeMap, number_in, fresh_registers, sets_mark, is_missing, makes_node, with_registers, written, after_write}

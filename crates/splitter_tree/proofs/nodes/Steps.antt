@@ -1,14 +1,7 @@
 -- one level of the way to a place, from a link whose node is there
-use Rattle.std.proofs.Common.{◌≡◌, ℕ, ◌+◌, ◌-◌, ◌*◌, ◌/◌, ◌^◌, ◌<◌, true, false, cond, Option, Some, refl, sym, ap, subst, ◌∙◌, arith}
-use Rattle.std.proofs.lemmas.Bool.Decides.{nat_tests}
-use Rattle.std.specs.Prelude.{Box, ◌==◌, is_some, Result, Ok, Err, OnOk, OnErr}
+use Rattle.std.proofs.Common.{◌≡◌, ℕ, ◌+◌, ◌-◌, ◌*◌, ◌/◌, ◌^◌, ◌<◌, true, false, cond, Option, Some, refl, sym, ap, subst, ◌∙◌, arith, Box, ◌==◌, is_some, Result, Ok, Err, OnOk, OnErr}
+use Rattle.splitter_tree.proofs.Common.{nat_tests, set_at, set_at-as_is, NodeRegisters, Node, out-Node, roll-Node, entries_in, registers_below, is_right, is_lacking, grown, fresh_registers}
 use Rattle.std.specs.Box.{with_value}
-use Rattle.step_memory.specs.SetAt.{set_at}
-use Rattle.step_memory.proofs.SetAtLemmas.{set_at-as_is}
-use Rattle.splitter_tree.specs.declared.node_registers.NodeRegisters.{NodeRegisters}
-use Rattle.splitter_tree.specs.declared.node.Node.{Node, out-Node, roll-Node}
-use Rattle.splitter_tree.specs.Nodes.{entries_in, registers_below, is_right, is_lacking, grown}
-use Rattle.splitter_tree.specs.TreeSteps.{fresh_registers}
 use Rattle.splitter_tree.proofs.nodes.Ways.{IsFrom, way_right, way_left, on_way, parent_on_way}
 use Rattle.splitter_tree.proofs.nodes.Below.{found, parts, out_parts, roll_parts, roll_out, at_node, at_left, at_right, set_left, set_right}
 

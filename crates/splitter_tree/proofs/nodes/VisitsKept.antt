@@ -1,7 +1,6 @@
 -- functions of a node and of a participant, changed for one participant at one node
 use Rattle.std.proofs.Common.{◌≡◌, ◌≢◌, ℕ, Bool, true, ◌⊎◌, inl, inr, refl, sym, ap, ◌∙◌}
-use Rattle.step_memory.specs.SetAt.{set_at}
-use Rattle.step_memory.proofs.SetAtLemmas.{set_at-same, set_at-other, set_at-cases}
+use Rattle.splitter_tree.proofs.Common.{set_at, set_at-same, set_at-other, set_at-cases}
 
 module _ {X : Type 0} (f : ℕ → ℕ → X) (k p : ℕ) (x : X) where
   pub with_visit : ℕ → ℕ → X

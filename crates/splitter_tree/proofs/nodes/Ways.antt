@@ -1,10 +1,8 @@
 -- which node lies below which, by their numbers
-use Rattle.std.proofs.Common.{◌≡◌, ◌≢◌, ℕ, ◌+◌, ◌*◌, ◌-◌, ◌/◌, ◌%◌, ◌^◌, ◌<◌, ◌≤◌, true, false, refl, sym, ap, ◌∙◌, arith}
-use Rattle.std.proofs.lemmas.Nat.{shr-shr, shr_le}
+use Rattle.std.proofs.Common.{◌≡◌, ◌≢◌, ℕ, ◌+◌, ◌*◌, ◌-◌, ◌/◌, ◌%◌, ◌^◌, ◌<◌, ◌≤◌, true, false, refl, sym, ap, ◌∙◌, arith, ◌==◌}
+use Rattle.splitter_tree.proofs.Common.{shr-shr, shr_le, is_right}
 use Rattle.std.proofs.Math.Pow.{field, mod-mod-pow}
 use Rattle.std.proofs.lemmas.Bool.Decides.{Decides-eqb, not_from_Decides}
-use Rattle.std.specs.Prelude.{◌==◌}
-use Rattle.splitter_tree.specs.Nodes.{is_right}
 
 -- node q is node p or lies below it
 pub record IsFrom (p q : ℕ) : Type 0 where

@@ -1,6 +1,5 @@
 use Rattle.std.proofs.Common.{◌≡◌, true, false, not, get_or, sym, ap, ◌∙◌, arith}
-use Rattle.step_memory.specs.declared.access.Access.TheVariants.{TestAndSet}
-use Rattle.step_memory.specs.Registers.{after_access}
+use Rattle.bit_allocator.proofs.Common.{TestAndSet, after_access}
 use Rattle.bit_allocator.specs.Acquired.{was_clear}
 use Rattle.bit_allocator.proofs.Seeking.{got_bit, missed_bit, got_last}
 use Rattle.bit_allocator.proofs.pool.seek.Goals as goal

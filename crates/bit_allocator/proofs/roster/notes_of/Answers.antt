@@ -1,7 +1,6 @@
 use Rattle.std.proofs.Common.{◌≡◌, ◌%◌, take, get_or, set, length, sym, ap, ◌∙◌}
+use Rattle.bit_allocator.proofs.Common.{Competitor, Seeking}
 use Rattle.std.proofs.lemmas.List.{length-set, take_more}
-use Rattle.bit_allocator.specs.declared.competitor.Competitor.{Competitor}
-use Rattle.bit_allocator.specs.declared.stay.Stay.TheVariants.{Seeking}
 use Rattle.bit_allocator.proofs.Counts.{competitor}
 use Rattle.bit_allocator.proofs.RosterLemmas.{one_more_noted}
 use Rattle.bit_allocator.proofs.roster.notes_of.Goals as goal

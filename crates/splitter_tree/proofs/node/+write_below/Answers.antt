@@ -1,6 +1,5 @@
 use Rattle.std.proofs.Common.{◌≡◌, ℕ, true, false, arith, ◌∙◌, sym, ap}
-use Rattle.splitter_tree.specs.Nodes.{is_right}
-use Rattle.splitter_tree.specs.TreeSteps.{number_in, written, value_of}
+use Rattle.splitter_tree.proofs.Common.{is_right, number_in, written, value_of}
 use Rattle.splitter_tree.proofs.nodes.Ways.{number_nearer}
 use Rattle.splitter_tree.proofs.nodes.Steps.{change_right, change_left}
 use Rattle.splitter_tree.proofs.node.+write_below.Goals as goal

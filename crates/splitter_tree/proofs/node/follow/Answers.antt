@@ -1,7 +1,5 @@
 use Rattle.std.proofs.Common.{◌≡◌, ℕ, ◌+◌, ◌-◌, ◌/◌, ◌^◌, ◌<◌, ◌∙◌, sym, ap, subst, ne_eqb, arith}
-use Rattle.std.proofs.lemmas.Bool.Decides.{Decides-eqb}
-use Rattle.splitter_tree.specs.declared.node.Node.{out-Node}
-use Rattle.splitter_tree.specs.Nodes.{registers_below}
+use Rattle.splitter_tree.proofs.Common.{Decides-eqb, out-Node, registers_below}
 use Rattle.splitter_tree.proofs.nodes.Ways.{right_by, number_nearer, on_way}
 use Rattle.splitter_tree.proofs.nodes.Steps.{found_right, found_left}
 use Rattle.splitter_tree.proofs.node.follow.Goals as goal

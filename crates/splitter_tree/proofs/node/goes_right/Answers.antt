@@ -1,5 +1,4 @@
-use Rattle.std.proofs.Common.{◌≡◌, ℕ, ◌-◌, ◌/◌, ◌%◌, ◌^◌, ◌∙◌, ap, sym, arith}
-use Rattle.std.specs.Prelude.{◌==◌}
+use Rattle.std.proofs.Common.{◌≡◌, ℕ, ◌-◌, ◌/◌, ◌%◌, ◌^◌, ◌∙◌, ap, sym, arith, ◌==◌}
 use Rattle.splitter_tree.proofs.nodes.Ways.{from_low, from_high}
 use Rattle.splitter_tree.proofs.node.goes_right.Goals as goal
 

@@ -1,7 +1,5 @@
 use Rattle.std.proofs.Common.{◌≡◌, Some, None, Err, refl, sym, ap, ◌∙◌}
-use Rattle.bit_allocator.specs.Pool.{enter_refusal}
-use Rattle.bit_allocator.specs.Calls.Call.{Entered}
-use Rattle.bit_allocator.specs.Acquired.{Gets}
+use Rattle.bit_allocator.proofs.Common.{enter_refusal, Entered, Gets}
 use Rattle.bit_allocator.proofs.PoolKeeps.{pool_proved}
 use Rattle.bit_allocator.proofs.Acquiring.{acquired, acquired_after}
 use Rattle.bit_allocator.proofs.pool.Pool.acquire.Goals as goal

@@ -1,14 +1,8 @@
 use Rattle.std.proofs.Common.{rules, ◌≡◌, Some, Ok, not, ◌==◌, refl, sym, ap, ◌∙◌}
+use Rattle.bit_allocator.proofs.Common.{after_access, Settled, IsWithin, leave_access, stay_of, number_answer, Left, PoolState}
 use Rattle.std.proofs.lemmas.List.Elements.{All-filter}
-use Rattle.step_memory.specs.Registers.{after_access}
-use Rattle.bit_allocator.specs.declared.stay.Stay.TheVariants.{Settled}
-use Rattle.bit_allocator.specs.Stay.{IsWithin, leave_access}
-use Rattle.bit_allocator.specs.Competitors.{stay_of}
-use Rattle.bit_allocator.specs.Pool.{number_answer}
-use Rattle.bit_allocator.specs.Calls.Call.{Left}
 use Rattle.bit_allocator.proofs.CallLemmas.{settled_by, unsettled_after}
 use Rattle.bit_allocator.proofs.LocalityLemmas.{leave_local, leave_stands}
-use Rattle.bit_allocator.specs.PoolState.{PoolState}
 use Rattle.bit_allocator.proofs.PoolKeeps.{pool_proved}
 use Rattle.bit_allocator.proofs.pool.Pool.leave.Goals as goal
 

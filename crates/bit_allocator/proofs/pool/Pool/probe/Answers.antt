@@ -1,16 +1,10 @@
 use Rattle.std.proofs.Common.{◌≡◌, None, Ok, Err, refl, sym, ap, ◌∙◌}
-use Rattle.step_memory.specs.declared.refusal.Refusal.TheVariants.{NotCompeting, Holding}
-use Rattle.bit_allocator.specs.Competitors.{stay_of}
-use Rattle.step_memory.specs.Registers.{after_access}
-use Rattle.bit_allocator.specs.Stay.{probe_access, stay_probed, probe_reply}
-use Rattle.bit_allocator.specs.Pool.{got_by, probe_answer, after_probe}
+use Rattle.bit_allocator.proofs.Common.{NotCompeting, Holding, stay_of, after_access, probe_access, stay_probed, probe_reply, got_by, probe_answer, after_probe, Probed, PoolState}
 use Rattle.bit_allocator.proofs.CallLemmas.{going_answer, going_after}
-use Rattle.bit_allocator.specs.Calls.Call.{Probed}
 use Rattle.step_memory.specs.Roster.{StandsAt}
 use Rattle.step_memory.proofs.Roster as roster
 use Rattle.bit_allocator.proofs.LocalityLemmas.{refused_local, probe_local, probe_alike, probe_stands}
 use Rattle.bit_allocator.specs.Locality.{probe_steps}
-use Rattle.bit_allocator.specs.PoolState.{PoolState}
 use Rattle.bit_allocator.proofs.PoolKeeps.{pool_law, pool_proved}
 use Rattle.bit_allocator.proofs.pool.Pool.probe.Goals as goal
 use Rattle.bit_allocator.proofs.pool.Pool.probe.Goals.{After-nth-stay}

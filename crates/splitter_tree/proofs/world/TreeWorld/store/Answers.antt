@@ -1,9 +1,5 @@
 use Rattle.std.proofs.Common.{rules, ◌≡◌, Some, Ok, Err}
-use Rattle.step_memory.specs.declared.refusal.Refusal.TheVariants.{NotBegun, AlreadyBegun}
-use Rattle.step_memory.specs.Participant.{program_of}
-use Rattle.step_memory.specs.World.{after_set}
-use Rattle.splitter_tree.specs.Client.{storing}
-use Rattle.splitter_tree.specs.TreeSteps.{tree_steps}
+use Rattle.splitter_tree.proofs.Common.{NotBegun, AlreadyBegun, program_of, after_set, storing, tree_steps}
 use Rattle.splitter_tree.proofs.StoreLemmas.{store_goes_well, local_store}
 use Rattle.splitter_tree.proofs.TreeProved.{tree_stores}
 use Rattle.splitter_tree.proofs.world.TreeWorld.store.Goals as goal
