@@ -137,13 +137,9 @@ some_by : (due : Option Refusal) (why : Refusal) → Err why ≡ done_unless due
 some_by None why h = absurd (cc)
 some_by (Some w) why h = (let f : why ≡ w = cc in ap Some (sym f))
 
-stored_ok : (r : Result ℕ Refusal) → Ok tt ≡ stored_reply r → why_of r ≡ None
-stored_ok (Ok n) h = refl
-stored_ok (Err w) h = absurd (cc)
-
-stored_err : (r : Result ℕ Refusal) (why : Refusal) → Err why ≡ stored_reply r → why_of r ≡ Some why
-stored_err (Ok n) why h = absurd (cc)
-stored_err (Err w) why h = (let f : why ≡ w = cc in ap Some (sym f))
+stored_is : (r : Result ℕ Refusal) → stored_reply r ≡ done_unless (why_of r)
+stored_is (Ok n) = refl
+stored_is (Err w) = refl
 
 fetched_ok : (values : List ℕ) (r : Result ℕ Refusal) (v : ℕ) → IsFetched values r (Ok v) → why_of r ≡ None
 fetched_ok values (Ok n) v h = refl
@@ -178,8 +174,8 @@ call_keeps terms o (Slotted (Pooled (Probed p (Ok (probe.Got n))))) b a = for_al
 call_keeps terms o (Slotted (Pooled (Probed p (Err why)))) b a = for_all (Keeps terms o (Probe p) (Refused (refusal_number why))) refl (due_told _ (terms.grows && false) why a.0) tt tt tt tt tt
 call_keeps terms o (Slotted (Pooled (HasLeft p (Ok n)))) b a = for_all (Keeps terms o (Leave p) (Left n)) refl (none_due _ (sym (ap why_of a.0))) tt tt tt tt (sym a.0)
 call_keeps terms o (Slotted (Pooled (HasLeft p (Err why)))) b a = for_all (Keeps terms o (Leave p) (Refused (refusal_number why))) refl (due_told _ (terms.grows && false) why (sym (ap why_of a.0))) tt tt tt tt tt
-call_keeps terms o (Slotted (Stored p value (Ok done))) b a = for_all (Keeps terms o (Put p value) Accepted) refl (none_due _ (stored_ok _ a.0)) tt tt tt tt tt
-call_keeps terms o (Slotted (Stored p value (Err why))) b a = for_all (Keeps terms o (Put p value) (Refused (refusal_number why))) refl (due_told _ (terms.grows && false) why (stored_err _ why a.0)) tt tt tt tt tt
+call_keeps terms o (Slotted (Stored p value (Ok done))) b a = for_all (Keeps terms o (Put p value) Accepted) refl (none_due _ (none_by _ (a.0 ∙ stored_is _))) tt tt tt tt tt
+call_keeps terms o (Slotted (Stored p value (Err why))) b a = for_all (Keeps terms o (Put p value) (Refused (refusal_number why))) refl (due_told _ (terms.grows && false) why (some_by _ why (a.0 ∙ stored_is _))) tt tt tt tt tt
 call_keeps terms o (Slotted (Fetched p (Ok v))) b a = for_all (Keeps terms o (Get p) (Value v)) refl (none_due _ (fetched_ok o.slots.values _ v a.0)) tt tt tt tt a.0
 call_keeps terms o (Slotted (Fetched p (Err why))) b a = for_all (Keeps terms o (Get p) (Refused (refusal_number why))) refl (due_told _ (terms.grows && false) why (fetched_why o.slots.values _ why a.0)) tt tt tt tt tt
 call_keeps terms o (Slotted (Pooled (Widened more reply))) b a = absurd a.0
@@ -195,26 +191,13 @@ stored_same (Err w) why v values h = refl
 
 -- a call leaves what its line does
 pub same_after : (terms : RenameTerms) (o : DeskObject) (c : DeskCall) (b : Bool) → AllowsCall terms o c → after_call o c ≡ after_line o (line_of b (exchange_of c))
-same_after terms o (Renamed (Began p (Ok done))) b a = refl
-same_after terms o (Renamed (Began p (Err why))) b a = refl
-same_after terms o (Renamed (Stepped p (Ok step.Quiet))) b a = refl
-same_after terms o (Renamed (Stepped p (Ok (step.Placed x)))) b a = refl
-same_after terms o (Renamed (Stepped p (Ok (step.Proposed n)))) b a = refl
-same_after terms o (Renamed (Stepped p (Ok (step.Saw view)))) b a = refl
-same_after terms o (Renamed (Stepped p (Ok (step.Named n view)))) b a = refl
-same_after terms o (Renamed (Stepped p (Ok step.Spent))) b a = refl
-same_after terms o (Renamed (Stepped p (Err why))) b a = refl
-same_after terms o (Slotted (Pooled (Entered p (Ok done)))) b a = refl
-same_after terms o (Slotted (Pooled (Entered p (Err why)))) b a = refl
-same_after terms o (Slotted (Pooled (Probed p (Ok probe.Missed)))) b a = refl
-same_after terms o (Slotted (Pooled (Probed p (Ok (probe.Got n))))) b a = refl
-same_after terms o (Slotted (Pooled (Probed p (Err why)))) b a = refl
-same_after terms o (Slotted (Pooled (HasLeft p (Ok n)))) b a = refl
-same_after terms o (Slotted (Pooled (HasLeft p (Err why)))) b a = refl
-same_after terms o (Slotted (Stored p value (Ok done))) b a = refl
 same_after terms o (Slotted (Stored p value (Err why))) b a = λ i. record { names = o.names; slots = record { pool = o.slots.pool; values = stored_same (number_in o.slots.pool p) why value o.slots.values a.0 i } }
-same_after terms o (Slotted (Fetched p (Ok v))) b a = refl
-same_after terms o (Slotted (Fetched p (Err why))) b a = refl
 same_after terms o (Slotted (Pooled (Widened more reply))) b a = absurd a.0
 same_after terms o (Slotted (Extended more v (Ok done))) b a = ap (λ (x : ℕ). after_call o (Slotted (Extended more x (Ok tt)))) a.1
-same_after terms o (Slotted (Extended more v (Err why))) b a = refl
+same_after terms o (Renamed (Began p (Err why))) b a = refl
+same_after terms o (Renamed (Stepped p (Ok step.Quiet))) b a = refl
+same_after terms o (Slotted (Pooled (Entered p (Err why)))) b a = refl
+same_after terms o (Slotted (Pooled (Probed p (Ok probe.Missed)))) b a = refl
+same_after terms o (Slotted (Pooled (HasLeft p (Err why)))) b a = refl
+same_after terms o (Slotted (Fetched p (Err why))) b a = refl
+same_after terms o c b a = refl
