@@ -1,8 +1,9 @@
 -- what the objects answer has numbers that a record can write, where the events have
-use Rattle.std.proofs.Common.{◌≡◌, ℕ, zero, suc, ◌+◌, ◌-◌, ◌*◌, ◌^◌, ◌<◌, ◌≤◌, true, false, List, [], ◌∷◌, length, map, replicate, Option, Some, None, Bool, Result, Ok, Err, inl, inr, refl, sym, ap, ◌∙◌, subst, arith}
+use Rattle.std.proofs.Common.{◌≡◌, ℕ, ◌+◌, ◌-◌, ◌*◌, ◌^◌, ◌<◌, ◌≤◌, true, false, List, [], ◌∷◌, length, map, replicate, Option, Some, None, Bool, Result, Ok, Err, inl, inr, refl, sym, ap, ◌∙◌, subst, arith}
 use Rattle.std.specs.Prelude.{slice_get, IsSome}
 use Rattle.std.specs.List.{All, Contains}
-use Rattle.std.proofs.lemmas.List.Elements.{All-append, All-head, All-replicate, All-set, All-tail, Contains-append_right}
+use Rattle.std.proofs.lemmas.Option.{get_or_from_slice_get, slice_get_within}
+use Rattle.std.proofs.lemmas.List.Elements.{All-append, All-get_or, All-replicate, All-set, Contains-append_right}
 use Rattle.std.proofs.lemmas.Bool.Decides.{eqb_tells, leb_tells}
 use Rattle.step_memory.specs.Calls.Call.{Began, Stepped}
 use Rattle.step_memory.specs.Runs.{Run}
@@ -64,9 +65,7 @@ abbrev AreSmall : List ℕ → Type 0
 AreSmall vs = All IsSmall vs
 
 small_at : (vs : List ℕ) (i v : ℕ) → AreSmall vs → slice_get vs i ≡ Some v → v < 2 ^ 64
-small_at [] i v h e = absurd (cc)
-small_at (x ∷ xs) zero v h e = (let same : x ≡ v = cc in let l = All-head IsSmall x xs h in omega arith)
-small_at (x ∷ xs) (suc i) v h e = small_at xs i v (All-tail IsSmall x xs h) e
+small_at vs i v h e = subst IsSmall (get_or_from_slice_get vs i v 0 e) (All-get_or IsSmall vs i 0 (slice_get_within vs i v e) h)
 
 stored_small : (held : Result ℕ Refusal) (v : ℕ) (vs : List ℕ) → AreSmall vs → v < 2 ^ 64 → AreSmall (stored_in held v vs)
 stored_small (Ok number) v vs h k = All-set IsSmall vs (number - 1) v k h

@@ -182,9 +182,6 @@ module _ (s s' : Stays) (o : SlotsObject ℕ) (p : ℕ) (old : Stay) (probes : �
 
 -- ---- a pool that gets more numbers, each with a slot that holds 0
 
-fewer_than : (probes size more : ℕ) → probes < last_probe size → size < more → probes < last_probe more
-fewer_than probes size more few wider = omega arith
-
 pub widened : (s s' : Stays) (o : SlotsObject ℕ) (more : ℕ) → HoldsSlots s o → widen_refusal o.pool.size more ≡ None → s'.competitors.items ≡ s.competitors.items →
     s'.size ≡ more → s'.values.items ≡ take more s.values.items ++ replicate (more - length s.values.items) 0 → HoldsSlots s' (widened_to more o)
 widened s s' o more h none items size values =
@@ -203,7 +200,7 @@ widened s s' o more h none items size values =
       crowd = h.crowd ∙ sym (ap length items);
       held = (λ q. h.held q ∙ sym (ap held_by (who q)));
       probes = (λ q stay is. h.probes q stay (sym (who q) ∙ is));
-      few = (λ q stay is unheld. fewer_than stay.probes o.pool.size more (h.few q stay (sym (who q) ∙ is) unheld) wider);
+      few = (λ q stay is unheld. let few = h.few q stay (sym (who q) ∙ is) unheld in omega arith);
       in_range = (λ q stay n is has. let r = h.in_range q stay n (sym (who q) ∙ is) has in let last = r.1 in (r.0, omega arith));
       apart = rw items h.apart;
       values = sym (values ∙ ap (λ xs. take more xs ++ replicate (more - length xs) 0) old ∙ ap (λ xs. xs ++ replicate (more - length o.values) 0) (take_all more o.values (omega arith)));

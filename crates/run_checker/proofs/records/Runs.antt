@@ -1,8 +1,8 @@
 -- lines that follow one another
-use Rattle.std.proofs.Common.{◌≡◌, ℕ, zero, suc, ◌+◌, ◌<◌, ◌≤◌, ◌^◌, Bool, List, [], ◌∷◌, ◌++◌, length, map, take, Some, Err, refl, sym, ap, ◌∙◌, subst, arith, length-append, get_or, drop, drop-cons}
+use Rattle.std.proofs.Common.{◌≡◌, ℕ, suc, ◌+◌, ◌<◌, ◌≤◌, ◌^◌, Bool, List, [], ◌∷◌, ◌++◌, length, map, take, Err, refl, sym, ap, ◌∙◌, subst, arith, length-append, get_or, drop, drop-cons}
 use Rattle.std.proofs.lemmas.List.{take-append-drop}
+use Rattle.std.proofs.lemmas.Option.{slice_get_read}
 use Rattle.std.specs.Result.{IfOk}
-use Rattle.std.specs.Prelude.{slice_get}
 use Rattle.step_memory.specs.Runs.{Run}
 use Rattle.step_memory.proofs.RunLemmas.{run_more, run_one, run_splits}
 use Rattle.rename_core.specs.RenameObject.{RenameTerms}
@@ -114,12 +114,7 @@ told_fault l old new NoMemory j = tt
 
 -- the line at fault is the first
 pub first_at : (terms : RenameTerms) (size : ℕ) (lines : List Line) (i : ℕ) (l : Line) (why : Reason) → i < length lines → l ≡ get_or lines i l → IsFaultAfter terms size (take i lines) l why → IsFirstFault terms size lines i why
-first_at terms size lines i l why inside is f = record { line = l; at = some_at lines i l inside is; fault = f }
-  where
-    some_at : (xs : List Line) (k : ℕ) (x : Line) → k < length xs → x ≡ get_or xs k x → slice_get xs k ≡ Some x
-    some_at [] k x l e = absurd (omega arith)
-    some_at (y ∷ ys) zero x l e = ap Some (sym e)
-    some_at (y ∷ ys) (suc k) x l e = some_at ys k x (omega arith) e
+first_at terms size lines i l why inside is f = record { line = l; at = slice_get_read lines (length lines) i l refl inside is; fault = f }
 
 pub not_run : (terms : RenameTerms) (size : ℕ) (lines : List Line) (i : ℕ) (l : Line) (why : Reason) → i < length lines → l ≡ get_or lines i l → IsFaultAfter terms size (take i lines) l why → AreLinesOfRun terms size lines → ⊥
 not_run terms size lines i l why inside is f r =
