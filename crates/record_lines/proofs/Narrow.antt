@@ -1,5 +1,5 @@
 -- what lines ask and tell fits a record
-use Rattle.std.proofs.Common.{ℕ, suc, ◌^◌, ◌<◌, ◌==◌, Bool, true, false, List, [], ◌∷◌, length, Option, Some, None, Result, Err, inl, inr, subst, arith, codes}
+use Rattle.std.proofs.Common.{ℕ, suc, ◌^◌, ◌<◌, ◌==◌, Bool, true, false, List, [], ◌∷◌, length, Option, Some, None, Err, inl, inr, subst, arith, codes}
 use Rattle.std.specs.Prelude.{nat_lt, if◌then◌else◌, not, option_map, option_and_then}
 use Rattle.std.specs.List.{list_all}
 use Rattle.std.proofs.lemmas.Bool.Decides.{leb_tells}
@@ -7,9 +7,7 @@ use Rattle.commands.specs.declared.kind.WorldKind.{WorldKind}
 use Rattle.commands.specs.declared.event.Event.{Event}
 use Rattle.commands.specs.declared.event.Event.TheVariants.{Begin, Step, Enter, Probe, Leave, Put, Get, Widen}
 use Rattle.commands.specs.Config.{gives_names}
-use Rattle.commands.specs.declared.bad.Bad.{Bad}
 use Rattle.commands.specs.declared.bad.Bad.TheVariants.{TooLong, NotPrintable, UnknownWord}
-use Rattle.commands.specs.declared.command.Command.{Command}
 use Rattle.commands.specs.declared.command.Command.TheVariants as command
 use Rattle.player.specs.Meaning.{is_digit, is_printable, decimal_from, if_below, number_in, same_bytes, command_if, command_of_one, event_of_one, event_if_both, event_of_two, quit_of, desk_command_of, command_in, words, meaning, number_below}
 use Rattle.record_lines.specs.Narrow.{IsNarrowEvent, IsNarrow, FitsTold}
@@ -23,40 +21,39 @@ use Rattle.record_lines.specs.ReplyText.{told_in, told_of_words, plain_of, word_
 
 -- ---- what lines ask
 
-abbrev IsBelow : Option ℕ → Type 0
-IsBelow None = Unit {0}
-IsBelow (Some n) = n < 2 ^ 64
+-- what holds of both holds of either
+either : {X : Type 0} (P : X → Type 0) (b : Bool) (x y : X) → P x → P y → P (if b then x else y)
+either P true x y h k = h
+either P false x y h k = k
 
-either_narrow : (b : Bool) (x y : Result Command Bad) → IsNarrow x → IsNarrow y → IsNarrow (if b then x else y)
-either_narrow true x y h k = h
-either_narrow false x y h k = k
+-- a number below a bound, or none
+abbrev IsBelow : ℕ → Option ℕ → Type 0
+IsBelow bound None = Unit {0}
+IsBelow bound (Some n) = n < bound
 
-either_below : (b : Bool) (x y : Option ℕ) → IsBelow x → IsBelow y → IsBelow (if b then x else y)
-either_below true x y h k = h
-either_below false x y h k = k
-
-fits_below : (n : ℕ) → IsBelow (if_below (2 ^ 64) n)
-fits_below n = elim (leb_tells (suc n) (2 ^ 64)) [
+fits_below : (bound n : ℕ) → IsBelow bound (if_below bound n)
+fits_below bound n = elim (leb_tells (suc n) bound) [
   | inl e ↦ rw e.0 (let small = e.1 in omega arith)
   | inr e ↦ rw e.0 tt
 ]
 
-word_below : (word : List ℕ) → IsBelow (number_in word)
-word_below [] = tt
-word_below (b ∷ bs) =
-    either_below (list_all is_digit (b ∷ bs)) _ None
-    (either_below (b == 48) (if length bs == 0 then Some 0 else None) (if_below (2 ^ 64) (decimal_from 0 (b ∷ bs))) (either_below (length bs == 0) (Some 0) None (omega arith) tt) (fits_below (decimal_from 0 (b ∷ bs)))) tt
+word_below : (bound : ℕ) (word : List ℕ) → 0 < bound → IsBelow bound (number_below bound word)
+word_below bound [] some = tt
+word_below bound (b ∷ bs) some =
+    either (IsBelow bound) (list_all is_digit (b ∷ bs)) _ None
+    (either (IsBelow bound) (b == 48) (if length bs == 0 then Some 0 else None) (if_below bound (decimal_from 0 (b ∷ bs))) (either (IsBelow bound) (length bs == 0) (Some 0) None some tt)
+    (fits_below bound (decimal_from 0 (b ∷ bs)))) tt
 
-one_by : (event : ℕ → Event) → ((n : ℕ) → n < 2 ^ 64 → IsNarrowEvent (event n)) → (o : Option ℕ) → IsBelow o → IsNarrow (command_if (λ n. command.Event (event n)) o)
+one_by : (event : ℕ → Event) → ((n : ℕ) → n < 2 ^ 64 → IsNarrowEvent (event n)) → (o : Option ℕ) → IsBelow (2 ^ 64) o → IsNarrow (command_if (λ n. command.Event (event n)) o)
 one_by event narrow None h = tt
 one_by event narrow (Some n) h = narrow n h
 
 one_narrow : (event : ℕ → Event) → ((n : ℕ) → n < 2 ^ 64 → IsNarrowEvent (event n)) → (others : List (List ℕ)) → IsNarrow (event_of_one event others)
 one_narrow event narrow [] = tt
-one_narrow event narrow (word ∷ []) = one_by event narrow (number_in word) (word_below word)
+one_narrow event narrow (word ∷ []) = one_by event narrow (number_in word) (word_below (2 ^ 64) word (omega arith))
 one_narrow event narrow (word ∷ other ∷ more) = tt
 
-both_by : (p value : Option ℕ) → IsBelow p → IsBelow value → IsNarrow (event_if_both Put p value)
+both_by : (p value : Option ℕ) → IsBelow (2 ^ 64) p → IsBelow (2 ^ 64) value → IsNarrow (event_if_both Put p value)
 both_by None value h k = tt
 both_by (Some p) None h k = tt
 both_by (Some p) (Some value) h k = (h, k)
@@ -64,7 +61,7 @@ both_by (Some p) (Some value) h k = (h, k)
 two_narrow : (others : List (List ℕ)) → IsNarrow (event_of_two Put others)
 two_narrow [] = tt
 two_narrow (word ∷ []) = tt
-two_narrow (word ∷ other ∷ []) = both_by (number_in word) (number_in other) (word_below word) (word_below other)
+two_narrow (word ∷ other ∷ []) = both_by (number_in word) (number_in other) (word_below (2 ^ 64) word (omega arith)) (word_below (2 ^ 64) other (omega arith))
 two_narrow (word ∷ other ∷ third ∷ more) = tt
 
 owner_by : (o : Option ℕ) → IsNarrow (command_if command.Owner o)
@@ -82,26 +79,26 @@ quit_narrow (word ∷ more) = tt
 
 desk_narrow : (word : List ℕ) (others : List (List ℕ)) → IsNarrow (desk_command_of word others)
 desk_narrow word others =
-    either_narrow (same_bytes word (codes "enter")) (event_of_one Enter others) _ (one_narrow Enter (λ n h. h) others)
-    (either_narrow (same_bytes word (codes "probe")) (event_of_one Probe others) _ (one_narrow Probe (λ n h. h) others)
-    (either_narrow (same_bytes word (codes "leave")) (event_of_one Leave others) _ (one_narrow Leave (λ n h. h) others)
-    (either_narrow (same_bytes word (codes "put")) (event_of_two Put others) _ (two_narrow others)
-    (either_narrow (same_bytes word (codes "get")) (event_of_one Get others) _ (one_narrow Get (λ n h. h) others)
-    (either_narrow (same_bytes word (codes "widen")) (event_of_one Widen others) _ (one_narrow Widen (λ n h. h) others)
-    (either_narrow (same_bytes word (codes "owner")) (command_of_one command.Owner others) (Err UnknownWord) (owner_narrow others) tt))))))
+    either IsNarrow (same_bytes word (codes "enter")) (event_of_one Enter others) _ (one_narrow Enter (λ n h. h) others)
+    (either IsNarrow (same_bytes word (codes "probe")) (event_of_one Probe others) _ (one_narrow Probe (λ n h. h) others)
+    (either IsNarrow (same_bytes word (codes "leave")) (event_of_one Leave others) _ (one_narrow Leave (λ n h. h) others)
+    (either IsNarrow (same_bytes word (codes "put")) (event_of_two Put others) _ (two_narrow others)
+    (either IsNarrow (same_bytes word (codes "get")) (event_of_one Get others) _ (one_narrow Get (λ n h. h) others)
+    (either IsNarrow (same_bytes word (codes "widen")) (event_of_one Widen others) _ (one_narrow Widen (λ n h. h) others)
+    (either IsNarrow (same_bytes word (codes "owner")) (command_of_one command.Owner others) (Err UnknownWord) (owner_narrow others) tt))))))
 
 words_narrow : (kind : WorldKind) (ws : List (List ℕ)) → IsNarrow (command_in kind ws)
 words_narrow kind [] = tt
 words_narrow kind (word ∷ others) =
-    either_narrow (same_bytes word (codes "begin")) (event_of_one Begin others) _ (one_narrow Begin (λ n h. h) others)
-    (either_narrow (same_bytes word (codes "step")) (event_of_one Step others) _ (one_narrow Step (λ n h. h) others)
-    (either_narrow (same_bytes word (codes "quit")) (quit_of others) _ (quit_narrow others)
-    (either_narrow (gives_names kind) (desk_command_of word others) (Err UnknownWord) (desk_narrow word others) tt)))
+    either IsNarrow (same_bytes word (codes "begin")) (event_of_one Begin others) _ (one_narrow Begin (λ n h. h) others)
+    (either IsNarrow (same_bytes word (codes "step")) (event_of_one Step others) _ (one_narrow Step (λ n h. h) others)
+    (either IsNarrow (same_bytes word (codes "quit")) (quit_of others) _ (quit_narrow others)
+    (either IsNarrow (gives_names kind) (desk_command_of word others) (Err UnknownWord) (desk_narrow word others) tt)))
 
 pub line_narrow : (kind : WorldKind) (line : List ℕ) → IsNarrow (meaning kind line)
 line_narrow kind line =
-    either_narrow (nat_lt 100 (length line)) (Err TooLong) _ tt
-    (either_narrow (not (list_all is_printable line)) (Err NotPrintable) (command_in kind (words line)) tt (words_narrow kind (words line)))
+    either IsNarrow (nat_lt 100 (length line)) (Err TooLong) _ tt
+    (either IsNarrow (not (list_all is_printable line)) (Err NotPrintable) (command_in kind (words line)) tt (words_narrow kind (words line)))
 
 -- ---- what lines tell
 
@@ -109,54 +106,38 @@ abbrev IfFits : Option Told → Type 0
 IfFits None = Unit {0}
 IfFits (Some t) = FitsTold t
 
-either_fits : (b : Bool) (x y : Option Told) → IfFits x → IfFits y → IfFits (if b then x else y)
-either_fits true x y h k = h
-either_fits false x y h k = k
-
 -- a reply of another kind, of what was read
 other_fits : {X : Type 0} (make : X → Told) → ((x : X) → FitsTold (make x)) → (o : Option X) → IfFits (option_map make o)
 other_fits make fits None = tt
 other_fits make fits (Some x) = fits x
 
-below_fits : (n : ℕ) → IfFits (option_map told.Place (if_below (2 ^ 128) n))
-below_fits n = elim (leb_tells (suc n) (2 ^ 128)) [
-  | inl e ↦ rw e.0 (let small = e.1 in omega arith)
-  | inr e ↦ rw e.0 tt
-]
-
-place_if : (b : Bool) (x y : Option ℕ) → IfFits (option_map told.Place x) → IfFits (option_map told.Place y) → IfFits (option_map told.Place (if b then x else y))
-place_if true x y h k = h
-place_if false x y h k = k
-
-place_fits : (word : List ℕ) → IfFits (option_map told.Place (number_below (2 ^ 128) word))
-place_fits [] = tt
-place_fits (b ∷ bs) =
-    place_if (list_all is_digit (b ∷ bs)) _ None
-    (place_if (b == 48) (if length bs == 0 then Some 0 else None) (if_below (2 ^ 128) (decimal_from 0 (b ∷ bs))) (place_if (length bs == 0) (Some 0) None (omega arith) tt) (below_fits (decimal_from 0 (b ∷ bs)))) tt
+place_by : (o : Option ℕ) → IsBelow (2 ^ 128) o → IfFits (option_map told.Place o)
+place_by None h = tt
+place_by (Some n) h = h
 
 owner_fits : (other : List ℕ) → IfFits (owner_of other)
-owner_fits other = either_fits (same_bytes other (codes "none")) _ _ tt (other_fits (λ id. told.Owner (Some id)) (λ id. tt) (number_in other))
+owner_fits other = either IfFits (same_bytes other (codes "none")) _ _ tt (other_fits (λ id. told.Owner (Some id)) (λ id. tt) (number_in other))
 
 with_fits : (word other : List ℕ) → IfFits (word_with word other)
 with_fits word other =
-    either_fits (same_bytes word (codes "place")) _ _ (place_fits other)
-    (either_fits (same_bytes word (codes "proposed")) _ _ (other_fits told.Proposed (λ n. tt) (number_in other))
-    (either_fits (same_bytes word (codes "named")) _ _ (other_fits (λ n. told.Named n None) (λ n. tt) (number_in other))
-    (either_fits (same_bytes word (codes "got")) _ _ (other_fits told.Got (λ n. tt) (number_in other))
-    (either_fits (same_bytes word (codes "left")) _ _ (other_fits told.Left (λ n. tt) (number_in other))
-    (either_fits (same_bytes word (codes "value")) _ _ (other_fits told.Value (λ n. tt) (number_in other))
-    (either_fits (same_bytes word (codes "refused")) _ _ (other_fits told.Refused (λ n. tt) (number_in other))
-    (either_fits (same_bytes word (codes "owner")) (owner_of other) None (owner_fits other) tt)))))))
+    either IfFits (same_bytes word (codes "place")) _ _ (place_by (number_below (2 ^ 128) other) (word_below (2 ^ 128) other (omega arith)))
+    (either IfFits (same_bytes word (codes "proposed")) _ _ (other_fits told.Proposed (λ n. tt) (number_in other))
+    (either IfFits (same_bytes word (codes "named")) _ _ (other_fits (λ n. told.Named n None) (λ n. tt) (number_in other))
+    (either IfFits (same_bytes word (codes "got")) _ _ (other_fits told.Got (λ n. tt) (number_in other))
+    (either IfFits (same_bytes word (codes "left")) _ _ (other_fits told.Left (λ n. tt) (number_in other))
+    (either IfFits (same_bytes word (codes "value")) _ _ (other_fits told.Value (λ n. tt) (number_in other))
+    (either IfFits (same_bytes word (codes "refused")) _ _ (other_fits told.Refused (λ n. tt) (number_in other))
+    (either IfFits (same_bytes word (codes "owner")) (owner_of other) None (owner_fits other) tt)))))))
 
 alone_fits : (word : List ℕ) → IfFits (word_alone word)
 alone_fits word =
-    either_fits (same_bytes word (codes "ok")) _ _ tt
-    (either_fits (same_bytes word (codes "quiet")) _ _ tt
-    (either_fits (same_bytes word (codes "stop")) _ _ tt
-    (either_fits (same_bytes word (codes "right")) _ _ tt
-    (either_fits (same_bytes word (codes "down")) _ _ tt
-    (either_fits (same_bytes word (codes "spent")) _ _ tt
-    (either_fits (same_bytes word (codes "missed")) (Some told.Missed) None tt tt))))))
+    either IfFits (same_bytes word (codes "ok")) _ _ tt
+    (either IfFits (same_bytes word (codes "quiet")) _ _ tt
+    (either IfFits (same_bytes word (codes "stop")) _ _ tt
+    (either IfFits (same_bytes word (codes "right")) _ _ tt
+    (either IfFits (same_bytes word (codes "down")) _ _ tt
+    (either IfFits (same_bytes word (codes "spent")) _ _ tt
+    (either IfFits (same_bytes word (codes "missed")) (Some told.Missed) None tt tt))))))
 
 plain_fits : (word : List ℕ) (others : List (List ℕ)) → IfFits (plain_of word others)
 plain_fits word [] = alone_fits word
@@ -169,7 +150,7 @@ saw_fits (word ∷ more) = other_fits told.Saw (λ view. tt) _
 
 words_fit : (ws : List (List ℕ)) → IfFits (told_of_words ws)
 words_fit [] = tt
-words_fit (word ∷ others) = either_fits (same_bytes word (codes "saw")) _ _ (saw_fits others) (plain_fits word others)
+words_fit (word ∷ others) = either IfFits (same_bytes word (codes "saw")) _ _ (saw_fits others) (plain_fits word others)
 
 beside_fits : (v : Version) (t : Told) (shown : Option (List ℕ)) → FitsTold t → IfFits (told_with v t shown)
 beside_fits One t None h = h

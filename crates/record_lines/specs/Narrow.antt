@@ -38,22 +38,15 @@ pub record IsShort (view : List (ℕ × ℕ)) : Type 0 where
 
 -- a reply that an event may get, with numbers that a record can write
 abbrev pub IsNarrowReply : ShownReply → Type 0
-IsNarrowReply reply.Ok = Unit {0}
-IsNarrowReply reply.Quiet = Unit {0}
-IsNarrowReply reply.Stop = Unit {0}
-IsNarrowReply reply.Right = Unit {0}
-IsNarrowReply reply.Down = Unit {0}
 IsNarrowReply (reply.Place place) = place < 2 ^ 128
 IsNarrowReply (reply.Proposed number) = number < 2 ^ 64
 IsNarrowReply (reply.Saw view) = IsShort view
 IsNarrowReply (reply.Named name view) = (name < 2 ^ 64) × IsShort view
-IsNarrowReply reply.Spent = Unit {0}
-IsNarrowReply reply.Missed = Unit {0}
 IsNarrowReply (reply.Got number) = number < 2 ^ 64
 IsNarrowReply (reply.Left number) = number < 2 ^ 64
 IsNarrowReply (reply.Value value) = value < 2 ^ 64
 IsNarrowReply (reply.Owner owner) = ⊥
-IsNarrowReply (reply.Refused why) = Unit {0}
+IsNarrowReply r = Unit {0}
 
 -- exchanges with numbers that a record can write
 abbrev pub AreNarrowExchanges : List Exchange → Type 0

@@ -14,7 +14,7 @@ use Rattle.run_checker.specs.declared.standing.Turn.{Turn}
 use Rattle.run_checker.specs.Moments.{crowded, SomeSince}
 use Rattle.run_checker.specs.Standing.{turn_of, count_of, since_of, told_in, Stands, HoldsNames, turns_in}
 use Rattle.run_checker.specs.Reasons.{MayBeNamed}
-use Rattle.run_checker.proofs.seats.Crowds.{own, conflict_crowds, crowd_conflicts, sole_quiet, quiet_sole}
+use Rattle.run_checker.proofs.seats.Crowds.{own, conflicting, standing_alone}
 
 -- the view of a moment: the pairs of those of whom it says something
 abbrev with_told : List (ℕ × ℕ) → ℕ → Option ℕ → List (ℕ × ℕ)
@@ -38,42 +38,22 @@ with_other : (view : List (ℕ × ℕ)) (p q : ℕ) (o : Option ℕ) → (p == q
 with_other view p q None h = refl
 with_other view p q (Some n) h = value_of-inserted q view (p, n) ∙ rw h refl
 
-with_own : (view : List (ℕ × ℕ)) (p q n : ℕ) (o : Option ℕ) → (p == q) ≡ true → o ≡ Some n → value_of q (with_told view p o) ≡ Some n
-with_own view p q n None h e = absurd (cc)
-with_own view p q n (Some k) h e = value_of-inserted q view (p, k) ∙ rw h e
-
-with_none : (view : List (ℕ × ℕ)) (p q : ℕ) (o : Option ℕ) → o ≡ None → value_of q view ≡ None → value_of q (with_told view p o) ≡ None
-with_none view p q None e h = h
-with_none view p q (Some n) e h = absurd (cc)
-
-none_told : (ps : List (Participant Standing)) (told : ℕ → Option ℕ) (q : ℕ) → told q ≡ None → value_of q (view_of ps told) ≡ None
-none_told [] told q none = refl
-none_told (v ∷ vs) told q none = elim (eqb_tells v.identity q) [
-  | inl y ↦ with_none (view_of vs told) v.identity q (told v.identity) (ap told y.1 ∙ none) (none_told vs told q none)
-  | inr y ↦ with_other (view_of vs told) v.identity q (told v.identity) y.0 ∙ none_told vs told q none
-]
-
-some_told : (ps : List (Participant Standing)) (told : ℕ → Option ℕ) (q n : ℕ) → told q ≡ Some n → (participant_of q ps ≡ None → ⊥) → value_of q (view_of ps told) ≡ Some n
-some_told [] told q n some there = absurd (there refl)
-some_told (v ∷ vs) told q n some there = elim (eqb_tells v.identity q) [
-  | inl y ↦ with_own (view_of vs told) v.identity q n (told v.identity) y.0 (ap told y.1 ∙ some)
-  | inr y ↦ with_other (view_of vs told) v.identity q (told v.identity) y.0 ∙ some_told vs told q n some (λ e. there (rw y.0 e))
+-- so it says of each what is told of it, where nothing is told of who is not among them
+view_says : (ps : List (Participant Standing)) (told : ℕ → Option ℕ) (q : ℕ) → (participant_of q ps ≡ None → told q ≡ None) → value_of q (view_of ps told) ≡ told q
+view_says [] told q none = sym (none refl)
+view_says (v ∷ vs) told q none = elim (eqb_tells v.identity q) [
+  | inl y ↦ (elim (told v.identity) as (λ o. told v.identity ≡ o → value_of q (with_told (view_of vs told) v.identity o) ≡ told q) [
+    | None ↦ λ e. view_says vs told q (λ _. sym (ap told y.1) ∙ e)
+    | Some n ↦ λ e. value_of-inserted q (view_of vs told) (v.identity, n) ∙ rw y.0 (sym e ∙ ap told y.1)
+  ]) refl
+  | inr y ↦ with_other (view_of vs told) v.identity q (told v.identity) y.0 ∙ view_says vs told q (λ e. none (rw y.0 e))
 ]
 
 -- each moment of the object has its view
-told_of : (ps : List (Participant Standing)) (row : List ℕ) (q n : ℕ) → told_in row (turns_in ps q) ≡ Some n → participant_of q ps ≡ None → ⊥
-told_of ps row q n says none =
-    let e : told_in row (turns_in ps q) ≡ None = ap (λ x. told_in row (turn_of (option_map (λ v. v.program) x))) none in
-    let f : None ≡ Some n = sym e ∙ says in
-    absurd (cc)
-
 has_view : (terms : RenameTerms) (s : Names) (o : RenameObject) (i : ℕ) → HoldsNames terms s o → i ≤ o.last → IsMoment (view_of s.participants.items (o.moment i)) (o.moment i)
 has_view terms s o i h l = record {
   rising = view_rises s.participants.items (o.moment i);
-  values = (λ q. elim (o.moment i q) as (λ x. o.moment i q ≡ x → value_of q (view_of s.participants.items (o.moment i)) ≡ o.moment i q) [
-    | None ↦ λ e. none_told s.participants.items (o.moment i) q e ∙ sym e
-    | Some n ↦ λ e. some_told s.participants.items (o.moment i) q n e (told_of s.participants.items (h.turns.rows i) q n (sym (h.turns.shown i l q) ∙ e)) ∙ sym e
-  ] refl);
+  values = λ q. view_says s.participants.items (o.moment i) q (λ none. h.turns.shown i l q ∙ ap (λ x. told_in (h.turns.rows i) (turn_of (option_map (λ v. v.program) x))) none);
 }
 
 -- of one who has begun and proposed
@@ -103,17 +83,11 @@ module _ (terms : RenameTerms) (s : Names) (o : RenameObject) (p : ℕ) (st : St
     pub since_of_recent : (i : ℕ) → IsRecent o p i → t.since ≤ i
     since_of_recent i r = let e = since_is in let f = r.no_earlier in omega arith
 
-    pub conflicts : (i : ℕ) → t.since ≤ i → i ≤ o.last → crowded t.number (h.turns.rows i) ≡ true → IsConflict (o.moment i) p
-    conflicts i from l = crowd_conflicts (turns_in s.participants.items) (length s.participants.items) terms.limit s.moments o.last o.moment o.count o.since h.turns i p t.number t l fits turn_is (stand.in_each i from l) stand.positive
+    pub conflicts : (i : ℕ) → t.since ≤ i → i ≤ o.last → (crowded t.number (h.turns.rows i) ≡ true) ↔ IsConflict (o.moment i) p
+    conflicts i from l = conflicting (turns_in s.participants.items) (length s.participants.items) terms.limit s.moments o.last o.moment o.count o.since h.turns i p t.number t l fits turn_is (stand.in_each i from l) stand.positive
 
-    pub crowds : (i : ℕ) → t.since ≤ i → i ≤ o.last → IsConflict (o.moment i) p → crowded t.number (h.turns.rows i) ≡ true
-    crowds i from l = conflict_crowds (turns_in s.participants.items) (length s.participants.items) terms.limit s.moments o.last o.moment o.count o.since h.turns i p t.number t l fits turn_is (stand.in_each i from l) stand.positive
-
-    pub sole : (i : ℕ) → t.since ≤ i → i ≤ o.last → crowded t.number (h.turns.rows i) ≡ false → IsSole (o.moment i) p t.number
-    sole i from l = quiet_sole (turns_in s.participants.items) (length s.participants.items) terms.limit s.moments o.last o.moment o.count o.since h.turns i p t.number t l fits turn_is (stand.in_each i from l) stand.positive
-
-    pub quiet : (i : ℕ) → t.since ≤ i → i ≤ o.last → IsSole (o.moment i) p t.number → crowded t.number (h.turns.rows i) ≡ false
-    quiet i from l = sole_quiet (turns_in s.participants.items) (length s.participants.items) terms.limit s.moments o.last o.moment o.count o.since h.turns i p t.number t l fits turn_is (stand.in_each i from l) stand.positive
+    pub stands_alone : (i : ℕ) → t.since ≤ i → i ≤ o.last → (crowded t.number (h.turns.rows i) ≡ false) ↔ IsSole (o.moment i) p t.number
+    stands_alone i from l = standing_alone (turns_in s.participants.items) (length s.participants.items) terms.limit s.moments o.last o.moment o.count o.since h.turns i p t.number t l fits turn_is (stand.in_each i from l) stand.positive
 
     pub own_is : (i : ℕ) → t.since ≤ i → i ≤ o.last → o.moment i p ≡ Some t.number
     own_is i from l = own (turns_in s.participants.items) (length s.participants.items) terms.limit s.moments o.last o.moment o.count o.since h.turns i p t.number t l fits turn_is (stand.in_each i from l) stand.positive
@@ -121,17 +95,11 @@ module _ (terms : RenameTerms) (s : Names) (o : RenameObject) (p : ℕ) (st : St
     -- another has proposed the same
     pub conflict_told : (r : Bool) → IsTrue r ↔ SomeSince (λ i. crowded t.number (h.turns.rows i) ≡ true) t.since o.last → IsTrue r ↔ HasConflict o p
     conflict_told r w = (
-      (λ y. let k = w.0 y in record { index = k.index; recent = recent k.index k.no_earlier k.no_later; conflict = conflicts k.index k.no_earlier k.no_later k.passes }),
+      (λ y. let k = w.0 y in record { index = k.index; recent = recent k.index k.no_earlier k.no_later; conflict = (conflicts k.index k.no_earlier k.no_later).0 k.passes }),
       (λ k.
           let from = since_of_recent k.index k.recent in
-          w.1 (record { index = k.index; no_earlier = from; no_later = k.recent.no_later; passes = crowds k.index from k.recent.no_later k.conflict })),
+          w.1 (record { index = k.index; no_earlier = from; no_later = k.recent.no_later; passes = (conflicts k.index from k.recent.no_later).1 k.conflict })),
     )
-
-    -- what may be a name is what was proposed last
-    pub last_number : (n : ℕ) (shown : Option (List (ℕ × ℕ))) → MayBeNamed o p n shown → n ≡ t.number
-    last_number n shown k =
-        let e : Some n ≡ Some t.number = sym k.shows.sole.own ∙ own_is k.shows.index (since_of_recent k.shows.index k.shows.recent) k.shows.recent.no_later in
-        cc
 
     pub sole_told : (r : Bool) → IsTrue r ↔ SomeSince (λ i. crowded t.number (h.turns.rows i) ≡ false) t.since o.last → IsFreeName o t.number → IsTrue r ↔ MayBeNamed o p t.number None
     sole_told r w free = (
@@ -141,10 +109,10 @@ module _ (terms : RenameTerms) (s : Names) (o : RenameObject) (p : ℕ) (st : St
             view = view_of s.participants.items (o.moment k.index);
             written = tt;
             some = some;
-            shows = record { index = k.index; recent = recent k.index k.no_earlier k.no_later; is = has_view terms s o k.index h k.no_later; sole = sole k.index k.no_earlier k.no_later k.passes };
+            shows = record { index = k.index; recent = recent k.index k.no_earlier k.no_later; is = has_view terms s o k.index h k.no_later; sole = (stands_alone k.index k.no_earlier k.no_later).0 k.passes };
             free = free;
           }),
       (λ k.
           let from = since_of_recent k.shows.index k.shows.recent in
-          w.1 (record { index = k.shows.index; no_earlier = from; no_later = k.shows.recent.no_later; passes = quiet k.shows.index from k.shows.recent.no_later k.shows.sole })),
+          w.1 (record { index = k.shows.index; no_earlier = from; no_later = k.shows.recent.no_later; passes = (stands_alone k.shows.index from k.shows.recent.no_later).1 k.shows.sole })),
     )

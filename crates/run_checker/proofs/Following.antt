@@ -72,11 +72,16 @@ named_so : (e : Event) (n : ℕ) (view : List (ℕ × ℕ)) (shown : Option (Lis
 named_so e n view None w = record { shows = false; spelled = refl }
 named_so e n view (Some pairs) w = record { shows = true; spelled = ap (λ (v : List (ℕ × ℕ)). line e (Named n (Some v))) w }
 
+-- a refusal that is due, where memory can't be wanted
+refused : (terms : RenameTerms) (o : DeskObject) (e : Event) (call : Refusal → DeskCall) → ((why : Refusal) → line_of true (exchange_of (call why)) ≡ line e (Refused (refusal_number why))) →
+    (due : Option Refusal) (n : ℕ) → is_told_rightly due (terms.grows && false) n ≡ true → ((why : Refusal) → due ≡ Some why → AllowsCall terms o (call why)) → CanFollow terms o (line e (Refused n))
+refused terms o e call says due n h allowed =
+    let w = told_why due terms.grows n h in
+    record { call = call w.0; spelled = told (says w.0 ∙ ap (λ x. line e (Refused x)) w.2); allowed = allowed w.0 w.1 }
+
 pub can_follow : (terms : RenameTerms) (o : DeskObject) (e : Event) (t : Told) → KeepsAll terms o e t → CanFollow terms o (line e t)
 can_follow terms o (Begin p) Accepted k = record { call = Renamed (Began p (Ok tt)); spelled = told refl; allowed = sym (ap done_unless (none_of (no_begin terms o.names p) (k reason.Refusal))) }
-can_follow terms o (Begin p) (Refused n) k =
-    let w = told_why (no_begin terms o.names p) terms.grows n (k reason.Refusal) in
-    record { call = Renamed (Began p (Err w.0)); spelled = told (ap (λ x. line (Begin p) (Refused x)) w.2); allowed = sym (ap done_unless w.1) }
+can_follow terms o (Begin p) (Refused n) k = refused terms o (Begin p) (λ w. Renamed (Began p (Err w))) (λ w. refl) (no_begin terms o.names p) n (k reason.Refusal) (λ w due. sym (ap done_unless due))
 can_follow terms o (Step p) Quiet k = record { call = Renamed (Stepped p (Ok step.Quiet)); spelled = told refl; allowed = (none_of (no_step o.names p) (k reason.Refusal), tt) }
 can_follow terms o (Step p) (Place x) k = record { call = Renamed (Stepped p (Ok (step.Placed x))); spelled = told refl; allowed = (none_of (no_step o.names p) (k reason.Refusal), k reason.Place) }
 can_follow terms o (Step p) (Proposed n) k = record { call = Renamed (Stepped p (Ok (step.Proposed n))); spelled = told refl; allowed = (none_of (no_step o.names p) (k reason.Refusal), k reason.Proposal) }
@@ -92,32 +97,24 @@ can_follow terms o (Step p) (Refused n) k = elim (told_due (no_step o.names p) (
   | inr w ↦ record { call = Renamed (Stepped p (Err NoMemory)); spelled = told (ap (λ x. line (Step p) (Refused x)) (sym w.2)); allowed = inr (record { is = refl; grows = (and_parts terms.grows true w.1).0; none_due = w.0 }) }
 ]
 can_follow terms o (Enter p) Accepted k = record { call = Slotted (Pooled (Entered p (Ok tt))); spelled = told refl; allowed = (sym (ap done_unless (none_of _ (k reason.Refusal))), tt) }
-can_follow terms o (Enter p) (Refused n) k =
-    let w = told_why _ terms.grows n (k reason.Refusal) in
-    record { call = Slotted (Pooled (Entered p (Err w.0))); spelled = told (ap (λ x. line (Enter p) (Refused x)) w.2); allowed = (sym (ap done_unless w.1), tt) }
+can_follow terms o (Enter p) (Refused n) k = refused terms o (Enter p) (λ w. Slotted (Pooled (Entered p (Err w)))) (λ w. refl) _ n (k reason.Refusal) (λ w due. (sym (ap done_unless due), tt))
 can_follow terms o (Probe p) Missed k = record { call = Slotted (Pooled (Probed p (Ok probe.Missed))); spelled = told refl; allowed = ((none_of _ (k reason.Refusal), k reason.Pool), tt) }
 can_follow terms o (Probe p) (Got n) k = record { call = Slotted (Pooled (Probed p (Ok (probe.Got n)))); spelled = told refl; allowed = ((none_of _ (k reason.Refusal), k reason.Pool), tt) }
-can_follow terms o (Probe p) (Refused n) k =
-    let w = told_why _ terms.grows n (k reason.Refusal) in
-    record { call = Slotted (Pooled (Probed p (Err w.0))); spelled = told (ap (λ x. line (Probe p) (Refused x)) w.2); allowed = (w.1, tt) }
+can_follow terms o (Probe p) (Refused n) k = refused terms o (Probe p) (λ w. Slotted (Pooled (Probed p (Err w)))) (λ w. refl) _ n (k reason.Refusal) (λ w due. (due, tt))
 can_follow terms o (Leave p) (Left n) k = record { call = Slotted (Pooled (HasLeft p (Ok n))); spelled = told refl; allowed = (sym (k reason.Pool), tt) }
 can_follow terms o (Leave p) (Refused n) k =
-    let w = told_why (why_of (number_in o.slots.pool p)) terms.grows n (k reason.Refusal) in
-    record { call = Slotted (Pooled (HasLeft p (Err w.0))); spelled = told (ap (λ x. line (Leave p) (Refused x)) w.2); allowed = (sym (err_of (number_in o.slots.pool p) w.0 w.1), tt) }
+    refused terms o (Leave p) (λ w. Slotted (Pooled (HasLeft p (Err w)))) (λ w. refl) (why_of (number_in o.slots.pool p)) n (k reason.Refusal) (λ w due. (sym (err_of (number_in o.slots.pool p) w due), tt))
 can_follow terms o (Put p value) Accepted k =
     let w = ok_of (number_in o.slots.pool p) (none_of _ (k reason.Refusal)) in
     record { call = Slotted (Stored p value (Ok tt)); spelled = told refl; allowed = (sym (ap stored_reply w.1), tt) }
 can_follow terms o (Put p value) (Refused n) k =
-    let w = told_why (why_of (number_in o.slots.pool p)) terms.grows n (k reason.Refusal) in
-    record { call = Slotted (Stored p value (Err w.0)); spelled = told (ap (λ x. line (Put p value) (Refused x)) w.2); allowed = (sym (ap stored_reply (err_of (number_in o.slots.pool p) w.0 w.1)), tt) }
+    refused terms o (Put p value) (λ w. Slotted (Stored p value (Err w))) (λ w. refl) (why_of (number_in o.slots.pool p)) n (k reason.Refusal) (λ w due. (sym (ap stored_reply (err_of (number_in o.slots.pool p) w due)), tt))
 can_follow terms o (Get p) (Value v) k = record { call = Slotted (Fetched p (Ok v)); spelled = told refl; allowed = (k reason.Pool, tt) }
 can_follow terms o (Get p) (Refused n) k =
-    let w = told_why (why_of (number_in o.slots.pool p)) terms.grows n (k reason.Refusal) in
-    record { call = Slotted (Fetched p (Err w.0)); spelled = told (ap (λ x. line (Get p) (Refused x)) w.2); allowed = (fetched_err o.slots.values (number_in o.slots.pool p) w.0 (err_of (number_in o.slots.pool p) w.0 w.1), tt) }
+    refused terms o (Get p) (λ w. Slotted (Fetched p (Err w))) (λ w. refl) (why_of (number_in o.slots.pool p)) n (k reason.Refusal)
+    (λ w due. (fetched_err o.slots.values (number_in o.slots.pool p) w (err_of (number_in o.slots.pool p) w due), tt))
 can_follow terms o (Widen more) Accepted k = record { call = Slotted (Extended more 0 (Ok tt)); spelled = told refl; allowed = (sym (ap done_unless (none_of _ (k reason.Refusal))), refl) }
-can_follow terms o (Widen more) (Refused n) k =
-    let w = told_why _ terms.grows n (k reason.Refusal) in
-    record { call = Slotted (Extended more 0 (Err w.0)); spelled = told (ap (λ x. line (Widen more) (Refused x)) w.2); allowed = (sym (ap done_unless w.1), refl) }
+can_follow terms o (Widen more) (Refused n) k = refused terms o (Widen more) (λ w. Slotted (Extended more 0 (Err w))) (λ w. refl) _ n (k reason.Refusal) (λ w due. (sym (ap done_unless due), refl))
 can_follow terms o e t k = let r : is_reply_of t e ≡ true = k reason.Reply in absurd (cc)
 
 -- what is told where nothing is due, and where something is
@@ -137,13 +134,9 @@ some_by : (due : Option Refusal) (why : Refusal) → Err why ≡ done_unless due
 some_by None why h = absurd (cc)
 some_by (Some w) why h = (let f : why ≡ w = cc in ap Some (sym f))
 
-stored_ok : (r : Result ℕ Refusal) → Ok tt ≡ stored_reply r → why_of r ≡ None
-stored_ok (Ok n) h = refl
-stored_ok (Err w) h = absurd (cc)
-
-stored_err : (r : Result ℕ Refusal) (why : Refusal) → Err why ≡ stored_reply r → why_of r ≡ Some why
-stored_err (Ok n) why h = absurd (cc)
-stored_err (Err w) why h = (let f : why ≡ w = cc in ap Some (sym f))
+stored_is : (r : Result ℕ Refusal) → stored_reply r ≡ done_unless (why_of r)
+stored_is (Ok n) = refl
+stored_is (Err w) = refl
 
 fetched_ok : (values : List ℕ) (r : Result ℕ Refusal) (v : ℕ) → IsFetched values r (Ok v) → why_of r ≡ None
 fetched_ok values (Ok n) v h = refl
@@ -178,8 +171,8 @@ call_keeps terms o (Slotted (Pooled (Probed p (Ok (probe.Got n))))) b a = for_al
 call_keeps terms o (Slotted (Pooled (Probed p (Err why)))) b a = for_all (Keeps terms o (Probe p) (Refused (refusal_number why))) refl (due_told _ (terms.grows && false) why a.0) tt tt tt tt tt
 call_keeps terms o (Slotted (Pooled (HasLeft p (Ok n)))) b a = for_all (Keeps terms o (Leave p) (Left n)) refl (none_due _ (sym (ap why_of a.0))) tt tt tt tt (sym a.0)
 call_keeps terms o (Slotted (Pooled (HasLeft p (Err why)))) b a = for_all (Keeps terms o (Leave p) (Refused (refusal_number why))) refl (due_told _ (terms.grows && false) why (sym (ap why_of a.0))) tt tt tt tt tt
-call_keeps terms o (Slotted (Stored p value (Ok done))) b a = for_all (Keeps terms o (Put p value) Accepted) refl (none_due _ (stored_ok _ a.0)) tt tt tt tt tt
-call_keeps terms o (Slotted (Stored p value (Err why))) b a = for_all (Keeps terms o (Put p value) (Refused (refusal_number why))) refl (due_told _ (terms.grows && false) why (stored_err _ why a.0)) tt tt tt tt tt
+call_keeps terms o (Slotted (Stored p value (Ok done))) b a = for_all (Keeps terms o (Put p value) Accepted) refl (none_due _ (none_by _ (a.0 ∙ stored_is _))) tt tt tt tt tt
+call_keeps terms o (Slotted (Stored p value (Err why))) b a = for_all (Keeps terms o (Put p value) (Refused (refusal_number why))) refl (due_told _ (terms.grows && false) why (some_by _ why (a.0 ∙ stored_is _))) tt tt tt tt tt
 call_keeps terms o (Slotted (Fetched p (Ok v))) b a = for_all (Keeps terms o (Get p) (Value v)) refl (none_due _ (fetched_ok o.slots.values _ v a.0)) tt tt tt tt a.0
 call_keeps terms o (Slotted (Fetched p (Err why))) b a = for_all (Keeps terms o (Get p) (Refused (refusal_number why))) refl (due_told _ (terms.grows && false) why (fetched_why o.slots.values _ why a.0)) tt tt tt tt tt
 call_keeps terms o (Slotted (Pooled (Widened more reply))) b a = absurd a.0
@@ -195,26 +188,13 @@ stored_same (Err w) why v values h = refl
 
 -- a call leaves what its line does
 pub same_after : (terms : RenameTerms) (o : DeskObject) (c : DeskCall) (b : Bool) → AllowsCall terms o c → after_call o c ≡ after_line o (line_of b (exchange_of c))
-same_after terms o (Renamed (Began p (Ok done))) b a = refl
-same_after terms o (Renamed (Began p (Err why))) b a = refl
-same_after terms o (Renamed (Stepped p (Ok step.Quiet))) b a = refl
-same_after terms o (Renamed (Stepped p (Ok (step.Placed x)))) b a = refl
-same_after terms o (Renamed (Stepped p (Ok (step.Proposed n)))) b a = refl
-same_after terms o (Renamed (Stepped p (Ok (step.Saw view)))) b a = refl
-same_after terms o (Renamed (Stepped p (Ok (step.Named n view)))) b a = refl
-same_after terms o (Renamed (Stepped p (Ok step.Spent))) b a = refl
-same_after terms o (Renamed (Stepped p (Err why))) b a = refl
-same_after terms o (Slotted (Pooled (Entered p (Ok done)))) b a = refl
-same_after terms o (Slotted (Pooled (Entered p (Err why)))) b a = refl
-same_after terms o (Slotted (Pooled (Probed p (Ok probe.Missed)))) b a = refl
-same_after terms o (Slotted (Pooled (Probed p (Ok (probe.Got n))))) b a = refl
-same_after terms o (Slotted (Pooled (Probed p (Err why)))) b a = refl
-same_after terms o (Slotted (Pooled (HasLeft p (Ok n)))) b a = refl
-same_after terms o (Slotted (Pooled (HasLeft p (Err why)))) b a = refl
-same_after terms o (Slotted (Stored p value (Ok done))) b a = refl
 same_after terms o (Slotted (Stored p value (Err why))) b a = λ i. record { names = o.names; slots = record { pool = o.slots.pool; values = stored_same (number_in o.slots.pool p) why value o.slots.values a.0 i } }
-same_after terms o (Slotted (Fetched p (Ok v))) b a = refl
-same_after terms o (Slotted (Fetched p (Err why))) b a = refl
 same_after terms o (Slotted (Pooled (Widened more reply))) b a = absurd a.0
 same_after terms o (Slotted (Extended more v (Ok done))) b a = ap (λ (x : ℕ). after_call o (Slotted (Extended more x (Ok tt)))) a.1
-same_after terms o (Slotted (Extended more v (Err why))) b a = refl
+same_after terms o (Renamed (Began p (Err why))) b a = refl
+same_after terms o (Renamed (Stepped p (Ok step.Quiet))) b a = refl
+same_after terms o (Slotted (Pooled (Entered p (Err why)))) b a = refl
+same_after terms o (Slotted (Pooled (Probed p (Ok probe.Missed)))) b a = refl
+same_after terms o (Slotted (Pooled (HasLeft p (Err why)))) b a = refl
+same_after terms o (Slotted (Fetched p (Err why))) b a = refl
+same_after terms o c b a = refl

@@ -22,9 +22,7 @@ below_view K a b c d reason.Reply l = a
 below_view K a b c d reason.Refusal l = b
 below_view K a b c d reason.Place l = c
 below_view K a b c d reason.Proposal l = d
-below_view K a b c d reason.View l = absurd (omega arith)
-below_view K a b c d reason.Name l = absurd (omega arith)
-below_view K a b c d reason.Pool l = absurd (omega arith)
+below_view K a b c d why l = absurd (omega arith)
 
 pub none_due : (o : Option Refusal) → o ≡ None → is_none o ≡ true
 none_due o e = ap is_none e

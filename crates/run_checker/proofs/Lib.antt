@@ -1,3 +1,4 @@
+mod Views
 mod seats
 mod Deciding
 mod records

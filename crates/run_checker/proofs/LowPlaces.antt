@@ -138,10 +138,9 @@ module _ {S R V U K : Type 0} (W : KnownPlaces S R V U K) (laws : PlacesLaws W) 
       ]
 
   followed_place : (r : Round) (p place : ℕ) (said : SnapReply) (limit : ℕ) → (followed r p said limit).reply ≡ step.Placed place → said ≡ snap.Placed place
-  followed_place r p place snap.Quiet limit e = absurd (cc)
   followed_place r p place (snap.Placed x) limit e = (let same : x ≡ place = cc in ap snap.Placed same)
-  followed_place r p place snap.Written limit e = absurd (cc)
   followed_place r p place (snap.View view) limit e = absurd (decided_other r p place view limit e)
+  followed_place r p place said limit e = absurd (cc)
 
   told_place : (w : RenameState S U K) (p place : ℕ) (r : Round) (told : Result SnapReply Refusal) → answer_told W w p r told ≡ Ok (step.Placed place) → told ≡ Ok (snap.Placed place)
   told_place w p place r (Ok said) e = (let same : (followed r p said w.limit).reply ≡ step.Placed place = cc in ap (λ (x : SnapReply). Ok x) (followed_place r p place said w.limit same))
@@ -176,13 +175,8 @@ module _ {S R V U K : Type 0} (W : KnownPlaces S R V U K) (laws : PlacesLaws W) 
         way_low (after_snap_step W w.snap p) (consistent_holds W laws (after_snap_step W w.snap p) first.0 (k.calls ++ h ∷ []) now.after a.started.new) p place is
 
     step_low : (place : ℕ) (answer : Result StepReply Refusal) → step_reply answer ≡ reply.Place place → answer ≡ Ok (step.Placed place)
-    step_low place (Ok step.Quiet) e = absurd (cc)
     step_low place (Ok (step.Placed x)) e = (let same : x ≡ place = cc in ap (λ (y : ℕ). Ok (step.Placed y)) same)
-    step_low place (Ok (step.Proposed n)) e = absurd (cc)
-    step_low place (Ok (step.Saw view)) e = absurd (cc)
-    step_low place (Ok (step.Named n view)) e = absurd (cc)
-    step_low place (Ok step.Spent) e = absurd (cc)
-    step_low place (Err why) e = absurd (cc)
+    step_low place answer e = absurd (cc)
 
     over_low : (kind : WorldKind) (most limit size : ℕ) (w : DeskState S U K) (calls : List DeskCall) → AfterDesk W kind most limit size w calls → (e : Event) (place : ℕ) → reply_over W w e ≡ reply.Place place → place < 2 ^ 64
     over_low kind most limit size w calls a (event.Begin p) place e = absurd (done_other (done_unless (begin_refusal w.names.snap p)) place e)

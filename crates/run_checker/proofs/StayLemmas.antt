@@ -1,13 +1,15 @@
 -- what is kept of the pool after each reply
-use Rattle.std.proofs.Common.{◌≡◌, ℕ, ◌+◌, ◌-◌, ◌<◌, ◌≤◌, ◌==◌, inl, inr, true, false, not, cond, List, [], ◌∷◌, ◌++◌, length, map, take, replicate, refl, sym, ap, ◌∙◌, subst, arith, Some, None, Option, is_some, Ok, filter, max, zero, suc, length-append}
+use Rattle.std.proofs.Common.{◌≡◌, ◌≢◌, ℕ, ◌+◌, ◌-◌, ◌<◌, ◌≤◌, ◌==◌, inl, inr, false, not, cond, List, [], ◌∷◌, ◌++◌, length, take, replicate, refl, sym, ap, ◌∙◌, subst, arith, Some, None, Option, is_some, Ok, filter, length-append}
 use Rattle.std.specs.List.{list_any}
-use Rattle.std.specs.Prelude.{option_map}
-use Rattle.std.proofs.lemmas.List.{length-replicate}
-use Rattle.std.proofs.lemmas.Bool.{cases_Bool, false≢true, eq-eqb, ne_eqb}
+use Rattle.std.specs.Prelude.{MatchOption, option_map}
+use Rattle.std.proofs.lemmas.List.{length-map, length-replicate, take_all}
+use Rattle.std.proofs.lemmas.Bool.{cases_Bool, ne_eqb}
 use Rattle.std.proofs.lemmas.Bool.Decides.{eqb_tells}
 use Rattle.step_memory.specs.declared.participant.Participant.{Participant}
-use Rattle.step_memory.specs.Participant.{beginner, participant_of, program_of, with_participant}
+use Rattle.step_memory.specs.Participant.{AreDistinct, beginner, identities, participant_of, program_of, with_participant}
 use Rattle.step_memory.specs.SetAt.{set_at}
+use Rattle.step_memory.proofs.DistinctParticipants.{distinct_put, distinct_push, identities-put, identities-push}
+use Rattle.step_memory.proofs.SetAtLemmas.{set_at-same, set_at-other, set_at-cases, set_at-is, set_at-map}
 use Rattle.bit_allocator.specs.Calls.Call.{Entered, Probed, Left}
 use Rattle.bit_allocator.specs.PoolObject.{competes, no_entry, no_probe, IsFree}
 use Rattle.bit_allocator.specs.Widening.{widen_refusal}
@@ -17,45 +19,30 @@ use Rattle.slot_array.specs.SlotCalls.SlotCall.{Pooled}
 use Rattle.slot_array.specs.SlotsObject.{SlotsObject, slots_after}
 use Rattle.run_checker.specs.declared.stays.Stay.{Stay}
 use Rattle.run_checker.specs.declared.stays.Stays.{Stays}
-use Rattle.run_checker.specs.Standing.{is_held, Apart}
 use Rattle.run_checker.specs.Stays.{held_by, last_probe, HoldsSlots, widened_to}
-use Rattle.run_checker.proofs.seats.People.{program_of-push, program_of-put, apart_push, apart_put, any_passes, passes_any, seen_kept, seen_set}
-use Rattle.run_checker.proofs.seats.Names.{held_is, is_held_by}
+use Rattle.run_checker.proofs.seats.People.{absent, none_kept, program_of-push, program_of-put, seen_kept, seen_set}
 
 -- who is in the list of identities is found
-competes_is : (cs : List (Participant Stay)) (q : ℕ) → list_any (λ x. x == q) (map (λ v. v.identity) cs) ≡ is_some (program_of q cs)
+competes_is : (cs : List (Participant Stay)) (q : ℕ) → list_any (λ x. x == q) (identities cs) ≡ is_some (program_of q cs)
 competes_is [] q = refl
 competes_is (v ∷ vs) q = elim (eqb_tells v.identity q) [
   | inl y ↦ rw y.0 refl
   | inr y ↦ rw y.0 (competes_is vs q)
 ]
 
-length-map : (cs : List (Participant Stay)) → length (map (λ v. v.identity) cs) ≡ length cs
-length-map [] = refl
-length-map (v ∷ vs) = omega (arith, length-map vs)
-
-map-push : (cs : List (Participant Stay)) (x : Participant Stay) → map (λ v. v.identity) (cs ++ x ∷ []) ≡ map (λ v. v.identity) cs ++ x.identity ∷ []
-map-push [] x = refl
-map-push (v ∷ vs) x = ap (λ xs. v.identity ∷ xs) (map-push vs x)
-
-map-put : (cs : List (Participant Stay)) (p : ℕ) (x : Stay) → map (λ v. v.identity) (with_participant (beginner p x) cs) ≡ map (λ v. v.identity) cs
-map-put [] p x = refl
-map-put (v ∷ vs) p x = elim (eqb_tells v.identity p) [
-  | inl y ↦ rw y.0 (ap (λ k. k ∷ map (λ v. v.identity) vs) (sym y.1))
-  | inr y ↦ rw y.0 (ap (λ xs. v.identity ∷ xs) (map-put vs p x))
-]
+-- ---- one who leaves
 
 abbrev pub without : ℕ → List (Participant Stay) → List (Participant Stay)
 without p cs = filter (λ v. not (v.identity == p)) cs
 
-map-without : (cs : List (Participant Stay)) (p : ℕ) → map (λ v. v.identity) (without p cs) ≡ filter (λ q. not (q == p)) (map (λ v. v.identity) cs)
-map-without [] p = refl
-map-without (v ∷ vs) p = elim (v.identity == p) as (λ b. map (λ v. v.identity) (cond (not b) (v ∷ without p vs) (without p vs)) ≡ cond (not b) (v.identity ∷ filter (λ q. not (q == p)) (map (λ v. v.identity) vs)) (filter (λ q. not (q == p)) (map (λ v. v.identity) vs))) [
-  | true ↦ map-without vs p
-  | false ↦ ap (λ xs. v.identity ∷ xs) (map-without vs p)
+identities-without : (cs : List (Participant Stay)) (p : ℕ) → identities (without p cs) ≡ filter (λ q. not (q == p)) (identities cs)
+identities-without [] p = refl
+identities-without (v ∷ vs) p = elim (eqb_tells v.identity p) [
+  | inl y ↦ rw y.0 (identities-without vs p)
+  | inr y ↦ rw y.0 (ap (λ xs. v.identity ∷ xs) (identities-without vs p))
 ]
 
-found_without : (cs : List (Participant Stay)) (p q : ℕ) → (q ≡ p → ⊥) → participant_of q (without p cs) ≡ participant_of q cs
+found_without : (cs : List (Participant Stay)) (p q : ℕ) → q ≢ p → participant_of q (without p cs) ≡ participant_of q cs
 found_without [] p q d = refl
 found_without (v ∷ vs) p q d = elim (eqb_tells v.identity p) [
   | inl y ↦ let ne : (v.identity == q) ≡ false = ne_eqb v.identity q (λ e. d (sym e ∙ y.1)) in rw (y.0, ne) (found_without vs p q d)
@@ -69,18 +56,53 @@ gone_without (v ∷ vs) p = elim (eqb_tells v.identity p) [
   | inr y ↦ rw (y.0, y.0) (gone_without vs p)
 ]
 
-none_without : (cs : List (Participant Stay)) (p q : ℕ) → participant_of q cs ≡ None → participant_of q (without p cs) ≡ None
-none_without cs p q none = elim (eqb_tells q p) [
-  | inl y ↦ ap (λ x. participant_of x (without p cs)) y.1 ∙ gone_without cs p
-  | inr y ↦ found_without cs p q y.1 ∙ none
+participant_of-without : (cs : List (Participant Stay)) (p q : ℕ) → participant_of q (without p cs) ≡ set_at (λ v. participant_of v cs) p None q
+participant_of-without cs p q =
+    set_at-cases (λ v. participant_of v cs) p None (λ x. participant_of q (without p cs) ≡ x) q (λ e. ap (λ x. participant_of x (without p cs)) e ∙ gone_without cs p) (found_without cs p q)
+
+distinct_without : (cs : List (Participant Stay)) (p : ℕ) → AreDistinct cs → AreDistinct (without p cs)
+distinct_without [] p a = tt
+distinct_without (v ∷ vs) p a = elim (eqb_tells v.identity p) [
+  | inl y ↦ rw y.0 (distinct_without vs p a.1)
+  | inr y ↦ rw y.0 (found_without vs p v.identity y.1 ∙ a.0, distinct_without vs p a.1)
 ]
 
-apart_without : (cs : List (Participant Stay)) (p : ℕ) → Apart cs → Apart (without p cs)
-apart_without [] p a = tt
-apart_without (v ∷ vs) p a = elim (eqb_tells v.identity p) [
-  | inl y ↦ rw y.0 (apart_without vs p a.1)
-  | inr y ↦ rw y.0 (none_without vs p v.identity a.0, apart_without vs p a.1)
-]
+-- ---- one for whom something else is kept, or nothing any more
+
+-- a stay of which so many probes are counted in a pool of this size
+record IsStay (size probes : ℕ) (stay : Stay) : Type 0 where
+  counted : probes ≡ stay.probes
+  few : stay.held ≡ None → stay.probes < last_probe size
+  in_range : (n : ℕ) → stay.held ≡ Some n → (1 ≤ n) × (n ≤ size)
+
+module _ (s s' : Stays) (o : SlotsObject ℕ) (p : ℕ) (new : Option Stay) (competing : List ℕ) (held : ℕ → Option ℕ) (probes : ℕ → ℕ) (h : HoldsSlots s o) where
+  abbrev seen : ℕ → Option Stay
+  seen = set_at (λ v. program_of v s.competitors.items) p new
+
+  holds_so : ((q : ℕ) → program_of q s'.competitors.items ≡ seen q) → s'.size ≡ s.size → s'.values ≡ s.values → competing ≡ identities s'.competitors.items → AreDistinct s'.competitors.items →
+      ((q : ℕ) → held q ≡ held_by (seen q)) → MatchOption new (Unit {0}) (λ stay. IsStay o.pool.size (probes p) stay) → ((q : ℕ) → q ≢ p → probes q ≡ o.pool.probes q) →
+      HoldsSlots s' (record { pool = record { size = o.pool.size; competing = competing; held = held; probes = probes }; values = o.values })
+  holds_so who size values competing_is distinct held_is own other = record {
+    size_is = size ∙ h.size_is;
+    low = h.low;
+    high = h.high;
+    competing = competing_is;
+    competes = λ q. ap (list_any (λ x. x == q)) competing_is ∙ competes_is s'.competitors.items q;
+    crowd = ap length competing_is ∙ length-map s'.competitors.items (λ v. v.identity);
+    held = λ q. held_is q ∙ sym (ap held_by (who q));
+    probes = λ q stay is. (each q stay is).counted;
+    few = λ q stay is. (each q stay is).few;
+    in_range = λ q stay n is. (each q stay is).in_range n;
+    apart = distinct;
+    values = h.values ∙ sym (ap (λ v. v.items) values);
+    many = h.many;
+  }
+    where
+      each : (q : ℕ) (stay : Stay) → program_of q s'.competitors.items ≡ Some stay → IsStay o.pool.size (probes q) stay
+      each q stay is = elim (set_at-is (λ v. program_of v s.competitors.items) p new q (Some stay) (sym (who q) ∙ is)) [
+        | inl w ↦ subst (λ (x : ℕ). IsStay o.pool.size (probes x) stay) (sym w.0) (subst (λ (x : Option Stay). MatchOption x (Unit {0}) (λ t. IsStay o.pool.size (probes p) t)) w.1 own)
+        | inr w ↦ record { counted = other q w.0 ∙ h.probes q stay w.1; few = h.few q stay w.1; in_range = λ n. h.in_range q stay n w.1 }
+      ]
 
 -- who may enter does not compete, and there is room
 may_enter : (s : Stays) (o : SlotsObject ℕ) (p : ℕ) → HoldsSlots s o → no_entry o.pool p ≡ None → program_of p s.competitors.items ≡ None
@@ -91,199 +113,74 @@ may_enter s o p h none = elim (cases_Bool (p == 0)) [
     | inr b ↦ absent (program_of p s.competitors.items) (sym (h.competes p) ∙ b)
   ]
 ]
-  where
-    absent : (x : Option Stay) → is_some x ≡ false → x ≡ None
-    absent None e = refl
-    absent (Some y) e = cc
 
 pub entered : (s s' : Stays) (o : SlotsObject ℕ) (p : ℕ) → HoldsSlots s o → no_entry o.pool p ≡ None → s'.competitors.items ≡ s.competitors.items ++ beginner p (record { probes = 0; held = None }) ∷ [] →
     s'.size ≡ s.size → s'.values ≡ s.values → HoldsSlots s' (slots_after o (Pooled (Entered p (Ok tt))))
 entered s s' o p h none items size values =
     let cs : List (Participant Stay) = s.competitors.items in
     let new : Stay = record { probes = 0; held = None } in
-    let absent = may_enter s o p h none in
-    let who : (q : ℕ) → program_of q s'.competitors.items ≡ set_at (λ v. program_of v cs) p (Some new) q = (λ q. ap (program_of q) items ∙ program_of-push cs p new absent q) in
-    let competing : o.pool.competing ++ p ∷ [] ≡ map (λ v. v.identity) s'.competitors.items = ap (λ xs. xs ++ p ∷ []) h.competing ∙ sym (map-push cs (beginner p new)) ∙ sym (ap (map (λ v. v.identity)) items) in
-    record {
-      size_is = size ∙ h.size_is;
-      low = h.low;
-      high = h.high;
-      competing = competing;
-      competes = (λ q. ap (list_any (λ x. x == q)) competing ∙ competes_is s'.competitors.items q);
-      crowd = ap length competing ∙ length-map s'.competitors.items;
-      held = (λ q. seen_kept held_by o.pool.held (λ v. program_of v cs) p new h.held (ap held_by absent) q ∙ sym (ap held_by (who q)));
-      probes = (λ q stay is. elim (eqb_tells q p) [
-        | inl y ↦ (let e : Some new ≡ Some stay = (let k = sym (who q) ∙ is in rw y.0 at k) in let f : new ≡ stay = cc in rw y.0 (ap (λ x. x.probes) f))
-        | inr y ↦ (let e : program_of q cs ≡ Some stay = (let k = sym (who q) ∙ is in rw y.0 at k) in rw y.0 (h.probes q stay e))
-      ]);
-      few = (λ q stay is unheld. elim (eqb_tells q p) [
-        | inl y ↦ (let e : Some new ≡ Some stay = (let k = sym (who q) ∙ is in rw y.0 at k) in let f : new ≡ stay = cc in let z : 0 ≡ stay.probes = ap (λ x. x.probes) f in grind arith)
-        | inr y ↦ (let e : program_of q cs ≡ Some stay = (let k = sym (who q) ∙ is in rw y.0 at k) in h.few q stay e unheld)
-      ]);
-      in_range = (λ q stay n is has. elim (eqb_tells q p) [
-        | inl y ↦ absurd (let e : Some new ≡ Some stay = (let k = sym (who q) ∙ is in rw y.0 at k) in let f : new ≡ stay = cc in let g : None ≡ Some n = ap (λ x. x.held) f ∙ has in cc)
-        | inr y ↦ (let e : program_of q cs ≡ Some stay = (let k = sym (who q) ∙ is in rw y.0 at k) in h.in_range q stay n e has)
-      ]);
-      apart = rw items (apart_push cs p new absent h.apart);
-      values = h.values ∙ sym (ap (λ v. v.items) values);
-      many = h.many;
-    }
+    let free = may_enter s o p h none in
+    let stay : IsStay o.pool.size (set_at o.pool.probes p 0 p) new = record { counted = set_at-same o.pool.probes p 0; few = λ _. omega arith; in_range = λ n e. absurd (cc) } in
+    holds_so s s' o p (Some new) (o.pool.competing ++ p ∷ []) o.pool.held (set_at o.pool.probes p 0) h (λ q. ap (program_of q) items ∙ program_of-push cs p new free q) size values
+    (ap (λ ids. ids ++ p ∷ []) h.competing ∙ sym (identities-push cs (beginner p new)) ∙ sym (ap identities items)) (rw items (distinct_push cs (beginner p new) (none_kept (participant_of p cs) free) h.apart))
+    (seen_kept held_by o.pool.held (λ v. program_of v cs) p (Some new) h.held (ap held_by free)) stay (set_at-other o.pool.probes p 0)
 
--- one for whom something else is kept
-module _ (s s' : Stays) (o : SlotsObject ℕ) (p : ℕ) (old new : Stay) (h : HoldsSlots s o) (is : program_of p s.competitors.items ≡ Some old)
-    (items : s'.competitors.items ≡ with_participant (beginner p new) s.competitors.items) (size : s'.size ≡ s.size) (values : s'.values ≡ s.values) where
-  abbrev cs : List (Participant Stay)
-  cs = s.competitors.items
-
-  who : (q : ℕ) → program_of q s'.competitors.items ≡ set_at (λ v. program_of v cs) p (Some new) q
-  who q = ap (program_of q) items ∙ program_of-put cs p old new is q
-
-  competing' : o.pool.competing ≡ map (λ v. v.identity) s'.competitors.items
-  competing' = h.competing ∙ sym (map-put cs p new) ∙ sym (ap (map (λ v. v.identity)) items)
-
-  -- who is found is this one or another
-  by_who : (P : ℕ → Stay → Type 0) → P p new → ((q : ℕ) (stay : Stay) → (q ≡ p → ⊥) → program_of q cs ≡ Some stay → P q stay) → (q : ℕ) (stay : Stay) → program_of q s'.competitors.items ≡ Some stay → P q stay
-  by_who P own other q stay there = elim (eqb_tells q p) [
-    | inl y ↦
-        let e : Some new ≡ Some stay = (let k = sym (who q) ∙ there in rw y.0 at k) in
-        let f : new ≡ stay = cc in
-        subst (λ (x : ℕ). P x stay) (sym y.1) (subst (P p) f own)
-    | inr y ↦ other q stay y.1 (let k = sym (who q) ∙ there in rw y.0 at k)
-  ]
-
-  set_own : (f : ℕ → ℕ) (x : ℕ) → set_at f p x p ≡ x
-  set_own f x = rw (eq-eqb p p refl) refl
-
-  set_other : (f : ℕ → ℕ) (x q : ℕ) → (q ≡ p → ⊥) → set_at f p x q ≡ f q
-  set_other f x q d = rw (ne_eqb q p d) refl
-
-  pub unheld : no_probe o.pool p ≡ None → old.held ≡ None
-  unheld none = elim (cases_Bool (competes o.pool p)) [
-    | inl b ↦ none_of old.held (λ n e. absurd (let k : is_some (o.pool.held p) ≡ true = ap is_some (h.held p ∙ ap held_by is ∙ e) in let w = rw (b, k) at none in cc))
-    | inr b ↦ absurd (let w = rw b at none in cc)
-  ]
-    where
-      none_of : (x : Option ℕ) → ((n : ℕ) → x ≡ Some n → ⊥) → x ≡ None
-      none_of None f = refl
-      none_of (Some n) f = absurd (f n refl)
-
-  -- it has not made so many probes that one more would not fit
-  pub fits : no_probe o.pool p ≡ None → old.probes < 64
-  fits none = let l = h.few p old is (unheld none) in let t = h.high in few_of old.probes o.pool.size l t
-    where
-      few_of : (a size : ℕ) → a < max 1 (size - 1) → size ≤ 64 → a < 64
-      few_of a size l t = omega arith
-
-  pub missed : no_probe o.pool p ≡ None → (o.pool.probes p + 1 ≡ last_probe o.pool.size → ⊥) → new ≡ record { probes = old.probes + 1; held = None } → HoldsSlots s' (slots_after o (Pooled (Probed p (Ok probe.Missed))))
-  missed none more e =
-      let low = h.few p old is (unheld none) in
-      let counted : o.pool.probes p ≡ old.probes = h.probes p old is in
-      let fewer : old.probes + 1 < last_probe o.pool.size = (let d : old.probes + 1 ≡ last_probe o.pool.size → ⊥ = (λ k. more (ap (λ x. x + 1) counted ∙ k)) in lesser (old.probes) (last_probe o.pool.size) low d) in
-      record {
-        size_is = size ∙ h.size_is;
-        low = h.low;
-        high = h.high;
-        competing = competing';
-        competes = (λ q. ap (list_any (λ x. x == q)) competing' ∙ competes_is s'.competitors.items q);
-        crowd = ap length competing' ∙ length-map s'.competitors.items;
-        held = (λ q. seen_kept held_by o.pool.held (λ v. program_of v cs) p new h.held (ap held_by is ∙ unheld none ∙ sym (ap (λ x. x.held) e)) q ∙ sym (ap held_by (who q)));
-        probes = by_who (λ q stay. set_at o.pool.probes p (o.pool.probes p + 1) q ≡ stay.probes)
-            (set_own o.pool.probes (o.pool.probes p + 1) ∙ ap (λ x. x + 1) counted ∙ sym (ap (λ x. x.probes) e))
-            (λ q stay d there. set_other o.pool.probes (o.pool.probes p + 1) q d ∙ h.probes q stay there);
-        few = by_who (λ q stay. stay.held ≡ None → stay.probes < last_probe o.pool.size)
-            (λ k. subst (λ (x : ℕ). x < last_probe o.pool.size) (sym (ap (λ x. x.probes) e)) fewer)
-            (λ q stay d there. h.few q stay there);
-        in_range = (λ q stay n there has. by_who (λ r u. u.held ≡ Some n → (1 ≤ n) × (n ≤ o.pool.size))
-            (λ k. absurd (let z : None ≡ Some n = sym (ap (λ x. x.held) e) ∙ k in cc))
-            (λ r u d is'. h.in_range r u n is') q stay there has);
-        apart = rw items (apart_put cs p new h.apart);
-        values = h.values ∙ sym (ap (λ v. v.items) values);
-        many = h.many;
-      }
-    where
-      lesser : (a b : ℕ) → a < b → (a + 1 ≡ b → ⊥) → a + 1 < b
-      lesser a b l d = omega arith
-
-  pub got : (n : ℕ) → IsFree o.pool n → new ≡ record { probes = old.probes + 1; held = Some n } → HoldsSlots s' (slots_after o (Pooled (Probed p (Ok (probe.Got n)))))
-  got n free e =
-      let counted : o.pool.probes p ≡ old.probes = h.probes p old is in
-      record {
-        size_is = size ∙ h.size_is;
-        low = h.low;
-        high = h.high;
-        competing = competing';
-        competes = (λ q. ap (list_any (λ x. x == q)) competing' ∙ competes_is s'.competitors.items q);
-        crowd = ap length competing' ∙ length-map s'.competitors.items;
-        held = (λ q. seen_set held_by o.pool.held (λ v. program_of v cs) p new (Some n) h.held (sym (ap (λ x. x.held) e)) q ∙ sym (ap held_by (who q)));
-        probes = by_who (λ q stay. set_at o.pool.probes p (o.pool.probes p + 1) q ≡ stay.probes)
-            (set_own o.pool.probes (o.pool.probes p + 1) ∙ ap (λ x. x + 1) counted ∙ sym (ap (λ x. x.probes) e))
-            (λ q stay d there. set_other o.pool.probes (o.pool.probes p + 1) q d ∙ h.probes q stay there);
-        few = by_who (λ q stay. stay.held ≡ None → stay.probes < last_probe o.pool.size)
-            (λ k. absurd (let z : None ≡ Some n = sym k ∙ ap (λ x. x.held) e in cc))
-            (λ q stay d there. h.few q stay there);
-        in_range = (λ q stay m there has. by_who (λ r u. u.held ≡ Some m → (1 ≤ m) × (m ≤ o.pool.size))
-            (λ k. let z : Some n ≡ Some m = sym (ap (λ x. x.held) e) ∙ k in let w : n ≡ m = cc in subst (λ (x : ℕ). (1 ≤ x) × (x ≤ o.pool.size)) w (free.first, free.last))
-            (λ r u d is'. h.in_range r u m is') q stay there has);
-        apart = rw items (apart_put cs p new h.apart);
-        values = h.values ∙ sym (ap (λ v. v.items) values);
-        many = h.many;
-      }
-
--- one who leaves
 pub left : (s s' : Stays) (o : SlotsObject ℕ) (p n : ℕ) → HoldsSlots s o → s'.competitors.items ≡ without p s.competitors.items → s'.size ≡ s.size → s'.values ≡ s.values →
     HoldsSlots s' (slots_after o (Pooled (Left p (Ok n))))
 left s s' o p n h items size values =
     let cs : List (Participant Stay) = s.competitors.items in
-    let competing : filter (λ q. not (q == p)) o.pool.competing ≡ map (λ v. v.identity) s'.competitors.items = ap (filter (λ q. not (q == p))) h.competing ∙ sym (map-without cs p) ∙ sym (ap (map (λ v. v.identity)) items) in
-    let gone : program_of p s'.competitors.items ≡ None = ap (program_of p) items ∙ ap (option_map (λ v. v.program)) (gone_without cs p) in
-    let kept : (q : ℕ) → (q ≡ p → ⊥) → program_of q s'.competitors.items ≡ program_of q cs = (λ q d. ap (program_of q) items ∙ ap (option_map (λ v. v.program)) (found_without cs p q d)) in
-    let there : (q : ℕ) (stay : Stay) → program_of q s'.competitors.items ≡ Some stay → program_of q cs ≡ Some stay = (λ q stay is. elim (eqb_tells q p) [
-      | inl y ↦ absurd (let k : None ≡ Some stay = sym gone ∙ ap (λ x. program_of x s'.competitors.items) (sym y.1) ∙ is in cc)
-      | inr y ↦ sym (kept q y.1) ∙ is
-    ]) in
-    record {
-      size_is = size ∙ h.size_is;
-      low = h.low;
-      high = h.high;
-      competing = competing;
-      competes = (λ q. ap (list_any (λ x. x == q)) competing ∙ competes_is s'.competitors.items q);
-      crowd = ap length competing ∙ length-map s'.competitors.items;
-      held = (λ q. elim (eqb_tells q p) [
-        | inl y ↦ rw y.0 (sym (ap held_by (ap (λ x. program_of x s'.competitors.items) y.1 ∙ gone)))
-        | inr y ↦ rw y.0 (h.held q ∙ sym (ap held_by (kept q y.1)))
-      ]);
-      probes = (λ q stay is. h.probes q stay (there q stay is));
-      few = (λ q stay is. h.few q stay (there q stay is));
-      in_range = (λ q stay m is. h.in_range q stay m (there q stay is));
-      apart = rw items (apart_without cs p h.apart);
-      values = h.values ∙ sym (ap (λ v. v.items) values);
-      many = h.many;
-    }
+    let who : (q : ℕ) → program_of q s'.competitors.items ≡ set_at (λ v. program_of v cs) p None q =
+    (λ q. ap (program_of q) items ∙ ap (option_map (λ v. v.program)) (participant_of-without cs p q) ∙ set_at-map (option_map (λ v. v.program)) (λ v. participant_of v cs) p None q) in
+    holds_so s s' o p None (filter (λ q. not (q == p)) o.pool.competing) (set_at o.pool.held p None) o.pool.probes h who size values
+    (ap (filter (λ q. not (q == p))) h.competing ∙ sym (identities-without cs p) ∙ sym (ap identities items)) (rw items (distinct_without cs p h.apart))
+    (seen_set held_by o.pool.held (λ v. program_of v cs) p None None h.held refl) tt (λ q d. refl)
 
--- nobody holds what is not found, and somebody what is
-pub nobody_holds : (s : Stays) (o : SlotsObject ℕ) (n : ℕ) → HoldsSlots s o → list_any (λ v. is_held n v.program.held) s.competitors.items ≡ false → (q : ℕ) → o.pool.held q ≡ Some n → ⊥
-nobody_holds s o n h none q has =
-    let k = look (program_of q s.competitors.items) (sym (h.held q) ∙ has) in
-    false≢true (sym none ∙ passes_any (λ c. is_held n c.held) s.competitors.items q k.0 k.1 (is_held_by n k.0.held k.2))
-  where
-    look : (x : Option Stay) → held_by x ≡ Some n → (stay : Stay) × (x ≡ Some stay) × (stay.held ≡ Some n)
-    look None e = absurd (cc)
-    look (Some stay) e = (stay, refl, e)
+-- one who may probe, and of whom one probe more is counted
+module _ (s s' : Stays) (o : SlotsObject ℕ) (p : ℕ) (old : Stay) (probes : ℕ) (h : HoldsSlots s o) (is : program_of p s.competitors.items ≡ Some old) (none : no_probe o.pool p ≡ None)
+    (counts : old.probes < 64 → probes ≡ old.probes + 1) (size : s'.size ≡ s.size) (values : s'.values ≡ s.values) where
+  unheld : old.held ≡ None
+  unheld = elim (cases_Bool (competes o.pool p)) [
+    | inl b ↦ elim (cases_Bool (is_some (o.pool.held p))) [
+      | inl k ↦ absurd (let w = rw (b, k) at none in cc)
+      | inr k ↦ absent old.held (sym (ap is_some (h.held p ∙ ap held_by is)) ∙ k)
+    ]
+    | inr b ↦ absurd (let w = rw b at none in cc)
+  ]
 
-pub somebody_holds : (s : Stays) (o : SlotsObject ℕ) (n : ℕ) → HoldsSlots s o → list_any (λ v. is_held n v.program.held) s.competitors.items ≡ true → (q : ℕ) × (o.pool.held q ≡ Some n)
-somebody_holds s o n h some =
-    let k = any_passes (λ c. is_held n c.held) s.competitors.items h.apart some in
-    (k.who, h.held k.who ∙ ap held_by k.is ∙ held_is n k.kept.held k.passes)
+  -- it has not made so many probes that one more would not fit
+  one_more : probes ≡ old.probes + 1
+  one_more = let few = h.few p old is unheld in let high = h.high in counts (omega arith)
 
--- a pool that gets more numbers, each with a slot that holds 0
-take_all : (values : List ℕ) (n : ℕ) → length values ≤ n → take n values ≡ values
-take_all [] zero h = refl
-take_all [] (suc n) h = refl
-take_all (v ∷ vs) zero h = absurd (omega arith)
-take_all (v ∷ vs) (suc n) h = ap (λ xs. v ∷ xs) (take_all vs n (omega arith))
+  probed : (holds : Option ℕ) (held : ℕ → Option ℕ) → s'.competitors.items ≡ with_participant (beginner p (record { probes = probes; held = holds })) s.competitors.items →
+      ((q : ℕ) → held q ≡ held_by (set_at (λ v. program_of v s.competitors.items) p (Some (record { probes = probes; held = holds })) q)) →
+      (holds ≡ None → old.probes + 1 < last_probe o.pool.size) → ((n : ℕ) → holds ≡ Some n → (1 ≤ n) × (n ≤ o.pool.size)) →
+      HoldsSlots s' (record { pool = record o.pool { held = held; probes = set_at o.pool.probes p (o.pool.probes p + 1) }; values = o.values })
+  probed holds held items held_is few in_range =
+      let cs : List (Participant Stay) = s.competitors.items in
+      let new : Stay = record { probes = probes; held = holds } in
+      let more = set_at o.pool.probes p (o.pool.probes p + 1) in
+      let stay : IsStay o.pool.size (more p) new = record {
+        counted = set_at-same o.pool.probes p (o.pool.probes p + 1) ∙ ap (λ x. x + 1) (h.probes p old is) ∙ sym one_more;
+        few = λ e. rw one_more (few e);
+        in_range = in_range;
+      } in
+      holds_so s s' o p (Some new) o.pool.competing held more h (λ q. ap (program_of q) items ∙ program_of-put cs p old new is q) size values
+      (h.competing ∙ sym (identities-put cs (beginner p new)) ∙ sym (ap identities items)) (rw items (distinct_put cs (beginner p new) h.apart)) held_is stay (set_at-other o.pool.probes p (o.pool.probes p + 1))
 
-fewer_than : (probes size more : ℕ) → probes < last_probe size → size < more → probes < last_probe more
-fewer_than probes size more few wider = omega arith
+  pub missed : o.pool.probes p + 1 ≢ last_probe o.pool.size → s'.competitors.items ≡ with_participant (beginner p (record { probes = probes; held = None })) s.competitors.items →
+      HoldsSlots s' (slots_after o (Pooled (Probed p (Ok probe.Missed))))
+  missed more items =
+      let few = h.few p old is unheld in
+      let counted = h.probes p old is in
+      probed None o.pool.held items (seen_kept held_by o.pool.held (λ v. program_of v s.competitors.items) p (Some _) h.held (ap held_by is ∙ unheld)) (λ _. omega arith) (λ n e. absurd (cc))
+
+  pub got : (n : ℕ) → IsFree o.pool n → s'.competitors.items ≡ with_participant (beginner p (record { probes = probes; held = Some n })) s.competitors.items →
+      HoldsSlots s' (slots_after o (Pooled (Probed p (Ok (probe.Got n)))))
+  got n free items =
+      probed (Some n) (set_at o.pool.held p (Some n)) items (seen_set held_by o.pool.held (λ v. program_of v s.competitors.items) p (Some _) (Some n) h.held refl) (λ e. absurd (cc))
+      (λ m e. let same : n ≡ m = cc in subst (λ (x : ℕ). (1 ≤ x) × (x ≤ o.pool.size)) same (free.first, free.last))
+
+-- ---- a pool that gets more numbers, each with a slot that holds 0
 
 pub widened : (s s' : Stays) (o : SlotsObject ℕ) (more : ℕ) → HoldsSlots s o → widen_refusal o.pool.size more ≡ None → s'.competitors.items ≡ s.competitors.items →
     s'.size ≡ more → s'.values.items ≡ take more s.values.items ++ replicate (more - length s.values.items) 0 → HoldsSlots s' (widened_to more o)
@@ -298,14 +195,14 @@ widened s s' o more h none items size values =
       size_is = size;
       low = omega arith;
       high = may.1;
-      competing = h.competing ∙ sym (ap (map (λ v. v.identity)) items);
+      competing = h.competing ∙ sym (ap identities items);
       competes = (λ q. h.competes q ∙ sym (ap is_some (who q)));
       crowd = h.crowd ∙ sym (ap length items);
       held = (λ q. h.held q ∙ sym (ap held_by (who q)));
       probes = (λ q stay is. h.probes q stay (sym (who q) ∙ is));
-      few = (λ q stay is unheld. fewer_than stay.probes o.pool.size more (h.few q stay (sym (who q) ∙ is) unheld) wider);
+      few = (λ q stay is unheld. let few = h.few q stay (sym (who q) ∙ is) unheld in omega arith);
       in_range = (λ q stay n is has. let r = h.in_range q stay n (sym (who q) ∙ is) has in let last = r.1 in (r.0, omega arith));
       apart = rw items h.apart;
-      values = sym (values ∙ ap (λ xs. take more xs ++ replicate (more - length xs) 0) old ∙ ap (λ xs. xs ++ replicate (more - length o.values) 0) (take_all o.values more (omega arith)));
+      values = sym (values ∙ ap (λ xs. take more xs ++ replicate (more - length xs) 0) old ∙ ap (λ xs. xs ++ replicate (more - length o.values) 0) (take_all more o.values (omega arith)));
       many = omega (arith, length-append o.values (replicate (more - length o.values) 0), length-replicate {A = ℕ} (more - length o.values) 0, many, wider);
     }

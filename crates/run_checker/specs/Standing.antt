@@ -1,7 +1,7 @@
 -- what is kept of the renaming object
-use Rattle.std.specs.Prelude.{◌≡◌, ℕ, ◌<◌, ◌≤◌, ◌==◌, if◌then◌else◌, Bool, false, List, [], ◌∷◌, length, Option, Some, None, is_some, slice_index}
+use Rattle.std.specs.Prelude.{◌≡◌, ℕ, ◌<◌, ◌≤◌, ◌==◌, if◌then◌else◌, Bool, false, List, length, Option, Some, None, is_some, option_and_then, option_map, slice_index}
 use Rattle.step_memory.specs.declared.participant.Participant.{Participant}
-use Rattle.step_memory.specs.Participant.{participant_of, program_of}
+use Rattle.step_memory.specs.Participant.{AreDistinct, program_of}
 use Rattle.rename_core.specs.RenameObject.{RenameTerms, RenameObject, new_object, after_step}
 use Rattle.rename_core.specs.declared.reply.Reply.TheVariants as step
 use Rattle.run_checker.specs.declared.moments.Moments.{Moments}
@@ -11,20 +11,17 @@ use Rattle.run_checker.specs.declared.names.Names.{Names}
 use Rattle.run_checker.specs.Moments.{HoldsMoments}
 
 abbrev pub place_of : Option Standing → Option ℕ
-place_of None = None
-place_of (Some s) = s.place
+place_of standing = option_and_then (λ s. s.place) standing
 
 abbrev pub name_of : Option Standing → Option ℕ
-name_of None = None
-name_of (Some s) = s.name
+name_of standing = option_and_then (λ s. s.name) standing
 
 abbrev pub spent_of : Option Standing → Bool
 spent_of None = false
 spent_of (Some s) = s.spent
 
 abbrev pub turn_of : Option Standing → Option Turn
-turn_of None = None
-turn_of (Some s) = Some s.turn
+turn_of standing = option_map (λ s. s.turn) standing
 
 abbrev pub count_of : Option Turn → ℕ
 count_of None = 0
@@ -48,11 +45,6 @@ abbrev pub is_held : ℕ → Option ℕ → Bool
 is_held n None = false
 is_held n (Some m) = m == n
 
--- no two have one identity
-abbrev pub Apart : {P : Type 0} → List (Participant P) → Type 0
-Apart [] = Unit {0}
-Apart (v ∷ vs) = (participant_of v.identity vs ≡ None) × Apart vs
-
 -- the participants are those that have begun, with what they have
 pub record HoldsPeople (ps : List (Participant Standing)) (o : RenameObject) : Type 0 where
   pub many : o.many ≡ length ps
@@ -60,7 +52,7 @@ pub record HoldsPeople (ps : List (Participant Standing)) (o : RenameObject) : T
   pub place : (q : ℕ) → o.place q ≡ place_of (program_of q ps)
   pub name : (q : ℕ) → o.name q ≡ name_of (program_of q ps)
   pub spent : (q : ℕ) → o.spent q ≡ spent_of (program_of q ps)
-  pub apart : Apart ps
+  pub apart : AreDistinct ps
 
 -- someone has this seat
 pub record IsTaken (turns : ℕ → Option Turn) (seat : ℕ) : Type 0 where

@@ -1,6 +1,6 @@
 -- what is kept of the pool and the slots
-use Rattle.std.specs.Prelude.{◌≡◌, ℕ, ◌-◌, ◌<◌, ◌≤◌, max, map, length, Option, Some, None, Ok, is_some}
-use Rattle.step_memory.specs.Participant.{program_of}
+use Rattle.std.specs.Prelude.{◌≡◌, ℕ, ◌-◌, ◌<◌, ◌≤◌, max, length, Option, Some, None, Ok, is_some, option_and_then}
+use Rattle.step_memory.specs.Participant.{AreDistinct, identities, program_of}
 use Rattle.bit_allocator.specs.Calls.Call.{Probed, Left}
 use Rattle.bit_allocator.specs.PoolObject.{competes}
 use Rattle.bit_allocator.specs.declared.probe.Probe.TheVariants as probe
@@ -8,11 +8,9 @@ use Rattle.slot_array.specs.SlotCalls.SlotCall.{Pooled, Stored, Extended}
 use Rattle.slot_array.specs.SlotsObject.{SlotsObject, slots_after}
 use Rattle.run_checker.specs.declared.stays.Stay.{Stay}
 use Rattle.run_checker.specs.declared.stays.Stays.{Stays}
-use Rattle.run_checker.specs.Standing.{Apart}
 
 abbrev pub held_by : Option Stay → Option ℕ
-held_by None = None
-held_by (Some stay) = stay.held
+held_by stay = option_and_then (λ s. s.held) stay
 
 -- the last number of a probe that is missed by nobody who is let in
 abbrev pub last_probe : ℕ → ℕ
@@ -23,14 +21,14 @@ pub record HoldsSlots (s : Stays) (o : SlotsObject ℕ) : Type 0 where
   pub size_is : s.size ≡ o.pool.size
   pub low : 1 ≤ o.pool.size
   pub high : o.pool.size ≤ 64
-  pub competing : o.pool.competing ≡ map (λ v. v.identity) s.competitors.items
+  pub competing : o.pool.competing ≡ identities s.competitors.items
   pub competes : (q : ℕ) → competes o.pool q ≡ is_some (program_of q s.competitors.items)
   pub crowd : length o.pool.competing ≡ length s.competitors.items
   pub held : (q : ℕ) → o.pool.held q ≡ held_by (program_of q s.competitors.items)
   pub probes : (q : ℕ) (stay : Stay) → program_of q s.competitors.items ≡ Some stay → o.pool.probes q ≡ stay.probes
   pub few : (q : ℕ) (stay : Stay) → program_of q s.competitors.items ≡ Some stay → stay.held ≡ None → stay.probes < last_probe o.pool.size
   pub in_range : (q : ℕ) (stay : Stay) (n : ℕ) → program_of q s.competitors.items ≡ Some stay → stay.held ≡ Some n → (1 ≤ n) × (n ≤ o.pool.size)
-  pub apart : Apart s.competitors.items
+  pub apart : AreDistinct s.competitors.items
   pub values : o.values ≡ s.values.items
   pub many : length o.values ≡ o.pool.size
 

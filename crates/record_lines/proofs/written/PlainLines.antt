@@ -52,7 +52,8 @@ spelled : (c r : List ℕ) (shown : Option (List ℕ)) → front ++ (c ++ (to_re
 spelled c r None = grouped (codes "\"") front c (codes ",\"reply\":\"") r (codes "}")
 spelled c r (Some v) = grouped_with (codes "\"") front c (codes ",\"reply\":\"") r (codes ",\"view\":\"") v (codes "}")
 
-texts_are : (c r : List ℕ) (shown : Option (List ℕ)) → AreTexts (line_data c r shown) c r shown
+-- the object of a line has its texts
+pub texts_are : (c r : List ℕ) (shown : Option (List ℕ)) → AreTexts (line_data c r shown) c r shown
 texts_are c r None = record { keys = refl; command_is = refl; reply_is = refl; view_is = tt }
 texts_are c r (Some v) = record { keys = refl; command_is = refl; reply_is = refl; view_is = refl }
 

@@ -6,7 +6,7 @@ use Rattle.std.proofs.lemmas.Fmt.{length-decimal-le_wide}
 use Rattle.step_memory.specs.View.{IsAbove, IsRising}
 use Rattle.step_memory.specs.Refusal.{refusal_number}
 use Rattle.step_memory.specs.declared.refusal.Refusal.{Refusal}
-use Rattle.step_memory.specs.declared.refusal.Refusal.TheVariants.{ZeroIdentity, AlreadyBegun, Full, NotBegun, Finished, Spent as IsSpent, Crowded, NotCompeting, AlreadyCompeting, Holding, NotHolding, NoMemory, HistoryFull, OutOfRange}
+use Rattle.step_memory.specs.declared.refusal.Refusal.TheVariants.{ZeroIdentity}
 use Rattle.commands.specs.Replies.{ShownReply}
 use Rattle.commands.specs.declared.reply.Reply.TheVariants as reply
 use Rattle.player.specs.Replies.{pair_word, pair_words, view_words, reply_words}
@@ -52,35 +52,16 @@ saw_read (pair ∷ more) s = ap (option_map told.Saw) (read_pairs 0 (pair ∷ mo
 
 refusal_small : (why : Refusal) → refusal_number why < 15
 refusal_small ZeroIdentity = omega arith
-refusal_small AlreadyBegun = omega arith
-refusal_small Full = omega arith
-refusal_small NotBegun = omega arith
-refusal_small Finished = omega arith
-refusal_small IsSpent = omega arith
-refusal_small Crowded = omega arith
-refusal_small NotCompeting = omega arith
-refusal_small AlreadyCompeting = omega arith
-refusal_small Holding = omega arith
-refusal_small NotHolding = omega arith
-refusal_small NoMemory = omega arith
-refusal_small HistoryFull = omega arith
-refusal_small OutOfRange = omega arith
+refusal_small why = omega arith
 
 -- the words of a reply tell it, without the view by which a name was given
 pub reply_tells : (r : ShownReply) → IsNarrowReply r → told_in (reply_words r) ≡ Some (told_of false r)
-reply_tells reply.Ok h = refl
-reply_tells reply.Quiet h = refl
-reply_tells reply.Stop h = refl
-reply_tells reply.Right h = refl
-reply_tells reply.Down h = refl
 reply_tells (reply.Place place) h = ap (λ (l : List (List ℕ)). told_of_words (codes "place" ∷ l)) (number_word [] place (omega arith)) ∙ rw (read_decimal (2 ^ 128) place h (omega arith)) refl
 reply_tells (reply.Proposed number) h = ap (λ (l : List (List ℕ)). told_of_words (codes "proposed" ∷ l)) (number_word [] number (omega arith)) ∙ rw (number_in-decimal number h) refl
 reply_tells (reply.Saw view) h = ap told_of_words (pieces_of_pairs (codes "saw") view h.narrow) ∙ saw_read view h
 reply_tells (reply.Named name view) h =
     let small = h.0 in
     ap (λ (l : List (List ℕ)). told_of_words (codes "named" ∷ l)) (number_word [] name (omega arith)) ∙ rw (number_in-decimal name h.0) refl
-reply_tells reply.Spent h = refl
-reply_tells reply.Missed h = refl
 reply_tells (reply.Got number) h = ap (λ (l : List (List ℕ)). told_of_words (codes "got" ∷ l)) (number_word [] number (omega arith)) ∙ rw (number_in-decimal number h) refl
 reply_tells (reply.Left number) h = ap (λ (l : List (List ℕ)). told_of_words (codes "left" ∷ l)) (number_word [] number (omega arith)) ∙ rw (number_in-decimal number h) refl
 reply_tells (reply.Value value) h = ap (λ (l : List (List ℕ)). told_of_words (codes "value" ∷ l)) (number_word [] value (omega arith)) ∙ rw (number_in-decimal value h) refl
@@ -88,6 +69,7 @@ reply_tells (reply.Owner owner) h = absurd h
 reply_tells (reply.Refused why) h =
     let small = refusal_small why in
     ap (λ (l : List (List ℕ)). told_of_words (codes "refused" ∷ l)) (number_word [] (refusal_number why) (omega arith)) ∙ rw (number_in-decimal (refusal_number why) (omega arith)) refl
+reply_tells r h = refl
 
 pairs_plain : (view : List (ℕ × ℕ)) → AreNarrow view → list_all is_plain (pair_words view) ≡ true
 pairs_plain [] h = refl
@@ -100,22 +82,16 @@ pairs_plain (pair ∷ more) h =
 
 -- they are plain
 pub reply_plain : (r : ShownReply) → IsNarrowReply r → list_all is_plain (reply_words r) ≡ true
-reply_plain reply.Ok h = refl
-reply_plain reply.Quiet h = refl
-reply_plain reply.Stop h = refl
-reply_plain reply.Right h = refl
-reply_plain reply.Down h = refl
 reply_plain (reply.Place place) h = word_plain (codes "place ") place refl (omega arith)
 reply_plain (reply.Proposed number) h = word_plain (codes "proposed ") number refl (omega arith)
 reply_plain (reply.Saw view) h = plain_both (codes "saw") (pair_words view) refl (pairs_plain view h.narrow)
 reply_plain (reply.Named name view) h = let small = h.0 in word_plain (codes "named ") name refl (omega arith)
-reply_plain reply.Spent h = refl
-reply_plain reply.Missed h = refl
 reply_plain (reply.Got number) h = word_plain (codes "got ") number refl (omega arith)
 reply_plain (reply.Left number) h = word_plain (codes "left ") number refl (omega arith)
 reply_plain (reply.Value value) h = word_plain (codes "value ") value refl (omega arith)
 reply_plain (reply.Owner owner) h = absurd h
 reply_plain (reply.Refused why) h = let small = refusal_small why in word_plain (codes "refused ") (refusal_number why) refl (omega arith)
+reply_plain r h = refl
 
 pairs_short : (view : List (ℕ × ℕ)) → AreNarrow view → length (pair_words view) ≤ 42 * length view
 pairs_short [] h = omega arith
@@ -123,29 +99,20 @@ pairs_short (pair ∷ more) h =
     let id = short_decimal pair.0 h.0 in
     let number = short_decimal pair.1 h.1 in
     let rest = pairs_short more h.2 in
-    let whole = length-append (codes " " ++ decimal pair.0 ++ codes ":" ++ decimal pair.1) (pair_words more) in
-    let two = length-append (codes " " ++ decimal pair.0 ++ codes ":") (decimal pair.1) in
-    let one = length-append (codes " " ++ decimal pair.0) (codes ":") in
-    omega arith
+    simp length-append (omega arith)
 
 -- and not long
 pub reply_short : (r : ShownReply) → IsNarrowReply r → length (reply_words r) ≤ 2691
-reply_short reply.Ok h = omega arith
-reply_short reply.Quiet h = omega arith
-reply_short reply.Stop h = omega arith
-reply_short reply.Right h = omega arith
-reply_short reply.Down h = omega arith
 reply_short (reply.Place place) h = omega (arith, length-decimal-le_wide 39 place (omega arith) (omega arith) (omega arith))
 reply_short (reply.Proposed number) h = omega (arith, short_decimal number h)
 reply_short (reply.Saw view) h = let few = h.few in omega (arith, pairs_short view h.narrow)
 reply_short (reply.Named name view) h = omega (arith, short_decimal name h.0)
-reply_short reply.Spent h = omega arith
-reply_short reply.Missed h = omega arith
 reply_short (reply.Got number) h = omega (arith, short_decimal number h)
 reply_short (reply.Left number) h = omega (arith, short_decimal number h)
 reply_short (reply.Value value) h = omega (arith, short_decimal value h)
 reply_short (reply.Owner owner) h = absurd h
 reply_short (reply.Refused why) h = let small = refusal_small why in omega (arith, short_decimal (refusal_number why) (omega arith))
+reply_short r h = omega arith
 
 -- ---- the view beside a name
 
@@ -188,16 +155,11 @@ view_short (pair ∷ more) h =
     let id = short_decimal pair.0 h.0 in
     let number = short_decimal pair.1 h.1 in
     let rest = pairs_short more h.2 in
-    let whole = length-append (pair_word pair) (pair_words more) in
-    let two = length-append (decimal pair.0 ++ codes ":") (decimal pair.1) in
-    let one = length-append (decimal pair.0) (codes ":") in
-    omega arith
+    simp length-append (omega arith)
 
 pub shown_short : (r : ShownReply) → IsNarrowReply r → length (shown_text (shown_of r)) ≤ 2706
 shown_short (reply.Named name view) h =
     let few = h.1.few in
     let short = view_short view h.1.narrow in
-    let whole = length-append (codes ",\"view\":\"" ++ view_words view) (codes "\"") in
-    let start = length-append (codes ",\"view\":\"") (view_words view) in
-    omega arith
+    simp length-append (omega arith)
 shown_short r h = omega arith

@@ -1,45 +1,40 @@
 -- the lines of a record, with what is gathered of them
-use Rattle.std.proofs.Common.{Bor, MatchOption, ◌≡◌, ℕ, ◌+◌, ◌<◌, List, [], ◌∷◌, ◌++◌, Option, Some, None, ap, ◌∙◌, subst}
+use Rattle.std.proofs.Common.{Bor, MatchOption, ◌≡◌, ℕ, ◌+◌, ◌<◌, List, [], ◌∷◌, Option, Some, None, ap, ◌∙◌, subst}
 use Rattle.std.specs.Option.{option_copied}
 use Rattle.commands.specs.declared.config.Config.{Config}
 use Rattle.record_lines.specs.declared.header.Header.{Header}
 use Rattle.record_lines.specs.declared.line.Line.{Line}
-use Rattle.record_lines.specs.RecordLine.{IsEventLine}
+use Rattle.record_lines.specs.RecordLine.{FindsLine, IsEventLine}
 use Rattle.record_lines.specs.Records.{record_lines, lines_left}
 use Rattle.run_checker.specs.declared.checker.Checker.{Checker}
 use Rattle.run_checker.specs.declared.reason.Reason.{Reason}
-use Rattle.run_checker.specs.Config.{terms_of}
 use Rattle.run_checker.specs.Gathered.{Gathers, AreGathered}
-use Rattle.run_checker.specs.Judged.{HasTaken, TakesOn, TakesMore}
+use Rattle.run_checker.specs.Judged.{TakesMore}
 use Rattle.run_checker.specs.Verdict.{HasHeader, LacksHeader}
 use Rattle.run_checker.specs.SoFar.{RowsSoFar}
-use Rattle.run_checker.proofs.records.Rows.{all_rows, next_row, row_few, row_judged}
+use Rattle.run_checker.proofs.records.Rows.{all_rows, next_row}
 
 -- the rows so far were read, taken and gathered, and these are left
 pub record GatheredSoFar {G : Type 0} (IsOf : Config → List Line → G → Type 0) (first : G) (h : Header) (rows left : List (List ℕ)) (checker : Checker) (number : ℕ) (g : G) : Type 0 where
   pub so_far : RowsSoFar h rows left checker number
   pub gathered : IsOf h.config [] first → IsOf h.config so_far.lines g
 
-module _ {G : Type 0} (IsOf : Config → List Line → G → Type 0) (first : G) (h : Header) (rows : List (List ℕ)) (checker : Checker) (number : ℕ) (g : G) where
+module _ {G : Type 0} {IsOf : Config → List Line → G → Type 0} {first : G} {h : Header} {rows : List (List ℕ)} {checker : Checker} {number : ℕ} {g : G} where
   pub all_gathered : GatheredSoFar IsOf first h rows [] checker number g → IsOf h.config [] first → AreGathered h rows (λ lines. IsOf h.config lines g)
-  all_gathered s start = record { run = all_rows h rows checker number s.so_far; gathered = s.gathered start }
-
-  -- one more row, of which the line was taken and gathered
-  pub row_gathered : (new : Checker) (g' : G) (row : List ℕ) (more : List (List ℕ)) (l : Line) (said : Option Reason) → (s : GatheredSoFar IsOf first h rows (row ∷ more) checker number g) → (early : number < 1000002) →
-      (says : IsEventLine h.config.world h.version row l) → (judged : TakesMore l checker said new) → said ≡ None → Gathers IsOf l g g' → GatheredSoFar IsOf first h rows more new (number + 1) g'
-  row_gathered new g' row more l said s early says judged is gathers =
-      let few = row_few h rows checker new number row more l said s.so_far early says judged in
-      let taken : HasTaken (terms_of h.config) h.config.k (s.so_far.lines ++ l ∷ []) new =
-      subst (λ (o : Option Reason). TakesOn (terms_of h.config) h.config.k s.so_far.lines l o new) is (row_judged h rows checker new number row more l said s.so_far early says judged) in
-      record {
-        so_far = next_row h rows checker number row more l new s.so_far few says taken;
-        gathered = λ start. gathers h.config s.so_far.lines taken.object (s.gathered start) taken.run;
-      }
+  all_gathered s start = record { run = all_rows s.so_far; gathered = s.gathered start }
 
   -- what is left begins with this row
-  pub row_here : (left : Option (List ℕ)) (bytes row : List ℕ) (more : List (List ℕ)) → GatheredSoFar IsOf first h rows (lines_left left) checker number g → left ≡ Some bytes → record_lines bytes ≡ row ∷ more →
+  pub row_here : (left : Option (List ℕ)) {bytes row : List ℕ} {more : List (List ℕ)} → GatheredSoFar IsOf first h rows (lines_left left) checker number g → left ≡ Some bytes → record_lines bytes ≡ row ∷ more →
       GatheredSoFar IsOf first h rows (row ∷ more) checker number g
-  row_here left bytes row more s is e = subst (λ (l : List (List ℕ)). GatheredSoFar IsOf first h rows l checker number g) (ap (λ (o : Option (List ℕ)). lines_left o) is ∙ e) s
+  row_here left s is e = subst (λ (l : List (List ℕ)). GatheredSoFar IsOf first h rows l checker number g) (ap (λ (o : Option (List ℕ)). lines_left o) is ∙ e) s
+
+  -- one more row, of which the line was taken and gathered
+  pub row_gathered : {row : List ℕ} {more : List (List ℕ)} → GatheredSoFar IsOf first h rows (row ∷ more) checker number g → number < 1000002 → {found : Option Line} {l : Line} → found ≡ Some l →
+      FindsLine (IsEventLine h.config.world h.version row) found →
+      (new : Checker) → {said : Option Reason} → TakesMore l checker said new → said ≡ None → {g' : G} → Gathers IsOf l g g' → GatheredSoFar IsOf first h rows more new (number + 1) g'
+  row_gathered s early is read new judged none gathers =
+      let next = next_row s.so_far early is read new judged none in
+      record { so_far = next; gathered = λ start. gathers h.config s.so_far.lines next.taken.object (s.gathered start) next.taken.run }
 
 -- what is known of the first line and the others, where a header was read
 pub header_found : (lines : List (List ℕ)) (found : Option (Header × Option (Bor (List ℕ)))) (header : Header) (rows : Option (Bor (List ℕ))) → found ≡ Some (header, rows) →

@@ -56,12 +56,6 @@ module _ (terms : RenameTerms) (o : DeskObject) (f : Firsts) (h : HoldsFirsts f 
   }
 
   choose_for : (c : DeskCall) (b : Bool) → AllowsCall terms o c → Chosen terms o f (line_of b (exchange_of c))
-  choose_for (Renamed (Began p (Ok done))) b a = plain (Renamed (Began p (Ok done))) b a tt tt
-  choose_for (Renamed (Began p (Err why))) b a = plain (Renamed (Began p (Err why))) b a tt tt
-  choose_for (Renamed (Stepped p (Ok step.Quiet))) b a = plain (Renamed (Stepped p (Ok step.Quiet))) b a tt tt
-  choose_for (Renamed (Stepped p (Ok (step.Placed x)))) b a = plain (Renamed (Stepped p (Ok (step.Placed x)))) b a tt tt
-  choose_for (Renamed (Stepped p (Ok (step.Proposed n)))) b a = plain (Renamed (Stepped p (Ok (step.Proposed n)))) b a tt tt
-  choose_for (Renamed (Stepped p (Ok (step.Saw view)))) b a = plain (Renamed (Stepped p (Ok (step.Saw view)))) b a tt tt
   choose_for (Renamed (Stepped p (Ok (step.Named n view)))) true a = plain (Renamed (Stepped p (Ok (step.Named n view)))) true a tt refl
   choose_for (Renamed (Stepped p (Ok (step.Named n view)))) false a =
       let k = first_view o.names f p n view h a.1.1 in
@@ -70,23 +64,15 @@ module _ (terms : RenameTerms) (o : DeskObject) (f : Firsts) (h : HoldsFirsts f 
         telling = record { allowed = (a.0, (a.1.0, k.2.shows, a.1.2)); spelled = record { shows = false; spelled = refl }; first = k.2 };
         shown = ap (λ (x : Option (List (ℕ × ℕ))). unwrap_or x []) k.1;
       }
-  choose_for (Renamed (Stepped p (Ok step.Spent))) b a = plain (Renamed (Stepped p (Ok step.Spent))) b a tt tt
-  choose_for (Renamed (Stepped p (Err why))) b a = plain (Renamed (Stepped p (Err why))) b a tt tt
-  choose_for (Slotted (Pooled (Entered p (Ok done)))) b a = plain (Slotted (Pooled (Entered p (Ok done)))) b a tt tt
+  choose_for (Renamed (Began p (Err why))) b a = plain (Renamed (Began p (Err why))) b a tt tt
   choose_for (Slotted (Pooled (Entered p (Err why)))) b a = plain (Slotted (Pooled (Entered p (Err why)))) b a tt tt
   choose_for (Slotted (Pooled (Probed p (Ok probe.Missed)))) b a = plain (Slotted (Pooled (Probed p (Ok probe.Missed)))) b a tt tt
-  choose_for (Slotted (Pooled (Probed p (Ok (probe.Got n))))) b a = plain (Slotted (Pooled (Probed p (Ok (probe.Got n))))) b a tt tt
-  choose_for (Slotted (Pooled (Probed p (Err why)))) b a = plain (Slotted (Pooled (Probed p (Err why)))) b a tt tt
-  choose_for (Slotted (Pooled (Left p (Ok n)))) b a = plain (Slotted (Pooled (Left p (Ok n)))) b a tt tt
   choose_for (Slotted (Pooled (Left p (Err why)))) b a = plain (Slotted (Pooled (Left p (Err why)))) b a tt tt
-  choose_for (Slotted (Pooled (Widened more (Ok done)))) b a = plain (Slotted (Pooled (Widened more (Ok done)))) b a tt tt
   choose_for (Slotted (Pooled (Widened more (Err why)))) b a = plain (Slotted (Pooled (Widened more (Err why)))) b a tt tt
-  choose_for (Slotted (Stored p value (Ok done))) b a = plain (Slotted (Stored p value (Ok done))) b a tt tt
   choose_for (Slotted (Stored p value (Err why))) b a = plain (Slotted (Stored p value (Err why))) b a tt tt
-  choose_for (Slotted (Fetched p (Ok v))) b a = plain (Slotted (Fetched p (Ok v))) b a tt tt
   choose_for (Slotted (Fetched p (Err why))) b a = plain (Slotted (Fetched p (Err why))) b a tt tt
-  choose_for (Slotted (Extended more v (Ok done))) b a = plain (Slotted (Extended more v (Ok done))) b a tt tt
   choose_for (Slotted (Extended more v (Err why))) b a = plain (Slotted (Extended more v (Err why))) b a tt tt
+  choose_for c b a = plain c b a tt tt
 
   choose : (l : Line) → CanFollow terms o l → Chosen terms o f l
   choose l k = subst (Chosen terms o f) k.spelled.spelled (choose_for k.call k.spelled.shows k.allowed)
@@ -125,29 +111,12 @@ unchanged f f' o e h = subst (λ (x : Firsts). HoldsFirsts x o) (sym e) h
 
 firsts_after : (f f' : Firsts) (o : DeskObject) (c : DeskCall) (b : Bool) → HoldsFirsts f o.names → GoesOn (proposal_of (exchange_of c).event (told_of b (exchange_of c).reply)) f f' → HoldsFirsts f' (after_call o c).names
 firsts_after f f' o (Renamed (Began p (Ok done))) b h g = unchanged f f' _ g (elsewhere f o.names _ _ _ _ _ _ h)
-firsts_after f f' o (Renamed (Began p (Err why))) b h g = unchanged f f' _ g h
-firsts_after f f' o (Renamed (Stepped p (Ok step.Quiet))) b h g = unchanged f f' _ g h
 firsts_after f f' o (Renamed (Stepped p (Ok (step.Placed x)))) b h g = unchanged f f' _ g (elsewhere f o.names _ _ _ _ _ _ h)
 firsts_after f f' o (Renamed (Stepped p (Ok (step.Proposed n)))) b h g = g o.names h
-firsts_after f f' o (Renamed (Stepped p (Ok (step.Saw view)))) b h g = unchanged f f' _ g h
 firsts_after f f' o (Renamed (Stepped p (Ok (step.Named n view)))) b h g = unchanged f f' _ g (elsewhere f o.names _ _ _ _ _ _ h)
 firsts_after f f' o (Renamed (Stepped p (Ok step.Spent))) b h g = unchanged f f' _ g (elsewhere f o.names _ _ _ _ _ _ h)
-firsts_after f f' o (Renamed (Stepped p (Err why))) b h g = unchanged f f' _ g h
-firsts_after f f' o (Slotted (Pooled (Entered p (Ok done)))) b h g = unchanged f f' _ g h
-firsts_after f f' o (Slotted (Pooled (Entered p (Err why)))) b h g = unchanged f f' _ g h
-firsts_after f f' o (Slotted (Pooled (Probed p (Ok probe.Missed)))) b h g = unchanged f f' _ g h
-firsts_after f f' o (Slotted (Pooled (Probed p (Ok (probe.Got n))))) b h g = unchanged f f' _ g h
-firsts_after f f' o (Slotted (Pooled (Probed p (Err why)))) b h g = unchanged f f' _ g h
-firsts_after f f' o (Slotted (Pooled (Left p (Ok n)))) b h g = unchanged f f' _ g h
-firsts_after f f' o (Slotted (Pooled (Left p (Err why)))) b h g = unchanged f f' _ g h
-firsts_after f f' o (Slotted (Pooled (Widened more (Ok done)))) b h g = unchanged f f' _ g h
-firsts_after f f' o (Slotted (Pooled (Widened more (Err why)))) b h g = unchanged f f' _ g h
-firsts_after f f' o (Slotted (Stored p value (Ok done))) b h g = unchanged f f' _ g h
-firsts_after f f' o (Slotted (Stored p value (Err why))) b h g = unchanged f f' _ g h
-firsts_after f f' o (Slotted (Fetched p (Ok v))) b h g = unchanged f f' _ g h
-firsts_after f f' o (Slotted (Fetched p (Err why))) b h g = unchanged f f' _ g h
-firsts_after f f' o (Slotted (Extended more v (Ok done))) b h g = unchanged f f' _ g h
-firsts_after f f' o (Slotted (Extended more v (Err why))) b h g = unchanged f f' _ g h
+firsts_after f f' o (Slotted (Pooled (Entered p answer))) b h g = unchanged f f' _ g h
+firsts_after f f' o c b h g = unchanged f f' _ g h
 
 pub firsts_next : (f f' : Firsts) (o : DeskObject) (c : DeskCall) (l : Line) → IsLineOf (exchange_of c) l → HoldsFirsts f o.names → GoesOn (proposal_of l.event l.told) f f' → HoldsFirsts f' (after_call o c).names
 firsts_next f f' o c l w h g = firsts_after f f' o c w.shows h (subst (λ (x : Line). GoesOn (proposal_of x.event x.told) f f') (sym w.spelled) g)

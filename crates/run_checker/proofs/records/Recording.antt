@@ -2,21 +2,15 @@
 use Rattle.std.proofs.Common.{◌≡◌, ℕ, true, List, [], ◌∷◌, map, length, Option, Some, Ok, Err, inl, inr, refl, sym, ap, ◌∙◌, subst, arith, ◌≤◌}
 use Rattle.std.specs.Io.KnownBytes.{Appends}
 use Rattle.commands.specs.declared.config.Config.{Config}
-use Rattle.commands.specs.declared.kind.WorldKind.{WorldKind}
-use Rattle.commands.specs.Config.{gives_names}
-use Rattle.desk.specs.Desk.{IsFreshDesk}
-use Rattle.desk.specs.DeskRun.{IsDeskRunOf}
 use Rattle.desk.proofs.DeskLaws as desk
 use Rattle.player.specs.declared.summary.Summary.{Summary}
 use Rattle.player.specs.Asked.{asked_by}
-use Rattle.schedule_player.specs.DeskWorld.{DeskWorldMay}
 use Rattle.schedule_player.specs.IsTalk.{IsTalk}
 use Rattle.schedule_player.specs.IsTalkProofs.{is_desk_talk}
 use Rattle.player.specs.Lines.{lines}
 use Rattle.player.specs.Played.{Reading, Writing, IsInput, PlayedToEnd}
 use Rattle.schedule_player.specs.Recorded.{IsRecorded}
 use Rattle.player.specs.Records.{record_of}
-use Rattle.schedule_player.specs.Talks.{IsTalkOf}
 use Rattle.player.specs.Turns.{Turn, asked, exchanges}
 use Rattle.player.specs.Turns.Turn.{Answered, Told, Ended, Misread}
 use Rattle.run_checker.specs.declared.verdict.Verdict.TheVariants.{Yes}

@@ -1,7 +1,6 @@
 -- the lines of a record, one after the other
-use Rattle.std.proofs.Common.{◌≡◌, ℕ, suc, ◌+◌, ◌<◌, ◌≤◌, List, [], ◌∷◌, ◌++◌, length, Option, Some, sym, ap, ◌∙◌, subst, arith, length-append, append_assoc, refl}
+use Rattle.std.proofs.Common.{◌≡◌, ℕ, suc, ◌+◌, ◌<◌, ◌≤◌, List, [], ◌∷◌, ◌++◌, length, Option, Some, None, sym, ap, ◌∙◌, subst, arith, length-append, append_assoc, refl}
 use Rattle.std.proofs.lemmas.List.{append-nil}
-use Rattle.std.specs.Prelude.{MatchOption}
 use Rattle.commands.specs.declared.kind.WorldKind.{WorldKind}
 use Rattle.run_checker.specs.declared.checker.Checker.{Checker}
 use Rattle.record_lines.specs.declared.header.Header.{Header}
@@ -9,8 +8,8 @@ use Rattle.record_lines.specs.declared.header.Version.{Version}
 use Rattle.record_lines.specs.declared.line.Line.{Line}
 use Rattle.run_checker.specs.declared.reason.Reason.{Reason}
 use Rattle.run_checker.specs.Config.{terms_of}
-use Rattle.run_checker.specs.Judged.{HasTaken, IsFaultAfter, TakesOn, TakesMore}
-use Rattle.record_lines.specs.RecordLine.{IsEventLine}
+use Rattle.run_checker.specs.Judged.{TakesOn, TakesMore}
+use Rattle.record_lines.specs.RecordLine.{FindsLine, IsEventLine}
 use Rattle.record_lines.specs.Records.{AreRead}
 use Rattle.run_checker.specs.SoFar.{RowsSoFar}
 use Rattle.run_checker.specs.Verdict.{SpellRun, IsFaultyRow, IsBadRow}
@@ -29,7 +28,7 @@ read_length kind version [] (l ∷ ls) r = absurd r
 read_length kind version (row ∷ rows) [] r = absurd r
 read_length kind version (row ∷ rows) (l ∷ ls) r = ap suc (read_length kind version rows ls r.1)
 
-module _ (h : Header) (rows : List (List ℕ)) (checker : Checker) (number : ℕ) where
+module _ {h : Header} {rows : List (List ℕ)} {checker : Checker} {number : ℕ} where
   abbrev pub all_rows : RowsSoFar h rows [] checker number → SpellRun h rows
   all_rows s = record {
     lines = s.lines;
@@ -41,43 +40,44 @@ module _ (h : Header) (rows : List (List ℕ)) (checker : Checker) (number : ℕ
       whole : s.before ≡ rows
       whole = sym (append-nil s.before) ∙ s.is
 
-  pub faulty_row : (row : List ℕ) (more : List (List ℕ)) (l : Line) (why : Reason) → (s : RowsSoFar h rows (row ∷ more) checker number) → length s.before < 1000000 → IsEventLine h.config.world h.version row l →
-      IsFaultAfter (terms_of h.config) h.config.k s.lines l why → IsFaultyRow h rows number why
-  faulty_row row more l why s few says fault = record { before = s.before; row = row; after = more; is = s.is; lines = s.lines; read = s.read; few = few; line = l; says = says; fault = fault; at = s.at }
+  module _ {row : List ℕ} {more : List (List ℕ)} (s : RowsSoFar h rows (row ∷ more) checker number) where
+    pub bad_row : (length s.before < 1000000 → (l : Line) → IsEventLine h.config.world h.version row l → ⊥) → IsBadRow h rows number
+    bad_row bad = record { before = s.before; row = row; after = more; is = s.is; lines = s.lines; read = s.read; few = s.few; run = follows_run (terms_of h.config) h.config.k s.lines s.taken.object s.taken.run; bad = bad; at = s.at }
 
-  pub bad_row : (row : List ℕ) (more : List (List ℕ)) → (s : RowsSoFar h rows (row ∷ more) checker number) → (length s.before < 1000000 → (l : Line) → IsEventLine h.config.world h.version row l → ⊥) → IsBadRow h rows number
-  bad_row row more s bad = record { before = s.before; row = row; after = more; is = s.is; lines = s.lines; read = s.read; few = s.few; run = follows_run (terms_of h.config) h.config.k s.lines s.taken.object s.taken.run; bad = bad; at = s.at }
+    -- the row was read as this line, and judged, where it is not one too many: it is the first at fault, or one more is taken
+    module _ (early : number < 1000002) where
+      pub few : length s.before < 1000000
+      few = (let at = s.at in omega arith)
 
-  abbrev pub next_row : (row : List ℕ) (more : List (List ℕ)) (l : Line) (new : Checker) → (s : RowsSoFar h rows (row ∷ more) checker number) → length s.before < 1000000 → IsEventLine h.config.world h.version row l →
-      HasTaken (terms_of h.config) h.config.k (s.lines ++ l ∷ []) new → RowsSoFar h rows more new (number + 1)
-  next_row row more l new s few says taken =
-      let a = length-append s.before (row ∷ []) in
-      let b = length-append s.lines (l ∷ []) in
-      let m = s.many in
-      let n = s.at in
-      record {
-        before = s.before ++ row ∷ [];
-        lines = s.lines ++ l ∷ [];
-        is = append_assoc s.before (row ∷ []) more ∙ s.is;
-        read = read_more h.config.world h.version s.before s.lines row l s.read says;
-        many = omega arith;
-        few = omega arith;
-        taken = taken;
-        at = omega arith;
-      }
+      module _ {found : Option Line} {l : Line} (is : found ≡ Some l) (read : FindsLine (IsEventLine h.config.world h.version row) found) where
+        pub says : IsEventLine h.config.world h.version row l
+        says = subst (FindsLine (IsEventLine h.config.world h.version row)) is read
 
--- a row is read as what was read of it
-pub line_read : (kind : WorldKind) (version : Version) (row : List ℕ) (found : Option Line) (l : Line) → found ≡ Some l → MatchOption found ((k : Line) → IsEventLine kind version row k → ⊥) (λ k. IsEventLine kind version row k) → IsEventLine kind version row l
-line_read kind version row found l is h = subst (λ (o : Option Line). MatchOption o ((k : Line) → IsEventLine kind version row k → ⊥) (λ k. IsEventLine kind version row k)) is h
+        module _ (new : Checker) {said : Option Reason} (judged : TakesMore l checker said new) where
+          pub takes : (o : Option Reason) → said ≡ o → TakesOn (terms_of h.config) h.config.k s.lines l o new
+          takes o e =
+              let at = s.at in
+              let many = s.many in
+              subst (λ (x : Option Reason). TakesOn (terms_of h.config) h.config.k s.lines l x new) e (judged (terms_of h.config) h.config.k s.lines s.taken (omega arith))
 
--- the row was read as this line, and judged, where it is not one too many: it is the first at fault, or one more is taken
-module _ (h : Header) (rows : List (List ℕ)) (checker new : Checker) (number : ℕ) (row : List ℕ) (more : List (List ℕ)) (l : Line) (said : Option Reason) (s : RowsSoFar h rows (row ∷ more) checker number) (early : number < 1000002)
-    (says : IsEventLine h.config.world h.version row l) (judged : TakesMore l checker said new) where
-  pub row_few : length s.before < 1000000
-  row_few = (let at = s.at in omega arith)
+          pub row_at_fault : {why : Reason} → said ≡ Some why → IsFaultyRow h rows number why
+          row_at_fault {why = why} e =
+              record { before = s.before; row = row; after = more; is = s.is; lines = s.lines; read = s.read; few = few; line = l; says = says; fault = takes (Some why) e; at = s.at }
 
-  pub row_judged : TakesOn (terms_of h.config) h.config.k s.lines l said new
-  row_judged = (let at = s.at in let many = s.many in judged (terms_of h.config) h.config.k s.lines s.taken (omega arith))
-
-  pub row_at_fault : (why : Reason) → said ≡ Some why → IsFaultyRow h rows number why
-  row_at_fault why is = faulty_row h rows checker number row more l why s row_few says (subst (λ (o : Option Reason). TakesOn (terms_of h.config) h.config.k s.lines l o new) is row_judged)
+          abbrev pub next_row : said ≡ None → RowsSoFar h rows more new (number + 1)
+          next_row e =
+              let a = length-append s.before (row ∷ []) in
+              let b = length-append s.lines (l ∷ []) in
+              let m = s.many in
+              let n = s.at in
+              let room = few in
+              record {
+                before = s.before ++ row ∷ [];
+                lines = s.lines ++ l ∷ [];
+                is = append_assoc s.before (row ∷ []) more ∙ s.is;
+                read = read_more h.config.world h.version s.before s.lines row l s.read says;
+                many = omega arith;
+                few = omega arith;
+                taken = takes None e;
+                at = omega arith;
+              }

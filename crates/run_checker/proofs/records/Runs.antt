@@ -1,13 +1,13 @@
 -- lines that follow one another
-use Rattle.std.proofs.Common.{◌≡◌, ℕ, zero, suc, ◌+◌, ◌<◌, ◌≤◌, ◌^◌, Bool, List, [], ◌∷◌, ◌++◌, length, map, take, Some, Err, refl, sym, ap, ◌∙◌, subst, arith, length-append, get_or, drop, drop-cons}
+use Rattle.std.proofs.Common.{◌≡◌, ℕ, suc, ◌+◌, ◌<◌, ◌≤◌, ◌^◌, Bool, List, [], ◌∷◌, ◌++◌, length, map, take, Err, refl, sym, ap, ◌∙◌, subst, arith, length-append, get_or, drop, drop-cons}
 use Rattle.std.proofs.lemmas.List.{take-append-drop}
+use Rattle.std.proofs.lemmas.Option.{slice_get_read}
 use Rattle.std.specs.Result.{IfOk}
-use Rattle.std.specs.Prelude.{slice_get}
 use Rattle.step_memory.specs.Runs.{Run}
 use Rattle.step_memory.proofs.RunLemmas.{run_more, run_one, run_splits}
 use Rattle.rename_core.specs.RenameObject.{RenameTerms}
 use Rattle.commands.specs.declared.event.Event.{Event}
-use Rattle.commands.specs.declared.event.Event.TheVariants.{Begin, Step, Enter, Probe, Leave, Put, Get, Widen}
+use Rattle.commands.specs.declared.event.Event.TheVariants.{Begin, Step, Enter, Probe, Leave, Put, Widen}
 use Rattle.commands.specs.declared.exchange.Exchange.{Exchange}
 use Rattle.desk.specs.DeskCalls.{DeskCall, exchange_of}
 use Rattle.run_checker.specs.declared.checker.Checker.{Checker}
@@ -17,7 +17,7 @@ use Rattle.run_checker.specs.Fault.{told_by}
 use Rattle.record_lines.specs.declared.line.Line.{Line}
 use Rattle.run_checker.specs.declared.reason.Reason.{Reason}
 use Rattle.record_lines.specs.declared.told.Told.{Told}
-use Rattle.record_lines.specs.declared.told.Told.TheVariants.{Ok as Accepted, Place, Proposed, Named, Spent, Missed, Got, Left}
+use Rattle.record_lines.specs.declared.told.Told.TheVariants.{Ok as Accepted, Proposed, Missed, Left}
 use Rattle.run_checker.specs.ObjectRun.{DeskObject, fresh_desk_object, AllowsCall, after_call}
 use Rattle.run_checker.specs.Reasons.{KeepsAll, IsLeastReason}
 use Rattle.record_lines.specs.Lines.{line_of, IsLineOf, AreLinesOf}
@@ -28,24 +28,13 @@ use Rattle.run_checker.proofs.Following.{can_follow, follows_keeps, same_after}
 -- a line makes at most one moment
 last_after : (o : DeskObject) (e : Event) (t : Told) → (after_told o e t).names.last ≤ o.names.last + 1
 last_after o (Begin p) Accepted = omega arith
-last_after o (Begin p) t = omega arith
-last_after o (Step p) (Place x) = omega arith
 last_after o (Step p) (Proposed n) = omega arith
-last_after o (Step p) (Named n shown) = omega arith
-last_after o (Step p) Spent = omega arith
-last_after o (Step p) t = omega arith
 last_after o (Enter p) Accepted = omega arith
-last_after o (Enter p) t = omega arith
 last_after o (Probe p) Missed = omega arith
-last_after o (Probe p) (Got n) = omega arith
-last_after o (Probe p) t = omega arith
 last_after o (Leave p) (Left n) = omega arith
-last_after o (Leave p) t = omega arith
 last_after o (Put p v) Accepted = omega arith
-last_after o (Put p v) t = omega arith
-last_after o (Get p) t = omega arith
 last_after o (Widen more) Accepted = omega arith
-last_after o (Widen more) t = omega arith
+last_after o e t = omega arith
 
 pub taken_on : (terms : RenameTerms) (size : ℕ) (lines : List Line) (l : Line) (old new : Checker) → HasTaken terms size lines old → length lines < 2 ^ 62 →
     ((o : DeskObject) → HoldsDesk terms old o → o.names.last < 2 ^ 62 → IsTaken terms o l new) → HasTaken terms size (lines ++ l ∷ []) new
@@ -125,12 +114,7 @@ told_fault l old new NoMemory j = tt
 
 -- the line at fault is the first
 pub first_at : (terms : RenameTerms) (size : ℕ) (lines : List Line) (i : ℕ) (l : Line) (why : Reason) → i < length lines → l ≡ get_or lines i l → IsFaultAfter terms size (take i lines) l why → IsFirstFault terms size lines i why
-first_at terms size lines i l why inside is f = record { line = l; at = some_at lines i l inside is; fault = f }
-  where
-    some_at : (xs : List Line) (k : ℕ) (x : Line) → k < length xs → x ≡ get_or xs k x → slice_get xs k ≡ Some x
-    some_at [] k x l e = absurd (omega arith)
-    some_at (y ∷ ys) zero x l e = ap Some (sym e)
-    some_at (y ∷ ys) (suc k) x l e = some_at ys k x (omega arith) e
+first_at terms size lines i l why inside is f = record { line = l; at = slice_get_read lines (length lines) i l refl inside is; fault = f }
 
 pub not_run : (terms : RenameTerms) (size : ℕ) (lines : List Line) (i : ℕ) (l : Line) (why : Reason) → i < length lines → l ≡ get_or lines i l → IsFaultAfter terms size (take i lines) l why → AreLinesOfRun terms size lines → ⊥
 not_run terms size lines i l why inside is f r =

@@ -47,23 +47,9 @@ asked_narrow kind ls ts is = subst AreNarrowAsked (sym is) (quit_narrowly (map (
 -- ---- what a desk answers
 
 place_fits : (c : Config) (w : DeskValue) (before : List DeskCall) → IsAfterDesk c w before → (e : Event) (r : ShownReply) (u : DeskValue) → may_by desk_rules w e r u → FitsPlace r
-place_fits c w before a e reply.Ok u m = tt
-place_fits c w before a e reply.Quiet u m = tt
-place_fits c w before a e reply.Stop u m = tt
-place_fits c w before a e reply.Right u m = tt
-place_fits c w before a e reply.Down u m = tt
 place_fits c w before a e (reply.Place place) u (inl m) = (let low : place < 2 ^ 64 = desk_low c w before a e place (sym m.0) in omega arith)
 place_fits c w before a e (reply.Place place) u (inr m) = absurd (let no = m.0 in cc)
-place_fits c w before a e (reply.Proposed n) u m = tt
-place_fits c w before a e (reply.Saw view) u m = tt
-place_fits c w before a e (reply.Named n view) u m = tt
-place_fits c w before a e reply.Spent u m = tt
-place_fits c w before a e reply.Missed u m = tt
-place_fits c w before a e (reply.Got n) u m = tt
-place_fits c w before a e (reply.Left n) u m = tt
-place_fits c w before a e (reply.Value v) u m = tt
-place_fits c w before a e (reply.Owner o) u m = tt
-place_fits c w before a e (reply.Refused why) u m = tt
+place_fits c w before a e r u m = tt
 
 pub turns_fit : (c : Config) (w u : DeskValue) (before : List DeskCall) (ts : List Turn) → IsAfterDesk c w before → Runs DeskWorldMay w ts u → AreNarrowAsked (map asked ts) → AreWritable (exchanges ts)
 turns_fit c w u before [] a run narrow = tt

@@ -1,19 +1,22 @@
 -- first moments in which proposals stand alone
 use Rattle.std.proofs.Common.{◌≡◌, ◌≢◌, ℕ, ◌+◌, ◌-◌, ◌<◌, ◌≤◌, ◌==◌, ◌⊎◌, inl, inr, true, false, cond, List, [], ◌∷◌, length, get_or, take, drop, drop-cons, add-one, refl, sym, ap, ◌∙◌, subst, arith, Some, None, Option, eq-eqb}
 use Rattle.std.specs.Prelude.{MatchOption}
+use Rattle.std.proofs.Math.Path.{fun_ext}
 use Rattle.std.specs.List.{list_any}
-use Rattle.std.proofs.lemmas.Bool.{cases_Bool, ne_eqb, false≢true}
+use Rattle.std.proofs.lemmas.Bool.{cases_Bool, false≢true}
 use Rattle.std.proofs.lemmas.Bool.Decides.{eqb_tells}
 use Rattle.std.proofs.lemmas.List.{take_all, length-drop}
 use Rattle.step_memory.specs.SetAt.{set_at}
 use Rattle.step_memory.specs.View.{IsRising, value_of, inserted}
-use Rattle.step_memory.proofs.ViewLemmas.{IsRising-inserted, value_of-inserted, value_of-below}
+use Rattle.step_memory.proofs.SetAtLemmas.{set_at-same, set_at-other, set_at-cases}
+use Rattle.step_memory.proofs.ViewLemmas.{IsRising-inserted, value_of-inserted}
 use Rattle.snapshot_core.specs.Snapshot.{IsMoment}
 use Rattle.rename_core.specs.RenameObject.{RenameObject, IsRecent, IsSole}
 use Rattle.run_checker.specs.declared.firsts.Firsts.{Firsts}
 use Rattle.run_checker.specs.Firsts.{NeverSole, sole_in, view_at, if_none, is_one, noted, HasFirst, HoldsFirsts}
 use Rattle.run_checker.specs.Standing.{proposed_by}
-use Rattle.run_checker.proofs.seats.Turned.{earlier, new_or_not}
+use Rattle.run_checker.proofs.Views.{here, further, not_first, said_further}
+use Rattle.run_checker.proofs.seats.Turned.{earlier}
 
 -- ---- who alone proposes a number
 
@@ -36,24 +39,11 @@ record Proposes (n : ℕ) (view : List (ℕ × ℕ)) : Type 0 where
   who : ℕ
   says : values view who ≡ Some n
 
-first_absent : (x : ℕ × ℕ) (xs : List (ℕ × ℕ)) → IsRising (x ∷ xs) → values xs x.0 ≡ None
-first_absent x xs r = value_of-below x.0 x.0 xs r.1 r.0 (omega arith)
-
--- who is said further on is not the first
-not_first : (x : ℕ × ℕ) (xs : List (ℕ × ℕ)) (q n : ℕ) → IsRising (x ∷ xs) → values xs q ≡ Some n → x.0 ≢ q
-not_first x xs q n r says same = absurd (let k : None ≡ Some n = sym (first_absent x xs r) ∙ ap (values xs) same ∙ says in cc)
-
-further : (x : ℕ × ℕ) (xs : List (ℕ × ℕ)) (q : ℕ) → x.0 ≢ q → values (x ∷ xs) q ≡ values xs q
-further x xs q d = rw (ne_eqb x.0 q d) refl
-
-here : (x : ℕ × ℕ) (xs : List (ℕ × ℕ)) → values (x ∷ xs) x.0 ≡ Some x.1
-here x xs = rw (eq-eqb x.0 x.0 refl) refl
-
 one_proposes : (n : ℕ) (view : List (ℕ × ℕ)) → IsRising view → list_any (λ pair. pair.1 == n) view ≡ true → Proposes n view
 one_proposes n [] r h = absurd (cc)
 one_proposes n (x ∷ xs) r h = elim (eqb_tells x.1 n) [
   | inl y ↦ record { who = x.0; says = here x xs ∙ ap Some y.1 }
-  | inr y ↦ (let k = one_proposes n xs r.1 (rw y.0 at h) in record { who = k.who; says = further x xs k.who (not_first x xs k.who n r k.says) ∙ k.says })
+  | inr y ↦ (let k = one_proposes n xs r.1 (rw y.0 at h) in record { who = k.who; says = said_further x xs k.who n r k.says })
 ]
 
 pub sole_found : (n : ℕ) (view : List (ℕ × ℕ)) (p : ℕ) → IsRising view → sole_in n view ≡ Some p → IsSole (values view) p n
@@ -65,13 +55,13 @@ sole_found n (x ∷ xs) p r e = elim (eqb_tells x.1 n) [
         let same : x.0 ≡ p = (let k : Some x.0 ≡ Some p = rw (y.0, z) at e in cc) in
         record {
           own = ap (values (x ∷ xs)) (sym same) ∙ here x xs ∙ ap Some y.1;
-          alone = (λ q other says. none_proposes n xs z q (sym (further x xs q (λ k. other (sym k ∙ same))) ∙ says));
+          alone = λ q other says. none_proposes n xs z q (sym (further x xs q (λ k. other (sym k ∙ same))) ∙ says);
         }
   ]
   | inr y ↦
       let s = sole_found n xs p r.1 (rw y.0 at e) in
       record {
-        own = further x xs p (not_first x xs p n r s.own) ∙ s.own;
+        own = said_further x xs p n r s.own;
         alone = (λ q other says. elim (eqb_tells x.0 q) [
           | inl z ↦ y.1 (let k : Some x.1 ≡ Some n = sym (here x xs) ∙ ap (values (x ∷ xs)) z.1 ∙ says in cc)
           | inr z ↦ s.alone q other (sym (further x xs q z.1) ∙ says)
@@ -79,37 +69,22 @@ sole_found n (x ∷ xs) p r e = elim (eqb_tells x.1 n) [
       }
 ]
 
-no_sole : (n : ℕ) (view : List (ℕ × ℕ)) (p : ℕ) → IsRising view → sole_in n view ≡ None → IsSole (values view) p n → ⊥
-no_sole n [] p r e s = absurd (let k : None ≡ Some n = s.own in cc)
-no_sole n (x ∷ xs) p r e s = elim (eqb_tells x.1 n) [
-  | inl y ↦ elim (cases_Bool (list_any (λ pair. pair.1 == n) xs)) [
-    | inl z ↦
-        let k = one_proposes n xs r.1 z in
-        let apart = not_first x xs k.who n r k.says in
-        elim (eqb_tells x.0 p) [
-          | inl w ↦ s.alone k.who (λ same. apart (w.1 ∙ sym same)) (further x xs k.who apart ∙ k.says)
-          | inr w ↦ s.alone x.0 w.1 (here x xs ∙ ap Some y.1)
-        ]
-    | inr z ↦ absurd (let k : Some x.0 ≡ None = rw (y.0, z) at e in cc)
-  ]
-  | inr y ↦ elim (eqb_tells x.0 p) [
-    | inl w ↦ absurd (y.1 (let k : Some x.1 ≡ Some n = sym (here x xs) ∙ ap (values (x ∷ xs)) w.1 ∙ s.own in cc))
-    | inr w ↦ no_sole n xs p r.1 (rw y.0 at e) (record {
-      own = sym (further x xs p w.1) ∙ s.own;
-      alone = (λ q other says. s.alone q other (further x xs q (not_first x xs q n r says) ∙ says));
-    })
-  ]
+found_sole : (n : ℕ) (view : List (ℕ × ℕ)) (p : ℕ) → IsRising view → IsSole (values view) p n → sole_in n view ≡ Some p
+found_sole n [] p r s = absurd (let k : None ≡ Some n = s.own in cc)
+found_sole n (x ∷ xs) p r s = elim (eqb_tells x.1 n) [
+  | inl y ↦
+      let same : x.0 ≡ p = elim (eqb_tells x.0 p) [ inl w ↦ w.1 | inr w ↦ absurd (s.alone x.0 w.1 (here x xs ∙ ap Some y.1)) ] in
+      elim (cases_Bool (list_any (λ pair. pair.1 == n) xs)) [
+        | inl z ↦ (let k = one_proposes n xs r.1 z in absurd (s.alone k.who (λ e. not_first x xs k.who n r k.says (same ∙ sym e)) (said_further x xs k.who n r k.says)))
+        | inr z ↦ rw (y.0, z) (ap Some same)
+      ]
+  | inr y ↦
+      let other : x.0 ≢ p = λ w. y.1 (let k : Some x.1 ≡ Some n = sym (here x xs) ∙ ap (values (x ∷ xs)) w ∙ s.own in cc) in
+      rw y.0 (found_sole n xs p r.1 (record { own = sym (further x xs p other) ∙ s.own; alone = λ q apart says. s.alone q apart (said_further x xs q n r says) }))
 ]
 
--- two do not both stand alone with one number
-only_sole : (moment : ℕ → Option ℕ) (p q n : ℕ) → IsSole moment p n → IsSole moment q n → p ≡ q
-only_sole moment p q n s t = elim (eqb_tells p q) [ inl e ↦ e.1 | inr e ↦ absurd (t.alone p e.1 s.own) ]
-
 pub sole_is : (n : ℕ) (view : List (ℕ × ℕ)) (p : ℕ) → IsRising view → IsSole (values view) p n → is_one p (sole_in n view) ≡ true
-sole_is n view p r s = elim (sole_in n view) as (λ o. sole_in n view ≡ o → is_one p o ≡ true) [
-  | None ↦ λ e. absurd (no_sole n view p r e s)
-  | Some q ↦ λ e. eq-eqb q p (only_sole (values view) q p n (sole_found n view q r e) s)
-] refl
+sole_is n view p r s = rw (found_sole n view p r s) (eq-eqb p p refl)
 
 pub is_sole : (n : ℕ) (view : List (ℕ × ℕ)) (p : ℕ) → IsRising view → is_one p (sole_in n view) ≡ true → IsSole (values view) p n
 is_sole n view p r h = elim (sole_in n view) as (λ o. sole_in n view ≡ o → is_one p o ≡ true → IsSole (values view) p n) [
@@ -167,74 +142,70 @@ module _ (o : RenameObject) (r n : ℕ) (f : Firsts) (h : HoldsFirsts f o) where
   abbrev now : List (ℕ × ℕ)
   now = inserted f.present (r, n)
 
-  said : (q : ℕ) → value_of q now ≡ next.moment (o.last + 1) q
-  said q = value_of-inserted q f.present (r, n) ∙ elim (eqb_tells r q) [
-    | inl y ↦ rw (y.0, eq-eqb (o.last + 1) (o.last + 1) refl, eq-eqb q r (sym y.1)) refl
-    | inr y ↦ rw (y.0, eq-eqb (o.last + 1) (o.last + 1) refl, ne_eqb q r (λ e. y.1 (sym e))) (h.present.values q)
-  ]
+  -- its moments are as before, and the new one
+  old : (i : ℕ) → i ≤ o.last → next.moment i ≡ o.moment i
+  old i l = earlier o.moment o.last (set_at (o.moment o.last) r (Some n)) i l
+
+  new : next.moment (o.last + 1) ≡ set_at (o.moment o.last) r (Some n)
+  new = set_at-same o.moment (o.last + 1) (set_at (o.moment o.last) r (Some n))
+
+  own_now : next.moment (o.last + 1) r ≡ Some n
+  own_now = ap (λ f. f r) new ∙ set_at-same (o.moment o.last) r (Some n)
+
+  -- others propose what they did
+  others_now : (q : ℕ) → q ≢ r → next.moment (o.last + 1) q ≡ o.moment o.last q
+  others_now q d = ap (λ f. f q) new ∙ set_at-other (o.moment o.last) r (Some n) q d
+
+  said : (λ q. value_of q now) ≡ next.moment (o.last + 1)
+  said = fun_ext (λ q. value_of-inserted q f.present (r, n) ∙ elim (eqb_tells r q) [
+    | inl y ↦ rw y.0 (sym own_now ∙ ap (next.moment (o.last + 1)) y.1)
+    | inr y ↦ rw y.0 (h.present.values q ∙ sym (others_now q (λ e. y.1 (sym e))))
+  ])
 
   rises : IsRising now
   rises = IsRising-inserted f.present (r, n) h.present.rising
 
   pub is_moment : IsMoment now (next.moment next.last)
-  is_moment = record { rising = rises; values = said }
-
-  -- others propose what they did
-  others_now : (q : ℕ) → q ≢ r → next.moment (o.last + 1) q ≡ o.moment o.last q
-  others_now q d = rw (eq-eqb (o.last + 1) (o.last + 1) refl, ne_eqb q r d) refl
-
-  own_now : next.moment (o.last + 1) r ≡ Some n
-  own_now = rw (eq-eqb (o.last + 1) (o.last + 1) refl, eq-eqb r r refl) refl
-
-  before_now : (i q : ℕ) → i ≤ o.last → next.moment i q ≡ o.moment i q
-  before_now i q l = ap (λ (m : ℕ → Option ℕ). m q) (earlier o.moment o.last (set_at (o.moment o.last) r (Some n)) i l)
-
-  since_own : next.since r ≡ o.last + 1
-  since_own = rw (eq-eqb r r refl) refl
-
-  since_other : (q : ℕ) → q ≢ r → next.since q ≡ o.since q
-  since_other q d = rw (ne_eqb q r d) refl
+  is_moment = record { rising = rises; values = λ q. ap (λ f. f q) said }
 
   pub since_next : (q : ℕ) → next.since q ≤ next.last
-  since_next q = elim (eqb_tells q r) [
-    | inl y ↦ (let e : next.since q ≡ o.last + 1 = ap next.since y.1 ∙ since_own in omega arith)
-    | inr y ↦ (let e = since_other q y.1 in let l = h.since q in omega arith)
-  ]
+  since_next q = set_at-cases o.since r (o.last + 1) (λ k. k ≤ o.last + 1) q (λ _. omega arith) (λ _. let l = h.since q in omega arith)
+
+  -- a recent moment is the new one, or a recent one of another
+  recent : (q i : ℕ) → IsRecent next q i → (i ≡ o.last + 1) ⊎ ((q ≢ r) × IsRecent o q i)
+  recent q i k =
+      let from = k.no_earlier in
+      let to = k.no_later in
+      elim (eqb_tells i (o.last + 1)) [
+        | inl y ↦ inl y.1
+        | inr y ↦ (let past = y.1 in elim (eqb_tells q r) [
+          | inl w ↦ absurd (let own : next.since q ≡ o.last + 1 = ap next.since w.1 ∙ set_at-same o.since r (o.last + 1) in omega arith)
+          | inr w ↦ (let as_was = set_at-other o.since r (o.last + 1) q w.1 in inr (w.1, record { no_earlier = omega arith; no_later = omega arith }))
+        ])
+      ]
 
   pub same_next : (q i : ℕ) → IsRecent next q i → next.moment i q ≡ next.moment next.last q
-  same_next q i k = elim (new_or_not i o.last k.no_later) [
-    | inl l ↦ elim (eqb_tells q r) [
-      | inl y ↦ absurd (let e : next.since q ≡ o.last + 1 = ap next.since y.1 ∙ since_own in let m = k.no_earlier in omega arith)
-      | inr y ↦ before_now i q l ∙ h.same q i (record { no_earlier = (let e = since_other q y.1 in let m = k.no_earlier in omega arith); no_later = l }) ∙ sym (others_now q y.1)
-    ]
-    | inr l ↦ ap (λ j. next.moment j q) l
+  same_next q i k = elim (recent q i k) [
+    | inl e ↦ ap (λ j. next.moment j q) e
+    | inr w ↦ ap (λ f. f q) (old i w.1.no_later) ∙ h.same q i w.1 ∙ sym (others_now q w.0)
   ]
 
-  -- who stands alone in the new moment, and in the pairs
-  in_pairs : (p m : ℕ) → IsSole (next.moment (o.last + 1)) p m → IsSole (λ q. value_of q now) p m
-  in_pairs p m s = record { own = said p ∙ s.own; alone = (λ q d e. s.alone q d (sym (said q) ∙ e)) }
-
-  in_moment : (p m : ℕ) → IsSole (λ q. value_of q now) p m → IsSole (next.moment (o.last + 1)) p m
-  in_moment p m s = record { own = sym (said p) ∙ s.own; alone = (λ q d e. s.alone q d (said q ∙ e)) }
-
-  found_now : (p m : ℕ) → is_one p (sole_in m now) ≡ true → ((i k : ℕ) → IsRecent next p i → IsSole (next.moment i) p k → i ≡ o.last + 1 ⊎ ⊥) → HasFirst next p now
+  found_now : (p m : ℕ) → is_one p (sole_in m now) ≡ true → ((i k : ℕ) → IsRecent next p i → IsSole (next.moment i) p k → i ≡ o.last + 1) → HasFirst next p now
   found_now p m e none = record {
     number = m;
     first = record {
-      shows = record { index = o.last + 1; recent = record { no_earlier = since_next p; no_later = omega arith }; is = is_moment; sole = in_moment p m (is_sole m now p rises e) };
-      first = (λ i k s. elim (none i m k s) [ inl w ↦ omega arith | inr w ↦ absurd w ]);
+      shows = record { index = o.last + 1; recent = record { no_earlier = since_next p; no_later = omega arith }; is = is_moment; sole = subst (λ (f : ℕ → Option ℕ). IsSole f p m) said (is_sole m now p rises e) };
+      first = λ i k s. (let only = none i m k s in omega arith);
     };
   }
 
-  -- of another, in an earlier moment
-  back_recent : (p i : ℕ) → p ≢ r → i ≤ o.last → IsRecent next p i → IsRecent o p i
-  back_recent p i d l k = record { no_earlier = (let e = since_other p d in let m = k.no_earlier in omega arith); no_later = l }
+  -- who alone proposes in the new moment does in the pairs
+  now_one : (p m : ℕ) → IsSole (next.moment (o.last + 1)) p m → is_one p (sole_in m now) ≡ true
+  now_one p m s = sole_is m now p rises (subst (λ (f : ℕ → Option ℕ). IsSole f p m) (sym said) s)
 
-  back_sole : (p i m : ℕ) → i ≤ o.last → IsSole (next.moment i) p m → IsSole (o.moment i) p m
-  back_sole p i m l s = record { own = sym (before_now i p l) ∙ s.own; alone = (λ q d e. s.alone q d (before_now i q l ∙ e)) }
-
-  on_sole : (p i m : ℕ) → i ≤ o.last → IsSole (o.moment i) p m → IsSole (next.moment i) p m
-  on_sole p i m l s = record { own = before_now i p l ∙ s.own; alone = (λ q d e. s.alone q d (sym (before_now i q l) ∙ e)) }
+  -- and in an earlier one did
+  was_so : (p i m : ℕ) → i ≤ o.last → IsSole (next.moment i) p m → IsSole (o.moment i) p m
+  was_so p i m l s = subst (λ (f : ℕ → Option ℕ). IsSole f p m) (old i l) s
 
   -- who was not alone in the last moment is now with what the proposer left, or not at all
   was_sole : (p m : ℕ) → p ≢ r → o.moment o.last r ≢ Some m → IsSole (next.moment (o.last + 1)) p m → IsSole (o.moment o.last) p m
@@ -248,49 +219,45 @@ module _ (o : RenameObject) (r n : ℕ) (f : Firsts) (h : HoldsFirsts f o) where
       let s = k.first.shows in
       let later = s.recent.no_later in
       let from = s.recent.no_earlier in
-      let e = since_other p d in
+      let since = set_at-other o.since r (o.last + 1) p d in
+      let same = sym (old s.index later) in
       record {
         number = k.number;
         first = record {
-          shows = record {
-            index = s.index;
-            recent = record { no_earlier = omega arith; no_later = omega arith };
-            is = record { rising = s.is.rising; values = (λ q. s.is.values q ∙ sym (before_now s.index q later)) };
-            sole = on_sole p s.index k.number later s.sole;
-          };
-          first = (λ i c t. elim (new_or_not i o.last c.no_later) [ inl l ↦ k.first.first i (back_recent p i d l c) (back_sole p i k.number l t) | inr l ↦ omega arith ]);
+          shows = record { index = s.index; recent = record { no_earlier = omega arith; no_later = omega arith }; is = subst (IsMoment view) same s.is; sole = subst (λ (f : ℕ → Option ℕ). IsSole f p k.number) same s.sole };
+          first = λ i c t. elim (recent p i c) [ inl l ↦ omega arith | inr w ↦ k.first.first i w.1 (was_so p i k.number w.1.no_later t) ];
         };
       }
 
   module _ (Noted : ℕ → Type 0) (own : Noted n) (left : (m : ℕ) → o.moment o.last r ≡ Some m → Noted m) where
     never_own : ((m : ℕ) → Noted m → is_one r (sole_in m now) ≡ false) → NeverSole next r
-    never_own none i m k s =
-        let is : i ≡ o.last + 1 = (let e = since_own in let a = k.no_earlier in let b = k.no_later in omega arith) in
-        let now_sole : IsSole (next.moment (o.last + 1)) r m = subst (λ (j : ℕ). IsSole (next.moment j) r m) is s in
-        let same : Some n ≡ Some m = sym own_now ∙ now_sole.own in
-        let e : n ≡ m = cc in
-        false≢true (sym (none m (subst Noted e own)) ∙ sole_is m now r rises (in_pairs r m now_sole))
+    never_own none i m k s = elim (recent r i k) [
+      | inl is ↦
+          let now_sole : IsSole (next.moment (o.last + 1)) r m = subst (λ (j : ℕ). IsSole (next.moment j) r m) is s in
+          let same : Some n ≡ Some m = sym own_now ∙ now_sole.own in
+          let e : n ≡ m = cc in
+          false≢true (sym (none m (subst Noted e own)) ∙ now_one r m now_sole)
+      | inr w ↦ w.0 refl
+    ]
 
     never_other : (p : ℕ) → p ≢ r → NeverSole o p → ((m : ℕ) → Noted m → is_one p (sole_in m now) ≡ false) → NeverSole next p
-    never_other p d never none i m k s = elim (new_or_not i o.last k.no_later) [
-      | inl l ↦ never i m (back_recent p i d l k) (back_sole p i m l s)
-      | inr l ↦
-          let now_sole : IsSole (next.moment (o.last + 1)) p m = subst (λ (j : ℕ). IsSole (next.moment j) p m) l s in
-          let unnoted : Noted m → ⊥ = λ w. false≢true (sym (none m w) ∙ sole_is m now p rises (in_pairs p m now_sole)) in
+    never_other p d never none i m k s = elim (recent p i k) [
+      | inl is ↦
+          let now_sole : IsSole (next.moment (o.last + 1)) p m = subst (λ (j : ℕ). IsSole (next.moment j) p m) is s in
+          let unnoted : Noted m → ⊥ = λ w. false≢true (sym (none m w) ∙ now_one p m now_sole) in
           never o.last m (record { no_earlier = h.since p; no_later = omega arith }) (was_sole p m d (λ e. unnoted (left m e)) now_sole)
+      | inr w ↦ never i m w.1 (was_so p i m w.1.no_later s)
     ]
 
     found_own : (v : Option (List (ℕ × ℕ))) → IsKept now Noted r None v → MatchOption v (NeverSole next r) (λ view. HasFirst next r view)
     found_own None k = never_own k
-    found_own (Some v) k = subst (HasFirst next r) (sym k.0) (found_now r k.1.0 k.1.1 (λ i m c s. inl (let e = since_own in let a = c.no_earlier in let b = c.no_later in omega arith)))
+    found_own (Some v) k = subst (HasFirst next r) (sym k.0) (found_now r k.1.0 k.1.1 (λ i m c s. elim (recent r i c) [ inl e ↦ e | inr w ↦ absurd (w.0 refl) ]))
 
     found_other : (p : ℕ) → p ≢ r → (old v : Option (List (ℕ × ℕ))) → MatchOption old (NeverSole o p) (λ view. HasFirst o p view) → IsKept now Noted p old v → MatchOption v (NeverSole next p) (λ view. HasFirst next p view)
     found_other p d (Some w) v has k = subst (λ (x : Option (List (ℕ × ℕ))). MatchOption x (NeverSole next p) (λ view. HasFirst next p view)) (sym k) (still_first p w d has)
     found_other p d None None never k = never_other p d never k
-    found_other p d None (Some v) never k = subst (HasFirst next p) (sym k.0) (found_now p k.1.0 k.1.1 (λ i m c s. elim (new_or_not i o.last c.no_later) [
-      | inl l ↦ absurd (never i m (back_recent p i d l c) (back_sole p i m l s))
-      | inr l ↦ inl l
-    ]))
+    found_other p d None (Some v) never k =
+        subst (HasFirst next p) (sym k.0) (found_now p k.1.0 k.1.1 (λ i m c s. elim (recent p i c) [ inl e ↦ e | inr w ↦ absurd (never i m w.1 (was_so p i m w.1.no_later s)) ]))
 
     pub goes_on : (f' : Firsts) → f'.present ≡ now → ((p : ℕ) → IsKept now Noted p (cond (r == p) None (view_at f p)) (view_at f' p)) → HoldsFirsts f' next
     goes_on f' present kept = record {

@@ -1,14 +1,15 @@
 -- lists of participants
 use Rattle.std.proofs.Common.{◌≡◌, ℕ, suc, ◌<◌, ◌==◌, inl, inr, Bool, true, false, cond, List, [], ◌∷◌, ◌++◌, length, take, drop, get_or, set, refl, sym, ap, ◌∙◌, Some, None, Option, is_some, drop-cons, ◌||◌}
-use Rattle.std.specs.Prelude.{option_map}
-use Rattle.std.proofs.lemmas.Bool.{eq-eqb, ne_eqb, cases_Bool}
+use Rattle.std.specs.Prelude.{option_and_then, option_map}
+use Rattle.std.proofs.lemmas.Bool.{eq-eqb, cases_Bool, false≢true}
+use Rattle.run_checker.specs.Standing.{is_held}
 use Rattle.std.specs.List.{list_any}
 use Rattle.std.proofs.lemmas.Bool.Decides.{eqb_tells}
 use Rattle.std.proofs.lemmas.List.{set_split}
 use Rattle.step_memory.specs.declared.participant.Participant.{Participant}
-use Rattle.step_memory.specs.Participant.{beginner, participant_of, program_of, with_participant}
+use Rattle.step_memory.specs.Participant.{AreDistinct, beginner, participant_of, program_of, with_participant}
 use Rattle.step_memory.specs.SetAt.{set_at}
-use Rattle.run_checker.specs.Standing.{Apart}
+use Rattle.step_memory.proofs.SetAtLemmas.{set_at-cases, set_at-map}
 use Rattle.step_memory.proofs.ParticipantLemmas.{participant_of-push, participant_of-put}
 
 -- the one that is met is put in
@@ -18,19 +19,23 @@ put_here xs i new d l same ahead =
     let here : with_participant new (drop i xs) ≡ new ∷ drop (suc i) xs = rw (drop-cons xs i d, eq-eqb (get_or xs i d).identity new.identity same) refl in
     set_split xs i new l ∙ sym (ahead ∙ ap (λ ys. take i xs ++ ys) here)
 
-none_kept : {P : Type 0} (o : Option (Participant P)) → option_map (λ v. v.program) o ≡ None → o ≡ None
+-- what is not there is nothing
+pub absent : {X : Type 0} (o : Option X) → is_some o ≡ false → o ≡ None
+absent None h = refl
+absent (Some x) h = absurd (cc)
+
+pub none_kept : {P : Type 0} (o : Option (Participant P)) → option_map (λ v. v.program) o ≡ None → o ≡ None
 none_kept None h = refl
 none_kept (Some v) h = absurd (cc)
 
--- what is put under a function at one place
-mapped_at : {P : Type 0} (f : ℕ → Option (Participant P)) (p : ℕ) (v : Participant P) (q : ℕ) →
-    option_map (λ u. u.program) (set_at f p (Some v) q) ≡ set_at (λ x. option_map (λ u. u.program) (f x)) p (Some v.program) q
-mapped_at f p v q = elim (q == p) as (λ b. option_map (λ u. u.program) (cond b (Some v) (f q)) ≡ cond b (Some v.program) (option_map (λ u. u.program) (f q))) [ true ↦ refl | false ↦ refl ]
+-- what was found in a list
+pub there : {P : Type 0} (id : ℕ) {xs ys : List (Participant P)} {found : Option P} {x : P} → found ≡ program_of id xs → xs ≡ ys → found ≡ Some x → program_of id ys ≡ Some x
+there id is same some = sym (is ∙ ap (program_of id) same) ∙ some
 
 -- one more
 pub program_of-push : {P : Type 0} (ps : List (Participant P)) (p : ℕ) (x : P) → program_of p ps ≡ None → (q : ℕ) → program_of q (ps ++ beginner p x ∷ []) ≡ set_at (λ v. program_of v ps) p (Some x) q
 program_of-push ps p x none q =
-    ap (option_map (λ v. v.program)) (participant_of-push ps (beginner p x) (none_kept (participant_of p ps) none) q) ∙ mapped_at (λ v. participant_of v ps) p (beginner p x) q
+    ap (option_map (λ v. v.program)) (participant_of-push ps (beginner p x) (none_kept (participant_of p ps) none) q) ∙ set_at-map (option_map (λ v. v.program)) (λ v. participant_of v ps) p (Some (beginner p x)) q
 
 some_kept : {P : Type 0} (o : Option (Participant P)) (x : P) → option_map (λ v. v.program) o ≡ Some x → is_some o ≡ true
 some_kept None x h = absurd (cc)
@@ -39,38 +44,7 @@ some_kept (Some v) x h = refl
 -- another in place of what was kept
 pub program_of-put : {P : Type 0} (ps : List (Participant P)) (p : ℕ) (x y : P) → program_of p ps ≡ Some x → (q : ℕ) → program_of q (with_participant (beginner p y) ps) ≡ set_at (λ v. program_of v ps) p (Some y) q
 program_of-put ps p x y some q =
-    ap (option_map (λ v. v.program)) (participant_of-put ps (beginner p y) (some_kept (participant_of p ps) x some) q) ∙ mapped_at (λ v. participant_of v ps) p (beginner p y) q
-
-none_set : {P : Type 0} (ps : List (Participant P)) (p q : ℕ) (x : P) → (q ≡ p → ⊥) → participant_of q ps ≡ None → participant_of q (with_participant (beginner p x) ps) ≡ None
-none_set [] p q x other none = refl
-none_set (v ∷ vs) p q x other none = elim (eqb_tells v.identity q) [
-  | inl w ↦ absurd (let k : Some v ≡ None = rw w.0 at none in cc)
-  | inr w ↦ elim (eqb_tells v.identity p) [
-    | inl y ↦ let ne : (p == q) ≡ false = rw y.1 at w.0 in rw (y.0, ne) (rw w.0 at none)
-    | inr y ↦ rw (y.0, w.0) (none_set vs p q x other (rw w.0 at none))
-  ]
-]
-
-pub apart_put : {P : Type 0} (ps : List (Participant P)) (p : ℕ) (x : P) → Apart ps → Apart (with_participant (beginner p x) ps)
-apart_put [] p x a = tt
-apart_put (v ∷ vs) p x a = elim (eqb_tells v.identity p) [
-  | inl y ↦ rw y.0 (rw y.1 at a.0, a.1)
-  | inr y ↦ rw y.0 (none_set vs p v.identity x y.1 a.0, apart_put vs p x a.1)
-]
-
-none_more : {P : Type 0} (ps : List (Participant P)) (p q : ℕ) (x : P) → (p ≡ q → ⊥) → participant_of q ps ≡ None → participant_of q (ps ++ beginner p x ∷ []) ≡ None
-none_more [] p q x other none = rw (ne_eqb p q other) refl
-none_more (v ∷ vs) p q x other none = elim (eqb_tells v.identity q) [
-  | inl w ↦ absurd (let k : Some v ≡ None = rw w.0 at none in cc)
-  | inr w ↦ rw w.0 (none_more vs p q x other (rw w.0 at none))
-]
-
-pub apart_push : {P : Type 0} (ps : List (Participant P)) (p : ℕ) (x : P) → program_of p ps ≡ None → Apart ps → Apart (ps ++ beginner p x ∷ [])
-apart_push [] p x none a = (refl, tt)
-apart_push (v ∷ vs) p x none a = elim (eqb_tells v.identity p) [
-  | inl y ↦ absurd (let k : Some v.program ≡ None = rw y.0 at none in cc)
-  | inr y ↦ (none_more vs p v.identity x (λ e. y.1 (sym e)) a.0, apart_push vs p x (rw y.0 at none) a.1)
-]
+    ap (option_map (λ v. v.program)) (participant_of-put ps (beginner p y) (some_kept (participant_of p ps) x some) q) ∙ set_at-map (option_map (λ v. v.program)) (λ v. participant_of v ps) p (Some (beginner p y)) q
 
 -- someone passes
 pub record Passes {P : Type 0} (test : P → Bool) (ps : List (Participant P)) : Type 0 where
@@ -85,7 +59,7 @@ later_passes test v vs none k = elim (eqb_tells v.identity k.who) [
   | inr y ↦ record { who = k.who; kept = k.kept; is = rw y.0 k.is; passes = k.passes }
 ]
 
-pub any_passes : {P : Type 0} (test : P → Bool) (ps : List (Participant P)) → Apart ps → list_any (λ v. test v.program) ps ≡ true → Passes test ps
+pub any_passes : {P : Type 0} (test : P → Bool) (ps : List (Participant P)) → AreDistinct ps → list_any (λ v. test v.program) ps ≡ true → Passes test ps
 any_passes test [] a h = absurd (cc)
 any_passes test (v ∷ vs) a h = elim (cases_Bool (test v.program)) [
   | inl y ↦ record { who = v.identity; kept = v.program; is = rw (eq-eqb v.identity v.identity refl) refl; passes = y }
@@ -100,12 +74,29 @@ passes_any test (v ∷ vs) p x is h = elim (eqb_tells v.identity p) [
 ]
 
 -- what is seen of all as before, and of one who is changed so that it is seen as before
-pub seen_kept : {X Y : Type 0} (g : Option X → Y) (f : ℕ → Y) (who : ℕ → Option X) (p : ℕ) (new : X) → ((q : ℕ) → f q ≡ g (who q)) → g (who p) ≡ g (Some new) → (q : ℕ) → f q ≡ g (set_at who p (Some new) q)
-seen_kept g f who p new as_is same q = elim (eqb_tells q p) [
-  | inl y ↦ rw y.0 (as_is q ∙ ap (λ x. g (who x)) y.1 ∙ same)
-  | inr y ↦ rw y.0 (as_is q)
-]
+pub seen_kept : {X Y : Type 0} (g : Option X → Y) (f : ℕ → Y) (who : ℕ → Option X) (p : ℕ) (new : Option X) → ((q : ℕ) → f q ≡ g (who q)) → g (who p) ≡ g new → (q : ℕ) → f q ≡ g (set_at who p new q)
+seen_kept g f who p new as_is same q = set_at-cases who p new (λ x. f q ≡ g x) q (λ e. as_is q ∙ ap (λ x. g (who x)) e ∙ same) (λ _. as_is q)
 
 -- what is seen of all, where one is changed
-pub seen_set : {X Y : Type 0} (g : Option X → Y) (f : ℕ → Y) (who : ℕ → Option X) (p : ℕ) (new : X) (seen : Y) → ((q : ℕ) → f q ≡ g (who q)) → seen ≡ g (Some new) → (q : ℕ) → set_at f p seen q ≡ g (set_at who p (Some new) q)
-seen_set g f who p new seen as_is same q = elim (q == p) as (λ b. cond b seen (f q) ≡ g (cond b (Some new) (who q))) [ true ↦ same | false ↦ as_is q ]
+pub seen_set : {X Y : Type 0} (g : Option X → Y) (f : ℕ → Y) (who : ℕ → Option X) (p : ℕ) (new : Option X) (seen : Y) → ((q : ℕ) → f q ≡ g (who q)) → seen ≡ g new → (q : ℕ) → set_at f p seen q ≡ g (set_at who p new q)
+seen_set g f who p new seen as_is same q = elim (q == p) as (λ b. cond b seen (f q) ≡ g (cond b new (who q))) [ true ↦ same | false ↦ as_is q ]
+
+-- ---- a number that each may hold
+
+held_is : (n : ℕ) (x : Option ℕ) → is_held n x ≡ true → x ≡ Some n
+held_is n None h = absurd (cc)
+held_is n (Some m) h = elim (eqb_tells m n) [ inl y ↦ ap Some y.1 | inr y ↦ absurd (false≢true (sym y.0 ∙ h)) ]
+
+module _ {P : Type 0} (field : P → Option ℕ) (f : ℕ → Option ℕ) (ps : List (Participant P)) (n : ℕ) (as_is : (q : ℕ) → f q ≡ option_and_then field (program_of q ps)) where
+  has : (q : ℕ) (x : Option P) → program_of q ps ≡ x → option_and_then field x ≡ Some n → list_any (λ v. is_held n (field v.program)) ps ≡ true
+  has q None is e = absurd (cc)
+  has q (Some x) is e = passes_any (λ s. is_held n (field s)) ps q x is (rw e (eq-eqb n n refl))
+
+  -- nobody has what is not found in the list, and somebody what is
+  pub nobody_has : list_any (λ v. is_held n (field v.program)) ps ≡ false → (q : ℕ) → f q ≡ Some n → ⊥
+  nobody_has none q e = false≢true (sym none ∙ has q (program_of q ps) refl (sym (as_is q) ∙ e))
+
+  pub somebody_has : AreDistinct ps → list_any (λ v. is_held n (field v.program)) ps ≡ true → (q : ℕ) × (f q ≡ Some n)
+  somebody_has distinct some =
+      let k = any_passes (λ s. is_held n (field s)) ps distinct some in
+      (k.who, as_is k.who ∙ ap (option_and_then field) k.is ∙ held_is n (field k.kept) k.passes)

@@ -1,12 +1,12 @@
 -- rows of views
-use Rattle.std.proofs.Common.{◌≡◌, ℕ, zero, suc, ◌<◌, ◌≤◌, ◌==◌, inl, inr, true, false, cond, List, [], ◌∷◌, length, get_or, refl, sym, ap, ◌∙◌, subst, arith, Some, None, Option, slice_index, slice_set, replicate}
+use Rattle.std.proofs.Common.{◌≡◌, ℕ, zero, suc, ◌<◌, ◌≤◌, ◌↔◌, inl, inr, true, false, List, [], ◌∷◌, length, get_or, refl, sym, ap, ◌∙◌, subst, arith, Some, None, Option, slice_index, slice_set, replicate}
 use Rattle.std.specs.Prelude.{nat_lt}
-use Rattle.std.proofs.lemmas.Bool.{cases_Bool, ltb-true, ltb-false, ne_eqb, eq-eqb}
+use Rattle.std.proofs.lemmas.Bool.{cases_Bool, ltb-true, ltb-false}
 use Rattle.std.proofs.lemmas.Bool.Decides.{eqb_tells}
 use Rattle.std.proofs.lemmas.Grind.{same_number_lists}
 use Rattle.std.proofs.lemmas.List.{get_or-set_same, get_or-set_other, length-set}
 use Rattle.step_memory.specs.Participant.{program_of}
-use Rattle.step_memory.specs.View.{IsAbove, IsRising, value_of}
+use Rattle.step_memory.specs.View.{IsRising, value_of}
 use Rattle.snapshot_core.specs.Snapshot.{IsMoment}
 use Rattle.rename_core.specs.RenameObject.{RenameTerms, RenameObject, IsRecent, ShowsConflict, ShowsSole}
 use Rattle.run_checker.specs.declared.names.Names.{Names}
@@ -16,36 +16,15 @@ use Rattle.run_checker.specs.Moments.{crowded, SomeSince}
 use Rattle.run_checker.specs.Rows.{HasPair, LacksPair, IsRowOf, TellsMoments, TellsSince}
 use Rattle.run_checker.specs.Standing.{number_told, told_in, HoldsNames, turns_in}
 use Rattle.run_checker.proofs.seats.Turned.{zero_at}
-use Rattle.run_checker.proofs.seats.Crowds.{number_some, some_number}
-use Rattle.run_checker.proofs.Deciding.{recent, since_of_recent, conflicts, crowds, sole, quiet, own_is}
-
--- no identity of a rising list comes again
-above_all : (n : ℕ) (xs : List (ℕ × ℕ)) (j : ℕ) (d : ℕ × ℕ) → IsAbove n xs → IsRising xs → j < length xs → n < (get_or xs j d).0
-above_all n [] j d a r l = absurd (omega arith)
-above_all n (x ∷ xs) zero d a r l = a
-above_all n (x ∷ xs) (suc j) d a r l = let k = above_all x.0 xs j d r.0 r.1 (omega arith) in omega arith
+use Rattle.run_checker.proofs.seats.Crowds.{number_some, some_number, has_seat}
+use Rattle.run_checker.proofs.Views.{here, said_further}
+use Rattle.run_checker.proofs.Deciding.{recent, since_of_recent, conflicts, stands_alone, own_is}
 
 -- what stands in a rising list is the value of its identity
 pub value_at : (xs : List (ℕ × ℕ)) (j : ℕ) (d : ℕ × ℕ) → IsRising xs → j < length xs → value_of (get_or xs j d).0 xs ≡ Some (get_or xs j d).1
 value_at [] j d r l = absurd (omega arith)
-value_at (x ∷ xs) zero d r l = rw (eq-eqb x.0 x.0 refl) refl
-value_at (x ∷ xs) (suc j) d r l =
-    let above = above_all x.0 xs j d r.0 r.1 (omega arith) in
-    rw (ne_eqb x.0 (get_or xs j d).0 (λ e. absurd (omega arith))) (value_at xs j d r.1 (omega arith))
-
--- what a row says is some number, or nothing
-positive : (row : List ℕ) (o : Option Turn) (n : ℕ) → told_in row o ≡ Some n → 1 ≤ n
-positive row None n h = absurd (cc)
-positive row (Some t) n h =
-    let e : slice_index row t.seat ≡ n = some_number _ n h in
-    elim (eqb_tells n 0) [
-      | inl y ↦ absurd (let z : slice_index row t.seat ≡ 0 = e ∙ y.1 in let k : number_told 0 ≡ Some n = ap number_told (sym z) ∙ h in cc)
-      | inr y ↦ (let d = y.1 in omega arith)
-    ]
-
-seat_of : (turns : ℕ → Option Turn) (row : List ℕ) (p n : ℕ) (o : Option Turn) → turns p ≡ o → told_in row o ≡ Some n → (t : Turn) × (turns p ≡ Some t) × (slice_index row t.seat ≡ n)
-seat_of turns row p n None e h = absurd (cc)
-seat_of turns row p n (Some t) e h = (t, e, some_number _ n h)
+value_at (x ∷ xs) zero d r l = here x xs
+value_at (x ∷ xs) (suc j) d r l = said_further x xs (get_or xs j d).0 (get_or xs j d).1 r (value_at xs j d r.1 (omega arith))
 
 -- a list that has a pair that no moment has is no moment
 pub no_moment : (terms : RenameTerms) (s : Names) (o : RenameObject) (view : List (ℕ × ℕ)) (j : ℕ) (d : ℕ × ℕ) (i : ℕ) → HoldsNames terms s o → i ≤ o.last → IsRising view → j < length view →
@@ -54,10 +33,10 @@ no_moment terms s o view j d i h l r inside lacks is =
     let p : ℕ = (get_or view j d).0 in
     let n : ℕ = (get_or view j d).1 in
     let says : told_in (h.turns.rows i) (turns_in s.participants.items p) ≡ Some n = sym (h.turns.shown i l p) ∙ sym (is.values p) ∙ value_at view j d r inside in
-    let t = seat_of (turns_in s.participants.items) (h.turns.rows i) p n (turns_in s.participants.items p) refl says in
-    let small = h.turns.small i l t.0.seat in
-    let e = t.2 in
-    lacks t.0 t.1 (positive (h.turns.rows i) (turns_in s.participants.items p) n says) (omega arith)
+    let t = has_seat (turns_in s.participants.items) (h.turns.rows i) p n (turns_in s.participants.items p) refl says in
+    let small = h.turns.small i l t.turn.seat in
+    let at = t.at in
+    lacks t.turn t.is t.positive (omega arith)
 
 told_zero : (o : Option Turn) → told_in (replicate 64 0) o ≡ None
 told_zero None = refl
@@ -93,14 +72,8 @@ one_pair terms s o h xs x row seat r k =
 
 number_told_one : (a b : ℕ) → number_told a ≡ number_told b → a ≡ b
 number_told_one a b e = elim (eqb_tells a 0) [
-  | inl y ↦ elim (eqb_tells b 0) [
-    | inl z ↦ y.1 ∙ sym z.1
-    | inr z ↦ absurd (let k : None ≡ Some b = (let f : cond (a == 0) None (Some a) ≡ cond (b == 0) None (Some b) = e in rw (y.0, z.0) at f) in cc)
-  ]
-  | inr y ↦ elim (eqb_tells b 0) [
-    | inl z ↦ absurd (let k : Some a ≡ None = (let f : cond (a == 0) None (Some a) ≡ cond (b == 0) None (Some b) = e in rw (y.0, z.0) at f) in cc)
-    | inr z ↦ (let k : Some a ≡ Some b = (let f : cond (a == 0) None (Some a) ≡ cond (b == 0) None (Some b) = e in rw (y.0, z.0) at f) in cc)
-  ]
+  | inl y ↦ elim (eqb_tells b 0) [ inl z ↦ y.1 ∙ sym z.1 | inr z ↦ (let some = z.1 in (some_number a b (e ∙ number_some b (omega arith))).0) ]
+  | inr y ↦ (let some = y.1 in sym (some_number b a (sym e ∙ number_some a (omega arith))).0)
 ]
 
 -- a rising list is a moment exactly where its row is the moment's
@@ -137,32 +110,32 @@ module _ (terms : RenameTerms) (s : Names) (o : RenameObject) (p : ℕ) (st : St
       cc
 
   module _ (row : List ℕ) (tells : TellsSince o h.turns.rows st.turn.since view (Some row)) where
-    pub shows : crowded st.turn.number row ≡ true → ShowsConflict o p view
-    shows crowd =
-        let k = tells.0 in
-        record {
-          index = k.index;
-          recent = recent terms s o p st h is some k.index k.no_earlier k.no_later;
-          is = k.passes;
-          conflict = conflicts terms s o p st h is some k.index k.no_earlier k.no_later (ap (crowded st.turn.number) (tells.1 k.index k.no_later k.passes) ∙ crowd);
-        }
+    pub conflict_shown : (crowded st.turn.number row ≡ true) ↔ ShowsConflict o p view
+    conflict_shown = (
+      (λ crowd.
+          let k = tells.0 in
+          record {
+            index = k.index;
+            recent = recent terms s o p st h is some k.index k.no_earlier k.no_later;
+            is = k.passes;
+            conflict = (conflicts terms s o p st h is some k.index k.no_earlier k.no_later).0 (ap (crowded st.turn.number) (tells.1 k.index k.no_later k.passes) ∙ crowd);
+          }),
+      (λ c.
+          let from = since_of_recent terms s o p st h is some c.index c.recent in
+          ap (crowded st.turn.number) (sym (tells.1 c.index c.recent.no_later c.is)) ∙ (conflicts terms s o p st h is some c.index from c.recent.no_later).1 c.conflict),
+    )
 
-    pub was_shown : ShowsConflict o p view → crowded st.turn.number row ≡ true
-    was_shown c =
-        let from = since_of_recent terms s o p st h is some c.index c.recent in
-        ap (crowded st.turn.number) (sym (tells.1 c.index c.recent.no_later c.is)) ∙ crowds terms s o p st h is some c.index from c.recent.no_later c.conflict
-
-    pub shows_alone : crowded st.turn.number row ≡ false → ShowsSole o p st.turn.number view
-    shows_alone calm =
-        let k = tells.0 in
-        record {
-          index = k.index;
-          recent = recent terms s o p st h is some k.index k.no_earlier k.no_later;
-          is = k.passes;
-          sole = sole terms s o p st h is some k.index k.no_earlier k.no_later (ap (crowded st.turn.number) (tells.1 k.index k.no_later k.passes) ∙ calm);
-        }
-
-    pub was_alone : ShowsSole o p st.turn.number view → crowded st.turn.number row ≡ false
-    was_alone c =
-        let from = since_of_recent terms s o p st h is some c.index c.recent in
-        ap (crowded st.turn.number) (sym (tells.1 c.index c.recent.no_later c.is)) ∙ quiet terms s o p st h is some c.index from c.recent.no_later c.sole
+    pub sole_shown : (crowded st.turn.number row ≡ false) ↔ ShowsSole o p st.turn.number view
+    sole_shown = (
+      (λ calm.
+          let k = tells.0 in
+          record {
+            index = k.index;
+            recent = recent terms s o p st h is some k.index k.no_earlier k.no_later;
+            is = k.passes;
+            sole = (stands_alone terms s o p st h is some k.index k.no_earlier k.no_later).0 (ap (crowded st.turn.number) (tells.1 k.index k.no_later k.passes) ∙ calm);
+          }),
+      (λ c.
+          let from = since_of_recent terms s o p st h is some c.index c.recent in
+          ap (crowded st.turn.number) (sym (tells.1 c.index c.recent.no_later c.is)) ∙ (stands_alone terms s o p st h is some c.index from c.recent.no_later).1 c.sole),
+    )

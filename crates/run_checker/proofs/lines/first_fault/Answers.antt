@@ -13,21 +13,19 @@ loop-i-init c = c.in_ok-checker.ensures
 few_taken : (lines : List Line) (i : ℕ) → i < length lines → length lines < 1000001 → length (take i lines) < 2 ^ 62
 few_taken lines i l few = let e = length-take-le i lines (omega arith) in omega arith
 
-pub returns-in-Some-clause-fault : goal.returns-in-Some-clause-fault
-returns-in-Some-clause-fault c =
+pub returns-in-Some : goal.returns-in-Some
+returns-in-Some c =
     let few = c.requires in
-    let on = c.in_ok-reason.ensures (terms_of c.args.config) c.args.config.k (take c.loop-i.i c.args.lines.now) c.loop-i.invariant (few_taken c.args.lines.now c.loop-i.i c.loop-i-test.true (omega arith)) in
-    let fault : IsFaultAfter (terms_of c.args.config) c.args.config.k (take c.loop-i.i c.args.lines.now) c.index-lines-i.result c.in-Some.reason =
-    subst (λ (o : Option Reason). TakesOn (terms_of c.args.config) c.args.config.k (take c.loop-i.i c.args.lines.now) c.index-lines-i.result o c.judge.new.self) c.in-Some.is on in
-    first_at (terms_of c.args.config) c.args.config.k c.args.lines.now c.loop-i.i c.index-lines-i.result c.in-Some.reason c.loop-i-test.true c.index-lines-i.is fault
-
-pub returns-in-Some-clause-none : goal.returns-in-Some-clause-none
-returns-in-Some-clause-none c =
-    let few = c.requires in
-    let on = c.in_ok-reason.ensures (terms_of c.args.config) c.args.config.k (take c.loop-i.i c.args.lines.now) c.loop-i.invariant (few_taken c.args.lines.now c.loop-i.i c.loop-i-test.true (omega arith)) in
-    let fault : IsFaultAfter (terms_of c.args.config) c.args.config.k (take c.loop-i.i c.args.lines.now) c.index-lines-i.result c.in-Some.reason =
-    subst (λ (o : Option Reason). TakesOn (terms_of c.args.config) c.args.config.k (take c.loop-i.i c.args.lines.now) c.index-lines-i.result o c.judge.new.self) c.in-Some.is on in
-    ((λ e. absurd (cc)), (λ r. absurd (not_run (terms_of c.args.config) c.args.config.k c.args.lines.now c.loop-i.i c.index-lines-i.result c.in-Some.reason c.loop-i-test.true c.index-lines-i.is fault r)))
+    let terms = terms_of c.args.config in
+    let k = c.args.config.k in
+    let lines = c.args.lines.now in
+    let on = c.in_ok-reason.ensures terms k (take c.loop-i.i lines) c.loop-i.invariant (few_taken lines c.loop-i.i c.loop-i-test.true (omega arith)) in
+    let fault : IsFaultAfter terms k (take c.loop-i.i lines) c.index-lines-i.result c.in-Some.reason =
+    subst (λ (o : Option Reason). TakesOn terms k (take c.loop-i.i lines) c.index-lines-i.result o c.judge.new.self) c.in-Some.is on in
+    record {
+      fault = first_at terms k lines c.loop-i.i c.index-lines-i.result c.in-Some.reason c.loop-i-test.true c.index-lines-i.is fault;
+      none = ((λ e. absurd (cc)), (λ r. absurd (not_run terms k lines c.loop-i.i c.index-lines-i.result c.in-Some.reason c.loop-i-test.true c.index-lines-i.is fault r)));
+    }
 
 pub loop-i-preserved : goal.loop-i-preserved
 loop-i-preserved c =
@@ -39,10 +37,8 @@ loop-i-preserved c =
     take_more c.args.lines.now c.loop-i.i c.index-lines-i.result c.loop-i-test.true ∙ ap (λ (x : Line). take c.loop-i.i c.args.lines.now ++ x ∷ []) (sym c.index-lines-i.is) in
     rw more taken
 
-pub returns-clause-fault : goal.returns-clause-fault
-returns-clause-fault c =
+pub returns : goal.returns
+returns c =
     let all : take c.loop-i.i c.args.lines.now ≡ c.args.lines.now = take_all c.loop-i.i c.args.lines.now (let e = c.loop-i-test.false in omega arith) in
-    follows_run (terms_of c.args.config) c.args.config.k c.args.lines.now c.loop-i.invariant.object (rw all at c.loop-i.invariant.run)
-
-pub returns-clause-none : goal.returns-clause-none
-returns-clause-none c = ((λ e. returns-clause-fault c), (λ r. refl))
+    let run = follows_run (terms_of c.args.config) c.args.config.k c.args.lines.now c.loop-i.invariant.object (rw all at c.loop-i.invariant.run) in
+    record { fault = run; none = ((λ e. run), (λ r. refl)) }

@@ -1,24 +1,23 @@
-use Rattle.std.proofs.Common.{◌≡◌, ◌∙◌, Some, None, sym, ap, subst, List, ℕ, Option}
+use Rattle.std.proofs.Common.{◌∙◌, Some, None, sym, subst, List, ℕ, Option}
 use Rattle.std.proofs.lemmas.Bool.{false≢true}
-use Rattle.step_memory.specs.Participant.{program_of}
+use Rattle.run_checker.proofs.seats.People.{there}
 use Rattle.run_checker.specs.Rows.{TellsSince}
-use Rattle.run_checker.proofs.seats.Rows.{shows, was_shown, no_conflict}
+use Rattle.run_checker.proofs.seats.Rows.{conflict_shown, no_conflict}
 use Rattle.run_checker.proofs.names.Names.shows_conflict.Goals as goal
 
 pub returns-in-Some-row_since : goal.returns-in-Some-row_since
 returns-in-Some-row_since c = λ terms o h some.
-    let there : program_of c.args.id c.args.self.now.participants.items ≡ Some c.in-Some.standing = sym (c.find.ensures ∙ ap (program_of c.args.id) c.deref.ensures.value) ∙ c.in-Some.is in
+    let is = there c.args.id c.find.ensures c.deref.ensures.value c.in-Some.is in
     let tells : TellsSince o h.turns.rows c.in-Some.standing.turn.since c.args.view.now (Some c.in-Some-row_since.row) =
-    subst (λ (x : Option (List ℕ)). TellsSince o h.turns.rows c.in-Some.standing.turn.since c.args.view.now x) c.in-Some-row_since.is (c.row_since.ensures terms o h) in (
-      (λ y. shows terms c.args.self.now o c.args.id c.in-Some.standing h there some c.args.view.now c.in-Some-row_since.row tells (sym c.is_crowded.ensures ∙ y)),
-      (λ k. c.is_crowded.ensures ∙ was_shown terms c.args.self.now o c.args.id c.in-Some.standing h there some c.args.view.now c.in-Some-row_since.row tells k),
-    )
+    subst (λ (x : Option (List ℕ)). TellsSince o h.turns.rows c.in-Some.standing.turn.since c.args.view.now x) c.in-Some-row_since.is (c.row_since.ensures terms o h) in
+    let w = conflict_shown terms c.args.self.now o c.args.id c.in-Some.standing h is some c.args.view.now c.in-Some-row_since.row tells in
+    ((λ y. w.0 (sym c.is_crowded.ensures ∙ y)), (λ k. c.is_crowded.ensures ∙ w.1 k))
 
 pub returns-in-None : goal.returns-in-None
 returns-in-None c = λ terms o h some.
-    let there : program_of c.args.id c.args.self.now.participants.items ≡ Some c.in-Some.standing = sym (c.find.ensures ∙ ap (program_of c.args.id) c.deref.ensures.value) ∙ c.in-Some.is in
+    let is = there c.args.id c.find.ensures c.deref.ensures.value c.in-Some.is in
     let none : TellsSince o h.turns.rows c.in-Some.standing.turn.since c.args.view.now None =
     subst (λ (x : Option (List ℕ)). TellsSince o h.turns.rows c.in-Some.standing.turn.since c.args.view.now x) c.in-None.is (c.row_since.ensures terms o h) in (
       (λ y. absurd (false≢true y)),
-      (λ k. absurd (no_conflict terms c.args.self.now o c.args.id c.in-Some.standing h there some c.args.view.now none k)),
+      (λ k. absurd (no_conflict terms c.args.self.now o c.args.id c.in-Some.standing h is some c.args.view.now none k)),
     )

@@ -1,9 +1,9 @@
 use Rattle.std.proofs.Common.{◌≡◌, ◌∙◌, Bool, true, false, not, Some, None, refl, sym, ap, subst, List, ℕ, Option}
 use Rattle.std.proofs.lemmas.Bool.{false≢true}
-use Rattle.step_memory.specs.Participant.{program_of}
+use Rattle.run_checker.proofs.seats.People.{there}
 use Rattle.rename_core.specs.RenameObject.{ShowsSole}
 use Rattle.run_checker.specs.Rows.{TellsSince}
-use Rattle.run_checker.proofs.seats.Rows.{shows_alone, was_alone, no_sole, sole_number}
+use Rattle.run_checker.proofs.seats.Rows.{sole_shown, no_sole, sole_number}
 use Rattle.run_checker.proofs.names.Names.shows_sole.Goals as goal
 
 not_true : (b : Bool) → not b ≡ true → b ≡ false
@@ -12,28 +12,27 @@ not_true false h = refl
 
 pub returns-then-from-number : goal.returns-then-from-number
 returns-then-from-number c = λ terms o h some.
-    let there : program_of c.args.id c.args.self.now.participants.items ≡ Some c.in-Some.standing = sym (c.find.ensures ∙ ap (program_of c.args.id) c.deref.ensures.value) ∙ c.in-Some.is in (
+    let is = there c.args.id c.find.ensures c.deref.ensures.value c.in-Some.is in (
       (λ y. absurd (false≢true y)),
-      (λ k. absurd (c.if-from-number.true (c.from.ensures ∙ sole_number terms c.args.self.now o c.args.id c.in-Some.standing h there some c.args.view.now c.args.number k))),
+      (λ k. absurd (c.if-from-number.true (c.from.ensures ∙ sole_number terms c.args.self.now o c.args.id c.in-Some.standing h is some c.args.view.now c.args.number k))),
     )
 
 pub returns-in-Some-row_since : goal.returns-in-Some-row_since
 returns-in-Some-row_since c = λ terms o h some.
-    let there : program_of c.args.id c.args.self.now.participants.items ≡ Some c.in-Some.standing = sym (c.find.ensures ∙ ap (program_of c.args.id) c.deref.ensures.value) ∙ c.in-Some.is in
+    let is = there c.args.id c.find.ensures c.deref.ensures.value c.in-Some.is in
     let same : c.in-Some.standing.turn.number ≡ c.args.number = sym c.from.ensures ∙ c.if-from-number.false in
     let tells : TellsSince o h.turns.rows c.in-Some.standing.turn.since c.args.view.now (Some c.in-Some-row_since.row) =
-    subst (λ (x : Option (List ℕ)). TellsSince o h.turns.rows c.in-Some.standing.turn.since c.args.view.now x) c.in-Some-row_since.is (c.row_since.ensures terms o h) in (
-      (λ y. subst (λ (n : ℕ). ShowsSole o c.args.id n c.args.view.now) same
-          (shows_alone terms c.args.self.now o c.args.id c.in-Some.standing h there some c.args.view.now c.in-Some-row_since.row tells (sym c.is_crowded.ensures ∙ not_true c.is_crowded.result y))),
-      (λ k. ap not (c.is_crowded.ensures ∙ was_alone terms c.args.self.now o c.args.id c.in-Some.standing h there some c.args.view.now c.in-Some-row_since.row tells
-          (subst (λ (n : ℕ). ShowsSole o c.args.id n c.args.view.now) (sym same) k))),
+    subst (λ (x : Option (List ℕ)). TellsSince o h.turns.rows c.in-Some.standing.turn.since c.args.view.now x) c.in-Some-row_since.is (c.row_since.ensures terms o h) in
+    let w = sole_shown terms c.args.self.now o c.args.id c.in-Some.standing h is some c.args.view.now c.in-Some-row_since.row tells in (
+      (λ y. subst (λ (n : ℕ). ShowsSole o c.args.id n c.args.view.now) same (w.0 (sym c.is_crowded.ensures ∙ not_true c.is_crowded.result y))),
+      (λ k. ap not (c.is_crowded.ensures ∙ w.1 (subst (λ (n : ℕ). ShowsSole o c.args.id n c.args.view.now) (sym same) k))),
     )
 
 pub returns-in-None : goal.returns-in-None
 returns-in-None c = λ terms o h some.
-    let there : program_of c.args.id c.args.self.now.participants.items ≡ Some c.in-Some.standing = sym (c.find.ensures ∙ ap (program_of c.args.id) c.deref.ensures.value) ∙ c.in-Some.is in
+    let is = there c.args.id c.find.ensures c.deref.ensures.value c.in-Some.is in
     let none : TellsSince o h.turns.rows c.in-Some.standing.turn.since c.args.view.now None =
     subst (λ (x : Option (List ℕ)). TellsSince o h.turns.rows c.in-Some.standing.turn.since c.args.view.now x) c.in-None.is (c.row_since.ensures terms o h) in (
       (λ y. absurd (false≢true y)),
-      (λ k. absurd (no_sole terms c.args.self.now o c.args.id c.in-Some.standing h there some c.args.view.now c.args.number none k)),
+      (λ k. absurd (no_sole terms c.args.self.now o c.args.id c.in-Some.standing h is some c.args.view.now c.args.number none k)),
     )

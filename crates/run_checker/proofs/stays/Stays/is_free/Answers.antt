@@ -2,7 +2,7 @@ use Rattle.std.proofs.Common.{◌≡◌, ◌∙◌, true, not, sym, ap, arith, i
 use Rattle.std.specs.List.{list_any}
 use Rattle.std.proofs.lemmas.Bool.{cases_Bool}
 use Rattle.run_checker.specs.Standing.{is_held}
-use Rattle.run_checker.proofs.StayLemmas.{nobody_holds, somebody_holds}
+use Rattle.run_checker.proofs.seats.People.{nobody_has, somebody_has}
 use Rattle.run_checker.proofs.stays.Stays.is_free.Goals as goal
 
 pub returns : goal.returns
@@ -14,10 +14,10 @@ returns c = λ o h.
     elim (cases_Bool c.is_taken.result) [
       | inl y ↦ (
         (λ z. absurd (let k : not true ≡ true = ap not (sym y) ∙ z in cc)),
-        (λ free. absurd (let w = somebody_holds c.args.self.now o c.args.number h (sym taken ∙ y) in free.unheld w.0 w.1)),
+        (λ free. absurd (let w = somebody_has (λ v. v.held) o.pool.held c.args.self.now.competitors.items c.args.number h.held h.apart (sym taken ∙ y) in free.unheld w.0 w.1)),
       )
       | inr y ↦ (
-        (λ z. record { first = omega arith; last = omega arith; unheld = nobody_holds c.args.self.now o c.args.number h (sym taken ∙ y) }),
+        (λ z. record { first = omega arith; last = omega arith; unheld = nobody_has (λ v. v.held) o.pool.held c.args.self.now.competitors.items c.args.number h.held (sym taken ∙ y) }),
         (λ free. ap not y),
       )
     ]
