@@ -1,8 +1,7 @@
 -- bytes with no separator are one piece
 use Rattle.std.proofs.Common.{◌≡◌, ◌==◌, ℕ, Bool, true, not, List, [], ◌∷◌, ◌++◌, refl, sym, ap, ◌∙◌, append_assoc, append-nil, eq-eqb}
-use Rattle.std.specs.List.{list_all}
+use Rattle.record_lines.proofs.Common.{list_all, pieces_from, has_no_lf, with_ends}
 use Rattle.std.proofs.lemmas.Bool.{and_parts, not-true}
-use Rattle.player.specs.Lines.{pieces_from, has_no_lf, with_ends}
 use Rattle.record_lines.specs.Records.{lines_from, lines_of, record_lines}
 
 -- whether none of these is the separator
