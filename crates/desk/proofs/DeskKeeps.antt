@@ -1,36 +1,20 @@
 -- a desk over places of one kind goes on, event by event, and keeps the laws of its parts
-use Rattle.std.proofs.Common.{◌≡◌, ℕ, zero, suc, ◌-◌, true, inl, inr, List, [], ◌∷◌, ◌++◌, map, replicate, Some, None, Result, Ok, Err, refl, sym, ap, subst, ◌∙◌}
-use Rattle.std.specs.Prelude.{slice_get, slice_index}
-use Rattle.step_memory.specs.declared.refusal.Refusal.{Refusal}
+use Rattle.std.proofs.Common.{◌≡◌, ℕ, zero, suc, ◌-◌, true, inl, inr, List, [], ◌∷◌, ◌++◌, map, replicate, Some, None, Result, Ok, Err, refl, sym, ap, subst, ◌∙◌, slice_get, slice_index}
+use Rattle.desk.proofs.Common.{Refusal, Call, Began, Stepped, begin_refusal, done_unless, KnownPlaces, SnapBounds, StepReply, WorldKind, Entered, Probed, Left, SlotCall, Pooled, Stored, Fetched, Extended, Event, ShownReply, DeskState, IsDeskRun, desk_terms, Renamed, Slotted}
 use Rattle.step_memory.specs.declared.refusal.Refusal.TheVariants as refusal
-use Rattle.step_memory.specs.Calls.{Call}
-use Rattle.step_memory.specs.Calls.Call.{Began, Stepped}
-use Rattle.step_memory.specs.World.{begin_refusal, done_unless}
-use Rattle.snapshot_core.specs.Places.{KnownPlaces}
-use Rattle.snapshot_core.specs.Snapshot.{SnapBounds}
-use Rattle.rename_core.specs.Reply.{StepReply}
 use Rattle.step_memory.specs.Machine.{After}
 use Rattle.step_memory.proofs.MachineLemmas.{call_leads_on}
 use Rattle.rename_core.specs.Machine.{next, IsReply, renaming, IsLawfulWithin}
 use Rattle.commands.specs.Config.{is_tree}
 use Rattle.rename_core.specs.Law.{KeepsRenameLaw}
-use Rattle.commands.specs.declared.kind.WorldKind.{WorldKind}
 use Rattle.rename_core.specs.RenameWorld.{rename_answer, step_refusal, may_lack}
 use Rattle.bit_allocator.specs.Pool.{enter_answer, probe_answer, number_answer, widen_answer}
-use Rattle.bit_allocator.specs.Calls.Call.{Entered, Probed, Left}
-use Rattle.slot_array.specs.SlotCalls.{SlotCall}
-use Rattle.slot_array.specs.SlotCalls.SlotCall.{Pooled, Stored, Fetched, Extended}
 use Rattle.slot_array.specs.Slots.{stored_reply, IsFetched}
 use Rattle.slot_array.specs.Machine.{slots, slots_next, IsSlotReply}
 use Rattle.slot_array.proofs.SlotsKeep.{slots_law, slot_there}
-use Rattle.commands.specs.declared.event.Event.{Event}
 use Rattle.commands.specs.declared.event.Event.TheVariants.{Begin, Step, Enter, Probe, Leave, Put, Get, Widen}
-use Rattle.commands.specs.Replies.{ShownReply}
 use Rattle.commands.specs.declared.reply.Reply.TheVariants as reply
-use Rattle.desk.specs.DeskState.{DeskState}
-use Rattle.desk.specs.DeskRun.{IsDeskRun, desk_terms}
 use Rattle.desk.specs.DeskCalls.{DeskCall, rename_calls, slot_calls, exchange, exchange_of, BeginsSlots, BeginSlots, AfterDesk, LeadsBy}
-use Rattle.desk.specs.DeskCalls.DeskCall.{Renamed, Slotted}
 use Rattle.desk.specs.DeskRules.{fetched, call_for, next_over, reply_over, after_over, grows_over, grows_by, rules_over}
 use Rattle.desk.specs.Rules.{may_by}
 
@@ -109,13 +93,7 @@ module _ {S R V U K : Type 0} (W : KnownPlaces S R V U K) (kind : WorldKind) (mo
   -- and is of that event
   call_spelled : (e : Event) → exchange_of (call_for W w e) ≡ exchange e (reply_over W w e)
   call_spelled (Begin p) = refl
-  call_spelled (Step p) = refl
-  call_spelled (Enter p) = refl
-  call_spelled (Probe p) = refl
-  call_spelled (Leave p) = refl
-  call_spelled (Put p value) = refl
-  call_spelled (Get p) = refl
-  call_spelled (Widen more) = refl
+  call_spelled e = refl
 
   -- a step for which a growth was refused is a call too
   lacking : (p : ℕ) → grows_over W w (Step p) ≡ true → AfterDesk W kind most limit size w (calls ++ Renamed (Stepped p (Err refusal.NoMemory)) ∷ [])
@@ -125,14 +103,8 @@ module _ {S R V U K : Type 0} (W : KnownPlaces S R V U K) (kind : WorldKind) (mo
   ] refl h
 
   lack_leads : (e : Event) → grows_over W w e ≡ true → LeadsBy W kind most limit size calls e (reply.Refused refusal.NoMemory) w
-  lack_leads (Begin p) h = absurd (cc)
   lack_leads (Step p) h = record { call = Renamed (Stepped p (Err refusal.NoMemory)); spelled = refl; after = lacking p h }
-  lack_leads (Enter p) h = absurd (cc)
-  lack_leads (Probe p) h = absurd (cc)
-  lack_leads (Leave p) h = absurd (cc)
-  lack_leads (Put p value) h = absurd (cc)
-  lack_leads (Get p) h = absurd (cc)
-  lack_leads (Widen more) h = absurd (cc)
+  lack_leads e h = absurd (cc)
 
   -- so calls lead on by whatever a desk may answer
   pub goes_on : (e : Event) (r : ShownReply) (u : DeskState S U K) → may_by (rules_over W) w e r u → LeadsBy W kind most limit size calls e r u

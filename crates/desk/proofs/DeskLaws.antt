@@ -1,9 +1,9 @@
 -- a desk of either world keeps its laws
 use Rattle.std.proofs.Common.{◌≡◌, ℕ, ◌-◌, ◌*◌, ◌≤◌, true, inl, inr, List, [], map, replicate, Option, refl, sym, ap, subst, ◌∙◌, arith}
+use Rattle.desk.proofs.Common.{SnapBounds, WorldKind, Exchange, DeskCall, rename_calls, exchange_of, AfterDesk, DeskState}
 use Rattle.std.proofs.Math.ListN.{length-replicate}
 use Rattle.std.proofs.lemmas.Bool.Decides.{eqb_tells, leb_tells}
 use Rattle.snapshot_core.specs.Places.{KnownPlaces, PlacesLaws}
-use Rattle.snapshot_core.specs.Snapshot.{SnapBounds}
 use Rattle.snapshot_places.specs.Bounds.{grid_bounds, tree_bounds}
 use Rattle.snapshot_places.specs.Grid.{fresh_grid}
 use Rattle.snapshot_places.specs.GridProofs.{grid_laws}
@@ -16,7 +16,6 @@ use Rattle.commands.specs.Config.{is_tree, gives_names, most_in}
 use Rattle.commands.specs.KindProofs.{where_named}
 use Rattle.rename_core.specs.EmptyPlaces.{AreEmptyFor, grid_empty, tree_empty}
 use Rattle.commands.specs.declared.config.Config.{Config}
-use Rattle.commands.specs.declared.kind.WorldKind.{WorldKind}
 use Rattle.commands.specs.declared.kind.WorldKind.TheVariants.{Rename, Tree}
 use Rattle.rename_core.specs.NamedPlaces.{PlacesAtOnce, GrowsAsTree}
 use Rattle.rename_core.specs.Machine.{IsLawfulWithin, fresh_over as fresh_names}
@@ -25,12 +24,9 @@ use Rattle.slot_array.proofs.SlotsKeep.{slots_proved}
 use Rattle.rename_core.specs.RenameWorld.{fresh_world, owner_by}
 use Rattle.rename_core.proofs.NamedPlaces.{owner_is, answers_unrefused}
 use Rattle.rename_core.proofs.PlacesLaw.{grid_lawful, tree_lawful}
-use Rattle.commands.specs.declared.exchange.Exchange.{Exchange}
 use Rattle.desk.specs.Desk.{fresh_in, desk_rules, owner_told, owner_over, IsFreshDesk, LeadsDesk}
-use Rattle.desk.specs.DeskCalls.{DeskCall, rename_calls, exchange_of, AfterDesk}
 use Rattle.desk.specs.DeskRules.{fresh_over, after_over}
 use Rattle.desk.specs.DeskRun.{IsDeskRun, IsDeskRunOf, desk_terms, desk_bounds}
-use Rattle.desk.specs.DeskState.{DeskState}
 use Rattle.desk.specs.DeskValue.{DeskValue}
 use Rattle.desk.specs.DeskValue.DeskValue.{OverGrid, OverTree}
 use Rattle.desk.specs.Laws.{IsThisDesk, BeginsDesk, HasFreshDesk, IsOneFreshDesk, DeskGoesOn, DeskKeepsRuns, DeskTellsOwners, DeskRefusesAsSaid, IsDeskDetermined}

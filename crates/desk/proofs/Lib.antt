@@ -1,3 +1,4 @@
+mod Common
 mod DeskKeeps
 mod NamesGiven
 mod NamedAlone

@@ -1,24 +1,12 @@
 -- who alone steps is soon named, by exchanges alone
-use Rattle.std.proofs.Common.{◌≡◌, ℕ, ◌+◌, ◌⊎◌, Bool, true, false, cond, ◌&&◌, ◌==◌, inl, inr, List, [], ◌∷◌, ◌++◌, map, Some, None, Ok, Err, refl, sym, ap, subst, ◌∙◌, arith}
-use Rattle.std.specs.Prelude.{is_some}
-use Rattle.std.proofs.lemmas.Bool.Decides.{eqb_tells, Decides-eqb}
-use Rattle.step_memory.specs.Runs.{Run}
+use Rattle.std.proofs.Common.{◌≡◌, ℕ, ◌+◌, ◌⊎◌, Bool, true, false, cond, ◌&&◌, ◌==◌, inl, inr, List, [], ◌∷◌, ◌++◌, map, Some, None, Ok, Err, refl, sym, ap, subst, ◌∙◌, arith, is_some}
+use Rattle.desk.proofs.Common.{eqb_tells, Decides-eqb, Run, Began, Stepped, StepReply, Quiet, Placed, Proposed, Saw, Named, Spent, Entered, SlotCall, Pooled, Event, Exchange, DeskCall, rename_calls, exchange, exchange_of, Renamed, Slotted}
 use Rattle.step_memory.specs.Calls.{Call, steps_of as call_steps}
-use Rattle.step_memory.specs.Calls.Call.{Began, Stepped}
 use Rattle.step_memory.proofs.RunLemmas.{run_splits}
 use Rattle.rename_core.specs.Alone.{HasTwoLeft as HasTwoCalls, StepsAlone as CallsAlone}
-use Rattle.rename_core.specs.Reply.{StepReply}
-use Rattle.rename_core.specs.declared.reply.Reply.TheVariants.{Quiet, Placed, Proposed, Saw, Named, Spent}
 use Rattle.rename_core.specs.RenameObject.{RenameTerms, RenameObject, new_object, Allows, after, IsRun}
-use Rattle.bit_allocator.specs.Calls.Call.{Entered, Probed, Left, Widened}
-use Rattle.slot_array.specs.SlotCalls.{SlotCall}
-use Rattle.slot_array.specs.SlotCalls.SlotCall.{Pooled, Stored, Fetched, Extended}
-use Rattle.commands.specs.declared.event.Event.{Event}
 use Rattle.commands.specs.declared.event.Event.TheVariants as event
-use Rattle.commands.specs.declared.exchange.Exchange.{Exchange}
 use Rattle.commands.specs.declared.reply.Reply.TheVariants as reply
-use Rattle.desk.specs.DeskCalls.{DeskCall, rename_calls, exchange, exchange_of}
-use Rattle.desk.specs.DeskCalls.DeskCall.{Renamed, Slotted}
 use Rattle.desk.specs.NamedAlone.{IsAmong, HasBegun, WasSpent, proposed_more, proposals_of, stepped_more, steps_of, StepsAlone, HasTwoLeft, HasName, NamesSoonAlone}
 use Rattle.commands.specs.Replies.{is_refusal}
 use Rattle.desk.specs.Replies.{shown_step}
@@ -64,12 +52,7 @@ record IsOfSlots (x : Exchange) : Type 0 where
 
 of_slots : (h : SlotCall ℕ) → IsOfSlots (exchange_of (Slotted h))
 of_slots (Pooled (Entered q a)) = record { event = refl; proposed = λ p n. refl; stepped = λ p n. refl }
-of_slots (Pooled (Probed q a)) = record { event = refl; proposed = λ p n. refl; stepped = λ p n. refl }
-of_slots (Pooled (Left q a)) = record { event = refl; proposed = λ p n. refl; stepped = λ p n. refl }
-of_slots (Stored q v a) = record { event = refl; proposed = λ p n. refl; stepped = λ p n. refl }
-of_slots (Fetched q a) = record { event = refl; proposed = λ p n. refl; stepped = λ p n. refl }
-of_slots (Pooled (Widened more a)) = record { event = refl; proposed = λ p n. refl; stepped = λ p n. refl }
-of_slots (Extended more v a) = record { event = refl; proposed = λ p n. refl; stepped = λ p n. refl }
+of_slots h = record { event = refl; proposed = λ p n. refl; stepped = λ p n. refl }
 
 slots_apart : (h : SlotCall ℕ) (g : Call StepReply) → exchange_of (Slotted h) ≡ exchange_of (Renamed g) → ⊥
 slots_apart h g x = let two : false ≡ true = sym (of_slots h).event ∙ ap (λ (z : Exchange). is_of_names z.event) x ∙ of_names g in absurd (cc)
@@ -80,12 +63,8 @@ begun_call p (Began q (Err why)) x = absurd (let e : reply.Refused why ≡ reply
 begun_call p (Stepped q a) x = absurd (let e : event.Step q ≡ event.Begin p = ap (λ (z : Exchange). z.event) x in cc)
 
 spent_step : (said : StepReply) → shown_step said ≡ reply.Spent → said ≡ Spent
-spent_step Quiet x = absurd (cc)
-spent_step (Placed place) x = absurd (cc)
-spent_step (Proposed m) x = absurd (cc)
-spent_step (Saw view) x = absurd (cc)
-spent_step (Named m view) x = absurd (cc)
 spent_step Spent x = refl
+spent_step said x = absurd (cc)
 
 spent_call : (p : ℕ) (h : Call StepReply) → exchange_of (Renamed h) ≡ exchange (event.Step p) reply.Spent → h ≡ Stepped p (Ok Spent)
 spent_call p (Began q a) x = absurd (let e : event.Begin q ≡ event.Step p = ap (λ (z : Exchange). z.event) x in cc)
@@ -112,25 +91,13 @@ module _ (terms : RenameTerms) (Holds : RenameObject → Type 0) (stays : (o : R
 -- who has begun has, and who is spent is
 begun_stays : (p : ℕ) (o : RenameObject) (h : Call StepReply) → o.begun p ≡ true → (after o h).begun p ≡ true
 begun_stays p o (Began q (Ok done)) e = elim (eqb_tells p q) [ inl k ↦ rw k.0 refl | inr k ↦ rw k.0 e ]
-begun_stays p o (Began q (Err why)) e = e
 begun_stays p o (Stepped q (Ok Quiet)) e = e
-begun_stays p o (Stepped q (Ok (Placed place))) e = e
-begun_stays p o (Stepped q (Ok (Proposed m))) e = e
-begun_stays p o (Stepped q (Ok (Saw view))) e = e
-begun_stays p o (Stepped q (Ok (Named m view))) e = e
-begun_stays p o (Stepped q (Ok Spent)) e = e
-begun_stays p o (Stepped q (Err why)) e = e
+begun_stays p o h e = e
 
 spent_stays : (p : ℕ) (o : RenameObject) (h : Call StepReply) → o.spent p ≡ true → (after o h).spent p ≡ true
 spent_stays p o (Began q (Ok done)) e = e
-spent_stays p o (Began q (Err why)) e = e
-spent_stays p o (Stepped q (Ok Quiet)) e = e
-spent_stays p o (Stepped q (Ok (Placed place))) e = e
-spent_stays p o (Stepped q (Ok (Proposed m))) e = e
-spent_stays p o (Stepped q (Ok (Saw view))) e = e
-spent_stays p o (Stepped q (Ok (Named m view))) e = e
 spent_stays p o (Stepped q (Ok Spent)) e = elim (eqb_tells p q) [ inl k ↦ rw k.0 refl | inr k ↦ rw k.0 e ]
-spent_stays p o (Stepped q (Err why)) e = e
+spent_stays p o h e = e
 
 same_is : (p : ℕ) → (p == p) ≡ true
 same_is p = (Decides-eqb p p).1 refl
@@ -144,14 +111,8 @@ has_spent terms o o' p calls = holds_then terms (λ x. x.spent p ≡ true) (spen
 -- one call spends who is spent after it and was not before
 spent_now : (o : RenameObject) (p : ℕ) (h : Call StepReply) → (after o h).spent p ≡ true → (o.spent p ≡ true) ⊎ (h ≡ Stepped p (Ok Spent))
 spent_now o p (Began q (Ok done)) e = inl e
-spent_now o p (Began q (Err why)) e = inl e
-spent_now o p (Stepped q (Ok Quiet)) e = inl e
-spent_now o p (Stepped q (Ok (Placed place))) e = inl e
-spent_now o p (Stepped q (Ok (Proposed m))) e = inl e
-spent_now o p (Stepped q (Ok (Saw view))) e = inl e
-spent_now o p (Stepped q (Ok (Named m view))) e = inl e
 spent_now o p (Stepped q (Ok Spent)) e = elim (eqb_tells p q) [ inl k ↦ inr (rw k.1 refl) | inr k ↦ inl (rw k.0 at e) ]
-spent_now o p (Stepped q (Err why)) e = inl e
+spent_now o p h e = inl e
 
 -- so who is spent was told so, or was spent at first
 was_spent : (terms : RenameTerms) (o o' : RenameObject) (p : ℕ) (calls : List DeskCall) → Run after (Allows terms) o (rename_calls calls) o' → o'.spent p ≡ true → (o.spent p ≡ true) ⊎ WasSpent p (map exchange_of calls)
@@ -187,11 +148,7 @@ count_is terms o o' p (Slotted h ∷ calls) run = rw ((of_slots h).proposed p (p
 
 accepted : (said : StepReply) → is_refusal (shown_step said) ≡ false
 accepted Quiet = refl
-accepted (Placed place) = refl
-accepted (Proposed m) = refl
-accepted (Saw view) = refl
-accepted (Named m view) = refl
-accepted Spent = refl
+accepted said = refl
 
 -- who steps alone among exchanges does among the calls
 calls_alone : (p : ℕ) (calls : List DeskCall) → StepsAlone p (map exchange_of calls) → CallsAlone p (rename_calls calls)

@@ -1,25 +1,12 @@
 -- who was named is who has the name
 use Rattle.std.proofs.Common.{◌≡◌, ℕ, ◌+◌, ◌-◌, ◌*◌, ◌≤◌, ◌⊎◌, true, ◌==◌, inl, inr, List, [], ◌∷◌, map, Option, Some, None, Ok, Err, refl, sym, ap, subst, ◌∙◌, add-zero, zero-add, arith}
+use Rattle.desk.proofs.Common.{eqb_tells, Decides-eqb, Run, Call, Began, Stepped, SnapBounds, StepReply, Quiet, Placed, Proposed, Saw, Named, Spent, Pooled, Stored, Fetched, Extended, Event, Exchange, ShownReply, DeskCall, rename_calls, exchange, exchange_of, Renamed, Slotted, IsDeskRun}
 use Rattle.std.proofs.lemmas.Bool.{cases_Bool}
-use Rattle.std.proofs.lemmas.Bool.Decides.{eqb_tells, Decides-eqb}
-use Rattle.step_memory.specs.Runs.{Run}
-use Rattle.step_memory.specs.Calls.{Call}
-use Rattle.step_memory.specs.Calls.Call.{Began, Stepped}
 use Rattle.step_memory.specs.declared.refusal.Refusal.TheVariants.{NotBegun, Finished}
-use Rattle.snapshot_core.specs.Snapshot.{SnapBounds}
-use Rattle.rename_core.specs.Reply.{StepReply}
-use Rattle.rename_core.specs.declared.reply.Reply.TheVariants.{Quiet, Placed, Proposed, Saw, Named, Spent}
 use Rattle.rename_core.specs.RenameObject.{RenameTerms, RenameObject, new_object, no_step, Allows, after, after_step, IsOwner}
 use Rattle.bit_allocator.specs.Calls.Call.{Entered, Probed, Left, Widened}
-use Rattle.slot_array.specs.SlotCalls.SlotCall.{Pooled, Stored, Fetched, Extended}
-use Rattle.commands.specs.declared.event.Event.{Event}
 use Rattle.commands.specs.declared.event.Event.TheVariants as event
-use Rattle.commands.specs.declared.exchange.Exchange.{Exchange}
-use Rattle.commands.specs.Replies.{ShownReply}
 use Rattle.commands.specs.declared.reply.Reply.TheVariants as reply
-use Rattle.desk.specs.DeskCalls.{DeskCall, rename_calls, exchange, exchange_of}
-use Rattle.desk.specs.DeskCalls.DeskCall.{Renamed, Slotted}
-use Rattle.desk.specs.DeskRun.{IsDeskRun}
 use Rattle.desk.specs.Names.{IsNaming, WasNamed, IsOwnerIn, begun_in}
 
 -- this call names p so
@@ -148,11 +135,7 @@ begun_calls (Stepped p a ∷ r) = begun_calls r
 
 step_many : (o : RenameObject) (p : ℕ) (said : StepReply) → (after_step o p said).many ≡ o.many
 step_many o p Quiet = refl
-step_many o p (Placed place) = refl
-step_many o p (Proposed m) = refl
-step_many o p (Saw view) = refl
-step_many o p (Named m view) = refl
-step_many o p Spent = refl
+step_many o p said = refl
 
 many_after : (terms : RenameTerms) (o o' : RenameObject) (r : List (Call StepReply)) → Run after (Allows terms) o r o' → o'.many ≡ o.many + begun_calls r
 many_after terms o o' [] run = ap (λ (x : RenameObject). x.many) run ∙ sym (add-zero o.many)

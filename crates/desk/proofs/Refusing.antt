@@ -1,11 +1,7 @@
 -- an event is refused, want of memory aside, just as the desk says beforehand
 use Rattle.std.proofs.Common.{◌≡◌, ◌↔◌, ℕ, List, Option, Some, None, Result, Ok, Err, IsOk, refl}
-use Rattle.step_memory.specs.declared.refusal.Refusal.{Refusal}
+use Rattle.desk.proofs.Common.{Refusal, begin_refusal, done_unless, KnownPlaces, StepReply, Quiet, Event, DeskState}
 use Rattle.step_memory.specs.Participant.{program_of}
-use Rattle.step_memory.specs.World.{begin_refusal, done_unless}
-use Rattle.snapshot_core.specs.Places.{KnownPlaces}
-use Rattle.rename_core.specs.Reply.{StepReply}
-use Rattle.rename_core.specs.declared.reply.Reply.TheVariants.{Quiet, Placed, Proposed, Saw, Named, Spent}
 use Rattle.rename_core.specs.declared.round.Round.{Round}
 use Rattle.rename_core.specs.RenameState.{RenameState}
 use Rattle.rename_core.specs.RenameWorld.{rename_answer, answer_by, answer_open, refusal_by, step_refusal}
@@ -19,13 +15,11 @@ use Rattle.bit_allocator.specs.Pool.{enter_refusal, probe_answer_by, probe_refus
 use Rattle.bit_allocator.specs.PoolState.{PoolState}
 use Rattle.bit_allocator.specs.Widening.{widen_refusal}
 use Rattle.slot_array.specs.Slots.{stored_reply}
-use Rattle.commands.specs.declared.event.Event.{Event}
 use Rattle.commands.specs.declared.event.Event.TheVariants.{Begin, Step, Enter, Probe as Probing, Leave, Put, Get, Widen}
 use Rattle.commands.specs.declared.reply.Reply.TheVariants.{Refused}
 use Rattle.commands.specs.Replies.{ShownReply, done_reply, left_reply, value_reply}
 use Rattle.desk.specs.Replies.{shown_step, step_reply, shown_probe, probe_reply}
 use Rattle.desk.specs.DeskRules.{fetched, refusal_of, refusal_over, reply_over}
-use Rattle.desk.specs.DeskState.{DeskState}
 
 -- this reply is a refusal just where there is a reason for one
 abbrev IsSaid : ShownReply → Option Refusal → Type 0
@@ -58,11 +52,7 @@ said_probe w (Some (Settled number)) why = (λ e. cc, λ e. cc)
 
 no_refused_step : (said : StepReply) (why : Refusal) → shown_step said ≡ Refused why → ⊥
 no_refused_step Quiet why e = cc
-no_refused_step (Placed place) why e = cc
-no_refused_step (Proposed number) why e = cc
-no_refused_step (Saw view) why e = cc
-no_refused_step (Named name view) why e = cc
-no_refused_step Spent why e = cc
+no_refused_step said why e = cc
 
 -- an answer that is none, or the refusal that is due
 said_step : (answer : Result StepReply Refusal) (due : Option Refusal) → (due ≡ None → IsOk answer) → ((why : Refusal) → due ≡ Some why → answer ≡ Err why) → IsSaid (step_reply answer) due

@@ -52,10 +52,8 @@ exchange_of (Slotted (Extended more value answer)) = exchange (event.Widen more)
 
 -- where the call is a widening each new slot holds 0: the exchange does not show the value
 abbrev pub BeginsSlots : SlotCall ℕ → Type 0
-BeginsSlots (Pooled h) = Unit {0}
-BeginsSlots (Stored p value answer) = Unit {0}
-BeginsSlots (Fetched p answer) = Unit {0}
 BeginsSlots (Extended more value answer) = value ≡ 0
+BeginsSlots s = Unit {0}
 
 -- so it is of each of these calls
 abbrev pub BeginSlots : List (SlotCall ℕ) → Type 0

@@ -80,14 +80,8 @@ module _ {S R V U K : Type 0} (W : KnownPlaces S R V U K) where
 
   -- whether a growth may be refused instead
   abbrev pub grows_over : DeskState S U K → Event → Bool
-  grows_over w (Begin p) = false
   grows_over w (Step p) = grows_by (step_refusal w.names p) (may_lack W w.names p)
-  grows_over w (Enter p) = false
-  grows_over w (Probe p) = false
-  grows_over w (Leave p) = false
-  grows_over w (Put p value) = false
-  grows_over w (Get p) = false
-  grows_over w (Widen more) = false
+  grows_over w e = false
 
   abbrev pub rules_over : Rules (DeskState S U K)
   rules_over = record { reply = reply_over; after = after_over; grows = grows_over }

@@ -69,12 +69,7 @@ alike_back (OverTree w) e h = sym (names_stay (OverTree w) e h)
 pub slots_stay : (s : SlotsState ℕ) (e : Event) → is_renaming e ≡ true → slots_after s e ≡ s
 slots_stay s (Begin p) h = refl
 slots_stay s (Step p) h = refl
-slots_stay s (Enter p) h = absurd (cc)
-slots_stay s (Probe p) h = absurd (cc)
-slots_stay s (Leave p) h = absurd (cc)
-slots_stay s (Put p value) h = absurd (cc)
-slots_stay s (Get p) h = absurd (cc)
-slots_stay s (Widen more) h = absurd (cc)
+slots_stay s e h = absurd (cc)
 
 -- the same event of renaming leads two desks with one renaming world to two such again
 pub names_go_on : (w u : DeskValue) (e : Event) → is_renaming e ≡ true → NamesAlike w u → NamesAlike (desk_after w e) (desk_after u e)
@@ -120,13 +115,8 @@ answered_alike (OverTree w) (OverTree u) (Widen more) h a = absurd (cc)
 
 -- an event that is accepted is one that the pool lets in
 pub lets_in : (w : DeskValue) (e : Event) → desk_refusal w e ≡ None → LetsIn (slots_of w) e
-lets_in w (Begin p) h = tt
-lets_in w (Step p) h = tt
 lets_in (OverGrid w) (Enter p) h = h
 lets_in (OverTree w) (Enter p) h = h
-lets_in w (Probe p) h = tt
-lets_in w (Leave p) h = tt
-lets_in w (Put p value) h = tt
-lets_in w (Get p) h = tt
 lets_in (OverGrid w) (Widen more) h = h
 lets_in (OverTree w) (Widen more) h = h
+lets_in w e h = tt

@@ -1,7 +1,6 @@
 -- a hall that is built anew, event by event
-use Rattle.std.proofs.Common.{◌≡◌, ℕ, zero, suc, ◌+◌, ◌<◌, Bool, true, false, cond, List, [], ◌∷◌, ◌++◌, Some, None, Option, length, take, replicate, inl, inr, refl, sym, ap, subst, ◌∙◌, arith, add-one}
-use Rattle.std.specs.Prelude.{slice_get, filter}
-use Rattle.std.proofs.lemmas.List.{append-nil, take_all}
+use Rattle.std.proofs.Common.{◌≡◌, ℕ, zero, suc, ◌+◌, ◌<◌, Bool, true, false, cond, List, [], ◌∷◌, ◌++◌, Some, None, Option, length, take, replicate, inl, inr, refl, sym, ap, subst, ◌∙◌, arith, add-one, slice_get}
+use Rattle.std.proofs.lemmas.List.{take_all}
 use Rattle.std.proofs.lemmas.Option.{same_Some}
 use Rattle.step_memory.specs.declared.refusal.Refusal.{Refusal}
 use Rattle.commands.specs.Config.{is_tree}
@@ -24,7 +23,7 @@ use Rattle.locked_world.specs.HallState.{HallState}
 use Rattle.locked_world.specs.Replay.{replay, AreAccepted}
 use Rattle.hall_compaction.specs.declared.rebuilding.Rebuilding.{Rebuilding}
 use Rattle.hall_compaction.specs.declared.slots_copy.SlotsCopy.{SlotsCopy}
-use Rattle.hall_compaction.specs.Compactions.{renaming_of, IsCompacted}
+use Rattle.hall_compaction.specs.Compactions.{renaming_of}
 use Rattle.hall_compaction.specs.Copies.{slots_in}
 use Rattle.hall_compaction.specs.DeskParts.{is_renaming, slots_of, NamesAlike}
 use Rattle.hall_compaction.specs.Rebuilt.{IsCopied, after_first, HasRenaming, HasTaken, GoesOn, IsSorted}

@@ -1,7 +1,7 @@
 -- the two parts of a desk, which do not know of each other
 use Rattle.std.specs.Prelude.{◌≡◌, ℕ, Bool, true, false}
 use Rattle.commands.specs.declared.event.Event.{Event}
-use Rattle.commands.specs.declared.event.Event.TheVariants.{Begin, Step, Enter, Probe, Leave, Put, Get, Widen}
+use Rattle.commands.specs.declared.event.Event.TheVariants.{Begin, Step}
 use Rattle.slot_array.specs.SlotsState.{SlotsState}
 use Rattle.desk.specs.DeskValue.{DeskValue}
 use Rattle.desk.specs.DeskValue.DeskValue.{OverGrid, OverTree}
@@ -10,12 +10,7 @@ use Rattle.desk.specs.DeskValue.DeskValue.{OverGrid, OverTree}
 abbrev pub is_renaming : Event → Bool
 is_renaming (Begin p) = true
 is_renaming (Step p) = true
-is_renaming (Enter p) = false
-is_renaming (Probe p) = false
-is_renaming (Leave p) = false
-is_renaming (Put p value) = false
-is_renaming (Get p) = false
-is_renaming (Widen more) = false
+is_renaming e = false
 
 -- the pool and the slots
 abbrev pub slots_of : DeskValue → SlotsState ℕ

@@ -1,7 +1,7 @@
 -- how a pool and its slots go on by events
 use Rattle.std.specs.Prelude.{◌≡◌, ℕ, None}
 use Rattle.commands.specs.declared.event.Event.{Event}
-use Rattle.commands.specs.declared.event.Event.TheVariants.{Begin, Step, Enter, Probe, Leave, Put, Get, Widen}
+use Rattle.commands.specs.declared.event.Event.TheVariants.{Enter, Probe, Leave, Put, Widen}
 use Rattle.bit_allocator.specs.Pool.{enter_refusal, after_enter, after_probe, after_leave}
 use Rattle.bit_allocator.specs.Widening.{widen_refusal}
 use Rattle.slot_array.specs.Slots.{after_put, after_extend}
@@ -9,22 +9,15 @@ use Rattle.slot_array.specs.SlotsState.{SlotsState}
 
 -- the pool lets this one enter, or get so many numbers
 abbrev pub LetsIn : SlotsState ℕ → Event → Type 0
-LetsIn s (Begin p) = Unit {0}
-LetsIn s (Step p) = Unit {0}
 LetsIn s (Enter p) = enter_refusal s.pool p ≡ None
-LetsIn s (Probe p) = Unit {0}
-LetsIn s (Leave p) = Unit {0}
-LetsIn s (Put p value) = Unit {0}
-LetsIn s (Get p) = Unit {0}
 LetsIn s (Widen more) = widen_refusal s.pool.size more ≡ None
+LetsIn s e = Unit {0}
 
 -- the pool and the slots after an event; renaming does not touch them
 abbrev pub slots_after : SlotsState ℕ → Event → SlotsState ℕ
-slots_after s (Begin p) = s
-slots_after s (Step p) = s
 slots_after s (Enter p) = record s { pool = after_enter s.pool p }
 slots_after s (Probe p) = record s { pool = after_probe s.pool p }
 slots_after s (Leave p) = record s { pool = after_leave s.pool p }
 slots_after s (Put p value) = after_put s p value
-slots_after s (Get p) = s
 slots_after s (Widen more) = after_extend s more 0
+slots_after s e = s

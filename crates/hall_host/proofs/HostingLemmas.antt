@@ -1,5 +1,5 @@
 -- what a turn of the loop is for the history, for the journal and for each connection
-use Rattle.std.proofs.Common.{◌≡◌, ℕ, ◌≤◌, List, [], ◌∷◌, ◌++◌, length, take, get_or, Bool, false, Option, Some, None, inl, inr, refl, sym, ap, subst, ◌∙◌, arith}
+use Rattle.std.proofs.Common.{◌≡◌, ℕ, ◌≤◌, List, [], ◌∷◌, ◌++◌, length, take, get_or, Option, Some, None, inl, inr, refl, sym, ap, subst, ◌∙◌, arith}
 use Rattle.std.proofs.lemmas.List.{take-append-le}
 use Rattle.std.specs.Io.KnownBytes.{Appends, Consumes}
 use Rattle.step_memory.specs.declared.refusal.Refusal.{Refusal}
@@ -9,10 +9,9 @@ use Rattle.commands.specs.declared.exchange.Exchange.{Exchange}
 use Rattle.commands.specs.Replies.{ShownReply}
 use Rattle.run_checker.specs.Migrated.{record_text}
 use Rattle.journal_disk.specs.DiskState.{DiskState}
-use Rattle.player.specs.Progress.{Progress}
 use Rattle.player.specs.Runs.{Runs}
 use Rattle.player.specs.Says.{Spoke}
-use Rattle.player.specs.Shared.{TurnLog, all_turns, turns_of}
+use Rattle.player.specs.Shared.{all_turns, turns_of}
 use Rattle.player.specs.TalkerState.{TalkerState}
 use Rattle.player.specs.Turns.{Turn, exchanges}
 use Rattle.player.specs.Turns.Turn.{Answered, Told, Ended, Misread}

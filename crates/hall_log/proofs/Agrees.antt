@@ -1,18 +1,12 @@
 -- what a hall says to an entry is determined
 use Rattle.std.proofs.Common.{◌≡◌, ◌≢◌, List, [], ◌∷◌, map, inl, inr, refl, sym, ap, subst, ◌∙◌}
+use Rattle.hall_log.proofs.Common.{ShownReply, NoneRefusedGrowth, Runs, Answered, Told, Ended, Misread, HallState, HallServes, HallApplies, said, tape_of}
 use Rattle.step_memory.specs.declared.refusal.Refusal.TheVariants as refusal
 use Rattle.commands.specs.declared.event.Event.{Event}
-use Rattle.commands.specs.Replies.{ShownReply}
 use Rattle.commands.specs.declared.reply.Reply.TheVariants as reply
 use Rattle.one_log.specs.Groups.{IsDetermined}
-use Rattle.player.specs.Runs.{NoneRefusedGrowth, Runs}
 use Rattle.player.specs.Turns.{Turn, asked}
-use Rattle.player.specs.Turns.Turn.{Answered, Told, Ended, Misread}
-use Rattle.locked_world.specs.HallState.{HallState}
 use Rattle.locked_world.specs.Halls.{HallMay}
-use Rattle.locked_world.specs.Serving.{HallServes}
-use Rattle.hall_log.specs.Entries.{HallApplies}
-use Rattle.hall_log.specs.Said.{said, tape_of}
 
 -- where memory is not refused an event has one reply, and leaves one hall
 one_answer : (h : HallState) (e : Event) (r r' : ShownReply) (u u' : HallState) → HallMay h e r u → HallMay h e r' u' → r ≢ reply.Refused refusal.NoMemory → r' ≢ reply.Refused refusal.NoMemory → (r ≡ r') × (u ≡ u')

@@ -1,3 +1,4 @@
+mod Common
 mod Plays
 mod Heads
 mod Tapes

@@ -1,10 +1,8 @@
 -- what the next note of a tape says
 use Rattle.std.proofs.Common.{◌≡◌, ℕ, zero, suc, ◌+◌, Bool, true, false, List, [], ◌∷◌, drop, map, Some, None, slice_get, inl, inr, refl, ap, sym, ◌∙◌, add-one}
-use Rattle.commands.specs.Replies.{ShownReply}
-use Rattle.commands.specs.Requests.{Request}
+use Rattle.hall_log.proofs.Common.{ShownReply, Request, TapeState}
 use Rattle.hall_log.specs.declared.note.Note.{Note}
 use Rattle.hall_log.specs.Said.{TapeSays, request_of, said_by}
-use Rattle.hall_log.specs.TapeState.{TapeState}
 
 -- it stands before all that are left
 next_said : (notes : List Note) (next : ℕ) (note : Note) → slice_get notes next ≡ Some note → drop next (map said_by notes) ≡ said_by note ∷ drop (suc next) (map said_by notes)

@@ -1,22 +1,11 @@
 -- lines that are taken one after another, over a hall of which each answer is noted
 use Rattle.std.proofs.Common.{◌≡◌, ℕ, ◌+◌, ◌-◌, false, List, [], ◌∷◌, ◌++◌, length, take, drop, refl, sym, ap, subst, ◌∙◌, append_assoc, arith, length-drop}
-use Rattle.std.proofs.lemmas.List.{append-nil, take_all}
+use Rattle.hall_log.proofs.Common.{append-nil, take_all, WorldKind, ShownReply, Request, Take, OwnerOf, NoneRefusedGrowth, Runs, Turn, Answered, Told, Ended, Misread, HallState, HallServes, HallApplies, TakesBytes, behind_first_line, NotingState}
 use Rattle.std.proofs.Math.Seq.{take-add}
-use Rattle.commands.specs.declared.kind.WorldKind.{WorldKind}
-use Rattle.commands.specs.Replies.{ShownReply}
-use Rattle.commands.specs.Requests.{Request}
-use Rattle.commands.specs.Requests.Request.{Take, OwnerOf}
 use Rattle.player.specs.Progress.{Progress, after_byte, after_bytes, at_start}
 use Rattle.player.specs.RunProofs.{runs-append}
-use Rattle.player.specs.Runs.{NoneRefusedGrowth, Runs}
 use Rattle.player.specs.Says.{IsSilent, Says, Spoke}
 use Rattle.player.specs.TalkerState.{TalkerState}
-use Rattle.player.specs.Turns.{Turn}
-use Rattle.player.specs.Turns.Turn.{Answered, Told, Ended, Misread}
-use Rattle.locked_world.specs.HallState.{HallState}
-use Rattle.locked_world.specs.Serving.{HallServes}
-use Rattle.hall_log.specs.Entries.{HallApplies, TakesBytes, behind_first_line}
-use Rattle.hall_log.specs.NotingState.{NotingState}
 use Rattle.hall_log.specs.Said.{IsNoted, NotingSays, said, tape_of}
 
 -- bytes after bytes

@@ -1,22 +1,10 @@
 -- a turn over a tape is one over the hall whose answers it says
 use Rattle.std.proofs.Common.{◌≡◌, ℕ, true, false, List, [], ◌∷◌, ◌++◌, Option, inl, inr, sym, ap, subst, ◌∙◌, arith}
-use Rattle.std.proofs.lemmas.List.{append-nil}
-use Rattle.commands.specs.declared.config.Config.{Config}
-use Rattle.commands.specs.Replies.{ShownReply}
-use Rattle.commands.specs.Requests.{Request}
-use Rattle.commands.specs.Requests.Request.{Take, OwnerOf}
+use Rattle.hall_log.proofs.Common.{append-nil, Config, ShownReply, Request, Take, OwnerOf, Runs, Turn, Answered, Told, Ended, Misread, HallState, HallServes, HallApplies, TapeSays, said, TapeState}
 use Rattle.one_log.specs.ReplicaState.{ReplicaState}
-use Rattle.player.specs.Runs.{Runs}
 use Rattle.player.specs.Shared.{all_turns}
-use Rattle.player.specs.Turns.{Turn}
-use Rattle.player.specs.Turns.Turn.{Answered, Told, Ended, Misread}
-use Rattle.locked_world.specs.HallState.{HallState}
-use Rattle.locked_world.specs.Serving.{HallServes}
 use Rattle.event_server.specs.Seats.{LoopTurn, Seating}
-use Rattle.hall_log.specs.Entries.{HallApplies}
 use Rattle.hall_log.specs.Hosted.{IsHostedOverLog, IsLearnt, IsUsedUp}
-use Rattle.hall_log.specs.Said.{TapeSays, said}
-use Rattle.hall_log.specs.TapeState.{TapeState}
 
 -- what was said again, by a tape that is not spoiled
 tape_said : (w u : TapeState) (q : Request) (r : ShownReply) → TapeSays w q r u → u.spoiled ≡ false → (w.spoiled ≡ false) × (w.left ≡ (q, r) ∷ u.left)

@@ -1,17 +1,10 @@
 -- what a commit writes
 use Rattle.std.proofs.Common.{◌≡◌, ℕ, ◌≤◌, List, [], ◌++◌, length, take, drop, flat_map, Some, None, Option, refl, ap, sym, ◌∙◌, subst, append_assoc, arith}
+use Rattle.journal.proofs.Common.{flat_map-append, same_Some, DiskState, IsCutOnce, exchange_line, header_line, HallState, ChronicleState, HasSynced, KeepsHandedOn}
 use Rattle.std.proofs.lemmas.List.{append-nil, take-append-drop, take_all}
-use Rattle.std.proofs.lemmas.Grind.{flat_map-append}
-use Rattle.std.proofs.lemmas.Option.{same_Some}
 use mathlib.Core.List.{IsPrefix}
-use Rattle.journal_disk.specs.DiskState.{DiskState}
 use Rattle.journal_disk.specs.Disks.{Changes, longer_by, synced_all}
-use Rattle.player.specs.Lines.{IsCutOnce}
-use Rattle.player.specs.Records.{exchange_line, header_line}
-use Rattle.locked_world.specs.HallState.{HallState}
-use Rattle.journal.specs.ChronicleState.{ChronicleState}
 use Rattle.journal.specs.Chronicles.{record_of_hall, told_record, waiting_of, chronicle_of}
-use Rattle.journal.specs.Journals.{HasSynced, KeepsHandedOn}
 use Rattle.journal.proofs.Crashes.{leaves}
 
 whole : {A : Type 0} (xs : List A) → take (length xs) xs ≡ xs

@@ -1,20 +1,8 @@
 -- the record of another hall in place of all that was written
-use Rattle.std.proofs.Common.{◌≡◌, Bool, true, false, ℕ, zero, suc, ◌+◌, ◌≤◌, List, [], ◌∷◌, ◌++◌, Some, inl, inr, length, take, flat_map, refl, ap, sym, ◌∙◌, subst, append_assoc, arith, add-one}
-use Rattle.std.specs.Prelude.{slice_get}
-use Rattle.std.proofs.lemmas.List.{append-nil, take_all}
-use Rattle.std.proofs.lemmas.Grind.{flat_map-append}
-use Rattle.std.proofs.lemmas.Option.{same_Some}
-use Rattle.commands.specs.declared.exchange.Exchange.{Exchange}
-use Rattle.player.specs.Lines.{IsCutOnce}
-use Rattle.player.specs.Records.{exchange_line, header_line}
-use Rattle.locked_world.specs.HallState.{HallState}
-use Rattle.journal_disk.specs.DiskState.{DiskState}
+use Rattle.std.proofs.Common.{◌≡◌, Bool, true, false, ℕ, zero, suc, ◌+◌, ◌≤◌, List, [], ◌∷◌, ◌++◌, Some, inl, inr, length, take, flat_map, refl, ap, sym, ◌∙◌, subst, append_assoc, arith, add-one, slice_get}
+use Rattle.journal.proofs.Common.{append-nil, flat_map-append, same_Some, Exchange, IsCutOnce, exchange_line, header_line, HallState, DiskState, ChronicleState, record_of_hall, hall_after_first, chronicle_of, IsCompacted, HasSynced, LeavesHall}
 use Rattle.journal_disk.specs.Disks.{MayLeaveEither, replaced_by}
-use Rattle.journal.specs.ChronicleState.{ChronicleState}
-use Rattle.journal.specs.Chronicles.{record_of_hall, hall_after_first, chronicle_of}
-use Rattle.hall_compaction.specs.Compactions.{IsCompacted}
 use Rattle.journal.specs.Compactings.{LeavesEither, TakesHall, HasCompacted, MayCompact}
-use Rattle.journal.specs.Journals.{HasSynced, LeavesHall}
 use Rattle.journal.proofs.Commits.{told_all}
 use Rattle.journal.proofs.Crashes.{cut_record}
 use Rattle.journal.proofs.Restarts.{stays}

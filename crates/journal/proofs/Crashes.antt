@@ -1,11 +1,8 @@
 -- what a crash leaves of a record
 use Rattle.std.proofs.Common.{◌≡◌, ℕ, zero, suc, ◌≤◌, true, List, [], ◌∷◌, ◌++◌, length, take, refl, ap, sym, ◌∙◌, subst, arith}
+use Rattle.journal.proofs.Common.{Exchange, IsCutOnce, has_no_lf, with_ends, HallState, record_of_hall, hall_after_first}
 use Rattle.std.proofs.lemmas.List.{length-map}
 use mathlib.Core.List.{IsPrefix}
-use Rattle.commands.specs.declared.exchange.Exchange.{Exchange}
-use Rattle.player.specs.Lines.{IsCutOnce, has_no_lf, with_ends}
-use Rattle.locked_world.specs.HallState.{HallState}
-use Rattle.journal.specs.Chronicles.{record_of_hall, hall_after_first}
 use Rattle.journal.specs.Journals.{without_torn, LeavesHall}
 use Rattle.journal.proofs.LineText.{head_of, row_of, rows_of, lines_of, lines_no_lf, record_ended}
 use Rattle.journal.proofs.TornLemmas.{IsTornFrom, torn_lines}

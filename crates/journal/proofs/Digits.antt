@@ -1,8 +1,7 @@
 -- what is written of a number is text
 use Rattle.std.proofs.Common.{◌≡◌, ◌==◌, ◌+◌, ℕ, zero, suc, ◌/◌, ◌%◌, Bool, true, false, cond, nat_le, nat_lt, List, [], ◌∷◌, decimal, refl, arith}
-use Rattle.std.specs.List.{list_all}
+use Rattle.journal.proofs.Common.{list_all, nat_tests}
 use Rattle.std.specs.Fmt.{digits, digits_onto, digit_glyph}
-use Rattle.std.proofs.lemmas.Bool.Decides.{nat_tests}
 
 -- a byte that is no control character
 abbrev pub is_text : ℕ → Bool

@@ -1,3 +1,4 @@
+mod Common
 pub mod Digits
 pub mod LineText
 pub mod TornLemmas

@@ -1,25 +1,16 @@
 -- the lines of a record are text, each with an LF at its end
 use Rattle.std.proofs.Common.{◌≡◌, ◌==◌, ℕ, Bool, true, not, List, [], ◌∷◌, ◌++◌, Option, Some, None, map, flat_map, codes, decimal, refl, ap, ◌∙◌, arith, append_assoc}
-use Rattle.std.specs.List.{list_all}
-use Rattle.std.proofs.lemmas.Bool.{and_parts}
-use Rattle.std.proofs.lemmas.Bool.Decides.{nat_tests}
+use Rattle.journal.proofs.Common.{list_all, and_parts, nat_tests, Config, Event, Exchange, ShownReply, has_no_lf, with_ends, HallState, record_of_hall}
 use Rattle.std.proofs.lemmas.List.Folds.{list_all-append}
 use Rattle.commands.specs.Config.{world_name}
 use Rattle.commands.specs.KindProofs.{name_has}
-use Rattle.commands.specs.declared.config.Config.{Config}
 use Rattle.commands.specs.declared.kind.WorldKind.{WorldKind}
-use Rattle.commands.specs.declared.event.Event.{Event}
 use Rattle.commands.specs.declared.event.Event.TheVariants as event
-use Rattle.commands.specs.declared.exchange.Exchange.{Exchange}
-use Rattle.commands.specs.Replies.{ShownReply}
 use Rattle.commands.specs.declared.reply.Reply.TheVariants as reply
 use Rattle.step_memory.specs.Refusal.{refusal_number}
 use Rattle.player.specs.Events.{event_words}
-use Rattle.player.specs.Lines.{has_no_lf, with_ends}
 use Rattle.player.specs.Records.{exchange_line, header_line, name_view}
 use Rattle.player.specs.Replies.{owner_words, pair_word, pair_words, reply_words, view_words}
-use Rattle.locked_world.specs.HallState.{HallState}
-use Rattle.journal.specs.Chronicles.{record_of_hall}
 use Rattle.journal.proofs.Digits.{is_text, decimal_text}
 
 -- bytes with no control character
@@ -58,22 +49,16 @@ owner_text None = refl
 owner_text (Some id) = word_text (codes "owner ") id refl
 
 reply_text : (r : ShownReply) → are_text (reply_words r) ≡ true
-reply_text reply.Ok = refl
-reply_text reply.Quiet = refl
-reply_text reply.Stop = refl
-reply_text reply.Right = refl
-reply_text reply.Down = refl
 reply_text (reply.Place place) = word_text (codes "place ") place refl
 reply_text (reply.Proposed number) = word_text (codes "proposed ") number refl
 reply_text (reply.Saw view) = both_text (codes "saw") (pair_words view) refl (pairs_text view)
 reply_text (reply.Named name view) = word_text (codes "named ") name refl
-reply_text reply.Spent = refl
-reply_text reply.Missed = refl
 reply_text (reply.Got number) = word_text (codes "got ") number refl
 reply_text (reply.Left number) = word_text (codes "left ") number refl
 reply_text (reply.Value value) = word_text (codes "value ") value refl
 reply_text (reply.Owner owner) = owner_text owner
 reply_text (reply.Refused why) = word_text (codes "refused ") (refusal_number why) refl
+reply_text r = refl
 
 name_view_text : (r : ShownReply) → are_text (name_view r) ≡ true
 name_view_text (reply.Named name view) = both_text (codes ",\"view\":\"" ++ view_words view) (codes "\"") (both_text (codes ",\"view\":\"") (view_words view) refl (view_text view)) refl

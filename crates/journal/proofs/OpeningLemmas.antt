@@ -1,16 +1,8 @@
 -- what stands on a disk whose journal was opened
 use Rattle.std.proofs.Common.{◌≡◌, ℕ, List, [], ◌++◌, length, take, drop, inl, inr, ap, sym, ◌∙◌, subst}
+use Rattle.journal.proofs.Common.{append-nil, take-append-drop, Config, IsCutOnce, header_line, HallState, DiskState, record_of_hall, chronicle_of, HasSynced, IsHallOf, IsMended, missing_in, IsRecovered}
 use Rattle.std.proofs.lemmas.Bool.Decides.{eqb_tells}
-use Rattle.std.proofs.lemmas.List.{append-nil, take-append-drop}
 use mathlib.Core.List.{IsPrefix}
-use Rattle.commands.specs.declared.config.Config.{Config}
-use Rattle.player.specs.Lines.{IsCutOnce}
-use Rattle.player.specs.Records.{header_line}
-use Rattle.locked_world.specs.HallState.{HallState}
-use Rattle.journal_disk.specs.DiskState.{DiskState}
-use Rattle.journal.specs.Chronicles.{record_of_hall, chronicle_of}
-use Rattle.journal.specs.Journals.{HasSynced, IsHallOf, IsMended, missing_in}
-use Rattle.journal.specs.Openings.{IsRecovered}
 use Rattle.journal.proofs.Commits.{told_all}
 use Rattle.journal.proofs.Crashes.{cut_record}
 

@@ -1,9 +1,6 @@
 -- lines that are replayed one by one
 use Rattle.std.proofs.Common.{◌≡◌, ℕ, ◌<◌, List, [], ◌∷◌, ◌++◌, length, flat_map, ap, sym, ◌∙◌, arith, append_assoc, length-append}
-use Rattle.std.proofs.lemmas.List.{append-nil}
-use Rattle.std.proofs.lemmas.Grind.{flat_map-append}
-use Rattle.player.specs.Records.{exchange_line}
-use Rattle.locked_world.specs.HallState.{HallState}
+use Rattle.journal.proofs.Common.{append-nil, flat_map-append, exchange_line, HallState}
 use Rattle.journal.specs.Openings.{GoesOnBy}
 use Rattle.journal.proofs.LineText.{row_of, line_ended}
 

@@ -1,11 +1,7 @@
 -- the hall that is opened of what a crash left
 use Rattle.std.proofs.Common.{◌≡◌, ℕ, ◌≤◌, List, [], ◌∷◌, ◌++◌, length, take, flat_map, inl, inr, refl, ap, sym, ◌∙◌, arith, length-append}
-use Rattle.std.proofs.lemmas.List.{append-nil}
+use Rattle.journal.proofs.Common.{append-nil, exchange_line, header_line, HallState, DiskState, ChronicleState}
 use Rattle.player.specs.Lines.{IsCutInto, IsCutOnce, rest_of, whole_lines}
-use Rattle.player.specs.Records.{exchange_line, header_line}
-use Rattle.locked_world.specs.HallState.{HallState}
-use Rattle.journal_disk.specs.DiskState.{DiskState}
-use Rattle.journal.specs.ChronicleState.{ChronicleState}
 use Rattle.journal.specs.Journals.{HasSynced, IsHallOf, KeepsHandedOn, LeavesHall, RecordsHallAfter}
 use Rattle.journal.proofs.Commits.{keeps}
 

@@ -1,9 +1,7 @@
 -- what is left of lines
 use Rattle.std.proofs.Common.{◌≡◌, ◌==◌, ◌⊎◌, inl, inr, ℕ, zero, suc, ◌≤◌, true, not, List, [], ◌∷◌, ◌++◌, length, take, refl, ap, sym, ◌∙◌, arith, append_assoc, length-append}
-use Rattle.std.specs.List.{list_all}
-use Rattle.std.proofs.lemmas.Bool.{and_parts}
+use Rattle.journal.proofs.Common.{list_all, and_parts, has_no_lf, with_ends}
 use mathlib.Core.List.{IsPrefix}
-use Rattle.player.specs.Lines.{has_no_lf, with_ends}
 
 -- the bytes are the first lines, some number of at least so many, each with its LF, and what was torn off the next, with none
 pub record IsTornFrom (ls : List (List ℕ)) (least : ℕ) (left : List ℕ) : Type 0 where

@@ -1,16 +1,11 @@
 -- an event that is accepted waits behind the others
 use Rattle.std.proofs.Common.{◌≡◌, ℕ, ◌≤◌, true, false, List, [], ◌∷◌, ◌++◌, length, drop, flat_map, Option, Some, None, inl, inr, refl, ap, sym, ◌∙◌, arith, length-append}
+use Rattle.journal.proofs.Common.{flat_map-append, Event, Exchange, exchange_line, HallState, waiting_of, chronicle_of}
 use Rattle.std.proofs.lemmas.List.{append-nil, drop-append-le}
-use Rattle.std.proofs.lemmas.Grind.{flat_map-append}
 use Rattle.step_memory.specs.declared.refusal.Refusal.{Refusal}
-use Rattle.commands.specs.declared.event.Event.{Event}
-use Rattle.commands.specs.declared.exchange.Exchange.{Exchange}
 use Rattle.commands.specs.Replies.{ShownReply, is_refusal}
-use Rattle.player.specs.Records.{exchange_line}
 use Rattle.locked_world.specs.Halls.{HallMay, hall_refusal, after_unless}
-use Rattle.locked_world.specs.HallState.{HallState}
 use Rattle.locked_world.specs.Serving.{accepted}
-use Rattle.journal.specs.Chronicles.{waiting_of, chronicle_of}
 
 -- the line of an event that was accepted waits behind those that waited
 pub more_waits : (h u : HallState) (told : ℕ) (x : Exchange) (lines : List ℕ) → lines ≡ waiting_of (chronicle_of h told) → told ≤ length h.history → u.history ≡ h.history ++ x ∷ [] →

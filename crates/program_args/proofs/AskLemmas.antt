@@ -1,23 +1,16 @@
 -- what clap's answer tells of the words
 use Rattle.std.proofs.Common.{ap, sym, ◌≡◌, ◌⊎◌, ◌||◌, ◌∙◌, inl, inr, ℕ, List, [], ◌∷◌, Bool, true, false, Option, Some, codes, get_or, subst, arith, refl}
+use Rattle.program_args.proofs.Common.{same_Some, Ask, Drawing, Hosting, Playing, Serving, Showing, slotctl_app}
 use Rattle.std.specs.List.{list_any}
-use Rattle.std.proofs.lemmas.Option.{same_Some}
 use Rattle.clap.specs.Words.{IsAmong, Kinds, Row}
 use Rattle.clap.specs.Faults.{is_simple_and_free}
 use Rattle.clap.specs.Simple.{is_simple}
 use Rattle.clap.specs.declared.error.kind.ErrorKind.{ErrorKind}
 use Rattle.clap.specs.declared.error.kind.ErrorKind.TheVariants.{OutOfMemory}
 use Rattle.clap.proofs.OnLiterals.{clap_on_literals}
-use Rattle.program_args.specs.declared.asked.Ask.{Ask}
 use Rattle.program_args.specs.declared.asked.Ask.TheVariants.{Play, Check, Migrate, Show, Draw, Serve, Host}
-use Rattle.program_args.specs.declared.asked.Drawing.{Drawing}
-use Rattle.program_args.specs.declared.asked.Hosting.{Hosting}
-use Rattle.program_args.specs.declared.asked.Playing.{Playing}
-use Rattle.program_args.specs.declared.asked.Serving.{Serving}
-use Rattle.program_args.specs.declared.asked.Showing.{Showing}
 use Rattle.program_args.specs.declared.misuse.Misuse.{Misuse}
 use Rattle.program_args.specs.declared.misuse.Misuse.TheVariants.{Help, Words, Memory}
-use Rattle.program_args.specs.CommandLine.{slotctl_app}
 use Rattle.program_args.specs.Asked.{AsksFor, IsAsked, IsDrawingOf, IsHostingOf, IsPlayingOf, IsMisuse, IsMisuseOf, IsRefusal, IsServingOf, IsShowingOf, is_help, is_refusal}
 
 pub app_is_simple : is_simple slotctl_app ≡ true

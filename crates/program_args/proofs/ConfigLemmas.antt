@@ -1,23 +1,16 @@
 -- when no config, run or drawing has the matched options
-use Rattle.std.proofs.Common.{ap, sym, subst, ◌≡◌, ◌∙◌, ◌<◌, ◌^◌, ℕ, List, Option, Some, None, Result, Ok, Err, IfOk, IsOk, ◌↔◌, Bool, MatchOption, IfSome, IsSome, codes, refl, true, false, arith}
-use Rattle.std.specs.Prelude.{IfNone, ◌≢◌}
+use Rattle.std.proofs.Common.{ap, sym, subst, ◌≡◌, ◌∙◌, ◌<◌, ◌^◌, ℕ, List, Option, Some, None, Result, Ok, Err, IfOk, IsOk, ◌↔◌, Bool, MatchOption, IfSome, IsSome, codes, refl, true, false, arith, IfNone, ◌≢◌}
+use Rattle.program_args.proofs.Common.{result_ok, same_Some, Config, Drawing, Playing, Serving, Showing}
 use Rattle.std.specs.Str.Parse.{ParsesUnsigned, digits_value, without_leading_plus}
 use Rattle.clap.specs.Words.{ReadsOne, Row, first_of, one_of}
-use Rattle.std.specs.Result.{result_ok}
-use Rattle.std.proofs.lemmas.Option.{same_Some}
 use Rattle.commands.specs.Config.{world_name}
 use Rattle.commands.specs.Ranges.{IsConfigRange}
 use Rattle.rename_core.proofs.MostIn.{few_take_part}
 use Rattle.step_memory.specs.declared.refusal.Refusal.{Refusal}
-use Rattle.commands.specs.declared.config.Config.{Config}
 use Rattle.commands.specs.declared.kind.WorldKind.{WorldKind}
 use Rattle.program_args.specs.Asked.{HasNumber, HasWorld, IsConfigOf, IsDrawingOf, IsPlayingOf, IsServingOf, IsShowingOf, asks_flag}
 use Rattle.commands.specs.KindProofs.{named_apart}
 use Rattle.program_args.specs.Ranges.{CanBeWritten, IsDrawingRange, IsServingRange, IsShowingRange}
-use Rattle.program_args.specs.declared.asked.Drawing.{Drawing}
-use Rattle.program_args.specs.declared.asked.Playing.{Playing}
-use Rattle.program_args.specs.declared.asked.Serving.{Serving}
-use Rattle.program_args.specs.declared.asked.Showing.{Showing}
 
 pub unless_some : {T : Type 0} (o : Option T) (P : Type 0) (Q : T → Type 0) → o ≡ None → P → MatchOption o P Q
 unless_some o P Q e p = subst (λ w. MatchOption w P Q) (sym e) p

@@ -1,15 +1,11 @@
 -- when no hosting has the matched options
 use Rattle.std.proofs.Common.{ap, sym, subst, ◌≡◌, ◌∙◌, ℕ, List, Option, Some, None, Result, Ok, Err, ◌↔◌, Bool, MatchOption, IfSome, IsSome, codes, true, false}
+use Rattle.program_args.proofs.Common.{result_ok, same_Some, Row, first_of, Config, Hosting}
 use Rattle.std.specs.Borrow.{Bor}
 use Rattle.std.specs.Net.Grammar.{IsIpText, Parses}
-use Rattle.std.specs.Result.{result_ok}
 use Rattle.std.specs.declared.net.ip_addr.IpAddr.{IpAddr}
-use Rattle.std.proofs.lemmas.Option.{same_Some}
-use Rattle.clap.specs.Words.{Row, first_of}
-use Rattle.commands.specs.declared.config.Config.{Config}
-use Rattle.program_args.specs.Asked.{HasAddress, HasNumber, HasText, IsConfigOf, IsHostingOf, IsKeepingOf, IsLogOf, asks_flag, asks_log}
+use Rattle.program_args.specs.Asked.{HasAddress, HasNumber, IsConfigOf, IsHostingOf, IsKeepingOf, IsLogOf, asks_flag, asks_log}
 use Rattle.program_args.specs.Ranges.{IsHostingRange, IsPatience}
-use Rattle.program_args.specs.declared.asked.Hosting.{Hosting}
 use Rattle.program_args.specs.declared.asked.Keeping.{Keeping}
 use Rattle.program_args.specs.declared.asked.Keeping.TheVariants.{Nothing, Journal, Log}
 use Rattle.program_args.specs.declared.asked.LogWords.{LogWords}

@@ -1,3 +1,4 @@
+mod Common
 mod ConfigLemmas
 mod AskLemmas
 mod HostLemmas

@@ -1,2 +1,3 @@
+mod Common
 mod PageLemmas
 mod TagLemmas

@@ -1,22 +1,11 @@
 -- a page, one line after the other
 use Rattle.std.proofs.Common.{◌≡◌, inl, inr, ℕ, suc, ◌+◌, ◌-◌, ◌<◌, ◌≤◌, Bool, true, false, ◌↔◌, if◌then◌else◌, List, [], ◌∷◌, ◌++◌, length, take, drop, refl, sym, ap, ◌∙◌, subst, append_assoc, get_or, flat_map, arith}
+use Rattle.run_page.proofs.Common.{Config, DeskValue, Line, Stretch, Sheet, Form, Data, Item, with_reached, access_in, row_of, done_at, desk_next, reached_in, rows, replayed, name_fact, name_facts, state}
 use Rattle.std.proofs.lemmas.List.{take_more, length-drop, take_all, drop_all, take-append-le, drop-append-le, append-nil, length-append}
 use Rattle.std.proofs.lemmas.Grind.{flat_map-append}
 use Rattle.std.proofs.lemmas.Bool.Decides.{eqb_tells, leb_tells}
-use Rattle.commands.specs.declared.config.Config.{Config}
-use Rattle.commands.specs.declared.kind.WorldKind.{WorldKind}
 use Rattle.desk.proofs.DeskLaws as desk
 use Rattle.desk.specs.Desk.{fresh_desk, IsFreshDesk, owner_reply}
-use Rattle.desk.specs.DeskValue.{DeskValue}
-use Rattle.desk.specs.DeskValue.DeskValue.{OverGrid, OverTree}
-use Rattle.record_lines.specs.declared.line.Line.{Line}
-use Rattle.run_page.specs.declared.stretch.Stretch.{Stretch}
-use Rattle.run_page.specs.declared.sheet.Sheet.{Sheet}
-use Rattle.run_page.specs.declared.form.Form.{Form}
-use Rattle.run_page.specs.declared.form.Form.TheVariants.{Data, Item}
-use Rattle.run_page.specs.Access.{with_reached}
-use Rattle.run_page.specs.Row.{access_in, row_of, done_at, desk_next, reached_in, rows, replayed}
-use Rattle.run_page.specs.State.{name_fact, name_facts, state}
 use Rattle.record_lines.specs.declared.header.Header.{Header}
 use Rattle.record_lines.specs.RecordLine.{IsHeaderLine}
 use Rattle.record_lines.specs.Records.{record_lines}

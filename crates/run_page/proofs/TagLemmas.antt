@@ -1,13 +1,12 @@
 -- what a page has of its record has no `<`
 use Rattle.std.proofs.Common.{◌≡◌, ℕ, zero, suc, ◌+◌, ◌/◌, ◌%◌, ◌==◌, inl, inr, if◌then◌else◌, Bool, true, false, ◌||◌, List, [], ◌∷◌, ◌++◌, take, drop, length, flat_map, get_or, is_some, Option, Some, None, Result, Ok, Err, codes, decimal, refl, ap, ◌∙◌, arith}
+use Rattle.run_page.proofs.Common.{Config, Coming, DeskValue, header_line, Line, Done, Stretch, Competitor, Form, Data, Item, begun_in}
 use Rattle.std.specs.Fmt.{digits, digits_onto, digit_glyph}
 use Rattle.std.proofs.lemmas.List.Folds.{list_any-append}
 use Rattle.std.proofs.lemmas.Bool.{and_parts}
 use Rattle.std.proofs.lemmas.Bool.Decides.{eqb_tells, leb_tells, nat_tests}
 use Rattle.std.specs.List.{list_all}
-use Rattle.commands.specs.declared.config.Config.{Config}
 use Rattle.commands.specs.declared.kind.WorldKind.{WorldKind}
-use Rattle.desk.specs.declared.coming.Coming.{Coming}
 use Rattle.desk.specs.declared.coming.Coming.TheVariants.{Nothing, Read, Write}
 use Rattle.desk.specs.declared.coming.Register.{Register}
 use Rattle.desk.specs.declared.coming.Register.TheVariants.{X, Y, Mark, Segment}
@@ -16,26 +15,18 @@ use Rattle.commands.specs.declared.event.Event.TheVariants as event
 use Rattle.commands.specs.Replies.{ShownReply}
 use Rattle.commands.specs.declared.reply.Reply.TheVariants as reply
 use Rattle.desk.specs.Desk.{fresh_desk, owner_reply}
-use Rattle.desk.specs.DeskValue.{DeskValue}
 use Rattle.step_memory.specs.Refusal.{refusal_number}
 use Rattle.player.specs.Events.{event_words}
 use Rattle.commands.specs.Config.{facts_of, is_letter, world_name}
-use Rattle.player.specs.Records.{header_line}
 use Rattle.player.specs.Replies.{owner_words, pair_word, pair_words, reply_words}
-use Rattle.record_lines.specs.declared.line.Line.{Line}
 use Rattle.record_lines.specs.declared.told.Told.{Told}
 use Rattle.record_lines.specs.declared.told.Told.TheVariants as told
 use Rattle.record_lines.specs.ToldWords.{told_words}
-use Rattle.run_page.specs.declared.done.Done.{Done}
-use Rattle.run_page.specs.declared.stretch.Stretch.{Stretch}
 use Rattle.step_memory.specs.declared.refusal.Refusal.{Refusal}
-use Rattle.bit_allocator.specs.declared.competitor.Competitor.{Competitor}
 use Rattle.bit_allocator.specs.declared.stay.Stay.{Stay}
 use Rattle.bit_allocator.specs.declared.stay.Stay.TheVariants.{Seeking, Settled}
 use Rattle.desk.specs.Coming.{coming_of}
 use Rattle.desk.specs.Held.{held_in, slots_of}
-use Rattle.run_page.specs.declared.form.Form.{Form}
-use Rattle.run_page.specs.declared.form.Form.TheVariants.{Data, Item}
 use Rattle.run_page.specs.declared.standing.Standing.{Standing}
 use Rattle.run_page.specs.declared.state.TheConstants.{MOST_NAMES}
 use Rattle.run_page.specs.Access.{access_words, register_words}
@@ -43,7 +34,6 @@ use Rattle.run_page.specs.Form.{begin_of, colon_of, end_of, fact, gap_of}
 use Rattle.run_page.specs.Row.{desk_next, done_at, done_words, held_words, reached_in, replayed, row_of, rows, words_of}
 use Rattle.run_page.specs.Standing.{name_words, place_words, standing_on, standing_words, stay_words, value_words}
 use Rattle.run_page.specs.State.{fact_unless_none, held_fact, name_fact, name_facts, person, place_facts, size_fact, slot_facts, state, stranger}
-use Rattle.run_page.specs.Still.{begun_in}
 use Rattle.run_page.specs.Page.{page_data, closing_data, has_tag, joined, lines_before, opening_data, shown_rows, state_after, stretch_of}
 
 -- it has none
@@ -115,40 +105,28 @@ owners None = refl
 owners (Some id) = word (codes "owner ") id refl
 
 replies : (r : ShownReply) → Clean (reply_words r)
-replies reply.Ok = refl
-replies reply.Quiet = refl
-replies reply.Stop = refl
-replies reply.Right = refl
-replies reply.Down = refl
 replies (reply.Place place) = word (codes "place ") place refl
 replies (reply.Proposed n) = word (codes "proposed ") n refl
 replies (reply.Saw view) = both (codes "saw") (pair_words view) refl (pairs_clean view)
 replies (reply.Named n view) = word (codes "named ") n refl
-replies reply.Spent = refl
-replies reply.Missed = refl
 replies (reply.Got n) = word (codes "got ") n refl
 replies (reply.Left n) = word (codes "left ") n refl
 replies (reply.Value n) = word (codes "value ") n refl
 replies (reply.Owner o) = owners o
 replies (reply.Refused why) = word (codes "refused ") (refusal_number why) refl
+replies r = refl
 
 pub tells : (t : Told) → Clean (told_words t)
-tells told.Ok = refl
-tells told.Quiet = refl
-tells told.Stop = refl
-tells told.Right = refl
-tells told.Down = refl
 tells (told.Place place) = word (codes "place ") place refl
 tells (told.Proposed n) = word (codes "proposed ") n refl
 tells (told.Saw view) = both (codes "saw") (pair_words view) refl (pairs_clean view)
 tells (told.Named n view) = word (codes "named ") n refl
-tells told.Spent = refl
-tells told.Missed = refl
 tells (told.Got n) = word (codes "got ") n refl
 tells (told.Left n) = word (codes "left ") n refl
 tells (told.Value n) = word (codes "value ") n refl
 tells (told.Owner o) = owners o
 tells (told.Refused n) = word (codes "refused ") n refl
+tells t = refl
 
 -- ---- accesses and rows
 
@@ -245,23 +223,8 @@ one_place w place =
     (one_register (Segment place) (held_in w (Segment place)))
 
 one_name : (n : ℕ) (r : ShownReply) → Clean (name_fact Data n r)
-one_name n reply.Ok = refl
-one_name n reply.Quiet = refl
-one_name n reply.Stop = refl
-one_name n reply.Right = refl
-one_name n reply.Down = refl
-one_name n (reply.Place place) = refl
-one_name n (reply.Proposed m) = refl
-one_name n (reply.Saw view) = refl
-one_name n (reply.Named m view) = refl
-one_name n reply.Spent = refl
-one_name n reply.Missed = refl
-one_name n (reply.Got m) = refl
-one_name n (reply.Left m) = refl
-one_name n (reply.Value m) = refl
-one_name n (reply.Owner None) = refl
 one_name n (reply.Owner (Some p)) = facts (codes "name " ++ decimal n) (decimal p) (word (codes "name ") n refl) (number p)
-one_name n (reply.Refused why) = refl
+one_name n r = refl
 
 all_names : (w : DeskValue) (n : ℕ) → Clean (name_facts Data w n)
 unfolding name_facts

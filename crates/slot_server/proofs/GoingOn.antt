@@ -1,5 +1,5 @@
 -- what clerks come to keep, one turn after another and one clerk beside another
-use Rattle.std.proofs.Common.{◌≡◌, ℕ, ◌<◌, List, ◌++◌, length, get_or, Some, slice_get, sym, subst, ◌∙◌}
+use Rattle.std.proofs.Common.{◌≡◌, ℕ, ◌<◌, List, ◌++◌, length, get_or, sym, subst, ◌∙◌}
 use Rattle.std.proofs.lemmas.Option.{slice_get_within, get_or_from_slice_get}
 use Rattle.commands.specs.declared.config.Config.{Config}
 use Rattle.player.specs.RunProofs.{runs-append}

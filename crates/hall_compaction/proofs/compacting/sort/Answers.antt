@@ -1,5 +1,4 @@
-use Rattle.std.proofs.Common.{◌≡◌, true, false, Some, sym, ◌∙◌}
-use Rattle.std.specs.Prelude.{slice_get}
+use Rattle.std.proofs.Common.{◌≡◌, true, false, Some, sym, ◌∙◌, slice_get}
 use Rattle.hall_compaction.specs.DeskParts.{is_renaming}
 use Rattle.hall_compaction.proofs.RebuiltLemmas.{one_taken_over, one_followed}
 use Rattle.hall_compaction.proofs.compacting.sort.Goals as goal

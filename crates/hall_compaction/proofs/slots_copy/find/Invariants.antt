@@ -1,5 +1,4 @@
-use Rattle.std.proofs.Common.{◌≡◌, ◌+◌, drop}
-use Rattle.std.specs.Prelude.{option_map}
+use Rattle.std.proofs.Common.{◌≡◌, ◌+◌, drop, option_map}
 use Rattle.bit_allocator.specs.Competitors.{index_of}
 use Rattle.hall_compaction.proofs.slots_copy.find.Given as goal
 

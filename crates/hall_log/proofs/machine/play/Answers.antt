@@ -1,9 +1,7 @@
 -- One line after another is taken.
 use Rattle.std.proofs.Common.{◌∙◌, ◌-◌, ℕ, List, refl, arith, take, drop, length, subst}
-use Rattle.std.proofs.lemmas.List.{take_all}
+use Rattle.hall_log.proofs.Common.{take_all, TakesBytes, NotingSays}
 use Rattle.player.specs.Texts.{turn_reply}
-use Rattle.hall_log.specs.Entries.{TakesBytes}
-use Rattle.hall_log.specs.Said.{NotingSays}
 use Rattle.hall_log.proofs.Plays.{take_pieces, takes_none, takes_then}
 use Rattle.hall_log.proofs.machine.play.Goals as goal
 

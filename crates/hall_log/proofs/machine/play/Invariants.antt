@@ -1,6 +1,5 @@
 use Rattle.std.proofs.Common.{◌≡◌, ◌≤◌, ◌-◌, length, take}
-use Rattle.hall_log.specs.Entries.{TakesBytes}
-use Rattle.hall_log.specs.Said.{NotingSays}
+use Rattle.hall_log.proofs.Common.{TakesBytes, NotingSays}
 use Rattle.hall_log.proofs.machine.play.Given as goal
 
 -- so many bytes were taken

@@ -1,8 +1,5 @@
 use Rattle.std.proofs.Common.{◌∷◌, [], ◌++◌, List, refl, ap, ◌∙◌}
-use Rattle.std.proofs.lemmas.List.{append-nil}
-use Rattle.commands.specs.declared.exchange.Exchange.{Exchange}
-use Rattle.commands.specs.Replies.{with_view}
-use Rattle.desk.specs.DeskCalls.{exchange}
+use Rattle.journal.proofs.Common.{append-nil, Exchange, with_view, exchange}
 use Rattle.player.specs.Turns.Turn.{Answered}
 use Rattle.journal.proofs.WaitingLemmas.{config_stays, one_accepted, none_accepted}
 use Rattle.journal.proofs.chronicle.applied.Goals as goal

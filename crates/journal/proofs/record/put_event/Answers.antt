@@ -1,9 +1,5 @@
-use Rattle.std.proofs.Common.{◌≡◌, ◌++◌, Some, List, ℕ, sym, ap, ◌∙◌}
-use Rattle.std.specs.Prelude.{slice_get}
-use Rattle.commands.specs.Replies.{ShownReply, with_view}
-use Rattle.desk.specs.DeskCalls.{exchange}
-use Rattle.player.specs.Records.{exchange_line}
-use Rattle.journal.specs.Chronicles.{record_of_hall, hall_after_first}
+use Rattle.std.proofs.Common.{◌≡◌, ◌++◌, Some, List, ℕ, sym, ap, ◌∙◌, slice_get}
+use Rattle.journal.proofs.Common.{ShownReply, with_view, exchange, exchange_line, record_of_hall, hall_after_first}
 use Rattle.journal.proofs.Compacts.{one_line}
 use Rattle.journal.proofs.record.put_event.Goals as goal
 

@@ -1,6 +1,5 @@
 use Rattle.std.proofs.Common.{ap, codes, Some, ◌∷◌, []}
-use Rattle.clap.specs.Words.{Rule}
-use Rattle.clap.specs.declared.builder.action.ArgAction.TheVariants.{Set}
+use Rattle.program_args.proofs.Common.{Rule, Set}
 use Rattle.program_args.proofs.command_line.address_option.Goals as goal
 
 pub returns-clause-rule : goal.returns-clause-rule

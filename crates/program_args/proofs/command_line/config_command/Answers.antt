@@ -1,8 +1,5 @@
 use Rattle.std.proofs.Common.{ap, ap₂, false, ◌≡◌, ◌||◌, ◌∙◌}
-use Rattle.std.proofs.lemmas.Result.{IfOk-weaker}
-use Rattle.clap.specs.Words.{app_of, with_rule, new_app}
-use Rattle.clap.specs.Simple.{app_of_fields}
-use Rattle.clap.specs.declared.builder.command.Command.TheViews.{out-Command}
+use Rattle.program_args.proofs.Common.{IfOk-weaker, app_of, with_rule, new_app, app_of_fields, out-Command}
 use Rattle.program_args.proofs.command_line.config_command.Goals as goal
 
 pub returns : goal.returns

@@ -1,7 +1,5 @@
 use Rattle.std.proofs.Common.{rules, ap, ◌≡◌, ◌∷◌, [], Some}
-use Rattle.clap.specs.Words.{Rule}
-use Rattle.clap.specs.declared.builder.action.ArgAction.TheVariants.{Set}
-use Rattle.clap.specs.declared.builder.value_parser.ValueParser.TheVariants.{Unsigned}
+use Rattle.program_args.proofs.Common.{Rule, Set, Unsigned}
 use Rattle.program_args.proofs.command_line.number_option.Goals as goal
 
 pub returns-clause-rule : goal.returns-clause-rule

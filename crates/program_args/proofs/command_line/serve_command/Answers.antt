@@ -1,6 +1,5 @@
 use Rattle.std.proofs.Common.{ap₂, ◌||◌, ◌∙◌}
-use Rattle.std.proofs.lemmas.Result.{IfOk-weaker}
-use Rattle.clap.specs.Words.{with_rule}
+use Rattle.program_args.proofs.Common.{IfOk-weaker, with_rule}
 use Rattle.program_args.proofs.command_line.serve_command.Goals as goal
 
 pub returns : goal.returns

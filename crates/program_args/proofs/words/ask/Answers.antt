@@ -1,9 +1,8 @@
 use Rattle.std.proofs.Common.{map, subst, true, [], ◌≡◌}
+use Rattle.program_args.proofs.Common.{Ask, slotctl_app}
 use Rattle.clap.specs.Words.{App, HasMatchesOf, kind_of}
 use Rattle.clap.specs.Kinds.{HasKind}
 use Rattle.clap.specs.Faults.{fault_of, is_simple_and_free}
-use Rattle.program_args.specs.declared.asked.Ask.{Ask}
-use Rattle.program_args.specs.CommandLine.{slotctl_app}
 use Rattle.program_args.specs.Asked.{IsAsked}
 use Rattle.program_args.proofs.AskLemmas.{app_is_free, app_is_simple, refused, told}
 use Rattle.program_args.proofs.words.ask.Goals as goal

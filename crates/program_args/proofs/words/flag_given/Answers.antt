@@ -1,8 +1,7 @@
 use Rattle.std.proofs.Common.{ap, codes, Some, None, false, ◌≡◌, ◌∙◌}
+use Rattle.program_args.proofs.Common.{first_of, found_of, rows_of, first_value-rows}
 use Rattle.std.specs.Option.{option_map_or}
 use Rattle.std.specs.Str.{bytes_eq}
-use Rattle.clap.specs.Words.{first_of, found_of, rows_of}
-use Rattle.clap.proofs.WalkLemmas.{first_value-rows}
 use Rattle.program_args.proofs.words.flag_given.Goals as goal
 
 pub returns-in-Some : goal.returns-in-Some

@@ -1,6 +1,5 @@
 use Rattle.std.proofs.Common.{◌∙◌}
-use Rattle.clap.specs.Words.{found_of}
-use Rattle.clap.proofs.WalkLemmas.{first_value-rows}
+use Rattle.program_args.proofs.Common.{found_of, first_value-rows}
 use Rattle.program_args.proofs.words.text_given.Goals as goal
 
 pub returns : goal.returns

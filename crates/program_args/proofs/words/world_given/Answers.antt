@@ -1,6 +1,5 @@
 use Rattle.std.proofs.Common.{codes, Some, None, ◌≡◌, ◌∙◌}
-use Rattle.clap.specs.Words.{first_of, found_of, rows_of}
-use Rattle.clap.proofs.WalkLemmas.{first_value-rows}
+use Rattle.program_args.proofs.Common.{first_of, found_of, rows_of, first_value-rows}
 use Rattle.program_args.proofs.ConfigLemmas.{unless_some, no_world, world_told}
 use Rattle.program_args.proofs.words.world_given.Goals as goal
 

@@ -1,6 +1,4 @@
-use Rattle.run_page.specs.declared.form.Form.TheVariants.{Item}
-use Rattle.run_page.specs.Page.{closing_data, page_between, page_middle, page_tail}
-use Rattle.run_page.specs.State.{state}
+use Rattle.run_page.proofs.Common.{Item, closing_data, page_between, page_middle, page_tail, state}
 use Rattle.run_page.proofs.PageLemmas.{put_last}
 use Rattle.run_page.proofs.sheet.put_ending.Goals as goal
 

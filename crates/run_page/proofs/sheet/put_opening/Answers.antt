@@ -1,6 +1,5 @@
 use Rattle.std.proofs.Common.{codes, decimal}
-use Rattle.player.specs.Records.{header_line}
-use Rattle.run_page.specs.Page.{page_head}
+use Rattle.run_page.proofs.Common.{header_line, page_head}
 use Rattle.run_page.proofs.PageLemmas.{put_first}
 use Rattle.run_page.proofs.sheet.put_opening.Goals as goal
 

@@ -1,5 +1,4 @@
-use Rattle.std.proofs.Common.{◌≡◌, ℕ, List, Result, Err, rules, subst, sym}
-use Rattle.std.specs.Prelude.{MatchResult}
+use Rattle.std.proofs.Common.{◌≡◌, ℕ, List, Result, Err, rules, subst, sym, MatchResult}
 use Rattle.player.specs.Played.{writing}
 use Rattle.player.specs.Written.{HasPartOf}
 use Rattle.player.specs.declared.fault.Fault.{Fault}

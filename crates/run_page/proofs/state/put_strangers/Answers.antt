@@ -1,7 +1,6 @@
 use Rattle.std.proofs.Common.{◌∙◌, append_assoc}
-use Rattle.bit_allocator.specs.declared.competitor.Competitor.{Competitor}
+use Rattle.run_page.proofs.Common.{Competitor, stranger}
 use Rattle.bit_allocator.specs.declared.stay.Stay.TheVariants.{Seeking}
-use Rattle.run_page.specs.State.{stranger}
 use Rattle.run_page.proofs.PageLemmas.{flat_more}
 use Rattle.run_page.proofs.state.put_strangers.Goals as goal
 

@@ -1,13 +1,7 @@
 -- The lines of the entry were played with no growth refused.
 use Rattle.std.proofs.Common.{◌∙◌, List, [], ℕ, false, ap, sym, subst}
-use Rattle.commands.specs.declared.config.Config.{Config}
-use Rattle.commands.specs.declared.kind.WorldKind.{WorldKind}
+use Rattle.hall_log.proofs.Common.{Config, WorldKind, HallState, HallApplies, TakesBytes, NotingState, NotingSays, TapeState}
 use Rattle.player.specs.Says.{IsSilent}
-use Rattle.locked_world.specs.HallState.{HallState}
-use Rattle.hall_log.specs.Entries.{HallApplies, TakesBytes}
-use Rattle.hall_log.specs.NotingState.{NotingState}
-use Rattle.hall_log.specs.Said.{NotingSays}
-use Rattle.hall_log.specs.TapeState.{TapeState}
 use Rattle.hall_log.proofs.Plays.{applied}
 use Rattle.hall_log.proofs.machine.HallMachine.play_entry.Goals as goal
 

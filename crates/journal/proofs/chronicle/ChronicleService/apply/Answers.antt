@@ -1,7 +1,5 @@
 use Rattle.std.proofs.Common.{◌≡◌, ◌∙◌, sym}
-use Rattle.commands.specs.Replies.{with_view}
-use Rattle.desk.specs.DeskCalls.{exchange}
-use Rattle.journal.specs.Chronicles.{waiting_of, chronicle_of}
+use Rattle.journal.proofs.Common.{with_view, exchange, waiting_of, chronicle_of}
 use Rattle.journal.proofs.WaitingLemmas.{more_waits, same_waits}
 use Rattle.journal.proofs.chronicle.ChronicleService.apply.Goals as goal
 

@@ -1,8 +1,6 @@
 use Rattle.std.proofs.Common.{◌≡◌, ◌∙◌, List, ℕ, sym, subst}
+use Rattle.journal.proofs.Common.{longer_by, synced_all, ChronicleState, HasSynced}
 use mathlib.Core.List.{IsPrefix}
-use Rattle.journal_disk.specs.Disks.{longer_by, synced_all}
-use Rattle.journal.specs.ChronicleState.{ChronicleState}
-use Rattle.journal.specs.Journals.{HasSynced}
 use Rattle.journal.proofs.Commits.{keeps_all, keeps_part, all_written, known_before}
 use Rattle.journal.proofs.journal.Journal.commit.Goals as goal
 

@@ -1,6 +1,5 @@
 use Rattle.std.proofs.Common.{inl, subst}
-use Rattle.locked_world.specs.HallState.{HallState}
-use Rattle.hall_compaction.specs.Compactions.{IsCompacted}
+use Rattle.journal.proofs.Common.{HallState, IsCompacted}
 use Rattle.journal.proofs.journal.Journal.compact_when_due.Goals as goal
 
 pub returns-in-Ok-clause-any_moment : goal.returns-in-Ok-clause-any_moment

@@ -1,9 +1,5 @@
 use Rattle.std.proofs.Common.{◌∙◌, ◌++◌, List, ℕ, refl, sym, ap, subst}
-use Rattle.player.specs.Records.{header_line}
-use Rattle.journal_disk.specs.DiskState.{DiskState}
-use Rattle.journal.specs.ChronicleState.{ChronicleState}
-use Rattle.journal.specs.Journals.{HasSynced, IsHallOf, IsMended, missing_in}
-use Rattle.journal.specs.Openings.{IsRecovered}
+use Rattle.journal.proofs.Common.{header_line, DiskState, ChronicleState, HasSynced, IsHallOf, IsMended, missing_in, IsRecovered}
 use Rattle.journal.proofs.Commits.{known_before}
 use Rattle.journal.proofs.OpeningLemmas.{hall_of_bytes, synced_record}
 use Rattle.journal.proofs.journal.Journal.open.Goals as goal

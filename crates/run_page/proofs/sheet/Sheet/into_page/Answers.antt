@@ -1,7 +1,5 @@
 use Rattle.std.proofs.Common.{◌≡◌, ℕ, ◌-◌, nat_le, Bool, if◌then◌else◌, List, [], ◌++◌, ap, ◌∙◌}
-use Rattle.run_page.specs.declared.form.Form.TheVariants.{Data}
-use Rattle.run_page.specs.Page.{ending, whole_before}
-use Rattle.run_page.specs.State.{state}
+use Rattle.run_page.proofs.Common.{Data, ending, whole_before, state}
 use Rattle.run_page.proofs.PageLemmas.{same_stretch}
 use Rattle.run_page.proofs.sheet.Sheet.into_page.Goals as goal
 

@@ -1,12 +1,5 @@
 use Rattle.std.proofs.Common.{List, ℕ, ◌++◌, [], Option, if◌then◌else◌, refl, rules, ap, ◌∙◌}
-use Rattle.desk.specs.declared.coming.Coming.{Coming}
-use Rattle.run_page.specs.declared.done.Done.{Done}
-use Rattle.run_page.specs.declared.form.Form.TheVariants.{Data}
-use Rattle.run_page.specs.declared.sheet.Sheet.{Sheet}
-use Rattle.run_page.specs.Access.{with_reached}
-use Rattle.run_page.specs.Row.{access_in, row_of}
-use Rattle.run_page.specs.State.{state}
-use Rattle.run_page.specs.Still.{item_of}
+use Rattle.run_page.proofs.Common.{Coming, Done, Data, Sheet, with_reached, access_in, row_of, state, item_of}
 use Rattle.run_page.proofs.PageLemmas.{put_more}
 use Rattle.run_page.proofs.sheet.SheetGather.take.Goals as goal
 
