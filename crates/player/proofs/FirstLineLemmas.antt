@@ -1,8 +1,7 @@
 -- the first line of some bytes, and what a run makes of it
-use Rattle.std.proofs.Common.{◌≡◌, ℕ, zero, suc, ◌+◌, ◌<◌, ◌==◌, ◌&&◌, true, false, cond, not, List, [], ◌∷◌, ◌++◌, length, take, get_or, Ok, Err, Result, refl, ap, ◌∙◌, arith, append_assoc}
+use Rattle.std.proofs.Common.{◌≡◌, ℕ, ◌+◌, ◌<◌, ◌==◌, true, false, cond, not, List, [], ◌∷◌, ◌++◌, length, take, get_or, Ok, Err, Result, refl, ap, ◌∙◌, arith, append_assoc}
 use Rattle.std.specs.List.{list_all}
 use Rattle.std.proofs.lemmas.List.{append-nil, take_more}
-use Rattle.memchr.specs.Find.{Nowhere, Passes, is_byte}
 use Rattle.commands.specs.declared.bad.Bad.{Bad}
 use Rattle.commands.specs.declared.command.Command.{Command}
 use Rattle.commands.specs.declared.kind.WorldKind.{WorldKind}
@@ -14,17 +13,6 @@ use Rattle.player.specs.Meaning.{meaning, is_printable, command_in, words}
 use Rattle.player.specs.Progress.{Progress, with_line, after_meaning, after_line, after_bytes}
 use Rattle.player.proofs.ProgressLemmas.{after_bytes-append}
 use Rattle.player.specs.Lines.{has_no_lf}
-
-pub nowhere-none : (bytes : List ℕ) (n : ℕ) → Nowhere (Passes (is_byte 10) bytes) 0 n → has_no_lf (take n bytes) ≡ true
-nowhere-none bytes zero h = refl
-nowhere-none [] (suc n) h = refl
-nowhere-none (b ∷ bs) (suc n) h =
-    let here : (b == 10) ≡ true → ⊥ = h 0 (omega arith) (omega arith) in
-    let later : Nowhere (Passes (is_byte 10) bs) 0 n = λ k low high. h (suc k) (omega arith) (omega arith) in
-    elim (b == 10) as (λ t. (t ≡ true → ⊥) → (not t && has_no_lf (take n bs)) ≡ true) [
-      | true ↦ λ no. absurd (no refl)
-      | false ↦ λ no. nowhere-none bs n later
-    ] here
 
 printable-no_lf : (b : ℕ) → is_printable b ≡ true → (b == 10) ≡ false
 printable-no_lf b h = grind (arith, nat_tests)

@@ -1,7 +1,7 @@
 mod HeldLineLemmas
 mod NumberLemmas
 mod WordLemmas
-mod FirstBytes
+pub mod PieceLemmas
 mod WrittenLemmas
 mod UnderWayLemmas
 mod ProgressLemmas

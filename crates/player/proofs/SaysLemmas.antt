@@ -1,5 +1,5 @@
 -- what is said to one side of a talk, one turn after another
-use Rattle.std.proofs.Common.{◌≡◌, ℕ, ◌+◌, true, false, cond, List, [], ◌∷◌, ◌++◌, length, map, flat_map, Ok, Err, Result, refl, sym, ap, subst, ◌∙◌, append_assoc, arith, length-append}
+use Rattle.std.proofs.Common.{◌≡◌, ℕ, ◌+◌, true, false, cond, List, [], ◌∷◌, ◌++◌, flat_map, Ok, Err, Result, refl, sym, ap, subst, ◌∙◌, append_assoc, arith, length-append}
 use Rattle.std.proofs.lemmas.List.{append-nil, map-append}
 use Rattle.std.proofs.lemmas.Grind.{flat_map-append}
 use Rattle.commands.specs.Replies.{ShownReply, is_refusal}
@@ -15,7 +15,7 @@ use Rattle.player.specs.Progress.{Progress, ends, after_meaning, after_line, aft
 use Rattle.commands.specs.Requests.{Request}
 use Rattle.player.specs.Runs.{Runs}
 use Rattle.player.specs.RunProofs.{runs-append}
-use Rattle.player.specs.Says.{Spoke, IsTurnOf, IsHeld, SaysBy, SaysFrom, Says, Anywhere, Afresh}
+use Rattle.player.specs.Says.{Spoke, IsTurnOf, IsHeld, SaysFrom, Says, Afresh}
 use Rattle.player.specs.Summary.{total, one_if_accepted, one_if_refused, one_if_bad}
 use Rattle.player.specs.Turns.{asked, answer_of, answers_of}
 

@@ -1,5 +1,5 @@
 -- a service that talks share: one order of all that was said, and what each talk had in it
-use Rattle.std.specs.Prelude.{◌≡◌, ℕ, ◌==◌, if◌then◌else◌, ◌++◌, List, [], ◌∷◌, flat_map}
+use Rattle.std.specs.Prelude.{◌≡◌, ℕ, ◌==◌, if◌then◌else◌, List, [], ◌∷◌, flat_map}
 use Rattle.commands.specs.Replies.{ShownReply}
 use Rattle.commands.specs.Requests.{Request}
 use Rattle.player.specs.Progress.{Progress}

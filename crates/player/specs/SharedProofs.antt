@@ -6,7 +6,6 @@ use Rattle.std.proofs.lemmas.Grind.{flat_map-append}
 use Rattle.commands.specs.Replies.{ShownReply}
 use Rattle.commands.specs.Requests.{Request}
 use Rattle.player.specs.Progress.{Progress}
-use Rattle.player.specs.Runs.{Runs}
 use Rattle.player.specs.RunProofs.{runs-append}
 use Rattle.player.specs.Says.{Spoke, SaysBy, Anywhere}
 use Rattle.player.specs.Shared.{TurnLog, turns_of, tagged, all_turns, changed, IsShared}

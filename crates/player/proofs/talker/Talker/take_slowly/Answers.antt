@@ -1,4 +1,4 @@
-use Rattle.std.proofs.Common.{◌≡◌, ◌∙◌, ◌++◌, ◌+◌, ◌<◌, true, [], refl, ap, sym, length, take, get_or, arith, subst}
+use Rattle.std.proofs.Common.{◌≡◌, ◌∙◌, ◌++◌, ◌+◌, ◌<◌, true, [], ap, sym, length, take, get_or, arith, subst}
 use Rattle.std.proofs.lemmas.List.{take_all}
 use Rattle.std.proofs.lemmas.Bool.{eqb-true}
 use Rattle.commands.specs.declared.kind.WorldKind.{WorldKind}
@@ -8,7 +8,8 @@ use Rattle.player.specs.Meaning.{meaning}
 use Rattle.player.specs.Progress.{with_line, after_meaning, after_line, after_bytes}
 use Rattle.player.specs.Says.{SaysFrom, GoingOn, Afresh}
 use Rattle.player.specs.TalkerState.{TalkerState}
-use Rattle.player.proofs.FirstLineLemmas.{nowhere-none, after_bytes-part, after_bytes-whole, after_bytes-first}
+use Rattle.player.proofs.PieceLemmas.{nowhere-lacks}
+use Rattle.player.proofs.FirstLineLemmas.{after_bytes-part, after_bytes-whole, after_bytes-first}
 use Rattle.player.proofs.SaysLemmas.{spoke_with_line, says_after, says_nothing}
 use Rattle.player.proofs.talker.Talker.take_slowly.Goals as goal
 
@@ -17,7 +18,7 @@ returns-in_default-clause-says g c =
     let s = c.args.self.now in
     let bytes = c.args.bytes.now in
     let all : take (length bytes) bytes ≡ bytes = take_all (length bytes) bytes (omega arith) in
-    let none : has_no_lf bytes ≡ true = rw all at (nowhere-none bytes (length bytes) c.in_default.ensures) in
+    let none : has_no_lf bytes ≡ true = rw all at (nowhere-lacks 10 bytes (length bytes) c.in_default.ensures) in
     let longer : TalkerState = record { kind = c.self.inside.kind; line = c.extend.new.self; summary = c.self.inside.summary; over = c.self.inside.over } in
     says_nothing g.D.Service.may g.F.Form.text c.args.service.now s longer c.args.out.now GoingOn (λ p. after_bytes s.kind p (take (length bytes) bytes))
     (λ turns p t on.
@@ -39,7 +40,7 @@ returns-then-is_empty-clause-says g c =
     let bytes = c.args.bytes.now in
     let end = c.in-Some.end in
     let below : end < length bytes = first.0.high in
-    let none = nowhere-none bytes end first.0.before in
+    let none = nowhere-lacks 10 bytes end first.0.before in
     let lf : get_or bytes end 0 ≡ 10 = eqb-true _ _ first.1 in
     let kind = ap (λ (q : TalkerState). q.kind) c.self.view_is in
     let is : meaning s.kind (take end bytes) ≡ c.parse_line-meaning.result = ap (λ k. meaning k (take end bytes)) (sym kind) ∙ sym c.parse_line-meaning.ensures in
@@ -56,7 +57,7 @@ returns-clause-says g c =
     let bytes = c.args.bytes.now in
     let end = c.in-Some.end in
     let below : end < length bytes = first.0.high in
-    let none = nowhere-none bytes end first.0.before in
+    let none = nowhere-lacks 10 bytes end first.0.before in
     let lf : get_or bytes end 0 ≡ 10 = eqb-true _ _ first.1 in
     let kind = ap (λ (q : TalkerState). q.kind) c.self.view_is in
     let longer : TalkerState = record { kind = c.self.inside.kind; line = c.extend-2.new.self; summary = c.self.inside.summary; over = c.self.inside.over } in

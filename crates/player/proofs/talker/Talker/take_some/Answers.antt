@@ -1,4 +1,4 @@
-use Rattle.std.proofs.Common.{◌≡◌, ◌∙◌, ◌+◌, ◌-◌, ◌≤◌, refl, sym, arith, take, drop, length, subst}
+use Rattle.std.proofs.Common.{◌∙◌, ◌+◌, ◌-◌, refl, sym, arith, take, drop, length, subst}
 use Rattle.commands.specs.declared.kind.WorldKind.{WorldKind}
 use Rattle.player.specs.Progress.{after_bytes}
 use Rattle.player.specs.Says.{Says, Anywhere}
