@@ -12,7 +12,7 @@ use Rattle.player.specs.Progress.{Progress, at_start, ends, after_meaning, after
 use Rattle.player.proofs.WrittenLemmas.{take_pieces}
 
 -- the first of what lines ask for, and the rest unless it is `quit`
-until_first : (m : Result Command Bad) (ms : List (Result Command Bad)) → until_quit (m ∷ ms) ≡ m ∷ cond (ends m) [] (until_quit ms)
+pub until_first : (m : Result Command Bad) (ms : List (Result Command Bad)) → until_quit (m ∷ ms) ≡ m ∷ cond (ends m) [] (until_quit ms)
 until_first (Err bad) ms = refl
 until_first (Ok (command.Event e)) ms = refl
 until_first (Ok (command.Owner n)) ms = refl

@@ -4,7 +4,6 @@ use Rattle.std.specs.List.{list_all}
 use Rattle.std.specs.Prelude.{nat_le, nat_lt}
 use Rattle.std.proofs.lemmas.List.{take_all, length-take-le, length-drop, take-append-drop, drop_more, take_more, get_or-drop, get_or-append-add}
 use Rattle.std.proofs.lemmas.List.Folds.{list_all-append, list_all_more}
-use Rattle.std.proofs.lemmas.List.Sums.{AllPass-from_list_all, list_all-from_AllPass}
 use Rattle.std.proofs.lemmas.Bool.{and_parts, and_from}
 use Rattle.std.proofs.lemmas.Bool.Decides.{nat_tests}
 use Rattle.std.proofs.Math.Nat.{pow-suc, pow-le-pow_right}
@@ -14,7 +13,7 @@ use Rattle.commands.specs.declared.command.Command.{Command}
 use Rattle.player.specs.Digits.{DigitsSoFar}
 use Rattle.player.specs.Quick.{IsNumberBefore, IsCommandBefore, is_of_words, word_of_four}
 use Rattle.player.specs.Meaning.{meaning, words, command_of, number_in, is_digit, is_printable, decimal_from, if_below}
-use Rattle.player.proofs.PieceLemmas.{lacks, pieces-cut, pieces-last}
+use Rattle.player.proofs.PieceLemmas.{passes_too, lacks, pieces-cut, pieces-last}
 
 -- the bytes past a beginning, as a slice gives them
 pub rest_of-slice : (bytes : List ℕ) (n : ℕ) → take (length bytes - n) (drop n bytes) ≡ drop n bytes
@@ -76,7 +75,7 @@ number-passes : (p : ℕ → Bool) → ((b : ℕ) → 48 ≤ b → b ≤ 57 → 
 number-passes p each [] n = λ is. refl
 number-passes p each (b ∷ bs) n =
     elim (list_all is_digit (b ∷ bs)) as (λ t. list_all is_digit (b ∷ bs) ≡ t → cond t (cond (eqb b 48) (cond (eqb (length bs) 0) (Some 0) None) (if_below (2 ^ 64) (decimal_from 0 (b ∷ bs)))) None ≡ Some n → list_all p (b ∷ bs) ≡ true) [
-      | true ↦ λ all is. list_all-from_AllPass p (b ∷ bs) (λ k d lt. let r = digit_range _ (AllPass-from_list_all is_digit (b ∷ bs) all k d lt) in each _ r.0 r.1)
+      | true ↦ λ all is. passes_too is_digit p (λ d h. let r = digit_range d h in each d r.0 r.1) (b ∷ bs) all
       | false ↦ λ all is. absurd cc
     ] refl
 
@@ -117,9 +116,6 @@ two_others one other m n is few is2 few2 =
 abbrev pub is_letter : ℕ → Bool
 is_letter b = nat_le 97 b && nat_le b 122
 
-word-passes : (p : ℕ → Bool) → ((b : ℕ) → is_letter b ≡ true → p b ≡ true) → (word : List ℕ) → list_all is_letter word ≡ true → list_all p word ≡ true
-word-passes p each word letters = list_all-from_AllPass p word (λ k d lt. each _ (AllPass-from_list_all is_letter word letters k d lt))
-
 short-line : (n : ℕ) → n ≤ 100 → nat_lt 100 n ≡ false
 short-line n le = grind (arith, nat_tests)
 
@@ -131,14 +127,14 @@ first_command by world word bytes rest ws command count end split end_is short l
     let others : List ℕ = take count rest in
     let few = o.short in
     let begins : take (length word + suc count) (word ++ 32 ∷ rest) ≡ word ++ 32 ∷ others = take-append-add word (32 ∷ rest) (suc count) in
-    let printable = both-pass is_printable word others refl (word-passes is_printable (λ b l. grind (arith, nat_tests, l)) word letters) o.printable in
-    let parted = pieces-cut 32 [] word others (word-passes _ (λ b l. grind (arith, nat_tests, l)) word letters) in
+    let printable = both-pass is_printable word others refl (passes_too is_letter is_printable (λ b l. grind (arith, nat_tests, l)) word letters) o.printable in
+    let parted = pieces-cut 32 [] word others (passes_too is_letter _ (λ b l. grind (arith, nat_tests, l)) word letters) in
     let said : meaning world (word ++ 32 ∷ others) ≡ command_of world word (words others) =
     rw (short-line (length (word ++ 32 ∷ others)) (omega (arith, length-append word (32 ∷ others))), printable, parted) refl in
     rw (split, end_is) (record {
       inside = omega (arith, length-append word (32 ∷ rest));
       ends = get_or-append-add word (32 ∷ rest) (suc count) 0 ∙ stands;
-      of_words = ap (list_all is_of_words) begins ∙ both-pass is_of_words word others refl (word-passes is_of_words (λ b l. grind (arith, nat_tests, l)) word letters) o.of_words;
+      of_words = ap (list_all is_of_words) begins ∙ both-pass is_of_words word others refl (passes_too is_letter is_of_words (λ b l. grind (arith, nat_tests, l)) word letters) o.of_words;
       means = ap (meaning world) begins ∙ said ∙ ap (command_of world word) o.words_are ∙ means;
     })
 

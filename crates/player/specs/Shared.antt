@@ -1,10 +1,10 @@
 -- a service that talks share: one order of all that was said, and what each talk had in it
-use Rattle.std.specs.Prelude.{◌≡◌, ℕ, ◌==◌, if◌then◌else◌, List, [], ◌∷◌, flat_map}
+use Rattle.std.specs.Prelude.{◌≡◌, ℕ, ◌==◌, if◌then◌else◌, List, [], ◌∷◌, ◌++◌, flat_map}
 use Rattle.commands.specs.Replies.{ShownReply}
 use Rattle.commands.specs.Requests.{Request}
 use Rattle.player.specs.Progress.{Progress}
 use Rattle.player.specs.Runs.{Runs}
-use Rattle.player.specs.Says.{Spoke}
+use Rattle.player.specs.Says.{Anywhere, SaysBy, Spoke}
 use Rattle.player.specs.TalkerState.{TalkerState}
 use Rattle.player.specs.Turns.{Turn}
 
@@ -37,3 +37,10 @@ pub record IsShared {T : Type 0} (may : T → Request → ShownReply → T → T
   pub run : Runs may start (all_turns log) w
   pub each : (i : ℕ) → Spoke (turns_of i log) (at i) (far i)
   pub told_is : (i : ℕ) → told i ≡ flat_map text (turns_of i log)
+
+-- where one of the talks goes on, there is one order of all that was said still, in which each talk has just its own turns
+abbrev pub SharedGoesOn : {T : Type 0} → (T → Request → ShownReply → T → Type 0) → (Turn → List ℕ) → Type 0
+SharedGoesOn {T = T} may text =
+    (start w u : T) (log : TurnLog) (at : ℕ → TalkerState) (far : ℕ → Progress) (told : ℕ → List ℕ) (i : ℕ) (out out' : List ℕ) (s' : TalkerState)
+    (next : Progress → Progress) (more : List Turn) → IsShared may text start w log at far told → SaysBy may text more w (at i) out u s' out' Anywhere next →
+    IsShared may text start u (log ++ tagged i more) (changed at i s') (changed far i (next (far i))) (changed told i (told i ++ flat_map text more))

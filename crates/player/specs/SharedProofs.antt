@@ -5,11 +5,9 @@ use Rattle.std.proofs.lemmas.Bool.{eqb-true}
 use Rattle.std.proofs.lemmas.Grind.{flat_map-append}
 use Rattle.commands.specs.Replies.{ShownReply}
 use Rattle.commands.specs.Requests.{Request}
-use Rattle.player.specs.Progress.{Progress}
 use Rattle.player.specs.RunProofs.{runs-append}
-use Rattle.player.specs.Says.{Spoke, SaysBy, Anywhere}
-use Rattle.player.specs.Shared.{TurnLog, turns_of, tagged, all_turns, changed, IsShared}
-use Rattle.player.specs.TalkerState.{TalkerState}
+use Rattle.player.specs.Says.{Spoke}
+use Rattle.player.specs.Shared.{TurnLog, turns_of, tagged, all_turns, SharedGoesOn}
 use Rattle.player.specs.Turns.{Turn}
 
 pub all-append : (xs ys : TurnLog) → all_turns (xs ++ ys) ≡ all_turns xs ++ all_turns ys
@@ -37,9 +35,7 @@ of-other i j (t ∷ ts) h = rw h (of-other i j ts h)
 
 module _ {T : Type 0} (may : T → Request → ShownReply → T → Type 0) (text : Turn → List ℕ) where
   -- one of them goes on
-  pub shared_on : (start w u : T) (log : TurnLog) (at : ℕ → TalkerState) (far : ℕ → Progress) (told : ℕ → List ℕ) (i : ℕ) (out out' : List ℕ) (s' : TalkerState) (next : Progress → Progress) (more : List Turn) →
-      IsShared may text start w log at far told → SaysBy may text more w (at i) out u s' out' Anywhere next →
-      IsShared may text start u (log ++ tagged i more) (changed at i s') (changed far i (next (far i))) (changed told i (told i ++ flat_map text more))
+  pub shared_on : SharedGoesOn may text
   shared_on start w u log at far told i out out' s' next more shared said = record {
     run = rw (all-append log (tagged i more), all-tagged i more) (runs-append may start w u (all_turns log) more shared.run said.run);
     each = λ j. rw (of-append j log (tagged i more))

@@ -34,6 +34,7 @@ fn is_all_digits(word: &[u8]) -> bool
 }
 
 // The number that digits write, if it is below 2^64.
+#[tactic(auto, using(crate::proofs::NumberLemmas::too_large, crate::proofs::NumberLemmas::all_read))]
 fn value_of_digits(digits: &[u8]) -> Option<u64>
     requires { list_all is_digit digits.now ≡ true }
     ensures { result ≡ if_below (2 ^ 64) (decimal_from 0 digits.now) }
@@ -46,6 +47,7 @@ fn value_of_digits(digits: &[u8]) -> Option<u64>
 }
 
 // The number that digits write, if it is below 2^128.
+#[tactic(auto, using(crate::proofs::NumberLemmas::too_large, crate::proofs::NumberLemmas::all_read))]
 fn wide_value_of_digits(digits: &[u8]) -> Option<u128>
     requires { list_all is_digit digits.now ≡ true }
     ensures { result ≡ if_below (2 ^ 128) (decimal_from 0 digits.now) }
