@@ -4,7 +4,7 @@ mod WordLemmas
 pub mod PieceLemmas
 mod WrittenLemmas
 mod UnderWayLemmas
-mod ProgressLemmas
+pub mod ProgressLemmas
 mod SaysLemmas
 mod StandsLemmas
 mod LineLemmas

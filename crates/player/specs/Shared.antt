@@ -12,20 +12,28 @@ use Rattle.player.specs.Turns.{Turn}
 abbrev pub TurnLog : Type 0
 TurnLog = List (ℕ × Turn)
 
--- the turns of one talk
+module _ {X : Type 0} where
+  -- of things that each have a number, those of one
+  abbrev pub numbered : ℕ → List (ℕ × X) → List X
+  numbered i [] = []
+  numbered i (x ∷ xs) = if x.0 == i then x.1 ∷ numbered i xs else numbered i xs
+
+  -- all of them
+  abbrev pub unnumbered : List (ℕ × X) → List X
+  unnumbered [] = []
+  unnumbered (x ∷ xs) = x.1 ∷ unnumbered xs
+
+  -- things of this number alone
+  abbrev pub tagged : ℕ → List X → List (ℕ × X)
+  tagged i [] = []
+  tagged i (x ∷ xs) = (i, x) ∷ tagged i xs
+
+-- the turns of one talk, and all of them
 abbrev pub turns_of : ℕ → TurnLog → List Turn
-turns_of i [] = []
-turns_of i (x ∷ log) = if x.0 == i then x.1 ∷ turns_of i log else turns_of i log
+turns_of i log = numbered i log
 
--- all of them
 abbrev pub all_turns : TurnLog → List Turn
-all_turns [] = []
-all_turns (x ∷ log) = x.1 ∷ all_turns log
-
--- turns of this talk alone
-abbrev pub tagged : ℕ → List Turn → TurnLog
-tagged i [] = []
-tagged i (t ∷ ts) = (i, t) ∷ tagged i ts
+all_turns log = unnumbered log
 
 -- the same, but for one
 abbrev pub changed : {X : Type 0} → (ℕ → X) → ℕ → X → ℕ → X
