@@ -7,7 +7,7 @@ use Rattle.commands.specs.Replies.{ShownReply}
 use Rattle.commands.specs.Requests.{Request}
 use Rattle.player.specs.RunProofs.{runs-append}
 use Rattle.player.specs.Says.{Spoke}
-use Rattle.player.specs.Shared.{TurnLog, numbered, unnumbered, turns_of, tagged, all_turns, SharedGoesOn}
+use Rattle.player.specs.Shared.{numbered, unnumbered, turns_of, tagged, all_turns, SharedGoesOn}
 use Rattle.player.specs.Turns.{Turn}
 
 module _ {X : Type 0} where
