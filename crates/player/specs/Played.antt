@@ -9,11 +9,10 @@ use Rattle.player.specs.declared.fault.Fault.{Fault}
 use Rattle.player.specs.declared.fault.Fault.TheVariants.{Read, Write, Memory}
 use Rattle.player.specs.declared.playing.TheConstants.{READ_BYTES, MOST_READS}
 use Rattle.player.specs.declared.summary.Summary.{Summary}
-use Rattle.player.specs.Turns.{Turn}
+use Rattle.player.specs.Turns.{Turn, asked, answers_of}
 use Rattle.player.specs.Asked.{asked_by, asks_quit}
 use Rattle.player.specs.Counts.{CountsAnswers}
 use Rattle.player.specs.Lines.{lines, whole_lines}
-use Rattle.player.specs.Turns.{asked, answers_of}
 use Rattle.player.specs.Texts.{replies_of}
 use Rattle.player.specs.Written.{HasPartOf}
 

@@ -11,7 +11,7 @@ use Rattle.record_lines.specs.declared.told.Told.{Told}
 use Rattle.record_lines.specs.Json.{is_plain}
 use Rattle.record_lines.specs.PlainLine.{SpellsReply, SpellsLastNumber}
 use Rattle.record_lines.specs.ReplyText.{told_by, told_with, told_in, told_of_words, word_with}
-use Rattle.record_lines.proofs.Pieces.{lacks, pieces-last, pieces-cut}
+use Rattle.player.proofs.PieceLemmas.{lacks, pieces-last, pieces-cut}
 use Rattle.record_lines.proofs.written.PlainLines.{close}
 use Rattle.record_lines.proofs.written.Words.{all_by, plain_both, digit_plain, digit_no_space}
 

@@ -15,7 +15,7 @@ use Rattle.record_lines.specs.declared.told.Told.TheVariants as told
 use Rattle.record_lines.specs.Lines.{told_of}
 use Rattle.record_lines.specs.declared.header.Version.TheVariants.{Two}
 use Rattle.record_lines.specs.ReplyText.{pair_in, pair_of, pairs_after, pairs_in, told_in, told_of_words, told_with, saw_of}
-use Rattle.record_lines.proofs.Pieces.{lacks, pieces-pass, pieces-last, pieces-cut}
+use Rattle.player.proofs.PieceLemmas.{lacks, pieces-pass, pieces-last, pieces-cut}
 use Rattle.record_lines.proofs.written.Numbers.{read_decimal, number_in-decimal}
 use Rattle.record_lines.specs.Json.{is_plain}
 use Rattle.record_lines.specs.PlainLine.{IsPlainView}

@@ -16,7 +16,7 @@ use Rattle.commands.specs.declared.command.Command.TheVariants as command
 use Rattle.player.specs.Events.{event_words}
 use Rattle.player.specs.Lines.{pieces_from, has_no_lf}
 use Rattle.player.specs.Meaning.{is_digit, is_printable, words, command_in, meaning}
-use Rattle.record_lines.proofs.Pieces.{lacks, pieces-last, pieces-cut}
+use Rattle.player.proofs.PieceLemmas.{lacks, pieces-last, pieces-cut}
 use Rattle.record_lines.proofs.written.Numbers.{decimal_digits, number_in-decimal}
 use Rattle.record_lines.specs.Narrow.{IsNarrowEvent}
 use Rattle.record_lines.specs.Json.{is_plain}
