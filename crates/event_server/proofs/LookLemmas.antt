@@ -1,24 +1,14 @@
 -- the lines of what is looked at, one after another
-use Rattle.std.proofs.Common.{◌≡◌, ℕ, zero, suc, ◌+◌, ◌-◌, ◌<◌, ◌==◌, ◌&&◌, cond, not, Bool, true, false, List, [], ◌∷◌, ◌++◌, length, take, drop, get_or, Some, None, refl, sym, ap, subst, ◌∙◌, arith, append_assoc}
+use Rattle.std.proofs.Common.{◌≡◌, ℕ, ◌+◌, ◌-◌, ◌<◌, ◌==◌, cond, not, Bool, true, false, List, [], ◌∷◌, ◌++◌, length, take, drop, get_or, Some, None, refl, sym, ap, subst, ◌∙◌, arith, append_assoc}
 use Rattle.std.proofs.lemmas.List.{append-nil, length-drop, take_more, take_all, take-append-drop}
 use Rattle.std.proofs.lemmas.Bool.{eqb-true, and_parts, not-true}
 use Rattle.std.proofs.Math.Seq.{take-add}
 use Rattle.commands.specs.declared.kind.WorldKind.{WorldKind}
-use Rattle.memchr.specs.Find.{IsFirstByte, Nowhere, Passes, is_byte}
+use Rattle.memchr.specs.Find.{IsFirstByte, is_byte}
 use Rattle.player.specs.Lines.{has_no_lf, lines, rest_from, rest_of, unless_empty, whole_lines, whole_lines_from, with_ends}
 use Rattle.player.specs.Meaning.{meaning}
+use Rattle.player.proofs.PieceLemmas.{nowhere-lacks}
 use Rattle.event_server.specs.Told.{is_request, requests, behind, requests_in, HasLooked}
-
-pub none_before : (bytes : List ℕ) (n : ℕ) → Nowhere (Passes (is_byte 10) bytes) 0 n → has_no_lf (take n bytes) ≡ true
-none_before bytes zero h = refl
-none_before [] (suc n) h = refl
-none_before (b ∷ bs) (suc n) h =
-    let here : (b == 10) ≡ true → ⊥ = h 0 (omega arith) (omega arith) in
-    let later : Nowhere (Passes (is_byte 10) bs) 0 n = λ k low high. h (suc k) (omega arith) (omega arith) in
-    elim (b == 10) as (λ t. (t ≡ true → ⊥) → (not t && has_no_lf (take n bs)) ≡ true) [
-      | true ↦ λ no. absurd (no refl)
-      | false ↦ λ no. none_before bs n later
-    ] here
 
 -- lines of bytes behind bytes
 whole_append : (l xs ys : List ℕ) → whole_lines_from l (xs ++ ys) ≡ whole_lines_from l xs ++ whole_lines_from (rest_from l xs) ys
@@ -128,7 +118,7 @@ module _ (kind : WorldKind) (long asks : Bool) (batch bytes : List ℕ) (at : �
   looked_next rest end at'' kind' long'' asks'' batch'' same kind_is at_is long_is =
       subst (λ (l : List ℕ). IsFirstByte (is_byte 10) l (Some end) → batch'' ≡ batch' ++ with_ends (requests kind' (behind long' (take end l ∷ []))) → (asks'' ≡ false → (asks' ≡ false) × (requests kind' (behind long' (take end l ∷ [])) ≡ [])) →
       HasLooked kind long asks batch bytes at'' long'' asks'' batch'') (sym same)
-      (λ first. looked_line end at'' kind' long'' asks'' batch'' kind_is at_is long_is first.0.high (eqb-true _ _ first.1) (none_before (drop at bytes) end first.0.before))
+      (λ first. looked_line end at'' kind' long'' asks'' batch'' kind_is at_is long_is first.0.high (eqb-true _ _ first.1) (nowhere-lacks 10 (drop at bytes) end first.0.before))
 
   -- where no LF stands behind
   module _ (none : has_no_lf (drop at bytes) ≡ true) where
@@ -156,7 +146,7 @@ module _ (kind : WorldKind) (long asks : Bool) (batch bytes : List ℕ) (at : �
 
 pub no_lf_in : (bytes rest : List ℕ) → rest ≡ bytes → IsFirstByte (is_byte 10) rest None → has_no_lf bytes ≡ true
 no_lf_in bytes rest same = subst (λ (l : List ℕ). IsFirstByte (is_byte 10) l None → has_no_lf bytes ≡ true) (sym same)
-    (λ nowhere. subst (λ (l : List ℕ). has_no_lf l ≡ true) (take_all (length bytes) bytes (omega arith)) (none_before bytes (length bytes) nowhere))
+    (λ nowhere. subst (λ (l : List ℕ). has_no_lf l ≡ true) (take_all (length bytes) bytes (omega arith)) (nowhere-lacks 10 bytes (length bytes) nowhere))
 
 -- all that waits is looked at, with the end
 pub looked_to_end : (kind kind' : WorldKind) (long asks : Bool) (batch bytes : List ℕ) (at : ℕ) (long' asks' : Bool) (batch' : List ℕ) (at'' : ℕ) (ends asks'' : Bool) (batch'' : List ℕ) → HasLooked kind long asks batch bytes at long' asks' batch' →

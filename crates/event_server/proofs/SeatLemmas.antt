@@ -2,7 +2,6 @@
 use Rattle.std.proofs.Common.{◌≡◌, inl, inr, ℕ, ◌<◌, set, List, [], ◌++◌, length, get_or, Option, Some, None, refl, sym, ap, subst, ◌∙◌}
 use Rattle.std.proofs.lemmas.List.{append-nil, get_or-set_same, get_or-set_other, length-set}
 use Rattle.std.proofs.lemmas.Bool.{cases_eq, eq-eqb, ne_eqb}
-use Rattle.std.specs.Io.KnownBytes.{Appends}
 use Rattle.std.proofs.KnownBytes.{Consumes-nil, Appends-nil}
 use Rattle.commands.specs.Replies.{ShownReply}
 use Rattle.commands.specs.Requests.{Request}
@@ -13,7 +12,7 @@ use Rattle.player.specs.SharedProofs.{all-append, all-tagged, of-append, of-same
 use Rattle.player.specs.Turns.{Turn}
 use Rattle.event_server.specs.Seats.{Seating, SeatTakes, SeatSends, SeatTurn, SeatSent, TurnsTaken, RepliesSent}
 use Rattle.event_server.specs.Wires.{TakesOf, SendsTo}
-use Rattle.event_server.proofs.WireLemmas.{takes_none}
+use Rattle.event_server.proofs.WireLemmas.{takes_idle}
 
 some_same : {C : Type 0} (c d : C) → Some c ≡ Some d → c ≡ d
 some_same c d e = cc
@@ -21,10 +20,10 @@ some_same c d e = cc
 module _ {C : Type 0} (on : Seating C) where
   pub seat_rests : (x : Option C) → SeatTakes on [] x x
   seat_rests None = refl
-  seat_rests (Some c) = (takes_none (on.left c) (on.left c) (on.wire c) (on.wire c) (Consumes-nil (on.left c)) refl refl refl (λ h. (refl, refl, h)), refl)
+  seat_rests (Some c) = (takes_idle (on.left c) (on.left c) (on.wire c) (Consumes-nil (on.left c)), refl)
 
   -- one connection has its turn where it sits
-  pub seat_took : {T : Type 0} (may : T → Request → ShownReply → T → Type 0) (Due : C → Type 0) (key : ℕ) (w : T) (seats : List (Option C)) (u : T) (was is : C) → key < length seats → get_or seats key None ≡ Some was → Due was → (Due is → ⊥) →
+  abbrev pub seat_took : {T : Type 0} (may : T → Request → ShownReply → T → Type 0) (Due : C → Type 0) (key : ℕ) (w : T) (seats : List (Option C)) (u : T) (was is : C) → key < length seats → get_or seats key None ≡ Some was → Due was → (Due is → ⊥) →
       (turns : List Turn) × Runs may w turns u × TakesOf turns (on.left was) (on.wire was) (on.left is) (on.wire is) → on.gone is ≡ on.gone was → SeatTurn on may Due key w seats u (set seats key (Some is))
   seat_took may Due key w seats u was is below there due done took unsent = record {
     turns = took.0;

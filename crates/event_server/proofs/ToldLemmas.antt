@@ -1,6 +1,6 @@
 -- what is told of seats, one after another, and taken of them
-use Rattle.std.proofs.Common.{◌≡◌, ◌⊎◌, inl, inr, ℕ, zero, suc, ◌+◌, ◌<◌, ◌≤◌, ◌==◌, cond, Bool, true, false, set, List, [], ◌∷◌, ◌++◌, length, take, get_or, Option, Some, None, refl, sym, ap, subst, ◌∙◌, arith}
-use Rattle.std.proofs.lemmas.List.{append-nil, get_or-set_same, get_or-set_other, get_or-take, length-set, length-take-le}
+use Rattle.std.proofs.Common.{◌≡◌, ◌⊎◌, inl, inr, ℕ, zero, suc, ◌+◌, ◌<◌, ◌≤◌, cond, Bool, true, false, set, List, [], ◌∷◌, ◌++◌, length, take, get_or, Option, Some, None, refl, sym, ap, subst, ◌∙◌, arith}
+use Rattle.std.proofs.lemmas.List.{append-nil, get_or-set_same, get_or-set_other, get_or-take, length-take-le}
 use Rattle.std.proofs.lemmas.Bool.{cases_eq, eq-eqb, ne_eqb, cases_Bool}
 use Rattle.commands.specs.declared.kind.WorldKind.{WorldKind}
 use Rattle.commands.specs.Replies.{ShownReply}
@@ -8,7 +8,7 @@ use Rattle.commands.specs.Requests.{Request}
 use Rattle.player.specs.Lines.{with_ends}
 use Rattle.player.specs.Runs.{Runs}
 use Rattle.player.specs.Shared.{TurnLog, turns_of, tagged}
-use Rattle.player.specs.SharedProofs.{of-append, of-same, of-other}
+use Rattle.player.specs.SharedProofs.{all-append, all-tagged, of-append, of-same, of-other}
 use Rattle.player.specs.Turns.{Turn}
 use Rattle.event_server.specs.Gathering.{SeatGathers, Gathered, SeatIdle, SeatAsks, SeatBroken, SeatLooked, Told, SeatTakesLooked, SeatTurnLooked, TakenLooked, SeatToldAndTakes}
 use Rattle.event_server.specs.Seats.{Seating}
@@ -17,7 +17,7 @@ use Rattle.event_server.specs.WireState.{WireState}
 use Rattle.event_server.specs.Wires.{TakesLooked}
 use Rattle.event_server.specs.declared.look.Look.{Look}
 use Rattle.event_server.proofs.LookLemmas.{ends_append, behind_none}
-use Rattle.event_server.proofs.SeatLemmas.{Going}
+use Rattle.event_server.proofs.SeatLemmas.{Going, seat_took}
 
 -- nothing is seen where nothing was looked at, nor where `quit` was answered
 pub seen_none : (kind : WorldKind) (s : WireState) (look : Option Look) → bytes_of look ≡ 0 → ends_of look ≡ false → requests_seen kind s look ≡ []
@@ -36,45 +36,17 @@ seen_on kind s look on = rw on refl
 pub none_told : (batch batch' : List ℕ) (ls : List (List ℕ)) → batch' ≡ batch → ls ≡ [] → batch' ≡ batch ++ with_ends ls
 none_told batch batch' ls same none = rw none (same ∙ sym (append-nil batch))
 
--- lines of one seat
-abbrev pub seat_lines : ℕ → List (List ℕ) → SeatLines
-seat_lines i [] = []
-seat_lines i (l ∷ ls) = (i, l) ∷ seat_lines i ls
-
-all_append : (xs ys : SeatLines) → all_lines (xs ++ ys) ≡ all_lines xs ++ all_lines ys
-all_append [] ys = refl
-all_append (x ∷ xs) ys = ap (λ l. x.1 ∷ l) (all_append xs ys)
-
-all_seat : (i : ℕ) (ls : List (List ℕ)) → all_lines (seat_lines i ls) ≡ ls
-all_seat i [] = refl
-all_seat i (l ∷ ls) = ap (λ x. l ∷ x) (all_seat i ls)
-
-of_append : (j : ℕ) (xs ys : SeatLines) → lines_of j (xs ++ ys) ≡ lines_of j xs ++ lines_of j ys
-of_append j [] ys = refl
-of_append j (x ∷ xs) ys = elim (x.0 == j) as (λ b. cond b (x.1 ∷ lines_of j (xs ++ ys)) (lines_of j (xs ++ ys)) ≡ cond b (x.1 ∷ lines_of j xs) (lines_of j xs) ++ lines_of j ys) [
-  | true ↦ ap (λ l. x.1 ∷ l) (of_append j xs ys)
-  | false ↦ of_append j xs ys
-]
-
-of_same : (i j : ℕ) (ls : List (List ℕ)) → (i == j) ≡ true → lines_of j (seat_lines i ls) ≡ ls
-of_same i j [] h = refl
-of_same i j (l ∷ ls) h = rw h (ap (λ x. l ∷ x) (of_same i j ls h))
-
-of_other : (i j : ℕ) (ls : List (List ℕ)) → (i == j) ≡ false → lines_of j (seat_lines i ls) ≡ []
-of_other i j [] h = refl
-of_other i j (l ∷ ls) h = rw h (of_other i j ls h)
-
 -- the lines that are told of one seat more
-pub told_behind : (batch batch' : List ℕ) (told : SeatLines) (key : ℕ) (more : List (List ℕ)) → batch ≡ with_ends (all_lines told) → batch' ≡ batch ++ with_ends more → batch' ≡ with_ends (all_lines (told ++ seat_lines key more))
+pub told_behind : (batch batch' : List ℕ) (told : SeatLines) (key : ℕ) (more : List (List ℕ)) → batch ≡ with_ends (all_lines told) → batch' ≡ batch ++ with_ends more → batch' ≡ with_ends (all_lines (told ++ tagged key more))
 told_behind batch batch' told key more is is' =
     is' ∙ ap (λ l. l ++ with_ends more) is ∙ sym (ends_append (all_lines told) more)
-    ∙ ap (λ l. with_ends l) (ap (λ l. all_lines told ++ l) (sym (all_seat key more)) ∙ sym (all_append told (seat_lines key more)))
+    ∙ ap (λ l. with_ends l) (ap (λ l. all_lines told ++ l) (sym (all-tagged key more)) ∙ sym (all-append told (tagged key more)))
 
-more_of : (i key : ℕ) (told : SeatLines) (more : List (List ℕ)) → i ≡ key → lines_of i (told ++ seat_lines key more) ≡ lines_of i told ++ more
-more_of i key told more same = of_append i told (seat_lines key more) ∙ ap (λ l. lines_of i told ++ l) (of_same key i more (eq-eqb key i (sym same)))
+more_of : (i key : ℕ) (told : SeatLines) (more : List (List ℕ)) → i ≡ key → lines_of i (told ++ tagged key more) ≡ lines_of i told ++ more
+more_of i key told more same = of-append i told (tagged key more) ∙ ap (λ l. lines_of i told ++ l) (of-same key i more (eq-eqb key i (sym same)))
 
-same_of : (i key : ℕ) (told : SeatLines) (more : List (List ℕ)) → (i ≡ key → ⊥) → lines_of i (told ++ seat_lines key more) ≡ lines_of i told
-same_of i key told more other = of_append i told (seat_lines key more) ∙ ap (λ l. lines_of i told ++ l) (of_other key i more (ne_eqb key i (λ e. other (sym e)))) ∙ append-nil (lines_of i told)
+same_of : (i key : ℕ) (told : SeatLines) (more : List (List ℕ)) → (i ≡ key → ⊥) → lines_of i (told ++ tagged key more) ≡ lines_of i told
+same_of i key told more other = of-append i told (tagged key more) ∙ ap (λ l. lines_of i told ++ l) (of-other key i more (ne_eqb key i (λ e. other (sym e)))) ∙ append-nil (lines_of i told)
 
 some_is : {C : Type 0} (c d : C) → Some c ≡ Some d → c ≡ d
 some_is c d e = cc
@@ -121,27 +93,27 @@ module _ {C : Type 0} (on : Seating C) (look : C → Option Look) (Due : C → T
 
     -- one that is due was looked at
     pub telling_more : (n : ℕ) (told : SeatLines) (seats seats' : List (Option C)) (more : List (List ℕ)) → SeatLooked on look Due kind (get_or keys n 0) seats seats' more → Telling n told seats →
-        Telling (n + 1) (told ++ seat_lines (get_or keys n 0) more) seats'
+        Telling (n + 1) (told ++ tagged (get_or keys n 0) more) seats'
     telling_more n told seats seats' more one so =
         let key = get_or keys n 0 in
         record {
-          each = λ i c first there due. elim (cases_eq i key) as (λ _. EndsWith (lines_of i (told ++ seat_lines key more)) (requests_seen kind (on.wire c) (look c))) [
+          each = λ i c first there due. elim (cases_eq i key) as (λ _. EndsWith (lines_of i (told ++ tagged key more)) (requests_seen kind (on.wire c) (look c))) [
             | inl same ↦ (let is : c ≡ one.is = some_is c one.is (sym there ∙ ap (λ (k : ℕ). get_or seats' k None) same ∙ one.is_there) in
                 (lines_of i told, more_of i key told more same ∙ ap (λ l. lines_of i told ++ l) (one.more_is ∙ ap (λ (x : C). requests_seen kind (on.wire x) (look x)) (sym is))))
             | inr other ↦ (let before = so.each i c (last n i first.0 keys first.1 first.2 other) (sym (one.others i other) ∙ there) due in
                 (before.0, same_of i key told more other ∙ before.1))
           ];
-          known = λ i. elim (cases_eq i key) as (λ _. (lines_of i (told ++ seat_lines key more) ≡ []) ⊎ (IsFirst (n + 1) keys i × SeatAsks look (get_or seats' i None))) [
-            | inl same ↦ elim (cases_Bool (asks_of (look one.is))) as (λ _. (lines_of i (told ++ seat_lines key more) ≡ []) ⊎ (IsFirst (n + 1) keys i × SeatAsks look (get_or seats' i None))) [
+          known = λ i. elim (cases_eq i key) as (λ _. (lines_of i (told ++ tagged key more) ≡ []) ⊎ (IsFirst (n + 1) keys i × SeatAsks look (get_or seats' i None))) [
+            | inl same ↦ elim (cases_Bool (asks_of (look one.is))) as (λ _. (lines_of i (told ++ tagged key more) ≡ []) ⊎ (IsFirst (n + 1) keys i × SeatAsks look (get_or seats' i None))) [
               | inl asks ↦ inr ((n, omega arith, sym same), subst (λ (x : Option C). SeatAsks look x) (sym (ap (λ (k : ℕ). get_or seats' k None) same ∙ one.is_there)) asks)
               | inr not ↦ (let none = one.asks not in
-                  elim (so.known i) as (λ _. (lines_of i (told ++ seat_lines key more) ≡ []) ⊎ (IsFirst (n + 1) keys i × SeatAsks look (get_or seats' i None))) [
+                  elim (so.known i) as (λ _. (lines_of i (told ++ tagged key more) ≡ []) ⊎ (IsFirst (n + 1) keys i × SeatAsks look (get_or seats' i None))) [
                     | inl empty ↦ inl (more_of i key told more same ∙ rw (empty, none.1) refl)
                     | inr k ↦ absurd (let asked : asks_of (look one.was) ≡ true = subst (λ (x : Option C). SeatAsks look x) (ap (λ (j : ℕ). get_or seats j None) same ∙ one.was_there) k.1 in
                         let t : true ≡ false = sym asked ∙ none.0 in absurd cc)
                   ])
             ]
-            | inr other ↦ elim (so.known i) as (λ _. (lines_of i (told ++ seat_lines key more) ≡ []) ⊎ (IsFirst (n + 1) keys i × SeatAsks look (get_or seats' i None))) [
+            | inr other ↦ elim (so.known i) as (λ _. (lines_of i (told ++ tagged key more) ≡ []) ⊎ (IsFirst (n + 1) keys i × SeatAsks look (get_or seats' i None))) [
               | inl none ↦ inl (same_of i key told more other ∙ none)
               | inr k ↦ inr (later n i keys k.0, subst (λ (x : Option C). SeatAsks look x) (sym (one.others i other)) k.1)
             ]
@@ -281,22 +253,8 @@ module _ {C : Type 0} (on : Seating C) (look : C → Option Look) (Due : C → T
   -- one connection has its turn where it sits, over what was looked at
   pub seat_turn_looked : {T : Type 0} (may : T → Request → ShownReply → T → Type 0) (key : ℕ) (w : T) (seats : List (Option C)) (u : T) (was is : C) → key < length seats → get_or seats key None ≡ Some was → Due was → (Due is → ⊥) →
       (turns : List Turn) × Runs may w turns u × TakesLooked turns (look was) (on.left was) (on.wire was) (on.left is) (on.wire is) → on.gone is ≡ on.gone was → SeatTurnLooked on look Due may key w seats u (set seats key (Some is))
-  seat_turn_looked may key w seats u was is below there due done took unsent = record {
-    turn = record {
-      turns = took.0;
-      run = took.1;
-      was = was;
-      is = is;
-      was_there = there;
-      is_there = get_or-set_same seats key (Some is) None below;
-      due = due;
-      done = done;
-      takes = (took.2.takes, unsent);
-      others = λ i other. get_or-set_other seats key i (Some is) None other;
-      many = length-set seats key (Some is);
-    };
-    looked = took.2;
-  }
+  seat_turn_looked may key w seats u was is below there due done took unsent =
+      record { turn = seat_took on may Due key w seats u was is below there due done (took.0, took.1, took.2.takes) unsent; looked = took.2 }
 
 -- what stands there is put there again
 pub set_same : {C : Type 0} (seats : List (Option C)) (key : ℕ) (was : C) → key < length seats → get_or seats key None ≡ Some was → set seats key (Some was) ≡ seats

@@ -7,22 +7,23 @@ use Rattle.std.proofs.KnownBytes.{Consumes-nil}
 use Rattle.commands.specs.Replies.{ShownReply}
 use Rattle.commands.specs.Requests.{Request}
 use Rattle.commands.specs.declared.kind.WorldKind.{WorldKind}
-use Rattle.player.specs.Progress.{Progress, after_byte, after_bytes, after_end}
+use Rattle.player.specs.Progress.{Progress, after_bytes, after_end}
 use Rattle.player.specs.Runs.{Runs}
 use Rattle.player.specs.Says.{Says, Spoke}
 use Rattle.player.specs.Texts.{turn_reply, replies_of}
 use Rattle.player.specs.TalkerState.{TalkerState}
 use Rattle.player.specs.Turns.{Turn}
+use Rattle.player.proofs.ProgressLemmas.{after_bytes-append}
 use Rattle.event_server.specs.WireState.{WireState}
 use Rattle.event_server.specs.Told.{bytes_of}
 use Rattle.event_server.specs.Wires.{Takes, TakesEnd, TakesFirst, TakesLooked, TakesOf, after_taken}
 use Rattle.event_server.specs.declared.look.Look.{Look}
 
-or_false : (b : Bool) → b ≡ (b || false)
+pub or_false : (b : Bool) → b ≡ (b || false)
 or_false true = refl
 or_false false = refl
 
-or_true : (b : Bool) → true ≡ (b || true)
+pub or_true : (b : Bool) → true ≡ (b || true)
 or_true true = refl
 or_true false = refl
 
@@ -31,130 +32,84 @@ consumes_kept None left' k = tt
 consumes_kept (Some xs) None k = k
 consumes_kept (Some xs) (Some ys) k = sym k
 
--- nothing came and nothing is taken
-pub takes_none : (left left' : Option (List ℕ)) (s s' : WireState) → Consumes left left' [] → s'.talker ≡ s.talker → s'.inbox ≡ s.inbox → s'.ended ≡ s.ended →
-    (s'.broken ≡ false → (s'.inbox ≡ s.inbox) × (s'.outbox ≡ s.outbox) × (s.broken ≡ false)) → TakesOf [] left s left' s'
-takes_none left left' s s' none talker inbox ended kept = record {
+-- nothing is taken
+abbrev nothing_taken : (came : List ℕ) (s s' : WireState) → s'.talker ≡ s.talker → s'.ended ≡ s.ended → (s'.broken ≡ false → (s'.inbox ≡ s.inbox ++ came) × (s'.outbox ≡ s.outbox) × (s.broken ≡ false)) → Takes [] came false s s'
+nothing_taken came s s' talker ended kept = record {
+  taken = [];
+  rest = s.inbox ++ came;
+  parts = refl;
+  goes_on = λ before p spoke. rw (append-nil before) (subst (λ (t : TalkerState). Spoke before t p) (sym talker) spoke);
+  kind_is = ap (λ (t : TalkerState). t.kind) talker;
+  ended_is = ended ∙ or_false s.ended;
+  kept = λ h. let k = kept h in (k.0, k.1 ∙ sym (append-nil s.outbox), k.2);
+}
+
+-- and nothing came
+abbrev pub takes_none : (left left' : Option (List ℕ)) (s s' : WireState) → Consumes left left' [] → s'.talker ≡ s.talker → s'.ended ≡ s.ended → (s'.broken ≡ false → (s'.inbox ≡ s.inbox) × (s'.outbox ≡ s.outbox) × (s.broken ≡ false)) → TakesOf [] left s left' s'
+takes_none left left' s s' none talker ended kept = record {
   came = [];
   ends = false;
   few = omega arith;
   gave = none;
   at_end = λ h. absurd cc;
-  takes = record {
-    taken = [];
-    rest = s.inbox;
-    parts = append-nil s.inbox;
-    goes_on = λ before p spoke. rw (append-nil before) (subst (λ (t : TalkerState). Spoke before t p) (sym talker) spoke);
-    kind_is = ap (λ (t : TalkerState). t.kind) talker;
-    ended_is = ended ∙ or_false s.ended;
-    kept = λ h. let k = kept h in (k.0, k.1 ∙ sym (append-nil s.outbox), k.2);
-  };
+  takes = nothing_taken [] s s' talker ended (λ h. let k = kept h in (k.0 ∙ sym (append-nil s.inbox), k.1, k.2));
 }
 
+abbrev pub takes_idle : (left left' : Option (List ℕ)) (s : WireState) → Consumes left left' [] → TakesOf [] left s left' s
+takes_idle left left' s none = takes_none left left' s s none refl refl (λ h. (refl, refl, h))
+
 -- where what came cannot wait it is at fault
-pub takes_refused : (came : List ℕ) (s s' : WireState) → s' ≡ record s { broken = true } → Takes [] came false s s'
-takes_refused came s s' is = record {
-  taken = [];
-  rest = s.inbox ++ came;
-  parts = refl;
-  goes_on = λ before p spoke. rw (append-nil before) (subst (λ (t : TalkerState). Spoke before t p) (sym (ap (λ (q : WireState). q.talker) is)) spoke);
-  kind_is = ap (λ (q : WireState). q.talker.kind) is;
-  ended_is = ap (λ (q : WireState). q.ended) is ∙ or_false s.ended;
-  kept = λ h. (let t : true ≡ false = sym (ap (λ (q : WireState). q.broken) is) ∙ h in absurd cc);
-}
+abbrev pub takes_refused : (came : List ℕ) (s s' : WireState) → s' ≡ record s { broken = true } → Takes [] came false s s'
+takes_refused came s s' is = nothing_taken came s s' (ap (λ (q : WireState). q.talker) is) (ap (λ (q : WireState). q.ended) is) (λ h. let t : true ≡ false = sym (ap (λ (q : WireState). q.broken) is) ∙ h in absurd cc)
 
 -- of the first bytes some
 pub cut_first : (n k : ℕ) (xs : List ℕ) → n ≤ length (take k xs) → take n (take k xs) ≡ take n xs
 cut_first n k xs le = sym (ap (λ l. take n l) (sym (take-append-drop k xs)) ∙ take-append-le n (take k xs) (drop k xs) le)
 
-module _ {T : Type 0} (may : T → Request → ShownReply → T → Type 0) where
-  -- what its talker, once t and now t', took of all that waited then
-  pub takes_said : (w u : T) (s s' : WireState) (t t' : TalkerState) (came all : List ℕ) (n : ℕ) (out out' : List ℕ) → t ≡ s.talker → t' ≡ s'.talker → all ≡ s.inbox ++ came → out ≡ [] →
-      Says may turn_reply w t out u t' out' (λ p. after_bytes t.kind p (take n all)) →
-      t'.kind ≡ t.kind → s'.inbox ≡ drop n all → s'.ended ≡ s.ended → (s'.broken ≡ false → (s'.outbox ≡ s.outbox ++ out') × (s.broken ≡ false)) →
-      (turns : List Turn) × Runs may w turns u × Takes turns came false s s'
-  takes_said w u s s' t t' came all n out out' t_is t'_is all_is none says kind inbox ended kept =
-      let said : Says may turn_reply w s.talker out u s'.talker out' (λ p. after_bytes s.talker.kind p (take n all)) =
-      subst (λ (x : TalkerState). Says may turn_reply w s.talker out u x out' (λ p. after_bytes s.talker.kind p (take n all))) t'_is
-      (subst (λ (x : TalkerState). Says may turn_reply w x out u t' out' (λ p. after_bytes x.kind p (take n all))) t_is says) in (
+module _ {T : Type 0} (may : T → Request → ShownReply → T → Type 0) (w u : T) (s s' : WireState) (t t' : TalkerState) (out out' : List ℕ) (t_is : t ≡ s.talker) (t'_is : t' ≡ s'.talker) (none : out ≡ []) where
+  -- what its talker, once t and now t', took of what waited then
+  abbrev took : (came taken rest : List ℕ) (ends : Bool) → Says may turn_reply w t out u t' out' (after_taken t.kind taken ends) → t'.kind ≡ t.kind → s.inbox ++ came ≡ taken ++ rest → s'.inbox ≡ rest → s'.ended ≡ (s.ended || ends) →
+      (s'.broken ≡ false → (s'.outbox ≡ s.outbox ++ out') × (s.broken ≡ false)) → (turns : List Turn) × Runs may w turns u × Takes turns came ends s s'
+  took came taken rest ends says kind parts inbox ended kept =
+      let said : Says may turn_reply w s.talker out u s'.talker out' (after_taken s.talker.kind taken ends) =
+      subst (λ (x : TalkerState). Says may turn_reply w s.talker out u x out' (after_taken s.talker.kind taken ends)) t'_is
+      (subst (λ (x : TalkerState). Says may turn_reply w x out u t' out' (after_taken x.kind taken ends)) t_is says) in (
         said.0,
         said.1.run,
         record {
-          taken = take n all;
-          rest = drop n all;
-          parts = sym all_is ∙ sym (take-append-drop n all);
+          taken = taken;
+          rest = rest;
+          parts = parts;
           goes_on = λ before p spoke. said.1.goes_on before p spoke tt;
           kind_is = sym (ap (λ (x : TalkerState). x.kind) t'_is) ∙ kind ∙ ap (λ (x : TalkerState). x.kind) t_is;
-          ended_is = ended ∙ or_false s.ended;
-          kept = λ h.
-              let k = kept h in
-              (inbox, k.0 ∙ ap (λ l. s.outbox ++ l) (said.1.text_is ∙ ap (λ l. l ++ replies_of said.0) none), k.1);
+          ended_is = ended;
+          kept = λ h. let k = kept h in (inbox, k.0 ∙ ap (λ l. s.outbox ++ l) (said.1.text_is ∙ ap (λ l. l ++ replies_of said.0) none), k.1);
         },
       )
 
-  -- and of the first of that
-  pub takes_first : (w u : T) (s s' : WireState) (t t' : TalkerState) (count few n : ℕ) (out out' : List ℕ) → t ≡ s.talker → t' ≡ s'.talker → out ≡ [] →
-      Says may turn_reply w t out u t' out' (λ p. after_bytes t.kind p (take n s.inbox)) → n ≤ length (take few s.inbox) → take few s.inbox ≡ take count s.inbox →
-      t'.kind ≡ t.kind → s'.inbox ≡ drop n s.inbox → s'.ended ≡ s.ended → (s'.broken ≡ false → (s'.outbox ≡ s.outbox ++ out') × (s.broken ≡ false)) →
-      (turns : List Turn) × Runs may w turns u × TakesFirst turns count s s'
-  takes_first w u s s' t t' count few n out out' t_is t'_is none says le same kind inbox ended kept =
-      let said : Says may turn_reply w s.talker out u s'.talker out' (λ p. after_bytes s.talker.kind p (take n s.inbox)) =
-      subst (λ (x : TalkerState). Says may turn_reply w s.talker out u x out' (λ p. after_bytes s.talker.kind p (take n s.inbox))) t'_is
-      (subst (λ (x : TalkerState). Says may turn_reply w x out u t' out' (λ p. after_bytes x.kind p (take n s.inbox))) t_is says) in (
-        said.0,
-        said.1.run,
-        record {
-          takes = record {
-            taken = take n s.inbox;
-            rest = drop n s.inbox;
-            parts = append-nil s.inbox ∙ sym (take-append-drop n s.inbox);
-            goes_on = λ before p spoke. said.1.goes_on before p spoke tt;
-            kind_is = sym (ap (λ (x : TalkerState). x.kind) t'_is) ∙ kind ∙ ap (λ (x : TalkerState). x.kind) t_is;
-            ended_is = ended ∙ or_false s.ended;
-            kept = λ h.
-                let k = kept h in
-                (inbox, k.0 ∙ ap (λ l. s.outbox ++ l) (said.1.text_is ∙ ap (λ l. l ++ replies_of said.0) none), k.1);
-          };
-          rest = drop n (take few s.inbox);
-          within = ap (λ l. l ++ drop n (take few s.inbox)) (sym (cut_first n few s.inbox le)) ∙ take-append-drop n (take few s.inbox) ∙ same;
-        },
+  -- of all that waited
+  pub takes_said : (came all : List ℕ) (n : ℕ) → all ≡ s.inbox ++ came → Says may turn_reply w t out u t' out' (λ p. after_bytes t.kind p (take n all)) →
+      t'.kind ≡ t.kind → s'.inbox ≡ drop n all → s'.ended ≡ s.ended → (s'.broken ≡ false → (s'.outbox ≡ s.outbox ++ out') × (s.broken ≡ false)) → (turns : List Turn) × Runs may w turns u × Takes turns came false s s'
+  takes_said came all n all_is says kind inbox ended kept = took came (take n all) (drop n all) false says kind (sym all_is ∙ sym (take-append-drop n all)) inbox (ended ∙ or_false s.ended) kept
+
+  -- of the first of that
+  pub takes_first : (count few n : ℕ) → Says may turn_reply w t out u t' out' (λ p. after_bytes t.kind p (take n s.inbox)) → n ≤ length (take few s.inbox) → take few s.inbox ≡ take count s.inbox →
+      t'.kind ≡ t.kind → s'.inbox ≡ drop n s.inbox → s'.ended ≡ s.ended → (s'.broken ≡ false → (s'.outbox ≡ s.outbox ++ out') × (s.broken ≡ false)) → (turns : List Turn) × Runs may w turns u × TakesFirst turns count s s'
+  takes_first count few n says le same kind inbox ended kept =
+      let all = took [] (take n s.inbox) (drop n s.inbox) false says kind (append-nil s.inbox ∙ sym (take-append-drop n s.inbox)) inbox (ended ∙ or_false s.ended) kept in (
+        all.0,
+        all.1,
+        record { takes = all.2; rest = drop n (take few s.inbox); within = ap (λ l. l ++ drop n (take few s.inbox)) (sym (cut_first n few s.inbox le)) ∙ take-append-drop n (take few s.inbox) ∙ same },
       )
 
   -- and of the end, before which nothing waited
-  pub takes_end : (w u : T) (s s' : WireState) (t t' : TalkerState) (out out' : List ℕ) → t ≡ s.talker → t' ≡ s'.talker → s.inbox ≡ [] → out ≡ [] →
-      Says may turn_reply w t out u t' out' (after_end t.kind) →
-      t'.kind ≡ t.kind → s'.inbox ≡ s.inbox → s'.ended ≡ true → (s'.broken ≡ false → (s'.outbox ≡ s.outbox ++ out') × (s.broken ≡ false)) →
+  pub takes_end : s.inbox ≡ [] → Says may turn_reply w t out u t' out' (after_end t.kind) → t'.kind ≡ t.kind → s'.inbox ≡ s.inbox → s'.ended ≡ true → (s'.broken ≡ false → (s'.outbox ≡ s.outbox ++ out') × (s.broken ≡ false)) →
       (turns : List Turn) × Runs may w turns u × Takes turns [] true s s'
-  takes_end w u s s' t t' out out' t_is t'_is empty none says kind inbox ended kept =
-      let said : Says may turn_reply w s.talker out u s'.talker out' (after_end s.talker.kind) =
-      subst (λ (x : TalkerState). Says may turn_reply w s.talker out u x out' (after_end s.talker.kind)) t'_is
-      (subst (λ (x : TalkerState). Says may turn_reply w x out u t' out' (after_end x.kind)) t_is says) in (
-        said.0,
-        said.1.run,
-        record {
-          taken = [];
-          rest = [];
-          parts = ap (λ l. l ++ []) empty;
-          goes_on = λ before p spoke. said.1.goes_on before p spoke tt;
-          kind_is = sym (ap (λ (x : TalkerState). x.kind) t'_is) ∙ kind ∙ ap (λ (x : TalkerState). x.kind) t_is;
-          ended_is = ended ∙ or_true s.ended;
-          kept = λ h.
-              let k = kept h in
-              (inbox ∙ empty, k.0 ∙ ap (λ l. s.outbox ++ l) (said.1.text_is ∙ ap (λ l. l ++ replies_of said.0) none), k.1);
-        },
-      )
-
--- bytes after bytes
-bytes_after : (kind : WorldKind) (p : Progress) (xs ys : List ℕ) → after_bytes kind (after_bytes kind p xs) ys ≡ after_bytes kind p (xs ++ ys)
-bytes_after kind p [] ys = refl
-bytes_after kind p (x ∷ xs) ys = bytes_after kind (after_byte kind p x) xs ys
+  takes_end empty says kind inbox ended kept = took [] [] [] true says kind (ap (λ l. l ++ []) empty) (inbox ∙ empty) (ended ∙ or_true s.ended) kept
 
 taken_after : (kind : WorldKind) (p : Progress) (xs ys : List ℕ) (ends : Bool) → after_taken kind ys ends (after_taken kind xs false p) ≡ after_taken kind (xs ++ ys) ends p
-taken_after kind p xs ys true = ap (after_end kind) (bytes_after kind p xs ys)
-taken_after kind p xs ys false = bytes_after kind p xs ys
-
-replies_after : (ts us : List Turn) → replies_of (ts ++ us) ≡ replies_of ts ++ replies_of us
-replies_after ts us = flat_map-append turn_reply ts us
+taken_after kind p xs ys true = ap (after_end kind) (sym (after_bytes-append kind p xs ys))
+taken_after kind p xs ys false = sym (after_bytes-append kind p xs ys)
 
 nothing_in : (xs ys zs : List ℕ) → xs ≡ [] → xs ++ [] ≡ ys ++ zs → ys ≡ []
 nothing_in xs [] zs none is = refl
@@ -169,71 +124,18 @@ takes_the_end turns left left' s s' gave end empty t = record {
 
 -- nothing comes
 pub takes_no_end : (left left' : Option (List ℕ)) (s s' : WireState) → Consumes left left' [] → s' ≡ s → TakesEnd [] left s left' s'
-takes_no_end left left' s s' gave is = subst (λ (x : WireState). TakesEnd [] left s left' x) (sym is) (record {
-  takes = record {
-    came = [];
-    ends = false;
-    few = omega arith;
-    gave = gave;
-    at_end = λ h. absurd cc;
-    takes = record {
-      taken = [];
-      rest = s.inbox;
-      parts = append-nil s.inbox;
-      goes_on = λ before p spoke. rw (append-nil before) spoke;
-      kind_is = refl;
-      ended_is = or_false s.ended;
-      kept = λ h. (refl, sym (append-nil s.outbox), h);
-    };
-  };
-  none = refl;
-})
+takes_no_end left left' s s' gave is = subst (λ (x : WireState). TakesEnd [] left s left' x) (sym is) (record { takes = takes_idle left left' s gave; none = refl })
 
 -- what comes is not taken, and it is at fault
 pub takes_fault : (left left' : Option (List ℕ)) (came : List ℕ) (s s' : WireState) → length came ≤ 65536 → Consumes left left' came → s' ≡ record s { broken = true } → TakesEnd [] left s left' s'
 takes_fault left left' came s s' few gave is = record {
-  takes = record {
-    came = came;
-    ends = false;
-    few = few;
-    gave = gave;
-    at_end = λ h. absurd cc;
-    takes = record {
-      taken = [];
-      rest = s.inbox ++ came;
-      parts = refl;
-      goes_on = λ before p spoke. rw (append-nil before) (subst (λ (t : TalkerState). Spoke before t p) (sym (ap (λ (q : WireState). q.talker) is)) spoke);
-      kind_is = ap (λ (q : WireState). q.talker.kind) is;
-      ended_is = ap (λ (q : WireState). q.ended) is ∙ or_false s.ended;
-      kept = λ h. (let t : true ≡ false = sym (ap (λ (q : WireState). q.broken) is) ∙ h in absurd cc);
-    };
-  };
+  takes = record { came = came; ends = false; few = few; gave = gave; at_end = λ h. absurd cc; takes = takes_refused came s s' is };
   none = refl;
 }
 
 -- of what was looked at nothing is taken
 pub looked_nothing : (look : Option Look) (left : Option (List ℕ)) (s : WireState) → TakesLooked [] look left s left s
-looked_nothing look left s = record {
-  takes = record {
-    came = [];
-    ends = false;
-    few = omega arith;
-    gave = Consumes-nil left;
-    at_end = λ h. absurd cc;
-    takes = record {
-      taken = [];
-      rest = s.inbox;
-      parts = append-nil s.inbox;
-      goes_on = λ before p spoke. rw (append-nil before) spoke;
-      kind_is = refl;
-      ended_is = or_false s.ended;
-      kept = λ h. (refl, sym (append-nil s.outbox), h);
-    };
-  };
-  rest = take (bytes_of look) s.inbox;
-  within = refl;
-  at_end = λ h. absurd cc;
-}
+looked_nothing look left s = record { takes = takes_idle left left s (Consumes-nil left); rest = take (bytes_of look) s.inbox; within = refl; at_end = λ h. absurd cc }
 
 -- its bytes are
 pub looked_first : (turns : List Turn) (look : Look) (left : Option (List ℕ)) (s s' : WireState) → TakesFirst turns look.bytes s s' → TakesLooked turns (Some look) left s left s'
@@ -274,7 +176,7 @@ looked_end look left left' s m s' ts us ends first whole empty end =
           ended_is = t.ended_is ∙ ap (λ e. e || end.takes.ends) (a.ended_is ∙ sym (or_false s.ended));
           kept = λ h.
               let l = t.kept h in
-              (l.0, l.1 ∙ ap (λ x. x ++ replies_of us) k.1 ∙ append_assoc s.outbox (replies_of ts) (replies_of us) ∙ ap (λ x. s.outbox ++ x) (sym (replies_after ts us)), k.2);
+              (l.0, l.1 ∙ ap (λ x. x ++ replies_of us) k.1 ∙ append_assoc s.outbox (replies_of ts) (replies_of us) ∙ ap (λ x. s.outbox ++ x) (sym (flat_map-append turn_reply ts us)), k.2);
         };
       };
       rest = first.rest;

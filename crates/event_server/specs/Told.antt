@@ -1,11 +1,12 @@
 -- which lines of a connection are told to a keeper before a turn takes them
-use Rattle.std.specs.Prelude.{◌≡◌, ℕ, ◌==◌, ◌<◌, ◌≤◌, if◌then◌else◌, Bool, true, false, List, [], ◌∷◌, ◌++◌, length, get_or, take, Option, Some, None, Result, Ok, Err}
+use Rattle.std.specs.Prelude.{◌≡◌, ℕ, ◌<◌, ◌≤◌, if◌then◌else◌, Bool, true, false, List, [], ◌∷◌, ◌++◌, length, get_or, take, Option, Some, None, Result, Ok, Err}
 use Rattle.commands.specs.declared.bad.Bad.{Bad}
 use Rattle.commands.specs.declared.command.Command.{Command}
 use Rattle.commands.specs.declared.command.Command.TheVariants as command
 use Rattle.commands.specs.declared.kind.WorldKind.{WorldKind}
 use Rattle.player.specs.Lines.{lines, rest_of, whole_lines, with_ends}
 use Rattle.player.specs.Meaning.{meaning}
+use Rattle.player.specs.Shared.{numbered, unnumbered}
 use Rattle.event_server.specs.WireState.{WireState}
 use Rattle.event_server.specs.declared.look.Look.{Look}
 
@@ -76,12 +77,10 @@ abbrev pub SeatLines : Type 0
 SeatLines = List (ℕ × List ℕ)
 
 abbrev pub lines_of : ℕ → SeatLines → List (List ℕ)
-lines_of i [] = []
-lines_of i (x ∷ xs) = if x.0 == i then x.1 ∷ lines_of i xs else lines_of i xs
+lines_of i told = numbered i told
 
 abbrev pub all_lines : SeatLines → List (List ℕ)
-all_lines [] = []
-all_lines (x ∷ xs) = x.1 ∷ all_lines xs
+all_lines told = unnumbered told
 
 -- a list ends with these
 abbrev pub EndsWith : List (List ℕ) → List (List ℕ) → Type 0

@@ -1,49 +1,42 @@
 -- the first line of some bytes, and what a run makes of it
-use Rattle.std.proofs.Common.{◌≡◌, ℕ, zero, suc, ◌+◌, ◌<◌, ◌==◌, ◌&&◌, true, false, cond, not, List, [], ◌∷◌, ◌++◌, length, take, get_or, Ok, Err, Result, refl, ap, ◌∙◌, arith, append_assoc}
+use Rattle.std.proofs.Common.{◌≡◌, ℕ, ◌+◌, ◌<◌, ◌==◌, true, false, cond, not, List, [], ◌∷◌, ◌++◌, length, take, get_or, Some, Ok, Err, Result, refl, ap, ◌∙◌, arith, append_assoc}
 use Rattle.std.specs.List.{list_all}
 use Rattle.std.proofs.lemmas.List.{append-nil, take_more}
-use Rattle.memchr.specs.Find.{Nowhere, Passes, is_byte}
 use Rattle.commands.specs.declared.bad.Bad.{Bad}
 use Rattle.commands.specs.declared.command.Command.{Command}
 use Rattle.commands.specs.declared.kind.WorldKind.{WorldKind}
 use Rattle.std.proofs.lemmas.Bool.Decides.{nat_tests}
 use Rattle.std.specs.Prelude.{nat_lt}
-use Rattle.std.proofs.lemmas.Bool.{and_parts, not-true}
+use Rattle.std.proofs.lemmas.Bool.{and_parts, eqb-true, not-true, not_from_false}
 use Rattle.commands.specs.declared.bad.Bad.TheVariants.{TooLong, NotPrintable}
 use Rattle.player.specs.Meaning.{meaning, is_printable, command_in, words}
 use Rattle.player.specs.Progress.{Progress, with_line, after_meaning, after_line, after_bytes}
 use Rattle.player.proofs.ProgressLemmas.{after_bytes-append}
 use Rattle.player.specs.Lines.{has_no_lf}
-
-pub nowhere-none : (bytes : List ℕ) (n : ℕ) → Nowhere (Passes (is_byte 10) bytes) 0 n → has_no_lf (take n bytes) ≡ true
-nowhere-none bytes zero h = refl
-nowhere-none [] (suc n) h = refl
-nowhere-none (b ∷ bs) (suc n) h =
-    let here : (b == 10) ≡ true → ⊥ = h 0 (omega arith) (omega arith) in
-    let later : Nowhere (Passes (is_byte 10) bs) 0 n = λ k low high. h (suc k) (omega arith) (omega arith) in
-    elim (b == 10) as (λ t. (t ≡ true → ⊥) → (not t && has_no_lf (take n bs)) ≡ true) [
-      | true ↦ λ no. absurd (no refl)
-      | false ↦ λ no. nowhere-none bs n later
-    ] here
+use Rattle.player.proofs.PieceLemmas.{nowhere-lacks, passes_too}
+use Rattle.memchr.specs.Find.{IsFirstByte, is_byte}
 
 printable-no_lf : (b : ℕ) → is_printable b ≡ true → (b == 10) ≡ false
 printable-no_lf b h = grind (arith, nat_tests)
-
-printable-none : (line : List ℕ) → list_all is_printable line ≡ true → has_no_lf line ≡ true
-printable-none [] h = refl
-printable-none (b ∷ bs) h =
-    let parts = and_parts (is_printable b) (list_all is_printable bs) h in
-    rw (printable-no_lf b parts.0) (printable-none bs parts.1)
 
 pub means-none : (kind : WorldKind) (line : List ℕ) (c : Command) → meaning kind line ≡ Ok c → has_no_lf line ≡ true
 means-none kind line c =
     elim (nat_lt 100 (length line)) as (λ t. cond t (Err TooLong) (cond (not (list_all is_printable line)) (Err NotPrintable) (command_in kind (words line))) ≡ Ok c → has_no_lf line ≡ true) [
       | true ↦ λ is. absurd cc
       | false ↦ elim (list_all is_printable line) as (λ t. list_all is_printable line ≡ t → cond (not t) (Err NotPrintable) (command_in kind (words line)) ≡ Ok c → has_no_lf line ≡ true) [
-        | true ↦ λ all is. printable-none line all
+        | true ↦ λ all is. passes_too is_printable _ (λ b h. not_from_false (b == 10) (printable-no_lf b h)) line all
         | false ↦ λ all is. absurd cc
       ] refl
     ]
+
+-- the first LF stands there
+pub record EndsLine (bytes : List ℕ) (end : ℕ) : Type 0 where
+  pub inside : end < length bytes
+  pub lf : get_or bytes end 0 ≡ 10
+  pub none : has_no_lf (take end bytes) ≡ true
+
+pub found-line : (bytes : List ℕ) (end : ℕ) → IsFirstByte (is_byte 10) bytes (Some end) → EndsLine bytes end
+found-line bytes end first = record { inside = first.0.high; lf = eqb-true _ _ first.1; none = nowhere-lacks 10 bytes end first.0.before }
 
 module _ (kind : WorldKind) where
   -- bytes with no LF make the line longer
@@ -55,14 +48,10 @@ module _ (kind : WorldKind) where
       rw (on, other) (after_bytes-part (record { line = p.line ++ b ∷ []; asked = p.asked; over = false }) bs refl parts.1 ∙ simp append_assoc)
 
   -- and an LF after them ends it
-  pub after_bytes-whole : (p : Progress) (bytes : List ℕ) (end : ℕ) → p.over ≡ false → end < length bytes → get_or bytes end 0 ≡ 10 → has_no_lf (take end bytes) ≡ true →
-      after_bytes kind p (take (end + 1) bytes) ≡ after_line kind (with_line p (p.line ++ take end bytes))
-  after_bytes-whole p bytes end on lt lf none =
-      ap (after_bytes kind p) (take_more bytes end 0 lt) ∙ after_bytes-append kind p (take end bytes) (get_or bytes end 0 ∷ [])
-      ∙ rw (after_bytes-part p (take end bytes) on none, lf, on) refl
+  pub after_bytes-whole : (p : Progress) (bytes : List ℕ) (end : ℕ) → p.over ≡ false → EndsLine bytes end → after_bytes kind p (take (end + 1) bytes) ≡ after_line kind (with_line p (p.line ++ take end bytes))
+  after_bytes-whole p bytes end on line =
+      ap (after_bytes kind p) (take_more bytes end 0 line.inside) ∙ after_bytes-append kind p (take end bytes) (get_or bytes end 0 ∷ []) ∙ rw (after_bytes-part p (take end bytes) on line.none, line.lf, on) refl
 
   -- so where the line had not begun, its meaning is that of these bytes
-  pub after_bytes-first : (p : Progress) (bytes : List ℕ) (end : ℕ) (m : Result Command Bad) → p.over ≡ false → p.line ≡ [] → end < length bytes → get_or bytes end 0 ≡ 10 → has_no_lf (take end bytes) ≡ true → meaning kind (take end bytes) ≡ m →
-      after_bytes kind p (take (end + 1) bytes) ≡ after_meaning p m
-  after_bytes-first p bytes end m on empty lt lf none is =
-      after_bytes-whole p bytes end on lt lf none ∙ rw (empty, is) refl
+  pub after_bytes-first : (p : Progress) (bytes : List ℕ) (end : ℕ) (m : Result Command Bad) → p.over ≡ false → p.line ≡ [] → EndsLine bytes end → meaning kind (take end bytes) ≡ m → after_bytes kind p (take (end + 1) bytes) ≡ after_meaning p m
+  after_bytes-first p bytes end m on empty line is = after_bytes-whole p bytes end on line ∙ rw (empty, is) refl

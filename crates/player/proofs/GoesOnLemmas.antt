@@ -1,5 +1,5 @@
 -- turns that were taken go on to all that was asked
-use Rattle.std.proofs.Common.{◌≡◌, ℕ, Bool, true, List, [], ◌∷◌, ◌++◌, map, Result, Ok, Err, refl, sym, ap, subst, ◌∙◌}
+use Rattle.std.proofs.Common.{◌≡◌, ℕ, Bool, true, false, cond, List, [], ◌∷◌, ◌++◌, map, Result, Ok, Err, refl, sym, ap, subst, ◌∙◌}
 use Rattle.std.proofs.lemmas.List.{map-append}
 use Rattle.commands.specs.declared.bad.Bad.{Bad}
 use Rattle.commands.specs.declared.command.Command.{Command}
@@ -9,53 +9,45 @@ use Rattle.commands.specs.declared.exchange.Exchange.{Exchange}
 use Rattle.commands.specs.Replies.{ShownReply}
 use Rattle.player.specs.Turns.{Turn, asked}
 use Rattle.player.specs.Turns.Turn.{Answered, Told, Ended, Misread}
-use Rattle.player.specs.Asked.{until_quit, asked_by}
-use Rattle.player.specs.Knows.{Knows}
+use Rattle.player.specs.Asked.{asked_by}
+use Rattle.player.specs.Knows.{Knows, KnowsMeant}
 use Rattle.player.specs.Meaning.{meaning}
+use Rattle.player.specs.Progress.{ends}
+use Rattle.player.proofs.ProgressLemmas.{until_first}
 use Rattle.commands.specs.Requests.{Request}
 use Rattle.commands.specs.Requests.Request.{Take, OwnerOf}
 use Rattle.player.specs.Runs.{Runs, CanRun}
 use Rattle.player.specs.RunProofs.{runs-append}
 
--- each event that is asked for is known
+-- each request that is asked for is known
 abbrev AllKnown : (Request → Bool) → List (Result Command Bad) → Type 0
 AllKnown knows [] = Unit {0}
-AllKnown knows (Err bad ∷ ms) = AllKnown knows ms
-AllKnown knows (Ok (command.Event e) ∷ ms) = (knows (Take e) ≡ true) × AllKnown knows ms
-AllKnown knows (Ok (command.Owner n) ∷ ms) = (knows (OwnerOf n) ≡ true) × AllKnown knows ms
-AllKnown knows (Ok command.Quit ∷ ms) = AllKnown knows ms
+AllKnown knows (m ∷ ms) = KnowsMeant knows m × AllKnown knows ms
 
 known_lines : (knows : Request → Bool) (kind : WorldKind) → Knows knows kind → (ls : List (List ℕ)) → AllKnown knows (asked_by kind ls)
 known_lines knows kind known [] = tt
 known_lines knows kind known (line ∷ ls) =
-    elim (meaning kind line) as (λ m. meaning kind line ≡ m → AllKnown knows (until_quit (m ∷ map (meaning kind) ls))) [
-      | Err bad ↦ λ is. known_lines knows kind known ls
-      | Ok (command.Event e) ↦ λ is. (known line (Take e) is, known_lines knows kind known ls)
-      | Ok (command.Owner n) ↦ λ is. (known line (OwnerOf n) is, known_lines knows kind known ls)
-      | Ok command.Quit ↦ λ is. tt
-    ] refl
+    let m = meaning kind line in
+    rw (until_first m (map (meaning kind) ls)) (elim (ends m) as (λ e. AllKnown knows (m ∷ cond e [] (asked_by kind ls))) [ true ↦ (known line, tt) | false ↦ (known line, known_lines knows kind known ls) ])
 
 known_rest : (knows : Request → Bool) (xs ys : List (Result Command Bad)) → AllKnown knows (xs ++ ys) → AllKnown knows ys
 known_rest knows [] ys known = known
-known_rest knows (Err bad ∷ xs) ys known = known_rest knows xs ys known
-known_rest knows (Ok (command.Event e) ∷ xs) ys known = known_rest knows xs ys known.1
-known_rest knows (Ok (command.Owner n) ∷ xs) ys known = known_rest knows xs ys known.1
-known_rest knows (Ok command.Quit ∷ xs) ys known = known_rest knows xs ys known
+known_rest knows (m ∷ xs) ys known = known_rest knows xs ys known.1
 
 module _ {T : Type 0} (may : T → Request → ShownReply → T → Type 0) (kind : WorldKind) (knows : Request → Bool) (known : Knows knows kind) (answers : (t : T) (q : Request) → knows q ≡ true → (a : ShownReply) × (u : T) × may t q a u) where
   rest : (w : T) (ms : List (Result Command Bad)) → AllKnown knows ms → (us : List Turn) × (u : T) × (map asked us ≡ ms) × Runs may w us u
   rest w [] all = ([], w, refl, refl)
-  rest w (Err bad ∷ ms) all = let on = rest w ms all in (Misread bad ∷ on.0, on.1, ap (λ (l : List (Result Command Bad)). Err bad ∷ l) on.2, on.3)
+  rest w (Err bad ∷ ms) all = let on = rest w ms all.1 in (Misread bad ∷ on.0, on.1, ap (λ (l : List (Result Command Bad)). Err bad ∷ l) on.2, on.3)
   rest w (Ok (command.Event e) ∷ ms) all =
-      let one = answers w (Take e) all.0 in
+      let one = answers w (Take e) (all.0 (Take e) refl) in
       let on = rest one.1 ms all.1 in
       let x : Exchange = record { event = e; reply = one.0 } in
       (Answered x ∷ on.0, on.1, ap (λ (l : List (Result Command Bad)). Ok (command.Event e) ∷ l) on.2, (one.1, one.2, on.3))
   rest w (Ok (command.Owner n) ∷ ms) all =
-      let one = answers w (OwnerOf n) all.0 in
+      let one = answers w (OwnerOf n) (all.0 (OwnerOf n) refl) in
       let on = rest one.1 ms all.1 in
       (Told n one.0 ∷ on.0, on.1, ap (λ (l : List (Result Command Bad)). Ok (command.Owner n) ∷ l) on.2, (one.1, one.2, on.3))
-  rest w (Ok command.Quit ∷ ms) all = let on = rest w ms all in (Ended ∷ on.0, on.1, ap (λ (l : List (Result Command Bad)). Ok command.Quit ∷ l) on.2, on.3)
+  rest w (Ok command.Quit ∷ ms) all = let on = rest w ms all.1 in (Ended ∷ on.0, on.1, ap (λ (l : List (Result Command Bad)). Ok command.Quit ∷ l) on.2, on.3)
 
   pub goes_on : (start w : T) (ls : List (List ℕ)) (ts : List Turn) (others : List (Result Command Bad)) → asked_by kind ls ≡ map asked ts ++ others → Runs may start ts w →
       (us : List Turn) × (map asked (ts ++ us) ≡ asked_by kind ls) × CanRun may start (ts ++ us)

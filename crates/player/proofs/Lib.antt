@@ -1,10 +1,10 @@
 mod HeldLineLemmas
 mod NumberLemmas
 mod WordLemmas
-mod FirstBytes
+pub mod PieceLemmas
 mod WrittenLemmas
 mod UnderWayLemmas
-mod ProgressLemmas
+pub mod ProgressLemmas
 mod SaysLemmas
 mod StandsLemmas
 mod LineLemmas

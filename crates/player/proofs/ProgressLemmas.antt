@@ -8,8 +8,24 @@ use Rattle.commands.specs.declared.kind.WorldKind.{WorldKind}
 use Rattle.player.specs.Asked.{until_quit, asked_by, asks_quit}
 use Rattle.player.specs.Lines.{lines, whole_lines, whole_lines_from, rest_from, unless_empty}
 use Rattle.player.specs.Meaning.{meaning}
-use Rattle.player.specs.Progress.{Progress, at_start, ends, after_line, after_byte, after_bytes, after_rest, after_end}
+use Rattle.player.specs.Progress.{Progress, at_start, ends, after_meaning, after_line, after_byte, after_bytes, after_rest, after_end}
 use Rattle.player.proofs.WrittenLemmas.{take_pieces}
+
+-- the first of what lines ask for, and the rest unless it is `quit`
+pub until_first : (m : Result Command Bad) (ms : List (Result Command Bad)) → until_quit (m ∷ ms) ≡ m ∷ cond (ends m) [] (until_quit ms)
+until_first (Err bad) ms = refl
+until_first (Ok (command.Event e)) ms = refl
+until_first (Ok (command.Owner n)) ms = refl
+until_first (Ok command.Quit) ms = refl
+
+asks_first : (m : Result Command Bad) (ms : List (Result Command Bad)) → asks_quit (m ∷ ms) ≡ cond (ends m) true (asks_quit ms)
+asks_first (Err bad) ms = refl
+asks_first (Ok (command.Event e)) ms = refl
+asks_first (Ok (command.Owner n)) ms = refl
+asks_first (Ok command.Quit) ms = refl
+
+until_one : (m : Result Command Bad) → until_quit (m ∷ []) ≡ m ∷ []
+until_one m = until_first m [] ∙ ap (λ l. m ∷ l) (elim (ends m) as (λ t. cond {A = List (Result Command Bad)} t [] [] ≡ []) [ true ↦ refl | false ↦ refl ])
 
 module _ (kind : WorldKind) where
   -- bytes after bytes
@@ -29,68 +45,50 @@ module _ (kind : WorldKind) where
   abbrev from : List ℕ → List (Result Command Bad) → Progress
   from line so = record { line = line; asked = so; over = false }
 
-  abbrev after_m : List (Result Command Bad) → Result Command Bad → Progress
-  after_m so m = record { line = []; asked = so ++ m ∷ []; over = ends m }
+  -- by these lines and this rest, where so much was asked for before
+  record Came (so : List (Result Command Bad)) (ls : List (List ℕ)) (rest : List ℕ) (q : Progress) : Type 0 where
+    asked_is : q.asked ≡ so ++ asked_by kind ls
+    over_is : q.over ≡ asks_quit (asked_by kind ls)
+    at_end : (after_end kind q).asked ≡ so ++ asked_by kind (ls ++ unless_empty rest)
 
-  asked_after : (line : List ℕ) (so : List (Result Command Bad)) (bs : List ℕ) → (after_bytes kind (from line so) bs).asked ≡ so ++ asked_by kind (whole_lines_from line bs)
-  asked_after line so [] = sym (append-nil so)
-  asked_after line so (b ∷ bs) =
-      elim (b == 10) as (λ w. (after_bytes kind (cond w (after_m so (meaning kind line)) (from (line ++ b ∷ []) so)) bs).asked
-      ≡ so ++ asked_by kind (cond w (line ∷ whole_lines_from [] bs) (whole_lines_from (line ++ b ∷ []) bs))) [
-        | true ↦ elim (meaning kind line) as (λ m. (after_bytes kind (after_m so m) bs).asked ≡ so ++ until_quit (m ∷ map (meaning kind) (whole_lines_from [] bs))) [
-          | Err bad ↦ asked_after [] (so ++ Err bad ∷ []) bs ∙ append_assoc so (Err bad ∷ []) (asked_by kind (whole_lines_from [] bs))
-          | Ok (command.Event e) ↦ asked_after [] (so ++ Ok (command.Event e) ∷ []) bs ∙ append_assoc so (Ok (command.Event e) ∷ []) (asked_by kind (whole_lines_from [] bs))
-          | Ok (command.Owner n) ↦ asked_after [] (so ++ Ok (command.Owner n) ∷ []) bs ∙ append_assoc so (Ok (command.Owner n) ∷ []) (asked_by kind (whole_lines_from [] bs))
-          | Ok command.Quit ↦ ap (λ (q : Progress). q.asked) (after_bytes-over (record { line = []; asked = so ++ Ok command.Quit ∷ []; over = true }) bs refl)
-        ]
-        | false ↦ asked_after (line ++ b ∷ []) so bs
+  came : (line : List ℕ) (so : List (Result Command Bad)) (bs : List ℕ) → Came so (whole_lines_from line bs) (rest_from line bs) (after_bytes kind (from line so) bs)
+  came [] so [] = record { asked_is = sym (append-nil so); over_is = refl; at_end = sym (append-nil so) }
+  came (l ∷ line) so [] = record { asked_is = sym (append-nil so); over_is = refl; at_end = ap (λ ms. so ++ ms) (sym (until_one (meaning kind (l ∷ line)))) }
+  came line so (b ∷ bs) =
+      let m = meaning kind line in
+      let ls = whole_lines_from [] bs in
+      let rest = rest_from [] bs in
+      elim (b == 10) as (λ w. Came so (cond w (line ∷ ls) (whole_lines_from (line ++ b ∷ []) bs)) (cond w rest (rest_from (line ++ b ∷ []) bs)) (after_bytes kind (cond w (after_meaning (from line so) m) (from (line ++ b ∷ []) so)) bs)) [
+        | true ↦ elim (ends m) as (λ e. ends m ≡ e → Came so (line ∷ ls) rest (after_bytes kind (record { line = []; asked = so ++ m ∷ []; over = e }) bs)) [
+          | true ↦ λ e.
+              let all : (ms : List (List ℕ)) → asked_by kind (line ∷ ms) ≡ m ∷ [] = λ ms. until_first m (map (meaning kind) ms) ∙ ap (λ t. m ∷ cond t [] (asked_by kind ms)) e in
+              rw (after_bytes-over (record { line = []; asked = so ++ m ∷ []; over = true }) bs refl) (record {
+                asked_is = ap (λ l. so ++ l) (sym (all ls));
+                over_is = sym (ap asks_quit (all ls) ∙ asks_first m [] ∙ ap (λ t. cond t true false) e);
+                at_end = ap (λ l. so ++ l) (sym (all (ls ++ unless_empty rest)));
+              })
+          | false ↦ λ e.
+              let on = came [] (so ++ m ∷ []) bs in
+              let more : (ms : List (List ℕ)) → asked_by kind (line ∷ ms) ≡ m ∷ asked_by kind ms = λ ms. until_first m (map (meaning kind) ms) ∙ ap (λ t. m ∷ cond t [] (asked_by kind ms)) e in
+              let joined : (ms : List (List ℕ)) → (so ++ m ∷ []) ++ asked_by kind ms ≡ so ++ asked_by kind (line ∷ ms) = λ ms. append_assoc so (m ∷ []) (asked_by kind ms) ∙ ap (λ l. so ++ l) (sym (more ms)) in
+              record {
+                asked_is = on.asked_is ∙ joined ls;
+                over_is = on.over_is ∙ sym (ap asks_quit (more ls) ∙ asks_first m (asked_by kind ls) ∙ ap (λ t. cond t true (asks_quit (asked_by kind ls))) e);
+                at_end = on.at_end ∙ joined (ls ++ unless_empty rest);
+              }
+        ] refl
+        | false ↦ came (line ++ b ∷ []) so bs
       ]
 
   pub asked-whole : (bytes : List ℕ) → (after_bytes kind at_start bytes).asked ≡ asked_by kind (whole_lines bytes)
-  asked-whole bytes = asked_after [] [] bytes
-
-  asked_at_end : (line : List ℕ) (so : List (Result Command Bad)) (bs : List ℕ) →
-      (after_end kind (after_bytes kind (from line so) bs)).asked ≡ so ++ asked_by kind (whole_lines_from line bs ++ unless_empty (rest_from line bs))
-  asked_at_end [] so [] = sym (append-nil so)
-  asked_at_end (l ∷ line) so [] =
-      elim (meaning kind (l ∷ line)) as (λ m. so ++ m ∷ [] ≡ so ++ until_quit (m ∷ [])) [
-        | Err bad ↦ refl
-        | Ok (command.Event e) ↦ refl
-        | Ok (command.Owner n) ↦ refl
-        | Ok command.Quit ↦ refl
-      ]
-  asked_at_end line so (b ∷ bs) =
-      elim (b == 10) as (λ w. (after_end kind (after_bytes kind (cond w (after_m so (meaning kind line)) (from (line ++ b ∷ []) so)) bs)).asked
-      ≡ so ++ asked_by kind (cond w (line ∷ whole_lines_from [] bs) (whole_lines_from (line ++ b ∷ []) bs) ++ unless_empty (cond w (rest_from [] bs) (rest_from (line ++ b ∷ []) bs)))) [
-        | true ↦ elim (meaning kind line) as (λ m. (after_end kind (after_bytes kind (after_m so m) bs)).asked ≡ so ++ until_quit (m ∷ map (meaning kind) (whole_lines_from [] bs ++ unless_empty (rest_from [] bs)))) [
-          | Err bad ↦ asked_at_end [] (so ++ Err bad ∷ []) bs ∙ append_assoc so (Err bad ∷ []) (asked_by kind (whole_lines_from [] bs ++ unless_empty (rest_from [] bs)))
-          | Ok (command.Event e) ↦ asked_at_end [] (so ++ Ok (command.Event e) ∷ []) bs ∙ append_assoc so (Ok (command.Event e) ∷ []) (asked_by kind (whole_lines_from [] bs ++ unless_empty (rest_from [] bs)))
-          | Ok (command.Owner n) ↦ asked_at_end [] (so ++ Ok (command.Owner n) ∷ []) bs ∙ append_assoc so (Ok (command.Owner n) ∷ []) (asked_by kind (whole_lines_from [] bs ++ unless_empty (rest_from [] bs)))
-          | Ok command.Quit ↦ ap (λ q. (after_end kind q).asked) (after_bytes-over (record { line = []; asked = so ++ Ok command.Quit ∷ []; over = true }) bs refl)
-        ]
-        | false ↦ asked_at_end (line ++ b ∷ []) so bs
-      ]
+  asked-whole bytes = (came [] [] bytes).asked_is
 
   pub asked-all : (bytes : List ℕ) → (after_end kind (after_bytes kind at_start bytes)).asked ≡ asked_by kind (lines bytes)
-  asked-all bytes = asked_at_end [] [] bytes
-
-  over_after : (line : List ℕ) (so : List (Result Command Bad)) (bs : List ℕ) → (after_bytes kind (from line so) bs).over ≡ asks_quit (asked_by kind (whole_lines_from line bs))
-  over_after line so [] = refl
-  over_after line so (b ∷ bs) =
-      elim (b == 10) as (λ w. (after_bytes kind (cond w (after_m so (meaning kind line)) (from (line ++ b ∷ []) so)) bs).over
-      ≡ asks_quit (asked_by kind (cond w (line ∷ whole_lines_from [] bs) (whole_lines_from (line ++ b ∷ []) bs)))) [
-        | true ↦ elim (meaning kind line) as (λ m. (after_bytes kind (after_m so m) bs).over ≡ asks_quit (until_quit (m ∷ map (meaning kind) (whole_lines_from [] bs)))) [
-          | Err bad ↦ over_after [] (so ++ Err bad ∷ []) bs
-          | Ok (command.Event e) ↦ over_after [] (so ++ Ok (command.Event e) ∷ []) bs
-          | Ok (command.Owner n) ↦ over_after [] (so ++ Ok (command.Owner n) ∷ []) bs
-          | Ok command.Quit ↦ ap (λ (q : Progress). q.over) (after_bytes-over (record { line = []; asked = so ++ Ok command.Quit ∷ []; over = true }) bs refl)
-        ]
-        | false ↦ over_after (line ++ b ∷ []) so bs
-      ]
+  asked-all bytes = (came [] [] bytes).at_end
 
   -- the run is over where `quit` was asked for
   pub over-whole : (bytes : List ℕ) → (after_bytes kind at_start bytes).over ≡ asks_quit (asked_by kind (whole_lines bytes))
-  over-whole bytes = over_after [] [] bytes
+  over-whole bytes = (came [] [] bytes).over_is
 
   -- what was asked is not taken back
   abbrev pub Grows : Progress → Progress → Type 0
@@ -125,17 +123,17 @@ module _ (kind : WorldKind) where
       let on = grows_bytes q (drop i bs) in
       (on.0, ap (λ l. (after_bytes kind p l).asked) (sym (take-append-drop i bs)) ∙ ap (λ (r : Progress). r.asked) (after_bytes-append p (take i bs) (drop i bs)) ∙ on.1)
 
+  -- what an input of two parts asks for
+  asked_in : (bytes xs ys : List ℕ) → bytes ≡ xs ++ ys → asked_by kind (lines bytes) ≡ (after_end kind (after_bytes kind (after_bytes kind at_start xs) ys)).asked
+  asked_in bytes xs ys e = sym (asked-all bytes) ∙ ap (λ q. (after_end kind q).asked) (ap (after_bytes kind at_start) e ∙ after_bytes-append at_start xs ys)
+
   -- what bytes ask for is the first of what an input that begins with them asks for
   pub asked_begins : (bytes xs ys : List ℕ) → bytes ≡ xs ++ ys → (more : List (Result Command Bad)) × (asked_by kind (lines bytes) ≡ (after_bytes kind at_start xs).asked ++ more)
   asked_begins bytes xs ys e =
       let p = after_bytes kind at_start xs in
       let on = grows_on p (after_bytes kind p ys) (after_end kind (after_bytes kind p ys)) (grows_bytes p ys) (grows_end (after_bytes kind p ys)) in
-      let all : asked_by kind (lines bytes) ≡ (after_end kind (after_bytes kind p ys)).asked = sym (asked-all bytes) ∙ ap (λ q. (after_end kind q).asked) (ap (after_bytes kind at_start) e ∙ after_bytes-append at_start xs ys) in
-      (on.0, all ∙ on.1)
+      (on.0, asked_in bytes xs ys e ∙ on.1)
 
   -- after `quit` it is what the whole input asks for
-  pub asked-over : (bytes xs ys : List ℕ) → bytes ≡ xs ++ ys → (after_bytes kind at_start xs).over ≡ true → (after_bytes kind at_start xs).asked ≡ asked_by kind (lines bytes)
-  asked-over bytes xs ys e over =
-      let p = after_bytes kind at_start xs in
-      let same : after_end kind (after_bytes kind p ys) ≡ p = ap (after_end kind) (after_bytes-over p ys over) ∙ rw over refl in
-      sym (sym (asked-all bytes) ∙ ap (λ q. (after_end kind q).asked) (ap (after_bytes kind at_start) e ∙ after_bytes-append at_start xs ys) ∙ ap (λ (q : Progress). q.asked) same)
+  pub asked-over : (bytes xs ys : List ℕ) → bytes ≡ xs ++ ys → (after_bytes kind at_start xs).over ≡ true → asked_by kind (lines bytes) ≡ (after_end kind (after_bytes kind at_start xs)).asked
+  asked-over bytes xs ys e over = asked_in bytes xs ys e ∙ ap (λ q. (after_end kind q).asked) (after_bytes-over (after_bytes kind at_start xs) ys over)

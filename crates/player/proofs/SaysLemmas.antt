@@ -1,5 +1,5 @@
 -- what is said to one side of a talk, one turn after another
-use Rattle.std.proofs.Common.{◌≡◌, ℕ, ◌+◌, true, false, cond, List, [], ◌∷◌, ◌++◌, length, map, flat_map, Ok, Err, Result, refl, sym, ap, subst, ◌∙◌, append_assoc, arith, length-append}
+use Rattle.std.proofs.Common.{◌≡◌, ℕ, ◌+◌, true, false, cond, List, [], ◌∷◌, ◌++◌, flat_map, Ok, Err, Result, refl, sym, ap, subst, ◌∙◌, append_assoc, arith, length-append}
 use Rattle.std.proofs.lemmas.List.{append-nil, map-append}
 use Rattle.std.proofs.lemmas.Grind.{flat_map-append}
 use Rattle.commands.specs.Replies.{ShownReply, is_refusal}
@@ -15,7 +15,7 @@ use Rattle.player.specs.Progress.{Progress, ends, after_meaning, after_line, aft
 use Rattle.commands.specs.Requests.{Request}
 use Rattle.player.specs.Runs.{Runs}
 use Rattle.player.specs.RunProofs.{runs-append}
-use Rattle.player.specs.Says.{Spoke, IsTurnOf, IsHeld, SaysBy, SaysFrom, Says, Anywhere, Afresh}
+use Rattle.player.specs.Says.{Spoke, IsTurnOf, IsHeld, SaysFrom, Says, Afresh}
 use Rattle.player.specs.Summary.{total, one_if_accepted, one_if_refused, one_if_bad}
 
 total-push : (one : Result ShownReply Bad → ℕ) (given : List (Result ShownReply Bad)) (a : Result ShownReply Bad) → total one (given ++ a ∷ []) ≡ total one given + one a
@@ -48,25 +48,12 @@ spoke_with_line turns s s' p new t e = record {
 }
 
 module _ {T : Type 0} (may : T → Request → ShownReply → T → Type 0) where
-  -- one turn is a run
-  turn_run : (w u : T) (s s' : TalkerState) (turn : Turn) → IsTurnOf may w s turn u s' → Runs may w (turn ∷ []) u
-  turn_run w u s s' (Answered x) t = (u, t.0, refl)
-  turn_run w u s s' (Told n r) t = (u, t.0, refl)
-  turn_run w u s s' Ended t = sym t.0
-  turn_run w u s s' (Misread bad) t = sym t.0
-
-  over_more : (w u : T) (s s' : TalkerState) (turn : Turn) → IsTurnOf may w s turn u s' → s.over ≡ false → s'.over ≡ ends (asked turn)
-  over_more w u s s' (Answered x) t o = ap (λ (q : TalkerState). q.over) t.1 ∙ o
-  over_more w u s s' (Told n r) t o = ap (λ (q : TalkerState). q.over) t.1 ∙ o
-  over_more w u s s' Ended t o = ap (λ (q : TalkerState). q.over) t.1
-  over_more w u s s' (Misread bad) t o = ap (λ (q : TalkerState). q.over) t.1 ∙ o
-
-  -- what a turn leaves
-  left_by : (w u : T) (s s' : TalkerState) (turn : Turn) → IsTurnOf may w s turn u s' → (s'.summary ≡ s.summary) × (s'.line ≡ s.line)
-  left_by w u s s' (Answered x) t = (ap (λ (q : TalkerState). q.summary) t.1, ap (λ (q : TalkerState). q.line) t.1)
-  left_by w u s s' (Told n r) t = (ap (λ (q : TalkerState). q.summary) t.1, ap (λ (q : TalkerState). q.line) t.1)
-  left_by w u s s' Ended t = (ap (λ (q : TalkerState). q.summary) t.1, ap (λ (q : TalkerState). q.line) t.1)
-  left_by w u s s' (Misread bad) t = (ap (λ (q : TalkerState). q.summary) t.1, ap (λ (q : TalkerState). q.line) t.1)
+  -- one turn is a run, and leaves the counts and the line
+  turn_taken : (w u : T) (s s' : TalkerState) (turn : Turn) → IsTurnOf may w s turn u s' → Runs may w (turn ∷ []) u × (s'.summary ≡ s.summary) × (s'.line ≡ s.line) × (s.over ≡ false → s'.over ≡ ends (asked turn))
+  turn_taken w u s s' (Answered x) t = ((u, t.0, refl), ap (λ (q : TalkerState). q.summary) t.1, ap (λ (q : TalkerState). q.line) t.1, λ o. ap (λ (q : TalkerState). q.over) t.1 ∙ o)
+  turn_taken w u s s' (Told n r) t = ((u, t.0, refl), ap (λ (q : TalkerState). q.summary) t.1, ap (λ (q : TalkerState). q.line) t.1, λ o. ap (λ (q : TalkerState). q.over) t.1 ∙ o)
+  turn_taken w u s s' Ended t = (sym t.0, ap (λ (q : TalkerState). q.summary) t.1, ap (λ (q : TalkerState). q.line) t.1, λ o. ap (λ (q : TalkerState). q.over) t.1)
+  turn_taken w u s s' (Misread bad) t = (sym t.0, ap (λ (q : TalkerState). q.summary) t.1, ap (λ (q : TalkerState). q.line) t.1, λ o. ap (λ (q : TalkerState). q.over) t.1 ∙ o)
 
   -- where this is written of each turn
   module _ (text : Turn → List ℕ) where
@@ -74,18 +61,18 @@ module _ {T : Type 0} (may : T → Request → ShownReply → T → Type 0) wher
     pub says_one : (w u : T) (s s' s'' : TalkerState) (out out'' : List ℕ) (turn : Turn) → IsTurnOf may w s turn u s' → IsHeld text s' out turn s'' out'' →
         SaysFrom may text Afresh w s out u s'' out'' (λ p. after_meaning p (asked turn))
     says_one w u s s' s'' out out'' turn took hold =
-        let same = left_by w u s s' turn took in
+        let taken = turn_taken w u s s' turn took in
         let kept = hold.kept in (
           turn ∷ [],
           record {
-            run = turn_run w u s s' turn took;
+            run = taken.0;
             text_is = hold.added ∙ ap (λ l. out ++ l) (sym (append-nil (text turn)));
             goes_on = λ turns p t was.
-                let counted : CountsAnswers (answers_of turns) s'.summary = subst (λ (q : Summary). CountsAnswers (answers_of turns) q) (sym same.0) t.counts in
+                let counted : CountsAnswers (answers_of turns) s'.summary = subst (λ (q : Summary). CountsAnswers (answers_of turns) q) (sym taken.1) t.counts in
                 record {
                   asked_is = map-append asked turns (turn ∷ []) ∙ ap (λ l. l ++ asked turn ∷ []) t.asked_is;
-                  line_is = ap (λ (q : TalkerState). q.line) kept ∙ same.1 ∙ t.line_is ∙ ap held was.1;
-                  over_is = ap (λ (q : TalkerState). q.over) kept ∙ over_more w u s s' turn took (t.over_is ∙ was.0);
+                  line_is = ap (λ (q : TalkerState). q.line) kept ∙ taken.2 ∙ t.line_is ∙ ap held was.1;
+                  over_is = ap (λ (q : TalkerState). q.over) kept ∙ taken.3 (t.over_is ∙ was.0);
                   counts = subst (λ (l : List (Result ShownReply Bad)). CountsAnswers l s''.summary) (sym (map-append answer_of turns (turn ∷ [])))
                       (counts_more (answers_of turns) (answer_of turn) s'.summary s''.summary counted hold.lines hold.accepted hold.refused hold.bad);
                 };

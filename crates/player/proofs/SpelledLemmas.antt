@@ -114,22 +114,21 @@ either_spelled : (text : List ℕ) (b : Bool) (x y : Result Command Bad) → (b 
 either_spelled text true x y h k = h refl
 either_spelled text false x y h k = k
 
+-- where the first word is this one
+word_spelled : (first word : List ℕ) (others : List (List ℕ)) (x y : Result Command Bad) → IsSpelled (after_spaces (first ∷ others)) x → IsSpelled (after_spaces (word ∷ others)) y →
+    IsSpelled (after_spaces (word ∷ others)) (if same_bytes word first then x else y)
+word_spelled first word others x y h = either_spelled (after_spaces (word ∷ others)) (same_bytes word first) x y (λ same. subst (λ t. IsSpelled (32 ∷ t ++ after_spaces others) x) (sym (same_is word first same)) h)
+
 -- an event of one number
 one_by : (event : ℕ → Event) (first : List ℕ) (word : List ℕ) (o : Option ℕ) → length first ≤ 5 → ((n : ℕ) → event_words (event n) ≡ first ++ 32 ∷ decimal n) → IsWrittenAs word o → IsSpelled (32 ∷ first ++ 32 ∷ word) (command_if (λ n. command.Event (event n)) o)
 one_by event first word None few spelled h = tt
 one_by event first word (Some n) few spelled h =
     (ap (λ t. 32 ∷ first ++ 32 ∷ t) (sym h.0) ∙ ap (λ t. 32 ∷ t) (sym (spelled n)), omega (arith, length-append first (32 ∷ word), h.1, few))
 
-one_spelled : (event : ℕ → Event) (first : List ℕ) (others : List (List ℕ)) → length first ≤ 5 → ((n : ℕ) → event_words (event n) ≡ first ++ 32 ∷ decimal n) → IsSpelled (32 ∷ first ++ after_spaces others) (event_of_one event others)
+one_spelled : (event : ℕ → Event) (first : List ℕ) (others : List (List ℕ)) → length first ≤ 5 → ((n : ℕ) → event_words (event n) ≡ first ++ 32 ∷ decimal n) → IsSpelled (after_spaces (first ∷ others)) (event_of_one event others)
 one_spelled event first [] few spelled = tt
-one_spelled event first (word ∷ []) few spelled =
-    subst (λ t. IsSpelled (32 ∷ first ++ 32 ∷ t) (command_if (λ n. command.Event (event n)) (number_in word))) (sym (append-nil word)) (one_by event first word (number_in word) few spelled (number-written word))
+one_spelled event first (word ∷ []) few spelled = rw (append-nil word) (one_by event first word (number_in word) few spelled (number-written word))
 one_spelled event first (word ∷ other ∷ more) few spelled = tt
-
--- and by the first word as it stands
-one_after : (event : ℕ → Event) (first word : List ℕ) (others : List (List ℕ)) → length first ≤ 5 → ((n : ℕ) → event_words (event n) ≡ first ++ 32 ∷ decimal n) → same_bytes word first ≡ true → IsSpelled (32 ∷ word ++ after_spaces others) (event_of_one event others)
-one_after event first word others few spelled same =
-    subst (λ t. IsSpelled (32 ∷ t ++ after_spaces others) (event_of_one event others)) (sym (same_is word first same)) (one_spelled event first others few spelled)
 
 both_by : (word other : List ℕ) (p value : Option ℕ) → IsWrittenAs word p → IsWrittenAs other value → IsSpelled (32 ∷ codes "put" ++ 32 ∷ word ++ 32 ∷ other) (event_if_both Put p value)
 both_by word other None value h k = tt
@@ -139,16 +138,11 @@ both_by word other (Some p) (Some value) h k = (
   omega (arith, length-append word (32 ∷ other), h.1, k.1),
 )
 
-two_spelled : (others : List (List ℕ)) → IsSpelled (32 ∷ codes "put" ++ after_spaces others) (event_of_two Put others)
+two_spelled : (others : List (List ℕ)) → IsSpelled (after_spaces (codes "put" ∷ others)) (event_of_two Put others)
 two_spelled [] = tt
 two_spelled (word ∷ []) = tt
-two_spelled (word ∷ other ∷ []) =
-    subst (λ t. IsSpelled (32 ∷ codes "put" ++ 32 ∷ word ++ 32 ∷ t) (event_if_both Put (number_in word) (number_in other))) (sym (append-nil other)) (both_by word other (number_in word) (number_in other) (number-written word) (number-written other))
+two_spelled (word ∷ other ∷ []) = rw (append-nil other) (both_by word other (number_in word) (number_in other) (number-written word) (number-written other))
 two_spelled (word ∷ other ∷ third ∷ more) = tt
-
-two_after : (word : List ℕ) (others : List (List ℕ)) → same_bytes word (codes "put") ≡ true → IsSpelled (32 ∷ word ++ after_spaces others) (event_of_two Put others)
-two_after word others same =
-    subst (λ t. IsSpelled (32 ∷ t ++ after_spaces others) (event_of_two Put others)) (sym (same_is word (codes "put") same)) (two_spelled others)
 
 owner_by : (text : List ℕ) (o : Option ℕ) → IsSpelled text (command_if command.Owner o)
 owner_by text None = tt
@@ -163,34 +157,27 @@ quit_spelled : (text : List ℕ) (others : List (List ℕ)) → IsSpelled text (
 quit_spelled text [] = tt
 quit_spelled text (word ∷ more) = tt
 
-desk_spelled : (word : List ℕ) (others : List (List ℕ)) → IsSpelled (32 ∷ word ++ after_spaces others) (desk_command_of word others)
+desk_spelled : (word : List ℕ) (others : List (List ℕ)) → IsSpelled (after_spaces (word ∷ others)) (desk_command_of word others)
 desk_spelled word others =
-    let text = 32 ∷ word ++ after_spaces others in
-    either_spelled text (same_bytes word (codes "enter")) (event_of_one Enter others) _ (one_after Enter (codes "enter") word others (omega arith) (λ n. refl))
-    (either_spelled text (same_bytes word (codes "probe")) (event_of_one Probe others) _ (one_after Probe (codes "probe") word others (omega arith) (λ n. refl))
-    (either_spelled text (same_bytes word (codes "leave")) (event_of_one Leave others) _ (one_after Leave (codes "leave") word others (omega arith) (λ n. refl))
-    (either_spelled text (same_bytes word (codes "put")) (event_of_two Put others) _ (two_after word others)
-    (either_spelled text (same_bytes word (codes "get")) (event_of_one Get others) _ (one_after Get (codes "get") word others (omega arith) (λ n. refl))
-    (either_spelled text (same_bytes word (codes "widen")) (event_of_one Widen others) _ (one_after Widen (codes "widen") word others (omega arith) (λ n. refl))
-    (either_spelled text (same_bytes word (codes "owner")) (command_of_one command.Owner others) (Err UnknownWord) (λ is. owner_spelled text others) tt))))))
+    word_spelled (codes "enter") word others _ _ (one_spelled Enter (codes "enter") others (omega arith) (λ n. refl))
+    (word_spelled (codes "probe") word others _ _ (one_spelled Probe (codes "probe") others (omega arith) (λ n. refl))
+    (word_spelled (codes "leave") word others _ _ (one_spelled Leave (codes "leave") others (omega arith) (λ n. refl))
+    (word_spelled (codes "put") word others _ _ (two_spelled others)
+    (word_spelled (codes "get") word others _ _ (one_spelled Get (codes "get") others (omega arith) (λ n. refl))
+    (word_spelled (codes "widen") word others _ _ (one_spelled Widen (codes "widen") others (omega arith) (λ n. refl))
+    (word_spelled (codes "owner") word others _ (Err UnknownWord) (owner_spelled _ others) tt))))))
 
 words_spelled : (kind : WorldKind) (ws : List (List ℕ)) → IsSpelled (after_spaces ws) (command_in kind ws)
 words_spelled kind [] = tt
 words_spelled kind (word ∷ others) =
-    let text = 32 ∷ word ++ after_spaces others in
-    either_spelled text (same_bytes word (codes "begin")) (event_of_one Begin others) _ (one_after Begin (codes "begin") word others (omega arith) (λ n. refl))
-    (either_spelled text (same_bytes word (codes "step")) (event_of_one Step others) _ (one_after Step (codes "step") word others (omega arith) (λ n. refl))
-    (either_spelled text (same_bytes word (codes "quit")) (quit_of others) _ (λ is. quit_spelled text others)
-    (either_spelled text (gives_names kind) (desk_command_of word others) (Err UnknownWord) (λ is. desk_spelled word others) tt)))
-
-line_spelled : (kind : WorldKind) (line : List ℕ) → IsSpelled (32 ∷ line) (meaning kind line)
-line_spelled kind line =
-    let text = 32 ∷ line in
-    either_spelled text (nat_lt 100 (length line)) (Err TooLong) _ (λ is. tt)
-    (either_spelled text (not (list_all is_printable line)) (Err NotPrintable) (command_in kind (words line)) (λ is. tt)
-    (subst (λ t. IsSpelled t (command_in kind (words line))) (spaces-pieces [] line) (words_spelled kind (words line))))
+    word_spelled (codes "begin") word others _ _ (one_spelled Begin (codes "begin") others (omega arith) (λ n. refl))
+    (word_spelled (codes "step") word others _ _ (one_spelled Step (codes "step") others (omega arith) (λ n. refl))
+    (word_spelled (codes "quit") word others _ _ (quit_spelled _ others)
+    (either_spelled _ (gives_names kind) (desk_command_of word others) (Err UnknownWord) (λ is. desk_spelled word others) tt)))
 
 -- a line that asks for an event has its words, and is short
 pub event-spelled : (kind : WorldKind) (line : List ℕ) (e : Event) → meaning kind line ≡ Ok (command.Event e) → (line ≡ event_words e) × (length line ≤ 45)
 event-spelled kind line e is =
-    let spelled : (32 ∷ line ≡ 32 ∷ event_words e) × (length (32 ∷ line) ≤ 46) = rw is at (line_spelled kind line) in (let same = spelled.0 in cc, let few = spelled.1 in omega arith)
+    let by_words : IsSpelled (32 ∷ line) (command_in kind (words line)) = subst (λ t. IsSpelled t (command_in kind (words line))) (spaces-pieces [] line) (words_spelled kind (words line)) in
+    let line_spelled : IsSpelled (32 ∷ line) (meaning kind line) = either_spelled _ (nat_lt 100 (length line)) (Err TooLong) _ (λ is. tt) (either_spelled _ (not (list_all is_printable line)) (Err NotPrintable) _ (λ is. tt) by_words) in
+    let spelled : (32 ∷ line ≡ 32 ∷ event_words e) × (length (32 ∷ line) ≤ 46) = rw is at line_spelled in (let same = spelled.0 in cc, let few = spelled.1 in omega arith)

@@ -1,5 +1,5 @@
 -- where a player stands, one call after another
-use Rattle.std.proofs.Common.{◌≡◌, ℕ, List, [], ◌++◌, map, flat_map, Result, Option, refl, sym, ap, subst, ◌∙◌, append_assoc}
+use Rattle.std.proofs.Common.{◌≡◌, ℕ, List, [], ◌++◌, flat_map, Result, Option, refl, sym, ap, subst, ◌∙◌, append_assoc}
 use Rattle.std.proofs.lemmas.List.{append-nil}
 use Rattle.std.proofs.lemmas.Grind.{flat_map-append}
 use Rattle.std.specs.Io.KnownBytes.{Appends}
@@ -9,7 +9,7 @@ use Rattle.commands.specs.declared.command.Command.{Command}
 use Rattle.commands.specs.declared.kind.WorldKind.{WorldKind}
 use Rattle.commands.specs.Replies.{ShownReply}
 use Rattle.player.specs.declared.summary.Summary.{Summary}
-use Rattle.player.specs.Turns.{Turn, asked, answers_of}
+use Rattle.player.specs.Turns.{Turn, answers_of}
 use Rattle.player.specs.Counts.{CountsAnswers}
 use Rattle.player.specs.PlayerState.{PlayerState, player_of}
 use Rattle.player.specs.TalkerState.{TalkerState}
@@ -56,24 +56,14 @@ module _ {T : Type 0} (may : T → Request → ShownReply → T → Type 0) wher
       text_is = t.text_is ∙ ap (λ l. t.written ++ l) a.parts ∙ sym (append_assoc t.written a.sent s'.replies);
     }
 
-    -- a part of them is written
-    pub stands_part : (start w : T) (s : PlayerState) (p : Progress) (before old now : Option (List ℕ)) → Stands may text start w s p before old → HasPartOf old now s.replies → StandsPart may text start w p before now
-    stands_part start w s p before old now t part = record {
+    -- a part of them is written, where as much was asked for and maybe more
+    pub stands_part : (start w : T) (s : PlayerState) (p q : Progress) (before old now : Option (List ℕ)) (more : List (Result Command Bad)) → q.asked ≡ p.asked ++ more → Stands may text start w s p before old → HasPartOf old now s.replies → StandsPart may text start w q before now
+    stands_part start w s p q before old now more e t part = record {
       turns = t.turns;
-      others = [];
-      asked_is = sym t.asked_is ∙ sym (append-nil (map asked t.turns));
+      others = more;
+      asked_is = e ∙ ap (λ l. l ++ more) (sym t.asked_is);
       run = t.run;
       part = part_after before old now t.written s.replies (flat_map text t.turns) t.gained t.text_is part;
-    }
-
-    -- and so it is of what asks for more
-    pub part_of_more : (start w : T) (p q : Progress) (before now : Option (List ℕ)) (more : List (Result Command Bad)) → q.asked ≡ p.asked ++ more → StandsPart may text start w p before now → StandsPart may text start w q before now
-    part_of_more start w p q before now more e t = record {
-      turns = t.turns;
-      others = t.others ++ more;
-      asked_is = e ∙ ap (λ l. l ++ more) t.asked_is ∙ append_assoc (map asked t.turns) t.others more;
-      run = t.run;
-      part = t.part;
     }
 
     -- a run that has read nothing

@@ -1,5 +1,5 @@
 -- digits that are read one by one
-use Rattle.std.specs.Prelude.{◌≡◌, ℕ, ◌+◌, ◌*◌, ◌^◌, ◌<◌, ◌≤◌, true, List, length, take}
+use Rattle.std.specs.Prelude.{◌≡◌, ℕ, ◌+◌, ◌*◌, ◌^◌, ◌<◌, ◌≤◌, true, List, [], ◌∷◌, length, get_or, take}
 use Rattle.std.specs.List.{list_all}
 use Rattle.player.specs.Meaning.{is_digit, decimal_from}
 
@@ -10,12 +10,22 @@ pub record DigitsSoFar (text : List ℕ) (value count : ℕ) : Type 0 where
   pub value_is : value ≡ decimal_from 0 (take count text)
   pub small : value < 10 ^ count
 
--- these eight digits stand in the bytes of a word, the first in the lowest
-pub record AreDigitsOf (word a b c d e f g h : ℕ) : Type 0 where
-  pub first : (a < 10) × (b < 10) × (c < 10) × (d < 10)
-  pub last : (e < 10) × (f < 10) × (g < 10) × (h < 10)
-  pub word_is : word ≡ a + 256 * (b + 256 * (c + 256 * (d + 256 * (e + 256 * (f + 256 * (g + 256 * h))))))
+-- bytes as a word, the first the lowest
+abbrev pub word_of : List ℕ → ℕ
+word_of [] = 0
+word_of (b ∷ bs) = word_of bs * 256 + b
 
--- the number that eight digits write
-abbrev pub number_of_eight : ℕ → ℕ → ℕ → ℕ → ℕ → ℕ → ℕ → ℕ → ℕ
-number_of_eight a b c d e f g h = ((((((a * 10 + b) * 10 + c) * 10 + d) * 10 + e) * 10 + f) * 10 + g) * 10 + h
+-- the values of eight digits stand in the bytes of a word
+pub record AreDigitsOf (word : ℕ) (digits : List ℕ) : Type 0 where
+  pub eight : length digits ≡ 8
+  pub small : (i : ℕ) → get_or digits i 0 < 10
+  pub word_is : word ≡ word_of digits
+
+-- the number that digits of these values write, after what was written before them
+abbrev pub number_from : ℕ → List ℕ → ℕ
+number_from n [] = n
+number_from n (d ∷ ds) = number_from (n * 10 + d) ds
+
+-- the number that eight digits write which stand in the bytes of a word
+abbrev pub IsNumberOf : ℕ → ℕ → Type 0
+IsNumberOf word value = (digits : List ℕ) → AreDigitsOf word digits → value ≡ number_from 0 digits

@@ -17,6 +17,7 @@ pub mod Counts
 pub mod HeldLine
 pub mod Quick
 pub mod Digits
+pub mod Front
 pub mod Progress
 pub mod TalkerState
 pub mod PlayerState

@@ -1,12 +1,13 @@
 -- runs that are played: none where memory was refused, one after a beginning, one by a weaker measure
-use Rattle.std.proofs.Common.{◌≡◌, ℕ, List, [], ◌++◌, Result, Ok, Err, IfOk, refl, ◌∙◌, arith}
+use Rattle.std.proofs.Common.{◌≡◌, ℕ, ◌+◌, ◌≤◌, List, [], ◌++◌, Result, Ok, Err, IfOk, refl, ◌∙◌, arith}
 use Rattle.std.specs.Io.KnownBytes.{Appends}
 use Rattle.std.proofs.KnownBytes.{Appends-nil}
 use Rattle.commands.specs.declared.bad.Bad.{Bad}
 use Rattle.commands.specs.declared.command.Command.{Command}
 use Rattle.commands.specs.declared.kind.WorldKind.{WorldKind}
 use Rattle.player.specs.declared.fault.Fault.{Fault}
-use Rattle.player.specs.declared.fault.Fault.TheVariants.{Memory}
+use Rattle.player.specs.declared.fault.Fault.TheVariants.{Read, Write, Memory}
+use Rattle.player.specs.declared.playing.TheConstants.{MOST_READS}
 use Rattle.player.specs.declared.summary.Summary.{Summary}
 use Rattle.player.specs.Asked.{asked_by}
 use Rattle.player.specs.Lines.{lines, whole_lines}
@@ -99,14 +100,26 @@ pub played_weaker : (text : List Turn → List ℕ) (P P' Q Q' : List Turn → T
 played_weaker text P P' Q Q' weaker weaker' kind reading writing result t =
     played_after [] text P P' Q Q' weaker weaker' kind reading writing writing.old (Appends-nil (writing.contents writing.old)) refl result (λ e. refl) t
 
+-- what holds of a run that ended so
+abbrev pub EndedBy : (List Turn → List ℕ) → (List Turn → Type 0) → (List Turn → Type 0) → WorldKind → {R W : Type 0} → Reading R → Writing W → Result Summary Fault → Type 0
+EndedBy text IsTalk MayTalk kind reading writing (Ok s) = PlayedToEnd kind reading writing text IsTalk s
+EndedBy text IsTalk MayTalk kind reading writing (Err Read) = PlayedToReadFault kind reading writing text IsTalk
+EndedBy text IsTalk MayTalk kind reading writing (Err Write) = PlayedToWriteFault kind reading writing text IsTalk MayTalk
+EndedBy text IsTalk MayTalk kind reading writing (Err Memory) = (reading.new ≡ reading.old) × (writing.new ≡ writing.old)
+
+-- the theorem of a run, by how it ended
+pub as_played : (text : List Turn → List ℕ) (IsTalk MayTalk : List Turn → Type 0) (kind : WorldKind) {R W : Type 0} (reading : Reading R) (writing : Writing W) (result : Result Summary Fault) →
+    EndedBy text IsTalk MayTalk kind reading writing result → reading.calls reading.new ≤ reading.calls reading.old + MOST_READS → IsPlayed text IsTalk MayTalk kind reading writing result
+as_played text IsTalk MayTalk kind reading writing result ended reads = record {
+  ok = elim result as (λ r. EndedBy text IsTalk MayTalk kind reading writing r → IfOk r (λ s. PlayedToEnd kind reading writing text IsTalk s)) [ Ok s ↦ λ end. end | Err f ↦ λ fault. tt ] ended;
+  read_fault = λ e. rw e at ended;
+  write_fault = λ e. rw e at ended;
+  memory = λ e. rw e at ended;
+  reads = reads;
+}
+
 -- where memory was refused nothing is read and nothing written
 pub unplayed : (text : List Turn → List ℕ) (IsTalk MayTalk : List Turn → Type 0) (kind : WorldKind)
     {R W : Type 0} (reading : Reading R) (writing : Writing W) → reading.new ≡ reading.old → writing.new ≡ writing.old →
     IsPlayed text IsTalk MayTalk kind reading writing (Err Memory)
-unplayed text IsTalk MayTalk kind reading writing unread unwritten = record {
-  ok = tt;
-  read_fault = λ e. (let no_way : ⊥ = cc in absurd no_way);
-  write_fault = λ e. (let no_way : ⊥ = cc in absurd no_way);
-  memory = λ e. (unread, unwritten);
-  reads = rw unread (omega arith);
-}
+unplayed text IsTalk MayTalk kind reading writing unread unwritten = as_played text IsTalk MayTalk kind reading writing (Err Memory) (unread, unwritten) (rw unread (omega arith))

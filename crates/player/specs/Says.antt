@@ -1,5 +1,5 @@
 -- what is said to one side of a talk, whoever else uses the service before and after
-use Rattle.std.specs.Prelude.{◌≡◌, ℕ, ◌+◌, ◌++◌, List, [], true, false, map, flat_map}
+use Rattle.std.specs.Prelude.{◌≡◌, ℕ, ◌+◌, ◌<◌, ◌≤◌, ◌++◌, length, List, [], true, false, map, flat_map}
 use Rattle.commands.specs.Replies.{ShownReply}
 use Rattle.commands.specs.declared.kind.WorldKind.{WorldKind}
 use Rattle.commands.specs.Requests.{Request}
@@ -10,6 +10,7 @@ use Rattle.player.specs.Progress.{Progress, at_start}
 use Rattle.player.specs.Runs.{Runs}
 use Rattle.player.specs.Summary.{one_if_accepted, one_if_refused, one_if_bad}
 use Rattle.player.specs.TalkerState.{TalkerState}
+use Rattle.player.specs.declared.form.TheConstants.{TURN_ROOM}
 use Rattle.player.specs.Turns.{Turn, asked, answer_of, answers_of}
 use Rattle.player.specs.Turns.Turn.{Answered, Told, Ended, Misread}
 
@@ -32,6 +33,14 @@ pub record IsHeld (text : Turn → List ℕ) (s : TalkerState) (out : List ℕ) 
   pub accepted : s'.summary.accepted ≡ s.summary.accepted + one_if_accepted (answer_of turn)
   pub refused : s'.summary.refused ≡ s.summary.refused + one_if_refused (answer_of turn)
   pub bad : s'.summary.bad ≡ s.summary.bad + one_if_bad (answer_of turn)
+
+-- so many of these bytes are taken, one line at most, which adds one turn at most
+pub record TakesLine (s : TalkerState) (out bytes : List ℕ) (s' : TalkerState) (out' : List ℕ) (taken : ℕ) : Type 0 where
+  pub some : 0 < taken
+  pub inside : taken ≤ length bytes
+  pub kept : s'.kind ≡ s.kind
+  pub longer : length out' ≤ length out + TURN_ROOM
+  pub counted : s'.summary.lines ≤ s.summary.lines + 1
 
 -- wherever it stands; where `quit` was not asked for; and where also no byte of the next line was read
 abbrev pub Anywhere : Progress → Type 0

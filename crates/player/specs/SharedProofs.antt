@@ -5,42 +5,38 @@ use Rattle.std.proofs.lemmas.Bool.{eqb-true}
 use Rattle.std.proofs.lemmas.Grind.{flat_map-append}
 use Rattle.commands.specs.Replies.{ShownReply}
 use Rattle.commands.specs.Requests.{Request}
-use Rattle.player.specs.Progress.{Progress}
-use Rattle.player.specs.Runs.{Runs}
 use Rattle.player.specs.RunProofs.{runs-append}
-use Rattle.player.specs.Says.{Spoke, SaysBy, Anywhere}
-use Rattle.player.specs.Shared.{TurnLog, turns_of, tagged, all_turns, changed, IsShared}
-use Rattle.player.specs.TalkerState.{TalkerState}
+use Rattle.player.specs.Says.{Spoke}
+use Rattle.player.specs.Shared.{numbered, unnumbered, turns_of, tagged, all_turns, SharedGoesOn}
 use Rattle.player.specs.Turns.{Turn}
 
-pub all-append : (xs ys : TurnLog) → all_turns (xs ++ ys) ≡ all_turns xs ++ all_turns ys
-all-append [] ys = refl
-all-append (x ∷ xs) ys = ap (λ l. x.1 ∷ l) (all-append xs ys)
+module _ {X : Type 0} where
+  pub all-append : (xs ys : List (ℕ × X)) → unnumbered (xs ++ ys) ≡ unnumbered xs ++ unnumbered ys
+  all-append [] ys = refl
+  all-append (x ∷ xs) ys = ap (λ l. x.1 ∷ l) (all-append xs ys)
 
-pub all-tagged : (i : ℕ) (ts : List Turn) → all_turns (tagged i ts) ≡ ts
-all-tagged i [] = refl
-all-tagged i (t ∷ ts) = ap (λ l. t ∷ l) (all-tagged i ts)
+  pub all-tagged : (i : ℕ) (xs : List X) → unnumbered (tagged i xs) ≡ xs
+  all-tagged i [] = refl
+  all-tagged i (x ∷ xs) = ap (λ l. x ∷ l) (all-tagged i xs)
 
-pub of-append : (j : ℕ) (xs ys : TurnLog) → turns_of j (xs ++ ys) ≡ turns_of j xs ++ turns_of j ys
-of-append j [] ys = refl
-of-append j (x ∷ xs) ys = elim (x.0 == j) as (λ b. cond b (x.1 ∷ turns_of j (xs ++ ys)) (turns_of j (xs ++ ys)) ≡ cond b (x.1 ∷ turns_of j xs) (turns_of j xs) ++ turns_of j ys) [
-  | true ↦ ap (λ l. x.1 ∷ l) (of-append j xs ys)
-  | false ↦ of-append j xs ys
-]
+  pub of-append : (j : ℕ) (xs ys : List (ℕ × X)) → numbered j (xs ++ ys) ≡ numbered j xs ++ numbered j ys
+  of-append j [] ys = refl
+  of-append j (x ∷ xs) ys = elim (x.0 == j) as (λ b. cond b (x.1 ∷ numbered j (xs ++ ys)) (numbered j (xs ++ ys)) ≡ cond b (x.1 ∷ numbered j xs) (numbered j xs) ++ numbered j ys) [
+    | true ↦ ap (λ l. x.1 ∷ l) (of-append j xs ys)
+    | false ↦ of-append j xs ys
+  ]
 
-pub of-same : (i j : ℕ) (ts : List Turn) → (i == j) ≡ true → turns_of j (tagged i ts) ≡ ts
-of-same i j [] h = refl
-of-same i j (t ∷ ts) h = rw h (ap (λ l. t ∷ l) (of-same i j ts h))
+  pub of-same : (i j : ℕ) (xs : List X) → (i == j) ≡ true → numbered j (tagged i xs) ≡ xs
+  of-same i j [] h = refl
+  of-same i j (x ∷ xs) h = rw h (ap (λ l. x ∷ l) (of-same i j xs h))
 
-pub of-other : (i j : ℕ) (ts : List Turn) → (i == j) ≡ false → turns_of j (tagged i ts) ≡ []
-of-other i j [] h = refl
-of-other i j (t ∷ ts) h = rw h (of-other i j ts h)
+  pub of-other : (i j : ℕ) (xs : List X) → (i == j) ≡ false → numbered j (tagged i xs) ≡ []
+  of-other i j [] h = refl
+  of-other i j (x ∷ xs) h = rw h (of-other i j xs h)
 
 module _ {T : Type 0} (may : T → Request → ShownReply → T → Type 0) (text : Turn → List ℕ) where
   -- one of them goes on
-  pub shared_on : (start w u : T) (log : TurnLog) (at : ℕ → TalkerState) (far : ℕ → Progress) (told : ℕ → List ℕ) (i : ℕ) (out out' : List ℕ) (s' : TalkerState) (next : Progress → Progress) (more : List Turn) →
-      IsShared may text start w log at far told → SaysBy may text more w (at i) out u s' out' Anywhere next →
-      IsShared may text start u (log ++ tagged i more) (changed at i s') (changed far i (next (far i))) (changed told i (told i ++ flat_map text more))
+  pub shared_on : SharedGoesOn may text
   shared_on start w u log at far told i out out' s' next more shared said = record {
     run = rw (all-append log (tagged i more), all-tagged i more) (runs-append may start w u (all_turns log) more shared.run said.run);
     each = λ j. rw (of-append j log (tagged i more))

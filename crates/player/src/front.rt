@@ -1,13 +1,15 @@
 //! What stands behind a text at the beginning of bytes.
 
-ghost use Rattle.std.specs.Prelude.{◌≡◌, ◌++◌, ◌≤◌, true, length, take, IfSome};
+ghost use Rattle.std.specs.Prelude.{◌≡◌, ◌≢◌, ◌++◌, ◌≤◌, true, false, length, take, IfSome, IfNone};
+ghost use Rattle.player.specs.Front.{AreAlike, BeginsOtherwise};
 
 use crate::quick::first_four;
 
 /// Whether the first four bytes of both are the same. `false` says nothing where there are fewer.
 #[inline(always)]
 fn begin_alike(bytes: &[u8], front: &[u8]) -> bool
-    ensures { result ≡ true → take 4 bytes.now ≡ take 4 front.now }
+    ensures yes { result ≡ true → take 4 bytes.now ≡ take 4 front.now }
+    ensures no { result ≡ false → 4 ≤ length bytes.now → 4 ≤ length front.now → take 4 bytes.now ≢ take 4 front.now }
 {
     let Some(one) = first_four(bytes) else {
         return false;
@@ -22,8 +24,8 @@ fn begin_alike(bytes: &[u8], front: &[u8]) -> bool
 #[inline(always)]
 fn alike_by_fours(bytes: &[u8], front: &[u8]) -> Option<usize>
     requires { length front.now ≤ length bytes.now }
-    ensures within { IfSome result (λ at. at ≤ length front.now) }
-    ensures alike { IfSome result (λ at. take at bytes.now ≡ take at front.now) }
+    ensures alike { IfSome result (λ at. AreAlike bytes.now front.now at) }
+    ensures none { IfNone result (BeginsOtherwise bytes.now front.now) }
 {
     let mut at = 0;
     while 4 <= front.len() - at {
@@ -35,11 +37,12 @@ fn alike_by_fours(bytes: &[u8], front: &[u8]) -> Option<usize>
     Some(at)
 }
 
-/// What follows these bytes at the beginning; `None` says nothing. They are compared four at once, which takes a few instructions where the
-/// front is a text of the program, and no call.
+/// What follows these bytes at the beginning; `None` where others stand there. They are compared four at once, which takes a few instructions
+/// where the front is a text of the program, and no call.
 #[inline(always)]
 pub fn after_front<'a>(bytes: &'a [u8], front: &[u8]) -> Option<&'a [u8]>
-    ensures { IfSome result (λ rest. bytes.now ≡ front.now ++ rest.now) }
+    ensures rest { IfSome result (λ rest. bytes.now ≡ front.now ++ rest.now) }
+    ensures none { IfNone result (BeginsOtherwise bytes.now front.now) }
 {
     if bytes.len() < front.len() {
         return None;

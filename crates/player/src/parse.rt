@@ -52,6 +52,7 @@ fn command_of(word: &[u8], others: Option<&[u8]>, world: WorldKind) -> Result<Co
 }
 
 // By its first word, of those that only a desk knows, and the others, what a line means.
+#[tactic(auto, using(crate::proofs::WordLemmas::event_by_two))]
 fn desk_command_of(word: &[u8], others: Option<&[u8]>) -> Result<Command, Bad>
     ensures { result ≡ desk_command_of word.now (words_left (option_copied others.entry)) }
 {

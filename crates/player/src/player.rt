@@ -16,7 +16,7 @@ use crate::fault::Fault;
 use crate::form::{Form, TURN_ROOM};
 use crate::replies::{HELD_REPLIES, Replies};
 use crate::service::Service;
-use crate::sink::{Sink, put_all};
+use crate::sink::Sink;
 use crate::summary::Summary;
 use crate::talker::Talker;
 use commands::{Config, WorldKind};
@@ -103,9 +103,7 @@ impl<A: Allocator, F: Form> Player<A, F> {
         ensures kept { (self.new.kind ≡ self.old.kind) × (self.new.summary ≡ self.old.summary) }
         ensures calls { W.calls writer.new ≤ W.calls writer.old + length self.old.replies }
     {
-        put_all(writer, self.replies.as_slice())?;
-        self.replies.clear();
-        Ok(())
+        self.replies.send(writer)
     }
 
     /// Writes the first line of a record, before which nothing is held.

@@ -105,6 +105,7 @@ pub fn print_bad<A: Allocator>(bad: Bad, out: &mut Replies<A>)
 
 /// Appends a number in decimal.
 #[inline(always)]
+#[tactic(auto, using(std::proofs::lemmas::Fmt::decimal_digit))]
 pub fn put_number<A: Allocator>(number: u64, out: &mut Replies<A>)
     requires { length out.old + 20 ≤ HELD_REPLIES }
     ensures text { out.new ≡ out.old ++ decimal number }

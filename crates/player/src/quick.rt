@@ -1,8 +1,8 @@
 //! The commands that most inputs are made of, in one pass over their bytes.
 
-ghost use Rattle.std.specs.Prelude.{◌≡◌, ◌≢◌, ◌+◌, ◌≤◌, ◌<◌, ℕ, true, length, drop, Some, IfSome};
+ghost use Rattle.std.specs.Prelude.{◌≡◌, ◌≢◌, ◌+◌, ◌≤◌, ◌<◌, ℕ, true, length, drop, Some, IfSome, IfNone};
 ghost use Rattle.commands.specs.Config.{gives_names};
-ghost use Rattle.player.specs.Digits.{DigitsSoFar, AreDigitsOf, number_of_eight};
+ghost use Rattle.player.specs.Digits.{DigitsSoFar, IsNumberOf};
 ghost use Rattle.player.specs.Quick.{IsCommandBefore, IsDeskCommandBefore, IsNumberBefore, word_of_four};
 ghost use Rattle.player.specs.declared.quick.TheConstants.{BEGIN, PROBE, ENTER, LEAVE};
 
@@ -31,6 +31,7 @@ const PUT: u32 = 0x2074_7570;
 pub(crate) fn first_four(bytes: &[u8]) -> Option<u32>
     ensures inside { IfSome result (λ word. 4 ≤ length bytes.now) }
     ensures word { IfSome result (λ word. word ≡ word_of_four bytes.now) }
+    ensures few { IfNone result (length bytes.now < 4) }
 {
     let [a, b, c, d, ..] = bytes else {
         return None;
@@ -199,8 +200,7 @@ const SIXES: u64 = 0x0606_0606_0606_0606;
 /// The first eight bytes as a word less that of eight digits 0, where all of them are digits: they are tested as one word.
 #[inline(always)]
 fn eight_digits(text: &[u8]) -> Option<u64>
-    ensures { IfSome result (λ digits. (value : ℕ) → ((a b c d e f g h : ℕ) → AreDigitsOf digits a b c d e f g h → value ≡ number_of_eight a b c d e f g h) →
-        DigitsSoFar text.now value 8) }
+    ensures { IfSome result (λ digits. (value : ℕ) → IsNumberOf digits value → DigitsSoFar text.now value 8) }
 {
     let bytes = text.first_chunk::<8>()?;
     let word = u64::from_le_bytes(*bytes);
@@ -218,7 +218,7 @@ fn eight_digits(text: &[u8]) -> Option<u64>
 /// multiplications put the sum of the first and third pair, and that of the second and last, each with its worth, into the upper half.
 #[inline(always)]
 fn value_of_eight(digits: u64) -> u64
-    ensures { (a b c d e f g h : ℕ) → AreDigitsOf digits a b c d e f g h → result ≡ number_of_eight a b c d e f g h }
+    ensures { IsNumberOf digits result }
 {
     let pairs = digits.wrapping_mul(10).wrapping_add(digits >> 8);
     let first = (pairs & 0xff_0000_00ff).wrapping_mul(100 + (1_000_000 << 32));
@@ -230,8 +230,7 @@ fn value_of_eight(digits: u64) -> u64
 #[inline(always)]
 fn with_eight(text: &[u8], first: u64, next: u64) -> u64
     requires read { DigitsSoFar text.now first 4 }
-    requires next { (value : ℕ) → ((a b c d e f g h : ℕ) → AreDigitsOf next a b c d e f g h → value ≡ number_of_eight a b c d e f g h) →
-        DigitsSoFar (drop 4 text.now) value 8 }
+    requires next { (value : ℕ) → IsNumberOf next value → DigitsSoFar (drop 4 text.now) value 8 }
     ensures { DigitsSoFar text.now result 12 }
 {
     first * 100_000_000 + value_of_eight(next)

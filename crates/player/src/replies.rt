@@ -1,7 +1,9 @@
 //! The replies that are not written yet.
 
 ghost use Rattle.std.specs.Prelude.{◌≡◌, ℕ, ◌+◌, ◌≤◌, ◌<◌, ◌^◌, ◌++◌, List, [], length, IfOk, IfErr, OnOk, OnErr};
+ghost use Rattle.std.specs.Io.KnownBytes.{Appends};
 ghost use Rattle.player.specs.UnderWay.{GoesPast, StopsWithin};
+ghost use Rattle.player.specs.Written.{HasPartOf};
 
 use crate::fault::Fault;
 use crate::sink::{Sink, put_all};
@@ -73,6 +75,8 @@ impl<A: Allocator> Replies<A> {
         requires { W.calls writer.old + length self.old ≤ 2 ^ 100 }
         ensures on { OnOk result (GoesPast [] (W.contents writer.old) self.old (W.contents writer.new) self.new) }
         ensures within { OnErr result (StopsWithin [] (W.contents writer.old) self.old (W.contents writer.new)) }
+        ensures sent { OnOk result (Appends (W.contents writer.old) (W.contents writer.new) self.old) }
+        ensures part { OnErr result (HasPartOf (W.contents writer.old) (W.contents writer.new) self.old) }
         ensures empty { OnOk result (self.new ≡ []) }
         ensures only { IfErr result (λ fault. fault ≡ Fault.Write) }
         ensures failed { OnErr result (W.failed writer.old < W.failed writer.new) }

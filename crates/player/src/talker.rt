@@ -6,7 +6,7 @@ ghost use Rattle.commands.specs.Requests.Request.{Take, OwnerOf};
 ghost use Rattle.player.specs.Events.{event_words};
 ghost use Rattle.player.specs.Knows.{Knows, KnowsMeant};
 ghost use Rattle.player.specs.Progress.{after_meaning, after_line, after_bytes, after_end};
-ghost use Rattle.player.specs.Says.{Says, SaysFrom, GoingOn, Afresh, IsHeld, IsSilent};
+ghost use Rattle.player.specs.Says.{Says, SaysFrom, GoingOn, Afresh, IsHeld, IsSilent, TakesLine};
 ghost use Rattle.player.specs.Turns.Turn.{Answered, Told, Ended, Misread};
 ghost use Rattle.player.specs.declared.replies.TheConstants.{HELD_REPLIES};
 ghost use Rattle.player.specs.declared.form.TheConstants.{TURN_ROOM};
@@ -269,11 +269,8 @@ impl<A: Allocator, F: Form> Talker<A, F> {
         requires room { length out.old + TURN_ROOM ≤ HELD_REPLIES }
         requires count { self.old.summary.lines + 1 < 2 ^ 64 }
         requires some { 0 < length bytes.now }
-        ensures taken { (0 < result) × (result ≤ length bytes.now) }
+        ensures line { TakesLine self.old out.old bytes.now self.new out.new result }
         ensures says { Says D.may F.text service.old self.old out.old service.new self.new out.new (λ p. after_bytes self.old.kind p (take result bytes.now)) }
-        ensures kept { self.new.kind ≡ self.old.kind }
-        ensures longer { length out.new ≤ length out.old + TURN_ROOM }
-        ensures counted { self.new.summary.lines ≤ self.old.summary.lines + 1 }
     {
         if self.over {
             return bytes.len();
@@ -329,12 +326,9 @@ impl<A: Allocator, F: Form> Talker<A, F> {
         requires room { length out.old + TURN_ROOM ≤ HELD_REPLIES }
         requires count { self.old.summary.lines + 1 < 2 ^ 64 }
         requires some { 0 < length bytes.now }
-        ensures taken { (0 < result) × (result ≤ length bytes.now) }
+        ensures line { TakesLine self.old out.old bytes.now self.new out.new result }
         ensures says { SaysFrom D.may F.text GoingOn service.old self.old out.old service.new self.new out.new
             (λ p. after_bytes self.old.kind p (take result bytes.now)) }
-        ensures kept { self.new.kind ≡ self.old.kind }
-        ensures longer { length out.new ≤ length out.old + TURN_ROOM }
-        ensures counted { self.new.summary.lines ≤ self.old.summary.lines + 1 }
     {
         let Some(end) = memchr(LF, bytes) else {
             self.line.extend(bytes);

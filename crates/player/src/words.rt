@@ -1,6 +1,6 @@
 //! Words, and the numbers that they write.
 
-ghost use Rattle.std.specs.Prelude.{◌≡◌, ◌∷◌, ◌≤◌, ◌^◌, ◌==◌, [], position, true, length};
+ghost use Rattle.std.specs.Prelude.{◌≡◌, ◌∷◌, ◌≤◌, ◌^◌, [], true, length};
 ghost use Rattle.std.specs.List.{list_all};
 ghost use Rattle.std.specs.Option.{option_copied};
 ghost use Rattle.player.specs.Lines.{pieces_from, pieces_left, left_length};
@@ -8,19 +8,12 @@ ghost use Rattle.player.specs.Meaning.{is_digit, decimal_from, same_bytes, if_be
 
 use memchr::memchr;
 
-// Where a byte stands first.
-fn first_of(bytes: &[u8], wanted: u8) -> Option<usize>
-    ensures { result ≡ position (λ byte. byte == wanted) bytes.now }
-{
-    memchr(wanted, bytes)
-}
-
 /// The first piece of these bytes, which ends before the first separator, and what follows that; `None` where there is none.
 pub fn cut(bytes: &[u8], separator: u8) -> (&[u8], Option<&[u8]>)
     ensures pieces { pieces_from separator [] bytes.now ≡ result.0.now ∷ pieces_left separator (option_copied result.1) }
     ensures shorter { left_length (option_copied result.1) ≤ length bytes.now }
 {
-    match first_of(bytes, separator) {
+    match memchr(separator, bytes) {
         Some(at) => (&bytes[..at], Some(&bytes[at + 1..])),
         None => (bytes, None),
     }
@@ -41,6 +34,7 @@ fn is_all_digits(word: &[u8]) -> bool
 }
 
 // The number that digits write, if it is below 2^64.
+#[tactic(auto, using(crate::proofs::NumberLemmas::too_large, crate::proofs::NumberLemmas::all_read))]
 fn value_of_digits(digits: &[u8]) -> Option<u64>
     requires { list_all is_digit digits.now ≡ true }
     ensures { result ≡ if_below (2 ^ 64) (decimal_from 0 digits.now) }
@@ -53,6 +47,7 @@ fn value_of_digits(digits: &[u8]) -> Option<u64>
 }
 
 // The number that digits write, if it is below 2^128.
+#[tactic(auto, using(crate::proofs::NumberLemmas::too_large, crate::proofs::NumberLemmas::all_read))]
 fn wide_value_of_digits(digits: &[u8]) -> Option<u128>
     requires { list_all is_digit digits.now ≡ true }
     ensures { result ≡ if_below (2 ^ 128) (decimal_from 0 digits.now) }

@@ -1,4 +1,3 @@
-mod Common
 mod PairLemmas
 mod WordLemmas
 mod ToldWords

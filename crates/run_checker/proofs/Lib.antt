@@ -1,4 +1,3 @@
-mod Common
 mod Views
 mod seats
 mod Deciding

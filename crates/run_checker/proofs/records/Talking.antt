@@ -1,8 +1,13 @@
 -- what a talk tells fits a record
 use Rattle.std.proofs.Common.{◌≡◌, ℕ, ◌^◌, ◌<◌, List, [], ◌∷◌, ◌++◌, map, Result, Ok, Err, inl, inr, sym, subst, arith}
-use Rattle.run_checker.proofs.Common.{Config, WorldKind, Event, ShownReply, DeskCall, DeskValue}
+use Rattle.commands.specs.declared.config.Config.{Config}
+use Rattle.commands.specs.declared.kind.WorldKind.{WorldKind}
+use Rattle.commands.specs.declared.event.Event.{Event}
+use Rattle.commands.specs.Replies.{ShownReply}
 use Rattle.commands.specs.declared.reply.Reply.TheVariants as reply
 use Rattle.desk.specs.Desk.{desk_rules, IsAfterDesk}
+use Rattle.desk.specs.DeskCalls.{DeskCall}
+use Rattle.desk.specs.DeskValue.{DeskValue}
 use Rattle.desk.specs.Rules.{may_by}
 use Rattle.desk.proofs.DeskLaws as desk
 use Rattle.commands.specs.declared.bad.Bad.{Bad}

@@ -1,12 +1,13 @@
 use Rattle.std.proofs.Common.{◌≡◌, ◌+◌, ◌∙◌, ◌++◌, inl, inr, [], ap, refl, subst, sym, arith, get_or}
 use Rattle.commands.specs.declared.kind.WorldKind.{WorldKind}
 use Rattle.player.specs.Lines.{with_ends}
+use Rattle.player.specs.Shared.{tagged}
 use Rattle.event_server.specs.declared.connection.Stage.TheVariants as stage
 use Rattle.event_server.specs.Gathering.{SeatLooked}
 use Rattle.event_server.specs.Seats.{seats_of}
 use Rattle.event_server.specs.Told.{SeatLines, all_lines}
 use Rattle.event_server.proofs.GatherLemmas.{gathered_none, gathered_more}
-use Rattle.event_server.proofs.ToldLemmas.{Telling, telling_none, telling_idle, telling_more, telling_all, told_behind, seat_lines}
+use Rattle.event_server.proofs.ToldLemmas.{Telling, telling_none, telling_idle, telling_more, telling_all, told_behind}
 use Rattle.event_server.proofs.gathering.gather.Goals as goal
 
 pub loop-looked-init : goal.loop-looked-init
@@ -40,7 +41,7 @@ loop-looked-preserved g c =
               (telling_idle on (λ x. x.look) (λ x. x.stage ≡ stage.Queued) kind keys n told seats same.2 i.told.2),
         )
         | inr more ↦ (
-          told ++ seat_lines (get_or keys n 0) more.0,
+          told ++ tagged (get_or keys n 0) more.0,
           told_behind c.loop-looked.batch.lines.items c.gather_at.new.batch.lines.items told (get_or keys n 0) more.0 i.told.1 more.1,
           telling_more on (λ x. x.look) (λ x. x.stage ≡ stage.Queued) kind keys n told seats seats' more.0
               (subst (λ (k : WorldKind). SeatLooked on (λ x. x.look) (λ x. x.stage ≡ stage.Queued) k (get_or keys n 0) seats seats' more.0) i.kind more.2) i.told.2,

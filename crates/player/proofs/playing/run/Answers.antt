@@ -1,17 +1,24 @@
-use Rattle.std.proofs.Common.{◌≡◌, true, false, ◌∙◌, ◌≤◌, ◌+◌, ◌++◌, inl, inr, sym, ap, arith, take, length, List, [], ℕ, refl, Err}
+use Rattle.std.proofs.Common.{◌≡◌, ◌≢◌, true, false, ◌∙◌, ◌≤◌, ◌++◌, inl, inr, sym, ap, arith, take, length, List, [], ℕ, refl, Result, Err}
 use Rattle.std.proofs.lemmas.List.{append-nil}
 use Rattle.std.proofs.lemmas.Result.{err_from_is_err_and}
-use Rattle.std.specs.Io.KnownBytes.{Consumes}
+use Rattle.std.specs.Io.KnownBytes.{IsAtEnd}
 use Rattle.std.proofs.KnownBytes.{Consumes-nil, Consumes-trans, Consumes-kept}
+use Rattle.player.specs.declared.fault.Fault.{Fault}
+use Rattle.player.specs.declared.fault.Fault.TheVariants.{Read, Write, Memory}
 use Rattle.player.specs.declared.playing.TheConstants.{READ_BYTES}
-use Rattle.player.specs.Played.{HasRead, reading, writing}
+use Rattle.player.specs.declared.summary.Summary.{Summary}
+use Rattle.player.specs.Asked.{asked_by}
+use Rattle.player.specs.Lines.{lines}
+use Rattle.player.specs.Played.{HasRead, reading}
+use Rattle.player.specs.PlayedProofs.{as_played}
 use Rattle.player.specs.Progress.{at_start, after_bytes}
 use Rattle.player.specs.Stands.{Stands}
 use Rattle.player.proofs.StandsLemmas.{stands_start}
-use Rattle.player.proofs.ProgressLemmas.{after_bytes-append, over-whole}
-use Rattle.player.proofs.PlayedLemmas.{gave_none, to_end, to_quit, to_read_fault, to_write_fault, to_write_fault_at_end, as_played, as_read_fault, as_write_fault}
+use Rattle.player.proofs.ProgressLemmas.{after_bytes-append, asked-all, asked_begins}
+use Rattle.player.proofs.SaysLemmas.{after_end-over}
+use Rattle.player.proofs.PlayedLemmas.{read_on, to_end, to_read_fault, to_write_fault}
 use Rattle.player.proofs.playing.run.Goals as goal
-use Rattle.player.proofs.playing.run.Goals.{After-read_once, After-is_over}
+use Rattle.player.proofs.playing.run.Goals.{After-finish, After-feed, After-is_over}
 
 pub loop-reads-init : goal.loop-reads-init
 loop-reads-init g c = record {
@@ -31,78 +38,62 @@ loop-reads-init g c = record {
 pub returns-in-Err-clause-played : goal.returns-in-Err-clause-played
 returns-in-Err-clause-played g c =
     let inv = c.loop-reads.invariant in
-    as_read_fault _ _ _ _ _ _
-    (to_read_fault g.D.Service.may g.F.Form.text c.args.player.now.kind c.args.world.now c.loop-reads.world (reading g.R.Read.remaining g.R.Source.calls g.R.Source.failed c.args.reader.now c.read_once.new.self) (writing g.W.Write.contents g.W.Sink.failed c.args.writer.now c.loop-reads.writer) inv.bytes
+    as_played _ _ _ _ _ _ (Err Read) (to_read_fault g.D.Service.may g.F.Form.text c.args.player.now.kind c.args.world.now c.loop-reads.world _ _ inv.bytes
+    c.loop-reads.player (inl (omega (arith, c.in-Err.ensures.failed, inv.no_read_failed)))
     (Consumes-kept (g.R.Read.remaining c.args.reader.now) (g.R.Read.remaining c.loop-reads.reader) (g.R.Read.remaining c.read_once.new.self) inv.bytes inv.came c.in-Err.ensures.bytes)
-    c.loop-reads.player (inl (omega (arith, c.in-Err.ensures.failed, inv.no_read_failed))) inv.going inv.stands inv.empty inv.no_write_failed)
-    (omega (arith, c.in-Err.ensures.called, inv.reads, c.loop-reads-test.true))
+    inv.going inv.stands inv.empty inv.no_write_failed) (omega (arith, c.in-Err.ensures.called, inv.reads, c.loop-reads-test.true))
 
 pub returns-clause-played : goal.returns-clause-played
 returns-clause-played g c =
     let inv = c.loop-reads.invariant in
-    as_read_fault _ _ _ _ _ _
-    (to_read_fault g.D.Service.may g.F.Form.text c.args.player.now.kind c.args.world.now c.loop-reads.world (reading g.R.Read.remaining g.R.Source.calls g.R.Source.failed c.args.reader.now c.loop-reads.reader) (writing g.W.Write.contents g.W.Sink.failed c.args.writer.now c.loop-reads.writer) inv.bytes inv.came
-    c.loop-reads.player (inr (omega (arith, inv.reads, c.loop-reads-test.false, c.loop-reads.auto.reads-end), inv.no_read_failed)) inv.going inv.stands inv.empty inv.no_write_failed)
-    (omega (arith, inv.reads, c.loop-reads.auto.reads-end))
+    as_played _ _ _ _ _ _ (Err Read) (to_read_fault g.D.Service.may g.F.Form.text c.args.player.now.kind c.args.world.now c.loop-reads.world _ _ inv.bytes
+    c.loop-reads.player (inr (omega (arith, inv.reads, c.loop-reads-test.false, c.loop-reads.auto.reads-end), inv.no_read_failed)) inv.came
+    inv.going inv.stands inv.empty inv.no_write_failed) (omega (arith, inv.reads, c.loop-reads.auto.reads-end))
 
--- what the last read gave, where no `quit` had come before it
-last_read : (g : _) (c : After-read_once g) (last : List ℕ) → Consumes (g.R.Read.remaining c.loop-reads.reader) (g.R.Read.remaining c.read_once.new.self) last → g.R.Source.calls c.read_once.new.self ≡ g.R.Source.calls c.loop-reads.reader + 1 → length last ≤ READ_BYTES →
-    HasRead c.args.player.now.kind (reading g.R.Read.remaining g.R.Source.calls g.R.Source.failed c.args.reader.now c.read_once.new.self) (c.loop-reads.invariant.bytes ++ last)
-last_read g c last gave once few =
+-- the last read, where it gave nothing, and where it gave some
+read_nothing : (g : _) (c : After-finish g) → HasRead c.args.player.now.kind (reading g.R.Read.remaining g.R.Source.calls g.R.Source.failed c.args.reader.now c.read_once.new.self) c.loop-reads.invariant.bytes × IsAtEnd (g.R.Read.remaining c.read_once.new.self)
+read_nothing g c = let inv = c.loop-reads.invariant in (
+  rw append-nil at (read_on c.args.player.now.kind (reading g.R.Read.remaining g.R.Source.calls g.R.Source.failed c.args.reader.now c.read_once.new.self) c.loop-reads.reader inv.bytes [] inv.came (sym inv.stands.over_is ∙ inv.going) (rw c.if-count-eq0.true at c.in-Ok.ensures.bytes.0) c.in-Ok.ensures.called (omega arith)),
+  c.in-Ok.ensures.bytes.1 c.if-count-eq0.true (omega (arith, c.read_once.auto.buf, c.loop-reads.auto.chunk, c.requires.chunk)),
+)
+
+read_some : (g : _) (c : After-feed g) → HasRead c.args.player.now.kind (reading g.R.Read.remaining g.R.Source.calls g.R.Source.failed c.args.reader.now c.read_once.new.self) (c.loop-reads.invariant.bytes ++ take c.in-Ok.count c.read_once.new.buf)
+read_some g c =
     let inv = c.loop-reads.invariant in
-    record {
-      mid = c.loop-reads.reader;
-      earlier = inv.bytes;
-      last = last;
-      parts = refl;
-      came = inv.came;
-      going = sym (over-whole c.args.player.now.kind inv.bytes) ∙ sym inv.stands.over_is ∙ inv.going;
-      gave = gave;
-      once = once;
-      few = few;
-    }
+    read_on c.args.player.now.kind (reading g.R.Read.remaining g.R.Source.calls g.R.Source.failed c.args.reader.now c.read_once.new.self) c.loop-reads.reader inv.bytes (take c.in-Ok.count c.read_once.new.buf)
+    inv.came (sym inv.stands.over_is ∙ inv.going) c.in-Ok.ensures.bytes.0 c.in-Ok.ensures.called (omega (arith, sym c.in-Ok.ensures.bound.1, c.in-Ok.ensures.bound.0, c.read_once.auto.buf, c.loop-reads.auto.chunk, c.requires.chunk))
 
 pub returns-then-count-eq0-clause-played : goal.returns-then-count-eq0-clause-played
 returns-then-count-eq0-clause-played g c =
     let inv = c.loop-reads.invariant in
-    let none = gave_none (g.R.Read.remaining c.loop-reads.reader) (g.R.Read.remaining c.read_once.new.self) c.read_once.new.buf c.in-Ok.count c.if-count-eq0.true c.in-Ok.ensures.bytes.0 in
-    let read = rw append-nil at (last_read g (goal.at.returns-then-count-eq0-clause-played g c).After-read_once [] none c.in-Ok.ensures.called (omega arith)) in
-    let came = rw append-nil at (Consumes-trans (g.R.Read.remaining c.args.reader.now) (g.R.Read.remaining c.loop-reads.reader) (g.R.Read.remaining c.read_once.new.self) inv.bytes [] inv.came none) in
+    let read = read_nothing g (goal.at.returns-then-count-eq0-clause-played g c).After-finish in
     let stands = rw inv.kind at (c.in_ok-finish.ensures.ok c.args.world.now (after_bytes c.args.player.now.kind at_start inv.bytes) (g.W.Write.contents c.args.writer.now) inv.stands) in
-    rw c.summary.ensures (as_played _ _ _ _ _ _ _
-    (to_end g.D.Service.may g.F.Form.text c.args.player.now.kind c.args.world.now c.finish.new.world (reading g.R.Read.remaining g.R.Source.calls g.R.Source.failed c.args.reader.now c.read_once.new.self) (writing g.W.Write.contents g.W.Sink.failed c.args.writer.now c.finish.new.writer) inv.bytes came
-    c.finish.new.self read (c.in-Ok.ensures.bytes.1 c.if-count-eq0.true (omega (arith, c.read_once.auto.buf, c.loop-reads.auto.chunk, c.requires.chunk))) stands c.in_ok-finish.ensures.empty
-    (omega (arith, c.in-Ok.ensures.failed, inv.no_read_failed)) (c.in_ok-finish.ensures.unfailed ∙ inv.no_write_failed))
+    rw c.summary.ensures (as_played _ _ _ _ _ _ _ (to_end g.D.Service.may g.F.Form.text c.args.player.now.kind c.args.world.now c.finish.new.world _ _ inv.bytes
+    c.finish.new.self read.0 (inl read.1) stands c.in_ok-finish.ensures.empty (omega (arith, c.in-Ok.ensures.failed, inv.no_read_failed)) (c.in_ok-finish.ensures.unfailed ∙ inv.no_write_failed))
     (omega (arith, c.in-Ok.ensures.called, inv.reads, c.loop-reads-test.true)))
 
 pub returns-in_err-finish-clause-played : goal.returns-in_err-finish-clause-played
 returns-in_err-finish-clause-played g c =
     let inv = c.loop-reads.invariant in
+    let kind = c.args.player.now.kind in
     let fault = err_from_is_err_and c.from_residual.result c.from_residual.ensures.1 in
-    let none = gave_none (g.R.Read.remaining c.loop-reads.reader) (g.R.Read.remaining c.read_once.new.self) c.read_once.new.buf c.in-Ok.count c.if-count-eq0.true c.in-Ok.ensures.bytes.0 in
-    let read = rw append-nil at (last_read g (goal.at.returns-in_err-finish-clause-played g c).After-read_once [] none c.in-Ok.ensures.called (omega arith)) in
-    let came = rw append-nil at (Consumes-trans (g.R.Read.remaining c.args.reader.now) (g.R.Read.remaining c.loop-reads.reader) (g.R.Read.remaining c.read_once.new.self) inv.bytes [] inv.came none) in
-    let part = rw inv.kind at (c.in_err-finish.ensures.part c.args.world.now (after_bytes c.args.player.now.kind at_start inv.bytes) (g.W.Write.contents c.args.writer.now) inv.stands) in
-    rw (fault.1 ∙ ap Err (fault.2 ∙ c.in_err-finish.ensures.only)) (as_write_fault _ _ _ _ _ _
-    (to_write_fault_at_end g.D.Service.may g.F.Form.text c.args.player.now.kind c.args.world.now c.finish.new.world (reading g.R.Read.remaining g.R.Source.calls g.R.Source.failed c.args.reader.now c.read_once.new.self) (writing g.W.Write.contents g.W.Sink.failed c.args.writer.now c.finish.new.writer) inv.bytes came
-    g.D.Service.knows c.requires.knows g.D.Service.answers read (c.in-Ok.ensures.bytes.1 c.if-count-eq0.true (omega (arith, c.read_once.auto.buf, c.loop-reads.auto.chunk, c.requires.chunk))) part
+    let read = read_nothing g (goal.at.returns-in_err-finish-clause-played g c).After-finish in
+    let part = rw inv.kind at (c.in_err-finish.ensures.part c.args.world.now (after_bytes kind at_start inv.bytes) (g.W.Write.contents c.args.writer.now) inv.stands) in
+    rw (fault.1 ∙ ap Err (fault.2 ∙ c.in_err-finish.ensures.only)) (as_played _ _ _ _ _ _ (Err Write) (to_write_fault g.D.Service.may g.F.Form.text kind c.args.world.now c.finish.new.world _ _ inv.bytes
+    g.D.Service.knows c.requires.knows g.D.Service.answers _ read.0 (λ input left parts whole. ([], ap (λ (l : List ℕ). asked_by kind (lines l)) (whole read.1) ∙ sym (asked-all kind inv.bytes) ∙ sym (append-nil _))) part
     (omega (arith, c.in_err-finish.ensures.failed, inv.no_write_failed)) (omega (arith, c.in-Ok.ensures.failed, inv.no_read_failed)))
     (omega (arith, c.in-Ok.ensures.called, inv.reads, c.loop-reads-test.true)))
 
 pub returns-in_err-feed-clause-played : goal.returns-in_err-feed-clause-played
 returns-in_err-feed-clause-played g c =
     let inv = c.loop-reads.invariant in
-    let got : List ℕ = take c.in-Ok.count c.read_once.new.buf in
+    let kind = c.args.player.now.kind in
+    let got : List ℕ = inv.bytes ++ take c.in-Ok.count c.read_once.new.buf in
     let fault = err_from_is_err_and c.from_residual-in_err-feed.result c.from_residual-in_err-feed.ensures.1 in
-    let few : length got ≤ READ_BYTES = omega (arith, sym c.in-Ok.ensures.bound.1, c.in-Ok.ensures.bound.0, c.read_once.auto.buf, c.loop-reads.auto.chunk, c.requires.chunk) in
-    let read = last_read g (goal.at.returns-in_err-feed-clause-played g c).After-read_once got c.in-Ok.ensures.bytes.0 c.in-Ok.ensures.called few in
-    let part = rw inv.kind at (c.in_err-feed.ensures.part c.args.world.now (after_bytes c.args.player.now.kind at_start inv.bytes) (g.W.Write.contents c.args.writer.now) inv.stands) in
-    rw (fault.1 ∙ ap Err (fault.2 ∙ c.in_err-feed.ensures.only)) (as_write_fault _ _ _ _ _ _
-    (to_write_fault g.D.Service.may g.F.Form.text c.args.player.now.kind c.args.world.now c.feed.new.world (reading g.R.Read.remaining g.R.Source.calls g.R.Source.failed c.args.reader.now c.read_once.new.self) (writing g.W.Write.contents g.W.Sink.failed c.args.writer.now c.feed.new.writer) (inv.bytes ++ got)
-    (Consumes-trans (g.R.Read.remaining c.args.reader.now) (g.R.Read.remaining c.loop-reads.reader) (g.R.Read.remaining c.read_once.new.self) inv.bytes got inv.came c.in-Ok.ensures.bytes.0)
-    g.D.Service.knows c.requires.knows g.D.Service.answers read
-    (rw (after_bytes-append c.args.player.now.kind at_start inv.bytes got) part)
-    (omega (arith, c.in_err-feed.ensures.failed, inv.no_write_failed)) (omega (arith, c.in-Ok.ensures.failed, inv.no_read_failed)))
+    let part = rw inv.kind at (c.in_err-feed.ensures.part c.args.world.now (after_bytes kind at_start inv.bytes) (g.W.Write.contents c.args.writer.now) inv.stands) in
+    rw (fault.1 ∙ ap Err (fault.2 ∙ c.in_err-feed.ensures.only)) (as_played _ _ _ _ _ _ (Err Write) (to_write_fault g.D.Service.may g.F.Form.text kind c.args.world.now c.feed.new.world _ _ got
+    g.D.Service.knows c.requires.knows g.D.Service.answers (after_bytes kind at_start got) (read_some g (goal.at.returns-in_err-feed-clause-played g c).After-feed) (λ input left parts whole. asked_begins kind input got left parts)
+    (rw after_bytes-append part) (omega (arith, c.in_err-feed.ensures.failed, inv.no_write_failed)) (omega (arith, c.in-Ok.ensures.failed, inv.no_read_failed)))
     (omega (arith, c.in-Ok.ensures.called, inv.reads, c.loop-reads-test.true)))
 
 -- where the player stands after the bytes that were read
@@ -110,19 +101,18 @@ fed : (g : _) (c : After-is_over g) →
     Stands g.D.Service.may g.F.Form.text c.args.world.now c.feed.new.world c.feed.new.self (after_bytes c.args.player.now.kind at_start (c.loop-reads.invariant.bytes ++ take c.in-Ok.count c.read_once.new.buf)) (g.W.Write.contents c.args.writer.now) (g.W.Write.contents c.feed.new.writer)
 fed g c =
     let inv = c.loop-reads.invariant in
-    rw (after_bytes-append c.args.player.now.kind at_start inv.bytes (take c.in-Ok.count c.read_once.new.buf))
-    (rw inv.kind at (c.in_ok-feed.ensures.ok c.args.world.now (after_bytes c.args.player.now.kind at_start inv.bytes) (g.W.Write.contents c.args.writer.now) inv.stands))
+    rw after_bytes-append (rw inv.kind at (c.in_ok-feed.ensures.ok c.args.world.now (after_bytes c.args.player.now.kind at_start inv.bytes) (g.W.Write.contents c.args.writer.now) inv.stands))
 
 pub returns-then-is_over-clause-played : goal.returns-then-is_over-clause-played
 returns-then-is_over-clause-played g c =
     let inv = c.loop-reads.invariant in
-    let got : List ℕ = take c.in-Ok.count c.read_once.new.buf in
-    let few : length got ≤ READ_BYTES = omega (arith, sym c.in-Ok.ensures.bound.1, c.in-Ok.ensures.bound.0, c.read_once.auto.buf, c.loop-reads.auto.chunk, c.requires.chunk) in
-    rw c.summary-then-is_over.ensures (as_played _ _ _ _ _ _ _
-    (to_quit g.D.Service.may g.F.Form.text c.args.player.now.kind c.args.world.now c.feed.new.world (reading g.R.Read.remaining g.R.Source.calls g.R.Source.failed c.args.reader.now c.read_once.new.self) (writing g.W.Write.contents g.W.Sink.failed c.args.writer.now c.feed.new.writer) (inv.bytes ++ got)
-    (Consumes-trans (g.R.Read.remaining c.args.reader.now) (g.R.Read.remaining c.loop-reads.reader) (g.R.Read.remaining c.read_once.new.self) inv.bytes got inv.came c.in-Ok.ensures.bytes.0)
-    c.feed.new.self (last_read g (goal.at.returns-then-is_over-clause-played g c).After-read_once got c.in-Ok.ensures.bytes.0 c.in-Ok.ensures.called few)
-    (let over : c.feed.new.self.over ≡ true = cc in over) (fed g (goal.at.returns-then-is_over-clause-played g c).After-is_over) c.in_ok-feed.ensures.empty
+    let kind = c.args.player.now.kind in
+    let got : List ℕ = inv.bytes ++ take c.in-Ok.count c.read_once.new.buf in
+    let stands = fed g (goal.at.returns-then-is_over-clause-played g c).After-is_over in
+    let quit : c.feed.new.self.over ≡ true = cc in
+    let over = sym stands.over_is ∙ quit in
+    rw c.summary-then-is_over.ensures (as_played _ _ _ _ _ _ _ (to_end g.D.Service.may g.F.Form.text kind c.args.world.now c.feed.new.world _ _ got
+    c.feed.new.self (read_some g (goal.at.returns-then-is_over-clause-played g c).After-feed) (inr over) (rw (after_end-over kind (after_bytes kind at_start got) over) stands) c.in_ok-feed.ensures.empty
     (omega (arith, c.in-Ok.ensures.failed, inv.no_read_failed)) (c.in_ok-feed.ensures.unfailed ∙ inv.no_write_failed))
     (omega (arith, c.in-Ok.ensures.called, inv.reads, c.loop-reads-test.true)))
 
@@ -146,16 +136,11 @@ loop-reads-preserved g c =
       no_write_failed = c.in_ok-feed.ensures.unfailed ∙ inv.no_write_failed;
     }
 
+not_memory : (r : Result Summary Fault) (f : Fault) → r ≡ Err f → f ≡ Write → r ≢ Err Memory
+not_memory r f is write memory = absurd (let same : Err Write ≡ Err Memory = sym (is ∙ ap Err write) ∙ memory in cc)
+
 pub returns-in_err-finish-clause-never : goal.returns-in_err-finish-clause-never
-returns-in_err-finish-clause-never g c = λ e.
-    let fault = err_from_is_err_and c.from_residual.result c.from_residual.ensures.1 in
-    let only = c.in_err-finish.ensures.only in
-    let same = fault.1 ∙ ap Err (fault.2 ∙ only) in
-    cc
+returns-in_err-finish-clause-never g c = let fault = err_from_is_err_and c.from_residual.result c.from_residual.ensures.1 in not_memory _ _ fault.1 (fault.2 ∙ c.in_err-finish.ensures.only)
 
 pub returns-in_err-feed-clause-never : goal.returns-in_err-feed-clause-never
-returns-in_err-feed-clause-never g c = λ e.
-    let fault = err_from_is_err_and c.from_residual-in_err-feed.result c.from_residual-in_err-feed.ensures.1 in
-    let only = c.in_err-feed.ensures.only in
-    let same = fault.1 ∙ ap Err (fault.2 ∙ only) in
-    cc
+returns-in_err-feed-clause-never g c = let fault = err_from_is_err_and c.from_residual-in_err-feed.result c.from_residual-in_err-feed.ensures.1 in not_memory _ _ fault.1 (fault.2 ∙ c.in_err-feed.ensures.only)

@@ -1,4 +1,4 @@
-use Rattle.std.proofs.Common.{◌∙◌, append_assoc}
+use Rattle.std.proofs.Common.{append_assoc}
 use Rattle.std.proofs.lemmas.Fmt.{decimal_digit}
 use Rattle.player.proofs.NumberLemmas.{decimal_two}
 use Rattle.player.proofs.print.put_small.Goals as goal

@@ -1,13 +1,20 @@
-use Rattle.std.proofs.Common.{◌≡◌, ◌+◌, ◌-◌, length, take, drop, sym, length-drop}
-use Rattle.std.proofs.Math.Seq.{take-length}
-use Rattle.player.proofs.WordLemmas.{pieces-at_end, pieces-no_end}
+use Rattle.std.proofs.Common.{[], ◌+◌, length, take, sym, ap, ◌∙◌, arith}
+use Rattle.std.proofs.lemmas.List.{take_all}
+use Rattle.std.proofs.lemmas.Bool.{eqb-true}
+use Rattle.player.specs.Lines.{pieces_from}
+use Rattle.player.proofs.PieceLemmas.{nowhere-lacks, parted_at, pieces-cut, pieces-last}
+use Rattle.player.proofs.QuickLemmas.{rest_of-slice}
 use Rattle.player.proofs.words.cut.Goals as goal
 
 pub returns-in-Some-clause-pieces : goal.returns-in-Some-clause-pieces
 returns-in-Some-clause-pieces c =
-    let bytes = c.args.bytes.now in let after = c.in-Some.at + 1 in
-    let rest : take (length bytes - after) (drop after bytes) ≡ drop after bytes = rw (sym (length-drop after bytes)) (take-length (drop after bytes)) in
-    rw rest (pieces-at_end c.args.separator bytes c.in-Some.at c.in-Some.ensures)
+    let by = c.args.separator in
+    let bytes = c.args.bytes.now in
+    let at = c.in-Some.at in
+    let first = c.in-Some.ensures in
+    rw (rest_of-slice bytes (at + 1)) (ap (pieces_from by []) (sym (parted_at bytes at by first.0.high (eqb-true _ _ first.1))) ∙ pieces-cut by [] (take at bytes) _ (nowhere-lacks by bytes at first.0.before))
 
 pub returns-in-None-clause-pieces : goal.returns-in-None-clause-pieces
-returns-in-None-clause-pieces c = pieces-no_end c.args.separator c.args.bytes.now c.in-None.ensures
+returns-in-None-clause-pieces c =
+    let bytes = c.args.bytes.now in
+    pieces-last c.args.separator [] bytes (rw (take_all (length bytes) bytes (omega arith)) at (nowhere-lacks c.args.separator bytes (length bytes) c.in-None.ensures))

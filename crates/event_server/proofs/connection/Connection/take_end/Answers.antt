@@ -16,19 +16,13 @@ pub returns-in-Ok-clause-takes : goal.returns-in-Ok-clause-takes
 returns-in-Ok-clause-takes g c =
     let came = take c.in-Ok.field-0 c.read_some.new.buf in
     let few : length came ≤ 65536 = search rules in
-    ([], refl, takes_fault (g.S.Stream.left c.args.self.now.stream) (g.S.Stream.left c.read_some.new.self) came c.args.self.now.wire c.fail.new.self few c.in-Ok.ensures.bytes.0 c.fail.ensures)
+    ([], refl, takes_fault _ _ came c.args.self.now.wire c.fail.new.self few c.in-Ok.ensures.bytes.0 c.fail.ensures)
 
 pub returns-in-Err-clause-takes : goal.returns-in-Err-clause-takes
-returns-in-Err-clause-takes g c =
-    let s = c.args.self.now.wire in
-    ([], refl, takes_no_end (g.S.Stream.left c.args.self.now.stream) (g.S.Stream.left c.read_some.new.self) s s (consumes_kept _ _ c.in-Err.ensures.bytes) refl)
+returns-in-Err-clause-takes g c = ([], refl, takes_no_end _ _ c.args.self.now.wire c.args.self.now.wire (consumes_kept _ _ c.in-Err.ensures.bytes) refl)
 
 pub returns-in-Err-2-clause-takes : goal.returns-in-Err-2-clause-takes
-returns-in-Err-2-clause-takes g c =
-    let s = c.args.self.now.wire in
-    ([], refl, takes_no_end (g.S.Stream.left c.args.self.now.stream) (g.S.Stream.left c.read_some.new.self) s s (consumes_kept _ _ c.in-Err-2.ensures.bytes) refl)
+returns-in-Err-2-clause-takes g c = ([], refl, takes_no_end _ _ c.args.self.now.wire c.args.self.now.wire (consumes_kept _ _ c.in-Err-2.ensures.bytes) refl)
 
 pub returns-in-Err-3-clause-takes : goal.returns-in-Err-3-clause-takes
-returns-in-Err-3-clause-takes g c =
-    let s = c.args.self.now.wire in
-    ([], refl, takes_fault (g.S.Stream.left c.args.self.now.stream) (g.S.Stream.left c.read_some.new.self) [] s c.fail-in-Err-3.new.self (omega arith) (consumes_kept _ _ c.in-Err-3.ensures.bytes) c.fail-in-Err-3.ensures)
+returns-in-Err-3-clause-takes g c = ([], refl, takes_fault _ _ [] c.args.self.now.wire c.fail-in-Err-3.new.self (omega arith) (consumes_kept _ _ c.in-Err-3.ensures.bytes) c.fail-in-Err-3.ensures)

@@ -11,7 +11,7 @@ returns-clause-takes g c =
     let same = c.hold.ensures.same in
     let s' : WireState = record { talker = c.self-2.inside.talker; inbox = c.self-2.inside.inbox.items; outbox = c.self-2.inside.outbox.items; ended = true; broken = c.self-2.inside.broken } in
     takes_end g.D.Service.may c.args.service.now c.finish.new.service s s' c.self.inside.talker c.finish.new.self c.args.replies.now c.finish.new.out
-    (ap (λ (q : WireState). q.talker) was) (sym (ap (λ (q : WireState). q.talker) is ∙ same.0)) c.requires.none c.requires.empty c.finish.ensures.says c.finish.ensures.kept
+    (ap (λ (q : WireState). q.talker) was) (sym (ap (λ (q : WireState). q.talker) is ∙ same.0)) c.requires.empty c.requires.none c.finish.ensures.says c.finish.ensures.kept
     (ap (λ (q : WireState). q.inbox) is ∙ same.1 ∙ ap (λ (q : WireState). q.inbox) was) refl
     (λ h.
     let held = c.hold.ensures.held (sym (ap (λ (q : WireState). q.broken) is) ∙ h) in

@@ -15,8 +15,8 @@ returns-clause-takes g c =
     let same = c.hold.ensures.same in
     let waits = ap (λ (q : WireState). q.inbox) was in
     let s' : WireState = record { talker = c.self-2.inside.talker; inbox = c.drop_front.new.bytes.items; outbox = c.self-2.inside.outbox.items; ended = c.self-2.inside.ended; broken = c.self-2.inside.broken } in
-    takes_said g.D.Service.may c.args.service.now c.take_some-taken.new.service s s' c.self.inside.talker c.take_some-taken.new.self c.args.bytes.now c.deref.result.now n c.args.replies.now c.take_some-taken.new.out
-    (ap (λ (q : WireState). q.talker) was) (sym (ap (λ (q : WireState). q.talker) is ∙ same.0)) (c.deref.ensures.value ∙ waits) c.requires.empty c.take_some-taken.ensures.says c.take_some-taken.ensures.kept
+    takes_said g.D.Service.may c.args.service.now c.take_some-taken.new.service s s' c.self.inside.talker c.take_some-taken.new.self c.args.replies.now c.take_some-taken.new.out
+    (ap (λ (q : WireState). q.talker) was) (sym (ap (λ (q : WireState). q.talker) is ∙ same.0)) c.requires.empty c.args.bytes.now c.deref.result.now n (c.deref.ensures.value ∙ waits) c.take_some-taken.ensures.says c.take_some-taken.ensures.kept
     (c.drop_front.ensures ∙ ap (λ l. drop n l) (ap (λ (q : WireState). q.inbox) is ∙ same.1 ∙ sym c.deref.ensures.value)) (ap (λ (q : WireState). q.ended) is ∙ same.2 ∙ ap (λ (q : WireState). q.ended) was)
     (λ h.
     let held = c.hold.ensures.held (sym (ap (λ (q : WireState). q.broken) is) ∙ h) in

@@ -22,8 +22,8 @@ returns-clause-takes g c =
     let le : n ≤ length (take few s.inbox) = subst (λ (l : List ℕ). n ≤ length l) first c.take_some-used.ensures.taken in
     let least : few ≡ min c.args.count (length s.inbox) = search rules in
     let count : take few s.inbox ≡ take c.args.count s.inbox = ap (λ (k : ℕ). take k s.inbox) least ∙ take_min c.args.count s.inbox in
-    takes_first g.D.Service.may c.args.service.now c.take_some-used.new.service s s' c.self.inside.talker c.take_some-used.new.self c.args.count few n c.args.replies.now c.take_some-used.new.out
-    (ap (λ (q : WireState). q.talker) was) (sym (ap (λ (q : WireState). q.talker) is ∙ same.0)) c.requires.empty
+    takes_first g.D.Service.may c.args.service.now c.take_some-used.new.service s s' c.self.inside.talker c.take_some-used.new.self c.args.replies.now c.take_some-used.new.out
+    (ap (λ (q : WireState). q.talker) was) (sym (ap (λ (q : WireState). q.talker) is ∙ same.0)) c.requires.empty c.args.count few n
     (subst (λ (l : List ℕ). Says g.D.Service.may turn_reply c.args.service.now c.self.inside.talker c.args.replies.now c.take_some-used.new.service c.take_some-used.new.self c.take_some-used.new.out (λ p. after_bytes c.self.inside.talker.kind p l)) cut c.take_some-used.ensures.says)
     le count c.take_some-used.ensures.kept
     (c.drop_front.ensures ∙ ap (λ l. drop n l) (ap (λ (q : WireState). q.inbox) is ∙ same.1 ∙ ap (λ (q : WireState). q.inbox) was)) (ap (λ (q : WireState). q.ended) is ∙ same.2 ∙ ap (λ (q : WireState). q.ended) was)

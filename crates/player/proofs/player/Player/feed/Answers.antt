@@ -5,7 +5,7 @@ use Rattle.player.specs.PlayerState.{PlayerState}
 use Rattle.player.specs.Progress.{after_bytes}
 use Rattle.player.specs.Stands.{Stands}
 use Rattle.player.proofs.ProgressLemmas.{after_bytes-pieces, grows_from}
-use Rattle.player.proofs.StandsLemmas.{part_of_more, stands_sent, stands_part}
+use Rattle.player.proofs.StandsLemmas.{stands_sent, stands_part}
 use Rattle.player.proofs.player.Player.feed.Goals as goal
 
 pub returns-in_err-make_room-clause-part : goal.returns-in_err-make_room-clause-part
@@ -15,8 +15,8 @@ returns-in_err-make_room-clause-part g c =
     let kind = c.args.self.now.kind in
     let so_far = after_bytes kind p (take c.loop-at.at c.args.chunk.now) in
     let grows = grows_from kind p c.args.chunk.now c.loop-at.at in
-    part_of_more g.D.Service.may g.F.Form.text start c.loop-at.world so_far (after_bytes kind p c.args.chunk.now) before (g.W.Write.contents c.make_room.new.writer) grows.0 grows.1
-    (stands_part g.D.Service.may g.F.Form.text start c.loop-at.world c.loop-at.self so_far before (g.W.Write.contents c.loop-at.writer) (g.W.Write.contents c.make_room.new.writer) (c.loop-at.invariant.stands start p before t) c.in_err-make_room.ensures.part))
+    stands_part g.D.Service.may g.F.Form.text start c.loop-at.world c.loop-at.self so_far (after_bytes kind p c.args.chunk.now) before (g.W.Write.contents c.loop-at.writer) (g.W.Write.contents c.make_room.new.writer) grows.0 grows.1
+    (c.loop-at.invariant.stands start p before t) c.in_err-make_room.ensures.part)
 
 pub loop-at-preserved : goal.loop-at-preserved
 loop-at-preserved g c =
@@ -58,6 +58,6 @@ returns-clause-part g c = on_err_weaker c.send.result
     let kind = c.args.self.now.kind in
     let so_far = after_bytes kind p (take c.loop-at.at c.args.chunk.now) in
     let grows = grows_from kind p c.args.chunk.now c.loop-at.at in
-    part_of_more g.D.Service.may g.F.Form.text start c.loop-at.world so_far (after_bytes kind p c.args.chunk.now) before (g.W.Write.contents c.send.new.writer) grows.0 grows.1
-    (stands_part g.D.Service.may g.F.Form.text start c.loop-at.world c.loop-at.self so_far before (g.W.Write.contents c.loop-at.writer) (g.W.Write.contents c.send.new.writer) (c.loop-at.invariant.stands start p before t) part))
+    stands_part g.D.Service.may g.F.Form.text start c.loop-at.world c.loop-at.self so_far (after_bytes kind p c.args.chunk.now) before (g.W.Write.contents c.loop-at.writer) (g.W.Write.contents c.send.new.writer) grows.0 grows.1
+    (c.loop-at.invariant.stands start p before t) part)
     c.send.ensures.part

@@ -1,3 +1,5 @@
+use Rattle.std.proofs.Common.{[], sym}
+use Rattle.std.proofs.lemmas.List.{append-nil}
 use Rattle.std.proofs.lemmas.Result.{on_err_weaker, on_ok_weaker}
 use Rattle.player.specs.Progress.{after_end}
 use Rattle.player.proofs.StandsLemmas.{stands_sent, stands_part}
@@ -10,5 +12,5 @@ returns-clause-ok g c = on_ok_weaker c.send.result
 
 pub returns-clause-part : goal.returns-clause-part
 returns-clause-part g c = on_err_weaker c.send.result
-    (λ part start p before t. stands_part g.D.Service.may g.F.Form.text start c.end_line.new.world c.end_line.new.self (after_end c.args.self.now.kind p) before (g.W.Write.contents c.args.writer.now) (g.W.Write.contents c.send.new.writer) (c.end_line.ensures.stands start p before (g.W.Write.contents c.args.writer.now) t) part)
+    (λ part start p before t. stands_part g.D.Service.may g.F.Form.text start c.end_line.new.world c.end_line.new.self _ (after_end c.args.self.now.kind p) before (g.W.Write.contents c.args.writer.now) (g.W.Write.contents c.send.new.writer) [] (sym (append-nil _)) (c.end_line.ensures.stands start p before (g.W.Write.contents c.args.writer.now) t) part)
     c.send.ensures.part

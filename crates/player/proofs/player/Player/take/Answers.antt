@@ -1,4 +1,4 @@
-use Rattle.std.proofs.Common.{ap, sym, subst, length, take}
+use Rattle.std.proofs.Common.{ap, sym, subst, take}
 use Rattle.commands.specs.declared.kind.WorldKind.{WorldKind}
 use Rattle.player.specs.PlayerState.{PlayerState}
 use Rattle.player.specs.Progress.{after_bytes}

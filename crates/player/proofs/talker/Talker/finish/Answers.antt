@@ -1,4 +1,4 @@
-use Rattle.std.proofs.Common.{◌≡◌, ◌∙◌, true, false, [], refl, sym, ap}
+use Rattle.std.proofs.Common.{◌≡◌, ◌∙◌, true, false, [], sym, ap}
 use Rattle.player.specs.Progress.{after_end, after_line}
 use Rattle.player.specs.Says.{Anywhere, GoingOn}
 use Rattle.player.specs.TalkerState.{TalkerState}

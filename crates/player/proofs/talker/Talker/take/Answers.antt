@@ -5,7 +5,7 @@ use Rattle.player.specs.Progress.{Progress, after_meaning, after_bytes}
 use Rattle.player.specs.Says.{Anywhere, GoingOn, Afresh}
 use Rattle.player.specs.TalkerState.{TalkerState}
 use Rattle.player.proofs.ProgressLemmas.{after_bytes-over}
-use Rattle.player.proofs.FirstLineLemmas.{means-none, after_bytes-first}
+use Rattle.player.proofs.FirstLineLemmas.{EndsLine, means-none, after_bytes-first}
 use Rattle.player.proofs.SpelledLemmas.{event-spelled}
 use Rattle.player.proofs.SaysLemmas.{says_after, says_nothing}
 use Rattle.player.proofs.talker.Talker.take.Goals as goal
@@ -43,12 +43,13 @@ returns-in-Some-Event-default-clause-says g c =
     let kind = ap (λ (q : TalkerState). q.kind) c.self.view_is in
     let first = rw kind at c.in-Some-Event-default.ensures in
     let means = rw c.in-Some-Event-default.field-0-0-is at first.means in
+    let line : EndsLine bytes end = record { inside = first.inside; lf = first.ends; none = means-none s.kind (take end bytes) (command.Event c.in-Some-Event-default.event) means } in
     says_after g.D.Service.may g.F.Form.text c.args.service.now c.answer_event.new.service s s c.answer_event.new.self c.args.out.now c.answer_event.new.out Anywhere Afresh
     (λ p. after_meaning p (Ok (command.Event c.in-Some-Event-default.event))) (λ p. after_bytes s.kind p (take (end + 1) bytes)) (λ p. p) c.answer_event.ensures.says
     (λ turns p t was.
     let on : p.over ≡ false = sym t.over_is ∙ sym (ap (λ (q : TalkerState). q.over) c.self.view_is) ∙ c.if-self.false in
     let empty : p.line ≡ [] = (c.is_empty.ensures p.line (ap (λ (q : TalkerState). q.line) c.self.view_is ∙ t.line_is)).0 c.if-is_empty.true in
-    (t, (on, empty), sym (after_bytes-first s.kind p bytes end _ on empty first.inside first.ends (means-none s.kind (take end bytes) (command.Event c.in-Some-Event-default.event) means) means)))
+    (t, (on, empty), sym (after_bytes-first s.kind p bytes end _ on empty line means)))
 
 pub returns-clause-says : goal.returns-clause-says
 returns-clause-says g c =

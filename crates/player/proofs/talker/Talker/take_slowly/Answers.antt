@@ -1,6 +1,5 @@
-use Rattle.std.proofs.Common.{◌≡◌, ◌∙◌, ◌++◌, ◌+◌, ◌<◌, true, [], refl, ap, sym, length, take, get_or, arith, subst}
+use Rattle.std.proofs.Common.{◌≡◌, ◌∙◌, ◌++◌, ◌+◌, true, [], ap, sym, length, take, arith, subst}
 use Rattle.std.proofs.lemmas.List.{take_all}
-use Rattle.std.proofs.lemmas.Bool.{eqb-true}
 use Rattle.commands.specs.declared.kind.WorldKind.{WorldKind}
 use Rattle.player.specs.HeldLine.{HeldLine, held}
 use Rattle.player.specs.Lines.{has_no_lf}
@@ -8,7 +7,8 @@ use Rattle.player.specs.Meaning.{meaning}
 use Rattle.player.specs.Progress.{with_line, after_meaning, after_line, after_bytes}
 use Rattle.player.specs.Says.{SaysFrom, GoingOn, Afresh}
 use Rattle.player.specs.TalkerState.{TalkerState}
-use Rattle.player.proofs.FirstLineLemmas.{nowhere-none, after_bytes-part, after_bytes-whole, after_bytes-first}
+use Rattle.player.proofs.PieceLemmas.{nowhere-lacks}
+use Rattle.player.proofs.FirstLineLemmas.{found-line, after_bytes-part, after_bytes-whole, after_bytes-first}
 use Rattle.player.proofs.SaysLemmas.{spoke_with_line, says_after, says_nothing}
 use Rattle.player.proofs.talker.Talker.take_slowly.Goals as goal
 
@@ -17,7 +17,7 @@ returns-in_default-clause-says g c =
     let s = c.args.self.now in
     let bytes = c.args.bytes.now in
     let all : take (length bytes) bytes ≡ bytes = take_all (length bytes) bytes (omega arith) in
-    let none : has_no_lf bytes ≡ true = rw all at (nowhere-none bytes (length bytes) c.in_default.ensures) in
+    let none : has_no_lf bytes ≡ true = rw all at (nowhere-lacks 10 bytes (length bytes) c.in_default.ensures) in
     let longer : TalkerState = record { kind = c.self.inside.kind; line = c.extend.new.self; summary = c.self.inside.summary; over = c.self.inside.over } in
     says_nothing g.D.Service.may g.F.Form.text c.args.service.now s longer c.args.out.now GoingOn (λ p. after_bytes s.kind p (take (length bytes) bytes))
     (λ turns p t on.
@@ -35,29 +35,23 @@ answer-requires-clause-knows g c = λ q is.
 pub returns-then-is_empty-clause-says : goal.returns-then-is_empty-clause-says
 returns-then-is_empty-clause-says g c =
     let s = c.args.self.now in
-    let first = c.in-Some.ensures in
     let bytes = c.args.bytes.now in
     let end = c.in-Some.end in
-    let below : end < length bytes = first.0.high in
-    let none = nowhere-none bytes end first.0.before in
-    let lf : get_or bytes end 0 ≡ 10 = eqb-true _ _ first.1 in
+    let line = found-line bytes end c.in-Some.ensures in
     let kind = ap (λ (q : TalkerState). q.kind) c.self.view_is in
     let is : meaning s.kind (take end bytes) ≡ c.parse_line-meaning.result = ap (λ k. meaning k (take end bytes)) (sym kind) ∙ sym c.parse_line-meaning.ensures in
     says_after g.D.Service.may g.F.Form.text c.args.service.now c.answer.new.service s s c.answer.new.self c.args.out.now c.answer.new.out GoingOn Afresh
     (λ p. after_meaning p c.parse_line-meaning.result) (λ p. after_bytes s.kind p (take (end + 1) bytes)) (λ p. p) c.answer.ensures.says
     (λ turns p t on.
     let empty : p.line ≡ [] = (c.is_empty.ensures p.line (ap (λ (q : TalkerState). q.line) c.self.view_is ∙ t.line_is)).0 c.if-is_empty.true in
-    (t, (on, empty), sym (after_bytes-first s.kind p bytes end c.parse_line-meaning.result on empty below lf none is)))
+    (t, (on, empty), sym (after_bytes-first s.kind p bytes end c.parse_line-meaning.result on empty line is)))
 
 pub returns-clause-says : goal.returns-clause-says
 returns-clause-says g c =
     let s = c.args.self.now in
-    let first = c.in-Some.ensures in
     let bytes = c.args.bytes.now in
     let end = c.in-Some.end in
-    let below : end < length bytes = first.0.high in
-    let none = nowhere-none bytes end first.0.before in
-    let lf : get_or bytes end 0 ≡ 10 = eqb-true _ _ first.1 in
+    let line = found-line bytes end c.in-Some.ensures in
     let kind = ap (λ (q : TalkerState). q.kind) c.self.view_is in
     let longer : TalkerState = record { kind = c.self.inside.kind; line = c.extend-2.new.self; summary = c.self.inside.summary; over = c.self.inside.over } in
     says_after g.D.Service.may g.F.Form.text c.args.service.now c.answer_line.new.service s longer c.answer_line.new.self c.args.out.now c.answer_line.new.out GoingOn GoingOn
@@ -67,7 +61,7 @@ returns-clause-says g c =
     let extended = ap (λ (l : HeldLine). let q : TalkerState = record { kind = c.self.inside.kind; line = l; summary = c.self.inside.summary; over = c.self.inside.over } in q) more in (
       spoke_with_line turns s longer p (p.line ++ take end bytes) t (extended ∙ ap (λ (q : TalkerState). let r : TalkerState = record q { line = held (p.line ++ take end bytes) } in r) c.self.view_is),
       on,
-      sym (after_bytes-whole s.kind p bytes end on below lf none),
+      sym (after_bytes-whole s.kind p bytes end on line),
     ))
 
 pub answer_line-requires-clause-knows : goal.answer_line-requires-clause-knows

@@ -1,4 +1,4 @@
-use Rattle.std.proofs.Common.{◌≡◌, ◌∙◌, ◌+◌, ◌-◌, ◌≤◌, refl, sym, arith, take, drop, length, subst}
+use Rattle.std.proofs.Common.{◌∙◌, ◌+◌, ◌-◌, refl, sym, arith, take, drop, length, subst}
 use Rattle.commands.specs.declared.kind.WorldKind.{WorldKind}
 use Rattle.player.specs.Progress.{after_bytes}
 use Rattle.player.specs.Says.{Says, Anywhere}
@@ -23,18 +23,18 @@ loop-at-preserved g c =
     let n = c.take-at.result in
     let said = subst (λ (k : WorldKind). Says g.D.Service.may g.F.Form.text c.loop-at.service c.loop-at.self c.loop-at.out c.take-at.new.service c.take-at.new.self c.take-at.new.out (λ p. after_bytes k p (take n (take (length bytes - at) (drop at bytes))))) c.loop-at.invariant.kind c.take-at.ensures.says in
     record {
-      inside = omega (arith, c.take-at.ensures.taken);
+      inside = omega (arith, c.take-at.ensures.line.inside);
       says = says_then g.D.Service.may g.F.Form.text c.args.service.now c.loop-at.service c.take-at.new.service c.args.self.now c.loop-at.self c.take-at.new.self c.args.out.now c.loop-at.out c.take-at.new.out
           (λ p. after_bytes kind p (take at bytes)) (λ p. after_bytes kind p (take n (take (length bytes - at) (drop at bytes)))) (λ p. after_bytes kind p (take (at + n) bytes))
           c.loop-at.invariant.says said (λ p. sym (after_bytes-pieces kind p bytes at n));
-      kind = c.take-at.ensures.kept ∙ c.loop-at.invariant.kind;
+      kind = c.take-at.ensures.line.kept ∙ c.loop-at.invariant.kind;
       within =
-          (let longer = c.take-at.ensures.longer in
+          (let longer = c.take-at.ensures.line.longer in
           let roomy = c.loop-at-test.true in
           λ h. omega arith);
       counted =
-          (let more = c.take-at.ensures.counted in
+          (let more = c.take-at.ensures.line.counted in
           let before = c.loop-at.invariant.counted in
-          let some = c.take-at.ensures.taken.0 in
+          let some = c.take-at.ensures.line.some in
           omega arith);
     }

@@ -1,7 +1,8 @@
 use Rattle.std.proofs.Common.{refl}
-use Rattle.run_checker.proofs.Common.{option_copied, Keeps}
+use Rattle.std.specs.Option.{option_copied}
 use Rattle.commands.specs.declared.event.Event.TheVariants as event
 use Rattle.record_lines.specs.declared.told.Told.TheVariants as told
+use Rattle.run_checker.specs.Reasons.{Keeps}
 use Rattle.run_checker.proofs.Judging.{for_all, none_due}
 use Rattle.run_checker.proofs.checker.Checker.name.Goals as goal
 
