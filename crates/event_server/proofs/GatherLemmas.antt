@@ -1,11 +1,8 @@
 -- what is gathered of connections before their lines are taken
 use Rattle.std.proofs.Common.{◌≡◌, inl, inr, ℕ, ◌<◌, false, set, List, [], ◌++◌, length, get_or, Option, Some, None, refl, sym, ap, subst, ◌∙◌, append_assoc}
-use Rattle.std.proofs.lemmas.List.{append-nil, get_or-set_same, get_or-set_other, length-set}
-use Rattle.std.proofs.lemmas.Bool.{cases_eq}
-use Rattle.std.specs.Io.KnownBytes.{Consumes}
+use Rattle.event_server.proofs.Common.{append-nil, get_or-set_same, get_or-set_other, length-set, cases_eq, Consumes, WireState}
 use Rattle.std.proofs.KnownBytes.{Consumes-nil, Consumes-trans}
 use Rattle.event_server.specs.Seats.{Seating, NoneSent}
-use Rattle.event_server.specs.WireState.{WireState}
 use Rattle.event_server.specs.Gathering.{GathersOf, SeatGathers, Gathered}
 
 -- these bytes came, and wait where it is at no fault

@@ -1,3 +1,4 @@
+mod Common
 mod WireLemmas
 mod SeatLemmas
 mod GatherLemmas

@@ -1,9 +1,8 @@
 -- the lines of what is looked at, one after another
 use Rattle.std.proofs.Common.{◌≡◌, ℕ, ◌+◌, ◌-◌, ◌<◌, ◌==◌, cond, not, Bool, true, false, List, [], ◌∷◌, ◌++◌, length, take, drop, get_or, Some, None, refl, sym, ap, subst, ◌∙◌, arith, append_assoc}
+use Rattle.event_server.proofs.Common.{take-add, WorldKind}
 use Rattle.std.proofs.lemmas.List.{append-nil, length-drop, take_more, take_all, take-append-drop}
 use Rattle.std.proofs.lemmas.Bool.{eqb-true, and_parts, not-true}
-use Rattle.std.proofs.Math.Seq.{take-add}
-use Rattle.commands.specs.declared.kind.WorldKind.{WorldKind}
 use Rattle.memchr.specs.Find.{IsFirstByte, is_byte}
 use Rattle.player.specs.Lines.{has_no_lf, lines, rest_from, rest_of, unless_empty, whole_lines, whole_lines_from, with_ends}
 use Rattle.player.specs.Meaning.{meaning}

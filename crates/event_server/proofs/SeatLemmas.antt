@@ -1,15 +1,8 @@
 -- one connection's turn after another
 use Rattle.std.proofs.Common.{◌≡◌, inl, inr, ℕ, ◌<◌, set, List, [], ◌++◌, length, get_or, Option, Some, None, refl, sym, ap, subst, ◌∙◌}
-use Rattle.std.proofs.lemmas.List.{append-nil, get_or-set_same, get_or-set_other, length-set}
-use Rattle.std.proofs.lemmas.Bool.{cases_eq, eq-eqb, ne_eqb}
+use Rattle.event_server.proofs.Common.{append-nil, get_or-set_same, get_or-set_other, length-set, cases_eq, eq-eqb, ne_eqb, ShownReply, Request, Runs, runs-append, all-append, all-tagged, of-append, of-same, of-other, Turn}
 use Rattle.std.proofs.KnownBytes.{Consumes-nil, Appends-nil}
-use Rattle.commands.specs.Replies.{ShownReply}
-use Rattle.commands.specs.Requests.{Request}
-use Rattle.player.specs.Runs.{Runs}
-use Rattle.player.specs.RunProofs.{runs-append}
 use Rattle.player.specs.Shared.{TurnLog, turns_of, all_turns, tagged}
-use Rattle.player.specs.SharedProofs.{all-append, all-tagged, of-append, of-same, of-other}
-use Rattle.player.specs.Turns.{Turn}
 use Rattle.event_server.specs.Seats.{Seating, SeatTakes, SeatSends, SeatTurn, SeatSent, TurnsTaken, RepliesSent}
 use Rattle.event_server.specs.Wires.{TakesOf, SendsTo}
 use Rattle.event_server.proofs.WireLemmas.{takes_idle}

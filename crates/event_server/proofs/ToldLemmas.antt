@@ -1,21 +1,10 @@
 -- what is told of seats, one after another, and taken of them
 use Rattle.std.proofs.Common.{◌≡◌, ◌⊎◌, inl, inr, ℕ, zero, suc, ◌+◌, ◌<◌, ◌≤◌, cond, Bool, true, false, set, List, [], ◌∷◌, ◌++◌, length, take, get_or, Option, Some, None, refl, sym, ap, subst, ◌∙◌, arith}
+use Rattle.event_server.proofs.Common.{WorldKind, ShownReply, Request, with_ends, Runs, TurnLog, turns_of, tagged, all-append, all-tagged, of-append, of-same, of-other, Turn, Seating, WireState, TakesLooked, Look}
 use Rattle.std.proofs.lemmas.List.{append-nil, get_or-set_same, get_or-set_other, get_or-take, length-take-le}
 use Rattle.std.proofs.lemmas.Bool.{cases_eq, eq-eqb, ne_eqb, cases_Bool}
-use Rattle.commands.specs.declared.kind.WorldKind.{WorldKind}
-use Rattle.commands.specs.Replies.{ShownReply}
-use Rattle.commands.specs.Requests.{Request}
-use Rattle.player.specs.Lines.{with_ends}
-use Rattle.player.specs.Runs.{Runs}
-use Rattle.player.specs.Shared.{TurnLog, turns_of, tagged}
-use Rattle.player.specs.SharedProofs.{all-append, all-tagged, of-append, of-same, of-other}
-use Rattle.player.specs.Turns.{Turn}
 use Rattle.event_server.specs.Gathering.{SeatGathers, Gathered, SeatIdle, SeatAsks, SeatBroken, SeatLooked, Told, SeatTakesLooked, SeatTurnLooked, TakenLooked, SeatToldAndTakes}
-use Rattle.event_server.specs.Seats.{Seating}
 use Rattle.event_server.specs.Told.{SeatLines, EndsWith, IsAmong, all_lines, asks_of, bytes_of, ends_of, lines_of, long_of, requests, requests_in, requests_seen}
-use Rattle.event_server.specs.WireState.{WireState}
-use Rattle.event_server.specs.Wires.{TakesLooked}
-use Rattle.event_server.specs.declared.look.Look.{Look}
 use Rattle.event_server.proofs.LookLemmas.{ends_append, behind_none}
 use Rattle.event_server.proofs.SeatLemmas.{Going, seat_took}
 

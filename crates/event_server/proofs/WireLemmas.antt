@@ -1,23 +1,15 @@
 -- what a wire takes
 use Rattle.std.proofs.Common.{◌≡◌, ◌≤◌, ℕ, length, true, false, Bool, List, [], ◌∷◌, ◌++◌, ◌||◌, take, drop, Option, Some, None, refl, sym, ap, subst, ◌∙◌, arith, append_assoc}
+use Rattle.event_server.proofs.Common.{Consumes-nil, ShownReply, Request, WorldKind, Runs, Turn, WireState, bytes_of, Look}
 use Rattle.std.proofs.lemmas.Grind.{flat_map-append}
 use Rattle.std.proofs.lemmas.List.{append-nil, take-append-drop, take-append-le}
 use Rattle.std.specs.Io.KnownBytes.{Consumes, IsAtEnd, Keeps}
-use Rattle.std.proofs.KnownBytes.{Consumes-nil}
-use Rattle.commands.specs.Replies.{ShownReply}
-use Rattle.commands.specs.Requests.{Request}
-use Rattle.commands.specs.declared.kind.WorldKind.{WorldKind}
 use Rattle.player.specs.Progress.{Progress, after_bytes, after_end}
-use Rattle.player.specs.Runs.{Runs}
 use Rattle.player.specs.Says.{Says, Spoke}
 use Rattle.player.specs.Texts.{turn_reply, replies_of}
 use Rattle.player.specs.TalkerState.{TalkerState}
-use Rattle.player.specs.Turns.{Turn}
 use Rattle.player.proofs.ProgressLemmas.{after_bytes-append}
-use Rattle.event_server.specs.WireState.{WireState}
-use Rattle.event_server.specs.Told.{bytes_of}
 use Rattle.event_server.specs.Wires.{Takes, TakesEnd, TakesFirst, TakesLooked, TakesOf, after_taken}
-use Rattle.event_server.specs.declared.look.Look.{Look}
 
 pub or_false : (b : Bool) → b ≡ (b || false)
 or_false true = refl

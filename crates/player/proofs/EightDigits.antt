@@ -1,12 +1,10 @@
 -- eight digits that are read as one word
 use Rattle.std.proofs.Common.{◌≡◌, ℕ, zero, suc, ◌+◌, ◌-◌, ◌*◌, ◌/◌, ◌%◌, ◌^◌, ◌<◌, ◌≤◌, bit_and, true, List, [], ◌∷◌, ◌++◌, map, length, take, get_or, refl, sym, ap, ◌∙◌, arith}
-use Rattle.std.specs.List.{list_all}
-use Rattle.std.proofs.lemmas.Bool.{and_from}
+use Rattle.player.proofs.Common.{list_all, and_from, is_digit, decimal_from}
 use Rattle.std.proofs.lemmas.Nat.{and_block, and_mask, and_le_l}
 use Rattle.std.proofs.lemmas.Nat.Bits.{and_high}
 use Rattle.std.proofs.Math.Nat.{mod-eq_of_lt}
 use Rattle.player.specs.Digits.{DigitsSoFar, IsNumberOf, number_from, word_of}
-use Rattle.player.specs.Meaning.{is_digit, decimal_from}
 use Rattle.player.proofs.QuickLemmas.{digit_in_range}
 
 -- ---- the number of eight digits

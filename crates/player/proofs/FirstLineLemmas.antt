@@ -1,18 +1,7 @@
 -- the first line of some bytes, and what a run makes of it
-use Rattle.std.proofs.Common.{◌≡◌, ℕ, ◌+◌, ◌<◌, ◌==◌, true, false, cond, not, List, [], ◌∷◌, ◌++◌, length, take, get_or, Some, Ok, Err, Result, refl, ap, ◌∙◌, arith, append_assoc}
-use Rattle.std.specs.List.{list_all}
-use Rattle.std.proofs.lemmas.List.{append-nil, take_more}
-use Rattle.commands.specs.declared.bad.Bad.{Bad}
-use Rattle.commands.specs.declared.command.Command.{Command}
-use Rattle.commands.specs.declared.kind.WorldKind.{WorldKind}
-use Rattle.std.proofs.lemmas.Bool.Decides.{nat_tests}
-use Rattle.std.specs.Prelude.{nat_lt}
-use Rattle.std.proofs.lemmas.Bool.{and_parts, eqb-true, not-true, not_from_false}
-use Rattle.commands.specs.declared.bad.Bad.TheVariants.{TooLong, NotPrintable}
-use Rattle.player.specs.Meaning.{meaning, is_printable, command_in, words}
-use Rattle.player.specs.Progress.{Progress, with_line, after_meaning, after_line, after_bytes}
+use Rattle.std.proofs.Common.{◌≡◌, ℕ, ◌+◌, ◌<◌, ◌==◌, true, false, cond, not, List, [], ◌∷◌, ◌++◌, length, take, get_or, Some, Ok, Err, Result, refl, ap, ◌∙◌, arith, append_assoc, nat_lt}
+use Rattle.player.proofs.Common.{list_all, append-nil, take_more, Bad, Command, WorldKind, nat_tests, and_parts, eqb-true, not-true, not_from_false, TooLong, NotPrintable, meaning, is_printable, command_in, words, Progress, with_line, after_meaning, after_line, after_bytes, has_no_lf}
 use Rattle.player.proofs.ProgressLemmas.{after_bytes-append}
-use Rattle.player.specs.Lines.{has_no_lf}
 use Rattle.player.proofs.PieceLemmas.{nowhere-lacks, passes_too}
 use Rattle.memchr.specs.Find.{IsFirstByte, is_byte}
 

@@ -1,23 +1,11 @@
 -- turns that were taken go on to all that was asked
 use Rattle.std.proofs.Common.{◌≡◌, ℕ, Bool, true, false, cond, List, [], ◌∷◌, ◌++◌, map, Result, Ok, Err, refl, sym, ap, subst, ◌∙◌}
-use Rattle.std.proofs.lemmas.List.{map-append}
-use Rattle.commands.specs.declared.bad.Bad.{Bad}
-use Rattle.commands.specs.declared.command.Command.{Command}
+use Rattle.player.proofs.Common.{map-append, Bad, Command, WorldKind, ShownReply, Turn, asked, Answered, Told, Ended, Misread, asked_by, meaning, ends, Request, Runs, CanRun, runs-append}
 use Rattle.commands.specs.declared.command.Command.TheVariants as command
-use Rattle.commands.specs.declared.kind.WorldKind.{WorldKind}
 use Rattle.commands.specs.declared.exchange.Exchange.{Exchange}
-use Rattle.commands.specs.Replies.{ShownReply}
-use Rattle.player.specs.Turns.{Turn, asked}
-use Rattle.player.specs.Turns.Turn.{Answered, Told, Ended, Misread}
-use Rattle.player.specs.Asked.{asked_by}
 use Rattle.player.specs.Knows.{Knows, KnowsMeant}
-use Rattle.player.specs.Meaning.{meaning}
-use Rattle.player.specs.Progress.{ends}
 use Rattle.player.proofs.ProgressLemmas.{until_first}
-use Rattle.commands.specs.Requests.{Request}
 use Rattle.commands.specs.Requests.Request.{Take, OwnerOf}
-use Rattle.player.specs.Runs.{Runs, CanRun}
-use Rattle.player.specs.RunProofs.{runs-append}
 
 -- each request that is asked for is known
 abbrev AllKnown : (Request → Bool) → List (Result Command Bad) → Type 0

@@ -1,9 +1,7 @@
 -- one byte more of a held line
 use Rattle.std.proofs.Common.{◌≡◌, ℕ, ◌<◌, ◌≤◌, true, false, List, [], ◌∷◌, ◌++◌, length, take, sym, ap, ◌∙◌, inl, inr, arith, length-append}
-use Rattle.std.proofs.lemmas.List.{take-append-le, length-take-le}
+use Rattle.player.proofs.Common.{take-append-le, length-take-le, leb_tells, HeldLine, held}
 use Rattle.std.proofs.Math.Seq.{take-length}
-use Rattle.std.proofs.lemmas.Bool.Decides.{leb_tells}
-use Rattle.player.specs.HeldLine.{HeldLine, held}
 
 pub held-short : (line : List ℕ) → length line ≤ 100 → held line ≡ record { kept = line; too_long = false }
 held-short line le =

@@ -1,3 +1,4 @@
+mod Common
 mod HeldLineLemmas
 mod NumberLemmas
 mod WordLemmas

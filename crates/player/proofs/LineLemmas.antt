@@ -1,10 +1,7 @@
 -- bytes are cut into their lines
 use Rattle.std.proofs.Common.{◌≡◌, ℕ, ◌==◌, true, false, not, List, [], ◌∷◌, ◌++◌, inl, inr, refl, sym, ap, subst, ◌∙◌, append_assoc}
-use Rattle.std.specs.List.{list_all}
-use Rattle.std.proofs.lemmas.List.{append-nil}
+use Rattle.player.proofs.Common.{list_all, append-nil, eqb_tells, and_parts, not-true}
 use Rattle.std.proofs.lemmas.List.Folds.{list_all-append}
-use Rattle.std.proofs.lemmas.Bool.Decides.{eqb_tells}
-use Rattle.std.proofs.lemmas.Bool.{and_parts, not-true}
 use Rattle.player.specs.Lines.{whole_lines, whole_lines_from, rest_from, rest_of, has_no_lf, with_ends, IsCutInto}
 
 no_lf-push : (line : List ℕ) (b : ℕ) → has_no_lf line ≡ true → (b == 10) ≡ false → has_no_lf (line ++ b ∷ []) ≡ true

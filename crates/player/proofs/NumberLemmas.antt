@@ -1,9 +1,7 @@
 -- numbers that digits write
 use Rattle.std.proofs.Common.{◌≡◌, ℕ, ◌+◌, ◌-◌, ◌*◌, ◌/◌, ◌%◌, ◌<◌, ◌≤◌, length, get_or, drop, ap, ◌∙◌, ◌++◌, List, [], ◌∷◌, Some, None, decimal, arith}
-use Rattle.std.proofs.lemmas.Fmt.{decimal_digit, decimal_step}
-use Rattle.std.proofs.lemmas.Bool.Decides.{nat_tests}
+use Rattle.player.proofs.Common.{decimal_digit, decimal_step, nat_tests, decimal_from, if_below}
 use Rattle.std.proofs.lemmas.List.{at_drop_more, at_drop_all}
-use Rattle.player.specs.Meaning.{decimal_from, if_below}
 
 -- more digits make no smaller number
 pub decimal_from-grows : (n : ℕ) (digits : List ℕ) → n ≤ decimal_from n digits

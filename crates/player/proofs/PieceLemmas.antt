@@ -1,11 +1,9 @@
 -- bytes that are cut at a separator, and what a search for it passes over
 use Rattle.std.proofs.Common.{◌≡◌, ◌==◌, ℕ, zero, suc, ◌+◌, ◌<◌, Bool, true, not, List, [], ◌∷◌, ◌++◌, length, take, drop, get_or, refl, sym, ap, ◌∙◌, append_assoc, eq-eqb, arith}
-use Rattle.std.specs.List.{list_all}
+use Rattle.player.proofs.Common.{list_all, append-nil, drop_more, take-append-drop, pieces_from}
 use Rattle.std.proofs.lemmas.Bool.{and_parts, and_from, not-true, not_from_false, false_from_ne_true}
 use Rattle.std.proofs.lemmas.List.Sums.{AllPass-from_list_all, list_all-from_AllPass}
-use Rattle.std.proofs.lemmas.List.{append-nil, drop_more, take-append-drop}
 use Rattle.memchr.specs.Find.{Nowhere, Passes, is_byte}
-use Rattle.player.specs.Lines.{pieces_from}
 
 -- what passes one test passes a weaker one
 pub passes_too : (p q : ℕ → Bool) → ((b : ℕ) → p b ≡ true → q b ≡ true) → (bytes : List ℕ) → list_all p bytes ≡ true → list_all q bytes ≡ true

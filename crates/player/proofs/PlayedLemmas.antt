@@ -1,21 +1,9 @@
 -- from where a player stands to the theorem of a run
 use Rattle.std.proofs.Common.{◌≡◌, ℕ, ◌+◌, ◌<◌, ◌≤◌, ◌⊎◌, inl, inr, true, false, Bool, List, [], ◌++◌, length, map, flat_map, Result, Option, Some, None, refl, sym, ap, subst, ◌∙◌, append_assoc}
-use Rattle.std.proofs.lemmas.List.{append-nil}
-use Rattle.std.specs.Io.KnownBytes.{Appends, Consumes, IsAtEnd}
+use Rattle.player.proofs.Common.{append-nil, Appends, Consumes, IsAtEnd, Bad, Command, WorldKind, ShownReply, asked_by, lines, whole_lines, PlayerState, Progress, at_start, after_bytes, after_end, Stands, StandsPart, Request, Turn, asked}
 use Rattle.std.proofs.KnownBytes.{Consumes-trans}
-use Rattle.commands.specs.declared.bad.Bad.{Bad}
-use Rattle.commands.specs.declared.command.Command.{Command}
-use Rattle.commands.specs.declared.kind.WorldKind.{WorldKind}
-use Rattle.commands.specs.Replies.{ShownReply}
 use Rattle.player.specs.declared.playing.TheConstants.{MOST_READS, READ_BYTES}
-use Rattle.player.specs.Asked.{asked_by}
-use Rattle.player.specs.Lines.{lines, whole_lines}
-use Rattle.player.specs.PlayerState.{PlayerState}
-use Rattle.player.specs.Progress.{Progress, at_start, after_bytes, after_end}
 use Rattle.player.specs.Runs.{IsRunTo, CanRun}
-use Rattle.player.specs.Stands.{Stands, StandsPart}
-use Rattle.commands.specs.Requests.{Request}
-use Rattle.player.specs.Turns.{Turn, asked}
 use Rattle.player.specs.Knows.{Knows}
 use Rattle.player.specs.Played.{Reading, Writing, IsInput, IsTold, HasRead, PlayedToEnd, PlayedToReadFault, PlayedToWriteFault}
 use Rattle.player.proofs.GoesOnLemmas.{goes_on}

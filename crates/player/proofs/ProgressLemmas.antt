@@ -1,28 +1,20 @@
 -- what was asked for, byte by byte, is what the lines ask for
-use Rattle.std.proofs.Common.{◌≡◌, ℕ, ◌+◌, ◌-◌, ◌==◌, true, false, cond, List, [], ◌∷◌, ◌++◌, length, take, drop, map, Ok, Err, Result, refl, sym, ap, ◌∙◌, append_assoc}
-use Rattle.std.proofs.lemmas.List.{append-nil, take-append-drop}
-use Rattle.commands.specs.declared.bad.Bad.{Bad}
-use Rattle.commands.specs.declared.command.Command.{Command}
+use Rattle.std.proofs.Common.{◌≡◌, ℕ, ◌+◌, ◌-◌, ◌==◌, true, false, cond, List, [], ◌∷◌, ◌++◌, length, take, drop, map, Ok, Result, refl, sym, ap, ◌∙◌, append_assoc}
+use Rattle.player.proofs.Common.{append-nil, take-append-drop, Bad, Command, WorldKind, meaning}
 use Rattle.commands.specs.declared.command.Command.TheVariants as command
-use Rattle.commands.specs.declared.kind.WorldKind.{WorldKind}
 use Rattle.player.specs.Asked.{until_quit, asked_by, asks_quit}
 use Rattle.player.specs.Lines.{lines, whole_lines, whole_lines_from, rest_from, unless_empty}
-use Rattle.player.specs.Meaning.{meaning}
 use Rattle.player.specs.Progress.{Progress, at_start, ends, after_meaning, after_line, after_byte, after_bytes, after_rest, after_end}
 use Rattle.player.proofs.WrittenLemmas.{take_pieces}
 
 -- the first of what lines ask for, and the rest unless it is `quit`
 pub until_first : (m : Result Command Bad) (ms : List (Result Command Bad)) → until_quit (m ∷ ms) ≡ m ∷ cond (ends m) [] (until_quit ms)
-until_first (Err bad) ms = refl
 until_first (Ok (command.Event e)) ms = refl
-until_first (Ok (command.Owner n)) ms = refl
-until_first (Ok command.Quit) ms = refl
+until_first m ms = refl
 
 asks_first : (m : Result Command Bad) (ms : List (Result Command Bad)) → asks_quit (m ∷ ms) ≡ cond (ends m) true (asks_quit ms)
-asks_first (Err bad) ms = refl
 asks_first (Ok (command.Event e)) ms = refl
-asks_first (Ok (command.Owner n)) ms = refl
-asks_first (Ok command.Quit) ms = refl
+asks_first m ms = refl
 
 until_one : (m : Result Command Bad) → until_quit (m ∷ []) ≡ m ∷ []
 until_one m = until_first m [] ∙ ap (λ l. m ∷ l) (elim (ends m) as (λ t. cond {A = List (Result Command Bad)} t [] [] ≡ []) [ true ↦ refl | false ↦ refl ])

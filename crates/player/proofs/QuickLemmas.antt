@@ -1,18 +1,11 @@
 -- numbers and lines that are read in one pass
-use Rattle.std.proofs.Common.{◌≡◌, ℕ, zero, suc, ◌+◌, ◌-◌, ◌*◌, ◌^◌, ◌<◌, ◌≤◌, ◌&&◌, Bool, true, false, cond, eqb, List, [], ◌∷◌, ◌++◌, length, take, drop, get_or, Some, None, Ok, refl, sym, ap, ◌∙◌, arith, append_assoc, length-append, add-one}
-use Rattle.std.specs.List.{list_all}
-use Rattle.std.specs.Prelude.{nat_le, nat_lt}
+use Rattle.std.proofs.Common.{◌≡◌, ℕ, zero, suc, ◌+◌, ◌-◌, ◌*◌, ◌^◌, ◌<◌, ◌≤◌, ◌&&◌, Bool, true, false, cond, eqb, List, [], ◌∷◌, ◌++◌, length, take, drop, get_or, Some, None, Ok, refl, sym, ap, ◌∙◌, arith, append_assoc, length-append, add-one, nat_le, nat_lt}
+use Rattle.player.proofs.Common.{list_all, and_parts, and_from, nat_tests, take-add, take-append-add, WorldKind, Command, meaning, words, command_of, number_in, is_digit, is_printable, decimal_from, if_below}
 use Rattle.std.proofs.lemmas.List.{take_all, length-take-le, length-drop, take-append-drop, drop_more, take_more, get_or-drop, get_or-append-add}
 use Rattle.std.proofs.lemmas.List.Folds.{list_all-append, list_all_more}
-use Rattle.std.proofs.lemmas.Bool.{and_parts, and_from}
-use Rattle.std.proofs.lemmas.Bool.Decides.{nat_tests}
 use Rattle.std.proofs.Math.Nat.{pow-suc, pow-le-pow_right}
-use Rattle.std.proofs.Math.Seq.{take-add, take-append-add}
-use Rattle.commands.specs.declared.kind.WorldKind.{WorldKind}
-use Rattle.commands.specs.declared.command.Command.{Command}
 use Rattle.player.specs.Digits.{DigitsSoFar}
 use Rattle.player.specs.Quick.{IsNumberBefore, IsCommandBefore, is_of_words, word_of_four}
-use Rattle.player.specs.Meaning.{meaning, words, command_of, number_in, is_digit, is_printable, decimal_from, if_below}
 use Rattle.player.proofs.PieceLemmas.{passes_too, lacks, pieces-cut, pieces-last}
 
 -- the bytes past a beginning, as a slice gives them

@@ -1,15 +1,11 @@
 -- from what a run has written after the header to the theorem of a recorded run
 use Rattle.std.proofs.Common.{◌≡◌, flat_map, List, Result, Err, inl}
-use Rattle.std.specs.Io.KnownBytes.{Appends}
+use Rattle.player.proofs.Common.{Appends, Fault, Memory, Summary, Turn}
 use Rattle.commands.specs.declared.config.Config.{Config}
-use Rattle.player.specs.declared.fault.Fault.{Fault}
-use Rattle.player.specs.declared.fault.Fault.TheVariants.{Memory}
-use Rattle.player.specs.declared.summary.Summary.{Summary}
 use Rattle.player.specs.Played.{Reading, Writing, writing_from, IsPlayed}
 use Rattle.player.specs.PlayedProofs.{played_after, unplayed}
 use Rattle.player.specs.Recorded.{IsRecordedOn, end_of}
 use Rattle.player.specs.Records.{header_line, record_of, turn_record}
-use Rattle.player.specs.Turns.{Turn}
 
 module _ (c : Config) (IsTalk MayTalk : List Turn → Type 0) {R W : Type 0} (reading : Reading R) (writing : Writing W) where
   -- where memory was refused nothing is recorded

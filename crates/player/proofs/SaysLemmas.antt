@@ -1,20 +1,8 @@
 -- what is said to one side of a talk, one turn after another
 use Rattle.std.proofs.Common.{◌≡◌, ℕ, ◌+◌, true, false, cond, List, [], ◌∷◌, ◌++◌, flat_map, Ok, Err, Result, refl, sym, ap, subst, ◌∙◌, append_assoc, arith, length-append}
-use Rattle.std.proofs.lemmas.List.{append-nil, map-append}
-use Rattle.std.proofs.lemmas.Grind.{flat_map-append}
+use Rattle.player.proofs.Common.{append-nil, map-append, flat_map-append, Bad, WorldKind, Summary, Answered, Told, Ended, Misread, CountsAnswers, held, TalkerState, Progress, ends, after_meaning, after_line, after_rest, after_end, with_line, Request, Runs, runs-append}
 use Rattle.commands.specs.Replies.{ShownReply, is_refusal}
-use Rattle.commands.specs.declared.bad.Bad.{Bad}
-use Rattle.commands.specs.declared.kind.WorldKind.{WorldKind}
-use Rattle.player.specs.declared.summary.Summary.{Summary}
 use Rattle.player.specs.Turns.{Turn, asked, answer_of, answers_of}
-use Rattle.player.specs.Turns.Turn.{Answered, Told, Ended, Misread}
-use Rattle.player.specs.Counts.{CountsAnswers}
-use Rattle.player.specs.HeldLine.{held}
-use Rattle.player.specs.TalkerState.{TalkerState}
-use Rattle.player.specs.Progress.{Progress, ends, after_meaning, after_line, after_rest, after_end, with_line}
-use Rattle.commands.specs.Requests.{Request}
-use Rattle.player.specs.Runs.{Runs}
-use Rattle.player.specs.RunProofs.{runs-append}
 use Rattle.player.specs.Says.{Spoke, IsTurnOf, IsHeld, SaysFrom, Says, Afresh}
 use Rattle.player.specs.Summary.{total, one_if_accepted, one_if_refused, one_if_bad}
 

@@ -1,21 +1,13 @@
 -- a line that asks for an event is spelled as the words of that event
-use Rattle.std.proofs.Common.{◌≡◌, ℕ, ◌+◌, ◌-◌, ◌*◌, ◌/◌, ◌%◌, ◌^◌, ◌<◌, ◌≤◌, ◌==◌, suc, Bool, true, false, not, List, [], ◌∷◌, ◌++◌, length, Option, Some, None, Result, Ok, Err, inl, inr, refl, sym, ap, subst, ◌∙◌, append_assoc, codes, decimal, arith, length-append}
-use Rattle.std.specs.Prelude.{nat_lt, if◌then◌else◌}
-use Rattle.std.specs.List.{list_all}
-use Rattle.std.proofs.lemmas.List.{append-nil}
+use Rattle.std.proofs.Common.{◌≡◌, ℕ, ◌+◌, ◌-◌, ◌*◌, ◌/◌, ◌%◌, ◌^◌, ◌<◌, ◌≤◌, ◌==◌, suc, Bool, true, false, not, List, [], ◌∷◌, ◌++◌, length, Option, Some, None, Result, Ok, Err, inl, inr, refl, sym, ap, subst, ◌∙◌, append_assoc, codes, decimal, arith, length-append, nat_lt, if◌then◌else◌}
+use Rattle.player.proofs.Common.{list_all, append-nil, eqb_tells, leb_tells, nat_tests, WorldKind, Event, Bad, Command, pieces_from}
 use Rattle.std.proofs.lemmas.Fmt.{decimal_digit, decimal_step, length-decimal-le}
 use Rattle.std.proofs.lemmas.Bool.{false≢true, and_parts}
-use Rattle.std.proofs.lemmas.Bool.Decides.{eqb_tells, leb_tells, nat_tests}
-use Rattle.commands.specs.declared.kind.WorldKind.{WorldKind}
-use Rattle.commands.specs.declared.event.Event.{Event}
 use Rattle.commands.specs.declared.event.Event.TheVariants.{Begin, Step, Enter, Probe, Leave, Put, Get, Widen}
 use Rattle.commands.specs.Config.{gives_names}
-use Rattle.commands.specs.declared.bad.Bad.{Bad}
 use Rattle.commands.specs.declared.bad.Bad.TheVariants.{TooLong, NotPrintable, UnknownWord}
-use Rattle.commands.specs.declared.command.Command.{Command}
 use Rattle.commands.specs.declared.command.Command.TheVariants as command
 use Rattle.player.specs.Events.{event_words}
-use Rattle.player.specs.Lines.{pieces_from}
 use Rattle.player.specs.Meaning.{is_digit, is_printable, decimal_from, if_below, number_in, same_bytes, command_if, command_of_one, event_of_one, event_if_both, event_of_two, quit_of, desk_command_of, command_in, words, meaning}
 use Rattle.player.proofs.NumberLemmas.{decimal_from-grows}
 
@@ -105,10 +97,8 @@ number-written (b ∷ bs) =
 
 -- where these words, each after a space, ask for an event, they are spelled as its words, and short
 abbrev IsSpelled : List ℕ → Result Command Bad → Type 0
-IsSpelled text (Err bad) = Unit {0}
 IsSpelled text (Ok (command.Event e)) = (text ≡ 32 ∷ event_words e) × (length text ≤ 46)
-IsSpelled text (Ok (command.Owner n)) = Unit {0}
-IsSpelled text (Ok command.Quit) = Unit {0}
+IsSpelled text r = Unit {0}
 
 either_spelled : (text : List ℕ) (b : Bool) (x y : Result Command Bad) → (b ≡ true → IsSpelled text x) → IsSpelled text y → IsSpelled text (if b then x else y)
 either_spelled text true x y h k = h refl

@@ -1,24 +1,9 @@
 -- where a player stands, one call after another
 use Rattle.std.proofs.Common.{◌≡◌, ℕ, List, [], ◌++◌, flat_map, Result, Option, refl, sym, ap, subst, ◌∙◌, append_assoc}
-use Rattle.std.proofs.lemmas.List.{append-nil}
-use Rattle.std.proofs.lemmas.Grind.{flat_map-append}
-use Rattle.std.specs.Io.KnownBytes.{Appends}
+use Rattle.player.proofs.Common.{append-nil, flat_map-append, Appends, Bad, Command, WorldKind, ShownReply, Summary, Turn, answers_of, CountsAnswers, TalkerState, Progress, at_start, Request, runs-append, Says, HasPartOf}
 use Rattle.std.proofs.KnownBytes.{Appends-nil}
-use Rattle.commands.specs.declared.bad.Bad.{Bad}
-use Rattle.commands.specs.declared.command.Command.{Command}
-use Rattle.commands.specs.declared.kind.WorldKind.{WorldKind}
-use Rattle.commands.specs.Replies.{ShownReply}
-use Rattle.player.specs.declared.summary.Summary.{Summary}
-use Rattle.player.specs.Turns.{Turn, answers_of}
-use Rattle.player.specs.Counts.{CountsAnswers}
 use Rattle.player.specs.PlayerState.{PlayerState, player_of}
-use Rattle.player.specs.TalkerState.{TalkerState}
-use Rattle.player.specs.Progress.{Progress, at_start}
-use Rattle.commands.specs.Requests.{Request}
-use Rattle.player.specs.RunProofs.{runs-append}
-use Rattle.player.specs.Says.{Says}
 use Rattle.player.specs.Stands.{IsFresh, IsSent, Stands, StandsPart}
-use Rattle.player.specs.Written.{HasPartOf}
 use Rattle.player.specs.WrittenProofs.{appends_more, part_after}
 
 module _ {T : Type 0} (may : T → Request → ShownReply → T → Type 0) where

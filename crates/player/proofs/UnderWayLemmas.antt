@@ -1,10 +1,7 @@
 -- texts on their way to a writer
 use Rattle.std.proofs.Common.{◌≡◌, ℕ, ◌++◌, List, [], length, take, Option, refl, sym, ap, subst, ◌∙◌, append_assoc, length-append, arith, ◌+◌}
-use Rattle.std.proofs.lemmas.List.{take-append-le}
-use Rattle.std.proofs.Math.Seq.{take-append-add}
-use Rattle.std.specs.Io.KnownBytes.{Appends}
+use Rattle.player.proofs.Common.{take-append-le, take-append-add, Appends, HasPartOf}
 use Rattle.player.specs.UnderWay.{IsUnderWay}
-use Rattle.player.specs.Written.{HasPartOf}
 use Rattle.player.specs.WrittenProofs.{appends_more}
 
 module _ (text : List ℕ) (before : Option (List ℕ)) where

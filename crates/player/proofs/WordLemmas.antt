@@ -1,12 +1,8 @@
 -- the words of a line that are still to be read
 use Rattle.std.proofs.Common.{◌≡◌, ℕ, true, false, cond, eqb, List, [], ◌∷◌, ◌++◌, Option, Some, None, Result, Ok, Err, refl}
-use Rattle.commands.specs.declared.bad.Bad.{Bad}
+use Rattle.player.proofs.Common.{Bad, Command, Event, pieces_from, number_in, event_if_both, event_of_two}
 use Rattle.commands.specs.declared.bad.Bad.TheVariants.{WrongCount}
-use Rattle.commands.specs.declared.command.Command.{Command}
 use Rattle.commands.specs.declared.command.Command.TheVariants as command
-use Rattle.commands.specs.declared.event.Event.{Event}
-use Rattle.player.specs.Lines.{pieces_from}
-use Rattle.player.specs.Meaning.{number_in, event_if_both, event_of_two}
 use Rattle.player.specs.WordsLeft.{no_word, numbers_if, two_numbers}
 
 -- bytes have at least one word, though it may be empty

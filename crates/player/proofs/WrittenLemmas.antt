@@ -1,7 +1,6 @@
 -- what writers gain, piece by piece
 use Rattle.std.proofs.Common.{◌≡◌, ◌≢◌, ℕ, zero, suc, ◌+◌, ◌-◌, List, ◌++◌, take, drop, length, refl, sym, ap, ◌∙◌, arith}
-use Rattle.std.proofs.lemmas.List.{take_all, length-drop}
-use Rattle.std.proofs.Math.Seq.{take-add}
+use Rattle.player.proofs.Common.{take_all, length-drop, take-add}
 use Rattle.player.specs.Tries.{none_taken}
 
 -- a write that took something has not failed

@@ -1,5 +1,5 @@
 -- how far a run has come, byte by byte: the line so far, what was asked for, and whether `quit` was among it
-use Rattle.std.specs.Prelude.{ℕ, ◌==◌, if◌then◌else◌, Bool, true, false, List, [], ◌∷◌, ◌++◌, Result, Ok, Err}
+use Rattle.std.specs.Prelude.{ℕ, ◌==◌, if◌then◌else◌, Bool, true, false, List, [], ◌∷◌, ◌++◌, Result, Ok}
 use Rattle.commands.specs.declared.bad.Bad.{Bad}
 use Rattle.commands.specs.declared.command.Command.{Command}
 use Rattle.commands.specs.declared.command.Command.TheVariants as command
@@ -16,10 +16,8 @@ abbrev pub at_start : Progress
 at_start = record { line = []; asked = []; over = false }
 
 abbrev pub ends : Result Command Bad → Bool
-ends (Err bad) = false
-ends (Ok (command.Event e)) = false
-ends (Ok (command.Owner n)) = false
 ends (Ok command.Quit) = true
+ends r = false
 
 -- the same, where the line so far is another
 abbrev pub with_line : Progress → List ℕ → Progress

@@ -8,7 +8,7 @@ use Rattle.commands.specs.declared.config.Config.{Config}
 use Rattle.player.specs.Events.{event_words}
 use Rattle.player.specs.Replies.{reply_words, view_words}
 use Rattle.player.specs.Turns.{Turn}
-use Rattle.player.specs.Turns.Turn.{Answered, Told, Ended, Misread}
+use Rattle.player.specs.Turns.Turn.{Answered}
 
 -- the first line: the config, its keys in rising order
 abbrev pub header_line : Config → List ℕ
@@ -33,9 +33,7 @@ exchange_line x =
 -- what is recorded of a turn: an event, with its reply, be it a refusal, and nothing else
 abbrev pub turn_record : Turn → List ℕ
 turn_record (Answered x) = exchange_line x
-turn_record (Told n r) = []
-turn_record Ended = []
-turn_record (Misread bad) = []
+turn_record t = []
 
 -- the record of turns
 abbrev pub record_of : Config → List Turn → List ℕ

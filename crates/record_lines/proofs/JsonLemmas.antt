@@ -1,13 +1,8 @@
 -- how many keys an object has
-use Rattle.std.proofs.Common.{◌≡◌, ℕ, suc, true, inl, inr, List, [], ◌∷◌, length, refl, ap}
-use Rattle.std.proofs.lemmas.Bool.{false≢true}
-use Rattle.std.proofs.lemmas.Bool.Decides.{eqb_tells}
-use Rattle.player.specs.Meaning.{same_bytes}
-use Rattle.std.specs.Prelude.{String}
+use Rattle.std.proofs.Common.{◌≡◌, ℕ, suc, true, inl, inr, List, [], ◌∷◌, length, refl, ap, String}
+use Rattle.record_lines.proofs.Common.{false≢true, eqb_tells, same_bytes, Value, count_members}
 use Rattle.std.specs.declared.alloc.Global.{Global}
-use Rattle.serde_json.specs.declared.value.Value.{Value}
 use Rattle.serde_json.specs.View.{members_view}
-use Rattle.record_lines.specs.Json.{count_members}
 
 pub count-members_view : (entries : List (String Global × Value)) → count_members (members_view entries) ≡ length entries
 count-members_view [] = refl

@@ -1,3 +1,4 @@
+mod Common
 mod PairLemmas
 mod WordLemmas
 mod ToldWords

@@ -1,17 +1,8 @@
 -- bytes say one thing
 use Rattle.std.proofs.Common.{◌≡◌, ℕ, List, Some, Ok, sym, ap, ◌∙◌, subst}
-use Rattle.commands.specs.KindProofs.{named_apart}
-use Rattle.commands.specs.declared.kind.WorldKind.{WorldKind}
-use Rattle.serde_json.specs.Data.{Data}
+use Rattle.record_lines.proofs.Common.{named_apart, WorldKind, Data, meaning, Header, Version, Line, SaysSizes, SaysLine, IsEventLine, IsHeaderLine, told_by}
 use Rattle.commands.specs.declared.command.Command.TheVariants as command
-use Rattle.player.specs.Meaning.{meaning}
-use Rattle.record_lines.specs.declared.header.Header.{Header}
-use Rattle.record_lines.specs.declared.header.Version.{Version}
-use Rattle.record_lines.specs.declared.line.Line.{Line}
-use Rattle.record_lines.specs.Json.{SaysSizes}
-use Rattle.record_lines.specs.RecordLine.{SaysLine, IsEventLine, IsHeaderLine}
 use Rattle.record_lines.specs.Records.{AreSame}
-use Rattle.record_lines.specs.ReplyText.{told_by}
 use Rattle.record_lines.proofs.written.PlainLines.{some_text, one_view}
 use Rattle.record_lines.proofs.Values.{one_value}
 

@@ -1,11 +1,9 @@
 -- a pair put in at its place
 use Rattle.std.proofs.Common.{◌≡◌, ◌≢◌, ℕ, suc, ◌+◌, ◌≤◌, inl, inr, true, false, cond, List, [], ◌∷◌, length, set, Some, None, refl, sym, ap, ◌∙◌, subst, arith}
+use Rattle.record_lines.proofs.Common.{leb_tells, eqb_tells, inserted, HasAt}
 use Rattle.std.specs.Prelude.{nat_le, nat_lt, not, unwrap_or, position}
 use Rattle.std.specs.List.{position_or_len, insert}
 use Rattle.std.proofs.lemmas.Bool.{cases_Bool, ne_eqb, eq-eqb, lt-ltb, le-ltb, ltb-false}
-use Rattle.std.proofs.lemmas.Bool.Decides.{leb_tells, eqb_tells}
-use Rattle.step_memory.specs.View.{inserted}
-use Rattle.record_lines.specs.Pairs.{HasAt}
 
 abbrev place : ℕ → List (ℕ × ℕ) → ℕ
 place id xs = position_or_len (λ pair. nat_le id pair.0) xs

@@ -1,9 +1,6 @@
 -- lines that are cut off, one after another
 use Rattle.std.proofs.Common.{◌≡◌, ℕ, true, List, [], ◌∷◌, ◌++◌, refl, ap, ◌∙◌}
-use Rattle.std.specs.List.{list_all}
-use Rattle.std.proofs.lemmas.Bool.{and_parts}
-use Rattle.player.specs.Lines.{pieces_from, has_no_lf, with_ends}
-use Rattle.player.proofs.PieceLemmas.{pieces-cut}
+use Rattle.record_lines.proofs.Common.{list_all, and_parts, pieces_from, has_no_lf, with_ends, pieces-cut}
 use Rattle.record_lines.specs.Records.{lines_from, lines_of, record_lines}
 
 -- lines, each with its LF, are cut into these

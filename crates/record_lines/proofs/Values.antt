@@ -1,15 +1,6 @@
 -- what a line says is one thing
-use Rattle.std.proofs.Common.{◌≡◌, ℕ, ◌≤◌, List, length, Option, Some, None, Result, Ok, Err, sym, subst, ◌∙◌}
-use Rattle.std.specs.Prelude.{MatchOption}
-use Rattle.std.specs.Result.{IfOk}
-use Rattle.std.specs.declared.alloc.AllocError.{AllocError}
-use Rattle.serde_json.specs.Data.{Data}
-use Rattle.serde_json.specs.declared.value.Value.{Value}
-use Rattle.serde_json.specs.View.{view}
-use Rattle.commands.specs.declared.kind.WorldKind.{WorldKind}
-use Rattle.record_lines.specs.declared.header.Header.{Header}
-use Rattle.record_lines.specs.declared.header.Version.{Version}
-use Rattle.record_lines.specs.declared.line.Line.{Line}
+use Rattle.std.proofs.Common.{◌≡◌, ℕ, ◌≤◌, List, length, Option, Some, None, Result, Ok, Err, sym, subst, ◌∙◌, MatchOption}
+use Rattle.record_lines.proofs.Common.{IfOk, AllocError, Data, Value, view, WorldKind, Header, Version, Line}
 use Rattle.record_lines.specs.Json.{IsHeader}
 use Rattle.record_lines.specs.RecordLine.{IsJson, SaysLine, IsEventLine, IsHeaderLine}
 

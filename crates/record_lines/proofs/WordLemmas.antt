@@ -1,9 +1,6 @@
 -- what bytes are cut into
-use Rattle.std.proofs.Common.{◌≡◌, ℕ, true, false, cond, eqb, List, [], ◌∷◌, ◌++◌, refl}
-use Rattle.std.specs.Prelude.{option_map}
-use Rattle.player.specs.Lines.{pieces_from}
-use Rattle.record_lines.specs.declared.told.Told.TheVariants.{Saw}
-use Rattle.record_lines.specs.ReplyText.{pairs_after, saw_of}
+use Rattle.std.proofs.Common.{◌≡◌, ℕ, true, false, cond, eqb, List, [], ◌∷◌, ◌++◌, refl, option_map}
+use Rattle.record_lines.proofs.Common.{pieces_from, Saw, pairs_after, saw_of}
 
 -- bytes have at least one piece, though it may be empty
 pub record HasPiece (pieces : List (List ℕ)) : Type 0 where

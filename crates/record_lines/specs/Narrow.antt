@@ -1,5 +1,5 @@
 -- the numbers that a record can write, and those that are read of one
-use Rattle.std.specs.Prelude.{◌≢◌, ℕ, ◌^◌, ◌<◌, ◌≤◌, List, [], ◌∷◌, length, Result, Ok, Err}
+use Rattle.std.specs.Prelude.{◌≢◌, ℕ, ◌^◌, ◌<◌, ◌≤◌, List, [], ◌∷◌, length, Result, Ok}
 use Rattle.step_memory.specs.View.{IsAbove, IsRising}
 use Rattle.commands.specs.declared.event.Event.{Event}
 use Rattle.commands.specs.declared.event.Event.TheVariants.{Begin, Step, Enter, Probe, Leave, Put, Get, Widen}
@@ -56,9 +56,7 @@ AreNarrowExchanges (x ∷ xs) = IsNarrowEvent x.event × IsNarrowReply x.reply �
 -- an event that is asked has numbers below 2^64
 abbrev pub IsNarrow : Result Command Bad → Type 0
 IsNarrow (Ok (command.Event e)) = IsNarrowEvent e
-IsNarrow (Ok (command.Owner n)) = Unit {0}
-IsNarrow (Ok command.Quit) = Unit {0}
-IsNarrow (Err bad) = Unit {0}
+IsNarrow r = Unit {0}
 
 -- a place has at most 128 bits
 abbrev pub FitsTold : Told → Type 0

@@ -17,14 +17,11 @@ identity_of (Get p) = p
 identity_of (Widen more) = 0
 
 abbrev pub is_done : Event → Bool
-is_done (Begin p) = true
 is_done (Step p) = false
-is_done (Enter p) = true
 is_done (Probe p) = false
 is_done (Leave p) = false
-is_done (Put p value) = true
 is_done (Get p) = false
-is_done (Widen more) = true
+is_done e = true
 
 abbrev pub is_step : Event → Bool
 is_step (Step p) = true

@@ -1,19 +1,7 @@
 -- what tables tell of those who have proposed
-use Rattle.std.proofs.Common.{◌≡◌, ℕ, ◌≤◌, ◌==◌, ◌↔◌, inl, inr, Bool, true, false, List, [], ◌∷◌, length, refl, sym, ap, ◌∙◌, arith, Some, None, Option, IsTrue}
-use Rattle.std.specs.Prelude.{option_map}
-use Rattle.std.proofs.lemmas.Bool.Decides.{eqb_tells}
-use Rattle.step_memory.specs.declared.participant.Participant.{Participant}
-use Rattle.step_memory.specs.Participant.{participant_of, program_of}
-use Rattle.step_memory.specs.View.{IsRising, value_of, inserted}
-use Rattle.step_memory.proofs.ViewLemmas.{IsRising-inserted, value_of-inserted}
-use Rattle.snapshot_core.specs.Snapshot.{IsMoment}
+use Rattle.std.proofs.Common.{◌≡◌, ℕ, ◌≤◌, ◌==◌, ◌↔◌, inl, inr, Bool, true, false, List, [], ◌∷◌, length, refl, sym, ap, ◌∙◌, arith, Some, None, Option, IsTrue, option_map}
+use Rattle.run_checker.proofs.Common.{eqb_tells, Participant, participant_of, program_of, IsRising, value_of, inserted, IsRising-inserted, value_of-inserted, IsMoment, Names, Standing, Turn, crowded, SomeSince, turn_of, count_of, since_of, told_in, Stands, HoldsNames, turns_in, MayBeNamed}
 use Rattle.rename_core.specs.RenameObject.{RenameTerms, RenameObject, IsRecent, IsConflict, IsSole, HasConflict, IsFreeName}
-use Rattle.run_checker.specs.declared.names.Names.{Names}
-use Rattle.run_checker.specs.declared.standing.Standing.{Standing}
-use Rattle.run_checker.specs.declared.standing.Turn.{Turn}
-use Rattle.run_checker.specs.Moments.{crowded, SomeSince}
-use Rattle.run_checker.specs.Standing.{turn_of, count_of, since_of, told_in, Stands, HoldsNames, turns_in}
-use Rattle.run_checker.specs.Reasons.{MayBeNamed}
 use Rattle.run_checker.proofs.seats.Crowds.{own, conflicting, standing_alone}
 
 -- the view of a moment: the pairs of those of whom it says something

@@ -1,15 +1,11 @@
 -- what a desk may answer, with its counts of steps, the objects can answer
 use Rattle.std.proofs.Common.{ℕ, inl, inr, List, [], ◌∷◌, Ok, Err}
+use Rattle.run_checker.proofs.Common.{Began, Stepped, Run, StepReply, Exchange, Renamed, Slotted}
 use Rattle.step_memory.specs.Calls.{Call}
-use Rattle.step_memory.specs.Calls.Call.{Began, Stepped}
-use Rattle.step_memory.specs.Runs.{Run}
 use Rattle.snapshot_core.specs.Snapshot.{SnapBounds}
-use Rattle.rename_core.specs.Reply.{StepReply}
 use Rattle.rename_core.specs.RenameObject.{RenameTerms, RenameObject, Allows, after}
 use Rattle.slot_array.specs.SlotsObject.{SlotsObject, SlotAnswers, slots_after}
-use Rattle.commands.specs.declared.exchange.Exchange.{Exchange}
 use Rattle.desk.specs.DeskCalls.{DeskCall, rename_calls, slot_calls, BeginSlots}
-use Rattle.desk.specs.DeskCalls.DeskCall.{Renamed, Slotted}
 use Rattle.desk.specs.DeskRun.{IsDeskRun}
 use Rattle.run_checker.specs.ObjectRun.{AllowsRenaming, AllowsCall, after_call, IsObjectRun}
 

@@ -1,35 +1,20 @@
 -- a line can follow exactly where no reason fits
-use Rattle.std.proofs.Common.{◌≡◌, ℕ, ◌==◌, ◌&&◌, ◌⊎◌, inl, inr, Bool, true, false, List, Option, Some, None, Result, Ok, Err, refl, sym, ap, ◌∙◌, subst}
-use Rattle.std.specs.Prelude.{is_none}
+use Rattle.std.proofs.Common.{◌≡◌, ℕ, ◌==◌, ◌&&◌, ◌⊎◌, inl, inr, Bool, true, false, List, Option, Some, None, Result, Ok, Err, refl, sym, ap, ◌∙◌, subst, is_none}
+use Rattle.run_checker.proofs.Common.{eqb_tells, Began, Stepped, Refusal, done_unless, RenameTerms, no_begin, no_step, number_in, Pooled, Stored, Fetched, Extended, stored_reply, stored_in, IsFetched, Event, Exchange, DeskCall, exchange_of, Renamed, Slotted, Line, DeskObject, AllowsCall, after_call, CanFollow, after_line}
 use Rattle.std.proofs.lemmas.Bool.{false≢true, eq-eqb, and_parts}
-use Rattle.std.proofs.lemmas.Bool.Decides.{eqb_tells}
-use Rattle.step_memory.specs.Calls.Call.{Began, Stepped}
-use Rattle.step_memory.specs.declared.refusal.Refusal.{Refusal}
 use Rattle.step_memory.specs.declared.refusal.Refusal.TheVariants.{NoMemory}
 use Rattle.step_memory.specs.Refusal.{refusal_number}
-use Rattle.step_memory.specs.World.{done_unless}
 use Rattle.rename_core.specs.declared.reply.Reply.TheVariants as step
-use Rattle.rename_core.specs.RenameObject.{RenameTerms, no_begin, no_step}
 use Rattle.bit_allocator.specs.declared.probe.Probe.TheVariants as probe
 use Rattle.bit_allocator.specs.Calls.Call.{Entered, Probed, Left as HasLeft, Widened}
-use Rattle.bit_allocator.specs.PoolObject.{number_in}
-use Rattle.slot_array.specs.SlotCalls.SlotCall.{Pooled, Stored, Fetched, Extended}
-use Rattle.slot_array.specs.Slots.{stored_reply, stored_in, IsFetched}
-use Rattle.commands.specs.declared.event.Event.{Event}
 use Rattle.commands.specs.declared.event.Event.TheVariants.{Begin, Step, Enter, Probe, Leave, Put, Get, Widen}
-use Rattle.commands.specs.declared.exchange.Exchange.{Exchange}
 use Rattle.commands.specs.declared.reply.Reply.TheVariants as reply
-use Rattle.desk.specs.DeskCalls.{DeskCall, exchange_of}
-use Rattle.desk.specs.DeskCalls.DeskCall.{Renamed, Slotted}
-use Rattle.record_lines.specs.declared.line.Line.{Line}
 use Rattle.run_checker.specs.declared.reason.Reason.TheVariants as reason
 use Rattle.record_lines.specs.declared.told.Told.{Told}
 use Rattle.record_lines.specs.declared.told.Told.TheVariants.{Ok as Accepted, Quiet, Place, Proposed, Saw, Named, Spent, Missed, Got, Left, Value, Refused}
-use Rattle.run_checker.specs.ObjectRun.{DeskObject, AllowsCall, after_call}
 use Rattle.record_lines.specs.Told.{is_reply_of}
 use Rattle.run_checker.specs.Reasons.{why_of, is_told_rightly, Keeps, KeepsAll, IsWritten, MayBeNamed}
 use Rattle.record_lines.specs.Lines.{shown_where, told_of, line, line_of, IsLineOf}
-use Rattle.run_checker.specs.Lines.{CanFollow, after_line}
 use Rattle.run_checker.proofs.Judging.{for_all, none_due}
 
 none_of : (o : Option Refusal) → is_none o ≡ true → o ≡ None

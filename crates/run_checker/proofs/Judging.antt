@@ -1,8 +1,6 @@
 -- lines judged by their parts
-use Rattle.std.proofs.Common.{◌≡◌, ◌<◌, true, Option, None, arith, ap}
-use Rattle.std.specs.Prelude.{is_none}
-use Rattle.step_memory.specs.declared.refusal.Refusal.{Refusal}
-use Rattle.run_checker.specs.declared.reason.Reason.{Reason}
+use Rattle.std.proofs.Common.{◌≡◌, ◌<◌, true, Option, None, arith, ap, is_none}
+use Rattle.run_checker.proofs.Common.{Refusal, Reason}
 use Rattle.run_checker.specs.declared.reason.Reason.TheVariants as reason
 use Rattle.run_checker.specs.Reasons.{reason_number}
 

@@ -1,3 +1,4 @@
+mod Common
 mod Views
 mod seats
 mod Deciding

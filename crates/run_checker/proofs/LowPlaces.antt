@@ -1,17 +1,11 @@
 -- the places that a desk tells have at most 64 bits
-use Rattle.std.proofs.Common.{◌≡◌, ℕ, ◌+◌, ◌*◌, ◌^◌, ◌<◌, ◌≤◌, true, false, List, [], ◌∷◌, ◌++◌, length, Option, Some, None, Result, Ok, Err, inl, refl, sym, ap, ◌∙◌, subst, arith}
-use Rattle.std.specs.Prelude.{nat_le, option_and_then, option_map, if◌then◌else◌}
-use Rattle.std.specs.List.{Contains}
+use Rattle.std.proofs.Common.{◌≡◌, ℕ, ◌+◌, ◌*◌, ◌^◌, ◌<◌, ◌≤◌, true, false, List, [], ◌∷◌, ◌++◌, length, Option, Some, None, Result, Ok, Err, inl, refl, sym, ap, ◌∙◌, subst, arith, nat_le, option_and_then, option_map, if◌then◌else◌}
+use Rattle.run_checker.proofs.Common.{Contains, Began, Stepped, participant_of, program_of, Run, Participant, Refusal, Config, StepReply, WorldKind, stored_reply, Event, DeskValue}
 use Rattle.std.proofs.lemmas.List.Elements.{Contains-append_right}
 use Rattle.std.proofs.Math.Nat.{mul-le-mul}
 use Rattle.std.proofs.Math.Pow.{pow_mono}
 use Rattle.step_memory.specs.Calls.{Call, lacked_memory}
-use Rattle.step_memory.specs.Calls.Call.{Began, Stepped}
-use Rattle.step_memory.specs.Participant.{participant_of, program_of}
-use Rattle.step_memory.specs.Runs.{Run}
 use Rattle.step_memory.specs.World.{begin_refusal, done_unless}
-use Rattle.step_memory.specs.declared.participant.Participant.{Participant}
-use Rattle.step_memory.specs.declared.refusal.Refusal.{Refusal}
 use Rattle.step_memory.specs.Machine.{After}
 use Rattle.step_memory.proofs.MachineLemmas.{call_leads_on}
 use Rattle.snapshot_core.specs.Machine.{snapshot}
@@ -38,13 +32,10 @@ use Rattle.snapshot_places.specs.GridProofs.{grid_laws}
 use Rattle.snapshot_places.specs.GridTies.{grid_places, walks_of}
 use Rattle.snapshot_places.specs.TreeProofs.{tree_laws}
 use Rattle.snapshot_places.specs.TreeTies.{tree_places, walks_of as tree_walks_of}
-use Rattle.commands.specs.declared.config.Config.{Config}
-use Rattle.rename_core.specs.Reply.{StepReply}
 use Rattle.rename_core.specs.declared.reply.Reply.TheVariants as step
 use Rattle.rename_core.specs.declared.round.Round.{Round}
 use Rattle.rename_core.specs.declared.round.Wish.{Wish}
 use Rattle.rename_core.specs.declared.round.Wish.TheVariants.{Nothing, Update, Scan}
-use Rattle.commands.specs.declared.kind.WorldKind.{WorldKind}
 use Rattle.commands.specs.declared.kind.WorldKind.TheVariants as world
 use Rattle.rename_core.specs.Machine.{next, IsReply, renaming}
 use Rattle.rename_core.specs.RenameState.{RenameState}
@@ -54,14 +45,11 @@ use Rattle.rename_core.specs.Proposals.{is_taken}
 use Rattle.bit_allocator.specs.declared.probe.Probe.{Probe}
 use Rattle.bit_allocator.specs.declared.probe.Probe.TheVariants as probe
 use Rattle.bit_allocator.specs.Pool.{enter_answer, probe_answer, number_answer, widen_answer}
-use Rattle.slot_array.specs.Slots.{stored_reply}
-use Rattle.commands.specs.declared.event.Event.{Event}
 use Rattle.commands.specs.declared.event.Event.TheVariants as event
 use Rattle.commands.specs.declared.reply.Reply.TheVariants as reply
 use Rattle.desk.specs.Desk.{desk_reply, IsAfterDesk}
 use Rattle.desk.specs.DeskCalls.{DeskCall, AfterDesk, rename_calls}
 use Rattle.desk.specs.DeskState.{DeskState}
-use Rattle.desk.specs.DeskValue.{DeskValue}
 use Rattle.desk.specs.DeskValue.DeskValue.{OverGrid, OverTree}
 use Rattle.desk.specs.DeskRules.{reply_over, fetched}
 use Rattle.commands.specs.Replies.{done_reply, left_reply, value_reply}

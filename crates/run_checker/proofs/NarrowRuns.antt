@@ -1,33 +1,15 @@
 -- what the objects answer has numbers that a record can write, where the events have
-use Rattle.std.proofs.Common.{◌≡◌, ℕ, ◌+◌, ◌-◌, ◌*◌, ◌^◌, ◌<◌, ◌≤◌, true, false, List, [], ◌∷◌, length, map, replicate, Option, Some, None, Bool, Result, Ok, Err, inl, inr, refl, sym, ap, ◌∙◌, subst, arith}
-use Rattle.std.specs.Prelude.{slice_get, IsSome}
+use Rattle.std.proofs.Common.{◌≡◌, ℕ, ◌+◌, ◌-◌, ◌*◌, ◌^◌, ◌<◌, ◌≤◌, true, false, List, [], ◌∷◌, length, map, replicate, Option, Some, None, Bool, Result, Ok, Err, inl, inr, refl, sym, ap, ◌∙◌, subst, arith, slice_get, IsSome}
+use Rattle.run_checker.proofs.Common.{eqb_tells, leb_tells, Began, Stepped, Run, set_at, done_unless, Refusal, StepReply, IsMoment, Entered, Probed, Left, Widened, competes, number_in, may_widen, Pooled, Stored, Fetched, Extended, stored_in, IsFetched, Exchange, DeskCall, exchange_of, Renamed, Slotted, ShownReply, done_reply, value_reply, DeskObject, fresh_desk_object, AllowsCall, after_call, IsObjectRun}
 use Rattle.std.specs.List.{All, Contains}
 use Rattle.std.proofs.lemmas.Option.{get_or_from_slice_get, slice_get_within}
 use Rattle.std.proofs.lemmas.List.Elements.{All-append, All-get_or, All-replicate, All-set, Contains-append_right}
-use Rattle.std.proofs.lemmas.Bool.Decides.{eqb_tells, leb_tells}
-use Rattle.step_memory.specs.Calls.Call.{Began, Stepped}
-use Rattle.step_memory.specs.Runs.{Run}
-use Rattle.step_memory.specs.SetAt.{set_at}
 use Rattle.step_memory.specs.View.{IsAbove, IsRising, value_of}
-use Rattle.step_memory.specs.World.{done_unless}
-use Rattle.step_memory.specs.declared.refusal.Refusal.{Refusal}
 use Rattle.step_memory.specs.declared.refusal.Refusal.TheVariants.{ZeroIdentity, AlreadyBegun, Full, NotBegun}
-use Rattle.rename_core.specs.Reply.{StepReply}
 use Rattle.rename_core.specs.declared.reply.Reply.TheVariants as step
 use Rattle.rename_core.specs.RenameObject.{RenameTerms, RenameObject, no_begin, no_step, AllowsStep}
-use Rattle.snapshot_core.specs.Snapshot.{IsMoment}
-use Rattle.bit_allocator.specs.Calls.Call.{Entered, Probed, Left, Widened}
-use Rattle.bit_allocator.specs.PoolObject.{competes, number_in}
 use Rattle.bit_allocator.specs.declared.probe.Probe.TheVariants as probe
-use Rattle.bit_allocator.proofs.PoolKeeps.{may_widen}
-use Rattle.slot_array.specs.SlotCalls.SlotCall.{Pooled, Stored, Fetched, Extended}
-use Rattle.slot_array.specs.Slots.{stored_in, IsFetched}
-use Rattle.commands.specs.declared.exchange.Exchange.{Exchange}
 use Rattle.commands.specs.declared.reply.Reply.TheVariants as reply
-use Rattle.desk.specs.DeskCalls.{DeskCall, exchange_of}
-use Rattle.desk.specs.DeskCalls.DeskCall.{Renamed, Slotted}
-use Rattle.commands.specs.Replies.{ShownReply, done_reply, value_reply}
-use Rattle.run_checker.specs.ObjectRun.{DeskObject, fresh_desk_object, AllowsCall, after_call, IsObjectRun}
 use Rattle.step_memory.proofs.ViewLemmas.{among_identities}
 use Rattle.run_checker.proofs.Following.{none_by}
 use Rattle.run_checker.proofs.Views.{here, said_further}

@@ -1,21 +1,12 @@
 -- what is kept of the pool after each reply
-use Rattle.std.proofs.Common.{◌≡◌, ◌≢◌, ℕ, ◌+◌, ◌-◌, ◌<◌, ◌≤◌, ◌==◌, inl, inr, false, not, cond, List, [], ◌∷◌, ◌++◌, length, take, replicate, refl, sym, ap, ◌∙◌, subst, arith, Some, None, Option, is_some, Ok, filter, length-append}
-use Rattle.std.specs.List.{list_any}
-use Rattle.std.specs.Prelude.{MatchOption, option_map}
+use Rattle.std.proofs.Common.{◌≡◌, ◌≢◌, ℕ, ◌+◌, ◌-◌, ◌<◌, ◌≤◌, ◌==◌, inl, inr, false, not, cond, List, [], ◌∷◌, ◌++◌, length, take, replicate, refl, sym, ap, ◌∙◌, subst, arith, Some, None, Option, is_some, Ok, filter, length-append, MatchOption, option_map}
+use Rattle.run_checker.proofs.Common.{list_any, cases_Bool, ne_eqb, eqb_tells, Participant, set_at, set_at-same, set_at-other, set_at-cases, set_at-is, set_at-map, Entered, Probed, Left, may_widen, Pooled}
 use Rattle.std.proofs.lemmas.List.{length-map, length-replicate, take_all}
-use Rattle.std.proofs.lemmas.Bool.{cases_Bool, ne_eqb}
-use Rattle.std.proofs.lemmas.Bool.Decides.{eqb_tells}
-use Rattle.step_memory.specs.declared.participant.Participant.{Participant}
 use Rattle.step_memory.specs.Participant.{AreDistinct, beginner, identities, participant_of, program_of, with_participant}
-use Rattle.step_memory.specs.SetAt.{set_at}
 use Rattle.step_memory.proofs.DistinctParticipants.{distinct_put, distinct_push, identities-put, identities-push}
-use Rattle.step_memory.proofs.SetAtLemmas.{set_at-same, set_at-other, set_at-cases, set_at-is, set_at-map}
-use Rattle.bit_allocator.specs.Calls.Call.{Entered, Probed, Left}
 use Rattle.bit_allocator.specs.PoolObject.{competes, no_entry, no_probe, IsFree}
 use Rattle.bit_allocator.specs.Widening.{widen_refusal}
 use Rattle.bit_allocator.specs.declared.probe.Probe.TheVariants as probe
-use Rattle.bit_allocator.proofs.PoolKeeps.{may_widen}
-use Rattle.slot_array.specs.SlotCalls.SlotCall.{Pooled}
 use Rattle.slot_array.specs.SlotsObject.{SlotsObject, slots_after}
 use Rattle.run_checker.specs.declared.stays.Stay.{Stay}
 use Rattle.run_checker.specs.declared.stays.Stays.{Stays}

@@ -1,7 +1,6 @@
 -- what a rising view says of its first pair and of those further on
 use Rattle.std.proofs.Common.{◌≡◌, ◌≢◌, ℕ, List, ◌∷◌, Some, None, refl, sym, ap, ◌∙◌, arith, eq-eqb}
-use Rattle.std.proofs.lemmas.Bool.{ne_eqb}
-use Rattle.step_memory.specs.View.{IsRising, value_of}
+use Rattle.run_checker.proofs.Common.{ne_eqb, IsRising, value_of}
 use Rattle.step_memory.proofs.ViewLemmas.{value_of-below}
 
 module _ (x : ℕ × ℕ) (xs : List (ℕ × ℕ)) where

@@ -10,7 +10,7 @@ use Rattle.commands.specs.declared.kind.WorldKind.{WorldKind}
 use Rattle.commands.specs.declared.kind.WorldKind.TheVariants.{Rename, Tree}
 use Rattle.rename_core.specs.declared.round.Round.{Round}
 use Rattle.rename_core.specs.declared.round.Stage.{Stage}
-use Rattle.rename_core.specs.declared.round.Stage.TheVariants.{Placing, Proposing, Looking, Settled as IsSettled, Over}
+use Rattle.rename_core.specs.declared.round.Stage.TheVariants.{Settled as IsSettled, Over}
 use Rattle.rename_core.specs.RenameWorld.{owner_by, refusal_by}
 use Rattle.rename_core.specs.Round.{stage_refusal}
 use Rattle.bit_allocator.specs.declared.stay.Stay.{Stay}
@@ -51,11 +51,9 @@ other_if true why rest here there = here
 other_if false why rest here there = there
 
 other_stage : (s : Stage) → IsOther (stage_refusal s)
-other_stage Placing = tt
-other_stage (Proposing number) = tt
-other_stage Looking = tt
 other_stage IsSettled = refl
 other_stage Over = refl
+other_stage s = tt
 
 other_step : (r : Option Round) → IsOther (refusal_by r)
 other_step None = refl

@@ -108,13 +108,8 @@ module _ {T X : Type 0} (rules : VisitRules T X) where
   pub visit_answers : (w : T) (q : Request) → knows_visits q ≡ true → (r : ShownReply) × (u : T) × visit_may rules w q r u
   visit_answers w (Take (Begin p)) known = (done_reply (rules.begins w p), rules.begun w p, (refl, refl))
   visit_answers w (Take (Step p)) known = (said_reply rules.shown (rules.steps w p), rules.stepped w p, inl (refl, refl))
-  visit_answers w (Take (Enter p)) known = absurd cc
-  visit_answers w (Take (Probe p)) known = absurd cc
-  visit_answers w (Take (Leave p)) known = absurd cc
-  visit_answers w (Take (Put p value)) known = absurd cc
-  visit_answers w (Take (Get p)) known = absurd cc
-  visit_answers w (Take (Widen more)) known = absurd cc
   visit_answers w (OwnerOf n) known = (reply.Refused refusal.OutOfRange, w, no_name w n known)
+  visit_answers w q known = absurd cc
 
   one_step : (w u v : T) (p : ℕ) (a b : ShownReply) → step_may rules w p a u → step_may rules w p b v →
       a ≢ reply.Refused refusal.NoMemory → b ≢ reply.Refused refusal.NoMemory → (a ≡ b) × (u ≡ v)

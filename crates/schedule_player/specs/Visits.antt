@@ -7,7 +7,7 @@ use Rattle.step_memory.specs.declared.refusal.Refusal.TheVariants as refusal
 use Rattle.step_memory.specs.World.{after_begin, after_step, begin_refusal, done_unless, may_refuse_step, step_answer}
 use Rattle.step_memory.specs.WorldMachine.{WorldParts}
 use Rattle.step_memory.specs.WorldState.{WorldState}
-use Rattle.commands.specs.declared.event.Event.TheVariants.{Begin, Step, Enter, Probe, Leave, Put, Get, Widen}
+use Rattle.commands.specs.declared.event.Event.TheVariants.{Begin, Step}
 use Rattle.commands.specs.declared.exchange.Exchange.{Exchange}
 use Rattle.commands.specs.declared.reply.Reply.TheVariants as reply
 use Rattle.commands.specs.Replies.{ShownReply, done_reply}
@@ -18,14 +18,8 @@ use Rattle.commands.specs.Requests.Request.{Take, OwnerOf}
 abbrev pub knows_visits : Request → Bool
 knows_visits (Take (Begin p)) = true
 knows_visits (Take (Step p)) = true
-knows_visits (Take (Enter p)) = false
-knows_visits (Take (Probe p)) = false
-knows_visits (Take (Leave p)) = false
-knows_visits (Take (Put p value)) = false
-knows_visits (Take (Get p)) = false
-knows_visits (Take (Widen more)) = false
 knows_visits (OwnerOf zero) = true
-knows_visits (OwnerOf (suc n)) = false
+knows_visits r = false
 
 -- the outcome of `begin` and of `step` and the state after each, whether a step may be refused for want of memory instead,
 -- and what an accepted step is shown as
@@ -68,13 +62,8 @@ step_may rules w p r u =
 abbrev pub visit_may : {T X : Type 0} → VisitRules T X → T → Request → ShownReply → T → Type 0
 visit_may rules w (Take (Begin p)) r u = (r ≡ done_reply (rules.begins w p)) × (u ≡ rules.begun w p)
 visit_may rules w (Take (Step p)) r u = step_may rules w p r u
-visit_may rules w (Take (Enter p)) r u = ⊥
-visit_may rules w (Take (Probe p)) r u = ⊥
-visit_may rules w (Take (Leave p)) r u = ⊥
-visit_may rules w (Take (Put p value)) r u = ⊥
-visit_may rules w (Take (Get p)) r u = ⊥
-visit_may rules w (Take (Widen more)) r u = ⊥
 visit_may rules w (OwnerOf n) r u = NoName w n r u
+visit_may rules w x r u = ⊥
 
 -- the exchange that a call is
 abbrev pub exchange_of : {X : Type 0} → (X → ShownReply) → Call X → Exchange

@@ -1,5 +1,5 @@
 -- what is played of a world that is a machine keeps its law
-use Rattle.std.proofs.Common.{◌≡◌, ◌≤◌, ℕ, List, [], inr, Err, refl, sym, subst, true}
+use Rattle.std.proofs.Common.{◌≡◌, ◌≤◌, ℕ, List, [], inr, Err, refl, sym, subst}
 use Rattle.std.proofs.lemmas.Bool.{and_parts}
 use Rattle.step_memory.specs.declared.refusal.Refusal.TheVariants as refusal
 use Rattle.step_memory.specs.Calls.{reply_of}

@@ -1,32 +1,19 @@
 -- a record, as it is written, is a header and a line for each exchange, which says it
 use Rattle.std.proofs.Common.{◌≡◌, ℕ, ◌+◌, ◌^◌, ◌<◌, ◌≤◌, true, List, [], ◌∷◌, ◌++◌, length, map, flat_map, Option, Some, None, option_and_then, codes, decimal, IsUtf8, refl, ap, ◌∙◌, arith, append_assoc, length-append}
-use Rattle.std.specs.List.{list_all}
-use Rattle.std.proofs.lemmas.Bool.Decides.{nat_tests}
-use Rattle.std.proofs.lemmas.Str.{IsUtf8-append}
-use Rattle.json.proofs.Printed.Utf8.{are_ascii, IsUtf8-are_ascii}
+use Rattle.record_lines.proofs.Common.{list_all, nat_tests, IsUtf8-append, are_ascii, IsUtf8-are_ascii, WorldKind, ShownReply, event_words, has_no_lf, with_ends, reply_words, Two, told_with, SaysSizes, is_plain, IsEventLine, IsHeaderLine, IsPlainView}
 use Rattle.commands.specs.declared.config.Config.{Config}
 use Rattle.rename_core.proofs.MostIn.{few_take_part}
-use Rattle.commands.specs.declared.kind.WorldKind.{WorldKind}
 use Rattle.commands.specs.declared.exchange.Exchange.{Exchange}
-use Rattle.commands.specs.Replies.{ShownReply}
 use Rattle.commands.specs.declared.reply.Reply.TheVariants as reply
 use Rattle.commands.specs.Config.{facts_of, gives_names, world_name}
 use Rattle.commands.specs.KindProofs.{name_has}
-use Rattle.player.specs.Events.{event_words}
-use Rattle.player.specs.Lines.{has_no_lf, with_ends}
 use Rattle.player.specs.Records.{header_line, name_view, exchange_line, turn_record, record_of}
-use Rattle.player.specs.Replies.{reply_words}
 use Rattle.player.specs.Turns.{Turn, exchanges}
 use Rattle.player.specs.Turns.Turn.{Answered, Told, Ended, Misread}
-use Rattle.record_lines.specs.declared.header.Version.TheVariants.{Two}
 use Rattle.record_lines.specs.declared.told.Told.{Told as Words}
-use Rattle.record_lines.specs.ReplyText.{told_with}
-use Rattle.record_lines.specs.Json.{SaysSizes, is_plain}
 use Rattle.record_lines.specs.Lines.{line_of}
-use Rattle.record_lines.specs.RecordLine.{IsEventLine, IsHeaderLine}
 use Rattle.record_lines.specs.Records.{IsRecordOf, record_lines, AreRead}
 use Rattle.record_lines.proofs.Pieces.{lines_cut}
-use Rattle.record_lines.specs.PlainLine.{IsPlainView}
 use Rattle.record_lines.proofs.written.Texts.{shown_text, line_data, line_text, header_data, header_text, read_line_text, read_header_text, plain_utf8}
 use Rattle.record_lines.specs.Narrow.{AreNarrowExchanges, IsNarrowEvent, IsNarrowReply}
 use Rattle.record_lines.proofs.written.PlainLines.{texts_are}

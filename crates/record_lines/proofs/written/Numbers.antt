@@ -1,11 +1,7 @@
 -- what is written of a number is read as it
 use Rattle.std.proofs.Common.{◌≡◌, ℕ, zero, suc, ◌+◌, ◌-◌, ◌*◌, ◌/◌, ◌%◌, ◌^◌, ◌<◌, ◌≤◌, true, List, [], ◌∷◌, ◌++◌, length, get_or, Some, decimal, refl, ◌∙◌, arith, length-append}
-use Rattle.std.specs.List.{list_all}
-use Rattle.std.proofs.lemmas.Bool.Decides.{nat_tests}
-use Rattle.std.proofs.lemmas.Bool.{ne_eqb, lt-ltb}
+use Rattle.record_lines.proofs.Common.{list_all, nat_tests, ne_eqb, lt-ltb, list_all-append, is_digit, decimal_from, number_in, number_below}
 use Rattle.std.proofs.lemmas.Fmt.{decimal_digit, decimal_by_steps_wide}
-use Rattle.std.proofs.lemmas.List.Folds.{list_all-append}
-use Rattle.player.specs.Meaning.{is_digit, decimal_from, number_in, number_below}
 
 -- digits that write this number, with no leading zero but of 0
 pub record AreDigitsOf (n : ℕ) (ds : List ℕ) : Type 0 where

@@ -1,21 +1,10 @@
 -- lines that are spelled as records are written are objects of their texts
-use Rattle.std.proofs.Common.{◌≡◌, ℕ, true, List, [], ◌++◌, Option, Some, None, Result, Ok, Err, refl, sym, ap, ◌∙◌, append_assoc, codes, IsUtf8}
-use Rattle.std.specs.Prelude.{MatchOption}
-use Rattle.std.specs.Result.{IfOk}
-use Rattle.std.specs.List.{list_all}
-use Rattle.std.specs.declared.alloc.AllocError.{AllocError}
-use Rattle.std.proofs.lemmas.Str.{IsUtf8-append}
-use Rattle.json.proofs.Printed.Utf8.{IsUtf8-are_ascii}
-use Rattle.serde_json.specs.Data.{Data}
+use Rattle.std.proofs.Common.{◌≡◌, ℕ, true, List, [], ◌++◌, Option, Some, None, Result, Ok, Err, refl, sym, ap, ◌∙◌, append_assoc, codes, IsUtf8, MatchOption}
+use Rattle.record_lines.proofs.Common.{IfOk, list_all, AllocError, IsUtf8-append, IsUtf8-are_ascii, Data, WorldKind, Version, Line, Told, Event}
 use Rattle.serde_json.specs.Read.{read}
-use Rattle.commands.specs.declared.kind.WorldKind.{WorldKind}
-use Rattle.record_lines.specs.declared.header.Version.{Version}
-use Rattle.record_lines.specs.declared.line.Line.{Line}
 use Rattle.record_lines.specs.Json.{is_plain, AreTexts, HasViewText, text_count}
 use Rattle.record_lines.specs.RecordLine.{SaysByTexts, SaysLine}
 use Rattle.record_lines.specs.Lines.{line}
-use Rattle.record_lines.specs.declared.told.Told.{Told}
-use Rattle.commands.specs.declared.event.Event.{Event}
 use Rattle.record_lines.specs.PlainLine.{SpellsLine, SpellsEvent, ending, IsPlainView, SpellsTold, SpellsReply}
 use Rattle.record_lines.proofs.written.Texts.{line_data, line_text, read_line_text, plain_utf8}
 

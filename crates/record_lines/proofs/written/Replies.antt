@@ -1,24 +1,16 @@
 -- the words of replies, as they are written, tell them
 use Rattle.std.proofs.Common.{◌≡◌, ℕ, ◌*◌, ◌^◌, ◌<◌, ◌≤◌, true, false, List, [], ◌∷◌, ◌++◌, length, map, Option, Some, None, option_map, codes, decimal, refl, ap, ◌∙◌, arith, append_assoc, length-append}
-use Rattle.std.specs.List.{list_all}
-use Rattle.std.proofs.lemmas.Bool.{lt-ltb}
-use Rattle.std.proofs.lemmas.Fmt.{length-decimal-le_wide}
+use Rattle.record_lines.proofs.Common.{list_all, lt-ltb, length-decimal-le_wide, ShownReply, pieces_from, told_of, Two, is_plain, IsPlainView}
 use Rattle.step_memory.specs.View.{IsAbove, IsRising}
 use Rattle.step_memory.specs.Refusal.{refusal_number}
 use Rattle.step_memory.specs.declared.refusal.Refusal.{Refusal}
 use Rattle.step_memory.specs.declared.refusal.Refusal.TheVariants.{ZeroIdentity}
-use Rattle.commands.specs.Replies.{ShownReply}
 use Rattle.commands.specs.declared.reply.Reply.TheVariants as reply
 use Rattle.player.specs.Replies.{pair_word, pair_words, view_words, reply_words}
-use Rattle.player.specs.Lines.{pieces_from}
 use Rattle.record_lines.specs.declared.told.Told.TheVariants as told
-use Rattle.record_lines.specs.Lines.{told_of}
-use Rattle.record_lines.specs.declared.header.Version.TheVariants.{Two}
 use Rattle.record_lines.specs.ReplyText.{pair_in, pair_of, pairs_after, pairs_in, told_in, told_of_words, told_with, saw_of}
 use Rattle.player.proofs.PieceLemmas.{lacks, pieces-pass, pieces-last, pieces-cut}
 use Rattle.record_lines.proofs.written.Numbers.{read_decimal, number_in-decimal}
-use Rattle.record_lines.specs.Json.{is_plain}
-use Rattle.record_lines.specs.PlainLine.{IsPlainView}
 use Rattle.record_lines.proofs.written.Texts.{shown_text}
 use Rattle.record_lines.specs.Narrow.{AreNarrow, IsShort, IsNarrowReply}
 use Rattle.record_lines.proofs.written.Words.{lacks_both, no_space, no_colon, number_word, plain_both, plain_decimal, short_decimal, word_plain}

@@ -1,25 +1,11 @@
 -- the words of events and replies, as they are written, mean the event and tell the reply
-use Rattle.std.proofs.Common.{◌≡◌, ℕ, ◌^◌, ◌<◌, ◌≤◌, ◌==◌, Bool, true, false, not, List, [], ◌∷◌, ◌++◌, length, Result, Ok, codes, decimal, refl, ap, ◌∙◌, arith, append_assoc, length-append}
-use Rattle.std.specs.List.{list_all}
-use Rattle.std.specs.Prelude.{nat_lt}
-use Rattle.std.proofs.lemmas.Bool.{and_parts}
-use Rattle.std.proofs.lemmas.Bool.Decides.{nat_tests}
-use Rattle.std.proofs.lemmas.Fmt.{length-decimal-le_wide}
-use Rattle.std.proofs.lemmas.List.Folds.{list_all-append}
-use Rattle.commands.specs.declared.kind.WorldKind.{WorldKind}
-use Rattle.commands.specs.declared.event.Event.{Event}
-use Rattle.commands.specs.declared.event.Event.TheVariants.{Begin, Step, Enter, Probe, Leave, Put, Get, Widen}
-use Rattle.commands.specs.Config.{gives_names}
+use Rattle.std.proofs.Common.{◌≡◌, ℕ, ◌^◌, ◌<◌, ◌≤◌, ◌==◌, Bool, true, false, not, List, [], ◌∷◌, ◌++◌, length, Result, Ok, codes, decimal, refl, ap, ◌∙◌, arith, append_assoc, length-append, nat_lt}
+use Rattle.record_lines.proofs.Common.{list_all, and_parts, nat_tests, length-decimal-le_wide, list_all-append, WorldKind, Event, Begin, Step, Enter, Probe, Leave, Put, Get, Widen, gives_names, event_words, pieces_from, has_no_lf, is_digit, is_printable, words, command_in, meaning, lacks, pieces-last, pieces-cut, is_plain}
 use Rattle.commands.specs.declared.bad.Bad.{Bad}
 use Rattle.commands.specs.declared.command.Command.{Command}
 use Rattle.commands.specs.declared.command.Command.TheVariants as command
-use Rattle.player.specs.Events.{event_words}
-use Rattle.player.specs.Lines.{pieces_from, has_no_lf}
-use Rattle.player.specs.Meaning.{is_digit, is_printable, words, command_in, meaning}
-use Rattle.player.proofs.PieceLemmas.{lacks, pieces-last, pieces-cut}
 use Rattle.record_lines.proofs.written.Numbers.{decimal_digits, number_in-decimal}
 use Rattle.record_lines.specs.Narrow.{IsNarrowEvent}
-use Rattle.record_lines.specs.Json.{is_plain}
 
 -- a test that follows from another
 pub all_by : (p q : ℕ → Bool) → ((b : ℕ) → p b ≡ true → q b ≡ true) → (xs : List ℕ) → list_all p xs ≡ true → list_all q xs ≡ true

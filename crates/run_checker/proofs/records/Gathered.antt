@@ -1,17 +1,6 @@
 -- the lines of a record, with what is gathered of them
 use Rattle.std.proofs.Common.{Bor, MatchOption, ◌≡◌, ℕ, ◌+◌, ◌<◌, List, [], ◌∷◌, Option, Some, None, ap, ◌∙◌, subst}
-use Rattle.std.specs.Option.{option_copied}
-use Rattle.commands.specs.declared.config.Config.{Config}
-use Rattle.record_lines.specs.declared.header.Header.{Header}
-use Rattle.record_lines.specs.declared.line.Line.{Line}
-use Rattle.record_lines.specs.RecordLine.{FindsLine, IsEventLine}
-use Rattle.record_lines.specs.Records.{record_lines, lines_left}
-use Rattle.run_checker.specs.declared.checker.Checker.{Checker}
-use Rattle.run_checker.specs.declared.reason.Reason.{Reason}
-use Rattle.run_checker.specs.Gathered.{Gathers, AreGathered}
-use Rattle.run_checker.specs.Judged.{TakesMore}
-use Rattle.run_checker.specs.Verdict.{HasHeader, LacksHeader}
-use Rattle.run_checker.specs.SoFar.{RowsSoFar}
+use Rattle.run_checker.proofs.Common.{option_copied, Config, Header, Line, FindsLine, IsEventLine, record_lines, lines_left, Checker, Reason, Gathers, AreGathered, TakesMore, HasHeader, LacksHeader, RowsSoFar}
 use Rattle.run_checker.proofs.records.Rows.{all_rows, next_row}
 
 -- the rows so far were read, taken and gathered, and these are left

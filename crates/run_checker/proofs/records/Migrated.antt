@@ -1,40 +1,16 @@
 -- to what a record is migrated is a record of a run
 use Rattle.std.proofs.Common.{◌≡◌, inl, ℕ, ◌≤◌, Bool, List, [], ◌∷◌, ◌++◌, length, map, flat_map, refl, sym, ap, ◌∙◌, subst, arith}
-use Rattle.std.proofs.lemmas.List.{length-map}
-use Rattle.step_memory.specs.Runs.{Run}
-use Rattle.rename_core.specs.RenameObject.{RenameTerms}
-use Rattle.commands.specs.declared.config.Config.{Config}
-use Rattle.commands.specs.declared.kind.WorldKind.{WorldKind}
-use Rattle.commands.specs.declared.exchange.Exchange.{Exchange}
-use Rattle.commands.specs.Replies.{ShownReply}
+use Rattle.run_checker.proofs.Common.{length-map, Run, RenameTerms, Config, WorldKind, Exchange, ShownReply, exchange_of, Answered, Header, Version, Line, Migration, Yes, terms_of, told_of, IsLineOf, Telling, IsTelling, after_telling, exchanges_in, IsMigratedTo, HasMigrated, AreGathered, DeskObject, fresh_desk_object, AllowsCall, after_call, IsObjectRun, IsHeaderLine, IsRecordOf, record_lines, AreRead, IsSaid, few_take_part, record_is}
 use Rattle.commands.specs.declared.reply.Reply.TheVariants as reply
-use Rattle.desk.specs.DeskCalls.{exchange_of}
 use Rattle.player.specs.Records.{exchange_line, turn_record, record_of, header_line}
 use Rattle.player.specs.Turns.{exchanges}
-use Rattle.player.specs.Turns.Turn.{Answered}
-use Rattle.record_lines.specs.declared.header.Header.{Header}
-use Rattle.record_lines.specs.declared.header.Version.{Version}
-use Rattle.record_lines.specs.declared.line.Line.{Line}
-use Rattle.run_checker.specs.declared.migration.Migration.{Migration}
-use Rattle.run_checker.specs.declared.verdict.Verdict.TheVariants.{Yes}
-use Rattle.run_checker.specs.Config.{terms_of}
-use Rattle.record_lines.specs.Lines.{told_of, IsLineOf}
-use Rattle.run_checker.specs.Migrated.{Telling, IsTelling, after_telling, exchanges_in, IsMigratedTo, HasMigrated}
-use Rattle.run_checker.specs.Gathered.{AreGathered}
-use Rattle.run_checker.specs.ObjectRun.{DeskObject, fresh_desk_object, AllowsCall, after_call, IsObjectRun}
-use Rattle.record_lines.specs.RecordLine.{IsHeaderLine}
-use Rattle.record_lines.specs.Records.{IsRecordOf, record_lines, AreRead}
 use Rattle.run_checker.specs.Recorded.{IsYes}
-use Rattle.run_checker.specs.Verdict.{IsSaid}
-use Rattle.rename_core.proofs.MostIn.{few_take_part}
 use Rattle.run_checker.proofs.NarrowRuns.{FitsPlace, AreWritable, run_narrow}
-use Rattle.record_lines.specs.Narrow.{FitsTold}
+use Rattle.record_lines.specs.Narrow.{FitsTold, IsNarrowEvent}
 use Rattle.record_lines.proofs.Narrow.{line_fits}
 use Rattle.record_lines.proofs.Headers.{header_named}
 use Rattle.run_checker.proofs.records.Recording.{yes_by, record_said}
 use Rattle.run_checker.proofs.records.Rows.{read_length}
-use Rattle.record_lines.specs.Narrow.{IsNarrowEvent}
-use Rattle.record_lines.proofs.written.Lines.{record_is}
 
 -- ---- what is written is a record of a run
 

@@ -1,31 +1,13 @@
 -- lines are migrated, one after the other
 use Rattle.std.proofs.Common.{◌≡◌, ℕ, Bool, true, false, List, [], ◌∷◌, ◌++◌, map, flat_map, Option, Some, None, Ok, Err, refl, sym, ap, ◌∙◌, subst, append_assoc}
+use Rattle.run_checker.proofs.Common.{Began, Stepped, Run, run_more, run_one, run_splits, Config, RenameTerms, RenameObject, IsRecent, ShowsSole, Entered, Probed, Left, Widened, Pooled, Stored, Fetched, Extended, Exchange, DeskCall, exchange_of, Renamed, Slotted, header_line, exchange_line, Firsts, Line, Migration, terms_of, IsShown, told_of, line_of, IsLineOf, CanFollow, after_line, Gathers, DeskObject, fresh_desk_object, AllowsCall, after_call}
 use Rattle.std.specs.Prelude.{MatchOption, unwrap_or}
 use Rattle.std.proofs.lemmas.List.{map-append, append-nil}
 use Rattle.std.proofs.lemmas.Grind.{flat_map-append}
-use Rattle.step_memory.specs.Calls.Call.{Began, Stepped}
-use Rattle.step_memory.specs.Runs.{Run}
-use Rattle.step_memory.proofs.RunLemmas.{run_more, run_one, run_splits}
-use Rattle.commands.specs.declared.config.Config.{Config}
 use Rattle.rename_core.specs.declared.reply.Reply.TheVariants as step
-use Rattle.rename_core.specs.RenameObject.{RenameTerms, RenameObject, IsRecent, ShowsSole}
 use Rattle.bit_allocator.specs.declared.probe.Probe.TheVariants as probe
-use Rattle.bit_allocator.specs.Calls.Call.{Entered, Probed, Left, Widened}
-use Rattle.slot_array.specs.SlotCalls.SlotCall.{Pooled, Stored, Fetched, Extended}
-use Rattle.commands.specs.declared.exchange.Exchange.{Exchange}
-use Rattle.desk.specs.DeskCalls.{DeskCall, exchange_of}
-use Rattle.desk.specs.DeskCalls.DeskCall.{Renamed, Slotted}
-use Rattle.player.specs.Records.{header_line, exchange_line}
-use Rattle.run_checker.specs.declared.firsts.Firsts.{Firsts}
-use Rattle.record_lines.specs.declared.line.Line.{Line}
-use Rattle.run_checker.specs.declared.migration.Migration.{Migration}
-use Rattle.run_checker.specs.Config.{terms_of}
 use Rattle.run_checker.specs.Firsts.{IsFirstSole, NeverSole, view_at, HasFirst, HoldsFirsts}
-use Rattle.record_lines.specs.Lines.{IsShown, told_of, line_of, IsLineOf}
-use Rattle.run_checker.specs.Lines.{CanFollow, after_line}
-use Rattle.run_checker.specs.Gathered.{Gathers}
 use Rattle.run_checker.specs.Migrated.{Telling, ShowsFirst, IsTelling, after_telling, exchanges_in, record_text, proposal_of, shown_in, GoesOn, HasMigrated}
-use Rattle.run_checker.specs.ObjectRun.{DeskObject, fresh_desk_object, AllowsCall, after_call}
 use Rattle.run_checker.proofs.records.Runs.{after_is}
 
 -- ---- the call that a line is taken for
@@ -110,13 +92,10 @@ unchanged : (f f' : Firsts) (o : RenameObject) → f' ≡ f → HoldsFirsts f o 
 unchanged f f' o e h = subst (λ (x : Firsts). HoldsFirsts x o) (sym e) h
 
 firsts_after : (f f' : Firsts) (o : DeskObject) (c : DeskCall) (b : Bool) → HoldsFirsts f o.names → GoesOn (proposal_of (exchange_of c).event (told_of b (exchange_of c).reply)) f f' → HoldsFirsts f' (after_call o c).names
-firsts_after f f' o (Renamed (Began p (Ok done))) b h g = unchanged f f' _ g (elsewhere f o.names _ _ _ _ _ _ h)
-firsts_after f f' o (Renamed (Stepped p (Ok (step.Placed x)))) b h g = unchanged f f' _ g (elsewhere f o.names _ _ _ _ _ _ h)
 firsts_after f f' o (Renamed (Stepped p (Ok (step.Proposed n)))) b h g = g o.names h
-firsts_after f f' o (Renamed (Stepped p (Ok (step.Named n view)))) b h g = unchanged f f' _ g (elsewhere f o.names _ _ _ _ _ _ h)
-firsts_after f f' o (Renamed (Stepped p (Ok step.Spent))) b h g = unchanged f f' _ g (elsewhere f o.names _ _ _ _ _ _ h)
 firsts_after f f' o (Slotted (Pooled (Entered p answer))) b h g = unchanged f f' _ g h
 firsts_after f f' o c b h g = unchanged f f' _ g h
+firsts_after f f' o c b h g = unchanged f f' _ g (elsewhere f o.names _ _ _ _ _ _ h)
 
 pub firsts_next : (f f' : Firsts) (o : DeskObject) (c : DeskCall) (l : Line) → IsLineOf (exchange_of c) l → HoldsFirsts f o.names → GoesOn (proposal_of l.event l.told) f f' → HoldsFirsts f' (after_call o c).names
 firsts_next f f' o c l w h g = firsts_after f f' o c w.shows h (subst (λ (x : Line). GoesOn (proposal_of x.event x.told) f f') (sym w.spelled) g)

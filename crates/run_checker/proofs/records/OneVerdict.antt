@@ -1,19 +1,9 @@
 -- of a record that spells a run nothing else is said
 use Rattle.std.proofs.Common.{◌≡◌, ℕ, List, [], ◌∷◌, ◌++◌, length, refl, sym, ap, ◌∙◌, subst, inl, inr, arith, length-append}
-use Rattle.commands.specs.declared.kind.WorldKind.{WorldKind}
+use Rattle.run_checker.proofs.Common.{WorldKind, RenameTerms, Header, Version, Line, Verdict, terms_of, AreLinesOfRun, IsEventLine, IsHeaderLine, SpellRun, IsFaultyRow, IsBadRow, IsSaidOfRows, IsSaidAfter, LacksHeader, IsSaid}
 use Rattle.commands.specs.Config.{is_tree}
-use Rattle.rename_core.specs.RenameObject.{RenameTerms}
-use Rattle.record_lines.specs.declared.header.Header.{Header}
-use Rattle.record_lines.specs.declared.header.Version.{Version}
-use Rattle.record_lines.specs.declared.line.Line.{Line}
-use Rattle.run_checker.specs.declared.verdict.Verdict.{Verdict}
 use Rattle.run_checker.specs.declared.verdict.Verdict.TheVariants.{Yes, No, BadRecord, NoMemory}
-use Rattle.run_checker.specs.Config.{terms_of}
-use Rattle.run_checker.specs.Lines.{AreLinesOfRun}
-use Rattle.record_lines.specs.RecordLine.{IsEventLine, IsHeaderLine}
-use Rattle.record_lines.specs.Records.{AreRead}
-use Rattle.run_checker.specs.Verdict.{SpellRun, IsFaultyRow, IsBadRow, IsSaidOfRows, IsSaidAfter, LacksHeader, IsSaid}
-use Rattle.record_lines.specs.Records.{AreSame}
+use Rattle.record_lines.specs.Records.{AreRead, AreSame}
 use Rattle.record_lines.proofs.Once.{line_once, header_once}
 use Rattle.run_checker.proofs.records.Runs.{at_fault}
 

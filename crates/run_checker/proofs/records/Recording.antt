@@ -1,7 +1,6 @@
 -- what `record` writes spells the run that was played
 use Rattle.std.proofs.Common.{◌≡◌, ℕ, true, List, [], ◌∷◌, map, length, Option, Some, Ok, Err, inl, inr, refl, sym, ap, ◌∙◌, subst, arith, ◌≤◌}
-use Rattle.std.specs.Io.KnownBytes.{Appends}
-use Rattle.commands.specs.declared.config.Config.{Config}
+use Rattle.run_checker.proofs.Common.{Appends, Config, record_of, Answered, Told, Ended, Misread, Yes, terms_of, IsRecordOf, record_lines, IsSaid, IsSaidAfter, few_take_part, record_is, length-map, Exchange, line_of, IsObjectRun}
 use Rattle.desk.proofs.DeskLaws as desk
 use Rattle.player.specs.declared.summary.Summary.{Summary}
 use Rattle.player.specs.Asked.{asked_by}
@@ -10,27 +9,15 @@ use Rattle.schedule_player.specs.IsTalkProofs.{is_desk_talk}
 use Rattle.player.specs.Lines.{lines}
 use Rattle.player.specs.Played.{Reading, Writing, IsInput, PlayedToEnd}
 use Rattle.schedule_player.specs.Recorded.{IsRecorded}
-use Rattle.player.specs.Records.{record_of}
 use Rattle.player.specs.Turns.{Turn, asked, exchanges}
-use Rattle.player.specs.Turns.Turn.{Answered, Told, Ended, Misread}
-use Rattle.run_checker.specs.declared.verdict.Verdict.TheVariants.{Yes}
-use Rattle.run_checker.specs.Config.{terms_of}
 use Rattle.run_checker.proofs.records.Rows.{read_length}
 use Rattle.run_checker.proofs.records.Runs.{lines_of_all}
-use Rattle.record_lines.specs.Records.{IsRecordOf, record_lines}
 use Rattle.run_checker.specs.Recorded.{IsShortTalk, HasRecorded, RecordsTalk, events_among, events_in, IsYes}
-use Rattle.run_checker.specs.Verdict.{IsSaid, IsSaidAfter}
-use Rattle.rename_core.proofs.MostIn.{few_take_part}
 use Rattle.run_checker.proofs.DeskRuns.{desk_run}
 use Rattle.run_checker.proofs.NarrowRuns.{AreWritable, run_narrow}
 use Rattle.run_checker.proofs.records.OneVerdict.{one_verdict}
 use Rattle.run_checker.proofs.records.Talking.{asked_narrow, turns_fit}
-use Rattle.record_lines.proofs.written.Lines.{record_is}
-use Rattle.std.proofs.lemmas.List.{length-map}
-use Rattle.commands.specs.declared.exchange.Exchange.{Exchange}
 use Rattle.record_lines.specs.declared.header.Version.TheVariants.{Two}
-use Rattle.record_lines.specs.Lines.{line_of}
-use Rattle.run_checker.specs.ObjectRun.{IsObjectRun}
 
 -- where the exchanges are a run that is not too long, their record spells one
 pub record_said : (c : Config) (r : List Exchange) (bytes : List ℕ) → IsRecordOf c r bytes → IsObjectRun (terms_of c) c.k r → length r ≤ 1000000 → IsSaidAfter (record_lines bytes) Yes

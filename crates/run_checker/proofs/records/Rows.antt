@@ -1,18 +1,6 @@
 -- the lines of a record, one after the other
 use Rattle.std.proofs.Common.{◌≡◌, ℕ, suc, ◌+◌, ◌<◌, ◌≤◌, List, [], ◌∷◌, ◌++◌, length, Option, Some, None, sym, ap, ◌∙◌, subst, arith, length-append, append_assoc, refl}
-use Rattle.std.proofs.lemmas.List.{append-nil}
-use Rattle.commands.specs.declared.kind.WorldKind.{WorldKind}
-use Rattle.run_checker.specs.declared.checker.Checker.{Checker}
-use Rattle.record_lines.specs.declared.header.Header.{Header}
-use Rattle.record_lines.specs.declared.header.Version.{Version}
-use Rattle.record_lines.specs.declared.line.Line.{Line}
-use Rattle.run_checker.specs.declared.reason.Reason.{Reason}
-use Rattle.run_checker.specs.Config.{terms_of}
-use Rattle.run_checker.specs.Judged.{TakesOn, TakesMore}
-use Rattle.record_lines.specs.RecordLine.{FindsLine, IsEventLine}
-use Rattle.record_lines.specs.Records.{AreRead}
-use Rattle.run_checker.specs.SoFar.{RowsSoFar}
-use Rattle.run_checker.specs.Verdict.{SpellRun, IsFaultyRow, IsBadRow}
+use Rattle.run_checker.proofs.Common.{append-nil, WorldKind, Checker, Header, Version, Line, Reason, terms_of, TakesOn, TakesMore, FindsLine, IsEventLine, AreRead, RowsSoFar, SpellRun, IsFaultyRow, IsBadRow}
 use Rattle.run_checker.proofs.records.Runs.{follows_run}
 
 pub read_more : (kind : WorldKind) (version : Version) (rows : List (List ℕ)) (lines : List Line) (row : List ℕ) (l : Line) → AreRead kind version rows lines → IsEventLine kind version row l → AreRead kind version (rows ++ row ∷ []) (lines ++ l ∷ [])

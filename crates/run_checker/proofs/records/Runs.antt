@@ -1,24 +1,15 @@
 -- lines that follow one another
 use Rattle.std.proofs.Common.{◌≡◌, ℕ, suc, ◌+◌, ◌<◌, ◌≤◌, ◌^◌, Bool, List, [], ◌∷◌, ◌++◌, length, map, take, Err, refl, sym, ap, ◌∙◌, subst, arith, length-append, get_or, drop, drop-cons}
+use Rattle.run_checker.proofs.Common.{Run, run_more, run_one, run_splits, RenameTerms, Event, Exchange, DeskCall, exchange_of, Checker, Line, Reason, DeskObject, fresh_desk_object, AllowsCall, after_call}
 use Rattle.std.proofs.lemmas.List.{take-append-drop}
 use Rattle.std.proofs.lemmas.Option.{slice_get_read}
 use Rattle.std.specs.Result.{IfOk}
-use Rattle.step_memory.specs.Runs.{Run}
-use Rattle.step_memory.proofs.RunLemmas.{run_more, run_one, run_splits}
-use Rattle.rename_core.specs.RenameObject.{RenameTerms}
-use Rattle.commands.specs.declared.event.Event.{Event}
 use Rattle.commands.specs.declared.event.Event.TheVariants.{Begin, Step, Enter, Probe, Leave, Put, Widen}
-use Rattle.commands.specs.declared.exchange.Exchange.{Exchange}
-use Rattle.desk.specs.DeskCalls.{DeskCall, exchange_of}
-use Rattle.run_checker.specs.declared.checker.Checker.{Checker}
 use Rattle.run_checker.specs.declared.fault.Fault.{Fault}
 use Rattle.run_checker.specs.declared.fault.Fault.TheVariants.{Unlawful, NoMemory}
 use Rattle.run_checker.specs.Fault.{told_by}
-use Rattle.record_lines.specs.declared.line.Line.{Line}
-use Rattle.run_checker.specs.declared.reason.Reason.{Reason}
 use Rattle.record_lines.specs.declared.told.Told.{Told}
 use Rattle.record_lines.specs.declared.told.Told.TheVariants.{Ok as Accepted, Proposed, Missed, Left}
-use Rattle.run_checker.specs.ObjectRun.{DeskObject, fresh_desk_object, AllowsCall, after_call}
 use Rattle.run_checker.specs.Reasons.{KeepsAll, IsLeastReason}
 use Rattle.record_lines.specs.Lines.{line_of, IsLineOf, AreLinesOf}
 use Rattle.run_checker.specs.Lines.{AreLinesOfRun, CanFollow, after_told, after_line, Follow}

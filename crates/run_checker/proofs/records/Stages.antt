@@ -1,22 +1,12 @@
 -- records that are judged as their bytes come
 use Rattle.std.proofs.Common.{◌≡◌, ◌==◌, ℕ, ◌+◌, ◌<◌, true, false, cond, List, [], ◌∷◌, ◌++◌, length, Option, Some, None, inl, refl, sym, ap, ◌∙◌, subst, append_assoc, arith}
-use Rattle.std.proofs.lemmas.List.{append-nil}
+use Rattle.run_checker.proofs.Common.{append-nil, Header, Line, FindsLine, IsEventLine, Judge, Reason, Verdict, Yes, TakesMore, RowsSoFar, IsSaid}
 use Rattle.player.specs.Lines.{pieces_from, unless_empty}
-use Rattle.record_lines.specs.declared.header.Header.{Header}
-use Rattle.record_lines.specs.declared.line.Line.{Line}
-use Rattle.record_lines.specs.RecordLine.{FindsLine, IsEventLine}
 use Rattle.record_lines.specs.Records.{lines_from, lines_of, record_lines}
-use Rattle.run_checker.specs.declared.judge.Judge.{Judge}
 use Rattle.run_checker.specs.declared.judge.Stage.{Stage}
 use Rattle.run_checker.specs.declared.judge.Stage.TheVariants.{Over}
-use Rattle.run_checker.specs.declared.reason.Reason.{Reason}
 use Rattle.run_checker.specs.declared.row_judge.RowJudge.{RowJudge}
-use Rattle.run_checker.specs.declared.verdict.Verdict.{Verdict}
-use Rattle.run_checker.specs.declared.verdict.Verdict.TheVariants.{Yes}
-use Rattle.run_checker.specs.Judged.{TakesMore}
-use Rattle.run_checker.specs.SoFar.{RowsSoFar}
 use Rattle.run_checker.specs.Stages.{HasJudged, HasOpened, HasTakenAll, HasTakenBut, JudgesRow, StandsAfter}
-use Rattle.run_checker.specs.Verdict.{IsSaid}
 use Rattle.run_checker.proofs.records.Rows.{all_rows, next_row}
 
 -- ---- bytes that come one after the other are cut into the same pieces

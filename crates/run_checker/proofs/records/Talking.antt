@@ -1,13 +1,8 @@
 -- what a talk tells fits a record
 use Rattle.std.proofs.Common.{◌≡◌, ℕ, ◌^◌, ◌<◌, List, [], ◌∷◌, ◌++◌, map, Result, Ok, Err, inl, inr, sym, subst, arith}
-use Rattle.commands.specs.declared.config.Config.{Config}
-use Rattle.commands.specs.declared.kind.WorldKind.{WorldKind}
-use Rattle.commands.specs.declared.event.Event.{Event}
-use Rattle.commands.specs.Replies.{ShownReply}
+use Rattle.run_checker.proofs.Common.{Config, WorldKind, Event, ShownReply, DeskCall, DeskValue, Answered, Told, Ended, Misread}
 use Rattle.commands.specs.declared.reply.Reply.TheVariants as reply
 use Rattle.desk.specs.Desk.{desk_rules, IsAfterDesk}
-use Rattle.desk.specs.DeskCalls.{DeskCall}
-use Rattle.desk.specs.DeskValue.{DeskValue}
 use Rattle.desk.specs.Rules.{may_by}
 use Rattle.desk.proofs.DeskLaws as desk
 use Rattle.commands.specs.declared.bad.Bad.{Bad}
@@ -18,7 +13,6 @@ use Rattle.schedule_player.specs.DeskWorld.{DeskWorldMay}
 use Rattle.player.specs.Meaning.{meaning}
 use Rattle.player.specs.Runs.{Runs}
 use Rattle.player.specs.Turns.{Turn, asked, exchanges}
-use Rattle.player.specs.Turns.Turn.{Answered, Told, Ended, Misread}
 use Rattle.record_lines.proofs.Narrow.{line_narrow}
 use Rattle.run_checker.proofs.LowPlaces.{desk_low}
 use Rattle.run_checker.proofs.NarrowRuns.{FitsPlace, AreWritable}

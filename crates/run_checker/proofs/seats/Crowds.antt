@@ -1,15 +1,7 @@
 -- a number is crowded in a row exactly where it stands at two seats
-use Rattle.std.proofs.Common.{◌≡◌, ℕ, zero, suc, ◌+◌, ◌<◌, ◌≤◌, ◌==◌, ◌↔◌, inl, inr, true, false, cond, List, [], ◌∷◌, length, get_or, refl, sym, ap, ◌∙◌, arith, Some, None, Option, count_by, slice_index, slice_set}
-use Rattle.std.specs.Prelude.{nat_lt}
-use Rattle.std.proofs.lemmas.Bool.{cases_Bool, ltb-true, ltb-false, lt-ltb, ne_eqb, eq-eqb, false≢true}
-use Rattle.std.proofs.lemmas.Bool.Decides.{eqb_tells}
-use Rattle.std.proofs.lemmas.List.{get_or-set_same, get_or-set_other, length-set}
+use Rattle.std.proofs.Common.{◌≡◌, ℕ, zero, suc, ◌+◌, ◌<◌, ◌≤◌, ◌==◌, ◌↔◌, inl, inr, true, false, cond, List, [], ◌∷◌, length, get_or, refl, sym, ap, ◌∙◌, arith, Some, None, Option, count_by, slice_index, slice_set, nat_lt}
+use Rattle.run_checker.proofs.Common.{cases_Bool, ltb-true, ltb-false, lt-ltb, ne_eqb, eq-eqb, false≢true, eqb_tells, get_or-set_same, get_or-set_other, length-set, IsConflict, IsSole, Moments, Turn, crowded, number_told, told_in, HoldsTurns}
 use Rattle.std.proofs.lemmas.List.Sums.{sum_by-cons, sum_by-set}
-use Rattle.rename_core.specs.RenameObject.{IsConflict, IsSole}
-use Rattle.run_checker.specs.declared.moments.Moments.{Moments}
-use Rattle.run_checker.specs.declared.standing.Turn.{Turn}
-use Rattle.run_checker.specs.Moments.{crowded}
-use Rattle.run_checker.specs.Standing.{number_told, told_in, HoldsTurns}
 
 count-cons : (n x : ℕ) (xs : List ℕ) → count_by (λ y. y == n) (x ∷ xs) ≡ cond {A = ℕ} (x == n) 1 0 + count_by (λ y. y == n) xs
 count-cons n x xs = sum_by-cons (λ y. cond {A = ℕ} (y == n) 1 0) x xs

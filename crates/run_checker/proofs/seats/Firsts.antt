@@ -1,18 +1,7 @@
 -- first moments in which proposals stand alone
-use Rattle.std.proofs.Common.{◌≡◌, ◌≢◌, ℕ, ◌+◌, ◌-◌, ◌<◌, ◌≤◌, ◌==◌, ◌⊎◌, inl, inr, true, false, cond, List, [], ◌∷◌, length, get_or, take, drop, drop-cons, add-one, refl, sym, ap, ◌∙◌, subst, arith, Some, None, Option, eq-eqb}
-use Rattle.std.specs.Prelude.{MatchOption}
-use Rattle.std.proofs.Math.Path.{fun_ext}
-use Rattle.std.specs.List.{list_any}
-use Rattle.std.proofs.lemmas.Bool.{cases_Bool, false≢true}
-use Rattle.std.proofs.lemmas.Bool.Decides.{eqb_tells}
+use Rattle.std.proofs.Common.{◌≡◌, ◌≢◌, ℕ, ◌+◌, ◌-◌, ◌<◌, ◌≤◌, ◌==◌, ◌⊎◌, inl, inr, true, false, cond, List, [], ◌∷◌, length, get_or, take, drop, drop-cons, add-one, refl, sym, ap, ◌∙◌, subst, arith, Some, None, Option, eq-eqb, MatchOption}
+use Rattle.run_checker.proofs.Common.{fun_ext, list_any, cases_Bool, false≢true, eqb_tells, set_at, IsRising, value_of, inserted, set_at-same, set_at-other, set_at-cases, IsRising-inserted, value_of-inserted, IsMoment, RenameObject, IsRecent, IsSole, Firsts}
 use Rattle.std.proofs.lemmas.List.{take_all, length-drop}
-use Rattle.step_memory.specs.SetAt.{set_at}
-use Rattle.step_memory.specs.View.{IsRising, value_of, inserted}
-use Rattle.step_memory.proofs.SetAtLemmas.{set_at-same, set_at-other, set_at-cases}
-use Rattle.step_memory.proofs.ViewLemmas.{IsRising-inserted, value_of-inserted}
-use Rattle.snapshot_core.specs.Snapshot.{IsMoment}
-use Rattle.rename_core.specs.RenameObject.{RenameObject, IsRecent, IsSole}
-use Rattle.run_checker.specs.declared.firsts.Firsts.{Firsts}
 use Rattle.run_checker.specs.Firsts.{NeverSole, sole_in, view_at, if_none, is_one, noted, HasFirst, HoldsFirsts}
 use Rattle.run_checker.specs.Standing.{proposed_by}
 use Rattle.run_checker.proofs.Views.{here, further, not_first, said_further}

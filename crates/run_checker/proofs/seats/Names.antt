@@ -1,22 +1,10 @@
 -- what is kept of the renaming object after each reply
-use Rattle.std.proofs.Common.{◌≡◌, ℕ, ◌+◌, ◌*◌, ◌<◌, ◌≤◌, ◌==◌, inl, inr, true, false, List, [], ◌∷◌, ◌++◌, length, refl, sym, ap, ◌∙◌, subst, arith, Some, None, Option, Bool, is_some, length-append, Ok}
-use Rattle.std.proofs.Math.Path.{fun_ext}
-use Rattle.std.specs.Prelude.{slice_set, replicate}
-use Rattle.std.specs.List.{list_any}
-use Rattle.std.proofs.lemmas.Bool.{cases_Bool}
-use Rattle.std.proofs.lemmas.Bool.Decides.{leb_tells}
-use Rattle.step_memory.specs.Calls.Call.{Began}
-use Rattle.step_memory.specs.declared.participant.Participant.{Participant}
-use Rattle.step_memory.specs.Participant.{beginner, participant_of, program_of, with_participant}
-use Rattle.step_memory.specs.SetAt.{set_at}
+use Rattle.std.proofs.Common.{◌≡◌, ℕ, ◌+◌, ◌*◌, ◌<◌, ◌≤◌, ◌==◌, inl, inr, true, false, List, [], ◌∷◌, ◌++◌, length, refl, sym, ap, ◌∙◌, subst, arith, Some, None, Option, Bool, is_some, length-append, Ok, slice_set, replicate}
+use Rattle.run_checker.proofs.Common.{fun_ext, list_any, cases_Bool, leb_tells, Began, Participant, beginner, participant_of, program_of, with_participant, set_at, set_at-map, Names, Standing, HoldsMoments}
 use Rattle.step_memory.proofs.ParticipantLemmas.{length-with_participant}
-use Rattle.step_memory.proofs.SetAtLemmas.{set_at-map}
 use Rattle.step_memory.proofs.DistinctParticipants.{distinct_put, distinct_push}
 use Rattle.rename_core.specs.declared.reply.Reply.TheVariants as step
 use Rattle.rename_core.specs.RenameObject.{RenameTerms, RenameObject, new_object, no_begin, after, after_step, IsFreeName}
-use Rattle.run_checker.specs.declared.names.Names.{Names}
-use Rattle.run_checker.specs.declared.standing.Standing.{Standing}
-use Rattle.run_checker.specs.Moments.{HoldsMoments}
 use Rattle.run_checker.specs.Standing.{place_of, name_of, spent_of, turn_of, is_held, HoldsPeople, HoldsTurns, turns_in, HoldsNames}
 use Rattle.run_checker.proofs.seats.People.{absent, none_kept, nobody_has, program_of-push, program_of-put, seen_kept, seen_set}
 use Rattle.run_checker.proofs.seats.Turned.{zero_at}

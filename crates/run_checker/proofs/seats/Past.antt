@@ -1,12 +1,9 @@
 -- what the tables of moments answer
 use Rattle.std.proofs.Common.{◌≡◌, ℕ, ◌-◌, ◌<◌, ◌↔◌, Bool, ltb, List, sym, ap, ◌∙◌, arith, Option, unwrap_or, IsTrue, nat_eq}
-use Rattle.std.proofs.lemmas.Bool.{ltb-true, lt-ltb}
+use Rattle.run_checker.proofs.Common.{ltb-true, lt-ltb, get, Moments, SomeSince, IsPast, HoldsMoments}
 use Rattle.std.specs.Bool.{Decides}
 use Rattle.std.specs.Cmp.Lexicographic.{pointwise, pointwise_decides}
 use Rattle.std.proofs.lemmas.Bool.Decides.{Decides-eqb}
-use Rattle.std.specs.HashMap.{get}
-use Rattle.run_checker.specs.declared.moments.Moments.{Moments}
-use Rattle.run_checker.specs.Moments.{SomeSince, IsPast, HoldsMoments}
 
 -- some moment passes exactly where what is past the last that does is past `since`
 pub asked : (P : ℕ → Type 0) (last past since : ℕ) (r : Bool) → IsPast P last past → r ≡ ltb since past → IsTrue r ↔ SomeSince P since last

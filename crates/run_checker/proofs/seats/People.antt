@@ -1,15 +1,7 @@
 -- lists of participants
-use Rattle.std.proofs.Common.{◌≡◌, ℕ, suc, ◌<◌, ◌==◌, inl, inr, Bool, true, false, cond, List, [], ◌∷◌, ◌++◌, length, take, drop, get_or, set, refl, sym, ap, ◌∙◌, Some, None, Option, is_some, drop-cons, ◌||◌}
-use Rattle.std.specs.Prelude.{option_and_then, option_map}
-use Rattle.std.proofs.lemmas.Bool.{eq-eqb, cases_Bool, false≢true}
-use Rattle.run_checker.specs.Standing.{is_held}
-use Rattle.std.specs.List.{list_any}
-use Rattle.std.proofs.lemmas.Bool.Decides.{eqb_tells}
+use Rattle.std.proofs.Common.{◌≡◌, ℕ, suc, ◌<◌, ◌==◌, inl, inr, Bool, true, false, cond, List, [], ◌∷◌, ◌++◌, length, take, drop, get_or, set, refl, sym, ap, ◌∙◌, Some, None, Option, is_some, drop-cons, ◌||◌, option_and_then, option_map}
+use Rattle.run_checker.proofs.Common.{eq-eqb, cases_Bool, false≢true, is_held, list_any, eqb_tells, Participant, AreDistinct, beginner, participant_of, program_of, with_participant, set_at, set_at-cases, set_at-map}
 use Rattle.std.proofs.lemmas.List.{set_split}
-use Rattle.step_memory.specs.declared.participant.Participant.{Participant}
-use Rattle.step_memory.specs.Participant.{AreDistinct, beginner, participant_of, program_of, with_participant}
-use Rattle.step_memory.specs.SetAt.{set_at}
-use Rattle.step_memory.proofs.SetAtLemmas.{set_at-cases, set_at-map}
 use Rattle.step_memory.proofs.ParticipantLemmas.{participant_of-push, participant_of-put}
 
 -- the one that is met is put in

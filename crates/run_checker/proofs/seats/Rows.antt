@@ -1,20 +1,7 @@
 -- rows of views
-use Rattle.std.proofs.Common.{◌≡◌, ℕ, zero, suc, ◌<◌, ◌≤◌, ◌↔◌, inl, inr, true, false, List, [], ◌∷◌, length, get_or, refl, sym, ap, ◌∙◌, subst, arith, Some, None, Option, slice_index, slice_set, replicate}
-use Rattle.std.specs.Prelude.{nat_lt}
-use Rattle.std.proofs.lemmas.Bool.{cases_Bool, ltb-true, ltb-false}
-use Rattle.std.proofs.lemmas.Bool.Decides.{eqb_tells}
+use Rattle.std.proofs.Common.{◌≡◌, ℕ, zero, suc, ◌<◌, ◌≤◌, ◌↔◌, inl, inr, true, false, List, [], ◌∷◌, length, get_or, refl, sym, ap, ◌∙◌, subst, arith, Some, None, Option, slice_index, slice_set, replicate, nat_lt}
+use Rattle.run_checker.proofs.Common.{cases_Bool, ltb-true, ltb-false, eqb_tells, get_or-set_same, get_or-set_other, length-set, program_of, IsRising, value_of, IsMoment, RenameTerms, RenameObject, IsRecent, ShowsConflict, ShowsSole, Names, Standing, Turn, crowded, SomeSince, HasPair, LacksPair, IsRowOf, TellsMoments, TellsSince, number_told, told_in, HoldsNames, turns_in}
 use Rattle.std.proofs.lemmas.Grind.{same_number_lists}
-use Rattle.std.proofs.lemmas.List.{get_or-set_same, get_or-set_other, length-set}
-use Rattle.step_memory.specs.Participant.{program_of}
-use Rattle.step_memory.specs.View.{IsRising, value_of}
-use Rattle.snapshot_core.specs.Snapshot.{IsMoment}
-use Rattle.rename_core.specs.RenameObject.{RenameTerms, RenameObject, IsRecent, ShowsConflict, ShowsSole}
-use Rattle.run_checker.specs.declared.names.Names.{Names}
-use Rattle.run_checker.specs.declared.standing.Standing.{Standing}
-use Rattle.run_checker.specs.declared.standing.Turn.{Turn}
-use Rattle.run_checker.specs.Moments.{crowded, SomeSince}
-use Rattle.run_checker.specs.Rows.{HasPair, LacksPair, IsRowOf, TellsMoments, TellsSince}
-use Rattle.run_checker.specs.Standing.{number_told, told_in, HoldsNames, turns_in}
 use Rattle.run_checker.proofs.seats.Turned.{zero_at}
 use Rattle.run_checker.proofs.seats.Crowds.{number_some, some_number, has_seat}
 use Rattle.run_checker.proofs.Views.{here, said_further}

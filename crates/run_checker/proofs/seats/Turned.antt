@@ -1,18 +1,10 @@
 -- the tables of moments after one more moment
-use Rattle.std.proofs.Common.{◌≡◌, ◌≢◌, ℕ, zero, suc, ◌+◌, ◌-◌, ◌<◌, ◌≤◌, ◌==◌, inl, inr, Bool, true, false, ltb, cond, List, length, refl, sym, ap, ◌∙◌, subst, arith, Some, None, Option, unwrap_or, count_by, slice_index, slice_set, get_or, nat_eq, replicate}
-use Rattle.std.specs.Prelude.{nat_lt, if◌then◌else◌}
-use Rattle.std.proofs.lemmas.Bool.{cases_Bool, false≢true, ne_eqb, ltb-true, ltb-false}
-use Rattle.std.proofs.lemmas.Bool.Decides.{eqb_tells}
+use Rattle.std.proofs.Common.{◌≡◌, ◌≢◌, ℕ, zero, suc, ◌+◌, ◌-◌, ◌<◌, ◌≤◌, ◌==◌, inl, inr, Bool, true, false, ltb, cond, List, length, refl, sym, ap, ◌∙◌, subst, arith, Some, None, Option, unwrap_or, count_by, slice_index, slice_set, get_or, nat_eq, replicate, nat_lt, if◌then◌else◌}
+use Rattle.run_checker.proofs.Common.{cases_Bool, false≢true, ne_eqb, ltb-true, ltb-false, eqb_tells, pointwise, get, set_at, set_at-same, set_at-other, set_at-cases, Moments, crowded, turned_at, IsPast, HoldsMoments}
 use Rattle.std.proofs.lemmas.List.{get_or-set_same, get_or-set_other, set_past, length-set}
 use Rattle.std.proofs.lemmas.List.Sums.{sum_by-set}
 use Rattle.std.specs.Bool.{beq}
 use Rattle.std.specs.Cmp.{booleans_Decides}
-use Rattle.std.specs.Cmp.Lexicographic.{pointwise}
-use Rattle.std.specs.HashMap.{get}
-use Rattle.step_memory.specs.SetAt.{set_at}
-use Rattle.step_memory.proofs.SetAtLemmas.{set_at-same, set_at-other, set_at-cases}
-use Rattle.run_checker.specs.declared.moments.Moments.{Moments}
-use Rattle.run_checker.specs.Moments.{crowded, turned_at, IsPast, HoldsMoments}
 use Rattle.run_checker.proofs.seats.Past.{same_row}
 
 -- moments up to the last are as before, and the new one is the last

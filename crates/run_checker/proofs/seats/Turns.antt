@@ -1,13 +1,6 @@
 -- who has a seat, and what rows say of seats
 use Rattle.std.proofs.Common.{◌≡◌, ◌≢◌, ℕ, ◌+◌, ◌<◌, ◌≤◌, ◌==◌, inl, inr, true, false, cond, List, length, refl, sym, ap, ◌∙◌, subst, arith, Some, None, Option, slice_index, slice_set}
-use Rattle.std.proofs.lemmas.Bool.Decides.{eqb_tells}
-use Rattle.std.proofs.lemmas.List.{get_or-set_same, get_or-set_other}
-use Rattle.step_memory.specs.SetAt.{set_at}
-use Rattle.step_memory.proofs.SetAtLemmas.{set_at-same, set_at-other, set_at-is}
-use Rattle.run_checker.specs.declared.moments.Moments.{Moments}
-use Rattle.run_checker.specs.declared.standing.Turn.{Turn}
-use Rattle.run_checker.specs.Moments.{HoldsMoments}
-use Rattle.run_checker.specs.Standing.{count_of, since_of, number_told, told_in, Stands, HoldsTurns}
+use Rattle.run_checker.proofs.Common.{eqb_tells, get_or-set_same, get_or-set_other, set_at, set_at-same, set_at-other, set_at-is, Moments, Turn, HoldsMoments, count_of, since_of, number_told, told_in, Stands, HoldsTurns}
 use Rattle.run_checker.proofs.seats.Crowds.{number_some}
 use Rattle.run_checker.proofs.seats.People.{seen_kept, seen_set}
 use Rattle.run_checker.proofs.seats.Turned.{by_moment, earlier}

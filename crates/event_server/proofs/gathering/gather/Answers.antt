@@ -1,11 +1,6 @@
 use Rattle.std.proofs.Common.{◌≡◌, ◌+◌, ◌∙◌, ◌++◌, inl, inr, [], ap, refl, subst, sym, arith, get_or}
-use Rattle.commands.specs.declared.kind.WorldKind.{WorldKind}
-use Rattle.player.specs.Lines.{with_ends}
-use Rattle.player.specs.Shared.{tagged}
+use Rattle.event_server.proofs.Common.{WorldKind, with_ends, tagged, SeatLooked, seats_of, SeatLines, all_lines}
 use Rattle.event_server.specs.declared.connection.Stage.TheVariants as stage
-use Rattle.event_server.specs.Gathering.{SeatLooked}
-use Rattle.event_server.specs.Seats.{seats_of}
-use Rattle.event_server.specs.Told.{SeatLines, all_lines}
 use Rattle.event_server.proofs.GatherLemmas.{gathered_none, gathered_more}
 use Rattle.event_server.proofs.ToldLemmas.{Telling, telling_none, telling_idle, telling_more, telling_all, told_behind}
 use Rattle.event_server.proofs.gathering.gather.Goals as goal

@@ -1,10 +1,6 @@
 use Rattle.std.proofs.Common.{◌≡◌, ◌≤◌, ◌-◌, length}
-use Rattle.player.specs.Lines.{with_ends}
+use Rattle.event_server.proofs.Common.{with_ends, IsRoom, seats_of, Gathered, SeatLines, all_lines}
 use Rattle.event_server.specs.declared.connection.Stage.TheVariants as stage
-use Rattle.event_server.specs.Rooms.{IsRoom}
-use Rattle.event_server.specs.Seats.{seats_of}
-use Rattle.event_server.specs.Gathering.{Gathered}
-use Rattle.event_server.specs.Told.{SeatLines, all_lines}
 use Rattle.event_server.proofs.ToldLemmas.{Telling}
 use Rattle.event_server.proofs.gathering.gather.Given as goal
 

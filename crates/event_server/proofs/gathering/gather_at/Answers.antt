@@ -1,11 +1,7 @@
 use Rattle.std.proofs.Common.{◌≡◌, ◌∙◌, inl, inr, None, refl, sym, subst}
-use Rattle.std.proofs.lemmas.List.{get_or_default}
-use Rattle.std.proofs.KnownBytes.{Consumes-nil}
-use Rattle.event_server.specs.Seats.{seats_of}
+use Rattle.event_server.proofs.Common.{get_or_default, Consumes-nil, seats_of, SeatIdle, requests_seen}
 use Rattle.event_server.proofs.GatherLemmas.{gathered_at, gathers_none}
 use Rattle.event_server.proofs.ToldLemmas.{seat_looked, set_same}
-use Rattle.event_server.specs.Gathering.{SeatIdle}
-use Rattle.event_server.specs.Told.{requests_seen}
 use Rattle.event_server.specs.declared.connection.Stage.TheVariants as stage
 use Rattle.event_server.proofs.gathering.gather_at.Goals as goal
 

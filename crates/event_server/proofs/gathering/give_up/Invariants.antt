@@ -1,7 +1,6 @@
 use Rattle.std.proofs.Common.{◌≡◌, ◌≤◌, ◌-◌, length}
+use Rattle.event_server.proofs.Common.{seats_of, Gathered}
 use Rattle.event_server.specs.declared.connection.Stage.TheVariants as stage
-use Rattle.event_server.specs.Seats.{seats_of}
-use Rattle.event_server.specs.Gathering.{Gathered}
 use Rattle.event_server.proofs.ToldLemmas.{GivingUp}
 use Rattle.event_server.proofs.gathering.give_up.Given as goal
 

@@ -1,10 +1,5 @@
 use Rattle.std.proofs.Common.{◌∙◌, [], Some, None, ap, subst, sym}
-use Rattle.std.proofs.lemmas.List.{get_or_default, get_or-set_same, get_or-set_other}
-use Rattle.std.specs.Io.KnownBytes.{Consumes}
-use Rattle.std.proofs.KnownBytes.{Consumes-nil}
-use Rattle.event_server.specs.Gathering.{SeatAsks, SeatBroken}
-use Rattle.event_server.specs.Seats.{seats_of}
-use Rattle.event_server.specs.WireState.{WireState}
+use Rattle.event_server.proofs.Common.{get_or_default, get_or-set_same, get_or-set_other, Consumes, Consumes-nil, SeatAsks, SeatBroken, seats_of, WireState}
 use Rattle.event_server.proofs.GatherLemmas.{gathered_at, gathers_none}
 use Rattle.event_server.proofs.gathering.give_up_at.Goals as goal
 

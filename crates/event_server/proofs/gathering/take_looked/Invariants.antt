@@ -1,8 +1,6 @@
 use Rattle.std.proofs.Common.{◌≡◌, ◌≤◌, ◌-◌, length}
-use Rattle.player.specs.Shared.{TurnLog}
+use Rattle.event_server.proofs.Common.{TurnLog, IsRoom, seats_of}
 use Rattle.event_server.specs.declared.connection.Stage.TheVariants as stage
-use Rattle.event_server.specs.Rooms.{IsRoom}
-use Rattle.event_server.specs.Seats.{seats_of}
 use Rattle.event_server.proofs.SeatLemmas.{Going}
 use Rattle.event_server.proofs.ToldLemmas.{Taking}
 use Rattle.event_server.proofs.gathering.take_looked.Given as goal

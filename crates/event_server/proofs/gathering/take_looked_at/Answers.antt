@@ -1,7 +1,6 @@
 use Rattle.std.proofs.Common.{◌≡◌, ◌∙◌, inr, None, sym}
-use Rattle.std.proofs.lemmas.List.{get_or_default}
+use Rattle.event_server.proofs.Common.{get_or_default, seats_of}
 use Rattle.event_server.specs.declared.connection.Stage.TheVariants as stage
-use Rattle.event_server.specs.Seats.{seats_of}
 use Rattle.event_server.proofs.ToldLemmas.{seat_turn_looked}
 use Rattle.event_server.proofs.gathering.take_looked_at.Goals as goal
 

@@ -1,18 +1,9 @@
 use Rattle.std.proofs.Common.{◌≡◌, ◌≢◌, true, false, ◌∙◌, ◌≤◌, ◌++◌, inl, inr, sym, ap, arith, take, length, List, [], ℕ, refl, Result, Err}
-use Rattle.std.proofs.lemmas.List.{append-nil}
-use Rattle.std.proofs.lemmas.Result.{err_from_is_err_and}
-use Rattle.std.specs.Io.KnownBytes.{IsAtEnd}
+use Rattle.player.proofs.Common.{append-nil, err_from_is_err_and, IsAtEnd, Fault, READ_BYTES, Summary, asked_by, lines, at_start, after_bytes, Stands}
 use Rattle.std.proofs.KnownBytes.{Consumes-nil, Consumes-trans, Consumes-kept}
-use Rattle.player.specs.declared.fault.Fault.{Fault}
 use Rattle.player.specs.declared.fault.Fault.TheVariants.{Read, Write, Memory}
-use Rattle.player.specs.declared.playing.TheConstants.{READ_BYTES}
-use Rattle.player.specs.declared.summary.Summary.{Summary}
-use Rattle.player.specs.Asked.{asked_by}
-use Rattle.player.specs.Lines.{lines}
 use Rattle.player.specs.Played.{HasRead, reading}
 use Rattle.player.specs.PlayedProofs.{as_played}
-use Rattle.player.specs.Progress.{at_start, after_bytes}
-use Rattle.player.specs.Stands.{Stands}
 use Rattle.player.proofs.StandsLemmas.{stands_start}
 use Rattle.player.proofs.ProgressLemmas.{after_bytes-append, asked-all, asked_begins}
 use Rattle.player.proofs.SaysLemmas.{after_end-over}

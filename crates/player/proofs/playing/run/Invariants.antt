@@ -1,9 +1,5 @@
 use Rattle.std.proofs.Common.{◌≡◌, ◌+◌, ◌*◌, ◌≤◌, false, ℕ, List, []}
-use Rattle.std.specs.Io.KnownBytes.{Consumes}
-use Rattle.player.specs.declared.playing.TheConstants.{READ_BYTES}
-use Rattle.player.specs.declared.form.TheConstants.{TURN_ROOM}
-use Rattle.player.specs.Progress.{at_start, after_bytes}
-use Rattle.player.specs.Stands.{Stands}
+use Rattle.player.proofs.Common.{Consumes, READ_BYTES, TURN_ROOM, at_start, after_bytes, Stands}
 use Rattle.player.proofs.playing.run.Given as goal
 
 abbrev pub invariant-loop-reads : goal.invariant-loop-reads

@@ -1,9 +1,7 @@
 use Rattle.std.proofs.Common.{◌≡◌, ◌+◌, ◌++◌, ◌∷◌, [], ℕ, List, Ok, Some, true, arith, append_assoc, codes, drop, length, length-append, refl, sym, ◌∙◌}
-use Rattle.std.specs.List.{list_all}
-use Rattle.commands.specs.declared.event.Event.{Event}
+use Rattle.player.proofs.Common.{list_all, Event, command_of, number_in}
 use Rattle.commands.specs.declared.event.Event.TheVariants.{Begin, Enter, Probe, Leave}
 use Rattle.commands.specs.declared.command.Command.TheVariants as command
-use Rattle.player.specs.Meaning.{command_of, number_in}
 use Rattle.player.specs.Quick.{IsCommandBefore, word_of_four, is_of_words}
 use Rattle.player.proofs.QuickLemmas.{is_letter, begins_with, then_with, first_of_one, rest_of-slice}
 use Rattle.player.proofs.quick.quick_five.Goals as goal

@@ -1,7 +1,5 @@
 use Rattle.std.proofs.Common.{◌≡◌, ◌∙◌, ap, sym, refl, Ok, Err}
-use Rattle.std.proofs.lemmas.Result.{err_from_is_err_and}
-use Rattle.player.specs.declared.fault.Fault.TheVariants.{Memory}
-use Rattle.player.specs.PlayerState.{PlayerState}
+use Rattle.player.proofs.Common.{err_from_is_err_and, Memory, PlayerState}
 use Rattle.player.specs.Recorded.{end_of}
 use Rattle.player.proofs.RecordedLemmas.{unrecorded, recorded}
 use Rattle.player.proofs.recording.record_on.Goals as goal

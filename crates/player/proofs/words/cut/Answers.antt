@@ -1,7 +1,5 @@
 use Rattle.std.proofs.Common.{[], ◌+◌, length, take, sym, ap, ◌∙◌, arith}
-use Rattle.std.proofs.lemmas.List.{take_all}
-use Rattle.std.proofs.lemmas.Bool.{eqb-true}
-use Rattle.player.specs.Lines.{pieces_from}
+use Rattle.player.proofs.Common.{take_all, eqb-true, pieces_from}
 use Rattle.player.proofs.PieceLemmas.{nowhere-lacks, parted_at, pieces-cut, pieces-last}
 use Rattle.player.proofs.QuickLemmas.{rest_of-slice}
 use Rattle.player.proofs.words.cut.Goals as goal

@@ -1,9 +1,6 @@
 use Rattle.std.proofs.Common.{◌≡◌, ◌++◌, ℕ, List, codes, ap, ◌∙◌, append_assoc}
-use Rattle.player.specs.Events.{event_words}
+use Rattle.record_lines.proofs.Common.{event_words, reply_words, Line, told_of}
 use Rattle.player.specs.Records.{name_view}
-use Rattle.player.specs.Replies.{reply_words}
-use Rattle.record_lines.specs.declared.line.Line.{Line}
-use Rattle.record_lines.specs.Lines.{told_of}
 use Rattle.record_lines.proofs.compact.put_line.Goals as goal
 
 grouped : (out a e b r q v z : List ℕ) → ((((((out ++ a) ++ e) ++ b) ++ r) ++ q) ++ v) ++ z ≡ out ++ ((((((a ++ e) ++ b) ++ r) ++ q) ++ v) ++ z)

@@ -1,7 +1,6 @@
 use Rattle.std.proofs.Common.{◌≡◌, sym, ◌∙◌}
-use Rattle.std.proofs.lemmas.Bool.{false≢true}
+use Rattle.record_lines.proofs.Common.{false≢true, named_apart}
 use Rattle.std.proofs.lemmas.Option.{same_Some}
-use Rattle.commands.specs.KindProofs.{named_apart}
 use Rattle.record_lines.proofs.object.header.Goals as goal
 
 pub returns-in-Err : goal.returns-in-Err

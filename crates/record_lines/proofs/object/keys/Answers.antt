@@ -1,5 +1,4 @@
-use Rattle.std.proofs.Common.{Some, sym, ap, ◌∙◌}
-use Rattle.std.specs.Prelude.{option_map}
+use Rattle.std.proofs.Common.{Some, sym, ap, ◌∙◌, option_map}
 use Rattle.record_lines.specs.Json.{count_members}
 use Rattle.record_lines.proofs.JsonLemmas.{count-members_view}
 use Rattle.record_lines.proofs.object.keys.Goals as goal

@@ -1,10 +1,6 @@
-use Rattle.std.proofs.Common.{◌≡◌, ◌∙◌, ℕ, true, List, Option, Some, None, sym, ap}
-use Rattle.std.specs.Prelude.{MatchOption, option_map, option_and_then, codes}
-use Rattle.serde_json.specs.Data.{Data}
-use Rattle.serde_json.specs.View.{view}
-use Rattle.player.specs.Meaning.{same_bytes}
+use Rattle.std.proofs.Common.{◌≡◌, ◌∙◌, ℕ, true, List, Option, Some, None, sym, ap, MatchOption, option_map, option_and_then, codes}
+use Rattle.record_lines.proofs.Common.{Data, view, same_bytes, Version}
 use Rattle.record_lines.specs.Json.{keys_of, text_at, number_at, version_of, HasFormat}
-use Rattle.record_lines.specs.declared.header.Version.{Version}
 use Rattle.record_lines.proofs.JsonLemmas.{same_is}
 use Rattle.record_lines.proofs.object.version.Goals as goal
 

@@ -1,6 +1,5 @@
 use Rattle.std.proofs.Common.{◌≡◌, take, true}
-use Rattle.std.specs.List.{list_all}
-use Rattle.record_lines.specs.Json.{is_plain}
+use Rattle.record_lines.proofs.Common.{list_all, is_plain}
 use Rattle.record_lines.proofs.plain_line.plain_length.Given as goal
 
 abbrev pub invariant-loop-i : goal.invariant-loop-i

@@ -1,7 +1,5 @@
-use Rattle.std.proofs.Common.{Option, subst}
-use Rattle.std.specs.Prelude.{IfSome}
-use Rattle.record_lines.specs.declared.told.Told.{Told}
-use Rattle.record_lines.specs.PlainLine.{SpellsTold}
+use Rattle.std.proofs.Common.{Option, subst, IfSome}
+use Rattle.record_lines.proofs.Common.{Told, SpellsTold}
 use Rattle.record_lines.proofs.written.PlainLines.{line_spelled, line_replied}
 use Rattle.record_lines.proofs.plain_line.plain_line.Goals as goal
 

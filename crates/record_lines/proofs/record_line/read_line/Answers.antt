@@ -1,7 +1,5 @@
-use Rattle.std.proofs.Common.{Option, subst}
-use Rattle.std.specs.Prelude.{IfSome}
-use Rattle.record_lines.specs.declared.line.Line.{Line}
-use Rattle.record_lines.specs.PlainLine.{SpellsLine}
+use Rattle.std.proofs.Common.{Option, subst, IfSome}
+use Rattle.record_lines.proofs.Common.{Line, SpellsLine}
 use Rattle.record_lines.proofs.record_line.read_line.Goals as goal
 
 pub returns-in-Some : goal.returns-in-Some

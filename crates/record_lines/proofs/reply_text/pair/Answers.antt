@@ -1,6 +1,5 @@
 use Rattle.std.proofs.Common.{◌≡◌, ◌∷◌, [], ℕ, List, refl, ap, ◌∙◌}
-use Rattle.std.specs.Option.{option_copied}
-use Rattle.player.specs.Lines.{pieces_from, pieces_left}
+use Rattle.record_lines.proofs.Common.{option_copied, pieces_from, pieces_left}
 use Rattle.record_lines.proofs.WordLemmas.{some_piece}
 use Rattle.record_lines.proofs.reply_text.pair.Goals as goal
 

@@ -1,10 +1,5 @@
-use Rattle.std.proofs.Common.{◌≡◌, ◌∷◌, [], ℕ, List, Option, Some, true, refl, sym, ap, ◌∙◌}
-use Rattle.std.specs.Prelude.{option_map, codes}
-use Rattle.std.specs.Option.{option_copied}
-use Rattle.player.specs.Meaning.{words, same_bytes}
-use Rattle.record_lines.specs.declared.told.Told.TheVariants.{Saw}
-use Rattle.player.specs.Lines.{pieces_left}
-use Rattle.record_lines.specs.ReplyText.{pairs_after, saw_of, told_of_words}
+use Rattle.std.proofs.Common.{◌≡◌, ◌∷◌, [], ℕ, List, Option, Some, true, refl, sym, ap, ◌∙◌, option_map, codes}
+use Rattle.record_lines.proofs.Common.{option_copied, words, same_bytes, Saw, pieces_left, pairs_after, saw_of, told_of_words}
 use Rattle.record_lines.proofs.WordLemmas.{some_piece, saw_pieces}
 use Rattle.record_lines.proofs.reply_text.read_reply.Goals as goal
 

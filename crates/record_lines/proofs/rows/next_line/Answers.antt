@@ -1,6 +1,5 @@
 use Rattle.std.proofs.Common.{sym, ◌∙◌}
-use Rattle.std.proofs.lemmas.Bool.{false≢true}
-use Rattle.std.specs.Option.{option_copied}
+use Rattle.record_lines.proofs.Common.{false≢true, option_copied}
 use Rattle.record_lines.proofs.Cut.{one_line, no_line}
 use Rattle.record_lines.proofs.rows.next_line.Goals as goal
 

@@ -1,6 +1,5 @@
 use Rattle.std.proofs.Common.{◌++◌, ◌∷◌, [], Option, subst, sym}
-use Rattle.run_checker.specs.declared.verdict.Verdict.{Verdict}
-use Rattle.run_checker.specs.Stages.{JudgesRow, StandsAfter}
+use Rattle.run_checker.proofs.Common.{Verdict, JudgesRow, StandsAfter}
 use Rattle.run_checker.proofs.records.Stages.{judged_over}
 use Rattle.run_checker.proofs.judge.judge_line.Goals as goal
 

@@ -1,9 +1,6 @@
 use Rattle.std.proofs.Common.{◌≡◌, ℕ, ◌+◌, ◌<◌, ◌^◌, ◌++◌, ◌∷◌, [], List, take, length, refl, sym, ap, ◌∙◌, subst, arith, Option}
+use Rattle.run_checker.proofs.Common.{Line, Reason, terms_of, HasTaken, IsFaultAfter, TakesOn}
 use Rattle.std.proofs.lemmas.List.{take_more, take_all, length-take-le}
-use Rattle.record_lines.specs.declared.line.Line.{Line}
-use Rattle.run_checker.specs.declared.reason.Reason.{Reason}
-use Rattle.run_checker.specs.Config.{terms_of}
-use Rattle.run_checker.specs.Judged.{HasTaken, IsFaultAfter, TakesOn}
 use Rattle.run_checker.proofs.records.Runs.{follows_run, first_at, not_run}
 use Rattle.run_checker.proofs.lines.first_fault.Goals as goal
 

@@ -1,6 +1,5 @@
 use Rattle.std.proofs.Common.{take}
-use Rattle.run_checker.specs.Config.{terms_of}
-use Rattle.run_checker.specs.Judged.{HasTaken}
+use Rattle.run_checker.proofs.Common.{terms_of, HasTaken}
 use Rattle.run_checker.proofs.lines.first_fault.Given as goal
 
 abbrev pub invariant-loop-i : goal.invariant-loop-i

@@ -1,10 +1,6 @@
-use Rattle.std.proofs.Common.{ℕ, List, Result, subst}
-use Rattle.std.specs.Io.KnownBytes.{Appends}
-use Rattle.std.specs.Prelude.{MatchResult}
-use Rattle.run_checker.specs.declared.verdict.Verdict.{Verdict}
+use Rattle.std.proofs.Common.{ℕ, List, Result, subst, MatchResult}
+use Rattle.run_checker.proofs.Common.{Appends, Verdict, record_lines, IsSaid}
 use Rattle.run_checker.specs.Migrated.{IsMigratedTo, IsOther}
-use Rattle.record_lines.specs.Records.{record_lines}
-use Rattle.run_checker.specs.Verdict.{IsSaid}
 use Rattle.run_checker.proofs.migrating.migrate.Goals as goal
 
 pub returns-in_ok-put_all-in-Ok-Ok : goal.returns-in_ok-put_all-in-Ok-Ok

@@ -1,7 +1,5 @@
 use Rattle.std.proofs.Common.{inl, sym, subst}
-use Rattle.std.specs.Option.{option_copied}
-use Rattle.record_lines.specs.Records.{record_lines, lines_left}
-use Rattle.run_checker.specs.Migrated.{IsMigratedTo}
+use Rattle.run_checker.proofs.Common.{option_copied, record_lines, lines_left, IsMigratedTo}
 use Rattle.run_checker.proofs.records.Gathered.{header_found}
 use Rattle.run_checker.proofs.records.Migrated.{migrates}
 use Rattle.run_checker.proofs.migrating.migrated.Goals as goal

@@ -1,9 +1,5 @@
 use Rattle.std.proofs.Common.{ℕ, List, Result, Ok, Err, IfOk, inl}
-use Rattle.std.specs.Option.{option_copied}
-use Rattle.record_lines.specs.declared.header.Header.{Header}
-use Rattle.record_lines.specs.Records.{lines_left, record_lines}
-use Rattle.run_checker.specs.declared.verdict.Verdict.{Verdict}
-use Rattle.run_checker.specs.Verdict.{HasHeader, IsSaid, IsSaidOfRows}
+use Rattle.run_checker.proofs.Common.{option_copied, Header, lines_left, record_lines, Verdict, HasHeader, IsSaid, IsSaidOfRows}
 use Rattle.run_checker.proofs.records.Gathered.{header_found}
 use Rattle.run_checker.proofs.record.judge_record.Goals as goal
 

@@ -1,7 +1,5 @@
 use Rattle.std.proofs.Common.{◌≡◌, ℕ, List, [], ◌∷◌, Option, Some, MatchOption, refl, ap, ◌∙◌, subst, arith}
-use Rattle.std.specs.Option.{option_copied}
-use Rattle.record_lines.specs.RecordLine.{FindsLine, IsEventLine}
-use Rattle.record_lines.specs.Records.{lines_left}
+use Rattle.run_checker.proofs.Common.{option_copied, FindsLine, IsEventLine, lines_left}
 use Rattle.run_checker.proofs.records.Gathered.{GatheredSoFar, all_gathered, row_gathered, row_here}
 use Rattle.run_checker.proofs.records.Rows.{all_rows, bad_row, row_at_fault}
 use Rattle.run_checker.proofs.record.judge_rows.Goals.{in-Some+in_default-next_line, in_default}

@@ -1,6 +1,4 @@
-use Rattle.std.specs.Option.{option_copied}
-use Rattle.player.specs.Lines.{left_length}
-use Rattle.record_lines.specs.Records.{lines_left}
+use Rattle.run_checker.proofs.Common.{option_copied, left_length, lines_left}
 use Rattle.run_checker.proofs.records.Gathered.{GatheredSoFar}
 use Rattle.run_checker.proofs.record.judge_rows.Given as goal
 

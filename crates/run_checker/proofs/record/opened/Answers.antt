@@ -1,7 +1,5 @@
 use Rattle.std.proofs.Common.{ℕ, List, Option, MatchOption, sym, subst}
-use Rattle.record_lines.specs.declared.header.Header.{Header}
-use Rattle.record_lines.specs.RecordLine.{IsHeaderLine}
-use Rattle.run_checker.specs.Verdict.{LacksHeader}
+use Rattle.run_checker.proofs.Common.{Header, IsHeaderLine, LacksHeader}
 use Rattle.run_checker.proofs.record.opened.Goals as goal
 
 abbrev Reads : List ℕ → Option Header → Type 0

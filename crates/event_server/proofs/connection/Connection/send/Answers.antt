@@ -1,7 +1,5 @@
 use Rattle.std.proofs.Common.{◌≡◌, ◌∙◌, ◌+◌, ◌≤◌, List, ℕ, sym, ap, subst, take, drop, length}
-use Rattle.std.proofs.Math.Seq.{take-add}
-use Rattle.std.specs.Io.KnownBytes.{Appends}
-use Rattle.event_server.specs.WireState.{WireState}
+use Rattle.event_server.proofs.Common.{take-add, Appends, WireState}
 use Rattle.player.specs.WrittenProofs.{appends_more}
 use Rattle.event_server.proofs.connection.Connection.send.Goals as goal
 

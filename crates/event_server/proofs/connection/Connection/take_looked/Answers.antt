@@ -1,7 +1,5 @@
 use Rattle.std.proofs.Common.{◌++◌, [], Option, refl, subst, sym}
-use Rattle.player.specs.RunProofs.{runs-append}
-use Rattle.event_server.specs.Wires.{TakesLooked}
-use Rattle.event_server.specs.declared.look.Look.{Look}
+use Rattle.event_server.proofs.Common.{runs-append, TakesLooked, Look}
 use Rattle.event_server.proofs.WireLemmas.{looked_nothing, looked_first, looked_end}
 use Rattle.event_server.proofs.connection.Connection.take_looked.Goals as goal
 

@@ -1,8 +1,7 @@
 -- One line more is looked at, up to its LF.
 use Rattle.std.proofs.Common.{rules, ◌-◌, length, take, drop, ap, refl}
+use Rattle.event_server.proofs.Common.{Look, Limits}
 use Rattle.std.proofs.lemmas.List.{take_rest}
-use Rattle.event_server.specs.declared.look.Look.{Look}
-use Rattle.event_server.specs.declared.look.Limits.{Limits}
 use Rattle.event_server.proofs.LookLemmas.{looked_next, looked_none, no_lf_in}
 use Rattle.event_server.proofs.look.Look.look_at_lines.Goals as goal
 

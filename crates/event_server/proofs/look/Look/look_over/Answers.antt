@@ -1,8 +1,6 @@
 -- What stands behind the whole lines: the end, the beginning of a long line, or nothing that is looked at.
 use Rattle.std.proofs.Common.{rules, ◌≡◌, false, Ok, ap, subst}
-use Rattle.event_server.specs.Told.{HasLooked}
-use Rattle.event_server.specs.declared.look.Look.{Look}
-use Rattle.event_server.specs.declared.look.Limits.{Limits}
+use Rattle.event_server.proofs.Common.{HasLooked, Look, Limits}
 use Rattle.event_server.proofs.LookLemmas.{looked_to_end, looked_long}
 use Rattle.event_server.proofs.look.Look.look_over.Goals as goal
 

@@ -1,9 +1,5 @@
 use Rattle.std.proofs.Common.{◌≡◌, ◌∙◌, ◌≤◌, ◌+◌, ap, arith, subst, ℕ, List, take, length}
-use Rattle.std.proofs.lemmas.List.{take_all}
-use Rattle.std.proofs.lemmas.Result.{err_from_is_err_and, on_err_weaker, on_ok_weaker}
-use Rattle.player.specs.PlayerState.{PlayerState}
-use Rattle.player.specs.Progress.{after_bytes}
-use Rattle.player.specs.Stands.{Stands}
+use Rattle.player.proofs.Common.{take_all, err_from_is_err_and, on_err_weaker, on_ok_weaker, PlayerState, after_bytes, Stands}
 use Rattle.player.proofs.ProgressLemmas.{after_bytes-pieces, grows_from}
 use Rattle.player.proofs.StandsLemmas.{stands_sent, stands_part}
 use Rattle.player.proofs.player.Player.feed.Goals as goal

@@ -1,7 +1,5 @@
 use Rattle.std.proofs.Common.{◌≡◌, ◌+◌, ◌-◌, ◌*◌, ◌≤◌, ℕ, List, Option, take, length}
-use Rattle.player.specs.Progress.{Progress, after_bytes}
-use Rattle.player.specs.Stands.{Stands}
-use Rattle.player.specs.declared.form.TheConstants.{TURN_ROOM}
+use Rattle.player.proofs.Common.{Progress, after_bytes, Stands, TURN_ROOM}
 use Rattle.player.proofs.player.Player.feed.Given as goal
 
 abbrev pub invariant-loop-at : goal.invariant-loop-at

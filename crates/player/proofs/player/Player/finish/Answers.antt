@@ -1,7 +1,5 @@
 use Rattle.std.proofs.Common.{[], sym}
-use Rattle.std.proofs.lemmas.List.{append-nil}
-use Rattle.std.proofs.lemmas.Result.{on_err_weaker, on_ok_weaker}
-use Rattle.player.specs.Progress.{after_end}
+use Rattle.player.proofs.Common.{append-nil, on_err_weaker, on_ok_weaker, after_end}
 use Rattle.player.proofs.StandsLemmas.{stands_sent, stands_part}
 use Rattle.player.proofs.player.Player.finish.Goals as goal
 

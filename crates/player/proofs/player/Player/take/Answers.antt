@@ -1,9 +1,5 @@
 use Rattle.std.proofs.Common.{ap, sym, subst, take}
-use Rattle.commands.specs.declared.kind.WorldKind.{WorldKind}
-use Rattle.player.specs.PlayerState.{PlayerState}
-use Rattle.player.specs.Progress.{after_bytes}
-use Rattle.player.specs.Says.{Says}
-use Rattle.player.specs.Stands.{Stands}
+use Rattle.player.proofs.Common.{WorldKind, PlayerState, after_bytes, Says, Stands}
 use Rattle.player.proofs.StandsLemmas.{stands_said}
 use Rattle.player.proofs.player.Player.take.Goals as goal
 

@@ -1,8 +1,6 @@
 use Rattle.std.proofs.Common.{ap, subst, ◌≡◌, ℕ, List}
-use Rattle.std.proofs.lemmas.Result.{on_err_weaker}
-use Rattle.player.specs.PlayerState.{PlayerState}
+use Rattle.player.proofs.Common.{on_err_weaker, PlayerState, HasPartOf}
 use Rattle.player.specs.Records.{header_line}
-use Rattle.player.specs.Written.{HasPartOf}
 use Rattle.player.proofs.player.Player.write_header.Goals as goal
 
 pub returns-clause-part : goal.returns-clause-part

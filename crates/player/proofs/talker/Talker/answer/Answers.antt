@@ -1,7 +1,6 @@
 use Rattle.std.proofs.Common.{◌≡◌, true, refl, ap}
+use Rattle.player.proofs.Common.{TalkerState, Ended, Misread}
 use Rattle.commands.specs.declared.command.Command.TheVariants as command
-use Rattle.player.specs.TalkerState.{TalkerState}
-use Rattle.player.specs.Turns.Turn.{Ended, Misread}
 use Rattle.player.proofs.SaysLemmas.{says_one}
 use Rattle.player.proofs.talker.Talker.answer.Goals as goal
 

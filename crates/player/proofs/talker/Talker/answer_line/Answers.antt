@@ -1,9 +1,5 @@
 use Rattle.std.proofs.Common.{◌∙◌, [], refl, sym, ap}
-use Rattle.player.specs.HeldLine.{HeldLine, held}
-use Rattle.player.specs.Meaning.{meaning}
-use Rattle.player.specs.TalkerState.{TalkerState}
-use Rattle.player.specs.Progress.{with_line, after_line, after_meaning}
-use Rattle.player.specs.Says.{GoingOn, Afresh}
+use Rattle.player.proofs.Common.{HeldLine, held, meaning, TalkerState, with_line, after_line, after_meaning, GoingOn, Afresh}
 use Rattle.player.proofs.SaysLemmas.{spoke_with_line, says_after}
 use Rattle.player.proofs.talker.Talker.answer_line.Goals as goal
 

@@ -1,7 +1,5 @@
 use Rattle.std.proofs.Common.{◌≡◌, ◌∙◌, true, false, [], sym, ap}
-use Rattle.player.specs.Progress.{after_end, after_line}
-use Rattle.player.specs.Says.{Anywhere, GoingOn}
-use Rattle.player.specs.TalkerState.{TalkerState}
+use Rattle.player.proofs.Common.{after_end, after_line, Anywhere, GoingOn, TalkerState}
 use Rattle.player.proofs.SaysLemmas.{says_after, says_nothing, after_end-some, after_end-none, after_end-over}
 use Rattle.player.proofs.talker.Talker.finish.Goals as goal
 use Rattle.player.proofs.talker.Talker.finish.Goals.{else-not-self-via-then-not-self+else-not-is_empty, else-not-self-via-else-not-self}

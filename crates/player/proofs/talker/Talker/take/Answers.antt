@@ -1,9 +1,7 @@
 use Rattle.std.proofs.Common.{◌≡◌, ◌∙◌, ◌+◌, false, [], refl, sym, ap, length, take, Ok}
+use Rattle.player.proofs.Common.{Progress, after_meaning, after_bytes, Anywhere, GoingOn, Afresh, TalkerState}
 use Rattle.commands.specs.Requests.Request.{Take}
 use Rattle.commands.specs.declared.command.Command.TheVariants as command
-use Rattle.player.specs.Progress.{Progress, after_meaning, after_bytes}
-use Rattle.player.specs.Says.{Anywhere, GoingOn, Afresh}
-use Rattle.player.specs.TalkerState.{TalkerState}
 use Rattle.player.proofs.ProgressLemmas.{after_bytes-over}
 use Rattle.player.proofs.FirstLineLemmas.{EndsLine, means-none, after_bytes-first}
 use Rattle.player.proofs.SpelledLemmas.{event-spelled}

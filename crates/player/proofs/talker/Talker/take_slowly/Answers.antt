@@ -1,12 +1,5 @@
 use Rattle.std.proofs.Common.{◌≡◌, ◌∙◌, ◌++◌, ◌+◌, true, [], ap, sym, length, take, arith, subst}
-use Rattle.std.proofs.lemmas.List.{take_all}
-use Rattle.commands.specs.declared.kind.WorldKind.{WorldKind}
-use Rattle.player.specs.HeldLine.{HeldLine, held}
-use Rattle.player.specs.Lines.{has_no_lf}
-use Rattle.player.specs.Meaning.{meaning}
-use Rattle.player.specs.Progress.{with_line, after_meaning, after_line, after_bytes}
-use Rattle.player.specs.Says.{SaysFrom, GoingOn, Afresh}
-use Rattle.player.specs.TalkerState.{TalkerState}
+use Rattle.player.proofs.Common.{take_all, WorldKind, HeldLine, held, has_no_lf, meaning, with_line, after_meaning, after_line, after_bytes, SaysFrom, GoingOn, Afresh, TalkerState}
 use Rattle.player.proofs.PieceLemmas.{nowhere-lacks}
 use Rattle.player.proofs.FirstLineLemmas.{found-line, after_bytes-part, after_bytes-whole, after_bytes-first}
 use Rattle.player.proofs.SaysLemmas.{spoke_with_line, says_after, says_nothing}

@@ -1,7 +1,5 @@
 use Rattle.std.proofs.Common.{◌∙◌, ◌+◌, ◌-◌, refl, sym, arith, take, drop, length, subst}
-use Rattle.commands.specs.declared.kind.WorldKind.{WorldKind}
-use Rattle.player.specs.Progress.{after_bytes}
-use Rattle.player.specs.Says.{Says, Anywhere}
+use Rattle.player.proofs.Common.{WorldKind, after_bytes, Says, Anywhere}
 use Rattle.player.proofs.ProgressLemmas.{after_bytes-pieces}
 use Rattle.player.proofs.SaysLemmas.{says_nothing, says_then}
 use Rattle.player.proofs.talker.Talker.take_some.Goals as goal

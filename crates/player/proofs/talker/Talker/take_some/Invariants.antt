@@ -1,6 +1,5 @@
 use Rattle.std.proofs.Common.{◌≡◌, ◌+◌, ◌-◌, ◌≤◌, take, length}
-use Rattle.player.specs.Progress.{after_bytes}
-use Rattle.player.specs.Says.{Says}
+use Rattle.player.proofs.Common.{after_bytes, Says}
 use Rattle.player.proofs.talker.Talker.take_some.Given as goal
 
 abbrev pub invariant-loop-at : goal.invariant-loop-at

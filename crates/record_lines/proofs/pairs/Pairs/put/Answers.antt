@@ -1,8 +1,6 @@
 use Rattle.std.proofs.Common.{◌≡◌, ◌∙◌, ℕ, List, length, sym, ap, subst}
+use Rattle.record_lines.proofs.Common.{false≢true, inserted, HasAt}
 use Rattle.std.specs.Prelude.{nat_le, unwrap_or, position}
-use Rattle.std.proofs.lemmas.Bool.{false≢true}
-use Rattle.step_memory.specs.View.{inserted}
-use Rattle.record_lines.specs.Pairs.{HasAt}
 use Rattle.record_lines.proofs.PairLemmas.{put_over, put_between}
 use Rattle.record_lines.proofs.pairs.Pairs.put.Goals as goal
 

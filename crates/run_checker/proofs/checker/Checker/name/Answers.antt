@@ -1,8 +1,7 @@
 use Rattle.std.proofs.Common.{refl}
-use Rattle.std.specs.Option.{option_copied}
+use Rattle.run_checker.proofs.Common.{option_copied, Keeps}
 use Rattle.commands.specs.declared.event.Event.TheVariants as event
 use Rattle.record_lines.specs.declared.told.Told.TheVariants as told
-use Rattle.run_checker.specs.Reasons.{Keeps}
 use Rattle.run_checker.proofs.Judging.{for_all, none_due}
 use Rattle.run_checker.proofs.checker.Checker.name.Goals as goal
 

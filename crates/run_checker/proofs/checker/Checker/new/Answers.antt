@@ -1,7 +1,5 @@
 use Rattle.std.proofs.Common.{refl, arith}
-use Rattle.rename_core.proofs.MostIn.{few_take_part}
-use Rattle.run_checker.specs.Config.{terms_of}
-use Rattle.run_checker.specs.ObjectRun.{fresh_desk_object}
+use Rattle.run_checker.proofs.Common.{few_take_part, terms_of, fresh_desk_object}
 use Rattle.run_checker.proofs.checker.Checker.new.Goals as goal
 
 pub returns : goal.returns

@@ -1,9 +1,7 @@
 use Rattle.std.proofs.Common.{◌∙◌, refl, sym, subst, ◌↔◌, ℕ, List, IsTrue}
-use Rattle.std.proofs.lemmas.Bool.{false≢true}
+use Rattle.run_checker.proofs.Common.{false≢true, ShowsConflict, Keeps}
 use Rattle.commands.specs.declared.event.Event.TheVariants as event
 use Rattle.record_lines.specs.declared.told.Told.TheVariants as told
-use Rattle.rename_core.specs.RenameObject.{ShowsConflict}
-use Rattle.run_checker.specs.Reasons.{Keeps}
 use Rattle.run_checker.proofs.Judging.{for_all, below_view, none_due}
 use Rattle.run_checker.proofs.checker.Checker.see.Goals as goal
 

@@ -1,6 +1,5 @@
 use Rattle.std.proofs.Common.{◌≡◌, ◌∙◌, ◌==◌, ◌⊎◌, inl, inr, ℕ, List, Option, Some, None, cond, sym, ap, refl, subst}
-use Rattle.step_memory.specs.View.{value_of, inserted}
-use Rattle.run_checker.specs.declared.firsts.Firsts.{Firsts}
+use Rattle.run_checker.proofs.Common.{value_of, inserted, Firsts}
 use Rattle.run_checker.specs.Firsts.{view_at}
 use Rattle.run_checker.proofs.seats.Firsts.{IsKept, none_noted, note_one, goes_on}
 use Rattle.run_checker.proofs.firsts.Firsts.propose.Goals as goal

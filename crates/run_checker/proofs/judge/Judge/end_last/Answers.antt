@@ -1,6 +1,5 @@
 use Rattle.std.proofs.Common.{rules, ◌≡◌, ◌∷◌, ◌++◌, [], ℕ, List, subst}
-use Rattle.std.proofs.lemmas.Result.{on_ok_weaker}
-use Rattle.run_checker.specs.Stages.{StandsAfter}
+use Rattle.run_checker.proofs.Common.{on_ok_weaker, StandsAfter}
 use Rattle.run_checker.proofs.records.Stages.{a_last_line}
 use Rattle.run_checker.proofs.judge.Judge.end_last.Goals as goal
 

@@ -1,7 +1,5 @@
 use Rattle.std.proofs.Common.{ℕ, List, ◌++◌}
-use Rattle.std.specs.Option.{option_copied}
-use Rattle.player.specs.Lines.{left_length}
-use Rattle.run_checker.specs.Stages.{HasTakenAll, HasTakenBut, bytes_left}
+use Rattle.run_checker.proofs.Common.{option_copied, left_length, HasTakenAll, HasTakenBut, bytes_left}
 use Rattle.run_checker.proofs.judge.Judge.take.Given as goal
 
 abbrev pub invariant-loop-left : goal.invariant-loop-left

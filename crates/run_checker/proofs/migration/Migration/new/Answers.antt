@@ -1,7 +1,5 @@
 use Rattle.std.proofs.Common.{◌∙◌, ◌++◌, [], List, ℕ, refl, sym, ap}
-use Rattle.std.proofs.lemmas.List.{append-nil}
-use Rattle.player.specs.Records.{header_line}
-use Rattle.run_checker.specs.ObjectRun.{fresh_desk_object}
+use Rattle.run_checker.proofs.Common.{append-nil, header_line, fresh_desk_object}
 use Rattle.run_checker.proofs.migration.Migration.new.Goals as goal
 
 pub returns : goal.returns

@@ -1,8 +1,5 @@
 use Rattle.std.proofs.Common.{◌≡◌, ◌+◌, cond, Some, slice_set, slice_index, nat_eq, refl, ap, ◌∙◌, arith}
-use Rattle.std.specs.Cmp.Lexicographic.{pointwise}
-use Rattle.std.specs.HashMap.{get}
-use Rattle.run_checker.specs.Moments.{turned_at}
-use Rattle.run_checker.specs.declared.moments.Moments.{Moments}
+use Rattle.run_checker.proofs.Common.{pointwise, get, turned_at, Moments}
 use Rattle.run_checker.proofs.seats.Turned.{proposed}
 use Rattle.run_checker.proofs.moments.Moments.propose.Goals as goal
 

@@ -1,9 +1,5 @@
 use Rattle.std.proofs.Common.{◌≡◌, ◌∙◌, ℕ, ◌≤◌, ◌↔◌, List, Option, Some, None, refl, sym, ap, IsTrue, arith, subst}
-use Rattle.std.specs.List.{list_any}
-use Rattle.std.specs.Option.{option_copied}
-use Rattle.rename_core.specs.RenameObject.{IsFreeName, ShowsSole}
-use Rattle.run_checker.specs.Reasons.{MayBeNamed}
-use Rattle.run_checker.specs.Standing.{is_held}
+use Rattle.run_checker.proofs.Common.{list_any, option_copied, IsFreeName, ShowsSole, MayBeNamed, is_held}
 use Rattle.run_checker.proofs.Deciding.{count_is, stand, sole_told}
 use Rattle.run_checker.proofs.seats.Names.{free_name}
 use Rattle.run_checker.proofs.seats.People.{there, somebody_has}

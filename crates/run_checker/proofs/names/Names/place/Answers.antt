@@ -1,7 +1,5 @@
 use Rattle.std.proofs.Common.{◌≡◌, ◌∙◌, refl, sym, ap, is_some}
-use Rattle.std.proofs.lemmas.Bool.{false≢true}
-use Rattle.std.specs.List.{list_any}
-use Rattle.run_checker.specs.Standing.{is_held, place_of}
+use Rattle.run_checker.proofs.Common.{false≢true, list_any, is_held, place_of}
 use Rattle.run_checker.proofs.seats.Names.{placed}
 use Rattle.run_checker.proofs.seats.People.{absent, there, nobody_has, somebody_has}
 use Rattle.run_checker.proofs.names.Names.place.Goals as goal

@@ -1,11 +1,6 @@
-use Rattle.std.proofs.Common.{◌≡◌, ℕ, ◌+◌, ◌<◌, ◌∙◌, refl, ap, arith, subst}
-use Rattle.std.specs.Prelude.{slice_set}
-use Rattle.step_memory.specs.SetAt.{set_at}
+use Rattle.std.proofs.Common.{◌≡◌, ℕ, ◌+◌, ◌<◌, ◌∙◌, refl, ap, arith, subst, slice_set}
+use Rattle.run_checker.proofs.Common.{set_at, Standing, Names, HoldsMoments, turn_of, count_of}
 use Rattle.run_checker.proofs.seats.People.{there}
-use Rattle.run_checker.specs.declared.standing.Standing.{Standing}
-use Rattle.run_checker.specs.declared.names.Names.{Names}
-use Rattle.run_checker.specs.Moments.{HoldsMoments}
-use Rattle.run_checker.specs.Standing.{turn_of, count_of}
 use Rattle.run_checker.proofs.seats.Names.{has_proposed}
 use Rattle.run_checker.proofs.names.Names.propose.Goals as goal
 

@@ -1,7 +1,6 @@
 use Rattle.std.proofs.Common.{◌≡◌, ℕ, ◌-◌, ◌<◌, ◌∷◌, length, drop, get_or, suc, List, replicate, ap, sym, ◌∙◌, subst, arith, drop-cons}
+use Rattle.run_checker.proofs.Common.{HasPair, LacksPair, IsRowOf, turns_in}
 use Rattle.std.proofs.Math.Seq.{drop-length}
-use Rattle.run_checker.specs.Rows.{HasPair, LacksPair, IsRowOf}
-use Rattle.run_checker.specs.Standing.{turns_in}
 use Rattle.run_checker.proofs.seats.Rows.{no_moment, no_pair, one_pair, row_tells}
 use Rattle.run_checker.proofs.names.Names.row_of.Goals as goal
 

@@ -1,7 +1,5 @@
 use Rattle.std.proofs.Common.{◌≤◌, length, drop}
-use Rattle.rename_core.specs.RenameObject.{RenameTerms, RenameObject}
-use Rattle.run_checker.specs.Rows.{IsRowOf}
-use Rattle.run_checker.specs.Standing.{turns_in, HoldsNames}
+use Rattle.run_checker.proofs.Common.{RenameTerms, RenameObject, IsRowOf, turns_in, HoldsNames}
 use Rattle.run_checker.proofs.names.Names.row_of.Given as goal
 
 -- the row says what the pairs from i on say

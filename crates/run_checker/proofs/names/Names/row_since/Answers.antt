@@ -1,7 +1,5 @@
 use Rattle.std.proofs.Common.{rules, ◌≡◌, ◌∙◌, None, sym, subst, List, ℕ, Option}
-use Rattle.std.proofs.lemmas.Bool.{false≢true}
-use Rattle.step_memory.specs.View.{IsRising}
-use Rattle.run_checker.specs.Rows.{TellsMoments, TellsSince}
+use Rattle.run_checker.proofs.Common.{false≢true, IsRising, TellsMoments, TellsSince}
 use Rattle.run_checker.proofs.names.Names.row_since.Goals as goal
 
 pub returns-in_err-row : goal.returns-in_err-row

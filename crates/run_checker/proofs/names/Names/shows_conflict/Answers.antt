@@ -1,7 +1,6 @@
 use Rattle.std.proofs.Common.{◌∙◌, Some, None, sym, subst, List, ℕ, Option}
-use Rattle.std.proofs.lemmas.Bool.{false≢true}
+use Rattle.run_checker.proofs.Common.{false≢true, TellsSince}
 use Rattle.run_checker.proofs.seats.People.{there}
-use Rattle.run_checker.specs.Rows.{TellsSince}
 use Rattle.run_checker.proofs.seats.Rows.{conflict_shown, no_conflict}
 use Rattle.run_checker.proofs.names.Names.shows_conflict.Goals as goal
 

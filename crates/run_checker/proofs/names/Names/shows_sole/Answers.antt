@@ -1,8 +1,6 @@
 use Rattle.std.proofs.Common.{◌≡◌, ◌∙◌, Bool, true, false, not, Some, None, refl, sym, ap, subst, List, ℕ, Option}
-use Rattle.std.proofs.lemmas.Bool.{false≢true}
+use Rattle.run_checker.proofs.Common.{false≢true, ShowsSole, TellsSince}
 use Rattle.run_checker.proofs.seats.People.{there}
-use Rattle.rename_core.specs.RenameObject.{ShowsSole}
-use Rattle.run_checker.specs.Rows.{TellsSince}
 use Rattle.run_checker.proofs.seats.Rows.{sole_shown, no_sole, sole_number}
 use Rattle.run_checker.proofs.names.Names.shows_sole.Goals as goal
 

@@ -1,7 +1,5 @@
 use Rattle.std.proofs.Common.{◌≡◌, ◌∙◌, true, not, sym, ap, arith, inl, inr}
-use Rattle.std.specs.List.{list_any}
-use Rattle.std.proofs.lemmas.Bool.{cases_Bool}
-use Rattle.run_checker.specs.Standing.{is_held}
+use Rattle.run_checker.proofs.Common.{list_any, cases_Bool, is_held}
 use Rattle.run_checker.proofs.seats.People.{nobody_has, somebody_has}
 use Rattle.run_checker.proofs.stays.Stays.is_free.Goals as goal
 

@@ -1,0 +1,23 @@
+-- The names that several proofs of this crate cite, passed on from one place. Declares nothing.
+pub use Rattle.std.proofs.lemmas.List.{append-nil, get_or-set_same, get_or-set_other, length-set, get_or_default}
+pub use Rattle.std.proofs.lemmas.Bool.{cases_eq, eq-eqb, ne_eqb}
+pub use Rattle.std.specs.Io.KnownBytes.{Consumes, Appends}
+pub use Rattle.std.proofs.KnownBytes.{Consumes-nil}
+pub use Rattle.std.proofs.Math.Seq.{take-add}
+pub use Rattle.commands.specs.declared.kind.WorldKind.{WorldKind}
+pub use Rattle.commands.specs.Replies.{ShownReply}
+pub use Rattle.commands.specs.Requests.{Request}
+pub use Rattle.player.specs.Lines.{with_ends}
+pub use Rattle.player.specs.Runs.{Runs}
+pub use Rattle.player.specs.RunProofs.{runs-append}
+pub use Rattle.player.specs.Shared.{TurnLog, turns_of, tagged}
+pub use Rattle.player.specs.SharedProofs.{all-append, all-tagged, of-append, of-same, of-other}
+pub use Rattle.player.specs.Turns.{Turn}
+pub use Rattle.event_server.specs.Seats.{Seating, seats_of}
+pub use Rattle.event_server.specs.WireState.{WireState}
+pub use Rattle.event_server.specs.Gathering.{Gathered, SeatIdle, SeatAsks, SeatBroken, SeatLooked}
+pub use Rattle.event_server.specs.Told.{HasLooked, SeatLines, all_lines, bytes_of, requests_seen}
+pub use Rattle.event_server.specs.Wires.{TakesLooked}
+pub use Rattle.event_server.specs.declared.look.Look.{Look}
+pub use Rattle.event_server.specs.Rooms.{IsRoom}
+pub use Rattle.event_server.specs.declared.look.Limits.{Limits}
