@@ -1,2 +1,3 @@
+mod Common
 mod SlotLemmas
 pub mod SlotsKeep

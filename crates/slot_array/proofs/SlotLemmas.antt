@@ -1,12 +1,7 @@
 -- slots, after another value was put into one, and after more were filled
-use Rattle.std.proofs.Common.{◌≡◌, ◌≢◌, ℕ, zero, suc, ◌+◌, ◌-◌, ◌≤◌, ◌<◌, List, [], ◌∷◌, ◌++◌, Option, Some, None, length, replicate, set, refl, sym, ap, subst, ◌∙◌, arith}
-use Rattle.std.specs.Prelude.{Result, Ok, Err, slice_get}
-use Rattle.step_memory.specs.declared.refusal.Refusal.{Refusal}
-use Rattle.step_memory.specs.World.{done_unless}
-use Rattle.bit_allocator.specs.Pool.{number_answer, widen_answer}
-use Rattle.bit_allocator.specs.Widening.{widen_refusal}
+use Rattle.std.proofs.Common.{◌≡◌, ◌≢◌, ℕ, zero, suc, ◌+◌, ◌-◌, ◌≤◌, ◌<◌, List, [], ◌∷◌, ◌++◌, Option, Some, None, length, replicate, set, refl, sym, ap, subst, ◌∙◌, arith, Result, Ok, Err, slice_get}
+use Rattle.slot_array.proofs.Common.{Refusal, done_unless, number_answer, widen_answer, widen_refusal, SlotsState}
 use Rattle.bit_allocator.proofs.PoolKeeps.{may_widen}
-use Rattle.slot_array.specs.SlotsState.{SlotsState}
 use Rattle.slot_array.specs.Slots.{slot, stored_in, after_put, ChangesOwnSlot, extended_in, after_extend, FillsNewSlots}
 
 pub slice_get-set_same : {T : Type 0} (values : List T) (i : ℕ) (value : T) → i < length values → slice_get (set values i value) i ≡ Some value

@@ -1,15 +1,12 @@
 -- each call of slots keeps the law
-use Rattle.std.proofs.Common.{◌≡◌, ℕ, zero, suc, ◌-◌, ◌<◌, true, false, not, cond, List, [], ◌∷◌, ◌++◌, Some, None, Ok, Err, Result, length, replicate, refl, sym, ap, subst, ◌∙◌, arith}
-use Rattle.std.specs.Prelude.{slice_get, ok_or}
+use Rattle.std.proofs.Common.{◌≡◌, ℕ, zero, suc, ◌-◌, ◌<◌, true, false, not, cond, List, [], ◌∷◌, ◌++◌, Some, None, Ok, Err, Result, length, replicate, refl, sym, ap, subst, ◌∙◌, arith, slice_get, ok_or}
+use Rattle.slot_array.proofs.Common.{Refusal, done_unless, widen_refusal, SlotsState, Pooled, Stored, Fetched, Extended, slot, stored_reply, stored_in, IsFetched, after_put, extended_in, after_extend}
 use Rattle.step_memory.specs.declared.refusal.Refusal.TheVariants.{NotCompeting, NotHolding}
 use Rattle.std.proofs.lemmas.List.{append-nil, length-set, length-append, length-replicate}
-use Rattle.step_memory.specs.declared.refusal.Refusal.{Refusal}
-use Rattle.step_memory.specs.World.{done_unless}
 use Rattle.step_memory.proofs.RunLemmas.{run_more, run_one, run_splits, run_answers}
 use Rattle.bit_allocator.specs.Pool.{fresh_pool, number_answer, widen_answer, after_widen}
-use Rattle.bit_allocator.specs.Widening.{widen_refusal}
 use Rattle.bit_allocator.specs.PoolState.{PoolState}
-use Rattle.bit_allocator.specs.declared.probe.Probe.TheVariants.{Missed, Got}
+use Rattle.bit_allocator.specs.declared.probe.Probe.TheVariants.{Missed}
 use Rattle.bit_allocator.specs.Calls.{Call}
 use Rattle.bit_allocator.specs.Calls.Call.{Entered, Probed, Left, Widened}
 use Rattle.bit_allocator.specs.PoolObject.{PoolObject, competes, fresh_object, Answers, after, number_in, IsRun}
@@ -17,10 +14,7 @@ use Rattle.bit_allocator.specs.Machine.{next, IsReply, pool}
 use Rattle.step_memory.specs.Machine.{After, Always, IsLawful, RefusesWhereDue, IsProved}
 use Rattle.step_memory.proofs.MachineLemmas.{always_by, machine_proved}
 use Rattle.bit_allocator.proofs.PoolKeeps.{pool_proved, number_after}
-use Rattle.slot_array.specs.SlotsState.{SlotsState}
 use Rattle.slot_array.specs.SlotCalls.{SlotCall, pool_calls}
-use Rattle.slot_array.specs.SlotCalls.SlotCall.{Pooled, Stored, Fetched, Extended}
-use Rattle.slot_array.specs.Slots.{slot, stored_reply, stored_in, IsFetched, after_put, extended_in, after_extend}
 use Rattle.slot_array.specs.SlotsObject.{SlotsObject, fresh_slots, PoolAnswers, SlotAnswers, slots_after, IsSlotsRun}
 use Rattle.slot_array.specs.Machine.{slots, slots_next, IsPoolReply, IsSlotReply}
 use Rattle.slot_array.proofs.SlotLemmas.{wider}
@@ -54,26 +48,19 @@ record Stands {T : Type 0} (size : ℕ) (first : List T) (s : SlotsState T) (r :
 -- a call of the pool alone keeps its size
 size_kept : (w : PoolState) (o : PoolObject) (h : Call) → IsPoolReply w h → (after o h).size ≡ o.size
 size_kept w o (Entered p (Ok done)) is = refl
-size_kept w o (Entered p (Err refusal)) is = refl
 size_kept w o (Probed p (Ok Missed)) is = refl
-size_kept w o (Probed p (Ok (Got n))) is = refl
-size_kept w o (Probed p (Err refusal)) is = refl
 size_kept w o (Left p (Ok n)) is = refl
-size_kept w o (Left p (Err refusal)) is = refl
 size_kept w o (Widened more reply) is = absurd is
+size_kept w o h is = refl
 
 -- its reply is that of the pool
 pool_reply : (w : PoolState) (h : Call) → IsPoolReply w h → IsReply w h
-pool_reply w (Entered p reply) is = is
-pool_reply w (Probed p reply) is = is
-pool_reply w (Left p reply) is = is
 pool_reply w (Widened more reply) is = absurd is
+pool_reply w h is = is
 
 pool_answers : (w : PoolState) (o : PoolObject) (h : Call) → IsPoolReply w h → Answers o h → PoolAnswers o h
-pool_answers w o (Entered p reply) is right = right
-pool_answers w o (Probed p reply) is right = right
-pool_answers w o (Left p reply) is right = right
 pool_answers w o (Widened more reply) is right = absurd is
+pool_answers w o h is right = right
 
 -- there are as many values as numbers after a widening too
 many_extended : {T : Type 0} (o : PoolObject) (more : ℕ) (value : T) (values : List T) (reply : Result (Unit {0}) Refusal) → length values ≡ o.size → reply ≡ done_unless (widen_refusal o.size more) →

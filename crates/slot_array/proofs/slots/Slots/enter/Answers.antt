@@ -1,10 +1,6 @@
 use Rattle.std.proofs.Common.{rules, ◌≡◌}
+use Rattle.slot_array.proofs.Common.{Entered, SlotsState, Pooled, call_leads_on, slots, slots_next}
 use Rattle.bit_allocator.specs.Pool.{enter_answer}
-use Rattle.bit_allocator.specs.Calls.Call.{Entered}
-use Rattle.slot_array.specs.SlotsState.{SlotsState}
-use Rattle.slot_array.specs.SlotCalls.SlotCall.{Pooled}
-use Rattle.step_memory.proofs.MachineLemmas.{call_leads_on}
-use Rattle.slot_array.specs.Machine.{slots, slots_next}
 use Rattle.slot_array.proofs.slots.Slots.enter.Goals as goal
 
 pub returns-clause-after : goal.returns-clause-after

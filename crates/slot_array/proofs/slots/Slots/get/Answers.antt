@@ -1,13 +1,7 @@
-use Rattle.std.proofs.Common.{rules, ◌≡◌, ◌-◌, ◌≤◌, ◌<◌, Ok, Some, Result, length, get_or, refl, ap, arith}
+use Rattle.std.proofs.Common.{rules, ◌≡◌, ◌-◌, ◌≤◌, ◌<◌, Ok, Some, Result, length, get_or, refl, ap, arith, slice_get}
+use Rattle.slot_array.proofs.Common.{Refusal, number_answer, Fetched, IsFetched, call_leads_on, slots}
 use Rattle.std.proofs.lemmas.Option.{slice_get_read}
-use Rattle.std.specs.Prelude.{slice_get}
 use Rattle.std.specs.Result.{result_map_both}
-use Rattle.step_memory.specs.declared.refusal.Refusal.{Refusal}
-use Rattle.bit_allocator.specs.Pool.{number_answer}
-use Rattle.slot_array.specs.SlotCalls.SlotCall.{Fetched}
-use Rattle.slot_array.specs.Slots.{IsFetched}
-use Rattle.step_memory.proofs.MachineLemmas.{call_leads_on}
-use Rattle.slot_array.specs.Machine.{slots}
 use Rattle.slot_array.proofs.slots.Slots.get.Goals as goal
 
 pub returns-in_err-number-clause-after : goal.returns-in_err-number-clause-after

@@ -1,10 +1,6 @@
 use Rattle.std.proofs.Common.{rules, ◌≡◌, ℕ, ◌≤◌, Ok, length, ap, ◌∙◌, arith}
-use Rattle.bit_allocator.specs.Pool.{number_answer}
-use Rattle.slot_array.specs.SlotCalls.SlotCall.{Stored}
-use Rattle.slot_array.specs.Slots.{stored_reply, after_put}
+use Rattle.slot_array.proofs.Common.{number_answer, Stored, stored_reply, after_put, call_leads_on, slots}
 use Rattle.slot_array.proofs.SlotLemmas.{changes_own}
-use Rattle.step_memory.proofs.MachineLemmas.{call_leads_on}
-use Rattle.slot_array.specs.Machine.{slots}
 use Rattle.slot_array.proofs.slots.Slots.put.Goals as goal
 
 pub returns-in_err-number-clause-after : goal.returns-in_err-number-clause-after

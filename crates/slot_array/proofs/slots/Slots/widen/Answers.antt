@@ -1,11 +1,6 @@
 use Rattle.std.proofs.Common.{rules, ◌≡◌, Ok, length, ap, arith}
-use Rattle.bit_allocator.specs.Pool.{widen_answer}
-use Rattle.slot_array.specs.SlotsState.{SlotsState}
-use Rattle.slot_array.specs.SlotCalls.SlotCall.{Extended}
-use Rattle.slot_array.specs.Slots.{after_extend}
+use Rattle.slot_array.proofs.Common.{widen_answer, SlotsState, Extended, after_extend, call_leads_on, slots}
 use Rattle.slot_array.proofs.SlotLemmas.{fills_new}
-use Rattle.step_memory.proofs.MachineLemmas.{call_leads_on}
-use Rattle.slot_array.specs.Machine.{slots}
 use Rattle.slot_array.proofs.slots.Slots.widen.Goals as goal
 
 pub returns-in_err-widen-clause-after : goal.returns-in_err-widen-clause-after
