@@ -1,3 +1,4 @@
+mod Common
 mod ShortReplies
 mod ResultLemmas
 mod UnderWayLemmas

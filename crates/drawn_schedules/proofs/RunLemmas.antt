@@ -1,15 +1,11 @@
 -- runs of drawn schedules, event by event
-use Rattle.std.proofs.Common.{◌≡◌, ◌≢◌, ℕ, ◌+◌, ◌-◌, ◌%◌, ◌<◌, suc, ◌⊎◌, Bool, true, false, inl, inr, List, [], ◌∷◌, ◌++◌, map, length, ◌^◌, Option, length-append, get_or, set, refl, sym, ap, subst, ◌∙◌, append_assoc, arith}
-use Rattle.std.specs.Prelude.{Result, Ok, Err, IfOk}
+use Rattle.std.proofs.Common.{◌≡◌, ◌≢◌, ℕ, ◌+◌, ◌-◌, ◌%◌, ◌<◌, suc, ◌⊎◌, Bool, true, false, inl, inr, List, [], ◌∷◌, ◌++◌, map, length, ◌^◌, Option, length-append, get_or, set, refl, sym, ap, subst, ◌∙◌, append_assoc, arith, Result, Ok, Err, IfOk}
+use Rattle.drawn_schedules.proofs.Common.{Lcg, pcg32, Config, Event, Tally, begins_from, opened, schedule, steps_drawn, IsUnderWay}
 use Rattle.std.specs.Result.{result_ok}
 use Rattle.std.proofs.lemmas.Bool.Decides.{eqb_tells}
 use Rattle.std.proofs.lemmas.Grind.{get_or-set_at}
 use Rattle.std.proofs.lemmas.List.{append-nil, map-append, get_or-set_other}
-use Rattle.rand_pcg.specs.Lcg.{Lcg}
-use Rattle.rand_pcg.specs.Pcg.{pcg32}
 use Rattle.step_memory.specs.declared.refusal.Refusal.TheVariants as refusal
-use Rattle.commands.specs.declared.config.Config.{Config}
-use Rattle.commands.specs.declared.event.Event.{Event}
 use Rattle.commands.specs.declared.event.Event.TheVariants as event
 use Rattle.commands.specs.declared.exchange.Exchange.{Exchange}
 use Rattle.commands.specs.Replies.{ShownReply}
@@ -20,10 +16,7 @@ use Rattle.desk.specs.DeskValue.{DeskValue}
 use Rattle.desk.specs.Names.{begun_in, begun_more}
 use Rattle.desk.specs.Rules.{may_by}
 use Rattle.desk.proofs.DeskLaws.{fresh, goes_on, law}
-use Rattle.drawn_schedules.specs.declared.tally.Tally.{Tally}
-use Rattle.drawn_schedules.specs.Schedule.{begins_from, opened, schedule, steps_drawn}
 use Rattle.drawn_schedules.specs.Runs.{IsAmple, HasPlayed, PlaysFrom, IsDrawnRun, AreDrawnRuns, HasDrawn, IsToldOf, numbers_line, run_line, run_lines}
-use Rattle.player.specs.UnderWay.{IsUnderWay}
 use Rattle.drawn_schedules.proofs.UnderWayLemmas.{at_first}
 use Rattle.drawn_schedules.specs.Tally.{IsTallyOf, how_many, is_named, is_spent, one_more_if}
 

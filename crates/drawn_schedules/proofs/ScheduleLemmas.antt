@@ -1,11 +1,7 @@
 -- the lines of drawn schedules
 use Rattle.std.proofs.Common.{◌≡◌, ℕ, suc, ◌+◌, ◌-◌, ◌%◌, ◌<◌, List, [], ◌∷◌, ◌++◌, refl, sym, ap, ◌∙◌, append_assoc, arith}
-use Rattle.rand_pcg.specs.Lcg.{Lcg}
-use Rattle.rand_pcg.specs.Pcg.{pcg32}
-use Rattle.commands.specs.declared.event.Event.{Event}
+use Rattle.drawn_schedules.proofs.Common.{Lcg, pcg32, Event, begins_from, opened, schedule, steps_drawn, event_words, event_lines}
 use Rattle.commands.specs.declared.event.Event.TheVariants as event
-use Rattle.drawn_schedules.specs.Schedule.{begins_from, opened, schedule, steps_drawn}
-use Rattle.player.specs.Events.{event_words, event_lines}
 
 pub event_lines-append : (events more : List Event) → event_lines (events ++ more) ≡ event_lines events ++ event_lines more
 event_lines-append [] more = refl

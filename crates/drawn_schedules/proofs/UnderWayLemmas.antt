@@ -1,11 +1,10 @@
 -- texts on their way to a writer, piece by piece
 use Rattle.std.proofs.Common.{◌≡◌, ℕ, ◌++◌, List, [], length, take, Option, refl, sym, ap, subst, ◌∙◌, append_assoc, length-append, arith}
+use Rattle.drawn_schedules.proofs.Common.{Appends, HasPartOf}
 use Rattle.std.proofs.lemmas.List.{append-nil}
 use Rattle.std.proofs.Math.Seq.{take-append_seam}
-use Rattle.std.specs.Io.KnownBytes.{Appends}
 use Rattle.std.proofs.KnownBytes.{Appends-nil}
 use Rattle.player.specs.UnderWay.{IsUnderWay, GoesFrom, GoesPast, StopsWithin}
-use Rattle.player.specs.Written.{HasPartOf}
 
 module _ (this : List ℕ) (old : Option (List ℕ)) (held : List ℕ) (mid : Option (List ℕ)) (held' : List ℕ) where
   -- one piece more

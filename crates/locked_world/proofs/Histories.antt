@@ -1,27 +1,17 @@
 -- a history is a list of calls of its desk, and goes on by one accepted event
 use Rattle.std.proofs.Common.{◌≡◌, ◌<◌, length, arith, ℕ, inl, inr, List, [], ◌∷◌, ◌++◌, map, Option, Some, None, refl, sym, ap, subst, ◌∙◌, append_assoc, true, false}
+use Rattle.locked_world.proofs.Common.{Refusal, Config, Event, Begin, Exchange, Ok, Refused, DeskValue, OverGrid, OverTree, IsOwnerReply, may_by, HallState}
 use Rattle.std.proofs.lemmas.List.{append-nil, length-append}
 use Rattle.std.proofs.lemmas.Bool.Decides.{leb_tells}
 use Rattle.std.proofs.lemmas.Bool.{false_from_ne_true}
-use Rattle.step_memory.specs.declared.refusal.Refusal.{Refusal}
 use Rattle.step_memory.specs.declared.refusal.Refusal.TheVariants as refusal
 use Rattle.step_memory.specs.World.{begin_refusal, done_unless}
-use Rattle.commands.specs.declared.config.Config.{Config}
-use Rattle.commands.specs.declared.event.Event.{Event}
-use Rattle.commands.specs.declared.event.Event.TheVariants.{Begin}
-use Rattle.commands.specs.declared.exchange.Exchange.{Exchange}
 use Rattle.commands.specs.declared.reply.Reply.TheVariants as reply
-use Rattle.commands.specs.declared.reply.Reply.TheVariants.{Ok, Quiet, Stop, Right, Down, Place, Proposed, Saw, Named, Spent, Missed, Got, Left, Value, Owner, Refused}
 use Rattle.commands.specs.Replies.{ShownReply, is_refusal, done_reply}
 use Rattle.desk.specs.Desk.{fresh_desk, desk_rules, desk_reply, desk_after, desk_refusal, IsAfterDesk, owner_reply}
 use Rattle.desk.specs.DeskCalls.{DeskCall, exchange, exchange_of}
 use Rattle.desk.specs.DeskRun.{IsDeskRunOf}
-use Rattle.desk.specs.DeskValue.{DeskValue}
-use Rattle.desk.specs.DeskValue.DeskValue.{OverGrid, OverTree}
-use Rattle.desk.specs.Names.{IsOwnerReply}
-use Rattle.desk.specs.Rules.{may_by}
 use Rattle.desk.proofs.DeskLaws as desk
-use Rattle.locked_world.specs.HallState.{HallState}
 use Rattle.locked_world.specs.Halls.{desk_of, IsLawful, full_unless, hall_refusal, longer, reply_unless, after_unless, hall_reply, hall_after, HallMay}
 use Rattle.locked_world.specs.Replay.{replay, AreAccepted}
 
@@ -98,22 +88,8 @@ room_left h e due = room_by (desk_refusal (desk_of h) e) (length h.history) due
 
 -- a refusal has its reason
 refused_by : (r : ShownReply) → is_refusal r ≡ true → (why : Refusal) × (r ≡ reply.Refused why)
-refused_by Ok h = absurd (cc)
-refused_by Quiet h = absurd (cc)
-refused_by Stop h = absurd (cc)
-refused_by Right h = absurd (cc)
-refused_by Down h = absurd (cc)
-refused_by (Place place) h = absurd (cc)
-refused_by (Proposed number) h = absurd (cc)
-refused_by (Saw view) h = absurd (cc)
-refused_by (Named name view) h = absurd (cc)
-refused_by Spent h = absurd (cc)
-refused_by Missed h = absurd (cc)
-refused_by (Got number) h = absurd (cc)
-refused_by (Left number) h = absurd (cc)
-refused_by (Value value) h = absurd (cc)
-refused_by (Owner owner) h = absurd (cc)
 refused_by (Refused why) h = (why, refl)
+refused_by r h = absurd (cc)
 
 -- a hall that refuses nothing lets its desk answer, and this is the hall then
 pub record Grows (h : HallState) (e : Event) (r : ShownReply) (w : DeskValue) : Type 0 where

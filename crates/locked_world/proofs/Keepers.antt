@@ -1,13 +1,6 @@
 -- what a clerk comes to keep while it serves
-use Rattle.std.proofs.Common.{◌≡◌, ◌++◌, List, [], ◌∷◌, map, refl, sym, ap, ◌∙◌, append_assoc}
-use Rattle.std.proofs.lemmas.List.{append-nil}
-use Rattle.commands.specs.declared.config.Config.{Config}
-use Rattle.commands.specs.declared.exchange.Exchange.{Exchange}
-use Rattle.player.specs.Runs.{Runs}
-use Rattle.player.specs.Turns.{Turn, exchanges}
-use Rattle.player.specs.Turns.Turn.{Answered, Told, Ended, Misread}
-use Rattle.locked_world.specs.declared.kept.Kept.{Kept}
-use Rattle.locked_world.specs.CallerState.{CallerState}
+use Rattle.std.proofs.Common.{◌≡◌, ◌++◌, List, [], ◌∷◌, map, sym, ap, ◌∙◌, append_assoc}
+use Rattle.locked_world.proofs.Common.{append-nil, Config, Exchange, Runs, Turn, exchanges, Answered, Told, Ended, Misread, Kept, CallerState}
 use Rattle.locked_world.specs.Kepts.{IsTaken, IsTold, IsSound}
 use Rattle.locked_world.specs.Serving.{ClerkServes, accepted, exchange_kept}
 use Rattle.locked_world.proofs.Serves.{accepted-one, kept_one}

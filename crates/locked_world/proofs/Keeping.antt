@@ -1,7 +1,6 @@
 -- places beside exchanges, of which there are as many
 use Rattle.std.proofs.Common.{◌≡◌, ℕ, zero, suc, List, [], ◌∷◌, ◌++◌, length, Some, None, slice_get, refl, ap, arith, get_or}
-use Rattle.commands.specs.declared.exchange.Exchange.{Exchange}
-use Rattle.locked_world.specs.KeptLogs.{kept_of, side_by_side}
+use Rattle.locked_world.proofs.Common.{Exchange, kept_of, side_by_side}
 
 pub kept_many : (ps : List ℕ) (xs : List Exchange) → length ps ≡ length xs → length (side_by_side ps xs) ≡ length ps
 kept_many [] xs h = refl

@@ -1,3 +1,4 @@
+mod Common
 mod Logging
 mod Histories
 mod Keeping

@@ -1,36 +1,21 @@
 -- exchanges of which long replies stand apart stay as they are when one more is put behind them
 use Rattle.std.proofs.Common.{◌≡◌, ℕ, ◌+◌, ◌<◌, List, [], ◌∷◌, ◌++◌, length, refl, ap, ◌∙◌, arith, true, length-append}
+use Rattle.locked_world.proofs.Common.{nat_tests, Event, ShownReply, exchange}
 use Rattle.std.proofs.lemmas.List.{map-append, get_or_append_left}
 use Rattle.std.proofs.lemmas.Bool.{and_parts, and_from}
-use Rattle.std.proofs.lemmas.Bool.Decides.{nat_tests}
-use Rattle.commands.specs.declared.event.Event.{Event}
-use Rattle.commands.specs.Replies.{ShownReply}
 use Rattle.commands.specs.declared.reply.Reply.TheVariants as reply
-use Rattle.desk.specs.DeskCalls.{exchange}
 use Rattle.locked_world.specs.declared.entry.Entry.{Entry}
 use Rattle.locked_world.specs.declared.entry.Short.{Short}
-use Rattle.locked_world.specs.declared.entry.Short.TheVariants.{Ok, Quiet, Proposed, Missed, Got, Left, Value, Apart}
+use Rattle.locked_world.specs.declared.entry.Short.TheVariants.{Quiet, Apart}
 use Rattle.locked_world.specs.Logs.{reply_shown, is_inside, all_inside, exchange_shown, entry_of, put_together}
 
 reply_kept : (apart more : List ShownReply) (r : Short) → is_inside (length apart) r ≡ true → reply_shown (apart ++ more) r ≡ reply_shown apart r
-reply_kept apart more Ok h = refl
-reply_kept apart more Quiet h = refl
-reply_kept apart more (Proposed number) h = refl
-reply_kept apart more Missed h = refl
-reply_kept apart more (Got number) h = refl
-reply_kept apart more (Left number) h = refl
-reply_kept apart more (Value value) h = refl
 reply_kept apart more (Apart at) h = let l : at < length apart = grind (arith, nat_tests) in get_or_append_left apart more reply.Quiet at l
+reply_kept apart more r h = refl
 
 inside_kept : (count more : ℕ) (r : Short) → is_inside count r ≡ true → is_inside (count + more) r ≡ true
-inside_kept count more Ok h = refl
-inside_kept count more Quiet h = refl
-inside_kept count more (Proposed number) h = refl
-inside_kept count more Missed h = refl
-inside_kept count more (Got number) h = refl
-inside_kept count more (Left number) h = refl
-inside_kept count more (Value value) h = refl
 inside_kept count more (Apart at) h = grind (arith, nat_tests)
+inside_kept count more r h = refl
 
 all_kept : (count more : ℕ) (es : List Entry) → all_inside count es ≡ true → all_inside (count + more) es ≡ true
 all_kept count more [] h = refl

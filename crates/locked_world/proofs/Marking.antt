@@ -1,13 +1,11 @@
 -- marks that lists of kept events make
 use Rattle.std.proofs.Common.{◌≡◌, ℕ, ◌+◌, ◌<◌, ◌≤◌, ◌≢◌, List, [], ◌∷◌, ◌++◌, length, map, sym, ap, ◌∙◌, subst, arith, Bool, true, false, All, ◌==◌, cond, ltb, eqb, take, get_or, slice_get, Some, inl, inr, set, get_or-set_same, get_or-set_other, replicate}
+use Rattle.locked_world.proofs.Common.{slice_get_within, Exchange, Kept}
 use Rattle.std.specs.List.{count_by}
 use Rattle.std.proofs.lemmas.List.Sums.{sum_by-append, sum_by_push}
-use Rattle.std.proofs.lemmas.Option.{slice_get_within}
 use Rattle.std.proofs.lemmas.List.{take_more, map-append, get_or-replicate, length-replicate, get_or_past}
 use Rattle.std.proofs.lemmas.List.Elements.{All-nil, All-push, All-append}
 use Rattle.std.proofs.lemmas.Bool.Decides.{nat_tests, eqb_tells}
-use Rattle.commands.specs.declared.exchange.Exchange.{Exchange}
-use Rattle.locked_world.specs.declared.kept.Kept.{Kept}
 use Rattle.locked_world.specs.Kepts.{times, Fits, IsJust}
 use Rattle.locked_world.specs.Marks.{IsMarked, AreMarked, mark_at, one_if}
 

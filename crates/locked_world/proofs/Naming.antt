@@ -1,8 +1,6 @@
 -- the first name among what was kept
 use Rattle.std.proofs.Common.{◌≡◌, ℕ, List, [], ◌∷◌, ◌++◌, Option, Some, None, refl, ap, ◌∙◌}
-use Rattle.std.specs.Option.{option_or}
-use Rattle.locked_world.specs.declared.kept.Kept.{Kept}
-use Rattle.locked_world.specs.KeptNames.{name_given, name_kept}
+use Rattle.locked_world.proofs.Common.{option_or, Kept, name_given, name_kept}
 
 or_none : (o : Option ℕ) → option_or o None ≡ o
 or_none None = refl

@@ -1,19 +1,9 @@
 -- places that rise
-use Rattle.std.proofs.Common.{◌≡◌, ℕ, ◌+◌, ◌<◌, ◌≤◌, List, [], ◌∷◌, ◌++◌, refl, ap, ◌∙◌, arith, true, false, All}
-use Rattle.std.proofs.lemmas.List.Elements.{All-nil, All-cons, All-weaker}
-use Rattle.std.proofs.lemmas.Bool.Decides.{nat_tests}
-use Rattle.commands.specs.declared.config.Config.{Config}
-use Rattle.commands.specs.declared.event.Event.{Event}
-use Rattle.commands.specs.declared.exchange.Exchange.{Exchange}
-use Rattle.commands.specs.declared.event.Event.TheVariants.{Begin}
-use Rattle.commands.specs.Replies.{ShownReply}
-use Rattle.commands.specs.declared.reply.Reply.TheVariants.{Ok}
-use Rattle.desk.specs.DeskCalls.{exchange}
-use Rattle.locked_world.specs.declared.kept.Kept.{Kept}
+use Rattle.std.proofs.Common.{◌≡◌, ℕ, ◌+◌, ◌<◌, ◌≤◌, List, [], ◌∷◌, ◌++◌, refl, ap, ◌∙◌, arith, true, All}
+use Rattle.locked_world.proofs.Common.{nat_tests, Config, Event, Exchange, Begin, ShownReply, Ok, exchange, Kept, CallerState, kept_of}
+use Rattle.std.proofs.lemmas.List.Elements.{All-nil, All-cons}
 use Rattle.locked_world.specs.Answers.{IsAnswered}
-use Rattle.locked_world.specs.CallerState.{CallerState}
 use Rattle.locked_world.specs.Kepts.{rises, IsKept, IsOpened, IsTaken}
-use Rattle.locked_world.specs.KeptLogs.{kept_of}
 
 -- who had seen nothing is answered as one who had seen something
 pub from_nothing : (c : Config) (seen : List Exchange) (e : Event) (r : ShownReply) (now : List Exchange) → IsAnswered c seen e r now → IsAnswered c [] e r now

@@ -1,18 +1,9 @@
 -- steps that are added
 use Rattle.std.proofs.Common.{◌≡◌, ℕ, ◌+◌, ◌≤◌, length, true, false, List, [], ◌∷◌, ◌++◌, refl, sym, ap, ◌∙◌, arith, append_assoc, length-append}
+use Rattle.locked_world.proofs.Common.{append-nil, Refusal, Config, Step, exchange, ShownReply, is_refusal, with_view, CallerState, IsKept, IsTaken, kept_of}
 use Rattle.std.proofs.lemmas.List.Elements.{All-nil, All-push}
-use Rattle.std.proofs.lemmas.List.{append-nil}
-use Rattle.step_memory.specs.declared.refusal.Refusal.{Refusal}
-use Rattle.commands.specs.declared.config.Config.{Config}
-use Rattle.commands.specs.declared.event.Event.TheVariants.{Step}
 use Rattle.commands.specs.declared.reply.Reply.{Reply}
-use Rattle.commands.specs.declared.reply.Reply.TheVariants.{Ok, Quiet, Stop, Right, Down, Place, Proposed, Saw, Named, Spent, Missed, Got, Left, Value, Owner, Refused}
-use Rattle.desk.specs.DeskCalls.{exchange}
-use Rattle.commands.specs.Replies.{ShownReply, is_refusal, with_view}
-use Rattle.locked_world.specs.declared.kept.Kept.{Kept}
-use Rattle.locked_world.specs.CallerState.{CallerState}
-use Rattle.locked_world.specs.Kepts.{IsKept, IsTaken, IsSound}
-use Rattle.locked_world.specs.KeptLogs.{kept_of}
+use Rattle.commands.specs.declared.reply.Reply.TheVariants.{Named, Spent, Refused}
 use Rattle.locked_world.specs.Renamed.{goes_on, IsStepped, IsPlainStep}
 use Rattle.history_book.proofs.Fronts.{prefix_self, prefix_trans}
 use Rattle.locked_world.proofs.Standing.{sound_after, seen_after}
@@ -22,41 +13,15 @@ stepped_not c id s = record { added = []; longer = sym (append-nil s.kept); coun
 
 -- a short reply that is none of the refusals is accepted
 pub taken_by : (r : Reply (Unit {0})) (view : List (ℕ × ℕ)) → ((why : Refusal) → r ≡ Refused why → ⊥) → is_refusal (with_view r view) ≡ false
-taken_by Ok view refused = refl
-taken_by Quiet view refused = refl
-taken_by Stop view refused = refl
-taken_by Right view refused = refl
-taken_by Down view refused = refl
-taken_by (Place place) view refused = refl
-taken_by (Proposed number) view refused = refl
-taken_by (Saw nothing) view refused = refl
-taken_by (Named name nothing) view refused = refl
-taken_by Spent view refused = refl
-taken_by Missed view refused = refl
-taken_by (Got number) view refused = refl
-taken_by (Left number) view refused = refl
-taken_by (Value value) view refused = refl
-taken_by (Owner owner) view refused = refl
 taken_by (Refused why) view refused = absurd (refused why refl)
+taken_by r view refused = refl
 
 -- and who is not named, spent or refused goes on
 pub plain_by : (r : Reply (Unit {0})) (view : List (ℕ × ℕ)) → ((name : ℕ) (nothing : Unit {0}) → r ≡ Named name nothing → ⊥) → (r ≡ Spent → ⊥) → ((why : Refusal) → r ≡ Refused why → ⊥) → goes_on (with_view r view) ≡ true
-plain_by Ok view named spent refused = refl
-plain_by Quiet view named spent refused = refl
-plain_by Stop view named spent refused = refl
-plain_by Right view named spent refused = refl
-plain_by Down view named spent refused = refl
-plain_by (Place place) view named spent refused = refl
-plain_by (Proposed number) view named spent refused = refl
-plain_by (Saw nothing) view named spent refused = refl
 plain_by (Named name nothing) view named spent refused = absurd (named name nothing refl)
 plain_by Spent view named spent refused = absurd (spent refl)
-plain_by Missed view named spent refused = refl
-plain_by (Got number) view named spent refused = refl
-plain_by (Left number) view named spent refused = refl
-plain_by (Value value) view named spent refused = refl
-plain_by (Owner owner) view named spent refused = refl
 plain_by (Refused why) view named spent refused = absurd (refused why refl)
+plain_by r view named spent refused = refl
 
 -- one more step after which it goes on
 pub stepped_more : (c : Config) (id count : ℕ) (s mid t : CallerState) (r : ShownReply) → IsStepped c id count s mid → IsTaken c mid (Step id) r t → goes_on r ≡ true → is_refusal r ≡ false → IsStepped c id (count + 1) s t

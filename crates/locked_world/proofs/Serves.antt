@@ -1,32 +1,18 @@
 -- what a hall, and a clerk, answer in turn
 use Rattle.std.proofs.Common.{◌≡◌, ℕ, ◌⊎◌, ◌++◌, nat_le, arith, Bool, true, false, cond, inl, inr, List, [], ◌∷◌, map, length, Option, Some, None, refl, sym, ap, subst, ◌∙◌, append_assoc}
-use Rattle.std.proofs.lemmas.List.{append-nil, map-append}
+use Rattle.locked_world.proofs.Common.{append-nil, map-append, Refusal, Config, Event, Exchange, exchange, DeskValue, ShownReply, is_refusal, Runs, Turn, exchanges, Answered, Told, Ended, Misread, Kept, hall_of, desk_of, IsLawful, full_unless, hall_refusal, longer, reply_unless, after_unless, HallMay, HallState, kept_of}
 use Rattle.std.proofs.lemmas.Option.{same_Some}
-use Rattle.step_memory.specs.declared.refusal.Refusal.{Refusal}
 use Rattle.step_memory.specs.declared.refusal.Refusal.TheVariants as refusal
-use Rattle.commands.specs.declared.config.Config.{Config}
 use Rattle.commands.specs.declared.kind.WorldKind.{WorldKind}
-use Rattle.commands.specs.declared.event.Event.{Event}
-use Rattle.commands.specs.declared.exchange.Exchange.{Exchange}
 use Rattle.commands.specs.declared.reply.Reply.TheVariants as reply
 use Rattle.commands.specs.Config.{gives_names}
 use Rattle.commands.specs.KindProofs.{where_named}
 use Rattle.desk.specs.Desk.{fresh_desk, desk_reply, desk_after, desk_refusal, IsFreshDesk}
-use Rattle.desk.specs.DeskCalls.{exchange}
-use Rattle.desk.specs.DeskValue.{DeskValue}
-use Rattle.commands.specs.Replies.{ShownReply, is_refusal}
 use Rattle.desk.proofs.DeskLaws as desk
 use Rattle.schedule_player.specs.DeskWorld.{DeskWorldMay, IsDeskTalk}
 use Rattle.schedule_player.specs.DeskWorldProofs.{desk_lawful, desk_tells}
 use Rattle.schedule_player.specs.IsTalk.{IsTalk, IsTalkByKind}
 use Rattle.commands.specs.Requests.Request.{Take}
-use Rattle.player.specs.Runs.{Runs}
-use Rattle.player.specs.Turns.{Turn, exchanges}
-use Rattle.player.specs.Turns.Turn.{Answered, Told, Ended, Misread}
-use Rattle.locked_world.specs.declared.kept.Kept.{Kept}
-use Rattle.locked_world.specs.Halls.{hall_of, desk_of, IsLawful, full_unless, hall_refusal, longer, reply_unless, after_unless, HallMay}
-use Rattle.locked_world.specs.HallState.{HallState}
-use Rattle.locked_world.specs.KeptLogs.{kept_of}
 use Rattle.locked_world.specs.Kepts.{KeepsUnless, Keeps}
 use Rattle.locked_world.specs.Serving.{HallServes, is_of_room, wants_room, with_room, accepted, exchange_kept}
 use Rattle.locked_world.proofs.Histories.{grows, not_refused, refused_so, none_of_full, accepted_by}
@@ -34,21 +20,7 @@ use Rattle.locked_world.proofs.Staying.{stays}
 
 not_wanting : (r : ShownReply) → is_refusal r ≡ false → wants_room r ≡ false
 not_wanting (reply.Refused why) h = absurd (cc)
-not_wanting reply.Ok h = refl
-not_wanting reply.Quiet h = refl
-not_wanting reply.Stop h = refl
-not_wanting reply.Right h = refl
-not_wanting reply.Down h = refl
-not_wanting (reply.Place place) h = refl
-not_wanting (reply.Proposed number) h = refl
-not_wanting (reply.Saw view) h = refl
-not_wanting (reply.Named name view) h = refl
-not_wanting reply.Spent h = refl
-not_wanting reply.Missed h = refl
-not_wanting (reply.Got number) h = refl
-not_wanting (reply.Left number) h = refl
-not_wanting (reply.Value value) h = refl
-not_wanting (reply.Owner owner) h = refl
+not_wanting r h = refl
 
 -- over one event: the hall stays lawful; and room was wanting and the desk is the same, or the desk answered; the history
 -- gains the event where it was accepted, and nothing else

@@ -1,22 +1,9 @@
 -- what callers kept stands in the history, which goes on
 use Rattle.std.proofs.Common.{◌≡◌, ◌≢◌, ℕ, ◌+◌, ◌<◌, ◌≤◌, inl, inr, Bool, true, false, cond, List, [], ◌∷◌, ◌++◌, All, length, Option, Some, None, slice_get, refl, sym, ap, subst, ◌∙◌, arith, length-append}
-use Rattle.std.proofs.lemmas.List.{append-nil}
+use Rattle.locked_world.proofs.Common.{append-nil, slice_get_within, Refusal, Config, Event, Exchange, exchange, ShownReply, is_refusal, Kept, CallerState, hall_of, IsLawful, hall_refusal, after_unless, HallMay, HallState, kept_of, Fits, KeepsUnless, IsTaken, IsSound}
 use Rattle.std.proofs.lemmas.List.Elements.{All-push, All-weaker}
-use Rattle.std.proofs.lemmas.Option.{slice_get_within}
 use mathlib.Core.List.{IsPrefix}
-use Rattle.history_book.proofs.Fronts.{prefix_self, prefix_trans, prefix_get, prefix_length}
-use Rattle.step_memory.specs.declared.refusal.Refusal.{Refusal}
-use Rattle.commands.specs.declared.config.Config.{Config}
-use Rattle.commands.specs.declared.event.Event.{Event}
-use Rattle.commands.specs.declared.exchange.Exchange.{Exchange}
-use Rattle.desk.specs.DeskCalls.{exchange}
-use Rattle.commands.specs.Replies.{ShownReply, is_refusal}
-use Rattle.locked_world.specs.declared.kept.Kept.{Kept}
-use Rattle.locked_world.specs.CallerState.{CallerState, caller_of}
-use Rattle.locked_world.specs.Halls.{hall_of, IsLawful, hall_refusal, after_unless, HallMay}
-use Rattle.locked_world.specs.HallState.{HallState}
-use Rattle.locked_world.specs.KeptLogs.{kept_of}
-use Rattle.locked_world.specs.Kepts.{Fits, Keeps, KeepsUnless, IsTaken, IsSound}
+use Rattle.history_book.proofs.Fronts.{prefix_trans, prefix_get, prefix_length}
 use Rattle.locked_world.specs.Serving.{accepted}
 use Rattle.locked_world.proofs.Serves.{Moves, moves}
 

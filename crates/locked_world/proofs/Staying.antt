@@ -1,6 +1,6 @@
 -- a desk that refuses an event, want of memory aside, stays as it is
 use Rattle.std.proofs.Common.{◌≡◌, ℕ, List, Bool, true, false, cond, Option, Some, None, Result, Ok, Err, refl, ap}
-use Rattle.step_memory.specs.declared.refusal.Refusal.{Refusal}
+use Rattle.locked_world.proofs.Common.{Refusal, Event, desk_refusal, desk_after, DeskValue, OverGrid, OverTree}
 use Rattle.step_memory.specs.Calls.{lacked_memory}
 use Rattle.snapshot_core.specs.Places.{KnownPlaces}
 use Rattle.snapshot_places.specs.GridTies.{grid_places}
@@ -16,13 +16,9 @@ use Rattle.bit_allocator.specs.PoolState.{PoolState}
 use Rattle.slot_array.specs.Slots.{stored_in, extended_in}
 use Rattle.step_memory.specs.Participant.{program_of}
 use Rattle.step_memory.specs.World.{done_unless}
-use Rattle.commands.specs.declared.event.Event.{Event}
 use Rattle.commands.specs.declared.event.Event.TheVariants.{Begin, Step, Enter, Probe, Leave, Put, Get, Widen}
-use Rattle.desk.specs.Desk.{desk_refusal, desk_after}
 use Rattle.desk.specs.DeskRules.{refusal_of, refusal_over, after_over}
 use Rattle.desk.specs.DeskState.{DeskState}
-use Rattle.desk.specs.DeskValue.{DeskValue}
-use Rattle.desk.specs.DeskValue.DeskValue.{OverGrid, OverTree}
 
 either : {T : Type 0} (b : Bool) (w u : T) → u ≡ w → cond b w u ≡ w
 either true w u same = refl

@@ -1,5 +1,5 @@
 -- what a caller of a lock is answered (this project's profile; a history of one object: Herlihy and Wing 1990)
-use Rattle.std.specs.Prelude.{◌≡◌, ℕ, List, [], Option, Some}
+use Rattle.std.specs.Prelude.{◌≡◌, ℕ, List, []}
 use mathlib.Core.List.{IsPrefix}
 use Rattle.step_memory.specs.declared.refusal.Refusal.{Refusal}
 use Rattle.commands.specs.declared.config.Config.{Config}

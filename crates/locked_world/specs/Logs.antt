@@ -23,14 +23,8 @@ reply_shown apart (Apart at) = slice_index_or apart at reply.Quiet
 
 -- it is short, or stands among so many long ones
 abbrev pub is_inside : ℕ → Short → Bool
-is_inside count Ok = true
-is_inside count Quiet = true
-is_inside count (Proposed number) = true
-is_inside count Missed = true
-is_inside count (Got number) = true
-is_inside count (Left number) = true
-is_inside count (Value value) = true
 is_inside count (Apart at) = nat_lt at count
+is_inside count s = true
 
 abbrev pub all_inside : ℕ → List Entry → Bool
 all_inside count [] = true

@@ -13,22 +13,10 @@ use Rattle.locked_world.specs.Kepts.{IsTaken, IsSound}
 
 -- whether a participant goes on after this reply to its step
 abbrev pub goes_on : ShownReply → Bool
-goes_on reply.Ok = true
-goes_on reply.Quiet = true
-goes_on reply.Stop = true
-goes_on reply.Right = true
-goes_on reply.Down = true
-goes_on (reply.Place place) = true
-goes_on (reply.Proposed number) = true
-goes_on (reply.Saw view) = true
 goes_on (reply.Named name view) = false
 goes_on reply.Spent = false
-goes_on reply.Missed = true
-goes_on (reply.Got number) = true
-goes_on (reply.Left number) = true
-goes_on (reply.Value value) = true
-goes_on (reply.Owner owner) = true
 goes_on (reply.Refused refusal) = false
+goes_on s = true
 
 -- a step of this identity after which it went on
 pub record IsPlainStep (id : ℕ) (k : Kept) : Type 0 where

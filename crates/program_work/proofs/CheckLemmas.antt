@@ -1,11 +1,6 @@
 -- how the check of a record ends
-use Rattle.std.proofs.Common.{◌≡◌, ◌∙◌, ◌⊎◌, ◌+◌, ◌<◌, ◌≤◌, inl, inr, refl, sym, subst, ℕ, List, Result, Err}
-use Rattle.run_checker.specs.declared.verdict.Verdict.{Verdict}
-use Rattle.player.specs.Played.{Reading, Writing}
-use Rattle.player.specs.Written.{HasPartOf}
-use Rattle.player.specs.declared.fault.Fault.{Fault}
-use Rattle.player.specs.declared.fault.Fault.TheVariants.{Read, Write, Memory}
-use Rattle.player.specs.declared.playing.TheConstants.{MOST_READS}
+use Rattle.std.proofs.Common.{◌≡◌, ◌∙◌, ◌⊎◌, ◌+◌, ◌<◌, ◌≤◌, inl, inr, sym, subst, ℕ, List, Result, Err}
+use Rattle.program_work.proofs.Common.{Verdict, Reading, Writing, HasPartOf, Fault, Read, Write, Memory, MOST_READS}
 use Rattle.program_work.specs.Checked.{HasFailedRead, IsJudged, IsToldOf}
 
 not_of_write : (fault : Fault) → (fault ≡ Read) ⊎ (fault ≡ Memory) → (let o : Result ℕ Fault = Err fault in o ≡ Err Write) → ⊥

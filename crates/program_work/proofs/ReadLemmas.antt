@@ -1,11 +1,9 @@
 -- what was read of an input
 use Rattle.std.proofs.Common.{◌≢◌, ◌∙◌, ◌++◌, inl, inr, ap, subst, ℕ, List, Option, Some, None}
-use Rattle.std.proofs.lemmas.List.{append-nil}
+use Rattle.program_work.proofs.Common.{append-nil, Verdict, NoMemory}
 use Rattle.std.specs.Io.KnownBytes.{Consumes, IsAtEnd}
 use Rattle.player.specs.Played.{IsInput}
 use Rattle.run_checker.specs.declared.judge.Judge.{Judge}
-use Rattle.run_checker.specs.declared.verdict.Verdict.{Verdict}
-use Rattle.run_checker.specs.declared.verdict.Verdict.TheVariants.{NoMemory}
 use Rattle.run_checker.specs.Stages.{HasTakenAll}
 use Rattle.run_checker.specs.Verdict.{IsSaid, IsSaidOfRows}
 

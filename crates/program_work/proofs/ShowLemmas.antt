@@ -1,12 +1,7 @@
 -- how the showing of a record ends
-use Rattle.std.proofs.Common.{◌≡◌, ◌∙◌, ◌⊎◌, ◌+◌, ◌≤◌, inl, inr, refl, sym, subst, ℕ, List, Result, Ok, Err}
-use Rattle.run_checker.specs.declared.verdict.Verdict.{Verdict}
-use Rattle.run_page.specs.Shown.{IsShown}
+use Rattle.std.proofs.Common.{◌≡◌, ◌∙◌, ◌⊎◌, ◌+◌, ◌≤◌, inl, inr, sym, subst, ℕ, List, Result, Ok, Err}
+use Rattle.program_work.proofs.Common.{Verdict, IsShown, Reading, Writing, Fault, Read, Write, Memory, MOST_READS}
 use Rattle.run_page.specs.declared.stretch.Stretch.{Stretch}
-use Rattle.player.specs.Played.{Reading, Writing}
-use Rattle.player.specs.declared.fault.Fault.{Fault}
-use Rattle.player.specs.declared.fault.Fault.TheVariants.{Read, Write, Memory}
-use Rattle.player.specs.declared.playing.TheConstants.{MOST_READS}
 use Rattle.program_work.specs.Checked.{HasFailedRead, IsWhole}
 use Rattle.program_work.specs.Shown.{IsShownFor}
 

@@ -58,13 +58,10 @@ IsPlayedBy true config reading writing status =
 
 -- it is neither to show a record nor to serve nor to host
 abbrev pub is_work : Ask → Bool
-is_work (Play config) = true
-is_work Check = true
-is_work Migrate = true
 is_work (Show showing) = false
-is_work (Draw drawing) = true
 is_work (Serve serving) = false
 is_work (Host hosting) = false
+is_work a = true
 
 -- what was asked for, which is neither to show nor to serve nor to host, is done, and answers this status: a run is
 -- played; or a record is checked, or written again; or nothing is read, and a drawing is written
@@ -73,9 +70,7 @@ IsWorked (Play playing) reading writing status = IsPlayedBy playing.recorded pla
 IsWorked Check reading writing status = IsChecked reading writing status
 IsWorked Migrate reading writing status = IsRewritten reading writing status
 IsWorked (Draw drawing) reading writing status = (reading.new ≡ reading.old) × IsDrawnBy drawing writing status
-IsWorked (Show showing) reading writing status = ⊥
-IsWorked (Serve serving) reading writing status = ⊥
-IsWorked (Host hosting) reading writing status = ⊥
+IsWorked a reading writing status = ⊥
 
 -- it is done so, and this is the outcome
 abbrev pub HasWorked : {R W : Type 0} → Ask → Reading R → Writing W → Result Outcome Failure → Type 0

@@ -1,8 +1,5 @@
 use Rattle.std.proofs.Common.{rules, ◌≡◌, [], Err, refl, arith}
-use Rattle.std.proofs.lemmas.Result.{on_ok_weaker, on_err_weaker}
-use Rattle.std.specs.Io.KnownBytes.{Appends}
-use Rattle.player.specs.UnderWay.{IsUnderWay}
-use Rattle.player.specs.Written.{HasPartOf}
+use Rattle.drawn_schedules.proofs.Common.{on_ok_weaker, on_err_weaker, Appends, IsUnderWay, HasPartOf}
 use Rattle.drawn_schedules.proofs.RunLemmas.{no_run_yet, one_run_more, told_otherwise}
 use Rattle.drawn_schedules.proofs.ResultLemmas.{on_ok_both}
 use Rattle.drawn_schedules.proofs.UnderWayLemmas.{at_last, part_written}

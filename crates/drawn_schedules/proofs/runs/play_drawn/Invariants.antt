@@ -1,6 +1,5 @@
 use Rattle.std.proofs.Common.{◌≡◌, ◌+◌, ◌*◌, ◌≤◌, [], length}
-use Rattle.drawn_schedules.specs.Runs.{HasDrawn}
-use Rattle.player.specs.UnderWay.{IsUnderWay}
+use Rattle.drawn_schedules.proofs.Common.{HasDrawn, IsUnderWay}
 use Rattle.drawn_schedules.proofs.runs.play_drawn.Given as goal
 
 abbrev pub invariant-loop-run : goal.invariant-loop-run

@@ -1,6 +1,5 @@
 use Rattle.std.proofs.Common.{◌≡◌, ◌+◌, ◌<◌, ℕ, Option, length, get_or}
-use Rattle.drawn_schedules.specs.Runs.{IsToldOf}
-use Rattle.drawn_schedules.specs.declared.tally.Tally.{Tally}
+use Rattle.drawn_schedules.proofs.Common.{IsToldOf, Tally}
 use Rattle.drawn_schedules.proofs.runs.play_share.Given as goal
 
 abbrev pub invariant-loop-i : goal.invariant-loop-i

@@ -1,6 +1,5 @@
 use Rattle.std.proofs.Common.{◌+◌, ◌-◌, ◌∷◌, [], arith}
-use Rattle.commands.specs.declared.event.Event.TheVariants.{Begin}
-use Rattle.drawn_schedules.specs.Schedule.{begins_from}
+use Rattle.drawn_schedules.proofs.Common.{Begin, begins_from}
 use Rattle.drawn_schedules.proofs.RunLemmas.{begins_next, begins_none, plays_on}
 use Rattle.drawn_schedules.proofs.runs.take_begins.Goals as goal
 

@@ -1,6 +1,5 @@
 use Rattle.std.proofs.Common.{◌+◌, ◌-◌, ◌≤◌}
-use Rattle.drawn_schedules.specs.Schedule.{begins_from}
-use Rattle.drawn_schedules.specs.Runs.{PlaysFrom}
+use Rattle.drawn_schedules.proofs.Common.{begins_from, PlaysFrom}
 use Rattle.drawn_schedules.proofs.runs.take_begins.Given as goal
 
 abbrev pub invariant-loop-before : goal.invariant-loop-before

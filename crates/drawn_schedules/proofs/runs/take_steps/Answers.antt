@@ -1,7 +1,5 @@
 use Rattle.std.proofs.Common.{◌+◌, ◌-◌, ◌%◌, ◌∷◌, [], arith}
-use Rattle.commands.specs.declared.event.Event.TheVariants.{Step}
-use Rattle.rand_pcg.specs.Pcg.{pcg32}
-use Rattle.drawn_schedules.specs.Schedule.{steps_drawn}
+use Rattle.drawn_schedules.proofs.Common.{Step, pcg32, steps_drawn}
 use Rattle.drawn_schedules.proofs.RunLemmas.{steps_next, steps_none, plays_on}
 use Rattle.drawn_schedules.proofs.runs.take_steps.Goals as goal
 

@@ -1,6 +1,5 @@
 use Rattle.std.proofs.Common.{◌+◌, ◌-◌, ◌≤◌}
-use Rattle.drawn_schedules.specs.Schedule.{steps_drawn}
-use Rattle.drawn_schedules.specs.Runs.{PlaysFrom}
+use Rattle.drawn_schedules.proofs.Common.{steps_drawn, PlaysFrom}
 use Rattle.drawn_schedules.proofs.runs.take_steps.Given as goal
 
 abbrev pub invariant-loop-done : goal.invariant-loop-done

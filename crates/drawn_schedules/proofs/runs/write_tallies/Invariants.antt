@@ -1,7 +1,6 @@
 use Rattle.std.proofs.Common.{◌≡◌, ◌+◌, ◌*◌, ◌≤◌, ℕ, [], length}
-use Rattle.commands.specs.declared.config.Config.{Config}
+use Rattle.drawn_schedules.proofs.Common.{Config, IsUnderWay}
 use Rattle.drawn_schedules.specs.Runs.{AreTold, HasDrawn}
-use Rattle.player.specs.UnderWay.{IsUnderWay}
 use Rattle.drawn_schedules.proofs.runs.write_tallies.Given as goal
 
 abbrev pub invariant-loop-run : goal.invariant-loop-run

@@ -1,9 +1,6 @@
 use Rattle.std.proofs.Common.{◌++◌, []}
-use Rattle.std.proofs.lemmas.Result.{on_ok_weaker}
+use Rattle.drawn_schedules.proofs.Common.{on_ok_weaker, begins_from, opened, steps_drawn, event_lines, IsUnderWay}
 use Rattle.player.specs.declared.fault.Fault.TheVariants.{Write}
-use Rattle.drawn_schedules.specs.Schedule.{begins_from, opened, steps_drawn}
-use Rattle.player.specs.Events.{event_lines}
-use Rattle.player.specs.UnderWay.{IsUnderWay}
 use Rattle.drawn_schedules.proofs.ScheduleLemmas.{schedule_lines}
 use Rattle.drawn_schedules.proofs.ResultLemmas.{on_ok_both, on_err_at}
 use Rattle.drawn_schedules.proofs.UnderWayLemmas.{at_first, at_last, second_half}

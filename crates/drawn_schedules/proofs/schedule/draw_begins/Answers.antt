@@ -1,7 +1,5 @@
 use Rattle.std.proofs.Common.{rules, ◌≡◌, Err, ◌+◌, ◌-◌, ◌∷◌, [], ◌++◌, arith}
-use Rattle.commands.specs.declared.event.Event.TheVariants.{Begin}
-use Rattle.drawn_schedules.specs.Schedule.{begins_from}
-use Rattle.player.specs.Events.{event_words, event_lines}
+use Rattle.drawn_schedules.proofs.Common.{Begin, begins_from, event_words, event_lines}
 use Rattle.drawn_schedules.proofs.ScheduleLemmas.{begins_more}
 use Rattle.drawn_schedules.proofs.UnderWayLemmas.{goes_on, stops}
 use Rattle.drawn_schedules.proofs.schedule.draw_begins.Goals as goal

@@ -1,7 +1,5 @@
 use Rattle.std.proofs.Common.{◌≡◌, ◌+◌, ◌-◌, ◌*◌, ◌≤◌, length}
-use Rattle.drawn_schedules.specs.Schedule.{begins_from}
-use Rattle.player.specs.Events.{event_lines}
-use Rattle.player.specs.UnderWay.{GoesFrom}
+use Rattle.drawn_schedules.proofs.Common.{begins_from, event_lines, GoesFrom}
 use Rattle.drawn_schedules.proofs.schedule.draw_begins.Given as goal
 
 abbrev pub invariant-loop-before : goal.invariant-loop-before

@@ -1,8 +1,5 @@
 use Rattle.std.proofs.Common.{rules, ◌≡◌, Err, ◌+◌, ◌-◌, ◌%◌, ◌∷◌, [], ◌++◌, arith}
-use Rattle.commands.specs.declared.event.Event.TheVariants.{Step}
-use Rattle.rand_pcg.specs.Pcg.{pcg32}
-use Rattle.drawn_schedules.specs.Schedule.{steps_drawn}
-use Rattle.player.specs.Events.{event_words, event_lines}
+use Rattle.drawn_schedules.proofs.Common.{Step, pcg32, steps_drawn, event_words, event_lines}
 use Rattle.drawn_schedules.proofs.ScheduleLemmas.{steps_more}
 use Rattle.drawn_schedules.proofs.UnderWayLemmas.{goes_on, stops}
 use Rattle.drawn_schedules.proofs.schedule.draw_steps.Goals as goal

@@ -1,7 +1,5 @@
 use Rattle.std.proofs.Common.{◌≡◌, ◌+◌, ◌-◌, ◌*◌, ◌≤◌, length}
-use Rattle.drawn_schedules.specs.Schedule.{steps_drawn}
-use Rattle.player.specs.Events.{event_lines}
-use Rattle.player.specs.UnderWay.{GoesFrom}
+use Rattle.drawn_schedules.proofs.Common.{steps_drawn, event_lines, GoesFrom}
 use Rattle.drawn_schedules.proofs.schedule.draw_steps.Given as goal
 
 abbrev pub invariant-loop-done : goal.invariant-loop-done

@@ -1,6 +1,5 @@
 use Rattle.std.proofs.Common.{◌≡◌, ◌+◌, length, subst}
-use Rattle.locked_world.specs.CallerState.{CallerState}
-use Rattle.locked_world.specs.Marks.{IsMarked}
+use Rattle.locked_world.proofs.Common.{CallerState, IsMarked}
 use Rattle.locked_world.proofs.Marking.{are_none, are_more, map_more}
 use Rattle.locked_world.proofs.closing.mark_clerks.Goals as goal
 

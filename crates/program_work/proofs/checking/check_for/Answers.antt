@@ -1,9 +1,5 @@
 use Rattle.std.proofs.Common.{rules, ◌≡◌, ◌≢◌, subst, refl, List, ℕ, Err}
-use Rattle.std.specs.Io.KnownBytes.{Appends}
-use Rattle.run_checker.specs.Verdict.{IsVerdict}
-use Rattle.run_checker.specs.declared.verdict.Verdict.TheVariants.{NoMemory}
-use Rattle.player.specs.Played.{reading, writing}
-use Rattle.player.specs.Written.{HasPartOf}
+use Rattle.program_work.proofs.Common.{Appends, reading, writing, HasPartOf}
 use Rattle.program_work.specs.Checked.{verdict_text, IsVerdictText}
 use Rattle.program_work.proofs.CheckLemmas.{half_told, unread}
 use Rattle.program_work.proofs.checking.check_for.Goals as goal

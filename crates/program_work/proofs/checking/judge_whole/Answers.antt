@@ -1,7 +1,5 @@
 use Rattle.std.proofs.Common.{◌++◌, [], inl, arith, refl, take, subst, ℕ}
-use Rattle.std.proofs.lemmas.List.{append-nil}
-use Rattle.std.specs.Io.KnownBytes.{Consumes}
-use Rattle.std.proofs.KnownBytes.{Consumes-nil, Consumes-trans}
+use Rattle.program_work.proofs.Common.{append-nil, Consumes, Consumes-nil, Consumes-trans}
 use Rattle.record_lines.specs.Records.{record_lines}
 use Rattle.program_work.proofs.ReadLemmas.{read_all, said_some}
 use Rattle.program_work.proofs.checking.judge_whole.Goals as goal

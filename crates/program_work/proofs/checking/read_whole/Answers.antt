@@ -1,7 +1,5 @@
 use Rattle.std.proofs.Common.{◌≡◌, ◌++◌, [], arith, refl, take, subst, ℕ, rules}
-use Rattle.std.proofs.lemmas.List.{append-nil}
-use Rattle.std.specs.Io.KnownBytes.{Consumes}
-use Rattle.std.proofs.KnownBytes.{Consumes-nil, Consumes-trans}
+use Rattle.program_work.proofs.Common.{append-nil, Consumes, Consumes-nil, Consumes-trans}
 use Rattle.program_work.proofs.ReadLemmas.{read_all}
 use Rattle.program_work.proofs.checking.read_whole.Goals as goal
 

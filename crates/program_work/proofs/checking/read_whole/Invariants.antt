@@ -1,6 +1,5 @@
 use Rattle.std.proofs.Common.{◌≡◌, ◌+◌, length}
-use Rattle.std.specs.Io.KnownBytes.{Consumes}
-use Rattle.player.specs.declared.playing.TheConstants.{READ_BYTES}
+use Rattle.program_work.proofs.Common.{Consumes, READ_BYTES}
 use Rattle.program_work.proofs.checking.read_whole.Given as goal
 
 abbrev pub invariant-loop-reads : goal.invariant-loop-reads

@@ -1,12 +1,6 @@
 use Rattle.std.proofs.Common.{rules, ◌≡◌, ◌≢◌, ◌+◌, ◌^◌, ◌<◌, ◌≤◌, inr, refl, sym, subst, length, List, ℕ, Ok, Err}
-use Rattle.std.specs.Io.KnownBytes.{Appends}
-use Rattle.run_checker.specs.Migrated.{IsMigrated}
-use Rattle.run_checker.specs.declared.verdict.Verdict.{Verdict}
-use Rattle.run_checker.specs.declared.verdict.Verdict.TheVariants.{Yes, NoMemory}
-use Rattle.player.specs.Played.{reading, writing}
-use Rattle.player.specs.Written.{HasPartOf}
-use Rattle.player.specs.declared.fault.Fault.TheVariants.{Memory}
-use Rattle.program_work.specs.Checked.{verdict_text, IsJudged, IsRecordText}
+use Rattle.program_work.proofs.Common.{Appends, IsMigrated, Verdict, Yes, NoMemory, reading, writing, HasPartOf, Memory}
+use Rattle.program_work.specs.Checked.{verdict_text, IsRecordText}
 use Rattle.program_work.proofs.CheckLemmas.{half_told, unread}
 use Rattle.program_work.proofs.MigrateLemmas.{unwritten, line_tells, status_one}
 use Rattle.program_work.proofs.migrating.migrate_for.Goals as goal

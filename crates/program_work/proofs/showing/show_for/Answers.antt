@@ -1,7 +1,5 @@
-use Rattle.std.proofs.Common.{rules, ◌≡◌, refl, subst, List, ℕ, Result, Ok, Err}
-use Rattle.run_checker.specs.declared.verdict.Verdict.{Verdict}
-use Rattle.run_page.specs.Shown.{IsShown}
-use Rattle.player.specs.Played.{reading, writing}
+use Rattle.std.proofs.Common.{rules, ◌≡◌, refl, subst, List, ℕ, Ok, Err}
+use Rattle.program_work.proofs.Common.{IsShown, reading, writing}
 use Rattle.program_work.specs.Shown.{stretch_asked}
 use Rattle.program_work.proofs.ShowLemmas.{all_shown, half_shown, unread_shown}
 use Rattle.program_work.proofs.showing.show_for.Goals as goal

@@ -1,11 +1,5 @@
 use Rattle.std.proofs.Common.{rules, ◌≡◌, ◌++◌, [], ◌∷◌, None, inr, ap, sym, subst, ◌∙◌, true, false}
-use Rattle.desk.specs.Desk.{desk_rules, desk_reply}
-use Rattle.desk.specs.DeskCalls.{exchange}
-use Rattle.desk.specs.DeskValue.{DeskValue}
-use Rattle.commands.specs.Replies.{ShownReply, is_refusal, with_view}
-use Rattle.desk.specs.Rules.{may_by}
-use Rattle.locked_world.specs.HallState.{HallState}
-use Rattle.locked_world.specs.Halls.{hall_of, desk_of, hall_refusal}
+use Rattle.locked_world.proofs.Common.{desk_rules, desk_reply, exchange, DeskValue, ShownReply, is_refusal, with_view, may_by, HallState, hall_of, desk_of, hall_refusal}
 use Rattle.locked_world.proofs.Histories.{none_of, grows, lacked}
 use Rattle.locked_world.proofs.hall.Hall.apply_short.Goals as goal
 use Rattle.locked_world.proofs.hall.Hall.apply_short.Goals.{After-is_refusal}

@@ -1,8 +1,5 @@
 use Rattle.std.proofs.Common.{◌≡◌, sym, subst, ap, ◌∙◌}
-use Rattle.commands.specs.Replies.{ShownReply}
-use Rattle.desk.specs.Desk.{owner_reply}
-use Rattle.desk.specs.Names.{IsOwnerReply}
-use Rattle.locked_world.specs.Halls.{desk_of, IsLawful}
+use Rattle.locked_world.proofs.Common.{ShownReply, owner_reply, IsOwnerReply, desk_of, IsLawful}
 use Rattle.locked_world.proofs.Histories.{history_owner}
 use Rattle.locked_world.proofs.hall.Hall.owner.Goals as goal
 

@@ -1,6 +1,5 @@
 use Rattle.std.proofs.Common.{◌≡◌, Some, slice_get, sym, ap, ◌∙◌, arith}
-use Rattle.std.proofs.lemmas.Option.{slice_get_within}
-use Rattle.locked_world.specs.KeptState.{KeptState}
+use Rattle.locked_world.proofs.Common.{slice_get_within, KeptState}
 use Rattle.locked_world.proofs.Keeping.{kept_none, kept_there}
 use Rattle.locked_world.proofs.kept_log.KeptLog.get.Goals as goal
 

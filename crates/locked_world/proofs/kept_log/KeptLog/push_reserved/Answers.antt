@@ -1,10 +1,5 @@
 use Rattle.std.proofs.Common.{◌≡◌, ◌++◌, [], ◌∷◌, ap, sym, ◌∙◌, length, length-append, arith}
-use Rattle.std.specs.Option.{option_or}
-use Rattle.desk.specs.DeskCalls.{exchange}
-use Rattle.commands.specs.Replies.{with_view}
-use Rattle.locked_world.specs.KeptLogs.{kept_of, side_by_side}
-use Rattle.locked_world.specs.KeptNames.{name_kept, name_given}
-use Rattle.locked_world.specs.KeptState.{KeptState}
+use Rattle.locked_world.proofs.Common.{option_or, exchange, with_view, kept_of, side_by_side, name_kept, name_given, KeptState}
 use Rattle.locked_world.proofs.Keeping.{kept_push}
 use Rattle.locked_world.proofs.Naming.{name_more}
 use Rattle.locked_world.proofs.kept_log.KeptLog.push_reserved.Goals as goal

@@ -1,6 +1,5 @@
 use Rattle.std.proofs.Common.{◌≡◌, ◌++◌, [], ◌∷◌, true, length, ap, ◌∙◌, sym}
-use Rattle.desk.specs.DeskCalls.{exchange}
-use Rattle.commands.specs.Replies.{with_view}
+use Rattle.locked_world.proofs.Common.{exchange, with_view}
 use Rattle.locked_world.specs.Logs.{is_inside, put_together}
 use Rattle.locked_world.specs.LogState.{LogState}
 use Rattle.locked_world.proofs.Logging.{put_push, inside_push}

@@ -1,7 +1,5 @@
 use Rattle.std.proofs.Common.{rules, subst, ◌∙◌, ℕ}
-use Rattle.commands.specs.declared.event.Event.TheVariants.{Step}
-use Rattle.commands.specs.Replies.{with_view}
-use Rattle.locked_world.specs.Kepts.{IsTaken}
+use Rattle.locked_world.proofs.Common.{Step, with_view, IsTaken}
 use Rattle.locked_world.proofs.Renames.{stepped_not, stepped_more, taken_by, plain_by}
 use Rattle.locked_world.proofs.parts.HallLock.rename.Goals as goal
 

@@ -1,13 +1,7 @@
 use Rattle.std.proofs.Common.{rules, ◌≡◌, ◌≤◌, ◌+◌, ◌++◌, [], ◌∷◌, None, false, true, ap, sym, subst, ◌∙◌, length, arith, length-append, List}
+use Rattle.locked_world.proofs.Common.{Exchange, exchange, is_refusal, with_view, hall_refusal, HallState, Fits, kept_of}
 use mathlib.Core.List.{IsPrefix}
-use Rattle.commands.specs.declared.exchange.Exchange.{Exchange}
-use Rattle.desk.specs.DeskCalls.{exchange}
-use Rattle.commands.specs.Replies.{is_refusal, with_view}
 use Rattle.locked_world.specs.CallerState.{CallerState, caller_of}
-use Rattle.locked_world.specs.Halls.{hall_refusal}
-use Rattle.locked_world.specs.HallState.{HallState}
-use Rattle.locked_world.specs.Kepts.{Fits}
-use Rattle.locked_world.specs.KeptLogs.{kept_of}
 use Rattle.history_book.proofs.Fronts.{prefix_length}
 use Rattle.locked_world.proofs.Histories.{none_of, kept_refused, room_left}
 use Rattle.locked_world.proofs.Places.{rises_more}

@@ -1,10 +1,5 @@
 use Rattle.std.proofs.Common.{◌≡◌, false, subst, refl, ap}
-use Rattle.commands.specs.declared.event.Event.TheVariants.{Begin}
-use Rattle.commands.specs.declared.reply.Reply.TheVariants.{Ok}
-use Rattle.commands.specs.Replies.{ShownReply, is_refusal, with_view}
-use Rattle.locked_world.specs.CallerState.{CallerState}
-use Rattle.locked_world.specs.Halls.{HallMay}
-use Rattle.locked_world.specs.Kepts.{IsTaken}
+use Rattle.locked_world.proofs.Common.{Begin, Ok, ShownReply, is_refusal, with_view, CallerState, HallMay, IsTaken}
 use Rattle.locked_world.proofs.Histories.{begins_ok}
 use Rattle.locked_world.proofs.Places.{opened}
 use Rattle.locked_world.proofs.Renames.{taken_by}
