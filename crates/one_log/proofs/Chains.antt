@@ -1,5 +1,6 @@
 -- Entries that are applied in a row.
-use Rattle.std.proofs.Common.{append_assoc, ◌≡◌, ℕ, ◌+◌, List, [], ◌∷◌, ◌++◌, length, true, false, inl, inr, refl, ap, sym, subst, ◌∙◌, arith, add-zero, length-append, Result, Ok, Err, IfErr}
+use Rattle.std.proofs.Common.{append_assoc, ◌≡◌, ℕ, ◌+◌, List, [], ◌∷◌, ◌++◌, length, true, false, inl, inr, refl, ap, sym, subst, ◌∙◌, arith, add-zero}
+use Rattle.std.proofs.Common.{length-append, Result, Ok, Err, IfErr}
 use Rattle.one_log.specs.declared.replica.Step.{Step}
 use Rattle.one_log.specs.declared.replica.Step.TheVariants.{Nothing, Answered, Passed}
 use Rattle.one_log.specs.declared.serve_fault.Cause.{Cause}

@@ -4,8 +4,9 @@ use Rattle.std.specs.List.{IsDistinct, AllByRecursion, Contains, list_any}
 use Rattle.std.specs.Cmp.{nat_eq_equiv}
 use Rattle.std.proofs.lemmas.Map.Made.{length-le_from_is_member}
 use Rattle.std.proofs.lemmas.Map.Views.{list_any-from_Contains}
-use Rattle.std.proofs.lemmas.List.{length-map, take-append-drop, take_more_set, take_more, length-take-le, drop-set-lt, get_or-take, drop-replicate}
+use Rattle.std.proofs.lemmas.List.{length-map}
 use Rattle.std.proofs.Math.Seq.{drop-cons}
+use Rattle.std.proofs.lemmas.List.{take-append-drop, take_more_set, take_more, length-take-le, drop-set-lt, get_or-take, drop-replicate}
 use Rattle.std.proofs.lemmas.Bool.Decides.{nat_tests, eqb_tells, leb_tells, Decides-eqb}
 use Rattle.step_memory.specs.View.{IsAbove, IsRising, value_of, inserted}
 

@@ -1,15 +1,17 @@
 -- each step of a line keeps its rule
-use Rattle.std.proofs.Common.{◌≡◌, ◌≢◌, ℕ, zero, suc, ◌+◌, ◌-◌, ◌*◌, ◌<◌, ◌≤◌, eqb, eq-eqb, ne_eqb, sym, refl, ap, ◌∙◌, arith, List, [], ◌∷◌, ◌++◌, length, set, slice_index, replicate, slice_set}
+use Rattle.std.proofs.Common.{◌≡◌, ◌≢◌, ℕ, zero, suc, ◌+◌, ◌-◌, ◌*◌, ◌<◌, ◌≤◌, eqb, eq-eqb, ne_eqb, sym, refl, ap, ◌∙◌, arith, List, [], ◌∷◌, ◌++◌, length, set, slice_index, replicate}
 use mathlib.Core.Option.{some}
 use mathlib.Core.Logic.{dite}
 use native.Mathlib.Decide.{ℕ_discrete}
 use lib.ListN.{get_elem?}
 use Rattle.word_pool.specs.LineRule.{by_stage, from, rests, undealt, KeepsLine, KeepsLineRule, ComesBySwapInLine, TakesInLine, NeverComes}
-use Rattle.word_pool.proofs.Keeping.{both, may_unite, may_sever, united_own, apart_own, come_kept, come_by_swap_kept, look_kept, take_kept, free_kept, reread, seeks_none, opens}
+use Rattle.word_pool.proofs.Keeping.{both, may_unite, may_sever, united_own, apart_own}
+use Rattle.std.proofs.Common.{slice_set}
 use Rattle.word_pool.proofs.Common.{State, Step, Allows, Splits, Stage, Seeking, Holding, Call, PoolView, at_rest, coming, sighting, passing, races, taking, going, lone, resting, view_of, sum_of, own, tally, one_if, if_holding, holding, set_again, Comes, Looks, Frees, LooksOn, Joins, no_call, united, looked, swapped, keeps, KeepsSteps}
 use Rattle.word_pool.specs.Crowd.{now, IsSmall, KeepsCrowd}
 use Rattle.word_pool.proofs.Crowding.{two_beyond, come_there, comes_and_looks, comes_and_passes, came_views, log_at_coming, comes_and_takes, small_at_coming, sighting_crowd, passing_crowd, log_so_far, small_so_far, taking_crowd, there_set, going_crowd, unites_crowd, parts_crowd, each_undealt, crowd_opens}
 use Rattle.word_pool.proofs.Tallies.{tally_set, tally_snoc, tally_has, tally_sum}
+use Rattle.word_pool.proofs.Keeping.{come_kept, come_by_swap_kept, look_kept, take_kept, free_kept, reread, seeks_none, opens}
 
 -- who holds a place stands there, and not further on
 holder_here : (stage : Stage) (place p : ℕ) → by_stage stage (1 - suc p) (1 - (suc p - place)) + if_holding stage (one_if (eqb place p)) ≤ by_stage stage (1 - p) (1 - (p - place))

@@ -1,5 +1,5 @@
 -- `into_parts` moves two fields, and what they own goes with them.
-use contract.Monad.{fact, Fun}
+use contract.Monad.{fact}
 use Rattle.std.proofs.Common.{◌≡◌, Option, Some, refl, sym, subst}
 use Rattle.word_pool_c.specs.Held.{grid_row}
 use Rattle.word_pool_c.specs.contracts.grid_handle.GridHandle as Handle
@@ -12,6 +12,7 @@ use prog.Memory.{Memory}
 use prog.Routine.{Routine}
 use prog.Wp.{WpFn, Tables}
 use types.Logic.{Logic}
+use contract.Monad.{Fun}
 use contract.Running.{tables, tables_of}
 use sound.WpLaws.{WpFn-mono}
 use types.Kit.{Item, ‵, raw, ◌⊛◌, ◌$◌, ◌∵◌, !, qed, by, move, drop, rewrite, use1, join, split, fsplit, fjoin, suffices, done}
