@@ -11,7 +11,7 @@ pub use Rattle.run_page.specs.declared.form.Form.{Form}
 pub use Rattle.run_page.specs.declared.form.Form.TheVariants.{Data, Item}
 pub use Rattle.run_page.specs.Access.{with_reached}
 pub use Rattle.run_page.specs.Row.{access_in, row_of, done_at, desk_next, reached_in, rows, replayed}
-pub use Rattle.run_page.specs.State.{name_fact, name_facts, state, stranger}
+pub use Rattle.run_page.specs.State.{name_fact, state, stranger}
 pub use Rattle.run_page.specs.Page.{closing_data, ending, page_between, page_head, page_middle, page_tail, whole_before}
 pub use Rattle.run_page.specs.Still.{begun_in, item_of}
 pub use Rattle.run_page.specs.declared.done.Done.{Done}

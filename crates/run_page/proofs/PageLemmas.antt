@@ -1,6 +1,7 @@
 -- a page, one line after the other
 use Rattle.std.proofs.Common.{◌≡◌, inl, inr, ℕ, suc, ◌+◌, ◌-◌, ◌<◌, ◌≤◌, Bool, true, false, ◌↔◌, if◌then◌else◌, List, [], ◌∷◌, ◌++◌, length, take, drop, refl, sym, ap, ◌∙◌, subst, append_assoc, get_or, flat_map, arith}
-use Rattle.run_page.proofs.Common.{Config, DeskValue, Line, Stretch, Sheet, Form, Data, Item, with_reached, access_in, row_of, done_at, desk_next, reached_in, rows, replayed, name_fact, name_facts, state}
+use Rattle.run_page.proofs.Common.{Config, DeskValue, Line, Stretch, Sheet, Form, Data, Item, with_reached, access_in, row_of, done_at, desk_next, reached_in, rows, replayed, name_fact, state}
+use Rattle.run_page.specs.State.{name_facts}
 use Rattle.std.proofs.lemmas.List.{take_more, length-drop, take_all, drop_all, take-append-le, drop-append-le, append-nil, length-append}
 use Rattle.std.proofs.lemmas.Grind.{flat_map-append}
 use Rattle.std.proofs.lemmas.Bool.Decides.{eqb_tells, leb_tells}

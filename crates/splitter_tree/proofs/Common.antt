@@ -52,7 +52,7 @@ pub use Rattle.splitter_tree.specs.TreeDue.{collects_after, collects, TreeRefuse
 pub use Rattle.splitter_tree.specs.declared.register.TreeValue.TheVariants.{Word, Contents as Held}
 pub use Rattle.splitter_tree.specs.TreeSteps.{tree_steps, NodeMap, may_refuse, number_in, fresh_registers, written, empty_tree, value_of}
 pub use Rattle.splitter_tree.specs.declared.node_registers.NodeRegisters.{NodeRegisters}
-pub use Rattle.splitter_tree.specs.CollectWalk.{node_after, climbed, climbed_in, walk_is_over, place_read, first_walk, walk_at, finds_mark, walk_resumed, numbers, child_or}
+pub use Rattle.splitter_tree.specs.CollectWalk.{node_after, climbed, climbed_in, walk_is_over, place_read, first_walk, walk_at, finds_mark, walk_resumed, child_or}
 pub use Rattle.splitter_tree.specs.Ahead.{marked_in, HasRead, HasGrown, open_at, Sees, IsPathMarked, IsAhead, IsUpcoming}
 pub use Rattle.splitter_tree.specs.Invariant.{IsTree, IsConsistent, was_made, NodesAgree, accesses_by}
 pub use Rattle.splitter_tree.specs.NodeOrder.{above, IsUnder, IsRightOf, IsFrom}

@@ -51,8 +51,8 @@ kept_beside r q v (Some registers) h e = kept_in_node r q v registers h e
 -- a node that has just been made has the values that its registers had but for its mark
 fresh_as_none : (r q : TreeRegister) (v : TreeValue) → sets_mark r v ≡ true → q ≢ r → number_in q ≡ number_in r → value_in q (Some fresh_registers) ≡ value_in q None
 fresh_as_none (Mark p) (Mark k) v m h e = absurd (h (ap Mark e))
-fresh_as_none r q v m h e = absurd (cc)
 fresh_as_none (Mark p) q v m h e = refl
+fresh_as_none r q v m h e = absurd (cc)
 
 first_true : (a b : Bool) → a && b ≡ true → a ≡ true
 first_true true b h = refl

@@ -92,10 +92,13 @@ unchanged : (f f' : Firsts) (o : RenameObject) → f' ≡ f → HoldsFirsts f o 
 unchanged f f' o e h = subst (λ (x : Firsts). HoldsFirsts x o) (sym e) h
 
 firsts_after : (f f' : Firsts) (o : DeskObject) (c : DeskCall) (b : Bool) → HoldsFirsts f o.names → GoesOn (proposal_of (exchange_of c).event (told_of b (exchange_of c).reply)) f f' → HoldsFirsts f' (after_call o c).names
+firsts_after f f' o (Renamed (Began p (Ok done))) b h g = unchanged f f' _ g (elsewhere f o.names _ _ _ _ _ _ h)
+firsts_after f f' o (Renamed (Stepped p (Ok (step.Placed x)))) b h g = unchanged f f' _ g (elsewhere f o.names _ _ _ _ _ _ h)
 firsts_after f f' o (Renamed (Stepped p (Ok (step.Proposed n)))) b h g = g o.names h
+firsts_after f f' o (Renamed (Stepped p (Ok (step.Named n view)))) b h g = unchanged f f' _ g (elsewhere f o.names _ _ _ _ _ _ h)
+firsts_after f f' o (Renamed (Stepped p (Ok step.Spent))) b h g = unchanged f f' _ g (elsewhere f o.names _ _ _ _ _ _ h)
 firsts_after f f' o (Slotted (Pooled (Entered p answer))) b h g = unchanged f f' _ g h
 firsts_after f f' o c b h g = unchanged f f' _ g h
-firsts_after f f' o c b h g = unchanged f f' _ g (elsewhere f o.names _ _ _ _ _ _ h)
 
 pub firsts_next : (f f' : Firsts) (o : DeskObject) (c : DeskCall) (l : Line) → IsLineOf (exchange_of c) l → HoldsFirsts f o.names → GoesOn (proposal_of l.event l.told) f f' → HoldsFirsts f' (after_call o c).names
 firsts_next f f' o c l w h g = firsts_after f f' o c w.shows h (subst (λ (x : Line). GoesOn (proposal_of x.event x.told) f f') (sym w.spelled) g)

@@ -1,6 +1,7 @@
 -- the children whose numbers fit
 use Rattle.std.proofs.Common.{◌≡◌, ℕ, suc, arith, ◌*◌, ◌<◌, ◌≤◌, ◌^◌, Option, Some, refl, inl, inr}
-use Rattle.splitter_tree.proofs.Common.{leb_tells, numbers, child_or}
+use Rattle.splitter_tree.specs.CollectWalk.{numbers}
+use Rattle.splitter_tree.proofs.Common.{leb_tells, child_or}
 use Rattle.std.proofs.Math.Nat.{pow-le-pow_right}
 use Rattle.std.proofs.lemmas.Bool.{le-leb}
 
