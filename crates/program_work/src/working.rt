@@ -10,7 +10,7 @@ use drawn_jobs::play_drawn_by;
 use drawn_schedules::draw;
 use player::{Fault, Sink, Source};
 use program_args::{Ask, Drawing, Playing};
-use schedule_player::{play, record};
+use schedule_player::{play_any, record};
 use std::alloc::{Allocator, Global};
 use std::thread::Threads;
 
@@ -59,7 +59,7 @@ fn play_for<R: Source, W: Sink, A: Allocator + Clone>(
             Err(fault) => Err(fault),
         };
     }
-    match play(alloc, reader, writer, config) {
+    match play_any(alloc, reader, writer, config) {
         Ok(_) => Ok(0),
         Err(fault) => Err(fault),
     }

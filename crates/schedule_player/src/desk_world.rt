@@ -6,8 +6,6 @@ ghost use Rattle.desk.specs.Desk.{IsFreshDesk};
 ghost use Rattle.desk.specs.DeskRun.{IsDeskRunOf};
 ghost use Rattle.schedule_player.specs.DeskWorld.{DeskWorldMay};
 ghost use Rattle.schedule_player.specs.DeskWorldProofs.{desk_answers, desk_lawful, desk_tells, one_desk_fresh, one_desk_reply};
-ghost use Rattle.schedule_player.specs.IsTalk.{IsTalk};
-ghost use Rattle.schedule_player.specs.IsTalkProofs.{desk_talks};
 ghost use Rattle.std.proofs.Common.{refl};
 
 use crate::world::{Unshared, World};
@@ -41,8 +39,6 @@ impl<A: Allocator + Clone> World<A, Unshared> for Desk<A> {
 
     ghost IsRunIn = { IsDeskRunOf };
 
-    ghost TalkIn = { IsTalk };
-
     fn open(alloc: A, config: Config) -> Result<Self, Refusal> {
         Desk::new(alloc, config)
     }
@@ -52,8 +48,6 @@ impl<A: Allocator + Clone> World<A, Unshared> for Desk<A> {
     ghost lawful = { desk_lawful };
 
     ghost tells = { desk_tells };
-
-    ghost talks = { desk_talks };
 
     ghost one_fresh = { one_desk_fresh };
 

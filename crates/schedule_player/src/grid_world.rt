@@ -3,8 +3,6 @@
 ghost use Rattle.std.proofs.Common.{refl};
 ghost use Rattle.commands.specs.Config.{is_kind};
 ghost use Rattle.commands.specs.declared.kind.WorldKind.TheVariants.{Grid};
-ghost use Rattle.schedule_player.specs.IsTalk.{IsTalk};
-ghost use Rattle.schedule_player.specs.IsTalkProofs.{talks_as};
 ghost use Rattle.splitter_grid.proofs.GridTied.{grid_proved};
 ghost use Rattle.splitter_grid.specs.Machine.{grid_parts};
 ghost use Rattle.schedule_player.specs.WorldRuns.{fits_in, world_lawful};
@@ -54,8 +52,6 @@ impl<A: Allocator + Clone> World<A, Unshared> for GridWorld<A> {
 
     ghost IsRunIn = { λ c. IsGridRun };
 
-    ghost TalkIn = { IsTalk };
-
     #[tactic(auto, using(commands::specs::KindProofs::one_kind))]
     fn open(alloc: A, config: Config) -> Result<Self, Refusal> {
         GridWorld::new(alloc, config.m as usize)
@@ -66,8 +62,6 @@ impl<A: Allocator + Clone> World<A, Unshared> for GridWorld<A> {
     ghost lawful = { λ c w u ts fresh. world_lawful grid_parts place_reply grid_proved c.m w u (fits_in Grid c fresh.0) fresh.1 ts };
 
     ghost tells = { λ c w u ts fresh. visits_tell grid_rules c.m w u ts };
-
-    ghost talks = { talks_as Grid };
 
     ghost one_fresh = { one_grid_fresh };
 

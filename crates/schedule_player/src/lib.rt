@@ -41,6 +41,6 @@ pub use player::{
     Tried, law_of_lines, law_of_sharing, parse_line, play_on, print_bad, print_event, print_header,
     print_reply, print_words, put_number, put_word, quick_command, quick_number, record_on,
 };
-pub use playing::{play, play_in};
+pub use playing::{play, play_any, play_in};
 pub use recording::record;
 pub use world::{Unshared, World};

@@ -36,8 +36,6 @@ pub fn play<A: Allocator + Clone, R: Source, W: Sink>(
 ) -> Result<Summary, Fault>
     requires reads { R.calls reader.old < 2 ^ 64 }
     requires writes { W.calls writer.old < 2 ^ 64 }
-    ensures talk { IsPlayedIn (IsTalk config) config.world
-        (reading R.remaining R.calls R.failed reader.old reader.new) (writing W.contents W.failed writer.old writer.new) result }
     ensures splitter { config.world ≡ WorldKind.Splitter → IsPlayedIn (IsSplitterTalk config) config.world
         (reading R.remaining R.calls R.failed reader.old reader.new) (writing W.contents W.failed writer.old writer.new) result }
     ensures grid { config.world ≡ WorldKind.Grid → IsPlayedIn (IsGridTalk config) config.world
@@ -59,6 +57,22 @@ pub fn play<A: Allocator + Clone, R: Source, W: Sink>(
             play_in(alloc, &Unshared, &mut world, config, reader, writer)
         }
     }
+}
+
+/// As `play`, said once for whatever world the config has, by which all above the player goes.
+#[tactic(auto, using(crate::specs::IsTalkProofs::played_by_kind))]
+pub fn play_any<A: Allocator + Clone, R: Source, W: Sink>(
+    alloc: A,
+    reader: &mut R,
+    writer: &mut W,
+    config: Config,
+) -> Result<Summary, Fault>
+    requires reads { R.calls reader.old < 2 ^ 64 }
+    requires writes { W.calls writer.old < 2 ^ 64 }
+    ensures { IsPlayedIn (IsTalk config) config.world
+        (reading R.remaining R.calls R.failed reader.old reader.new) (writing W.contents W.failed writer.old writer.new) result }
+{
+    play(alloc, reader, writer, config)
 }
 
 /// A fresh world of a config; `Fault::Memory` where memory was refused.
@@ -92,9 +106,7 @@ pub fn play_in<D: World<A, H>, H, A: Allocator + Clone, R: Source, W: Sink>(
     requires fresh { D.fresh config world.old }
     requires reads { R.calls reader.old < 2 ^ 64 }
     requires writes { W.calls writer.old < 2 ^ 64 }
-    ensures talk { IsPlayedIn (D.TalkIn config) config.world
-        (reading R.remaining R.calls R.failed reader.old reader.new) (writing W.contents W.failed writer.old writer.new) result }
-    ensures rules { IsPlayed replies_of (IsTalkOf (D.IsRunIn config) config.m (D.fresh config) D.may)
+    ensures { IsPlayed replies_of (IsTalkOf (D.IsRunIn config) config.m (D.fresh config) D.may)
         (IsTalkOf (D.IsRunIn config) config.m (D.fresh config) D.may) config.world
         (reading R.remaining R.calls R.failed reader.old reader.new) (writing W.contents W.failed writer.old writer.new) result }
 {

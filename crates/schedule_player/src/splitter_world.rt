@@ -3,8 +3,6 @@
 ghost use Rattle.std.proofs.Common.{refl};
 ghost use Rattle.commands.specs.Config.{is_kind};
 ghost use Rattle.commands.specs.declared.kind.WorldKind.TheVariants.{Splitter};
-ghost use Rattle.schedule_player.specs.IsTalk.{IsTalk};
-ghost use Rattle.schedule_player.specs.IsTalkProofs.{talks_as};
 ghost use Rattle.splitter.proofs.SplitterTied.{splitter_proved};
 ghost use Rattle.splitter.specs.Machine.{splitter_parts};
 ghost use Rattle.schedule_player.specs.WorldRuns.{world_lawful};
@@ -54,8 +52,6 @@ impl<A: Allocator + Clone> World<A, Unshared> for SplitterWorld<A> {
 
     ghost IsRunIn = { λ c. IsSplitterRun };
 
-    ghost TalkIn = { IsTalk };
-
     #[tactic(auto, using(commands::specs::KindProofs::one_kind))]
     fn open(alloc: A, config: Config) -> Result<Self, Refusal> {
         SplitterWorld::new(alloc, config.m as usize)
@@ -66,8 +62,6 @@ impl<A: Allocator + Clone> World<A, Unshared> for SplitterWorld<A> {
     ghost lawful = { λ c w u ts fresh. world_lawful splitter_parts way_reply splitter_proved c.m w u tt fresh ts };
 
     ghost tells = { λ c w u ts fresh. visits_tell splitter_rules c.m w u ts };
-
-    ghost talks = { talks_as Splitter };
 
     ghost one_fresh = { one_splitter_fresh };
 

@@ -8,7 +8,7 @@ ghost use Rattle.commands.specs.declared.reply.Reply.TheVariants as reply;
 ghost use Rattle.commands.specs.declared.config.Config.{Config};
 ghost use Rattle.commands.specs.declared.kind.WorldKind.{WorldKind};
 ghost use Rattle.player.specs.Knows.{Knows};
-ghost use Rattle.schedule_player.specs.Talks.{AreOwnersTold, IsTalkOf};
+ghost use Rattle.schedule_player.specs.Talks.{AreOwnersTold};
 ghost use Rattle.commands.specs.Requests.{Request};
 ghost use Rattle.player.specs.Runs.{Runs};
 ghost use Rattle.player.specs.Turns.{Turn, exchanges};
@@ -34,9 +34,6 @@ pub trait World<A, R>: Service<R> {
     /// The law: whether exchanges are a run of a config.
     ghost IsRunIn: { Config → List Exchange → Type 0 };
 
-    /// What is said in turn in a world of a config.
-    ghost TalkIn: { Config → List Turn → Type 0 };
-
     /// A fresh one; all the memory that it wants before its first event is taken here. A config is in its range, so want of
     /// memory is the only refusal.
     fn open(alloc: A, config: Config) -> Result<Self, Refusal>
@@ -52,9 +49,6 @@ pub trait World<A, R>: Service<R> {
 
     /// Everyone is told right who has a name.
     ghost tells: { (c : Config) (w u : Self) (ts : List Turn) → fresh c w → Runs Self.may w ts u → AreOwnersTold c.m ts };
-
-    /// Whatever its rules and its law allow to be said is said so.
-    ghost talks: { (c : Config) (ts : List Turn) → serves c.world ≡ true → IsTalkOf (IsRunIn c) c.m (fresh c) Self.may ts → TalkIn c ts };
 
     /// All that are fresh under a config are one.
     ghost one_fresh: { (c : Config) (w v : Self) → fresh c w → fresh c v → w ≡ v };

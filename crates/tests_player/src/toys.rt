@@ -7,7 +7,6 @@ ghost use Rattle.commands.specs.declared.kind.WorldKind.TheVariants.{Splitter};
 ghost use Rattle.schedule_player.specs.VisitProofs.{kind_meant};
 ghost use Rattle.tests_player.specs.Toys.{ShelfMay, IsShelfRun, IsSide};
 ghost use Rattle.tests_player.specs.ToyProofs.{shelf_answers, shelf_lawful, shelf_tells, one_shelf_fresh, one_shelf_reply, coin_answers};
-ghost use Rattle.schedule_player.specs.Talks.{IsTalkOf};
 ghost use Rattle.schedule_player.specs.Visits.{knows_visits};
 
 use commands::{Config, Event, Reply};
@@ -57,8 +56,6 @@ impl<A: Drop, R> World<A, R> for Shelf {
 
     ghost IsRunIn = { λ c. IsShelfRun };
 
-    ghost TalkIn = { λ c. IsTalkOf IsShelfRun c.m (λ w. w ≡ 0) ShelfMay };
-
     fn open(_alloc: A, _config: Config) -> Result<Self, Refusal> {
         Ok(Shelf { taken: 0, asked: 0 })
     }
@@ -68,8 +65,6 @@ impl<A: Drop, R> World<A, R> for Shelf {
     ghost lawful = { λ c w u ts fresh. shelf_lawful w u ts };
 
     ghost tells = { λ c w u ts fresh. shelf_tells c.m w u ts };
-
-    ghost talks = { λ c ts serves talk. talk };
 
     ghost one_fresh = { λ c. one_shelf_fresh };
 

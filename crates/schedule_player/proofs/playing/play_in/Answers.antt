@@ -1,9 +1,7 @@
-use Rattle.std.proofs.Common.{List}
 use Rattle.player.specs.Played.{reading, writing}
 use Rattle.player.specs.PlayedProofs.{played_weaker}
 use Rattle.player.specs.Runs.{IsRunTo, CanRun}
 use Rattle.player.specs.Texts.{replies_of}
-use Rattle.player.specs.Turns.{Turn}
 use Rattle.schedule_player.specs.Talks.{IsTalkOf}
 use Rattle.schedule_player.proofs.TalkLemmas.{talk_of_run}
 use Rattle.schedule_player.proofs.playing.play_in.Goals as goal
@@ -11,8 +9,8 @@ use Rattle.schedule_player.proofs.playing.play_in.Goals as goal
 pub play_on-requires-clause-knows : goal.play_on-requires-clause-knows
 play_on-requires-clause-knows g c = g.met.D.World.meant c.args.config.world c.requires.serves
 
-pub returns-clause-rules : goal.returns-clause-rules
-returns-clause-rules g c =
+pub returns : goal.returns
+returns g c =
     let config = c.args.config in
     let may = g.D.Service.may in
     let world = c.args.world.now in
@@ -24,12 +22,3 @@ returns-clause-rules g c =
     (λ ts run. talk world run.0 ts fresh run.1)
     config.world (reading g.R.Read.remaining g.R.Source.calls g.R.Source.failed c.args.reader.now c.play_on.new.reader) (writing g.W.Write.contents g.W.Sink.failed c.args.writer.now c.play_on.new.writer)
     c.play_on.result c.play_on.ensures.played
-
-pub returns-clause-talk : goal.returns-clause-talk
-returns-clause-talk g c =
-    let config = c.args.config in
-    let IsTalk = IsTalkOf (g.D.World.IsRunIn config) config.m (g.D.World.fresh config) g.D.Service.may in
-    let talks = λ (ts : List Turn) (talk : IsTalk ts). g.met.D.World.talks config ts c.requires.serves talk in
-    played_weaker replies_of IsTalk IsTalk (g.D.World.TalkIn config) (g.D.World.TalkIn config) talks talks
-    config.world (reading g.R.Read.remaining g.R.Source.calls g.R.Source.failed c.args.reader.now c.play_on.new.reader) (writing g.W.Write.contents g.W.Sink.failed c.args.writer.now c.play_on.new.writer)
-    c.play_on.result (returns-clause-rules g c)
