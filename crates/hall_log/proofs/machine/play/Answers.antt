@@ -19,13 +19,13 @@ loop-at-preserved c =
     let at = c.loop-at.at in
     let n = c.take-at.result in
     record {
-      inside = omega (arith, c.take-at.ensures.taken);
+      inside = omega (arith, c.take-at.ensures.line.inside);
       counted =
-          (let more = c.take-at.ensures.counted in
+          (let more = c.take-at.ensures.line.counted in
           let before = c.loop-at.invariant.counted in
-          let some = c.take-at.ensures.taken.0 in
+          let some = c.take-at.ensures.line.some in
           omega arith);
-      kind = c.take-at.ensures.kept ∙ c.loop-at.invariant.kind;
+      kind = c.take-at.ensures.line.kept ∙ c.loop-at.invariant.kind;
       takes = subst (λ (l : List ℕ). TakesBytes NotingSays c.args.noting.now c.args.talker.now l c.take-at.new.service c.take-at.new.self) (take_pieces bytes at n)
           (takes_then NotingSays turn_reply c.args.noting.now c.loop-at.noting c.take-at.new.service c.args.talker.now c.loop-at.talker c.take-at.new.self c.clear.new.self c.take-at.new.out
           (take at bytes) (take n (take (length bytes - at) (drop at bytes))) c.loop-at.invariant.kind c.loop-at.invariant.takes c.take-at.ensures.says);
