@@ -27,6 +27,17 @@ impl Form for AsReplies {
     }
 
     #[inline(always)]
+    fn put_asked<A: Allocator>(
+        _line: &[u8],
+        _event: Event,
+        reply: Reply<()>,
+        view: &View,
+        out: &mut Replies<A>,
+    ) {
+        print_reply(reply, view, out);
+    }
+
+    #[inline(always)]
     fn put_told<A: Allocator>(_n: u64, reply: Reply<()>, view: &View, out: &mut Replies<A>) {
         print_reply(reply, view, out);
     }

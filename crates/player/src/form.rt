@@ -27,7 +27,6 @@ pub trait Form: Drop {
         ensures short { length out.new ≤ length out.old + TURN_ROOM };
 
     /// As `put_answered`, where this line, without its LF, asked for the event, so that it can be copied where its words are written.
-    #[inline(always)]
     fn put_asked<A: Allocator>(
         line: &[u8],
         event: Event,
@@ -39,10 +38,7 @@ pub trait Form: Drop {
         requires line { line.now ≡ event_words event }
         requires few { length line.now ≤ EVENT_ROOM }
         ensures text { out.new ≡ out.old ++ text (Answered (record { event = event; reply = with_view reply view.now })) }
-        ensures short { length out.new ≤ length out.old + TURN_ROOM }
-    {
-        Self::put_answered(event, reply, view, out);
-    }
+        ensures short { length out.new ≤ length out.old + TURN_ROOM };
 
     /// Appends the text of an owner that was told, by a reply that shows this view where it shows one.
     fn put_told<A: Allocator>(n: u64, reply: Reply<()>, view: &View, out: &mut Replies<A>)
