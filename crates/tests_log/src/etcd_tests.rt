@@ -3,8 +3,8 @@
 use crate::doubles::Script;
 use etcd_log::EtcdStore;
 use one_log::{Put, Store, StoreFault};
-use std::alloc::Global;
-use std::test::Fail;
+use std::alloc::{AllocError, Global};
+use std::process::Abort;
 
 // The answer to a transaction that put its value.
 const WRITTEN: &[u8] =
@@ -25,77 +25,120 @@ const FOUND_TWO: &[u8] =
 // Something that is no answer.
 const OTHER: &[u8] = b"HTTP/1.1 200 OK\r\nConnection: close\r\nContent-Length: 2\r\n\r\n{}";
 
-// A store over the texts.
-fn store<'a>(alloc: Global, texts: &'a [&'a [u8]]) -> Result<EtcdStore<Script<'a>>, Fail> {
+// Neither of these is an answer.
+const SHORT: &[u8] = b"HTTP";
+
+const NO_LETTER: &[u8] = b"\xff";
+
+// A member that says nothing, and one that does not serve.
+const SILENT: &[u8] = b"";
+
+const AWAY: &[u8] = b"HTTP/1.1 503 No\r\nContent-Length: 0\r\n\r\n";
+
+/// A call of a store: at the place 42 a put of these bytes, which answers this; a get that finds these bytes; one that does not.
+#[derive(Clone, Copy, Drop)]
+enum Call {
+    Put(&'static [u8], Result<Put, StoreFault>),
+    Finds(u64, &'static [u8]),
+    Lacks(u64, Result<bool, StoreFault>),
+}
+
+/// Calls of a store over texts, of which each exchange takes the next.
+#[derive(Drop)]
+struct Trial {
+    title: &'static str,
+    texts: &'static [&'static [u8]],
+    calls: &'static [Call],
+}
+
+const TRIALS: [Trial; 4] = [
+    Trial {
+        title: "what is put and what is found",
+        texts: &[WRITTEN, TAKEN, FOUND, TAKEN],
+        calls: &[
+            Call::Put(b"hi", Ok(Put::Written)),
+            Call::Put(b"ho", Ok(Put::Taken)),
+            Call::Finds(42, b"hi"),
+            Call::Lacks(43, Ok(false)),
+        ],
+    },
+    Trial {
+        title: "what stands behind is read at once",
+        texts: &[FOUND_TWO, TAKEN, FOUND_TWO],
+        calls: &[
+            Call::Finds(42, b"hi"),
+            Call::Finds(43, b"ho"),
+            Call::Lacks(44, Ok(false)),
+            Call::Finds(42, b"hi"),
+        ],
+    },
+    Trial {
+        title: "the next member is asked",
+        texts: &[SILENT, AWAY, WRITTEN],
+        calls: &[Call::Put(b"hi", Ok(Put::Written))],
+    },
+    Trial {
+        title: "wrong answers are none",
+        texts: &[OTHER, FOUND, SHORT, NO_LETTER],
+        calls: &[
+            Call::Put(b"hi", Err(StoreFault::Wrong)),
+            Call::Lacks(41, Err(StoreFault::Wrong)),
+            Call::Put(b"hi", Err(StoreFault::Lost)),
+        ],
+    },
+];
+
+/// A store over the texts.
+fn store<'a>(alloc: Global, texts: &'a [&'a [u8]]) -> Result<EtcdStore<Script<'a>>, AllocError> {
     let prefix = String::from_str(alloc, "log/")?;
     Ok(EtcdStore::new(alloc, Script { texts, dialed: 0 }, prefix))
 }
 
+/// Whether a call answers as it should.
+fn answers(etcd: &mut EtcdStore<Script<'_>>, entry: &mut Vec<u8>, call: &Call) -> bool {
+    match *call {
+        Call::Put(bytes, want) => etcd.put(42, bytes) == want,
+        Call::Finds(place, bytes) => etcd.get(place, entry) == Ok(true)
+            && entry.as_slice() == bytes,
+        Call::Lacks(place, want) => etcd.get(place, entry) == want,
+    }
+}
+
+/// Makes the calls of a trial.
+fn makes(rt: &impl Abort, alloc: Global, trial: &Trial) -> Result<(), AllocError> {
+    let mut etcd = store(alloc, trial.texts)?;
+    let mut entry = Vec::new(alloc);
+    for (i, call) in trial.calls.iter().enumerate() {
+        assert!(rt;
+            answers(&mut etcd, &mut entry, call),
+            "{}: call {i}",
+            trial.title
+        );
+    }
+    Ok(())
+}
+
 #[test]
-fn answers_are_read(rt: HostRuntime) -> Result<(), Fail> {
-    let alloc = rt.alloc();
-    let texts = [WRITTEN, TAKEN, FOUND, TAKEN];
+fn answers_are_read(rt: HostRuntime) -> Result<(), AllocError> {
+    for trial in &TRIALS {
+        makes(&rt, rt.alloc(), trial)?;
+    }
+    Ok(())
+}
+
+/// What a get answers where each text is this, and how many bytes it then has found.
+fn found(alloc: Global, text: &[u8]) -> Result<(Result<bool, StoreFault>, usize), AllocError> {
+    let texts = [text; 4];
     let mut etcd = store(alloc, &texts)?;
     let mut entry = Vec::new(alloc);
-    assert_eq!(rt; etcd.put(42, b"hi"), Ok(Put::Written));
-    assert_eq!(rt; etcd.put(42, b"ho"), Ok(Put::Taken));
-    assert_eq!(rt; etcd.get(42, &mut entry), Ok(true));
-    assert_eq!(rt; entry.as_slice(), b"hi".as_slice());
-    assert_eq!(rt; etcd.get(43, &mut entry), Ok(false));
-    Ok(())
+    Ok((etcd.get(42, &mut entry), entry.len()))
 }
 
 #[test]
-fn what_stands_behind_is_read_at_once(rt: HostRuntime) -> Result<(), Fail> {
-    let alloc = rt.alloc();
-    let texts = [FOUND_TWO, TAKEN, FOUND_TWO];
-    let mut etcd = store(alloc, &texts)?;
-    let mut entry = Vec::new(alloc);
-    assert_eq!(rt; etcd.get(42, &mut entry), Ok(true));
-    assert_eq!(rt; entry.as_slice(), b"hi".as_slice());
-    assert_eq!(rt; etcd.get(43, &mut entry), Ok(true));
-    assert_eq!(rt; entry.as_slice(), b"ho".as_slice());
-    assert_eq!(rt; etcd.get(44, &mut entry), Ok(false));
-    assert_eq!(rt; etcd.get(42, &mut entry), Ok(true));
-    assert_eq!(rt; entry.as_slice(), b"hi".as_slice());
-    Ok(())
-}
-
-#[test]
-fn the_next_member_is_asked(rt: HostRuntime) -> Result<(), Fail> {
-    let alloc = rt.alloc();
-    let texts = [
-        b"".as_slice(),
-        b"HTTP/1.1 503 No\r\nContent-Length: 0\r\n\r\n".as_slice(),
-        WRITTEN,
-    ];
-    let mut etcd = store(alloc, &texts)?;
-    assert_eq!(rt; etcd.put(42, b"hi"), Ok(Put::Written));
-    Ok(())
-}
-
-#[test]
-fn wrong_answers_are_none(rt: HostRuntime) -> Result<(), Fail> {
-    let alloc = rt.alloc();
-    let mut entry = Vec::new(alloc);
-    let texts = [OTHER, FOUND, b"HTTP".as_slice(), b"\xff".as_slice()];
-    let mut etcd = store(alloc, &texts)?;
-    assert_eq!(rt; etcd.put(42, b"hi"), Err(StoreFault::Wrong));
-    assert_eq!(rt; etcd.get(41, &mut entry), Err(StoreFault::Wrong));
-    assert_eq!(rt; etcd.put(42, b"hi"), Err(StoreFault::Lost));
-    Ok(())
-}
-
-#[test]
-fn an_answer_that_is_cut_is_none(rt: HostRuntime) -> Result<(), Fail> {
-    let alloc = rt.alloc();
+fn an_answer_that_is_cut_is_none(rt: HostRuntime) -> Result<(), AllocError> {
     for end in 0..FOUND.len() {
-        let cut = &FOUND[..end];
-        let texts = [cut, cut, cut, cut];
-        let mut etcd = store(alloc, &texts)?;
-        let mut entry = Vec::new(alloc);
-        assert_eq!(rt; etcd.get(42, &mut entry), Err(StoreFault::Lost));
-        assert_eq!(rt; entry.len(), 0);
+        let found = found(rt.alloc(), &FOUND[..end])?;
+        assert_eq!(rt; found, (Err(StoreFault::Lost), 0), "cut at {end}");
     }
     Ok(())
 }

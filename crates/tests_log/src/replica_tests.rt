@@ -2,10 +2,10 @@
 
 use crate::doubles::{Lossy, Notebook};
 use one_log::{Cause, Group, MemoryStore, Replica, ServeFault, Step, StoreFault};
-use std::alloc::Global;
-use std::test::Fail;
+use std::alloc::{AllocError, Global};
+use std::process::Abort;
 
-// A machine to which nothing was applied.
+/// A machine to which nothing was applied.
 fn notebook(alloc: Global, refusals: u64) -> Notebook {
     Notebook {
         alloc,
@@ -14,115 +14,205 @@ fn notebook(alloc: Global, refusals: u64) -> Notebook {
     }
 }
 
-#[test]
-fn three_replicas_tell_what_one_machine_tells(rt: HostRuntime) -> Result<(), Fail> {
-    let alloc = rt.alloc();
-    let mut group: Group<Notebook> = Group::new(alloc);
+/// A log that three replicas share.
+fn three(alloc: Global) -> Result<Group<Notebook>, AllocError> {
+    let mut group = Group::new(alloc);
     for _ in 0..3 {
         group.join(notebook(alloc, 0))?;
     }
-    assert_eq!(rt; group.len(), 3);
+    Ok(group)
+}
+
+/// A step of a replica for its next batch, told if it is answered; one that is not gives no replies.
+fn steps(
+    rt: &impl Abort,
+    group: &mut Group<Notebook>,
+    at: u8,
+    count: &mut u8,
+    replies: &mut Vec<u8>,
+) -> bool {
+    let batch = [at, *count];
+    let at = usize::from(at);
+    let answered = at < group.len() && group.step(at, &batch, replies) == Ok(Step::Answered);
+    if answered {
+        *count = count.wrapping_add(1);
+    } else {
+        assert_eq!(rt; replies.len(), 0);
+    }
+    answered
+}
+
+/// Steps of replicas in a drawn order: the replies to each batch that was answered.
+fn told(
+    rt: &impl Abort,
+    alloc: Global,
+    group: &mut Group<Notebook>,
+) -> Result<Vec<Vec<u8>>, AllocError> {
+    let mut told = Vec::new(alloc);
     let mut counts = [0u8; 3];
-    let mut told: Vec<Vec<u8>> = Vec::new(alloc);
     let mut replies = Vec::new(alloc);
     let mut drawn = 1u32;
     for _ in 0..700 {
         drawn = drawn.wrapping_mul(1_664_525).wrapping_add(1_013_904_223);
-        let at = ((drawn >> 24) % 3) as usize;
-        let batch = [at as u8, counts[at]];
-        if at < group.len() && group.step(at, &batch, &mut replies) == Ok(Step::Answered) {
-            counts[at] = counts[at].wrapping_add(1);
+        let at = ((drawn >> 24) % 3) as u8;
+        if steps(rt, group, at, &mut counts[usize::from(at)], &mut replies) {
             told.push(Vec::from_slice(alloc, &replies)?)?;
-        } else {
-            assert_eq!(rt; replies.len(), 0);
         }
     }
+    Ok(told)
+}
+
+/// Whether a batch stands in the log at the place that its replies tell.
+fn stands(log: &MemoryStore, replies: &[u8]) -> bool {
+    match replies.split_first() {
+        Some((place, batch)) => log.entry(*place as usize) == Some(batch),
+        None => false,
+    }
+}
+
+#[test]
+fn three_replicas_tell_what_one_machine_tells(rt: HostRuntime) -> Result<(), AllocError> {
+    let mut group = three(rt.alloc())?;
+    assert_eq!(rt; group.len(), 3);
+    let told = told(&rt, rt.alloc(), &mut group)?;
     assert!(rt; told.len() > 50, "few were answered");
-    for reply in &told {
-        let Some((place, batch)) = reply.split_first() else {
-            panic!(rt; "no place was told");
-        };
-        assert_eq!(rt; group.log().entry(*place as usize), Some(batch));
+    for replies in &told {
+        assert!(rt; stands(group.log(), replies), "{replies:?}");
     }
     assert_eq!(rt; group.log().len(), told.len());
     Ok(())
 }
 
-#[test]
-fn what_was_written_and_not_told_is_found(rt: HostRuntime) -> Result<(), Fail> {
-    let alloc = rt.alloc();
-    let mut store = Lossy {
-        store: MemoryStore::new(alloc),
+/// A call of a replica: to serve a batch, or to catch up, and what it answers; and how things stand then.
+#[derive(Clone, Copy, Drop)]
+enum Call {
+    Serve(&'static [u8], Result<(), ServeFault>),
+    CatchUp(Result<u64, Cause>),
+    /// So many entries were applied.
+    Place(u64),
+    /// So many entries stand in the store.
+    Stored(usize),
+    IsSpoiled,
+}
+
+/// The replica that a call is made of, the call, and the replies then.
+type Row = (usize, Call, &'static [u8]);
+
+/// Calls of two replicas over a store that loses so many answers, of machines that refuse so many growths.
+#[derive(Drop)]
+struct Trial {
+    title: &'static str,
+    losses: u64,
+    refusals: u64,
+    rows: &'static [Row],
+}
+
+const LOST: ServeFault = ServeFault::Unknown(Cause::Store(StoreFault::Lost));
+
+const REFUSED: ServeFault = ServeFault::Unknown(Cause::Memory);
+
+const SPOILED: ServeFault = ServeFault::Unknown(Cause::Spoiled);
+
+const TRIALS: [Trial; 3] = [
+    Trial {
+        title: "what was written and not told is found",
         losses: 1,
-    };
+        refusals: 0,
+        rows: &[
+            (0, Call::Serve(b"1 a", Err(LOST)), b""),
+            (0, Call::Serve(b"1 a", Ok(())), b"\x001 a"),
+            (0, Call::Stored(1), b"\x001 a"),
+        ],
+    },
+    Trial {
+        title: "another has the place",
+        losses: 0,
+        refusals: 0,
+        rows: &[
+            (0, Call::Serve(b"1 a", Ok(())), b"\x001 a"),
+            (1, Call::Serve(b"2 a", Ok(())), b"\x012 a"),
+            (1, Call::Place(2), b"\x012 a"),
+            (0, Call::CatchUp(Ok(1)), b""),
+            (0, Call::Place(2), b""),
+        ],
+    },
+    Trial {
+        title: "a refused growth spoils",
+        losses: 0,
+        refusals: 1,
+        rows: &[
+            (0, Call::Serve(b"1 a", Err(REFUSED)), b""),
+            (0, Call::Serve(b"2 a", Err(SPOILED)), b""),
+            (0, Call::Stored(1), b""),
+            (0, Call::CatchUp(Err(Cause::Spoiled)), b""),
+            (0, Call::IsSpoiled, b""),
+        ],
+    },
+];
+
+/// A store that loses so many answers.
+fn lossy(alloc: Global, losses: u64) -> Lossy {
+    Lossy {
+        store: MemoryStore::new(alloc),
+        losses,
+    }
+}
+
+/// Whether a call answers as it should.
+fn answers(
+    replica: &mut Replica<Notebook>,
+    store: &mut Lossy,
+    call: Call,
+    replies: &mut Vec<u8>,
+) -> bool {
+    match call {
+        Call::Serve(batch, want) => replica.serve(store, batch, replies) == want,
+        Call::CatchUp(want) => replica.catch_up(store, 9, replies) == want,
+        Call::Place(place) => replica.place() == place,
+        Call::Stored(count) => store.store.len() == count,
+        Call::IsSpoiled => replica.is_spoiled(),
+    }
+}
+
+/// Makes the calls of a trial.
+fn makes(rt: &impl Abort, alloc: Global, trial: &Trial) {
+    let mut store = lossy(alloc, trial.losses);
     let mut replies = Vec::new(alloc);
-    let mut one = Replica::new(alloc, notebook(alloc, 0));
-    let lost = Cause::Store(StoreFault::Lost);
-    let first = one.serve(&mut store, b"1 a", &mut replies);
-    assert_eq!(rt; (first, replies.len()), (Err(ServeFault::Unknown(lost)), 0));
-    let again = one.serve(&mut store, b"1 a", &mut replies);
-    assert_eq!(rt;
-        (again, replies.as_slice()),
-        (Ok(()), b"\x001 a".as_slice())
-    );
-    assert_eq!(rt; store.store.len(), 1);
-    Ok(())
+    let one = Replica::new(alloc, notebook(alloc, trial.refusals));
+    let two = Replica::new(alloc, notebook(alloc, trial.refusals));
+    let mut replicas = [one, two];
+    for (i, (at, call, want)) in trial.rows.iter().enumerate() {
+        let Some(replica) = replicas.get_mut(*at) else {
+            panic!(rt; "there are two");
+        };
+        let told = answers(replica, &mut store, *call, &mut replies);
+        assert!(rt;
+            told && replies.as_slice() == *want,
+            "{}: row {i}",
+            trial.title
+        );
+    }
 }
 
 #[test]
-fn another_has_the_place(rt: HostRuntime) -> Result<(), Fail> {
-    let alloc = rt.alloc();
-    let mut store = MemoryStore::new(alloc);
-    let mut replies = Vec::new(alloc);
-    let mut one = Replica::new(alloc, notebook(alloc, 0));
-    let mut two = Replica::new(alloc, notebook(alloc, 0));
-    assert_eq!(rt; one.serve(&mut store, b"1 a", &mut replies), Ok(()));
-    assert_eq!(rt; two.serve(&mut store, b"2 a", &mut replies), Ok(()));
-    assert_eq!(rt;
-        (replies.as_slice(), two.place()),
-        (b"\x012 a".as_slice(), 2)
-    );
-    assert_eq!(rt;
-        (one.catch_up(&mut store, 9, &mut replies), one.place()),
-        (Ok(1), 2)
-    );
-    assert_eq!(rt; replies.len(), 0);
-    Ok(())
+fn replies_of_two_over_one_store(rt: HostRuntime) {
+    for trial in &TRIALS {
+        makes(&rt, rt.alloc(), trial);
+    }
 }
 
 #[test]
-fn a_refused_growth_spoils(rt: HostRuntime) -> Result<(), Fail> {
-    let alloc = rt.alloc();
-    let mut store = MemoryStore::new(alloc);
-    let mut replies = Vec::new(alloc);
-    let mut one = Replica::new(alloc, notebook(alloc, 1));
-    let refused = one.serve(&mut store, b"1 a", &mut replies);
-    assert_eq!(rt;
-        (refused, replies.len()),
-        (Err(ServeFault::Unknown(Cause::Memory)), 0)
-    );
-    let again = one.serve(&mut store, b"2 a", &mut replies);
-    assert_eq!(rt;
-        (again, replies.len(), store.len()),
-        (Err(ServeFault::Unknown(Cause::Spoiled)), 0, 1)
-    );
-    assert_eq!(rt;
-        one.catch_up(&mut store, 9, &mut replies),
-        Err(Cause::Spoiled)
-    );
-    assert!(rt; one.is_spoiled());
-    Ok(())
-}
-
-#[test]
-fn a_long_batch_is_refused(rt: HostRuntime) -> Result<(), Fail> {
-    let alloc = rt.alloc();
-    let mut store = MemoryStore::new(alloc);
-    let mut replies = Vec::new(alloc);
-    let mut one = Replica::new(alloc, notebook(alloc, 0));
-    let long = vec![in alloc; 7u8; 65_537]?;
-    let refused = one.serve(&mut store, &long, &mut replies);
-    assert_eq!(rt; (refused, store.len()), (Err(ServeFault::TooLong), 0));
-    assert_eq!(rt; one.serve(&mut store, &long[1..], &mut replies), Ok(()));
+fn a_long_batch_is_refused(rt: HostRuntime) -> Result<(), AllocError> {
+    let mut store = lossy(rt.alloc(), 0);
+    let mut replies = Vec::new(rt.alloc());
+    let mut one = Replica::new(rt.alloc(), notebook(rt.alloc(), 0));
+    let long = vec![in rt.alloc(); 7u8; 65_537]?;
+    for (batch, want) in [
+        (long.as_slice(), (Err(ServeFault::TooLong), 0)),
+        (&long[1..], (Ok(()), 1)),
+    ] {
+        let served = one.serve(&mut store, batch, &mut replies);
+        assert_eq!(rt; (served, store.store.len()), want);
+    }
     Ok(())
 }

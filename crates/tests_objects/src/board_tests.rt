@@ -1,10 +1,10 @@
 //! Posts and looks on a name board, one after another and by threads at once.
 
-ghost use Rattle.std.specs.Prelude.{◌≡◌, IfSome};
+ghost use Rattle.std.specs.Prelude.{◌≡◌, ◌<◌, IfSome};
 
 use linked_list_allocator::LocalHeap;
 use raw_parts::{Board, Grant, ReaderSeat};
-use std::alloc::Global;
+use std::alloc::{AllocError, Global};
 use std::process::Abort;
 use std::test::Fail;
 use std::thread::{Threads, join};
@@ -51,6 +51,37 @@ fn tries(board: &Board<Global>, reader: &mut ReaderSeat) -> [Option<(u64, u64)>;
     ]
 }
 
+/// What is told of the name that a second holds, as it posts it again and a third looks.
+fn looks(
+    board: &Board<Global>,
+    second: &mut ReaderSeat,
+    third: &mut ReaderSeat,
+) -> [Option<(u64, u64)>; 2]
+    requires second { second.old.board ≡ board.now }
+    requires third { third.old.board ≡ board.now }
+    ensures { third.new.board ≡ board.now }
+{
+    [
+        granted(board.post(second, 3, 20)),
+        granted(board.confirm(third, 3, 20)),
+    ]
+}
+
+/// The owners of a name that is held, of one that is free, and of the numbers next to the names.
+fn owners(board: &Board<Global>) -> [Option<u64>; 4] {
+    [
+        board.owner(3),
+        board.owner(2),
+        board.owner(0),
+        board.owner(4),
+    ]
+}
+
+/// The name of a grant, and whose it is.
+fn name_of(grant: &Grant) -> (u64, u64) {
+    (grant.name(), grant.identity())
+}
+
 /// Two names on a board of three, posted, confirmed and closed.
 #[test]
 fn two_post_their_names(rt: HostRuntime) -> Result<(), Fail> {
@@ -64,30 +95,12 @@ fn two_post_their_names(rt: HostRuntime) -> Result<(), Fail> {
     let Some(mut two) = board.post(&mut second, 3, 20) else {
         panic!(rt; "3 was free");
     };
-    let told = [
-        beside,
-        granted(board.post(&mut second, 3, 20)),
-        granted(board.confirm(&mut third, 3, 20)),
-    ];
-    let held = Some((3, 20));
-    assert_eq!(rt;
-        (told, tries(&board, &mut third)),
-        ([None, held, held], [None; 8])
-    );
+    let looked = looks(&board, &mut second, &mut third);
+    let told = (beside, looked, tries(&board, &mut third));
+    assert_eq!(rt; told, (None, [Some((3, 20)); 2], [None; 8]));
     board.meet(&mut one, &mut two);
-    assert_eq!(rt;
-        [(one.name(), one.identity()), (two.name(), two.identity())],
-        [(1, 10), (3, 20)]
-    );
-    assert_eq!(rt;
-        [
-            board.owner(3),
-            board.owner(2),
-            board.owner(0),
-            board.owner(4)
-        ],
-        [Some(20), None, None, None]
-    );
+    assert_eq!(rt; [name_of(&one), name_of(&two)], [(1, 10), (3, 20)]);
+    assert_eq!(rt; owners(&board), [Some(20), None, None, None]);
     let mut out = Vec::new(rt.alloc());
     out.push(one)?;
     out.push(two)?;
@@ -166,37 +179,45 @@ fn last_at_end<'a>(
     words.as_slice().last().copied()
 }
 
+/// The last word of a board of sixteen names as it ends, where the last was posted; none where the room for the words was wanting.
+fn last_of(rt: &impl Abort, alloc: Global, heap: &LocalHeap) -> Result<Option<u64>, Refusal> {
+    let (board, mut seat) = Board::new(heap, 16)?;
+    let Some(grant) = board.post(&mut seat, 16, 5) else {
+        panic!(rt; "16 was free");
+    };
+    // This takes the room that a board wants while it is made.
+    let rest = Vec::<u8, &LocalHeap>::with_capacity(heap, 128);
+    let last = last_at_end(alloc, heap, board, grant);
+    drop(rest);
+    Ok(last)
+}
+
+/// The same in a heap of 1,280 bytes with so many times 16 free.
+fn last_in(
+    rt: &impl Abort,
+    alloc: Global,
+    blocks: usize,
+) -> Result<Result<Option<u64>, Refusal>, AllocError>
+    requires { blocks < 80 }
+{
+    let heap = LocalHeap::new(alloc, 1_280)?;
+    let others = Vec::<u8, &LocalHeap>::with_capacity(&heap, 1_280 - 16 * blocks)?;
+    let last = last_of(rt, alloc, &heap);
+    drop(others);
+    Ok(last)
+}
+
 #[test]
-fn each_want_of_memory_is_told(rt: HostRuntime) -> Result<(), Fail> {
-    let mut refused = false;
-    let mut spent = false;
-    let mut made = false;
+fn each_want_of_memory_is_told(rt: HostRuntime) -> Result<(), AllocError> {
+    let mut seen = (false, false, false);
     for blocks in 0..80 {
-        let heap = LocalHeap::new(rt.alloc(), 1_280)?;
-        let others = Vec::<u8, &LocalHeap>::with_capacity(&heap, 1_280 - 16 * blocks)?;
-        match Board::new(&heap, 16) {
-            Ok((board, mut seat)) => {
-                let Some(grant) = board.post(&mut seat, 16, 5) else {
-                    panic!(rt; "16 was free");
-                };
-                // This takes the room that a board wants while it is made.
-                let rest = Vec::<u8, &LocalHeap>::with_capacity(&heap, 128);
-                match last_at_end(rt.alloc(), &heap, board, grant) {
-                    Some(word) => {
-                        assert_eq!(rt; word, 5);
-                        made = true;
-                    }
-                    None => spent = true,
-                }
-                drop(rest);
-            }
-            Err(refusal) => {
-                assert_eq!(rt; refusal, Refusal::NoMemory);
-                refused = true;
-            }
+        match last_in(&rt, rt.alloc(), blocks)? {
+            Err(Refusal::NoMemory) => seen.0 = true,
+            Ok(None) => seen.1 = true,
+            Ok(Some(5)) => seen.2 = true,
+            other => panic!(rt; "{blocks}: {other:?}"),
         }
-        drop(others);
     }
-    assert_eq!(rt; (refused, spent, made), (true, true, true));
+    assert_eq!(rt; seen, (true, true, true));
     Ok(())
 }

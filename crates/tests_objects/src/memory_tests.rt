@@ -152,48 +152,69 @@ fn told(world: &mut World<Once, Memory<u64, Global>, Global>, id: u64, call: Cal
 }
 
 /// Makes these calls, each of which answers what stands beside it.
-fn plays(
-    rt: &impl Abort,
-    world: &mut World<Once, Memory<u64, Global>, Global>,
-    calls: &[(u64, Call, Told)],
-) {
+fn plays(rt: &impl Abort, world: &mut World<Once, Memory<u64, Global>, Global>, calls: &[Row]) {
     for (id, call, want) in calls {
         assert_eq!(rt; told(world, *id, *call), *want, "{id} {call:?}");
     }
 }
 
+/// A call, of whom it is made, and what it answers.
+type Row = (u64, Call, Told);
+
 const DONE: Told = Ok(Note::Quiet);
+
+/// Calls of a world of two, with three registers of which two are of bits.
+const EACH: [Row; 21] = [
+    (0, Call::Begin(Access::Nothing), Err(Refusal::ZeroIdentity)),
+    (10, Call::Begin(Access::Write(0, 7)), DONE),
+    (10, Call::Begin(Access::Nothing), Err(Refusal::AlreadyBegun)),
+    (20, Call::Begin(Access::Read(0)), DONE),
+    (30, Call::Begin(Access::Nothing), Err(Refusal::Full)),
+    (0, Call::Begin(Access::Nothing), Err(Refusal::ZeroIdentity)),
+    (30, Call::Step, Err(Refusal::NotBegun)),
+    (0, Call::Value(0), Ok(Note::Ended(Answer::Value(3)))),
+    (10, Call::Step, Ok(Note::Ended(Answer::Done))),
+    (10, Call::Step, Err(Refusal::Finished)),
+    (20, Call::Step, Ok(Note::Ended(Answer::Value(7)))),
+    (30, Call::Set(Access::Nothing), Err(Refusal::NotBegun)),
+    (10, Call::Set(Access::TestAndSet(1)), DONE),
+    (10, Call::Step, Ok(Note::Ended(Answer::WasSet(false)))),
+    (0, Call::Bit(1), Ok(Note::Ended(Answer::WasSet(true)))),
+    (10, Call::Set(Access::TestAndSet(1)), DONE),
+    (10, Call::Step, Ok(Note::Ended(Answer::WasSet(true)))),
+    (0, Call::Bit(1), Ok(Note::Ended(Answer::WasSet(true)))),
+    (10, Call::Set(Access::Clear(1)), DONE),
+    (10, Call::Step, Ok(Note::Ended(Answer::Done))),
+    (0, Call::Bit(1), Ok(Note::Ended(Answer::WasSet(false)))),
+];
+
+/// 1, 65 and 129 have one hint, which says where 129 stands, and 193 has it too.
+const ONE_HINT: [Row; 9] = [
+    (1, Call::Begin(Access::Write(0, 7)), DONE),
+    (65, Call::Begin(Access::Read(0)), DONE),
+    (129, Call::Begin(Access::Read(1)), DONE),
+    (65, Call::Begin(Access::Nothing), Err(Refusal::AlreadyBegun)),
+    (193, Call::Step, Err(Refusal::NotBegun)),
+    (129, Call::Step, Ok(Note::Ended(Answer::Value(3)))),
+    (1, Call::Step, Ok(Note::Ended(Answer::Done))),
+    (65, Call::Step, Ok(Note::Ended(Answer::Value(7)))),
+    (1, Call::Step, Err(Refusal::Finished)),
+];
+
+/// A program is asked to make another access.
+const ASKED: [Row; 6] = [
+    (10, Call::Ask(Access::Write(0, 7)), Err(Refusal::NotBegun)),
+    (10, Call::Begin(Access::Read(0)), DONE),
+    (10, Call::Step, Ok(Note::Ended(Answer::Value(3)))),
+    (10, Call::Ask(Access::Write(0, 7)), DONE),
+    (10, Call::Step, Ok(Note::Ended(Answer::Done))),
+    (0, Call::Value(0), Ok(Note::Ended(Answer::Value(7)))),
+];
 
 #[test]
 fn each_call_and_each_refusal(rt: HostRuntime) -> Result<(), Fail> {
     let mut world = World::new(rt.alloc(), Memory::new(rt.alloc(), 3, 2, 2)?, 2)?;
-    plays(
-        &rt,
-        &mut world,
-        &[
-            (0, Call::Begin(Access::Nothing), Err(Refusal::ZeroIdentity)),
-            (10, Call::Begin(Access::Write(0, 7)), DONE),
-            (10, Call::Begin(Access::Nothing), Err(Refusal::AlreadyBegun)),
-            (20, Call::Begin(Access::Read(0)), DONE),
-            (30, Call::Begin(Access::Nothing), Err(Refusal::Full)),
-            (0, Call::Begin(Access::Nothing), Err(Refusal::ZeroIdentity)),
-            (30, Call::Step, Err(Refusal::NotBegun)),
-            (0, Call::Value(0), Ok(Note::Ended(Answer::Value(3)))),
-            (10, Call::Step, Ok(Note::Ended(Answer::Done))),
-            (10, Call::Step, Err(Refusal::Finished)),
-            (20, Call::Step, Ok(Note::Ended(Answer::Value(7)))),
-            (30, Call::Set(Access::Nothing), Err(Refusal::NotBegun)),
-            (10, Call::Set(Access::TestAndSet(1)), DONE),
-            (10, Call::Step, Ok(Note::Ended(Answer::WasSet(false)))),
-            (0, Call::Bit(1), Ok(Note::Ended(Answer::WasSet(true)))),
-            (10, Call::Set(Access::TestAndSet(1)), DONE),
-            (10, Call::Step, Ok(Note::Ended(Answer::WasSet(true)))),
-            (0, Call::Bit(1), Ok(Note::Ended(Answer::WasSet(true)))),
-            (10, Call::Set(Access::Clear(1)), DONE),
-            (10, Call::Step, Ok(Note::Ended(Answer::Done))),
-            (0, Call::Bit(1), Ok(Note::Ended(Answer::WasSet(false)))),
-        ],
-    );
+    plays(&rt, &mut world, &EACH);
     for (id, want) in [(10, Some(making(Access::Clear(1)))), (30, None)] {
         assert_eq!(rt; world.program(id).copied(), want, "{id}");
     }
@@ -201,77 +222,52 @@ fn each_call_and_each_refusal(rt: HostRuntime) -> Result<(), Fail> {
     Ok(())
 }
 
-/// 1, 65 and 129 have one hint, which says where 129 stands, and 193 has it too.
 #[test]
 fn those_of_one_hint_are_told_apart(rt: HostRuntime) -> Result<(), Fail> {
     let mut world = World::new(rt.alloc(), Memory::new(rt.alloc(), 3, 3, 0)?, 3)?;
-    plays(
-        &rt,
-        &mut world,
-        &[
-            (1, Call::Begin(Access::Write(0, 7)), DONE),
-            (65, Call::Begin(Access::Read(0)), DONE),
-            (129, Call::Begin(Access::Read(1)), DONE),
-            (65, Call::Begin(Access::Nothing), Err(Refusal::AlreadyBegun)),
-            (193, Call::Step, Err(Refusal::NotBegun)),
-            (129, Call::Step, Ok(Note::Ended(Answer::Value(3)))),
-            (1, Call::Step, Ok(Note::Ended(Answer::Done))),
-            (65, Call::Step, Ok(Note::Ended(Answer::Value(7)))),
-            (1, Call::Step, Err(Refusal::Finished)),
-        ],
-    );
-    Ok(())
-}
-
-/// One who watches register 0, in which 3 stands.
-fn watches(rt: &impl Abort, world: &mut World<Watch, Memory<u64, Global>, Global>) {
-    assert!(rt; !reads_on(world, 10));
-    assert_eq!(rt; world.begin(10, Watch), Ok(()));
-    for _ in 0..2 {
-        assert!(rt; reads_on(world, 10));
-        assert_eq!(rt; stepped(world, 10), Ok(Note::Quiet));
-    }
-    assert_eq!(rt; world.memory().look(&0), Some(&3));
-    assert_eq!(rt; world.memory().look(&1), None);
-}
-
-/// One who reads a register once goes on in no step.
-fn reads_once(rt: &impl Abort, world: &mut World<Once, Memory<u64, Global>, Global>) {
-    for (call, want) in [
-        (Call::Begin(Access::Read(0)), DONE),
-        (Call::Step, Ok(Note::Ended(Answer::Value(3)))),
-    ] {
-        assert_eq!(rt; told(world, 10, call), want, "{call:?}");
-        assert!(rt; !reads_on(world, 10), "{call:?}");
-    }
-}
-
-#[test]
-fn values_are_read_where_they_stand(rt: HostRuntime) -> Result<(), Fail> {
-    let mut world = World::new(rt.alloc(), Memory::new(rt.alloc(), 3, 1, 0)?, 1)?;
-    watches(&rt, &mut world);
-    drop(world);
-    let mut world = World::new(rt.alloc(), Memory::new(rt.alloc(), 3, 1, 0)?, 1)?;
-    reads_once(&rt, &mut world);
+    plays(&rt, &mut world, &ONE_HINT);
     Ok(())
 }
 
 #[test]
 fn programs_are_asked_where_they_stand(rt: HostRuntime) -> Result<(), Fail> {
     let mut world = World::new(rt.alloc(), Memory::new(rt.alloc(), 3, 1, 0)?, 1)?;
-    let instead = Call::Ask(Access::Write(0, 7));
-    plays(
-        &rt,
-        &mut world,
-        &[
-            (10, instead, Err(Refusal::NotBegun)),
-            (10, Call::Begin(Access::Read(0)), DONE),
-            (10, Call::Step, Ok(Note::Ended(Answer::Value(3)))),
-            (10, instead, DONE),
-            (10, Call::Step, Ok(Note::Ended(Answer::Done))),
-            (0, Call::Value(0), Ok(Note::Ended(Answer::Value(7)))),
-        ],
-    );
+    plays(&rt, &mut world, &ASKED);
+    Ok(())
+}
+
+/// A step of one who watches register 0: whether it went on before it, and what it tells.
+fn watched(
+    world: &mut World<Watch, Memory<u64, Global>, Global>,
+) -> (bool, Result<Note<u64>, Refusal>) {
+    (reads_on(world, 10), stepped(world, 10))
+}
+
+#[test]
+fn values_are_read_where_they_stand(rt: HostRuntime) -> Result<(), Fail> {
+    let mut world = World::new(rt.alloc(), Memory::new(rt.alloc(), 3, 1, 0)?, 1)?;
+    assert!(rt; !reads_on(&mut world, 10) && world.begin(10, Watch) == Ok(()));
+    for _ in 0..2 {
+        assert_eq!(rt; watched(&mut world), (true, Ok(Note::Quiet)));
+    }
+    let looks = (world.memory().look(&0), world.memory().look(&1));
+    assert_eq!(rt; looks, (Some(&3), None));
+    Ok(())
+}
+
+/// One reads a register once.
+const ONCE: [Row; 2] = [
+    (10, Call::Begin(Access::Read(0)), DONE),
+    (10, Call::Step, Ok(Note::Ended(Answer::Value(3)))),
+];
+
+#[test]
+fn one_who_reads_once_goes_on_in_no_step(rt: HostRuntime) -> Result<(), Fail> {
+    let mut world = World::new(rt.alloc(), Memory::new(rt.alloc(), 3, 1, 0)?, 1)?;
+    for row in &ONCE {
+        plays(&rt, &mut world, &[*row]);
+        assert!(rt; !reads_on(&mut world, 10), "{row:?}");
+    }
     Ok(())
 }
 
@@ -310,69 +306,87 @@ fn want_of_memory_may_be_asked_again(rt: HostRuntime) -> Result<(), Fail> {
     Ok(())
 }
 
+/// The refusals, by rising number from 1.
+const REFUSALS: [Refusal; 14] = [
+    Refusal::ZeroIdentity,
+    Refusal::AlreadyBegun,
+    Refusal::Full,
+    Refusal::NotBegun,
+    Refusal::Finished,
+    Refusal::Spent,
+    Refusal::Crowded,
+    Refusal::NotCompeting,
+    Refusal::AlreadyCompeting,
+    Refusal::Holding,
+    Refusal::NotHolding,
+    Refusal::NoMemory,
+    Refusal::HistoryFull,
+    Refusal::OutOfRange,
+];
+
 #[test]
 fn refusals_have_numbers(rt: HostRuntime) -> Result<(), Fail> {
-    let refusals = [
-        Refusal::ZeroIdentity,
-        Refusal::AlreadyBegun,
-        Refusal::Full,
-        Refusal::NotBegun,
-        Refusal::Finished,
-        Refusal::Spent,
-        Refusal::Crowded,
-        Refusal::NotCompeting,
-        Refusal::AlreadyCompeting,
-        Refusal::Holding,
-        Refusal::NotHolding,
-        Refusal::NoMemory,
-        Refusal::HistoryFull,
-        Refusal::OutOfRange,
-    ];
     let mut number = 1;
-    for refusal in refusals {
+    for refusal in &REFUSALS {
         assert_eq!(rt; refusal.number(), number);
         number = number.wrapping_add(1);
     }
     let text = format!(in rt.alloc(); "{}", Refusal::Crowded)?;
     assert_eq!(rt; text.as_str(), "as many compete as there are numbers");
-    law_of_one_place::<u64>();
-    law_of_what_is_seen::<u64, bool>();
-    law_of_counts();
-    law_of_beginners::<Once, u64>();
-    law_of_participants::<Once>();
-    law_of_call_counts::<u64>();
-    law_of_steps::<Once, u64, usize, u64, u64, u64>();
-    law_of_replies::<u64>();
-    law_of_told_outcomes::<u64, u64>();
-    law_of_rosters::<u64, bool>();
-    law_of_worlds::<Once, u64, usize, u64, u64, u64>();
-    law_of_locality::<Once, u64, usize, u64, u64>();
-    law_of_refusals::<u64, u64, u64>();
-    law_of_views();
     Ok(())
 }
 
 #[test]
-fn views_are_kept_in_order(rt: HostRuntime) -> Result<(), Fail> {
+fn laws_of_calls_and_views() {
+    law_of_one_place::<u64>();
+    law_of_what_is_seen::<u64, bool>();
+    law_of_counts();
+    law_of_call_counts::<u64>();
+    law_of_replies::<u64>();
+    law_of_told_outcomes::<u64, u64>();
+    law_of_rosters::<u64, bool>();
+    law_of_refusals::<u64, u64, u64>();
+    law_of_views();
+}
+
+#[test]
+fn laws_of_worlds_of_one_access() {
+    law_of_beginners::<Once, u64>();
+    law_of_participants::<Once>();
+    law_of_steps::<Once, u64, usize, u64, u64, u64>();
+    law_of_worlds::<Once, u64, usize, u64, u64, u64>();
+    law_of_locality::<Once, u64, usize, u64, u64>();
+}
+
+/// A view of three, of whom one was given another value.
+fn three() -> View {
     let mut view = View::new();
-    assert!(rt; view.is_empty());
     view.insert(20, 2);
     view.insert(10, 1);
     view.insert(30, 3);
     view.insert(20, 5);
+    view
+}
+
+/// The same, put in by falling identity.
+fn three_falling() -> View {
+    let mut view = View::new();
+    view.insert(30, 3);
+    view.insert(20, 5);
+    view.insert(10, 1);
+    view
+}
+
+#[test]
+fn views_are_kept_in_order(rt: HostRuntime) {
+    let (none, view) = (View::new(), three());
     assert_eq!(rt; view.pairs(), [(10, 1), (20, 5), (30, 3)].as_slice());
-    assert_eq!(rt; view.len(), 3);
-    for (id, want) in [(20, Some(5)), (25, None)] {
-        assert_eq!(rt; view.get(id), want, "{id}");
-    }
-    assert!(rt; !view.is_full());
-    let mut other = View::new();
-    assert!(rt; view != other);
-    other.insert(30, 3);
-    other.insert(20, 5);
-    other.insert(10, 1);
-    assert!(rt; view == other);
-    Ok(())
+    assert_eq!(rt;
+        (view.len(), view.get(20), view.get(25)),
+        (3, Some(5), None)
+    );
+    assert!(rt; none.is_empty() && !view.is_full() && view != none);
+    assert!(rt; view == three_falling());
 }
 
 #[test]
