@@ -12,16 +12,24 @@ use std::process::Abort;
 use std::test::Fail;
 use tests_doubles::{FailingAllocator, FaultyWriter};
 
+/// A schedule of seed 7 of so many steps.
+fn schedule(rt: &impl Abort, alloc: Global, ids: u64, n: u64) -> Vec<u8>
+    requires some { 1 ≤ ids }
+    requires few { ids ≤ 64 }
+    requires steps { n + 64 < 2 ^ 64 }
+{
+    let mut writer = Tried::new(Vec::new(alloc));
+    assert!(rt; draw(alloc, 7, ids, n, &mut writer).is_ok());
+    writer.into_inner()
+}
+
 #[test]
-fn one_identity_takes_every_step(rt: HostRuntime) -> Result<(), Fail> {
-    let mut writer = Tried::new(Vec::new(rt.alloc()));
-    assert!(rt; draw(rt.alloc(), 7, 1, 3, &mut writer).is_ok());
-    let text = writer.into_inner();
+fn one_identity_takes_every_step(rt: HostRuntime) {
+    let text = schedule(&rt, rt.alloc(), 1, 3);
     assert_eq!(rt;
         text.as_slice(),
         b"begin 1\nstep 1\nstep 1\nstep 1\n".as_slice()
     );
-    Ok(())
 }
 
 /// The steps of seed 7 among four, by an implementation of the generator that gives the words published with it (O'Neill 2014:
@@ -30,9 +38,7 @@ const STEPS: [u8; 32] = *b"23211211411312323123144323222241";
 
 #[test]
 fn each_word_gives_a_step(rt: HostRuntime) {
-    let mut writer = Tried::new(Vec::new(rt.alloc()));
-    assert!(rt; draw(rt.alloc(), 7, 4, 40_000, &mut writer).is_ok());
-    let text = writer.into_inner();
+    let text = schedule(&rt, rt.alloc(), 4, 40_000);
     assert_eq!(rt; text.len(), 4 * 8 + 40_000 * 7);
     for (line, digit) in text[32..].chunks(7).zip(STEPS) {
         assert_eq!(rt;
@@ -150,69 +156,101 @@ fn writes_of(text: &[u8]) -> u64 {
     text.len().div_ceil(PIECE) as u64
 }
 
+/// One write of a schedule fails, by an error or by taking nothing.
+fn schedule_is_cut(rt: &impl Abort, alloc: Global, all: &[u8], at: u64, takes_nothing: bool) {
+    let mut writer = Tried::new(FaultyWriter::new(alloc, PIECE, at, takes_nothing));
+    let outcome = draw(alloc, 7, 4, 200, &mut writer);
+    is_cut_before(rt, outcome, &writer.into_inner().taken, all, at);
+}
+
 /// Each write of a schedule fails in turn, by an error and by taking nothing.
 #[test]
 fn each_write_of_a_schedule_fails_once(rt: HostRuntime) {
-    let alloc = rt.alloc();
-    let mut writer = Tried::new(Vec::new(alloc));
-    assert!(rt; draw(alloc, 7, 4, 200, &mut writer).is_ok());
-    let all = writer.into_inner();
+    let all = schedule(&rt, rt.alloc(), 4, 200);
     for at in 1..=writes_of(&all) {
-        for takes_nothing in [false, true] {
-            let mut writer = Tried::new(FaultyWriter::new(alloc, PIECE, at, takes_nothing));
-            let outcome = draw(alloc, 7, 4, 200, &mut writer);
-            is_cut_before(&rt, outcome, &writer.into_inner().taken, &all, at);
-        }
+        schedule_is_cut(&rt, rt.alloc(), &all, at, false);
+        schedule_is_cut(&rt, rt.alloc(), &all, at, true);
     }
+}
+
+/// One write of drawn runs fails, by an error or by taking nothing.
+fn runs_are_cut(
+    rt: &impl Abort,
+    alloc: Global,
+    config: Config,
+    all: &[u8],
+    at: u64,
+    takes_nothing: bool,
+)
+    requires { gives_names config.world ≡ true }
+{
+    let mut writer = Tried::new(FaultyWriter::new(alloc, PIECE, at, takes_nothing));
+    let outcome = play_drawn(alloc, 7, 4, 200, 3, config, &mut writer);
+    is_cut_before(rt, outcome, &writer.into_inner().taken, all, at);
 }
 
 /// Each write of drawn runs fails in turn, by an error and by taking nothing.
 #[test]
 fn each_write_of_drawn_runs_fails_once(rt: HostRuntime) -> Result<(), Fail> {
-    let alloc = rt.alloc();
     for world in [WorldKind::Rename, WorldKind::Tree] {
         let config = Config::new(world, 4, 4, 1000)?;
-        let all = lines(alloc, 7, 4, 200, 3, config)?;
+        let all = lines(rt.alloc(), 7, 4, 200, 3, config)?;
         for at in 1..=writes_of(&all) {
-            for takes_nothing in [false, true] {
-                let mut writer = Tried::new(FaultyWriter::new(alloc, PIECE, at, takes_nothing));
-                let outcome = play_drawn(alloc, 7, 4, 200, 3, config, &mut writer);
-                is_cut_before(&rt, outcome, &writer.into_inner().taken, &all, at);
-            }
+            runs_are_cut(&rt, rt.alloc(), config, &all, at, false);
+            runs_are_cut(&rt, rt.alloc(), config, &all, at, true);
         }
     }
     Ok(())
 }
 
-/// Each growth is refused in turn: a beginning of the lines is written, or all of them, since an arena that is refused a
-/// growth asks for a smaller one.
+/// Drawn runs in which one growth is refused: whether they come to it, and whether it is a fault. A beginning of the lines is
+/// written then, or all of them where it is none, since an arena that is refused a growth asks for a smaller one.
+fn one_growth_is_refused(
+    rt: &impl Abort,
+    alloc: Global,
+    config: Config,
+    all: &[u8],
+    growth: u64,
+) -> (bool, bool)
+    requires { gives_names config.world ≡ true }
+{
+    let heap = FailingAllocator::new(alloc, growth);
+    let mut writer = Tried::new(Vec::new(alloc));
+    let outcome = play_drawn(&heap, 7, 4, 200, 3, config, &mut writer);
+    let text = writer.into_inner();
+    let is_so = match outcome {
+        Ok(()) => text.as_slice() == all,
+        Err(fault) => fault == Fault::Memory && all.starts_with(&text),
+    };
+    assert!(rt; is_so, "at {growth}");
+    (heap.left() == 0, outcome.is_err())
+}
+
+/// Whether some growths of drawn runs are faults where they are refused in turn, and the runs come to no more than a thousand.
+fn growths_are_refused(rt: &impl Abort, alloc: Global, config: Config, all: &[u8]) -> bool
+    requires { gives_names config.world ≡ true }
+{
+    let mut had_fault = false;
+    for growth in 1..1_000u64 {
+        let (came_to_it, is_fault) = one_growth_is_refused(rt, alloc, config, all, growth);
+        if !came_to_it {
+            return had_fault && !is_fault;
+        }
+        had_fault = had_fault || is_fault;
+    }
+    false
+}
+
+/// Each growth of drawn runs is refused in turn.
 #[test]
 fn each_growth_of_drawn_runs_is_refused_in_turn(rt: HostRuntime) -> Result<(), Fail> {
-    let alloc = rt.alloc();
     for world in [WorldKind::Rename, WorldKind::Tree] {
         let config = Config::new(world, 4, 4, 1000)?;
-        let all = lines(alloc, 7, 4, 200, 3, config)?;
-        let mut faults = 0;
-        let mut ended = false;
-        for growth in 1..1_000u64 {
-            let heap = FailingAllocator::new(alloc, growth);
-            let mut writer = Tried::new(Vec::new(alloc));
-            let outcome = play_drawn(&heap, 7, 4, 200, 3, config, &mut writer);
-            let text = writer.into_inner();
-            if outcome.is_ok() {
-                assert!(rt; text == all, "at {growth}");
-            } else {
-                assert_eq!(rt; outcome.err(), Some(Fault::Memory), "at {growth}");
-                assert!(rt; all.starts_with(text.as_slice()), "at {growth}");
-                faults = growth;
-            }
-            if heap.left() > 0 {
-                assert!(rt; faults != growth, "at {growth}");
-                ended = true;
-                break;
-            }
-        }
-        assert!(rt; ended && faults > 0, "in {world:?}");
+        let all = lines(rt.alloc(), 7, 4, 200, 3, config)?;
+        assert!(rt;
+            growths_are_refused(&rt, rt.alloc(), config, &all),
+            "in {world:?}"
+        );
     }
     Ok(())
 }

@@ -1,10 +1,10 @@
 //! Runs in which one growth is refused, each in turn.
 
-use crate::playing_tests::{Played, config, run_of};
+use crate::playing_tests::{Played, config, first_lines, run_of};
 use crate::record_tests::{record_text, recorded};
 use crate::worlds_tests::{ROWS, Row, spelled};
 use schedule_player::{Config, Fault, WorldKind};
-use std::alloc::{AllocError, Global};
+use std::alloc::Global;
 use std::process::Abort;
 use tests_doubles::{FailingAllocator, FaultyReader, FaultyWriter};
 
@@ -62,22 +62,15 @@ fn written(rt: &impl Abort, alloc: Global, case: &Case, asked: &[u8], said: &[u8
 /// The line, counted from 0, in which two texts first differ.
 fn line_of_difference(one: &[u8], other: &[u8]) -> usize {
     let mut line = 0usize;
-    for (here, there) in one.iter().zip(other.iter()) {
-        if here != there {
+    for at in 0..one.len().min(other.len()) {
+        if one[at] != other[at] {
             return line;
         }
-        if *here == b'\n' {
+        if one[at] == b'\n' {
             line = line.saturating_add(1);
         }
     }
     line
-}
-
-/// Appends a line.
-fn put_line(lines: &mut Vec<u8>, line: &[u8]) -> Result<(), AllocError> {
-    lines.extend_from_slice(line)?;
-    lines.push(b'\n')?;
-    Ok(())
 }
 
 /// Lines with one more before the line of this number, counted from 0: this one, or where there is none that line again.
@@ -88,15 +81,13 @@ fn with_line(
     number: usize,
     more: Option<&[u8]>,
 ) -> Vec<u8> {
+    let head = first_lines(lines, number);
+    let tail = lines.get(head.len()..).unwrap_or(&[]);
+    let line = more.unwrap_or(first_lines(tail, 1));
     let mut all = Vec::new(alloc);
-    for (at, line) in lines.split(|byte| *byte == b'\n').enumerate() {
-        if line.is_empty() {
-            continue;
-        }
-        if at == number {
-            put_line(&mut all, more.unwrap_or(line)).expect(rt, "room for one more line");
-        }
-        put_line(&mut all, line).expect(rt, "room for a line");
+    for piece in [head, line, tail] {
+        all.extend_from_slice(piece)
+            .expect(rt, "room for one more line");
     }
     all
 }
@@ -146,7 +137,7 @@ fn is_answered_again(
     let header = if case.is_kept { 1 } else { 0 };
     let line = line_of_difference(text, whole).saturating_sub(header);
     let again = with_line(rt, alloc, &case.asked, line, None);
-    let told = with_line(rt, alloc, &case.said, line, Some(b"refused 12"));
+    let told = with_line(rt, alloc, &case.said, line, Some(b"refused 12\n"));
     let want = written(rt, alloc, case, &again, &told);
     let p = refusing(alloc, case.config, case.is_kept, &again, growth);
     assert!(rt; p.fault.is_none() && p.text == want, "at {growth}");

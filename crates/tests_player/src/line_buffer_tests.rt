@@ -1,28 +1,26 @@
 //! The bytes of a line, as they come.
 
-use commands::Event;
+use crate::parse_tests::ROWS;
 use schedule_player::{Bad, Command, LineBuffer, WorldKind};
+use std::alloc::Global;
 use std::test::Fail;
 use tests_doubles::FailingAllocator;
 
+/// What a line means that comes byte by byte, where others may have come before.
+fn meaning(buffer: &mut LineBuffer<Global>, line: &[u8]) -> Result<Command, Bad> {
+    buffer.clear();
+    for byte in line {
+        buffer.push(*byte);
+    }
+    buffer.meaning(WorldKind::Splitter)
+}
+
 #[test]
 fn lines_come_byte_by_byte(rt: HostRuntime) -> Result<(), Fail> {
-    let long = [b'a'; 101];
     let mut buffer = LineBuffer::new(rt.alloc())?;
-    for (line, want) in [
-        (b"".as_slice(), Err(Bad::UnknownWord)),
-        (&long[..100], Err(Bad::UnknownWord)),
-        (&long, Err(Bad::TooLong)),
-        (b"step 07", Err(Bad::BadNumber)),
-        (b"step 1", Ok(Command::Event(Event::Step(1)))),
-        (b"quit", Ok(Command::Quit)),
-    ] {
-        buffer.clear();
-        for byte in line {
-            buffer.push(*byte);
-        }
-        assert_eq!(rt; buffer.is_empty(), line.is_empty(), "at {line:?}");
-        assert_eq!(rt; buffer.meaning(WorldKind::Splitter), want, "at {line:?}");
+    for (line, want) in &ROWS {
+        let meant = (meaning(&mut buffer, line), buffer.is_empty());
+        assert_eq!(rt; meant, (*want, line.is_empty()), "at {line:?}");
     }
     Ok(())
 }

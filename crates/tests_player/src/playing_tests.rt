@@ -45,6 +45,25 @@ pub(crate) fn run_of<A: Allocator + Clone>(
     what_is_left(outcome, reader, writer)
 }
 
+/// Where a reader or a writer fails: how many bytes it moves a call at most, and the call that fails; none where that is 0.
+pub(crate) type Cut = (usize, u64);
+
+/// A run that reads and writes so.
+fn run_cut(
+    alloc: Global,
+    config: Config,
+    input: &[u8],
+    read: Cut,
+    written: Cut,
+) -> Played<Summary> {
+    run_of(
+        config,
+        alloc,
+        FaultyReader::new(input, read.0, read.1),
+        FaultyWriter::new(alloc, written.0, written.1, false),
+    )
+}
+
 /// What a run that answered this has left.
 pub(crate) fn what_is_left<T>(
     outcome: Result<T, Fault>,
@@ -68,38 +87,39 @@ const LINES: &[u8] =
 const LINES_TEXT: &[u8] =
     b"bad 3\nbad 3\nbad 1\nbad 4\nbad 5\nbad 3\nbad 4\nbad 5\nbad 2\nrefused 4\n";
 
-/// Inputs, and the texts that they are answered by in every world for two participants.
-const INPUTS: [(&[u8], &[u8]); 3] = [
-    (b"", b""),
-    (b"begin 7\nquit\nbegin 8", b"ok\nok\n"),
-    (LINES, LINES_TEXT),
+/// An input, the text that it is answered by, and how many lines there are, and are accepted, refused and bad.
+type Input = (&'static [u8], &'static [u8], [u64; 4]);
+
+/// Inputs that are answered so in every world for two participants.
+const INPUTS: [Input; 3] = [
+    (b"", b"", [0, 0, 0, 0]),
+    (b"begin 7\nquit\nbegin 8", b"ok\nok\n", [2, 2, 0, 0]),
+    (LINES, LINES_TEXT, [10, 0, 1, 9]),
 ];
 
-/// Inputs of a splitter for two participants, and the texts that they are answered by.
-const VISITS: [(&[u8], &[u8]); 3] = [
+/// Inputs of a splitter for two participants.
+const VISITS: [Input; 3] = [
     (
         b"begin 10\nstep 10\nstep 10\nstep 10\nstep 10\nbegin 20\nstep 20\nstep 20\nstep 20\n",
         b"ok\nquiet\nquiet\nquiet\nstop\nok\nquiet\nright\nrefused 5\n",
+        [9, 8, 1, 0],
     ),
     (
         b"begin 10\nbegin 20\nstep 10\nstep 20\nstep 10\nstep 20\nstep 10\nstep 20\nstep 10\nstep 20\n",
         b"ok\nok\nquiet\nquiet\nquiet\nquiet\nquiet\nquiet\ndown\nstop\n",
+        [10, 10, 0, 0],
     ),
     (
         b"enter 5\nstep 9\nbegin 0\nbegin 9\nquit\nbegin 8\n",
         b"bad 3\nrefused 4\nrefused 1\nok\nok\n",
+        [5, 2, 2, 1],
     ),
 ];
 
 /// Plays an input that is read and written in pieces of so many bytes, and compares what is written.
 fn is_played_by(rt: &impl Abort, alloc: Global, config: Config, row: (&[u8], &[u8]), piece: usize) {
     let (input, text) = row;
-    let p = run_of(
-        config,
-        alloc,
-        FaultyReader::new(input, piece, 0),
-        FaultyWriter::new(alloc, piece, 0, false),
-    );
+    let p = run_cut(alloc, config, input, (piece, 0), (piece, 0));
     assert!(rt;
         p.outcome.is_ok() && p.text.as_slice() == text,
         "{piece} {input:?}"
@@ -113,57 +133,51 @@ pub(crate) fn is_played(rt: &impl Abort, alloc: Global, config: Config, row: (&[
     }
 }
 
+/// Plays rows of a world for two participants.
+fn are_played(rt: &impl Abort, alloc: Global, world: WorldKind, rows: &[Input]) {
+    for (input, text, _) in rows {
+        is_played(rt, alloc, config(rt, world, 2), (input, text));
+    }
+}
+
 #[test]
 fn the_text_is_the_same_however_the_bytes_are_cut(rt: HostRuntime) {
     for world in WorldKind::all() {
-        let config = config(&rt, world, 2);
-        for row in INPUTS {
-            is_played(&rt, rt.alloc(), config, row);
-        }
+        are_played(&rt, rt.alloc(), world, &INPUTS);
     }
 }
 
 #[test]
 fn visits_of_a_splitter_end_by_a_way(rt: HostRuntime) {
-    let config = config(&rt, WorldKind::Splitter, 2);
-    for row in VISITS {
-        is_played(&rt, rt.alloc(), config, row);
-    }
+    are_played(&rt, rt.alloc(), WorldKind::Splitter, &VISITS);
 }
 
-/// How often a reader is read that gives four bytes a read.
-fn reads_of(alloc: Global, config: Config, input: &[u8]) -> u64 {
-    let p = run_of(
-        config,
-        alloc,
-        FaultyReader::new(input, 4, 0),
-        FaultyWriter::new(alloc, 64, 0, false),
-    );
-    p.reads
+/// Inputs, and how often a reader is read that gives four bytes of them a read.
+const READS: [(&[u8], u64); 4] = [
+    (b"", 1),
+    (b"step 70\nstep 7\n", 5),
+    (b"step 70\nstep 77", 5),
+    (b"begin 7\nquit\nbegin 8\nbegin 9\n", 4),
+];
+
+/// Compares how often readers are read in this world.
+fn reads_are_as_said(rt: &impl Abort, alloc: Global, world: WorldKind) {
+    for (input, reads) in &READS {
+        let p = run_cut(alloc, config(rt, world, 2), input, (4, 0), (64, 0));
+        assert_eq!(rt; p.reads, *reads, "at {input:?} in {world:?}");
+    }
 }
 
 #[test]
 fn nothing_is_read_after_the_end_or_after_quit(rt: HostRuntime) {
     for world in WorldKind::all() {
-        let config = config(&rt, world, 2);
-        assert_eq!(rt; reads_of(rt.alloc(), config, b""), 1);
-        assert_eq!(rt; reads_of(rt.alloc(), config, b"step 70\nstep 7\n"), 5);
-        assert_eq!(rt; reads_of(rt.alloc(), config, b"step 70\nstep 77"), 5);
-        assert_eq!(rt;
-            reads_of(rt.alloc(), config, b"begin 7\nquit\nbegin 8\nbegin 9\n"),
-            4
-        );
+        reads_are_as_said(&rt, rt.alloc(), world);
     }
 }
 
 /// How many lines a run counts, and how many of them were accepted, refused and bad.
 fn counted(rt: &impl Abort, alloc: Global, config: Config, input: &[u8]) -> [u64; 4] {
-    let p = run_of(
-        config,
-        alloc,
-        FaultyReader::new(input, 7, 0),
-        FaultyWriter::new(alloc, 7, 0, false),
-    );
+    let p = run_cut(alloc, config, input, (7, 0), (7, 0));
     let Summary {
         lines,
         accepted,
@@ -173,24 +187,24 @@ fn counted(rt: &impl Abort, alloc: Global, config: Config, input: &[u8]) -> [u64
     [lines, accepted, refused, bad]
 }
 
-#[test]
-fn the_summary_counts_each_line(rt: HostRuntime) {
-    let counts = [[0, 0, 0, 0], [2, 2, 0, 0], [10, 0, 1, 9]];
-    for world in WorldKind::all() {
-        let config = config(&rt, world, 2);
-        for ((input, _), counts) in INPUTS.into_iter().zip(counts) {
-            assert_eq!(rt; counted(&rt, rt.alloc(), config, input), counts);
-        }
-    }
-    let splitter = config(&rt, WorldKind::Splitter, 2);
-    let counts = [[9, 8, 1, 0], [10, 10, 0, 0], [5, 2, 2, 1]];
-    for ((input, _), counts) in VISITS.into_iter().zip(counts) {
-        assert_eq!(rt; counted(&rt, rt.alloc(), splitter, input), counts);
+/// Compares what inputs count in a world for two participants.
+fn are_counted(rt: &impl Abort, alloc: Global, world: WorldKind, rows: &[Input]) {
+    for (input, _, counts) in rows {
+        let found = counted(rt, alloc, config(rt, world, 2), input);
+        assert_eq!(rt; found, *counts, "at {input:?} in {world:?}");
     }
 }
 
+#[test]
+fn the_summary_counts_each_line(rt: HostRuntime) {
+    for world in WorldKind::all() {
+        are_counted(&rt, rt.alloc(), world, &INPUTS);
+    }
+    are_counted(&rt, rt.alloc(), WorldKind::Splitter, &VISITS);
+}
+
 /// The first lines of a text, so many.
-fn first_lines(text: &[u8], count: usize) -> &[u8] {
+pub(crate) fn first_lines(text: &[u8], count: usize) -> &[u8] {
     let mut seen = 0usize;
     for (at, byte) in text.iter().enumerate() {
         if seen == count {
@@ -206,12 +220,7 @@ fn first_lines(text: &[u8], count: usize) -> &[u8] {
 /// One read of a run fails: the whole lines before it are answered.
 fn one_read_fails(rt: &impl Abort, alloc: Global, config: Config, row: (&[u8], &[u8]), at: u64) {
     let (input, text) = row;
-    let p = run_of(
-        config,
-        alloc,
-        FaultyReader::new(input, 4, at),
-        FaultyWriter::new(alloc, 64, 0, false),
-    );
+    let p = run_cut(alloc, config, input, (4, at), (64, 0));
     let given = (at as usize).saturating_sub(1).saturating_mul(4);
     let lines = input
         .iter()
@@ -241,16 +250,16 @@ fn one_write_fails(
     assert!(rt; p.outcome.err() == Some(Fault::Write) && is_part, "at {at}");
 }
 
-/// A run without a fault writes the whole text; each read of it fails in turn, and each write, by an error and by taking nothing.
-fn calls_fail_in_turn(rt: &impl Abort, alloc: Global, config: Config, row: (&[u8], &[u8])) {
-    let whole = run_of(
-        config,
-        alloc,
-        FaultyReader::new(row.0, 4, 0),
-        FaultyWriter::new(alloc, 3, 0, false),
-    );
+/// A run without a fault writes the whole text. How often it reads and writes.
+fn whole_calls(rt: &impl Abort, alloc: Global, config: Config, row: (&[u8], &[u8])) -> (u64, u64) {
+    let whole = run_cut(alloc, config, row.0, (4, 0), (3, 0));
     assert!(rt; whole.outcome.is_ok() && whole.text.as_slice() == row.1);
-    let (reads, writes) = (whole.reads, whole.writes);
+    (whole.reads, whole.writes)
+}
+
+/// Each read of a run fails in turn, and each write, by an error and by taking nothing.
+fn calls_fail_in_turn(rt: &impl Abort, alloc: Global, config: Config, row: (&[u8], &[u8])) {
+    let (reads, writes) = whole_calls(rt, alloc, config, row);
     for at in 1..=reads {
         one_read_fails(rt, alloc, config, row, at);
     }
@@ -260,25 +269,29 @@ fn calls_fail_in_turn(rt: &impl Abort, alloc: Global, config: Config, row: (&[u8
     }
 }
 
+/// The calls of rows of a world for two participants fail in turn.
+fn rows_fail_in_turn(rt: &impl Abort, alloc: Global, world: WorldKind, rows: &[Input]) {
+    for (input, text, _) in rows {
+        calls_fail_in_turn(rt, alloc, config(rt, world, 2), (input, text));
+    }
+}
+
+/// The calls of the row in which the name 2b - 1 is reached fail in turn.
+fn the_largest_name_fails_in_turn(rt: &impl Abort, alloc: Global) {
+    let asked = spelled(rt, alloc, ROWS[2].asked);
+    let said = spelled(rt, alloc, ROWS[2].said);
+    calls_fail_in_turn(rt, alloc, ROWS[2].config(rt), (&asked, &said));
+}
+
 /// In each world the rows that it answers as every other does, in a splitter its visits too, and in a world of names the row in
 /// which the name 2b - 1 is reached.
 #[test]
 fn each_read_and_each_write_fails_once(rt: HostRuntime) {
-    let alloc = rt.alloc();
     for world in WorldKind::all() {
-        let config = config(&rt, world, 2);
-        for row in INPUTS {
-            calls_fail_in_turn(&rt, alloc, config, row);
-        }
+        rows_fail_in_turn(&rt, rt.alloc(), world, &INPUTS);
     }
-    let splitter = config(&rt, WorldKind::Splitter, 2);
-    for row in VISITS {
-        calls_fail_in_turn(&rt, alloc, splitter, row);
-    }
-    let rename = config(&rt, WorldKind::Rename, 2);
-    let asked = spelled(&rt, alloc, ROWS[2].asked);
-    let said = spelled(&rt, alloc, ROWS[2].said);
-    calls_fail_in_turn(&rt, alloc, rename, (&asked, &said));
+    rows_fail_in_turn(&rt, rt.alloc(), WorldKind::Splitter, &VISITS);
+    the_largest_name_fails_in_turn(&rt, rt.alloc());
 }
 
 /// One begins and takes a step, over a reader that fails at this read and a writer that fails at this byte: in each world the
@@ -291,11 +304,12 @@ fn step_is_cut(
     text: &[u8],
 ) {
     for world in WorldKind::all() {
-        let p = run_of(
-            config(rt, world, 2),
+        let p = run_cut(
             alloc,
-            FaultyReader::new(b"begin 7\nstep 7", 64, read),
-            FaultyWriter::new(alloc, 1, byte, false),
+            config(rt, world, 2),
+            b"begin 7\nstep 7",
+            (64, read),
+            (1, byte),
         );
         let is_written = p.text.as_slice() == text;
         assert!(rt; p.outcome.err() == fault && is_written, "in {world:?}");
@@ -367,29 +381,39 @@ fn answered<D: Service<Unshared>>(world: &mut D, event: Event) -> Reply<View>
     world.apply(&Unshared, event, &mut view).with(&view)
 }
 
+/// Two events, the one after the other.
+fn both_answered<D: Service<Unshared>>(
+    world: &mut D,
+    one: Event,
+    two: Event,
+) -> (Reply<View>, Reply<View>)
+    requires one { D.knows (Take one) ≡ true }
+    requires two { D.knows (Take two) ≡ true }
+{
+    let first = answered(world, one);
+    (first, answered(world, two))
+}
+
 #[test]
 fn a_splitter_answers_through_its_bound(rt: HostRuntime) {
     let mut world = SplitterWorld::new(rt.alloc(), 1).expect(&rt, "room for a splitter");
-    let begun = answered(&mut world, Event::Begin(3));
-    let quiet = answered(&mut world, Event::Step(3));
-    assert!(rt; begun == Reply::Ok && quiet == Reply::Quiet);
+    let told = both_answered(&mut world, Event::Begin(3), Event::Step(3));
+    assert!(rt; told == (Reply::Ok, Reply::Quiet));
 }
 
 #[test]
 fn a_grid_answers_through_its_bound(rt: HostRuntime) {
     let mut world = GridWorld::new(rt.alloc(), 1).expect(&rt, "room for a grid");
-    let begun = answered(&mut world, Event::Begin(3));
-    let quiet = answered(&mut world, Event::Step(3));
-    assert!(rt; begun == Reply::Ok && quiet == Reply::Quiet);
+    let told = both_answered(&mut world, Event::Begin(3), Event::Step(3));
+    assert!(rt; told == (Reply::Ok, Reply::Quiet));
 }
 
 #[test]
 fn a_desk_answers_through_its_bound(rt: HostRuntime) {
     let config = config(&rt, WorldKind::Tree, 1);
     let mut world = Desk::new(rt.alloc(), config).expect(&rt, "room for a desk");
-    let entered = answered(&mut world, Event::Enter(3));
-    let got = answered(&mut world, Event::Probe(3));
-    assert!(rt; entered == Reply::Ok && got == Reply::Got(1));
+    let told = both_answered(&mut world, Event::Enter(3), Event::Probe(3));
+    assert!(rt; told == (Reply::Ok, Reply::Got(1)));
 }
 
 #[test]
@@ -454,12 +478,8 @@ fn a_world_whose_replies_vary_is_played_and_left_where_the_replies_went_out(rt: 
 
 /// How often a run calls its reader and its writer that is given so many bytes a read.
 fn calls_of(rt: &impl Abort, alloc: Global, input: &[u8], piece: usize) -> (u64, u64) {
-    let p = run_of(
-        config(rt, WorldKind::Splitter, 2),
-        alloc,
-        FaultyReader::new(input, piece, 0),
-        FaultyWriter::new(alloc, READ_BYTES, 0, false),
-    );
+    let config = config(rt, WorldKind::Splitter, 2);
+    let p = run_cut(alloc, config, input, (piece, 0), (READ_BYTES, 0));
     assert!(rt; p.outcome.is_ok());
     (p.reads, p.writes)
 }

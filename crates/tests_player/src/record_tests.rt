@@ -1,6 +1,6 @@
 //! Records of runs.
 
-use crate::playing_tests::{Played, config, what_is_left};
+use crate::playing_tests::{Cut, Played, config, first_lines, what_is_left};
 use crate::worlds_tests::{ROWS, Row, spelled};
 use schedule_player::{Config, Fault, READ_BYTES, Tried, WorldKind, record};
 use std::alloc::{AllocError, Allocator, Global};
@@ -22,6 +22,16 @@ pub(crate) fn recorded<A: Allocator + Clone>(
         Err(Fault::Read)
     };
     what_is_left(outcome, reader, writer)
+}
+
+/// A record that is read and written so.
+fn record_cut(alloc: Global, config: Config, input: &[u8], read: Cut, written: Cut) -> Played<()> {
+    recorded(
+        config,
+        alloc,
+        FaultyReader::new(input, read.0, read.1),
+        FaultyWriter::new(alloc, written.0, written.1, false),
+    )
 }
 
 /// Appends the line of an event, with the view by which a name was given where it is one.
@@ -49,23 +59,28 @@ fn put_line(
     Ok(())
 }
 
+/// Takes the next line of some lines, without its end.
+fn next_line<'a>(rest: &mut &'a [u8]) -> &'a [u8] {
+    let line = first_lines(rest, 1);
+    *rest = rest.get(line.len()..).unwrap_or(&[]);
+    line.strip_suffix(b"\n").unwrap_or(line)
+}
+
 /// Appends the lines that these lines and the replies to them make, with the views of the names in order, where no line is
 /// bad.
 fn put_lines(
     text: &mut Vec<u8>,
-    asked: &[u8],
-    said: &[u8],
-    views: &[u8],
+    mut asked: &[u8],
+    mut said: &[u8],
+    mut views: &[u8],
 ) -> Result<(), AllocError> {
-    let lines = asked.split(|byte| *byte == b'\n');
-    let replies = said.split(|byte| *byte == b'\n');
-    let mut shown = views.split(|byte| *byte == b'\n');
-    for (line, reply) in lines.zip(replies) {
+    for _ in 0..asked.len() {
+        let (line, reply) = (next_line(&mut asked), next_line(&mut said));
         if line.is_empty() || line.starts_with(b"owner") {
             continue;
         }
         let view = if reply.starts_with(b"named ") {
-            shown.next()
+            Some(next_line(&mut views))
         } else {
             None
         };
@@ -110,12 +125,7 @@ fn is_recorded(
     (input, text): (&[u8], &[u8]),
     piece: usize,
 ) {
-    let p = recorded(
-        config,
-        alloc,
-        FaultyReader::new(input, piece, 0),
-        FaultyWriter::new(alloc, piece, 0, false),
-    );
+    let p = record_cut(alloc, config, input, (piece, 0), (piece, 0));
     assert!(rt;
         p.outcome.is_ok() && p.text.as_slice() == text,
         "{piece} {input:?}"
@@ -164,12 +174,7 @@ fn owners_bad_lines_and_quit_are_not_recorded(rt: HostRuntime) {
 
 /// A read of a record fails: whole lines were written.
 fn one_read_fails(rt: &impl Abort, alloc: Global, config: Config, at: u64) {
-    let p = recorded(
-        config,
-        alloc,
-        FaultyReader::new(LINES, 4, at),
-        FaultyWriter::new(alloc, 64, 0, false),
-    );
+    let p = record_cut(alloc, config, LINES, (4, at), (64, 0));
     let is_part = RECORD.starts_with(&p.text) && p.text.ends_with(b"}\n");
     assert!(rt; p.outcome.err() == Some(Fault::Read) && is_part, "at {at}");
 }
@@ -197,17 +202,11 @@ const HEADER_WRITES: u64 = 27;
 fn each_read_and_each_write_of_a_record_fails_once(rt: HostRuntime) {
     let alloc = rt.alloc();
     let config = config(&rt, WorldKind::Rename, 2);
-    let whole = recorded(
-        config,
-        alloc,
-        FaultyReader::new(LINES, 4, 0),
-        FaultyWriter::new(alloc, 3, 0, false),
-    );
-    let (reads, writes) = (whole.reads, whole.writes);
-    for at in 1..=reads {
+    let whole = record_cut(alloc, config, LINES, (4, 0), (3, 0));
+    for at in 1..=whole.reads {
         one_read_fails(&rt, alloc, config, at);
     }
-    for at in 1..=writes {
+    for at in 1..=whole.writes {
         one_write_fails(&rt, alloc, config, at, false);
         one_write_fails(&rt, alloc, config, at, true);
     }
