@@ -16,6 +16,8 @@ mod record_tests;
 #[cfg(test)]
 mod recording_tests;
 #[cfg(test)]
+mod records;
+#[cfg(test)]
 mod version_tests;
 #[cfg(test)]
 mod worked_runs_tests;

@@ -2,96 +2,112 @@
 
 ghost use Rattle.std.specs.Prelude.{◌≤◌, length};
 
+use crate::records::{Family, LONG_VIEW, judge_families, judge_rows, put_texts, record_of};
 use run_checker::{Reason, Verdict, check};
 use std::alloc::{AllocError, Global};
 use std::process::Abort;
 
 /// A header, and its LF: two participants, two rounds and a pool of three numbers.
-const HEAD: &str = r#"{"format":"slot-record","k":3,"limit":2,"m":2,"version":1,"world":"rename"}"#;
+const HEAD: &str =
+    "{\"format\":\"slot-record\",\"k\":3,\"limit\":2,\"m\":2,\"version\":1,\"world\":\"rename\"}\n";
 
-/// The event by which a line of the tests below can follow.
-const ENTER: &str = r#"{"command":"enter 5","reply":"ok"}"#;
+/// The end of a line, and an event that can follow.
+const ENTER: &str = "\n{\"command\":\"enter 5\",\"reply\":\"ok\"}\n";
 
-/// Appends these lines, each ended by LF.
-fn put_lines(bytes: &mut Vec<u8>, lines: &[&str]) -> Result<(), AllocError> {
-    for line in lines {
-        bytes.extend_from_slice(line.as_bytes())?;
-        bytes.push(b'\n')?;
-    }
-    Ok(())
-}
+/// The first events of some records.
+const BEGUN: &str = "{\"command\":\"begin 7\",\"reply\":\"ok\"}\n";
 
-/// Compares the verdict on a record of these lines, each ended by LF.
-fn is_judged(rt: &impl Abort, alloc: Global, lines: &[&str], want: Verdict) {
-    let mut bytes = Vec::new(alloc);
-    put_lines(&mut bytes, lines).expect(rt, "room for a record");
-    let found = check(alloc, &bytes);
-    assert!(rt; found == want, "{lines:?}: {found:?}");
-}
+const PLACED: &str = "{\"command\":\"begin 7\",\"reply\":\"ok\"}
+{\"command\":\"step 7\",\"reply\":\"place 4\"}
+";
 
-/// Appends the lines of these events and replies, each after an LF.
-fn put_rows(bytes: &mut Vec<u8>, rows: &[(&str, &str)]) -> Result<(), AllocError> {
-    for (command, reply) in rows {
-        bytes.extend_from_slice(b"\n{\"command\":\"")?;
-        bytes.extend_from_slice(command.as_bytes())?;
-        bytes.extend_from_slice(b"\",\"reply\":\"")?;
-        bytes.extend_from_slice(reply.as_bytes())?;
-        bytes.extend_from_slice(b"\"}")?;
-    }
-    Ok(())
-}
+const PROPOSED: &str = "{\"command\":\"begin 7\",\"reply\":\"ok\"}
+{\"command\":\"step 7\",\"reply\":\"proposed 1\"}
+";
 
-/// Compares the verdict on a record of these events and replies, after a header.
-fn is_judged_on(rt: &impl Abort, alloc: Global, head: &str, rows: &[(&str, &str)], want: Verdict) {
-    let mut bytes = Vec::from_slice(alloc, head.as_bytes()).expect(rt, "room for a header");
-    put_rows(&mut bytes, rows).expect(rt, "room for a record");
-    let found = check(alloc, &bytes);
-    assert!(rt; found == want, "{rows:?}: {found:?}");
-}
+const GOT: &str = "{\"command\":\"enter 7\",\"reply\":\"ok\"}
+{\"command\":\"probe 7\",\"reply\":\"got 2\"}
+";
 
-/// After two lines that follow, a third that follows with the one reply, and for this reason not with the other.
-fn follows(
-    rt: &impl Abort,
-    alloc: Global,
-    [first, second]: [(&str, &str); 2],
-    (command, right, wrong): (&str, &str, &str),
-    reason: Reason,
-) {
-    let rows = [first, second, (command, right)];
-    is_judged_on(rt, alloc, HEAD, &rows, Verdict::Yes);
-    let rows = [first, second, (command, wrong)];
-    is_judged_on(rt, alloc, HEAD, &rows, Verdict::No(4, reason));
-}
+/// Lines of an event, each up to its reply, and the end of one.
+const STEP: &str = "{\"command\":\"step 7\",\"reply\":\"";
 
-const PLACED: [(&str, &str); 2] = [("begin 7", "ok"), ("step 7", "place 4")];
+const LEAVE: &str = "{\"command\":\"leave 7\",\"reply\":\"";
 
-const PROPOSED: [(&str, &str); 2] = [("begin 7", "ok"), ("step 7", "proposed 1")];
-
-const GOT: [(&str, &str); 2] = [("enter 7", "ok"), ("probe 7", "got 2")];
+const END: &str = "\"}";
 
 /// Each reason, beside a record that differs in that reply alone and is a run's.
+const REASONS: [Family; 10] = [
+    Family {
+        before: &[HEAD, PROPOSED, STEP],
+        pieces: &["quiet", "proposed 1", "named 1"],
+        after: END,
+        want: Verdict::Yes,
+    },
+    Family {
+        before: &[HEAD, PROPOSED, STEP],
+        pieces: &["ok"],
+        after: END,
+        want: Verdict::No(4, Reason::Reply),
+    },
+    Family {
+        before: &[HEAD, PROPOSED, STEP],
+        pieces: &["refused 5"],
+        after: END,
+        want: Verdict::No(4, Reason::Refusal),
+    },
+    Family {
+        before: &[HEAD, PROPOSED, STEP],
+        pieces: &["proposed 2"],
+        after: END,
+        want: Verdict::No(4, Reason::Proposal),
+    },
+    Family {
+        before: &[HEAD, PROPOSED, STEP],
+        pieces: &["saw 7:1"],
+        after: END,
+        want: Verdict::No(4, Reason::View),
+    },
+    Family {
+        before: &[HEAD, PROPOSED, STEP],
+        pieces: &["named 2"],
+        after: END,
+        want: Verdict::No(4, Reason::Name),
+    },
+    Family {
+        before: &[HEAD, PLACED, STEP],
+        pieces: &["quiet"],
+        after: END,
+        want: Verdict::Yes,
+    },
+    Family {
+        before: &[HEAD, PLACED, STEP],
+        pieces: &["place 5"],
+        after: END,
+        want: Verdict::No(4, Reason::Place),
+    },
+    Family {
+        before: &[HEAD, GOT, LEAVE],
+        pieces: &["left 2"],
+        after: END,
+        want: Verdict::Yes,
+    },
+    Family {
+        before: &[HEAD, GOT, LEAVE],
+        pieces: &["left 1"],
+        after: END,
+        want: Verdict::No(4, Reason::Pool),
+    },
+];
+
 #[test]
 fn each_reason(rt: HostRuntime) {
-    for (before, last, reason) in [
-        (PROPOSED, ("step 7", "quiet", "ok"), Reason::Reply),
-        (PROPOSED, ("step 7", "quiet", "refused 5"), Reason::Refusal),
-        (
-            PROPOSED,
-            ("step 7", "proposed 1", "proposed 2"),
-            Reason::Proposal,
-        ),
-        (PROPOSED, ("step 7", "named 1", "saw 7:1"), Reason::View),
-        (PROPOSED, ("step 7", "named 1", "named 2"), Reason::Name),
-        (PLACED, ("step 7", "quiet", "place 5"), Reason::Place),
-        (GOT, ("leave 7", "left 2", "left 1"), Reason::Pool),
-    ] {
-        follows(&rt, rt.alloc(), before, last, reason);
-    }
+    judge_families(&rt, rt.alloc(), &REASONS);
 }
 
-/// The header of a pool of two numbers, which gets two more in the record below; without its LF.
+/// The header of a pool of two numbers, which gets two more in the record below; with its LF.
 const TWO_NUMBERS: &str =
-    r#"{"format":"slot-record","k":2,"limit":2,"m":2,"version":1,"world":"rename"}"#;
+    "{\"format\":\"slot-record\",\"k\":2,\"limit\":2,\"m\":2,\"version\":1,\"world\":\"rename\"}\n";
 
 /// A pool whose numbers are all held gets two more, and all of them are held.
 const WIDENED: [(&str, &str); 23] = [
@@ -120,205 +136,254 @@ const WIDENED: [(&str, &str); 23] = [
     ("widen 65", "refused 14"),
 ];
 
-/// Compares the verdict on the record of a pool that widens, with one reply in the place of another.
-fn is_widened_so(rt: &impl Abort, alloc: Global, at: usize, reply: &'static str, reason: Reason) {
-    let mut rows = WIDENED;
-    if let Some(row) = rows.get_mut(at) {
-        row.1 = reply;
+/// Which reply of that record is another, that reply, and what is said then; the first is the same.
+const OTHERWISE: [(usize, &str, Verdict); 9] = [
+    (0, "ok", Verdict::Yes),
+    (5, "ok", Verdict::No(7, Reason::Refusal)),
+    (6, "refused 14", Verdict::No(8, Reason::Refusal)),
+    (6, "quiet", Verdict::No(8, Reason::Reply)),
+    (7, "refused 7", Verdict::No(9, Reason::Refusal)),
+    (11, "missed", Verdict::No(13, Reason::Pool)),
+    (18, "got 5", Verdict::No(20, Reason::Pool)),
+    (18, "missed", Verdict::No(20, Reason::Pool)),
+    (22, "refused 13", Verdict::No(24, Reason::Refusal)),
+];
+
+/// Appends the line of a command and a reply.
+fn put_line(bytes: &mut Vec<u8>, command: &str, reply: &str) -> Result<(), AllocError> {
+    put_texts(
+        bytes,
+        &[
+            "{\"command\":\"",
+            command,
+            "\",\"reply\":\"",
+            reply,
+            "\"}\n",
+        ],
+    )
+}
+
+/// Appends the lines of the pool that widens, with one reply in the place of another.
+fn put_widened(bytes: &mut Vec<u8>, at: usize, other: &str) -> Result<(), AllocError> {
+    for (i, (command, reply)) in WIDENED.iter().enumerate() {
+        put_line(bytes, command, if i == at { other } else { reply })?;
     }
-    let want = Verdict::No((at as u64).saturating_add(2), reason);
-    is_judged_on(rt, alloc, TWO_NUMBERS, &rows, want);
+    Ok(())
+}
+
+/// Compares what is said of the record of the pool that widens, with one reply in the place of another.
+fn judge_widened(rt: &impl Abort, alloc: Global, at: usize, other: &str, want: Verdict) {
+    let mut bytes = record_of(rt, alloc, &[TWO_NUMBERS]);
+    put_widened(&mut bytes, at, other).expect(rt, "room for lines");
+    let found = check(alloc, &bytes);
+    assert!(rt; found == want, "{at} {other}: {found:?}");
 }
 
 /// The record of a pool that widens, and the same with one reply that can't be.
 #[test]
 fn a_record_of_a_pool_that_widens(rt: HostRuntime) {
-    is_judged_on(&rt, rt.alloc(), TWO_NUMBERS, &WIDENED, Verdict::Yes);
-    for (at, reply, reason) in [
-        (5, "ok", Reason::Refusal),
-        (6, "refused 14", Reason::Refusal),
-        (6, "quiet", Reason::Reply),
-        (7, "refused 7", Reason::Refusal),
-        (11, "missed", Reason::Pool),
-        (18, "got 5", Reason::Pool),
-        (18, "missed", Reason::Pool),
-        (22, "refused 13", Reason::Refusal),
-    ] {
-        is_widened_so(&rt, rt.alloc(), at, reply, reason);
+    for (at, other, want) in &OTHERWISE {
+        judge_widened(&rt, rt.alloc(), *at, other, *want);
     }
 }
 
-/// A record of six lines, of a pool of four numbers and many rounds.
-const SIX: [&str; 6] = [
-    r#"{"format":"slot-record","k":4,"limit":1000,"m":2,"version":1,"world":"rename"}"#,
-    r#"{"command":"begin 10","reply":"ok"}"#,
-    r#"{"command":"begin 20","reply":"ok"}"#,
-    r#"{"command":"step 10","reply":"proposed 1"}"#,
-    r#"{"command":"step 10","reply":"named 1"}"#,
-    r#"{"command":"step 20","reply":"proposed 1"}"#,
-];
+/// Lines of a record: its header, of a pool of four numbers and many rounds, and events.
+const FOUR_NUMBERS: &str =
+    "{\"format\":\"slot-record\",\"k\":4,\"limit\":1000,\"m\":2,\"version\":1,\"world\":\"rename\"}\n";
+
+const TEN: &str = "{\"command\":\"begin 10\",\"reply\":\"ok\"}\n";
+
+const TWENTY: &str = "{\"command\":\"begin 20\",\"reply\":\"ok\"}\n";
+
+const FIRST: &str = "{\"command\":\"step 10\",\"reply\":\"proposed 1\"}\n";
+
+const NAMED: &str = "{\"command\":\"step 10\",\"reply\":\"named 1\"}\n";
+
+const SECOND: &str = "{\"command\":\"step 20\",\"reply\":\"proposed 1\"}\n";
+
+/// Events of which none can follow.
+const AGAIN: &str = "{\"command\":\"step 20\",\"reply\":\"named 1\"}\n";
+
+const HIGH: &str = "{\"command\":\"step 10\",\"reply\":\"proposed 4\"}\n";
+
+const SAW: &str = "{\"command\":\"step 10\",\"reply\":\"saw 20:1\"}\n";
+
+const TORN: &str = "{\"command\":\"step 10\"\n";
 
 /// That record, with one more line, and with others behind its first three.
+const GOES_ON: [(&[&str], Verdict); 6] = [
+    (
+        &[FOUR_NUMBERS, TEN, TWENTY, FIRST, NAMED, SECOND],
+        Verdict::Yes,
+    ),
+    (
+        &[FOUR_NUMBERS, TEN, TWENTY, FIRST, NAMED, SECOND, AGAIN],
+        Verdict::No(7, Reason::Name),
+    ),
+    (
+        &[FOUR_NUMBERS, TEN, TWENTY, HIGH],
+        Verdict::No(4, Reason::Proposal),
+    ),
+    (
+        &[FOUR_NUMBERS, TEN, TWENTY, SECOND, FIRST, SAW],
+        Verdict::No(6, Reason::View),
+    ),
+    (&[FOUR_NUMBERS, TEN, TWENTY, TORN], Verdict::BadRecord(4)),
+    (&[], Verdict::BadRecord(1)),
+];
+
 #[test]
 fn a_record_that_goes_on_otherwise(rt: HostRuntime) {
-    let [head, ten, twenty, first, named, second] = SIX;
-    let again = r#"{"command":"step 20","reply":"named 1"}"#;
-    let high = r#"{"command":"step 10","reply":"proposed 4"}"#;
-    let saw = r#"{"command":"step 10","reply":"saw 20:1"}"#;
-    let torn = r#"{"command":"step 10""#;
-    for (lines, want) in [
-        (SIX.as_slice(), Verdict::Yes),
-        (
-            &[head, ten, twenty, first, named, second, again],
-            Verdict::No(7, Reason::Name),
-        ),
-        (&[head, ten, twenty, high], Verdict::No(4, Reason::Proposal)),
-        (
-            &[head, ten, twenty, second, first, saw],
-            Verdict::No(6, Reason::View),
-        ),
-        (&[head, ten, twenty, torn], Verdict::BadRecord(4)),
-        (&[], Verdict::BadRecord(1)),
-    ] {
-        is_judged(&rt, rt.alloc(), lines, want);
-    }
+    judge_rows(&rt, rt.alloc(), &GOES_ON);
 }
 
-const WRONG: &str = r#"{"command":"probe 5","reply":"got 4"}"#;
+/// An event that can follow, and two that can't.
+const ENTERED: &str = "{\"command\":\"enter 5\",\"reply\":\"ok\"}\n";
 
-const OTHER: &str = r#"{"command":"leave 5","reply":"ok"}"#;
+const WRONG: &str = "{\"command\":\"probe 5\",\"reply\":\"got 4\"}\n";
+
+const OTHER: &str = "{\"command\":\"leave 5\",\"reply\":\"ok\"}\n";
 
 /// The first fault of either kind decides: a line that can't follow, or one that is none of a record.
+const FIRST_FAULTS: [(&[&str], Verdict); 8] = [
+    (&[HEAD, ENTERED, WRONG, "x\n"], Verdict::No(3, Reason::Pool)),
+    (&[HEAD, ENTERED, "x\n", WRONG], Verdict::BadRecord(3)),
+    (&[HEAD, ENTERED, "\n", ENTERED], Verdict::BadRecord(3)),
+    (&[HEAD, ENTERED, WRONG, OTHER], Verdict::No(3, Reason::Pool)),
+    (
+        &[HEAD, ENTERED, OTHER, WRONG],
+        Verdict::No(3, Reason::Reply),
+    ),
+    (&["x\n", ENTERED, WRONG, "x\n"], Verdict::BadRecord(1)),
+    (&[HEAD], Verdict::Yes),
+    (&["\n"], Verdict::BadRecord(1)),
+];
+
 #[test]
 fn the_first_fault(rt: HostRuntime) {
-    for (lines, want) in [
-        (
-            [HEAD, ENTER, WRONG, "x"].as_slice(),
-            Verdict::No(3, Reason::Pool),
-        ),
-        (&[HEAD, ENTER, "x", WRONG], Verdict::BadRecord(3)),
-        (&[HEAD, ENTER, "", ENTER], Verdict::BadRecord(3)),
-        (&[HEAD, ENTER, WRONG, OTHER], Verdict::No(3, Reason::Pool)),
-        (&[HEAD, ENTER, OTHER, WRONG], Verdict::No(3, Reason::Reply)),
-        (&["x", ENTER, WRONG, "x"], Verdict::BadRecord(1)),
-        (&[HEAD], Verdict::Yes),
-        (&[], Verdict::BadRecord(1)),
-        (&[""], Verdict::BadRecord(1)),
-    ] {
-        is_judged(&rt, rt.alloc(), lines, want);
-    }
+    judge_rows(&rt, rt.alloc(), &FIRST_FAULTS);
 }
 
-/// What a header may be, and what it may not.
+/// What a header may be, and a first line that is none, each by one place in which it differs from one.
+const HEADERS: [Family; 2] = [
+    Family {
+        before: &[],
+        pieces: &[
+            r#"{"format":"slot-record","k":3,"limit":2,"m":2,"version":1,"world":"rename"}"#,
+            r#"{"world":"tree","version":1,"m":16,"limit":1000000,"k":64,"format":"slot-record"}"#,
+            r#" { "m" : 1 , "k" : 1 , "limit" : 1 , "version" : 1 , "world" : "tree" , "format" : "slot-record" } "#,
+            r#"{"format":"slot-record","k":3,"limit":2,"m":9,"m":2,"version":1,"world":"rename"}"#,
+            r#"{"format":"slot-record","k":3,"limit":2,"m":16,"version":2,"world":"rename"}"#,
+        ],
+        after: ENTER,
+        want: Verdict::Yes,
+    },
+    Family {
+        before: &[],
+        pieces: &[
+            "",
+            "{}",
+            "[]",
+            r#"{"format":"slot-record","k":3,"limit":2,"m":2,"version":1}"#,
+            r#"{"format":"slot-record","k":3,"limit":2,"m":2,"version":1,"world":"rename","x":1}"#,
+            r#"{"format":"slot-records","k":3,"limit":2,"m":2,"version":1,"world":"rename"}"#,
+            r#"{"format":"slot-record","k":3,"limit":2,"m":2,"version":0,"world":"rename"}"#,
+            r#"{"format":"slot-record","k":3,"limit":2,"m":2,"version":3,"world":"rename"}"#,
+            r#"{"format":"slot-record","k":3,"limit":2,"m":2,"version":"1","world":"rename"}"#,
+            r#"{"format":"slot-record","k":3,"limit":2,"m":2,"version":1,"world":"grid"}"#,
+            r#"{"format":"slot-record","k":3,"limit":2,"m":2,"version":1,"world":"Tree"}"#,
+            r#"{"format":"slot-record","k":3,"limit":2,"m":2,"version":1,"world":1}"#,
+            r#"{"format":"slot-record","k":3,"limit":2,"m":2,"m":9.0,"version":1,"world":"rename"}"#,
+            r#"{"format":"slot-record","k":0,"limit":2,"m":2,"version":1,"world":"rename"}"#,
+            r#"{"format":"slot-record","k":65,"limit":2,"m":2,"version":1,"world":"rename"}"#,
+            r#"{"format":"slot-record","k":3,"limit":0,"m":2,"version":1,"world":"rename"}"#,
+            r#"{"format":"slot-record","k":3,"limit":1000001,"m":2,"version":1,"world":"rename"}"#,
+            r#"{"format":"slot-record","k":3,"limit":2,"m":0,"version":1,"world":"rename"}"#,
+            r#"{"format":"slot-record","k":3,"limit":2,"m":-0,"version":1,"world":"rename"}"#,
+            r#"{"format":"slot-record","k":3,"limit":2,"m":17,"version":1,"world":"rename"}"#,
+            r#"{"format":"slot-record","k":3,"limit":2,"m":17,"version":1,"world":"tree"}"#,
+            r#"{"format":"slot-record","k":3,"limit":2,"m":17,"version":2,"world":"rename"}"#,
+            r#"{"format":"slot-record","k":3,"limit":2,"m":65,"version":2,"world":"tree"}"#,
+            r#"{"format":"slot-record","k":4.0,"limit":2,"m":2,"version":1,"world":"rename"}"#,
+            r#"{"format":"slot-record","k":4e0,"limit":2,"m":2,"version":1,"world":"rename"}"#,
+            r#"{"format":"slot-record","k":03,"limit":2,"m":2,"version":1,"world":"rename"}"#,
+            r#"{"format":"slot-record","k":"3","limit":2,"m":2,"version":1,"world":"rename"}"#,
+            r#"{"format":"slot-record","k":null,"limit":2,"m":2,"version":1,"world":"rename"}"#,
+            r#"{"format":"slot-record","k":true,"limit":2,"m":2,"version":1,"world":"rename"}"#,
+            r#"{"format":"slot-record","k":[3],"limit":2,"m":2,"version":1,"world":"rename"}"#,
+            r#"{"format":"slot-record","k":3,"limit":18446744073709551616,"m":2,"version":1,"world":"rename"}"#,
+        ],
+        after: ENTER,
+        want: Verdict::BadRecord(1),
+    },
+];
+
 #[test]
 fn headers(rt: HostRuntime) {
-    for head in [
-        HEAD,
-        r#"{"world":"tree","version":1,"m":16,"limit":1000000,"k":64,"format":"slot-record"}"#,
-        r#" { "m" : 1 , "k" : 1 , "limit" : 1 , "version" : 1 , "world" : "tree" , "format" : "slot-record" } "#,
-        r#"{"format":"slot-record","k":3,"limit":2,"m":9,"m":2,"version":1,"world":"rename"}"#,
-        r#"{"format":"slot-record","k":3,"limit":2,"m":16,"version":2,"world":"rename"}"#,
-    ] {
-        is_judged(&rt, rt.alloc(), &[head, ENTER], Verdict::Yes);
-    }
+    judge_families(&rt, rt.alloc(), &HEADERS);
 }
 
-/// A first line that is no header, each by one place in which it differs from one.
-#[test]
-fn no_headers(rt: HostRuntime) {
-    for head in [
-        "",
-        "{}",
-        "[]",
-        r#"{"format":"slot-record","k":3,"limit":2,"m":2,"version":1}"#,
-        r#"{"format":"slot-record","k":3,"limit":2,"m":2,"version":1,"world":"rename","x":1}"#,
-        r#"{"format":"slot-records","k":3,"limit":2,"m":2,"version":1,"world":"rename"}"#,
-        r#"{"format":"slot-record","k":3,"limit":2,"m":2,"version":0,"world":"rename"}"#,
-        r#"{"format":"slot-record","k":3,"limit":2,"m":2,"version":3,"world":"rename"}"#,
-        r#"{"format":"slot-record","k":3,"limit":2,"m":2,"version":"1","world":"rename"}"#,
-        r#"{"format":"slot-record","k":3,"limit":2,"m":2,"version":1,"world":"grid"}"#,
-        r#"{"format":"slot-record","k":3,"limit":2,"m":2,"version":1,"world":"Tree"}"#,
-        r#"{"format":"slot-record","k":3,"limit":2,"m":2,"version":1,"world":1}"#,
-        r#"{"format":"slot-record","k":3,"limit":2,"m":2,"m":9.0,"version":1,"world":"rename"}"#,
-        r#"{"format":"slot-record","k":0,"limit":2,"m":2,"version":1,"world":"rename"}"#,
-        r#"{"format":"slot-record","k":65,"limit":2,"m":2,"version":1,"world":"rename"}"#,
-        r#"{"format":"slot-record","k":3,"limit":0,"m":2,"version":1,"world":"rename"}"#,
-        r#"{"format":"slot-record","k":3,"limit":1000001,"m":2,"version":1,"world":"rename"}"#,
-        r#"{"format":"slot-record","k":3,"limit":2,"m":0,"version":1,"world":"rename"}"#,
-        r#"{"format":"slot-record","k":3,"limit":2,"m":-0,"version":1,"world":"rename"}"#,
-        r#"{"format":"slot-record","k":3,"limit":2,"m":17,"version":1,"world":"rename"}"#,
-        r#"{"format":"slot-record","k":3,"limit":2,"m":17,"version":1,"world":"tree"}"#,
-        r#"{"format":"slot-record","k":3,"limit":2,"m":17,"version":2,"world":"rename"}"#,
-        r#"{"format":"slot-record","k":3,"limit":2,"m":65,"version":2,"world":"tree"}"#,
-        r#"{"format":"slot-record","k":4.0,"limit":2,"m":2,"version":1,"world":"rename"}"#,
-        r#"{"format":"slot-record","k":4e0,"limit":2,"m":2,"version":1,"world":"rename"}"#,
-        r#"{"format":"slot-record","k":03,"limit":2,"m":2,"version":1,"world":"rename"}"#,
-        r#"{"format":"slot-record","k":"3","limit":2,"m":2,"version":1,"world":"rename"}"#,
-        r#"{"format":"slot-record","k":null,"limit":2,"m":2,"version":1,"world":"rename"}"#,
-        r#"{"format":"slot-record","k":true,"limit":2,"m":2,"version":1,"world":"rename"}"#,
-        r#"{"format":"slot-record","k":[3],"limit":2,"m":2,"version":1,"world":"rename"}"#,
-        r#"{"format":"slot-record","k":3,"limit":18446744073709551616,"m":2,"version":1,"world":"rename"}"#,
-    ] {
-        is_judged(&rt, rt.alloc(), &[head, ENTER], Verdict::BadRecord(1));
-    }
-}
+/// An event's line in other spellings of JSON, and lines that are no JSON, or no object of a command and a reply.
+const LINES: [Family; 2] = [
+    Family {
+        before: &[HEAD],
+        pieces: &[
+            r#"{"command":"enter 5","reply":"ok"}"#,
+            r#"{"reply":"ok","command":"enter 5"}"#,
+            " \t{ \"command\" : \"enter 5\" ,\t\"reply\" : \"ok\" } ",
+            "{\"command\":\"enter 5\",\"reply\":\"ok\"}\r",
+            r#"{"\u0063ommand":"enter\u00205","reply":"\u006fk"}"#,
+            r#"{"command":"quit","command":"enter 5","reply":"ok"}"#,
+            r#"{"command":1,"command":"enter 5","reply":"ok"}"#,
+            r#"{"command":1e300,"command":"enter 5","reply":"ok"}"#,
+            r#"{"command":[[{"a":null}],true],"command":"enter 5","reply":"ok"}"#,
+            r#"{"command":"\ud83d\ude00","command":"enter 5","reply":"ok"}"#,
+        ],
+        after: "\n",
+        want: Verdict::Yes,
+    },
+    Family {
+        before: &[HEAD],
+        pieces: &[
+            "",
+            "\r",
+            "x",
+            "5",
+            "null",
+            r#""enter 5""#,
+            r#"["enter 5","ok"]"#,
+            r#"{"command":"enter 5"}"#,
+            r#"{"command":"enter 5","reply":"ok","view":1}"#,
+            r#"{"command":"enter 5","Reply":"ok"}"#,
+            r#"{"command":"enter 5","command":"quit","reply":"ok"}"#,
+            r#"{"command":5,"reply":"ok"}"#,
+            r#"{"command":"enter 5","reply":null}"#,
+            r#"{"command":"enter 5","reply":true}"#,
+            r#"{"command":"enter 5","reply":["ok"]}"#,
+            r#"{"command":"enter 5","reply":{"ok":1}}"#,
+            r#"{"command":"enter 5","reply":4.0}"#,
+            r#"{"command":"enter 5","reply":"ok",}"#,
+            r#"{"command":"enter 5","reply":"ok"} x"#,
+            r#"{'command':'enter 5','reply':'ok'}"#,
+            r#"{"command":1e999,"command":"enter 5","reply":"ok"}"#,
+            r#"{"command":"\ud800","command":"enter 5","reply":"ok"}"#,
+            "{\"command\":\"enter\t5\",\"reply\":\"ok\"}",
+            "{\"command\":\"enter 5\",\"reply\":\"ok\"",
+        ],
+        after: ENTER,
+        want: Verdict::BadRecord(2),
+    },
+];
 
-/// An event's line in other spellings of JSON.
 #[test]
 fn spellings_of_a_line(rt: HostRuntime) {
-    for line in [
-        ENTER,
-        r#"{"reply":"ok","command":"enter 5"}"#,
-        " \t{ \"command\" : \"enter 5\" ,\t\"reply\" : \"ok\" } ",
-        "{\"command\":\"enter 5\",\"reply\":\"ok\"}\r",
-        r#"{"\u0063ommand":"enter\u00205","reply":"\u006fk"}"#,
-        r#"{"command":"quit","command":"enter 5","reply":"ok"}"#,
-        r#"{"command":1,"command":"enter 5","reply":"ok"}"#,
-        r#"{"command":1e300,"command":"enter 5","reply":"ok"}"#,
-        r#"{"command":[[{"a":null}],true],"command":"enter 5","reply":"ok"}"#,
-        r#"{"command":"\ud83d\ude00","command":"enter 5","reply":"ok"}"#,
-    ] {
-        is_judged(&rt, rt.alloc(), &[HEAD, line], Verdict::Yes);
-    }
-}
-
-/// Lines that are no JSON, or no object of a command and a reply.
-#[test]
-fn no_event_lines(rt: HostRuntime) {
-    for line in [
-        "",
-        "\r",
-        "x",
-        "5",
-        "null",
-        r#""enter 5""#,
-        r#"["enter 5","ok"]"#,
-        r#"{"command":"enter 5"}"#,
-        r#"{"command":"enter 5","reply":"ok","view":1}"#,
-        r#"{"command":"enter 5","Reply":"ok"}"#,
-        r#"{"command":"enter 5","command":"quit","reply":"ok"}"#,
-        r#"{"command":5,"reply":"ok"}"#,
-        r#"{"command":"enter 5","reply":null}"#,
-        r#"{"command":"enter 5","reply":true}"#,
-        r#"{"command":"enter 5","reply":["ok"]}"#,
-        r#"{"command":"enter 5","reply":{"ok":1}}"#,
-        r#"{"command":"enter 5","reply":4.0}"#,
-        r#"{"command":"enter 5","reply":"ok",}"#,
-        r#"{"command":"enter 5","reply":"ok"} x"#,
-        r#"{'command':'enter 5','reply':'ok'}"#,
-        r#"{"command":1e999,"command":"enter 5","reply":"ok"}"#,
-        r#"{"command":"\ud800","command":"enter 5","reply":"ok"}"#,
-        "{\"command\":\"enter\t5\",\"reply\":\"ok\"}",
-        "{\"command\":\"enter 5\",\"reply\":\"ok\"",
-    ] {
-        is_judged(&rt, rt.alloc(), &[HEAD, line, ENTER], Verdict::BadRecord(2));
-    }
+    judge_families(&rt, rt.alloc(), &LINES);
 }
 
 /// Commands that are no event's line.
-#[test]
-fn no_commands(rt: HostRuntime) {
-    for command in [
+const NO_COMMANDS: [Family; 1] = [Family {
+    before: &[HEAD, "{\"command\":\""],
+    pieces: &[
         "",
         "quit",
         "owner 1",
@@ -336,105 +401,97 @@ fn no_commands(rt: HostRuntime) {
         "widen 04",
         "stop 5",
         "0123456789012345678901234567890123456789012345678901234567890123456789012345678901234567890123456789",
-    ] {
-        is_judged_on(
-            &rt,
-            rt.alloc(),
-            HEAD,
-            &[(command, "ok")],
-            Verdict::BadRecord(2),
-        );
-    }
-}
+    ],
+    after: "\",\"reply\":\"ok\"}",
+    want: Verdict::BadRecord(2),
+}];
 
-/// Compares the verdict on a record whose third line is a step of 7 with this reply.
-fn is_judged_at_step(rt: &impl Abort, alloc: Global, reply: &str, want: Verdict) {
-    let rows = [("begin 7", "ok"), ("step 7", reply)];
-    is_judged_on(rt, alloc, HEAD, &rows, want);
-}
-
-/// Replies that are not well spelled.
 #[test]
-fn no_replies(rt: HostRuntime) {
-    for reply in [
-        "",
-        "Quiet",
-        "quiet ",
-        "quiet quiet",
-        "bad 3",
-        "place 01",
-        "place 340282366920938463463374607431768211456",
-        "got -1",
-        "got 18446744073709551616",
-        "refused",
-        "refused 18446744073709551616",
-        "owner",
-        "owner nobody",
-        "owner 07",
-        "saw",
-        "saw ",
-        "saw 7",
-        "saw 0:1",
-        "saw 7:01",
-        "saw 7:1:1",
-        "saw 7:1 7:1",
-        "saw 9:1 7:1",
-        "named 1 7:1",
-        "spent 1",
-    ] {
-        is_judged_at_step(&rt, rt.alloc(), reply, Verdict::BadRecord(3));
-    }
+fn no_commands(rt: HostRuntime) {
+    judge_families(&rt, rt.alloc(), &NO_COMMANDS);
 }
 
-/// Replies that are well spelled, whether they can follow or not.
+/// Replies that are not well spelled, and replies that are, whether they can follow or not.
+const REPLIES: [Family; 7] = [
+    Family {
+        before: &[HEAD, BEGUN, STEP],
+        pieces: &[
+            "",
+            "Quiet",
+            "quiet ",
+            "quiet quiet",
+            "bad 3",
+            "place 01",
+            "place 340282366920938463463374607431768211456",
+            "got -1",
+            "got 18446744073709551616",
+            "refused",
+            "refused 18446744073709551616",
+            "owner",
+            "owner nobody",
+            "owner 07",
+            "saw",
+            "saw ",
+            "saw 7",
+            "saw 0:1",
+            "saw 7:01",
+            "saw 7:1:1",
+            "saw 7:1 7:1",
+            "saw 9:1 7:1",
+            "named 1 7:1",
+            "spent 1",
+        ],
+        after: END,
+        want: Verdict::BadRecord(3),
+    },
+    Family {
+        before: &[HEAD, BEGUN, STEP],
+        pieces: &["quiet", "place 340282366920938463463374607431768211455"],
+        after: END,
+        want: Verdict::Yes,
+    },
+    Family {
+        before: &[HEAD, BEGUN, STEP],
+        pieces: &[
+            "got 18446744073709551615",
+            "stop",
+            "right",
+            "down",
+            "owner 7",
+            "owner none",
+        ],
+        after: END,
+        want: Verdict::No(3, Reason::Reply),
+    },
+    Family {
+        before: &[HEAD, BEGUN, STEP],
+        pieces: &["refused 18446744073709551615"],
+        after: END,
+        want: Verdict::No(3, Reason::Refusal),
+    },
+    Family {
+        before: &[HEAD, BEGUN, STEP],
+        pieces: &["saw 7:1", "saw 7:1 9:1", "spent"],
+        after: END,
+        want: Verdict::No(3, Reason::Proposal),
+    },
+    Family {
+        before: &[HEAD, BEGUN, STEP],
+        pieces: &["named 1"],
+        after: END,
+        want: Verdict::No(3, Reason::Name),
+    },
+    Family {
+        before: &[HEAD, PROPOSED, STEP, "saw "],
+        pieces: &[LONG_VIEW],
+        after: END,
+        want: Verdict::No(4, Reason::View),
+    },
+];
+
 #[test]
 fn replies(rt: HostRuntime) {
-    let other = Verdict::No(3, Reason::Reply);
-    let proposal = Verdict::No(3, Reason::Proposal);
-    for (reply, want) in [
-        ("quiet", Verdict::Yes),
-        (
-            "place 340282366920938463463374607431768211455",
-            Verdict::Yes,
-        ),
-        ("got 18446744073709551615", other),
-        ("stop", other),
-        ("right", other),
-        ("down", other),
-        ("owner 7", other),
-        ("owner none", other),
-        (
-            "refused 18446744073709551615",
-            Verdict::No(3, Reason::Refusal),
-        ),
-        ("saw 7:1", proposal),
-        ("saw 7:1 9:1", proposal),
-        ("named 1", Verdict::No(3, Reason::Name)),
-        ("spent", proposal),
-    ] {
-        is_judged_at_step(&rt, rt.alloc(), reply, want);
-    }
-}
-
-/// Appends a view of 65 participants.
-fn put_long_view(reply: &mut String, alloc: Global) -> Result<(), AllocError> {
-    for id in 1..=65u64 {
-        reply.push_str(format!(in alloc; " {id}:1")?.as_str())?;
-    }
-    Ok(())
-}
-
-/// A view of more pairs than there may be participants is well spelled.
-#[test]
-fn a_long_view(rt: HostRuntime) {
-    let mut reply = String::from_str(rt.alloc(), "saw").expect(&rt, "room for a reply");
-    put_long_view(&mut reply, rt.alloc()).expect(&rt, "room for a view");
-    let rows = [
-        ("begin 7", "ok"),
-        ("step 7", "proposed 1"),
-        ("step 7", reply.as_str()),
-    ];
-    is_judged_on(&rt, rt.alloc(), HEAD, &rows, Verdict::No(4, Reason::View));
+    judge_families(&rt, rt.alloc(), &REPLIES);
 }
 
 /// Appends these bytes, and spaces behind them up to this length.
@@ -455,27 +512,36 @@ fn put_all_padded(bytes: &mut Vec<u8>, lines: &[(&str, usize, &str)]) -> Result<
     Ok(())
 }
 
-/// Compares the verdict on a record of lines, each padded up to its length, and with its end.
-fn is_judged_padded(rt: &impl Abort, alloc: Global, lines: &[(&str, usize, &str)], want: Verdict) {
+/// Compares what is said of a record of lines, each padded up to its length, and with its end.
+fn judge_padded(rt: &impl Abort, alloc: Global, lines: &[(&str, usize, &str)], want: Verdict) {
     let mut bytes = Vec::new(alloc);
     put_all_padded(&mut bytes, lines).expect(rt, "room for lines");
     let found = check(alloc, &bytes);
     assert!(rt; found == want, "{lines:?}: {found:?}");
 }
 
+/// The header, padded, and its LF.
+const PADDED: (&str, usize, &str) = (BARE, 100, "\n");
+
+/// A header and an event without their LF.
+const BARE: &str = r#"{"format":"slot-record","k":3,"limit":2,"m":2,"version":1,"world":"rename"}"#;
+
+const BARE_ENTER: &str = r#"{"command":"enter 5","reply":"ok"}"#;
+
 /// A line has at most 8,192 bytes without its LF, and the last LF may be missing.
+const LONG_LINES: [(&[(&str, usize, &str)], Verdict); 6] = [
+    (&[PADDED, (BARE_ENTER, 8_192, "")], Verdict::Yes),
+    (&[PADDED, (BARE_ENTER, 8_192, "\n")], Verdict::Yes),
+    (&[PADDED, (BARE_ENTER, 8_193, "")], Verdict::BadRecord(2)),
+    (&[PADDED, (BARE_ENTER, 8_193, "\n")], Verdict::BadRecord(2)),
+    (&[(BARE, 8_192, "")], Verdict::Yes),
+    (&[(BARE, 8_193, "")], Verdict::BadRecord(1)),
+];
+
 #[test]
 fn long_lines(rt: HostRuntime) {
-    let head = (HEAD, 100, "\n");
-    for (lines, want) in [
-        ([head, (ENTER, 8_192, "")].as_slice(), Verdict::Yes),
-        (&[head, (ENTER, 8_192, "\n")], Verdict::Yes),
-        (&[head, (ENTER, 8_193, "")], Verdict::BadRecord(2)),
-        (&[head, (ENTER, 8_193, "\n")], Verdict::BadRecord(2)),
-        (&[(HEAD, 8_192, "")], Verdict::Yes),
-        (&[(HEAD, 8_193, "")], Verdict::BadRecord(1)),
-    ] {
-        is_judged_padded(&rt, rt.alloc(), lines, want);
+    for (lines, want) in &LONG_LINES {
+        judge_padded(&rt, rt.alloc(), lines, *want);
     }
 }
 
@@ -522,8 +588,11 @@ fn is_cut_so(rt: &impl Abort, alloc: Global, bytes: &[u8], at: usize)
 /// A record of six lines, cut after each byte.
 #[test]
 fn a_record_that_is_cut(rt: HostRuntime) {
-    let mut bytes = Vec::new(rt.alloc());
-    put_lines(&mut bytes, &SIX).expect(&rt, "room for a record");
+    let bytes = record_of(
+        &rt,
+        rt.alloc(),
+        &[FOUR_NUMBERS, TEN, TWENTY, FIRST, NAMED, SECOND],
+    );
     for at in 0..=bytes.len() {
         is_cut_so(&rt, rt.alloc(), &bytes, at);
     }

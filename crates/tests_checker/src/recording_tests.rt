@@ -7,9 +7,8 @@ ghost use Rattle.run_checker.specs.Recorded.{events_in};
 use commands::{Config, WorldKind};
 use run_checker::{Verdict, check, law_of_recording};
 use schedule_player::{Fault, Tried, record};
-use std::alloc::Global;
+use std::alloc::{AllocError, Global};
 use std::process::Abort;
-use std::test::Fail;
 
 /// The verdict on the record of the run of an input: `Yes` where it asks for at most a million events and memory is given.
 fn checked_record(alloc: Global, config: Config, input: &[u8]) -> Result<Verdict, Fault>
@@ -24,64 +23,116 @@ fn checked_record(alloc: Global, config: Config, input: &[u8]) -> Result<Verdict
     Ok(check(alloc, &bytes))
 }
 
-/// The record of the run of an input, with so many numbers in the pool, is checked yes in both worlds.
-fn is_checked_yes(rt: &impl Abort, alloc: Global, k: u64, input: &[u8]) {
-    for world in [WorldKind::Rename, WorldKind::Tree] {
-        let config = Config::new(world, 2, k, 1000).expect(rt, "a config");
-        let verdict = checked_record(alloc, config, input).expect(rt, "a record");
-        assert_eq!(rt; verdict, Verdict::Yes);
-    }
+/// The run of an input, with so many numbers in the pool.
+#[derive(Drop)]
+struct Run {
+    k: u64,
+    input: &'static [u8],
+}
+
+/// Runs, of which the last two have a pool that gets more numbers, the last of which is held or free.
+const RUNS: [Run; 3] = [
+    Run {
+        k: 4,
+        input: b"begin 1\nbegin 20\nstep 1\nstep 3\nenter 20\nprobe 20\nput 20 5\nget 20\nowner 1\nno\nleave 20\nquit\nstep 1\n",
+    },
+    Run {
+        k: 2,
+        input: b"enter 5\nprobe 5\nenter 6\nprobe 6\nenter 7\nwiden 2\nwiden 4\nenter 7\nprobe 7\nprobe 7\nleave 6\nprobe 7\n\
+                 enter 8\nprobe 8\nprobe 8\nenter 9\nprobe 9\nprobe 9\nprobe 9\nenter 10\nput 9 5\nget 9\nwiden 65\n",
+    },
+    Run {
+        k: 1,
+        input: b"enter 5\nwiden 2\nprobe 5\nenter 6\nprobe 6\n",
+    },
+];
+
+/// The record of a run in this world is checked yes.
+fn is_checked_yes(rt: &impl Abort, alloc: Global, world: WorldKind, run: &Run)
+    requires { gives_names world ≡ true }
+{
+    let config = Config::new(world, 2, run.k, 1000).expect(rt, "a config");
+    let verdict = checked_record(alloc, config, run.input);
+    assert!(rt; verdict == Ok(Verdict::Yes), "{verdict:?}: {:?}", run.input);
 }
 
 #[test]
-fn a_recorded_run_is_checked_yes(rt: HostRuntime) {
-    let input =
-        b"begin 1\nbegin 20\nstep 1\nstep 3\nenter 20\nprobe 20\nput 20 5\nget 20\nowner 1\nno\nleave 20\nquit\nstep 1\n";
-    is_checked_yes(&rt, rt.alloc(), 4, input);
-}
-
-/// Runs in which the pool gets more numbers, the last of which is held or free.
-#[test]
-fn recorded_runs_of_a_pool_that_widens(rt: HostRuntime) {
-    let held =
-        b"enter 5\nprobe 5\nenter 6\nprobe 6\nenter 7\nwiden 2\nwiden 4\nenter 7\nprobe 7\nprobe 7\nleave 6\nprobe 7\n\
-                 enter 8\nprobe 8\nprobe 8\nenter 9\nprobe 9\nprobe 9\nprobe 9\nenter 10\nput 9 5\nget 9\nwiden 65\n";
-    let free = b"enter 5\nwiden 2\nprobe 5\nenter 6\nprobe 6\n";
-    is_checked_yes(&rt, rt.alloc(), 2, held);
-    is_checked_yes(&rt, rt.alloc(), 1, free);
-}
-
-/// The commands by which so many are named one after another, each by so many steps, compete for the pool, and leave it.
-fn crowd(alloc: Global, config: Config, steps: u64) -> Result<Vec<u8>, Fail> {
-    let mut input = Vec::new(alloc);
-    for id in 1..=config.m {
-        input.extend_from_slice(format!(in alloc; "begin {id}\n")?.as_bytes())?;
-        let step = format!(in alloc; "step {id}\n")?;
-        for _ in 0..steps {
-            input.extend_from_slice(step.as_bytes())?;
-        }
+fn recorded_runs_are_checked_yes(rt: HostRuntime) {
+    for run in &RUNS {
+        is_checked_yes(&rt, rt.alloc(), WorldKind::Rename, run);
+        is_checked_yes(&rt, rt.alloc(), WorldKind::Tree, run);
     }
-    for id in 1..=config.k {
-        let stay = format!(in alloc; "enter {id}\nprobe {id}\nput {id} {id}\nleave {id}\n")?;
-        input.extend_from_slice(stay.as_bytes())?;
-    }
-    Ok(input)
 }
 
-/// Records of worlds of many sizes: the first is named 1, the last is the last that began, with the greatest name of all.
-#[test]
-fn recorded_runs_of_every_size(rt: HostRuntime) -> Result<(), Fail> {
-    for (world, m, k, limit, steps) in [
-        (WorldKind::Rename, 1, 64, 1, 20),
-        (WorldKind::Rename, 13, 63, 999_999, 600),
-        (WorldKind::Rename, 16, 13, 1_000_000, 900),
-        (WorldKind::Tree, 17, 2, 64, 600),
-        (WorldKind::Tree, 63, 1, 63, 100),
-    ] {
-        let config = Config::new(world, m, k, limit)?;
-        let input = crowd(rt.alloc(), config, steps)?;
-        let verdict = checked_record(rt.alloc(), config, &input).expect(&rt, "a record");
-        assert_eq!(rt; verdict, Verdict::Yes, "{config:?}");
+/// Appends the commands by which one is named, by so many steps.
+fn put_naming(input: &mut Vec<u8>, alloc: Global, id: u64, steps: u64) -> Result<(), AllocError> {
+    input.extend_from_slice(format!(in alloc; "begin {id}\n")?.as_bytes())?;
+    let step = format!(in alloc; "step {id}\n")?;
+    for _ in 0..steps {
+        input.extend_from_slice(step.as_bytes())?;
     }
     Ok(())
+}
+
+/// Appends the commands by which one competes for the pool, and leaves it.
+fn put_stay(input: &mut Vec<u8>, alloc: Global, id: u64) -> Result<(), AllocError> {
+    let stay = format!(in alloc; "enter {id}\nprobe {id}\nput {id} {id}\nleave {id}\n")?;
+    input.extend_from_slice(stay.as_bytes())
+}
+
+/// Appends those of as many as there may be, one after another.
+fn put_crowd(
+    input: &mut Vec<u8>,
+    alloc: Global,
+    config: Config,
+    steps: u64,
+) -> Result<(), AllocError> {
+    for id in 1..=config.m {
+        put_naming(input, alloc, id, steps)?;
+    }
+    for id in 1..=config.k {
+        put_stay(input, alloc, id)?;
+    }
+    Ok(())
+}
+
+/// The record of a crowd is checked yes.
+fn is_checked_of_a_crowd(rt: &impl Abort, alloc: Global, config: Config, steps: u64)
+    requires { gives_names config.world ≡ true }
+{
+    let mut input = Vec::new(alloc);
+    put_crowd(&mut input, alloc, config, steps).expect(rt, "room for commands");
+    let verdict = checked_record(alloc, config, &input);
+    assert!(rt; verdict == Ok(Verdict::Yes), "{verdict:?} of {config:?}");
+}
+
+/// The same of crowds of many sizes, and the steps of each that is named.
+fn crowds_are_checked(
+    rt: &impl Abort,
+    alloc: Global,
+    world: WorldKind,
+    sizes: &[(u64, u64, u64, u64)],
+)
+    requires { gives_names world ≡ true }
+{
+    for (m, k, limit, steps) in sizes {
+        let config = Config::new(world, *m, *k, *limit).expect(rt, "a config");
+        is_checked_of_a_crowd(rt, alloc, config, *steps);
+    }
+}
+
+/// Participants, numbers of the pool, rounds and steps, in the world without a tree and in the one with it.
+const OVER_SEGMENTS: [(u64, u64, u64, u64); 3] = [
+    (1, 64, 1, 20),
+    (13, 63, 999_999, 600),
+    (16, 13, 1_000_000, 900),
+];
+
+const OVER_A_TREE: [(u64, u64, u64, u64); 2] = [(17, 2, 64, 600), (63, 1, 63, 100)];
+
+/// The first is named 1, the last is the last that began, with the greatest name of all.
+#[test]
+fn recorded_runs_of_every_size(rt: HostRuntime) {
+    crowds_are_checked(&rt, rt.alloc(), WorldKind::Rename, &OVER_SEGMENTS);
+    crowds_are_checked(&rt, rt.alloc(), WorldKind::Tree, &OVER_A_TREE);
 }

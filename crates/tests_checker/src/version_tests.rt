@@ -1,8 +1,7 @@
 //! Records of both versions: which lines have a view, and which views a name may be given by.
 
-use run_checker::{Reason, Verdict, check};
-use std::alloc::{AllocError, Global};
-use std::process::Abort;
+use crate::records::{Family, LONG_VIEW, judge, judge_families, judge_rows};
+use run_checker::{Reason, Verdict};
 
 /// Headers of the two versions: two participants, a pool of four numbers; each with its LF.
 const ONE: &str =
@@ -17,24 +16,8 @@ const PROPOSED: &str = "{\"command\":\"begin 10\",\"reply\":\"ok\"}
 {\"command\":\"step 10\",\"reply\":\"proposed 1\"}
 ";
 
-/// An event line after the name, and its LF.
-const LATER: &str = "{\"command\":\"step 20\",\"reply\":\"proposed 1\"}\n";
-
-/// Appends these pieces.
-fn put_pieces(bytes: &mut Vec<u8>, pieces: &[&str]) -> Result<(), AllocError> {
-    for piece in pieces {
-        bytes.extend_from_slice(piece.as_bytes())?;
-    }
-    Ok(())
-}
-
-/// Compares the verdict on these pieces of a record.
-fn is_judged(rt: &impl Abort, alloc: Global, pieces: &[&str], want: Verdict) {
-    let mut bytes = Vec::new(alloc);
-    put_pieces(&mut bytes, pieces).expect(rt, "room for a record");
-    let found = check(alloc, &bytes);
-    assert!(rt; found == want, "{pieces:?}: {found:?}");
-}
+/// The end of a line, and an event line after it.
+const LATER: &str = "\n{\"command\":\"step 20\",\"reply\":\"proposed 1\"}\n";
 
 /// What is said of a record of six lines by its fifth.
 const BAD: Verdict = Verdict::BadRecord(5);
@@ -130,34 +113,48 @@ const FIFTH: [(&str, Verdict, Verdict); 17] = [
 
 #[test]
 fn lines_with_a_view(rt: HostRuntime) {
-    for (line, one, two) in FIFTH {
-        is_judged(&rt, rt.alloc(), &[ONE, PROPOSED, line, "\n", LATER], one);
-        is_judged(&rt, rt.alloc(), &[TWO, PROPOSED, line, "\n", LATER], two);
+    for (line, one, two) in &FIFTH {
+        judge(&rt, rt.alloc(), &[ONE, PROPOSED, line, LATER], *one);
+        judge(&rt, rt.alloc(), &[TWO, PROPOSED, line, LATER], *two);
     }
 }
 
-/// Views that are not well spelled.
+/// A name of 10, up to its view.
+const NAMED: &str = "{\"command\":\"step 10\",\"reply\":\"named 1\",\"view\":\"";
+
+/// Views that are not well spelled, and one of more pairs than there may be participants, which is.
+const VIEWS: [Family; 2] = [
+    Family {
+        before: &[TWO, PROPOSED, NAMED],
+        pieces: &[
+            "",
+            " ",
+            "10",
+            "10:1 ",
+            " 10:1",
+            "10:01",
+            "010:1",
+            "0:1",
+            "10:1:1",
+            "10:1 10:1",
+            "20:1 10:1",
+            "10:18446744073709551616",
+            "saw 10:1",
+        ],
+        after: "\"}",
+        want: BAD,
+    },
+    Family {
+        before: &[TWO, PROPOSED, NAMED],
+        pieces: &[LONG_VIEW],
+        after: "\"}",
+        want: NAME,
+    },
+];
+
 #[test]
-fn no_views(rt: HostRuntime) {
-    let line = "{\"command\":\"step 10\",\"reply\":\"named 1\",\"view\":\"";
-    for view in [
-        "",
-        " ",
-        "10",
-        "10:1 ",
-        " 10:1",
-        "10:01",
-        "010:1",
-        "0:1",
-        "10:1:1",
-        "10:1 10:1",
-        "20:1 10:1",
-        "10:18446744073709551616",
-        "saw 10:1",
-    ] {
-        let pieces = [TWO, PROPOSED, line, view, "\"}"];
-        is_judged(&rt, rt.alloc(), &pieces, Verdict::BadRecord(5));
-    }
+fn views_of_a_name(rt: HostRuntime) {
+    judge_families(&rt, rt.alloc(), &VIEWS);
 }
 
 /// Lines after which 10 may be named by two of its views.
@@ -175,46 +172,27 @@ const AGAIN: &str = "{\"command\":\"step 20\",\"reply\":\"proposed 2\"}
 {\"command\":\"step 20\",\"reply\":\"proposed 3\"}
 {\"command\":\"step 10\",\"reply\":\"named 1\",\"view\":\"";
 
-/// A view that was a moment before the last proposal, and one of a moment after it.
+/// The end of a view and its line.
+const END: &str = "\"}\n";
+
+const NINTH: Verdict = Verdict::No(9, Reason::Name);
+
+const TENTH: Verdict = Verdict::No(10, Reason::Name);
+
+/// Views that were a moment before the last proposal, and of moments after it.
+const SHOWN: [(&[&str], Verdict); 9] = [
+    (&[TWO, PROPOSED, ROWS, "10:2 20:1", END], Verdict::Yes),
+    (&[TWO, PROPOSED, ROWS, "10:2 20:3", END], Verdict::Yes),
+    (&[TWO, PROPOSED, ROWS, "10:2", END], NINTH),
+    (&[TWO, PROPOSED, ROWS, "10:1 20:1", END], NINTH),
+    (&[TWO, PROPOSED, ROWS, "10:2 20:1 30:1", END], NINTH),
+    (&[TWO, PROPOSED, AGAIN, "10:1 20:3", END], Verdict::Yes),
+    (&[TWO, PROPOSED, AGAIN, "10:1", END], TENTH),
+    (&[TWO, PROPOSED, AGAIN, "10:1 20:1", END], TENTH),
+    (&[TWO, PROPOSED, AGAIN, "10:1 20:2", END], TENTH),
+];
+
 #[test]
 fn views_from_before_and_after(rt: HostRuntime) {
-    let ninth = Verdict::No(9, Reason::Name);
-    let tenth = Verdict::No(10, Reason::Name);
-    for (rows, shown, want) in [
-        (ROWS, "10:2 20:1", Verdict::Yes),
-        (ROWS, "10:2 20:3", Verdict::Yes),
-        (ROWS, "10:2", ninth),
-        (ROWS, "10:1 20:1", ninth),
-        (ROWS, "10:2 20:1 30:1", ninth),
-        (AGAIN, "10:1 20:3", Verdict::Yes),
-        (AGAIN, "10:1", tenth),
-        (AGAIN, "10:1 20:1", tenth),
-        (AGAIN, "10:1 20:2", tenth),
-    ] {
-        is_judged(
-            &rt,
-            rt.alloc(),
-            &[TWO, PROPOSED, rows, shown, "\"}\n"],
-            want,
-        );
-    }
-}
-
-/// Appends a view of 65 participants.
-fn put_long_view(view: &mut String, alloc: Global) -> Result<(), AllocError> {
-    view.push_str("1:1")?;
-    for id in 2..=65u64 {
-        view.push_str(format!(in alloc; " {id}:1")?.as_str())?;
-    }
-    Ok(())
-}
-
-/// A view of more pairs than there may be participants is well spelled.
-#[test]
-fn a_long_view_of_a_name(rt: HostRuntime) {
-    let mut view = String::new(rt.alloc());
-    put_long_view(&mut view, rt.alloc()).expect(&rt, "room for a view");
-    let line = "{\"command\":\"step 10\",\"reply\":\"named 1\",\"view\":\"";
-    let pieces = [TWO, PROPOSED, line, view.as_str(), "\"}"];
-    is_judged(&rt, rt.alloc(), &pieces, Verdict::No(5, Reason::Name));
+    judge_rows(&rt, rt.alloc(), &SHOWN);
 }
