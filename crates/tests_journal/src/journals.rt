@@ -1,11 +1,12 @@
-//! Journals on disks in memory, and a short run with its record.
+//! Journals on disks in memory, what is done with them, and a short run with its record.
 
-use commands::{Config, Event, WorldKind};
-use journal::{Chronicle, Journal, OpenFault, Opened};
+use commands::{Config, Event, Reply, WorldKind};
+use hall_compaction::{Compactor, compacted};
+use journal::{Chronicle, Journal, MOST_WAITING, OpenFault, Opened};
 use journal_disk::MemoryDisk;
 use schedule_player::Service;
 use std::alloc::{AllocError, Global};
-use step_memory::View;
+use step_memory::{Refusal, View};
 
 /// No call of such a disk fails.
 pub(crate) const ALL_CALLS: usize = 1 << 60;
@@ -13,17 +14,7 @@ pub(crate) const ALL_CALLS: usize = 1 << 60;
 /// How many calls of its disk open a journal that is whole: it is read, nothing is appended, and that is synced.
 pub(crate) const OPENING_CALLS: usize = 3;
 
-/// The events of the run.
-pub(crate) const EVENTS: [Event; 6] = [
-    Event::Begin(7),
-    Event::Enter(8),
-    Event::Probe(8),
-    Event::Put(8, 1 << 40),
-    Event::Get(8),
-    Event::Leave(8),
-];
-
-/// The header of its record.
+/// The header of the run's record.
 pub(crate) const HEADER: &[u8] =
     b"{\"format\":\"slot-record\",\"k\":4,\"limit\":1000,\"m\":2,\"version\":2,\"world\":\"rename\"}\n";
 
@@ -47,6 +38,25 @@ pub(crate) fn record(alloc: Global, events: usize, more: &[u8]) -> Result<Vec<u8
     Ok(bytes)
 }
 
+/// What is tried of a journal and its chronicle.
+#[derive(Drop)]
+pub(crate) enum Act {
+    /// An event is accepted.
+    Accepts(Event),
+    /// Values are accepted until so many lines wait that no more may.
+    Fills,
+    /// An event is refused for want of room.
+    WantsRoom(Event),
+    /// What waits is committed.
+    Commits,
+    /// A hall that is compacted takes the place of its own, or that fails.
+    Compacts(bool),
+    /// It is compacted where that is due.
+    CompactsWhenDue,
+    /// It has so many events.
+    Has(usize),
+}
+
 /// Opens the journal of a disk, whose hall has at most 2 participants and 4 numbers.
 pub(crate) fn opened(alloc: Global, disk: MemoryDisk) -> Result<Opened<MemoryDisk>, OpenFault> {
     match Config::new(WorldKind::Rename, 2, 4, 1000) {
@@ -55,22 +65,105 @@ pub(crate) fn opened(alloc: Global, disk: MemoryDisk) -> Result<Opened<MemoryDis
     }
 }
 
-/// How many events are in the journal of a disk; none where it is not opened.
-pub(crate) fn events_on(alloc: Global, disk: MemoryDisk) -> Option<usize> {
-    match opened(alloc, disk) {
-        Ok(opened) => Some(opened.chronicle.hall().len()),
-        Err(_) => None,
+/// What a chronicle answers an event.
+fn reply_to(chronicle: &mut Chronicle, event: Event) -> Reply<()> {
+    let mut view = View::new();
+    chronicle.apply(&(), event, &mut view)
+}
+
+/// Whether values are accepted until so many lines wait that no more may, and these are no more than may.
+fn fills(chronicle: &mut Chronicle) -> bool {
+    for value in 0..100_000 {
+        if chronicle.is_full() {
+            return chronicle.waiting().len() <= MOST_WAITING;
+        }
+        if reply_to(chronicle, Event::Put(8, value)).is_refusal() {
+            return false;
+        }
+    }
+    false
+}
+
+/// Whether a hall that is compacted takes the place of a chronicle's, or fails to, as said.
+fn compacts(
+    alloc: Global,
+    journal: &mut Journal<MemoryDisk>,
+    chronicle: &mut Chronicle,
+    done: bool,
+) -> bool {
+    match compacted(alloc, chronicle.hall()) {
+        Some(hall) => matches!(journal.compact(alloc, chronicle, hall), Ok(true)) == done,
+        None => false,
     }
 }
 
-/// The disk of a journal; none where what was tried of it is not so.
-pub(crate) fn disk_where(is_so: bool, opened: Opened<MemoryDisk>) -> Option<MemoryDisk> {
-    let disk = opened.journal.into_disk();
-    if is_so { Some(disk) } else { None }
+/// Whether it may be compacted where that is due.
+fn compacts_when_due(
+    alloc: Global,
+    journal: &mut Journal<MemoryDisk>,
+    chronicle: &mut Chronicle,
+) -> bool {
+    let mut compactor = Compactor::new();
+    let outcome = journal.compact_when_due(alloc, &mut compactor, chronicle);
+    outcome.is_ok()
 }
 
-/// Whether a chronicle accepts an event.
-pub(crate) fn accepts(chronicle: &mut Chronicle, event: Event) -> bool {
-    let mut view = View::new();
-    !chronicle.apply(&(), event, &mut view).is_refusal()
+/// Whether something is so of a journal and its chronicle.
+fn is_so(
+    alloc: Global,
+    journal: &mut Journal<MemoryDisk>,
+    chronicle: &mut Chronicle,
+    act: &Act,
+) -> bool {
+    match act {
+        Act::Accepts(event) => !reply_to(chronicle, *event).is_refusal(),
+        Act::Fills => fills(chronicle),
+        Act::WantsRoom(event) => {
+            reply_to(chronicle, *event) == Reply::Refused(Refusal::NoMemory)
+        }
+        Act::Commits => journal.commit(chronicle).is_ok(),
+        Act::Compacts(done) => compacts(alloc, journal, chronicle, *done),
+        Act::CompactsWhenDue => compacts_when_due(alloc, journal, chronicle),
+        Act::Has(events) => chronicle.hall().len() == *events,
+    }
+}
+
+/// How many of these are so, one after another, up to the first that is not.
+fn how_many_are_so(
+    alloc: Global,
+    journal: &mut Journal<MemoryDisk>,
+    chronicle: &mut Chronicle,
+    acts: &[Act],
+) -> usize {
+    let mut count = 0usize;
+    for act in acts {
+        if !is_so(alloc, journal, chronicle, act) {
+            return count;
+        }
+        count = count.saturating_add(1);
+    }
+    count
+}
+
+/// As many of the journal of a disk, and the disk then; none where it is not opened.
+pub(crate) fn tried(alloc: Global, disk: MemoryDisk, acts: &[Act]) -> Option<(usize, MemoryDisk)> {
+    let mut opened = opened(alloc, disk).ok()?;
+    let count = how_many_are_so(alloc, &mut opened.journal, &mut opened.chronicle, acts);
+    Some((count, opened.journal.into_disk()))
+}
+
+/// The disk of a journal of which all of these are so; none where they are not.
+pub(crate) fn disk_after(alloc: Global, disk: MemoryDisk, acts: &[Act]) -> Option<MemoryDisk> {
+    let (count, disk) = tried(alloc, disk, acts)?;
+    (count == acts.len()).then_some(disk)
+}
+
+/// Whether all of these are so of the journal of a disk.
+pub(crate) fn are_so(alloc: Global, disk: MemoryDisk, acts: &[Act]) -> bool {
+    disk_after(alloc, disk, acts).is_some()
+}
+
+/// A disk with nothing on it, of which no call fails.
+pub(crate) fn empty_disk(alloc: Global) -> MemoryDisk {
+    MemoryDisk::new(Vec::new(alloc), ALL_CALLS)
 }
