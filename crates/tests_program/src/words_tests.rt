@@ -4,6 +4,7 @@ use commands::WorldKind;
 use program_args::{Ask, Keeping, Misuse, ask};
 use std::alloc::Global;
 use std::net::{IpAddr, Ipv4Addr, Ipv6Addr};
+use std::process::Abort;
 
 // The words of a line; none where memory is refused.
 fn words_of<'a>(alloc: Global, line: &'a str) -> Vec<&'a str> {
@@ -13,10 +14,17 @@ fn words_of<'a>(alloc: Global, line: &'a str) -> Vec<&'a str> {
     }
 }
 
-// That the words of a line are refused.
-fn refuses(alloc: Global, line: &str) -> bool {
-    let words = words_of(alloc, line);
-    is_refused(alloc, &words)
+// That the words are refused.
+fn is_refused(alloc: Global, words: &[&str]) -> bool {
+    matches!(ask(alloc, words), Err(Misuse::Words(_)))
+}
+
+// The words of each of these lines are refused.
+fn are_refused(rt: &impl Abort, alloc: Global, lines: &[&str]) {
+    for line in lines {
+        let words = words_of(alloc, line);
+        assert!(rt; is_refused(alloc, &words), "{line}");
+    }
 }
 
 // The world and the numbers of the config that the words of a line ask to play.
@@ -36,6 +44,84 @@ fn chosen_by(alloc: Global, words: &[&str]) -> Option<(WorldKind, u64, u64, u64)
     }
 }
 
+// A line, and the world and the numbers of the config that its words ask to play.
+const PLAYS: [(&str, (WorldKind, u64, u64, u64)); 16] = [
+    ("slotctl play", (WorldKind::Rename, 4, 4, 1000)),
+    (
+        "slotctl play --world splitter",
+        (WorldKind::Splitter, 4, 4, 1000),
+    ),
+    (
+        "slotctl play --world=grid --m=2",
+        (WorldKind::Grid, 2, 4, 1000),
+    ),
+    (
+        "slotctl play --world rename --k 1",
+        (WorldKind::Rename, 4, 1, 1000),
+    ),
+    (
+        "slotctl play --limit 1 --world tree",
+        (WorldKind::Tree, 4, 4, 1),
+    ),
+    (
+        "slotctl play --m 16 --k 64 --limit 1000000",
+        (WorldKind::Rename, 16, 64, 1_000_000),
+    ),
+    (
+        "slotctl play --m 64 --world tree",
+        (WorldKind::Tree, 64, 4, 1000),
+    ),
+    (
+        "slotctl play --m 1 --k 2 --limit 3",
+        (WorldKind::Rename, 1, 2, 3),
+    ),
+    (
+        "slotctl play --m +4 --k 04",
+        (WorldKind::Rename, 4, 4, 1000),
+    ),
+    ("slotctl play --limit 007", (WorldKind::Rename, 4, 4, 7)),
+    (
+        "slotctl play --world splitter --m 16",
+        (WorldKind::Splitter, 16, 4, 1000),
+    ),
+    (
+        "slotctl play --world grid --m 16",
+        (WorldKind::Grid, 16, 4, 1000),
+    ),
+    (
+        "slotctl play --world rename --m 16",
+        (WorldKind::Rename, 16, 4, 1000),
+    ),
+    (
+        "slotctl play --world tree --m 16",
+        (WorldKind::Tree, 16, 4, 1000),
+    ),
+    (
+        "slotctl play --world tree --m 17",
+        (WorldKind::Tree, 17, 4, 1000),
+    ),
+    (
+        "slotctl play --world tree --m 64",
+        (WorldKind::Tree, 64, 4, 1000),
+    ),
+];
+
+#[test]
+fn options_are_read(rt: HostRuntime) {
+    for (line, want) in &PLAYS {
+        assert!(rt; chosen(rt.alloc(), line) == Some(*want), "{line}");
+    }
+}
+
+#[test]
+fn every_world_is_chosen_by_its_name(rt: HostRuntime) {
+    for kind in WorldKind::all() {
+        let words = ["slotctl", "play", "--world", kind.name()];
+        let told = chosen_by(rt.alloc(), &words);
+        assert!(rt; told == Some((kind, 4, 4, 1000)), "{kind:?}");
+    }
+}
+
 // The seed, the identities, the steps, the runs, how many at once, and the world of what the words of a line ask to draw.
 fn drawing(alloc: Global, line: &str) -> Option<(u64, u64, u64, u64, u64, WorldKind)> {
     let words = words_of(alloc, line);
@@ -44,6 +130,18 @@ fn drawing(alloc: Global, line: &str) -> Option<(u64, u64, u64, u64, u64, WorldK
         _ => None,
     }
 }
+
+// A line, and what its words ask to draw.
+const DRAWINGS: [(&str, (u64, u64, u64, u64, u64, WorldKind)); 2] = [
+    (
+        "slotctl draw --seed 7 --ids 1 --steps 3",
+        (7, 1, 3, 0, 0, WorldKind::Rename),
+    ),
+    (
+        "slotctl draw --world tree --runs 1000 --jobs 64 --steps 1000000 --ids 64 --m 64 --seed 18446744073709551615",
+        (u64::MAX, 64, 1_000_000, 1_000, 64, WorldKind::Tree),
+    ),
+];
 
 const NO_DRAWINGS: [&str; 14] = [
     "slotctl draw --ids 0 --seed 1 --steps 1",
@@ -64,21 +162,10 @@ const NO_DRAWINGS: [&str; 14] = [
 
 #[test]
 fn drawings_are_read(rt: HostRuntime) {
-    for (line, want) in [
-        (
-            "slotctl draw --seed 7 --ids 1 --steps 3",
-            (7, 1, 3, 0, 0, WorldKind::Rename),
-        ),
-        (
-            "slotctl draw --world tree --runs 1000 --jobs 64 --steps 1000000 --ids 64 --m 64 --seed 18446744073709551615",
-            (u64::MAX, 64, 1_000_000, 1_000, 64, WorldKind::Tree),
-        ),
-    ] {
-        assert_eq!(rt; drawing(rt.alloc(), line), Some(want), "{line}");
+    for (line, want) in &DRAWINGS {
+        assert!(rt; drawing(rt.alloc(), line) == Some(*want), "{line}");
     }
-    for line in NO_DRAWINGS {
-        assert!(rt; refuses(rt.alloc(), line), "{line}");
-    }
+    are_refused(&rt, rt.alloc(), &NO_DRAWINGS);
 }
 
 // The world, the port, the workers and the count of what the words of a line ask to serve.
@@ -90,30 +177,33 @@ fn serving(alloc: Global, line: &str) -> Option<(WorldKind, u64, u64, u64)> {
     }
 }
 
+// A line, and what its words ask to serve.
+const SERVINGS: [(&str, (WorldKind, u64, u64, u64)); 2] = [
+    ("slotctl serve", (WorldKind::Rename, 0, 2, 1)),
+    (
+        "slotctl serve --count 1000000 --workers 16 --port 65535 --world tree",
+        (WorldKind::Tree, 65_535, 16, 1_000_000),
+    ),
+];
+
+const NO_SERVINGS: [&str; 9] = [
+    "slotctl serve --port 65536",
+    "slotctl serve --workers 0",
+    "slotctl serve --workers 17",
+    "slotctl serve --count 0",
+    "slotctl serve --count 1000001",
+    "slotctl serve --world grid",
+    "slotctl serve --world splitter",
+    "slotctl serve --m 17",
+    "slotctl serve --seed 1",
+];
+
 #[test]
 fn servings_are_read(rt: HostRuntime) {
-    for (line, want) in [
-        ("slotctl serve", (WorldKind::Rename, 0, 2, 1)),
-        (
-            "slotctl serve --count 1000000 --workers 16 --port 65535 --world tree",
-            (WorldKind::Tree, 65_535, 16, 1_000_000),
-        ),
-    ] {
-        assert_eq!(rt; serving(rt.alloc(), line), Some(want), "{line}");
+    for (line, want) in &SERVINGS {
+        assert!(rt; serving(rt.alloc(), line) == Some(*want), "{line}");
     }
-    for line in [
-        "slotctl serve --port 65536",
-        "slotctl serve --workers 0",
-        "slotctl serve --workers 17",
-        "slotctl serve --count 0",
-        "slotctl serve --count 1000001",
-        "slotctl serve --world grid",
-        "slotctl serve --world splitter",
-        "slotctl serve --m 17",
-        "slotctl serve --seed 1",
-    ] {
-        assert!(rt; refuses(rt.alloc(), line), "{line}");
-    }
+    are_refused(&rt, rt.alloc(), &NO_SERVINGS);
 }
 
 // The address, the port, the clients, the idle seconds and whether it is verbose, of what the words of a line ask to host.
@@ -122,43 +212,6 @@ fn hosting(alloc: Global, line: &str) -> Option<(IpAddr, u64, u64, u64, bool)> {
     match ask(alloc, words.as_slice()) {
         Ok(Ask::Host(h)) => Some((h.address, h.port, h.clients, h.idle, h.verbose)),
         _ => None,
-    }
-}
-
-// Whether the words of a line ask to host with this journal, or with none.
-fn has_journal(alloc: Global, line: &str, journal: Option<&str>) -> bool {
-    let words = words_of(alloc, line);
-    match ask(alloc, words.as_slice()) {
-        Ok(Ask::Host(h)) => match h.keeping {
-            Keeping::Nothing => journal.is_none(),
-            Keeping::Journal(path) => journal == Some(path),
-            Keeping::Log(_) => false,
-        },
-        _ => false,
-    }
-}
-
-// Whether the words of a line ask to host over this log.
-fn has_log(
-    alloc: Global,
-    line: &str,
-    members: &str,
-    prefix: &str,
-    patience: u64,
-    exported: bool,
-) -> bool {
-    let words = words_of(alloc, line);
-    match ask(alloc, words.as_slice()) {
-        Ok(Ask::Host(h)) => match h.keeping {
-            Keeping::Log(log) => {
-                log.members == members
-                    && log.prefix == prefix
-                    && log.patience == patience
-                    && log.exported == exported
-            }
-            _ => false,
-        },
-        _ => false,
     }
 }
 
@@ -186,124 +239,109 @@ const NO_HOSTINGS: [&str; 18] = [
 #[test]
 fn hostings_are_read(rt: HostRuntime) {
     let here = IpAddr::V4(Ipv4Addr::new(127, 0, 0, 1));
+    let line = "slotctl host";
+    let told = hosting(rt.alloc(), line);
+    assert!(rt; told == Some((here, 0, 10_000, 0, false)), "{line}");
+    are_refused(&rt, rt.alloc(), &NO_HOSTINGS);
+}
+
+#[test]
+fn each_option_of_a_hosting_is_read(rt: HostRuntime) {
     let loopback = IpAddr::V6(Ipv6Addr::new(0, 0, 0, 0, 0, 0, 0, 1));
-    for (line, want) in [
-        ("slotctl host", (here, 0, 10_000, 0, false)),
-        (
-            "slotctl host --verbose --idle 31536000 --clients 1000000 --port 65535 --address ::1 --world tree",
-            (loopback, 65_535, 1_000_000, 31_536_000, true),
-        ),
-    ] {
-        assert_eq!(rt; hosting(rt.alloc(), line), Some(want), "{line}");
+    let line =
+        "slotctl host --verbose --idle 31536000 --clients 1000000 --port 65535 --address ::1 --world tree";
+    let told = hosting(rt.alloc(), line);
+    assert!(rt;
+        told == Some((loopback, 65_535, 1_000_000, 31_536_000, true)),
+        "{line}"
+    );
+}
+
+// What a hosting is kept in: nothing, a journal, or a log with its members, its prefix, its patience, and whether it is exported.
+#[derive(Drop)]
+enum Kept {
+    Nothing,
+    Journal(&'static str),
+    Log(&'static str, &'static str, u64, bool),
+}
+
+// A line, and what the hosting that its words ask for is kept in.
+const KEPT: [(&str, Kept); 4] = [
+    ("slotctl host", Kept::Nothing),
+    ("slotctl host --journal a/b", Kept::Journal("a/b")),
+    (
+        "slotctl host --etcd 10.0.0.1:1,10.0.0.2:1 --prefix a/ --export",
+        Kept::Log("10.0.0.1:1,10.0.0.2:1", "a/", 10, true),
+    ),
+    (
+        "slotctl host --patience 3600 --prefix b --etcd 10.0.0.1:1",
+        Kept::Log("10.0.0.1:1", "b", 3_600, false),
+    ),
+];
+
+// Whether that is what it is kept in.
+fn is_kept(keeping: &Keeping<'_>, kept: &Kept) -> bool {
+    match (keeping, kept) {
+        (Keeping::Nothing, Kept::Nothing) => true,
+        (Keeping::Journal(path), Kept::Journal(want)) => *path == *want,
+        (Keeping::Log(log), Kept::Log(members, prefix, patience, exported)) => {
+            log.members == *members
+                && log.prefix == *prefix
+                && log.patience == *patience
+                && log.exported == *exported
+        }
+        _ => false,
     }
-    assert!(rt; has_journal(rt.alloc(), "slotctl host", None));
-    assert!(rt; has_journal(rt.alloc(), "slotctl host --journal a/b", Some("a/b")));
-    let line = "slotctl host --etcd 10.0.0.1:1,10.0.0.2:1 --prefix a/ --export";
-    assert!(rt; has_log(rt.alloc(), line, "10.0.0.1:1,10.0.0.2:1", "a/", 10, true));
-    let line = "slotctl host --patience 3600 --prefix b --etcd 10.0.0.1:1";
-    assert!(rt; has_log(rt.alloc(), line, "10.0.0.1:1", "b", 3_600, false));
-    for line in NO_HOSTINGS {
-        assert!(rt; refuses(rt.alloc(), line), "{line}");
+}
+
+// Whether the words of a line ask to host with it.
+fn hosts_with(alloc: Global, line: &str, kept: &Kept) -> bool {
+    let words = words_of(alloc, line);
+    match ask(alloc, words.as_slice()) {
+        Ok(Ask::Host(hosting)) => is_kept(&hosting.keeping, kept),
+        _ => false,
     }
 }
 
 #[test]
-fn options_are_read(rt: HostRuntime) {
-    for (line, want) in [
-        ("slotctl play", (WorldKind::Rename, 4, 4, 1000)),
-        (
-            "slotctl play --world splitter",
-            (WorldKind::Splitter, 4, 4, 1000),
-        ),
-        (
-            "slotctl play --world=grid --m=2",
-            (WorldKind::Grid, 2, 4, 1000),
-        ),
-        (
-            "slotctl play --world rename --k 1",
-            (WorldKind::Rename, 4, 1, 1000),
-        ),
-        (
-            "slotctl play --limit 1 --world tree",
-            (WorldKind::Tree, 4, 4, 1),
-        ),
-        (
-            "slotctl play --m 16 --k 64 --limit 1000000",
-            (WorldKind::Rename, 16, 64, 1_000_000),
-        ),
-        (
-            "slotctl play --m 64 --world tree",
-            (WorldKind::Tree, 64, 4, 1000),
-        ),
-        (
-            "slotctl play --m 1 --k 2 --limit 3",
-            (WorldKind::Rename, 1, 2, 3),
-        ),
-        (
-            "slotctl play --m +4 --k 04",
-            (WorldKind::Rename, 4, 4, 1000),
-        ),
-        ("slotctl play --limit 007", (WorldKind::Rename, 4, 4, 7)),
-    ] {
-        assert_eq!(rt; chosen(rt.alloc(), line), Some(want), "{line}");
+fn journals_and_logs_are_read(rt: HostRuntime) {
+    for (line, kept) in &KEPT {
+        assert!(rt; hosts_with(rt.alloc(), line, kept), "{line}");
     }
 }
 
-#[test]
-fn every_world_is_chosen_by_its_name(rt: HostRuntime) {
-    for kind in WorldKind::all() {
-        let words = ["slotctl", "play", "--world", kind.name()];
-        assert_eq!(rt;
-            chosen_by(rt.alloc(), &words),
-            Some((kind, 4, 4, 1000)),
-            "{kind:?}"
-        );
+// Options of a number, and the least that is too many.
+const NUMBERS: [(&str, &str); 3] = [("--m", "17"), ("--k", "65"), ("--limit", "1000001")];
+
+// What is no number in the range of any.
+const NO_NUMBERS: [&str; 8] = [
+    "0",
+    "-1",
+    "",
+    " 4",
+    "4 ",
+    "four",
+    "0x4",
+    "18446744073709551617",
+];
+
+// Each of these is refused as the value of an option.
+fn values_are_refused(rt: &impl Abort, alloc: Global, option: &str, values: &[&str]) {
+    for value in values {
+        let words = ["slotctl", "play", option, value];
+        assert!(rt; is_refused(alloc, &words), "at {option} {value}");
     }
 }
 
 #[test]
 fn numbers_are_refused(rt: HostRuntime) {
-    for (option, above) in [("--m", "17"), ("--k", "65"), ("--limit", "1000001")] {
-        for text in [
-            "0",
-            above,
-            "-1",
-            "",
-            " 4",
-            "4 ",
-            "four",
-            "0x4",
-            "18446744073709551617",
-        ] {
-            let words = ["slotctl", "play", option, text];
-            assert!(rt;
-                is_refused(rt.alloc(), words.as_slice()),
-                "at {option} {text}"
-            );
-        }
+    for (option, above) in &NUMBERS {
+        values_are_refused(&rt, rt.alloc(), option, &NO_NUMBERS);
+        values_are_refused(&rt, rt.alloc(), option, &[above]);
     }
 }
 
-#[test]
-fn more_than_sixteen_only_over_a_tree(rt: HostRuntime) {
-    for (world, most) in [("splitter", 16), ("grid", 16), ("rename", 16), ("tree", 64)] {
-        for (text, m) in [("16", 16), ("17", 17), ("64", 64), ("65", 65)] {
-            let words = ["slotctl", "play", "--world", world, "--m", text];
-            assert_eq!(rt;
-                is_refused(rt.alloc(), words.as_slice()),
-                most < m,
-                "{text} in {world}"
-            );
-        }
-    }
-}
-
-// That the words are refused.
-fn is_refused(alloc: Global, words: &[&str]) -> bool {
-    matches!(ask(alloc, words), Err(Misuse::Words(_)))
-}
-
-const NO_WORDS: [&str; 16] = [
+const NO_WORDS: [&str; 26] = [
     "slotctl",
     "slotctl replay",
     "slotctl replay --help",
@@ -320,15 +358,23 @@ const NO_WORDS: [&str; 16] = [
     "slotctl play --world splitter 2",
     "slotctl play --workers 2 --help",
     "slotctl play --k 2 --k 2",
+    "slotctl play --world splitter --m 17",
+    "slotctl play --world splitter --m 64",
+    "slotctl play --world splitter --m 65",
+    "slotctl play --world grid --m 17",
+    "slotctl play --world grid --m 64",
+    "slotctl play --world grid --m 65",
+    "slotctl play --world rename --m 17",
+    "slotctl play --world rename --m 64",
+    "slotctl play --world rename --m 65",
+    "slotctl play --world tree --m 65",
 ];
 
 #[test]
 fn words_are_refused(rt: HostRuntime) {
     assert!(rt; is_refused(rt.alloc(), &[]));
     assert!(rt; is_refused(rt.alloc(), &["slotctl"; 64]));
-    for line in NO_WORDS {
-        assert!(rt; refuses(rt.alloc(), line), "{line}");
-    }
+    are_refused(&rt, rt.alloc(), &NO_WORDS);
 }
 
 // That the words of a line ask for help, whose text has this line of usage.
@@ -340,15 +386,18 @@ fn shows_usage(alloc: Global, line: &str, usage: &str) -> bool {
     }
 }
 
+// A line, and a piece of the help that is shown.
+const HELPS: [(&str, &str); 5] = [
+    ("slotctl --help", "Usage: slotctl <COMMAND>\n"),
+    ("slotctl -h", "Usage: slotctl <COMMAND>\n"),
+    ("slotctl help", "Usage: slotctl <COMMAND>\n"),
+    ("slotctl play --help", "Usage: slotctl play [OPTIONS]\n"),
+    ("slotctl play --m 3 --help", "--m <NUMBER>"),
+];
+
 #[test]
 fn help_is_shown(rt: HostRuntime) {
-    for (line, usage) in [
-        ("slotctl --help", "Usage: slotctl <COMMAND>\n"),
-        ("slotctl -h", "Usage: slotctl <COMMAND>\n"),
-        ("slotctl help", "Usage: slotctl <COMMAND>\n"),
-        ("slotctl play --help", "Usage: slotctl play [OPTIONS]\n"),
-        ("slotctl play --m 3 --help", "--m <NUMBER>"),
-    ] {
+    for (line, usage) in &HELPS {
         assert!(rt; shows_usage(rt.alloc(), line, usage), "{line}");
     }
 }
