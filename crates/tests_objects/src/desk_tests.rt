@@ -3,9 +3,8 @@
 use commands::{Config, Event, Reply, WorldKind};
 use desk::{Desk, law_of_desk, law_of_names};
 use linked_list_allocator::LocalHeap;
-use std::alloc::{Allocator, Global};
+use std::alloc::{AllocError, Allocator, Global};
 use std::process::Abort;
-use std::test::Fail;
 use step_memory::{Refusal, View};
 
 /// A row of a schedule: an event, and its reply without a view; so many steps of one participant, of which the last answers
@@ -289,21 +288,37 @@ fn applies<A: Allocator + Clone>(desk: &mut Desk<A>, event: Event, want: &Reply<
     reply == *want && refusal_in(&reply) == due
 }
 
-/// Whether a row is answered as it says.
-fn answers<A: Allocator + Clone>(desk: &mut Desk<A>, row: &Row) -> bool {
-    let none = View::new();
-    let (id, count, last) = match *row {
-        Row::Does(event, want) => return applies(desk, event, &want.with(&none)),
-        Row::Owner(name, want) => return desk.owner(name) == want.with(&none),
-        Row::Steps(id, count, last) => (id, count, last.with(&none)),
-        Row::Named(id, count, name) => (id, count, Reply::Named(name, sole(id, name))),
-    };
-    for _ in 1..count {
+/// Whether so many steps of one are quiet.
+fn are_quiet<A: Allocator + Clone>(desk: &mut Desk<A>, id: u64, count: usize) -> bool {
+    for _ in 0..count {
         if !applies(desk, Event::Step(id), &Reply::Quiet) {
             return false;
         }
     }
-    applies(desk, Event::Step(id), &last)
+    true
+}
+
+/// Whether so many steps of one are answered so, of which those before the last are quiet.
+fn steps<A: Allocator + Clone>(
+    desk: &mut Desk<A>,
+    id: u64,
+    count: usize,
+    last: &Reply<View>,
+) -> bool {
+    are_quiet(desk, id, count.saturating_sub(1)) && applies(desk, Event::Step(id), last)
+}
+
+/// Whether a row is answered as it says.
+fn answers<A: Allocator + Clone>(desk: &mut Desk<A>, row: &Row) -> bool {
+    let none = View::new();
+    match *row {
+        Row::Does(event, want) => applies(desk, event, &want.with(&none)),
+        Row::Owner(name, want) => desk.owner(name) == want.with(&none),
+        Row::Steps(id, count, last) => steps(desk, id, count, &last.with(&none)),
+        Row::Named(id, count, name) => {
+            steps(desk, id, count, &Reply::Named(name, sole(id, name)))
+        }
+    }
 }
 
 /// Takes the rows of a schedule in turn.
@@ -324,78 +339,85 @@ fn plays(rt: &impl Abort, alloc: Global, schedule: &Schedule) -> Result<(), Refu
 }
 
 /// Plays schedules one by one.
-fn plays_all(rt: &impl Abort, alloc: Global, schedules: &[Schedule]) -> Result<(), Refusal> {
+fn plays_all(rt: &impl Abort, alloc: Global, schedules: &[Schedule]) {
     for schedule in schedules {
-        plays(rt, alloc, schedule)?;
+        let played = plays(rt, alloc, schedule);
+        assert!(rt; played == Ok(()), "{}", schedule.title);
     }
-    Ok(())
 }
 
 /// Participants are named, and spent.
 #[test]
-fn names_are_given(rt: HostRuntime) -> Result<(), Fail> {
-    plays_all(&rt, rt.alloc(), &NAMES)?;
-    Ok(())
+fn names_are_given(rt: HostRuntime) {
+    plays_all(&rt, rt.alloc(), &NAMES);
 }
 
 /// Numbers are taken and given back, and the slots keep their values.
 #[test]
-fn numbers_are_taken(rt: HostRuntime) -> Result<(), Fail> {
-    plays_all(&rt, rt.alloc(), &NUMBERS)?;
-    Ok(())
+fn numbers_are_taken(rt: HostRuntime) {
+    plays_all(&rt, rt.alloc(), &NUMBERS);
+}
+
+/// So many begin, and nobody more.
+fn all_begin(desk: &mut Desk<Global>, most: u64) -> bool {
+    for id in 1..=most {
+        if !applies(desk, Event::Begin(id), &Reply::Ok) {
+            return false;
+        }
+    }
+    let full = Reply::Refused(Refusal::Full);
+    applies(desk, Event::Begin(most.saturating_add(1)), &full)
+}
+
+/// So many enter the pool, and nobody more.
+fn all_enter(desk: &mut Desk<Global>, most: u64) -> bool {
+    for id in 1..=most {
+        if !applies(desk, Event::Enter(id), &Reply::Ok) {
+            return false;
+        }
+    }
+    let crowded = Reply::Refused(Refusal::Crowded);
+    applies(desk, Event::Enter(most.saturating_add(1)), &crowded)
 }
 
 /// A desk of this config is made, takes as many to be named and as many to compete for its pool as it is for, and nobody more.
-fn takes_all(rt: &impl Abort, alloc: Global, config: Config) {
-    let mut desk = Desk::new(alloc, config).expect(rt, "room for a desk");
-    for id in 1..=config.m {
-        assert!(rt;
-            applies(&mut desk, Event::Begin(id), &Reply::Ok),
-            "{config:?}: begin {id}"
-        );
-    }
-    for id in 1..=config.k {
-        assert!(rt;
-            applies(&mut desk, Event::Enter(id), &Reply::Ok),
-            "{config:?}: enter {id}"
-        );
-    }
-    let full = Reply::Refused(Refusal::Full);
-    assert!(rt;
-        applies(&mut desk, Event::Begin(config.m + 1), &full),
-        "{config:?}"
-    );
-    let crowded = Reply::Refused(Refusal::Crowded);
-    assert!(rt;
-        applies(&mut desk, Event::Enter(config.k + 1), &crowded),
-        "{config:?}"
-    );
+fn takes_all(alloc: Global, config: Config) -> Result<bool, Refusal> {
+    let mut desk = Desk::new(alloc, config)?;
+    Ok(all_begin(&mut desk, config.m) && all_enter(&mut desk, config.k))
 }
 
 /// Numbers of participants and sizes of a pool: the ends of each range, and some between them.
 const SIZES: [u64; 9] = [1, 2, 7, 8, 13, 16, 17, 63, 64];
 
-#[test]
-fn desks_of_every_size(rt: HostRuntime) {
-    for world in [WorldKind::Rename, WorldKind::Tree] {
-        for m in SIZES {
-            for k in SIZES {
-                if let Ok(config) = Config::new(world, m, k, 1_000) {
-                    takes_all(&rt, rt.alloc(), config);
-                }
-            }
+/// Desks with pools of each size.
+fn desks_for(rt: &impl Abort, alloc: Global, world: WorldKind, m: u64) {
+    for k in SIZES {
+        if let Ok(config) = Config::new(world, m, k, 1_000) {
+            assert!(rt; takes_all(alloc, config) == Ok(true), "{config:?}");
         }
     }
 }
 
 #[test]
-fn desks_of_every_limit(rt: HostRuntime) {
-    for world in [WorldKind::Rename, WorldKind::Tree] {
-        for limit in [1, 2, 13, 63, 64, 999_999, 1_000_000] {
-            let config = Config::new(world, 13, 13, limit).expect(&rt, "a config in range");
-            takes_all(&rt, rt.alloc(), config);
-        }
+fn desks_of_every_size(rt: HostRuntime) {
+    for m in SIZES {
+        desks_for(&rt, rt.alloc(), WorldKind::Rename, m);
+        desks_for(&rt, rt.alloc(), WorldKind::Tree, m);
     }
+}
+
+/// Desks of each limit.
+fn desks_in(rt: &impl Abort, alloc: Global, world: WorldKind) {
+    for limit in [1, 2, 13, 63, 64, 999_999, 1_000_000] {
+        let config = Config::new(world, 13, 13, limit).expect(rt, "a config in range");
+        assert!(rt; takes_all(alloc, config) == Ok(true), "{config:?}");
+    }
+}
+
+#[test]
+fn desks_of_every_limit(rt: HostRuntime) {
+    desks_in(&rt, rt.alloc(), WorldKind::Rename);
+    desks_in(&rt, rt.alloc(), WorldKind::Tree);
 }
 
 /// Why a desk of this world is refused, if it is.
@@ -410,68 +432,108 @@ fn a_desk_for_two_worlds(rt: HostRuntime) {
     law_of_desk();
     law_of_names();
     for world in WorldKind::all() {
-        let want = if world.gives_names() {
-            None
-        } else {
-            Some(Refusal::OutOfRange)
-        };
-        assert_eq!(rt; refusal_of(&rt, rt.alloc(), world), want, "{world:?}");
+        let want = (!world.gives_names()).then_some(Refusal::OutOfRange);
+        assert!(rt; refusal_of(&rt, rt.alloc(), world) == want, "{world:?}");
     }
+}
+
+/// Whether a beginning and the steps before a name leave no view beside their replies.
+fn leave_no_view(desk: &mut Desk<Global>, view: &mut View) -> bool {
+    let begun = desk.apply_short(Event::Begin(7), view);
+    for _ in 0..21 {
+        desk.apply_short(Event::Step(7), view);
+        if *view != View::new() {
+            return false;
+        }
+    }
+    begun == OK
+}
+
+/// Whether a reply with the view beside it is the name, and is short again without it.
+fn is_named(reply: Reply<()>, view: &View) -> bool {
+    let whole = reply.with(view);
+    let mut beside = View::new();
+    let again = whole.shorten(&mut beside);
+    whole == Reply::Named(1, sole(7, 1)) && again == reply && beside == sole(7, 1)
+}
+
+/// The replies of a step that gives a name and of one that is refused: whether the view is beside the first, and stays.
+fn short_replies(desk: &mut Desk<Global>, view: &mut View) -> bool {
+    let named = desk.apply_short(Event::Step(7), view);
+    let was_beside = is_named(named, view);
+    let refused = desk.apply_short(Event::Step(7), view);
+    let replies = (named.is_refusal(), refused, refused.is_refusal());
+    was_beside && is_named(named, view) && replies == (false, FINISHED, true)
 }
 
 /// A reply of a few bytes has its view beside it, and with it is the whole reply.
 #[test]
-fn a_view_beside_its_reply(rt: HostRuntime) -> Result<(), Fail> {
-    let mut desk = Desk::new(rt.alloc(), Config::new(WorldKind::Tree, 2, 4, 1000)?)?;
+fn a_view_beside_its_reply(rt: HostRuntime) {
+    let config = Config::new(WorldKind::Tree, 2, 4, 1000).expect(&rt, "a config in range");
+    let mut desk = Desk::new(rt.alloc(), config).expect(&rt, "a desk");
     let mut view = View::new();
-    let begun = desk.apply_short(Event::Begin(7), &mut view);
-    for _ in 0..21 {
-        desk.apply_short(Event::Step(7), &mut view);
-        assert!(rt; view == View::new());
-    }
-    let named = desk.apply_short(Event::Step(7), &mut view);
-    let whole = named.with(&view);
-    let refused = desk.apply_short(Event::Step(7), &mut view);
-    let mut beside = View::new();
-    let again = named.with(&view).shorten(&mut beside);
-    assert_eq!(rt;
-        [begun, named, refused, again],
-        [OK, Reply::Named(1, ()), FINISHED, named]
-    );
-    assert!(rt; whole == Reply::Named(1, sole(7, 1)) && beside == sole(7, 1));
-    assert!(rt; refused.is_refusal() && !named.is_refusal());
-    Ok(())
+    assert!(rt; leave_no_view(&mut desk, &mut view));
+    assert!(rt; short_replies(&mut desk, &mut view));
 }
 
 /// Before the heap is full.
-const BEFORE: [Row; 3] = [
+const BEFORE: &[Row] = &[
     Row::Does(Event::Begin(10), OK),
     Row::Does(Event::Begin(20), OK),
     Row::Steps(10, 1, Reply::Quiet),
 ];
 
 /// While it is full.
-const WHILE_FULL: [Row; 3] = [
+const WHILE_FULL: &[Row] = &[
     Row::Steps(10, 4, Reply::Place(1)),
     Row::Steps(20, 4, NO_MEMORY),
     Row::Steps(20, 1, NO_MEMORY),
 ];
 
-/// A node of the tree for which there is no room, and then there is.
-#[test]
-fn a_node_is_refused(rt: HostRuntime) -> Result<(), Fail> {
-    let heap = LocalHeap::new(rt.alloc(), 65_536)?;
-    let mut desk = Desk::new(&heap, Config::new(WorldKind::Tree, 2, 4, 1000)?)?;
-    play(&rt, &mut desk, "before", &BEFORE);
-    let mut boxes = Vec::new(rt.alloc());
+/// With memory again.
+const WITH_MEMORY: &[Row] = &[Row::Steps(20, 5, Reply::Place(3))];
+
+/// Boxes that take what a large heap has left.
+fn filling(alloc: Global, heap: &LocalHeap) -> Result<Vec<Box<[u64; 2], &LocalHeap>>, AllocError> {
+    let mut boxes = Vec::new(alloc);
     for _ in 0..4_096 {
-        if let Ok(filled) = Box::new(&heap, [0u64; 2]) {
+        if let Ok(filled) = Box::new(heap, [0u64; 2]) {
             boxes.push(filled)?;
         }
     }
-    play(&rt, &mut desk, "while the heap is full", &WHILE_FULL);
-    drop(boxes);
-    let placed = [Row::Steps(20, 5, Reply::Place(3))];
-    play(&rt, &mut desk, "with memory again", &placed);
+    Ok(boxes)
+}
+
+/// Takes rows of a schedule while a heap is full.
+fn plays_while_full<A: Allocator + Clone>(
+    rt: &impl Abort,
+    alloc: Global,
+    heap: &LocalHeap,
+    desk: &mut Desk<A>,
+) -> Result<(), Refusal> {
+    let _boxes = filling(alloc, heap)?;
+    play(rt, desk, "while the heap is full", WHILE_FULL);
     Ok(())
+}
+
+/// A schedule at a desk whose heap is full meanwhile.
+fn plays_in<A: Allocator + Clone>(
+    rt: &impl Abort,
+    alloc: Global,
+    heap: &LocalHeap,
+    desk: &mut Desk<A>,
+) -> Result<(), Refusal> {
+    play(rt, desk, "before", BEFORE);
+    let played = plays_while_full(rt, alloc, heap, desk);
+    play(rt, desk, "with memory again", WITH_MEMORY);
+    played
+}
+
+/// A node of the tree for which there is no room, and then there is.
+#[test]
+fn a_node_is_refused(rt: HostRuntime) {
+    let heap = LocalHeap::new(rt.alloc(), 65_536).expect(&rt, "a heap");
+    let config = Config::new(WorldKind::Tree, 2, 4, 1000).expect(&rt, "a config in range");
+    let mut desk = Desk::new(&heap, config).expect(&rt, "a desk");
+    assert!(rt; plays_in(&rt, rt.alloc(), &heap, &mut desk) == Ok(()));
 }

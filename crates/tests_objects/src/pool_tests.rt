@@ -1,12 +1,11 @@
 //! Stays in a pool of numbers, which may widen meanwhile.
 
-use bit_allocator::{Competitor, Pool, Probe, Stay, law_of_own_accesses, law_of_pool_calls};
+use bit_allocator::{Pool, Probe, Stay, law_of_own_accesses, law_of_pool_calls};
 use std::alloc::Global;
 use std::process::Abort;
-use std::test::Fail;
 use step_memory::Refusal;
 
-/// A call of a pool, or a question.
+/// A call of a pool, or a question: of a competitor by its index, whether it is there, and which number it has settled on.
 #[derive(Drop)]
 enum Call {
     Enter(u64),
@@ -16,85 +15,38 @@ enum Call {
     Widen(u64),
     Number(u64),
     Holder(u8),
+    Competitor(usize),
+    Settled(usize),
     Size,
 }
 
 /// What a call answers: a number or an identity, or nothing but that it is done, has missed, or that there is nobody.
 type Answer = Result<Option<u64>, Refusal>;
 
-/// Makes a call.
-fn answer(pool: &mut Pool<Global>, call: &Call) -> Answer {
-    match *call {
-        Call::Enter(id) => pool.enter(id)?,
-        Call::Probe(id) => {
-            if let Probe::Got(number) = pool.probe(id)? {
-                return Ok(Some(u64::from(number)));
-            }
-        }
-        Call::Acquire(id) => return Ok(Some(u64::from(pool.acquire(id)?))),
-        Call::Leave(id) => return Ok(Some(u64::from(pool.leave(id)?))),
-        Call::Widen(size) => pool.widen(size)?,
-        Call::Number(id) => return Ok(Some(u64::from(pool.number_of(id)?))),
-        Call::Holder(number) => return Ok(pool.holder_of(number)),
-        Call::Size => return Ok(Some(pool.size())),
-    }
-    Ok(None)
+/// Calls of a pool of this size.
+#[derive(Drop)]
+struct Schedule {
+    title: &'static str,
+    size: u64,
+    rows: &'static [(Call, Answer)],
 }
 
-/// Makes calls one by one, and compares what they answer.
-fn plays(rt: &impl Abort, pool: &mut Pool<Global>, rows: &[(Call, Answer)]) {
-    for (i, (call, want)) in rows.iter().enumerate() {
-        assert_eq!(rt; answer(pool, call), *want, "row {i}");
-    }
-}
-
-#[test]
-fn sizes(rt: HostRuntime) {
-    for size in 0..66 {
-        let taken = (1..65).contains(&size);
-        let made = Pool::new(rt.alloc(), size);
-        assert_eq!(rt; made.is_ok(), taken, "at {size}");
-    }
-    law_of_pool_calls();
-    law_of_own_accesses();
-}
-
-#[test]
-fn widens_from_each_size_to_each(rt: HostRuntime) -> Result<(), Fail> {
-    for size in 1..65u64 {
-        for more in 0..66u64 {
-            let mut pool = Pool::new(rt.alloc(), size)?;
-            let wider = size < more && more <= 64;
-            assert_eq!(rt; pool.widen(more).is_ok(), wider, "from {size} to {more}");
-            let now = if wider { more } else { size };
-            assert_eq!(rt; pool.size(), now, "from {size} to {more}");
-        }
-    }
-    Ok(())
-}
-
-#[test]
-fn widens_before_the_only_number_is_held(rt: HostRuntime) -> Result<(), Fail> {
-    plays(
-        &rt,
-        &mut Pool::new(rt.alloc(), 1)?,
-        &[
+const SCHEDULES: &[Schedule] = &[
+    Schedule {
+        title: "the pool widens before the only number is held",
+        size: 1,
+        rows: &[
             (Call::Enter(5), Ok(None)),
             (Call::Widen(2), Ok(None)),
             (Call::Probe(5), Ok(Some(1))),
             (Call::Enter(6), Ok(None)),
             (Call::Probe(6), Ok(Some(2))),
         ],
-    );
-    Ok(())
-}
-
-#[test]
-fn widens_while_the_last_number_is_held(rt: HostRuntime) -> Result<(), Fail> {
-    plays(
-        &rt,
-        &mut Pool::new(rt.alloc(), 2)?,
-        &[
+    },
+    Schedule {
+        title: "the pool widens while the last number is held",
+        size: 2,
+        rows: &[
             (Call::Enter(5), Ok(None)),
             (Call::Probe(5), Ok(Some(1))),
             (Call::Enter(6), Ok(None)),
@@ -114,16 +66,11 @@ fn widens_while_the_last_number_is_held(rt: HostRuntime) -> Result<(), Fail> {
             (Call::Enter(10), Err(Refusal::Crowded)),
             (Call::Widen(65), Err(Refusal::OutOfRange)),
         ],
-    );
-    Ok(())
-}
-
-#[test]
-fn whole_stays(rt: HostRuntime) -> Result<(), Fail> {
-    plays(
-        &rt,
-        &mut Pool::new(rt.alloc(), 3)?,
-        &[
+    },
+    Schedule {
+        title: "whole stays",
+        size: 3,
+        rows: &[
             (Call::Acquire(0), Err(Refusal::ZeroIdentity)),
             (Call::Acquire(5), Ok(Some(1))),
             (Call::Acquire(5), Err(Refusal::AlreadyCompeting)),
@@ -139,25 +86,19 @@ fn whole_stays(rt: HostRuntime) -> Result<(), Fail> {
             (Call::Acquire(8), Ok(Some(2))),
             (Call::Probe(8), Err(Refusal::Holding)),
         ],
-    );
-    plays(
-        &rt,
-        &mut Pool::new(rt.alloc(), 1)?,
-        &[
+    },
+    Schedule {
+        title: "a whole stay in a pool of one number",
+        size: 1,
+        rows: &[
             (Call::Acquire(9), Ok(Some(1))),
             (Call::Acquire(5), Err(Refusal::Crowded)),
         ],
-    );
-    Ok(())
-}
-
-#[test]
-fn two_take_turns(rt: HostRuntime) -> Result<(), Fail> {
-    let mut pool = Pool::new(rt.alloc(), 2)?;
-    plays(
-        &rt,
-        &mut pool,
-        &[
+    },
+    Schedule {
+        title: "two take turns",
+        size: 2,
+        rows: &[
             (Call::Size, Ok(Some(2))),
             (Call::Enter(0), Err(Refusal::ZeroIdentity)),
             (Call::Enter(5), Ok(None)),
@@ -170,23 +111,11 @@ fn two_take_turns(rt: HostRuntime) -> Result<(), Fail> {
             (Call::Enter(7), Err(Refusal::Crowded)),
             (Call::Number(6), Ok(Some(2))),
             (Call::Holder(1), Ok(Some(5))),
-        ],
-    );
-    let seen = [
-        Competitor {
-            identity: 5,
-            stay: Stay::Settled(1),
-        },
-        Competitor {
-            identity: 6,
-            stay: Stay::Settled(2),
-        },
-    ];
-    assert_eq!(rt; pool.competitors(), seen.as_slice());
-    plays(
-        &rt,
-        &mut pool,
-        &[
+            (Call::Competitor(0), Ok(Some(5))),
+            (Call::Settled(0), Ok(Some(1))),
+            (Call::Competitor(1), Ok(Some(6))),
+            (Call::Settled(1), Ok(Some(2))),
+            (Call::Competitor(2), Ok(None)),
             (Call::Leave(5), Ok(Some(1))),
             (Call::Leave(5), Err(Refusal::NotCompeting)),
             (Call::Probe(7), Err(Refusal::NotCompeting)),
@@ -195,6 +124,103 @@ fn two_take_turns(rt: HostRuntime) -> Result<(), Fail> {
             (Call::Probe(7), Ok(Some(1))),
             (Call::Leave(6), Ok(Some(2))),
         ],
-    );
+    },
+];
+
+/// Who a competitor is.
+fn competing(pool: &Pool<Global>, at: usize) -> Option<u64> {
+    Some(pool.competitors().get(at)?.identity)
+}
+
+/// The number that a competitor has settled on.
+fn settled(pool: &Pool<Global>, at: usize) -> Option<u64> {
+    match pool.competitors().get(at)?.stay {
+        Stay::Settled(number) => Some(u64::from(number)),
+        Stay::Seeking(_) => None,
+    }
+}
+
+/// Asks the pool.
+fn told(pool: &Pool<Global>, call: &Call) -> Answer {
+    match *call {
+        Call::Number(id) => Ok(Some(u64::from(pool.number_of(id)?))),
+        Call::Holder(number) => Ok(pool.holder_of(number)),
+        Call::Competitor(at) => Ok(competing(pool, at)),
+        Call::Settled(at) => Ok(settled(pool, at)),
+        _ => Ok(Some(pool.size())),
+    }
+}
+
+/// Makes a call.
+fn answer(pool: &mut Pool<Global>, call: &Call) -> Answer {
+    match *call {
+        Call::Enter(id) => pool.enter(id)?,
+        Call::Probe(id) => {
+            if let Probe::Got(number) = pool.probe(id)? {
+                return Ok(Some(u64::from(number)));
+            }
+        }
+        Call::Acquire(id) => return Ok(Some(u64::from(pool.acquire(id)?))),
+        Call::Leave(id) => return Ok(Some(u64::from(pool.leave(id)?))),
+        Call::Widen(size) => pool.widen(size)?,
+        _ => return told(pool, call),
+    }
+    Ok(None)
+}
+
+/// Makes the calls of a schedule one by one, and compares what they answer.
+fn plays(rt: &impl Abort, alloc: Global, schedule: &Schedule) -> Result<(), Refusal> {
+    let mut pool = Pool::new(alloc, schedule.size)?;
+    for (i, (call, want)) in schedule.rows.iter().enumerate() {
+        assert!(rt;
+            answer(&mut pool, call) == *want,
+            "{}: row {i}",
+            schedule.title
+        );
+    }
     Ok(())
+}
+
+#[test]
+fn schedules_of_a_pool(rt: HostRuntime) {
+    for schedule in SCHEDULES {
+        assert!(rt; plays(&rt, rt.alloc(), schedule) == Ok(()));
+    }
+    law_of_pool_calls();
+    law_of_own_accesses();
+}
+
+#[test]
+fn sizes(rt: HostRuntime) {
+    for size in 0..66 {
+        let made = Pool::new(rt.alloc(), size).is_ok();
+        assert!(rt; made == (1..65).contains(&size), "at {size}");
+    }
+}
+
+/// Whether a pool widens, if at all, and its size then.
+fn widened(alloc: Global, size: u64, more: u64) -> Result<(bool, u64), Refusal> {
+    let mut pool = Pool::new(alloc, size)?;
+    let is_wider = pool.widen(more).is_ok();
+    Ok((is_wider, pool.size()))
+}
+
+/// A pool of this size widens to each that is larger.
+fn widens_from(rt: &impl Abort, alloc: Global, size: u64) {
+    for more in 0..66 {
+        let want = if size < more && more <= 64 {
+            (true, more)
+        } else {
+            (false, size)
+        };
+        let is = widened(alloc, size, more);
+        assert!(rt; is == Ok(want), "from {size} to {more}");
+    }
+}
+
+#[test]
+fn widens_from_each_size_to_each(rt: HostRuntime) {
+    for size in 1..65 {
+        widens_from(&rt, rt.alloc(), size);
+    }
 }

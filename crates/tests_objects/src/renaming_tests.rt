@@ -10,7 +10,7 @@ use rename_core::{
 };
 use snapshot_core::Fixed;
 use snapshot_places::{Grid, TreePlaces};
-use std::alloc::{Allocator, Global};
+use std::alloc::{AllocError, Allocator, Global};
 use std::process::Abort;
 use std::test::Fail;
 use step_memory::{Place, Refusal, View};
@@ -27,24 +27,24 @@ enum Last {
     Refused(Refusal),
 }
 
-/// A row of a schedule: one begins, and is answered this, or takes so many steps.
+/// A row of a schedule: one begins, and is answered this, or takes so many steps; or the world tells this name of a
+/// participant, this owner of a name, or these proposals.
 #[derive(Clone, Copy, Drop)]
 enum Row {
     Begins(u64, Result<(), Refusal>),
     Steps(u64, usize, Last),
+    Name(u64, Option<u64>),
+    Owner(u64, Option<u64>),
+    Proposals(&'static [(u64, u64)]),
 }
 
-/// A schedule in a world of so many participants, each with so many proposals; then the names that the world tells of
-/// participants, the owners that it tells of names, and the proposals.
+/// A schedule in a world of so many participants, each with so many proposals.
 #[derive(Drop)]
 struct Schedule {
     title: &'static str,
     m: u64,
     limit: u64,
     rows: &'static [Row],
-    names: &'static [(u64, Option<u64>)],
-    owners: &'static [(u64, Option<u64>)],
-    proposals: &'static [(u64, u64)],
 }
 
 /// 10 begins.
@@ -68,10 +68,11 @@ const GRID: [Schedule; 7] = [
             Row::Steps(7, 3, Last::Proposed(1)),
             Row::Steps(7, 2, Last::Named(1)),
             Row::Steps(7, 1, Last::Refused(Refusal::Finished)),
+            Row::Name(7, Some(1)),
+            Row::Owner(1, Some(7)),
+            Row::Owner(2, None),
+            Row::Proposals(&[(7, 1)]),
         ],
-        names: &[(7, Some(1))],
-        owners: &[(1, Some(7)), (2, None)],
-        proposals: &[(7, 1)],
     },
     Schedule {
         title: "one alone where another may come",
@@ -82,10 +83,10 @@ const GRID: [Schedule; 7] = [
             Row::Steps(7, 4, Last::Placed(0)),
             Row::Steps(7, 7, Last::Proposed(1)),
             Row::Steps(7, 6, Last::Named(1)),
+            Row::Name(7, Some(1)),
+            Row::Owner(1, Some(7)),
+            Row::Proposals(&[(7, 1)]),
         ],
-        names: &[(7, Some(1))],
-        owners: &[(1, Some(7))],
-        proposals: &[(7, 1)],
     },
     Schedule {
         title: "begins and steps that are refused",
@@ -100,10 +101,11 @@ const GRID: [Schedule; 7] = [
             Row::Begins(7, Err(Refusal::Full)),
             Row::Steps(7, 1, Last::Refused(Refusal::NotBegun)),
             Row::Begins(0, Err(Refusal::ZeroIdentity)),
+            Row::Name(5, None),
+            Row::Name(7, None),
+            Row::Owner(1, None),
+            Row::Proposals(&[]),
         ],
-        names: &[(5, None), (7, None)],
-        owners: &[(1, None)],
-        proposals: &[],
     },
     Schedule {
         title: "the largest name is reached",
@@ -131,10 +133,12 @@ const GRID: [Schedule; 7] = [
             Row::Steps(20, 7, Last::Proposed(3)),
             Row::Steps(10, 6, Last::Named(2)),
             Row::Steps(20, 6, Last::Named(3)),
+            Row::Name(10, Some(2)),
+            Row::Name(20, Some(3)),
+            Row::Owner(2, Some(10)),
+            Row::Owner(1, None),
+            Row::Proposals(&[(10, 2), (20, 3)]),
         ],
-        names: &[(10, Some(2)), (20, Some(3))],
-        owners: &[(2, Some(10)), (1, None)],
-        proposals: &[(10, 2), (20, 3)],
     },
     Schedule {
         title: "a borrowed view",
@@ -155,10 +159,10 @@ const GRID: [Schedule; 7] = [
             Row::Steps(10, 7, Last::Proposed(2)),
             Row::Steps(10, 6, Last::Named(2)),
             Row::Steps(20, 6, Last::Named(3)),
+            Row::Name(10, Some(2)),
+            Row::Name(20, Some(3)),
+            Row::Proposals(&[(10, 2), (20, 3)]),
         ],
-        names: &[(10, Some(2)), (20, Some(3))],
-        owners: &[],
-        proposals: &[(10, 2), (20, 3)],
     },
     Schedule {
         title: "the largest identity",
@@ -176,10 +180,10 @@ const GRID: [Schedule; 7] = [
             Row::Steps(u64::MAX, 7, Last::Proposed(3)),
             Row::Steps(u64::MAX, 6, Last::Named(3)),
             Row::Steps(1, 6, Last::Named(1)),
+            Row::Name(u64::MAX, Some(3)),
+            Row::Name(1, Some(1)),
+            Row::Proposals(&[(1, 1), (u64::MAX, 3)]),
         ],
-        names: &[(u64::MAX, Some(3)), (1, Some(1))],
-        owners: &[],
-        proposals: &[(1, 1), (u64::MAX, 3)],
     },
     Schedule {
         title: "a participant that is spent",
@@ -197,10 +201,10 @@ const GRID: [Schedule; 7] = [
             Row::Steps(10, 6, Last::Spent),
             Row::Steps(10, 1, Last::Refused(Refusal::Spent)),
             Row::Steps(20, 2, Last::Named(1)),
+            Row::Name(10, None),
+            Row::Owner(1, Some(20)),
+            Row::Proposals(BOTH),
         ],
-        names: &[(10, None)],
-        owners: &[(1, Some(20))],
-        proposals: BOTH,
     },
 ];
 
@@ -216,10 +220,9 @@ const TREE: [Schedule; 2] = [
             Row::Steps(7, 9, Last::Proposed(1)),
             Row::Steps(7, 8, Last::Named(1)),
             Row::Steps(7, 1, Last::Refused(Refusal::Finished)),
+            Row::Name(7, Some(1)),
+            Row::Proposals(&[(7, 1)]),
         ],
-        names: &[(7, Some(1))],
-        owners: &[],
-        proposals: &[(7, 1)],
     },
     Schedule {
         title: "two",
@@ -236,10 +239,11 @@ const TREE: [Schedule; 2] = [
             Row::Steps(10, 14, Last::Saw(BOTH)),
             Row::Steps(10, 15, Last::Proposed(2)),
             Row::Steps(10, 14, Last::Named(2)),
+            Row::Name(10, Some(2)),
+            Row::Name(20, Some(1)),
+            Row::Owner(1, Some(20)),
+            Row::Proposals(&[(10, 2), (20, 1)]),
         ],
-        names: &[(10, Some(2)), (20, Some(1))],
-        owners: &[(1, Some(20))],
-        proposals: &[(10, 2), (20, 1)],
     },
 ];
 
@@ -261,14 +265,17 @@ const SEGMENTS: [Schedule; 1] = [Schedule {
         Row::Steps(20, 5, Last::Proposed(3)),
         Row::Steps(10, 4, Last::Named(2)),
         Row::Steps(20, 4, Last::Named(3)),
+        Row::Name(10, Some(2)),
+        Row::Name(20, Some(3)),
+        Row::Proposals(&[(10, 2), (20, 3)]),
     ],
-    names: &[(10, Some(2)), (20, Some(3))],
-    owners: &[],
-    proposals: &[(10, 2), (20, 3)],
 }];
 
-/// Over a tree whose nodes are in a full heap: 20 is refused one.
-const BEFORE_MEMORY: [Row; 5] = [
+/// Before the heap of a tree's nodes is full.
+const BEFORE_FULL: &[Row] = &[BEGINS_10, BEGINS_20, Row::Steps(10, 1, Last::Quiet)];
+
+/// While it is full: 20 is refused a node.
+const WHILE_FULL: &[Row] = &[
     Row::Steps(10, 4, Last::Placed(1)),
     Row::Steps(10, 9, Last::Proposed(1)),
     Row::Steps(10, 8, Last::Named(1)),
@@ -277,7 +284,7 @@ const BEFORE_MEMORY: [Row; 5] = [
 ];
 
 /// With memory again.
-const WITH_MEMORY: [Row; 5] = [
+const WITH_MEMORY: &[Row] = &[
     Row::Steps(20, 5, Last::Placed(3)),
     Row::Steps(20, 15, Last::Proposed(1)),
     Row::Steps(20, 14, Last::Saw(BOTH)),
@@ -318,6 +325,25 @@ fn fits(reply: Result<Reply<View>, Refusal>, name: Option<u64>, last: &Last) -> 
     }
 }
 
+/// Whether so many steps of one are quiet.
+fn are_quiet<W: RenamePlaces<A> + Drop, A: Allocator>(
+    world: &mut RenameWorld<W, A>,
+    id: u64,
+    count: usize,
+) -> bool
+where
+    W::Walker: Copy,
+    W::Walk: Copy,
+    W::Value: Drop,
+{
+    for _ in 0..count {
+        if !matches!(world.step(id), Ok(Reply::Quiet)) {
+            return false;
+        }
+    }
+    true
+}
+
 /// Whether a row is answered as it says.
 fn answers<W: RenamePlaces<A> + Drop, A: Allocator>(
     world: &mut RenameWorld<W, A>,
@@ -328,17 +354,19 @@ where
     W::Walk: Copy,
     W::Value: Drop,
 {
-    let (id, count, last) = match row {
-        Row::Begins(id, want) => return world.begin(*id) == *want,
-        Row::Steps(id, count, last) => (*id, *count, last),
-    };
-    for _ in 1..count {
-        if !matches!(world.step(id), Ok(Reply::Quiet)) {
-            return false;
+    match *row {
+        Row::Begins(id, want) => world.begin(id) == want,
+        Row::Steps(id, count, last) => {
+            if !are_quiet(world, id, count.saturating_sub(1)) {
+                return false;
+            }
+            let reply = world.step(id);
+            fits(reply, world.name_of(id), &last)
         }
+        Row::Name(id, want) => world.name_of(id) == want,
+        Row::Owner(name, want) => world.owner_of(name) == want,
+        Row::Proposals(want) => world.proposals().pairs() == want,
     }
-    let reply = world.step(id);
-    fits(reply, world.name_of(id), last)
 }
 
 /// Takes the rows of a schedule in turn.
@@ -358,49 +386,13 @@ where
     }
 }
 
-/// Whether a world tells these names.
-fn names_are<W: RenamePlaces<A> + Drop, A: Allocator>(
-    world: &RenameWorld<W, A>,
-    names: &[(u64, Option<u64>)],
-) -> bool
-where
-    W::Walker: Copy,
-    W::Walk: Copy,
-    W::Value: Drop,
-{
-    for (id, want) in names {
-        if world.name_of(*id) != *want {
-            return false;
-        }
-    }
-    true
-}
-
-/// Whether a world tells these owners of names.
-fn owners_are<W: RenamePlaces<A> + Drop, A: Allocator>(
-    world: &RenameWorld<W, A>,
-    owners: &[(u64, Option<u64>)],
-) -> bool
-where
-    W::Walker: Copy,
-    W::Walk: Copy,
-    W::Value: Drop,
-{
-    for (name, want) in owners {
-        if world.owner_of(*name) != *want {
-            return false;
-        }
-    }
-    true
-}
-
-/// Plays a schedule in a new world: whether it then tells what it should.
+/// Plays a schedule in a new world.
 fn plays<W: RenamePlaces<Global> + Drop>(
     rt: &impl Abort,
     alloc: Global,
     kind: WorldKind,
     schedule: &Schedule,
-) -> Result<bool, Refusal>
+) -> Result<(), Refusal>
 where
     W::Walker: Copy,
     W::Walk: Copy,
@@ -409,9 +401,7 @@ where
     let config = Config::new(kind, schedule.m, 4, schedule.limit)?;
     let mut world = RenameWorld::<W, Global>::new(alloc, config)?;
     play(rt, &mut world, schedule.title, schedule.rows);
-    let names = names_are(&world, schedule.names);
-    let owners = owners_are(&world, schedule.owners);
-    Ok(names && owners && world.proposals().pairs() == schedule.proposals)
+    Ok(())
 }
 
 /// Plays schedules one by one, each in a new world.
@@ -427,8 +417,8 @@ where
     W::Value: Drop,
 {
     for schedule in schedules {
-        let told = plays::<W>(rt, alloc, kind, schedule);
-        assert!(rt; told == Ok(true), "{}", schedule.title);
+        let played = plays::<W>(rt, alloc, kind, schedule);
+        assert!(rt; played == Ok(()), "{}", schedule.title);
     }
 }
 
@@ -521,23 +511,59 @@ fn worlds_of_every_size(rt: HostRuntime) {
     begins_in_each::<TreePlaces<Global>>(&rt, rt.alloc(), WorldKind::Tree, 1000);
 }
 
-#[test]
-fn a_node_that_was_refused_is_made_later(rt: HostRuntime) -> Result<(), Fail> {
-    let config = config_of(&rt, WorldKind::Tree, 2, 1000);
-    let heap = LocalHeap::new(rt.alloc(), 65_536)?;
-    let mut world = RenameWorld::<TreePlaces<&LocalHeap>, &LocalHeap>::new(&heap, config)?;
-    let begun = [BEGINS_10, BEGINS_20, Row::Steps(10, 1, Last::Quiet)];
-    play(&rt, &mut world, "before the heap is full", &begun);
-    let mut boxes = Vec::new(rt.alloc());
+/// Boxes that take what a large heap has left.
+fn filling(alloc: Global, heap: &LocalHeap) -> Result<Vec<Box<[u64; 2], &LocalHeap>>, AllocError> {
+    let mut boxes = Vec::new(alloc);
     for _ in 0..4_096 {
-        if let Ok(filled) = Box::new(&heap, [0u64; 2]) {
+        if let Ok(filled) = Box::new(heap, [0u64; 2]) {
             boxes.push(filled)?;
         }
     }
-    play(&rt, &mut world, "while the heap is full", &BEFORE_MEMORY);
-    drop(boxes);
-    play(&rt, &mut world, "with memory again", &WITH_MEMORY);
+    Ok(boxes)
+}
+
+/// Takes rows of a schedule while a heap is full.
+fn plays_while_full<W: RenamePlaces<A> + Drop, A: Allocator>(
+    rt: &impl Abort,
+    alloc: Global,
+    heap: &LocalHeap,
+    world: &mut RenameWorld<W, A>,
+) -> Result<(), Refusal>
+where
+    W::Walker: Copy,
+    W::Walk: Copy,
+    W::Value: Drop,
+{
+    let _boxes = filling(alloc, heap)?;
+    play(rt, world, "while the heap is full", WHILE_FULL);
     Ok(())
+}
+
+/// A schedule in a world whose heap is full meanwhile.
+fn plays_in<W: RenamePlaces<A> + Drop, A: Allocator>(
+    rt: &impl Abort,
+    alloc: Global,
+    heap: &LocalHeap,
+    world: &mut RenameWorld<W, A>,
+) -> Result<(), Refusal>
+where
+    W::Walker: Copy,
+    W::Walk: Copy,
+    W::Value: Drop,
+{
+    play(rt, world, "before the heap is full", BEFORE_FULL);
+    let played = plays_while_full(rt, alloc, heap, world);
+    play(rt, world, "with memory again", WITH_MEMORY);
+    played
+}
+
+#[test]
+fn a_node_that_was_refused_is_made_later(rt: HostRuntime) {
+    let heap = LocalHeap::new(rt.alloc(), 65_536).expect(&rt, "a heap");
+    let config = config_of(&rt, WorldKind::Tree, 2, 1000);
+    let made = RenameWorld::<TreePlaces<&LocalHeap>, &LocalHeap>::new(&heap, config);
+    let mut world = made.expect(&rt, "a world");
+    assert!(rt; plays_in(&rt, rt.alloc(), &heap, &mut world) == Ok(()));
 }
 
 /// No world of any other kind than this is made over these places.
@@ -563,23 +589,29 @@ fn worlds_in_which_no_names_are_given(rt: HostRuntime) {
     is_no_other::<TreePlaces<Global>>(&rt, rt.alloc(), WorldKind::Tree);
 }
 
-/// Sizes of which one is out of range: most participants, the pool's size, and the round limit.
-const OUT_OF_RANGE: [(u64, u64, u64); 5] = [
-    (0, 4, 1000),
-    (4, 0, 1000),
-    (4, 65, 1000),
-    (4, 4, 0),
-    (4, 4, 1_000_001),
+/// Most participants, the pool's size and the round limit, and why they are refused.
+const SIZES: &[(WorldKind, u64, u64, u64, Option<Refusal>)] = &[
+    (WorldKind::Rename, 0, 4, 1000, Some(Refusal::OutOfRange)),
+    (WorldKind::Rename, 4, 0, 1000, Some(Refusal::OutOfRange)),
+    (WorldKind::Rename, 4, 65, 1000, Some(Refusal::OutOfRange)),
+    (WorldKind::Rename, 4, 4, 0, Some(Refusal::OutOfRange)),
+    (
+        WorldKind::Rename,
+        4,
+        4,
+        1_000_001,
+        Some(Refusal::OutOfRange),
+    ),
+    (WorldKind::Tree, 64, 64, 1_000_000, None),
+    (WorldKind::Splitter, 1, 1, 1, None),
 ];
 
 #[test]
-fn configs_out_of_range(rt: HostRuntime) {
-    for (m, k, limit) in &OUT_OF_RANGE {
-        let made = Config::new(WorldKind::Rename, *m, *k, *limit);
-        assert!(rt; made == Err(Refusal::OutOfRange), "{m} {k} {limit}");
+fn ranges_of_a_config(rt: HostRuntime) {
+    for (kind, m, k, limit, want) in SIZES {
+        let refused = Config::new(*kind, *m, *k, *limit).err();
+        assert!(rt; refused == *want, "{m} {k} {limit}");
     }
-    assert!(rt; Config::new(WorldKind::Tree, 64, 64, 1_000_000).is_ok());
-    assert!(rt; Config::new(WorldKind::Splitter, 1, 1, 1).is_ok());
 }
 
 /// Whether just so many may take part in a world: sizes round 16 and 64 are tried.
@@ -602,10 +634,15 @@ fn most_participants_of_each_world(rt: HostRuntime) {
 }
 
 /// A participant steps until it is named: how many steps these are, its place, and its name.
-fn goes_to_its_name(
-    world: &mut RenameWorld<TreePlaces<Global>, Global>,
+fn goes_to_its_name<W: RenamePlaces<A> + Drop, A: Allocator>(
+    world: &mut RenameWorld<W, A>,
     id: u64,
-) -> Result<(u64, Place, u64), Refusal> {
+) -> Result<(u64, Place, u64), Refusal>
+where
+    W::Walker: Copy,
+    W::Walk: Copy,
+    W::Value: Drop,
+{
     let mut placed = 0;
     for steps in 1..10_000 {
         match world.step(id)? {
@@ -618,7 +655,12 @@ fn goes_to_its_name(
 }
 
 /// Sixty-four begin, and no other.
-fn sixty_four_begin(world: &mut RenameWorld<TreePlaces<Global>, Global>) -> bool {
+fn sixty_four_begin<W: RenamePlaces<A> + Drop, A: Allocator>(world: &mut RenameWorld<W, A>) -> bool
+where
+    W::Walker: Copy,
+    W::Walk: Copy,
+    W::Value: Drop,
+{
     for id in 1..=64 {
         if world.begin(id) != Ok(()) {
             return false;
@@ -627,30 +669,57 @@ fn sixty_four_begin(world: &mut RenameWorld<TreePlaces<Global>, Global>) -> bool
     world.begin(65) == Err(Refusal::Full)
 }
 
-/// Each but the first goes to its name, in turn: the place of the last.
-fn others_are_named(rt: &impl Abort, world: &mut RenameWorld<TreePlaces<Global>, Global>) -> Place {
-    let mut place: Place = 1;
-    for id in 2..=64u64 {
+/// How many steps one of sixty-four takes, after those before it, and its name.
+fn due(id: u64) -> (u64, u64) {
+    if id == 1 {
+        return (22, 1);
+    }
+    let steps = id.saturating_mul(27).saturating_add(12);
+    (steps, id.saturating_mul(2).saturating_sub(1))
+}
+
+/// Each goes to its name, in turn: the place of the last.
+fn all_are_named<W: RenamePlaces<A> + Drop, A: Allocator>(
+    rt: &impl Abort,
+    world: &mut RenameWorld<W, A>,
+) -> Place
+where
+    W::Walker: Copy,
+    W::Walk: Copy,
+    W::Value: Drop,
+{
+    let mut place: Place = 0;
+    for id in 1..=64u64 {
         place = place.saturating_mul(2).saturating_add(1);
-        let steps = id.saturating_mul(27).saturating_add(12);
-        let name = id.saturating_mul(2).saturating_sub(1);
-        assert!(rt;
-            goes_to_its_name(world, id) == Ok((steps, place, name)),
-            "{id}"
-        );
+        let (steps, name) = due(id);
+        let went = goes_to_its_name(world, id);
+        assert!(rt; went == Ok((steps, place, name)), "{id}");
     }
     place
 }
 
+/// Sixty-four go one after another, and the last tells of itself.
+fn sixty_four_go<W: RenamePlaces<Global> + Drop>(
+    rt: &impl Abort,
+    alloc: Global,
+) -> Result<bool, Refusal>
+where
+    W::Walker: Copy,
+    W::Walk: Copy,
+    W::Value: Drop,
+{
+    let config = config_of(rt, WorldKind::Tree, 64, 1000);
+    let mut world = RenameWorld::<W, Global>::new(alloc, config)?;
+    let begun = sixty_four_begin(&mut world);
+    let place = all_are_named(rt, &mut world);
+    let told = (world.owner_of(127), world.proposals().pairs().len());
+    Ok(begun && place == Place::from(u64::MAX) && told == (Some(64), 64))
+}
+
 #[test]
 fn sixty_four_one_after_another_over_a_tree(rt: HostRuntime) {
-    let config = config_of(&rt, WorldKind::Tree, 64, 1000);
-    let made = RenameWorld::<TreePlaces<Global>, Global>::new(rt.alloc(), config);
-    let mut world = made.expect(&rt, "a world");
-    assert!(rt; sixty_four_begin(&mut world));
-    assert!(rt; goes_to_its_name(&mut world, 1) == Ok((22, 1, 1)));
-    assert!(rt; others_are_named(&rt, &mut world) == 18_446_744_073_709_551_615);
-    assert!(rt; world.owner_of(127) == Some(64) && world.proposals().pairs().len() == 64);
+    let went = sixty_four_go::<TreePlaces<Global>>(&rt, rt.alloc());
+    assert!(rt; went == Ok(true));
 }
 
 /// Whether a world is refused in a heap where so many times 128 bytes are kept for it.
@@ -680,13 +749,22 @@ fn each_growth_of_a_new_world_refused(rt: HostRuntime) -> Result<(), Fail> {
     Ok(())
 }
 
-#[test]
-fn the_next_proposal_of_each_rank(rt: HostRuntime) {
+/// A view of three.
+fn three() -> View {
     let mut view = View::new();
     view.insert(10, 1);
     view.insert(20, 1);
     view.insert(30, 4);
-    for (id, want) in [(10, 2), (20, 3), (30, 4)] {
-        assert_eq!(rt; next_proposal(&view, id), want, "{id}");
-    }
+    view
+}
+
+#[test]
+fn the_next_proposal_of_each_rank(rt: HostRuntime) {
+    let view = three();
+    let next = [
+        next_proposal(&view, 10),
+        next_proposal(&view, 20),
+        next_proposal(&view, 30),
+    ];
+    assert!(rt; next == [2, 3, 4]);
 }

@@ -8,25 +8,20 @@ use std::process::Abort;
 use std::test::Fail;
 use step_memory::{Place, Refusal};
 
-/// Two participants, which have begun, over two segments.
-fn two(alloc: Global) -> Result<SnapWorld<Fixed<Global>, Global>, Refusal> {
-    let mut world = SnapWorld::new(alloc, Fixed::new(alloc, 2)?)?;
-    world.begin(10)?;
-    world.begin(20)?;
-    Ok(world)
-}
-
-/// A call: of steps so many, of which those before the last are quiet.
-#[derive(Clone, Copy, Debug, Drop)]
+/// A call: of steps so many, of which those before the last are quiet; or the steps of one collect;
+/// or the question where one is.
+#[derive(Clone, Copy, Drop)]
 pub enum Call {
     Begin,
     Update(u64),
     Scan,
     Steps(usize),
+    Collect,
+    Place,
 }
 
 /// What a call answers, of steps the last: of a view its pairs.
-#[derive(Clone, Copy, Debug, Drop)]
+#[derive(Clone, Copy, Drop)]
 pub enum Told {
     Done,
     Quiet,
@@ -45,6 +40,11 @@ fn is_asked(answer: Result<(), Refusal>, told: Told) -> bool {
     }
 }
 
+/// Whether one is at the place that is told.
+fn is_placed(place: Option<Place>, told: Told) -> bool {
+    matches!(told, Told::Placed(want) if place == Some(want))
+}
+
 /// Whether a step is told so.
 fn is_stepped(answer: &Result<SnapReply, Refusal>, told: Told) -> bool {
     match (answer, told) {
@@ -57,72 +57,88 @@ fn is_stepped(answer: &Result<SnapReply, Refusal>, told: Told) -> bool {
     }
 }
 
-/// Whether a call of a participant is told so, over any places.
-fn answers<W: Places + Drop, A: Allocator>(
+/// Who makes a call, and what it answers.
+pub type Row = (u64, Call, Told);
+
+/// Whether so many steps of a participant are quiet.
+fn are_quiet<W: Places + Drop, A: Allocator>(
     world: &mut SnapWorld<W, A>,
     id: u64,
-    call: Call,
-    told: Told,
+    count: usize,
 ) -> bool
 where
     W::Walker: Copy,
     W::Walk: Copy,
     W::Value: Drop,
 {
+    for _ in 0..count {
+        if !is_stepped(&world.step(id), Told::Quiet) {
+            return false;
+        }
+    }
+    true
+}
+
+/// Whether a call of a participant is told so, over any places; a collect makes so many reads.
+fn answers<W: Places + Drop, A: Allocator>(
+    world: &mut SnapWorld<W, A>,
+    reads: usize,
+    row: &Row,
+) -> bool
+where
+    W::Walker: Copy,
+    W::Walk: Copy,
+    W::Value: Drop,
+{
+    let (id, call, told) = *row;
     let count = match call {
         Call::Begin => return is_asked(world.begin(id), told),
         Call::Update(value) => return is_asked(world.update(id, value), told),
         Call::Scan => return is_asked(world.scan(id), told),
         Call::Steps(count) => count,
+        Call::Collect => reads,
+        Call::Place => return is_placed(world.place_of(id), told),
     };
-    for _ in 1..count {
-        if !is_stepped(&world.step(id), Told::Quiet) {
-            return false;
-        }
-    }
-    is_stepped(&world.step(id), told)
+    are_quiet(world, id, count.saturating_sub(1)) && is_stepped(&world.step(id), told)
 }
 
-/// Makes these calls, each of which answers what stands beside it.
+/// Makes these calls, each of which answers what stands beside it; a collect makes so many reads.
 pub fn plays<W: Places + Drop, A: Allocator>(
     rt: &impl Abort,
     world: &mut SnapWorld<W, A>,
-    calls: &[(u64, Call, Told)],
+    title: &str,
+    reads: usize,
+    rows: &[Row],
 )
 where
     W::Walker: Copy,
     W::Walk: Copy,
     W::Value: Drop,
 {
-    for (id, call, told) in calls {
-        assert!(rt;
-            answers(world, *id, *call, *told),
-            "{id} {call:?}: {told:?}"
-        );
+    for (i, row) in rows.iter().enumerate() {
+        assert!(rt; answers(world, reads, row), "{title}: row {i} at {reads}");
     }
 }
 
 /// The identity, the value and the number of a record, and how many pairs its view has.
-fn record_at(
-    world: &SnapWorld<Fixed<Global>, Global>,
-    place: Place,
-) -> Option<(u64, u64, u32, usize)> {
-    let record = world.places().segment_at(place)?;
-    Some((
-        record.identity,
-        record.value,
-        record.number,
-        record.view.len(),
-    ))
+type Written = (u64, u64, u32, usize);
+
+/// Calls over so many segments, and the record that is then in the first.
+#[derive(Drop)]
+struct Schedule {
+    title: &'static str,
+    most: usize,
+    rows: &'static [Row],
+    record: Option<Written>,
 }
 
-#[test]
-fn plain(rt: HostRuntime) -> Result<(), Fail> {
-    let mut world = two(rt.alloc())?;
-    plays(
-        &rt,
-        &mut world,
-        &[
+const SCHEDULES: &[Schedule] = &[
+    Schedule {
+        title: "a scan shows what was written",
+        most: 2,
+        rows: &[
+            (10, Call::Begin, Told::Done),
+            (20, Call::Begin, Told::Done),
             (10, Call::Update(5), Told::Done),
             (10, Call::Steps(5), Told::Written),
             (20, Call::Scan, Told::Done),
@@ -131,17 +147,14 @@ fn plain(rt: HostRuntime) -> Result<(), Fail> {
             (20, Call::Scan, Told::Done),
             (20, Call::Update(1), Told::Refused(Refusal::AlreadyBegun)),
         ],
-    );
-    Ok(())
-}
-
-#[test]
-fn stale_view_is_refused(rt: HostRuntime) -> Result<(), Fail> {
-    let mut world = two(rt.alloc())?;
-    plays(
-        &rt,
-        &mut world,
-        &[
+        record: Some((10, 5, 1, 0)),
+    },
+    Schedule {
+        title: "a stale view is refused",
+        most: 2,
+        rows: &[
+            (10, Call::Begin, Told::Done),
+            (20, Call::Begin, Told::Done),
             (10, Call::Update(5), Told::Done),
             (10, Call::Steps(4), Told::Quiet),
             (20, Call::Update(9), Told::Done),
@@ -149,24 +162,16 @@ fn stale_view_is_refused(rt: HostRuntime) -> Result<(), Fail> {
             (20, Call::Scan, Told::Done),
             (20, Call::Steps(2), Told::Quiet),
             (10, Call::Steps(1), Told::Written),
+            (20, Call::Steps(4), Told::Shown(&[(10, 5), (20, 9)])),
         ],
-    );
-    assert_eq!(rt; record_at(&world, 0), Some((10, 5, 1, 0)));
-    plays(
-        &rt,
-        &mut world,
-        &[(20, Call::Steps(4), Told::Shown(&[(10, 5), (20, 9)]))],
-    );
-    Ok(())
-}
-
-#[test]
-fn view_is_borrowed(rt: HostRuntime) -> Result<(), Fail> {
-    let mut world = two(rt.alloc())?;
-    plays(
-        &rt,
-        &mut world,
-        &[
+        record: Some((10, 5, 1, 0)),
+    },
+    Schedule {
+        title: "a view is borrowed",
+        most: 2,
+        rows: &[
+            (10, Call::Begin, Told::Done),
+            (20, Call::Begin, Told::Done),
             (10, Call::Update(5), Told::Done),
             (10, Call::Steps(5), Told::Written),
             (20, Call::Scan, Told::Done),
@@ -178,21 +183,14 @@ fn view_is_borrowed(rt: HostRuntime) -> Result<(), Fail> {
             (10, Call::Steps(5), Told::Written),
             (20, Call::Steps(1), Told::Shown(&[(10, 6)])),
         ],
-    );
-    Ok(())
-}
-
-#[test]
-fn refusals(rt: HostRuntime) -> Result<(), Fail> {
-    for most in [0, 17] {
-        let made = Fixed::new(rt.alloc(), most);
-        assert!(rt; matches!(made, Err(Refusal::OutOfRange)), "at {most}");
-    }
-    let mut world = two(rt.alloc())?;
-    plays(
-        &rt,
-        &mut world,
-        &[
+        record: Some((10, 7, 3, 1)),
+    },
+    Schedule {
+        title: "refusals",
+        most: 2,
+        rows: &[
+            (10, Call::Begin, Told::Done),
+            (20, Call::Begin, Told::Done),
             (0, Call::Begin, Told::Refused(Refusal::ZeroIdentity)),
             (10, Call::Begin, Told::Refused(Refusal::AlreadyBegun)),
             (30, Call::Begin, Told::Refused(Refusal::Full)),
@@ -200,19 +198,14 @@ fn refusals(rt: HostRuntime) -> Result<(), Fail> {
             (30, Call::Update(1), Told::Refused(Refusal::NotBegun)),
             (30, Call::Steps(1), Told::Refused(Refusal::NotBegun)),
             (10, Call::Steps(1), Told::Refused(Refusal::Finished)),
+            (20, Call::Place, Told::Placed(1)),
         ],
-    );
-    assert_eq!(rt; world.place_of(20), Some(1));
-    Ok(())
-}
-
-#[test]
-fn alone_over_any_places(rt: HostRuntime) -> Result<(), Fail> {
-    let mut world = SnapWorld::new(rt.alloc(), Fixed::new(rt.alloc(), 16)?)?;
-    plays(
-        &rt,
-        &mut world,
-        &[
+        record: None,
+    },
+    Schedule {
+        title: "one alone over as many as there may be",
+        most: 16,
+        rows: &[
             (7, Call::Begin, Told::Done),
             (7, Call::Update(3), Told::Done),
             (7, Call::Steps(33), Told::Written),
@@ -221,11 +214,45 @@ fn alone_over_any_places(rt: HostRuntime) -> Result<(), Fail> {
             (7, Call::Scan, Told::Done),
             (7, Call::Steps(32), Told::Shown(&[(7, 3)])),
         ],
-    );
-    assert_eq!(rt; record_at(&world, 0), Some((7, 3, 1, 0)));
-    assert_eq!(rt; world.places().most(), 16);
+        record: Some((7, 3, 1, 0)),
+    },
+];
+
+/// The first record.
+fn first_record(places: &Fixed<Global>) -> Option<Written> {
+    let record = places.segment_at(0)?;
+    let pairs = record.view.len();
+    Some((record.identity, record.value, record.number, pairs))
+}
+
+/// Makes the calls of a schedule: what places there are, and the first record.
+fn recorded(
+    rt: &impl Abort,
+    alloc: Global,
+    schedule: &Schedule,
+) -> Result<(usize, Option<Written>), Refusal> {
+    let places = Fixed::new(alloc, schedule.most)?;
+    let mut world = SnapWorld::new(alloc, places)?;
+    plays(rt, &mut world, schedule.title, 0, schedule.rows);
     snapshot_law(&world);
+    Ok((world.places().most(), first_record(world.places())))
+}
+
+#[test]
+fn schedules_over_a_row(rt: HostRuntime) {
+    for schedule in SCHEDULES {
+        let want = (schedule.most, schedule.record);
+        let found = recorded(&rt, rt.alloc(), schedule);
+        assert!(rt; found == Ok(want), "{}", schedule.title);
+    }
     law_of_snapshot_calls::<Fixed<Global>>();
     law_of_clients::<Fixed<Global>>();
-    Ok(())
+}
+
+#[test]
+fn sizes_of_a_row(rt: HostRuntime) {
+    for most in [0, 17] {
+        let refused = Fixed::new(rt.alloc(), most).err();
+        assert!(rt; refused == Some(Refusal::OutOfRange), "at {most}");
+    }
 }

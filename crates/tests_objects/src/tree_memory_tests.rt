@@ -5,6 +5,8 @@ use linked_list_allocator::LocalHeap;
 use splitter_tree::{
     NodeRegisters, Tree, TreeRegister, TreeValue, WrittenValue, law_of_tree_memory,
 };
+use std::alloc::Allocator;
+use std::process::Abort;
 use std::test::Fail;
 use step_memory::{Access, Answer, NoMemory, Place, StepMemory};
 
@@ -34,40 +36,90 @@ fn word<M: StepMemory<Reg = TreeRegister, Value = TreeValue>>(
     }
 }
 
+/// An access or a look: a word is written or refused; one stands in a register; a node is there or not.
+#[derive(Clone, Copy, Debug, Drop)]
+enum Row {
+    Written(TreeRegister, u64),
+    Refused(TreeRegister, u64),
+    Stands(TreeRegister, u64),
+    There(Place),
+    Lacking(Place),
+}
+
+/// Whether a row is so.
+fn is_so<A: Allocator + Clone>(tree: &mut Tree<A>, row: Row) -> bool {
+    match row {
+        Row::Written(register, it) => !refuses(tree, register, it),
+        Row::Refused(register, it) => refuses(tree, register, it),
+        Row::Stands(register, it) => word(tree, register) == Some(it),
+        Row::There(place) => tree.registers_at(place).is_some(),
+        Row::Lacking(place) => tree.registers_at(place).is_none(),
+    }
+}
+
+/// Takes rows in turn, each of which is so.
+fn takes<A: Allocator + Clone>(rt: &impl Abort, tree: &mut Tree<A>, rows: &[Row]) {
+    for (i, row) in rows.iter().enumerate() {
+        assert!(rt; is_so(tree, *row), "row {i}: {row:?}");
+    }
+}
+
+/// Nodes are made below the root.
+const BELOW: [Row; 18] = [
+    Row::Written(TreeRegister::Mark(2), 1),
+    Row::Lacking(2),
+    Row::Written(TreeRegister::X(1), 10),
+    Row::Stands(TreeRegister::X(1), 0),
+    Row::Stands(TreeRegister::Mark(1), 0),
+    Row::Written(TreeRegister::Mark(1), 1),
+    Row::Stands(TreeRegister::Mark(1), 1),
+    Row::Stands(TreeRegister::Mark(2), 0),
+    Row::Written(TreeRegister::Mark(2), 1),
+    Row::Stands(TreeRegister::Mark(2), 1),
+    Row::Stands(TreeRegister::Mark(5), 0),
+    Row::Written(TreeRegister::Mark(5), 1),
+    Row::Stands(TreeRegister::Mark(5), 1),
+    Row::Lacking(0),
+    Row::Lacking(3),
+    Row::Lacking(4),
+    Row::Lacking(10),
+    Row::Lacking(11),
+];
+
+/// Four nodes are made, each is given a word, and one another.
+const OWN_WORDS: [Row; 17] = [
+    Row::Written(TreeRegister::Mark(1), 1),
+    Row::Written(TreeRegister::Mark(2), 1),
+    Row::Written(TreeRegister::Mark(3), 1),
+    Row::Written(TreeRegister::Mark(6), 1),
+    Row::Written(TreeRegister::X(1), 10),
+    Row::Written(TreeRegister::X(2), 20),
+    Row::Written(TreeRegister::X(3), 30),
+    Row::Written(TreeRegister::X(6), 60),
+    Row::Written(TreeRegister::Y(3), 1),
+    Row::Stands(TreeRegister::X(1), 10),
+    Row::Stands(TreeRegister::Y(1), 0),
+    Row::Stands(TreeRegister::X(2), 20),
+    Row::Stands(TreeRegister::Y(2), 0),
+    Row::Stands(TreeRegister::X(3), 30),
+    Row::Stands(TreeRegister::Y(3), 1),
+    Row::Stands(TreeRegister::X(6), 60),
+    Row::Stands(TreeRegister::Y(6), 0),
+];
+
 #[test]
 fn a_node_is_made_below_one_that_is_there(rt: HostRuntime) {
     law_of_tree_memory();
-    let mut tree = Tree::new(rt.alloc());
-    assert!(rt; !refuses(&mut tree, TreeRegister::Mark(2), 1));
-    assert!(rt; tree.registers_at(2).is_none());
-    assert!(rt; !refuses(&mut tree, TreeRegister::X(1), 10));
-    assert_eq!(rt; word(&mut tree, TreeRegister::X(1)), Some(0));
-    for place in [1, 2, 5] {
-        assert_eq!(rt; word(&mut tree, TreeRegister::Mark(place)), Some(0));
-        assert!(rt; !refuses(&mut tree, TreeRegister::Mark(place), 1));
-        assert_eq!(rt; word(&mut tree, TreeRegister::Mark(place)), Some(1));
-    }
-    for place in [0, 3, 4, 10, 11] {
-        assert!(rt; tree.registers_at(place).is_none(), "at {place}");
-    }
+    takes(&rt, &mut Tree::new(rt.alloc()), &BELOW);
 }
 
 #[test]
 fn a_node_keeps_its_own_words(rt: HostRuntime) {
-    let mut tree = Tree::new(rt.alloc());
-    for place in [1, 2, 3, 6] {
-        let _ = refuses(&mut tree, TreeRegister::Mark(place), 1);
-    }
-    for place in [1, 2, 3, 6u64] {
-        let _ = refuses(&mut tree, TreeRegister::X(Place::from(place)), 10 * place);
-    }
-    let _ = refuses(&mut tree, TreeRegister::Y(3), 1);
-    for place in [1, 2, 3, 6u64] {
-        let x = word(&mut tree, TreeRegister::X(Place::from(place)));
-        assert_eq!(rt; x, Some(10 * place));
-        let y = word(&mut tree, TreeRegister::Y(Place::from(place)));
-        assert_eq!(rt; y, Some(if place == 3 { 1 } else { 0 }));
-    }
+    takes(&rt, &mut Tree::new(rt.alloc()), &OWN_WORDS);
+}
+
+#[test]
+fn registers_of_a_node_keep_words(rt: HostRuntime) {
     let mut registers = NodeRegisters::new();
     registers.write(TreeRegister::X(3), WrittenValue::Word(30));
     assert!(rt; matches!(registers.read(TreeRegister::X(3)), TreeValue::Word(30)));
@@ -86,23 +138,34 @@ fn as_deep_as_numbers_go(rt: HostRuntime) {
         assert!(rt; !refuses(&mut tree, TreeRegister::Mark(1 << depth), 1));
     }
     let deepest = 1u128 << 127;
-    assert!(rt; tree.registers_at(deepest).is_some());
-    assert!(rt; tree.registers_at(deepest + 1).is_none());
+    takes(
+        &rt,
+        &mut tree,
+        &[Row::There(deepest), Row::Lacking(deepest + 1)],
+    );
 }
+
+/// In a full heap no node is made below the root; what needs none is written.
+const FULL: [Row; 5] = [
+    Row::Refused(TreeRegister::Mark(3), 1),
+    Row::Refused(TreeRegister::Mark(3), 1),
+    Row::Written(TreeRegister::Mark(1), 1),
+    Row::Written(TreeRegister::Mark(6), 1),
+    Row::Lacking(3),
+];
 
 #[test]
 fn a_growth_that_was_refused(rt: HostRuntime) -> Result<(), Fail> {
     let heap = LocalHeap::new(rt.alloc(), 8_192)?;
     let mut tree = Tree::new(&heap);
-    assert!(rt; !refuses(&mut tree, TreeRegister::Mark(1), 1));
+    takes(&rt, &mut tree, &[Row::Written(TreeRegister::Mark(1), 1)]);
     let boxes = filling(rt.alloc(), &heap).expect(&rt, "the room for the boxes");
-    for (place, refused) in [(3, true), (3, true), (1, false), (6, false)] {
-        let told = refuses(&mut tree, TreeRegister::Mark(place), 1);
-        assert_eq!(rt; told, refused, "at {place}");
-    }
-    assert!(rt; tree.registers_at(3).is_none());
+    takes(&rt, &mut tree, &FULL);
     drop(boxes);
-    assert!(rt; !refuses(&mut tree, TreeRegister::Mark(3), 1));
-    assert!(rt; tree.registers_at(3).is_some());
+    takes(
+        &rt,
+        &mut tree,
+        &[Row::Written(TreeRegister::Mark(3), 1), Row::There(3)],
+    );
     Ok(())
 }

@@ -7,7 +7,7 @@ use splitter_tree::{
     law_of_collects_at_places, law_of_nodes_and_walks, law_of_own_accesses, law_of_places,
     law_of_tree_calls, law_of_tree_memory,
 };
-use std::alloc::Allocator;
+use std::alloc::{Allocator, Global};
 use std::process::Abort;
 use std::test::Fail;
 use step_memory::{Access, Answer, Note, Place, Refusal, StepProgram, View};
@@ -21,6 +21,8 @@ enum Call {
     Store(u64),
     Collect,
     CollectSteps(usize),
+    /// Whether the node is there is told as done or quiet, whoever asks.
+    Node(Place),
 }
 
 /// What a call answers, of steps the last.
@@ -92,6 +94,16 @@ fn collects<A: Allocator + Clone>(
     is_collected(&world.collect_step(id), told)
 }
 
+/// Whether a node is told to be there, or not to be.
+fn is_there<A: Allocator + Clone>(world: &TreeWorld<A>, place: Place, told: Told) -> bool {
+    let there = world.tree().registers_at(place).is_some();
+    match told {
+        Told::Done => there,
+        Told::Quiet => !there,
+        _ => false,
+    }
+}
+
 /// Whether a call of a participant is told so.
 fn answers<A: Allocator + Clone>(
     world: &mut TreeWorld<A>,
@@ -106,15 +118,15 @@ fn answers<A: Allocator + Clone>(
         Call::Store(value) => is_asked(world.store(id, value), told),
         Call::Collect => is_asked(world.collect_begin(id), told),
         Call::CollectSteps(count) => collects(world, id, count, told),
+        Call::Node(place) => is_there(world, place, told),
     }
 }
 
+/// A call, of whom it is made, and what it tells.
+type Row = (u64, Call, Told);
+
 /// Makes these calls, each of which answers what stands beside it.
-fn plays<A: Allocator + Clone>(
-    rt: &impl Abort,
-    world: &mut TreeWorld<A>,
-    calls: &[(u64, Call, Told)],
-) {
+fn plays<A: Allocator + Clone>(rt: &impl Abort, world: &mut TreeWorld<A>, calls: &[Row]) {
     for (id, call, told) in calls {
         assert!(rt;
             answers(world, *id, *call, *told),
@@ -123,91 +135,87 @@ fn plays<A: Allocator + Clone>(
     }
 }
 
+/// 10 is alone until it has collected.
+const ONE: [Row; 14] = [
+    (10, Call::Begin, Told::Done),
+    (10, Call::Place, Told::Quiet),
+    (10, Call::Steps(5), Told::Placed(1)),
+    (10, Call::Place, Told::Placed(1)),
+    (10, Call::Steps(1), Told::Refused(Refusal::Finished)),
+    (10, Call::Store(5), Told::Done),
+    (10, Call::Collect, Told::Done),
+    (10, Call::Steps(1), Told::Refused(Refusal::Finished)),
+    (10, Call::CollectSteps(4), Told::Shown(&[(10, 5)])),
+    (10, Call::CollectSteps(1), Told::Refused(Refusal::Finished)),
+    (20, Call::Begin, Told::Done),
+    (20, Call::Store(1), Told::Refused(Refusal::AlreadyBegun)),
+    (20, Call::Collect, Told::Refused(Refusal::AlreadyBegun)),
+    (30, Call::Collect, Told::Refused(Refusal::NotBegun)),
+];
+
 #[test]
 fn one_who_stores_and_collects(rt: HostRuntime) -> Result<(), Fail> {
     let mut world = TreeWorld::new(rt.alloc(), 2)?;
-    plays(
-        &rt,
-        &mut world,
-        &[
-            (10, Call::Begin, Told::Done),
-            (10, Call::Place, Told::Quiet),
-            (10, Call::Steps(5), Told::Placed(1)),
-            (10, Call::Place, Told::Placed(1)),
-            (10, Call::Steps(1), Told::Refused(Refusal::Finished)),
-            (10, Call::Store(5), Told::Done),
-            (10, Call::Collect, Told::Done),
-            (10, Call::Steps(1), Told::Refused(Refusal::Finished)),
-            (10, Call::CollectSteps(4), Told::Shown(&[(10, 5)])),
-            (10, Call::CollectSteps(1), Told::Refused(Refusal::Finished)),
-            (20, Call::Begin, Told::Done),
-            (20, Call::Store(1), Told::Refused(Refusal::AlreadyBegun)),
-            (20, Call::Collect, Told::Refused(Refusal::AlreadyBegun)),
-            (30, Call::Collect, Told::Refused(Refusal::NotBegun)),
-        ],
-    );
+    plays(&rt, &mut world, &ONE);
     Ok(())
 }
+
+/// 20 collects while 10 has stored, and then 10.
+const TWO: [Row; 13] = [
+    (20, Call::Begin, Told::Done),
+    (10, Call::Begin, Told::Done),
+    (20, Call::Steps(3), Told::Quiet),
+    (10, Call::Steps(5), Told::Placed(1)),
+    (20, Call::Steps(7), Told::Placed(2)),
+    (10, Call::Store(7), Told::Done),
+    (20, Call::Collect, Told::Done),
+    (20, Call::CollectSteps(1), Told::Quiet),
+    (20, Call::Store(8), Told::Refused(Refusal::AlreadyBegun)),
+    (20, Call::CollectSteps(6), Told::Shown(&[(10, 7)])),
+    (20, Call::Store(8), Told::Done),
+    (10, Call::Collect, Told::Done),
+    (10, Call::CollectSteps(7), Told::Shown(&[(10, 7), (20, 8)])),
+];
 
 #[test]
 fn two_who_collect_each_other(rt: HostRuntime) -> Result<(), Fail> {
     let mut world = TreeWorld::new(rt.alloc(), 2)?;
-    plays(
-        &rt,
-        &mut world,
-        &[
-            (20, Call::Begin, Told::Done),
-            (10, Call::Begin, Told::Done),
-            (20, Call::Steps(3), Told::Quiet),
-            (10, Call::Steps(5), Told::Placed(1)),
-            (20, Call::Steps(7), Told::Placed(2)),
-            (10, Call::Store(7), Told::Done),
-            (20, Call::Collect, Told::Done),
-            (20, Call::CollectSteps(1), Told::Quiet),
-            (20, Call::Store(8), Told::Refused(Refusal::AlreadyBegun)),
-            (20, Call::CollectSteps(6), Told::Shown(&[(10, 7)])),
-            (20, Call::Store(8), Told::Done),
-            (10, Call::Collect, Told::Done),
-            (10, Call::CollectSteps(7), Told::Shown(&[(10, 7), (20, 8)])),
-        ],
-    );
+    plays(&rt, &mut world, &TWO);
     Ok(())
 }
+
+/// Each refusal of a world of one.
+const REFUSALS: [Row; 10] = [
+    (7, Call::Steps(1), Told::Refused(Refusal::NotBegun)),
+    (7, Call::Store(1), Told::Refused(Refusal::NotBegun)),
+    (7, Call::CollectSteps(1), Told::Refused(Refusal::NotBegun)),
+    (0, Call::Begin, Told::Refused(Refusal::ZeroIdentity)),
+    (7, Call::Begin, Told::Done),
+    (0, Call::Begin, Told::Refused(Refusal::ZeroIdentity)),
+    (7, Call::Begin, Told::Refused(Refusal::AlreadyBegun)),
+    (8, Call::Begin, Told::Refused(Refusal::Full)),
+    (7, Call::CollectSteps(1), Told::Refused(Refusal::Finished)),
+    (8, Call::Place, Told::Quiet),
+];
 
 #[test]
 fn refusals_in_their_order(rt: HostRuntime) -> Result<(), Fail> {
     let mut world = TreeWorld::new(rt.alloc(), 1)?;
-    plays(
-        &rt,
-        &mut world,
-        &[
-            (7, Call::Steps(1), Told::Refused(Refusal::NotBegun)),
-            (7, Call::Store(1), Told::Refused(Refusal::NotBegun)),
-            (7, Call::CollectSteps(1), Told::Refused(Refusal::NotBegun)),
-            (0, Call::Begin, Told::Refused(Refusal::ZeroIdentity)),
-            (7, Call::Begin, Told::Done),
-            (0, Call::Begin, Told::Refused(Refusal::ZeroIdentity)),
-            (7, Call::Begin, Told::Refused(Refusal::AlreadyBegun)),
-            (8, Call::Begin, Told::Refused(Refusal::Full)),
-            (7, Call::CollectSteps(1), Told::Refused(Refusal::Finished)),
-            (8, Call::Place, Told::Quiet),
-        ],
-    );
+    plays(&rt, &mut world, &REFUSALS);
     Ok(())
 }
 
 #[test]
 fn ranges_of_a_tree(rt: HostRuntime) {
     for most in [0, 1, 16, 17, 63, 64, 65, 1_000] {
-        let fits = (1..65).contains(&most);
-        match TreeWorld::new(rt.alloc(), most) {
-            Ok(_) => assert!(rt; fits, "at {most}"),
-            Err(refusal) => {
-                assert!(rt; !fits, "at {most}");
-                assert_eq!(rt; refusal, Refusal::OutOfRange);
-            }
-        }
+        let refusal = TreeWorld::new(rt.alloc(), most).err();
+        let due = (most == 0 || 64 < most).then_some(Refusal::OutOfRange);
+        assert_eq!(rt; refusal, due, "at {most}");
     }
+}
+
+#[test]
+fn laws_of_trees_and_collects() {
     law_of_tree_memory();
     law_of_nodes_and_walks::<u64>();
     law_of_places::<u64>();
@@ -218,55 +226,68 @@ fn ranges_of_a_tree(rt: HostRuntime) {
     law_of_own_accesses();
 }
 
+/// One who comes behind so many others: whether it goes past each of them to this place, and no further.
+fn goes_past<A: Allocator + Clone>(world: &mut TreeWorld<A>, passed: u64, place: Place) -> bool {
+    let id = passed.saturating_add(1);
+    let steps = (passed as usize).saturating_mul(3).saturating_add(5);
+    answers(world, id, Call::Begin, Told::Done)
+        && answers(world, id, Call::Steps(steps), Told::Placed(place))
+        && answers(world, id, Call::Steps(1), Told::Refused(Refusal::Finished))
+}
+
 #[test]
 fn sixty_four_down_the_deepest_walk(rt: HostRuntime) -> Result<(), Fail> {
     let mut world = TreeWorld::new(rt.alloc(), 64)?;
-    let mut place = 1u128;
-    for passed in 0..64usize {
-        let id = passed as u64 + 1;
-        plays(
-            &rt,
-            &mut world,
-            &[
-                (id, Call::Begin, Told::Done),
-                (id, Call::Steps(3 * passed + 5), Told::Placed(place)),
-                (id, Call::Steps(1), Told::Refused(Refusal::Finished)),
-            ],
-        );
+    let mut place: Place = 1;
+    for passed in 0..64u64 {
+        assert!(rt; goes_past(&mut world, passed, place), "past {passed}");
         place = place.saturating_mul(2).saturating_add(1);
     }
     assert_eq!(rt; world.place_of(64), Some(18_446_744_073_709_551_615));
     Ok(())
 }
 
+/// Before the heap is full.
+const BEFORE: [Row; 3] = [
+    (10, Call::Begin, Told::Done),
+    (20, Call::Begin, Told::Done),
+    (10, Call::Steps(5), Told::Placed(1)),
+];
+
+/// While it is full.
+const FULL: [Row; 4] = [
+    (20, Call::Steps(3), Told::Quiet),
+    (20, Call::Steps(1), Told::Refused(Refusal::NoMemory)),
+    (20, Call::Steps(1), Told::Refused(Refusal::NoMemory)),
+    (0, Call::Node(3), Told::Quiet),
+];
+
+/// With memory again.
+const AGAIN: [Row; 3] = [
+    (20, Call::Steps(1), Told::Quiet),
+    (0, Call::Node(3), Told::Done),
+    (20, Call::Steps(4), Told::Placed(3)),
+];
+
+/// Makes calls while the heap is full.
+fn plays_while_full<'a>(
+    rt: &impl Abort,
+    alloc: Global,
+    heap: &'a LocalHeap,
+    world: &mut TreeWorld<&'a LocalHeap>,
+) {
+    let boxes = filling(alloc, heap).expect(rt, "the room for the boxes");
+    plays(rt, world, &FULL);
+    drop(boxes);
+}
+
 #[test]
 fn a_node_that_was_refused_is_made_later(rt: HostRuntime) -> Result<(), Fail> {
     let heap = LocalHeap::new(rt.alloc(), 8_192)?;
     let mut world = TreeWorld::new(&heap, 2)?;
-    plays(
-        &rt,
-        &mut world,
-        &[
-            (10, Call::Begin, Told::Done),
-            (20, Call::Begin, Told::Done),
-            (10, Call::Steps(5), Told::Placed(1)),
-        ],
-    );
-    let boxes = filling(rt.alloc(), &heap).expect(&rt, "the room for the boxes");
-    plays(
-        &rt,
-        &mut world,
-        &[
-            (20, Call::Steps(3), Told::Quiet),
-            (20, Call::Steps(1), Told::Refused(Refusal::NoMemory)),
-            (20, Call::Steps(1), Told::Refused(Refusal::NoMemory)),
-        ],
-    );
-    assert!(rt; world.tree().registers_at(3).is_none());
-    drop(boxes);
-    plays(&rt, &mut world, &[(20, Call::Steps(1), Told::Quiet)]);
-    assert!(rt; world.tree().registers_at(3).is_some());
-    plays(&rt, &mut world, &[(20, Call::Steps(4), Told::Placed(3))]);
+    plays(&rt, &mut world, &BEFORE);
+    plays_while_full(&rt, rt.alloc(), &heap, &mut world);
+    plays(&rt, &mut world, &AGAIN);
     Ok(())
 }
 
