@@ -4,6 +4,7 @@ use crate::doubles::{Piped, Teller, Told};
 use commands::WorldKind;
 use event_server::{Batch, Called, Connection, Room, Stage, Wire, turn_ahead};
 use std::alloc::Global;
+use std::process::Abort;
 
 /// How many turns a trial has at most.
 const MOST_TURNS: usize = 20_000;
@@ -45,27 +46,28 @@ impl Draws {
     }
 }
 
+// Appends a line.
+fn put(rt: &impl Abort, bytes: &mut Vec<u8>, line: &[u8]) {
+    bytes.extend_from_slice(line).expect(rt, "room for a line");
+}
+
 // So many drawn lines, and then a last one without an LF.
 fn drawn_lines(
+    rt: &impl Abort,
     alloc: Global,
     draws: &mut Draws,
     count: usize,
     quits: bool,
-) -> Result<Vec<u8>, &'static str> {
+) -> Vec<u8> {
     let mut bytes = Vec::new(alloc);
     for at in 0..count {
-        let line = LINES[(draws.below(12) % 12) as usize];
-        if bytes.extend_from_slice(line).is_err() {
-            return Err("no memory");
-        }
-        if quits && at == count / 2 && bytes.extend_from_slice(b"quit\n").is_err() {
-            return Err("no memory");
+        put(rt, &mut bytes, LINES[(draws.below(12) % 12) as usize]);
+        if quits && at == count / 2 {
+            put(rt, &mut bytes, b"quit\n");
         }
     }
-    if bytes.extend_from_slice(b"get 5").is_err() {
-        return Err("no memory");
-    }
-    Ok(bytes)
+    put(rt, &mut bytes, b"get 5");
+    bytes
 }
 
 // How many lines a text has.
@@ -76,18 +78,24 @@ fn count_lines(text: &[u8]) -> usize {
 /// Connections, each with a seat.
 type Seats = Vec<Option<Connection<Piped, Global>>>;
 
-// Those that have something to do are due, and may be read.
+// Whether a connection has something to do: then it is due, and may be read.
+fn is_made_due(connection: &mut Connection<Piped, Global>) -> bool {
+    if connection.is_done() {
+        return false;
+    }
+    connection.readable = true;
+    connection.writable = true;
+    connection.stage = Stage::Queued;
+    true
+}
+
+// Those that have something to do are due.
 fn make_due(seats: &mut Seats, ready: &mut Vec<usize>) -> Result<(), &'static str> {
     ready.clear();
     for key in 0..seats.len() {
         if let Some(Some(connection)) = seats.get_mut(key) {
-            if !connection.is_done() {
-                connection.readable = true;
-                connection.writable = true;
-                connection.stage = Stage::Queued;
-                if ready.push(key).is_err() {
-                    return Err("no memory");
-                }
+            if is_made_due(connection) && ready.push(key).is_err() {
+                return Err("no memory");
             }
         }
     }
@@ -118,125 +126,153 @@ fn run(alloc: Global, teller: &mut Teller, seats: &mut Seats) -> Result<usize, &
     Err("it does not come to its end")
 }
 
-// A connection that sends these bytes in pieces.
-fn connection(
-    alloc: Global,
-    bytes: Vec<u8>,
+/// What connections send: how many there are, how many lines of each, drawn from this state, and in what pieces; whether `quit`
+/// stands among them, and whether a fault stands in the place of the end.
+#[derive(Clone, Copy, Drop)]
+struct Sent {
+    state: u64,
+    connections: u64,
+    lines: usize,
     piece: usize,
-) -> Result<Connection<Piped, Global>, &'static str> {
-    let wire = Wire::new(alloc, WorldKind::Rename).map_err(|_| "no memory")?;
-    Ok(Connection::new(Piped::new(alloc, bytes, piece), wire, 0))
+    quits: bool,
+    fails: bool,
 }
 
-// Whether all that connections sent is answered, line by line, where bytes come in pieces and a batch has so many bytes.
-fn all_answered(
+/// Forty lines of one connection.
+const OF_ONE: Sent = Sent {
+    state: 5,
+    connections: 1,
+    lines: 40,
+    piece: 100,
+    quits: false,
+    fails: false,
+};
+
+// A connection that sends its lines so.
+fn connection(
+    rt: &impl Abort,
     alloc: Global,
-    piece: usize,
-    most: usize,
-    lines: usize,
-) -> Result<bool, &'static str> {
-    let mut draws = Draws {
-        state: piece as u64,
-    };
+    draws: &mut Draws,
+    sent: &Sent,
+) -> Connection<Piped, Global> {
+    let bytes = drawn_lines(rt, alloc, draws, sent.lines, sent.quits);
+    let mut piped = Piped::new(alloc, bytes, sent.piece);
+    piped.fails = sent.fails;
+    let wire = Wire::new(alloc, WorldKind::Rename).ok();
+    Connection::new(piped, wire.expect(rt, "room for a wire"), 0)
+}
+
+// Connections that send so, each with a seat.
+fn seats_of(rt: &impl Abort, alloc: Global, sent: &Sent) -> Seats {
+    let mut draws = Draws { state: sent.state };
     let mut seats = Vec::new(alloc);
-    for _ in 0..3 {
-        let bytes = drawn_lines(alloc, &mut draws, lines, false)?;
-        if seats.push(Some(connection(alloc, bytes, piece)?)).is_err() {
-            return Err("no memory");
-        }
+    for _ in 0..sent.connections {
+        let seat = Some(connection(rt, alloc, &mut draws, sent));
+        seats.push(seat).ok().expect(rt, "room for a seat");
     }
+    seats
+}
+
+// Connections at their end, where a batch has so many bytes, and the batch of this number is lost.
+fn seats_at_end(rt: &impl Abort, alloc: Global, sent: &Sent, most: usize, loses: u64) -> Seats {
+    let mut seats = seats_of(rt, alloc, sent);
     let mut teller = Teller {
         most,
-        loses: 0,
+        loses,
         told: 0,
     };
-    run(alloc, &mut teller, &mut seats)?;
-    for seat in &seats {
-        if let Some(connection) = seat {
-            if count_lines(&connection.stream.taken) != lines.saturating_add(1) {
-                return Ok(false);
-            }
+    let fault = run(alloc, &mut teller, &mut seats).err();
+    assert!(rt; fault.is_none(), "{fault:?}");
+    seats
+}
+
+// How many lines the connection of a seat is answered, and whether it is at fault; none where it has left.
+fn answered(seat: &Option<Connection<Piped, Global>>) -> Option<(usize, bool)> {
+    match seat {
+        Some(connection) => Some((
+            count_lines(&connection.stream.taken),
+            connection.wire.is_broken(),
+        )),
+        None => None,
+    }
+}
+
+// Whether all that three connections sent is answered, line by line, where bytes come in pieces and a batch has so many bytes.
+fn all_answered(rt: &impl Abort, alloc: Global, piece: usize, most: usize, lines: usize) -> bool {
+    let sent = Sent {
+        state: piece as u64,
+        connections: 3,
+        lines,
+        piece,
+        ..OF_ONE
+    };
+    for seat in &seats_at_end(rt, alloc, &sent, most, 0) {
+        match answered(seat) {
+            Some((count, _)) if count != lines.saturating_add(1) => return false,
+            _ => {}
         }
     }
-    Ok(true)
+    true
 }
 
 #[test]
 fn what_is_told_is_what_is_asked(rt: HostRuntime) {
     for piece in [1, 2, 7, 50, 1000, 70_000] {
         for most in [101, 300, 60_000] {
-            assert!(rt; all_answered(rt.alloc(), piece, most, 40) == Ok(true));
+            assert!(rt; all_answered(&rt, rt.alloc(), piece, most, 40));
         }
     }
 }
 
-// How many lines a connection of drawn lines is answered where `quit` stands among them, and whether it is at fault where the batch of this
-// number is lost.
-fn one_answered(alloc: Global, quits: bool, loses: u64) -> Result<(usize, bool), &'static str> {
-    let mut draws = Draws { state: 5 };
-    let mut seats = Vec::new(alloc);
-    let bytes = drawn_lines(alloc, &mut draws, 40, quits)?;
-    if seats.push(Some(connection(alloc, bytes, 100)?)).is_err() {
-        return Err("no memory");
-    }
-    let mut teller = Teller {
-        most: 60_000,
-        loses,
-        told: 0,
-    };
-    run(alloc, &mut teller, &mut seats)?;
-    match seats.first() {
-        Some(Some(connection)) => Ok((
-            count_lines(&connection.stream.taken),
-            connection.wire.is_broken(),
-        )),
-        _ => Err("it has left"),
-    }
+#[test]
+fn many_lines_wait_for_room(rt: HostRuntime) {
+    assert!(rt; all_answered(&rt, rt.alloc(), 70_000, 65_000, 6_000));
+}
+
+// What one connection is answered, as `answered` says it.
+fn one_answered(
+    rt: &impl Abort,
+    alloc: Global,
+    sent: &Sent,
+    most: usize,
+    loses: u64,
+) -> (usize, bool) {
+    let seats = seats_at_end(rt, alloc, sent, most, loses);
+    let seat = seats.first().expect(rt, "a seat");
+    answered(seat).expect(rt, "it has not left")
 }
 
 #[test]
 fn nothing_is_answered_behind_quit(rt: HostRuntime) {
-    assert!(rt; one_answered(rt.alloc(), true, 0) == Ok((22, false)));
+    let sent = Sent {
+        quits: true,
+        ..OF_ONE
+    };
+    assert_eq!(rt;
+        one_answered(&rt, rt.alloc(), &sent, 60_000, 0),
+        (22, false)
+    );
 }
 
 #[test]
 fn lost_lines_are_not_answered(rt: HostRuntime) {
-    assert!(rt; one_answered(rt.alloc(), false, 1) == Ok((0, true)));
-    assert!(rt;
-        matches!(one_answered(rt.alloc(), false, 3), Ok((count, true)) if 0 < count && count < 41)
+    assert_eq!(rt;
+        one_answered(&rt, rt.alloc(), &OF_ONE, 60_000, 1),
+        (0, true)
     );
+    let (count, is_broken) = one_answered(&rt, rt.alloc(), &OF_ONE, 60_000, 3);
+    assert!(rt; is_broken && 0 < count && count < 41);
 }
 
-#[test]
-fn many_lines_wait_for_room(rt: HostRuntime) {
-    assert!(rt; all_answered(rt.alloc(), 70_000, 65_000, 6_000) == Ok(true));
-}
-
-// How many lines a connection is answered whose stream ends in a fault while lines of it wait.
-fn answered_before_a_fault(alloc: Global) -> Result<usize, &'static str> {
-    let mut draws = Draws { state: 7 };
-    let mut seats = Vec::new(alloc);
-    let bytes = drawn_lines(alloc, &mut draws, 40, false)?;
-    let mut broken = connection(alloc, bytes, 1_000)?;
-    broken.stream.fails = true;
-    if seats.push(Some(broken)).is_err() {
-        return Err("no memory");
-    }
-    let mut teller = Teller {
-        most: 101,
-        loses: 0,
-        told: 0,
-    };
-    run(alloc, &mut teller, &mut seats)?;
-    match seats.first() {
-        Some(Some(connection)) => Ok(count_lines(&connection.stream.taken)),
-        _ => Err("it has left"),
-    }
-}
-
+/// A stream ends in a fault while lines of it wait.
 #[test]
 fn a_fault_leaves_nothing_in_the_batch(rt: HostRuntime) {
-    assert!(rt;
-        matches!(answered_before_a_fault(rt.alloc()), Ok(count) if 0 < count && count < 41)
-    );
+    let sent = Sent {
+        state: 7,
+        piece: 1_000,
+        fails: true,
+        ..OF_ONE
+    };
+    let (count, _) = one_answered(&rt, rt.alloc(), &sent, 101, 0);
+    assert!(rt; 0 < count && count < 41);
 }
