@@ -24,11 +24,21 @@ struct Held<T> {
 }
 
 /// A desk with the list of its accepted events and their replies. A refused event is not stored.
-#[derive(Drop)]
 pub struct Hall {
     config: Config,
     held: Held<Desk<Global>>,
     history: Log<Global>,
+}
+
+// By hand, so that a hall is taken apart here alone, and not wherever one is dropped.
+impl Drop for Hall {
+    fn drop(self) {
+        let Hall {
+            config: _,
+            held: _,
+            history: _,
+        } = self;
+    }
 }
 
 impl Model for Hall {

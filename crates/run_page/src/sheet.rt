@@ -19,11 +19,11 @@ use record_lines::{Line, Text, put_header};
 use rename_core::Config;
 use run_checker::gather::Gather;
 use std::alloc::{AllocError, Global};
+use std::mem;
 use step_memory::Place;
 
 /// A page so far: up to its rows, the state before them, and the items that come after. Beside it a desk on which the lines so far
 /// were replayed, with what it did at the last of them, who has begun, and which places were reached.
-#[derive(Drop)]
 pub(crate) struct Sheet {
     desk: Desk<Global>,
     begun: Vec<u64>,
@@ -34,6 +34,23 @@ pub(crate) struct Sheet {
     before: Text,
     text: Text,
     listed: Text,
+}
+
+// By hand, so that a sheet is taken apart here alone, and not wherever one is dropped.
+impl Drop for Sheet {
+    fn drop(self) {
+        let Sheet {
+            desk: _,
+            begun: _,
+            reached: _,
+            done: _,
+            stretch: _,
+            seen: _,
+            before: _,
+            text: _,
+            listed: _,
+        } = self;
+    }
 }
 
 /// Appends what stands before the first row.
@@ -110,29 +127,40 @@ impl Sheet {
         })
     }
 
-    /// The whole page, which is of this stretch. An error where a growth was refused.
-    pub(crate) fn into_page(self, stretch: Stretch) -> Result<Text, AllocError>
-        ensures { IfOk result (IsPageOf self stretch) }
+    /// Puts what stands after the last row of a page, which is of this stretch. An error where a growth was refused.
+    fn finish(&mut self, stretch: Stretch) -> Result<(), AllocError>
+        ensures { OnOk result (IsPageOf self.old stretch self.new.text) }
     {
-        let Sheet {
-            desk,
-            begun,
-            reached,
-            done: _,
-            stretch: kept,
-            seen,
-            mut before,
-            mut text,
-            listed,
-        } = self;
         // What gathers lines may change all that it keeps, so it is looked at again.
-        if kept.from != stretch.from || kept.count != stretch.count {
+        if self.stretch.from != stretch.from || self.stretch.count != stretch.count {
             return Err(AllocError);
         }
-        let is_past = kept.is_past(seen);
-        put_state_where_asked(is_past, &desk, &begun, &reached, &mut before)?;
-        put_ending(&before, &desk, &begun, &reached, seen, &listed, &mut text)?;
-        Ok(text)
+        let is_past = self.stretch.is_past(self.seen);
+        put_state_where_asked(
+            is_past,
+            &self.desk,
+            &self.begun,
+            &self.reached,
+            &mut self.before,
+        )?;
+        put_ending(
+            &self.before,
+            &self.desk,
+            &self.begun,
+            &self.reached,
+            self.seen,
+            &self.listed,
+            &mut self.text,
+        )?;
+        Ok(())
+    }
+
+    /// The whole page, which is of this stretch. An error where a growth was refused.
+    pub(crate) fn into_page(mut self, alloc: Global, stretch: Stretch) -> Result<Text, AllocError>
+        ensures { IfOk result (IsPageOf self stretch) }
+    {
+        self.finish(stretch)?;
+        Ok(mem::replace(&mut self.text, Text::new(alloc)))
     }
 }
 

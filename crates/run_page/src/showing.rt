@@ -26,7 +26,7 @@ fn shown(alloc: Global, bytes: &[u8], stretch: Stretch) -> Result<Result<Text, V
     let mut sheet = Sheet::new(alloc, header.config, stretch)?;
     match judge_rows(alloc, header, rows, &mut sheet)? {
         Verdict::Yes => {
-            let page = sheet.into_page(stretch)?;
+            let page = sheet.into_page(alloc, stretch)?;
             Ok(Ok(page))
         }
         verdict => Ok(Err(verdict)),

@@ -1,11 +1,11 @@
 use Rattle.std.proofs.Common.{◌≡◌, ℕ, ◌-◌, nat_le, Bool, if◌then◌else◌, List, [], ◌++◌, ap, ◌∙◌}
 use Rattle.run_page.proofs.Common.{Data, ending, whole_before, state}
 use Rattle.run_page.proofs.PageLemmas.{same_stretch}
-use Rattle.run_page.proofs.sheet.Sheet.into_page.Goals as goal
+use Rattle.run_page.proofs.sheet.Sheet.finish.Goals as goal
 
 pub returns : goal.returns
 returns c =
-    let s = c.args.self in
+    let s = c.args.self.now in
     let told = c.put_state_where_asked.new.out in
     let before_is : told ≡ whole_before s =
     c.in_ok-put_state_where_asked.ensures
@@ -13,7 +13,7 @@ returns c =
     ∙ ap (λ (ids : List ℕ). s.before ++ (if nat_le s.seen (s.stretch.from - 1) then state Data s.desk ids c.deref-2.result.now else [])) c.deref.ensures.value
     ∙ ap (λ (places : List ℕ). s.before ++ (if nat_le s.seen (s.stretch.from - 1) then state Data s.desk s.begun.items places else [])) c.deref-2.ensures.value in
     record {
-      same = same_stretch s.stretch c.args.stretch c.if-kept-stretch.false c.if-kept-stretch-2.false;
+      same = same_stretch s.stretch c.args.stretch c.if-self-stretch.false c.if-self-stretch-2.false;
       text_is =
           c.in_ok-put_ending.ensures
           ∙ ap (λ (ids : List ℕ). s.text ++ ending told s.desk ids c.deref-4.result.now s.seen s.listed) c.deref-3.ensures.value
