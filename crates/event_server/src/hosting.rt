@@ -107,26 +107,7 @@ where
     requires { (q : Request) → D.knows q ≡ true }
 {
     let mut hosting = Hosting::new(rt, alloc, options, keep.most_ahead())?;
-    let Ok(mut events) = Events::with_capacity(alloc, EVENTS) else {
-        return Err(HostFault::Memory);
-    };
-    let mut room = Room::new(alloc)?;
-    hosting.tell_port(output)?;
-    for _ in rt.forever() {
-        let wait = hosting.next_wait();
-        hosting.wait(rt, &mut events, wait)?;
-        hosting.accept_all(errors)?;
-        hosting.tell_tick(service, keep)?;
-        hosting.serve(rt, service, keep, &mut room)?;
-        if hosting.is_report_due() {
-            hosting.tell_tally(keep.tally(service), errors);
-        }
-        if hosting.stop {
-            break;
-        }
-    }
-    hosting.finish(rt, service, keep, &mut room, &mut events)?;
-    hosting.tell_end(output)
+    hosting.run(rt, service, keep, output, errors)
 }
 
 impl Hosting {
@@ -163,6 +144,57 @@ impl Hosting {
             batch,
             ticked: false,
         })
+    }
+
+    // Says where clients are listened for, goes round until it is to end, sends what waits then, and says how many were served.
+    fn run<R: Wait + Clock, D: Service<R>, K: Keep<D>, W: Write, E: Write>(
+        &mut self,
+        rt: &R,
+        service: &mut D,
+        keep: &mut K,
+        output: &mut W,
+        errors: &mut E,
+    ) -> Result<Hosted, HostFault<K::Fault>>
+        requires { (q : Request) → D.knows q ≡ true }
+    {
+        let Ok(mut events) = Events::with_capacity(self.alloc, EVENTS) else {
+            return Err(HostFault::Memory);
+        };
+        let mut room = Room::new(self.alloc)?;
+        self.tell_port(output)?;
+        for _ in rt.forever() {
+            self.go_round(rt, service, keep, &mut room, &mut events, errors)?;
+            if self.stop {
+                break;
+            }
+        }
+        self.finish(rt, service, keep, &mut room, &mut events)?;
+        self.tell_end(output)
+    }
+
+    // Once round: waits, accepts, has the keeper go on, serves, and tells how much there is where that is due.
+    fn go_round<R: Clock, D: Service<R>, K: Keep<D>, E: Write>(
+        &mut self,
+        rt: &R,
+        service: &mut D,
+        keep: &mut K,
+        room: &mut Room<Global>,
+        events: &mut Events<Global>,
+        errors: &mut E,
+    ) -> Result<(), HostFault<K::Fault>>
+        requires knows { (q : Request) → D.knows q ≡ true }
+        requires room { IsRoom room.old }
+        ensures { IsRoom room.new }
+    {
+        let wait = self.next_wait();
+        self.wait(rt, events, wait)?;
+        self.accept_all(errors)?;
+        self.tell_tick(service, keep)?;
+        self.serve(rt, service, keep, room)?;
+        if self.is_report_due() {
+            self.tell_tally(keep.tally(service), errors);
+        }
+        Ok(())
     }
 
     // Whether a connection that waits can be accepted: the system tells only once that some wait.
