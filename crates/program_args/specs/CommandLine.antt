@@ -143,10 +143,13 @@ migrate_app = new_app (codes "migrate")
 abbrev pub show_app : App
 show_app = with_rule (with_rule (new_app (codes "show")) from_option) shown_option
 
--- the program with its subcommands, one of which has to be given
-abbrev pub slotctl_app : App
-slotctl_app =
+-- the program with its subcommands of runs and records, one of which has to be given
+abbrev pub records_app : App
+records_app =
     let program = new_app (codes "slotctl") in
     let needed = record program { top = record program.top { subcommand_required = true; has_version = true } } in
-    let of_records = with_subcommand (with_subcommand (with_subcommand (with_subcommand needed play_app.top) check_app.top) migrate_app.top) show_app.top in
-    with_subcommand (with_subcommand (with_subcommand of_records draw_app.top) serve_app.top) host_app.top
+    with_subcommand (with_subcommand (with_subcommand (with_subcommand needed play_app.top) check_app.top) migrate_app.top) show_app.top
+
+-- the program with all its subcommands
+abbrev pub slotctl_app : App
+slotctl_app = with_subcommand (with_subcommand (with_subcommand records_app draw_app.top) serve_app.top) host_app.top

@@ -3,7 +3,7 @@
 ghost use Rattle.std.specs.Prelude.{◌≡◌, false, IfOk};
 ghost use Rattle.clap.specs.Words.{app_of, rule_of};
 ghost use Rattle.clap.specs.declared.builder.command.Command.TheViews.{out-Command};
-ghost use Rattle.program_args.specs.CommandLine.{address_option, check_app, config_app, draw_app, draw_needs_app, flag, host_app, host_keeping_app, host_network_app, limit_option, m_option, migrate_app, needed_option, number_option, play_app, serve_app, show_app, slotctl_app, text_option, world_option};
+ghost use Rattle.program_args.specs.CommandLine.{address_option, check_app, config_app, draw_app, draw_needs_app, flag, host_app, host_keeping_app, host_network_app, limit_option, m_option, migrate_app, needed_option, number_option, play_app, records_app, serve_app, show_app, slotctl_app, text_option, world_option};
 
 use clap::builder::ValueParser;
 use clap::{Arg, ArgAction, Command};
@@ -422,24 +422,26 @@ fn host_command<'a>(alloc: Global) -> Result<Command<'a>, AllocError>
         ))
 }
 
-/// The program with its subcommands, one of which has to be given.
-pub fn slotctl_command<'a>(alloc: Global) -> Result<Command<'a>, AllocError>
-    ensures { IfOk result (λ c. app_of c ≡ slotctl_app) }
+// The program with its subcommands of runs and records, one of which has to be given.
+fn records_command<'a>(alloc: Global) -> Result<Command<'a>, AllocError>
+    ensures { IfOk result (λ c. app_of c ≡ records_app) }
 {
-    let play = play_command(alloc)?;
-    let show = show_command(alloc)?;
-    let draw = draw_command(alloc)?;
-    let serve = serve_command(alloc)?;
-    let host = host_command(alloc)?;
     Command::new(alloc, "slotctl")
         .version(VERSION)
         .about("Plays schedules of shared-memory algorithms, one access a step")
         .subcommand_required(true)
-        .subcommand(play)?
+        .subcommand(play_command(alloc)?)?
         .subcommand(check_command(alloc))?
         .subcommand(migrate_command(alloc))?
-        .subcommand(show)?
-        .subcommand(draw)?
-        .subcommand(serve)?
-        .subcommand(host)
+        .subcommand(show_command(alloc)?)
+}
+
+/// The program with its subcommands, one of which has to be given.
+pub fn slotctl_command<'a>(alloc: Global) -> Result<Command<'a>, AllocError>
+    ensures { IfOk result (λ c. app_of c ≡ slotctl_app) }
+{
+    records_command(alloc)?
+        .subcommand(draw_command(alloc)?)?
+        .subcommand(serve_command(alloc)?)?
+        .subcommand(host_command(alloc)?)
 }

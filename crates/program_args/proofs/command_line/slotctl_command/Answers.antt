@@ -1,20 +1,10 @@
-use Rattle.std.proofs.Common.{ap, ap₂, codes, true, ◌≡◌, ◌∙◌}
-use Rattle.std.proofs.lemmas.Result.{IfOk-weaker}
-use Rattle.clap.specs.Words.{App, app_of, new_app, with_subcommand}
-use Rattle.clap.specs.Simple.{app_of_fields, on_top}
+use Rattle.std.proofs.Common.{ap, ap₂, ◌∙◌}
+use Rattle.program_args.proofs.Common.{IfOk-weaker}
+use Rattle.clap.specs.Words.{App, with_subcommand}
 use Rattle.program_args.proofs.command_line.slotctl_command.Goals as goal
 
 pub returns : goal.returns
 returns c =
-    let told : App = on_top (λ s. record s { has_version = true }) (new_app (codes "slotctl")) in
-    let version_is : app_of c.version.result ≡ told = ap app_of_fields c.version.ensures ∙ ap (on_top (λ s. record s { has_version = true })) c.new.ensures.app in
-    let about_is : app_of c.about.result ≡ told = ap app_of_fields c.about.ensures ∙ version_is in
-    let required_is : app_of c.subcommand_required.result ≡ on_top (λ s. record s { subcommand_required = true }) told =
-    ap app_of_fields c.subcommand_required.ensures ∙ ap (on_top (λ s. record s { subcommand_required = true })) about_is in
-    let with_play = c.in_ok-subcommand.ensures.shape c.in_ok-play.ensures.local ∙ ap₂ with_subcommand required_is (ap (λ (a : App). a.top) c.in_ok-play.ensures.app) in
-    let with_check = c.in_ok-subcommand-2.ensures.shape c.check_command.ensures.local ∙ ap₂ with_subcommand with_play (ap (λ (a : App). a.top) c.check_command.ensures.app) in
-    let with_migrate = c.in_ok-subcommand-3.ensures.shape c.migrate_command.ensures.local ∙ ap₂ with_subcommand with_check (ap (λ (a : App). a.top) c.migrate_command.ensures.app) in
-    let with_show = c.in_ok-subcommand-4.ensures.shape c.in_ok-show.ensures.local ∙ ap₂ with_subcommand with_migrate (ap (λ (a : App). a.top) c.in_ok-show.ensures.app) in
-    let with_draw = c.in_ok-subcommand-5.ensures.shape c.in_ok-draw.ensures.local ∙ ap₂ with_subcommand with_show (ap (λ (a : App). a.top) c.in_ok-draw.ensures.app) in
-    let with_serve = c.in_ok-subcommand-6.ensures.shape c.in_ok-serve.ensures.local ∙ ap₂ with_subcommand with_draw (ap (λ (a : App). a.top) c.in_ok-serve.ensures.app) in
-    IfOk-weaker c.subcommand-7.result _ _ (λ r h. h.shape c.in_ok-host.ensures.local ∙ ap₂ with_subcommand with_serve (ap (λ (a : App). a.top) c.in_ok-host.ensures.app)) c.subcommand-7.ensures
+    let with_draw = c.in_ok-subcommand.ensures.shape c.in_ok-draw_command.ensures.local ∙ ap₂ with_subcommand c.in_ok-records_command.ensures (ap (λ (a : App). a.top) c.in_ok-draw_command.ensures.app) in
+    let with_serve = c.in_ok-subcommand-2.ensures.shape c.in_ok-serve_command.ensures.local ∙ ap₂ with_subcommand with_draw (ap (λ (a : App). a.top) c.in_ok-serve_command.ensures.app) in
+    IfOk-weaker c.subcommand-3.result _ _ (λ r h. h.shape c.in_ok-host_command.ensures.local ∙ ap₂ with_subcommand with_serve (ap (λ (a : App). a.top) c.in_ok-host_command.ensures.app)) c.subcommand-3.ensures
