@@ -8,10 +8,11 @@ use commands::Config;
 use etcd_log::{EtcdStore, TcpDial};
 use event_server::{HostOptions, host};
 use hall_compaction::Compactor;
-use hall_log::{LogKeeper, Tape};
-use journal::{Journal, Opened};
-use journal_disk::FileDisk;
+use hall_log::{LogKeeper, Pause, Tape};
+use journal::{Chronicle, Journal, Opened};
+use journal_disk::{Disk, FileDisk};
 use locked_world::Hall;
+use one_log::Store;
 use std::alloc::{AllocGlobal, Global};
 use std::fs::File;
 use std::io::Write;
@@ -86,27 +87,30 @@ fn host_journal<R, W: Write, E: Write>(
 where
     R: Net + Wait + Clock + Files<File = File> + AllocGlobal + Copy + Drop,
 {
-    let opened = open_journal(rt, alloc, plan.config, path)?;
     let Opened {
         journal,
         mut chronicle,
-    } = opened;
-    let compactor = Compactor::new();
+    } = open_journal(rt, alloc, plan.config, path)?;
     let mut keeper = Recorded {
         journal,
         alloc,
-        compactor,
+        compactor: Compactor::new(),
     };
-    keeper.compact_when_due(&mut chronicle)?;
-    host(
-        rt,
-        alloc,
-        plan.options(),
-        &mut chronicle,
-        &mut keeper,
-        output,
-        errors,
-    )?;
+    host_recorded(rt, alloc, plan, &mut chronicle, &mut keeper, output, errors)
+}
+
+// Serves what was read of a journal, which is compacted before where it is long.
+fn host_recorded<R: Net + Wait + Clock, D: Disk, W: Write, E: Write>(
+    rt: &R,
+    alloc: Global,
+    plan: &HostPlan<'_>,
+    chronicle: &mut Chronicle,
+    keeper: &mut Recorded<D>,
+    output: &mut W,
+    errors: &mut E,
+) -> Result<(), HostFailure> {
+    keeper.compact_when_due(chronicle)?;
+    host(rt, alloc, plan.options(), chronicle, keeper, output, errors)?;
     Ok(())
 }
 
@@ -143,13 +147,24 @@ fn open_log<'r, R: Net + Clock + Files<File = File>>(
     log: LogPlan<'_>,
 ) -> Result<LogKeeper<EtcdStore<TcpDial<'r, R>>, Patience<'r, R>>, HostFailure> {
     let members = members_of(alloc, log.members)?;
+    let token = fresh_token(rt)?;
     let Ok(prefix) = String::from_str(alloc, log.prefix) else {
         return Err(HostFailure::Memory);
     };
     let dial = TcpDial::new(rt, members, Duration::from_secs(MEMBER_SECONDS));
     let store = EtcdStore::new(alloc, dial, prefix);
-    let token = fresh_token(rt)?;
-    match LogKeeper::open(alloc, store, Patience::new(rt, log.patience), config, token) {
+    followed(alloc, store, Patience::new(rt, log.patience), config, token)
+}
+
+// Opens the hall of a log, whatever that stands in.
+fn followed<S: Store + Drop, P: Pause + Drop>(
+    alloc: Global,
+    store: S,
+    pause: P,
+    config: Config,
+    token: [u8; 32],
+) -> Result<LogKeeper<S, P>, HostFailure> {
+    match LogKeeper::open(alloc, store, pause, config, token) {
         Ok(keeper) => Ok(keeper),
         Err(fault) => Err(HostFailure::from(fault)),
     }
@@ -168,16 +183,20 @@ where
     R: Net + Wait + Clock + Files<File = File>,
 {
     let mut keeper = open_log(rt, alloc, plan.config, log)?;
+    host_kept(rt, alloc, plan, &mut keeper, output, errors)
+}
+
+// Serves what a keeper follows, whatever its log stands in.
+fn host_kept<R: Net + Wait + Clock, S: Store, P: Pause, W: Write, E: Write>(
+    rt: &R,
+    alloc: Global,
+    plan: &HostPlan<'_>,
+    keeper: &mut LogKeeper<S, P>,
+    output: &mut W,
+    errors: &mut E,
+) -> Result<(), HostFailure> {
     let mut tape = Tape::new(alloc);
-    host(
-        rt,
-        alloc,
-        plan.options(),
-        &mut tape,
-        &mut keeper,
-        output,
-        errors,
-    )?;
+    host(rt, alloc, plan.options(), &mut tape, keeper, output, errors)?;
     Ok(())
 }
 
@@ -190,6 +209,15 @@ pub fn export_hall<R: Net + Clock + Files<File = File>, W: Write>(
     output: &mut W,
 ) -> Result<(), HostFailure> {
     let keeper = open_log(rt, alloc, config, log)?;
+    export_kept(alloc, &keeper, output)
+}
+
+// Writes the events of the hall that a keeper follows, whatever its log stands in.
+fn export_kept<S: Store, P: Pause, W: Write>(
+    alloc: Global,
+    keeper: &LogKeeper<S, P>,
+    output: &mut W,
+) -> Result<(), HostFailure> {
     write_events(alloc, keeper.hall(), output)
 }
 
