@@ -1,4 +1,4 @@
-//! Sessions of a lock that post their names on a board.
+//! Sessions of a lock, each in a thread, that post their names on a board.
 
 ghost use Rattle.std.specs.Prelude.{◌≡◌, All, IfSome};
 
@@ -14,105 +14,6 @@ use std::sync::Wait;
 use std::thread;
 use std::thread::Threads;
 
-/// Whose name it is, by a grant, if there is one.
-fn granted(grant: &Option<Grant>) -> Option<(u64, u64)> {
-    grant.as_ref().map(|grant| (grant.name(), grant.identity()))
-}
-
-/// Looks whether a name is an identity's, and compares what is told.
-fn looks(
-    rt: &impl Abort,
-    board: &Board<Global>,
-    seat: &mut ReaderSeat,
-    word: (u64, u64),
-    is_so: bool,
-)
-    requires { seat.old.board ≡ board.now }
-    ensures { seat.new.board ≡ board.now }
-{
-    let told = granted(&board.confirm(seat, word.0, word.1));
-    assert_eq!(rt; told, is_so.then_some(word), "{word:?}");
-}
-
-/// What a third seat is told, on a board where 1 is 10's, 3 is 20's and 2 is free.
-fn looks_at_names(rt: &impl Abort, board: &Board<Global>, seat: &mut ReaderSeat)
-    requires { seat.old.board ≡ board.now }
-    ensures { seat.new.board ≡ board.now }
-{
-    looks(rt, board, seat, (3, 20), true);
-    looks(rt, board, seat, (1, 20), false);
-    looks(rt, board, seat, (2, 10), false);
-    looks(rt, board, seat, (9, 10), false);
-    looks(rt, board, seat, (2, 0), false);
-    assert_eq!(rt; (board.owner(3), board.owner(2)), (Some(20), None));
-}
-
-/// Posts a name that a session must have.
-fn posts<L: LockName>(
-    rt: &impl Abort,
-    board: &Board<Global>,
-    session: &Session<L>,
-    seat: &mut ReaderSeat,
-    want: (u64, u64),
-) -> Grant
-    requires { seat.old.board ≡ board.now }
-    ensures seat { seat.new.board ≡ board.now }
-    ensures grant { result.board ≡ board.now }
-{
-    let grant = post_name(session, board, seat).expect(rt, "a session that is named");
-    assert_eq!(rt; (grant.name(), grant.identity()), want);
-    grant
-}
-
-/// 10 is named by its 17th step, and posts its name; before, it had none.
-fn ten_is_named<L: LockName, R: Abort + Wait>(
-    rt: &R,
-    lock: &HallLock<L>,
-    board: &Board<Global>,
-    session: &mut Session<L>,
-    seat: &mut ReaderSeat,
-) -> Grant
-    requires { seat.old.board ≡ board.now }
-    ensures seat { seat.new.board ≡ board.now }
-    ensures grant { result.board ≡ board.now }
-{
-    assert!(rt; post_name(session, board, seat).is_none());
-    assert_eq!(rt; lock.rename(rt, session, 17), Ok(Some(1)));
-    posts(rt, board, session, seat, (1, 10))
-}
-
-/// 20 is named by its 32nd step, and posts its name twice; 10's name it doesn't get.
-fn twenty_is_named<L: LockName, R: Abort + Wait>(
-    rt: &R,
-    lock: &HallLock<L>,
-    board: &Board<Global>,
-    session: &mut Session<L>,
-    seat: &mut ReaderSeat,
-) -> Grant
-    requires { seat.old.board ≡ board.now }
-    ensures seat { seat.new.board ≡ board.now }
-    ensures grant { result.board ≡ board.now }
-{
-    assert_eq!(rt; lock.rename(rt, session, 100), Ok(Some(3)));
-    assert_eq!(rt; session.count(), 33);
-    assert!(rt; board.post(seat, 1, 20).is_none());
-    let _ = posts(rt, board, session, seat, (3, 20));
-    posts(rt, board, session, seat, (3, 20))
-}
-
-/// The words of the closed board agree with the closed history, and so do free ones; others do not.
-fn words_agree<L: LockName>(rt: &impl Abort, closed: &Closed<L>, words: &[u64]) {
-    assert_eq!(rt; words, [10, 0, 20].as_slice());
-    for (words, agree) in [
-        (words, true),
-        (&[0, 0, 0], true),
-        (&[10, 20, 0], false),
-        (&[10, 0, 20, 30], false),
-    ] {
-        assert_eq!(rt; agrees(closed, words), agree, "{words:?}");
-    }
-}
-
 /// The words of a board as it ends, where one grant is handed in.
 fn words_at_end(rt: &impl Abort, alloc: Global, board: Board<Global>, grant: Grant) -> Vec<u64>
     requires { grant.board ≡ board }
@@ -121,39 +22,6 @@ fn words_at_end(rt: &impl Abort, alloc: Global, board: Board<Global>, grant: Gra
     out.push(grant).ok().expect(rt, "room for a grant");
     let (words, _) = board.close_all(alloc, out).expect(rt, "room for the words");
     words
-}
-
-/// Two sessions post their names on a board of three. How many events the closed history has.
-fn two_sessions<L: LockName, R: Abort + Wait>(rt: &R, alloc: Global, opening: Opening) -> usize
-    requires name { (opening.blank.name ≡ L.name) × (opening.blank.parts ≡ L.parts) }
-    requires book { opening.history.seen.book ≡ L.book }
-    requires config { opening.config ≡ L.config }
-{
-    let lock = opened::<L>(rt, alloc, opening);
-    let (board, mut first) = Board::new(alloc, 3).expect(rt, "room for a board");
-    let mut second = board.reader(&mut first);
-    let mut third = board.reader(&mut first);
-    let mut ten = begins(rt, alloc, &lock, 10);
-    let mut one = ten_is_named(rt, &lock, &board, &mut ten, &mut first);
-    let mut twenty = begins(rt, alloc, &lock, 20);
-    let mut two = twenty_is_named(rt, &lock, &board, &mut twenty, &mut second);
-    looks_at_names(rt, &board, &mut third);
-    board.meet(&mut one, &mut two);
-    let sessions = with(rt, with(rt, Vec::new(alloc), ten), twenty);
-    let closed = closed(rt, lock, sessions, Vec::new(alloc));
-    let words = words_at_end(rt, alloc, board, two);
-    words_agree(rt, &closed, &words);
-    closed.hall.len()
-}
-
-#[test]
-fn two_sessions_post_their_names(rt: HostRuntime) {
-    let length = two_sessions::<Brand, _>(
-        &rt,
-        rt.alloc(),
-        Opening::new(&rt, WorldKind::Rename, 2, 4),
-    );
-    assert_eq!(rt; length, 51);
 }
 
 /// What a thread is given: a session, and a seat of the board.

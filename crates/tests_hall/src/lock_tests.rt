@@ -13,13 +13,6 @@ use std::thread;
 use std::thread::Threads;
 use step_memory::{Refusal, View};
 
-/// The view in which one identity has proposed a number.
-fn sole(id: u64, number: u64) -> View {
-    let mut view = View::new();
-    view.insert(id, number);
-    view
-}
-
 /// A config of this world, for so many participants and numbers.
 fn config(rt: &impl Abort, (world, m, k): (WorldKind, u64, u64)) -> Config {
     Config::new(world, m, k, 1000).expect(rt, "a config in range")
@@ -30,101 +23,11 @@ fn hall(rt: &impl Abort, alloc: Global, shape: (WorldKind, u64, u64)) -> Hall {
     Hall::new(alloc, config(rt, shape)).expect(rt, "room for a hall")
 }
 
-/// Applies an event to a hall and compares its reply, what would be refused with what is, and what is stored.
-fn applies(rt: &impl Abort, hall: &mut Hall, event: Event, want: &Reply<View>) {
-    let before = hall.len();
-    let due = hall.refusal(event);
+/// Whether a hall refuses an event for this reason, says so before, and stores nothing.
+fn refuses(hall: &mut Hall, event: Event, refusal: Refusal) -> bool {
+    let (due, before) = (hall.refusal(event), hall.len());
     let reply = hall.apply(event);
-    assert!(rt; reply == *want, "{event:?}: {reply:?}");
-    if let Reply::Refused(refusal) = reply {
-        assert_eq!(rt; (due, hall.len()), (Some(refusal), before), "{event:?}");
-        return;
-    }
-    assert_eq!(rt;
-        (due, Some(hall.len())),
-        (None, before.checked_add(1)),
-        "{event:?}"
-    );
-    let stored = hall.get(before).expect(rt, "an accepted event is stored");
-    assert!(rt; stored.event == event && stored.reply == reply, "{event:?}");
-}
-
-/// Makes so many steps of 7, of which the last answers this and those before it are quiet.
-fn steps(rt: &impl Abort, hall: &mut Hall, count: usize, last: &Reply<View>) {
-    for _ in 1..count {
-        applies(rt, hall, Event::Step(7), &Reply::Quiet);
-    }
-    applies(rt, hall, Event::Step(7), last);
-}
-
-/// The way of 7 in a hall: after how many steps each what is answered.
-fn seven_goes(rt: &impl Abort, hall: &mut Hall, rows: &[(usize, Reply<View>)]) {
-    applies(rt, hall, Event::Step(7), &Reply::Refused(Refusal::NotBegun));
-    applies(rt, hall, Event::Begin(7), &Reply::Ok);
-    for (count, last) in rows {
-        steps(rt, hall, *count, last);
-    }
-}
-
-/// Compares what is told of a name.
-fn is_told(rt: &impl Abort, name: u64, reply: &Reply<View>, want: &Reply<View>) {
-    assert!(rt; *reply == *want, "{name}: {reply:?}");
-}
-
-/// Compares who has these names in a hall.
-fn owners_are(rt: &impl Abort, hall: &Hall, rows: &[(u64, Reply<View>)]) {
-    for (name, want) in rows {
-        is_told(rt, *name, &hall.owner(*name), want);
-    }
-}
-
-/// 7 goes its way alone in a hall of this world, and then names have these owners. How long the history is then.
-fn one_goes(
-    rt: &impl Abort,
-    alloc: Global,
-    shape: (WorldKind, u64, u64),
-    steps: &[(usize, Reply<View>)],
-    owners: &[(u64, Reply<View>)],
-) -> usize {
-    let mut hall = hall(rt, alloc, shape);
-    seven_goes(rt, &mut hall, steps);
-    owners_are(rt, &hall, owners);
-    let length = hall.len();
-    law_of_hall(&hall);
-    length
-}
-
-/// One participant alone in a hall over a grid. How long the history is then.
-fn one_over_a_grid(rt: &impl Abort, alloc: Global) -> usize {
-    let steps = [
-        (4, Reply::Place(0)),
-        (3, Reply::Proposed(1)),
-        (2, Reply::Named(1, sole(7, 1))),
-        (1, Reply::Refused(Refusal::Finished)),
-    ];
-    let owners = [
-        (1, Reply::Owner(Some(7))),
-        (2, Reply::Refused(Refusal::OutOfRange)),
-    ];
-    one_goes(rt, alloc, (WorldKind::Rename, 1, 4), &steps, &owners)
-}
-
-/// The same over a tree.
-fn one_over_a_tree(rt: &impl Abort, alloc: Global) -> usize {
-    let steps = [
-        (5, Reply::Place(1)),
-        (9, Reply::Proposed(1)),
-        (8, Reply::Named(1, sole(7, 1))),
-    ];
-    let owners = [(3, Reply::Owner(None))];
-    one_goes(rt, alloc, (WorldKind::Tree, 2, 4), &steps, &owners)
-}
-
-/// One participant alone, in both worlds: a refused event leaves no trace in the history.
-#[test]
-fn one_in_a_hall(rt: HostRuntime) {
-    assert!(rt; one_over_a_grid(&rt, rt.alloc()) == 10);
-    assert!(rt; one_over_a_tree(&rt, rt.alloc()) == 23);
+    reply == Reply::Refused(refusal) && due == Some(refusal) && hall.len() == before
 }
 
 /// Halls are opened where names are given alone.
@@ -146,6 +49,7 @@ fn a_full_history(rt: HostRuntime) {
         hall.apply(Event::Put(5, value));
     }
     assert_eq!(rt; hall.len(), 1_000_000);
+    law_of_hall(&hall);
     for (event, refusal) in [
         (Event::Get(5), Refusal::HistoryFull),
         (Event::Leave(5), Refusal::HistoryFull),
@@ -155,7 +59,7 @@ fn a_full_history(rt: HostRuntime) {
         (Event::Get(6), Refusal::NotCompeting),
         (Event::Begin(0), Refusal::ZeroIdentity),
     ] {
-        applies(&rt, &mut hall, event, &Reply::Refused(refusal));
+        assert!(rt; refuses(&mut hall, event, refusal), "{event:?}");
     }
 }
 
@@ -175,69 +79,6 @@ pub(crate) fn with<T: Drop>(rt: &impl Abort, list: Vec<T>, one: T) -> Vec<T> {
     let mut list = list;
     list.push(one).ok().expect(rt, "room for one more");
     list
-}
-
-/// A clerk applies events, with these replies.
-fn clerk_applies<L: LockName, R: Abort + Wait>(
-    rt: &R,
-    lock: &HallLock<L>,
-    clerk: &mut Clerk<L>,
-    rows: &[(Event, Reply<View>)],
-) {
-    for (event, want) in rows {
-        let reply = lock.apply(rt, clerk, *event);
-        assert!(rt; reply == *want, "{event:?}: {reply:?}");
-    }
-}
-
-/// The row of one participant alone, through a clerk.
-fn one_goes_by<L: LockName, R: Abort + Wait>(rt: &R, lock: &HallLock<L>, clerk: &mut Clerk<L>) {
-    let step = Event::Step(7);
-    let rows = [
-        (Event::Begin(7), Reply::Ok),
-        (step, Reply::Quiet),
-        (step, Reply::Quiet),
-        (step, Reply::Quiet),
-        (step, Reply::Place(0)),
-        (step, Reply::Quiet),
-        (step, Reply::Quiet),
-        (step, Reply::Proposed(1)),
-        (step, Reply::Quiet),
-        (step, Reply::Named(1, sole(7, 1))),
-        (step, Reply::Refused(Refusal::Finished)),
-    ];
-    clerk_applies(rt, lock, clerk, &rows);
-}
-
-/// Compares who has two names by a lock: 7, and one that is out of range.
-fn owners_by<L: LockName, R: Abort + Wait>(rt: &R, lock: &HallLock<L>) {
-    is_told(rt, 1, &lock.owner(rt, 1), &Reply::Owner(Some(7)));
-    let refused = Reply::Refused(Refusal::OutOfRange);
-    is_told(rt, 2, &lock.owner(rt, 2), &refused);
-}
-
-/// One participant alone, through a clerk. How many events the closed history has.
-fn one_by_clerk<L: LockName, R: Abort + Wait>(rt: &R, alloc: Global, opening: Opening) -> usize
-    requires name { (opening.blank.name ≡ L.name) × (opening.blank.parts ≡ L.parts) }
-    requires book { opening.history.seen.book ≡ L.book }
-    requires config { opening.config ≡ L.config }
-{
-    let lock = opened::<L>(rt, alloc, opening);
-    let mut clerk = lock.clerk(rt, alloc).expect(rt, "room for a clerk");
-    one_goes_by(rt, &lock, &mut clerk);
-    owners_by(rt, &lock);
-    let clerks = with(rt, Vec::new(alloc), clerk);
-    closed(rt, lock, Vec::new(alloc), clerks).hall.len()
-}
-
-#[test]
-fn one_through_a_clerk(rt: HostRuntime) {
-    let length = one_by_clerk::<Brand, _>(
-        &rt,
-        rt.alloc(),
-        Opening::new(&rt, WorldKind::Rename, 1, 4),
-    );
-    assert_eq!(rt; length, 10);
 }
 
 /// A session acts, with these replies.

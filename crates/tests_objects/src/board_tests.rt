@@ -77,9 +77,41 @@ fn owners(board: &Board<Global>) -> [Option<u64>; 4] {
     ]
 }
 
-/// The name of a grant, and whose it is.
-fn name_of(grant: &Grant) -> (u64, u64) {
-    (grant.name(), grant.identity())
+/// Posts a name that is free.
+fn posted(
+    rt: &impl Abort,
+    board: &Board<Global>,
+    seat: &mut ReaderSeat,
+    name: u64,
+    identity: u64,
+) -> Grant
+    requires { seat.old.board ≡ board.now }
+    ensures seat { seat.new.board ≡ board.now }
+    ensures grant { result.board ≡ board.now }
+{
+    let Some(grant) = board.post(seat, name, identity) else {
+        panic!(rt; "{name} was free");
+    };
+    assert_eq!(rt; (grant.name(), grant.identity()), (name, identity));
+    grant
+}
+
+/// The words of a board as it ends, where two grants have met and are handed in.
+fn words_at_end(
+    alloc: Global,
+    board: Board<Global>,
+    mut one: Grant,
+    mut two: Grant,
+) -> Result<Vec<u64>, Fail>
+    requires one { one.board ≡ board }
+    requires two { two.board ≡ board }
+{
+    board.meet(&mut one, &mut two);
+    let mut out = Vec::new(alloc);
+    out.push(one)?;
+    out.push(two)?;
+    let (words, _) = board.close_all(alloc, out)?;
+    Ok(words)
 }
 
 /// Two names on a board of three, posted, confirmed and closed.
@@ -88,23 +120,14 @@ fn two_post_their_names(rt: HostRuntime) -> Result<(), Fail> {
     let (board, mut seat) = Board::new(rt.alloc(), 3)?;
     let mut second = board.reader(&mut seat);
     let mut third = board.reader(&mut second);
-    let Some(mut one) = board.post(&mut seat, 1, 10) else {
-        panic!(rt; "1 was free");
-    };
+    let one = posted(&rt, &board, &mut seat, 1, 10);
     let beside = granted(board.post(&mut second, 1, 20));
-    let Some(mut two) = board.post(&mut second, 3, 20) else {
-        panic!(rt; "3 was free");
-    };
+    let two = posted(&rt, &board, &mut second, 3, 20);
     let looked = looks(&board, &mut second, &mut third);
-    let told = (beside, looked, tries(&board, &mut third));
-    assert_eq!(rt; told, (None, [Some((3, 20)); 2], [None; 8]));
-    board.meet(&mut one, &mut two);
-    assert_eq!(rt; [name_of(&one), name_of(&two)], [(1, 10), (3, 20)]);
+    assert_eq!(rt; (beside, looked), (None, [Some((3, 20)); 2]));
+    assert_eq!(rt; tries(&board, &mut third), [None; 8]);
     assert_eq!(rt; owners(&board), [Some(20), None, None, None]);
-    let mut out = Vec::new(rt.alloc());
-    out.push(one)?;
-    out.push(two)?;
-    let (words, _) = board.close_all(rt.alloc(), out)?;
+    let words = words_at_end(rt.alloc(), board, one, two)?;
     assert_eq!(rt; words.as_slice(), [10, 0, 20].as_slice());
     Ok(())
 }

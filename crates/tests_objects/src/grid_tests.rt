@@ -1,153 +1,10 @@
-//! Worked examples of `splitter_grid`: walks of one to three participants, refusals, and want of memory.
+//! Grids of each size, how their doors are numbered, and a walk as a program. Walks of several participants are tried where they are
+//! played as lines, in `tests_player`.
 
 use splitter_grid::{Door, GridWorld, Walker, law_of_doors_and_walks, law_of_grid_calls};
-use std::alloc::Allocator;
-use std::process::Abort;
+use std::alloc::Global;
 use std::test::Fail;
 use step_memory::{Access, Answer, Note, Place, Refusal, StepProgram};
-
-/// A call: of steps so many, of which those before the last are quiet.
-#[derive(Clone, Copy, Debug, Drop)]
-enum Call {
-    Begin,
-    Steps(usize),
-    Place,
-    /// How many doors were entered, whoever asks.
-    Doors,
-}
-
-/// What a call answers, of steps the last.
-#[derive(Clone, Copy, Debug, Drop, PartialEq)]
-enum Told {
-    Done,
-    Quiet,
-    Placed(Place),
-    Entered(u64),
-    Refused(Refusal),
-}
-
-/// What a call that gives a place tells.
-fn walked(answer: Result<Option<Place>, Refusal>) -> Told {
-    match answer {
-        Ok(None) => Told::Quiet,
-        Ok(Some(place)) => Told::Placed(place),
-        Err(refusal) => Told::Refused(refusal),
-    }
-}
-
-/// What a call of a participant tells; of steps that are not quiet before the last that they are done.
-fn answer_of<A: Allocator + Clone>(world: &mut GridWorld<A>, id: u64, call: Call) -> Told {
-    match call {
-        Call::Begin => match world.begin(id) {
-            Ok(()) => Told::Done,
-            Err(refusal) => Told::Refused(refusal),
-        },
-        Call::Steps(count) => {
-            for _ in 1..count {
-                if world.step(id) != Ok(None) {
-                    return Told::Done;
-                }
-            }
-            walked(world.step(id))
-        }
-        Call::Place => walked(Ok(world.place_of(id))),
-        Call::Doors => Told::Entered(world.doors_entered()),
-    }
-}
-
-/// A call, of whom it is made, and what it tells.
-type Row = (u64, Call, Told);
-
-/// Makes these calls, each of which tells what stands beside it.
-fn plays<A: Allocator + Clone>(rt: &impl Abort, world: &mut GridWorld<A>, calls: &[Row]) {
-    for (id, call, want) in calls {
-        assert_eq!(rt; answer_of(world, *id, *call), *want, "{id} {call:?}");
-    }
-}
-
-/// Each of three begins, and then goes to its place before the next takes a step.
-const ONE_AFTER_ANOTHER: [Row; 17] = [
-    (10, Call::Begin, Told::Done),
-    (20, Call::Begin, Told::Done),
-    (30, Call::Begin, Told::Done),
-    (0, Call::Doors, Told::Entered(0)),
-    (10, Call::Place, Told::Quiet),
-    (10, Call::Steps(4), Told::Placed(0)),
-    (10, Call::Place, Told::Placed(0)),
-    (10, Call::Steps(1), Told::Refused(Refusal::Finished)),
-    (20, Call::Place, Told::Quiet),
-    (20, Call::Steps(6), Told::Placed(1)),
-    (20, Call::Place, Told::Placed(1)),
-    (20, Call::Steps(1), Told::Refused(Refusal::Finished)),
-    (30, Call::Place, Told::Quiet),
-    (30, Call::Steps(8), Told::Placed(3)),
-    (30, Call::Place, Told::Placed(3)),
-    (30, Call::Steps(1), Told::Refused(Refusal::Finished)),
-    (0, Call::Doors, Told::Entered(3)),
-];
-
-#[test]
-fn three_one_after_another(rt: HostRuntime) -> Result<(), Fail> {
-    let mut world = GridWorld::new(rt.alloc(), 3)?;
-    plays(&rt, &mut world, &ONE_AFTER_ANOTHER);
-    Ok(())
-}
-
-/// 10 steps no more until 20 has a place.
-const LATE_WAKER: [Row; 6] = [
-    (10, Call::Begin, Told::Done),
-    (20, Call::Begin, Told::Done),
-    (10, Call::Steps(3), Told::Quiet),
-    (20, Call::Steps(6), Told::Placed(1)),
-    (10, Call::Steps(5), Told::Placed(2)),
-    (0, Call::Doors, Told::Entered(3)),
-];
-
-#[test]
-fn a_late_waker_goes_down(rt: HostRuntime) -> Result<(), Fail> {
-    let mut world = GridWorld::new(rt.alloc(), 2)?;
-    plays(&rt, &mut world, &LATE_WAKER);
-    Ok(())
-}
-
-/// A door is entered by the access of a step.
-const MOVE: [Row; 7] = [
-    (10, Call::Begin, Told::Done),
-    (10, Call::Steps(4), Told::Placed(0)),
-    (20, Call::Begin, Told::Done),
-    (20, Call::Steps(2), Told::Quiet),
-    (0, Call::Doors, Told::Entered(1)),
-    (20, Call::Steps(1), Told::Quiet),
-    (0, Call::Doors, Told::Entered(2)),
-];
-
-#[test]
-fn a_move_is_no_access(rt: HostRuntime) -> Result<(), Fail> {
-    let mut world = GridWorld::new(rt.alloc(), 2)?;
-    plays(&rt, &mut world, &MOVE);
-    Ok(())
-}
-
-/// Each refusal of a world of one.
-const REFUSALS: [Row; 10] = [
-    (7, Call::Steps(1), Told::Refused(Refusal::NotBegun)),
-    (0, Call::Begin, Told::Refused(Refusal::ZeroIdentity)),
-    (7, Call::Begin, Told::Done),
-    (0, Call::Begin, Told::Refused(Refusal::ZeroIdentity)),
-    (7, Call::Begin, Told::Refused(Refusal::AlreadyBegun)),
-    (8, Call::Begin, Told::Refused(Refusal::Full)),
-    (8, Call::Steps(1), Told::Refused(Refusal::NotBegun)),
-    (8, Call::Place, Told::Quiet),
-    (7, Call::Steps(4), Told::Placed(0)),
-    (7, Call::Steps(1), Told::Refused(Refusal::Finished)),
-];
-
-#[test]
-fn refusals_in_their_order(rt: HostRuntime) -> Result<(), Fail> {
-    let mut world = GridWorld::new(rt.alloc(), 1)?;
-    plays(&rt, &mut world, &REFUSALS);
-    Ok(())
-}
 
 #[test]
 fn ranges_of_a_grid(rt: HostRuntime) {
@@ -159,8 +16,8 @@ fn ranges_of_a_grid(rt: HostRuntime) {
 }
 
 /// One begins and takes 64 steps, which are enough for any place.
-fn goes_to_its_place<A: Allocator + Clone>(world: &mut GridWorld<A>, id: u64) -> Told {
-    let begun = answer_of(world, id, Call::Begin);
+fn goes_to_its_place(world: &mut GridWorld<Global>, id: u64) -> Result<(), Refusal> {
+    let begun = world.begin(id);
     for _ in 0..64 {
         let _ = world.step(id);
     }
@@ -171,7 +28,7 @@ fn goes_to_its_place<A: Allocator + Clone>(world: &mut GridWorld<A>, id: u64) ->
 fn sixteen_one_after_another(rt: HostRuntime) -> Result<(), Fail> {
     let mut world = GridWorld::new(rt.alloc(), 16)?;
     for id in 1..17 {
-        assert_eq!(rt; goes_to_its_place(&mut world, id), Told::Done, "{id}");
+        assert_eq!(rt; goes_to_its_place(&mut world, id), Ok(()), "{id}");
     }
     for id in 1..17u64 {
         assert_eq!(rt; world.place_of(id), Some(u128::from(id * (id - 1) / 2)));

@@ -14,8 +14,6 @@ mod collect_walk_tests;
 #[cfg(test)]
 mod desk_tests;
 #[cfg(test)]
-mod full_heap;
-#[cfg(test)]
 mod grid_tests;
 #[cfg(test)]
 mod memory_tests;

@@ -1,11 +1,9 @@
-//! Updates and scans over a grid, a tree and segments in a row.
+//! Updates and scans over a grid and a tree.
 
-use crate::full_heap::filling;
 use crate::snapshot_tests::{Call, Row, Told, plays};
-use linked_list_allocator::LocalHeap;
-use snapshot_core::{Fixed, Places, SnapWorld, law_of_clients, law_of_snapshot_calls};
+use snapshot_core::{Places, SnapWorld, law_of_clients, law_of_snapshot_calls};
 use snapshot_places::{Grid, TreePlaces, grid_snapshot_law, tree_snapshot_law};
-use std::alloc::{Allocator, Global};
+use std::alloc::Global;
 use std::process::Abort;
 use step_memory::{Place, Refusal};
 
@@ -20,9 +18,6 @@ const INTO_A_TREE: &[Row] = &[
     (7, Call::Begin, Told::Done),
     (7, Call::Steps(5), Told::Placed(1)),
 ];
-
-/// One alone gets its place in a row as it begins.
-const INTO_A_ROW: &[Row] = &[(7, Call::Begin, Told::Done)];
 
 /// It updates with 3, and finds this as it scans.
 const FINDS: &[Row] = &[
@@ -65,11 +60,6 @@ fn finds_in_a_tree(rt: &impl Abort, alloc: Global, most: usize) -> Result<(), Re
     finds(rt, alloc, TreePlaces::new(alloc, most)?, INTO_A_TREE, 4)
 }
 
-/// One alone in a row for so many.
-fn finds_in_a_row(rt: &impl Abort, alloc: Global, most: usize) -> Result<(), Refusal> {
-    finds(rt, alloc, Fixed::new(alloc, most)?, INTO_A_ROW, most)
-}
-
 #[test]
 fn alone_over_a_grid(rt: HostRuntime) {
     for most in 1..=16 {
@@ -81,13 +71,6 @@ fn alone_over_a_grid(rt: HostRuntime) {
 fn alone_over_a_tree(rt: HostRuntime) {
     for most in 1..=64 {
         assert!(rt; finds_in_a_tree(&rt, rt.alloc(), most) == Ok(()));
-    }
-}
-
-#[test]
-fn alone_over_a_row(rt: HostRuntime) {
-    for most in 1..=16 {
-        assert!(rt; finds_in_a_row(&rt, rt.alloc(), most) == Ok(()));
     }
 }
 
@@ -173,63 +156,4 @@ fn sizes_of_a_tree(rt: HostRuntime) {
         let refused = TreePlaces::new(rt.alloc(), most).err();
         assert!(rt; refused == Some(Refusal::OutOfRange), "at {most}");
     }
-}
-
-/// One begins.
-const BEGINS: &[Row] = &[(10, Call::Begin, Told::Done)];
-
-/// Its node is refused, and is asked for anew.
-const WHILE_FULL: &[Row] = &[
-    (10, Call::Steps(1), Told::Refused(Refusal::NoMemory)),
-    (10, Call::Steps(1), Told::Refused(Refusal::NoMemory)),
-];
-
-/// It goes its whole way, and updates.
-const WITH_MEMORY: &[Row] = &[
-    (10, Call::Steps(5), Told::Placed(1)),
-    (10, Call::Update(2), Told::Done),
-    (10, Call::Steps(9), Told::Written),
-];
-
-/// Calls that are made while a heap is full.
-fn plays_while_full<W: Places + Drop, A: Allocator>(
-    rt: &impl Abort,
-    alloc: Global,
-    heap: &LocalHeap,
-    world: &mut SnapWorld<W, A>,
-) -> Result<(), Refusal>
-where
-    W::Walker: Copy,
-    W::Walk: Copy,
-    W::Value: Drop,
-{
-    let _boxes = filling(alloc, heap)?;
-    plays(rt, world, "while the heap is full", 0, WHILE_FULL);
-    Ok(())
-}
-
-/// One alone over places whose heap is full meanwhile.
-fn goes_on<W: Places + Drop>(
-    rt: &impl Abort,
-    alloc: Global,
-    heap: &LocalHeap,
-    places: W,
-) -> Result<(), Refusal>
-where
-    W::Walker: Copy,
-    W::Walk: Copy,
-    W::Value: Drop,
-{
-    let mut world = SnapWorld::new(alloc, places)?;
-    plays(rt, &mut world, "before the heap is full", 0, BEGINS);
-    let played = plays_while_full(rt, alloc, heap, &mut world);
-    plays(rt, &mut world, "with memory again", 0, WITH_MEMORY);
-    played
-}
-
-#[test]
-fn want_of_memory_on_the_way(rt: HostRuntime) {
-    let heap = LocalHeap::new(rt.alloc(), 4096).expect(&rt, "a heap");
-    let places = TreePlaces::new(&heap, 1).expect(&rt, "a tree");
-    assert!(rt; goes_on(&rt, rt.alloc(), &heap, places) == Ok(()));
 }

@@ -12,20 +12,6 @@ use std::thread::{Threads, join};
 use step_memory::Refusal;
 
 #[test]
-fn one_alone_stops(rt: HostRuntime) -> Result<(), Fail> {
-    let (splitter, mut seats) = RawSplitter::new(rt.alloc(), 1)?;
-    let Some(seat) = seats.pop() else {
-        panic!(rt; "no seat");
-    };
-    let (entered, way) = splitter.enter(seat);
-    assert_eq!(rt;
-        (entered.number(), entered.way(), way),
-        (0, Way::Stop, Way::Stop)
-    );
-    Ok(())
-}
-
-#[test]
 fn the_first_of_a_pair_stops(rt: HostRuntime) -> Result<(), Fail> {
     let (splitter, first, second) = RawSplitter::pair(rt.alloc())?;
     let (mut one, first_way) = splitter.enter(first);
@@ -36,16 +22,6 @@ fn the_first_of_a_pair_stops(rt: HostRuntime) -> Result<(), Fail> {
         [(one.number(), one.way()), (other.number(), other.way())],
         [(0, Way::Stop), (1, Way::Right)]
     );
-    Ok(())
-}
-
-#[test]
-fn the_second_of_a_pair_stops_where_it_comes_first(rt: HostRuntime) -> Result<(), Fail> {
-    let (splitter, first, second) = RawSplitter::pair(rt.alloc())?;
-    let (mut other, second_way) = splitter.enter(second);
-    let (mut one, first_way) = splitter.enter(first);
-    splitter.meet(&mut one, &mut other);
-    assert_eq!(rt; (first_way, second_way), (Way::Right, Way::Stop));
     Ok(())
 }
 

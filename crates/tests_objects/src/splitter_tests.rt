@@ -1,83 +1,15 @@
-//! Worked examples of `splitter`: visits of two participants, refusals, and want of memory.
+//! Splitters of each size, and want of memory. Visits are tried where they are played as lines, in `tests_player`.
 
 ghost use Rattle.std.specs.Prelude.{◌<◌};
 
 use linked_list_allocator::LocalHeap;
 use splitter::{
-    SplitterWorld, Way, law_of_one_access, law_of_one_door, law_of_splitter_calls, law_of_walks,
+    SplitterWorld, law_of_one_access, law_of_one_door, law_of_splitter_calls, law_of_walks,
     law_of_ways,
 };
 use std::alloc::{AllocError, Global};
-use std::process::Abort;
 use std::test::Fail;
 use step_memory::Refusal;
-
-/// To begin, or a step, and what it answers; to begin answers nothing.
-type Row = (u64, bool, Result<Option<Way>, Refusal>);
-
-const BEGIN: bool = true;
-
-const STEP: bool = false;
-
-/// Makes these calls, each of which answers what stands beside it.
-fn plays(rt: &impl Abort, world: &mut SplitterWorld<Global>, calls: &[Row]) {
-    for (id, begins, want) in calls {
-        let told = if *begins {
-            match world.begin(*id) {
-                Ok(()) => Ok(None),
-                Err(refusal) => Err(refusal),
-            }
-        } else {
-            world.step(*id)
-        };
-        assert_eq!(rt; told, *want, "{id}");
-    }
-}
-
-/// 20 comes when 10 has stopped; then each refusal.
-const ONE_AFTER_ANOTHER: [Row; 13] = [
-    (10, BEGIN, Ok(None)),
-    (10, STEP, Ok(None)),
-    (10, STEP, Ok(None)),
-    (10, STEP, Ok(None)),
-    (10, STEP, Ok(Some(Way::Stop))),
-    (20, BEGIN, Ok(None)),
-    (20, STEP, Ok(None)),
-    (20, STEP, Ok(Some(Way::Right))),
-    (20, STEP, Err(Refusal::Finished)),
-    (0, BEGIN, Err(Refusal::ZeroIdentity)),
-    (20, BEGIN, Err(Refusal::AlreadyBegun)),
-    (30, BEGIN, Err(Refusal::Full)),
-    (30, STEP, Err(Refusal::NotBegun)),
-];
-
-#[test]
-fn one_after_another(rt: HostRuntime) -> Result<(), Fail> {
-    let mut world = SplitterWorld::new(rt.alloc(), 2)?;
-    plays(&rt, &mut world, &ONE_AFTER_ANOTHER);
-    Ok(())
-}
-
-/// Both make each access before either makes the next.
-const INTERLEAVED: [Row; 10] = [
-    (10, BEGIN, Ok(None)),
-    (20, BEGIN, Ok(None)),
-    (10, STEP, Ok(None)),
-    (20, STEP, Ok(None)),
-    (10, STEP, Ok(None)),
-    (20, STEP, Ok(None)),
-    (10, STEP, Ok(None)),
-    (20, STEP, Ok(None)),
-    (10, STEP, Ok(Some(Way::Down))),
-    (20, STEP, Ok(Some(Way::Stop))),
-];
-
-#[test]
-fn all_four_accesses_interleaved(rt: HostRuntime) -> Result<(), Fail> {
-    let mut world = SplitterWorld::new(rt.alloc(), 2)?;
-    plays(&rt, &mut world, &INTERLEAVED);
-    Ok(())
-}
 
 #[test]
 fn laws_of_visits_and_calls() {

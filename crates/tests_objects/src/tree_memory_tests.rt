@@ -1,11 +1,10 @@
 //! Examples of accesses to a tree: what is there, what is lost, and want of memory.
 
-use crate::full_heap::filling;
 use linked_list_allocator::LocalHeap;
 use splitter_tree::{
     NodeRegisters, Tree, TreeRegister, TreeValue, WrittenValue, law_of_tree_memory,
 };
-use std::alloc::Allocator;
+use std::alloc::{AllocError, Allocator, Global};
 use std::process::Abort;
 use std::test::Fail;
 use step_memory::{Access, Answer, NoMemory, Place, StepMemory};
@@ -153,6 +152,17 @@ const FULL: [Row; 5] = [
     Row::Written(TreeRegister::Mark(6), 1),
     Row::Lacking(3),
 ];
+
+/// Boxes that take what the heap has left.
+fn filling(alloc: Global, heap: &LocalHeap) -> Result<Vec<Box<[u64; 2], &LocalHeap>>, AllocError> {
+    let mut boxes = Vec::new(alloc);
+    for _ in 0..512 {
+        if let Ok(filled) = Box::new(heap, [0u64; 2]) {
+            boxes.push(filled)?;
+        }
+    }
+    Ok(boxes)
+}
 
 #[test]
 fn a_growth_that_was_refused(rt: HostRuntime) -> Result<(), Fail> {

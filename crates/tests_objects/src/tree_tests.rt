@@ -1,13 +1,11 @@
-//! Worked examples of `splitter_tree`: walks, stores and collects of one to three participants, refusals, and want of memory.
+//! Worked examples of `splitter_tree`: walks, stores and collects of one to three participants, and refusals.
 
-use crate::full_heap::filling;
-use linked_list_allocator::LocalHeap;
 use splitter_tree::{
     Client, TreeRegister, TreeValue, TreeWorld, Walker, law_of_collect_calls, law_of_collects,
     law_of_collects_at_places, law_of_nodes_and_walks, law_of_own_accesses, law_of_places,
     law_of_tree_calls, law_of_tree_memory,
 };
-use std::alloc::{Allocator, Global};
+use std::alloc::Allocator;
 use std::process::Abort;
 use std::test::Fail;
 use step_memory::{Access, Answer, Note, Place, Refusal, StepProgram, View};
@@ -21,8 +19,6 @@ enum Call {
     Store(u64),
     Collect,
     CollectSteps(usize),
-    /// Whether the node is there is told as done or quiet, whoever asks.
-    Node(Place),
 }
 
 /// What a call answers, of steps the last.
@@ -94,16 +90,6 @@ fn collects<A: Allocator + Clone>(
     is_collected(&world.collect_step(id), told)
 }
 
-/// Whether a node is told to be there, or not to be.
-fn is_there<A: Allocator + Clone>(world: &TreeWorld<A>, place: Place, told: Told) -> bool {
-    let there = world.tree().registers_at(place).is_some();
-    match told {
-        Told::Done => there,
-        Told::Quiet => !there,
-        _ => false,
-    }
-}
-
 /// Whether a call of a participant is told so.
 fn answers<A: Allocator + Clone>(
     world: &mut TreeWorld<A>,
@@ -118,7 +104,6 @@ fn answers<A: Allocator + Clone>(
         Call::Store(value) => is_asked(world.store(id, value), told),
         Call::Collect => is_asked(world.collect_begin(id), told),
         Call::CollectSteps(count) => collects(world, id, count, told),
-        Call::Node(place) => is_there(world, place, told),
     }
 }
 
@@ -244,50 +229,6 @@ fn sixty_four_down_the_deepest_walk(rt: HostRuntime) -> Result<(), Fail> {
         place = place.saturating_mul(2).saturating_add(1);
     }
     assert_eq!(rt; world.place_of(64), Some(18_446_744_073_709_551_615));
-    Ok(())
-}
-
-/// Before the heap is full.
-const BEFORE: [Row; 3] = [
-    (10, Call::Begin, Told::Done),
-    (20, Call::Begin, Told::Done),
-    (10, Call::Steps(5), Told::Placed(1)),
-];
-
-/// While it is full.
-const FULL: [Row; 4] = [
-    (20, Call::Steps(3), Told::Quiet),
-    (20, Call::Steps(1), Told::Refused(Refusal::NoMemory)),
-    (20, Call::Steps(1), Told::Refused(Refusal::NoMemory)),
-    (0, Call::Node(3), Told::Quiet),
-];
-
-/// With memory again.
-const AGAIN: [Row; 3] = [
-    (20, Call::Steps(1), Told::Quiet),
-    (0, Call::Node(3), Told::Done),
-    (20, Call::Steps(4), Told::Placed(3)),
-];
-
-/// Makes calls while the heap is full.
-fn plays_while_full<'a>(
-    rt: &impl Abort,
-    alloc: Global,
-    heap: &'a LocalHeap,
-    world: &mut TreeWorld<&'a LocalHeap>,
-) {
-    let boxes = filling(alloc, heap).expect(rt, "the room for the boxes");
-    plays(rt, world, &FULL);
-    drop(boxes);
-}
-
-#[test]
-fn a_node_that_was_refused_is_made_later(rt: HostRuntime) -> Result<(), Fail> {
-    let heap = LocalHeap::new(rt.alloc(), 8_192)?;
-    let mut world = TreeWorld::new(&heap, 2)?;
-    plays(&rt, &mut world, &BEFORE);
-    plays_while_full(&rt, rt.alloc(), &heap, &mut world);
-    plays(&rt, &mut world, &AGAIN);
     Ok(())
 }
 

@@ -79,39 +79,6 @@ fn lines(
     Ok(writer.into_inner())
 }
 
-/// That one alone, in a world for one, takes so many steps in each of so many runs with these lines.
-fn draws_alone(
-    alloc: Global,
-    world: WorldKind,
-    steps: u32,
-    runs: u64,
-    text: &[u8],
-) -> Result<bool, Fail>
-    requires names { gives_names world ≡ true }
-{
-    let config = Config::new(world, 1, 4, 1000)?;
-    let drawn = lines(alloc, 7, 1, u64::from(steps), runs, config)?;
-    Ok(drawn.as_slice() == text)
-}
-
-#[test]
-fn one_alone_is_named_at_its_ninth_step(rt: HostRuntime) -> Result<(), Fail> {
-    let named = b"run 0 begun 1 named 1 spent 0\nrun 1 begun 1 named 1 spent 0\n";
-    assert!(rt; draws_alone(rt.alloc(), WorldKind::Rename, 9, 2, named)?);
-    let unnamed = b"run 0 begun 1 named 0 spent 0\nrun 1 begun 1 named 0 spent 0\n";
-    assert!(rt; draws_alone(rt.alloc(), WorldKind::Rename, 8, 2, unnamed)?);
-    Ok(())
-}
-
-#[test]
-fn one_alone_is_named_in_a_tree(rt: HostRuntime) -> Result<(), Fail> {
-    let named = b"run 0 begun 1 named 1 spent 0\n";
-    assert!(rt; draws_alone(rt.alloc(), WorldKind::Tree, 22, 1, named)?);
-    let unnamed = b"run 0 begun 1 named 0 spent 0\n";
-    assert!(rt; draws_alone(rt.alloc(), WorldKind::Tree, 21, 1, unnamed)?);
-    Ok(())
-}
-
 /// The line of the run of one seed, with the seed as its number.
 fn line_of_seed(alloc: Global, seed: u64, config: Config) -> Result<Vec<u8>, Fail>
     requires names { gives_names config.world ≡ true }

@@ -1,20 +1,15 @@
 //! Runs of commands over readers and writers in memory.
 
 ghost use Rattle.std.specs.Prelude.{◌≡◌, true};
-ghost use Rattle.commands.specs.Requests.Request.{Take};
 
 use crate::toys::{Coin, Shelf};
 use crate::worlds_tests::{ROWS, spelled};
-use desk::Desk;
 use schedule_player::{
-    Config, Event, Fault, MOST_READS, READ_BYTES, Reply, Service, Summary, Tried, Unshared, World,
-    WorldKind, law_of_growths, law_of_lines, law_of_play, law_of_world, play, play_in, play_on,
+    Config, Fault, MOST_READS, READ_BYTES, Summary, Tried, World, WorldKind, law_of_growths,
+    law_of_lines, law_of_play, law_of_world, play, play_in, play_on,
 };
-use splitter::SplitterWorld;
-use splitter_grid::GridWorld;
 use std::alloc::{Allocator, Global};
 use std::process::Abort;
-use step_memory::View;
 use tests_doubles::{FailingAllocator, FaultyReader, FaultyWriter};
 
 /// What a run answers, what was written, and how often the reader and the writer were called.
@@ -87,32 +82,33 @@ const LINES: &[u8] =
 const LINES_TEXT: &[u8] =
     b"bad 3\nbad 3\nbad 1\nbad 4\nbad 5\nbad 3\nbad 4\nbad 5\nbad 2\nrefused 4\n";
 
-/// An input, the text that it is answered by, and how many lines there are, and are accepted, refused and bad.
-type Input = (&'static [u8], &'static [u8], [u64; 4]);
+/// An input, and the text that it is answered by.
+type Input = (&'static [u8], &'static [u8]);
 
 /// Inputs that are answered so in every world for two participants.
 const INPUTS: [Input; 3] = [
-    (b"", b"", [0, 0, 0, 0]),
-    (b"begin 7\nquit\nbegin 8", b"ok\nok\n", [2, 2, 0, 0]),
-    (LINES, LINES_TEXT, [10, 0, 1, 9]),
+    (b"", b""),
+    (b"begin 7\nquit\nbegin 8", b"ok\nok\n"),
+    (LINES, LINES_TEXT),
 ];
 
-/// Inputs of a splitter for two participants.
-const VISITS: [Input; 3] = [
+/// Inputs of a splitter for two participants: one after another, both at once, and refusals.
+const VISITS: [Input; 4] = [
     (
         b"begin 10\nstep 10\nstep 10\nstep 10\nstep 10\nbegin 20\nstep 20\nstep 20\nstep 20\n",
         b"ok\nquiet\nquiet\nquiet\nstop\nok\nquiet\nright\nrefused 5\n",
-        [9, 8, 1, 0],
     ),
     (
         b"begin 10\nbegin 20\nstep 10\nstep 20\nstep 10\nstep 20\nstep 10\nstep 20\nstep 10\nstep 20\n",
         b"ok\nok\nquiet\nquiet\nquiet\nquiet\nquiet\nquiet\ndown\nstop\n",
-        [10, 10, 0, 0],
     ),
     (
         b"enter 5\nstep 9\nbegin 0\nbegin 9\nquit\nbegin 8\n",
         b"bad 3\nrefused 4\nrefused 1\nok\nok\n",
-        [5, 2, 2, 1],
+    ),
+    (
+        b"begin 10\nbegin 20\nbegin 0\nbegin 20\nbegin 30\nstep 30\n",
+        b"ok\nok\nrefused 1\nrefused 2\nrefused 3\nrefused 4\n",
     ),
 ];
 
@@ -135,7 +131,7 @@ pub(crate) fn is_played(rt: &impl Abort, alloc: Global, config: Config, row: (&[
 
 /// Plays rows of a world for two participants.
 fn are_played(rt: &impl Abort, alloc: Global, world: WorldKind, rows: &[Input]) {
-    for (input, text, _) in rows {
+    for (input, text) in rows {
         is_played(rt, alloc, config(rt, world, 2), (input, text));
     }
 }
@@ -173,34 +169,6 @@ fn nothing_is_read_after_the_end_or_after_quit(rt: HostRuntime) {
     for world in WorldKind::all() {
         reads_are_as_said(&rt, rt.alloc(), world);
     }
-}
-
-/// How many lines a run counts, and how many of them were accepted, refused and bad.
-fn counted(rt: &impl Abort, alloc: Global, config: Config, input: &[u8]) -> [u64; 4] {
-    let p = run_cut(alloc, config, input, (7, 0), (7, 0));
-    let Summary {
-        lines,
-        accepted,
-        refused,
-        bad,
-    } = p.outcome.expect(rt, "a run with no fault");
-    [lines, accepted, refused, bad]
-}
-
-/// Compares what inputs count in a world for two participants.
-fn are_counted(rt: &impl Abort, alloc: Global, world: WorldKind, rows: &[Input]) {
-    for (input, _, counts) in rows {
-        let found = counted(rt, alloc, config(rt, world, 2), input);
-        assert_eq!(rt; found, *counts, "at {input:?} in {world:?}");
-    }
-}
-
-#[test]
-fn the_summary_counts_each_line(rt: HostRuntime) {
-    for world in WorldKind::all() {
-        are_counted(&rt, rt.alloc(), world, &INPUTS);
-    }
-    are_counted(&rt, rt.alloc(), WorldKind::Splitter, &VISITS);
 }
 
 /// The first lines of a text, so many.
@@ -271,7 +239,7 @@ fn calls_fail_in_turn(rt: &impl Abort, alloc: Global, config: Config, row: (&[u8
 
 /// The calls of rows of a world for two participants fail in turn.
 fn rows_fail_in_turn(rt: &impl Abort, alloc: Global, world: WorldKind, rows: &[Input]) {
-    for (input, text, _) in rows {
+    for (input, text) in rows {
         calls_fail_in_turn(rt, alloc, config(rt, world, 2), (input, text));
     }
 }
@@ -292,41 +260,6 @@ fn each_read_and_each_write_fails_once(rt: HostRuntime) {
     }
     rows_fail_in_turn(&rt, rt.alloc(), WorldKind::Splitter, &VISITS);
     the_largest_name_fails_in_turn(&rt, rt.alloc());
-}
-
-/// One begins and takes a step, over a reader that fails at this read and a writer that fails at this byte: in each world the
-/// run ends with this fault, after this text.
-fn step_is_cut(
-    rt: &impl Abort,
-    alloc: Global,
-    (read, byte): (u64, u64),
-    fault: Option<Fault>,
-    text: &[u8],
-) {
-    for world in WorldKind::all() {
-        let p = run_cut(
-            alloc,
-            config(rt, world, 2),
-            b"begin 7\nstep 7",
-            (64, read),
-            (1, byte),
-        );
-        let is_written = p.text.as_slice() == text;
-        assert!(rt; p.outcome.err() == fault && is_written, "in {world:?}");
-    }
-}
-
-/// A line that the end of the input ends is run, and one that a fault cuts is not.
-#[test]
-fn a_line_that_a_read_fault_cuts_is_not_run(rt: HostRuntime) {
-    step_is_cut(&rt, rt.alloc(), (0, 0), None, b"ok\nquiet\n");
-    step_is_cut(&rt, rt.alloc(), (2, 0), Some(Fault::Read), b"ok\n");
-}
-
-#[test]
-fn a_reply_that_a_write_fault_cuts_is_a_beginning(rt: HostRuntime) {
-    step_is_cut(&rt, rt.alloc(), (0, 4), Some(Fault::Write), b"ok\n");
-    step_is_cut(&rt, rt.alloc(), (0, 8), Some(Fault::Write), b"ok\nquie");
 }
 
 /// Plays an input byte by byte, and compares what is written. How many growths it leaves of as many as there may be.
@@ -351,8 +284,8 @@ fn a_line_of_a_million_bytes_is_bad(rt: HostRuntime) {
     assert_eq!(rt; many, few);
 }
 
-/// Inputs in a grid for two participants, and the texts that they are answered by.
-const GRID_INPUTS: [(u64, &[u8], &[u8]); 2] = [
+/// Inputs in a grid for so many participants, and the texts that they are answered by.
+const GRID_INPUTS: [(u64, &[u8], &[u8]); 3] = [
     (
         3,
         b"begin 10\nbegin 20\nbegin 30\nstep 10\nstep 10\nstep 10\nstep 10\nstep 20\nstep 20\nstep 20\nstep 20\nstep 20\nstep 20\nstep 30\nstep 30\nstep 30\nstep 30\nstep 30\nstep 30\nstep 30\nstep 30\nstep 30\n",
@@ -363,6 +296,11 @@ const GRID_INPUTS: [(u64, &[u8], &[u8]); 2] = [
         b"begin 10\nbegin 20\nstep 10\nstep 10\nstep 10\nstep 20\nstep 20\nstep 20\nstep 20\nstep 20\nstep 20\nstep 10\nstep 10\nstep 10\nstep 10\nstep 10\n",
         b"ok\nok\nquiet\nquiet\nquiet\nquiet\nquiet\nquiet\nquiet\nquiet\nplace 1\nquiet\nquiet\nquiet\nquiet\nplace 2\n",
     ),
+    (
+        1,
+        b"step 7\nbegin 0\nbegin 7\nbegin 0\nbegin 7\nbegin 8\nstep 8\nstep 7\nstep 7\nstep 7\nstep 7\nstep 7\n",
+        b"refused 4\nrefused 1\nok\nrefused 1\nrefused 2\nrefused 3\nrefused 4\nquiet\nquiet\nquiet\nplace 0\nrefused 5\n",
+    ),
 ];
 
 #[test]
@@ -371,49 +309,6 @@ fn walks_in_a_grid_end_at_places(rt: HostRuntime) {
         let config = config(&rt, WorldKind::Grid, m);
         is_played(&rt, rt.alloc(), config, (input, text));
     }
-}
-
-/// One event through the bound.
-fn answered<D: Service<Unshared>>(world: &mut D, event: Event) -> Reply<View>
-    requires { D.knows (Take event) ≡ true }
-{
-    let mut view = View::new();
-    world.apply(&Unshared, event, &mut view).with(&view)
-}
-
-/// Two events, the one after the other.
-fn both_answered<D: Service<Unshared>>(
-    world: &mut D,
-    one: Event,
-    two: Event,
-) -> (Reply<View>, Reply<View>)
-    requires one { D.knows (Take one) ≡ true }
-    requires two { D.knows (Take two) ≡ true }
-{
-    let first = answered(world, one);
-    (first, answered(world, two))
-}
-
-#[test]
-fn a_splitter_answers_through_its_bound(rt: HostRuntime) {
-    let mut world = SplitterWorld::new(rt.alloc(), 1).expect(&rt, "room for a splitter");
-    let told = both_answered(&mut world, Event::Begin(3), Event::Step(3));
-    assert!(rt; told == (Reply::Ok, Reply::Quiet));
-}
-
-#[test]
-fn a_grid_answers_through_its_bound(rt: HostRuntime) {
-    let mut world = GridWorld::new(rt.alloc(), 1).expect(&rt, "room for a grid");
-    let told = both_answered(&mut world, Event::Begin(3), Event::Step(3));
-    assert!(rt; told == (Reply::Ok, Reply::Quiet));
-}
-
-#[test]
-fn a_desk_answers_through_its_bound(rt: HostRuntime) {
-    let config = config(&rt, WorldKind::Tree, 1);
-    let mut world = Desk::new(rt.alloc(), config).expect(&rt, "room for a desk");
-    let told = both_answered(&mut world, Event::Enter(3), Event::Probe(3));
-    assert!(rt; told == (Reply::Ok, Reply::Got(1)));
 }
 
 #[test]

@@ -8,7 +8,7 @@ use std::alloc::Global;
 use std::process::Abort;
 use std::test::Fail;
 use step_memory::{Place, Refusal};
-use word_grid::{Claim, Dealer, EnteredSeat, WordGrid};
+use word_grid::{Dealer, EnteredSeat, WordGrid};
 
 /// Enters with the next seat, where there is one.
 fn enter_next(grid: &WordGrid<Global>, dealer: &mut Dealer) -> Option<EnteredSeat>
@@ -83,29 +83,6 @@ fn one_to_sixty_four_seats(rt: HostRuntime) -> Result<(), Fail> {
         assert_eq!(rt; grid.most(), most);
         deals_all(&rt, &grid, dealer);
     }
-    Ok(())
-}
-
-#[test]
-fn claims_show_whose_place_it_is(rt: HostRuntime) -> Result<(), Fail> {
-    let (grid, mut dealer) = WordGrid::new(rt.alloc(), 2)?;
-    let (Some(mut one), Some(mut other)) = (
-        enter_next(&grid, &mut dealer),
-        enter_next(&grid, &mut dealer),
-    ) else {
-        panic!(rt; "too few seats");
-    };
-    grid.meet(&mut one, &mut other);
-    let mut first = grid.claim(&mut one);
-    let mut again = grid.claim(&mut one);
-    let mut second = grid.claim(&mut other);
-    grid.compare(&mut first, &mut again);
-    grid.compare(&mut first, &mut second);
-    let told = |claim: &Claim| (claim.number(), claim.place());
-    assert_eq!(rt;
-        [told(&first), told(&again), told(&second)],
-        [(0, 0), (0, 0), (1, 1)]
-    );
     Ok(())
 }
 

@@ -39,37 +39,6 @@ fn each_ticket_has_a_number(rt: HostRuntime) -> Result<(), Fail> {
     Ok(())
 }
 
-#[test]
-fn a_ticket_comes_back(rt: HostRuntime) -> Result<(), Fail> {
-    let (line, mut tickets) = LinePool::new(rt.alloc(), 2)?;
-    let (Some(one), Some(other)) = (line.deal(&mut tickets), line.deal(&mut tickets)) else {
-        panic!(rt; "too few tickets");
-    };
-    let first = line.acquire(one);
-    let second = line.acquire(other);
-    let ticket = line.release(first);
-    let again = line.acquire(ticket);
-    assert_eq!(rt; (second.number(), again.number()), (2, 1));
-    Ok(())
-}
-
-#[test]
-fn a_line_is_closed_with_its_tickets(rt: HostRuntime) -> Result<(), Fail> {
-    let (line, mut tickets) = LinePool::new(rt.alloc(), 3)?;
-    let (Some(one), Some(other)) = (line.deal(&mut tickets), line.deal(&mut tickets)) else {
-        panic!(rt; "too few tickets");
-    };
-    let mut first = line.acquire(one);
-    let mut second = line.acquire(other);
-    line.meet(&mut first, &mut second);
-    line.release(first);
-    let mut out = Vec::new(rt.alloc());
-    out.push(second)?;
-    let words = line.close(rt.alloc(), tickets, out)?;
-    assert!(rt; words.as_slice() == [0, 1, 0].as_slice(), "2 is out");
-    Ok(())
-}
-
 /// A thread's part: the line, a ticket of it, and a mark for each number.
 #[derive(Drop)]
 struct Stayer<'a> {

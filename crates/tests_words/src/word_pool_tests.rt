@@ -37,28 +37,6 @@ fn each_number_is_given_in_turn(rt: HostRuntime) -> Result<(), Fail> {
 }
 
 #[test]
-fn the_least_free_is_given(rt: HostRuntime) -> Result<(), Fail> {
-    let pool = WordPool::new(rt.alloc(), 3)?;
-    let (Ok(mut one), Ok(two), Ok(mut three)) = (pool.acquire(), pool.acquire(), pool.acquire())
-    else {
-        panic!(rt; "three are free");
-    };
-    pool.meet(&mut one, &mut three);
-    pool.release(two);
-    let Ok(again) = pool.acquire() else {
-        panic!(rt; "2 is free");
-    };
-    assert_eq!(rt; (one.number(), again.number(), three.number()), (1, 2, 3));
-    pool.release(one);
-    pool.release(again);
-    let mut out = Vec::new(rt.alloc());
-    out.push(three)?;
-    let (words, _) = pool.close(rt.alloc(), out)?;
-    assert!(rt; words.as_slice() == [0, 0, 1].as_slice(), "3 is out");
-    Ok(())
-}
-
-#[test]
 fn a_hint_is_tried_first(rt: HostRuntime) -> Result<(), Fail> {
     let pool = WordPool::new(rt.alloc(), 4)?;
     for (hint, due) in [(3, 3), (3, 1), (0, 2), (5, 4)] {
