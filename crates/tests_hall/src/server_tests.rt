@@ -3,6 +3,7 @@
 ghost use Rattle.std.specs.Prelude.{◌≡◌};
 
 use crate::opening::{Opening, opened};
+use commands::Reply;
 use locked_world::{Clerk, Hall, HallLock, LockName, ServingClerk, law_of_serving};
 use player::{Config, Event, Fault, Summary, Tried, WorldKind};
 use slot_server::{Gate, Served, ServerFault, Watched, serve_many, serve_one};
@@ -15,6 +16,7 @@ use std::sync::Wait;
 use std::sync::atomic::{AtomicU64, Ordering};
 use std::thread;
 use std::thread::Threads;
+use step_memory::Refusal;
 use tests_doubles::{FaultyReader, FaultyWriter};
 
 /// A config for one participant, with so many numbers.
@@ -161,7 +163,7 @@ fn a_gate_is_told_of_lines_and_replies(rt: HostRuntime) {
     }
 }
 
-/// What a clerk answers to these lines, and how many of its events were accepted.
+/// What a clerk answers to these lines, of whom nobody competes yet, and how many of its events were accepted.
 fn by_clerk<L: LockName, R: Abort + Wait>(
     rt: &R,
     alloc: Global,
@@ -173,7 +175,9 @@ fn by_clerk<L: LockName, R: Abort + Wait>(
     requires config { opening.config ≡ L.config }
 {
     let lock = opened::<L>(rt, alloc, opening);
-    let clerk = lock.clerk(rt, alloc).expect(rt, "room for a clerk");
+    let mut clerk = lock.clerk(rt, alloc).expect(rt, "room for a clerk");
+    let refused = lock.apply(rt, &mut clerk, Event::Get(5));
+    assert!(rt; refused == Reply::Refused(Refusal::NotCompeting));
     let mut service = ServingClerk::new(&lock, clerk);
     let mut reader = Tried::new(input);
     let mut writer = Tried::new(Vec::new(alloc));

@@ -1,10 +1,9 @@
 //! Posts and looks on a name board, one after another and by threads at once.
 
-ghost use Rattle.std.specs.Prelude.{◌≡◌, ◌<◌, IfSome};
+ghost use Rattle.std.specs.Prelude.{◌≡◌, IfSome};
 
-use linked_list_allocator::LocalHeap;
 use raw_parts::{Board, Grant, ReaderSeat};
-use std::alloc::{AllocError, Global};
+use std::alloc::Global;
 use std::process::Abort;
 use std::test::Fail;
 use std::thread::{Threads, join};
@@ -132,27 +131,6 @@ fn two_post_their_names(rt: HostRuntime) -> Result<(), Fail> {
     Ok(())
 }
 
-/// Posts a free name, and tells whether its word is this identity, and not the one below.
-fn is_told_whole(board: &Board<Global>, seat: &mut ReaderSeat, name: u64, identity: u64) -> bool
-    requires { seat.old.board ≡ board.now }
-    ensures { seat.new.board ≡ board.now }
-{
-    let posted = granted(board.post(seat, name, identity));
-    let another = granted(board.confirm(seat, name, identity.wrapping_sub(1)));
-    (posted, another, board.owner(name)) == (Some((name, identity)), None, Some(identity))
-}
-
-/// Whoever an identity is, odd or the greatest: its word is it, and nobody else's.
-#[test]
-fn owners_are_told_whole(rt: HostRuntime) -> Result<(), Fail> {
-    let (board, mut seat) = Board::new(rt.alloc(), 4)?;
-    assert!(rt; is_told_whole(&board, &mut seat, 1, 11));
-    assert!(rt; is_told_whole(&board, &mut seat, 2, u64::MAX));
-    assert!(rt; is_told_whole(&board, &mut seat, 3, 1));
-    assert!(rt; is_told_whole(&board, &mut seat, 4, 0x8000_0000_0000_0001));
-    Ok(())
-}
-
 /// Two threads post at one name at once: one of them gets it, and both are told so.
 fn race<R: Threads + Sync>(rt: &R, alloc: Global) -> Result<(Option<u64>, Option<u64>), Refusal> {
     let (board, mut one) = Board::new(alloc, 1)?;
@@ -184,63 +162,5 @@ fn one_of_two_threads_gets_the_name(rt: HostRuntime) -> Result<(), Fail> {
             "{told:?}"
         );
     }
-    Ok(())
-}
-
-/// The last word of a board as it ends, where one grant is handed in; none where the heap has no room for the words.
-fn last_at_end<'a>(
-    alloc: Global,
-    heap: &'a LocalHeap,
-    board: Board<&'a LocalHeap>,
-    grant: Grant,
-) -> Option<u64>
-    requires { grant.board ≡ board }
-{
-    let mut out = Vec::new(alloc);
-    out.push(grant).ok()?;
-    let (words, _) = board.close_all(heap, out).ok()?;
-    words.as_slice().last().copied()
-}
-
-/// The last word of a board of sixteen names as it ends, where the last was posted; none where the room for the words was wanting.
-fn last_of(rt: &impl Abort, alloc: Global, heap: &LocalHeap) -> Result<Option<u64>, Refusal> {
-    let (board, mut seat) = Board::new(heap, 16)?;
-    let Some(grant) = board.post(&mut seat, 16, 5) else {
-        panic!(rt; "16 was free");
-    };
-    // This takes the room that a board wants while it is made.
-    let rest = Vec::<u8, &LocalHeap>::with_capacity(heap, 128);
-    let last = last_at_end(alloc, heap, board, grant);
-    drop(rest);
-    Ok(last)
-}
-
-/// The same in a heap of 1,280 bytes with so many times 16 free.
-fn last_in(
-    rt: &impl Abort,
-    alloc: Global,
-    blocks: usize,
-) -> Result<Result<Option<u64>, Refusal>, AllocError>
-    requires { blocks < 80 }
-{
-    let heap = LocalHeap::new(alloc, 1_280)?;
-    let others = Vec::<u8, &LocalHeap>::with_capacity(&heap, 1_280 - 16 * blocks)?;
-    let last = last_of(rt, alloc, &heap);
-    drop(others);
-    Ok(last)
-}
-
-#[test]
-fn each_want_of_memory_is_told(rt: HostRuntime) -> Result<(), AllocError> {
-    let mut seen = (false, false, false);
-    for blocks in 0..80 {
-        match last_in(&rt, rt.alloc(), blocks)? {
-            Err(Refusal::NoMemory) => seen.0 = true,
-            Ok(None) => seen.1 = true,
-            Ok(Some(5)) => seen.2 = true,
-            other => panic!(rt; "{blocks}: {other:?}"),
-        }
-    }
-    assert_eq!(rt; seen, (true, true, true));
     Ok(())
 }

@@ -71,20 +71,6 @@ fn desks_of_every_size(rt: HostRuntime) {
     }
 }
 
-/// Desks of each limit.
-fn desks_in(rt: &impl Abort, alloc: Global, world: WorldKind) {
-    for limit in [1, 2, 13, 63, 64, 999_999, 1_000_000] {
-        let config = Config::new(world, 13, 13, limit).expect(rt, "a config in range");
-        assert!(rt; takes_all(alloc, config) == Ok(true), "{config:?}");
-    }
-}
-
-#[test]
-fn desks_of_every_limit(rt: HostRuntime) {
-    desks_in(&rt, rt.alloc(), WorldKind::Rename);
-    desks_in(&rt, rt.alloc(), WorldKind::Tree);
-}
-
 /// Why a desk of this world is refused, if it is.
 fn refusal_of(rt: &impl Abort, alloc: Global, world: WorldKind) -> Option<Refusal> {
     let config = Config::new(world, 2, 64, 1000).expect(rt, "in range");

@@ -10,8 +10,6 @@ mod alone_tests;
 #[cfg(test)]
 mod board_tests;
 #[cfg(test)]
-mod collect_walk_tests;
-#[cfg(test)]
 mod desk_tests;
 #[cfg(test)]
 mod grid_tests;
@@ -25,8 +23,6 @@ mod pool_tests;
 mod raw_splitter_tests;
 #[cfg(test)]
 mod renaming_tests;
-#[cfg(test)]
-mod slots_tests;
 #[cfg(test)]
 mod snapshot_tests;
 #[cfg(test)]

@@ -1,14 +1,13 @@
 //! Worlds of `step_memory` run by hand.
 
-ghost use Rattle.std.specs.Prelude.{◌≡◌, IsErr, Some, true};
-ghost use Rattle.step_memory.specs.declared.access.Access.TheVariants as access;
+ghost use Rattle.std.specs.Prelude.{◌≡◌, IsErr};
 ghost use Rattle.step_memory.specs.declared.note.Note.TheVariants as note;
 
 use std::alloc::{AllocError, Global};
 use std::process::Abort;
 use std::test::Fail;
 use step_memory::{
-    Access, Answer, Memory, NoMemory, Note, Refusal, Request, StepMemory, StepProgram, View, World,
+    Access, Answer, Memory, NoMemory, Note, Refusal, StepMemory, StepProgram, View, World,
     law_of_beginners, law_of_call_counts, law_of_counts, law_of_locality, law_of_one_place,
     law_of_participants, law_of_refusals, law_of_replies, law_of_rosters, law_of_steps,
     law_of_told_outcomes, law_of_views, law_of_what_is_seen, law_of_worlds,
@@ -45,70 +44,6 @@ fn making(access: Access<usize, u64>) -> Once {
     Once { access }
 }
 
-/// The request to make another access.
-#[derive(Clone, Copy, Debug, Drop, PartialEq, Eq)]
-struct Instead {
-    access: Access<usize, u64>,
-}
-
-impl Request<Once> for Instead {
-    ghost can_ask = { λ q p. Unit {0} };
-
-    ghost asked = { λ q p. record { access = q.access } };
-
-    fn ask(self, program: &mut Once)
-        ensures { program.new ≡ record { access = self.access } }
-    {
-        program.access = self.access;
-    }
-}
-
-/// A program that reads register 0 for ever, where the value stands.
-#[derive(Clone, Copy, Debug, Drop, PartialEq, Eq)]
-struct Watch;
-
-impl StepProgram for Watch {
-    type Reg = usize;
-
-    type Value = u64;
-
-    type Output = u64;
-
-    ghost steps = { record { next = λ p. access.Read 0; resumed = λ p got. p; note = λ p got. note.Quiet } };
-
-    fn next(&self) -> Access<usize, u64> {
-        Access::Read(0)
-    }
-
-    fn resume(&mut self, _got: Answer<u64>) -> Note<u64>
-        ensures after { self.new ≡ self.old }
-        ensures note { result ≡ note.Quiet }
-    {
-        Note::Quiet
-    }
-
-    fn reads(&self) -> Option<usize>
-        ensures { result ≡ Some 0 }
-    {
-        Some(0)
-    }
-
-    fn read_on(&mut self, _got: &u64) -> bool
-        ensures after { self.new ≡ self.old }
-        ensures quiet { result ≡ true }
-    {
-        true
-    }
-}
-
-/// Whether a step is a read after which the program goes on, through the bounds of a world.
-fn reads_on<P: StepProgram + Drop, S: StepMemory<Reg = P::Reg, Value = P::Value> + Drop>(
-    world: &mut World<P, S, Global>,
-    id: u64,
-) -> bool {
-    world.read_on(id)
-}
-
 /// One step through the bounds of a world.
 fn stepped<P: StepProgram + Drop, S: StepMemory<Reg = P::Reg, Value = P::Value> + Drop>(
     world: &mut World<P, S, Global>,
@@ -117,13 +52,12 @@ fn stepped<P: StepProgram + Drop, S: StepMemory<Reg = P::Reg, Value = P::Value> 
     world.step(id)
 }
 
-/// A call of a world whose programs make one access: to begin, to be set or to be asked for it, a step, or a look at a
-/// register of values or of bits.
-#[derive(Clone, Copy, Debug, Drop)]
+/// A call of a world whose programs make one access: to begin, to be set to it, a step, or a look at a register of values or
+/// of bits.
+#[derive(Clone, Copy, Drop)]
 enum Call {
     Begin(Access<usize, u64>),
     Set(Access<usize, u64>),
-    Ask(Access<usize, u64>),
     Step,
     Value(usize),
     Bit(usize),
@@ -144,7 +78,6 @@ fn told(world: &mut World<Once, Memory<u64, Global>, Global>, id: u64, call: Cal
     match call {
         Call::Begin(access) => asked(world.begin(id, making(access))),
         Call::Set(access) => asked(world.set(id, making(access))),
-        Call::Ask(access) => asked(world.ask(id, Instead { access })),
         Call::Step => stepped(world, id),
         Call::Value(r) => Ok(Note::Ended(Answer::Value(world.memory().value(r)))),
         Call::Bit(r) => Ok(Note::Ended(Answer::WasSet(world.memory().bit(r)))),
@@ -153,8 +86,8 @@ fn told(world: &mut World<Once, Memory<u64, Global>, Global>, id: u64, call: Cal
 
 /// Makes these calls, each of which answers what stands beside it.
 fn plays(rt: &impl Abort, world: &mut World<Once, Memory<u64, Global>, Global>, calls: &[Row]) {
-    for (id, call, want) in calls {
-        assert_eq!(rt; told(world, *id, *call), *want, "{id} {call:?}");
+    for (i, (id, call, want)) in calls.iter().enumerate() {
+        assert_eq!(rt; told(world, *id, *call), *want, "row {i}");
     }
 }
 
@@ -188,29 +121,6 @@ const EACH: [Row; 21] = [
     (0, Call::Bit(1), Ok(Note::Ended(Answer::WasSet(false)))),
 ];
 
-/// 1, 65 and 129 have one hint, which says where 129 stands, and 193 has it too.
-const ONE_HINT: [Row; 9] = [
-    (1, Call::Begin(Access::Write(0, 7)), DONE),
-    (65, Call::Begin(Access::Read(0)), DONE),
-    (129, Call::Begin(Access::Read(1)), DONE),
-    (65, Call::Begin(Access::Nothing), Err(Refusal::AlreadyBegun)),
-    (193, Call::Step, Err(Refusal::NotBegun)),
-    (129, Call::Step, Ok(Note::Ended(Answer::Value(3)))),
-    (1, Call::Step, Ok(Note::Ended(Answer::Done))),
-    (65, Call::Step, Ok(Note::Ended(Answer::Value(7)))),
-    (1, Call::Step, Err(Refusal::Finished)),
-];
-
-/// A program is asked to make another access.
-const ASKED: [Row; 6] = [
-    (10, Call::Ask(Access::Write(0, 7)), Err(Refusal::NotBegun)),
-    (10, Call::Begin(Access::Read(0)), DONE),
-    (10, Call::Step, Ok(Note::Ended(Answer::Value(3)))),
-    (10, Call::Ask(Access::Write(0, 7)), DONE),
-    (10, Call::Step, Ok(Note::Ended(Answer::Done))),
-    (0, Call::Value(0), Ok(Note::Ended(Answer::Value(7)))),
-];
-
 #[test]
 fn each_call_and_each_refusal(rt: HostRuntime) -> Result<(), Fail> {
     let mut world = World::new(rt.alloc(), Memory::new(rt.alloc(), 3, 2, 2)?, 2)?;
@@ -219,55 +129,6 @@ fn each_call_and_each_refusal(rt: HostRuntime) -> Result<(), Fail> {
         assert_eq!(rt; world.program(id).copied(), want, "{id}");
     }
     assert_eq!(rt; world.participants().len(), 2);
-    Ok(())
-}
-
-#[test]
-fn those_of_one_hint_are_told_apart(rt: HostRuntime) -> Result<(), Fail> {
-    let mut world = World::new(rt.alloc(), Memory::new(rt.alloc(), 3, 3, 0)?, 3)?;
-    plays(&rt, &mut world, &ONE_HINT);
-    Ok(())
-}
-
-#[test]
-fn programs_are_asked_where_they_stand(rt: HostRuntime) -> Result<(), Fail> {
-    let mut world = World::new(rt.alloc(), Memory::new(rt.alloc(), 3, 1, 0)?, 1)?;
-    plays(&rt, &mut world, &ASKED);
-    Ok(())
-}
-
-/// A step of one who watches register 0: whether it went on before it, and what it tells.
-fn watched(
-    world: &mut World<Watch, Memory<u64, Global>, Global>,
-) -> (bool, Result<Note<u64>, Refusal>) {
-    (reads_on(world, 10), stepped(world, 10))
-}
-
-#[test]
-fn values_are_read_where_they_stand(rt: HostRuntime) -> Result<(), Fail> {
-    let mut world = World::new(rt.alloc(), Memory::new(rt.alloc(), 3, 1, 0)?, 1)?;
-    assert!(rt; !reads_on(&mut world, 10) && world.begin(10, Watch) == Ok(()));
-    for _ in 0..2 {
-        assert_eq!(rt; watched(&mut world), (true, Ok(Note::Quiet)));
-    }
-    let looks = (world.memory().look(&0), world.memory().look(&1));
-    assert_eq!(rt; looks, (Some(&3), None));
-    Ok(())
-}
-
-/// One reads a register once.
-const ONCE: [Row; 2] = [
-    (10, Call::Begin(Access::Read(0)), DONE),
-    (10, Call::Step, Ok(Note::Ended(Answer::Value(3)))),
-];
-
-#[test]
-fn one_who_reads_once_goes_on_in_no_step(rt: HostRuntime) -> Result<(), Fail> {
-    let mut world = World::new(rt.alloc(), Memory::new(rt.alloc(), 3, 1, 0)?, 1)?;
-    for row in &ONCE {
-        plays(&rt, &mut world, &[*row]);
-        assert!(rt; !reads_on(&mut world, 10), "{row:?}");
-    }
     Ok(())
 }
 

@@ -1,78 +1,11 @@
 //! Updates and scans over a grid and a tree.
 
 use crate::snapshot_tests::{Call, Row, Told, plays};
-use snapshot_core::{Places, SnapWorld, law_of_clients, law_of_snapshot_calls};
+use snapshot_core::{SnapWorld, law_of_clients, law_of_snapshot_calls};
 use snapshot_places::{Grid, TreePlaces, grid_snapshot_law, tree_snapshot_law};
 use std::alloc::Global;
 use std::process::Abort;
 use step_memory::{Place, Refusal};
-
-/// One alone goes to its place in a grid.
-const INTO_A_GRID: &[Row] = &[
-    (7, Call::Begin, Told::Done),
-    (7, Call::Steps(4), Told::Placed(0)),
-];
-
-/// One alone goes to its place in a tree.
-const INTO_A_TREE: &[Row] = &[
-    (7, Call::Begin, Told::Done),
-    (7, Call::Steps(5), Told::Placed(1)),
-];
-
-/// It updates with 3, and finds this as it scans.
-const FINDS: &[Row] = &[
-    (7, Call::Update(3), Told::Done),
-    (7, Call::Collect, Told::Quiet),
-    (7, Call::Collect, Told::Quiet),
-    (7, Call::Steps(1), Told::Written),
-    (7, Call::Scan, Told::Done),
-    (7, Call::Collect, Told::Quiet),
-    (7, Call::Collect, Told::Shown(&[(7, 3)])),
-];
-
-/// A participant alone, 7, goes to its place, updates and scans; each collect makes so many reads.
-fn finds<W: Places + Drop>(
-    rt: &impl Abort,
-    alloc: Global,
-    places: W,
-    begins: &[Row],
-    reads: usize,
-) -> Result<(), Refusal>
-where
-    W::Walker: Copy,
-    W::Walk: Copy,
-    W::Value: Drop,
-{
-    let mut world = SnapWorld::new(alloc, places)?;
-    plays(rt, &mut world, "to its place", reads, begins);
-    plays(rt, &mut world, "alone", reads, FINDS);
-    Ok(())
-}
-
-/// One alone in a grid for so many.
-fn finds_in_a_grid(rt: &impl Abort, alloc: Global, most: usize) -> Result<(), Refusal> {
-    let segments = most.saturating_mul(most.saturating_add(1)) / 2;
-    finds(rt, alloc, Grid::new(alloc, most)?, INTO_A_GRID, segments)
-}
-
-/// One alone in a tree for so many.
-fn finds_in_a_tree(rt: &impl Abort, alloc: Global, most: usize) -> Result<(), Refusal> {
-    finds(rt, alloc, TreePlaces::new(alloc, most)?, INTO_A_TREE, 4)
-}
-
-#[test]
-fn alone_over_a_grid(rt: HostRuntime) {
-    for most in 1..=16 {
-        assert!(rt; finds_in_a_grid(&rt, rt.alloc(), most) == Ok(()));
-    }
-}
-
-#[test]
-fn alone_over_a_tree(rt: HostRuntime) {
-    for most in 1..=64 {
-        assert!(rt; finds_in_a_tree(&rt, rt.alloc(), most) == Ok(()));
-    }
-}
 
 /// 20 comes while 10 scans in a grid.
 const TWO_IN_A_GRID: &[Row] = &[

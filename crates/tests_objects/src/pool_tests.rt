@@ -197,30 +197,3 @@ fn sizes(rt: HostRuntime) {
         assert!(rt; made == (1..65).contains(&size), "at {size}");
     }
 }
-
-/// Whether a pool widens, if at all, and its size then.
-fn widened(alloc: Global, size: u64, more: u64) -> Result<(bool, u64), Refusal> {
-    let mut pool = Pool::new(alloc, size)?;
-    let is_wider = pool.widen(more).is_ok();
-    Ok((is_wider, pool.size()))
-}
-
-/// A pool of this size widens to each that is larger.
-fn widens_from(rt: &impl Abort, alloc: Global, size: u64) {
-    for more in 0..66 {
-        let want = if size < more && more <= 64 {
-            (true, more)
-        } else {
-            (false, size)
-        };
-        let is = widened(alloc, size, more);
-        assert!(rt; is == Ok(want), "from {size} to {more}");
-    }
-}
-
-#[test]
-fn widens_from_each_size_to_each(rt: HostRuntime) {
-    for size in 1..65 {
-        widens_from(&rt, rt.alloc(), size);
-    }
-}

@@ -12,20 +12,6 @@ use std::thread::{Threads, join};
 use step_memory::Refusal;
 
 #[test]
-fn the_first_of_a_pair_stops(rt: HostRuntime) -> Result<(), Fail> {
-    let (splitter, first, second) = RawSplitter::pair(rt.alloc())?;
-    let (mut one, first_way) = splitter.enter(first);
-    let (mut other, second_way) = splitter.enter(second);
-    splitter.meet(&mut one, &mut other);
-    assert_eq!(rt; (first_way, second_way), (Way::Stop, Way::Right));
-    assert_eq!(rt;
-        [(one.number(), one.way()), (other.number(), other.way())],
-        [(0, Way::Stop), (1, Way::Right)]
-    );
-    Ok(())
-}
-
-#[test]
 fn the_first_of_three_stops(rt: HostRuntime) -> Result<(), Fail> {
     let (splitter, mut seats) = RawSplitter::new(rt.alloc(), 3)?;
     let (Some(third), Some(second), Some(first)) = (seats.pop(), seats.pop(), seats.pop()) else {

@@ -138,29 +138,6 @@ fn worlds_of_every_size(rt: HostRuntime) {
     begins_in_each::<TreePlaces<Global>>(&rt, rt.alloc(), WorldKind::Tree, 1000);
 }
 
-/// No world of any other kind than this is made over these places.
-fn is_no_other<W: RenamePlaces<Global> + Drop>(rt: &impl Abort, alloc: Global, own: WorldKind)
-where
-    W::Walker: Copy,
-    W::Walk: Copy,
-    W::Value: Drop,
-{
-    for kind in WorldKind::all() {
-        if kind == own {
-            continue;
-        }
-        let config = config_of(rt, kind, 2, 1000);
-        let outcome = begun::<W>(alloc, config);
-        assert!(rt; outcome == Err(Refusal::OutOfRange), "{kind:?}");
-    }
-}
-
-#[test]
-fn worlds_in_which_no_names_are_given(rt: HostRuntime) {
-    is_no_other::<Grid<Global>>(&rt, rt.alloc(), WorldKind::Rename);
-    is_no_other::<TreePlaces<Global>>(&rt, rt.alloc(), WorldKind::Tree);
-}
-
 /// Most participants, the pool's size and the round limit, and why they are refused.
 const SIZES: &[(WorldKind, u64, u64, u64, Option<Refusal>)] = &[
     (WorldKind::Rename, 0, 4, 1000, Some(Refusal::OutOfRange)),
@@ -183,25 +160,6 @@ fn ranges_of_a_config(rt: HostRuntime) {
     for (kind, m, k, limit, want) in SIZES {
         let refused = Config::new(*kind, *m, *k, *limit).err();
         assert!(rt; refused == *want, "{m} {k} {limit}");
-    }
-}
-
-/// Whether just so many may take part in a world: sizes round 16 and 64 are tried.
-fn takes_at_most(world: WorldKind, most: u64) -> bool {
-    for m in [16, 17, 64, 65] {
-        let refused = Config::new(world, m, 4, 1000).err();
-        if refused != (most < m).then_some(Refusal::OutOfRange) {
-            return false;
-        }
-    }
-    world.most() == most
-}
-
-#[test]
-fn most_participants_of_each_world(rt: HostRuntime) {
-    for kind in WorldKind::all() {
-        let most = if kind.is_tree() { 64 } else { 16 };
-        assert!(rt; takes_at_most(kind, most), "{kind:?}");
     }
 }
 

@@ -5,7 +5,6 @@ use snapshot_core::{
 };
 use std::alloc::{Allocator, Global};
 use std::process::Abort;
-use std::test::Fail;
 use step_memory::{Place, Refusal};
 
 /// A call: of steps so many, of which those before the last are quiet; or the steps of one collect;

@@ -11,7 +11,7 @@ use std::test::Fail;
 use step_memory::{Access, Answer, Note, Place, Refusal, StepProgram, View};
 
 /// A call: of steps so many, of which those before the last are quiet.
-#[derive(Clone, Copy, Debug, Drop)]
+#[derive(Clone, Copy, Drop)]
 enum Call {
     Begin,
     Steps(usize),
@@ -22,7 +22,7 @@ enum Call {
 }
 
 /// What a call answers, of steps the last.
-#[derive(Clone, Copy, Debug, Drop)]
+#[derive(Clone, Copy, Drop)]
 enum Told {
     Done,
     Quiet,
@@ -112,11 +112,8 @@ type Row = (u64, Call, Told);
 
 /// Makes these calls, each of which answers what stands beside it.
 fn plays<A: Allocator + Clone>(rt: &impl Abort, world: &mut TreeWorld<A>, calls: &[Row]) {
-    for (id, call, told) in calls {
-        assert!(rt;
-            answers(world, *id, *call, *told),
-            "{id} {call:?}: {told:?}"
-        );
+    for (i, (id, call, told)) in calls.iter().enumerate() {
+        assert!(rt; answers(world, *id, *call, *told), "row {i}");
     }
 }
 

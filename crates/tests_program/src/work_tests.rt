@@ -150,9 +150,56 @@ const WRITE_FAULT: &[u8] = b"slotctl: write fault\n";
 const HEADER: &[u8] =
     b"{\"format\":\"slot-record\",\"k\":4,\"limit\":1000,\"m\":2,\"version\":1,\"world\":\"rename\"}\n";
 
-// A record that can't be read to its end is neither judged nor migrated, and one that can't be written is cut. To serve and to host
-// are left to the caller, with nothing read or written.
-const ENDINGS: [Ending; 9] = [
+// Where nothing fails each kind of work ends well. A record that can't be read to its end is neither judged nor migrated, and one that
+// can't be written is cut. To serve and to host are left to the caller, with nothing read or written.
+const ENDINGS: [Ending; 14] = [
+    Ending {
+        words: &["slotctl", "play"],
+        input: b"begin 7\nstep 7",
+        reads: ALL,
+        writes: ALL,
+        status: 0,
+        text: b"ok\nquiet\n",
+        told: b"",
+    },
+    Ending {
+        words: &["slotctl", "play", "--world", "grid"],
+        input: b"begin 7\nstep 7",
+        reads: ALL,
+        writes: ALL,
+        status: 0,
+        text: b"ok\nquiet\n",
+        told: b"",
+    },
+    Ending {
+        words: &[
+            "slotctl", "draw", "--seed", "7", "--ids", "1", "--steps", "1",
+        ],
+        input: b"",
+        reads: ALL,
+        writes: ALL,
+        status: 0,
+        text: b"begin 1\nstep 1\n",
+        told: b"",
+    },
+    Ending {
+        words: &["slotctl", "check"],
+        input: HEADER,
+        reads: ALL,
+        writes: ALL,
+        status: 0,
+        text: b"yes\n",
+        told: b"",
+    },
+    Ending {
+        words: &["slotctl", "show"],
+        input: HEADER,
+        reads: ALL,
+        writes: (7, 2),
+        status: 3,
+        text: b"<!docty",
+        told: WRITE_FAULT,
+    },
     Ending {
         words: &["slotctl", "serve", "--m", "1"],
         input: b"begin 7\n",
