@@ -36,7 +36,25 @@ struct Alone {
     name: u64,
 }
 
-/// How many steps the first of two makes, up to so many; then how many the other makes alone, and its name.
+/// How many steps the first of two makes in a new world, up to so many; then how many the other makes alone, and its name.
+fn goes_behind<W: RenamePlaces<Global> + Drop>(
+    rt: &impl Abort,
+    world: &mut RenameWorld<W, Global>,
+    stopped: u64,
+) -> Result<(u64, u64, Option<u64>), Refusal>
+where
+    W::Walker: Copy,
+    W::Walk: Copy,
+    W::Value: Drop,
+{
+    world.begin(10)?;
+    world.begin(20)?;
+    let went = goes(rt, world, 10, stopped);
+    let alone = goes(rt, world, 20, 1_000);
+    Ok((went, alone, world.name_of(20)))
+}
+
+/// The same where the world is made first.
 fn goes_alone<W: RenamePlaces<Global> + Drop>(
     rt: &impl Abort,
     alloc: Global,
@@ -49,11 +67,7 @@ where
     W::Value: Drop,
 {
     let mut world = RenameWorld::<W, Global>::new(alloc, Config::new(kind, 2, 4, 1000)?)?;
-    world.begin(10)?;
-    world.begin(20)?;
-    let went = goes(rt, &mut world, 10, stopped);
-    let alone = goes(rt, &mut world, 20, 1_000);
-    Ok((went, alone, world.name_of(20)))
+    goes_behind(rt, &mut world, stopped)
 }
 
 /// Whether one goes alone as this row says, wherever in its range the other stops.

@@ -1,5 +1,5 @@
-//! Trials of the objects through their public calls, from a memory taken step by step to a desk: rows
-//! worked by hand, each refusal, the ends of each range, and heaps that have no room left.
+//! Trials of the objects through their public calls, from a memory taken step by step to a desk: what no line
+//! of the program reaches, as rows worked by hand, the ends of each range, threads, and heaps that have no room left.
 //!
 //! They stand in a crate of their own, as a package's integration tests do, so that proving them does not prove the objects
 //! again. A trial that is proved returns and breaks no caller's condition; that it passes is seen by running it.

@@ -50,16 +50,24 @@ fn goes(world: &mut RenameWorld<Fixed<Global>, Global>, row: &Row) -> bool {
     }
 }
 
-/// Two go as the rows say. Their names.
-fn two_go(rt: &impl Abort, alloc: Global) -> Result<(Option<u64>, Option<u64>), Refusal> {
-    let config = config_of(rt, WorldKind::Rename, 2, 2);
-    let mut world = RenameWorld::<Fixed<Global>, Global>::new(alloc, config)?;
+/// The names of two in a new world, who go as the rows say.
+fn names_in(
+    rt: &impl Abort,
+    world: &mut RenameWorld<Fixed<Global>, Global>,
+) -> Result<(Option<u64>, Option<u64>), Refusal> {
     world.begin(20)?;
     world.begin(10)?;
     for (i, row) in SEGMENTS.iter().enumerate() {
-        assert!(rt; goes(&mut world, row), "row {i}");
+        assert!(rt; goes(world, row), "row {i}");
     }
     Ok((world.name_of(10), world.name_of(20)))
+}
+
+/// The same where the world is made first.
+fn two_go(rt: &impl Abort, alloc: Global) -> Result<(Option<u64>, Option<u64>), Refusal> {
+    let config = config_of(rt, WorldKind::Rename, 2, 2);
+    let mut world = RenameWorld::<Fixed<Global>, Global>::new(alloc, config)?;
+    names_in(rt, &mut world)
 }
 
 #[test]
